@@ -1,6 +1,7 @@
 -- What follows the tables of a disk changes nothing that is read of it.
 -- Letters: as in specs/Disks; A, B two disks that agree in their tables.
-use Rattle.std.proofs.Common.{◌≡◌, ◌<◌, ◌≤◌, ◌+◌, ◌*◌, inl, inr, ℕ, List, ◌++◌, [], ◌∷◌, length, drop, refl, sym, ap, subst, ◌∙◌, arith, Bool, true, false, None}
+use Rattle.std.proofs.Common.{◌≡◌, ◌<◌, ◌≤◌, ◌+◌, ◌*◌, inl, inr, ℕ, List, ◌++◌, [], ◌∷◌, length, drop, refl, sym, ap, subst, ◌∙◌, arith}
+use Rattle.std.proofs.Common.{Bool, true, false, None}
 use Rattle.std.specs.Prelude.{◌&&◌, ◌==◌, not, nat_le, nat_lt, min}
 use Rattle.std.specs.List.{list_any}
 use Rattle.std.proofs.Common.{length-append}
@@ -9,7 +10,8 @@ use Rattle.std.proofs.lemmas.Slice.{between_is}
 use Rattle.adf_fields.specs.Words.{block, word}
 use Rattle.adf_disk.specs.declared.fault.DiskCause.TheVariants.{OutOfRange, Repeated, NotPartition, BadSum, TooMany}
 use Rattle.adf_disk.specs.declared.fault.DiskFault.{DiskFault}
-use Rattle.adf_disk.specs.declared.layout.TheConstants.{BLOCK_BYTES, FIRST_PART, HIGHEST_TABLE, LOWEST_TABLE, MARK, MOST_PARTITIONS, MOST_TABLES, PART, RDSK, RDSK_BLOCKS}
+use Rattle.adf_disk.specs.declared.layout.TheConstants.{BLOCK_BYTES, FIRST_PART, HIGHEST_TABLE, LOWEST_TABLE, MARK}
+use Rattle.adf_disk.specs.declared.layout.TheConstants.{MOST_PARTITIONS, MOST_TABLES, PART, RDSK, RDSK_BLOCKS}
 use Rattle.adf_disk.specs.declared.partition.Partition.{Partition}
 use Rattle.adf_disk.specs.declared.tables.Tables.{Tables}
 use Rattle.adf_disk.specs.Disks.{FirstFault, HoldsTables, IsDisk, IsFound, IsListFault, IsWhole, is_at, part_form}
@@ -142,7 +144,9 @@ fourth true true false u h = absurd cc
 
 tables_agree : (bytes rest : List ℕ) (t : Tables) → min (t.highest + 1) MOST_TABLES * 512 ≤ length bytes → TablesAgree bytes (bytes ++ rest) t
 tables_agree bytes rest t h = record {
-  blocks = λ b kept. front_block bytes rest b (le_of (b * 512 + 512) (length bytes) (fourth (nat_le t.lowest b) (nat_le b t.highest) (nat_lt b MOST_TABLES) (holds bytes b) kept));
+  blocks = λ b kept.
+      let held = fourth (nat_le t.lowest b) (nat_le b t.highest) (nat_lt b MOST_TABLES) (holds bytes b) kept in
+      front_block bytes rest b (le_of (b * 512 + 512) (length bytes) held);
   tables = λ b. only_last (nat_le t.lowest b) (nat_le b t.highest) (nat_lt b MOST_TABLES) (holds bytes b) (holds (bytes ++ rest) b)
       (λ low high few. front_holds bytes rest b (inside b (le_of b t.highest high) (lt_of b MOST_TABLES few)));
 }
@@ -170,7 +174,8 @@ module _ (bytes rest : List ℕ) (n : ℕ) (t : Tables) (enough : HoldsTables by
   list_of : {bytes : List ℕ} {f : DiskFault} → IsTables bytes t → {u : Tables} → IsTables bytes u → IsListFault bytes n u f → IsListFault bytes n t f
   list_of {bytes} {f} has other v = subst (λ t. IsListFault bytes n t f) (one_tables other has) v
 
-  pub fault_tells : (f : DiskFault) → IsTables bytes t → (FirstFault bytes n f → FirstFault (bytes ++ rest) n f) × (FirstFault (bytes ++ rest) n f → FirstFault bytes n f)
+  pub fault_tells : (f : DiskFault) → IsTables bytes t
+      → (FirstFault bytes n f → FirstFault (bytes ++ rest) n f) × (FirstFault (bytes ++ rest) n f → FirstFault bytes n f)
   fault_tells f has = (to, from)
     where
       s : StartAgrees bytes (bytes ++ rest)
