@@ -25,10 +25,10 @@ one_rdsk {a = a} {b = b} r s = elim (cases_lt a b) [
 ]
 
 -- and one place of its tables
-one_tables : {bytes : List ℕ} {t u : Tables} → IsTables bytes t → IsTables bytes u → t ≡ u
+pub one_tables : {bytes : List ℕ} {t u : Tables} → IsTables bytes t → IsTables bytes u → t ≡ u
 one_tables {bytes} r s = r.same ∙ ap (tables_at bytes) (one_rdsk r.rdsk s.rdsk) ∙ sym s.same
 
-some_tables : {bytes : List ℕ} {t : Tables} {f : DiskFault} → IsTables bytes t → HasNoTables bytes f → ⊥
+pub some_tables : {bytes : List ℕ} {t : Tables} {f : DiskFault} → IsTables bytes t → HasNoTables bytes f → ⊥
 some_tables {bytes} {t} r (inl h) = let n = h.0 t.rdsk r.rdsk.low in let y = r.rdsk.is in absurd cc
 some_tables {bytes} r (inr h) = h.1 (ap (λ b. word (block bytes b) 4) (one_rdsk h.0 r.rdsk) ∙ r.size)
 

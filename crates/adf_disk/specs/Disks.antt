@@ -1,11 +1,11 @@
 -- The list of a disk's partition blocks, and its first fault. `bytes` are the first bytes of the disk, n is the number of its
 -- blocks, t its tables; ps are the partitions found; a is the block that names block b.
-use Rattle.std.specs.Prelude.{◌≡◌, ◌≢◌, ℕ, ◌==◌, not, nat_lt, Bool, List, [], ◌∷◌, ◌++◌, Some, None, length}
+use Rattle.std.specs.Prelude.{◌≡◌, ◌≢◌, ◌≤◌, ◌+◌, ◌*◌, min, ℕ, ◌==◌, not, nat_lt, Bool, List, [], ◌∷◌, ◌++◌, Some, None, length}
 use Rattle.std.specs.List.{list_any}
 use Rattle.adf_fields.specs.Words.{block, word}
 use Rattle.adf_disk.specs.declared.fault.DiskCause.TheVariants.{OutOfRange, Repeated, NotPartition, BadSum, TooMany}
 use Rattle.adf_disk.specs.declared.fault.DiskFault.{DiskFault}
-use Rattle.adf_disk.specs.declared.layout.TheConstants.{MARK, MOST_PARTITIONS, NEXT_PART, NO_BLOCK, PART}
+use Rattle.adf_disk.specs.declared.layout.TheConstants.{MARK, MOST_PARTITIONS, MOST_TABLES, NEXT_PART, NO_BLOCK, PART, RDSK_BLOCKS}
 use Rattle.adf_disk.specs.declared.partition.Partition.{Partition}
 use Rattle.adf_disk.specs.declared.tables.Tables.{Tables}
 use Rattle.adf_disk.specs.Faults.{disk_fault, first_failed}
@@ -60,3 +60,7 @@ pub record IsListFault (bytes : List ℕ) (n : ℕ) (t : Tables) (f : DiskFault)
 pub data FirstFault (bytes : List ℕ) (n : ℕ) (f : DiskFault) : Type 0 where
   at_tables : HasNoTables bytes f → FirstFault bytes n f
   at_list : {t : Tables} → IsTables bytes t → IsListFault bytes n t f → FirstFault bytes n f
+
+-- the bytes hold the blocks that may be the rigid disk block, and those that may have tables
+abbrev pub HoldsTables : List ℕ → Tables → Type 0
+HoldsTables bytes t = (RDSK_BLOCKS * 512 ≤ length bytes) × (min (t.highest + 1) MOST_TABLES * 512 ≤ length bytes)

@@ -5,3 +5,4 @@ pub mod Tables
 pub mod Places
 pub mod Partitions
 pub mod Disks
+pub mod Volumes

@@ -1,5 +1,5 @@
 -- Where the volume of a partition lies. p is the partition block.
-use Rattle.std.specs.Prelude.{ℕ, ◌+◌, ◌-◌, ◌*◌, ◌==◌, ◌&&◌, ◌||◌, not, nat_le, nat_lt, Bool, List}
+use Rattle.std.specs.Prelude.{ℕ, ◌+◌, ◌-◌, ◌*◌, ◌<◌, ◌≤◌, ◌==◌, ◌&&◌, ◌||◌, not, nat_le, nat_lt, Bool, List}
 use Rattle.adf_fields.specs.Words.{word}
 use Rattle.adf_disk.specs.declared.layout.TheConstants.{HIGH_CYLINDER, LOW_CYLINDER, SURFACES, TRACK_BLOCKS}
 use Rattle.adf_disk.specs.declared.place.Place.{Place}
@@ -36,3 +36,7 @@ do_overlap q r = is_before_end q.first r && is_before_end r.first q
 -- whether a place has a block that is kept for the tables, or the rigid disk block
 abbrev pub is_over_tables : Place → Tables → Bool
 is_over_tables q t = do_overlap q (blocks_from t.lowest (t.highest + 1 - t.lowest)) || do_overlap q (blocks_from t.rdsk 1)
+
+-- a block of the disk is one of a place
+abbrev pub IsIn : ℕ → Place → Type 0
+IsIn b q = (q.first ≤ b) × (b < end_of q)

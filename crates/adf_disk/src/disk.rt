@@ -23,8 +23,9 @@ pub struct Disk {
 }
 
 impl Disk {
-    /// Reads the partitions of a disk of so many blocks of 512 bytes, from its first bytes: those of its tables, that is of
-    /// all blocks up to `highest` of `Tables` and below 65,536. The whole disk may be given.
+    /// Reads the partitions of a disk of so many blocks of 512 bytes, from its first bytes: the blocks 0 to 15, and those up
+    /// to `highest` of its `Tables` that are below 65,536. The whole disk may be given, to the same effect
+    /// (`tables_are_enough`).
     ///
     /// The first fault: `NoRigidDisk`; `BlockSize`; then of each block that the list names, `OutOfRange`, `Repeated`,
     /// `NotPartition`, `BadSum` or `TooMany`. What is wrong with one partition alone is its `place`. `NoMemory` if an

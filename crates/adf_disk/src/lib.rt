@@ -14,7 +14,9 @@ mod tables;
 
 pub use crate::disk::Disk;
 pub use crate::fault::{DiskCause, DiskFault, disk_fault};
-pub use crate::laws::{no_fault_on_a_disk, one_disk, one_disk_fault};
+pub use crate::laws::{
+    no_fault_on_a_disk, one_disk, one_disk_fault, tables_are_enough, volumes_lie_apart,
+};
 pub use crate::layout::{
     BLOCK_BYTES, BLOCK_SECTORS, BOOT_PRIORITY, BOOTABLE, DOS_TYPE, DRIVE_NAME, ENV_BLOCK_WORDS,
     ENV_LENGTH, FIRST_PART, FLAGS, HIGH_CYLINDER, HIGHEST_TABLE, LOW_CYLINDER, LOWEST_TABLE, MARK,
@@ -23,4 +25,4 @@ pub use crate::layout::{
 };
 pub use crate::partition::{DriveName, Partition};
 pub use crate::place::{Place, PlaceFault};
-pub use crate::tables::Tables;
+pub use crate::tables::{Tables, read_tables};

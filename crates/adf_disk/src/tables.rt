@@ -47,7 +47,10 @@ fn find_rdsk(bytes: &[u8]) -> Option<u32>
     None
 }
 
-/// Reads the rigid disk block.
+/// Reads the rigid disk block. The first 16 blocks of a disk are enough; what follows them changes nothing
+/// (`tables_are_enough`).
+///
+/// The first fault: `NoRigidDisk`, at block 0; `BlockSize`, at the rigid disk block.
 pub fn read_tables(bytes: &[u8]) -> Result<Tables, DiskFault>
     ensures tables { IfOk result (λ t. IsTables bytes.now t) }
     ensures fault { IfErr result (λ f. HasNoTables bytes.now f) }

@@ -67,7 +67,10 @@ const DH1: &[(usize, u32)] = &[
 ];
 
 // The place of DH0: cylinders of 8 blocks.
-const PLACE_0: Result<Place, PlaceFault> = Ok(Place { first: 8, blocks: 32 });
+const PLACE_0: Result<Place, PlaceFault> = Ok(Place {
+    first: 8,
+    blocks: 32,
+});
 
 // The place of DH1.
 const PLACE_1: Result<Place, PlaceFault> = Ok(Place {
