@@ -1,5 +1,5 @@
 #!/usr/bin/env python3
-"""The survey of an image by its definition (crates/adf_survey): every part that has a cause, and what is found all the same.
+"""The survey of an image by its definition (crates/adf_findings): every part that has a cause, and what is found all the same.
 
     bench/survey.py < IMAGE      a line for each finding with the path that it concerns, then a line for each entry, sound or damaged
 

@@ -22,7 +22,7 @@ use Rattle.adf_blocks.proofs.RootLaws.{length_root_block, root_block-secondary, 
 use Rattle.adf_blocks.proofs.RootLaws.{root_block-sum, root_block-text, root_block-type}
 use Rattle.adf_volume.specs.Image.{root_of}
 use Rattle.adf_volume.specs.Start.{is_image_len}
-use Rattle.adf_survey.specs.Start.{has_root_type}
+use Rattle.adf_findings.specs.Start.{has_root_type}
 use Rattle.adf_rescue.specs.MadeRoot.{has_root, label_in, made_root, middle_block, no_stamps, page_found, pages_in, rooted, slots_in, stamps_in}
 
 -- an image of an allowed size is whole blocks, at least 4

@@ -10,10 +10,10 @@ use Rattle.adf_blocks.specs.HeadBlock.{meta_told}
 use Rattle.adf_blocks.specs.Sizes.{blocks}
 use Rattle.adf_volume.specs.Image.{name_of, word_in}
 use Rattle.adf_volume.specs.Walk.{Role, node_block}
-use Rattle.adf_survey.specs.Files.{IsSoundFile, file_content, file_in}
-use Rattle.adf_survey.specs.Found.{parent_node}
-use Rattle.adf_survey.specs.Marked.{AreMarks}
-use Rattle.adf_survey.specs.Survey.{FindingValue}
+use Rattle.adf_findings.specs.Files.{IsSoundFile, file_content, file_in}
+use Rattle.adf_findings.specs.Found.{parent_node}
+use Rattle.adf_findings.specs.Marked.{AreMarks}
+use Rattle.adf_findings.specs.Survey.{FindingValue}
 use Rattle.adf_rescue.specs.Rescue.{Verdict, at_path, body_of, body_of_type, by_body, path_by, place_of, tree_of, verdict, verdicts}
 
 -- a sound file stands with its content

@@ -25,12 +25,12 @@ use Rattle.adf_volume.proofs.FormDemands.{demanded, dir_not_file, head_type}
 use Rattle.adf_volume.proofs.MemberFacts.{kept}
 use Rattle.adf_volume.proofs.Roles.{head_role}
 use Rattle.adf_volume.proofs.WalkMembers.{entry_has}
-use Rattle.adf_survey.specs.Found.{parent_node}
-use Rattle.adf_survey.specs.Marked.{AreMarks}
-use Rattle.adf_survey.specs.Survey.{FindingValue, IsSurvey}
-use Rattle.adf_survey.proofs.AllSound.{all_sound}
-use Rattle.adf_survey.proofs.Keeping.{parent_is}
-use Rattle.adf_survey.proofs.Lookups.{header_at}
+use Rattle.adf_findings.specs.Found.{parent_node}
+use Rattle.adf_findings.specs.Marked.{AreMarks}
+use Rattle.adf_findings.specs.Survey.{FindingValue, IsSurvey}
+use Rattle.adf_findings.proofs.AllSound.{all_sound}
+use Rattle.adf_findings.proofs.Keeping.{parent_is}
+use Rattle.adf_findings.proofs.Lookups.{header_at}
 use Rattle.adf_rescue.specs.declared.left_out.Why.{Why}
 use Rattle.adf_rescue.specs.declared.left_out.Why.TheVariants.{Damaged, Link}
 use Rattle.adf_rescue.specs.Rescue.{body_of, body_of_type}

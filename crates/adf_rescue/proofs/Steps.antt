@@ -18,13 +18,13 @@ use Rattle.adf_fields.specs.Words.{block}
 use Rattle.adf_blocks.specs.HeadBlock.{meta_told}
 use Rattle.adf_blocks.specs.Sizes.{blocks, is_allowed}
 use Rattle.adf_build.specs.Building.{IsBuildable}
-use Rattle.adf_survey.specs.declared.part.Finding.{Finding}
-use Rattle.adf_survey.specs.Parts.{finding_value}
-use Rattle.adf_survey.specs.Survey.{FindingValue}
+use Rattle.adf_findings.specs.declared.part.Finding.{Finding}
+use Rattle.adf_findings.specs.Parts.{finding_value}
+use Rattle.adf_findings.specs.Survey.{FindingValue}
 use Rattle.adf_volume.specs.Image.{name_of}
 use Rattle.adf_volume.proofs.Lists.{get_before, get_last}
 use Rattle.adf_volume.specs.Walk.{Role, heads, node_block}
-use Rattle.adf_survey.specs.Found.{parent_node}
+use Rattle.adf_findings.specs.Found.{parent_node}
 use Rattle.adf_build.specs.Plan.{blocks_needed, entries_blocks, reserved}
 use Rattle.adf_rescue.specs.declared.left_out.Why.{Why}
 use Rattle.adf_rescue.specs.declared.salvage.Salvage.{Salvage}

@@ -25,11 +25,11 @@ use Rattle.adf_volume.specs.Walk.{IsWalk, Role, heads, node_block}
 use Rattle.adf_volume.proofs.FitWalks.{one_fit}
 use Rattle.adf_volume.proofs.Lists.{at_index_or, get_before, get_last}
 use Rattle.adf_volume.proofs.WalkMembers.{entries_length}
-use Rattle.adf_survey.specs.Files.{grave}
-use Rattle.adf_survey.specs.Found.{parent_node}
-use Rattle.adf_survey.specs.Marked.{AreMarks}
-use Rattle.adf_survey.specs.Survey.{FindingValue, IsSurvey}
-use Rattle.adf_survey.proofs.FirstFindings.{finds_none, none_found, shown}
+use Rattle.adf_findings.specs.Files.{grave}
+use Rattle.adf_findings.specs.Found.{parent_node}
+use Rattle.adf_findings.specs.Marked.{AreMarks}
+use Rattle.adf_findings.specs.Survey.{FindingValue, IsSurvey}
+use Rattle.adf_findings.proofs.FirstFindings.{finds_none, none_found, shown}
 use Rattle.adf_build.specs.Plan.{blocks_needed, entries_blocks, reserved}
 use Rattle.adf_rescue.specs.declared.left_out.Why.TheVariants.{NoRoom}
 use Rattle.adf_rescue.specs.Rescue.{Verdict, additions_of, directory_in, fitting, left_out_from, lost_name, path_by, path_for, path_in, place_of}

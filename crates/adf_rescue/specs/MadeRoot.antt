@@ -8,7 +8,7 @@ use Rattle.adf_blocks.specs.declared.layout.TheConstants.{FIRST_PAGE, FIRST_SLOT
 use Rattle.adf_blocks.specs.RootBlock.{RootFields, label_told, root_block, stamps_at}
 use Rattle.adf_blocks.specs.Sizes.{blocks}
 use Rattle.adf_volume.specs.Image.{root_of, word_in}
-use Rattle.adf_survey.specs.Start.{has_root_type}
+use Rattle.adf_findings.specs.Start.{has_root_type}
 
 -- the middle block of an image, where its root is
 abbrev pub middle_block : List ℕ → List ℕ

@@ -18,10 +18,10 @@ use Rattle.adf_blocks.specs.HeadBlock.{is_link, meta_told}
 use Rattle.adf_blocks.specs.Sizes.{blocks}
 use Rattle.adf_volume.specs.Image.{name_of, word_in}
 use Rattle.adf_volume.specs.Walk.{Role, heads, node_block}
-use Rattle.adf_survey.specs.Files.{file_content, file_in}
-use Rattle.adf_survey.specs.Found.{parent_node}
-use Rattle.adf_survey.specs.Opening.{opening_in}
-use Rattle.adf_survey.specs.Survey.{FindingValue}
+use Rattle.adf_findings.specs.Files.{file_content, file_in}
+use Rattle.adf_findings.specs.Found.{parent_node}
+use Rattle.adf_findings.specs.Opening.{opening_in}
+use Rattle.adf_findings.specs.Survey.{FindingValue}
 use Rattle.adf_build.specs.Plan.{blocks_needed}
 use Rattle.adf_rescue.specs.declared.left_out.LeftOut.{LeftOut}
 use Rattle.adf_rescue.specs.declared.left_out.Why.{Why}

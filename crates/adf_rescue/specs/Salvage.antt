@@ -8,7 +8,7 @@ use Rattle.adf_tree.specs.Draft.{DraftValue, IsDirectoryOf, IsRoomFor}
 use Rattle.adf_blocks.specs.Sizes.{blocks}
 use Rattle.adf_volume.specs.Image.{kind_of}
 use Rattle.adf_volume.specs.Walk.{Role, heads}
-use Rattle.adf_survey.specs.Survey.{FindingValue, IsSurvey}
+use Rattle.adf_findings.specs.Survey.{FindingValue, IsSurvey}
 use Rattle.adf_build.specs.Plan.{data_blocks, entries_blocks, exts_needed, reserved}
 use Rattle.adf_rescue.specs.declared.salvage.Salvage.{Salvage}
 use Rattle.adf_rescue.specs.Rescue.{Verdict, additions_of, left_out_from, place_of, tree_of}

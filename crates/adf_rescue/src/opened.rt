@@ -5,8 +5,8 @@ ghost use Rattle.adf_blocks.specs.declared.layout.TheConstants.{FIRST_SLOT, SLOT
 ghost use Rattle.adf_blocks.specs.Sizes.{blocks};
 ghost use Rattle.adf_volume.specs.Image.{root_of, word_in};
 ghost use Rattle.adf_volume.specs.Start.{is_image_len};
-ghost use Rattle.adf_survey.specs.Opening.{opening_in};
-ghost use Rattle.adf_survey.specs.Start.{has_root_type};
+ghost use Rattle.adf_findings.specs.Opening.{opening_in};
+ghost use Rattle.adf_findings.specs.Start.{has_root_type};
 ghost use Rattle.adf_rescue.specs.MadeRoot.{has_root, middle_block, no_stamps};
 ghost use Rattle.adf_rescue.specs.Opened.{begins_with_dos, begun, has_data, is_mended, opened, says_data, says_file, type_byte};
 

@@ -2,11 +2,11 @@
 
 ghost use Rattle.std.specs.Prelude.{◌≡◌, ◌↔◌, ℕ, Bool, List, IsNone, IsTrue, IfOk, IfSome};
 ghost use Rattle.adf_blocks.specs.Sizes.{blocks as blocks_in};
-ghost use Rattle.adf_survey.specs.Opening.{opening_in};
+ghost use Rattle.adf_findings.specs.Opening.{opening_in};
 ghost use Rattle.adf_volume.specs.Walk.{Role, heads};
-ghost use Rattle.adf_survey.specs.Files.{grave};
-ghost use Rattle.adf_survey.specs.Marked.{AreMarks};
-ghost use Rattle.adf_survey.specs.Survey.{FindingValue, IsSurvey};
+ghost use Rattle.adf_findings.specs.Files.{grave};
+ghost use Rattle.adf_findings.specs.Marked.{AreMarks};
+ghost use Rattle.adf_findings.specs.Survey.{FindingValue, IsSurvey};
 ghost use Rattle.adf_build.specs.Laid.{IsLaid};
 ghost use Rattle.adf_build.specs.Building.{IsBuildable};
 ghost use Rattle.adf_rescue.specs.Rescue.{HasFault, StandsNothing, rescue_leaves, rescued_tree, verdicts};
@@ -16,7 +16,7 @@ use crate::left_out::LeftOut;
 use crate::salvage::Salvage;
 use adf_build::{build, free_blocks};
 use adf_fields::NoMemory;
-use adf_survey::{Opening, Survey, some_survey};
+use adf_findings::{Opening, Survey, some_survey};
 use adf_tree::{Draft, Node};
 use std::alloc::Global;
 

@@ -6,11 +6,11 @@ ghost use Rattle.adf_blocks.specs.Sizes.{blocks};
 ghost use Rattle.adf_tree.specs.Tree.{is_dir_body};
 ghost use Rattle.adf_volume.specs.Walk.{Role, heads, node_block};
 ghost use Rattle.adf_volume.specs.Image.{name_of};
-ghost use Rattle.adf_survey.specs.Found.{parent_node};
-ghost use Rattle.adf_survey.specs.Files.{grave};
-ghost use Rattle.adf_survey.specs.Marked.{AreMarks};
-ghost use Rattle.adf_survey.specs.Opening.{opening_in};
-ghost use Rattle.adf_survey.specs.Survey.{FindingValue, IsSurvey};
+ghost use Rattle.adf_findings.specs.Found.{parent_node};
+ghost use Rattle.adf_findings.specs.Files.{grave};
+ghost use Rattle.adf_findings.specs.Marked.{AreMarks};
+ghost use Rattle.adf_findings.specs.Opening.{opening_in};
+ghost use Rattle.adf_findings.specs.Survey.{FindingValue, IsSurvey};
 ghost use Rattle.adf_rescue.specs.Rescue.{Verdict, fitting, path_by, place_of, tree_of, verdict};
 ghost use Rattle.adf_rescue.specs.Salvage.{GoesOn, IsNext, IsRoomOf, IsSalvage, entry_cost, free_blocks};
 
@@ -19,7 +19,7 @@ use crate::rooms::room_of;
 use crate::standing::body_of;
 use adf_build::{data_blocks, ext_count};
 use adf_fields::NoMemory;
-use adf_survey::{Opening, Survey};
+use adf_findings::{Opening, Survey};
 use adf_tree::{Body, Draft, Kind, Meta, Node, Room};
 use std::alloc::Global;
 

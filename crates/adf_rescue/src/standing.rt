@@ -3,15 +3,15 @@
 ghost use Rattle.std.specs.Prelude.{◌≡◌, ◌==◌, ◌≤◌, ℕ, Bool, cond, List, IfOk};
 ghost use Rattle.adf_blocks.specs.HeadBlock.{is_link};
 ghost use Rattle.adf_volume.specs.Walk.{Role, heads};
-ghost use Rattle.adf_survey.specs.Files.{grave};
-ghost use Rattle.adf_survey.specs.Marked.{AreMarks};
-ghost use Rattle.adf_survey.specs.Survey.{FindingValue, IsSurvey};
+ghost use Rattle.adf_findings.specs.Files.{grave};
+ghost use Rattle.adf_findings.specs.Marked.{AreMarks};
+ghost use Rattle.adf_findings.specs.Survey.{FindingValue, IsSurvey};
 ghost use Rattle.adf_rescue.specs.Rescue.{body_of, body_of_type};
 
 use crate::left_out::Why;
 use adf_blocks::{SECONDARY_TYPE, ST_DIR, ST_LINK_DIR, ST_LINK_FILE, ST_SOFT_LINK};
 use adf_fields::NoMemory;
-use adf_survey::Survey;
+use adf_findings::Survey;
 use adf_tree::{Body, Bytes, Node};
 use std::alloc::Global;
 

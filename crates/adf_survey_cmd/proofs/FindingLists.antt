@@ -6,9 +6,9 @@ use Rattle.std.proofs.Common.{◌≡◌, ◌∙◌, ◌<◌, ◌≤◌, ◌+◌,
 use Rattle.std.proofs.lemmas.List.{drop_all, drop_more}
 use Rattle.std.proofs.lemmas.Option.{slice_get-get_or, slice_get-map}
 use Rattle.adf_volume.specs.Walk.{Role}
-use Rattle.adf_survey.specs.declared.part.Finding.{Finding}
-use Rattle.adf_survey.specs.Parts.{finding_value}
-use Rattle.adf_survey.specs.Survey.{FindingValue}
+use Rattle.adf_findings.specs.declared.part.Finding.{Finding}
+use Rattle.adf_findings.specs.Parts.{finding_value}
+use Rattle.adf_findings.specs.Survey.{FindingValue}
 use Rattle.adf_runs.specs.Streams.{Pending}
 use Rattle.adf_survey_cmd.specs.Lines.{findings_text, lines_from, findings_line, run_of}
 use Rattle.adf_survey_cmd.specs.declared.runs.Run.{Run}

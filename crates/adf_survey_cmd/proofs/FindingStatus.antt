@@ -1,9 +1,9 @@
 -- The status of findings.
 -- Letters: all the findings as they are kept, and fs as they are told.
 use Rattle.std.proofs.Common.{◌≡◌, List, [], ◌∷◌, length, map, refl, sym, ap, ◌∙◌, arith}
-use Rattle.adf_survey.specs.declared.part.Finding.{Finding}
-use Rattle.adf_survey.specs.Parts.{finding_value}
-use Rattle.adf_survey.specs.Survey.{FindingValue}
+use Rattle.adf_findings.specs.declared.part.Finding.{Finding}
+use Rattle.adf_findings.specs.Parts.{finding_value}
+use Rattle.adf_findings.specs.Survey.{FindingValue}
 use Rattle.adf_survey_cmd.specs.Answers.{findings_status}
 
 none_kept : (all : List Finding) → length all ≡ 0 → findings_status (map finding_value all) ≡ 0

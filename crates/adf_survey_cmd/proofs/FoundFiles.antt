@@ -6,9 +6,9 @@ use Rattle.adf_blocks.specs.declared.layout.TheConstants.{SECONDARY_TYPE, ST_FIL
 use Rattle.adf_volume.specs.Image.{word_in}
 use Rattle.adf_volume.specs.Walk.{FileAt, Role, heads, node_block}
 use Rattle.adf_volume.proofs.Gathered.{head_block, number_of, numbered as has_number}
-use Rattle.adf_survey.specs.Survey.{FindingValue, IsSurvey}
-use Rattle.adf_survey.specs.Survey.IsSurvey.{read, unread}
-use Rattle.adf_survey.proofs.OneSurvey.{gathered}
+use Rattle.adf_findings.specs.Survey.{FindingValue, IsSurvey}
+use Rattle.adf_findings.specs.Survey.IsSurvey.{read, unread}
+use Rattle.adf_findings.proofs.OneSurvey.{gathered}
 
 -- the number of an entry that is found
 pub file_between : (image : List ℕ) (w : List (Role × ℕ)) (fs : List FindingValue) → IsSurvey image w fs → (n h : ℕ) → FileAt image w n h

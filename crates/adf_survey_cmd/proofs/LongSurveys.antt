@@ -6,13 +6,13 @@ use Rattle.std.proofs.lemmas.List.{take-take}
 use Rattle.adf_blocks.specs.declared.layout.TheConstants.{MOST_BLOCKS}
 use Rattle.adf_blocks.specs.declared.cause.Cause.TheVariants.{BadSize}
 use Rattle.adf_volume.specs.Walk.{Role}
-use Rattle.adf_survey.specs.Files.{grave}
-use Rattle.adf_survey.specs.Lookup.{LeadsTo}
-use Rattle.adf_survey.specs.Marked.{AreMarks}
-use Rattle.adf_survey.specs.Survey.{FindingValue, IsSurvey, finding}
-use Rattle.adf_survey.specs.Survey.IsSurvey.{unread}
-use Rattle.adf_survey.specs.Survey.UnreadTells.{bad_boot}
-use Rattle.adf_survey.proofs.OneSurvey.{one_survey}
+use Rattle.adf_findings.specs.Files.{grave}
+use Rattle.adf_findings.specs.Lookup.{LeadsTo}
+use Rattle.adf_findings.specs.Marked.{AreMarks}
+use Rattle.adf_findings.specs.Survey.{FindingValue, IsSurvey, finding}
+use Rattle.adf_findings.specs.Survey.IsSurvey.{unread}
+use Rattle.adf_findings.specs.Survey.UnreadTells.{bad_boot}
+use Rattle.adf_findings.proofs.OneSurvey.{one_survey}
 use Rattle.adf_runs.specs.Commands.{Reply, on_output}
 use Rattle.adf_rescue.specs.Opened.{opened}
 use Rattle.adf_rescue.proofs.OpenedImages.{length_opened}

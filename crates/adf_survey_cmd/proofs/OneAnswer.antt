@@ -4,15 +4,15 @@ use Rattle.std.proofs.Common.{◌≡◌, ◌∙◌, inl, inr, ℕ, Bool, List, [
 use mathlib.Core.Path.{fun_ext}
 use Rattle.adf_tree.proofs.PathParts.{one_path}
 use Rattle.adf_volume.specs.Walk.{FileAt, Role, node_block}
-use Rattle.adf_survey.specs.Files.{IsSoundFile, grave}
-use Rattle.adf_survey.specs.Lookup.{LeadsTo}
-use Rattle.adf_survey.specs.Marked.{AreMarks}
-use Rattle.adf_survey.specs.Survey.{FindingValue}
-use Rattle.adf_survey.proofs.OneSurvey.{one_survey}
+use Rattle.adf_findings.specs.Files.{IsSoundFile, grave}
+use Rattle.adf_findings.specs.Lookup.{LeadsTo}
+use Rattle.adf_findings.specs.Marked.{AreMarks}
+use Rattle.adf_findings.specs.Survey.{FindingValue}
+use Rattle.adf_findings.proofs.OneSurvey.{one_survey}
 use Rattle.adf_build.specs.Laid.{volume}
 use Rattle.adf_rescue.specs.Opened.{opened}
 use Rattle.adf_rescue.specs.Rescue.{rescue_leaves, rescued_tree}
-use Rattle.adf_survey.proofs.Lookups.{one_first}
+use Rattle.adf_findings.proofs.Lookups.{one_first}
 use Rattle.adf_runs.specs.Commands.{Reply, on_output}
 use Rattle.adf_cmd.proofs.OneAnswer.{one_dates, refused_once}
 use Rattle.adf_survey_cmd.specs.Answers.{CopiesEntry, CopiesFound, CopiesFromSurvey, ListsSurvey, QuestionAnswer, SurveyAnswer, Surveys, TellsFound, findings_status, meant}

@@ -6,10 +6,10 @@ use Rattle.adf_tree.specs.Tree.{Tree}
 use Rattle.adf_volume.specs.Fits.{Fits}
 use Rattle.adf_volume.specs.Layout.{Layout}
 use Rattle.adf_volume.specs.Walk.{Role}
-use Rattle.adf_survey.specs.Files.{grave}
-use Rattle.adf_survey.specs.Marked.{AreMarks}
-use Rattle.adf_survey.specs.Survey.{FindingValue, IsSurvey}
-use Rattle.adf_survey.proofs.FirstFindings.{finds_none}
+use Rattle.adf_findings.specs.Files.{grave}
+use Rattle.adf_findings.specs.Marked.{AreMarks}
+use Rattle.adf_findings.specs.Survey.{FindingValue, IsSurvey}
+use Rattle.adf_findings.proofs.FirstFindings.{finds_none}
 use Rattle.adf_rescue.specs.Opened.{is_mended, opened}
 use Rattle.adf_rescue.proofs.OpenedImages.{opened_kept, volumes_are_kept}
 use Rattle.adf_runs.specs.Commands.{Reply}

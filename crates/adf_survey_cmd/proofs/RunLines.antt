@@ -2,7 +2,7 @@
 -- Letters: w a walk; r, s runs; f a finding, fs findings; o, p what is known of an entry.
 use Rattle.std.proofs.Common.{◌≡◌, ◌∙◌, ◌++◌, List, [], ◌∷◌, ℕ, true, false, refl, sym, subst, ap, append_assoc, append-nil}
 use Rattle.adf_volume.specs.Walk.{Role}
-use Rattle.adf_survey.specs.Survey.{FindingValue}
+use Rattle.adf_findings.specs.Survey.{FindingValue}
 use Rattle.adf_survey_cmd.specs.Lines.{continues, lines_from, findings_line, run_of, runs_from}
 use Rattle.adf_survey_cmd.specs.declared.runs.Run.{Run}
 

@@ -4,10 +4,10 @@ use Rattle.std.specs.Prelude.{◌≡◌, ◌*◌, ◌-◌, ◌⊎◌, ◌++◌, 
 use Rattle.adf_blocks.specs.declared.layout.TheConstants.{MOST_BLOCKS}
 use Rattle.adf_tree.specs.PathTexts.{IsPathText}
 use Rattle.adf_volume.specs.Walk.{FileAt, Role}
-use Rattle.adf_survey.specs.Files.{IsSoundFile, file_content, file_in}
-use Rattle.adf_survey.specs.Lookup.{LeadsTo}
-use Rattle.adf_survey.specs.Marked.{AreMarks}
-use Rattle.adf_survey.specs.Survey.{FindingValue, IsSurvey}
+use Rattle.adf_findings.specs.Files.{IsSoundFile, file_content, file_in}
+use Rattle.adf_findings.specs.Lookup.{LeadsTo}
+use Rattle.adf_findings.specs.Marked.{AreMarks}
+use Rattle.adf_findings.specs.Survey.{FindingValue, IsSurvey}
 use Rattle.adf_fields.specs.declared.dates.Stamp.{Stamp}
 use Rattle.adf_texts.specs.VolumeLines.{AreDates}
 use Rattle.adf_cmd.specs.Answers.{IsBadPath, RefusesPath}

@@ -6,10 +6,10 @@ use Rattle.adf_fields.specs.Words.{block}
 use Rattle.adf_fields.specs.declared.dates.Stamp.{Stamp}
 use Rattle.adf_blocks.specs.HeadBlock.{body_at, meta_told}
 use Rattle.adf_volume.specs.Walk.{Role, heads, node_block}
-use Rattle.adf_survey.specs.Lookup.{path_to}
-use Rattle.adf_survey.specs.Marked.{AreMarks}
-use Rattle.adf_survey.specs.Opening.{opening_in}
-use Rattle.adf_survey.specs.Survey.{FindingValue}
+use Rattle.adf_findings.specs.Lookup.{path_to}
+use Rattle.adf_findings.specs.Marked.{AreMarks}
+use Rattle.adf_findings.specs.Opening.{opening_in}
+use Rattle.adf_findings.specs.Survey.{FindingValue}
 use Rattle.adf_texts.specs.RowTexts.{head_lines}
 use Rattle.adf_texts.specs.VolumeLines.{AreDates, opening_lines}
 use Rattle.adf_survey_cmd.specs.Lines.{findings_text}

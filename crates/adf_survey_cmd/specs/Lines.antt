@@ -5,11 +5,11 @@ use Rattle.std.specs.Fmt.{decimal}
 use Rattle.std.specs.List.{flat_map}
 use Rattle.adf_blocks.specs.Causes.{cause_number, cause_text}
 use Rattle.adf_volume.specs.Walk.{Role}
-use Rattle.adf_survey.specs.declared.concern.Concern.{Concern}
-use Rattle.adf_survey.specs.declared.concern.Concern.TheVariants.{Entry, Within}
-use Rattle.adf_survey.specs.Concerned.{concern_of, owner_of}
-use Rattle.adf_survey.specs.Lookup.{path_to}
-use Rattle.adf_survey.specs.Survey.{FindingValue}
+use Rattle.adf_findings.specs.declared.concern.Concern.{Concern}
+use Rattle.adf_findings.specs.declared.concern.Concern.TheVariants.{Entry, Within}
+use Rattle.adf_findings.specs.Concerned.{concern_of, owner_of}
+use Rattle.adf_findings.specs.Lookup.{path_to}
+use Rattle.adf_findings.specs.Survey.{FindingValue}
 use Rattle.adf_texts.specs.Names.{names_text}
 use Rattle.adf_survey_cmd.specs.declared.runs.Run.{Run}
 

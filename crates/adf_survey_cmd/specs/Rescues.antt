@@ -4,10 +4,10 @@ use Rattle.std.specs.Prelude.{◌≡◌, ◌⊎◌, ℕ, Bool, List, [], ◌∷�
 use Rattle.std.specs.List.{flat_map}
 use Rattle.adf_blocks.specs.Sizes.{blocks}
 use Rattle.adf_volume.specs.Walk.{Role}
-use Rattle.adf_survey.specs.Files.{grave}
-use Rattle.adf_survey.specs.Lookup.{path_to}
-use Rattle.adf_survey.specs.Marked.{AreMarks}
-use Rattle.adf_survey.specs.Survey.{FindingValue, IsSurvey}
+use Rattle.adf_findings.specs.Files.{grave}
+use Rattle.adf_findings.specs.Lookup.{path_to}
+use Rattle.adf_findings.specs.Marked.{AreMarks}
+use Rattle.adf_findings.specs.Survey.{FindingValue, IsSurvey}
 use Rattle.adf_build.specs.Laid.{IsLaid}
 use Rattle.adf_rescue.specs.Opened.{is_mended, opened}
 use Rattle.adf_rescue.specs.Rescue.{StandsNothing, rescue_leaves, rescued_tree}

@@ -2,16 +2,16 @@
 
 ghost use Rattle.std.specs.Prelude.{◌≡◌, ◌↔◌, ℕ, false, IsTrue};
 ghost use Rattle.adf_volume.specs.Walk.{FileAt};
-ghost use Rattle.adf_survey.specs.Files.{file_content};
-ghost use Rattle.adf_survey.specs.Survey.{OnSurvey};
+ghost use Rattle.adf_findings.specs.Files.{file_content};
+ghost use Rattle.adf_findings.specs.Survey.{OnSurvey};
 ghost use Rattle.adf_runs.specs.Commands.{on_output};
 ghost use Rattle.adf_survey_cmd.specs.Answers.{CopiesEntry, CopiesFound};
 ghost use Rattle.adf_runs.specs.Outcomes.{EndsBy, is_read_fault, is_write_fault};
 
 use adf_blocks::{SECONDARY_TYPE, ST_FILE};
 use adf_cmd::{ROOM, write_through};
+use adf_findings::{SoundFile, Survey};
 use adf_runs::{Outcome, Sink};
-use adf_survey::{SoundFile, Survey};
 use adf_tree::{Name, Node};
 use std::alloc::Global;
 

@@ -4,14 +4,14 @@ ghost use Rattle.std.specs.Prelude.{◌≡◌, ◌++◌, ◌≤◌, ℕ, List, O
 ghost use Rattle.std.specs.Io.KnownBytes.{Appends};
 ghost use Rattle.adf_fields.specs.declared.dates.Stamp.{Stamp};
 ghost use Rattle.adf_volume.specs.Walk.{heads};
-ghost use Rattle.adf_survey.specs.Opening.{opening_in};
-ghost use Rattle.adf_survey.specs.Survey.{OnSurvey};
+ghost use Rattle.adf_findings.specs.Opening.{opening_in};
+ghost use Rattle.adf_findings.specs.Survey.{OnSurvey};
 ghost use Rattle.adf_texts.specs.VolumeLines.{AreDates};
 ghost use Rattle.adf_runs.specs.Streams.{AppendsPart, KeepsPending, is_device};
 ghost use Rattle.adf_survey_cmd.specs.FoundLines.{InAnyTexts, found_lines, found_text, lines_of_found, mark_text, opening_text};
 
+use adf_findings::{Opening, Survey};
 use adf_runs::{Sink, StreamFault, flush_long, write_all};
-use adf_survey::{Opening, Survey};
 use adf_texts::{push_head_lines, push_opening_lines};
 use adf_tree::Node;
 use std::alloc::{AllocError, Global};

@@ -2,7 +2,7 @@
 
 ghost use Rattle.std.specs.Prelude.{◌≡◌, OnErr, OnOk, false};
 ghost use Rattle.std.specs.Io.KnownBytes.{Appends};
-ghost use Rattle.adf_survey.specs.Survey.{OnSurvey};
+ghost use Rattle.adf_findings.specs.Survey.{OnSurvey};
 ghost use Rattle.adf_runs.specs.Streams.{AppendsPart, is_device};
 ghost use Rattle.adf_survey_cmd.specs.Answers.{TellsFound};
 ghost use Rattle.adf_runs.specs.Outcomes.{EndsBy, is_read_fault, is_write_fault};
@@ -10,8 +10,8 @@ ghost use Rattle.adf_survey_cmd.specs.FoundLines.{InAnyTexts, listing_text};
 
 use crate::found_lines::write_found;
 use crate::runs::write_runs;
+use adf_findings::Survey;
 use adf_runs::{Outcome, Sink, StreamFault};
-use adf_survey::Survey;
 use std::alloc::Global;
 
 // Writes the lines of the findings, and behind them those of what is found.

@@ -1,13 +1,13 @@
 // The lines of all findings.
 
 ghost use Rattle.std.specs.Prelude.{◌≡◌, false};
-ghost use Rattle.adf_survey.specs.Survey.{OnSurvey};
+ghost use Rattle.adf_findings.specs.Survey.{OnSurvey};
 ghost use Rattle.adf_survey_cmd.specs.Answers.{TellsFindings};
 ghost use Rattle.adf_runs.specs.Outcomes.{EndsBy, is_read_fault, is_write_fault};
 
 use crate::runs::write_runs;
+use adf_findings::Survey;
 use adf_runs::{Outcome, Sink};
-use adf_survey::Survey;
 use std::alloc::Global;
 
 /// Writes the lines of the findings.

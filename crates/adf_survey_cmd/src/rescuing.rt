@@ -4,7 +4,7 @@ ghost use Rattle.std.specs.Prelude.{◌≡◌, ◌++◌, ℕ, List, IfOk, OnOk, 
 ghost use Rattle.adf_tree.specs.Tree.{Tree};
 ghost use Rattle.adf_volume.specs.Fits.{Fits};
 ghost use Rattle.adf_volume.specs.Layout.{Layout};
-ghost use Rattle.adf_survey.specs.Survey.{OnSurvey};
+ghost use Rattle.adf_findings.specs.Survey.{OnSurvey};
 ghost use Rattle.adf_rescue.specs.Opened.{opened};
 ghost use Rattle.adf_cmd.specs.Refusals.{IsRefusedImage};
 ghost use Rattle.adf_runs.specs.Outcomes.{EndsBy, is_read_fault, is_write_fault};
@@ -12,9 +12,9 @@ ghost use Rattle.adf_survey_cmd.specs.Rescues.{Rescues, left_out_line, left_out_
 
 use crate::runs::push_path;
 use adf_cmd::volume_of;
+use adf_findings::{Survey, survey};
 use adf_rescue::{LeftOut, Rescued, Why, is_mended, opened_image, rescue};
 use adf_runs::{Outcome, Sink, write_all};
-use adf_survey::{Survey, survey};
 use std::alloc::{AllocError, Global};
 
 // Appends why an entry is left out.

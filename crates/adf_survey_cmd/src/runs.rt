@@ -3,17 +3,17 @@
 ghost use Rattle.std.specs.Prelude.{◌≡◌, ◌++◌, ◌∷◌, ℕ, List, IfOk, OnErr, OnOk, codes, false};
 ghost use Rattle.std.specs.Io.KnownBytes.{Appends};
 ghost use Rattle.adf_volume.specs.Walk.{Role};
-ghost use Rattle.adf_survey.specs.Concerned.{concern_of, owner_of};
-ghost use Rattle.adf_survey.specs.Lookup.{path_to};
-ghost use Rattle.adf_survey.specs.Parts.{finding_value};
-ghost use Rattle.adf_survey.specs.Survey.{FindingValue, OnSurvey};
+ghost use Rattle.adf_findings.specs.Concerned.{concern_of, owner_of};
+ghost use Rattle.adf_findings.specs.Lookup.{path_to};
+ghost use Rattle.adf_findings.specs.Parts.{finding_value};
+ghost use Rattle.adf_findings.specs.Survey.{FindingValue, OnSurvey};
 ghost use Rattle.adf_texts.specs.Names.{names_text};
 ghost use Rattle.adf_runs.specs.Streams.{AppendsPart, KeepsPending, is_device};
 ghost use Rattle.adf_survey_cmd.specs.Lines.{are_owned_alike, are_one, blocks_text, concern_text, continues, findings_text, is_beside, lines_from, findings_line, owner_text, run_of};
 
 use adf_blocks::Cause;
+use adf_findings::{Concern, Finding, Survey};
 use adf_runs::{Sink, StreamFault, flush_long, write_all};
-use adf_survey::{Concern, Finding, Survey};
 use adf_texts::{push_names, push_number};
 use adf_tree::Node;
 use std::alloc::{AllocError, Global};

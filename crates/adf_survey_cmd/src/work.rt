@@ -1,7 +1,7 @@
 // What is done for words, once they and their path are read.
 
 ghost use Rattle.std.specs.Prelude.{◌≡◌, List, false, IfErr, IfOk};
-ghost use Rattle.adf_survey.specs.Survey.{OnSurvey};
+ghost use Rattle.adf_findings.specs.Survey.{OnSurvey};
 ghost use Rattle.adf_runs.specs.Outcomes.{EndsBy, is_read_fault, is_write_fault};
 ghost use Rattle.adf_runs.specs.WorkFaults.{IsNoWork};
 ghost use Rattle.adf_survey_cmd.specs.Answers.{HasBadSurveyPath, QuestionAnswer, sized};
@@ -14,8 +14,8 @@ use crate::reporting::write_findings;
 use crate::rescuing::rescue_image;
 use adf_cmd::MOST_IMAGE_BYTES;
 use adf_fields::BLOCK_LEN;
+use adf_findings::{Survey, survey};
 use adf_runs::{Outcome, Program, Sink, Source, WorkFault, read_input};
-use adf_survey::{Survey, survey};
 use adf_tree::{Name, read_path};
 use adf_words::{Question, SURVEY_USAGE as USAGE, parse_survey};
 use std::alloc::{AllocError, Global};

@@ -3,8 +3,8 @@
 
 ghost use Rattle.std.specs.Prelude.{length};
 
-use adf_disk::{Disk, DiskCause, DiskFault, Partition, Place, PlaceFault, disk_fault};
 use adf_fields::{seal, set_word};
+use adf_partitions::{Disk, DiskCause, DiskFault, Partition, Place, PlaceFault, disk_fault};
 use std::alloc::Global;
 use std::test::Fail;
 

@@ -10,8 +10,8 @@ use adf_build::build;
 use adf_check::{Owner, Owners};
 use adf_cmd::Work;
 use adf_fields::{NoMemory, Stamp, stamp_text};
+use adf_findings::survey;
 use adf_runs::{Sink, run_program_on};
-use adf_survey::survey;
 use adf_tree::{Comment, Label, Node};
 use std::alloc::Global;
 

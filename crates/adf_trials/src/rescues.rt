@@ -3,7 +3,7 @@
 use crate::answer::{Answer, CommandLine, answer_of};
 use crate::wants::{is_same, is_status};
 use crate::wrong::Wrong;
-use adf_survey::survey;
+use adf_findings::survey;
 use adf_texts::push_names;
 use adf_tree::Node;
 use std::alloc::Global;

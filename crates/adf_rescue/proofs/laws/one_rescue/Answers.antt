@@ -1,4 +1,4 @@
-use Rattle.adf_survey.specs.Files.{grave}
+use Rattle.adf_findings.specs.Files.{grave}
 use Rattle.adf_volume.specs.Walk.{heads}
 use Rattle.adf_rescue.proofs.RescueLaws.{same_verdicts}
 use Rattle.adf_rescue.proofs.laws.one_rescue.Goals as goal

@@ -1,5 +1,5 @@
-use Rattle.adf_survey.specs.Files.{grave}
-use Rattle.adf_survey.proofs.GraveFindings.{sound_is_whole}
+use Rattle.adf_findings.specs.Files.{grave}
+use Rattle.adf_findings.proofs.GraveFindings.{sound_is_whole}
 use Rattle.adf_rescue.proofs.RescueLaws.{sound_verdict}
 use Rattle.adf_rescue.proofs.laws.sound_files_stand.Goals as goal
 

@@ -1,7 +1,7 @@
 use Rattle.std.proofs.Common.{ℕ, Bool, ap, refl}
 use Rattle.adf_blocks.specs.Sizes.{blocks}
-use Rattle.adf_survey.specs.declared.opening.Opening.{Opening}
-use Rattle.adf_survey.specs.Marked.{whole_in}
+use Rattle.adf_findings.specs.declared.opening.Opening.{Opening}
+use Rattle.adf_findings.specs.Marked.{whole_in}
 use Rattle.adf_rescue.proofs.Steps.{buildable}
 use Rattle.adf_rescue.proofs.rescues.rescue.Goals as goal
 

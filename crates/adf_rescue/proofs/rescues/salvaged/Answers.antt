@@ -1,6 +1,6 @@
 use Rattle.std.proofs.Common.{◌≡◌, ℕ, Bool, List, arith, subst, sym}
 use Rattle.adf_volume.specs.Walk.{heads}
-use Rattle.adf_survey.specs.Marked.{whole_in}
+use Rattle.adf_findings.specs.Marked.{whole_in}
 use Rattle.adf_rescue.specs.Rescue.{Verdict, verdicts}
 use Rattle.adf_rescue.specs.Salvage.{IsSalvage}
 use Rattle.adf_rescue.proofs.Steps.{next_is, verdicts_more}

@@ -1,8 +1,8 @@
 use Rattle.std.proofs.Common.{ℕ, List, Bool}
 use Rattle.adf_volume.specs.Walk.{Role}
-use Rattle.adf_survey.specs.Files.{grave}
-use Rattle.adf_survey.specs.Marked.{AreMarks}
-use Rattle.adf_survey.specs.Survey.{FindingValue, IsSurvey}
+use Rattle.adf_findings.specs.Files.{grave}
+use Rattle.adf_findings.specs.Marked.{AreMarks}
+use Rattle.adf_findings.specs.Survey.{FindingValue, IsSurvey}
 use Rattle.adf_rescue.specs.Rescue.{verdicts}
 use Rattle.adf_rescue.specs.Salvage.{IsSalvage}
 use Rattle.adf_rescue.proofs.rescues.salvaged.Given as goal

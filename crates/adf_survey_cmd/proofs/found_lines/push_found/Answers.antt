@@ -1,7 +1,7 @@
 use Rattle.std.proofs.Common.{◌≡◌, ◌++◌, ◌∙◌, ap, append_assoc, map}
 use Rattle.std.proofs.lemmas.Result.{on_ok_weaker}
 use Rattle.adf_volume.specs.Walk.{node_block}
-use Rattle.adf_survey.specs.Lookup.{path_to}
+use Rattle.adf_findings.specs.Lookup.{path_to}
 use Rattle.adf_texts.specs.RowTexts.{head_lines}
 use Rattle.adf_survey_cmd.specs.FoundLines.{header_lines, mark_text}
 use Rattle.adf_survey_cmd.proofs.FoundTexts.{same_tests}

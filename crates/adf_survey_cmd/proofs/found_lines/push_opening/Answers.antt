@@ -1,5 +1,5 @@
 use Rattle.std.proofs.Common.{◌≡◌, ◌++◌, ℕ, List, OnOk, subst}
-use Rattle.adf_survey.specs.declared.opening.Opening.{Opening}
+use Rattle.adf_findings.specs.declared.opening.Opening.{Opening}
 use Rattle.adf_texts.specs.VolumeLines.{opening_lines}
 use Rattle.adf_survey_cmd.proofs.found_lines.push_opening.Goals as goal
 

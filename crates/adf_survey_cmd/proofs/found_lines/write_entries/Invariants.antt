@@ -1,5 +1,5 @@
 use Rattle.std.proofs.Common.{◌≡◌, ◌++◌, false}
-use Rattle.adf_survey.specs.Survey.{OnSurvey}
+use Rattle.adf_findings.specs.Survey.{OnSurvey}
 use Rattle.adf_runs.specs.Streams.{Pending}
 use Rattle.adf_survey_cmd.specs.FoundLines.{InAnyTexts, lines_of_found}
 use Rattle.adf_survey_cmd.proofs.found_lines.write_entries.Given as goal

@@ -1,5 +1,5 @@
 use Rattle.std.proofs.Common.{◌≡◌, ◌++◌, drop}
-use Rattle.adf_survey.specs.Survey.{OnSurvey}
+use Rattle.adf_findings.specs.Survey.{OnSurvey}
 use Rattle.adf_survey_cmd.specs.Rescues.{left_out_text}
 use Rattle.adf_survey_cmd.proofs.rescuing.left_out_lines.Given as goal
 

@@ -1,7 +1,7 @@
 use Rattle.std.proofs.Common.{◌≡◌, ◌∙◌, ℕ, Bool, List, ap, false, inl, inr, is_some, map, subst, sym, true}
-use Rattle.adf_survey.specs.Marked.{whole_in}
-use Rattle.adf_survey.specs.Parts.{finding_value}
-use Rattle.adf_survey.specs.Survey.{FindingValue, IsSurvey}
+use Rattle.adf_findings.specs.Marked.{whole_in}
+use Rattle.adf_findings.specs.Parts.{finding_value}
+use Rattle.adf_findings.specs.Survey.{FindingValue, IsSurvey}
 use Rattle.adf_rescue.specs.Opened.{is_mended}
 use Rattle.adf_rescue.specs.Rescue.{StandsNothing}
 use Rattle.adf_cmd.proofs.AnswerLaws.{refused_image_ends}

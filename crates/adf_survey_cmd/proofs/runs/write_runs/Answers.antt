@@ -1,9 +1,9 @@
 use Rattle.std.specs.Prelude.{None}
 use Rattle.std.proofs.Common.{◌+◌, arith, drop, get_or, map, rules}
 use Rattle.adf_blocks.specs.declared.cause.Cause.TheVariants.{BadSize}
-use Rattle.adf_survey.specs.Concerned.{concern_of, owner_of}
-use Rattle.adf_survey.specs.Parts.{finding_value}
-use Rattle.adf_survey.specs.declared.part.Finding.{Finding}
+use Rattle.adf_findings.specs.Concerned.{concern_of, owner_of}
+use Rattle.adf_findings.specs.Parts.{finding_value}
+use Rattle.adf_findings.specs.declared.part.Finding.{Finding}
 use Rattle.adf_runs.proofs.PendingText.{on_err, pending_begun, pending_end}
 use Rattle.adf_survey_cmd.proofs.FindingLists.{runs_begun, runs_done, runs_next, told_first, told_later}
 use Rattle.adf_survey_cmd.proofs.PendingLines.{pending_breaks, pending_stops}

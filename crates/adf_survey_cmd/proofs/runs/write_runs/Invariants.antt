@@ -1,6 +1,6 @@
 use Rattle.std.proofs.Common.{◌≡◌, ◌++◌, drop, false, map}
-use Rattle.adf_survey.specs.Parts.{finding_value}
-use Rattle.adf_survey.specs.Survey.{OnSurvey}
+use Rattle.adf_findings.specs.Parts.{finding_value}
+use Rattle.adf_findings.specs.Survey.{OnSurvey}
 use Rattle.adf_runs.specs.Streams.{Pending}
 use Rattle.adf_survey_cmd.specs.Lines.{findings_text, lines_from}
 use Rattle.adf_survey_cmd.proofs.runs.write_runs.Given as goal

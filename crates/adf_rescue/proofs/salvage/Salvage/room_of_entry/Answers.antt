@@ -3,7 +3,7 @@ use Rattle.adf_rescue.specs.Rescue.{place_of}
 use Rattle.adf_rescue.specs.Salvage.{IsPlace}
 use Rattle.adf_volume.specs.Walk.{node_block}
 use Rattle.adf_volume.specs.Image.{name_of}
-use Rattle.adf_survey.specs.Found.{parent_node}
+use Rattle.adf_findings.specs.Found.{parent_node}
 use Rattle.adf_rescue.specs.Rescue.{tree_of}
 use Rattle.adf_rescue.proofs.Steps.{room_in_place}
 use Rattle.adf_rescue.proofs.salvage.Salvage.room_of_entry.Goals as goal

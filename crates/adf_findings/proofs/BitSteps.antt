@@ -1,0 +1,147 @@
+-- The findings of the bits.
+use Rattle.std.specs.Prelude.{Bool, true, false, ◌||◌, cond, not, Some, None, IsTrue, ◌↔◌, slice_index_or}
+use Rattle.std.proofs.Common.{◌≡◌, ℕ, zero, suc, length, List, [], ◌∷◌, ◌++◌, inl, inr, ◌+◌, ◌-◌, ◌/◌, ◌%◌, ◌<◌, ◌≤◌, refl, sym, subst, ap, ◌∙◌, arith}
+use Rattle.std.specs.Ordering.{is_eq}
+use Rattle.std.specs.BTreeMap.{get}
+use Rattle.std.proofs.lemmas.List.{append_assoc, append-nil}
+use Rattle.adf_blocks.specs.declared.cause.Cause.{Cause}
+use Rattle.adf_blocks.specs.declared.layout.TheConstants.{PAGE_BITS}
+use Rattle.adf_blocks.specs.Sizes.{blocks}
+use Rattle.adf_volume.specs.Image.{IsFreeAt}
+use Rattle.adf_volume.specs.Walk.{Role, second, Has, IsAbsent, IsFreeIn}
+use Rattle.adf_volume.specs.Walk.Role.{Page, Head}
+use Rattle.adf_volume.proofs.Gathered.{one_block}
+use Rattle.adf_volume.proofs.Roles.{has_role, same_refl}
+use Rattle.adf_findings.specs.declared.part.Key.{Key}
+use Rattle.adf_findings.specs.declared.found.Found.{Found}
+use Rattle.adf_findings.specs.Survey.{BitsTell, Course, FindingValue, IsCourse, IsUnexcused, IsValidated, finding, is_cache}
+use Rattle.adf_findings.specs.Survey.BitsTell.{agrees, differs, ends}
+use Rattle.adf_findings.specs.declared.part.Finding.{Finding}
+use Rattle.adf_findings.specs.Forms.{Tells}
+use Rattle.adf_findings.specs.Parts.{by_key, key_of}
+use Rattle.adf_findings.specs.Found.{BitTells, IsBitOf, IsCompleted, IsFinished, IsNoted, IsToldOn, TellsOn, Stands, at_key, cause_told, owns}
+use Rattle.adf_findings.proofs.Keys.{lacks_at, one_key, same_of_key}
+use Rattle.adf_findings.proofs.Known.{tells_absent}
+use Rattle.adf_findings.proofs.Taking.{stands_noted}
+use Rattle.adf_findings.proofs.OneSurvey.{gathered}
+
+-- where the bitmap is not valid, no bit is compared
+pub not_compared : (image : List ℕ) (s : Course) (b : ℕ) → (IsValidated image → ⊥) → BitTells image s b None
+not_compared image s b n = λ c. absurd (n c.0)
+
+pub at_has : (w : List (Role × ℕ)) (k : Key) (b : ℕ) → at_key w k ≡ Some b → (q : Role) × Has w q b × (key_of q ≡ k)
+at_has [] k b e = cc
+at_has (x ∷ w) k b e = go (is_eq (by_key (key_of x.0) k)) refl e (at_has w k b)
+  where
+    go : (t : Bool) → is_eq (by_key (key_of x.0) k) ≡ t → cond t (Some x.1) (at_key w k) ≡ Some b
+        → (at_key w k ≡ Some b → (q : Role) × Has w q b × (key_of q ≡ k)) → (q : Role) × Has (x ∷ w) q b × (key_of q ≡ k)
+    go true f e again = let z : x.1 ≡ b = cc in (x.0, inl (refl, z), one_key (key_of x.0) k f)
+    go false f e again = let y = again e in (y.0, inr y.1, y.2)
+
+module _ (image : List ℕ) (f : Found) (s : Course) (v : IsCourse image s) (fs : List FindingValue)
+    (st : Stands image f (record { walk = s.walk; passed_over = s.passed_over; findings = fs })) (b : ℕ) where
+  abbrev page : ℕ
+  page = (b - 2) / PAGE_BITS
+
+  page_has : (at : ℕ) → get by_key f.taken (key_of (Page page)) ≡ Some at → Has s.walk (Page page) at
+  page_has at e =
+      let x = at_has s.walk (key_of (Page page)) at (sym (st.taken (Page page) tt) ∙ e) in
+      has_role s.walk (Page page) (λ n p t j z. let y : second (Page page) ≡ second (Head n p t j) = ap second z in absurd (omega arith)) x.0 at x.1
+      (same_of_key x.0 (Page page) x.2)
+
+  -- without its page a bit is not compared
+  pub no_page : get by_key f.taken (key_of (Page page)) ≡ None → BitTells image s b None
+  no_page e c = absurd (lacks_at s.walk (Page page) (sym (st.taken (Page page) tt) ∙ e) (Page page) c.1.0 c.1.1 (same_refl (Page page)))
+
+  tells_free : (at : ℕ) (t : Bool) → Has s.walk (Page page) at → (IsTrue t ↔ IsFreeAt image at ((b - 2) % PAGE_BITS)) → Tells t (IsFreeIn image s.walk b)
+  tells_free at true h free = (at, h, free.0 refl)
+  tells_free at false h free = λ y.
+      let one : y.0 ≡ at = (one_block image (gathered image v) (Page page) (Page page) y.0 at y.1 h (same_refl (Page page))).1 in
+      let z : IsTrue false = free.1 (subst (λ a. IsFreeAt image a ((b - 2) % PAGE_BITS)) one y.2) in cc
+
+  -- a block has an excuse if it was passed over or is a directory cache
+  tells_excuse : (p k : Bool) → Tells (not p) (IsAbsent s.passed_over b) → k ≡ is_cache image b → Tells (not (p || k)) (IsUnexcused image s b)
+  tells_excuse true k h e = λ x. h x.0
+  tells_excuse false true h e = λ x. let clash : true ≡ false = e ∙ x.1 in cc
+  tells_excuse false false h e = (h, sym e)
+
+  tells_bit : (o a t : Bool) (at : ℕ) → IsValidated image → Has s.walk (Page page) at → Tells (not o) (IsAbsent s.walk b) → Tells (not a) (IsUnexcused image s b)
+      → Tells t (IsFreeIn image s.walk b) → BitTells image s b (cause_told o a t)
+  tells_bit false false false at vd h ow av fr = ((vd, (at, h), (λ x. av)), inl ((λ k. fr (k ow)), refl, refl))
+  tells_bit false true false at vd h ow av fr = λ c. absurd (av (c.2 ow))
+  tells_bit false false true at vd h ow av fr = λ c. ((λ x. fr), ((λ x. ow), tt))
+  tells_bit false true true at vd h ow av fr = λ c. ((λ x. fr), ((λ x. ow), tt))
+  tells_bit true false true at vd h ow av fr = ((vd, (at, h), (λ x. absurd (ow x))), inr ((λ x. fr), inl ((λ k. ow (k fr)), refl, refl)))
+  tells_bit true true true at vd h ow av fr = ((vd, (at, h), (λ x. absurd (ow x))), inr ((λ x. fr), inl ((λ k. ow (k fr)), refl, refl)))
+  tells_bit true false false at vd h ow av fr = λ c. ((λ x. absurd (ow x)), ((λ x. absurd (fr x)), tt))
+  tells_bit true true false at vd h ow av fr = λ c. ((λ x. absurd (ow x)), ((λ x. absurd (fr x)), tt))
+
+  -- with its page the bit tells by whose the block is
+  pub page_tells : (o p k t : Bool) → o ≡ owns s.walk b → p ≡ owns s.passed_over b → k ≡ is_cache image b → IsValidated image
+      → IsBitOf image f page ((b - 2) % PAGE_BITS) (Some t) → BitTells image s b (cause_told o (p || k) t)
+  page_tells o p k t oe pe ke vd x =
+      let h = page_has x.0 x.1 in
+      tells_bit o (p || k) t x.0 vd h (subst (λ o. Tells (not o) (IsAbsent s.walk b)) (sym oe) (tells_absent s.walk b))
+      (tells_excuse p k (subst (λ p. Tells (not p) (IsAbsent s.passed_over b)) (sym pe) (tells_absent s.passed_over b)) ke) (tells_free x.0 t h x.2)
+
+pub tells_none : (image : List ℕ) (s : Course) (b : ℕ) (gs : List FindingValue) → 2 ≤ b → BitTells image s b None
+    → TellsOn image s b gs → TellsOn image s (b + 1) gs
+tells_none image s b gs lo t on n fs h =
+    let one : b + 1 ≡ suc b = omega arith in
+    let more : b - 2 + suc n ≡ b + 1 - 2 + n = omega arith in
+    subst (λ m. BitsTell image s 2 m (gs ++ fs)) more (on (suc n) fs (agrees t (subst (λ c. BitsTell image s c n fs) one h)))
+
+pub tells_some : (image : List ℕ) (s : Course) (b : ℕ) (gs : List FindingValue) (c : Cause) → 2 ≤ b → BitTells image s b (Some c) → TellsOn image s b gs
+    → TellsOn image s (b + 1) (gs ++ finding None b c ∷ [])
+tells_some image s b gs c lo t on n fs h =
+    let one : b + 1 ≡ suc b = omega arith in
+    let more : b - 2 + suc n ≡ b + 1 - 2 + n = omega arith in
+    subst (λ m. BitsTell image s 2 m (gs ++ finding None b c ∷ [] ++ fs)) more
+    (subst (BitsTell image s 2 (b - 2 + suc n)) (sym (append_assoc gs (finding None b c ∷ []) fs))
+    (on (suc n) (finding None b c ∷ fs) (differs t.0 t.1 (subst (λ c. BitsTell image s c n fs) one h))))
+
+-- the bits of no block are compared at first, and at last all are
+pub none_told : (image : List ℕ) (s : Course) → TellsOn image s 2 []
+none_told image s n fs h = let e : n ≡ 2 - 2 + n = omega arith in subst (λ n. BitsTell image s 2 n fs) e h
+
+pub all_told : (image : List ℕ) (s : Course) (b : ℕ) (gs : List FindingValue) → TellsOn image s b gs → BitsTell image s 2 (b - 2) gs
+all_told image s b gs on =
+    let e : b - 2 + 0 ≡ b - 2 = omega arith in
+    subst (λ n. BitsTell image s 2 n gs) e (subst (BitsTell image s 2 (b - 2 + 0)) (append-nil gs) (on 0 [] ends))
+
+pub none_on : (image : List ℕ) (f : Found) (b : ℕ) → 2 ≤ b
+    → ((s : Course) (fs : List FindingValue) → IsCourse image s → Stands image f (record { walk = s.walk; passed_over = s.passed_over; findings = fs })
+    → BitTells image s b None) → IsToldOn image f b → IsToldOn image f (b + 1)
+none_on image f b lo tells (s, gs, told, on) = (s, gs, told, tells_none image s b gs lo (tells s (s.findings ++ gs) told.course told.stands) on)
+
+pub some_on : (image : List ℕ) (f g : Found) (b : ℕ) (c : Cause) (x : Finding) → 2 ≤ b → x ≡ record { part = None; block = b; cause = c }
+    → ((s : Course) (fs : List FindingValue) → IsCourse image s → Stands image f (record { walk = s.walk; passed_over = s.passed_over; findings = fs })
+    → BitTells image s b (Some c)) → IsNoted x f g → IsToldOn image f b → IsToldOn image g (b + 1)
+some_on image f g b c x lo is tells noted (s, gs, told, on) =
+    let one : List FindingValue = finding None b c ∷ [] in
+    let n : IsNoted (record { part = None; block = b; cause = c }) f g = subst (λ x. IsNoted x f g) is noted in
+    let st = stands_noted image f g (record { walk = s.walk; passed_over = s.passed_over; findings = s.findings ++ gs }) b told.stands
+    (record { part = None; block = b; cause = c }) n in (
+      s,
+      gs ++ one,
+      record {
+        course = told.course;
+        done = told.done;
+        stands = subst (λ fs. Stands image g (record { walk = s.walk; passed_over = s.passed_over; findings = fs })) (append_assoc s.findings gs one) st;
+      },
+      tells_some image s b gs c lo (tells s (s.findings ++ gs) told.course told.stands) on,
+    )
+
+pub told_first : (image : List ℕ) (f : Found) → IsFinished image f → IsToldOn image f 2
+told_first image f (s, course, done, stands) =
+    let st = subst (λ fs. Stands image f (record { walk = s.walk; passed_over = s.passed_over; findings = fs })) (sym (append-nil s.findings)) stands in
+    (s, [], record { course = course; done = done; stands = st }, none_told image s)
+
+pub told_last : (image : List ℕ) (f : Found) (b : ℕ) → b ≡ blocks image → IsToldOn image f b → IsCompleted image f
+told_last image f b e (s, gs, told, on) = (s, gs, told, subst (λ b. BitsTell image s 2 (b - 2) gs) e (all_told image s b gs on))
+
+-- inside a list the default does not count
+pub any_default : (xs : List Bool) (b : ℕ) (d : Bool) → b < length xs → slice_index_or xs b d ≡ slice_index_or xs b false
+any_default [] b d lt = absurd (omega arith)
+any_default (x ∷ xs) zero d lt = refl
+any_default (x ∷ xs) (suc b) d lt = any_default xs b d (omega arith)

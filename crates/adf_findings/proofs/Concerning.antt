@@ -1,0 +1,70 @@
+-- The entries kept for the findings are those that they concern.
+use Rattle.std.specs.Prelude.{Some, None, cond, is_some, map, slice_get}
+use Rattle.std.specs.Option.{option_and_then, option_flatten}
+use Rattle.std.proofs.Common.{◌≡◌, ℕ, zero, suc, List, [], ◌∷◌, ◌++◌, Option, inl, inr, refl, sym, ap, subst, ◌∙◌}
+use Rattle.adf_volume.specs.Lists.{In}
+use Rattle.adf_volume.specs.Walk.{Role, Lacks}
+use Rattle.adf_volume.specs.Walk.Role.{Head}
+use Rattle.adf_findings.specs.declared.found.Found.{Found}
+use Rattle.adf_findings.specs.declared.concern.Concern.{Concern}
+use Rattle.adf_findings.specs.declared.concern.Concern.TheVariants.{Entry, Within}
+use Rattle.adf_findings.specs.declared.part.Finding.{Finding}
+use Rattle.adf_findings.specs.declared.part.Part.{Part}
+use Rattle.adf_findings.specs.declared.part.Part.TheVariants.{Root as RootPart, Page as PagePart, MapExt as MapExtPart, Head as HeadPart}
+use Rattle.adf_findings.specs.declared.part.Part.TheVariants.{Ext as ExtPart, Data as DataPart}
+use Rattle.adf_findings.specs.Concerned.{concern_of, concern_of_nth, concern_with}
+use Rattle.adf_findings.specs.Found.{Stands, at_key}
+use Rattle.adf_findings.specs.Marks.{blamed, is_header}
+use Rattle.adf_findings.specs.Parts.{key_of, part_role, finding_value}
+use Rattle.adf_findings.specs.Survey.{BitsTell, Course, FindingValue, IsCourse}
+use Rattle.adf_findings.proofs.HeadPlaces.{header_found}
+use Rattle.adf_findings.proofs.Keys.{at_lacks}
+use Rattle.adf_findings.proofs.OneSurvey.{gathered}
+use Rattle.adf_findings.proofs.SoundMarks.{apart, in_values, passed_header, settled, taken_at}
+
+-- what holds of each finding holds at each place
+at_places : (g : Finding → Option Concern) (h : FindingValue → Option Concern) (xs : List Finding) → ((x : Finding) → In xs x → g x ≡ h (finding_value x)) → (k : ℕ)
+    → option_flatten (slice_get (map g xs) k) ≡ option_and_then h (slice_get (map finding_value xs) k)
+at_places g h [] e k = refl
+at_places g h (x ∷ xs) e zero = e x (inl refl)
+at_places g h (x ∷ xs) e (suc k) = at_places g h xs (λ y i. e y (inr i)) k
+
+module _ (image : List ℕ) (f : Found) {s : Course} (v : IsCourse image s) (bits : List FindingValue) {b n : ℕ} (tells : BitsTell image s b n bits)
+    (st : Stands image f (record { walk = s.walk; passed_over = s.passed_over; findings = s.findings ++ bits })) where
+  -- a header of a finding is found by its number where the walk has one at its place
+  header_is : (g : FindingValue) (n p t j : ℕ) → In (s.findings ++ bits) g → g.part ≡ Some (Head n p t j)
+      → is_header f n p t j ≡ is_some (at_key s.walk (key_of (Head n p t j)))
+  header_is g n p t j i e = elim (settled image v bits tells g (Head n p t j) i e) [
+    | inl x ↦
+        header_found image f _ (gathered image v) st n p t j x.0 x.1
+        ∙ sym (ap is_some (taken_at image s.walk (gathered image v) (Head n p t j) x.0 x.1))
+    | inr x ↦
+        let lacks : Lacks s.walk (Head n p t j) = (λ q c h same. apart image v q (Head n p t j) c x.0 h x.1 same) in
+        passed_header image f v (s.findings ++ bits) st n p t j x.0 x.1 ∙ sym (ap is_some (at_lacks s.walk (Head n p t j) lacks))
+  ]
+
+  -- what a finding concerns is told of the walk
+  blamed_is : (x : Finding) → In (s.findings ++ bits) (finding_value x) → blamed f x.part ≡ option_and_then (concern_with s.walk) (part_role x.part)
+  blamed_is x i = go x.part refl
+    where
+      go : (o : Option Part) → x.part ≡ o → blamed f o ≡ option_and_then (concern_with s.walk) (part_role o)
+      go None e = refl
+      go (Some RootPart) e = refl
+      go (Some (PagePart i)) e = refl
+      go (Some (MapExtPart j)) e = refl
+      go (Some (HeadPart n p t j)) e = ap (λ y. Some (cond y (Entry n) (Within p))) (header_is (finding_value x) n p t j i (ap part_role e))
+      go (Some (ExtPart n k)) e = refl
+      go (Some (DataPart n k)) e = refl
+
+  -- of what is found
+  pub concerned_kept : (k : ℕ) → option_flatten (slice_get (map (λ x. blamed f x.part) f.findings.items) k) ≡ concern_of_nth s.walk (s.findings ++ bits) k
+  concerned_kept k =
+      at_places (λ x. blamed f x.part) (concern_of s.walk) f.findings.items
+      (λ x i. blamed_is x (subst (λ fs. In fs (finding_value x)) st.findings (in_values f.findings.items x i))) k
+      ∙ ap (λ fs. concern_of_nth s.walk fs k) st.findings
+
+-- findings of no part concern nothing
+pub no_concern_nth : (w : List (Role × ℕ)) (fs : List FindingValue) (k : ℕ) → ((f : FindingValue) → In fs f → f.part ≡ None) → concern_of_nth w fs k ≡ None
+no_concern_nth w [] k h = refl
+no_concern_nth w (f ∷ fs) zero h = ap (option_and_then (concern_with w)) (h f (inl refl))
+no_concern_nth w (f ∷ fs) (suc k) h = no_concern_nth w fs k (λ g i. h g (inr i))

@@ -1,0 +1,200 @@
+-- The positions of a course: by chain in a directory, extension blocks before data blocks in a file, node by node.
+use Rattle.std.specs.Prelude.{Option, Some, None, slice_index}
+use Rattle.std.proofs.Common.{◌≡◌, ◌≢◌, ℕ, zero, suc, length, List, ◌⊎◌, inl, inr, ◌+◌, ◌*◌, ◌/◌, ◌<◌, ◌≤◌, refl, sym, subst, ap, ◌∙◌, arith}
+use Rattle.adf_blocks.specs.declared.layout.TheConstants.{EXTENSION, NEXT_IN_CHAIN, POINTERS, SECONDARY_TYPE, SLOTS, ST_DIR, ST_FILE}
+use Rattle.adf_volume.specs.Image.{table_word, word_in}
+use Rattle.adf_volume.specs.Positions.{before_node, position_of}
+use Rattle.adf_volume.specs.Walk.{Role, NodeAt, DirAt, FileAt, MemberAt, Asks, data_count, ext_count, heads}
+use Rattle.adf_volume.specs.Walk.Role.{Head, Ext, Data}
+use Rattle.adf_volume.proofs.Gathered.{IsGathered, ext_below, ext_counted, file_one, member_is, node_there}
+use Rattle.adf_volume.proofs.Pointers.{ext_asks, ext_ends, link_asks, link_ends}
+use Rattle.adf_volume.proofs.PositionSteps.{chain_broken, end_chain, end_datas, end_dir, end_exts, end_node, end_nodes, enter_dir, enter_file}
+use Rattle.adf_volume.proofs.PositionSteps.{exts_broken, no_exts}
+use Rattle.adf_volume.proofs.Roles.{count_own, dir_up, typed_up}
+use Rattle.adf_findings.specs.declared.part.Part.TheVariants.{Head as HeadPart, Ext as ExtPart, Data as DataPart}
+use Rattle.adf_findings.specs.declared.found.Found.{Found}
+use Rattle.adf_findings.specs.Survey.{Course}
+use Rattle.adf_findings.specs.Found.{IsFinished, member_in}
+use Rattle.adf_findings.specs.Courses.{HasReached, HasReachedData, HasReachedExt, HasReachedHeader, HasReachedSlot, Holds, IsGoneOn, IsNamed}
+use Rattle.adf_findings.proofs.CourseSteps.{moved}
+use Rattle.adf_findings.proofs.Known.{member_found}
+use Rattle.adf_findings.proofs.OneSurvey.{gathered}
+
+module _ (image : List ℕ) where
+  module _ (f : Found) (s : Course) where
+    -- what a directory names comes behind the places of a file
+    pub dir_begins : (n b : ℕ) → Holds image f (before_node n) s → DirAt image s.walk n b → HasReachedSlot image f n 0 b
+    dir_begins n b h d = (s, moved h (omega arith) (enter_dir image (gathered image h.course) n b d h.up_to), d)
+
+    -- behind the last slot comes the next node
+    pub dir_ends : (n b : ℕ) → Holds image f (position_of (Head 0 n SLOTS 0)) s → HasReached image f (before_node (suc n))
+    dir_ends n b h = (s, moved h (omega arith) (end_dir image n h.up_to))
+
+    -- behind the last node nothing is next
+    pub nodes_end : (n : ℕ) → length f.nodes.items ≤ n → Holds image f (before_node n) s → IsFinished image f
+    nodes_end n le h = (s, h.course, end_nodes image (gathered image h.course) n (let c = h.stands.count in omega arith) h.up_to, h.stands)
+
+    module _ (n b : ℕ) (h : Holds image f (before_node n) s) (lt : n < length f.nodes.items) (at : b ≡ slice_index f.nodes.items n) where
+      -- a node that is found has its block
+      node_at : NodeAt s.walk n b
+      node_at =
+          let count = h.stands.count in
+          subst (NodeAt s.walk n) (sym (at ∙ h.stands.node n)) (node_there image (gathered image h.course) n (omega arith))
+
+      pub dir_there : (n ≡ 0) ⊎ (word_in image b SECONDARY_TYPE ≡ ST_DIR) → DirAt image s.walk n b
+      dir_there = go n node_at
+        where
+          go : (n : ℕ) → NodeAt s.walk n b → (n ≡ 0) ⊎ (word_in image b SECONDARY_TYPE ≡ ST_DIR) → DirAt image s.walk n b
+          go zero k t = k
+          go (suc n) k (inl e) = absurd (omega arith)
+          go (suc n) k (inr e) = record { header = k; type = e }
+
+      pub file_there : (n ≡ 0 → ⊥) → word_in image b SECONDARY_TYPE ≡ ST_FILE → FileAt image s.walk n b
+      file_there = go n node_at
+        where
+          go : (n : ℕ) → NodeAt s.walk n b → (n ≡ 0 → ⊥) → word_in image b SECONDARY_TYPE ≡ ST_FILE → FileAt image s.walk n b
+          go zero k other e = absurd (other refl)
+          go (suc n) k other e = record { header = k; type = e }
+
+      pub nothing_there : (n ≡ 0 → ⊥) → word_in image b SECONDARY_TYPE ≢ ST_DIR → word_in image b SECONDARY_TYPE ≢ ST_FILE
+          → HasReached image f (before_node (suc n))
+      nothing_there other no_dir no_file =
+          (s, moved h (omega arith) (end_node image (gathered image h.course) n b other node_at no_dir no_file h.up_to))
+
+    -- the extension blocks of a file come first
+    pub exts_begin : (n b : ℕ) → Holds image f (before_node n) s → FileAt image s.walk n b → HasReachedExt image f n b 0 b
+    exts_begin n b h file = record {
+      course = s;
+      holds = moved h (omega arith) (enter_file image n h.up_to);
+      file = file;
+      member = file;
+      count = no_exts image (gathered image h.course) n h.up_to;
+    }
+
+-- a chain that is gone through
+module _ {image : List ℕ} {f : Found} {p slot j a i b : ℕ} (x : HasReachedHeader image f p slot j a i b) where
+  pub header_named : slot < SLOTS → word_in image a i ≢ 0 → IsNamed image f (HeadPart 0 p slot j) a i x.course
+  header_named lt ne = record { holds = x.holds; asked = link_asks image x.course.walk p slot j a i lt x.link ne }
+
+  -- behind a header that is taken comes the next of its chain
+  pub header_taken : {g : Found} {o : Option ℕ} {c : ℕ} → o ≡ Some c → IsGoneOn image x.course (HeadPart 0 p slot j) a i g o
+      → HasReachedHeader image g p slot (j + 1) c NEXT_IN_CHAIN b
+  header_taken {g} {o} {c} e gone =
+      let w : List (Role × ℕ) = x.course.walk in
+      let one : suc j ≡ j + 1 = omega arith in
+      let on = subst (IsGoneOn image x.course (HeadPart 0 p slot j) a i g) e gone in
+      subst (λ j. HasReachedHeader image g p slot j c NEXT_IN_CHAIN b) one (record {
+        course = _;
+        holds = on.holds;
+        dir = dir_up image w (Head (suc (heads w)) p slot j, word_in image a i) p b x.dir;
+        link = ((suc (heads w), inl (refl, sym on.block)), refl);
+      })
+
+  -- behind a header that was passed over its chain ends
+  pub header_passed : {g : Found} {o : Option ℕ} → o ≡ None → IsGoneOn image x.course (HeadPart 0 p slot j) a i g o → HasReachedSlot image g p (slot + 1) b
+  header_passed {g} {o} e gone =
+      let one : suc slot ≡ slot + 1 = omega arith in
+      let on = subst (IsGoneOn image x.course (HeadPart 0 p slot j) a i g) e gone in
+      subst (λ slot. HasReachedSlot image g p slot b) one
+      (_, moved on.holds (omega arith) (end_chain image p slot (suc j) on.holds.up_to (chain_broken image x.holds.up_to)), x.dir)
+
+  -- a chain ends where its word names no block
+  pub chain_done : word_in image a i ≡ 0 → HasReachedSlot image f p (slot + 1) b
+  chain_done e =
+      let one : suc slot ≡ slot + 1 = omega arith in
+      let v = gathered image x.holds.course in
+      subst (λ slot. HasReachedSlot image f p slot b) one
+      (_, moved x.holds (omega arith) (end_chain image p slot j x.holds.up_to (link_ends image x.course.walk v p slot j a i x.link e)), x.dir)
+
+-- the extension blocks of a file that are gone through
+module _ {image : List ℕ} {f : Found} {n b m a : ℕ} (x : HasReachedExt image f n b m a) where
+  one_more : suc m ≡ m + 1
+  one_more = omega arith
+
+  gone_on : {g : Found} {o : Option ℕ} (q : Option ℕ) → o ≡ q → IsGoneOn image x.course (ExtPart n (m + 1)) a EXTENSION g o
+      → IsGoneOn image x.course (ExtPart n (suc m)) a EXTENSION g q
+  gone_on {g} q e gone = subst (λ k. IsGoneOn image x.course (ExtPart n k) a EXTENSION g q) (sym one_more)
+      (subst (IsGoneOn image x.course (ExtPart n (m + 1)) a EXTENSION g) e gone)
+
+  pub ext_is_named : word_in image a EXTENSION ≢ 0 → IsNamed image f (ExtPart n (m + 1)) a EXTENSION x.course
+  ext_is_named ne = subst (λ k. IsNamed image f (ExtPart n k) a EXTENSION x.course) one_more
+      (record { holds = x.holds; asked = ext_asks image x.course.walk n m a x.member ne })
+
+  pub ext_taken : {g : Found} {o : Option ℕ} {c : ℕ} → o ≡ Some c → IsGoneOn image x.course (ExtPart n (m + 1)) a EXTENSION g o
+      → HasReachedExt image g n b (m + 1) c
+  ext_taken {g} {o} {c} e gone =
+      let on = gone_on (Some c) e gone in
+      subst (λ m. HasReachedExt image g n b m c) one_more (record {
+        course = _;
+        holds = on.holds;
+        file = typed_up (Ext n (suc m), word_in image a EXTENSION) x.file;
+        member = inl (refl, sym on.block);
+        count = count_own n (suc m) (ext_count x.course.walk n) ∙ ap suc x.count;
+      })
+
+  -- behind an extension block that was passed over come the data blocks
+  pub ext_passed : {g : Found} {o : Option ℕ} → o ≡ None → IsGoneOn image x.course (ExtPart n (m + 1)) a EXTENSION g o → HasReachedData image g n b m 0
+  ext_passed {g} {o} e gone =
+      let on = gone_on None e gone in
+      record {
+        course = _;
+        holds = moved on.holds (omega arith) (end_exts image n (suc m) on.holds.up_to (exts_broken image x.holds.up_to));
+        file = x.file;
+        count = x.count;
+      }
+
+  -- and behind the last one
+  pub exts_done : word_in image a EXTENSION ≡ 0 → HasReachedData image f n b m 0
+  exts_done e = record {
+    course = x.course;
+    holds = moved x.holds (omega arith)
+        (end_exts image n m x.holds.up_to (ext_ends image x.course.walk (gathered image x.holds.course) n m a x.member e));
+    file = x.file;
+    count = x.count;
+  }
+
+-- the data blocks of a file that are gone through
+module _ {image : List ℕ} {f : Found} {n b exts k : ℕ} (x : HasReachedData image f n b exts k) where
+  v : IsGathered image x.course.walk
+  v = gathered image x.holds.course
+
+  there : (m : ℕ) → m ≤ exts → (a : ℕ) × MemberAt image x.course.walk n m a
+  there zero le = (b, x.file)
+  there (suc m) le = let count = x.count in ext_counted image v n m (omega arith)
+
+  pub data_is_named : {a : ℕ} → a ≡ member_in f n (k / POINTERS) → k < data_count image b → k < POINTERS * (exts + 1)
+      → IsNamed image f (DataPart n (k + 1)) a (table_word k) x.course
+  data_is_named {a} e lt few =
+      let one : suc k ≡ k + 1 = omega arith in
+      let c = there (k / POINTERS) (omega arith) in
+      let is : c.0 ≡ a =
+      sym (e ∙ member_found image f x.course x.holds.stands n (k / POINTERS) ∙ member_is image v n (k / POINTERS) c.0 c.1) in
+      subst (λ j. IsNamed image f (DataPart n j) a (table_word k) x.course) one (record {
+        holds = x.holds;
+        asked = ((b, x.file, lt), subst (MemberAt image x.course.walk n (k / POINTERS)) is c.1, refl);
+      })
+
+  pub data_gone : {g : Found} {o : Option ℕ} {a i : ℕ} → IsGoneOn image x.course (DataPart n (k + 1)) a i g o → HasReachedData image g n b exts (k + 1)
+  data_gone {o = None} gone = record { course = _; holds = gone.holds; file = x.file; count = x.count }
+  data_gone {o = Some c} {a} {i} gone = record {
+    course = _;
+    holds = gone.holds;
+    file = typed_up (Data n (k + 1), word_in image a i) x.file;
+    count = x.count;
+  }
+
+  -- behind the last data block comes the next node
+  pub datas_done : ((j : ℕ) → j < data_count image b → j < POINTERS * (exts + 1) → j < k) → HasReached image f (before_node (n + 1))
+  datas_done all =
+      let one : suc n ≡ n + 1 = omega arith in
+      subst (λ n. HasReached image f (before_node n)) one
+      (x.course, moved x.holds (omega arith) (end_datas image v n k b x.file asked x.holds.up_to))
+    where
+      few : (j m a : ℕ) → j / POINTERS ≡ m → MemberAt image x.course.walk n m a → j < POINTERS * (exts + 1)
+      few j zero a e member = omega arith
+      few j (suc m) a e member = let count = x.count in let y = ext_below image v n m a member in omega arith
+
+      asked : (j a i : ℕ) → Asks image x.course.walk (Data n (suc j)) a i → j < k
+      asked j a i h =
+          let y : h.0.0 ≡ b = file_one image v n h.0.0 b h.0.1 x.file in
+          all j (subst (λ h. j < data_count image h) y h.0.2) (few j (j / POINTERS) a refl h.1)

@@ -1,0 +1,86 @@
+-- The findings that leave a file its blocks, and the others.
+-- Letters: f, g findings; fs, gs lists of them; xs the same as they are kept; n a file's node; k a part's number.
+use Rattle.std.specs.Prelude.{◌&&◌, Bool, cond, map, not, Some}
+use Rattle.std.specs.List.{filter}
+use Rattle.std.proofs.Common.{◌≡◌, ◌∙◌, ℕ, List, [], ◌∷◌, ap, arith, false, inl, inr, refl, true}
+use Rattle.adf_volume.specs.Lists.{In}
+use Rattle.adf_volume.specs.Walk.{Role, second}
+use Rattle.adf_volume.specs.Walk.Role.{Data, Ext, Head}
+use Rattle.adf_volume.proofs.Roles.{same_role}
+use Rattle.adf_findings.specs.declared.part.Finding.{Finding}
+use Rattle.adf_findings.specs.Files.{IsSoundFile, counting, grave, is_harmless, is_head, is_light}
+use Rattle.adf_findings.specs.Parts.{finding_value}
+use Rattle.adf_findings.specs.Sound.{IsUnnoted}
+use Rattle.adf_findings.specs.Survey.{FindingValue}
+
+-- a grave finding is a finding
+pub grave_is : (fs : List FindingValue) (g : FindingValue) → In (grave fs) g → In fs g
+grave_is [] g h = h
+grave_is (f ∷ fs) g h = go (not (is_light f)) h (grave_is fs g)
+  where
+    go : (t : Bool) → In (cond t (f ∷ grave fs) (grave fs)) g → (In (grave fs) g → In fs g) → In (f ∷ fs) g
+    go true (inl e) again = inl e
+    go true (inr h) again = inr (again h)
+    go false h again = inr (again h)
+
+-- a finding that is not light is a grave one
+pub is_grave : (fs : List FindingValue) (g : FindingValue) → In fs g → is_light g ≡ false → In (grave fs) g
+is_grave [] g h e = h
+is_grave (f ∷ fs) g (inl z) e = go (not (is_light f)) (ap (λ f. not (is_light f)) z ∙ ap not e)
+  where
+    go : (t : Bool) → t ≡ true → In (cond t (f ∷ grave fs) (grave fs)) g
+    go true e = inl z
+    go false e = cc
+is_grave (f ∷ fs) g (inr h) e = go (not (is_light f)) (is_grave fs g h e)
+  where
+    go : (t : Bool) → In (grave fs) g → In (cond t (f ∷ grave fs) (grave fs)) g
+    go true h = inr h
+    go false h = h
+
+-- the grave findings among those that are kept
+pub grave_kept : (xs : List Finding) → map finding_value (filter (λ x. not (is_light (finding_value x))) xs) ≡ grave (map finding_value xs)
+grave_kept [] = refl
+grave_kept (x ∷ xs) = go (not (is_light (finding_value x))) (grave_kept xs)
+  where
+    go : (t : Bool) → map finding_value (filter (λ x. not (is_light (finding_value x))) xs) ≡ grave (map finding_value xs)
+        → map finding_value (cond t (x ∷ filter (λ x. not (is_light (finding_value x))) xs) (filter (λ x. not (is_light (finding_value x))) xs))
+        ≡ cond t (finding_value x ∷ grave (map finding_value xs)) (grave (map finding_value xs))
+    go true e = ap (λ (gs : List FindingValue). finding_value x ∷ gs) e
+    go false e = e
+
+-- a finding of no header counts
+pub counts : (b : Bool) (fs : List FindingValue) (g : FindingValue) → In fs g → is_head g.part ≡ false → In (counting b fs) g
+counts true fs g h e = is_grave fs g h (ap (λ t. t && is_harmless g.cause) e)
+counts false fs g h e = h
+
+-- where no finding that counts concerns an extension block, none does
+pub ext_unnoted : (b : Bool) (fs : List FindingValue) (n k : ℕ) → IsUnnoted (counting b fs) (Ext n k) → IsUnnoted fs (Ext n k)
+ext_unnoted b fs n k none g q h e same =
+    let is : q ≡ Ext n k =
+    same_role q (Ext n k) same (λ a m p s j e f. let x : second (Ext n k) ≡ second (Head m p s j) = ap second f in absurd (omega arith)) in
+    none g q (counts b fs g h (ap is_head e ∙ ap (λ r. is_head (Some r)) is)) e same
+
+-- nor a data block
+pub data_unnoted : (b : Bool) (fs : List FindingValue) (n k : ℕ) → IsUnnoted (counting b fs) (Data n k) → IsUnnoted fs (Data n k)
+data_unnoted b fs n k none g q h e same =
+    let is : q ≡ Data n k =
+    same_role q (Data n k) same (λ a m p s j e f. let x : second (Data n k) ≡ second (Head m p s j) = ap second f in absurd (omega arith)) in
+    none g q (counts b fs g h (ap is_head e ∙ ap (λ r. is_head (Some r)) is)) e same
+
+-- a sound file is sound by the grave findings
+less_unnoted : (fs : List FindingValue) (r : Role) → IsUnnoted fs r → IsUnnoted (grave fs) r
+less_unnoted fs r h f q i = h f q (grave_is fs f i)
+
+pub sound_is_whole : (image : List ℕ) (w : List (Role × ℕ)) (fs : List FindingValue) (n : ℕ) → IsSoundFile image w fs n
+    → IsSoundFile image w (grave fs) n
+sound_is_whole image w fs n (s, type) = (
+  record {
+    header = s.header;
+    unnoted = less_unnoted fs (Head n s.header.parent s.header.slot s.header.place) s.unnoted;
+    exts = (λ k. less_unnoted fs (Ext n k) (s.exts k));
+    datas = (λ k. less_unnoted fs (Data n k) (s.datas k));
+    chains = (λ f m t j i e. s.chains f m t j (grave_is fs f i) e);
+    alone = s.alone;
+  },
+  type,
+)

@@ -1,0 +1,130 @@
+-- The result for an image is that of its survey.
+use Rattle.std.specs.Prelude.{Bool, Option, map, not, slice_get}
+use Rattle.std.specs.List.{filter}
+use Rattle.std.specs.Option.{option_flatten}
+use Rattle.std.proofs.Common.{◌≡◌, ℕ, List, [], ◌++◌, ◌≤◌, refl, sym, ap, subst, ◌∙◌, arith, ◌*◌, ◌<◌, length}
+use Rattle.adf_blocks.specs.Sizes.{blocks}
+use Rattle.adf_volume.proofs.Gathered.{head_block, numbered as has_number}
+use Rattle.adf_volume.specs.Walk.{Role, second, Has, heads, node_block}
+use Rattle.adf_volume.specs.Walk.Role.{Root, Head}
+use Rattle.adf_volume.proofs.Roles.{head_role}
+use Rattle.adf_findings.specs.Found.{parent_node}
+use Rattle.adf_findings.specs.declared.part.Finding.{Finding}
+use Rattle.adf_findings.specs.declared.found.Found.{Found}
+use Rattle.adf_findings.specs.Files.{counting, grave, is_light}
+use Rattle.adf_findings.specs.Found.{IsCompleted, Stands}
+use Rattle.adf_findings.specs.Marks.{blamed, has_mark, is_clear}
+use Rattle.adf_findings.specs.declared.concern.Concern.{Concern}
+use Rattle.adf_findings.specs.Parts.{finding_value}
+use Rattle.adf_findings.specs.Survey.{Course, FindingValue, IsSurvey, UnreadTells}
+use Rattle.adf_findings.specs.Survey.IsSurvey.{read, unread}
+use Rattle.adf_findings.specs.Sound.{IsSound}
+use Rattle.adf_volume.proofs.Gathered.{number_of}
+use Rattle.adf_findings.specs.Surveyed.{IsOfSurvey, Surveyed, TellsOf, kept_of}
+use Rattle.adf_findings.proofs.Concerning.{concerned_kept, no_concern_nth}
+use Rattle.adf_findings.proofs.GraveFindings.{grave_is, grave_kept}
+use Rattle.adf_findings.proofs.HeadPlaces.{head_parent}
+use Rattle.adf_findings.proofs.BlockOwners.{owner_is}
+use Rattle.adf_findings.proofs.OneSurvey.{gathered, one_survey}
+use Rattle.adf_findings.proofs.SoundMarks.{clear_is_sound, inside, unread_none}
+use Rattle.adf_findings.proofs.Starts.{course_size}
+
+-- of an image of which nothing is taken the findings are kept alone
+pub unread_kept : (image : List ℕ) (items : List Finding) → UnreadTells image (map finding_value items)
+    → IsOfSurvey (record { image = image; findings = items; concerned = []; owners = []; nodes = []; parents = []; sound = []; whole = [] })
+unread_kept image items told = (
+  [],
+  map finding_value items,
+  record {
+    survey = unread told;
+    findings = refl;
+    concerned = (λ k. sym (no_concern_nth [] (map finding_value items) k (unread_none image told)));
+    owner = (λ b. refl);
+    node = (λ n. refl);
+    parent = (λ n. refl);
+    count = omega arith;
+    sound = (λ n lo. ((λ t. cc), (λ s. absurd s.header.has)));
+    whole = (λ n lo. ((λ t. cc), (λ s. absurd s.header.has)));
+  },
+)
+
+-- a state with other findings is that of a course with these
+stands_with : (image : List ℕ) (f g : Found) (s : Course) (gs : List FindingValue) → Stands image f s → g ≡ record f { findings = g.findings }
+    → map finding_value g.findings.items ≡ gs → Stands image g (record { walk = s.walk; passed_over = s.passed_over; findings = gs })
+stands_with image f g s gs st same e =
+    subst (λ h. Stands image h (record { walk = s.walk; passed_over = s.passed_over; findings = gs })) (sym same) (record {
+      taken = st.taken;
+      owned = st.owned;
+      owners = st.owners;
+      avoided = st.avoided;
+      left = st.left;
+      node = st.node;
+      count = st.count;
+      few = st.few;
+      ext = st.ext;
+      findings = e;
+      parent = st.parent;
+      parents = st.parents;
+      places = st.places;
+      datas = st.datas;
+    })
+
+-- of an image whose course is done, with its bits compared
+pub read_kept : (image : List ℕ) (f g : Found) (concerned : List (Option Concern)) (sound whole : List Bool)
+    → IsCompleted image f → concerned ≡ map (λ x. blamed f x.part) f.findings.items → ((m : ℕ) → has_mark sound m ≡ is_clear image f m)
+    → g ≡ record f { findings = g.findings } → g.findings.items ≡ filter (λ x. not (is_light (finding_value x))) f.findings.items
+    → ((m : ℕ) → has_mark whole m ≡ is_clear image g m)
+    → IsOfSurvey (kept_of image f.findings.items concerned f.owners.items f.nodes.items f.parents.items sound whole)
+read_kept image f g concerned sound whole (s, bits, told, bits_tell) entries marks same graves whole_marks = (
+  s.walk,
+  s.findings ++ bits,
+  record {
+    survey = read told.course told.done bits_tell;
+    findings = told.stands.findings;
+    concerned = (λ k.
+        ap (λ os. option_flatten (slice_get os k)) entries ∙ concerned_kept image f told.course bits bits_tell told.stands k);
+    owner = owner_is image (gathered image told.course) f.owners.items told.stands.owners.1;
+    node = told.stands.node;
+    parent = told.stands.parent;
+    count = (let e = told.stands.count in omega arith);
+    sound = (λ m lo.
+        let x = clear_is_sound image f told.course told.done bits bits_tell (s.findings ++ bits) (λ g i. i) told.stands m lo in
+        ((λ t. x.0 (sym (marks m) ∙ t)), (λ y. marks m ∙ x.1 y)));
+    whole = (λ m lo.
+        let all : List FindingValue = s.findings ++ bits in
+        let kept : map finding_value g.findings.items ≡ grave all =
+        ap (map finding_value) graves ∙ (grave_kept f.findings.items ∙ ap grave told.stands.findings) in
+        let x = clear_is_sound image g told.course told.done bits bits_tell (grave all) (grave_is all)
+        (stands_with image f g (record { walk = s.walk; passed_over = s.passed_over; findings = all }) (grave all) told.stands same kept) m lo in
+        ((λ t. x.0 (sym (whole_marks m) ∙ t)), (λ y. whole_marks m ∙ x.1 y)));
+  },
+)
+
+-- what is kept of an image tells of each survey of it
+pub tells_each : (v : Surveyed) → IsOfSurvey v → (w : List (Role × ℕ)) (fs : List FindingValue) → IsSurvey v.image w fs → TellsOf v w fs
+tells_each v k w fs h =
+    let e = one_survey v.image k.0 w k.1 fs k.2.survey h in
+    subst (λ (x : List (Role × ℕ) × List FindingValue). TellsOf v x.0 x.1) (λ t. (e.0 t, e.1 t)) k.2
+
+-- the root is no entry
+pub root_no_entry : (image : List ℕ) (w : List (Role × ℕ)) (fs : List FindingValue) (c : Bool) (h : ℕ) → IsSurvey image w fs
+    → IsSound image w (counting c fs) 0 h → ⊥
+root_no_entry image w fs c h (unread f) s = s.header.has
+root_no_entry image w fs c h (read v d t) s = omega (arith, number_of image (gathered image v) s.header)
+
+-- the directory of an entry, as a function
+pub parent_is : (image : List ℕ) (w : List (Role × ℕ)) (fs : List FindingValue) → IsSurvey image w fs → (n p s j b : ℕ) → Has w (Head n p s j) b
+    → parent_node w n ≡ p
+parent_is image w fs (unread f) n p s j b h = absurd h
+parent_is image w fs (read v d t) n p s j b h = head_parent image (gathered image v) n p s j b h
+
+-- the header of an entry is inside of the image
+pub header_inside : (image : List ℕ) (w : List (Role × ℕ)) (fs : List FindingValue) → IsSurvey image w fs → (n : ℕ) → 1 ≤ n → n ≤ heads w
+    → (length image ≡ 512 * blocks image) × (node_block w n < blocks image)
+header_inside image w fs (unread f) n lo hi = absurd (omega arith)
+header_inside image w fs (read {s = s} v d t) n lo hi =
+    let x = has_number image (gathered image v) n lo hi in
+    let at : node_block s.walk n ≡ x.0 = head_block image (gathered image v) x.1 in
+    let lt : x.0 < blocks image =
+    inside image v (head_role x.1) x.0 (λ e. let y : second Root ≡ second (head_role x.1) = ap second e in omega arith) x.1.has in
+    ((course_size image v).0, omega arith)

@@ -1,0 +1,253 @@
+-- The state of a survey has the facts that the demands on a part need.
+use Rattle.std.specs.Prelude.{Bool, true, false, cond, not, nat_le, nat_lt, ◌==◌, ◌||◌, ◌&&◌, Some, slice_index_or}
+use Rattle.std.proofs.Common.{◌≡◌, ◌≢◌, ℕ, zero, suc, List, [], ◌∷◌, inl, inr, ◌*◌, ◌/◌, ◌<◌, ◌≤◌, refl, sym, subst, ap, ◌∙◌, arith}
+use Rattle.std.specs.Option.{unwrap_or}
+use Rattle.std.specs.Ordering.{is_eq, nat_cmp}
+use Rattle.std.specs.Cmp.Lexicographic.{slice_cmp}
+use Rattle.std.specs.Global.{Vec}
+use Rattle.std.specs.BTreeMap.{get}
+use Rattle.std.specs.BTreeSet.{BTreeSet, contains}
+use Rattle.std.proofs.lemmas.Bool.{and_parts, cases_Bool, eqb-true, eq-eqb}
+use Rattle.std.proofs.lemmas.Bool.Decides.{nat_tests}
+use Rattle.adf_tree.proofs.NameKeys.{same_number, then_is}
+use Rattle.adf_blocks.specs.declared.layout.TheConstants.{POINTERS}
+use Rattle.adf_blocks.specs.Sizes.{blocks}
+use Rattle.adf_volume.specs.Image.{name_of, table_word, word_in}
+use Rattle.adf_volume.specs.Positions.{position_of}
+use Rattle.adf_volume.specs.Walk.{Role, Asks, Enough, FileAt, Has, IsAbsent, data_count, ext_block_in, ext_count, member_block, next_data, node_block}
+use Rattle.adf_volume.specs.Walk.Role.{Root, Page, MapExt, Head, Ext, Data}
+use Rattle.adf_volume.proofs.Gathered.{IsGathered, head_block}
+use Rattle.adf_findings.specs.Demands.{NewNameIn, uppers_in}
+use Rattle.adf_findings.specs.declared.part.Part.{Part}
+use Rattle.adf_findings.specs.declared.part.Part.TheVariants.{Root as RootPart, Page as PagePart, MapExt as MapExtPart, Head as HeadPart}
+use Rattle.adf_findings.specs.declared.part.Part.TheVariants.{Ext as ExtPart, Data as DataPart}
+use Rattle.adf_findings.specs.declared.judge.Facts.{Facts}
+use Rattle.adf_findings.specs.declared.found.Found.{Found}
+use Rattle.adf_findings.specs.Survey.{Course}
+use Rattle.adf_findings.specs.Forms.{IsAround, Knows, Tells, in_range}
+use Rattle.adf_findings.specs.Found.{AreNamed, IsChain, Stands, around_in, at_key, by_name, enough_in, is_named, member_in, has_name, new_in, next_in, owns}
+use Rattle.adf_findings.specs.Parts.{by_key, key_of, role_of}
+use Rattle.adf_findings.proofs.Keys.{equal_keys}
+
+pub tells_absent : (w : List (Role × ℕ)) (b : ℕ) → Tells (not (owns w b)) (IsAbsent w b)
+tells_absent [] b = λ q h. h
+tells_absent (x ∷ w) b = go (x.1 == b) (owns w b) refl (tells_absent w b)
+  where
+    go : (s t : Bool) → (x.1 == b) ≡ s → Tells (not t) (IsAbsent w b) → Tells (not (s || t)) (IsAbsent (x ∷ w) b)
+    go true t e h = λ f. f x.0 (inl (refl, eqb-true x.1 b e))
+    go false true e h = λ f. h (λ q k. f q (inr k))
+    go false false e h = λ q k. elim k [
+      | inl z ↦ let u : true ≡ false = sym (eq-eqb x.1 b z.1) ∙ e in cc
+      | inr g ↦ h q g
+    ]
+
+-- names that compare equal are one
+same_name : (x y : List ℕ) → is_eq (slice_cmp nat_cmp x y) ≡ true → x ≡ y
+same_name [] [] e = refl
+same_name [] (y ∷ ys) e = cc
+same_name (x ∷ xs) [] e = cc
+same_name (x ∷ xs) (y ∷ ys) e =
+    let p = and_parts (is_eq (nat_cmp x y)) (is_eq (slice_cmp nat_cmp xs ys)) (sym (then_is (nat_cmp x y) (slice_cmp nat_cmp xs ys)) ∙ e) in
+    let z : x ≡ y = eqb-true x y (sym (same_number x y) ∙ p.0) in
+    λ i. z i ∷ same_name xs ys p.1 i
+
+name_itself : (x : List ℕ) → is_eq (slice_cmp nat_cmp x x) ≡ true
+name_itself [] = refl
+name_itself (x ∷ xs) = rw (then_is (nat_cmp x x) (slice_cmp nat_cmp xs xs), same_number x x, eq-eqb x x refl, name_itself xs) refl
+
+named_is : (image : List ℕ) (q p s c : ℕ) (n m j : ℕ) (name : List ℕ)
+    → is_named image (Head n q m j) c p s name ≡ ((q == p) && ((m == s) && is_eq (slice_cmp nat_cmp (uppers_in image (name_of image c)) name)))
+named_is image q p s c n m j name = simp (then_is, same_number)
+
+-- in its own chain a header has the name that is its own
+pub own_name : (image : List ℕ) (n p s j c : ℕ) (name : List ℕ)
+    → is_named image (Head n p s j) c p s name ≡ is_eq (slice_cmp nat_cmp (uppers_in image (name_of image c)) name)
+own_name image n p s j c name = named_is image p p s c n s j name ∙ rw (eq-eqb p p refl, eq-eqb s s refl) refl
+
+-- whether the role is a header of the chain with the name
+tells_named : (image : List ℕ) (r : Role) (c p s : ℕ) (name : List ℕ)
+    → Tells (not (is_named image r c p s name)) ((m k : ℕ) → r ≡ Head m p s k → uppers_in image (name_of image c) ≢ name)
+tells_named image (Head n q m j) c p s name = go (is_named image (Head n q m j) c p s name) refl
+  where
+    go : (t : Bool) → is_named image (Head n q m j) c p s name ≡ t → Tells (not t) ((i k : ℕ) → Head n q m j ≡ Head i p s k → uppers_in image (name_of image c) ≢ name)
+    go true e =
+        let x = and_parts (q == p) ((m == s) && is_eq (slice_cmp nat_cmp (uppers_in image (name_of image c)) name)) (sym (named_is image q p s c n m j name) ∙ e) in
+        let y = and_parts (m == s) (is_eq (slice_cmp nat_cmp (uppers_in image (name_of image c)) name)) x.1 in
+        let qp : q ≡ p = eqb-true q p x.0 in
+        let ms : m ≡ s = eqb-true m s y.0 in
+        λ f. f n j (λ i. Head n (qp i) (ms i) j) (same_name (uppers_in image (name_of image c)) name y.1)
+    go false e = λ i k z g.
+        let qp : q ≡ p = cc in
+        let ms : m ≡ s = cc in
+        let one : is_named image (Head n q m j) c p s name ≡ true =
+        named_is image q p s c n m j name ∙ rw (eq-eqb q p qp, eq-eqb m s ms, g, name_itself name) refl in
+        let u : true ≡ false = sym one ∙ e in cc
+tells_named image _ c p s name = λ m k e. cc
+
+-- no header of the chain has the name
+abbrev pub Fresh : List ℕ → ℕ → ℕ → List ℕ → List (Role × ℕ) → Type 0
+Fresh image p s name w = (m k c : ℕ) → Has w (Head m p s k) c → uppers_in image (name_of image c) ≢ name
+
+tells_new : (image : List ℕ) (w : List (Role × ℕ)) (p s : ℕ) (name : List ℕ)
+    → Tells (not (has_name image w p s name)) ((m k c : ℕ) → Has w (Head m p s k) c → uppers_in image (name_of image c) ≢ name)
+tells_new image [] p s name = λ m k c h. absurd h
+tells_new image (x ∷ w) p s name =
+    go (is_named image x.0 x.1 p s name) (has_name image w p s name) (tells_named image x.0 x.1 p s name) (tells_new image w p s name)
+  where
+    go : (t u : Bool) → Tells (not t) ((m k : ℕ) → x.0 ≡ Head m p s k → uppers_in image (name_of image x.1) ≢ name) → Tells (not u) (Fresh image p s name w)
+        → Tells (not (t || u)) (Fresh image p s name (x ∷ w))
+    go true u h k = λ f. h (λ m i e. f m i x.1 (inl (e, refl)))
+    go false true h k = λ f. k (λ m i c g. f m i c (inr g))
+    go false false h k = λ m i c g. elim g [
+      | inl e ↦ subst (λ c. uppers_in image (name_of image c) ≢ name) e.1 (h m i e.0)
+      | inr z ↦ k m i c z
+    ]
+
+-- a chain without headers has no names
+pub no_name : (image : List ℕ) (w : List (Role × ℕ)) (p s : ℕ) (name : List ℕ) → ((m k c : ℕ) → Has w (Head m p s k) c → ⊥)
+    → has_name image w p s name ≡ false
+no_name image w p s name none = go (has_name image w p s name) (tells_new image w p s name)
+  where
+    go : (u : Bool) → Tells (not u) (Fresh image p s name w) → u ≡ false
+    go false t = refl
+    go true t = absurd (t (λ m k c h. absurd (none m k c h)))
+
+-- the first header of a chain has a new name
+pub first_is_new : (image : List ℕ) (w : List (Role × ℕ)) (part : Part) (b n p s : ℕ) → part ≡ HeadPart n p s 0 → IsChain w part
+    → true ≡ new_in image w part b
+first_is_new image w part b n p s e =
+    subst (λ part. IsChain w part → true ≡ new_in image w part b) (sym e)
+    (λ none. sym (ap not (no_name image w p s (uppers_in image (name_of image b)) none)))
+
+-- a later one has a new name where the set does not have it
+pub later_is_new : (image : List ℕ) (w : List (Role × ℕ)) (part : Part) (b n p s j : ℕ) (names : BTreeSet (Vec ℕ)) (name : Vec ℕ) (t : Bool)
+    → part ≡ HeadPart n p s j → (j ≡ 0 → ⊥) → name.items ≡ uppers_in image (name_of image b) → t ≡ contains by_name names name
+    → AreNamed image w (position_of (role_of part)) names → IsChain w part → not t ≡ new_in image w part b
+later_is_new image w part b n p s j names name t e later is known =
+    subst (λ part. AreNamed image w (position_of (role_of part)) names → IsChain w part → not t ≡ new_in image w part b) (sym e) (go j later)
+  where
+    go : (j : ℕ) → (j ≡ 0 → ⊥) → AreNamed image w (position_of (Head n p s j)) names → IsChain w (HeadPart n p s j)
+        → not t ≡ new_in image w (HeadPart n p s j) b
+    go zero later named_all chain = absurd (later refl)
+    go (suc j) later named_all (m, c, has) =
+        ap not (known ∙ named_all name m p s j c refl refl has ∙ ap (has_name image w p s) is)
+
+-- the block of an extension block, by its key
+at_ext : (w : List (Role × ℕ)) (n m : ℕ) → unwrap_or (at_key w (key_of (Ext n m))) 0 ≡ ext_block_in w n m
+at_ext [] n m = refl
+at_ext ((Ext q k, b) ∷ w) n m = go (n == q) (m == k) refl refl (at_ext w n m)
+  where
+    go : (s t : Bool) → (n == q) ≡ s → (m == k) ≡ t → unwrap_or (at_key w (key_of (Ext n m))) 0 ≡ ext_block_in w n m
+        → unwrap_or (cond (is_eq (by_key (key_of (Ext q k)) (key_of (Ext n m)))) (Some b) (at_key w (key_of (Ext n m)))) 0
+        ≡ cond (n == q) (cond (m == k) b (ext_block_in w n m)) (ext_block_in w n m)
+    go true true e f h =
+        let x : n ≡ q = eqb-true n q e in
+        let y : m ≡ k = eqb-true m k f in
+        rw (equal_keys (key_of (Ext q k)) (key_of (Ext n m)), e, f, eq-eqb (suc q) (suc n) (ap suc (sym x)), eq-eqb k m (sym y)) refl
+    go true false e f h =
+        let one : (k == m) ≡ false = grind (arith, nat_tests) in
+        let none : is_eq (by_key (key_of (Ext q k)) (key_of (Ext n m))) ≡ false =
+        equal_keys (key_of (Ext q k)) (key_of (Ext n m)) ∙ rw one (grind (arith, nat_tests)) in
+        rw (none, e, f) h
+    go false t e f h =
+        let one : (suc q == suc n) ≡ false = grind (arith, nat_tests) in
+        let none : is_eq (by_key (key_of (Ext q k)) (key_of (Ext n m))) ≡ false = equal_keys (key_of (Ext q k)) (key_of (Ext n m)) ∙ rw one refl in
+        rw (none, e) h
+at_ext ((Root, b) ∷ w) n m =
+    let none : is_eq (by_key (key_of Root) (key_of (Ext n m))) ≡ false = equal_keys (key_of Root) (key_of (Ext n m)) ∙ grind (arith, nat_tests) in
+    rw none (at_ext w n m)
+at_ext ((Page i, b) ∷ w) n m =
+    let none : is_eq (by_key (key_of (Page i)) (key_of (Ext n m))) ≡ false = equal_keys (key_of (Page i)) (key_of (Ext n m)) ∙ grind (arith, nat_tests) in
+    rw none (at_ext w n m)
+at_ext ((MapExt j, b) ∷ w) n m =
+    let none : is_eq (by_key (key_of (MapExt j)) (key_of (Ext n m))) ≡ false = equal_keys (key_of (MapExt j)) (key_of (Ext n m)) ∙ grind (arith, nat_tests) in
+    rw none (at_ext w n m)
+at_ext ((Head q p s j, b) ∷ w) n m =
+    let none : is_eq (by_key (key_of (Head q p s j)) (key_of (Ext n m))) ≡ false =
+    equal_keys (key_of (Head q p s j)) (key_of (Ext n m)) ∙ grind (arith, nat_tests) in
+    rw none (at_ext w n m)
+at_ext ((Data q k, b) ∷ w) n m =
+    let none : is_eq (by_key (key_of (Data q k)) (key_of (Ext n m))) ≡ false =
+    equal_keys (key_of (Data q k)) (key_of (Ext n m)) ∙ grind (arith, nat_tests) in
+    rw none (at_ext w n m)
+
+module _ (image : List ℕ) (f : Found) (s : Course) (st : Stands image f s) where
+  member_key : (n m : ℕ) → unwrap_or (get by_key f.taken (key_of (Ext n (suc m)))) 0 ≡ ext_block_in s.walk n (suc m)
+  member_key n m = ap (λ o. unwrap_or o 0) (st.taken (Ext n (suc m)) tt) ∙ at_ext s.walk n (suc m)
+
+  pub member_found : (n m : ℕ) → member_in f n m ≡ member_block s.walk n m
+  member_found n zero = st.node n
+  member_found n (suc m) =
+      let other : (suc m == 0) ≡ false = grind (arith, nat_tests) in
+      rw other (member_key n m)
+
+  next_is : (n k : ℕ) → next_in image f n k ≡ next_data image s.walk n k
+  next_is n k = λ t. cond (nat_lt k (data_count image (st.node n t))) (word_in image (member_found n (k / POINTERS) t) (table_word k)) 0
+
+  around_is : (part : Part) → IsAround image s.walk (role_of part) (around_in image f part)
+  around_is RootPart = tt
+  around_is (PagePart i) = tt
+  around_is (MapExtPart j) = tt
+  around_is (HeadPart n p t j) = st.node p
+  around_is (ExtPart n k) = st.node n
+  around_is (DataPart n k) = (st.node n, next_is n k)
+
+  enough_tells : (n k h : ℕ) → IsGathered image s.walk → FileAt image s.walk n h → (t : Bool)
+      → nat_le (data_count image (node_block s.walk n)) (POINTERS * suc (ext_count s.walk n)) ≡ t
+      → Tells (not (k == 1) || t) (Enough image s.walk (Data n k))
+  enough_tells n k h v file t e = go (k == 1) refl t e
+    where
+      block_is : (c : ℕ) → FileAt image s.walk n c → node_block s.walk n ≡ c
+      block_is c x = head_block image v x.header
+
+      go : (u : Bool) → (k == 1) ≡ u → (t : Bool) → nat_le (data_count image (node_block s.walk n)) (POINTERS * suc (ext_count s.walk n)) ≡ t
+          → Tells (not u || t) (Enough image s.walk (Data n k))
+      go false e t z = λ one. let y : true ≡ false = sym (eq-eqb k 1 one) ∙ e in cc
+      go true e true z = λ one c x.
+          subst (λ c. data_count image c ≤ POINTERS * suc (ext_count s.walk n)) (block_is c x) (grind (arith, nat_tests))
+      go true e false z = λ en.
+          let le : data_count image (node_block s.walk n) ≤ POINTERS * suc (ext_count s.walk n) =
+          subst (λ c. data_count image c ≤ POINTERS * suc (ext_count s.walk n)) (sym (block_is h file)) (en (eqb-true k 1 e) h file) in
+          let y : true ≡ false = grind (arith, nat_tests) in cc
+
+  enough_is : (part : Part) (a i : ℕ) → IsGathered image s.walk → Asks image s.walk (role_of part) a i
+      → Tells (enough_in image f part) (Enough image s.walk (role_of part))
+  enough_is RootPart a i v h = tt
+  enough_is (PagePart k) a i v h = tt
+  enough_is (MapExtPart j) a i v h = tt
+  enough_is (HeadPart n p t j) a i v h = tt
+  enough_is (ExtPart n k) a i v h = tt
+  enough_is (DataPart n zero) a i v h = absurd h
+  enough_is (DataPart n (suc k)) a i v h =
+      subst (λ t. Tells (not (suc k == 1) || t) (Enough image s.walk (Data n (suc k))))
+      (λ t. nat_le (data_count image (sym (st.node n) t)) (POINTERS * suc (sym (st.ext n) t)))
+      (enough_tells n (suc k) h.0.0 v h.0.1 (nat_le (data_count image (node_block s.walk n)) (POINTERS * suc (ext_count s.walk n))) refl)
+
+  new_is : (part : Part) (b : ℕ) → Tells (new_in image s.walk part b) (NewNameIn image s.walk (role_of part) b)
+  new_is (HeadPart n p t j) b = tells_new image s.walk p t (uppers_in image (name_of image b))
+  new_is RootPart b = tt
+  new_is (PagePart k) b = tt
+  new_is (MapExtPart j) b = tt
+  new_is (ExtPart n k) b = tt
+  new_is (DataPart n k) b = tt
+
+  below : (b : ℕ) → in_range image b ≡ true → b < blocks image
+  below b e = grind (arith, nat_tests)
+
+  -- what is found of a part that is asked for is so
+  pub knows : (part : Part) (a i b : ℕ) (x : Facts) → IsGathered image s.walk → Asks image s.walk (role_of part) a i
+      → x.is_enough ≡ enough_in image f part → x.is_absent ≡ not (slice_index_or f.owned.items b false)
+      → (b < blocks image → x.is_new ≡ new_in image s.walk part b) → x.around ≡ around_in image f part → Knows image s.walk part b x
+  knows part a i b x v h enough absent new around = record {
+    enough = subst (λ t. Tells t (Enough image s.walk (role_of part))) (sym enough) (enough_is part a i v h);
+    absent = (λ e. subst (λ t. Tells t (IsAbsent s.walk b)) (sym (absent ∙ ap not (st.owned.1 b (below b e)))) (tells_absent s.walk b));
+    new = (λ e. subst (λ t. Tells t (NewNameIn image s.walk (role_of part) b)) (sym (new (below b e))) (new_is part b));
+    around = subst (IsAround image s.walk (role_of part)) (sym around) (around_is part);
+  }
+
+-- a block without a part is no member's
+pub no_owner : (w : List (Role × ℕ)) (b : ℕ) → IsAbsent w b → owns w b ≡ false
+no_owner w b h = elim (cases_Bool (owns w b)) [
+  | inl t ↦ let n : IsAbsent w b → ⊥ = subst (λ t. Tells (not t) (IsAbsent w b)) t (tells_absent w b) in absurd (n h)
+  | inr f ↦ f
+]

@@ -1,0 +1,63 @@
+-- Whether the parts of an image are surveyed, and the marks that are kept.
+-- Letters: w the walk of a survey, fs its findings; v a result; n a node.
+use Rattle.std.specs.Prelude.{◌&&◌, ◌↔◌, Bool, nat_le, true, false}
+use Rattle.std.proofs.Common.{◌≡◌, ◌≤◌, ℕ, List, [], inl, inr, refl, subst, arith}
+use Rattle.std.proofs.lemmas.Bool.{cases_lt}
+use Rattle.std.proofs.lemmas.Bool.Decides.{nat_tests}
+use Rattle.adf_volume.specs.Walk.{Role, HeadAt, node_block}
+use Rattle.adf_volume.proofs.Gathered.{IsGathered}
+use Rattle.adf_volume.proofs.Gathered.IsGathered.{start, step}
+use Rattle.adf_findings.specs.Files.{counting, grave}
+use Rattle.adf_findings.specs.Marked.{AreMarks, mark_in, whole_in}
+use Rattle.adf_findings.specs.Marks.{has_mark}
+use Rattle.adf_findings.specs.Sound.{IsSound}
+use Rattle.adf_findings.specs.Survey.{BootTells, FindingValue, IsSurvey, RootTells, UnreadTells}
+use Rattle.adf_findings.specs.Survey.IsSurvey.{read, unread}
+use Rattle.adf_findings.specs.Surveyed.{IsOfSurvey, Surveyed}
+use Rattle.adf_findings.proofs.Keeping.{root_no_entry, tells_each}
+use Rattle.adf_findings.proofs.OneSurvey.{gathered}
+use Rattle.adf_findings.proofs.Starts.{boot_told, not_unread, root_told}
+
+some_part : (image : List ℕ) (w : List (Role × ℕ)) → IsGathered image w → w ≡ [] → ⊥
+some_part image w start e = cc
+some_part image w (step a i b v asked lacks) e = cc
+
+-- the walk of an image whose root is taken is not empty
+pub begun_walk : (image : List ℕ) (w : List (Role × ℕ)) (fs boot root : List FindingValue) → IsSurvey image w fs → BootTells image boot → RootTells image root
+    → w ≡ [] → ⊥
+begun_walk image w fs boot root (unread f) b r e = not_unread image b r f
+begun_walk image w fs boot root (read {s = s} v d t) b r e = some_part image s.walk (gathered image v) e
+
+-- that of any other image is empty
+pub unbegun_walk : (image : List ℕ) (w : List (Role × ℕ)) (fs gs : List FindingValue) → IsSurvey image w fs → UnreadTells image gs → w ≡ []
+unbegun_walk image w fs gs (unread f) none = refl
+unbegun_walk image w fs gs (read v d t) none = absurd (not_unread image (boot_told image v).1 (root_told image v).1 none)
+
+-- the root is taken of an image in which an entry is found
+pub entry_begun : (image : List ℕ) (w : List (Role × ℕ)) (fs gs : List FindingValue) (n h : ℕ) → IsSurvey image w fs → HeadAt w n h
+    → UnreadTells image gs → ⊥
+entry_begun image w fs gs n h (unread f) header none = header.has
+entry_begun image w fs gs n h (read v d t) header none = not_unread image (boot_told image v).1 (root_told image v).1 none
+
+-- the marks that are kept are those of the sound entries, by the findings that count
+marks_by : (v : Surveyed) (c : Bool) (marks : List Bool) → (w : List (Role × ℕ)) (fs : List FindingValue) → IsSurvey v.image w fs
+    → ((n : ℕ) → 1 ≤ n → (has_mark marks n ≡ true) ↔ IsSound v.image w (counting c fs) n (node_block w n))
+    → AreMarks v.image w (counting c fs) (λ n. nat_le 1 n && has_mark marks n)
+marks_by v c marks w fs h are n = elim (cases_lt 0 n) [
+  | inl some ↦
+      let e : nat_le 1 n ≡ true = grind (arith, nat_tests) in
+      rw e (are n (omega arith))
+  | inr none ↦
+      let e : nat_le 1 n ≡ false = grind (arith, nat_tests) in
+      let zero : n ≡ 0 = omega arith in
+      let no : IsSound v.image w (counting c fs) n (node_block w n) → ⊥ =
+      λ s. root_no_entry v.image w fs c (node_block w 0) h (subst (λ m. IsSound v.image w (counting c fs) m (node_block w m)) zero s) in
+      rw e ((λ t. cc), (λ s. absurd (no s)))
+]
+
+pub kept_marks : (v : Surveyed) → IsOfSurvey v → (w : List (Role × ℕ)) (fs : List FindingValue) → IsSurvey v.image w fs → AreMarks v.image w fs (mark_in v)
+kept_marks v k w fs h = marks_by v false v.sound w fs h (tells_each v k w fs h).sound
+
+pub whole_marks : (v : Surveyed) → IsOfSurvey v → (w : List (Role × ℕ)) (fs : List FindingValue) → IsSurvey v.image w fs
+    → AreMarks v.image w (grave fs) (whole_in v)
+whole_marks v k w fs h = marks_by v true v.whole w fs h (tells_each v k w fs h).whole

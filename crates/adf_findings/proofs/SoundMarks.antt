@@ -1,0 +1,558 @@
+-- The marks of a finished course are those of its sound entries.
+use Rattle.std.specs.Prelude.{Bool, true, false, cond, not, ◌==◌, ◌||◌, ◌&&◌, nat_lt, map, Option, Some, None, slice_index_or, ◌↔◌}
+use Rattle.std.proofs.Common.{◌≡◌, ℕ, suc, List, [], ◌∷◌, ◌++◌, length, ◌⊎◌, inl, inr, ◌<◌, ◌≤◌, refl, sym, ap, subst, ◌∙◌, arith}
+use Rattle.std.specs.Option.{option_map}
+use Rattle.std.proofs.lemmas.Bool.{and_parts, cases_Bool, eqb-true, eq-eqb}
+use Rattle.std.proofs.lemmas.Bool.Decides.{nat_tests}
+use Rattle.adf_tree.specs.declared.entry.Kind.{Kind}
+use Rattle.adf_tree.specs.declared.entry.Kind.TheVariants.{Ofs, Ffs}
+use Rattle.adf_blocks.specs.Sizes.{blocks}
+use Rattle.adf_volume.specs.Image.{letters_of, kind_of, root_of, word_in}
+use Rattle.adf_volume.specs.Lists.{In}
+use Rattle.adf_volume.specs.Walk.{Role, first, second, Same, Has, Asks, Lacks, IsAbsent, heads, node_block}
+use Rattle.adf_volume.specs.Walk.Role.{Root, Head, Ext, Data}
+use Rattle.adf_volume.proofs.Gathered.{IsGathered, asks_one, head_block, number_of, numbered as has_number, one_block, one_head}
+use Rattle.adf_volume.proofs.Lists.{in_cases, in_left, in_right}
+use Rattle.adf_volume.proofs.OneFault.{number_is}
+use Rattle.adf_volume.proofs.Roles.{asks_number, dec_has, head_at, head_role, renumbered, renumbered_same, same_of, same_refl, same_role}
+use Rattle.adf_findings.specs.declared.part.Part.{Part}
+use Rattle.adf_findings.specs.declared.part.Part.TheVariants.{Root as RootPart, Page as PagePart, MapExt as MapExtPart, Head as HeadPart}
+use Rattle.adf_findings.specs.declared.part.Part.TheVariants.{Ext as ExtPart, Data as DataPart}
+use Rattle.adf_findings.specs.declared.part.Finding.{Finding}
+use Rattle.adf_findings.specs.declared.found.DataBlock.{DataBlock}
+use Rattle.adf_findings.specs.declared.found.Found.{Found}
+use Rattle.adf_findings.specs.declared.concern.Concern.TheVariants.{Entry, Within}
+use Rattle.adf_findings.specs.Concerned.{node_of}
+use Rattle.adf_findings.specs.Forms.{Tells}
+use Rattle.adf_findings.specs.Found.{Stands, at_key, data_blocks_of, owns, with_data}
+use Rattle.adf_findings.specs.Marks.{blamed, is_blamed, is_clear, is_doubtful, is_node, is_sharing, sharing, is_header}
+use Rattle.adf_findings.specs.Parts.{key_of, part_role, finding_value}
+use Rattle.adf_findings.specs.Sound.{IsSound, IsUnnoted}
+use Rattle.adf_findings.specs.Survey.{BitsTell, BootTells, Course, FindingValue, IsCourse, IsDone, IsNext, RootTells, UnreadTells, finding}
+use Rattle.adf_findings.specs.Survey.BitsTell.{agrees, differs, ends}
+use Rattle.adf_findings.specs.Survey.IsCourse.{start, step}
+use Rattle.adf_findings.specs.Survey.BootTells.{clean_boot, other_type}
+use Rattle.adf_findings.specs.Survey.RootTells.{clean_root, noted_root}
+use Rattle.adf_findings.specs.Survey.UnreadTells.{bad_boot, bad_root}
+use Rattle.adf_findings.specs.Survey.JudgementValue.{clean, noted, passed}
+use Rattle.adf_findings.proofs.Keys.{lacks_at, same_of_key}
+use Rattle.adf_volume.proofs.AsksSplit.{asks_more}
+use Rattle.adf_findings.proofs.BitSteps.{at_has}
+use Rattle.adf_findings.proofs.HeadPlaces.{found_header, header_found}
+use Rattle.adf_findings.proofs.Known.{tells_absent}
+use Rattle.adf_findings.proofs.OneSurvey.{gathered}
+use Rattle.adf_volume.proofs.PartDemands.{part_holds_by}
+use Rattle.adf_findings.proofs.Judged.{itself_holds}
+use Rattle.adf_findings.proofs.SoundEntries.{one_role}
+
+module _ (image : List ℕ) where
+  -- the part was taken or passed over
+  abbrev Settled : Course → Role → Type 0
+  Settled s q = ((b : ℕ) × Has s.walk q b) ⊎ ((b : ℕ) × Has s.passed_over q b)
+
+  new_part : (r q : Role) (f g : FindingValue) → f.part ≡ Some r → In (f ∷ []) g → g.part ≡ Some q → r ≡ q
+  new_part r q f g e (inl x) p = let z : Some r ≡ Some q = sym e ∙ (ap (λ f. f.part) x ∙ p) in cc
+  new_part r q f g e (inr h) p = absurd h
+
+  settled_more : (s : Course) (r q : Role) (b : ℕ) (fs : List FindingValue) → Settled s q
+      → Settled (record { walk = (r, b) ∷ s.walk; passed_over = s.passed_over; findings = fs }) q
+  settled_more s r q b fs (inl h) = inl (h.0, inr h.1)
+  settled_more s r q b fs (inr h) = inr h
+
+  -- the boot block tells of no part
+  boot_none : {fs : List FindingValue} → BootTells image fs → (f : FindingValue) → In fs f → f.part ≡ None
+  boot_none (clean_boot h) f m = absurd m
+  boot_none (other_type h e) f (inl k) = ap (λ f. f.part) (sym k)
+  boot_none (other_type h e) f (inr m) = absurd m
+
+  -- nor does an image of which nothing is taken
+  pub unread_none : {fs : List FindingValue} → UnreadTells image fs → (f : FindingValue) → In fs f → f.part ≡ None
+  unread_none (bad_boot h e) f (inl k) = ap (λ f. f.part) (sym k)
+  unread_none (bad_boot h e) f (inr m) = absurd m
+  unread_none (bad_root {boot = fs} {at = at} {c = c} b h) f m =
+      elim (in_cases fs (finding None at c ∷ []) f m) [
+        | inl k ↦ boot_none b f k
+        | inr k ↦ elim k [ inl e ↦ ap (λ f. f.part) (sym e) | inr n ↦ absurd n ]
+      ]
+
+  -- the root of itself
+  root_part : {fs : List FindingValue} → RootTells image fs → (f : FindingValue) (q : Role) → In fs f → f.part ≡ Some q → Root ≡ q
+  root_part (clean_root h) f q m e = absurd m
+  root_part (noted_root {at = at} {c = c} h) f q m e = new_part Root q (finding (Some Root) at c) f refl m e
+
+  -- a part that a finding concerns was taken or passed over
+  noted_settled : {s : Course} → IsCourse image s → (f : FindingValue) (q : Role) → In s.findings f → f.part ≡ Some q → Settled s q
+  noted_settled (start {boot = fs} {root = gs} b t) f q m e =
+      elim (in_cases fs gs f m) [
+        | inl k ↦ let none : Some q ≡ None = sym e ∙ boot_none b f k in absurd (cc)
+        | inr k ↦ inl (root_of image, inl (root_part t f q k e, refl))
+      ]
+  noted_settled (step {s = s} {r = r} {a = a} {i = i} clean v n g) f q m e =
+      settled_more s r q (word_in image a i) s.findings (noted_settled v f q m e)
+  noted_settled (step {s = s} {r = r} {a = a} {i = i} (noted at c) v n g) f q m e =
+      elim (in_cases s.findings (finding (Some r) at c ∷ []) f m) [
+        | inl k ↦ settled_more s r q (word_in image a i) s.findings (noted_settled v f q k e)
+        | inr k ↦ inl (word_in image a i, inl (new_part r q (finding (Some r) at c) f refl k e, refl))
+      ]
+  noted_settled (step {s = s} {r = r} {a = a} {i = i} (passed at c) v n g) f q m e =
+      elim (in_cases s.findings (finding (Some r) at c ∷ []) f m) [
+        | inl k ↦ elim (noted_settled v f q k e) [ inl h ↦ inl h | inr h ↦ inr (h.0, inr h.1) ]
+        | inr k ↦ inr (word_in image a i, inl (new_part r q (finding (Some r) at c) f refl k e, refl))
+      ]
+
+  -- the bits tell of no part
+  bits_none : {s : Course} {b n : ℕ} {fs : List FindingValue} → BitsTell image s b n fs → (f : FindingValue) → In fs f → f.part ≡ None
+  bits_none ends f m = absurd m
+  bits_none (agrees h t) f m = bits_none t f m
+  bits_none (differs h k t) f (inl e) = ap (λ f. f.part) (sym e)
+  bits_none (differs h k t) f (inr m) = bits_none t f m
+
+  new_apart : (w : List (Role × ℕ)) (z r q : Role) (c : ℕ) → Lacks w z → z ≡ r → Has w q c → Same r q → ⊥
+  new_apart w z r q c l e k same = let t : Same z r = same_of z r e in l q c k (omega arith)
+
+  -- what is taken was not passed over
+  pub apart : {s : Course} → IsCourse image s → (r q : Role) (b c : ℕ) → Has s.walk r b → Has s.passed_over q c → Same r q → ⊥
+  apart (start boot root) r q b c h k same = k
+  apart (step {s = s} {r = z} clean v n g) r q b c (inl e) k same = new_apart s.passed_over z r q c n.unpassed e.0 k same
+  apart (step clean v n g) r q b c (inr h) k same = apart v r q b c h k same
+  apart (step {s = s} {r = z} (noted at d) v n g) r q b c (inl e) k same = new_apart s.passed_over z r q c n.unpassed e.0 k same
+  apart (step (noted at d) v n g) r q b c (inr h) k same = apart v r q b c h k same
+  apart (step {s = s} {r = z} (passed at d) v n g) r q b c h (inl e) same = new_apart s.walk z q r b n.lacks e.0 h (omega arith)
+  apart (step (passed at d) v n g) r q b c h (inr k) same = apart v r q b c h k same
+
+  -- the walk asks for the part, a header with the next number, in block b
+  pub record Wanted (w : List (Role × ℕ)) (r : Role) (b : ℕ) : Type 0 where
+    pub holder : ℕ
+    pub word : ℕ
+    pub asked : Asks image w (renumbered (suc (heads w)) r) holder word
+    pub named : word_in image holder word ≡ b
+
+  own_number : (w : List (Role × ℕ)) (r : Role) (a i : ℕ) → Asks image w r a i → r ≡ renumbered (suc (heads w)) r
+  own_number w (Head n p s j) a i h = ap (λ n. Head n p s j) (asks_number image w n p s j a i h)
+  own_number w _ a i h = refl
+
+  wanted_now : (w : List (Role × ℕ)) (r : Role) (a i : ℕ) → Asks image w r a i → Wanted w r (word_in image a i)
+  wanted_now w r a i h = record { holder = a; word = i; asked = subst (λ r. Asks image w r a i) (own_number w r a i h) h; named = refl }
+
+  wanted_later : (s : Course) (z : Role) (a i c : ℕ) → IsCourse image s → IsNext image s z a i → (r : Role) (b : ℕ) → Wanted s.walk r b
+      → Wanted ((z, c) ∷ s.walk) r b
+  wanted_later s z a i c v n r b x =
+      let asked = asks_more image s.walk z c r x.holder x.word x.asked in
+      record { holder = x.holder; word = x.word; asked = asked; named = x.named }
+
+  wanted_new : (s : Course) (z : Role) (a i : ℕ) → IsCourse image s → IsNext image s z a i → (r : Role) (b : ℕ)
+      → (Has s.walk r b → (Root ≡ r) ⊎ Wanted s.walk r b) → Has ((z, word_in image a i) ∷ s.walk) r b
+      → (Root ≡ r) ⊎ Wanted ((z, word_in image a i) ∷ s.walk) r b
+  wanted_new s z a i v n r b again (inl e) =
+      let w : List (Role × ℕ) = (z, word_in image a i) ∷ s.walk in
+      inr (subst (Wanted w r) e.1 (subst (λ r. Wanted w r (word_in image a i)) e.0
+      (wanted_later s z a i (word_in image a i) v n z (word_in image a i) (wanted_now s.walk z a i n.asked))))
+  wanted_new s z a i v n r b again (inr h) = elim (again h) [
+    | inl e ↦ inl e
+    | inr x ↦ inr (wanted_later s z a i (word_in image a i) v n r b x)
+  ]
+
+  -- what is taken is asked for in its block
+  pub taken_wanted : {s : Course} → IsCourse image s → (r : Role) (b : ℕ) → Has s.walk r b → (Root ≡ r) ⊎ Wanted s.walk r b
+  taken_wanted (start boot root) r b (inl e) = inl e.0
+  taken_wanted (start boot root) r b (inr h) = absurd h
+  taken_wanted (step {s = s} {r = z} {a = a} {i = i} clean v n g) r b h = wanted_new s z a i v n r b (taken_wanted v r b) h
+  taken_wanted (step {s = s} {r = z} {a = a} {i = i} (noted at c) v n g) r b h = wanted_new s z a i v n r b (taken_wanted v r b) h
+  taken_wanted (step (passed at c) v n g) r b h = taken_wanted v r b h
+
+  -- what was passed over is asked for in its block
+  passed_wanted : {s : Course} → IsCourse image s → (r : Role) (b : ℕ) → Has s.passed_over r b → Wanted s.walk r b
+  passed_wanted (start boot root) r b h = absurd h
+  passed_wanted (step {s = s} {r = z} {a = a} {i = i} clean v n g) r b h =
+      wanted_later s z a i (word_in image a i) v n r b (passed_wanted v r b h)
+  passed_wanted (step {s = s} {r = z} {a = a} {i = i} (noted at c) v n g) r b h =
+      wanted_later s z a i (word_in image a i) v n r b (passed_wanted v r b h)
+  passed_wanted (step {s = s} {r = z} {a = a} {i = i} (passed at c) v n g) r b (inl e) =
+      subst (Wanted s.walk r) e.1 (subst (λ r. Wanted s.walk r (word_in image a i)) e.0 (wanted_now s.walk z a i n.asked))
+  passed_wanted (step (passed at c) v n g) r b (inr h) = passed_wanted v r b h
+
+  -- what is asked for in one place of the order is asked for in one block
+  one_wanted : (w : List (Role × ℕ)) → IsGathered image w → (r q : Role) (a i b : ℕ) → Wanted w r b → Asks image w q a i → Same r q
+      → b ≡ word_in image a i
+  one_wanted w v r q a i b x h same =
+      let own : Same (renumbered (suc (heads w)) r) r = renumbered_same (suc (heads w)) r in
+      let z : renumbered (suc (heads w)) r ≡ q =
+      same_role (renumbered (suc (heads w)) r) q (omega arith) (λ n m p t j e f.
+      number_is image w (renumbered (suc (heads w)) r) x.holder x.word n p t j x.asked e ∙ sym (number_is image w q a i m p t j h f)) in
+      let y = asks_one image v q x.holder x.word a i (subst (λ r. Asks image w r x.holder x.word) z x.asked) h in
+      sym x.named ∙ (λ t. word_in image (y.0 t) (y.1 t))
+
+  no_root : (w : List (Role × ℕ)) (q r : Role) (a i : ℕ) → Asks image w q a i → Root ≡ r → Same r q → ⊥
+  no_root w Root r a i h e s = h
+  no_root w _ r a i h e s = let t : Same Root r = same_of Root r e in omega arith
+
+  owner_of : (w : List (Role × ℕ)) (b : ℕ) → owns w b ≡ true → (q : Role) × Has w q b
+  owner_of [] b e = cc
+  owner_of (x ∷ w) b e = go (x.1 == b) refl e (owner_of w b)
+    where
+      go : (t : Bool) → (x.1 == b) ≡ t → (t || owns w b) ≡ true → (owns w b ≡ true → (q : Role) × Has w q b) → (q : Role) × Has (x ∷ w) q b
+      go true f e again = (x.0, inl (refl, eqb-true x.1 b f))
+      go false f e again = let y = again e in (y.0, inr y.1)
+
+  no_owner_has : (w : List (Role × ℕ)) (q : Role) (b : ℕ) → owns w b ≡ false → Has w q b → ⊥
+  no_owner_has w q b e h =
+      let none : IsAbsent w b = subst (λ t. Tells (not t) (IsAbsent w b)) e (tells_absent w b) in
+      none q h
+
+  -- what is taken is inside of the image
+  pub inside : {s : Course} → IsCourse image s → (r : Role) (b : ℕ) → (Root ≡ r → ⊥) → Has s.walk r b → b < blocks image
+  inside (start boot root) r b other (inl e) = absurd (other e.0)
+  inside (start boot root) r b other (inr h) = absurd h
+  inside (step {s = s} {r = z} {a = a} {i = i} clean v d g) r b other (inl e) =
+      let part = part_holds_by (letters_of image) image s.walk z a (word_in image a i) g in subst (λ b. b < blocks image) e.1 part.inside
+  inside (step clean v d g) r b other (inr h) = inside v r b other h
+  inside (step {s = s} {r = z} {a = a} {i = i} (noted at c) v d g) r b other (inl e) =
+      let part = itself_holds image s.walk z a (word_in image a i) g.1 in subst (λ b. b < blocks image) e.1 part.inside
+  inside (step (noted at c) v d g) r b other (inr h) = inside v r b other h
+  inside (step (passed at c) v d g) r b other h = inside v r b other h
+
+  data_inside : {s : Course} → IsCourse image s → (n k b : ℕ) → Has s.walk (Data n k) b → b < blocks image
+  data_inside v n k b h = inside v (Data n k) b (λ e. let x : first Root ≡ first (Data n k) = ap first e in omega arith) h
+
+  module _ {s : Course} (v : IsCourse image s) (done : IsDone image s) where
+    -- what is asked for at the end was taken or passed over, in the block that is asked for
+    settled_at : (q : Role) (a i b : ℕ) → Asks image s.walk q a i → word_in image a i ≡ b
+        → ((r : Role) × Has s.walk r b × Same r q) ⊎ ((r : Role) × Has s.passed_over r b × Same r q)
+    settled_at q a i b h e = elim (dec_has s.walk q) [
+      | inr x ↦ elim (taken_wanted v x.role x.block x.has) [
+        | inl root ↦ absurd (no_root s.walk q x.role a i h root x.same)
+        | inr y ↦ inl (x.role, subst (Has s.walk x.role) (one_wanted s.walk (gathered image v) x.role q a i x.block y h x.same ∙ e) x.has, x.same)
+      ]
+      | inl lacks ↦ elim (dec_has s.passed_over q) [
+        | inl over ↦ absurd (done q a i h lacks over)
+        | inr x ↦
+            let y = passed_wanted v x.role x.block x.has in
+            inr (x.role, subst (Has s.passed_over x.role) (one_wanted s.walk (gathered image v) x.role q a i x.block y h x.same ∙ e) x.has, x.same)
+      ]
+    ]
+
+    -- a data block at a block that was not passed over is alone there
+    pub is_alone : (n k b : ℕ) → Has s.walk (Data n k) b → owns s.passed_over b ≡ false → (q : Role) (a i : ℕ) → Asks image s.walk q a i
+        → word_in image a i ≡ b → Same q (Data n k)
+    is_alone n k b d free q a i h e = elim (settled_at q a i b h e) [
+      | inl x ↦
+          let z : Same x.0 (Data n k) = same_of x.0 (Data n k) (one_role image v x.0 (Data n k) b x.1 d) in
+          let y : Same x.0 q = x.2 in
+          omega arith
+      | inr x ↦ absurd (no_owner_has s.passed_over x.0 b free x.1)
+    ]
+
+    -- and only such a one
+    not_alone : (n k b : ℕ) → Has s.walk (Data n k) b → owns s.passed_over b ≡ true
+        → ((q : Role) (a i : ℕ) → Asks image s.walk q a i → word_in image a i ≡ b → Same q (Data n k)) → ⊥
+    not_alone n k b d over alone =
+        let x = owner_of s.passed_over b over in
+        let y = passed_wanted v x.0 b x.1 in
+        let q : Role = renumbered (suc (heads s.walk)) x.0 in
+        let same : Same q (Data n k) = alone q y.holder y.word y.asked y.named in
+        let own : Same q x.0 = renumbered_same (suc (heads s.walk)) x.0 in
+        apart v (Data n k) x.0 b b d x.1 (omega arith)
+
+node_is : (o : Option ℕ) (m : ℕ) → is_node o m ≡ true → o ≡ Some m
+node_is None m e = cc
+node_is (Some n) m e = ap Some (eqb-true n m e)
+
+node_yes : (o : Option ℕ) (m : ℕ) → o ≡ Some m → is_node o m ≡ true
+node_yes o m e = ap (λ o. is_node o m) e ∙ eq-eqb m m refl
+
+-- the node that a finding of the part speaks against
+abbrev node_blamed : Found → Option Part → Option ℕ
+node_blamed f o = option_map node_of (blamed f o)
+
+blamed_by : (f : Found) (xs : List Finding) (m : ℕ) → is_blamed f xs m ≡ true
+    → (x : Finding) × In xs x × (node_blamed f x.part ≡ Some m)
+blamed_by f [] m e = cc
+blamed_by f (x ∷ xs) m e = go (is_node (node_blamed f x.part) m) refl e (blamed_by f xs m)
+  where
+    go : (t : Bool) → is_node (node_blamed f x.part) m ≡ t → (t || is_blamed f xs m) ≡ true
+        → (is_blamed f xs m ≡ true → (y : Finding) × In xs y × (node_blamed f y.part ≡ Some m))
+        → (y : Finding) × In (x ∷ xs) y × (node_blamed f y.part ≡ Some m)
+    go true k e again = (x, inl refl, node_is (node_blamed f x.part) m k)
+    go false k e again = let y = again e in (y.0, inr y.1, y.2)
+
+not_blamed : (f : Found) (xs : List Finding) (m : ℕ) (x : Finding) → is_blamed f xs m ≡ false → In xs x
+    → node_blamed f x.part ≡ Some m → ⊥
+not_blamed f [] m x e h b = h
+not_blamed f (y ∷ xs) m x e (inl z) b =
+    let one : is_node (node_blamed f y.part) m ≡ true = node_yes (node_blamed f y.part) m (ap (λ y. node_blamed f y.part) z ∙ b) in
+    let clash : true ≡ false = sym (ap (λ t. t || is_blamed f xs m) one) ∙ e in cc
+not_blamed f (y ∷ xs) m x e (inr h) b = go (is_node (node_blamed f y.part) m) e (λ e. not_blamed f xs m x e h b)
+  where
+    go : (t : Bool) → (t || is_blamed f xs m) ≡ false → (is_blamed f xs m ≡ false → ⊥) → ⊥
+    go true e again = cc
+    go false e again = again e
+
+sharing_by : (avoided : List Bool) (ds : List DataBlock) (m : ℕ) → is_sharing avoided ds m ≡ true
+    → (d : DataBlock) × In ds d × (sharing avoided d ≡ Some m)
+sharing_by avoided [] m e = cc
+sharing_by avoided (d ∷ ds) m e = go (is_node (sharing avoided d) m) refl e (sharing_by avoided ds m)
+  where
+    go : (t : Bool) → is_node (sharing avoided d) m ≡ t → (t || is_sharing avoided ds m) ≡ true
+        → (is_sharing avoided ds m ≡ true → (x : DataBlock) × In ds x × (sharing avoided x ≡ Some m))
+        → (x : DataBlock) × In (d ∷ ds) x × (sharing avoided x ≡ Some m)
+    go true f e again = (d, inl refl, node_is (sharing avoided d) m f)
+    go false f e again = let y = again e in (y.0, inr y.1, y.2)
+
+not_sharing : (avoided : List Bool) (ds : List DataBlock) (m : ℕ) (d : DataBlock) → is_sharing avoided ds m ≡ false → In ds d
+    → sharing avoided d ≡ Some m → ⊥
+not_sharing avoided [] m d e h s = h
+not_sharing avoided (x ∷ ds) m d e (inl z) s =
+    let one : is_node (sharing avoided x) m ≡ true = node_yes (sharing avoided x) m (ap (sharing avoided) z ∙ s) in
+    let clash : true ≡ false = sym (ap (λ t. t || is_sharing avoided ds m) one) ∙ e in cc
+not_sharing avoided (x ∷ ds) m d e (inr h) s = go (is_node (sharing avoided x) m) e (λ e. not_sharing avoided ds m d e h s)
+  where
+    go : (t : Bool) → (t || is_sharing avoided ds m) ≡ false → (is_sharing avoided ds m ≡ false → ⊥) → ⊥
+    go true e again = cc
+    go false e again = again e
+
+-- what makes a file a sharing one
+sharing_is : (avoided : List Bool) (d : DataBlock) (m : ℕ) → sharing avoided d ≡ Some m
+    → (d.node ≡ m) × (slice_index_or avoided d.block false ≡ true)
+sharing_is avoided d m e = go (slice_index_or avoided d.block false) refl e
+  where
+    go : (t : Bool) → slice_index_or avoided d.block false ≡ t → cond t (Some d.node) None ≡ Some m
+        → (d.node ≡ m) × (slice_index_or avoided d.block false ≡ true)
+    go true f e = let z : d.node ≡ m = cc in (z, f)
+    go false f e = cc
+
+in_with : (r : Role) (b : ℕ) (ds : List DataBlock) (d : DataBlock) → In ds d → In (with_data r b ds) d
+in_with (Data n k) b ds d h = in_left ds (record { node = n; block = b } ∷ []) d h
+in_with _ b ds d h = h
+
+with_cases : (r : Role) (b : ℕ) (ds : List DataBlock) (d : DataBlock) → In (with_data r b ds) d
+    → In ds d ⊎ ((k : ℕ) × (r ≡ Data d.node k) × (b ≡ d.block))
+with_cases (Data n k) b ds d h = elim (in_cases ds (record { node = n; block = b } ∷ []) d h) [
+  | inl g ↦ inl g
+  | inr g ↦ elim g [
+    | inl e ↦ inr (k, ap (λ (d : DataBlock). Data d.node k) e, ap (λ (d : DataBlock). d.block) e)
+    | inr e ↦ absurd e
+  ]
+]
+with_cases _ b ds d h = inl h
+
+-- the data blocks that are kept are those of the walk
+data_has : (w : List (Role × ℕ)) (d : DataBlock) → In (data_blocks_of w) d → (k : ℕ) × Has w (Data d.node k) d.block
+data_has [] d h = absurd h
+data_has (x ∷ w) d h = elim (with_cases x.0 x.1 (data_blocks_of w) d h) [
+  | inl g ↦ let y = data_has w d g in (y.0, inr y.1)
+  | inr y ↦ (y.0, inl (y.1, y.2))
+]
+
+has_data : (w : List (Role × ℕ)) (n k b : ℕ) → Has w (Data n k) b → In (data_blocks_of w) (record { node = n; block = b })
+has_data [] n k b h = absurd h
+has_data (x ∷ w) n k b (inl e) =
+    subst (λ (y : Role × ℕ). In (with_data y.0 y.1 (data_blocks_of w)) (record { node = n; block = b })) (λ i. (sym e.0 i, sym e.1 i))
+    (in_right (data_blocks_of w) (record { node = n; block = b } ∷ []) (record { node = n; block = b }) (inl refl))
+has_data (x ∷ w) n k b (inr h) = in_with x.0 x.1 (data_blocks_of w) (record { node = n; block = b }) (has_data w n k b h)
+
+pub in_values : (xs : List Finding) (x : Finding) → In xs x → In (map finding_value xs) (finding_value x)
+in_values [] x h = h
+in_values (y ∷ ys) x (inl e) = inl (ap finding_value e)
+in_values (y ∷ ys) x (inr h) = inr (in_values ys x h)
+
+in_findings : (xs : List Finding) (g : FindingValue) → In (map finding_value xs) g → (x : Finding) × In xs x × (finding_value x ≡ g)
+in_findings [] g h = absurd h
+in_findings (y ∷ ys) g (inl e) = (y, inl refl, e)
+in_findings (y ∷ ys) g (inr h) = let x = in_findings ys g h in (x.0, inr x.1, x.2)
+
+head_part : (o : Option Part) (n p s j : ℕ) → part_role o ≡ Some (Head n p s j) → o ≡ Some (HeadPart n p s j)
+head_part (Some (HeadPart m q t i)) n p s j e = cc
+head_part (Some RootPart) n p s j e = cc
+head_part (Some (PagePart i)) n p s j e = cc
+head_part (Some (MapExtPart i)) n p s j e = cc
+head_part (Some (ExtPart m i)) n p s j e = cc
+head_part (Some (DataPart m i)) n p s j e = cc
+head_part None n p s j e = cc
+
+ext_part : (o : Option Part) (n k : ℕ) → part_role o ≡ Some (Ext n k) → o ≡ Some (ExtPart n k)
+ext_part (Some (ExtPart m i)) n k e = cc
+ext_part (Some RootPart) n k e = cc
+ext_part (Some (PagePart i)) n k e = cc
+ext_part (Some (MapExtPart i)) n k e = cc
+ext_part (Some (HeadPart m q t i)) n k e = cc
+ext_part (Some (DataPart m i)) n k e = cc
+ext_part None n k e = cc
+
+data_part : (o : Option Part) (n k : ℕ) → part_role o ≡ Some (Data n k) → o ≡ Some (DataPart n k)
+data_part (Some (DataPart m i)) n k e = cc
+data_part (Some RootPart) n k e = cc
+data_part (Some (PagePart i)) n k e = cc
+data_part (Some (MapExtPart i)) n k e = cc
+data_part (Some (HeadPart m q t i)) n k e = cc
+data_part (Some (ExtPart m i)) n k e = cc
+data_part None n k e = cc
+
+ext_of : (q : Role) (n k : ℕ) → Same q (Ext n k) → q ≡ Ext n k
+ext_of q n k same = same_role q (Ext n k) same (λ a m p s j e f. let x : second (Ext n k) ≡ second (Head m p s j) = ap second f in absurd (omega arith))
+
+data_of : (q : Role) (n k : ℕ) → Same q (Data n k) → q ≡ Data n k
+data_of q n k same = same_role q (Data n k) same (λ a m p s j e f. let x : second (Data n k) ≡ second (Head m p s j) = ap second f in absurd (omega arith))
+
+pub taken_at : (image : List ℕ) (w : List (Role × ℕ)) → IsGathered image w → (q : Role) (b : ℕ) → Has w q b → at_key w (key_of q) ≡ Some b
+taken_at image w v q b h = go (at_key w (key_of q)) refl
+  where
+    go : (o : Option ℕ) → at_key w (key_of q) ≡ o → o ≡ Some b
+    go None e = absurd (lacks_at w q e q b h (same_of q q refl))
+    go (Some c) e =
+        let x = at_has w (key_of q) c e in
+        ap Some (one_block image v x.0 q c b x.1 h (same_of_key x.0 q x.2)).1
+
+-- a part that a finding of a survey concerns was taken or passed over
+pub settled : (image : List ℕ) {s : Course} → IsCourse image s → (bits : List FindingValue) {b n : ℕ} → BitsTell image s b n bits
+    → (g : FindingValue) (q : Role) → In (s.findings ++ bits) g → g.part ≡ Some q → Settled image s q
+settled image {s = s} v bits tells g q h e = elim (in_cases s.findings bits g h) [
+  | inl k ↦ noted_settled image v g q k e
+  | inr k ↦ let z : None ≡ Some q = sym (bits_none image tells g k) ∙ e in cc
+]
+
+-- a header that was passed over is no node's
+pub passed_header : (image : List ℕ) (f : Found) {s : Course} → IsCourse image s → (told : List FindingValue)
+    → Stands image f (record { walk = s.walk; passed_over = s.passed_over; findings = told })
+    → (n p t j b : ℕ) → Has s.passed_over (Head n p t j) b → is_header f n p t j ≡ false
+passed_header image f v told st n p t j b over = elim (cases_Bool (is_header f n p t j)) [
+  | inl y ↦
+      let h = found_header image f _ (gathered image v) st n p t j y in
+      absurd (apart image v (Head n p t j) (Head n p t j) h.0 b h.1 over (same_refl (Head n p t j)))
+  | inr y ↦ y
+]
+
+module _ (image : List ℕ) (f : Found) {s : Course} (v : IsCourse image s) (done : IsDone image s) (bits : List FindingValue) {b n : ℕ}
+    (tells : BitsTell image s b n bits) (all : List FindingValue) (are : (g : FindingValue) → In all g → In (s.findings ++ bits) g)
+    (st : Stands image f (record { walk = s.walk; passed_over = s.passed_over; findings = all })) where
+  -- a finding that speaks against an entry concerns a part of it
+  speaks : (m h : ℕ) (g : FindingValue) (o : Option Part) → In all g → g.part ≡ part_role o → node_blamed f o ≡ Some m → IsSound image s.walk all m h → ⊥
+  speaks m h g None i e z sound = cc
+  speaks m h g (Some RootPart) i e z sound = cc
+  speaks m h g (Some (PagePart k)) i e z sound = cc
+  speaks m h g (Some (MapExtPart k)) i e z sound = cc
+  speaks m h g (Some (ExtPart q k)) i e z sound =
+      let one : q ≡ m = cc in sound.exts k g (Ext q k) i e (same_of (Ext q k) (Ext m k) (ap (λ q. Ext q k) one))
+  speaks m h g (Some (DataPart q k)) i e z sound =
+      let one : q ≡ m = cc in sound.datas k g (Data q k) i e (same_of (Data q k) (Data m k) (ap (λ q. Data q k) one))
+  speaks m h g (Some (HeadPart q p t j)) i e z sound = go (is_header f q p t j) refl z
+    where
+      go : (t' : Bool) → is_header f q p t j ≡ t' → option_map node_of (Some (cond t' (Entry q) (Within p))) ≡ Some m → ⊥
+      go false is z =
+          let one : p ≡ m = cc in
+          let x = sound.chains g q t j i (e ∙ ap (λ p. Some (Head q p t j)) one) in
+          let there : is_header f q m t j ≡ true = header_found image f _ (gathered image v) st q m t j x.0 x.1 in
+          let clash : true ≡ false = sym there ∙ ap (λ p. is_header f q p t j) (sym one) ∙ is in cc
+      go true is z =
+          let one : q ≡ m = cc in
+          let x = found_header image f _ (gathered image v) st q p t j is in
+          let here = subst (λ q. Has s.walk (Head q p t j) x.0) one x.1 in
+          let head = sound.header in
+          let same = same_of (head_role head) (Head m p t j) (one_head image (gathered image v) head (head_at m p t j x.0 here)).0 in
+          sound.unnoted g (Head q p t j) i e (sym same.0, sym same.1, sym same.2)
+
+  not_noted : (m h : ℕ) → IsSound image s.walk all m h → is_blamed f f.findings.items m ≡ false
+  not_noted m h sound = elim (cases_Bool (is_blamed f f.findings.items m)) [
+    | inl t ↦
+        let x = blamed_by f f.findings.items m t in
+        let i : In all (finding_value x.0) = subst (λ fs. In fs (finding_value x.0)) st.findings (in_values f.findings.items x.0 x.1) in
+        absurd (speaks m h (finding_value x.0) x.0.part i refl x.2 sound)
+    | inr e ↦ e
+  ]
+
+  not_shared : (m h : ℕ) → kind_of image ≡ Ffs → IsSound image s.walk all m h → is_sharing f.avoided.items f.datas.items m ≡ false
+  not_shared m h ffs sound = elim (cases_Bool (is_sharing f.avoided.items f.datas.items m)) [
+    | inl t ↦
+        let x = sharing_by f.avoided.items f.datas.items m t in
+        let y = sharing_is f.avoided.items x.0 m x.2 in
+        let d = data_has s.walk x.0 (subst (λ ds. In ds x.0) st.datas x.1) in
+        let b : ℕ = x.0.block in
+        let has : Has s.walk (Data m d.0) b = subst (λ n. Has s.walk (Data n d.0) b) y.0 d.1 in
+        let over : owns s.passed_over b ≡ true = sym (st.avoided.1 b (data_inside image v m d.0 b has)) ∙ y.1 in
+        absurd (not_alone image v done m d.0 b has over (sound.alone ffs d.0 b has))
+    | inr e ↦ e
+  ]
+
+  not_doubtful : (m h : ℕ) → IsSound image s.walk all m h → is_doubtful (kind_of image) f m ≡ false
+  not_doubtful m h sound = go (kind_of image) refl
+    where
+      go : (k : Kind) → kind_of image ≡ k → is_doubtful k f m ≡ false
+      go Ofs e = refl
+      go Ffs e = not_shared m h e sound
+
+  -- no finding of a part speaks against the entry
+  unspoken : (m : ℕ) → is_blamed f f.findings.items m ≡ false → (g : FindingValue) (q : Role) → In all g → g.part ≡ Some q
+      → ((o : Option Part) → part_role o ≡ Some q → node_blamed f o ≡ Some m) → ⊥
+  unspoken m e g q i is names =
+      let x = in_findings f.findings.items g (subst (λ fs. In fs g) (sym st.findings) i) in
+      not_blamed f f.findings.items m x.0 e x.1 (names x.0.part (ap (λ g. g.part) x.2 ∙ is))
+
+  head_clear : (m p t j h : ℕ) → Has s.walk (Head m p t j) h → is_blamed f f.findings.items m ≡ false → IsUnnoted all (Head m p t j)
+  head_clear m p t j h has e g q i is same = elim (settled image v bits tells g q (are g i) is) [
+    | inl y ↦
+        let one : q ≡ Head m p t j = (one_block image (gathered image v) q (Head m p t j) y.0 h y.1 has same).0 in
+        let there : is_header f m p t j ≡ true = header_found image f _ (gathered image v) st m p t j h has in
+        unspoken m e g q i is (λ o z.
+        let u : o ≡ Some (HeadPart m p t j) = head_part o m p t j (z ∙ ap Some one) in
+        ap (node_blamed f) u ∙ ap (λ t. option_map node_of (Some (cond t (Entry m) (Within p)))) there)
+    | inr y ↦ apart image v (Head m p t j) q h y.0 has y.1 (sym same.0, sym same.1, sym same.2)
+  ]
+
+  chains_clear : (m : ℕ) → is_blamed f f.findings.items m ≡ false → (g : FindingValue) (q t j : ℕ) → In all g → g.part ≡ Some (Head q m t j)
+      → (b : ℕ) × Has s.walk (Head q m t j) b
+  chains_clear m e g q t j i is = elim (settled image v bits tells g (Head q m t j) (are g i) is) [
+    | inl y ↦ y
+    | inr y ↦
+        let none : is_header f q m t j ≡ false = passed_header image f v all st q m t j y.0 y.1 in
+        absurd (unspoken m e g (Head q m t j) i is (λ o z.
+        ap (node_blamed f) (head_part o q m t j z) ∙ ap (λ t. option_map node_of (Some (cond t (Entry q) (Within m)))) none))
+  ]
+
+  alone_clear : (m : ℕ) → is_doubtful (kind_of image) f m ≡ false → kind_of image ≡ Ffs → (k c : ℕ) → Has s.walk (Data m k) c
+      → (q : Role) (a i : ℕ) → Asks image s.walk q a i → word_in image a i ≡ c → Same q (Data m k)
+  alone_clear m e ffs k c has =
+      let none : is_sharing f.avoided.items f.datas.items m ≡ false = subst (λ k. is_doubtful k f m ≡ false) ffs e in
+      let d : DataBlock = record { node = m; block = c } in
+      let i : In f.datas.items d = subst (λ ds. In ds d) (sym st.datas) (has_data s.walk m k c has) in
+      let free : owns s.passed_over c ≡ false = elim (cases_Bool (owns s.passed_over c)) [
+        | inl t ↦
+            absurd (not_sharing f.avoided.items f.datas.items m d none i
+            (ap (λ t. cond t (Some m) None) (st.avoided.1 c (data_inside image v m k c has) ∙ t)))
+        | inr t ↦ t
+      ] in
+      is_alone image v done m k c has free
+
+  clear_sound : (m : ℕ) → 1 ≤ m → m ≤ heads s.walk → is_blamed f f.findings.items m ≡ false → is_doubtful (kind_of image) f m ≡ false
+      → IsSound image s.walk all m (node_block s.walk m)
+  clear_sound m lo hi clear free =
+      let x = has_number image (gathered image v) m lo hi in
+      let g = x.1 in
+      let at : x.0 ≡ node_block s.walk m = sym (head_block image (gathered image v) g) in
+      record {
+        header = head_at m g.parent g.slot g.place (node_block s.walk m) (subst (Has s.walk (head_role g)) at g.has);
+        unnoted = head_clear m g.parent g.slot g.place x.0 g.has clear;
+        exts = (λ k g q i is same. unspoken m clear g q i is (λ o z. ap (node_blamed f) (ext_part o m k (z ∙ ap Some (ext_of q m k same)))));
+        datas = (λ k g q i is same. unspoken m clear g q i is (λ o z. ap (node_blamed f) (data_part o m k (z ∙ ap Some (data_of q m k same)))));
+        chains = chains_clear m clear;
+        alone = alone_clear m free;
+      }
+
+  not_false : (t : Bool) → not t ≡ true → t ≡ false
+  not_false false e = refl
+  not_false true e = cc
+
+  -- the nodes that nothing is said against are the sound entries
+  pub clear_is_sound : (m : ℕ) → 1 ≤ m → (is_clear image f m ≡ true) ↔ IsSound image s.walk all m (node_block s.walk m)
+  clear_is_sound m lo = (
+    (λ t.
+        let x = and_parts (nat_lt m (length f.nodes.items)) (not (is_blamed f f.findings.items m) && not (is_doubtful (kind_of image) f m)) t in
+        let y = and_parts (not (is_blamed f f.findings.items m)) (not (is_doubtful (kind_of image) f m)) x.1 in
+        let count : length f.nodes.items ≡ suc (heads s.walk) = st.count in
+        let lt : m < length f.nodes.items = (let z = x.0 in grind (arith, nat_tests)) in
+        clear_sound m lo (omega arith) (not_false (is_blamed f f.findings.items m) y.0) (not_false (is_doubtful (kind_of image) f m) y.1)),
+    (λ sound.
+        let few = number_of image (gathered image v) sound.header in
+        let count : length f.nodes.items ≡ suc (heads s.walk) = st.count in
+        let lt : m < length f.nodes.items = omega arith in
+        let one : nat_lt m (length f.nodes.items) ≡ true = grind (arith, nat_tests) in
+        rw (one, not_noted m (node_block s.walk m) sound, not_doubtful m (node_block s.walk m) sound) refl),
+  )

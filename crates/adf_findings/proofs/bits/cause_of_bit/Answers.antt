@@ -1,0 +1,24 @@
+use Rattle.std.proofs.Common.{◌≡◌, refl, sym, subst, ◌∙◌, arith}
+use Rattle.std.specs.Prelude.{true, false}
+use Rattle.adf_findings.specs.Found.{BitTells, cause_told}
+use Rattle.adf_findings.proofs.BitSteps.{any_default, no_page, not_compared, page_tells}
+use Rattle.adf_findings.proofs.bits.cause_of_bit.Goals as goal
+
+pub returns-then-not-is_validated : goal.returns-then-not-is_validated
+returns-then-not-is_validated c = λ s fs v st.
+    not_compared c.args.image.now s c.args.b
+    (λ e. let clash : true ≡ false = sym (c.is_validated.ensures.1 e) ∙ c.if-not-is_validated.true in cc)
+
+pub returns-in-Some : goal.returns-in-Some
+returns-in-Some c = λ s fs v st.
+    subst (BitTells c.args.image.now s c.args.b) (sym c.cause_told.ensures)
+    (subst (λ a. BitTells c.args.image.now s c.args.b (cause_told c.index.result.now a c.in-Some.is_free)) (sym c.is_excused.ensures)
+    (page_tells c.args.image.now c.args.found.now s v fs st c.args.b _ _ _ c.in-Some.is_free
+    (c.index.ensures ∙ (any_default c.args.found.now.owned.items c.args.b _ (let l = c.requires.owned in let i = c.requires.inside in omega arith)
+    ∙ st.owned.1 c.args.b c.requires.inside))
+    (st.avoided.1 c.args.b c.requires.inside) refl (c.is_validated.ensures.0 c.if-not-is_validated.false)
+    (rw (← c.place_of-page.ensures.page, ← c.place_of-page.ensures.bit) c.in-Some.ensures)))
+
+pub returns-in-None : goal.returns-in-None
+returns-in-None c = λ s fs v st.
+    no_page c.args.image.now c.args.found.now s v fs st c.args.b (rw (← c.place_of-page.ensures.page) c.in-None.ensures)

@@ -1,0 +1,13 @@
+use Rattle.std.proofs.Common.{refl}
+use Rattle.adf_findings.proofs.Keys.{on_ok}
+use Rattle.adf_findings.proofs.BitSteps.{none_on, some_on}
+use Rattle.adf_findings.proofs.bits.compare_bit.Goals as goal
+
+pub returns-in-Some : goal.returns-in-Some
+returns-in-Some c =
+    on_ok c.note.result
+    (λ n. some_on c.args.image.now c.args.found.now c.note.new.self c.args.b c.in-Some.cause _ c.requires.low refl c.in-Some.ensures n c.requires.told)
+    c.note.ensures
+
+pub returns-in-None : goal.returns-in-None
+returns-in-None c = none_on c.args.image.now c.args.found.now c.args.b c.requires.low c.in-None.ensures c.requires.told

@@ -1,0 +1,37 @@
+use Rattle.std.proofs.Common.{◌≡◌, ◌+◌, sym, subst, arith}
+use Rattle.std.specs.Prelude.{Some}
+use Rattle.adf_findings.specs.Courses.{IsGoneOn}
+use Rattle.adf_findings.specs.Found.{IsTaken}
+use Rattle.adf_findings.proofs.CourseSteps.{passed_on, taken_left, taken_marked, taken_on, to_pass, to_take}
+use Rattle.adf_findings.proofs.course.go_on.Goals as goal
+
+pub take-requires-clause-inside : goal.take-requires-clause-inside
+take-requires-clause-inside c =
+    let o = to_take c.requires.due.1 c.word.ensures c.in_ok-part.ensures c.in-Some.part c.in-Some.is in
+    let inside = o.inside in omega (arith, c.word.ensures)
+
+pub take-requires-clause-marks : goal.take-requires-clause-marks
+take-requires-clause-marks c =
+    let n = c.requires.due.1 in taken_marked n (to_take n c.word.ensures c.in_ok-part.ensures c.in-Some.part c.in-Some.is)
+
+pub take-requires-clause-some : goal.take-requires-clause-some
+take-requires-clause-some c =
+    let n = c.requires.due.1 in taken_left n (to_take n c.word.ensures c.in_ok-part.ensures c.in-Some.part c.in-Some.is)
+
+pub returns-in_ok-take-in-Some-clause-gone : goal.returns-in_ok-take-in-Some-clause-gone
+returns-in_ok-take-in-Some-clause-gone c = λ s n.
+    let image = c.args.image.now in
+    let g = c.judge_next.new.found in
+    let h = c.take.new.self in
+    subst (λ b. IsGoneOn image s c.args.part c.args.holder c.args.i h (Some b)) (sym c.word.ensures)
+    (taken_on n (to_take n c.word.ensures c.in_ok-part.ensures c.in-Some.part c.in-Some.is)
+    (subst (λ b. IsTaken image c.in-Some.part b g h) c.word.ensures c.in_ok-take-in-Some.ensures))
+
+pub returns-in_ok-take-in-Some-clause-left : goal.returns-in_ok-take-in-Some-clause-left
+returns-in_ok-take-in-Some-clause-left c =
+    let o = to_take c.requires.due.1 c.word.ensures c.in_ok-part.ensures c.in-Some.part c.in-Some.is in
+    let left = o.left in
+    let less : c.take.new.self.left + 1 ≡ c.judge_next.new.found.left = c.in_ok-take-in-Some.ensures.owned.left in omega arith
+
+pub returns-in-None-clause-gone : goal.returns-in-None-clause-gone
+returns-in-None-clause-gone c = λ s n. passed_on n (to_pass n c.word.ensures c.in_ok-part.ensures c.in-None.is)

@@ -1,0 +1,28 @@
+use Rattle.std.specs.Prelude.{IfSome}
+use Rattle.std.proofs.Common.{◌+◌, ◌<◌, ◌≤◌, subst, sym, ◌∙◌, arith}
+use Rattle.adf_findings.proofs.CoursePlaces.{chain_done, header_named, header_passed, header_taken}
+use Rattle.adf_findings.proofs.course.go_through_chain.Goals as goal
+
+pub go_on-requires-clause-due : goal.go_on-requires-clause-due
+go_on-requires-clause-due c =
+    let x = c.loop-part.invariant.0 in
+    (x.course, header_named x c.requires.slot (λ e. c.loop-part-test.true (c.word.ensures ∙ e)))
+
+pub returns-in-None : goal.returns-in-None
+returns-in-None c =
+    let x = c.loop-part.invariant.0 in
+    header_passed x c.in-None.is (c.in_ok-header.ensures.gone x.course (header_named x c.requires.slot (λ e. c.loop-part-test.true (c.word.ensures ∙ e))))
+
+pub loop-part-preserved : goal.loop-part-preserved
+loop-part-preserved c =
+    let x = c.loop-part.invariant.0 in
+    let less : c.go_on.new.found.left < c.loop-part.found.left =
+    subst (λ o. IfSome o (λ b. c.go_on.new.found.left < c.loop-part.found.left)) c.in-Some.is c.in_ok-header.ensures.left in
+    let all : c.loop-part.place + c.loop-part.found.left ≤ c.args.found.now.left = c.loop-part.invariant.2 in (
+      header_taken x c.in-Some.is (c.in_ok-header.ensures.gone x.course (header_named x c.requires.slot (λ e. c.loop-part-test.true (c.word.ensures ∙ e)))),
+      omega arith,
+      omega arith,
+    )
+
+pub returns : goal.returns
+returns c = chain_done c.loop-part.invariant.0 (sym c.word.ensures ∙ c.loop-part-test.false)

@@ -1,0 +1,12 @@
+use Rattle.adf_findings.proofs.SoundEntries as laws
+use Rattle.adf_findings.proofs.SoundFiles.{sound_listed}
+use Rattle.adf_findings.proofs.laws.sound_entries.Goals as goal
+
+pub returns-clause-header : goal.returns-clause-header
+returns-clause-header c = λ image w fs n h v s. laws.sound_header image w fs n h v s
+
+pub returns-clause-file : goal.returns-clause-file
+returns-clause-file c = λ image w fs n h v s f. laws.sound_file image w fs n h v s f
+
+pub returns-clause-order : goal.returns-clause-order
+returns-clause-order c = λ image w fs n h v sound k b. let l = sound_listed image w fs n h v sound in (l.from k b, l.to k b)

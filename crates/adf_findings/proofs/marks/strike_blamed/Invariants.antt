@@ -1,0 +1,8 @@
+use Rattle.std.specs.Prelude.{◌≡◌, ◌&&◌, ℕ, not, drop}
+use Rattle.adf_findings.specs.Marks.{has_mark, is_blamed}
+use Rattle.adf_findings.proofs.marks.strike_blamed.Given as goal
+
+abbrev pub invariant-loop-finding : goal.invariant-loop-finding
+invariant-loop-finding l =
+    (m : ℕ) → (has_mark l.marks.items m && not (is_blamed l.found (drop l.finding-index l.found.findings.items) m))
+    ≡ (has_mark l.initial.marks.items m && not (is_blamed l.found l.found.findings.items m))

@@ -1,0 +1,120 @@
+-- The state of a survey along its course.
+-- Letters: s a course, w its walk; f, g states; k a position; a, i the block and the word that point to a part;
+-- b a block; n, p nodes; x an ask.
+use Rattle.std.specs.Prelude.{◌≡◌, ◌≤◌, ◌<◌, ℕ, false, List, ◌∷◌, Option, Some, None, IfSome}
+use Rattle.std.proofs.Common.{suc}
+use Rattle.adf_blocks.specs.Sizes.{blocks}
+use Rattle.adf_volume.specs.Image.{word_in}
+use Rattle.adf_volume.specs.Positions.{Position, IsLink, IsPageHolder, IsUpTo, before_node, before_page, behind, position_of, word_of_page}
+use Rattle.adf_volume.specs.Walk.{Role, Asks, DirAt, FileAt, MemberAt, NamesPage, ext_count, heads}
+use Rattle.adf_volume.specs.Walk.Role.{Page, Head, Ext, Data}
+use Rattle.adf_volume.proofs.Roles.{renumbered}
+use Rattle.adf_findings.specs.declared.part.Part.{Part}
+use Rattle.adf_findings.specs.declared.course.Ask.{Ask}
+use Rattle.adf_findings.specs.declared.found.Found.{Found}
+use Rattle.adf_findings.specs.Survey.{Course, FindingValue, IsCourse, IsNext}
+use Rattle.adf_findings.specs.Parts.{role_of}
+use Rattle.adf_findings.specs.Found.{AreNamed, Stands, owns}
+
+-- the state is that of a course that has reached a position
+pub record Holds (image : List ℕ) (f : Found) (k : Position) (s : Course) : Type 0 where
+  pub course : IsCourse image s
+  pub stands : Stands image f s
+  pub up_to : IsUpTo image s.walk s.passed_over k
+  pub names : AreNamed image s.walk k f.names
+  pub small : blocks image ≤ 1048576
+
+-- some course has reached a position
+abbrev pub HasReached : List ℕ → Found → Position → Type 0
+HasReached image f k = (s : Course) × Holds image f k s
+
+-- the role asked for, with its number
+abbrev pub role_asked : Course → Part → Role
+role_asked s part = renumbered (suc (heads s.walk)) (role_of part)
+
+-- a course has reached a part that word i of block a points to
+pub record IsNamed (image : List ℕ) (f : Found) (part : Part) (a i : ℕ) (s : Course) : Type 0 where
+  pub holds : Holds image f (position_of (role_of part)) s
+  pub asked : Asks image s.walk (role_asked s part) a i
+
+-- a part that word i of block a points to is next
+abbrev pub HasReachedPart : List ℕ → Found → Part → ℕ → ℕ → Type 0
+HasReachedPart image f part a i = (s : Course) × IsNamed image f part a i s
+
+-- the ask is next in the course
+abbrev pub IsNextAsk : List ℕ → Course → Ask → Type 0
+IsNextAsk image s x = (i : ℕ) × IsNext image s (role_asked s x.part) x.holder i × (word_in image x.holder i ≡ x.block)
+
+-- the part is passed over
+pub record IsPassedOver (image : List ℕ) (s : Course) (x : Ask) (f g : Found) : Type 0 where
+  pub findings : List FindingValue
+  pub course : IsCourse image (record { walk = s.walk; passed_over = (role_asked s x.part, x.block) ∷ s.passed_over; findings = findings })
+  pub stands : Stands image g (record { walk = s.walk; passed_over = (role_asked s x.part, x.block) ∷ s.passed_over; findings = findings })
+  pub left : g.left ≡ f.left
+  pub names : g.names ≡ f.names
+
+-- the part is to be taken
+pub record IsToTake (image : List ℕ) (s : Course) (x : Ask) (f g : Found) (part : Part) : Type 0 where
+  pub role : role_of part ≡ role_asked s x.part
+  pub inside : x.block < blocks image
+  pub free : owns s.walk x.block ≡ false
+  pub findings : List FindingValue
+  pub course : IsCourse image (record { walk = (role_asked s x.part, x.block) ∷ s.walk; passed_over = s.passed_over; findings = findings })
+  pub stands : Stands image g (record { walk = s.walk; passed_over = s.passed_over; findings = findings })
+  pub left : g.left ≡ f.left
+  pub names : g.names ≡ f.names
+
+-- the part is passed over or to be taken
+abbrev pub IsOutcome : List ℕ → Course → Ask → Found → Found → Option Part → Type 0
+IsOutcome image s x f g None = IsPassedOver image s x f g
+IsOutcome image s x f g (Some part) = IsToTake image s x f g part
+
+-- the course after a role at block b is taken or passed over
+abbrev pub course_on : Course → Role → ℕ → Option ℕ → List FindingValue → Course
+course_on s r b None fs = record { walk = s.walk; passed_over = (r, b) ∷ s.passed_over; findings = fs }
+course_on s r b (Some c) fs = record { walk = (r, b) ∷ s.walk; passed_over = s.passed_over; findings = fs }
+
+-- a course continues after a part that word i of block a points to
+pub record IsGoneOn (image : List ℕ) (s : Course) (part : Part) (a i : ℕ) (g : Found) (o : Option ℕ) : Type 0 where
+  pub findings : List FindingValue
+  pub holds : Holds image g (behind (role_of part)) (course_on s (role_asked s part) (word_in image a i) o findings)
+  pub block : IfSome o (λ b. b ≡ word_in image a i)
+
+-- a course has reached a page, or the bitmap extension block before it; block a points to the page before
+abbrev pub HasReachedPage : List ℕ → Found → ℕ → ℕ → Type 0
+HasReachedPage image f page a = (s : Course) × Holds image f (before_page page) s × IsPageHolder image s.walk page a
+
+-- a course has reached a page that block a points to, or the nodes if no block does
+abbrev pub IsPageNamed : List ℕ → Found → ℕ → Option ℕ → Type 0
+IsPageNamed image f page None = HasReached image f (before_node 0)
+IsPageNamed image f page (Some a) = (s : Course) × Holds image f (position_of (Page page)) s × NamesPage image s.walk page a (word_of_page page)
+
+-- a course has reached a slot of a directory at block b
+abbrev pub HasReachedSlot : List ℕ → Found → ℕ → ℕ → ℕ → Type 0
+HasReachedSlot image f p slot b = (s : Course) × Holds image f (position_of (Head 0 p slot 0)) s × DirAt image s.walk p b
+
+-- a course has reached a position of a chain, at word i of block a, in a directory at block b
+pub record HasReachedHeader (image : List ℕ) (f : Found) (p slot place a i b : ℕ) : Type 0 where
+  pub course : Course
+  pub holds : Holds image f (position_of (Head 0 p slot place)) course
+  pub dir : DirAt image course.walk p b
+  pub link : IsLink image course.walk p slot place a i
+
+-- a course has reached a file with its header at block b
+abbrev pub HasReachedFile : List ℕ → Found → ℕ → ℕ → Type 0
+HasReachedFile image f n b = (s : Course) × Holds image f (before_node n) s × FileAt image s.walk n b
+
+-- a course has reached the extension block after block m of the table, at block a, of a file with header b
+pub record HasReachedExt (image : List ℕ) (f : Found) (n b m a : ℕ) : Type 0 where
+  pub course : Course
+  pub holds : Holds image f (position_of (Ext n (suc m))) course
+  pub file : FileAt image course.walk n b
+  pub member : MemberAt image course.walk n m a
+  pub count : ext_count course.walk n ≡ m
+
+-- a course has reached a data block, after `done` others, of a file with header b and this many extension blocks
+pub record HasReachedData (image : List ℕ) (f : Found) (n b exts done : ℕ) : Type 0 where
+  pub course : Course
+  pub holds : Holds image f (position_of (Data n (suc done))) course
+  pub file : FileAt image course.walk n b
+  pub count : ext_count course.walk n ≡ exts

@@ -1,0 +1,104 @@
+-- The forms of parts, and the judgement of a part by them.
+-- Letters: b the block of a part, a the block that points to it; x the context of a part; f the facts about it;
+-- r a role; w a walk.
+use Rattle.std.specs.Prelude.{◌≡◌, ℕ, Bool, true, false, ◌&&◌, ◌||◌, nat_le, nat_lt, cond, List, [], ◌∷◌, Option, Some, None}
+use Rattle.adf_fields.specs.Words.{block}
+use Rattle.adf_tree.specs.declared.entry.Kind.{Kind}
+use Rattle.adf_tree.specs.declared.entry.Kind.TheVariants.{Ofs, Ffs}
+use Rattle.adf_blocks.specs.declared.cause.Cause.{Cause}
+use Rattle.adf_blocks.specs.declared.cause.Cause.TheVariants.{OutOfRange, SameName, ShortFile, Taken}
+use Rattle.adf_blocks.specs.declared.layout.TheConstants.{SIZE}
+use Rattle.adf_blocks.specs.Sizes.{blocks}
+use Rattle.adf_blocks.specs.Forms.{Clause, first_cause}
+use Rattle.adf_blocks.specs.DataBlock.{data_form}
+use Rattle.adf_blocks.specs.ExtBlock.{ext_form}
+use Rattle.adf_blocks.specs.PageBlock.{page_form}
+use Rattle.adf_volume.specs.Image.{held, kind_of, word_in}
+use Rattle.adf_volume.specs.Walk.{Role, Enough, IsAbsent, next_data, node_block}
+use Rattle.adf_volume.specs.Walk.Role.{Head, Ext, Data}
+use Rattle.adf_findings.specs.Demands.{NewNameIn, head_form_in}
+use Rattle.adf_findings.specs.declared.part.Part.{Part}
+use Rattle.adf_findings.specs.declared.part.Part.TheVariants.{Root as RootPart, Page as PagePart, MapExt as MapExtPart, Head as HeadPart}
+use Rattle.adf_findings.specs.declared.part.Part.TheVariants.{Ext as ExtPart, Data as DataPart}
+use Rattle.adf_findings.specs.declared.forms.Around.{Around}
+use Rattle.adf_findings.specs.declared.judge.Facts.{Facts}
+use Rattle.adf_findings.specs.declared.judge.Judgement.{Judgement}
+use Rattle.adf_findings.specs.declared.judge.Judgement.TheVariants.{Clean, Noted, Passed}
+use Rattle.adf_findings.specs.Survey.{JudgementValue, is_kept}
+use Rattle.adf_findings.specs.Survey.JudgementValue.{clean, noted, passed}
+use Rattle.adf_findings.specs.Parts.{role_of}
+
+-- the form of a data block; none for FFS
+abbrev pub data_clauses : Kind → ℕ → ℕ → ℕ → ℕ → List ℕ → List Clause
+data_clauses Ofs h k n next b = data_form h k n next b
+data_clauses Ffs h k n next b = []
+
+-- the form of block b as the part
+abbrev pub form_of : List ℕ → Part → ℕ → Around → List Clause
+form_of image RootPart b x = []
+form_of image (PagePart i) b x = page_form (block image b)
+form_of image (MapExtPart j) b x = []
+form_of image (HeadPart n p s j) b x = head_form_in image (kind_of image) b x.up s (block image b)
+form_of image (ExtPart n k) b x = ext_form b x.up (block image b)
+form_of image (DataPart n k) b x = data_clauses (kind_of image) x.up k (held (kind_of image) (word_in image x.up SIZE) k) x.next (block image b)
+
+-- every clause holds, except those with slight causes
+abbrev pub itself_by : Role → List Clause → Bool
+itself_by r [] = true
+itself_by r (c ∷ cs) = (is_kept r c.1 || c.0) && itself_by r cs
+
+-- a part is in range
+abbrev pub in_range : List ℕ → ℕ → Bool
+in_range image b = nat_le 2 b && nat_lt b (blocks image)
+
+-- the cause in the form, otherwise the rest
+abbrev pub of_form : ℕ → Option Cause → Option (ℕ × Cause) → Option (ℕ × Cause)
+of_form b None rest = rest
+of_form b (Some c) rest = Some (b, c)
+
+-- the first cause of five tests: enough extension blocks, in range, no owner, the form, a new name
+abbrev pub first_of_five : ℕ → ℕ → Bool → Bool → Bool → Option Cause → Bool → Option (ℕ × Cause)
+first_of_five a b false ranges absent form new = Some (a, ShortFile)
+first_of_five a b true false absent form new = Some (a, OutOfRange)
+first_of_five a b true true false form new = Some (b, Taken)
+first_of_five a b true true true form new = of_form b form (cond new None (Some (b, SameName)))
+
+-- the first cause of a part, and its block
+abbrev pub first_failing : List ℕ → Part → ℕ → ℕ → Facts → Option (ℕ × Cause)
+first_failing image part a b f =
+    first_of_five a b f.is_enough (in_range image b) f.is_absent (first_cause (form_of image part b f.around)) f.is_new
+
+-- the part is taken, whatever slight causes it has
+abbrev pub keeps : List ℕ → Part → ℕ → Facts → Bool
+keeps image part b f = in_range image b && (f.is_absent && itself_by (role_of part) (form_of image part b f.around))
+
+-- the judgement of a part with this first cause
+abbrev pub judged_by : Option (ℕ × Cause) → Bool → JudgementValue
+judged_by None kept = clean
+judged_by (Some x) true = noted x.0 x.1
+judged_by (Some x) false = passed x.0 x.1
+
+-- the value of a judgement in the code
+abbrev pub judgement_value : Judgement → JudgementValue
+judgement_value Clean = clean
+judgement_value (Noted at c) = noted at c
+judgement_value (Passed at c) = passed at c
+
+-- the test is true if and only if the fact holds
+abbrev pub Tells : Bool → Type 0 → Type 0
+Tells true P = P
+Tells false P = P → ⊥
+
+-- the context of the role is this one
+abbrev pub IsAround : List ℕ → List (Role × ℕ) → Role → Around → Type 0
+IsAround image w (Head n p s j) x = x.up ≡ node_block w p
+IsAround image w (Ext n k) x = x.up ≡ node_block w n
+IsAround image w (Data n k) x = (x.up ≡ node_block w n) × (x.next ≡ next_data image w n k)
+IsAround image w _ x = Unit {0}
+
+-- the facts about a part are true
+pub record Knows (image : List ℕ) (w : List (Role × ℕ)) (part : Part) (b : ℕ) (f : Facts) : Type 0 where
+  pub enough : Tells f.is_enough (Enough image w (role_of part))
+  pub absent : in_range image b ≡ true → Tells f.is_absent (IsAbsent w b)
+  pub new : in_range image b ≡ true → Tells f.is_new (NewNameIn image w (role_of part) b)
+  pub around : IsAround image w (role_of part) f.around

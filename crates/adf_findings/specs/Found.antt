@@ -1,0 +1,296 @@
+-- The state of a survey, as a course.
+-- Letters: w a walk, s a course; r a role; b, c blocks; k a key; n, p nodes; q a name in a chain; f a state;
+-- ds data blocks.
+use Rattle.std.specs.Prelude.{◌≡◌, ◌≤◌, ◌<◌, ◌+◌, ◌-◌, ◌*◌, ◌/◌, ◌==◌, ◌||◌, ℕ, Bool, true, false, cond, not, nat_le, nat_lt, List, []}
+use Rattle.std.specs.Prelude.{◌∷◌, ◌++◌, length, set, map, slice_index, slice_index_or, Option, Some, None, IsTrue, ◌↔◌}
+use Rattle.std.proofs.Common.{zero, suc}
+use Rattle.std.specs.Global.{Vec}
+use Rattle.std.specs.Option.{unwrap_or}
+use Rattle.std.specs.Ordering.{is_eq, nat_cmp, ordering_then}
+use Rattle.std.specs.declared.cmp.Ordering.{Ordering}
+use Rattle.std.specs.Cmp.Lexicographic.{slice_cmp}
+use Rattle.std.specs.BTreeMap.{BTreeMap, Updates, get}
+use Rattle.std.specs.BTreeSet.{BTreeSet, contains}
+use Rattle.adf_blocks.specs.declared.cause.Cause.{Cause}
+use Rattle.adf_blocks.specs.declared.cause.Cause.TheVariants.{LostBlock, OwnedFree}
+use Rattle.adf_volume.specs.Demands.{AllHold, FirstFails}
+use Rattle.adf_blocks.specs.declared.layout.TheConstants.{POINTERS}
+use Rattle.adf_blocks.specs.Sizes.{blocks}
+use Rattle.adf_volume.specs.Image.{IsFreeAt, name_of, table_word, word_in}
+use Rattle.adf_volume.specs.Positions.{Position}
+use Rattle.adf_volume.specs.Walk.{Role, Has, bitmap_demands, data_count, ext_count, heads, node_block}
+use Rattle.adf_volume.specs.Walk.Role.{Page, Head, Ext, Data}
+use Rattle.adf_findings.specs.Demands.{uppers_in}
+use Rattle.adf_findings.specs.declared.part.Part.{Part}
+use Rattle.adf_findings.specs.declared.part.Part.TheVariants.{Head as HeadPart, Ext as ExtPart, Data as DataPart}
+use Rattle.adf_findings.specs.declared.part.Key.{Key}
+use Rattle.adf_findings.specs.declared.part.Finding.{Finding}
+use Rattle.adf_findings.specs.declared.forms.Around.{Around}
+use Rattle.adf_findings.specs.declared.found.ChainPlace.{ChainPlace}
+use Rattle.adf_findings.specs.declared.found.DataBlock.{DataBlock}
+use Rattle.adf_findings.specs.declared.found.Found.{Found}
+use Rattle.adf_findings.specs.Survey.{BitsTell, Course, FindingValue, IsCompared, IsCourse, IsDone}
+use Rattle.adf_findings.specs.Parts.{by_key, key_of, role_of, finding_value}
+
+-- the block of the member of the walk with this key
+abbrev pub at_key : List (Role × ℕ) → Key → Option ℕ
+at_key [] k = None
+at_key (x ∷ w) k = cond (is_eq (by_key (key_of x.0) k)) (Some x.1) (at_key w k)
+
+-- the role is one that is looked up by key: neither a header nor a data block
+abbrev pub IsLookedUp : Role → Type 0
+IsLookedUp (Head n p s j) = ⊥
+IsLookedUp (Data n k) = ⊥
+IsLookedUp _ = Unit {0}
+
+-- the data blocks, with one more if the role is one
+abbrev pub with_data : Role → ℕ → List DataBlock → List DataBlock
+with_data (Data n k) b ds = ds ++ record { node = n; block = b } ∷ []
+with_data _ b ds = ds
+
+-- the data blocks of a walk, in order
+abbrev pub data_blocks_of : List (Role × ℕ) → List DataBlock
+data_blocks_of [] = []
+data_blocks_of (x ∷ w) = with_data x.0 x.1 (data_blocks_of w)
+
+-- whether a member of the walk has this block
+abbrev pub owns : List (Role × ℕ) → ℕ → Bool
+owns [] b = false
+owns (x ∷ w) b = (x.1 == b) || owns w b
+
+-- the entry that a role is a part of; none of the root and the bitmap
+abbrev pub entry_in : Role → Option ℕ
+entry_in (Head n p s j) = Some n
+entry_in (Ext n k) = Some n
+entry_in (Data n k) = Some n
+entry_in _ = None
+
+-- the entry that has the block
+abbrev pub owner : List (Role × ℕ) → ℕ → Option ℕ
+owner [] b = None
+owner (x ∷ w) b = cond (x.1 == b) (entry_in x.0) (owner w b)
+
+-- whether the role at block c is a header of the chain with this name
+abbrev pub is_named : List ℕ → Role → ℕ → ℕ → ℕ → List ℕ → Bool
+is_named image (Head n p s j) c parent slot name =
+    is_eq (ordering_then (nat_cmp p parent) (ordering_then (nat_cmp s slot) (slice_cmp nat_cmp (uppers_in image (name_of image c)) name)))
+is_named image _ c parent slot name = false
+
+-- whether a header of the chain has this name
+abbrev pub has_name : List ℕ → List (Role × ℕ) → ℕ → ℕ → List ℕ → Bool
+has_name image [] parent slot name = false
+has_name image (x ∷ w) parent slot name = is_named image x.0 x.1 parent slot name || has_name image w parent slot name
+
+-- the order of names
+abbrev pub by_name : Vec ℕ → Vec ℕ → Ordering
+by_name a b = slice_cmp nat_cmp a.items b.items
+
+-- the set has the names of the walk's headers in the chain at a position, if there are any
+abbrev pub AreNamed : List ℕ → List (Role × ℕ) → Position → BTreeSet (Vec ℕ) → Type 0
+AreNamed image w k names =
+    (q : Vec ℕ) (m p s j b : ℕ) → suc p ≡ k.first → suc (suc s) ≡ k.second → Has w (Head m p s j) b
+    → contains by_name names q ≡ has_name image w p s q.items
+
+-- the walk has headers of the part's chain, unless the part is the first of them
+abbrev pub IsChain : List (Role × ℕ) → Part → Type 0
+IsChain w (HeadPart n p s zero) = (m j b : ℕ) → Has w (Head m p s j) b → ⊥
+IsChain w (HeadPart n p s (suc j)) = (m b : ℕ) × Has w (Head m p s j) b
+IsChain w _ = Unit {0}
+
+-- whether the name of the part is new, if it is a header
+abbrev pub new_in : List ℕ → List (Role × ℕ) → Part → ℕ → Bool
+new_in image w (HeadPart n p s j) b = not (has_name image w p s (uppers_in image (name_of image b)))
+new_in image w _ b = true
+
+-- p if the role is the header of node n in directory p, otherwise c
+abbrev pub parent_by : ℕ → Role → ℕ → ℕ
+parent_by n (Head m p s j) c = cond (n == m) p c
+parent_by n _ c = c
+
+-- the parent of node n; 0 if the walk has no such header
+abbrev pub parent_node : List (Role × ℕ) → ℕ → ℕ
+parent_node [] n = 0
+parent_node (x ∷ w) n = parent_by n x.0 (parent_node w n)
+
+-- the number of blocks that no member has
+abbrev pub unowned : List Bool → ℕ
+unowned [] = 0
+unowned (true ∷ xs) = unowned xs
+unowned (false ∷ xs) = suc (unowned xs)
+
+-- the marks of n blocks are true for the blocks of members
+abbrev pub AreMarked : ℕ → List Bool → List (Role × ℕ) → Type 0
+AreMarked n marks w = (length marks ≡ n) × ((b : ℕ) → b < n → slice_index_or marks b false ≡ owns w b)
+
+-- the number of the entry that a role is a part of; 0 of the root and the bitmap
+abbrev pub entry_number : Role → ℕ
+entry_number r = unwrap_or (entry_in r) 0
+
+-- the numbers of n blocks are those of the entries that have them; 0 where none has
+abbrev pub AreHeld : ℕ → List ℕ → List (Role × ℕ) → Type 0
+AreHeld n numbers w = (length numbers ≡ n) × ((b : ℕ) → slice_index_or numbers b 0 ≡ unwrap_or (owner w b) 0)
+
+-- the number of extension blocks of a file
+abbrev pub exts_found : Found → ℕ → ℕ
+exts_found f n = unwrap_or (get nat_cmp f.exts n) 0
+
+-- block m of the table of a file
+abbrev pub member_in : Found → ℕ → ℕ → ℕ
+member_in f n m = cond (m == 0) (slice_index f.nodes.items n) (unwrap_or (get by_key f.taken (key_of (Ext n m))) 0)
+
+-- the pointer to data block k + 1 in the table of a file; 0 past the last
+abbrev pub next_in : List ℕ → Found → ℕ → ℕ → ℕ
+next_in image f n k =
+    cond (nat_lt k (data_count image (slice_index f.nodes.items n))) (word_in image (member_in f n (k / POINTERS)) (table_word k)) 0
+
+-- the context of the part
+abbrev pub around_in : List ℕ → Found → Part → Around
+around_in image f (HeadPart n p s j) = record { up = slice_index f.nodes.items p; next = 0 }
+around_in image f (ExtPart n k) = record { up = slice_index f.nodes.items n; next = 0 }
+around_in image f (DataPart n k) = record { up = slice_index f.nodes.items n; next = next_in image f n k }
+around_in image f _ = record { up = 0; next = 0 }
+
+-- whether the file of a first data block has enough extension blocks
+abbrev pub enough_in : List ℕ → Found → Part → Bool
+enough_in image f (DataPart n k) = not (k == 1) || nat_le (data_count image (slice_index f.nodes.items n)) (POINTERS * suc (exts_found f n))
+enough_in image f _ = true
+
+-- the positions of headers, with one more if the role is a header
+abbrev pub with_place : Role → List ChainPlace → List ChainPlace
+with_place (Head n p s j) cs = cs ++ record { slot = s; place = j } ∷ []
+with_place _ cs = cs
+
+-- the positions of the walk's headers, by their numbers from 1 on
+abbrev pub places_of : List (Role × ℕ) → List ChainPlace
+places_of [] = []
+places_of (x ∷ w) = with_place x.0 (places_of w)
+
+-- the map also has the block at the part's key, unless the part is a header or a data block
+abbrev pub IsPut : Part → ℕ → BTreeMap Key ℕ → BTreeMap Key ℕ → Type 0
+IsPut (HeadPart n p s j) b old new = new ≡ old
+IsPut (DataPart n k) b old new = new ≡ old
+IsPut part b old new = Updates by_key old new (key_of (role_of part)) (Some b)
+
+-- the part owns the block
+pub record IsOwned (part : Part) (b : ℕ) (f g : Found) : Type 0 where
+  pub taken : IsPut part b f.taken g.taken
+  pub datas : g.datas.items ≡ with_data (role_of part) b f.datas.items
+  pub owned : g.owned.items ≡ set f.owned.items b true
+  pub owners : g.owners.items ≡ set f.owners.items b (entry_number (role_of part))
+  pub left : g.left + 1 ≡ f.left
+  pub avoided : g.avoided ≡ f.avoided
+  pub findings : g.findings ≡ f.findings
+
+-- nodes, names, counts of extension blocks, parents and positions are unchanged
+pub record AreSame (f g : Found) : Type 0 where
+  pub nodes : g.nodes ≡ f.nodes
+  pub names : g.names ≡ f.names
+  pub exts : g.exts ≡ f.exts
+  pub parents : g.parents ≡ f.parents
+  pub places : g.places ≡ f.places
+
+-- whether a name is known before position j of a chain: none is at the first
+abbrev pub known_at : ℕ → Bool → Bool
+known_at zero known = false
+known_at (suc j) known = known
+
+-- the node, the name, the directory p, the slot and the position j of a header are kept
+pub record KeepsHead (image : List ℕ) (p s j b : ℕ) (f g : Found) : Type 0 where
+  pub nodes : g.nodes.items ≡ f.nodes.items ++ b ∷ []
+  pub names : (q : Vec ℕ)
+      → contains by_name g.names q ≡ (is_eq (slice_cmp nat_cmp (uppers_in image (name_of image b)) q.items) || known_at j (contains by_name f.names q))
+  pub exts : g.exts ≡ f.exts
+  pub parents : g.parents.items ≡ f.parents.items ++ p ∷ []
+  pub places : g.places.items ≡ f.places.items ++ record { slot = s; place = j } ∷ []
+
+-- the count of extension blocks of file n is kept
+pub record KeepsExt (n k : ℕ) (f g : Found) : Type 0 where
+  pub nodes : g.nodes ≡ f.nodes
+  pub names : g.names ≡ f.names
+  pub exts : Updates nat_cmp f.exts g.exts n (Some k)
+  pub parents : g.parents ≡ f.parents
+  pub places : g.places ≡ f.places
+
+-- the facts of a part that later parts need are kept
+abbrev pub IsKept : List ℕ → Part → ℕ → Found → Found → Type 0
+IsKept image (HeadPart n p s j) b f g = KeepsHead image p s j b f g
+IsKept image (ExtPart n k) b f g = KeepsExt n k f g
+IsKept image _ b f g = AreSame f g
+
+-- marks, keys and findings are unchanged
+abbrev pub KeepsParts : Found → Found → Type 0
+KeepsParts f g = g ≡ record f { nodes = g.nodes; exts = g.exts; names = g.names; parents = g.parents; places = g.places }
+
+-- the part is taken
+pub record IsTaken (image : List ℕ) (part : Part) (b : ℕ) (f g : Found) : Type 0 where
+  pub owned : IsOwned part b f g
+  pub kept : IsKept image part b f g
+
+-- the block is passed over
+pub record IsPassed (b : ℕ) (f g : Found) : Type 0 where
+  pub avoided : g.avoided.items ≡ set f.avoided.items b true
+  pub findings : g.findings ≡ f.findings
+  pub rest : g ≡ record f { avoided = g.avoided; findings = g.findings }
+
+-- the finding is noted
+pub record IsNoted (x : Finding) (f g : Found) : Type 0 where
+  pub findings : g.findings.items ≡ f.findings.items ++ x ∷ []
+  pub avoided : g.avoided ≡ f.avoided
+  pub rest : g ≡ record f { avoided = g.avoided; findings = g.findings }
+
+-- the state is that of a course
+pub record Stands (image : List ℕ) (f : Found) (s : Course) : Type 0 where
+  pub taken : (r : Role) → IsLookedUp r → get by_key f.taken (key_of r) ≡ at_key s.walk (key_of r)
+  pub owned : AreMarked (blocks image) f.owned.items s.walk
+  pub owners : AreHeld (blocks image) f.owners.items s.walk
+  pub avoided : AreMarked (blocks image) f.avoided.items s.passed_over
+  pub left : f.left ≡ unowned f.owned.items
+  pub node : (n : ℕ) → slice_index f.nodes.items n ≡ node_block s.walk n
+  pub count : length f.nodes.items ≡ suc (heads s.walk)
+  pub few : length f.nodes.items + f.left ≤ suc (blocks image)
+  pub ext : (n : ℕ) → exts_found f n ≡ ext_count s.walk n
+  pub findings : map finding_value f.findings.items ≡ s.findings
+  pub parent : (n : ℕ) → slice_index f.parents.items n ≡ parent_node s.walk n
+  pub parents : length f.parents.items ≡ suc (heads s.walk)
+  pub places : f.places.items ≡ places_of s.walk
+  pub datas : f.datas.items ≡ data_blocks_of s.walk
+
+-- the finding of the bit of block b: none if it is not compared or agrees; otherwise the cause
+abbrev pub BitTells : List ℕ → Course → ℕ → Option Cause → Type 0
+BitTells image s b None = IsCompared image s b → AllHold (bitmap_demands image s.walk b 1)
+BitTells image s b (Some c) = IsCompared image s b × FirstFails (bitmap_demands image s.walk b 1) b c
+
+-- whether the page is taken, and if so whether its bit is set
+abbrev pub IsBitOf : List ℕ → Found → ℕ → ℕ → Option Bool → Type 0
+IsBitOf image f page bit None = get by_key f.taken (key_of (Page page)) ≡ None
+IsBitOf image f page bit (Some t) = (at : ℕ) × (get by_key f.taken (key_of (Page page)) ≡ Some at) × (IsTrue t ↔ IsFreeAt image at bit)
+
+-- the cause of a bit: a block in use without an owner and without an excuse, or one owned and free
+abbrev pub cause_told : Bool → Bool → Bool → Option Cause
+cause_told false false false = Some LostBlock
+cause_told false true false = None
+cause_told false avoided true = None
+cause_told true avoided true = Some OwnedFree
+cause_told true avoided false = None
+
+-- a course is done
+abbrev pub IsFinished : List ℕ → Found → Type 0
+IsFinished image f = (s : Course) × IsCourse image s × IsDone image s × Stands image f s
+
+-- a course is done, and the findings are its own and those of these bits
+pub record IsTold (image : List ℕ) (f : Found) (s : Course) (bits : List FindingValue) : Type 0 where
+  pub course : IsCourse image s
+  pub done : IsDone image s
+  pub stands : Stands image f (record { walk = s.walk; passed_over = s.passed_over; findings = s.findings ++ bits })
+
+-- a course is done, and the bits are compared
+abbrev pub IsCompleted : List ℕ → Found → Type 0
+IsCompleted image f = (s : Course) × (bits : List FindingValue) × IsTold image f s bits × BitsTell image s 2 (blocks image - 2) bits
+
+-- the findings of the bits up to a block, followed by those from there on
+abbrev pub TellsOn : List ℕ → Course → ℕ → List FindingValue → Type 0
+TellsOn image s b gs = (n : ℕ) (fs : List FindingValue) → BitsTell image s b n fs → BitsTell image s 2 (b - 2 + n) (gs ++ fs)
+
+-- a course is done, and the bits up to a block are compared
+abbrev pub IsToldOn : List ℕ → Found → ℕ → Type 0
+IsToldOn image f b = (s : Course) × (gs : List FindingValue) × IsTold image f s gs × TellsOn image s b gs

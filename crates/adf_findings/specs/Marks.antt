@@ -1,0 +1,67 @@
+-- The entries that findings concern, by number.
+-- Letters: f a state; avoided whether each block was passed over; d a data block; m, n, p nodes;
+-- s, j a slot and a position in its chain.
+use Rattle.std.specs.Prelude.{◌==◌, ◌||◌, ◌&&◌, ◌-◌, ℕ, Bool, false, cond, not, nat_lt, List, [], ◌∷◌, length, slice_get, slice_index, slice_index_or}
+use Rattle.std.specs.Prelude.{Option, Some, None}
+use Rattle.std.specs.Option.{option_map}
+use Rattle.adf_tree.specs.declared.entry.Kind.{Kind}
+use Rattle.adf_tree.specs.declared.entry.Kind.TheVariants.{Ofs, Ffs}
+use Rattle.adf_volume.specs.Image.{kind_of}
+use Rattle.adf_findings.specs.declared.part.Part.{Part}
+use Rattle.adf_findings.specs.declared.part.Part.TheVariants.{Head as HeadPart, Ext as ExtPart, Data as DataPart}
+use Rattle.adf_findings.specs.declared.part.Finding.{Finding}
+use Rattle.adf_findings.specs.declared.found.ChainPlace.{ChainPlace}
+use Rattle.adf_findings.specs.declared.found.DataBlock.{DataBlock}
+use Rattle.adf_findings.specs.declared.found.Found.{Found}
+use Rattle.adf_findings.specs.declared.concern.Concern.{Concern}
+use Rattle.adf_findings.specs.declared.concern.Concern.TheVariants.{Entry, Within}
+use Rattle.adf_findings.specs.Concerned.{node_of}
+
+-- whether a position is this one
+abbrev pub is_place : Option ChainPlace → ℕ → ℕ → Bool
+is_place None s j = false
+is_place (Some c) s j = (c.slot == s) && (c.place == j)
+
+-- whether node n is the header at position j of the chain of slot s of directory p
+abbrev pub is_header : Found → ℕ → ℕ → ℕ → ℕ → Bool
+is_header f n p s j = not (n == 0) && ((slice_index f.parents.items n == p) && is_place (slice_get f.places.items (n - 1)) s j)
+
+-- what a finding of the part concerns
+abbrev pub blamed : Found → Option Part → Option Concern
+blamed f (Some (HeadPart n p s j)) = Some (cond (is_header f n p s j) (Entry n) (Within p))
+blamed f (Some (ExtPart n k)) = Some (Entry n)
+blamed f (Some (DataPart n k)) = Some (Entry n)
+blamed f _ = None
+
+-- whether the node is this one
+abbrev pub is_node : Option ℕ → ℕ → Bool
+is_node None m = false
+is_node (Some n) m = n == m
+
+-- whether a finding concerns the entry, or what is within it
+abbrev pub is_blamed : Found → List Finding → ℕ → Bool
+is_blamed f [] m = false
+is_blamed f (x ∷ xs) m = is_node (option_map node_of (blamed f x.part)) m || is_blamed f xs m
+
+-- the file of a data block, if the block was also passed over
+abbrev pub sharing : List Bool → DataBlock → Option ℕ
+sharing avoided d = cond (slice_index_or avoided d.block false) (Some d.node) None
+
+-- whether a data block of the file was also passed over
+abbrev pub is_sharing : List Bool → List DataBlock → ℕ → Bool
+is_sharing avoided [] m = false
+is_sharing avoided (d ∷ ds) m = is_node (sharing avoided d) m || is_sharing avoided ds m
+
+-- whether that makes the file unsound: only FFS, as an OFS data block identifies its file
+abbrev pub is_doubtful : Kind → Found → ℕ → Bool
+is_doubtful Ofs f m = false
+is_doubtful Ffs f m = is_sharing f.avoided.items f.datas.items m
+
+-- whether the node has a mark
+abbrev pub has_mark : List Bool → ℕ → Bool
+has_mark marks m = slice_index_or marks m false
+
+-- whether the node exists and no finding concerns it
+abbrev pub is_clear : List ℕ → Found → ℕ → Bool
+is_clear image f m =
+    nat_lt m (length f.nodes.items) && (not (is_blamed f f.findings.items m) && not (is_doubtful (kind_of image) f m))

@@ -1,0 +1,53 @@
+-- Sound entries.
+-- Letters: w the walk of a survey, fs its findings; n an entry's node, h its header's block, g its position; up its
+-- directory's block; q, r roles; b the block of one; a, i the block and the word that point to it; k a part's number.
+use Rattle.std.specs.Prelude.{◌≡◌, ◌<◌, ◌≤◌, ◌/◌, ◌↔◌, ℕ, List, Some}
+use Rattle.std.proofs.Common.{suc}
+use Rattle.adf_blocks.specs.declared.layout.TheConstants.{POINTERS, SIZE}
+use Rattle.adf_volume.specs.Demands.{AllHold, data_demands, ext_demands}
+use Rattle.adf_tree.specs.declared.entry.Kind.TheVariants.{Ffs}
+use Rattle.adf_volume.specs.Lists.{At, In}
+use Rattle.adf_volume.specs.Made.{datas_in}
+use Rattle.adf_volume.specs.Image.{held, kind_of, table_word, word_in}
+use Rattle.adf_volume.specs.Walk.{Role, Same, Has, HeadAt, NodeAt, MemberAt, data_count, Asks}
+use Rattle.adf_volume.specs.Walk.Role.{Head, Ext, Data}
+use Rattle.adf_findings.specs.Demands.{head_demands_in}
+use Rattle.adf_findings.specs.Survey.{FindingValue}
+
+-- no finding concerns the part
+abbrev pub IsUnnoted : List FindingValue → Role → Type 0
+IsUnnoted fs r = (f : FindingValue) (q : Role) → In fs f → f.part ≡ Some q → Same q r → ⊥
+
+-- The header of the entry is in the walk, and no finding concerns it or an extension or data block of the entry. Of a directory, each
+-- header that a finding concerns was taken, so that no chain of it is broken.
+-- An FFS data block does not identify its file, so no other part may ask for its block.
+pub record IsSound (image : List ℕ) (w : List (Role × ℕ)) (fs : List FindingValue) (n h : ℕ) : Type 0 where
+  pub header : HeadAt w n h
+  pub unnoted : IsUnnoted fs (Head n header.parent header.slot header.place)
+  pub exts : (k : ℕ) → IsUnnoted fs (Ext n k)
+  pub datas : (k : ℕ) → IsUnnoted fs (Data n k)
+  pub chains : (f : FindingValue) (m s j : ℕ) → In fs f → f.part ≡ Some (Head m n s j) → (b : ℕ) × Has w (Head m n s j) b
+  pub alone : kind_of image ≡ Ffs → (k b : ℕ) → Has w (Data n k) b → (q : Role) (a i : ℕ) → Asks image w q a i → word_in image a i ≡ b → Same q (Data n k)
+
+-- the header of the entry, at block h, has its form in its chain
+abbrev pub HeaderHolds : List ℕ → List (Role × ℕ) → ℕ → ℕ → Type 0
+HeaderHolds image w n h = (g : HeadAt w n h) (up : ℕ) → NodeAt w g.parent up → AllHold (head_demands_in image (kind_of image) h up g.slot)
+
+-- the block that data block k of the file names as the next one: that of data block k + 1 if the size asks for one more, else 0
+pub record IsNextData (image : List ℕ) (w : List (Role × ℕ)) (n h k next : ℕ) : Type 0 where
+  pub inner : k < data_count image h → Has w (Data n (suc k)) next
+  pub last : data_count image h ≤ k → next ≡ 0
+
+-- Each data block, by the size of the file, is in the walk, at the block in the table;
+-- its extension blocks and data blocks have their forms, the latter with the next data block.
+pub record FileHolds (image : List ℕ) (w : List (Role × ℕ)) (n h : ℕ) : Type 0 where
+  pub named : (k : ℕ) → k < data_count image h
+      → (a b : ℕ) × MemberAt image w n (k / POINTERS) a × (word_in image a (table_word k) ≡ b) × Has w (Data n (suc k)) b
+  pub exts : (k b : ℕ) → Has w (Ext n k) b → AllHold (ext_demands image b h)
+  pub datas : (k b : ℕ) → Has w (Data n (suc k)) b
+      → (next : ℕ) × IsNextData image w n h (suc k) next
+      × AllHold (data_demands image (kind_of image) b h (suc k) (held (kind_of image) (word_in image h SIZE) (suc k)) next)
+
+-- data block k + 1 of the file, counted from 1, is at index k of those in the walk
+abbrev pub DatasInOrder : List (Role × ℕ) → ℕ → Type 0
+DatasInOrder w n = (k b : ℕ) → At (datas_in w n) k b ↔ Has w (Data n (suc k)) b

@@ -1,0 +1,63 @@
+-- The results of a survey.
+-- Letters: v a result; w, fs the walk and the findings of the survey; k the index of a finding; n a node.
+use Rattle.std.specs.Prelude.{◌≡◌, ◌≤◌, ◌-◌, ◌==◌, ◌↔◌, ℕ, Bool, true, cond, List, Option, Some, None, length, map, slice_get, slice_index, slice_index_or}
+use Rattle.std.specs.Option.{option_flatten}
+use Rattle.adf_volume.specs.Walk.{Role, heads, node_block}
+use Rattle.adf_findings.specs.declared.concern.Concern.{Concern}
+use Rattle.adf_findings.specs.declared.part.Finding.{Finding}
+use Rattle.adf_findings.specs.Concerned.{concern_of_nth, is_taken}
+use Rattle.adf_findings.specs.Files.{grave}
+use Rattle.adf_findings.specs.Found.{owner, parent_node}
+use Rattle.adf_findings.specs.Marks.{has_mark}
+use Rattle.adf_findings.specs.Parts.{finding_value}
+use Rattle.adf_findings.specs.Sound.{IsSound}
+use Rattle.adf_findings.specs.Survey.{FindingValue, IsSurvey}
+
+-- the result: the findings and what they concern; the entry of each block; for each node its block, its parent, whether
+-- it is sound, and whether it is but for harmless findings of headers
+pub record Surveyed : Type 0 where
+  pub image : List ℕ
+  pub findings : List Finding
+  pub concerned : List (Option Concern)
+  pub owners : List ℕ
+  pub nodes : List ℕ
+  pub parents : List ℕ
+  pub sound : List Bool
+  pub whole : List Bool
+
+-- the result from its parts
+abbrev pub kept_of : List ℕ → List Finding → List (Option Concern) → List ℕ → List ℕ → List ℕ → List Bool → List Bool → Surveyed
+kept_of image findings concerned owners nodes parents sound whole = record {
+  image = image;
+  findings = findings;
+  concerned = concerned;
+  owners = owners;
+  nodes = nodes;
+  parents = parents;
+  sound = sound;
+  whole = whole;
+}
+
+-- the entry of a block by the numbers kept of blocks; none for 0
+abbrev pub owner_at : List ℕ → ℕ → Option ℕ
+owner_at owners b = cond (slice_index_or owners b 0 == 0) None (Some (slice_index_or owners b 0))
+
+-- the entry of the block of a finding that it is taken
+abbrev pub owner_for : List ℕ → Finding → Option ℕ
+owner_for owners f = cond (is_taken f.cause) (owner_at owners f.block) None
+
+-- the result is that of this walk and these findings
+pub record TellsOf (v : Surveyed) (w : List (Role × ℕ)) (fs : List FindingValue) : Type 0 where
+  pub survey : IsSurvey v.image w fs
+  pub findings : map finding_value v.findings ≡ fs
+  pub concerned : (k : ℕ) → option_flatten (slice_get v.concerned k) ≡ concern_of_nth w fs k
+  pub owner : (b : ℕ) → owner_at v.owners b ≡ owner w b
+  pub node : (n : ℕ) → slice_index v.nodes n ≡ node_block w n
+  pub parent : (n : ℕ) → slice_index v.parents n ≡ parent_node w n
+  pub count : length v.nodes - 1 ≡ heads w
+  pub sound : (n : ℕ) → 1 ≤ n → (has_mark v.sound n ≡ true) ↔ IsSound v.image w fs n (node_block w n)
+  pub whole : (n : ℕ) → 1 ≤ n → (has_mark v.whole n ≡ true) ↔ IsSound v.image w (grave fs) n (node_block w n)
+
+-- the result is that of a survey
+abbrev pub IsOfSurvey : Surveyed → Type 0
+IsOfSurvey v = (w : List (Role × ℕ)) × (fs : List FindingValue) × TellsOf v w fs

@@ -1,0 +1,119 @@
+// Comparison of the bitmap with the blocks that are owned.
+
+ghost use Rattle.std.specs.Prelude.{◌≡◌, ◌≤◌, ◌<◌, ◌+◌, ◌-◌, ◌/◌, ◌%◌, ◌||◌, ◌↔◌, List, false, length, slice_index_or, IsTrue, OnOk};
+ghost use Rattle.adf_blocks.specs.declared.layout.TheConstants.{PAGE_BITS};
+ghost use Rattle.adf_blocks.specs.Sizes.{blocks};
+ghost use Rattle.adf_findings.specs.Survey.{Course, FindingValue, IsCourse, IsValidated, is_cache};
+ghost use Rattle.adf_findings.specs.Found.{BitTells, IsBitOf, IsCompleted, IsFinished, IsToldOn, Stands, cause_told};
+
+use crate::found::Found;
+use crate::image::Image;
+use crate::part::{Finding, Part};
+use adf_blocks::{
+    BITMAP_FLAG, Cause, OWN_KEY, PAGE_FIRST, T_DIR_CACHE, TYPE, VALID, is_set, place_of,
+};
+use adf_fields::NoMemory;
+
+// Whether the bitmap flag of the root is that of a valid bitmap.
+fn is_validated(image: &Image<'_>) -> bool
+    ensures { IsTrue result ↔ IsValidated image.now }
+{
+    image.word(image.root(), BITMAP_FLAG) == VALID
+}
+
+// A bit of a page; `None` if the page was not taken.
+fn bit_of(image: &Image<'_>, found: &Found, page: u32, bit: u32) -> Option<bool>
+    requires { bit < PAGE_BITS }
+    ensures { IsBitOf image.now found.now page bit result }
+{
+    let key = Part::Page(page).key();
+    match found.taken.get(&key) {
+        Some(at) => {
+            let word = image.word(*at, PAGE_FIRST + bit as usize / 32);
+            Some(is_set(word, bit % 32))
+        }
+        None => None,
+    }
+}
+
+// Whether a block says that it is a directory cache, on a volume that has them.
+fn is_cache(image: &Image<'_>, b: u32) -> bool
+    ensures { result ≡ is_cache image.now b }
+{
+    image.has_caches() && image.word(b, TYPE) == T_DIR_CACHE && image.word(b, OWN_KEY) == b
+}
+
+// Whether a block without an owner has an excuse: it was passed over, or is a directory cache.
+fn is_excused(image: &Image<'_>, found: &Found, b: u32) -> bool
+    ensures { result ≡ (slice_index_or found.now.avoided.items b false || is_cache image.now b) }
+{
+    found.avoided.get(b as usize).copied().unwrap_or(false) || is_cache(image, b)
+}
+
+// The cause of a bit that disagrees: a block in use without an owner and without an excuse, or owned and free.
+fn cause_told(is_owned: bool, is_excused: bool, is_free: bool) -> Option<Cause>
+    ensures { result ≡ cause_told is_owned is_excused is_free }
+{
+    match (is_owned, is_free) {
+        (false, false) if !is_excused => Some(Cause::LostBlock),
+        (true, true) => Some(Cause::OwnedFree),
+        _ => None,
+    }
+}
+
+// The cause of the bit of block `b`, if it disagrees.
+#[tactic(auto, using(crate::proofs::BitSteps::no_page, crate::proofs::BitSteps::page_tells))]
+fn cause_of_bit(image: &Image<'_>, found: &Found, b: u32) -> Option<Cause>
+    requires low { 2 ≤ b }
+    requires inside { b < blocks image.now }
+    requires owned { length found.now.owned.items ≡ blocks image.now }
+    ensures { (s : Course) (fs : List FindingValue) → IsCourse image.now s
+        → Stands image.now found.now
+        (record { walk = s.walk; passed_over = s.passed_over; findings = fs })
+        → BitTells image.now s b result }
+{
+    if !is_validated(image) {
+        return None;
+    }
+    let (page, bit) = place_of(b);
+    match bit_of(image, found, page, bit) {
+        Some(is_free) => {
+            cause_told(
+                found.owned[b as usize],
+                is_excused(image, found, b),
+                is_free,
+            )
+        }
+        None => None,
+    }
+}
+
+// Compares the bit of block `b`, and notes a finding if it disagrees.
+fn compare_bit(image: &Image<'_>, found: &mut Found, b: u32) -> Result<(), NoMemory>
+    requires low { 2 ≤ b }
+    requires inside { b < blocks image.now }
+    requires told { IsToldOn image.now found.old b }
+    ensures { OnOk result (IsToldOn image.now found.new (b + 1)) }
+{
+    match cause_of_bit(image, found, b) {
+        Some(cause) => found.note(Finding {
+            part: None,
+            block: b,
+            cause,
+        }),
+        None => Ok(()),
+    }
+}
+
+/// If the bitmap is valid, compares the bit of each block with its owner. Skips a block if its page was not taken, or
+/// if it has no owner and was passed over or is a directory cache.
+#[tactic(auto, using(crate::proofs::BitSteps::told_first, crate::proofs::BitSteps::told_last))]
+pub fn compare(image: &Image<'_>, found: &mut Found) -> Result<(), NoMemory>
+    requires { IsFinished image.now found.old }
+    ensures { OnOk result (IsCompleted image.now found.new) }
+{
+    for b in 2..image.blocks() {
+        compare_bit(image, found, b)?;
+    }
+    Ok(())
+}

@@ -1,0 +1,272 @@
+// The course of a survey: the pages of the bitmap, then the nodes in order; for a directory its chains, for a file its
+// extension blocks, then its data blocks.
+
+ghost use Rattle.std.specs.Prelude.{◌≡◌, ◌<◌, ◌≤◌, ◌+◌, ◌^◌, IfOk, IfSome, OnOk, Some, length};
+ghost use Rattle.adf_blocks.specs.declared.layout.TheConstants.{SLOTS};
+ghost use Rattle.adf_blocks.specs.Sizes.{blocks, pages_needed};
+ghost use Rattle.adf_volume.specs.Image.{root_of};
+ghost use Rattle.adf_volume.specs.Positions.{before_node, position_of, word_of_map_ext, word_of_page};
+ghost use Rattle.adf_findings.specs.Survey.{Course};
+ghost use Rattle.adf_findings.specs.Parts.{role_of};
+ghost use Rattle.adf_findings.specs.Found.{IsFinished};
+ghost use Rattle.adf_findings.specs.Courses.{HasReached, HasReachedData, HasReachedFile, HasReachedPage, HasReachedPart};
+ghost use Rattle.adf_findings.specs.Courses.{HasReachedSlot, Holds, IsGoneOn, IsNamed, IsNextAsk, IsOutcome, IsPageNamed};
+
+use crate::found::Found;
+use crate::image::Image;
+use crate::judge::{Judgement, judge};
+use crate::part::{Finding, Part};
+use adf_blocks::{
+    Cause, EXTENSION, FIRST_MAP_EXT, FIRST_PAGE, FIRST_POINTER, FIRST_SLOT, MAP_EXT_NEXT,
+    MAP_EXT_PAGES, NEXT_IN_CHAIN, POINTERS, ROOT_PAGES, SECONDARY_TYPE, SLOTS, ST_DIR, ST_FILE,
+    page_count,
+};
+use adf_fields::NoMemory;
+
+/// A part that is next, a header with any number; the block that points to it; and its own block.
+#[derive(Clone, Copy, PartialEq, Eq, Drop)]
+pub struct Ask {
+    pub part: Part,
+    pub holder: u32,
+    pub block: u32,
+}
+
+// A finding of a part.
+fn of_part(part: Part, block: u32, cause: Cause) -> Finding
+    ensures { result ≡ record { part = Some part; block = block; cause = cause } }
+{
+    Finding {
+        part: Some(part),
+        block,
+        cause,
+    }
+}
+
+// Judges the part that is next and notes its cause. Returns the part if it is to be taken, `None` if passed over.
+fn judge_next(image: &Image<'_>, found: &mut Found, ask: &Ask) -> Result<Option<Part>, NoMemory>
+    requires { length found.old.nodes.items < 2 ^ 32 }
+    ensures { IfOk result (λ o. (s : Course) → Holds image.now found.old (position_of (role_of ask.now.part)) s
+        → IsNextAsk image.now s ask.now
+        → IsOutcome image.now s ask.now found.old found.new o) }
+{
+    let b = ask.block;
+    let part = ask.part.numbered(found.nodes.len() as u32);
+    let facts = found.facts(image, part, b)?;
+    match judge(image, part, ask.holder, b, &facts) {
+        Judgement::Clean => Ok(Some(part)),
+        Judgement::Noted(at, cause) => {
+            found.note(of_part(part, at, cause))?;
+            Ok(Some(part))
+        }
+        Judgement::Passed(at, cause) => {
+            found.note(of_part(part, at, cause))?;
+            found.pass(b);
+            Ok(None)
+        }
+    }
+}
+
+// Judges and takes a part that word `i` of block `holder` points to; returns its block, `None` if it is passed over.
+fn go_on(
+    image: &Image<'_>,
+    found: &mut Found,
+    part: Part,
+    holder: u32,
+    i: usize,
+) -> Result<Option<u32>, NoMemory>
+    requires word { i < 128 }
+    requires due { HasReachedPart image.now found.old part holder i }
+    ensures gone { IfOk result (λ o. (s : Course) → IsNamed image.now found.old part holder i s
+        → IsGoneOn image.now s part holder i found.new o) }
+    ensures left { IfOk result (λ o. IfSome o (λ b. found.new.left < found.old.left)) }
+{
+    let ask = Ask {
+        part,
+        holder,
+        block: image.word(holder, i),
+    };
+    match judge_next(image, found, &ask)? {
+        Some(part) => {
+            found.take(image, part, ask.block)?;
+            Ok(Some(ask.block))
+        }
+        None => Ok(None),
+    }
+}
+
+// The word that points to a page, in the root or in a bitmap extension block.
+fn page_word(page: u32) -> usize
+    ensures named { result ≡ word_of_page page }
+    ensures inside { result < 128 }
+{
+    let page = page as usize;
+    if page < ROOT_PAGES {
+        FIRST_PAGE + page
+    } else {
+        (page - ROOT_PAGES) % MAP_EXT_PAGES
+    }
+}
+
+// The word that points to the bitmap extension block before a page, in the root or in the extension block before.
+fn map_ext_word(page: u32) -> usize
+    ensures named { result ≡ word_of_map_ext page }
+    ensures inside { result < 128 }
+{
+    if page as usize == ROOT_PAGES {
+        FIRST_MAP_EXT
+    } else {
+        MAP_EXT_NEXT
+    }
+}
+
+// The block that points to a page: the one that points to the page before, or the next bitmap extension block; `None`
+// if that is passed over.
+fn holder_of(
+    image: &Image<'_>,
+    found: &mut Found,
+    page: u32,
+    before: u32,
+) -> Result<Option<u32>, NoMemory>
+    requires some { page < pages_needed (blocks image.now) }
+    requires at { HasReachedPage image.now found.old page before }
+    ensures { IfOk result (λ o. IsPageNamed image.now found.new page o) }
+{
+    let first = ROOT_PAGES as u32;
+    let pages = MAP_EXT_PAGES as u32;
+    if page < first || (page - first) % pages != 0 {
+        return Ok(Some(before));
+    }
+    let part = Part::MapExt((page - first) / pages);
+    let holder = go_on(image, found, part, before, map_ext_word(page))?;
+    Ok(holder)
+}
+
+// Visits the pages of the bitmap and the bitmap extension blocks.
+fn go_through_map(image: &Image<'_>, found: &mut Found) -> Result<(), NoMemory>
+    requires { HasReachedPage image.now found.old 0 (root_of image.now) }
+    ensures { OnOk result (HasReached image.now found.new (before_node 0)) }
+{
+    let mut holder = image.root();
+    for page in 0..page_count(image.blocks()) {
+        match holder_of(image, found, page, holder)? {
+            Some(at) => holder = at,
+            None => return Ok(()),
+        }
+        go_on(image, found, Part::Page(page), holder, page_word(page))?;
+    }
+    Ok(())
+}
+
+// Visits the chain of a slot of a directory.
+fn go_through_chain(
+    image: &Image<'_>,
+    found: &mut Found,
+    parent: u32,
+    slot: u8,
+    b: u32,
+) -> Result<(), NoMemory>
+    requires slot { slot < SLOTS }
+    requires at { HasReachedSlot image.now found.old parent slot b }
+    ensures { OnOk result (HasReachedSlot image.now found.new parent (slot + 1) b) }
+{
+    let mut holder = b;
+    let mut i = FIRST_SLOT + slot as usize;
+    let mut place = 0;
+    while image.word(holder, i) != 0 {
+        let part = Part::Head {
+            node: 0,
+            parent,
+            slot,
+            place,
+        };
+        match go_on(image, found, part, holder, i)? {
+            Some(header) => holder = header,
+            None => return Ok(()),
+        }
+        i = NEXT_IN_CHAIN;
+        place += 1;
+    }
+    Ok(())
+}
+
+// Visits the chains of the directory at block `b`.
+fn go_through_dir(image: &Image<'_>, found: &mut Found, node: u32, b: u32) -> Result<(), NoMemory>
+    requires { HasReachedSlot image.now found.old node 0 b }
+    ensures { OnOk result (HasReached image.now found.new (before_node (node + 1))) }
+{
+    for slot in 0..SLOTS as u8 {
+        go_through_chain(image, found, node, slot, b)?;
+    }
+    Ok(())
+}
+
+// Visits the extension blocks of a file, with its header at block `b`; returns how many are taken.
+fn go_through_exts(image: &Image<'_>, found: &mut Found, node: u32, b: u32) -> Result<u32, NoMemory>
+    requires { HasReachedFile image.now found.old node b }
+    ensures datas { IfOk result (λ exts. HasReachedData image.now found.new node b exts 0) }
+    ensures few { IfOk result (λ exts. exts ≤ 1048576) }
+{
+    let mut holder = b;
+    let mut exts = 0;
+    while image.word(holder, EXTENSION) != 0 {
+        match go_on(image, found, Part::Ext(node, exts + 1), holder, EXTENSION)? {
+            Some(ext) => holder = ext,
+            None => return Ok(exts),
+        }
+        exts += 1;
+    }
+    Ok(exts)
+}
+
+// Visits the data blocks of a file, with its header at block `b` and this many extension blocks.
+fn go_through_datas(
+    image: &Image<'_>,
+    found: &mut Found,
+    node: u32,
+    b: u32,
+    exts: u32,
+) -> Result<(), NoMemory>
+    requires few { exts ≤ 1048576 }
+    requires at { HasReachedData image.now found.old node b exts 0 }
+    ensures { OnOk result (HasReached image.now found.new (before_node (node + 1))) }
+{
+    let pointers = POINTERS as u32;
+    for k in 0..found.data_count(image, b).min(pointers * (exts + 1)) {
+        let table = found.member_block(node, k / pointers);
+        let i = FIRST_POINTER - (k % pointers) as usize;
+        go_on(image, found, Part::Data(node, k + 1), table, i)?;
+    }
+    Ok(())
+}
+
+// Visits the parts of a node: the chains of a directory, or the blocks of a file.
+fn go_through_node(image: &Image<'_>, found: &mut Found, node: u32) -> Result<(), NoMemory>
+    requires some { node < length found.old.nodes.items }
+    requires at { HasReached image.now found.old (before_node node) }
+    ensures { OnOk result (HasReached image.now found.new (before_node (node + 1))) }
+{
+    let b = found.node_block(node);
+    let kind = image.word(b, SECONDARY_TYPE);
+    if node == 0 || kind == ST_DIR {
+        go_through_dir(image, found, node, b)
+    } else if kind == ST_FILE {
+        let exts = go_through_exts(image, found, node, b)?;
+        go_through_datas(image, found, node, b, exts)
+    } else {
+        Ok(())
+    }
+}
+
+/// Visits the parts of a volume, until none is next.
+pub fn run(image: &Image<'_>, found: &mut Found) -> Result<(), NoMemory>
+    requires { HasReachedPage image.now found.old 0 (root_of image.now) }
+    ensures { OnOk result (IsFinished image.now found.new) }
+{
+    go_through_map(image, found)?;
+    let mut node = 0;
+    while (node as usize) < found.nodes.len() {
+        go_through_node(image, found, node)?;
+        node += 1;
+    }
+    Ok(())
+}

@@ -1,0 +1,143 @@
+// The forms of parts.
+
+ghost use Rattle.std.specs.Prelude.{◌≡◌, ◌<◌, ◌≤◌, ◌==◌, ◌&&◌, true};
+ghost use Rattle.adf_fields.specs.Hash.{slot_by, slot_of};
+ghost use Rattle.adf_fields.specs.Words.{block, word};
+ghost use Rattle.adf_blocks.specs.Forms.{first_cause, text_at};
+ghost use Rattle.adf_blocks.specs.HeadBlock.{is_name_at};
+ghost use Rattle.adf_blocks.specs.Sizes.{blocks, chunk};
+ghost use Rattle.adf_volume.specs.Image.{held, kind_of};
+ghost use Rattle.adf_findings.specs.Demands.{head_form_in};
+ghost use Rattle.adf_findings.specs.Forms.{form_of, itself_by};
+ghost use Rattle.adf_findings.specs.Parts.{role_of};
+
+use crate::image::Image;
+use crate::part::Part;
+use adf_blocks::{
+    Cause, NAME, OWN_KEY, PARENT, SIZE, SLOTS, T_DATA, TYPE, chunk_len, has_data_words,
+    has_ext_type, has_head_type, read_data, read_ext, read_head, read_page,
+};
+use adf_fields::{Block, Letters, slot as slot_of_name, slot_by};
+use adf_tree::Kind;
+use adf_volume::held_in;
+
+// A number that is no slot.
+const NO_SLOT: u8 = SLOTS as u8;
+
+/// The context of a part: the block of its directory or of its file's header, and the next data block.
+#[derive(Clone, Copy, PartialEq, Eq, Drop)]
+pub struct Around {
+    pub up: u32,
+    pub next: u32,
+}
+
+// The first cause of block `b` in the form of data block `number` of a file.
+#[tactic(auto, unfolding(adf_blocks::specs::Sizes::chunk))]
+fn cause_of_data(image: &Image<'_>, number: u32, b: u32, around: Around) -> Option<Cause>
+    requires { b < blocks image.now }
+    ensures { result ≡ first_cause (form_of image.now (Part.Data 0 number) b around) }
+{
+    match image.kind() {
+        Kind::Ffs => None,
+        Kind::Ofs => {
+            let held = held_in(Kind::Ofs, image.word(around.up, SIZE), number);
+            match read_data(image.block(b), around.up, number, held, around.next) {
+                Ok(_) => None,
+                Err(cause) => Some(cause),
+            }
+        }
+    }
+}
+
+// The slot to ask `read_head` for, which hashes names by ASCII letters: that of the name if its slot by these letters
+// is the wanted one, otherwise one that no name has.
+fn slot_asked(letters: Letters, b: &Block<'_>, slot: u8) -> u8
+    ensures { is_name_at b.now NAME ≡ true → (slot_of (text_at b.now NAME) == result)
+        ≡ (slot_by letters (text_at b.now NAME) == slot) }
+{
+    let len = b.byte(NAME) as usize;
+    if letters == Letters::Ascii || len > 30 {
+        return slot;
+    }
+    let name = b.bytes(NAME + 1, len);
+    if slot_by(letters, name) == slot {
+        slot_of_name(name)
+    } else {
+        NO_SLOT
+    }
+}
+
+// The first cause of block `b` in the form of a header in the chain of a slot.
+fn cause_of_head(image: &Image<'_>, slot: u8, b: u32, up: u32) -> Option<Cause>
+    requires { b < blocks image.now }
+    ensures { result
+        ≡ first_cause (head_form_in image.now (kind_of image.now) b up slot (block image.now b)) }
+{
+    let block = image.block(b);
+    let asked = slot_asked(image.letters(), &block, slot);
+    match read_head(block, image.kind(), b, up, asked) {
+        Ok(_) => None,
+        Err(cause) => Some(cause),
+    }
+}
+
+/// The first cause of block `b` in the form of the part.
+pub fn first_cause(image: &Image<'_>, part: Part, b: u32, around: Around) -> Option<Cause>
+    requires { b < blocks image.now }
+    ensures { result ≡ first_cause (form_of image.now part b around) }
+{
+    let block = image.block(b);
+    match part {
+        Part::Root | Part::MapExt(_) => None,
+        Part::Page(_) => match read_page(block) {
+            Ok(_) => None,
+            Err(cause) => Some(cause),
+        },
+        Part::Head { slot, .. } => cause_of_head(image, slot, b, around.up),
+        Part::Ext(_, _) => match read_ext(block, b, around.up) {
+            Ok(_) => None,
+            Err(cause) => Some(cause),
+        },
+        Part::Data(_, k) => cause_of_data(image, k, b, around),
+    }
+}
+
+// Whether the block's own key and parent are these.
+fn is_keyed(b: &Block<'_>, own: u32, up: u32) -> bool
+    ensures { result ≡ ((word b.now OWN_KEY == own) && (word b.now PARENT == up)) }
+{
+    b.word(OWN_KEY) == own && b.word(PARENT) == up
+}
+
+// Whether the fields of block `b` identify it as data block `number` of a file.
+fn is_data_itself(image: &Image<'_>, number: u32, b: u32, around: Around) -> bool
+    requires { b < blocks image.now }
+    ensures { result
+        ≡ itself_by (role_of (Part.Data 0 number))
+        (form_of image.now (Part.Data 0 number) b around) }
+{
+    match image.kind() {
+        Kind::Ffs => true,
+        Kind::Ofs => {
+            let held = held_in(Kind::Ofs, image.word(around.up, SIZE), number);
+            let block = image.block(b);
+            block.word(TYPE) == T_DATA
+                && has_data_words(&block, around.up, number, held, around.next)
+        }
+    }
+}
+
+/// Whether the fields of block `b` identify it as the part; for a page, whether its form holds.
+pub fn is_itself(image: &Image<'_>, part: Part, b: u32, around: Around) -> bool
+    requires { b < blocks image.now }
+    ensures { result ≡ itself_by (role_of part) (form_of image.now part b around) }
+{
+    let block = image.block(b);
+    match part {
+        Part::Root | Part::MapExt(_) => true,
+        Part::Page(_) => block.long_sum() == 0,
+        Part::Head { .. } => has_head_type(&block) && is_keyed(&block, b, around.up),
+        Part::Ext(_, _) => has_ext_type(&block) && is_keyed(&block, b, around.up),
+        Part::Data(_, k) => is_data_itself(image, k, b, around),
+    }
+}

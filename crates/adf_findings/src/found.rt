@@ -1,0 +1,367 @@
+// The state of a survey.
+
+ghost use Rattle.std.specs.Prelude.{◌≡◌, ◌≤◌, ◌<◌, ◌+◌, ℕ, List, [], ◌∷◌, ◌++◌, IfOk, OnOk, Some, None};
+ghost use Rattle.std.specs.Prelude.{length, false, true, not, set, slice_index, slice_index_or, slice_set, map};
+ghost use Rattle.std.specs.Ordering.{nat_cmp};
+ghost use Rattle.std.specs.BTreeMap.{Updates};
+ghost use Rattle.std.specs.BTreeSet.{contains};
+ghost use Rattle.adf_findings.specs.Demands.{uppers_in};
+ghost use Rattle.adf_blocks.specs.Sizes.{blocks};
+ghost use Rattle.adf_volume.specs.Image.{name_of, root_of, word_in};
+ghost use Rattle.adf_volume.specs.Positions.{position_of};
+ghost use Rattle.adf_volume.specs.Walk.{Role, data_count};
+ghost use Rattle.adf_findings.specs.Parts.{by_key, finding_value, role_of};
+ghost use Rattle.adf_findings.specs.Found.{AreNamed, AreSame, Stands, IsChain, IsKept, IsNoted, IsOwned, IsPassed};
+ghost use Rattle.adf_findings.specs.Found.{IsPut, IsTaken, KeepsParts, around_in, by_name, enough_in, entry_number};
+ghost use Rattle.adf_findings.specs.Found.{exts_found, known_at, member_in, new_in, next_in, with_data};
+ghost use Rattle.adf_findings.specs.Survey.{begun};
+ghost use Rattle.std.specs.Global.{Vec};
+
+use crate::forms::Around;
+use crate::header_name::name_in;
+use crate::image::Image;
+use crate::judge::Facts;
+use crate::part::{Finding, Key, Part};
+use adf_blocks::{FIRST_POINTER, POINTERS, SIZE};
+use adf_fields::{NoMemory, upper_by};
+use adf_volume::count_of;
+use std::alloc::Global;
+use std::collections::{BTreeMap, BTreeSet};
+
+/// A data block that is taken: the node of its file, and its block.
+#[derive(Clone, Copy, PartialEq, Eq, Drop)]
+pub struct DataBlock {
+    pub node: u32,
+    pub block: u32,
+}
+
+/// The position of a header in its directory: the slot, and the index in the slot's chain.
+#[derive(Clone, Copy, PartialEq, Eq, Drop)]
+pub struct ChainPlace {
+    pub slot: u8,
+    pub place: u32,
+}
+
+/// The state of a survey: the blocks of the taken parts by key, except headers and data blocks; for each block whether
+/// it is taken, the node of the entry that it belongs to (0 if there is none), and whether it was passed over; the
+/// number of blocks not taken; the blocks of nodes; the number of extension blocks of each file; the names in the
+/// current chain; the findings; the parents of nodes; the positions of headers, from node 1 on; and the data blocks.
+#[derive(Drop)]
+pub struct Found {
+    pub taken: BTreeMap<Key, u32>,
+    pub owned: Vec<bool>,
+    pub owners: Vec<u32>,
+    pub avoided: Vec<bool>,
+    pub left: u32,
+    pub nodes: Vec<u32>,
+    pub exts: BTreeMap<u32, u32>,
+    pub names: BTreeSet<Vec<u8>>,
+    pub findings: Vec<Finding>,
+    pub parents: Vec<u32>,
+    pub places: Vec<ChainPlace>,
+    pub datas: Vec<DataBlock>,
+}
+
+// The name of the header at block `b`, in upper case.
+#[tactic(auto, using(crate::proofs::Names::cut_name))]
+fn upper_name(alloc: Global, image: &Image<'_>, b: u32) -> Result<Vec<u8>, NoMemory>
+    requires { b < blocks image.now }
+    ensures { IfOk result (λ v. v.items ≡ uppers_in image.now (name_of image.now b)) }
+{
+    let letters = image.letters();
+    let head = image.block(b);
+    let mut name = Vec::new(alloc);
+    for c in name_in(&head) {
+        if name.push(upper_by(letters, *c)).is_err() {
+            return Err(NoMemory);
+        }
+    }
+    Ok(name)
+}
+
+// Adds an entry to a map.
+fn put(map: &mut BTreeMap<Key, u32>, key: Key, block: u32) -> Result<(), NoMemory>
+    ensures { OnOk result (Updates by_key map.old map.new key (Some block)) }
+{
+    match map.insert(key, block) {
+        Ok(_) => Ok(()),
+        Err(_) => Err(NoMemory),
+    }
+}
+
+impl Found {
+    /// The state with nothing but the root.
+    #[tactic(auto, using(crate::proofs::Begun::stands_begun))]
+    pub fn begin(alloc: Global, image: &Image<'_>) -> Result<Found, NoMemory>
+        ensures stands { IfOk result (λ f. Stands image.now f (begun image.now [])) }
+        ensures few { blocks image.now ≤ 1048576 }
+        ensures left { IfOk result (λ f. f.left + 1 ≡ blocks image.now) }
+    {
+        let root = image.root();
+        let blocks = image.blocks();
+        let Ok(owned) = vec![in alloc; false; blocks as usize] else {
+            return Err(NoMemory);
+        };
+        let Ok(owners) = vec![in alloc; 0u32; blocks as usize] else {
+            return Err(NoMemory);
+        };
+        let Ok(avoided) = vec![in alloc; false; blocks as usize] else {
+            return Err(NoMemory);
+        };
+        let Ok(parents) = vec![in alloc; 0u32; 1] else {
+            return Err(NoMemory);
+        };
+        let mut found = Found {
+            taken: BTreeMap::new(alloc),
+            owned,
+            owners,
+            avoided,
+            left: blocks,
+            nodes: Vec::new(alloc),
+            exts: BTreeMap::new(alloc),
+            names: BTreeSet::new(alloc),
+            findings: Vec::new(alloc),
+            parents,
+            places: Vec::new(alloc),
+            datas: Vec::new(alloc),
+        };
+        found.own(Part::Root, root)?;
+        match found.nodes.push(root) {
+            Ok(()) => Ok(found),
+            Err(_) => Err(NoMemory),
+        }
+    }
+
+    // The block of a node; 0 if there is none.
+    pub fn node_block(&self, node: u32) -> u32
+        ensures { result ≡ slice_index self.now.nodes.items node }
+    {
+        self.nodes.get(node as usize).copied().unwrap_or(0)
+    }
+
+    // The number of extension blocks taken for a file.
+    fn ext_count(&self, node: u32) -> u32
+        ensures { result ≡ exts_found self.now node }
+    {
+        self.exts.get(&node).copied().unwrap_or(0)
+    }
+
+    // Block `m` of the table of a file, the header (0) or an extension block; 0 if there is none.
+    pub fn member_block(&self, node: u32, m: u32) -> u32
+        ensures { result ≡ member_in self.now node m }
+    {
+        if m == 0 {
+            return self.node_block(node);
+        }
+        let key = Part::Ext(node, m).key();
+        self.taken.get(&key).copied().unwrap_or(0)
+    }
+
+    // The number of data blocks of the file at block `head`.
+    pub fn data_count(&self, image: &Image<'_>, head: u32) -> u32
+        ensures { result ≡ data_count image.now head }
+    {
+        count_of(image.kind(), image.word(head, SIZE))
+    }
+
+    // The pointer to data block `k + 1` in the table of a file; 0 past the last.
+    fn next_data(&self, image: &Image<'_>, node: u32, k: u32) -> u32
+        ensures { result ≡ next_in image.now self.now node k }
+    {
+        if k >= self.data_count(image, self.node_block(node)) {
+            return 0;
+        }
+        let member = self.member_block(node, k / POINTERS as u32);
+        image.word(member, FIRST_POINTER - k as usize % POINTERS)
+    }
+
+    // The context of a part.
+    pub fn around(&self, image: &Image<'_>, part: Part) -> Around
+        ensures { result ≡ around_in image.now self.now part }
+    {
+        match part {
+            Part::Root | Part::Page(_) | Part::MapExt(_) => Around { up: 0, next: 0 },
+            Part::Head { parent, .. } => Around {
+                up: self.node_block(parent),
+                next: 0,
+            },
+            Part::Ext(node, _) => Around {
+                up: self.node_block(node),
+                next: 0,
+            },
+            Part::Data(node, k) => Around {
+                up: self.node_block(node),
+                next: self.next_data(image, node, k),
+            },
+        }
+    }
+
+    // Whether a file has enough extension blocks, if the part is its first data block.
+    fn is_enough(&self, image: &Image<'_>, part: Part) -> bool
+        ensures { result ≡ enough_in image.now self.now part }
+    {
+        match part {
+            Part::Data(node, 1) => {
+                let count = self.data_count(image, self.node_block(node));
+                u64::from(count) <= POINTERS as u64 * (1 + u64::from(self.ext_count(node)))
+            }
+            _ => true,
+        }
+    }
+
+    // Whether no header of the chain has the name of the one at block `b`, if the part is a header.
+    fn is_new(&self, image: &Image<'_>, part: Part, b: u32) -> Result<bool, NoMemory>
+        requires { b < blocks image.now }
+        ensures { IfOk result (λ t. (w : List (Role × ℕ))
+            → AreNamed image.now w (position_of (role_of part)) self.now.names
+            → IsChain w part → t ≡ new_in image.now w part b) }
+    {
+        let Part::Head { place, .. } = part else {
+            return Ok(true);
+        };
+        if place == 0 {
+            return Ok(true);
+        }
+        let name = upper_name(*self.nodes.allocator(), image, b)?;
+        Ok(!self.names.contains(&name))
+    }
+
+    /// The facts about a part in block `b`.
+    pub fn facts(&self, image: &Image<'_>, part: Part, b: u32) -> Result<Facts, NoMemory>
+        ensures enough { IfOk result (λ f. f.is_enough ≡ enough_in image.now self.now part) }
+        ensures absent { IfOk result (λ f.
+            f.is_absent ≡ not (slice_index_or self.now.owned.items b false)) }
+        ensures new { IfOk result (λ f. b < blocks image.now → (w : List (Role × ℕ))
+            → AreNamed image.now w (position_of (role_of part)) self.now.names
+            → IsChain w part → f.is_new ≡ new_in image.now w part b) }
+        ensures around { IfOk result (λ f. f.around ≡ around_in image.now self.now part) }
+    {
+        let is_new = b >= image.blocks() || self.is_new(image, part, b)?;
+        Ok(Facts {
+            is_enough: self.is_enough(image, part),
+            is_absent: !self.owned.get(b as usize).copied().unwrap_or(false),
+            is_new,
+            around: self.around(image, part),
+        })
+    }
+
+    // Keeps the block of a part by its key; a data block with its file's node, a header with its own node.
+    fn keep_block(&mut self, part: Part, b: u32) -> Result<(), NoMemory>
+        ensures taken { OnOk result (IsPut part b self.old.taken self.new.taken) }
+        ensures datas { OnOk result (self.new.datas.items
+            ≡ with_data (role_of part) b self.old.datas.items) }
+        ensures rest { OnOk result (self.new
+            ≡ record self.old { taken = self.new.taken; datas = self.new.datas }) }
+    {
+        match part {
+            Part::Data(node, _) => {
+                if self.datas.push(DataBlock { node, block: b }).is_err() {
+                    return Err(NoMemory);
+                }
+                Ok(())
+            }
+            Part::Head { .. } => Ok(()),
+            _ => put(&mut self.taken, part.key(), b),
+        }
+    }
+
+    // Keeps the entry that a part belongs to as that of block `b`.
+    fn keep_owner(&mut self, part: Part, b: u32)
+        ensures owners { self.new.owners.items
+            ≡ set self.old.owners.items b (entry_number (role_of part)) }
+        ensures rest { self.new ≡ record self.old { owners = self.new.owners } }
+    {
+        if (b as usize) < self.owners.len() {
+            self.owners[b as usize] = part.entry_number();
+        }
+    }
+
+    // Makes a part the owner of block `b`.
+    fn own(&mut self, part: Part, b: u32) -> Result<(), NoMemory>
+        requires inside { b < length self.old.owned.items }
+        requires some { 1 ≤ self.old.left }
+        ensures owned { OnOk result (IsOwned part b self.old self.new) }
+        ensures rest { OnOk result (AreSame self.old self.new) }
+    {
+        self.keep_block(part, b)?;
+        self.keep_owner(part, b);
+        self.owned[b as usize] = true;
+        self.left -= 1;
+        Ok(())
+    }
+
+    // Clears the names at the first position of a chain.
+    fn begin_names(&mut self, place: u32)
+        ensures names { (q : Vec ℕ) → contains by_name self.new.names q
+            ≡ known_at place (contains by_name self.old.names q) }
+        ensures rest { self.new ≡ record self.old { names = self.new.names } }
+    {
+        if place == 0 {
+            self.names.clear();
+        }
+    }
+
+    // Keeps the facts of headers and extension blocks that later parts need.
+    fn keep(&mut self, image: &Image<'_>, part: Part, b: u32) -> Result<(), NoMemory>
+        requires { b < blocks image.now }
+        ensures kept { OnOk result (IsKept image.now part b self.old self.new) }
+        ensures rest { OnOk result (KeepsParts self.old self.new) }
+    {
+        match part {
+            Part::Head {
+                parent,
+                slot,
+                place,
+                ..
+            } => {
+                let name = upper_name(*self.nodes.allocator(), image, b)?;
+                self.begin_names(place);
+                if self.nodes.push(b).is_err()
+                    || self.parents.push(parent).is_err()
+                    || self.places.push(ChainPlace { slot, place }).is_err()
+                    || self.names.insert(name).is_err()
+                {
+                    return Err(NoMemory);
+                }
+            }
+            Part::Ext(node, k) => {
+                if self.exts.insert(node, k).is_err() {
+                    return Err(NoMemory);
+                }
+            }
+            _ => (),
+        }
+        Ok(())
+    }
+
+    /// Takes a part, in block `b`.
+    #[tactic(auto, using(crate::proofs::Taking::taken_last))]
+    pub fn take(&mut self, image: &Image<'_>, part: Part, b: u32) -> Result<(), NoMemory>
+        requires inside { b < blocks image.now }
+        requires marks { length self.old.owned.items ≡ blocks image.now }
+        requires some { 1 ≤ self.old.left }
+        ensures { OnOk result (IsTaken image.now part b self.old self.new) }
+    {
+        self.keep(image, part, b)?;
+        self.own(part, b)
+    }
+
+    /// Marks block `b` as passed over.
+    pub fn pass(&mut self, b: u32)
+        ensures { IsPassed b self.old self.new }
+    {
+        if (b as usize) < self.avoided.len() {
+            self.avoided[b as usize] = true;
+        }
+    }
+
+    /// Notes a finding.
+    pub fn note(&mut self, finding: Finding) -> Result<(), NoMemory>
+        ensures { OnOk result (IsNoted finding self.old self.new) }
+    {
+        if self.findings.push(finding).is_err() {
+            return Err(NoMemory);
+        }
+        Ok(())
+    }
+}

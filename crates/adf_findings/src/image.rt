@@ -1,0 +1,114 @@
+// An image under survey.
+
+ghost use Rattle.std.specs.Prelude.{◌≡◌, ◌<◌, ◌≤◌, nat_le, slice_index, true};
+ghost use Rattle.adf_fields.specs.Words.{block};
+ghost use Rattle.adf_blocks.specs.Sizes.{blocks, is_allowed};
+ghost use Rattle.adf_volume.specs.Demands.{IsSize};
+ghost use Rattle.adf_volume.specs.Image.{kind_of, letters_of, root_of, word_in};
+ghost use Rattle.adf_findings.specs.Start.{IsSized};
+
+use adf_fields::{Block, Letters};
+use adf_tree::Kind;
+use adf_volume::letters_in;
+use std::marker::Model;
+
+/// An image of whole blocks, their number allowed.
+#[derive(Drop)]
+pub struct Image<'a> {
+    bytes: &'a [u8],
+    kind: Kind,
+    blocks: u32,
+}
+
+impl<'a> Model for Image<'a> {
+    ghost use Rattle.std.specs.Prelude.{◌≡◌, List, ℕ};
+    ghost use Rattle.adf_findings.specs.Start.{IsSized};
+
+    ghost Value = { List ℕ };
+
+    ghost view = { λ i. i.bytes.now };
+
+    ghost invariant = { λ i. IsSized i.bytes.now i.kind i.blocks };
+}
+
+impl<'a> Image<'a> {
+    // The image, with its kind and its number of blocks.
+    pub fn new(bytes: &'a [u8], kind: Kind, blocks: u32) -> Image<'a>
+        requires { IsSized bytes.now kind blocks }
+        ensures { result ≡ bytes.now }
+    {
+        Image {
+            bytes,
+            kind,
+            blocks,
+        }
+    }
+
+    /// The bytes of the image.
+    pub fn bytes(&self) -> &'a [u8]
+        ensures { result.now ≡ self.now }
+    {
+        self.bytes
+    }
+
+    /// The kind of the volume.
+    pub fn kind(&self) -> Kind
+        ensures { result ≡ kind_of self.now }
+    {
+        self.kind
+    }
+
+    /// The letters of the volume.
+    pub fn letters(&self) -> Letters
+        ensures { result ≡ letters_of self.now }
+    {
+        letters_in(self.bytes)
+    }
+
+    /// Whether the volume has directory caches: its type is 4 or 5.
+    #[tactic(auto, using(adf_volume::proofs::ImageStart::type_byte))]
+    pub fn has_caches(&self) -> bool
+        ensures { result ≡ nat_le 4 (slice_index (block self.now 0) 3) }
+    {
+        self.bytes.get(3).copied().unwrap_or(0) >= 4
+    }
+
+    /// The number of blocks.
+    pub fn blocks(&self) -> u32
+        ensures blocks { result ≡ blocks self.now }
+        ensures allowed { is_allowed result ≡ true }
+        ensures many { 4 ≤ result }
+        ensures few { result ≤ 1048576 }
+    {
+        self.blocks
+    }
+
+    /// The block of the root.
+    pub fn root(&self) -> u32
+        ensures root { result ≡ root_of self.now }
+        ensures inside { result < blocks self.now }
+    {
+        self.blocks / 2
+    }
+
+    /// A block.
+    pub fn block(&self, b: u32) -> Block<'a>
+        requires { b < blocks self.now }
+        ensures block { result ≡ block self.now b }
+        ensures size { IsSize self.now }
+    {
+        Block::at(self.bytes, b).unwrap()
+    }
+
+    /// A word of a block; 0 if the image has no such block.
+    #[tactic(auto, using(adf_volume::proofs::WordsPast::past_word))]
+    pub fn word(&self, b: u32, i: usize) -> u32
+        requires { i < 128 }
+        ensures { result ≡ word_in self.now b i }
+    {
+        match Block::at(self.bytes, b) {
+            Some(block) => block.word(i),
+            None => 0,
+        }
+    }
+}

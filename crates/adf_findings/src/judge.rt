@@ -1,0 +1,81 @@
+// The judgement of a part that is next.
+
+ghost use Rattle.std.specs.Prelude.{◌≡◌};
+ghost use Rattle.adf_findings.specs.Forms.{first_failing, judged_by, keeps, judgement_value};
+
+use crate::forms::{Around, first_cause, is_itself};
+use crate::image::Image;
+use crate::part::Part;
+use adf_blocks::Cause;
+
+/// The judgement of a part: no cause; a cause, at a block, and still taken; a cause, and passed over.
+#[derive(Clone, Copy, PartialEq, Eq, Drop)]
+pub enum Judgement {
+    Clean,
+    Noted(u32, Cause),
+    Passed(u32, Cause),
+}
+
+/// The facts about a part that is next: whether its file has enough extension blocks, whether its block has no owner,
+/// whether its name is new in the chain, and its context.
+#[derive(Clone, Copy, PartialEq, Eq, Drop)]
+pub struct Facts {
+    pub is_enough: bool,
+    pub is_absent: bool,
+    pub is_new: bool,
+    pub around: Around,
+}
+
+// The first cause of a part in block `b`, which `holder` points to, and the block of the cause.
+fn first_failing(
+    image: &Image<'_>,
+    part: Part,
+    holder: u32,
+    b: u32,
+    facts: &Facts,
+) -> Option<(u32, Cause)>
+    ensures { result ≡ first_failing image.now part holder b facts.now }
+{
+    if !facts.is_enough {
+        return Some((holder, Cause::ShortFile));
+    }
+    if b < 2 || b >= image.blocks() {
+        return Some((holder, Cause::OutOfRange));
+    }
+    if !facts.is_absent {
+        return Some((b, Cause::Taken));
+    }
+    if let Some(cause) = first_cause(image, part, b, facts.around) {
+        return Some((b, cause));
+    }
+    if facts.is_new {
+        None
+    } else {
+        Some((b, Cause::SameName))
+    }
+}
+
+// Whether block `b` is in range, has no owner, and identifies itself as the part.
+fn is_kept(image: &Image<'_>, part: Part, b: u32, facts: &Facts) -> bool
+    ensures { result ≡ keeps image.now part b facts.now }
+{
+    b >= 2 && b < image.blocks() && facts.is_absent && is_itself(image, part, b, facts.around)
+}
+
+/// Judges a part in block `b`, which a word of block `holder` points to.
+pub fn judge(image: &Image<'_>, part: Part, holder: u32, b: u32, facts: &Facts) -> Judgement
+    ensures { judgement_value result
+        ≡ judged_by (first_failing image.now part holder b facts.now)
+        (keeps image.now part b facts.now) }
+{
+    match first_failing(image, part, holder, b, facts) {
+        None => Judgement::Clean,
+        Some((at, cause)) => {
+            if is_kept(image, part, b, facts) {
+                Judgement::Noted(at, cause)
+            } else {
+                Judgement::Passed(at, cause)
+            }
+        }
+    }
+}

@@ -1,0 +1,108 @@
+// The laws of surveys. Each is the contract of a function that does nothing at run time.
+
+ghost use Rattle.std.specs.Prelude.{◌≡◌, ◌<◌, ◌↔◌, ℕ, List, [], ◌∷◌, ◌++◌, Some};
+ghost use Rattle.adf_tree.specs.declared.entry.Body.TheVariants.{File};
+ghost use Rattle.adf_tree.specs.declared.entry.Entry.{Entry};
+ghost use Rattle.adf_tree.specs.Tree.{Tree, entry, find};
+ghost use Rattle.adf_volume.specs.Fits.{Fits};
+ghost use Rattle.adf_volume.specs.Image.{name_of};
+ghost use Rattle.adf_volume.specs.Layout.{Layout};
+ghost use Rattle.adf_volume.specs.Made.{layout_in, tree_in};
+ghost use Rattle.adf_volume.specs.Walk.{FileAt, FirstFault, Has, HeadAt, NodeAt, Role};
+ghost use Rattle.adf_findings.specs.Files.{IsSoundFile, file_content, file_in};
+ghost use Rattle.adf_findings.specs.Lookup.{LeadsTo, path_to};
+ghost use Rattle.adf_findings.specs.Survey.{FindingValue, IsSurvey, OnSurvey};
+ghost use Rattle.adf_findings.specs.Sound.{DatasInOrder, FileHolds, HeaderHolds, IsSound};
+
+/// Every image has a survey.
+#[tactic(auto, using(crate::proofs::SomeSurvey::some_survey))]
+pub fn some_survey()
+    ensures { (image : List ℕ)
+        → (w : List (Role × ℕ)) × (fs : List FindingValue) × IsSurvey image w fs }
+{}
+
+/// An image has at most one survey.
+pub fn one_survey()
+    ensures { (image : List ℕ) (w u : List (Role × ℕ)) (fs gs : List FindingValue)
+        → IsSurvey image w fs
+        → IsSurvey image u gs
+        → (w ≡ u) × (fs ≡ gs) }
+{}
+
+/// The first finding of an image is its first fault.
+pub fn first_finding()
+    ensures { (image : List ℕ) (w : List (Role × ℕ)) (f : FindingValue) (fs : List FindingValue)
+        → IsSurvey image w (f ∷ fs)
+        → FirstFault image f.block f.cause }
+{}
+
+/// An image without findings is a volume, with the tree and the layout of the walk; and a volume has no findings.
+pub fn no_finding()
+    ensures fits { (image : List ℕ) (w : List (Role × ℕ)) → IsSurvey image w []
+        → Fits image (tree_in image w) (layout_in w) }
+    ensures none { (image : List ℕ) (t : Tree) (l : Layout) (w : List (Role
+        × ℕ)) (fs : List FindingValue) → Fits image t l
+        → IsSurvey image w fs → fs ≡ [] }
+{}
+
+/// A block in the walk of a survey has one role.
+pub fn one_part()
+    ensures { (image : List ℕ) → OnSurvey image (λ w _.
+        (r q : Role) (b : ℕ) → Has w r b → Has w q b → r ≡ q) }
+{}
+
+/// The header of a sound entry has its form. Each data block of a sound file, by its size, is in the walk, at the
+/// block in the file's table. All blocks of the file have their forms, and its data blocks are in the walk in order.
+pub fn sound_entries()
+    ensures header { (image : List ℕ) (w : List (Role × ℕ)) (fs : List FindingValue) (n h : ℕ)
+        → IsSurvey image w fs
+        → IsSound image w fs n h → HeaderHolds image w n h }
+    ensures file { (image : List ℕ) (w : List (Role × ℕ)) (fs : List FindingValue) (n h : ℕ)
+        → IsSurvey image w fs
+        → IsSound image w fs n h → FileAt image w n h → FileHolds image w n h }
+    ensures order { (image : List ℕ) (w : List (Role × ℕ)) (fs : List FindingValue) (n h : ℕ)
+        → IsSurvey image w fs
+        → IsSound image w fs n h → DatasInOrder w n }
+{}
+
+/// The directory of an entry is in the walk, and has a smaller number.
+pub fn directories_first()
+    ensures { (image : List ℕ) (w : List (Role × ℕ)) (fs : List FindingValue) (n h : ℕ)
+        → IsSurvey image w fs
+        → (g : HeadAt w n h) → (g.parent < n) × ((up : ℕ) × NodeAt w g.parent up) }
+{}
+
+/// The path of an entry is the path of its directory, followed by the name in its header.
+pub fn paths_of_directories()
+    ensures { (image : List ℕ) (w : List (Role × ℕ)) (fs : List FindingValue) (n h : ℕ)
+        → IsSurvey image w fs
+        → (g : HeadAt w n h)
+        → path_to image w n ≡ path_to image w g.parent ++ name_of image h ∷ [] }
+{}
+
+/// If a survey has no finding, all of its entries are sound.
+pub fn all_sound()
+    ensures { (image : List ℕ) (w : List (Role × ℕ)) (n h : ℕ) → IsSurvey image w []
+        → HeadAt w n h
+        → IsSound image w [] n h }
+{}
+
+/// On a volume, a path leads to the same entry in the survey as in the tree, and both have the same files, with the same bytes.
+pub fn found_as_in_the_tree()
+    ensures paths { (image : List ℕ) (t : Tree) (l : Layout) (w : List (Role
+        × ℕ)) (fs : List FindingValue) → Fits image t l
+        → IsSurvey image w fs
+        → (path : List (List ℕ)) (n : ℕ) → LeadsTo image w 0 path n ↔ (find t.entries path ≡ Some n) }
+    ensures files { (image : List ℕ) (t : Tree) (l : Layout) (w : List (Role
+        × ℕ)) (fs : List FindingValue) → Fits image t l
+        → IsSurvey image w fs
+        → (n : ℕ) (e : Entry) (bytes : List ℕ) → entry t.entries n ≡ Some e
+        → e.body ≡ File bytes
+        → IsSoundFile image w fs n × (file_content (file_in image w n) ≡ bytes) }
+    ensures entries { (image : List ℕ) (t : Tree) (l : Layout) (w : List (Role
+        × ℕ)) (fs : List FindingValue) → Fits image t l
+        → IsSurvey image w fs
+        → (n : ℕ) → IsSoundFile image w fs n
+        → (e : Entry) × (entry t.entries n ≡ Some e)
+        × (e.body ≡ File (file_content (file_in image w n))) }
+{}

@@ -1,0 +1,165 @@
+// The marks of sound entries.
+
+ghost use Rattle.std.specs.Prelude.{◌≡◌, ◌==◌, ◌&&◌, ℕ, IfOk, map, not};
+ghost use Rattle.std.specs.List.{filter};
+ghost use Rattle.adf_findings.specs.Files.{is_harmless, is_light};
+ghost use Rattle.adf_findings.specs.Parts.{finding_value};
+ghost use Rattle.adf_findings.specs.Marks.{blamed, has_mark, is_blamed, is_clear, is_header, is_sharing, sharing};
+
+use crate::concern::Concern;
+use crate::found::{DataBlock, Found};
+use crate::image::Image;
+use crate::part::{Finding, Part};
+use adf_blocks::Cause;
+use adf_fields::NoMemory;
+use adf_tree::Kind;
+use std::alloc::Global;
+
+// Removes the mark of a node.
+fn strike(marks: &mut Vec<bool>, node: u32)
+    ensures { (m : ℕ)
+        → has_mark marks.new.items m ≡ (has_mark marks.old.items m && not (node == m)) }
+{
+    if (node as usize) < marks.len() {
+        marks[node as usize] = false;
+    }
+}
+
+// Whether node `node` is the header at a position in the chain of a slot of a directory.
+fn is_header(found: &Found, node: u32, parent: u32, slot: u8, place: u32) -> bool
+    ensures { result ≡ is_header found.now node parent slot place }
+{
+    if node == 0 || found.parents.get(node as usize).copied().unwrap_or(0) != parent {
+        return false;
+    }
+    match found.places.get(node as usize - 1) {
+        Some(at) => at.slot == slot && at.place == place,
+        None => false,
+    }
+}
+
+// What a finding of the part concerns.
+fn blamed(found: &Found, part: Option<Part>) -> Option<Concern>
+    ensures { result ≡ blamed found.now part }
+{
+    let part = part?;
+    match part {
+        Part::Head {
+            node,
+            parent,
+            slot,
+            place,
+        } => {
+            if is_header(found, node, parent, slot, place) {
+                Some(Concern::Entry(node))
+            } else {
+                Some(Concern::Within(parent))
+            }
+        }
+        Part::Ext(node, _) | Part::Data(node, _) => Some(Concern::Entry(node)),
+        _ => None,
+    }
+}
+
+// The file of a data block, if the block was also passed over.
+fn sharing(found: &Found, data_block: DataBlock) -> Option<u32>
+    ensures { result ≡ sharing found.now.avoided.items data_block }
+{
+    let DataBlock { node, block } = data_block;
+    let is_avoided = found.avoided.get(block as usize).copied().unwrap_or(false);
+    if is_avoided { Some(node) } else { None }
+}
+
+/// What the findings concern, in the order of the findings.
+pub fn concerned(alloc: Global, found: &Found) -> Result<Vec<Option<Concern>>, NoMemory>
+    ensures { IfOk result (λ v. v.items
+        ≡ map (λ x. blamed found.now x.part) found.now.findings.items) }
+{
+    let Ok(mut concerns) = Vec::with_capacity(alloc, found.findings.len()) else {
+        return Err(NoMemory);
+    };
+    for finding in &found.findings {
+        if concerns.push(blamed(found, finding.part)).is_err() {
+            return Err(NoMemory);
+        }
+    }
+    Ok(concerns)
+}
+
+// Removes the marks of entries that findings concern, and of directories within which a header was passed over.
+fn strike_blamed(found: &Found, marks: &mut Vec<bool>)
+    ensures { (m : ℕ) → has_mark marks.new.items m
+        ≡ (has_mark marks.old.items m && not
+        (is_blamed found.now found.now.findings.items m)) }
+{
+    for finding in &found.findings {
+        if let Some(concern) = blamed(found, finding.part) {
+            strike(marks, concern.node());
+        }
+    }
+}
+
+// Removes the marks of files with a data block that was also passed over.
+fn strike_sharing(found: &Found, marks: &mut Vec<bool>)
+    ensures { (m : ℕ) → has_mark marks.new.items m
+        ≡ (has_mark marks.old.items m && not
+        (is_sharing found.now.avoided.items found.now.datas.items m)) }
+{
+    for data_block in &found.datas {
+        if let Some(node) = sharing(found, *data_block) {
+            strike(marks, node);
+        }
+    }
+}
+
+// Whether a header with this cause is itself, with the words that tell where its file's blocks are.
+fn is_harmless(cause: Cause) -> bool
+    ensures { result ≡ is_harmless cause }
+{
+    matches!(
+        cause,
+        Cause::BadName | Cause::BadComment | Cause::WrongSlot | Cause::BadFirst | Cause::SameName
+    )
+}
+
+// Whether a finding leaves a file its blocks: a harmless one of a header.
+fn is_light(finding: Finding) -> bool
+    ensures { result ≡ is_light (finding_value finding) }
+{
+    match finding.part {
+        Some(Part::Head { .. }) => is_harmless(finding.cause),
+        _ => false,
+    }
+}
+
+/// The findings but those that leave a file its blocks.
+pub fn grave(alloc: Global, findings: &[Finding]) -> Result<Vec<Finding>, NoMemory>
+    ensures { IfOk result (λ v. v.items ≡ filter (λ x. not (is_light (finding_value x))) findings.now) }
+{
+    let mut graves = Vec::new(alloc);
+    for finding in findings {
+        if is_light(*finding) {
+            continue;
+        }
+        if graves.push(*finding).is_err() {
+            return Err(NoMemory);
+        }
+    }
+    Ok(graves)
+}
+
+/// The marks of the nodes: true if no finding concerns the node, or what is within it.
+pub fn clear_marks(alloc: Global, image: &Image<'_>, found: &Found) -> Result<Vec<bool>, NoMemory>
+    ensures { IfOk result (λ v. (m : ℕ)
+        → has_mark v.items m ≡ is_clear image.now found.now m) }
+{
+    let Ok(mut marks) = vec![in alloc; true; found.nodes.len()] else {
+        return Err(NoMemory);
+    };
+    strike_blamed(found, &mut marks);
+    match image.kind() {
+        Kind::Ofs => (),
+        Kind::Ffs => strike_sharing(found, &mut marks),
+    }
+    Ok(marks)
+}

@@ -1,0 +1,118 @@
+// The parts of a volume, and findings.
+
+ghost use Rattle.std.specs.Prelude.{◌≡◌};
+ghost use Rattle.adf_findings.specs.Found.{entry_number};
+ghost use Rattle.adf_findings.specs.Parts.{key_of, role_of};
+ghost use Rattle.adf_volume.proofs.Roles.{renumbered};
+ghost use Rattle.adf_volume.specs.Walk.{third};
+ghost use Rattle.adf_volume.specs.Walk.Role.{Page};
+
+use adf_blocks::{Cause, MAP_EXT_PAGES, ROOT_PAGES};
+
+/// A part of a volume.
+///
+/// Pages and bitmap extension blocks are numbered from 0; a file's extension blocks and data blocks from 1.
+#[derive(Clone, Copy, Debug, PartialEq, Eq)]
+pub enum Part {
+    /// The root.
+    Root,
+    /// A page of the bitmap, by number.
+    Page(u32),
+    /// A bitmap extension block, by number.
+    MapExt(u32),
+    /// The header of a node, with the number of its parent, its slot and its position in the chain.
+    Head {
+        node: u32,
+        parent: u32,
+        slot: u8,
+        place: u32,
+    },
+    /// An extension block of a file: the file's node, and its number.
+    Ext(u32, u32),
+    /// A data block of a file: the file's node, and its number.
+    Data(u32, u32),
+}
+
+/// A finding: the part that it concerns, if any; the block reported; and the cause.
+#[derive(Clone, Copy, Debug, PartialEq, Eq)]
+pub struct Finding {
+    pub part: Option<Part>,
+    pub block: u32,
+    pub cause: Cause,
+}
+
+/// The numbers that order the parts.
+#[derive(Clone, Copy, PartialEq, Eq, PartialOrd, Ord, Drop)]
+pub struct Key {
+    pub first: u64,
+    pub second: u64,
+    pub third: u64,
+}
+
+impl Part {
+    // The part, with this node number if it is a header.
+    pub(crate) fn numbered(self, number: u32) -> Part
+        ensures { role_of result ≡ renumbered number (role_of self) }
+    {
+        match self {
+            Part::Head {
+                parent,
+                slot,
+                place,
+                ..
+            } => Part::Head {
+                node: number,
+                parent,
+                slot,
+                place,
+            },
+            _ => self,
+        }
+    }
+
+    // The number of the entry that the part belongs to; 0 for the root and the bitmap.
+    pub(crate) fn entry_number(self) -> u32
+        ensures { result ≡ entry_number (role_of self) }
+    {
+        match self {
+            Part::Head { node, .. } | Part::Ext(node, _) | Part::Data(node, _) => node,
+            _ => 0,
+        }
+    }
+
+    // The numbers that order the part.
+    pub(crate) fn key(self) -> Key
+        ensures { result ≡ key_of (role_of self) }
+    {
+        let (first, second, third) = match self {
+            Part::Root => (0, 0, 0),
+            Part::Page(i) => (0, 1, place_of_page(i)),
+            Part::MapExt(j) => (
+                0,
+                1,
+                ROOT_PAGES as u64 + (1 + MAP_EXT_PAGES as u64) * u64::from(j),
+            ),
+            Part::Head {
+                parent,
+                slot,
+                place,
+                ..
+            } => (u64::from(parent) + 1, u64::from(slot) + 2, u64::from(place)),
+            Part::Ext(node, k) => (u64::from(node) + 1, 0, u64::from(k)),
+            Part::Data(node, k) => (u64::from(node) + 1, 1, u64::from(k)),
+        };
+        Key {
+            first,
+            second,
+            third,
+        }
+    }
+}
+
+// The position of a page among the pages and the bitmap extension blocks.
+fn place_of_page(i: u32) -> u64
+    ensures { result ≡ third (Page i) }
+{
+    let i = u64::from(i);
+    i + (i + (MAP_EXT_PAGES - ROOT_PAGES) as u64) / MAP_EXT_PAGES as u64
+}

@@ -1,0 +1,193 @@
+-- What follows the tables of a disk changes nothing that is read of it.
+-- Letters: as in specs/Disks; A, B two disks that agree in their tables.
+use Rattle.std.proofs.Common.{◌≡◌, ◌<◌, ◌≤◌, ◌+◌, ◌*◌, inl, inr, ℕ, List, ◌++◌, [], ◌∷◌, length, drop, refl, sym, ap, subst, ◌∙◌, arith}
+use Rattle.std.proofs.Common.{Bool, true, false, None}
+use Rattle.std.specs.Prelude.{◌&&◌, ◌==◌, not, nat_le, nat_lt, min}
+use Rattle.std.specs.List.{list_any}
+use Rattle.std.proofs.Common.{length-append}
+use Rattle.std.proofs.lemmas.List.{take-append-le}
+use Rattle.std.proofs.lemmas.Slice.{between_is}
+use Rattle.adf_fields.specs.Words.{block, word}
+use Rattle.adf_partitions.specs.declared.fault.DiskCause.TheVariants.{OutOfRange, Repeated, NotPartition, BadSum, TooMany}
+use Rattle.adf_partitions.specs.declared.fault.DiskFault.{DiskFault}
+use Rattle.adf_partitions.specs.declared.layout.TheConstants.{BLOCK_BYTES, FIRST_PART, HIGHEST_TABLE, LOWEST_TABLE, MARK}
+use Rattle.adf_partitions.specs.declared.layout.TheConstants.{MOST_PARTITIONS, MOST_TABLES, PART, RDSK, RDSK_BLOCKS}
+use Rattle.adf_partitions.specs.declared.partition.Partition.{Partition}
+use Rattle.adf_partitions.specs.declared.tables.Tables.{Tables}
+use Rattle.adf_partitions.specs.Disks.{FirstFault, HoldsTables, IsDisk, IsFound, IsListFault, IsWhole, is_at, part_form}
+use Rattle.adf_partitions.specs.Disks.FirstFault.{at_list, at_tables}
+use Rattle.adf_partitions.specs.Disks.IsFound.{start, step}
+use Rattle.adf_partitions.specs.Faults.{disk_fault, first_failed}
+use Rattle.adf_partitions.specs.Summed.{holds, is_summed}
+use Rattle.adf_partitions.specs.Tables.{HasNoTables, IsRdsk, IsTables, is_rdsk, is_table}
+use Rattle.adf_partitions.proofs.FoundSteps.{one_more}
+use Rattle.adf_partitions.proofs.NumberTests.{le_of, lt_of, of_le}
+use Rattle.adf_partitions.proofs.OneAnswer.{one_tables}
+
+-- the first 16 blocks agree
+record StartAgrees (A B : List ℕ) : Type 0 where
+  blocks : (b : ℕ) → b < RDSK_BLOCKS → block A b ≡ block B b
+  rdsk : (b : ℕ) → b < RDSK_BLOCKS → is_rdsk A b ≡ is_rdsk B b
+
+-- the blocks kept for the tables agree
+record TablesAgree (A B : List ℕ) (t : Tables) : Type 0 where
+  blocks : (b : ℕ) → is_table A t b ≡ true → block A b ≡ block B b
+  tables : (b : ℕ) → is_table A t b ≡ is_table B t b
+
+start_back : {A B : List ℕ} → StartAgrees A B → StartAgrees B A
+start_back s = record { blocks = λ b lt. sym (s.blocks b lt); rdsk = λ b lt. sym (s.rdsk b lt) }
+
+tables_back : {A B : List ℕ} {t : Tables} → TablesAgree A B t → TablesAgree B A t
+tables_back s = record { blocks = λ b h. sym (s.blocks b (s.tables b ∙ h)); tables = λ b. sym (s.tables b) }
+
+module _ {A B : List ℕ} (s : StartAgrees A B) where
+  same_rdsk : {b : ℕ} → IsRdsk A b → IsRdsk B b
+  same_rdsk {b} r = record {
+    low = r.low;
+    is = sym (s.rdsk b r.low) ∙ r.is;
+    first = λ k lt. let low = r.low in sym (s.rdsk k (omega arith)) ∙ r.first k lt;
+  }
+
+  same_tables : {t : Tables} → IsTables A t → IsTables B t
+  same_tables {t} r =
+      let e = s.blocks t.rdsk r.rdsk.low in
+      record {
+        rdsk = same_rdsk r.rdsk;
+        size = ap (λ p. word p BLOCK_BYTES) (sym e) ∙ r.size;
+        same = r.same ∙ ap (λ p. tables_of t.rdsk p) e;
+      }
+    where
+      tables_of : ℕ → List ℕ → Tables
+      tables_of b p = record { rdsk = b; first = word p FIRST_PART; lowest = word p LOWEST_TABLE; highest = word p HIGHEST_TABLE }
+
+  same_lack : {f : DiskFault} → HasNoTables A f → HasNoTables B f
+  same_lack (inl h) = inl ((λ k lt. sym (s.rdsk k lt) ∙ h.0 k lt), h.1)
+  same_lack {f} (inr h) =
+      let e = s.blocks f.block h.0.low in
+      inr (same_rdsk h.0, (λ z. h.1 (ap (λ p. word p BLOCK_BYTES) e ∙ z)), h.2)
+
+-- the tests of a block, from whether it is kept for the tables, and its bytes
+abbrev form_of : List Partition → ℕ → ℕ → Bool → List ℕ → List (Bool × DiskFault)
+form_of ps a b kept p =
+    (kept, disk_fault a OutOfRange)
+    ∷ (not (list_any (is_at b) ps), disk_fault b Repeated)
+    ∷ (word p MARK == PART, disk_fault b NotPartition)
+    ∷ (is_summed p, disk_fault b BadSum)
+    ∷ (nat_lt (length ps) MOST_PARTITIONS, disk_fault b TooMany)
+    ∷ []
+
+same_form : (ps : List Partition) (a b : ℕ) (kept : Bool) (p q : List ℕ) → (kept ≡ true → p ≡ q)
+    → first_failed (form_of ps a b kept p) ≡ first_failed (form_of ps a b kept q)
+same_form ps a b true p q h = ap (λ x. first_failed (form_of ps a b true x)) (h refl)
+same_form ps a b false p q h = refl
+
+is_kept : (ps : List Partition) (a b : ℕ) (kept : Bool) (p : List ℕ) → first_failed (form_of ps a b kept p) ≡ None → kept ≡ true
+is_kept ps a b true p h = refl
+is_kept ps a b false p h = absurd cc
+
+module _ {A B : List ℕ} {t : Tables} (s : TablesAgree A B t) where
+  same_tests : (ps : List Partition) (a b : ℕ) → first_failed (part_form A t ps a b) ≡ first_failed (part_form B t ps a b)
+  same_tests ps a b =
+      same_form ps a b (is_table A t b) (block A b) (block B b) (s.blocks b)
+      ∙ ap (λ k. first_failed (form_of ps a b k (block B b))) (s.tables b)
+
+  module _ {n : ℕ} where
+    same_found : {ps : List Partition} {a b : ℕ} → IsFound A n t ps a b → IsFound B n t ps a b
+    same_found start = start
+    same_found (step {ps = ps} {a = a} {b = b} h some sound) =
+        let e = s.blocks b (is_kept ps a b (is_table A t b) (block A b) sound) in
+        one_more (same_found h) some (sym (same_tests ps a b) ∙ sound) e refl refl refl
+
+    same_whole : {ps : List Partition} → IsWhole A n t ps → IsWhole B n t ps
+    same_whole w = (w.0, same_found w.1)
+
+    same_list_fault : {f : DiskFault} → IsListFault A n t f → IsListFault B n t f
+    same_list_fault v = record {
+      parts = v.parts;
+      last = v.last;
+      next = v.next;
+      found = same_found v.found;
+      some = v.some;
+      failed = sym (same_tests v.parts v.last v.next) ∙ v.failed;
+    }
+
+-- a block of the front
+front_block : (bytes rest : List ℕ) (b : ℕ) → b * 512 + 512 ≤ length bytes → block bytes b ≡ block (bytes ++ rest) b
+unfolding block
+front_block bytes rest b h =
+    between_is bytes (b * 512) (b * 512 + 512)
+    ∙ ap (drop (b * 512)) (sym (take-append-le (b * 512 + 512) bytes rest h))
+    ∙ sym (between_is (bytes ++ rest) (b * 512) (b * 512 + 512))
+
+front_holds : (bytes rest : List ℕ) (b : ℕ) → b * 512 + 512 ≤ length bytes → holds bytes b ≡ holds (bytes ++ rest) b
+front_holds bytes rest b h =
+    of_le (b * 512 + 512) (length bytes) h ∙ sym (of_le (b * 512 + 512) (length (bytes ++ rest)) (omega (arith, length-append bytes rest)))
+
+start_agrees : (bytes rest : List ℕ) → RDSK_BLOCKS * 512 ≤ length bytes → StartAgrees bytes (bytes ++ rest)
+start_agrees bytes rest h = record {
+  blocks = λ b lt. front_block bytes rest b (omega arith);
+  rdsk = λ b lt. ap (λ k. k && (word (block bytes b) MARK == RDSK) && is_summed (block bytes b)) (front_holds bytes rest b (omega arith))
+      ∙ ap (λ p. holds (bytes ++ rest) b && (word p MARK == RDSK) && is_summed p) (front_block bytes rest b (omega arith));
+}
+
+only_last : (x y z u v : Bool) → (x ≡ true → y ≡ true → z ≡ true → u ≡ v) → (x && y && z && u) ≡ (x && y && z && v)
+only_last true true true u v h = h refl refl refl
+only_last false y z u v h = refl
+only_last true false z u v h = refl
+only_last true true false u v h = refl
+
+fourth : (x y z u : Bool) → (x && y && z && u) ≡ true → u ≡ true
+fourth true true true u h = h
+fourth false y z u h = absurd cc
+fourth true false z u h = absurd cc
+fourth true true false u h = absurd cc
+
+tables_agree : (bytes rest : List ℕ) (t : Tables) → min (t.highest + 1) MOST_TABLES * 512 ≤ length bytes → TablesAgree bytes (bytes ++ rest) t
+tables_agree bytes rest t h = record {
+  blocks = λ b kept.
+      let held = fourth (nat_le t.lowest b) (nat_le b t.highest) (nat_lt b MOST_TABLES) (holds bytes b) kept in
+      front_block bytes rest b (le_of (b * 512 + 512) (length bytes) held);
+  tables = λ b. only_last (nat_le t.lowest b) (nat_le b t.highest) (nat_lt b MOST_TABLES) (holds bytes b) (holds (bytes ++ rest) b)
+      (λ low high few. front_holds bytes rest b (inside b (le_of b t.highest high) (lt_of b MOST_TABLES few)));
+}
+  where
+    inside : (b : ℕ) → b ≤ t.highest → b < MOST_TABLES → b * 512 + 512 ≤ length bytes
+    inside b high few = omega arith
+
+module _ (bytes rest : List ℕ) (enough : RDSK_BLOCKS * 512 ≤ length bytes) where
+  pub tables_tell : (t : Tables) → (IsTables bytes t → IsTables (bytes ++ rest) t) × (IsTables (bytes ++ rest) t → IsTables bytes t)
+  tables_tell t = let s = start_agrees bytes rest enough in (same_tables s, same_tables (start_back s))
+
+  pub lack_tells : (f : DiskFault) → (HasNoTables bytes f → HasNoTables (bytes ++ rest) f) × (HasNoTables (bytes ++ rest) f → HasNoTables bytes f)
+  lack_tells f = let s = start_agrees bytes rest enough in (same_lack s, same_lack (start_back s))
+
+module _ (bytes rest : List ℕ) (n : ℕ) (t : Tables) (enough : HoldsTables bytes t) where
+  pub disk_tells : (ps : List Partition) → (IsDisk bytes n t ps → IsDisk (bytes ++ rest) n t ps) × (IsDisk (bytes ++ rest) n t ps → IsDisk bytes n t ps)
+  disk_tells ps =
+      let s = start_agrees bytes rest enough.0 in
+      let l = tables_agree bytes rest t enough.1 in (
+        (λ d. record { tables = same_tables s d.tables; whole = same_whole l d.whole }),
+        (λ d. record { tables = same_tables (start_back s) d.tables; whole = same_whole (tables_back l) d.whole }),
+      )
+
+  -- the tables are one
+  list_of : {bytes : List ℕ} {f : DiskFault} → IsTables bytes t → {u : Tables} → IsTables bytes u → IsListFault bytes n u f → IsListFault bytes n t f
+  list_of {bytes} {f} has other v = subst (λ t. IsListFault bytes n t f) (one_tables other has) v
+
+  pub fault_tells : (f : DiskFault) → IsTables bytes t
+      → (FirstFault bytes n f → FirstFault (bytes ++ rest) n f) × (FirstFault (bytes ++ rest) n f → FirstFault bytes n f)
+  fault_tells f has = (to, from)
+    where
+      s : StartAgrees bytes (bytes ++ rest)
+      s = start_agrees bytes rest enough.0
+
+      l : TablesAgree bytes (bytes ++ rest) t
+      l = tables_agree bytes rest t enough.1
+
+      to : FirstFault bytes n f → FirstFault (bytes ++ rest) n f
+      to (at_tables h) = at_tables (same_lack s h)
+      to (at_list h v) = at_list (same_tables s has) (same_list_fault l (list_of has h v))
+
+      from : FirstFault (bytes ++ rest) n f → FirstFault bytes n f
+      from (at_tables h) = at_tables (same_lack (start_back s) h)
+      from (at_list h v) = at_list has (same_list_fault (tables_back l) (list_of (same_tables s has) h v))

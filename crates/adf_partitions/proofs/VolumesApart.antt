@@ -1,0 +1,136 @@
+-- The volumes of a disk lie apart.
+-- Letters: as in specs/Disks; p a partition block, q and r places, o the first test of a partition that fails.
+use Rattle.std.proofs.Common.{◌≡◌, ◌⊎◌, inl, inr, rules, ◌<◌, ◌≤◌, ◌+◌, ◌-◌, ◌*◌, ℕ, List, [], ◌∷◌, length, get_or, refl, sym, ap, ◌∙◌, arith}
+use Rattle.std.proofs.Common.{Bool, true, false, None, Some, Ok, Err}
+use Rattle.std.specs.Prelude.{Option, Result, ◌&&◌, ◌||◌, not, nat_le, nat_lt, ◌==◌, IfOk}
+use Rattle.std.specs.List.{All, AllPairs}
+use Rattle.std.proofs.lemmas.Bool.{false_from_ne_true}
+use Rattle.std.proofs.lemmas.Bool.Decides.{nat_tests}
+use Rattle.std.proofs.lemmas.List.Elements.{All-push}
+use Rattle.std.proofs.lemmas.List.Folds.{list_any_at}
+use Rattle.std.proofs.lemmas.List.Quantifiers.{all_pairs_push}
+use Rattle.std.proofs.lemmas.Nat.{mul-le}
+use Rattle.adf_fields.specs.Words.{block, word}
+use Rattle.adf_partitions.specs.declared.layout.TheConstants.{HIGH_CYLINDER, LOW_CYLINDER}
+use Rattle.adf_partitions.specs.declared.partition.Partition.{Partition}
+use Rattle.adf_partitions.specs.declared.place.Place.{Place}
+use Rattle.adf_partitions.specs.declared.place.PlaceFault.{PlaceFault}
+use Rattle.adf_partitions.specs.declared.place.PlaceFault.TheVariants.{BeyondImage, NoCylinders, OverPartition, OverTables}
+use Rattle.adf_partitions.specs.declared.tables.Tables.{Tables}
+use Rattle.adf_partitions.specs.Disks.{IsDisk, IsFound, partition_at}
+use Rattle.adf_partitions.specs.Disks.IsFound.{start, step}
+use Rattle.adf_partitions.specs.Faults.{first_failed}
+use Rattle.adf_partitions.specs.Partitions.{is_over, is_over_earlier, is_over_place, place_form, placed}
+use Rattle.adf_partitions.specs.Places.{cylinder_of, do_overlap, end_of, has_cylinders, is_over_tables, place_of}
+use Rattle.adf_partitions.proofs.NumberTests.{le_of, of_lt}
+use Rattle.adf_partitions.specs.Volumes.{AreApart, LiesWell, VolumeLiesWell, VolumesAreApart}
+
+-- the first test holds, and the others do
+first_held : {C : Type 0} (a : Bool) (x : C) (rest : List (Bool × C)) → first_failed ((a, x) ∷ rest) ≡ None → (a ≡ true) × (first_failed rest ≡ None)
+first_held true x rest h = (refl, h)
+first_held false x rest h = absurd cc
+
+-- a test is one of a list
+abbrev In : {C : Type 0} → List (Bool × C) → (Bool × C) → Type 0
+In [] y = ⊥
+In (x ∷ xs) y = (x ≡ y) ⊎ In xs y
+
+each_held : {C : Type 0} (xs : List (Bool × C)) → first_failed xs ≡ None → (y : Bool × C) → In xs y → y.0 ≡ true
+each_held [] h y i = absurd i
+each_held (x ∷ xs) h y (inl e) = ap (λ z. z.0) (sym e) ∙ (first_held x.0 x.1 xs h).0
+each_held (x ∷ xs) h y (inr i) = each_held xs (first_held x.0 x.1 xs h).1 y i
+
+not_true : (a : Bool) → not a ≡ true → a ≡ false
+not_true true h = absurd cc
+not_true false h = refl
+
+neither : (a b : Bool) → (a || b) ≡ false → (a ≡ false) × (b ≡ false)
+neither true b h = absurd cc
+neither false b h = (refl, h)
+
+-- what the tests of a partition tell
+record Passed (n : ℕ) (t : Tables) (ps : List Partition) (p : List ℕ) : Type 0 where
+  cylinders : has_cylinders p ≡ true
+  within : nat_le (end_of (place_of p)) n ≡ true
+  tables : is_over_tables (place_of p) t ≡ false
+  earlier : is_over_earlier (place_of p) ps ≡ false
+
+passed : (n : ℕ) (t : Tables) (ps : List Partition) (p : List ℕ) → first_failed (place_form n t ps p) ≡ None → Passed n t ps p
+passed n t ps p h =
+    let held = each_held (place_form n t ps p) h in
+    record {
+      cylinders = held (has_cylinders p, NoCylinders) (search rules);
+      within = held (nat_le (end_of (place_of p)) n, BeyondImage) (search rules);
+      tables = not_true (is_over_tables (place_of p) t) (held (not (is_over_tables (place_of p) t), OverTables) (search rules));
+      earlier = not_true (is_over_earlier (place_of p) ps) (held (not (is_over_earlier (place_of p) ps), OverPartition) (search rules));
+    }
+
+-- two places that do not overlap have no block in common
+no_common : (q r : Place) → do_overlap q r ≡ false → AreApart r q
+no_common q r h = λ b in_r in_q.
+    let x : nat_lt q.first (end_of r) ≡ true = of_lt q.first (end_of r) (omega (arith, in_r.1, in_q.0)) in
+    let y : nat_lt r.first (end_of q) ≡ true = of_lt r.first (end_of q) (omega (arith, in_q.1, in_r.0)) in
+    absurd cc
+
+has_blocks : (low high c : ℕ) → nat_le low high ≡ true → not (c == 0) ≡ true → 0 < (high + 1 - low) * c
+has_blocks low high c h k =
+    let le : low ≤ high = grind (arith, nat_tests) in
+    let pos : 0 < c = grind (arith, nat_tests) in
+    omega (arith, mul-le 1 1 (high + 1 - low) c (omega arith) (omega arith))
+
+and_true : (a b : Bool) → (a && b) ≡ true → (a ≡ true) × (b ≡ true)
+and_true true b h = (refl, h)
+and_true false b h = absurd cc
+
+lies_well : (n : ℕ) (t : Tables) (ps : List Partition) (p : List ℕ) → Passed n t ps p → LiesWell n t (place_of p)
+lies_well n t ps p h =
+    let q = place_of p in
+    let cylinders = and_true (nat_le (word p LOW_CYLINDER) (word p HIGH_CYLINDER)) (not (cylinder_of p == 0)) h.cylinders in
+    let over = neither _ _ h.tables in
+    record {
+      some = has_blocks (word p LOW_CYLINDER) (word p HIGH_CYLINDER) (cylinder_of p) cylinders.0 cylinders.1;
+      within = le_of (end_of q) n h.within;
+      beside = λ b is low high. no_common q (kept t) over.0 b (low, omega (arith, high)) is;
+      past = λ b is at. no_common q (rdsk t) over.1 b (omega (arith, at), omega (arith, at)) is;
+    }
+  where
+    kept : Tables → Place
+    kept t = record { first = t.lowest; blocks = t.highest + 1 - t.lowest }
+
+    rdsk : Tables → Place
+    rdsk t = record { first = t.rdsk; blocks = 1 }
+
+-- what holds of a place that has no fault
+if_placed : (q : Place) (o : Option PlaceFault) (P : Place → Type 0) → (o ≡ None → P q) → IfOk (placed q o) P
+if_placed q None P h = h refl
+if_placed q (Some f) P h = tt
+
+apart_from : (q : Place) (r : Result Place PlaceFault) (o : Option PlaceFault) → (o ≡ None → is_over_place q r ≡ false)
+    → IfOk r (λ r. IfOk (placed q o) (AreApart r))
+apart_from q (Ok r) o h = if_placed q o (AreApart r) (λ e. no_common q r (h e))
+apart_from q (Err f) o h = tt
+
+not_over : (q : Place) (ps : List Partition) → is_over_earlier q ps ≡ false → (k : ℕ) (d : Partition) → k < length ps → is_over q (get_or ps k d) ≡ false
+not_over q ps h k d lt = false_from_ne_true (is_over q (get_or ps k d)) (λ over. let z = list_any_at (is_over q) ps k d lt over in absurd cc)
+
+module _ {bytes : List ℕ} {n : ℕ} {t : Tables} where
+  each_lies_well : {ps : List Partition} {a b : ℕ} → IsFound bytes n t ps a b → All (VolumeLiesWell n t) ps
+  each_lies_well start = λ k d lt. absurd (omega arith)
+  each_lies_well (step {ps = ps} {b = b} h some sound) =
+      let p = block bytes b in
+      All-push (VolumeLiesWell n t) ps (partition_at bytes n t ps b) (each_lies_well h)
+      (if_placed (place_of p) (first_failed (place_form n t ps p)) (LiesWell n t) (λ e. lies_well n t ps p (passed n t ps p e)))
+
+  all_lie_apart : {ps : List Partition} {a b : ℕ} → IsFound bytes n t ps a b → AllPairs VolumesAreApart ps
+  all_lie_apart start = λ i j d lt in_list. absurd (omega arith)
+  all_lie_apart (step {ps = ps} {b = b} h some sound) =
+      let p = block bytes b in
+      all_pairs_push VolumesAreApart ps (partition_at bytes n t ps b) (all_lie_apart h)
+      (λ k d lt. apart_from (place_of p) (get_or ps k d).place (first_failed (place_form n t ps p))
+      (λ e. not_over (place_of p) ps (passed n t ps p e).earlier k d lt))
+
+pub volumes_lie_well : (bytes : List ℕ) (n : ℕ) (t : Tables) (ps : List Partition) → IsDisk bytes n t ps → All (VolumeLiesWell n t) ps
+volumes_lie_well bytes n t ps d = each_lies_well d.whole.1
+
+pub volumes_lie_apart : (bytes : List ℕ) (n : ℕ) (t : Tables) (ps : List Partition) → IsDisk bytes n t ps → AllPairs VolumesAreApart ps
+volumes_lie_apart bytes n t ps d = all_lie_apart d.whole.1

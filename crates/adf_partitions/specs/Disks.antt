@@ -1,0 +1,66 @@
+-- The list of a disk's partition blocks, and its first fault. `bytes` are the first bytes of the disk, n is the number of its
+-- blocks, t its tables; ps are the partitions found; a is the block that names block b.
+use Rattle.std.specs.Prelude.{◌≡◌, ◌≢◌, ◌≤◌, ◌+◌, ◌*◌, min, ℕ, ◌==◌, not, nat_lt, Bool, List, [], ◌∷◌, ◌++◌, Some, None, length}
+use Rattle.std.specs.List.{list_any}
+use Rattle.adf_fields.specs.Words.{block, word}
+use Rattle.adf_partitions.specs.declared.fault.DiskCause.TheVariants.{OutOfRange, Repeated, NotPartition, BadSum, TooMany}
+use Rattle.adf_partitions.specs.declared.fault.DiskFault.{DiskFault}
+use Rattle.adf_partitions.specs.declared.layout.TheConstants.{MARK, MOST_PARTITIONS, MOST_TABLES, NEXT_PART, NO_BLOCK, PART, RDSK_BLOCKS}
+use Rattle.adf_partitions.specs.declared.partition.Partition.{Partition}
+use Rattle.adf_partitions.specs.declared.tables.Tables.{Tables}
+use Rattle.adf_partitions.specs.Faults.{disk_fault, first_failed}
+use Rattle.adf_partitions.specs.Partitions.{partition_of}
+use Rattle.adf_partitions.specs.Summed.{is_summed}
+use Rattle.adf_partitions.specs.Tables.{HasNoTables, IsTables, is_table}
+
+-- whether block b is that of a partition
+abbrev pub is_at : ℕ → Partition → Bool
+is_at b partition = partition.block == b
+
+-- the tests of block b, which block a names, as the next partition block
+abbrev pub part_form : List ℕ → Tables → List Partition → ℕ → ℕ → List (Bool × DiskFault)
+part_form bytes t ps a b =
+    (is_table bytes t b, disk_fault a OutOfRange)
+    ∷ (not (list_any (is_at b) ps), disk_fault b Repeated)
+    ∷ (word (block bytes b) MARK == PART, disk_fault b NotPartition)
+    ∷ (is_summed (block bytes b), disk_fault b BadSum)
+    ∷ (nat_lt (length ps) MOST_PARTITIONS, disk_fault b TooMany)
+    ∷ []
+
+-- the partition of block b, after earlier ones
+abbrev pub partition_at : List ℕ → ℕ → Tables → List Partition → ℕ → Partition
+partition_at bytes n t ps b = partition_of n t ps b (block bytes b)
+
+-- The partitions found so far, in the list's order, the last block of the list, and the one that it names: at first the
+-- rigid disk block, which names the first partition block; then each block that passes its tests, and names the next.
+pub data IsFound (bytes : List ℕ) (n : ℕ) (t : Tables) : List Partition → ℕ → ℕ → Type 0 where
+  start : IsFound bytes n t [] t.rdsk t.first
+  step : {ps : List Partition} {a b : ℕ} → IsFound bytes n t ps a b → b ≢ NO_BLOCK → first_failed (part_form bytes t ps a b) ≡ None
+      → IsFound bytes n t (ps ++ partition_at bytes n t ps b ∷ []) b (word (block bytes b) NEXT_PART)
+
+-- these are all partitions of the list: its last block names none
+abbrev pub IsWhole : List ℕ → ℕ → Tables → List Partition → Type 0
+IsWhole bytes n t ps = (last : ℕ) × IsFound bytes n t ps last NO_BLOCK
+
+-- these are the tables of a disk and all its partitions
+pub record IsDisk (bytes : List ℕ) (n : ℕ) (t : Tables) (ps : List Partition) : Type 0 where
+  pub tables : IsTables bytes t
+  pub whole : IsWhole bytes n t ps
+
+-- the first fault of a list: that of a block which is named after those that pass their tests
+pub record IsListFault (bytes : List ℕ) (n : ℕ) (t : Tables) (f : DiskFault) : Type 0 where
+  pub parts : List Partition
+  pub last : ℕ
+  pub next : ℕ
+  pub found : IsFound bytes n t parts last next
+  pub some : next ≢ NO_BLOCK
+  pub failed : first_failed (part_form bytes t parts last next) ≡ Some f
+
+-- the first fault of a disk: it has no tables, or the list of its partition blocks has a fault
+pub data FirstFault (bytes : List ℕ) (n : ℕ) (f : DiskFault) : Type 0 where
+  at_tables : HasNoTables bytes f → FirstFault bytes n f
+  at_list : {t : Tables} → IsTables bytes t → IsListFault bytes n t f → FirstFault bytes n f
+
+-- the bytes hold the blocks that may be the rigid disk block, and those that may have tables
+abbrev pub HoldsTables : List ℕ → Tables → Type 0
+HoldsTables bytes t = (RDSK_BLOCKS * 512 ≤ length bytes) × (min (t.highest + 1) MOST_TABLES * 512 ≤ length bytes)

@@ -1,0 +1,73 @@
+-- Partitions. p is the partition block, n the number of blocks of the disk, t its tables, `earlier` the partitions before.
+use Rattle.std.specs.Prelude.{ℕ, ◌-◌, ◌==◌, ◌&&◌, if◌then◌else◌, not, nat_le, Bool, false, List, [], ◌∷◌, Option, Some, None, Result, Ok, Err}
+use Rattle.std.specs.Prelude.{bytes_eq, slice_get, slice_index, take}
+use Rattle.std.specs.Int.{w32, cast_signed}
+use Rattle.std.specs.List.{list_all, list_any}
+use Rattle.adf_fields.specs.Words.{word}
+use Rattle.adf_tree.specs.Texts.{is_name_byte, uppers}
+use Rattle.adf_blocks.specs.Forms.{text_at}
+use Rattle.adf_partitions.specs.declared.layout.TheConstants.{BLOCK_SECTORS, BOOT_PRIORITY, DOS_TYPE, DRIVE_NAME, ENV_BLOCK_WORDS, ENV_LENGTH, FLAGS}
+use Rattle.adf_partitions.specs.declared.partition.Partition.{Partition}
+use Rattle.adf_partitions.specs.declared.place.Place.{Place}
+use Rattle.adf_partitions.specs.declared.place.PlaceFault.{PlaceFault}
+use Rattle.adf_partitions.specs.declared.place.PlaceFault.TheVariants.{ShortEnvironment, OtherBlocks, NoCylinders, BeyondImage, OverTables, OverPartition, BadName}
+use Rattle.adf_partitions.specs.declared.tables.Tables.{Tables}
+use Rattle.adf_partitions.specs.Faults.{first_failed}
+use Rattle.adf_partitions.specs.Places.{do_overlap, end_of, has_cylinders, is_over_tables, place_of}
+
+-- the drive's name, cut to 31 bytes
+abbrev pub name_at : List ℕ → List ℕ
+name_at p = take 31 (text_at p DRIVE_NAME)
+
+-- whether it is a name: 1 to 31 bytes, none of them `/` or `:`
+abbrev pub has_name : List ℕ → Bool
+has_name p = nat_le 1 (slice_index p DRIVE_NAME) && nat_le (slice_index p DRIVE_NAME) 31 && list_all is_name_byte (name_at p)
+
+-- whether a place has a block of another one, if that is one
+abbrev pub is_over_place : Place → Result Place PlaceFault → Bool
+is_over_place q (Ok r) = do_overlap q r
+is_over_place q (Err f) = false
+
+-- whether a place has a block of a partition that has a place
+abbrev pub is_over : Place → Partition → Bool
+is_over q other = is_over_place q other.place
+
+-- whether a place has a block of one of these partitions that has a place
+abbrev pub is_over_earlier : Place → List Partition → Bool
+is_over_earlier q earlier = list_any (is_over q) earlier
+
+-- the tests of a partition alone
+abbrev pub place_form : ℕ → Tables → List Partition → List ℕ → List (Bool × PlaceFault)
+place_form n t earlier p =
+    (nat_le 16 (word p ENV_LENGTH), ShortEnvironment)
+    ∷ ((word p ENV_BLOCK_WORDS == 128) && (word p BLOCK_SECTORS == 1), OtherBlocks)
+    ∷ (has_cylinders p, NoCylinders)
+    ∷ (nat_le (end_of (place_of p)) n, BeyondImage)
+    ∷ (not (is_over_tables (place_of p) t), OverTables)
+    ∷ (not (is_over_earlier (place_of p) earlier), OverPartition)
+    ∷ (has_name p, BadName)
+    ∷ []
+
+-- a place, or what is wrong
+abbrev pub placed : Place → Option PlaceFault → Result Place PlaceFault
+placed q None = Ok q
+placed q (Some f) = Err f
+
+-- the partition of partition block b, after earlier ones
+abbrev pub partition_of : ℕ → Tables → List Partition → ℕ → List ℕ → Partition
+partition_of n t earlier b p = record {
+  block = b;
+  name = name_at p;
+  flags = word p FLAGS;
+  priority = cast_signed w32 (word p BOOT_PRIORITY);
+  dos_type = word p DOS_TYPE;
+  place = placed (place_of p) (first_failed (place_form n t earlier p));
+}
+
+-- whether a partition has this name, ignoring case
+abbrev pub is_named : List ℕ → Partition → Bool
+is_named name partition = bytes_eq (uppers partition.name) (uppers name)
+
+-- the partition with this number, counted from 1
+abbrev pub partition_numbered : List Partition → ℕ → Option Partition
+partition_numbered ps number = if number == 0 then None else slice_get ps (number - 1)

@@ -1,0 +1,48 @@
+-- The rigid disk block, and the blocks kept for a disk's tables. The list is of the first bytes of the disk.
+use Rattle.std.specs.Prelude.{◌≡◌, ◌≢◌, ◌⊎◌, ◌<◌, ℕ, ◌==◌, ◌&&◌, nat_le, nat_lt, Bool, true, false, List}
+use Rattle.adf_fields.specs.Words.{block, word}
+use Rattle.adf_partitions.specs.declared.fault.DiskCause.TheVariants.{NoRigidDisk, BlockSize}
+use Rattle.adf_partitions.specs.declared.fault.DiskFault.{DiskFault}
+use Rattle.adf_partitions.specs.declared.layout.TheConstants.{BLOCK_BYTES, FIRST_PART, HIGHEST_TABLE, LOWEST_TABLE, MARK, MOST_TABLES, RDSK, RDSK_BLOCKS}
+use Rattle.adf_partitions.specs.declared.tables.Tables.{Tables}
+use Rattle.adf_partitions.specs.Faults.{disk_fault}
+use Rattle.adf_partitions.specs.Summed.{holds, is_summed}
+
+-- whether block b is a rigid disk block
+abbrev pub is_rdsk : List ℕ → ℕ → Bool
+is_rdsk bytes b = holds bytes b && (word (block bytes b) MARK == RDSK) && is_summed (block bytes b)
+
+-- the rigid disk block of a disk: the first of those before block RDSK_BLOCKS
+pub record IsRdsk (bytes : List ℕ) (b : ℕ) : Type 0 where
+  pub low : b < RDSK_BLOCKS
+  pub is : is_rdsk bytes b ≡ true
+  pub first : (k : ℕ) → k < b → is_rdsk bytes k ≡ false
+
+-- a disk without a rigid disk block
+abbrev pub HasNoRdsk : List ℕ → Type 0
+HasNoRdsk bytes = (k : ℕ) → k < RDSK_BLOCKS → is_rdsk bytes k ≡ false
+
+-- the tables of a rigid disk block
+abbrev pub tables_at : List ℕ → ℕ → Tables
+tables_at bytes b = record {
+  rdsk = b;
+  first = word (block bytes b) FIRST_PART;
+  lowest = word (block bytes b) LOWEST_TABLE;
+  highest = word (block bytes b) HIGHEST_TABLE;
+}
+
+-- the tables of a disk, whose blocks have 512 bytes
+pub record IsTables (bytes : List ℕ) (t : Tables) : Type 0 where
+  pub rdsk : IsRdsk bytes t.rdsk
+  pub size : word (block bytes t.rdsk) BLOCK_BYTES ≡ 512
+  pub same : t ≡ tables_at bytes t.rdsk
+
+-- no rigid disk block, reported at block 0, or one of a disk with blocks of another size
+abbrev pub HasNoTables : List ℕ → DiskFault → Type 0
+HasNoTables bytes f =
+    (HasNoRdsk bytes × (f ≡ disk_fault 0 NoRigidDisk))
+    ⊎ (IsRdsk bytes f.block × (word (block bytes f.block) BLOCK_BYTES ≢ 512) × (f.cause ≡ BlockSize))
+
+-- whether block b is kept for the tables, and the bytes hold it
+abbrev pub is_table : List ℕ → Tables → ℕ → Bool
+is_table bytes t b = nat_le t.lowest b && nat_le b t.highest && nat_lt b MOST_TABLES && holds bytes b

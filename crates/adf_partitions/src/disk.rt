@@ -1,0 +1,72 @@
+// A whole hard disk.
+
+ghost use Rattle.std.specs.Prelude.{◌≡◌, ◌≢◌, List, IfErr, IfOk, find, option_copied};
+ghost use Rattle.adf_partitions.specs.Disks.{FirstFault, IsDisk};
+ghost use Rattle.adf_partitions.specs.Partitions.{is_named, partition_numbered};
+ghost use Rattle.adf_partitions.specs.declared.fault.DiskCause.{DiskCause};
+ghost use Rattle.adf_partitions.specs.declared.partition.Partition.{Partition};
+ghost use Rattle.adf_partitions.specs.declared.tables.Tables.{Tables};
+
+use crate::fault::DiskFault;
+use crate::list::read_list;
+use crate::names::is_named;
+use crate::partition::Partition;
+use crate::tables::{Tables, read_tables};
+use std::alloc::Global;
+
+/// The partitions of a hard disk.
+#[derive(Drop)]
+pub struct Disk {
+    pub tables: Tables,
+    /// All partitions, in the order of the list.
+    pub partitions: Vec<Partition>,
+}
+
+impl Disk {
+    /// Reads the partitions of a disk of so many blocks of 512 bytes, from its first bytes: the blocks 0 to 15, and those up
+    /// to `highest` of its `Tables` that are below 65,536. The whole disk may be given, to the same effect
+    /// (`tables_are_enough`).
+    ///
+    /// The first fault: `NoRigidDisk`; `BlockSize`; then of each block that the list names, `OutOfRange`, `Repeated`,
+    /// `NotPartition`, `BadSum` or `TooMany`. What is wrong with one partition alone is its `place`. `NoMemory` if an
+    /// allocation fails.
+    pub fn open(alloc: Global, bytes: &[u8], blocks: u64) -> Result<Disk, DiskFault>
+        ensures disk { IfOk result (λ d. IsDisk bytes.now blocks d.tables d.partitions.items) }
+
+        // A fault is the first one, and then the disk has no partitions to tell. There are no others, by `one_disk` and
+        // `one_disk_fault`.
+        ensures first { IfErr result (λ f. f.cause ≢ DiskCause.NoMemory
+            → FirstFault bytes.now blocks f) }
+        ensures none { IfErr result (λ f. f.cause ≢ DiskCause.NoMemory → (t : Tables) (ps : List Partition)
+            → IsDisk bytes.now blocks t ps → ⊥) }
+        ensures memory { IfErr result (λ f. f.cause ≡ DiskCause.NoMemory → f.block ≡ 0) }
+    {
+        let tables = read_tables(bytes)?;
+        match read_list(alloc, bytes, tables, blocks) {
+            Ok(partitions) => Ok(Disk { tables, partitions }),
+            Err(fault) => Err(fault),
+        }
+    }
+
+    /// The partition with this number, counted from 1 in the order of the list; `None` if there is none.
+    pub fn numbered(&self, number: usize) -> Option<&Partition>
+        ensures { option_copied result ≡ partition_numbered self.now.partitions.items number }
+    {
+        if number == 0 {
+            return None;
+        }
+        self.partitions.get(number - 1)
+    }
+
+    /// The first partition with this name, ignoring the case of `a` to `z`; `None` if there is none.
+    pub fn named(&self, name: &[u8]) -> Option<&Partition>
+        ensures { option_copied result ≡ find (is_named name.now) self.now.partitions.items }
+    {
+        for partition in &self.partitions {
+            if is_named(name, partition) {
+                return Some(partition);
+            }
+        }
+        None
+    }
+}

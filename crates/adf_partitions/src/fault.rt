@@ -1,0 +1,40 @@
+// Why the partitions of a disk cannot be read.
+
+ghost use Rattle.std.specs.Prelude.{◌≡◌};
+ghost use Rattle.adf_partitions.specs.Faults.{disk_fault};
+
+/// What is wrong with the tables of a disk, or `NoMemory`.
+#[derive(Clone, Copy, Debug, PartialEq, Eq)]
+pub enum DiskCause {
+    /// None of the blocks 0 to 15 is a rigid disk block: one that begins with `RDSK` and has a sound sum. Reported at block 0.
+    NoRigidDisk,
+    /// Word 4 of the rigid disk block, the bytes of a block, is not 512.
+    BlockSize,
+    /// The number of a partition block is not that of a block kept for the tables, words 32 and 33 of the rigid disk block, is
+    /// not below 65,536, or the bytes end before that block does. Reported at the block that holds the number.
+    OutOfRange,
+    /// The list of partition blocks comes back to a block.
+    Repeated,
+    /// A block of the list does not begin with `PART`.
+    NotPartition,
+    /// The first words of a block of the list, 3 to 128 as its word 1 says, do not add up to 0 modulo 2^32.
+    BadSum,
+    /// The block comes after 1,024 partitions.
+    TooMany,
+    /// An allocation failed; nothing is known of the partitions. Reported at block 0.
+    NoMemory,
+}
+
+/// Why the partitions of a disk cannot be read, and the block of the fault.
+#[derive(Clone, Copy, Debug, PartialEq, Eq)]
+pub struct DiskFault {
+    pub block: u32,
+    pub cause: DiskCause,
+}
+
+/// A fault at a block.
+pub fn disk_fault(block: u32, cause: DiskCause) -> DiskFault
+    ensures { result ≡ disk_fault block cause }
+{
+    DiskFault { block, cause }
+}

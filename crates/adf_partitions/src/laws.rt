@@ -1,0 +1,51 @@
+// The laws of disks. Each law is the contract of a function that does nothing at run time.
+
+ghost use Rattle.std.specs.Prelude.{◌≡◌, ◌≤◌, ◌*◌, ◌++◌, ◌↔◌, ℕ, List, length, All, AllPairs};
+ghost use Rattle.adf_partitions.specs.Disks.{FirstFault, HoldsTables, IsDisk};
+ghost use Rattle.adf_partitions.specs.Tables.{HasNoTables, IsTables};
+ghost use Rattle.adf_partitions.specs.Volumes.{VolumeLiesWell, VolumesAreApart};
+ghost use Rattle.adf_partitions.specs.declared.layout.TheConstants.{RDSK_BLOCKS};
+ghost use Rattle.adf_partitions.specs.declared.fault.DiskFault.{DiskFault};
+ghost use Rattle.adf_partitions.specs.declared.partition.Partition.{Partition};
+ghost use Rattle.adf_partitions.specs.declared.tables.Tables.{Tables};
+
+/// A disk has at most one rigid disk block, and at most one list of partitions.
+pub fn one_disk()
+    ensures tables { (bytes : List ℕ) (t u : Tables) → IsTables bytes t → IsTables bytes u → t ≡ u }
+    ensures disk { (bytes : List ℕ) (n : ℕ) (t u : Tables) (ps qs : List Partition) → IsDisk bytes n t ps
+        → IsDisk bytes n u qs → (t ≡ u) × (ps ≡ qs) }
+{}
+
+/// A disk with a fault of its tables has none, and one with a first fault has no list of partitions.
+pub fn no_fault_on_a_disk()
+    ensures tables { (bytes : List ℕ) (t : Tables) (f : DiskFault) → HasNoTables bytes f → IsTables bytes t
+        → ⊥ }
+    ensures disk { (bytes : List ℕ) (n : ℕ) (t : Tables) (ps : List Partition) (f : DiskFault)
+        → FirstFault bytes n f → IsDisk bytes n t ps → ⊥ }
+{}
+
+/// A disk has at most one first fault.
+pub fn one_disk_fault()
+    ensures { (bytes : List ℕ) (n : ℕ) (f g : DiskFault) → FirstFault bytes n f → FirstFault bytes n g → f ≡ g }
+{}
+
+/// The first bytes of a disk are enough if they hold the blocks 0 to 15 and those kept for the tables: what follows them
+/// changes nothing.
+pub fn tables_are_enough()
+    ensures tables { (bytes rest : List ℕ) (t : Tables) → RDSK_BLOCKS * 512 ≤ length bytes
+        → IsTables bytes t ↔ IsTables (bytes ++ rest) t }
+    ensures none { (bytes rest : List ℕ) (f : DiskFault) → RDSK_BLOCKS * 512 ≤ length bytes
+        → HasNoTables bytes f ↔ HasNoTables (bytes ++ rest) f }
+    ensures disk { (bytes rest : List ℕ) (n : ℕ) (t : Tables) (ps : List Partition) → HoldsTables bytes t
+        → IsDisk bytes n t ps ↔ IsDisk (bytes ++ rest) n t ps }
+    ensures fault { (bytes rest : List ℕ) (n : ℕ) (t : Tables) (f : DiskFault) → HoldsTables bytes t
+        → IsTables bytes t → FirstFault bytes n f ↔ FirstFault (bytes ++ rest) n f }
+{}
+
+/// The volumes of a disk lie within it, beside its tables and apart from each other.
+pub fn volumes_lie_apart()
+    ensures each { (bytes : List ℕ) (n : ℕ) (t : Tables) (ps : List Partition) → IsDisk bytes n t ps
+        → All (VolumeLiesWell n t) ps }
+    ensures apart { (bytes : List ℕ) (n : ℕ) (t : Tables) (ps : List Partition) → IsDisk bytes n t ps
+        → AllPairs VolumesAreApart ps }
+{}

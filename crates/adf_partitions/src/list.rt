@@ -1,0 +1,82 @@
+// The list of partition blocks.
+
+ghost use Rattle.std.specs.Prelude.{◌≡◌, ◌≢◌, ◌++◌, [], ◌∷◌, Some, None, ◌<◌, length, IfErr, IfOk, OnOk, MatchResult};
+ghost use Rattle.std.specs.List.{list_any};
+ghost use Rattle.adf_fields.specs.Words.{block};
+ghost use Rattle.adf_partitions.specs.Disks.{IsListFault, IsWhole, is_at, part_form};
+ghost use Rattle.adf_partitions.specs.Faults.{first_failed};
+
+use crate::fault::{DiskCause, DiskFault, disk_fault};
+use crate::layout::{MARK, MOST_PARTITIONS, NEXT_PART, NO_BLOCK, PART};
+use crate::partition::{Partition, partition_of};
+use crate::summed::is_summed;
+use crate::tables::{Tables, is_table};
+use adf_fields::Block;
+use std::alloc::Global;
+
+// Whether the list has come to a block.
+fn is_found(earlier: &[Partition], b: u32) -> bool
+    ensures { result ≡ list_any (is_at b) earlier.now }
+{
+    earlier.iter().any(|partition| partition.block == b)
+}
+
+// The partition block `b`, which `holder` names, after the earlier ones.
+fn read_part<'a>(
+    bytes: &'a [u8],
+    tables: Tables,
+    earlier: &[Partition],
+    holder: u32,
+    b: u32,
+) -> Result<Block<'a>, DiskFault>
+    ensures form { MatchResult result
+        (λ p. (first_failed (part_form bytes.now tables earlier.now holder b) ≡ None)
+        × (p ≡ block bytes.now b))
+        (λ f. first_failed (part_form bytes.now tables earlier.now holder b) ≡ Some f) }
+    ensures few { OnOk result (length earlier.now < MOST_PARTITIONS) }
+{
+    if !is_table(bytes, tables, b) {
+        return Err(disk_fault(holder, DiskCause::OutOfRange));
+    }
+    if is_found(earlier, b) {
+        return Err(disk_fault(b, DiskCause::Repeated));
+    }
+    let part = Block::at(bytes, b).unwrap();
+    if part.word(MARK) != PART {
+        return Err(disk_fault(b, DiskCause::NotPartition));
+    }
+    if !is_summed(&part) {
+        return Err(disk_fault(b, DiskCause::BadSum));
+    }
+    if earlier.len() >= MOST_PARTITIONS {
+        return Err(disk_fault(b, DiskCause::TooMany));
+    }
+    Ok(part)
+}
+
+/// Reads all partitions of a disk of so many blocks.
+pub fn read_list(
+    alloc: Global,
+    bytes: &[u8],
+    tables: Tables,
+    blocks: u64,
+) -> Result<Vec<Partition>, DiskFault>
+    ensures whole { IfOk result (λ v. IsWhole bytes.now blocks tables v.items) }
+    ensures fault { IfErr result (λ f. f.cause ≢ DiskCause.NoMemory
+        → IsListFault bytes.now blocks tables f) }
+    ensures memory { IfErr result (λ f. f.cause ≡ DiskCause.NoMemory → f.block ≡ 0) }
+{
+    let mut found = Vec::new(alloc);
+    let mut holder = tables.rdsk;
+    let mut next = tables.first;
+    while next != NO_BLOCK {
+        let part = read_part(bytes, tables, &found, holder, next)?;
+        let partition = partition_of(next, &part, tables, blocks, &found);
+        if found.push(partition).is_err() {
+            return Err(disk_fault(0, DiskCause::NoMemory));
+        }
+        holder = next;
+        next = part.word(NEXT_PART);
+    }
+    Ok(found)
+}

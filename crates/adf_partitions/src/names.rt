@@ -1,0 +1,31 @@
+// Partitions by name.
+
+ghost use Rattle.std.specs.Prelude.{◌≡◌, bytes_eq};
+ghost use Rattle.adf_tree.specs.Texts.{uppers};
+ghost use Rattle.adf_partitions.specs.Partitions.{is_named};
+
+use crate::partition::Partition;
+use adf_fields::upper;
+
+// Whether two texts are equal, ignoring the case of `a` to `z`.
+#[tactic(auto, using(adf_tree::proofs::EqualNames::ascii_yes, adf_tree::proofs::EqualNames::ascii_no, adf_tree::proofs::EqualNames::ascii_short))]
+fn are_same(a: &[u8], b: &[u8]) -> bool
+    ensures { result ≡ bytes_eq (uppers a.now) (uppers b.now) }
+{
+    if a.len() != b.len() {
+        return false;
+    }
+    for i in 0..a.len() {
+        if upper(a[i]) != upper(b[i]) {
+            return false;
+        }
+    }
+    true
+}
+
+/// Whether a partition has this name, ignoring the case of `a` to `z`.
+pub fn is_named(name: &[u8], partition: &Partition) -> bool
+    ensures { result ≡ is_named name.now partition.now }
+{
+    are_same(partition.name.bytes(), name)
+}

@@ -1,0 +1,103 @@
+// Where the volume of a partition lies.
+
+ghost use Rattle.std.specs.Prelude.{◌≡◌, ◌≤◌, ◌+◌, SomeIff};
+ghost use Rattle.adf_fields.specs.Words.{word};
+ghost use Rattle.adf_partitions.specs.Places.{cylinder_of, do_overlap, end_of, has_cylinders, is_before_end, is_over_tables, place_of};
+
+use crate::layout::{HIGH_CYLINDER, LOW_CYLINDER, SURFACES, TRACK_BLOCKS};
+use crate::tables::Tables;
+use adf_fields::Block;
+
+/// Where a volume lies on a disk.
+#[derive(Clone, Copy, Debug, PartialEq, Eq)]
+pub struct Place {
+    /// The block of the disk that is block 0 of the volume.
+    pub first: u64,
+    /// The number of blocks of 512 bytes, at least 1.
+    pub blocks: u64,
+}
+
+/// What is wrong with one partition. The tests run in the order given.
+#[derive(Clone, Copy, Debug, PartialEq, Eq)]
+pub enum PlaceFault {
+    /// The environment has fewer than 16 words, so that it lacks the type: word 32.
+    ShortEnvironment,
+    /// A block has not 128 words, or not one sector: words 33 and 36.
+    OtherBlocks,
+    /// The highest cylinder is below the lowest, or a cylinder has no blocks: words 41 and 42, 35 and 37.
+    NoCylinders,
+    /// The volume ends beyond the image.
+    BeyondImage,
+    /// The volume has a block that is kept for the tables, or the rigid disk block.
+    OverTables,
+    /// The volume has a block of an earlier partition that has a place.
+    OverPartition,
+    /// The drive's name is empty, longer than 31 bytes, or has `/` or `:`.
+    BadName,
+}
+
+// The blocks of a cylinder: surfaces times blocks of a track.
+#[tactic(auto, using(crate::proofs::Products::product_fits))]
+fn cylinder_of(p: &Block<'_>) -> u64
+    ensures { result ≡ cylinder_of p.now }
+{
+    u64::from(p.word(SURFACES)) * u64::from(p.word(TRACK_BLOCKS))
+}
+
+/// Whether the highest cylinder is at least the lowest, and a cylinder has blocks.
+pub fn has_cylinders(p: &Block<'_>) -> bool
+    ensures { result ≡ has_cylinders p.now }
+{
+    p.word(LOW_CYLINDER) <= p.word(HIGH_CYLINDER) && cylinder_of(p) != 0
+}
+
+/// The place of the volume of a partition block; `None` if it ends beyond so many blocks.
+#[tactic(auto, using(crate::proofs::Products::below_product, crate::proofs::Products::parted_product))]
+pub fn place_within(p: &Block<'_>, blocks: u64) -> Option<Place>
+    requires { word p.now LOW_CYLINDER ≤ word p.now HIGH_CYLINDER }
+    ensures { SomeIff result (end_of (place_of p.now) ≤ blocks) (place_of p.now) }
+{
+    let cylinder = cylinder_of(p);
+    let lowest = u64::from(p.word(LOW_CYLINDER));
+    let past = u64::from(p.word(HIGH_CYLINDER)) + 1;
+    let Some(end) = past.checked_mul(cylinder) else {
+        return None;
+    };
+    if blocks < end {
+        return None;
+    }
+    Some(Place {
+        first: lowest * cylinder,
+        blocks: (past - lowest) * cylinder,
+    })
+}
+
+// Whether a block is before the end of a place.
+fn is_before_end(b: u64, place: Place) -> bool
+    ensures { result ≡ is_before_end b place }
+{
+    b < place.first || b - place.first < place.blocks
+}
+
+/// Whether two places have a block in common.
+pub fn do_overlap(one: Place, other: Place) -> bool
+    ensures { result ≡ do_overlap one other }
+{
+    is_before_end(one.first, other) && is_before_end(other.first, one)
+}
+
+/// Whether a place has a block that is kept for the tables, or the rigid disk block.
+pub fn is_over_tables(place: Place, tables: Tables) -> bool
+    ensures { result ≡ is_over_tables place tables }
+{
+    let lowest = u64::from(tables.lowest);
+    let kept = Place {
+        first: lowest,
+        blocks: (u64::from(tables.highest) + 1).saturating_sub(lowest),
+    };
+    let rdsk = Place {
+        first: u64::from(tables.rdsk),
+        blocks: 1,
+    };
+    do_overlap(place, kept) || do_overlap(place, rdsk)
+}

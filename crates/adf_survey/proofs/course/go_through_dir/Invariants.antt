@@ -1,5 +1,0 @@
-use Rattle.adf_survey.specs.Courses.{HasReachedSlot}
-use Rattle.adf_survey.proofs.course.go_through_dir.Given as goal
-
-abbrev pub invariant-loop-slot : goal.invariant-loop-slot
-invariant-loop-slot l = HasReachedSlot l.image l.found l.node l.slot l.b

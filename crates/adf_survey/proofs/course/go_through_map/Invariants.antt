@@ -1,5 +1,0 @@
-use Rattle.adf_survey.specs.Courses.{HasReachedPage}
-use Rattle.adf_survey.proofs.course.go_through_map.Given as goal
-
-abbrev pub invariant-loop-page : goal.invariant-loop-page
-invariant-loop-page l = HasReachedPage l.image l.found l.page l.holder

@@ -1,6 +1,0 @@
-use Rattle.std.proofs.Common.{refl, []}
-use Rattle.adf_survey.proofs.AllSound as laws
-use Rattle.adf_survey.proofs.laws.all_sound.Goals as goal
-
-pub returns : goal.returns
-returns c = λ image w n h v g. laws.all_sound image w [] n h v refl g

@@ -1,8 +1,0 @@
-use Rattle.std.specs.Prelude.{◌≡◌, ◌&&◌, ℕ, not, drop}
-use Rattle.adf_survey.specs.Marks.{has_mark, is_blamed}
-use Rattle.adf_survey.proofs.marks.strike_blamed.Given as goal
-
-abbrev pub invariant-loop-finding : goal.invariant-loop-finding
-invariant-loop-finding l =
-    (m : ℕ) → (has_mark l.marks.items m && not (is_blamed l.found (drop l.finding-index l.found.findings.items) m))
-    ≡ (has_mark l.initial.marks.items m && not (is_blamed l.found l.found.findings.items m))
