@@ -107,6 +107,13 @@ impl Survey<'_> {
         letters_in(self.image)
     }
 
+    /// The bytes of the image.
+    pub fn image(&self) -> &[u8]
+        ensures { result.now ≡ self.now.image }
+    {
+        self.image
+    }
+
     /// The findings, in the order of the survey.
     pub fn findings(&self) -> &[Finding]
         ensures { OnSurvey self.now.image (λ _ fs. map finding_value result.now ≡ fs) }
