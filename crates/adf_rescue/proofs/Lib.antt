@@ -18,3 +18,7 @@ pub mod WholeVolumes
 pub mod MadeRoots
 -- images that are opened
 pub mod OpenedImages
+-- lost headers
+pub mod LostHeaders
+-- hung images
+pub mod HungImages
