@@ -22,3 +22,5 @@ pub mod OpenedImages
 pub mod LostHeaders
 -- hung images
 pub mod HungImages
+-- what stays in a hung image
+pub mod HungKeeps

@@ -1,11 +1,11 @@
 // The hung image: each lost header hangs in the directory that it names, or in the root.
 
-ghost use Rattle.std.specs.Prelude.{◌≡◌, ◌≢◌, ◌<◌, ◌≤◌, ◌||◌, ◌&&◌, ◌==◌, ◌↔◌, ℕ, List, Some, None, true, false, length, IfOk, IfSome, IsNone, OnOk};
+ghost use Rattle.std.specs.Prelude.{◌≡◌, ◌≢◌, ◌<◌, ◌≤◌, ◌||◌, ◌&&◌, ◌==◌, ◌↔◌, ℕ, List, Some, None, true, false, length, is_some, IfOk, IfSome, IsNone, OnOk};
 ghost use Rattle.adf_fields.specs.Words.{block, with_block};
 ghost use Rattle.adf_blocks.specs.HeadBlock.{head_block};
 ghost use Rattle.adf_blocks.specs.declared.layout.TheConstants.{PARENT};
 ghost use Rattle.adf_blocks.specs.Sizes.{blocks};
-ghost use Rattle.adf_volume.specs.Image.{word_in};
+ghost use Rattle.adf_volume.specs.Image.{kind_of, word_in};
 ghost use Rattle.adf_volume.specs.Start.{is_image_len};
 ghost use Rattle.adf_volume.specs.Walk.{Role};
 ghost use Rattle.adf_findings.specs.Found.{owner};
@@ -311,3 +311,21 @@ pub fn hung(alloc: Global, survey: &Survey<'_>) -> Result<Option<Vec<u8>>, NoMem
     let made = made(alloc, survey, &lost)?;
     Ok(Some(changed(alloc, survey, &Loose { lost, made })?))
 }
+
+/// What stays of the image of a survey in its hung image, if it has the length of a volume: the length; each block that
+/// is not hung, nor a home of what is; each block of an entry that is no directory; and the boot block, with the kind.
+pub fn hung_keeps()
+    ensures length { (given : List ℕ) (w : List (Role × ℕ)) (fs : List FindingValue)
+        → is_image_len (length given) ≡ true → length (hung given w fs) ≡ length given }
+    ensures blocks { (given : List ℕ) (w : List (Role × ℕ)) (fs : List FindingValue)
+        → is_image_len (length given) ≡ true → (b : ℕ) → is_hung given w fs b ≡ false
+        → ((d : ℕ) → is_hung given w fs d ≡ true → home given w fs d ≢ b)
+        → block (hung given w fs) b ≡ block given b }
+    ensures entries { (given : List ℕ) (w : List (Role × ℕ)) (fs : List FindingValue)
+        → is_image_len (length given) ≡ true → (b : ℕ) → is_some (owner w b) ≡ true
+        → directory_at given w b ≡ None → block (hung given w fs) b ≡ block given b }
+    ensures boot { (given : List ℕ) (w : List (Role × ℕ)) (fs : List FindingValue)
+        → is_image_len (length given) ≡ true → block (hung given w fs) 0 ≡ block given 0 }
+    ensures kind { (given : List ℕ) (w : List (Role × ℕ)) (fs : List FindingValue)
+        → is_image_len (length given) ≡ true → kind_of (hung given w fs) ≡ kind_of given }
+{}

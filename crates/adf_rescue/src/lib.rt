@@ -13,7 +13,7 @@ mod rooms;
 mod salvage;
 mod standing;
 
-pub use crate::hung::hung as hung_image;
+pub use crate::hung::{hung as hung_image, hung_keeps};
 pub use crate::laws::{
     one_rescue, rescued_additions_have_their_tree, sound_files_stand, whole_is_kept,
 };
