@@ -24,7 +24,8 @@ use Rattle.adf_findings.specs.Survey.IsSurvey.{read, unread}
 use Rattle.adf_findings.proofs.BitSteps.{at_has}
 use Rattle.adf_findings.proofs.Keys.{lacks_at, same_of_key}
 use Rattle.adf_findings.proofs.OneSurvey.{gathered}
-use Rattle.adf_rescue.specs.Lost.{AreEntered, AreSettled, bit_told, directory_at, directory_in, denies, has_entry, has_finding, is_denied, is_directory_at, is_inside, is_lost, is_of}
+use Rattle.adf_rescue.specs.Lost.{AreEntered, AreSettled, bit_told, directory_at, directory_in, denies, has_entry, has_finding, is_denied}
+use Rattle.adf_rescue.specs.Lost.{is_directory_at, is_inside, is_lost, is_of}
 use Rattle.adf_rescue.specs.Lost.{is_set_in}
 use Rattle.adf_findings.specs.Surveyed.{IsBitTold}
 

@@ -13,7 +13,8 @@ ghost use Rattle.adf_findings.specs.Marks.{has_mark};
 ghost use Rattle.adf_findings.specs.Survey.{FindingValue, IsSurvey, OnSurvey};
 ghost use Rattle.adf_rescue.specs.Lost.{AreLost, directory_at, has_lost, is_lost, lost_among};
 ghost use Rattle.adf_rescue.specs.Rescue.{lost_name};
-ghost use Rattle.adf_rescue.specs.Hung.{AreLoose, AreMade, emptied, home, hung, hung_in, hung_loose, is_directory, is_hung, is_made, is_vacant, made_header, ready_in, readied};
+ghost use Rattle.adf_rescue.specs.Hung.{AreLoose, AreMade, emptied, home, hung, hung_in, hung_loose, is_directory, is_hung};
+ghost use Rattle.adf_rescue.specs.Hung.{is_made, is_vacant, made_header, ready_in, readied};
 
 use crate::image::{block_count, is_image_len, root_of};
 use crate::lost::{directory_at, is_inside, is_marked, lost, mark, says_directory, word_in};
