@@ -1,8 +1,8 @@
 -- What stays in a hung image.
 -- Letters: given the image of a survey, w its walk, fs its findings; b, c, d, p blocks; k a number of blocks; i the number of a word;
 -- x, y, z images.
-use Rattle.std.specs.Prelude.{◌==◌, ◌&&◌, ◌||◌, ◌%◌, not, Some, None, cond, is_some, replicate, slice_index}
-use Rattle.std.proofs.Common.{◌≡◌, ◌≢◌, ◌≤◌, ◌<◌, ℕ, zero, suc, ◌*◌, ◌+◌, ◌/◌, ◌^◌, Bool, true, false, List, length}
+use Rattle.std.specs.Prelude.{◌==◌, ◌&&◌, ◌||◌, ◌%◌, None, cond, is_some, replicate, slice_index}
+use Rattle.std.proofs.Common.{◌≡◌, ◌≢◌, ◌≤◌, ◌<◌, ℕ, zero, suc, ◌*◌, ◌+◌, ◌^◌, Bool, true, false, List, length}
 use Rattle.std.proofs.Common.{◌∙◌, ap, arith, inl, inr, refl, subst, sym}
 use Rattle.std.proofs.lemmas.Bool.{and_from, and_left, and_parts, and_right, cases_Bool, cond-false, cond-true, not_from_true}
 use Rattle.std.proofs.lemmas.Bool.Decides.{nat_tests}
@@ -19,7 +19,7 @@ use Rattle.adf_volume.specs.Start.{is_image_len}
 use Rattle.adf_volume.specs.Walk.{Role}
 use Rattle.adf_findings.specs.Found.{owner}
 use Rattle.adf_findings.specs.Survey.{FindingValue}
-use Rattle.adf_rescue.specs.Hung.{emptied, home, hung, hung_first, hung_in, hung_loose, is_directory, is_hung, is_made, is_named, is_vacant, made_header}
+use Rattle.adf_rescue.specs.Hung.{emptied, home, hung, hung_first, hung_in, hung_loose, is_directory, is_hung, is_made, is_vacant, made_header}
 use Rattle.adf_rescue.specs.Hung.{put_in, readied, ready_in, sealed_in}
 use Rattle.adf_rescue.specs.Lost.{directory_at, is_inside, is_lost, is_unfound, says_directory, says_header}
 use Rattle.adf_rescue.proofs.HungImages.{name_is_valid}
