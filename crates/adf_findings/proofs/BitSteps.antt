@@ -38,16 +38,20 @@ at_has (x ∷ w) k b e = go (is_eq (by_key (key_of x.0) k)) refl e (at_has w k b
     go true f e again = let z : x.1 ≡ b = cc in (x.0, inl (refl, z), one_key (key_of x.0) k f)
     go false f e again = let y = again e in (y.0, inr y.1, y.2)
 
+-- the page with a key is in the walk
+pub has_page : (w : List (Role × ℕ)) (page at : ℕ) → at_key w (key_of (Page page)) ≡ Some at → Has w (Page page) at
+has_page w page at e =
+    let x = at_has w (key_of (Page page)) at e in
+    has_role w (Page page) (λ n p t j z. let y : second (Page page) ≡ second (Head n p t j) = ap second z in absurd (omega arith)) x.0 at x.1
+    (same_of_key x.0 (Page page) x.2)
+
 module _ (image : List ℕ) (f : Found) (s : Course) (v : IsCourse image s) (fs : List FindingValue)
     (st : Stands image f (record { walk = s.walk; passed_over = s.passed_over; findings = fs })) (b : ℕ) where
   abbrev page : ℕ
   page = (b - 2) / PAGE_BITS
 
   page_has : (at : ℕ) → get by_key f.taken (key_of (Page page)) ≡ Some at → Has s.walk (Page page) at
-  page_has at e =
-      let x = at_has s.walk (key_of (Page page)) at (sym (st.taken (Page page) tt) ∙ e) in
-      has_role s.walk (Page page) (λ n p t j z. let y : second (Page page) ≡ second (Head n p t j) = ap second z in absurd (omega arith)) x.0 at x.1
-      (same_of_key x.0 (Page page) x.2)
+  page_has at e = has_page s.walk page at (sym (st.taken (Page page) tt) ∙ e)
 
   -- without its page a bit is not compared
   pub no_page : get by_key f.taken (key_of (Page page)) ≡ None → BitTells image s b None
@@ -78,7 +82,7 @@ module _ (image : List ℕ) (f : Found) (s : Course) (v : IsCourse image s) (fs 
 
   -- with its page the bit tells by whose the block is
   pub page_tells : (o p k t : Bool) → o ≡ owns s.walk b → p ≡ owns s.passed_over b → k ≡ is_cache image b → IsValidated image
-      → IsBitOf image f page ((b - 2) % PAGE_BITS) (Some t) → BitTells image s b (cause_told o (p || k) t)
+      → IsBitOf image f.taken page ((b - 2) % PAGE_BITS) (Some t) → BitTells image s b (cause_told o (p || k) t)
   page_tells o p k t oe pe ke vd x =
       let h = page_has x.0 x.1 in
       tells_bit o (p || k) t x.0 vd h (subst (λ o. Tells (not o) (IsAbsent s.walk b)) (sym oe) (tells_absent s.walk b))

@@ -1,26 +1,25 @@
 -- The result for an image is that of its survey.
-use Rattle.std.specs.Prelude.{Bool, Option, map, not, slice_get}
+use Rattle.std.specs.Prelude.{Bool, Option, ◌-◌, false, true, map, not, slice_get, slice_index}
 use Rattle.std.specs.List.{filter}
 use Rattle.std.specs.Option.{option_flatten}
 use Rattle.std.proofs.Common.{◌≡◌, ℕ, List, [], ◌++◌, ◌≤◌, refl, sym, ap, subst, ◌∙◌, arith, ◌*◌, ◌<◌, length}
 use Rattle.adf_blocks.specs.Sizes.{blocks}
 use Rattle.adf_volume.proofs.Gathered.{head_block, numbered as has_number}
 use Rattle.adf_volume.specs.Walk.{Role, second, Has, heads, node_block}
-use Rattle.adf_volume.specs.Walk.Role.{Root, Head}
+use Rattle.adf_volume.specs.Walk.Role.{Root, Page, Head}
 use Rattle.adf_volume.proofs.Roles.{head_role}
 use Rattle.adf_findings.specs.Found.{parent_node}
-use Rattle.adf_findings.specs.declared.part.Finding.{Finding}
 use Rattle.adf_findings.specs.declared.found.Found.{Found}
 use Rattle.adf_findings.specs.Files.{counting, grave, is_light}
 use Rattle.adf_findings.specs.Found.{IsCompleted, Stands}
 use Rattle.adf_findings.specs.Marks.{blamed, has_mark, is_clear}
 use Rattle.adf_findings.specs.declared.concern.Concern.{Concern}
-use Rattle.adf_findings.specs.Parts.{finding_value}
+use Rattle.adf_findings.specs.Parts.{finding_value, key_of}
 use Rattle.adf_findings.specs.Survey.{Course, FindingValue, IsSurvey, UnreadTells}
 use Rattle.adf_findings.specs.Survey.IsSurvey.{read, unread}
 use Rattle.adf_findings.specs.Sound.{IsSound}
 use Rattle.adf_volume.proofs.Gathered.{number_of}
-use Rattle.adf_findings.specs.Surveyed.{IsOfSurvey, Surveyed, TellsOf, kept_of}
+use Rattle.adf_findings.specs.Surveyed.{IsOfSurvey, Surveyed, TellsOf, block_at, owner_at}
 use Rattle.adf_findings.proofs.Concerning.{concerned_kept, no_concern_nth}
 use Rattle.adf_findings.proofs.GraveFindings.{grave_is, grave_kept}
 use Rattle.adf_findings.proofs.HeadPlaces.{head_parent}
@@ -30,21 +29,23 @@ use Rattle.adf_findings.proofs.SoundMarks.{clear_is_sound, inside, unread_none}
 use Rattle.adf_findings.proofs.Starts.{course_size}
 
 -- of an image of which nothing is taken the findings are kept alone
-pub unread_kept : (image : List ℕ) (items : List Finding) → UnreadTells image (map finding_value items)
-    → IsOfSurvey (record { image = image; findings = items; concerned = []; owners = []; nodes = []; parents = []; sound = []; whole = [] })
-unread_kept image items told = (
+pub unread_kept : (v : Surveyed) → UnreadTells v.image (map finding_value v.findings) → v.concerned ≡ [] → v.owners ≡ [] → v.taken ≡ [] → v.nodes ≡ []
+    → v.parents ≡ [] → v.sound ≡ [] → v.whole ≡ [] → IsOfSurvey v
+unread_kept v told concerned owners taken nodes parents sound whole = (
   [],
-  map finding_value items,
+  map finding_value v.findings,
   record {
     survey = unread told;
     findings = refl;
-    concerned = (λ k. sym (no_concern_nth [] (map finding_value items) k (unread_none image told)));
-    owner = (λ b. refl);
-    node = (λ n. refl);
-    parent = (λ n. refl);
-    count = omega arith;
-    sound = (λ n lo. ((λ t. cc), (λ s. absurd s.header.has)));
-    whole = (λ n lo. ((λ t. cc), (λ s. absurd s.header.has)));
+    concerned = (λ k.
+        ap (λ os. option_flatten (slice_get os k)) concerned ∙ sym (no_concern_nth [] (map finding_value v.findings) k (unread_none v.image told)));
+    owner = (λ b. ap (λ os. owner_at os b) owners);
+    page = (λ i. ap (λ es. block_at es (key_of (Page i))) taken);
+    node = (λ n. ap (λ ns. slice_index ns n) nodes);
+    parent = (λ n. ap (λ ps. slice_index ps n) parents);
+    count = (ap (λ ns. length ns - 1) nodes);
+    sound = (λ n lo. ((λ t. (let clash : false ≡ true = sym (ap (λ ms. has_mark ms n) sound) ∙ t in cc)), (λ s. absurd s.header.has)));
+    whole = (λ n lo. ((λ t. (let clash : false ≡ true = sym (ap (λ ms. has_mark ms n) whole) ∙ t in cc)), (λ s. absurd s.header.has)));
   },
 )
 
@@ -74,7 +75,17 @@ pub read_kept : (image : List ℕ) (f g : Found) (concerned : List (Option Conce
     → IsCompleted image f → concerned ≡ map (λ x. blamed f x.part) f.findings.items → ((m : ℕ) → has_mark sound m ≡ is_clear image f m)
     → g ≡ record f { findings = g.findings } → g.findings.items ≡ filter (λ x. not (is_light (finding_value x))) f.findings.items
     → ((m : ℕ) → has_mark whole m ≡ is_clear image g m)
-    → IsOfSurvey (kept_of image f.findings.items concerned f.owners.items f.nodes.items f.parents.items sound whole)
+    → IsOfSurvey (record {
+      image = image;
+      findings = f.findings.items;
+      concerned = concerned;
+      owners = f.owners.items;
+      taken = f.taken.entries;
+      nodes = f.nodes.items;
+      parents = f.parents.items;
+      sound = sound;
+      whole = whole;
+    })
 read_kept image f g concerned sound whole (s, bits, told, bits_tell) entries marks same graves whole_marks = (
   s.walk,
   s.findings ++ bits,
@@ -84,6 +95,7 @@ read_kept image f g concerned sound whole (s, bits, told, bits_tell) entries mar
     concerned = (λ k.
         ap (λ os. option_flatten (slice_get os k)) entries ∙ concerned_kept image f told.course bits bits_tell told.stands k);
     owner = owner_is image (gathered image told.course) f.owners.items told.stands.owners.1;
+    page = (λ i. told.stands.taken (Page i) tt);
     node = told.stands.node;
     parent = told.stands.parent;
     count = (let e = told.stands.count in omega arith);
@@ -99,6 +111,11 @@ read_kept image f g concerned sound whole (s, bits, told, bits_tell) entries mar
         ((λ t. x.0 (sym (whole_marks m) ∙ t)), (λ y. whole_marks m ∙ x.1 y)));
   },
 )
+
+-- an image whose course is done, with its bits compared, has a survey with these findings
+pub read_told : (image : List ℕ) (f : Found) → IsCompleted image f → (w : List (Role × ℕ)) × IsSurvey image w (map finding_value f.findings.items)
+read_told image f (s, bits, told, bits_tell) =
+    (s.walk, subst (IsSurvey image s.walk) (sym told.stands.findings) (read told.course told.done bits_tell))
 
 -- what is kept of an image tells of each survey of it
 pub tells_each : (v : Surveyed) → IsOfSurvey v → (w : List (Role × ℕ)) (fs : List FindingValue) → IsSurvey v.image w fs → TellsOf v w fs

@@ -31,6 +31,7 @@ pub mod CoursePlaces
 pub mod MapPlaces
 pub mod Begun
 pub mod BitSteps
+pub mod BitsTold
 pub mod SoundMarks
 -- the positions of headers, and the entries that findings concern
 pub mod HeadPlaces

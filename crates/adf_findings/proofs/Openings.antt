@@ -4,7 +4,8 @@ use Rattle.std.specs.Prelude.{◌&&◌, ◌↔◌, Bool, nat_le, true, false}
 use Rattle.std.proofs.Common.{◌≡◌, ◌≤◌, ℕ, List, [], inl, inr, refl, subst, arith}
 use Rattle.std.proofs.lemmas.Bool.{cases_lt}
 use Rattle.std.proofs.lemmas.Bool.Decides.{nat_tests}
-use Rattle.adf_volume.specs.Walk.{Role, HeadAt, node_block}
+use Rattle.adf_volume.specs.Walk.{Role, Has, HeadAt, node_block}
+use Rattle.adf_volume.specs.Walk.Role.{Page}
 use Rattle.adf_volume.proofs.Gathered.{IsGathered}
 use Rattle.adf_volume.proofs.Gathered.IsGathered.{start, step}
 use Rattle.adf_findings.specs.Files.{counting, grave}
@@ -32,6 +33,12 @@ begun_walk image w fs boot root (read {s = s} v d t) b r e = some_part image s.w
 pub unbegun_walk : (image : List ℕ) (w : List (Role × ℕ)) (fs gs : List FindingValue) → IsSurvey image w fs → UnreadTells image gs → w ≡ []
 unbegun_walk image w fs gs (unread f) none = refl
 unbegun_walk image w fs gs (read v d t) none = absurd (not_unread image (boot_told image v).1 (root_told image v).1 none)
+
+-- the root is taken of an image in which a page of the bitmap is found
+pub page_begun : (image : List ℕ) (w : List (Role × ℕ)) (fs gs : List FindingValue) → IsSurvey image w fs → UnreadTells image gs → (i at : ℕ)
+    → Has w (Page i) at → ⊥
+page_begun image w fs gs (unread f) none i at h = h
+page_begun image w fs gs (read v d t) none i at h = not_unread image (boot_told image v).1 (root_told image v).1 none
 
 -- the root is taken of an image in which an entry is found
 pub entry_begun : (image : List ℕ) (w : List (Role × ℕ)) (fs gs : List FindingValue) (n h : ℕ) → IsSurvey image w fs → HeadAt w n h

@@ -261,9 +261,9 @@ BitTells image s b None = IsCompared image s b → AllHold (bitmap_demands image
 BitTells image s b (Some c) = IsCompared image s b × FirstFails (bitmap_demands image s.walk b 1) b c
 
 -- whether the page is taken, and if so whether its bit is set
-abbrev pub IsBitOf : List ℕ → Found → ℕ → ℕ → Option Bool → Type 0
-IsBitOf image f page bit None = get by_key f.taken (key_of (Page page)) ≡ None
-IsBitOf image f page bit (Some t) = (at : ℕ) × (get by_key f.taken (key_of (Page page)) ≡ Some at) × (IsTrue t ↔ IsFreeAt image at bit)
+abbrev pub IsBitOf : List ℕ → BTreeMap Key ℕ → ℕ → ℕ → Option Bool → Type 0
+IsBitOf image taken page bit None = get by_key taken (key_of (Page page)) ≡ None
+IsBitOf image taken page bit (Some t) = (at : ℕ) × (get by_key taken (key_of (Page page)) ≡ Some at) × (IsTrue t ↔ IsFreeAt image at bit)
 
 -- the cause of a bit: a block in use without an owner and without an excuse, or one owned and free
 abbrev pub cause_told : Bool → Bool → Bool → Option Cause

@@ -1,42 +1,39 @@
 -- The results of a survey.
--- Letters: v a result; w, fs the walk and the findings of the survey; k the index of a finding; n a node.
-use Rattle.std.specs.Prelude.{◌≡◌, ◌≤◌, ◌-◌, ◌==◌, ◌↔◌, ℕ, Bool, true, cond, List, Option, Some, None, length, map, slice_get, slice_index, slice_index_or}
+-- Letters: v a result; w, fs the walk and the findings of the survey; k the index of a finding; n a node; b a block; i the number of a page.
+use Rattle.std.specs.Prelude.{◌≡◌, ◌≤◌, ◌-◌, ◌/◌, ◌==◌, ◌↔◌, ℕ, Bool, true, cond, List, Option, Some, None, length, map, slice_get, slice_index, slice_index_or}
+use Rattle.std.specs.BTreeMap.{is_at}
+use Rattle.std.specs.Map.{lookup}
 use Rattle.std.specs.Option.{option_flatten}
-use Rattle.adf_volume.specs.Walk.{Role, heads, node_block}
+use Rattle.adf_blocks.specs.declared.layout.TheConstants.{PAGE_BITS}
+use Rattle.adf_volume.specs.Walk.{Role, Has, heads, node_block}
+use Rattle.adf_volume.specs.Walk.Role.{Page}
 use Rattle.adf_findings.specs.declared.concern.Concern.{Concern}
 use Rattle.adf_findings.specs.declared.part.Finding.{Finding}
+use Rattle.adf_findings.specs.declared.part.Key.{Key}
 use Rattle.adf_findings.specs.Concerned.{concern_of_nth, is_taken}
 use Rattle.adf_findings.specs.Files.{grave}
-use Rattle.adf_findings.specs.Found.{owner, parent_node}
+use Rattle.adf_findings.specs.Found.{at_key, owner, parent_node}
 use Rattle.adf_findings.specs.Marks.{has_mark}
-use Rattle.adf_findings.specs.Parts.{finding_value}
+use Rattle.adf_findings.specs.Parts.{by_key, finding_value, key_of}
 use Rattle.adf_findings.specs.Sound.{IsSound}
-use Rattle.adf_findings.specs.Survey.{FindingValue, IsSurvey}
+use Rattle.adf_findings.specs.Survey.{FindingValue, IsSurvey, IsValidated}
 
--- the result: the findings and what they concern; the entry of each block; for each node its block, its parent, whether
--- it is sound, and whether it is but for harmless findings of headers
+-- the result: the findings and what they concern; the entry of each block; the blocks of pages, by key; for each node its
+-- block, its parent, whether it is sound, and whether it is but for harmless findings of headers
 pub record Surveyed : Type 0 where
   pub image : List ℕ
   pub findings : List Finding
   pub concerned : List (Option Concern)
   pub owners : List ℕ
+  pub taken : List (Key × ℕ)
   pub nodes : List ℕ
   pub parents : List ℕ
   pub sound : List Bool
   pub whole : List Bool
 
--- the result from its parts
-abbrev pub kept_of : List ℕ → List Finding → List (Option Concern) → List ℕ → List ℕ → List ℕ → List Bool → List Bool → Surveyed
-kept_of image findings concerned owners nodes parents sound whole = record {
-  image = image;
-  findings = findings;
-  concerned = concerned;
-  owners = owners;
-  nodes = nodes;
-  parents = parents;
-  sound = sound;
-  whole = whole;
-}
+-- the block of the part with a key by those kept
+abbrev pub block_at : List (Key × ℕ) → Key → Option ℕ
+block_at taken k = lookup (is_at (by_key k)) taken
 
 -- the entry of a block by the numbers kept of blocks; none for 0
 abbrev pub owner_at : List ℕ → ℕ → Option ℕ
@@ -52,6 +49,7 @@ pub record TellsOf (v : Surveyed) (w : List (Role × ℕ)) (fs : List FindingVal
   pub findings : map finding_value v.findings ≡ fs
   pub concerned : (k : ℕ) → option_flatten (slice_get v.concerned k) ≡ concern_of_nth w fs k
   pub owner : (b : ℕ) → owner_at v.owners b ≡ owner w b
+  pub page : (i : ℕ) → block_at v.taken (key_of (Page i)) ≡ at_key w (key_of (Page i))
   pub node : (n : ℕ) → slice_index v.nodes n ≡ node_block w n
   pub parent : (n : ℕ) → slice_index v.parents n ≡ parent_node w n
   pub count : length v.nodes - 1 ≡ heads w
@@ -61,3 +59,7 @@ pub record TellsOf (v : Surveyed) (w : List (Role × ℕ)) (fs : List FindingVal
 -- the result is that of a survey
 abbrev pub IsOfSurvey : Surveyed → Type 0
 IsOfSurvey v = (w : List (Role × ℕ)) × (fs : List FindingValue) × TellsOf v w fs
+
+-- the bitmap tells of block b whether it is free: its flag is that of a valid bitmap, and the walk has the page of b
+abbrev pub IsBitTold : List ℕ → List (Role × ℕ) → ℕ → Type 0
+IsBitTold image w b = (2 ≤ b) × IsValidated image × ((page : ℕ) × Has w (Page ((b - 2) / PAGE_BITS)) page)

@@ -8,26 +8,27 @@ ghost use Rattle.adf_findings.specs.Found.{BitTells, IsBitOf, IsCompleted, IsFin
 
 use crate::found::Found;
 use crate::image::Image;
-use crate::part::{Finding, Part};
+use crate::part::{Finding, Key, Part};
 use adf_blocks::{
     BITMAP_FLAG, Cause, OWN_KEY, PAGE_FIRST, T_DIR_CACHE, TYPE, VALID, is_set, place_of,
 };
 use adf_fields::NoMemory;
+use std::collections::BTreeMap;
 
-// Whether the bitmap flag of the root is that of a valid bitmap.
-fn is_validated(image: &Image<'_>) -> bool
+/// Whether the bitmap flag of the root is that of a valid bitmap.
+pub fn is_validated(image: &Image<'_>) -> bool
     ensures { IsTrue result ↔ IsValidated image.now }
 {
     image.word(image.root(), BITMAP_FLAG) == VALID
 }
 
-// A bit of a page; `None` if the page was not taken.
-fn bit_of(image: &Image<'_>, found: &Found, page: u32, bit: u32) -> Option<bool>
+/// A bit of a page; `None` if the page was not taken.
+pub fn bit_of(image: &Image<'_>, taken: &BTreeMap<Key, u32>, page: u32, bit: u32) -> Option<bool>
     requires { bit < PAGE_BITS }
-    ensures { IsBitOf image.now found.now page bit result }
+    ensures { IsBitOf image.now taken.now page bit result }
 {
     let key = Part::Page(page).key();
-    match found.taken.get(&key) {
+    match taken.get(&key) {
         Some(at) => {
             let word = image.word(*at, PAGE_FIRST + bit as usize / 32);
             Some(is_set(word, bit % 32))
@@ -76,7 +77,7 @@ fn cause_of_bit(image: &Image<'_>, found: &Found, b: u32) -> Option<Cause>
         return None;
     }
     let (page, bit) = place_of(b);
-    match bit_of(image, found, page, bit) {
+    match bit_of(image, &found.taken, page, bit) {
         Some(is_free) => {
             cause_told(
                 found.owned[b as usize],

@@ -13,8 +13,8 @@ pub enum Concern {
 }
 
 impl Concern {
-    // The entry or the directory.
-    pub(crate) fn node(self) -> u32
+    /// The number of the entry or the directory.
+    pub fn node(self) -> u32
         ensures { result ≡ node_of self }
     {
         match self {

@@ -7,6 +7,7 @@ mod course;
 mod file;
 mod forms;
 mod found;
+mod free;
 mod header_name;
 mod image;
 mod judge;

@@ -16,8 +16,8 @@ fn is_taken(cause: Cause) -> bool
     matches!(cause, Cause::Taken)
 }
 
-// The entry of a block; `None` if it has none.
-fn owner_at(owners: &Vec<u32>, b: u32) -> Option<Node>
+/// The entry of a block; `None` if it has none.
+pub fn owner_at(owners: &Vec<u32>, b: u32) -> Option<Node>
     ensures { result ≡ owner_at owners.now.items b }
 {
     match owners.get(b as usize).copied().unwrap_or(0) {

@@ -11,51 +11,71 @@ ghost use Rattle.adf_volume.specs.Walk.{Has, heads, node_block};
 ghost use Rattle.adf_volume.specs.Walk.Role.{Head};
 ghost use Rattle.adf_findings.specs.Concerned.{concern_of_nth, owner_of_nth};
 ghost use Rattle.adf_findings.specs.Files.{IsSoundFile, counting, file_in, grave};
-ghost use Rattle.adf_findings.specs.Found.{parent_node};
+ghost use Rattle.adf_findings.specs.Found.{owner, parent_node};
 ghost use Rattle.adf_findings.specs.Marked.{AreMarks, mark_in, whole_in};
 ghost use Rattle.adf_findings.specs.Marks.{has_mark};
 ghost use Rattle.adf_findings.specs.Opening.{opening_in};
 ghost use Rattle.adf_findings.specs.Parts.{finding_value};
 ghost use Rattle.adf_findings.specs.Sound.{IsSound};
 ghost use Rattle.adf_findings.specs.Survey.{OnSurvey};
-ghost use Rattle.adf_findings.specs.Surveyed.{IsOfSurvey, kept_of};
 
 use crate::concern::Concern;
 use crate::file::SoundFile;
 use crate::header_name::name_in;
 use crate::opening::Opening;
-use crate::owners::owner_nth;
-use crate::part::Finding;
+use crate::owners::{owner_at, owner_nth};
+use crate::part::{Finding, Key};
 use crate::start::start;
 use adf_blocks::{HeadBody, SECONDARY_TYPE, ST_FILE, meta_told};
 use adf_fields::{Block, Letters, NoMemory};
 use adf_tree::{Meta, Node};
 use adf_volume::letters_in;
 use std::alloc::Global;
+use std::collections::BTreeMap;
 use std::marker::Model;
 
 /// The result of a survey: all findings, and the entries that are found.
 #[derive(Drop)]
 pub struct Survey<'i> {
-    image: &'i [u8],
-    findings: Vec<Finding>,
-    concerned: Vec<Option<Concern>>,
-    owners: Vec<u32>,
-    nodes: Vec<u32>,
-    parents: Vec<u32>,
-    sound: Vec<bool>,
-    whole: Vec<bool>,
+    pub(crate) image: &'i [u8],
+    pub(crate) findings: Vec<Finding>,
+    pub(crate) concerned: Vec<Option<Concern>>,
+    pub(crate) owners: Vec<u32>,
+    pub(crate) taken: BTreeMap<Key, u32>,
+    pub(crate) nodes: Vec<u32>,
+    pub(crate) parents: Vec<u32>,
+    pub(crate) sound: Vec<bool>,
+    pub(crate) whole: Vec<bool>,
 }
 
 impl<'i> Model for Survey<'i> {
-    ghost use Rattle.adf_findings.specs.Surveyed.{IsOfSurvey, Surveyed, kept_of};
+    ghost use Rattle.adf_findings.specs.Surveyed.{IsOfSurvey, Surveyed};
 
     ghost Value = { Surveyed };
 
-    ghost view = { λ v. kept_of v.image.now v.findings.items v.concerned.items v.owners.items v.nodes.items v.parents.items v.sound.items v.whole.items };
+    ghost view = { λ v. record {
+      image = v.image.now;
+      findings = v.findings.items;
+      concerned = v.concerned.items;
+      owners = v.owners.items;
+      taken = v.taken.entries;
+      nodes = v.nodes.items;
+      parents = v.parents.items;
+      sound = v.sound.items;
+      whole = v.whole.items;
+    } };
 
-    ghost invariant = { λ v. IsOfSurvey
-        (kept_of v.image.now v.findings.items v.concerned.items v.owners.items v.nodes.items v.parents.items v.sound.items v.whole.items) };
+    ghost invariant = { λ v. IsOfSurvey (record {
+      image = v.image.now;
+      findings = v.findings.items;
+      concerned = v.concerned.items;
+      owners = v.owners.items;
+      taken = v.taken.entries;
+      nodes = v.nodes.items;
+      parents = v.parents.items;
+      sound = v.sound.items;
+      whole = v.whole.items;
+    }) };
 }
 
 // Whether a node has a mark.
@@ -79,43 +99,19 @@ fn concern_at(concerns: &Vec<Option<Concern>>, k: usize) -> Option<Concern>
     concerns.get(k).copied().flatten()
 }
 
-impl<'i> Survey<'i> {
-    // The result for an image.
-    pub(crate) fn new(
-        image: &'i [u8],
-        findings: Vec<Finding>,
-        concerned: Vec<Option<Concern>>,
-        owners: Vec<u32>,
-        nodes: Vec<u32>,
-        parents: Vec<u32>,
-        sound: Vec<bool>,
-        whole: Vec<bool>,
-    ) -> Survey<'i>
-        requires { IsOfSurvey
-            (kept_of image.now findings.items concerned.items owners.items
-            nodes.items parents.items sound.items whole.items) }
-        ensures { result ≡ kept_of image.now findings.items concerned.items owners.items
-            nodes.items parents.items sound.items whole.items }
-    {
-        Survey {
-            image,
-            findings,
-            concerned,
-            owners,
-            nodes,
-            parents,
-            sound,
-            whole,
-        }
-    }
-}
-
 impl Survey<'_> {
     // The letters of the volume.
     pub(crate) fn letters(&self) -> Letters
         ensures { result ≡ letters_of self.now.image }
     {
         letters_in(self.image)
+    }
+
+    /// The bytes of the image.
+    pub fn image(&self) -> &[u8]
+        ensures { result.now ≡ self.now.image }
+    {
+        self.image
     }
 
     /// The findings, in the order of the survey.
@@ -140,6 +136,14 @@ impl Survey<'_> {
         ensures { OnSurvey self.now.image (λ w fs. result ≡ owner_of_nth w fs k) }
     {
         owner_nth(&self.owners, &self.findings, k)
+    }
+
+    /// The entry that has a block: the one whose header, extension block or data block it is. `None` for a block of the root
+    /// or the bitmap, for one that is not taken, and past the last block.
+    pub fn entry_at(&self, b: u32) -> Option<Node>
+        ensures { OnSurvey self.now.image (λ w _. result ≡ owner w b) }
+    {
+        owner_at(&self.owners, b)
     }
 
     /// The number of entries found.

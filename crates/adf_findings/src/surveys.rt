@@ -18,6 +18,7 @@ use adf_blocks::Cause;
 use adf_fields::NoMemory;
 use adf_volume::Unopened;
 use std::alloc::Global;
+use std::collections::BTreeMap;
 use std::mem::replace;
 
 // Notes the cause of the boot block, if it has one.
@@ -54,16 +55,17 @@ fn only<'i>(alloc: Global, image: &'i [u8], unread: Unread) -> Result<Survey<'i>
         cause: unread.last.cause,
     };
     match findings.push(finding) {
-        Ok(()) => Ok(Survey::new(
+        Ok(()) => Ok(Survey {
             image,
             findings,
-            Vec::new(alloc),
-            Vec::new(alloc),
-            Vec::new(alloc),
-            Vec::new(alloc),
-            Vec::new(alloc),
-            Vec::new(alloc),
-        )),
+            concerned: Vec::new(alloc),
+            owners: Vec::new(alloc),
+            taken: BTreeMap::new(alloc),
+            nodes: Vec::new(alloc),
+            parents: Vec::new(alloc),
+            sound: Vec::new(alloc),
+            whole: Vec::new(alloc),
+        }),
         Err(_) => Err(NoMemory),
     }
 }
@@ -103,16 +105,17 @@ fn go_through<'i>(alloc: Global, started: &Started<'i>) -> Result<Survey<'i>, No
     let graves = grave(alloc, &found.findings)?;
     let findings = replace(&mut found.findings, graves);
     let whole = clear_marks(alloc, image, &found)?;
-    Ok(Survey::new(
-        image.bytes(),
+    Ok(Survey {
+        image: image.bytes(),
         findings,
         concerned,
-        found.owners,
-        found.nodes,
-        found.parents,
+        owners: found.owners,
+        taken: found.taken,
+        nodes: found.nodes,
+        parents: found.parents,
         sound,
         whole,
-    ))
+    })
 }
 
 /// Surveys an image: every part that has a cause, every bit that disagrees, and the entries that are found. `NoMemory`
