@@ -221,6 +221,62 @@ uint8_t adf_find(const struct adf_entry *entries, size_t count, const uint8_t *p
 size_t adf_read(const uint8_t *image, size_t length, const struct adf_entry *entries, size_t entries_count,
                 const uint32_t *blocks, size_t blocks_count, size_t node, size_t offset, uint8_t *room, size_t room_length);
 
+/* Surveys
+ *
+ * A survey goes on behind the first fault: it finds everything that is wrong, and every directory and file that can still be
+ * reached. adf-survey(1) says what each finding means, and what makes an entry sound.
+ */
+
+/* Findings of neighbouring blocks that have one cause and concern the same, in the order of the survey. */
+struct adf_finding {
+    uint32_t first;    /* the first block */
+    uint32_t last;     /* the last block */
+    size_t node;       /* the entry that is concerned, or the directory in which a header was passed over; 0 for the root and
+                          for none */
+    size_t owner;      /* if the cause is ADF_TAKEN, the entry that owns the blocks; 0 for the root, the bitmap, and other causes */
+    uint8_t cause;     /* an adf_cause */
+    uint8_t is_within; /* 1 if `node` is the directory in which a header was passed over, otherwise 0 */
+};
+
+/* An entry that is found. Entry n is at index n - 1 of the table. */
+struct adf_found {
+    size_t parent;          /* the number of its directory, 0 for the root */
+    uint32_t header;        /* the block of its header */
+    uint32_t size;          /* bytes of a file, as its header says; 0 for a directory */
+    uint32_t protection;    /* as in struct adf_entry */
+    struct adf_date date;
+    uint8_t is_file;        /* 1 for a file or a link, 0 for a directory */
+    uint8_t is_sound;       /* 1 if the entry is sound, otherwise 0 */
+    uint8_t name_length;    /* 0 to 79: the name may be none that a volume can have */
+    uint8_t name[79];       /* in no particular encoding, padded with zeros */
+    uint8_t comment_length; /* 0 to 79 */
+    uint8_t comment[79];    /* padded with zeros */
+};
+
+/* What a survey has beside its tables. Without a root nothing is found: all fields but `findings` are 0 then. */
+struct adf_surveyed {
+    uint32_t kind;        /* an adf_kind */
+    uint32_t blocks;      /* all blocks, the two boot blocks included */
+    size_t findings;      /* rows of the table of findings */
+    size_t entries;       /* directories, files and links that are found, without the root */
+    struct adf_date root; /* the three dates of the root block: its own, that of the last change, that of the creation */
+    struct adf_date altered;
+    struct adf_date created;
+    uint8_t label_length; /* 0 to 30 */
+    uint8_t label[30];    /* in no particular encoding, padded with zeros */
+};
+
+/* Surveys an image of this length, and fills two tables, each as far as there is room: its findings, and the entries that are
+ * found. Returns an adf_cause: 0 or ADF_NO_MEMORY.
+ *
+ * 0: the tables and `surveyed` are those of the image's survey. surveyed->findings and surveyed->entries are the whole numbers,
+ *    whatever the rooms: if a room is smaller, the table is only its front part, and a second call with rooms of these sizes
+ *    gives all. The rest of a room is unchanged.
+ * ADF_NO_MEMORY: an allocation failed. All fields are 0, and the tables are unchanged.
+ */
+uint8_t adf_survey_index(const uint8_t *image, size_t length, struct adf_finding *findings, size_t findings_room,
+                         struct adf_found *entries, size_t entries_room, struct adf_surveyed *surveyed);
+
 struct adf_moved {
     size_t input;      /* bytes that were read */
     size_t output;     /* bytes at the front of the room for output */

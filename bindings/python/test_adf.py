@@ -240,10 +240,11 @@ class Surveys(unittest.TestCase):
         self.assertEqual(adf.survey(sound).findings, [])
         self.assertEqual(damaged.findings, [adf.Finding(2, 2, "bad sum", "c", None)])
         directory, file = damaged.entries
-        self.assertEqual(directory, adf.Found(False, False, 1, 0, adf.Date(0, 0, 0), "c", ""))
-        self.assertEqual(file, adf.Found(True, True, 15, 488, adf.Date(8035, 1, 50), "c/l\xf6ng", "a\tb"))
-        self.assertEqual((damaged.label, damaged.raw_label), ("B\xfccher", b"B\xfccher"))
-        self.assertEqual(damaged.read(file.path), b"A" * 488)
+        self.assertEqual(directory[1:], (1, 0, 2, 0, 1, adf.Date(0, 0, 0), False, False, b"c", b""))
+        self.assertEqual(file[1:], (2, 1, 3, 488, 15, adf.Date(8035, 1, 50), True, True, b"l\xf6ng", b"a\tb"))
+        self.assertEqual((file.name, file.path, file.comment), ("l\xf6ng", "c/l\xf6ng", "a\tb"))
+        self.assertEqual((damaged.label, damaged.raw_label, damaged.kind), ("B\xfccher", b"B\xfccher", "ofs"))
+        self.assertEqual((damaged.read(file.path), file.read()), (b"A" * 488, b"A" * 488))
         for path in ("", "c"):
             with self.assertRaises(IsADirectoryError):
                 damaged.read(path)
@@ -253,10 +254,18 @@ class Surveys(unittest.TestCase):
         with self.assertRaisesRegex(OSError, "damaged"):
             adf.survey(changed(sound, 3, 323, 1)).read(file.path)
 
+    def test_tells_what_findings_concern(self):
+        # The chain of `b`, in slot 7, goes on to the header of `a`, which slot 6 has; byte 499 is the last of the next in the chain.
+        sound = built("volume ofs 16\nfile 0:0:0 00000000 a\nfill 9 41\nfile 0:0:0 00000000 b\n")
+        one, other = (adf.Volume(sound)[name].header for name in "ab")
+        found = adf.survey(changed(sound, other, 499, one))
+        self.assertEqual(found.findings, [adf.Finding(other, other, "bad sum", "b", None), adf.Finding(one, one, "taken", "/", "a")])
+        self.assertEqual([(entry.path, entry.is_sound) for entry in found.entries], [("a", True), ("b", False)])
+
     def test_finds_nothing_in_no_volume(self):
         nothing = adf.survey(b"")
         self.assertEqual((nothing.findings, nothing.entries), ([adf.Finding(0, 0, "bad size", None, None)], []))
-        self.assertEqual((nothing.label, nothing.raw_label), ("", b""))
+        self.assertEqual((nothing.label, nothing.raw_label, nothing.kind), ("", b"", ""))
 
     def test_rescues_what_stands(self):
         sound = built("volume ofs 16\nfile 0:0:0 00000000 a\nfill 489 41\ndir 0:0:0 00000000 c\n")

@@ -72,6 +72,15 @@ _Contents = _struct(
     *(("kind blocks used free", _WORD), ("entries data_blocks", _SIZE), ("block", _WORD)),
     *(("root altered created", _Date), ("label_length", _BYTE), ("label", _BYTE * 30)),
 )
+_Finding = _struct(("first last", _WORD), ("node owner", _SIZE), ("cause is_within", _BYTE))
+_Found = _struct(
+    *(("parent", _SIZE), ("header size protection", _WORD), ("date", _Date), ("is_file is_sound name_length", _BYTE)),
+    *(("name", _BYTE * 79), ("comment_length", _BYTE), ("comment", _BYTE * 79)),
+)
+_Surveyed = _struct(
+    *(("kind blocks", _WORD), ("findings entries", _SIZE)),
+    *(("root altered created", _Date), ("label_length", _BYTE), ("label", _BYTE * 30)),
+)
 _Moved = _struct(("input output errors", _SIZE), ("output_full errors_full", _BOOL))
 _CALLS = {
     "adf_check": (_BYTE, _POINTER, _SIZE, _POINTER),
@@ -81,6 +90,7 @@ _CALLS = {
     "adf_read": (_SIZE, *(_POINTER, _SIZE) * 3, _SIZE, _SIZE, _POINTER, _SIZE),
     "adf_cause_text": (_SIZE, _BYTE, _POINTER, _SIZE),
     "adf_run": (_BYTE, *(_POINTER, _SIZE) * 4, _POINTER),
+    "adf_survey_index": (_BYTE, _POINTER, _SIZE, _POINTER, _SIZE, _POINTER, _SIZE, _POINTER),
     "adf_survey_run": (_BYTE, *(_POINTER, _SIZE) * 4, _POINTER),
 }
 _library: ctypes.CDLL | None = None
@@ -236,13 +246,13 @@ def survey(image: Image, blocks: int | None = None) -> Survey:
     return Survey(image, blocks)
 
 
-def _sized(blocks: int | None) -> list[str]:
-    """The words for a number of blocks."""
+def _sized(image: bytes, blocks: int | None) -> bytes:
+    """The image of so many blocks that begins with these bytes; zeros stand for what is missing."""
     if blocks is None:
-        return []
+        return image
     if not 0 <= blocks <= MOST_BYTES // BLOCK:
         raise ValueError(f"{blocks} blocks")
-    return ["--blocks", str(blocks)]
+    return image[: BLOCK * blocks].ljust(BLOCK * blocks, b"\0")
 
 
 class LeftOut(NamedTuple):
@@ -255,7 +265,7 @@ class LeftOut(NamedTuple):
 def rescue(image: Image, blocks: int | None = None) -> tuple[bytes, list[LeftOut]]:
     """A new, sound volume of as many bytes with all that stands in an image, and the entries that are found and left out; with a
     number of blocks as if the image had so many. Refused where nothing stands."""
-    status, volume, errors = _run(_calls().adf_survey_run, "adf-survey", [*_sized(blocks), "rescue"], image)
+    status, volume, errors = _run(_calls().adf_survey_run, "adf-survey", ["rescue"], _sized(_bytes(image), blocks))
     if status == 3:
         raise MemoryError(errors.decode("ascii").strip())
     if not volume:
@@ -278,18 +288,47 @@ class Finding(NamedTuple):
 
 
 class Found(NamedTuple):
-    """An entry that is found: whether it is sound; the columns of `adf list`; its comment."""
+    """A directory, file or link that is found: entry n is survey.entries[n - 1], and `parent` is the number of its directory, 0 for
+    the root; a link counts as a file. The name is that of the header, and may be none that a volume can have."""
 
-    is_sound: bool
-    is_file: bool
-    protection: int
+    survey: Survey
+    number: int
+    parent: int
+    header: int
     size: int
+    protection: int
     date: Date
-    path: str
-    comment: str
+    is_file: bool
+    is_sound: bool
+    raw_name: bytes
+    raw_comment: bytes
 
+    @property
+    def name(self) -> str:
+        return self.raw_name.decode("latin-1")
 
-_FOUND = re.compile(r"(sound  |damaged) (dir |file) ([0-9a-f]{8}) +(\d+|-) ([\d-]+ [\d:.]+|[\d:]+) (.*)")
+    @property
+    def comment(self) -> str:
+        return self.raw_comment.decode("latin-1")
+
+    @property
+    def path(self) -> str:
+        return self.raw_path.decode("latin-1")
+
+    @property
+    def raw_path(self) -> bytes:
+        names, entry = [self.raw_name], self
+        while entry.parent:
+            entry = self.survey.entries[entry.parent - 1]
+            names.append(entry.raw_name)
+        return b"/".join(reversed(names))
+
+    def __repr__(self) -> str:
+        return f"<adf.Found {self.path!r}>"
+
+    def read(self) -> bytes:
+        """The bytes of a sound file, as Survey.read gives them."""
+        return self.survey.read(self.raw_path)
 
 
 class _ReadOnly:
@@ -303,42 +342,58 @@ class _ReadOnly:
 
 
 class Survey(_ReadOnly):
-    """What is found in an image by `adf-survey`: findings, in its order; entries, in its order; raw_label and label, empty where
-    none is found; image, its bytes; blocks, as how many it is taken, if that was asked.
+    """What is found in an image by `adf-survey`: findings and entries, in its order; label, raw_label, kind ("ofs" or "ffs") and
+    the three dates, as the root tells them (kind "" and an empty label where there is none); image, its bytes.
 
     It has no findings exactly where `Volume` takes the image, and the first of them is what `Refused` says.
     """
 
     image: bytes
-    blocks: int | None
     findings: list[Finding]
     entries: list[Found]
+    kind: str
+    date: Date
+    altered: Date
+    created: Date
     raw_label: bytes
     label: str
 
     def __init__(self, image: Image, blocks: int | None = None) -> None:
-        vars(self).update(image=_bytes(image), blocks=blocks, findings=[], entries=[], raw_label=b"", label="")
-        for line in self._answer(["--list"]).decode("ascii").splitlines():
-            word, _, rest = line.partition(" ")
-            if word in ("block", "blocks"):
-                self.findings.append(_finding(rest))
-            elif word == "label":
-                vars(self).update(label=_plain(rest), raw_label=_plain(rest).encode("latin-1"))
-            elif word in ("sound", "damaged"):
-                self.entries.append(_found(line))
-            elif word == "note":
-                self.entries[-1] = self.entries[-1]._replace(comment=_plain(rest))
+        raw, told = _sized(_bytes(image), blocks), _Surveyed()
+        rooms, wanted = (0, 0), (FIRST_ROOM, FIRST_ROOM)
+        while rooms != wanted:
+            rooms = wanted
+            tables = (_Finding * rooms[0])(), rooms[0], (_Found * rooms[1])(), rooms[1]
+            if _calls().adf_survey_index(raw, len(raw), *tables, ctypes.byref(told)) != 0:
+                raise MemoryError
+            wanted = max(rooms[0], told.findings), max(rooms[1], told.entries)
+        label = bytes(told.label)[: told.label_length]
+        vars(self).update(
+            image=raw, kind=KINDS[told.kind] if told.blocks else "", date=_date(told.root), altered=_date(told.altered),
+            created=_date(told.created), raw_label=label, label=label.decode("latin-1"),
+        )
+        vars(self)["entries"] = [self._entry(place + 1, tables[2][place]) for place in range(told.entries)]
+        vars(self)["findings"] = [self._finding(row) for row in tables[0][: told.findings]]
+
+    def _entry(self, number: int, row: Any) -> Found:
+        name, comment = bytes(row.name)[: row.name_length], bytes(row.comment)[: row.comment_length]
+        fields = row.parent, row.header, row.size, row.protection, _date(row.date), bool(row.is_file), bool(row.is_sound)
+        return Found(self, number, *fields, name, comment)
+
+    def _finding(self, row: Any) -> Finding:
+        path = self.entries[row.node - 1].path if row.node else None
+        if row.is_within:
+            path = f"{path or ''}/"
+        return Finding(row.first, row.last, _cause(row.cause), path, self.entries[row.owner - 1].path if row.owner else None)
 
     def read(self, path: str | bytes) -> bytes:
         """The bytes of a sound file, for which the image is surveyed again. KeyError where nothing is under the path,
         IsADirectoryError where it is no file, OSError (EIO) where it is damaged."""
         try:
-            return self._answer(["cat", "--", escape(path)], path)
+            words = ["cat", "--", escape(path)]
         except UnicodeEncodeError:
             raise KeyError(path) from None
-
-    def _answer(self, words: list[str], path: str | bytes | None = None) -> bytes:
-        status, output, errors = _run(_calls().adf_survey_run, "adf-survey", [*_sized(self.blocks), *words], self.image)
+        status, output, errors = _run(_calls().adf_survey_run, "adf-survey", words, self.image)
         if status == 3:
             raise MemoryError(errors.decode("ascii").strip())
         if errors in (b"no such path\n", b"bad path\n"):
@@ -348,25 +403,6 @@ class Survey(_ReadOnly):
         if errors == b"damaged\n":
             raise OSError(errno.EIO, "damaged", path)
         return output
-
-
-def _finding(text: str) -> Finding:
-    """A finding by its line, of which the first word is read."""
-    blocks, cause, *told = text.split(": ")
-    first, *last = map(int, blocks.split(" to "))
-    path = (told[0][len("in ") :] if told[0].endswith("/") else told[0]) if told else None
-    owner = told[1][len("owned by ") :] if told[1:] else None
-    return Finding(first, last[0] if last else first, cause, *(_plain(text) if text else None for text in (path, owner)))
-
-
-def _found(line: str) -> Found:
-    """An entry that is found, by its line."""
-    parts = _FOUND.fullmatch(line)
-    if not parts:
-        raise ValueError(line)
-    mark, word, protection, size, date, path = parts.groups()
-    is_sound, is_file = mark.strip() == "sound", word == "file"
-    return Found(is_sound, is_file, int(protection, 16), int(size.replace("-", "0")), Date.of(date), _plain(path), "")
 
 
 def _plain(text: str) -> str:

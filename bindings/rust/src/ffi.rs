@@ -53,6 +53,50 @@ pub(crate) struct Contents {
     pub label: [u8; 30],
 }
 
+/// `struct adf_finding`.
+#[repr(C)]
+#[derive(Clone, Copy)]
+pub(crate) struct FindingRecord {
+    pub first: u32,
+    pub last: u32,
+    pub node: usize,
+    pub owner: usize,
+    pub cause: u8,
+    pub is_within: u8,
+}
+
+/// `struct adf_found`.
+#[repr(C)]
+#[derive(Clone, Copy)]
+pub(crate) struct FoundRecord {
+    pub parent: usize,
+    pub header: u32,
+    pub size: u32,
+    pub protection: u32,
+    pub date: Date,
+    pub is_file: u8,
+    pub is_sound: u8,
+    pub name_length: u8,
+    pub name: [u8; 79],
+    pub comment_length: u8,
+    pub comment: [u8; 79],
+}
+
+/// `struct adf_surveyed`.
+#[repr(C)]
+#[derive(Clone, Copy, Default)]
+pub(crate) struct Surveyed {
+    pub kind: u32,
+    pub blocks: u32,
+    pub findings: usize,
+    pub entries: usize,
+    pub root: Date,
+    pub altered: Date,
+    pub created: Date,
+    pub label_length: u8,
+    pub label: [u8; 30],
+}
+
 /// `struct adf_moved`.
 #[repr(C)]
 #[derive(Clone, Copy, Default)]
@@ -99,6 +143,15 @@ extern "C" {
         errors: *mut u8,
         errors_room: usize,
         moved: *mut Moved,
+    ) -> u8;
+    fn adf_survey_index(
+        image: *const u8,
+        length: usize,
+        findings: *mut FindingRecord,
+        findings_room: usize,
+        entries: *mut FoundRecord,
+        entries_room: usize,
+        surveyed: *mut Surveyed,
     ) -> u8;
     fn adf_survey_run(
         words: *const u8,
@@ -159,6 +212,53 @@ pub(crate) fn index(image: &[u8]) -> Result<Tables, Refused> {
     entries.shrink_to_fit();
     blocks.shrink_to_fit();
     Ok(Tables { contents, entries, blocks })
+}
+
+/// The tables of a survey, as `adf_survey_index` makes them.
+pub(crate) struct SurveyTables {
+    pub surveyed: Surveyed,
+    pub findings: Vec<FindingRecord>,
+    pub entries: Vec<FoundRecord>,
+}
+
+/// Surveys an image and fills tables with room for so many rows, and answers them with the whole numbers of rows.
+fn survey_into(image: &[u8], findings_room: usize, entries_room: usize) -> Result<SurveyTables, Refused> {
+    let (mut findings, mut entries) = (with_room::<FindingRecord>(findings_room)?, with_room::<FoundRecord>(entries_room)?);
+    let (findings_room, entries_room) = (findings.capacity(), entries.capacity());
+    let mut surveyed = Surveyed::default();
+    // "A pointer to bytes has as many bytes as its length or room says", and "buffers and structs need not be initialised".
+    let answer = unsafe {
+        adf_survey_index(
+            image.as_ptr(),
+            image.len(),
+            findings.as_mut_ptr(),
+            findings_room,
+            entries.as_mut_ptr(),
+            entries_room,
+            &mut surveyed,
+        )
+    };
+    if let Some(cause) = Cause::from_number(answer) {
+        return Err(Refused { cause, block: 0 });
+    }
+    // "fills two tables, each as far as there is room"; "surveyed->findings and surveyed->entries are the whole numbers": so many
+    // were written, and no more than there is room for.
+    unsafe {
+        findings.set_len(surveyed.findings.min(findings_room));
+        entries.set_len(surveyed.entries.min(entries_room));
+    }
+    Ok(SurveyTables { surveyed, findings, entries })
+}
+
+/// Surveys an image and makes its tables.
+pub(crate) fn survey(image: &[u8]) -> Result<SurveyTables, Refused> {
+    const FIRST_ROOM: usize = 1024;
+    let first = survey_into(image, FIRST_ROOM, FIRST_ROOM)?;
+    let Surveyed { findings, entries, .. } = first.surveyed;
+    if first.findings.len() == findings && first.entries.len() == entries {
+        return Ok(first);
+    }
+    survey_into(image, findings, entries)
 }
 
 /// The number of the role of each block of an image.
@@ -270,6 +370,10 @@ mod tests {
             comment_length comment));
         all.extend(layout!(Contents, "adf_contents": kind blocks used free entries data_blocks block root altered created
             label_length label));
+        all.extend(layout!(FindingRecord, "adf_finding": first last node owner cause is_within));
+        all.extend(layout!(FoundRecord, "adf_found": parent header size protection date is_file is_sound name_length name
+            comment_length comment));
+        all.extend(layout!(Surveyed, "adf_surveyed": kind blocks findings entries root altered created label_length label));
         all.extend(layout!(Moved, "adf_moved": input output errors output_full errors_full));
         all
     }

@@ -4,12 +4,14 @@ mod cause;
 mod command;
 mod ffi;
 mod role;
+mod survey;
 mod text;
 
 pub use cause::{Cause, NotFound, Refused};
 pub use command::{run, survey, Answer};
 pub use ffi::Date;
 pub use role::Role;
+pub use survey::{Finding, Found, Survey};
 pub use text::{escape, Text};
 
 use std::fmt;

@@ -1,6 +1,6 @@
 //! Small volumes, built by the library itself.
 
-use adf::{run, survey, Cause, Date, Kind, NotFound, Refused, Role, Volume};
+use adf::{run, survey, Cause, Date, Kind, NotFound, Refused, Role, Survey, Volume};
 use std::time::{Duration, SystemTime};
 
 const MANIFEST: &str = r"volume ofs 1760
@@ -211,4 +211,11 @@ fn a_survey_tells_findings_and_reads_what_stands() {
     assert_eq!((answer.status, &answer.output[..]), (1, &b"block 2: bad sum: c\n"[..]));
     let answer = survey(&["cat", "c/a"], &image);
     assert_eq!((answer.status, &answer.output[..]), (0, &b"abc"[..]));
+    let found = Survey::of(&image).unwrap();
+    let findings: Vec<_> = found.findings().map(|finding| (finding.first(), finding.last(), finding.cause())).collect();
+    assert_eq!(findings, [(2, 2, Some(Cause::BadSum))]);
+    assert_eq!(found.findings().next().and_then(|finding| finding.entry()).map(|entry| entry.path()), Some("c".to_owned()));
+    let entries: Vec<_> = found.entries().map(|entry| (entry.path(), entry.is_sound(), entry.size())).collect();
+    assert_eq!(entries, [("c".to_owned(), false, 0), ("c/a".to_owned(), true, 3)]);
+    assert_eq!((found.kind(), found.label().as_bytes()), (Some(Kind::Ofs), &b""[..]));
 }

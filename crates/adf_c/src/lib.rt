@@ -4,4 +4,5 @@
 mod causes;
 mod commands;
 mod images;
+mod surveys;
 mod tables;

@@ -11,3 +11,4 @@ pub mod TableLaws
 pub mod TableBytes
 pub mod Readings
 pub mod TableNames
+pub mod FoundRows

@@ -1,4 +1,5 @@
 pub mod Areas
+pub mod FoundTables
 pub mod OwnerNumbers
 pub mod Rooms
 pub mod TableNames

@@ -2,24 +2,28 @@
 #![tactic(auto)]
 
 mod causes;
+mod found_tables;
 mod index;
 mod lookup;
 mod memory;
 mod owners;
 mod reading;
 mod running;
+mod survey_index;
 mod surveying;
 mod tables;
 mod verdict;
 mod words;
 
 pub use crate::causes::cause_text;
+pub use crate::found_tables::{FoundEntry, Surveyed, TableFinding};
 pub use crate::index::put_index;
 pub use crate::lookup::find_entry;
 pub use crate::memory::Moved;
 pub use crate::owners::owners_of;
 pub use crate::reading::read_bytes;
 pub use crate::running::run_command;
+pub use crate::survey_index::put_survey;
 pub use crate::surveying::run_survey;
 pub use crate::tables::{Contents, Date, TableEntry};
 pub use crate::verdict::{Verdict, check_image};

@@ -82,8 +82,8 @@ pub struct Contents {
     pub label: [u8; 30],
 }
 
-// A date of the table.
-fn date_of(stamp: Stamp) -> Date
+/// A date of the table.
+pub fn date_of(stamp: Stamp) -> Date
     ensures { result ≡ date_of stamp }
 {
     Date {
@@ -93,8 +93,8 @@ fn date_of(stamp: Stamp) -> Date
     }
 }
 
-// A text in a field, padded with zeros.
-fn field<const N: usize>(text: &[u8]) -> [u8; N]
+/// A text in a field, padded with zeros.
+pub fn field<const N: usize>(text: &[u8]) -> [u8; N]
     requires { length text.now ≤ N }
     ensures { result ≡ field N text.now }
 {
@@ -161,13 +161,13 @@ fn table_entry(volume: &Checked<'_>, node: Node, first: u32) -> TableEntry
     entry_of(&row, header, first)
 }
 
-// Puts an entry behind those that stand in the table of entries, where there is room.
-fn put_entry(table: &mut [TableEntry], at: usize, entry: TableEntry)
-    ensures { (xs room : List TableEntry) → at ≡ length xs → table.old ≡ filled xs room
-        → table.new ≡ filled (xs ++ entry ∷ []) room }
+/// Puts a row behind those that stand in a table, where there is room.
+pub fn put<T: Copy>(table: &mut [T], at: usize, row: T)
+    ensures { (xs room : List T) → at ≡ length xs → table.old ≡ filled xs room
+        → table.new ≡ filled (xs ++ row ∷ []) room }
 {
     if at < table.len() {
-        table[at] = entry;
+        table[at] = row;
     }
 }
 
@@ -199,7 +199,7 @@ pub fn put_tables(volume: &Checked<'_>, entries: &mut [TableEntry], blocks: &mut
     let mut first = 0;
     for i in 0..volume.len() {
         let node = Node(i + 1);
-        put_entry(entries, i, table_entry(volume, node, first as u32));
+        put(entries, i, table_entry(volume, node, first as u32));
         let datas = volume.blocks_of(node);
         put_blocks(blocks, first, datas);
         first += datas.len();

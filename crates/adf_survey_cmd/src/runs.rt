@@ -1,6 +1,6 @@
 // Runs of findings, and their lines.
 
-ghost use Rattle.std.specs.Prelude.{◌≡◌, ◌++◌, ◌∷◌, ℕ, List, IfOk, OnErr, OnOk, codes, false};
+ghost use Rattle.std.specs.Prelude.{◌≡◌, ◌++◌, ◌∷◌, ℕ, List, IfOk, OnErr, OnOk, codes, false, option_map, slice_get};
 ghost use Rattle.std.specs.Io.KnownBytes.{Appends};
 ghost use Rattle.adf_volume.specs.Walk.{Role};
 ghost use Rattle.adf_findings.specs.Concerned.{concern_of, owner_of};
@@ -75,8 +75,9 @@ impl Run {
         is_next || (self.first == block && self.last == block)
     }
 
-    // Whether the run goes on with another, of one finding.
-    fn continues(&self, next: &Run) -> bool
+    /// Whether the run goes on with another, of one finding: the cause, what is concerned and the owner are the same, and
+    /// the block is the one behind the run, or the run's only one.
+    pub fn continues(&self, next: &Run) -> bool
         ensures { result ≡ continues self.now next.now }
     {
         let is_same = self.cause.number() == next.cause.number();
@@ -85,6 +86,14 @@ impl Run {
             && are_owned_alike(self.owner, next.owner)
             && self.is_beside(next.first)
     }
+}
+
+/// Finding `k` of a survey, counted from 0, as a run of one block; `None` past the last.
+pub fn run_at(survey: &Survey<'_>, k: usize) -> Option<Run>
+    ensures { OnSurvey survey.now.image (λ w fs. result ≡ option_map (run_of w) (slice_get fs k)) }
+{
+    let finding = survey.findings().get(k)?;
+    Some(Run::of(finding, survey.concern_of(k), survey.owner_of(k)))
 }
 
 // Appends the blocks of a run.

@@ -1,8 +1,8 @@
 // The calls over memory, on an OFS volume of 16 blocks with the directory `c` and in it the file `long`, 489 bytes 0x41.
 
 use adf_memory::{
-    Contents, Date, Moved, TableEntry, Verdict, cause_text, check_image, find_entry, owners_of,
-    put_index, read_bytes, run_command, run_survey,
+    Contents, Date, FoundEntry, Moved, Surveyed, TableEntry, TableFinding, Verdict, cause_text,
+    check_image, find_entry, owners_of, put_index, put_survey, read_bytes, run_command, run_survey,
 };
 use std::mem::size_of;
 use std::process::Abort;
@@ -38,6 +38,41 @@ const CONTENTS: Contents = Contents {
     entries: 9,
     data_blocks: 9,
     block: 9,
+    root: DATE,
+    altered: DATE,
+    created: DATE,
+    label_length: 9,
+    label: [9; 30],
+};
+
+const FINDING: TableFinding = TableFinding {
+    first: 9,
+    last: 9,
+    node: 9,
+    owner: 9,
+    cause: 9,
+    is_within: 9,
+};
+
+const FOUND: FoundEntry = FoundEntry {
+    parent: 9,
+    header: 9,
+    size: 9,
+    protection: 9,
+    date: DATE,
+    is_file: 9,
+    is_sound: 9,
+    name_length: 9,
+    name: [9; 79],
+    comment_length: 9,
+    comment: [9; 79],
+};
+
+const SURVEYED: Surveyed = Surveyed {
+    kind: 9,
+    blocks: 9,
+    findings: 9,
+    entries: 9,
     root: DATE,
     altered: DATE,
     created: DATE,
@@ -128,6 +163,40 @@ fn calls_name_the_fault_of_a_refused_image(rt: HostRuntime) {
     let mut room = [9; 6];
     assert_eq!(rt; cause_text(cause, &mut room), 7);
     assert_eq!(rt; &room, b"bad su");
+}
+
+// With memory there, a survey of an image with a bit changed in the header of `c`, block 2, fills its tables.
+#[test]
+fn a_survey_fills_its_tables(rt: HostRuntime) {
+    let mut image = built(&rt);
+    image[2 * 512 + 323] ^= 1;
+    let mut findings = [FINDING; 2];
+    let mut entries = [FOUND; 3];
+    let mut surveyed = SURVEYED;
+    let cause = put_survey(
+        rt.alloc(),
+        &image,
+        &mut findings,
+        &mut entries,
+        &mut surveyed,
+    );
+    assert_eq!(rt;
+        (cause, surveyed.findings, surveyed.entries, surveyed.blocks),
+        (0, 1, 2, 16)
+    );
+    let finding = findings[0];
+    assert_eq!(rt;
+        (finding.first, finding.last, finding.node, finding.cause),
+        (2, 2, 1, 7)
+    );
+    assert_eq!(rt;
+        (findings[1].first, entries[0].is_sound, entries[1].is_sound),
+        (9, 0, 1)
+    );
+    assert_eq!(rt;
+        (entries[1].parent, entries[1].size, entries[2].size),
+        (1, 489, 9)
+    );
 }
 
 // What `adf-survey` with these words returns on an image, and how much it moved.

@@ -43,10 +43,10 @@ loop-i-preserved c =
           (ap length (c.blocks_of-datas.ensures t l st ∙ ap (datas_of l) one)));
       entries = (λ t l st.
           let lt : i < length t.entries = omega (arith, c.len-i-end.ensures.count t l st) in
-          entries_more (entry_table t l) c.args.entries.now c.loop-i.entries c.put_entry.new.table i c.table_entry.result
+          entries_more (entry_table t l) c.args.entries.now c.loop-i.entries c.put.new.table i c.table_entry.result
           (next_entry t l i c.loop-i.first c.table_entry.result st.fits.places lt (c.loop-i.invariant.first t l st) (λ e at.
           c.table_entry.ensures t l e st at ∙ ap (λ n. table_entry (at_node c.args.volume.now.image l n) c.loop-i.first e) one))
-          c.put_entry.ensures (c.loop-i.invariant.entries t l st));
+          c.put.ensures (c.loop-i.invariant.entries t l st));
       blocks = (λ t l st.
           let lt : i < length l.places = omega (arith, c.len-i-end.ensures.count t l st, st.fits.places) in
           next_blocks l i c.blocks_of-datas.result.now c.args.blocks.now c.put_blocks.new.table lt (c.blocks_of-datas.ensures t l st ∙ ap (datas_of l) one)

@@ -1,0 +1,178 @@
+use crate::ffi::{self, Date, SurveyTables};
+use crate::{text, Cause, Kind, Refused, Text};
+use std::fmt;
+
+/// What is found in an image by `adf-survey`: everything that is wrong, and the entries that can still be reached.
+pub struct Survey {
+    tables: SurveyTables,
+}
+
+impl Survey {
+    /// Surveys an image, sound or not. An error is `Cause::NoMemory`.
+    pub fn of(image: &[u8]) -> Result<Survey, Refused> {
+        Ok(Survey { tables: ffi::survey(image)? })
+    }
+
+    /// The kind, if the root is found.
+    pub fn kind(&self) -> Option<Kind> {
+        match (self.tables.surveyed.blocks, self.tables.surveyed.kind) {
+            (0, _) => None,
+            (_, 0) => Some(Kind::Ofs),
+            _ => Some(Kind::Ffs),
+        }
+    }
+
+    /// The label; empty where no root is found.
+    pub fn label(&self) -> Text<'_> {
+        let surveyed = &self.tables.surveyed;
+        Text::of(&surveyed.label, surveyed.label_length)
+    }
+
+    /// The three dates of the root: its own, that of the last change, and that of the creation.
+    pub fn dates(&self) -> [Date; 3] {
+        let surveyed = &self.tables.surveyed;
+        [surveyed.root, surveyed.altered, surveyed.created]
+    }
+
+    /// What is wrong, in the order of the survey; nothing exactly where `Volume::check` takes the image.
+    pub fn findings(&self) -> impl ExactSizeIterator<Item = Finding<'_>> + DoubleEndedIterator {
+        (0..self.tables.findings.len()).map(|place| Finding { survey: self, place })
+    }
+
+    /// The entries that are found, each behind its directory.
+    pub fn entries(&self) -> impl ExactSizeIterator<Item = Found<'_>> + DoubleEndedIterator {
+        (0..self.tables.entries.len()).map(|place| Found { survey: self, number: place + 1 })
+    }
+
+    fn entry(&self, number: usize) -> Option<Found<'_>> {
+        (1..=self.tables.entries.len()).contains(&number).then_some(Found { survey: self, number })
+    }
+}
+
+impl fmt::Debug for Survey {
+    fn fmt(&self, f: &mut fmt::Formatter<'_>) -> fmt::Result {
+        let (findings, entries) = (self.tables.findings.len(), self.tables.entries.len());
+        f.debug_struct("Survey").field("findings", &findings).field("entries", &entries).finish()
+    }
+}
+
+/// Blocks from the first to the last with one cause, that concern the same.
+#[derive(Clone, Copy)]
+pub struct Finding<'survey> {
+    survey: &'survey Survey,
+    place: usize,
+}
+
+impl<'survey> Finding<'survey> {
+    fn record(&self) -> &'survey ffi::FindingRecord {
+        &self.survey.tables.findings[self.place]
+    }
+
+    pub fn first(&self) -> u32 {
+        self.record().first
+    }
+
+    pub fn last(&self) -> u32 {
+        self.record().last
+    }
+
+    /// The cause; none that this crate does not know.
+    pub fn cause(&self) -> Option<Cause> {
+        Cause::from_number(self.record().cause)
+    }
+
+    /// The entry that is concerned, or the directory in which a header was passed over; none for the root and the bitmap.
+    pub fn entry(&self) -> Option<Found<'survey>> {
+        self.survey.entry(self.record().node)
+    }
+
+    /// Whether a header was passed over: in the directory `entry`, or in the root.
+    pub fn is_within(&self) -> bool {
+        self.record().is_within == 1
+    }
+
+    /// The entry that owns the blocks, if the cause is that they are taken.
+    pub fn owner(&self) -> Option<Found<'survey>> {
+        self.survey.entry(self.record().owner)
+    }
+}
+
+/// A directory, file or link that is found; a link counts as a file.
+#[derive(Clone, Copy)]
+pub struct Found<'survey> {
+    survey: &'survey Survey,
+    number: usize,
+}
+
+impl<'survey> Found<'survey> {
+    fn record(&self) -> &'survey ffi::FoundRecord {
+        &self.survey.tables.entries[self.number - 1]
+    }
+
+    /// The number of the entry, from 1 as they come in `Survey::entries`.
+    pub fn number(&self) -> usize {
+        self.number
+    }
+
+    /// No finding concerns the entry: a sound file has all its bytes.
+    pub fn is_sound(&self) -> bool {
+        self.record().is_sound == 1
+    }
+
+    pub fn is_file(&self) -> bool {
+        self.record().is_file == 1
+    }
+
+    /// The name in the header, which may be none that a volume can have.
+    pub fn name(&self) -> Text<'survey> {
+        Text::of(&self.record().name, self.record().name_length)
+    }
+
+    /// The comment, which may be empty.
+    pub fn comment(&self) -> Text<'survey> {
+        Text::of(&self.record().comment, self.record().comment_length)
+    }
+
+    /// Bytes of a file, as its header says; 0 of a directory.
+    pub fn size(&self) -> u32 {
+        self.record().size
+    }
+
+    /// The protection word; a set bit of 0 to 3 forbids.
+    pub fn protection(&self) -> u32 {
+        self.record().protection
+    }
+
+    pub fn date(&self) -> Date {
+        self.record().date
+    }
+
+    /// The number of the header's block.
+    pub fn header(&self) -> u32 {
+        self.record().header
+    }
+
+    /// The directory that the entry is in; none if that is the root.
+    pub fn parent(&self) -> Option<Found<'survey>> {
+        self.survey.entry(self.record().parent)
+    }
+
+    /// The path: names with `/` between them, their bytes read as Latin-1.
+    pub fn path(&self) -> String {
+        text::from_latin(&self.path_bytes())
+    }
+
+    /// The bytes of the path.
+    pub fn path_bytes(&self) -> Vec<u8> {
+        let mut names: Vec<&[u8]> =
+            std::iter::successors(Some(*self), Found::parent).map(|found| found.name().as_bytes()).collect();
+        names.reverse();
+        names.join(&b'/')
+    }
+}
+
+impl fmt::Debug for Found<'_> {
+    fn fmt(&self, f: &mut fmt::Formatter<'_>) -> fmt::Result {
+        f.debug_struct("Found").field("path", &self.path()).field("is_sound", &self.is_sound()).finish_non_exhaustive()
+    }
+}

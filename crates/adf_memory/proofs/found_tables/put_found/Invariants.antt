@@ -1,0 +1,12 @@
+use Rattle.std.proofs.Common.{◌≡◌, ℕ, Bool}
+use Rattle.adf_findings.specs.Marked.{AreMarks}
+use Rattle.adf_findings.specs.Survey.{OnSurvey}
+use Rattle.adf_memory.specs.FoundTables.{found_rows}
+use Rattle.adf_memory.specs.Rooms.{filled}
+use Rattle.adf_memory.proofs.found_tables.put_found.Given as goal
+
+abbrev pub invariant-loop-i : goal.invariant-loop-i
+invariant-loop-i l = record {
+  rows : OnSurvey l.survey.image (λ w fs. (sound : ℕ → Bool) → AreMarks l.survey.image w fs sound
+      → l.room ≡ filled (found_rows l.survey.image w sound l.i) l.initial.room);
+}

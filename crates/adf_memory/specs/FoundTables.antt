@@ -1,0 +1,134 @@
+-- The tables of a survey: a row for each run of findings, and one for each entry that is found.
+-- Letters: w the walk of an image's survey, fs its findings; `sound` tells whether an entry is sound; n an entry's node, h its header's bytes; k a count of rows.
+use Rattle.std.specs.Prelude.{ℕ, Bool, true, false, cond, List, [], ◌∷◌, Option, Some, None, length, map}
+use Rattle.std.specs.List.{range_with_len}
+use Rattle.adf_fields.specs.Words.{block}
+use Rattle.adf_blocks.specs.Causes.{cause_number}
+use Rattle.adf_blocks.specs.declared.head.HeadBody.{HeadBody}
+use Rattle.adf_blocks.specs.declared.head.HeadBody.TheVariants.{Dir, File}
+use Rattle.adf_blocks.specs.HeadBlock.{body_at, meta_told}
+use Rattle.adf_tree.specs.declared.entry.Meta.{Meta}
+use Rattle.adf_volume.specs.Image.{name_of}
+use Rattle.adf_volume.specs.Walk.{Role, heads, node_block}
+use Rattle.adf_findings.specs.declared.concern.Concern.{Concern}
+use Rattle.adf_findings.specs.declared.concern.Concern.TheVariants.{Entry, Within}
+use Rattle.adf_findings.specs.declared.opening.Opening.{Opening}
+use Rattle.adf_findings.specs.Found.{parent_node}
+use Rattle.adf_findings.specs.Opening.{opening_in}
+use Rattle.adf_findings.specs.Survey.{FindingValue}
+use Rattle.adf_survey_cmd.specs.declared.runs.Run.{Run}
+use Rattle.adf_survey_cmd.specs.Lines.{runs}
+use Rattle.adf_memory.specs.declared.found_tables.FoundEntry.{FoundEntry}
+use Rattle.adf_memory.specs.declared.found_tables.Surveyed.{Surveyed}
+use Rattle.adf_memory.specs.declared.found_tables.TableFinding.{TableFinding}
+use Rattle.adf_memory.specs.Tables.{date_of, field}
+use Rattle.adf_memory.specs.Verdicts.{kind_code}
+
+-- the number of the entry or directory that is concerned; 0 for none
+abbrev pub concern_node : Option Concern → ℕ
+concern_node None = 0
+concern_node (Some (Entry n)) = n
+concern_node (Some (Within n)) = n
+
+-- 1 if a header was passed over in the directory that is concerned
+abbrev pub is_within : Option Concern → ℕ
+is_within (Some (Within n)) = 1
+is_within _ = 0
+
+-- the number of an entry; 0 for none
+abbrev pub owner_number : Option ℕ → ℕ
+owner_number None = 0
+owner_number (Some n) = n
+
+-- the row of a run of findings
+abbrev pub finding_row : Run → TableFinding
+finding_row r = record {
+  first = r.first;
+  last = r.last;
+  node = concern_node r.concern;
+  owner = owner_number r.owner;
+  cause = cause_number r.cause;
+  is_within = is_within r.concern;
+}
+
+-- the table of findings
+abbrev pub finding_table : List (Role × ℕ) → List FindingValue → List TableFinding
+finding_table w fs = map finding_row (runs w fs)
+
+-- 1 for a file or a link, 0 for a directory
+abbrev pub body_number : HeadBody → ℕ
+body_number Dir = 0
+body_number (File size ext) = 1
+
+-- the size of a file in bytes; 0 of a directory
+abbrev pub body_size : HeadBody → ℕ
+body_size Dir = 0
+body_size (File size ext) = size
+
+-- 1 for a sound entry, otherwise 0
+abbrev pub mark_number : Bool → ℕ
+mark_number true = 1
+mark_number false = 0
+
+-- the row of an entry, by its directory, the block of its header, its mark, name, body and metadata
+abbrev pub entry_row : ℕ → ℕ → Bool → List ℕ → HeadBody → Meta → FoundEntry
+entry_row parent header is_sound name body meta = record {
+  parent = parent;
+  header = header;
+  size = body_size body;
+  protection = meta.protect;
+  date = date_of meta.stamp;
+  is_file = body_number body;
+  is_sound = mark_number is_sound;
+  name_length = length name;
+  name = field 79 name;
+  comment_length = length meta.comment;
+  comment = field 79 meta.comment;
+}
+
+-- the row of entry n, as its header has it
+abbrev pub found_entry : List ℕ → List (Role × ℕ) → (ℕ → Bool) → ℕ → FoundEntry
+found_entry image w sound n =
+    let b = node_block w n in
+    entry_row (parent_node w n) b (sound n) (name_of image b) (body_at (block image b)) (meta_told (block image b))
+
+-- the rows of the first k entries
+abbrev pub found_rows : List ℕ → List (Role × ℕ) → (ℕ → Bool) → ℕ → List FoundEntry
+found_rows image w sound k = map (found_entry image w sound) (range_with_len 1 k)
+
+-- the table of entries
+abbrev pub found_table : List ℕ → List (Role × ℕ) → (ℕ → Bool) → List FoundEntry
+found_table image w sound = found_rows image w sound (heads w)
+
+-- what a survey of k rows of findings has if the root is not taken
+abbrev pub unread : ℕ → Surveyed
+unread k = record {
+  kind = 0;
+  blocks = 0;
+  findings = k;
+  entries = 0;
+  root = record { days = 0; mins = 0; ticks = 0 };
+  altered = record { days = 0; mins = 0; ticks = 0 };
+  created = record { days = 0; mins = 0; ticks = 0 };
+  label_length = 0;
+  label = field 30 [];
+}
+
+-- and if it is taken: what the boot bytes and the root tell, and the number of entries
+abbrev pub read : Opening → ℕ → ℕ → Surveyed
+read o k n = record {
+  kind = kind_code o.kind;
+  blocks = o.blocks;
+  findings = k;
+  entries = n;
+  root = date_of o.stamps.root;
+  altered = date_of o.stamps.altered;
+  created = date_of o.stamps.created;
+  label_length = length o.label;
+  label = field 30 o.label;
+}
+
+-- what a survey has besides its tables
+abbrev pub surveyed_of : List ℕ → List (Role × ℕ) → List FindingValue → Surveyed
+surveyed_of image [] fs = unread (length (runs [] fs))
+surveyed_of image (x ∷ w) fs = read (opening_in image) (length (runs (x ∷ w) fs)) (heads (x ∷ w))

@@ -1,0 +1,280 @@
+// The tables of a survey, and how they are filled.
+
+ghost use Rattle.std.specs.Prelude.{◌≡◌, ◌≤◌, ◌++◌, ◌∷◌, [], ℕ, Bool, List, Option, Some, length};
+ghost use Rattle.adf_findings.specs.Marked.{AreMarks};
+ghost use Rattle.adf_findings.specs.Survey.{OnSurvey};
+ghost use Rattle.adf_volume.specs.Walk.{heads};
+ghost use Rattle.adf_survey_cmd.specs.Lines.{runs};
+ghost use Rattle.adf_memory.specs.FoundTables.{body_number, body_size, concern_node, entry_row, finding_row, finding_table, found_entry, found_table, is_within, mark_number};
+ghost use Rattle.adf_memory.specs.FoundTables.{owner_number, surveyed_of, unread};
+ghost use Rattle.adf_memory.specs.Rooms.{filled};
+
+use crate::tables::{Date, date_of, field, put};
+use crate::verdict::kind_code;
+use adf_blocks::HeadBody;
+use adf_findings::{Concern, Survey, some_survey};
+use adf_survey_cmd::{Run, run_at};
+use adf_tree::{Meta, Node};
+
+/// Findings of neighbouring blocks that have one cause and concern the same.
+#[repr(C)]
+#[derive(Clone, Copy)]
+pub struct TableFinding {
+    /// The first block.
+    pub first: u32,
+    /// The last block.
+    pub last: u32,
+    /// The number of the entry that is concerned, or of the directory in which a header was passed over; 0 for the root and for none.
+    pub node: usize,
+    /// The number of the entry that owns the blocks, if the cause is that they are taken; otherwise 0.
+    pub owner: usize,
+    /// The number of the cause.
+    pub cause: u8,
+    /// 1 if `node` is the directory in which a header was passed over, otherwise 0.
+    pub is_within: u8,
+}
+
+/// A directory, file or link that is found. Entry n is at index n - 1 of the table.
+#[repr(C)]
+#[derive(Clone, Copy)]
+pub struct FoundEntry {
+    /// The number of its directory, or 0 for the root.
+    pub parent: usize,
+    /// The block of its header.
+    pub header: u32,
+    /// The size of a file in bytes, as its header says, or 0 for a directory.
+    pub size: u32,
+    /// The protection word.
+    pub protection: u32,
+    pub date: Date,
+    /// 1 for a file or a link, 0 for a directory.
+    pub is_file: u8,
+    /// 1 if the entry is sound, otherwise 0.
+    pub is_sound: u8,
+    pub name_length: u8,
+    /// The name as it stands, not necessarily valid, padded with zeros.
+    pub name: [u8; 79],
+    pub comment_length: u8,
+    /// The comment, padded with zeros.
+    pub comment: [u8; 79],
+}
+
+/// What a survey has besides its tables. Fields that do not apply are 0.
+#[repr(C)]
+#[derive(Clone, Copy)]
+pub struct Surveyed {
+    /// 0 for OFS, 1 for FFS.
+    pub kind: u32,
+    /// All blocks, including the two boot blocks; 0 if the root is not taken.
+    pub blocks: u32,
+    /// Rows of the table of findings.
+    pub findings: usize,
+    /// Directories, files and links that are found, excluding the root.
+    pub entries: usize,
+    /// The root's own date in the root block.
+    pub root: Date,
+    /// The date of the last change of the volume.
+    pub altered: Date,
+    /// The date on which the volume was created.
+    pub created: Date,
+    pub label_length: u8,
+    /// The label, padded with zeros.
+    pub label: [u8; 30],
+}
+
+// The number of the entry or directory that is concerned; 0 for none.
+fn concern_node(concern: Option<Concern>) -> usize
+    ensures { result ≡ concern_node concern }
+{
+    match concern {
+        Some(Concern::Entry(n) | Concern::Within(n)) => n as usize,
+        None => 0,
+    }
+}
+
+// 1 if a header was passed over in the directory that is concerned.
+fn is_within(concern: Option<Concern>) -> u8
+    ensures { result ≡ is_within concern }
+{
+    match concern {
+        Some(Concern::Within(_)) => 1,
+        _ => 0,
+    }
+}
+
+// The number of an entry; 0 for none.
+fn owner_number(owner: Option<Node>) -> usize
+    ensures { result ≡ owner_number owner }
+{
+    match owner {
+        Some(n) => n.0,
+        None => 0,
+    }
+}
+
+// The row of a run of findings.
+fn finding_row(run: &Run) -> TableFinding
+    ensures { result ≡ finding_row run.now }
+{
+    TableFinding {
+        first: run.first,
+        last: run.last,
+        node: concern_node(run.concern),
+        owner: owner_number(run.owner),
+        cause: run.cause.number(),
+        is_within: is_within(run.concern),
+    }
+}
+
+/// Fills the table of findings as far as there is room. Returns the number of its rows.
+pub fn put_findings(survey: &Survey<'_>, room: &mut [TableFinding]) -> usize
+    ensures count { OnSurvey survey.now.image (λ w fs. result ≡ length (runs w fs)) }
+    ensures table { OnSurvey survey.now.image (λ w fs. room.new ≡ filled (finding_table w fs) room.old) }
+{
+    let Some(mut run) = run_at(survey, 0) else {
+        return 0;
+    };
+    let mut count = 0;
+    for k in 1..survey.findings().len() {
+        let Some(next) = run_at(survey, k) else {
+            return count;
+        };
+        if run.continues(&next) {
+            run.last = next.last;
+        } else {
+            put(room, count, finding_row(&run));
+            count += 1;
+            run = next;
+        }
+    }
+    put(room, count, finding_row(&run));
+    count + 1
+}
+
+// 1 for a file or a link, 0 for a directory.
+fn body_number(body: HeadBody) -> u8
+    ensures { result ≡ body_number body }
+{
+    match body {
+        HeadBody::Dir => 0,
+        HeadBody::File { .. } => 1,
+    }
+}
+
+// The size of a file; 0 of a directory.
+fn body_size(body: HeadBody) -> u32
+    ensures { result ≡ body_size body }
+{
+    match body {
+        HeadBody::Dir => 0,
+        HeadBody::File { size, .. } => size,
+    }
+}
+
+// 1 for a sound entry, otherwise 0.
+fn mark_number(is_sound: bool) -> u8
+    ensures { result ≡ mark_number is_sound }
+{
+    if is_sound { 1 } else { 0 }
+}
+
+// The row of an entry, by its directory, the block of its header, its mark, name, body and metadata.
+fn entry_row(
+    parent: Node,
+    header: u32,
+    is_sound: bool,
+    name: &[u8],
+    body: HeadBody,
+    meta: &Meta,
+) -> FoundEntry
+    requires { length name.now ≤ 79 }
+    ensures { result ≡ entry_row parent header is_sound name.now body meta.now }
+{
+    let comment = meta.comment.bytes();
+    FoundEntry {
+        parent: parent.0,
+        header,
+        size: body_size(body),
+        protection: meta.protect,
+        date: date_of(meta.stamp),
+        is_file: body_number(body),
+        is_sound: mark_number(is_sound),
+        name_length: name.len() as u8,
+        name: field(name),
+        comment_length: comment.len() as u8,
+        comment: field(comment),
+    }
+}
+
+// The row of entry n; `None` past the last.
+fn found_entry(survey: &Survey<'_>, n: Node) -> Option<FoundEntry>
+    ensures { OnSurvey survey.now.image (λ w fs. (sound : ℕ → Bool) → AreMarks survey.now.image w fs sound
+        → 1 ≤ n → n ≤ heads w → result ≡ Some (found_entry survey.now.image w sound n)) }
+{
+    some_survey();
+    let (Some(header), Some(name)) = (survey.block_of(n), survey.name(n)) else {
+        return None;
+    };
+    let (Some(body), Some(meta)) = (survey.body(n), survey.meta(n)) else {
+        return None;
+    };
+    let is_sound = survey.is_sound(n);
+    Some(entry_row(survey.directory_of(n), header, is_sound, name, body, &meta))
+}
+
+/// Fills the table of entries as far as there is room.
+pub fn put_found(survey: &Survey<'_>, room: &mut [FoundEntry])
+    ensures { OnSurvey survey.now.image (λ w fs. (sound : ℕ → Bool) → AreMarks survey.now.image w fs sound
+        → room.new ≡ filled (found_table survey.now.image w sound) room.old) }
+{
+    for i in 0..survey.len() {
+        let Some(entry) = found_entry(survey, Node(i + 1)) else {
+            return;
+        };
+        put(room, i, entry);
+    }
+}
+
+/// What a survey has if the root is not taken: the number of its rows of findings.
+pub fn unread(findings: usize) -> Surveyed
+    ensures { result ≡ unread findings }
+{
+    let date = Date {
+        days: 0,
+        mins: 0,
+        ticks: 0,
+    };
+    Surveyed {
+        kind: 0,
+        blocks: 0,
+        findings,
+        entries: 0,
+        root: date,
+        altered: date,
+        created: date,
+        label_length: 0,
+        label: [0; 30],
+    }
+}
+
+/// What a survey has besides its tables.
+pub fn surveyed_of(survey: &Survey<'_>, findings: usize) -> Surveyed
+    ensures { OnSurvey survey.now.image (λ w fs. findings ≡ length (runs w fs)
+        → result ≡ surveyed_of survey.now.image w fs) }
+{
+    let Some(opening) = survey.opening() else {
+        return unread(findings);
+    };
+    let label = opening.label.bytes();
+    Surveyed {
+        kind: kind_code(opening.kind),
+        blocks: opening.blocks,
+        findings,
+        entries: survey.len(),
+        root: date_of(opening.stamps.root),
+        altered: date_of(opening.stamps.altered),
+        created: date_of(opening.stamps.created),
+        label_length: label.len() as u8,
+        label: field(label),
+    }
+}
