@@ -41,6 +41,7 @@ pub struct Survey<'i> {
     pub(crate) findings: Vec<Finding>,
     pub(crate) concerned: Vec<Option<Concern>>,
     pub(crate) owners: Vec<u32>,
+    pub(crate) numbers: Vec<u32>,
     pub(crate) taken: BTreeMap<Key, u32>,
     pub(crate) nodes: Vec<u32>,
     pub(crate) parents: Vec<u32>,
@@ -58,6 +59,7 @@ impl<'i> Model for Survey<'i> {
       findings = v.findings.items;
       concerned = v.concerned.items;
       owners = v.owners.items;
+      numbers = v.numbers.items;
       taken = v.taken.entries;
       nodes = v.nodes.items;
       parents = v.parents.items;
@@ -70,6 +72,7 @@ impl<'i> Model for Survey<'i> {
       findings = v.findings.items;
       concerned = v.concerned.items;
       owners = v.owners.items;
+      numbers = v.numbers.items;
       taken = v.taken.entries;
       nodes = v.nodes.items;
       parents = v.parents.items;
