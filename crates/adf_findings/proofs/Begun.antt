@@ -26,12 +26,12 @@ use Rattle.adf_findings.proofs.Taking.{held_more, marked_more, numbered_more, un
 empty_get : {K X : Type 0} (m : BTreeMap K X) (test : K → Bool) → IsEmpty m → lookup test m.entries ≡ None
 empty_get m test e = ap (lookup test) e
 
-none_default : {A : Type 0} (n : ℕ) (x : A) (b : ℕ) → slice_index_or (replicate n x) b x ≡ x
+pub none_default : {A : Type 0} (n : ℕ) (x : A) (b : ℕ) → slice_index_or (replicate n x) b x ≡ x
 none_default zero x b = refl
 none_default (suc n) x zero = refl
 none_default (suc n) x (suc b) = none_default n x b
 
-all_free : (n : ℕ) → unowned (replicate n false) ≡ n
+pub all_free : (n : ℕ) → unowned (replicate n false) ≡ n
 all_free zero = refl
 all_free (suc n) = ap suc (all_free n)
 

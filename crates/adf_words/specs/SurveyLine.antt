@@ -108,7 +108,7 @@ AreRefusedBySurvey words = (¬ (fault_of survey_app words ≡ [])) ⊎ (inquiry_
 abbrev pub question_value : Question → QuestionValue
 question_value Report = report
 question_value ListAll = list
-question_value (Cat c) = cat c.damaged c.path.now
+question_value (Cat path damaged) = cat damaged path.now
 question_value Rescue = rescue
 
 -- the value of an inquiry as the code has it
