@@ -310,6 +310,7 @@ uint8_t adf_run(const uint8_t *words, size_t words_length, const uint8_t *input,
  *
  * 0: there is no finding, and output is empty; for `cat`, output has the bytes of the file, which is sound. Errors are empty.
  * 1: output has the lines of the findings; for `cat`, it is empty, and errors say `no such path`, `not a file` or `damaged`.
+ *    For `cat --damaged`, output has what is left of the file, and errors a line for each run of bytes that are no data.
  *    With `--list` the lines of what is found follow those of the findings, at status 0 too.
  *    For `rescue`, output has the new volume, and errors a line for each entry that it leaves out; or output is empty, and errors
  *    have the line of the first finding. Where errors_full is set, call again with more room for them.

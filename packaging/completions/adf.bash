@@ -18,6 +18,8 @@ _adf_survey() {
         compopt -o default
     elif ((COMP_CWORD == 1)); then
         COMPREPLY=($(compgen -W "--blocks --list cat rescue" -- "$2"))
+    elif [[ $2 == -* && " ${COMP_WORDS[*]} " == *" cat "* ]]; then
+        COMPREPLY=($(compgen -W "--damaged" -- "$2"))
     fi
 }
 

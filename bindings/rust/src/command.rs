@@ -21,8 +21,9 @@ pub fn run(words: &[&str], input: &[u8]) -> Answer {
 }
 
 /// Runs the command `adf-survey` with these words over an image: `survey(&[], image)` has a line for each finding,
-/// `survey(&["--list"], image)` behind them what is found, `survey(&["cat", path], image)` the bytes of a sound file, and
-/// `survey(&["rescue"], image)` a new volume of all that stands.
+/// `survey(&["--list"], image)` behind them what is found, `survey(&["cat", path], image)` the bytes of a sound file,
+/// `survey(&["cat", "--damaged", path], image)` what is left of any file, and `survey(&["rescue"], image)` a new volume of all
+/// that stands.
 pub fn survey(words: &[&str], image: &[u8]) -> Answer {
     run_program(Program::Survey, "adf-survey", words, image)
 }

@@ -20,18 +20,18 @@ use Rattle.adf_findings.specs.declared.part.Finding.{Finding}
 use Rattle.adf_findings.specs.Survey.{FindingValue, IsCourse, begun}
 use Rattle.adf_findings.specs.Parts.{by_key, key_of, finding_value}
 use Rattle.adf_findings.specs.Courses.{HasReachedPage}
-use Rattle.adf_findings.specs.Found.{AreHeld, AreNamed, AreSame, IsOwned, Stands, owns, unowned}
-use Rattle.adf_findings.proofs.Taking.{held_more, marked_more, unowned_less}
+use Rattle.adf_findings.specs.Found.{AreHeld, AreNamed, AreNumbered, AreSame, IsOwned, Stands, owns, unowned}
+use Rattle.adf_findings.proofs.Taking.{held_more, marked_more, numbered_more, unowned_less}
 
 empty_get : {K X : Type 0} (m : BTreeMap K X) (test : K → Bool) → IsEmpty m → lookup test m.entries ≡ None
 empty_get m test e = ap (lookup test) e
 
-none_default : {A : Type 0} (n : ℕ) (x : A) (b : ℕ) → slice_index_or (replicate n x) b x ≡ x
+pub none_default : {A : Type 0} (n : ℕ) (x : A) (b : ℕ) → slice_index_or (replicate n x) b x ≡ x
 none_default zero x b = refl
 none_default (suc n) x zero = refl
 none_default (suc n) x (suc b) = none_default n x b
 
-all_free : (n : ℕ) → unowned (replicate n false) ≡ n
+pub all_free : (n : ℕ) → unowned (replicate n false) ≡ n
 all_free zero = refl
 all_free (suc n) = ap suc (all_free n)
 
@@ -48,16 +48,17 @@ one_node b (suc n) = elim (eqb_tells (suc n) 0) [
 
 -- nothing is found but the root
 pub stands_begun : (image : List ℕ) (f g h : Found) → IsEmpty f.taken → f.owned.items ≡ replicate (blocks image) false
-    → f.owners.items ≡ replicate (blocks image) 0 → f.avoided.items ≡ replicate (blocks image) false → f.left ≡ blocks image
+    → f.owners.items ≡ replicate (blocks image) 0 → f.numbers.items ≡ replicate (blocks image) 0 → f.avoided.items ≡ replicate (blocks image) false → f.left ≡ blocks image
     → f.nodes.items ≡ [] → IsEmpty f.exts → f.findings.items ≡ [] → f.parents.items ≡ 0 ∷ [] → f.places.items ≡ [] → f.datas.items ≡ []
     → IsOwned RootPart (root_of image) f g → AreSame f g → h ≡ record g { nodes = h.nodes } → h.nodes.items ≡ g.nodes.items ++ root_of image ∷ []
     → root_of image < blocks image → Stands image h (begun image [])
-stands_begun image f g h taken owned owners avoided left nodes exts findings parents places datas o e same pushed lt =
+stands_begun image f g h taken owned owners numbers avoided left nodes exts findings parents places datas o e same pushed lt =
     let n : ℕ = blocks image in
     let root : ℕ = root_of image in
     let items : h.nodes.items ≡ root ∷ [] = pushed ∙ ap (λ xs. xs ++ root ∷ []) (ap (λ v. v.items) e.nodes ∙ nodes) in
     let marks : g.owned.items ≡ set (replicate n false) root true = o.owned ∙ ap (λ xs. set xs root true) owned in
     let held : g.owners.items ≡ set (replicate n 0) root 0 = o.owners ∙ ap (λ xs. set xs root 0) owners in
+    let numbered : g.numbers.items ≡ set (replicate n 0) root 0 = o.numbers ∙ ap (λ xs. set xs root 0) numbers in
     let free : g.avoided.items ≡ replicate n false = ap (λ v. v.items) o.avoided ∙ avoided in
     let one : g.left + 1 ≡ n = o.left ∙ left in
     let long : length {A = Bool} (replicate n false) ≡ n = length-replicate n false in
@@ -70,6 +71,8 @@ stands_begun image f g h taken owned owners avoided left nodes exts findings par
           (marked_more n (replicate n false) [] Root root (length-replicate n false, (λ b l. none_default n false b)));
       owners = subst (λ xs. AreHeld n xs ((Root, root) ∷ [])) (sym held)
           (held_more n (replicate n 0) [] Root root lt (length-replicate n 0, (λ b. none_default n 0 b)));
+      numbers = subst (λ xs. AreNumbered n xs ((Root, root) ∷ [])) (sym numbered)
+          (numbered_more n (replicate n 0) [] Root root lt (length-replicate n 0, (λ b. none_default n 0 b)));
       avoided = subst (λ xs. (length xs ≡ n) × ((b : ℕ) → b < n → slice_index_or xs b false ≡ false)) (sym free)
           (length-replicate n false, (λ b l. none_default n false b));
       left = (let z : g.left ≡ unowned (set (replicate n false) root true) = omega arith in z ∙ ap unowned (sym marks));
@@ -91,6 +94,7 @@ stands_boot image f noted fs st e = record {
   taken = st.taken;
   owned = st.owned;
   owners = st.owners;
+  numbers = st.numbers;
   avoided = st.avoided;
   left = st.left;
   node = st.node;

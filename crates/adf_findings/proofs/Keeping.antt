@@ -1,5 +1,5 @@
 -- The result for an image is that of its survey.
-use Rattle.std.specs.Prelude.{Bool, Option, ◌-◌, false, true, map, not, slice_get, slice_index}
+use Rattle.std.specs.Prelude.{Bool, Option, ◌-◌, false, true, map, not, slice_get, slice_index, slice_index_or}
 use Rattle.std.specs.List.{filter}
 use Rattle.std.specs.Option.{option_flatten}
 use Rattle.std.proofs.Common.{◌≡◌, ℕ, List, [], ◌++◌, ◌≤◌, refl, sym, ap, subst, ◌∙◌, arith, ◌*◌, ◌<◌, length}
@@ -29,9 +29,9 @@ use Rattle.adf_findings.proofs.SoundMarks.{clear_is_sound, inside, unread_none}
 use Rattle.adf_findings.proofs.Starts.{course_size}
 
 -- of an image of which nothing is taken the findings are kept alone
-pub unread_kept : (v : Surveyed) → UnreadTells v.image (map finding_value v.findings) → v.concerned ≡ [] → v.owners ≡ [] → v.taken ≡ [] → v.nodes ≡ []
+pub unread_kept : (v : Surveyed) → UnreadTells v.image (map finding_value v.findings) → v.concerned ≡ [] → v.owners ≡ [] → v.numbers ≡ [] → v.taken ≡ [] → v.nodes ≡ []
     → v.parents ≡ [] → v.sound ≡ [] → v.whole ≡ [] → IsOfSurvey v
-unread_kept v told concerned owners taken nodes parents sound whole = (
+unread_kept v told concerned owners numbers taken nodes parents sound whole = (
   [],
   map finding_value v.findings,
   record {
@@ -40,6 +40,7 @@ unread_kept v told concerned owners taken nodes parents sound whole = (
     concerned = (λ k.
         ap (λ os. option_flatten (slice_get os k)) concerned ∙ sym (no_concern_nth [] (map finding_value v.findings) k (unread_none v.image told)));
     owner = (λ b. ap (λ os. owner_at os b) owners);
+    number = (λ b. ap (λ ns. slice_index_or ns b 0) numbers);
     page = (λ i. ap (λ es. block_at es (key_of (Page i))) taken);
     node = (λ n. ap (λ ns. slice_index ns n) nodes);
     parent = (λ n. ap (λ ps. slice_index ps n) parents);
@@ -57,6 +58,7 @@ stands_with image f g s gs st same e =
       taken = st.taken;
       owned = st.owned;
       owners = st.owners;
+      numbers = st.numbers;
       avoided = st.avoided;
       left = st.left;
       node = st.node;
@@ -80,6 +82,7 @@ pub read_kept : (image : List ℕ) (f g : Found) (concerned : List (Option Conce
       findings = f.findings.items;
       concerned = concerned;
       owners = f.owners.items;
+      numbers = f.numbers.items;
       taken = f.taken.entries;
       nodes = f.nodes.items;
       parents = f.parents.items;
@@ -95,6 +98,7 @@ read_kept image f g concerned sound whole (s, bits, told, bits_tell) entries mar
     concerned = (λ k.
         ap (λ os. option_flatten (slice_get os k)) entries ∙ concerned_kept image f told.course bits bits_tell told.stands k);
     owner = owner_is image (gathered image told.course) f.owners.items told.stands.owners.1;
+    number = told.stands.numbers.1;
     page = (λ i. told.stands.taken (Page i) tt);
     node = told.stands.node;
     parent = told.stands.parent;

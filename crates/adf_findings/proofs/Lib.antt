@@ -39,6 +39,11 @@ pub mod Concerning
 -- the entries that hold the blocks of findings
 pub mod BlockOwners
 pub mod Keeping
+-- what is left of files
+pub mod FoundFiles
+pub mod Gaps
+pub mod DataFound
+pub mod LeftOfSound
 -- images to survey, and the marks that are kept
 pub mod Openings
 -- the directories of entries

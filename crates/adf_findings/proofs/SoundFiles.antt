@@ -26,7 +26,7 @@ use Rattle.adf_findings.proofs.SoundMarks.{inside}
 use Rattle.adf_findings.proofs.Starts.{course_size}
 
 -- the data blocks of a sound entry are in the walk in order; the findings that count may be the grave ones alone
-whole_listed : (image : List ℕ) (w : List (Role × ℕ)) (fs : List FindingValue) (c : Bool) (n h : ℕ) → IsSurvey image w fs
+pub whole_listed : (image : List ℕ) (w : List (Role × ℕ)) (fs : List FindingValue) (c : Bool) (n h : ℕ) → IsSurvey image w fs
     → IsSound image w (counting c fs) n h → DatasListed image n w
 whole_listed image w fs c n h (unread f) sound = absurd sound.header.has
 whole_listed image w fs c n h (read {s = s} {bits = bits} v d told) sound =

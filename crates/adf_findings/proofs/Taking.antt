@@ -22,8 +22,8 @@ use Rattle.adf_findings.specs.declared.found.ChainPlace.{ChainPlace}
 use Rattle.adf_findings.specs.declared.found.Found.{Found}
 use Rattle.adf_findings.specs.Survey.{Course, FindingValue}
 use Rattle.adf_findings.specs.Parts.{by_key, key_of, role_of, finding_value}
-use Rattle.adf_findings.specs.Found.{AreHeld, AreMarked, AreSame, IsKept, IsLookedUp, IsNoted, IsOwned, IsPassed, IsPut, IsTaken, KeepsParts, Stands}
-use Rattle.adf_findings.specs.Found.{at_key, by_name, entry_number, exts_found, owns, parent_by, parent_node, places_of, unowned, with_data, with_place}
+use Rattle.adf_findings.specs.Found.{AreHeld, AreMarked, AreNumbered, AreSame, IsKept, IsLookedUp, IsNoted, IsOwned, IsPassed, IsPut, IsTaken, KeepsParts, Stands}
+use Rattle.adf_findings.specs.Found.{at_key, by_name, data_number, entry_number, exts_found, owns, parent_by, parent_node, places_of, unowned, with_data, with_place}
 
 kept_more : (image : List ℕ) (part : Part) (b : ℕ) (f g h : Found) → IsKept image part b f g → AreSame g h → IsKept image part b f h
 kept_more image (HeadPart n p s j) b f g h k e = record {
@@ -57,6 +57,7 @@ taken_last image part b f g h k p o e =
       datas = x.datas;
       owned = x.owned;
       owners = x.owners;
+      numbers = x.numbers;
       left = x.left;
       avoided = x.avoided;
       findings = x.findings;
@@ -93,6 +94,16 @@ marked_more n xs w r b h = (
   (λ c lt. elim (eqb_tells b c) [
     | inl y ↦ rw (y.0, ← y.1) (get_or-set_same xs b true false (let l : length xs ≡ n = h.0 in let e : b ≡ c = y.1 in omega arith))
     | inr y ↦ rw y.0 (get_or-set_other xs b c true false (λ e. y.1 (sym e)) ∙ h.1 c lt)
+  ]),
+)
+
+pub numbered_more : (n : ℕ) (xs : List ℕ) (w : List (Role × ℕ)) (r : Role) (b : ℕ) → b < n → AreNumbered n xs w
+    → AreNumbered n (set xs b (data_number r)) ((r, b) ∷ w)
+numbered_more n xs w r b lt h = (
+  length-set xs b (data_number r) ∙ h.0,
+  (λ c. elim (eqb_tells b c) [
+    | inl y ↦ rw (y.0, ← y.1) (get_or-set_same xs b (data_number r) 0 (let l : length xs ≡ n = h.0 in omega arith))
+    | inr y ↦ rw y.0 (get_or-set_other xs b c (data_number r) 0 (λ e. y.1 (sym e)) ∙ h.1 c)
   ]),
 )
 
@@ -209,6 +220,8 @@ module _ (image : List ℕ) (f g : Found) (s : Course) (b : ℕ) (st : Stands im
             (marked_more (blocks image) f.owned.items s.walk (role_of part) b st.owned);
         owners = subst (λ xs. AreHeld (blocks image) xs ((role_of part, b) ∷ s.walk)) (sym o.owners)
             (held_more (blocks image) f.owners.items s.walk (role_of part) b lt st.owners);
+        numbers = subst (λ xs. AreNumbered (blocks image) xs ((role_of part, b) ∷ s.walk)) (sym o.numbers)
+            (numbered_more (blocks image) f.numbers.items s.walk (role_of part) b lt st.numbers);
         avoided = subst (λ v. AreMarked (blocks image) v.items s.passed_over) (sym o.avoided) st.avoided;
         left = left ∙ ap unowned (sym o.owned);
         node = l.node;
@@ -231,6 +244,7 @@ module _ (image : List ℕ) (f g : Found) (s : Course) (b : ℕ) (st : Stands im
         taken = st.taken;
         owned = st.owned;
         owners = st.owners;
+        numbers = st.numbers;
         avoided = avoided;
         left = st.left;
         node = st.node;

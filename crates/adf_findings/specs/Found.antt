@@ -130,6 +130,20 @@ entry_number r = unwrap_or (entry_in r) 0
 abbrev pub AreHeld : ℕ → List ℕ → List (Role × ℕ) → Type 0
 AreHeld n numbers w = (length numbers ≡ n) × ((b : ℕ) → slice_index_or numbers b 0 ≡ unwrap_or (owner w b) 0)
 
+-- the number of the data block that a role is, from 1; 0 of other roles
+abbrev pub data_number : Role → ℕ
+data_number (Data n k) = k
+data_number _ = 0
+
+-- the number of the data block that a block is, from 1; 0 if it is none
+abbrev pub number_at : List (Role × ℕ) → ℕ → ℕ
+number_at [] b = 0
+number_at (x ∷ w) b = cond (x.1 == b) (data_number x.0) (number_at w b)
+
+-- the numbers of n blocks are those of the data blocks that they are
+abbrev pub AreNumbered : ℕ → List ℕ → List (Role × ℕ) → Type 0
+AreNumbered n numbers w = (length numbers ≡ n) × ((b : ℕ) → slice_index_or numbers b 0 ≡ number_at w b)
+
 -- the number of extension blocks of a file
 abbrev pub exts_found : Found → ℕ → ℕ
 exts_found f n = unwrap_or (get nat_cmp f.exts n) 0
@@ -177,6 +191,7 @@ pub record IsOwned (part : Part) (b : ℕ) (f g : Found) : Type 0 where
   pub datas : g.datas.items ≡ with_data (role_of part) b f.datas.items
   pub owned : g.owned.items ≡ set f.owned.items b true
   pub owners : g.owners.items ≡ set f.owners.items b (entry_number (role_of part))
+  pub numbers : g.numbers.items ≡ set f.numbers.items b (data_number (role_of part))
   pub left : g.left + 1 ≡ f.left
   pub avoided : g.avoided ≡ f.avoided
   pub findings : g.findings ≡ f.findings
@@ -243,6 +258,7 @@ pub record Stands (image : List ℕ) (f : Found) (s : Course) : Type 0 where
   pub taken : (r : Role) → IsLookedUp r → get by_key f.taken (key_of r) ≡ at_key s.walk (key_of r)
   pub owned : AreMarked (blocks image) f.owned.items s.walk
   pub owners : AreHeld (blocks image) f.owners.items s.walk
+  pub numbers : AreNumbered (blocks image) f.numbers.items s.walk
   pub avoided : AreMarked (blocks image) f.avoided.items s.passed_over
   pub left : f.left ≡ unowned f.owned.items
   pub node : (n : ℕ) → slice_index f.nodes.items n ≡ node_block s.walk n

@@ -6,6 +6,7 @@ pub mod Parts
 pub mod Files
 pub mod Surveyed
 pub mod Concerned
+pub mod Remains
 pub mod Lookup
 pub mod Opening
 pub mod Marked

@@ -12,7 +12,7 @@ ghost use Rattle.adf_volume.specs.Positions.{position_of};
 ghost use Rattle.adf_volume.specs.Walk.{Role, data_count};
 ghost use Rattle.adf_findings.specs.Parts.{by_key, finding_value, role_of};
 ghost use Rattle.adf_findings.specs.Found.{AreNamed, AreSame, Stands, IsChain, IsKept, IsNoted, IsOwned, IsPassed};
-ghost use Rattle.adf_findings.specs.Found.{IsPut, IsTaken, KeepsParts, around_in, by_name, enough_in, entry_number};
+ghost use Rattle.adf_findings.specs.Found.{IsPut, IsTaken, KeepsParts, around_in, by_name, data_number, enough_in, entry_number};
 ghost use Rattle.adf_findings.specs.Found.{exts_found, known_at, member_in, new_in, next_in, with_data};
 ghost use Rattle.adf_findings.specs.Survey.{begun};
 ghost use Rattle.std.specs.Global.{Vec};
@@ -43,14 +43,15 @@ pub struct ChainPlace {
 }
 
 /// The state of a survey: the blocks of the taken parts by key, except headers and data blocks; for each block whether
-/// it is taken, the node of the entry that it belongs to (0 if there is none), and whether it was passed over; the
-/// number of blocks not taken; the blocks of nodes; the number of extension blocks of each file; the names in the
+/// it is taken, the node of the entry that it belongs to (0 if there is none), the number of the data block that it is
+/// (from 1; 0 if it is none), and whether it was passed over; the number of blocks not taken; the blocks of nodes; the number of extension blocks of each file; the names in the
 /// current chain; the findings; the parents of nodes; the positions of headers, from node 1 on; and the data blocks.
 #[derive(Drop)]
 pub struct Found {
     pub taken: BTreeMap<Key, u32>,
     pub owned: Vec<bool>,
     pub owners: Vec<u32>,
+    pub numbers: Vec<u32>,
     pub avoided: Vec<bool>,
     pub left: u32,
     pub nodes: Vec<u32>,
@@ -111,10 +112,14 @@ impl Found {
         let Ok(parents) = vec![in alloc; 0u32; 1] else {
             return Err(NoMemory);
         };
+        let Ok(numbers) = vec![in alloc; 0u32; blocks as usize] else {
+            return Err(NoMemory);
+        };
         let mut found = Found {
             taken: BTreeMap::new(alloc),
             owned,
             owners,
+            numbers,
             avoided,
             left: blocks,
             nodes: Vec::new(alloc),
@@ -276,6 +281,17 @@ impl Found {
         }
     }
 
+    // Keeps the number of the data block that a part is.
+    fn keep_number(&mut self, part: Part, b: u32)
+        ensures numbers { self.new.numbers.items
+            ≡ set self.old.numbers.items b (data_number (role_of part)) }
+        ensures rest { self.new ≡ record self.old { numbers = self.new.numbers } }
+    {
+        if (b as usize) < self.numbers.len() {
+            self.numbers[b as usize] = part.data_number();
+        }
+    }
+
     // Makes a part the owner of block `b`.
     fn own(&mut self, part: Part, b: u32) -> Result<(), NoMemory>
         requires inside { b < length self.old.owned.items }
@@ -285,6 +301,7 @@ impl Found {
     {
         self.keep_block(part, b)?;
         self.keep_owner(part, b);
+        self.keep_number(part, b);
         self.owned[b as usize] = true;
         self.left -= 1;
         Ok(())

@@ -9,8 +9,9 @@ ghost use Rattle.adf_volume.specs.Image.{name_of};
 ghost use Rattle.adf_volume.specs.Layout.{Layout};
 ghost use Rattle.adf_volume.specs.Made.{layout_in, tree_in};
 ghost use Rattle.adf_volume.specs.Walk.{FileAt, FirstFault, Has, HeadAt, NodeAt, Role};
-ghost use Rattle.adf_findings.specs.Files.{IsSoundFile, file_content, file_in};
+ghost use Rattle.adf_findings.specs.Files.{IsSoundFile, file_content, file_in, named_from};
 ghost use Rattle.adf_findings.specs.Lookup.{LeadsTo, path_to};
+ghost use Rattle.adf_findings.specs.Remains.{data_found, gaps_of, left_of};
 ghost use Rattle.adf_findings.specs.Survey.{FindingValue, IsSurvey, OnSurvey};
 ghost use Rattle.adf_findings.specs.Sound.{DatasInOrder, FileHolds, HeaderHolds, IsSound};
 
@@ -105,4 +106,18 @@ pub fn found_as_in_the_tree()
         → (n : ℕ) → IsSoundFile image w fs n
         → (e : Entry) × (entry t.entries n ≡ Some e)
         × (e.body ≡ File (file_content (file_in image w n))) }
+{}
+
+/// What is left of a sound file is its content, and none of its bytes are made up.
+pub fn left_of_sound()
+    ensures { (image : List ℕ) (w : List (Role × ℕ)) (fs : List FindingValue) (n : ℕ)
+        → IsSurvey image w fs → IsSoundFile image w fs n
+        → (left_of image w n ≡ file_content (file_in image w n)) × (gaps_of image w n ≡ []) }
+{}
+
+/// A data block that is found of a file is the one that the table of the file names.
+pub fn found_as_named()
+    ensures { (image : List ℕ) (w : List (Role × ℕ)) (fs : List FindingValue) (n h k b : ℕ)
+        → IsSurvey image w fs → FileAt image w n h → data_found w n k ≡ Some b
+        → named_from image h k ≡ b }
 {}

@@ -17,6 +17,7 @@ mod marks;
 mod opening;
 mod owners;
 mod part;
+mod remains;
 mod start;
 mod surveyed;
 mod surveys;
@@ -24,10 +25,12 @@ mod surveys;
 pub use crate::concern::Concern;
 pub use crate::file::SoundFile;
 pub use crate::laws::{
-    all_sound, directories_first, first_finding, found_as_in_the_tree, no_finding, one_part,
-    one_survey, paths_of_directories, some_survey, sound_entries,
+    all_sound, directories_first, first_finding, found_as_in_the_tree, found_as_named,
+    left_of_sound, no_finding, one_part, one_survey, paths_of_directories, some_survey,
+    sound_entries,
 };
 pub use crate::opening::Opening;
 pub use crate::part::{Finding, Part};
+pub use crate::remains::{Gap, Remains};
 pub use crate::surveyed::Survey;
 pub use crate::surveys::survey;

@@ -1,7 +1,7 @@
 // The parts of a volume, and findings.
 
 ghost use Rattle.std.specs.Prelude.{◌≡◌};
-ghost use Rattle.adf_findings.specs.Found.{entry_number};
+ghost use Rattle.adf_findings.specs.Found.{data_number, entry_number};
 ghost use Rattle.adf_findings.specs.Parts.{key_of, role_of};
 ghost use Rattle.adf_volume.proofs.Roles.{renumbered};
 ghost use Rattle.adf_volume.specs.Walk.{third};
@@ -76,6 +76,16 @@ impl Part {
     {
         match self {
             Part::Head { node, .. } | Part::Ext(node, _) | Part::Data(node, _) => node,
+            _ => 0,
+        }
+    }
+
+    // The number of the data block that the part is, from 1; 0 of other parts.
+    pub(crate) fn data_number(self) -> u32
+        ensures { result ≡ data_number (role_of self) }
+    {
+        match self {
+            Part::Data(_, k) => k,
             _ => 0,
         }
     }

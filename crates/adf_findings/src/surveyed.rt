@@ -7,7 +7,7 @@ ghost use Rattle.adf_blocks.specs.HeadBlock.{body_at, meta_told};
 ghost use Rattle.adf_blocks.specs.Sizes.{is_allowed};
 ghost use Rattle.adf_fields.specs.Words.{block};
 ghost use Rattle.adf_volume.specs.Image.{letters_of, name_of};
-ghost use Rattle.adf_volume.specs.Walk.{Has, heads, node_block};
+ghost use Rattle.adf_volume.specs.Walk.{FileAt, Has, heads, node_block};
 ghost use Rattle.adf_volume.specs.Walk.Role.{Head};
 ghost use Rattle.adf_findings.specs.Concerned.{concern_of_nth, owner_of_nth};
 ghost use Rattle.adf_findings.specs.Files.{IsSoundFile, counting, file_in, grave};
@@ -41,6 +41,7 @@ pub struct Survey<'i> {
     pub(crate) findings: Vec<Finding>,
     pub(crate) concerned: Vec<Option<Concern>>,
     pub(crate) owners: Vec<u32>,
+    pub(crate) numbers: Vec<u32>,
     pub(crate) taken: BTreeMap<Key, u32>,
     pub(crate) nodes: Vec<u32>,
     pub(crate) parents: Vec<u32>,
@@ -58,6 +59,7 @@ impl<'i> Model for Survey<'i> {
       findings = v.findings.items;
       concerned = v.concerned.items;
       owners = v.owners.items;
+      numbers = v.numbers.items;
       taken = v.taken.entries;
       nodes = v.nodes.items;
       parents = v.parents.items;
@@ -70,6 +72,7 @@ impl<'i> Model for Survey<'i> {
       findings = v.findings.items;
       concerned = v.concerned.items;
       owners = v.owners.items;
+      numbers = v.numbers.items;
       taken = v.taken.entries;
       nodes = v.nodes.items;
       parents = v.parents.items;
@@ -85,8 +88,8 @@ fn has_mark(marks: &Vec<bool>, n: usize) -> bool
     marks.get(n).copied().unwrap_or(false)
 }
 
-// The number of a node; 0 if there is none.
-fn number_at(numbers: &Vec<u32>, n: usize) -> u32
+// The number at an index; 0 past the last.
+pub fn number_at(numbers: &Vec<u32>, n: usize) -> u32
     ensures { result ≡ slice_index numbers.now.items n }
 {
     numbers.get(n).copied().unwrap_or(0)
@@ -206,6 +209,16 @@ impl Survey<'_> {
         match self.header(n) {
             Some(head) => Some(HeadBody::of(&head)),
             None => None,
+        }
+    }
+
+    /// Whether an entry is a file, sound or not.
+    pub fn is_file(&self, n: Node) -> bool
+        ensures { OnSurvey self.now.image (λ w _. IsTrue result ↔ ((h : ℕ) × FileAt self.now.image w n h)) }
+    {
+        match self.header(n) {
+            Some(head) => head.word(SECONDARY_TYPE) == ST_FILE,
+            None => false,
         }
     }
 

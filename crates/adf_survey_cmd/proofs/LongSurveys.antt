@@ -1,6 +1,6 @@
 -- What is answered to the front of an input that is longer than the largest image is answered to the whole of it.
 -- Letters: w the walk of a survey, fs its findings; n an entry's node.
-use Rattle.std.proofs.Common.{◌≡◌, ◌<◌, ◌≤◌, ◌+◌, ◌-◌, ◌*◌, ◌∙◌, ◌++◌, false, inl, inr, ℕ, List, [], ◌∷◌, Option, None, Some, refl, ap, ap₂, arith, subst}
+use Rattle.std.proofs.Common.{◌≡◌, ◌<◌, ◌≤◌, ◌+◌, ◌-◌, ◌*◌, ◌∙◌, ◌++◌, true, false, inl, inr, ℕ, Bool, List, [], ◌∷◌, Option, None, Some, refl, ap, ap₂, arith, subst}
 use Rattle.std.proofs.Common.{length, replicate, take}
 use Rattle.std.proofs.lemmas.List.{take-take}
 use Rattle.adf_blocks.specs.declared.layout.TheConstants.{MOST_BLOCKS}
@@ -43,12 +43,14 @@ same_leads : (image bytes : List ℕ) (names : List (List ℕ)) (n : ℕ) → Le
 same_leads image bytes [] n h = h
 same_leads image bytes (name ∷ names) n h = absurd h.1.0.3
 
-same_found : (image bytes : List ℕ) (names : List (List ℕ)) (reply : Reply) → CopiesFound image [] bad_size names reply
-    → CopiesFound bytes [] bad_size names reply
-same_found image bytes names reply (inl (none, e)) = inl ((λ n h. none n (same_leads bytes image names n h)), e)
-same_found image bytes names reply (inr (n, leads, inl (none, e))) = inr (n, same_leads image bytes names n leads, inl ((λ h at. at.header.has), e))
-same_found image bytes names reply (inr (n, leads, inr (inl (file, damage, e)))) = absurd file.1.header.has
-same_found image bytes names reply (inr (n, leads, inr (inr (sound, e)))) = absurd sound.0.header.has
+same_found : (damaged : Bool) (image bytes : List ℕ) (names : List (List ℕ)) (reply : Reply) → CopiesFound damaged image [] bad_size names reply
+    → CopiesFound damaged bytes [] bad_size names reply
+same_found damaged image bytes names reply (inl (none, e)) = inl ((λ n h. none n (same_leads bytes image names n h)), e)
+same_found false image bytes names reply (inr (n, leads, inl (none, e))) = inr (n, same_leads image bytes names n leads, inl ((λ h at. at.header.has), e))
+same_found true image bytes names reply (inr (n, leads, inl (none, e))) = inr (n, same_leads image bytes names n leads, inl ((λ h at. at.header.has), e))
+same_found true image bytes names reply (inr (n, leads, inr (file, e))) = absurd file.1.header.has
+same_found false image bytes names reply (inr (n, leads, inr (inl (file, damage, e)))) = absurd file.1.header.has
+same_found false image bytes names reply (inr (n, leads, inr (inr (sound, e)))) = absurd sound.0.header.has
 
 it_finds : bad_size ≡ [] → ⊥
 unfolding bad_size
@@ -81,10 +83,10 @@ long_questions list image bytes a b reply (w, fs, s, told) =
     let (date, dates, sound, marks, e) = of_long image w fs (λ u gs. TellsFound image u gs reply) a s told in
     let same = ap (λ t. on_output (findings_status bad_size) (t ++ [])) (same_text image bytes) in
     ([], bad_size, long_survey bytes b, (date, dates, (λ n. false), no_marks bytes bad_size, e ∙ same))
-long_questions (cat path) image bytes a b reply (inl bad) = inl bad
-long_questions (cat path) image bytes a b reply (inr (names, text, w, fs, s, found)) =
-    let same = of_long image w fs (λ u gs. CopiesFound image u gs names reply) a s found in
-    inr (names, text, [], bad_size, long_survey bytes b, same_found image bytes names reply same)
+long_questions (cat damaged path) image bytes a b reply (inl bad) = inl bad
+long_questions (cat damaged path) image bytes a b reply (inr (names, text, w, fs, s, found)) =
+    let same = of_long image w fs (λ u gs. CopiesFound damaged image u gs names reply) a s found in
+    inr (names, text, [], bad_size, long_survey bytes b, same_found damaged image bytes names reply same)
 long_questions rescue image bytes a b reply (w, fs, s, found) = (
   [],
   bad_size,

@@ -1,6 +1,6 @@
 -- What is asked of an image has one answer.
 -- Letters: w, u walks of its survey, fs, gs the findings; n, m entries' nodes; r, q inquiries; a, b replies.
-use Rattle.std.proofs.Common.{◌≡◌, ◌∙◌, inl, inr, ℕ, Bool, List, [], ◌∷◌, Option, Some, sym, ap, subst}
+use Rattle.std.proofs.Common.{◌≡◌, ◌∙◌, inl, inr, ℕ, Bool, true, false, List, [], ◌∷◌, Option, Some, sym, ap, subst}
 use mathlib.Core.Path.{fun_ext}
 use Rattle.adf_tree.proofs.PathParts.{one_path}
 use Rattle.adf_volume.specs.Walk.{FileAt, Role, node_block}
@@ -38,24 +38,29 @@ module _ (image : List ℕ) (w : List (Role × ℕ)) where
   sound_is_file : (fs : List FindingValue) (n : ℕ) → IsSoundFile image w fs n → (h : ℕ) × FileAt image w n h
   sound_is_file fs n s = (node_block w n, record { header = s.0.header; type = s.1 })
 
-  entry_once : (fs : List FindingValue) (n : ℕ) (a b : Reply) → CopiesEntry image w fs n a → CopiesEntry image w fs n b → a ≡ b
-  entry_once fs n a b (inl (none, x)) (inl (never, y)) = x ∙ sym y
-  entry_once fs n a b (inl (none, x)) (inr (inl (file, damage, y))) = absurd (none file.0 file.1)
-  entry_once fs n a b (inl (none, x)) (inr (inr (sound, y))) = let file = sound_is_file fs n sound in absurd (none file.0 file.1)
-  entry_once fs n a b (inr (inl (file, damage, x))) (inl (none, y)) = absurd (none file.0 file.1)
-  entry_once fs n a b (inr (inl (file, damage, x))) (inr (inl (also, harm, y))) = x ∙ sym y
-  entry_once fs n a b (inr (inl (file, damage, x))) (inr (inr (sound, y))) = absurd (damage sound)
-  entry_once fs n a b (inr (inr (sound, x))) (inl (none, y)) = let file = sound_is_file fs n sound in absurd (none file.0 file.1)
-  entry_once fs n a b (inr (inr (sound, x))) (inr (inl (file, damage, y))) = absurd (damage sound)
-  entry_once fs n a b (inr (inr (sound, x))) (inr (inr (also, y))) = x ∙ sym y
+  entry_once : (damaged : Bool) (fs : List FindingValue) (n : ℕ) (a b : Reply) → CopiesEntry damaged image w fs n a → CopiesEntry damaged image w fs n b → a ≡ b
+  entry_once false fs n a b (inl (none, x)) (inl (never, y)) = x ∙ sym y
+  entry_once false fs n a b (inl (none, x)) (inr (inl (file, damage, y))) = absurd (none file.0 file.1)
+  entry_once false fs n a b (inl (none, x)) (inr (inr (sound, y))) = let file = sound_is_file fs n sound in absurd (none file.0 file.1)
+  entry_once false fs n a b (inr (inl (file, damage, x))) (inl (none, y)) = absurd (none file.0 file.1)
+  entry_once false fs n a b (inr (inl (file, damage, x))) (inr (inl (also, harm, y))) = x ∙ sym y
+  entry_once false fs n a b (inr (inl (file, damage, x))) (inr (inr (sound, y))) = absurd (damage sound)
+  entry_once false fs n a b (inr (inr (sound, x))) (inl (none, y)) = let file = sound_is_file fs n sound in absurd (none file.0 file.1)
+  entry_once false fs n a b (inr (inr (sound, x))) (inr (inl (file, damage, y))) = absurd (damage sound)
+  entry_once false fs n a b (inr (inr (sound, x))) (inr (inr (also, y))) = x ∙ sym y
+  entry_once true fs n a b (inl (none, x)) (inl (never, y)) = x ∙ sym y
+  entry_once true fs n a b (inl (none, x)) (inr (file, y)) = absurd (none file.0 file.1)
+  entry_once true fs n a b (inr (file, x)) (inl (none, y)) = absurd (none file.0 file.1)
+  entry_once true fs n a b (inr (file, x)) (inr (also, y)) = x ∙ sym y
 
-  found_once : (fs : List FindingValue) (names : List (List ℕ)) (a b : Reply) → CopiesFound image w fs names a → CopiesFound image w fs names b → a ≡ b
-  found_once fs names a b (inl (none, x)) (inl (never, y)) = x ∙ sym y
-  found_once fs names a b (inl (none, x)) (inr (n, leads, y)) = absurd (none n leads)
-  found_once fs names a b (inr (n, leads, x)) (inl (none, y)) = absurd (none n leads)
-  found_once fs names a b (inr (n, leads, x)) (inr (m, also, y)) =
+  found_once : (damaged : Bool) (fs : List FindingValue) (names : List (List ℕ)) (a b : Reply) → CopiesFound damaged image w fs names a
+      → CopiesFound damaged image w fs names b → a ≡ b
+  found_once damaged fs names a b (inl (none, x)) (inl (never, y)) = x ∙ sym y
+  found_once damaged fs names a b (inl (none, x)) (inr (n, leads, y)) = absurd (none n leads)
+  found_once damaged fs names a b (inr (n, leads, x)) (inl (none, y)) = absurd (none n leads)
+  found_once damaged fs names a b (inr (n, leads, x)) (inr (m, also, y)) =
       let same = one_lead 0 names n m leads also in
-      entry_once fs m a b (subst (λ k. CopiesEntry image w fs k a) same x) y
+      entry_once damaged fs m a b (subst (λ k. CopiesEntry damaged image w fs k a) same x) y
 
 surveyed_once : (image : List ℕ) (a b : Reply) → Surveys image a → Surveys image b → a ≡ b
 surveyed_once image a b (w, fs, s, x) (u, gs, t, y) =
@@ -79,13 +84,13 @@ listed_once image a b (w, fs, s, x) (u, gs, t, y) =
     let moved = subst (λ v. TellsFound image v fs a) same.0 x in
     found_told_once image u gs a b (subst (λ hs. TellsFound image u hs a) same.1 moved) y
 
-copied_once : (path image : List ℕ) (a b : Reply) → CopiesFromSurvey path image a → CopiesFromSurvey path image b → a ≡ b
-copied_once path image a b (names, text, w, fs, s, x) (others, also, u, gs, t, y) =
+copied_once : (damaged : Bool) (path image : List ℕ) (a b : Reply) → CopiesFromSurvey damaged path image a → CopiesFromSurvey damaged path image b → a ≡ b
+copied_once damaged path image a b (names, text, w, fs, s, x) (others, also, u, gs, t, y) =
     let same = one_survey image w u fs gs s t in
-    let walk = subst (λ v. CopiesFound image v fs names a) same.0 x in
-    let found = subst (λ hs. CopiesFound image u hs names a) same.1 walk in
+    let walk = subst (λ v. CopiesFound damaged image v fs names a) same.0 x in
+    let found = subst (λ hs. CopiesFound damaged image u hs names a) same.1 walk in
     let path_is = one_path path names others text also in
-    found_once image u gs others a b (subst (λ (ns : List (List ℕ)). CopiesFound image u gs ns a) path_is found) y
+    found_once image u damaged gs others a b (subst (λ (ns : List (List ℕ)). CopiesFound damaged image u gs ns a) path_is found) y
 
 volume_once : (image : List ℕ) (w : List (Role × ℕ)) (sound : ℕ → Bool) (a b : Reply) → WritesVolume image w sound a → WritesVolume image w sound b → a ≡ b
 volume_once image w sound a b (one, laid, size, x) (other, also, long, y) =
@@ -114,10 +119,10 @@ rescued_once input image a b (w, fs, s, x) (u, gs, t, y) =
 one_question : (q : QuestionValue) (image : List ℕ) (a b : Reply) → QuestionAnswer q image a → QuestionAnswer q image b → a ≡ b
 one_question report image a b x y = surveyed_once image a b x y
 one_question list image a b x y = listed_once image a b x y
-one_question (cat path) image a b (inl (bad, x)) (inl (worse, y)) = x ∙ sym y
-one_question (cat path) image a b (inl (bad, x)) (inr h) = absurd (bad h.0 h.1)
-one_question (cat path) image a b (inr h) (inl (bad, y)) = absurd (bad h.0 h.1)
-one_question (cat path) image a b (inr h) (inr g) = copied_once path image a b h g
+one_question (cat damaged path) image a b (inl (bad, x)) (inl (worse, y)) = x ∙ sym y
+one_question (cat damaged path) image a b (inl (bad, x)) (inr h) = absurd (bad h.0 h.1)
+one_question (cat damaged path) image a b (inr h) (inl (bad, y)) = absurd (bad h.0 h.1)
+one_question (cat damaged path) image a b (inr h) (inr g) = copied_once damaged path image a b h g
 one_question rescue image a b x y = rescued_once image (opened image) a b x y
 
 pub one_answer : (r : InquiryValue) (input : List ℕ) (a b : Reply) → SurveyAnswer r input a → SurveyAnswer r input b → a ≡ b

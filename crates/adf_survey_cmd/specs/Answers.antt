@@ -1,6 +1,6 @@
 -- What the command answers to its words and its input.
 -- Letters: w the walk of a survey, fs its findings; n an entry's node, h the block of its header; r an inquiry.
-use Rattle.std.specs.Prelude.{◌≡◌, ◌*◌, ◌-◌, ◌⊎◌, ◌++◌, ℕ, Bool, List, [], ◌∷◌, Option, None, Some, codes, length, replicate, take}
+use Rattle.std.specs.Prelude.{◌≡◌, ◌*◌, ◌-◌, ◌⊎◌, ◌++◌, ℕ, Bool, true, false, List, [], ◌∷◌, Option, None, Some, codes, length, replicate, take}
 use Rattle.adf_blocks.specs.declared.layout.TheConstants.{MOST_BLOCKS}
 use Rattle.adf_tree.specs.PathTexts.{IsPathText}
 use Rattle.adf_volume.specs.Walk.{FileAt, Role}
@@ -15,6 +15,7 @@ use Rattle.adf_runs.specs.Commands.{Command, Reply, on_errors, on_output}
 use Rattle.adf_words.specs.SurveyLine.{AreRefusedBySurvey, AsksSurvey, InquiryValue, QuestionValue, asked, cat, list, report, rescue}
 use Rattle.adf_survey_cmd.specs.FoundLines.{listing_text}
 use Rattle.adf_survey_cmd.specs.Lines.{findings_text}
+use Rattle.adf_survey_cmd.specs.Remains.{WritesRemains}
 use Rattle.adf_survey_cmd.specs.Rescues.{Rescues}
 
 -- the status of findings: 0 where there is none
@@ -48,14 +49,15 @@ FindsDamage input w fs n reply =
 abbrev pub CopiesSoundFile : List ℕ → List (Role × ℕ) → List FindingValue → ℕ → Reply → Type 0
 CopiesSoundFile input w fs n reply = IsSoundFile input w fs n × (reply ≡ on_output 0 (file_content (file_in input w n)))
 
--- `cat` of an entry
-abbrev pub CopiesEntry : List ℕ → List (Role × ℕ) → List FindingValue → ℕ → Reply → Type 0
-CopiesEntry input w fs n reply = FindsNoFile input w n reply ⊎ (FindsDamage input w fs n reply ⊎ CopiesSoundFile input w fs n reply)
+-- `cat` of an entry: of a sound file, or of one that may be damaged
+abbrev pub CopiesEntry : (damaged : Bool) → List ℕ → List (Role × ℕ) → List FindingValue → ℕ → Reply → Type 0
+CopiesEntry false input w fs n reply = FindsNoFile input w n reply ⊎ (FindsDamage input w fs n reply ⊎ CopiesSoundFile input w fs n reply)
+CopiesEntry true input w fs n reply = FindsNoFile input w n reply ⊎ WritesRemains input w n reply
 
 -- `cat` of what the names lead to
-abbrev pub CopiesFound : List ℕ → List (Role × ℕ) → List FindingValue → List (List ℕ) → Reply → Type 0
-CopiesFound input w fs names reply =
-    FindsNothing input w names reply ⊎ ((n : ℕ) × LeadsTo input w 0 names n × CopiesEntry input w fs n reply)
+abbrev pub CopiesFound : (damaged : Bool) → List ℕ → List (Role × ℕ) → List FindingValue → List (List ℕ) → Reply → Type 0
+CopiesFound damaged input w fs names reply =
+    FindsNothing input w names reply ⊎ ((n : ℕ) × LeadsTo input w 0 names n × CopiesEntry damaged input w fs n reply)
 
 -- `adf-survey` tells the findings of the image's survey
 abbrev pub Surveys : List ℕ → Reply → Type 0
@@ -66,16 +68,16 @@ abbrev pub ListsSurvey : List ℕ → Reply → Type 0
 ListsSurvey input reply = (w : List (Role × ℕ)) × (fs : List FindingValue) × IsSurvey input w fs × TellsFound input w fs reply
 
 -- `cat` of a path that is read, in what is found of the image
-abbrev pub CopiesFromSurvey : List ℕ → List ℕ → Reply → Type 0
-CopiesFromSurvey path input reply =
+abbrev pub CopiesFromSurvey : (damaged : Bool) → List ℕ → List ℕ → Reply → Type 0
+CopiesFromSurvey damaged path input reply =
     (names : List (List ℕ)) × IsPathText path names
-    × (w : List (Role × ℕ)) × (fs : List FindingValue) × IsSurvey input w fs × CopiesFound input w fs names reply
+    × (w : List (Role × ℕ)) × (fs : List FindingValue) × IsSurvey input w fs × CopiesFound damaged input w fs names reply
 
 -- the answer to a question of an image
 abbrev pub QuestionAnswer : QuestionValue → List ℕ → Reply → Type 0
 QuestionAnswer report image reply = Surveys image reply
 QuestionAnswer list image reply = ListsSurvey image reply
-QuestionAnswer (cat path) image reply = RefusesPath path reply ⊎ CopiesFromSurvey path image reply
+QuestionAnswer (cat damaged path) image reply = RefusesPath path reply ⊎ CopiesFromSurvey damaged path image reply
 QuestionAnswer rescue image reply = Rescues image reply
 
 -- the image of n blocks that begins with the bytes of the input, as many as it holds, and has zeros for what is not there
@@ -102,16 +104,17 @@ InquiriesHaveOneAnswer = (r : InquiryValue) (input : List ℕ) (a b : Reply) →
 -- what errors get where the words are refused
 abbrev pub survey_usage : List ℕ
 survey_usage =
-    codes "usage: adf-survey [--blocks N] [--list] < IMAGE\n       adf-survey [--blocks N] cat PATH < IMAGE\n"
+    codes "usage: adf-survey [--blocks N] [--list] < IMAGE\n       adf-survey [--blocks N] cat [--damaged] PATH < IMAGE\n"
     ++ codes "       adf-survey [--blocks N] rescue < IMAGE\nan image comes on standard input; man adf-survey tells more\n"
 
 -- a question for the bytes under a path that is not read
 abbrev pub HasBadSurveyPath : QuestionValue → Type 0
-HasBadSurveyPath q = (path : List ℕ) × (q ≡ cat path) × IsBadPath path
+HasBadSurveyPath q = (damaged : Bool) × (path : List ℕ) × (q ≡ cat damaged path) × IsBadPath path
 
 -- the words ask for the bytes under a path that is not read
 abbrev pub AsksBadSurveyPath : List (List ℕ) → Type 0
-AsksBadSurveyPath words = (blocks : Option ℕ) × (path : List ℕ) × AsksSurvey words (asked blocks (cat path)) × IsBadPath path
+AsksBadSurveyPath words =
+    (blocks : Option ℕ) × (damaged : Bool) × (path : List ℕ) × AsksSurvey words (asked blocks (cat damaged path)) × IsBadPath path
 
 -- the command `adf-survey`
 abbrev pub survey_command : Command (List (List ℕ))

@@ -2,6 +2,7 @@
 pub mod Lines
 pub mod FoundLines
 pub mod Rescues
+pub mod Remains
 pub mod Answers
 -- The words of the command, as its loop keeps them.
 pub mod Work

@@ -12,7 +12,7 @@ use Rattle.adf_survey_cmd.specs.declared.work.Work.{Work}
 abbrev pub Shows : View → QuestionValue → Type 0
 Shows Findings q = q ≡ report
 Shows ListAll q = q ≡ list
-Shows (Cat names) q = (path : List ℕ) × (q ≡ cat path) × IsPathText path names.items
+Shows (Cat names damaged) q = (path : List ℕ) × (q ≡ cat damaged path) × IsPathText path names.items
 
 -- the task is what is asked
 abbrev pub Answers : Task → QuestionValue → Type 0

@@ -1,29 +1,20 @@
-// The bytes of sound files.
+// The bytes of sound files, and what is left of those that may be damaged.
 
-ghost use Rattle.std.specs.Prelude.{◌≡◌, ◌↔◌, ℕ, false, IsTrue};
-ghost use Rattle.adf_volume.specs.Walk.{FileAt};
+ghost use Rattle.std.specs.Prelude.{◌≡◌, ◌++◌, IfOk, OnOk, false, true};
+ghost use Rattle.std.specs.List.{flat_map};
 ghost use Rattle.adf_findings.specs.Files.{file_content};
 ghost use Rattle.adf_findings.specs.Survey.{OnSurvey};
 ghost use Rattle.adf_runs.specs.Commands.{on_output};
 ghost use Rattle.adf_survey_cmd.specs.Answers.{CopiesEntry, CopiesFound};
+ghost use Rattle.adf_survey_cmd.specs.Remains.{gap_line, remains_reply};
 ghost use Rattle.adf_runs.specs.Outcomes.{EndsBy, is_read_fault, is_write_fault};
 
-use adf_blocks::{SECONDARY_TYPE, ST_FILE};
 use adf_cmd::{ROOM, write_through};
-use adf_findings::{SoundFile, Survey};
-use adf_runs::{Outcome, Sink};
+use adf_findings::{Gap, Remains, SoundFile, Survey};
+use adf_runs::{Outcome, Sink, write_all};
+use adf_texts::push_number;
 use adf_tree::{Name, Node};
-use std::alloc::Global;
-
-// Whether an entry that is found is a file, sound or not.
-fn is_file(survey: &Survey<'_>, n: Node) -> bool
-    ensures { OnSurvey survey.now.image (λ w _. IsTrue result ↔ ((h : ℕ) × FileAt survey.now.image w n h)) }
-{
-    match survey.header(n) {
-        Some(head) => head.word(SECONDARY_TYPE) == ST_FILE,
-        None => false,
-    }
-}
+use std::alloc::{AllocError, Global};
 
 // Writes the bytes of a file.
 fn write_file<W: Sink>(file: &SoundFile<'_>, output: &mut W) -> Outcome
@@ -42,12 +33,12 @@ fn write_file<W: Sink>(file: &SoundFile<'_>, output: &mut W) -> Outcome
 // Writes the bytes of an entry that is a sound file.
 fn copy_entry<W: Sink>(alloc: Global, survey: &Survey<'_>, n: Node, output: &mut W) -> Outcome
     requires { W.has_failed output.old ≡ false }
-    ensures ends { OnSurvey survey.now.image (λ w fs. EndsBy (CopiesEntry survey.now.image w fs n) result
+    ensures ends { OnSurvey survey.now.image (λ w fs. EndsBy (CopiesEntry false survey.now.image w fs n) result
         (W.held output.old) (W.held output.new)) }
     ensures read { is_read_fault result ≡ false }
     ensures written { W.has_failed output.new ≡ is_write_fault result }
 {
-    if !is_file(survey, n) {
+    if !survey.is_file(n) {
         return Outcome::NotAFile;
     }
     match survey.file(alloc, n) {
@@ -57,21 +48,78 @@ fn copy_entry<W: Sink>(alloc: Global, survey: &Survey<'_>, n: Node, output: &mut
     }
 }
 
-/// Writes the bytes of the sound file that the names lead to.
+// Appends the line of bytes that are no data.
+fn push_gap(text: &mut Vec<u8>, gap: Gap) -> Result<(), AllocError>
+    ensures { OnOk result (text.new.items ≡ text.old.items ++ gap_line gap) }
+{
+    text.extend_from_slice(b"bytes ")?;
+    push_number(text, gap.first, b' ')?;
+    text.extend_from_slice(b"to ")?;
+    push_number(text, gap.last, b':')?;
+    text.extend_from_slice(b" no data\n")
+}
+
+// The lines of bytes that are no data.
+fn gap_lines(alloc: Global, gaps: &[Gap]) -> Result<Vec<u8>, AllocError>
+    ensures { IfOk result (λ text. text.items ≡ flat_map gap_line gaps.now) }
+{
+    let mut text = Vec::new(alloc);
+    for i in 0..gaps.len() {
+        push_gap(&mut text, gaps[i])?;
+    }
+    Ok(text)
+}
+
+// Writes the bytes of a file, and tells which are no data.
+fn write_remains<W: Sink>(alloc: Global, remains: &Remains, output: &mut W) -> Outcome
+    requires { W.has_failed output.old ≡ false }
+    ensures ends { EndsBy (λ reply. reply ≡ remains_reply remains.now.bytes.items remains.now.gaps.items)
+        result (W.held output.old) (W.held output.new) }
+    ensures read { is_read_fault result ≡ false }
+    ensures written { W.has_failed output.new ≡ is_write_fault result }
+{
+    let Ok(lines) = gap_lines(alloc, &remains.gaps) else {
+        return Outcome::NoMemory;
+    };
+    match write_all(output, &remains.bytes) {
+        Ok(()) if remains.gaps.is_empty() => Outcome::Done,
+        Ok(()) => Outcome::LeftOut(lines),
+        Err(_) => Outcome::WriteFault,
+    }
+}
+
+// Writes what is left of an entry that is a file.
+fn copy_remains<W: Sink>(alloc: Global, survey: &Survey<'_>, n: Node, output: &mut W) -> Outcome
+    requires { W.has_failed output.old ≡ false }
+    ensures ends { OnSurvey survey.now.image (λ w fs. EndsBy (CopiesEntry true survey.now.image w fs n) result
+        (W.held output.old) (W.held output.new)) }
+    ensures read { is_read_fault result ≡ false }
+    ensures written { W.has_failed output.new ≡ is_write_fault result }
+{
+    match survey.remains(alloc, n) {
+        Ok(Some(remains)) => write_remains(alloc, &remains, output),
+        Ok(None) => Outcome::NotAFile,
+        Err(_) => Outcome::NoMemory,
+    }
+}
+
+/// Writes the bytes of the file that the names lead to: of a sound one, or what is left of one that may be damaged.
 pub fn copy_found<W: Sink>(
     alloc: Global,
     survey: &Survey<'_>,
     names: &[Name],
+    damaged: bool,
     output: &mut W,
 ) -> Outcome
     requires { W.has_failed output.old ≡ false }
     ensures ends { OnSurvey survey.now.image (λ w fs.
-        EndsBy (CopiesFound survey.now.image w fs names.now) result
+        EndsBy (CopiesFound damaged survey.now.image w fs names.now) result
         (W.held output.old) (W.held output.new)) }
     ensures read { is_read_fault result ≡ false }
     ensures written { W.has_failed output.new ≡ is_write_fault result }
 {
     match survey.find(names) {
+        Some(n) if damaged => copy_remains(alloc, survey, n, output),
         Some(n) => copy_entry(alloc, survey, n, output),
         None => Outcome::NoSuchPath,
     }

@@ -25,8 +25,8 @@ use std::alloc::{AllocError, Global};
 pub enum View {
     Findings,
     List,
-    /// The names of the path.
-    Cat(Vec<Name>),
+    /// The names of the path, and whether the file may be damaged.
+    Cat { names: Vec<Name>, damaged: bool },
 }
 
 /// What is done with an image.
@@ -52,7 +52,10 @@ fn task_for(alloc: Global, question: Question<'_>) -> Result<Task, WorkFault>
     match question {
         Question::Report => Ok(Task::Show(View::Findings)),
         Question::List => Ok(Task::Show(View::List)),
-        Question::Cat(path) => Ok(Task::Show(View::Cat(read_path(alloc, path.as_bytes())?))),
+        Question::Cat { path, damaged } => {
+            let names = read_path(alloc, path.as_bytes())?;
+            Ok(Task::Show(View::Cat { names, damaged }))
+        }
         Question::Rescue => Ok(Task::Rescue),
     }
 }
@@ -83,7 +86,7 @@ impl View {
         match self {
             View::Findings => write_findings(alloc, survey, output),
             View::List => write_list(alloc, survey, output),
-            View::Cat(names) => copy_found(alloc, survey, names, output),
+            View::Cat { names, damaged } => copy_found(alloc, survey, names, *damaged, output),
         }
     }
 
@@ -169,6 +172,6 @@ impl Program for Work {
 
     ghost consistent = { record {
       taken = Prim.search rules;
-      unread = λ words h. (asked h.0 (cat h.1), h.2, λ input. inl (h.3, refl));
+      unread = λ words h. (asked h.0 (cat h.1 h.2), h.3, λ input. inl (h.4, refl));
     } };
 }

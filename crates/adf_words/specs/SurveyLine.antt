@@ -5,6 +5,7 @@ use Rattle.std.specs.Str.{all_ascii_digits, bytes_eq}
 use Rattle.std.specs.Str.Parse.{digits_value}
 use Rattle.clap.specs.Words.{App, Row, Rule, Text, fault_of, first_of, matches_of, new_app, new_rule, subcommand_of, with_rule}
 use Rattle.clap.specs.Words.{with_subcommand}
+use Rattle.clap.specs.declared.builder.action.ArgAction.TheVariants.{SetTrue}
 use Rattle.adf_blocks.specs.declared.layout.TheConstants.{MOST_BLOCKS}
 use Rattle.adf_words.specs.CommandLine.{cat_app, is_text, list_rule}
 use Rattle.adf_words.specs.declared.command_line.WordsFault.{WordsFault}
@@ -22,19 +23,28 @@ bare_survey =
 abbrev pub blocks_rule : Rule
 blocks_rule = record (new_rule (codes "blocks")) { long = Some (codes "blocks") }
 
+-- the flag --damaged
+abbrev pub damaged_rule : Rule
+damaged_rule = record (new_rule (codes "damaged")) { long = Some (codes "damaged"); action = Some SetTrue }
+
+-- cat [--damaged] PATH
+abbrev pub survey_cat_app : App
+survey_cat_app = with_rule cat_app damaged_rule
+
 -- with the option and the flag
 abbrev pub flagged_survey : App
 flagged_survey = with_rule (with_rule bare_survey blocks_rule) list_rule
 
--- the command line: [--blocks N], and [--list], cat PATH, or rescue
+-- the command line: [--blocks N], and [--list], cat [--damaged] PATH, or rescue
 abbrev pub survey_app : App
-survey_app = with_subcommand (with_subcommand flagged_survey cat_app.top) (new_app (codes "rescue")).top
+survey_app = with_subcommand (with_subcommand flagged_survey survey_cat_app.top) (new_app (codes "rescue")).top
 
--- what is asked of an image: all findings; these and what is found; the bytes of a sound file; or a new volume of all that stands
+-- what is asked of an image: all findings; these and what is found; the bytes of a file, which is sound or may be damaged; or a new
+-- volume of all that stands
 pub data QuestionValue : Type 0 where
   report : QuestionValue
   list : QuestionValue
-  cat : Text → QuestionValue
+  cat : (damaged : Bool) → Text → QuestionValue
   rescue : QuestionValue
 
 -- what a command line asks for, of the image as it is or as if it had so many blocks
@@ -59,10 +69,14 @@ AreFew blocks = IfSome blocks (λ n. n ≤ MOST_BLOCKS)
 abbrev pub blocks_met : List Row → Option (Option ℕ)
 blocks_met rows = elim (first_of (codes "blocks") rows) [ None ↦ Some None | Some text ↦ option_map Some (blocks_named text) ]
 
+-- the flag --damaged is among the matches
+abbrev pub asks_damaged : List Row → Bool
+asks_damaged rows = is_text (codes "true") (first_of (codes "damaged") rows)
+
 -- what a subcommand's name and matches ask
 abbrev pub question_named : Text → List Row → Option QuestionValue
 question_named name rows =
-    if bytes_eq name (codes "cat") then option_map cat (first_of (codes "path") rows)
+    if bytes_eq name (codes "cat") then option_map (cat (asks_damaged rows)) (first_of (codes "path") rows)
     else (if bytes_eq name (codes "rescue") then Some rescue else None)
 
 -- the flag --list is among the matches
@@ -94,7 +108,7 @@ AreRefusedBySurvey words = (¬ (fault_of survey_app words ≡ [])) ⊎ (inquiry_
 abbrev pub question_value : Question → QuestionValue
 question_value Report = report
 question_value ListAll = list
-question_value (Cat p) = cat p.now
+question_value (Cat path damaged) = cat damaged path.now
 question_value Rescue = rescue
 
 -- the value of an inquiry as the code has it

@@ -1,19 +1,20 @@
 // The words of `adf-survey`, by clap.
 
-ghost use Rattle.std.specs.Prelude.{◌≡◌, ◌==◌, IfOk, IfErr, IfSome, ℕ, List, [], ◌∷◌, Some, None, codes, false, option_map};
+ghost use Rattle.std.specs.Prelude.{◌≡◌, ◌==◌, IfOk, IfErr, IfSome, ℕ, List, [], ◌∷◌, Some, None, codes, false, true, option_map};
 ghost use Rattle.clap.specs.Words.{app_of, found_of, rows_of, subcommand_rows_of};
+ghost use Rattle.clap.specs.declared.builder.command.Command.TheViews.{out-Command};
 ghost use Rattle.adf_words.specs.CommandLine.{texts_of};
-ghost use Rattle.adf_words.specs.SurveyLine.{AreFew, AsksSurvey, AreRefusedBySurvey, ExplainsSurveyWords, blocks_met, blocks_named, asked, cat, flagged_survey, list, inquiry_met, inquiry_value, question_met, question_named, question_value, report, rescue, survey_app};
+ghost use Rattle.adf_words.specs.SurveyLine.{AreFew, AsksSurvey, AreRefusedBySurvey, ExplainsSurveyWords, blocks_met, blocks_named, asked, cat, flagged_survey, list, inquiry_met, inquiry_value, question_met, question_named, question_value, report, rescue, survey_app, survey_cat_app};
 
 use crate::command_line::{WordsFault, cat_command, first_text, has_flag, list_flag};
 use adf_blocks::MOST_BLOCKS;
 use clap::error::ErrorKind;
-use clap::{Arg, ArgMatches, Command};
+use clap::{Arg, ArgAction, ArgMatches, Command};
 use std::alloc::{AllocError, Global};
 
 /// What is said of words that are refused.
 pub const SURVEY_USAGE: &str =
-    "usage: adf-survey [--blocks N] [--list] < IMAGE\n       adf-survey [--blocks N] cat PATH < IMAGE\n\
+    "usage: adf-survey [--blocks N] [--list] < IMAGE\n       adf-survey [--blocks N] cat [--damaged] PATH < IMAGE\n\
     \x20      adf-survey [--blocks N] rescue < IMAGE\n\
     an image comes on standard input; man adf-survey tells more\n";
 
@@ -24,8 +25,8 @@ pub enum Question<'a> {
     Report,
     /// All findings, and what is found.
     List,
-    /// The bytes of a sound file, by the text of its path.
-    Cat(&'a str),
+    /// The bytes of a file by the text of its path: of a sound one, or of one that may be damaged.
+    Cat { path: &'a str, damaged: bool },
     /// A new volume of all that stands.
     Rescue,
 }
@@ -49,12 +50,23 @@ fn flagged<'a>(alloc: Global) -> Result<Command<'a>, AllocError>
     bare.arg(blocks)?.arg(list_flag(alloc))
 }
 
+// The command `cat [--damaged] PATH`.
+fn survey_cat_command<'a>(alloc: Global) -> Result<Command<'a>, AllocError>
+    ensures app { IfOk result (λ c. app_of c ≡ survey_cat_app) }
+    ensures local { IfOk result (λ c. (out-Command c).has_globals ≡ false) }
+{
+    let damaged = Arg::new(alloc, "damaged")
+        .long("damaged")
+        .action(ArgAction::SetTrue);
+    cat_command(alloc)?.arg(damaged)
+}
+
 // The command line.
 fn command<'a>(alloc: Global) -> Result<Command<'a>, AllocError>
     ensures { IfOk result (λ c. app_of c ≡ survey_app) }
 {
     flagged(alloc)?
-        .subcommand(cat_command(alloc)?)?
+        .subcommand(survey_cat_command(alloc)?)?
         .subcommand(Command::new(alloc, "rescue"))
 }
 
@@ -94,7 +106,10 @@ fn question_named<'a>(name: &str, found: &ArgMatches<'a>) -> Option<Question<'a>
 {
     if name == "cat" {
         match first_text(found, "path") {
-            Some(path) => Some(Question::Cat(path)),
+            Some(path) => Some(Question::Cat {
+                path,
+                damaged: has_flag(found, "damaged"),
+            }),
             None => None,
         }
     } else if name == "rescue" {
@@ -131,7 +146,7 @@ fn inquiry_in<'a>(matches: &ArgMatches<'a>) -> Option<Inquiry<'a>>
 }
 
 /// Reads the words, of which the first is the program's name. `Usage` exactly where clap refuses them
-/// or its matches lack the path, have the flag before a command, or have no number of blocks; `NoMemory` where memory was refused.
+/// or its matches lack the path, have `--list` before a command, or have no number of blocks; `NoMemory` where memory was refused.
 pub fn parse_survey<'a>(alloc: Global, words: &'a [&str]) -> Result<Inquiry<'a>, WordsFault>
     ensures ok { IfOk result (λ inquiry.
         AsksSurvey (texts_of words.entry.now) (inquiry_value inquiry)) }
@@ -162,10 +177,19 @@ pub fn survey_words_as_documented()
     ensures list { AsksSurvey (codes "adf-survey" ∷ codes "--list" ∷ []) (asked None list) }
     ensures cat { (first : ℕ) (rest : List ℕ) → (first == 45) ≡ false
         → AsksSurvey (codes "adf-survey" ∷ codes "cat" ∷ (first ∷ rest) ∷ [])
-        (asked None (cat (first ∷ rest))) }
+        (asked None (cat false (first ∷ rest))) }
     ensures cat_any { (path : List ℕ)
         → AsksSurvey (codes "adf-survey" ∷ codes "cat" ∷ codes "--" ∷ path ∷ [])
-        (asked None (cat path)) }
+        (asked None (cat false path)) }
+    ensures damaged { (first : ℕ) (rest : List ℕ) → (first == 45) ≡ false
+        → AsksSurvey (codes "adf-survey" ∷ codes "cat" ∷ codes "--damaged" ∷ (first ∷ rest) ∷ [])
+        (asked None (cat true (first ∷ rest))) }
+    ensures damaged_behind { (first : ℕ) (rest : List ℕ) → (first == 45) ≡ false
+        → AsksSurvey (codes "adf-survey" ∷ codes "cat" ∷ (first ∷ rest) ∷ codes "--damaged" ∷ [])
+        (asked None (cat true (first ∷ rest))) }
+    ensures damaged_any { (path : List ℕ) → AsksSurvey
+        (codes "adf-survey" ∷ codes "cat" ∷ codes "--damaged" ∷ codes "--" ∷ path ∷ [])
+        (asked None (cat true path)) }
     ensures rescue { AsksSurvey (codes "adf-survey" ∷ codes "rescue" ∷ []) (asked None rescue) }
     ensures blocks { AsksSurvey (codes "adf-survey" ∷ codes "--blocks" ∷ codes "1760" ∷ [])
         (asked (Some 1760) report) }
@@ -174,7 +198,7 @@ pub fn survey_words_as_documented()
         (asked (Some 1760) list) }
     ensures blocks_cat { (path : List ℕ) → AsksSurvey
         (codes "adf-survey" ∷ codes "--blocks" ∷ codes "1760" ∷ codes "cat" ∷ codes "--" ∷ path ∷ [])
-        (asked (Some 1760) (cat path)) }
+        (asked (Some 1760) (cat false path)) }
     ensures blocks_rescue { AsksSurvey
         (codes "adf-survey" ∷ codes "--blocks" ∷ codes "1760" ∷ codes "rescue" ∷ [])
         (asked (Some 1760) rescue) }
@@ -200,6 +224,15 @@ pub fn survey_words_as_documented()
         (codes "adf-survey" ∷ codes "rescue" ∷ codes "a" ∷ []) }
     ensures cat_list { AreRefusedBySurvey
         (codes "adf-survey" ∷ codes "cat" ∷ codes "a" ∷ codes "--list" ∷ []) }
+    ensures damaged_cat { AreRefusedBySurvey
+        (codes "adf-survey" ∷ codes "--damaged" ∷ codes "cat" ∷ codes "a" ∷ []) }
+    ensures damaged_alone { AreRefusedBySurvey (codes "adf-survey" ∷ codes "--damaged" ∷ []) }
+    ensures damaged_rescue { AreRefusedBySurvey
+        (codes "adf-survey" ∷ codes "rescue" ∷ codes "--damaged" ∷ []) }
+    ensures damaged_no_path { AreRefusedBySurvey
+        (codes "adf-survey" ∷ codes "cat" ∷ codes "--damaged" ∷ []) }
+    ensures damaged_twice { AreRefusedBySurvey
+        (codes "adf-survey" ∷ codes "cat" ∷ codes "--damaged" ∷ codes "--damaged" ∷ codes "a" ∷ []) }
     ensures short_list { AreRefusedBySurvey (codes "adf-survey" ∷ codes "-l" ∷ []) }
     ensures list_word { AreRefusedBySurvey (codes "adf-survey" ∷ codes "list" ∷ []) }
     ensures flag { AreRefusedBySurvey (codes "adf-survey" ∷ codes "-x" ∷ []) }

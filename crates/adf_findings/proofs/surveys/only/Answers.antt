@@ -28,15 +28,16 @@ invariant_of-result c =
       findings = c.push.new.self.items;
       concerned = c.new.result.items;
       owners = c.new-in-Ok.result.items;
-      taken = c.new-in-Ok-2.result.entries;
-      nodes = c.new-in-Ok-3.result.items;
-      parents = c.new-in-Ok-4.result.items;
-      sound = c.new-in-Ok-5.result.items;
-      whole = c.new-in-Ok-6.result.items;
+      numbers = c.new-in-Ok-2.result.items;
+      taken = c.new-in-Ok-3.result.entries;
+      nodes = c.new-in-Ok-4.result.items;
+      parents = c.new-in-Ok-5.result.items;
+      sound = c.new-in-Ok-6.result.items;
+      whole = c.new-in-Ok-7.result.items;
     })
     (told c.args.image.now c.args.unread _ _ c.push.new.self.items c.new-findings.ensures.items c.in_ok-note_boot.ensures c.in-Ok.ensures.items c.requires)
-    c.new.ensures.items c.new-in-Ok.ensures.items c.new-in-Ok-2.ensures.empty c.new-in-Ok-3.ensures.items c.new-in-Ok-4.ensures.items
-    c.new-in-Ok-5.ensures.items c.new-in-Ok-6.ensures.items
+    c.new.ensures.items c.new-in-Ok.ensures.items c.new-in-Ok-2.ensures.items c.new-in-Ok-3.ensures.empty c.new-in-Ok-4.ensures.items
+    c.new-in-Ok-5.ensures.items c.new-in-Ok-6.ensures.items c.new-in-Ok-7.ensures.items
 
 pub returns-in-Ok-clause-findings : goal.returns-in-Ok-clause-findings
 returns-in-Ok-clause-findings c =

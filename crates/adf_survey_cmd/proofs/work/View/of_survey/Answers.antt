@@ -22,6 +22,6 @@ pub returns-in-Cat-clause-ends : goal.returns-in-Cat-clause-ends
 returns-in-Cat-clause-ends g c = λ w fs survey q shows.
     let image = c.args.survey.now.image in
     let (path, is, text) = subst (λ view. Shows view q) c.in-Cat.is shows in
-    ends_weaker (CopiesFound image w fs _) (QuestionAnswer q image) _ _ _
+    ends_weaker (CopiesFound c.in-Cat.damaged image w fs _) (QuestionAnswer q image) _ _ _
     (λ reply copies. subst (λ x. QuestionAnswer x image reply) (sym is) (inr (_, text, w, fs, survey, copies)))
     (rw c.deref.ensures.value at (c.copy_found.ensures.ends w fs survey))

@@ -1,0 +1,152 @@
+-- The data blocks that a table names and that are taken as these are those of the walk.
+-- Letters: w the walk of a survey, fs its findings; v a result; n a file's node, h the block of its header; k the number of a
+-- data block, from 0; b its block; r, q roles.
+use Rattle.std.specs.Prelude.{◌&&◌, Bool, true, false, cond, nat_lt, Option, Some, None, slice_index}
+use Rattle.std.proofs.Common.{◌≡◌, ℕ, suc, zero, List, [], ◌∷◌, ◌==◌, ◌+◌, ◌≤◌, ◌<◌, inl, inr, refl, sym, ap, subst, ◌∙◌, arith}
+use Rattle.std.proofs.lemmas.Bool.{eqb-true, eq-eqb}
+use Rattle.std.proofs.lemmas.Bool.Decides.{eqb_tells, nat_tests}
+use Rattle.adf_blocks.specs.Sizes.{blocks}
+use Rattle.adf_volume.specs.Walk.{Role, first, second, Has, FileAt, node_block}
+use Rattle.adf_volume.specs.Walk.Role.{Root, Head, Ext, Data}
+use Rattle.adf_volume.proofs.Gathered.{head_block}
+use Rattle.adf_volume.proofs.Roles.{has_role, same_refl}
+use Rattle.adf_findings.specs.Files.{named_from}
+use Rattle.adf_findings.specs.Found.{at_key, data_number, entry_in, number_at, owner}
+use Rattle.adf_findings.specs.Parts.{key_of}
+use Rattle.adf_findings.specs.Remains.{blocks_told, bytes_left, data_found, data_named, gaps_left, size_told}
+use Rattle.adf_findings.specs.Survey.{FindingValue, IsSurvey}
+use Rattle.adf_findings.specs.Survey.IsSurvey.{read, unread}
+use Rattle.adf_findings.specs.Surveyed.{Surveyed, TellsOf}
+use Rattle.adf_findings.proofs.BitSteps.{at_has}
+use Rattle.adf_findings.proofs.FileBlocks.{data_is}
+use Rattle.adf_findings.proofs.FoundFiles.{file_between}
+use Rattle.adf_findings.proofs.Keys.{lacks_at, same_of_key}
+use Rattle.adf_findings.proofs.OneSurvey.{gathered}
+use Rattle.adf_findings.proofs.SoundEntries.{one_part}
+use Rattle.adf_findings.proofs.SoundMarks.{inside}
+
+-- the data block with a key is in the walk
+pub has_data : (w : List (Role × ℕ)) (n k b : ℕ) → at_key w (key_of (Data n k)) ≡ Some b → Has w (Data n k) b
+has_data w n k b e =
+    let x = at_has w (key_of (Data n k)) b e in
+    has_role w (Data n k) (λ m p t j z. let y : second (Data n k) ≡ second (Head m p t j) = ap second z in absurd (omega arith)) x.0 b x.1
+    (same_of_key x.0 (Data n k) x.2)
+
+-- a file's data block is the one that the table names, and inside of the image
+pub found_named : (image : List ℕ) (w : List (Role × ℕ)) (fs : List FindingValue) → IsSurvey image w fs → (n h : ℕ) → FileAt image w n h → (k b : ℕ)
+    → Has w (Data n (suc k)) b → (named_from image h k ≡ b) × (b < blocks image)
+found_named image w fs (unread f) n h file k b has = absurd has
+found_named image w fs (read v d t) n h file k b has = (
+  (data_is image n v h file k b has).0,
+  inside image v (Data n (suc k)) b (λ z. let y : first Root ≡ first (Data n (suc k)) = ap first z in omega arith) has,
+)
+
+-- a block that one role has tells its entry and its number
+first_with : (w : List (Role × ℕ)) (r : Role) (b : ℕ) → Has w r b → ((q : Role) → Has w q b → q ≡ r)
+    → (owner w b ≡ entry_in r) × (number_at w b ≡ data_number r)
+first_with [] r b h one = absurd h
+first_with (x ∷ w) r b h one = elim (eqb_tells x.1 b) [
+  | inl y ↦
+      let e : x.0 ≡ r = one x.0 (inl (refl, y.1)) in (
+        ap (λ t. cond t (entry_in x.0) (owner w b)) y.0 ∙ ap entry_in e,
+        ap (λ t. cond t (data_number x.0) (number_at w b)) y.0 ∙ ap data_number e,
+      )
+  | inr y ↦
+      let g : Has w r b = elim h [ inl e ↦ absurd (y.1 e.1) | inr g ↦ g ] in
+      let z = first_with w r b g (λ q k. one q (inr k)) in (
+        ap (λ t. cond t (entry_in x.0) (owner w b)) y.0 ∙ z.0,
+        ap (λ t. cond t (data_number x.0) (number_at w b)) y.0 ∙ z.1,
+      )
+]
+
+-- a role with the entry and the number of a data block is that data block
+role_is : (r : Role) (n k : ℕ) → entry_in r ≡ Some n → data_number r ≡ suc k → r ≡ Data n (suc k)
+role_is (Data m j) n k e f = let same : m ≡ n = cc in (λ t. Data (same t) (f t))
+role_is (Head m p s j) n k e f = absurd (omega (arith, f))
+role_is (Ext m j) n k e f = absurd (omega (arith, f))
+role_is _ n k e f = cc
+
+-- so is a block
+held_has : (w : List (Role × ℕ)) (b n k : ℕ) → owner w b ≡ Some n → number_at w b ≡ suc k → Has w (Data n (suc k)) b
+held_has [] b n k e f = cc
+held_has (x ∷ w) b n k e f = elim (eqb_tells x.1 b) [
+  | inl y ↦
+      inl (
+        role_is x.0 n k (ap (λ t. cond t (entry_in x.0) (owner w b)) (sym y.0) ∙ e) (ap (λ t. cond t (data_number x.0) (number_at w b)) (sym y.0) ∙ f),
+        y.1,
+      )
+  | inr y ↦
+      inr
+      (held_has w b n k (ap (λ t. cond t (entry_in x.0) (owner w b)) (sym y.0) ∙ e) (ap (λ t. cond t (data_number x.0) (number_at w b)) (sym y.0) ∙ f))
+]
+
+all_true : {A : Type 0} (p q r : Bool) (x y : A) → p ≡ true → q ≡ true → r ≡ true → cond (p && (q && r)) x y ≡ x
+all_true p q r x y a b c = λ i. cond (a i && (b i && c i)) x y
+
+not_all : {A : Type 0} (p q r : Bool) (x y : A) → (p ≡ true → q ≡ true → r ≡ true → ⊥) → cond (p && (q && r)) x y ≡ y
+not_all false q r x y h = refl
+not_all true false r x y h = refl
+not_all true true false x y h = refl
+not_all true true true x y h = absurd (h refl refl refl)
+
+-- the number kept of a block is that of its entry
+kept_some : (m n : ℕ) → cond (m == 0) None (Some m) ≡ Some n → m ≡ n
+kept_some zero n e = cc
+kept_some (suc m) n e = elim (eqb_tells (suc m) 0) [
+  | inl y ↦ let z : suc m ≡ 0 = y.1 in absurd (omega arith)
+  | inr y ↦ let z : Some (suc m) ≡ Some n = ap (λ t. cond t None (Some (suc m))) (sym y.0) ∙ e in cc
+]
+
+some_kept : (m n : ℕ) → 1 ≤ n → m ≡ n → cond (m == 0) None (Some m) ≡ Some n
+some_kept m n lo e = elim (eqb_tells m 0) [
+  | inl y ↦ let z : m ≡ 0 = y.1 in absurd (omega arith)
+  | inr y ↦ ap (λ t. cond t None (Some m)) y.0 ∙ ap Some e
+]
+
+module _ (v : Surveyed) (w : List (Role × ℕ)) (fs : List FindingValue) (t : TellsOf v w fs) (n h : ℕ) (file : FileAt v.image w n h) where
+  -- the block that is named as a data block, if it is taken as that, is the one that is found
+  pub named_is : (k : ℕ) → data_named v.image v n h k ≡ data_found w n k
+  named_is k = go (data_found w n k) refl
+    where
+      b : ℕ
+      b = named_from v.image h k
+
+      go : (o : Option ℕ) → data_found w n k ≡ o → data_named v.image v n h k ≡ o
+      go None e =
+          not_all (nat_lt b (blocks v.image)) (slice_index v.owners b == n) (slice_index v.numbers b == k + 1) (Some b) None
+          (λ inside own number.
+          let lo = (file_between v.image w fs t.survey n h file).0 in
+          let whose : owner w b ≡ Some n = sym (t.owner b) ∙ some_kept (slice_index v.owners b) n lo (eqb-true _ _ own) in
+          let one : k + 1 ≡ suc k = omega arith in
+          let which : number_at w b ≡ suc k = sym (t.number b) ∙ (eqb-true _ _ number ∙ one) in
+          lacks_at w (Data n (suc k)) e (Data n (suc k)) b (held_has w b n k whose which) (same_refl (Data n (suc k))))
+      go (Some c) e =
+          let has : Has w (Data n (suc k)) c = has_data w n (suc k) c e in
+          let named = found_named v.image w fs t.survey n h file k c has in
+          let at = first_with w (Data n (suc k)) c has (λ q g. one_part v.image w fs t.survey q (Data n (suc k)) c g has) in
+          let own : slice_index v.owners b ≡ n =
+          ap (slice_index v.owners) named.0 ∙ kept_some (slice_index v.owners c) n (t.owner c ∙ at.0) in
+          let one : suc k ≡ k + 1 = omega arith in
+          let number : slice_index v.numbers b ≡ k + 1 = ap (slice_index v.numbers) named.0 ∙ (t.number c ∙ (at.1 ∙ one)) in
+          let lt : b < blocks v.image = subst (λ c. c < blocks v.image) (sym named.0) named.1 in
+          all_true (nat_lt b (blocks v.image)) (slice_index v.owners b == n) (slice_index v.numbers b == k + 1) (Some b) None
+          (grind (arith, nat_tests)) (eq-eqb _ _ own) (eq-eqb _ _ number)
+          ∙ ap Some named.0
+
+  -- what is left by the blocks that are named is what is left by those that are found
+  pub left_is : (image : List ℕ) (head : ℕ) → image ≡ v.image → head ≡ h → (size many : ℕ) → size ≡ size_told v.image h → many ≡ blocks_told v.image h
+      → (bytes_left image size (data_named image v n head) many
+      ≡ bytes_left v.image (size_told v.image h) (data_found w n) (blocks_told v.image h))
+      × (gaps_left image size (data_named image v n head) many ≡ gaps_left v.image (size_told v.image h) (data_found w n) (blocks_told v.image h))
+  left_is image head e g size many s c = (
+    (λ i. bytes_left (e i) (s i) (data_named (e i) v n (g i)) (c i))
+        ∙ ap (λ found. bytes_left v.image (size_told v.image h) found (blocks_told v.image h)) (λ i k. named_is k i),
+    (λ i. gaps_left (e i) (s i) (data_named (e i) v n (g i)) (c i))
+        ∙ ap (λ found. gaps_left v.image (size_told v.image h) found (blocks_told v.image h)) (λ i k. named_is k i),
+  )
+
+-- the header of a file that is found
+pub file_at : (image : List ℕ) (w : List (Role × ℕ)) (fs : List FindingValue) → IsSurvey image w fs → (n h : ℕ) → FileAt image w n h
+    → FileAt image w n (node_block w n)
+file_at image w fs (unread f) n h file = absurd file.header.has
+file_at image w fs (read {s = s} v d t) n h file = subst (FileAt image s.walk n) (sym (head_block image (gathered image v) file.header)) file

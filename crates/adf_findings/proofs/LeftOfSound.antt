@@ -1,0 +1,152 @@
+-- What is left of a sound file is its content.
+-- Letters: w the walk of a survey, fs its findings; c whether the grave findings alone count; n a file's node, h the block of its
+-- header; k, j numbers of data blocks, from 0; b a block, bs blocks; found the block of each data block, if any.
+use Rattle.std.specs.Prelude.{Bool, true, false, Option, Some, None, min, replicate}
+use Rattle.std.specs.List.{concat}
+use Rattle.std.proofs.Common.{◌≡◌, ℕ, suc, zero, List, [], ◌∷◌, ◌++◌, length, ◌+◌, ◌*◌, ◌<◌, ◌≤◌, refl, sym, ap, set, ◌∙◌, arith}
+use Rattle.std.proofs.lemmas.Grind.{common_steps}
+use Rattle.std.proofs.lemmas.List.{append_assoc, append-nil, length-replicate}
+use Rattle.adf_fields.specs.Words.{block}
+use Rattle.adf_tree.specs.declared.entry.Kind.{Kind}
+use Rattle.adf_tree.specs.declared.entry.Kind.TheVariants.{Ofs, Ffs}
+use Rattle.adf_blocks.specs.declared.layout.TheConstants.{SIZE}
+use Rattle.adf_blocks.specs.Sizes.{blocks, chunk, count}
+use Rattle.adf_volume.specs.Image.{kind_of, letters_of, piece, pieces, root_of, word_in}
+use Rattle.adf_volume.specs.Lists.{At}
+use Rattle.adf_volume.specs.Made.{datas_in, is_data_of, picked}
+use Rattle.adf_volume.specs.Walk.{Role, Has, data_count, node_block}
+use Rattle.adf_volume.specs.Walk.Role.{Root, Data}
+use Rattle.adf_volume.proofs.Gathered.{one_block}
+use Rattle.adf_volume.proofs.Lists.{at_some, snoc_length}
+use Rattle.adf_volume.proofs.PartDemands.{part_holds_by}
+use Rattle.adf_volume.proofs.Roles.{same_refl}
+use Rattle.adf_volume.proofs.Sizes.{size_low}
+use Rattle.adf_findings.specs.Files.{IsSoundFile, counting, file_content, file_in}
+use Rattle.adf_findings.specs.Found.{AreMarked, unowned}
+use Rattle.adf_findings.specs.Remains.{blocks_told, bytes_in, bytes_left, data_found, gaps_left, gaps_of, left_of, size_told, with_lost}
+use Rattle.adf_findings.specs.Survey.{Course, FindingValue, IsCourse, IsSurvey}
+use Rattle.adf_findings.specs.Survey.IsCourse.{start, step}
+use Rattle.adf_findings.specs.Survey.IsSurvey.{read, unread}
+use Rattle.adf_findings.specs.Survey.JudgementValue.{clean, noted, passed}
+use Rattle.adf_findings.proofs.Begun.{all_free, none_default}
+use Rattle.adf_findings.proofs.DataFound.{has_data}
+use Rattle.adf_findings.proofs.Judged.{itself_holds}
+use Rattle.adf_findings.proofs.Keys.{lacks_at}
+use Rattle.adf_findings.proofs.Known.{no_owner}
+use Rattle.adf_findings.proofs.OneSurvey.{gathered}
+use Rattle.adf_findings.proofs.SoundFiles.{file_told, joined_content, whole_listed}
+use Rattle.adf_findings.proofs.Starts.{course_size}
+use Rattle.adf_findings.proofs.Taking.{marked_more, unowned_less}
+
+-- the blocks of a walk, marked: so many are marked as the walk has members
+record Marked (image : List ℕ) (w : List (Role × ℕ)) : Type 0 where
+  marks : List Bool
+  marked : AreMarked (blocks image) marks w
+  many : length w + unowned marks ≡ blocks image
+
+more_marked : (image : List ℕ) (w : List (Role × ℕ)) (r : Role) (b : ℕ) → b < blocks image → ((q : Role) → Has w q b → ⊥) → Marked image w
+    → Marked image ((r, b) ∷ w)
+more_marked image w r b lt free m =
+    let less = unowned_less m.marks b (let e = m.marked.0 in omega arith) (m.marked.1 b lt ∙ no_owner w b free) in
+    record { marks = set m.marks b true; marked = marked_more (blocks image) m.marks w r b m.marked; many = (let e = m.many in omega arith) }
+
+walk_marked : (image : List ℕ) {s : Course} → IsCourse image s → Marked image s.walk
+walk_marked image (start boot root) =
+    let n : ℕ = blocks image in
+    let size = course_size image (start boot root) in
+    let none : Marked image [] = record {
+      marks = replicate n false;
+      marked = (length-replicate n false, (λ b l. none_default n false b));
+      many = (let free = all_free n in omega arith);
+    } in
+    more_marked image [] Root (root_of image) (let low = size_low (blocks image) size.1 in omega arith) (λ q h. h) none
+walk_marked image (step {s = s} {r = z} {a = a} {i = i} clean v d g) =
+    let part = part_holds_by (letters_of image) image s.walk z a (word_in image a i) g in
+    more_marked image s.walk z (word_in image a i) part.inside part.unowned (walk_marked image v)
+walk_marked image (step {s = s} {r = z} {a = a} {i = i} (noted at c) v d g) =
+    let part = itself_holds image s.walk z a (word_in image a i) g.1 in
+    more_marked image s.walk z (word_in image a i) part.inside part.unowned (walk_marked image v)
+walk_marked image (step (passed at c) v d g) = walk_marked image v
+
+-- a file with so many data blocks is no longer than so many blocks
+fits_in : (kind : Kind) (size n : ℕ) → count kind size ≤ n → size ≤ 512 * n
+unfolding count chunk
+fits_in Ofs size n le = omega arith
+fits_in Ffs size n le = omega arith
+
+-- where a block is found for each data block, their bytes are the pieces
+left_pieces : (image : List ℕ) (size : ℕ) (found : ℕ → Option ℕ) (j : ℕ) (bs : List ℕ) → ((i b : ℕ) → At bs i b → found (j + i) ≡ Some b)
+    → bytes_left image size found (j + length bs) ≡ bytes_left image size found j ++ concat (pieces image (kind_of image) size (j + 1) bs)
+left_pieces image size found j [] h =
+    let none : j + length {A = ℕ} [] ≡ j = omega arith in
+    ap (bytes_left image size found) none ∙ sym (append-nil (bytes_left image size found j))
+left_pieces image size found j (b ∷ bs) h =
+    let kind : Kind = kind_of image in
+    let here : found j ≡ Some b = (let e : j ≡ j + 0 = omega arith in ap found e ∙ h 0 b refl) in
+    let next : suc j + length bs ≡ j + length (b ∷ bs) = omega arith in
+    let one : suc j ≡ j + 1 = omega arith in
+    let ih = left_pieces image size found (suc j) bs
+    (λ i c g. let e : suc j + i ≡ j + suc i = omega arith in ap found e ∙ h (suc i) c g) in
+    let more : suc j + 1 ≡ suc (j + 1) = omega arith in
+    let rest : List ℕ = concat (pieces image kind size (suc (j + 1)) bs) in
+    ap (bytes_left image size found) (sym next)
+    ∙ (ih
+    ∙ ((λ t. (bytes_left image size found j ++ bytes_in image size j (here t)) ++ concat (pieces image kind size (more t) bs))
+    ∙ append_assoc (bytes_left image size found j) (piece kind size (j + 1) (block image b)) rest))
+
+-- and no bytes are made up
+no_gaps : (image : List ℕ) (size : ℕ) (found : ℕ → Option ℕ) (k : ℕ) → ((i : ℕ) → i < k → (b : ℕ) × (found i ≡ Some b)) → gaps_left image size found k ≡ []
+no_gaps image size found zero h = refl
+no_gaps image size found (suc k) h =
+    let here = h k (omega arith) in
+    ap (with_lost image size (gaps_left image size found k) k) here.1 ∙ no_gaps image size found k (λ i lt. h i (omega arith))
+
+-- a data block of the walk is found
+is_found : (image : List ℕ) {s : Course} → IsCourse image s → (n k b : ℕ) → Has s.walk (Data n (suc k)) b → data_found s.walk n k ≡ Some b
+is_found image {s = s} v n k b has = go (data_found s.walk n k) refl
+  where
+    go : (o : Option ℕ) → data_found s.walk n k ≡ o → data_found s.walk n k ≡ Some b
+    go None e = absurd (lacks_at s.walk (Data n (suc k)) e (Data n (suc k)) b has (same_refl (Data n (suc k))))
+    go (Some c) e =
+        e
+        ∙ ap Some (one_block image (gathered image v) (Data n (suc k)) (Data n (suc k)) c b (has_data s.walk n (suc k) c e) has (same_refl (Data n (suc k)))).1
+
+-- no more members are picked than there are
+picked_few : (p : Role → Bool) (w : List (Role × ℕ)) → length (picked p w) ≤ length w
+picked_few p [] = omega arith
+picked_few p (x ∷ w) = grind (arith, common_steps, picked_few p w, snoc_length (picked p w) x.1)
+
+least : (a b : ℕ) → a ≤ b → min a b ≡ a
+least a b le = omega arith
+
+-- what is left of a sound file is its content, and nothing is made up
+pub left_of_sound : (image : List ℕ) (w : List (Role × ℕ)) (fs : List FindingValue) (c : Bool) (n : ℕ) → IsSurvey image w fs
+    → IsSoundFile image w (counting c fs) n → (left_of image w n ≡ file_content (file_in image w n)) × (gaps_of image w n ≡ [])
+left_of_sound image w fs c n (unread f) sound = absurd sound.0.header.has
+left_of_sound image w fs c n (read {s = s} {bits = bits} v d t) sound =
+    let survey = read v d t in
+    let h : ℕ = node_block s.walk n in
+    let size : ℕ = word_in image h SIZE in
+    let datas : List ℕ = datas_in s.walk n in
+    let has = (file_told image s.walk (s.findings ++ bits) c n survey sound.0 sound.1).1 in
+    let listed = whole_listed image s.walk (s.findings ++ bits) c n h survey sound.0 in
+    let found : (k b : ℕ) → At datas k b → data_found s.walk n k ≡ Some b = λ k b g. is_found image v n k b (listed.from k b g) in
+    let marked = walk_marked image v in
+    let few : data_count image h ≤ blocks image = (
+    let a = picked_few (is_data_of n) s.walk in
+    let b = marked.many in
+    let e = has.many in
+    omega arith
+    ) in
+    let told : size_told image h ≡ size =
+    least size (length image) (let l = fits_in (kind_of image) size (blocks image) few in let e = has.whole in omega arith) in
+    let many : blocks_told image h ≡ length datas = ap (count (kind_of image)) told ∙ sym has.many in
+    let all : length datas ≡ 0 + length datas = omega arith in (
+      (λ i. bytes_left image (told i) (data_found s.walk n) (many i))
+          ∙ (ap (bytes_left image size (data_found s.walk n)) all
+          ∙ (left_pieces image size (data_found s.walk n) 0 datas
+          (λ i b g. let e : 0 + i ≡ i = omega arith in ap (data_found s.walk n) e ∙ found i b g)
+          ∙ joined_content (file_in image s.walk n) has)),
+      (λ i. gaps_left image (told i) (data_found s.walk n) (many i))
+          ∙ no_gaps image size (data_found s.walk n) (length datas) (λ k lt. let x = at_some datas k lt in (x.0, found k x.0 x.1)),
+    )

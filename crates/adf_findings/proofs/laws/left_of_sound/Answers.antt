@@ -1,0 +1,6 @@
+use Rattle.std.specs.Prelude.{false}
+use Rattle.adf_findings.proofs.LeftOfSound as law
+use Rattle.adf_findings.proofs.laws.left_of_sound.Goals as goal
+
+pub returns : goal.returns
+returns c = λ image w fs n h sound. law.left_of_sound image w fs false n h sound

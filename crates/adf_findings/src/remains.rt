@@ -1,0 +1,218 @@
+// What is left of files that may be damaged.
+
+ghost use Rattle.std.specs.Prelude.{◌≡◌, ◌≤◌, ◌<◌, ◌^◌, ◌+◌, ◌++◌, ◌↔◌, ℕ, IfOk, IfSome, IsSome, OnOk, replicate};
+ghost use Rattle.adf_blocks.specs.Sizes.{blocks, count};
+ghost use Rattle.adf_fields.specs.Words.{block};
+ghost use Rattle.adf_volume.specs.Image.{kind_of, piece};
+ghost use Rattle.adf_volume.specs.Walk.{FileAt};
+ghost use Rattle.adf_findings.specs.Remains.{blocks_told, bytes_in, bytes_left, data_at, data_named, gap_at, gaps_left, gaps_of, joined, left_of, size_told, with_gap, with_lost};
+ghost use Rattle.adf_findings.specs.Survey.{OnSurvey};
+
+use crate::image::Image;
+use crate::start::start;
+use crate::surveyed::{Survey, number_at};
+use adf_blocks::{DATA_BYTES, EXTENSION, FIRST_POINTER, POINTERS, SIZE, chunk_len};
+use adf_fields::NoMemory;
+use adf_tree::{Kind, Node};
+use adf_volume::{count_of, held_in};
+use std::alloc::{AllocError, Global};
+
+/// A run of bytes of a file that are no data: the first and the last, counted from 0.
+#[derive(Clone, Copy, Debug, PartialEq, Eq, Drop)]
+pub struct Gap {
+    pub first: u32,
+    pub last: u32,
+}
+
+/// What is left of a file: its bytes, with zeros for each data block that is not found, and the runs of these zeros.
+#[derive(Drop)]
+pub struct Remains {
+    pub bytes: Vec<u8>,
+    pub gaps: Vec<Gap>,
+}
+
+// How many bytes of a file are told.
+fn size_told(image: &Image<'_>, head: u32) -> u32
+    ensures size { result ≡ size_told image.now head }
+    ensures small { result ≤ 2 ^ 29 }
+{
+    image.word(head, SIZE).min(image.len())
+}
+
+// The number of data blocks of so many bytes.
+#[tactic(auto, unfolding(adf_blocks::specs::Sizes::count, adf_blocks::specs::Sizes::chunk))]
+fn count_told(kind: Kind, size: u32) -> u32
+    requires { size ≤ 2 ^ 29 }
+    ensures count { result ≡ count kind size }
+    ensures few { result ≤ 2 ^ 21 }
+{
+    count_of(kind, size)
+}
+
+// The bytes of data block `k`, counted from 0, of a file of `size` bytes, in its block.
+#[tactic(auto, unfolding(adf_blocks::specs::Sizes::chunk))]
+fn data_in<'i>(image: &Image<'i>, b: u32, size: u32, k: u32) -> &'i [u8]
+    requires inside { b < blocks image.now }
+    requires few { k < 2 ^ 21 }
+    ensures { result.now ≡ piece (kind_of image.now) size (k + 1) (block image.now b) }
+{
+    let kind = image.kind();
+    let held = held_in(kind, size, k + 1) as usize;
+    match kind {
+        Kind::Ofs => image.block(b).bytes(DATA_BYTES, held),
+        Kind::Ffs => image.block(b).bytes(0, held),
+    }
+}
+
+// The bytes of data block `k`, by the first and the last.
+#[tactic(auto, unfolding(adf_blocks::specs::Sizes::chunk))]
+fn gap_at(image: &Image<'_>, size: u32, k: u32) -> Gap
+    requires { k < 2 ^ 21 }
+    ensures { result ≡ gap_at image.now size k }
+{
+    let first = chunk_len(image.kind()) as u32 * k;
+    let held = held_in(image.kind(), size, k + 1);
+    Gap {
+        first,
+        last: first + held.saturating_sub(1),
+    }
+}
+
+// Appends a gap and another behind it: one, where that begins right behind the first.
+fn push_joined(gaps: &mut Vec<Gap>, last: Gap, gap: Gap) -> Result<(), AllocError>
+    ensures { OnOk result (gaps.new.items ≡ gaps.old.items ++ joined last gap) }
+{
+    if u64::from(last.last) + 1 == u64::from(gap.first) {
+        gaps.push(Gap {
+            first: last.first,
+            last: gap.last,
+        })?;
+        return Ok(());
+    }
+    gaps.push(last)?;
+    gaps.push(gap)?;
+    Ok(())
+}
+
+// Appends a gap, which goes on with the last or not.
+#[tactic(auto, using(crate::proofs::Gaps::with_gap_last))]
+fn push_gap(gaps: &mut Vec<Gap>, gap: Gap) -> Result<(), AllocError>
+    ensures { OnOk result (gaps.new.items ≡ with_gap gaps.old.items gap) }
+{
+    match gaps.pop() {
+        Some(last) => push_joined(gaps, last, gap),
+        None => {
+            gaps.push(gap)?;
+            Ok(())
+        }
+    }
+}
+
+// Appends zeros.
+fn push_zeros(alloc: Global, bytes: &mut Vec<u8>, count: usize) -> Result<(), AllocError>
+    ensures { OnOk result (bytes.new.items ≡ bytes.old.items ++ replicate count 0) }
+{
+    let zeros = vec![in alloc; 0u8; count]?;
+    bytes.extend_from_slice(&zeros)
+}
+
+impl Remains {
+    // Appends data block `k`, counted from 0, of a file of `size` bytes: the bytes in its block, or zeros.
+    fn add(
+        &mut self,
+        alloc: Global,
+        image: &Image<'_>,
+        size: u32,
+        k: u32,
+        found: Option<u32>,
+    ) -> Result<(), AllocError>
+        requires few { k < 2 ^ 21 }
+        requires inside { IfSome found (λ b. b < blocks image.now) }
+        ensures bytes { OnOk result (self.new.bytes.items
+            ≡ self.old.bytes.items ++ bytes_in image.now size k found) }
+        ensures gaps { OnOk result (self.new.gaps.items
+            ≡ with_lost image.now size self.old.gaps.items k found) }
+    {
+        match found {
+            Some(b) => self.bytes.extend_from_slice(data_in(image, b, size, k)),
+            None => {
+                let held = held_in(image.kind(), size, k + 1);
+                push_zeros(alloc, &mut self.bytes, held as usize)?;
+                push_gap(&mut self.gaps, gap_at(image, size, k))
+            }
+        }
+    }
+}
+
+impl<'i> Survey<'i> {
+    // A block, if it is taken as data block `k`, counted from 0, of an entry.
+    fn data_at(&self, image: &Image<'_>, n: Node, k: u32, b: u32) -> Option<u32>
+        requires { k < 2 ^ 21 }
+        ensures data { result ≡ data_at image.now self.now n k b }
+        ensures inside { IfSome result (λ b. b < blocks image.now) }
+    {
+        let entry = number_at(&self.owners, b as usize) as usize;
+        let number = number_at(&self.numbers, b as usize);
+        let is_own = entry == n.0 && number == k + 1;
+        if b < image.blocks() && is_own {
+            Some(b)
+        } else {
+            None
+        }
+    }
+
+    // What is left of a file with its header at a block, of so many bytes.
+    fn left_of(
+        &self,
+        alloc: Global,
+        image: &Image<'_>,
+        n: Node,
+        head: u32,
+    ) -> Result<Remains, AllocError>
+        ensures bytes { IfOk result (λ r. r.bytes.items
+            ≡ bytes_left image.now (size_told image.now head) (data_named image.now self.now n head)
+            (blocks_told image.now head)) }
+        ensures gaps { IfOk result (λ r. r.gaps.items
+            ≡ gaps_left image.now (size_told image.now head) (data_named image.now self.now n head)
+            (blocks_told image.now head)) }
+    {
+        let mut remains = Remains {
+            bytes: Vec::new(alloc),
+            gaps: Vec::new(alloc),
+        };
+        let size = size_told(image, head);
+        let mut member = head;
+        for k in 0..count_told(image.kind(), size) {
+            let b = image.word(member, FIRST_POINTER - k as usize % POINTERS);
+            remains.add(alloc, image, size, k, self.data_at(image, n, k, b))?;
+            if (k as usize + 1) % POINTERS == 0 {
+                member = image.word(member, EXTENSION);
+            }
+        }
+        Ok(remains)
+    }
+
+    /// What is left of a file, whether sound or not: the bytes of each data block that is found as the file's own, and zeros for
+    /// the others; as many as its header says, but no more than the image has. `None` for what is no file. `NoMemory` if an
+    /// allocation fails.
+    pub fn remains(&self, alloc: Global, n: Node) -> Result<Option<Remains>, NoMemory>
+        ensures some { OnSurvey self.now.image (λ w _.
+            IfOk result (λ x. IsSome x ↔ ((h : ℕ) × FileAt self.now.image w n h))) }
+        ensures bytes { OnSurvey self.now.image (λ w _.
+            IfOk result (λ x. IfSome x (λ r. r.bytes.items ≡ left_of self.now.image w n))) }
+        ensures gaps { OnSurvey self.now.image (λ w _.
+            IfOk result (λ x. IfSome x (λ r. r.gaps.items ≡ gaps_of self.now.image w n))) }
+    {
+        if !self.is_file(n) {
+            return Ok(None);
+        }
+        let Ok(started) = start(self.image) else {
+            return Ok(None);
+        };
+        let head = number_at(&self.nodes, n.0);
+        match self.left_of(alloc, &started.image, n, head) {
+            Ok(remains) => Ok(Some(remains)),
+            Err(_) => Err(NoMemory),
+        }
+    }
+}

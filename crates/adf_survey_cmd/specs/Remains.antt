@@ -1,0 +1,26 @@
+-- What `cat --damaged` answers of a file.
+-- Letters: w the walk of an image's survey; n an entry's node, h the block of its header; g a run of bytes that are no data.
+use Rattle.std.specs.Prelude.{◌≡◌, ℕ, List, [], ◌∷◌, ◌++◌, codes}
+use Rattle.std.specs.Fmt.{decimal}
+use Rattle.std.specs.List.{flat_map}
+use Rattle.adf_volume.specs.Walk.{FileAt, Role}
+use Rattle.adf_findings.specs.Remains.{gaps_of, left_of}
+use Rattle.adf_findings.specs.declared.remains.Gap.{Gap}
+use Rattle.adf_runs.specs.Commands.{Reply}
+
+-- the line of bytes that are no data
+abbrev pub gap_line : Gap → List ℕ
+gap_line g = codes "bytes " ++ (decimal g.first ++ (codes " to " ++ (decimal g.last ++ codes ": no data\n")))
+
+-- the status of what is left: 0 where all bytes are data
+abbrev pub gaps_status : List Gap → ℕ
+gaps_status [] = 0
+gaps_status (g ∷ gs) = 1
+
+-- the bytes of a file on output, and on errors the lines of those that are no data
+abbrev pub remains_reply : List ℕ → List Gap → Reply
+remains_reply bytes gaps = record { status = gaps_status gaps; output = bytes; errors = flat_map gap_line gaps }
+
+-- the entry is a file, of which what is left is written
+abbrev pub WritesRemains : List ℕ → List (Role × ℕ) → ℕ → Reply → Type 0
+WritesRemains input w n reply = ((h : ℕ) × FileAt input w n h) × (reply ≡ remains_reply (left_of input w n) (gaps_of input w n))
