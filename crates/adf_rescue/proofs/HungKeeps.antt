@@ -20,7 +20,7 @@ use Rattle.adf_volume.specs.Walk.{Role}
 use Rattle.adf_findings.specs.Found.{owner}
 use Rattle.adf_findings.specs.Survey.{FindingValue}
 use Rattle.adf_rescue.specs.Hung.{emptied, home, hung, hung_first, hung_in, hung_loose, is_container, is_hung, is_made, is_vacant, made_header}
-use Rattle.adf_rescue.specs.Hung.{put_in, readied, ready_in, sealed_in}
+use Rattle.adf_rescue.specs.Hung.{put_in, readied, ready_in, sealed_in, slot_word}
 use Rattle.adf_rescue.specs.Lost.{directory_at, is_inside, is_lost, is_unfound, says_directory, says_header}
 use Rattle.adf_rescue.proofs.HungImages.{name_is_valid}
 use Rattle.adf_rescue.proofs.LostHeaders.{root_at}
@@ -61,11 +61,11 @@ still x y b e inside = omega (arith, e, inside)
 hung_touches : (x : List ℕ) (b p : ℕ) → b < blocks x → p < blocks x → Touches b p x (hung_in x b p)
 unfolding hung_in
 hung_touches x b p lb lp =
-    let next = word_in x p FIRST_SLOT in
+    let next = word_in x p (slot_word b) in
     let s1 : List ℕ = put_in x b NEXT_IN_CHAIN next in
     let s2 : List ℕ = put_in s1 b PARENT p in
     let s3 : List ℕ = sealed_in s2 b in
-    let s4 : List ℕ = put_in s3 p FIRST_SLOT b in
+    let s4 : List ℕ = put_in s3 p (slot_word b) b in
     let s5 : List ℕ = sealed_in s4 p in
     let h1 : Touches b p x s1 = at_first b p x s1 (with_word_written x b NEXT_IN_CHAIN next lb (omega arith)) in
     let t2 : Touches b p s1 s2 = at_first b p s1 s2 (with_word_written s1 b PARENT p (still x s1 b h1.length lb) (omega arith)) in
@@ -73,7 +73,7 @@ hung_touches x b p lb lp =
     let t3 : Touches b p s2 s3 =
     at_first b p s2 s3 (with_word_written s2 b CHECKSUM (checksum CHECKSUM (block s2 b)) (still x s2 b h2.length lb) (omega arith)) in
     let h3 = touches_more b p x s2 s3 h2 t3 in
-    let t4 : Touches b p s3 s4 = at_second b p s3 s4 (with_word_written s3 p FIRST_SLOT b (still x s3 p h3.length lp) (omega arith)) in
+    let t4 : Touches b p s3 s4 = at_second b p s3 s4 (with_word_written s3 p (slot_word b) b (still x s3 p h3.length lp) (omega arith)) in
     let h4 = touches_more b p x s3 s4 h3 t4 in
     let t5 : Touches b p s4 s5 =
     at_second b p s4 s5 (with_word_written s4 p CHECKSUM (checksum CHECKSUM (block s4 p)) (still x s4 p h4.length lp) (omega arith)) in

@@ -1,6 +1,6 @@
 -- The hung image: each lost header hangs in the directory that it names, or in the root.
 -- Letters: given the image of the survey, w its walk, fs its findings; b, p blocks; k a number of blocks.
-use Rattle.std.specs.Prelude.{◌≡◌, ◌<◌, ℕ, ◌==◌, ◌&&◌, ◌||◌, not, ◌*◌, Bool, false, cond, List, [], length, replicate, is_some}
+use Rattle.std.specs.Prelude.{◌≡◌, ◌<◌, ℕ, ◌==◌, ◌&&◌, ◌||◌, not, ◌+◌, ◌*◌, ◌%◌, Bool, false, cond, List, [], length, replicate, is_some}
 use Rattle.std.proofs.Common.{zero, suc}
 use Rattle.adf_fields.specs.Words.{block, sealed, with_block, with_bytes, with_word}
 use Rattle.adf_tree.specs.declared.entry.Meta.{Meta}
@@ -56,11 +56,15 @@ put_in image b i v = with_block image b (with_word (block image b) i v)
 abbrev pub sealed_in : List ℕ → ℕ → List ℕ
 sealed_in image b = with_block image b (sealed CHECKSUM (block image b))
 
--- the image with block b as the first header of slot 0 of block p
+-- the word of the slot that block b is hung in: its number modulo the number of slots
+abbrev pub slot_word : ℕ → ℕ
+slot_word b = FIRST_SLOT + b % SLOTS
+
+-- the image with block b as the first header of its slot of block p
 unfoldable pub hung_in : List ℕ → ℕ → ℕ → List ℕ
 hung_in image b p =
-    let next = word_in image p FIRST_SLOT in
-    sealed_in (put_in (sealed_in (put_in (put_in image b NEXT_IN_CHAIN next) b PARENT p) b) p FIRST_SLOT b) p
+    let next = word_in image p (slot_word b) in
+    sealed_in (put_in (sealed_in (put_in (put_in image b NEXT_IN_CHAIN next) b PARENT p) b) p (slot_word b) b) p
 
 -- no comment, no protection bits, and the date 0
 abbrev pub no_meta : Meta

@@ -14,7 +14,7 @@ ghost use Rattle.adf_findings.specs.Survey.{FindingValue, IsSurvey, OnSurvey};
 ghost use Rattle.adf_rescue.specs.Lost.{AreLost, directory_at, has_lost, is_lost, lost_among};
 ghost use Rattle.adf_rescue.specs.Rescue.{lost_name};
 ghost use Rattle.adf_rescue.specs.Hung.{AreLoose, AreMade, emptied, home, hung, hung_in, hung_loose, is_container, is_hung};
-ghost use Rattle.adf_rescue.specs.Hung.{is_made, is_vacant, made_header, ready_in, readied};
+ghost use Rattle.adf_rescue.specs.Hung.{is_made, is_vacant, made_header, ready_in, readied, slot_word};
 
 use crate::image::{block_count, is_image_len, root_of};
 use crate::lost::{directory_at, is_inside, is_marked, lost, mark, says_directory, word_in};
@@ -29,18 +29,27 @@ use std::alloc::Global;
 // The word of the checksum of a header and the root.
 const CHECKSUM: usize = 5;
 
-// Hangs block `b` as the first header of slot 0 of block `p`.
+// The word of the slot that block `b` is hung in.
+fn slot_word(b: u32) -> usize
+    ensures exact { result ≡ slot_word b }
+    ensures small { result < 78 }
+{
+    FIRST_SLOT + (b % SLOTS) as usize
+}
+
+// Hangs block `b` as the first header of its slot of block `p`.
 #[tactic(auto, unfolding(crate::specs::Hung::hung_in))]
 fn hang(image: &mut [u8], b: u32, p: u32)
     requires block { b < blocks image.old }
     requires home { p < blocks image.old }
     ensures { image.new ≡ hung_in image.old b p }
 {
-    let next = word_in(image, p, FIRST_SLOT);
+    let slot = slot_word(b);
+    let next = word_in(image, p, slot);
     set_word(image, b, NEXT_IN_CHAIN, next);
     set_word(image, b, PARENT, p);
     seal(image, b, CHECKSUM);
-    set_word(image, p, FIRST_SLOT, b);
+    set_word(image, p, slot, b);
     seal(image, p, CHECKSUM);
 }
 
