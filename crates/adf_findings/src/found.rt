@@ -44,8 +44,9 @@ pub struct ChainPlace {
 
 /// The state of a survey: the blocks of the taken parts by key, except headers and data blocks; for each block whether
 /// it is taken, the node of the entry that it belongs to (0 if there is none), the number of the data block that it is
-/// (from 1; 0 if it is none), and whether it was passed over; the number of blocks not taken; the blocks of nodes; the number of extension blocks of each file; the names in the
-/// current chain; the findings; the parents of nodes; the positions of headers, from node 1 on; and the data blocks.
+/// (from 1; 0 if it is none), and whether it was passed over; the number of blocks not taken; the blocks of nodes; the
+/// number of extension blocks of each file; the names in the current chain; the findings; the parents of nodes; the
+/// positions of headers, from node 1 on; and the data blocks.
 #[derive(Drop)]
 pub struct Found {
     pub taken: BTreeMap<Key, u32>,

@@ -146,7 +146,8 @@ fn inquiry_in<'a>(matches: &ArgMatches<'a>) -> Option<Inquiry<'a>>
 }
 
 /// Reads the words, of which the first is the program's name. `Usage` exactly where clap refuses them
-/// or its matches lack the path, have `--list` before a command, or have no number of blocks; `NoMemory` where memory was refused.
+/// or its matches lack the path, have `--list` before a command, or have no number of blocks; `NoMemory` where memory was
+/// refused.
 pub fn parse_survey<'a>(alloc: Global, words: &'a [&str]) -> Result<Inquiry<'a>, WordsFault>
     ensures ok { IfOk result (λ inquiry.
         AsksSurvey (texts_of words.entry.now) (inquiry_value inquiry)) }
