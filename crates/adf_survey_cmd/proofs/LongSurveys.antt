@@ -57,9 +57,14 @@ it_finds e = cc
 -- nothing stands, and the first fault is told
 same_rescue : (image bytes opened_image opened_bytes : List ℕ) (reply : Reply) → 512 * MOST_BLOCKS < length image → 512 * MOST_BLOCKS < length bytes
     → RescuesFound image opened_image [] bad_size reply → RescuesFound bytes opened_bytes [] bad_size reply
-same_rescue image bytes opened_image opened_bytes reply a b (sound, marks, inl (none, (f, first, e))) =
-    ((λ n. false), no_marks opened_bytes (grave bad_size), inl ((refl, inr it_finds), (f, long_fault image bytes f a b first, e)))
-same_rescue image bytes opened_image opened_bytes reply a b (sound, marks, inr (some, e)) = absurd (some (refl, inr it_finds))
+same_rescue image bytes opened_image opened_bytes reply a b (sound, marks, two, second, inl (none, (f, first, e))) = (
+  (λ n. false),
+  no_marks opened_bytes (grave bad_size),
+  None,
+  tt,
+  inl ((inr it_finds, inl refl), (f, long_fault image bytes f a b first, e)),
+)
+same_rescue image bytes opened_image opened_bytes reply a b (sound, marks, two, second, inr (some, e)) = absurd (some (inr it_finds, inl refl))
 
 -- an image that is opened is as long
 long_opened : (image : List ℕ) → 512 * MOST_BLOCKS < length image → 512 * MOST_BLOCKS < length (opened image)
