@@ -18,3 +18,9 @@ pub mod WholeVolumes
 pub mod MadeRoots
 -- images that are opened
 pub mod OpenedImages
+-- lost headers
+pub mod LostHeaders
+-- hung images
+pub mod HungImages
+-- what stays in a hung image
+pub mod HungKeeps

@@ -1,3 +1,5 @@
+pub mod Hung
+pub mod Lost
 pub mod MadeRoot
 pub mod Opened
 pub mod Rescue

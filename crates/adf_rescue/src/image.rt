@@ -40,3 +40,13 @@ pub fn root_of(image: &[u8]) -> u32
 {
     (image.len() / BLOCK_LEN / 2) as u32
 }
+
+/// The number of blocks of an image.
+#[tactic(auto, using(crate::proofs::MadeRoots::root_within))]
+pub fn block_count(image: &[u8]) -> u32
+    requires { is_image_len (length image.now) ≡ true }
+    ensures exact { result ≡ blocks image.now }
+    ensures small { result ≤ 2 ^ 20 }
+{
+    (image.len() / BLOCK_LEN) as u32
+}

@@ -1,9 +1,11 @@
 //! Rescues: the volume of all that stands on an image, and what is left out.
 #![tactic(auto)]
 
+mod hung;
 mod image;
 mod laws;
 mod left_out;
+mod lost;
 mod made_root;
 mod opened;
 mod rescues;
@@ -11,6 +13,7 @@ mod rooms;
 mod salvage;
 mod standing;
 
+pub use crate::hung::{hung as hung_image, hung_keeps};
 pub use crate::laws::{
     one_rescue, rescued_additions_have_their_tree, sound_files_stand, whole_is_kept,
 };

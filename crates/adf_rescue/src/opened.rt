@@ -16,8 +16,8 @@ use adf_blocks::{DATA_HEAD, OWN_KEY, SECONDARY_TYPE, ST_FILE, T_DATA, T_SHORT, T
 use adf_fields::{BLOCK_LEN, NoMemory, put_bytes};
 use std::alloc::Global;
 
-// Whether block `b` says that it is a file's header.
-fn says_file(image: &[u8], b: usize) -> bool
+/// Whether block `b` says that it is a file's header.
+pub fn says_file(image: &[u8], b: usize) -> bool
     requires { b < blocks image.now }
     ensures { result ≡ says_file image.now b }
 {
@@ -88,8 +88,8 @@ pub fn is_mended(image: &[u8]) -> bool
     is_image_len(image.len()) && !(begins_with_dos(image) && has_root(image))
 }
 
-// A copy of an image.
-fn copied(alloc: Global, image: &[u8]) -> Result<Vec<u8>, NoMemory>
+/// A copy of an image.
+pub fn copied(alloc: Global, image: &[u8]) -> Result<Vec<u8>, NoMemory>
     ensures { IfOk result (λ v. v.items ≡ image.now) }
 {
     image.to_vec(alloc).map_err(|_| NoMemory)

@@ -19,8 +19,8 @@ fn room_named(draft: &Draft, directory: Node, name: &[u8]) -> Option<Room>
     draft.room_in(directory, &name)
 }
 
-// The name of an entry that cannot have its own, by the block of its header.
-fn lost_name(alloc: Global, block: u32) -> Result<String, NoMemory>
+/// The name of an entry that cannot have its own, by the block of its header.
+pub fn lost_name(alloc: Global, block: u32) -> Result<String, NoMemory>
     ensures { IfOk result (λ s. string_bytes s ≡ lost_name block) }
 {
     match format!(in alloc; "lost-{block}") {

@@ -1,0 +1,252 @@
+-- What stays in a hung image.
+-- Letters: given the image of a survey, w its walk, fs its findings; b, c, d, p blocks; k a number of blocks; i the number of a word;
+-- x, y, z images.
+use Rattle.std.specs.Prelude.{◌==◌, ◌&&◌, ◌||◌, ◌%◌, not, Some, None, cond, is_some, replicate, slice_index}
+use Rattle.std.proofs.Common.{◌≡◌, ◌≢◌, ◌≤◌, ◌<◌, ℕ, zero, suc, ◌*◌, ◌+◌, ◌/◌, ◌^◌, Bool, true, false, List, length}
+use Rattle.std.proofs.Common.{◌∙◌, ap, arith, inl, inr, refl, subst, sym}
+use Rattle.std.proofs.lemmas.Bool.{and_from, and_left, and_parts, and_right, cases_Bool, cond-false, cond-true, not_from_true}
+use Rattle.std.proofs.lemmas.Bool.Decides.{nat_tests}
+use Rattle.std.proofs.lemmas.List.{length-replicate}
+use Rattle.adf_fields.specs.Words.{block, checksum, with_block, with_bytes, with_word}
+use Rattle.adf_fields.proofs.WordLaws.{block_other, length-block, length-with_bytes, length-with_word}
+use Rattle.adf_tree.specs.declared.entry.Kind.TheVariants.{Ofs, Ffs}
+use Rattle.adf_blocks.specs.declared.layout.TheConstants.{CHECKSUM, FIRST_SLOT, NEXT_IN_CHAIN, PARENT, SLOTS}
+use Rattle.adf_blocks.specs.HeadBlock.{FitsHead, head_block}
+use Rattle.adf_blocks.specs.Sizes.{blocks}
+use Rattle.adf_blocks.proofs.HeadLaws.{length_head_block}
+use Rattle.adf_volume.specs.Image.{kind_of, root_of, word_in}
+use Rattle.adf_volume.specs.Start.{is_image_len}
+use Rattle.adf_volume.specs.Walk.{Role}
+use Rattle.adf_findings.specs.Found.{owner}
+use Rattle.adf_findings.specs.Survey.{FindingValue}
+use Rattle.adf_rescue.specs.Hung.{emptied, home, hung, hung_first, hung_in, hung_loose, is_directory, is_hung, is_made, is_named, is_vacant, made_header}
+use Rattle.adf_rescue.specs.Hung.{put_in, readied, ready_in, sealed_in}
+use Rattle.adf_rescue.specs.Lost.{directory_at, is_inside, is_lost, is_unfound, says_directory, says_header}
+use Rattle.adf_rescue.proofs.HungImages.{name_is_valid}
+use Rattle.adf_rescue.proofs.LostHeaders.{root_at}
+use Rattle.adf_rescue.proofs.MadeRoots.{root_within, sized}
+
+-- only blocks b and p change
+
+record Touches (b p : ℕ) (x y : List ℕ) : Type 0 where
+  length : length y ≡ length x
+  others : (c : ℕ) → c ≢ b → c ≢ p → block y c ≡ block x c
+
+touches_more : (b p : ℕ) (x y z : List ℕ) → Touches b p x y → Touches b p y z → Touches b p x z
+touches_more b p x y z h g = record { length = g.length ∙ h.length; others = λ c nb np. g.others c nb np ∙ h.others c nb np }
+
+whole : (x : List ℕ) (b : ℕ) → b < blocks x → b * 512 + 512 ≤ length x
+whole x b inside = omega (arith, inside)
+
+written : (x bs : List ℕ) (b : ℕ) → b < blocks x → length bs ≡ 512 → Touches b b x (with_block x b bs)
+written x bs b inside len = record {
+  length = length-with_bytes x (b * 512) bs (omega (arith, whole x b inside, len));
+  others = λ c nb np. block_other x b c bs (whole x b inside) len nb;
+}
+
+with_word_written : (x : List ℕ) (b i v : ℕ) → b < blocks x → i < 128 → Touches b b x (put_in x b i v)
+with_word_written x b i v inside lt =
+    let len = length-block x b (whole x b inside) in
+    written x (with_word (block x b) i v) b inside (length-with_word (block x b) i v (omega (arith, len, lt)) ∙ len)
+
+at_first : (b p : ℕ) (x y : List ℕ) → Touches b b x y → Touches b p x y
+at_first b p x y h = record { length = h.length; others = λ c nb np. h.others c nb nb }
+
+at_second : (b p : ℕ) (x y : List ℕ) → Touches p p x y → Touches b p x y
+at_second b p x y h = record { length = h.length; others = λ c nb np. h.others c np np }
+
+still : (x y : List ℕ) (b : ℕ) → length y ≡ length x → b < blocks x → b < blocks y
+still x y b e inside = omega (arith, e, inside)
+
+hung_touches : (x : List ℕ) (b p : ℕ) → b < blocks x → p < blocks x → Touches b p x (hung_in x b p)
+unfolding hung_in
+hung_touches x b p lb lp =
+    let next = word_in x p FIRST_SLOT in
+    let s1 : List ℕ = put_in x b NEXT_IN_CHAIN next in
+    let s2 : List ℕ = put_in s1 b PARENT p in
+    let s3 : List ℕ = sealed_in s2 b in
+    let s4 : List ℕ = put_in s3 p FIRST_SLOT b in
+    let s5 : List ℕ = sealed_in s4 p in
+    let h1 : Touches b p x s1 = at_first b p x s1 (with_word_written x b NEXT_IN_CHAIN next lb (omega arith)) in
+    let t2 : Touches b p s1 s2 = at_first b p s1 s2 (with_word_written s1 b PARENT p (still x s1 b h1.length lb) (omega arith)) in
+    let h2 = touches_more b p x s1 s2 h1 t2 in
+    let t3 : Touches b p s2 s3 =
+    at_first b p s2 s3 (with_word_written s2 b CHECKSUM (checksum CHECKSUM (block s2 b)) (still x s2 b h2.length lb) (omega arith)) in
+    let h3 = touches_more b p x s2 s3 h2 t3 in
+    let t4 : Touches b p s3 s4 = at_second b p s3 s4 (with_word_written s3 p FIRST_SLOT b (still x s3 p h3.length lp) (omega arith)) in
+    let h4 = touches_more b p x s3 s4 h3 t4 in
+    let t5 : Touches b p s4 s5 =
+    at_second b p s4 s5 (with_word_written s4 p CHECKSUM (checksum CHECKSUM (block s4 p)) (still x s4 p h4.length lp) (omega arith)) in
+    touches_more b p x s4 s5 h4 t5
+
+-- the header of a directory that is made is a block
+
+made_fits : (root p : ℕ) → root < 2 ^ 32 → p < 2 ^ 32 → FitsHead (made_header root p)
+made_fits root p r s = record { own = s; parent = r; name = name_is_valid p s; comment = omega arith; body = length-replicate {A = ℕ} SLOTS 0 }
+
+-- what is neither lost nor made
+
+owned_not_lost : (given : List ℕ) (w : List (Role × ℕ)) (fs : List FindingValue) (b : ℕ) → is_some (owner w b) ≡ true → is_lost given w fs b ≡ false
+unfolding is_lost
+owned_not_lost given w fs b e =
+    and_left _ _ (and_left _ _ (and_right (is_inside given b) (is_unfound given w b) (and_right (says_header given b) _ (not_from_true _ e))))
+
+owned_not_made : (given : List ℕ) (w : List (Role × ℕ)) (fs : List FindingValue) (b : ℕ) → is_some (owner w b) ≡ true → is_made given w fs b ≡ false
+unfolding is_vacant
+owned_not_made given w fs b e = and_left _ _ (and_left _ _ (and_right _ _ (not_from_true (is_some (owner w b)) e)))
+
+boot_not_lost : (given : List ℕ) (w : List (Role × ℕ)) (fs : List FindingValue) → is_lost given w fs 0 ≡ false
+unfolding is_lost
+boot_not_lost given w fs = refl
+
+boot_not_made : (given : List ℕ) (w : List (Role × ℕ)) (fs : List FindingValue) → is_made given w fs 0 ≡ false
+unfolding is_vacant
+boot_not_made given w fs = refl
+
+-- the laws, of an image with the length of a volume
+
+module _ (given : List ℕ) (w : List (Role × ℕ)) (fs : List FindingValue) (len : is_image_len (length given) ≡ true) where
+  few : blocks given < 2 ^ 32
+  few = let s = sized (length given) len in omega (arith, s.high)
+
+  root_small : root_of given < 2 ^ 32
+  root_small = let r = root_within given len in omega (arith, r.small)
+
+  made_or_lost : (b : ℕ) → is_hung given w fs b ≡ false → (is_made given w fs b ≡ false) × (is_lost given w fs b ≡ false)
+  made_or_lost b h = go (is_lost given w fs b) (is_made given w fs b) h
+    where
+      go : (l m : Bool) → (l || m) ≡ false → (m ≡ false) × (l ≡ false)
+      go true m e = absurd cc
+      go false m e = (e, refl)
+
+  -- making ready changes what is hung alone
+  ready_touches : (x : List ℕ) (b : ℕ) → length x ≡ length given → b < blocks given
+      → (length (ready_in given w fs x b) ≡ length x) × ((c : ℕ) → is_hung given w fs c ≡ false → block (ready_in given w fs x b) c ≡ block x c)
+  unfolding ready_in
+  ready_touches x b same inside = elim (cases_Bool (is_made given w fs b)) [
+    | inl made ↦
+        let t = written x (head_block (made_header (root_of given) b)) b (still given x b same inside)
+        (length_head_block (made_header (root_of given) b) (made_fits (root_of given) b root_small (omega (arith, inside, few)))) in
+        let is = cond-true (is_made given w fs b) (with_block x b (head_block (made_header (root_of given) b)))
+        (cond (is_lost given w fs b && says_directory given b) (emptied x b) x) made in (
+          ap length is ∙ t.length,
+          λ c out.
+              let ne : c ≢ b = λ e. let no = (made_or_lost c out).0 in let yes = subst (λ i. is_made given w fs i ≡ true) (sym e) made in cc in
+              ap (λ (l : List ℕ). block l c) is ∙ t.others c ne ne,
+        )
+    | inr other ↦
+        let is = cond-false (is_made given w fs b) (with_block x b (head_block (made_header (root_of given) b)))
+        (cond (is_lost given w fs b && says_directory given b) (emptied x b) x) other in
+        elim (cases_Bool (is_lost given w fs b && says_directory given b)) [
+          | inl lost ↦
+              let long = length-block x b (whole x b (still given x b same inside)) in
+              let t = written x (with_bytes (block x b) (4 * FIRST_SLOT) (replicate (4 * SLOTS) 0)) b (still given x b same inside)
+              (length-with_bytes (block x b) (4 * FIRST_SLOT) (replicate (4 * SLOTS) 0) (omega (arith, long, length-replicate {A = ℕ} (4 * SLOTS) 0)) ∙ long) in
+              let at = is ∙ cond-true (is_lost given w fs b && says_directory given b) (emptied x b) x lost in (
+                ap length at ∙ t.length,
+                λ c out.
+                    let ne : c ≢ b = λ e.
+                    let no = (made_or_lost c out).1 in
+                    let yes = subst (λ i. is_lost given w fs i ≡ true) (sym e) (and_parts (is_lost given w fs b) _ lost).0 in cc in
+                    ap (λ (l : List ℕ). block l c) at ∙ t.others c ne ne,
+              )
+          | inr none ↦
+              let at = is ∙ cond-false (is_lost given w fs b && says_directory given b) (emptied x b) x none in
+              (ap length at, λ c out. ap (λ (l : List ℕ). block l c) at)
+        ]
+  ]
+
+  readied_touches : (k : ℕ) → k ≤ blocks given
+      → (length (readied given w fs k) ≡ length given) × ((c : ℕ) → is_hung given w fs c ≡ false → block (readied given w fs k) c ≡ block given c)
+  unfolding readied
+  readied_touches zero le = (refl, λ c out. refl)
+  readied_touches (suc k) le =
+      let h = readied_touches k (omega arith) in
+      let t = ready_touches (readied given w fs k) k h.0 (omega arith) in
+      (t.0 ∙ h.0, λ c out. t.1 c out ∙ h.1 c out)
+
+  -- the home is in range
+  home_inside : (b : ℕ) → home given w fs b < blocks given
+  unfolding home
+  home_inside b =
+      let p : ℕ = word_in given b PARENT in
+      elim (cases_Bool (is_lost given w fs b && is_inside given p && is_directory given w fs p)) [
+        | inl named ↦
+            let in_range = (and_parts (is_lost given w fs b) (is_inside given p) (and_parts (is_lost given w fs b && is_inside given p) _ named).0).1 in
+            let low : p < blocks given = grind (arith, nat_tests) in
+            subst (λ n. n < blocks given) (sym (cond-true _ p (root_of given) named)) low
+        | inr other ↦ subst (λ n. n < blocks given) (sym (cond-false _ p (root_of given) other)) (root_within given len).within
+      ]
+
+  -- hanging changes what is hung, and the homes
+  loose_touches : (x : List ℕ) (b : ℕ) → length x ≡ length given → b < blocks given
+      → (length (hung_loose given w fs x b) ≡ length x)
+      × ((c : ℕ) → is_hung given w fs c ≡ false → ((d : ℕ) → is_hung given w fs d ≡ true → home given w fs d ≢ c)
+      → block (hung_loose given w fs x b) c ≡ block x c)
+  unfolding hung_loose
+  loose_touches x b same inside = elim (cases_Bool (is_hung given w fs b)) [
+    | inl is ↦
+        let t = hung_touches x b (home given w fs b) (still given x b same inside) (still given x (home given w fs b) same (home_inside b)) in
+        let at = cond-true (is_hung given w fs b) (hung_in x b (home given w fs b)) x is in (
+          ap length at ∙ t.length,
+          λ c out no_home.
+              let nb : c ≢ b = λ e. let yes = subst (λ i. is_hung given w fs i ≡ true) (sym e) is in cc in
+              ap (λ (l : List ℕ). block l c) at ∙ t.others c nb (λ e. no_home b is (sym e)),
+        )
+    | inr none ↦
+        let at = cond-false (is_hung given w fs b) (hung_in x b (home given w fs b)) x none in
+        (ap length at, λ c out no_home. ap (λ (l : List ℕ). block l c) at)
+  ]
+
+  first_touches : (k : ℕ) → k ≤ blocks given
+      → (length (hung_first given w fs k) ≡ length given)
+      × ((c : ℕ) → is_hung given w fs c ≡ false → ((d : ℕ) → is_hung given w fs d ≡ true → home given w fs d ≢ c)
+      → block (hung_first given w fs k) c ≡ block given c)
+  unfolding hung_first
+  first_touches zero le = let h = readied_touches (blocks given) (omega arith) in (h.0, λ c out no_home. h.1 c out)
+  first_touches (suc k) le =
+      let h = first_touches k (omega arith) in
+      let t = loose_touches (hung_first given w fs k) k h.0 (omega arith) in
+      (t.0 ∙ h.0, λ c out no_home. t.1 c out no_home ∙ h.1 c out no_home)
+
+  pub length_kept : length (hung given w fs) ≡ length given
+  length_kept = (first_touches (blocks given) (omega arith)).0
+
+  pub blocks_kept : (b : ℕ) → is_hung given w fs b ≡ false → ((d : ℕ) → is_hung given w fs d ≡ true → home given w fs d ≢ b)
+      → block (hung given w fs) b ≡ block given b
+  blocks_kept = (first_touches (blocks given) (omega arith)).1
+
+  -- what is no directory is no home
+  no_home : (b d : ℕ) → (is_inside given b && is_directory given w fs b) ≡ false → b ≢ root_of given → home given w fs d ≢ b
+  unfolding home
+  no_home b d none ne e =
+      let p : ℕ = word_in given d PARENT in
+      elim (cases_Bool (is_lost given w fs d && is_inside given p && is_directory given w fs p)) [
+        | inl named ↦
+            let at : p ≡ b = sym (cond-true _ p (root_of given) named) ∙ e in
+            let parts = and_parts (is_lost given w fs d && is_inside given p) (is_directory given w fs p) named in
+            let both : (is_inside given p && is_directory given w fs p) ≡ true =
+            and_from (is_inside given p) (is_directory given w fs p) (and_parts (is_lost given w fs d) (is_inside given p) parts.0).1 parts.1 in
+            let clash = subst (λ i. (is_inside given i && is_directory given w fs i) ≡ true) at both in absurd cc
+        | inr other ↦ absurd (ne (sym (sym (cond-false _ p (root_of given) other) ∙ e)))
+      ]
+
+  -- the blocks of entries that are no directories
+  pub entries_kept : (b : ℕ) → is_some (owner w b) ≡ true → directory_at given w b ≡ None → block (hung given w fs) b ≡ block given b
+  entries_kept b owned no_directory =
+      let lost = owned_not_lost given w fs b owned in
+      let made = owned_not_made given w fs b owned in
+      let ne : b ≢ root_of given = λ e. let root = root_at given w b e in absurd cc in
+      let none : is_directory given w fs b ≡ false = λ i. is_some (no_directory i) || lost i && says_directory given b || made i in
+      blocks_kept b (λ i. lost i || made i) (λ d h. no_home b d (and_right (is_inside given b) _ none) ne)
+
+  -- the boot block
+  pub boot_kept : block (hung given w fs) 0 ≡ block given 0
+  boot_kept =
+      let lost = boot_not_lost given w fs in
+      let made = boot_not_made given w fs in
+      blocks_kept 0 (λ i. lost i || made i) (λ d h. no_home 0 d refl (let r = root_within given len in omega (arith, r.low)))
+
+  pub kind_kept : kind_of (hung given w fs) ≡ kind_of given
+  unfolding kind_of
+  kind_kept = λ i. cond (slice_index (boot_kept i) 3 % 2 == 0) Ofs Ffs

@@ -1,0 +1,243 @@
+-- Lost headers: what the bitmap tells of a block, the directories of a survey, and the marks of those that are settled.
+-- Letters: w a walk, fs findings; b, p blocks; n, m nodes; k a number of entries, findings or blocks; i the number of a page; r an answer.
+use Rattle.std.specs.Prelude.{◌==◌, ◌&&◌, ◌||◌, ◌↔◌, not, nat_le, Option, Some, None, IfSome, IsSome, IsTrue, option_and_then, option_map, cond, map, replicate}
+use Rattle.std.specs.List.{range_with_len}
+use Rattle.std.proofs.Common.{◌≡◌, ◌≢◌, ◌≤◌, ◌<◌, ℕ, zero, suc, ◌+◌, ◌-◌, ◌/◌, ◌%◌, Bool, true, false, List, [], ◌∷◌, ◌++◌, length, add-one}
+use Rattle.std.proofs.Common.{◌∙◌, ap, arith, inl, inr, refl, subst, sym}
+use Rattle.std.proofs.lemmas.Bool.{and_from, and_left, and_parts, cases_Bool, cases_lt, cond-false, cond-true, eq-eqb, eqb-true, false_from_ne_true}
+use Rattle.std.proofs.lemmas.Bool.Decides.{nat_tests}
+use Rattle.std.proofs.lemmas.List.FromFn.{get_or-map-range_with_len, length-map-range_with_len, map-range_with_len_more}
+use Rattle.adf_blocks.specs.declared.layout.TheConstants.{BITMAP_FLAG, PAGE_BITS, PARENT, VALID}
+use Rattle.adf_blocks.specs.Sizes.{blocks}
+use Rattle.adf_volume.specs.Image.{IsFreeAt, root_of, word_in}
+use Rattle.adf_volume.specs.Walk.{Role, Has, IsFreeIn, heads, second}
+use Rattle.adf_volume.specs.Walk.Role.{Head, Page}
+use Rattle.adf_volume.proofs.Gathered.{one_block}
+use Rattle.adf_volume.proofs.Roles.{has_role, same_refl}
+use Rattle.adf_findings.specs.declared.concern.Concern.{Concern}
+use Rattle.adf_findings.specs.Concerned.{concern_of_nth, node_of}
+use Rattle.adf_findings.specs.Found.{at_key, owner, parent_node}
+use Rattle.adf_findings.specs.Marks.{has_mark}
+use Rattle.adf_findings.specs.Parts.{key_of}
+use Rattle.adf_findings.specs.Survey.{FindingValue, IsSurvey, IsValidated}
+use Rattle.adf_findings.specs.Survey.IsSurvey.{read, unread}
+use Rattle.adf_findings.proofs.BitSteps.{at_has}
+use Rattle.adf_findings.proofs.Keys.{lacks_at, same_of_key}
+use Rattle.adf_findings.proofs.OneSurvey.{gathered}
+use Rattle.adf_rescue.specs.Lost.{AreEntered, AreSettled, bit_told, directory_at, directory_in, denies, has_entry, has_finding, is_denied, is_directory_at, is_inside, is_lost, is_of}
+use Rattle.adf_rescue.specs.Lost.{is_set_in}
+use Rattle.adf_findings.specs.Surveyed.{IsBitTold}
+
+-- what the bitmap tells of a block
+
+abbrev page_of : ℕ → ℕ
+page_of b = (b - 2) / PAGE_BITS
+
+page_has : (w : List (Role × ℕ)) (i page : ℕ) → at_key w (key_of (Page i)) ≡ Some page → Has w (Page i) page
+page_has w i page e =
+    let x = at_has w (key_of (Page i)) page e in
+    has_role w (Page i) (λ n p t j z. let y : second (Page i) ≡ second (Head n p t j) = ap second z in absurd (omega arith)) x.0 page x.1
+    (same_of_key x.0 (Page i) x.2)
+
+one_page : (image : List ℕ) (w : List (Role × ℕ)) (fs : List FindingValue) → IsSurvey image w fs → (i a b : ℕ) → Has w (Page i) a → Has w (Page i) b → a ≡ b
+one_page image w fs (unread told) i a b h g = absurd h
+one_page image w fs (read {s = s} v done bits) i a b h g = (one_block image (gathered image v) (Page i) (Page i) a b h g (same_refl (Page i))).1
+
+-- a test of a number that is not 0
+not_zero : (n : ℕ) → n ≢ 0 → not (n == 0) ≡ true
+not_zero n ne = ap not (false_from_ne_true (n == 0) (λ e. ne (eqb-true n 0 e)))
+
+is_zero : (n : ℕ) → not (n == 0) ≡ true → n ≢ 0
+is_zero n e z = let clash : not (n == 0) ≡ false = ap not (eq-eqb n 0 z) in cc
+
+told_some : (image : List ℕ) (w : List (Role × ℕ)) (b page : ℕ) (r : Option Bool) → ((a : ℕ) → Has w (Page (page_of b)) a → a ≡ page)
+    → Has w (Page (page_of b)) page → IsSome r → IfSome r (λ t. IsTrue t ↔ IsFreeIn image w b) → r ≡ Some (is_set_in image page ((b - 2) % PAGE_BITS))
+told_some image w b page None one has some free = absurd cc
+told_some image w b page (Some true) one has some free =
+    let x = free.0 refl in
+    let set : IsFreeAt image page ((b - 2) % PAGE_BITS) = subst (λ a. IsFreeAt image a ((b - 2) % PAGE_BITS)) (one x.0 x.1) x.2 in
+    ap Some (sym (not_zero _ set))
+told_some image w b page (Some false) one has some free =
+    ap Some (sym (false_from_ne_true (is_set_in image page ((b - 2) % PAGE_BITS))
+    (λ e. let t : IsTrue false = free.1 (page, has, is_zero _ e) in cc)))
+
+told_none : (r : Option Bool) → (IsSome r → ⊥) → r ≡ None
+told_none None h = refl
+told_none (Some t) h = absurd (h refl)
+
+pub told_is : (image : List ℕ) (w : List (Role × ℕ)) (fs : List FindingValue) (b : ℕ) (r : Option Bool) → IsSurvey image w fs
+    → (IsSome r ↔ IsBitTold image w b) → IfSome r (λ t. IsTrue t ↔ IsFreeIn image w b) → r ≡ bit_told image w b
+unfolding bit_told
+told_is image w fs b r survey some free = elim (cases_Bool (nat_le 2 b && (word_in image (root_of image) BITMAP_FLAG == VALID))) [
+  | inl stands ↦
+      let parts = and_parts (nat_le 2 b) _ stands in
+      let low : 2 ≤ b = grind (arith, nat_tests) in
+      let valid : IsValidated image = eqb-true _ _ parts.1 in
+      with_page (at_key w (key_of (Page (page_of b)))) refl low valid ∙ sym (cond-true _ _ None stands)
+  | inr fails ↦
+      told_none r (λ s. let told = some.0 s in
+      let all = and_from (nat_le 2 b) (word_in image (root_of image) BITMAP_FLAG == VALID) (grind (arith, nat_tests)) (eq-eqb _ _ told.1) in cc)
+      ∙ sym (cond-false _ _ None fails)
+]
+  where
+    with_page : (o : Option ℕ) → at_key w (key_of (Page (page_of b))) ≡ o → 2 ≤ b → IsValidated image
+        → r ≡ option_map (λ page. is_set_in image page ((b - 2) % PAGE_BITS)) (at_key w (key_of (Page (page_of b))))
+    with_page None e low valid =
+        told_none r (λ s. let told = some.0 s in lacks_at w (Page (page_of b)) e (Page (page_of b)) told.2.0 told.2.1 (same_refl (Page (page_of b))))
+        ∙ ap (option_map (λ page. is_set_in image page ((b - 2) % PAGE_BITS))) (sym e)
+    with_page (Some page) e low valid =
+        let has = page_has w (page_of b) page e in
+        told_some image w b page r (λ a h. one_page image w fs survey (page_of b) a page h has) has (some.1 (low, valid, (page, has))) free
+        ∙ ap (option_map (λ page. is_set_in image page ((b - 2) % PAGE_BITS))) (sym e)
+
+-- the directories of a survey
+
+other : (a b : ℕ) → a ≢ b → (a == b) ≡ false
+other a b ne = false_from_ne_true (a == b) (λ e. ne (eqb-true a b e))
+
+pub root_at : (image : List ℕ) (w : List (Role × ℕ)) (p : ℕ) → p ≡ root_of image → directory_at image w p ≡ Some 0
+unfolding directory_at
+root_at image w p e = cond-true (p == root_of image) (Some 0) _ (eq-eqb p (root_of image) e)
+
+owned_at : (image : List ℕ) (w : List (Role × ℕ)) (p : ℕ) → p ≢ root_of image → directory_at image w p ≡ option_and_then (directory_in image w p) (owner w p)
+unfolding directory_at
+owned_at image w p ne = cond-false (p == root_of image) (Some 0) _ (other p (root_of image) ne)
+
+pub none_at : (image : List ℕ) (w : List (Role × ℕ)) (p : ℕ) → p ≢ root_of image → None ≡ owner w p → directory_at image w p ≡ None
+none_at image w p ne e = owned_at image w p ne ∙ ap (option_and_then (directory_in image w p)) (sym e)
+
+pub entry_in_it : (image : List ℕ) (w : List (Role × ℕ)) (p n : ℕ) → p ≢ root_of image → Some n ≡ owner w p → directory_at image w p ≡ directory_in image w p n
+entry_in_it image w p n ne e = owned_at image w p ne ∙ ap (option_and_then (directory_in image w p)) (sym e)
+
+known : (image : List ℕ) (w : List (Role × ℕ)) (p n : ℕ) (o : Option ℕ) → option_and_then (directory_in image w p) o ≡ Some n → n ≤ heads w
+known image w p n None e = absurd cc
+known image w p n (Some m) e = go (is_directory_at image w m p) refl e
+  where
+    go : (t : Bool) → is_directory_at image w m p ≡ t → cond t (Some m) None ≡ Some n → n ≤ heads w
+    go true is h =
+        let same : m ≡ n = cc in
+        let parts = and_parts (nat_le 1 m) (nat_le m (heads w)) (and_parts (nat_le 1 m && nat_le m (heads w)) _ (and_parts _ _ is).0).0 in
+        let low : m ≤ heads w = grind (arith, nat_tests) in
+        omega (arith, same, low)
+    go false is h = absurd cc
+
+-- a directory of the survey is the root or an entry
+pub directory_known : (image : List ℕ) (w : List (Role × ℕ)) (p n : ℕ) → directory_at image w p ≡ Some n → n ≤ heads w
+unfolding directory_at
+directory_known image w p n e = go (p == root_of image) e
+  where
+    go : (t : Bool) → cond t (Some 0) (option_and_then (directory_in image w p) (owner w p)) ≡ Some n → n ≤ heads w
+    go true h = let zero_is : 0 ≡ n = cc in omega (arith, zero_is)
+    go false h = known image w p n (owner w p) h
+
+-- the marks of those that are settled
+
+pub entered_first : (w : List (Role × ℕ)) (marks : List Bool) → length marks ≡ suc (heads w) → ((n : ℕ) → has_mark marks n ≡ false) → AreEntered w 0 marks
+unfolding has_entry
+entered_first w marks len none = record { length = len; entry = λ n le. none n }
+
+or_cond : (a b : Bool) → cond b true a ≡ (a || b)
+or_cond true true = refl
+or_cond true false = refl
+or_cond false true = refl
+or_cond false false = refl
+
+pub entered_more : (w : List (Role × ℕ)) (k p : ℕ) (marks more : List Bool) → AreEntered w k marks → p ≡ parent_node w (k + 1)
+    → ((m : ℕ) → m < length marks → has_mark more m ≡ cond (p == m) true (has_mark marks m)) → length more ≡ length marks → AreEntered w (k + 1) more
+unfolding has_entry
+entered_more w k p marks more are is put len = record {
+  length = len ∙ are.length;
+  entry = λ n le.
+      put n (omega (arith, are.length, le)) ∙ (or_cond (has_mark marks n) (p == n) ∙ rw add-one (λ i. are.entry n le i || (rw add-one at is) i == n));
+}
+
+-- what is struck
+and_more : (a f o : Bool) → ((a && not f) && not o) ≡ (a && not (f || o))
+and_more true true o = refl
+and_more true false o = refl
+and_more false f o = refl
+
+pub settled_first : (w : List (Role × ℕ)) (fs : List FindingValue) (marks : List Bool) → AreEntered w (heads w) marks → AreSettled w fs 0 marks
+unfolding has_finding
+settled_first w fs marks are = record { length = are.length; settled = λ n le. are.entry n le ∙ and_yes (has_entry w n (heads w)) }
+  where
+    and_yes : (a : Bool) → a ≡ (a && true)
+    and_yes true = refl
+    and_yes false = refl
+
+settled_by : (w : List (Role × ℕ)) (fs : List FindingValue) (k : ℕ) (marks more : List Bool) (o : Option Concern) → AreSettled w fs k marks
+    → o ≡ concern_of_nth w fs k → ((m : ℕ) → m < length marks → has_mark more m ≡ (has_mark marks m && not (is_of w m o))) → length more ≡ length marks
+    → AreSettled w fs (k + 1) more
+unfolding has_finding
+settled_by w fs k marks more o are is put len = record {
+  length = len ∙ are.length;
+  settled = λ n le.
+      put n (omega (arith, are.length, le))
+      ∙ ((λ i. are.settled n le i && not (is_of w n (is i)))
+      ∙ rw add-one (and_more (has_entry w n (heads w)) (has_finding w fs n k) (is_of w n (concern_of_nth w fs k))));
+}
+
+pub settled_none : (w : List (Role × ℕ)) (fs : List FindingValue) (k : ℕ) (marks : List Bool) → AreSettled w fs k marks → None ≡ concern_of_nth w fs k
+    → AreSettled w fs (k + 1) marks
+settled_none w fs k marks are is = settled_by w fs k marks marks None are is (λ m lt. and_yes (has_mark marks m)) refl
+  where
+    and_yes : (a : Bool) → a ≡ (a && true)
+    and_yes true = refl
+    and_yes false = refl
+
+pub settled_some : (w : List (Role × ℕ)) (fs : List FindingValue) (k n : ℕ) (marks more : List Bool) (x : Concern) → AreSettled w fs k marks
+    → Some x ≡ concern_of_nth w fs k → n ≡ node_of x
+    → ((m : ℕ) → m < length marks → has_mark more m ≡ (has_mark marks m && not ((n == m) || (parent_node w n == m)))) → length more ≡ length marks
+    → AreSettled w fs (k + 1) more
+settled_some w fs k n marks more x are is node put len =
+    settled_by w fs k marks more (Some x) are is
+    (λ m lt. put m lt ∙ (λ i. has_mark marks m && not ((node i == m) || (parent_node w (node i) == m)))) len
+
+-- the marks of lost headers
+
+pub lost_inside : (image : List ℕ) (w : List (Role × ℕ)) (fs : List FindingValue) (b : ℕ) → is_lost image w fs b ≡ true → is_inside image b ≡ true
+unfolding is_lost
+lost_inside image w fs b e = (and_parts (is_inside image b) _ (and_parts _ _ (and_parts _ _ e).0).0).0
+
+lost_outside : (image : List ℕ) (w : List (Role × ℕ)) (fs : List FindingValue) (b : ℕ) → blocks image ≤ b → is_lost image w fs b ≡ false
+unfolding is_lost
+lost_outside image w fs b out = and_left _ _ (and_left _ _ (and_left (is_inside image b) _ (grind (arith, nat_tests))))
+
+pub past_marks : (marks : List Bool) (b : ℕ) → length marks ≤ b → has_mark marks b ≡ false
+past_marks [] b h = refl
+past_marks (x ∷ xs) zero h = absurd (omega arith)
+past_marks (x ∷ xs) (suc b) h = past_marks xs b (omega arith)
+
+pub lost_marked : (image : List ℕ) (w : List (Role × ℕ)) (fs : List FindingValue) (marks : List Bool)
+    → marks ≡ map (is_lost image w fs) (range_with_len 0 (blocks image)) → (b : ℕ) → has_mark marks b ≡ is_lost image w fs b
+lost_marked image w fs marks e b =
+    let n : ℕ = blocks image in
+    let all : List Bool = map (is_lost image w fs) (range_with_len 0 n) in
+    ap (λ (xs : List Bool). has_mark xs b) e ∙ elim (cases_lt b n) [
+      | inl low ↦ get_or-map-range_with_len (is_lost image w fs) 0 n b b false low (omega arith)
+      | inr high ↦
+          past_marks all b (omega (arith, high, length-map-range_with_len (is_lost image w fs) 0 n)) ∙ sym (lost_outside image w fs b high)
+    ]
+
+-- what a settled directory denies
+pub denied_by_directory : (image : List ℕ) (w : List (Role × ℕ)) (fs : List FindingValue) (b p n : ℕ) (marks : List Bool) → AreSettled w fs (length fs) marks
+    → p ≡ word_in image b PARENT → Some n ≡ directory_at image w p → has_mark marks n ≡ is_denied image w fs b
+denied_by_directory image w fs b p n marks are parent is =
+    are.settled n (directory_known image w p n (sym is))
+    ∙ ((λ i. denies w fs p (is i)) ∙ (λ i. denies w fs (parent i) (directory_at image w (parent i))))
+
+-- one mark more
+pub lost_more : (image : List ℕ) (w : List (Role × ℕ)) (fs : List FindingValue) (b : ℕ) (marks more : List Bool) (t : Bool)
+    → marks ≡ map (is_lost image w fs) (range_with_len 0 b) → t ≡ is_lost image w fs b → more ≡ marks ++ t ∷ []
+    → more ≡ map (is_lost image w fs) (range_with_len 0 (b + 1))
+lost_more image w fs b marks more t before is put =
+    put ∙ ((λ i. before i ++ is i ∷ []) ∙ sym (map-range_with_len_more (is_lost image w fs) 0 b b (omega arith)))
+
+-- no marks
+pub unmarked : (n : ℕ) (marks : List Bool) → marks ≡ replicate n false → (i : ℕ) → has_mark marks i ≡ false
+unmarked n marks e i = ap (λ (xs : List Bool). has_mark xs i) e ∙ none n i
+  where
+    none : (n i : ℕ) → has_mark (replicate n false) i ≡ false
+    none zero i = refl
+    none (suc n) zero = refl
+    none (suc n) (suc i) = none n i

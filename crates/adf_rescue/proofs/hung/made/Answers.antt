@@ -1,0 +1,35 @@
+use Rattle.std.proofs.Common.{◌≡◌, ◌∙◌, ◌+◌, ap, arith, subst, sym}
+use Rattle.adf_blocks.specs.Sizes.{blocks}
+use Rattle.adf_rescue.specs.Hung.{AreMade}
+use Rattle.adf_rescue.proofs.HungImages.{made_first, made_marked, made_more, made_same}
+use Rattle.adf_rescue.proofs.LostHeaders.{unmarked}
+use Rattle.adf_rescue.proofs.hung.made.Goals.{then-is_marked, else-is_marked}
+use Rattle.adf_rescue.proofs.hung.made.Goals as goal
+
+pub loop-b-init : goal.loop-b-init
+loop-b-init c = λ w fs survey are.
+    let given = c.args.survey.now.image in
+    let n : c.block_count-blocks.result ≡ blocks given = c.block_count-blocks.ensures.exact ∙ ap blocks c.image.ensures in
+    made_first given w fs c.in-Ok.marks.items (omega (arith, c.in-Ok.marks.ok.0, c.in-Ok.ensures.len, n))
+    (unmarked c.block_count-blocks.result c.in-Ok.marks.items (c.in-Ok.ensures.items_if_clones_equal (λ y h. h)))
+
+pub loop-b-preserved : goal.loop-b-preserved
+loop-b-preserved c = λ w fs survey are.
+    let given = c.args.survey.now.image in
+    let before = c.loop-b.invariant w fs survey are in
+    elim c.if-is_marked.branch [
+      | then-is_marked b ↦
+          subst (AreMade given w fs (c.loop-b.b + 1)) (λ i. (sym b.marks-is i).items)
+          (made_more given w fs c.loop-b.b c.loop-b.marks.items b.mark_parent.new.made.items before
+          (sym (are c.loop-b.b) ∙ (sym c.is_marked.ensures ∙ b.if-is_marked.true)) (b.mark_parent.ensures.marks w fs survey are) b.mark_parent.ensures.length)
+      | else-is_marked b ↦
+          subst (AreMade given w fs (c.loop-b.b + 1)) (λ i. (sym b.marks-is i).items)
+          (made_same given w fs c.loop-b.b c.loop-b.marks.items before (sym (are c.loop-b.b) ∙ (sym c.is_marked.ensures ∙ b.if-is_marked.false)))
+    ]
+
+pub returns : goal.returns
+returns c = λ w fs survey are.
+    let given = c.args.survey.now.image in
+    let n : c.block_count-blocks.result ≡ blocks given = c.block_count-blocks.ensures.exact ∙ ap blocks c.image.ensures in
+    let last : c.loop-b.b ≡ blocks given = omega (arith, n) in
+    made_marked given w fs c.loop-b.marks.items (subst (λ k. AreMade given w fs k c.loop-b.marks.items) last (c.loop-b.invariant w fs survey are))

@@ -1,0 +1,131 @@
+-- What no directory of a survey leads to any more: lost headers.
+-- Letters: w the walk of the survey, fs its findings, f one of them; b, p blocks; n a node; k a number of nodes, findings or blocks.
+use Rattle.std.specs.Prelude.{◌≡◌, ◌≤◌, ℕ, ◌+◌, ◌-◌, ◌/◌, ◌%◌, ◌^◌, ◌==◌, ◌&&◌, ◌||◌, not, nat_le, nat_lt, bit_and, Bool, true, false, cond, List, length}
+use Rattle.std.specs.Prelude.{Option, Some, None, is_some, option_and_then, option_map, unwrap_or}
+use Rattle.std.proofs.Common.{zero, suc}
+use Rattle.adf_blocks.specs.declared.layout.TheConstants.{BITMAP_FLAG, FIRST_POINTER, OWN_KEY, PAGE_BITS, PAGE_FIRST, PARENT, SECONDARY_TYPE, SIZE}
+use Rattle.adf_blocks.specs.declared.layout.TheConstants.{ST_DIR, TYPE, T_SHORT, VALID}
+use Rattle.adf_blocks.specs.Sizes.{blocks}
+use Rattle.adf_volume.specs.Image.{root_of, word_in}
+use Rattle.adf_volume.specs.Start.{is_image_len}
+use Rattle.adf_volume.specs.Walk.{Role, heads, node_block}
+use Rattle.adf_volume.specs.Walk.Role.{Page}
+use Rattle.adf_findings.specs.Concerned.{concern_of_nth, node_of}
+use Rattle.adf_findings.specs.declared.concern.Concern.{Concern}
+use Rattle.adf_findings.specs.Found.{at_key, owner, parent_node}
+use Rattle.adf_findings.specs.Marks.{has_mark}
+use Rattle.adf_findings.specs.Parts.{key_of}
+use Rattle.adf_findings.specs.Survey.{FindingValue}
+use Rattle.adf_rescue.specs.Opened.{says_file}
+
+-- block b is in range
+abbrev pub is_inside : List ℕ → ℕ → Bool
+is_inside image b = nat_le 2 b && nat_lt b (blocks image)
+
+-- block b says that it is a directory's header: by its types and its own key; its sum is not asked for
+abbrev pub says_directory : List ℕ → ℕ → Bool
+says_directory image b = (word_in image b TYPE == T_SHORT) && (word_in image b OWN_KEY == b) && (word_in image b SECONDARY_TYPE == ST_DIR)
+
+-- block b says that it is a header, of a directory or a file
+abbrev pub says_header : List ℕ → ℕ → Bool
+says_header image b = says_directory image b || says_file image b
+
+-- bit `bit` of the page in block `page` is set
+abbrev pub is_set_in : List ℕ → ℕ → ℕ → Bool
+is_set_in image page bit = not (bit_and (word_in image page (PAGE_FIRST + bit / 32)) (2 ^ (bit % 32)) == 0)
+
+-- what the bitmap tells of block b: whether it is free; nothing unless the root says that the bitmap is valid and the walk has the page
+unfoldable pub bit_told : List ℕ → List (Role × ℕ) → ℕ → Option Bool
+bit_told image w b =
+    cond (nat_le 2 b && (word_in image (root_of image) BITMAP_FLAG == VALID))
+    (option_map (λ page. is_set_in image page ((b - 2) % PAGE_BITS)) (at_key w (key_of (Page ((b - 2) / PAGE_BITS))))) None
+
+-- the bitmap tells that block b is free
+abbrev pub is_told_free : List ℕ → List (Role × ℕ) → ℕ → Bool
+is_told_free image w b = unwrap_or (bit_told image w b) false
+
+-- the bitmap tells that block b is in use
+abbrev pub is_told_used : List ℕ → List (Role × ℕ) → ℕ → Bool
+is_told_used image w b = not (unwrap_or (bit_told image w b) true)
+
+-- the first data block of the file with header b is free, as the bitmap tells
+abbrev pub has_free_data : List ℕ → List (Role × ℕ) → ℕ → Bool
+has_free_data image w b =
+    not (word_in image b SECONDARY_TYPE == ST_DIR) && not (word_in image b SIZE == 0) && is_told_free image w (word_in image b FIRST_POINTER)
+
+-- entry n of the survey is a directory with its header in block p
+abbrev pub is_directory_at : List ℕ → List (Role × ℕ) → ℕ → ℕ → Bool
+is_directory_at image w n p =
+    nat_le 1 n && nat_le n (heads w) && (node_block w n == p) && (word_in image (node_block w n) SECONDARY_TYPE == ST_DIR)
+
+-- entry n, if it is such a directory
+abbrev pub directory_in : List ℕ → List (Role × ℕ) → ℕ → ℕ → Option ℕ
+directory_in image w p n = cond (is_directory_at image w n p) (Some n) None
+
+-- the directory of the survey whose header is block p; 0 for the root
+unfoldable pub directory_at : List ℕ → List (Role × ℕ) → ℕ → Option ℕ
+directory_at image w p = cond (p == root_of image) (Some 0) (option_and_then (directory_in image w p) (owner w p))
+
+-- one of the first k entries is in directory n
+unfoldable pub has_entry : List (Role × ℕ) → ℕ → ℕ → Bool
+has_entry w n zero = false
+has_entry w n (suc k) = has_entry w n k || (parent_node w (suc k) == n)
+
+-- what is concerned is node n, or an entry in it
+abbrev pub is_of : List (Role × ℕ) → ℕ → Option Concern → Bool
+is_of w n None = false
+is_of w n (Some c) = (node_of c == n) || (parent_node w (node_of c) == n)
+
+-- one of the first k findings is of node n, or of an entry in it
+unfoldable pub has_finding : List (Role × ℕ) → List FindingValue → ℕ → ℕ → Bool
+has_finding w fs n zero = false
+has_finding w fs n (suc k) = has_finding w fs n k || is_of w n (concern_of_nth w fs k)
+
+-- directory n is settled: the survey has an entry in it, and no finding is of it or of an entry in it. So all that is in it is found
+abbrev pub is_settled : List (Role × ℕ) → List FindingValue → ℕ → Bool
+is_settled w fs n = has_entry w n (heads w) && not (has_finding w fs n (length fs))
+
+-- by the directory in block p, if it is one: it is settled; or an entry has the block, so that it is something else now
+abbrev pub denies : List (Role × ℕ) → List FindingValue → ℕ → Option ℕ → Bool
+denies w fs p None = is_some (owner w p)
+denies w fs p (Some n) = is_settled w fs n
+
+-- the directory that header b names does not have it
+abbrev pub is_denied : List ℕ → List (Role × ℕ) → List FindingValue → ℕ → Bool
+is_denied image w fs b = denies w fs (word_in image b PARENT) (directory_at image w (word_in image b PARENT))
+
+-- block b says that it is a header, and the survey has no entry there
+abbrev pub is_unfound : List ℕ → List (Role × ℕ) → ℕ → Bool
+is_unfound image w b = says_header image b && not (is_some (owner w b))
+
+-- the bitmap tells that header b is deleted: it is free, or its first data block is
+abbrev pub is_freed : List ℕ → List (Role × ℕ) → ℕ → Bool
+is_freed image w b = is_told_free image w b || has_free_data image w b
+
+-- block b is a lost header: it is not found, and not deleted, as far as is told
+unfoldable pub is_lost : List ℕ → List (Role × ℕ) → List FindingValue → ℕ → Bool
+is_lost image w fs b =
+    is_inside image b && is_unfound image w b && not (is_freed image w b) && (is_told_used image w b || not (is_denied image w fs b))
+
+-- one of the first k blocks is a lost header
+unfoldable pub lost_among : List ℕ → List (Role × ℕ) → List FindingValue → ℕ → Bool
+lost_among image w fs zero = false
+lost_among image w fs (suc k) = lost_among image w fs k || is_lost image w fs k
+
+-- something is lost, in an image with the length of a volume
+abbrev pub has_lost : List ℕ → List (Role × ℕ) → List FindingValue → Bool
+has_lost image w fs = is_image_len (length image) && lost_among image w fs (blocks image)
+
+-- the marks of the root and the entries: whether one of the first k entries is in the node
+pub record AreEntered (w : List (Role × ℕ)) (k : ℕ) (marks : List Bool) : Type 0 where
+  pub length : length marks ≡ suc (heads w)
+  pub entry : (n : ℕ) → n ≤ heads w → has_mark marks n ≡ has_entry w n k
+
+-- whether the node has an entry, and none of the first k findings is of it or of an entry in it
+pub record AreSettled (w : List (Role × ℕ)) (fs : List FindingValue) (k : ℕ) (marks : List Bool) : Type 0 where
+  pub length : length marks ≡ suc (heads w)
+  pub settled : (n : ℕ) → n ≤ heads w → has_mark marks n ≡ (has_entry w n (heads w) && not (has_finding w fs n k))
+
+-- the marks of the blocks: whether each is a lost header
+abbrev pub AreLost : List ℕ → List (Role × ℕ) → List FindingValue → List Bool → Type 0
+AreLost image w fs marks = (b : ℕ) → has_mark marks b ≡ is_lost image w fs b

@@ -1,0 +1,331 @@
+// The hung image: each lost header hangs in the directory that it names, or in the root.
+
+ghost use Rattle.std.specs.Prelude.{◌≡◌, ◌≢◌, ◌<◌, ◌≤◌, ◌||◌, ◌&&◌, ◌==◌, ◌↔◌, ℕ, List, Some, None, true, false, length, is_some, IfOk, IfSome, IsNone, OnOk};
+ghost use Rattle.adf_fields.specs.Words.{block, with_block};
+ghost use Rattle.adf_blocks.specs.HeadBlock.{head_block};
+ghost use Rattle.adf_blocks.specs.declared.layout.TheConstants.{PARENT};
+ghost use Rattle.adf_blocks.specs.Sizes.{blocks};
+ghost use Rattle.adf_volume.specs.Image.{kind_of, word_in};
+ghost use Rattle.adf_volume.specs.Start.{is_image_len};
+ghost use Rattle.adf_volume.specs.Walk.{Role};
+ghost use Rattle.adf_findings.specs.Found.{owner};
+ghost use Rattle.adf_findings.specs.Marks.{has_mark};
+ghost use Rattle.adf_findings.specs.Survey.{FindingValue, IsSurvey, OnSurvey};
+ghost use Rattle.adf_rescue.specs.Lost.{AreLost, directory_at, has_lost, is_lost, lost_among};
+ghost use Rattle.adf_rescue.specs.Rescue.{lost_name};
+ghost use Rattle.adf_rescue.specs.Hung.{AreLoose, AreMade, emptied, home, hung, hung_in, hung_loose, is_directory, is_hung, is_made, is_vacant, made_header, ready_in, readied};
+
+use crate::image::{block_count, is_image_len, root_of};
+use crate::lost::{directory_at, is_inside, is_marked, lost, mark, says_directory, word_in};
+use crate::opened::copied;
+use crate::rooms::lost_name;
+use adf_blocks::{FIRST_SLOT, HeadOut, HeadOutBody, NEXT_IN_CHAIN, PARENT, SLOTS, write_head};
+use adf_fields::{NoMemory, Stamp, seal, set_bytes, set_word};
+use adf_findings::Survey;
+use adf_tree::{Comment, Meta, Name};
+use std::alloc::Global;
+
+// The word of the checksum of a header and the root.
+const CHECKSUM: usize = 5;
+
+// Hangs block `b` as the first header of slot 0 of block `p`.
+#[tactic(auto, unfolding(crate::specs::Hung::hung_in))]
+fn hang(image: &mut [u8], b: u32, p: u32)
+    requires block { b < blocks image.old }
+    requires home { p < blocks image.old }
+    ensures { image.new ≡ hung_in image.old b p }
+{
+    let next = word_in(image, p, FIRST_SLOT);
+    set_word(image, b, NEXT_IN_CHAIN, next);
+    set_word(image, b, PARENT, p);
+    seal(image, b, CHECKSUM);
+    set_word(image, p, FIRST_SLOT, b);
+    seal(image, p, CHECKSUM);
+}
+
+// Empties the table of block `b`.
+fn empty(image: &mut [u8], b: u32)
+    requires { b < blocks image.old }
+    ensures { image.new ≡ emptied image.old b }
+{
+    set_bytes(image, b, 4 * FIRST_SLOT, &[0u8; 4 * SLOTS as usize]);
+}
+
+// The name of a directory that is made in block `p`.
+#[tactic(auto, using(crate::proofs::HungImages::name_is_valid))]
+fn made_name(alloc: Global, p: u32) -> Result<Name, NoMemory>
+    ensures { IfOk result (λ n. n ≡ lost_name p) }
+{
+    let text = lost_name(alloc, p)?;
+    Ok(Name::known(text.as_bytes()))
+}
+
+// Writes the header of a directory that is made in block `p`.
+fn make(alloc: Global, image: &mut [u8], root: u32, p: u32) -> Result<(), NoMemory>
+    requires { p < blocks image.old }
+    ensures { OnOk result (image.new ≡ with_block image.old p (head_block (made_header root p))) }
+{
+    let name = made_name(alloc, p)?;
+    let stamp = Stamp {
+        days: 0,
+        mins: 0,
+        ticks: 0,
+    };
+    let meta = Meta::new(Comment::new(b"").unwrap(), 0, stamp);
+    let header = HeadOut {
+        own: p,
+        parent: root,
+        next: 0,
+        name: &name,
+        meta: &meta,
+        body: HeadOutBody::Dir {
+            slots: [0u32; SLOTS as usize],
+        },
+    };
+    write_head(image, p, &header);
+    Ok(())
+}
+
+/// The blocks that are hung: whether each is a lost header, and whether a directory is made in it.
+#[derive(Drop)]
+struct Loose {
+    lost: Vec<bool>,
+    made: Vec<bool>,
+}
+
+// Whether one of the blocks is a lost header.
+fn has_lost(survey: &Survey<'_>, lost: &Vec<bool>) -> bool
+    requires { is_image_len (length survey.now.image) ≡ true }
+    ensures { OnSurvey survey.now.image (λ w fs. AreLost survey.now.image w fs lost.now.items
+        → result ≡ lost_among survey.now.image w fs (blocks survey.now.image)) }
+{
+    for b in 0..block_count(survey.image()) {
+        if is_marked(lost, b as usize) {
+            return true;
+        }
+    }
+    false
+}
+
+// Whether a directory may be made in block `p`.
+#[tactic(auto, unfolding(crate::specs::Hung::is_vacant))]
+fn is_vacant(survey: &Survey<'_>, lost: &Vec<bool>, p: u32) -> bool
+    requires { is_image_len (length survey.now.image) ≡ true }
+    ensures { OnSurvey survey.now.image (λ w fs. AreLost survey.now.image w fs lost.now.items
+        → result ≡ is_vacant survey.now.image w fs p) }
+{
+    let image = survey.image();
+    is_inside(image, p)
+        && p != root_of(image)
+        && survey.entry_at(p).is_none()
+        && !is_marked(lost, p as usize)
+}
+
+// Marks the block that header `b` names as its directory, if a directory may be made there.
+fn mark_parent(survey: &Survey<'_>, lost: &Vec<bool>, made: &mut Vec<bool>, b: u32)
+    requires sized { is_image_len (length survey.now.image) ≡ true }
+    requires inside { b < blocks survey.now.image }
+    ensures marks { OnSurvey survey.now.image (λ w fs. AreLost survey.now.image w fs lost.now.items
+        → (p : ℕ) → p < length made.old.items → has_mark made.new.items p
+        ≡ (has_mark made.old.items p || is_vacant survey.now.image w fs p && (word_in survey.now.image b PARENT == p))) }
+    ensures length { length made.new.items ≡ length made.old.items }
+{
+    let p = word_in(survey.image(), b, PARENT);
+    if is_vacant(survey, lost, p) {
+        mark(made, p as usize, true);
+    }
+}
+
+// Whether a directory is made in each block.
+fn made(alloc: Global, survey: &Survey<'_>, lost: &Vec<bool>) -> Result<Vec<bool>, NoMemory>
+    requires { is_image_len (length survey.now.image) ≡ true }
+    ensures { OnSurvey survey.now.image (λ w fs. AreLost survey.now.image w fs lost.now.items
+        → IfOk result (λ v. (p : ℕ) → has_mark v.items p ≡ is_made survey.now.image w fs p)) }
+{
+    let blocks = block_count(survey.image());
+    let Ok(mut marks) = vec![in alloc; false; blocks as usize] else {
+        return Err(NoMemory);
+    };
+    for b in 0..blocks {
+        if is_marked(lost, b as usize) {
+            mark_parent(survey, lost, &mut marks, b);
+        }
+    }
+    Ok(marks)
+}
+
+// Whether block `p` is a directory: of the survey, lost, or made.
+fn is_directory(survey: &Survey<'_>, loose: &Loose, p: u32) -> bool
+    requires sized { is_image_len (length survey.now.image) ≡ true }
+    requires inside { p < blocks survey.now.image }
+    ensures { OnSurvey survey.now.image (λ w fs. AreLoose survey.now.image w fs loose.now
+        → result ≡ is_directory survey.now.image w fs p) }
+{
+    directory_at(survey, p).is_some()
+        || is_marked(&loose.lost, p as usize) && says_directory(survey.image(), p)
+        || is_marked(&loose.made, p as usize)
+}
+
+// The home of a block that is hung.
+#[tactic(auto, unfolding(crate::specs::Hung::home))]
+fn home(survey: &Survey<'_>, loose: &Loose, b: u32) -> u32
+    requires sized { is_image_len (length survey.now.image) ≡ true }
+    requires inside { b < blocks survey.now.image }
+    ensures home { OnSurvey survey.now.image (λ w fs. AreLoose survey.now.image w fs loose.now
+        → result ≡ home survey.now.image w fs b) }
+    ensures inside { result < blocks survey.now.image }
+{
+    let image = survey.image();
+    let p = word_in(image, b, PARENT);
+    if is_marked(&loose.lost, b as usize) && is_inside(image, p) && is_directory(survey, loose, p) {
+        p
+    } else {
+        root_of(image)
+    }
+}
+
+// Makes block `b` ready: a made directory gets its header, and a lost one an empty table.
+#[tactic(auto, unfolding(crate::specs::Hung::ready_in))]
+fn ready(
+    alloc: Global,
+    survey: &Survey<'_>,
+    loose: &Loose,
+    image: &mut [u8],
+    b: u32,
+) -> Result<(), NoMemory>
+    requires sized { is_image_len (length survey.now.image) ≡ true }
+    requires same { length image.old ≡ length survey.now.image }
+    requires inside { b < blocks survey.now.image }
+    ensures { OnSurvey survey.now.image (λ w fs. AreLoose survey.now.image w fs loose.now
+        → OnOk result (image.new ≡ ready_in survey.now.image w fs image.old b)) }
+{
+    let given = survey.image();
+    if is_marked(&loose.made, b as usize) {
+        return make(alloc, image, root_of(given), b);
+    }
+    if is_marked(&loose.lost, b as usize) && says_directory(given, b) {
+        empty(image, b);
+    }
+    Ok(())
+}
+
+// Makes all blocks ready.
+fn ready_all(
+    alloc: Global,
+    survey: &Survey<'_>,
+    loose: &Loose,
+    image: &mut [u8],
+) -> Result<(), NoMemory>
+    requires sized { is_image_len (length survey.now.image) ≡ true }
+    requires same { image.old ≡ survey.now.image }
+    ensures { OnSurvey survey.now.image (λ w fs. AreLoose survey.now.image w fs loose.now
+        → OnOk result (image.new ≡ readied survey.now.image w fs (blocks survey.now.image))) }
+{
+    for b in 0..block_count(survey.image()) {
+        ready(alloc, survey, loose, image, b)?;
+    }
+    Ok(())
+}
+
+// Whether block `b` is hung.
+fn is_hung(loose: &Loose, b: u32) -> bool
+    ensures { (given : List ℕ) (w : List (Role × ℕ)) (fs : List FindingValue) → AreLoose given w fs loose.now
+        → result ≡ is_hung given w fs b }
+{
+    is_marked(&loose.lost, b as usize) || is_marked(&loose.made, b as usize)
+}
+
+// Hangs block `b` in its home, if it is to be.
+#[tactic(auto, unfolding(crate::specs::Hung::hung_loose))]
+fn hang_loose(survey: &Survey<'_>, loose: &Loose, image: &mut [u8], b: u32)
+    requires sized { is_image_len (length survey.now.image) ≡ true }
+    requires same { length image.old ≡ length survey.now.image }
+    requires inside { b < blocks survey.now.image }
+    ensures { OnSurvey survey.now.image (λ w fs. AreLoose survey.now.image w fs loose.now
+        → image.new ≡ hung_loose survey.now.image w fs image.old b) }
+{
+    if is_hung(loose, b) {
+        hang(image, b, home(survey, loose, b));
+    }
+}
+
+// Hangs all blocks that are to be.
+fn hang_all(survey: &Survey<'_>, loose: &Loose, image: &mut [u8])
+    requires sized { is_image_len (length survey.now.image) ≡ true }
+    requires same { length image.old ≡ length survey.now.image }
+    ensures { OnSurvey survey.now.image (λ w fs. AreLoose survey.now.image w fs loose.now
+        → image.old ≡ readied survey.now.image w fs (blocks survey.now.image)
+        → image.new ≡ hung survey.now.image w fs) }
+{
+    for b in 0..block_count(survey.image()) {
+        hang_loose(survey, loose, image, b);
+    }
+}
+
+// Changes the image of the survey to the hung image.
+fn change(
+    alloc: Global,
+    survey: &Survey<'_>,
+    loose: &Loose,
+    image: &mut [u8],
+) -> Result<(), NoMemory>
+    requires sized { is_image_len (length survey.now.image) ≡ true }
+    requires same { image.old ≡ survey.now.image }
+    ensures { OnSurvey survey.now.image (λ w fs. AreLoose survey.now.image w fs loose.now
+        → OnOk result (image.new ≡ hung survey.now.image w fs)) }
+{
+    ready_all(alloc, survey, loose, image)?;
+    hang_all(survey, loose, image);
+    Ok(())
+}
+
+// The hung image.
+fn changed(alloc: Global, survey: &Survey<'_>, loose: &Loose) -> Result<Vec<u8>, NoMemory>
+    requires { is_image_len (length survey.now.image) ≡ true }
+    ensures { OnSurvey survey.now.image (λ w fs. AreLoose survey.now.image w fs loose.now
+        → IfOk result (λ v. v.items ≡ hung survey.now.image w fs)) }
+{
+    let mut image = copied(alloc, survey.image())?;
+    change(alloc, survey, loose, &mut image)?;
+    Ok(image)
+}
+
+/// The hung image of a survey: each lost header hangs in the directory that it names, or in the root; `None` if nothing
+/// is lost. A header is lost if no entry of the survey has its block, and it says that it is one, of a directory (words
+/// 0, 1 and 127) or of a file (these, and its sum), and it is not deleted, as far as the bitmap or else its directory
+/// tells. Where a lost header names a block that is nothing else, a directory `lost-` and its number is made there.
+/// `NoMemory` if an allocation fails.
+pub fn hung(alloc: Global, survey: &Survey<'_>) -> Result<Option<Vec<u8>>, NoMemory>
+    ensures none { OnSurvey survey.now.image (λ w fs.
+        IfOk result (λ r. IsNone r ↔ (has_lost survey.now.image w fs ≡ false))) }
+    ensures hung { OnSurvey survey.now.image (λ w fs.
+        IfOk result (λ r. IfSome r (λ v. v.items ≡ hung survey.now.image w fs))) }
+{
+    if !is_image_len(survey.image().len()) {
+        return Ok(None);
+    }
+    let lost = lost(alloc, survey)?;
+    if !has_lost(survey, &lost) {
+        return Ok(None);
+    }
+    let made = made(alloc, survey, &lost)?;
+    Ok(Some(changed(alloc, survey, &Loose { lost, made })?))
+}
+
+/// What stays of the image of a survey in its hung image, if it has the length of a volume: the length; each block that
+/// is not hung, nor a home of what is; each block of an entry that is no directory; and the boot block, with the kind.
+pub fn hung_keeps()
+    ensures length { (given : List ℕ) (w : List (Role × ℕ)) (fs : List FindingValue)
+        → is_image_len (length given) ≡ true → length (hung given w fs) ≡ length given }
+    ensures blocks { (given : List ℕ) (w : List (Role × ℕ)) (fs : List FindingValue)
+        → is_image_len (length given) ≡ true → (b : ℕ) → is_hung given w fs b ≡ false
+        → ((d : ℕ) → is_hung given w fs d ≡ true → home given w fs d ≢ b)
+        → block (hung given w fs) b ≡ block given b }
+    ensures entries { (given : List ℕ) (w : List (Role × ℕ)) (fs : List FindingValue)
+        → is_image_len (length given) ≡ true → (b : ℕ) → is_some (owner w b) ≡ true
+        → directory_at given w b ≡ None → block (hung given w fs) b ≡ block given b }
+    ensures boot { (given : List ℕ) (w : List (Role × ℕ)) (fs : List FindingValue)
+        → is_image_len (length given) ≡ true → block (hung given w fs) 0 ≡ block given 0 }
+    ensures kind { (given : List ℕ) (w : List (Role × ℕ)) (fs : List FindingValue)
+        → is_image_len (length given) ≡ true → kind_of (hung given w fs) ≡ kind_of given }
+{}

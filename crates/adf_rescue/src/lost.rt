@@ -1,0 +1,242 @@
+// Lost headers: what no directory of a survey leads to any more.
+
+ghost use Rattle.std.specs.Prelude.{◌≡◌, ◌<◌, ◌≤◌, ◌+◌, ◌==◌, ◌&&◌, ◌||◌, ◌↔◌, ℕ, List, Bool, not, cond, true, length, IfOk};
+ghost use Rattle.adf_blocks.specs.Sizes.{blocks};
+ghost use Rattle.adf_volume.specs.Image.{word_in};
+ghost use Rattle.adf_volume.specs.Start.{is_image_len};
+ghost use Rattle.adf_volume.specs.Walk.{heads};
+ghost use Rattle.adf_findings.specs.Concerned.{concern_of_nth};
+ghost use Rattle.adf_findings.specs.Found.{parent_node};
+ghost use Rattle.adf_findings.specs.Marks.{has_mark};
+ghost use Rattle.adf_findings.specs.Survey.{OnSurvey};
+ghost use Rattle.adf_rescue.specs.Lost.{AreEntered, AreLost, AreSettled, bit_told, directory_at, directory_in, has_free_data, is_denied, is_freed, is_unfound, is_directory_at, is_inside, is_lost, is_told_free, is_told_used, says_directory, says_header};
+
+use crate::image::{block_count, block_in, root_of};
+use crate::opened::says_file;
+use adf_blocks::{FIRST_POINTER, OWN_KEY, PARENT, SECONDARY_TYPE, SIZE, ST_DIR, T_SHORT, TYPE};
+use adf_fields::{BLOCK_LEN, NoMemory};
+use adf_findings::Survey;
+use adf_tree::Node;
+use std::alloc::Global;
+
+/// Whether a block is in range: behind the boot blocks.
+pub fn is_inside(image: &[u8], b: u32) -> bool
+    ensures { result ≡ is_inside image.now b }
+{
+    2 <= b && (b as usize) < image.len() / BLOCK_LEN
+}
+
+/// Word `i` of block `b`.
+pub fn word_in(image: &[u8], b: u32, i: usize) -> u32
+    requires inside { b < blocks image.now }
+    requires word { i < 128 }
+    ensures { result ≡ word_in image.now b i }
+{
+    block_in(image, b as usize).word(i)
+}
+
+/// Whether block `b` says that it is a directory's header.
+pub fn says_directory(image: &[u8], b: u32) -> bool
+    requires { b < blocks image.now }
+    ensures { result ≡ says_directory image.now b }
+{
+    let block = block_in(image, b as usize);
+    block.word(TYPE) == T_SHORT && block.word(OWN_KEY) == b && block.word(SECONDARY_TYPE) == ST_DIR
+}
+
+// Whether block `b` says that it is a header.
+fn says_header(image: &[u8], b: u32) -> bool
+    requires { b < blocks image.now }
+    ensures { result ≡ says_header image.now b }
+{
+    says_directory(image, b) || says_file(image, b as usize)
+}
+
+// What the bitmap tells of a block: whether it is free.
+#[tactic(auto)]
+fn bit_told(survey: &Survey<'_>, b: u32) -> Option<bool>
+    ensures { OnSurvey survey.now.image (λ w _. result ≡ bit_told survey.now.image w b) }
+{
+    survey.is_free(b)
+}
+
+// Whether the bitmap tells that a block is free.
+fn is_told_free(survey: &Survey<'_>, b: u32) -> bool
+    ensures { OnSurvey survey.now.image (λ w _. result ≡ is_told_free survey.now.image w b) }
+{
+    bit_told(survey, b).unwrap_or(false)
+}
+
+// Whether the bitmap tells that a block is in use.
+fn is_told_used(survey: &Survey<'_>, b: u32) -> bool
+    ensures { OnSurvey survey.now.image (λ w _. result ≡ is_told_used survey.now.image w b) }
+{
+    !bit_told(survey, b).unwrap_or(true)
+}
+
+// Whether the first data block of a file is free.
+fn has_free_data(survey: &Survey<'_>, b: u32) -> bool
+    requires { b < blocks survey.now.image }
+    ensures { OnSurvey survey.now.image (λ w _. result ≡ has_free_data survey.now.image w b) }
+{
+    let image = survey.image();
+    word_in(image, b, SECONDARY_TYPE) != ST_DIR
+        && word_in(image, b, SIZE) != 0
+        && is_told_free(survey, word_in(image, b, FIRST_POINTER))
+}
+
+// Whether an entry is a directory with its header in block `p`.
+fn is_directory_at(survey: &Survey<'_>, n: Node, p: u32) -> bool
+    ensures { OnSurvey survey.now.image (λ w _. result ≡ is_directory_at survey.now.image w n p) }
+{
+    let (Some(block), Some(head)) = (survey.block_of(n), survey.header(n)) else {
+        return false;
+    };
+    block == p && head.word(SECONDARY_TYPE) == ST_DIR
+}
+
+// An entry, if it is such a directory.
+fn directory_in(survey: &Survey<'_>, p: u32, n: Node) -> Option<Node>
+    ensures { OnSurvey survey.now.image (λ w _. result ≡ directory_in survey.now.image w p n) }
+{
+    if is_directory_at(survey, n, p) {
+        Some(n)
+    } else {
+        None
+    }
+}
+
+/// The directory of the survey whose header is block `p`; 0 for the root.
+#[tactic(auto, using(crate::proofs::LostHeaders::root_at, crate::proofs::LostHeaders::none_at, crate::proofs::LostHeaders::entry_in_it))]
+pub fn directory_at(survey: &Survey<'_>, p: u32) -> Option<Node>
+    requires { is_image_len (length survey.now.image) ≡ true }
+    ensures { OnSurvey survey.now.image (λ w _. result ≡ directory_at survey.now.image w p) }
+{
+    if p == root_of(survey.image()) {
+        return Some(Node(0));
+    }
+    match survey.entry_at(p) {
+        Some(n) => directory_in(survey, p, n),
+        None => None,
+    }
+}
+
+/// Whether something has a mark; not past the last.
+pub fn is_marked(marks: &Vec<bool>, n: usize) -> bool
+    ensures { result ≡ has_mark marks.now.items n }
+{
+    marks.get(n).copied().unwrap_or(false)
+}
+
+/// Gives something this mark; nothing past the last.
+pub fn mark(marks: &mut Vec<bool>, n: usize, is: bool)
+    ensures marks { (m : ℕ) → m < length marks.old.items
+        → has_mark marks.new.items m ≡ cond (n == m) is (has_mark marks.old.items m) }
+    ensures length { length marks.new.items ≡ length marks.old.items }
+{
+    if n < marks.len() {
+        marks[n] = is;
+    }
+}
+
+// The marks of the root and the directories that have entries.
+fn entered(alloc: Global, survey: &Survey<'_>) -> Result<Vec<bool>, NoMemory>
+    ensures { OnSurvey survey.now.image (λ w _.
+        IfOk result (λ v. AreEntered w (heads w) v.items)) }
+{
+    let entries = survey.len();
+    let Ok(mut marks) = vec![in alloc; false; entries.saturating_add(1)] else {
+        return Err(NoMemory);
+    };
+    for before in 0..entries {
+        mark(&mut marks, survey.directory_of(Node(before + 1)).0, true);
+    }
+    Ok(marks)
+}
+
+// Removes the marks of a node and its directory.
+fn strike(survey: &Survey<'_>, marks: &mut Vec<bool>, n: u32)
+    ensures marks { OnSurvey survey.now.image (λ w _. (m : ℕ) → m < length marks.old.items
+        → has_mark marks.new.items m ≡ (has_mark marks.old.items m && not ((n == m) || (parent_node w n == m)))) }
+    ensures length { length marks.new.items ≡ length marks.old.items }
+{
+    let n = n as usize;
+    mark(marks, n, false);
+    mark(marks, survey.directory_of(Node(n)).0, false);
+}
+
+/// The marks of the root and the directories that are settled.
+pub fn settled(alloc: Global, survey: &Survey<'_>) -> Result<Vec<bool>, NoMemory>
+    ensures { OnSurvey survey.now.image (λ w fs.
+        IfOk result (λ v. AreSettled w fs (length fs) v.items)) }
+{
+    let mut marks = entered(alloc, survey)?;
+    for k in 0..survey.findings().len() {
+        if let Some(concern) = survey.concern_of(k) {
+            strike(survey, &mut marks, concern.node());
+        }
+    }
+    Ok(marks)
+}
+
+// Whether the directory that a header names does not have it.
+fn is_denied(survey: &Survey<'_>, settled: &Vec<bool>, b: u32) -> bool
+    requires sized { is_image_len (length survey.now.image) ≡ true }
+    requires inside { b < blocks survey.now.image }
+    ensures { OnSurvey survey.now.image (λ w fs. AreSettled w fs (length fs) settled.now.items
+        → result ≡ is_denied survey.now.image w fs b) }
+{
+    let p = word_in(survey.image(), b, PARENT);
+    match directory_at(survey, p) {
+        Some(n) => is_marked(settled, n.0),
+        None => survey.entry_at(p).is_some(),
+    }
+}
+
+// Whether block `b` says that it is a header, and the survey has no entry there.
+fn is_unfound(survey: &Survey<'_>, b: u32) -> bool
+    requires { b < blocks survey.now.image }
+    ensures { OnSurvey survey.now.image (λ w _. result ≡ is_unfound survey.now.image w b) }
+{
+    says_header(survey.image(), b) && survey.entry_at(b).is_none()
+}
+
+// Whether the bitmap tells that header `b` is deleted.
+fn is_freed(survey: &Survey<'_>, b: u32) -> bool
+    requires { b < blocks survey.now.image }
+    ensures { OnSurvey survey.now.image (λ w _. result ≡ is_freed survey.now.image w b) }
+{
+    is_told_free(survey, b) || has_free_data(survey, b)
+}
+
+// Whether block `b` is a lost header.
+#[tactic(auto, unfolding(crate::specs::Lost::is_lost))]
+fn is_lost(survey: &Survey<'_>, settled: &Vec<bool>, b: u32) -> bool
+    requires { is_image_len (length survey.now.image) ≡ true }
+    ensures { OnSurvey survey.now.image (λ w fs. AreSettled w fs (length fs) settled.now.items
+        → result ≡ is_lost survey.now.image w fs b) }
+{
+    is_inside(survey.image(), b)
+        && is_unfound(survey, b)
+        && !is_freed(survey, b)
+        && (is_told_used(survey, b) || !is_denied(survey, settled, b))
+}
+
+/// Whether each block is a lost header.
+pub fn lost(alloc: Global, survey: &Survey<'_>) -> Result<Vec<bool>, NoMemory>
+    requires { is_image_len (length survey.now.image) ≡ true }
+    ensures { OnSurvey survey.now.image (λ w fs.
+        IfOk result (λ v. AreLost survey.now.image w fs v.items)) }
+{
+    let settled = settled(alloc, survey)?;
+    let blocks = block_count(survey.image());
+    let Ok(mut marks) = Vec::with_capacity(alloc, blocks as usize) else {
+        return Err(NoMemory);
+    };
+    for b in 0..blocks {
+        if marks.push(is_lost(survey, &settled, b)).is_err() {
+            return Err(NoMemory);
+        }
+    }
+    Ok(marks)
+}
