@@ -17,7 +17,7 @@ use Rattle.adf_findings.proofs.Lookups.{one_first}
 use Rattle.adf_runs.specs.Commands.{Reply, on_output}
 use Rattle.adf_cmd.proofs.OneAnswer.{one_dates, refused_once}
 use Rattle.adf_survey_cmd.specs.Answers.{CopiesEntry, CopiesFound, CopiesFromSurvey, ListsSurvey, QuestionAnswer, SurveyAnswer, Surveys, TellsFound, findings_status, meant}
-use Rattle.adf_survey_cmd.specs.Rescues.{RescuesBy, RescuesFound, RescuesIn, WritesVolume, rescue_reply}
+use Rattle.adf_survey_cmd.specs.Rescues.{RescuesBy, RescuesFound, RescuesIn, WritesVolume, rescue_reply, second_image}
 use Rattle.adf_words.specs.SurveyLine.{AsksSurvey, InquiryValue, QuestionValue, cat, inquiry_of, list, report, rescue}
 use Rattle.adf_survey_cmd.specs.FoundLines.{listing_text}
 use Rattle.adf_survey_cmd.specs.Lines.{findings_text}
@@ -114,10 +114,10 @@ one_second (Some image) (Some l) (Some m) x y = ap some (one_look image l m x y)
 
 found_rescued_once : (input image : List ℕ) (w : List (Role × ℕ)) (fs : List FindingValue) (a b : Reply) → RescuesFound input image w fs a
     → RescuesFound input image w fs b → a ≡ b
-found_rescued_once input image w fs a b (sound, marks, l, second, x) (others, also, m, twice, y) =
+found_rescued_once input image w fs a b (sound, marks, (l, second, x)) (others, also, (m, twice, y)) =
     let r : (ℕ → Bool) → Look = λ s. record { image = image; walk = w; sound = s } in
     by_surveys_once input (r others) m fs a b
-    (subst (λ o. RescuesBy input (r others) o fs a) (one_second None l m second twice)
+    (subst (λ o. RescuesBy input (r others) o fs a) (one_second (second_image image w fs) l m second twice)
     (subst (λ s. RescuesBy input (r s) l fs a) (one_marks image w (grave fs) sound others marks also) x)) y
 
 rescued_once : (input image : List ℕ) (a b : Reply) → RescuesIn input image a → RescuesIn input image b → a ≡ b

@@ -1,6 +1,6 @@
 -- What a rescue answers.
 -- Letters: a the survey of an image, w its walk, fs its findings; b the second survey, if there is one; x an entry that is left out.
-use Rattle.std.specs.Prelude.{◌≡◌, ◌⊎◌, ℕ, Bool, List, [], ◌∷◌, ◌++◌, Option, None, Some, codes}
+use Rattle.std.specs.Prelude.{◌≡◌, ◌⊎◌, ℕ, Bool, List, [], ◌∷◌, ◌++◌, Option, None, Some, codes, cond}
 use Rattle.std.specs.List.{flat_map}
 use Rattle.adf_blocks.specs.Sizes.{blocks}
 use Rattle.adf_volume.specs.Walk.{Role}
@@ -9,6 +9,8 @@ use Rattle.adf_findings.specs.Lookup.{path_to}
 use Rattle.adf_findings.specs.Marked.{AreMarks}
 use Rattle.adf_findings.specs.Survey.{FindingValue, IsSurvey}
 use Rattle.adf_build.specs.Laid.{IsLaid}
+use Rattle.adf_rescue.specs.Hung.{hung}
+use Rattle.adf_rescue.specs.Lost.{has_lost}
 use Rattle.adf_rescue.specs.Opened.{is_mended, opened}
 use Rattle.adf_rescue.specs.Rescue.{IsSecond, Look, StandsNothing, rescue_leaves, rescued_tree, second_leaves}
 use Rattle.adf_rescue.specs.declared.left_out.LeftOut.{LeftOut}
@@ -58,11 +60,19 @@ abbrev pub RescuesBy : List ℕ → Look → Option Look → List FindingValue �
 RescuesBy input a b fs reply =
     (StandsNothing a b fs (is_mended input) × RefusesImage input reply) ⊎ ((¬ StandsNothing a b fs (is_mended input)) × WritesVolume a b reply)
 
+-- the second image that is surveyed: the hung one, if something is lost
+abbrev pub second_image : List ℕ → List (Role × ℕ) → List FindingValue → Option (List ℕ)
+second_image image w fs = cond (has_lost image w fs) (Some (hung image w fs)) None
+
+-- the rescue of an input by the survey of its image, and by that of a second image, if there is one
+abbrev pub RescuesBoth : List ℕ → Look → Option (List ℕ) → List FindingValue → Reply → Type 0
+RescuesBoth input a image fs reply = (b : Option Look) × IsSecond image b × RescuesBy input a b fs reply
+
 -- the rescue of an input by what is found in an image
 abbrev pub RescuesFound : List ℕ → List ℕ → List (Role × ℕ) → List FindingValue → Reply → Type 0
 RescuesFound input image w fs reply =
-    (sound : ℕ → Bool) × AreMarks image w (grave fs) sound × (b : Option Look) × IsSecond None b
-    × RescuesBy input (record { image = image; walk = w; sound = sound }) b fs reply
+    (sound : ℕ → Bool) × AreMarks image w (grave fs) sound
+    × RescuesBoth input (record { image = image; walk = w; sound = sound }) (second_image image w fs) fs reply
 
 -- the rescue of an input by the survey of an image
 abbrev pub RescuesIn : List ℕ → List ℕ → Reply → Type 0

@@ -1,6 +1,6 @@
 // The new volume of all that stands on an image, and the lines of what it leaves out.
 
-ghost use Rattle.std.specs.Prelude.{◌≡◌, ◌↔◌, ◌++◌, ℕ, List, [], Option, IfOk, IsTrue, OnOk, false, option_map};
+ghost use Rattle.std.specs.Prelude.{◌≡◌, ◌↔◌, ◌++◌, ℕ, List, [], Option, Some, IfOk, IsTrue, OnOk, false, option_map};
 ghost use Rattle.adf_tree.specs.Tree.{Tree};
 ghost use Rattle.adf_volume.specs.Fits.{Fits};
 ghost use Rattle.adf_volume.specs.Layout.{Layout};
@@ -9,12 +9,12 @@ ghost use Rattle.adf_rescue.specs.Opened.{opened};
 ghost use Rattle.adf_rescue.specs.Rescue.{IsSecond, Look, OnLook, OnSecond};
 ghost use Rattle.adf_cmd.specs.Refusals.{IsRefusedImage};
 ghost use Rattle.adf_runs.specs.Outcomes.{EndsBy, is_read_fault, is_write_fault};
-ghost use Rattle.adf_survey_cmd.specs.Rescues.{Rescues, RescuesBy, left_out_line, left_out_text, rescue_reply, second_text, why_text};
+ghost use Rattle.adf_survey_cmd.specs.Rescues.{Rescues, RescuesBoth, RescuesBy, left_out_line, left_out_text, rescue_reply, second_text, why_text};
 
 use crate::runs::push_path;
 use adf_cmd::volume_of;
 use adf_findings::{Survey, some_survey, survey};
-use adf_rescue::{LeftOut, Rescued, Why, is_mended, opened_image, rescue};
+use adf_rescue::{LeftOut, Rescued, Why, hung_image, is_mended, opened_image, rescue};
 use adf_runs::{Outcome, Sink, write_all};
 use std::alloc::{AllocError, Global};
 
@@ -163,6 +163,28 @@ fn rescue_found<W: Sink>(
     }
 }
 
+// Rescues an input by what is found in the image that it is opened as, and in the hung one.
+fn rescue_hung<W: Sink>(
+    alloc: Global,
+    input: &[u8],
+    found: &Survey<'_>,
+    hung: &[u8],
+    output: &mut W,
+) -> Outcome
+    requires works { W.has_failed output.old ≡ false }
+    requires opened { found.now.image ≡ opened input.now }
+    ensures ends { OnLook found.now.image (λ a fs.
+        EndsBy (RescuesBoth input.now a (Some hung.now) fs) result (W.held output.old) (W.held output.new)) }
+    ensures read { is_read_fault result ≡ false }
+    ensures written { W.has_failed output.new ≡ is_write_fault result }
+{
+    let Ok(second) = survey(alloc, hung) else {
+        return Outcome::NoMemory;
+    };
+    second.whole_marks();
+    rescue_found(alloc, input, found, Some(&second), output)
+}
+
 // Rescues an input by the image that it is opened as.
 fn rescue_opened<W: Sink>(alloc: Global, input: &[u8], image: &[u8], output: &mut W) -> Outcome
     requires works { W.has_failed output.old ≡ false }
@@ -175,11 +197,15 @@ fn rescue_opened<W: Sink>(alloc: Global, input: &[u8], image: &[u8], output: &mu
         return Outcome::NoMemory;
     };
     found.whole_marks();
-    rescue_found(alloc, input, &found, None, output)
+    match hung_image(alloc, &found) {
+        Ok(Some(hung)) => rescue_hung(alloc, input, &found, &hung, output),
+        Ok(None) => rescue_found(alloc, input, &found, None, output),
+        Err(_) => Outcome::NoMemory,
+    }
 }
 
-/// Writes the new volume of all that stands on an input, whose boot block and root may be overwritten; errors get a line for
-/// each entry that it leaves out. If nothing stands, and the input is not a valid volume, errors get the line of its first fault.
+/// Writes the new volume of all that stands on an input, whose boot block and root may be overwritten, with what no directory
+/// leads to any more; errors get a line for each entry that it leaves out. If nothing stands, and the input is not a valid volume, errors get the line of its first fault.
 pub fn rescue_image<W: Sink>(alloc: Global, input: &[u8], output: &mut W) -> Outcome
     requires { W.has_failed output.old ≡ false }
     ensures ends { EndsBy (Rescues input.now) result (W.held output.old) (W.held output.new) }
