@@ -1,8 +1,8 @@
 -- What stays in a hung image.
 -- Letters: given the image of a survey, w its walk, fs its findings; b, c, d, p blocks; k a number of blocks; i the number of a word;
 -- x, y, z images.
-use Rattle.std.specs.Prelude.{◌==◌, ◌&&◌, ◌||◌, ◌%◌, not, Some, None, cond, is_some, replicate, slice_index}
-use Rattle.std.proofs.Common.{◌≡◌, ◌≢◌, ◌≤◌, ◌<◌, ℕ, zero, suc, ◌*◌, ◌+◌, ◌/◌, ◌^◌, Bool, true, false, List, length}
+use Rattle.std.specs.Prelude.{◌==◌, ◌&&◌, ◌||◌, ◌%◌, None, cond, is_some, replicate, slice_index}
+use Rattle.std.proofs.Common.{◌≡◌, ◌≢◌, ◌≤◌, ◌<◌, ℕ, zero, suc, ◌*◌, ◌+◌, ◌^◌, Bool, true, false, List, length}
 use Rattle.std.proofs.Common.{◌∙◌, ap, arith, inl, inr, refl, subst, sym}
 use Rattle.std.proofs.lemmas.Bool.{and_from, and_left, and_parts, and_right, cases_Bool, cond-false, cond-true, not_from_true}
 use Rattle.std.proofs.lemmas.Bool.Decides.{nat_tests}
@@ -19,7 +19,7 @@ use Rattle.adf_volume.specs.Start.{is_image_len}
 use Rattle.adf_volume.specs.Walk.{Role}
 use Rattle.adf_findings.specs.Found.{owner}
 use Rattle.adf_findings.specs.Survey.{FindingValue}
-use Rattle.adf_rescue.specs.Hung.{emptied, home, hung, hung_first, hung_in, hung_loose, is_directory, is_hung, is_made, is_named, is_vacant, made_header}
+use Rattle.adf_rescue.specs.Hung.{emptied, home, hung, hung_first, hung_in, hung_loose, is_container, is_hung, is_made, is_vacant, made_header}
 use Rattle.adf_rescue.specs.Hung.{put_in, readied, ready_in, sealed_in}
 use Rattle.adf_rescue.specs.Lost.{directory_at, is_inside, is_lost, is_unfound, says_directory, says_header}
 use Rattle.adf_rescue.proofs.HungImages.{name_is_valid}
@@ -81,8 +81,8 @@ hung_touches x b p lb lp =
 
 -- the header of a directory that is made is a block
 
-made_fits : (root p : ℕ) → root < 2 ^ 32 → p < 2 ^ 32 → FitsHead (made_header root p)
-made_fits root p r s = record { own = s; parent = r; name = name_is_valid p s; comment = omega arith; body = length-replicate {A = ℕ} SLOTS 0 }
+made_header_fits : (root p : ℕ) → root < 2 ^ 32 → p < 2 ^ 32 → FitsHead (made_header root p)
+made_header_fits root p r s = record { own = s; parent = r; name = name_is_valid p s; comment = omega arith; body = length-replicate {A = ℕ} SLOTS 0 }
 
 -- what is neither lost nor made
 
@@ -126,7 +126,7 @@ module _ (given : List ℕ) (w : List (Role × ℕ)) (fs : List FindingValue) (l
   ready_touches x b same inside = elim (cases_Bool (is_made given w fs b)) [
     | inl made ↦
         let t = written x (head_block (made_header (root_of given) b)) b (still given x b same inside)
-        (length_head_block (made_header (root_of given) b) (made_fits (root_of given) b root_small (omega (arith, inside, few)))) in
+        (length_head_block (made_header (root_of given) b) (made_header_fits (root_of given) b root_small (omega (arith, inside, few)))) in
         let is = cond-true (is_made given w fs b) (with_block x b (head_block (made_header (root_of given) b)))
         (cond (is_lost given w fs b && says_directory given b) (emptied x b) x) made in (
           ap length is ∙ t.length,
@@ -170,7 +170,7 @@ module _ (given : List ℕ) (w : List (Role × ℕ)) (fs : List FindingValue) (l
   unfolding home
   home_inside b =
       let p : ℕ = word_in given b PARENT in
-      elim (cases_Bool (is_lost given w fs b && is_inside given p && is_directory given w fs p)) [
+      elim (cases_Bool (is_lost given w fs b && is_inside given p && is_container given w fs p)) [
         | inl named ↦
             let in_range = (and_parts (is_lost given w fs b) (is_inside given p) (and_parts (is_lost given w fs b && is_inside given p) _ named).0).1 in
             let low : p < blocks given = grind (arith, nat_tests) in
@@ -217,17 +217,17 @@ module _ (given : List ℕ) (w : List (Role × ℕ)) (fs : List FindingValue) (l
   blocks_kept = (first_touches (blocks given) (omega arith)).1
 
   -- what is no directory is no home
-  no_home : (b d : ℕ) → (is_inside given b && is_directory given w fs b) ≡ false → b ≢ root_of given → home given w fs d ≢ b
+  no_home : (b d : ℕ) → (is_inside given b && is_container given w fs b) ≡ false → b ≢ root_of given → home given w fs d ≢ b
   unfolding home
   no_home b d none ne e =
       let p : ℕ = word_in given d PARENT in
-      elim (cases_Bool (is_lost given w fs d && is_inside given p && is_directory given w fs p)) [
+      elim (cases_Bool (is_lost given w fs d && is_inside given p && is_container given w fs p)) [
         | inl named ↦
             let at : p ≡ b = sym (cond-true _ p (root_of given) named) ∙ e in
-            let parts = and_parts (is_lost given w fs d && is_inside given p) (is_directory given w fs p) named in
-            let both : (is_inside given p && is_directory given w fs p) ≡ true =
-            and_from (is_inside given p) (is_directory given w fs p) (and_parts (is_lost given w fs d) (is_inside given p) parts.0).1 parts.1 in
-            let clash = subst (λ i. (is_inside given i && is_directory given w fs i) ≡ true) at both in absurd cc
+            let parts = and_parts (is_lost given w fs d && is_inside given p) (is_container given w fs p) named in
+            let both : (is_inside given p && is_container given w fs p) ≡ true =
+            and_from (is_inside given p) (is_container given w fs p) (and_parts (is_lost given w fs d) (is_inside given p) parts.0).1 parts.1 in
+            let clash = subst (λ i. (is_inside given i && is_container given w fs i) ≡ true) at both in absurd cc
         | inr other ↦ absurd (ne (sym (sym (cond-false _ p (root_of given) other) ∙ e)))
       ]
 
@@ -237,7 +237,7 @@ module _ (given : List ℕ) (w : List (Role × ℕ)) (fs : List FindingValue) (l
       let lost = owned_not_lost given w fs b owned in
       let made = owned_not_made given w fs b owned in
       let ne : b ≢ root_of given = λ e. let root = root_at given w b e in absurd cc in
-      let none : is_directory given w fs b ≡ false = λ i. is_some (no_directory i) || lost i && says_directory given b || made i in
+      let none : is_container given w fs b ≡ false = λ i. is_some (no_directory i) || lost i && says_directory given b || made i in
       blocks_kept b (λ i. lost i || made i) (λ d h. no_home b d (and_right (is_inside given b) _ none) ne)
 
   -- the boot block

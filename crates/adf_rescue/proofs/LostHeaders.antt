@@ -24,7 +24,8 @@ use Rattle.adf_findings.specs.Survey.IsSurvey.{read, unread}
 use Rattle.adf_findings.proofs.BitSteps.{at_has}
 use Rattle.adf_findings.proofs.Keys.{lacks_at, same_of_key}
 use Rattle.adf_findings.proofs.OneSurvey.{gathered}
-use Rattle.adf_rescue.specs.Lost.{AreEntered, AreSettled, bit_told, directory_at, directory_in, denies, has_entry, has_finding, is_denied, is_directory_at, is_inside, is_lost, is_of}
+use Rattle.adf_rescue.specs.Lost.{AreEntered, AreSettled, bit_told, directory_at, directory_by, denies, has_child, has_finding, is_denied}
+use Rattle.adf_rescue.specs.Lost.{is_directory_at, is_inside, is_lost, is_of}
 use Rattle.adf_rescue.specs.Lost.{is_set_in}
 use Rattle.adf_findings.specs.Surveyed.{IsBitTold}
 
@@ -99,17 +100,17 @@ pub root_at : (image : List ℕ) (w : List (Role × ℕ)) (p : ℕ) → p ≡ ro
 unfolding directory_at
 root_at image w p e = cond-true (p == root_of image) (Some 0) _ (eq-eqb p (root_of image) e)
 
-owned_at : (image : List ℕ) (w : List (Role × ℕ)) (p : ℕ) → p ≢ root_of image → directory_at image w p ≡ option_and_then (directory_in image w p) (owner w p)
+owned_at : (image : List ℕ) (w : List (Role × ℕ)) (p : ℕ) → p ≢ root_of image → directory_at image w p ≡ option_and_then (directory_by image w p) (owner w p)
 unfolding directory_at
 owned_at image w p ne = cond-false (p == root_of image) (Some 0) _ (other p (root_of image) ne)
 
 pub none_at : (image : List ℕ) (w : List (Role × ℕ)) (p : ℕ) → p ≢ root_of image → None ≡ owner w p → directory_at image w p ≡ None
-none_at image w p ne e = owned_at image w p ne ∙ ap (option_and_then (directory_in image w p)) (sym e)
+none_at image w p ne e = owned_at image w p ne ∙ ap (option_and_then (directory_by image w p)) (sym e)
 
-pub entry_in_it : (image : List ℕ) (w : List (Role × ℕ)) (p n : ℕ) → p ≢ root_of image → Some n ≡ owner w p → directory_at image w p ≡ directory_in image w p n
-entry_in_it image w p n ne e = owned_at image w p ne ∙ ap (option_and_then (directory_in image w p)) (sym e)
+pub entry_in_it : (image : List ℕ) (w : List (Role × ℕ)) (p n : ℕ) → p ≢ root_of image → Some n ≡ owner w p → directory_at image w p ≡ directory_by image w p n
+entry_in_it image w p n ne e = owned_at image w p ne ∙ ap (option_and_then (directory_by image w p)) (sym e)
 
-known : (image : List ℕ) (w : List (Role × ℕ)) (p n : ℕ) (o : Option ℕ) → option_and_then (directory_in image w p) o ≡ Some n → n ≤ heads w
+known : (image : List ℕ) (w : List (Role × ℕ)) (p n : ℕ) (o : Option ℕ) → option_and_then (directory_by image w p) o ≡ Some n → n ≤ heads w
 known image w p n None e = absurd cc
 known image w p n (Some m) e = go (is_directory_at image w m p) refl e
   where
@@ -126,14 +127,14 @@ pub directory_known : (image : List ℕ) (w : List (Role × ℕ)) (p n : ℕ) �
 unfolding directory_at
 directory_known image w p n e = go (p == root_of image) e
   where
-    go : (t : Bool) → cond t (Some 0) (option_and_then (directory_in image w p) (owner w p)) ≡ Some n → n ≤ heads w
+    go : (t : Bool) → cond t (Some 0) (option_and_then (directory_by image w p) (owner w p)) ≡ Some n → n ≤ heads w
     go true h = let zero_is : 0 ≡ n = cc in omega (arith, zero_is)
     go false h = known image w p n (owner w p) h
 
 -- the marks of those that are settled
 
 pub entered_first : (w : List (Role × ℕ)) (marks : List Bool) → length marks ≡ suc (heads w) → ((n : ℕ) → has_mark marks n ≡ false) → AreEntered w 0 marks
-unfolding has_entry
+unfolding has_child
 entered_first w marks len none = record { length = len; entry = λ n le. none n }
 
 or_cond : (a b : Bool) → cond b true a ≡ (a || b)
@@ -144,7 +145,7 @@ or_cond false false = refl
 
 pub entered_more : (w : List (Role × ℕ)) (k p : ℕ) (marks more : List Bool) → AreEntered w k marks → p ≡ parent_node w (k + 1)
     → ((m : ℕ) → m < length marks → has_mark more m ≡ cond (p == m) true (has_mark marks m)) → length more ≡ length marks → AreEntered w (k + 1) more
-unfolding has_entry
+unfolding has_child
 entered_more w k p marks more are is put len = record {
   length = len ∙ are.length;
   entry = λ n le.
@@ -159,7 +160,7 @@ and_more false f o = refl
 
 pub settled_first : (w : List (Role × ℕ)) (fs : List FindingValue) (marks : List Bool) → AreEntered w (heads w) marks → AreSettled w fs 0 marks
 unfolding has_finding
-settled_first w fs marks are = record { length = are.length; settled = λ n le. are.entry n le ∙ and_yes (has_entry w n (heads w)) }
+settled_first w fs marks are = record { length = are.length; settled = λ n le. are.entry n le ∙ and_yes (has_child w n (heads w)) }
   where
     and_yes : (a : Bool) → a ≡ (a && true)
     and_yes true = refl
@@ -174,7 +175,7 @@ settled_by w fs k marks more o are is put len = record {
   settled = λ n le.
       put n (omega (arith, are.length, le))
       ∙ ((λ i. are.settled n le i && not (is_of w n (is i)))
-      ∙ rw add-one (and_more (has_entry w n (heads w)) (has_finding w fs n k) (is_of w n (concern_of_nth w fs k))));
+      ∙ rw add-one (and_more (has_child w n (heads w)) (has_finding w fs n k) (is_of w n (concern_of_nth w fs k))));
 }
 
 pub settled_none : (w : List (Role × ℕ)) (fs : List FindingValue) (k : ℕ) (marks : List Bool) → AreSettled w fs k marks → None ≡ concern_of_nth w fs k

@@ -32,15 +32,15 @@ is_vacant given w fs p = is_inside given p && not (p == root_of given) && not (i
 abbrev pub is_made : List ℕ → List (Role × ℕ) → List FindingValue → ℕ → Bool
 is_made given w fs p = is_vacant given w fs p && is_named given w fs p (blocks given)
 
--- block p is a directory: of the survey, lost, or made
-abbrev pub is_directory : List ℕ → List (Role × ℕ) → List FindingValue → ℕ → Bool
-is_directory given w fs p = is_some (directory_at given w p) || is_lost given w fs p && says_directory given p || is_made given w fs p
+-- block p is a directory that things can be hung in: of the survey, lost, or made
+abbrev pub is_container : List ℕ → List (Role × ℕ) → List FindingValue → ℕ → Bool
+is_container given w fs p = is_some (directory_at given w p) || is_lost given w fs p && says_directory given p || is_made given w fs p
 
 -- the home of a block that is hung: of a lost header the directory that it names, if there is one; otherwise the root
 unfoldable pub home : List ℕ → List (Role × ℕ) → List FindingValue → ℕ → ℕ
 home given w fs b =
     let p = word_in given b PARENT in
-    cond (is_lost given w fs b && is_inside given p && is_directory given w fs p) p (root_of given)
+    cond (is_lost given w fs b && is_inside given p && is_container given w fs p) p (root_of given)
 
 -- block b is hung: it is lost, or made
 abbrev pub is_hung : List ℕ → List (Role × ℕ) → List FindingValue → ℕ → Bool

@@ -59,17 +59,17 @@ is_directory_at image w n p =
     nat_le 1 n && nat_le n (heads w) && (node_block w n == p) && (word_in image (node_block w n) SECONDARY_TYPE == ST_DIR)
 
 -- entry n, if it is such a directory
-abbrev pub directory_in : List ℕ → List (Role × ℕ) → ℕ → ℕ → Option ℕ
-directory_in image w p n = cond (is_directory_at image w n p) (Some n) None
+abbrev pub directory_by : List ℕ → List (Role × ℕ) → ℕ → ℕ → Option ℕ
+directory_by image w p n = cond (is_directory_at image w n p) (Some n) None
 
 -- the directory of the survey whose header is block p; 0 for the root
 unfoldable pub directory_at : List ℕ → List (Role × ℕ) → ℕ → Option ℕ
-directory_at image w p = cond (p == root_of image) (Some 0) (option_and_then (directory_in image w p) (owner w p))
+directory_at image w p = cond (p == root_of image) (Some 0) (option_and_then (directory_by image w p) (owner w p))
 
 -- one of the first k entries is in directory n
-unfoldable pub has_entry : List (Role × ℕ) → ℕ → ℕ → Bool
-has_entry w n zero = false
-has_entry w n (suc k) = has_entry w n k || (parent_node w (suc k) == n)
+unfoldable pub has_child : List (Role × ℕ) → ℕ → ℕ → Bool
+has_child w n zero = false
+has_child w n (suc k) = has_child w n k || (parent_node w (suc k) == n)
 
 -- what is concerned is node n, or an entry in it
 abbrev pub is_of : List (Role × ℕ) → ℕ → Option Concern → Bool
@@ -83,7 +83,7 @@ has_finding w fs n (suc k) = has_finding w fs n k || is_of w n (concern_of_nth w
 
 -- directory n is settled: the survey has an entry in it, and no finding is of it or of an entry in it. So all that is in it is found
 abbrev pub is_settled : List (Role × ℕ) → List FindingValue → ℕ → Bool
-is_settled w fs n = has_entry w n (heads w) && not (has_finding w fs n (length fs))
+is_settled w fs n = has_child w n (heads w) && not (has_finding w fs n (length fs))
 
 -- by the directory in block p, if it is one: it is settled; or an entry has the block, so that it is something else now
 abbrev pub denies : List (Role × ℕ) → List FindingValue → ℕ → Option ℕ → Bool
@@ -119,12 +119,12 @@ has_lost image w fs = is_image_len (length image) && lost_among image w fs (bloc
 -- the marks of the root and the entries: whether one of the first k entries is in the node
 pub record AreEntered (w : List (Role × ℕ)) (k : ℕ) (marks : List Bool) : Type 0 where
   pub length : length marks ≡ suc (heads w)
-  pub entry : (n : ℕ) → n ≤ heads w → has_mark marks n ≡ has_entry w n k
+  pub entry : (n : ℕ) → n ≤ heads w → has_mark marks n ≡ has_child w n k
 
 -- whether the node has an entry, and none of the first k findings is of it or of an entry in it
 pub record AreSettled (w : List (Role × ℕ)) (fs : List FindingValue) (k : ℕ) (marks : List Bool) : Type 0 where
   pub length : length marks ≡ suc (heads w)
-  pub settled : (n : ℕ) → n ≤ heads w → has_mark marks n ≡ (has_entry w n (heads w) && not (has_finding w fs n k))
+  pub settled : (n : ℕ) → n ≤ heads w → has_mark marks n ≡ (has_child w n (heads w) && not (has_finding w fs n k))
 
 -- the marks of the blocks: whether each is a lost header
 abbrev pub AreLost : List ℕ → List (Role × ℕ) → List FindingValue → List Bool → Type 0

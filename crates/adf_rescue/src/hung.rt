@@ -13,7 +13,8 @@ ghost use Rattle.adf_findings.specs.Marks.{has_mark};
 ghost use Rattle.adf_findings.specs.Survey.{FindingValue, IsSurvey, OnSurvey};
 ghost use Rattle.adf_rescue.specs.Lost.{AreLost, directory_at, has_lost, is_lost, lost_among};
 ghost use Rattle.adf_rescue.specs.Rescue.{lost_name};
-ghost use Rattle.adf_rescue.specs.Hung.{AreLoose, AreMade, emptied, home, hung, hung_in, hung_loose, is_directory, is_hung, is_made, is_vacant, made_header, ready_in, readied};
+ghost use Rattle.adf_rescue.specs.Hung.{AreLoose, AreMade, emptied, home, hung, hung_in, hung_loose, is_container, is_hung};
+ghost use Rattle.adf_rescue.specs.Hung.{is_made, is_vacant, made_header, ready_in, readied};
 
 use crate::image::{block_count, is_image_len, root_of};
 use crate::lost::{directory_at, is_inside, is_marked, lost, mark, says_directory, word_in};
@@ -86,7 +87,7 @@ fn make(alloc: Global, image: &mut [u8], root: u32, p: u32) -> Result<(), NoMemo
     Ok(())
 }
 
-/// The blocks that are hung: whether each is a lost header, and whether a directory is made in it.
+// The blocks that are hung: whether each is a lost header, and whether a directory is made in it.
 #[derive(Drop)]
 struct Loose {
     lost: Vec<bool>,
@@ -154,12 +155,12 @@ fn made(alloc: Global, survey: &Survey<'_>, lost: &Vec<bool>) -> Result<Vec<bool
     Ok(marks)
 }
 
-// Whether block `p` is a directory: of the survey, lost, or made.
-fn is_directory(survey: &Survey<'_>, loose: &Loose, p: u32) -> bool
+// Whether block `p` is a directory that things can be hung in: of the survey, lost, or made.
+fn is_container(survey: &Survey<'_>, loose: &Loose, p: u32) -> bool
     requires sized { is_image_len (length survey.now.image) ≡ true }
     requires inside { p < blocks survey.now.image }
     ensures { OnSurvey survey.now.image (λ w fs. AreLoose survey.now.image w fs loose.now
-        → result ≡ is_directory survey.now.image w fs p) }
+        → result ≡ is_container survey.now.image w fs p) }
 {
     directory_at(survey, p).is_some()
         || is_marked(&loose.lost, p as usize) && says_directory(survey.image(), p)
@@ -177,7 +178,7 @@ fn home(survey: &Survey<'_>, loose: &Loose, b: u32) -> u32
 {
     let image = survey.image();
     let p = word_in(image, b, PARENT);
-    if is_marked(&loose.lost, b as usize) && is_inside(image, p) && is_directory(survey, loose, p) {
+    if is_marked(&loose.lost, b as usize) && is_inside(image, p) && is_container(survey, loose, p) {
         p
     } else {
         root_of(image)

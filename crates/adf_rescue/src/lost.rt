@@ -9,7 +9,9 @@ ghost use Rattle.adf_findings.specs.Concerned.{concern_of_nth};
 ghost use Rattle.adf_findings.specs.Found.{parent_node};
 ghost use Rattle.adf_findings.specs.Marks.{has_mark};
 ghost use Rattle.adf_findings.specs.Survey.{OnSurvey};
-ghost use Rattle.adf_rescue.specs.Lost.{AreEntered, AreLost, AreSettled, bit_told, directory_at, directory_in, has_free_data, is_denied, is_freed, is_unfound, is_directory_at, is_inside, is_lost, is_told_free, is_told_used, says_directory, says_header};
+ghost use Rattle.adf_rescue.specs.Lost.{AreEntered, AreLost, AreSettled, bit_told, directory_at, directory_by, has_free_data};
+ghost use Rattle.adf_rescue.specs.Lost.{is_denied, is_directory_at, is_freed, is_inside, is_lost, is_told_free, is_told_used};
+ghost use Rattle.adf_rescue.specs.Lost.{is_unfound, says_directory, says_header};
 
 use crate::image::{block_count, block_in, root_of};
 use crate::opened::says_file;
@@ -96,8 +98,8 @@ fn is_directory_at(survey: &Survey<'_>, n: Node, p: u32) -> bool
 }
 
 // An entry, if it is such a directory.
-fn directory_in(survey: &Survey<'_>, p: u32, n: Node) -> Option<Node>
-    ensures { OnSurvey survey.now.image (λ w _. result ≡ directory_in survey.now.image w p n) }
+fn directory_by(survey: &Survey<'_>, p: u32, n: Node) -> Option<Node>
+    ensures { OnSurvey survey.now.image (λ w _. result ≡ directory_by survey.now.image w p n) }
 {
     if is_directory_at(survey, n, p) {
         Some(n)
@@ -116,7 +118,7 @@ pub fn directory_at(survey: &Survey<'_>, p: u32) -> Option<Node>
         return Some(Node(0));
     }
     match survey.entry_at(p) {
-        Some(n) => directory_in(survey, p, n),
+        Some(n) => directory_by(survey, p, n),
         None => None,
     }
 }
