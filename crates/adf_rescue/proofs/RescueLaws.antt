@@ -1,5 +1,6 @@
 -- Laws of verdicts: sound files stand, and one survey has one rescue.
-use Rattle.std.proofs.Common.{◌≡◌, ℕ, Bool, true, cond, List, [], ◌∷◌, ◌++◌, Ok, refl, ◌∙◌, ap, zero, suc}
+use Rattle.std.proofs.Common.{◌≡◌, ℕ, Bool, true, cond, List, Ok, ap, subst, sym, ◌∙◌}
+use mathlib.Core.Path.{fun_ext}
 use Rattle.std.specs.Prelude.{◌&&◌, ◌==◌}
 use Rattle.std.specs.Cmp.{both_ways}
 use Rattle.std.proofs.lemmas.Bool.{and_from, eq-eqb}
@@ -10,46 +11,47 @@ use Rattle.adf_blocks.specs.HeadBlock.{meta_told}
 use Rattle.adf_blocks.specs.Sizes.{blocks}
 use Rattle.adf_volume.specs.Image.{name_of, word_in}
 use Rattle.adf_volume.specs.Walk.{Role, node_block}
-use Rattle.adf_findings.specs.Files.{IsSoundFile, file_content, file_in}
+use Rattle.adf_findings.specs.Files.{IsSoundFile, file_content, file_in, grave}
 use Rattle.adf_findings.specs.Found.{parent_node}
 use Rattle.adf_findings.specs.Marked.{AreMarks}
-use Rattle.adf_findings.specs.Survey.{FindingValue}
-use Rattle.adf_rescue.specs.Rescue.{Verdict, at_path, body_of, body_of_type, by_body, path_by, place_of, tree_of, verdict, verdicts}
+use Rattle.adf_findings.specs.Survey.{FindingValue, IsSurvey}
+use Rattle.adf_findings.proofs.OneSurvey.{one_survey}
+use Rattle.adf_rescue.specs.Rescue.{IsLook, Look, Verdict, at_path, before_first, body_of, body_of_type, by_body, path_by, place_of, tree_of, verdict}
 
 -- a sound file stands with its content
-pub sound_stands : (image : List ℕ) (w : List (Role × ℕ)) (fs : List FindingValue) (sound : ℕ → Bool) (n : ℕ) → AreMarks image w fs sound
-    → IsSoundFile image w fs n → body_of image w sound n ≡ Ok (File (file_content (file_in image w n)))
-sound_stands image w fs sound n marks is =
-    let secondary : ℕ = word_in image (node_block w n) SECONDARY_TYPE in
-    let both : (sound n && (secondary == ST_FILE)) ≡ true =
-    and_from (sound n) (secondary == ST_FILE) ((marks n).1 is.0) (eq-eqb secondary ST_FILE is.1) in
-    ap (λ b. cond b (Ok (File (file_content (file_in image w n)))) (body_of_type secondary)) both
+pub sound_stands : (l : Look) (fs : List FindingValue) (n : ℕ) → AreMarks l.image l.walk fs l.sound → IsSoundFile l.image l.walk fs n
+    → body_of l n ≡ Ok (File (file_content (file_in l.image l.walk n)))
+sound_stands l fs n marks is =
+    let secondary : ℕ = word_in l.image (node_block l.walk n) SECONDARY_TYPE in
+    let both : (l.sound n && (secondary == ST_FILE)) ≡ true =
+    and_from (l.sound n) (secondary == ST_FILE) ((marks n).1 is.0) (eq-eqb secondary ST_FILE is.1) in
+    ap (λ b. cond b (Ok (File (file_content (file_in l.image l.walk n)))) (body_of_type secondary)) both
 
 -- so the verdict on it is that of its path
-pub sound_verdict : (image : List ℕ) (w : List (Role × ℕ)) (fs : List FindingValue) (sound : ℕ → Bool) (n : ℕ) (vs : List Verdict)
-    → AreMarks image w fs sound → IsSoundFile image w fs n
-    → verdict image w sound vs n ≡ at_path (tree_of image vs) (blocks image) (meta_told (block image (node_block w n))) (File (file_content (file_in image w n)))
-    (path_by (tree_of image vs) (place_of vs (parent_node w n)) (name_of image (node_block w n)) (node_block w n))
-sound_verdict image w fs sound n vs marks is =
-    ap (by_body image (tree_of image vs) (place_of vs (parent_node w n)) (node_block w n)) (sound_stands image w fs sound n marks is)
+pub sound_verdict : (a : Look) (fs : List FindingValue) (n : ℕ) (vs : List Verdict) → AreMarks a.image a.walk fs a.sound → IsSoundFile a.image a.walk fs n
+    → (let t = tree_of (before_first a.image) vs in verdict (before_first a.image) a vs n
+    ≡ at_path t (blocks a.image) (meta_told (block a.image (node_block a.walk n))) (File (file_content (file_in a.image a.walk n)))
+    (path_by t (place_of vs (parent_node a.walk n)) (name_of a.image (node_block a.walk n)) (node_block a.walk n)))
+sound_verdict a fs n vs marks is =
+    ap (by_body a.image (blocks a.image) (tree_of (before_first a.image) vs) (place_of vs (parent_node a.walk n)) (node_block a.walk n))
+    (sound_stands a fs n marks is)
 
 -- the marks of a survey are one function, so there is one list of verdicts
-same_marks : (image : List ℕ) (w : List (Role × ℕ)) (fs : List FindingValue) (s t : ℕ → Bool) → AreMarks image w fs s → AreMarks image w fs t
-    → (n : ℕ) → s n ≡ t n
-same_marks image w fs s t a b n = both_ways (s n) (t n) (λ h. (b n).1 ((a n).0 h)) (λ h. (a n).1 ((b n).0 h))
+pub same_look : (image : List ℕ) (w : List (Role × ℕ)) (fs : List FindingValue) (s t : ℕ → Bool) → AreMarks image w fs s → AreMarks image w fs t
+    → (let r : (ℕ → Bool) → Look = λ m. record { image = image; walk = w; sound = m } in r s ≡ r t)
+same_look image w fs s t a b =
+    let same : s ≡ t = fun_ext (λ n. both_ways (s n) (t n) (λ h. (b n).1 ((a n).0 h)) (λ h. (a n).1 ((b n).0 h))) in
+    let r : (ℕ → Bool) → Look = λ m. record { image = image; walk = w; sound = m } in
+    ap r same
 
-same_body : (image : List ℕ) (w : List (Role × ℕ)) (s t : ℕ → Bool) (n : ℕ) → s n ≡ t n → body_of image w s n ≡ body_of image w t n
-same_body image w s t n e =
-    let secondary : ℕ = word_in image (node_block w n) SECONDARY_TYPE in
-    ap (λ b. cond (b && (secondary == ST_FILE)) (Ok (File (file_content (file_in image w n)))) (body_of_type secondary)) e
-
-pub same_verdicts : (image : List ℕ) (w : List (Role × ℕ)) (fs : List FindingValue) (s t : ℕ → Bool) → AreMarks image w fs s → AreMarks image w fs t
-    → (k : ℕ) → verdicts image w s k ≡ verdicts image w t k
-same_verdicts image w fs s t a b zero = refl
-same_verdicts image w fs s t a b (suc k) =
-    let vs : List Verdict = verdicts image w s k in
-    let last : verdict image w s vs (suc k) ≡ verdict image w t vs (suc k) =
-    ap (by_body image (tree_of image vs) (place_of vs (parent_node w (suc k))) (node_block w (suc k)))
-    (same_body image w s t (suc k) (same_marks image w fs s t a b (suc k))) in
-    ap (λ v. vs ++ v ∷ []) last
-    ∙ ap (λ (us : List Verdict). us ++ verdict image w t us (suc k) ∷ []) (same_verdicts image w fs s t a b k)
+-- an image has one survey as a rescue takes it
+pub one_look : (image : List ℕ) (l m : Look) → IsLook image l → IsLook image m → l ≡ m
+one_look image l m x y =
+    let here = subst (λ i. IsSurvey i l.walk x.findings) x.of x.survey in
+    let there = subst (λ i. IsSurvey i m.walk y.findings) y.of y.survey in
+    let same = one_survey image l.walk m.walk x.findings y.findings here there in
+    let image_is : l.image ≡ m.image = x.of ∙ sym y.of in
+    let marks = subst (λ i. AreMarks i m.walk (grave y.findings) l.sound) image_is
+    (subst (λ gs. AreMarks l.image m.walk (grave gs) l.sound) same.1 (subst (λ w. AreMarks l.image w (grave x.findings) l.sound) same.0 x.marks)) in
+    let step : (i : List ℕ) (w : List (Role × ℕ)) → Look = λ i w. record { image = i; walk = w; sound = l.sound } in
+    ap (λ i. step i l.walk) image_is ∙ (ap (step m.image) same.0 ∙ same_look m.image m.walk (grave y.findings) l.sound m.sound marks y.marks)

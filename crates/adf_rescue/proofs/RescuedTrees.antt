@@ -1,21 +1,25 @@
 -- The tree of a rescue is that of its additions.
 -- Letters: b the body of an entry, or why it is left out; o a path, if there is one; x an addition.
-use Rattle.std.proofs.Common.{◌≡◌, ℕ, Bool, true, false, cond, List, [], ◌∷◌, ◌++◌, Option, Some, None, Result, Ok, Err, refl, sym, ◌∙◌, subst, zero, suc}
+use Rattle.std.proofs.Common.{◌≡◌, ℕ, Bool, true, false, cond, List, [], ◌∷◌, ◌++◌, Option, Some, None, Result, Ok, Err, refl, sym, ◌∙◌, ap, subst, zero, suc}
 use Rattle.std.specs.Prelude.{IsOk, nat_le, ◌-◌, is_ok, ◌&&◌}
 use Rattle.std.proofs.lemmas.Bool.{and_parts}
-use Rattle.std.proofs.lemmas.List.{append-nil}
+use Rattle.std.proofs.lemmas.List.{append-nil, append_assoc}
 use Rattle.std.proofs.lemmas.Option.{cond_some}
 use Rattle.adf_tree.specs.declared.entry.Body.{Body}
 use Rattle.adf_tree.specs.declared.entry.Meta.{Meta}
-use Rattle.adf_tree.specs.Additions.{Addition, IsTreeOf}
+use Rattle.adf_tree.specs.Additions.{Addition, IsTreeOf, entries_of_additions}
 use Rattle.adf_tree.specs.Texts.{is_name}
 use Rattle.adf_tree.specs.Tree.{Tree, room_for, with_entry}
 use Rattle.adf_tree.proofs.TreeOfAdditions.{grown, nothing_added}
 use Rattle.adf_build.specs.Plan.{blocks_needed}
-use Rattle.adf_volume.specs.Walk.{Role}
+use Rattle.adf_blocks.specs.Sizes.{blocks}
+use Rattle.adf_volume.specs.Walk.{heads, node_block}
+use Rattle.adf_findings.specs.Found.{owner}
 use Rattle.adf_rescue.specs.declared.left_out.Why.{Why}
 use Rattle.adf_rescue.specs.declared.left_out.Why.TheVariants.{NoRoom}
-use Rattle.adf_rescue.specs.Rescue.{Verdict, additions_of, at_path, by_body, lost_name, path_by, path_in, tree_of, verdict, verdicts}
+use Rattle.adf_rescue.specs.Rescue.{Ground, Look, Verdict, addition_of, additions_of, as_given, at_path, before_first, before_second, by_body, lost_name}
+use Rattle.adf_rescue.specs.Rescue.{path_by, path_in, rescued_additions, rescued_tree, tree_of, unless_known, verdict, verdict_anew, verdicts}
+use Rattle.adf_rescue.specs.Rescue.Verdict.{adds, knows, leaves}
 use Rattle.adf_rescue.proofs.Steps.{additions_more, tree_more}
 
 -- a path that an entry gets has room
@@ -41,41 +45,67 @@ room_by t (Some dir) name h path is =
 
 -- so has an addition
 
-fitting_is : (b : Bool) (x y : Addition) → (let v : Verdict = cond b (Ok x) (Err NoRoom) in v ≡ Ok y) → x ≡ y
+fitting_is : (b : Bool) (x y : Addition) → (let v : Verdict = cond b (adds x) (leaves NoRoom) in v ≡ adds y) → x ≡ y
 fitting_is true x y h = cc
 fitting_is false x y h = absurd cc
 
 room_at_path : (t : Tree) (n : ℕ) (meta : Meta) (body : Body) (o : Option (List (List ℕ))) (x : Addition)
-    → ((p : List (List ℕ)) → o ≡ Some p → IsOk (room_for t.entries p)) → at_path t n meta body o ≡ Ok x → IsOk (room_for t.entries x.path)
+    → ((p : List (List ℕ)) → o ≡ Some p → IsOk (room_for t.entries p)) → at_path t n meta body o ≡ adds x → IsOk (room_for t.entries x.path)
 room_at_path t n meta body None x room h = absurd cc
 room_at_path t n meta body (Some path) x room h =
     let y : Addition = record { path = path; meta = meta; body = body } in
     let same = fitting_is (nat_le (blocks_needed (with_entry t path meta body) n) (n - 2)) y x h in
     subst (λ (z : Addition). IsOk (room_for t.entries z.path)) same (room path refl)
 
-room_of_verdict : (image : List ℕ) (t : Tree) (dir : Option (List (List ℕ))) (h : ℕ) (b : Result Body Why) (x : Addition)
-    → by_body image t dir h b ≡ Ok x → IsOk (room_for t.entries x.path)
-room_of_verdict image t dir h (Err why) x is = absurd cc
-room_of_verdict image t dir h (Ok body) x is = room_at_path t _ _ body _ x (room_by t dir _ h) is
+room_of_body : (image : List ℕ) (n : ℕ) (t : Tree) (dir : Option (List (List ℕ))) (h : ℕ) (b : Result Body Why) (x : Addition)
+    → by_body image n t dir h b ≡ adds x → IsOk (room_for t.entries x.path)
+room_of_body image n t dir h (Err why) x is = absurd cc
+room_of_body image n t dir h (Ok body) x is = room_at_path t n _ body _ x (room_by t dir _ h) is
+
+room_unless : (g : Ground) (o : Option ℕ) (v : Verdict) (t : Tree) (x : Addition) → ((y : Addition) → v ≡ adds y → IsOk (room_for t.entries y.path))
+    → unless_known g o v ≡ adds x → IsOk (room_for t.entries x.path)
+room_unless g None v t x room is = room x is
+room_unless g (Some m) v t x room is = absurd cc
+
+room_of_verdict : (g : Ground) (l : Look) (vs : List Verdict) (n : ℕ) (x : Addition) → verdict g l vs n ≡ adds x
+    → IsOk (room_for (tree_of g vs).entries x.path)
+room_of_verdict g l vs n x is =
+    room_unless g (owner g.walk (node_block l.walk n)) (verdict_anew g l vs n) (tree_of g vs) x (room_of_body l.image (blocks g.given) (tree_of g vs) _ _ _) is
 
 -- one more verdict
-grown_by : (image : List ℕ) (vs : List Verdict) (v : Verdict) → IsTreeOf (tree_of image vs).entries (additions_of vs)
-    → ((x : Addition) → v ≡ Ok x → IsOk (room_for (tree_of image vs).entries x.path))
-    → IsTreeOf (tree_of image (vs ++ v ∷ [])).entries (additions_of (vs ++ v ∷ []))
-grown_by image vs (Err why) h room =
-    let v : Verdict = Err why in
-    let same : additions_of (vs ++ v ∷ []) ≡ additions_of vs = additions_more vs v ∙ append-nil (additions_of vs) in
-    rw same h
-grown_by image vs (Ok x) h room =
-    let v : Verdict = Ok x in
-    let behind : Tree = with_entry (tree_of image vs) x.path x.meta x.body in
-    subst (λ (t : Tree). IsTreeOf t.entries (additions_of (vs ++ v ∷ []))) (sym (tree_more image vs x))
-    (subst (λ (xs : List Addition). IsTreeOf behind.entries xs) (sym (additions_more vs v))
-    (grown (tree_of image vs).entries (additions_of vs) x h (room x refl)))
 
-pub tree_of_verdicts : (image : List ℕ) (w : List (Role × ℕ)) (sound : ℕ → Bool) (k : ℕ)
-    → IsTreeOf (tree_of image (verdicts image w sound k)).entries (additions_of (verdicts image w sound k))
-tree_of_verdicts image w sound zero = nothing_added
-tree_of_verdicts image w sound (suc k) =
-    let vs : List Verdict = verdicts image w sound k in
-    grown_by image vs (verdict image w sound vs (suc k)) (tree_of_verdicts image w sound k) (room_of_verdict image (tree_of image vs) _ _ _)
+nothing_more : (g : Ground) (vs : List Verdict) (v : Verdict) → addition_of v ≡ [] → IsTreeOf (tree_of g vs).entries (additions_of g.verdicts ++ additions_of vs)
+    → IsTreeOf (tree_of g (vs ++ v ∷ [])).entries (additions_of g.verdicts ++ additions_of (vs ++ v ∷ []))
+nothing_more g vs v none h =
+    let same : additions_of (vs ++ v ∷ []) ≡ additions_of vs = additions_more vs v ∙ (ap (λ xs. additions_of vs ++ xs) none ∙ append-nil (additions_of vs)) in
+    rw same h
+
+grown_by : (g : Ground) (vs : List Verdict) (v : Verdict) → IsTreeOf (tree_of g vs).entries (additions_of g.verdicts ++ additions_of vs)
+    → ((x : Addition) → v ≡ adds x → IsOk (room_for (tree_of g vs).entries x.path))
+    → IsTreeOf (tree_of g (vs ++ v ∷ [])).entries (additions_of g.verdicts ++ additions_of (vs ++ v ∷ []))
+grown_by g vs (leaves why) h room = nothing_more g vs (leaves why) refl h
+grown_by g vs (knows place) h room = nothing_more g vs (knows place) refl h
+grown_by g vs (adds x) h room =
+    let v : Verdict = adds x in
+    let behind : Tree = with_entry (tree_of g vs) x.path x.meta x.body in
+    let all : additions_of g.verdicts ++ additions_of (vs ++ v ∷ []) ≡ (additions_of g.verdicts ++ additions_of vs) ++ x ∷ [] =
+    ap (λ xs. additions_of g.verdicts ++ xs) (additions_more vs v) ∙ sym (append_assoc (additions_of g.verdicts) (additions_of vs) (x ∷ [])) in
+    subst (λ (t : Tree). IsTreeOf t.entries (additions_of g.verdicts ++ additions_of (vs ++ v ∷ []))) (sym (tree_more g vs x))
+    (subst (λ (xs : List Addition). IsTreeOf behind.entries xs) (sym all)
+    (grown (tree_of g vs).entries (additions_of g.verdicts ++ additions_of vs) x h (room x refl)))
+
+nothing_yet : (g : Ground) → IsTreeOf (entries_of_additions (additions_of g.verdicts)) (additions_of g.verdicts)
+    → IsTreeOf (tree_of g []).entries (additions_of g.verdicts ++ additions_of [])
+nothing_yet g h = let same : additions_of g.verdicts ++ [] ≡ additions_of g.verdicts = append-nil (additions_of g.verdicts) in rw same h
+
+tree_of_verdicts : (g : Ground) (l : Look) (k : ℕ) → IsTreeOf (entries_of_additions (additions_of g.verdicts)) (additions_of g.verdicts)
+    → IsTreeOf (tree_of g (verdicts g l k)).entries (additions_of g.verdicts ++ additions_of (verdicts g l k))
+tree_of_verdicts g l zero h = nothing_yet g h
+tree_of_verdicts g l (suc k) h =
+    let vs : List Verdict = verdicts g l k in
+    grown_by g vs (verdict g l vs (suc k)) (tree_of_verdicts g l k h) (room_of_verdict g l vs (suc k))
+
+pub tree_of_rescue : (a : Look) (b : Option Look) → IsTreeOf (rescued_tree a b).entries (rescued_additions a b)
+tree_of_rescue a None = nothing_yet (before_second a) (tree_of_verdicts (before_first a.image) a (heads a.walk) nothing_added)
+tree_of_rescue a (Some b) =
+    tree_of_verdicts (before_second a) (as_given a.image b) (heads b.walk) (tree_of_verdicts (before_first a.image) a (heads a.walk) nothing_added)

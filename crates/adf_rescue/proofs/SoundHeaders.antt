@@ -33,7 +33,7 @@ use Rattle.adf_findings.proofs.Keeping.{parent_is}
 use Rattle.adf_findings.proofs.Lookups.{header_at}
 use Rattle.adf_rescue.specs.declared.left_out.Why.{Why}
 use Rattle.adf_rescue.specs.declared.left_out.Why.TheVariants.{Damaged, Link}
-use Rattle.adf_rescue.specs.Rescue.{body_of, body_of_type}
+use Rattle.adf_rescue.specs.Rescue.{Look, body_of, body_of_type}
 
 -- texts within their fields are told whole
 
@@ -78,32 +78,33 @@ by_type secondary x = cond x (Ok Dir) (Err (cond (is_link secondary) Link Damage
 abbrev dir_or : Body → Bool → Result Body Why
 dir_or file x = Ok (cond x Dir file)
 
-body_stands : (image : List ℕ) (w : List (Role × ℕ)) (sound : ℕ → Bool) (n : ℕ) → sound n ≡ true
-    → (word_in image (node_block w n) SECONDARY_TYPE ≡ ST_DIR) ⊎ (word_in image (node_block w n) SECONDARY_TYPE ≡ ST_FILE)
-    → body_of image w sound n ≡ Ok (body_in image w n (node_block w n))
-body_stands image w sound n s (inl dir) =
-    let t : ℕ = word_in image (node_block w n) SECONDARY_TYPE in
-    let file : Body = File (content image (kind_of image) (node_block w n) (datas_in w n)) in
+body_stands : (l : Look) (n : ℕ) → l.sound n ≡ true
+    → (word_in l.image (node_block l.walk n) SECONDARY_TYPE ≡ ST_DIR) ⊎ (word_in l.image (node_block l.walk n) SECONDARY_TYPE ≡ ST_FILE)
+    → body_of l n ≡ Ok (body_in l.image l.walk n (node_block l.walk n))
+body_stands l n s (inl dir) =
+    let t : ℕ = word_in l.image (node_block l.walk n) SECONDARY_TYPE in
+    let file : Body = File (content l.image (kind_of l.image) (node_block l.walk n) (datas_in l.walk n)) in
     let is : (t == ST_DIR) ≡ true = eq-eqb t ST_DIR dir in
-    let no : (t == ST_FILE) ≡ false = ne_eqb t ST_FILE (λ e. dir_not_file image (node_block w n) dir e) in
-    ap (file_or t file) (and_right (sound n) (t == ST_FILE) no) ∙ (ap (by_type t) is ∙ sym (ap (dir_or file) is))
-body_stands image w sound n s (inr one) =
-    let t : ℕ = word_in image (node_block w n) SECONDARY_TYPE in
-    let file : Body = File (content image (kind_of image) (node_block w n) (datas_in w n)) in
+    let no : (t == ST_FILE) ≡ false = ne_eqb t ST_FILE (λ e. dir_not_file l.image (node_block l.walk n) dir e) in
+    ap (file_or t file) (and_right (l.sound n) (t == ST_FILE) no) ∙ (ap (by_type t) is ∙ sym (ap (dir_or file) is))
+body_stands l n s (inr one) =
+    let t : ℕ = word_in l.image (node_block l.walk n) SECONDARY_TYPE in
+    let file : Body = File (content l.image (kind_of l.image) (node_block l.walk n) (datas_in l.walk n)) in
     let is : (t == ST_FILE) ≡ true = eq-eqb t ST_FILE one in
-    let no : (t == ST_DIR) ≡ false = ne_eqb t ST_DIR (λ e. dir_not_file image (node_block w n) e one) in
-    ap (file_or t file) (and_from (sound n) (t == ST_FILE) s is) ∙ sym (ap (dir_or file) no)
+    let no : (t == ST_DIR) ≡ false = ne_eqb t ST_DIR (λ e. dir_not_file l.image (node_block l.walk n) e one) in
+    ap (file_or t file) (and_from (l.sound n) (t == ST_FILE) s is) ∙ sym (ap (dir_or file) no)
 
 -- what a survey tells of node n is this entry
-pub record IsToldAs (image : List ℕ) (w : List (Role × ℕ)) (sound : ℕ → Bool) (n : ℕ) (e : Entry) : Type 0 where
-  pub parent : parent_node w n ≡ e.parent
-  pub name : name_of image (node_block w n) ≡ e.name
+pub record IsToldAs (a : Look) (n : ℕ) (e : Entry) : Type 0 where
+  pub parent : parent_node a.walk n ≡ e.parent
+  pub name : name_of a.image (node_block a.walk n) ≡ e.name
   pub valid : is_name e.name ≡ true
-  pub meta : meta_told (block image (node_block w n)) ≡ e.meta
-  pub body : body_of image w sound n ≡ Ok e.body
+  pub meta : meta_told (block a.image (node_block a.walk n)) ≡ e.meta
+  pub body : body_of a n ≡ Ok e.body
 
 pub told : (image : List ℕ) (w : List (Role × ℕ)) (fs : List FindingValue) (sound : ℕ → Bool) → IsSurvey image w fs → fs ≡ [] → AreMarks image w fs sound
-    → IsWalk image w → (i : ℕ) → i < heads w → (e : Entry) × At (entries_in image w w) i e × IsToldAs image w sound (suc i) e
+    → IsWalk image w → (i : ℕ) → i < heads w
+    → (e : Entry) × At (entries_in image w w) i e × IsToldAs (record { image = image; walk = w; sound = sound }) (suc i) e
 told image w fs sound survey clean marks v i lt =
     let b : ℕ = node_block w (suc i) in
     let h : HeadAt w (suc i) b = header_at image w fs survey (suc i) (omega arith) (omega arith) in
@@ -117,6 +118,6 @@ told image w fs sound survey clean marks v i lt =
         name = refl;
         valid = name_valid image (kind_of image) b up.0 h.slot form;
         meta = meta_whole image (kind_of image) b up.0 h.slot form;
-        body = body_stands image w sound (suc i) is (head_type image (kind_of image) b up.0 h.slot form);
+        body = body_stands (record { image = image; walk = w; sound = sound }) (suc i) is (head_type image (kind_of image) b up.0 h.slot form);
       },
     )

@@ -1,7 +1,7 @@
 -- The state of a rescue after one more verdict.
 use Rattle.std.proofs.Common.{add-one, ◌≢◌, ◌==◌, map, ◌≡◌, ℕ, ◌+◌, ◌-◌, ◌<◌, ◌≤◌, inl, inr, List, [], ◌∷◌, ◌++◌}
-use Rattle.std.proofs.Common.{Option, Some, None, Result, Ok, Err, length, get_or, arith, refl, sym, ◌∙◌, ap, subst, zero, suc}
-use Rattle.std.specs.Prelude.{IfOk, OnOk, slice_get, cond, true, false, Bool, min, ◌^◌}
+use Rattle.std.proofs.Common.{Option, Some, None, Result, Ok, Err, length, get_or, arith, refl, sym, ◌∙◌, ap, subst, zero, suc, length-append}
+use Rattle.std.specs.Prelude.{IfOk, OnOk, cond, true, false, min, ◌^◌}
 use Rattle.std.proofs.lemmas.Bool.{cases_lt, eqb-true, le-leb, lt-leb}
 use Rattle.std.proofs.lemmas.List.Sums.{fold_push}
 use Rattle.std.proofs.lemmas.Grind.{flat_map-append}
@@ -20,16 +20,21 @@ use Rattle.adf_blocks.specs.Sizes.{blocks, is_allowed}
 use Rattle.adf_build.specs.Building.{IsBuildable}
 use Rattle.adf_findings.specs.declared.part.Finding.{Finding}
 use Rattle.adf_findings.specs.Parts.{finding_value}
-use Rattle.adf_findings.specs.Survey.{FindingValue}
+use Rattle.adf_findings.specs.Survey.{Course, FindingValue, IsCourse, IsSurvey, UnreadTells, finding}
+use Rattle.adf_findings.specs.Survey.IsCourse.{start, step}
+use Rattle.adf_findings.specs.Survey.IsSurvey.{read, unread}
+use Rattle.adf_findings.specs.Survey.JudgementValue.{clean, noted, passed}
+use Rattle.adf_findings.specs.Survey.UnreadTells.{bad_boot, bad_root}
 use Rattle.adf_volume.specs.Image.{name_of}
 use Rattle.adf_volume.proofs.Lists.{get_before, get_last}
 use Rattle.adf_volume.specs.Walk.{Role, heads, node_block}
-use Rattle.adf_findings.specs.Found.{parent_node}
+use Rattle.adf_findings.specs.Found.{owner, parent_node}
 use Rattle.adf_build.specs.Plan.{blocks_needed, entries_blocks, reserved}
 use Rattle.adf_rescue.specs.declared.left_out.Why.{Why}
 use Rattle.adf_rescue.specs.declared.salvage.Salvage.{Salvage}
-use Rattle.adf_rescue.specs.Rescue.{Verdict, addition_of, additions_of, at_path, body_of, by_body, directory_in, fitting}
-use Rattle.adf_rescue.specs.Rescue.{left_out_by, left_out_from, path_by, path_for, place_of, tree_of, verdict, verdicts}
+use Rattle.adf_rescue.specs.Rescue.{Ground, IsSecond, Look, OnLook, Verdict, addition_of, additions_of, at_path, body_of, by_body, directory_in, fitting}
+use Rattle.adf_rescue.specs.Rescue.{left_out_by, left_out_from, path_by, path_for, place_of, tree_of, unless_known, verdict, verdict_anew, verdicts}
+use Rattle.adf_rescue.specs.Rescue.Verdict.{adds, leaves}
 use Rattle.adf_rescue.specs.Salvage.{IsNext, IsPlace, IsRoomOf, IsSalvage, entry_cost, free_blocks}
 use Rattle.adf_rescue.specs.declared.left_out.Why.TheVariants.{NoRoom}
 use Rattle.adf_rescue.proofs.TreeBlocks.{added_blocks}
@@ -91,28 +96,35 @@ pub room_in_place : {E : Type 0} (d : DraftValue) (t : Tree) (o : Option (List (
 room_in_place d t None m name own b h r tree place e1 e2 found = absurd place
 room_in_place d t (Some dir) m name own b h r tree place e1 e2 found = rw (← tree, ← e1, ← e2) (found dir place)
 
--- the verdict on an entry that stands, by its path
-module _ (image : List ℕ) (w : List (Role × ℕ)) (sound : ℕ → Bool) (vs : List Verdict) (n : ℕ) (body : Body)
-    (stands : body_of image w sound n ≡ Ok body) where
-  abbrev path_of_entry : Option (List (List ℕ))
-  path_of_entry = path_by (tree_of image vs) (place_of vs (parent_node w n)) (name_of image (node_block w n)) (node_block w n)
+-- the verdict on an entry that is not known and stands, by its path
+module _ (g : Ground) (l : Look) (vs : List Verdict) (n : ℕ) (new : owner g.walk (node_block l.walk n) ≡ None) where
+  pub anew : verdict g l vs n ≡ verdict_anew g l vs n
+  anew = ap (λ o. unless_known g o (verdict_anew g l vs n)) new
 
-  on_path : verdict image w sound vs n ≡ at_path (tree_of image vs) (blocks image) (meta_told (block image (node_block w n))) body path_of_entry
-  on_path = ap (by_body image (tree_of image vs) (place_of vs (parent_node w n)) (node_block w n)) stands
+  pub verdict_err : (why : Why) → body_of l n ≡ Err why → verdict g l vs n ≡ leaves why
+  verdict_err why falls =
+      anew ∙ ap (by_body l.image (blocks g.given) (tree_of g vs) (place_of vs (parent_node l.walk n)) (node_block l.walk n)) falls
 
-  pub verdict_at : (path : List (List ℕ)) (meta : Meta) → path_of_entry ≡ Some path → meta ≡ meta_told (block image (node_block w n))
-      → verdict image w sound vs n ≡ fitting (tree_of image vs) (blocks image) (record { path = path; meta = meta; body = body })
-  verdict_at path meta at same =
-      on_path ∙ (ap (at_path (tree_of image vs) (blocks image) (meta_told (block image (node_block w n))) body) at
-      ∙ ap (λ (m : Meta). fitting (tree_of image vs) (blocks image) (record { path = path; meta = m; body = body })) (sym same))
+  module _ (body : Body) (stands : body_of l n ≡ Ok body) where
+    abbrev path_of_entry : Option (List (List ℕ))
+    path_of_entry = path_by (tree_of g vs) (place_of vs (parent_node l.walk n)) (name_of l.image (node_block l.walk n)) (node_block l.walk n)
 
-  pub verdict_none : path_of_entry ≡ None → verdict image w sound vs n ≡ Err NoRoom
-  verdict_none at = on_path ∙ ap (at_path (tree_of image vs) (blocks image) (meta_told (block image (node_block w n))) body) at
+    on_path : verdict g l vs n ≡ at_path (tree_of g vs) (blocks g.given) (meta_told (block l.image (node_block l.walk n))) body path_of_entry
+    on_path = anew ∙ ap (by_body l.image (blocks g.given) (tree_of g vs) (place_of vs (parent_node l.walk n)) (node_block l.walk n)) stands
+
+    pub verdict_at : (path : List (List ℕ)) (meta : Meta) → path_of_entry ≡ Some path → meta ≡ meta_told (block l.image (node_block l.walk n))
+        → verdict g l vs n ≡ fitting (tree_of g vs) (blocks g.given) (record { path = path; meta = meta; body = body })
+    verdict_at path meta at same =
+        on_path ∙ (ap (at_path (tree_of g vs) (blocks g.given) (meta_told (block l.image (node_block l.walk n))) body) at
+        ∙ ap (λ (m : Meta). fitting (tree_of g vs) (blocks g.given) (record { path = path; meta = m; body = body })) (sym same))
+
+    pub verdict_none : path_of_entry ≡ None → verdict g l vs n ≡ leaves NoRoom
+    verdict_none at = on_path ∙ ap (at_path (tree_of g vs) (blocks g.given) (meta_told (block l.image (node_block l.walk n))) body) at
 
 -- the place of an addition
 pub new_place : (d : DraftValue) (path : List (List ℕ)) (meta : Meta) (body : Body) (m : ℕ) (place : Option ℕ)
     → place ≡ cond (is_dir_body body) (Some m) None → (body ≡ Dir → IsDirectoryOf d path m)
-    → IsPlace d (directory_in (Ok (record { path = path; meta = meta; body = body }))) place
+    → IsPlace d (directory_in (adds (record { path = path; meta = meta; body = body }))) place
 new_place d path meta Dir m place is dir = rw is (dir refl)
 new_place d path meta (File bytes) m place is dir = rw is tt
 
@@ -120,31 +132,35 @@ pub on_ok_then : {T E : Type 0} (r : Result T E) {P Q : Type 0} → OnOk r P →
 on_ok_then (Ok x) p f = f p
 on_ok_then (Err e) p f = tt
 
--- an entry is left out
-pub left_more : (image : List ℕ) (vs : List Verdict) (r s : Salvage) (n : ℕ) (why : Why) → IsSalvage image vs r → n ≡ length vs + 1
-    → s.draft ≡ r.draft → s.kind ≡ r.kind → s.left ≡ r.left → s.places.items ≡ r.places.items ++ None ∷ []
-    → s.left_out.items ≡ r.left_out.items ++ record { entry = n; why = why } ∷ []
-    → IsSalvage image (vs ++ Err why ∷ []) s
-left_more image vs r s n why is at d k l ps out =
-    let same : additions_of (vs ++ Err why ∷ []) ≡ additions_of vs = additions_more vs (Err why) ∙ append-nil (additions_of vs) in
+-- an entry adds nothing
+pub none_more : (g : Ground) (vs : List Verdict) (r s : Salvage) (n : ℕ) (v : Verdict) (place : Option ℕ) → IsSalvage g vs r → n ≡ length vs + 1
+    → addition_of v ≡ [] → IsPlace r.draft (directory_in v) place
+    → s.draft ≡ r.draft → s.kind ≡ r.kind → s.known ≡ r.known → s.left ≡ r.left → s.left_before ≡ r.left_before
+    → s.places.items ≡ r.places.items ++ place ∷ [] → s.left_out.items ≡ r.left_out.items ++ left_out_by n v
+    → IsSalvage g (vs ++ v ∷ []) s
+none_more g vs r s n v place is at none new d k kn l before ps out =
+    let same : additions_of (vs ++ v ∷ []) ≡ additions_of vs = additions_more vs v ∙ (ap (λ xs. additions_of vs ++ xs) none ∙ append-nil (additions_of vs)) in
     let number : length vs + 1 ≡ n = sym at in
     record {
       tree = rw (d, same) is.tree;
       kind = k ∙ is.kind;
-      count = rw ps (omega (arith, is.count, length_push r.places.items None, length_push vs (Err why)));
+      count = rw ps (omega (arith, is.count, length_push r.places.items place, length_push vs v));
       nodes = rw (d, same) is.nodes;
-      places = rw (d, ps) (places_more r.draft vs (Err why) r.places.items None is.count is.places tt);
+      known = rw (d, kn) is.known;
+      places = rw (d, ps) (places_more r.draft vs v r.places.items place is.count is.places new);
       left = rw (d, l) is.left;
-      left_out = out ∙ (rw (is.left_out, left_out_more 1 vs (Err why), number) refl);
+      left_before = rw before is.left_before;
+      left_out = out ∙ (rw (is.left_out, left_out_more 1 vs v, number) refl);
     }
 
 -- an addition
 
-pub tree_more : (image : List ℕ) (vs : List Verdict) (x : Addition) → tree_of image (vs ++ Ok x ∷ []) ≡ with_entry (tree_of image vs) x.path x.meta x.body
-tree_more image vs x =
-    let more = additions_more vs (Ok x) in
-    let grown = fold_push with_addition [] (additions_of vs) x in
-    rw (more, grown) refl
+pub tree_more : (g : Ground) (vs : List Verdict) (x : Addition) → tree_of g (vs ++ adds x ∷ []) ≡ with_entry (tree_of g vs) x.path x.meta x.body
+tree_more g vs x =
+    let more = additions_more vs (adds x) in
+    let joined = append_assoc (additions_of g.verdicts) (additions_of vs) (x ∷ []) in
+    let grown = fold_push with_addition [] (additions_of g.verdicts ++ additions_of vs) x in
+    rw (more, ← joined, grown) refl
 
 -- blocks: `left` of `free` are left beside `used`, `real` are asked for, as `cost` tells; `most` and `fixed` are all blocks and those of no entry
 room_left : (left used free most fixed cost real : ℕ) → left + used ≡ free → free ≡ most - (1 + fixed) → left < 2 ^ 32 → cost ≡ min real (2 ^ 64 - 1)
@@ -156,15 +172,15 @@ room_short : (left used free most fixed cost real : ℕ) → left + used ≡ fre
 room_short left used free most fixed cost real all is at lt = omega arith
 
 -- an addition fits where its blocks are left, and only there
-module _ (image : List ℕ) (vs : List Verdict) (r : Salvage) (x : Addition) (is : IsSalvage image vs r) where
+module _ (g : Ground) (vs : List Verdict) (r : Salvage) (x : Addition) (is : IsSalvage g vs r) where
   abbrev before : Tree
-  before = tree_of image vs
+  before = tree_of g vs
 
   abbrev behind : Tree
-  behind = with_entry (tree_of image vs) x.path x.meta x.body
+  behind = with_entry (tree_of g vs) x.path x.meta x.body
 
-  used_before : r.left + entries_blocks before.kind before.entries ≡ free_blocks (blocks image)
-  used_before = subst (λ (t : Tree). r.left + entries_blocks t.kind t.entries ≡ free_blocks (blocks image)) is.tree is.left
+  used_before : r.left + entries_blocks before.kind before.entries ≡ free_blocks (blocks g.given)
+  used_before = subst (λ (t : Tree). r.left + entries_blocks t.kind t.entries ≡ free_blocks (blocks g.given)) is.tree is.left
 
   used_behind : entries_blocks before.kind behind.entries ≡ entries_blocks before.kind before.entries + entry_cost before.kind x.body
   used_behind = added_blocks before.kind before.entries (new_entry before.entries x.path x.meta x.body)
@@ -173,56 +189,63 @@ module _ (image : List ℕ) (vs : List Verdict) (r : Salvage) (x : Addition) (is
     real : cost ≡ min (entry_cost before.kind x.body) (2 ^ 64 - 1)
     real = at ∙ ap (λ k. min (entry_cost k x.body) (2 ^ 64 - 1)) is.kind
 
-    numbers : r.left < 2 ^ 32 → cost ≤ r.left → (1 + reserved (blocks image) + entries_blocks before.kind behind.entries ≤ blocks image - 2)
-        × (r.left - cost + entries_blocks before.kind behind.entries ≡ free_blocks (blocks image))
+    numbers : r.left < 2 ^ 32 → cost ≤ r.left → (1 + reserved (blocks g.given) + entries_blocks before.kind behind.entries ≤ blocks g.given - 2)
+        × (r.left - cost + entries_blocks before.kind behind.entries ≡ free_blocks (blocks g.given))
     numbers small le =
-        rw used_behind (room_left r.left (entries_blocks before.kind before.entries) (free_blocks (blocks image)) (blocks image - 2) (reserved (blocks image))
+        rw used_behind (room_left r.left (entries_blocks before.kind before.entries) (free_blocks (blocks g.given)) (blocks g.given - 2) (reserved (blocks g.given))
         cost (entry_cost before.kind x.body) used_before refl small real (omega arith) le)
 
-    pub fits : r.left < 2 ^ 32 → cost ≤ r.left → fitting before (blocks image) x ≡ Ok x
-    fits small le = rw (le-leb (blocks_needed behind (blocks image)) (blocks image - 2) (numbers small le).0)
+    pub fits : r.left < 2 ^ 32 → cost ≤ r.left → fitting before (blocks g.given) x ≡ adds x
+    fits small le = rw (le-leb (blocks_needed behind (blocks g.given)) (blocks g.given - 2) (numbers small le).0)
 
-    pub fits_not : r.left < cost → fitting before (blocks image) x ≡ Err NoRoom
+    pub fits_not : r.left < cost → fitting before (blocks g.given) x ≡ leaves NoRoom
     fits_not lt =
-        let short : blocks image - 2 < 1 + reserved (blocks image) + entries_blocks before.kind behind.entries =
-        rw used_behind (room_short r.left (entries_blocks before.kind before.entries) (free_blocks (blocks image)) (blocks image - 2) (reserved (blocks image))
+        let short : blocks g.given - 2 < 1 + reserved (blocks g.given) + entries_blocks before.kind behind.entries =
+        rw used_behind (room_short r.left (entries_blocks before.kind before.entries) (free_blocks (blocks g.given)) (blocks g.given - 2) (reserved (blocks g.given))
         cost (entry_cost before.kind x.body) used_before refl real lt) in
-        rw (lt-leb (blocks_needed behind (blocks image)) (blocks image - 2) short)
+        rw (lt-leb (blocks_needed behind (blocks g.given)) (blocks g.given - 2) short)
 
     -- it is added
     pub added_more : (s : Salvage) (place : Option ℕ) → r.left < 2 ^ 32 → cost ≤ r.left
         → s.draft.tree ≡ with_entry r.draft.tree x.path x.meta x.body → length s.draft.nodes ≡ length r.draft.nodes + 1
         → ((dir : List (List ℕ)) (m : ℕ) → IsDirectoryOf r.draft dir m → IsDirectoryOf s.draft dir m)
-        → IsPlace s.draft (directory_in (Ok x)) place
-        → s.kind ≡ r.kind → s.left ≡ r.left - cost → s.places.items ≡ r.places.items ++ place ∷ [] → s.left_out.items ≡ r.left_out.items
-        → IsSalvage image (vs ++ fitting before (blocks image) x ∷ []) s
-    added_more s place small le tree nodes dirs new k l ps out =
-        let v : Verdict = Ok x in
+        → IsPlace s.draft (directory_in (adds x)) place
+        → s.kind ≡ r.kind → s.left ≡ r.left - cost → s.places.items ≡ r.places.items ++ place ∷ [] → s.left_out.items ≡ r.left_out.items → s.known ≡ r.known → s.left_before ≡ r.left_before
+        → IsSalvage g (vs ++ fitting before (blocks g.given) x ∷ []) s
+    added_more s place small le tree nodes dirs new k l ps out kn before_out =
+        let v : Verdict = adds x in
         let grown : s.draft.tree ≡ behind = tree ∙ ap (λ (t : Tree). with_entry t x.path x.meta x.body) is.tree in
         rw (fits small le) (record {
-          tree = grown ∙ sym (tree_more image vs x);
+          tree = grown ∙ sym (tree_more g vs x);
           kind = k ∙ is.kind;
           count = rw ps (omega (arith, is.count, length_push r.places.items place, length_push vs v));
-          nodes = rw (nodes, is.nodes, additions_more vs v) (sym (length_push (additions_of vs) x));
+          nodes = rw (nodes, is.nodes, additions_more vs v)
+              (omega (
+                arith,
+                length-append (additions_of g.verdicts) (additions_of vs),
+                length-append (additions_of g.verdicts) (additions_of vs ++ x ∷ []),
+                length_push (additions_of vs) x,
+              ));
+          known = rw kn (λ m. kept_place r.draft s.draft dirs (place_of g.verdicts m) (get_or r.known.items m None) (is.known m));
           places = rw ps (places_more s.draft vs v r.places.items place is.count
               (λ p. kept_place r.draft s.draft dirs (place_of vs p) (get_or r.places.items p None) (is.places p)) new);
-          left = subst (λ (t : Tree). s.left + entries_blocks t.kind t.entries ≡ free_blocks (blocks image)) (sym grown) (rw l (numbers small le).1);
+          left = subst (λ (t : Tree). s.left + entries_blocks t.kind t.entries ≡ free_blocks (blocks g.given)) (sym grown) (rw l (numbers small le).1);
+          left_before = rw before_out is.left_before;
           left_out = out ∙ (is.left_out ∙ (sym (append-nil (left_out_from 1 vs)) ∙ sym (left_out_more 1 vs v)));
         })
 
 -- the verdicts on all entries up to one
-pub verdicts_more : (image : List ℕ) (w : List (Role × ℕ)) (sound : ℕ → Bool) (k : ℕ)
-    → verdicts image w sound (k + 1) ≡ verdicts image w sound k ++ verdict image w sound (verdicts image w sound k) (k + 1) ∷ []
-verdicts_more image w sound k = rw add-one refl
+pub verdicts_more : (g : Ground) (l : Look) (k : ℕ) → verdicts g l (k + 1) ≡ verdicts g l k ++ verdict g l (verdicts g l k) (k + 1) ∷ []
+verdicts_more g l k = rw add-one refl
 
-verdicts_count : (image : List ℕ) (w : List (Role × ℕ)) (sound : ℕ → Bool) (k : ℕ) → length (verdicts image w sound k) ≡ k
-verdicts_count image w sound zero = refl
-verdicts_count image w sound (suc k) =
-    let vs : List Verdict = verdicts image w sound k in
-    omega (arith, length_push vs (verdict image w sound vs (suc k)), verdicts_count image w sound k)
+verdicts_count : (g : Ground) (l : Look) (k : ℕ) → length (verdicts g l k) ≡ k
+verdicts_count g l zero = refl
+verdicts_count g l (suc k) =
+    let vs : List Verdict = verdicts g l k in
+    omega (arith, length_push vs (verdict g l vs (suc k)), verdicts_count g l k)
 
-pub next_is : (image : List ℕ) (w : List (Role × ℕ)) (sound : ℕ → Bool) (k : ℕ) → k + 1 ≤ heads w → IsNext w (verdicts image w sound k) (k + 1)
-next_is image w sound k le = record { number = omega (arith, verdicts_count image w sound k); within = le }
+pub next_is : (g : Ground) (l : Look) (k : ℕ) → k + 1 ≤ heads l.walk → IsNext l.walk (verdicts g l k) (k + 1)
+next_is g l k le = record { number = omega (arith, verdicts_count g l k); within = le }
 
 -- whether anything stands
 
@@ -234,8 +257,25 @@ pub no_finding : (fs : List FindingValue) (xs : List Finding) → map finding_va
 no_finding fs [] m none = sym m
 no_finding fs (x ∷ xs) m none = absurd (omega (arith, eqb-true (length (x ∷ xs)) 0 none))
 
-pub none_added : (image : List ℕ) (vs : List Verdict) (r : Salvage) → IsSalvage image vs r → length r.draft.nodes ≡ 0 → additions_of vs ≡ []
-none_added image vs r is none = nil_from_length (additions_of vs) (sym is.nodes ∙ none)
+course_taken : (image : List ℕ) (s : Course) → IsCourse image s → s.walk ≢ []
+course_taken image s (start boot root) e = cc
+course_taken image s (step clean before next is) e = cc
+course_taken image s (step (noted at c) before next is) e = cc
+course_taken image s (step (passed at c) before next is) e = course_taken image _ before e
+
+told_unread : (image : List ℕ) (fs : List FindingValue) → UnreadTells image fs → fs ≢ []
+told_unread image fs (bad_boot fails other) e = cc
+told_unread image fs (bad_root {boot = boot} {at = at} {c = c} tells judged) e =
+    absurd (omega (arith, ap length e, length_push boot (finding None at c)))
+
+-- of an image of which nothing is surveyed there is a finding
+pub unread_fault : (image : List ℕ) (w : List (Role × ℕ)) (fs : List FindingValue) → IsSurvey image w fs → w ≡ [] → fs ≢ []
+unread_fault image w fs (unread told) e = told_unread image fs told
+unread_fault image w fs (read course done bits) e = absurd (course_taken image _ course e)
+
+pub none_added : (g : Ground) (vs : List Verdict) (r : Salvage) → IsSalvage g vs r → length r.draft.nodes ≡ 0
+    → additions_of g.verdicts ++ additions_of vs ≡ []
+none_added g vs r is none = nil_from_length (additions_of g.verdicts ++ additions_of vs) (sym is.nodes ∙ none)
 
 -- the tree of the additions fits
 pub buildable : (t : Tree) (left n m : ℕ) → m ≡ n → is_allowed m ≡ true → 1 + reserved m ≤ m - 2 → left + entries_blocks t.kind t.entries ≡ free_blocks n
@@ -243,3 +283,9 @@ pub buildable : (t : Tree) (left n m : ℕ) → m ≡ n → is_allowed m ≡ tru
 buildable t left n m same allowed room is =
     let here : left + entries_blocks t.kind t.entries ≡ free_blocks m = is ∙ ap free_blocks (sym same) in
     record { allowed = allowed; room = omega arith }
+
+-- what holds of the second survey of an image
+pub second_some : (image : List ℕ) (P : Option Look → Type 0) → OnLook image (λ b _. P (Some b)) → (b : Option Look) → IsSecond (Some image) b → P b
+second_some image P h None is = absurd is
+second_some image P h (Some b) is =
+    subst (λ i. OnLook i (λ l _. P (Some l))) (sym is.of) h b.walk is.findings b.sound is.survey is.marks

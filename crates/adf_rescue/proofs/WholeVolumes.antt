@@ -2,7 +2,7 @@
 -- Letters: t the tree, es its entries, e the next of them; k the number of those before; vs the verdicts on these; x the addition of e;
 -- w the walk of the survey, fs its findings, n a node, h its header's block; p a directory's node, dir its path.
 use Rattle.std.proofs.Common.{◌≡◌, ℕ, zero, suc, List, [], ◌∷◌, ◌++◌, inl, inr, ◌+◌, ◌-◌, ◌<◌, ◌≤◌, length, get_or, take, refl, sym, ap, subst, ◌∙◌, arith}
-use Rattle.std.proofs.Common.{Bool, true, cond, Option, Some, None, Ok, Err, take_all}
+use Rattle.std.proofs.Common.{Bool, true, cond, Option, Some, None, Ok, take_all}
 use Rattle.std.specs.Prelude.{◌&&◌, is_ok}
 use Rattle.std.specs.Option.{option_and_then}
 use Rattle.std.proofs.lemmas.Bool.{and_from, cases_lt, le-leb}
@@ -32,8 +32,9 @@ use Rattle.adf_findings.specs.Survey.{FindingValue, IsSurvey}
 use Rattle.adf_findings.proofs.FirstFindings.{finds_none, none_found, shown}
 use Rattle.adf_build.specs.Plan.{blocks_needed, entries_blocks, reserved}
 use Rattle.adf_rescue.specs.declared.left_out.Why.TheVariants.{NoRoom}
-use Rattle.adf_rescue.specs.Rescue.{Verdict, additions_of, directory_in, fitting, left_out_from, lost_name, path_by, path_for, path_in, place_of}
-use Rattle.adf_rescue.specs.Rescue.{rescue_leaves, rescued_tree, tree_of, verdict, verdicts}
+use Rattle.adf_rescue.specs.Rescue.{Ground, Look, Verdict, additions_of, before_first, before_second, directory_in, first_verdicts, fitting, left_out_from}
+use Rattle.adf_rescue.specs.Rescue.{lost_name, path_by, path_for, path_in, place_of, rescue_leaves, rescued_tree, tree_of, verdict, verdicts}
+use Rattle.adf_rescue.specs.Rescue.Verdict.{adds, leaves}
 use Rattle.adf_rescue.proofs.FitBlocks.{fit_room, front_blocks}
 use Rattle.adf_rescue.proofs.NextEntries.{directory_stays, has_room, new_is, new_leads}
 use Rattle.adf_rescue.proofs.SoundHeaders.{IsToldAs, label_whole, told}
@@ -70,7 +71,7 @@ addition dir e = record { path = dir ++ e.name ∷ []; meta = e.meta; body = e.b
 module _ (es : List Entry) (k : ℕ) (vs : List Verdict) (e : Entry) (t : IsTree es) (lt : k < length es) (here : get_or es k e ≡ e) (f : IsFront es k vs)
     (dir : List (List ℕ)) (to : directory_from (take k es) 0 dir ≡ Ok e.parent) where
   abbrev added_verdict : Verdict
-  added_verdict = Ok (addition dir e)
+  added_verdict = adds (addition dir e)
 
   next : IsNextEntry es k e
   next = subst (IsNextEntry es k) here (is_next es k e t lt)
@@ -136,28 +137,31 @@ own_path t dir name h p valid room =
     let own : path_in t dir name ≡ Some path = ap (λ b. cond b (Some path) None) both in
     ap (λ o. or_else o (path_in t dir (lost_name h))) own
 
-enough : (t : Tree) (n : ℕ) (x : Addition) → blocks_needed (with_entry t x.path x.meta x.body) n ≤ n - 2 → fitting t n x ≡ Ok x
+enough : (t : Tree) (n : ℕ) (x : Addition) → blocks_needed (with_entry t x.path x.meta x.body) n ≤ n - 2 → fitting t n x ≡ adds x
 enough t n x le =
-    let if_fits : Bool → Verdict = λ b. cond b (Ok x) (Err NoRoom) in
+    let if_fits : Bool → Verdict = λ b. cond b (adds x) (leaves NoRoom) in
     ap if_fits (le-leb (blocks_needed (with_entry t x.path x.meta x.body) n) (n - 2) le)
 
-module _ (image : List ℕ) (w : List (Role × ℕ)) (sound : ℕ → Bool) (vs : List Verdict) (n : ℕ) (e : Entry) (is : IsToldAs image w sound n e)
-    (dir : List (List ℕ)) (at : place_of vs e.parent ≡ Some dir) where
-  entry_path : room_for (tree_of image vs).entries (dir ++ e.name ∷ []) ≡ Ok e.parent
-      → path_by (tree_of image vs) (place_of vs (parent_node w n)) (name_of image (node_block w n)) (node_block w n) ≡ Some (dir ++ e.name ∷ [])
+-- the tree of the first entries
+abbrev tree_so_far : Look → List Verdict → Tree
+tree_so_far a vs = tree_of (before_first a.image) vs
+
+module _ (a : Look) (vs : List Verdict) (n : ℕ) (e : Entry) (is : IsToldAs a n e) (dir : List (List ℕ)) (at : place_of vs e.parent ≡ Some dir) where
+  entry_path : room_for (tree_so_far a vs).entries (dir ++ e.name ∷ []) ≡ Ok e.parent
+      → path_by (tree_so_far a vs) (place_of vs (parent_node a.walk n)) (name_of a.image (node_block a.walk n)) (node_block a.walk n) ≡ Some (dir ++ e.name ∷ [])
   entry_path room =
-      let t : Tree = tree_of image vs in
-      let h : ℕ = node_block w n in
-      ap (λ p. path_by t (place_of vs p) (name_of image h) h) is.parent
-      ∙ (ap (λ o. path_by t o (name_of image h) h) at
+      let t : Tree = tree_so_far a vs in
+      let h : ℕ = node_block a.walk n in
+      ap (λ p. path_by t (place_of vs p) (name_of a.image h) h) is.parent
+      ∙ (ap (λ o. path_by t o (name_of a.image h) h) at
       ∙ (ap (λ name. path_for t dir name h) is.name ∙ own_path t dir e.name h e.parent is.valid room))
 
-  entry_stands : room_for (tree_of image vs).entries (dir ++ e.name ∷ []) ≡ Ok e.parent
-      → blocks_needed (with_entry (tree_of image vs) (dir ++ e.name ∷ []) e.meta e.body) (blocks image) ≤ blocks image - 2
-      → verdict image w sound vs n ≡ Ok (addition dir e)
+  entry_stands : room_for (tree_so_far a vs).entries (dir ++ e.name ∷ []) ≡ Ok e.parent
+      → blocks_needed (with_entry (tree_so_far a vs) (dir ++ e.name ∷ []) e.meta e.body) (blocks a.image) ≤ blocks a.image - 2
+      → verdict (before_first a.image) a vs n ≡ adds (addition dir e)
   entry_stands room le =
-      verdict_at image w sound vs n e.body is.body (dir ++ e.name ∷ []) e.meta (entry_path room) (sym is.meta)
-      ∙ enough (tree_of image vs) (blocks image) (addition dir e) le
+      verdict_at (before_first a.image) a vs n refl e.body is.body (dir ++ e.name ∷ []) e.meta (entry_path room) (sym is.meta)
+      ∙ enough (tree_so_far a vs) (blocks a.image) (addition dir e) le
 
 -- so all entries of a tree that fits are added
 
@@ -166,6 +170,9 @@ module _ (image : List ℕ) (w : List (Role × ℕ)) (fs : List FindingValue) (s
   abbrev all : List Entry
   all = entries_in image w w
 
+  abbrev look : Look
+  look = record { image = image; walk = w; sound = sound }
+
   -- the first entries have the blocks that they need
   front_room : (k : ℕ) → 1 + reserved (blocks image) + entries_blocks (kind_of image) (take k all) ≤ blocks image - 2
   front_room k =
@@ -173,7 +180,7 @@ module _ (image : List ℕ) (w : List (Role × ℕ)) (fs : List FindingValue) (s
       let fewer = front_blocks (kind_of image) k all in
       omega arith
 
-  next_front : (k : ℕ) (vs : List Verdict) → k < heads w → IsFront all k vs → IsFront all (suc k) (vs ++ verdict image w sound vs (suc k) ∷ [])
+  next_front : (k : ℕ) (vs : List Verdict) → k < heads w → IsFront all k vs → IsFront all (suc k) (vs ++ verdict (before_first image) look vs (suc k) ∷ [])
   next_front k vs lt f =
       let x = told image w fs sound survey clean marks v k lt in
       let e : Entry = x.0 in
@@ -190,25 +197,29 @@ module _ (image : List ℕ) (w : List (Role × ℕ)) (fs : List FindingValue) (s
       ap (λ (us : List Entry). with_addition us (addition dir e)) f.entries ∙ entry_added all k vs e fit.tree within here f dir place.2 in
       let fits : 1 + reserved (blocks image) + entries_blocks (kind_of image) (with_addition before (addition dir e)) ≤ blocks image - 2 =
       subst (λ (us : List Entry). 1 + reserved (blocks image) + entries_blocks (kind_of image) us ≤ blocks image - 2) (sym added_one) (front_room (k + 1)) in
-      let is = entry_stands image w sound vs (suc k) e x.2 dir place.1 room fits in
+      let is = entry_stands look vs (suc k) e x.2 dir place.1 room fits in
       let number : k + 1 ≡ suc k = omega arith in
-      subst (λ m. IsFront all m (vs ++ verdict image w sound vs (suc k) ∷ [])) number
+      subst (λ m. IsFront all m (vs ++ verdict (before_first image) look vs (suc k) ∷ [])) number
       (subst (λ (u : Verdict). IsFront all (k + 1) (vs ++ u ∷ [])) (sym is) (front_more all k vs e fit.tree within here f dir place.2))
 
-  front : (k : ℕ) → k ≤ heads w → IsFront all k (verdicts image w sound k)
+  front : (k : ℕ) → k ≤ heads w → IsFront all k (verdicts (before_first image) look k)
   front zero le = nothing_yet all
-  front (suc k) le = next_front k (verdicts image w sound k) (omega arith) (front k (omega arith))
+  front (suc k) le = next_front k (verdicts (before_first image) look k) (omega arith) (front k (omega arith))
 
 -- the tree of the additions is that of the walk
-same_tree : (image : List ℕ) (w : List (Role × ℕ)) (vs : List Verdict) → AllHold (root_demands image (root_of image))
-    → entries_of_additions (additions_of vs) ≡ entries_in image w w → tree_of image vs ≡ tree_in image w
+same_tree : (image : List ℕ) (w : List (Role × ℕ)) (g : Ground) (vs : List Verdict) → g.given ≡ image → AllHold (root_demands image (root_of image))
+    → entries_of_additions (additions_of g.verdicts ++ additions_of vs) ≡ entries_in image w w → tree_of g vs ≡ tree_in image w
 unfolding stamps_of
-same_tree image w vs root same =
+same_tree image w g vs given root same =
     let label = label_whole image root in
-    λ i. record { kind = kind_of image; label = label i; stamps = stamps_of image (root_of image); entries = same i }
+    ap (λ i. tree_of (record g { given = i }) vs) given
+    ∙ (λ i. record { kind = kind_of image; label = label i; stamps = stamps_of image (root_of image); entries = same i })
 
 module _ (image : List ℕ) (t : Tree) (l : Layout) (w : List (Role × ℕ)) (fs : List FindingValue) (sound : ℕ → Bool) (fit : Fits image t l)
     (survey : IsSurvey image w fs) (marks : AreMarks image w (grave fs) sound) where
+  abbrev whole_look : Look
+  whole_look = record { image = image; walk = w; sound = sound }
+
   clean : fs ≡ []
   clean = finds_none image t l w fs fit survey
 
@@ -222,15 +233,17 @@ module _ (image : List ℕ) (t : Tree) (l : Layout) (w : List (Role × ℕ)) (fs
   made : Fits image (tree_in image w) (layout_in w)
   made = none_found image w unnoted
 
-  whole : IsFront (entries_in image w w) (heads w) (verdicts image w sound (heads w))
+  whole : IsFront (entries_in image w w) (heads w) (first_verdicts whole_look)
   whole = front image w fs sound survey clean all_marks (shown image unnoted).1 made (heads w) (omega arith)
 
-  pub tree_kept : rescued_tree image w sound ≡ t
+  pub tree_kept : rescued_tree whole_look None ≡ t
   tree_kept =
-      let all : entries_of_additions (additions_of (verdicts image w sound (heads w))) ≡ entries_in image w w =
-      whole.entries ∙ take_all (heads w) (entries_in image w w) (omega (arith, entries_length image w w)) in
-      same_tree image w (verdicts image w sound (heads w)) made.root all
+      let xs : List Addition = additions_of (first_verdicts whole_look) in
+      let all : entries_of_additions (xs ++ []) ≡ entries_in image w w =
+      ap entries_of_additions (append-nil xs)
+      ∙ (whole.entries ∙ take_all (heads w) (entries_in image w w) (omega (arith, entries_length image w w))) in
+      same_tree image w (before_second whole_look) [] refl made.root all
       ∙ sym (one_fit image t (tree_in image w) l (layout_in w) fit made).0
 
-  pub none_left : rescue_leaves image w sound ≡ []
+  pub none_left : rescue_leaves whole_look ≡ []
   none_left = whole.none

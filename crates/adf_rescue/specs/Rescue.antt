@@ -1,10 +1,12 @@
 -- A rescue of an image: the entries of its survey that stand become additions, in the order of the walk; the others are left out.
--- Letters: w the walk of the survey, n the node of an entry, h the block of its header; `sound` tells whether an entry is sound;
--- vs the verdicts on the entries before, t the tree of their additions; dir the path of a directory in that tree.
-use Rattle.std.specs.Prelude.{◌≡◌, ◌≢◌, ◌==◌, ◌&&◌, ◌⊎◌, ◌-◌, ℕ, Bool, true, nat_le, cond, List, [], ◌∷◌, ◌++◌, codes, decimal, slice_get}
+-- Then the entries of a second survey, of the image with what was lost hung in it again, are taken in the same way.
+-- Letters: a the survey of the image, b the second one, if there is one, l either; n the node of an entry, h the block of its header;
+-- g what is taken before a survey; vs the verdicts on the entries before, t the tree with their additions; dir the path of a directory in it.
+use Rattle.std.specs.Prelude.{◌≡◌, ◌≢◌, ◌==◌, ◌&&◌, ◌⊎◌, ◌-◌, ◌+◌, ◌*◌, ℕ, Bool, true, nat_le, cond, List, [], ◌∷◌, ◌++◌, codes, decimal, length, slice_get}
 use Rattle.std.specs.Prelude.{Option, Some, None, Result, Ok, Err, is_ok}
 use Rattle.std.specs.List.{flat_map}
 use Rattle.std.specs.Option.{option_and_then}
+use Rattle.std.specs.Str.{bytes_eq}
 use Rattle.std.proofs.Common.{zero, suc}
 use Rattle.adf_fields.specs.Words.{block}
 use Rattle.adf_tree.specs.declared.entry.Body.{Body}
@@ -17,49 +19,90 @@ use Rattle.adf_blocks.specs.declared.layout.TheConstants.{SECONDARY_TYPE, ST_DIR
 use Rattle.adf_blocks.specs.HeadBlock.{is_link, meta_told}
 use Rattle.adf_blocks.specs.Sizes.{blocks}
 use Rattle.adf_volume.specs.Image.{name_of, word_in}
+use Rattle.adf_volume.specs.Made.{datas_in}
 use Rattle.adf_volume.specs.Walk.{Role, heads, node_block}
-use Rattle.adf_findings.specs.Files.{file_content, file_in}
-use Rattle.adf_findings.specs.Found.{parent_node}
+use Rattle.adf_findings.specs.Files.{file_content, file_in, grave}
+use Rattle.adf_findings.specs.Found.{owner, parent_node}
+use Rattle.adf_findings.specs.Marked.{AreMarks}
 use Rattle.adf_findings.specs.Opening.{opening_in}
-use Rattle.adf_findings.specs.Survey.{FindingValue}
+use Rattle.adf_findings.specs.Survey.{FindingValue, IsSurvey}
 use Rattle.adf_build.specs.Plan.{blocks_needed}
 use Rattle.adf_rescue.specs.declared.left_out.LeftOut.{LeftOut}
 use Rattle.adf_rescue.specs.declared.left_out.Why.{Why}
 use Rattle.adf_rescue.specs.declared.left_out.Why.TheVariants.{Damaged, Link, NoRoom}
 
--- an entry becomes an addition, or is left out
-abbrev pub Verdict : Type 0
-Verdict = Result Addition Why
+-- a survey as a rescue takes it: its image and walk, and whether an entry is whole
+pub record Look : Type 0 where
+  pub image : List ℕ
+  pub walk : List (Role × ℕ)
+  pub sound : ℕ → Bool
 
--- the body of an entry that is no sound file, by its secondary type: only a directory stands
+-- what holds of the survey of an image and of its findings; whole is what is sound but for harmless findings of headers
+abbrev pub OnLook : List ℕ → (Look → List FindingValue → Type 0) → Type 0
+OnLook image holds =
+    (w : List (Role × ℕ)) (fs : List FindingValue) (sound : ℕ → Bool) → IsSurvey image w fs → AreMarks image w (grave fs) sound
+    → holds (record { image = image; walk = w; sound = sound }) fs
+
+-- it is the survey of this image
+pub record IsLook (image : List ℕ) (l : Look) : Type 0 where
+  pub of : l.image ≡ image
+  pub findings : List FindingValue
+  pub survey : IsSurvey l.image l.walk findings
+  pub marks : AreMarks l.image l.walk (grave findings) l.sound
+
+-- it is the survey of the second image, if there is one
+abbrev pub IsSecond : Option (List ℕ) → Option Look → Type 0
+IsSecond None None = Unit {0}
+IsSecond (Some image) (Some b) = IsLook image b
+IsSecond _ _ = ⊥
+
+-- what holds of the second survey, if there is one
+abbrev pub OnSecond : Option (List ℕ) → (Option Look → Type 0) → Type 0
+OnSecond image holds = (b : Option Look) → IsSecond image b → holds b
+
+-- an entry becomes an addition, or is left out; or it is known from the survey before, with its place in the new tree, if it has one
+pub data Verdict : Type 0 where
+  adds : (x : Addition) → Verdict
+  leaves : (why : Why) → Verdict
+  knows : (place : Option (List (List ℕ))) → Verdict
+
+-- what is taken before a survey: the image that is rescued, the walk of the survey before, and the verdicts on its entries
+pub record Ground : Type 0 where
+  pub given : List ℕ
+  pub walk : List (Role × ℕ)
+  pub verdicts : List Verdict
+
+-- the body of an entry that is no whole file, by its secondary type: only a directory stands
 abbrev pub body_of_type : ℕ → Result Body Why
 body_of_type secondary = cond (secondary == ST_DIR) (Ok Dir) (Err (cond (is_link secondary) Link Damaged))
 
--- the body of an entry that stands: the bytes of a sound file, or a directory, sound or not; else why it is left out
-abbrev pub body_of : List ℕ → List (Role × ℕ) → (ℕ → Bool) → ℕ → Result Body Why
-body_of image w sound n =
-    let secondary = word_in image (node_block w n) SECONDARY_TYPE in
-    cond (sound n && (secondary == ST_FILE)) (Ok (File (file_content (file_in image w n)))) (body_of_type secondary)
+-- the body of an entry that stands: the bytes of a whole file, or a directory, sound or not; else why it is left out
+abbrev pub body_of : Look → ℕ → Result Body Why
+body_of l n =
+    let secondary = word_in l.image (node_block l.walk n) SECONDARY_TYPE in
+    cond (l.sound n && (secondary == ST_FILE)) (Ok (File (file_content (file_in l.image l.walk n)))) (body_of_type secondary)
 
 -- the addition of a verdict
 abbrev pub addition_of : Verdict → List Addition
-addition_of (Ok x) = x ∷ []
-addition_of (Err why) = []
+addition_of (adds x) = x ∷ []
+addition_of (leaves why) = []
+addition_of (knows place) = []
 
 -- the additions of verdicts
 abbrev pub additions_of : List Verdict → List Addition
 additions_of vs = flat_map addition_of vs
 
--- the tree of the additions: its kind, label and dates are those in the boot bytes and the root
-abbrev pub tree_of : List ℕ → List Verdict → Tree
-tree_of image vs =
-    let o = opening_in image in
-    record { kind = o.kind; label = o.label; stamps = o.stamps; entries = entries_of_additions (additions_of vs) }
+-- the tree of the additions so far: its kind, label and dates are those in the boot bytes and the root of the image that is rescued
+abbrev pub tree_of : Ground → List Verdict → Tree
+tree_of g vs =
+    let o = opening_in g.given in
+    record { kind = o.kind; label = o.label; stamps = o.stamps; entries = entries_of_additions (additions_of g.verdicts ++ additions_of vs) }
 
--- the path of a directory that is added
+-- the path of a directory that is added, or known
 abbrev pub directory_in : Verdict → Option (List (List ℕ))
-directory_in (Ok x) = cond (is_dir_body x.body) (Some x.path) None
-directory_in (Err why) = None
+directory_in (adds x) = cond (is_dir_body x.body) (Some x.path) None
+directory_in (leaves why) = None
+directory_in (knows place) = place
 
 -- the path of a directory of the survey in the new tree: empty for the root, none if it is left out
 abbrev pub place_of : List Verdict → ℕ → Option (List (List ℕ))
@@ -85,54 +128,98 @@ path_by t (Some dir) name h = path_for t dir name h
 
 -- the addition, if the tree with it fits in n blocks
 abbrev pub fitting : Tree → ℕ → Addition → Verdict
-fitting t n x = cond (nat_le (blocks_needed (with_entry t x.path x.meta x.body) n) (n - 2)) (Ok x) (Err NoRoom)
+fitting t n x = cond (nat_le (blocks_needed (with_entry t x.path x.meta x.body) n) (n - 2)) (adds x) (leaves NoRoom)
 
 -- the verdict on an entry that stands, by its path
 abbrev pub at_path : Tree → ℕ → Meta → Body → Option (List (List ℕ)) → Verdict
-at_path t n meta body None = Err NoRoom
+at_path t n meta body None = leaves NoRoom
 at_path t n meta body (Some path) = fitting t n (record { path = path; meta = meta; body = body })
 
--- the verdict on an entry in a directory, by its body
-abbrev pub by_body : List ℕ → Tree → Option (List (List ℕ)) → ℕ → Result Body Why → Verdict
-by_body image t dir h (Ok body) = at_path t (blocks image) (meta_told (block image h)) body (path_by t dir (name_of image h) h)
-by_body image t dir h (Err why) = Err why
+-- the verdict on an entry in a directory, by its body; n is the number of blocks of the new volume
+abbrev pub by_body : List ℕ → ℕ → Tree → Option (List (List ℕ)) → ℕ → Result Body Why → Verdict
+by_body image n t dir h (Ok body) = at_path t n (meta_told (block image h)) body (path_by t dir (name_of image h) h)
+by_body image n t dir h (Err why) = leaves why
+
+-- the verdict on an entry that is not known
+abbrev pub verdict_anew : Ground → Look → List Verdict → ℕ → Verdict
+verdict_anew g l vs n =
+    by_body l.image (blocks g.given) (tree_of g vs) (place_of vs (parent_node l.walk n)) (node_block l.walk n) (body_of l n)
+
+-- this verdict, if no entry of the survey before has the block; else the place of the one that has it
+abbrev pub unless_known : Ground → Option ℕ → Verdict → Verdict
+unless_known g None v = v
+unless_known g (Some m) v = knows (place_of g.verdicts m)
 
 -- the verdict on an entry
-abbrev pub verdict : List ℕ → List (Role × ℕ) → (ℕ → Bool) → List Verdict → ℕ → Verdict
-verdict image w sound vs n =
-    by_body image (tree_of image vs) (place_of vs (parent_node w n)) (node_block w n) (body_of image w sound n)
+abbrev pub verdict : Ground → Look → List Verdict → ℕ → Verdict
+verdict g l vs n = unless_known g (owner g.walk (node_block l.walk n)) (verdict_anew g l vs n)
 
 -- the verdicts on the first k entries: each by those before it
-abbrev pub verdicts : List ℕ → List (Role × ℕ) → (ℕ → Bool) → ℕ → List Verdict
-verdicts image w sound zero = []
-verdicts image w sound (suc k) = let vs = verdicts image w sound k in vs ++ verdict image w sound vs (suc k) ∷ []
+abbrev pub verdicts : Ground → Look → ℕ → List Verdict
+verdicts g l zero = []
+verdicts g l (suc k) = let vs = verdicts g l k in vs ++ verdict g l vs (suc k) ∷ []
 
--- the additions that stand for the survey
-abbrev pub rescued_additions : List ℕ → List (Role × ℕ) → (ℕ → Bool) → List Addition
-rescued_additions image w sound = additions_of (verdicts image w sound (heads w))
+-- nothing is taken before the survey of the image
+abbrev pub before_first : List ℕ → Ground
+before_first image = record { given = image; walk = []; verdicts = [] }
+
+-- the verdicts on its entries
+abbrev pub first_verdicts : Look → List Verdict
+first_verdicts a = verdicts (before_first a.image) a (heads a.walk)
+
+-- they are taken before the second survey
+abbrev pub before_second : Look → Ground
+before_second a = record { given = a.image; walk = a.walk; verdicts = first_verdicts a }
+
+-- both images have this block, with the same bytes
+abbrev pub is_same_block : List ℕ → List ℕ → ℕ → Bool
+is_same_block given image b = nat_le (b * 512 + 512) (length given) && (nat_le (b * 512 + 512) (length image) && bytes_eq (block given b) (block image b))
+
+-- so do they these blocks
+abbrev pub are_same_blocks : List ℕ → List ℕ → List ℕ → Bool
+are_same_blocks given image [] = true
+are_same_blocks given image (b ∷ bs) = is_same_block given image b && are_same_blocks given image bs
+
+-- the second survey, of which a file is whole only if its data blocks are as they were given
+abbrev pub as_given : List ℕ → Look → Look
+as_given given b = record b { sound = λ n. b.sound n && are_same_blocks given b.image (datas_in b.walk n) }
+
+-- the verdicts on the entries of the second survey
+abbrev pub second_verdicts : Look → Option Look → List Verdict
+second_verdicts a None = []
+second_verdicts a (Some b) = verdicts (before_second a) (as_given a.image b) (heads b.walk)
+
+-- the additions of a rescue
+abbrev pub rescued_additions : Look → Option Look → List Addition
+rescued_additions a b = additions_of (first_verdicts a) ++ additions_of (second_verdicts a b)
 
 -- the tree of the new volume
-abbrev pub rescued_tree : List ℕ → List (Role × ℕ) → (ℕ → Bool) → Tree
-rescued_tree image w sound = tree_of image (verdicts image w sound (heads w))
+abbrev pub rescued_tree : Look → Option Look → Tree
+rescued_tree a b = tree_of (before_second a) (second_verdicts a b)
 
 -- entry n, if the verdict leaves it out
 abbrev pub left_out_by : ℕ → Verdict → List LeftOut
-left_out_by n (Ok x) = []
-left_out_by n (Err why) = record { entry = n; why = why } ∷ []
+left_out_by n (leaves why) = record { entry = n; why = why } ∷ []
+left_out_by n (adds x) = []
+left_out_by n (knows place) = []
 
 -- the entries left out, with their reasons, of those from node n on
 abbrev pub left_out_from : ℕ → List Verdict → List LeftOut
 left_out_from n [] = []
 left_out_from n (v ∷ vs) = left_out_by n v ++ left_out_from (suc n) vs
 
--- the entries that the rescue leaves out
-abbrev pub rescue_leaves : List ℕ → List (Role × ℕ) → (ℕ → Bool) → List LeftOut
-rescue_leaves image w sound = left_out_from 1 (verdicts image w sound (heads w))
+-- the entries of the survey of the image that the rescue leaves out
+abbrev pub rescue_leaves : Look → List LeftOut
+rescue_leaves a = left_out_from 1 (first_verdicts a)
+
+-- the entries of the second survey that it leaves out
+abbrev pub second_leaves : Look → Option Look → List LeftOut
+second_leaves a b = left_out_from 1 (second_verdicts a b)
 
 -- the image was mended, or there is a finding
 abbrev pub HasFault : Bool → List FindingValue → Type 0
 HasFault mended fs = (mended ≡ true) ⊎ (fs ≢ [])
 
--- no entry stands, and there is a fault
-abbrev pub StandsNothing : List ℕ → List (Role × ℕ) → List FindingValue → (ℕ → Bool) → Bool → Type 0
-StandsNothing image w fs sound mended = (rescued_additions image w sound ≡ []) × HasFault mended fs
+-- there is a fault, and nothing of the image is surveyed, or no entry stands
+abbrev pub StandsNothing : Look → Option Look → List FindingValue → Bool → Type 0
+StandsNothing a b fs mended = HasFault mended fs × ((a.walk ≡ []) ⊎ (rescued_additions a b ≡ []))

@@ -1,6 +1,7 @@
 -- The state of a rescue.
--- Letters: d the draft of the tree so far; r the state; vs the verdicts so far; m the number of an addition in the draft.
-use Rattle.std.specs.Prelude.{◌≡◌, ◌≤◌, ◌+◌, ◌-◌, ℕ, List, Option, Some, None, length, slice_index_or}
+-- Letters: d the draft of the tree so far; r the state; g what is taken before the survey, vs the verdicts on its entries so far;
+-- m the number of an addition in the draft, or a node of the survey before.
+use Rattle.std.specs.Prelude.{◌≡◌, ◌≤◌, ◌+◌, ◌-◌, ◌++◌, ℕ, List, Option, Some, None, length, slice_index_or}
 use Rattle.adf_tree.specs.declared.draft.Room.{Room}
 use Rattle.adf_tree.specs.declared.entry.Body.{Body}
 use Rattle.adf_tree.specs.declared.entry.Kind.{Kind}
@@ -11,7 +12,7 @@ use Rattle.adf_volume.specs.Walk.{Role, heads}
 use Rattle.adf_findings.specs.Survey.{FindingValue, IsSurvey}
 use Rattle.adf_build.specs.Plan.{data_blocks, entries_blocks, exts_needed, reserved}
 use Rattle.adf_rescue.specs.declared.salvage.Salvage.{Salvage}
-use Rattle.adf_rescue.specs.Rescue.{Verdict, additions_of, left_out_from, place_of, tree_of}
+use Rattle.adf_rescue.specs.Rescue.{Ground, Verdict, additions_of, left_out_from, place_of, tree_of}
 
 -- a room is that of a path; there is none without a path
 abbrev pub IsRoomOf : DraftValue → Option (List (List ℕ)) → Option Room → Type 0
@@ -34,13 +35,15 @@ abbrev pub entry_cost : Kind → Body → ℕ
 entry_cost kind body = 1 + exts_needed (data_blocks kind body) + data_blocks kind body
 
 -- the state after these verdicts
-pub record IsSalvage (image : List ℕ) (vs : List Verdict) (r : Salvage) : Type 0 where
-  pub tree : r.draft.tree ≡ tree_of image vs
-  pub kind : r.kind ≡ kind_of image
+pub record IsSalvage (g : Ground) (vs : List Verdict) (r : Salvage) : Type 0 where
+  pub tree : r.draft.tree ≡ tree_of g vs
+  pub kind : r.kind ≡ kind_of g.given
   pub count : length r.places.items ≡ length vs + 1
-  pub nodes : length r.draft.nodes ≡ length (additions_of vs)
+  pub nodes : length r.draft.nodes ≡ length (additions_of g.verdicts ++ additions_of vs)
+  pub known : (m : ℕ) → IsPlace r.draft (place_of g.verdicts m) (slice_index_or r.known.items m None)
   pub places : (p : ℕ) → IsPlace r.draft (place_of vs p) (slice_index_or r.places.items p None)
-  pub left : r.left + entries_blocks r.draft.tree.kind r.draft.tree.entries ≡ free_blocks (blocks image)
+  pub left : r.left + entries_blocks r.draft.tree.kind r.draft.tree.entries ≡ free_blocks (blocks g.given)
+  pub left_before : r.left_before.items ≡ left_out_from 1 g.verdicts
   pub left_out : r.left_out.items ≡ left_out_from 1 vs
 
 -- entry n is the next one of the survey, after the verdicts
@@ -50,9 +53,10 @@ pub record IsNext (w : List (Role × ℕ)) (vs : List Verdict) (n : ℕ) : Type 
 
 -- there is a survey and the state of its rescue, of which entry n is the next
 pub record GoesOn (image : List ℕ) (n : ℕ) (r : Salvage) : Type 0 where
+  pub ground : Ground
   pub walk : List (Role × ℕ)
   pub findings : List FindingValue
   pub verdicts : List Verdict
   pub survey : IsSurvey image walk findings
-  pub state : IsSalvage image verdicts r
+  pub state : IsSalvage ground verdicts r
   pub next : IsNext walk verdicts n

@@ -1,15 +1,13 @@
 // The rescue of an image.
 
-ghost use Rattle.std.specs.Prelude.{◌≡◌, ◌↔◌, ℕ, Bool, List, IsNone, IsTrue, IfOk, IfSome};
+ghost use Rattle.std.specs.Prelude.{◌≡◌, ◌≢◌, ◌↔◌, ◌+◌, ℕ, Bool, List, [], IsNone, IsTrue, IfOk, IfSome, OnOk, Option, Some, option_map};
 ghost use Rattle.adf_blocks.specs.Sizes.{blocks as blocks_in};
 ghost use Rattle.adf_findings.specs.Opening.{opening_in};
-ghost use Rattle.adf_volume.specs.Walk.{Role, heads};
-ghost use Rattle.adf_findings.specs.Files.{grave};
-ghost use Rattle.adf_findings.specs.Marked.{AreMarks};
-ghost use Rattle.adf_findings.specs.Survey.{FindingValue, IsSurvey};
+ghost use Rattle.adf_findings.specs.Survey.{OnSurvey};
 ghost use Rattle.adf_build.specs.Laid.{IsLaid};
 ghost use Rattle.adf_build.specs.Building.{IsBuildable};
-ghost use Rattle.adf_rescue.specs.Rescue.{HasFault, StandsNothing, rescue_leaves, rescued_tree, verdicts};
+ghost use Rattle.adf_build.specs.Plan.{entries_blocks};
+ghost use Rattle.adf_rescue.specs.Rescue.{HasFault, Look, OnLook, OnSecond, StandsNothing, before_first, before_second, first_verdicts, rescue_leaves, rescued_tree, second_leaves, second_verdicts};
 ghost use Rattle.adf_rescue.specs.Salvage.{free_blocks as blocks_free, IsSalvage};
 
 use crate::left_out::LeftOut;
@@ -20,14 +18,16 @@ use adf_findings::{Opening, Survey, some_survey};
 use adf_tree::{Draft, Node};
 use std::alloc::Global;
 
-/// A rescue: the image of the new volume, and the entries that are left out, in the order of the walk.
+/// A rescue: the image of the new volume, and the entries that are left out, in the order of the walk: those of the
+/// survey of the image, and those of the second survey that are not known from the first.
 #[derive(Drop)]
 pub struct Rescued {
     pub image: Vec<u8>,
     pub left_out: Vec<LeftOut>,
+    pub second_left_out: Vec<LeftOut>,
 }
 
-// What is kept of all entries.
+// What is kept of all entries of the survey of the image.
 fn salvaged(
     alloc: Global,
     survey: &Survey<'_>,
@@ -36,9 +36,7 @@ fn salvaged(
 ) -> Result<Salvage, NoMemory>
     requires opening { opening ≡ opening_in survey.now.image }
     requires free { free ≡ blocks_free (blocks_in survey.now.image) }
-    ensures { (w : List (Role × ℕ)) (fs : List FindingValue) (sound : ℕ → Bool)
-        → IsSurvey survey.now.image w fs → AreMarks survey.now.image w (grave fs) sound
-        → IfOk result (IsSalvage survey.now.image (verdicts survey.now.image w sound (heads w))) }
+    ensures { OnLook survey.now.image (λ a _. IfOk result (IsSalvage (before_first a.image) (first_verdicts a))) }
 {
     survey.whole_marks();
     some_survey();
@@ -49,10 +47,58 @@ fn salvaged(
     Ok(salvage)
 }
 
+// Keeps what stands of all entries of the second survey.
+fn take_second(
+    alloc: Global,
+    survey: &Survey<'_>,
+    second: &Survey<'_>,
+    salvage: &mut Salvage,
+) -> Result<(), NoMemory>
+    requires { OnLook survey.now.image (λ a _. IsSalvage (before_second a) [] salvage.old) }
+    ensures { OnLook survey.now.image (λ a _. OnLook second.now.image (λ b _.
+        OnOk result (IsSalvage (before_second a) (second_verdicts a (Some b)) salvage.new))) }
+{
+    survey.whole_marks();
+    second.whole_marks();
+    some_survey();
+    for before in 0..second.len() {
+        salvage.take_second(alloc, survey, second, Node(before + 1))?;
+    }
+    Ok(())
+}
+
+// What is kept of all entries of both surveys.
+fn salvaged_both(
+    alloc: Global,
+    survey: &Survey<'_>,
+    second: Option<&Survey<'_>>,
+    opening: Opening,
+    free: u32,
+) -> Result<Salvage, NoMemory>
+    requires opening { opening ≡ opening_in survey.now.image }
+    requires free { free ≡ blocks_free (blocks_in survey.now.image) }
+    ensures state { OnLook survey.now.image (λ a _. OnSecond (option_map (λ s. s.now.image) second.entry)
+        (λ b. IfOk result (IsSalvage (before_second a) (second_verdicts a b)))) }
+    ensures blocks { IfOk result (λ r. r.left + entries_blocks r.draft.tree.kind r.draft.tree.entries
+        ≡ blocks_free (blocks_in survey.now.image)) }
+{
+    survey.whole_marks();
+    some_survey();
+    let first = salvaged(alloc, survey, opening, free)?;
+    let mut salvage = first.go_on(alloc)?;
+    match second {
+        None => Ok(salvage),
+        Some(second) => {
+            second.whole_marks();
+            take_second(alloc, survey, second, &mut salvage)?;
+            Ok(salvage)
+        }
+    }
+}
+
 // Whether the image was mended, or there is a finding.
 fn has_fault(survey: &Survey<'_>, mended: bool) -> bool
-    ensures { (w : List (Role × ℕ)) (fs : List FindingValue) → IsSurvey survey.now.image w fs
-        → IsTrue result ↔ HasFault mended fs }
+    ensures { OnSurvey survey.now.image (λ _ fs. IsTrue result ↔ HasFault mended fs) }
 {
     if mended {
         return true;
@@ -60,12 +106,12 @@ fn has_fault(survey: &Survey<'_>, mended: bool) -> bool
     !survey.findings().is_empty()
 }
 
-// Whether no entry stands, and there is a fault.
+// Whether there is a fault, and no entry stands of an image that is surveyed.
 fn stands_nothing(survey: &Survey<'_>, salvage: &Salvage, mended: bool) -> bool
-    ensures { (w : List (Role × ℕ)) (fs : List FindingValue) (sound : ℕ → Bool)
-        → IsSurvey survey.now.image w fs
-        → IsSalvage survey.now.image (verdicts survey.now.image w sound (heads w)) salvage.now
-        → IsTrue result ↔ StandsNothing survey.now.image w fs sound mended }
+    requires { OnSurvey survey.now.image (λ w _. w ≢ []) }
+    ensures { OnLook survey.now.image (λ a fs. (b : Option Look)
+        → IsSalvage (before_second a) (second_verdicts a b) salvage.now
+        → IsTrue result ↔ StandsNothing a b fs mended) }
 {
     if !has_fault(survey, mended) {
         return false;
@@ -86,40 +132,47 @@ fn laid(alloc: Global, draft: Draft, blocks: u32) -> Result<Vec<u8>, NoMemory>
     }
 }
 
-/// The new volume of all that stands on a surveyed image: its whole files and its directories, in as many blocks;
-/// and the entries that are left out. `None` if no entry stands, and there is a finding, or the image was mended.
-/// `NoMemory` if an allocation fails.
-pub fn rescue(alloc: Global, survey: &Survey<'_>, mended: bool) -> Result<Option<Rescued>, NoMemory>
-    ensures none { (w : List (Role × ℕ)) (fs : List FindingValue) (sound : ℕ → Bool)
-        → IsSurvey survey.now.image w fs → AreMarks survey.now.image w (grave fs) sound
-        → IfOk result (λ r. IsNone r ↔ StandsNothing survey.now.image w fs sound mended) }
-    ensures laid { (w : List (Role × ℕ)) (fs : List FindingValue) (sound : ℕ → Bool)
-        → IsSurvey survey.now.image w fs → AreMarks survey.now.image w (grave fs) sound
-        → IfOk result (λ r. IfSome r (λ v.
-        IsLaid v.image.items (rescued_tree survey.now.image w sound))) }
+/// The new volume of all that stands on a surveyed image: its whole files and its directories, in as many blocks; and
+/// what stands beside these by a second survey, if there is one, of the image with what was lost hung in it again: each
+/// entry whose block no entry of the first survey has, but a file only if its data blocks are as they were given. With it
+/// come the entries that are left out. `None` if there is a finding of the first survey, or the image was mended, and nothing
+/// of the image is surveyed, or no entry stands. `NoMemory` if an allocation fails.
+pub fn rescue(
+    alloc: Global,
+    survey: &Survey<'_>,
+    second: Option<&Survey<'_>>,
+    mended: bool,
+) -> Result<Option<Rescued>, NoMemory>
+    ensures none { OnLook survey.now.image (λ a fs. OnSecond (option_map (λ s. s.now.image) second.entry)
+        (λ b. IfOk result (λ r. IsNone r ↔ StandsNothing a b fs mended))) }
+    ensures laid { OnLook survey.now.image (λ a _. OnSecond (option_map (λ s. s.now.image) second.entry)
+        (λ b. IfOk result (λ r. IfSome r (λ v. IsLaid v.image.items (rescued_tree a b))))) }
     ensures size { IfOk result (λ r. IfSome r (λ v.
         blocks_in v.image.items ≡ blocks_in survey.now.image)) }
-    ensures left_out { (w : List (Role × ℕ)) (fs : List FindingValue) (sound : ℕ → Bool)
-        → IsSurvey survey.now.image w fs → AreMarks survey.now.image w (grave fs) sound
-        → IfOk result (λ r. IfSome r (λ v.
-        v.left_out.items ≡ rescue_leaves survey.now.image w sound)) }
+    ensures left_out { OnLook survey.now.image (λ a _. OnSecond (option_map (λ s. s.now.image) second.entry)
+        (λ b. IfOk result (λ r. IfSome r (λ v. v.left_out.items ≡ rescue_leaves a)))) }
+    ensures second_left_out { OnLook survey.now.image (λ a _. OnSecond (option_map (λ s. s.now.image) second.entry)
+        (λ b. IfOk result (λ r. IfSome r (λ v. v.second_left_out.items ≡ second_leaves a b)))) }
 {
-    survey.whole_marks();
-    some_survey();
     let Some(opening) = survey.opening() else {
         return Ok(None);
     };
     let blocks = opening.blocks;
     let free = free_blocks(blocks);
-    let salvage = salvaged(alloc, survey, opening, free)?;
+    let salvage = salvaged_both(alloc, survey, second, opening, free)?;
     if stands_nothing(survey, &salvage, mended) {
         return Ok(None);
     }
     let Salvage {
         draft,
+        left_before,
         left_out,
         ..
     } = salvage;
     let image = laid(alloc, draft, blocks)?;
-    Ok(Some(Rescued { image, left_out }))
+    Ok(Some(Rescued {
+        image,
+        left_out: left_before,
+        second_left_out: left_out,
+    }))
 }

@@ -1,36 +1,39 @@
 // The state of a rescue: what is kept so far.
 
-ghost use Rattle.std.specs.Prelude.{◌≡◌, ◌≤◌, ◌+◌, ◌-◌, ◌++◌, ◌∷◌, ◌^◌, ℕ, Bool, List, [], cond, Some, None, Err, IfOk, OnOk, min, length, slice_index_or};
+ghost use Rattle.std.specs.Prelude.{◌≡◌, ◌≤◌, ◌+◌, ◌-◌, ◌++◌, ◌∷◌, ◌^◌, ℕ, Bool, List, [], cond, Some, None, Result, IfOk, OnOk, min, length, slice_index_or};
+ghost use Rattle.adf_tree.specs.declared.entry.Body.{Body as ABody};
 ghost use Rattle.adf_tree.specs.Draft.{IsRoomFor};
 ghost use Rattle.adf_blocks.specs.Sizes.{blocks};
 ghost use Rattle.adf_tree.specs.Tree.{is_dir_body};
 ghost use Rattle.adf_volume.specs.Walk.{Role, heads, node_block};
 ghost use Rattle.adf_volume.specs.Image.{name_of};
-ghost use Rattle.adf_findings.specs.Found.{parent_node};
-ghost use Rattle.adf_findings.specs.Files.{grave};
-ghost use Rattle.adf_findings.specs.Marked.{AreMarks};
+ghost use Rattle.adf_findings.specs.Found.{owner, parent_node};
 ghost use Rattle.adf_findings.specs.Opening.{opening_in};
-ghost use Rattle.adf_findings.specs.Survey.{FindingValue, IsSurvey};
-ghost use Rattle.adf_rescue.specs.Rescue.{Verdict, fitting, path_by, place_of, tree_of, verdict};
+ghost use Rattle.adf_findings.specs.Survey.{FindingValue, IsSurvey, OnSurvey};
+ghost use Rattle.adf_rescue.specs.Rescue.{Ground, Look, OnLook, Verdict, as_given, before_first, body_of, fitting, path_by, place_of, tree_of, verdict};
+ghost use Rattle.adf_rescue.specs.Rescue.Verdict.{leaves, knows};
 ghost use Rattle.adf_rescue.specs.Salvage.{GoesOn, IsNext, IsRoomOf, IsSalvage, entry_cost, free_blocks};
 
 use crate::left_out::{LeftOut, Why};
 use crate::rooms::room_of;
-use crate::standing::body_of;
+use crate::standing::{body_as_given, body_of};
 use adf_build::{data_blocks, ext_count};
 use adf_fields::NoMemory;
 use adf_findings::{Opening, Survey};
 use adf_tree::{Body, Draft, Kind, Meta, Node, Room};
 use std::alloc::Global;
 
-/// What is kept so far: the draft of the new tree; for each node of the survey, from the root on, its directory in the
-/// draft, if it is one that is kept; the number of free blocks that are left; and the entries that are left out.
+/// What is kept so far: the draft of the new tree; for each node of the survey before, and of this one, from the root on,
+/// its directory in the draft, if it is one that is kept; the number of free blocks that are left; and the entries of the
+/// survey before, and of this one, that are left out.
 #[derive(Drop)]
 pub struct Salvage {
     pub kind: Kind,
     pub draft: Draft,
+    pub known: Vec<Option<Node>>,
     pub places: Vec<Option<Node>>,
     pub left: u32,
+    pub left_before: Vec<LeftOut>,
     pub left_out: Vec<LeftOut>,
 }
 
@@ -61,23 +64,75 @@ fn place_if(is_directory: bool, addition: Node) -> Option<Node>
     if is_directory { Some(addition) } else { None }
 }
 
+// The places before the first entry of a survey: that of the root.
+fn root_place(alloc: Global) -> Result<Vec<Option<Node>>, NoMemory>
+    ensures { IfOk result (λ v. v.items ≡ Some 0 ∷ []) }
+{
+    let mut places = Vec::new(alloc);
+    match places.push(Some(Node(0))) {
+        Ok(()) => Ok(places),
+        Err(_) => Err(NoMemory),
+    }
+}
+
+// The entry of the survey before that has the block of an entry's header.
+fn known_as(before: &Survey<'_>, survey: &Survey<'_>, n: Node) -> Option<Node>
+    ensures { OnSurvey before.now.image (λ v _. OnSurvey survey.now.image (λ w _.
+        1 ≤ n → n ≤ heads w → result ≡ owner v (node_block w n))) }
+{
+    match survey.block_of(n) {
+        Some(block) => before.entry_at(block),
+        None => None,
+    }
+}
+
 impl Salvage {
     /// The state with no entry, on a volume with this many free blocks.
     pub fn begin(alloc: Global, opening: Opening, free: u32) -> Result<Salvage, NoMemory>
         ensures { (image : List ℕ) → opening ≡ opening_in image → free ≡ free_blocks (blocks image)
-            → IfOk result (IsSalvage image []) }
+            → IfOk result (IsSalvage (before_first image) []) }
     {
-        let mut places = Vec::new(alloc);
-        if places.push(Some(Node(0))).is_err() {
-            return Err(NoMemory);
-        }
         Ok(Salvage {
             kind: opening.kind,
             draft: Draft::new(alloc, opening.kind, opening.label, opening.stamps),
-            places,
+            known: root_place(alloc)?,
+            places: root_place(alloc)?,
             left: free,
+            left_before: Vec::new(alloc),
             left_out: Vec::new(alloc),
         })
+    }
+
+    /// The state before a second survey, with what is kept of the first one.
+    pub fn go_on(self, alloc: Global) -> Result<Salvage, NoMemory>
+        ensures { (image : List ℕ) (w : List (Role × ℕ)) (vs : List Verdict)
+            → IsSalvage (before_first image) vs self
+            → IfOk result (IsSalvage (record { given = image; walk = w; verdicts = vs }) []) }
+    {
+        let Salvage {
+            kind,
+            draft,
+            places,
+            left,
+            left_out,
+            ..
+        } = self;
+        Ok(Salvage {
+            kind,
+            draft,
+            known: places,
+            places: root_place(alloc)?,
+            left,
+            left_before: left_out,
+            left_out: Vec::new(alloc),
+        })
+    }
+
+    // The directory in the draft of a node of the survey before, if it is kept.
+    fn place_before(&self, node: Node) -> Option<Node>
+        ensures { result ≡ slice_index_or self.now.known.items node None }
+    {
+        self.known.get(node.0).copied().flatten()
     }
 
     // The directory in the draft of a node of the survey, if it is kept.
@@ -98,11 +153,20 @@ impl Salvage {
         }
     }
 
+    // Keeps the place of the next entry, which is known as this one.
+    fn keep_known(&mut self, m: Node) -> Result<(), NoMemory>
+        ensures { (g : Ground) (vs : List Verdict) → IsSalvage g vs self.old
+            → OnOk result (IsSalvage g (vs ++ knows (place_of g.verdicts m) ∷ []) self.new) }
+    {
+        let place = self.place_before(m);
+        self.keep_place(place)
+    }
+
     // Leaves out the next entry.
     fn leave(&mut self, n: Node, why: Why) -> Result<(), NoMemory>
-        ensures { (image : List ℕ) (vs : List Verdict) → IsSalvage image vs self.old
+        ensures { (g : Ground) (vs : List Verdict) → IsSalvage g vs self.old
             → n ≡ length vs + 1
-            → OnOk result (IsSalvage image (vs ++ Err why ∷ []) self.new) }
+            → OnOk result (IsSalvage g (vs ++ leaves why ∷ []) self.new) }
     {
         self.keep_place(None)?;
         match self.left_out.push(LeftOut { entry: n, why }) {
@@ -114,11 +178,11 @@ impl Salvage {
     // Puts the next entry in a room, if the blocks suffice; else leaves it out.
     fn put(&mut self, n: Node, room: &Room, meta: Meta, body: Body) -> Result<(), NoMemory>
         requires { (path : List (List ℕ)) × IsRoomFor self.old.draft path room.now }
-        ensures { (image : List ℕ) (vs : List Verdict) (path : List (List ℕ))
-            → IsSalvage image vs self.old → IsRoomFor self.old.draft path room.now
+        ensures { (g : Ground) (vs : List Verdict) (path : List (List ℕ))
+            → IsSalvage g vs self.old → IsRoomFor self.old.draft path room.now
             → n ≡ length vs + 1
-            → OnOk result (IsSalvage image
-            (vs ++ fitting (tree_of image vs) (blocks image) (record { path = path; meta = meta; body = body }) ∷ []) self.new) }
+            → OnOk result (IsSalvage g
+            (vs ++ fitting (tree_of g vs) (blocks g.given) (record { path = path; meta = meta; body = body }) ∷ []) self.new) }
     {
         let cost = cost_of(self.kind, &body);
         if cost > u64::from(self.left) {
@@ -138,11 +202,11 @@ impl Salvage {
         survey: &Survey<'_>,
         n: Node,
     ) -> Result<Option<Room>, NoMemory>
-        ensures { (w : List (Role × ℕ)) (fs : List FindingValue) (vs : List Verdict)
-            → IsSurvey survey.now.image w fs → IsSalvage survey.now.image vs self.now
+        ensures { (g : Ground) (w : List (Role × ℕ)) (fs : List FindingValue) (vs : List Verdict)
+            → IsSurvey survey.now.image w fs → IsSalvage g vs self.now
             → 1 ≤ n → n ≤ heads w
             → IfOk result (IsRoomOf self.now.draft
-            (path_by (tree_of survey.now.image vs) (place_of vs (parent_node w n))
+            (path_by (tree_of g vs) (place_of vs (parent_node w n))
             (name_of survey.now.image (node_block w n)) (node_block w n))) }
     {
         let (Some(name), Some(block)) = (survey.name(n), survey.block_of(n)) else {
@@ -154,17 +218,24 @@ impl Salvage {
         }
     }
 
-    /// Keeps the next entry, or leaves it out. `NoMemory` if an allocation fails; then the state is of no use.
-    pub fn take(&mut self, alloc: Global, survey: &Survey<'_>, n: Node) -> Result<(), NoMemory>
+    // Keeps the next entry, which is not known, with the body that stands, or leaves it out.
+    fn keep(
+        &mut self,
+        alloc: Global,
+        survey: &Survey<'_>,
+        n: Node,
+        standing: Result<Body, Why>,
+    ) -> Result<(), NoMemory>
         requires { GoesOn survey.now.image n self.old }
-        ensures { (w : List (Role × ℕ)) (fs : List FindingValue) (sound : ℕ → Bool)
+        ensures { (g : Ground) (w : List (Role × ℕ)) (fs : List FindingValue) (sound : ℕ → Bool)
             (vs : List Verdict)
-            → IsSurvey survey.now.image w fs → AreMarks survey.now.image w (grave fs) sound
-            → IsSalvage survey.now.image vs self.old → IsNext w vs n
-            → OnOk result (IsSalvage survey.now.image
-            (vs ++ verdict survey.now.image w sound vs n ∷ []) self.new) }
+            → IsSurvey survey.now.image w fs → IsSalvage g vs self.old → IsNext w vs n
+            → owner g.walk (node_block w n) ≡ None
+            → standing ≡ body_of (record { image = survey.now.image; walk = w; sound = sound }) n
+            → OnOk result (IsSalvage g
+            (vs ++ verdict g (record { image = survey.now.image; walk = w; sound = sound }) vs n ∷ []) self.new) }
     {
-        let body = match body_of(alloc, survey, n)? {
+        let body = match standing {
             Ok(body) => body,
             Err(why) => return self.leave(n, why),
         };
@@ -174,6 +245,42 @@ impl Salvage {
         match self.room_of_entry(alloc, survey, n)? {
             Some(room) => self.put(n, &room, meta, body),
             None => self.leave(n, Why::NoRoom),
+        }
+    }
+
+    /// Keeps the next entry of the survey of the image, or leaves it out. `NoMemory` if an allocation fails; then the
+    /// state is of no use.
+    pub fn take(&mut self, alloc: Global, survey: &Survey<'_>, n: Node) -> Result<(), NoMemory>
+        requires { GoesOn survey.now.image n self.old }
+        ensures { OnLook survey.now.image (λ a _. (vs : List Verdict)
+            → IsSalvage (before_first a.image) vs self.old → IsNext a.walk vs n
+            → OnOk result (IsSalvage (before_first a.image) (vs ++ verdict (before_first a.image) a vs n ∷ []) self.new)) }
+    {
+        let standing = body_of(alloc, survey, n)?;
+        self.keep(alloc, survey, n, standing)
+    }
+
+    /// Keeps the next entry of the second survey, or leaves it out, or keeps its place if it is known from the survey before.
+    /// `NoMemory` if an allocation fails; then the state is of no use.
+    pub fn take_second(
+        &mut self,
+        alloc: Global,
+        before: &Survey<'_>,
+        survey: &Survey<'_>,
+        n: Node,
+    ) -> Result<(), NoMemory>
+        requires { GoesOn survey.now.image n self.old }
+        ensures { OnSurvey before.now.image (λ v _. OnLook survey.now.image (λ b _. (us vs : List Verdict)
+            → IsSalvage (record { given = before.now.image; walk = v; verdicts = us }) vs self.old → IsNext b.walk vs n
+            → OnOk result (IsSalvage (record { given = before.now.image; walk = v; verdicts = us })
+            (vs ++ verdict (record { given = before.now.image; walk = v; verdicts = us }) (as_given before.now.image b) vs n ∷ []) self.new))) }
+    {
+        match known_as(before, survey, n) {
+            Some(m) => self.keep_known(m),
+            None => {
+                let standing = body_as_given(alloc, before.image(), survey, n)?;
+                self.keep(alloc, survey, n, standing)
+            }
         }
     }
 }

@@ -1,10 +1,12 @@
 -- What is answered to the front of an input that is longer than the largest image is answered to the whole of it.
 -- Letters: w the walk of a survey, fs its findings; n an entry's node.
-use Rattle.std.proofs.Common.{◌≡◌, ◌<◌, ◌≤◌, ◌+◌, ◌-◌, ◌*◌, ◌∙◌, ◌++◌, true, false, inl, inr, ℕ, Bool, List, [], ◌∷◌, Option, None, Some, refl, ap, ap₂, arith, subst}
+use Rattle.std.proofs.Common.{◌≡◌, ◌<◌, ◌≤◌, ◌+◌, ◌-◌, ◌*◌, ◌∙◌, ◌++◌, true, false, inl, inr, ℕ, Bool, List, [], ◌∷◌, Option, None, Some, refl, ap, ap₂, arith, subst, sym}
 use Rattle.std.proofs.Common.{length, replicate, take}
+use Rattle.std.proofs.lemmas.Bool.{and_left, false_from_ne_true}
 use Rattle.std.proofs.lemmas.List.{take-take}
 use Rattle.adf_blocks.specs.declared.layout.TheConstants.{MOST_BLOCKS}
 use Rattle.adf_blocks.specs.declared.cause.Cause.TheVariants.{BadSize}
+use Rattle.adf_volume.specs.Start.{is_image_len}
 use Rattle.adf_volume.specs.Walk.{Role}
 use Rattle.adf_findings.specs.Files.{grave}
 use Rattle.adf_findings.specs.Lookup.{LeadsTo}
@@ -15,12 +17,15 @@ use Rattle.adf_findings.specs.Survey.UnreadTells.{bad_boot}
 use Rattle.adf_findings.proofs.OneSurvey.{one_survey}
 use Rattle.adf_runs.specs.Commands.{Reply, on_output}
 use Rattle.adf_rescue.specs.Opened.{opened}
+use Rattle.adf_rescue.specs.Rescue.{Look}
 use Rattle.adf_rescue.proofs.OpenedImages.{length_opened}
+use Rattle.adf_rescue.proofs.MadeRoots.{sized as sized_len}
 use Rattle.adf_cmd.proofs.LongInputs.{long_fault, too_large}
 use Rattle.adf_survey_cmd.specs.Answers.{CopiesFound, QuestionAnswer, SurveyAnswer, TellsFound, findings_status, meant, sized}
 use Rattle.adf_words.specs.SurveyLine.{AreFew, InquiryValue, QuestionValue, cat, list, report, rescue}
 use Rattle.adf_survey_cmd.specs.Lines.{findings_text, runs_from}
-use Rattle.adf_survey_cmd.specs.Rescues.{RescuesFound}
+use Rattle.adf_survey_cmd.specs.Rescues.{RescuesBoth, RescuesFound, second_image}
+use Rattle.adf_survey_cmd.proofs.RescueAnswers.{none_hung}
 
 -- an input of a bad size has this finding
 bad_size : List FindingValue
@@ -56,12 +61,24 @@ it_finds : bad_size ≡ [] → ⊥
 unfolding bad_size
 it_finds e = cc
 
+-- no volume has this length, so nothing is hung
+none_second : (image : List ℕ) (w : List (Role × ℕ)) (fs : List FindingValue) → 512 * MOST_BLOCKS < length image → second_image image w fs ≡ None
+none_second image w fs long =
+    let odd : is_image_len (length image) ≡ false =
+    false_from_ne_true (is_image_len (length image)) (λ len. omega (arith, (sized_len (length image) len).whole, (sized_len (length image) len).high)) in
+    none_hung image w fs (and_left (is_image_len (length image)) _ odd)
+
 -- nothing stands, and the first fault is told
 same_rescue : (image bytes opened_image opened_bytes : List ℕ) (reply : Reply) → 512 * MOST_BLOCKS < length image → 512 * MOST_BLOCKS < length bytes
-    → RescuesFound image opened_image [] bad_size reply → RescuesFound bytes opened_bytes [] bad_size reply
-same_rescue image bytes opened_image opened_bytes reply a b (sound, marks, inl (none, (f, first, e))) =
-    ((λ n. false), no_marks opened_bytes (grave bad_size), inl ((refl, inr it_finds), (f, long_fault image bytes f a b first, e)))
-same_rescue image bytes opened_image opened_bytes reply a b (sound, marks, inr (some, e)) = absurd (some (refl, inr it_finds))
+    → 512 * MOST_BLOCKS < length opened_bytes → RescuesFound image opened_image [] bad_size reply → RescuesFound bytes opened_bytes [] bad_size reply
+same_rescue image bytes opened_image opened_bytes reply a b c (sound, marks, (two, second, inl (none, (f, first, e)))) =
+    let look : Look = record { image = opened_bytes; walk = []; sound = λ n. false } in (
+      (λ n. false),
+      no_marks opened_bytes (grave bad_size),
+      subst (λ o. RescuesBoth bytes look o bad_size reply) (sym (none_second opened_bytes [] bad_size c))
+          (None, tt, inl ((inr it_finds, inl refl), (f, long_fault image bytes f a b first, e))),
+    )
+same_rescue image bytes opened_image opened_bytes reply a b c (sound, marks, (two, second, inr (some, e))) = absurd (some (inr it_finds, inl refl))
 
 -- an image that is opened is as long
 long_opened : (image : List ℕ) → 512 * MOST_BLOCKS < length image → 512 * MOST_BLOCKS < length (opened image)
@@ -91,7 +108,7 @@ long_questions rescue image bytes a b reply (w, fs, s, found) = (
   [],
   bad_size,
   long_survey (opened bytes) (long_opened bytes b),
-  same_rescue image bytes (opened image) (opened bytes) reply a b
+  same_rescue image bytes (opened image) (opened bytes) reply a b (long_opened bytes b)
       (of_long (opened image) w fs (λ u gs. RescuesFound image (opened image) u gs reply) (long_opened image a) s found),
 )
 

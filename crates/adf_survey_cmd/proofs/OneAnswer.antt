@@ -1,6 +1,6 @@
 -- What is asked of an image has one answer.
 -- Letters: w, u walks of its survey, fs, gs the findings; n, m entries' nodes; r, q inquiries; a, b replies.
-use Rattle.std.proofs.Common.{◌≡◌, ◌∙◌, inl, inr, ℕ, Bool, true, false, List, [], ◌∷◌, Option, Some, sym, ap, subst}
+use Rattle.std.proofs.Common.{◌≡◌, ◌∙◌, inl, inr, ℕ, Bool, true, false, List, [], ◌∷◌, Option, Some, sym, ap, subst, None, refl}
 use mathlib.Core.Path.{fun_ext}
 use Rattle.adf_tree.proofs.PathParts.{one_path}
 use Rattle.adf_volume.specs.Walk.{FileAt, Role, node_block}
@@ -11,12 +11,13 @@ use Rattle.adf_findings.specs.Survey.{FindingValue}
 use Rattle.adf_findings.proofs.OneSurvey.{one_survey}
 use Rattle.adf_build.specs.Laid.{volume}
 use Rattle.adf_rescue.specs.Opened.{opened}
-use Rattle.adf_rescue.specs.Rescue.{rescue_leaves, rescued_tree}
+use Rattle.adf_rescue.specs.Rescue.{IsSecond, Look, rescue_leaves, rescued_tree, second_leaves}
+use Rattle.adf_rescue.proofs.RescueLaws.{one_look}
 use Rattle.adf_findings.proofs.Lookups.{one_first}
 use Rattle.adf_runs.specs.Commands.{Reply, on_output}
 use Rattle.adf_cmd.proofs.OneAnswer.{one_dates, refused_once}
 use Rattle.adf_survey_cmd.specs.Answers.{CopiesEntry, CopiesFound, CopiesFromSurvey, ListsSurvey, QuestionAnswer, SurveyAnswer, Surveys, TellsFound, findings_status, meant}
-use Rattle.adf_survey_cmd.specs.Rescues.{RescuesBy, RescuesFound, RescuesIn, WritesVolume, rescue_reply}
+use Rattle.adf_survey_cmd.specs.Rescues.{RescuesBy, RescuesFound, RescuesIn, WritesVolume, rescue_reply, second_image}
 use Rattle.adf_words.specs.SurveyLine.{AsksSurvey, InquiryValue, QuestionValue, cat, inquiry_of, list, report, rescue}
 use Rattle.adf_survey_cmd.specs.FoundLines.{listing_text}
 use Rattle.adf_survey_cmd.specs.Lines.{findings_text}
@@ -92,23 +93,37 @@ copied_once damaged path image a b (names, text, w, fs, s, x) (others, also, u, 
     let path_is = one_path path names others text also in
     found_once image u damaged gs others a b (subst (λ (ns : List (List ℕ)). CopiesFound damaged image u gs ns a) path_is found) y
 
-volume_once : (image : List ℕ) (w : List (Role × ℕ)) (sound : ℕ → Bool) (a b : Reply) → WritesVolume image w sound a → WritesVolume image w sound b → a ≡ b
-volume_once image w sound a b (one, laid, size, x) (other, also, long, y) =
-    let t = rescued_tree image w sound in
+volume_once : (l : Look) (m : Option Look) (a b : Reply) → WritesVolume l m a → WritesVolume l m b → a ≡ b
+volume_once l m a b (one, laid, size, x) (other, also, long, y) =
+    let t = rescued_tree l m in
     let same : one ≡ other = laid.bytes ∙ ap (volume t) (size ∙ sym long) ∙ sym also.bytes in
-    x ∙ ap (λ v. rescue_reply image w v (rescue_leaves image w sound)) same ∙ sym y
+    x ∙ ap (λ v. rescue_reply l.image l.walk m v (rescue_leaves l) (second_leaves l m)) same ∙ sym y
 
-by_marks_once : (input image : List ℕ) (w : List (Role × ℕ)) (fs : List FindingValue) (sound : ℕ → Bool) (a b : Reply) → RescuesBy input image w fs sound a
-    → RescuesBy input image w fs sound b → a ≡ b
-by_marks_once input image w fs sound a b (inl (none, x)) (inl (also, y)) = refused_once input a b x y
-by_marks_once input image w fs sound a b (inl (none, x)) (inr (some, y)) = absurd (some none)
-by_marks_once input image w fs sound a b (inr (some, x)) (inl (none, y)) = absurd (some none)
-by_marks_once input image w fs sound a b (inr (some, x)) (inr (also, y)) = volume_once image w sound a b x y
+by_surveys_once : (input : List ℕ) (l : Look) (m : Option Look) (fs : List FindingValue) (a b : Reply) → RescuesBy input l m fs a → RescuesBy input l m fs b
+    → a ≡ b
+by_surveys_once input l m fs a b (inl (none, x)) (inl (also, y)) = refused_once input a b x y
+by_surveys_once input l m fs a b (inl (none, x)) (inr (some, y)) = absurd (some none)
+by_surveys_once input l m fs a b (inr (some, x)) (inl (none, y)) = absurd (some none)
+by_surveys_once input l m fs a b (inr (some, x)) (inr (also, y)) = volume_once l m a b x y
+
+one_second : (image : Option (List ℕ)) (l m : Option Look) → IsSecond image l → IsSecond image m → l ≡ m
+one_second None None None x y = refl
+one_second None None (Some m) x y = absurd y
+one_second None (Some l) m x y = absurd x
+one_second (Some image) None m x y = absurd x
+one_second (Some image) (Some l) None x y = absurd y
+one_second (Some image) (Some l) (Some m) x y = ap some (one_look image l m x y)
+  where
+    some : Look → Option Look
+    some k = Some k
 
 found_rescued_once : (input image : List ℕ) (w : List (Role × ℕ)) (fs : List FindingValue) (a b : Reply) → RescuesFound input image w fs a
     → RescuesFound input image w fs b → a ≡ b
-found_rescued_once input image w fs a b (sound, marks, x) (others, also, y) =
-    by_marks_once input image w fs others a b (subst (λ s. RescuesBy input image w fs s a) (one_marks image w (grave fs) sound others marks also) x) y
+found_rescued_once input image w fs a b (sound, marks, (l, second, x)) (others, also, (m, twice, y)) =
+    let r : (ℕ → Bool) → Look = λ s. record { image = image; walk = w; sound = s } in
+    by_surveys_once input (r others) m fs a b
+    (subst (λ o. RescuesBy input (r others) o fs a) (one_second (second_image image w fs) l m second twice)
+    (subst (λ s. RescuesBy input (r s) l fs a) (one_marks image w (grave fs) sound others marks also) x)) y
 
 rescued_once : (input image : List ℕ) (a b : Reply) → RescuesIn input image a → RescuesIn input image b → a ≡ b
 rescued_once input image a b (w, fs, s, x) (u, gs, t, y) =

@@ -10,14 +10,14 @@ use Rattle.adf_rescue.proofs.Steps.{added_more, fits_not, new_place, on_ok_then}
 use Rattle.adf_rescue.proofs.salvage.Salvage.put.Goals as goal
 
 pub returns-then-cost-from : goal.returns-then-cost-from
-returns-then-cost-from c = λ image vs path is room at.
+returns-then-cost-from c = λ g vs path is room at.
     let x : Addition = record { path = path; meta = c.args.meta; body = c.args.body } in
     let short : c.args.self.now.left < c.cost_of-cost.result = omega arith in
-    subst (λ (v : Verdict). OnOk c.leave.result (IsSalvage image (vs ++ v ∷ []) c.leave.new.self))
-    (sym (fits_not image vs c.args.self.now x is c.cost_of-cost.result c.cost_of-cost.ensures short)) (c.leave.ensures image vs is at)
+    subst (λ (v : Verdict). OnOk c.leave.result (IsSalvage g (vs ++ v ∷ []) c.leave.new.self))
+    (sym (fits_not g vs c.args.self.now x is c.cost_of-cost.result c.cost_of-cost.ensures short)) (c.leave.ensures g vs is at)
 
 pub returns : goal.returns
-returns c = λ image vs path is room at.
+returns c = λ g vs path is room at.
     let x : Addition = record { path = path; meta = c.args.meta; body = c.args.body } in
     let small : c.args.self.now.left < 2 ^ 32 = omega arith in
     let enough : c.cost_of-cost.result ≤ c.args.self.now.left = omega arith in
@@ -32,8 +32,9 @@ returns c = λ image vs path is room at.
     (subst (λ m. IsDirectoryOf c.put.new.self path m) (sym number) (c.in_ok-put.ensures.directory path room dir)) in
     let place = c.place_if-place.ensures ∙ ap (λ b. cond b (Some c.len.result) None) c.is_directory-adds_directory.ensures in
     on_ok_then c.keep_place.result c.keep_place.ensures.places (λ places.
-    added_more image vs c.args.self.now x is c.cost_of-cost.result c.cost_of-cost.ensures c.keep_place.new.self c.place_if-place.result small enough
+    added_more g vs c.args.self.now x is c.cost_of-cost.result c.cost_of-cost.ensures c.keep_place.new.self c.place_if-place.result small enough
     (ap (λ (r : Salvage). r.draft.tree) rest ∙ c.in_ok-put.ensures.tree path room)
     (ap (λ (r : Salvage). length r.draft.nodes) rest ∙ count)
     dirs (new_place c.keep_place.new.self.draft path c.args.meta c.args.body c.len.result c.place_if-place.result place fresh)
-    (ap (λ (r : Salvage). r.kind) rest) (ap (λ (r : Salvage). r.left) rest) places (ap (λ (r : Salvage). r.left_out.items) rest))
+    (ap (λ (r : Salvage). r.kind) rest) (ap (λ (r : Salvage). r.left) rest) places (ap (λ (r : Salvage). r.left_out.items) rest) (ap (λ (r : Salvage). r.known) rest)
+    (ap (λ (r : Salvage). r.left_before) rest))

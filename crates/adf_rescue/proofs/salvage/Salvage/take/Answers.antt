@@ -1,36 +1,8 @@
-use Rattle.std.proofs.Common.{◌≤◌, ◌++◌, ◌∷◌, ◌∙◌, [], arith, subst, sym}
-use Rattle.std.specs.Prelude.{OnOk}
-use Rattle.adf_rescue.specs.Rescue.{Verdict}
-use Rattle.adf_rescue.specs.Salvage.{IsSalvage}
-use Rattle.adf_rescue.proofs.Steps.{room_none, room_some, verdict_at, verdict_none}
+use Rattle.std.proofs.Common.{◌≤◌, arith, refl}
+use Rattle.adf_rescue.specs.Rescue.{before_first}
 use Rattle.adf_rescue.proofs.salvage.Salvage.take.Goals as goal
 
-pub put-requires : goal.put-requires
-put-requires c =
-    let next = c.requires.next in
+pub returns : goal.returns
+returns c = λ w fs sound survey marks vs is next.
     let low : 1 ≤ c.args.n = omega (arith, next.number) in
-    let rooms = c.in_ok-room.ensures c.requires.walk c.requires.findings c.requires.verdicts c.requires.survey c.requires.state low next.within in
-    let some = room_some c.args.self.now.draft _ c.in-Some-2.room (rw c.in-Some-2.is at rooms) in
-    (some.0, some.2)
-
-pub returns-in-Some-2 : goal.returns-in-Some-2
-returns-in-Some-2 c = λ w fs sound vs survey marks is next.
-    let image = c.args.survey.now.image in
-    let low : 1 ≤ c.args.n = omega (arith, next.number) in
-    let rooms = c.in_ok-room.ensures w fs vs survey is low next.within in
-    let some = room_some c.args.self.now.draft _ c.in-Some-2.room (rw c.in-Some-2.is at rooms) in
-    let body = sym (c.in_ok-body.ensures w fs sound survey marks low next.within) ∙ c.in-Ok.is in
-    let same = verdict_at image w sound vs c.args.n c.in-Ok.body body some.0 c.in-Some.meta some.1 (c.in-Some.ensures.meta w fs survey) in
-    subst (λ (v : Verdict). OnOk c.put.result (IsSalvage image (vs ++ v ∷ []) c.put.new.self)) (sym same)
-    (c.put.ensures image vs some.0 is some.2 next.number)
-
-pub returns-in-None : goal.returns-in-None
-returns-in-None c = λ w fs sound vs survey marks is next.
-    let image = c.args.survey.now.image in
-    let low : 1 ≤ c.args.n = omega (arith, next.number) in
-    let rooms = c.in_ok-room.ensures w fs vs survey is low next.within in
-    let none = room_none c.args.self.now.draft _ (rw c.in-None.is at rooms) in
-    let body = sym (c.in_ok-body.ensures w fs sound survey marks low next.within) ∙ c.in-Ok.is in
-    let same = verdict_none image w sound vs c.args.n c.in-Ok.body body none in
-    subst (λ (v : Verdict). OnOk c.leave-in-None.result (IsSalvage image (vs ++ v ∷ []) c.leave-in-None.new.self)) (sym same)
-    (c.leave-in-None.ensures image vs is next.number)
+    c.keep.ensures (before_first c.args.survey.now.image) w fs sound vs survey is next refl (c.in_ok-standing.ensures w fs sound survey marks low next.within)

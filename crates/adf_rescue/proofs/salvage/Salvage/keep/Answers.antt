@@ -1,0 +1,42 @@
+use Rattle.std.proofs.Common.{◌≤◌, ◌++◌, ◌∷◌, ◌∙◌, [], arith, subst, sym}
+use Rattle.std.specs.Prelude.{OnOk}
+use Rattle.adf_rescue.specs.Rescue.{Look, Verdict}
+use Rattle.adf_rescue.specs.Salvage.{IsSalvage}
+use Rattle.adf_rescue.proofs.Steps.{room_none, room_some, verdict_at, verdict_err, verdict_none}
+use Rattle.adf_rescue.proofs.salvage.Salvage.keep.Goals as goal
+
+pub returns-in-Err : goal.returns-in-Err
+returns-in-Err c = λ g w fs sound vs survey is next new standing.
+    let l : Look = record { image = c.args.survey.now.image; walk = w; sound = sound } in
+    let same = verdict_err g l vs c.args.n new c.in-Err.why (sym standing ∙ c.in-Err.is) in
+    subst (λ (v : Verdict). OnOk c.leave.result (IsSalvage g (vs ++ v ∷ []) c.leave.new.self)) (sym same) (c.leave.ensures g vs is next.number)
+
+pub put-requires : goal.put-requires
+put-requires c =
+    let next = c.requires.next in
+    let low : 1 ≤ c.args.n = omega (arith, next.number) in
+    let rooms = c.in_ok-room.ensures c.requires.ground c.requires.walk c.requires.findings c.requires.verdicts c.requires.survey c.requires.state low next.within in
+    let some = room_some c.args.self.now.draft _ c.in-Some-2.room (rw c.in-Some-2.is at rooms) in
+    (some.0, some.2)
+
+pub returns-in-Some-2 : goal.returns-in-Some-2
+returns-in-Some-2 c = λ g w fs sound vs survey is next new standing.
+    let l : Look = record { image = c.args.survey.now.image; walk = w; sound = sound } in
+    let low : 1 ≤ c.args.n = omega (arith, next.number) in
+    let rooms = c.in_ok-room.ensures g w fs vs survey is low next.within in
+    let some = room_some c.args.self.now.draft _ c.in-Some-2.room (rw c.in-Some-2.is at rooms) in
+    let body = sym standing ∙ c.in-Ok.is in
+    let same = verdict_at g l vs c.args.n new c.in-Ok.body body some.0 c.in-Some.meta some.1 (c.in-Some.ensures.meta w fs survey) in
+    subst (λ (v : Verdict). OnOk c.put.result (IsSalvage g (vs ++ v ∷ []) c.put.new.self)) (sym same)
+    (c.put.ensures g vs some.0 is some.2 next.number)
+
+pub returns-in-None : goal.returns-in-None
+returns-in-None c = λ g w fs sound vs survey is next new standing.
+    let l : Look = record { image = c.args.survey.now.image; walk = w; sound = sound } in
+    let low : 1 ≤ c.args.n = omega (arith, next.number) in
+    let rooms = c.in_ok-room.ensures g w fs vs survey is low next.within in
+    let none = room_none c.args.self.now.draft _ (rw c.in-None.is at rooms) in
+    let body = sym standing ∙ c.in-Ok.is in
+    let same = verdict_none g l vs c.args.n new c.in-Ok.body body none in
+    subst (λ (v : Verdict). OnOk c.leave-in-None.result (IsSalvage g (vs ++ v ∷ []) c.leave-in-None.new.self)) (sym same)
+    (c.leave-in-None.ensures g vs is next.number)
