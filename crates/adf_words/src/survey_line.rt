@@ -3,7 +3,7 @@
 ghost use Rattle.std.specs.Prelude.{◌≡◌, ◌==◌, IfOk, IfErr, IfSome, ℕ, List, [], ◌∷◌, Some, None, codes, false, option_map};
 ghost use Rattle.clap.specs.Words.{app_of, found_of, rows_of, subcommand_rows_of};
 ghost use Rattle.adf_words.specs.CommandLine.{texts_of};
-ghost use Rattle.adf_words.specs.SurveyLine.{AreFew, AsksSurvey, AreRefusedBySurvey, ExplainsSurveyWords, blocks_met, blocks_named, asked, cat, flagged_survey, list, inquiry_met, inquiry_value, question_met, question_named, question_value, report, rescue, survey_app};
+ghost use Rattle.adf_words.specs.SurveyLine.{AreFew, AsksSurvey, AreRefusedBySurvey, ExplainsSurveyWords, blocks_met, number_named, asked, cat, flagged_survey, list, inquiry_met, inquiry_value, question_met, question_named, question_value, report, rescue, survey_app};
 
 use crate::command_line::{WordsFault, cat_command, first_text, has_flag, list_flag};
 use adf_blocks::MOST_BLOCKS;
@@ -58,9 +58,9 @@ fn command<'a>(alloc: Global) -> Result<Command<'a>, AllocError>
         .subcommand(Command::new(alloc, "rescue"))
 }
 
-// The number of blocks that a text is.
-fn blocks_named(text: &str) -> Option<u32>
-    ensures named { result ≡ blocks_named text.now }
+// The number that a text is: decimal digits, up to the blocks of the largest volume.
+pub(crate) fn number_named(text: &str) -> Option<u32>
+    ensures named { result ≡ number_named text.now }
     ensures few { AreFew result }
 {
     let bytes = text.as_bytes();
@@ -79,7 +79,7 @@ fn blocks_in(matches: &ArgMatches<'_>) -> Option<Option<u32>>
     ensures few { IfSome result AreFew }
 {
     match first_text(matches, "blocks") {
-        Some(text) => match blocks_named(text) {
+        Some(text) => match number_named(text) {
             Some(blocks) => Some(Some(blocks)),
             None => None,
         },
