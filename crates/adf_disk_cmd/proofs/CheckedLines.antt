@@ -1,9 +1,10 @@
 -- The lines of partitions, one behind the other.
-use Rattle.std.proofs.Common.{◌≡◌, ◌&&◌, ◌<◌, ◌+◌, ◌++◌, ◌∙◌, ℕ, Bool, true, false, List, [], ◌∷◌, Ok, ap, ap₂, arith, suc, append-nil, append_assoc, drop, get_or, length, refl, subst, sym}
+use Rattle.std.proofs.Common.{◌≡◌, ◌&&◌, ◌<◌, ◌+◌, ◌++◌, ◌∙◌, ℕ, Bool, true, false, List, [], ◌∷◌, Ok, ap, ap₂, arith, suc, refl, subst, sym}
+use Rattle.std.proofs.Common.{append-nil, append_assoc, drop, get_or, length}
 use Rattle.std.proofs.Math.Seq.{drop-cons}
 use Rattle.adf_cmd.specs.Answers.{Answer}
 use Rattle.adf_disk_cmd.specs.Checks.{AreChecked, Tells, TellsPlace, TellsVolume, check_status}
-use Rattle.adf_disk_cmd.specs.Lines.{is_dos, list_line, list_lines, name_text, volume_at}
+use Rattle.adf_disk_cmd.specs.Lines.{is_checked, list_line, list_lines, name_text, volume_at}
 use Rattle.adf_partitions.specs.declared.partition.Partition.{Partition}
 use Rattle.adf_partitions.specs.declared.place.Place.{Place}
 use Rattle.adf_runs.specs.Commands.{on_output}
@@ -16,8 +17,8 @@ split_at ps i p lt e =
     drop-cons ps i p lt ∙ ap₂ (λ (q : Partition) (k : ℕ). q ∷ drop k ps) (sym e) next
 
 -- a line behind those before it
-pub line_put : (ps left : List Partition) (i : ℕ) (p : Partition) (text : List ℕ) → drop i ps ≡ p ∷ left → text ++ list_lines (i + 1) (drop i ps) ≡ list_lines 1 ps
-    → (text ++ list_line (i + 1) p) ++ list_lines (i + 1 + 1) left ≡ list_lines 1 ps
+pub line_put : (ps left : List Partition) (i : ℕ) (p : Partition) (text : List ℕ) → drop i ps ≡ p ∷ left
+    → text ++ list_lines (i + 1) (drop i ps) ≡ list_lines 1 ps → (text ++ list_line (i + 1) p) ++ list_lines (i + 1 + 1) left ≡ list_lines 1 ps
 unfolding list_lines
 line_put ps left i p text e h =
     append_assoc text (list_line (i + 1) p) (list_lines (i + 1 + 1) left) ∙ ap (λ (k : List Partition). text ++ list_lines (i + 1) k) (sym e) ∙ h
@@ -27,7 +28,7 @@ unfolding list_lines
 lines_end ps n text h = sym (append-nil text) ∙ h
 
 -- what `adf check` answers to a volume is told of its partition
-pub told : (bytes volume line : List ℕ) (p : Partition) (q : Place) (sound : Bool) → p.place ≡ Ok q → is_dos p.dos_type ≡ true
+pub told : (bytes volume line : List ℕ) (p : Partition) (q : Place) (sound : Bool) → p.place ≡ Ok q → is_checked p.dos_type ≡ true
     → volume ≡ volume_at bytes q → Answer check volume (on_output (check_status sound) line) → Tells bytes p sound line
 told bytes volume line p q sound e dos same h =
     let answer : TellsVolume true p.dos_type (volume_at bytes q) sound line =

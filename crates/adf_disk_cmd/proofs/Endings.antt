@@ -35,14 +35,15 @@ counted bytes n e =
 -- what is told of the partitions of a disk answers the request
 pub told_ends : (r : DiskRequestValue) (bytes part : List ℕ) (t : Tables) (ps : List Partition) (w : Outcome) (o o' : Option (List ℕ))
     → part ≡ take MOST_DISK_BYTES bytes → IsDisk part (length part / 512) t ps → EndsBy (OfPartitions r part ps) w o o' → EndsBy (DiskAnswer r bytes) w o o'
-told_ends r bytes part t ps w o o' e disk h =
-    ends_weaker (OfPartitions r part ps) (DiskAnswer r bytes) w o o' (λ reply tells. subst (λ (l : List ℕ). OfDisk r l reply) e (inl (t, ps, disk, tells))) h
+told_ends r bytes part t ps w o o' e disk h = ends_weaker (OfPartitions r part ps) (DiskAnswer r bytes) w o o'
+    (λ reply tells. subst (λ (l : List ℕ). OfDisk r l reply) e (inl (t, ps, disk, tells))) h
 
 -- so does its first fault
 pub refused_ends : (r : DiskRequestValue) (bytes part : List ℕ) (f : DiskFault) (w : Outcome) (o o' : Option (List ℕ))
-    → part ≡ take MOST_DISK_BYTES bytes → FirstFault part (length part / 512) f → EndsBy (λ reply. reply ≡ disk_refusal r f) w o o' → EndsBy (DiskAnswer r bytes) w o o'
-refused_ends r bytes part f w o o' e first h =
-    ends_weaker (λ reply. reply ≡ disk_refusal r f) (DiskAnswer r bytes) w o o' (λ reply tells. subst (λ (l : List ℕ). OfDisk r l reply) e (inr (f, first, tells))) h
+    → part ≡ take MOST_DISK_BYTES bytes → FirstFault part (length part / 512) f → EndsBy (λ reply. reply ≡ disk_refusal r f) w o o'
+    → EndsBy (DiskAnswer r bytes) w o o'
+refused_ends r bytes part f w o o' e first h = ends_weaker (λ reply. reply ≡ disk_refusal r f) (DiskAnswer r bytes) w o o'
+    (λ reply tells. subst (λ (l : List ℕ). OfDisk r l reply) e (inr (f, first, tells))) h
 
 -- the work of `check` is that of no other request
 pub checks : (work : Work) (r : DiskRequestValue) → work ≡ Check → Serves work r → r ≡ check

@@ -5,7 +5,7 @@ use Rattle.std.specs.Prelude.{codes, find, length, ◌/◌, take}
 use Rattle.adf_cmd.proofs.OneAnswer.{one_answer as one_check}
 use Rattle.adf_disk_cmd.specs.Answers.{ChecksAll, CopiesVolume, DiskAnswer, IsWanted, OfDisk, OfPartitions, disk_refusal, volume_reply}
 use Rattle.adf_disk_cmd.specs.Checks.{AreChecked, TellsPlace, TellsText, TellsVolume, check_status}
-use Rattle.adf_disk_cmd.specs.Lines.{bytes_text, is_dos, name_text, volume_at}
+use Rattle.adf_disk_cmd.specs.Lines.{bytes_text, is_checked, name_text, volume_at}
 use Rattle.adf_disk_cmd.specs.declared.work.TheConstants.{MOST_DISK_BYTES}
 use Rattle.adf_partitions.proofs.OneAnswer.{no_fault, one_disk, one_fault}
 use Rattle.adf_partitions.specs.FaultTexts.{place_fault_text}
@@ -42,7 +42,7 @@ volume_once false dos image s t l m h g = text_once (codes "type " ++ bytes_text
 
 place_once : (bytes : List ℕ) (place : Result Place PlaceFault) (dos : ℕ) (s t : Bool) (l m : List ℕ) → TellsPlace bytes place dos s l
     → TellsPlace bytes place dos t m → (s ≡ t) × (l ≡ m)
-place_once bytes (Ok q) dos s t l m h g = volume_once (is_dos dos) dos (volume_at bytes q) s t l m h g
+place_once bytes (Ok q) dos s t l m h g = volume_once (is_checked dos) dos (volume_at bytes q) s t l m h g
 place_once bytes (Err f) dos s t l m h g = text_once (place_fault_text f) s t l m h g
 
 checked_once : (bytes : List ℕ) (ps : List Partition) (s t : Bool) (l m : List ℕ) → AreChecked bytes ps s l → AreChecked bytes ps t m → (s ≡ t) × (l ≡ m)

@@ -7,7 +7,7 @@ use Rattle.adf_partitions.specs.FaultTexts.{place_fault_text}
 use Rattle.adf_partitions.specs.declared.partition.Partition.{Partition}
 use Rattle.adf_partitions.specs.declared.place.Place.{Place}
 use Rattle.adf_partitions.specs.declared.place.PlaceFault.{PlaceFault}
-use Rattle.adf_disk_cmd.specs.Lines.{bytes_text, is_dos, name_text, volume_at}
+use Rattle.adf_disk_cmd.specs.Lines.{bytes_text, is_checked, name_text, volume_at}
 
 -- the status of a check: 0 where all is sound
 abbrev pub check_status : Bool → ℕ
@@ -17,14 +17,14 @@ check_status sound = if sound then 0 else 1
 abbrev pub TellsText : List ℕ → Bool → List ℕ → Type 0
 TellsText text sound line = (sound ≡ false) × (line ≡ text ++ codes "\n")
 
--- of a volume of this type its line tells what `adf check` answers, where the type is one of a volume's, and else the type
+-- of a volume of this type its line tells what `adf check` answers, where the type is checked, and else the type
 abbrev pub TellsVolume : Bool → ℕ → List ℕ → Bool → List ℕ → Type 0
 TellsVolume true t volume sound line = Answer check volume (on_output (check_status sound) line)
 TellsVolume false t volume sound line = TellsText (codes "type " ++ bytes_text t) sound line
 
 -- of a partition that has a place its line tells of the volume there, and of another one what is wrong with it
 abbrev pub TellsPlace : List ℕ → Result Place PlaceFault → ℕ → Bool → List ℕ → Type 0
-TellsPlace bytes (Ok q) t sound line = TellsVolume (is_dos t) t (volume_at bytes q) sound line
+TellsPlace bytes (Ok q) t sound line = TellsVolume (is_checked t) t (volume_at bytes q) sound line
 TellsPlace bytes (Err f) t sound line = TellsText (place_fault_text f) sound line
 
 -- what is told of a partition

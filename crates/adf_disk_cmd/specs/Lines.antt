@@ -1,5 +1,5 @@
 -- The lines of partitions. p is a partition, n its number; t is the type of a file system, its four bytes as one number.
-use Rattle.std.specs.Prelude.{ℕ, ◌+◌, ◌*◌, ◌==◌, ◌&&◌, nat_le, Bool, List, [], ◌∷◌, ◌++◌, codes, drop, take, Result, Ok, Err, if◌then◌else◌}
+use Rattle.std.specs.Prelude.{ℕ, ◌+◌, ◌*◌, ◌==◌, ◌&&◌, ◌||◌, nat_le, Bool, List, [], ◌∷◌, ◌++◌, codes, drop, take, Result, Ok, Err, if◌then◌else◌}
 use Rattle.std.specs.Fmt.{decimal, signed_decimal}
 use Rattle.std.specs.Int.{to_be_bytes, w32}
 use Rattle.adf_partitions.specs.FaultTexts.{place_fault_text}
@@ -18,9 +18,9 @@ bytes_text t = escaped (to_be_bytes w32 t)
 abbrev pub type_text : ℕ → List ℕ
 type_text t = if t == DOS then codes "ofs" else (if t == DOS + 1 then codes "ffs" else bytes_text t)
 
--- whether a type is one of those that a volume says of itself: `DOS\0` to `DOS\5`
-abbrev pub is_dos : ℕ → Bool
-is_dos t = nat_le DOS t && nat_le t (DOS + 5)
+-- whether a volume of this type is checked: of `DOS\0` to `DOS\5`, and of 0, which says nothing of the volume
+abbrev pub is_checked : ℕ → Bool
+is_checked t = (t == 0) || (nat_le DOS t && nat_le t (DOS + 5))
 
 -- the name of a partition, which need not be valid, and a colon
 abbrev pub name_text : Partition → List ℕ

@@ -8,7 +8,7 @@ ghost use Rattle.adf_runs.specs.Outcomes.{EndsBy, is_read_fault, is_write_fault}
 
 use crate::answering::write_text;
 use crate::listing::push_name;
-use crate::types::{bytes_text, is_dos};
+use crate::types::{bytes_text, is_checked};
 use crate::volumes::volume_at;
 use adf_cmd::{CheckAnswer, answer_to_image};
 use adf_partitions::Partition;
@@ -31,7 +31,7 @@ fn answer_to_partition(
     ensures { IfOk result (λ a. Tells bytes.now partition.now a.sound (string_bytes a.line)) }
 {
     let line = match partition.place {
-        Ok(place) if is_dos(partition.dos_type) => {
+        Ok(place) if is_checked(partition.dos_type) => {
             return answer_to_image(alloc, volume_at(bytes, place));
         }
         Ok(_) => {

@@ -1,7 +1,7 @@
 // The types of file systems.
 
 ghost use Rattle.std.specs.Prelude.{◌≡◌, string_bytes, IfOk};
-ghost use Rattle.adf_disk_cmd.specs.Lines.{bytes_text, is_dos, type_text};
+ghost use Rattle.adf_disk_cmd.specs.Lines.{bytes_text, is_checked, type_text};
 
 use adf_tree::ShortText;
 use std::alloc::{AllocError, Global};
@@ -9,11 +9,11 @@ use std::alloc::{AllocError, Global};
 /// The first of the types `DOS\0` to `DOS\5`: that of an OFS volume. The next one is that of FFS.
 pub const DOS: u32 = 0x444F_5300;
 
-/// Whether a type is one of those that a volume says of itself, `DOS\0` to `DOS\5`.
-pub fn is_dos(dos_type: u32) -> bool
-    ensures { result ≡ is_dos dos_type }
+/// Whether a volume of this type is checked: of `DOS\0` to `DOS\5`, and of 0, which says nothing of the volume.
+pub fn is_checked(dos_type: u32) -> bool
+    ensures { result ≡ is_checked dos_type }
 {
-    DOS <= dos_type && dos_type <= DOS + 5
+    dos_type == 0 || DOS <= dos_type && dos_type <= DOS + 5
 }
 
 /// The four bytes of a type, in the escape form.

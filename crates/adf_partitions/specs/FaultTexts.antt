@@ -5,7 +5,8 @@ use Rattle.adf_partitions.specs.declared.fault.DiskCause.{DiskCause}
 use Rattle.adf_partitions.specs.declared.fault.DiskCause.TheVariants.{NoRigidDisk, BlockSize, OutOfRange, Repeated, NotPartition, BadSum, TooMany, NoMemory}
 use Rattle.adf_partitions.specs.declared.fault.DiskFault.{DiskFault}
 use Rattle.adf_partitions.specs.declared.place.PlaceFault.{PlaceFault}
-use Rattle.adf_partitions.specs.declared.place.PlaceFault.TheVariants.{ShortEnvironment, OtherBlocks, NoCylinders, BeyondImage, OverTables, OverPartition, BadName}
+use Rattle.adf_partitions.specs.declared.place.PlaceFault.TheVariants.{ShortEnvironment, OtherBlocks, NoCylinders, BeyondImage}
+use Rattle.adf_partitions.specs.declared.place.PlaceFault.TheVariants.{OverTables, OverPartition, BadName}
 
 -- what is wrong with a disk
 abbrev pub disk_cause_text : DiskCause → List ℕ
