@@ -23,6 +23,14 @@ _adf_survey() {
     fi
 }
 
+_adf_disk() {
+    if [[ ${COMP_WORDS[COMP_CWORD - 1]} == [\<\>] ]]; then
+        compopt -o default
+    elif ((COMP_CWORD == 1)); then
+        COMPREPLY=($(compgen -W "list check volume" -- "$2"))
+    fi
+}
+
 _adf_files() {
     case $1:$2 in
         adf-mount:-*) COMPREPLY=($(compgen -W "-f -o -h --help -V --version" -- "$2")) ;;
@@ -39,4 +47,5 @@ _adf_files() {
 
 complete -F _adf adf
 complete -F _adf_survey adf-survey
+complete -F _adf_disk adf-disk
 complete -o default -F _adf_files adf-catalogue adf-map adf-mount adf-pack adf-recipe adf-shelf adf-unpack

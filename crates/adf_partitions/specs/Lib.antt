@@ -1,5 +1,6 @@
 -- All of it is the promise.
 pub mod Faults
+pub mod FaultTexts
 pub mod Summed
 pub mod Tables
 pub mod Places

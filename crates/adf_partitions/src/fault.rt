@@ -2,6 +2,10 @@
 
 ghost use Rattle.std.specs.Prelude.{◌≡◌};
 ghost use Rattle.adf_partitions.specs.Faults.{disk_fault};
+ghost use Rattle.adf_partitions.specs.FaultTexts.{disk_cause_text};
+
+use std::error::Error;
+use std::fmt;
 
 /// What is wrong with the tables of a disk, or `NoMemory`.
 #[derive(Clone, Copy, Debug, PartialEq, Eq)]
@@ -25,12 +29,58 @@ pub enum DiskCause {
     NoMemory,
 }
 
+impl DiskCause {
+    /// The text of the cause as printed, in lower case.
+    pub fn text(self) -> &'static str
+        ensures { result.now ≡ disk_cause_text self }
+    {
+        match self {
+            DiskCause::NoRigidDisk => "no rigid disk",
+            DiskCause::BlockSize => "bad block size",
+            DiskCause::OutOfRange => "out of range",
+            DiskCause::Repeated => "repeated",
+            DiskCause::NotPartition => "not a partition",
+            DiskCause::BadSum => "bad sum",
+            DiskCause::TooMany => "too many",
+            DiskCause::NoMemory => "no memory",
+        }
+    }
+}
+
+impl fmt::Display for DiskCause {
+    ghost use Rattle.std.specs.Prelude.{Some};
+    ghost use Rattle.adf_partitions.specs.FaultTexts.{disk_cause_text};
+
+    ghost output = { λ x. Some (disk_cause_text x) };
+
+    fn fmt<W: fmt::Write>(&self, f: &mut fmt::Formatter<W>) -> fmt::Result {
+        f.write_str(self.text())
+    }
+}
+
+impl Error for DiskCause {}
+
 /// Why the partitions of a disk cannot be read, and the block of the fault.
 #[derive(Clone, Copy, Debug, PartialEq, Eq)]
 pub struct DiskFault {
     pub block: u32,
     pub cause: DiskCause,
 }
+
+impl fmt::Display for DiskFault {
+    ghost use Rattle.std.specs.Prelude.{Some};
+    ghost use Rattle.adf_partitions.specs.FaultTexts.{disk_fault_text};
+
+    ghost output = { λ f. Some (disk_fault_text f) };
+
+    fn fmt<W: fmt::Write>(&self, f: &mut fmt::Formatter<W>) -> fmt::Result {
+        let block = self.block;
+        let cause = self.cause;
+        write!(f, "block {block}: {cause}")
+    }
+}
+
+impl Error for DiskFault {}
 
 /// A fault at a block.
 pub fn disk_fault(block: u32, cause: DiskCause) -> DiskFault

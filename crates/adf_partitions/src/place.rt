@@ -2,11 +2,14 @@
 
 ghost use Rattle.std.specs.Prelude.{◌≡◌, ◌≤◌, ◌+◌, SomeIff};
 ghost use Rattle.adf_fields.specs.Words.{word};
+ghost use Rattle.adf_partitions.specs.FaultTexts.{place_fault_text};
 ghost use Rattle.adf_partitions.specs.Places.{cylinder_of, do_overlap, end_of, has_cylinders, is_before_end, is_over_tables, place_of};
 
 use crate::layout::{HIGH_CYLINDER, LOW_CYLINDER, SURFACES, TRACK_BLOCKS};
 use crate::tables::Tables;
 use adf_fields::Block;
+use std::error::Error;
+use std::fmt;
 
 /// Where a volume lies on a disk.
 #[derive(Clone, Copy, Debug, PartialEq, Eq)]
@@ -35,6 +38,36 @@ pub enum PlaceFault {
     /// The drive's name is empty, longer than 31 bytes, or has `/` or `:`.
     BadName,
 }
+
+impl PlaceFault {
+    /// The text of the fault as printed, in lower case.
+    pub fn text(self) -> &'static str
+        ensures { result.now ≡ place_fault_text self }
+    {
+        match self {
+            PlaceFault::ShortEnvironment => "short environment",
+            PlaceFault::OtherBlocks => "bad block size",
+            PlaceFault::NoCylinders => "bad cylinders",
+            PlaceFault::BeyondImage => "beyond image",
+            PlaceFault::OverTables => "over tables",
+            PlaceFault::OverPartition => "over partition",
+            PlaceFault::BadName => "bad name",
+        }
+    }
+}
+
+impl fmt::Display for PlaceFault {
+    ghost use Rattle.std.specs.Prelude.{Some};
+    ghost use Rattle.adf_partitions.specs.FaultTexts.{place_fault_text};
+
+    ghost output = { λ x. Some (place_fault_text x) };
+
+    fn fmt<W: fmt::Write>(&self, f: &mut fmt::Formatter<W>) -> fmt::Result {
+        f.write_str(self.text())
+    }
+}
+
+impl Error for PlaceFault {}
 
 // The blocks of a cylinder: surfaces times blocks of a track.
 #[tactic(auto, using(crate::proofs::Products::product_fits))]

@@ -5,7 +5,7 @@ ghost use Rattle.std.specs.Prelude.{length};
 
 use adf_fields::{seal, set_word};
 use adf_partitions::{Disk, DiskCause, DiskFault, Partition, Place, PlaceFault, disk_fault};
-use std::alloc::Global;
+use std::alloc::{AllocError, Global};
 use std::test::Fail;
 
 type Tables = [u8; 2048];
@@ -97,8 +97,8 @@ fn put_summed(tables: &mut Tables, b: u32, words: &[(usize, u32)]) {
     }
 }
 
-// The disk, with these words of a block changed.
-fn changed(b: u32, words: &[(usize, u32)]) -> Tables {
+/// The tables, with these words of a block changed.
+pub fn changed(b: u32, words: &[(usize, u32)]) -> Tables {
     let mut tables = [0; 2048];
     put_summed(&mut tables, 0, RIGID_DISK);
     put_summed(&mut tables, 2, DH0);
@@ -240,5 +240,49 @@ fn other_blocks_may_be_the_rigid_disk_block(rt: HostRuntime) -> Result<(), Fail>
     put(&mut tables, 0, RIGID_DISK);
     let disk = Disk::open(rt.alloc(), &tables, 80)?;
     assert_eq!(rt; (disk.tables.rdsk, disk.partitions.len()), (3, 0));
+    Ok(())
+}
+
+// A partition block whose sum is that of its first 3 words, and which names the next one.
+fn short_part(next: u32) -> [u8; 512] {
+    let mut part = [0; 512];
+    set_word(&mut part, 0, 0, 0x5041_5254);
+    set_word(&mut part, 0, 1, 3);
+    set_word(&mut part, 0, 2, 0xAFBE_ADA9);
+    set_word(&mut part, 0, 4, next);
+    part
+}
+
+// A disk with so many partitions, in the blocks from 1 on.
+fn long_list(alloc: Global, count: u32) -> Result<Vec<u8>, AllocError> {
+    let mut rigid_disk = [0; 512];
+    for (i, value) in [
+        (0, 0x5244_534B),
+        (1, 3),
+        (2, 0xADBB_ACB2),
+        (4, 512),
+        (7, 1),
+        (33, 2048),
+    ] {
+        if i < 128 {
+            set_word(&mut rigid_disk, 0, i, value);
+        }
+    }
+    let mut disk = Vec::from_slice(alloc, &rigid_disk)?;
+    for b in 1..count {
+        disk.extend_from_slice(&short_part(b + 1))?;
+    }
+    disk.extend_from_slice(&short_part(NONE))?;
+    Ok(disk)
+}
+
+#[test]
+fn a_list_has_at_most_1024_partitions(rt: HostRuntime) -> Result<(), Fail> {
+    let longest = long_list(rt.alloc(), 1024)?;
+    let disk = Disk::open(rt.alloc(), &longest, 1025)?;
+    assert_eq!(rt; disk.partitions.len(), 1024);
+    let longer = long_list(rt.alloc(), 1025)?;
+    let wanted = disk_fault(1025, DiskCause::TooMany);
+    assert!(rt; Disk::open(rt.alloc(), &longer, 1026).err() == Some(wanted));
     Ok(())
 }

@@ -4,6 +4,8 @@
 #[cfg(test)]
 mod devices;
 #[cfg(test)]
+mod disk_runs;
+#[cfg(test)]
 mod disks;
 #[cfg(test)]
 mod images_in_memory;

@@ -1,2 +1,2 @@
 pub mod Refusals
-pub mod BlockNumbers
+pub mod Numbers

@@ -1,9 +1,10 @@
--- Kinds of refusals, and that clap tells those of the three command lines.
+-- Kinds of refusals, and that clap tells those of the command lines.
 use Rattle.std.proofs.Common.{◌≡◌, [], ◌∷◌, true, refl}
 use Rattle.clap.specs.Words.{IsAmong, Kinds, is_simple, is_simple_and_free}
 use Rattle.clap.specs.declared.error.kind.ErrorKind.{ErrorKind}
 use Rattle.clap.proofs.OnLiterals.{clap_on_literals}
 use Rattle.adf_words.specs.CommandLine.{adf_app}
+use Rattle.adf_words.specs.DiskLine.{disk_app}
 use Rattle.adf_words.specs.ShelfLine.{shelf_app}
 use Rattle.adf_words.specs.SurveyLine.{survey_app}
 
@@ -15,6 +16,10 @@ among_some k (x ∷ xs) h = λ e. cc
 pub adf_simple : is_simple_and_free adf_app ≡ true
 unfolding clap_on_literals
 adf_simple = refl
+
+pub disk_simple : is_simple_and_free disk_app ≡ true
+unfolding clap_on_literals
+disk_simple = refl
 
 pub survey_free : is_simple_and_free survey_app ≡ true
 unfolding clap_on_literals

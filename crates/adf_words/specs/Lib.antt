@@ -1,3 +1,4 @@
 pub mod CommandLine
 pub mod SurveyLine
 pub mod ShelfLine
+pub mod DiskLine

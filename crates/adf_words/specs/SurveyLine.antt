@@ -56,9 +56,9 @@ pub record InquiryValue : Type 0 where
 abbrev pub asked : Option ℕ → QuestionValue → InquiryValue
 asked blocks question = record { blocks = blocks; question = question }
 
--- a number of blocks: decimal digits, up to that of the largest volume
-abbrev pub blocks_named : Text → Option ℕ
-blocks_named text =
+-- a number: decimal digits, up to the blocks of the largest volume
+abbrev pub number_named : Text → Option ℕ
+number_named text =
     if (all_ascii_digits text && nat_le 1 (length text)) && nat_le (digits_value 10 text) MOST_BLOCKS then Some (digits_value 10 text) else None
 
 -- no more blocks than the largest volume has
@@ -67,7 +67,7 @@ AreFew blocks = IfSome blocks (λ n. n ≤ MOST_BLOCKS)
 
 -- the blocks that the matches name, if any
 abbrev pub blocks_met : List Row → Option (Option ℕ)
-blocks_met rows = elim (first_of (codes "blocks") rows) [ None ↦ Some None | Some text ↦ option_map Some (blocks_named text) ]
+blocks_met rows = elim (first_of (codes "blocks") rows) [ None ↦ Some None | Some text ↦ option_map Some (number_named text) ]
 
 -- the flag --damaged is among the matches
 abbrev pub asks_damaged : List Row → Bool

@@ -4,7 +4,7 @@ ghost use Rattle.std.specs.Prelude.{◌≡◌, ◌==◌, IfOk, IfErr, IfSome, �
 ghost use Rattle.clap.specs.Words.{app_of, found_of, rows_of, subcommand_rows_of};
 ghost use Rattle.clap.specs.declared.builder.command.Command.TheViews.{out-Command};
 ghost use Rattle.adf_words.specs.CommandLine.{texts_of};
-ghost use Rattle.adf_words.specs.SurveyLine.{AreFew, AsksSurvey, AreRefusedBySurvey, ExplainsSurveyWords, blocks_met, blocks_named, asked, cat, flagged_survey, list, inquiry_met, inquiry_value, question_met, question_named, question_value, report, rescue, survey_app, survey_cat_app};
+ghost use Rattle.adf_words.specs.SurveyLine.{AreFew, AsksSurvey, AreRefusedBySurvey, ExplainsSurveyWords, blocks_met, number_named, asked, cat, flagged_survey, list, inquiry_met, inquiry_value, question_met, question_named, question_value, report, rescue, survey_app, survey_cat_app};
 
 use crate::command_line::{WordsFault, cat_command, first_text, has_flag, list_flag};
 use adf_blocks::MOST_BLOCKS;
@@ -70,9 +70,9 @@ fn command<'a>(alloc: Global) -> Result<Command<'a>, AllocError>
         .subcommand(Command::new(alloc, "rescue"))
 }
 
-// The number of blocks that a text is.
-fn blocks_named(text: &str) -> Option<u32>
-    ensures named { result ≡ blocks_named text.now }
+// The number that a text is: decimal digits, up to the blocks of the largest volume.
+pub(crate) fn number_named(text: &str) -> Option<u32>
+    ensures named { result ≡ number_named text.now }
     ensures few { AreFew result }
 {
     let bytes = text.as_bytes();
@@ -91,7 +91,7 @@ fn blocks_in(matches: &ArgMatches<'_>) -> Option<Option<u32>>
     ensures few { IfSome result AreFew }
 {
     match first_text(matches, "blocks") {
-        Some(text) => match blocks_named(text) {
+        Some(text) => match number_named(text) {
             Some(blocks) => Some(Some(blocks)),
             None => None,
         },

@@ -1,6 +1,6 @@
 use Rattle.std.proofs.Common.{◌≡◌, ◌≢◌, ◌∙◌, ℕ, List, Err, Ok, ap, arith, get_or, sym}
-use Rattle.adf_words.proofs.BlockNumbers.{named, none_named}
-use Rattle.adf_words.proofs.survey_line.blocks_named.Goals as goal
+use Rattle.adf_words.proofs.Numbers.{named, none_named}
+use Rattle.adf_words.proofs.survey_line.number_named.Goals as goal
 
 no_sign : (t bytes : List ℕ) → bytes ≡ t → get_or bytes 0 0 ≢ 43 → get_or t 0 0 ≢ 43
 no_sign t bytes same h e = h (ap (λ l. get_or l 0 0) same ∙ e)

@@ -1,4 +1,4 @@
--- Texts that are numbers of blocks.
+-- Texts that are numbers.
 -- Letters: t a text; r what `parse` answers of it; a, b, c tests.
 use Rattle.std.proofs.Common.{◌≡◌, ◌≢◌, ◌<◌, ◌≤◌, ◌^◌, ◌&&◌, ℕ, Bool, true, false, List, Some, None, Result, Ok, ap, arith, cond, get_or, length, refl, subst}
 use Rattle.std.specs.Result.{OkIff}
@@ -8,7 +8,7 @@ use Rattle.std.proofs.lemmas.Bool.{le-leb, leb-true}
 use Rattle.std.proofs.lemmas.Result.{Ok-from_Ok_iff}
 use Rattle.std.proofs.lemmas.Str.Parse.{IsNumeralModel, numerals_by_value, parse_plain, tells_all_ascii_digits}
 use Rattle.adf_blocks.specs.declared.layout.TheConstants.{MOST_BLOCKS}
-use Rattle.adf_words.specs.SurveyLine.{blocks_named}
+use Rattle.adf_words.specs.SurveyLine.{number_named}
 
 numerals : IsNumeralModel (λ ds. all_ascii_digits ds ≡ true) (digits_value 10)
 numerals = numerals_by_value (λ ds. all_ascii_digits ds ≡ true) tells_all_ascii_digits
@@ -27,7 +27,7 @@ module _ {E : Type 0} (t : List ℕ) (r : Result ℕ E) (h : ParsesUnsigned 32 1
   plain = parse_plain numerals 32 t r h first
 
   -- a number that is not too large is named
-  pub named : (n : ℕ) → r ≡ Ok n → n ≤ MOST_BLOCKS → Some n ≡ blocks_named t
+  pub named : (n : ℕ) → r ≡ Ok n → n ≤ MOST_BLOCKS → Some n ≡ number_named t
   named n e few =
       let ok = subst (λ q. OkIff q Fits (digits_value 10 t)) e plain in
       let long = le-leb 1 (length t) (omega (arith, ok.0.1)) in
@@ -35,7 +35,7 @@ module _ {E : Type 0} (t : List ℕ) (r : Result ℕ E) (h : ParsesUnsigned 32 1
       rw (ok.0.0, long, small) (ap Some ok.1)
 
   -- nothing else is
-  pub none_named : ((n : ℕ) → r ≡ Ok n → MOST_BLOCKS < n) → None ≡ blocks_named t
+  pub none_named : ((n : ℕ) → r ≡ Ok n → MOST_BLOCKS < n) → None ≡ number_named t
   none_named large = unnamed (digits_value 10 t) _ _ _ (λ a b c.
       let small = leb-true (digits_value 10 t) MOST_BLOCKS c in
       let some = leb-true 1 (length t) b in

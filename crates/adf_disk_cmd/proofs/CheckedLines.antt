@@ -1,0 +1,75 @@
+-- The lines of partitions, one behind the other.
+use Rattle.std.proofs.Common.{◌≡◌, ◌&&◌, ◌<◌, ◌+◌, ◌++◌, ◌∙◌, ℕ, Bool, true, false, List, [], ◌∷◌, Ok, ap, ap₂, arith, suc, refl, subst, sym}
+use Rattle.std.proofs.Common.{append-nil, append_assoc, drop, get_or, length}
+use Rattle.std.proofs.Math.Seq.{drop-cons}
+use Rattle.adf_cmd.specs.Answers.{Answer}
+use Rattle.adf_disk_cmd.specs.Checks.{AreChecked, Tells, TellsPlace, TellsVolume, check_status}
+use Rattle.adf_disk_cmd.specs.Lines.{is_checked, list_line, list_lines, name_text, volume_at}
+use Rattle.adf_partitions.specs.declared.partition.Partition.{Partition}
+use Rattle.adf_partitions.specs.declared.place.Place.{Place}
+use Rattle.adf_runs.specs.Commands.{on_output}
+use Rattle.adf_words.specs.CommandLine.{check}
+
+-- what is left from a partition on
+pub split_at : (ps : List Partition) (i : ℕ) (p : Partition) → i < length ps → p ≡ get_or ps i p → drop i ps ≡ p ∷ drop (i + 1) ps
+split_at ps i p lt e =
+    let next : suc i ≡ i + 1 = omega arith in
+    drop-cons ps i p lt ∙ ap₂ (λ (q : Partition) (k : ℕ). q ∷ drop k ps) (sym e) next
+
+-- a line behind those before it
+pub line_put : (ps left : List Partition) (i : ℕ) (p : Partition) (text : List ℕ) → drop i ps ≡ p ∷ left
+    → text ++ list_lines (i + 1) (drop i ps) ≡ list_lines 1 ps → (text ++ list_line (i + 1) p) ++ list_lines (i + 1 + 1) left ≡ list_lines 1 ps
+unfolding list_lines
+line_put ps left i p text e h =
+    append_assoc text (list_line (i + 1) p) (list_lines (i + 1 + 1) left) ∙ ap (λ (k : List Partition). text ++ list_lines (i + 1) k) (sym e) ∙ h
+
+pub lines_end : (ps : List Partition) (n : ℕ) (text : List ℕ) → text ++ list_lines n [] ≡ list_lines 1 ps → text ≡ list_lines 1 ps
+unfolding list_lines
+lines_end ps n text h = sym (append-nil text) ∙ h
+
+-- what `adf check` answers to a volume is told of its partition
+pub told : (bytes volume line : List ℕ) (p : Partition) (q : Place) (sound : Bool) → p.place ≡ Ok q → is_checked p.dos_type ≡ true
+    → volume ≡ volume_at bytes q → Answer check volume (on_output (check_status sound) line) → Tells bytes p sound line
+told bytes volume line p q sound e dos same h =
+    let answer : TellsVolume true p.dos_type (volume_at bytes q) sound line =
+    subst (λ (v : List ℕ). Answer check v (on_output (check_status sound) line)) same h in
+    let typed = subst (λ (b : Bool). TellsVolume b p.dos_type (volume_at bytes q) sound line) (sym dos) answer in
+    subst (λ place. TellsPlace bytes place p.dos_type sound line) (sym e) typed
+
+-- the lines of what is left, behind a text, are those of all
+abbrev pub Continues : List ℕ → List Partition → List Partition → Bool → List ℕ → Type 0
+Continues bytes ps left sound text =
+    (others : Bool) (rest : List ℕ) → AreChecked bytes left others rest → AreChecked bytes ps (sound && others) (text ++ rest)
+
+and_assoc : (a b c : Bool) → (a && (b && c)) ≡ ((a && b) && c)
+and_assoc true b c = refl
+and_assoc false b c = refl
+
+and_true : (a : Bool) → (a && true) ≡ a
+and_true true = refl
+and_true false = refl
+
+pub begun : (bytes : List ℕ) (ps : List Partition) → Continues bytes ps ps true []
+begun bytes ps = λ others rest h. h
+
+line_added : (bytes : List ℕ) (ps left : List Partition) (p : Partition) (sound one : Bool) (text line : List ℕ)
+    → Continues bytes ps (p ∷ left) sound text → Tells bytes p one line → Continues bytes ps left (sound && one) (text ++ (name_text p ++ line))
+unfolding AreChecked
+line_added bytes ps left p sound one text line all tells = λ others rest h.
+    let more = all (one && others) ((name_text p ++ line) ++ rest) (one, others, line, rest, tells, h, refl, refl) in
+    let told = subst (λ s. AreChecked bytes ps s (text ++ ((name_text p ++ line) ++ rest))) (and_assoc sound one others) more in
+    subst (λ t. AreChecked bytes ps ((sound && one) && others) t) (sym (append_assoc text (name_text p ++ line) rest)) told
+
+-- the line of a partition behind those before it
+pub stepped : (bytes : List ℕ) (ps left : List Partition) (p : Partition) (sound one next : Bool) (text line more : List ℕ)
+    → Continues bytes ps (p ∷ left) sound text → Tells bytes p one line → next ≡ (sound && one) → more ≡ text ++ (name_text p ++ line)
+    → Continues bytes ps left next more
+stepped bytes ps left p sound one next text line more all tells e f =
+    let added = line_added bytes ps left p sound one text line all tells in
+    subst (λ s. Continues bytes ps left s more) (sym e) (subst (λ t. Continues bytes ps left (sound && one) t) (sym f) added)
+
+pub ended : (bytes : List ℕ) (ps : List Partition) (sound : Bool) (text : List ℕ) → Continues bytes ps [] sound text → AreChecked bytes ps sound text
+unfolding AreChecked
+ended bytes ps sound text all =
+    let told = subst (λ s. AreChecked bytes ps s (text ++ [])) (and_true sound) (all true [] (refl, refl)) in
+    subst (λ t. AreChecked bytes ps sound t) (append-nil text) told

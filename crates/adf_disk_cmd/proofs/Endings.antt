@@ -1,0 +1,62 @@
+-- How works end, and by which answers. `part` are the first bytes of an input, as many as count.
+use Rattle.std.proofs.Common.{◌≡◌, ◌+◌, ◌*◌, ◌-◌, ◌/◌, ◌∙◌, inl, inr, ℕ, List, Option, ap, arith, drop, length, min, subst, take}
+use Rattle.std.proofs.lemmas.List.{drop_min, length-drop, take-take, take_all, take_min}
+use Rattle.adf_disk_cmd.specs.Answers.{DiskAnswer, OfDisk, OfPartitions, disk_refusal}
+use Rattle.adf_disk_cmd.specs.Lines.{volume_at}
+use Rattle.adf_disk_cmd.specs.Work.{Serves}
+use Rattle.adf_disk_cmd.specs.declared.work.TheConstants.{MOST_DISK_BYTES}
+use Rattle.adf_disk_cmd.specs.declared.work.Work.{Work}
+use Rattle.adf_disk_cmd.specs.declared.work.Work.TheVariants.{Check}
+use Rattle.adf_partitions.specs.Disks.{FirstFault, IsDisk}
+use Rattle.adf_partitions.specs.declared.fault.DiskFault.{DiskFault}
+use Rattle.adf_partitions.specs.declared.partition.Partition.{Partition}
+use Rattle.adf_partitions.specs.declared.place.Place.{Place}
+use Rattle.adf_partitions.specs.declared.tables.Tables.{Tables}
+use Rattle.adf_runs.proofs.Endings.{ends_weaker}
+use Rattle.adf_runs.specs.Commands.{Reply}
+use Rattle.adf_runs.specs.Outcomes.{EndsBy}
+use Rattle.adf_runs.specs.declared.outcome.Outcome.{Outcome}
+use Rattle.adf_words.specs.DiskLine.{DiskRequestValue, check}
+
+-- what is answered to the front of an input that is longer than the largest disk is answered to the whole of it
+pub long_answers : (r : DiskRequestValue) (front bytes : List ℕ) → front ≡ take (MOST_DISK_BYTES + 1) bytes → (reply : Reply) → DiskAnswer r front reply
+    → DiskAnswer r bytes reply
+long_answers r front bytes e reply h =
+    let same : take MOST_DISK_BYTES front ≡ take MOST_DISK_BYTES bytes =
+    ap (take MOST_DISK_BYTES) e ∙ take-take MOST_DISK_BYTES (MOST_DISK_BYTES + 1) bytes (omega arith) in
+    subst (λ (l : List ℕ). OfDisk r l reply) same h
+
+-- as many bytes count as the largest disk has
+pub counted : (bytes : List ℕ) (n : ℕ) → n ≡ min (length bytes) MOST_DISK_BYTES → take n bytes ≡ take MOST_DISK_BYTES bytes
+counted bytes n e =
+    let swapped : n ≡ min MOST_DISK_BYTES (length bytes) = omega (arith, e) in
+    ap (λ (k : ℕ). take k bytes) swapped ∙ take_min MOST_DISK_BYTES bytes
+
+-- what is told of the partitions of a disk answers the request
+pub told_ends : (r : DiskRequestValue) (bytes part : List ℕ) (t : Tables) (ps : List Partition) (w : Outcome) (o o' : Option (List ℕ))
+    → part ≡ take MOST_DISK_BYTES bytes → IsDisk part (length part / 512) t ps → EndsBy (OfPartitions r part ps) w o o' → EndsBy (DiskAnswer r bytes) w o o'
+told_ends r bytes part t ps w o o' e disk h = ends_weaker (OfPartitions r part ps) (DiskAnswer r bytes) w o o'
+    (λ reply tells. subst (λ (l : List ℕ). OfDisk r l reply) e (inl (t, ps, disk, tells))) h
+
+-- so does its first fault
+pub refused_ends : (r : DiskRequestValue) (bytes part : List ℕ) (f : DiskFault) (w : Outcome) (o o' : Option (List ℕ))
+    → part ≡ take MOST_DISK_BYTES bytes → FirstFault part (length part / 512) f → EndsBy (λ reply. reply ≡ disk_refusal r f) w o o'
+    → EndsBy (DiskAnswer r bytes) w o o'
+refused_ends r bytes part f w o o' e first h = ends_weaker (λ reply. reply ≡ disk_refusal r f) (DiskAnswer r bytes) w o o'
+    (λ reply tells. subst (λ (l : List ℕ). OfDisk r l reply) e (inr (f, first, tells))) h
+
+-- the work of `check` is that of no other request
+pub checks : (work : Work) (r : DiskRequestValue) → work ≡ Check → Serves work r → r ≡ check
+checks work r e serves = subst (λ (w : Work). Serves w r) e serves
+
+-- a slice of a slice is the volume
+pub volume_is : (bytes : List ℕ) (q : Place) (first count : ℕ) → first ≡ min (q.first * 512) (length bytes)
+    → count ≡ min (q.blocks * 512) (length (take (length bytes - first) (drop first bytes)))
+    → take count (take (length bytes - first) (drop first bytes)) ≡ volume_at bytes q
+unfolding volume_at
+volume_is bytes q first count e f =
+    let behind : List ℕ = drop (q.first * 512) bytes in
+    let all = take_all (length bytes - first) (drop first bytes) (omega (arith, length-drop first bytes)) in
+    let rest : take (length bytes - first) (drop first bytes) ≡ behind = all ∙ ap (λ (k : ℕ). drop k bytes) e ∙ drop_min (q.first * 512) bytes in
+    let cut : count ≡ min (q.blocks * 512) (length behind) = f ∙ ap (λ (l : List ℕ). min (q.blocks * 512) (length l)) rest in
+    ap (take count) rest ∙ ap (λ (k : ℕ). take k behind) cut ∙ take_min (q.blocks * 512) behind

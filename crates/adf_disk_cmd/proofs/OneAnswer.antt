@@ -1,0 +1,87 @@
+-- What is asked of a disk has one answer.
+-- Letters: ps are its partitions, p is one of them; s, t whether it is sound, l, m its lines; a, b replies.
+use Rattle.std.proofs.Common.{◌≡◌, ◌&&◌, ◌++◌, ◌∙◌, ℕ, Bool, true, false, List, [], ◌∷◌, Option, Some, Result, Ok, Err, inl, inr, ap, ap₂, refl, sym, subst}
+use Rattle.std.specs.Prelude.{codes, find, length, ◌/◌, take}
+use Rattle.adf_cmd.proofs.OneAnswer.{one_answer as one_check}
+use Rattle.adf_disk_cmd.specs.Answers.{ChecksAll, CopiesVolume, DiskAnswer, IsWanted, OfDisk, OfPartitions, disk_refusal, volume_reply}
+use Rattle.adf_disk_cmd.specs.Checks.{AreChecked, TellsPlace, TellsText, TellsVolume, check_status}
+use Rattle.adf_disk_cmd.specs.Lines.{bytes_text, is_checked, name_text, volume_at}
+use Rattle.adf_disk_cmd.specs.declared.work.TheConstants.{MOST_DISK_BYTES}
+use Rattle.adf_partitions.proofs.OneAnswer.{no_fault, one_disk, one_fault}
+use Rattle.adf_partitions.specs.FaultTexts.{place_fault_text}
+use Rattle.adf_partitions.specs.Partitions.{is_named}
+use Rattle.adf_partitions.specs.declared.partition.Partition.{Partition}
+use Rattle.adf_partitions.specs.declared.place.Place.{Place}
+use Rattle.adf_partitions.specs.declared.place.PlaceFault.{PlaceFault}
+use Rattle.adf_runs.specs.Commands.{Reply, on_output}
+use Rattle.adf_tree.proofs.Spellings.{only_spelled}
+use Rattle.adf_words.specs.CommandLine.{check as check_volume}
+use Rattle.adf_words.specs.DiskLine.{AsksDisk, DiskRequestValue, WantedValue, check, list, name, number, volume}
+
+pub one_request : (words : List (List ℕ)) (r q : DiskRequestValue) → AsksDisk words r → AsksDisk words q → r ≡ q
+one_request words r q a b = same _ r q a.1 b.1
+  where
+    same : (o : Option DiskRequestValue) (x y : DiskRequestValue) → o ≡ Some x → o ≡ Some y → x ≡ y
+    same o x y p q = cc
+
+same_sound : (s t : Bool) → check_status s ≡ check_status t → s ≡ t
+same_sound true true e = refl
+same_sound true false e = cc
+same_sound false true e = cc
+same_sound false false e = refl
+
+text_once : (text : List ℕ) (s t : Bool) (l m : List ℕ) → TellsText text s l → TellsText text t m → (s ≡ t) × (l ≡ m)
+text_once text s t l m h g = (h.0 ∙ sym g.0, h.1 ∙ sym g.1)
+
+volume_once : (ours : Bool) (dos : ℕ) (image : List ℕ) (s t : Bool) (l m : List ℕ) → TellsVolume ours dos image s l → TellsVolume ours dos image t m
+    → (s ≡ t) × (l ≡ m)
+volume_once true dos image s t l m h g =
+    let same = one_check check_volume image (on_output (check_status s) l) (on_output (check_status t) m) h g in
+    (same_sound s t (ap (λ (r : Reply). r.status) same), ap (λ (r : Reply). r.output) same)
+volume_once false dos image s t l m h g = text_once (codes "type " ++ bytes_text dos) s t l m h g
+
+place_once : (bytes : List ℕ) (place : Result Place PlaceFault) (dos : ℕ) (s t : Bool) (l m : List ℕ) → TellsPlace bytes place dos s l
+    → TellsPlace bytes place dos t m → (s ≡ t) × (l ≡ m)
+place_once bytes (Ok q) dos s t l m h g = volume_once (is_checked dos) dos (volume_at bytes q) s t l m h g
+place_once bytes (Err f) dos s t l m h g = text_once (place_fault_text f) s t l m h g
+
+checked_once : (bytes : List ℕ) (ps : List Partition) (s t : Bool) (l m : List ℕ) → AreChecked bytes ps s l → AreChecked bytes ps t m → (s ≡ t) × (l ≡ m)
+unfolding AreChecked
+checked_once bytes [] s t l m h g = (h.0 ∙ sym g.0, h.1 ∙ sym g.1)
+checked_once bytes (p ∷ ps) s t l m (one, others, line, rest, tells, are, e, f) (one', others', line', rest', tells', are', e', f') =
+    let told = place_once bytes p.place p.dos_type one one' line line' tells tells' in
+    let more = checked_once bytes ps others others' rest rest' are are' in
+    (e ∙ ap₂ (λ (x y : Bool). x && y) told.0 more.0 ∙ sym e', f ∙ ap₂ (λ (x y : List ℕ). (name_text p ++ x) ++ y) told.1 more.1 ∙ sym f')
+
+all_once : (bytes : List ℕ) (ps : List Partition) (a b : Reply) → ChecksAll bytes ps a → ChecksAll bytes ps b → a ≡ b
+all_once bytes ps a b (s, l, h, x) (t, m, g, y) =
+    let same = checked_once bytes ps s t l m h g in
+    x ∙ ap₂ (λ (k : Bool) (v : List ℕ). on_output (check_status k) v) same.0 same.1 ∙ sym y
+
+wanted_once : (ps : List Partition) (w : WantedValue) (p q : Option Partition) → IsWanted ps w p → IsWanted ps w q → p ≡ q
+wanted_once ps (number n) p q h g = h ∙ sym g
+wanted_once ps (name text) p q (inl (bytes, spells, x)) (inl (other, also, y)) =
+    x ∙ ap (λ (k : List ℕ). find (is_named k) ps) (only_spelled bytes other spells.are_bytes also.are_bytes (sym spells.spells ∙ also.spells)) ∙ sym y
+wanted_once ps (name text) p q (inl (bytes, spells, x)) (inr (none, y)) = absurd (none bytes spells)
+wanted_once ps (name text) p q (inr (none, x)) (inl (bytes, spells, y)) = absurd (none bytes spells)
+wanted_once ps (name text) p q (inr (none, x)) (inr (never, y)) = x ∙ sym y
+
+volume_copied_once : (bytes : List ℕ) (ps : List Partition) (w : WantedValue) (a b : Reply) → CopiesVolume bytes ps w a → CopiesVolume bytes ps w b → a ≡ b
+volume_copied_once bytes ps w a b (p, h, x) (q, g, y) = x ∙ ap (volume_reply bytes) (wanted_once ps w p q h g) ∙ sym y
+
+of_once : (r : DiskRequestValue) (bytes : List ℕ) (ps : List Partition) (a b : Reply) → OfPartitions r bytes ps a → OfPartitions r bytes ps b → a ≡ b
+of_once list bytes ps a b x y = x ∙ sym y
+of_once check bytes ps a b x y = all_once bytes ps a b x y
+of_once (volume w) bytes ps a b x y = volume_copied_once bytes ps w a b x y
+
+disk_once : (r : DiskRequestValue) (bytes : List ℕ) (a b : Reply) → OfDisk r bytes a → OfDisk r bytes b → a ≡ b
+disk_once r bytes a b (inl (t, ps, disk, x)) (inl (u, qs, also, y)) =
+    let same = one_disk bytes (length bytes / 512) t u ps qs disk also in
+    of_once r bytes qs a b (subst (λ (ks : List Partition). OfPartitions r bytes ks a) same.1 x) y
+disk_once r bytes a b (inl (t, ps, disk, x)) (inr (f, first, y)) = absurd (no_fault bytes (length bytes / 512) t ps f first disk)
+disk_once r bytes a b (inr (f, first, x)) (inl (t, ps, disk, y)) = absurd (no_fault bytes (length bytes / 512) t ps f first disk)
+disk_once r bytes a b (inr (f, first, x)) (inr (g, also, y)) =
+    x ∙ ap (disk_refusal r) (one_fault bytes (length bytes / 512) f g first also) ∙ sym y
+
+pub one_answer : (r : DiskRequestValue) (input : List ℕ) (a b : Reply) → DiskAnswer r input a → DiskAnswer r input b → a ≡ b
+one_answer r input a b x y = disk_once r (take MOST_DISK_BYTES input) a b x y

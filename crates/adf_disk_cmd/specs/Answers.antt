@@ -1,0 +1,95 @@
+-- What the command answers to its words and its input. `bytes` are those of a disk, ps its partitions.
+use Rattle.std.specs.Prelude.{◌≡◌, ◌++◌, ◌/◌, ◌⊎◌, ℕ, Bool, List, codes, find, length, take, Option, None, Some, Result, Ok, Err}
+use Rattle.adf_tree.specs.Escapes.{IsSpelling}
+use Rattle.adf_partitions.specs.Disks.{FirstFault, IsDisk}
+use Rattle.adf_partitions.specs.FaultTexts.{disk_fault_text, place_fault_text}
+use Rattle.adf_partitions.specs.Partitions.{is_named, partition_numbered}
+use Rattle.adf_partitions.specs.declared.fault.DiskFault.{DiskFault}
+use Rattle.adf_partitions.specs.declared.partition.Partition.{Partition}
+use Rattle.adf_partitions.specs.declared.place.Place.{Place}
+use Rattle.adf_partitions.specs.declared.place.PlaceFault.{PlaceFault}
+use Rattle.adf_partitions.specs.declared.tables.Tables.{Tables}
+use Rattle.adf_words.specs.DiskLine.{AreRefusedByDisk, AsksDisk, DiskRequestValue, WantedValue, check, list, name, number, volume}
+use Rattle.adf_runs.specs.Commands.{Command, Reply, on_errors, on_output}
+use Rattle.adf_disk_cmd.specs.Checks.{AreChecked, check_status}
+use Rattle.adf_disk_cmd.specs.Lines.{list_lines, volume_at}
+use Rattle.adf_disk_cmd.specs.declared.work.TheConstants.{MOST_DISK_BYTES}
+
+-- a text and a line feed on errors, at status 1
+abbrev pub refusal : List ℕ → Reply
+refusal text = on_errors 1 (text ++ codes "\n")
+
+-- `check` writes the lines of all partitions, at status 0 where all of them are sound
+abbrev pub ChecksAll : List ℕ → List Partition → Reply → Type 0
+ChecksAll bytes ps reply = (sound : Bool) × (text : List ℕ) × AreChecked bytes ps sound text × (reply ≡ on_output (check_status sound) text)
+
+-- the text spells a name that no partition can have
+abbrev pub IsNoName : List ℕ → Type 0
+IsNoName text = (bytes : List ℕ) → ¬ IsSpelling 31 text bytes
+
+-- what is wanted: the partition with this number; or the first that has the name, whatever its case, where the text spells one
+abbrev pub IsWanted : List Partition → WantedValue → Option Partition → Type 0
+IsWanted ps (number n) found = found ≡ partition_numbered ps n
+IsWanted ps (name text) found =
+    ((bytes : List ℕ) × IsSpelling 31 text bytes × (found ≡ find (is_named bytes) ps)) ⊎ (IsNoName text × (found ≡ None))
+
+-- the bytes of the volume, or what is wrong with its partition
+abbrev pub place_reply : List ℕ → Result Place PlaceFault → Reply
+place_reply bytes (Ok q) = on_output 0 (volume_at bytes q)
+place_reply bytes (Err f) = refusal (place_fault_text f)
+
+-- the bytes of the volume of a partition, where there is one
+abbrev pub volume_reply : List ℕ → Option Partition → Reply
+volume_reply bytes None = refusal (codes "no such partition")
+volume_reply bytes (Some p) = place_reply bytes p.place
+
+-- `volume` writes the bytes of what is wanted
+abbrev pub CopiesVolume : List ℕ → List Partition → WantedValue → Reply → Type 0
+CopiesVolume bytes ps w reply = (found : Option Partition) × IsWanted ps w found × (reply ≡ volume_reply bytes found)
+
+-- the answer to a request, of a disk with these partitions
+abbrev pub OfPartitions : DiskRequestValue → List ℕ → List Partition → Reply → Type 0
+OfPartitions list bytes ps reply = reply ≡ on_output 0 (list_lines 1 ps)
+OfPartitions check bytes ps reply = ChecksAll bytes ps reply
+OfPartitions (volume w) bytes ps reply = CopiesVolume bytes ps w reply
+
+-- the answer of a disk whose partitions cannot be read: `check` tells it on output, the others on errors
+abbrev pub disk_refusal : DiskRequestValue → DiskFault → Reply
+disk_refusal check f = on_output 1 (disk_fault_text f ++ codes "\n")
+disk_refusal _ f = refusal (disk_fault_text f)
+
+-- the partitions are told of, or the first fault of the disk, which has as many blocks as the bytes hold
+abbrev pub OfDisk : DiskRequestValue → List ℕ → Reply → Type 0
+OfDisk r bytes reply =
+    ((t : Tables) × (ps : List Partition) × IsDisk bytes (length bytes / 512) t ps × OfPartitions r bytes ps reply)
+    ⊎ ((f : DiskFault) × FirstFault bytes (length bytes / 512) f × (reply ≡ disk_refusal r f))
+
+-- the answer to a request and an input: what is past the largest disk does not count
+abbrev pub DiskAnswer : DiskRequestValue → List ℕ → Reply → Type 0
+DiskAnswer r input reply = OfDisk r (take MOST_DISK_BYTES input) reply
+
+-- words ask for one request at most
+abbrev pub WordsAskForOneDiskRequest : Type 0
+WordsAskForOneDiskRequest = (words : List (List ℕ)) (r q : DiskRequestValue) → AsksDisk words r → AsksDisk words q → r ≡ q
+
+-- a request and an input have one answer at most
+abbrev pub DiskRequestsHaveOneAnswer : Type 0
+DiskRequestsHaveOneAnswer = (r : DiskRequestValue) (input : List ℕ) (a b : Reply) → DiskAnswer r input a → DiskAnswer r input b → a ≡ b
+
+-- what errors get where the words are refused
+abbrev pub disk_usage : List ℕ
+disk_usage =
+    codes "usage: adf-disk list < DISK\n       adf-disk check < DISK\n       adf-disk volume NAME < DISK\n"
+    ++ codes "the image of a hard disk comes on standard input; man adf-disk tells more\n"
+
+-- the command `adf-disk`, whose words have no path
+abbrev pub disk_command : Command (List (List ℕ))
+disk_command = record {
+  Request = DiskRequestValue;
+  asks = AsksDisk;
+  refuses = AreRefusedByDisk;
+  asks_bad_path = λ words. ⊥;
+  answer = DiskAnswer;
+  limit = λ r. MOST_DISK_BYTES;
+  usage = disk_usage;
+}

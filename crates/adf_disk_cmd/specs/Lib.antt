@@ -1,0 +1,6 @@
+-- The promise: the lines, and what the command answers.
+pub mod Lines
+pub mod Checks
+pub mod Answers
+-- The words of the command, as its work keeps them.
+pub mod Work

@@ -1,0 +1,51 @@
+-- The lines of partitions. p is a partition, n its number; t is the type of a file system, its four bytes as one number.
+use Rattle.std.specs.Prelude.{ℕ, ◌+◌, ◌*◌, ◌==◌, ◌&&◌, ◌||◌, nat_le, Bool, List, [], ◌∷◌, ◌++◌, codes, drop, take, Result, Ok, Err, if◌then◌else◌}
+use Rattle.std.specs.Fmt.{decimal, signed_decimal}
+use Rattle.std.specs.Int.{to_be_bytes, w32}
+use Rattle.adf_partitions.specs.FaultTexts.{place_fault_text}
+use Rattle.adf_partitions.specs.declared.partition.Partition.{Partition}
+use Rattle.adf_partitions.specs.declared.place.Place.{Place}
+use Rattle.adf_partitions.specs.declared.place.PlaceFault.{PlaceFault}
+use Rattle.adf_texts.specs.Names.{names_text}
+use Rattle.adf_tree.specs.Escapes.{escaped}
+use Rattle.adf_disk_cmd.specs.declared.types.TheConstants.{DOS}
+
+-- the four bytes of a type, in the escape form
+abbrev pub bytes_text : ℕ → List ℕ
+bytes_text t = escaped (to_be_bytes w32 t)
+
+-- a type: `ofs` and `ffs` of `DOS\0` and `DOS\1`, else its four bytes
+abbrev pub type_text : ℕ → List ℕ
+type_text t = if t == DOS then codes "ofs" else (if t == DOS + 1 then codes "ffs" else bytes_text t)
+
+-- whether a volume of this type is checked: of `DOS\0` to `DOS\5`, and of 0, which says nothing of the volume
+abbrev pub is_checked : ℕ → Bool
+is_checked t = (t == 0) || (nat_le DOS t && nat_le t (DOS + 5))
+
+-- the name of a partition, which need not be valid, and a colon
+abbrev pub name_text : Partition → List ℕ
+name_text p = names_text (p.name ∷ []) ++ codes ": "
+
+-- where the volume lies, or what is wrong with the partition
+abbrev pub place_text : Result Place PlaceFault → List ℕ
+place_text (Ok q) = codes "first " ++ (decimal q.first ++ (codes " blocks " ++ decimal q.blocks))
+place_text (Err f) = place_fault_text f
+
+-- the end of a partition's line: its type, place, flags and boot priority
+abbrev pub words_text : Partition → List ℕ
+words_text p =
+    type_text p.dos_type ++ (codes " " ++ (place_text p.place
+    ++ (codes " flags " ++ (decimal p.flags ++ (codes " priority " ++ (signed_decimal p.priority ++ codes "\n"))))))
+
+-- the line of partition n: its number, name, type, place, flags and boot priority
+abbrev pub list_line : ℕ → Partition → List ℕ
+list_line n p = (decimal n ++ codes " ") ++ (name_text p ++ words_text p)
+
+-- the lines of partitions, the first of which has the number n
+unfoldable pub list_lines : ℕ → List Partition → List ℕ
+list_lines n [] = []
+list_lines n (p ∷ ps) = list_line n p ++ list_lines (n + 1) ps
+
+-- the bytes of the volume that lies there
+unfoldable pub volume_at : List ℕ → Place → List ℕ
+volume_at bytes q = take (q.blocks * 512) (drop (q.first * 512) bytes)

@@ -1,0 +1,37 @@
+// How an answer is written.
+
+ghost use Rattle.std.specs.Prelude.{◌≡◌, List, Option, ℕ, false};
+ghost use Rattle.adf_disk_cmd.specs.Answers.{refusal};
+ghost use Rattle.adf_disk_cmd.specs.Checks.{check_status};
+ghost use Rattle.adf_runs.specs.Commands.{on_output};
+ghost use Rattle.adf_runs.specs.Outcomes.{EndsBy, is_read_fault, is_write_fault};
+
+use adf_runs::{Outcome, Sink, write_all};
+use std::alloc::Global;
+
+/// Writes a text, at status 0 where all is sound, else at status 1.
+pub fn write_text<W: Sink>(output: &mut W, text: &[u8], sound: bool) -> Outcome
+    requires { W.has_failed output.old ≡ false }
+    ensures ends { EndsBy (λ reply. reply ≡ on_output (check_status sound) text.now) result
+        (W.held output.old) (W.held output.new) }
+    ensures read { is_read_fault result ≡ false }
+    ensures written { W.has_failed output.new ≡ is_write_fault result }
+{
+    match write_all(output, text) {
+        Ok(()) if sound => Outcome::Done,
+        Ok(()) => Outcome::FaultWritten,
+        Err(_) => Outcome::WriteFault,
+    }
+}
+
+/// Refuses with a text and a line feed on errors; output gets nothing.
+pub fn refuse(alloc: Global, text: &str) -> Outcome
+    ensures ends { (held : Option (List ℕ)) → EndsBy (λ reply. reply ≡ refusal text.now) result held held }
+    ensures read { is_read_fault result ≡ false }
+    ensures written { is_write_fault result ≡ false }
+{
+    match format!(in alloc; "{text}\n") {
+        Ok(line) => Outcome::Refused(line),
+        Err(_) => Outcome::NoMemory,
+    }
+}

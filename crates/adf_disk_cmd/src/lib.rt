@@ -1,0 +1,14 @@
+//! The command `adf-disk`: the partitions of a whole hard disk, and their volumes.
+#![tactic(auto)]
+
+mod answering;
+mod checking;
+mod listing;
+mod runner;
+mod types;
+mod volumes;
+mod work;
+
+pub use crate::runner::{one_answer, run};
+pub use crate::work::{MOST_DISK_BYTES, Sought, Work};
+pub use adf_words::{DiskRequest, Wanted, disk_words_as_documented, parse_disk as parse};

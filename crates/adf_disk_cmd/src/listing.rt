@@ -1,0 +1,87 @@
+// The command `list`.
+
+ghost use Rattle.std.specs.Prelude.{◌≡◌, ◌++◌, false, string_bytes, IfOk, OnOk};
+ghost use Rattle.adf_disk_cmd.specs.Lines.{list_line, list_lines, name_text, place_text, words_text};
+ghost use Rattle.adf_runs.specs.Commands.{on_output};
+ghost use Rattle.adf_runs.specs.Outcomes.{EndsBy, is_read_fault, is_write_fault};
+
+use crate::answering::write_text;
+use crate::types::type_text;
+use adf_partitions::{Partition, Place, PlaceFault};
+use adf_runs::{Outcome, Sink};
+use adf_texts::push_names;
+use std::alloc::{AllocError, Global};
+
+// Where a volume lies, or what is wrong with its partition.
+fn place_text(alloc: Global, place: Result<Place, PlaceFault>) -> Result<String, AllocError>
+    ensures { IfOk result (λ text. string_bytes text ≡ place_text place) }
+{
+    match place {
+        Ok(place) => {
+            let first = place.first;
+            let blocks = place.blocks;
+            format!(in alloc; "first {first} blocks {blocks}")
+        }
+        Err(fault) => format!(in alloc; "{fault}"),
+    }
+}
+
+// The end of a partition's line: its type, place, flags and boot priority.
+fn words_text(alloc: Global, partition: &Partition) -> Result<String, AllocError>
+    ensures { IfOk result (λ text. string_bytes text ≡ words_text partition.now) }
+{
+    let kind = type_text(alloc, partition.dos_type)?;
+    let place = place_text(alloc, partition.place)?;
+    let flags = partition.flags;
+    let priority = partition.priority;
+    format!(in alloc; "{kind} {place} flags {flags} priority {priority}\n")
+}
+
+/// Appends the name of a partition, and a colon.
+pub fn push_name(text: &mut Vec<u8>, partition: &Partition) -> Result<(), AllocError>
+    ensures { OnOk result (text.new.items ≡ text.old.items ++ name_text partition.now) }
+{
+    push_names(text, &[partition.name.bytes()])?;
+    text.extend_from_slice(b": ")
+}
+
+// Appends the line of the partition with this number.
+fn push_line(
+    alloc: Global,
+    number: usize,
+    partition: &Partition,
+    text: &mut Vec<u8>,
+) -> Result<(), AllocError>
+    ensures { OnOk result (text.new.items ≡ text.old.items ++ list_line number partition.now) }
+{
+    let front = format!(in alloc; "{number} ")?;
+    let end = words_text(alloc, partition)?;
+    text.extend_from_slice(front.as_bytes())?;
+    push_name(text, partition)?;
+    text.extend_from_slice(end.as_bytes())
+}
+
+// The lines of all partitions.
+fn list_lines(alloc: Global, partitions: &[Partition]) -> Result<Vec<u8>, AllocError>
+    ensures { IfOk result (λ text. text.items ≡ list_lines 1 partitions.now) }
+{
+    let mut text = Vec::new(alloc);
+    for (i, partition) in partitions.iter().enumerate() {
+        push_line(alloc, i + 1, partition, &mut text)?;
+    }
+    Ok(text)
+}
+
+/// Writes the lines of all partitions.
+pub fn write_list<W: Sink>(alloc: Global, partitions: &[Partition], output: &mut W) -> Outcome
+    requires { W.has_failed output.old ≡ false }
+    ensures ends { EndsBy (λ reply. reply ≡ on_output 0 (list_lines 1 partitions.now)) result
+        (W.held output.old) (W.held output.new) }
+    ensures read { is_read_fault result ≡ false }
+    ensures written { W.has_failed output.new ≡ is_write_fault result }
+{
+    match list_lines(alloc, partitions) {
+        Ok(text) => write_text(output, &text, true),
+        Err(_) => Outcome::NoMemory,
+    }
+}

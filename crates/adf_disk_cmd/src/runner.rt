@@ -1,0 +1,47 @@
+// The whole command.
+
+ghost use Rattle.std.specs.Prelude.{◌≡◌, false, true};
+ghost use Rattle.adf_disk_cmd.specs.Answers.{DiskRequestsHaveOneAnswer, WordsAskForOneDiskRequest, disk_command};
+ghost use Rattle.adf_runs.specs.Commands.{IsUnanswered, RunEnds, TakesEnough};
+ghost use Rattle.adf_words.specs.CommandLine.{texts_of};
+
+use crate::work::Work;
+use adf_runs::{Sink, Source, run_program};
+use std::alloc::Global;
+
+/// Does what the words ask for, of which the first is the program's name, and answers the status:
+///
+/// - 0 where the partitions are listed, all of them are sound volumes, or the bytes of a volume are written;
+/// - 1 where the partitions of the disk cannot be read, or one of them is no sound volume, which `check` tells on output; where
+///   there is no such partition, or something is wrong with its place, which errors tell;
+/// - 2 where the words are not accepted, which errors tell; nothing is read, and output is empty;
+/// - 3 where a device failed or memory was refused, which errors tell.
+pub fn run<R: Source, W: Sink, E: Sink>(
+    alloc: Global,
+    words: &[&str],
+    input: &mut R,
+    output: &mut W,
+    errors: &mut E,
+) -> u8
+    requires reads { R.has_failed input.old ≡ false }
+    requires writes { W.has_failed output.old ≡ false }
+    requires tells { E.has_failed errors.old ≡ false }
+    ensures ends { RunEnds disk_command (texts_of words.now) (R.left input.old)
+        (R.has_failed input.new) result
+        (W.has_failed output.new) (W.held output.old) (W.held output.new)
+        (E.has_failed errors.new) (E.held errors.old) (E.held errors.new) }
+    ensures untouched { IsUnanswered disk_command (texts_of words.now)
+        → (input.new ≡ input.old) × (output.new ≡ output.old) }
+    ensures unwritten { R.has_failed input.new ≡ true → output.new ≡ output.old }
+    ensures at_most { TakesEnough disk_command (texts_of words.now)
+        (R.left input.old) (R.left input.new) }
+{
+    run_program::<Work, R, W, E>(alloc, words, input, output, errors)
+}
+
+/// Words ask for one thing, and what is asked of a disk has one answer: one status, one output and one text on errors.
+#[tactic(auto, using(crate::proofs::OneAnswer::one_request))]
+pub fn one_answer()
+    ensures request { WordsAskForOneDiskRequest }
+    ensures answer { DiskRequestsHaveOneAnswer }
+{}

@@ -1,0 +1,188 @@
+// What is done for words.
+
+ghost use Rattle.std.specs.Prelude.{◌≡◌, false, option_copied};
+ghost use Rattle.adf_disk_cmd.specs.Answers.{IsWanted, OfPartitions, disk_refusal, volume_reply};
+ghost use Rattle.adf_disk_cmd.specs.Work.{Means, Serves};
+ghost use Rattle.adf_runs.specs.Outcomes.{EndsBy, is_read_fault, is_write_fault};
+ghost use Rattle.adf_words.specs.DiskLine.{DiskRequestValue, WantedValue, disk_request_value, wanted_value};
+
+use crate::answering::{refuse, write_text};
+use crate::checking::write_checks;
+use crate::listing::write_list;
+use crate::volumes::volume_at;
+use adf_fields::BLOCK_LEN;
+use adf_partitions::{Disk, DiskCause, DiskFault, DriveName, Partition};
+use adf_runs::{Outcome, Program, Sink, Source, WorkFault, read_input};
+use adf_words::{DISK_USAGE as USAGE, DiskRequest, Wanted, parse_disk};
+use std::alloc::Global;
+
+/// The most bytes of a disk: 2^32 blocks.
+pub const MOST_DISK_BYTES: usize = 1 << 41;
+
+/// The partition that is sought.
+#[derive(Drop)]
+pub enum Sought {
+    Numbered(u32),
+    Named(DriveName),
+    /// No partition can have the name.
+    Nothing,
+}
+
+/// What is done with a disk.
+#[derive(Drop)]
+pub enum Work {
+    List,
+    Check,
+    /// Its volume is written.
+    Volume(Sought),
+}
+
+// The partition that is sought, where one is wanted.
+fn sought_for(wanted: Wanted<'_>) -> Sought
+    ensures { Means result (wanted_value wanted.entry) }
+{
+    match wanted {
+        Wanted::Number(number) => Sought::Numbered(number),
+        Wanted::Name(text) => match DriveName::read(text.as_bytes()) {
+            Some(name) => Sought::Named(name),
+            None => Sought::Nothing,
+        },
+    }
+}
+
+// The work that a request asks for.
+fn work_for(request: DiskRequest<'_>) -> Work
+    ensures { Serves result (disk_request_value request.entry) }
+{
+    match request {
+        DiskRequest::List => Work::List,
+        DiskRequest::Check => Work::Check,
+        DiskRequest::Volume(wanted) => Work::Volume(sought_for(wanted)),
+    }
+}
+
+// The partition that is sought, if the disk has it.
+fn partition_sought<'a>(disk: &'a Disk, sought: &Sought) -> Option<&'a Partition>
+    ensures { (w : WantedValue) → Means sought.now w → IsWanted disk.now.partitions.items w (option_copied result) }
+{
+    match sought {
+        Sought::Numbered(number) => disk.numbered(*number as usize),
+        Sought::Named(name) => disk.named(name.bytes()),
+        Sought::Nothing => None,
+    }
+}
+
+// Writes the bytes of the volume of a partition.
+fn write_volume<W: Sink>(
+    alloc: Global,
+    bytes: &[u8],
+    found: Option<&Partition>,
+    output: &mut W,
+) -> Outcome
+    requires { W.has_failed output.old ≡ false }
+    ensures ends { EndsBy (λ reply. reply ≡ volume_reply bytes.now (option_copied found.entry)) result
+        (W.held output.old) (W.held output.new) }
+    ensures read { is_read_fault result ≡ false }
+    ensures written { W.has_failed output.new ≡ is_write_fault result }
+{
+    let Some(partition) = found else {
+        return refuse(alloc, "no such partition");
+    };
+    match partition.place {
+        Ok(place) => write_text(output, volume_at(bytes, place), true),
+        Err(fault) => refuse(alloc, fault.text()),
+    }
+}
+
+impl Work {
+    // Does the work on a disk with these partitions.
+    fn on_disk<W: Sink>(&self, alloc: Global, bytes: &[u8], disk: &Disk, output: &mut W) -> Outcome
+        requires { W.has_failed output.old ≡ false }
+        ensures ends { (r : DiskRequestValue) → Serves self.now r
+            → EndsBy (OfPartitions r bytes.now disk.now.partitions.items) result
+            (W.held output.old) (W.held output.new) }
+        ensures read { is_read_fault result ≡ false }
+        ensures written { W.has_failed output.new ≡ is_write_fault result }
+    {
+        match self {
+            Work::List => write_list(alloc, &disk.partitions, output),
+            Work::Check => write_checks(alloc, bytes, &disk.partitions, output),
+            Work::Volume(sought) => write_volume(
+                alloc,
+                bytes,
+                partition_sought(disk, sought),
+                output,
+            ),
+        }
+    }
+
+    // Tells why the partitions of a disk cannot be read.
+    fn on_fault<W: Sink>(&self, alloc: Global, fault: DiskFault, output: &mut W) -> Outcome
+        requires { W.has_failed output.old ≡ false }
+        ensures ends { (r : DiskRequestValue) → Serves self.now r
+            → EndsBy (λ reply. reply ≡ disk_refusal r fault) result
+            (W.held output.old) (W.held output.new) }
+        ensures read { is_read_fault result ≡ false }
+        ensures written { W.has_failed output.new ≡ is_write_fault result }
+    {
+        let Ok(line) = format!(in alloc; "{fault}\n") else {
+            return Outcome::NoMemory;
+        };
+        match self {
+            Work::Check => write_text(output, line.as_bytes(), false),
+            _ => Outcome::Refused(line),
+        }
+    }
+}
+
+impl Program for Work {
+    ghost use Rattle.std.proofs.Common.{rules};
+    ghost use Rattle.adf_disk_cmd.specs.Answers.{disk_command};
+    ghost use Rattle.adf_disk_cmd.specs.Work.{Serves};
+
+    ghost command = { disk_command };
+
+    ghost serves = { Serves };
+
+    fn usage() -> &'static str {
+        USAGE
+    }
+
+    fn of(alloc: Global, words: &[&str]) -> Result<Work, WorkFault> {
+        let request = parse_disk(alloc, words)?;
+        Ok(work_for(request))
+    }
+
+    fn limit(&self) -> usize {
+        MOST_DISK_BYTES
+    }
+
+    fn on<W: Sink>(&self, alloc: Global, bytes: &[u8], output: &mut W) -> Outcome {
+        let disk_bytes = &bytes[..bytes.len().min(MOST_DISK_BYTES)];
+        let blocks = (disk_bytes.len() / BLOCK_LEN) as u64;
+        match Disk::open(alloc, disk_bytes, blocks) {
+            Ok(disk) => self.on_disk(alloc, disk_bytes, &disk, output),
+            Err(fault) => match fault.cause {
+                DiskCause::NoMemory => Outcome::NoMemory,
+                _ => self.on_fault(alloc, fault, output),
+            },
+        }
+    }
+
+    fn on_input<R: Source, W: Sink>(
+        &self,
+        alloc: Global,
+        input: &mut R,
+        output: &mut W,
+    ) -> Outcome {
+        match read_input(alloc, input, MOST_DISK_BYTES) {
+            Ok(bytes) => self.on(alloc, &bytes, output),
+            Err(outcome) => outcome,
+        }
+    }
+
+    ghost consistent = { record {
+      taken = Prim.search rules;
+      unread = λ words none. absurd none;
+    } };
+}

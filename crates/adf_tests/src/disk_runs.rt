@@ -1,0 +1,181 @@
+// `adf-disk` over the disk of 80 blocks of `disks`, with an empty FFS volume of 32 blocks in the place of DH0.
+
+ghost use Rattle.std.specs.Prelude.{length};
+
+use crate::disks::changed;
+use crate::memory::{Given, Kept};
+use adf_disk_cmd::run;
+use adf_fields::{seal, set_word};
+use std::alloc::{AllocError, Global};
+use std::test::Fail;
+
+type Volume = [u8; 16384];
+
+const USAGE: &str =
+    "usage: adf-disk list < DISK\n       adf-disk check < DISK\n       adf-disk volume NAME < DISK\n\
+    the image of a hard disk comes on standard input; man adf-disk tells more\n";
+
+const DH0_LISTED: &str = "1 DH0: ffs first 8 blocks 32 flags 1 priority -5\n";
+
+const DH0_SOUND: &str = "DH0: ok ffs blocks 32 used 2 free 28 dirs 0 files 0\n";
+
+// Words of the root, block 16, of which word 79 names the bitmap page.
+const ROOT: &[(usize, u32)] = &[(0, 2), (3, 72), (78, 0xFFFF_FFFF), (79, 17), (127, 1)];
+
+// A change of the words of a block of the tables.
+type Change<'a> = (u32, &'a [(usize, u32)]);
+
+const NONE: Change<'static> = (0, &[]);
+
+// DH1 begins in the last cylinder of DH0.
+const OVER: Change<'static> = (1, &[(41, 4)]);
+
+// The volume of DH0: in its bitmap the blocks from 2 on are free, except 16 and 17.
+fn volume() -> Volume {
+    let mut volume = [0; 16384];
+    set_word(&mut volume, 0, 0, 0x444F_5301);
+    for (i, value) in ROOT {
+        if *i < 128 {
+            set_word(&mut volume, 16, *i, *value);
+        }
+    }
+    seal(&mut volume, 16, 5);
+    set_word(&mut volume, 17, 1, 0x3FFF_3FFF);
+    seal(&mut volume, 17, 0);
+    volume
+}
+
+// The disk, with these words of its tables changed.
+fn disk(alloc: Global, change: Change<'_>) -> Result<Vec<u8>, AllocError> {
+    let mut disk = Vec::from_slice(alloc, &changed(change.0, change.1))?;
+    disk.extend_from_slice(&[0; 2048])?;
+    disk.extend_from_slice(&volume())?;
+    let rest = vec![in alloc; 0u8; 20480]?;
+    disk.extend_from_slice(&rest)?;
+    Ok(disk)
+}
+
+// Whether a run with these words over the disk ends with this status and these bytes on output and on errors.
+fn answers(
+    alloc: Global,
+    words: &[&str],
+    change: Change<'_>,
+    wanted: (u8, &[u8], &str),
+) -> Result<bool, Fail> {
+    let image = disk(alloc, change)?;
+    answers_within(alloc, words, &image, usize::MAX, usize::MAX, wanted)
+}
+
+// The same over an input and an output that fail after so many calls.
+fn answers_within(
+    alloc: Global,
+    words: &[&str],
+    image: &[u8],
+    reads: usize,
+    writes: usize,
+    wanted: (u8, &[u8], &str),
+) -> Result<bool, Fail> {
+    let mut input = Given::new(image, reads);
+    let mut output = Kept::new(alloc, usize::MAX, writes);
+    let mut errors = Kept::new(alloc, usize::MAX, usize::MAX);
+    let status = run(alloc, words, &mut input, &mut output, &mut errors);
+    let is_output = output.bytes.as_slice() == wanted.1;
+    let is_said = errors.bytes.as_slice() == wanted.2.as_bytes();
+    Ok(status == wanted.0 && is_output && is_said)
+}
+
+// The command, a change, the status, and the lines on output and on errors.
+const LINES: &[(&str, Change<'static>, u8, &str, &str)] = &[
+    ("list", (2, &[(4, 0xFFFF_FFFF)]), 0, DH0_LISTED, ""),
+    ("list", (0, &[(7, 0xFFFF_FFFF)]), 0, "", ""),
+    (
+        "list",
+        NONE,
+        0,
+        "1 DH0: ffs first 8 blocks 32 flags 1 priority -5\n2 DH1: PFS\\x03 first 40 blocks 40 flags 2 priority 3\n",
+        "",
+    ),
+    (
+        "list",
+        OVER,
+        0,
+        "1 DH0: ffs first 8 blocks 32 flags 1 priority -5\n2 DH1: PFS\\x03 over partition flags 2 priority 3\n",
+        "",
+    ),
+    ("list", (0, &[(0, 0)]), 1, "", "block 0: no rigid disk\n"),
+    ("check", (2, &[(4, 0xFFFF_FFFF)]), 0, DH0_SOUND, ""),
+    (
+        "check",
+        NONE,
+        1,
+        "DH0: ok ffs blocks 32 used 2 free 28 dirs 0 files 0\nDH1: type PFS\\x03\n",
+        "",
+    ),
+    (
+        "check",
+        OVER,
+        1,
+        "DH0: ok ffs blocks 32 used 2 free 28 dirs 0 files 0\nDH1: over partition\n",
+        "",
+    ),
+    (
+        "check",
+        (2, &[(9, 0x0344_3A30), (48, 0x444F_5306)]),
+        1,
+        "D\\x3a0: bad name\nDH1: type PFS\\x03\n",
+        "",
+    ),
+    (
+        "check",
+        (1, &[(48, 0)]),
+        1,
+        "DH0: ok ffs blocks 32 used 2 free 28 dirs 0 files 0\nDH1: block 0: not dos\n",
+        "",
+    ),
+    ("check", (2, &[(4, 4)]), 1, "block 2: out of range\n", ""),
+    ("frob", NONE, 2, "", USAGE),
+];
+
+#[test]
+fn disks_are_listed_and_checked(rt: HostRuntime) -> Result<(), Fail> {
+    for (command, change, status, output, errors) in LINES {
+        let wanted = (*status, output.as_bytes(), *errors);
+        assert!(rt; answers(rt.alloc(), &["adf-disk", *command], *change, wanted)?);
+    }
+    Ok(())
+}
+
+// A name, a change, and what errors get.
+const REFUSED: &[(&str, Change<'static>, &str)] = &[
+    ("0", NONE, "no such partition\n"),
+    ("3", NONE, "no such partition\n"),
+    ("DH", NONE, "no such partition\n"),
+    ("DH\\x30", NONE, "no such partition\n"),
+    ("2", OVER, "over partition\n"),
+    ("dh1", (0, &[(4, 1024)]), "block 0: bad block size\n"),
+];
+
+#[test]
+fn volumes_are_written(rt: HostRuntime) -> Result<(), Fail> {
+    let empty = volume();
+    let wanted = (0, empty.as_slice(), "");
+    for name in ["1", "DH0", "dh0"] {
+        assert!(rt; answers(rt.alloc(), &["adf-disk", "volume", name], NONE, wanted)?);
+    }
+    for (name, change, errors) in REFUSED {
+        let words = ["adf-disk", "volume", *name];
+        assert!(rt; answers(rt.alloc(), &words, *change, (1, b"", *errors))?);
+    }
+    Ok(())
+}
+
+#[test]
+fn failures_are_told(rt: HostRuntime) -> Result<(), Fail> {
+    let image = disk(rt.alloc(), NONE)?;
+    let words = ["adf-disk", "check"];
+    let unread = (3, b"".as_slice(), "read fault\n");
+    assert!(rt; answers_within(rt.alloc(), &words, &image, 1, usize::MAX, unread)?);
+    let unwritten = (3, b"".as_slice(), "write fault\n");
+    assert!(rt; answers_within(rt.alloc(), &words, &image, usize::MAX, 0, unwritten)?);
+    Ok(())
+}

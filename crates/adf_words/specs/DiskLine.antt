@@ -1,0 +1,79 @@
+-- The command line of `adf-disk`, as clap reads it, and what its matches ask for.
+use Rattle.std.specs.Prelude.{◌≡◌, ◌⊎◌, ℕ, List, [], Option, Some, None, codes, option_map, true, if◌then◌else◌}
+use Rattle.std.specs.Option.{option_and_then}
+use Rattle.std.specs.Str.{bytes_eq}
+use Rattle.clap.specs.Words.{App, Row, Rule, Text, fault_of, first_of, new_app, new_rule, subcommand_of, with_rule, with_subcommand}
+use Rattle.adf_words.specs.SurveyLine.{number_named}
+use Rattle.adf_words.specs.declared.command_line.WordsFault.{WordsFault}
+use Rattle.adf_words.specs.declared.command_line.WordsFault.TheVariants.{NoMemory, Usage}
+use Rattle.adf_words.specs.declared.disk_line.DiskRequest.{DiskRequest}
+use Rattle.adf_words.specs.declared.disk_line.DiskRequest.TheVariants.{List as ListAll, Check, Volume}
+use Rattle.adf_words.specs.declared.disk_line.Wanted.{Wanted}
+use Rattle.adf_words.specs.declared.disk_line.Wanted.TheVariants.{Number, Name}
+
+-- with no flag and no subcommand for help
+abbrev pub bare_disk : App
+bare_disk = record (new_app (codes "adf-disk")) { top = record (new_app (codes "adf-disk")).top { disable_help_flag = true; disable_help_subcommand = true } }
+
+-- the argument NAME
+abbrev pub name_rule : Rule
+name_rule = record (new_rule (codes "name")) { required = true }
+
+-- volume NAME
+abbrev pub volume_app : App
+volume_app = with_rule (new_app (codes "volume")) name_rule
+
+-- the command line: list, check, volume NAME
+abbrev pub disk_app : App
+disk_app = with_subcommand (with_subcommand (with_subcommand bare_disk (new_app (codes "list")).top) (new_app (codes "check")).top) volume_app.top
+
+-- a partition, by its number or its name
+pub data WantedValue : Type 0 where
+  number : ℕ → WantedValue
+  name : Text → WantedValue
+
+-- what a command line asks for
+pub data DiskRequestValue : Type 0 where
+  list : DiskRequestValue
+  check : DiskRequestValue
+  volume : WantedValue → DiskRequestValue
+
+-- the partition that a text means: a number where it is one, else a name
+abbrev pub wanted_named : Text → WantedValue
+wanted_named text = elim (number_named text) [ Some n ↦ number n | None ↦ name text ]
+
+-- the request that a subcommand's name and matches are
+abbrev pub disk_request_named : Text → List Row → Option DiskRequestValue
+disk_request_named command rows =
+    if bytes_eq command (codes "list") then Some list
+    else (if bytes_eq command (codes "check") then Some check
+    else (if bytes_eq command (codes "volume") then option_map (λ text. volume (wanted_named text)) (first_of (codes "name") rows)
+    else None))
+
+-- what the matches ask for
+abbrev pub disk_met : Option (Text × List Row) → Option DiskRequestValue
+disk_met = option_and_then (λ p. disk_request_named p.0 p.1)
+
+-- clap takes the words, and its matches name the request
+abbrev pub AsksDisk : List Text → DiskRequestValue → Type 0
+AsksDisk words r = (fault_of disk_app words ≡ []) × (disk_met (subcommand_of disk_app words) ≡ Some r)
+
+-- clap refuses the words, or its matches lack the command or its value
+abbrev pub AreRefusedByDisk : List Text → Type 0
+AreRefusedByDisk words = (¬ (fault_of disk_app words ≡ [])) ⊎ (disk_met (subcommand_of disk_app words) ≡ None)
+
+-- a partition as the code has it
+abbrev pub wanted_value : Wanted → WantedValue
+wanted_value (Number n) = number n
+wanted_value (Name text) = name text.now
+
+-- the value of a request as the code has it
+abbrev pub disk_request_value : DiskRequest → DiskRequestValue
+disk_request_value ListAll = list
+disk_request_value Check = check
+disk_request_value (Volume wanted) = volume (wanted_value wanted)
+
+-- what a fault of the words says of them
+abbrev pub ExplainsDiskWords : WordsFault → List Text → Type 0
+ExplainsDiskWords Usage words = AreRefusedByDisk words
+ExplainsDiskWords NoMemory words = Unit {0}
