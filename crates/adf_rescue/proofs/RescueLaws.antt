@@ -1,5 +1,5 @@
 -- Laws of verdicts: sound files stand, and one survey has one rescue.
-use Rattle.std.proofs.Common.{◌≡◌, ℕ, Bool, true, cond, List, Ok, ap, subst, sym, ◌∙◌}
+use Rattle.std.proofs.Common.{◌≡◌, ℕ, Bool, true, false, cond, length, List, [], Ok, ap, refl, subst, sym, ◌∙◌}
 use mathlib.Core.Path.{fun_ext}
 use Rattle.std.specs.Prelude.{◌&&◌, ◌==◌}
 use Rattle.std.specs.Cmp.{both_ways}
@@ -10,12 +10,14 @@ use Rattle.adf_blocks.specs.declared.layout.TheConstants.{SECONDARY_TYPE, ST_FIL
 use Rattle.adf_blocks.specs.HeadBlock.{meta_told}
 use Rattle.adf_blocks.specs.Sizes.{blocks}
 use Rattle.adf_volume.specs.Image.{name_of, word_in}
+use Rattle.adf_volume.specs.Start.{is_image_len}
 use Rattle.adf_volume.specs.Walk.{Role, node_block}
 use Rattle.adf_findings.specs.Files.{IsSoundFile, file_content, file_in, grave}
 use Rattle.adf_findings.specs.Found.{parent_node}
 use Rattle.adf_findings.specs.Marked.{AreMarks}
 use Rattle.adf_findings.specs.Survey.{FindingValue, IsSurvey}
 use Rattle.adf_findings.proofs.OneSurvey.{one_survey}
+use Rattle.adf_rescue.specs.Lost.{has_lost, lost_among}
 use Rattle.adf_rescue.specs.Rescue.{IsLook, Look, Verdict, at_path, before_first, body_of, body_of_type, by_body, path_by, place_of, tree_of, verdict}
 
 -- a sound file stands with its content
@@ -55,3 +57,13 @@ one_look image l m x y =
     (subst (λ gs. AreMarks l.image m.walk (grave gs) l.sound) same.1 (subst (λ w. AreMarks l.image w (grave x.findings) l.sound) same.0 x.marks)) in
     let step : (i : List ℕ) (w : List (Role × ℕ)) → Look = λ i w. record { image = i; walk = w; sound = l.sound } in
     ap (λ i. step i l.walk) image_is ∙ (ap (step m.image) same.0 ∙ same_look m.image m.walk (grave y.findings) l.sound m.sound marks y.marks)
+
+neither : (a b : Bool) → (a && (b && false)) ≡ false
+neither true true = refl
+neither true false = refl
+neither false b = refl
+
+-- nothing is lost without a finding
+pub nothing_lost : (image : List ℕ) (w : List (Role × ℕ)) (fs : List FindingValue) → fs ≡ [] → has_lost image w fs ≡ false
+nothing_lost image w fs none =
+    subst (λ gs. has_lost image w gs ≡ false) (sym none) (neither (is_image_len (length image)) (lost_among image w [] (blocks image)))

@@ -1,6 +1,6 @@
 -- What no directory of a survey leads to any more: lost headers.
 -- Letters: w the walk of the survey, fs its findings, f one of them; b, p blocks; n a node; k a number of nodes, findings or blocks.
-use Rattle.std.specs.Prelude.{◌≡◌, ◌≤◌, ℕ, ◌+◌, ◌-◌, ◌/◌, ◌%◌, ◌^◌, ◌==◌, ◌&&◌, ◌||◌, not, nat_le, nat_lt, bit_and, Bool, true, false, cond, List, length}
+use Rattle.std.specs.Prelude.{◌≡◌, ◌≤◌, ℕ, ◌+◌, ◌-◌, ◌/◌, ◌%◌, ◌^◌, ◌==◌, ◌&&◌, ◌||◌, not, nat_le, nat_lt, bit_and, Bool, true, false, cond, List, [], ◌∷◌, length}
 use Rattle.std.specs.Prelude.{Option, Some, None, is_some, option_and_then, option_map, unwrap_or}
 use Rattle.std.proofs.Common.{zero, suc}
 use Rattle.adf_blocks.specs.declared.layout.TheConstants.{BITMAP_FLAG, FIRST_POINTER, OWN_KEY, PAGE_BITS, PAGE_FIRST, PARENT, SECONDARY_TYPE, SIZE}
@@ -112,9 +112,14 @@ unfoldable pub lost_among : List ℕ → List (Role × ℕ) → List FindingValu
 lost_among image w fs zero = false
 lost_among image w fs (suc k) = lost_among image w fs k || is_lost image w fs k
 
--- something is lost, in an image with the length of a volume
+-- there is a finding
+abbrev pub has_findings : List FindingValue → Bool
+has_findings [] = false
+has_findings (f ∷ fs) = true
+
+-- something is lost, in an image with the length of a volume and a finding: without one, all that is there is found
 abbrev pub has_lost : List ℕ → List (Role × ℕ) → List FindingValue → Bool
-has_lost image w fs = is_image_len (length image) && lost_among image w fs (blocks image)
+has_lost image w fs = is_image_len (length image) && (lost_among image w fs (blocks image) && has_findings fs)
 
 -- the marks of the root and the entries: whether one of the first k entries is in the node
 pub record AreEntered (w : List (Role × ℕ)) (k : ℕ) (marks : List Bool) : Type 0 where

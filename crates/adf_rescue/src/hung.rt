@@ -11,7 +11,7 @@ ghost use Rattle.adf_volume.specs.Walk.{Role};
 ghost use Rattle.adf_findings.specs.Found.{owner};
 ghost use Rattle.adf_findings.specs.Marks.{has_mark};
 ghost use Rattle.adf_findings.specs.Survey.{FindingValue, IsSurvey, OnSurvey};
-ghost use Rattle.adf_rescue.specs.Lost.{AreLost, directory_at, has_lost, is_lost, lost_among};
+ghost use Rattle.adf_rescue.specs.Lost.{AreLost, directory_at, has_findings, has_lost, is_lost, lost_among};
 ghost use Rattle.adf_rescue.specs.Rescue.{lost_name};
 ghost use Rattle.adf_rescue.specs.Hung.{AreLoose, AreMade, emptied, home, hung, hung_in, hung_loose, is_container, is_hung};
 ghost use Rattle.adf_rescue.specs.Hung.{is_made, is_vacant, made_header, ready_in, readied, slot_word};
@@ -115,6 +115,13 @@ fn has_lost(survey: &Survey<'_>, lost: &Vec<bool>) -> bool
         }
     }
     false
+}
+
+// Whether there is a finding.
+fn has_findings(survey: &Survey<'_>) -> bool
+    ensures { OnSurvey survey.now.image (λ _ fs. result ≡ has_findings fs) }
+{
+    !survey.findings().is_empty()
 }
 
 // Whether a directory may be made in block `p`.
@@ -301,7 +308,7 @@ fn changed(alloc: Global, survey: &Survey<'_>, loose: &Loose) -> Result<Vec<u8>,
 }
 
 /// The hung image of a survey: each lost header hangs in the directory that it names, or in the root; `None` if nothing
-/// is lost. A header is lost if no entry of the survey has its block, and it says that it is one, of a directory (words
+/// is lost, or there is no finding. A header is lost if no entry of the survey has its block, and it says that it is one, of a directory (words
 /// 0, 1 and 127) or of a file (these, and its sum), and it is not deleted, as far as the bitmap or else its directory
 /// tells. Where a lost header names a block that is nothing else, a directory `lost-` and its number is made there.
 /// `NoMemory` if an allocation fails.
@@ -312,6 +319,9 @@ pub fn hung(alloc: Global, survey: &Survey<'_>) -> Result<Option<Vec<u8>>, NoMem
         IfOk result (λ r. IfSome r (λ v. v.items ≡ hung survey.now.image w fs))) }
 {
     if !is_image_len(survey.image().len()) {
+        return Ok(None);
+    }
+    if !has_findings(survey) {
         return Ok(None);
     }
     let lost = lost(alloc, survey)?;

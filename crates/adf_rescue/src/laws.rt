@@ -1,6 +1,6 @@
 // The laws of rescues. Each is the contract of a function that does nothing at run time.
 
-ghost use Rattle.std.specs.Prelude.{◌≡◌, ◌++◌, ℕ, Bool, List, [], None, Option, Some, true};
+ghost use Rattle.std.specs.Prelude.{◌≡◌, ◌++◌, ℕ, Bool, List, [], None, Option, Some, true, false};
 ghost use Rattle.std.specs.List.{concat};
 ghost use Rattle.adf_fields.specs.Words.{block};
 ghost use Rattle.adf_tree.specs.Additions.{Addition, IsTreeOf};
@@ -16,6 +16,7 @@ ghost use Rattle.adf_tree.specs.Tree.{Tree};
 ghost use Rattle.adf_volume.specs.Fits.{Fits};
 ghost use Rattle.adf_volume.specs.Layout.{Layout};
 ghost use Rattle.adf_volume.specs.Walk.{Role, node_block};
+ghost use Rattle.adf_rescue.specs.Lost.{has_lost};
 ghost use Rattle.adf_rescue.specs.Rescue.{Look, Verdict, additions_of, at_path, before_first, first_verdicts, path_by, place_of, rescue_leaves, rescued_additions, rescued_tree, second_verdicts, tree_of, verdict};
 
 /// The tree of a rescue is that of its additions.
@@ -52,7 +53,8 @@ pub fn one_rescue()
         ≡ second_verdicts a (Some (record { image = image; walk = w; sound = t })) }
 {}
 
-/// Where a tree and a layout fit the image, the rescue has that tree, and leaves out nothing.
+/// Where a tree and a layout fit the image, the rescue has that tree and leaves out nothing, and nothing is lost, so that there
+/// is no second survey.
 pub fn whole_is_kept()
     ensures tree { (image : List ℕ) (t : Tree) (l : Layout) (w : List (Role
         × ℕ)) (fs : List FindingValue) (sound : ℕ → Bool)
@@ -62,4 +64,7 @@ pub fn whole_is_kept()
         × ℕ)) (fs : List FindingValue) (sound : ℕ → Bool)
         → Fits image t l → IsSurvey image w fs → AreMarks image w (grave fs) sound
         → rescue_leaves (record { image = image; walk = w; sound = sound }) ≡ [] }
+    ensures lost { (image : List ℕ) (t : Tree) (l : Layout) (w : List (Role
+        × ℕ)) (fs : List FindingValue)
+        → Fits image t l → IsSurvey image w fs → has_lost image w fs ≡ false }
 {}

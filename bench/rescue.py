@@ -1,0 +1,299 @@
+#!/usr/bin/env python3
+"""The rescue of an image by its definition (crates/adf_rescue), over bench/survey.py.
+
+    bench/rescue.py < IMAGE      the manifest of the new volume, or the first finding; on errors the entries left out
+
+Two surveys: of the image, opened; and, where headers are lost, of the image with these hung where they say that they belong.
+"""
+
+import os
+import subprocess
+import sys
+from struct import pack_into, unpack_from
+
+sys.dont_write_bytecode = True
+from survey import DIR, FILE, LINKS, PAGE_BITS, ROOT_PAGES, SLOTS, Survey, page, spelled
+
+HARMLESS = {"bad name", "bad comment", "wrong slot", "bad first", "same name"}
+
+
+def words(image, b):
+    return unpack_from(">128I", image, 512 * b)
+
+
+def sealed(image, b):
+    return sum(words(image, b)) % 2**32 == 0
+
+
+def put(image, b, i, value):
+    """Word i of block b, sealed by word 5."""
+    pack_into(">I", image, 512 * b + 4 * i, value)
+    pack_into(">I", image, 512 * b + 20, 0)
+    pack_into(">I", image, 512 * b + 20, -sum(words(image, b)) % 2**32)
+
+
+def is_name(name):
+    return 1 <= len(name) <= 30 and not {47, 58} & set(name)
+
+
+def upper(name):
+    return bytes(c - 32 if 97 <= c <= 122 else c for c in name)
+
+
+# The image as it is opened
+
+
+def is_root(image, b):
+    w = words(image, b)
+    return w[0] == 2 and w[127] == 1
+
+
+def says_file(image, b):
+    w = words(image, b)
+    return w[0] == 2 and w[1] == b and w[127] == FILE and sealed(image, b)
+
+
+def says_dir(image, b):
+    w = words(image, b)
+    return w[0] == 2 and w[1] == b and w[127] == DIR
+
+
+def says_data(image, b):
+    w = words(image, b)
+    return w[0] == 8 and sealed(image, b) and w[1] < len(image) // 512 and says_file(image, w[1])
+
+
+def says_page(image, b):
+    return 2 <= b < len(image) // 512 and sealed(image, b) and words(image, b)[0] not in (0, 2, 8, 16)
+
+
+def opened(image):
+    """The image, and whether it was mended."""
+    blocks = len(image) // 512
+    if len(image) % 1024 or not 4 <= blocks <= 1048576:
+        return image, False
+    r = blocks // 2
+    has_root = is_root(image, r) and sealed(image, r)
+    if image[:3] == b"DOS" and has_root:
+        return image, False
+    new = bytearray(image)
+    if image[:3] != b"DOS":
+        new[:4] = b"DOS" + bytes([0 if any(says_data(image, b) for b in range(blocks)) else 1])
+    if not has_root:
+        w, root = words(new, r), bytearray(512)
+        for i, value in ((0, 2), (3, SLOTS), (78, 2**32 - 1), (127, 1)):
+            pack_into(">I", root, 4 * i, value)
+        root[24:312] = new[512 * r + 24 : 512 * r + 312]
+        for i in range(ROOT_PAGES):
+            pack_into(">I", root, 316 + 4 * i, next((b for b in (w[79 + i], r + 1 + i) if says_page(new, b)), 0))
+        if is_root(new, r):
+            size = min(new[512 * r + 432], 30)
+            root[432 : 433 + size] = bytes([size]) + new[512 * r + 433 : 512 * r + 433 + size]
+            for i in (105, 118, 121):
+                root[4 * i : 4 * i + 12] = new[512 * r + 4 * i : 512 * r + 4 * i + 12]
+        new[512 * r : 512 * r + 512] = root
+        put(new, r, 5, 0)
+    return bytes(new), True
+
+
+# Lost headers
+
+
+class Lost:
+    """The headers of a survey that nothing leads to, and where they are hung."""
+
+    def __init__(self, survey):
+        self.sv, self.image, self.blocks = survey, survey.image, survey.blocks
+        self.entry_at = {b: role[2] if role[1] != "head" else None for b, role in survey.owner.items() if role[1] in ("head", "ext", "data")}
+        self.heads = {survey.block_of(n): n for n in range(len(survey.nodes))}
+        self.unsettled = set()
+        for role, _, _ in survey.findings:
+            n = survey.node_of(role)
+            if n:
+                self.unsettled |= {n, survey.nodes[n][2]}
+            elif role and role[1] == "head":
+                self.unsettled.add(role[2])
+        self.lost = [b for b in range(self.blocks) if self.is_lost(b)]
+
+    def is_free(self, b):
+        """What the bitmap tells of a block; None where nothing does."""
+        at = self.sv.walk.get(page((b - 2) // PAGE_BITS)[0]) if 2 <= b < self.blocks and self.sv.word(self.sv.root, 78) == 2**32 - 1 else None
+        bit = (b - 2) % PAGE_BITS
+        return None if at is None else self.sv.word(at, 1 + bit // 32) >> bit % 32 & 1
+
+    def is_directory(self, p):
+        n = self.heads.get(p)
+        return n is not None and (n == 0 or self.sv.word(p, 127) == DIR)
+
+    def denies(self, p):
+        if not self.is_directory(p):
+            return p in self.entry_at
+        n = self.heads[p]
+        return n not in self.unsettled and any(role[2] == n for role in self.sv.nodes[1:])
+
+    def is_lost(self, b):
+        if b in self.entry_at or not (says_file(self.image, b) or says_dir(self.image, b)):
+            return False
+        w, free = words(self.image, b), self.is_free(b)
+        if free or w[127] == FILE and w[81] and self.is_free(w[77]):
+            return False
+        return free == 0 or not self.denies(w[125])
+
+    def is_made(self, p):
+        """A directory is made of a block that lost headers name, if no entry has it and it is no lost header."""
+        return 2 <= p < self.blocks and p != self.sv.root and p not in self.entry_at and p not in self.lost
+
+    def hung(self):
+        image, r, lost = bytearray(self.image), self.sv.root, set(self.lost)
+        named = [words(self.image, b)[125] for b in self.lost]
+        for b in self.lost:
+            if words(image, b)[127] == DIR:
+                for s in range(SLOTS):
+                    pack_into(">I", image, 512 * b + 24 + 4 * s, 0)
+                put(image, b, 5, 0)
+        made = sorted({p for p in named if self.is_made(p)})
+        for p in made:
+            head, name = bytearray(512), b"lost-%d" % p
+            pack_into(">2I", head, 0, 2, p)
+            head[432 : 433 + len(name)] = bytes([len(name)]) + name
+            pack_into(">I", head, 508, DIR)
+            image[512 * p : 512 * p + 512] = head
+        for b in sorted({*made, *lost}):
+            p = words(self.image, b)[125] if b in lost else r
+            is_home = self.is_directory(p) or p in made or p in lost and says_dir(self.image, p)
+            self.hang(image, b, p if is_home else r)
+        return bytes(image)
+
+    def hang(self, image, b, home):
+        """First in a slot of its home, by its number."""
+        slot = 6 + b % SLOTS
+        put(image, b, 124, words(image, home)[slot])
+        put(image, b, 125, home)
+        put(image, home, slot, b)
+
+
+# The tree of all that stands
+
+
+class Node:
+    def __init__(self, path, meta, content):
+        self.path, self.meta, self.content, self.index = path, meta, content, {}
+
+
+class Rescue:
+    def __init__(self, image):
+        self.given, self.mended = opened(image)
+        survey = Survey(self.given)
+        self.findings, self.refused, self.left_out = survey.findings, None, []
+        if not survey.nodes:
+            self.refused = "block %d: %s" % self.findings[0][1:]
+            return
+        self.survey, self.blocks = survey, survey.blocks
+        pages = -(-(self.blocks - 2) // PAGE_BITS)
+        self.left = self.blocks - 2 - 1 - pages - max(0, -(-(pages - 25) // 127))
+        self.root, self.added = Node((), None, None), []
+        places = self.take(survey, {survey.root: self.root})
+        known = {survey.block_of(n): places.get(survey.block_of(n)) for n in range(len(survey.nodes))}
+        lost = Lost(survey)
+        self.lost = lost.lost
+        if lost.lost and self.findings:
+            self.take(Survey(lost.hung()), known)
+        if not self.added and (self.mended or self.findings):
+            self.refused = "block %d: %s" % (Survey(image).findings or self.findings)[0][1:]
+
+    def take(self, survey, known):
+        """Adds what stands of a survey; answers the places of its directories, by their blocks. Known blocks are passed by."""
+        places, first = dict(known), survey is self.survey
+        bad = self.not_whole(survey)
+        for n in range(1, len(survey.nodes)):
+            h, p = survey.block_of(n), survey.block_of(survey.nodes[n][2])
+            if h in known:
+                continue
+            places[h] = None
+            kind, parent = survey.word(h, 127), places[p]
+            if kind == DIR:
+                content = None
+            elif kind == FILE and n not in bad and (first or self.content(survey, n, survey.image) == self.content(survey, n, self.given)):
+                content = self.content(survey, n, survey.image)
+            else:
+                self.left_out.append(("link" if kind in LINKS else "damaged", survey.path(n)))
+                continue
+            node = parent and self.add(survey, h, parent, content)
+            if node is None:
+                self.left_out.append(("no room", survey.path(n)))
+            elif kind == DIR:
+                places[h] = node
+        return places
+
+    def not_whole(self, survey):
+        """The files that a finding concerns which is not harmless, or whose FFS blocks other words name too."""
+        grave = [f for f in survey.findings if not (f[0] and f[0][1] == "head" and f[0][0] in survey.walk and f[2] in HARMLESS)]
+        bad = set()
+        for role, _, _ in grave:
+            n = survey.node_of(role)
+            if n is not None:
+                bad.add(n)
+        if survey.offset == 0:
+            bad |= {role[2] for b, role in survey.owner.items() if role[1] == "data" and survey.names[b] > 1}
+        return bad
+
+    def content(self, survey, n, image):
+        left, out = survey.size(n), []
+        for k in range(survey.data_count(n)):
+            start = 512 * survey.walk[n + 1, 1, k + 1] + survey.offset
+            out.append(image[start : start + min(left, survey.chunk)])
+            left -= survey.chunk
+        return b"".join(out)
+
+    def add(self, survey, h, parent, content):
+        for name in (survey.text(h, 432), b"lost-%d" % h):
+            if is_name(name) and upper(name) not in parent.index:
+                break
+        else:
+            return None
+        datas = 0 if content is None else -(-len(content) // survey.chunk)
+        cost = 1 + datas + max(0, -(-(datas - 72) // 72))
+        if cost > self.left:
+            return None
+        self.left -= cost
+        w = words(survey.image, h)
+        node = Node((*parent.path, name), (survey.text(h, 328)[:79], w[80], w[105:108]), content)
+        parent.index[upper(name)] = node
+        self.added.append(node)
+        return node
+
+    def manifest(self):
+        sv, stamp = self.survey, lambda s: ":".join(map(str, s))
+        w = words(self.given, sv.root)
+        label = sv.text(sv.root, 432)[:30]
+        lines = [f"volume {'ofs' if sv.offset else 'ffs'} {self.blocks}"]
+        if label:
+            lines.append("label " + escaped(label))
+        lines.append("stamps " + " ".join(map(stamp, (w[105:108], w[118:121], w[121:124]))))
+        for node in self.added:
+            comment, protect, date = node.meta
+            lines.append(f"{'dir' if node.content is None else 'file'} {stamp(date)} {protect:08x} {'/'.join(map(escaped, node.path))}")
+            if comment:
+                lines.append("note " + escaped(comment))
+            for at in range(0, len(node.content or b""), 4096):
+                lines.append("data " + node.content[at : at + 4096].hex())
+        return "\n".join(lines) + "\n"
+
+    def lines(self):
+        return [f"{why}: {spelled(path)}" for why, path in self.left_out]
+
+
+def escaped(text):
+    return "".join(chr(c) if 32 <= c <= 126 and c != 92 else f"\\x{c:02x}" for c in text)
+
+
+def main():
+    if len(sys.argv) > 1:
+        sys.exit(__doc__)
+    got = Rescue(sys.stdin.buffer.read())
+    sys.stderr.write("".join(line + "\n" for line in got.lines()))
+    sys.stdout.write(got.refused + "\n" if got.refused else got.manifest())
+
+
+if __name__ == "__main__":
+    main()
