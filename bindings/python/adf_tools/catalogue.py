@@ -17,6 +17,11 @@ IMAGE_COLUMNS = "image bytes sha256 verdict kind blocks used free dirs files lab
 ENTRY_COLUMNS = "image kind size protection date header sha256 path comment state".split()
 
 
+def links_of(rows):
+    """The pages of images, and the new volumes of those that have one."""
+    return {row[link] for row in rows for link in ("link", "rescued") if row.get(link)}
+
+
 class Before:
     """What the last run left of files that have not changed."""
 
@@ -27,7 +32,7 @@ class Before:
     def has(self, name, stamp):
         """Whether a file was read when it had this size and date, and its pages are there."""
         file = self.files.get(name)
-        return file and file["stamp"] == stamp and all(os.path.isfile(os.path.join(self.out, row["link"])) for row in file["rows"])
+        return file and file["stamp"] == stamp and all(os.path.isfile(os.path.join(self.out, link)) for link in links_of(file["rows"]))
 
     def answer(self, name):
         """What a reader answered of a file."""
@@ -64,7 +69,7 @@ class Catalogue:
 
 
 def options_of(words):
-    return [words.tsv, words.escape]
+    return [words.tsv, words.escape, words.rescue]
 
 
 def table_of(words):
@@ -97,8 +102,8 @@ def folder_for(path):
 
 
 def remove_old(out, catalogue):
-    """Removes pages to which no row leads, and tables that are not wanted."""
-    links = {row["link"] for row in catalogue.rows}
+    """Removes pages and volumes to which no row leads, and tables that are not wanted."""
+    links = links_of(catalogue.rows)
     pages = {os.path.join(FOLDER, name) for name in os.listdir(os.path.join(out, FOLDER)) if PAGE_NAME.fullmatch(name)}
     tables = set() if catalogue.has_tables else {IMAGES, ENTRIES}
     for name in pages - links | tables:
@@ -113,7 +118,7 @@ def fill(out, words, folder, opened):
     old = {name for _, name, stamp in files if before.has(name, stamp)}
     catalogue, progress = Catalogue(out, words.tsv, opened), Progress(len(files), "files")
     opened.callback(progress.end)
-    reader = Reader(folder, out, words.escape, words.tsv)
+    reader = Reader(folder, out, words.escape, words.tsv, words.rescue)
     answers = opened.enter_context(contextlib.closing(in_order(reader, [path for path, name, _ in files if name not in old])))
     for _, name, stamp in files:
         catalogue.add(name, stamp, *(before.answer(name) if name in old else next(answers)))
@@ -140,6 +145,7 @@ def main():
     line.add_argument("folder", metavar="FOLDER", help="the images, also in folders below: *.adf, *.hdf and what begins with DOS, in .zip, .gz and .adz too")
     line.add_argument("out", metavar="OUT", help="is made whole or not at all; a catalogue that is there is brought up to date; the index is index.html")
     line.add_argument("--tsv", action="store_true", help="write the tables OUT/images.tsv and OUT/entries.tsv too")
+    line.add_argument("--rescue", action="store_true", help="write a new volume of what stands in each refused image, with a link on its page")
     add_escape(line, "write texts of the tables")
     begin(line, work)
 

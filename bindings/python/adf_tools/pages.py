@@ -152,8 +152,14 @@ def volume_body(volume, row):
     return facts(pairs) + f'<div class="beside">{picture("", volume.owners())}{entries}</div>'
 
 
-def refused_body(refused, survey, row):
-    """The page of a refused image: its first fault, all findings, and what is found all the same."""
+def rescue_part(name, left_out):
+    """The link to the new volume of a refused image, and what it leaves out."""
+    link = f'<p><a href="{name}" download>A new, sound volume</a> of all that stands, {len(left_out)} entries left out.</p>\n'
+    return link + (table(("Left out", "Path"), (cell(why) + cell(shown(path), "text") for why, path in left_out)) if left_out else "")
+
+
+def refused_body(refused, survey, row, new):
+    """The page of a refused image: its first fault, all findings, what is found all the same, and the new volume, if there is one."""
     sound = sum(entry.is_sound for entry in survey.entries)
     counts = f"{len(survey.findings)} lines; {sound} of {len(survey.entries)} entries that are found are sound"
     pairs = [("Refused", f'<span class="refused">{refused}</span>'), ("Cause", refused.cause), ("Block", refused.block)]
@@ -164,6 +170,7 @@ def refused_body(refused, survey, row):
         rescue = "<p>Of a sound file, <code>adf-survey cat PATH &lt; IMAGE &gt; FILE</code> writes the bytes.</p>\n"
         found = f'<div id="found">{rescue}{table(FOUND_HEADS, map(found_row, survey.entries))}</div>'
     drawn = picture("", roles_of_refused(survey.image, survey.findings), refused)
+    told += rescue_part(*new) if new else ""
     return facts([*pairs, ("Findings", counts), *file_facts(row)]) + told + f'<div class="beside">{drawn}{found}</div>'
 
 

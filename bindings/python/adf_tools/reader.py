@@ -10,7 +10,7 @@ from adf_tools.names import host_letters, text_of
 from adf_tools.pages import image_page, refused_body, volume_body
 
 FOLDER = "images"
-PAGE_NAME = re.compile(r"[a-z0-9-]*-[0-9a-f]{16}\.html")
+PAGE_NAME = re.compile(r"[a-z0-9-]*-[0-9a-f]{16}\.(html|adf)")
 
 
 def page_name(image):
@@ -40,10 +40,10 @@ def refused_row(refused, survey):
 
 
 class Reader:
-    """Writes the pages of the images in a file into a folder."""
+    """Writes the pages of the images in a file into a folder, and the new volumes of refused ones if these are wanted."""
 
-    def __init__(self, folder, out, is_escaped, has_tables):
-        self.folder, self.out, self.is_escaped, self.has_tables = folder, out, is_escaped, has_tables
+    def __init__(self, folder, out, is_escaped, has_tables, has_rescues):
+        self.folder, self.out, self.is_escaped, self.has_tables, self.has_rescues = folder, out, is_escaped, has_tables, has_rescues
 
     def __call__(self, path):
         """The rows of the images in a file, and the bytes of their lines in the table of entries."""
@@ -67,7 +67,8 @@ class Reader:
         except adf.Refused as refused:
             survey = adf.survey(image.content)
             row.update(refused_row(refused, survey))
-            body, found = refused_body(refused, survey, row), self.found_lines(row["image"], survey)
+            new = self.rescue(image, row) if self.has_rescues else None
+            body, found = refused_body(refused, survey, row, new), self.found_lines(row["image"], survey)
         else:
             row.update(volume_row(volume))
             body, found = volume_body(volume, row), self.volume_lines(row["image"], volume)
@@ -77,15 +78,28 @@ class Reader:
         if self.has_tables:
             lines += found
 
+    def rescue(self, image, row):
+        """Writes the new volume of what stands in a refused image beside its page, if anything does; answers its name there, and
+        the entries that it leaves out."""
+        try:
+            volume, left_out = adf.rescue(image.content)
+        except adf.Refused:
+            return None
+        name = page_name(image)[: -len("html")] + "adf"
+        row["rescued"] = f"{FOLDER}/{name}"
+        with open(os.path.join(self.out, row["rescued"]), "xb") as file:
+            file.write(volume)
+        return name, left_out
+
     def volume_lines(self, name, volume):
         for entry in volume.entries:
             digest = hashlib.sha256(entry.read()).hexdigest() if entry.is_file else ""
             yield self.entry_line(name, entry, entry.header, digest, "sound")
 
     def found_lines(self, name, survey):
-        """The lines of what is found in a refused image: no header is told of it, and no sum made."""
+        """The lines of what is found in a refused image: no sum is made of it."""
         for entry in survey.entries:
-            yield self.entry_line(name, entry, "", "", "sound" if entry.is_sound else "damaged")
+            yield self.entry_line(name, entry, entry.header, "", "sound" if entry.is_sound else "damaged")
 
     def entry_line(self, name, entry, header, digest, state):
         kind, path, comment = "file" if entry.is_file else "dir", *(text_of(text, self.is_escaped) for text in (entry.path, entry.comment))
