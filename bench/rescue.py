@@ -109,10 +109,10 @@ class Lost:
         self.unsettled = set()
         for role, _, _ in survey.findings:
             n = survey.node_of(role)
-            if n:
-                self.unsettled |= {n, survey.nodes[n][2]}
-            elif role and role[1] == "head":
-                self.unsettled.add(role[2])
+            if n is None and role and role[1] == "head":
+                n = role[2]
+            if n is not None:
+                self.unsettled |= {n, survey.nodes[n][2] if n else 0}
         self.lost = [b for b in range(self.blocks) if self.is_lost(b)]
 
     def is_free(self, b):
