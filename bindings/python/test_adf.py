@@ -282,8 +282,10 @@ class Surveys(unittest.TestCase):
         self.assertEqual(cut.findings, [])
         self.assertEqual(cut.read("a"), b"A" * 489)
         self.assertEqual(adf.rescue(sound[:5120], 16), (sound, []))
-        with self.assertRaisesRegex(adf.Refused, "block 5: bad type"):
-            adf.rescue(sound[:5120])
+        # Without its root the file is found by its header, which names the root's block as its directory.
+        new, left_out = adf.rescue(sound[:5120])
+        self.assertEqual([entry.path for entry in adf.Volume(new).entries], ["lost-8", "lost-8/a"])
+        self.assertEqual((adf.Volume(new)["lost-8/a"].read(), left_out), (b"A" * 489, []))
         for blocks in (-1, 1 << 20 | 1):
             with self.assertRaises(ValueError):
                 adf.survey(sound, blocks)
