@@ -289,7 +289,7 @@ pub(crate) fn find(entries: &[Record], path: &[u8]) -> Result<usize, NotFound> {
 /// Puts bytes of a file from an offset on into the room, and answers how many.
 pub(crate) fn read(image: &[u8], tables: &Tables, node: usize, offset: usize, room: &mut [u8]) -> usize {
     let (entries, blocks) = (&tables.entries, &tables.blocks);
-    // "What it writes (not const) overlaps nothing else that is passed"; "the result is still at most room_length".
+    // "What it writes (not const) overlaps nothing else that is passed"; "as many as there are and fit, and returns how many".
     unsafe {
         adf_read(
             image.as_ptr(),
