@@ -1,5 +1,5 @@
-/* adf for C: checks images of Amiga disks, lists, looks up and reads their files, and runs the commands `adf` and
- * `adf-survey` over memory.
+/* adf for C: checks images of Amiga disks, lists, looks up and reads their files, finds the volumes of hard disks, and runs the
+ * commands `adf` and `adf-survey` over memory.
  *
  *     struct adf_verdict verdict;
  *     if (adf_check(image, length, &verdict) == ADF_ACCEPTED)
@@ -276,6 +276,67 @@ struct adf_surveyed {
  */
 uint8_t adf_survey_index(const uint8_t *image, size_t length, struct adf_finding *findings, size_t findings_room,
                          struct adf_found *entries, size_t entries_room, struct adf_surveyed *surveyed);
+
+/* A whole hard disk.
+ *
+ * Its image begins with tables that say where its volumes lie. adf-disk(1) and FORMAT.md have them. The bytes of a volume, from
+ * `first` * 512 on and `blocks` * 512 long, are an image for the calls above.
+ */
+
+/* What is wrong with the tables of a disk: the first fault. */
+enum adf_disk_cause {
+    ADF_DISK_WHOLE = 0,
+    ADF_DISK_NO_RIGID_DISK = 1, /* None of the blocks 0 to 15 is a rigid disk block with a sound sum; at block 0. */
+    ADF_DISK_BLOCK_SIZE = 2,    /* Its blocks have not 512 bytes. */
+    ADF_DISK_OUT_OF_RANGE = 3,  /* The block names one that is not kept for the tables, or is not there. */
+    ADF_DISK_REPEATED = 4,      /* The list of partition blocks comes back to the block. */
+    ADF_DISK_NO_PARTITION = 5,  /* The block is named as a partition block, and is none. */
+    ADF_DISK_BAD_SUM = 6,       /* Its checksum is wrong. */
+    ADF_DISK_TOO_MANY = 7       /* It comes after 1,024 partitions. */
+};
+
+/* What is wrong with a partition alone. The tests run in this order. */
+enum adf_partition_fault {
+    ADF_PARTITION_SOUND = 0,
+    ADF_PARTITION_SHORT_ENVIRONMENT = 1, /* Its block lacks the type. */
+    ADF_PARTITION_BLOCK_SIZE = 2,        /* Its blocks have not 512 bytes. */
+    ADF_PARTITION_BAD_CYLINDERS = 3,     /* It ends before it begins, or its cylinders have no blocks. */
+    ADF_PARTITION_BEYOND_IMAGE = 4,      /* It ends past the end of the disk. */
+    ADF_PARTITION_OVER_TABLES = 5,       /* It has blocks that are kept for the tables. */
+    ADF_PARTITION_OVER_PARTITION = 6,    /* It has blocks of an earlier partition. */
+    ADF_PARTITION_BAD_NAME = 7           /* Its name is empty, longer than 31 bytes, or has `/` or `:`. */
+};
+
+struct adf_partition {
+    uint64_t first;      /* the first block of its volume, counted from the beginning of the disk; 0 if something is wrong */
+    uint64_t blocks;     /* the blocks of its volume; 0 if something is wrong */
+    uint32_t block;      /* its partition block */
+    uint32_t flags;      /* bit 0: a computer may start from it; bit 1: it is not mounted by itself */
+    int32_t priority;    /* of starting */
+    uint32_t dos_type;   /* four bytes, the first one the highest: 0x444F5300 (DOS\0) is OFS, 0x444F5301 is FFS */
+    uint8_t fault;       /* an adf_partition_fault */
+    uint8_t name_length; /* 0 to 31 */
+    uint8_t name[31];    /* as it stands, in no particular encoding, padded with zeros */
+};
+
+/* What a disk has beside its partitions. */
+struct adf_disk {
+    size_t partitions; /* those that can be read, at most 1,024 */
+    uint32_t block;    /* the block of the fault, or 0 */
+    uint8_t cause;     /* an adf_disk_cause */
+};
+
+/* Reads the partitions of a disk of so many blocks of 512 bytes, and fills a table with them, as far as there is room. The bytes
+ * are the first ones of the disk: at least the blocks 0 to 15 and those that are kept for its tables, at most 65,536. Returns an
+ * adf_cause: 0 or ADF_NO_MEMORY.
+ *
+ * 0: disk->cause is the first fault of the tables, in disk->block. Without one the table has all partitions, in their order;
+ *    otherwise those that can be read nevertheless, as `adf-disk survey` tells them. disk->partitions is the whole number,
+ *    whatever the room. The rest of the room is unchanged.
+ * ADF_NO_MEMORY: an allocation failed. All fields of the disk are 0, and the table is unchanged.
+ */
+uint8_t adf_disk_index(const uint8_t *bytes, size_t length, uint64_t blocks, struct adf_partition *partitions, size_t room,
+                       struct adf_disk *disk);
 
 struct adf_moved {
     size_t input;      /* bytes that were read */

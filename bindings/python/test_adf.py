@@ -299,6 +299,53 @@ class Surveys(unittest.TestCase):
         self.assertEqual(sorted(entry.path for entry in left_out), names)
 
 
+def table(words):
+    """A block of a disk's tables with these words, and its sum in word 2."""
+    block = [0] * 128
+    for place, value in words.items():
+        block[place] = value
+    block[2] = -sum(block) % 2**32
+    return struct.pack(">128I", *block)
+
+
+RIGID_DISK = {0: 0x5244534B, 1: 64, 4: 512, 7: 1, 32: 0, 33: 15}
+DRIVE = {0: 0x50415254, 1: 64, 5: 1, 32: 16, 33: 128, 35: 1, 36: 1, 37: 16, 47: 0xFFFFFFFB}
+
+
+class Disks(unittest.TestCase):
+    """A disk of 132 blocks: DH0 has blocks 16 to 31, and DH1 blocks 32 to 143, beyond the end."""
+
+    first = {**DRIVE, 4: 2, 9: 0x03444830, 41: 1, 42: 1, 48: 0x444F5301}
+    second = {**DRIVE, 4: 0xFFFFFFFF, 9: 0x03444831, 41: 2, 42: 8, 48: 0x50465303}
+
+    def disk(self, head=RIGID_DISK):
+        volume = built("volume ffs 16\nfile 0:0:0 00000000 a\ndata 616263\n")
+        return (table(head) + table(self.first) + table(self.second)).ljust(16 * 512, b"\0") + volume + bytes(100 * 512)
+
+    def test_tells_partitions(self):
+        disk = adf.Disk(self.disk())
+        self.assertEqual((disk.cause, disk.block), ("", 0))
+        self.assertEqual(disk.partitions, adf.partitions(self.disk()))
+        self.assertEqual(
+            disk.partitions,
+            [(1, b"DH0", "ffs", 16, 16, 1, -5, 1, ""), (2, b"DH1", "PFS\\x03", 0, 0, 1, -5, 2, "beyond image")],
+        )
+        self.assertEqual((disk["dh0"].number, disk[2].name), (1, "DH1"))
+        self.assertEqual(adf.Volume(disk.volume("DH0"))["a"].read(), b"abc")
+        for wanted in (0, 3, "DH", "DH2"):
+            self.assertRaises(KeyError, disk.volume, wanted)
+        self.assertRaises(OSError, disk.volume, "DH1")
+
+    def test_tells_what_can_be_read(self):
+        damaged = self.disk({**RIGID_DISK, 7: 3})
+        disk = adf.Disk(bytearray(damaged))
+        self.assertEqual((disk.cause, disk.block, [each.name for each in disk.partitions]), ("not a partition", 3, ["DH0", "DH1"]))
+        with self.assertRaises(adf.Refused) as refused:
+            adf.partitions(damaged)
+        self.assertEqual(str(refused.exception), "block 3: not a partition")
+        self.assertEqual(str(adf.Disk(b"").cause), "no rigid disk")
+
+
 class Files(unittest.TestCase):
     def setUp(self):
         self.volumes = [adf.Volume(image_of(kind)) for kind in adf.KINDS]

@@ -15,6 +15,7 @@
         print(volume.label)
     found = adf.survey(image)                       # of a damaged image: found.findings, found.entries, found.read("c/list")
     new, left_out = adf.rescue(image)               # a sound volume of all that stands, and the entries that it leaves out
+    disk = adf.Disk(image)                          # of a whole hard disk: disk.partitions, and adf.Volume(disk.volume("DH0"))
 
 Texts are in Latin-1, as Amigas have them, so each byte is one character and nothing is lost; where a path is given, bytes do
 as well, and mean themselves. `raw_label`, `raw_name`, `raw_path` and `raw_comment` are the bytes.
@@ -44,6 +45,9 @@ BLOCK = 512
 MOST_BYTES = BLOCK * 1_048_576
 NO_MEMORY = 23
 KINDS = ("ofs", "ffs")
+DISK_CAUSES = ("", "no rigid disk", "bad block size", "out of range", "repeated", "not a partition", "bad sum", "too many")
+PARTITION_FAULTS = ("", "short environment", "bad block size", "bad cylinders", "beyond image", "over tables", "over partition", "bad name")
+MOST_PARTITIONS, MOST_TABLES, DOS_TYPE = 1024, BLOCK * 65536, 0x444F5300
 ROLES = ("free", "boot", "root", "page", "map extension", "header", "extension", "data")
 SONAME = "libadf.so.1"
 FIRST_ROOM, FIRST_OUTPUT, FIRST_ERRORS, MOST_OUTPUT, LONGEST_CAUSE = 2048, 4096, 4096, 1 << 32, 64
@@ -81,6 +85,11 @@ _Surveyed = _struct(
     *(("kind blocks", _WORD), ("findings entries", _SIZE)),
     *(("root altered created", _Date), ("label_length", _BYTE), ("label", _BYTE * 30)),
 )
+_Partition = _struct(
+    *(("first blocks", ctypes.c_uint64), ("block flags", _WORD), ("priority", ctypes.c_int32), ("dos_type", _WORD)),
+    *(("fault name_length", _BYTE), ("name", _BYTE * 31)),
+)
+_Disk = _struct(("partitions", _SIZE), ("block", _WORD), ("cause", _BYTE))
 _Moved = _struct(("input output errors", _SIZE), ("output_full errors_full", _BOOL))
 _CALLS = {
     "adf_check": (_BYTE, _POINTER, _SIZE, _POINTER),
@@ -91,6 +100,7 @@ _CALLS = {
     "adf_cause_text": (_SIZE, _BYTE, _POINTER, _SIZE),
     "adf_run": (_BYTE, *(_POINTER, _SIZE) * 4, _POINTER),
     "adf_survey_index": (_BYTE, _POINTER, _SIZE, _POINTER, _SIZE, _POINTER, _SIZE, _POINTER),
+    "adf_disk_index": (_BYTE, _POINTER, _SIZE, ctypes.c_uint64, _POINTER, _SIZE, _POINTER),
     "adf_survey_run": (_BYTE, *(_POINTER, _SIZE) * 4, _POINTER),
 }
 _library: ctypes.CDLL | None = None
@@ -403,6 +413,80 @@ class Survey(_ReadOnly):
         if errors == b"damaged\n":
             raise OSError(errno.EIO, "damaged", path)
         return output
+
+
+class Partition(NamedTuple):
+    """A partition of a hard disk: its number from 1, the drive's name, the kind ("ofs", "ffs", or the four bytes of another file
+    system in the escape form), the first block of its volume and how many it has (0 and 0 where something is wrong with it),
+    flags, boot priority, its partition block, and what is wrong with it, as `over tables`, or an empty text."""
+
+    number: int
+    raw_name: bytes
+    kind: str
+    first: int
+    blocks: int
+    flags: int
+    priority: int
+    block: int
+    fault: str
+
+    @property
+    def name(self) -> str:
+        return self.raw_name.decode("latin-1")
+
+
+class Disk(_ReadOnly):
+    """The partitions of a whole hard disk, in the order of its tables; cause and block, the first fault of these, or an empty text
+    and 0. Where they have one, the partitions are those that can be read nevertheless, as `adf-disk survey` tells them.
+
+    The image may be an mmap: of it only the tables are read here, and a volume where it is asked for.
+    """
+
+    image: Image
+    partitions: list[Partition]
+    cause: str
+    block: int
+
+    def __init__(self, image: Image) -> None:
+        told, rows = _Disk(), (_Partition * MOST_PARTITIONS)()
+        tables, blocks = bytes(memoryview(image)[:MOST_TABLES]), len(image) // BLOCK
+        if _calls().adf_disk_index(tables, len(tables), blocks, rows, MOST_PARTITIONS, ctypes.byref(told)) != 0:
+            raise MemoryError
+        partitions = [self._partition(number, row) for number, row in enumerate(rows[: told.partitions], 1)]
+        vars(self).update(image=image, partitions=partitions, cause=DISK_CAUSES[told.cause], block=told.block)
+
+    @staticmethod
+    def _partition(number: int, row: Any) -> Partition:
+        kind = row.dos_type - DOS_TYPE
+        text = KINDS[kind] if kind in (0, 1) else escape(row.dos_type.to_bytes(4, "big"))
+        fields = row.first, row.blocks, row.flags, row.priority, row.block, PARTITION_FAULTS[row.fault]
+        return Partition(number, bytes(row.name)[: row.name_length], text, *fields)
+
+    def __getitem__(self, wanted: int | str) -> Partition:
+        """The partition with a number, or the first with a name; the case of a to z does not count. KeyError where there is none."""
+        for partition in self.partitions:
+            if wanted == partition.number or isinstance(wanted, str) and _upper(wanted) == _upper(partition.name):
+                return partition
+        raise KeyError(wanted)
+
+    def volume(self, wanted: int | str) -> bytes:
+        """The bytes of its volume. KeyError where there is no such partition, OSError (EIO) where something is wrong with it."""
+        partition = self[wanted]
+        if partition.fault:
+            raise OSError(errno.EIO, partition.fault, partition.name)
+        return bytes(memoryview(self.image)[BLOCK * partition.first : BLOCK * (partition.first + partition.blocks)])
+
+
+def partitions(image: Image) -> list[Partition]:
+    """The partitions of a whole hard disk. Refused where its tables have a fault: Disk(image) has what can be read then."""
+    disk = Disk(image)
+    if disk.cause:
+        raise Refused(disk.cause, disk.block, DISK_CAUSES.index(disk.cause))
+    return disk.partitions
+
+
+def _upper(text: str) -> str:
+    return re.sub("[a-z]+", lambda found: found[0].upper(), text)
 
 
 def _plain(text: str) -> str:

@@ -2,6 +2,7 @@
 
 mod cause;
 mod command;
+mod disk;
 mod ffi;
 mod role;
 mod survey;
@@ -9,6 +10,7 @@ mod text;
 
 pub use cause::{Cause, NotFound, Refused};
 pub use command::{run, survey, Answer};
+pub use disk::{Disk, DiskFault, Partition};
 pub use ffi::Date;
 pub use role::Role;
 pub use survey::{Finding, Found, Survey};

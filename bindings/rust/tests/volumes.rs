@@ -1,6 +1,6 @@
 //! Small volumes, built by the library itself.
 
-use adf::{run, survey, Cause, Date, Kind, NotFound, Refused, Role, Survey, Volume};
+use adf::{run, survey, Cause, Date, Disk, Kind, NotFound, Refused, Role, Survey, Volume};
 use std::time::{Duration, SystemTime};
 
 const MANIFEST: &str = r"volume ofs 1760
@@ -218,4 +218,38 @@ fn a_survey_tells_findings_and_reads_what_stands() {
     let entries: Vec<_> = found.entries().map(|entry| (entry.path(), entry.is_sound(), entry.size())).collect();
     assert_eq!(entries, [("c".to_owned(), false, 0), ("c/a".to_owned(), true, 3)]);
     assert_eq!((found.kind(), found.label().as_bytes()), (Some(Kind::Ofs), &b""[..]));
+}
+
+/// A block of a disk's tables with these words, and its sum in word 2.
+fn table(words: &[(usize, u32)]) -> Vec<u8> {
+    let mut block = [0u32; 128];
+    for &(place, value) in words {
+        block[place] = value;
+    }
+    block[2] = block.iter().fold(0u32, |sum, &word| sum.wrapping_sub(word));
+    block.iter().flat_map(|word| word.to_be_bytes()).collect()
+}
+
+#[test]
+fn a_disk_tells_its_partitions() {
+    // DH0 has blocks 16 to 31 of a disk of 32.
+    let drive = [(0, 0x5041_5254), (1, 64), (4, u32::MAX), (5, 1), (9, 0x0344_4830), (32, 16), (33, 128), (35, 1)];
+    let place = [(36, 1), (37, 16), (41, 1), (42, 1), (47, 5), (48, 0x444F_5301)];
+    let mut image = table(&[(0, 0x5244_534B), (1, 64), (4, 512), (7, 1), (32, 0), (33, 15)]);
+    image.extend(table(&[&drive[..], &place[..]].concat()));
+    image.resize(16 * 512, 0);
+    image.extend(built("volume ffs 16\nfile 0:0:0 00000000 a\ndata 616263\n"));
+    let disk = Disk::of(&image).unwrap();
+    assert_eq!((disk.fault(), disk.partitions().len()), (None, 1));
+    let partition = disk.named("dh0").unwrap();
+    assert_eq!((partition.number(), partition.name().as_bytes(), partition.place()), (1, &b"DH0"[..], Ok((16, 16))));
+    assert_eq!((partition.flags(), partition.priority(), &partition.dos_type()), (1, 5, b"DOS\x01"));
+    let volume = Volume::check(partition.volume().unwrap()).unwrap();
+    assert_eq!(volume.find("a").unwrap().read(), b"abc");
+
+    // The disk ends within it.
+    let disk = Disk::of(&image[..31 * 512]).unwrap();
+    assert_eq!(disk.partitions().next().unwrap().place().unwrap_err().to_string(), "beyond image");
+    let disk = Disk::of(&image[512..]).unwrap();
+    assert_eq!(disk.fault().unwrap().to_string(), "block 0: no rigid disk");
 }

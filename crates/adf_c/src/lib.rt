@@ -3,6 +3,7 @@
 
 mod causes;
 mod commands;
+mod disks;
 mod images;
 mod surveys;
 mod tables;

@@ -1,12 +1,12 @@
 -- How works end, and by which answers. `part` are the first bytes of an input, as many as count.
 use Rattle.std.proofs.Common.{◌≡◌, ◌+◌, ◌*◌, ◌-◌, ◌/◌, ◌∙◌, inl, inr, ℕ, List, Option, ap, arith, drop, length, min, subst, take}
 use Rattle.std.proofs.lemmas.List.{drop_min, length-drop, take-take, take_all, take_min}
-use Rattle.adf_disk_cmd.specs.Answers.{DiskAnswer, OfDisk, OfPartitions, disk_refusal}
+use Rattle.adf_disk_cmd.specs.Answers.{DiskAnswer, OfDisk, OfFault, OfPartitions}
 use Rattle.adf_disk_cmd.specs.Lines.{volume_at}
 use Rattle.adf_disk_cmd.specs.Work.{Serves}
 use Rattle.adf_disk_cmd.specs.declared.work.TheConstants.{MOST_DISK_BYTES}
 use Rattle.adf_disk_cmd.specs.declared.work.Work.{Work}
-use Rattle.adf_disk_cmd.specs.declared.work.Work.TheVariants.{Check}
+use Rattle.adf_disk_cmd.specs.declared.work.Work.TheVariants.{Check, Survey}
 use Rattle.adf_partitions.specs.Disks.{FirstFault, IsDisk}
 use Rattle.adf_partitions.specs.declared.fault.DiskFault.{DiskFault}
 use Rattle.adf_partitions.specs.declared.partition.Partition.{Partition}
@@ -16,7 +16,7 @@ use Rattle.adf_runs.proofs.Endings.{ends_weaker}
 use Rattle.adf_runs.specs.Commands.{Reply}
 use Rattle.adf_runs.specs.Outcomes.{EndsBy}
 use Rattle.adf_runs.specs.declared.outcome.Outcome.{Outcome}
-use Rattle.adf_words.specs.DiskLine.{DiskRequestValue, check}
+use Rattle.adf_words.specs.DiskLine.{DiskRequestValue, check, survey}
 
 -- what is answered to the front of an input that is longer than the largest disk is answered to the whole of it
 pub long_answers : (r : DiskRequestValue) (front bytes : List ℕ) → front ≡ take (MOST_DISK_BYTES + 1) bytes → (reply : Reply) → DiskAnswer r front reply
@@ -40,14 +40,17 @@ told_ends r bytes part t ps w o o' e disk h = ends_weaker (OfPartitions r part p
 
 -- so does its first fault
 pub refused_ends : (r : DiskRequestValue) (bytes part : List ℕ) (f : DiskFault) (w : Outcome) (o o' : Option (List ℕ))
-    → part ≡ take MOST_DISK_BYTES bytes → FirstFault part (length part / 512) f → EndsBy (λ reply. reply ≡ disk_refusal r f) w o o'
+    → part ≡ take MOST_DISK_BYTES bytes → FirstFault part (length part / 512) f → EndsBy (OfFault r part f) w o o'
     → EndsBy (DiskAnswer r bytes) w o o'
-refused_ends r bytes part f w o o' e first h = ends_weaker (λ reply. reply ≡ disk_refusal r f) (DiskAnswer r bytes) w o o'
+refused_ends r bytes part f w o o' e first h = ends_weaker (OfFault r part f) (DiskAnswer r bytes) w o o'
     (λ reply tells. subst (λ (l : List ℕ). OfDisk r l reply) e (inr (f, first, tells))) h
 
--- the work of `check` is that of no other request
+-- the work of `check` is that of no other request, nor is that of `survey`
 pub checks : (work : Work) (r : DiskRequestValue) → work ≡ Check → Serves work r → r ≡ check
 checks work r e serves = subst (λ (w : Work). Serves w r) e serves
+
+pub surveys : (work : Work) (r : DiskRequestValue) → work ≡ Survey → Serves work r → r ≡ survey
+surveys work r e serves = subst (λ (w : Work). Serves w r) e serves
 
 -- a slice of a slice is the volume
 pub volume_is : (bytes : List ℕ) (q : Place) (first count : ℕ) → first ≡ min (q.first * 512) (length bytes)

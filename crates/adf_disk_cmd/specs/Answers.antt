@@ -4,12 +4,13 @@ use Rattle.adf_tree.specs.Escapes.{IsSpelling}
 use Rattle.adf_partitions.specs.Disks.{FirstFault, IsDisk}
 use Rattle.adf_partitions.specs.FaultTexts.{disk_fault_text, place_fault_text}
 use Rattle.adf_partitions.specs.Partitions.{is_named, partition_numbered}
+use Rattle.adf_partitions.specs.Searches.{AreReadable}
 use Rattle.adf_partitions.specs.declared.fault.DiskFault.{DiskFault}
 use Rattle.adf_partitions.specs.declared.partition.Partition.{Partition}
 use Rattle.adf_partitions.specs.declared.place.Place.{Place}
 use Rattle.adf_partitions.specs.declared.place.PlaceFault.{PlaceFault}
 use Rattle.adf_partitions.specs.declared.tables.Tables.{Tables}
-use Rattle.adf_words.specs.DiskLine.{AreRefusedByDisk, AsksDisk, DiskRequestValue, WantedValue, check, list, name, number, volume}
+use Rattle.adf_words.specs.DiskLine.{AreRefusedByDisk, AsksDisk, DiskRequestValue, WantedValue, check, list, name, number, survey, volume}
 use Rattle.adf_runs.specs.Commands.{Command, Reply, on_errors, on_output}
 use Rattle.adf_disk_cmd.specs.Checks.{AreChecked, check_status}
 use Rattle.adf_disk_cmd.specs.Lines.{list_lines, volume_at}
@@ -51,18 +52,30 @@ CopiesVolume bytes ps w reply = (found : Option Partition) × IsWanted ps w foun
 abbrev pub OfPartitions : DiskRequestValue → List ℕ → List Partition → Reply → Type 0
 OfPartitions list bytes ps reply = reply ≡ on_output 0 (list_lines 1 ps)
 OfPartitions check bytes ps reply = ChecksAll bytes ps reply
+OfPartitions survey bytes ps reply = reply ≡ on_output 0 (list_lines 1 ps)
 OfPartitions (volume w) bytes ps reply = CopiesVolume bytes ps w reply
 
--- the answer of a disk whose partitions cannot be read: `check` tells it on output, the others on errors
-abbrev pub disk_refusal : DiskRequestValue → DiskFault → Reply
-disk_refusal check f = on_output 1 (disk_fault_text f ++ codes "\n")
-disk_refusal _ f = refusal (disk_fault_text f)
+-- a line, and the lines of the partitions that can be read
+abbrev pub TellsReadable : List ℕ → List ℕ → List ℕ → Type 0
+TellsReadable bytes line text = (ps : List Partition) × AreReadable bytes (length bytes / 512) ps × (text ≡ line ++ list_lines 1 ps)
+
+-- the line of a fault
+abbrev pub fault_line : DiskFault → List ℕ
+fault_line f = disk_fault_text f ++ codes "\n"
+
+-- The answer of a disk whose tables have a fault: `check` tells it on output, `survey` with the partitions that can be read, the
+-- others on errors.
+abbrev pub OfFault : DiskRequestValue → List ℕ → DiskFault → Reply → Type 0
+OfFault list bytes f reply = reply ≡ refusal (disk_fault_text f)
+OfFault check bytes f reply = reply ≡ on_output 1 (fault_line f)
+OfFault survey bytes f reply = (text : List ℕ) × TellsReadable bytes (fault_line f) text × (reply ≡ on_output 1 text)
+OfFault (volume w) bytes f reply = reply ≡ refusal (disk_fault_text f)
 
 -- the partitions are told of, or the first fault of the disk, which has as many blocks as the bytes hold
 abbrev pub OfDisk : DiskRequestValue → List ℕ → Reply → Type 0
 OfDisk r bytes reply =
     ((t : Tables) × (ps : List Partition) × IsDisk bytes (length bytes / 512) t ps × OfPartitions r bytes ps reply)
-    ⊎ ((f : DiskFault) × FirstFault bytes (length bytes / 512) f × (reply ≡ disk_refusal r f))
+    ⊎ ((f : DiskFault) × FirstFault bytes (length bytes / 512) f × OfFault r bytes f reply)
 
 -- the answer to a request and an input: what is past the largest disk does not count
 abbrev pub DiskAnswer : DiskRequestValue → List ℕ → Reply → Type 0
@@ -79,7 +92,7 @@ DiskRequestsHaveOneAnswer = (r : DiskRequestValue) (input : List ℕ) (a b : Rep
 -- what errors get where the words are refused
 abbrev pub disk_usage : List ℕ
 disk_usage =
-    codes "usage: adf-disk list < DISK\n       adf-disk check < DISK\n       adf-disk volume NAME < DISK\n"
+    codes "usage: adf-disk list < DISK\n       adf-disk check < DISK\n       adf-disk survey < DISK\n       adf-disk volume NAME < DISK\n"
     ++ codes "the image of a hard disk comes on standard input; man adf-disk tells more\n"
 
 -- the command `adf-disk`, whose words have no path

@@ -5,6 +5,7 @@ mod answering;
 mod checking;
 mod listing;
 mod runner;
+mod surveying;
 mod types;
 mod volumes;
 mod work;

@@ -61,8 +61,8 @@ fn push_line(
     text.extend_from_slice(end.as_bytes())
 }
 
-// The lines of all partitions.
-fn list_lines(alloc: Global, partitions: &[Partition]) -> Result<Vec<u8>, AllocError>
+/// The lines of all partitions.
+pub fn list_lines(alloc: Global, partitions: &[Partition]) -> Result<Vec<u8>, AllocError>
     ensures { IfOk result (λ text. text.items ≡ list_lines 1 partitions.now) }
 {
     let mut text = Vec::new(alloc);

@@ -1,7 +1,7 @@
 // What is done for words.
 
 ghost use Rattle.std.specs.Prelude.{◌≡◌, false, option_copied};
-ghost use Rattle.adf_disk_cmd.specs.Answers.{IsWanted, OfPartitions, disk_refusal, volume_reply};
+ghost use Rattle.adf_disk_cmd.specs.Answers.{IsWanted, OfFault, OfPartitions, volume_reply};
 ghost use Rattle.adf_disk_cmd.specs.Work.{Means, Serves};
 ghost use Rattle.adf_runs.specs.Outcomes.{EndsBy, is_read_fault, is_write_fault};
 ghost use Rattle.adf_words.specs.DiskLine.{DiskRequestValue, WantedValue, disk_request_value, wanted_value};
@@ -9,6 +9,7 @@ ghost use Rattle.adf_words.specs.DiskLine.{DiskRequestValue, WantedValue, disk_r
 use crate::answering::{refuse, write_text};
 use crate::checking::write_checks;
 use crate::listing::write_list;
+use crate::surveying::write_readable;
 use crate::volumes::volume_at;
 use adf_fields::BLOCK_LEN;
 use adf_partitions::{Disk, DiskCause, DiskFault, DriveName, Partition};
@@ -33,6 +34,7 @@ pub enum Sought {
 pub enum Work {
     List,
     Check,
+    Survey,
     /// Its volume is written.
     Volume(Sought),
 }
@@ -57,6 +59,7 @@ fn work_for(request: DiskRequest<'_>) -> Work
     match request {
         DiskRequest::List => Work::List,
         DiskRequest::Check => Work::Check,
+        DiskRequest::Survey => Work::Survey,
         DiskRequest::Volume(wanted) => Work::Volume(sought_for(wanted)),
     }
 }
@@ -105,7 +108,7 @@ impl Work {
         ensures written { W.has_failed output.new ≡ is_write_fault result }
     {
         match self {
-            Work::List => write_list(alloc, &disk.partitions, output),
+            Work::List | Work::Survey => write_list(alloc, &disk.partitions, output),
             Work::Check => write_checks(alloc, bytes, &disk.partitions, output),
             Work::Volume(sought) => write_volume(
                 alloc,
@@ -116,12 +119,17 @@ impl Work {
         }
     }
 
-    // Tells why the partitions of a disk cannot be read.
-    fn on_fault<W: Sink>(&self, alloc: Global, fault: DiskFault, output: &mut W) -> Outcome
+    // Does the work on a disk whose tables have a fault.
+    fn on_fault<W: Sink>(
+        &self,
+        alloc: Global,
+        bytes: &[u8],
+        fault: DiskFault,
+        output: &mut W,
+    ) -> Outcome
         requires { W.has_failed output.old ≡ false }
         ensures ends { (r : DiskRequestValue) → Serves self.now r
-            → EndsBy (λ reply. reply ≡ disk_refusal r fault) result
-            (W.held output.old) (W.held output.new) }
+            → EndsBy (OfFault r bytes.now fault) result (W.held output.old) (W.held output.new) }
         ensures read { is_read_fault result ≡ false }
         ensures written { W.has_failed output.new ≡ is_write_fault result }
     {
@@ -130,7 +138,8 @@ impl Work {
         };
         match self {
             Work::Check => write_text(output, line.as_bytes(), false),
-            _ => Outcome::Refused(line),
+            Work::Survey => write_readable(alloc, bytes, line.as_bytes(), output),
+            Work::List | Work::Volume(_) => Outcome::Refused(line),
         }
     }
 }
@@ -164,7 +173,7 @@ impl Program for Work {
             Ok(disk) => self.on_disk(alloc, disk_bytes, &disk, output),
             Err(fault) => match fault.cause {
                 DiskCause::NoMemory => Outcome::NoMemory,
-                _ => self.on_fault(alloc, fault, output),
+                _ => self.on_fault(alloc, disk_bytes, fault, output),
             },
         }
     }

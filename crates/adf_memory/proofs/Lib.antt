@@ -12,3 +12,5 @@ pub mod TableBytes
 pub mod Readings
 pub mod TableNames
 pub mod FoundRows
+-- what is read of a hard disk
+pub mod DiskReadings

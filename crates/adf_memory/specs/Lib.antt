@@ -1,5 +1,6 @@
 pub mod Areas
 pub mod FoundTables
+pub mod DiskTables
 pub mod OwnerNumbers
 pub mod Rooms
 pub mod TableNames

@@ -2,6 +2,8 @@
 #![tactic(auto)]
 
 mod causes;
+mod disk_index;
+mod disk_tables;
 mod found_tables;
 mod index;
 mod lookup;
@@ -16,6 +18,8 @@ mod verdict;
 mod words;
 
 pub use crate::causes::cause_text;
+pub use crate::disk_index::put_disk;
+pub use crate::disk_tables::{TableDisk, TablePartition};
 pub use crate::found_tables::{FoundEntry, Surveyed, TableFinding};
 pub use crate::index::put_index;
 pub use crate::lookup::find_entry;

@@ -4,3 +4,4 @@ pub mod FoundSteps
 pub mod TablesEnough
 pub mod VolumesApart
 pub mod NumberTests
+pub mod Searches

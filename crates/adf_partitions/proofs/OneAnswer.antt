@@ -4,15 +4,18 @@ use Rattle.std.proofs.Common.{◌≡◌, ◌≢◌, ◌<◌, ◌⊎◌, inl, inr
 use Rattle.std.proofs.lemmas.Bool.{cases_lt}
 use Rattle.std.proofs.lemmas.List.{length_push}
 use Rattle.adf_fields.specs.Words.{block, word}
+use Rattle.adf_partitions.specs.declared.fault.DiskCause.TheVariants.{BlockSize, NoRigidDisk}
 use Rattle.adf_partitions.specs.declared.fault.DiskFault.{DiskFault}
-use Rattle.adf_partitions.specs.declared.layout.TheConstants.{NEXT_PART, NO_BLOCK}
+use Rattle.adf_partitions.specs.declared.layout.TheConstants.{BLOCK_BYTES, MOST_TABLES, NEXT_PART, NO_BLOCK}
 use Rattle.adf_partitions.specs.declared.partition.Partition.{Partition}
 use Rattle.adf_partitions.specs.declared.tables.Tables.{Tables}
-use Rattle.adf_partitions.specs.Disks.{FirstFault, IsDisk, IsFound, IsListFault, IsWhole, part_form, partition_at}
+use Rattle.adf_partitions.specs.Disks.{FirstFault, IsCut, IsDisk, IsFound, IsListFault, IsWhole, part_form, partition_at}
 use Rattle.adf_partitions.specs.Disks.FirstFault.{at_tables, at_list}
 use Rattle.adf_partitions.specs.Disks.IsFound.{start, step}
 use Rattle.adf_partitions.specs.Faults.{disk_fault, first_failed}
-use Rattle.adf_partitions.specs.Tables.{HasNoTables, IsRdsk, IsTables, tables_at}
+use Rattle.adf_partitions.specs.Searches.{AreReadable, with_all_lost}
+use Rattle.adf_partitions.specs.Searches.AreReadable.{bare, cut, other, whole}
+use Rattle.adf_partitions.specs.Tables.{HasNoRdsk, HasNoTables, IsRdsk, IsTables, tables_at}
 
 -- a disk has one rigid disk block
 one_rdsk : {bytes : List ℕ} {a b : ℕ} → IsRdsk bytes a → IsRdsk bytes b → a ≡ b
@@ -102,10 +105,13 @@ module _ (bytes : List ℕ) (n : ℕ) (t : Tables) where
   one_list w v = ap (λ (s : State). s.0) (one_stop w.1 (inl refl) v.1 (inl refl))
 
   no_list_fault : {ps : List Partition} {f : DiskFault} → IsWhole bytes n t ps → IsListFault bytes n t f → ⊥
-  no_list_fault {f = f} w v = v.some (ap (λ (s : State). s.2) (one_stop v.found (inr (f, v.failed)) w.1 (inl refl)))
+  no_list_fault {f = f} w (ps, v) = v.some (ap (λ (s : State). s.2) (one_stop v.found (inr (f, v.failed)) w.1 (inl refl)))
+
+  one_cut : {ps qs : List Partition} {f g : DiskFault} → IsCut bytes n t ps f → IsCut bytes n t qs g → ps ≡ qs
+  one_cut {f = f} {g = g} w v = ap (λ (s : State). s.0) (one_stop w.found (inr (f, w.failed)) v.found (inr (g, v.failed)))
 
   one_list_fault : {f g : DiskFault} → IsListFault bytes n t f → IsListFault bytes n t g → f ≡ g
-  one_list_fault {f = f} {g = g} w v =
+  one_list_fault {f = f} {g = g} (ps, w) (qs, v) =
       let e = one_stop w.found (inr (f, w.failed)) v.found (inr (g, v.failed)) in
       let same = ap (λ (s : State). first_failed (part_form bytes t s.0 s.1 s.2)) e in
       let x = w.failed in
@@ -127,3 +133,31 @@ one_fault bytes n f g (at_tables h) (at_list k v) = absurd (some_tables k h)
 one_fault bytes n f g (at_list h v) (at_tables k) = absurd (some_tables h k)
 one_fault bytes n f g (at_list h v) (at_list {t = t} k w) =
     one_list_fault bytes n t (subst (λ t. IsListFault bytes n t f) (one_tables h k) v) w
+
+no_rdsk : {bytes : List ℕ} → HasNoRdsk bytes → HasNoTables bytes (disk_fault 0 NoRigidDisk)
+no_rdsk h = inl (h, refl)
+
+other_size : {bytes : List ℕ} {b : ℕ} → IsRdsk bytes b → word (block bytes b) BLOCK_BYTES ≢ 512 → HasNoTables bytes (disk_fault b BlockSize)
+other_size r s = inr (r, s, refl)
+
+-- a disk has one list of partitions that can be read
+pub one_reading : (bytes : List ℕ) (n : ℕ) {ps qs : List Partition} → AreReadable bytes n ps → AreReadable bytes n qs → ps ≡ qs
+one_reading bytes n (whole {t = t} {ps = ps} d) (whole {t = u} {ps = qs} e) = (one_disk bytes n t u ps qs d e).1
+one_reading bytes n (whole {t = t} {ps = ps} d) (cut {ps = qs} {f = f} h w) = absurd (no_fault bytes n t ps f (at_list h (qs, w)) d)
+one_reading bytes n (whole d) (bare h) = absurd (some_tables d.tables (no_rdsk h))
+one_reading bytes n (whole d) (other r s) = absurd (some_tables d.tables (other_size r s))
+one_reading bytes n (cut {ps = ps} {f = f} h w) (whole {t = t} {ps = qs} d) = absurd (no_fault bytes n t qs f (at_list h (ps, w)) d)
+one_reading bytes n (cut {t = t} {ps = ps} {f = f} h w) (cut {t = u} {ps = qs} {f = g} k v) =
+    let same = one_tables h k in
+    ap (λ (t : Tables). with_all_lost bytes n t t ps MOST_TABLES) same
+    ∙ ap (λ (ps : List Partition). with_all_lost bytes n u u ps MOST_TABLES) (one_cut bytes n u (subst (λ (t : Tables). IsCut bytes n t ps f) same w) v)
+one_reading bytes n (cut h w) (bare k) = absurd (some_tables h (no_rdsk k))
+one_reading bytes n (cut h w) (other r s) = absurd (some_tables h (other_size r s))
+one_reading bytes n (bare h) (whole d) = absurd (some_tables d.tables (no_rdsk h))
+one_reading bytes n (bare h) (cut k w) = absurd (some_tables k (no_rdsk h))
+one_reading bytes n (bare h) (bare k) = refl
+one_reading bytes n (bare h) (other {b = b} r s) = let x = h b r.low in let y = r.is in absurd cc
+one_reading bytes n (other r s) (whole d) = absurd (some_tables d.tables (other_size r s))
+one_reading bytes n (other r s) (cut h w) = absurd (some_tables h (other_size r s))
+one_reading bytes n (other {b = b} r s) (bare h) = let x = h b r.low in let y = r.is in absurd cc
+one_reading bytes n (other r s) (other q p) = refl

@@ -14,7 +14,7 @@ use Rattle.adf_partitions.specs.declared.layout.TheConstants.{BLOCK_BYTES, FIRST
 use Rattle.adf_partitions.specs.declared.layout.TheConstants.{MOST_PARTITIONS, MOST_TABLES, PART, RDSK, RDSK_BLOCKS}
 use Rattle.adf_partitions.specs.declared.partition.Partition.{Partition}
 use Rattle.adf_partitions.specs.declared.tables.Tables.{Tables}
-use Rattle.adf_partitions.specs.Disks.{FirstFault, HoldsTables, IsDisk, IsFound, IsListFault, IsWhole, is_at, part_form}
+use Rattle.adf_partitions.specs.Disks.{FirstFault, HoldsTables, IsCut, IsDisk, IsFound, IsListFault, IsWhole, is_at, part_form}
 use Rattle.adf_partitions.specs.Disks.FirstFault.{at_list, at_tables}
 use Rattle.adf_partitions.specs.Disks.IsFound.{start, step}
 use Rattle.adf_partitions.specs.Faults.{disk_fault, first_failed}
@@ -101,15 +101,17 @@ module _ {A B : List ℕ} {t : Tables} (s : TablesAgree A B t) where
     same_whole : {ps : List Partition} → IsWhole A n t ps → IsWhole B n t ps
     same_whole w = (w.0, same_found w.1)
 
-    same_list_fault : {f : DiskFault} → IsListFault A n t f → IsListFault B n t f
-    same_list_fault v = record {
-      parts = v.parts;
+    same_cut : {ps : List Partition} {f : DiskFault} → IsCut A n t ps f → IsCut B n t ps f
+    same_cut {ps} v = record {
       last = v.last;
       next = v.next;
       found = same_found v.found;
       some = v.some;
-      failed = sym (same_tests v.parts v.last v.next) ∙ v.failed;
+      failed = sym (same_tests ps v.last v.next) ∙ v.failed;
     }
+
+    same_list_fault : {f : DiskFault} → IsListFault A n t f → IsListFault B n t f
+    same_list_fault v = (v.0, same_cut v.1)
 
 -- a block of the front
 front_block : (bytes rest : List ℕ) (b : ℕ) → b * 512 + 512 ≤ length bytes → block bytes b ≡ block (bytes ++ rest) b

@@ -1,6 +1,6 @@
 -- The list of a disk's partition blocks, and its first fault. `bytes` are the first bytes of the disk, n is the number of its
 -- blocks, t its tables; ps are the partitions found; a is the block that names block b.
-use Rattle.std.specs.Prelude.{◌≡◌, ◌≢◌, ◌≤◌, ◌+◌, ◌*◌, min, ℕ, ◌==◌, not, nat_lt, Bool, List, [], ◌∷◌, ◌++◌, Some, None, length}
+use Rattle.std.specs.Prelude.{◌≡◌, ◌≢◌, ◌≤◌, ◌+◌, ◌*◌, min, ℕ, ◌==◌, not, nat_lt, Bool, List, [], ◌∷◌, ◌++◌, Option, Some, None, length}
 use Rattle.std.specs.List.{list_any}
 use Rattle.adf_fields.specs.Words.{block, word}
 use Rattle.adf_partitions.specs.declared.fault.DiskCause.TheVariants.{OutOfRange, Repeated, NotPartition, BadSum, TooMany}
@@ -47,14 +47,22 @@ pub record IsDisk (bytes : List ℕ) (n : ℕ) (t : Tables) (ps : List Partition
   pub tables : IsTables bytes t
   pub whole : IsWhole bytes n t ps
 
--- the first fault of a list: that of a block which is named after those that pass their tests
-pub record IsListFault (bytes : List ℕ) (n : ℕ) (t : Tables) (f : DiskFault) : Type 0 where
-  pub parts : List Partition
+-- these are the partitions before the first fault of a list, that of the block which is named after them
+pub record IsCut (bytes : List ℕ) (n : ℕ) (t : Tables) (ps : List Partition) (f : DiskFault) : Type 0 where
   pub last : ℕ
   pub next : ℕ
-  pub found : IsFound bytes n t parts last next
+  pub found : IsFound bytes n t ps last next
   pub some : next ≢ NO_BLOCK
-  pub failed : first_failed (part_form bytes t parts last next) ≡ Some f
+  pub failed : first_failed (part_form bytes t ps last next) ≡ Some f
+
+-- the partitions of a list, up to its end or its first fault
+abbrev pub IsFollowed : List ℕ → ℕ → Tables → List Partition → Option DiskFault → Type 0
+IsFollowed bytes n t ps None = IsWhole bytes n t ps
+IsFollowed bytes n t ps (Some f) = IsCut bytes n t ps f
+
+-- the first fault of a list, after some partitions
+abbrev pub IsListFault : List ℕ → ℕ → Tables → DiskFault → Type 0
+IsListFault bytes n t f = (ps : List Partition) × IsCut bytes n t ps f
 
 -- the first fault of a disk: it has no tables, or the list of its partition blocks has a fault
 pub data FirstFault (bytes : List ℕ) (n : ℕ) (f : DiskFault) : Type 0 where

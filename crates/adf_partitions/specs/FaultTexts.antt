@@ -1,4 +1,4 @@
--- The texts of faults, as printed.
+-- The texts of faults, as printed, and their numbers.
 use Rattle.std.specs.Prelude.{◌++◌, ℕ, List, codes}
 use Rattle.std.specs.Fmt.{decimal}
 use Rattle.adf_partitions.specs.declared.fault.DiskCause.{DiskCause}
@@ -32,3 +32,24 @@ place_fault_text BeyondImage = codes "beyond image"
 place_fault_text OverTables = codes "over tables"
 place_fault_text OverPartition = codes "over partition"
 place_fault_text BadName = codes "bad name"
+
+-- the number of what is wrong with a disk; within one block the tests run in ascending order of these numbers
+abbrev pub disk_cause_number : DiskCause → ℕ
+disk_cause_number NoRigidDisk = 1
+disk_cause_number BlockSize = 2
+disk_cause_number OutOfRange = 3
+disk_cause_number Repeated = 4
+disk_cause_number NotPartition = 5
+disk_cause_number BadSum = 6
+disk_cause_number TooMany = 7
+disk_cause_number NoMemory = 8
+
+-- the number of what is wrong with one partition; the tests run in ascending order
+abbrev pub place_fault_number : PlaceFault → ℕ
+place_fault_number ShortEnvironment = 1
+place_fault_number OtherBlocks = 2
+place_fault_number NoCylinders = 3
+place_fault_number BeyondImage = 4
+place_fault_number OverTables = 5
+place_fault_number OverPartition = 6
+place_fault_number BadName = 7

@@ -6,4 +6,5 @@ pub mod Tables
 pub mod Places
 pub mod Partitions
 pub mod Disks
+pub mod Searches
 pub mod Volumes

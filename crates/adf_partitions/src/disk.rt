@@ -7,8 +7,8 @@ ghost use Rattle.adf_partitions.specs.declared.fault.DiskCause.{DiskCause};
 ghost use Rattle.adf_partitions.specs.declared.partition.Partition.{Partition};
 ghost use Rattle.adf_partitions.specs.declared.tables.Tables.{Tables};
 
-use crate::fault::DiskFault;
-use crate::list::read_list;
+use crate::fault::{DiskCause, DiskFault, disk_fault};
+use crate::list::{Followed, follow_list};
 use crate::names::is_named;
 use crate::partition::Partition;
 use crate::tables::{Tables, read_tables};
@@ -42,9 +42,12 @@ impl Disk {
         ensures memory { IfErr result (λ f. f.cause ≡ DiskCause.NoMemory → f.block ≡ 0) }
     {
         let tables = read_tables(bytes)?;
-        match read_list(alloc, bytes, tables, blocks) {
-            Ok(partitions) => Ok(Disk { tables, partitions }),
-            Err(fault) => Err(fault),
+        let Ok(Followed { partitions, fault }) = follow_list(alloc, bytes, tables, blocks) else {
+            return Err(disk_fault(0, DiskCause::NoMemory));
+        };
+        match fault {
+            None => Ok(Disk { tables, partitions }),
+            Some(fault) => Err(fault),
         }
     }
 

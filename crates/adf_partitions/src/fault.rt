@@ -2,7 +2,7 @@
 
 ghost use Rattle.std.specs.Prelude.{◌≡◌};
 ghost use Rattle.adf_partitions.specs.Faults.{disk_fault};
-ghost use Rattle.adf_partitions.specs.FaultTexts.{disk_cause_text};
+ghost use Rattle.adf_partitions.specs.FaultTexts.{disk_cause_number, disk_cause_text};
 
 use std::error::Error;
 use std::fmt;
@@ -11,25 +11,32 @@ use std::fmt;
 #[derive(Clone, Copy, Debug, PartialEq, Eq)]
 pub enum DiskCause {
     /// None of the blocks 0 to 15 is a rigid disk block: one that begins with `RDSK` and has a sound sum. Reported at block 0.
-    NoRigidDisk,
+    NoRigidDisk = 1,
     /// Word 4 of the rigid disk block, the bytes of a block, is not 512.
-    BlockSize,
+    BlockSize = 2,
     /// The number of a partition block is not that of a block kept for the tables, words 32 and 33 of the rigid disk block, is
     /// not below 65,536, or the bytes end before that block does. Reported at the block that holds the number.
-    OutOfRange,
+    OutOfRange = 3,
     /// The list of partition blocks comes back to a block.
-    Repeated,
+    Repeated = 4,
     /// A block of the list does not begin with `PART`.
-    NotPartition,
+    NotPartition = 5,
     /// The first words of a block of the list, 3 to 128 as its word 1 says, do not add up to 0 modulo 2^32.
-    BadSum,
+    BadSum = 6,
     /// The block comes after 1,024 partitions.
-    TooMany,
+    TooMany = 7,
     /// An allocation failed; nothing is known of the partitions. Reported at block 0.
-    NoMemory,
+    NoMemory = 8,
 }
 
 impl DiskCause {
+    /// The number of the cause, 1 to 8.
+    pub fn number(self) -> u8
+        ensures { result ≡ disk_cause_number self }
+    {
+        self as u8
+    }
+
     /// The text of the cause as printed, in lower case.
     pub fn text(self) -> &'static str
         ensures { result.now ≡ disk_cause_text self }

@@ -2,6 +2,7 @@
 
 ghost use Rattle.std.specs.Prelude.{◌≡◌, ◌≤◌, ◌*◌, ◌++◌, ◌↔◌, ℕ, List, length, All, AllPairs};
 ghost use Rattle.adf_partitions.specs.Disks.{FirstFault, HoldsTables, IsDisk};
+ghost use Rattle.adf_partitions.specs.Searches.{AreReadable};
 ghost use Rattle.adf_partitions.specs.Tables.{HasNoTables, IsTables};
 ghost use Rattle.adf_partitions.specs.Volumes.{VolumeLiesWell, VolumesAreApart};
 ghost use Rattle.adf_partitions.specs.declared.layout.TheConstants.{RDSK_BLOCKS};
@@ -27,6 +28,14 @@ pub fn no_fault_on_a_disk()
 /// A disk has at most one first fault.
 pub fn one_disk_fault()
     ensures { (bytes : List ℕ) (n : ℕ) (f g : DiskFault) → FirstFault bytes n f → FirstFault bytes n g → f ≡ g }
+{}
+
+/// A disk has one list of partitions that can be read. If its tables have no fault these are all of its list.
+pub fn one_reading()
+    ensures one { (bytes : List ℕ) (n : ℕ) (ps qs : List Partition) → AreReadable bytes n ps
+        → AreReadable bytes n qs → ps ≡ qs }
+    ensures whole { (bytes : List ℕ) (n : ℕ) (t : Tables) (ps : List Partition) → IsDisk bytes n t ps
+        → AreReadable bytes n ps }
 {}
 
 /// The first bytes of a disk are enough if they hold the blocks 0 to 15 and those kept for the tables: what follows them

@@ -9,13 +9,14 @@ mod list;
 mod names;
 mod partition;
 mod place;
+mod search;
 mod summed;
 mod tables;
 
 pub use crate::disk::Disk;
 pub use crate::fault::{DiskCause, DiskFault, disk_fault};
 pub use crate::laws::{
-    no_fault_on_a_disk, one_disk, one_disk_fault, tables_are_enough, volumes_lie_apart,
+    no_fault_on_a_disk, one_disk, one_disk_fault, one_reading, tables_are_enough, volumes_lie_apart,
 };
 pub use crate::layout::{
     BLOCK_BYTES, BLOCK_SECTORS, BOOT_PRIORITY, BOOTABLE, DOS_TYPE, DRIVE_NAME, ENV_BLOCK_WORDS,
@@ -25,4 +26,5 @@ pub use crate::layout::{
 };
 pub use crate::partition::{DriveName, Partition};
 pub use crate::place::{Place, PlaceFault};
+pub use crate::search::readable_partitions;
 pub use crate::tables::{Tables, read_tables};

@@ -1,9 +1,9 @@
 // The list of partition blocks.
 
-ghost use Rattle.std.specs.Prelude.{◌≡◌, ◌≢◌, ◌++◌, [], ◌∷◌, Some, None, ◌<◌, length, IfErr, IfOk, OnOk, MatchResult};
+ghost use Rattle.std.specs.Prelude.{◌≡◌, Some, None, ◌<◌, length, IfOk, OnOk, MatchResult};
 ghost use Rattle.std.specs.List.{list_any};
 ghost use Rattle.adf_fields.specs.Words.{block};
-ghost use Rattle.adf_partitions.specs.Disks.{IsListFault, IsWhole, is_at, part_form};
+ghost use Rattle.adf_partitions.specs.Disks.{IsFollowed, is_at, part_form};
 ghost use Rattle.adf_partitions.specs.Faults.{first_failed};
 
 use crate::fault::{DiskCause, DiskFault, disk_fault};
@@ -12,10 +12,10 @@ use crate::partition::{Partition, partition_of};
 use crate::summed::is_summed;
 use crate::tables::{Tables, is_table};
 use adf_fields::Block;
-use std::alloc::Global;
+use std::alloc::{AllocError, Global};
 
-// Whether the list has come to a block.
-fn is_found(earlier: &[Partition], b: u32) -> bool
+/// Whether the list has come to a block.
+pub fn is_found(earlier: &[Partition], b: u32) -> bool
     ensures { result ≡ list_any (is_at b) earlier.now }
 {
     earlier.iter().any(|partition| partition.block == b)
@@ -54,29 +54,42 @@ fn read_part<'a>(
     Ok(part)
 }
 
-/// Reads all partitions of a disk of so many blocks.
-pub fn read_list(
+/// The partitions of a list up to its end, or up to its first fault.
+#[derive(Drop)]
+pub struct Followed {
+    pub partitions: Vec<Partition>,
+    pub fault: Option<DiskFault>,
+}
+
+/// Reads the partitions of a disk of so many blocks, as far as their list can be followed.
+pub fn follow_list(
     alloc: Global,
     bytes: &[u8],
     tables: Tables,
     blocks: u64,
-) -> Result<Vec<Partition>, DiskFault>
-    ensures whole { IfOk result (λ v. IsWhole bytes.now blocks tables v.items) }
-    ensures fault { IfErr result (λ f. f.cause ≢ DiskCause.NoMemory
-        → IsListFault bytes.now blocks tables f) }
-    ensures memory { IfErr result (λ f. f.cause ≡ DiskCause.NoMemory → f.block ≡ 0) }
+) -> Result<Followed, AllocError>
+    ensures { IfOk result (λ l. IsFollowed bytes.now blocks tables l.partitions.items l.fault) }
 {
     let mut found = Vec::new(alloc);
     let mut holder = tables.rdsk;
     let mut next = tables.first;
     while next != NO_BLOCK {
-        let part = read_part(bytes, tables, &found, holder, next)?;
+        let part = match read_part(bytes, tables, &found, holder, next) {
+            Ok(part) => part,
+            Err(fault) => {
+                return Ok(Followed {
+                    partitions: found,
+                    fault: Some(fault),
+                });
+            }
+        };
         let partition = partition_of(next, &part, tables, blocks, &found);
-        if found.push(partition).is_err() {
-            return Err(disk_fault(0, DiskCause::NoMemory));
-        }
+        found.push(partition)?;
         holder = next;
         next = part.word(NEXT_PART);
     }
-    Ok(found)
+    Ok(Followed {
+        partitions: found,
+        fault: None,
+    })
 }

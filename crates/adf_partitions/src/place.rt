@@ -2,7 +2,7 @@
 
 ghost use Rattle.std.specs.Prelude.{◌≡◌, ◌≤◌, ◌+◌, SomeIff};
 ghost use Rattle.adf_fields.specs.Words.{word};
-ghost use Rattle.adf_partitions.specs.FaultTexts.{place_fault_text};
+ghost use Rattle.adf_partitions.specs.FaultTexts.{place_fault_number, place_fault_text};
 ghost use Rattle.adf_partitions.specs.Places.{cylinder_of, do_overlap, end_of, has_cylinders, is_before_end, is_over_tables, place_of};
 
 use crate::layout::{HIGH_CYLINDER, LOW_CYLINDER, SURFACES, TRACK_BLOCKS};
@@ -24,22 +24,29 @@ pub struct Place {
 #[derive(Clone, Copy, Debug, PartialEq, Eq)]
 pub enum PlaceFault {
     /// The environment has fewer than 16 words, so that it lacks the type: word 32.
-    ShortEnvironment,
+    ShortEnvironment = 1,
     /// A block has not 128 words, or not one sector: words 33 and 36.
-    OtherBlocks,
+    OtherBlocks = 2,
     /// The highest cylinder is below the lowest, or a cylinder has no blocks: words 41 and 42, 35 and 37.
-    NoCylinders,
+    NoCylinders = 3,
     /// The volume ends beyond the image.
-    BeyondImage,
+    BeyondImage = 4,
     /// The volume has a block that is kept for the tables, or the rigid disk block.
-    OverTables,
+    OverTables = 5,
     /// The volume has a block of an earlier partition that has a place.
-    OverPartition,
+    OverPartition = 6,
     /// The drive's name is empty, longer than 31 bytes, or has `/` or `:`.
-    BadName,
+    BadName = 7,
 }
 
 impl PlaceFault {
+    /// The number of the fault, 1 to 7.
+    pub fn number(self) -> u8
+        ensures { result ≡ place_fault_number self }
+    {
+        self as u8
+    }
+
     /// The text of the fault as printed, in lower case.
     pub fn text(self) -> &'static str
         ensures { result.now ≡ place_fault_text self }

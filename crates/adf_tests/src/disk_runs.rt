@@ -12,7 +12,7 @@ use std::test::Fail;
 type Volume = [u8; 16384];
 
 const USAGE: &str =
-    "usage: adf-disk list < DISK\n       adf-disk check < DISK\n       adf-disk volume NAME < DISK\n\
+    "usage: adf-disk list < DISK\n       adf-disk check < DISK\n       adf-disk survey < DISK\n       adf-disk volume NAME < DISK\n\
     the image of a hard disk comes on standard input; man adf-disk tells more\n";
 
 const DH0_LISTED: &str = "1 DH0: ffs first 8 blocks 32 flags 1 priority -5\n";
@@ -133,6 +133,37 @@ const LINES: &[(&str, Change<'static>, u8, &str, &str)] = &[
         "",
     ),
     ("check", (2, &[(4, 4)]), 1, "block 2: out of range\n", ""),
+    (
+        "survey",
+        NONE,
+        0,
+        "1 DH0: ffs first 8 blocks 32 flags 1 priority -5\n2 DH1: PFS\\x03 first 40 blocks 40 flags 2 priority 3\n",
+        "",
+    ),
+    // A list without a fault is not searched, though DH1 is lost.
+    ("survey", (2, &[(4, 0xFFFF_FFFF)]), 0, DH0_LISTED, ""),
+    (
+        "survey",
+        (2, &[(4, 4)]),
+        1,
+        "block 2: out of range\n1 DH0: ffs first 8 blocks 32 flags 1 priority -5\n2 DH1: PFS\\x03 first 40 blocks 40 flags 2 priority 3\n",
+        "",
+    ),
+    (
+        "survey",
+        (2, &[(0, 0)]),
+        1,
+        "block 2: not a partition\n1 DH1: PFS\\x03 first 40 blocks 40 flags 2 priority 3\n",
+        "",
+    ),
+    (
+        "survey",
+        (0, &[(0, 0)]),
+        1,
+        "block 0: no rigid disk\n1 DH1: PFS\\x03 first 40 blocks 40 flags 2 priority 3\n2 DH0: ffs first 8 blocks 32 flags 1 priority -5\n",
+        "",
+    ),
+    ("survey", (0, &[(4, 1024)]), 1, "block 0: bad block size\n", ""),
     ("frob", NONE, 2, "", USAGE),
 ];
 

@@ -4,6 +4,7 @@
 ghost use Rattle.std.specs.Prelude.{length};
 
 use adf_fields::{seal, set_word};
+use adf_memory::{TableDisk, TablePartition, put_disk};
 use adf_partitions::{Disk, DiskCause, DiskFault, Partition, Place, PlaceFault, disk_fault};
 use std::alloc::{AllocError, Global};
 use std::test::Fail;
@@ -285,4 +286,50 @@ fn a_list_has_at_most_1024_partitions(rt: HostRuntime) -> Result<(), Fail> {
     let wanted = disk_fault(1025, DiskCause::TooMany);
     assert!(rt; Disk::open(rt.alloc(), &longer, 1026).err() == Some(wanted));
     Ok(())
+}
+
+const NO_ROW: TablePartition = TablePartition {
+    first: 0,
+    blocks: 0,
+    block: 0,
+    flags: 0,
+    priority: 0,
+    dos_type: 0,
+    fault: 0,
+    name_length: 0,
+    name: [0; 31],
+};
+
+// A table with room for one partition, of a disk of so many blocks with these words of its tables changed.
+fn indexed(rt: &impl AllocGlobal, b: u32, words: &[(usize, u32)], blocks: u64) -> (TablePartition, (usize, u32, u8)) {
+    let mut rows = [NO_ROW; 1];
+    let mut disk = TableDisk {
+        partitions: 9,
+        block: 9,
+        cause: 9,
+    };
+    put_disk(rt.alloc(), &changed(b, words), blocks, &mut rows, &mut disk);
+    (rows[0], (disk.partitions, disk.block, disk.cause))
+}
+
+#[test]
+fn partitions_are_put_in_a_table(rt: HostRuntime) {
+    let (row, told) = indexed(&rt, 0, &[], 80);
+    assert_eq!(rt; told, (2, 0, 0));
+    assert_eq!(rt; (row.first, row.blocks, row.block), (8, 32, 2));
+    assert_eq!(rt;
+        (row.flags, row.priority, row.dos_type, row.fault),
+        (1, -5, 0x444F_5301, 0)
+    );
+    assert_eq!(rt; (row.name_length, &row.name[..4]), (3, b"DH0\0"));
+
+    // DH0 ends beyond a disk of 39 blocks.
+    let (row, told) = indexed(&rt, 0, &[], 39);
+    assert_eq!(rt; told, (2, 0, 0));
+    assert_eq!(rt; (row.first, row.blocks, row.fault), (0, 0, 4));
+
+    // What is not a partition block is none, and DH1 is found.
+    let (row, told) = indexed(&rt, 2, &[(0, 0)], 80);
+    assert_eq!(rt; told, (1, 2, 5));
+    assert_eq!(rt; (row.first, row.blocks, row.block), (40, 40, 1));
 }

@@ -2,7 +2,8 @@
 
 use adf_memory::{
     Contents, Date, FoundEntry, Moved, Surveyed, TableEntry, TableFinding, Verdict, cause_text,
-    check_image, find_entry, owners_of, put_index, put_survey, read_bytes, run_command, run_survey,
+    TableDisk, TablePartition, check_image, find_entry, owners_of, put_index, put_survey, read_bytes,
+    run_command, run_survey,
 };
 use std::mem::size_of;
 use std::process::Abort;
@@ -232,4 +233,8 @@ fn structs_are_as_long_as_in_c(rt: HostRuntime) {
         (144, 104)
     );
     assert_eq!(rt; (size_of::<Verdict>(), size_of::<Moved>()), (40, 32));
+    assert_eq!(rt;
+        (size_of::<TablePartition>(), size_of::<TableDisk>()),
+        (72, 16)
+    );
 }

@@ -7,7 +7,7 @@ use Rattle.adf_words.specs.SurveyLine.{number_named}
 use Rattle.adf_words.specs.declared.command_line.WordsFault.{WordsFault}
 use Rattle.adf_words.specs.declared.command_line.WordsFault.TheVariants.{NoMemory, Usage}
 use Rattle.adf_words.specs.declared.disk_line.DiskRequest.{DiskRequest}
-use Rattle.adf_words.specs.declared.disk_line.DiskRequest.TheVariants.{List as ListAll, Check, Volume}
+use Rattle.adf_words.specs.declared.disk_line.DiskRequest.TheVariants.{List as ListAll, Check, Survey, Volume}
 use Rattle.adf_words.specs.declared.disk_line.Wanted.{Wanted}
 use Rattle.adf_words.specs.declared.disk_line.Wanted.TheVariants.{Number, Name}
 
@@ -23,9 +23,13 @@ name_rule = record (new_rule (codes "name")) { required = true }
 abbrev pub volume_app : App
 volume_app = with_rule (new_app (codes "volume")) name_rule
 
--- the command line: list, check, volume NAME
+-- list, check, survey
+abbrev pub plain_disk : App
+plain_disk = with_subcommand (with_subcommand (with_subcommand bare_disk (new_app (codes "list")).top) (new_app (codes "check")).top) (new_app (codes "survey")).top
+
+-- the command line: these, and volume NAME
 abbrev pub disk_app : App
-disk_app = with_subcommand (with_subcommand (with_subcommand bare_disk (new_app (codes "list")).top) (new_app (codes "check")).top) volume_app.top
+disk_app = with_subcommand plain_disk volume_app.top
 
 -- a partition, by its number or its name
 pub data WantedValue : Type 0 where
@@ -36,6 +40,7 @@ pub data WantedValue : Type 0 where
 pub data DiskRequestValue : Type 0 where
   list : DiskRequestValue
   check : DiskRequestValue
+  survey : DiskRequestValue
   volume : WantedValue → DiskRequestValue
 
 -- the partition that a text means: a number where it is one, else a name
@@ -47,8 +52,9 @@ abbrev pub disk_request_named : Text → List Row → Option DiskRequestValue
 disk_request_named command rows =
     if bytes_eq command (codes "list") then Some list
     else (if bytes_eq command (codes "check") then Some check
+    else (if bytes_eq command (codes "survey") then Some survey
     else (if bytes_eq command (codes "volume") then option_map (λ text. volume (wanted_named text)) (first_of (codes "name") rows)
-    else None))
+    else None)))
 
 -- what the matches ask for
 abbrev pub disk_met : Option (Text × List Row) → Option DiskRequestValue
@@ -71,6 +77,7 @@ wanted_value (Name text) = name text.now
 abbrev pub disk_request_value : DiskRequest → DiskRequestValue
 disk_request_value ListAll = list
 disk_request_value Check = check
+disk_request_value Survey = survey
 disk_request_value (Volume wanted) = volume (wanted_value wanted)
 
 -- what a fault of the words says of them

@@ -4,7 +4,7 @@ ghost use Rattle.std.specs.Prelude.{◌≡◌, ◌==◌, IfOk, IfErr, ℕ, List,
 ghost use Rattle.clap.specs.Words.{app_of, found_of, rows_of, subcommand_rows_of};
 ghost use Rattle.clap.specs.declared.builder.command.Command.TheViews.{out-Command};
 ghost use Rattle.adf_words.specs.CommandLine.{texts_of};
-ghost use Rattle.adf_words.specs.DiskLine.{AreRefusedByDisk, AsksDisk, ExplainsDiskWords, check, disk_app, disk_met, disk_request_named, disk_request_value, list, name, number, volume, volume_app, wanted_named, wanted_value};
+ghost use Rattle.adf_words.specs.DiskLine.{AreRefusedByDisk, AsksDisk, ExplainsDiskWords, check, disk_app, disk_met, disk_request_named, disk_request_value, list, name, number, survey, volume, volume_app, wanted_named, wanted_value};
 
 use crate::command_line::{WordsFault, first_text};
 use crate::survey_line::number_named;
@@ -14,7 +14,7 @@ use std::alloc::{AllocError, Global};
 
 /// What is said of words that are refused.
 pub const DISK_USAGE: &str =
-    "usage: adf-disk list < DISK\n       adf-disk check < DISK\n       adf-disk volume NAME < DISK\n\
+    "usage: adf-disk list < DISK\n       adf-disk check < DISK\n       adf-disk survey < DISK\n       adf-disk volume NAME < DISK\n\
     the image of a hard disk comes on standard input; man adf-disk tells more\n";
 
 /// A partition, by its number or its name.
@@ -31,6 +31,7 @@ pub enum Wanted<'a> {
 pub enum DiskRequest<'a> {
     List,
     Check,
+    Survey,
     Volume(Wanted<'a>),
 }
 
@@ -52,6 +53,7 @@ fn command<'a>(alloc: Global) -> Result<Command<'a>, AllocError>
         .disable_help_subcommand(true);
     bare.subcommand(Command::new(alloc, "list"))?
         .subcommand(Command::new(alloc, "check"))?
+        .subcommand(Command::new(alloc, "survey"))?
         .subcommand(volume_command(alloc)?)
 }
 
@@ -74,6 +76,8 @@ fn request_named<'a>(command: &str, found: &ArgMatches<'a>) -> Option<DiskReques
         Some(DiskRequest::List)
     } else if command == "check" {
         Some(DiskRequest::Check)
+    } else if command == "survey" {
+        Some(DiskRequest::Survey)
     } else if command == "volume" {
         match first_text(found, "name") {
             Some(text) => Some(DiskRequest::Volume(wanted_named(text))),
@@ -122,6 +126,7 @@ pub fn parse_disk<'a>(alloc: Global, words: &'a [&str]) -> Result<DiskRequest<'a
 pub fn disk_words_as_documented()
     ensures list { AsksDisk (codes "adf-disk" ∷ codes "list" ∷ []) list }
     ensures check { AsksDisk (codes "adf-disk" ∷ codes "check" ∷ []) check }
+    ensures survey { AsksDisk (codes "adf-disk" ∷ codes "survey" ∷ []) survey }
     ensures number { AsksDisk (codes "adf-disk" ∷ codes "volume" ∷ codes "2" ∷ []) (volume (number 2)) }
     ensures name { AsksDisk (codes "adf-disk" ∷ codes "volume" ∷ codes "DH0" ∷ [])
         (volume (name (codes "DH0"))) }

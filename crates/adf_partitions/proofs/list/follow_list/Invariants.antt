@@ -1,7 +1,7 @@
 use Rattle.std.proofs.Common.{◌-◌, length}
 use Rattle.adf_partitions.specs.Disks.{IsFound}
 use Rattle.adf_partitions.specs.declared.layout.TheConstants.{MOST_PARTITIONS}
-use Rattle.adf_partitions.proofs.list.read_list.Given as goal
+use Rattle.adf_partitions.proofs.list.follow_list.Given as goal
 
 abbrev pub invariant-loop-next : goal.invariant-loop-next
 invariant-loop-next l = IsFound l.bytes l.blocks l.tables l.found.items l.holder l.next

@@ -4,7 +4,7 @@ use Rattle.adf_partitions.specs.Disks.{IsFound}
 use Rattle.adf_partitions.specs.Disks.IsFound.{start}
 use Rattle.adf_partitions.specs.Partitions.{partition_of}
 use Rattle.adf_partitions.proofs.FoundSteps.{one_more}
-use Rattle.adf_partitions.proofs.list.read_list.Goals as goal
+use Rattle.adf_partitions.proofs.list.follow_list.Goals as goal
 
 pub loop-next-init : goal.loop-next-init
 loop-next-init c =
@@ -16,11 +16,11 @@ loop-next-smaller c =
     let found = c.loop-next.found.items in
     let q = c.partition_of-partition.result in
     let more : c.push.new.self.items ≡ found ++ q ∷ [] = search rules in
-    omega (arith, c.in_ok-part.ensures.few, ap length more, length_push found q)
+    omega (arith, c.in-Ok.ensures.few, ap length more, length_push found q)
 
 pub loop-next-preserved : goal.loop-next-preserved
 loop-next-preserved c =
     let found = c.loop-next.found.items in
     let more : c.push.new.self.items ≡ found ++ c.partition_of-partition.result ∷ [] = search rules in
-    let is : c.partition_of-partition.result ≡ partition_of c.args.blocks c.args.tables found c.loop-next.next c.in_ok-part.part = search rules in
+    let is : c.partition_of-partition.result ≡ partition_of c.args.blocks c.args.tables found c.loop-next.next c.in-Ok.part = search rules in
     one_more c.loop-next.invariant c.loop-next-test.true (search rules) (search rules) is more c.word-next.ensures

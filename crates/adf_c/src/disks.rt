@@ -1,0 +1,42 @@
+// The table of a hard disk's partitions.
+
+ghost use Rattle.std.specs.Prelude.{◌≡◌, ◌⊎◌, List, None, Some, length};
+ghost use Rattle.adf_memory.specs.DiskTables.{partition_table, told_of};
+ghost use Rattle.adf_memory.specs.Rooms.{filled};
+ghost use Rattle.adf_memory.specs.Verdicts.{WantsMemory};
+ghost use Rattle.adf_partitions.specs.Disks.{FirstFault, IsDisk};
+ghost use Rattle.adf_partitions.specs.Searches.{AreReadable};
+ghost use Rattle.adf_partitions.specs.declared.fault.DiskFault.{DiskFault};
+ghost use Rattle.adf_partitions.specs.declared.partition.Partition.{Partition};
+ghost use Rattle.adf_partitions.specs.declared.tables.Tables.{Tables};
+
+use adf_memory::{TableDisk, TablePartition, put_disk};
+use std::alloc::Global;
+
+/// Reads the partitions of a hard disk of so many blocks of 512 bytes, from its first bytes: at least the blocks 0 to 15 and those
+/// kept for its tables. Fills a table with those that can be read, as far as it has room, and tells the first fault of the tables.
+/// Returns 0, or the number of `NoMemory` if memory ran out.
+#[unsafe(no_mangle)]
+pub extern "C" fn adf_disk_index(
+    alloc: Global,
+    bytes: &[u8],
+    blocks: u64,
+    partitions: &mut [TablePartition],
+    told: &mut TableDisk,
+) -> u8
+    ensures number { (result ≡ 0) ⊎ WantsMemory result }
+
+    // The rows are those of the partitions that can be read, and `told` has the first fault of the tables, if there is one.
+    ensures partitions { result ≡ 0 → (ps : List Partition) → AreReadable bytes.now blocks ps
+        → partitions.new ≡ filled (partition_table ps) partitions.old }
+    ensures whole { result ≡ 0 → (t : Tables) (ps : List Partition) → IsDisk bytes.now blocks t ps
+        → told.new ≡ told_of (length ps) None }
+    ensures fault { result ≡ 0 → (ps : List Partition) (f : DiskFault) → AreReadable bytes.now blocks ps
+        → FirstFault bytes.now blocks f → told.new ≡ told_of (length ps) (Some f) }
+
+    // If memory ran out, the table is unchanged.
+    ensures unchanged { WantsMemory result
+        → (partitions.new ≡ partitions.old) × (told.new ≡ told_of 0 None) }
+{
+    put_disk(alloc, bytes, blocks, partitions, told)
+}

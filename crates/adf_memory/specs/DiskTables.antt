@@ -1,0 +1,56 @@
+-- The table of a hard disk's partitions. `bytes` are the first bytes of a disk of n blocks; ps are partitions of it.
+use Rattle.std.specs.Prelude.{ℕ, List, length, map, Option, Some, None, Result, Ok, Err}
+use Rattle.adf_partitions.specs.Disks.{FirstFault, IsDisk}
+use Rattle.adf_partitions.specs.FaultTexts.{disk_cause_number, place_fault_number}
+use Rattle.adf_partitions.specs.Searches.{AreReadable}
+use Rattle.adf_partitions.specs.declared.fault.DiskFault.{DiskFault}
+use Rattle.adf_partitions.specs.declared.partition.Partition.{Partition}
+use Rattle.adf_partitions.specs.declared.place.Place.{Place}
+use Rattle.adf_partitions.specs.declared.place.PlaceFault.{PlaceFault}
+use Rattle.adf_partitions.specs.declared.tables.Tables.{Tables}
+use Rattle.adf_memory.specs.declared.disk_tables.TableDisk.{TableDisk}
+use Rattle.adf_memory.specs.declared.disk_tables.TablePartition.{TablePartition}
+use Rattle.adf_memory.specs.Tables.{field}
+
+-- the first block of a place; 0 if there is none
+abbrev pub first_of : Result Place PlaceFault → ℕ
+first_of (Ok q) = q.first
+first_of (Err f) = 0
+
+-- its blocks; 0 if there is none
+abbrev pub blocks_of : Result Place PlaceFault → ℕ
+blocks_of (Ok q) = q.blocks
+blocks_of (Err f) = 0
+
+-- the number of what is wrong; 0 if a partition has a place
+abbrev pub fault_of : Result Place PlaceFault → ℕ
+fault_of (Ok q) = 0
+fault_of (Err f) = place_fault_number f
+
+-- the row of a partition
+abbrev pub partition_row : Partition → TablePartition
+partition_row p = record {
+  first = first_of p.place;
+  blocks = blocks_of p.place;
+  block = p.block;
+  flags = p.flags;
+  priority = p.priority;
+  dos_type = p.dos_type;
+  fault = fault_of p.place;
+  name_length = length p.name;
+  name = field 31 p.name;
+}
+
+-- the table of partitions
+abbrev pub partition_table : List Partition → List TablePartition
+partition_table ps = map partition_row ps
+
+-- what is told of a disk besides its k partitions: the first fault of its tables, if they have one
+abbrev pub told_of : ℕ → Option DiskFault → TableDisk
+told_of k None = record { partitions = k; block = 0; cause = 0 }
+told_of k (Some f) = record { partitions = k; block = f.block; cause = disk_cause_number f.cause }
+
+-- the partitions that can be read, and the first fault of the tables, if they have one
+abbrev pub IsRead : List ℕ → ℕ → List Partition → Option DiskFault → Type 0
+IsRead bytes n ps None = (t : Tables) × IsDisk bytes n t ps
+IsRead bytes n ps (Some f) = AreReadable bytes n ps × FirstFault bytes n f

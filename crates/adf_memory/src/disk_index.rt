@@ -1,0 +1,79 @@
+// The partitions of a hard disk in a table.
+
+ghost use Rattle.std.specs.Prelude.{◌≡◌, ◌⊎◌, List, None, Some, length, IfOk};
+ghost use Rattle.adf_memory.specs.DiskTables.{IsRead, partition_table, told_of};
+ghost use Rattle.adf_memory.specs.Rooms.{filled};
+ghost use Rattle.adf_memory.specs.Verdicts.{WantsMemory};
+ghost use Rattle.adf_partitions.specs.Disks.{FirstFault, IsDisk};
+ghost use Rattle.adf_partitions.specs.Searches.{AreReadable};
+ghost use Rattle.adf_partitions.specs.declared.fault.DiskFault.{DiskFault};
+ghost use Rattle.adf_partitions.specs.declared.partition.Partition.{Partition};
+ghost use Rattle.adf_partitions.specs.declared.tables.Tables.{Tables};
+
+use crate::disk_tables::{TableDisk, TablePartition, put_partitions, told_of};
+use adf_blocks::Cause;
+use adf_partitions::{Disk, DiskCause, DiskFault, Partition, readable_partitions};
+use std::alloc::{AllocError, Global};
+
+// The partitions of a disk that can be read, and the first fault of its tables.
+#[derive(Drop)]
+struct ReadDisk {
+    partitions: Vec<Partition>,
+    fault: Option<DiskFault>,
+}
+
+// Reads the partitions of a disk of so many blocks, whether its tables have a fault or not.
+fn read_disk(alloc: Global, bytes: &[u8], blocks: u64) -> Result<ReadDisk, AllocError>
+    ensures { IfOk result (λ d. IsRead bytes.now blocks d.partitions.items d.fault) }
+{
+    match Disk::open(alloc, bytes, blocks) {
+        Ok(disk) => Ok(ReadDisk {
+            partitions: disk.partitions,
+            fault: None,
+        }),
+        Err(fault) => match fault.cause {
+            DiskCause::NoMemory => Err(AllocError),
+            _ => Ok(ReadDisk {
+                partitions: readable_partitions(alloc, bytes, blocks)?,
+                fault: Some(fault),
+            }),
+        },
+    }
+}
+
+/// Reads the partitions of a hard disk of so many blocks of 512 bytes, from its first bytes: at least the blocks 0 to 15 and those
+/// kept for its tables. Fills a table with those that can be read, as far as it has room, and tells the first fault of the tables.
+/// Returns 0, or the number of `NoMemory` if memory ran out.
+pub fn put_disk(
+    alloc: Global,
+    bytes: &[u8],
+    blocks: u64,
+    partitions: &mut [TablePartition],
+    told: &mut TableDisk,
+) -> u8
+    ensures number { (result ≡ 0) ⊎ WantsMemory result }
+
+    // The rows are those of the partitions that can be read, and `told` has the first fault of the tables, if there is one.
+    ensures partitions { result ≡ 0 → (ps : List Partition) → AreReadable bytes.now blocks ps
+        → partitions.new ≡ filled (partition_table ps) partitions.old }
+    ensures whole { result ≡ 0 → (t : Tables) (ps : List Partition) → IsDisk bytes.now blocks t ps
+        → told.new ≡ told_of (length ps) None }
+    ensures fault { result ≡ 0 → (ps : List Partition) (f : DiskFault) → AreReadable bytes.now blocks ps
+        → FirstFault bytes.now blocks f → told.new ≡ told_of (length ps) (Some f) }
+
+    // If memory ran out, the table is unchanged.
+    ensures unchanged { WantsMemory result
+        → (partitions.new ≡ partitions.old) × (told.new ≡ told_of 0 None) }
+{
+    match read_disk(alloc, bytes, blocks) {
+        Ok(disk) => {
+            put_partitions(&disk.partitions, partitions);
+            *told = told_of(disk.partitions.len(), disk.fault);
+            0
+        }
+        Err(_) => {
+            *told = told_of(0, None);
+            Cause::NoMemory.number()
+        }
+    }
+}

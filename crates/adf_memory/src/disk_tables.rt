@@ -1,0 +1,118 @@
+// The table of a hard disk's partitions, and how it is filled.
+
+ghost use Rattle.std.specs.Prelude.{◌≡◌};
+ghost use Rattle.adf_memory.specs.DiskTables.{blocks_of, fault_of, first_of, partition_row, partition_table, told_of};
+ghost use Rattle.adf_memory.specs.Rooms.{filled};
+
+use crate::tables::{field, put};
+use adf_partitions::{DiskFault, Partition, Place, PlaceFault};
+
+/// A partition of a hard disk.
+#[repr(C)]
+#[derive(Clone, Copy)]
+pub struct TablePartition {
+    /// The first block of its volume on the disk, or 0 if something is wrong with it.
+    pub first: u64,
+    /// The blocks of its volume, or 0 if something is wrong with it.
+    pub blocks: u64,
+    /// Its partition block.
+    pub block: u32,
+    /// Its flags: bit 0, a computer may start from it; bit 1, it is not mounted by itself.
+    pub flags: u32,
+    /// Its boot priority.
+    pub priority: i32,
+    /// The type of its file system, four bytes, the first one the highest.
+    pub dos_type: u32,
+    /// The number of what is wrong with it, or 0.
+    pub fault: u8,
+    pub name_length: u8,
+    /// The drive's name as it stands, not necessarily valid, padded with zeros.
+    pub name: [u8; 31],
+}
+
+/// What a disk has besides its partitions.
+#[repr(C)]
+#[derive(Clone, Copy)]
+pub struct TableDisk {
+    /// The partitions that can be read.
+    pub partitions: usize,
+    /// The block of the first fault of its tables, or 0.
+    pub block: u32,
+    /// The number of that fault's cause, or 0.
+    pub cause: u8,
+}
+
+// The first block of a place; 0 if there is none.
+fn first_of(place: Result<Place, PlaceFault>) -> u64
+    ensures { result ≡ first_of place }
+{
+    match place {
+        Ok(place) => place.first,
+        Err(_) => 0,
+    }
+}
+
+// The blocks of a place; 0 if there is none.
+fn blocks_of(place: Result<Place, PlaceFault>) -> u64
+    ensures { result ≡ blocks_of place }
+{
+    match place {
+        Ok(place) => place.blocks,
+        Err(_) => 0,
+    }
+}
+
+// The number of what is wrong; 0 if a partition has a place.
+fn fault_of(place: Result<Place, PlaceFault>) -> u8
+    ensures { result ≡ fault_of place }
+{
+    match place {
+        Ok(_) => 0,
+        Err(fault) => fault.number(),
+    }
+}
+
+// The row of a partition.
+fn partition_row(partition: &Partition) -> TablePartition
+    ensures { result ≡ partition_row partition.now }
+{
+    let name = partition.name.bytes();
+    TablePartition {
+        first: first_of(partition.place),
+        blocks: blocks_of(partition.place),
+        block: partition.block,
+        flags: partition.flags,
+        priority: partition.priority,
+        dos_type: partition.dos_type,
+        fault: fault_of(partition.place),
+        name_length: name.len() as u8,
+        name: field(name),
+    }
+}
+
+/// Fills the table of partitions as far as there is room.
+pub fn put_partitions(partitions: &[Partition], room: &mut [TablePartition])
+    ensures { room.new ≡ filled (partition_table partitions.now) room.old }
+{
+    for i in 0..partitions.len() {
+        put(room, i, partition_row(&partitions[i]));
+    }
+}
+
+/// What a disk has besides so many partitions.
+pub fn told_of(partitions: usize, fault: Option<DiskFault>) -> TableDisk
+    ensures { result ≡ told_of partitions fault }
+{
+    match fault {
+        None => TableDisk {
+            partitions,
+            block: 0,
+            cause: 0,
+        },
+        Some(fault) => TableDisk {
+            partitions,
+            block: fault.block,
+            cause: fault.cause.number(),
+        },
+    }
+}

@@ -1,0 +1,116 @@
+// The partitions that can be read where the tables of a disk have a fault.
+
+ghost use Rattle.std.specs.Prelude.{◌≡◌, IfOk};
+ghost use Rattle.adf_partitions.specs.Searches.{AreReadable, bare_partitions, is_lost, is_part, kept_up_to, with_all_lost};
+ghost use Rattle.adf_partitions.specs.Tables.{IsTables};
+ghost use Rattle.adf_partitions.specs.declared.layout.TheConstants.{MOST_TABLES};
+
+use crate::fault::DiskCause;
+use crate::layout::{MARK, MOST_PARTITIONS, MOST_TABLES, NO_BLOCK, PART, RDSK_BLOCKS};
+use crate::list::{follow_list, is_found};
+use crate::partition::{Partition, partition_of};
+use crate::summed::is_summed;
+use crate::tables::{Tables, is_table, read_tables};
+use adf_fields::Block;
+use std::alloc::{AllocError, Global};
+
+// Whether a block says that it is a partition block, with a sound sum.
+fn is_part(part: &Block<'_>) -> bool
+    ensures { result ≡ is_part part.now }
+{
+    part.word(MARK) == PART && is_summed(part)
+}
+
+// Whether a block kept for the tables is a partition block that these partitions do not have.
+fn is_lost(bytes: &[u8], kept: Tables, found: &[Partition], b: u32) -> bool
+    ensures { result ≡ is_lost bytes.now kept found.now b }
+{
+    is_table(bytes, kept, b)
+        && is_part(&Block::at(bytes, b).unwrap())
+        && !is_found(found, b)
+        && found.len() < MOST_PARTITIONS
+}
+
+// The partitions, and those of all blocks of the tables `kept` that are lost.
+fn with_all_lost(
+    bytes: &[u8],
+    blocks: u64,
+    tables: Tables,
+    kept: Tables,
+    partitions: Vec<Partition>,
+) -> Result<Vec<Partition>, AllocError>
+    ensures { IfOk result (λ v. v.items
+        ≡ with_all_lost bytes.now blocks tables kept partitions.items MOST_TABLES) }
+{
+    let mut found = partitions;
+    for b in 0..MOST_TABLES {
+        if is_lost(bytes, kept, &found, b) {
+            let part = Block::at(bytes, b).unwrap();
+            let partition = partition_of(b, &part, tables, blocks, &found);
+            found.push(partition)?;
+        }
+    }
+    Ok(found)
+}
+
+// Tables without a rigid disk block, which keep the blocks up to this one.
+fn kept_up_to(highest: u32) -> Tables
+    ensures { result ≡ kept_up_to highest }
+{
+    Tables {
+        rdsk: 0,
+        first: NO_BLOCK,
+        lowest: 0,
+        highest,
+    }
+}
+
+// The partitions of lost blocks of a disk without a rigid disk block.
+fn bare_partitions(
+    alloc: Global,
+    bytes: &[u8],
+    blocks: u64,
+) -> Result<Vec<Partition>, AllocError>
+    ensures { IfOk result (λ v. v.items ≡ bare_partitions bytes.now blocks) }
+{
+    let kept = kept_up_to(RDSK_BLOCKS - 1);
+    with_all_lost(bytes, blocks, kept_up_to(0), kept, Vec::new(alloc))
+}
+
+// The partitions of a disk with these tables that can be read.
+fn readable_by(
+    alloc: Global,
+    bytes: &[u8],
+    tables: Tables,
+    blocks: u64,
+) -> Result<Vec<Partition>, AllocError>
+    requires { IsTables bytes.now tables }
+    ensures { IfOk result (λ v. AreReadable bytes.now blocks v.items) }
+{
+    let list = follow_list(alloc, bytes, tables, blocks)?;
+    match list.fault {
+        None => Ok(list.partitions),
+        Some(_) => with_all_lost(bytes, blocks, tables, tables, list.partitions),
+    }
+}
+
+/// The partitions that can be read of a disk of so many blocks of 512 bytes, from its first bytes (as of `Disk::open`): all of
+/// its list; where the list has a fault, those before it, and those of each partition block with a sound sum among the blocks
+/// kept for the tables that the list does not come to, in the order of the blocks, 1,024 in all at most. Of a disk without a rigid
+/// disk block the blocks 0 to 15 are searched, and only block 0 counts as kept. If its blocks have another size than 512 bytes
+/// there are none. `AllocError` if an allocation fails.
+pub fn readable_partitions(
+    alloc: Global,
+    bytes: &[u8],
+    blocks: u64,
+) -> Result<Vec<Partition>, AllocError>
+    ensures { IfOk result (λ v. AreReadable bytes.now blocks v.items) }
+{
+    match read_tables(bytes) {
+        Ok(tables) => readable_by(alloc, bytes, tables, blocks),
+        Err(fault) => match fault.cause {
+            DiskCause::NoRigidDisk => bare_partitions(alloc, bytes, blocks),
+            _ => Ok(Vec::new(alloc)),
+        },
+    }
+}
