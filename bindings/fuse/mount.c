@@ -20,6 +20,7 @@
 #include <stdio.h>
 #include <stdlib.h>
 #include <string.h>
+#include <strings.h>
 #include <sys/stat.h>
 #include <sys/statvfs.h>
 #include <unistd.h>
@@ -29,6 +30,11 @@ enum { SOUND = 0, REFUSED = 1, USAGE = 2, FAILED = 3 };
 
 /* One byte more than the largest image, so that a longer one is seen to be longer. */
 static const size_t MOST_BYTES = (size_t)512 * 1048576 + 1;
+
+/* The tables of a hard disk lie before this byte. */
+static const size_t MOST_TABLES = (size_t)512 * 65536;
+
+enum { MOST_PARTITIONS = 1024 };
 
 static struct volume {
     bool is_escaped;
@@ -220,26 +226,102 @@ static const struct fuse_operations OPERATIONS = {
     .statfs = get_space,
 };
 
-/* Reads a file whole, or as much of it as tells that it is too long. */
-static bool load(const char *name) {
-    FILE *file = fopen(name, "rb");
+/* Reads so many bytes of a file, or all that it has. */
+static bool load(FILE *file, size_t most) {
     size_t room = 1 << 20;
-    bool is_read = file != NULL && (volume.image = malloc(room)) != NULL;
-    while (is_read && !feof(file) && volume.length < MOST_BYTES) {
+    bool is_read = (volume.image = malloc(room)) != NULL;
+    while (is_read && !feof(file) && volume.length < most) {
         if (volume.length == room) {
             uint8_t *more = realloc(volume.image, room *= 2);
             is_read = more != NULL;
             volume.image = is_read ? more : volume.image;
         } else {
-            volume.length += fread(volume.image + volume.length, 1, room - volume.length, file);
+            size_t next = room < most ? room : most;
+            volume.length += fread(volume.image + volume.length, 1, next - volume.length, file);
             is_read = !ferror(file);
         }
     }
-    if (!is_read)
-        fprintf(stderr, "adf-mount: %s: %s\n", name, strerror(errno));
+    return is_read;
+}
+
+/* What is wrong with a partition, by its number. */
+static const char *const PARTITION_FAULTS[] = {"",           "short environment", "bad block size", "bad cylinders", "beyond image",
+                                               "over tables", "over partition",    "bad name"};
+
+/* Whether a partition is the one that is wanted, by its number from 1 or its name; the case of a to z does not count. */
+static bool is_wanted(const struct adf_partition *partition, size_t number, const char *wanted) {
+    char *end;
+    bool is_number = wanted[0] != '\0' && wanted[strspn(wanted, "0123456789")] == '\0';
+    if (is_number)
+        return strtoull(wanted, &end, 10) == number;
+    size_t length = partition->name_length;
+    return strlen(wanted) == length && strncasecmp(wanted, (const char *)partition->name, length) == 0;
+}
+
+/* The partition that is wanted, or the only one, where there is no other. Why there is none stands on standard error. */
+static const struct adf_partition *choose(const char *name, const char *wanted, const struct adf_partition *rows, size_t count) {
+    for (size_t i = 0; wanted != NULL && i < count; i++)
+        if (is_wanted(&rows[i], i + 1, wanted))
+            return &rows[i];
+    if (wanted == NULL && count == 1)
+        return rows;
+    if (wanted == NULL)
+        fprintf(stderr, "adf-mount: %s: a hard disk of %zu partitions: --partition NAME (adf-disk list)\n", name, count);
+    else
+        fprintf(stderr, "adf-mount: %s: no such partition: %s\n", name, wanted);
+    return NULL;
+}
+
+/* Reads the partitions of a disk of this length from the beginning of its file. */
+static bool read_partitions(FILE *file, off_t length, struct adf_partition *rows, struct adf_disk *disk) {
+    uint8_t *tables = malloc(MOST_TABLES);
+    if (tables == NULL)
+        return false;
+    size_t count = fread(tables, 1, MOST_TABLES, file);
+    uint8_t cause = adf_disk_index(tables, count, (uint64_t)length / 512, rows, MOST_PARTITIONS, disk);
+    free(tables);
+    return cause == ADF_ACCEPTED && !ferror(file);
+}
+
+/* Goes to where the volume begins in the file, and tells its most bytes: SOUND, or the status to end with. A file that has no
+ * place, such as a pipe, or no rigid disk block is the image of a volume, unless a partition is wanted. */
+static int seek_volume(FILE *file, const char *name, const char *wanted, size_t *most) {
+    static struct adf_partition rows[MOST_PARTITIONS];
+    struct adf_disk disk = {0};
+    off_t length = fseeko(file, 0, SEEK_END) == 0 ? ftello(file) : 0;
+    if (length == 0 && wanted == NULL)
+        return SOUND;
+    rewind(file);
+    if (!read_partitions(file, length, rows, &disk))
+        return FAILED;
+    rewind(file);
+    if (wanted == NULL && (disk.cause == ADF_DISK_NO_RIGID_DISK || disk.partitions == 0))
+        return SOUND;
+    const struct adf_partition *partition = choose(name, wanted, rows, disk.partitions);
+    if (partition == NULL)
+        return wanted == NULL ? USAGE : REFUSED;
+    if (partition->fault != ADF_PARTITION_SOUND) {
+        fprintf(stderr, "adf-mount: %s: %s\n", name, PARTITION_FAULTS[partition->fault]);
+        return REFUSED;
+    }
+    if (partition->blocks <= MOST_BYTES / 512)
+        *most = (size_t)partition->blocks * 512;
+    return fseeko(file, (off_t)partition->first * 512, SEEK_SET) == 0 ? SOUND : FAILED;
+}
+
+/* Reads the image of the volume, or as much of it as tells that it is too long: SOUND, or the status to end with. */
+static int load_volume(const char *name, const char *wanted) {
+    size_t most = MOST_BYTES;
+    FILE *file = fopen(name, "rb");
+    errno = file == NULL ? errno : 0;
+    int status = file == NULL ? FAILED : seek_volume(file, name, wanted, &most);
+    if (status == SOUND && !load(file, most))
+        status = FAILED;
+    if (status == FAILED)
+        fprintf(stderr, "adf-mount: %s: %s\n", name, strerror(errno == 0 ? ENOMEM : errno));
     if (file != NULL)
         fclose(file);
-    return is_read;
+    return status;
 }
 
 /* A table with no more room than it needs, or as it is where that cannot be had. */
@@ -262,10 +344,11 @@ static uint8_t make_tables(void) {
 }
 
 /* Loads and checks the image: SOUND, or the status to end with, and why stands on standard error. */
-static int open_volume(const char *name) {
+static int open_volume(const char *name, const char *wanted) {
     uint8_t text[64];
-    if (!load(name))
-        return FAILED;
+    int status = load_volume(name, wanted);
+    if (status != SOUND)
+        return status;
     uint8_t cause = make_tables();
     if (cause == ADF_ACCEPTED)
         return SOUND;
@@ -282,6 +365,7 @@ static int open_volume(const char *name) {
 struct words {
     char *image;
     char *folder;
+    char *partition;
     int nonempty;
     int escape;
     int help;
@@ -293,6 +377,8 @@ static const struct fuse_opt OPTIONS[] = {
     {"--help", offsetof(struct words, help), 1},
     {"-V", offsetof(struct words, version), 1},
     {"--version", offsetof(struct words, version), 1},
+    {"--partition %s", offsetof(struct words, partition), 0},
+    {"--partition=%s", offsetof(struct words, partition), 0},
     {"nonempty", offsetof(struct words, nonempty), 1},
     {"escape", offsetof(struct words, escape), 1},
     FUSE_OPT_END,
@@ -372,13 +458,13 @@ static int run(const struct words *words, bool is_parsed, struct fuse_args *argu
         return SOUND;
     }
     if (!is_parsed || words->help || words->folder == NULL) {
-        fputs("usage: adf-mount IMAGE FOLDER [-f] [-o OPTION,..]    (man adf-mount)\n", words->help ? stdout : stderr);
+        fputs("usage: adf-mount IMAGE FOLDER [--partition NAME] [-f] [-o OPTION,..]    (man adf-mount)\n", words->help ? stdout : stderr);
         return words->help ? SOUND : USAGE;
     }
     volume.is_escaped = words->escape;
     int status = try_folder(words);
     if (status == SOUND)
-        status = open_volume(words->image);
+        status = open_volume(words->image, words->partition);
     return status == SOUND ? mount_volume(words, arguments) : status;
 }
 
@@ -390,5 +476,6 @@ int main(int count, char **given) {
     fuse_opt_free_args(&arguments);
     free(words.image);
     free(words.folder);
+    free(words.partition);
     return status;
 }

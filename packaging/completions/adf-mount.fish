@@ -1,5 +1,6 @@
 # Completion of adf-mount for fish.
 
+complete -c adf-mount -l partition -x -d 'mount this partition of a hard disk'
 complete -c adf-mount -s f -d 'stay in the foreground'
 complete -c adf-mount -s o -x -d 'options of mount and libfuse'
 complete -c adf-mount -s h -l help -d 'write the usage'

@@ -33,7 +33,7 @@ _adf_disk() {
 
 _adf_files() {
     case $1:$2 in
-        adf-mount:-*) COMPREPLY=($(compgen -W "-f -o -h --help -V --version" -- "$2")) ;;
+        adf-mount:-*) COMPREPLY=($(compgen -W "--partition -f -o -h --help -V --version" -- "$2")) ;;
         adf-shelf:-*) COMPREPLY=($(compgen -W "--null" -- "$2")) ;;
         adf-catalogue:-*) COMPREPLY=($(compgen -W "--tsv --rescue --escape -h --help --version" -- "$2")) ;;
         adf-pack:-*)

@@ -16,4 +16,4 @@ returns-in-Survey-clause-ends g c = λ r serves.
     subst (λ k. EndsBy (OfFault k c.args.bytes.now c.args.fault) c.write_readable.result
     (g.W.Sink.held c.args.output.now) (g.W.Sink.held c.write_readable.new.output))
     (sym (surveys c.args.self.now r c.in-Survey.is serves))
-    (rw (c.as_bytes-2.ensures.value ∙ c.in-Ok.ensures.ok) at c.write_readable.ensures.ends)
+    (rw (c.as_bytes-in-Survey.ensures.value ∙ c.in-Ok.ensures.ok) at c.write_readable.ensures.ends)
