@@ -8,7 +8,7 @@ mod survey;
 mod text;
 
 pub use cause::{Cause, NotFound, Refused};
-pub use command::{run, survey, Answer};
+pub use command::{remains, run, survey, Answer, Remains};
 pub use ffi::Date;
 pub use role::Role;
 pub use survey::{Finding, Found, Survey};

@@ -1,6 +1,6 @@
 //! Small volumes, built by the library itself.
 
-use adf::{run, survey, Cause, Date, Kind, NotFound, Refused, Role, Survey, Volume};
+use adf::{remains, run, survey, Cause, Date, Kind, NotFound, Refused, Remains, Role, Survey, Volume};
 use std::time::{Duration, SystemTime};
 
 const MANIFEST: &str = r"volume ofs 1760
@@ -218,4 +218,18 @@ fn a_survey_tells_findings_and_reads_what_stands() {
     let entries: Vec<_> = found.entries().map(|entry| (entry.path(), entry.is_sound(), entry.size())).collect();
     assert_eq!(entries, [("c".to_owned(), false, 0), ("c/a".to_owned(), true, 3)]);
     assert_eq!((found.kind(), found.label().as_bytes()), (Some(Kind::Ofs), &b""[..]));
+}
+
+#[test]
+fn what_is_left_of_a_file_is_told() {
+    // The header of `a` is block 2, its data 3 to 5, with 488 bytes in each but the last; the type of block 4 becomes 0.
+    let mut image = built("volume ofs 16\nfile 0:0:0 00000000 a\nfill 1000 41\ndir 0:0:0 00000000 c\n");
+    assert_eq!(remains("a", &image), Ok(Remains { bytes: vec![b'A'; 1000], lost: vec![] }));
+    image[4 * 512 + 3] = 0;
+    let bytes = [vec![b'A'; 488], vec![0; 488], vec![b'A'; 24]].concat();
+    assert_eq!(remains("a", &image), Ok(Remains { bytes, lost: vec![488..976] }));
+    for (path, why) in [("nix", "no such path\n"), ("c", "not a file\n"), ("a//b", "bad path\n")] {
+        assert_eq!(remains(path, &image).unwrap_err().errors, why.as_bytes());
+    }
+    assert_eq!(remains("a", b"").unwrap_err().errors, b"no such path\n");
 }
