@@ -254,6 +254,18 @@ class Surveys(unittest.TestCase):
         with self.assertRaisesRegex(OSError, "damaged"):
             adf.survey(changed(sound, 3, 323, 1)).read(file.path)
 
+    def test_tells_what_is_left_of_a_file(self):
+        # The header of `a` is block 2, its data 3 to 5, with 488 bytes in each but the last; the types of 3 and 5 become 0.
+        sound = built("volume ofs 16\nfile 0:0:0 00000000 a\nfill 1000 41\ndir 0:0:0 00000000 c\n")
+        self.assertEqual(adf.survey(sound).remains("a"), (b"A" * 1000, []))
+        damaged = adf.survey(changed(changed(sound, 3, 3, 8), 5, 3, 8))
+        left = bytes(488) + b"A" * 488 + bytes(24), [range(0, 488), range(976, 1000)]
+        self.assertEqual((damaged.remains(b"A"), damaged.entries[0].remains()), (left, left))
+        with self.assertRaises(IsADirectoryError):
+            damaged.remains("c")
+        with self.assertRaises(KeyError):
+            damaged.remains("nix")
+
     def test_tells_what_findings_concern(self):
         # The chain of `b`, in slot 7, goes on to the header of `a`, which slot 6 has; byte 499 is the last of the next in the chain.
         sound = built("volume ofs 16\nfile 0:0:0 00000000 a\nfill 9 41\nfile 0:0:0 00000000 b\n")

@@ -14,6 +14,7 @@
     with adf.open("large.hdf") as volume:           # at the end the memory is given back
         print(volume.label)
     found = adf.survey(image)                       # of a damaged image: found.findings, found.entries, found.read("c/list")
+    left, lost = found.remains("c/list")            # what is left of a damaged file, and the ranges of its bytes that are lost
     new, left_out = adf.rescue(image)               # a sound volume of all that stands, and the entries that it leaves out
     disk = adf.Disk(image)                          # of a whole hard disk: disk.partitions, and adf.Volume(disk.volume("DH0"))
 
@@ -340,6 +341,10 @@ class Found(NamedTuple):
         """The bytes of a sound file, as Survey.read gives them."""
         return self.survey.read(self.raw_path)
 
+    def remains(self) -> tuple[bytes, list[range]]:
+        """What is left of a file, as Survey.remains gives it."""
+        return self.survey.remains(self.raw_path)
+
 
 class _ReadOnly:
     """What is told once, and then only read."""
@@ -399,8 +404,18 @@ class Survey(_ReadOnly):
     def read(self, path: str | bytes) -> bytes:
         """The bytes of a sound file, for which the image is surveyed again. KeyError where nothing is under the path,
         IsADirectoryError where it is no file, OSError (EIO) where it is damaged."""
+        return self._cat(path)[0]
+
+    def remains(self, path: str | bytes) -> tuple[bytes, list[range]]:
+        """What is left of a file, sound or damaged, for which the image is surveyed again: its bytes, with zeros for those that are
+        lost, and the ranges of these. KeyError and IsADirectoryError as of `read`."""
+        left, lines = self._cat(path, "--damaged")
+        return left, [range(int(first), int(last) + 1) for first, last in re.findall(rb"bytes (\d+) to (\d+)", lines)]
+
+    def _cat(self, path: str | bytes, *flags: str) -> tuple[bytes, bytes]:
+        """What the command `cat` writes to output and to errors."""
         try:
-            words = ["cat", "--", escape(path)]
+            words = ["cat", *flags, "--", escape(path)]
         except UnicodeEncodeError:
             raise KeyError(path) from None
         status, output, errors = _run(_calls().adf_survey_run, "adf-survey", words, self.image)
@@ -412,7 +427,7 @@ class Survey(_ReadOnly):
             raise IsADirectoryError(errno.EISDIR, os.strerror(errno.EISDIR), path)
         if errors == b"damaged\n":
             raise OSError(errno.EIO, "damaged", path)
-        return output
+        return output, errors
 
 
 class Partition(NamedTuple):

@@ -1,4 +1,5 @@
 use crate::ffi::{self, Moved, Program};
+use std::ops::Range;
 
 const FIRST_OUTPUT: usize = 1 << 20;
 const FIRST_ERRORS: usize = 1024;
@@ -26,6 +27,30 @@ pub fn run(words: &[&str], input: &[u8]) -> Answer {
 /// that stands.
 pub fn survey(words: &[&str], image: &[u8]) -> Answer {
     run_program(Program::Survey, "adf-survey", words, image)
+}
+
+/// What is left of a file: its bytes, with zeros for those that are lost, and the runs of these.
+#[derive(Clone, Debug, PartialEq, Eq)]
+pub struct Remains {
+    pub bytes: Vec<u8>,
+    pub lost: Vec<Range<usize>>,
+}
+
+/// What is left of a file of an image, sound or damaged, under a path in the escape form, as `adf-survey cat --damaged` writes
+/// it. An error is the answer of that command where it writes none: errors say why.
+pub fn remains(path: &str, image: &[u8]) -> Result<Remains, Answer> {
+    let answer = survey(&["cat", "--damaged", "--", path], image);
+    let lost: Option<Vec<_>> = String::from_utf8_lossy(&answer.errors).lines().map(lost_of).collect();
+    match lost {
+        Some(lost) if answer.status <= 1 => Ok(Remains { bytes: answer.output, lost }),
+        _ => Err(answer),
+    }
+}
+
+/// The bytes of a line `bytes FIRST to LAST: no data`.
+fn lost_of(line: &str) -> Option<Range<usize>> {
+    let (first, last) = line.strip_prefix("bytes ")?.strip_suffix(": no data")?.split_once(" to ")?;
+    Some(first.parse().ok()?..last.parse::<usize>().ok()? + 1)
 }
 
 fn run_program(program: Program, name: &str, words: &[&str], input: &[u8]) -> Answer {

@@ -9,7 +9,7 @@ mod survey;
 mod text;
 
 pub use cause::{Cause, NotFound, Refused};
-pub use command::{run, survey, Answer};
+pub use command::{remains, run, survey, Answer, Remains};
 pub use disk::{Disk, DiskFault, Partition};
 pub use ffi::Date;
 pub use role::Role;

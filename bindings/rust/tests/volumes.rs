@@ -1,6 +1,6 @@
 //! Small volumes, built by the library itself.
 
-use adf::{run, survey, Cause, Date, Disk, Kind, NotFound, Refused, Role, Survey, Volume};
+use adf::{remains, run, survey, Cause, Date, Disk, Kind, NotFound, Refused, Remains, Role, Survey, Volume};
 use std::time::{Duration, SystemTime};
 
 const MANIFEST: &str = r"volume ofs 1760
@@ -252,4 +252,19 @@ fn a_disk_tells_its_partitions() {
     assert_eq!(disk.partitions().next().unwrap().place().unwrap_err().to_string(), "beyond image");
     let disk = Disk::of(&image[512..]).unwrap();
     assert_eq!(disk.fault().unwrap().to_string(), "block 0: no rigid disk");
+}
+
+#[test]
+fn what_is_left_of_a_file_is_told() {
+    // The header of `a` is block 2, its data 3 to 5, with 488 bytes in each but the last; the types of 3 and 5 become 0.
+    let mut image = built("volume ofs 16\nfile 0:0:0 00000000 a\nfill 1000 41\ndir 0:0:0 00000000 c\n");
+    assert_eq!(remains("a", &image), Ok(Remains { bytes: vec![b'A'; 1000], lost: vec![] }));
+    image[3 * 512 + 3] = 0;
+    image[5 * 512 + 3] = 0;
+    let bytes = [vec![0; 488], vec![b'A'; 488], vec![0; 24]].concat();
+    assert_eq!(remains("a", &image), Ok(Remains { bytes, lost: vec![0..488, 976..1000] }));
+    for (path, why) in [("nix", "no such path\n"), ("c", "not a file\n"), ("a//b", "bad path\n")] {
+        assert_eq!(remains(path, &image).unwrap_err().errors, why.as_bytes());
+    }
+    assert_eq!(remains("a", b"").unwrap_err().errors, b"no such path\n");
 }
