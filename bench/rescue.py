@@ -6,8 +6,6 @@
 Two surveys: of the image, opened; and, where headers are lost, of the image with these hung where they say that they belong.
 """
 
-import os
-import subprocess
 import sys
 from struct import pack_into, unpack_from
 

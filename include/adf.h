@@ -99,7 +99,7 @@ struct adf_verdict {
     uint32_t free;   /* blocks from 2 on that no part owns */
     size_t dirs;     /* directories, without the root */
     size_t files;
-    uint32_t block;  /* if the image is refused, the block with the fault, else 0 */
+    uint32_t block; /* if the image is refused, the block with the fault, else 0 */
 };
 
 /* Checks an image of this length. Returns an adf_cause, and fills the verdict.
@@ -113,8 +113,8 @@ uint8_t adf_check(const uint8_t *image, size_t length, struct adf_verdict *verdi
 
 /* Which part of the volume owns a block. */
 enum adf_role {
-    ADF_ROLE_FREE = 0,    /* a block from 2 on that no part owns */
-    ADF_ROLE_BOOT = 1,    /* block 0 or 1 */
+    ADF_ROLE_FREE = 0, /* a block from 2 on that no part owns */
+    ADF_ROLE_BOOT = 1, /* block 0 or 1 */
     ADF_ROLE_ROOT = 2,
     ADF_ROLE_PAGE = 3,    /* a page of the bitmap */
     ADF_ROLE_MAP_EXT = 4, /* a bitmap extension block */
@@ -150,17 +150,17 @@ struct adf_date {
 
 /* An entry. Entry n is at index n - 1 of the table. */
 struct adf_entry {
-    uint32_t parent;         /* the number of its directory, 0 for the root */
-    uint32_t header;         /* the block of its header */
-    uint32_t size;           /* bytes of a file, 0 for a directory */
-    uint32_t first;          /* the index of its first data block in the table of blocks */
-    uint32_t protection;     /* from bit 7: h, s, p, a, set if it is so; r, w, e, d, set if it is forbidden */
+    uint32_t parent;     /* the number of its directory, 0 for the root */
+    uint32_t header;     /* the block of its header */
+    uint32_t size;       /* bytes of a file, 0 for a directory */
+    uint32_t first;      /* the index of its first data block in the table of blocks */
+    uint32_t protection; /* from bit 7: h, s, p, a, set if it is so; r, w, e, d, set if it is forbidden */
     struct adf_date date;
-    uint8_t is_file;         /* 1 for a file, 0 for a directory */
-    uint8_t name_length;     /* 1 to 30 */
-    uint8_t name[30];        /* any bytes except `/` and `:`, in no particular encoding, padded with zeros */
-    uint8_t comment_length;  /* 0 to 79 */
-    uint8_t comment[79];     /* padded with zeros */
+    uint8_t is_file;        /* 1 for a file, 0 for a directory */
+    uint8_t name_length;    /* 1 to 30 */
+    uint8_t name[30];       /* any bytes except `/` and `:`, in no particular encoding, padded with zeros */
+    uint8_t comment_length; /* 0 to 79 */
+    uint8_t comment[79];    /* padded with zeros */
 };
 
 /* What a volume has beside its entries. */
@@ -190,8 +190,8 @@ struct adf_contents {
  *    and the tables are unchanged.
  * ADF_NO_MEMORY: as for adf_check. All fields are 0, and the tables are unchanged.
  */
-uint8_t adf_index(const uint8_t *image, size_t length, struct adf_entry *entries, size_t entries_room,
-                  uint32_t *blocks, size_t blocks_room, struct adf_contents *contents);
+uint8_t adf_index(const uint8_t *image, size_t length, struct adf_entry *entries, size_t entries_room, uint32_t *blocks,
+                  size_t blocks_room, struct adf_contents *contents);
 
 /* Looks up a path in a whole table of entries. The path is written as for `adf cat`: names joined by `/`, in escape form, in
  * which a byte outside 32 to 126, and the backslash, is \xHH. The case of a to z is ignored.
@@ -218,8 +218,8 @@ uint8_t adf_find(const struct adf_entry *entries, size_t count, const uint8_t *p
  *
  * A budget, by reading the code and not proved: the work is proportional to the bytes that are copied.
  */
-size_t adf_read(const uint8_t *image, size_t length, const struct adf_entry *entries, size_t entries_count,
-                const uint32_t *blocks, size_t blocks_count, size_t node, size_t offset, uint8_t *room, size_t room_length);
+size_t adf_read(const uint8_t *image, size_t length, const struct adf_entry *entries, size_t entries_count, const uint32_t *blocks,
+                size_t blocks_count, size_t node, size_t offset, uint8_t *room, size_t room_length);
 
 /* Surveys
  *
@@ -240,10 +240,10 @@ struct adf_finding {
 
 /* An entry that is found. Entry n is at index n - 1 of the table. */
 struct adf_found {
-    size_t parent;          /* the number of its directory, 0 for the root */
-    uint32_t header;        /* the block of its header */
-    uint32_t size;          /* bytes of a file, as its header says; 0 for a directory */
-    uint32_t protection;    /* as in struct adf_entry */
+    size_t parent;       /* the number of its directory, 0 for the root */
+    uint32_t header;     /* the block of its header */
+    uint32_t size;       /* bytes of a file, as its header says; 0 for a directory */
+    uint32_t protection; /* as in struct adf_entry */
     struct adf_date date;
     uint8_t is_file;        /* 1 for a file or a link, 0 for a directory */
     uint8_t is_sound;       /* 1 if the entry is sound, otherwise 0 */
@@ -339,11 +339,11 @@ uint8_t adf_disk_index(const uint8_t *bytes, size_t length, uint64_t blocks, str
                        struct adf_disk *disk);
 
 struct adf_moved {
-    size_t input;      /* bytes that were read */
-    size_t output;     /* bytes at the front of the room for output */
-    size_t errors;     /* bytes at the front of the room for errors */
-    bool output_full;  /* output had too little room, so that it is only a front part, and the status is 3 */
-    bool errors_full;  /* errors had too little room, so that they are only a front part */
+    size_t input;     /* bytes that were read */
+    size_t output;    /* bytes at the front of the room for output */
+    size_t errors;    /* bytes at the front of the room for errors */
+    bool output_full; /* output had too little room, so that it is only a front part, and the status is 3 */
+    bool errors_full; /* errors had too little room, so that they are only a front part */
 };
 
 /* Runs the command `adf` with these words over the input, and returns its status.
@@ -362,8 +362,8 @@ struct adf_moved {
  *
  * Nothing is said about the bytes of a room after those that `moved` counts.
  */
-uint8_t adf_run(const uint8_t *words, size_t words_length, const uint8_t *input, size_t input_length,
-                uint8_t *output, size_t output_room, uint8_t *errors, size_t errors_room, struct adf_moved *moved);
+uint8_t adf_run(const uint8_t *words, size_t words_length, const uint8_t *input, size_t input_length, uint8_t *output,
+                size_t output_room, uint8_t *errors, size_t errors_room, struct adf_moved *moved);
 
 /* Runs the command `adf-survey` with these words over an image, and returns its status. The words are as for adf_run: so
  * `adf-survey cat c/readme` is "adf-survey\0cat\0c/readme\0", 24 bytes; with `rescue` the output is a volume of as many bytes as
@@ -379,8 +379,8 @@ uint8_t adf_run(const uint8_t *words, size_t words_length, const uint8_t *input,
  *
  * Nothing is said about the bytes of a room after those that `moved` counts.
  */
-uint8_t adf_survey_run(const uint8_t *words, size_t words_length, const uint8_t *input, size_t input_length,
-                       uint8_t *output, size_t output_room, uint8_t *errors, size_t errors_room, struct adf_moved *moved);
+uint8_t adf_survey_run(const uint8_t *words, size_t words_length, const uint8_t *input, size_t input_length, uint8_t *output,
+                       size_t output_room, uint8_t *errors, size_t errors_room, struct adf_moved *moved);
 
 #ifdef __cplusplus
 }

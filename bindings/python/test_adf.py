@@ -285,8 +285,11 @@ class Surveys(unittest.TestCase):
         new, left_out = adf.rescue(changed(sound, 3, 40, 1))
         self.assertEqual(left_out, [adf.LeftOut("damaged", "a")])
         self.assertEqual([entry.path for entry in adf.Volume(new).entries], ["c"])
-        with self.assertRaisesRegex(adf.Refused, "block 0: bad size"):
-            adf.rescue(b"")
+        # Where nothing stands, the first fault is told: a cause has the number that include/adf.h gives it.
+        for image, blocks, fault in ((b"", None, ("bad size", 0, 1)), (b"", 16, ("not dos", 0, 2)), (bytes(8192), None, ("not dos", 0, 2))):
+            with self.assertRaises(adf.Refused) as raised:
+                adf.rescue(image, blocks)
+            self.assertEqual((raised.exception.cause, raised.exception.block, raised.exception.number), fault)
 
     def test_takes_an_image_as_if_it_had_its_blocks(self):
         sound = built("volume ofs 16\nfile 0:0:0 00000000 a\nfill 489 41\n")

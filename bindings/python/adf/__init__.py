@@ -280,9 +280,9 @@ def rescue(image: Image, blocks: int | None = None) -> tuple[bytes, list[LeftOut
     if status == 3:
         raise MemoryError(errors.decode("ascii").strip())
     if not volume:
-        place, _, cause = errors.decode("ascii").strip().partition(": ")
-        number = next(number for number in range(1, NO_MEMORY + 1) if _cause(number) == cause)
-        raise Refused(cause, int(place[len("block ") :]), number)
+        first = survey(image, blocks).findings[0]
+        number = next(number for number in range(1, NO_MEMORY + 1) if _cause(number) == first.cause)
+        raise Refused(first.cause, first.first, number)
     lines = (line.partition(": ") for line in errors.decode("ascii").splitlines())
     return volume, [LeftOut(why, _plain(path)) for why, _, path in lines]
 
