@@ -1,5 +1,5 @@
-use Rattle.std.proofs.Common.{ap, ◌∙◌}
-use Rattle.adf_memory.specs.DiskTables.{partition_table}
+use Rattle.std.proofs.Common.{◌≡◌, ◌∙◌, ap, arith, length}
+use Rattle.adf_memory.specs.DiskTables.{partition_table, told_of}
 use Rattle.adf_memory.specs.Rooms.{filled}
 use Rattle.adf_memory.proofs.DiskReadings.{same_partitions, told_fault, told_whole}
 use Rattle.adf_memory.proofs.disk_index.put_disk.Goals as goal
@@ -7,12 +7,16 @@ use Rattle.adf_memory.proofs.disk_index.put_disk.Goals as goal
 pub returns-in-Ok-clause-partitions : goal.returns-in-Ok-clause-partitions
 returns-in-Ok-clause-partitions c = λ zero ps readable.
     let same = same_partitions c.args.bytes.now c.args.blocks _ ps _ c.in-Ok.ensures readable in
-    c.put_partitions.ensures ∙ ap (λ ps. filled (partition_table ps) c.args.partitions.now) same
+    c.put_partitions.ensures ∙ ap (λ ps. filled (partition_table ps) c.args.partitions.now) (c.deref.ensures.value ∙ same)
 
 pub returns-in-Ok-clause-whole : goal.returns-in-Ok-clause-whole
 returns-in-Ok-clause-whole c = λ zero t ps disk.
-    c.told_of.ensures ∙ told_whole c.args.bytes.now c.args.blocks _ ps _ t c.in-Ok.ensures disk
+    let count : c.len.result ≡ length c.in-Ok.disk.partitions.items = omega (arith, c.len.ensures) in
+    c.told_of.ensures ∙ ap (λ k. told_of k c.in-Ok.disk.fault) count
+    ∙ told_whole c.args.bytes.now c.args.blocks _ ps _ t c.in-Ok.ensures disk
 
 pub returns-in-Ok-clause-fault : goal.returns-in-Ok-clause-fault
 returns-in-Ok-clause-fault c = λ zero ps f readable first.
-    c.told_of.ensures ∙ told_fault c.args.bytes.now c.args.blocks _ ps _ f c.in-Ok.ensures readable first
+    let count : c.len.result ≡ length c.in-Ok.disk.partitions.items = omega (arith, c.len.ensures) in
+    c.told_of.ensures ∙ ap (λ k. told_of k c.in-Ok.disk.fault) count
+    ∙ told_fault c.args.bytes.now c.args.blocks _ ps _ f c.in-Ok.ensures readable first
