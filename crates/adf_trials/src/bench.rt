@@ -2,10 +2,10 @@
 
 use crate::answer::{Answer, CommandLine, answer_of, built, text_of_lines};
 use crate::line::{Line, Start};
-use crate::wants::{Want, Wanted, push_line};
+use crate::named::{Image, image_of};
+use crate::wants::{Want, Wanted};
 use crate::wrong::{Failure, Wrong};
 use std::alloc::Global;
-use std::mem;
 
 /// What the lines up to one have made.
 #[derive(Drop)]
@@ -18,13 +18,6 @@ pub struct Bench {
     row: Option<Trial>,
     /// Whether a row was begun.
     has_rows: bool,
-}
-
-/// An image with its name.
-#[derive(Drop)]
-struct Image {
-    name: String,
-    bytes: Vec<u8>,
 }
 
 /// A row that is not at its end.
@@ -95,11 +88,14 @@ impl Bench {
     fn act(&mut self, line: &Line<'_>) -> Result<(), Wrong> {
         match line {
             Line::Comment | Line::Blank | Line::Row => Ok(()),
-            Line::Start(start) => self.start(start),
+            Line::Start(start) => {
+                self.image = self.image_for(start)?;
+                Ok(())
+            }
             Line::Change(change) => change.make(&mut self.image),
             Line::Name(name) => self.keep(name),
             Line::Run(command) => self.run(*command),
-            Line::Want(want) => self.want(want),
+            Line::Want(want) => self.want(*want),
             Line::Table(table) => {
                 self.has_rows = true;
                 table.run(self.alloc, &self.image)
@@ -107,16 +103,16 @@ impl Bench {
         }
     }
 
-    fn start(&mut self, start: &Start<'_>) -> Result<(), Wrong> {
+    // The image with which a line begins.
+    fn image_for(&self, start: &Start<'_>) -> Result<Vec<u8>, Wrong> {
         let alloc = self.alloc;
-        self.image = match *start {
+        Ok(match *start {
             Start::Zeros(count) => vec![in alloc; 0u8; count]?,
             Start::On(name) => Vec::from_slice(alloc, image_of(&self.named, name)?)?,
-            Start::Output => mem::replace(&mut self.output, Vec::new(alloc)),
+            Start::Output => Vec::from_slice(alloc, &self.output)?,
             Start::Manifest(lines) => text_of_lines(alloc, lines)?,
             Start::Built(lines) => built(alloc, lines)?,
-        };
-        Ok(())
+        })
     }
 
     // Gives the image as it is a name.
@@ -133,40 +129,8 @@ impl Bench {
         Ok(())
     }
 
-    fn want(&mut self, want: &Want<'_>) -> Result<(), Wrong> {
+    fn want(&mut self, want: Want<'_>) -> Result<(), Wrong> {
         let row = self.row.as_mut().ok_or(Wrong::Unread)?;
-        let wanted = &mut row.wanted;
-        match *want {
-            Want::Status(status) => wanted.status = Some(status),
-            Want::Output(line) => push_line(&mut wanted.output, line)?,
-            Want::Words(words) => words.list(self.alloc, &mut wanted.output)?,
-            Want::Bytes(count, byte) => {
-                wanted
-                    .output
-                    .resize(wanted.output.len().saturating_add(count), byte)?;
-            }
-            Want::Image(name) => {
-                wanted
-                    .output
-                    .extend_from_slice(image_of(&self.named, name)?)?;
-            }
-            Want::Has(line) => {
-                wanted.is_part = true;
-                push_line(&mut wanted.output, line)?;
-            }
-            Want::Any => wanted.is_part = true,
-            Want::Errors(line) => push_line(&mut wanted.errors, line)?,
-            Want::Usage => wanted.is_usage = true,
-        }
-        Ok(())
+        row.wanted.take(self.alloc, &self.named, want)
     }
-}
-
-fn image_of<'a>(images: &'a [Image], name: &str) -> Result<&'a [u8], Wrong> {
-    for image in images {
-        if image.name.as_str() == name {
-            return Ok(&image.bytes);
-        }
-    }
-    Err(Wrong::NoImage)
 }

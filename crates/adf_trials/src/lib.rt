@@ -10,6 +10,7 @@ mod failing;
 mod files;
 mod findings;
 mod line;
+mod named;
 mod questions;
 mod rescues;
 mod tables;

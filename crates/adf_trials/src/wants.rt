@@ -1,6 +1,7 @@
 // What is wanted of a run, and whether it came.
 
 use crate::answer::Answer;
+use crate::named::{Image, image_of};
 use crate::words::{Words, hex, number};
 use crate::wrong::{Difference, Wrong};
 use std::alloc::{AllocError, Global};
@@ -11,14 +12,7 @@ use std::str;
 pub enum Want<'a> {
     /// `status N`
     Status(u8),
-    /// `output LINE`
-    Output(&'a str),
-    /// `words BLOCK WORD HEX`: lines of output, one for each word.
-    Words(Words),
-    /// `bytes COUNT HEX`: so many of one byte.
-    Bytes(usize, u8),
-    /// `image NAME`: the image of this name.
-    Image(&'a str),
+    Output(Piece<'a>),
     /// `has LINE`: this line behind those told before; other lines may stand between.
     Has(&'a str),
     /// `any`: whatever output holds.
@@ -29,14 +23,27 @@ pub enum Want<'a> {
     Usage,
 }
 
+/// A piece of output.
+#[derive(Clone, Copy)]
+pub enum Piece<'a> {
+    /// `output LINE`
+    Line(&'a str),
+    /// `words BLOCK WORD HEX`: lines, one for each word.
+    Words(Words),
+    /// `bytes COUNT HEX`: so many of one byte.
+    Bytes(usize, u8),
+    /// `image NAME`: the image of this name.
+    Image(&'a str),
+}
+
 impl<'a> Want<'a> {
     pub fn read(word: &str, rest: &'a str) -> Option<Want<'a>> {
         Some(match word {
             "status" => Want::Status(rest.parse::<u8>().ok()?),
-            "output" => Want::Output(rest),
-            "words" => Want::Words(Words::read(rest)?),
-            "bytes" => read_bytes(rest)?,
-            "image" => Want::Image(rest),
+            "output" => Want::Output(Piece::Line(rest)),
+            "words" => Want::Output(Piece::Words(Words::read(rest)?)),
+            "bytes" => Want::Output(read_bytes(rest)?),
+            "image" => Want::Output(Piece::Image(rest)),
             "has" => Want::Has(rest),
             "any" => Want::Any,
             "errors" => Want::Errors(rest),
@@ -46,9 +53,9 @@ impl<'a> Want<'a> {
     }
 }
 
-fn read_bytes<'a>(text: &str) -> Option<Want<'a>> {
+fn read_bytes<'a>(text: &str) -> Option<Piece<'a>> {
     let (count, byte) = text.split_once(' ')?;
-    Some(Want::Bytes(number(count)?, u8::try_from(hex(byte)?).ok()?))
+    Some(Piece::Bytes(number(count)?, u8::try_from(hex(byte)?).ok()?))
 }
 
 /// What is wanted of a run.
@@ -83,6 +90,22 @@ impl Wanted {
         Ok(wanted)
     }
 
+    /// Takes what a line tells, with the images that have names.
+    pub fn take(&mut self, alloc: Global, named: &[Image], want: Want<'_>) -> Result<(), Wrong> {
+        match want {
+            Want::Status(status) => self.status = Some(status),
+            Want::Output(piece) => push_piece(alloc, named, piece, &mut self.output)?,
+            Want::Has(line) => {
+                self.is_part = true;
+                push_line(&mut self.output, line)?;
+            }
+            Want::Any => self.is_part = true,
+            Want::Errors(line) => push_line(&mut self.errors, line)?,
+            Want::Usage => self.is_usage = true,
+        }
+        Ok(())
+    }
+
     /// Says what in a run is not as wanted.
     pub fn compare(&self, alloc: Global, came: &Answer) -> Result<(), Wrong> {
         if self.is_part {
@@ -97,6 +120,22 @@ impl Wanted {
         }
         is_status(alloc, self.status.ok_or(Wrong::NoRun)?, came.status)
     }
+}
+
+// Appends a piece of output.
+fn push_piece(
+    alloc: Global,
+    named: &[Image],
+    piece: Piece<'_>,
+    output: &mut Vec<u8>,
+) -> Result<(), Wrong> {
+    match piece {
+        Piece::Line(line) => push_line(output, line)?,
+        Piece::Words(words) => words.list(alloc, output)?,
+        Piece::Bytes(count, byte) => output.resize(output.len().saturating_add(count), byte)?,
+        Piece::Image(name) => output.extend_from_slice(image_of(named, name)?)?,
+    }
+    Ok(())
 }
 
 /// Says that a status is not as wanted.
