@@ -42,7 +42,7 @@ def write(volume, folder, is_escaped):
 def keep(path, entry):
     """Writes what the host has no room for into a file beside that of an entry."""
     with open(path + os.fsencode(ENDING), "xb") as file:
-        file.write(line_of(entry).encode("utf-8"))
+        file.write(line_of(entry))
 
 
 def work(words):
