@@ -77,8 +77,8 @@ static void copy_all(struct work *work) {
                 copy_all(work);
             }
             DOS(SET_COMMENT, work->to, info.comment, 0);
-            DOS(SET_DATE, work->to, info.date, 0);
             DOS(SET_PROTECTION, work->to, info.protection, 0);
+            DOS(SET_DATE, work->to, info.date, 0); /* the last, since the others change it */
             work->from[from] = work->to[to] = 0;
         }
     if (lock)

@@ -8,16 +8,17 @@ import sys
 import adf
 from adf_tools.names import bytes_of
 from adf_tools.program import REFUSED, add_escape, begin, command_line, host_text, manifest_of, run_lines, stop
-from adf_tools.uaem import ENDING, Kept, kept_in
+from adf_tools.uaem import ENDING, Kept, kept_in, name_in
 
 TICKS_TO_1978 = 2922 * 86400 * 50
 NEVER = adf.Date(0, 0, 0)
 
 
-def amiga_text(text, path, is_escaped):
-    """The escape form of the bytes that a text of the host stands for; what cannot be is told by its path."""
+def amiga_text(text, path, is_escaped, is_kept=False):
+    """The escape form of the bytes that a text of the host stands for, or a name that has a file NAME.uaem; what cannot be is told
+    by its path."""
     try:
-        raw = bytes_of(text, is_escaped)
+        raw = name_in(text) if is_kept and not is_escaped else bytes_of(text, is_escaped)
     except UnicodeEncodeError as error:
         stop(REFUSED, f"{host_text(path)}: Latin-1, in which an Amiga writes, has no {error.object[error.start]}")
     except UnicodeDecodeError:
@@ -70,7 +71,7 @@ class Packer:
         for name, is_kept in self.names(folder):
             path = os.path.join(folder, name)
             found = os.lstat(path)
-            text = above + amiga_text(name, path, self.is_escaped)
+            text = above + amiga_text(name, path, self.is_escaped, is_kept)
             kept = kept_beside(path) if is_kept else Kept(0, stamp_of(found.st_mtime_ns), b"")
             if stat.S_ISDIR(found.st_mode):
                 yield from entry_lines("dir", text, kept)

@@ -1,7 +1,8 @@
 """Files NAME.uaem, in which FS-UAE and WinUAE keep beside a file what a host has no room for: protection, date and comment.
 
-A line: `----rwed 2026-11-25 06:56:04.10 comment`, with hundredths of a second. The comment is in UTF-8; a byte that has no letter is
-\\x and two hexadecimal digits, and so is a backslash before such digits.
+A line: `----rwed 2026-11-25 06:56:04.10 comment`, with hundredths of a second. In the comment % and two hexadecimal digits stand for
+a byte: 0 to 31, 128 to 255, each of "%*/<>?\\|, and a dot or space at the end. Every other byte stands for itself. A name that has
+such a file is in UTF-8, with % and digits for bytes that have no letter, for these bytes, and for the dot of .uaem at its end.
 """
 
 import datetime
@@ -9,12 +10,13 @@ import re
 from typing import NamedTuple
 
 import adf
-from adf_tools.names import bytes_of
 from adf_tools.protection import protection_of, protection_text
 
 ENDING = ".uaem"
 LINE = re.compile(r"([h-][s-][p-][a-][r-][w-][e-][d-]) ([\d-]{10} [\d:]{8})\.(\d\d)(?: (.*))?")
-NOT_PLAIN = re.compile(r"[\x00-\x1f\x7f-\x9f]|\\(?=x[0-9a-f]{2})")
+NOT_PLAIN = re.compile(rb'[^ -\x7f]|["%*/<>?\\|]|[. ]\Z')
+NOT_IN_NAMES = re.compile(rb'[^ -~\xa0-\xff]|["%*/<>?\\|]|[. ]\Z|\.(?=[Uu][Aa][Ee][Mm]\Z)')
+DIGITS = re.compile(rb"%([0-9a-fA-F]{2})")
 CIVIL = "%Y-%m-%d %H:%M:%S"
 NEVER = datetime.datetime(1978, 1, 1)
 
@@ -27,16 +29,36 @@ class Kept(NamedTuple):
     comment: bytes
 
 
+def with_digits(pattern, raw):
+    """Bytes with % and two digits for each that fits the pattern."""
+    return pattern.sub(lambda found: b"%%%02x" % ord(found[0]), raw)
+
+
+def without_digits(text):
+    """The bytes that stand in a text with % and digits."""
+    return DIGITS.sub(lambda found: bytes.fromhex(found[1].decode("ascii")), text)
+
+
+def host_name(raw):
+    """The name of the host for a name of an Amiga that has such a file."""
+    return with_digits(NOT_IN_NAMES, raw).decode("latin-1").encode("utf-8")
+
+
+def name_in(text):
+    """The name of an Amiga for one of the host that has such a file. UnicodeError if it is not UTF-8, or not in Latin-1."""
+    return without_digits(text.decode("utf-8").encode("latin-1"))
+
+
 def line_of(entry):
-    """The line that keeps what an entry has. A date that is none is kept as the first of all."""
-    comment = NOT_PLAIN.sub(lambda found: f"\\x{ord(found[0]):02x}", entry.comment)
+    """The bytes of the line that keeps what an entry has. A date that is none is kept as the first of all."""
     hundredths = entry.date.ticks % 50 * 2 if entry.date.civil else 0
-    return f"{protection_text(entry.protection)} {entry.date.civil or NEVER:{CIVIL}}.{hundredths:02} {comment}\n"
+    front = f"{protection_text(entry.protection)} {entry.date.civil or NEVER:{CIVIL}}.{hundredths:02} "
+    return front.encode("ascii") + with_digits(NOT_PLAIN, entry.raw_comment) + b"\n"
 
 
 def kept_in(content):
     """What is kept in the bytes of such a file. ValueError where they are no such line."""
-    found = LINE.fullmatch(content.decode("utf-8").rstrip("\r\n"))
+    found = LINE.fullmatch(content.decode("latin-1").rstrip("\r\n"))
     if not found:
         raise ValueError("not as in: ----rwed 2026-11-25 06:56:04.10 comment")
     letters, civil, hundredths, comment = found.groups()
@@ -44,4 +66,4 @@ def kept_in(content):
     if past.days < 0:
         raise ValueError("a date before 1978")
     stamp = f"{past.days}:{past.seconds // 60}:{past.seconds % 60 * 50 + int(hundredths) // 2}"
-    return Kept(protection_of(letters), stamp, bytes_of((comment or "").encode("utf-8")))
+    return Kept(protection_of(letters), stamp, without_digits((comment or "").encode("latin-1")))

@@ -1,10 +1,11 @@
 """adf-unpack: copies the directories and files of an image into a new folder, with their dates (docs/adf-unpack.1)."""
 
+import functools
 import os
 
+from adf_tools import uaem
 from adf_tools.names import text_of
 from adf_tools.program import add_escape, begin, command_line, given_volume, new_folder
-from adf_tools.uaem import ENDING, line_of
 
 DAYS_TO_1978 = 2922
 
@@ -15,9 +16,9 @@ def host_name(name, is_escaped):
     return (text.replace(".", "\\x2e") if text in (".", "..") else text).encode("utf-8")
 
 
-def host_path(folder, entry, is_escaped):
-    """Where an entry is written."""
-    return os.path.join(os.fsencode(folder), *(host_name(name, is_escaped) for name in entry.raw_path.split(b"/")))
+def host_path(folder, entry, named):
+    """Where an entry is written, by a function for names."""
+    return os.path.join(os.fsencode(folder), *map(named, entry.raw_path.split(b"/")))
 
 
 def set_date(path, date):
@@ -28,10 +29,10 @@ def set_date(path, date):
         os.utime(path, ns=(when, when))
 
 
-def write(volume, folder, is_escaped):
+def write(volume, folder, named):
     """Writes all directories and files of a volume into a folder."""
     for entry in volume.entries:
-        path = host_path(folder, entry, is_escaped)
+        path = host_path(folder, entry, named)
         if entry.is_file:
             with open(path, "xb") as file:
                 file.write(entry.read())
@@ -41,19 +42,20 @@ def write(volume, folder, is_escaped):
 
 def keep(path, entry):
     """Writes what the host has no room for into a file beside that of an entry."""
-    with open(path + os.fsencode(ENDING), "xb") as file:
-        file.write(line_of(entry).encode("utf-8"))
+    with open(path + os.fsencode(uaem.ENDING), "xb") as file:
+        file.write(uaem.line_of(entry))
 
 
 def work(words):
     volume = given_volume()
+    named = uaem.host_name if words.uaem and not words.escape else functools.partial(host_name, is_escaped=words.escape)
     with new_folder(words.folder) as folder:
-        write(volume, folder, words.escape)
+        write(volume, folder, named)
         if words.uaem:
             for entry in volume.entries:
-                keep(host_path(folder, entry, words.escape), entry)
+                keep(host_path(folder, entry, named), entry)
         for entry in reversed(volume.entries):
-            set_date(host_path(folder, entry, words.escape), entry.date)
+            set_date(host_path(folder, entry, named), entry.date)
 
 
 def main():
