@@ -3,6 +3,7 @@
 ghost use Rattle.std.specs.Prelude.{◌≡◌, ◌≢◌, List, IfErr, IfOk, find, option_copied};
 ghost use Rattle.adf_partitions.specs.Disks.{FirstFault, IsDisk};
 ghost use Rattle.adf_partitions.specs.Partitions.{is_named, partition_numbered};
+ghost use Rattle.adf_partitions.specs.Tables.{IsTables};
 ghost use Rattle.adf_partitions.specs.declared.fault.DiskCause.{DiskCause};
 ghost use Rattle.adf_partitions.specs.declared.partition.Partition.{Partition};
 ghost use Rattle.adf_partitions.specs.declared.tables.Tables.{Tables};
@@ -40,6 +41,9 @@ impl Disk {
         ensures none { IfErr result (λ f. f.cause ≢ DiskCause.NoMemory → (t : Tables) (ps : List Partition)
             → IsDisk bytes.now blocks t ps → ⊥) }
         ensures memory { IfErr result (λ f. f.cause ≡ DiskCause.NoMemory → f.block ≡ 0) }
+
+        // Memory is wanted only for a disk with tables.
+        ensures begun { IfErr result (λ f. f.cause ≡ DiskCause.NoMemory → (t : Tables) × IsTables bytes.now t) }
     {
         let tables = read_tables(bytes)?;
         let Ok(Followed { partitions, fault }) = follow_list(alloc, bytes, tables, blocks) else {
