@@ -1,10 +1,10 @@
 // What is left of files that may be damaged.
 
-ghost use Rattle.std.specs.Prelude.{◌≡◌, ◌≤◌, ◌<◌, ◌^◌, ◌+◌, ◌++◌, ◌↔◌, ℕ, IfOk, IfSome, IsSome, OnOk, replicate};
+ghost use Rattle.std.specs.Prelude.{◌≡◌, ◌≤◌, ◌<◌, ◌^◌, ◌+◌, ◌++◌, ◌↔◌, ℕ, IfOk, IsOk, IfSome, IsSome, OnOk, replicate};
 ghost use Rattle.adf_blocks.specs.Sizes.{blocks, count};
 ghost use Rattle.adf_fields.specs.Words.{block};
 ghost use Rattle.adf_volume.specs.Image.{kind_of, piece};
-ghost use Rattle.adf_volume.specs.Walk.{FileAt};
+ghost use Rattle.adf_volume.specs.Walk.{FileAt, node_block};
 ghost use Rattle.adf_findings.specs.Remains.{blocks_told, bytes_in, bytes_left, data_at, data_named, gap_at, gaps_left, gaps_of, joined, left_of, size_told, with_gap, with_lost};
 ghost use Rattle.adf_findings.specs.Survey.{OnSurvey};
 
@@ -175,6 +175,7 @@ impl<'i> Survey<'i> {
         ensures gaps { IfOk result (λ r. r.gaps.items
             ≡ gaps_left image.now (size_told image.now head) (data_named image.now self.now n head)
             (blocks_told image.now head)) }
+        ensures empty { blocks_told image.now head ≡ 0 → IsOk result }
     {
         let mut remains = Remains {
             bytes: Vec::new(alloc),
@@ -194,7 +195,7 @@ impl<'i> Survey<'i> {
 
     /// What is left of a file, whether sound or not: the bytes of each data block that is found as the file's own, and zeros for
     /// the others; as many as its header says, but no more than the image has. `None` for what is no file. `NoMemory` if an
-    /// allocation fails.
+    /// allocation fails; never if there is no file, or it is empty.
     pub fn remains(&self, alloc: Global, n: Node) -> Result<Option<Remains>, NoMemory>
         ensures some { OnSurvey self.now.image (λ w _.
             IfOk result (λ x. IsSome x ↔ ((h : ℕ) × FileAt self.now.image w n h))) }
@@ -202,6 +203,10 @@ impl<'i> Survey<'i> {
             IfOk result (λ x. IfSome x (λ r. r.bytes.items ≡ left_of self.now.image w n))) }
         ensures gaps { OnSurvey self.now.image (λ w _.
             IfOk result (λ x. IfSome x (λ r. r.gaps.items ≡ gaps_of self.now.image w n))) }
+        ensures none { OnSurvey self.now.image (λ w _.
+            ((h : ℕ) → FileAt self.now.image w n h → ⊥) → IsOk result) }
+        ensures empty { OnSurvey self.now.image (λ w _.
+            blocks_told self.now.image (node_block w n) ≡ 0 → IsOk result) }
     {
         if !self.is_file(n) {
             return Ok(None);

@@ -352,12 +352,16 @@ impl<'i> Survey<'i> {
 
     /// A file with all of its blocks: one that is sound but for causes of its header that leave it itself (`bad name`,
     /// `bad comment`, `wrong slot`, `bad first`, `same name`); `None` for anything else. `NoMemory` if an allocation
-    /// fails.
+    /// fails; never if there is no such file, or it is empty.
     pub fn whole_file(&self, alloc: Global, n: Node) -> Result<Option<SoundFile<'i>>, NoMemory>
         ensures some { OnSurvey self.now.image (λ w fs.
             IfOk result (λ x. IsSome x ↔ IsSoundFile self.now.image w (grave fs) n)) }
         ensures file { OnSurvey self.now.image (λ w _.
             IfOk result (λ x. IfSome x (λ f. f ≡ file_in self.now.image w n))) }
+        ensures none { OnSurvey self.now.image (λ w fs.
+            (IsSoundFile self.now.image w (grave fs) n → ⊥) → IsOk result) }
+        ensures empty { OnSurvey self.now.image (λ w _.
+            (file_in self.now.image w n).blocks ≡ [] → IsOk result) }
     {
         self.file_by(alloc, n, true)
     }

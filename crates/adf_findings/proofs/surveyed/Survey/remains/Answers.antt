@@ -1,5 +1,5 @@
 use Rattle.std.specs.Prelude.{slice_index}
-use Rattle.std.proofs.Common.{ap, subst, ◌∙◌}
+use Rattle.std.proofs.Common.{◌≡◌, ap, subst, ◌∙◌}
 use Rattle.adf_volume.specs.Walk.{node_block}
 use Rattle.adf_findings.specs.Remains.{blocks_told, size_told}
 use Rattle.adf_findings.specs.Start.{unread_findings}
@@ -42,3 +42,13 @@ returns-in-Ok-left_of-clause-gaps c = λ w fs h.
     ∙ (left_is v w fs t c.args.n (node_block w c.args.n) (file_at v.image w fs h c.args.n file.0 file.1) c.in-Ok.started.image c.number_at-head.result image
     head (size_told c.in-Ok.started.image c.number_at-head.result) (blocks_told c.in-Ok.started.image c.number_at-head.result)
     (λ i. size_told (image i) (head i)) (λ i. blocks_told (image i) (head i))).1
+
+pub returns-in-Err-clause-empty : goal.returns-in-Err-clause-empty
+returns-in-Err-clause-empty c = λ w fs h none.
+    let v = c.args.self.now in
+    let t = tells_each v (subst IsOfSurvey c.self.view_is c.self.invariant) w fs h in
+    let image = c.in-Ok.ensures.image ∙ ap (λ v. v.image) c.self.view_is in
+    let head = c.number_at-head.ensures ∙ ((λ i. slice_index (c.self.view_is i).nodes (c.n.view_is i)) ∙ t.node c.args.n) in
+    let same : blocks_told c.in-Ok.started.image c.number_at-head.result ≡ blocks_told v.image (node_block w c.args.n) =
+    λ i. blocks_told (image i) (head i) in
+    let no = c.left_of.ensures.empty (same ∙ none) in cc
