@@ -66,11 +66,7 @@ fn kept_up_to(highest: u32) -> Tables
 }
 
 // The partitions of lost blocks of a disk without a rigid disk block.
-fn bare_partitions(
-    alloc: Global,
-    bytes: &[u8],
-    blocks: u64,
-) -> Result<Vec<Partition>, AllocError>
+fn bare_partitions(alloc: Global, bytes: &[u8], blocks: u64) -> Result<Vec<Partition>, AllocError>
     ensures { IfOk result (λ v. v.items ≡ bare_partitions bytes.now blocks) }
 {
     let kept = kept_up_to(RDSK_BLOCKS - 1);

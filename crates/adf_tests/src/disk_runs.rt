@@ -163,7 +163,13 @@ const LINES: &[(&str, Change<'static>, u8, &str, &str)] = &[
         "block 0: no rigid disk\n1 DH1: PFS\\x03 first 40 blocks 40 flags 2 priority 3\n2 DH0: ffs first 8 blocks 32 flags 1 priority -5\n",
         "",
     ),
-    ("survey", (0, &[(4, 1024)]), 1, "block 0: bad block size\n", ""),
+    (
+        "survey",
+        (0, &[(4, 1024)]),
+        1,
+        "block 0: bad block size\n",
+        "",
+    ),
     ("frob", NONE, 2, "", USAGE),
 ];
 

@@ -301,7 +301,12 @@ const NO_ROW: TablePartition = TablePartition {
 };
 
 // A table with room for one partition, of a disk of so many blocks with these words of its tables changed.
-fn indexed(rt: &impl AllocGlobal, b: u32, words: &[(usize, u32)], blocks: u64) -> (TablePartition, (usize, u32, u8)) {
+fn indexed(
+    rt: &impl AllocGlobal,
+    b: u32,
+    words: &[(usize, u32)],
+    blocks: u64,
+) -> (TablePartition, (usize, u32, u8)) {
     let mut rows = [NO_ROW; 1];
     let mut disk = TableDisk {
         partitions: 9,
@@ -321,7 +326,7 @@ fn partitions_are_put_in_a_table(rt: HostRuntime) {
         (row.flags, row.priority, row.dos_type, row.fault),
         (1, -5, 0x444F_5301, 0)
     );
-    assert_eq!(rt; (row.name_length, &row.name[..4]), (3, b"DH0\0"));
+    assert_eq!(rt; (row.name_length, &row.name[..4]), (3, b"DH0\0".as_slice()));
 
     // DH0 ends beyond a disk of 39 blocks.
     let (row, told) = indexed(&rt, 0, &[], 39);

@@ -1,9 +1,9 @@
 // The calls over memory, on an OFS volume of 16 blocks with the directory `c` and in it the file `long`, 489 bytes 0x41.
 
 use adf_memory::{
-    Contents, Date, FoundEntry, Moved, Surveyed, TableEntry, TableFinding, Verdict, cause_text,
-    TableDisk, TablePartition, check_image, find_entry, owners_of, put_index, put_survey, read_bytes,
-    run_command, run_survey,
+    Contents, Date, FoundEntry, Moved, Surveyed, TableDisk, TableEntry, TableFinding,
+    TablePartition, Verdict, cause_text, check_image, find_entry, owners_of, put_index, put_survey,
+    read_bytes, run_command, run_survey,
 };
 use std::mem::size_of;
 use std::process::Abort;
