@@ -1,9 +1,13 @@
 //! The verdicts on many images of Amiga floppies and hard disks.
 #![tactic(auto)]
 
+mod closed;
+
+use crate::closed::{Errors, Output};
 use adf_cmd::{Device, say};
 use adf_shelf_cmd::{Stop, SystemFiles, TextNames, run};
 use std::alloc::Global;
+use std::cell::Cell;
 use std::io;
 use std::io::{BufReader, ErrorKind};
 use std::process::ExitCode;
@@ -22,8 +26,9 @@ fn status(rt: &HostRuntime) -> io::Result<u8> {
     }
     let mut input = TextNames::new(BufReader::new(rt.alloc(), rt.stdin())?, b'\n');
     let files = SystemFiles::new(rt);
-    let mut output = Device::new(rt.stdout());
-    let mut errors = Device::new(rt.stderr());
+    let closed = Cell::new(false);
+    let mut output = Output::new(rt.stdout(), &closed);
+    let mut errors = Errors::new(rt.stderr(), &closed);
     Ok(run(
         rt.alloc(),
         &texts,
