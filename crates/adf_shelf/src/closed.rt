@@ -1,6 +1,6 @@
 // Standard output and standard error, of which the second says nothing once nobody reads the first.
 
-ghost use Rattle.std.specs.Prelude.{None};
+ghost use Rattle.std.specs.Prelude.{◌≡◌, None, false};
 
 use adf_cmd::{Device, Failed, Sink};
 use std::cell::Cell;
