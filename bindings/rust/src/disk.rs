@@ -20,16 +20,8 @@ pub enum DiskFault {
 const DISK_CAUSES: [&str; 8] =
     ["", "no rigid disk", "bad block size", "out of range", "repeated", "not a partition", "bad sum", "too many"];
 
-const PARTITION_FAULTS: [&str; 8] = [
-    "",
-    "short environment",
-    "bad block size",
-    "bad cylinders",
-    "beyond image",
-    "over tables",
-    "over partition",
-    "bad name",
-];
+const PARTITION_FAULTS: [&str; 8] =
+    ["", "short environment", "bad block size", "bad cylinders", "beyond image", "over tables", "over partition", "bad name"];
 
 impl fmt::Display for DiskFault {
     fn fmt(&self, f: &mut fmt::Formatter<'_>) -> fmt::Result {
