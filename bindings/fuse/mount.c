@@ -245,8 +245,8 @@ static bool load(FILE *file, size_t most) {
 }
 
 /* What is wrong with a partition, by its number. */
-static const char *const PARTITION_FAULTS[] = {"",           "short environment", "bad block size", "bad cylinders", "beyond image",
-                                               "over tables", "over partition",    "bad name"};
+static const char *const PARTITION_FAULTS[] = {
+    "", "short environment", "bad block size", "bad cylinders", "beyond image", "over tables", "over partition", "bad name"};
 
 /* Whether a partition is the one that is wanted, by its number from 1 or its name; the case of a to z does not count. */
 static bool is_wanted(const struct adf_partition *partition, size_t number, const char *wanted) {
@@ -458,7 +458,8 @@ static int run(const struct words *words, bool is_parsed, struct fuse_args *argu
         return SOUND;
     }
     if (!is_parsed || words->help || words->folder == NULL) {
-        fputs("usage: adf-mount IMAGE FOLDER [--partition NAME] [-f] [-o OPTION,..]    (man adf-mount)\n", words->help ? stdout : stderr);
+        fputs("usage: adf-mount IMAGE FOLDER [--partition NAME] [-f] [-o OPTION,..]    (man adf-mount)\n",
+              words->help ? stdout : stderr);
         return words->help ? SOUND : USAGE;
     }
     volume.is_escaped = words->escape;
