@@ -2,7 +2,7 @@
 use Rattle.std.specs.Prelude.{List, [], ◌++◌, codes, ℕ, Option, None, Some, IsUtf8}
 use Rattle.adf_tree.specs.Escapes.{escaped}
 use Rattle.adf_shelf_cmd.specs.declared.files.Unopened.{Unopened}
-use Rattle.adf_shelf_cmd.specs.declared.files.Unopened.TheVariants.{Missing, Forbidden, NotText, Other}
+use Rattle.adf_shelf_cmd.specs.declared.files.Unopened.TheVariants.{Missing, Forbidden, Directory, NotText, Other}
 
 -- what opening a file of the system may come to, `None` if it is opened: a name is refused as no UTF-8 if and only if it is none
 abbrev pub SystemOpens : List ℕ → Option Unopened → Type 0
@@ -13,6 +13,7 @@ SystemOpens name why = IsUtf8 name
 abbrev pub unopened_text : Unopened → List ℕ
 unopened_text Missing = codes ": no such file\n"
 unopened_text Forbidden = codes ": no permission\n"
+unopened_text Directory = codes ": a directory\n"
 unopened_text NotText = codes ": not UTF-8\n"
 unopened_text Other = []
 

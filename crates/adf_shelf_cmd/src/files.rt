@@ -8,6 +8,7 @@ ghost use Rattle.adf_shelf_cmd.specs.Files.{SystemOpens, unopened_text};
 use adf_runs::{Device, Source};
 use std::fs::File;
 use std::io::{Error, ErrorKind};
+use std::path::Path;
 use std::{rt, str};
 
 /// Why a file could not be opened.
@@ -17,6 +18,8 @@ pub enum Unopened {
     Missing,
     /// It may not be read.
     Forbidden,
+    /// It is a directory.
+    Directory,
     /// The name is not UTF-8.
     NotText,
     /// The system does not say why.
@@ -31,6 +34,7 @@ impl Unopened {
         match self {
             Unopened::Missing => ": no such file\n",
             Unopened::Forbidden => ": no permission\n",
+            Unopened::Directory => ": a directory\n",
             Unopened::NotText => ": not UTF-8\n",
             Unopened::Other => "",
         }
@@ -103,6 +107,7 @@ impl<R: rt::Files> Files for SystemFiles<'_, R> {
             return Err(Unopened::NotText);
         };
         match File::open(self.system, path) {
+            Ok(_) if Path::new(path).is_dir(self.system) => Err(Unopened::Directory),
             Ok(file) => Ok(Device::new(file)),
             Err(error) => Err(reason(&error)),
         }
