@@ -333,6 +333,8 @@ struct adf_disk {
  * 0: disk->cause is the first fault of the tables, in disk->block. Without one the table has all partitions, in their order;
  *    otherwise those that can be read nevertheless, as `adf-disk survey` tells them. disk->partitions is the whole number,
  *    whatever the room. The rest of the room is unchanged.
+ *    That what follows the tables changes nothing is proved of the fault and of all partitions without one. Of those that can be
+ *    read nevertheless it is so by design, not proved.
  * ADF_NO_MEMORY: an allocation failed. All fields of the disk are 0, and the table is unchanged.
  */
 uint8_t adf_disk_index(const uint8_t *bytes, size_t length, uint64_t blocks, struct adf_partition *partitions, size_t room,
