@@ -21,7 +21,7 @@ pub use crate::runner::{one_answer, run};
 pub use crate::work::Work;
 pub use adf_manifest::{ManifestFault, ManifestKind, read_manifest};
 pub use adf_runs::{
-    Device, Failed, Outcome, Program, Ran, Sink, Source, StreamFault, WorkFault, flush_long,
-    read_all, read_input, read_into, run_program, run_program_on, say, write_all,
+    Device, Failed, Outcome, Program, Ran, Sink, Source, StreamFault, WorkFault, command_words,
+    flush_long, read_all, read_input, read_into, run_program, run_program_on, say, write_all,
 };
 pub use adf_words::{Request, WordsFault, parse, words_as_documented};

@@ -6,6 +6,7 @@ mod inputs;
 mod outcome;
 mod programs;
 mod streams;
+mod system;
 mod work_fault;
 
 pub use crate::devices::{Device, Failed, Sink, Source};
@@ -13,4 +14,5 @@ pub use crate::inputs::read_input;
 pub use crate::outcome::Outcome;
 pub use crate::programs::{Program, Ran, run_program, run_program_on};
 pub use crate::streams::{StreamFault, flush_long, read_all, read_into, say, write_all};
+pub use crate::system::command_words;
 pub use crate::work_fault::WorkFault;

@@ -8,6 +8,7 @@ use crate::devices::Sink;
 use crate::streams::{StreamFault, say};
 use adf_fields::NoMemory;
 use std::alloc::AllocError;
+use std::io;
 
 /// How the work of a command went.
 #[derive(Drop)]
@@ -48,6 +49,19 @@ impl From<NoMemory> for Outcome {
 
     fn from(_e: NoMemory) -> Outcome {
         Outcome::NoMemory
+    }
+}
+
+impl From<io::Error> for Outcome {
+    ghost use Rattle.adf_runs.specs.Outcomes.{status_of};
+
+    ghost from_gives = { λ _ w. status_of w ≡ 3 };
+
+    fn from(error: io::Error) -> Outcome {
+        match error.kind() {
+            io::ErrorKind::OutOfMemory => Outcome::NoMemory,
+            _ => Outcome::ReadFault,
+        }
     }
 }
 

@@ -4,26 +4,15 @@
 mod closed;
 
 use crate::closed::{Errors, Output};
-use adf_cmd::{Device, say};
-use adf_shelf_cmd::{Stop, SystemFiles, TextNames, run};
-use std::alloc::Global;
+use adf_cmd::{Device, Outcome, command_words};
+use adf_shelf_cmd::{SystemFiles, TextNames, run};
 use std::cell::Cell;
-use std::io;
-use std::io::{BufReader, ErrorKind};
+use std::io::BufReader;
 use std::process::ExitCode;
-use std::rt::Env;
 
-// The words of the command line.
-fn command_words(rt: &(impl Env + Alloc<A = Global>)) -> io::Result<Vec<String>> {
-    Ok(std::env::args(rt)?.collect(rt.alloc())?)
-}
-
-fn status(rt: &HostRuntime) -> io::Result<u8> {
+fn status(rt: &HostRuntime) -> Result<u8, Outcome> {
     let words = command_words(rt)?;
-    let mut texts = Vec::with_capacity(rt.alloc(), words.len())?;
-    for word in &words {
-        texts.push(word.as_str())?;
-    }
+    let texts: Vec<&str> = words.iter().map(|word| word.as_str()).collect(rt.alloc())?;
     let mut input = TextNames::new(BufReader::new(rt.alloc(), rt.stdin())?, b'\n');
     let files = SystemFiles::new(rt);
     let closed = Cell::new(false);
@@ -39,23 +28,9 @@ fn status(rt: &HostRuntime) -> io::Result<u8> {
     ))
 }
 
-// Why the words could not be read: memory, or a word that is not UTF-8.
-fn stop_of(error: &io::Error) -> Stop {
-    match error.kind() {
-        ErrorKind::OutOfMemory => Stop::NoMemory,
-        _ => Stop::ReadFault,
-    }
-}
-
 fn main(rt: HostRuntime) -> ExitCode {
-    match status(&rt) {
-        Ok(status) => ExitCode::from(status),
-        Err(error) => {
-            say(
-                &mut Device::new(rt.stderr()),
-                stop_of(&error).line().as_bytes(),
-            );
-            ExitCode::from(3)
-        }
-    }
+    ExitCode::from(match status(&rt) {
+        Ok(status) => status,
+        Err(outcome) => outcome.finish(&mut Device::new(rt.stderr())),
+    })
 }
