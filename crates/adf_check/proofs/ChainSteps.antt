@@ -110,7 +110,8 @@ module _ {image : List ℕ} {store : StoreValue} {p up s a b : ℕ} {seen : List
   module _ (range : InRange (length store.owners) b) (free : kept_at store.owners b ≡ Free) where
     -- and holds a header, whose name was not seen
     pub next_chain : AllHold (head_demands image (kind_of image) b up s) → (seen (uppers (name_of image b)) → ⊥) → (seen' : List ℕ → Type 0)
-        → ((x : List ℕ) → seen' x ↔ ((uppers (name_of image b) ≡ x) ⊎ seen x)) → {new : StoreValue} → IsStored image store new (next_head st.walk p s st.place) b
+        → ((x : List ℕ) → seen' x ↔ ((uppers (name_of image b) ≡ x) ⊎ seen x)) → {new : StoreValue}
+        → IsStored image store new (next_head st.walk p s st.place) b
         → IsInChain image new p up s b (word_in image b NEXT_IN_CHAIN) seen'
     next_chain form fresh seen' g stored =
         let r : Role = next_head st.walk p s st.place in

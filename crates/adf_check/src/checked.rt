@@ -9,11 +9,13 @@ ghost use Rattle.adf_volume.specs.declared.owner.Owner.{Owner};
 ghost use Rattle.adf_volume.specs.Layout.{Layout, at_node, datas_of, owned};
 ghost use Rattle.adf_volume.specs.Lists.{In};
 ghost use Rattle.adf_check.specs.Store.{store_value};
+ghost use Rattle.adf_check.specs.OwnerClass.{class_of};
 ghost use Rattle.adf_check.specs.Pieces.{bytes_of, pieces_at};
 ghost use Rattle.adf_volume.specs.Rows.{row_of_entry};
 ghost use Rattle.adf_check.specs.Volumes.{IsChecked, StandsFor, counts_of};
 
 use crate::lookup::{block_of, find};
+use crate::owner_class::OwnerClass;
 use crate::pieces::{blocks_of, pieces_of};
 use crate::places::owner_of;
 use crate::rebuild::tree_of;
@@ -75,6 +77,23 @@ impl Checked<'_> {
         if b < self.image.blocks() {
             let kept = self.store.owners.get(b);
             Some(owner_of(&self.store.starts, kept))
+        } else {
+            None
+        }
+    }
+
+    /// The class of the owner of a block, without a search for its file; `None` if there is no such block.
+    pub fn owner_class(&self, b: u32) -> Option<OwnerClass>
+        ensures some { IsSome result ↔ (b < blocks self.now.image) }
+        ensures part { (t : Tree) (l : Layout) (o : Owner) → StandsFor self.now t l
+            → In (owned self.now.image l) (o, b) → result ≡ Some (class_of o) }
+        ensures boot { b < 2 → result ≡ Some OwnerClass.Boot }
+        ensures free { (t : Tree) (l : Layout) → StandsFor self.now t l → 2 ≤ b
+            → b < blocks self.now.image
+            → ((o : Owner) → In (owned self.now.image l) (o, b) → ⊥) → result ≡ Some OwnerClass.Free }
+    {
+        if b < self.image.blocks() {
+            Some(self.store.owners.get(b).class())
         } else {
             None
         }
