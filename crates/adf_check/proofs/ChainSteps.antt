@@ -110,7 +110,8 @@ module _ {image : List ℕ} {store : StoreValue} {p up s a b : ℕ} {seen : List
   module _ (range : InRange (length store.owners) b) (free : kept_at store.owners b ≡ Free) where
     -- and holds a header, whose name was not seen
     pub next_chain : AllHold (head_demands image (kind_of image) b up s) → (seen (uppers (name_of image b)) → ⊥) → (seen' : List ℕ → Type 0)
-        → ((x : List ℕ) → seen' x ↔ ((uppers (name_of image b) ≡ x) ⊎ seen x)) → {new : StoreValue} → IsStored store new (next_head st.walk p s st.place) b
+        → ((x : List ℕ) → seen' x ↔ ((uppers (name_of image b) ≡ x) ⊎ seen x)) → {new : StoreValue}
+        → IsStored image store new (next_head st.walk p s st.place) b
         → IsInChain image new p up s b (word_in image b NEXT_IN_CHAIN) seen'
     next_chain form fresh seen' g stored =
         let r : Role = next_head st.walk p s st.place in
@@ -152,7 +153,7 @@ module _ {image : List ℕ} {store : StoreValue} {p up s a b : ℕ} (names : Nam
         (λ k. let x = st.sees.only (uppers (name_of image b)) (ap (has names) (sym name_is) ∙ h) in k x.0 x.1 x.2 x.3 x.4)
 
     pub head_done : has names (uppers name) ≡ false → (more : Names) → HasMore names more (uppers name) → {next : ℕ} → next ≡ word head NEXT_IN_CHAIN
-        → {new : StoreValue} → IsStored store new (next_head st.walk p s st.place) b → IsInChain image new p up s b next (sees_of more)
+        → {new : StoreValue} → IsStored image store new (next_head st.walk p s st.place) b → IsInChain image new p up s b next (sees_of more)
     head_done fresh more grows next_is {new = new} stored =
         subst (λ n. IsInChain image new p up s b n (sees_of more)) (ap (λ x. word x NEXT_IN_CHAIN) (sym (same ∙ is_block)) ∙ sym next_is)
         (next_chain lt begun st ne range free form (λ h. let e : true ≡ false = sym h ∙ ap (has names) (sym name_is) ∙ fresh in cc) (sees_of more)

@@ -1,6 +1,6 @@
 -- One step of a check: the next role is claimed and kept, or refused as the first fault.
 use Rattle.adf_check.specs.Claims.{InRange, IsClaimFault}
-use Rattle.std.proofs.Common.{◌≡◌, ℕ, suc, List, [], ◌∷◌, ◌++◌, ◌+◌, ◌<◌, length, set, inl, inr, refl, sym, ap, subst, ◌∙◌, arith, Result, Ok, Err}
+use Rattle.std.proofs.Common.{◌≡◌, ℕ, suc, List, [], ◌∷◌, ◌++◌, ◌+◌, ◌<◌, length, set, count_by, inl, inr, refl, sym, ap, subst, ◌∙◌, arith, Result, Ok, Err}
 use Rattle.std.specs.Prelude.{IfErr, IsOk, OnOk}
 use Rattle.adf_blocks.specs.declared.cause.Cause.{Cause}
 use Rattle.adf_blocks.specs.declared.cause.Cause.TheVariants.{OutOfRange, Taken, SameName, ShortFile}
@@ -24,7 +24,7 @@ use Rattle.adf_volume.specs.Start.{IsBegun}
 use Rattle.adf_check.specs.Reading.{HasRead}
 use Rattle.adf_check.specs.declared.kept_owner.KeptOwner.TheVariants.{Free}
 use Rattle.adf_check.specs.KeptOwner.{kept_at}
-use Rattle.adf_check.specs.Store.{StoreValue, next_kept, push_header, push_block, ext_file, data_file, stored, StoreMatches}
+use Rattle.adf_check.specs.Store.{StoreValue, next_kept, push_header, push_block, ext_file, data_file, is_dir_at, stored, StoreMatches}
 use Rattle.adf_check.proofs.StoreSteps.{free_absent, taken_present, tells_more}
 
 -- what is said of an error, said otherwise
@@ -59,20 +59,22 @@ pub record IsNextAt (image : List ℕ) (store : StoreValue) (w : List (Role × �
   pub names : word_in image a index ≡ b
 
 -- the new store is the old one with block b in this role, field by field
-pub record IsStored (old new : StoreValue) (r : Role) (b : ℕ) : Type 0 where
+pub record IsStored (image : List ℕ) (old new : StoreValue) (r : Role) (b : ℕ) : Type 0 where
   pub owners : new.owners ≡ set old.owners b (next_kept old r)
   pub headers : new.headers ≡ push_header r b old.headers
+  pub dirs : new.dirs ≡ count_by (is_dir_at image) (push_header r b old.headers)
   pub starts : new.starts ≡ old.starts
   pub exts : new.exts ≡ push_block ext_file r b old.exts
   pub datas : new.datas ≡ push_block data_file r b old.datas
   pub used : new.used ≡ old.used + 1
 
-stored_is : (old new : StoreValue) (r : Role) (b : ℕ) → IsStored old new r b → stored old r b ≡ new
-stored_is old new r b s =
+stored_is : (image : List ℕ) (old new : StoreValue) (r : Role) (b : ℕ) → IsStored image old new r b → stored image old r b ≡ new
+stored_is image old new r b s =
     let used : suc old.used ≡ new.used = omega (arith, s.used) in
     λ i. record {
       owners = (sym s.owners) i;
       headers = (sym s.headers) i;
+      dirs = (sym s.dirs) i;
       starts = (sym s.starts) i;
       exts = (sym s.exts) i;
       datas = (sym s.datas) i;
@@ -134,7 +136,7 @@ module _ {image : List ℕ} {store : StoreValue} {w : List (Role × ℕ)} {r : R
         name_fault h = late_fault SameName (fails_right (form_demands image w r b) _ b SameName form (inl (h, refl, refl)))
 
         -- it is claimed and kept: the reader has read one role more
-        pub read_one : NewName image w r b → {new : StoreValue} → IsStored store new r b → HasRead image new ((r, b) ∷ w) (first r) (behind r)
+        pub read_one : NewName image w r b → {new : StoreValue} → IsStored image store new r b → HasRead image new ((r, b) ∷ w) (first r) (behind r)
         read_one fresh {new = new} s =
             let within = in_image range in
             let begun : length store.starts ≡ first r = st.read.started in
@@ -142,7 +144,7 @@ module _ {image : List ℕ} {store : StoreValue} {w : List (Role × ℕ)} {r : R
             let number : (n p s j : ℕ) → r ≡ Head n p s j → n ≡ suc (heads w) =
             λ n p s j z. asks_number image w n p s j a st.index (subst (λ r. Asks image w r a st.index) z st.asked) in
             record {
-              tells = subst (λ t. StoreMatches image t ((r, b) ∷ w)) (stored_is store new r b s)
+              tells = subst (λ t. StoreMatches image t ((r, b) ∷ w)) (stored_is image store new r b s)
                   (tells_more image store w r b number (omega arith) st.read.tells within.0 within.1 free);
               started = ap length s.starts ∙ begun;
               is_walk = step st.read.is_walk is_due st.names (enough, (within, (free_absent image store.owners w st.read.tells.owns b free, late)));

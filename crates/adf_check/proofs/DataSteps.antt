@@ -116,12 +116,12 @@ module _ {image : List ℕ} {store : StoreValue} {n h : ℕ} {table : List ℕ} 
         pub data_fault : (c : Cause) → FirstFails demands_here b c → IsTrueFault image (fault b c)
         data_fault c f = form_fault data_named data_enough range free c (subst (λ ds. FirstFails ds b c) form_is f)
 
-        pub data_done : AllHold demands_here → {new : StoreValue} → IsStored store new (Data n (k + 1)) b → IsInDatas image new n h table (k + 1)
+        pub data_done : AllHold demands_here → {new : StoreValue} → IsStored image store new (Data n (k + 1)) b → IsInDatas image new n h table (k + 1)
         data_done f {new = new} stored =
             let r : Role = Data n (suc k) in
             let one : k + 1 ≡ suc k = omega arith in
             let read_it : HasRead image new ((r, b) ∷ st.walk) (suc n) (behind r) =
-            read_one data_named data_enough range free (subst AllHold form_is f) tt (subst (λ m. IsStored store new (Data n m) b) one stored) in
+            read_one data_named data_enough range free (subst AllHold form_is f) tt (subst (λ m. IsStored image store new (Data n m) b) one stored) in
             record {
               walk = (r, b) ∷ st.walk;
               read = read_to read_it (subst (λ m. IsUpTo image ((r, b) ∷ st.walk) [] (position_of (Data n (suc m)))) (sym one) read_it.up_to);

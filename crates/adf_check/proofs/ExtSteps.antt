@@ -78,7 +78,7 @@ module _ {image : List ℕ} {store : StoreValue} {n h : ℕ} {table : List ℕ} 
         (first_demanded b (ext_form b h (block image b)) c (ap (λ x. first_cause (ext_form b h x)) (sym is_block) ∙ f)))
 
     pub ext_done : first_cause (ext_form b h bytes) ≡ None → {ext : List ℕ} → ext ≡ bytes → {next : ℕ} → next ≡ word ext EXTENSION → {longer : List ℕ}
-        → longer ≡ table ++ b ∷ [] → {new : StoreValue} → IsStored store new (Ext n (length table)) b → IsInExts image new n h longer b next
+        → longer ≡ table ++ b ∷ [] → {new : StoreValue} → IsStored image store new (Ext n (length table)) b → IsInExts image new n h longer b next
     ext_done f same next_is longer_is {new = new} stored =
         let r : Role = Ext n (suc st.extra) in
         let number : length table ≡ suc st.extra = st.holds.counted ∙ ap suc st.counted in
@@ -87,7 +87,7 @@ module _ {image : List ℕ} {store : StoreValue} {n h : ℕ} {table : List ℕ} 
         record {
           walk = (r, b) ∷ st.walk;
           extra = suc st.extra;
-          read = read_one ext_named tt range free (form_at AllHold form) tt (subst (λ k. IsStored store new (Ext n k) b) number stored);
+          read = read_one ext_named tt range free (form_at AllHold form) tt (subst (λ k. IsStored image store new (Ext n k) b) number stored);
           holds = subst (HasTable image ((r, b) ∷ st.walk) n h) (sym longer_is) (record {
             file = typed_up (r, b) st.holds.file;
             members = (λ m c x. elim (at_snoc table b m c x) [

@@ -41,6 +41,7 @@ enter_node image store n st = record {
     tells = record {
       owns = st.read.tells.owns;
       headers = st.read.tells.headers;
+      dirs = st.read.tells.dirs;
       exts = st.read.tells.exts;
       datas = st.read.tells.datas;
       used = st.read.tells.used;

@@ -84,7 +84,7 @@ module _ {image : List ℕ} {store : StoreValue} {i a b : ℕ} (begun : IsBegun 
     page_fault c f =
         form_fault page_named tt range free c (first_demanded b (page_form (block image b)) c (ap (λ x. first_cause (page_form x)) (sym is_block) ∙ f))
 
-    pub page_done : first_cause (page_form bytes) ≡ None → {new : StoreValue} → IsStored store new (Page i) b → IsBeforePage image new (i + 1) a
+    pub page_done : first_cause (page_form bytes) ≡ None → {new : StoreValue} → IsStored image store new (Page i) b → IsBeforePage image new (i + 1) a
     page_done f {new = new} stored =
         let form : AllHold (page_demands image b) = all_demanded b (page_form (block image b)) (ap (λ x. first_cause (page_form x)) (sym is_block) ∙ f) in
         record {
@@ -108,7 +108,7 @@ module _ {image : List ℕ} {store : StoreValue} {i a b : ℕ} (begun : IsBegun 
     names = sym named;
   }
 
-  pub map_ext_done : InRange (length store.owners) b → kept_at store.owners b ≡ Free → {new : StoreValue} → IsStored store new (MapExt number) b
+  pub map_ext_done : InRange (length store.owners) b → kept_at store.owners b ≡ Free → {new : StoreValue} → IsStored image store new (MapExt number) b
       → IsAtPage image new i b
   map_ext_done range free {new = new} stored = record {
     walk = (MapExt number, b) ∷ st.walk;

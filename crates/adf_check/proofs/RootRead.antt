@@ -28,7 +28,7 @@ owners_of m root = set (new_owners m) root Root
 
 -- what is kept when the root alone was read
 abbrev pub first_store : List KeptOwner → StoreValue
-first_store owners = record { owners = owners; headers = []; starts = []; exts = []; datas = []; used = 1 }
+first_store owners = record { owners = owners; headers = []; dirs = 0; starts = []; exts = []; datas = []; used = 1 }
 
 new_length : (m : ℕ) → length (new_owners m) ≡ 2 + m
 new_length m = let z : length {A = KeptOwner} (replicate m Free) ≡ m = length-replicate m Free in omega arith
@@ -41,7 +41,7 @@ new_free m b l h = grind (arith, common_steps)
 
 -- nothing is read and nothing is claimed
 new_tells : (image : List ℕ) (m : ℕ) → blocks image ≡ 2 + m
-    → StoreMatches image (record { owners = new_owners m; headers = []; starts = []; exts = []; datas = []; used = 0 }) []
+    → StoreMatches image (record { owners = new_owners m; headers = []; dirs = 0; starts = []; exts = []; datas = []; used = 0 }) []
 new_tells image m size = record {
   owns = record {
     size = new_length m ∙ sym size;
@@ -50,6 +50,7 @@ new_tells image m size = record {
     owned = (λ b lo hi h. absurd (h (new_free m b lo (omega arith))));
   };
   headers = record { count = refl; header = (λ i p s j b h. absurd h) };
+  dirs = refl;
   exts = refl;
   datas = refl;
   used = refl;
@@ -77,14 +78,14 @@ none_owned (suc m) = none_owned m
 
 pub begun_with_root : (image : List ℕ) (n : ℕ) (owners new : List KeptOwner) → IsBegun image → n ≡ blocks image → owners ≡ new_owners (n - 2)
     → new ≡ set owners (root_of image) Root → claimed_count new ≡ claimed_count owners + 1
-    → IsBeforePage image (record { owners = new; headers = []; starts = []; exts = []; datas = []; used = claimed_count new }) 0 (root_of image)
+    → IsBeforePage image (record { owners = new; headers = []; dirs = 0; starts = []; exts = []; datas = []; used = claimed_count new }) 0 (root_of image)
 begun_with_root image n owners new begun size e f count =
     let many : 4 ≤ blocks image = many_blocks image begun in
     let claimed : new ≡ owners_of (n - 2) (root_of image) = f ∙ ap (λ os. set os (root_of image) Root) e in
     let one : claimed_count new ≡ 1 = count ∙ ap (λ os. claimed_count os + 1) e ∙ ap (λ m. m + 1) (none_owned (n - 2)) in
     let kept : first_store (owners_of (n - 2) (root_of image))
-    ≡ record { owners = new; headers = []; starts = []; exts = []; datas = []; used = claimed_count new } =
-    λ i. record { owners = (sym claimed) i; headers = []; starts = []; exts = []; datas = []; used = (sym one) i } in
+    ≡ record { owners = new; headers = []; dirs = 0; starts = []; exts = []; datas = []; used = claimed_count new } =
+    λ i. record { owners = (sym claimed) i; headers = []; dirs = 0; starts = []; exts = []; datas = []; used = (sym one) i } in
     subst (λ s. IsBeforePage image s 0 (root_of image)) kept (root_read image (n - 2) (root_of image) (omega arith) refl (omega arith) (omega arith))
 
 pub root_is_free : (image : List ℕ) (n : ℕ) (owners : List KeptOwner) → IsBegun image → n ≡ blocks image → owners ≡ new_owners (n - 2)

@@ -1,10 +1,14 @@
 -- The store still matches a walk with one more member.
-use Rattle.std.proofs.Common.{◌≡◌, ℕ, suc, List, [], ◌∷◌, ◌++◌, inl, inr, ◌<◌, ◌≤◌, ◌≢◌}
+use Rattle.std.proofs.Common.{◌≡◌, ◌==◌, ℕ, suc, List, [], ◌∷◌, ◌++◌, inl, inr, ◌+◌, ◌<◌, ◌≤◌, ◌≢◌}
 use Rattle.std.proofs.Common.{length, Option, Bool, true, false, refl, sym, ap, subst, ◌∙◌, arith, set}
 use Rattle.std.specs.Prelude.{is_some}
-use Rattle.std.proofs.Common.{length-set, get_or-set_same, get_or-set_other, cond}
+use Rattle.std.specs.Int.{from_bool}
+use Rattle.std.proofs.Common.{length-set, get_or-set_same, get_or-set_other, cond, count_by}
+use Rattle.std.proofs.lemmas.List.Sums.{sum_by-append}
 use native.Mathlib.Decide.{ℕ_discrete}
+use Rattle.adf_blocks.specs.declared.layout.TheConstants.{SECONDARY_TYPE, ST_DIR}
 use Rattle.adf_blocks.specs.Sizes.{blocks}
+use Rattle.adf_volume.specs.Image.{word_in}
 use Rattle.adf_volume.specs.Lists.{At}
 use Rattle.adf_volume.specs.Walk.{Role, first, second, Has, head_count, heads, IsAbsent}
 use Rattle.adf_volume.specs.Walk.Role.{Head, Ext, Data}
@@ -14,7 +18,7 @@ use Rattle.adf_check.specs.declared.kept_owner.KeptOwner.{KeptOwner}
 use Rattle.adf_check.specs.declared.kept_owner.KeptOwner.TheVariants as kept
 use Rattle.adf_check.specs.KeptOwner.{kept_at}
 use Rattle.adf_check.specs.Store.{StoreValue, IsKept, Owns, KeepsHeaders, StoreMatches, file_blocks, next_kept}
-use Rattle.adf_check.specs.Store.{push_header, push_block, ext_file, data_file, is_below, blocks_before, stored}
+use Rattle.adf_check.specs.Store.{push_header, push_block, ext_file, data_file, is_below, is_dir_at, blocks_before, stored}
 use Rattle.adf_volume.specs.Made.{picked}
 use Rattle.adf_check.proofs.FileBlocks.{TellsFile, data_tells, ext_tells, not_below}
 
@@ -111,13 +115,27 @@ module _ (headers : List KeptHeader) (w : List (Role × ℕ)) (t : KeepsHeaders 
   }
   headers_more r b f = no_header r b (λ n p s j e. omega (arith, e)) refl
 
+-- one header more: it is counted if it is that of a directory
+pub dirs_more : (image : List ℕ) (headers : List KeptHeader) (p b : ℕ) {dirs one : ℕ} {is_dir : Bool} → dirs ≡ count_by (is_dir_at image) headers
+    → is_dir ≡ (word_in image b SECONDARY_TYPE == ST_DIR) → one ≡ from_bool is_dir
+    → dirs + one ≡ count_by (is_dir_at image) (headers ++ record { parent = p; head = b } ∷ [])
+dirs_more image headers p b {dirs = dirs} {one = one} {is_dir = is_dir} before is counts =
+    let here : one ≡ cond (word_in image b SECONDARY_TYPE == ST_DIR) 1 0 = counts ∙ number is_dir ∙ ap (λ t. cond t 1 0) is in
+    let more = sum_by-append (λ h. cond (is_dir_at image h) 1 0) headers (record { parent = p; head = b } ∷ []) in
+    omega (arith, here, before, more)
+  where
+    number : (t : Bool) → from_bool t ≡ cond t 1 0
+    number true = refl
+    number false = refl
+
 -- one member of a walk more
 pub tells_more : (image : List ℕ) (store : StoreValue) (w : List (Role × ℕ)) (r : Role) (b : ℕ) → ((n p s j : ℕ) → r ≡ Head n p s j → n ≡ suc (heads w))
     → length store.starts ≤ first r → StoreMatches image store w → 2 ≤ b → b < blocks image → kept_at store.owners b ≡ kept.Free
-    → StoreMatches image (stored store r b) ((r, b) ∷ w)
+    → StoreMatches image (stored image store r b) ((r, b) ∷ w)
 tells_more image store w r b f l t lo hi h = record {
   owns = owns_more image store.owners w t.owns r b (next_kept store r) (kept_next store w t.exts t.datas r b) lo hi h;
   headers = headers_more store.headers w t.headers r b f;
+  dirs = refl;
   exts = ap (push_block ext_file r b) t.exts;
   datas = ap (push_block data_file r b) t.datas;
   used = ap suc t.used;

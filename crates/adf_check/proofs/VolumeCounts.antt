@@ -1,5 +1,5 @@
 -- The counts of a volume are those of its tree and layout.
-use Rattle.std.proofs.Common.{◌≡◌, ℕ, suc, List, [], ◌∷◌, ◌+◌, ◌-◌, ◌<◌, length, get_or, count_by, cond, Bool, refl, sym, ap, subst, ◌∙◌, arith}
+use Rattle.std.proofs.Common.{◌≡◌, ℕ, suc, List, [], ◌∷◌, ◌+◌, ◌-◌, ◌<◌, length, count_by, cond, Bool, refl, sym, ap, subst, ◌∙◌, arith}
 use Rattle.std.specs.Prelude.{◌==◌, not}
 use Rattle.std.proofs.lemmas.List.Filters.{length-filter_both}
 use Rattle.std.proofs.lemmas.List.Sums.{length-filter, sum_by-cons}
@@ -16,12 +16,11 @@ use Rattle.adf_volume.proofs.Roles.{head_role}
 use Rattle.adf_check.specs.declared.store.KeptHeader.{KeptHeader}
 use Rattle.adf_check.specs.StoreStands.{StoreStandsFor}
 use Rattle.adf_check.specs.Reading.{StoreFits}
-use Rattle.adf_check.specs.Store.{StoreValue}
+use Rattle.adf_check.specs.Store.{StoreValue, is_dir_at}
 use Rattle.adf_check.proofs.NodeSteps.{node_here}
 use Rattle.adf_check.proofs.NumberBounds.{many_blocks}
 use Rattle.adf_check.proofs.RowLaws.{tells_begun, type_told}
-use Rattle.adf_check.proofs.NodeSteps.{at_or}
-use Rattle.adf_check.specs.Volumes.{counts_of, is_dir_at, is_directory}
+use Rattle.adf_check.specs.Volumes.{counts_of, is_directory}
 use Rattle.adf_volume.specs.declared.counts.Counts.{Counts}
 
 -- the headers of rows are blocks of the image
@@ -29,10 +28,6 @@ pub header_inside : {image : List ℕ} {store : StoreValue} → StoreFits image 
 header_inside {image = image} {store = store} st i r at =
     let x = node_here image store st.walk st.read.tells st.read.is_walk i r at in
     (in_range image st.read.is_walk (many_blocks image (tells_begun image store st)) (head_role x) r.head x.has).1
-
-pub headers_inside : (image : List ℕ) (store : StoreValue) → StoreFits image store → (i : ℕ) (d : KeptHeader) → i < length store.headers
-    → (get_or store.headers i d).head < blocks image
-headers_inside image store st i d lt = header_inside st i (get_or store.headers i d) (at_or store.headers i d lt)
 
 -- two lists of one length whose members agree have one count
 same_count : {X Y : Type 0} (f : X → Bool) (g : Y → Bool) (xs : List X) (ys : List Y) → length xs ≡ length ys

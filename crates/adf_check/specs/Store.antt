@@ -1,9 +1,11 @@
 -- The state of a check: the owner of each block, a header for each entry, and the blocks of files in two flat lists.
 -- Letters: w a walk; r, q roles; b a block; n, m nodes; p a directory's node; s a slot; j a position in a chain;
 -- k the number of a page or of a part of a file.
-use Rattle.std.specs.Prelude.{◌≡◌, ◌≢◌, ℕ, Bool, false, Option, Some, None, List, [], ◌∷◌, ◌++◌, ◌<◌, ◌≤◌, cond, is_some, nat_lt, length, set}
+use Rattle.std.specs.Prelude.{◌≡◌, ◌≢◌, ◌==◌, ℕ, Bool, false, Option, Some, None, List, [], ◌∷◌, ◌++◌, ◌<◌, ◌≤◌, cond, count_by, is_some, nat_lt, length, set}
 use Rattle.std.proofs.Common.{suc}
+use Rattle.adf_blocks.specs.declared.layout.TheConstants.{SECONDARY_TYPE, ST_DIR}
 use Rattle.adf_blocks.specs.Sizes.{blocks}
+use Rattle.adf_volume.specs.Image.{word_in}
 use Rattle.adf_volume.specs.Lists.{At}
 use Rattle.adf_volume.specs.Walk.{Role, Has, heads}
 use Rattle.adf_volume.specs.Walk.Role.{Root, Page, MapExt, Head, Ext, Data}
@@ -15,10 +17,11 @@ use Rattle.adf_check.specs.declared.store.KeptHeader.{KeptHeader}
 use Rattle.adf_check.specs.declared.store.NodeStart.{NodeStart}
 use Rattle.adf_check.specs.declared.store.Store.{Store}
 
--- the value of a store: headers of nodes 1, 2, ..; starts of nodes 0, 1, ..; the number of blocks with an owner
+-- the value of a store: headers of nodes 1, 2, ..; how many are of directories; starts of nodes 0, 1, ..; the number of blocks with an owner
 pub record StoreValue : Type 0 where
   pub owners : List KeptOwner
   pub headers : List KeptHeader
+  pub dirs : ℕ
   pub starts : List NodeStart
   pub exts : List ℕ
   pub datas : List ℕ
@@ -29,6 +32,7 @@ abbrev pub store_value : Store → StoreValue
 store_value s = record {
   owners = s.owners;
   headers = s.headers.items;
+  dirs = s.dirs;
   starts = s.starts.items;
   exts = s.exts.items;
   datas = s.datas.items;
@@ -39,6 +43,10 @@ store_value s = record {
 abbrev pub push_header : Role → ℕ → List KeptHeader → List KeptHeader
 push_header (Head n p s j) b headers = headers ++ record { parent = p; head = b } ∷ []
 push_header _ b headers = headers
+
+-- whether a kept header is that of a directory
+abbrev pub is_dir_at : List ℕ → KeptHeader → Bool
+is_dir_at image h = word_in image h.head SECONDARY_TYPE == ST_DIR
 
 -- the file of an extension block, by its role
 abbrev pub ext_file : Role → Option ℕ
@@ -77,10 +85,11 @@ next_kept store (Ext n k) = kept.Ext (length store.exts)
 next_kept store (Data n k) = kept.Data (length store.datas)
 
 -- the store after block b is read in this role
-abbrev pub stored : StoreValue → Role → ℕ → StoreValue
-stored store r b = record {
+abbrev pub stored : List ℕ → StoreValue → Role → ℕ → StoreValue
+stored image store r b = record {
   owners = set store.owners b (next_kept store r);
   headers = push_header r b store.headers;
+  dirs = count_by (is_dir_at image) (push_header r b store.headers);
   starts = store.starts;
   exts = push_block ext_file r b store.exts;
   datas = push_block data_file r b store.datas;
@@ -116,6 +125,7 @@ pub record KeepsHeaders (headers : List KeptHeader) (w : List (Role × ℕ)) : T
 pub record StoreMatches (image : List ℕ) (store : StoreValue) (w : List (Role × ℕ)) : Type 0 where
   pub owns : Owns image store.owners w
   pub headers : KeepsHeaders store.headers w
+  pub dirs : store.dirs ≡ count_by (is_dir_at image) store.headers
   pub exts : store.exts ≡ file_blocks ext_file w
   pub datas : store.datas ≡ file_blocks data_file w
   pub used : store.used ≡ length w

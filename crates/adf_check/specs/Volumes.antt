@@ -1,13 +1,11 @@
 -- The tree and layout that a checked volume stands for.
-use Rattle.std.specs.Prelude.{◌≡◌, ◌-◌, ◌==◌, ℕ, Bool, not, List, length, count_by}
-use Rattle.adf_blocks.specs.declared.layout.TheConstants.{SECONDARY_TYPE, ST_DIR}
+use Rattle.std.specs.Prelude.{◌≡◌, ◌-◌, ℕ, Bool, not, List, length, count_by}
 use Rattle.adf_tree.specs.declared.entry.Entry.{Entry}
 use Rattle.adf_tree.specs.declared.entry.Stamps.{Stamps}
 use Rattle.adf_tree.specs.Tree.{Tree, is_dir_body}
 use Rattle.adf_blocks.specs.Sizes.{blocks}
-use Rattle.adf_volume.specs.Image.{name_of, root_of, stamps_of, word_in}
+use Rattle.adf_volume.specs.Image.{name_of, root_of, stamps_of}
 use Rattle.adf_volume.specs.Layout.{Layout, owned}
-use Rattle.adf_check.specs.declared.store.KeptHeader.{KeptHeader}
 use Rattle.adf_check.specs.StoreStands.{StoreStandsFor}
 use Rattle.adf_check.specs.Reading.{StoreFits}
 use Rattle.adf_check.specs.Store.{StoreValue}
@@ -42,7 +40,3 @@ counts_of image t l = record {
   dirs = count_by is_directory t.entries;
   files = count_by (λ e. not (is_directory e)) t.entries;
 }
-
--- whether a kept header is that of a directory
-abbrev pub is_dir_at : List ℕ → KeptHeader → Bool
-is_dir_at image h = word_in image h.head SECONDARY_TYPE == ST_DIR

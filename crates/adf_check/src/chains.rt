@@ -1,10 +1,10 @@
 // Directories: the headers of each slot's chain.
 
-ghost use Rattle.adf_blocks.specs.declared.layout.TheConstants.{SLOTS};
+ghost use Rattle.adf_fields.specs.Words.{word};
 ghost use Rattle.adf_volume.specs.Fault.{IsTrueFault};
-ghost use Rattle.std.specs.Prelude.{◌≡◌, ◌≢◌, ◌<◌, ◌+◌, ◌^◌, OnOk, IfOk, IfErr};
+ghost use Rattle.std.specs.Prelude.{◌≡◌, ◌≢◌, ◌==◌, ◌<◌, ◌+◌, ◌^◌, OnOk, IfOk, IfErr};
 ghost use Rattle.adf_blocks.specs.Sizes.{blocks};
-ghost use Rattle.adf_blocks.specs.declared.layout.TheConstants.{FIRST_SLOT};
+ghost use Rattle.adf_blocks.specs.declared.layout.TheConstants.{FIRST_SLOT, SECONDARY_TYPE, SLOTS, ST_DIR};
 ghost use Rattle.adf_volume.specs.Image.{word_in};
 ghost use Rattle.adf_check.specs.Reading.{IsAtNode, IsAtSlot, IsInChain, sees_of};
 ghost use Rattle.adf_check.specs.Progress.{IsFurther, IsPaid, left};
@@ -14,7 +14,7 @@ use crate::claims::claim_named;
 use crate::kept_owner::KeptOwner;
 use crate::looks::{Looks, look};
 use crate::store::{KeptHeader, Store};
-use adf_blocks::{Cause, Directory, SLOTS, read_head};
+use adf_blocks::{Cause, Directory, Head, HeadBody, SLOTS, read_head};
 use adf_tree::{NameSet, Node};
 use adf_volume::{Fault, Image, fault_at, no_memory};
 use std::sync::ledger::Ledger;
@@ -36,6 +36,13 @@ fn kept_header(parent: Node, head: u32) -> KeptHeader
         parent: parent.0 as u32,
         head,
     }
+}
+
+// Whether a header is that of a directory.
+fn is_directory(head: &Head<'_>) -> bool
+    ensures { result ≡ (word head.now SECONDARY_TYPE == ST_DIR) }
+{
+    head.body() == HeadBody::Dir
 }
 
 // Claims and reads the header at block `b`, which `holder` points to; returns the next one of its chain, or 0.
@@ -75,6 +82,7 @@ fn read_header<L: Ledger>(
         Ok(false) => return Err(fault_at(b, Cause::SameName)),
         Err(_) => return Err(no_memory()),
     }
+    store.dirs += usize::from(is_directory(&head));
     match store.headers.push(kept_header(chain.parent, b)) {
         Ok(()) => Ok(head.next()),
         Err(_) => Err(no_memory()),

@@ -1,6 +1,6 @@
 // Checked volumes.
 
-ghost use Rattle.std.specs.Prelude.{◌≡◌, ◌+◌, ◌≤◌, ◌<◌, ◌↔◌, ℕ, [], count_by, get_or, length, IsOk, IsSome, Some, IfOk, IfSome, option_map};
+ghost use Rattle.std.specs.Prelude.{◌≡◌, ◌+◌, ◌≤◌, ◌<◌, ◌↔◌, ℕ, [], length, IsOk, IsSome, Some, IfOk, IfSome, option_map};
 ghost use Rattle.std.specs.Option.{unwrap_or};
 ghost use Rattle.std.specs.List.{All, concat};
 ghost use Rattle.adf_tree.specs.Tree.{Tree, entry, find};
@@ -9,16 +9,18 @@ ghost use Rattle.adf_volume.specs.declared.owner.Owner.{Owner};
 ghost use Rattle.adf_volume.specs.Layout.{Layout, at_node, datas_of, owned};
 ghost use Rattle.adf_volume.specs.Lists.{In};
 ghost use Rattle.adf_check.specs.Store.{store_value};
+ghost use Rattle.adf_check.specs.OwnerClass.{class_of};
 ghost use Rattle.adf_check.specs.Pieces.{bytes_of, pieces_at};
 ghost use Rattle.adf_volume.specs.Rows.{row_of_entry};
-ghost use Rattle.adf_check.specs.Volumes.{IsChecked, StandsFor, counts_of, is_dir_at};
+ghost use Rattle.adf_check.specs.Volumes.{IsChecked, StandsFor, counts_of};
 
 use crate::lookup::{block_of, find};
+use crate::owner_class::OwnerClass;
 use crate::pieces::{blocks_of, pieces_of};
 use crate::places::owner_of;
 use crate::rebuild::tree_of;
-use crate::store::{KeptHeader, Store};
-use adf_blocks::{Head, HeadBody};
+use crate::store::Store;
+use adf_blocks::Head;
 use adf_fields::NoMemory;
 use adf_tree::{Kind, Label, Name, Node, Stamps};
 use adf_volume::{Counts, Image, Owner, Pieces, Row, joined, row_of};
@@ -75,6 +77,23 @@ impl Checked<'_> {
         if b < self.image.blocks() {
             let kept = self.store.owners.get(b);
             Some(owner_of(&self.store.starts, kept))
+        } else {
+            None
+        }
+    }
+
+    /// The class of the owner of a block, without a search for its file; `None` if there is no such block.
+    pub fn owner_class(&self, b: u32) -> Option<OwnerClass>
+        ensures some { IsSome result ↔ (b < blocks self.now.image) }
+        ensures part { (t : Tree) (l : Layout) (o : Owner) → StandsFor self.now t l
+            → In (owned self.now.image l) (o, b) → result ≡ Some (class_of o) }
+        ensures boot { b < 2 → result ≡ Some OwnerClass.Boot }
+        ensures free { (t : Tree) (l : Layout) → StandsFor self.now t l → 2 ≤ b
+            → b < blocks self.now.image
+            → ((o : Owner) → In (owned self.now.image l) (o, b) → ⊥) → result ≡ Some OwnerClass.Free }
+    {
+        if b < self.image.blocks() {
+            Some(self.store.owners.get(b).class())
         } else {
             None
         }
@@ -189,31 +208,13 @@ impl Checked<'_> {
     {
         let blocks = self.image.blocks();
         let used = self.store.owners.used();
-        let dirs = count_dirs(&self.image, &self.store.headers);
         Counts {
             kind: self.image.kind(),
             blocks,
             used,
             free: blocks - 2 - used,
-            dirs,
-            files: self.store.headers.len() - dirs,
+            dirs: self.store.dirs,
+            files: self.store.headers.len() - self.store.dirs,
         }
     }
-}
-
-// The number of directories among these headers.
-#[tactic(auto, using(std::proofs::lemmas::List::Sums::count_by_more_yes, std::proofs::lemmas::List::Sums::count_by_more_no))]
-fn count_dirs(image: &Image<'_>, headers: &[KeptHeader]) -> usize
-    requires { (i : ℕ) (d : KeptHeader) → i < length headers.now
-        → (get_or headers.now i d).head < blocks image.now }
-    ensures exact { result ≡ count_by (is_dir_at image.now) headers.now }
-    ensures within { result ≤ length headers.now }
-{
-    let mut dirs = 0;
-    for header in headers {
-        if image.body(header.head) == HeadBody::Dir {
-            dirs += 1;
-        }
-    }
-    dirs
 }

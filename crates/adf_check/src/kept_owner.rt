@@ -2,6 +2,9 @@
 
 ghost use Rattle.std.specs.Prelude.{◌≡◌, ◌<◌, ◌^◌, ◌↔◌, IsTrue};
 ghost use Rattle.adf_check.specs.KeptOwner.{place_of, unpacked};
+ghost use Rattle.adf_check.specs.OwnerClass.{class_kept};
+
+use crate::owner_class::OwnerClass;
 
 /// The owner of a block by its class and its place in the list of that class: the number of a page or of a bitmap
 /// extension block, the node of a header, the place of an extension or data block among those of all files.
@@ -15,6 +18,24 @@ pub enum KeptOwner {
     Head(u32),
     Ext(u32),
     Data(u32),
+}
+
+impl KeptOwner {
+    // The class of the owner.
+    pub fn class(self) -> OwnerClass
+        ensures { result ≡ class_kept self }
+    {
+        match self {
+            KeptOwner::Free => OwnerClass::Free,
+            KeptOwner::Boot => OwnerClass::Boot,
+            KeptOwner::Root => OwnerClass::Root,
+            KeptOwner::Page(_) => OwnerClass::Page,
+            KeptOwner::MapExt(_) => OwnerClass::MapExt,
+            KeptOwner::Head(_) => OwnerClass::Head,
+            KeptOwner::Ext(_) => OwnerClass::Ext,
+            KeptOwner::Data(_) => OwnerClass::Data,
+        }
+    }
 }
 
 /// A kept owner in four bytes: its class, 0 to 7, and 8 times its place.

@@ -30,12 +30,14 @@ pub struct NodeStart {
     pub datas: u32,
 }
 
-/// The state of a check: the owner of each block, the header of each entry, and for each node, including the root, the
-/// positions of its first blocks in the lists of all extension blocks and of all data blocks.
+/// The state of a check: the owner of each block, the header of each entry, how many of them are of directories, and for
+/// each node, including the root, the positions of its first blocks in the lists of all extension blocks and of all data
+/// blocks.
 #[derive(Drop)]
 pub struct Store {
     pub owners: OwnerTable,
     pub headers: Vec<KeptHeader>,
+    pub dirs: usize,
     pub starts: Vec<NodeStart>,
     pub exts: Vec<u32>,
     pub datas: Vec<u32>,
@@ -53,6 +55,7 @@ impl Store {
         Ok(Store {
             owners,
             headers: Vec::new(alloc),
+            dirs: 0,
             starts: Vec::new(alloc),
             exts: Vec::new(alloc),
             datas: Vec::new(alloc),

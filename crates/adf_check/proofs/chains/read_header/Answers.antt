@@ -1,5 +1,7 @@
-use Rattle.std.proofs.Common.{◌≡◌, ◌+◌, ◌++◌, ◌∷◌, [], ℕ, suc, length, set, ap, refl, sym, ◌∙◌, arith, rules, true, false}
+use Rattle.std.proofs.Common.{◌≡◌, ◌==◌, ◌+◌, ◌++◌, ◌∷◌, [], ℕ, suc, length, set, ap, refl, sym, ◌∙◌, arith, rules, true, false}
 use Rattle.std.proofs.lemmas.Bool.{not-false, not-true}
+use Rattle.adf_blocks.specs.declared.layout.TheConstants.{SECONDARY_TYPE, ST_DIR}
+use Rattle.adf_fields.specs.Words.{word}
 use Rattle.adf_tree.specs.NameSet.{has}
 use Rattle.adf_tree.specs.Texts.{uppers}
 use Rattle.adf_check.specs.declared.kept_owner.KeptOwner.TheVariants as kept
@@ -7,6 +9,7 @@ use Rattle.adf_check.specs.Store.{store_value}
 use Rattle.adf_check.proofs.NumberBounds.{entry_short, parent_short}
 use Rattle.adf_check.proofs.ChainSteps.{head_named, head_fault, twice_fault, head_done}
 use Rattle.adf_check.proofs.ClaimSteps.{claim_refused}
+use Rattle.adf_check.proofs.StoreSteps.{dirs_more}
 use Rattle.adf_check.proofs.chains.read_header.Goals as goal
 
 pub returns-in_err-claim_named-clause-fault : goal.returns-in_err-claim_named-clause-fault
@@ -38,11 +41,13 @@ returns-in-Ok-push-clause-state g c =
     not-true _ (sym c.in-Ok-true.ensures.new ∙ c.in-Ok-true.field-0-test) in
     let count : c.len.result ≡ length store.headers = search rules in
     let pushed : c.push.new.self.items ≡ store.headers ++ record { parent = c.args.chain.now.parent; head = c.args.b } ∷ [] = search rules in
+    let is_dir = c.is_directory.ensures ∙ ap (λ x. word x SECONDARY_TYPE == ST_DIR) (c.in-Ok.ensures.1 ∙ c.look.ensures.block) in
     head_done c.args.seen.now c.requires.slot c.kind-kind.ensures.begun c.requires.state c.requires.some claimed.range claimed.free
     c.kind-kind.ensures.kind c.look.ensures.block c.in-Ok.ensures.0 c.in-Ok.ensures.1 c.name.ensures fresh _ c.in-Ok-true.ensures.more c.next.ensures
     (record {
       owners = claimed.ok ∙ ap (λ n. set store.owners c.args.b (kept.Head n)) (number c.requires.state.read.tells.headers.count count);
       headers = pushed;
+      dirs = dirs_more c.args.image.now store.headers c.args.chain.now.parent c.args.b c.requires.state.read.tells.dirs is_dir c.from.ensures;
       starts = refl;
       exts = refl;
       datas = refl;

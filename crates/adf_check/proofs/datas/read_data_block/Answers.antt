@@ -34,4 +34,12 @@ returns-in-Ok-clause-state g c =
     let count : c.len-place.result ≡ length c.args.store.now.datas.items = search rules in
     let pushed : c.push.new.self.items ≡ c.args.store.now.datas.items ++ c.args.b ∷ [] = search rules in
     data_done c.begun.ensures q.state q.count q.size q.enough q.inside q.holder q.named claimed.range claimed.free (search rules)
-    (record { owners = claimed.ok ∙ ap (λ i. set c.args.store.now.owners c.args.b (kept.Data i)) count; headers = refl; starts = refl; exts = refl; datas = pushed; used = claimed.count })
+    (record {
+      owners = claimed.ok ∙ ap (λ i. set c.args.store.now.owners c.args.b (kept.Data i)) count;
+      headers = refl;
+      dirs = q.state.read.tells.dirs;
+      starts = refl;
+      exts = refl;
+      datas = pushed;
+      used = claimed.count;
+    })

@@ -28,6 +28,7 @@ returns-clause-state g c =
     c.next.ensures pushed (record {
       owners = claimed.ok ∙ ap (λ i. set store.owners b (kept.Ext i)) count;
       headers = refl;
+      dirs = c.requires.state.read.tells.dirs;
       starts = refl;
       exts = longer;
       datas = refl;

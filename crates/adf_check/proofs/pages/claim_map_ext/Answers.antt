@@ -14,7 +14,7 @@ returns-clause-state g c =
     let q = c.requires in
     let claimed = c.in_ok-claim_named.ensures in
     map_ext_done c.begun.ensures q.needed q.past q.first q.state c.map_ext_named-b.ensures.exact claimed.range claimed.free
-    (record { owners = claimed.ok; headers = refl; starts = refl; exts = refl; datas = refl; used = claimed.count })
+    (record { owners = claimed.ok; headers = refl; dirs = q.state.read.tells.dirs; starts = refl; exts = refl; datas = refl; used = claimed.count })
 
 pub claim_named-requires-clause-place : goal.claim_named-requires-clause-place
 claim_named-requires-clause-place g c = omega (arith, pages_few c.args.image.now c.begun.ensures, c.requires.needed)
