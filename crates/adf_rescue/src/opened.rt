@@ -105,22 +105,18 @@ fn mend(image: &mut [u8])
     make_root(image);
 }
 
-/// The image as a rescue reads it. Where it does not begin with `DOS`, it begins with `DOS` and a type: OFS (0) if some
-/// OFS data block names a file's header that says that it is one, else FFS (1). Where its middle block is not a whole
+/// Makes an image the one that a rescue reads. Where it does not begin with `DOS`, it begins with `DOS` and a type: OFS (0) if
+/// some OFS data block names a file's header that says that it is one, else FFS (1). Where its middle block is not a whole
 /// root, by words 0 and 127 and the checksum, it has one: with words 6 to 77 as they stand, the bitmap pages that say
 /// that they are pages, and the label and the dates only if words 0 and 127 are those of a root. An image that begins
-/// with `DOS` and has a whole root stays as it is, and so does one of a length that no volume has. `NoMemory` if an
-/// allocation fails.
+/// with `DOS` and has a whole root stays as it is, and so does one of a length that no volume has.
 #[tactic(auto, using(crate::proofs::OpenedImages::opened_kept))]
-pub fn opened(alloc: Global, image: &[u8]) -> Result<Vec<u8>, NoMemory>
-    ensures { IfOk result (λ v. v.items ≡ opened image.now) }
+pub fn open(image: &mut [u8])
+    ensures { image.new ≡ opened image.old }
 {
-    let mut bytes = copied(alloc, image)?;
-    if !is_mended(image) {
-        return Ok(bytes);
+    if is_mended(image) {
+        mend(image);
     }
-    mend(&mut bytes);
-    Ok(bytes)
 }
 
 /// An image that begins with `DOS` and has a whole root is opened as it is, and so is one of another length. An opened

@@ -18,11 +18,12 @@ use adf_findings::{Opening, Survey, some_survey};
 use adf_tree::{Draft, Node};
 use std::alloc::Global;
 
-/// A rescue: the image of the new volume, and the entries that are left out, in the order of the walk: those of the
-/// survey of the image, and those of the second survey that are not known from the first.
+/// A rescue: the draft of the new volume's tree, and the number of its blocks; and the entries that are left out, in the
+/// order of the walk: those of the survey of the image, and those of the second survey that are not known from the first.
 #[derive(Drop)]
 pub struct Rescued {
-    pub image: Vec<u8>,
+    pub draft: Draft,
+    pub blocks: u32,
     pub left_out: Vec<LeftOut>,
     pub second_left_out: Vec<LeftOut>,
 }
@@ -119,21 +120,8 @@ fn stands_nothing(survey: &Survey<'_>, salvage: &Salvage, mended: bool) -> bool
     salvage.draft.len() == 0
 }
 
-// The image of a tree that fits in a volume of this many blocks.
-fn laid(alloc: Global, draft: Draft, blocks: u32) -> Result<Vec<u8>, NoMemory>
-    requires { IsBuildable draft.tree blocks }
-    ensures laid { IfOk result (λ image. IsLaid image.items draft.tree) }
-    ensures size { IfOk result (λ image. blocks_in image.items ≡ blocks) }
-{
-    let tree = draft.finish(alloc)?;
-    match build(alloc, &tree, blocks) {
-        Ok(image) => Ok(image),
-        Err(_) => Err(NoMemory),
-    }
-}
-
-/// The new volume of all that stands on a surveyed image: its whole files and its directories, in as many blocks; and
-/// what stands beside these by a second survey, if there is one, of the image with what was lost hung in it again: each
+/// What stands on a surveyed image: its whole files and its directories, as the draft of a tree that fits in as many blocks;
+/// and what stands beside these by a second survey, if there is one, of the image with what was lost hung in it again: each
 /// entry whose block no entry of the first survey has, but a file only if its data blocks are as they were given. With it
 /// come the entries that are left out. `None` if there is a finding of the first survey, or the image was mended, and nothing
 /// of the image is surveyed, or no entry stands. `NoMemory` if an allocation fails.
@@ -145,10 +133,10 @@ pub fn rescue(
 ) -> Result<Option<Rescued>, NoMemory>
     ensures none { OnLook survey.now.image (λ a fs. OnSecond (option_map (λ s. s.now.image) second.entry)
         (λ b. IfOk result (λ r. IsNone r ↔ StandsNothing a b fs mended))) }
-    ensures laid { OnLook survey.now.image (λ a _. OnSecond (option_map (λ s. s.now.image) second.entry)
-        (λ b. IfOk result (λ r. IfSome r (λ v. IsLaid v.image.items (rescued_tree a b))))) }
-    ensures size { IfOk result (λ r. IfSome r (λ v.
-        blocks_in v.image.items ≡ blocks_in survey.now.image)) }
+    ensures tree { OnLook survey.now.image (λ a _. OnSecond (option_map (λ s. s.now.image) second.entry)
+        (λ b. IfOk result (λ r. IfSome r (λ v. v.draft.tree ≡ rescued_tree a b)))) }
+    ensures size { IfOk result (λ r. IfSome r (λ v. v.blocks ≡ blocks_in survey.now.image)) }
+    ensures fits { IfOk result (λ r. IfSome r (λ v. IsBuildable v.draft.tree v.blocks)) }
     ensures left_out { OnLook survey.now.image (λ a _. OnSecond (option_map (λ s. s.now.image) second.entry)
         (λ b. IfOk result (λ r. IfSome r (λ v. v.left_out.items ≡ rescue_leaves a)))) }
     ensures second_left_out { OnLook survey.now.image (λ a _. OnSecond (option_map (λ s. s.now.image) second.entry)
@@ -163,16 +151,24 @@ pub fn rescue(
     if stands_nothing(survey, &salvage, mended) {
         return Ok(None);
     }
-    let Salvage {
-        draft,
-        left_before,
-        left_out,
-        ..
-    } = salvage;
-    let image = laid(alloc, draft, blocks)?;
     Ok(Some(Rescued {
-        image,
-        left_out: left_before,
-        second_left_out: left_out,
+        draft: salvage.draft,
+        blocks,
+        left_out: salvage.left_before,
+        second_left_out: salvage.left_out,
     }))
+}
+
+/// The new volume of a rescue: the image that is laid for a tree that fits in as many blocks. `NoMemory` if an allocation
+/// fails.
+pub fn lay(alloc: Global, draft: Draft, blocks: u32) -> Result<Vec<u8>, NoMemory>
+    requires { IsBuildable draft.tree blocks }
+    ensures laid { IfOk result (λ image. IsLaid image.items draft.tree) }
+    ensures size { IfOk result (λ image. blocks_in image.items ≡ blocks) }
+{
+    let tree = draft.finish(alloc)?;
+    match build(alloc, &tree, blocks) {
+        Ok(image) => Ok(image),
+        Err(_) => Err(NoMemory),
+    }
 }

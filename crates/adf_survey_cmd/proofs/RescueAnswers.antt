@@ -1,7 +1,8 @@
 -- What answers a rescue, and which images a tree fits only as they are.
 -- Letters: w the walk of a survey, fs its findings.
 use Rattle.std.proofs.Common.{◌≡◌, ◌≢◌, ◌∙◌, ◌∷◌, ◌++◌, ℕ, Bool, true, false, List, [], ap, refl, sym, Option, None, Some, IfSome, inl, inr, subst}
-use Rattle.std.specs.Prelude.{◌⊎◌}
+use Rattle.std.specs.Prelude.{Result, Ok, Err, is_some}
+use Rattle.std.specs.Result.{IsErrAnd}
 use Rattle.std.proofs.lemmas.Bool.{cond-false, cond-true}
 use Rattle.adf_tree.specs.Tree.{Tree}
 use Rattle.adf_volume.specs.Fits.{Fits}
@@ -15,10 +16,25 @@ use Rattle.adf_rescue.specs.declared.left_out.LeftOut.{LeftOut}
 use Rattle.adf_rescue.specs.Hung.{hung}
 use Rattle.adf_rescue.specs.Lost.{has_lost}
 use Rattle.adf_rescue.specs.Opened.{is_mended, opened}
-use Rattle.adf_rescue.specs.Rescue.{Look}
+use Rattle.adf_rescue.specs.Rescue.{HasFault, Look, StandsNothing, rescue_leaves, rescued_tree, second_leaves}
+use Rattle.adf_rescue.specs.declared.rescues.Rescued.{Rescued}
+use Rattle.adf_tree.specs.Draft.{DraftValue}
+use Rattle.adf_blocks.specs.Sizes.{blocks}
+use Rattle.adf_build.specs.Building.{IsBuildable}
+use Rattle.adf_build.specs.Laid.{IsLaid}
 use Rattle.adf_rescue.proofs.OpenedImages.{opened_kept, volumes_are_kept}
 use Rattle.adf_runs.specs.Commands.{Reply}
-use Rattle.adf_survey_cmd.specs.Rescues.{Rescues, RescuesBoth, RescuesIn, rescue_reply, second_image}
+use Rattle.adf_runs.specs.Outcomes.{EndsBy}
+use Rattle.adf_runs.specs.declared.outcome.Outcome.{Outcome}
+use Rattle.adf_runs.specs.declared.outcome.Outcome.TheVariants.{NoMemory, Refused}
+use Rattle.adf_cmd.specs.Answers.{RefusesImage}
+use Rattle.adf_cmd.specs.Refusals.{IsRefusedImage}
+use Rattle.adf_cmd.proofs.AnswerLaws.{refused_image_ends}
+use Rattle.adf_runs.proofs.Endings.{ends_weaker}
+use Rattle.adf_runs.proofs.PendingText.{appends_nil}
+use Rattle.adf_survey_cmd.specs.declared.rescuing.Prepared.{Prepared}
+use Rattle.adf_survey_cmd.specs.Prepared.{IsOpened, Prepares, prepared_reply}
+use Rattle.adf_survey_cmd.specs.Rescues.{Rescues, RescuesBoth, RescuesBy, RescuesIn, left_out_text, rescue_reply, second_image, second_text}
 
 -- what holds if there is a value holds of it
 pub if_some : {X : Type 0} (o : Option X) (x : X) (P : X → Type 0) → o ≡ Some x → IfSome o P → P x
@@ -45,13 +61,15 @@ one_hung image w fs v some is = cond-true (has_lost image w fs) (Some (hung imag
     some_image : List ℕ → Option (List ℕ)
     some_image l = Some l
 
--- no tree fits an image that is mended, or has findings as it is opened
-pub none_fits_it : (input image : List ℕ) (w : List (Role × ℕ)) (fs : List FindingValue) → image ≡ opened input → IsSurvey image w fs
-    → (is_mended input ≡ true) ⊎ (fs ≢ []) → (t : Tree) (l : Layout) → Fits input t l → ⊥
-none_fits_it input image w fs same survey (inl mended) t l fits = let kept = volumes_are_kept input t l fits in absurd cc
-none_fits_it input image w fs same survey (inr some) t l fits =
-    let as_it_is : image ≡ input = same ∙ opened_kept input (volumes_are_kept input t l fits) in
-    some (finds_none input t l w fs fits (subst (λ (i : List ℕ). IsSurvey i w fs) as_it_is survey))
+-- no tree fits an image that has a fault as it is
+pub none_fits_it : (image : List ℕ) (w : List (Role × ℕ)) (fs : List FindingValue) (mended : Bool) → mended ≡ false → IsSurvey image w fs → HasFault mended fs
+    → (t : Tree) (l : Layout) → Fits image t l → ⊥
+none_fits_it image w fs mended kept survey (inl is) t l fits = absurd cc
+none_fits_it image w fs mended kept survey (inr some) t l fits = some (finds_none image t l w fs fits survey)
+
+-- no tree fits an image that must be mended
+pub none_fits_mended : (image : List ℕ) → is_mended image ≡ true → (t : Tree) (l : Layout) → Fits image t l → ⊥
+none_fits_mended image mended t l fits = let kept = volumes_are_kept image t l fits in absurd cc
 
 -- where nothing is left out, nothing is on errors
 pub whole_reply : (image : List ℕ) (w : List (Role × ℕ)) (b : Option Look) (volume : List ℕ) (xs ys : List LeftOut) → xs ++ ys ≡ []
@@ -60,3 +78,63 @@ whole_reply image w None volume [] [] e = refl
 whole_reply image w (Some l) volume [] [] e = refl
 whole_reply image w b volume [] (y ∷ ys) e = absurd cc
 whole_reply image w b volume (x ∷ xs) ys e = absurd cc
+
+-- where something is left out, errors get lines
+pub some_reply : (image : List ℕ) (w : List (Role × ℕ)) (b : Option Look) (volume text : List ℕ) (xs ys : List LeftOut) → xs ++ ys ≢ []
+    → text ≡ left_out_text image w xs ++ second_text b ys
+    → (let some : Reply = record { status = 1; output = volume; errors = text } in some ≡ rescue_reply image w b volume xs ys)
+some_reply image w b volume text [] [] some e = absurd (some refl)
+some_reply image w b volume text [] (y ∷ ys) some e =
+    let reply : List ℕ → Reply = λ t. record { status = 1; output = volume; errors = t } in ap reply e
+some_reply image w b volume text (x ∷ xs) ys some e =
+    let reply : List ℕ → Reply = λ t. record { status = 1; output = volume; errors = t } in ap reply e
+
+-- what stands is prepared as a volume
+pub volume_prepared : (input : List ℕ) (a : Look) (b : Option Look) (fs : List FindingValue) (r : Rescued) (p : Prepared)
+    → p.draft ≡ r.draft → p.blocks ≡ r.blocks → IsBuildable r.draft.tree r.blocks → r.draft.tree ≡ rescued_tree a b → r.blocks ≡ blocks a.image
+    → r.left_out.items ≡ rescue_leaves a → r.second_left_out.items ≡ second_leaves a b
+    → ((volume : List ℕ) → prepared_reply p volume ≡ rescue_reply a.image a.walk b volume r.left_out.items r.second_left_out.items)
+    → ¬ StandsNothing a b fs (is_mended input) → Prepares (RescuesBy input a b fs) (Ok p)
+volume_prepared input a b fs r p draft number fits tree size first second told some =
+    let kept : p.draft.tree ≡ r.draft.tree = ap (λ (d : DraftValue). d.tree) draft in
+    let room : IsBuildable p.draft.tree p.blocks =
+    subst (λ (t : Tree). IsBuildable t p.blocks) (sym kept) (subst (λ (n : ℕ). IsBuildable r.draft.tree n) (sym number) fits) in (
+      room,
+      λ reply writes. inr (
+        some,
+        (
+          writes.0,
+          subst (λ (t : Tree). IsLaid writes.0 t) (kept ∙ tree) writes.1,
+          writes.2 ∙ (number ∙ size),
+          writes.3 ∙ (told writes.0 ∙ (ap (λ (xs : List LeftOut). rescue_reply a.image a.walk b writes.0 xs r.second_left_out.items) first
+              ∙ ap (rescue_reply a.image a.walk b writes.0 (rescue_leaves a)) second)),
+        ),
+      ),
+    )
+
+-- a rescue that is prepared with some answers is prepared with others that they are
+pub prepares_weaker : (few more : Reply → Type 0) (r : Result Prepared Outcome) → ((reply : Reply) → few reply → more reply)
+    → Prepares few r → Prepares more r
+prepares_weaker few more (Ok p) f h = (h.0, λ reply w. f reply (h.1 reply w))
+prepares_weaker few more (Err w) f h = (h.0, h.1, λ o. ends_weaker few more w o o f (h.2 o))
+
+-- where memory is refused, nothing is written
+pub none_prepared : (answers : Reply → Type 0) (r : Result Prepared Outcome) → IsErrAnd r (λ w. w ≡ NoMemory) → Prepares answers r
+none_prepared answers (Ok p) is = absurd is
+none_prepared answers (Err w) is = rw is (refl, refl, λ o. inl (appends_nil o))
+
+-- a refused input is answered so
+pub refusal_prepared : (answers : Reply → Type 0) (input : List ℕ) (w : Outcome) → ((reply : Reply) → RefusesImage input reply → answers reply)
+    → IsRefusedImage input w → Prepares answers (Err w)
+refusal_prepared answers input (Refused line) f h = (refl, refl, λ o. refused_image_ends (Refused line) input answers o f h)
+refusal_prepared answers input NoMemory f h = (refl, refl, λ o. refused_image_ends NoMemory input answers o f h)
+refusal_prepared answers input _ f h = absurd h
+
+-- an input is opened as the image that a rescue reads
+pub opened_so : (input image : List ℕ) (refusal : Option Outcome) → IsOpened input image refusal → image ≡ opened input
+opened_so input image None h = h.1 ∙ sym (opened_kept input h.0)
+opened_so input image (Some w) h = h.1
+
+pub mended_so : (input image : List ℕ) (refusal : Option Outcome) → IsOpened input image refusal → is_some refusal ≡ is_mended input
+mended_so input image None h = sym h.0
+mended_so input image (Some w) h = sym h.0

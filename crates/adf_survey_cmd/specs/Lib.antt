@@ -6,3 +6,5 @@ pub mod Remains
 pub mod Answers
 -- The words of the command, as its loop keeps them.
 pub mod Work
+-- Rescues, between their surveys and their volumes.
+pub mod Prepared

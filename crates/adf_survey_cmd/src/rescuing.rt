@@ -1,21 +1,24 @@
 // The new volume of all that stands on an image, and the lines of what it leaves out.
 
-ghost use Rattle.std.specs.Prelude.{◌≡◌, ◌↔◌, ◌++◌, ℕ, List, [], Option, Some, IfOk, IsTrue, OnOk, false, option_map};
+ghost use Rattle.std.specs.Prelude.{◌≡◌, ◌↔◌, ◌++◌, ℕ, List, [], Option, Some, IfOk, IsTrue, OnOk, false, is_some, option_map, true};
 ghost use Rattle.adf_tree.specs.Tree.{Tree};
 ghost use Rattle.adf_volume.specs.Fits.{Fits};
 ghost use Rattle.adf_volume.specs.Layout.{Layout};
 ghost use Rattle.adf_findings.specs.Survey.{OnSurvey};
-ghost use Rattle.adf_rescue.specs.Opened.{opened};
+ghost use Rattle.adf_build.specs.Building.{IsBuildable};
+ghost use Rattle.adf_rescue.specs.Opened.{is_mended};
 ghost use Rattle.adf_rescue.specs.Rescue.{IsSecond, Look, OnLook, OnSecond};
 ghost use Rattle.adf_cmd.specs.Refusals.{IsRefusedImage};
 ghost use Rattle.adf_runs.specs.Outcomes.{EndsBy, is_read_fault, is_write_fault};
+ghost use Rattle.adf_survey_cmd.specs.Prepared.{IsOpened, Prepares, WritesPrepared, prepared_reply};
 ghost use Rattle.adf_survey_cmd.specs.Rescues.{Rescues, RescuesBoth, RescuesBy, left_out_line, left_out_text, rescue_reply, second_text, why_text};
 
 use crate::runs::push_path;
 use adf_cmd::volume_of;
 use adf_findings::{Survey, some_survey, survey};
-use adf_rescue::{LeftOut, Rescued, Why, hung_image, is_mended, opened_image, rescue};
+use adf_rescue::{LeftOut, Rescued, Why, hung_image, is_mended, lay, open_image, rescue};
 use adf_runs::{Outcome, Sink, write_all};
+use adf_tree::Draft;
 use std::alloc::{AllocError, Global};
 
 // Appends why an entry is left out.
@@ -99,28 +102,61 @@ fn is_whole(rescued: &Rescued) -> bool
     rescued.left_out.is_empty() && rescued.second_left_out.is_empty()
 }
 
-// Writes a new volume, and tells what it leaves out.
-fn write_rescued<W: Sink>(
+/// A rescue of which only the new volume is to be laid and written: the draft of its tree, the number of its blocks, and the
+/// lines of what it leaves out, if there are any.
+#[derive(Drop)]
+pub struct Prepared {
+    draft: Draft,
+    blocks: u32,
+    lines: Option<Vec<u8>>,
+}
+
+// The rescue, once nothing more is asked of the surveys.
+fn with_lines(
     alloc: Global,
     survey: &Survey<'_>,
     second: Option<&Survey<'_>>,
-    rescued: &Rescued,
-    output: &mut W,
-) -> Outcome
-    requires { W.has_failed output.old ≡ false }
-    ensures ends { OnSurvey survey.now.image (λ w _. OnSecond (option_map (λ s. s.now.image) second.entry) (λ b. EndsBy
-        (λ reply. reply ≡ rescue_reply survey.now.image w b rescued.now.image.items
-        rescued.now.left_out.items rescued.now.second_left_out.items)
-        result (W.held output.old) (W.held output.new))) }
+    rescued: Rescued,
+) -> Result<Prepared, AllocError>
+    ensures tree { IfOk result (λ p. p.draft ≡ rescued.draft) }
+    ensures blocks { IfOk result (λ p. p.blocks ≡ rescued.blocks) }
+    ensures reply { OnSurvey survey.now.image (λ w _. OnSecond (option_map (λ s. s.now.image) second.entry) (λ b. IfOk result (λ p.
+        (volume : List ℕ) → prepared_reply p volume ≡ rescue_reply survey.now.image w b volume
+        rescued.left_out.items rescued.second_left_out.items))) }
+{
+    let lines = if is_whole(&rescued) {
+        None
+    } else {
+        Some(left_out_lines(alloc, survey, second, &rescued)?)
+    };
+    Ok(Prepared {
+        draft: rescued.draft,
+        blocks: rescued.blocks,
+        lines,
+    })
+}
+
+// Lays and writes the volume of a prepared rescue, and tells what it leaves out.
+fn write_prepared<W: Sink>(alloc: Global, prepared: Prepared, output: &mut W) -> Outcome
+    requires works { W.has_failed output.old ≡ false }
+    requires fits { IsBuildable prepared.draft.tree prepared.blocks }
+    ensures ends { EndsBy (WritesPrepared prepared) result (W.held output.old) (W.held output.new) }
     ensures read { is_read_fault result ≡ false }
     ensures written { W.has_failed output.new ≡ is_write_fault result }
 {
-    let Ok(lines) = left_out_lines(alloc, survey, second, rescued) else {
+    let Prepared {
+        draft,
+        blocks,
+        lines,
+    } = prepared;
+    let Ok(volume) = lay(alloc, draft, blocks) else {
         return Outcome::NoMemory;
     };
-    match write_all(output, &rescued.image) {
-        Ok(()) if is_whole(rescued) => Outcome::Done,
-        Ok(()) => Outcome::LeftOut(lines),
+    match write_all(output, &volume) {
+        Ok(()) => match lines {
+            Some(lines) => Outcome::LeftOut(lines),
+            None => Outcome::Done,
+        },
         Err(_) => Outcome::WriteFault,
     }
 }
@@ -138,70 +174,99 @@ fn refuse(alloc: Global, image: &[u8]) -> Outcome
     }
 }
 
-// Rescues an input by what is found in the image that it is opened as, and in a second one, if there is one.
-fn rescue_found<W: Sink>(
+// Refuses an input of which nothing stands: as it is refused already, if it was mended.
+fn refuse_opened(alloc: Global, image: &[u8], refusal: Option<Outcome>) -> Outcome
+    requires { is_some refusal ≡ false → (t : Tree) (l : Layout) → Fits image.now t l → ⊥ }
+    ensures { (input : List ℕ) → IsOpened input image.now refusal → IsRefusedImage input result }
+{
+    match refusal {
+        Some(outcome) => outcome,
+        None => refuse(alloc, image),
+    }
+}
+
+// Prepares a rescue by what is found in the image that an input is opened as, and in a second one, if there is one. An input
+// that was mended comes with how it is refused.
+fn prepare_found(
     alloc: Global,
-    input: &[u8],
     found: &Survey<'_>,
     second: Option<&Survey<'_>>,
-    output: &mut W,
-) -> Outcome
-    requires works { W.has_failed output.old ≡ false }
-    requires opened { found.now.image ≡ opened input.now }
-    requires second { (b : Option Look) × IsSecond (option_map (λ s. s.now.image) second) b }
-    ensures ends { OnLook found.now.image (λ a fs. OnSecond (option_map (λ s. s.now.image) second.entry) (λ b.
-        EndsBy (RescuesBy input.now a b fs) result (W.held output.old) (W.held output.new))) }
-    ensures read { is_read_fault result ≡ false }
-    ensures written { W.has_failed output.new ≡ is_write_fault result }
+    refusal: Option<Outcome>,
+) -> Result<Prepared, Outcome>
+    requires { (b : Option Look) × IsSecond (option_map (λ s. s.now.image) second) b }
+    ensures { (input : List ℕ) → IsOpened input found.now.image refusal
+        → OnLook found.now.image (λ a fs. OnSecond (option_map (λ s. s.now.image) second.entry) (λ b.
+        Prepares (RescuesBy input a b fs) result)) }
 {
     found.whole_marks();
     some_survey();
-    match rescue(alloc, found, second, is_mended(input)) {
-        Ok(Some(rescued)) => write_rescued(alloc, found, second, &rescued, output),
-        Ok(None) => refuse(alloc, input),
-        Err(_) => Outcome::NoMemory,
+    match rescue(alloc, found, second, refusal.is_some())? {
+        Some(rescued) => Ok(with_lines(alloc, found, second, rescued)?),
+        None => Err(refuse_opened(alloc, found.image(), refusal)),
     }
 }
 
-// Rescues an input by what is found in the image that it is opened as, and in the hung one.
-fn rescue_hung<W: Sink>(
+// Prepares a rescue by what is found in the image that an input is opened as, and in the hung one.
+fn prepare_hung(
     alloc: Global,
-    input: &[u8],
     found: &Survey<'_>,
     hung: &[u8],
-    output: &mut W,
-) -> Outcome
-    requires works { W.has_failed output.old ≡ false }
-    requires opened { found.now.image ≡ opened input.now }
-    ensures ends { OnLook found.now.image (λ a fs.
-        EndsBy (RescuesBoth input.now a (Some hung.now) fs) result (W.held output.old) (W.held output.new)) }
-    ensures read { is_read_fault result ≡ false }
-    ensures written { W.has_failed output.new ≡ is_write_fault result }
+    refusal: Option<Outcome>,
+) -> Result<Prepared, Outcome>
+    ensures { (input : List ℕ) → IsOpened input found.now.image refusal
+        → OnLook found.now.image (λ a fs. Prepares (RescuesBoth input a (Some hung.now) fs) result) }
 {
-    let Ok(second) = survey(alloc, hung) else {
-        return Outcome::NoMemory;
-    };
+    let second = survey(alloc, hung)?;
     second.whole_marks();
-    rescue_found(alloc, input, found, Some(&second), output)
+    prepare_found(alloc, found, Some(&second), refusal)
 }
 
-// Rescues an input by the image that it is opened as.
-fn rescue_opened<W: Sink>(alloc: Global, input: &[u8], image: &[u8], output: &mut W) -> Outcome
-    requires works { W.has_failed output.old ≡ false }
-    requires opened { image.now ≡ opened input.now }
-    ensures ends { EndsBy (Rescues input.now) result (W.held output.old) (W.held output.new) }
-    ensures read { is_read_fault result ≡ false }
-    ensures written { W.has_failed output.new ≡ is_write_fault result }
+// Prepares a rescue by the image that an input is opened as.
+fn prepare_opened(
+    alloc: Global,
+    image: &[u8],
+    refusal: Option<Outcome>,
+) -> Result<Prepared, Outcome>
+    ensures { (input : List ℕ) → IsOpened input image.now refusal → Prepares (Rescues input) result }
 {
-    let Ok(found) = survey(alloc, image) else {
-        return Outcome::NoMemory;
-    };
+    let found = survey(alloc, image)?;
     found.whole_marks();
-    match hung_image(alloc, &found) {
-        Ok(Some(hung)) => rescue_hung(alloc, input, &found, &hung, output),
-        Ok(None) => rescue_found(alloc, input, &found, None, output),
-        Err(_) => Outcome::NoMemory,
+    match hung_image(alloc, &found)? {
+        Some(hung) => prepare_hung(alloc, &found, &hung, refusal),
+        None => prepare_found(alloc, &found, None, refusal),
     }
+}
+
+// Mends an input, and prepares its rescue.
+fn prepare_mended(alloc: Global, image: &mut [u8]) -> Result<Prepared, Outcome>
+    requires { is_mended image.old ≡ true }
+    ensures { Prepares (Rescues image.old) result }
+{
+    let refusal = refuse(alloc, image);
+    open_image(image);
+    prepare_opened(alloc, image, Some(refusal))
+}
+
+// Prepares the rescue of an input.
+fn prepare(alloc: Global, input: &[u8]) -> Result<Prepared, Outcome>
+    ensures { Prepares (Rescues input.now) result }
+{
+    if !is_mended(input) {
+        return prepare_opened(alloc, input, None);
+    }
+    let mut copy = input.to_vec(alloc)?;
+    prepare_mended(alloc, &mut copy)
+}
+
+// Prepares it too, and lets the input go.
+fn prepare_read(alloc: Global, input: Vec<u8>) -> Result<Prepared, Outcome>
+    ensures { Prepares (Rescues input.items) result }
+{
+    if !is_mended(&input) {
+        return prepare_opened(alloc, &input, None);
+    }
+    let mut image = input;
+    prepare_mended(alloc, &mut image)
 }
 
 /// Writes the new volume of all that stands on an input, whose boot block and root may be overwritten, with what no directory
@@ -212,11 +277,21 @@ pub fn rescue_image<W: Sink>(alloc: Global, input: &[u8], output: &mut W) -> Out
     ensures read { is_read_fault result ≡ false }
     ensures written { W.has_failed output.new ≡ is_write_fault result }
 {
-    if !is_mended(input) {
-        return rescue_opened(alloc, input, input, output);
+    match prepare(alloc, input) {
+        Ok(prepared) => write_prepared(alloc, prepared, output),
+        Err(outcome) => outcome,
     }
-    match opened_image(alloc, input) {
-        Ok(image) => rescue_opened(alloc, input, &image, output),
-        Err(_) => Outcome::NoMemory,
+}
+
+/// Does so too, and lets the input go before the new volume is laid.
+pub fn rescue_read<W: Sink>(alloc: Global, input: Vec<u8>, output: &mut W) -> Outcome
+    requires { W.has_failed output.old ≡ false }
+    ensures ends { EndsBy (Rescues input.items) result (W.held output.old) (W.held output.new) }
+    ensures read { is_read_fault result ≡ false }
+    ensures written { W.has_failed output.new ≡ is_write_fault result }
+{
+    match prepare_read(alloc, input) {
+        Ok(prepared) => write_prepared(alloc, prepared, output),
+        Err(outcome) => outcome,
     }
 }

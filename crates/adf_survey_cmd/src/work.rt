@@ -4,14 +4,14 @@ ghost use Rattle.std.specs.Prelude.{◌≡◌, List, false, IfErr, IfOk};
 ghost use Rattle.adf_findings.specs.Survey.{OnSurvey};
 ghost use Rattle.adf_runs.specs.Outcomes.{EndsBy, is_read_fault, is_write_fault};
 ghost use Rattle.adf_runs.specs.WorkFaults.{IsNoWork};
-ghost use Rattle.adf_survey_cmd.specs.Answers.{HasBadSurveyPath, QuestionAnswer, sized};
-ghost use Rattle.adf_words.specs.SurveyLine.{QuestionValue, question_value};
-ghost use Rattle.adf_survey_cmd.specs.Work.{Answers, Shows};
+ghost use Rattle.adf_survey_cmd.specs.Answers.{HasBadSurveyPath, QuestionAnswer, SurveyAnswer, meant, sized};
+ghost use Rattle.adf_words.specs.SurveyLine.{InquiryValue, QuestionValue, question_value};
+ghost use Rattle.adf_survey_cmd.specs.Work.{Answers, Meets, Shows};
 
 use crate::copying::copy_found;
 use crate::listing::write_list;
 use crate::reporting::write_findings;
-use crate::rescuing::rescue_image;
+use crate::rescuing::{rescue_image, rescue_read};
 use adf_cmd::MOST_IMAGE_BYTES;
 use adf_fields::BLOCK_LEN;
 use adf_findings::{Survey, survey};
@@ -119,13 +119,52 @@ impl Task {
             Task::Rescue => rescue_image(alloc, image, output),
         }
     }
+
+    // Does the task with an image that was read, and lets it go where it is no longer wanted.
+    fn on_read<W: Sink>(&self, alloc: Global, image: Vec<u8>, output: &mut W) -> Outcome
+        requires { W.has_failed output.old ≡ false }
+        ensures ends { (q : QuestionValue) → Answers self.now q
+            → EndsBy (QuestionAnswer q image.items) result (W.held output.old) (W.held output.new) }
+        ensures read { is_read_fault result ≡ false }
+        ensures written { W.has_failed output.new ≡ is_write_fault result }
+    {
+        match self {
+            Task::Show(view) => view.of_image(alloc, &image, output),
+            Task::Rescue => rescue_read(alloc, image, output),
+        }
+    }
+}
+
+impl Work {
+    // The image that is meant by bytes that were read, which are let go.
+    fn image_of(&self, alloc: Global, bytes: Vec<u8>) -> Result<Vec<u8>, AllocError>
+        ensures { IfOk result (λ image. image.items ≡ meant self.now.blocks bytes.items) }
+    {
+        match self.blocks {
+            None => Ok(bytes),
+            Some(blocks) => sized(alloc, &bytes, blocks),
+        }
+    }
+
+    // Does the work on bytes that were read.
+    fn on_read<W: Sink>(&self, alloc: Global, bytes: Vec<u8>, output: &mut W) -> Outcome
+        requires { W.has_failed output.old ≡ false }
+        ensures ends { (r : InquiryValue) → Meets self.now r
+            → EndsBy (SurveyAnswer r bytes.items) result (W.held output.old) (W.held output.new) }
+        ensures read { is_read_fault result ≡ false }
+        ensures written { W.has_failed output.new ≡ is_write_fault result }
+    {
+        match self.image_of(alloc, bytes) {
+            Ok(image) => self.task.on_read(alloc, image, output),
+            Err(_) => Outcome::NoMemory,
+        }
+    }
 }
 
 impl Program for Work {
     ghost use Rattle.std.proofs.Common.{inl, refl, rules};
     ghost use Rattle.adf_survey_cmd.specs.Answers.{survey_command};
     ghost use Rattle.adf_words.specs.SurveyLine.{asked, cat};
-    ghost use Rattle.adf_survey_cmd.specs.Work.{Meets};
 
     ghost command = { survey_command };
 
@@ -152,7 +191,7 @@ impl Program for Work {
         match self.blocks {
             None => self.task.on_image(alloc, bytes, output),
             Some(blocks) => match sized(alloc, bytes, blocks) {
-                Ok(image) => self.task.on_image(alloc, &image, output),
+                Ok(image) => self.task.on_read(alloc, image, output),
                 Err(_) => Outcome::NoMemory,
             },
         }
@@ -165,7 +204,7 @@ impl Program for Work {
         output: &mut W,
     ) -> Outcome {
         match read_input(alloc, input, MOST_IMAGE_BYTES) {
-            Ok(image) => self.on(alloc, &image, output),
+            Ok(bytes) => self.on_read(alloc, bytes, output),
             Err(outcome) => outcome,
         }
     }

@@ -12,8 +12,8 @@ returns-in_default-clause-none c = λ w fs sound survey marks b is.
 pub stands_nothing-requires : goal.stands_nothing-requires
 stands_nothing-requires c = λ w fs survey none. let not = (c.in-Some.ensures.some w fs survey).1 none in absurd cc
 
-pub laid-requires : goal.laid-requires
-laid-requires c =
+pub returns-clause-fits : goal.returns-clause-fits
+returns-clause-fits c =
     let image = c.args.survey.now.image in
     buildable c.in_ok-salvage.salvage.draft.tree c.in_ok-salvage.salvage.left (blocks image) c.in-Some.opening.blocks
     (ap (λ (o : Opening). o.blocks) c.in-Some.ensures.opening) c.in-Some.ensures.size c.free_blocks-free.ensures.room c.in_ok-salvage.ensures.blocks
