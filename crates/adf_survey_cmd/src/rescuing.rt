@@ -120,8 +120,8 @@ fn with_lines(
 ) -> Result<Prepared, AllocError>
     ensures tree { IfOk result (λ p. p.draft ≡ rescued.draft) }
     ensures blocks { IfOk result (λ p. p.blocks ≡ rescued.blocks) }
-    ensures reply { OnSurvey survey.now.image (λ w _. OnSecond (option_map (λ s. s.now.image) second.entry) (λ b. IfOk result (λ p.
-        (volume : List ℕ) → prepared_reply p volume ≡ rescue_reply survey.now.image w b volume
+    ensures reply { OnSurvey survey.now.image (λ w _. OnSecond (option_map (λ s. s.now.image) second.entry)
+        (λ b. IfOk result (λ p. (volume : List ℕ) → prepared_reply p volume ≡ rescue_reply survey.now.image w b volume
         rescued.left_out.items rescued.second_left_out.items))) }
 {
     let lines = if is_whole(&rescued) {
