@@ -1,6 +1,7 @@
 // The new volume of all that stands on an image, and the lines of what it leaves out.
 
-ghost use Rattle.std.specs.Prelude.{◌≡◌, ◌↔◌, ◌++◌, ℕ, List, [], Option, Some, IfOk, IsTrue, OnOk, false, is_some, option_map, true};
+ghost use Rattle.std.specs.Prelude.{◌≡◌, ◌↔◌, ◌++◌, ℕ, List, [], false, true};
+ghost use Rattle.std.specs.Prelude.{Option, Some, IfOk, IsTrue, OnOk, is_some, option_map};
 ghost use Rattle.adf_tree.specs.Tree.{Tree};
 ghost use Rattle.adf_volume.specs.Fits.{Fits};
 ghost use Rattle.adf_volume.specs.Layout.{Layout};
