@@ -1,6 +1,7 @@
 // The new volume of all that stands on an image, and the lines of what it leaves out.
 
-ghost use Rattle.std.specs.Prelude.{◌≡◌, ◌↔◌, ◌++◌, ℕ, List, [], Option, Some, IfOk, IsTrue, OnOk, false, is_some, option_map, true};
+ghost use Rattle.std.specs.Prelude.{◌≡◌, ◌↔◌, ◌++◌, ℕ, List, [], false, true};
+ghost use Rattle.std.specs.Prelude.{Option, Some, IfOk, IsTrue, OnOk, is_some, option_map};
 ghost use Rattle.adf_tree.specs.Tree.{Tree};
 ghost use Rattle.adf_volume.specs.Fits.{Fits};
 ghost use Rattle.adf_volume.specs.Layout.{Layout};
@@ -120,8 +121,8 @@ fn with_lines(
 ) -> Result<Prepared, AllocError>
     ensures tree { IfOk result (λ p. p.draft ≡ rescued.draft) }
     ensures blocks { IfOk result (λ p. p.blocks ≡ rescued.blocks) }
-    ensures reply { OnSurvey survey.now.image (λ w _. OnSecond (option_map (λ s. s.now.image) second.entry) (λ b. IfOk result (λ p.
-        (volume : List ℕ) → prepared_reply p volume ≡ rescue_reply survey.now.image w b volume
+    ensures reply { OnSurvey survey.now.image (λ w _. OnSecond (option_map (λ s. s.now.image) second.entry)
+        (λ b. IfOk result (λ p. (volume : List ℕ) → prepared_reply p volume ≡ rescue_reply survey.now.image w b volume
         rescued.left_out.items rescued.second_left_out.items))) }
 {
     let lines = if is_whole(&rescued) {
