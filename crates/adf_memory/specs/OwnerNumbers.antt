@@ -2,24 +2,31 @@
 use Rattle.std.specs.Prelude.{◌≡◌, ◌≤◌, ◌<◌, ℕ, List}
 use Rattle.adf_tree.specs.Tree.{Tree}
 use Rattle.adf_volume.specs.declared.owner.Owner.{Owner}
-use Rattle.adf_volume.specs.declared.owner.Owner.TheVariants.{Free, Boot, Root, Page, MapExt, Head, Ext, Data}
+use Rattle.adf_volume.specs.declared.owner.Owner.TheVariants as owner
 use Rattle.adf_volume.specs.Fits.{Fits}
 use Rattle.adf_volume.specs.Layout.{Layout, owned}
 use Rattle.adf_volume.specs.Lists.{In}
+use Rattle.adf_check.specs.OwnerClass.{class_of}
+use Rattle.adf_check.specs.declared.owner_class.OwnerClass.{OwnerClass}
+use Rattle.adf_check.specs.declared.owner_class.OwnerClass.TheVariants.{Free, Boot, Root, Page, MapExt, Head, Ext, Data}
+
+-- the number of a class of owners
+abbrev pub class_number : OwnerClass → ℕ
+class_number Free = 0
+class_number Boot = 1
+class_number Root = 2
+class_number Page = 3
+class_number MapExt = 4
+class_number Head = 5
+class_number Ext = 6
+class_number Data = 7
 
 -- the number of an owner
 abbrev pub owner_number : Owner → ℕ
-owner_number Free = 0
-owner_number Boot = 1
-owner_number Root = 2
-owner_number (Page i) = 3
-owner_number (MapExt i) = 4
-owner_number (Head n) = 5
-owner_number (Ext n i) = 6
-owner_number (Data n i) = 7
+owner_number o = class_number (class_of o)
 
 -- r is the number of block b's owner: of the part that has it, else of the boot blocks or of the free ones
 pub record IsOwnerNumber (image : List ℕ) (b r : ℕ) : Type 0 where
   pub part : (t : Tree) (l : Layout) (o : Owner) → Fits image t l → In (owned image l) (o, b) → r ≡ owner_number o
-  pub boot : b < 2 → r ≡ owner_number Boot
-  pub free : (t : Tree) (l : Layout) → Fits image t l → 2 ≤ b → ((o : Owner) → In (owned image l) (o, b) → ⊥) → r ≡ owner_number Free
+  pub boot : b < 2 → r ≡ owner_number owner.Boot
+  pub free : (t : Tree) (l : Layout) → Fits image t l → 2 ≤ b → ((o : Owner) → In (owned image l) (o, b) → ⊥) → r ≡ owner_number owner.Free

@@ -7,25 +7,25 @@ ghost use Rattle.adf_volume.specs.Fits.{Fits};
 ghost use Rattle.adf_volume.specs.Layout.{Layout};
 ghost use Rattle.adf_volume.specs.Start.{IsBegun};
 ghost use Rattle.adf_check.specs.Volumes.{StandsFor};
-ghost use Rattle.adf_memory.specs.OwnerNumbers.{IsOwnerNumber, owner_number};
+ghost use Rattle.adf_memory.specs.OwnerNumbers.{IsOwnerNumber, class_number};
 ghost use Rattle.adf_memory.specs.Verdicts.{IsFirstCause, IsVerdictNumber, OnFault, WantsMemory};
 
-use adf_check::{Checked, Owner, check};
+use adf_check::{Checked, OwnerClass, check};
 use std::alloc::Global;
 
-// The number of an owner's role.
-fn owner_number(owner: Owner) -> u8
-    ensures { result ≡ owner_number owner }
+// The number of a class of owners.
+fn class_number(class: OwnerClass) -> u8
+    ensures { result ≡ class_number class }
 {
-    match owner {
-        Owner::Free => 0,
-        Owner::Boot => 1,
-        Owner::Root => 2,
-        Owner::Page(_) => 3,
-        Owner::MapExt(_) => 4,
-        Owner::Head(_) => 5,
-        Owner::Ext(_, _) => 6,
-        Owner::Data(_, _) => 7,
+    match class {
+        OwnerClass::Free => 0,
+        OwnerClass::Boot => 1,
+        OwnerClass::Root => 2,
+        OwnerClass::Page => 3,
+        OwnerClass::MapExt => 4,
+        OwnerClass::Head => 5,
+        OwnerClass::Ext => 6,
+        OwnerClass::Data => 7,
     }
 }
 
@@ -35,7 +35,7 @@ fn role_of(volume: &Checked<'_>, b: u32) -> u8
     requires inside { b < blocks volume.now.image }
     ensures { IsOwnerNumber volume.now.image b result }
 {
-    owner_number(volume.owner(b).unwrap())
+    class_number(volume.owner_class(b).unwrap())
 }
 
 // Writes the roles of the first blocks, as many as there is room for.

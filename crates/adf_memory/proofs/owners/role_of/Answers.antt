@@ -3,5 +3,5 @@ use Rattle.adf_memory.proofs.owners.role_of.Goals as goal
 
 pub returns : goal.returns
 returns c =
-    role_told c.args.volume.now c.args.b c.owner_number.result c.owner.result c.unwrap.result c.requires.stands c.unwrap.ensures c.owner_number.ensures
-    c.owner.ensures.part c.owner.ensures.boot c.owner.ensures.free c.requires.inside
+    role_told c.args.volume.now c.args.b c.class_number.result c.owner_class.result c.unwrap.result c.requires.stands c.unwrap.ensures
+    c.class_number.ensures c.owner_class.ensures.part c.owner_class.ensures.boot c.owner_class.ensures.free c.requires.inside
