@@ -9,9 +9,11 @@ mod list;
 mod names;
 mod partition;
 mod place;
+mod plan;
 mod search;
 mod summed;
 mod tables;
+mod tables_out;
 
 pub use crate::disk::Disk;
 pub use crate::fault::{DiskCause, DiskFault, disk_fault};
@@ -26,5 +28,7 @@ pub use crate::layout::{
 };
 pub use crate::partition::{DriveName, Partition};
 pub use crate::place::{Place, PlaceFault};
+pub use crate::plan::{DiskPlan, PartitionPlan};
 pub use crate::search::readable_partitions;
 pub use crate::tables::{Tables, read_tables};
+pub use crate::tables_out::{planned_disks, write_tables};
