@@ -10,3 +10,4 @@ pub mod Searches
 pub mod Volumes
 pub mod Plans
 pub mod WrittenTables
+pub mod PlanTexts
