@@ -1,7 +1,8 @@
 -- A disk with the tables of a plan has its partitions.
 -- Letters: `plan` a plan, k the number of partitions before the one in block k + 1, low its lowest cylinder, ps those that are left, `done`
 -- the partitions found before.
-use Rattle.std.proofs.Common.{◌≡◌, ◌≤◌, ◌<◌, ◌+◌, ◌-◌, ◌*◌, ◌∙◌, ℕ, suc, List, [], ◌∷◌, ◌++◌, length, ap, refl, sym, subst, arith, true, false, Bool, None, Ok, Err}
+use Rattle.std.proofs.Common.{◌≡◌, ◌≤◌, ◌<◌, ◌+◌, ◌-◌, ◌*◌, ◌∙◌, ℕ, suc, List, [], ◌∷◌, ◌++◌, length, ap, refl, sym, subst, arith, true, false, Bool}
+use Rattle.std.proofs.Common.{None, Ok, Err}
 use Rattle.std.proofs.Common.{append-nil, append_assoc, length-append}
 use Rattle.std.specs.Prelude.{All, IfOk, Result, ◌&&◌, ◌==◌, not, nat_le, nat_lt, replicate}
 use Rattle.std.specs.Int.{cast_signed, w32}
@@ -10,11 +11,13 @@ use Rattle.std.proofs.lemmas.Bool.Decides.{nat_tests}
 use Rattle.std.proofs.lemmas.List.{drop_at, length_push, take_at}
 use Rattle.std.proofs.lemmas.Nat.{mul-le}
 use Rattle.adf_fields.specs.Words.{block, word}
-use Rattle.adf_partitions.specs.declared.layout.TheConstants.{BLOCK_BYTES, BLOCK_SECTORS, BOOT_PRIORITY, DOS_TYPE, ENV_BLOCK_WORDS, ENV_LENGTH, FLAGS, MARK, MOST_PARTITIONS, MOST_TABLES, NO_BLOCK}
+use Rattle.adf_partitions.specs.declared.layout.TheConstants.{BLOCK_BYTES, BLOCK_SECTORS, BOOT_PRIORITY, DOS_TYPE, ENV_BLOCK_WORDS, ENV_LENGTH, FLAGS}
+use Rattle.adf_partitions.specs.declared.layout.TheConstants.{MARK, MOST_PARTITIONS, MOST_TABLES, NO_BLOCK}
 use Rattle.adf_partitions.specs.declared.partition.Partition.{Partition}
 use Rattle.adf_partitions.specs.declared.place.Place.{Place}
 use Rattle.adf_partitions.specs.declared.place.PlaceFault.{PlaceFault}
-use Rattle.adf_partitions.specs.declared.place.PlaceFault.TheVariants.{BadName, BeyondImage, NoCylinders, OtherBlocks, OverPartition, OverTables, ShortEnvironment}
+use Rattle.adf_partitions.specs.declared.place.PlaceFault.TheVariants.{BadName, BeyondImage, NoCylinders, OtherBlocks, OverPartition, OverTables}
+use Rattle.adf_partitions.specs.declared.place.PlaceFault.TheVariants.{ShortEnvironment}
 use Rattle.adf_partitions.specs.declared.plan.PartitionPlan.{PartitionPlan}
 use Rattle.adf_partitions.specs.Disks.{IsDisk, IsFound, IsWhole, is_at, part_form}
 use Rattle.adf_partitions.specs.Disks.IsFound.{start}
@@ -70,13 +73,15 @@ pub record AreLeft (plan : PlanValue) (k low : ℕ) (ps : List PartitionPlan) : 
   pub cylinders : low + cylinders_of ps ≡ planned_cylinders plan
   pub behind : table_cylinders plan ≤ low
 
-pub left_within : (plan : PlanValue) (k low : ℕ) (p : PartitionPlan) (ps : List PartitionPlan) → AreLeft plan k low (p ∷ ps) → low + p.cylinders ≤ planned_cylinders plan
+pub left_within : (plan : PlanValue) (k low : ℕ) (p : PartitionPlan) (ps : List PartitionPlan) → AreLeft plan k low (p ∷ ps)
+    → low + p.cylinders ≤ planned_cylinders plan
 left_within plan k low p ps l = omega (arith, l.cylinders, cylinders_more p ps)
 
 pub left_first : (plan : PlanValue) (k low : ℕ) (p : PartitionPlan) (ps : List PartitionPlan) → AreLeft plan k low (p ∷ ps) → IsPartitionPlan p
 left_first plan k low p ps l = l.fit 0 p (omega arith)
 
-pub left_rest : (plan : PlanValue) (k low : ℕ) (p : PartitionPlan) (ps : List PartitionPlan) → AreLeft plan k low (p ∷ ps) → AreLeft plan (k + 1) (low + p.cylinders) ps
+pub left_rest : (plan : PlanValue) (k low : ℕ) (p : PartitionPlan) (ps : List PartitionPlan) → AreLeft plan k low (p ∷ ps)
+    → AreLeft plan (k + 1) (low + p.cylinders) ps
 left_rest plan k low p ps l = record {
   fit = λ i d lt. l.fit (suc i) d (omega arith);
   count = omega (arith, l.count);

@@ -1,12 +1,14 @@
 -- The sizes of written tables, and the volumes behind them.
 -- Letters: as in proofs/PlannedDisk; c the blocks of a cylinder, vs the volumes of ps.
-use Rattle.std.proofs.Common.{◌≡◌, ◌≤◌, ◌+◌, ◌-◌, ◌*◌, ◌∙◌, ℕ, List, [], ◌∷◌, ◌++◌, length, ap, refl, sym, subst, arith, append-nil, append_assoc, drop, take, length-append}
+use Rattle.std.proofs.Common.{◌≡◌, ◌≤◌, ◌+◌, ◌-◌, ◌*◌, ◌∙◌, ℕ, List, [], ◌∷◌, ◌++◌, length, ap, refl, sym, subst, arith, append-nil, append_assoc}
+use Rattle.std.proofs.Common.{drop, take, length-append}
 use Rattle.std.specs.Prelude.{replicate, slice_range}
 use Rattle.std.specs.List.{flat_map}
 use Rattle.std.proofs.lemmas.List.{drop_all, drop_at, length-replicate, take_all, take_at}
 use Rattle.adf_partitions.specs.declared.plan.PartitionPlan.{PartitionPlan}
 use Rattle.adf_partitions.specs.Places.{blocks_from, end_of}
-use Rattle.adf_partitions.specs.Plans.{PlanValue, AreVolumes, IsPlan, StandInPlaces, cylinder_blocks, cylinders_of, partitions_from, planned_blocks, planned_partitions}
+use Rattle.adf_partitions.specs.Plans.{PlanValue, AreVolumes, IsPlan, StandInPlaces, cylinder_blocks, cylinders_of, partitions_from, planned_blocks}
+use Rattle.adf_partitions.specs.Plans.{planned_partitions}
 use Rattle.adf_partitions.specs.Plans.{table_cylinders}
 use Rattle.adf_partitions.specs.WrittenTables.{disk_bytes, part_block, part_blocks, rdsk_block, table_bytes, written_bytes}
 use Rattle.adf_partitions.proofs.PlanSizes.{tables_hold}
@@ -33,7 +35,8 @@ length_table_bytes plan h =
     let left = (table_cylinders plan * cylinder_blocks plan - (length plan.partitions + 1)) * 512 in
     omega (arith, length_written_bytes plan h, tables_hold plan h, length-append (written_bytes plan) (replicate left 0), length-replicate {A = ℕ} left 0)
 
-length_volumes : (c : ℕ) (ps : List PartitionPlan) (vs : List (List ℕ)) → AreVolumes c ps vs → length (flat_map (λ (v : List ℕ). v) vs) ≡ cylinders_of ps * c * 512
+length_volumes : (c : ℕ) (ps : List PartitionPlan) (vs : List (List ℕ)) → AreVolumes c ps vs
+    → length (flat_map (λ (v : List ℕ). v) vs) ≡ cylinders_of ps * c * 512
 unfolding cylinders_of
 length_volumes c [] [] h = omega arith
 length_volumes c (p ∷ ps) (v ∷ vs) h =
@@ -91,7 +94,8 @@ parts_end plan ps i low bytes all le h =
     sym (append-nil bytes) ∙ ap (λ (k : List PartitionPlan). bytes ++ part_blocks plan (i + 1) low k) (sym (drop_all i ps le)) ∙ h
 
 -- the tables behind the blocks that have words
-pub zeros_put : (plan : PlanValue) → IsPlan plan → (bytes : List ℕ) (n m : ℕ) → bytes ≡ written_bytes plan → m ≡ length bytes → n ≡ table_cylinders plan * cylinder_blocks plan * 512
+pub zeros_put : (plan : PlanValue) → IsPlan plan → (bytes : List ℕ) (n m : ℕ) → bytes ≡ written_bytes plan → m ≡ length bytes
+    → n ≡ table_cylinders plan * cylinder_blocks plan * 512
     → take n bytes ++ replicate (n - m) 0 ≡ table_bytes plan
 unfolding table_bytes
 zeros_put plan h bytes n m e all is =

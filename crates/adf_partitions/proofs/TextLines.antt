@@ -9,7 +9,8 @@ use Rattle.adf_partitions.specs.declared.plan.PartitionPlan.{PartitionPlan}
 use Rattle.adf_partitions.specs.declared.plan_text.TextFault.{TextFault}
 use Rattle.adf_partitions.specs.declared.plan_text.TextKind.{TextKind}
 use Rattle.adf_partitions.specs.Plans.{IsPartitionPlan, IsPlan, PlanValue, cylinder_blocks, planned_blocks}
-use Rattle.adf_partitions.specs.PlanTexts.{AreLines, IsDiskLine, IsEndFault, IsTextFault, IsPartitionLine, IsPartitionText, Stops, before, behind, behind_line, behind_word, first_line, has_volume, is_plan}
+use Rattle.adf_partitions.specs.PlanTexts.{AreLines, IsDiskLine, IsEndFault, IsTextFault, IsPartitionLine, IsPartitionText, Stops, before, behind}
+use Rattle.adf_partitions.specs.PlanTexts.{behind_line, behind_word, first_line, has_volume, is_plan}
 use Rattle.adf_partitions.proofs.NumberTests.{le_of, lt_of}
 
 -- no line of a partition is empty

@@ -58,7 +58,8 @@ module _ (fs : List Field) (d : Descends 256 fs) where
   text_written at bs h above =
       let n = whole in
       let there = field_there 512 fs (at, text bs) (omega arith) (fits_block fs d) h in
-      let kept = range-with_bytes_above (block_of_fields fs) (4 * CHECKSUM) (long (checksum CHECKSUM (block_of_fields fs))) at (at + length (text bs)) (omega arith)
+      let kept = range-with_bytes_above (block_of_fields fs) (4 * CHECKSUM) (long (checksum CHECKSUM (block_of_fields fs))) at (at + length
+      (text bs)) (omega arith)
       (omega (arith, length-big_bytes 4 (checksum CHECKSUM (block_of_fields fs)))) in
       text_reads bs (sealed CHECKSUM (block_of_fields fs)) at (kept ∙ there)
 

@@ -18,7 +18,8 @@ use Rattle.adf_partitions.specs.Partitions.{has_name, name_at}
 use Rattle.adf_partitions.specs.Places.{blocks_from, has_cylinders, place_of}
 use Rattle.adf_partitions.specs.Plans.{PlanValue, IsPartitionPlan, IsPlan, cylinder_blocks, planned_cylinders, planned_flags, planned_type, table_cylinders}
 use Rattle.adf_partitions.specs.Summed.{is_summed}
-use Rattle.adf_partitions.specs.WrittenTables.{block_after, environment, kept_words, part_block, part_table, part_words, planned_tables, rdsk_block, rdsk_table, rdsk_words}
+use Rattle.adf_partitions.specs.WrittenTables.{block_after, environment, kept_words, part_block, part_table, part_words, planned_tables, rdsk_block}
+use Rattle.adf_partitions.specs.WrittenTables.{rdsk_table, rdsk_words}
 use Rattle.adf_partitions.proofs.NumberTests.{of_le}
 use Rattle.adf_partitions.proofs.PlanSizes.{blocks_fit, cylinders_fit, heads_fit, sectors_fit, some_blocks}
 use Rattle.adf_partitions.proofs.WrittenBlocks.{is_summed_written, length_written, sum_written, text_written, word_written}
@@ -88,7 +89,8 @@ flags_fit true = omega arith
 flags_fit false = omega arith
 
 -- the block of a partition on cylinders of the plan
-module _ (plan : PlanValue) (h : IsPlan plan) (b low : ℕ) (p : PartitionPlan) (fits : IsPartitionPlan p) (within : low + p.cylinders ≤ planned_cylinders plan) where
+module _ (plan : PlanValue) (h : IsPlan plan) (b low : ℕ) (p : PartitionPlan) (fits : IsPartitionPlan p)
+    (within : low + p.cylinders ≤ planned_cylinders plan) where
   part_descends : Descends 256 (part_table plan b low p)
   part_descends = search (arith, fits.short)
 
@@ -115,27 +117,33 @@ module _ (plan : PlanValue) (h : IsPlan plan) (b low : ℕ) (p : PartitionPlan) 
 
   pub part-flags : word (part_block plan b low p) FLAGS ≡ planned_flags p
   unfolding part_block
-  part-flags = word_written (part_table plan b low p) part_descends MARK 5 (part_words plan b p) (search rules) (omega arith) (omega arith) (flags_fit p.bootable)
+  part-flags = word_written (part_table plan b low p) part_descends MARK 5 (part_words plan b p)
+      (search rules) (omega arith) (omega arith) (flags_fit p.bootable)
 
   part-length : word (part_block plan b low p) ENV_LENGTH ≡ 16
   unfolding part_block
-  part-length = word_written (part_table plan b low p) part_descends ENV_LENGTH 0 (environment plan low p) (search rules) (omega arith) (omega arith) (omega arith)
+  part-length = word_written (part_table plan b low p) part_descends ENV_LENGTH 0 (environment plan low p)
+      (search rules) (omega arith) (omega arith) (omega arith)
 
   part-block_words : word (part_block plan b low p) ENV_BLOCK_WORDS ≡ 128
   unfolding part_block
-  part-block_words = word_written (part_table plan b low p) part_descends ENV_LENGTH 1 (environment plan low p) (search rules) (omega arith) (omega arith) (omega arith)
+  part-block_words = word_written (part_table plan b low p) part_descends ENV_LENGTH 1 (environment plan low p)
+      (search rules) (omega arith) (omega arith) (omega arith)
 
   part-surfaces : word (part_block plan b low p) SURFACES ≡ plan.heads
   unfolding part_block
-  part-surfaces = word_written (part_table plan b low p) part_descends ENV_LENGTH 3 (environment plan low p) (search rules) (omega arith) (omega arith) (heads_fit plan h)
+  part-surfaces = word_written (part_table plan b low p) part_descends ENV_LENGTH 3 (environment plan low p)
+      (search rules) (omega arith) (omega arith) (heads_fit plan h)
 
   part-sectors : word (part_block plan b low p) BLOCK_SECTORS ≡ 1
   unfolding part_block
-  part-sectors = word_written (part_table plan b low p) part_descends ENV_LENGTH 4 (environment plan low p) (search rules) (omega arith) (omega arith) (omega arith)
+  part-sectors = word_written (part_table plan b low p) part_descends ENV_LENGTH 4 (environment plan low p)
+      (search rules) (omega arith) (omega arith) (omega arith)
 
   part-track : word (part_block plan b low p) TRACK_BLOCKS ≡ plan.sectors
   unfolding part_block
-  part-track = word_written (part_table plan b low p) part_descends ENV_LENGTH 5 (environment plan low p) (search rules) (omega arith) (omega arith) (sectors_fit plan h)
+  part-track = word_written (part_table plan b low p) part_descends ENV_LENGTH 5 (environment plan low p)
+      (search rules) (omega arith) (omega arith) (sectors_fit plan h)
 
   part-low : word (part_block plan b low p) LOW_CYLINDER ≡ low
   unfolding part_block
@@ -149,12 +157,14 @@ module _ (plan : PlanValue) (h : IsPlan plan) (b low : ℕ) (p : PartitionPlan) 
 
   pub part-type : word (part_block plan b low p) DOS_TYPE ≡ planned_type p.kind
   unfolding part_block
-  part-type = word_written (part_table plan b low p) part_descends ENV_LENGTH 16 (environment plan low p) (search rules) (omega arith) (omega arith) (types_fit p.kind)
+  part-type = word_written (part_table plan b low p) part_descends ENV_LENGTH 16 (environment plan low p)
+      (search rules) (omega arith) (omega arith) (types_fit p.kind)
 
   pub part_priority : cast_signed w32 (word (part_block plan b low p) BOOT_PRIORITY) ≡ p.priority
   unfolding part_block
   part_priority =
-      ap (cast_signed w32) (word_written (part_table plan b low p) part_descends ENV_LENGTH 15 (environment plan low p) (search rules) (omega arith) (omega arith)
+      ap (cast_signed w32) (word_written (part_table plan b low p) part_descends ENV_LENGTH 15 (environment plan low p)
+      (search rules) (omega arith) (omega arith)
       (unsigned_fits p.priority fits.priority))
       ∙ to_z-of_z w32 p.priority (wide p.priority fits.priority)
 

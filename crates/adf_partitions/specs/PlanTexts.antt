@@ -1,6 +1,7 @@
 -- The text of a plan: lines, each ended by a line feed, of words with a space between them. `left` is what is left of a text from a
 -- line on, ps are partitions.
-use Rattle.std.specs.Prelude.{◌≡◌, ◌≢◌, ◌≤◌, ◌⊎◌, ◌+◌, ◌-◌, ◌*◌, ◌^◌, ◌==◌, ◌&&◌, ◌||◌, ℕ, ℤ, pos, neg_ℤ, nat_le, nat_lt, Bool, FitsSigned, true, false, List, [], ◌∷◌, codes}
+use Rattle.std.specs.Prelude.{◌≡◌, ◌≢◌, ◌≤◌, ◌⊎◌, ◌+◌, ◌-◌, ◌*◌, ◌^◌, ◌==◌, ◌&&◌, ◌||◌, ℕ, ℤ, pos, neg_ℤ, nat_le, nat_lt, Bool, FitsSigned, true}
+use Rattle.std.specs.Prelude.{false, List, [], ◌∷◌, codes}
 use Rattle.std.specs.Prelude.{Option, Some, None, if◌then◌else◌, length}
 use Rattle.std.specs.Int.{w8}
 use Rattle.std.specs.List.{list_all}
@@ -84,7 +85,8 @@ without_priority text = if has_word (codes "priority") text then behind_word (be
 abbrev pub options_with : Bool → Option ℤ → List ℕ → Option Options
 options_with bootable None text = None
 options_with bootable (Some priority) text =
-    if bytes_eq (without_word (codes "given") text) [] then Some (record { bootable = bootable; priority = priority; given = has_word (codes "given") text }) else None
+    if bytes_eq (without_word (codes "given") text) []
+    then Some (record { bootable = bootable; priority = priority; given = has_word (codes "given") text }) else None
 
 -- the options `bootable`, `priority P` and `given`, each of which may be left out
 abbrev pub options_of : List ℕ → Option Options
