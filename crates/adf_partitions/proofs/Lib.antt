@@ -5,3 +5,11 @@ pub mod TablesEnough
 pub mod VolumesApart
 pub mod NumberTests
 pub mod Searches
+pub mod PlanSizes
+pub mod Cuts
+pub mod TextLines
+pub mod OnePlan
+pub mod WrittenBlocks
+pub mod WrittenTables
+pub mod PlannedDisk
+pub mod PlannedVolumes

@@ -7,6 +7,9 @@ use Rattle.adf_partitions.specs.declared.fault.DiskFault.{DiskFault}
 use Rattle.adf_partitions.specs.declared.place.PlaceFault.{PlaceFault}
 use Rattle.adf_partitions.specs.declared.place.PlaceFault.TheVariants.{ShortEnvironment, OtherBlocks, NoCylinders, BeyondImage}
 use Rattle.adf_partitions.specs.declared.place.PlaceFault.TheVariants.{OverTables, OverPartition, BadName}
+use Rattle.adf_partitions.specs.declared.plan_text.TextFault.{TextFault}
+use Rattle.adf_partitions.specs.declared.plan_text.TextKind.{TextKind}
+use Rattle.adf_partitions.specs.declared.plan_text.TextKind.TheVariants.{BadLine, NoEnd, TooLarge, NoMemory as OutOfMemory}
 
 -- what is wrong with a disk
 abbrev pub disk_cause_text : DiskCause → List ℕ
@@ -53,3 +56,14 @@ place_fault_number BeyondImage = 4
 place_fault_number OverTables = 5
 place_fault_number OverPartition = 6
 place_fault_number BadName = 7
+
+-- what is wrong with the text of a plan
+abbrev pub text_kind_text : TextKind → List ℕ
+text_kind_text BadLine = codes "bad line"
+text_kind_text NoEnd = codes "no end"
+text_kind_text TooLarge = codes "too large"
+text_kind_text OutOfMemory = codes "no memory"
+
+-- the line and what is wrong
+abbrev pub text_fault_text : TextFault → List ℕ
+text_fault_text f = codes "line " ++ (decimal f.line ++ (codes ": " ++ text_kind_text f.kind))

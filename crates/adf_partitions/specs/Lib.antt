@@ -8,3 +8,6 @@ pub mod Partitions
 pub mod Disks
 pub mod Searches
 pub mod Volumes
+pub mod Plans
+pub mod WrittenTables
+pub mod PlanTexts

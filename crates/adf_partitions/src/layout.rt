@@ -24,11 +24,20 @@ pub const MARK: usize = 0;
 /// The word that counts the words of the sum.
 pub const SUMMED_LONGS: usize = 1;
 
+/// The word that makes the sum 0.
+pub const CHECKSUM: usize = 2;
+
+/// The words of the sum in a block that is written.
+pub const WRITTEN_LONGS: u32 = 64;
+
 /// The word of a rigid disk block that has the bytes of a block.
 pub const BLOCK_BYTES: usize = 4;
 
 /// The word of a rigid disk block that names the first partition block.
 pub const FIRST_PART: usize = 7;
+
+/// The word of a rigid disk block that counts the cylinders of the drive.
+pub const CYLINDERS: usize = 16;
 
 /// The word of a rigid disk block that has the lowest block kept for the tables.
 pub const LOWEST_TABLE: usize = 32;

@@ -9,9 +9,14 @@ mod list;
 mod names;
 mod partition;
 mod place;
+mod plan;
+mod plan_line;
+mod plan_text;
+mod plan_words;
 mod search;
 mod summed;
 mod tables;
+mod tables_out;
 
 pub use crate::disk::Disk;
 pub use crate::fault::{DiskCause, DiskFault, disk_fault};
@@ -26,5 +31,8 @@ pub use crate::layout::{
 };
 pub use crate::partition::{DriveName, Partition};
 pub use crate::place::{Place, PlaceFault};
+pub use crate::plan::{DiskPlan, PartitionPlan};
+pub use crate::plan_text::{TextFault, TextKind, one_text, read_plan};
 pub use crate::search::readable_partitions;
 pub use crate::tables::{Tables, read_tables};
+pub use crate::tables_out::{planned_disks, write_tables};

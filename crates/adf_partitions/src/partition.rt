@@ -43,8 +43,8 @@ fn name_in(p: &Block<'_>) -> DriveName
     DriveName::new(p.bytes(DRIVE_NAME + 1, len)).unwrap()
 }
 
-// Whether no byte is `:` or `/`.
-fn are_name_bytes(bytes: &[u8]) -> bool
+/// Whether no byte is `:` or `/`.
+pub fn are_name_bytes(bytes: &[u8]) -> bool
     ensures { result ≡ list_all is_name_byte bytes.now }
 {
     bytes.iter().all(|c| *c != b':' && *c != b'/')

@@ -110,8 +110,8 @@ pub fn changed(b: u32, words: &[(usize, u32)]) -> Tables {
     tables
 }
 
-// Whether a partition has this block, name, flags, priority, type and place.
-fn is_partition(
+/// Whether a partition has this block, name, flags, priority, type and place.
+pub fn is_partition(
     partition: Option<&Partition>,
     numbers: (u32, u32, i32, u32),
     name: &[u8],

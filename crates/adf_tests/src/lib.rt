@@ -12,4 +12,6 @@ mod images_in_memory;
 #[cfg(test)]
 mod memory;
 #[cfg(test)]
+mod planned_disks;
+#[cfg(test)]
 mod shelf;

@@ -1,0 +1,93 @@
+-- Texts that are read byte after byte. xs is a text, i the number of bytes that were read, x the next one.
+use Rattle.std.proofs.Common.{◌≡◌, ◌≢◌, ◌<◌, ◌≤◌, ◌+◌, ◌-◌, ◌*◌, ◌∙◌, ℕ, suc, Bool, true, false, List, [], ◌∷◌, ◌++◌, Some, None, length, get_or}
+use Rattle.std.proofs.Common.{take, drop, ap, refl, sym, arith}
+use Rattle.std.proofs.Common.{append-nil, append_assoc, length-drop}
+use Rattle.std.specs.Prelude.{◌==◌, ◌&&◌, nat_le, if◌then◌else◌}
+use Rattle.std.proofs.lemmas.Bool.Decides.{nat_tests}
+use Rattle.std.proofs.lemmas.List.{drop_all, take_all, take_more}
+use Rattle.std.proofs.Math.Seq.{drop-cons}
+use Rattle.adf_partitions.specs.PlanTexts.{before, behind, number_from, number_of}
+use Rattle.adf_partitions.specs.declared.plan_words.TheConstants.{MOST_NUMBER}
+
+-- what is left from a byte on
+pub left_at : (xs : List ℕ) (i x : ℕ) → i < length xs → x ≡ get_or xs i 0 → drop i xs ≡ x ∷ drop (i + 1) xs
+left_at xs i x lt e =
+    let next : suc i ≡ i + 1 = omega arith in
+    drop-cons xs i 0 lt ∙ ap (λ y. y ∷ drop (suc i) xs) (sym e) ∙ ap (λ k. x ∷ drop k xs) next
+
+module _ (c : ℕ) (xs : List ℕ) (i : ℕ) where
+  -- the cut of a text is that of what is left of it
+  pub record IsCutLater : Type 0 where
+    pub front : before c xs ≡ take i xs ++ before c (drop i xs)
+    pub rest : behind c xs ≡ behind c (drop i xs)
+
+pub cut_begun : (c : ℕ) (xs : List ℕ) → IsCutLater c xs 0
+cut_begun c xs = record { front = refl; rest = refl }
+
+front_other : (c x : ℕ) (xs : List ℕ) → (x == c) ≡ false → (before c (x ∷ xs) ≡ x ∷ before c xs) × (behind c (x ∷ xs) ≡ behind c xs)
+unfolding before behind
+front_other c x xs h = (ap (λ b. if b then [] else x ∷ before c xs) h, ap (λ b. if b then xs else behind c xs) h)
+
+front_same : (c x : ℕ) (xs : List ℕ) → (x == c) ≡ true → (before c (x ∷ xs) ≡ []) × (behind c (x ∷ xs) ≡ xs)
+unfolding before behind
+front_same c x xs h = (ap (λ b. if b then [] else x ∷ before c xs) h, ap (λ b. if b then xs else behind c xs) h)
+
+pub cut_past : (c : ℕ) (xs : List ℕ) (i x : ℕ) → IsCutLater c xs i → i < length xs → x ≡ get_or xs i 0 → x ≢ c → IsCutLater c xs (i + 1)
+cut_past c xs i x h lt e ne =
+    let other : (x == c) ≡ false = grind (arith, nat_tests) in
+    let at = left_at xs i x lt e in
+    let past = front_other c x (drop (i + 1) xs) other in
+    let more : take (i + 1) xs ≡ take i xs ++ x ∷ [] = take_more xs i 0 lt ∙ ap (λ y. take i xs ++ y ∷ []) (sym e) in
+    record {
+      front = h.front ∙ ap (λ ys. take i xs ++ before c ys) at ∙ ap (λ ys. take i xs ++ ys) past.0
+          ∙ sym (append_assoc (take i xs) (x ∷ []) (before c (drop (i + 1) xs))) ∙ ap (λ ys. ys ++ before c (drop (i + 1) xs)) (sym more);
+      rest = h.rest ∙ ap (behind c) at ∙ past.1;
+    }
+
+pub cut_there : (c : ℕ) (xs : List ℕ) (i x : ℕ) → IsCutLater c xs i → i < length xs → x ≡ get_or xs i 0 → x ≡ c
+    → (take i xs ≡ before c xs) × (drop (i + 1) xs ≡ behind c xs)
+cut_there c xs i x h lt e is =
+    let same : (x == c) ≡ true = grind (arith, nat_tests) in
+    let at = left_at xs i x lt e in
+    let there = front_same c x (drop (i + 1) xs) same in (
+      sym (h.front ∙ ap (λ ys. take i xs ++ before c ys) at ∙ ap (λ ys. take i xs ++ ys) there.0 ∙ append-nil (take i xs)),
+      sym (h.rest ∙ ap (behind c) at ∙ there.1),
+    )
+
+pub cut_nowhere : (c : ℕ) (xs : List ℕ) (i : ℕ) → IsCutLater c xs i → length xs ≤ i → (xs ≡ before c xs) × ([] ≡ behind c xs)
+unfolding before behind
+cut_nowhere c xs i h le =
+    let none = drop_all i xs le in
+    (sym (h.front ∙ ap (λ ys. take i xs ++ before c ys) none ∙ append-nil (take i xs) ∙ take_all i xs le), sym (h.rest ∙ ap (behind c) none))
+
+-- the number of a text is that of what is left of it
+module _ (xs : List ℕ) (i n x : ℕ) (h : number_from n (drop i xs) ≡ number_of xs) (lt : i < length xs) (e : x ≡ get_or xs i 0) where
+  number_next : (b : Bool) → (nat_le 48 x && nat_le x 57 && nat_le (10 * n + (x - 48)) MOST_NUMBER) ≡ b
+      → number_of xs ≡ (if b then number_from (10 * n + (x - 48)) (drop (i + 1) xs) else None)
+  unfolding number_from
+  number_next b test = sym h ∙ ap (number_from n) (left_at xs i x lt e)
+      ∙ ap (λ t. if t then number_from (10 * n + (x - 48)) (drop (i + 1) xs) else None) test
+
+  pub digit_read : 48 ≤ x → x ≤ 57 → 10 * n + (x - 48) ≤ MOST_NUMBER → number_from (10 * n + (x - 48)) (drop (i + 1) xs) ≡ number_of xs
+  digit_read low high small = sym (number_next true (grind (arith, nat_tests)))
+
+  pub no_digit_low : x < 48 → None ≡ number_of xs
+  no_digit_low low = sym (number_next false (grind (arith, nat_tests)))
+
+  pub no_digit_high : 57 < x → None ≡ number_of xs
+  no_digit_high high = sym (number_next false (grind (arith, nat_tests)))
+
+  pub no_room : MOST_NUMBER < 10 * n + (x - 48) → None ≡ number_of xs
+  no_room large = sym (number_next false (grind (arith, nat_tests)))
+
+pub number_begun : (xs : List ℕ) → 0 < length xs → number_from 0 xs ≡ number_of xs
+number_begun [] lt = absurd (omega arith)
+number_begun (x ∷ xs) lt = refl
+
+pub number_done : (xs : List ℕ) (i n : ℕ) → length xs ≤ i → number_from n (drop i xs) ≡ number_of xs → Some n ≡ number_of xs
+unfolding number_from
+number_done xs i n le h = sym (ap (number_from n) (drop_all i xs le)) ∙ h
+
+-- a part up to the end of a text
+pub to_end : (xs : List ℕ) (k : ℕ) → take (length xs - k) (drop k xs) ≡ drop k xs
+to_end xs k = take_all (length xs - k) (drop k xs) (omega (arith, length-drop k xs))

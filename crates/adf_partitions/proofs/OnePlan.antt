@@ -1,0 +1,102 @@
+-- A text has one plan, or one fault. p, q are partitions, a, b plans, e, d what stands behind their lines.
+use Rattle.std.proofs.Common.{◌≡◌, ◌+◌, ◌∙◌, ℕ, true, false, List, [], ◌∷◌, Option, Some, length, ap, ap₂, refl, sym, subst, inl, inr}
+use Rattle.adf_tree.proofs.Spellings.{only_spelled}
+use Rattle.adf_tree.specs.declared.entry.Kind.{Kind}
+use Rattle.adf_partitions.specs.declared.plan.PartitionPlan.{PartitionPlan}
+use Rattle.adf_partitions.specs.declared.plan_line.Options.{Options}
+use Rattle.adf_partitions.specs.declared.plan_text.TextFault.{TextFault}
+use Rattle.adf_partitions.specs.declared.plan_text.TextKind.{TextKind}
+use Rattle.adf_partitions.specs.declared.plan_text.TextKind.TheVariants.{BadLine, NoEnd, NoMemory, TooLarge}
+use Rattle.adf_partitions.specs.Plans.{PlanValue}
+use Rattle.adf_partitions.specs.PlanTexts.{AreLines, HasLines, IsEndFault, IsPartitionLine, IsPartitionText, IsText, IsTextFault, Stops, before}
+use Rattle.adf_partitions.specs.PlanTexts.{behind_line, first_line, is_end, is_plan, options_in}
+
+one_some : {A : Type 0} (o : Option A) (x y : A) → o ≡ Some x → o ≡ Some y → x ≡ y
+one_some o x y h k = cc
+
+made : List ℕ → Kind → ℕ → Options → PartitionPlan
+made name kind cylinders o = record { name = name; kind = kind; cylinders = cylinders; bootable = o.bootable; priority = o.priority; given = o.given }
+
+one_partition : (text : List ℕ) (p q : PartitionPlan) → IsPartitionText text p → IsPartitionText text q → p ≡ q
+unfolding made
+one_partition text p q h k =
+    let name = only_spelled p.name q.name h.name.are_bytes k.name.are_bytes (sym h.name.spells ∙ k.name.spells) in
+    let kind = one_some _ p.kind q.kind h.kind k.kind in
+    let cylinders = one_some _ p.cylinders q.cylinders h.cylinders k.cylinders in
+    let options = one_some _ (options_in p) (options_in q) h.options k.options in
+    let same : made p.name p.kind p.cylinders (options_in p) ≡ made q.name q.kind q.cylinders (options_in q) = cc in
+    same
+
+one_front : (left : List ℕ) (ps qs : List PartitionPlan) (e d : List ℕ) → AreLines left ps e → AreLines left qs d → Stops e → Stops d → (ps ≡ qs) × (e ≡ d)
+unfolding AreLines
+one_front left [] [] e d h k x y = (refl, sym h ∙ k)
+one_front left [] (q ∷ qs) e d h k x y = absurd (x q (subst (λ (l : List ℕ). IsPartitionLine (first_line l) q) h k.0))
+one_front left (p ∷ ps) [] e d h k x y = absurd (y p (subst (λ (l : List ℕ). IsPartitionLine (first_line l) p) k h.0))
+one_front left (p ∷ ps) (q ∷ qs) e d h k x y =
+    let others = one_front (behind_line left) ps qs e d h.1 k.1 x y in
+    (ap₂ (λ (r : PartitionPlan) (rs : List PartitionPlan). r ∷ rs) (one_partition _ p q h.0.text k.0.text) others.0, others.1)
+
+plan : ℕ → ℕ → List PartitionPlan → PlanValue
+plan sectors heads ps = record { sectors = sectors; heads = heads; partitions = ps }
+
+one_end : (text : List ℕ) (a b : PlanValue) (e d : List ℕ) → HasLines text a e → HasLines text b d → (a ≡ b) × (e ≡ d)
+unfolding plan
+one_end text a b e d h k =
+    let sectors = one_some _ a.sectors b.sectors h.0.text.first k.0.text.first in
+    let heads = one_some _ a.heads b.heads h.0.text.second k.0.text.second in
+    let front = one_front (behind_line text) a.partitions b.partitions e d h.1 k.1 h.2 k.2 in
+    let partitions = front.0 in
+    let same : plan a.sectors a.heads a.partitions ≡ plan b.sectors b.heads b.partitions = cc in
+    (same, front.1)
+
+pub one_plan : (text : List ℕ) (a b : PlanValue) (c d : List ℕ) → IsText text a c → IsText text b d → (a ≡ b) × (c ≡ d)
+one_plan text a b c d h k =
+    let same = one_end text a b h.end k.end h.lines k.lines in
+    (same.0, h.behind ∙ ap behind_line same.1 ∙ sym k.behind)
+
+no_end_in_nothing : is_end [] ≡ false
+unfolding before
+no_end_in_nothing = refl
+
+no_end_fault : (a : PlanValue) (e : List ℕ) (k : TextKind) → is_end e ≡ true → is_plan a ≡ true → IsEndFault a e k → ⊥
+no_end_fault a e BadLine ends good h = let no = h.1 in absurd cc
+no_end_fault a e NoEnd ends good h = let no = ap is_end h ∙ no_end_in_nothing in absurd cc
+no_end_fault a e TooLarge ends good h = let no = h.1 in absurd cc
+no_end_fault a e NoMemory ends good h = absurd h
+
+pub no_text_fault : (text : List ℕ) (a : PlanValue) (c : List ℕ) (f : TextFault) → IsText text a c → IsTextFault text f → ⊥
+no_text_fault text a c f h (inl k) = k.2 a.sectors a.heads h.lines.0
+no_text_fault text a c f h (inr (b, d, lines, line, fault)) =
+    let same = one_end text a b h.end d h.lines lines in
+    no_end_fault b d f.kind (ap is_end (sym same.1) ∙ h.ends) (ap is_plan (sym same.0) ∙ h.good) fault
+
+one_kind : (a : PlanValue) (e : List ℕ) (k j : TextKind) → IsEndFault a e k → IsEndFault a e j → k ≡ j
+one_kind a e BadLine BadLine h g = refl
+one_kind a e BadLine NoEnd h g = absurd (h.0 g)
+one_kind a e BadLine TooLarge h g = let x = h.1 in let y = g.0 in absurd cc
+one_kind a e NoEnd BadLine h g = absurd (g.0 h)
+one_kind a e NoEnd NoEnd h g = refl
+one_kind a e NoEnd TooLarge h g = let x = ap is_end h ∙ no_end_in_nothing in let y = g.0 in absurd cc
+one_kind a e TooLarge BadLine h g = let x = h.0 in let y = g.1 in absurd cc
+one_kind a e TooLarge NoEnd h g = let x = ap is_end g ∙ no_end_in_nothing in let y = h.0 in absurd cc
+one_kind a e TooLarge TooLarge h g = refl
+one_kind a e NoMemory j h g = absurd h
+one_kind a e k NoMemory h g = absurd g
+
+fault : ℕ → TextKind → TextFault
+fault line kind = record { line = line; kind = kind }
+
+same_fault : (f g : TextFault) → f.line ≡ g.line → f.kind ≡ g.kind → f ≡ g
+unfolding fault
+same_fault f g line kind =
+    let same : fault f.line f.kind ≡ fault g.line g.kind = ap₂ fault line kind in
+    same
+
+pub one_text_fault : (text : List ℕ) (f g : TextFault) → IsTextFault text f → IsTextFault text g → f ≡ g
+one_text_fault text f g (inl h) (inl k) = same_fault f g (h.0 ∙ sym k.0) (h.1 ∙ sym k.1)
+one_text_fault text f g (inl h) (inr (b, d, lines, line, fault)) = absurd (h.2 b.sectors b.heads lines.0)
+one_text_fault text f g (inr (a, e, lines, line, fault)) (inl k) = absurd (k.2 a.sectors a.heads lines.0)
+one_text_fault text f g (inr (a, e, lines, line, fault)) (inr (b, d, others, at, other)) =
+    let same = one_end text a b e d lines others in
+    let there : IsEndFault b d f.kind = subst (λ (x : List ℕ). IsEndFault b x f.kind) same.1 (subst (λ (x : PlanValue). IsEndFault x e f.kind) same.0 fault) in
+    same_fault f g (line ∙ ap (λ (x : PlanValue). length x.partitions + 2) same.0 ∙ sym at) (one_kind b d f.kind g.kind there other)

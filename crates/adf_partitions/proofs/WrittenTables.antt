@@ -1,0 +1,201 @@
+-- What a reader finds in the rigid disk block and the partition blocks of a plan.
+use Rattle.std.proofs.Common.{◌≡◌, ◌≤◌, ◌<◌, ◌+◌, ◌-◌, ◌*◌, ◌^◌, ◌∙◌, ℕ, length, ap, ap₂, refl, arith, rules, true, false, Bool}
+use Rattle.std.specs.Prelude.{slice_index, take, ◌&&◌, ◌==◌, not, nat_le, nat_lt, if◌then◌else◌, FitsSigned, ℤ, pos, negsuc}
+use Rattle.std.specs.Int.{cast_signed, cast_unsigned, w32, w8}
+use Rattle.std.proofs.lemmas.Bool.Decides.{nat_tests}
+use Rattle.std.proofs.lemmas.Int.{to_z-of_z}
+use Rattle.std.proofs.lemmas.List.{take_all}
+use Rattle.adf_fields.specs.Words.{word}
+use Rattle.adf_blocks.specs.Fields.{Descends}
+use Rattle.adf_blocks.specs.Forms.{text_at}
+use Rattle.adf_tree.specs.declared.entry.Kind.TheVariants.{Ofs, Ffs}
+use Rattle.adf_tree.specs.declared.entry.Kind.{Kind}
+use Rattle.adf_partitions.specs.declared.layout.TheConstants.{BLOCK_BYTES, BLOCK_SECTORS, BOOT_PRIORITY, BOOTABLE, DOS_TYPE, DRIVE_NAME, ENV_BLOCK_WORDS}
+use Rattle.adf_partitions.specs.declared.layout.TheConstants.{ENV_LENGTH, FIRST_PART, FLAGS, HIGH_CYLINDER, HIGHEST_TABLE, LOW_CYLINDER, LOWEST_TABLE, MARK}
+use Rattle.adf_partitions.specs.declared.layout.TheConstants.{MOST_PARTITIONS, NEXT_PART, NO_BLOCK, PART, RDSK, SUMMED_LONGS, SURFACES, TRACK_BLOCKS}
+use Rattle.adf_partitions.specs.declared.plan.PartitionPlan.{PartitionPlan}
+use Rattle.adf_partitions.specs.Partitions.{has_name, name_at}
+use Rattle.adf_partitions.specs.Places.{blocks_from, has_cylinders, place_of}
+use Rattle.adf_partitions.specs.Plans.{PlanValue, IsPartitionPlan, IsPlan, cylinder_blocks, planned_cylinders, planned_flags, planned_type, table_cylinders}
+use Rattle.adf_partitions.specs.Summed.{is_summed}
+use Rattle.adf_partitions.specs.WrittenTables.{block_after, environment, kept_words, part_block, part_table, part_words, planned_tables, rdsk_block}
+use Rattle.adf_partitions.specs.WrittenTables.{rdsk_table, rdsk_words}
+use Rattle.adf_partitions.proofs.NumberTests.{of_le}
+use Rattle.adf_partitions.proofs.PlanSizes.{blocks_fit, cylinders_fit, heads_fit, sectors_fit, some_blocks}
+use Rattle.adf_partitions.proofs.WrittenBlocks.{is_summed_written, length_written, sum_written, text_written, word_written}
+
+-- the number of a block is a word
+pub after_fits : (n b : ℕ) → n ≤ MOST_PARTITIONS → b ≤ n → block_after n b < 2 ^ 32
+after_fits n b few le = small (nat_lt b n)
+  where
+    small : (t : Bool) → (if t then b + 1 else NO_BLOCK) < 2 ^ 32
+    small true = omega arith
+    small false = omega arith
+
+module _ (plan : PlanValue) (h : IsPlan plan) where
+  rdsk_descends : Descends 256 (rdsk_table plan)
+  rdsk_descends = search arith
+
+  pub length_rdsk : length (rdsk_block plan) ≡ 512
+  unfolding rdsk_block
+  length_rdsk = length_written (rdsk_table plan) rdsk_descends
+
+  pub rdsk_mark : word (rdsk_block plan) MARK ≡ RDSK
+  unfolding rdsk_block
+  rdsk_mark = word_written (rdsk_table plan) rdsk_descends MARK 0 (rdsk_words plan) (search rules) (omega arith) (omega arith) (omega arith)
+
+  rdsk-longs : word (rdsk_block plan) SUMMED_LONGS ≡ 64
+  unfolding rdsk_block
+  rdsk-longs = word_written (rdsk_table plan) rdsk_descends MARK 1 (rdsk_words plan) (search rules) (omega arith) (omega arith) (omega arith)
+
+  pub rdsk-size : word (rdsk_block plan) BLOCK_BYTES ≡ 512
+  unfolding rdsk_block
+  rdsk-size = word_written (rdsk_table plan) rdsk_descends MARK 4 (rdsk_words plan) (search rules) (omega arith) (omega arith) (omega arith)
+
+  pub rdsk-first : word (rdsk_block plan) FIRST_PART ≡ (planned_tables plan).first
+  unfolding rdsk_block
+  rdsk-first = word_written (rdsk_table plan) rdsk_descends MARK 7 (rdsk_words plan) (search rules) (omega arith) (omega arith)
+      (after_fits (length plan.partitions) 0 h.few (omega arith))
+
+  pub rdsk-lowest : word (rdsk_block plan) LOWEST_TABLE ≡ 0
+  unfolding rdsk_block
+  rdsk-lowest = word_written (rdsk_table plan) rdsk_descends LOWEST_TABLE 0 (kept_words plan) (search rules) (omega arith) (omega arith) (omega arith)
+
+  pub rdsk-highest : word (rdsk_block plan) HIGHEST_TABLE ≡ (planned_tables plan).highest
+  unfolding rdsk_block
+  rdsk-highest = word_written (rdsk_table plan) rdsk_descends LOWEST_TABLE 1 (kept_words plan) (search rules) (omega arith) (omega arith)
+      (omega (arith, blocks_fit plan h (table_cylinders plan) (omega arith)))
+
+  pub rdsk-summed : is_summed (rdsk_block plan) ≡ true
+  unfolding rdsk_block
+  rdsk-summed = is_summed_written (rdsk_block plan) rdsk-longs (sum_written (rdsk_table plan) rdsk_descends)
+
+wide : (z : ℤ) → FitsSigned w8 z → FitsSigned w32 z
+wide z f = record { sfits = omega (arith, f.sfits) }
+
+unsigned_fits : (z : ℤ) → FitsSigned w8 z → cast_unsigned w32 z < 2 ^ 32
+unsigned_fits (pos n) f = omega (arith, f.sfits)
+unsigned_fits (negsuc n) f = omega (arith, f.sfits)
+
+positive : (c : ℕ) → 1 ≤ c → (true && not (c == 0)) ≡ true
+positive c h = grind (arith, nat_tests)
+
+types_fit : (k : Kind) → planned_type k < 2 ^ 32
+types_fit Ofs = omega arith
+types_fit Ffs = omega arith
+
+flags_fit : (b : Bool) → (if b then BOOTABLE else 0) < 2 ^ 32
+flags_fit true = omega arith
+flags_fit false = omega arith
+
+-- the block of a partition on cylinders of the plan
+module _ (plan : PlanValue) (h : IsPlan plan) (b low : ℕ) (p : PartitionPlan) (fits : IsPartitionPlan p)
+    (within : low + p.cylinders ≤ planned_cylinders plan) where
+  part_descends : Descends 256 (part_table plan b low p)
+  part_descends = search (arith, fits.short)
+
+  pub length_part : length (part_block plan b low p) ≡ 512
+  unfolding part_block
+  length_part = length_written (part_table plan b low p) part_descends
+
+  pub part-mark : word (part_block plan b low p) MARK ≡ PART
+  unfolding part_block
+  part-mark = word_written (part_table plan b low p) part_descends MARK 0 (part_words plan b p) (search rules) (omega arith) (omega arith) (omega arith)
+
+  part-longs : word (part_block plan b low p) SUMMED_LONGS ≡ 64
+  unfolding part_block
+  part-longs = word_written (part_table plan b low p) part_descends MARK 1 (part_words plan b p) (search rules) (omega arith) (omega arith) (omega arith)
+
+  pub part-summed : is_summed (part_block plan b low p) ≡ true
+  unfolding part_block
+  part-summed = is_summed_written (part_block plan b low p) part-longs (sum_written (part_table plan b low p) part_descends)
+
+  pub part-next : b ≤ length plan.partitions → word (part_block plan b low p) NEXT_PART ≡ block_after (length plan.partitions) b
+  unfolding part_block
+  part-next le = word_written (part_table plan b low p) part_descends MARK 4 (part_words plan b p) (search rules) (omega arith) (omega arith)
+      (after_fits (length plan.partitions) b h.few le)
+
+  pub part-flags : word (part_block plan b low p) FLAGS ≡ planned_flags p
+  unfolding part_block
+  part-flags = word_written (part_table plan b low p) part_descends MARK 5 (part_words plan b p)
+      (search rules) (omega arith) (omega arith) (flags_fit p.bootable)
+
+  part-length : word (part_block plan b low p) ENV_LENGTH ≡ 16
+  unfolding part_block
+  part-length = word_written (part_table plan b low p) part_descends ENV_LENGTH 0 (environment plan low p)
+      (search rules) (omega arith) (omega arith) (omega arith)
+
+  part-block_words : word (part_block plan b low p) ENV_BLOCK_WORDS ≡ 128
+  unfolding part_block
+  part-block_words = word_written (part_table plan b low p) part_descends ENV_LENGTH 1 (environment plan low p)
+      (search rules) (omega arith) (omega arith) (omega arith)
+
+  part-surfaces : word (part_block plan b low p) SURFACES ≡ plan.heads
+  unfolding part_block
+  part-surfaces = word_written (part_table plan b low p) part_descends ENV_LENGTH 3 (environment plan low p)
+      (search rules) (omega arith) (omega arith) (heads_fit plan h)
+
+  part-sectors : word (part_block plan b low p) BLOCK_SECTORS ≡ 1
+  unfolding part_block
+  part-sectors = word_written (part_table plan b low p) part_descends ENV_LENGTH 4 (environment plan low p)
+      (search rules) (omega arith) (omega arith) (omega arith)
+
+  part-track : word (part_block plan b low p) TRACK_BLOCKS ≡ plan.sectors
+  unfolding part_block
+  part-track = word_written (part_table plan b low p) part_descends ENV_LENGTH 5 (environment plan low p)
+      (search rules) (omega arith) (omega arith) (sectors_fit plan h)
+
+  part-low : word (part_block plan b low p) LOW_CYLINDER ≡ low
+  unfolding part_block
+  part-low = word_written (part_table plan b low p) part_descends ENV_LENGTH 9 (environment plan low p) (search rules) (omega arith) (omega arith)
+      (omega (arith, within, cylinders_fit plan h))
+
+  part-high : word (part_block plan b low p) HIGH_CYLINDER ≡ low + p.cylinders - 1
+  unfolding part_block
+  part-high = word_written (part_table plan b low p) part_descends ENV_LENGTH 10 (environment plan low p) (search rules) (omega arith) (omega arith)
+      (omega (arith, within, cylinders_fit plan h))
+
+  pub part-type : word (part_block plan b low p) DOS_TYPE ≡ planned_type p.kind
+  unfolding part_block
+  part-type = word_written (part_table plan b low p) part_descends ENV_LENGTH 16 (environment plan low p)
+      (search rules) (omega arith) (omega arith) (types_fit p.kind)
+
+  pub part_priority : cast_signed w32 (word (part_block plan b low p) BOOT_PRIORITY) ≡ p.priority
+  unfolding part_block
+  part_priority =
+      ap (cast_signed w32) (word_written (part_table plan b low p) part_descends ENV_LENGTH 15 (environment plan low p)
+      (search rules) (omega arith) (omega arith)
+      (unsigned_fits p.priority fits.priority))
+      ∙ to_z-of_z w32 p.priority (wide p.priority fits.priority)
+
+  part-text : (slice_index (part_block plan b low p) DRIVE_NAME ≡ length p.name) × (text_at (part_block plan b low p) DRIVE_NAME ≡ p.name)
+  unfolding part_block
+  part-text = text_written (part_table plan b low p) part_descends DRIVE_NAME p.name (search rules) (omega arith)
+
+  pub part-name : name_at (part_block plan b low p) ≡ p.name
+  part-name = ap (take 31) part-text.1 ∙ take_all 31 p.name (omega (arith, fits.short))
+
+  pub part-has_name : has_name (part_block plan b low p) ≡ true
+  part-has_name =
+      let some = of_le 1 (length p.name) fits.some in
+      let short = of_le (length p.name) 31 fits.short in
+      rw (part-name, part-text.0, some, short, fits.name) refl
+
+  pub part-environment : nat_le 16 (word (part_block plan b low p) ENV_LENGTH) ≡ true
+  part-environment = rw part-length refl
+
+  pub part-blocks : ((word (part_block plan b low p) ENV_BLOCK_WORDS == 128) && (word (part_block plan b low p) BLOCK_SECTORS == 1)) ≡ true
+  part-blocks = rw (part-block_words, part-sectors) refl
+
+  part-cylinder : word (part_block plan b low p) SURFACES * word (part_block plan b low p) TRACK_BLOCKS ≡ cylinder_blocks plan
+  part-cylinder = ap₂ (λ x y. x * y) part-surfaces part-track
+
+  pub part-cylinders : has_cylinders (part_block plan b low p) ≡ true
+  part-cylinders =
+      let order = of_le low (low + p.cylinders - 1) (omega (arith, fits.cylinders)) in
+      rw (part-cylinder, part-low, part-high, order) (positive (cylinder_blocks plan) (some_blocks plan h))
+
+  pub part-place : place_of (part_block plan b low p) ≡ blocks_from (low * cylinder_blocks plan) (p.cylinders * cylinder_blocks plan)
+  part-place =
+      let count : low + p.cylinders - 1 + 1 - low ≡ p.cylinders = omega (arith, fits.cylinders) in
+      rw (part-cylinder, part-low, part-high, count) refl

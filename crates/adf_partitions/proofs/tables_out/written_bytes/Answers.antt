@@ -1,0 +1,37 @@
+use Rattle.std.proofs.Common.{◌≡◌, ◌+◌, ◌++◌, ap, arith, drop, rules, ◌∙◌}
+use Rattle.adf_partitions.specs.Plans.{plan_value}
+use Rattle.adf_partitions.specs.WrittenTables.{part_block, part_blocks, written_bytes}
+use Rattle.adf_partitions.proofs.PlanSizes.{cylinders_at, cylinders_fit, plans_at}
+use Rattle.adf_partitions.proofs.PlannedVolumes.{part_put, parts_end}
+use Rattle.adf_partitions.proofs.tables_out.written_bytes.Goals as goal
+
+pub part_bytes-requires-clause-within : goal.part_bytes-requires-clause-within
+part_bytes-requires-clause-within c =
+    let more = cylinders_at (plan_value c.args.plan.now).partitions c.loop-i.i c.partition-item.result (search rules) (search rules) in
+    omega (arith, c.loop-i.invariant.cylinders)
+
+pub overflow_add-low : goal.overflow_add-low
+overflow_add-low c =
+    let more = cylinders_at (plan_value c.args.plan.now).partitions c.loop-i.i c.partition-item.result (search rules) (search rules) in
+    omega (arith, c.loop-i.invariant.cylinders, cylinders_fit (plan_value c.args.plan.now) c.requires)
+
+pub loop-i-preserved : goal.loop-i-preserved
+loop-i-preserved c =
+    let plan = plan_value c.args.plan.now in
+    let ps = plan.partitions in
+    let i = c.loop-i.i in
+    let p = c.partition-item.result in
+    let low = c.loop-i.low in
+    let more = cylinders_at ps i p (search rules) (search rules) in
+    let at = plans_at ps i p (search rules) (search rules) in
+    let put : c.extend_from_slice.new.self.items ≡ c.loop-i.bytes.items ++ part_block plan (i + 1) low p = search rules in
+    record {
+      cylinders = omega (arith, c.loop-i.invariant.cylinders);
+      bytes = ap (λ x. x ++ part_blocks plan (i + 1 + 1) (low + p.cylinders) (drop (i + 1) ps)) put
+          ∙ part_put plan ps (drop (i + 1) ps) i low p c.loop-i.bytes.items (written_bytes plan) at c.loop-i.invariant.bytes;
+    }
+
+pub returns : goal.returns
+returns c =
+    let plan = plan_value c.args.plan.now in
+    parts_end plan plan.partitions c.loop-i.i c.loop-i.low c.loop-i.bytes.items (written_bytes plan) (search (rules, arith)) c.loop-i.invariant.bytes
