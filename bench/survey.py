@@ -3,7 +3,7 @@
 
     bench/survey.py < IMAGE      a line for each finding with the path that it concerns, then a line for each entry, sound or damaged
 
-What is next is the least role that the walk asks for and that is neither in the walk nor passed over; no order of reading is followed.
+What is next is the least role that the walk asks for and that is neither in the walk nor skipped; no order of reading is followed.
 A role is its key (first, second, third), its name, and its numbers.
 """
 
@@ -63,7 +63,7 @@ def judged(demands, slight):
 class Survey:
     def __init__(self, image):
         self.image, self.blocks = image, len(image) // 512
-        self.walk, self.owner, self.nodes, self.passed_over, self.findings = {}, {}, [], {}, []
+        self.walk, self.owner, self.nodes, self.skipped, self.findings = {}, {}, [], {}, []
         self.asked = {}  # by key: the role, and the block and the word that name its block
         self.names = {}  # how many words that ask for a part name a block
         self.root = self.blocks // 2
@@ -81,7 +81,7 @@ class Survey:
             return
         self.pages = -(-(self.blocks - 2) // PAGE_BITS)
         self.take(ROOT, self.root)
-        while wanted := [key for key in self.asked if key not in self.walk and key not in self.passed_over]:
+        while wanted := [key for key in self.asked if key not in self.walk and key not in self.skipped]:
             self.judge(*self.asked[min(wanted)])
         self.compare()
 
@@ -211,7 +211,7 @@ class Survey:
         yield "same name", b, lambda: raised(name()) not in [raised(self.text(c, 432)) for c in earlier]
 
     def judge(self, role, a, i):
-        """The role is taken, where its block is in range, no one else's and says of itself that it is the part; its first cause is noted."""
+        """The role is taken, where its block is in range, no one else's and says of itself that it is the part; its first cause is reported."""
         b = self.word(a, i)
         first, itself = judged(self.demands(role, a, b), () if role[1] == "page" else SLIGHT)
         if first:
@@ -219,7 +219,7 @@ class Survey:
         if itself:
             self.take(role, b)
         else:
-            self.passed_over[role[0]] = b
+            self.skipped[role[0]] = b
 
     def is_cache(self, b):
         """The block says that it is a directory cache, on a volume that has them."""
@@ -228,14 +228,14 @@ class Survey:
     def compare(self):
         """Where the bitmap is valid, each block whose page is in the walk is in use where it has an owner, and only there.
 
-        A block without an owner that was passed over or is a directory cache is not compared."""
+        A block without an owner that was skipped or is a directory cache is not compared."""
         if self.word(self.root, 78) != 2**32 - 1:
             return
-        passed = set(self.passed_over.values())
+        skipped = set(self.skipped.values())
         for b in range(2, self.blocks):
             bit = (b - 2) % PAGE_BITS
             at = self.walk.get(page((b - 2) // PAGE_BITS)[0])
-            if at is None or b not in self.owner and (b in passed or self.is_cache(b)):
+            if at is None or b not in self.owner and (b in skipped or self.is_cache(b)):
                 continue
             free = self.word(at, 1 + bit // 32) >> bit % 32 & 1
             if free != (b not in self.owner):
@@ -250,7 +250,7 @@ class Survey:
         return next((n for n, known in enumerate(self.nodes) if known[0] == role[0]), None)
 
     def concern(self, role):
-        """What a finding concerns: the path of an entry; of a header that was passed over, its directory."""
+        """What a finding concerns: the path of an entry; of a header that was skipped, its directory."""
         node = self.node_of(role)
         if node is not None:
             return spelled(self.path(node))
@@ -265,12 +265,12 @@ class Survey:
         return [] if n == 0 else self.path(self.nodes[n][2]) + [self.text(self.block_of(n), 432)[:79]]
 
     def is_sound(self, n):
-        """Nothing of the entry is noted, no header in it was passed over, and no other word names an FFS data block of it, which does
+        """Nothing of the entry is reported, no header in it was skipped, and no other word names an FFS data block of it, which does
         not say whose it is."""
         parts = {key: b for key, b in self.walk.items() if key == self.nodes[n][0] or key[0] == n + 1 and key[1] < 2}
-        noted = {role[0] for role, _, _ in self.findings if role}
-        headed = any(key[0] == n + 1 and (key[1] < 2 or key in self.passed_over) for key in noted)
-        return not headed and not noted & set(parts) and all(self.offset or key[1] != 1 or self.names[b] == 1 for key, b in parts.items())
+        reported = {role[0] for role, _, _ in self.findings if role}
+        headed = any(key[0] == n + 1 and (key[1] < 2 or key in self.skipped) for key in reported)
+        return not headed and not reported & set(parts) and all(self.offset or key[1] != 1 or self.names[b] == 1 for key, b in parts.items())
 
     def found(self):
         """A line for each run of findings with one cause, that concern the same and with one owner, at one block or at neighbouring

@@ -231,11 +231,11 @@ size_t adf_read(const uint8_t *image, size_t length, const struct adf_entry *ent
 struct adf_finding {
     uint32_t first;    /* the first block */
     uint32_t last;     /* the last block */
-    size_t node;       /* the entry that is concerned, or the directory in which a header was passed over; 0 for the root and
+    size_t node;       /* the entry that is concerned, or the directory in which a header was skipped; 0 for the root and
                           for none */
     size_t owner;      /* if the cause is ADF_TAKEN, the entry that owns the blocks; 0 for the root, the bitmap, and other causes */
     uint8_t cause;     /* an adf_cause */
-    uint8_t is_within; /* 1 if `node` is the directory in which a header was passed over, otherwise 0 */
+    uint8_t is_within; /* 1 if `node` is the directory in which a header was skipped, otherwise 0 */
 };
 
 /* An entry that is found. Entry n is at index n - 1 of the table. */

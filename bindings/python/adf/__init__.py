@@ -289,7 +289,7 @@ def rescue(image: Image, blocks: int | None = None) -> tuple[bytes, list[LeftOut
 
 class Finding(NamedTuple):
     """Blocks from the first to the last with one cause, as `bad sum`; the path of the entry that is concerned, or of the directory in
-    which a header was passed over, with a `/` behind it (`/` for the root); the path of the entry that owns a taken block."""
+    which a header was skipped, with a `/` behind it (`/` for the root); the path of the entry that owns a taken block."""
 
     first: int
     last: int

@@ -81,12 +81,12 @@ impl<'survey> Finding<'survey> {
         Cause::from_number(self.record().cause)
     }
 
-    /// The entry that is concerned, or the directory in which a header was passed over; none for the root and the bitmap.
+    /// The entry that is concerned, or the directory in which a header was skipped; none for the root and the bitmap.
     pub fn entry(&self) -> Option<Found<'survey>> {
         self.survey.entry(self.record().node)
     }
 
-    /// Whether a header was passed over: in the directory `entry`, or in the root.
+    /// Whether a header was skipped: in the directory `entry`, or in the root.
     pub fn is_within(&self) -> bool {
         self.record().is_within == 1
     }

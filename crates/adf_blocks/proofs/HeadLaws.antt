@@ -20,7 +20,7 @@ use Rattle.adf_blocks.specs.declared.layout.TheConstants.{OWN_KEY, PARENT, POINT
 use Rattle.adf_blocks.specs.Fields.{Descends, long}
 use Rattle.adf_fields.specs.Dates.{IsStamp}
 use Rattle.adf_blocks.specs.HeadBlock.{BodyFields, FitsBody, FitsBodyWords, FitsHead, HeadFields, head_block, head_form, head_table}
-use Rattle.adf_blocks.specs.HeadBlock.{body_at, body_told, ext_of, first_of, has_first, has_type, is_link, is_name_at, meta_at, secondary_of, size_of}
+use Rattle.adf_blocks.specs.HeadBlock.{body_at, body_stated, ext_of, first_of, has_first, has_type, is_link, is_name_at, meta_at, secondary_of, size_of}
 use Rattle.adf_blocks.specs.HeadBlock.{table_of}
 use Rattle.adf_blocks.specs.HeadBlock.BodyFields.{DirFields, FileFields}
 use Rattle.adf_blocks.proofs.ClauseLaws.{no_cause}
@@ -117,11 +117,11 @@ head_block-meta h fits small =
     rw (comment, protect, stamp) refl
 
 body_reads : (b : List ℕ) (body : BodyFields) → word b SECONDARY_TYPE ≡ secondary_of body → word b SIZE ≡ size_of body → word b EXTENSION ≡ ext_of body
-    → body_at b ≡ body_told body
+    → body_at b ≡ body_stated body
 body_reads b (DirFields slots) kind size ext = rw kind refl
 body_reads b (FileFields n table x) kind size ext = rw (kind, size, ext) refl
 
-pub head_block-body : (h : HeadFields) → FitsHead h → FitsBodyWords h.body → body_at (head_block h) ≡ body_told h.body
+pub head_block-body : (h : HeadFields) → FitsHead h → FitsBodyWords h.body → body_at (head_block h) ≡ body_stated h.body
 head_block-body h fits small =
     body_reads (head_block h) h.body (head_block-secondary h fits) (head_block-size h fits small.size) (head_block-ext h fits small.ext)
 

@@ -77,8 +77,8 @@ abbrev pub meta_at : List ℕ → Meta
 meta_at b = record { comment = text_at b COMMENT; protect = word b PROTECTION; stamp = stamp_at b DATE }
 
 -- the metadata of any block read as a header: the comment is cut to 79 bytes
-abbrev pub meta_told : List ℕ → Meta
-meta_told b = record { comment = take 79 (text_at b COMMENT); protect = word b PROTECTION; stamp = stamp_at b DATE }
+abbrev pub meta_stated : List ℕ → Meta
+meta_stated b = record { comment = take 79 (text_at b COMMENT); protect = word b PROTECTION; stamp = stamp_at b DATE }
 
 -- the body of a header, by its secondary type
 abbrev pub body_at : List ℕ → HeadBody
@@ -185,6 +185,6 @@ pub record FitsBodyWords (b : BodyFields) : Type 0 where
   pub ext : ext_of b < 2 ^ 32
 
 -- the body that a reader returns for this body
-abbrev pub body_told : BodyFields → HeadBody
-body_told (DirFields slots) = Dir
-body_told (FileFields size table ext) = File size ext
+abbrev pub body_stated : BodyFields → HeadBody
+body_stated (DirFields slots) = Dir
+body_stated (FileFields size table ext) = File size ext

@@ -20,8 +20,8 @@ root_form b =
     ∷ []
 
 -- the label in any block read as a root, cut to 30 bytes
-abbrev pub label_told : List ℕ → List ℕ
-label_told b = take 30 (text_at b NAME)
+abbrev pub label_stated : List ℕ → List ℕ
+label_stated b = take 30 (text_at b NAME)
 
 -- the three dates of a root: its own, the last change, the creation
 abbrev pub stamps_at : List ℕ → Stamps

@@ -5,7 +5,7 @@ ghost use Rattle.adf_fields.specs.Hash.{slot_of};
 ghost use Rattle.adf_fields.specs.Words.{word};
 ghost use Rattle.adf_blocks.specs.Forms.{ReadsForm, stamp_at, text_at};
 ghost use Rattle.adf_blocks.specs.declared.layout.TheConstants.{COMMENT};
-ghost use Rattle.adf_blocks.specs.HeadBlock.{body_at, IsHead, has_first, has_type, head_form, is_entry, is_link, is_name_at, meta_at, meta_told};
+ghost use Rattle.adf_blocks.specs.HeadBlock.{body_at, IsHead, has_first, has_type, head_form, is_entry, is_link, is_name_at, meta_at, meta_stated};
 
 use crate::cause::Cause;
 use crate::fields::stamp_in;
@@ -62,8 +62,8 @@ impl HeadBody {
 
 /// The metadata of a block known to be a header: the comment at byte 328, cut to 79 bytes; the protection bits in word
 /// 80; the date in words 105 to 107.
-pub fn meta_told(b: &Block<'_>) -> Meta
-    ensures told { result ≡ meta_told b.now }
+pub fn meta_stated(b: &Block<'_>) -> Meta
+    ensures stated { result ≡ meta_stated b.now }
     ensures whole { slice_index b.now COMMENT ≤ 79 → result ≡ meta_at b.now }
 {
     let len = (b.byte(COMMENT) as usize).min(79);

@@ -8,7 +8,7 @@ ghost use Rattle.adf_tree.specs.declared.entry.Kind.{Kind};
 ghost use Rattle.adf_fields.specs.Dates.{IsStamp};
 ghost use Rattle.adf_blocks.specs.Forms.{first_cause, stamp_at, text_at};
 ghost use Rattle.adf_blocks.specs.HeadBlock.BodyFields.{DirFields, FileFields};
-ghost use Rattle.adf_blocks.specs.HeadBlock.{FitsBody, FitsBodyWords, FitsHead, FitsTable, HeadFields, body_at, body_fields, body_told, count_of, ext_of, first_of, head_block, head_fields, head_form, meta_at, secondary_of, size_of, table_of};
+ghost use Rattle.adf_blocks.specs.HeadBlock.{FitsBody, FitsBodyWords, FitsHead, FitsTable, HeadFields, body_at, body_fields, body_stated, count_of, ext_of, first_of, head_block, head_fields, head_form, meta_at, secondary_of, size_of, table_of};
 
 use crate::fields::{put_stamp, put_text};
 use crate::layout::{
@@ -176,7 +176,7 @@ pub fn written_heads_are_read()
     ensures next { (h : HeadFields) → FitsHead h → h.next < 2 ^ 32
         → word (head_block h) NEXT_IN_CHAIN ≡ h.next }
     ensures body { (h : HeadFields) → FitsHead h → FitsBodyWords h.body
-        → body_at (head_block h) ≡ body_told h.body }
+        → body_at (head_block h) ≡ body_stated h.body }
     ensures slots { (h : HeadFields) (slots : List ℕ) (s : ℕ) → FitsHead h
         → h.body ≡ DirFields slots → s < SLOTS
         → slice_index slots s < 2 ^ 32

@@ -18,7 +18,7 @@ mod sizes;
 pub use crate::cause::Cause;
 pub use crate::data::{DataOut, has_data_words, read_data, write_data, written_data_are_read};
 pub use crate::ext::{Ext, ExtOut, has_ext_type, read_ext, write_ext, written_exts_are_read};
-pub use crate::head::{Head, HeadBody, has_head_type, meta_told, read_head};
+pub use crate::head::{Head, HeadBody, has_head_type, meta_stated, read_head};
 pub use crate::head_out::{HeadOut, HeadOutBody, write_head, written_heads_are_read};
 pub use crate::layout::{
     BITMAP_FLAG, DATA_BYTES, DATA_HEAD, DATA_HELD, DATA_NEXT, DATA_NUMBER, DATA_ROOM, EXTENSION,
@@ -30,6 +30,6 @@ pub use crate::layout::{
 pub use crate::links::{Directory, Table};
 pub use crate::map_ext::{MapExt, read_map_ext, write_map_ext, written_map_exts_are_read};
 pub use crate::page::{Page, is_set, place_of, read_page, write_page, written_pages_are_read};
-pub use crate::root::{Root, has_root_type, label_told, read_root, stamps_told};
+pub use crate::root::{Root, has_root_type, label_stated, read_root, stamps_stated};
 pub use crate::root_out::{RootOut, write_root, written_roots_are_read};
 pub use crate::sizes::{chunk_len, data_count, is_allowed_size, page_count};

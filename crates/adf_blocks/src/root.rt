@@ -3,7 +3,7 @@
 ghost use Rattle.std.specs.Prelude.{◌≡◌, ◌==◌, ◌&&◌, ◌<◌, ◌+◌};
 ghost use Rattle.adf_fields.specs.Words.{word};
 ghost use Rattle.adf_blocks.specs.Forms.{ReadsForm, text_at};
-ghost use Rattle.adf_blocks.specs.RootBlock.{label_told, root_form, stamps_at};
+ghost use Rattle.adf_blocks.specs.RootBlock.{label_stated, root_form, stamps_at};
 
 use crate::cause::Cause;
 use crate::fields::stamp_in;
@@ -101,13 +101,13 @@ impl Root<'_> {
     pub fn stamps(&self) -> Stamps
         ensures { result ≡ stamps_at self.now }
     {
-        stamps_told(&self.block)
+        stamps_stated(&self.block)
     }
 }
 
 /// The label of a block known to be a root, cut to 30 bytes: its length in byte 432, its bytes from byte 433 on.
-pub fn label_told(b: &Block<'_>) -> Label
-    ensures { result ≡ label_told b.now }
+pub fn label_stated(b: &Block<'_>) -> Label
+    ensures { result ≡ label_stated b.now }
 {
     let len = (b.byte(NAME) as usize).min(30);
     Label::new(b.bytes(NAME + 1, len)).unwrap()
@@ -115,7 +115,7 @@ pub fn label_told(b: &Block<'_>) -> Label
 
 /// The dates of a block known to be a root: the root's in words 105 to 107, the last change in 118 to 120, the
 /// creation in 121 to 123.
-pub fn stamps_told(b: &Block<'_>) -> Stamps
+pub fn stamps_stated(b: &Block<'_>) -> Stamps
     ensures { result ≡ stamps_at b.now }
 {
     Stamps {

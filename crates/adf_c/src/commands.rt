@@ -2,7 +2,7 @@
 
 ghost use Rattle.std.specs.Prelude.{◌≡◌, [], Some, false, take};
 ghost use Rattle.adf_cmd.specs.Answers.{adf_command};
-ghost use Rattle.adf_runs.specs.Commands.{IsUnanswered, LooksAt, RunEnds};
+ghost use Rattle.adf_runs.specs.Commands.{IsUnanswered, IsConsumed, RunEnds};
 ghost use Rattle.adf_survey_cmd.specs.Answers.{survey_command};
 ghost use Rattle.adf_memory.specs.Rooms.{StandIn};
 ghost use Rattle.adf_memory.specs.Words.{in_memory};
@@ -31,7 +31,7 @@ pub extern "C" fn adf_run(
         moved.new.errors_full (Some []) (Some (take moved.new.errors errors.new)) }
     ensures untouched { IsUnanswered (in_memory adf_command) words.now
         → (moved.new.output ≡ 0) × (output.new ≡ output.old) }
-    ensures taken { LooksAt (in_memory adf_command) words.now input.now result moved.new.input }
+    ensures consumed { IsConsumed (in_memory adf_command) words.now input.now result moved.new.input }
     ensures output { StandIn moved.new.output moved.new.output_full output.new }
     ensures errors { StandIn moved.new.errors moved.new.errors_full errors.new }
 {
@@ -60,7 +60,7 @@ pub extern "C" fn adf_survey_run(
         moved.new.errors_full (Some []) (Some (take moved.new.errors errors.new)) }
     ensures untouched { IsUnanswered (in_memory survey_command) words.now
         → (moved.new.output ≡ 0) × (output.new ≡ output.old) }
-    ensures taken { LooksAt (in_memory survey_command) words.now input.now result moved.new.input }
+    ensures consumed { IsConsumed (in_memory survey_command) words.now input.now result moved.new.input }
     ensures output { StandIn moved.new.output moved.new.output_full output.new }
     ensures errors { StandIn moved.new.errors moved.new.errors_full errors.new }
 {

@@ -1,7 +1,7 @@
 // The tables of a survey.
 
 ghost use Rattle.std.specs.Prelude.{◌≡◌, ◌⊎◌, ℕ, Bool};
-ghost use Rattle.adf_findings.specs.Marked.{AreMarks};
+ghost use Rattle.adf_findings.specs.SoundMarks.{AreMarks};
 ghost use Rattle.adf_findings.specs.Survey.{OnSurvey};
 ghost use Rattle.adf_memory.specs.FoundTables.{finding_table, found_table, surveyed_of, unread};
 ghost use Rattle.adf_memory.specs.Rooms.{filled};

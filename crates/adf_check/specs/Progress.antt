@@ -1,4 +1,4 @@
--- The progress of a check: the blocks it may still claim, and the looks that are enough for them.
+-- The progress of a check: the blocks it may still claim, and the reads that are enough for them.
 use Rattle.std.specs.Prelude.{◌≤◌, ◌-◌, ◌+◌, ◌*◌, ℕ, length}
 use Rattle.adf_check.specs.KeptOwner.{claimed_count}
 use Rattle.adf_check.specs.declared.store.Store.{Store}
@@ -15,6 +15,6 @@ left_with_headers s = left s + length s.headers.items
 abbrev pub IsFurther : Store → Store → Type 0
 IsFurther s later = (left_with_headers later ≤ left_with_headers s) × (length s.headers.items ≤ length later.headers.items)
 
--- enough looks remain: 5 for each block without owner, 2 for each node not begun, 1 for each block, and `more`
+-- enough reads remain: 5 for each block without owner, 2 for each node not begun, 1 for each block, and `more`
 abbrev pub IsPaid : Store → ℕ → ℕ → Type 0
-IsPaid s looks more = 5 * left s + 2 * (length s.headers.items + 1 - length s.starts.items) + length s.owners + more ≤ looks
+IsPaid s reads more = 5 * left s + 2 * (length s.headers.items + 1 - length s.starts.items) + length s.owners + more ≤ reads

@@ -9,7 +9,7 @@ ghost use Rattle.adf_check.specs.KeptOwner.{kept_at};
 ghost use Rattle.adf_check.specs.Store.{store_value};
 ghost use Rattle.adf_check.specs.Pages.{AreListed, IsBitFault};
 
-use crate::looks::{Looks, look};
+use crate::block_reads::{BlockReads, read_block};
 use crate::owner_table::OwnerTable;
 use crate::store::Store;
 use adf_blocks::{Cause, PAGE_WORDS, Page, is_set};
@@ -39,21 +39,21 @@ fn check_block(owners: &OwnerTable, b: u32, is_free: bool) -> Result<(), Fault>
 fn check_word<L: Ledger>(
     image: &Image<'_>,
     store: &Store,
-    looks: &mut Looks<L>,
+    reads: &mut BlockReads<L>,
     pages: &[u32],
     i: u32,
 ) -> Result<(), Fault>
-    requires paid { 0 < looks.old }
+    requires paid { 0 < reads.old }
     requires inside { 2 + 32 * i < blocks image.now }
     requires pages { AreListed image.now pages.now (pages_needed (blocks image.now)) }
     requires state { IsMapped image.now (store_value store.now) (2 + 32 * i) }
-    ensures looks { looks.old ≡ looks.new + 1 }
+    ensures reads { reads.old ≡ reads.new + 1 }
     ensures state { OnOk result
         (IsMapped image.now (store_value store.now) (min (2 + 32 * (i + 1)) (blocks image.now))) }
     ensures fault { IfErr result (λ f. IsTrueFault image.now f) }
 {
     let blocks = image.blocks();
-    let page = Page::over(look(image, pages[i as usize / PAGE_WORDS], looks));
+    let page = Page::over(read_block(image, pages[i as usize / PAGE_WORDS], reads));
     let word = page.word(i as usize % PAGE_WORDS);
     let first = 2 + 32 * i;
     let len = (blocks - first).min(32);
@@ -70,10 +70,10 @@ fn check_word<L: Ledger>(
 pub fn check_bitmap<L: Ledger>(
     image: &Image<'_>,
     store: &Store,
-    looks: &mut Looks<L>,
+    reads: &mut BlockReads<L>,
     pages: &[u32],
 ) -> Result<(), Fault>
-    requires paid { blocks image.now ≤ looks.old }
+    requires paid { blocks image.now ≤ reads.old }
     requires pages { AreListed image.now pages.now (pages_needed (blocks image.now)) }
     requires state { IsRead image.now (store_value store.now) }
     ensures fits { OnOk result (StoreFits image.now (store_value store.now)) }
@@ -81,7 +81,7 @@ pub fn check_bitmap<L: Ledger>(
 {
     let words = (image.blocks() - 2).div_ceil(32);
     for i in 0..words {
-        check_word(image, store, looks, pages, i)?;
+        check_word(image, store, reads, pages, i)?;
     }
     Ok(())
 }

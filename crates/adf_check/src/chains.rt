@@ -10,9 +10,9 @@ ghost use Rattle.adf_check.specs.Reading.{IsAtNode, IsAtSlot, IsInChain, sees_of
 ghost use Rattle.adf_check.specs.Progress.{IsFurther, IsPaid, left};
 ghost use Rattle.adf_check.specs.Store.{store_value};
 
+use crate::block_reads::{BlockReads, read_block};
 use crate::claims::claim_named;
 use crate::kept_owner::KeptOwner;
-use crate::looks::{Looks, look};
 use crate::store::{KeptHeader, Store};
 use adf_blocks::{Cause, Directory, Head, HeadBody, SLOTS, read_head};
 use adf_tree::{NameSet, Node};
@@ -49,7 +49,7 @@ fn is_directory(head: &Head<'_>) -> bool
 fn read_header<L: Ledger>(
     image: &Image<'_>,
     store: &mut Store,
-    looks: &mut Looks<L>,
+    reads: &mut BlockReads<L>,
     seen: &mut NameSet,
     chain: &Chain,
     holder: u32,
@@ -60,11 +60,11 @@ fn read_header<L: Ledger>(
     requires state { IsInChain image.now
         (store_value store.old) chain.now.parent chain.now.up chain.now.slot
         holder b (sees_of seen.old) }
-    requires paid { IsPaid store.old looks.old 0 }
+    requires paid { IsPaid store.old reads.old 0 }
     ensures state { IfOk result (λ next.
         IsInChain image.now (store_value store.new) chain.now.parent chain.now.up chain.now.slot
         b next (sees_of seen.new)) }
-    ensures paid { OnOk result (IsPaid store.new looks.new 0) }
+    ensures paid { OnOk result (IsPaid store.new reads.new 0) }
     ensures fewer { OnOk result (IsFurther store.old store.new) }
     ensures less { OnOk result (left store.new < left store.old) }
     ensures inside { OnOk result (b < blocks image.now) }
@@ -73,7 +73,7 @@ fn read_header<L: Ledger>(
     let kind = image.kind();
     let node = store.headers.len() as u32 + 1;
     claim_named(&mut store.owners, holder, b, KeptOwner::Head(node))?;
-    let head = match read_head(look(image, b, looks), kind, b, chain.up, chain.slot) {
+    let head = match read_head(read_block(image, b, reads), kind, b, chain.up, chain.slot) {
         Ok(head) => head,
         Err(cause) => return Err(fault_at(b, cause)),
     };
@@ -93,7 +93,7 @@ fn read_header<L: Ledger>(
 fn read_chain<L: Ledger>(
     image: &Image<'_>,
     store: &mut Store,
-    looks: &mut Looks<L>,
+    reads: &mut BlockReads<L>,
     seen: &mut NameSet,
     chain: &Chain,
     first: u32,
@@ -103,11 +103,11 @@ fn read_chain<L: Ledger>(
     requires state { IsAtSlot image.now
         (store_value store.old) chain.now.parent chain.now.up chain.now.slot }
     requires named { first ≡ word_in image.now chain.now.up (FIRST_SLOT + chain.now.slot) }
-    requires paid { IsPaid store.old looks.old 0 }
+    requires paid { IsPaid store.old reads.old 0 }
     ensures state { OnOk result
         (IsAtSlot image.now (store_value store.new) chain.now.parent chain.now.up
         (chain.now.slot + 1)) }
-    ensures paid { OnOk result (IsPaid store.new looks.new 0) }
+    ensures paid { OnOk result (IsPaid store.new reads.new 0) }
     ensures fewer { OnOk result (IsFurther store.old store.new) }
     ensures fault { IfErr result (λ f. IsTrueFault image.now f) }
 {
@@ -115,7 +115,7 @@ fn read_chain<L: Ledger>(
     let mut holder = chain.up;
     let mut b = first;
     while b != 0 {
-        let next = read_header(image, store, looks, seen, chain, holder, b)?;
+        let next = read_header(image, store, reads, seen, chain, holder, b)?;
         holder = b;
         b = next;
     }
@@ -126,20 +126,20 @@ fn read_chain<L: Ledger>(
 pub fn read_directory<L: Ledger>(
     image: &Image<'_>,
     store: &mut Store,
-    looks: &mut Looks<L>,
+    reads: &mut BlockReads<L>,
     seen: &mut NameSet,
     parent: Node,
     up: u32,
 ) -> Result<(), Fault>
     requires inside { up < blocks image.now }
     requires state { IsAtSlot image.now (store_value store.old) parent up 0 }
-    requires paid { IsPaid store.old looks.old 1 }
+    requires paid { IsPaid store.old reads.old 1 }
     ensures state { OnOk result (IsAtNode image.now (store_value store.new) (parent + 1)) }
-    ensures paid { OnOk result (IsPaid store.new looks.new 0) }
+    ensures paid { OnOk result (IsPaid store.new reads.new 0) }
     ensures fewer { OnOk result (IsFurther store.old store.new) }
     ensures fault { IfErr result (λ f. IsTrueFault image.now f) }
 {
-    let directory = Directory::over(look(image, up, looks));
+    let directory = Directory::over(read_block(image, up, reads));
     for slot in 0..SLOTS as u8 {
         let first = directory.slot(slot);
         if first == 0 {
@@ -148,7 +148,7 @@ pub fn read_directory<L: Ledger>(
         read_chain(
             image,
             store,
-            looks,
+            reads,
             seen,
             &Chain { parent, up, slot },
             first,

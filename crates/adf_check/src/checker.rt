@@ -13,8 +13,8 @@ ghost use Rattle.adf_volume.specs.Start.{IsBegun};
 ghost use Rattle.adf_check.specs.Volumes.{StandsFor};
 
 use crate::bitmap::check_bitmap;
+use crate::block_reads::BlockReads;
 use crate::checked::Checked;
-use crate::looks::Looks;
 use crate::nodes::read_nodes;
 use crate::pages::read_pages;
 use crate::store::Store;
@@ -76,18 +76,18 @@ fn check_all<'a, L: Ledger>(
     ensures fault { IfErr result (λ f. IsTrueFault image.now f) }
     ensures begun { IfErr result (λ f. f.cause ≡ Cause.NoMemory → IsBegun image.now) }
 {
-    let mut looks: Looks<L> = Looks::new(blank, 6 * (image.len() / BLOCK_LEN) as u64);
-    check_within(alloc, image, &mut looks)
+    let mut reads: BlockReads<L> = BlockReads::new(blank, 6 * (image.len() / BLOCK_LEN) as u64);
+    check_within(alloc, image, &mut reads)
 }
 
 /// Checks an image as `check` does, with a bound on its reads: each read of a block, except block 0 and the root, uses
-/// one of the looks. Six for each block of the image are enough for any content.
+/// one of the reads. Six for each block of the image are enough for any content.
 pub fn check_within<'a, L: Ledger>(
     alloc: Global,
     image: &'a [u8],
-    looks: &mut Looks<L>,
+    reads: &mut BlockReads<L>,
 ) -> Result<Checked<'a>, Fault>
-    requires enough { 6 * blocks image.now ≤ looks.old }
+    requires enough { 6 * blocks image.now ≤ reads.old }
     ensures image { IfOk result (λ v. v.image ≡ image.now) }
     ensures fits { IfOk result (λ v. (t : Tree) × (l : Layout) × StandsFor v t l) }
     ensures fault { IfErr result (λ f. IsTrueFault image.now f) }
@@ -97,9 +97,9 @@ pub fn check_within<'a, L: Ledger>(
     let Ok(mut store) = Store::begin(alloc, &opened.image) else {
         return Err(no_memory());
     };
-    let pages = read_pages(alloc, &opened.image, &opened.root, &mut store, looks)?;
-    read_nodes(alloc, &opened.image, &mut store, looks)?;
-    check_bitmap(&opened.image, &store, looks, &pages)?;
+    let pages = read_pages(alloc, &opened.image, &opened.root, &mut store, reads)?;
+    read_nodes(alloc, &opened.image, &mut store, reads)?;
+    check_bitmap(&opened.image, &store, reads, &pages)?;
     Ok(Checked::new(
         opened.image,
         store,

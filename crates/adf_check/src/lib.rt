@@ -2,6 +2,7 @@
 #![tactic(auto)]
 
 mod bitmap;
+mod block_reads;
 mod chains;
 mod checked;
 mod checker;
@@ -9,7 +10,6 @@ mod claims;
 mod datas;
 mod exts;
 mod kept_owner;
-mod looks;
 mod lookup;
 mod nodes;
 mod owner_class;
@@ -21,9 +21,9 @@ mod places;
 mod rebuild;
 mod store;
 
+pub use crate::block_reads::BlockReads;
 pub use crate::checked::Checked;
 pub use crate::checker::{check, check_within};
-pub use crate::looks::Looks;
 pub use crate::owner_class::OwnerClass;
 pub use crate::owners::Owners;
 pub use crate::store::stores_stand_for_trees;

@@ -10,10 +10,10 @@ ghost use Rattle.adf_volume.specs.Fault.{IsTrueFault, fault};
 ghost use Rattle.adf_check.specs.Progress.{IsFurther, IsPaid};
 ghost use Rattle.adf_volume.specs.Start.{IsBegun};
 
+use crate::block_reads::{BlockReads, read_block};
 use crate::chains::read_directory;
 use crate::datas::read_datas;
 use crate::exts::read_exts;
-use crate::looks::{Looks, look};
 use crate::store::{NodeStart, Store};
 use adf_blocks::{Cause, HeadBody};
 use adf_tree::{NameSet, Node};
@@ -26,9 +26,9 @@ fn enter(store: &mut Store) -> Result<(), Fault>
     requires exts { length store.old.exts.items < 2 ^ 32 }
     requires datas { length store.old.datas.items < 2 ^ 32 }
     ensures entered { OnOk result (store_value store.new ≡ entered (store_value store.old)) }
-    ensures paid { (looks : ℕ) → IsPaid store.old looks 0
+    ensures paid { (reads : ℕ) → IsPaid store.old reads 0
         → length store.old.starts.items ≤ length store.old.headers.items
-        → OnOk result (IsPaid store.new looks 2) }
+        → OnOk result (IsPaid store.new reads 2) }
     ensures fewer { OnOk result (IsFurther store.old store.new) }
     ensures fault { IfErr result (λ f. f ≡ fault 0 Cause.NoMemory) }
 {
@@ -46,7 +46,7 @@ fn enter(store: &mut Store) -> Result<(), Fault>
 fn read_file<L: Ledger>(
     image: &Image<'_>,
     store: &mut Store,
-    looks: &mut Looks<L>,
+    reads: &mut BlockReads<L>,
     table: &mut Vec<u32>,
     node: Node,
     head: u32,
@@ -55,9 +55,9 @@ fn read_file<L: Ledger>(
 ) -> Result<(), Fault>
     requires size { size ≡ word_in image.now head SIZE }
     requires state { IsInExts image.now (store_value store.old) node head (head ∷ []) head ext }
-    requires paid { IsPaid store.old looks.old 1 }
+    requires paid { IsPaid store.old reads.old 1 }
     ensures state { OnOk result (IsAtNode image.now (store_value store.new) (node + 1)) }
-    ensures paid { OnOk result (IsPaid store.new looks.new 0) }
+    ensures paid { OnOk result (IsPaid store.new reads.new 0) }
     ensures fewer { OnOk result (IsFurther store.old store.new) }
     ensures fault { IfErr result (λ f. IsTrueFault image.now f) }
 {
@@ -66,36 +66,36 @@ fn read_file<L: Ledger>(
     if table.push(head).is_err() {
         return Err(no_memory());
     }
-    read_exts(image, store, looks, table, node, head, ext)?;
-    read_datas(image, store, looks, table, node, head, size)
+    read_exts(image, store, reads, table, node, head, ext)?;
+    read_datas(image, store, reads, table, node, head, size)
 }
 
 // Reads the chains of a directory, or the blocks of a file.
 fn read_node<L: Ledger>(
     image: &Image<'_>,
     store: &mut Store,
-    looks: &mut Looks<L>,
+    reads: &mut BlockReads<L>,
     seen: &mut NameSet,
     table: &mut Vec<u32>,
     node: Node,
 ) -> Result<(), Fault>
     requires inside { node ≤ length store.old.headers.items }
     requires state { IsInNode image.now (store_value store.old) node }
-    requires paid { IsPaid store.old looks.old 2 }
+    requires paid { IsPaid store.old reads.old 2 }
     ensures state { OnOk result (IsAtNode image.now (store_value store.new) (node + 1)) }
-    ensures paid { OnOk result (IsPaid store.new looks.new 0) }
+    ensures paid { OnOk result (IsPaid store.new reads.new 0) }
     ensures fewer { OnOk result (IsFurther store.old store.new) }
     ensures fault { IfErr result (λ f. IsTrueFault image.now f) }
 {
     let root = image.root();
     if node.0 == 0 {
-        return read_directory(image, store, looks, seen, node, root);
+        return read_directory(image, store, reads, seen, node, root);
     }
     let head = store.headers[node.0 - 1].head;
-    match HeadBody::of(&look(image, head, looks)) {
-        HeadBody::Dir => read_directory(image, store, looks, seen, node, head),
+    match HeadBody::of(&read_block(image, head, reads)) {
+        HeadBody::Dir => read_directory(image, store, reads, seen, node, head),
         HeadBody::File { size, ext } => {
-            read_file(image, store, looks, table, node, head, size, ext)
+            read_file(image, store, reads, table, node, head, size, ext)
         }
     }
 }
@@ -105,12 +105,12 @@ pub fn read_nodes<L: Ledger>(
     alloc: Global,
     image: &Image<'_>,
     store: &mut Store,
-    looks: &mut Looks<L>,
+    reads: &mut BlockReads<L>,
 ) -> Result<(), Fault>
     requires state { IsAtNode image.now (store_value store.old) 0 }
-    requires paid { IsPaid store.old looks.old 0 }
+    requires paid { IsPaid store.old reads.old 0 }
     ensures state { OnOk result (IsRead image.now (store_value store.new)) }
-    ensures paid { OnOk result (IsPaid store.new looks.new 0) }
+    ensures paid { OnOk result (IsPaid store.new reads.new 0) }
     ensures fault { IfErr result (λ f. IsTrueFault image.now f) }
 {
     image.begun();
@@ -119,7 +119,7 @@ pub fn read_nodes<L: Ledger>(
     let mut node = 0usize;
     while node <= store.headers.len() {
         enter(store)?;
-        read_node(image, store, looks, &mut seen, &mut table, Node(node))?;
+        read_node(image, store, reads, &mut seen, &mut table, Node(node))?;
         node += 1;
     }
     Ok(())

@@ -13,9 +13,9 @@ ghost use Rattle.adf_check.specs.Store.{store_value};
 ghost use Rattle.adf_volume.specs.Start.{IsBegun};
 ghost use Rattle.adf_check.specs.Pages.{AreListed};
 
+use crate::block_reads::{BlockReads, read_block};
 use crate::claims::claim_named;
 use crate::kept_owner::KeptOwner;
-use crate::looks::{Looks, look};
 use crate::store::Store;
 use adf_blocks::{MAP_EXT_PAGES, ROOT_PAGES, Root, page_count, read_map_ext, read_page};
 use adf_volume::{Fault, Image, fault_at, no_memory};
@@ -33,45 +33,45 @@ fn is_first_of_map_ext(i: u32) -> bool
 // The bitmap extension block that `holder` points to, whose first page is page `i`.
 fn map_ext_named<L: Ledger>(
     image: &Image<'_>,
-    looks: &mut Looks<L>,
+    reads: &mut BlockReads<L>,
     root: &Root<'_>,
     holder: u32,
     i: u32,
 ) -> u32
-    requires paid { 0 < looks.old }
+    requires paid { 0 < reads.old }
     requires root { root.now ≡ block image.now (root_of image.now) }
     requires inside { holder < blocks image.now }
     requires at_root { i ≡ ROOT_PAGES → holder ≡ root_of image.now }
     ensures exact { result ≡ word_in image.now holder (word_of_map_ext i) }
-    ensures looks { looks.old ≤ looks.new + 1 }
+    ensures reads { reads.old ≤ reads.new + 1 }
 {
     if i as usize == ROOT_PAGES {
         root.map_ext()
     } else {
-        read_map_ext(look(image, holder, looks)).next()
+        read_map_ext(read_block(image, holder, reads)).next()
     }
 }
 
 // The pointer to page `i` in `holder`.
 fn page_named<L: Ledger>(
     image: &Image<'_>,
-    looks: &mut Looks<L>,
+    reads: &mut BlockReads<L>,
     root: &Root<'_>,
     holder: u32,
     i: u32,
 ) -> u32
-    requires paid { 0 < looks.old }
+    requires paid { 0 < reads.old }
     requires root { root.now ≡ block image.now (root_of image.now) }
     requires inside { holder < blocks image.now }
     requires at_root { i < ROOT_PAGES → holder ≡ root_of image.now }
     ensures exact { result ≡ word_in image.now holder (word_of_page i) }
-    ensures looks { looks.old ≤ looks.new + 1 }
+    ensures reads { reads.old ≤ reads.new + 1 }
 {
     let i = i as usize;
     if i < ROOT_PAGES {
         root.page(i)
     } else {
-        read_map_ext(look(image, holder, looks)).page((i - ROOT_PAGES) % MAP_EXT_PAGES)
+        read_map_ext(read_block(image, holder, reads)).page((i - ROOT_PAGES) % MAP_EXT_PAGES)
     }
 }
 
@@ -80,7 +80,7 @@ fn claim_map_ext<L: Ledger>(
     image: &Image<'_>,
     root: &Root<'_>,
     store: &mut Store,
-    looks: &mut Looks<L>,
+    reads: &mut BlockReads<L>,
     holder: u32,
     i: u32,
 ) -> Result<u32, Fault>
@@ -90,14 +90,14 @@ fn claim_map_ext<L: Ledger>(
     requires first { (i - ROOT_PAGES) % MAP_EXT_PAGES ≡ 0 }
     requires inside { holder < blocks image.now }
     requires state { IsBeforePage image.now (store_value store.old) i holder }
-    requires paid { IsPaid store.old looks.old 1 }
+    requires paid { IsPaid store.old reads.old 1 }
     ensures state { IfOk result (λ b. IsAtPage image.now (store_value store.new) i b) }
     ensures inside { IfOk result (λ b. b < blocks image.now) }
-    ensures paid { OnOk result (IsPaid store.new looks.new 1) }
+    ensures paid { OnOk result (IsPaid store.new reads.new 1) }
     ensures fault { IfErr result (λ f. IsTrueFault image.now f) }
 {
     image.begun();
-    let b = map_ext_named(image, looks, root, holder, i);
+    let b = map_ext_named(image, reads, root, holder, i);
     let j = (i - ROOT_PAGES as u32) / MAP_EXT_PAGES as u32;
     claim_named(&mut store.owners, holder, b, KeptOwner::MapExt(j))?;
     Ok(b)
@@ -108,7 +108,7 @@ fn holder_of_page<L: Ledger>(
     image: &Image<'_>,
     root: &Root<'_>,
     store: &mut Store,
-    looks: &mut Looks<L>,
+    reads: &mut BlockReads<L>,
     holder: u32,
     i: u32,
 ) -> Result<u32, Fault>
@@ -116,15 +116,15 @@ fn holder_of_page<L: Ledger>(
     requires needed { i < pages_needed (blocks image.now) }
     requires inside { holder < blocks image.now }
     requires state { IsBeforePage image.now (store_value store.old) i holder }
-    requires paid { IsPaid store.old looks.old 1 }
+    requires paid { IsPaid store.old reads.old 1 }
     ensures state { IfOk result (λ b. IsAtPage image.now (store_value store.new) i b) }
     ensures inside { IfOk result (λ b. b < blocks image.now) }
-    ensures paid { OnOk result (IsPaid store.new looks.new 1) }
+    ensures paid { OnOk result (IsPaid store.new reads.new 1) }
     ensures fault { IfErr result (λ f. IsTrueFault image.now f) }
 {
     image.begun();
     if is_first_of_map_ext(i) {
-        claim_map_ext(image, root, store, looks, holder, i)
+        claim_map_ext(image, root, store, reads, holder, i)
     } else {
         Ok(holder)
     }
@@ -135,7 +135,7 @@ fn read_page_at<L: Ledger>(
     image: &Image<'_>,
     root: &Root<'_>,
     store: &mut Store,
-    looks: &mut Looks<L>,
+    reads: &mut BlockReads<L>,
     holder: u32,
     i: u32,
 ) -> Result<u32, Fault>
@@ -143,17 +143,17 @@ fn read_page_at<L: Ledger>(
     requires needed { i < pages_needed (blocks image.now) }
     requires inside { holder < blocks image.now }
     requires state { IsAtPage image.now (store_value store.old) i holder }
-    requires paid { IsPaid store.old looks.old 1 }
+    requires paid { IsPaid store.old reads.old 1 }
     ensures state { OnOk result (IsBeforePage image.now (store_value store.new) (i + 1) holder) }
     ensures page { IfOk result (λ b. b ≡ block_of_page image.now i) }
     ensures within { IfOk result (λ b. b < blocks image.now) }
-    ensures paid { OnOk result (IsPaid store.new looks.new 1) }
+    ensures paid { OnOk result (IsPaid store.new reads.new 1) }
     ensures fault { IfErr result (λ f. IsTrueFault image.now f) }
 {
     image.begun();
-    let b = page_named(image, looks, root, holder, i);
+    let b = page_named(image, reads, root, holder, i);
     claim_named(&mut store.owners, holder, b, KeptOwner::Page(i))?;
-    match read_page(look(image, b, looks)) {
+    match read_page(read_block(image, b, reads)) {
         Ok(_) => Ok(b),
         Err(cause) => Err(fault_at(b, cause)),
     }
@@ -165,22 +165,22 @@ pub fn read_pages<L: Ledger>(
     image: &Image<'_>,
     root: &Root<'_>,
     store: &mut Store,
-    looks: &mut Looks<L>,
+    reads: &mut BlockReads<L>,
 ) -> Result<Vec<u32>, Fault>
     requires root { root.now ≡ block image.now (root_of image.now) }
     requires state { IsBeforePage image.now (store_value store.old) 0 (root_of image.now) }
-    requires paid { IsPaid store.old looks.old 1 }
+    requires paid { IsPaid store.old reads.old 1 }
     ensures state { OnOk result (IsAtNode image.now (store_value store.new) 0) }
     ensures pages { IfOk result (λ p.
         AreListed image.now p.items (pages_needed (blocks image.now))) }
-    ensures paid { OnOk result (IsPaid store.new looks.new 1) }
+    ensures paid { OnOk result (IsPaid store.new reads.new 1) }
     ensures fault { IfErr result (λ f. IsTrueFault image.now f) }
 {
     let mut pages = Vec::new(alloc);
     let mut holder = image.root();
     for i in 0..page_count(image.blocks()) {
-        holder = holder_of_page(image, root, store, looks, holder, i)?;
-        let page = read_page_at(image, root, store, looks, holder, i)?;
+        holder = holder_of_page(image, root, store, reads, holder, i)?;
+        let page = read_page_at(image, root, store, reads, holder, i)?;
         if pages.push(page).is_err() {
             return Err(no_memory());
         }

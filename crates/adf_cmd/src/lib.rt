@@ -24,4 +24,4 @@ pub use adf_runs::{
     Device, Failed, Outcome, Program, Ran, Sink, Source, StreamFault, WorkFault, command_words,
     flush_long, read_all, read_input, read_into, run_program, run_program_on, say, write_all,
 };
-pub use adf_words::{Request, WordsFault, parse, words_as_documented};
+pub use adf_words::{ArgsError, Request, parse, words_as_documented};

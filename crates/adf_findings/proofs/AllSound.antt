@@ -7,7 +7,7 @@ use Rattle.adf_findings.specs.Found.{owns}
 use Rattle.adf_findings.specs.Sound.{IsSound}
 use Rattle.adf_findings.specs.Survey.{FindingValue, IsSurvey}
 use Rattle.adf_findings.specs.Survey.IsSurvey.{read, unread}
-use Rattle.adf_findings.proofs.SoundEntries.{passed_noted}
+use Rattle.adf_findings.proofs.SoundEntries.{skipped_reported}
 use Rattle.adf_findings.proofs.SoundMarks.{is_alone}
 
 none_over : (over : List (Role × ℕ)) → ((r : Role) (b : ℕ) → Has over r b → ⊥) → over ≡ []
@@ -19,11 +19,11 @@ pub all_sound : (image : List ℕ) (w : List (Role × ℕ)) (fs : List FindingVa
 all_sound image w fs n h (unread f) e g = absurd g.has
 all_sound image w fs n h (read {s = s} {bits = bits} v d t) e g =
     let none : (f : FindingValue) → In (s.findings ++ bits) f → ⊥ = (λ f i. subst (λ fs. In fs f) e i) in
-    let over : s.passed_over ≡ [] =
-    none_over s.passed_over (λ r b k. let x = passed_noted image v r b k in none x.0 (in_left s.findings bits x.0 x.1)) in
+    let over : s.skipped ≡ [] =
+    none_over s.skipped (λ r b k. let x = skipped_reported image v r b k in none x.0 (in_left s.findings bits x.0 x.1)) in
     record {
       header = g;
-      unnoted = (λ f q i z same. none f i);
+      unreported = (λ f q i z same. none f i);
       exts = (λ k f q i z same. none f i);
       datas = (λ k f q i z same. none f i);
       chains = (λ f m t j i z. absurd (none f i));

@@ -88,9 +88,9 @@ stands_begun image f g h taken owned owners numbers avoided left nodes exts find
     })
 
 -- the findings of the boot block stand behind none
-pub stands_boot : (image : List ℕ) (f : Found) (noted : Vec Finding) (fs : List FindingValue) → Stands image f (begun image [])
-    → map finding_value noted.items ≡ map finding_value f.findings.items ++ fs → Stands image (record f { findings = noted }) (begun image fs)
-stands_boot image f noted fs st e = record {
+pub stands_boot : (image : List ℕ) (f : Found) (reported : Vec Finding) (fs : List FindingValue) → Stands image f (begun image [])
+    → map finding_value reported.items ≡ map finding_value f.findings.items ++ fs → Stands image (record f { findings = reported }) (begun image fs)
+stands_boot image f reported fs st e = record {
   taken = st.taken;
   owned = st.owned;
   owners = st.owners;

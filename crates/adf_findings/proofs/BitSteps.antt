@@ -19,10 +19,10 @@ use Rattle.adf_findings.specs.Survey.BitsTell.{agrees, differs, ends}
 use Rattle.adf_findings.specs.declared.part.Finding.{Finding}
 use Rattle.adf_findings.specs.Forms.{Tells}
 use Rattle.adf_findings.specs.Parts.{by_key, key_of}
-use Rattle.adf_findings.specs.Found.{BitTells, IsBitOf, IsCompleted, IsFinished, IsNoted, IsToldOn, TellsOn, Stands, at_key, cause_told, owns}
+use Rattle.adf_findings.specs.Found.{BitTells, IsBitOf, IsCompleted, IsFinished, IsReported, HasReportedOn, TellsOn, Stands, at_key, bit_cause, owns}
 use Rattle.adf_findings.proofs.Keys.{lacks_at, one_key, same_of_key}
 use Rattle.adf_findings.proofs.Known.{tells_absent}
-use Rattle.adf_findings.proofs.Taking.{stands_noted}
+use Rattle.adf_findings.proofs.Taking.{stands_reported}
 use Rattle.adf_findings.proofs.OneSurvey.{gathered}
 
 -- where the bitmap is not valid, no bit is compared
@@ -46,7 +46,7 @@ has_page w page at e =
     (same_of_key x.0 (Page page) x.2)
 
 module _ (image : List ℕ) (f : Found) (s : Course) (v : IsCourse image s) (fs : List FindingValue)
-    (st : Stands image f (record { walk = s.walk; passed_over = s.passed_over; findings = fs })) (b : ℕ) where
+    (st : Stands image f (record { walk = s.walk; skipped = s.skipped; findings = fs })) (b : ℕ) where
   abbrev page : ℕ
   page = (b - 2) / PAGE_BITS
 
@@ -63,14 +63,14 @@ module _ (image : List ℕ) (f : Found) (s : Course) (v : IsCourse image s) (fs 
       let one : y.0 ≡ at = (one_block image (gathered image v) (Page page) (Page page) y.0 at y.1 h (same_refl (Page page))).1 in
       let z : IsTrue false = free.1 (subst (λ a. IsFreeAt image a ((b - 2) % PAGE_BITS)) one y.2) in cc
 
-  -- a block has an excuse if it was passed over or is a directory cache
-  tells_excuse : (p k : Bool) → Tells (not p) (IsAbsent s.passed_over b) → k ≡ is_cache image b → Tells (not (p || k)) (IsUnexcused image s b)
+  -- a block has an excuse if it was skipped or is a directory cache
+  tells_excuse : (p k : Bool) → Tells (not p) (IsAbsent s.skipped b) → k ≡ is_cache image b → Tells (not (p || k)) (IsUnexcused image s b)
   tells_excuse true k h e = λ x. h x.0
   tells_excuse false true h e = λ x. let clash : true ≡ false = e ∙ x.1 in cc
   tells_excuse false false h e = (h, sym e)
 
   tells_bit : (o a t : Bool) (at : ℕ) → IsValidated image → Has s.walk (Page page) at → Tells (not o) (IsAbsent s.walk b) → Tells (not a) (IsUnexcused image s b)
-      → Tells t (IsFreeIn image s.walk b) → BitTells image s b (cause_told o a t)
+      → Tells t (IsFreeIn image s.walk b) → BitTells image s b (bit_cause o a t)
   tells_bit false false false at vd h ow av fr = ((vd, (at, h), (λ x. av)), inl ((λ k. fr (k ow)), refl, refl))
   tells_bit false true false at vd h ow av fr = λ c. absurd (av (c.2 ow))
   tells_bit false false true at vd h ow av fr = λ c. ((λ x. fr), ((λ x. ow), tt))
@@ -81,12 +81,12 @@ module _ (image : List ℕ) (f : Found) (s : Course) (v : IsCourse image s) (fs 
   tells_bit true true false at vd h ow av fr = λ c. ((λ x. absurd (ow x)), ((λ x. absurd (fr x)), tt))
 
   -- with its page the bit tells by whose the block is
-  pub page_tells : (o p k t : Bool) → o ≡ owns s.walk b → p ≡ owns s.passed_over b → k ≡ is_cache image b → IsValidated image
-      → IsBitOf image f.taken page ((b - 2) % PAGE_BITS) (Some t) → BitTells image s b (cause_told o (p || k) t)
+  pub page_tells : (o p k t : Bool) → o ≡ owns s.walk b → p ≡ owns s.skipped b → k ≡ is_cache image b → IsValidated image
+      → IsBitOf image f.taken page ((b - 2) % PAGE_BITS) (Some t) → BitTells image s b (bit_cause o (p || k) t)
   page_tells o p k t oe pe ke vd x =
       let h = page_has x.0 x.1 in
       tells_bit o (p || k) t x.0 vd h (subst (λ o. Tells (not o) (IsAbsent s.walk b)) (sym oe) (tells_absent s.walk b))
-      (tells_excuse p k (subst (λ p. Tells (not p) (IsAbsent s.passed_over b)) (sym pe) (tells_absent s.passed_over b)) ke) (tells_free x.0 t h x.2)
+      (tells_excuse p k (subst (λ p. Tells (not p) (IsAbsent s.skipped b)) (sym pe) (tells_absent s.skipped b)) ke) (tells_free x.0 t h x.2)
 
 pub tells_none : (image : List ℕ) (s : Course) (b : ℕ) (gs : List FindingValue) → 2 ≤ b → BitTells image s b None
     → TellsOn image s b gs → TellsOn image s (b + 1) gs
@@ -105,44 +105,44 @@ tells_some image s b gs c lo t on n fs h =
     (on (suc n) (finding None b c ∷ fs) (differs t.0 t.1 (subst (λ c. BitsTell image s c n fs) one h))))
 
 -- the bits of no block are compared at first, and at last all are
-pub none_told : (image : List ℕ) (s : Course) → TellsOn image s 2 []
-none_told image s n fs h = let e : n ≡ 2 - 2 + n = omega arith in subst (λ n. BitsTell image s 2 n fs) e h
+pub none_reported : (image : List ℕ) (s : Course) → TellsOn image s 2 []
+none_reported image s n fs h = let e : n ≡ 2 - 2 + n = omega arith in subst (λ n. BitsTell image s 2 n fs) e h
 
-pub all_told : (image : List ℕ) (s : Course) (b : ℕ) (gs : List FindingValue) → TellsOn image s b gs → BitsTell image s 2 (b - 2) gs
-all_told image s b gs on =
+pub all_reported : (image : List ℕ) (s : Course) (b : ℕ) (gs : List FindingValue) → TellsOn image s b gs → BitsTell image s 2 (b - 2) gs
+all_reported image s b gs on =
     let e : b - 2 + 0 ≡ b - 2 = omega arith in
     subst (λ n. BitsTell image s 2 n gs) e (subst (BitsTell image s 2 (b - 2 + 0)) (append-nil gs) (on 0 [] ends))
 
 pub none_on : (image : List ℕ) (f : Found) (b : ℕ) → 2 ≤ b
-    → ((s : Course) (fs : List FindingValue) → IsCourse image s → Stands image f (record { walk = s.walk; passed_over = s.passed_over; findings = fs })
-    → BitTells image s b None) → IsToldOn image f b → IsToldOn image f (b + 1)
+    → ((s : Course) (fs : List FindingValue) → IsCourse image s → Stands image f (record { walk = s.walk; skipped = s.skipped; findings = fs })
+    → BitTells image s b None) → HasReportedOn image f b → HasReportedOn image f (b + 1)
 none_on image f b lo tells (s, gs, told, on) = (s, gs, told, tells_none image s b gs lo (tells s (s.findings ++ gs) told.course told.stands) on)
 
 pub some_on : (image : List ℕ) (f g : Found) (b : ℕ) (c : Cause) (x : Finding) → 2 ≤ b → x ≡ record { part = None; block = b; cause = c }
-    → ((s : Course) (fs : List FindingValue) → IsCourse image s → Stands image f (record { walk = s.walk; passed_over = s.passed_over; findings = fs })
-    → BitTells image s b (Some c)) → IsNoted x f g → IsToldOn image f b → IsToldOn image g (b + 1)
-some_on image f g b c x lo is tells noted (s, gs, told, on) =
+    → ((s : Course) (fs : List FindingValue) → IsCourse image s → Stands image f (record { walk = s.walk; skipped = s.skipped; findings = fs })
+    → BitTells image s b (Some c)) → IsReported x f g → HasReportedOn image f b → HasReportedOn image g (b + 1)
+some_on image f g b c x lo is tells reported (s, gs, told, on) =
     let one : List FindingValue = finding None b c ∷ [] in
-    let n : IsNoted (record { part = None; block = b; cause = c }) f g = subst (λ x. IsNoted x f g) is noted in
-    let st = stands_noted image f g (record { walk = s.walk; passed_over = s.passed_over; findings = s.findings ++ gs }) b told.stands
+    let n : IsReported (record { part = None; block = b; cause = c }) f g = subst (λ x. IsReported x f g) is reported in
+    let st = stands_reported image f g (record { walk = s.walk; skipped = s.skipped; findings = s.findings ++ gs }) b told.stands
     (record { part = None; block = b; cause = c }) n in (
       s,
       gs ++ one,
       record {
         course = told.course;
         done = told.done;
-        stands = subst (λ fs. Stands image g (record { walk = s.walk; passed_over = s.passed_over; findings = fs })) (append_assoc s.findings gs one) st;
+        stands = subst (λ fs. Stands image g (record { walk = s.walk; skipped = s.skipped; findings = fs })) (append_assoc s.findings gs one) st;
       },
       tells_some image s b gs c lo (tells s (s.findings ++ gs) told.course told.stands) on,
     )
 
-pub told_first : (image : List ℕ) (f : Found) → IsFinished image f → IsToldOn image f 2
-told_first image f (s, course, done, stands) =
-    let st = subst (λ fs. Stands image f (record { walk = s.walk; passed_over = s.passed_over; findings = fs })) (sym (append-nil s.findings)) stands in
-    (s, [], record { course = course; done = done; stands = st }, none_told image s)
+pub reported_first : (image : List ℕ) (f : Found) → IsFinished image f → HasReportedOn image f 2
+reported_first image f (s, course, done, stands) =
+    let st = subst (λ fs. Stands image f (record { walk = s.walk; skipped = s.skipped; findings = fs })) (sym (append-nil s.findings)) stands in
+    (s, [], record { course = course; done = done; stands = st }, none_reported image s)
 
-pub told_last : (image : List ℕ) (f : Found) (b : ℕ) → b ≡ blocks image → IsToldOn image f b → IsCompleted image f
-told_last image f b e (s, gs, told, on) = (s, gs, told, subst (λ b. BitsTell image s 2 (b - 2) gs) e (all_told image s b gs on))
+pub reported_last : (image : List ℕ) (f : Found) (b : ℕ) → b ≡ blocks image → HasReportedOn image f b → IsCompleted image f
+reported_last image f b e (s, gs, told, on) = (s, gs, told, subst (λ b. BitsTell image s 2 (b - 2) gs) e (all_reported image s b gs on))
 
 -- inside a list the default does not count
 pub any_default : (xs : List Bool) (b : ℕ) (d : Bool) → b < length xs → slice_index_or xs b d ≡ slice_index_or xs b false

@@ -14,7 +14,7 @@ use Rattle.adf_findings.specs.declared.part.Finding.{Finding}
 use Rattle.adf_findings.specs.Concerned.{owner_of, is_taken}
 use Rattle.adf_findings.specs.Found.{entry_in, owner}
 use Rattle.adf_findings.specs.Parts.{finding_value}
-use Rattle.adf_findings.specs.Surveyed.{owner_at, owner_for}
+use Rattle.adf_findings.specs.SurveyResult.{owner_at, owner_for}
 
 -- the number of an entry, which is not 0
 from_number : (o : Option ℕ) → ((n : ℕ) → o ≡ Some n → 1 ≤ n) → cond (unwrap_or o 0 == 0) None (Some (unwrap_or o 0)) ≡ o

@@ -20,7 +20,7 @@ use Rattle.adf_findings.specs.Survey.{BitsTell, Course, FindingValue, IsCourse}
 use Rattle.adf_findings.proofs.HeadPlaces.{header_found}
 use Rattle.adf_findings.proofs.Keys.{at_lacks}
 use Rattle.adf_findings.proofs.OneSurvey.{gathered}
-use Rattle.adf_findings.proofs.SoundMarks.{apart, in_values, passed_header, settled, taken_at}
+use Rattle.adf_findings.proofs.SoundMarks.{apart, in_values, skipped_header, settled, taken_at}
 
 -- what holds of each finding holds at each place
 at_places : (g : Finding → Option Concern) (h : FindingValue → Option Concern) (xs : List Finding) → ((x : Finding) → In xs x → g x ≡ h (finding_value x)) → (k : ℕ)
@@ -30,7 +30,7 @@ at_places g h (x ∷ xs) e zero = e x (inl refl)
 at_places g h (x ∷ xs) e (suc k) = at_places g h xs (λ y i. e y (inr i)) k
 
 module _ (image : List ℕ) (f : Found) {s : Course} (v : IsCourse image s) (bits : List FindingValue) {b n : ℕ} (tells : BitsTell image s b n bits)
-    (st : Stands image f (record { walk = s.walk; passed_over = s.passed_over; findings = s.findings ++ bits })) where
+    (st : Stands image f (record { walk = s.walk; skipped = s.skipped; findings = s.findings ++ bits })) where
   -- a header of a finding is found by its number where the walk has one at its place
   header_is : (g : FindingValue) (n p t j : ℕ) → In (s.findings ++ bits) g → g.part ≡ Some (Head n p t j)
       → is_header f n p t j ≡ is_some (at_key s.walk (key_of (Head n p t j)))
@@ -40,7 +40,7 @@ module _ (image : List ℕ) (f : Found) {s : Course} (v : IsCourse image s) (bit
         ∙ sym (ap is_some (taken_at image s.walk (gathered image v) (Head n p t j) x.0 x.1))
     | inr x ↦
         let lacks : Lacks s.walk (Head n p t j) = (λ q c h same. apart image v q (Head n p t j) c x.0 h x.1 same) in
-        passed_header image f v (s.findings ++ bits) st n p t j x.0 x.1 ∙ sym (ap is_some (at_lacks s.walk (Head n p t j) lacks))
+        skipped_header image f v (s.findings ++ bits) st n p t j x.0 x.1 ∙ sym (ap is_some (at_lacks s.walk (Head n p t j) lacks))
   ]
 
   -- what a finding concerns is told of the walk

@@ -90,9 +90,9 @@ module _ {image : List ℕ} {f : Found} {p slot j a i b : ℕ} (x : HasReachedHe
         link = ((suc (heads w), inl (refl, sym on.block)), refl);
       })
 
-  -- behind a header that was passed over its chain ends
-  pub header_passed : {g : Found} {o : Option ℕ} → o ≡ None → IsGoneOn image x.course (HeadPart 0 p slot j) a i g o → HasReachedSlot image g p (slot + 1) b
-  header_passed {g} {o} e gone =
+  -- behind a header that was skipped its chain ends
+  pub header_skipped : {g : Found} {o : Option ℕ} → o ≡ None → IsGoneOn image x.course (HeadPart 0 p slot j) a i g o → HasReachedSlot image g p (slot + 1) b
+  header_skipped {g} {o} e gone =
       let one : suc slot ≡ slot + 1 = omega arith in
       let on = subst (IsGoneOn image x.course (HeadPart 0 p slot j) a i g) e gone in
       subst (λ slot. HasReachedSlot image g p slot b) one
@@ -132,9 +132,9 @@ module _ {image : List ℕ} {f : Found} {n b m a : ℕ} (x : HasReachedExt image
         count = count_own n (suc m) (ext_count x.course.walk n) ∙ ap suc x.count;
       })
 
-  -- behind an extension block that was passed over come the data blocks
-  pub ext_passed : {g : Found} {o : Option ℕ} → o ≡ None → IsGoneOn image x.course (ExtPart n (m + 1)) a EXTENSION g o → HasReachedData image g n b m 0
-  ext_passed {g} {o} e gone =
+  -- behind an extension block that was skipped come the data blocks
+  pub ext_skipped : {g : Found} {o : Option ℕ} → o ≡ None → IsGoneOn image x.course (ExtPart n (m + 1)) a EXTENSION g o → HasReachedData image g n b m 0
+  ext_skipped {g} {o} e gone =
       let on = gone_on None e gone in
       record {
         course = _;

@@ -1,4 +1,4 @@
--- The steps of a course: the part at its position is taken or passed over, or the position advances without one.
+-- The steps of a course: the part at its position is taken or skipped, or the position advances without one.
 use Rattle.std.specs.Prelude.{Bool, false, not, ◌||◌, slice_index_or, Option, Some, None}
 use Rattle.std.proofs.Common.{◌≡◌, ℕ, zero, suc, length, List, ◌∷◌, ◌<◌, ◌≤◌, refl, sym, subst, ap, ◌∙◌, arith}
 use Rattle.std.specs.Global.{Vec}
@@ -9,18 +9,18 @@ use Rattle.adf_volume.specs.Positions.{Position, IsBelow, IsNoLater, IsUpTo, beh
 use Rattle.adf_volume.specs.Walk.{Role, Same, Has, Asks, Lacks, first, heads, second, third}
 use Rattle.adf_volume.specs.Walk.Role.{Root, Head, Ext}
 use Rattle.adf_volume.proofs.Gathered.{IsGathered, ext_counted, next_ext}
-use Rattle.adf_volume.proofs.PositionSteps.{not_passed, not_taken, past_passed, past_taken, same_behind, same_position}
+use Rattle.adf_volume.proofs.PositionSteps.{not_skipped, not_taken, past_skipped, past_taken, same_behind, same_position}
 use Rattle.adf_volume.proofs.Roles.{asks_number, renumbered, renumbered_same}
 use Rattle.adf_findings.specs.declared.part.Part.{Part}
 use Rattle.adf_findings.specs.declared.part.Part.TheVariants.{Head as HeadPart}
-use Rattle.adf_findings.specs.declared.course.Ask.{Ask}
+use Rattle.adf_findings.specs.declared.course.Reference.{Reference}
 use Rattle.adf_findings.specs.declared.judge.Facts.{Facts}
 use Rattle.adf_findings.specs.declared.found.Found.{Found}
 use Rattle.adf_findings.specs.Survey.{Course}
 use Rattle.adf_findings.specs.Forms.{Knows}
 use Rattle.adf_findings.specs.Parts.{role_of}
-use Rattle.adf_findings.specs.Found.{AreNamed, IsChain, IsKept, IsTaken, Stands, around_in, by_name, enough_in, has_name, known_at, new_in}
-use Rattle.adf_findings.specs.Courses.{Holds, IsGoneOn, IsNamed, IsNextAsk, IsOutcome, IsPassedOver, IsToTake, course_on, role_asked}
+use Rattle.adf_findings.specs.Found.{AreNamed, IsChain, IsKept, IsTaken, Stands, context_in, by_name, enough_in, has_name, known_at, new_in}
+use Rattle.adf_findings.specs.Courses.{Holds, IsGoneOn, IsNamed, IsNextReference, IsOutcome, IsSkipped, IsToTake, course_on, role_asked}
 use Rattle.adf_findings.proofs.Known.{knows, no_name, own_name}
 use Rattle.adf_findings.proofs.OneSurvey.{gathered}
 use Rattle.adf_findings.proofs.Taking.{IsNumbered, stands_taken, unowned_less}
@@ -38,7 +38,7 @@ pub role_is : (image : List ℕ) (f : Found) (s : Course) (part z : Part) (m : �
 role_is image f s part z m st e is = is ∙ ap (λ m. renumbered m (role_of part)) (e ∙ st.count)
 
 -- a course moves on to a later position that its walk has come to
-pub moved : {image : List ℕ} {f : Found} {k l : Position} {s : Course} → Holds image f k s → IsNoLater k l → IsUpTo image s.walk s.passed_over l
+pub moved : {image : List ℕ} {f : Found} {k l : Position} {s : Course} → Holds image f k s → IsNoLater k l → IsUpTo image s.walk s.skipped l
     → Holds image f l s
 moved {k = k} h le up_to = record {
   course = h.course;
@@ -57,17 +57,17 @@ module _ {image : List ℕ} {f : Found} {part : Part} {a i : ℕ} {s : Course} (
   same : Same role (role_of part)
   same = renumbered_same (suc (heads s.walk)) (role_of part)
 
-  up_to : IsUpTo image s.walk s.passed_over (position_of role)
-  up_to = subst (IsUpTo image s.walk s.passed_over) (sym (same_position role (role_of part) same)) n.holds.up_to
+  up_to : IsUpTo image s.walk s.skipped (position_of role)
+  up_to = subst (IsUpTo image s.walk s.skipped) (sym (same_position role (role_of part) same)) n.holds.up_to
 
   -- a part that is named is next
-  pub is_next : IsNextAsk image s (record { part = part; holder = a; block = word_in image a i })
+  pub is_next : IsNextReference image s (record { part = part; holder = a; block = word_in image a i })
   is_next = (
     i,
     record {
       asked = n.asked;
       lacks = not_taken image role up_to;
-      unpassed = not_passed image role up_to;
+      unskipped = not_skipped image role up_to;
       least = (λ q d k h lack over before. up_to.gone q d k h lack over before);
     },
     refl,
@@ -100,42 +100,43 @@ module _ {image : List ℕ} {f : Found} {part : Part} {a i : ℕ} {s : Course} (
   -- what is found of it tells what its demands ask
   pub known : {z : Part} {b : ℕ} (x : Facts) → role_of z ≡ role → x.is_enough ≡ enough_in image f z → x.is_absent ≡ not (slice_index_or f.owned.items b false)
       → (b < blocks image → (w : List (Role × ℕ)) → AreNamed image w (position_of (role_of z)) f.names → IsChain w z → x.is_new ≡ new_in image w z b)
-      → x.around ≡ around_in image f z → Knows image s.walk z b x
-  known {z} {b} x is enough absent new around =
-      knows image f s n.holds.stands z a i b x v (subst (λ r. Asks image s.walk r a i) (sym is) n.asked) enough absent (new_known z b is new) around
+      → x.context ≡ context_in image f z → Knows image s.walk z b x
+  known {z} {b} x is enough absent new context =
+      knows image f s n.holds.stands z a i b x v (subst (λ r. Asks image s.walk r a i) (sym is) n.asked) enough absent (new_known z b is new) context
 
-  abbrev ask_at : ℕ → Ask
-  ask_at b = record { part = part; holder = a; block = b }
+  abbrev reference_at : ℕ → Reference
+  reference_at b = record { part = part; holder = a; block = b }
 
   -- what comes of the part in any course in which it is next
   abbrev AsJudged : ℕ → Found → Option Part → Type 0
-  AsJudged b g o = (t : Course) → Holds image f (position_of (role_of part)) t → IsNextAsk image t (ask_at b) → IsOutcome image t (ask_at b) f g o
+  AsJudged b g o = (t : Course) → Holds image f (position_of (role_of part)) t → IsNextReference image t (reference_at b)
+      → IsOutcome image t (reference_at b) f g o
 
-  outcome : (b : ℕ) (g : Found) (o : Option Part) → b ≡ word_in image a i → AsJudged b g o → IsOutcome image s (ask_at (word_in image a i)) f g o
+  outcome : (b : ℕ) (g : Found) (o : Option Part) → b ≡ word_in image a i → AsJudged b g o → IsOutcome image s (reference_at (word_in image a i)) f g o
   outcome b g o e judged =
-      subst (λ b. IsOutcome image s (ask_at b) f g o) e (judged s n.holds (subst (λ b. IsNextAsk image s (ask_at b)) (sym e) is_next))
+      subst (λ b. IsOutcome image s (reference_at b) f g o) e (judged s n.holds (subst (λ b. IsNextReference image s (reference_at b)) (sym e) is_next))
 
   pub to_take : {b : ℕ} {g : Found} {o : Option Part} → b ≡ word_in image a i → AsJudged b g o → (z : Part) → o ≡ Some z
-      → IsToTake image s (ask_at (word_in image a i)) f g z
-  to_take {b} {g} {o} e judged z is = subst (IsOutcome image s (ask_at (word_in image a i)) f g) is (outcome b g o e judged)
+      → IsToTake image s (reference_at (word_in image a i)) f g z
+  to_take {b} {g} {o} e judged z is = subst (IsOutcome image s (reference_at (word_in image a i)) f g) is (outcome b g o e judged)
 
-  pub to_pass : {b : ℕ} {g : Found} {o : Option Part} → b ≡ word_in image a i → AsJudged b g o → o ≡ None
-      → IsPassedOver image s (ask_at (word_in image a i)) f g
-  to_pass {b} {g} {o} e judged is = subst (IsOutcome image s (ask_at (word_in image a i)) f g) is (outcome b g o e judged)
+  pub to_skip : {b : ℕ} {g : Found} {o : Option Part} → b ≡ word_in image a i → AsJudged b g o → o ≡ None
+      → IsSkipped image s (reference_at (word_in image a i)) f g
+  to_skip {b} {g} {o} e judged is = subst (IsOutcome image s (reference_at (word_in image a i)) f g) is (outcome b g o e judged)
 
-  -- the place behind a part that was passed over
-  module _ {g : Found} (o : IsPassedOver image s (ask_at (word_in image a i)) f g) where
-    passed_up_to : IsUpTo image s.walk ((role, word_in image a i) ∷ s.passed_over) (behind (role_of part))
-    passed_up_to = subst (IsUpTo image s.walk ((role, word_in image a i) ∷ s.passed_over)) (same_behind role (role_of part) same)
-        (past_passed image role up_to (word_in image a i))
+  -- the place behind a part that was skipped
+  module _ {g : Found} (o : IsSkipped image s (reference_at (word_in image a i)) f g) where
+    skipped_up_to : IsUpTo image s.walk ((role, word_in image a i) ∷ s.skipped) (behind (role_of part))
+    skipped_up_to = subst (IsUpTo image s.walk ((role, word_in image a i) ∷ s.skipped)) (same_behind role (role_of part) same)
+        (past_skipped image role up_to (word_in image a i))
 
-    pub passed_on : IsGoneOn image s part a i g None
-    passed_on = record {
+    pub skipped_on : IsGoneOn image s part a i g None
+    skipped_on = record {
       findings = o.findings;
       holds = record {
         course = o.course;
         stands = o.stands;
-        up_to = passed_up_to;
+        up_to = skipped_up_to;
         names = (λ q m p t j b e d has. ap (λ x. contains by_name x q) o.names ∙ n.holds.names q m p t j b e d has);
         small = n.holds.small;
       };
@@ -143,7 +144,7 @@ module _ {image : List ℕ} {f : Found} {part : Part} {a i : ℕ} {s : Course} (
     }
 
   -- the place behind a part that is taken
-  module _ {g : Found} {taken : Part} (o : IsToTake image s (ask_at (word_in image a i)) f g taken) where
+  module _ {g : Found} {taken : Part} (o : IsToTake image s (reference_at (word_in image a i)) f g taken) where
     abbrev block : ℕ
     block = word_in image a i
 
@@ -165,12 +166,12 @@ module _ {image : List ℕ} {f : Found} {part : Part} {a i : ℕ} {s : Course} (
 
       taken_stands : Stands image h now
       taken_stands =
-          subst (λ r. Stands image h (record { walk = (r, block) ∷ s.walk; passed_over = s.passed_over; findings = o.findings })) o.role
-          (stands_taken image g h (record { walk = s.walk; passed_over = s.passed_over; findings = o.findings }) block o.stands taken taken_number o.inside
+          subst (λ r. Stands image h (record { walk = (r, block) ∷ s.walk; skipped = s.skipped; findings = o.findings })) o.role
+          (stands_taken image g h (record { walk = s.walk; skipped = s.skipped; findings = o.findings }) block o.stands taken taken_number o.inside
           o.free t)
 
-      taken_up_to : IsUpTo image ((role, block) ∷ s.walk) s.passed_over (behind (role_of part))
-      taken_up_to = subst (IsUpTo image ((role, block) ∷ s.walk) s.passed_over) (same_behind role (role_of part) same)
+      taken_up_to : IsUpTo image ((role, block) ∷ s.walk) s.skipped (behind (role_of part))
+      taken_up_to = subst (IsUpTo image ((role, block) ∷ s.walk) s.skipped) (same_behind role (role_of part) same)
           (past_taken image role up_to v a i block n.asked)
 
       known_names : (j : ℕ) (q : Vec ℕ) {m p t : ℕ} → Head m p t j ≡ role → suc p ≡ first (role_of part) → suc (suc t) ≡ second (role_of part)

@@ -13,10 +13,10 @@ use Rattle.adf_volume.proofs.Roles.{has_role, same_refl}
 use Rattle.adf_findings.specs.Files.{named_from}
 use Rattle.adf_findings.specs.Found.{at_key, data_number, entry_in, number_at, owner}
 use Rattle.adf_findings.specs.Parts.{key_of}
-use Rattle.adf_findings.specs.Remains.{blocks_told, bytes_left, data_found, data_named, gaps_left, size_told}
+use Rattle.adf_findings.specs.Remains.{blocks_stated, bytes_left, data_found, data_named, gaps_left, size_stated}
 use Rattle.adf_findings.specs.Survey.{FindingValue, IsSurvey}
 use Rattle.adf_findings.specs.Survey.IsSurvey.{read, unread}
-use Rattle.adf_findings.specs.Surveyed.{Surveyed, TellsOf}
+use Rattle.adf_findings.specs.SurveyResult.{SurveyValue, TellsOf}
 use Rattle.adf_findings.proofs.BitSteps.{at_has}
 use Rattle.adf_findings.proofs.FileBlocks.{data_is}
 use Rattle.adf_findings.proofs.FoundFiles.{file_between}
@@ -103,7 +103,7 @@ some_kept m n lo e = elim (eqb_tells m 0) [
   | inr y ↦ ap (λ t. cond t None (Some m)) y.0 ∙ ap Some e
 ]
 
-module _ (v : Surveyed) (w : List (Role × ℕ)) (fs : List FindingValue) (t : TellsOf v w fs) (n h : ℕ) (file : FileAt v.image w n h) where
+module _ (v : SurveyValue) (w : List (Role × ℕ)) (fs : List FindingValue) (t : TellsOf v w fs) (n h : ℕ) (file : FileAt v.image w n h) where
   -- the block that is named as a data block, if it is taken as that, is the one that is found
   pub named_is : (k : ℕ) → data_named v.image v n h k ≡ data_found w n k
   named_is k = go (data_found w n k) refl
@@ -134,15 +134,15 @@ module _ (v : Surveyed) (w : List (Role × ℕ)) (fs : List FindingValue) (t : T
           ∙ ap Some named.0
 
   -- what is left by the blocks that are named is what is left by those that are found
-  pub left_is : (image : List ℕ) (head : ℕ) → image ≡ v.image → head ≡ h → (size many : ℕ) → size ≡ size_told v.image h → many ≡ blocks_told v.image h
+  pub left_is : (image : List ℕ) (head : ℕ) → image ≡ v.image → head ≡ h → (size many : ℕ) → size ≡ size_stated v.image h → many ≡ blocks_stated v.image h
       → (bytes_left image size (data_named image v n head) many
-      ≡ bytes_left v.image (size_told v.image h) (data_found w n) (blocks_told v.image h))
-      × (gaps_left image size (data_named image v n head) many ≡ gaps_left v.image (size_told v.image h) (data_found w n) (blocks_told v.image h))
+      ≡ bytes_left v.image (size_stated v.image h) (data_found w n) (blocks_stated v.image h))
+      × (gaps_left image size (data_named image v n head) many ≡ gaps_left v.image (size_stated v.image h) (data_found w n) (blocks_stated v.image h))
   left_is image head e g size many s c = (
     (λ i. bytes_left (e i) (s i) (data_named (e i) v n (g i)) (c i))
-        ∙ ap (λ found. bytes_left v.image (size_told v.image h) found (blocks_told v.image h)) (λ i k. named_is k i),
+        ∙ ap (λ found. bytes_left v.image (size_stated v.image h) found (blocks_stated v.image h)) (λ i k. named_is k i),
     (λ i. gaps_left (e i) (s i) (data_named (e i) v n (g i)) (c i))
-        ∙ ap (λ found. gaps_left v.image (size_told v.image h) found (blocks_told v.image h)) (λ i k. named_is k i),
+        ∙ ap (λ found. gaps_left v.image (size_stated v.image h) found (blocks_stated v.image h)) (λ i k. named_is k i),
   )
 
 -- the header of a file that is found

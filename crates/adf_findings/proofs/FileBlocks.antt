@@ -13,7 +13,7 @@ use Rattle.adf_volume.proofs.WalkMembers.{Lists, data_only, none_listed, one_mor
 use Rattle.adf_findings.specs.Files.{member_from, named_from, names_from}
 use Rattle.adf_findings.specs.Survey.{Course, IsCourse, IsNext}
 use Rattle.adf_findings.specs.Survey.IsCourse.{start, step}
-use Rattle.adf_findings.specs.Survey.JudgementValue.{clean, noted, passed}
+use Rattle.adf_findings.specs.Survey.JudgementValue.{clean, reported, skipped}
 use Rattle.adf_findings.proofs.OneSurvey.{gathered}
 use Rattle.adf_findings.proofs.SoundMarks.{taken_wanted}
 
@@ -33,16 +33,16 @@ module _ (image : List ℕ) where
     no_data_head : (k m p s j : ℕ) → Data n k ≡ Head m p s j → ⊥
     no_data_head k m p s j e = let x : second (Data n k) ≡ second (Head m p s j) = ap second e in omega arith
 
-    module _ (s : Course) (v : IsCourse image s) (clear : (k b : ℕ) → Has s.passed_over (Data n k) b → ⊥) (old : DatasListed s.walk) where
-      -- it is asked for, and neither in the walk nor passed over
+    module _ (s : Course) (v : IsCourse image s) (clear : (k b : ℕ) → Has s.skipped (Data n k) b → ⊥) (old : DatasListed s.walk) where
+      -- it is asked for, and neither in the walk nor skipped
       not_had : Lacks s.walk (Data n (suc (length (datas_in s.walk n))))
       not_had q b h same =
           let m : ℕ = length (datas_in s.walk n) in
           let u = at_below (datas_in s.walk n) m b (old.to m b (has_role s.walk (Data n (suc m)) (no_data_head (suc m)) q b h same)) in
           omega arith
 
-      not_passed : (k : ℕ) → Lacks s.passed_over (Data n k)
-      not_passed k q b h same = clear k b (has_role s.passed_over (Data n k) (no_data_head k) q b h same)
+      not_skipped : (k : ℕ) → Lacks s.skipped (Data n k)
+      not_skipped k q b h same = clear k b (has_role s.skipped (Data n k) (no_data_head k) q b h same)
 
       -- the data block that is next has the next number
       next_number : (k a i : ℕ) → IsNext image s (Data n k) a i → k ≡ suc (length (datas_in s.walk n))
@@ -55,7 +55,7 @@ module _ (image : List ℕ) where
           let f = d.asked.0 in
           let t = member_down (gathered image v) n (m / POINTERS) (k / POINTERS) a f.0 f.1 (omega arith) d.asked.1 in
           let few : m < data_count image f.0 = let l : k < data_count image f.0 = f.2 in omega arith in
-          d.least (Data n (suc m)) t.0 (table_word m) ((f.0, f.1, few), t.1, refl) not_had (not_passed (suc m))
+          d.least (Data n (suc m)) t.0 (table_word m) ((f.0, f.1, few), t.1, refl) not_had (not_skipped (suc m))
           (omega arith, (λ e. omega arith), (λ e g. omega arith))) in
           omega arith
 
@@ -64,12 +64,12 @@ module _ (image : List ℕ) where
           one_more (is_data_of n) (λ k. Data n (suc k)) (λ k. eq-eqb n n refl) s.walk r (word_in image a i) (λ k m z. cc) old
           (λ t. let x = data_only image n r t in x.1 ∙ ap (Data n) (next_number x.0 a i (subst (λ r. IsNext image s r a i) x.1 d)))
 
-    -- a file of which no data block was passed over
-    pub datas_listed : {s : Course} → IsCourse image s → ((k b : ℕ) → Has s.passed_over (Data n k) b → ⊥) → DatasListed s.walk
+    -- a file of which no data block was skipped
+    pub datas_listed : {s : Course} → IsCourse image s → ((k b : ℕ) → Has s.skipped (Data n k) b → ⊥) → DatasListed s.walk
     datas_listed (start boot root) clear = none_listed (is_data_of n) (λ k. Data n (suc k)) (λ k. eq-eqb n n refl) (root_of image) refl
     datas_listed (step {s = s} {r = r} {a = a} {i = i} clean v d g) clear = more_listed s v clear (datas_listed v clear) r a i d
-    datas_listed (step {s = s} {r = r} {a = a} {i = i} (noted at c) v d g) clear = more_listed s v clear (datas_listed v clear) r a i d
-    datas_listed (step (passed at c) v d g) clear = datas_listed v (λ k b h. clear k b (inr h))
+    datas_listed (step {s = s} {r = r} {a = a} {i = i} (reported at c) v d g) clear = more_listed s v clear (datas_listed v clear) r a i d
+    datas_listed (step (skipped at c) v d g) clear = datas_listed v (λ k b h. clear k b (inr h))
 
     module _ {s : Course} (v : IsCourse image s) (h : ℕ) (file : FileAt image s.walk n h) where
       -- each member is named by the one before

@@ -30,10 +30,10 @@ use Rattle.adf_volume.proofs.WalkFits.{fits}
 use Rattle.adf_findings.specs.Demands.{demands_in}
 use Rattle.adf_findings.specs.Survey.{BootTells, FindingValue, JudgementValue, Judged, RootTells}
 use Rattle.adf_findings.specs.Survey.{Course, after, IsNext, IsCourse, IsDone, IsValidated, IsCompared, BitsTell, IsSurvey, is_cache}
-use Rattle.adf_findings.specs.Survey.JudgementValue.{clean, noted, passed}
+use Rattle.adf_findings.specs.Survey.JudgementValue.{clean, reported, skipped}
 use Rattle.adf_findings.specs.Survey.IsCourse.{start, step}
 use Rattle.adf_findings.specs.Survey.BootTells.{clean_boot, other_type}
-use Rattle.adf_findings.specs.Survey.RootTells.{clean_root, noted_root}
+use Rattle.adf_findings.specs.Survey.RootTells.{clean_root, reported_root}
 use Rattle.adf_findings.specs.Survey.UnreadTells.{bad_boot, bad_root}
 use Rattle.adf_findings.specs.Survey.BitsTell.{ends, agrees, differs}
 use Rattle.adf_findings.specs.Survey.IsSurvey.{unread, read}
@@ -46,7 +46,7 @@ module _ (image : List ℕ) where
 
   -- without findings, what is next is what is due
   due : (w over : List (Role × ℕ)) (fs : List FindingValue) (r : Role) (a i : ℕ) → over ≡ []
-      → IsNext image (record { walk = w; passed_over = over; findings = fs }) r a i → IsDue image w r a i
+      → IsNext image (record { walk = w; skipped = over; findings = fs }) r a i → IsDue image w r a i
   due w over fs r a i e n = record {
     asked = n.asked;
     lacks = n.lacks;
@@ -61,29 +61,29 @@ module _ (image : List ℕ) where
       subst (λ l. Judged r (demands_by l image w r a b) j) (plain_letters image boot) h
 
   stepped : (w over : List (Role × ℕ)) (fs : List FindingValue) (r : Role) (a i : ℕ) (j : JudgementValue) → Known w over fs
-      → IsNext image (record { walk = w; passed_over = over; findings = fs }) r a i → Judged r (demands_in image w r a (word_in image a i)) j
-      → let s : Course = after (record { walk = w; passed_over = over; findings = fs }) r (word_in image a i) j in Known s.walk s.passed_over s.findings
+      → IsNext image (record { walk = w; skipped = over; findings = fs }) r a i → Judged r (demands_in image w r a (word_in image a i)) j
+      → let s : Course = after (record { walk = w; skipped = over; findings = fs }) r (word_in image a i) j in Known s.walk s.skipped s.findings
   stepped w over [] r a i clean k n h = (k.0, walk_step k.1 (due w over [] r a i k.2 n) refl (plain w r a (word_in image a i) clean k.0 h), k.2)
-  stepped w over [] r a i (noted at c) k n h =
-      at_due k.0 w r a i k.1 (due w over [] r a i k.2 n) (plain w r a (word_in image a i) (noted at c) k.0 h).0
-  stepped w over [] r a i (passed at c) k n h =
-      at_due k.0 w r a i k.1 (due w over [] r a i k.2 n) (plain w r a (word_in image a i) (passed at c) k.0 h).0
+  stepped w over [] r a i (reported at c) k n h =
+      at_due k.0 w r a i k.1 (due w over [] r a i k.2 n) (plain w r a (word_in image a i) (reported at c) k.0 h).0
+  stepped w over [] r a i (skipped at c) k n h =
+      at_due k.0 w r a i k.1 (due w over [] r a i k.2 n) (plain w r a (word_in image a i) (skipped at c) k.0 h).0
   stepped w over (f ∷ fs) r a i clean k n h = k
-  stepped w over (f ∷ fs) r a i (noted at c) k n h = k
-  stepped w over (f ∷ fs) r a i (passed at c) k n h = k
+  stepped w over (f ∷ fs) r a i (reported at c) k n h = k
+  stepped w over (f ∷ fs) r a i (skipped at c) k n h = k
 
   -- the first finding of boot block and root
   started : {fs gs : List FindingValue} → BootTells image fs → RootTells image gs → Known ((Root, root_of image) ∷ []) [] (fs ++ gs)
   started (clean_boot h) (clean_root g) = (all_append (boot_demands image) (root_demands image (root_of image)) h g, walk_start, refl)
-  started (clean_boot h) (noted_root {at = at} {c = c} g) = at_boot (fails_right (boot_demands image) (root_demands image (root_of image)) at c h g.0)
+  started (clean_boot h) (reported_root {at = at} {c = c} g) = at_boot (fails_right (boot_demands image) (root_demands image (root_of image)) at c h g.0)
   started (other_type {at = at} {c = c} h e) t = at_boot (fails_left (boot_demands image) (root_demands image (root_of image)) at c h)
 
-  known : {s : Course} → IsCourse image s → Known s.walk s.passed_over s.findings
+  known : {s : Course} → IsCourse image s → Known s.walk s.skipped s.findings
   known (start b t) = started b t
-  known (step {s = s} {r = r} {a = a} {i = i} j v n h) = stepped s.walk s.passed_over s.findings r a i j (known v) n h
+  known (step {s = s} {r = r} {a = a} {i = i} j v n h) = stepped s.walk s.skipped s.findings r a i j (known v) n h
 
   -- without findings, a course that is done is a whole walk
-  whole : (w over : List (Role × ℕ)) (fs : List FindingValue) → over ≡ [] → IsDone image (record { walk = w; passed_over = over; findings = fs })
+  whole : (w over : List (Role × ℕ)) (fs : List FindingValue) → over ≡ [] → IsDone image (record { walk = w; skipped = over; findings = fs })
       → IsWhole image w
   whole w over fs e d r a i ask lack = d r a i ask lack (subst (λ l. Lacks l r) (sym e) (λ z b h s. h))
 
@@ -96,7 +96,7 @@ module _ (image : List ℕ) where
 
   -- and all bits are compared, where the root has its form
   compared : (w over : List (Role × ℕ)) (fs : List FindingValue) → over ≡ [] → IsWhole image w → IsBegun image → IsValidated image → (b : ℕ) → 2 ≤ b
-      → b < blocks image → IsCompared image (record { walk = w; passed_over = over; findings = fs }) b
+      → b < blocks image → IsCompared image (record { walk = w; skipped = over; findings = fs }) b
   compared w over fs e wh begun vd b lo hi =
       let k : ℕ = (b - 2) / PAGE_BITS in
       let lt : k < pages_needed (blocks image) = omega arith in
@@ -142,8 +142,9 @@ validated image h =
     let flag : ℕ = word_in image (root_of image) BITMAP_FLAG in
     eqb-true flag VALID (demanded (root_of image) (root_form (block image (root_of image))) (flag == VALID) NotValidated root (search rules))
 
-joined : (image : List ℕ) (w over : List (Role × ℕ)) (fs bits : List FindingValue) → Known image w over fs → IsDone image (record { walk = w; passed_over = over; findings = fs })
-    → BitsTell image (record { walk = w; passed_over = over; findings = fs }) 2 (blocks image - 2) bits → Shows image w (fs ++ bits)
+joined : (image : List ℕ) (w over : List (Role × ℕ)) (fs bits : List FindingValue) → Known image w over fs
+    → IsDone image (record { walk = w; skipped = over; findings = fs })
+    → BitsTell image (record { walk = w; skipped = over; findings = fs }) 2 (blocks image - 2) bits → Shows image w (fs ++ bits)
 joined image w over (f ∷ fs) bits k d t = k
 joined image w over [] bits k d t =
     let wh = whole image w over [] k.2 d in
@@ -159,7 +160,7 @@ shown image (unread (bad_root {at = at} {c = c} (clean_boot h) g)) =
     at_boot (fails_right (boot_demands image) (root_demands image (root_of image)) at c h g.0)
 shown image (unread (bad_root (other_type {at = at} {c = c} h e) g)) =
     at_boot (fails_left (boot_demands image) (root_demands image (root_of image)) at c h)
-shown image (read {s = s} {bits = bits} v d t) = joined image s.walk s.passed_over s.findings bits (known image v) d t
+shown image (read {s = s} {bits = bits} v d t) = joined image s.walk s.skipped s.findings bits (known image v) d t
 
 -- the first finding is the first fault
 pub first_finding : (image : List ℕ) (w : List (Role × ℕ)) (f : FindingValue) (fs : List FindingValue) → IsSurvey image w (f ∷ fs)

@@ -10,7 +10,7 @@ use Rattle.adf_volume.proofs.Roles.{same_role}
 use Rattle.adf_findings.specs.declared.part.Finding.{Finding}
 use Rattle.adf_findings.specs.Files.{IsSoundFile, counting, grave, is_harmless, is_head, is_light}
 use Rattle.adf_findings.specs.Parts.{finding_value}
-use Rattle.adf_findings.specs.Sound.{IsUnnoted}
+use Rattle.adf_findings.specs.Sound.{IsUnreported}
 use Rattle.adf_findings.specs.Survey.{FindingValue}
 
 -- a grave finding is a finding
@@ -54,31 +54,31 @@ counts true fs g h e = is_grave fs g h (ap (λ t. t && is_harmless g.cause) e)
 counts false fs g h e = h
 
 -- where no finding that counts concerns an extension block, none does
-pub ext_unnoted : (b : Bool) (fs : List FindingValue) (n k : ℕ) → IsUnnoted (counting b fs) (Ext n k) → IsUnnoted fs (Ext n k)
-ext_unnoted b fs n k none g q h e same =
+pub ext_unreported : (b : Bool) (fs : List FindingValue) (n k : ℕ) → IsUnreported (counting b fs) (Ext n k) → IsUnreported fs (Ext n k)
+ext_unreported b fs n k none g q h e same =
     let is : q ≡ Ext n k =
     same_role q (Ext n k) same (λ a m p s j e f. let x : second (Ext n k) ≡ second (Head m p s j) = ap second f in absurd (omega arith)) in
     none g q (counts b fs g h (ap is_head e ∙ ap (λ r. is_head (Some r)) is)) e same
 
 -- nor a data block
-pub data_unnoted : (b : Bool) (fs : List FindingValue) (n k : ℕ) → IsUnnoted (counting b fs) (Data n k) → IsUnnoted fs (Data n k)
-data_unnoted b fs n k none g q h e same =
+pub data_unreported : (b : Bool) (fs : List FindingValue) (n k : ℕ) → IsUnreported (counting b fs) (Data n k) → IsUnreported fs (Data n k)
+data_unreported b fs n k none g q h e same =
     let is : q ≡ Data n k =
     same_role q (Data n k) same (λ a m p s j e f. let x : second (Data n k) ≡ second (Head m p s j) = ap second f in absurd (omega arith)) in
     none g q (counts b fs g h (ap is_head e ∙ ap (λ r. is_head (Some r)) is)) e same
 
 -- a sound file is sound by the grave findings
-less_unnoted : (fs : List FindingValue) (r : Role) → IsUnnoted fs r → IsUnnoted (grave fs) r
-less_unnoted fs r h f q i = h f q (grave_is fs f i)
+less_unreported : (fs : List FindingValue) (r : Role) → IsUnreported fs r → IsUnreported (grave fs) r
+less_unreported fs r h f q i = h f q (grave_is fs f i)
 
 pub sound_is_whole : (image : List ℕ) (w : List (Role × ℕ)) (fs : List FindingValue) (n : ℕ) → IsSoundFile image w fs n
     → IsSoundFile image w (grave fs) n
 sound_is_whole image w fs n (s, type) = (
   record {
     header = s.header;
-    unnoted = less_unnoted fs (Head n s.header.parent s.header.slot s.header.place) s.unnoted;
-    exts = (λ k. less_unnoted fs (Ext n k) (s.exts k));
-    datas = (λ k. less_unnoted fs (Data n k) (s.datas k));
+    unreported = less_unreported fs (Head n s.header.parent s.header.slot s.header.place) s.unreported;
+    exts = (λ k. less_unreported fs (Ext n k) (s.exts k));
+    datas = (λ k. less_unreported fs (Data n k) (s.datas k));
     chains = (λ f m t j i e. s.chains f m t j (grave_is fs f i) e);
     alone = s.alone;
   },

@@ -19,7 +19,7 @@ use Rattle.adf_findings.specs.Survey.{Course, FindingValue, IsSurvey, UnreadTell
 use Rattle.adf_findings.specs.Survey.IsSurvey.{read, unread}
 use Rattle.adf_findings.specs.Sound.{IsSound}
 use Rattle.adf_volume.proofs.Gathered.{number_of}
-use Rattle.adf_findings.specs.Surveyed.{IsOfSurvey, Surveyed, TellsOf, block_at, owner_at}
+use Rattle.adf_findings.specs.SurveyResult.{IsOfSurvey, SurveyValue, TellsOf, block_at, owner_at}
 use Rattle.adf_findings.proofs.Concerning.{concerned_kept, no_concern_nth}
 use Rattle.adf_findings.proofs.GraveFindings.{grave_is, grave_kept}
 use Rattle.adf_findings.proofs.HeadPlaces.{head_parent}
@@ -29,7 +29,8 @@ use Rattle.adf_findings.proofs.SoundMarks.{clear_is_sound, inside, unread_none}
 use Rattle.adf_findings.proofs.Starts.{course_size}
 
 -- of an image of which nothing is taken the findings are kept alone
-pub unread_kept : (v : Surveyed) → UnreadTells v.image (map finding_value v.findings) → v.concerned ≡ [] → v.owners ≡ [] → v.numbers ≡ [] → v.taken ≡ [] → v.nodes ≡ []
+pub unread_kept : (v : SurveyValue) → UnreadTells v.image (map finding_value v.findings) → v.concerned ≡ [] → v.owners ≡ [] → v.numbers ≡ [] → v.taken ≡ []
+    → v.nodes ≡ []
     → v.parents ≡ [] → v.sound ≡ [] → v.whole ≡ [] → IsOfSurvey v
 unread_kept v told concerned owners numbers taken nodes parents sound whole = (
   [],
@@ -52,9 +53,9 @@ unread_kept v told concerned owners numbers taken nodes parents sound whole = (
 
 -- a state with other findings is that of a course with these
 stands_with : (image : List ℕ) (f g : Found) (s : Course) (gs : List FindingValue) → Stands image f s → g ≡ record f { findings = g.findings }
-    → map finding_value g.findings.items ≡ gs → Stands image g (record { walk = s.walk; passed_over = s.passed_over; findings = gs })
+    → map finding_value g.findings.items ≡ gs → Stands image g (record { walk = s.walk; skipped = s.skipped; findings = gs })
 stands_with image f g s gs st same e =
-    subst (λ h. Stands image h (record { walk = s.walk; passed_over = s.passed_over; findings = gs })) (sym same) (record {
+    subst (λ h. Stands image h (record { walk = s.walk; skipped = s.skipped; findings = gs })) (sym same) (record {
       taken = st.taken;
       owned = st.owned;
       owners = st.owners;
@@ -111,7 +112,7 @@ read_kept image f g concerned sound whole (s, bits, told, bits_tell) entries mar
         let kept : map finding_value g.findings.items ≡ grave all =
         ap (map finding_value) graves ∙ (grave_kept f.findings.items ∙ ap grave told.stands.findings) in
         let x = clear_is_sound image g told.course told.done bits bits_tell (grave all) (grave_is all)
-        (stands_with image f g (record { walk = s.walk; passed_over = s.passed_over; findings = all }) (grave all) told.stands same kept) m lo in
+        (stands_with image f g (record { walk = s.walk; skipped = s.skipped; findings = all }) (grave all) told.stands same kept) m lo in
         ((λ t. x.0 (sym (whole_marks m) ∙ t)), (λ y. whole_marks m ∙ x.1 y)));
   },
 )
@@ -122,7 +123,7 @@ read_told image f (s, bits, told, bits_tell) =
     (s.walk, subst (IsSurvey image s.walk) (sym told.stands.findings) (read told.course told.done bits_tell))
 
 -- what is kept of an image tells of each survey of it
-pub tells_each : (v : Surveyed) → IsOfSurvey v → (w : List (Role × ℕ)) (fs : List FindingValue) → IsSurvey v.image w fs → TellsOf v w fs
+pub tells_each : (v : SurveyValue) → IsOfSurvey v → (w : List (Role × ℕ)) (fs : List FindingValue) → IsSurvey v.image w fs → TellsOf v w fs
 tells_each v k w fs h =
     let e = one_survey v.image k.0 w k.1 fs k.2.survey h in
     subst (λ (x : List (Role × ℕ) × List FindingValue). TellsOf v x.0 x.1) (λ t. (e.0 t, e.1 t)) k.2

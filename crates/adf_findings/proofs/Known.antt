@@ -24,8 +24,8 @@ use Rattle.adf_findings.specs.declared.part.Part.TheVariants.{Ext as ExtPart, Da
 use Rattle.adf_findings.specs.declared.judge.Facts.{Facts}
 use Rattle.adf_findings.specs.declared.found.Found.{Found}
 use Rattle.adf_findings.specs.Survey.{Course}
-use Rattle.adf_findings.specs.Forms.{IsAround, Knows, Tells, in_range}
-use Rattle.adf_findings.specs.Found.{AreNamed, IsChain, Stands, around_in, at_key, by_name, enough_in, is_named, member_in, has_name, new_in, next_in, owns}
+use Rattle.adf_findings.specs.Forms.{IsContext, Knows, Tells, in_range}
+use Rattle.adf_findings.specs.Found.{AreNamed, IsChain, Stands, context_in, at_key, by_name, enough_in, is_named, member_in, has_name, new_in, next_in, owns}
 use Rattle.adf_findings.specs.Parts.{by_key, key_of, role_of}
 use Rattle.adf_findings.proofs.Keys.{equal_keys}
 
@@ -184,13 +184,13 @@ module _ (image : List ℕ) (f : Found) (s : Course) (st : Stands image f s) whe
   next_is : (n k : ℕ) → next_in image f n k ≡ next_data image s.walk n k
   next_is n k = λ t. cond (nat_lt k (data_count image (st.node n t))) (word_in image (member_found n (k / POINTERS) t) (table_word k)) 0
 
-  around_is : (part : Part) → IsAround image s.walk (role_of part) (around_in image f part)
-  around_is RootPart = tt
-  around_is (PagePart i) = tt
-  around_is (MapExtPart j) = tt
-  around_is (HeadPart n p t j) = st.node p
-  around_is (ExtPart n k) = st.node n
-  around_is (DataPart n k) = (st.node n, next_is n k)
+  context_is : (part : Part) → IsContext image s.walk (role_of part) (context_in image f part)
+  context_is RootPart = tt
+  context_is (PagePart i) = tt
+  context_is (MapExtPart j) = tt
+  context_is (HeadPart n p t j) = st.node p
+  context_is (ExtPart n k) = st.node n
+  context_is (DataPart n k) = (st.node n, next_is n k)
 
   enough_tells : (n k h : ℕ) → IsGathered image s.walk → FileAt image s.walk n h → (t : Bool)
       → nat_le (data_count image (node_block s.walk n)) (POINTERS * suc (ext_count s.walk n)) ≡ t
@@ -237,12 +237,12 @@ module _ (image : List ℕ) (f : Found) (s : Course) (st : Stands image f s) whe
   -- what is found of a part that is asked for is so
   pub knows : (part : Part) (a i b : ℕ) (x : Facts) → IsGathered image s.walk → Asks image s.walk (role_of part) a i
       → x.is_enough ≡ enough_in image f part → x.is_absent ≡ not (slice_index_or f.owned.items b false)
-      → (b < blocks image → x.is_new ≡ new_in image s.walk part b) → x.around ≡ around_in image f part → Knows image s.walk part b x
-  knows part a i b x v h enough absent new around = record {
+      → (b < blocks image → x.is_new ≡ new_in image s.walk part b) → x.context ≡ context_in image f part → Knows image s.walk part b x
+  knows part a i b x v h enough absent new context = record {
     enough = subst (λ t. Tells t (Enough image s.walk (role_of part))) (sym enough) (enough_is part a i v h);
     absent = (λ e. subst (λ t. Tells t (IsAbsent s.walk b)) (sym (absent ∙ ap not (st.owned.1 b (below b e)))) (tells_absent s.walk b));
     new = (λ e. subst (λ t. Tells t (NewNameIn image s.walk (role_of part) b)) (sym (new (below b e))) (new_is part b));
-    around = subst (IsAround image s.walk (role_of part)) (sym around) (around_is part);
+    context = subst (IsContext image s.walk (role_of part)) (sym context) (context_is part);
   }
 
 -- a block without a part is no member's

@@ -23,14 +23,14 @@ use Rattle.adf_volume.proofs.Roles.{same_refl}
 use Rattle.adf_volume.proofs.Sizes.{size_low}
 use Rattle.adf_findings.specs.Files.{IsSoundFile, counting, file_content, file_in}
 use Rattle.adf_findings.specs.Found.{AreMarked, unowned}
-use Rattle.adf_findings.specs.Remains.{blocks_told, bytes_in, bytes_left, data_found, gaps_left, gaps_of, left_of, size_told, with_lost}
+use Rattle.adf_findings.specs.Remains.{blocks_stated, bytes_in, bytes_left, data_found, gaps_left, gaps_of, left_of, size_stated, with_lost}
 use Rattle.adf_findings.specs.Survey.{Course, FindingValue, IsCourse, IsSurvey}
 use Rattle.adf_findings.specs.Survey.IsCourse.{start, step}
 use Rattle.adf_findings.specs.Survey.IsSurvey.{read, unread}
-use Rattle.adf_findings.specs.Survey.JudgementValue.{clean, noted, passed}
+use Rattle.adf_findings.specs.Survey.JudgementValue.{clean, reported, skipped}
 use Rattle.adf_findings.proofs.Begun.{all_free, none_default}
 use Rattle.adf_findings.proofs.DataFound.{has_data}
-use Rattle.adf_findings.proofs.Judged.{itself_holds}
+use Rattle.adf_findings.proofs.JudgementTests.{itself_holds}
 use Rattle.adf_findings.proofs.Keys.{lacks_at}
 use Rattle.adf_findings.proofs.Known.{no_owner}
 use Rattle.adf_findings.proofs.OneSurvey.{gathered}
@@ -63,10 +63,10 @@ walk_marked image (start boot root) =
 walk_marked image (step {s = s} {r = z} {a = a} {i = i} clean v d g) =
     let part = part_holds_by (letters_of image) image s.walk z a (word_in image a i) g in
     more_marked image s.walk z (word_in image a i) part.inside part.unowned (walk_marked image v)
-walk_marked image (step {s = s} {r = z} {a = a} {i = i} (noted at c) v d g) =
+walk_marked image (step {s = s} {r = z} {a = a} {i = i} (reported at c) v d g) =
     let part = itself_holds image s.walk z a (word_in image a i) g.1 in
     more_marked image s.walk z (word_in image a i) part.inside part.unowned (walk_marked image v)
-walk_marked image (step (passed at c) v d g) = walk_marked image v
+walk_marked image (step (skipped at c) v d g) = walk_marked image v
 
 -- a file with so many data blocks is no longer than so many blocks
 fits_in : (kind : Kind) (size n : ℕ) → count kind size ≤ n → size ≤ 512 * n
@@ -138,9 +138,9 @@ left_of_sound image w fs c n (read {s = s} {bits = bits} v d t) sound =
     let e = has.many in
     omega arith
     ) in
-    let told : size_told image h ≡ size =
+    let told : size_stated image h ≡ size =
     least size (length image) (let l = fits_in (kind_of image) size (blocks image) few in let e = has.whole in omega arith) in
-    let many : blocks_told image h ≡ length datas = ap (count (kind_of image)) told ∙ sym has.many in
+    let many : blocks_stated image h ≡ length datas = ap (count (kind_of image)) told ∙ sym has.many in
     let all : length datas ≡ 0 + length datas = omega arith in (
       (λ i. bytes_left image (told i) (data_found s.walk n) (many i))
           ∙ (ap (bytes_left image size (data_found s.walk n)) all

@@ -1,5 +1,5 @@
 -- the judgement of a part
-pub mod Judging
+pub mod Decidability
 -- the first finding, and surveys without one
 pub mod FirstFindings
 -- the start of an image
@@ -17,7 +17,7 @@ mod EntryPaths
 pub mod SoundEntries
 -- the findings that leave a file its blocks, and the others
 pub mod GraveFindings
-pub mod Judged
+pub mod JudgementTests
 pub mod Names
 -- the form of a header by the letters of a volume
 pub mod HeadSlots
@@ -31,7 +31,7 @@ pub mod CoursePlaces
 pub mod MapPlaces
 pub mod Begun
 pub mod BitSteps
-pub mod BitsTold
+pub mod BitsStated
 pub mod SoundMarks
 -- the positions of headers, and the entries that findings concern
 pub mod HeadPlaces

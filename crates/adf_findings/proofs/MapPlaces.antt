@@ -44,7 +44,7 @@ module _ (image : List ℕ) (f : Found) (s : Course) (page : ℕ) where
     asked = map_ext_asks image s.walk page a lt le due holder;
   }
 
-  -- behind a bitmap extension block come the pages that it names, or where it was passed over the nodes
+  -- behind a bitmap extension block come the pages that it names, or where it was skipped the nodes
   pub map_ext_on : (a i : ℕ) (g : Found) (o : Option ℕ) → ROOT_PAGES ≤ page → (page - ROOT_PAGES) % MAP_EXT_PAGES ≡ 0
       → Holds image f (position_of (MapExt ((page - ROOT_PAGES) / MAP_EXT_PAGES))) s
       → IsGoneOn image s (MapExtPart ((page - ROOT_PAGES) / MAP_EXT_PAGES)) a i g o → IsPageNamed image g page o

@@ -12,7 +12,7 @@ use Rattle.adf_volume.proofs.Roles.{same_role}
 use Rattle.adf_findings.specs.Demands.{demands_in}
 use Rattle.adf_findings.specs.Survey.{FindingValue, finding, JudgementValue, Judged, begun}
 use Rattle.adf_findings.specs.Survey.{Course, after, IsNext, IsCourse, IsDone, BitsTell, IsSurvey}
-use Rattle.adf_findings.specs.Survey.JudgementValue.{clean, noted, passed}
+use Rattle.adf_findings.specs.Survey.JudgementValue.{clean, reported, skipped}
 use Rattle.adf_findings.specs.Survey.IsCourse.{start, step}
 use Rattle.adf_findings.specs.Survey.BitsTell.{ends, agrees, differs}
 use Rattle.adf_findings.specs.Survey.IsSurvey.{unread, read}
@@ -23,22 +23,22 @@ use Rattle.adf_findings.proofs.Starts.{boot_one, boot_told, not_unread, root_one
 -- a part is judged in one way
 judged_one : (r : Role) (xs : List Demand) (j k : JudgementValue) → Judged r xs j → Judged r xs k → j ≡ k
 judged_one r xs clean clean h g = refl
-judged_one r xs clean (noted b d) h g = absurd (fails_not_all xs b d g.0 h)
-judged_one r xs clean (passed b d) h g = absurd (fails_not_all xs b d g.0 h)
-judged_one r xs (noted a c) clean h g = absurd (fails_not_all xs a c h.0 g)
-judged_one r xs (noted a c) (noted b d) h g = let e = fails_one xs a c b d h.0 g.0 in λ t. noted (e.0 t) (e.1 t)
-judged_one r xs (noted a c) (passed b d) h g = absurd (g.1 h.1)
-judged_one r xs (passed a c) clean h g = absurd (fails_not_all xs a c h.0 g)
-judged_one r xs (passed a c) (noted b d) h g = absurd (h.1 g.1)
-judged_one r xs (passed a c) (passed b d) h g = let e = fails_one xs a c b d h.0 g.0 in λ t. passed (e.0 t) (e.1 t)
+judged_one r xs clean (reported b d) h g = absurd (fails_not_all xs b d g.0 h)
+judged_one r xs clean (skipped b d) h g = absurd (fails_not_all xs b d g.0 h)
+judged_one r xs (reported a c) clean h g = absurd (fails_not_all xs a c h.0 g)
+judged_one r xs (reported a c) (reported b d) h g = let e = fails_one xs a c b d h.0 g.0 in λ t. reported (e.0 t) (e.1 t)
+judged_one r xs (reported a c) (skipped b d) h g = absurd (g.1 h.1)
+judged_one r xs (skipped a c) clean h g = absurd (fails_not_all xs a c h.0 g)
+judged_one r xs (skipped a c) (reported b d) h g = absurd (h.1 g.1)
+judged_one r xs (skipped a c) (skipped b d) h g = let e = fails_one xs a c b d h.0 g.0 in λ t. skipped (e.0 t) (e.1 t)
 
 module _ (image : List ℕ) where
   -- the walk of a course was gathered
   came : (s : Course) (r : Role) (a i : ℕ) (j : JudgementValue) → IsGathered image s.walk → IsNext image s r a i
       → IsGathered image (after s r (word_in image a i) j).walk
   came s r a i clean v n = gathered_step a i (word_in image a i) v n.asked n.lacks
-  came s r a i (noted at c) v n = gathered_step a i (word_in image a i) v n.asked n.lacks
-  came s r a i (passed at c) v n = v
+  came s r a i (reported at c) v n = gathered_step a i (word_in image a i) v n.asked n.lacks
+  came s r a i (skipped at c) v n = v
 
   pub gathered : {s : Course} → IsCourse image s → IsGathered image s.walk
   gathered (start b t) = gathered_start
@@ -47,7 +47,7 @@ module _ (image : List ℕ) where
   -- one part is next, by one word
   next_one : (s : Course) → IsCourse image s → (r q : Role) (a i b j : ℕ) → IsNext image s r a i → IsNext image s q b j → (r ≡ q) × (a ≡ b) × (i ≡ j)
   next_one s v r q a i b j d e =
-      let same : Same r q = neither_before r q (e.least r a i d.asked d.lacks d.unpassed) (d.least q b j e.asked e.lacks e.unpassed) in
+      let same : Same r q = neither_before r q (e.least r a i d.asked d.lacks d.unskipped) (d.least q b j e.asked e.lacks e.unskipped) in
       let z : r ≡ q =
       same_role r q same (λ n m p t k f g. number_is image s.walk r a i n p t k d.asked f ∙ sym (number_is image s.walk q b j m p t k e.asked g)) in
       let x = asks_one image (gathered v) q a i b j (subst (λ r. Asks image s.walk r a i) z d.asked) e.asked in
@@ -55,12 +55,12 @@ module _ (image : List ℕ) where
 
   -- how many parts a course has judged, the root among them
   abbrev steps : Course → ℕ
-  steps s = length s.walk + length s.passed_over
+  steps s = length s.walk + length s.skipped
 
   one_more : (s : Course) (r : Role) (b : ℕ) (j : JudgementValue) → steps (after s r b j) ≡ suc (steps s)
   one_more s r b clean = omega arith
-  one_more s r b (noted at c) = omega arith
-  one_more s r b (passed at c) = omega arith
+  one_more s r b (reported at c) = omega arith
+  one_more s r b (skipped at c) = omega arith
 
   not_empty : {s : Course} → IsCourse image s → steps s ≡ 0 → ⊥
   not_empty (start b t) e = omega arith
@@ -96,7 +96,7 @@ module _ (image : List ℕ) where
         | no k ↦
             let z : u ≡ s = same_courses v' v (omega arith) in
             let next = subst (λ s. IsNext image s r a i) z n in
-            d r a i next.asked next.lacks next.unpassed
+            d r a i next.asked next.lacks next.unskipped
       ]
 
   one_course : (s t : Course) → IsCourse image s → IsCourse image t → IsDone image s → IsDone image t → s ≡ t

@@ -9,12 +9,12 @@ use Rattle.adf_volume.specs.Walk.Role.{Page}
 use Rattle.adf_volume.proofs.Gathered.{IsGathered}
 use Rattle.adf_volume.proofs.Gathered.IsGathered.{start, step}
 use Rattle.adf_findings.specs.Files.{counting, grave}
-use Rattle.adf_findings.specs.Marked.{AreMarks, mark_in, whole_in}
+use Rattle.adf_findings.specs.SoundMarks.{AreMarks, mark_in, whole_in}
 use Rattle.adf_findings.specs.Marks.{has_mark}
 use Rattle.adf_findings.specs.Sound.{IsSound}
 use Rattle.adf_findings.specs.Survey.{BootTells, FindingValue, IsSurvey, RootTells, UnreadTells}
 use Rattle.adf_findings.specs.Survey.IsSurvey.{read, unread}
-use Rattle.adf_findings.specs.Surveyed.{IsOfSurvey, Surveyed}
+use Rattle.adf_findings.specs.SurveyResult.{IsOfSurvey, SurveyValue}
 use Rattle.adf_findings.proofs.Keeping.{root_no_entry, tells_each}
 use Rattle.adf_findings.proofs.OneSurvey.{gathered}
 use Rattle.adf_findings.proofs.Starts.{boot_told, not_unread, root_told}
@@ -47,7 +47,7 @@ entry_begun image w fs gs n h (unread f) header none = header.has
 entry_begun image w fs gs n h (read v d t) header none = not_unread image (boot_told image v).1 (root_told image v).1 none
 
 -- the marks that are kept are those of the sound entries, by the findings that count
-marks_by : (v : Surveyed) (c : Bool) (marks : List Bool) → (w : List (Role × ℕ)) (fs : List FindingValue) → IsSurvey v.image w fs
+marks_by : (v : SurveyValue) (c : Bool) (marks : List Bool) → (w : List (Role × ℕ)) (fs : List FindingValue) → IsSurvey v.image w fs
     → ((n : ℕ) → 1 ≤ n → (has_mark marks n ≡ true) ↔ IsSound v.image w (counting c fs) n (node_block w n))
     → AreMarks v.image w (counting c fs) (λ n. nat_le 1 n && has_mark marks n)
 marks_by v c marks w fs h are n = elim (cases_lt 0 n) [
@@ -62,9 +62,9 @@ marks_by v c marks w fs h are n = elim (cases_lt 0 n) [
       rw e ((λ t. cc), (λ s. absurd (no s)))
 ]
 
-pub kept_marks : (v : Surveyed) → IsOfSurvey v → (w : List (Role × ℕ)) (fs : List FindingValue) → IsSurvey v.image w fs → AreMarks v.image w fs (mark_in v)
+pub kept_marks : (v : SurveyValue) → IsOfSurvey v → (w : List (Role × ℕ)) (fs : List FindingValue) → IsSurvey v.image w fs → AreMarks v.image w fs (mark_in v)
 kept_marks v k w fs h = marks_by v false v.sound w fs h (tells_each v k w fs h).sound
 
-pub whole_marks : (v : Surveyed) → IsOfSurvey v → (w : List (Role × ℕ)) (fs : List FindingValue) → IsSurvey v.image w fs
+pub whole_marks : (v : SurveyValue) → IsOfSurvey v → (w : List (Role × ℕ)) (fs : List FindingValue) → IsSurvey v.image w fs
     → AreMarks v.image w (grave fs) (whole_in v)
 whole_marks v k w fs h = marks_by v true v.whole w fs h (tells_each v k w fs h).whole

@@ -1,5 +1,5 @@
 -- An image has a survey: parts are judged until none is next. Each part taken leaves one free block fewer;
--- each part passed over leaves one role fewer in the lists of what the walk can ask for.
+-- each part skipped leaves one role fewer in the lists of what the walk can ask for.
 use Rattle.std.specs.Prelude.{Bool, true, false, Some, None}
 use Rattle.std.proofs.Common.{◌≡◌, ℕ, zero, suc, List, [], ◌∷◌, ◌++◌, inl, inr, ◌+◌, ◌-◌, ◌*◌, ◌/◌, ◌%◌, ◌<◌, length, refl, sym, ap, subst, ◌∙◌, arith}
 use native.Mathlib.Decide.{ℕ_discrete}
@@ -20,17 +20,17 @@ use Rattle.adf_volume.proofs.Roles.{head_role, renumbered, renumbered_same, same
 use Rattle.adf_findings.specs.Demands.{demands_in}
 use Rattle.adf_findings.specs.Survey.{FindingValue, finding, JudgementValue, Judged, BootTells, RootJudged, RootTells, begun, is_other_type}
 use Rattle.adf_findings.specs.Survey.{Course, after, IsNext, IsCourse, IsDone, IsSurvey}
-use Rattle.adf_findings.specs.Survey.JudgementValue.{clean, noted, passed}
+use Rattle.adf_findings.specs.Survey.JudgementValue.{clean, reported, skipped}
 use Rattle.adf_findings.specs.Survey.IsCourse.{start, step}
 use Rattle.adf_findings.specs.Survey.BootTells.{clean_boot, other_type}
-use Rattle.adf_findings.specs.Survey.RootTells.{clean_root, noted_root}
+use Rattle.adf_findings.specs.Survey.RootTells.{clean_root, reported_root}
 use Rattle.adf_findings.specs.Survey.UnreadTells.{bad_boot, bad_root}
 use Rattle.adf_findings.specs.Survey.IsSurvey.{unread, read}
 use Rattle.adf_volume.proofs.DecidedAsks.{dec_asked}
 use Rattle.adf_volume.proofs.Gathered.{IsGathered, root_in}
 use Rattle.adf_volume.proofs.PartDemands.{part_holds_by}
-use Rattle.adf_findings.proofs.Judged.{itself_holds}
-use Rattle.adf_findings.proofs.Judging.{decided, decided_form, dec_true, first_failing, judged, bits_told}
+use Rattle.adf_findings.proofs.JudgementTests.{itself_holds}
+use Rattle.adf_findings.proofs.Decidability.{decided, decided_form, dec_true, first_failing, judged, bits_told}
 use Rattle.adf_findings.proofs.OneSurvey.{gathered}
 
 -- the values at the numbers below n
@@ -125,44 +125,44 @@ module _ (image : List ℕ) where
 
   -- what could be next is in the list
   abbrev Covers : List Role → Course → Type 0
-  Covers rs s = (r : Role) (a i : ℕ) → Asks image s.walk r a i → Lacks s.walk r → Lacks s.passed_over r → Listed s.walk rs r
+  Covers rs s = (r : Role) (a i : ℕ) → Asks image s.walk r a i → Lacks s.walk r → Lacks s.skipped r → Listed s.walk rs r
 
   module _ (free : List ℕ) (again : (rest : List ℕ) → length free ≡ suc (length rest) → (s : Course) → IsCourse image s → Frees rest s → Finished) where
     -- a part is taken, and its block is free no more
     took : (w over : List (Role × ℕ)) (fs : List FindingValue) (r : Role) (b : ℕ)
-        → IsCourse image (record { walk = (r, b) ∷ w; passed_over = over; findings = fs })
+        → IsCourse image (record { walk = (r, b) ∷ w; skipped = over; findings = fs })
         → b < blocks image → IsAbsent w b → ((b : ℕ) → b < blocks image → IsAbsent w b → In free b) → Finished
     took w over fs r b v lt abs fr =
         let x = without free b (fr b lt abs) in
-        again x.0 x.1 (record { walk = (r, b) ∷ w; passed_over = over; findings = fs }) v
+        again x.0 x.1 (record { walk = (r, b) ∷ w; skipped = over; findings = fs }) v
         (λ c u h. x.2 c (fr c u (λ q k. h q (inr k))) (λ e. h r (inl (refl, sym e))))
 
     module _ (s : Course) (v : IsCourse image s) (fr : Frees free s) where
       abbrev Wanted : Role → Type 0
-      Wanted z = Asked image s.walk z × Lacks s.walk z × Lacks s.passed_over z
+      Wanted z = Asked image s.walk z × Lacks s.walk z × Lacks s.skipped z
 
       dec_wanted : (z : Role) → Dec (Wanted z)
       dec_wanted z = elim (dec_asked image s.walk (gathered image v) z) [
         | no n ↦ no (λ x. n x.0)
         | yes a ↦ elim (dec_lacks s.walk z) [
           | no n ↦ no (λ x. n x.1)
-          | yes k ↦ elim (dec_lacks s.passed_over z) [ no n ↦ no (λ x. n x.2) | yes l ↦ yes (a, k, l) ]
+          | yes k ↦ elim (dec_lacks s.skipped z) [ no n ↦ no (λ x. n x.2) | yes l ↦ yes (a, k, l) ]
         ]
       ]
 
       abbrev number : ℕ
       number = suc (heads s.walk)
 
-      in_wanted : (rs : List Role) → Covers rs s → (r : Role) (a i : ℕ) → Asks image s.walk r a i → Lacks s.walk r → Lacks s.passed_over r
+      in_wanted : (rs : List Role) → Covers rs s → (r : Role) (a i : ℕ) → Asks image s.walk r a i → Lacks s.walk r → Lacks s.skipped r
           → (z : Role) × In rs z × Wanted z × Same z r
-      in_wanted rs cover r a i ask lack unpassed =
-          let x = cover r a i ask lack unpassed in
+      in_wanted rs cover r a i ask lack unskipped =
+          let x = cover r a i ask lack unskipped in
           let k : Same (renumbered number x.0) x.0 = renumbered_same number x.0 in
           let e : Same (renumbered number x.0) r = same_of (renumbered number x.0) r x.2 in
           let same : Same x.0 r = omega arith in (
             x.0,
             x.1,
-            ((a, i, subst (λ r. Asks image s.walk r a i) (sym x.2) ask), lacks_same s.walk r x.0 same lack, lacks_same s.passed_over r x.0 same unpassed),
+            ((a, i, subst (λ r. Asks image s.walk r a i) (sym x.2) ask), lacks_same s.walk r x.0 same lack, lacks_same s.skipped r x.0 same unskipped),
             same,
           )
 
@@ -174,21 +174,21 @@ module _ (image : List ℕ) where
           record {
             asked = x.0.2;
             lacks = lacks_same s.walk z (renumbered number z) same x.1;
-            unpassed = lacks_same s.passed_over z (renumbered number z) same x.2;
+            unskipped = lacks_same s.skipped z (renumbered number z) same x.2;
             least =
-                λ q d k ask lack unpassed bef.
-                let y = in_wanted rs cover q d k ask lack unpassed in
+                λ q d k ask lack unskipped bef.
+                let y = in_wanted rs cover q d k ask lack unskipped in
                 let t : Same y.0 q = y.3 in
                 none y.0 y.1 y.2 (omega arith, (λ e. omega arith), (λ e f. omega arith));
           }
 
-    -- the part that is next is taken, or passed over and wanted no more
+    -- the part that is next is taken, or skipped and wanted no more
     judge_next : (rs : List Role)
         (pass : (rest : List Role) → length rs ≡ suc (length rest) → (s : Course) → IsCourse image s → Frees free s → Covers rest s → Finished)
         → (s : Course) → IsCourse image s → Frees free s → Covers rs s → Finished
     judge_next rs pass s v fr cover =
         elim (least (Wanted s v fr) (dec_wanted s v fr) rs) [
-          | inl none ↦ (s, v, (λ r a i ask lack unpassed. let x = in_wanted s v fr rs cover r a i ask lack unpassed in none x.0 x.1 x.2))
+          | inl none ↦ (s, v, (λ r a i ask lack unskipped. let x = in_wanted s v fr rs cover r a i ask lack unskipped in none x.0 x.1 x.2))
           | inr x ↦
               let q : Role = renumbered (suc (heads s.walk)) x.0 in
               let a : ℕ = x.2.0.0 in
@@ -201,17 +201,17 @@ module _ (image : List ℕ) where
             → (j : JudgementValue) → Judged q (demands_in image s.walk q a (word_in image a i)) j → Finished
         go z mem q e a i next clean h =
             let part = part_holds_by (letters_of image) image s.walk q a (word_in image a i) h in
-            took s.walk s.passed_over s.findings q (word_in image a i) (step clean v next h) part.inside part.unowned fr
-        go z mem q e a i next (noted at c) h =
+            took s.walk s.skipped s.findings q (word_in image a i) (step clean v next h) part.inside part.unowned fr
+        go z mem q e a i next (reported at c) h =
             let part = itself_holds image s.walk q a (word_in image a i) h.1 in
-            took s.walk s.passed_over (s.findings ++ finding (Some q) at c ∷ []) q (word_in image a i) (step (noted at c) v next h)
+            took s.walk s.skipped (s.findings ++ finding (Some q) at c ∷ []) q (word_in image a i) (step (reported at c) v next h)
             part.inside part.unowned fr
-        go z mem q e a i next (passed at c) h =
+        go z mem q e a i next (skipped at c) h =
             let x = without rs z mem in
-            pass x.0 x.1 (after s q (word_in image a i) (passed at c)) (step (passed at c) v next h) fr
-            (λ r b k ask lack unpassed.
-            let y = cover r b k ask lack (λ p d g. unpassed p d (inr g)) in
-            let other : y.0 ≡ z → ⊥ = (λ u. unpassed q (word_in image a i) (inl (refl, refl))
+            pass x.0 x.1 (after s q (word_in image a i) (skipped at c)) (step (skipped at c) v next h) fr
+            (λ r b k ask lack unskipped.
+            let y = cover r b k ask lack (λ p d g. unskipped p d (inr g)) in
+            let other : y.0 ≡ z → ⊥ = (λ u. unskipped q (word_in image a i) (inl (refl, refl))
             (same_of q r (sym e ∙ ap (renumbered (suc (heads s.walk))) (sym u) ∙ y.2))) in
             (y.0, x.2 y.0 y.1 other, y.2))
 
@@ -223,11 +223,11 @@ module _ (image : List ℕ) where
   finish : (n : ℕ) (free : List ℕ) → length free ≡ n → (s : Course) → IsCourse image s → Frees free s → Finished
   finish zero free long s v fr =
       let rs : List Role = askable pages s.walk in
-      judge_all free (λ rest k. absurd (omega arith)) (length rs) rs refl s v fr (λ r a i ask lack unpassed. covered s.walk (gathered image v) r a i ask)
+      judge_all free (λ rest k. absurd (omega arith)) (length rs) rs refl s v fr (λ r a i ask lack unskipped. covered s.walk (gathered image v) r a i ask)
   finish (suc n) free long s v fr =
       let rs : List Role = askable pages s.walk in
       judge_all free (λ rest k. finish n rest (omega arith)) (length rs) rs refl s v fr
-      (λ r a i ask lack unpassed. covered s.walk (gathered image v) r a i ask)
+      (λ r a i ask lack unskipped. covered s.walk (gathered image v) r a i ask)
 
   -- where the root is taken, the parts are gone through
   gone_through : {boot root : List FindingValue} → BootTells image boot → RootTells image root
@@ -251,8 +251,8 @@ module _ (image : List ℕ) where
     where
       go : (j : JudgementValue) → RootJudged image j → (w : List (Role × ℕ)) × (fs : List FindingValue) × IsSurvey image w fs
       go clean h = gone_through b (clean_root h)
-      go (noted at c) h = gone_through b (noted_root h)
-      go (passed at c) h = ([], boot ++ finding None at c ∷ [], unread (bad_root b h))
+      go (reported at c) h = gone_through b (reported_root h)
+      go (skipped at c) h = ([], boot ++ finding None at c ∷ [], unread (bad_root b h))
 
   -- a boot block with a cause is of another type, or nothing is taken
   by_cause : (at : ℕ) (c : Cause) → FirstFails (boot_demands image) at c → (t : Bool) → is_other_type c ≡ t

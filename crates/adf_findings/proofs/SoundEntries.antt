@@ -15,38 +15,39 @@ use Rattle.adf_volume.proofs.Roles.{count_up, dec_has, dir_is_node, has_low, hea
 use Rattle.adf_findings.specs.Demands.{demands_in, form_demands_in, head_demands_in}
 use Rattle.adf_findings.specs.Files.{counting}
 use Rattle.adf_findings.specs.Survey.{FindingValue, finding, Course, IsNext, IsCourse, IsDone, IsSurvey}
-use Rattle.adf_findings.specs.Survey.JudgementValue.{clean, noted, passed}
+use Rattle.adf_findings.specs.Survey.JudgementValue.{clean, reported, skipped}
 use Rattle.adf_findings.specs.Survey.IsCourse.{start, step}
 use Rattle.adf_findings.specs.Survey.IsSurvey.{unread, read}
-use Rattle.adf_findings.specs.Sound.{FileHolds, HeaderHolds, IsNextData, IsSound, IsUnnoted}
+use Rattle.adf_findings.specs.Sound.{FileHolds, HeaderHolds, IsNextData, IsSound, IsUnreported}
 use Rattle.adf_volume.proofs.Gathered.{IsGathered, asked_dir, asked_file, asks_one, ext_counted, file_one, head_block, member_is, node_is, node_one, one_block}
 use Rattle.adf_findings.proofs.OneSurvey.{gathered}
 use Rattle.adf_volume.proofs.PartDemands.{part_holds_by}
-use Rattle.adf_findings.proofs.GraveFindings.{data_unnoted, ext_unnoted}
-use Rattle.adf_findings.proofs.Judged.{itself_holds}
+use Rattle.adf_findings.proofs.GraveFindings.{data_unreported, ext_unreported}
+use Rattle.adf_findings.proofs.JudgementTests.{itself_holds}
 
 module _ (image : List ℕ) where
   -- a finding concerns the part
-  abbrev Noted : List FindingValue → Role → Type 0
-  Noted fs r = (f : FindingValue) × In fs f × (f.part ≡ Some r)
+  abbrev Reported : List FindingValue → Role → Type 0
+  Reported fs r = (f : FindingValue) × In fs f × (f.part ≡ Some r)
 
-  noted_more : (fs gs : List FindingValue) (r : Role) → Noted fs r → Noted (fs ++ gs) r
-  noted_more fs gs r x = (x.0, in_left fs gs x.0 x.1, x.2)
+  reported_more : (fs gs : List FindingValue) (r : Role) → Reported fs r → Reported (fs ++ gs) r
+  reported_more fs gs r x = (x.0, in_left fs gs x.0 x.1, x.2)
 
-  noted_now : (fs : List FindingValue) (r : Role) (f : FindingValue) → f.part ≡ Some r → Noted (fs ++ f ∷ []) r
-  noted_now fs r f e = (f, in_right fs (f ∷ []) f (inl refl), e)
+  reported_now : (fs : List FindingValue) (r : Role) (f : FindingValue) → f.part ≡ Some r → Reported (fs ++ f ∷ []) r
+  reported_now fs r f e = (f, in_right fs (f ∷ []) f (inl refl), e)
 
-  -- what was passed over is noted
-  pub passed_noted : {s : Course} → IsCourse image s → (r : Role) (b : ℕ) → Has s.passed_over r b → Noted s.findings r
-  passed_noted (start boot root) r b h = absurd h
-  passed_noted (step {s = s} {r = q} {a = a} {i = i} clean v n g) r b h = passed_noted v r b h
-  passed_noted (step {s = s} {r = q} {a = a} {i = i} (noted at c) v n g) r b h = noted_more s.findings (finding (Some q) at c ∷ []) r (passed_noted v r b h)
-  passed_noted (step {s = s} {r = q} {a = a} {i = i} (passed at c) v n g) r b (inl e) = noted_now s.findings r (finding (Some q) at c) (ap Some e.0)
-  passed_noted (step {s = s} {r = q} {a = a} {i = i} (passed at c) v n g) r b (inr h) =
-      noted_more s.findings (finding (Some q) at c ∷ []) r (passed_noted v r b h)
+  -- what was skipped is reported
+  pub skipped_reported : {s : Course} → IsCourse image s → (r : Role) (b : ℕ) → Has s.skipped r b → Reported s.findings r
+  skipped_reported (start boot root) r b h = absurd h
+  skipped_reported (step {s = s} {r = q} {a = a} {i = i} clean v n g) r b h = skipped_reported v r b h
+  skipped_reported (step {s = s} {r = q} {a = a} {i = i} (reported at c) v n g) r b h = reported_more s.findings (finding (Some q) at c ∷ []) r
+      (skipped_reported v r b h)
+  skipped_reported (step {s = s} {r = q} {a = a} {i = i} (skipped at c) v n g) r b (inl e) = reported_now s.findings r (finding (Some q) at c) (ap Some e.0)
+  skipped_reported (step {s = s} {r = q} {a = a} {i = i} (skipped at c) v n g) r b (inr h) =
+      reported_more s.findings (finding (Some q) at c ∷ []) r (skipped_reported v r b h)
 
-  unnoted_less : (fs gs : List FindingValue) (r : Role) → IsUnnoted (fs ++ gs) r → IsUnnoted fs r
-  unnoted_less fs gs r h f q i = h f q (in_left fs gs f i)
+  unreported_less : (fs gs : List FindingValue) (r : Role) → IsUnreported (fs ++ gs) r → IsUnreported fs r
+  unreported_less fs gs r h f q i = h f q (in_left fs gs f i)
 
   -- how a member came into a walk: nothing that comes before it was left
   record Came (w : List (Role × ℕ)) (fs : List FindingValue) (r : Role) (b : ℕ) : Type 0 where
@@ -56,10 +57,10 @@ module _ (image : List ℕ) where
     index : ℕ
     asked : Asks image before r at index
     named : word_in image at index ≡ b
-    judged : AllHold (demands_in image before r at b) ⊎ Noted fs r
+    judged : AllHold (demands_in image before r at b) ⊎ Reported fs r
     older : (q : Role) (c : ℕ) → Has before q c → Has w q c
     counted : (n : ℕ) → ext_count before n ≤ ext_count w n
-    earlier : (q : Role) (c k : ℕ) → Asks image before q c k → Before q r → Lacks before q → IsUnnoted fs q → ⊥
+    earlier : (q : Role) (c k : ℕ) → Asks image before q c k → Before q r → Lacks before q → IsUnreported fs q → ⊥
 
   came_later : (w : List (Role × ℕ)) (fs : List FindingValue) (r : Role) (b : ℕ) (x : Role × ℕ) → Came w fs r b → Came (x ∷ w) fs r b
   came_later w fs r b x y = record {
@@ -75,23 +76,23 @@ module _ (image : List ℕ) where
     earlier = y.earlier;
   }
 
-  came_noted : (w : List (Role × ℕ)) (fs gs : List FindingValue) (r : Role) (b : ℕ) → Came w fs r b → Came w (fs ++ gs) r b
-  came_noted w fs gs r b y = record {
+  came_reported : (w : List (Role × ℕ)) (fs gs : List FindingValue) (r : Role) (b : ℕ) → Came w fs r b → Came w (fs ++ gs) r b
+  came_reported w fs gs r b y = record {
     before = y.before;
     came_before = y.came_before;
     at = y.at;
     index = y.index;
     asked = y.asked;
     named = y.named;
-    judged = elim (y.judged) [ inl h ↦ inl h | inr n ↦ inr (noted_more fs gs r n) ];
+    judged = elim (y.judged) [ inl h ↦ inl h | inr n ↦ inr (reported_more fs gs r n) ];
     older = y.older;
     counted = y.counted;
-    earlier = (λ q c k ask bef lack clear. y.earlier q c k ask bef lack (unnoted_less fs gs q clear));
+    earlier = (λ q c k ask bef lack clear. y.earlier q c k ask bef lack (unreported_less fs gs q clear));
   }
 
   came_new : (s : Course) (r : Role) (a i : ℕ) (w : List (Role × ℕ)) (fs : List FindingValue) (x : Role × ℕ) → w ≡ x ∷ s.walk → IsCourse image s
-      → IsNext image s r a i → ((q : Role) → Noted s.findings q → Noted fs q)
-      → AllHold (demands_in image s.walk r a (word_in image a i)) ⊎ Noted fs r → Came w fs r (word_in image a i)
+      → IsNext image s r a i → ((q : Role) → Reported s.findings q → Reported fs q)
+      → AllHold (demands_in image s.walk r a (word_in image a i)) ⊎ Reported fs r → Came w fs r (word_in image a i)
   came_new s r a i w fs x e v n more j = record {
     before = s.walk;
     came_before = gathered image v;
@@ -103,10 +104,10 @@ module _ (image : List ℕ) where
     older = (λ q c h. subst (λ w. Has w q c) (sym e) (inr h));
     counted = (λ n. subst (λ w. ext_count s.walk n ≤ ext_count w n) (sym e) (count_up n x.0 (ext_count s.walk n)));
     earlier = (λ q c k ask bef lack clear.
-        n.least q c k ask lack (λ p b h same. let y = more p (passed_noted v p b h) in clear y.0 p y.1 y.2 same) bef);
+        n.least q c k ask lack (λ p b h same. let y = more p (skipped_reported v p b h) in clear y.0 p y.1 y.2 same) bef);
   }
 
-  -- each member but the root came by a word, and has no cause or is noted
+  -- each member but the root came by a word, and has no cause or is reported
   came : {s : Course} → IsCourse image s → (r : Role) (b : ℕ) → Has s.walk r b → (Root ≡ r) ⊎ Came s.walk s.findings r b
   came (start boot root) r b (inl e) = inl e.0
   came (start boot root) r b (inr h) = absurd h
@@ -119,23 +120,23 @@ module _ (image : List ℕ) where
         | inl e ↦ inl e
         | inr y ↦ inr (came_later s.walk s.findings r b (q, word_in image a i) y)
       ]
-  came (step {s = s} {r = q} {a = a} {i = i} (noted at c) v n g) r b (inl e) =
+  came (step {s = s} {r = q} {a = a} {i = i} (reported at c) v n g) r b (inl e) =
       let w : List (Role × ℕ) = (q, word_in image a i) ∷ s.walk in
       let fs : List FindingValue = s.findings ++ finding (Some q) at c ∷ [] in
       inr (subst (Came w fs r) e.1 (subst (λ r. Came w fs r (word_in image a i)) e.0
-      (came_new s q a i w fs (q, word_in image a i) refl v n (noted_more s.findings (finding (Some q) at c ∷ []))
-      (inr (noted_now s.findings q (finding (Some q) at c) refl)))))
-  came (step {s = s} {r = q} {a = a} {i = i} (noted at c) v n g) r b (inr h) =
+      (came_new s q a i w fs (q, word_in image a i) refl v n (reported_more s.findings (finding (Some q) at c ∷ []))
+      (inr (reported_now s.findings q (finding (Some q) at c) refl)))))
+  came (step {s = s} {r = q} {a = a} {i = i} (reported at c) v n g) r b (inr h) =
       elim (came v r b h) [
         | inl e ↦ inl e
         | inr y ↦
             inr (came_later s.walk (s.findings ++ finding (Some q) at c ∷ []) r b (q, word_in image a i)
-            (came_noted s.walk s.findings (finding (Some q) at c ∷ []) r b y))
+            (came_reported s.walk s.findings (finding (Some q) at c ∷ []) r b y))
       ]
-  came (step {s = s} {r = q} {a = a} {i = i} (passed at c) v n g) r b h =
+  came (step {s = s} {r = q} {a = a} {i = i} (skipped at c) v n g) r b h =
       elim (came v r b h) [
         | inl e ↦ inl e
-        | inr y ↦ inr (came_noted s.walk s.findings (finding (Some q) at c ∷ []) r b y)
+        | inr y ↦ inr (came_reported s.walk s.findings (finding (Some q) at c ∷ []) r b y)
       ]
 
   same_word : (a a' i i' b : ℕ) → a ≡ a' → i ≡ i' → word_in image a i ≡ b → word_in image a' i' ≡ b
@@ -143,7 +144,7 @@ module _ (image : List ℕ) where
 
   module _ {s : Course} (v : IsCourse image s) (done : IsDone image s) where
     -- a member that nothing is said against came without a cause
-    came_clean : (r : Role) (b : ℕ) → Has s.walk r b → (Root ≡ r → ⊥) → IsUnnoted s.findings r
+    came_clean : (r : Role) (b : ℕ) → Has s.walk r b → (Root ≡ r → ⊥) → IsUnreported s.findings r
         → (y : Came s.walk s.findings r b) × AllHold (demands_in image y.before r y.at b)
     came_clean r b g other clear =
         elim (came v r b g) [
@@ -151,7 +152,7 @@ module _ (image : List ℕ) where
           | inr y ↦ elim (y.judged) [ inl h ↦ (y, h) | inr x ↦ absurd (clear x.0 r x.1 x.2 (same_refl r)) ]
         ]
 
-    came_formed : (r : Role) (b : ℕ) → Has s.walk r b → (Root ≡ r → ⊥) → IsUnnoted s.findings r
+    came_formed : (r : Role) (b : ℕ) → Has s.walk r b → (Root ≡ r → ⊥) → IsUnreported s.findings r
         → (y : Came s.walk s.findings r b) × AllHold (form_demands_in image y.before r b)
     came_formed r b g other clear =
         let x = came_clean r b g other clear in
@@ -162,7 +163,7 @@ module _ (image : List ℕ) where
     node_before w (suc p) a older f = head_in f (older (head_role f) a f.has)
 
     -- a header has its form
-    head_formed : (n p t j h up : ℕ) → Has s.walk (Head n p t j) h → IsUnnoted s.findings (Head n p t j) → NodeAt s.walk p up
+    head_formed : (n p t j h up : ℕ) → Has s.walk (Head n p t j) h → IsUnreported s.findings (Head n p t j) → NodeAt s.walk p up
         → AllHold (head_demands_in image (kind_of image) h up t)
     head_formed n p t j h up g clear node =
         let x = came_formed (Head n p t j) h g (λ e. let x : second Root ≡ second (Head n p t j) = ap second e in omega arith) clear in
@@ -179,7 +180,7 @@ module _ (image : List ℕ) where
     file_was w n a h g older f file =
         head_block image g f.header ∙ file_one image (gathered image v) n a h (typed_in f (older (head_role f.header) a f.header.has)) file
 
-    ext_formed : (n k b h : ℕ) → Has s.walk (Ext n k) b → IsUnnoted s.findings (Ext n k) → FileAt image s.walk n h → AllHold (ext_demands image b h)
+    ext_formed : (n k b h : ℕ) → Has s.walk (Ext n k) b → IsUnreported s.findings (Ext n k) → FileAt image s.walk n h → AllHold (ext_demands image b h)
     ext_formed n k b h g clear file =
         let x = came_formed (Ext n k) b g (λ e. let x : first Root ≡ first (Ext n k) = ap first e in omega arith) clear in
         let d = asked_file image x.0.came_before n k x.0.at x.0.index x.0.asked in
@@ -187,17 +188,17 @@ module _ (image : List ℕ) where
         subst (λ h. AllHold (ext_demands image b h)) e x.1
 
     -- what is asked for and has no finding is in the walk
-    in_walk : (r : Role) (a i : ℕ) → Asks image s.walk r a i → IsUnnoted s.findings r → second r < 2 → (b : ℕ) × Has s.walk r b
+    in_walk : (r : Role) (a i : ℕ) → Asks image s.walk r a i → IsUnreported s.findings r → second r < 2 → (b : ℕ) × Has s.walk r b
     in_walk r a i ask clear low =
         elim (has_low s.walk r low) [
           | inr y ↦ y
-          | inl lack ↦ elim (dec_has s.passed_over r) [
+          | inl lack ↦ elim (dec_has s.skipped r) [
             | inl l ↦ absurd (done r a i ask lack l)
-            | inr y ↦ let x = passed_noted v y.role y.block y.has in absurd (clear x.0 y.role x.1 x.2 y.same)
+            | inr y ↦ let x = skipped_reported v y.role y.block y.has in absurd (clear x.0 y.role x.1 x.2 y.same)
           ]
         ]
 
-    module _ (n h : ℕ) (file : FileAt image s.walk n h) (clear : (k : ℕ) → IsUnnoted s.findings (Data n k)) where
+    module _ (n h : ℕ) (file : FileAt image s.walk n h) (clear : (k : ℕ) → IsUnreported s.findings (Data n k)) where
       -- a file that was there before has the same header
       file_before : (w : List (Role × ℕ)) (a : ℕ) → ((q : Role) (c : ℕ) → Has w q c → Has s.walk q c) → FileAt image w n a → FileAt image s.walk n a
       file_before w a older f = typed_in f (older (head_role f.header) a f.header.has)
@@ -247,7 +248,7 @@ module _ (image : List ℕ) where
           let z = asks_one image (gathered image v) (Data n (suc k)) y.at y.index m.0 (table_word k) was ask in
           (m.0, x.0, m.1, same_word y.at m.0 y.index (table_word k) x.0 z.0 z.1 y.named, x.1)
 
-      module _ (none : (k : ℕ) → IsUnnoted s.findings (Ext n k)) where
+      module _ (none : (k : ℕ) → IsUnreported s.findings (Ext n k)) where
         ext_wanted : (m a : ℕ) → Has s.walk (Ext n (suc m)) a → Came s.walk s.findings (Ext n (suc m)) a
         ext_wanted m a g = elim (came v (Ext n (suc m)) a g) [
           | inl e ↦ let x : first Root ≡ first (Ext n (suc m)) = ap first e in absurd (omega arith)
@@ -334,10 +335,10 @@ module _ (image : List ℕ) where
   one_role (step {s = s} {r = z} {a = a} {i = i} clean v n g) r q b h k =
       let part = part_holds_by (letters_of image) image s.walk z a (word_in image a i) g in
       absent_new s.walk z r q (word_in image a i) b part.unowned (one_role v r q b) h k
-  one_role (step {s = s} {r = z} {a = a} {i = i} (noted at c) v n g) r q b h k =
+  one_role (step {s = s} {r = z} {a = a} {i = i} (reported at c) v n g) r q b h k =
       let part = itself_holds image s.walk z a (word_in image a i) g.1 in
       absent_new s.walk z r q (word_in image a i) b part.unowned (one_role v r q b) h k
-  one_role (step (passed at c) v n g) r q b h k = one_role v r q b h k
+  one_role (step (skipped at c) v n g) r q b h k = one_role v r q b h k
 
   pub one_part : (w : List (Role × ℕ)) (fs : List FindingValue) → IsSurvey image w fs → (r q : Role) (b : ℕ) → Has w r b → Has w q b → r ≡ q
   one_part w fs (unread f) r q b h k = absurd h
@@ -347,8 +348,8 @@ module _ (image : List ℕ) where
   sound_header w fs n h (unread f) sound g up node = absurd g.has
   sound_header w fs n h (read {s = s} {bits = bits} v d told) sound g up node =
       let e : head_role sound.header ≡ head_role g = one_role v (head_role sound.header) (head_role g) h sound.header.has g.has in
-      let clear : IsUnnoted s.findings (head_role g) =
-      subst (IsUnnoted s.findings) e (unnoted_less s.findings bits (head_role sound.header) sound.unnoted) in
+      let clear : IsUnreported s.findings (head_role g) =
+      subst (IsUnreported s.findings) e (unreported_less s.findings bits (head_role sound.header) sound.unreported) in
       head_formed v d n g.parent g.slot g.place h up g.has clear node
 
   -- the findings that count may be the grave ones alone
@@ -357,10 +358,10 @@ module _ (image : List ℕ) where
   whole_file w fs c n h (unread f) sound file = absurd file.header.has
   whole_file w fs c n h (read {s = s} {bits = bits} v d told) sound file =
       let all : List FindingValue = s.findings ++ bits in
-      let datas : (k : ℕ) → IsUnnoted s.findings (Data n k) =
-      λ k. unnoted_less s.findings bits (Data n k) (data_unnoted c all n k (sound.datas k)) in
-      let exts : (k : ℕ) → IsUnnoted s.findings (Ext n k) =
-      λ k. unnoted_less s.findings bits (Ext n k) (ext_unnoted c all n k (sound.exts k)) in
+      let datas : (k : ℕ) → IsUnreported s.findings (Data n k) =
+      λ k. unreported_less s.findings bits (Data n k) (data_unreported c all n k (sound.datas k)) in
+      let exts : (k : ℕ) → IsUnreported s.findings (Ext n k) =
+      λ k. unreported_less s.findings bits (Ext n k) (ext_unreported c all n k (sound.exts k)) in
       record {
         named = data_named v d n h file datas;
         exts = (λ k b g. ext_formed v d n k b h g (exts k) file);

@@ -17,11 +17,11 @@ use Rattle.adf_findings.specs.Files.{FileValue, HasItsBlocks, counting, file_con
 use Rattle.adf_findings.specs.Sound.{IsSound}
 use Rattle.adf_findings.specs.Survey.{FindingValue, IsSurvey}
 use Rattle.adf_findings.specs.Survey.IsSurvey.{read, unread}
-use Rattle.adf_findings.specs.Surveyed.{IsOfSurvey, Surveyed}
+use Rattle.adf_findings.specs.SurveyResult.{IsOfSurvey, SurveyValue}
 use Rattle.adf_findings.proofs.Keeping.{tells_each}
 use Rattle.adf_findings.proofs.FileBlocks.{DatasListed, datas_listed, listed_named, names_length}
-use Rattle.adf_findings.proofs.GraveFindings.{data_unnoted}
-use Rattle.adf_findings.proofs.SoundEntries.{passed_noted, whole_file}
+use Rattle.adf_findings.proofs.GraveFindings.{data_unreported}
+use Rattle.adf_findings.proofs.SoundEntries.{skipped_reported, whole_file}
 use Rattle.adf_findings.proofs.SoundMarks.{inside}
 use Rattle.adf_findings.proofs.Starts.{course_size}
 
@@ -30,8 +30,8 @@ pub whole_listed : (image : List ℕ) (w : List (Role × ℕ)) (fs : List Findin
     → IsSound image w (counting c fs) n h → DatasListed image n w
 whole_listed image w fs c n h (unread f) sound = absurd sound.header.has
 whole_listed image w fs c n h (read {s = s} {bits = bits} v d told) sound =
-    datas_listed image n v (λ k b g. let y = passed_noted image v (Data n k) b g in
-    data_unnoted c (s.findings ++ bits) n k (sound.datas k) y.0 (Data n k) (in_left s.findings bits y.0 y.1) y.2 (same_refl (Data n k)))
+    datas_listed image n v (λ k b g. let y = skipped_reported image v (Data n k) b g in
+    data_unreported c (s.findings ++ bits) n k (sound.datas k) y.0 (Data n k) (in_left s.findings bits y.0 y.1) y.2 (same_refl (Data n k)))
 
 pub sound_listed : (image : List ℕ) (w : List (Role × ℕ)) (fs : List FindingValue) (n h : ℕ) → IsSurvey image w fs → IsSound image w fs n h
     → DatasListed image n w
@@ -59,7 +59,7 @@ file_told image w fs c n (read {s = s} {bits = bits} v d told) sound type =
     )
 
 -- what is kept of a survey tells of the header of an entry
-module _ (v : Surveyed) (kept : IsOfSurvey v) (w : List (Role × ℕ)) (fs : List FindingValue) (h : IsSurvey v.image w fs) (n : ℕ)
+module _ (v : SurveyValue) (kept : IsOfSurvey v) (w : List (Role × ℕ)) (fs : List FindingValue) (h : IsSurvey v.image w fs) (n : ℕ)
     {head type : ℕ} {image : List ℕ} (is_image : image ≡ v.image) (is_head : head ≡ slice_index v.nodes n)
     (is_type : type ≡ word_in image head SECONDARY_TYPE) where
   head_is : head ≡ node_block w n

@@ -27,14 +27,14 @@ use Rattle.adf_findings.specs.Forms.{Tells}
 use Rattle.adf_findings.specs.Found.{Stands, at_key, data_blocks_of, owns, with_data}
 use Rattle.adf_findings.specs.Marks.{blamed, is_blamed, is_clear, is_doubtful, is_node, is_sharing, sharing, is_header}
 use Rattle.adf_findings.specs.Parts.{key_of, part_role, finding_value}
-use Rattle.adf_findings.specs.Sound.{IsSound, IsUnnoted}
+use Rattle.adf_findings.specs.Sound.{IsSound, IsUnreported}
 use Rattle.adf_findings.specs.Survey.{BitsTell, BootTells, Course, FindingValue, IsCourse, IsDone, IsNext, RootTells, UnreadTells, finding}
 use Rattle.adf_findings.specs.Survey.BitsTell.{agrees, differs, ends}
 use Rattle.adf_findings.specs.Survey.IsCourse.{start, step}
 use Rattle.adf_findings.specs.Survey.BootTells.{clean_boot, other_type}
-use Rattle.adf_findings.specs.Survey.RootTells.{clean_root, noted_root}
+use Rattle.adf_findings.specs.Survey.RootTells.{clean_root, reported_root}
 use Rattle.adf_findings.specs.Survey.UnreadTells.{bad_boot, bad_root}
-use Rattle.adf_findings.specs.Survey.JudgementValue.{clean, noted, passed}
+use Rattle.adf_findings.specs.Survey.JudgementValue.{clean, reported, skipped}
 use Rattle.adf_findings.proofs.Keys.{lacks_at, same_of_key}
 use Rattle.adf_volume.proofs.AsksSplit.{asks_more}
 use Rattle.adf_findings.proofs.BitSteps.{at_has}
@@ -42,20 +42,20 @@ use Rattle.adf_findings.proofs.HeadPlaces.{found_header, header_found}
 use Rattle.adf_findings.proofs.Known.{tells_absent}
 use Rattle.adf_findings.proofs.OneSurvey.{gathered}
 use Rattle.adf_volume.proofs.PartDemands.{part_holds_by}
-use Rattle.adf_findings.proofs.Judged.{itself_holds}
+use Rattle.adf_findings.proofs.JudgementTests.{itself_holds}
 use Rattle.adf_findings.proofs.SoundEntries.{one_role}
 
 module _ (image : List ℕ) where
-  -- the part was taken or passed over
+  -- the part was taken or skipped
   abbrev Settled : Course → Role → Type 0
-  Settled s q = ((b : ℕ) × Has s.walk q b) ⊎ ((b : ℕ) × Has s.passed_over q b)
+  Settled s q = ((b : ℕ) × Has s.walk q b) ⊎ ((b : ℕ) × Has s.skipped q b)
 
   new_part : (r q : Role) (f g : FindingValue) → f.part ≡ Some r → In (f ∷ []) g → g.part ≡ Some q → r ≡ q
   new_part r q f g e (inl x) p = let z : Some r ≡ Some q = sym e ∙ (ap (λ f. f.part) x ∙ p) in cc
   new_part r q f g e (inr h) p = absurd h
 
   settled_more : (s : Course) (r q : Role) (b : ℕ) (fs : List FindingValue) → Settled s q
-      → Settled (record { walk = (r, b) ∷ s.walk; passed_over = s.passed_over; findings = fs }) q
+      → Settled (record { walk = (r, b) ∷ s.walk; skipped = s.skipped; findings = fs }) q
   settled_more s r q b fs (inl h) = inl (h.0, inr h.1)
   settled_more s r q b fs (inr h) = inr h
 
@@ -78,25 +78,25 @@ module _ (image : List ℕ) where
   -- the root of itself
   root_part : {fs : List FindingValue} → RootTells image fs → (f : FindingValue) (q : Role) → In fs f → f.part ≡ Some q → Root ≡ q
   root_part (clean_root h) f q m e = absurd m
-  root_part (noted_root {at = at} {c = c} h) f q m e = new_part Root q (finding (Some Root) at c) f refl m e
+  root_part (reported_root {at = at} {c = c} h) f q m e = new_part Root q (finding (Some Root) at c) f refl m e
 
-  -- a part that a finding concerns was taken or passed over
-  noted_settled : {s : Course} → IsCourse image s → (f : FindingValue) (q : Role) → In s.findings f → f.part ≡ Some q → Settled s q
-  noted_settled (start {boot = fs} {root = gs} b t) f q m e =
+  -- a part that a finding concerns was taken or skipped
+  reported_settled : {s : Course} → IsCourse image s → (f : FindingValue) (q : Role) → In s.findings f → f.part ≡ Some q → Settled s q
+  reported_settled (start {boot = fs} {root = gs} b t) f q m e =
       elim (in_cases fs gs f m) [
         | inl k ↦ let none : Some q ≡ None = sym e ∙ boot_none b f k in absurd (cc)
         | inr k ↦ inl (root_of image, inl (root_part t f q k e, refl))
       ]
-  noted_settled (step {s = s} {r = r} {a = a} {i = i} clean v n g) f q m e =
-      settled_more s r q (word_in image a i) s.findings (noted_settled v f q m e)
-  noted_settled (step {s = s} {r = r} {a = a} {i = i} (noted at c) v n g) f q m e =
+  reported_settled (step {s = s} {r = r} {a = a} {i = i} clean v n g) f q m e =
+      settled_more s r q (word_in image a i) s.findings (reported_settled v f q m e)
+  reported_settled (step {s = s} {r = r} {a = a} {i = i} (reported at c) v n g) f q m e =
       elim (in_cases s.findings (finding (Some r) at c ∷ []) f m) [
-        | inl k ↦ settled_more s r q (word_in image a i) s.findings (noted_settled v f q k e)
+        | inl k ↦ settled_more s r q (word_in image a i) s.findings (reported_settled v f q k e)
         | inr k ↦ inl (word_in image a i, inl (new_part r q (finding (Some r) at c) f refl k e, refl))
       ]
-  noted_settled (step {s = s} {r = r} {a = a} {i = i} (passed at c) v n g) f q m e =
+  reported_settled (step {s = s} {r = r} {a = a} {i = i} (skipped at c) v n g) f q m e =
       elim (in_cases s.findings (finding (Some r) at c ∷ []) f m) [
-        | inl k ↦ elim (noted_settled v f q k e) [ inl h ↦ inl h | inr h ↦ inr (h.0, inr h.1) ]
+        | inl k ↦ elim (reported_settled v f q k e) [ inl h ↦ inl h | inr h ↦ inr (h.0, inr h.1) ]
         | inr k ↦ inr (word_in image a i, inl (new_part r q (finding (Some r) at c) f refl k e, refl))
       ]
 
@@ -110,15 +110,15 @@ module _ (image : List ℕ) where
   new_apart : (w : List (Role × ℕ)) (z r q : Role) (c : ℕ) → Lacks w z → z ≡ r → Has w q c → Same r q → ⊥
   new_apart w z r q c l e k same = let t : Same z r = same_of z r e in l q c k (omega arith)
 
-  -- what is taken was not passed over
-  pub apart : {s : Course} → IsCourse image s → (r q : Role) (b c : ℕ) → Has s.walk r b → Has s.passed_over q c → Same r q → ⊥
+  -- what is taken was not skipped
+  pub apart : {s : Course} → IsCourse image s → (r q : Role) (b c : ℕ) → Has s.walk r b → Has s.skipped q c → Same r q → ⊥
   apart (start boot root) r q b c h k same = k
-  apart (step {s = s} {r = z} clean v n g) r q b c (inl e) k same = new_apart s.passed_over z r q c n.unpassed e.0 k same
+  apart (step {s = s} {r = z} clean v n g) r q b c (inl e) k same = new_apart s.skipped z r q c n.unskipped e.0 k same
   apart (step clean v n g) r q b c (inr h) k same = apart v r q b c h k same
-  apart (step {s = s} {r = z} (noted at d) v n g) r q b c (inl e) k same = new_apart s.passed_over z r q c n.unpassed e.0 k same
-  apart (step (noted at d) v n g) r q b c (inr h) k same = apart v r q b c h k same
-  apart (step {s = s} {r = z} (passed at d) v n g) r q b c h (inl e) same = new_apart s.walk z q r b n.lacks e.0 h (omega arith)
-  apart (step (passed at d) v n g) r q b c h (inr k) same = apart v r q b c h k same
+  apart (step {s = s} {r = z} (reported at d) v n g) r q b c (inl e) k same = new_apart s.skipped z r q c n.unskipped e.0 k same
+  apart (step (reported at d) v n g) r q b c (inr h) k same = apart v r q b c h k same
+  apart (step {s = s} {r = z} (skipped at d) v n g) r q b c h (inl e) same = new_apart s.walk z q r b n.lacks e.0 h (omega arith)
+  apart (step (skipped at d) v n g) r q b c h (inr k) same = apart v r q b c h k same
 
   -- the walk asks for the part, a header with the next number, in block b
   pub record Wanted (w : List (Role × ℕ)) (r : Role) (b : ℕ) : Type 0 where
@@ -157,19 +157,19 @@ module _ (image : List ℕ) where
   taken_wanted (start boot root) r b (inl e) = inl e.0
   taken_wanted (start boot root) r b (inr h) = absurd h
   taken_wanted (step {s = s} {r = z} {a = a} {i = i} clean v n g) r b h = wanted_new s z a i v n r b (taken_wanted v r b) h
-  taken_wanted (step {s = s} {r = z} {a = a} {i = i} (noted at c) v n g) r b h = wanted_new s z a i v n r b (taken_wanted v r b) h
-  taken_wanted (step (passed at c) v n g) r b h = taken_wanted v r b h
+  taken_wanted (step {s = s} {r = z} {a = a} {i = i} (reported at c) v n g) r b h = wanted_new s z a i v n r b (taken_wanted v r b) h
+  taken_wanted (step (skipped at c) v n g) r b h = taken_wanted v r b h
 
-  -- what was passed over is asked for in its block
-  passed_wanted : {s : Course} → IsCourse image s → (r : Role) (b : ℕ) → Has s.passed_over r b → Wanted s.walk r b
-  passed_wanted (start boot root) r b h = absurd h
-  passed_wanted (step {s = s} {r = z} {a = a} {i = i} clean v n g) r b h =
-      wanted_later s z a i (word_in image a i) v n r b (passed_wanted v r b h)
-  passed_wanted (step {s = s} {r = z} {a = a} {i = i} (noted at c) v n g) r b h =
-      wanted_later s z a i (word_in image a i) v n r b (passed_wanted v r b h)
-  passed_wanted (step {s = s} {r = z} {a = a} {i = i} (passed at c) v n g) r b (inl e) =
+  -- what was skipped is asked for in its block
+  skipped_wanted : {s : Course} → IsCourse image s → (r : Role) (b : ℕ) → Has s.skipped r b → Wanted s.walk r b
+  skipped_wanted (start boot root) r b h = absurd h
+  skipped_wanted (step {s = s} {r = z} {a = a} {i = i} clean v n g) r b h =
+      wanted_later s z a i (word_in image a i) v n r b (skipped_wanted v r b h)
+  skipped_wanted (step {s = s} {r = z} {a = a} {i = i} (reported at c) v n g) r b h =
+      wanted_later s z a i (word_in image a i) v n r b (skipped_wanted v r b h)
+  skipped_wanted (step {s = s} {r = z} {a = a} {i = i} (skipped at c) v n g) r b (inl e) =
       subst (Wanted s.walk r) e.1 (subst (λ r. Wanted s.walk r (word_in image a i)) e.0 (wanted_now s.walk z a i n.asked))
-  passed_wanted (step (passed at c) v n g) r b (inr h) = passed_wanted v r b h
+  skipped_wanted (step (skipped at c) v n g) r b (inr h) = skipped_wanted v r b h
 
   -- what is asked for in one place of the order is asked for in one block
   one_wanted : (w : List (Role × ℕ)) → IsGathered image w → (r q : Role) (a i b : ℕ) → Wanted w r b → Asks image w q a i → Same r q
@@ -206,48 +206,48 @@ module _ (image : List ℕ) where
   inside (step {s = s} {r = z} {a = a} {i = i} clean v d g) r b other (inl e) =
       let part = part_holds_by (letters_of image) image s.walk z a (word_in image a i) g in subst (λ b. b < blocks image) e.1 part.inside
   inside (step clean v d g) r b other (inr h) = inside v r b other h
-  inside (step {s = s} {r = z} {a = a} {i = i} (noted at c) v d g) r b other (inl e) =
+  inside (step {s = s} {r = z} {a = a} {i = i} (reported at c) v d g) r b other (inl e) =
       let part = itself_holds image s.walk z a (word_in image a i) g.1 in subst (λ b. b < blocks image) e.1 part.inside
-  inside (step (noted at c) v d g) r b other (inr h) = inside v r b other h
-  inside (step (passed at c) v d g) r b other h = inside v r b other h
+  inside (step (reported at c) v d g) r b other (inr h) = inside v r b other h
+  inside (step (skipped at c) v d g) r b other h = inside v r b other h
 
   data_inside : {s : Course} → IsCourse image s → (n k b : ℕ) → Has s.walk (Data n k) b → b < blocks image
   data_inside v n k b h = inside v (Data n k) b (λ e. let x : first Root ≡ first (Data n k) = ap first e in omega arith) h
 
   module _ {s : Course} (v : IsCourse image s) (done : IsDone image s) where
-    -- what is asked for at the end was taken or passed over, in the block that is asked for
+    -- what is asked for at the end was taken or skipped, in the block that is asked for
     settled_at : (q : Role) (a i b : ℕ) → Asks image s.walk q a i → word_in image a i ≡ b
-        → ((r : Role) × Has s.walk r b × Same r q) ⊎ ((r : Role) × Has s.passed_over r b × Same r q)
+        → ((r : Role) × Has s.walk r b × Same r q) ⊎ ((r : Role) × Has s.skipped r b × Same r q)
     settled_at q a i b h e = elim (dec_has s.walk q) [
       | inr x ↦ elim (taken_wanted v x.role x.block x.has) [
         | inl root ↦ absurd (no_root s.walk q x.role a i h root x.same)
         | inr y ↦ inl (x.role, subst (Has s.walk x.role) (one_wanted s.walk (gathered image v) x.role q a i x.block y h x.same ∙ e) x.has, x.same)
       ]
-      | inl lacks ↦ elim (dec_has s.passed_over q) [
+      | inl lacks ↦ elim (dec_has s.skipped q) [
         | inl over ↦ absurd (done q a i h lacks over)
         | inr x ↦
-            let y = passed_wanted v x.role x.block x.has in
-            inr (x.role, subst (Has s.passed_over x.role) (one_wanted s.walk (gathered image v) x.role q a i x.block y h x.same ∙ e) x.has, x.same)
+            let y = skipped_wanted v x.role x.block x.has in
+            inr (x.role, subst (Has s.skipped x.role) (one_wanted s.walk (gathered image v) x.role q a i x.block y h x.same ∙ e) x.has, x.same)
       ]
     ]
 
-    -- a data block at a block that was not passed over is alone there
-    pub is_alone : (n k b : ℕ) → Has s.walk (Data n k) b → owns s.passed_over b ≡ false → (q : Role) (a i : ℕ) → Asks image s.walk q a i
+    -- a data block at a block that was not skipped is alone there
+    pub is_alone : (n k b : ℕ) → Has s.walk (Data n k) b → owns s.skipped b ≡ false → (q : Role) (a i : ℕ) → Asks image s.walk q a i
         → word_in image a i ≡ b → Same q (Data n k)
     is_alone n k b d free q a i h e = elim (settled_at q a i b h e) [
       | inl x ↦
           let z : Same x.0 (Data n k) = same_of x.0 (Data n k) (one_role image v x.0 (Data n k) b x.1 d) in
           let y : Same x.0 q = x.2 in
           omega arith
-      | inr x ↦ absurd (no_owner_has s.passed_over x.0 b free x.1)
+      | inr x ↦ absurd (no_owner_has s.skipped x.0 b free x.1)
     ]
 
     -- and only such a one
-    not_alone : (n k b : ℕ) → Has s.walk (Data n k) b → owns s.passed_over b ≡ true
+    not_alone : (n k b : ℕ) → Has s.walk (Data n k) b → owns s.skipped b ≡ true
         → ((q : Role) (a i : ℕ) → Asks image s.walk q a i → word_in image a i ≡ b → Same q (Data n k)) → ⊥
     not_alone n k b d over alone =
-        let x = owner_of s.passed_over b over in
-        let y = passed_wanted v x.0 b x.1 in
+        let x = owner_of s.skipped b over in
+        let y = skipped_wanted v x.0 b x.1 in
         let q : Role = renumbered (suc (heads s.walk)) x.0 in
         let same : Same q (Data n k) = alone q y.holder y.word y.asked y.named in
         let own : Same q x.0 = renumbered_same (suc (heads s.walk)) x.0 in
@@ -402,19 +402,19 @@ taken_at image w v q b h = go (at_key w (key_of q)) refl
         let x = at_has w (key_of q) c e in
         ap Some (one_block image v x.0 q c b x.1 h (same_of_key x.0 q x.2)).1
 
--- a part that a finding of a survey concerns was taken or passed over
+-- a part that a finding of a survey concerns was taken or skipped
 pub settled : (image : List ℕ) {s : Course} → IsCourse image s → (bits : List FindingValue) {b n : ℕ} → BitsTell image s b n bits
     → (g : FindingValue) (q : Role) → In (s.findings ++ bits) g → g.part ≡ Some q → Settled image s q
 settled image {s = s} v bits tells g q h e = elim (in_cases s.findings bits g h) [
-  | inl k ↦ noted_settled image v g q k e
+  | inl k ↦ reported_settled image v g q k e
   | inr k ↦ let z : None ≡ Some q = sym (bits_none image tells g k) ∙ e in cc
 ]
 
--- a header that was passed over is no node's
-pub passed_header : (image : List ℕ) (f : Found) {s : Course} → IsCourse image s → (told : List FindingValue)
-    → Stands image f (record { walk = s.walk; passed_over = s.passed_over; findings = told })
-    → (n p t j b : ℕ) → Has s.passed_over (Head n p t j) b → is_header f n p t j ≡ false
-passed_header image f v told st n p t j b over = elim (cases_Bool (is_header f n p t j)) [
+-- a header that was skipped is no node's
+pub skipped_header : (image : List ℕ) (f : Found) {s : Course} → IsCourse image s → (told : List FindingValue)
+    → Stands image f (record { walk = s.walk; skipped = s.skipped; findings = told })
+    → (n p t j b : ℕ) → Has s.skipped (Head n p t j) b → is_header f n p t j ≡ false
+skipped_header image f v told st n p t j b over = elim (cases_Bool (is_header f n p t j)) [
   | inl y ↦
       let h = found_header image f _ (gathered image v) st n p t j y in
       absurd (apart image v (Head n p t j) (Head n p t j) h.0 b h.1 over (same_refl (Head n p t j)))
@@ -423,7 +423,7 @@ passed_header image f v told st n p t j b over = elim (cases_Bool (is_header f n
 
 module _ (image : List ℕ) (f : Found) {s : Course} (v : IsCourse image s) (done : IsDone image s) (bits : List FindingValue) {b n : ℕ}
     (tells : BitsTell image s b n bits) (all : List FindingValue) (are : (g : FindingValue) → In all g → In (s.findings ++ bits) g)
-    (st : Stands image f (record { walk = s.walk; passed_over = s.passed_over; findings = all })) where
+    (st : Stands image f (record { walk = s.walk; skipped = s.skipped; findings = all })) where
   -- a finding that speaks against an entry concerns a part of it
   speaks : (m h : ℕ) (g : FindingValue) (o : Option Part) → In all g → g.part ≡ part_role o → node_blamed f o ≡ Some m → IsSound image s.walk all m h → ⊥
   speaks m h g None i e z sound = cc
@@ -448,10 +448,10 @@ module _ (image : List ℕ) (f : Found) {s : Course} (v : IsCourse image s) (don
           let here = subst (λ q. Has s.walk (Head q p t j) x.0) one x.1 in
           let head = sound.header in
           let same = same_of (head_role head) (Head m p t j) (one_head image (gathered image v) head (head_at m p t j x.0 here)).0 in
-          sound.unnoted g (Head q p t j) i e (sym same.0, sym same.1, sym same.2)
+          sound.unreported g (Head q p t j) i e (sym same.0, sym same.1, sym same.2)
 
-  not_noted : (m h : ℕ) → IsSound image s.walk all m h → is_blamed f f.findings.items m ≡ false
-  not_noted m h sound = elim (cases_Bool (is_blamed f f.findings.items m)) [
+  not_reported : (m h : ℕ) → IsSound image s.walk all m h → is_blamed f f.findings.items m ≡ false
+  not_reported m h sound = elim (cases_Bool (is_blamed f f.findings.items m)) [
     | inl t ↦
         let x = blamed_by f f.findings.items m t in
         let i : In all (finding_value x.0) = subst (λ fs. In fs (finding_value x.0)) st.findings (in_values f.findings.items x.0 x.1) in
@@ -467,7 +467,7 @@ module _ (image : List ℕ) (f : Found) {s : Course} (v : IsCourse image s) (don
         let d = data_has s.walk x.0 (subst (λ ds. In ds x.0) st.datas x.1) in
         let b : ℕ = x.0.block in
         let has : Has s.walk (Data m d.0) b = subst (λ n. Has s.walk (Data n d.0) b) y.0 d.1 in
-        let over : owns s.passed_over b ≡ true = sym (st.avoided.1 b (data_inside image v m d.0 b has)) ∙ y.1 in
+        let over : owns s.skipped b ≡ true = sym (st.avoided.1 b (data_inside image v m d.0 b has)) ∙ y.1 in
         absurd (not_alone image v done m d.0 b has over (sound.alone ffs d.0 b has))
     | inr e ↦ e
   ]
@@ -486,7 +486,7 @@ module _ (image : List ℕ) (f : Found) {s : Course} (v : IsCourse image s) (don
       let x = in_findings f.findings.items g (subst (λ fs. In fs g) (sym st.findings) i) in
       not_blamed f f.findings.items m x.0 e x.1 (names x.0.part (ap (λ g. g.part) x.2 ∙ is))
 
-  head_clear : (m p t j h : ℕ) → Has s.walk (Head m p t j) h → is_blamed f f.findings.items m ≡ false → IsUnnoted all (Head m p t j)
+  head_clear : (m p t j h : ℕ) → Has s.walk (Head m p t j) h → is_blamed f f.findings.items m ≡ false → IsUnreported all (Head m p t j)
   head_clear m p t j h has e g q i is same = elim (settled image v bits tells g q (are g i) is) [
     | inl y ↦
         let one : q ≡ Head m p t j = (one_block image (gathered image v) q (Head m p t j) y.0 h y.1 has same).0 in
@@ -502,7 +502,7 @@ module _ (image : List ℕ) (f : Found) {s : Course} (v : IsCourse image s) (don
   chains_clear m e g q t j i is = elim (settled image v bits tells g (Head q m t j) (are g i) is) [
     | inl y ↦ y
     | inr y ↦
-        let none : is_header f q m t j ≡ false = passed_header image f v all st q m t j y.0 y.1 in
+        let none : is_header f q m t j ≡ false = skipped_header image f v all st q m t j y.0 y.1 in
         absurd (unspoken m e g (Head q m t j) i is (λ o z.
         ap (node_blamed f) (head_part o q m t j z) ∙ ap (λ t. option_map node_of (Some (cond t (Entry q) (Within m)))) none))
   ]
@@ -513,7 +513,7 @@ module _ (image : List ℕ) (f : Found) {s : Course} (v : IsCourse image s) (don
       let none : is_sharing f.avoided.items f.datas.items m ≡ false = subst (λ k. is_doubtful k f m ≡ false) ffs e in
       let d : DataBlock = record { node = m; block = c } in
       let i : In f.datas.items d = subst (λ ds. In ds d) (sym st.datas) (has_data s.walk m k c has) in
-      let free : owns s.passed_over c ≡ false = elim (cases_Bool (owns s.passed_over c)) [
+      let free : owns s.skipped c ≡ false = elim (cases_Bool (owns s.skipped c)) [
         | inl t ↦
             absurd (not_sharing f.avoided.items f.datas.items m d none i
             (ap (λ t. cond t (Some m) None) (st.avoided.1 c (data_inside image v m k c has) ∙ t)))
@@ -529,7 +529,7 @@ module _ (image : List ℕ) (f : Found) {s : Course} (v : IsCourse image s) (don
       let at : x.0 ≡ node_block s.walk m = sym (head_block image (gathered image v) g) in
       record {
         header = head_at m g.parent g.slot g.place (node_block s.walk m) (subst (Has s.walk (head_role g)) at g.has);
-        unnoted = head_clear m g.parent g.slot g.place x.0 g.has clear;
+        unreported = head_clear m g.parent g.slot g.place x.0 g.has clear;
         exts = (λ k g q i is same. unspoken m clear g q i is (λ o z. ap (node_blamed f) (ext_part o m k (z ∙ ap Some (ext_of q m k same)))));
         datas = (λ k g q i is same. unspoken m clear g q i is (λ o z. ap (node_blamed f) (data_part o m k (z ∙ ap Some (data_of q m k same)))));
         chains = chains_clear m clear;
@@ -554,5 +554,5 @@ module _ (image : List ℕ) (f : Found) {s : Course} (v : IsCourse image s) (don
         let count : length f.nodes.items ≡ suc (heads s.walk) = st.count in
         let lt : m < length f.nodes.items = omega arith in
         let one : nat_lt m (length f.nodes.items) ≡ true = grind (arith, nat_tests) in
-        rw (one, not_noted m (node_block s.walk m) sound, not_doubtful m (node_block s.walk m) sound) refl),
+        rw (one, not_reported m (node_block s.walk m) sound, not_doubtful m (node_block s.walk m) sound) refl),
   )

@@ -14,10 +14,10 @@ use Rattle.adf_volume.proofs.FormDemands.{all_demanded, first_demanded}
 use Rattle.adf_volume.proofs.OneFault.{fails_one}
 use Rattle.adf_findings.specs.Start.{has_root_type}
 use Rattle.adf_findings.specs.Survey.{BootTells, Course, FindingValue, IsCourse, IsItself, RootJudged, RootTells, UnreadTells, finding, is_other_type}
-use Rattle.adf_findings.specs.Survey.JudgementValue.{passed}
+use Rattle.adf_findings.specs.Survey.JudgementValue.{skipped}
 use Rattle.adf_findings.specs.Survey.IsCourse.{start, step}
 use Rattle.adf_findings.specs.Survey.BootTells.{clean_boot, other_type}
-use Rattle.adf_findings.specs.Survey.RootTells.{clean_root, noted_root}
+use Rattle.adf_findings.specs.Survey.RootTells.{clean_root, reported_root}
 use Rattle.adf_findings.specs.Survey.UnreadTells.{bad_boot, bad_root}
 
 module _ (image : List ℕ) where
@@ -48,15 +48,15 @@ module _ (image : List ℕ) where
       let same : d ≡ c = (fails_one (boot_demands image) a d at c g f).1 in
       let clash : true ≡ false = sym k ∙ ap is_other_type same ∙ e in cc
 
-  -- a root that is taken is not passed over
-  not_passed : {fs : List FindingValue} (at : ℕ) (c : Cause) → RootTells image fs → RootJudged image (passed at c) → ⊥
-  not_passed at c (clean_root h) g = fails_not_all (root_demands image (root_of image)) at c g.0 h
-  not_passed at c (noted_root h) g = g.1 h.1
+  -- a root that is taken is not skipped
+  not_skipped : {fs : List FindingValue} (at : ℕ) (c : Cause) → RootTells image fs → RootJudged image (skipped at c) → ⊥
+  not_skipped at c (clean_root h) g = fails_not_all (root_demands image (root_of image)) at c g.0 h
+  not_skipped at c (reported_root h) g = g.1 h.1
 
   -- an image of which nothing is taken has no course
   pub not_unread : {fs boot root : List FindingValue} → BootTells image boot → RootTells image root → UnreadTells image fs → ⊥
   not_unread b t (bad_boot {at = at} {c = c} f e) = not_bad at c b f e
-  not_unread b t (bad_root {at = at} {c = c} other h) = not_passed at c t h
+  not_unread b t (bad_root {at = at} {c = c} other h) = not_skipped at c t h
 
   -- the boot block has one cause or none
   pub boot_one : {fs gs : List FindingValue} → BootTells image fs → BootTells image gs → fs ≡ gs
@@ -69,9 +69,9 @@ module _ (image : List ℕ) where
   -- the root has one cause or none
   pub root_one : {fs gs : List FindingValue} → RootTells image fs → RootTells image gs → fs ≡ gs
   root_one (clean_root h) (clean_root g) = refl
-  root_one (clean_root h) (noted_root {at = at} {c = c} g) = absurd (fails_not_all (root_demands image (root_of image)) at c g.0 h)
-  root_one (noted_root {at = at} {c = c} h) (clean_root g) = absurd (fails_not_all (root_demands image (root_of image)) at c h.0 g)
-  root_one (noted_root {at = a} {c = c} h) (noted_root {at = b} {c = d} g) =
+  root_one (clean_root h) (reported_root {at = at} {c = c} g) = absurd (fails_not_all (root_demands image (root_of image)) at c g.0 h)
+  root_one (reported_root {at = at} {c = c} h) (clean_root g) = absurd (fails_not_all (root_demands image (root_of image)) at c h.0 g)
+  root_one (reported_root {at = a} {c = c} h) (reported_root {at = b} {c = d} g) =
       let e = fails_one (root_demands image (root_of image)) a c b d h.0 g.0 in λ t. finding (Some Root) (e.0 t) (e.1 t) ∷ []
 
   -- of an image of which nothing is taken one thing is told
@@ -107,5 +107,5 @@ module _ (image : List ℕ) (at : ℕ) (b : List ℕ) (is_at : at ≡ root_of im
       (first_demanded (root_of image) (root_form (block image (root_of image))) c (subst (λ b. first_cause (root_form b) ≡ Some c) is_root h))
 
   -- otherwise it is taken with its cause if it has the types of a root
-  pub root_noted : (c : Cause) → first_cause (root_form b) ≡ Some c → has_root_type b ≡ true → RootTells image (finding (Some Root) at c ∷ [])
-  root_noted c h t = noted_root (root_fails c h, is_itself image (subst (λ b. has_root_type b ≡ true) is_root t))
+  pub root_reported : (c : Cause) → first_cause (root_form b) ≡ Some c → has_root_type b ≡ true → RootTells image (finding (Some Root) at c ∷ [])
+  root_reported c h t = reported_root (root_fails c h, is_itself image (subst (λ b. has_root_type b ≡ true) is_root t))

@@ -1,4 +1,4 @@
--- The state of a survey when parts are taken and passed over.
+-- The state of a survey when parts are taken and skipped.
 use Rattle.std.specs.Prelude.{Bool, true, false, cond, ◌==◌, Some, map, slice_index, slice_index_or}
 use Rattle.std.proofs.Common.{◌≡◌, ℕ, zero, suc, List, [], ◌∷◌, ◌++◌, length, set, inl, inr, ◌<◌, ◌≤◌, refl, sym, subst, ap, ◌∙◌, arith, length-set}
 use Rattle.std.proofs.Common.{get_or-set_same, get_or-set_other}
@@ -22,7 +22,8 @@ use Rattle.adf_findings.specs.declared.found.ChainPlace.{ChainPlace}
 use Rattle.adf_findings.specs.declared.found.Found.{Found}
 use Rattle.adf_findings.specs.Survey.{Course, FindingValue}
 use Rattle.adf_findings.specs.Parts.{by_key, key_of, role_of, finding_value}
-use Rattle.adf_findings.specs.Found.{AreHeld, AreMarked, AreNumbered, AreSame, IsKept, IsLookedUp, IsNoted, IsOwned, IsPassed, IsPut, IsTaken, KeepsParts, Stands}
+use Rattle.adf_findings.specs.Found.{AreHeld, AreMarked, AreNumbered, AreSame, IsKept, IsLookedUp, IsReported, IsOwned, IsBlockSkipped, IsPut}
+use Rattle.adf_findings.specs.Found.{IsTaken, KeepsParts, Stands}
 use Rattle.adf_findings.specs.Found.{at_key, by_name, data_number, entry_number, exts_found, owns, parent_by, parent_node, places_of, unowned, with_data, with_place}
 
 kept_more : (image : List ℕ) (part : Part) (b : ℕ) (f g h : Found) → IsKept image part b f g → AreSame g h → IsKept image part b f h
@@ -208,7 +209,7 @@ module _ (image : List ℕ) (f g : Found) (s : Course) (b : ℕ) (st : Stands im
 
   -- a part is taken
   pub stands_taken : (part : Part) → IsNumbered s.walk (role_of part) → b < blocks image → owns s.walk b ≡ false → IsTaken image part b f g
-      → Stands image g (record { walk = (role_of part, b) ∷ s.walk; passed_over = s.passed_over; findings = s.findings })
+      → Stands image g (record { walk = (role_of part, b) ∷ s.walk; skipped = s.skipped; findings = s.findings })
   stands_taken part fit lt free t =
       let o : IsOwned part b f g = t.owned in
       let l = later part fit t.kept in
@@ -222,7 +223,7 @@ module _ (image : List ℕ) (f g : Found) (s : Course) (b : ℕ) (st : Stands im
             (held_more (blocks image) f.owners.items s.walk (role_of part) b lt st.owners);
         numbers = subst (λ xs. AreNumbered (blocks image) xs ((role_of part, b) ∷ s.walk)) (sym o.numbers)
             (numbered_more (blocks image) f.numbers.items s.walk (role_of part) b lt st.numbers);
-        avoided = subst (λ v. AreMarked (blocks image) v.items s.passed_over) (sym o.avoided) st.avoided;
+        avoided = subst (λ v. AreMarked (blocks image) v.items s.skipped) (sym o.avoided) st.avoided;
         left = left ∙ ap unowned (sym o.owned);
         node = l.node;
         count = l.count;
@@ -235,12 +236,12 @@ module _ (image : List ℕ) (f g : Found) (s : Course) (b : ℕ) (st : Stands im
         datas = o.datas ∙ ap (with_data (role_of part) b) st.datas;
       }
 
-  -- what is taken stays so, whatever is passed over and noted
+  -- what is taken stays so, whatever is skipped and reported
   stands_else : (over : List (Role × ℕ)) (fs : List FindingValue) → g ≡ record f { avoided = g.avoided; findings = g.findings }
       → AreMarked (blocks image) g.avoided.items over → map finding_value g.findings.items ≡ fs
-      → Stands image g (record { walk = s.walk; passed_over = over; findings = fs })
+      → Stands image g (record { walk = s.walk; skipped = over; findings = fs })
   stands_else over fs rest avoided findings =
-      subst (λ h. Stands image h (record { walk = s.walk; passed_over = over; findings = fs })) (sym rest) (record {
+      subst (λ h. Stands image h (record { walk = s.walk; skipped = over; findings = fs })) (sym rest) (record {
         taken = st.taken;
         owned = st.owned;
         owners = st.owners;
@@ -258,18 +259,18 @@ module _ (image : List ℕ) (f g : Found) (s : Course) (b : ℕ) (st : Stands im
         datas = st.datas;
       })
 
-  -- a part is passed over
-  pub stands_passed : (r : Role) → IsPassed b f g
-      → Stands image g (record { walk = s.walk; passed_over = (r, b) ∷ s.passed_over; findings = s.findings })
-  stands_passed r t =
-      stands_else ((r, b) ∷ s.passed_over) s.findings t.rest
-      (subst (λ xs. AreMarked (blocks image) xs ((r, b) ∷ s.passed_over)) (sym t.avoided)
-      (marked_more (blocks image) f.avoided.items s.passed_over r b st.avoided)) (ap (λ v. map finding_value v.items) t.findings ∙ st.findings)
+  -- a part is skipped
+  pub stands_skipped : (r : Role) → IsBlockSkipped b f g
+      → Stands image g (record { walk = s.walk; skipped = (r, b) ∷ s.skipped; findings = s.findings })
+  stands_skipped r t =
+      stands_else ((r, b) ∷ s.skipped) s.findings t.rest
+      (subst (λ xs. AreMarked (blocks image) xs ((r, b) ∷ s.skipped)) (sym t.avoided)
+      (marked_more (blocks image) f.avoided.items s.skipped r b st.avoided)) (ap (λ v. map finding_value v.items) t.findings ∙ st.findings)
 
-  -- a finding is noted
-  pub stands_noted : (x : Finding) → IsNoted x f g
-      → Stands image g (record { walk = s.walk; passed_over = s.passed_over; findings = s.findings ++ finding_value x ∷ [] })
-  stands_noted x t =
-      stands_else s.passed_over (s.findings ++ finding_value x ∷ []) t.rest
-      (subst (λ v. AreMarked (blocks image) v.items s.passed_over) (sym t.avoided) st.avoided)
+  -- a finding is reported
+  pub stands_reported : (x : Finding) → IsReported x f g
+      → Stands image g (record { walk = s.walk; skipped = s.skipped; findings = s.findings ++ finding_value x ∷ [] })
+  stands_reported x t =
+      stands_else s.skipped (s.findings ++ finding_value x ∷ []) t.rest
+      (subst (λ v. AreMarked (blocks image) v.items s.skipped) (sym t.avoided) st.avoided)
       (ap (map finding_value) t.findings ∙ (map-append finding_value f.findings.items (x ∷ []) ∙ ap (λ fs. fs ++ finding_value x ∷ []) st.findings))

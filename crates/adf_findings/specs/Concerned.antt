@@ -18,7 +18,7 @@ abbrev pub node_of : Concern → ℕ
 node_of (Entry n) = n
 node_of (Within p) = p
 
--- of a header in the walk the entry, of one that was passed over its directory; of an extension or data block the file
+-- of a header in the walk the entry, of one that was skipped its directory; of an extension or data block the file
 abbrev pub concern_with : List (Role × ℕ) → Role → Option Concern
 concern_with w (Head n p s j) = Some (cond (is_some (at_key w (key_of (Head n p s j)))) (Entry n) (Within p))
 concern_with w (Ext n k) = Some (Entry n)

@@ -1,6 +1,6 @@
 -- The state of a survey along its course.
 -- Letters: s a course, w its walk; f, g states; k a position; a, i the block and the word that point to a part;
--- b a block; n, p nodes; x an ask.
+-- b a block; n, p nodes; x a reference.
 use Rattle.std.specs.Prelude.{◌≡◌, ◌≤◌, ◌<◌, ℕ, false, List, ◌∷◌, Option, Some, None, IfSome}
 use Rattle.std.proofs.Common.{suc}
 use Rattle.adf_blocks.specs.Sizes.{blocks}
@@ -10,7 +10,7 @@ use Rattle.adf_volume.specs.Walk.{Role, Asks, DirAt, FileAt, MemberAt, NamesPage
 use Rattle.adf_volume.specs.Walk.Role.{Page, Head, Ext, Data}
 use Rattle.adf_volume.proofs.Roles.{renumbered}
 use Rattle.adf_findings.specs.declared.part.Part.{Part}
-use Rattle.adf_findings.specs.declared.course.Ask.{Ask}
+use Rattle.adf_findings.specs.declared.course.Reference.{Reference}
 use Rattle.adf_findings.specs.declared.found.Found.{Found}
 use Rattle.adf_findings.specs.Survey.{Course, FindingValue, IsCourse, IsNext}
 use Rattle.adf_findings.specs.Parts.{role_of}
@@ -20,7 +20,7 @@ use Rattle.adf_findings.specs.Found.{AreNamed, Stands, owns}
 pub record Holds (image : List ℕ) (f : Found) (k : Position) (s : Course) : Type 0 where
   pub course : IsCourse image s
   pub stands : Stands image f s
-  pub up_to : IsUpTo image s.walk s.passed_over k
+  pub up_to : IsUpTo image s.walk s.skipped k
   pub names : AreNamed image s.walk k f.names
   pub small : blocks image ≤ 1048576
 
@@ -41,38 +41,38 @@ pub record IsNamed (image : List ℕ) (f : Found) (part : Part) (a i : ℕ) (s :
 abbrev pub HasReachedPart : List ℕ → Found → Part → ℕ → ℕ → Type 0
 HasReachedPart image f part a i = (s : Course) × IsNamed image f part a i s
 
--- the ask is next in the course
-abbrev pub IsNextAsk : List ℕ → Course → Ask → Type 0
-IsNextAsk image s x = (i : ℕ) × IsNext image s (role_asked s x.part) x.holder i × (word_in image x.holder i ≡ x.block)
+-- the reference is next in the course
+abbrev pub IsNextReference : List ℕ → Course → Reference → Type 0
+IsNextReference image s x = (i : ℕ) × IsNext image s (role_asked s x.part) x.holder i × (word_in image x.holder i ≡ x.block)
 
--- the part is passed over
-pub record IsPassedOver (image : List ℕ) (s : Course) (x : Ask) (f g : Found) : Type 0 where
+-- the part is skipped
+pub record IsSkipped (image : List ℕ) (s : Course) (x : Reference) (f g : Found) : Type 0 where
   pub findings : List FindingValue
-  pub course : IsCourse image (record { walk = s.walk; passed_over = (role_asked s x.part, x.block) ∷ s.passed_over; findings = findings })
-  pub stands : Stands image g (record { walk = s.walk; passed_over = (role_asked s x.part, x.block) ∷ s.passed_over; findings = findings })
+  pub course : IsCourse image (record { walk = s.walk; skipped = (role_asked s x.part, x.block) ∷ s.skipped; findings = findings })
+  pub stands : Stands image g (record { walk = s.walk; skipped = (role_asked s x.part, x.block) ∷ s.skipped; findings = findings })
   pub left : g.left ≡ f.left
   pub names : g.names ≡ f.names
 
 -- the part is to be taken
-pub record IsToTake (image : List ℕ) (s : Course) (x : Ask) (f g : Found) (part : Part) : Type 0 where
+pub record IsToTake (image : List ℕ) (s : Course) (x : Reference) (f g : Found) (part : Part) : Type 0 where
   pub role : role_of part ≡ role_asked s x.part
   pub inside : x.block < blocks image
   pub free : owns s.walk x.block ≡ false
   pub findings : List FindingValue
-  pub course : IsCourse image (record { walk = (role_asked s x.part, x.block) ∷ s.walk; passed_over = s.passed_over; findings = findings })
-  pub stands : Stands image g (record { walk = s.walk; passed_over = s.passed_over; findings = findings })
+  pub course : IsCourse image (record { walk = (role_asked s x.part, x.block) ∷ s.walk; skipped = s.skipped; findings = findings })
+  pub stands : Stands image g (record { walk = s.walk; skipped = s.skipped; findings = findings })
   pub left : g.left ≡ f.left
   pub names : g.names ≡ f.names
 
--- the part is passed over or to be taken
-abbrev pub IsOutcome : List ℕ → Course → Ask → Found → Found → Option Part → Type 0
-IsOutcome image s x f g None = IsPassedOver image s x f g
+-- the part is skipped or to be taken
+abbrev pub IsOutcome : List ℕ → Course → Reference → Found → Found → Option Part → Type 0
+IsOutcome image s x f g None = IsSkipped image s x f g
 IsOutcome image s x f g (Some part) = IsToTake image s x f g part
 
--- the course after a role at block b is taken or passed over
+-- the course after a role at block b is taken or skipped
 abbrev pub course_on : Course → Role → ℕ → Option ℕ → List FindingValue → Course
-course_on s r b None fs = record { walk = s.walk; passed_over = (r, b) ∷ s.passed_over; findings = fs }
-course_on s r b (Some c) fs = record { walk = (r, b) ∷ s.walk; passed_over = s.passed_over; findings = fs }
+course_on s r b None fs = record { walk = s.walk; skipped = (r, b) ∷ s.skipped; findings = fs }
+course_on s r b (Some c) fs = record { walk = (r, b) ∷ s.walk; skipped = s.skipped; findings = fs }
 
 -- a course continues after a part that word i of block a points to
 pub record IsGoneOn (image : List ℕ) (s : Course) (part : Part) (a i : ℕ) (g : Found) (o : Option ℕ) : Type 0 where

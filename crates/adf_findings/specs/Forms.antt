@@ -20,12 +20,12 @@ use Rattle.adf_findings.specs.Demands.{NewNameIn, head_form_in}
 use Rattle.adf_findings.specs.declared.part.Part.{Part}
 use Rattle.adf_findings.specs.declared.part.Part.TheVariants.{Root as RootPart, Page as PagePart, MapExt as MapExtPart, Head as HeadPart}
 use Rattle.adf_findings.specs.declared.part.Part.TheVariants.{Ext as ExtPart, Data as DataPart}
-use Rattle.adf_findings.specs.declared.forms.Around.{Around}
+use Rattle.adf_findings.specs.declared.forms.Context.{Context}
 use Rattle.adf_findings.specs.declared.judge.Facts.{Facts}
 use Rattle.adf_findings.specs.declared.judge.Judgement.{Judgement}
-use Rattle.adf_findings.specs.declared.judge.Judgement.TheVariants.{Clean, Noted, Passed}
+use Rattle.adf_findings.specs.declared.judge.Judgement.TheVariants.{Clean, Reported, Skipped}
 use Rattle.adf_findings.specs.Survey.{JudgementValue, is_kept}
-use Rattle.adf_findings.specs.Survey.JudgementValue.{clean, noted, passed}
+use Rattle.adf_findings.specs.Survey.JudgementValue.{clean, reported, skipped}
 use Rattle.adf_findings.specs.Parts.{role_of}
 
 -- the form of a data block; none for FFS
@@ -34,7 +34,7 @@ data_clauses Ofs h k n next b = data_form h k n next b
 data_clauses Ffs h k n next b = []
 
 -- the form of block b as the part
-abbrev pub form_of : List ℕ → Part → ℕ → Around → List Clause
+abbrev pub form_of : List ℕ → Part → ℕ → Context → List Clause
 form_of image RootPart b x = []
 form_of image (PagePart i) b x = page_form (block image b)
 form_of image (MapExtPart j) b x = []
@@ -66,23 +66,23 @@ first_of_five a b true true true form new = of_form b form (cond new None (Some 
 -- the first cause of a part, and its block
 abbrev pub first_failing : List ℕ → Part → ℕ → ℕ → Facts → Option (ℕ × Cause)
 first_failing image part a b f =
-    first_of_five a b f.is_enough (in_range image b) f.is_absent (first_cause (form_of image part b f.around)) f.is_new
+    first_of_five a b f.is_enough (in_range image b) f.is_absent (first_cause (form_of image part b f.context)) f.is_new
 
 -- the part is taken, whatever slight causes it has
 abbrev pub keeps : List ℕ → Part → ℕ → Facts → Bool
-keeps image part b f = in_range image b && (f.is_absent && itself_by (role_of part) (form_of image part b f.around))
+keeps image part b f = in_range image b && (f.is_absent && itself_by (role_of part) (form_of image part b f.context))
 
 -- the judgement of a part with this first cause
 abbrev pub judged_by : Option (ℕ × Cause) → Bool → JudgementValue
 judged_by None kept = clean
-judged_by (Some x) true = noted x.0 x.1
-judged_by (Some x) false = passed x.0 x.1
+judged_by (Some x) true = reported x.0 x.1
+judged_by (Some x) false = skipped x.0 x.1
 
 -- the value of a judgement in the code
 abbrev pub judgement_value : Judgement → JudgementValue
 judgement_value Clean = clean
-judgement_value (Noted at c) = noted at c
-judgement_value (Passed at c) = passed at c
+judgement_value (Reported at c) = reported at c
+judgement_value (Skipped at c) = skipped at c
 
 -- the test is true if and only if the fact holds
 abbrev pub Tells : Bool → Type 0 → Type 0
@@ -90,15 +90,15 @@ Tells true P = P
 Tells false P = P → ⊥
 
 -- the context of the role is this one
-abbrev pub IsAround : List ℕ → List (Role × ℕ) → Role → Around → Type 0
-IsAround image w (Head n p s j) x = x.up ≡ node_block w p
-IsAround image w (Ext n k) x = x.up ≡ node_block w n
-IsAround image w (Data n k) x = (x.up ≡ node_block w n) × (x.next ≡ next_data image w n k)
-IsAround image w _ x = Unit {0}
+abbrev pub IsContext : List ℕ → List (Role × ℕ) → Role → Context → Type 0
+IsContext image w (Head n p s j) x = x.up ≡ node_block w p
+IsContext image w (Ext n k) x = x.up ≡ node_block w n
+IsContext image w (Data n k) x = (x.up ≡ node_block w n) × (x.next ≡ next_data image w n k)
+IsContext image w _ x = Unit {0}
 
 -- the facts about a part are true
 pub record Knows (image : List ℕ) (w : List (Role × ℕ)) (part : Part) (b : ℕ) (f : Facts) : Type 0 where
   pub enough : Tells f.is_enough (Enough image w (role_of part))
   pub absent : in_range image b ≡ true → Tells f.is_absent (IsAbsent w b)
   pub new : in_range image b ≡ true → Tells f.is_new (NewNameIn image w (role_of part) b)
-  pub around : IsAround image w (role_of part) f.around
+  pub context : IsContext image w (role_of part) f.context

@@ -25,7 +25,7 @@ use Rattle.adf_findings.specs.declared.part.Part.{Part}
 use Rattle.adf_findings.specs.declared.part.Part.TheVariants.{Head as HeadPart, Ext as ExtPart, Data as DataPart}
 use Rattle.adf_findings.specs.declared.part.Key.{Key}
 use Rattle.adf_findings.specs.declared.part.Finding.{Finding}
-use Rattle.adf_findings.specs.declared.forms.Around.{Around}
+use Rattle.adf_findings.specs.declared.forms.Context.{Context}
 use Rattle.adf_findings.specs.declared.found.ChainPlace.{ChainPlace}
 use Rattle.adf_findings.specs.declared.found.DataBlock.{DataBlock}
 use Rattle.adf_findings.specs.declared.found.Found.{Found}
@@ -158,11 +158,11 @@ next_in image f n k =
     cond (nat_lt k (data_count image (slice_index f.nodes.items n))) (word_in image (member_in f n (k / POINTERS)) (table_word k)) 0
 
 -- the context of the part
-abbrev pub around_in : List ℕ → Found → Part → Around
-around_in image f (HeadPart n p s j) = record { up = slice_index f.nodes.items p; next = 0 }
-around_in image f (ExtPart n k) = record { up = slice_index f.nodes.items n; next = 0 }
-around_in image f (DataPart n k) = record { up = slice_index f.nodes.items n; next = next_in image f n k }
-around_in image f _ = record { up = 0; next = 0 }
+abbrev pub context_in : List ℕ → Found → Part → Context
+context_in image f (HeadPart n p s j) = record { up = slice_index f.nodes.items p; next = 0 }
+context_in image f (ExtPart n k) = record { up = slice_index f.nodes.items n; next = 0 }
+context_in image f (DataPart n k) = record { up = slice_index f.nodes.items n; next = next_in image f n k }
+context_in image f _ = record { up = 0; next = 0 }
 
 -- whether the file of a first data block has enough extension blocks
 abbrev pub enough_in : List ℕ → Found → Part → Bool
@@ -241,14 +241,14 @@ pub record IsTaken (image : List ℕ) (part : Part) (b : ℕ) (f g : Found) : Ty
   pub owned : IsOwned part b f g
   pub kept : IsKept image part b f g
 
--- the block is passed over
-pub record IsPassed (b : ℕ) (f g : Found) : Type 0 where
+-- the block is skipped
+pub record IsBlockSkipped (b : ℕ) (f g : Found) : Type 0 where
   pub avoided : g.avoided.items ≡ set f.avoided.items b true
   pub findings : g.findings ≡ f.findings
   pub rest : g ≡ record f { avoided = g.avoided; findings = g.findings }
 
--- the finding is noted
-pub record IsNoted (x : Finding) (f g : Found) : Type 0 where
+-- the finding is reported
+pub record IsReported (x : Finding) (f g : Found) : Type 0 where
   pub findings : g.findings.items ≡ f.findings.items ++ x ∷ []
   pub avoided : g.avoided ≡ f.avoided
   pub rest : g ≡ record f { avoided = g.avoided; findings = g.findings }
@@ -259,7 +259,7 @@ pub record Stands (image : List ℕ) (f : Found) (s : Course) : Type 0 where
   pub owned : AreMarked (blocks image) f.owned.items s.walk
   pub owners : AreHeld (blocks image) f.owners.items s.walk
   pub numbers : AreNumbered (blocks image) f.numbers.items s.walk
-  pub avoided : AreMarked (blocks image) f.avoided.items s.passed_over
+  pub avoided : AreMarked (blocks image) f.avoided.items s.skipped
   pub left : f.left ≡ unowned f.owned.items
   pub node : (n : ℕ) → slice_index f.nodes.items n ≡ node_block s.walk n
   pub count : length f.nodes.items ≡ suc (heads s.walk)
@@ -282,31 +282,31 @@ IsBitOf image taken page bit None = get by_key taken (key_of (Page page)) ≡ No
 IsBitOf image taken page bit (Some t) = (at : ℕ) × (get by_key taken (key_of (Page page)) ≡ Some at) × (IsTrue t ↔ IsFreeAt image at bit)
 
 -- the cause of a bit: a block in use without an owner and without an excuse, or one owned and free
-abbrev pub cause_told : Bool → Bool → Bool → Option Cause
-cause_told false false false = Some LostBlock
-cause_told false true false = None
-cause_told false avoided true = None
-cause_told true avoided true = Some OwnedFree
-cause_told true avoided false = None
+abbrev pub bit_cause : Bool → Bool → Bool → Option Cause
+bit_cause false false false = Some LostBlock
+bit_cause false true false = None
+bit_cause false avoided true = None
+bit_cause true avoided true = Some OwnedFree
+bit_cause true avoided false = None
 
 -- a course is done
 abbrev pub IsFinished : List ℕ → Found → Type 0
 IsFinished image f = (s : Course) × IsCourse image s × IsDone image s × Stands image f s
 
 -- a course is done, and the findings are its own and those of these bits
-pub record IsTold (image : List ℕ) (f : Found) (s : Course) (bits : List FindingValue) : Type 0 where
+pub record HasReported (image : List ℕ) (f : Found) (s : Course) (bits : List FindingValue) : Type 0 where
   pub course : IsCourse image s
   pub done : IsDone image s
-  pub stands : Stands image f (record { walk = s.walk; passed_over = s.passed_over; findings = s.findings ++ bits })
+  pub stands : Stands image f (record { walk = s.walk; skipped = s.skipped; findings = s.findings ++ bits })
 
 -- a course is done, and the bits are compared
 abbrev pub IsCompleted : List ℕ → Found → Type 0
-IsCompleted image f = (s : Course) × (bits : List FindingValue) × IsTold image f s bits × BitsTell image s 2 (blocks image - 2) bits
+IsCompleted image f = (s : Course) × (bits : List FindingValue) × HasReported image f s bits × BitsTell image s 2 (blocks image - 2) bits
 
 -- the findings of the bits up to a block, followed by those from there on
 abbrev pub TellsOn : List ℕ → Course → ℕ → List FindingValue → Type 0
 TellsOn image s b gs = (n : ℕ) (fs : List FindingValue) → BitsTell image s b n fs → BitsTell image s 2 (b - 2 + n) (gs ++ fs)
 
 -- a course is done, and the bits up to a block are compared
-abbrev pub IsToldOn : List ℕ → Found → ℕ → Type 0
-IsToldOn image f b = (s : Course) × (gs : List FindingValue) × IsTold image f s gs × TellsOn image s b gs
+abbrev pub HasReportedOn : List ℕ → Found → ℕ → Type 0
+HasReportedOn image f b = (s : Course) × (gs : List FindingValue) × HasReported image f s gs × TellsOn image s b gs

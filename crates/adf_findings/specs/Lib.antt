@@ -4,12 +4,12 @@ pub mod Survey
 pub mod Sound
 pub mod Parts
 pub mod Files
-pub mod Surveyed
+pub mod SurveyResult
 pub mod Concerned
 pub mod Remains
 pub mod Lookup
 pub mod Opening
-pub mod Marked
+pub mod SoundMarks
 -- The states of the surveyor. A promise names `owner` and `parent_node` of Found with what these name, and `has_mark` of Marks.
 pub mod Start
 pub mod Forms

@@ -1,5 +1,5 @@
 -- The entries that findings concern, by number.
--- Letters: f a state; avoided whether each block was passed over; d a data block; m, n, p nodes;
+-- Letters: f a state; avoided whether each block was skipped; d a data block; m, n, p nodes;
 -- s, j a slot and a position in its chain.
 use Rattle.std.specs.Prelude.{◌==◌, ◌||◌, ◌&&◌, ◌-◌, ℕ, Bool, false, cond, not, nat_lt, List, [], ◌∷◌, length, slice_get, slice_index, slice_index_or}
 use Rattle.std.specs.Prelude.{Option, Some, None}
@@ -43,11 +43,11 @@ abbrev pub is_blamed : Found → List Finding → ℕ → Bool
 is_blamed f [] m = false
 is_blamed f (x ∷ xs) m = is_node (option_map node_of (blamed f x.part)) m || is_blamed f xs m
 
--- the file of a data block, if the block was also passed over
+-- the file of a data block, if the block was also skipped
 abbrev pub sharing : List Bool → DataBlock → Option ℕ
 sharing avoided d = cond (slice_index_or avoided d.block false) (Some d.node) None
 
--- whether a data block of the file was also passed over
+-- whether a data block of the file was also skipped
 abbrev pub is_sharing : List Bool → List DataBlock → ℕ → Bool
 is_sharing avoided [] m = false
 is_sharing avoided (d ∷ ds) m = is_node (sharing avoided d) m || is_sharing avoided ds m

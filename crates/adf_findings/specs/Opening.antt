@@ -1,7 +1,7 @@
 -- The facts of an image whose root is taken.
 use Rattle.std.specs.Prelude.{List, ℕ}
 use Rattle.adf_fields.specs.Words.{block}
-use Rattle.adf_blocks.specs.RootBlock.{label_told, stamps_at}
+use Rattle.adf_blocks.specs.RootBlock.{label_stated, stamps_at}
 use Rattle.adf_blocks.specs.Sizes.{blocks}
 use Rattle.adf_volume.specs.Image.{kind_of, root_of}
 use Rattle.adf_findings.specs.declared.opening.Opening.{Opening}
@@ -11,6 +11,6 @@ abbrev pub opening_in : List ℕ → Opening
 opening_in image = record {
   kind = kind_of image;
   blocks = blocks image;
-  label = label_told (block image (root_of image));
+  label = label_stated (block image (root_of image));
   stamps = stamps_at (block image (root_of image));
 }

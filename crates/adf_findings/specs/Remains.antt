@@ -1,6 +1,6 @@
 -- What is left of a file that may be damaged.
 -- Letters: w the walk of a survey; n a file's node, h the block of its header; k the number of a data block, from 0; b its block;
--- size how many bytes are told; found the block of each data block, if any.
+-- size how many bytes are stated; found the block of each data block, if any.
 use Rattle.std.specs.Prelude.{ℕ, ◌+◌, ◌-◌, ◌*◌, ◌==◌, ◌&&◌, nat_lt, slice_index, List, [], ◌∷◌, ◌++◌, Option, Some, None, cond, length, min, replicate}
 use Rattle.std.proofs.Common.{suc, zero}
 use Rattle.adf_fields.specs.Words.{block}
@@ -13,19 +13,19 @@ use Rattle.adf_findings.specs.declared.remains.Gap.{Gap}
 use Rattle.adf_findings.specs.Found.{at_key}
 use Rattle.adf_findings.specs.Files.{named_from}
 use Rattle.adf_findings.specs.Parts.{key_of}
-use Rattle.adf_findings.specs.Surveyed.{Surveyed}
+use Rattle.adf_findings.specs.SurveyResult.{SurveyValue}
 
 -- the block that is taken as data block k of file n
 abbrev pub data_found : List (Role × ℕ) → ℕ → ℕ → Option ℕ
 data_found w n k = at_key w (key_of (Data n (suc k)))
 
--- how many bytes are told: as many as the header says, but no more than the image has
-abbrev pub size_told : List ℕ → ℕ → ℕ
-size_told image h = min (word_in image h SIZE) (length image)
+-- how many bytes are stated: as many as the header says, but no more than the image has
+abbrev pub size_stated : List ℕ → ℕ → ℕ
+size_stated image h = min (word_in image h SIZE) (length image)
 
 -- how many data blocks these bytes need
-abbrev pub blocks_told : List ℕ → ℕ → ℕ
-blocks_told image h = count (kind_of image) (size_told image h)
+abbrev pub blocks_stated : List ℕ → ℕ → ℕ
+blocks_stated image h = count (kind_of image) (size_stated image h)
 
 -- the bytes of data block k: those in its block, or as many zeros where none is found
 abbrev pub bytes_in : List ℕ → ℕ → ℕ → Option ℕ → List ℕ
@@ -64,17 +64,17 @@ gaps_left image size found (suc k) = with_lost image size (gaps_left image size 
 
 -- the bytes of file n: those of the data blocks that are found, and zeros for the others
 abbrev pub left_of : List ℕ → List (Role × ℕ) → ℕ → List ℕ
-left_of image w n = let h = node_block w n in bytes_left image (size_told image h) (data_found w n) (blocks_told image h)
+left_of image w n = let h = node_block w n in bytes_left image (size_stated image h) (data_found w n) (blocks_stated image h)
 
 -- the runs of these zeros
 abbrev pub gaps_of : List ℕ → List (Role × ℕ) → ℕ → List Gap
-gaps_of image w n = let h = node_block w n in gaps_left image (size_told image h) (data_found w n) (blocks_told image h)
+gaps_of image w n = let h = node_block w n in gaps_left image (size_stated image h) (data_found w n) (blocks_stated image h)
 
 -- block b, if it is taken as data block k of entry n by the entries and the numbers kept of blocks
-abbrev pub data_at : List ℕ → Surveyed → ℕ → ℕ → ℕ → Option ℕ
+abbrev pub data_at : List ℕ → SurveyValue → ℕ → ℕ → ℕ → Option ℕ
 data_at image v n k b =
     cond (nat_lt b (blocks image) && ((slice_index v.owners b == n) && (slice_index v.numbers b == k + 1))) (Some b) None
 
 -- the block that the table of a file names as data block k, if it is taken as that
-abbrev pub data_named : List ℕ → Surveyed → ℕ → ℕ → ℕ → Option ℕ
+abbrev pub data_named : List ℕ → SurveyValue → ℕ → ℕ → ℕ → Option ℕ
 data_named image v n h k = data_at image v n k (named_from image h k)

@@ -15,17 +15,17 @@ use Rattle.adf_findings.specs.Demands.{head_demands_in}
 use Rattle.adf_findings.specs.Survey.{FindingValue}
 
 -- no finding concerns the part
-abbrev pub IsUnnoted : List FindingValue → Role → Type 0
-IsUnnoted fs r = (f : FindingValue) (q : Role) → In fs f → f.part ≡ Some q → Same q r → ⊥
+abbrev pub IsUnreported : List FindingValue → Role → Type 0
+IsUnreported fs r = (f : FindingValue) (q : Role) → In fs f → f.part ≡ Some q → Same q r → ⊥
 
 -- The header of the entry is in the walk, and no finding concerns it or an extension or data block of the entry. Of a directory, each
 -- header that a finding concerns was taken, so that no chain of it is broken.
 -- An FFS data block does not identify its file, so no other part may ask for its block.
 pub record IsSound (image : List ℕ) (w : List (Role × ℕ)) (fs : List FindingValue) (n h : ℕ) : Type 0 where
   pub header : HeadAt w n h
-  pub unnoted : IsUnnoted fs (Head n header.parent header.slot header.place)
-  pub exts : (k : ℕ) → IsUnnoted fs (Ext n k)
-  pub datas : (k : ℕ) → IsUnnoted fs (Data n k)
+  pub unreported : IsUnreported fs (Head n header.parent header.slot header.place)
+  pub exts : (k : ℕ) → IsUnreported fs (Ext n k)
+  pub datas : (k : ℕ) → IsUnreported fs (Data n k)
   pub chains : (f : FindingValue) (m s j : ℕ) → In fs f → f.part ≡ Some (Head m n s j) → (b : ℕ) × Has w (Head m n s j) b
   pub alone : kind_of image ≡ Ffs → (k b : ℕ) → Has w (Data n k) b → (q : Role) (a i : ℕ) → Asks image w q a i → word_in image a i ≡ b → Same q (Data n k)
 

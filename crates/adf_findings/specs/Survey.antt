@@ -50,37 +50,37 @@ abbrev pub IsItself : Role → List Demand → Type 0
 IsItself r [] = Unit {0}
 IsItself r (x ∷ xs) = (is_kept r x.cause ≡ false → x.holds) × IsItself r xs
 
--- The judgement of a part that is next: it has no cause; it has one, which is noted, and is still taken;
--- it has one and is passed over.
+-- The judgement of a part that is next: it has no cause; it has one, which is reported, and is still taken;
+-- it has one and is skipped.
 pub data JudgementValue : Type 0 where
   clean : JudgementValue
-  noted : (at : ℕ) (c : Cause) → JudgementValue
-  passed : (at : ℕ) (c : Cause) → JudgementValue
+  reported : (at : ℕ) (c : Cause) → JudgementValue
+  skipped : (at : ℕ) (c : Cause) → JudgementValue
 
 -- the demands on the part give this judgement
 abbrev pub Judged : Role → List Demand → JudgementValue → Type 0
 Judged r xs clean = AllHold xs
-Judged r xs (noted at c) = FirstFails xs at c × IsItself r xs
-Judged r xs (passed at c) = FirstFails xs at c × (IsItself r xs → ⊥)
+Judged r xs (reported at c) = FirstFails xs at c × IsItself r xs
+Judged r xs (skipped at c) = FirstFails xs at c × (IsItself r xs → ⊥)
 
--- The progress of a survey: its walk and the parts passed over, with their blocks, newest first; the findings.
+-- The progress of a survey: its walk and the parts skipped, with their blocks, newest first; the findings.
 pub record Course : Type 0 where
   pub walk : List (Role × ℕ)
-  pub passed_over : List (Role × ℕ)
+  pub skipped : List (Role × ℕ)
   pub findings : List FindingValue
 
--- the course after the part that was next, at block b, is taken or passed over, and its cause noted
+-- the course after the part that was next, at block b, is taken or skipped, and its cause reported
 abbrev pub after : Course → Role → ℕ → JudgementValue → Course
-after s r b clean = record { walk = (r, b) ∷ s.walk; passed_over = s.passed_over; findings = s.findings }
-after s r b (noted at c) = record { walk = (r, b) ∷ s.walk; passed_over = s.passed_over; findings = s.findings ++ finding (Some r) at c ∷ [] }
-after s r b (passed at c) = record { walk = s.walk; passed_over = (r, b) ∷ s.passed_over; findings = s.findings ++ finding (Some r) at c ∷ [] }
+after s r b clean = record { walk = (r, b) ∷ s.walk; skipped = s.skipped; findings = s.findings }
+after s r b (reported at c) = record { walk = (r, b) ∷ s.walk; skipped = s.skipped; findings = s.findings ++ finding (Some r) at c ∷ [] }
+after s r b (skipped at c) = record { walk = s.walk; skipped = (r, b) ∷ s.skipped; findings = s.findings ++ finding (Some r) at c ∷ [] }
 
--- the first role, in order, that the walk asks for and that is neither in the walk nor passed over
+-- the first role, in order, that the walk asks for and that is neither in the walk nor skipped
 pub record IsNext (image : List ℕ) (s : Course) (r : Role) (a i : ℕ) : Type 0 where
   pub asked : Asks image s.walk r a i
   pub lacks : Lacks s.walk r
-  pub unpassed : Lacks s.passed_over r
-  pub least : (q : Role) (d k : ℕ) → Asks image s.walk q d k → Lacks s.walk q → Lacks s.passed_over q → Before q r → ⊥
+  pub unskipped : Lacks s.skipped r
+  pub least : (q : Role) (d k : ℕ) → Asks image s.walk q d k → Lacks s.walk q → Lacks s.skipped q → Before q r → ⊥
 
 -- a boot block with this cause is of another type, 2 to 5, which surveys read
 abbrev pub is_other_type : Cause → Bool
@@ -100,18 +100,18 @@ RootJudged image j = Judged Root (root_demands image (root_of image)) j
 -- the findings of a root that is taken: none, or its cause
 pub data RootTells (image : List ℕ) : List FindingValue → Type 0 where
   clean_root : RootJudged image clean → RootTells image []
-  noted_root : {at : ℕ} {c : Cause} → RootJudged image (noted at c) → RootTells image (finding (Some Root) at c ∷ [])
+  reported_root : {at : ℕ} {c : Cause} → RootJudged image (reported at c) → RootTells image (finding (Some Root) at c ∷ [])
 
 -- the findings of an image of which nothing is taken: another cause of size or boot bytes;
--- or, after those of the boot block, the cause of a root that is passed over
+-- or, after those of the boot block, the cause of a root that is skipped
 pub data UnreadTells (image : List ℕ) : List FindingValue → Type 0 where
   bad_boot : {at : ℕ} {c : Cause} → FirstFails (boot_demands image) at c → is_other_type c ≡ false → UnreadTells image (finding None at c ∷ [])
-  bad_root : {boot : List FindingValue} {at : ℕ} {c : Cause} → BootTells image boot → RootJudged image (passed at c)
+  bad_root : {boot : List FindingValue} {at : ℕ} {c : Cause} → BootTells image boot → RootJudged image (skipped at c)
       → UnreadTells image (boot ++ finding None at c ∷ [])
 
 -- the course that starts with the root and these findings
 abbrev pub begun : List ℕ → List FindingValue → Course
-begun image fs = record { walk = (Root, root_of image) ∷ []; passed_over = []; findings = fs }
+begun image fs = record { walk = (Root, root_of image) ∷ []; skipped = []; findings = fs }
 
 -- a course starts with the root; each part that is next is judged by its demands
 pub data IsCourse (image : List ℕ) : Course → Type 0 where
@@ -121,7 +121,7 @@ pub data IsCourse (image : List ℕ) : Course → Type 0 where
 
 -- nothing is next
 abbrev pub IsDone : List ℕ → Course → Type 0
-IsDone image s = (r : Role) (a i : ℕ) → Asks image s.walk r a i → Lacks s.walk r → Lacks s.passed_over r → ⊥
+IsDone image s = (r : Role) (a i : ℕ) → Asks image s.walk r a i → Lacks s.walk r → Lacks s.skipped r → ⊥
 
 -- the bitmap flag of the root is that of a valid bitmap
 abbrev pub IsValidated : List ℕ → Type 0
@@ -131,9 +131,9 @@ IsValidated image = word_in image (root_of image) BITMAP_FLAG ≡ VALID
 abbrev pub is_cache : List ℕ → ℕ → Bool
 is_cache image b = nat_le 4 (slice_index (block image 0) 3) && (word_in image b TYPE == T_DIR_CACHE) && (word_in image b OWN_KEY == b)
 
--- block b was not passed over, and is no directory cache
+-- block b was not skipped, and is no directory cache
 abbrev pub IsUnexcused : List ℕ → Course → ℕ → Type 0
-IsUnexcused image s b = IsAbsent s.passed_over b × (is_cache image b ≡ false)
+IsUnexcused image s b = IsAbsent s.skipped b × (is_cache image b ≡ false)
 
 -- the bit of block b is compared: the bitmap is valid, the walk has the page, and b is in the walk or has no excuse
 abbrev pub IsCompared : List ℕ → Course → ℕ → Type 0

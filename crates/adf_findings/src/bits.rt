@@ -4,7 +4,7 @@ ghost use Rattle.std.specs.Prelude.{◌≡◌, ◌≤◌, ◌<◌, ◌+◌, ◌-
 ghost use Rattle.adf_blocks.specs.declared.layout.TheConstants.{PAGE_BITS};
 ghost use Rattle.adf_blocks.specs.Sizes.{blocks};
 ghost use Rattle.adf_findings.specs.Survey.{Course, FindingValue, IsCourse, IsValidated, is_cache};
-ghost use Rattle.adf_findings.specs.Found.{BitTells, IsBitOf, IsCompleted, IsFinished, IsToldOn, Stands, cause_told};
+ghost use Rattle.adf_findings.specs.Found.{BitTells, IsBitOf, IsCompleted, IsFinished, HasReportedOn, Stands, bit_cause};
 
 use crate::found::Found;
 use crate::image::Image;
@@ -44,7 +44,7 @@ fn is_cache(image: &Image<'_>, b: u32) -> bool
     image.has_caches() && image.word(b, TYPE) == T_DIR_CACHE && image.word(b, OWN_KEY) == b
 }
 
-// Whether a block without an owner has an excuse: it was passed over, or is a directory cache.
+// Whether a block without an owner has an excuse: it was skipped, or is a directory cache.
 fn is_excused(image: &Image<'_>, found: &Found, b: u32) -> bool
     ensures { result ≡ (slice_index_or found.now.avoided.items b false || is_cache image.now b) }
 {
@@ -52,8 +52,8 @@ fn is_excused(image: &Image<'_>, found: &Found, b: u32) -> bool
 }
 
 // The cause of a bit that disagrees: a block in use without an owner and without an excuse, or owned and free.
-fn cause_told(is_owned: bool, is_excused: bool, is_free: bool) -> Option<Cause>
-    ensures { result ≡ cause_told is_owned is_excused is_free }
+fn bit_cause(is_owned: bool, is_excused: bool, is_free: bool) -> Option<Cause>
+    ensures { result ≡ bit_cause is_owned is_excused is_free }
 {
     match (is_owned, is_free) {
         (false, false) if !is_excused => Some(Cause::LostBlock),
@@ -70,7 +70,7 @@ fn cause_of_bit(image: &Image<'_>, found: &Found, b: u32) -> Option<Cause>
     requires owned { length found.now.owned.items ≡ blocks image.now }
     ensures { (s : Course) (fs : List FindingValue) → IsCourse image.now s
         → Stands image.now found.now
-        (record { walk = s.walk; passed_over = s.passed_over; findings = fs })
+        (record { walk = s.walk; skipped = s.skipped; findings = fs })
         → BitTells image.now s b result }
 {
     if !is_validated(image) {
@@ -79,7 +79,7 @@ fn cause_of_bit(image: &Image<'_>, found: &Found, b: u32) -> Option<Cause>
     let (page, bit) = place_of(b);
     match bit_of(image, &found.taken, page, bit) {
         Some(is_free) => {
-            cause_told(
+            bit_cause(
                 found.owned[b as usize],
                 is_excused(image, found, b),
                 is_free,
@@ -93,11 +93,11 @@ fn cause_of_bit(image: &Image<'_>, found: &Found, b: u32) -> Option<Cause>
 fn compare_bit(image: &Image<'_>, found: &mut Found, b: u32) -> Result<(), NoMemory>
     requires low { 2 ≤ b }
     requires inside { b < blocks image.now }
-    requires told { IsToldOn image.now found.old b }
-    ensures { OnOk result (IsToldOn image.now found.new (b + 1)) }
+    requires reported { HasReportedOn image.now found.old b }
+    ensures { OnOk result (HasReportedOn image.now found.new (b + 1)) }
 {
     match cause_of_bit(image, found, b) {
-        Some(cause) => found.note(Finding {
+        Some(cause) => found.report(Finding {
             part: None,
             block: b,
             cause,
@@ -107,8 +107,8 @@ fn compare_bit(image: &Image<'_>, found: &mut Found, b: u32) -> Result<(), NoMem
 }
 
 /// If the bitmap is valid, compares the bit of each block with its owner. Skips a block if its page was not taken, or
-/// if it has no owner and was passed over or is a directory cache.
-#[tactic(auto, using(crate::proofs::BitSteps::told_first, crate::proofs::BitSteps::told_last))]
+/// if it has no owner and was skipped or is a directory cache.
+#[tactic(auto, using(crate::proofs::BitSteps::reported_first, crate::proofs::BitSteps::reported_last))]
 pub fn compare(image: &Image<'_>, found: &mut Found) -> Result<(), NoMemory>
     requires { IsFinished image.now found.old }
     ensures { OnOk result (IsCompleted image.now found.new) }

@@ -8,7 +8,7 @@ ghost use Rattle.adf_findings.specs.Concerned.{node_of};
 pub enum Concern {
     /// An entry: that of a header that is found, or the file of an extension or data block.
     Entry(u32),
-    /// A directory, 0 for the root, in which a header was passed over: what it leads to is not found.
+    /// A directory, 0 for the root, in which a header was skipped: what it leads to is not found.
     Within(u32),
 }
 

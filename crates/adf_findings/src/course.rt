@@ -10,7 +10,7 @@ ghost use Rattle.adf_findings.specs.Survey.{Course};
 ghost use Rattle.adf_findings.specs.Parts.{role_of};
 ghost use Rattle.adf_findings.specs.Found.{IsFinished};
 ghost use Rattle.adf_findings.specs.Courses.{HasReached, HasReachedData, HasReachedFile, HasReachedPage, HasReachedPart};
-ghost use Rattle.adf_findings.specs.Courses.{HasReachedSlot, Holds, IsGoneOn, IsNamed, IsNextAsk, IsOutcome, IsPageNamed};
+ghost use Rattle.adf_findings.specs.Courses.{HasReachedSlot, Holds, IsGoneOn, IsNamed, IsNextReference, IsOutcome, IsPageNamed};
 
 use crate::found::Found;
 use crate::image::Image;
@@ -25,7 +25,7 @@ use adf_fields::NoMemory;
 
 /// A part that is next, a header with any number; the block that points to it; and its own block.
 #[derive(Clone, Copy, PartialEq, Eq, Drop)]
-pub struct Ask {
+pub struct Reference {
     pub part: Part,
     pub holder: u32,
     pub block: u32,
@@ -42,31 +42,35 @@ fn of_part(part: Part, block: u32, cause: Cause) -> Finding
     }
 }
 
-// Judges the part that is next and notes its cause. Returns the part if it is to be taken, `None` if passed over.
-fn judge_next(image: &Image<'_>, found: &mut Found, ask: &Ask) -> Result<Option<Part>, NoMemory>
+// Judges the part that is next and reports its cause. Returns the part if it is to be taken, `None` if skipped.
+fn judge_next(
+    image: &Image<'_>,
+    found: &mut Found,
+    reference: &Reference,
+) -> Result<Option<Part>, NoMemory>
     requires { length found.old.nodes.items < 2 ^ 32 }
-    ensures { IfOk result (λ o. (s : Course) → Holds image.now found.old (position_of (role_of ask.now.part)) s
-        → IsNextAsk image.now s ask.now
-        → IsOutcome image.now s ask.now found.old found.new o) }
+    ensures { IfOk result (λ o. (s : Course) → Holds image.now found.old (position_of (role_of reference.now.part)) s
+        → IsNextReference image.now s reference.now
+        → IsOutcome image.now s reference.now found.old found.new o) }
 {
-    let b = ask.block;
-    let part = ask.part.numbered(found.nodes.len() as u32);
+    let b = reference.block;
+    let part = reference.part.numbered(found.nodes.len() as u32);
     let facts = found.facts(image, part, b)?;
-    match judge(image, part, ask.holder, b, &facts) {
+    match judge(image, part, reference.holder, b, &facts) {
         Judgement::Clean => Ok(Some(part)),
-        Judgement::Noted(at, cause) => {
-            found.note(of_part(part, at, cause))?;
+        Judgement::Reported(at, cause) => {
+            found.report(of_part(part, at, cause))?;
             Ok(Some(part))
         }
-        Judgement::Passed(at, cause) => {
-            found.note(of_part(part, at, cause))?;
-            found.pass(b);
+        Judgement::Skipped(at, cause) => {
+            found.report(of_part(part, at, cause))?;
+            found.skip(b);
             Ok(None)
         }
     }
 }
 
-// Judges and takes a part that word `i` of block `holder` points to; returns its block, `None` if it is passed over.
+// Judges and takes a part that word `i` of block `holder` points to; returns its block, `None` if it is skipped.
 fn go_on(
     image: &Image<'_>,
     found: &mut Found,
@@ -80,15 +84,15 @@ fn go_on(
         → IsGoneOn image.now s part holder i found.new o) }
     ensures left { IfOk result (λ o. IfSome o (λ b. found.new.left < found.old.left)) }
 {
-    let ask = Ask {
+    let reference = Reference {
         part,
         holder,
         block: image.word(holder, i),
     };
-    match judge_next(image, found, &ask)? {
+    match judge_next(image, found, &reference)? {
         Some(part) => {
-            found.take(image, part, ask.block)?;
-            Ok(Some(ask.block))
+            found.take(image, part, reference.block)?;
+            Ok(Some(reference.block))
         }
         None => Ok(None),
     }
@@ -120,7 +124,7 @@ fn map_ext_word(page: u32) -> usize
 }
 
 // The block that points to a page: the one that points to the page before, or the next bitmap extension block; `None`
-// if that is passed over.
+// if that is skipped.
 fn holder_of(
     image: &Image<'_>,
     found: &mut Found,

@@ -26,22 +26,22 @@ const NO_SLOT: u8 = SLOTS as u8;
 
 /// The context of a part: the block of its directory or of its file's header, and the next data block.
 #[derive(Clone, Copy, PartialEq, Eq, Drop)]
-pub struct Around {
+pub struct Context {
     pub up: u32,
     pub next: u32,
 }
 
 // The first cause of block `b` in the form of data block `number` of a file.
 #[tactic(auto, unfolding(adf_blocks::specs::Sizes::chunk))]
-fn cause_of_data(image: &Image<'_>, number: u32, b: u32, around: Around) -> Option<Cause>
+fn cause_of_data(image: &Image<'_>, number: u32, b: u32, context: Context) -> Option<Cause>
     requires { b < blocks image.now }
-    ensures { result ≡ first_cause (form_of image.now (Part.Data 0 number) b around) }
+    ensures { result ≡ first_cause (form_of image.now (Part.Data 0 number) b context) }
 {
     match image.kind() {
         Kind::Ffs => None,
         Kind::Ofs => {
-            let held = held_in(Kind::Ofs, image.word(around.up, SIZE), number);
-            match read_data(image.block(b), around.up, number, held, around.next) {
+            let held = held_in(Kind::Ofs, image.word(context.up, SIZE), number);
+            match read_data(image.block(b), context.up, number, held, context.next) {
                 Ok(_) => None,
                 Err(cause) => Some(cause),
             }
@@ -82,9 +82,9 @@ fn cause_of_head(image: &Image<'_>, slot: u8, b: u32, up: u32) -> Option<Cause>
 }
 
 /// The first cause of block `b` in the form of the part.
-pub fn first_cause(image: &Image<'_>, part: Part, b: u32, around: Around) -> Option<Cause>
+pub fn first_cause(image: &Image<'_>, part: Part, b: u32, context: Context) -> Option<Cause>
     requires { b < blocks image.now }
-    ensures { result ≡ first_cause (form_of image.now part b around) }
+    ensures { result ≡ first_cause (form_of image.now part b context) }
 {
     let block = image.block(b);
     match part {
@@ -93,12 +93,12 @@ pub fn first_cause(image: &Image<'_>, part: Part, b: u32, around: Around) -> Opt
             Ok(_) => None,
             Err(cause) => Some(cause),
         },
-        Part::Head { slot, .. } => cause_of_head(image, slot, b, around.up),
-        Part::Ext(_, _) => match read_ext(block, b, around.up) {
+        Part::Head { slot, .. } => cause_of_head(image, slot, b, context.up),
+        Part::Ext(_, _) => match read_ext(block, b, context.up) {
             Ok(_) => None,
             Err(cause) => Some(cause),
         },
-        Part::Data(_, k) => cause_of_data(image, k, b, around),
+        Part::Data(_, k) => cause_of_data(image, k, b, context),
     }
 }
 
@@ -110,34 +110,34 @@ fn is_keyed(b: &Block<'_>, own: u32, up: u32) -> bool
 }
 
 // Whether the fields of block `b` identify it as data block `number` of a file.
-fn is_data_itself(image: &Image<'_>, number: u32, b: u32, around: Around) -> bool
+fn is_data_itself(image: &Image<'_>, number: u32, b: u32, context: Context) -> bool
     requires { b < blocks image.now }
     ensures { result
         ≡ itself_by (role_of (Part.Data 0 number))
-        (form_of image.now (Part.Data 0 number) b around) }
+        (form_of image.now (Part.Data 0 number) b context) }
 {
     match image.kind() {
         Kind::Ffs => true,
         Kind::Ofs => {
-            let held = held_in(Kind::Ofs, image.word(around.up, SIZE), number);
+            let held = held_in(Kind::Ofs, image.word(context.up, SIZE), number);
             let block = image.block(b);
             block.word(TYPE) == T_DATA
-                && has_data_words(&block, around.up, number, held, around.next)
+                && has_data_words(&block, context.up, number, held, context.next)
         }
     }
 }
 
 /// Whether the fields of block `b` identify it as the part; for a page, whether its form holds.
-pub fn is_itself(image: &Image<'_>, part: Part, b: u32, around: Around) -> bool
+pub fn is_itself(image: &Image<'_>, part: Part, b: u32, context: Context) -> bool
     requires { b < blocks image.now }
-    ensures { result ≡ itself_by (role_of part) (form_of image.now part b around) }
+    ensures { result ≡ itself_by (role_of part) (form_of image.now part b context) }
 {
     let block = image.block(b);
     match part {
         Part::Root | Part::MapExt(_) => true,
         Part::Page(_) => block.long_sum() == 0,
-        Part::Head { .. } => has_head_type(&block) && is_keyed(&block, b, around.up),
-        Part::Ext(_, _) => has_ext_type(&block) && is_keyed(&block, b, around.up),
-        Part::Data(_, k) => is_data_itself(image, k, b, around),
+        Part::Head { .. } => has_head_type(&block) && is_keyed(&block, b, context.up),
+        Part::Ext(_, _) => has_ext_type(&block) && is_keyed(&block, b, context.up),
+        Part::Data(_, k) => is_data_itself(image, k, b, context),
     }
 }

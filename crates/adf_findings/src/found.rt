@@ -11,13 +11,13 @@ ghost use Rattle.adf_volume.specs.Image.{name_of, root_of, word_in};
 ghost use Rattle.adf_volume.specs.Positions.{position_of};
 ghost use Rattle.adf_volume.specs.Walk.{Role, data_count};
 ghost use Rattle.adf_findings.specs.Parts.{by_key, finding_value, role_of};
-ghost use Rattle.adf_findings.specs.Found.{AreNamed, AreSame, Stands, IsChain, IsKept, IsNoted, IsOwned, IsPassed};
-ghost use Rattle.adf_findings.specs.Found.{IsPut, IsTaken, KeepsParts, around_in, by_name, data_number, enough_in, entry_number};
+ghost use Rattle.adf_findings.specs.Found.{AreNamed, AreSame, Stands, IsChain, IsKept, IsReported, IsOwned, IsBlockSkipped};
+ghost use Rattle.adf_findings.specs.Found.{IsPut, IsTaken, KeepsParts, context_in, by_name, data_number, enough_in, entry_number};
 ghost use Rattle.adf_findings.specs.Found.{exts_found, known_at, member_in, new_in, next_in, with_data};
 ghost use Rattle.adf_findings.specs.Survey.{begun};
 ghost use Rattle.std.specs.Global.{Vec};
 
-use crate::forms::Around;
+use crate::forms::Context;
 use crate::header_name::name_in;
 use crate::image::Image;
 use crate::judge::Facts;
@@ -44,7 +44,7 @@ pub struct ChainPlace {
 
 /// The state of a survey: the blocks of the taken parts by key, except headers and data blocks; for each block whether
 /// it is taken, the node of the entry that it belongs to (0 if there is none), the number of the data block that it is
-/// (from 1; 0 if it is none), and whether it was passed over; the number of blocks not taken; the blocks of nodes; the
+/// (from 1; 0 if it is none), and whether it was skipped; the number of blocks not taken; the blocks of nodes; the
 /// number of extension blocks of each file; the names in the current chain; the findings; the parents of nodes; the
 /// positions of headers, from node 1 on; and the data blocks.
 #[derive(Drop)]
@@ -182,20 +182,20 @@ impl Found {
     }
 
     // The context of a part.
-    pub fn around(&self, image: &Image<'_>, part: Part) -> Around
-        ensures { result ≡ around_in image.now self.now part }
+    pub fn context(&self, image: &Image<'_>, part: Part) -> Context
+        ensures { result ≡ context_in image.now self.now part }
     {
         match part {
-            Part::Root | Part::Page(_) | Part::MapExt(_) => Around { up: 0, next: 0 },
-            Part::Head { parent, .. } => Around {
+            Part::Root | Part::Page(_) | Part::MapExt(_) => Context { up: 0, next: 0 },
+            Part::Head { parent, .. } => Context {
                 up: self.node_block(parent),
                 next: 0,
             },
-            Part::Ext(node, _) => Around {
+            Part::Ext(node, _) => Context {
                 up: self.node_block(node),
                 next: 0,
             },
-            Part::Data(node, k) => Around {
+            Part::Data(node, k) => Context {
                 up: self.node_block(node),
                 next: self.next_data(image, node, k),
             },
@@ -240,14 +240,14 @@ impl Found {
         ensures new { IfOk result (λ f. b < blocks image.now → (w : List (Role × ℕ))
             → AreNamed image.now w (position_of (role_of part)) self.now.names
             → IsChain w part → f.is_new ≡ new_in image.now w part b) }
-        ensures around { IfOk result (λ f. f.around ≡ around_in image.now self.now part) }
+        ensures context { IfOk result (λ f. f.context ≡ context_in image.now self.now part) }
     {
         let is_new = b >= image.blocks() || self.is_new(image, part, b)?;
         Ok(Facts {
             is_enough: self.is_enough(image, part),
             is_absent: !self.owned.get(b as usize).copied().unwrap_or(false),
             is_new,
-            around: self.around(image, part),
+            context: self.context(image, part),
         })
     }
 
@@ -364,18 +364,18 @@ impl Found {
         self.own(part, b)
     }
 
-    /// Marks block `b` as passed over.
-    pub fn pass(&mut self, b: u32)
-        ensures { IsPassed b self.old self.new }
+    /// Marks block `b` as skipped.
+    pub fn skip(&mut self, b: u32)
+        ensures { IsBlockSkipped b self.old self.new }
     {
         if (b as usize) < self.avoided.len() {
             self.avoided[b as usize] = true;
         }
     }
 
-    /// Notes a finding.
-    pub fn note(&mut self, finding: Finding) -> Result<(), NoMemory>
-        ensures { OnOk result (IsNoted finding self.old self.new) }
+    /// Reports a finding.
+    pub fn report(&mut self, finding: Finding) -> Result<(), NoMemory>
+        ensures { OnOk result (IsReported finding self.old self.new) }
     {
         if self.findings.push(finding).is_err() {
             return Err(NoMemory);

@@ -3,17 +3,17 @@
 ghost use Rattle.std.specs.Prelude.{◌≡◌};
 ghost use Rattle.adf_findings.specs.Forms.{first_failing, judged_by, keeps, judgement_value};
 
-use crate::forms::{Around, first_cause, is_itself};
+use crate::forms::{Context, first_cause, is_itself};
 use crate::image::Image;
 use crate::part::Part;
 use adf_blocks::Cause;
 
-/// The judgement of a part: no cause; a cause, at a block, and still taken; a cause, and passed over.
+/// The judgement of a part: no cause; a cause, at a block, and still taken; a cause, and skipped.
 #[derive(Clone, Copy, PartialEq, Eq, Drop)]
 pub enum Judgement {
     Clean,
-    Noted(u32, Cause),
-    Passed(u32, Cause),
+    Reported(u32, Cause),
+    Skipped(u32, Cause),
 }
 
 /// The facts about a part that is next: whether its file has enough extension blocks, whether its block has no owner,
@@ -23,7 +23,7 @@ pub struct Facts {
     pub is_enough: bool,
     pub is_absent: bool,
     pub is_new: bool,
-    pub around: Around,
+    pub context: Context,
 }
 
 // The first cause of a part in block `b`, which `holder` points to, and the block of the cause.
@@ -45,7 +45,7 @@ fn first_failing(
     if !facts.is_absent {
         return Some((b, Cause::Taken));
     }
-    if let Some(cause) = first_cause(image, part, b, facts.around) {
+    if let Some(cause) = first_cause(image, part, b, facts.context) {
         return Some((b, cause));
     }
     if facts.is_new {
@@ -59,7 +59,7 @@ fn first_failing(
 fn is_kept(image: &Image<'_>, part: Part, b: u32, facts: &Facts) -> bool
     ensures { result ≡ keeps image.now part b facts.now }
 {
-    b >= 2 && b < image.blocks() && facts.is_absent && is_itself(image, part, b, facts.around)
+    b >= 2 && b < image.blocks() && facts.is_absent && is_itself(image, part, b, facts.context)
 }
 
 /// Judges a part in block `b`, which a word of block `holder` points to.
@@ -72,9 +72,9 @@ pub fn judge(image: &Image<'_>, part: Part, holder: u32, b: u32, facts: &Facts) 
         None => Judgement::Clean,
         Some((at, cause)) => {
             if is_kept(image, part, b, facts) {
-                Judgement::Noted(at, cause)
+                Judgement::Reported(at, cause)
             } else {
-                Judgement::Passed(at, cause)
+                Judgement::Skipped(at, cause)
             }
         }
     }

@@ -19,8 +19,8 @@ mod owners;
 mod part;
 mod remains;
 mod start;
-mod surveyed;
-mod surveys;
+mod survey_result;
+mod surveyor;
 
 pub use crate::concern::Concern;
 pub use crate::file::SoundFile;
@@ -32,5 +32,5 @@ pub use crate::laws::{
 pub use crate::opening::Opening;
 pub use crate::part::{Finding, Part};
 pub use crate::remains::{Gap, Remains};
-pub use crate::surveyed::Survey;
-pub use crate::surveys::survey;
+pub use crate::survey_result::Survey;
+pub use crate::surveyor::survey;

@@ -4,7 +4,7 @@ ghost use Rattle.std.specs.Prelude.{◌≡◌, ◌↔◌, ℕ, [], IsOk, IsTrue,
 ghost use Rattle.adf_findings.specs.Lookup.{IsNamedChild, IsFirstChild, LeadsTo, path_to};
 ghost use Rattle.adf_findings.specs.Survey.{OnSurvey};
 
-use crate::surveyed::Survey;
+use crate::survey_result::Survey;
 use adf_fields::NoMemory;
 use adf_tree::{Name, Node};
 use std::alloc::Global;

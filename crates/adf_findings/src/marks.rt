@@ -61,7 +61,7 @@ fn blamed(found: &Found, part: Option<Part>) -> Option<Concern>
     }
 }
 
-// The file of a data block, if the block was also passed over.
+// The file of a data block, if the block was also skipped.
 fn sharing(found: &Found, data_block: DataBlock) -> Option<u32>
     ensures { result ≡ sharing found.now.avoided.items data_block }
 {
@@ -86,7 +86,7 @@ pub fn concerned(alloc: Global, found: &Found) -> Result<Vec<Option<Concern>>, N
     Ok(concerns)
 }
 
-// Removes the marks of entries that findings concern, and of directories within which a header was passed over.
+// Removes the marks of entries that findings concern, and of directories within which a header was skipped.
 fn strike_blamed(found: &Found, marks: &mut Vec<bool>)
     ensures { (m : ℕ) → has_mark marks.new.items m
         ≡ (has_mark marks.old.items m && not
@@ -99,7 +99,7 @@ fn strike_blamed(found: &Found, marks: &mut Vec<bool>)
     }
 }
 
-// Removes the marks of files with a data block that was also passed over.
+// Removes the marks of files with a data block that was also skipped.
 fn strike_sharing(found: &Found, marks: &mut Vec<bool>)
     ensures { (m : ℕ) → has_mark marks.new.items m
         ≡ (has_mark marks.old.items m && not

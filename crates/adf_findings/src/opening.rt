@@ -5,7 +5,7 @@ ghost use Rattle.adf_blocks.specs.Sizes.{is_allowed};
 ghost use Rattle.adf_findings.specs.Opening.{opening_in};
 
 use crate::image::Image;
-use adf_blocks::{label_told, stamps_told};
+use adf_blocks::{label_stated, stamps_stated};
 use adf_tree::{Kind, Label, Stamps};
 
 /// The facts in the size, the boot bytes and the root of an image.
@@ -29,8 +29,8 @@ impl Opening {
         Opening {
             kind: image.kind(),
             blocks: image.blocks(),
-            label: label_told(&root),
-            stamps: stamps_told(&root),
+            label: label_stated(&root),
+            stamps: stamps_stated(&root),
         }
     }
 }

@@ -3,7 +3,7 @@
 ghost use Rattle.std.specs.Prelude.{◌≡◌, slice_get};
 ghost use Rattle.std.specs.Option.{option_and_then};
 ghost use Rattle.adf_findings.specs.Concerned.{is_taken};
-ghost use Rattle.adf_findings.specs.Surveyed.{owner_at, owner_for};
+ghost use Rattle.adf_findings.specs.SurveyResult.{owner_at, owner_for};
 
 use crate::part::Finding;
 use adf_blocks::Cause;

@@ -5,12 +5,12 @@ ghost use Rattle.adf_blocks.specs.Sizes.{blocks, count};
 ghost use Rattle.adf_fields.specs.Words.{block};
 ghost use Rattle.adf_volume.specs.Image.{kind_of, piece};
 ghost use Rattle.adf_volume.specs.Walk.{FileAt, node_block};
-ghost use Rattle.adf_findings.specs.Remains.{blocks_told, bytes_in, bytes_left, data_at, data_named, gap_at, gaps_left, gaps_of, joined, left_of, size_told, with_gap, with_lost};
+ghost use Rattle.adf_findings.specs.Remains.{blocks_stated, bytes_in, bytes_left, data_at, data_named, gap_at, gaps_left, gaps_of, joined, left_of, size_stated, with_gap, with_lost};
 ghost use Rattle.adf_findings.specs.Survey.{OnSurvey};
 
 use crate::image::Image;
 use crate::start::start;
-use crate::surveyed::{Survey, number_at};
+use crate::survey_result::{Survey, number_at};
 use adf_blocks::{DATA_BYTES, EXTENSION, FIRST_POINTER, POINTERS, SIZE, chunk_len};
 use adf_fields::NoMemory;
 use adf_tree::{Kind, Node};
@@ -31,9 +31,9 @@ pub struct Remains {
     pub gaps: Vec<Gap>,
 }
 
-// How many bytes of a file are told.
-fn size_told(image: &Image<'_>, head: u32) -> u32
-    ensures size { result ≡ size_told image.now head }
+// How many bytes of a file its header states.
+fn size_stated(image: &Image<'_>, head: u32) -> u32
+    ensures size { result ≡ size_stated image.now head }
     ensures small { result ≤ 2 ^ 29 }
 {
     image.word(head, SIZE).min(image.len())
@@ -41,7 +41,7 @@ fn size_told(image: &Image<'_>, head: u32) -> u32
 
 // The number of data blocks of so many bytes.
 #[tactic(auto, unfolding(adf_blocks::specs::Sizes::count, adf_blocks::specs::Sizes::chunk))]
-fn count_told(kind: Kind, size: u32) -> u32
+fn count_stated(kind: Kind, size: u32) -> u32
     requires { size ≤ 2 ^ 29 }
     ensures count { result ≡ count kind size }
     ensures few { result ≤ 2 ^ 21 }
@@ -170,20 +170,20 @@ impl<'i> Survey<'i> {
         head: u32,
     ) -> Result<Remains, AllocError>
         ensures bytes { IfOk result (λ r. r.bytes.items
-            ≡ bytes_left image.now (size_told image.now head) (data_named image.now self.now n head)
-            (blocks_told image.now head)) }
+            ≡ bytes_left image.now (size_stated image.now head) (data_named image.now self.now n head)
+            (blocks_stated image.now head)) }
         ensures gaps { IfOk result (λ r. r.gaps.items
-            ≡ gaps_left image.now (size_told image.now head) (data_named image.now self.now n head)
-            (blocks_told image.now head)) }
-        ensures empty { blocks_told image.now head ≡ 0 → IsOk result }
+            ≡ gaps_left image.now (size_stated image.now head) (data_named image.now self.now n head)
+            (blocks_stated image.now head)) }
+        ensures empty { blocks_stated image.now head ≡ 0 → IsOk result }
     {
         let mut remains = Remains {
             bytes: Vec::new(alloc),
             gaps: Vec::new(alloc),
         };
-        let size = size_told(image, head);
+        let size = size_stated(image, head);
         let mut member = head;
-        for k in 0..count_told(image.kind(), size) {
+        for k in 0..count_stated(image.kind(), size) {
             let b = image.word(member, FIRST_POINTER - k as usize % POINTERS);
             remains.add(alloc, image, size, k, self.data_at(image, n, k, b))?;
             if (k as usize + 1) % POINTERS == 0 {
@@ -206,7 +206,7 @@ impl<'i> Survey<'i> {
         ensures none { OnSurvey self.now.image (λ w _.
             ((h : ℕ) → FileAt self.now.image w n h → ⊥) → IsOk result) }
         ensures empty { OnSurvey self.now.image (λ w _.
-            blocks_told self.now.image (node_block w n) ≡ 0 → IsOk result) }
+            blocks_stated self.now.image (node_block w n) ≡ 0 → IsOk result) }
     {
         if !self.is_file(n) {
             return Ok(None);

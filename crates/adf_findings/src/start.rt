@@ -4,7 +4,7 @@ ghost use Rattle.std.specs.Prelude.{◌≡◌, IfErr, IfOk, false};
 ghost use Rattle.adf_volume.specs.Demands.{FirstFails, IsSize, boot_demands};
 ghost use Rattle.adf_findings.specs.Start.{boot_findings, root_findings, unread_findings};
 ghost use Rattle.adf_findings.specs.Survey.{BootTells, RootJudged, RootTells, UnreadTells, is_other_type};
-ghost use Rattle.adf_findings.specs.Survey.JudgementValue.{passed};
+ghost use Rattle.adf_findings.specs.Survey.JudgementValue.{skipped};
 
 use crate::image::Image;
 use adf_blocks::{Cause, has_root_type, read_root};
@@ -35,7 +35,7 @@ fn is_other_type(cause: Cause) -> bool
 
 // The cause of the boot block, if it is one of types 2 to 5; otherwise the only finding, at block 0.
 fn judge_boot(bytes: &[u8]) -> Result<Option<Cause>, Cause>
-    ensures told { IfOk result (λ boot. BootTells bytes.now (boot_findings boot)) }
+    ensures reported { IfOk result (λ boot. BootTells bytes.now (boot_findings boot)) }
     ensures fails { IfErr result (λ c. FirstFails (boot_demands bytes.now) 0 c) }
     ensures bad { IfErr result (λ c. is_other_type c ≡ false) }
 {
@@ -61,8 +61,8 @@ fn sized<'a>(bytes: &'a [u8]) -> Image<'a>
 
 // The cause of the root, if it has one; otherwise why it is not taken.
 fn judge_root(image: &Image<'_>) -> Result<Option<Unopened>, Unopened>
-    ensures told { IfOk result (λ root. RootTells image.now (root_findings root)) }
-    ensures passed { IfErr result (λ u. RootJudged image.now (passed u.block u.cause)) }
+    ensures reported { IfOk result (λ root. RootTells image.now (root_findings root)) }
+    ensures skipped { IfErr result (λ u. RootJudged image.now (skipped u.block u.cause)) }
 {
     let at = image.root();
     let root = image.block(at);

@@ -141,22 +141,22 @@ first_good kind' n' line BadSize h e f =
 first_good kind' n' line kind h e f = f
 
 -- the lines of a manifest begin with its volume line
-volume_first : (m : Manifest) → (rest : List (List ℕ)) × (manifest_lines m ≡ volume_line m.head.kind m.head.blocks ∷ rest)
-volume_first m = ((label_lines m.head.label ++ stamps_lines m.head.stamps) ++ flat_map item_lines (items_of m.entries), refl)
+volume_first : (m : Manifest) → (rest : List (List ℕ)) × (manifest_lines m ≡ volume_line m.preamble.kind m.preamble.blocks ∷ rest)
+volume_first m = ((label_lines m.preamble.label ++ stamps_lines m.preamble.stamps) ++ flat_map item_lines (items_of m.entries), refl)
 
 mixed : (all : List (List ℕ)) (text : List ℕ) (rest : List (List ℕ)) (kind : ManifestKind) (m : Manifest) (more : List (List ℕ)) → all ≡ text ∷ rest
     → IsFirstFault text kind → IsWell m → all ≡ manifest_lines m ++ more → ⊥
 unfolding volume_first
 mixed all text rest kind m more e f w g =
     let first = volume_first m in
-    first_good m.head.kind m.head.blocks text kind w.head.size (heads (sym e ∙ g)) f
+    first_good m.preamble.kind m.preamble.blocks text kind w.preamble.size (heads (sym e ∙ g)) f
 
 -- a manifest has no fault
 pub faultless : (m : Manifest) (all : List (List ℕ)) (number : ℕ) (kind : ManifestKind) → IsWell m → all ≡ manifest_lines m → HasFault all number kind → ⊥
 unfolding volume_first
 faultless m all number kind w e (inl f) =
     let first = volume_first m in
-    first_good m.head.kind m.head.blocks f.text kind w.head.size
+    first_good m.preamble.kind m.preamble.blocks f.text kind w.preamble.size
     (heads (sym f.lines ∙ e)) f.fault
 faultless m all number kind w e (inr f) = later_good f.before m f.text f.rest kind f.well w (sym e ∙ f.lines) f.fault
 

@@ -10,7 +10,7 @@ use Rattle.adf_tree.specs.Tree.{Tree, room_for}
 use Rattle.adf_fields.specs.declared.dates.Stamp.{Stamp}
 use Rattle.adf_manifest.specs.Lines.{IsRun, RunValue, note_line, run_line}
 use Rattle.adf_manifest.specs.Items.{HaveRoom, IsGivenNote, IsItem, Item, bytes_of_runs, item_lines, items_tree, run_bytes, with_item}
-use Rattle.adf_manifest.specs.Manifest.{Entries, IsWell, Manifest, manifest_head_lines, head_tree, items_of, manifest_lines, manifest_tree}
+use Rattle.adf_manifest.specs.Manifest.{Entries, IsWell, Manifest, preamble_lines, preamble_tree, items_of, manifest_lines, manifest_tree}
 use Rattle.adf_manifest.specs.declared.lines.Sort.{Sort}
 use Rattle.adf_manifest.specs.declared.lines.Sort.TheVariants.{Dir, File}
 use Rattle.adf_tree.proofs.Lists.{last_off}
@@ -54,22 +54,22 @@ with_run i run = record i { runs = i.runs ++ run ∷ [] }
 
 -- a manifest with an entry more, and one with another last entry
 abbrev pub with_new : Manifest → Item → Manifest
-with_new m i = record { head = m.head; entries = Some (record { before = items_of m.entries; last = i }) }
+with_new m i = record { preamble = m.preamble; entries = Some (record { before = items_of m.entries; last = i }) }
 
 abbrev pub with_last : Manifest → Entries → Item → Manifest
-with_last m e i = record { head = m.head; entries = Some (record { before = e.before; last = i }) }
+with_last m e i = record { preamble = m.preamble; entries = Some (record { before = e.before; last = i }) }
 
 lines_push : (items : List Item) (i : Item) → flat_map item_lines (items ++ i ∷ []) ≡ flat_map item_lines items ++ item_lines i
 lines_push items i = simp (flat_map-append, append-nil)
 
 pub new_lines : (m : Manifest) (i : Item) → manifest_lines (with_new m i) ≡ manifest_lines m ++ item_lines i
-new_lines m i = rw lines_push (sym (append_assoc (manifest_head_lines m.head) (flat_map item_lines (items_of m.entries)) (item_lines i)))
+new_lines m i = rw lines_push (sym (append_assoc (preamble_lines m.preamble) (flat_map item_lines (items_of m.entries)) (item_lines i)))
 
 pub new_well : (m : Manifest) (i : Item) → IsWell m → IsItem i → IsOk (room_for (manifest_tree m).entries i.path) → IsWell (with_new m i)
 new_well m i w g room = record {
-  head = w.head;
+  preamble = w.preamble;
   items = All-push IsItem (items_of m.entries) i w.items g;
-  room = room_more (head_tree m.head) (items_of m.entries) i w.room room;
+  room = room_more (preamble_tree m.preamble) (items_of m.entries) i w.room room;
 }
 
 last_split : (h : List (List ℕ)) (before : List Item) (last last' : Item) (text : List ℕ) → item_lines last' ≡ item_lines last ++ text ∷ []
@@ -78,12 +78,12 @@ last_split h before last last' text e = rw (lines_push before last', lines_push 
 
 pub last_lines : (m : Manifest) (e : Entries) (i : Item) (text : List ℕ) → m.entries ≡ Some e → item_lines i ≡ item_lines e.last ++ text ∷ []
     → manifest_lines (with_last m e i) ≡ manifest_lines m ++ text ∷ []
-last_lines m e i text is g = rw is (last_split (manifest_head_lines m.head) e.before e.last i text g)
+last_lines m e i text is g = rw is (last_split (preamble_lines m.preamble) e.before e.last i text g)
 
 -- the entries before the last, and the last
 pub well_before : (m : Manifest) (e : Entries) → IsWell m → m.entries ≡ Some e
-    → All IsItem (e.before ++ e.last ∷ []) × HaveRoom (head_tree m.head) (e.before ++ e.last ∷ [])
-well_before m e w is = (subst (λ x. All IsItem (items_of x)) is w.items, subst (λ x. HaveRoom (head_tree m.head) (items_of x)) is w.room)
+    → All IsItem (e.before ++ e.last ∷ []) × HaveRoom (preamble_tree m.preamble) (e.before ++ e.last ∷ [])
+well_before m e w is = (subst (λ x. All IsItem (items_of x)) is w.items, subst (λ x. HaveRoom (preamble_tree m.preamble) (items_of x)) is w.room)
 
 -- an entry with other lines behind its own
 pub item_with : (i : Item) (comment : Option (List ℕ)) (runs : List RunValue) → IsItem i → IfSome comment IsGivenNote → All IsRun runs
@@ -114,11 +114,12 @@ with_run_bytes i run = simp (flat_map-append, append-nil)
 pub last_well : (m : Manifest) (e : Entries) (i : Item) → IsWell m → m.entries ≡ Some e → IsItem i → i.path ≡ e.last.path → IsWell (with_last m e i)
 last_well m e i w is g same =
     let both = well_before m e w is in
-    let less = room_less (head_tree m.head) e.before e.last both.1 in
+    let less = room_less (preamble_tree m.preamble) e.before e.last both.1 in
     record {
-      head = w.head;
+      preamble = w.preamble;
       items = All-push IsItem e.before i (last_off IsItem e.before e.last both.0).0 g;
-      room = room_more (head_tree m.head) e.before i less.0 (subst (λ p. IsOk (room_for (items_tree (head_tree m.head) e.before).entries p)) (sym same)
+      room = room_more (preamble_tree m.preamble) e.before i less.0 (subst (λ p. IsOk (room_for (items_tree (preamble_tree m.preamble) e.before).entries p))
+          (sym same)
           less.1);
     }
 

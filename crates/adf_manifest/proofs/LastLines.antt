@@ -13,13 +13,13 @@ use Rattle.adf_tree.proofs.PathParts.{empty_path}
 use Rattle.adf_manifest.specs.Lines.{IsLine, IsRun, LineValue, LabelLine, StampsLine, EntryLine, NoteLine, RunLine, RunValue, line_text, run_line}
 use Rattle.adf_manifest.specs.Lines.{stamps_line, note_line}
 use Rattle.adf_manifest.specs.Items.{HaveRoom, IsGivenNote, IsItem, Item, items_tree}
-use Rattle.adf_manifest.specs.Manifest.{Entries, IsManifestHead, IsWell, Manifest, manifest_head_lines, head_tree, label_lines, items_of, manifest_lines}
+use Rattle.adf_manifest.specs.Manifest.{Entries, IsPreamble, IsWell, Manifest, preamble_lines, preamble_tree, label_lines, items_of, manifest_lines}
 use Rattle.adf_manifest.specs.Manifest.{manifest_tree, EndsInFile, IsBare, MayStand}
 use Rattle.adf_manifest.specs.Reader.{bare}
 use Rattle.adf_fields.specs.declared.dates.Stamp.{Stamp}
 use Rattle.adf_manifest.specs.declared.lines.Sort.{Sort}
 use Rattle.adf_manifest.specs.declared.lines.Sort.TheVariants.{Dir, File}
-use Rattle.adf_manifest.specs.declared.reader.Head.{Head}
+use Rattle.adf_manifest.specs.declared.reader.Preamble.{Preamble}
 use Rattle.adf_manifest.proofs.Forms.{of_three}
 use Rattle.adf_manifest.proofs.Growth.{with_run, with_run_lines, last_lines, new_item, new_lines, noted, noted_lines, room_less, well_before, with_last}
 use Rattle.adf_manifest.proofs.Growth.{with_new}
@@ -27,10 +27,10 @@ use Rattle.adf_manifest.proofs.Growth.{item_with, last_is, last_well}
 use Rattle.adf_manifest.proofs.StateLaws.{bare_lines, bare_well}
 use Rattle.adf_tree.proofs.Lists.{last_off}
 
-abbrev pub with_label : Head → List ℕ → Head
+abbrev pub with_label : Preamble → List ℕ → Preamble
 with_label h label = record h { label = Some label }
 
-abbrev pub with_stamps : Head → Stamps → Head
+abbrev pub with_stamps : Preamble → Stamps → Preamble
 with_stamps h stamps = record h { stamps = Some stamps }
 
 -- a label line adds the label that it tells
@@ -38,7 +38,7 @@ pub record AddsLabel (m : Manifest) (text : List ℕ) (n : Manifest) : Type 0 wh
   pub stands : MayStand m (LabelLine text)
   pub label : List ℕ
   pub spells : IsSpelling 30 text label
-  pub told : n ≡ bare (with_label m.head label)
+  pub told : n ≡ bare (with_label m.preamble label)
 
 -- an entry line adds an entry that has room
 pub record AddsEntry (m : Manifest) (sort : Sort) (stamp : Stamp) (protect : ℕ) (text : List ℕ) (n : Manifest) : Type 0 where
@@ -66,7 +66,7 @@ pub record AddsRun (m : Manifest) (run : RunValue) (n : Manifest) : Type 0 where
 -- a line stands behind those of a manifest without a fault, and this is told with it
 abbrev pub Adds : Manifest → LineValue → Manifest → Type 0
 Adds m (LabelLine text) n = AddsLabel m text n
-Adds m (StampsLine stamps) n = MayStand m (StampsLine stamps) × (n ≡ bare (with_stamps m.head stamps))
+Adds m (StampsLine stamps) n = MayStand m (StampsLine stamps) × (n ≡ bare (with_stamps m.preamble stamps))
 Adds m (EntryLine sort stamp protect text) n = AddsEntry m sort stamp protect text n
 Adds m (NoteLine text) n = AddsNote m text n
 Adds m (RunLine run) n = AddsRun m run n
@@ -74,8 +74,8 @@ Adds m (RunLine run) n = AddsRun m run n
 -- a manifest of one line
 pub record IsFirst (n : Manifest) : Type 0 where
   pub entries : n.entries ≡ None
-  pub label : n.head.label ≡ None
-  pub stamps : n.head.stamps ≡ None
+  pub label : n.preamble.label ≡ None
+  pub stamps : n.preamble.stamps ≡ None
 
 -- a manifest of the lines of the one before and a last line
 pub record IsNext (n : Manifest) : Type 0 where
@@ -103,16 +103,16 @@ filled : (l : List ℕ) → 0 < length l → 0 < length (escaped l)
 filled [] h = absurd (omega arith)
 filled (c ∷ cs) h = filled_list (escaped (c ∷ cs)) (spelling_some c (escaped cs))
 
-stamps_behind : (h : Head) (stamps : Stamps) → h.stamps ≡ None → manifest_head_lines (with_stamps h stamps) ≡ manifest_head_lines h ++ stamps_line stamps ∷ []
+stamps_behind : (h : Preamble) (stamps : Stamps) → h.stamps ≡ None → preamble_lines (with_stamps h stamps) ≡ preamble_lines h ++ stamps_line stamps ∷ []
 stamps_behind h stamps e =
     rw (e, append-nil (label_lines h.label))
 
-pub last_of_head : (kind : Kind) (blocks : ℕ) (label : Option (List ℕ)) (stamps : Option Stamps) → let h : Head =
-    record { kind = kind; blocks = blocks; label = label; stamps = stamps } in IsManifestHead h → IsFirst (bare h) ⊎ IsNext (bare h)
-last_of_head kind blocks None None g = inl (record { entries = refl; label = refl; stamps = refl })
-last_of_head kind blocks (Some label) None g =
-    let before : Head = record { kind = kind; blocks = blocks; label = None; stamps = None } in
-    let well : IsManifestHead before = record { size = g.size; label = tt; stamps = tt } in
+pub last_of_preamble : (kind : Kind) (blocks : ℕ) (label : Option (List ℕ)) (stamps : Option Stamps) → let h : Preamble =
+    record { kind = kind; blocks = blocks; label = label; stamps = stamps } in IsPreamble h → IsFirst (bare h) ⊎ IsNext (bare h)
+last_of_preamble kind blocks None None g = inl (record { entries = refl; label = refl; stamps = refl })
+last_of_preamble kind blocks (Some label) None g =
+    let before : Preamble = record { kind = kind; blocks = blocks; label = None; stamps = None } in
+    let well : IsPreamble before = record { size = g.size; label = tt; stamps = tt } in
     inr (record {
       before = bare before;
       last = LabelLine (escaped label);
@@ -121,10 +121,10 @@ last_of_head kind blocks (Some label) None g =
       adds = record { stands = (refl, refl, refl); label = label; spells = g.label.1; told = refl };
       lines = refl;
     })
-last_of_head kind blocks label (Some stamps) g =
-    let before : Head = record { kind = kind; blocks = blocks; label = label; stamps = None } in
-    let now : Head = record { kind = kind; blocks = blocks; label = label; stamps = Some stamps } in
-    let well : IsManifestHead before = record { size = g.size; label = g.label; stamps = tt } in
+last_of_preamble kind blocks label (Some stamps) g =
+    let before : Preamble = record { kind = kind; blocks = blocks; label = label; stamps = None } in
+    let now : Preamble = record { kind = kind; blocks = blocks; label = label; stamps = Some stamps } in
+    let well : IsPreamble before = record { size = g.size; label = g.label; stamps = tt } in
     inr (record {
       before = bare before;
       last = StampsLine stamps;
@@ -141,9 +141,10 @@ no_end (x ∷ xs) run e = cc
 -- a manifest by the parts of its entries
 entries_are : (m : Manifest) (e : Entries) (before : List Item) (comment : Option (List ℕ)) (runs : List RunValue) → m.entries ≡ Some e → e.before ≡ before
     → e.last.note ≡ comment → e.last.runs ≡ runs
-    → let n : Manifest = record { head = m.head; entries = Some (record { before = before; last = record e.last { note = comment; runs = runs } }) } in m ≡ n
+    → let n : Manifest = record { preamble = m.preamble; entries = Some (record { before = before; last = record e.last { note = comment; runs = runs } }) }
+    in m ≡ n
 entries_are m e before comment runs is b n r =
-    let by_entries : Option Entries → Manifest = λ x. record { head = m.head; entries = x } in
+    let by_entries : Option Entries → Manifest = λ x. record { preamble = m.preamble; entries = x } in
     let by_parts : List Item → Option (List ℕ) → List RunValue → Manifest =
     λ b n r. by_entries (Some (record { before = b; last = record e.last { note = n; runs = r } })) in
     ap by_entries is ∙ of_three by_parts b n r
@@ -167,7 +168,7 @@ last_run m e runs run w is r =
     let less = less_is e.last run runs item r file in
     let i : Item = record e.last { runs = runs } in
     let before : Entries = record { before = e.before; last = i } in
-    let k : Manifest = record { head = m.head; entries = Some before } in
+    let k : Manifest = record { preamble = m.preamble; entries = Some before } in
     let same : m ≡ with_last k before (with_run i run) = entries_are m e e.before e.last.note (runs ++ run ∷ []) is refl refl r in
     record {
       before = k;
@@ -189,7 +190,7 @@ last_note m e note w is r n =
     let i : Item = record e.last { note = None } in
     let bare : IsItem i = item_with e.last None e.last.runs g tt g.runs g.plain in
     let before : Entries = record { before = e.before; last = i } in
-    let k : Manifest = record { head = m.head; entries = Some before } in
+    let k : Manifest = record { preamble = m.preamble; entries = Some before } in
     let same : m ≡ with_last k before (noted i note) = entries_are m e e.before (Some note) e.last.runs is refl n refl in
     record {
       before = k;
@@ -209,11 +210,11 @@ last_entry m e es b w is r n =
     let both = well_before m e w is in
     let items = last_off IsItem e.before e.last both.0 in
     let item : IsItem e.last = items.1 in
-    let k : Manifest = record { head = m.head; entries = es } in
-    let t = head_tree m.head in
+    let k : Manifest = record { preamble = m.preamble; entries = es } in
+    let t = preamble_tree m.preamble in
     let room = room_less t e.before e.last both.1 in
     let well : IsWell k = record {
-      head = w.head;
+      preamble = w.preamble;
       items = subst (All IsItem) b items.0;
       room = subst (HaveRoom t) b room.0;
     } in
@@ -241,8 +242,9 @@ bare_entry m e None w is r n =
 
 by_entries : (n : Manifest) (o : Option Entries) → IsWell n → n.entries ≡ o → IsFirst n ⊎ IsNext n
 by_entries n None w is =
-    let by : Option Entries → Manifest = λ x. record { head = n.head; entries = x } in
-    subst (λ (x : Manifest). IsFirst x ⊎ IsNext x) (sym (ap by is)) (last_of_head n.head.kind n.head.blocks n.head.label n.head.stamps w.head)
+    let by : Option Entries → Manifest = λ x. record { preamble = n.preamble; entries = x } in
+    subst (λ (x : Manifest). IsFirst x ⊎ IsNext x) (sym (ap by is)) (last_of_preamble n.preamble.kind n.preamble.blocks n.preamble.label n.preamble.stamps
+    w.preamble)
 by_entries n (Some e) w is =
     elim (ends e.last.runs) [
       | inl r ↦ inr (bare_entry n e e.last.note w is r refl)

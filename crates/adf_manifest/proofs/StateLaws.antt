@@ -14,13 +14,13 @@ use Rattle.adf_tree.specs.Tree.{Tree, room_for, with_entry}
 use Rattle.adf_tree.specs.declared.entry.Body.{Body}
 use Rattle.adf_manifest.specs.Lines.{EntryLine, IsLine, IsRun, RunValue, DataRun, FillRun, entry_line, note_line, run_line, LineValue}
 use Rattle.adf_manifest.specs.Items.{IsItem, Item, body_of_sort, bytes_of_runs, run_bytes, with_item}
-use Rattle.adf_manifest.specs.Manifest.{Entries, IsManifestHead, IsWell, Manifest, MayStand, manifest_head_lines, head_tree, items_of, manifest_lines}
+use Rattle.adf_manifest.specs.Manifest.{Entries, IsPreamble, IsWell, Manifest, MayStand, preamble_lines, preamble_tree, items_of, manifest_lines}
 use Rattle.adf_manifest.specs.Manifest.{manifest_tree, ExplainsKind, lines, most_bytes}
-use Rattle.adf_manifest.specs.Reader.{GoesOn, IsOpen, IsReading, Stops, StopsIn, bare, ExplainsLines}
+use Rattle.adf_manifest.specs.Reader.{GoesOn, IsLastEntry, IsReading, Stops, StopsIn, bare, ExplainsLines}
 use Rattle.adf_manifest.specs.declared.lines.Sort.{Sort}
 use Rattle.adf_manifest.specs.declared.lines.Sort.TheVariants.{File}
-use Rattle.adf_manifest.specs.declared.reader.Head.{Head}
-use Rattle.adf_manifest.specs.declared.reader.Open.{Open}
+use Rattle.adf_manifest.specs.declared.reader.Preamble.{Preamble}
+use Rattle.adf_manifest.specs.declared.reader.LastEntry.{LastEntry}
 use Rattle.adf_manifest.specs.declared.reader.Reading.{Reading}
 use Rattle.adf_manifest.specs.declared.reader.State.TheVariants as state
 use Rattle.adf_manifest.specs.declared.manifest.ManifestKind.{ManifestKind}
@@ -33,16 +33,16 @@ pub if_ok_weaker : {T E : Type 0} {P Q : T → Type 0} (r : Result T E) → ((x 
 if_ok_weaker (Ok x) f p = f x p
 if_ok_weaker (Err e) f p = tt
 
-pub bare_well : (h : Head) → IsManifestHead h → IsWell (bare h)
-bare_well h g = record { head = g; items = All-nil IsItem; room = room_none (head_tree h) }
+pub bare_well : (h : Preamble) → IsPreamble h → IsWell (bare h)
+bare_well h g = record { preamble = g; items = All-nil IsItem; room = room_none (preamble_tree h) }
 
-pub bare_lines : (h : Head) → manifest_lines (bare h) ≡ manifest_head_lines h
-bare_lines h = append-nil (manifest_head_lines h)
+pub bare_lines : (h : Preamble) → manifest_lines (bare h) ≡ preamble_lines h
+bare_lines h = append-nil (preamble_lines h)
 
--- a head goes on with a line of its own
-pub head_step : (h h' : Head) (text : List ℕ) → IsManifestHead h' → manifest_head_lines h' ≡ manifest_head_lines h ++ text ∷ []
-    → GoesOn (state.Head h') (bare h) text
-head_step h h' text g e = (bare h', bare_well h' g, refl, bare_lines h' ∙ e ∙ ap (λ l. l ++ text ∷ []) (sym (bare_lines h)))
+-- a preamble goes on with a line of its own
+pub preamble_step : (h h' : Preamble) (text : List ℕ) → IsPreamble h' → preamble_lines h' ≡ preamble_lines h ++ text ∷ []
+    → GoesOn (state.Preamble h') (bare h) text
+preamble_step h h' text g e = (bare h', bare_well h' g, refl, bare_lines h' ∙ e ∙ ap (λ l. l ++ text ∷ []) (sym (bare_lines h)))
 
 filled_list : (xs : List ℕ) → 0 < length (escaped xs) → 0 < length xs
 filled_list [] h = absurd (omega arith)
@@ -66,8 +66,8 @@ no_runs [] h e = refl
 no_runs (r ∷ rs) h e = absurd (omega (arith, run_some r (All-head IsRun r rs h), length-append (run_bytes r) (bytes_of_runs rs), e))
 
 -- behind an entry line
-pub entry_step : (m : Manifest) (blocks : ℕ) (draft : DraftValue) (last : Open) (sort : Sort) (stamp : Stamp) (protect : ℕ) (text : List ℕ)
-    (path : List (List ℕ)) → IsWell m → blocks ≡ m.head.blocks → draft.tree ≡ manifest_tree m → IsLine (EntryLine sort stamp protect text)
+pub entry_step : (m : Manifest) (blocks : ℕ) (draft : DraftValue) (last : LastEntry) (sort : Sort) (stamp : Stamp) (protect : ℕ) (text : List ℕ)
+    (path : List (List ℕ)) → IsWell m → blocks ≡ m.preamble.blocks → draft.tree ≡ manifest_tree m → IsLine (EntryLine sort stamp protect text)
     → IsPathText text path → IsRoomFor draft path last.room → last.sort ≡ sort → last.stamp ≡ stamp → last.protect ≡ protect
     → last.note ≡ None → last.bytes.items ≡ []
     → GoesOn (state.Entries (record { blocks = blocks; draft = draft; last = last })) m (entry_line sort stamp protect text)
@@ -82,7 +82,7 @@ entry_step m blocks draft last sort stamp protect text path w b t l p room e1 e2
       runs = All-nil IsRun;
       plain = λ d. refl;
     } in
-    let same : IsOpen last item = record { sort = e1; stamp = e2; protect = e3; note = e4; bytes = e5 } in
+    let same : IsLastEntry last item = record { sort = e1; stamp = e2; protect = e3; note = e4; bytes = e5 } in
     let some : IsOk (room_for draft.tree.entries path) = rw room.leads refl in
     let entries : Entries = record { before = items_of m.entries; last = item } in (
       with_new m item,
@@ -91,16 +91,16 @@ entry_step m blocks draft last sort stamp protect text path w b t l p room e1 e2
       rw p.spells (new_lines m item),
     )
 
-reading_with : (r : Reading) (last : Open) (m : Manifest) (e : Entries) (i : Item) → IsReading r m e → IsOpen last i → last.room ≡ r.last.room
+reading_with : (r : Reading) (last : LastEntry) (m : Manifest) (e : Entries) (i : Item) → IsReading r m e → IsLastEntry last i → last.room ≡ r.last.room
     → i.path ≡ e.last.path
     → let n : Manifest = with_last m e i in let s : Entries = record { before = e.before; last = i } in let q : Reading =
     record { blocks = r.blocks; draft = r.draft; last = last } in IsReading q n s
 reading_with r last m e i g o at same = record { entries = refl; blocks = g.blocks; tree = g.tree; last = o; room = rw (at, same) g.room }
 
 -- behind a note line
-pub note_step : (r : Reading) (last : Open) (m : Manifest) (e : Entries) (text note : List ℕ) → IsWell m → IsReading r m e → r.last.note ≡ None
+pub note_step : (r : Reading) (last : LastEntry) (m : Manifest) (e : Entries) (text note : List ℕ) → IsWell m → IsReading r m e → r.last.note ≡ None
     → length r.last.bytes.items ≡ 0
-    → 0 < length text → IsSpelling 79 text note → IsOpen last (noted e.last note) → last.room ≡ r.last.room
+    → 0 < length text → IsSpelling 79 text note → IsLastEntry last (noted e.last note) → last.room ≡ r.last.room
     → GoesOn (state.Entries (record { blocks = r.blocks; draft = r.draft; last = last })) m (note_line text)
 note_step r last m e text note w g n b filled spelling o at =
     let is = last_is m e w g.entries in
@@ -116,8 +116,8 @@ note_step r last m e text note w g n b filled spelling o at =
     )
 
 -- behind a line of bytes
-pub run_step : (r : Reading) (last : Open) (m : Manifest) (e : Entries) (run : RunValue) → IsWell m → IsReading r m e → r.last.sort ≡ File → IsRun run
-    → IsOpen last (with_run e.last run) → last.room ≡ r.last.room
+pub run_step : (r : Reading) (last : LastEntry) (m : Manifest) (e : Entries) (run : RunValue) → IsWell m → IsReading r m e → r.last.sort ≡ File → IsRun run
+    → IsLastEntry last (with_run e.last run) → last.room ≡ r.last.room
     → GoesOn (state.Entries (record { blocks = r.blocks; draft = r.draft; last = last })) m (run_line run)
 run_step r last m e run w g f h o at =
     let item = with_run e.last run in (
@@ -132,8 +132,8 @@ pub closed_tree : (r : Reading) (m : Manifest) (e : Entries) (tree : Tree) → I
 closed_tree r m e tree g h =
     rw (h, g.tree, g.entries, tree_more)
 
-pub bare_tree : (h : Head) (tree : Tree) → tree ≡ head_tree h → tree ≡ manifest_tree (bare h)
-bare_tree h tree e = e ∙ sym (tree_none (head_tree h))
+pub bare_tree : (h : Preamble) (tree : Tree) → tree ≡ preamble_tree h → tree ≡ manifest_tree (bare h)
+bare_tree h tree e = e ∙ sym (tree_none (preamble_tree h))
 
 -- a line that may stand stops the reader by its fault
 pub stops : (m : Manifest) (line : LineValue) (kind : ManifestKind) → MayStand m line → StopsIn (manifest_tree m) line kind → Stops m line kind
@@ -145,7 +145,7 @@ is_none None h = refl
 is_none (Some x) h = absurd cc
 
 -- an entry whose lines are all read is added as its item
-pub closed_is : (t : Tree) (o : Open) (i : Item) (comment : List ℕ) (body : Body) → IsOpen o i
+pub closed_is : (t : Tree) (o : LastEntry) (i : Item) (comment : List ℕ) (body : Body) → IsLastEntry o i
     → comment ≡ unwrap_or o.note [] → body ≡ body_of_sort o.sort o.bytes.items
     → with_entry t i.path (new_meta comment o.protect o.stamp) body ≡ with_item t i
 closed_is t o i comment body g e2 e3 =

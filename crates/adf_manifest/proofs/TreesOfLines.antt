@@ -6,7 +6,7 @@ use Rattle.adf_tree.specs.Tree.{Tree}
 use Rattle.adf_tree.proofs.TreeOfAdditions.{grown, nothing_added}
 use Rattle.adf_tree.proofs.OneTreeOfAdditions.{one_tree}
 use Rattle.adf_manifest.specs.Items.{HaveRoom, Item, addition_of, items_tree, with_item}
-use Rattle.adf_manifest.specs.Manifest.{IsTreeOfManifest, IsWell, Manifest, head_tree, items_of, manifest_tree}
+use Rattle.adf_manifest.specs.Manifest.{IsTreeOfManifest, IsWell, Manifest, preamble_tree, items_of, manifest_tree}
 
 -- a tree without its entries is as it was before some were added
 bare_tree : (t : Tree) (items : List Item) → record (items_tree t items) { entries = [] } ≡ record t { entries = [] }
@@ -26,8 +26,8 @@ grown_by t before (i ∷ items) h room =
 
 pub adding_lines : (m : Manifest) → IsWell m → IsTreeOfManifest (manifest_tree m) m
 adding_lines m w = record {
-  head = bare_tree (head_tree m.head) (items_of m.entries);
-  entries = grown_by (head_tree m.head) [] (items_of m.entries) nothing_added w.room;
+  preamble = bare_tree (preamble_tree m.preamble) (items_of m.entries);
+  entries = grown_by (preamble_tree m.preamble) [] (items_of m.entries) nothing_added w.room;
 }
 
 -- a manifest has one tree
@@ -35,7 +35,7 @@ of_parts : (t u : Tree) → record t { entries = [] } ≡ record u { entries = [
 of_parts t u e g = ap (λ (v : Tree). record v { entries = t.entries }) e ∙ ap (λ es. record u { entries = es }) g
 
 pub one_tree_of : (m : Manifest) (t u : Tree) → IsTreeOfManifest t m → IsTreeOfManifest u m → t ≡ u
-one_tree_of m t u g h = of_parts t u (g.head ∙ sym h.head) (one_tree t.entries u.entries (map addition_of (items_of m.entries)) g.entries h.entries)
+one_tree_of m t u g h = of_parts t u (g.preamble ∙ sym h.preamble) (one_tree t.entries u.entries (map addition_of (items_of m.entries)) g.entries h.entries)
 
 -- what is read as the tree that adding gives is the tree of the manifest
 pub added_tree : (m : Manifest) (t : Tree) → IsWell m → t ≡ manifest_tree m → IsTreeOfManifest t m

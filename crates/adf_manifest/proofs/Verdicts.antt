@@ -15,7 +15,7 @@ use Rattle.adf_blocks.specs.Sizes.{is_allowed}
 use Rattle.adf_manifest.specs.Lines.{LineValue, LabelLine, StampsLine, EntryLine, NoteLine, RunLine, line_text, volume_line}
 use Rattle.adf_manifest.specs.Manifest.{Entries, IsWell, Manifest, manifest_lines}
 use Rattle.adf_manifest.specs.Reader.{bare}
-use Rattle.adf_manifest.specs.declared.reader.Head.{Head}
+use Rattle.adf_manifest.specs.declared.reader.Preamble.{Preamble}
 use Rattle.adf_manifest.proofs.Forms.{line_same}
 use Rattle.adf_manifest.proofs.LastLines.{Adds, IsFirst, IsNext, last_line}
 
@@ -54,22 +54,24 @@ one_adds m n n' (NoteLine text) g h =
 one_adds m n n' (RunLine run) g h = rw (g.told, one_entries m.entries g.some h.some g.entries h.entries, h.told)
 
 -- a manifest of one line
-pub first_lines : (n : Manifest) → IsFirst n → manifest_lines n ≡ volume_line n.head.kind n.head.blocks ∷ []
+pub first_lines : (n : Manifest) → IsFirst n → manifest_lines n ≡ volume_line n.preamble.kind n.preamble.blocks ∷ []
 first_lines n f =
     rw (f.entries, f.label, f.stamps)
 
-first_is : (n : Manifest) → IsFirst n → let h : Head = record { kind = n.head.kind; blocks = n.head.blocks; label = None; stamps = None } in n ≡ bare h
+first_is : (n : Manifest) → IsFirst n → let h : Preamble = record { kind = n.preamble.kind; blocks = n.preamble.blocks; label = None; stamps = None } in n ≡
+    bare h
 first_is n f =
     let by : Option (List ℕ) → Option Stamps → Option Entries → Manifest =
-    λ l s e. record { head = record { kind = n.head.kind; blocks = n.head.blocks; label = l; stamps = s }; entries = e } in
-    ap (λ e. by n.head.label n.head.stamps e) f.entries ∙ ap (λ l. by l n.head.stamps None) f.label ∙ ap (λ s. by None s None) f.stamps
+    λ l s e. record { preamble = record { kind = n.preamble.kind; blocks = n.preamble.blocks; label = l; stamps = s }; entries = e } in
+    ap (λ e. by n.preamble.label n.preamble.stamps e) f.entries ∙ ap (λ l. by l n.preamble.stamps None) f.label ∙ ap (λ s. by None s None) f.stamps
 
 same_first : (m n : Manifest) → IsWell m → IsWell n → IsFirst m → IsFirst n → manifest_lines m ≡ manifest_lines n → m ≡ n
 same_first m n w v f g e =
     let line = heads (sym (first_lines m f) ∙ e ∙ first_lines n g) in
     let by : Kind → ℕ → Manifest = λ k b. bare (record { kind = k; blocks = b; label = None; stamps = None }) in
-    let same = one_volume m.head.kind n.head.kind m.head.blocks n.head.blocks (small m.head.blocks w.head.size) (small n.head.blocks v.head.size) line in
-    first_is m f ∙ ap (λ k. by k m.head.blocks) same.0 ∙ ap (λ b. by n.head.kind b) same.1 ∙ sym (first_is n g)
+    let same = one_volume m.preamble.kind n.preamble.kind m.preamble.blocks n.preamble.blocks (small m.preamble.blocks w.preamble.size)
+    (small n.preamble.blocks v.preamble.size) line in
+    first_is m f ∙ ap (λ k. by k m.preamble.blocks) same.0 ∙ ap (λ b. by n.preamble.kind b) same.1 ∙ sym (first_is n g)
 
 pub some_lines : (m : Manifest) → 0 < length (manifest_lines m)
 some_lines m = omega arith

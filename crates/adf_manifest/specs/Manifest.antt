@@ -1,4 +1,4 @@
--- Manifests: the lines of their heads and entries, their content, and the first line with a fault.
+-- Manifests: the lines of their preambles and entries, their content, and the first line with a fault.
 use Rattle.std.specs.Prelude.{◌≡◌, ◌+◌, ◌-◌, ◌<◌, ◌≤◌, ◌^◌, ◌==◌, ◌&&◌, ◌⊎◌, nat_lt, ℕ, true, false, List, [], ◌∷◌, ◌++◌, length, take, slice_index}
 use Rattle.std.specs.Prelude.{if◌then◌else◌, map, Option, Some, None, IfSome, All, Err}
 use Rattle.std.specs.List.{slice_split, flat_map}
@@ -17,7 +17,7 @@ use Rattle.adf_manifest.specs.Lines.{IsLine, IsVolumeLine, LineValue, LabelLine,
 use Rattle.adf_manifest.specs.Lines.{volume_line}
 use Rattle.adf_manifest.specs.Items.{HaveRoom, IsItem, Item, addition_of, item_lines, items_tree}
 use Rattle.adf_manifest.specs.declared.lines.Sort.TheVariants.{File}
-use Rattle.adf_manifest.specs.declared.reader.Head.{Head}
+use Rattle.adf_manifest.specs.declared.reader.Preamble.{Preamble}
 use Rattle.adf_manifest.specs.declared.manifest.ManifestFault.{ManifestFault}
 use Rattle.adf_manifest.specs.declared.manifest.TheConstants.{MOST_BYTES}
 use Rattle.adf_manifest.specs.declared.manifest.ManifestKind.{ManifestKind}
@@ -54,16 +54,16 @@ abbrev pub stamps_lines : Option Stamps → List (List ℕ)
 stamps_lines None = []
 stamps_lines (Some stamps) = stamps_line stamps ∷ []
 
--- the lines of a head: the volume, then the label, then the stamps
-abbrev pub manifest_head_lines : Head → List (List ℕ)
-manifest_head_lines h = volume_line h.kind h.blocks ∷ (label_lines h.label ++ stamps_lines h.stamps)
+-- the lines of a preamble: the volume, then the label, then the stamps
+abbrev pub preamble_lines : Preamble → List (List ℕ)
+preamble_lines h = volume_line h.kind h.blocks ∷ (label_lines h.label ++ stamps_lines h.stamps)
 
 -- a label from a line: 1 to 30 bytes
 abbrev pub IsGivenLabel : List ℕ → Type 0
 IsGivenLabel label = (0 < length label) × IsSpelling 30 (escaped label) label
 
--- the fields of a head are within their limits
-pub record IsManifestHead (h : Head) : Type 0 where
+-- the fields of a preamble are within their limits
+pub record IsPreamble (h : Preamble) : Type 0 where
   pub size : is_allowed h.blocks ≡ true
   pub label : IfSome h.label IsGivenLabel
   pub stamps : IfSome h.stamps AreStamps
@@ -76,9 +76,9 @@ no_stamps = record {
   created = record { days = 0; mins = 0; ticks = 0 };
 }
 
--- the tree of a head: without a label line the label is empty, without a stamps line all dates are 0
-abbrev pub head_tree : Head → Tree
-head_tree h = record { kind = h.kind; label = unwrap_or h.label []; stamps = unwrap_or h.stamps no_stamps; entries = [] }
+-- the tree of a preamble: without a label line the label is empty, without a stamps line all dates are 0
+abbrev pub preamble_tree : Preamble → Tree
+preamble_tree h = record { kind = h.kind; label = unwrap_or h.label []; stamps = unwrap_or h.stamps no_stamps; entries = [] }
 
 -- the entries of a manifest that has any: those before the last, and the last
 pub record Entries : Type 0 where
@@ -87,7 +87,7 @@ pub record Entries : Type 0 where
 
 -- the content of a manifest
 pub record Manifest : Type 0 where
-  pub head : Head
+  pub preamble : Preamble
   pub entries : Option Entries
 
 -- all entries, including the last
@@ -95,30 +95,30 @@ abbrev pub items_of : Option Entries → List Item
 items_of None = []
 items_of (Some e) = e.before ++ e.last ∷ []
 
--- the lines of a manifest: those of its head, and those of its entries
+-- the lines of a manifest: those of its preamble, and those of its entries
 abbrev pub manifest_lines : Manifest → List (List ℕ)
-manifest_lines m = manifest_head_lines m.head ++ flat_map item_lines (items_of m.entries)
+manifest_lines m = preamble_lines m.preamble ++ flat_map item_lines (items_of m.entries)
 
 -- the tree after the entries are added one after another
 abbrev pub manifest_tree : Manifest → Tree
-manifest_tree m = items_tree (head_tree m.head) (items_of m.entries)
+manifest_tree m = items_tree (preamble_tree m.preamble) (items_of m.entries)
 
 -- the content is within its limits, and each entry has room in the tree of those before it
 pub record IsWell (m : Manifest) : Type 0 where
-  pub head : IsManifestHead m.head
+  pub preamble : IsPreamble m.preamble
   pub items : All IsItem (items_of m.entries)
-  pub room : HaveRoom (head_tree m.head) (items_of m.entries)
+  pub room : HaveRoom (preamble_tree m.preamble) (items_of m.entries)
 
--- the tree of a manifest: it has the kind, the label and the dates of the head; its entries have the paths of the
+-- the tree of a manifest: it has the kind, the label and the dates of the preamble; its entries have the paths of the
 -- entry lines and no others, and each chain has its entries in the order of the lines
 pub record IsTreeOfManifest (tree : Tree) (m : Manifest) : Type 0 where
-  pub head : record tree { entries = [] } ≡ head_tree m.head
+  pub preamble : record tree { entries = [] } ≡ preamble_tree m.preamble
   pub entries : IsTreeOf tree.entries (map addition_of (items_of m.entries))
 
 -- the bytes are a manifest of this tree and this number of blocks
 abbrev pub IsManifest : List ℕ → Tree → ℕ → Type 0
 IsManifest bytes tree n =
-    (length bytes ≤ most_bytes) × ((m : Manifest) × IsWell m × (lines bytes ≡ manifest_lines m) × IsTreeOfManifest tree m × (n ≡ m.head.blocks))
+    (length bytes ≤ most_bytes) × ((m : Manifest) × IsWell m × (lines bytes ≡ manifest_lines m) × IsTreeOfManifest tree m × (n ≡ m.preamble.blocks))
 
 -- the last entry has neither a note nor bytes; it is a file
 abbrev pub IsBare : Option Entries → Type 0
@@ -134,8 +134,8 @@ EndsInFile (Some e) = e.last.sort ≡ File
 -- if there are no stamps or entries, an entry line always, a note line directly after an entry line,
 -- a data or fill line in a file
 abbrev pub MayStand : Manifest → LineValue → Type 0
-MayStand m (LabelLine text) = (m.entries ≡ None) × (m.head.label ≡ None) × (m.head.stamps ≡ None)
-MayStand m (StampsLine stamps) = (m.entries ≡ None) × (m.head.stamps ≡ None)
+MayStand m (LabelLine text) = (m.entries ≡ None) × (m.preamble.label ≡ None) × (m.preamble.stamps ≡ None)
+MayStand m (StampsLine stamps) = (m.entries ≡ None) × (m.preamble.stamps ≡ None)
 MayStand m (EntryLine sort stamp protect path) = Unit {0}
 MayStand m (NoteLine text) = IsBare m.entries
 MayStand m (RunLine run) = EndsInFile m.entries

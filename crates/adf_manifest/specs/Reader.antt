@@ -4,17 +4,18 @@ use Rattle.adf_tree.specs.Draft.{IsRoomFor}
 use Rattle.adf_tree.specs.Tree.{Tree}
 use Rattle.adf_manifest.specs.Lines.{LineValue}
 use Rattle.adf_manifest.specs.Items.{Item, bytes_of_runs, items_tree}
-use Rattle.adf_manifest.specs.Manifest.{Entries, HasFault, IsFaultOf, IsLaterFault, IsWell, Manifest, MayStand, MayTakeMemory, TakesMemory, head_tree, manifest_lines, manifest_tree}
+use Rattle.adf_manifest.specs.Manifest.{Entries, HasFault, IsFaultOf, IsLaterFault, IsWell, Manifest, MayStand, MayTakeMemory, TakesMemory}
+use Rattle.adf_manifest.specs.Manifest.{preamble_tree, manifest_lines, manifest_tree}
 use Rattle.adf_manifest.specs.declared.manifest.ManifestKind.{ManifestKind}
 use Rattle.adf_manifest.specs.declared.manifest.ManifestKind.TheVariants.{BadLine, NoMemory}
-use Rattle.adf_manifest.specs.declared.reader.Head.{Head}
-use Rattle.adf_manifest.specs.declared.reader.Open.{Open}
+use Rattle.adf_manifest.specs.declared.reader.Preamble.{Preamble}
+use Rattle.adf_manifest.specs.declared.reader.LastEntry.{LastEntry}
 use Rattle.adf_manifest.specs.declared.reader.Reading.{Reading}
 use Rattle.adf_manifest.specs.declared.reader.State.{State}
 use Rattle.adf_manifest.specs.declared.reader.State.TheVariants as state
 
 -- the entry under construction is this item so far
-pub record IsOpen (o : Open) (i : Item) : Type 0 where
+pub record IsLastEntry (o : LastEntry) (i : Item) : Type 0 where
   pub sort : o.sort ≡ i.sort
   pub stamp : o.stamp ≡ i.stamp
   pub protect : o.protect ≡ i.protect
@@ -24,18 +25,18 @@ pub record IsOpen (o : Open) (i : Item) : Type 0 where
 -- after an entry line: the tree of the entries before the last, and the last, which has room in it
 pub record IsReading (r : Reading) (m : Manifest) (e : Entries) : Type 0 where
   pub entries : m.entries ≡ Some e
-  pub blocks : r.blocks ≡ m.head.blocks
-  pub tree : r.draft.tree ≡ items_tree (head_tree m.head) e.before
-  pub last : IsOpen r.last e.last
+  pub blocks : r.blocks ≡ m.preamble.blocks
+  pub tree : r.draft.tree ≡ items_tree (preamble_tree m.preamble) e.before
+  pub last : IsLastEntry r.last e.last
   pub room : IsRoomFor r.draft e.last.path r.last.room
 
--- the manifest of a head alone
-abbrev pub bare : Head → Manifest
-bare h = record { head = h; entries = None }
+-- the manifest of a preamble alone
+abbrev pub bare : Preamble → Manifest
+bare h = record { preamble = h; entries = None }
 
 -- the state is that of this manifest
 abbrev pub StateMatches : State → Manifest → Type 0
-StateMatches (state.Head h) m = m ≡ bare h
+StateMatches (state.Preamble h) m = m ≡ bare h
 StateMatches (state.Entries r) m = (e : Entries) × IsReading r m e
 
 -- the state is that of this manifest and one more line

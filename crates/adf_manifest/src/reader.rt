@@ -7,8 +7,8 @@ ghost use Rattle.adf_tree.specs.Draft.{IsRoomFor};
 ghost use Rattle.adf_tree.specs.Bounds.{AreStamps};
 ghost use Rattle.adf_manifest.specs.Lines.{IsLine, IsRun, IsVolumeLine, LabelLine, NoteLine, RunLine, StampsLine, entry_value, label_line, line_text, line_value, run_value, stamps_line, volume_line};
 ghost use Rattle.adf_manifest.specs.Items.{Item, body_of_sort, run_bytes, with_item};
-ghost use Rattle.adf_manifest.specs.Manifest.{Entries, HasBadText, IsFirstFault, IsManifestHead, IsLaterFault, IsWell, Manifest, manifest_head_lines, head_tree, manifest_lines, manifest_tree};
-ghost use Rattle.adf_manifest.specs.Reader.{GoesOn, IsOpen, IsReading, StopsIn, Stops, StopsAt, StateMatches, bare};
+ghost use Rattle.adf_manifest.specs.Manifest.{Entries, HasBadText, IsFirstFault, IsPreamble, IsLaterFault, IsWell, Manifest, preamble_lines, preamble_tree, manifest_lines, manifest_tree};
+ghost use Rattle.adf_manifest.specs.Reader.{GoesOn, IsLastEntry, IsReading, StopsIn, Stops, StopsAt, StateMatches, bare};
 
 use crate::lines::{EntryText, Line, Run, Sort, line_of};
 use crate::manifest::ManifestKind;
@@ -30,14 +30,14 @@ const NO_STAMP: Stamp = Stamp {
 
 /// The content of the lines before the entries.
 #[derive(Drop)]
-pub struct Head {
+pub struct Preamble {
     pub kind: Kind,
     pub blocks: u32,
     pub label: Option<Label>,
     pub stamps: Option<Stamps>,
 }
 
-const NO_HEAD: Head = Head {
+const NO_PREAMBLE: Preamble = Preamble {
     kind: Kind::Ofs,
     blocks: 0,
     label: None,
@@ -46,7 +46,7 @@ const NO_HEAD: Head = Head {
 
 /// The content of the lines of an entry so far, with the room of its path.
 #[derive(Drop)]
-pub struct Open {
+pub struct LastEntry {
     pub sort: Sort,
     pub stamp: Stamp,
     pub protect: u32,
@@ -60,13 +60,13 @@ pub struct Open {
 pub struct Reading {
     pub blocks: u32,
     pub draft: Draft,
-    pub last: Open,
+    pub last: LastEntry,
 }
 
 /// The content of the lines so far.
 #[derive(Drop)]
 pub enum State {
-    Head(Head),
+    Preamble(Preamble),
     Entries(Reading),
 }
 
@@ -85,9 +85,9 @@ fn volume_of(line: &[u8]) -> Option<(Kind, u32)>
 }
 
 // Reads the first line.
-fn read_volume(line: &[u8]) -> Result<Head, ManifestKind>
-    ensures head { IfOk result IsManifestHead }
-    ensures lines { IfOk result (λ h. manifest_head_lines h ≡ line.now ∷ []) }
+fn read_volume(line: &[u8]) -> Result<Preamble, ManifestKind>
+    ensures preamble { IfOk result IsPreamble }
+    ensures lines { IfOk result (λ h. preamble_lines h ≡ line.now ∷ []) }
     ensures fault { IfErr result (λ kind. IsFirstFault line.now kind) }
 {
     let Some((kind, blocks)) = volume_of(line) else {
@@ -96,7 +96,7 @@ fn read_volume(line: &[u8]) -> Result<Head, ManifestKind>
     if !is_allowed_size(blocks) {
         return Err(ManifestKind::BadSize);
     }
-    Ok(Head {
+    Ok(Preamble {
         kind,
         blocks,
         label: None,
@@ -104,19 +104,19 @@ fn read_volume(line: &[u8]) -> Result<Head, ManifestKind>
     })
 }
 
-// The head with a label, from the text of its line.
-fn with_label(head: Head, text: &[u8]) -> Result<Head, ManifestKind>
+// The preamble with a label, from the text of its line.
+fn with_label(preamble: Preamble, text: &[u8]) -> Result<Preamble, ManifestKind>
     requires filled { 0 < length text.now }
-    requires place { (head.label ≡ None) × (head.stamps ≡ None) }
-    ensures head { IsManifestHead head → IfOk result IsManifestHead }
-    ensures lines { IfOk result (λ h. manifest_head_lines h ≡ manifest_head_lines head ++ label_line text.now ∷ []) }
+    requires place { (preamble.label ≡ None) × (preamble.stamps ≡ None) }
+    ensures preamble { IsPreamble preamble → IfOk result IsPreamble }
+    ensures lines { IfOk result (λ h. preamble_lines h ≡ preamble_lines preamble ++ label_line text.now ∷ []) }
     ensures fault { IfErr result (λ kind. (kind ≡ ManifestKind.BadText)
         × HasBadText (LabelLine text.now)) }
 {
     match Label::read(text) {
-        Some(label) => Ok(Head {
-            kind: head.kind,
-            blocks: head.blocks,
+        Some(label) => Ok(Preamble {
+            kind: preamble.kind,
+            blocks: preamble.blocks,
             label: Some(label),
             stamps: None,
         }),
@@ -124,31 +124,31 @@ fn with_label(head: Head, text: &[u8]) -> Result<Head, ManifestKind>
     }
 }
 
-// The head with stamps.
-fn with_stamps(head: Head, stamps: Stamps) -> Head
+// The preamble with stamps.
+fn with_stamps(preamble: Preamble, stamps: Stamps) -> Preamble
     requires numbers { AreStamps stamps }
-    requires place { head.stamps ≡ None }
-    ensures head { IsManifestHead head → IsManifestHead result }
-    ensures lines { manifest_head_lines result ≡ manifest_head_lines head ++ stamps_line stamps ∷ [] }
+    requires place { preamble.stamps ≡ None }
+    ensures preamble { IsPreamble preamble → IsPreamble result }
+    ensures lines { preamble_lines result ≡ preamble_lines preamble ++ stamps_line stamps ∷ [] }
 {
-    Head {
-        kind: head.kind,
-        blocks: head.blocks,
-        label: head.label,
+    Preamble {
+        kind: preamble.kind,
+        blocks: preamble.blocks,
+        label: preamble.label,
         stamps: Some(stamps),
     }
 }
 
-// The tree of a head.
-fn tree_of(alloc: Global, head: Head) -> Draft
-    ensures { result.tree ≡ head_tree head }
+// The tree of a preamble.
+fn tree_of(alloc: Global, preamble: Preamble) -> Draft
+    ensures { result.tree ≡ preamble_tree preamble }
 {
-    let Head {
+    let Preamble {
         kind,
         label,
         stamps,
         ..
-    } = head;
+    } = preamble;
     let no_label = Label::new(b"").unwrap();
     let no_stamps = Stamps {
         root: NO_STAMP,
@@ -164,7 +164,7 @@ fn tree_of(alloc: Global, head: Head) -> Draft
 }
 
 // The entry of an entry line, if the tree has room for it.
-fn opened(alloc: Global, draft: &Draft, line: EntryText) -> Result<Open, ManifestKind>
+fn begin_entry(alloc: Global, draft: &Draft, line: EntryText) -> Result<LastEntry, ManifestKind>
     requires form { IsLine (entry_value line) }
     ensures fields { IfOk result (λ o. (o.sort ≡ line.entry.sort) × (o.stamp ≡ line.entry.stamp)
         × (o.protect ≡ line.entry.protect) × (o.note ≡ None) × (o.bytes.items ≡ [])) }
@@ -178,7 +178,7 @@ fn opened(alloc: Global, draft: &Draft, line: EntryText) -> Result<Open, Manifes
         Err(PathFault::NoMemory) => return Err(ManifestKind::NoMemory),
     };
     match draft.room(path.as_slice()) {
-        Ok(room) => Ok(Open {
+        Ok(room) => Ok(LastEntry {
             sort: line.sort,
             stamp: line.stamp,
             protect: line.protect,
@@ -214,9 +214,9 @@ fn note_or_none(note: Option<Comment>) -> Comment
 }
 
 // Adds an entry in its room, after all its lines are read.
-fn close(alloc: Global, draft: &mut Draft, last: &mut Open) -> Result<(), ManifestKind>
+fn close(alloc: Global, draft: &mut Draft, last: &mut LastEntry) -> Result<(), ManifestKind>
     requires room { (path : List (List ℕ)) × IsRoomFor draft.old path last.old.room }
-    ensures tree { IfOk result (λ _. (i : Item) → IsOpen last.old i
+    ensures tree { IfOk result (λ _. (i : Item) → IsLastEntry last.old i
         → IsRoomFor draft.old i.path last.old.room
         → draft.new.tree ≡ with_item draft.old.tree i) }
     ensures err { IfErr result (λ kind. kind ≡ ManifestKind.NoMemory) }
@@ -231,15 +231,15 @@ fn close(alloc: Global, draft: &mut Draft, last: &mut Open) -> Result<(), Manife
 }
 
 // The state after the first entry line.
-fn first_entry(alloc: Global, head: Head, line: EntryText) -> Result<State, ManifestKind>
+fn first_entry(alloc: Global, preamble: Preamble, line: EntryText) -> Result<State, ManifestKind>
     requires form { IsLine (entry_value line) }
-    ensures lines { IsWell (bare head)
-        → IfOk result (λ s. GoesOn s (bare head) (line_text (entry_value line.entry))) }
-    ensures fault { IfErr result (λ kind. StopsIn (head_tree head) (entry_value line.entry) kind) }
+    ensures lines { IsWell (bare preamble)
+        → IfOk result (λ s. GoesOn s (bare preamble) (line_text (entry_value line.entry))) }
+    ensures fault { IfErr result (λ kind. StopsIn (preamble_tree preamble) (entry_value line.entry) kind) }
 {
-    let blocks = head.blocks;
-    let draft = tree_of(alloc, head);
-    let last = opened(alloc, &draft, line)?;
+    let blocks = preamble.blocks;
+    let draft = tree_of(alloc, preamble);
+    let last = begin_entry(alloc, &draft, line)?;
     Ok(State::Entries(Reading {
         blocks,
         draft,
@@ -258,7 +258,7 @@ fn next_entry(alloc: Global, reading: &mut Reading, line: EntryText) -> Result<(
         → IfErr result (λ kind. StopsIn (manifest_tree m) (entry_value line.entry) kind) }
 {
     close(alloc, &mut reading.draft, &mut reading.last)?;
-    match opened(alloc, &reading.draft, line) {
+    match begin_entry(alloc, &reading.draft, line) {
         Ok(last) => {
             reading.last = last;
             Ok(())
@@ -330,26 +330,26 @@ fn take_run(reading: &mut Reading, run: Run) -> Result<(), ManifestKind>
 }
 
 // The state after a line of this form, before any entry line.
-fn line_in_head(alloc: Global, head: Head, line: Line) -> Result<State, ManifestKind>
+fn line_in_preamble(alloc: Global, preamble: Preamble, line: Line) -> Result<State, ManifestKind>
     requires form { IsLine (line_value line) }
-    ensures lines { IsWell (bare head)
-        → IfOk result (λ s. GoesOn s (bare head) (line_text (line_value line.entry))) }
-    ensures fault { IfErr result (λ kind. Stops (bare head) (line_value line.entry) kind) }
+    ensures lines { IsWell (bare preamble)
+        → IfOk result (λ s. GoesOn s (bare preamble) (line_text (line_value line.entry))) }
+    ensures fault { IfErr result (λ kind. Stops (bare preamble) (line_value line.entry) kind) }
 {
     match line {
         Line::Label(text) => {
-            if head.label.is_some() || head.stamps.is_some() {
+            if preamble.label.is_some() || preamble.stamps.is_some() {
                 return Err(ManifestKind::BadLine);
             }
-            Ok(State::Head(with_label(head, text)?))
+            Ok(State::Preamble(with_label(preamble, text)?))
         }
         Line::Stamps(stamps) => {
-            if head.stamps.is_some() {
+            if preamble.stamps.is_some() {
                 return Err(ManifestKind::BadLine);
             }
-            Ok(State::Head(with_stamps(head, stamps)))
+            Ok(State::Preamble(with_stamps(preamble, stamps)))
         }
-        Line::Entry(entry) => first_entry(alloc, head, entry),
+        Line::Entry(entry) => first_entry(alloc, preamble, entry),
         Line::Note(_) | Line::Run(_) => Err(ManifestKind::BadLine),
     }
 }
@@ -378,7 +378,7 @@ pub fn first_state(line: &[u8]) -> Result<State, ManifestKind>
         × (manifest_lines m ≡ line.now ∷ [])) }
     ensures fault { IfErr result (λ kind. IsFirstFault line.now kind) }
 {
-    Ok(State::Head(read_volume(line)?))
+    Ok(State::Preamble(read_volume(line)?))
 }
 
 /// Reads a further line.
@@ -393,9 +393,9 @@ pub fn next_state(alloc: Global, state: &mut State, line: &[u8]) -> Result<(), M
         return Err(ManifestKind::BadLine);
     };
     match state {
-        State::Head(head) => {
-            let head = mem::replace(head, NO_HEAD);
-            *state = line_in_head(alloc, head, line)?;
+        State::Preamble(preamble) => {
+            let preamble = mem::replace(preamble, NO_PREAMBLE);
+            *state = line_in_preamble(alloc, preamble, line)?;
             Ok(())
         }
         State::Entries(reading) => line_in_entries(alloc, reading, line),
@@ -417,13 +417,13 @@ fn finished(alloc: Global, draft: Draft, blocks: u32) -> Result<(Tree, u32), Man
 pub fn finish(alloc: Global, state: State) -> Result<(Tree, u32), ManifestKind>
     requires told { (m : Manifest) × StateMatches state m }
     ensures told { (m : Manifest) → IsWell m → StateMatches state m
-        → IfOk result (λ r. (r.0 ≡ manifest_tree m) × (r.1 ≡ m.head.blocks)) }
+        → IfOk result (λ r. (r.0 ≡ manifest_tree m) × (r.1 ≡ m.preamble.blocks)) }
     ensures err { IfErr result (λ kind. kind ≡ ManifestKind.NoMemory) }
 {
     match state {
-        State::Head(head) => {
-            let blocks = head.blocks;
-            finished(alloc, tree_of(alloc, head), blocks)
+        State::Preamble(preamble) => {
+            let blocks = preamble.blocks;
+            finished(alloc, tree_of(alloc, preamble), blocks)
         }
         State::Entries(reading) => {
             let mut reading = reading;

@@ -1,6 +1,6 @@
 -- A command whose words are bytes in memory.
 use Rattle.std.proofs.Common.{rules, ℕ, Bool, false, List, Option, Some, inl, inr}
-use Rattle.adf_runs.specs.Commands.{Command, IsUnanswered, LooksAt, RunEnds}
+use Rattle.adf_runs.specs.Commands.{Command, IsUnanswered, IsConsumed, RunEnds}
 use Rattle.adf_memory.specs.Words.{AreWords, in_memory}
 use Rattle.adf_memory.proofs.WordParts.{along}
 
@@ -38,8 +38,8 @@ module _ (c : Command (List (List ℕ))) (bytes : List ℕ) (words : List (List 
         h.part,
       )
 
-  pub looks_in_memory : (input : List ℕ) (n taken : ℕ) → LooksAt c words input n taken → LooksAt (in_memory c) bytes input n taken
-  looks_in_memory input n taken h = record {
+  pub consumed_in_memory : (input : List ℕ) (n consumed : ℕ) → IsConsumed c words input n consumed → IsConsumed (in_memory c) bytes input n consumed
+  consumed_in_memory input n consumed h = record {
     within = h.within;
     none = λ unanswered. h.none (unanswered_words unanswered);
     at_most = λ most enough. h.at_most most (λ r asks. enough r (words, are, asks));

@@ -6,7 +6,7 @@ use Rattle.adf_fields.specs.Words.{block}
 use Rattle.adf_blocks.specs.Causes.{cause_number}
 use Rattle.adf_blocks.specs.declared.head.HeadBody.{HeadBody}
 use Rattle.adf_blocks.specs.declared.head.HeadBody.TheVariants.{Dir, File}
-use Rattle.adf_blocks.specs.HeadBlock.{body_at, meta_told}
+use Rattle.adf_blocks.specs.HeadBlock.{body_at, meta_stated}
 use Rattle.adf_tree.specs.declared.entry.Meta.{Meta}
 use Rattle.adf_volume.specs.Image.{name_of}
 use Rattle.adf_volume.specs.Walk.{Role, heads, node_block}
@@ -30,7 +30,7 @@ concern_node None = 0
 concern_node (Some (Entry n)) = n
 concern_node (Some (Within n)) = n
 
--- 1 if a header was passed over in the directory that is concerned
+-- 1 if a header was skipped in the directory that is concerned
 abbrev pub is_within : Option Concern → ℕ
 is_within (Some (Within n)) = 1
 is_within _ = 0
@@ -90,7 +90,7 @@ entry_row parent header is_sound name body meta = record {
 abbrev pub found_entry : List ℕ → List (Role × ℕ) → (ℕ → Bool) → ℕ → FoundEntry
 found_entry image w sound n =
     let b = node_block w n in
-    entry_row (parent_node w n) b (sound n) (name_of image b) (body_at (block image b)) (meta_told (block image b))
+    entry_row (parent_node w n) b (sound n) (name_of image b) (body_at (block image b)) (meta_stated (block image b))
 
 -- the rows of the first k entries
 abbrev pub found_rows : List ℕ → List (Role × ℕ) → (ℕ → Bool) → ℕ → List FoundEntry

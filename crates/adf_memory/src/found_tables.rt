@@ -1,7 +1,7 @@
 // The tables of a survey, and how they are filled.
 
 ghost use Rattle.std.specs.Prelude.{◌≡◌, ◌≤◌, ◌++◌, ◌∷◌, [], ℕ, Bool, List, Option, Some, length};
-ghost use Rattle.adf_findings.specs.Marked.{AreMarks};
+ghost use Rattle.adf_findings.specs.SoundMarks.{AreMarks};
 ghost use Rattle.adf_findings.specs.Survey.{OnSurvey};
 ghost use Rattle.adf_volume.specs.Walk.{heads};
 ghost use Rattle.adf_survey_cmd.specs.Lines.{runs};
@@ -24,13 +24,13 @@ pub struct TableFinding {
     pub first: u32,
     /// The last block.
     pub last: u32,
-    /// The number of the entry that is concerned, or of the directory in which a header was passed over; 0 for the root and for none.
+    /// The number of the entry that is concerned, or of the directory in which a header was skipped; 0 for the root and for none.
     pub node: usize,
     /// The number of the entry that owns the blocks, if the cause is that they are taken; otherwise 0.
     pub owner: usize,
     /// The number of the cause.
     pub cause: u8,
-    /// 1 if `node` is the directory in which a header was passed over, otherwise 0.
+    /// 1 if `node` is the directory in which a header was skipped, otherwise 0.
     pub is_within: u8,
 }
 
@@ -92,7 +92,7 @@ fn concern_node(concern: Option<Concern>) -> usize
     }
 }
 
-// 1 if a header was passed over in the directory that is concerned.
+// 1 if a header was skipped in the directory that is concerned.
 fn is_within(concern: Option<Concern>) -> u8
     ensures { result ≡ is_within concern }
 {

@@ -2,7 +2,7 @@
 
 ghost use Rattle.std.specs.Prelude.{◌≡◌, [], Some, false, take};
 ghost use Rattle.adf_cmd.specs.Answers.{adf_command};
-ghost use Rattle.adf_runs.specs.Commands.{IsUnanswered, LooksAt, RunEnds};
+ghost use Rattle.adf_runs.specs.Commands.{IsUnanswered, IsConsumed, RunEnds};
 ghost use Rattle.adf_memory.specs.Rooms.{StandIn};
 ghost use Rattle.adf_memory.specs.Words.{in_memory};
 
@@ -26,13 +26,13 @@ fn run_words<P: Program, W: Sink, E: Sink>(
         (W.has_failed output.new) (W.held output.old) (W.held output.new)
         (E.has_failed errors.new) (E.held errors.old) (E.held errors.new) }
     ensures untouched { IsUnanswered (in_memory P.command) words.now → output.new ≡ output.old }
-    ensures taken { LooksAt (in_memory P.command) words.now input.now result.status result.taken }
+    ensures consumed { IsConsumed (in_memory P.command) words.now input.now result.status result.consumed }
 {
     match words_in(alloc, words) {
         Ok(texts) => run_program_on::<P, W, E>(alloc, &texts, input, output, errors),
         Err(fault) => Ran {
             status: WorkFault::from(fault).refuse(P::usage(), errors),
-            taken: 0,
+            consumed: 0,
         },
     }
 }
@@ -51,7 +51,7 @@ pub fn run_in_memory<P: Program>(
         moved.new.errors_full (Some []) (Some (take moved.new.errors errors.new)) }
     ensures untouched { IsUnanswered (in_memory P.command) words.now
         → (moved.new.output ≡ 0) × (output.new ≡ output.old) }
-    ensures taken { LooksAt (in_memory P.command) words.now input.now result moved.new.input }
+    ensures consumed { IsConsumed (in_memory P.command) words.now input.now result moved.new.input }
     ensures output { StandIn moved.new.output moved.new.output_full output.new }
     ensures errors { StandIn moved.new.errors moved.new.errors_full errors.new }
 {
@@ -67,7 +67,7 @@ pub fn run_in_memory<P: Program>(
         &mut errors_room,
     );
     *moved = Moved::of(
-        ran.taken,
+        ran.consumed,
         &output_room,
         most_output,
         &errors_room,
@@ -96,7 +96,7 @@ pub fn run_command(
         moved.new.errors_full (Some []) (Some (take moved.new.errors errors.new)) }
     ensures untouched { IsUnanswered (in_memory adf_command) words.now
         → (moved.new.output ≡ 0) × (output.new ≡ output.old) }
-    ensures taken { LooksAt (in_memory adf_command) words.now input.now result moved.new.input }
+    ensures consumed { IsConsumed (in_memory adf_command) words.now input.now result moved.new.input }
     ensures output { StandIn moved.new.output moved.new.output_full output.new }
     ensures errors { StandIn moved.new.errors moved.new.errors_full errors.new }
 {

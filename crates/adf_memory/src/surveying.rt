@@ -1,7 +1,7 @@
 // The command `adf-survey` over memory.
 
 ghost use Rattle.std.specs.Prelude.{◌≡◌, [], Some, false, take};
-ghost use Rattle.adf_runs.specs.Commands.{IsUnanswered, LooksAt, RunEnds};
+ghost use Rattle.adf_runs.specs.Commands.{IsUnanswered, IsConsumed, RunEnds};
 ghost use Rattle.adf_survey_cmd.specs.Answers.{survey_command};
 ghost use Rattle.adf_memory.specs.Rooms.{StandIn};
 ghost use Rattle.adf_memory.specs.Words.{in_memory};
@@ -32,7 +32,7 @@ pub fn run_survey(
         moved.new.errors_full (Some []) (Some (take moved.new.errors errors.new)) }
     ensures untouched { IsUnanswered (in_memory survey_command) words.now
         → (moved.new.output ≡ 0) × (output.new ≡ output.old) }
-    ensures taken { LooksAt (in_memory survey_command) words.now input.now result moved.new.input }
+    ensures consumed { IsConsumed (in_memory survey_command) words.now input.now result moved.new.input }
     ensures output { StandIn moved.new.output moved.new.output_full output.new }
     ensures errors { StandIn moved.new.errors moved.new.errors_full errors.new }
 {

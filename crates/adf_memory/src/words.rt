@@ -4,7 +4,7 @@ ghost use Rattle.std.specs.Prelude.{◌≡◌, ◌<◌, ◌∷◌, [], IfOk, IfE
 ghost use Rattle.adf_words.specs.CommandLine.{texts_of};
 ghost use Rattle.adf_memory.specs.Words.{AreNoWords, AreWords, BeginWithWords, is_zero, between_zeros};
 
-use adf_cmd::WordsFault;
+use adf_cmd::ArgsError;
 use std::alloc::Global;
 use std::str;
 
@@ -28,25 +28,25 @@ fn cut(bytes: &[u8]) -> Option<(&[u8], &[u8])>
 }
 
 /// The words, each ended by a zero byte; `Usage` if one is not ended or is not UTF-8, `NoMemory` if an allocation fails.
-pub fn words_in<'a>(alloc: Global, bytes: &'a [u8]) -> Result<Vec<&'a str>, WordsFault>
+pub fn words_in<'a>(alloc: Global, bytes: &'a [u8]) -> Result<Vec<&'a str>, ArgsError>
     ensures ok { IfOk result (λ words. AreWords bytes.entry.now (texts_of words.items)) }
-    ensures err { IfErr result (λ fault. fault ≡ WordsFault.Usage → AreNoWords bytes.entry.now) }
+    ensures err { IfErr result (λ fault. fault ≡ ArgsError.Usage → AreNoWords bytes.entry.now) }
 
     // No word is kept before one is read.
     ensures memory { IfErr result (λ fault.
-        fault ≡ WordsFault.NoMemory → BeginWithWords bytes.entry.now) }
+        fault ≡ ArgsError.NoMemory → BeginWithWords bytes.entry.now) }
 {
     let mut words = Vec::new(alloc);
     let mut rest = bytes;
     while !rest.is_empty() {
         let Some((word, after)) = cut(rest) else {
-            return Err(WordsFault::Usage);
+            return Err(ArgsError::Usage);
         };
         let Ok(text) = str::from_utf8(word) else {
-            return Err(WordsFault::Usage);
+            return Err(ArgsError::Usage);
         };
         if words.push(text).is_err() {
-            return Err(WordsFault::NoMemory);
+            return Err(ArgsError::NoMemory);
         }
         rest = after;
     }

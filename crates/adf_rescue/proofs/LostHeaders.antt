@@ -24,10 +24,10 @@ use Rattle.adf_findings.specs.Survey.IsSurvey.{read, unread}
 use Rattle.adf_findings.proofs.BitSteps.{at_has}
 use Rattle.adf_findings.proofs.Keys.{lacks_at, same_of_key}
 use Rattle.adf_findings.proofs.OneSurvey.{gathered}
-use Rattle.adf_rescue.specs.Lost.{AreEntered, AreSettled, bit_told, directory_at, directory_by, denies, has_child, has_finding, is_denied}
+use Rattle.adf_rescue.specs.Lost.{AreEntered, AreSettled, bit_stated, directory_at, directory_by, denies, has_child, has_finding, is_denied}
 use Rattle.adf_rescue.specs.Lost.{is_directory_at, is_inside, is_lost, is_of}
 use Rattle.adf_rescue.specs.Lost.{is_set_in}
-use Rattle.adf_findings.specs.Surveyed.{IsBitTold}
+use Rattle.adf_findings.specs.SurveyResult.{IsBitStated}
 
 -- what the bitmap tells of a block
 
@@ -67,8 +67,8 @@ told_none None h = refl
 told_none (Some t) h = absurd (h refl)
 
 pub told_is : (image : List ℕ) (w : List (Role × ℕ)) (fs : List FindingValue) (b : ℕ) (r : Option Bool) → IsSurvey image w fs
-    → (IsSome r ↔ IsBitTold image w b) → IfSome r (λ t. IsTrue t ↔ IsFreeIn image w b) → r ≡ bit_told image w b
-unfolding bit_told
+    → (IsSome r ↔ IsBitStated image w b) → IfSome r (λ t. IsTrue t ↔ IsFreeIn image w b) → r ≡ bit_stated image w b
+unfolding bit_stated
 told_is image w fs b r survey some free = elim (cases_Bool (nat_le 2 b && (word_in image (root_of image) BITMAP_FLAG == VALID))) [
   | inl stands ↦
       let parts = and_parts (nat_le 2 b) _ stands in

@@ -16,7 +16,7 @@ use Rattle.adf_tree.specs.Bounds.{AreStamps}
 use Rattle.adf_tree.specs.declared.entry.Stamps.{Stamps}
 use Rattle.adf_blocks.specs.declared.layout.TheConstants.{FIRST_SLOT, MOST_BLOCKS, NAME, ROOT_PAGES, SLOTS}
 use Rattle.adf_blocks.specs.Forms.{text_at}
-use Rattle.adf_blocks.specs.RootBlock.{FitsRoot, RootFields, label_told, root_block, stamps_at}
+use Rattle.adf_blocks.specs.RootBlock.{FitsRoot, RootFields, label_stated, root_block, stamps_at}
 use Rattle.adf_blocks.specs.Sizes.{blocks}
 use Rattle.adf_blocks.proofs.RootLaws.{length_root_block, root_block-secondary, root_block-slot, root_block-stamps}
 use Rattle.adf_blocks.proofs.RootLaws.{root_block-sum, root_block-text, root_block-type}
@@ -59,7 +59,7 @@ fill_step f xs i v h before e = subst (λ u. (k : ℕ) → k < i + 1 → get_or 
 -- the root that is made is a root
 
 short_label : (b : List ℕ) → length (label_in b) ≤ 30
-short_label b = cond_both (has_root_type b) (label_told b) [] (λ l. length l ≤ 30) (λ e. omega (arith, length-take 30 (text_at b NAME))) (λ e. omega arith)
+short_label b = cond_both (has_root_type b) (label_stated b) [] (λ l. length l ≤ 30) (λ e. omega (arith, length-take 30 (text_at b NAME))) (λ e. omega arith)
 
 pub made_fits : (image : List ℕ) → FitsRoot (made_root image)
 made_fits image = record {
@@ -81,9 +81,10 @@ made_slot image s lt small =
     root_block-slot (made_root image) s (made_fits image) lt (omega (arith, is, small)) ∙ is
 
 -- it has no label and no dates, if the middle block does not say that it is a root
-pub unnamed : (image : List ℕ) → has_root_type (middle_block image) ≡ false → label_told (root_block (made_root image)) ≡ []
+pub unnamed : (image : List ℕ) → has_root_type (middle_block image) ≡ false → label_stated (root_block (made_root image)) ≡ []
 unnamed image h =
-    ap (take 30) (root_block-text (made_root image) (made_fits image) ∙ cond-false (has_root_type (middle_block image)) (label_told (middle_block image)) [] h)
+    ap (take 30) (root_block-text (made_root image) (made_fits image) ∙ cond-false (has_root_type (middle_block image)) (label_stated (middle_block image))
+    [] h)
 
 nothing_dated : AreStamps no_stamps
 nothing_dated = record { root = nothing; altered = nothing; created = nothing }

@@ -9,7 +9,7 @@ use Rattle.std.proofs.lemmas.List.{drop-drop, get_or-take, length-take, take_all
 use Rattle.adf_fields.specs.Words.{block, long_sum, with_bytes, word}
 use Rattle.adf_tree.specs.Tree.{Tree}
 use Rattle.adf_blocks.specs.declared.layout.TheConstants.{FIRST_SLOT, SLOTS}
-use Rattle.adf_blocks.specs.RootBlock.{label_told, root_block, stamps_at}
+use Rattle.adf_blocks.specs.RootBlock.{label_stated, root_block, stamps_at}
 use Rattle.adf_blocks.specs.Sizes.{middle}
 use Rattle.adf_volume.specs.Fits.{Fits}
 use Rattle.adf_volume.specs.Image.{root_of, word_in}
@@ -216,7 +216,7 @@ module _ (image : List ℕ) (len : is_image_len (length image) ≡ true) (none :
   still_none = ap has_root_type (same_middle image len) ∙ none
 
   pub unnamed_opened : (opening_in (opened image)).label ≡ []
-  unnamed_opened = ap label_told made_opened ∙ unnamed (begun image) still_none
+  unnamed_opened = ap label_stated made_opened ∙ unnamed (begun image) still_none
 
   pub undated_opened : (opening_in (opened image)).stamps ≡ no_stamps
   undated_opened = ap stamps_at made_opened ∙ undated (begun image) still_none

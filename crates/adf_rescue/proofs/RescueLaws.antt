@@ -7,14 +7,14 @@ use Rattle.std.proofs.lemmas.Bool.{and_from, eq-eqb}
 use Rattle.adf_fields.specs.Words.{block}
 use Rattle.adf_tree.specs.declared.entry.Body.TheVariants.{File}
 use Rattle.adf_blocks.specs.declared.layout.TheConstants.{SECONDARY_TYPE, ST_FILE}
-use Rattle.adf_blocks.specs.HeadBlock.{meta_told}
+use Rattle.adf_blocks.specs.HeadBlock.{meta_stated}
 use Rattle.adf_blocks.specs.Sizes.{blocks}
 use Rattle.adf_volume.specs.Image.{name_of, word_in}
 use Rattle.adf_volume.specs.Start.{is_image_len}
 use Rattle.adf_volume.specs.Walk.{Role, node_block}
 use Rattle.adf_findings.specs.Files.{IsSoundFile, file_content, file_in, grave}
 use Rattle.adf_findings.specs.Found.{parent_node}
-use Rattle.adf_findings.specs.Marked.{AreMarks}
+use Rattle.adf_findings.specs.SoundMarks.{AreMarks}
 use Rattle.adf_findings.specs.Survey.{FindingValue, IsSurvey}
 use Rattle.adf_findings.proofs.OneSurvey.{one_survey}
 use Rattle.adf_rescue.specs.Lost.{has_lost, lost_among}
@@ -32,7 +32,7 @@ sound_stands l fs n marks is =
 -- so the verdict on it is that of its path
 pub sound_verdict : (a : Look) (fs : List FindingValue) (n : ℕ) (vs : List Verdict) → AreMarks a.image a.walk fs a.sound → IsSoundFile a.image a.walk fs n
     → (let t = tree_of (before_first a.image) vs in verdict (before_first a.image) a vs n
-    ≡ at_path t (blocks a.image) (meta_told (block a.image (node_block a.walk n))) (File (file_content (file_in a.image a.walk n)))
+    ≡ at_path t (blocks a.image) (meta_stated (block a.image (node_block a.walk n))) (File (file_content (file_in a.image a.walk n)))
     (path_by t (place_of vs (parent_node a.walk n)) (name_of a.image (node_block a.walk n)) (node_block a.walk n)))
 sound_verdict a fs n vs marks is =
     ap (by_body a.image (blocks a.image) (tree_of (before_first a.image) vs) (place_of vs (parent_node a.walk n)) (node_block a.walk n))

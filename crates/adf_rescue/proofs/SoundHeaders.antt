@@ -14,8 +14,8 @@ use Rattle.adf_tree.specs.Texts.{is_name}
 use Rattle.adf_blocks.specs.declared.cause.Cause.TheVariants.{BadComment, BadName}
 use Rattle.adf_blocks.specs.declared.layout.TheConstants.{COMMENT, DATE, NAME, PROTECTION, SECONDARY_TYPE, ST_DIR, ST_FILE}
 use Rattle.adf_blocks.specs.Forms.{stamp_at, text_at}
-use Rattle.adf_blocks.specs.HeadBlock.{head_form, is_link, is_name_at, meta_told}
-use Rattle.adf_blocks.specs.RootBlock.{label_told, root_form}
+use Rattle.adf_blocks.specs.HeadBlock.{head_form, is_link, is_name_at, meta_stated}
+use Rattle.adf_blocks.specs.RootBlock.{label_stated, root_form}
 use Rattle.adf_volume.specs.Demands.{AllHold, head_demands, root_demands}
 use Rattle.adf_volume.specs.Image.{content, kind_of, meta_of, name_of, root_of, word_in}
 use Rattle.adf_volume.specs.Lists.{At}
@@ -26,7 +26,7 @@ use Rattle.adf_volume.proofs.MemberFacts.{kept}
 use Rattle.adf_volume.proofs.Roles.{head_role}
 use Rattle.adf_volume.proofs.WalkMembers.{entry_has}
 use Rattle.adf_findings.specs.Found.{parent_node}
-use Rattle.adf_findings.specs.Marked.{AreMarks}
+use Rattle.adf_findings.specs.SoundMarks.{AreMarks}
 use Rattle.adf_findings.specs.Survey.{FindingValue, IsSurvey}
 use Rattle.adf_findings.proofs.AllSound.{all_sound}
 use Rattle.adf_findings.proofs.Keeping.{parent_is}
@@ -42,7 +42,7 @@ text_short bs at n le =
     let long = length-take (at + 1 + slice_index bs at - (at + 1)) (drop (at + 1) bs) in
     omega arith
 
-pub label_whole : (image : List ℕ) → AllHold (root_demands image (root_of image)) → label_told (block image (root_of image)) ≡ name_of image (root_of image)
+pub label_whole : (image : List ℕ) → AllHold (root_demands image (root_of image)) → label_stated (block image (root_of image)) ≡ name_of image (root_of image)
 unfolding name_of
 label_whole image h =
     let bs : List ℕ = block image (root_of image) in
@@ -50,7 +50,7 @@ label_whole image h =
     take_all 30 (text_at bs NAME)
     (text_short bs NAME 30 (leb-true most 30 (demanded (root_of image) (root_form bs) (nat_le most 30) BadName h (search rules))))
 
-meta_whole : (image : List ℕ) (kind : Kind) (b up s : ℕ) → AllHold (head_demands image kind b up s) → meta_told (block image b) ≡ meta_of image b
+meta_whole : (image : List ℕ) (kind : Kind) (b up s : ℕ) → AllHold (head_demands image kind b up s) → meta_stated (block image b) ≡ meta_of image b
 unfolding meta_of
 meta_whole image kind b up s h =
     let bs : List ℕ = block image b in
@@ -99,7 +99,7 @@ pub record IsToldAs (a : Look) (n : ℕ) (e : Entry) : Type 0 where
   pub parent : parent_node a.walk n ≡ e.parent
   pub name : name_of a.image (node_block a.walk n) ≡ e.name
   pub valid : is_name e.name ≡ true
-  pub meta : meta_told (block a.image (node_block a.walk n)) ≡ e.meta
+  pub meta : meta_stated (block a.image (node_block a.walk n)) ≡ e.meta
   pub body : body_of a n ≡ Ok e.body
 
 pub told : (image : List ℕ) (w : List (Role × ℕ)) (fs : List FindingValue) (sound : ℕ → Bool) → IsSurvey image w fs → fs ≡ [] → AreMarks image w fs sound

@@ -15,7 +15,7 @@ use Rattle.adf_tree.specs.Tree.{Tree, is_dir_body, new_entry, with_entry}
 use Rattle.adf_tree.specs.declared.entry.Body.{Body}
 use Rattle.adf_tree.specs.declared.entry.Meta.{Meta}
 use Rattle.adf_fields.specs.Words.{block}
-use Rattle.adf_blocks.specs.HeadBlock.{meta_told}
+use Rattle.adf_blocks.specs.HeadBlock.{meta_stated}
 use Rattle.adf_blocks.specs.Sizes.{blocks, is_allowed}
 use Rattle.adf_build.specs.Building.{IsBuildable}
 use Rattle.adf_findings.specs.declared.part.Finding.{Finding}
@@ -23,7 +23,7 @@ use Rattle.adf_findings.specs.Parts.{finding_value}
 use Rattle.adf_findings.specs.Survey.{Course, FindingValue, IsCourse, IsSurvey, UnreadTells, finding}
 use Rattle.adf_findings.specs.Survey.IsCourse.{start, step}
 use Rattle.adf_findings.specs.Survey.IsSurvey.{read, unread}
-use Rattle.adf_findings.specs.Survey.JudgementValue.{clean, noted, passed}
+use Rattle.adf_findings.specs.Survey.JudgementValue.{clean, reported, skipped}
 use Rattle.adf_findings.specs.Survey.UnreadTells.{bad_boot, bad_root}
 use Rattle.adf_volume.specs.Image.{name_of}
 use Rattle.adf_volume.proofs.Lists.{get_before, get_last}
@@ -109,17 +109,17 @@ module _ (g : Ground) (l : Look) (vs : List Verdict) (n : ℕ) (new : owner g.wa
     abbrev path_of_entry : Option (List (List ℕ))
     path_of_entry = path_by (tree_of g vs) (place_of vs (parent_node l.walk n)) (name_of l.image (node_block l.walk n)) (node_block l.walk n)
 
-    on_path : verdict g l vs n ≡ at_path (tree_of g vs) (blocks g.given) (meta_told (block l.image (node_block l.walk n))) body path_of_entry
+    on_path : verdict g l vs n ≡ at_path (tree_of g vs) (blocks g.given) (meta_stated (block l.image (node_block l.walk n))) body path_of_entry
     on_path = anew ∙ ap (by_body l.image (blocks g.given) (tree_of g vs) (place_of vs (parent_node l.walk n)) (node_block l.walk n)) stands
 
-    pub verdict_at : (path : List (List ℕ)) (meta : Meta) → path_of_entry ≡ Some path → meta ≡ meta_told (block l.image (node_block l.walk n))
+    pub verdict_at : (path : List (List ℕ)) (meta : Meta) → path_of_entry ≡ Some path → meta ≡ meta_stated (block l.image (node_block l.walk n))
         → verdict g l vs n ≡ fitting (tree_of g vs) (blocks g.given) (record { path = path; meta = meta; body = body })
     verdict_at path meta at same =
-        on_path ∙ (ap (at_path (tree_of g vs) (blocks g.given) (meta_told (block l.image (node_block l.walk n))) body) at
+        on_path ∙ (ap (at_path (tree_of g vs) (blocks g.given) (meta_stated (block l.image (node_block l.walk n))) body) at
         ∙ ap (λ (m : Meta). fitting (tree_of g vs) (blocks g.given) (record { path = path; meta = m; body = body })) (sym same))
 
     pub verdict_none : path_of_entry ≡ None → verdict g l vs n ≡ leaves NoRoom
-    verdict_none at = on_path ∙ ap (at_path (tree_of g vs) (blocks g.given) (meta_told (block l.image (node_block l.walk n))) body) at
+    verdict_none at = on_path ∙ ap (at_path (tree_of g vs) (blocks g.given) (meta_stated (block l.image (node_block l.walk n))) body) at
 
 -- the place of an addition
 pub new_place : (d : DraftValue) (path : List (List ℕ)) (meta : Meta) (body : Body) (m : ℕ) (place : Option ℕ)
@@ -260,8 +260,8 @@ no_finding fs (x ∷ xs) m none = absurd (omega (arith, eqb-true (length (x ∷ 
 course_taken : (image : List ℕ) (s : Course) → IsCourse image s → s.walk ≢ []
 course_taken image s (start boot root) e = cc
 course_taken image s (step clean before next is) e = cc
-course_taken image s (step (noted at c) before next is) e = cc
-course_taken image s (step (passed at c) before next is) e = course_taken image _ before e
+course_taken image s (step (reported at c) before next is) e = cc
+course_taken image s (step (skipped at c) before next is) e = course_taken image _ before e
 
 told_unread : (image : List ℕ) (fs : List FindingValue) → UnreadTells image fs → fs ≢ []
 told_unread image fs (bad_boot fails other) e = cc

@@ -27,7 +27,7 @@ use Rattle.adf_volume.proofs.Lists.{at_index_or, get_before, get_last}
 use Rattle.adf_volume.proofs.WalkMembers.{entries_length}
 use Rattle.adf_findings.specs.Files.{grave}
 use Rattle.adf_findings.specs.Found.{parent_node}
-use Rattle.adf_findings.specs.Marked.{AreMarks}
+use Rattle.adf_findings.specs.SoundMarks.{AreMarks}
 use Rattle.adf_findings.specs.Survey.{FindingValue, IsSurvey}
 use Rattle.adf_findings.proofs.FirstFindings.{finds_none, none_found, shown}
 use Rattle.adf_build.specs.Plan.{blocks_needed, entries_blocks, reserved}
@@ -227,14 +227,14 @@ module _ (image : List ℕ) (t : Tree) (l : Layout) (w : List (Role × ℕ)) (fs
   all_marks : AreMarks image w fs sound
   all_marks = subst (λ (gs : List FindingValue). AreMarks image w gs sound) (ap grave clean ∙ sym clean) marks
 
-  unnoted : IsSurvey image w []
-  unnoted = subst (IsSurvey image w) clean survey
+  unreported : IsSurvey image w []
+  unreported = subst (IsSurvey image w) clean survey
 
   made : Fits image (tree_in image w) (layout_in w)
-  made = none_found image w unnoted
+  made = none_found image w unreported
 
   whole : IsFront (entries_in image w w) (heads w) (first_verdicts whole_look)
-  whole = front image w fs sound survey clean all_marks (shown image unnoted).1 made (heads w) (omega arith)
+  whole = front image w fs sound survey clean all_marks (shown image unreported).1 made (heads w) (omega arith)
 
   pub tree_kept : rescued_tree whole_look None ≡ t
   tree_kept =

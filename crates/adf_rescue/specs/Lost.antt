@@ -35,23 +35,23 @@ abbrev pub is_set_in : List ℕ → ℕ → ℕ → Bool
 is_set_in image page bit = not (bit_and (word_in image page (PAGE_FIRST + bit / 32)) (2 ^ (bit % 32)) == 0)
 
 -- what the bitmap tells of block b: whether it is free; nothing unless the root says that the bitmap is valid and the walk has the page
-unfoldable pub bit_told : List ℕ → List (Role × ℕ) → ℕ → Option Bool
-bit_told image w b =
+unfoldable pub bit_stated : List ℕ → List (Role × ℕ) → ℕ → Option Bool
+bit_stated image w b =
     cond (nat_le 2 b && (word_in image (root_of image) BITMAP_FLAG == VALID))
     (option_map (λ page. is_set_in image page ((b - 2) % PAGE_BITS)) (at_key w (key_of (Page ((b - 2) / PAGE_BITS))))) None
 
 -- the bitmap tells that block b is free
-abbrev pub is_told_free : List ℕ → List (Role × ℕ) → ℕ → Bool
-is_told_free image w b = unwrap_or (bit_told image w b) false
+abbrev pub is_stated_free : List ℕ → List (Role × ℕ) → ℕ → Bool
+is_stated_free image w b = unwrap_or (bit_stated image w b) false
 
 -- the bitmap tells that block b is in use
-abbrev pub is_told_used : List ℕ → List (Role × ℕ) → ℕ → Bool
-is_told_used image w b = not (unwrap_or (bit_told image w b) true)
+abbrev pub is_stated_used : List ℕ → List (Role × ℕ) → ℕ → Bool
+is_stated_used image w b = not (unwrap_or (bit_stated image w b) true)
 
 -- the first data block of the file with header b is free, as the bitmap tells
 abbrev pub has_free_data : List ℕ → List (Role × ℕ) → ℕ → Bool
 has_free_data image w b =
-    not (word_in image b SECONDARY_TYPE == ST_DIR) && not (word_in image b SIZE == 0) && is_told_free image w (word_in image b FIRST_POINTER)
+    not (word_in image b SECONDARY_TYPE == ST_DIR) && not (word_in image b SIZE == 0) && is_stated_free image w (word_in image b FIRST_POINTER)
 
 -- entry n of the survey is a directory with its header in block p
 abbrev pub is_directory_at : List ℕ → List (Role × ℕ) → ℕ → ℕ → Bool
@@ -100,12 +100,12 @@ is_unfound image w b = says_header image b && not (is_some (owner w b))
 
 -- the bitmap tells that header b is deleted: it is free, or its first data block is
 abbrev pub is_freed : List ℕ → List (Role × ℕ) → ℕ → Bool
-is_freed image w b = is_told_free image w b || has_free_data image w b
+is_freed image w b = is_stated_free image w b || has_free_data image w b
 
 -- block b is a lost header: it is not found, and not deleted, as far as is told
 unfoldable pub is_lost : List ℕ → List (Role × ℕ) → List FindingValue → ℕ → Bool
 is_lost image w fs b =
-    is_inside image b && is_unfound image w b && not (is_freed image w b) && (is_told_used image w b || not (is_denied image w fs b))
+    is_inside image b && is_unfound image w b && not (is_freed image w b) && (is_stated_used image w b || not (is_denied image w fs b))
 
 -- one of the first k blocks is a lost header
 unfoldable pub lost_among : List ℕ → List (Role × ℕ) → List FindingValue → ℕ → Bool

@@ -5,7 +5,7 @@ use Rattle.std.specs.List.{range_with_len}
 use Rattle.adf_fields.specs.Words.{block, long_sum, with_block, word}
 use Rattle.adf_tree.specs.declared.entry.Stamps.{Stamps}
 use Rattle.adf_blocks.specs.declared.layout.TheConstants.{FIRST_PAGE, FIRST_SLOT, ROOT_PAGES, SLOTS, TYPE, T_DATA, T_LIST, T_SHORT}
-use Rattle.adf_blocks.specs.RootBlock.{RootFields, label_told, root_block, stamps_at}
+use Rattle.adf_blocks.specs.RootBlock.{RootFields, label_stated, root_block, stamps_at}
 use Rattle.adf_blocks.specs.Sizes.{blocks}
 use Rattle.adf_volume.specs.Image.{root_of, word_in}
 use Rattle.adf_findings.specs.Start.{has_root_type}
@@ -46,7 +46,7 @@ pages_in image = map (page_found image) (range_with_len 0 ROOT_PAGES)
 
 -- the label of a block that says that it is a root; otherwise none
 abbrev pub label_in : List ℕ → List ℕ
-label_in b = cond (has_root_type b) (label_told b) []
+label_in b = cond (has_root_type b) (label_stated b) []
 
 -- no dates
 abbrev pub no_stamps : Stamps

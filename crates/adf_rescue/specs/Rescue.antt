@@ -16,14 +16,14 @@ use Rattle.adf_tree.specs.Additions.{Addition, entries_of_additions}
 use Rattle.adf_tree.specs.Texts.{is_name}
 use Rattle.adf_tree.specs.Tree.{Tree, is_dir_body, room_for, with_entry}
 use Rattle.adf_blocks.specs.declared.layout.TheConstants.{SECONDARY_TYPE, ST_DIR, ST_FILE}
-use Rattle.adf_blocks.specs.HeadBlock.{is_link, meta_told}
+use Rattle.adf_blocks.specs.HeadBlock.{is_link, meta_stated}
 use Rattle.adf_blocks.specs.Sizes.{blocks}
 use Rattle.adf_volume.specs.Image.{name_of, word_in}
 use Rattle.adf_volume.specs.Made.{datas_in}
 use Rattle.adf_volume.specs.Walk.{Role, heads, node_block}
 use Rattle.adf_findings.specs.Files.{file_content, file_in, grave}
 use Rattle.adf_findings.specs.Found.{owner, parent_node}
-use Rattle.adf_findings.specs.Marked.{AreMarks}
+use Rattle.adf_findings.specs.SoundMarks.{AreMarks}
 use Rattle.adf_findings.specs.Opening.{opening_in}
 use Rattle.adf_findings.specs.Survey.{FindingValue, IsSurvey}
 use Rattle.adf_build.specs.Plan.{blocks_needed}
@@ -137,7 +137,7 @@ at_path t n meta body (Some path) = fitting t n (record { path = path; meta = me
 
 -- the verdict on an entry in a directory, by its body; n is the number of blocks of the new volume
 abbrev pub by_body : List ℕ → ℕ → Tree → Option (List (List ℕ)) → ℕ → Result Body Why → Verdict
-by_body image n t dir h (Ok body) = at_path t n (meta_told (block image h)) body (path_by t dir (name_of image h) h)
+by_body image n t dir h (Ok body) = at_path t n (meta_stated (block image h)) body (path_by t dir (name_of image h) h)
 by_body image n t dir h (Err why) = leaves why
 
 -- the verdict on an entry that is not known

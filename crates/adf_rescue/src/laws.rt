@@ -5,12 +5,12 @@ ghost use Rattle.std.specs.List.{concat};
 ghost use Rattle.adf_fields.specs.Words.{block};
 ghost use Rattle.adf_tree.specs.Additions.{Addition, IsTreeOf};
 ghost use Rattle.adf_tree.specs.declared.entry.Body.TheVariants.{File};
-ghost use Rattle.adf_blocks.specs.HeadBlock.{meta_told};
+ghost use Rattle.adf_blocks.specs.HeadBlock.{meta_stated};
 ghost use Rattle.adf_blocks.specs.Sizes.{blocks};
 ghost use Rattle.adf_volume.specs.Image.{name_of};
 ghost use Rattle.adf_findings.specs.Files.{IsSoundFile, file_content, file_in, grave};
 ghost use Rattle.adf_findings.specs.Found.{parent_node};
-ghost use Rattle.adf_findings.specs.Marked.{AreMarks};
+ghost use Rattle.adf_findings.specs.SoundMarks.{AreMarks};
 ghost use Rattle.adf_findings.specs.Survey.{FindingValue, IsSurvey};
 ghost use Rattle.adf_tree.specs.Tree.{Tree};
 ghost use Rattle.adf_volume.specs.Fits.{Fits};
@@ -33,7 +33,7 @@ pub fn sound_files_stand()
     ensures stand { (a : Look) (fs : List FindingValue) (n : ℕ) (vs : List Verdict)
         → AreMarks a.image a.walk (grave fs) a.sound → IsSoundFile a.image a.walk (grave fs) n
         → verdict (before_first a.image) a vs n
-        ≡ at_path (tree_of (before_first a.image) vs) (blocks a.image) (meta_told (block a.image (node_block a.walk n)))
+        ≡ at_path (tree_of (before_first a.image) vs) (blocks a.image) (meta_stated (block a.image (node_block a.walk n)))
         (File (file_content (file_in a.image a.walk n)))
         (path_by (tree_of (before_first a.image) vs) (place_of vs (parent_node a.walk n))
         (name_of a.image (node_block a.walk n)) (node_block a.walk n)) }

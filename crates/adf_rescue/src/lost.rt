@@ -9,8 +9,8 @@ ghost use Rattle.adf_findings.specs.Concerned.{concern_of_nth};
 ghost use Rattle.adf_findings.specs.Found.{parent_node};
 ghost use Rattle.adf_findings.specs.Marks.{has_mark};
 ghost use Rattle.adf_findings.specs.Survey.{OnSurvey};
-ghost use Rattle.adf_rescue.specs.Lost.{AreEntered, AreLost, AreSettled, bit_told, directory_at, directory_by, has_free_data};
-ghost use Rattle.adf_rescue.specs.Lost.{is_denied, is_directory_at, is_freed, is_inside, is_lost, is_told_free, is_told_used};
+ghost use Rattle.adf_rescue.specs.Lost.{AreEntered, AreLost, AreSettled, bit_stated, directory_at, directory_by, has_free_data};
+ghost use Rattle.adf_rescue.specs.Lost.{is_denied, is_directory_at, is_freed, is_inside, is_lost, is_stated_free, is_stated_used};
 ghost use Rattle.adf_rescue.specs.Lost.{is_unfound, says_directory, says_header};
 
 use crate::image::{block_count, block_in, root_of};
@@ -56,24 +56,24 @@ fn says_header(image: &[u8], b: u32) -> bool
 
 // What the bitmap tells of a block: whether it is free.
 #[tactic(auto)]
-fn bit_told(survey: &Survey<'_>, b: u32) -> Option<bool>
-    ensures { OnSurvey survey.now.image (λ w _. result ≡ bit_told survey.now.image w b) }
+fn bit_stated(survey: &Survey<'_>, b: u32) -> Option<bool>
+    ensures { OnSurvey survey.now.image (λ w _. result ≡ bit_stated survey.now.image w b) }
 {
     survey.is_free(b)
 }
 
 // Whether the bitmap tells that a block is free.
-fn is_told_free(survey: &Survey<'_>, b: u32) -> bool
-    ensures { OnSurvey survey.now.image (λ w _. result ≡ is_told_free survey.now.image w b) }
+fn is_stated_free(survey: &Survey<'_>, b: u32) -> bool
+    ensures { OnSurvey survey.now.image (λ w _. result ≡ is_stated_free survey.now.image w b) }
 {
-    bit_told(survey, b).unwrap_or(false)
+    bit_stated(survey, b).unwrap_or(false)
 }
 
 // Whether the bitmap tells that a block is in use.
-fn is_told_used(survey: &Survey<'_>, b: u32) -> bool
-    ensures { OnSurvey survey.now.image (λ w _. result ≡ is_told_used survey.now.image w b) }
+fn is_stated_used(survey: &Survey<'_>, b: u32) -> bool
+    ensures { OnSurvey survey.now.image (λ w _. result ≡ is_stated_used survey.now.image w b) }
 {
-    !bit_told(survey, b).unwrap_or(true)
+    !bit_stated(survey, b).unwrap_or(true)
 }
 
 // Whether the first data block of a file is free.
@@ -84,7 +84,7 @@ fn has_free_data(survey: &Survey<'_>, b: u32) -> bool
     let image = survey.image();
     word_in(image, b, SECONDARY_TYPE) != ST_DIR
         && word_in(image, b, SIZE) != 0
-        && is_told_free(survey, word_in(image, b, FIRST_POINTER))
+        && is_stated_free(survey, word_in(image, b, FIRST_POINTER))
 }
 
 // Whether an entry is a directory with its header in block `p`.
@@ -208,7 +208,7 @@ fn is_freed(survey: &Survey<'_>, b: u32) -> bool
     requires { b < blocks survey.now.image }
     ensures { OnSurvey survey.now.image (λ w _. result ≡ is_freed survey.now.image w b) }
 {
-    is_told_free(survey, b) || has_free_data(survey, b)
+    is_stated_free(survey, b) || has_free_data(survey, b)
 }
 
 // Whether block `b` is a lost header.
@@ -221,7 +221,7 @@ fn is_lost(survey: &Survey<'_>, settled: &Vec<bool>, b: u32) -> bool
     is_inside(survey.image(), b)
         && is_unfound(survey, b)
         && !is_freed(survey, b)
-        && (is_told_used(survey, b) || !is_denied(survey, settled, b))
+        && (is_stated_used(survey, b) || !is_denied(survey, settled, b))
 }
 
 /// Whether each block is a lost header.

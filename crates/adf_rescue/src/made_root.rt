@@ -8,7 +8,7 @@ ghost use Rattle.adf_rescue.specs.MadeRoot.{has_root, is_page, label_in, page_fo
 use crate::image::{block_in, root_of};
 use adf_blocks::{
     FIRST_PAGE, FIRST_SLOT, ROOT_PAGES, RootOut, SLOTS, T_DATA, T_LIST, T_SHORT, TYPE,
-    has_root_type, label_told, stamps_told, write_root,
+    has_root_type, label_stated, stamps_stated, write_root,
 };
 use adf_fields::{BLOCK_LEN, Block, Stamp};
 use adf_tree::{Label, Stamps};
@@ -84,7 +84,7 @@ fn label_in(root: &Block<'_>) -> Label
     ensures { result ≡ label_in root.now }
 {
     if has_root_type(root) {
-        label_told(root)
+        label_stated(root)
     } else {
         Label::new(b"").unwrap()
     }
@@ -95,7 +95,7 @@ fn stamps_in(root: &Block<'_>) -> Stamps
     ensures { result ≡ stamps_in root.now }
 {
     if has_root_type(root) {
-        return stamps_told(root);
+        return stamps_stated(root);
     }
     let none = Stamp {
         days: 0,

@@ -88,18 +88,18 @@ pub record RunEnds {Words : Type 0} (c : Command Words) (words : Words) (input :
 abbrev pub IsEnough : {Words : Type 0} → Command Words → Words → ℕ → Type 0
 IsEnough c words most = (r : c.Request) → c.asks words r → c.limit r ≤ most
 
--- of an input that gave and gives these, at most one byte is taken that belongs to no answer
+-- of an input that gave and gives these, at most one byte is consumed that belongs to no answer
 abbrev pub TakesEnough : {Words : Type 0} → Command Words → Words → Option (List ℕ) → Option (List ℕ) → Type 0
 TakesEnough c words old new = (most : ℕ) → IsEnough c words most → TakesAtMost (most + 1) old new
 
--- of an input in memory, so many bytes are looked at in a run that ends at status n, from the front
-pub record LooksAt {Words : Type 0} (c : Command Words) (words : Words) (input : List ℕ) (n taken : ℕ) : Type 0 where
-  pub within : taken ≤ length input
+-- of an input in memory, so many bytes are consumed in a run that ends at status n, from the front
+pub record IsConsumed {Words : Type 0} (c : Command Words) (words : Words) (input : List ℕ) (n consumed : ℕ) : Type 0 where
+  pub within : consumed ≤ length input
   -- none where nothing is answered, and at most one byte that belongs to no answer
-  pub none : IsUnanswered c words → taken ≡ 0
-  pub at_most : (most : ℕ) → IsEnough c words most → taken ≤ most + 1
+  pub none : IsUnanswered c words → consumed ≡ 0
+  pub at_most : (most : ℕ) → IsEnough c words most → consumed ≤ most + 1
   -- where something is answered, all that belongs to an answer, and of a longer input one byte more
-  pub all : ¬ (n ≡ 2) → ¬ (n ≡ 3) → (r : c.Request) × c.asks words r × (taken ≡ min (length input) (c.limit r + 1))
+  pub all : ¬ (n ≡ 2) → ¬ (n ≡ 3) → (r : c.Request) × c.asks words r × (consumed ≡ min (length input) (c.limit r + 1))
 
 -- what words ask for is not refused, and a path that is not read is answered so, whatever the input
 pub record IsConsistent {Words : Type 0} (c : Command Words) : Type 0 where

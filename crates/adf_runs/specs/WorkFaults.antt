@@ -2,15 +2,15 @@
 use Rattle.std.specs.Prelude.{ℕ, List, codes}
 use Rattle.adf_tree.specs.declared.path_texts.PathFault.{PathFault}
 use Rattle.adf_tree.specs.declared.path_texts.PathFault.TheVariants.{BadText, NoMemory as PathNoMemory}
-use Rattle.adf_words.specs.declared.command_line.WordsFault.{WordsFault}
-use Rattle.adf_words.specs.declared.command_line.WordsFault.TheVariants.{NoMemory as WordsNoMemory, Usage as WordsUsage}
+use Rattle.adf_words.specs.declared.command_line.ArgsError.{ArgsError}
+use Rattle.adf_words.specs.declared.command_line.ArgsError.TheVariants.{NoMemory as ArgsNoMemory, Usage as ArgsUsage}
 use Rattle.adf_runs.specs.declared.work_fault.WorkFault.{WorkFault}
 use Rattle.adf_runs.specs.declared.work_fault.WorkFault.TheVariants.{Usage, BadPath, NoMemory}
 
 -- the fault where words are not had
-abbrev pub words_refused : WordsFault → WorkFault
-words_refused WordsUsage = Usage
-words_refused WordsNoMemory = NoMemory
+abbrev pub args_refused : ArgsError → WorkFault
+args_refused ArgsUsage = Usage
+args_refused ArgsNoMemory = NoMemory
 
 -- the fault where a path is not read
 abbrev pub path_refused : PathFault → WorkFault

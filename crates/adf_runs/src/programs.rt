@@ -2,7 +2,7 @@
 
 ghost use Rattle.std.specs.Prelude.{◌≡◌, ◌+◌, ◌<◌, ◌^◌, ℕ, List, Some, false, true, IfErr, IfOk, IfSome, OnOk};
 ghost use Rattle.adf_words.specs.CommandLine.{texts_of};
-ghost use Rattle.adf_runs.specs.Commands.{Command, IsConsistent, IsUnanswered, LooksAt, RunEnds, TakesEnough};
+ghost use Rattle.adf_runs.specs.Commands.{Command, IsConsistent, IsUnanswered, IsConsumed, RunEnds, TakesEnough};
 ghost use Rattle.adf_runs.specs.Outcomes.{EndsBy, is_read_fault, is_write_fault};
 ghost use Rattle.adf_runs.specs.Streams.{TakesAtMost};
 ghost use Rattle.adf_runs.specs.WorkFaults.{IsNoWork};
@@ -95,8 +95,8 @@ pub fn run_program<P: Program, R: Source, W: Sink, E: Sink>(
 pub struct Ran {
     /// The status.
     pub status: u8,
-    /// How many bytes of the input were looked at, from the front: none where no work was begun.
-    pub taken: usize,
+    /// How many bytes of the input were consumed, from the front: none where no work was begun.
+    pub consumed: usize,
 }
 
 /// Runs a program, as `run_program` does, over bytes that are in memory, where they lie.
@@ -113,16 +113,16 @@ pub fn run_program_on<P: Program, W: Sink, E: Sink>(
         (W.has_failed output.new) (W.held output.old) (W.held output.new)
         (E.has_failed errors.new) (E.held errors.old) (E.held errors.new) }
     ensures untouched { IsUnanswered P.command (texts_of words.now) → output.new ≡ output.old }
-    ensures taken { LooksAt P.command (texts_of words.now) input.now result.status result.taken }
+    ensures consumed { IsConsumed P.command (texts_of words.now) input.now result.status result.consumed }
 {
     match P::of(alloc, words) {
         Ok(work) => Ran {
             status: work.on(alloc, input, output).finish(errors),
-            taken: input.len().min(work.limit() + 1),
+            consumed: input.len().min(work.limit() + 1),
         },
         Err(fault) => Ran {
             status: fault.refuse(P::usage(), errors),
-            taken: 0,
+            consumed: 0,
         },
     }
 }

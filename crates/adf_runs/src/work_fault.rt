@@ -7,7 +7,7 @@ ghost use Rattle.adf_runs.specs.WorkFaults.{refusal_line, refusal_status};
 use crate::devices::Sink;
 use crate::streams::say;
 use adf_tree::PathFault;
-use adf_words::WordsFault;
+use adf_words::ArgsError;
 use std::error::Error;
 use std::fmt;
 
@@ -39,15 +39,15 @@ impl fmt::Display for WorkFault {
 
 impl Error for WorkFault {}
 
-impl From<WordsFault> for WorkFault {
-    ghost use Rattle.adf_runs.specs.WorkFaults.{words_refused};
+impl From<ArgsError> for WorkFault {
+    ghost use Rattle.adf_runs.specs.WorkFaults.{args_refused};
 
-    ghost from_gives = { λ fault f. f ≡ words_refused fault };
+    ghost from_gives = { λ fault f. f ≡ args_refused fault };
 
-    fn from(fault: WordsFault) -> WorkFault {
+    fn from(fault: ArgsError) -> WorkFault {
         match fault {
-            WordsFault::Usage => WorkFault::Usage,
-            WordsFault::NoMemory => WorkFault::NoMemory,
+            ArgsError::Usage => WorkFault::Usage,
+            ArgsError::NoMemory => WorkFault::NoMemory,
         }
     }
 }

@@ -8,7 +8,7 @@ use Rattle.adf_runs.proofs.PendingText.{appends_nil, part_behind, part_of_more}
 use Rattle.adf_runs.specs.Streams.{Says}
 use Rattle.adf_shelf_cmd.specs.declared.files.Unopened.{Unopened}
 use Rattle.adf_shelf_cmd.specs.Files.{why_line}
-use Rattle.adf_shelf_cmd.specs.Lines.{AreShelfLines, BreaksLine, IsOpenedReport, IsRunStatus, Reports, SaysMore, WritesAll, WritesLines, WritesPart, shelf_line}
+use Rattle.adf_shelf_cmd.specs.Lines.{AreBatchLines, BreaksLine, IsOpenedReport, IsRunStatus, Reports, SaysMore, WritesAll, WritesLines, WritesPart, batch_line}
 use Rattle.adf_shelf_cmd.specs.Names.{AreGiven}
 
 -- what was said, and a text behind it
@@ -33,14 +33,14 @@ Progress may a b status o o' failed e e' =
 -- the line of a name was written, and what is said of its file was said
 abbrev pub Line : Reports → List ℕ → ℕ → Option (List ℕ) → Option (List ℕ) → Bool → Option (List ℕ) → Bool → Option (List ℕ) → Type 0
 Line may name status o o' failed e failed' e' =
-    (text : List ℕ) × (why : Option Unopened) × may name status text why × Appends o o' (shelf_line name text)
+    (text : List ℕ) × (why : Option Unopened) × may name status text why × Appends o o' (batch_line name text)
     × SaysMore failed e failed' e' (why_line name why)
 
 -- a line behind others
 lines_added : (may : Reports) (names : List (List ℕ)) (s t : ℕ) (output said name text : List ℕ) (why : Option Unopened)
-    → AreShelfLines may names s output said → may name t text why
-    → AreShelfLines may (names ++ name ∷ []) (max s t) (output ++ shelf_line name text) (said ++ why_line name why)
-unfolding AreShelfLines
+    → AreBatchLines may names s output said → may name t text why
+    → AreBatchLines may (names ++ name ∷ []) (max s t) (output ++ batch_line name text) (said ++ why_line name why)
+unfolding AreBatchLines
 lines_added may [] s t output said name text why h tells = (
   t,
   0,
@@ -51,20 +51,20 @@ lines_added may [] s t output said name text why h tells = (
   tells,
   (refl, refl, refl),
   omega (arith, h.0),
-  rw (h.1) (sym (append-nil (shelf_line name text))),
+  rw (h.1) (sym (append-nil (batch_line name text))),
   rw (h.2) (sym (append-nil (why_line name why))),
 )
 lines_added may (n ∷ ns) s t output said name text why (a, b, line, rest, more, first, is_first, lines, e, whole, all) tells = (
   a,
   max b t,
   line,
-  rest ++ shelf_line name text,
+  rest ++ batch_line name text,
   more ++ why_line name why,
   first,
   is_first,
   lines_added may ns b t rest more name text why lines tells,
   omega (arith, e),
-  rw (whole) (append_assoc (shelf_line n line) rest (shelf_line name text)),
+  rw (whole) (append_assoc (batch_line n line) rest (batch_line name text)),
   rw (all) (append_assoc (why_line n first) more (why_line name why)),
 )
 
@@ -85,7 +85,7 @@ given_all (Some x) (Some y) xs p q = p ∙ ap (λ l. xs ++ l) q ∙ append-nil x
 
 pub started : (may : Reports) (a : Option (List (List ℕ))) (o : Option (List ℕ)) (failed : Bool) (e : Option (List ℕ)) → failed ≡ false
     → Progress may a a 0 o o failed e e
-unfolding AreShelfLines
+unfolding AreBatchLines
 started may a o failed e works = ([], [], given_none a, ([], (refl, refl, refl), appends_nil o), says_none failed e works)
 
 pub stepped : (may : Reports) (a b c : Option (List (List ℕ))) (s t : ℕ) (o o' o'' : Option (List ℕ)) (failed failed' : Bool) (e e' e'' : Option (List ℕ))
@@ -96,9 +96,9 @@ stepped may a b c s t o o' o'' failed failed' e e' e'' name (names, said, given,
   said ++ why_line name why,
   given_more a b c names (name ∷ []) given one,
   (
-    output ++ shelf_line name text,
+    output ++ batch_line name text,
     lines_added may names s t output said name text why lines tells,
-    appends_two o o' o'' output (shelf_line name text) _ refl written more,
+    appends_two o o' o'' output (batch_line name text) _ refl written more,
   ),
   says_more failed failed' e e' e'' said (why_line name why) says says_one,
 )
@@ -148,7 +148,7 @@ max_status s t u e h i = (omega (arith, e, h.0, i.0), λ two. omega (arith, e, h
 -- no line is those of no names
 pub nothing_written : (may : Reports) (known : Option (List (List ℕ))) (failed : Bool) (o : Option (List ℕ)) → failed ≡ false
     → WritesPart may known failed o o []
-unfolding AreShelfLines
+unfolding AreBatchLines
 nothing_written may None failed o works = ([], [], tt, 0, o, ([], (refl, refl, refl), appends_nil o), (works, refl))
 nothing_written may (Some []) failed o works = ([], [], refl, 0, o, ([], (refl, refl, refl), appends_nil o), (works, refl))
 nothing_written may (Some (n ∷ ns)) true o works = cc

@@ -12,12 +12,12 @@ use Rattle.adf_shelf_cmd.specs.Files.{why_line}
 use Rattle.adf_shelf_cmd.specs.declared.files.Unopened.{Unopened}
 use Rattle.adf_shelf_cmd.specs.declared.report.Report.{Report}
 use Rattle.adf_shelf_cmd.specs.declared.report.Report.TheVariants.{Checked, NotOpened, ReadFault, NoMemory}
-use Rattle.adf_shelf_cmd.specs.declared.shelf.Stop.{Stop}
-use Rattle.adf_shelf_cmd.specs.declared.shelf.Stop.TheVariants.{ReadFault as NamesFault, WriteFault, NoMemory as StopNoMemory}
+use Rattle.adf_shelf_cmd.specs.declared.batch.Stop.{Stop}
+use Rattle.adf_shelf_cmd.specs.declared.batch.Stop.TheVariants.{ReadFault as NamesFault, WriteFault, NoMemory as StopNoMemory}
 
 -- the line of a name: its escape form, a tab, and the text reported of its file
-abbrev pub shelf_line : List ℕ → List ℕ → List ℕ
-shelf_line name text = escaped name ++ (9 ∷ text)
+abbrev pub batch_line : List ℕ → List ℕ → List ℕ
+batch_line name text = escaped name ++ (9 ∷ text)
 
 -- the answer of `check` to bytes, to the known ones where some are
 abbrev pub Checks : Option (List ℕ) → ℕ → List ℕ → Type 0
@@ -54,15 +54,15 @@ abbrev pub Reports : Type 1
 Reports = List ℕ → ℕ → List ℕ → Option Unopened → Type 0
 
 -- the lines of names in order, the greatest status of one, and what is said on errors of their files
-unfoldable pub AreShelfLines : Reports → List (List ℕ) → ℕ → List ℕ → List ℕ → Type 0
-AreShelfLines may [] status output said = (status ≡ 0) × (output ≡ []) × (said ≡ [])
-AreShelfLines may (name ∷ names) status output said =
-    (s t : ℕ) × (text rest more : List ℕ) × (why : Option Unopened) × may name s text why × AreShelfLines may names t rest more
-    × (status ≡ max s t) × (output ≡ shelf_line name text ++ rest) × (said ≡ why_line name why ++ more)
+unfoldable pub AreBatchLines : Reports → List (List ℕ) → ℕ → List ℕ → List ℕ → Type 0
+AreBatchLines may [] status output said = (status ≡ 0) × (output ≡ []) × (said ≡ [])
+AreBatchLines may (name ∷ names) status output said =
+    (s t : ℕ) × (text rest more : List ℕ) × (why : Option Unopened) × may name s text why × AreBatchLines may names t rest more
+    × (status ≡ max s t) × (output ≡ batch_line name text ++ rest) × (said ≡ why_line name why ++ more)
 
 -- output got the lines of these names
 abbrev pub WritesLines : Reports → List (List ℕ) → ℕ → Option (List ℕ) → Option (List ℕ) → List ℕ → Type 0
-WritesLines may names status o o' said = (output : List ℕ) × AreShelfLines may names status output said × Appends o o' output
+WritesLines may names status o o' said = (output : List ℕ) × AreBatchLines may names status output said × Appends o o' output
 
 -- output got the lines of all names, of the known ones where some are
 abbrev pub WritesAll : Reports → Option (List (List ℕ)) → ℕ → Option (List ℕ) → Option (List ℕ) → List ℕ → Type 0
@@ -71,7 +71,7 @@ WritesAll may known status o o' said = (names : List (List ℕ)) × IfSome known
 -- of the line of a name, output got a front part where it failed, but not all, and else nothing
 abbrev pub BreaksLine : Reports → List ℕ → Bool → Option (List ℕ) → Option (List ℕ) → Type 0
 BreaksLine may name true o o' = (status : ℕ) × (text : List ℕ) × (why : Option Unopened) × may name status text why
-    × AppendsPart true o o' (shelf_line name text)
+    × AppendsPart true o o' (batch_line name text)
 BreaksLine may name false o o' = o' ≡ o
 
 -- of the lines of names, output got a front part of the first where it failed, but not all, and else nothing

@@ -1,17 +1,17 @@
 //! The command `adf-shelf`: the verdicts of `check` on many images.
 #![tactic(auto)]
 
+mod batch;
 mod files;
 mod names;
 mod report;
 mod runner;
-mod shelf;
 
+pub use crate::batch::{Stop, say_more, write_verdicts};
 pub use crate::files::{Files, SystemFiles, Unopened};
 pub use crate::names::{Names, TextNames, WordNames};
 pub use crate::report::{Report, check_file, push_line, push_why};
 pub use crate::runner::run;
-pub use crate::shelf::{Stop, say_more, write_verdicts};
 pub use adf_words::{
     Order, parse_shelf as parse, shelf_words_as_documented as words_as_documented,
 };

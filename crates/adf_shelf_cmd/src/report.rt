@@ -1,7 +1,7 @@
 // What is reported of a file, and the line of its name.
 
 ghost use Rattle.std.specs.Prelude.{◌≡◌, ◌++◌, None, false, OnOk};
-ghost use Rattle.adf_shelf_cmd.specs.Lines.{IsOpenedReport, IsReport, IsRunStatus, is_unread, report_status, report_text, report_why, shelf_line};
+ghost use Rattle.adf_shelf_cmd.specs.Lines.{IsOpenedReport, IsReport, IsRunStatus, is_unread, report_status, report_text, report_why, batch_line};
 ghost use Rattle.adf_shelf_cmd.specs.Files.{why_line};
 
 use crate::files::{Files, Unopened};
@@ -92,7 +92,7 @@ pub fn check_file<F: Files>(alloc: Global, files: &F, name: &[u8], buffer: &mut 
 /// Appends the line of a name: its escape form, a tab, and what is reported of its file.
 pub fn push_line(text: &mut Vec<u8>, name: &[u8], report: &Report) -> Result<(), AllocError>
     ensures { OnOk result
-        (text.new.items ≡ text.old.items ++ shelf_line name.now (report_text report.now)) }
+        (text.new.items ≡ text.old.items ++ batch_line name.now (report_text report.now)) }
 {
     push_escaped(text, name)?;
     text.push(b'\t')?;

@@ -7,11 +7,11 @@ ghost use Rattle.adf_words.specs.ShelfLine.{AsksShelf, AreRefusedByShelf};
 ghost use Rattle.adf_shelf_cmd.specs.Lines.{Ends, IsReportOf, IsRunStatus};
 ghost use Rattle.adf_shelf_cmd.specs.Names.{are_unread, names_asked};
 
+use crate::batch::{Stop, say_more, write_verdicts};
 use crate::files::Files;
 use crate::names::{Names, TextNames, WordNames};
-use crate::shelf::{Stop, say_more, write_verdicts};
 use adf_runs::{Sink, say};
-use adf_words::{Order, SHELF_USAGE as USAGE, WordsFault, parse_shelf};
+use adf_words::{ArgsError, Order, SHELF_USAGE as USAGE, parse_shelf};
 use std::alloc::Global;
 use std::io::BufRead;
 
@@ -115,11 +115,11 @@ pub fn run<B: BufRead, F: Files, W: Sink, E: Sink>(
 {
     match parse_shelf(alloc, words) {
         Ok(order) => run_order(alloc, &order, input, files, output, errors),
-        Err(WordsFault::Usage) => {
+        Err(ArgsError::Usage) => {
             say(errors, USAGE.as_bytes());
             2
         }
-        Err(WordsFault::NoMemory) => {
+        Err(ArgsError::NoMemory) => {
             say(errors, Stop::NoMemory.line().as_bytes());
             3
         }

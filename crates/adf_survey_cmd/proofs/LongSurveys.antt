@@ -10,7 +10,7 @@ use Rattle.adf_volume.specs.Start.{is_image_len}
 use Rattle.adf_volume.specs.Walk.{Role}
 use Rattle.adf_findings.specs.Files.{grave}
 use Rattle.adf_findings.specs.Lookup.{LeadsTo}
-use Rattle.adf_findings.specs.Marked.{AreMarks}
+use Rattle.adf_findings.specs.SoundMarks.{AreMarks}
 use Rattle.adf_findings.specs.Survey.{FindingValue, IsSurvey, finding}
 use Rattle.adf_findings.specs.Survey.IsSurvey.{unread}
 use Rattle.adf_findings.specs.Survey.UnreadTells.{bad_boot}

@@ -6,7 +6,7 @@ use Rattle.adf_tree.proofs.PathParts.{one_path}
 use Rattle.adf_volume.specs.Walk.{FileAt, Role, node_block}
 use Rattle.adf_findings.specs.Files.{IsSoundFile, grave}
 use Rattle.adf_findings.specs.Lookup.{LeadsTo}
-use Rattle.adf_findings.specs.Marked.{AreMarks}
+use Rattle.adf_findings.specs.SoundMarks.{AreMarks}
 use Rattle.adf_findings.specs.Survey.{FindingValue}
 use Rattle.adf_findings.proofs.OneSurvey.{one_survey}
 use Rattle.adf_build.specs.Laid.{volume}

@@ -9,7 +9,7 @@ use Rattle.adf_volume.specs.Fits.{Fits}
 use Rattle.adf_volume.specs.Layout.{Layout}
 use Rattle.adf_volume.specs.Walk.{Role}
 use Rattle.adf_findings.specs.Files.{grave}
-use Rattle.adf_findings.specs.Marked.{AreMarks}
+use Rattle.adf_findings.specs.SoundMarks.{AreMarks}
 use Rattle.adf_findings.specs.Survey.{FindingValue, IsSurvey}
 use Rattle.adf_findings.proofs.FirstFindings.{finds_none}
 use Rattle.adf_rescue.specs.declared.left_out.LeftOut.{LeftOut}

@@ -6,7 +6,7 @@ use Rattle.adf_tree.specs.PathTexts.{IsPathText}
 use Rattle.adf_volume.specs.Walk.{FileAt, Role}
 use Rattle.adf_findings.specs.Files.{IsSoundFile, file_content, file_in}
 use Rattle.adf_findings.specs.Lookup.{LeadsTo}
-use Rattle.adf_findings.specs.Marked.{AreMarks}
+use Rattle.adf_findings.specs.SoundMarks.{AreMarks}
 use Rattle.adf_findings.specs.Survey.{FindingValue, IsSurvey}
 use Rattle.adf_fields.specs.declared.dates.Stamp.{Stamp}
 use Rattle.adf_texts.specs.VolumeLines.{AreDates}

@@ -4,10 +4,10 @@ use Rattle.std.specs.Prelude.{ℕ, Bool, true, false, List, [], ◌∷◌, ◌++
 use Rattle.std.specs.List.{flat_map, range_with_len}
 use Rattle.adf_fields.specs.Words.{block}
 use Rattle.adf_fields.specs.declared.dates.Stamp.{Stamp}
-use Rattle.adf_blocks.specs.HeadBlock.{body_at, meta_told}
+use Rattle.adf_blocks.specs.HeadBlock.{body_at, meta_stated}
 use Rattle.adf_volume.specs.Walk.{Role, heads, node_block}
 use Rattle.adf_findings.specs.Lookup.{path_to}
-use Rattle.adf_findings.specs.Marked.{AreMarks}
+use Rattle.adf_findings.specs.SoundMarks.{AreMarks}
 use Rattle.adf_findings.specs.Opening.{opening_in}
 use Rattle.adf_findings.specs.Survey.{FindingValue}
 use Rattle.adf_texts.specs.RowTexts.{head_lines}
@@ -21,7 +21,7 @@ mark_text false = codes "damaged "
 
 -- the lines that `list` writes of entry n, as its header at block h tells
 abbrev pub header_lines : (Stamp → List ℕ) → List ℕ → List (Role × ℕ) → ℕ → ℕ → List ℕ
-header_lines date image w n h = head_lines date (path_to image w n) (body_at (block image h)) (meta_told (block image h))
+header_lines date image w n h = head_lines date (path_to image w n) (body_at (block image h)) (meta_stated (block image h))
 
 -- the mark and the lines of entry n
 abbrev pub found_lines : (Stamp → List ℕ) → (ℕ → Bool) → List ℕ → List (Role × ℕ) → ℕ → List ℕ

@@ -54,7 +54,7 @@ abbrev pub blocks_text : ℕ → ℕ → List ℕ
 blocks_text first last =
     if first == last then codes "block " ++ decimal first else codes "blocks " ++ (decimal first ++ (codes " to " ++ decimal last))
 
--- what a run concerns: the path of an entry, or of the directory in which a header was passed over, and `/` behind it
+-- what a run concerns: the path of an entry, or of the directory in which a header was skipped, and `/` behind it
 abbrev pub concern_text : List ℕ → List (Role × ℕ) → Option Concern → List ℕ
 concern_text image w None = []
 concern_text image w (Some (Entry n)) = codes ": " ++ names_text (path_to image w n)

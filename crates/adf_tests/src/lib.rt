@@ -2,6 +2,8 @@
 #![tactic(auto)]
 
 #[cfg(test)]
+mod batch;
+#[cfg(test)]
 mod devices;
 #[cfg(test)]
 mod disk_runs;
@@ -13,5 +15,3 @@ mod images_in_memory;
 mod memory;
 #[cfg(test)]
 mod planned_disks;
-#[cfg(test)]
-mod shelf;

@@ -7,7 +7,7 @@ pub mod Faults
 pub mod Chain
 pub mod NameKeys
 pub mod NameSet
-pub mod Seats
+pub mod NameBuckets
 pub mod LastChain
 pub mod Paths
 pub mod Escapes

@@ -33,8 +33,8 @@ by_words a b = ordering_then (nat_cmp a.first b.first) (ordering_then (nat_cmp a
     (ordering_then (nat_cmp a.third b.third) (nat_cmp a.fourth b.fourth)))
 
 -- a number with one more word mixed in
-abbrev pub stirred : ℕ → ℕ → ℕ
-stirred number word = (number * 11400714819323198485 % 2 ^ 64 + word) % 2 ^ 64
+abbrev pub hashed : ℕ → ℕ → ℕ
+hashed number word = (number * 11400714819323198485 % 2 ^ 64 + word) % 2 ^ 64
 
 -- a number with its upper half mixed into its lower half
 abbrev pub folded : ℕ → ℕ
@@ -42,4 +42,4 @@ folded number = bit_xor number (number / 2 ^ 32)
 
 -- the hash of a key: similar keys have hashes far apart
 unfoldable pub spread_of : NameKey → ℕ
-spread_of k = stirred (folded (stirred (stirred (stirred k.first k.second) k.third) k.fourth)) 0
+spread_of k = hashed (folded (hashed (hashed (hashed k.first k.second) k.third) k.fourth)) 0

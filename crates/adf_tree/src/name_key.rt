@@ -2,7 +2,7 @@
 
 ghost use Rattle.std.specs.Prelude.{◌≡◌, ◌≤◌, ◌+◌, length, true};
 ghost use Rattle.adf_tree.specs.Texts.{uppers};
-ghost use Rattle.adf_tree.specs.NameKeys.{is_short, key_of_name, padded, spread_of, stirred, name_word};
+ghost use Rattle.adf_tree.specs.NameKeys.{is_short, key_of_name, padded, spread_of, hashed, name_word};
 
 use crate::name::Name;
 use adf_fields::upper;
@@ -20,8 +20,8 @@ pub struct NameKey {
 const FACTOR: u64 = 11400714819323198485;
 
 // Mixes one more word into a number.
-fn stirred(number: u64, word: u64) -> u64
-    ensures { result ≡ stirred number word }
+fn hashed(number: u64, word: u64) -> u64
+    ensures { result ≡ hashed number word }
 {
     number.wrapping_mul(FACTOR).wrapping_add(word)
 }
@@ -70,8 +70,8 @@ impl NameKey {
     pub fn spread(self) -> u64
         ensures { result ≡ spread_of self }
     {
-        let half = stirred(self.first, self.second);
-        let whole = stirred(stirred(half, self.third), self.fourth);
-        stirred(whole ^ (whole >> 32), 0)
+        let half = hashed(self.first, self.second);
+        let whole = hashed(hashed(half, self.third), self.fourth);
+        hashed(whole ^ (whole >> 32), 0)
     }
 }

@@ -4,8 +4,8 @@ ghost use Rattle.std.specs.Prelude.{◌≡◌, ◌<◌, ◌≤◌, ◌^◌, ◌+
 ghost use Rattle.adf_tree.specs.Texts.{uppers};
 ghost use Rattle.adf_tree.specs.NameSet.{has, is_among, HasMore, IsUnion, IsWith, Names};
 ghost use Rattle.adf_tree.specs.declared.name_key.NameKey.{NameKey};
-ghost use Rattle.adf_tree.specs.Seats.{holder_of, seat_in, seating_of, seats_tell, AreSeated};
-ghost use Rattle.adf_tree.specs.declared.name_set.Seating.TheVariants.{Vacant};
+ghost use Rattle.adf_tree.specs.NameBuckets.{holder_of, first_bucket_in, probe_of, probe_buckets, AreStored};
+ghost use Rattle.adf_tree.specs.declared.name_set.Probe.TheVariants.{Vacant};
 
 use crate::name::Name;
 use crate::name_key::NameKey;
@@ -15,162 +15,162 @@ use std::collections::BTreeSet;
 use std::marker::Model;
 use std::mem;
 
-const FIRST_SEATS: usize = 64;
+const FIRST_BUCKETS: usize = 64;
 
-/// The most names that can have seats: a seat holds a number of 32 bits.
-const MOST_SEATED: usize = 1 << 32;
+/// The most names that can have buckets: a bucket holds a number of 32 bits.
+const MOST_STORED: usize = 1 << 32;
 
-/// The number of adjacent seats that a name may take.
+/// The number of adjacent buckets that a name may take.
 const CHOICE: usize = 8;
 
-/// A set of names, ignoring the case of `a` to `z`. The name's hash selects a window of eight seats; the name takes
-/// the first vacant one. Names whose eight seats are all taken are kept in a sorted set, the rest.
+/// A set of names, ignoring the case of `a` to `z`. The name's hash selects a window of eight buckets; the name takes
+/// the first vacant one. Names whose eight buckets are all taken are kept in a sorted set, the overflow.
 #[derive(Drop)]
 pub struct NameSet {
-    seated: Vec<NameKey>,
-    seats: Vec<u32>,
-    rest: BTreeSet<NameKey>,
+    stored: Vec<NameKey>,
+    buckets: Vec<u32>,
+    overflow: BTreeSet<NameKey>,
 }
 
 impl Model for NameSet {
     ghost use Rattle.std.specs.Prelude.{◌++◌};
     ghost use Rattle.adf_tree.specs.NameSet.{Names};
-    ghost use Rattle.adf_tree.specs.Seats.{AreSeated};
+    ghost use Rattle.adf_tree.specs.NameBuckets.{AreStored};
 
     ghost Value = { Names };
 
-    ghost view = { λ s. s.seated.items ++ s.rest.keys };
+    ghost view = { λ s. s.stored.items ++ s.overflow.keys };
 
-    ghost invariant = { λ s. AreSeated s.seated.items s.seats.items s.rest.keys };
+    ghost invariant = { λ s. AreStored s.stored.items s.buckets.items s.overflow.keys };
 }
 
-/// How a name is seated.
-pub enum Seating {
-    /// The name has a seat.
-    Seated,
-    /// This is the first vacant seat.
+/// How a search in the buckets of a name ends.
+pub enum Probe {
+    /// The name has a bucket.
+    Stored,
+    /// This is the first vacant bucket.
     Vacant(usize),
-    /// Other names have all its seats.
-    Crowded,
+    /// Other names have all its buckets.
+    Full,
 }
 
-#[tactic(auto, unfolding(crate::specs::Seats::seat_in))]
-// The first seat of a name in a table of `count` seats.
-fn seat_of(name: NameKey, count: usize) -> usize
-    ensures exact { result ≡ seat_in count name }
+#[tactic(auto, unfolding(crate::specs::NameBuckets::first_bucket_in))]
+// The first bucket of a name in a table of `count` buckets.
+fn first_bucket(name: NameKey, count: usize) -> usize
+    ensures exact { result ≡ first_bucket_in count name }
     ensures within { result ≤ count }
     ensures below { 0 < count → result < count }
 {
     ((u128::from(name.spread()) * count as u128) >> 64) as usize
 }
 
-// The name in a seat.
-fn holder(names: &[NameKey], seats: &[u32], seat: usize) -> Option<NameKey>
-    ensures { result ≡ holder_of names.now seats.now seat }
+// The name in a bucket.
+fn holder(names: &[NameKey], buckets: &[u32], bucket: usize) -> Option<NameKey>
+    ensures { result ≡ holder_of names.now buckets.now bucket }
 {
-    let place = seats.get(seat).copied().unwrap_or(0);
+    let place = buckets.get(bucket).copied().unwrap_or(0);
     names.get(place as usize).copied()
 }
 
-// Searches the seats of a name.
-fn seats_tell(names: &[NameKey], seats: &[u32], name: NameKey) -> Seating
-    ensures exact { result ≡ seats_tell names.now seats.now name }
-    ensures inside { 8 < length seats.now → (seat : ℕ) → result ≡ Vacant seat
-        → seat < length seats.now }
+// Searches the buckets of a name.
+fn probe_buckets(names: &[NameKey], buckets: &[u32], name: NameKey) -> Probe
+    ensures exact { result ≡ probe_buckets names.now buckets.now name }
+    ensures inside { 8 < length buckets.now → (bucket : ℕ) → result ≡ Vacant bucket
+        → bucket < length buckets.now }
 {
-    let first = seat_of(name, seats.len().saturating_sub(CHOICE));
-    for seat in first..first + CHOICE {
-        match holder(names, seats, seat) {
-            None => return Seating::Vacant(seat),
+    let first = first_bucket(name, buckets.len().saturating_sub(CHOICE));
+    for bucket in first..first + CHOICE {
+        match holder(names, buckets, bucket) {
+            None => return Probe::Vacant(bucket),
             Some(held) => {
                 if held == name {
-                    return Seating::Seated;
+                    return Probe::Stored;
                 }
             }
         }
     }
-    Seating::Crowded
+    Probe::Full
 }
 
-// How a name is seated; no seat counts as vacant once 2^32 names have seats.
-fn seating_of(names: &[NameKey], seats: &[u32], name: NameKey) -> Seating
-    ensures exact { result ≡ seating_of names.now seats.now name }
-    ensures inside { 8 < length seats.now → (seat : ℕ) → result ≡ Vacant seat
-        → seat < length seats.now }
-    ensures few { (seat : ℕ) → result ≡ Vacant seat → length names.now < 2 ^ 32 }
+// How the search ends; no bucket counts as vacant once 2^32 names have buckets.
+fn probe_of(names: &[NameKey], buckets: &[u32], name: NameKey) -> Probe
+    ensures exact { result ≡ probe_of names.now buckets.now name }
+    ensures inside { 8 < length buckets.now → (bucket : ℕ) → result ≡ Vacant bucket
+        → bucket < length buckets.now }
+    ensures few { (bucket : ℕ) → result ≡ Vacant bucket → length names.now < 2 ^ 32 }
 {
-    match seats_tell(names, seats, name) {
-        Seating::Vacant(seat) => {
-            if names.len() < MOST_SEATED {
-                Seating::Vacant(seat)
+    match probe_buckets(names, buckets, name) {
+        Probe::Vacant(bucket) => {
+            if names.len() < MOST_STORED {
+                Probe::Vacant(bucket)
             } else {
-                Seating::Crowded
+                Probe::Full
             }
         }
-        seating => seating,
+        probe => probe,
     }
 }
 
-// Whether a name is seated or among the rest.
-fn is_in(names: &[NameKey], seats: &[u32], rest: &BTreeSet<NameKey>, name: NameKey) -> bool
-    requires { AreSeated names.now seats.now rest.now.keys }
-    ensures { result ≡ is_among (names.now ++ rest.now.keys) name }
+// Whether a name has a bucket or is in the overflow.
+fn is_in(names: &[NameKey], buckets: &[u32], overflow: &BTreeSet<NameKey>, name: NameKey) -> bool
+    requires { AreStored names.now buckets.now overflow.now.keys }
+    ensures { result ≡ is_among (names.now ++ overflow.now.keys) name }
 {
-    match seating_of(names, seats, name) {
-        Seating::Seated => true,
-        Seating::Vacant(_) => false,
-        Seating::Crowded => rest.contains(&name),
+    match probe_of(names, buckets, name) {
+        Probe::Stored => true,
+        Probe::Vacant(_) => false,
+        Probe::Full => overflow.contains(&name),
     }
 }
 
-// Whether to grow the table: it has no seats, or half are taken and the rest are at most 4 times as many.
-fn are_few(seats: usize, seated: usize, rest: usize) -> bool
-    ensures { result ≡ false → 8 < seats }
+// Whether to grow the table: it has no buckets, or half are taken and the overflow is at most 4 times as many.
+fn are_few(buckets: usize, stored: usize, overflow: usize) -> bool
+    ensures { result ≡ false → 8 < buckets }
 {
-    seats <= CHOICE || (seats / 2 <= seated && rest / 4 <= seated)
+    buckets <= CHOICE || (buckets / 2 <= stored && overflow / 4 <= stored)
 }
 
-// Makes twice as many seats, all vacant.
-fn make_seats(seats: &mut Vec<u32>) -> Result<(), NoMemory>
-    ensures { OnOk result (8 < length seats.new.items) }
+// Makes twice as many buckets, all vacant.
+fn double_buckets(buckets: &mut Vec<u32>) -> Result<(), NoMemory>
+    ensures { OnOk result (8 < length buckets.new.items) }
 {
-    let count = FIRST_SEATS.max(2 * seats.len());
-    seats.clear();
-    match seats.resize(count, u32::MAX) {
+    let count = FIRST_BUCKETS.max(2 * buckets.len());
+    buckets.clear();
+    match buckets.resize(count, u32::MAX) {
         Ok(()) => Ok(()),
         Err(_) => Err(NoMemory),
     }
 }
 
-// Puts a new name in its vacant seat.
-fn seat_new(
+// Puts a new name in its vacant bucket.
+fn fill_bucket(
     names: &mut Vec<NameKey>,
-    seats: &mut [u32],
-    seat: usize,
+    buckets: &mut [u32],
+    bucket: usize,
     name: NameKey,
 ) -> Result<(), NoMemory>
     requires few { length names.old.items < 2 ^ 32 }
-    requires inside { seat < length seats.old }
-    requires vacant { seating_of names.old.items seats.old name ≡ Vacant seat }
-    ensures seated { (rest : Names) → AreSeated names.old.items seats.old rest
-        → AreSeated names.new.items seats.new rest }
+    requires inside { bucket < length buckets.old }
+    requires vacant { probe_of names.old.items buckets.old name ≡ Vacant bucket }
+    ensures stored { (overflow : Names) → AreStored names.old.items buckets.old overflow
+        → AreStored names.new.items buckets.new overflow }
     ensures more { OnOk result (names.new.items ≡ names.old.items ++ name ∷ []) }
 {
     let place = names.len() as u32;
     if names.push(name).is_err() {
         return Err(NoMemory);
     }
-    seats[seat] = place;
+    buckets[bucket] = place;
     Ok(())
 }
 
-// Adds a name to the rest; returns whether it is new there.
-fn put_in_rest(rest: &mut BTreeSet<NameKey>, name: NameKey) -> Result<bool, NoMemory>
-    ensures new { IfOk result (λ is_new. is_new ≡ not (is_among rest.old.keys name)) }
-    ensures more { OnOk result (IsWith rest.old.keys rest.new.keys name) }
-    ensures same { OnErr result (rest.new.keys ≡ rest.old.keys) }
+// Adds a name to the overflow; returns whether it is new there.
+fn put_in_overflow(overflow: &mut BTreeSet<NameKey>, name: NameKey) -> Result<bool, NoMemory>
+    ensures new { IfOk result (λ is_new. is_new ≡ not (is_among overflow.old.keys name)) }
+    ensures more { OnOk result (IsWith overflow.old.keys overflow.new.keys name) }
+    ensures same { OnErr result (overflow.new.keys ≡ overflow.old.keys) }
 {
-    match rest.insert(name) {
+    match overflow.insert(name) {
         Ok(is_new) => Ok(is_new),
         Err(_) => Err(NoMemory),
     }
@@ -179,91 +179,91 @@ fn put_in_rest(rest: &mut BTreeSet<NameKey>, name: NameKey) -> Result<bool, NoMe
 // Adds a name; returns whether it is new.
 fn place(
     names: &mut Vec<NameKey>,
-    seats: &mut [u32],
-    rest: &mut BTreeSet<NameKey>,
+    buckets: &mut [u32],
+    overflow: &mut BTreeSet<NameKey>,
     name: NameKey,
 ) -> Result<bool, NoMemory>
-    requires some { 8 < length seats.old }
-    requires seated { AreSeated names.old.items seats.old rest.old.keys }
-    ensures seated { AreSeated names.new.items seats.new rest.new.keys }
+    requires some { 8 < length buckets.old }
+    requires stored { AreStored names.old.items buckets.old overflow.old.keys }
+    ensures stored { AreStored names.new.items buckets.new overflow.new.keys }
     ensures new { IfOk result (λ is_new.
-        is_new ≡ not (is_among (names.old.items ++ rest.old.keys) name)) }
+        is_new ≡ not (is_among (names.old.items ++ overflow.old.keys) name)) }
     ensures more { OnOk result
-        (IsWith (names.old.items ++ rest.old.keys) (names.new.items ++ rest.new.keys) name) }
+        (IsWith (names.old.items ++ overflow.old.keys) (names.new.items ++ overflow.new.keys) name) }
 {
-    match seating_of(names, seats, name) {
-        Seating::Seated => Ok(false),
-        Seating::Vacant(seat) => {
-            seat_new(names, seats, seat, name)?;
+    match probe_of(names, buckets, name) {
+        Probe::Stored => Ok(false),
+        Probe::Vacant(bucket) => {
+            fill_bucket(names, buckets, bucket, name)?;
             Ok(true)
         }
-        Seating::Crowded => put_in_rest(rest, name),
+        Probe::Full => put_in_overflow(overflow, name),
     }
 }
 
 // Adds a list of names.
 fn place_all(
     names: &mut Vec<NameKey>,
-    seats: &mut [u32],
-    rest: &mut BTreeSet<NameKey>,
+    buckets: &mut [u32],
+    overflow: &mut BTreeSet<NameKey>,
     more: &[NameKey],
 ) -> Result<(), NoMemory>
-    requires some { 8 < length seats.old }
-    requires seated { AreSeated names.old.items seats.old rest.old.keys }
-    ensures seated { AreSeated names.new.items seats.new rest.new.keys }
+    requires some { 8 < length buckets.old }
+    requires stored { AreStored names.old.items buckets.old overflow.old.keys }
+    ensures stored { AreStored names.new.items buckets.new overflow.new.keys }
     ensures more { OnOk result
-        (IsUnion (names.old.items ++ rest.old.keys) more.now (names.new.items ++ rest.new.keys)) }
+        (IsUnion (names.old.items ++ overflow.old.keys) more.now (names.new.items ++ overflow.new.keys)) }
 {
     for i in 0..more.len() {
-        place(names, seats, rest, more[i])?;
+        place(names, buckets, overflow, more[i])?;
     }
     Ok(())
 }
 
 // Adds the names of a sorted set.
-fn place_rest(
+fn place_overflow(
     names: &mut Vec<NameKey>,
-    seats: &mut [u32],
-    rest: &mut BTreeSet<NameKey>,
+    buckets: &mut [u32],
+    overflow: &mut BTreeSet<NameKey>,
     mut more: BTreeSet<NameKey>,
 ) -> Result<(), NoMemory>
-    requires some { 8 < length seats.old }
-    requires seated { AreSeated names.old.items seats.old rest.old.keys }
-    ensures seated { AreSeated names.new.items seats.new rest.new.keys }
+    requires some { 8 < length buckets.old }
+    requires stored { AreStored names.old.items buckets.old overflow.old.keys }
+    ensures stored { AreStored names.new.items buckets.new overflow.new.keys }
     ensures more { OnOk result
-        (IsUnion (names.old.items ++ rest.old.keys) more.keys (names.new.items ++ rest.new.keys)) }
+        (IsUnion (names.old.items ++ overflow.old.keys) more.keys (names.new.items ++ overflow.new.keys)) }
 {
     while let Some(name) = more.pop_first() {
-        place(names, seats, rest, name)?;
+        place(names, buckets, overflow, name)?;
     }
     Ok(())
 }
 
-// If there are too few seats, makes more and seats all names again.
+// If there are too few buckets, makes more and puts all names into them again.
 fn make_room(
     names: &mut Vec<NameKey>,
-    seats: &mut Vec<u32>,
-    rest: &mut BTreeSet<NameKey>,
+    buckets: &mut Vec<u32>,
+    overflow: &mut BTreeSet<NameKey>,
 ) -> Result<(), NoMemory>
-    requires seated { AreSeated names.old.items seats.old.items rest.old.keys }
-    ensures seated { AreSeated names.new.items seats.new.items rest.new.keys }
-    ensures some { OnOk result (8 < length seats.new.items) }
+    requires stored { AreStored names.old.items buckets.old.items overflow.old.keys }
+    ensures stored { AreStored names.new.items buckets.new.items overflow.new.keys }
+    ensures some { OnOk result (8 < length buckets.new.items) }
     ensures same { OnOk result ((k : NameKey)
-        → is_among (names.new.items ++ rest.new.keys) k
-        ≡ is_among (names.old.items ++ rest.old.keys) k) }
+        → is_among (names.new.items ++ overflow.new.keys) k
+        ≡ is_among (names.old.items ++ overflow.old.keys) k) }
 {
-    if !are_few(seats.len(), names.len(), rest.len()) {
+    if !are_few(buckets.len(), names.len(), overflow.len()) {
         return Ok(());
     }
     let alloc = *names.allocator();
-    let Ok(room) = Vec::with_capacity(alloc, seats.len()) else {
+    let Ok(room) = Vec::with_capacity(alloc, buckets.len()) else {
         return Err(NoMemory);
     };
-    let seated = mem::replace(names, room);
-    let crowded = mem::replace(rest, BTreeSet::new(alloc));
-    make_seats(seats)?;
-    place_all(names, seats, rest, &seated)?;
-    place_rest(names, seats, rest, crowded)
+    let stored = mem::replace(names, room);
+    let overflowed = mem::replace(overflow, BTreeSet::new(alloc));
+    double_buckets(buckets)?;
+    place_all(names, buckets, overflow, &stored)?;
+    place_overflow(names, buckets, overflow, overflowed)
 }
 
 impl NameSet {
@@ -273,9 +273,9 @@ impl NameSet {
         ensures { (x : List ℕ) → has result x ≡ false }
     {
         NameSet {
-            seated: Vec::new(alloc),
-            seats: Vec::new(alloc),
-            rest: BTreeSet::new(alloc),
+            stored: Vec::new(alloc),
+            buckets: Vec::new(alloc),
+            overflow: BTreeSet::new(alloc),
         }
     }
 
@@ -284,7 +284,7 @@ impl NameSet {
         ensures { result ≡ has self.now (uppers name.now) }
     {
         let key = NameKey::of(name);
-        is_in(&self.seated, &self.seats, &self.rest, key)
+        is_in(&self.stored, &self.buckets, &self.overflow, key)
     }
 
     /// Adds a name; returns whether it is new. `NoMemory` if an allocation fails.
@@ -292,19 +292,20 @@ impl NameSet {
         ensures new { IfOk result (λ is_new. is_new ≡ not (has self.old (uppers name.now))) }
         ensures more { OnOk result (HasMore self.old self.new (uppers name.now)) }
     {
-        make_room(&mut self.seated, &mut self.seats, &mut self.rest)?;
+        make_room(&mut self.stored, &mut self.buckets, &mut self.overflow)?;
         let key = NameKey::of(name);
-        place(&mut self.seated, &mut self.seats, &mut self.rest, key)
+        place(&mut self.stored, &mut self.buckets, &mut self.overflow, key)
     }
 
     #[tactic(auto, unfolding(crate::specs::NameSet::has))]
-    /// Removes all names, and shrinks the table to 4 seats for each name that had one (at least 64).
+    /// Removes all names, and shrinks the table to 4 buckets for each name that had one (at least 64).
     pub fn clear(&mut self)
         ensures { (x : List ℕ) → has self.new x ≡ false }
     {
-        self.seats.truncate(FIRST_SEATS.max(4 * self.seated.len()));
-        self.seats.fill(u32::MAX);
-        self.seated.clear();
-        self.rest.clear();
+        self.buckets
+            .truncate(FIRST_BUCKETS.max(4 * self.stored.len()));
+        self.buckets.fill(u32::MAX);
+        self.stored.clear();
+        self.overflow.clear();
     }
 }

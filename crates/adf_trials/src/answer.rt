@@ -1,8 +1,8 @@
 // What a run of a command gives.
 
 use crate::devices::{Given, Kept, Pace, WriteFailure};
+use crate::test_error::TestError;
 use crate::wants::{is_status, push_line};
-use crate::wrong::Wrong;
 use adf_runs::{Sink, Source};
 use std::alloc::{AllocError, Global};
 
@@ -125,7 +125,7 @@ pub fn text_of_lines(alloc: Global, lines: &str) -> Result<Vec<u8>, AllocError> 
 }
 
 /// What `build` makes of a manifest that it takes.
-pub fn built(alloc: Global, lines: &str) -> Result<Vec<u8>, Wrong> {
+pub fn built(alloc: Global, lines: &str) -> Result<Vec<u8>, TestError> {
     let text = text_of_lines(alloc, lines)?;
     let came = answer_of(alloc, CommandLine::adf("build"), &text)?;
     is_status(alloc, 0, came.status)?;

@@ -3,8 +3,8 @@
 use crate::answer::{Answer, CommandLine, answer_of, built, text_of_lines};
 use crate::line::{Line, Start};
 use crate::named::{Image, image_of};
+use crate::test_error::{Failure, TestError};
 use crate::wants::{Want, Wanted};
-use crate::wrong::{Failure, Wrong};
 use std::alloc::Global;
 
 /// What the lines up to one have made.
@@ -55,9 +55,9 @@ impl Bench {
                 self.begin(number);
                 Ok(())
             }
-            _ => self.act(line).map_err(|wrong| Failure {
+            _ => self.act(line).map_err(|error| Failure {
                 line: number,
-                wrong,
+                error,
             }),
         }
     }
@@ -77,15 +77,15 @@ impl Bench {
             return Ok(());
         };
         let Some(came) = came else {
-            let wrong = Wrong::NoRun;
-            return Err(Failure { line, wrong });
+            let error = TestError::NoRun;
+            return Err(Failure { line, error });
         };
         let outcome = wanted.compare(self.alloc, &came);
         self.output = came.output;
-        outcome.map_err(|wrong| Failure { line, wrong })
+        outcome.map_err(|error| Failure { line, error })
     }
 
-    fn act(&mut self, line: &Line<'_>) -> Result<(), Wrong> {
+    fn act(&mut self, line: &Line<'_>) -> Result<(), TestError> {
         match line {
             Line::Comment | Line::Blank | Line::Row => Ok(()),
             Line::Start(start) => {
@@ -104,7 +104,7 @@ impl Bench {
     }
 
     // The image with which a line begins.
-    fn image_for(&self, start: &Start<'_>) -> Result<Vec<u8>, Wrong> {
+    fn image_for(&self, start: &Start<'_>) -> Result<Vec<u8>, TestError> {
         let alloc = self.alloc;
         Ok(match *start {
             Start::Zeros(count) => vec![in alloc; 0u8; count]?,
@@ -116,21 +116,21 @@ impl Bench {
     }
 
     // Gives the image as it is a name.
-    fn keep(&mut self, name: &str) -> Result<(), Wrong> {
+    fn keep(&mut self, name: &str) -> Result<(), TestError> {
         let name = String::from_str(self.alloc, name)?;
         let bytes = Vec::from_slice(self.alloc, &self.image)?;
         self.named.push(Image { name, bytes })?;
         Ok(())
     }
 
-    fn run(&mut self, command: CommandLine<'_>) -> Result<(), Wrong> {
-        let row = self.row.as_mut().ok_or(Wrong::Unread)?;
+    fn run(&mut self, command: CommandLine<'_>) -> Result<(), TestError> {
+        let row = self.row.as_mut().ok_or(TestError::Unread)?;
         row.came = Some(answer_of(self.alloc, command, &self.image)?);
         Ok(())
     }
 
-    fn want(&mut self, want: Want<'_>) -> Result<(), Wrong> {
-        let row = self.row.as_mut().ok_or(Wrong::Unread)?;
+    fn want(&mut self, want: Want<'_>) -> Result<(), TestError> {
+        let row = self.row.as_mut().ok_or(TestError::Unread)?;
         row.wanted.take(self.alloc, &self.named, want)
     }
 }

@@ -3,7 +3,9 @@
 ghost use Rattle.std.specs.Prelude.{◌≡◌, false, IfSome};
 
 use crate::devices::{Kept, Pace, WriteFailure};
-use crate::tree_calls::{build_and_read_went, draft_add_went, tree_add_went, write_path_went};
+use crate::tree_calls::{
+    build_and_read_outcome, draft_add_outcome, tree_add_outcome, write_path_outcome,
+};
 use crate::trees::tree_of_lines;
 use adf_blocks::Cause;
 use adf_build::build;
@@ -45,91 +47,95 @@ const DATES: [(u32, u32, u32, &str); 6] = [
 /// What a text is before a call appends to it.
 const BEFORE: &str = "as ";
 
-/// How a call went.
+/// How a call ended.
 #[derive(Clone, Copy, PartialEq, Eq)]
-pub enum Went {
+pub enum CallOutcome {
     /// It answered as it should.
     Done,
     /// Memory was refused, and nothing has changed.
     NoMemory,
     /// It answered something else, or a refusal has changed something.
-    Wrong,
+    Failed,
 }
 
-impl Went {
+impl CallOutcome {
     /// Done if the answer is right.
-    pub fn done_if(is_right: bool) -> Went {
-        if is_right { Went::Done } else { Went::Wrong }
+    pub fn done_if(is_right: bool) -> CallOutcome {
+        if is_right {
+            CallOutcome::Done
+        } else {
+            CallOutcome::Failed
+        }
     }
 
     /// Refused if all is as before.
-    pub fn refused_if(is_as_before: bool) -> Went {
+    pub fn refused_if(is_as_before: bool) -> CallOutcome {
         if is_as_before {
-            Went::NoMemory
+            CallOutcome::NoMemory
         } else {
-            Went::Wrong
+            CallOutcome::Failed
         }
     }
 }
 
-/// Makes the call of a name, and tells how it went: `not made` where what it needs could not be made, or no call has the name.
+/// Makes the call of a name, and tells how it ended: `not made` where what it needs could not be made, or no call has the name.
 pub fn text_of_call(alloc: Global, name: &str) -> &'static str {
     match make_call(alloc, name) {
-        Some(Went::Done) => "done",
-        Some(Went::NoMemory) => "no memory",
-        Some(Went::Wrong) => "wrong",
+        Some(CallOutcome::Done) => "done",
+        Some(CallOutcome::NoMemory) => "no memory",
+        Some(CallOutcome::Failed) => "wrong",
         None => "not made",
     }
 }
 
-fn make_call(alloc: Global, name: &str) -> Option<Went> {
+fn make_call(alloc: Global, name: &str) -> Option<CallOutcome> {
     match name {
-        "stamp_text" => stamp_text_went(alloc),
-        "label_write" => label_write_went(alloc),
-        "comment_write" => comment_write_went(alloc),
-        "write_path" => write_path_went(alloc),
-        "tree_add" => tree_add_went(alloc),
-        "draft_add" => draft_add_went(alloc),
-        "owners_new" => owners_new_went(alloc),
-        "read_sound_file" => read_sound_file_went(alloc),
-        "build_and_read" => build_and_read_went(alloc, FILE),
-        "convert_in_memory" => convert_went(alloc),
+        "stamp_text" => stamp_text_outcome(alloc),
+        "label_write" => label_write_outcome(alloc),
+        "comment_write" => comment_write_outcome(alloc),
+        "write_path" => write_path_outcome(alloc),
+        "tree_add" => tree_add_outcome(alloc),
+        "draft_add" => draft_add_outcome(alloc),
+        "owners_new" => owners_new_outcome(alloc),
+        "read_sound_file" => read_sound_file_outcome(alloc),
+        "build_and_read" => build_and_read_outcome(alloc, FILE),
+        "convert_in_memory" => convert_outcome(alloc),
         _ => None,
     }
 }
 
 // Dates behind a text.
-fn stamp_text_went(alloc: Global) -> Option<Went> {
+fn stamp_text_outcome(alloc: Global) -> Option<CallOutcome> {
     let mut text = String::from_str(alloc, BEFORE).ok()?;
     for (days, mins, ticks, wanted) in DATES {
         let before = text.len();
         if stamp_text(Stamp { days, mins, ticks }, &mut text).is_err() {
-            return Some(Went::refused_if(text.len() == before));
+            return Some(CallOutcome::refused_if(text.len() == before));
         }
         if text.as_bytes().get(before..) != Some(wanted.as_bytes()) {
-            return Some(Went::Wrong);
+            return Some(CallOutcome::Failed);
         }
     }
-    Some(Went::Done)
+    Some(CallOutcome::Done)
 }
 
-// How it went to append a backslash in the escape form.
-fn appended(res: Result<(), NoMemory>, text: &str) -> Went {
+// The outcome of appending a backslash in the escape form.
+fn appended(res: Result<(), NoMemory>, text: &str) -> CallOutcome {
     match res {
-        Ok(()) => Went::done_if(text == "as a\\x5c"),
-        Err(_) => Went::refused_if(text == BEFORE),
+        Ok(()) => CallOutcome::done_if(text == "as a\\x5c"),
+        Err(_) => CallOutcome::refused_if(text == BEFORE),
     }
 }
 
 // A label with a backslash.
-fn label_write_went(alloc: Global) -> Option<Went> {
+fn label_write_outcome(alloc: Global) -> Option<CallOutcome> {
     let mut text = String::from_str(alloc, BEFORE).ok()?;
     let res = Label::read(b"a\\x5c")?.write(&mut text);
     Some(appended(res, text.as_str()))
 }
 
 // A comment with a backslash.
-fn comment_write_went(alloc: Global) -> Option<Went> {
+fn comment_write_outcome(alloc: Global) -> Option<CallOutcome> {
     let mut text = String::from_str(alloc, BEFORE).ok()?;
     let res = Comment::read(b"a\\x5c")?.write(&mut text);
     Some(appended(res, text.as_str()))
@@ -164,21 +170,21 @@ fn claims_once(owners: &mut Owners) -> bool {
 }
 
 // The owners of 16 blocks, of which one is claimed twice.
-fn owners_new_went(alloc: Global) -> Option<Went> {
+fn owners_new_outcome(alloc: Global) -> Option<CallOutcome> {
     Some(match Owners::new(alloc, 16) {
-        Ok(mut owners) => Went::done_if(are_new(&owners) && claims_once(&mut owners)),
-        Err(_) => Went::NoMemory,
+        Ok(mut owners) => CallOutcome::done_if(are_new(&owners) && claims_once(&mut owners)),
+        Err(_) => CallOutcome::NoMemory,
     })
 }
 
 // The bytes of the file of the volume, by its survey.
-fn read_sound_file_went(alloc: Global) -> Option<Went> {
+fn read_sound_file_outcome(alloc: Global) -> Option<CallOutcome> {
     let image = image(alloc)?;
     let survey = survey(alloc, &image).ok()?;
     let file = survey.file(alloc, Node(1)).ok()??;
     Some(match file.read(alloc) {
-        Ok(bytes) => Went::done_if(bytes.as_slice() == [0x41u8; 489].as_slice()),
-        Err(_) => Went::refused_if(file.size() == 489),
+        Ok(bytes) => CallOutcome::done_if(bytes.as_slice() == [0x41u8; 489].as_slice()),
+        Err(_) => CallOutcome::refused_if(file.size() == 489),
     })
 }
 
@@ -192,7 +198,7 @@ fn roomy(alloc: Global, count: usize) -> Option<Kept>
 }
 
 // The command `convert` over an image in memory, which has the kind that is asked for, and so is its answer.
-fn convert_went(alloc: Global) -> Option<Went> {
+fn convert_outcome(alloc: Global) -> Option<CallOutcome> {
     let image = image(alloc)?;
     let mut output = roomy(alloc, image.len())?;
     let mut errors = roomy(alloc, 80)?;
@@ -200,9 +206,9 @@ fn convert_went(alloc: Global) -> Option<Went> {
     let ran = run_program_on::<Work, Kept, Kept>(alloc, &words, &image, &mut output, &mut errors);
     if ran.status == 3 {
         let is_told = errors.bytes.as_slice() == b"no memory\n".as_slice();
-        return Some(Went::refused_if(is_told && output.bytes.is_empty()));
+        return Some(CallOutcome::refused_if(is_told && output.bytes.is_empty()));
     }
-    Some(Went::done_if(
+    Some(CallOutcome::done_if(
         ran.status == 0 && output.bytes.as_slice() == image.as_slice() && errors.bytes.is_empty(),
     ))
 }

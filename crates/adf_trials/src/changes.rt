@@ -1,7 +1,7 @@
 // Changes of an image.
 
+use crate::test_error::TestError;
 use crate::words::{Words, block_range, hex, number, put_word, seal_by};
-use crate::wrong::Wrong;
 
 /// A change of an image, as a line tells it.
 #[derive(Clone, Copy)]
@@ -32,7 +32,7 @@ impl<'a> Change<'a> {
         })
     }
 
-    pub fn make(&self, image: &mut Vec<u8>) -> Result<(), Wrong> {
+    pub fn make(&self, image: &mut Vec<u8>) -> Result<(), TestError> {
         match *self {
             Change::Words(words) => words.put(image),
             Change::Items(items) => put_items(image, items),
@@ -50,7 +50,7 @@ impl<'a> Change<'a> {
     }
 }
 
-fn seal_all(image: &mut [u8], blocks: (u32, u32), word: usize) -> Result<(), Wrong> {
+fn seal_all(image: &mut [u8], blocks: (u32, u32), word: usize) -> Result<(), TestError> {
     for block in blocks.0..=blocks.1 {
         seal_by(image, block, word)?;
     }
@@ -94,7 +94,7 @@ impl Item {
         })
     }
 
-    fn put(&self, image: &mut [u8]) -> Result<(), Wrong> {
+    fn put(&self, image: &mut [u8]) -> Result<(), TestError> {
         match self.place {
             Place::Word(word) => put_word(image, self.block, word, self.value)?,
             Place::Byte(at) => put_byte(image, self.block, at, self.value)?,
@@ -114,18 +114,18 @@ fn place_of(text: &str) -> Option<(u32, Place)> {
     Some((block.parse::<u32>().ok()?, Place::Byte(number(at)?)))
 }
 
-fn put_byte(image: &mut [u8], block: u32, at: usize, value: u32) -> Result<(), Wrong> {
-    let byte = u8::try_from(value).map_err(|_| Wrong::NoPlace)?;
+fn put_byte(image: &mut [u8], block: u32, at: usize, value: u32) -> Result<(), TestError> {
+    let byte = u8::try_from(value).map_err(|_| TestError::NoPlace)?;
     let place = (block as usize * 512).saturating_add(at);
-    let old = image.get_mut(place).ok_or(Wrong::NoPlace)?;
+    let old = image.get_mut(place).ok_or(TestError::NoPlace)?;
     *old = byte;
     Ok(())
 }
 
 /// Makes the changes that items tell, joined by spaces.
-pub fn put_items(image: &mut [u8], items: &str) -> Result<(), Wrong> {
+pub fn put_items(image: &mut [u8], items: &str) -> Result<(), TestError> {
     for text in items.split(' ') {
-        Item::read(text).ok_or(Wrong::Unread)?.put(image)?;
+        Item::read(text).ok_or(TestError::Unread)?.put(image)?;
     }
     Ok(())
 }

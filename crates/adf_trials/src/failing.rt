@@ -2,9 +2,9 @@
 
 use crate::answer::{Answer, CommandLine, Paces, Program, run_by, words_of};
 use crate::devices::{Endless, Kept, Pace, WriteFailure};
+use crate::test_error::TestError;
 use crate::wants::{Wanted, is_number, is_same, is_status, push_line};
 use crate::words::number;
-use crate::wrong::Wrong;
 use adf_cmd::run;
 use std::alloc::Global;
 
@@ -50,7 +50,7 @@ impl<'a> Failing<'a> {
     }
 
     /// Lets each call of each device fail in turn, those of output and errors by an error and by taking no bytes.
-    pub fn run(&self, alloc: Global, image: &[u8]) -> Result<(), Wrong> {
+    pub fn run(&self, alloc: Global, image: &[u8]) -> Result<(), TestError> {
         let program = self.command.program;
         let words = words_of(alloc, self.command)?;
         let paces = Paces::steady(self.read, self.write);
@@ -74,7 +74,7 @@ impl<'a> Failing<'a> {
 
 impl Runs<'_> {
     // Lets each call of one side fail in turn, until no call fails: then the answer is the whole one.
-    fn fail_each(&self, side: Side, failure: WriteFailure) -> Result<(), Wrong> {
+    fn fail_each(&self, side: Side, failure: WriteFailure) -> Result<(), TestError> {
         for calls in 0..=self.most_calls() {
             let paces = self.paces_to(side, failure, calls);
             let (came, failed) = run_by(self.alloc, self.program, &self.words, self.image, paces);
@@ -83,12 +83,12 @@ impl Runs<'_> {
             } else {
                 self.entire()
             };
-            is_answer(self.alloc, wanted, &came).map_err(|wrong| wrong.of_case(calls))?;
+            is_answer(self.alloc, wanted, &came).map_err(|error| error.of_case(calls))?;
             if !failed {
                 return Ok(());
             }
         }
-        Err(Wrong::NoEnd)
+        Err(TestError::NoEnd)
     }
 
     // No run has so many calls of one side.
@@ -133,7 +133,7 @@ impl Runs<'_> {
 }
 
 // Says that a status, output and errors are not as wanted.
-fn is_answer(alloc: Global, wanted: (u8, &[u8], &[u8]), came: &Answer) -> Result<(), Wrong> {
+fn is_answer(alloc: Global, wanted: (u8, &[u8], &[u8]), came: &Answer) -> Result<(), TestError> {
     let (status, output, errors) = wanted;
     is_same(alloc, "output", output, &came.output)?;
     is_same(alloc, "errors", errors, &came.errors)?;
@@ -145,7 +145,7 @@ fn front(bytes: &[u8], len: usize) -> &[u8] {
 }
 
 /// `build` on line feeds without end takes so many of them, and says the line on errors.
-pub fn is_refused_in_the_end(alloc: Global, count: usize, line: &str) -> Result<(), Wrong> {
+pub fn is_refused_in_the_end(alloc: Global, count: usize, line: &str) -> Result<(), TestError> {
     let steady = Pace::steady(usize::MAX);
     let mut input = Endless { given: 0 };
     let mut output = Kept::new(alloc, steady, WriteFailure::Error);

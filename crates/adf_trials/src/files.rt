@@ -3,7 +3,7 @@
 use crate::bench::Bench;
 use crate::calls::{CALLS, text_of_call};
 use crate::line::Line;
-use crate::wrong::{Difference, Failure, Wrong};
+use crate::test_error::{Difference, Failure, TestError};
 use std::rt::{Env, Files};
 use std::{fs, io};
 
@@ -14,12 +14,12 @@ fn tell(
     failed: &mut usize,
     outcome: Result<(), Failure>,
 ) -> io::Result<()> {
-    let Err(Failure { line, wrong }) = outcome else {
+    let Err(Failure { line, error }) = outcome else {
         return Ok(());
     };
     *failed = failed.saturating_add(1);
-    match wrong {
-        Wrong::Other(
+    match error {
+        TestError::Other(
             Difference {
                 part,
                 case,
@@ -27,7 +27,7 @@ fn tell(
                 came,
             },
         ) => println!(rt; "{name}:{line}: {part} at {case}: wanted '{wanted}', came '{came}'"),
-        _ => println!(rt; "{name}:{line}: {}", wrong.text()),
+        _ => println!(rt; "{name}:{line}: {}", error.text()),
     }
 }
 
@@ -42,7 +42,7 @@ fn run_file(rt: &(impl Files + Print + AllocGlobal), name: &str) -> io::Result<u
             Some(line) => bench.step(number, &line),
             None => Err(Failure {
                 line: number,
-                wrong: Wrong::Unread,
+                error: TestError::Unread,
             }),
         };
         tell(rt, name, &mut failed, outcome)?;
@@ -55,7 +55,7 @@ fn run_file(rt: &(impl Files + Print + AllocGlobal), name: &str) -> io::Result<u
     Ok(failed)
 }
 
-// Prints how a library call went, and answers whether it was done.
+// Prints how a library call ended, and answers whether it was done.
 fn run_call(rt: &(impl Print + AllocGlobal), name: &str) -> io::Result<bool> {
     let text = text_of_call(rt.alloc(), name);
     println!(rt; "{name}: {text}")?;

@@ -14,10 +14,10 @@ mod named;
 mod questions;
 mod rescues;
 mod tables;
+mod test_error;
 mod tree_calls;
 mod trees;
 mod wants;
 mod words;
-mod wrong;
 
 pub use crate::files::run;

@@ -1,6 +1,6 @@
 // Images with names.
 
-use crate::wrong::Wrong;
+use crate::test_error::TestError;
 
 /// An image with its name.
 #[derive(Drop)]
@@ -10,11 +10,11 @@ pub struct Image {
 }
 
 /// The bytes of the image with this name.
-pub fn image_of<'a>(images: &'a [Image], name: &str) -> Result<&'a [u8], Wrong> {
+pub fn image_of<'a>(images: &'a [Image], name: &str) -> Result<&'a [u8], TestError> {
     for image in images {
         if image.name.as_str() == name {
             return Ok(&image.bytes);
         }
     }
-    Err(Wrong::NoImage)
+    Err(TestError::NoImage)
 }

@@ -1,7 +1,7 @@
 // What calls on the volume of an image tell.
 
+use crate::test_error::TestError;
 use crate::words::number;
-use crate::wrong::Wrong;
 use adf_check::{Checked, Owner, Pieces, check};
 use adf_tree::{Node, read_path, write_path};
 use std::alloc::{AllocError, Global};
@@ -34,7 +34,7 @@ impl<'a> Question<'a> {
     }
 
     /// The text of the call's answer: `nothing` for none.
-    pub fn answer(&self, alloc: Global, image: &[u8]) -> Result<String, Wrong> {
+    pub fn answer(&self, alloc: Global, image: &[u8]) -> Result<String, TestError> {
         let volume = check(alloc, image)?;
         let told = match *self {
             Question::Find(path) => found(alloc, &volume, path)?,
@@ -56,7 +56,7 @@ impl<'a> Question<'a> {
     }
 }
 
-fn found(alloc: Global, volume: &Checked<'_>, path: &str) -> Result<Option<String>, Wrong> {
+fn found(alloc: Global, volume: &Checked<'_>, path: &str) -> Result<Option<String>, TestError> {
     let names = read_path(alloc, path.as_bytes())?;
     match volume.find(&names) {
         Some(Node(n)) => Ok(Some(format!(in alloc; "{n}")?)),
@@ -64,7 +64,7 @@ fn found(alloc: Global, volume: &Checked<'_>, path: &str) -> Result<Option<Strin
     }
 }
 
-fn name_of(alloc: Global, volume: &Checked<'_>, n: Node) -> Result<Option<String>, Wrong> {
+fn name_of(alloc: Global, volume: &Checked<'_>, n: Node) -> Result<Option<String>, TestError> {
     match volume.row(n) {
         Some(row) => Ok(Some(write_path(alloc, &[row.name])?)),
         None => Ok(None),
@@ -114,7 +114,7 @@ fn push_run(text: &mut String, run: (usize, usize)) -> Result<(), AllocError> {
     write!(text, "{len} x {count}")
 }
 
-fn count_read(alloc: Global, volume: &Checked<'_>, n: Node) -> Result<Option<String>, Wrong> {
+fn count_read(alloc: Global, volume: &Checked<'_>, n: Node) -> Result<Option<String>, TestError> {
     match volume.read(alloc, n)? {
         Some(bytes) => {
             let count = bytes.len();

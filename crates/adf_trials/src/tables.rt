@@ -7,10 +7,10 @@ use crate::failing::{Failing, is_refused_in_the_end};
 use crate::findings::{are_findings, begin_alike};
 use crate::questions::Question;
 use crate::rescues::is_rescued;
+use crate::test_error::TestError;
 use crate::trees::{is_not_laid, is_tree, needs, tree_of_image, tree_of_lines};
 use crate::wants::{Wanted, is_same, push_line};
 use crate::words::{number, rising};
-use crate::wrong::Wrong;
 use adf_check::check;
 use adf_tree::Tree;
 use std::alloc::Global;
@@ -68,7 +68,7 @@ impl<'a> Table<'a> {
     }
 
     /// Runs the row over an image.
-    pub fn run(&self, alloc: Global, image: &[u8]) -> Result<(), Wrong> {
+    pub fn run(&self, alloc: Global, image: &[u8]) -> Result<(), TestError> {
         let line = self.line;
         match self.kind {
             TableKind::Patch(items) => is_told(alloc, &patched(alloc, image, items)?, line),
@@ -144,7 +144,7 @@ fn sized(text: &str) -> Option<(u32, &str)> {
 }
 
 // `check` on an image answers a line.
-fn is_told(alloc: Global, image: &[u8], line: &str) -> Result<(), Wrong> {
+fn is_told(alloc: Global, image: &[u8], line: &str) -> Result<(), TestError> {
     Wanted::verdict(alloc, line)?.compare(
         alloc,
         &answer_of(alloc, CommandLine::adf("check"), image)?,
@@ -152,7 +152,7 @@ fn is_told(alloc: Global, image: &[u8], line: &str) -> Result<(), Wrong> {
 }
 
 // The image with changes.
-fn patched(alloc: Global, image: &[u8], items: &str) -> Result<Vec<u8>, Wrong> {
+fn patched(alloc: Global, image: &[u8], items: &str) -> Result<Vec<u8>, TestError> {
     let mut changed = Vec::from_slice(alloc, image)?;
     put_items(&mut changed, items)?;
     Ok(changed)
@@ -163,19 +163,19 @@ fn are_flipped(
     image: &[u8],
     places: (usize, usize),
     line: &str,
-) -> Result<(), Wrong> {
+) -> Result<(), TestError> {
     let tree = tree_of_image(alloc, image)?;
     let mut flipped = Vec::from_slice(alloc, image)?;
     for at in places.0..=places.1 {
         flip(&mut flipped, at)?;
-        is_flipped(alloc, &tree, &flipped, line).map_err(|wrong| wrong.of_case(at))?;
+        is_flipped(alloc, &tree, &flipped, line).map_err(|error| error.of_case(at))?;
         flip(&mut flipped, at)?;
     }
     Ok(())
 }
 
 // `check` on an image answers a line, and an image that is accepted has this tree.
-fn is_flipped(alloc: Global, tree: &Tree, image: &[u8], line: &str) -> Result<(), Wrong> {
+fn is_flipped(alloc: Global, tree: &Tree, image: &[u8], line: &str) -> Result<(), TestError> {
     is_told(alloc, image, line)?;
     match check(alloc, image) {
         Ok(volume) => is_tree(alloc, tree, &volume.to_tree(alloc)?),
@@ -183,29 +183,29 @@ fn is_flipped(alloc: Global, tree: &Tree, image: &[u8], line: &str) -> Result<()
     }
 }
 
-fn flip(image: &mut [u8], at: usize) -> Result<(), Wrong> {
-    let byte = image.get_mut(at).ok_or(Wrong::NoPlace)?;
+fn flip(image: &mut [u8], at: usize) -> Result<(), TestError> {
+    let byte = image.get_mut(at).ok_or(TestError::NoPlace)?;
     *byte ^= 1;
     Ok(())
 }
 
-fn are_cut(alloc: Global, image: &[u8], lens: (usize, usize), line: &str) -> Result<(), Wrong> {
+fn are_cut(alloc: Global, image: &[u8], lens: (usize, usize), line: &str) -> Result<(), TestError> {
     for len in lens.0..=lens.1 {
-        let front = image.get(..len).ok_or(Wrong::NoPlace)?;
-        is_told(alloc, front, line).map_err(|wrong| wrong.of_case(len))?;
+        let front = image.get(..len).ok_or(TestError::NoPlace)?;
+        is_told(alloc, front, line).map_err(|error| error.of_case(len))?;
     }
     Ok(())
 }
 
-fn are_alike(alloc: Global, image: &[u8], lens: (usize, usize)) -> Result<(), Wrong> {
+fn are_alike(alloc: Global, image: &[u8], lens: (usize, usize)) -> Result<(), TestError> {
     for len in lens.0..=lens.1 {
-        let front = image.get(..len).ok_or(Wrong::NoPlace)?;
-        begin_alike(alloc, front).map_err(|wrong| wrong.of_case(len))?;
+        let front = image.get(..len).ok_or(TestError::NoPlace)?;
+        begin_alike(alloc, front).map_err(|error| error.of_case(len))?;
     }
     Ok(())
 }
 
-fn is_refused(alloc: Global, lines: &str, line: &str) -> Result<(), Wrong> {
+fn is_refused(alloc: Global, lines: &str, line: &str) -> Result<(), TestError> {
     let mut wanted = Wanted::new(alloc, Some(1));
     push_line(&mut wanted.errors, line)?;
     let text = text_of_lines(alloc, lines)?;

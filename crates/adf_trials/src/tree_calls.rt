@@ -1,6 +1,6 @@
 // Library calls on paths and trees that no command makes.
 
-use crate::calls::Went;
+use crate::calls::CallOutcome;
 use crate::trees::{is_tree, tree_of_lines};
 use adf_build::BuildFault;
 use adf_cmd::build_and_read;
@@ -29,11 +29,11 @@ fn meta() -> Option<Meta> {
 }
 
 /// The text of a path of two names.
-pub fn write_path_went(alloc: Global) -> Option<Went> {
+pub fn write_path_outcome(alloc: Global) -> Option<CallOutcome> {
     let path = [Name::new(b"c")?, Name::new(b"a b\\")?];
     Some(match write_path(alloc, &path) {
-        Ok(text) => Went::done_if(text.as_str() == "c/a b\\x5c"),
-        Err(_) => Went::NoMemory,
+        Ok(text) => CallOutcome::done_if(text.as_str() == "c/a b\\x5c"),
+        Err(_) => CallOutcome::NoMemory,
     })
 }
 
@@ -84,40 +84,42 @@ fn refuses_others(tree: &mut Tree) -> Option<bool> {
 }
 
 /// The second of two entries of one chain, where the entries fill the room that was made for them.
-pub fn tree_add_went(alloc: Global) -> Option<Went> {
+pub fn tree_add_outcome(alloc: Global) -> Option<CallOutcome> {
     let mut tree = worked_tree(alloc)?;
     let refuses = refuses_others(&mut tree)?;
     tree.add(&[Name::new(b"BA")?], meta()?, Body::Dir).ok()?;
     let res = tree.add(&[Name::new(b"AN")?], meta()?, Body::Dir);
     Some(match res {
-        Ok(()) => Went::done_if(refuses && has_names(&tree, &[b"a", b"BA", b"AN", b"3", b"b"])),
-        Err(fault) => Went::refused_if(
+        Ok(()) => CallOutcome::done_if(
+            refuses && has_names(&tree, &[b"a", b"BA", b"AN", b"3", b"b"]),
+        ),
+        Err(fault) => CallOutcome::refused_if(
             fault == AddFault::NoMemory && has_names(&tree, &[b"a", b"BA", b"3", b"b"]),
         ),
     })
 }
 
 /// A second entry in a draft, which is then finished.
-pub fn draft_add_went(alloc: Global) -> Option<Went> {
+pub fn draft_add_outcome(alloc: Global) -> Option<CallOutcome> {
     let mut draft = Draft::new(alloc, Kind::Ofs, Label::new(b"Work")?, stamps());
     draft.add(&[Name::new(b"b")?], meta()?, Body::Dir).ok()?;
     let path = [Name::new(b"b")?, Name::new(b"c")?];
     let res = draft.add(&path, meta()?, Body::Dir);
     let has_room = draft.room(&path).is_ok();
     Some(match res {
-        Err(fault) => Went::refused_if(has_room && fault == AddFault::NoMemory),
+        Err(fault) => CallOutcome::refused_if(has_room && fault == AddFault::NoMemory),
         Ok(()) => match draft.finish(alloc) {
-            Ok(tree) => Went::done_if(!has_room && has_names(&tree, &[b"b", b"c"])),
-            Err(_) => Went::NoMemory,
+            Ok(tree) => CallOutcome::done_if(!has_room && has_names(&tree, &[b"b", b"c"])),
+            Err(_) => CallOutcome::NoMemory,
         },
     })
 }
 
 /// The tree of lines, built in 16 blocks and read back.
-pub fn build_and_read_went(alloc: Global, lines: &str) -> Option<Went> {
+pub fn build_and_read_outcome(alloc: Global, lines: &str) -> Option<CallOutcome> {
     let tree = tree_of_lines(alloc, lines).ok()?;
     Some(match build_and_read(alloc, &tree, 16) {
-        Ok(came) => Went::done_if(is_tree(alloc, &tree, &came).is_ok()),
-        Err(fault) => Went::refused_if(fault == BuildFault::NoMemory && tree.len() == 1),
+        Ok(came) => CallOutcome::done_if(is_tree(alloc, &tree, &came).is_ok()),
+        Err(fault) => CallOutcome::refused_if(fault == BuildFault::NoMemory && tree.len() == 1),
     })
 }

@@ -1,8 +1,8 @@
 // Trees of images and of manifests.
 
 use crate::answer::text_of_lines;
+use crate::test_error::{Difference, TestError};
 use crate::wants::is_same;
-use crate::wrong::{Difference, Wrong};
 use adf_build::{BuildFault, build, need};
 use adf_check::check;
 use adf_cmd::read_manifest;
@@ -10,20 +10,20 @@ use adf_tree::{Body, Entry, Node, Tree};
 use std::alloc::Global;
 
 /// The tree of the lines of a manifest, told with ` | ` between them.
-pub fn tree_of_lines(alloc: Global, lines: &str) -> Result<Tree, Wrong> {
+pub fn tree_of_lines(alloc: Global, lines: &str) -> Result<Tree, TestError> {
     let text = text_of_lines(alloc, lines)?;
     let (tree, _) = read_manifest(alloc, &text)?;
     Ok(tree)
 }
 
 /// The tree of an image.
-pub fn tree_of_image(alloc: Global, image: &[u8]) -> Result<Tree, Wrong> {
+pub fn tree_of_image(alloc: Global, image: &[u8]) -> Result<Tree, TestError> {
     let volume = check(alloc, image)?;
     Ok(volume.to_tree(alloc)?)
 }
 
 /// Says that a tree is not the one that is wanted, and of which entry; 0 is the root.
-pub fn is_tree(alloc: Global, wanted: &Tree, came: &Tree) -> Result<(), Wrong> {
+pub fn is_tree(alloc: Global, wanted: &Tree, came: &Tree) -> Result<(), TestError> {
     let has_same_root = wanted.kind() == came.kind()
         && wanted.label().bytes() == came.label().bytes()
         && wanted.stamps() == came.stamps()
@@ -40,8 +40,8 @@ pub fn is_tree(alloc: Global, wanted: &Tree, came: &Tree) -> Result<(), Wrong> {
     Ok(())
 }
 
-fn is_other(alloc: Global, node: usize) -> Wrong {
-    Wrong::Other(Difference {
+fn is_other(alloc: Global, node: usize) -> TestError {
+    TestError::Other(Difference {
         part: "tree",
         case: node,
         wanted: String::new(alloc),
@@ -74,7 +74,7 @@ fn is_same_body(one: &Body, other: &Body) -> bool {
 }
 
 /// How many blocks a tree needs in a volume of so many: `nothing` where no volume has so many.
-pub fn needs(alloc: Global, blocks: u32, lines: &str, line: &str) -> Result<(), Wrong> {
+pub fn needs(alloc: Global, blocks: u32, lines: &str, line: &str) -> Result<(), TestError> {
     let tree = tree_of_lines(alloc, lines)?;
     let text = match need(&tree, blocks) {
         Some(count) => format!(in alloc; "{count}")?,
@@ -84,7 +84,7 @@ pub fn needs(alloc: Global, blocks: u32, lines: &str, line: &str) -> Result<(), 
 }
 
 /// Why `build` does not lay a tree in so many blocks.
-pub fn is_not_laid(alloc: Global, blocks: u32, lines: &str, line: &str) -> Result<(), Wrong> {
+pub fn is_not_laid(alloc: Global, blocks: u32, lines: &str, line: &str) -> Result<(), TestError> {
     let tree = tree_of_lines(alloc, lines)?;
     let text = match build(alloc, &tree, blocks) {
         Ok(_) => String::from_str(alloc, "an image")?,

@@ -2,8 +2,8 @@
 
 use crate::answer::Answer;
 use crate::named::{Image, image_of};
+use crate::test_error::{Difference, TestError};
 use crate::words::{Words, hex, number};
-use crate::wrong::{Difference, Wrong};
 use std::alloc::{AllocError, Global};
 use std::str;
 
@@ -91,7 +91,12 @@ impl Wanted {
     }
 
     /// Takes what a line tells, with the images that have names.
-    pub fn take(&mut self, alloc: Global, named: &[Image], want: Want<'_>) -> Result<(), Wrong> {
+    pub fn take(
+        &mut self,
+        alloc: Global,
+        named: &[Image],
+        want: Want<'_>,
+    ) -> Result<(), TestError> {
         match want {
             Want::Status(status) => self.status = Some(status),
             Want::Output(piece) => push_piece(alloc, named, piece, &mut self.output)?,
@@ -107,7 +112,7 @@ impl Wanted {
     }
 
     /// Says what in a run is not as wanted.
-    pub fn compare(&self, alloc: Global, came: &Answer) -> Result<(), Wrong> {
+    pub fn compare(&self, alloc: Global, came: &Answer) -> Result<(), TestError> {
         if self.is_part {
             has_lines(alloc, &self.output, &came.output)?;
         } else {
@@ -118,7 +123,7 @@ impl Wanted {
         } else if came.errors.is_empty() {
             is_same(alloc, "errors", b"some text", b"")?;
         }
-        is_status(alloc, self.status.ok_or(Wrong::NoRun)?, came.status)
+        is_status(alloc, self.status.ok_or(TestError::NoRun)?, came.status)
     }
 }
 
@@ -128,7 +133,7 @@ fn push_piece(
     named: &[Image],
     piece: Piece<'_>,
     output: &mut Vec<u8>,
-) -> Result<(), Wrong> {
+) -> Result<(), TestError> {
     match piece {
         Piece::Line(line) => push_line(output, line)?,
         Piece::Words(words) => words.list(alloc, output)?,
@@ -139,7 +144,7 @@ fn push_piece(
 }
 
 /// Says that a status is not as wanted.
-pub fn is_status(alloc: Global, wanted: u8, came: u8) -> Result<(), Wrong> {
+pub fn is_status(alloc: Global, wanted: u8, came: u8) -> Result<(), TestError> {
     is_number(alloc, "status", wanted as usize, came as usize)
 }
 
@@ -149,11 +154,11 @@ pub fn is_number(
     part: &'static str,
     wanted: usize,
     came: usize,
-) -> Result<(), Wrong> {
+) -> Result<(), TestError> {
     if wanted == came {
         return Ok(());
     }
-    Err(Wrong::Other(Difference {
+    Err(TestError::Other(Difference {
         part,
         case: 0,
         wanted: format!(in alloc; "{wanted}")?,
@@ -169,12 +174,17 @@ pub fn push_line(text: &mut Vec<u8>, line: &str) -> Result<(), AllocError> {
 }
 
 /// Says that a text is not as wanted.
-pub fn is_same(alloc: Global, part: &'static str, wanted: &[u8], came: &[u8]) -> Result<(), Wrong> {
+pub fn is_same(
+    alloc: Global,
+    part: &'static str,
+    wanted: &[u8],
+    came: &[u8],
+) -> Result<(), TestError> {
     if wanted == came {
         return Ok(());
     }
     let at = equal_bytes(wanted, came);
-    Err(Wrong::Other(Difference {
+    Err(TestError::Other(Difference {
         part,
         case: 0,
         wanted: excerpt(alloc, wanted, at)?,
@@ -207,17 +217,17 @@ fn excerpt(alloc: Global, text: &[u8], at: usize) -> Result<String, AllocError> 
 }
 
 // Says which of the lines wanted is not among those that came, in this order.
-fn has_lines(alloc: Global, wanted: &[u8], came: &[u8]) -> Result<(), Wrong> {
+fn has_lines(alloc: Global, wanted: &[u8], came: &[u8]) -> Result<(), TestError> {
     if wanted.is_empty() {
         return Ok(());
     }
     let (Ok(wanted), Ok(came)) = (str::from_utf8(wanted), str::from_utf8(came)) else {
-        return Err(Wrong::Unread);
+        return Err(TestError::Unread);
     };
     let mut left = came.lines();
     for line in wanted.lines() {
         if !left.any(|other| other == line) {
-            return Err(Wrong::Other(Difference {
+            return Err(TestError::Other(Difference {
                 part: "output",
                 case: 0,
                 wanted: String::from_str(alloc, line)?,

@@ -1,6 +1,6 @@
 // Words of blocks, as a line tells them.
 
-use crate::wrong::Wrong;
+use crate::test_error::TestError;
 use adf_fields::{seal, set_word};
 use std::alloc::{AllocError, Global};
 
@@ -31,7 +31,7 @@ impl Words {
     }
 
     /// Writes these words into an image.
-    pub fn put(&self, image: &mut [u8]) -> Result<(), Wrong> {
+    pub fn put(&self, image: &mut [u8]) -> Result<(), TestError> {
         let mut value = self.value;
         for block in self.blocks.0..=self.blocks.1 {
             for i in 0..self.count() {
@@ -119,18 +119,18 @@ pub fn hex(text: &str) -> Option<u32> {
 }
 
 /// Writes a word of a block.
-pub fn put_word(image: &mut [u8], block: u32, word: usize, value: u32) -> Result<(), Wrong> {
+pub fn put_word(image: &mut [u8], block: u32, word: usize, value: u32) -> Result<(), TestError> {
     if word >= 128 || block as usize * 512 + 512 > image.len() {
-        return Err(Wrong::NoPlace);
+        return Err(TestError::NoPlace);
     }
     set_word(image, block, word, value);
     Ok(())
 }
 
 /// Writes a word of a block so that the block's words add up to 0.
-pub fn seal_by(image: &mut [u8], block: u32, word: usize) -> Result<(), Wrong> {
+pub fn seal_by(image: &mut [u8], block: u32, word: usize) -> Result<(), TestError> {
     if word >= 128 || block as usize * 512 + 512 > image.len() {
-        return Err(Wrong::NoPlace);
+        return Err(TestError::NoPlace);
     }
     seal(image, block, word);
     Ok(())

@@ -64,17 +64,17 @@ module _ (image : List ℕ) {w over : List (Role × ℕ)} where
       → IsUpTo image w over y
   moved u le none = record {
     taken = (λ q b h. let z = u.taken q b h in omega arith);
-    passed = (λ q b h. let z = u.passed q b h in omega arith);
+    skipped = (λ q b h. let z = u.skipped q b h in omega arith);
     gone = (λ q a i h l m z. u.gone q a i h l m (none q a i h z));
   }
 
   module _ (r : Role) (u : IsUpTo image w over (position_of r)) where
-    -- the part at the position is neither taken nor passed over
+    -- the part at the position is neither taken nor skipped
     pub not_taken : Lacks w r
     not_taken q b h e = let x = u.taken q b h in omega arith
 
-    pub not_passed : Lacks over r
-    not_passed q b h e = let x = u.passed q b h in omega arith
+    pub not_skipped : Lacks over r
+    not_skipped q b h e = let x = u.skipped q b h in omega arith
 
     below_behind : (q : Role) → IsBelow q (behind r) → (Same q r → ⊥) → IsBelow q (position_of r)
     below_behind q x other =
@@ -86,11 +86,11 @@ module _ (image : List ℕ) {w over : List (Role × ℕ)} where
     later : (q : Role) → IsBelow q (position_of r) → IsBelow q (behind r)
     later q x = omega arith
 
-    -- past a part that is passed over
-    pub past_passed : (b : ℕ) → IsUpTo image w ((r, b) ∷ over) (behind r)
-    past_passed b = record {
+    -- past a part that is skipped
+    pub past_skipped : (b : ℕ) → IsUpTo image w ((r, b) ∷ over) (behind r)
+    past_skipped b = record {
       taken = (λ q c h. later q (u.taken q c h));
-      passed = (λ q c h. elim h [ inl e ↦ own_below q e.0 | inr k ↦ later q (u.passed q c k) ]);
+      skipped = (λ q c h. elim h [ inl e ↦ own_below q e.0 | inr k ↦ later q (u.skipped q c k) ]);
       gone = (λ q a i h l m x.
           u.gone q a i h l (λ z c k. m z c (inr k)) (below_behind q x (λ e. m r b (inl (refl, refl)) (omega arith))));
     }
@@ -99,7 +99,7 @@ module _ (image : List ℕ) {w over : List (Role × ℕ)} where
     pub past_taken : IsGathered image w → (a i b : ℕ) → Asks image w r a i → IsUpTo image ((r, b) ∷ w) over (behind r)
     past_taken v a i b asked = record {
       taken = (λ q c h. elim h [ inl e ↦ own_below q e.0 | inr k ↦ later q (u.taken q c k) ]);
-      passed = (λ q c h. later q (u.passed q c h));
+      skipped = (λ q c h. later q (u.skipped q c h));
       gone = gone;
     }
       where
@@ -290,7 +290,7 @@ module _ (image : List ℕ) {w over : List (Role × ℕ)} where
 pub with_root : (image : List ℕ) → IsUpTo image ((Root, root_of image) ∷ []) [] (before_page 0)
 with_root image = record {
   taken = (λ q b h. elim h [ inl e ↦ subst (λ q. IsBelow q (before_page 0)) e.0 (omega arith) | inr f ↦ absurd f ]);
-  passed = (λ q b h. absurd h);
+  skipped = (λ q b h. absurd h);
   gone = gone;
 }
   where

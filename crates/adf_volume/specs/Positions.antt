@@ -1,5 +1,5 @@
 -- Positions in the order of roles, what a walk has up to one, and the words that point to what comes next.
--- Letters: w a walk; over the parts that were passed over; q, r roles; x, y positions; k the number of a page; n a node;
+-- Letters: w a walk; over the parts that were skipped; q, r roles; x, y positions; k the number of a page; n a node;
 -- p a directory's node; s a slot; j a position in a chain; a, i the block and the word that point to a part.
 use Rattle.std.specs.Prelude.{◌≡◌, ℕ, List, ◌+◌, ◌-◌, ◌/◌, ◌%◌, ◌<◌, ◌≤◌, ◌==◌, cond, nat_lt}
 use Rattle.std.proofs.Common.{zero, suc}
@@ -42,10 +42,10 @@ IsBelow q x = (first q ≤ x.first) × (first q ≡ x.first → second q ≤ x.s
 abbrev pub IsNoLater : Position → Position → Type 0
 IsNoLater x y = (x.first ≤ y.first) × (x.first ≡ y.first → x.second ≤ y.second) × (x.first ≡ y.first → x.second ≡ y.second → x.third ≤ y.third)
 
--- a walk has come to a position: its parts and those passed over come before it, and are all that it asks for there
+-- a walk has come to a position: its parts and those skipped come before it, and are all that it asks for there
 pub record IsUpTo (image : List ℕ) (w over : List (Role × ℕ)) (x : Position) : Type 0 where
   pub taken : (q : Role) (b : ℕ) → Has w q b → IsBelow q x
-  pub passed : (q : Role) (b : ℕ) → Has over q b → IsBelow q x
+  pub skipped : (q : Role) (b : ℕ) → Has over q b → IsBelow q x
   pub gone : (q : Role) (a i : ℕ) → Asks image w q a i → Lacks w q → Lacks over q → IsBelow q x → ⊥
 
 -- the word that points to page k, in the root or in a bitmap extension block

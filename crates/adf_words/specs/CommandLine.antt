@@ -8,8 +8,8 @@ use Rattle.adf_tree.specs.declared.entry.Kind.{Kind}
 use Rattle.adf_tree.specs.Kinds.{kind_named}
 use Rattle.adf_words.specs.declared.command_line.Request.{Request}
 use Rattle.adf_words.specs.declared.command_line.Request.TheVariants.{Check, List as ListAll, Cat, Build, Convert}
-use Rattle.adf_words.specs.declared.command_line.WordsFault.{WordsFault}
-use Rattle.adf_words.specs.declared.command_line.WordsFault.TheVariants.{NoMemory, Usage}
+use Rattle.adf_words.specs.declared.command_line.ArgsError.{ArgsError}
+use Rattle.adf_words.specs.declared.command_line.ArgsError.TheVariants.{NoMemory, Usage}
 
 -- the argument PATH
 abbrev pub path_rule : Rule
@@ -74,21 +74,21 @@ request_named name rows =
 abbrev pub met : Option (Text × List Row) → Option RequestValue
 met = option_and_then (λ p. request_named p.0 p.1)
 
--- the request of the words, where clap takes them
+-- the request of the arguments, where clap takes them
 abbrev pub request_of : List Text → Option RequestValue
-request_of words = met (subcommand_of adf_app words)
+request_of args = met (subcommand_of adf_app args)
 
--- the texts of words
+-- the texts of arguments
 abbrev pub texts_of : List (Bor (List ℕ)) → List Text
-texts_of words = map (λ w. w.now) words
+texts_of args = map (λ w. w.now) args
 
--- clap takes the words, and its matches name the request
+-- clap takes the arguments, and its matches name the request
 abbrev pub AsksFor : List Text → RequestValue → Type 0
-AsksFor words r = (fault_of adf_app words ≡ []) × (request_of words ≡ Some r)
+AsksFor args r = (fault_of adf_app args ≡ []) × (request_of args ≡ Some r)
 
--- clap refuses the words, or its matches lack the command or its value
+-- clap refuses the arguments, or its matches lack the command or its value
 abbrev pub AreRefused : List Text → Type 0
-AreRefused words = (¬ (fault_of adf_app words ≡ [])) ⊎ (request_of words ≡ None)
+AreRefused args = (¬ (fault_of adf_app args ≡ [])) ⊎ (request_of args ≡ None)
 
 -- the value of a request as the code has it
 abbrev pub request_value : Request → RequestValue
@@ -98,12 +98,12 @@ request_value (Cat p) = cat p.now
 request_value (Build b) = build b
 request_value (Convert k) = convert k
 
--- what a fault of the words says of them
-abbrev pub ExplainsWords : WordsFault → List Text → Type 0
-ExplainsWords Usage words = AreRefused words
-ExplainsWords NoMemory words = Unit {0}
+-- what an error of the arguments says of them
+abbrev pub ExplainsArgs : ArgsError → List Text → Type 0
+ExplainsArgs Usage args = AreRefused args
+ExplainsArgs NoMemory args = Unit {0}
 
--- the text of the fault
-abbrev pub words_fault_text : WordsFault → List ℕ
-words_fault_text Usage = codes "bad words"
-words_fault_text NoMemory = codes "no memory"
+-- the text of the error
+abbrev pub args_error_text : ArgsError → List ℕ
+args_error_text Usage = codes "bad words"
+args_error_text NoMemory = codes "no memory"

@@ -4,8 +4,8 @@ use Rattle.std.specs.Option.{option_and_then}
 use Rattle.std.specs.Str.{bytes_eq}
 use Rattle.clap.specs.Words.{App, Row, Rule, Text, fault_of, first_of, new_app, new_rule, subcommand_of, with_rule, with_subcommand}
 use Rattle.adf_words.specs.SurveyLine.{number_named}
-use Rattle.adf_words.specs.declared.command_line.WordsFault.{WordsFault}
-use Rattle.adf_words.specs.declared.command_line.WordsFault.TheVariants.{NoMemory, Usage}
+use Rattle.adf_words.specs.declared.command_line.ArgsError.{ArgsError}
+use Rattle.adf_words.specs.declared.command_line.ArgsError.TheVariants.{NoMemory, Usage}
 use Rattle.adf_words.specs.declared.disk_line.DiskRequest.{DiskRequest}
 use Rattle.adf_words.specs.declared.disk_line.DiskRequest.TheVariants.{List as ListAll, Check, Survey, Volume}
 use Rattle.adf_words.specs.declared.disk_line.Wanted.{Wanted}
@@ -60,13 +60,13 @@ disk_request_named command rows =
 abbrev pub disk_met : Option (Text × List Row) → Option DiskRequestValue
 disk_met = option_and_then (λ p. disk_request_named p.0 p.1)
 
--- clap takes the words, and its matches name the request
+-- clap takes the arguments, and its matches name the request
 abbrev pub AsksDisk : List Text → DiskRequestValue → Type 0
-AsksDisk words r = (fault_of disk_app words ≡ []) × (disk_met (subcommand_of disk_app words) ≡ Some r)
+AsksDisk args r = (fault_of disk_app args ≡ []) × (disk_met (subcommand_of disk_app args) ≡ Some r)
 
--- clap refuses the words, or its matches lack the command or its value
+-- clap refuses the arguments, or its matches lack the command or its value
 abbrev pub AreRefusedByDisk : List Text → Type 0
-AreRefusedByDisk words = (¬ (fault_of disk_app words ≡ [])) ⊎ (disk_met (subcommand_of disk_app words) ≡ None)
+AreRefusedByDisk args = (¬ (fault_of disk_app args ≡ [])) ⊎ (disk_met (subcommand_of disk_app args) ≡ None)
 
 -- a partition as the code has it
 abbrev pub wanted_value : Wanted → WantedValue
@@ -80,7 +80,7 @@ disk_request_value Check = check
 disk_request_value Survey = survey
 disk_request_value (Volume wanted) = volume (wanted_value wanted)
 
--- what a fault of the words says of them
-abbrev pub ExplainsDiskWords : WordsFault → List Text → Type 0
-ExplainsDiskWords Usage words = AreRefusedByDisk words
-ExplainsDiskWords NoMemory words = Unit {0}
+-- what an error of the arguments says of them
+abbrev pub ExplainsDiskArgs : ArgsError → List Text → Type 0
+ExplainsDiskArgs Usage args = AreRefusedByDisk args
+ExplainsDiskArgs NoMemory args = Unit {0}

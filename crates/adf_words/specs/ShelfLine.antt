@@ -3,8 +3,8 @@ use Rattle.std.specs.Prelude.{◌≡◌, List, [], Bool, true, Some, codes, unwr
 use Rattle.clap.specs.Words.{App, Row, Rule, Text, all_of, fault_of, first_of, matches_of, new_app, new_rule, with_rule}
 use Rattle.clap.specs.declared.builder.action.ArgAction.TheVariants.{Append, SetTrue}
 use Rattle.adf_words.specs.CommandLine.{is_text}
-use Rattle.adf_words.specs.declared.command_line.WordsFault.{WordsFault}
-use Rattle.adf_words.specs.declared.command_line.WordsFault.TheVariants.{NoMemory, Usage}
+use Rattle.adf_words.specs.declared.command_line.ArgsError.{ArgsError}
+use Rattle.adf_words.specs.declared.command_line.ArgsError.TheVariants.{NoMemory, Usage}
 
 -- the flag --null
 abbrev pub null_rule : Rule
@@ -26,15 +26,15 @@ shelf_app = with_rule (with_rule bare_shelf null_rule) files_rule
 abbrev pub order_in : List Row → Bool × List Text
 order_in rows = (is_text (codes "true") (first_of (codes "null") rows), unwrap_or (all_of (codes "files") rows) [])
 
--- clap takes the words, and its matches are the order
+-- clap takes the arguments, and its matches are the order
 abbrev pub AsksShelf : List Text → Bool × List Text → Type 0
-AsksShelf words order = (fault_of shelf_app words ≡ []) × (order_in (matches_of shelf_app words) ≡ order)
+AsksShelf args order = (fault_of shelf_app args ≡ []) × (order_in (matches_of shelf_app args) ≡ order)
 
--- clap refuses the words
+-- clap refuses the arguments
 abbrev pub AreRefusedByShelf : List Text → Type 0
-AreRefusedByShelf words = ¬ (fault_of shelf_app words ≡ [])
+AreRefusedByShelf args = ¬ (fault_of shelf_app args ≡ [])
 
--- what a fault of the words says of them
-abbrev pub ExplainsShelfWords : WordsFault → List Text → Type 0
-ExplainsShelfWords Usage words = AreRefusedByShelf words
-ExplainsShelfWords NoMemory words = Unit {0}
+-- what an error of the arguments says of them
+abbrev pub ExplainsShelfArgs : ArgsError → List Text → Type 0
+ExplainsShelfArgs Usage args = AreRefusedByShelf args
+ExplainsShelfArgs NoMemory args = Unit {0}

@@ -8,8 +8,8 @@ use Rattle.clap.specs.Words.{with_subcommand}
 use Rattle.clap.specs.declared.builder.action.ArgAction.TheVariants.{SetTrue}
 use Rattle.adf_blocks.specs.declared.layout.TheConstants.{MOST_BLOCKS}
 use Rattle.adf_words.specs.CommandLine.{cat_app, is_text, list_rule}
-use Rattle.adf_words.specs.declared.command_line.WordsFault.{WordsFault}
-use Rattle.adf_words.specs.declared.command_line.WordsFault.TheVariants.{NoMemory, Usage}
+use Rattle.adf_words.specs.declared.command_line.ArgsError.{ArgsError}
+use Rattle.adf_words.specs.declared.command_line.ArgsError.TheVariants.{NoMemory, Usage}
 use Rattle.adf_words.specs.declared.survey_line.Inquiry.{Inquiry}
 use Rattle.adf_words.specs.declared.survey_line.Question.{Question}
 use Rattle.adf_words.specs.declared.survey_line.Question.TheVariants.{Report, List as ListAll, Cat, Rescue}
@@ -92,17 +92,17 @@ question_met rows (Some p) = if asks_list rows then None else question_named p.0
 abbrev pub inquiry_met : List Row → Option (Text × List Row) → Option InquiryValue
 inquiry_met rows subcommand = option_and_then (λ blocks. option_map (asked blocks) (question_met rows subcommand)) (blocks_met rows)
 
--- what the words ask for, where clap takes them
+-- what the arguments ask for, where clap takes them
 abbrev pub inquiry_of : List Text → Option InquiryValue
-inquiry_of words = inquiry_met (matches_of survey_app words) (subcommand_of survey_app words)
+inquiry_of args = inquiry_met (matches_of survey_app args) (subcommand_of survey_app args)
 
--- clap takes the words, and its matches ask for this
+-- clap takes the arguments, and its matches ask for this
 abbrev pub AsksSurvey : List Text → InquiryValue → Type 0
-AsksSurvey words r = (fault_of survey_app words ≡ []) × (inquiry_of words ≡ Some r)
+AsksSurvey args r = (fault_of survey_app args ≡ []) × (inquiry_of args ≡ Some r)
 
--- clap refuses the words, or its matches lack the path, have the flag before a subcommand, or have another text than a number of blocks
+-- clap refuses the arguments, or its matches lack the path, have the flag before a subcommand, or have another text than a number of blocks
 abbrev pub AreRefusedBySurvey : List Text → Type 0
-AreRefusedBySurvey words = (¬ (fault_of survey_app words ≡ [])) ⊎ (inquiry_of words ≡ None)
+AreRefusedBySurvey args = (¬ (fault_of survey_app args ≡ [])) ⊎ (inquiry_of args ≡ None)
 
 -- the value of a question as the code has it
 abbrev pub question_value : Question → QuestionValue
@@ -115,7 +115,7 @@ question_value Rescue = rescue
 abbrev pub inquiry_value : Inquiry → InquiryValue
 inquiry_value q = asked q.blocks (question_value q.question)
 
--- what a fault of the words says of them
-abbrev pub ExplainsSurveyWords : WordsFault → List Text → Type 0
-ExplainsSurveyWords Usage words = AreRefusedBySurvey words
-ExplainsSurveyWords NoMemory words = Unit {0}
+-- what an error of the arguments says of them
+abbrev pub ExplainsSurveyArgs : ArgsError → List Text → Type 0
+ExplainsSurveyArgs Usage args = AreRefusedBySurvey args
+ExplainsSurveyArgs NoMemory args = Unit {0}

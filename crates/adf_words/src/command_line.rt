@@ -1,9 +1,9 @@
-// The words of `adf`, by clap.
+// The arguments of `adf`, by clap.
 
 ghost use Rattle.std.specs.Prelude.{◌≡◌, IfOk, IfErr, false, true, ℕ, ◌==◌, List, [], ◌∷◌, codes, option_map};
 ghost use Rattle.clap.specs.Words.{app_of, first_of, found_of, rows_of, rule_of, subcommand_rows_of};
 ghost use Rattle.clap.specs.declared.builder.command.Command.TheViews.{out-Command};
-ghost use Rattle.adf_words.specs.CommandLine.{AsksFor, ExplainsWords, AreRefused, adf_app, request_value, build, build_app, cat, cat_app, check, convert, convert_app, is_text, list, list_rule, met, request_named, texts_of};
+ghost use Rattle.adf_words.specs.CommandLine.{AsksFor, ExplainsArgs, AreRefused, adf_app, request_value, build, build_app, cat, cat_app, check, convert, convert_app, is_text, list, list_rule, met, request_named, texts_of};
 
 use adf_tree::Kind;
 use clap::error::ErrorKind;
@@ -12,7 +12,7 @@ use std::alloc::{AllocError, Global};
 use std::error::Error;
 use std::fmt;
 
-/// What is said of words that are refused.
+/// What is said of arguments that are refused.
 pub const USAGE: &str =
     "usage: adf check < IMAGE\n       adf list < IMAGE\n       adf cat PATH < IMAGE\n       adf build [--list] < MANIFEST\n\
     \x20      adf convert ofs|ffs < IMAGE\nan image or a manifest comes on standard input; man adf tells more\n";
@@ -28,30 +28,30 @@ pub enum Request<'a> {
     Convert(Kind),
 }
 
-/// Why the words give no request.
+/// Why the arguments give no request.
 #[derive(Clone, Copy, Debug, PartialEq, Eq)]
-pub enum WordsFault {
-    /// The words are refused, or the command or its value is missing.
+pub enum ArgsError {
+    /// The arguments are refused, or the command or its value is missing.
     Usage,
     /// Memory was refused.
     NoMemory,
 }
 
-impl fmt::Display for WordsFault {
+impl fmt::Display for ArgsError {
     ghost use Rattle.std.specs.Prelude.{Some};
-    ghost use Rattle.adf_words.specs.CommandLine.{words_fault_text};
+    ghost use Rattle.adf_words.specs.CommandLine.{args_error_text};
 
-    ghost output = { λ x. Some (words_fault_text x) };
+    ghost output = { λ x. Some (args_error_text x) };
 
     fn fmt<W: fmt::Write>(&self, f: &mut fmt::Formatter<W>) -> fmt::Result {
         f.write_str(match self {
-            WordsFault::Usage => "bad words",
-            WordsFault::NoMemory => "no memory",
+            ArgsError::Usage => "bad words",
+            ArgsError::NoMemory => "no memory",
         })
     }
 }
 
-impl Error for WordsFault {}
+impl Error for ArgsError {}
 
 // The command `cat PATH`.
 pub(crate) fn cat_command<'a>(alloc: Global) -> Result<Command<'a>, AllocError>
@@ -87,7 +87,7 @@ fn convert_command<'a>(alloc: Global) -> Result<Command<'a>, AllocError>
     Command::new(alloc, "convert").arg(kind)
 }
 
-// The command line, with its subcommands. Words of help are refused as any others are, so that clap lays out no text for them.
+// The command line, with its subcommands. Arguments for help are refused like others, so that clap lays out no text for them.
 fn command<'a>(alloc: Global) -> Result<Command<'a>, AllocError>
     ensures { IfOk result (λ c. app_of c ≡ adf_app) }
 {
@@ -161,30 +161,30 @@ fn request_in<'a>(matches: &ArgMatches<'a>) -> Option<Request<'a>>
     }
 }
 
-/// Reads the words, of which the first is the program's name. `Usage` exactly where clap refuses them
+/// Reads the arguments, of which the first is the program's name. `Usage` exactly where clap refuses them
 /// or its matches lack the command or its value, `NoMemory` where memory was refused.
-pub fn parse<'a>(alloc: Global, words: &'a [&str]) -> Result<Request<'a>, WordsFault>
+pub fn parse<'a>(alloc: Global, args: &'a [&str]) -> Result<Request<'a>, ArgsError>
     ensures ok { IfOk result (λ request.
-        AsksFor (texts_of words.entry.now) (request_value request)) }
-    ensures refused { IfErr result (λ fault. ExplainsWords fault (texts_of words.entry.now)) }
+        AsksFor (texts_of args.entry.now) (request_value request)) }
+    ensures refused { IfErr result (λ fault. ExplainsArgs fault (texts_of args.entry.now)) }
 {
     let adf = match command(alloc) {
         Ok(adf) => adf,
-        Err(_) => return Err(WordsFault::NoMemory),
+        Err(_) => return Err(ArgsError::NoMemory),
     };
-    match adf.try_get_matches_from(words) {
+    match adf.try_get_matches_from(args) {
         Ok(matches) => match request_in(&matches) {
             Some(request) => Ok(request),
-            None => Err(WordsFault::Usage),
+            None => Err(ArgsError::Usage),
         },
         Err(error) => match error.kind() {
-            ErrorKind::OutOfMemory => Err(WordsFault::NoMemory),
-            _ => Err(WordsFault::Usage),
+            ErrorKind::OutOfMemory => Err(ArgsError::NoMemory),
+            _ => Err(ArgsError::Usage),
         },
     }
 }
 
-/// The commands of the documentation are taken with the request that they name, and other words are
+/// The commands of the documentation are taken with the request that they name, and other arguments are
 /// refused, calls for help among them.
 #[tactic(auto, unfolding(clap::proofs::OnLiterals::clap_on_literals))]
 pub fn words_as_documented()
@@ -200,7 +200,7 @@ pub fn words_as_documented()
         → AsksFor (codes "adf" ∷ codes "cat" ∷ (first ∷ rest) ∷ []) (cat (first ∷ rest)) }
     ensures cat_any { (path : List ℕ)
         → AsksFor (codes "adf" ∷ codes "cat" ∷ codes "--" ∷ path ∷ []) (cat path) }
-    ensures no_words { AreRefused [] }
+    ensures no_args { AreRefused [] }
     ensures no_command { AreRefused (codes "adf" ∷ []) }
     ensures unknown { AreRefused (codes "adf" ∷ codes "frob" ∷ []) }
     ensures no_path { AreRefused (codes "adf" ∷ codes "cat" ∷ []) }
@@ -209,6 +209,6 @@ pub fn words_as_documented()
     ensures no_kind { AreRefused (codes "adf" ∷ codes "convert" ∷ []) }
     ensures unknown_kind { AreRefused (codes "adf" ∷ codes "convert" ∷ codes "pfs" ∷ []) }
     ensures help { AreRefused (codes "adf" ∷ codes "--help" ∷ []) }
-    ensures help_word { AreRefused (codes "adf" ∷ codes "help" ∷ []) }
+    ensures help_arg { AreRefused (codes "adf" ∷ codes "help" ∷ []) }
     ensures check_help { AreRefused (codes "adf" ∷ codes "check" ∷ codes "--help" ∷ []) }
 {}

@@ -1,18 +1,18 @@
-// The words of `adf-disk`, by clap.
+// The arguments of `adf-disk`, by clap.
 
 ghost use Rattle.std.specs.Prelude.{◌≡◌, ◌==◌, IfOk, IfErr, ℕ, List, [], ◌∷◌, codes, false, option_map};
 ghost use Rattle.clap.specs.Words.{app_of, found_of, rows_of, subcommand_rows_of};
 ghost use Rattle.clap.specs.declared.builder.command.Command.TheViews.{out-Command};
 ghost use Rattle.adf_words.specs.CommandLine.{texts_of};
-ghost use Rattle.adf_words.specs.DiskLine.{AreRefusedByDisk, AsksDisk, ExplainsDiskWords, check, disk_app, disk_met, disk_request_named, disk_request_value, list, name, number, survey, volume, volume_app, wanted_named, wanted_value};
+ghost use Rattle.adf_words.specs.DiskLine.{AreRefusedByDisk, AsksDisk, ExplainsDiskArgs, check, disk_app, disk_met, disk_request_named, disk_request_value, list, name, number, survey, volume, volume_app, wanted_named, wanted_value};
 
-use crate::command_line::{WordsFault, first_text};
+use crate::command_line::{ArgsError, first_text};
 use crate::survey_line::number_named;
 use clap::error::ErrorKind;
 use clap::{Arg, ArgMatches, Command};
 use std::alloc::{AllocError, Global};
 
-/// What is said of words that are refused.
+/// What is said of arguments that are refused.
 pub const DISK_USAGE: &str =
     "usage: adf-disk list < DISK\n       adf-disk check < DISK\n       adf-disk survey < DISK\n       adf-disk volume NAME < DISK\n\
     the image of a hard disk comes on standard input; man adf-disk tells more\n";
@@ -44,7 +44,7 @@ fn volume_command<'a>(alloc: Global) -> Result<Command<'a>, AllocError>
     Command::new(alloc, "volume").arg(name)
 }
 
-// The command line. Words of help are refused as any others are, so that clap lays out no text for them.
+// The command line. Arguments for help are refused like others, so that clap lays out no text for them.
 fn command<'a>(alloc: Global) -> Result<Command<'a>, AllocError>
     ensures { IfOk result (λ c. app_of c ≡ disk_app) }
 {
@@ -98,29 +98,29 @@ fn request_in<'a>(matches: &ArgMatches<'a>) -> Option<DiskRequest<'a>>
     }
 }
 
-/// Reads the words, of which the first is the program's name. `Usage` exactly where clap refuses them
+/// Reads the arguments, of which the first is the program's name. `Usage` exactly where clap refuses them
 /// or its matches lack the command or its value, `NoMemory` where memory was refused.
-pub fn parse_disk<'a>(alloc: Global, words: &'a [&str]) -> Result<DiskRequest<'a>, WordsFault>
+pub fn parse_disk<'a>(alloc: Global, args: &'a [&str]) -> Result<DiskRequest<'a>, ArgsError>
     ensures ok { IfOk result (λ request.
-        AsksDisk (texts_of words.entry.now) (disk_request_value request)) }
-    ensures refused { IfErr result (λ fault. ExplainsDiskWords fault (texts_of words.entry.now)) }
+        AsksDisk (texts_of args.entry.now) (disk_request_value request)) }
+    ensures refused { IfErr result (λ fault. ExplainsDiskArgs fault (texts_of args.entry.now)) }
 {
     let Ok(disk) = command(alloc) else {
-        return Err(WordsFault::NoMemory);
+        return Err(ArgsError::NoMemory);
     };
-    match disk.try_get_matches_from(words) {
+    match disk.try_get_matches_from(args) {
         Ok(matches) => match request_in(&matches) {
             Some(request) => Ok(request),
-            None => Err(WordsFault::Usage),
+            None => Err(ArgsError::Usage),
         },
         Err(error) => match error.kind() {
-            ErrorKind::OutOfMemory => Err(WordsFault::NoMemory),
-            _ => Err(WordsFault::Usage),
+            ErrorKind::OutOfMemory => Err(ArgsError::NoMemory),
+            _ => Err(ArgsError::Usage),
         },
     }
 }
 
-/// The words of the documentation are taken with what they ask for, and other words are refused, calls
+/// The arguments of the documentation are taken with what they ask for, and other arguments are refused, calls
 /// for help among them. A name is any text that is no number.
 #[tactic(auto, unfolding(clap::proofs::OnLiterals::clap_on_literals))]
 pub fn disk_words_as_documented()
@@ -136,7 +136,7 @@ pub fn disk_words_as_documented()
     ensures dashed_name { (text : List ℕ)
         → AsksDisk (codes "adf-disk" ∷ codes "volume" ∷ codes "--" ∷ text ∷ [])
         (volume (wanted_named text)) }
-    ensures no_words { AreRefusedByDisk [] }
+    ensures no_args { AreRefusedByDisk [] }
     ensures no_command { AreRefusedByDisk (codes "adf-disk" ∷ []) }
     ensures unknown { AreRefusedByDisk (codes "adf-disk" ∷ codes "frob" ∷ []) }
     ensures no_name { AreRefusedByDisk (codes "adf-disk" ∷ codes "volume" ∷ []) }
@@ -145,6 +145,6 @@ pub fn disk_words_as_documented()
         (codes "adf-disk" ∷ codes "volume" ∷ codes "DH0" ∷ codes "DH1" ∷ []) }
     ensures list_name { AreRefusedByDisk (codes "adf-disk" ∷ codes "list" ∷ codes "DH0" ∷ []) }
     ensures help { AreRefusedByDisk (codes "adf-disk" ∷ codes "--help" ∷ []) }
-    ensures help_word { AreRefusedByDisk (codes "adf-disk" ∷ codes "help" ∷ []) }
+    ensures help_arg { AreRefusedByDisk (codes "adf-disk" ∷ codes "help" ∷ []) }
     ensures version { AreRefusedByDisk (codes "adf-disk" ∷ codes "--version" ∷ []) }
 {}

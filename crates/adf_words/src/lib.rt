@@ -1,4 +1,4 @@
-//! The words of the programs, read by clap.
+//! The arguments of the programs, read by clap.
 #![tactic(auto)]
 
 mod command_line;
@@ -6,7 +6,7 @@ mod disk_line;
 mod shelf_line;
 mod survey_line;
 
-pub use crate::command_line::{Request, USAGE, WordsFault, parse, words_as_documented};
+pub use crate::command_line::{ArgsError, Request, USAGE, parse, words_as_documented};
 pub use crate::disk_line::{DISK_USAGE, DiskRequest, Wanted, disk_words_as_documented, parse_disk};
 pub use crate::shelf_line::{Order, SHELF_USAGE, parse_shelf, shelf_words_as_documented};
 pub use crate::survey_line::{

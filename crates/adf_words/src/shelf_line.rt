@@ -1,17 +1,17 @@
-// The words of `adf-shelf`, by clap.
+// The arguments of `adf-shelf`, by clap.
 
 ghost use Rattle.std.specs.Prelude.{◌≡◌, ◌==◌, IfOk, IfErr, ℕ, List, [], ◌∷◌, codes, false, option_map, true, unwrap_or};
 ghost use Rattle.clap.specs.Words.{all_of, app_of, found_of, rows_of};
 ghost use Rattle.adf_words.specs.CommandLine.{texts_of};
-ghost use Rattle.adf_words.specs.ShelfLine.{AsksShelf, ExplainsShelfWords, AreRefusedByShelf, order_in, shelf_app};
+ghost use Rattle.adf_words.specs.ShelfLine.{AsksShelf, ExplainsShelfArgs, AreRefusedByShelf, order_in, shelf_app};
 
-use crate::command_line::{WordsFault, has_flag};
+use crate::command_line::{ArgsError, has_flag};
 use clap::error::ErrorKind;
 use clap::{Arg, ArgAction, ArgMatches, Command};
 use std::alloc::{AllocError, Global};
 use std::marker::Model;
 
-/// What is said of words that are refused.
+/// What is said of arguments that are refused.
 pub const SHELF_USAGE: &str = "usage: adf-shelf [--null] [FILE..]\n";
 
 /// What a command line asks for.
@@ -32,7 +32,7 @@ impl<'a> Model for Order<'a> {
     ghost view = { λ o. (o.null, texts_of o.files.items) };
 }
 
-// The command line. Words of help are refused as any others are, so that clap lays out no text for them.
+// The command line. Arguments for help are refused like others, so that clap lays out no text for them.
 fn command<'a>(alloc: Global) -> Result<Command<'a>, AllocError>
     ensures { IfOk result (λ c. app_of c ≡ shelf_app) }
 {
@@ -72,28 +72,28 @@ fn order_in<'a>(alloc: Global, found: &ArgMatches<'a>) -> Result<Order<'a>, Allo
     Ok(Order { null, files })
 }
 
-/// Reads the words, of which the first is the program's name. `Usage` exactly where clap refuses them,
+/// Reads the arguments, of which the first is the program's name. `Usage` exactly where clap refuses them,
 /// `NoMemory` where memory was refused.
-pub fn parse_shelf<'a>(alloc: Global, words: &'a [&str]) -> Result<Order<'a>, WordsFault>
-    ensures ok { IfOk result (λ order. AsksShelf (texts_of words.entry.now) order) }
-    ensures refused { IfErr result (λ fault. ExplainsShelfWords fault (texts_of words.entry.now)) }
+pub fn parse_shelf<'a>(alloc: Global, args: &'a [&str]) -> Result<Order<'a>, ArgsError>
+    ensures ok { IfOk result (λ order. AsksShelf (texts_of args.entry.now) order) }
+    ensures refused { IfErr result (λ fault. ExplainsShelfArgs fault (texts_of args.entry.now)) }
 {
     let Ok(shelf) = command(alloc) else {
-        return Err(WordsFault::NoMemory);
+        return Err(ArgsError::NoMemory);
     };
-    match shelf.try_get_matches_from(words) {
+    match shelf.try_get_matches_from(args) {
         Ok(matches) => match order_in(alloc, &matches) {
             Ok(order) => Ok(order),
-            Err(_) => Err(WordsFault::NoMemory),
+            Err(_) => Err(ArgsError::NoMemory),
         },
         Err(error) => match error.kind() {
-            ErrorKind::OutOfMemory => Err(WordsFault::NoMemory),
-            _ => Err(WordsFault::Usage),
+            ErrorKind::OutOfMemory => Err(ArgsError::NoMemory),
+            _ => Err(ArgsError::Usage),
         },
     }
 }
 
-/// The words of the documentation are taken with the order that they are, and other words are refused,
+/// The arguments of the documentation are taken with the order that they are, and other arguments are refused,
 /// calls for help among them.
 #[tactic(auto, unfolding(clap::proofs::OnLiterals::clap_on_literals))]
 pub fn shelf_words_as_documented()
@@ -108,7 +108,7 @@ pub fn shelf_words_as_documented()
         (true, codes "a.adf" ∷ []) }
     ensures any_files { (one two : List ℕ)
         → AsksShelf (codes "adf-shelf" ∷ codes "--" ∷ one ∷ two ∷ []) (false, one ∷ two ∷ []) }
-    ensures no_words { AsksShelf [] (false, []) }
+    ensures no_args { AsksShelf [] (false, []) }
     ensures dash { AreRefusedByShelf (codes "adf-shelf" ∷ codes "-x" ∷ []) }
     ensures null_twice { AreRefusedByShelf
         (codes "adf-shelf" ∷ codes "--null" ∷ codes "--null" ∷ []) }

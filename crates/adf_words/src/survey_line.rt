@@ -1,18 +1,18 @@
-// The words of `adf-survey`, by clap.
+// The arguments of `adf-survey`, by clap.
 
 ghost use Rattle.std.specs.Prelude.{◌≡◌, ◌==◌, IfOk, IfErr, IfSome, ℕ, List, [], ◌∷◌, Some, None, codes, false, true, option_map};
 ghost use Rattle.clap.specs.Words.{app_of, found_of, rows_of, subcommand_rows_of};
 ghost use Rattle.clap.specs.declared.builder.command.Command.TheViews.{out-Command};
 ghost use Rattle.adf_words.specs.CommandLine.{texts_of};
-ghost use Rattle.adf_words.specs.SurveyLine.{AreFew, AsksSurvey, AreRefusedBySurvey, ExplainsSurveyWords, blocks_met, number_named, asked, cat, flagged_survey, list, inquiry_met, inquiry_value, question_met, question_named, question_value, report, rescue, survey_app, survey_cat_app};
+ghost use Rattle.adf_words.specs.SurveyLine.{AreFew, AsksSurvey, AreRefusedBySurvey, ExplainsSurveyArgs, blocks_met, number_named, asked, cat, flagged_survey, list, inquiry_met, inquiry_value, question_met, question_named, question_value, report, rescue, survey_app, survey_cat_app};
 
-use crate::command_line::{WordsFault, cat_command, first_text, has_flag, list_flag};
+use crate::command_line::{ArgsError, cat_command, first_text, has_flag, list_flag};
 use adf_blocks::MOST_BLOCKS;
 use clap::error::ErrorKind;
 use clap::{Arg, ArgAction, ArgMatches, Command};
 use std::alloc::{AllocError, Global};
 
-/// What is said of words that are refused.
+/// What is said of arguments that are refused.
 pub const SURVEY_USAGE: &str =
     "usage: adf-survey [--blocks N] [--list] < IMAGE\n       adf-survey [--blocks N] cat [--damaged] PATH < IMAGE\n\
     \x20      adf-survey [--blocks N] rescue < IMAGE\n\
@@ -39,7 +39,7 @@ pub struct Inquiry<'a> {
     pub question: Question<'a>,
 }
 
-// The command line without its subcommands. Words of help are refused as any others are, so that clap lays out no text for them.
+// The command line without its subcommands. Arguments for help are refused like others, so that clap lays out no text for them.
 fn flagged<'a>(alloc: Global) -> Result<Command<'a>, AllocError>
     ensures { IfOk result (λ c. app_of c ≡ flagged_survey) }
 {
@@ -145,36 +145,36 @@ fn inquiry_in<'a>(matches: &ArgMatches<'a>) -> Option<Inquiry<'a>>
     }
 }
 
-/// Reads the words, of which the first is the program's name. `Usage` exactly where clap refuses them
+/// Reads the arguments, of which the first is the program's name. `Usage` exactly where clap refuses them
 /// or its matches lack the path, have `--list` before a command, or have no number of blocks; `NoMemory` where memory was
 /// refused.
-pub fn parse_survey<'a>(alloc: Global, words: &'a [&str]) -> Result<Inquiry<'a>, WordsFault>
+pub fn parse_survey<'a>(alloc: Global, args: &'a [&str]) -> Result<Inquiry<'a>, ArgsError>
     ensures ok { IfOk result (λ inquiry.
-        AsksSurvey (texts_of words.entry.now) (inquiry_value inquiry)) }
+        AsksSurvey (texts_of args.entry.now) (inquiry_value inquiry)) }
     ensures few { IfOk result (λ inquiry. AreFew inquiry.blocks) }
-    ensures refused { IfErr result (λ fault. ExplainsSurveyWords fault (texts_of words.entry.now)) }
+    ensures refused { IfErr result (λ fault. ExplainsSurveyArgs fault (texts_of args.entry.now)) }
 {
     let Ok(survey) = command(alloc) else {
-        return Err(WordsFault::NoMemory);
+        return Err(ArgsError::NoMemory);
     };
-    match survey.try_get_matches_from(words) {
+    match survey.try_get_matches_from(args) {
         Ok(matches) => match inquiry_in(&matches) {
             Some(inquiry) => Ok(inquiry),
-            None => Err(WordsFault::Usage),
+            None => Err(ArgsError::Usage),
         },
         Err(error) => match error.kind() {
-            ErrorKind::OutOfMemory => Err(WordsFault::NoMemory),
-            _ => Err(WordsFault::Usage),
+            ErrorKind::OutOfMemory => Err(ArgsError::NoMemory),
+            _ => Err(ArgsError::Usage),
         },
     }
 }
 
-/// The words of the documentation are taken with what they ask for, and other words are refused, calls
+/// The arguments of the documentation are taken with what they ask for, and other arguments are refused, calls
 /// for help among them.
 #[tactic(auto, unfolding(clap::proofs::OnLiterals::clap_on_literals))]
 pub fn survey_words_as_documented()
     ensures report { AsksSurvey (codes "adf-survey" ∷ []) (asked None report) }
-    ensures no_words { AsksSurvey [] (asked None report) }
+    ensures no_args { AsksSurvey [] (asked None report) }
     ensures list { AsksSurvey (codes "adf-survey" ∷ codes "--list" ∷ []) (asked None list) }
     ensures cat { (first : ℕ) (rest : List ℕ) → (first == 45) ≡ false
         → AsksSurvey (codes "adf-survey" ∷ codes "cat" ∷ (first ∷ rest) ∷ [])
@@ -235,9 +235,9 @@ pub fn survey_words_as_documented()
     ensures damaged_twice { AreRefusedBySurvey
         (codes "adf-survey" ∷ codes "cat" ∷ codes "--damaged" ∷ codes "--damaged" ∷ codes "a" ∷ []) }
     ensures short_list { AreRefusedBySurvey (codes "adf-survey" ∷ codes "-l" ∷ []) }
-    ensures list_word { AreRefusedBySurvey (codes "adf-survey" ∷ codes "list" ∷ []) }
+    ensures list_arg { AreRefusedBySurvey (codes "adf-survey" ∷ codes "list" ∷ []) }
     ensures flag { AreRefusedBySurvey (codes "adf-survey" ∷ codes "-x" ∷ []) }
     ensures help { AreRefusedBySurvey (codes "adf-survey" ∷ codes "--help" ∷ []) }
-    ensures help_word { AreRefusedBySurvey (codes "adf-survey" ∷ codes "help" ∷ []) }
+    ensures help_arg { AreRefusedBySurvey (codes "adf-survey" ∷ codes "help" ∷ []) }
     ensures version { AreRefusedBySurvey (codes "adf-survey" ∷ codes "--version" ∷ []) }
 {}

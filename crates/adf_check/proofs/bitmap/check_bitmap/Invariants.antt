@@ -7,5 +7,5 @@ use Rattle.adf_check.proofs.bitmap.check_bitmap.Given as goal
 abbrev pub invariant-loop-i : goal.invariant-loop-i
 invariant-loop-i g l = record {
   state : IsMapped l.image (store_value l.store) (min (2 + 32 * l.i) (blocks l.image));
-  paid : blocks l.image ≤ l.looks + l.i;
+  paid : blocks l.image ≤ l.reads + l.i;
 }

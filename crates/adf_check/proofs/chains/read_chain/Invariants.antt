@@ -6,7 +6,7 @@ use Rattle.adf_check.proofs.chains.read_chain.Given as goal
 abbrev pub invariant-loop-b : goal.invariant-loop-b
 invariant-loop-b g l = record {
   state : IsInChain l.image (store_value l.store) l.chain.parent l.chain.up l.chain.slot l.holder l.b (sees_of l.seen);
-  paid : IsPaid l.store l.looks 0;
+  paid : IsPaid l.store l.reads 0;
   fewer : IsFurther l.fn.store l.store;
 }
 

@@ -9,7 +9,7 @@ pub loop-slot-preserved-then-first-eq0 : goal.loop-slot-preserved-then-first-eq0
 loop-slot-preserved-then-first-eq0 g c =
     let image = c.args.image.now in
     let none : word_in image c.args.up (6 + c.loop-slot.slot) ≡ 0 =
-    ap (λ b. word b (6 + c.loop-slot.slot)) (sym (c.over-directory.ensures ∙ c.look.ensures.block)) ∙ sym c.slot-first.ensures ∙ c.if-first-eq0.true in
+    ap (λ b. word b (6 + c.loop-slot.slot)) (sym (c.over-directory.ensures ∙ c.read_block.ensures.block)) ∙ sym c.slot-first.ensures ∙ c.if-first-eq0.true in
     record {
       state = empty_chain image (store_value c.loop-slot.store) c.args.parent c.args.up c.loop-slot.slot c.loop-slot.invariant.state none;
       paid = c.loop-slot.invariant.paid;

@@ -6,6 +6,6 @@ use Rattle.adf_check.proofs.chains.read_directory.Given as goal
 abbrev pub invariant-loop-slot : goal.invariant-loop-slot
 invariant-loop-slot g l = record {
   state : IsAtSlot l.image (store_value l.store) l.parent l.up l.slot;
-  paid : IsPaid l.store l.looks 0;
+  paid : IsPaid l.store l.reads 0;
   fewer : IsFurther l.fn.store l.store;
 }

@@ -20,7 +20,7 @@ pub returns-in-Err-clause-fault : goal.returns-in-Err-clause-fault
 returns-in-Err-clause-fault g c =
     let claimed = c.in_ok-claim_named.ensures in
     rw c.fault_at.ensures (head_fault c.args.seen.now c.requires.slot c.kind-kind.ensures.begun c.requires.state c.requires.some claimed.range claimed.free
-    c.kind-kind.ensures.kind c.look.ensures.block c.in-Err.cause c.in-Err.ensures)
+    c.kind-kind.ensures.kind c.read_block.ensures.block c.in-Err.cause c.in-Err.ensures)
 
 pub returns-in-Ok-false-clause-fault : goal.returns-in-Ok-false-clause-fault
 returns-in-Ok-false-clause-fault g c =
@@ -28,7 +28,7 @@ returns-in-Ok-false-clause-fault g c =
     let twice : has c.args.seen.now (uppers c.name.result) ≡ true =
     not-false _ (sym c.in-Ok-false.ensures.new ∙ c.in-Ok-false.field-0-test) in
     rw c.fault_at-in-Ok-false.ensures (twice_fault c.args.seen.now c.requires.slot c.kind-kind.ensures.begun c.requires.state c.requires.some claimed.range
-    claimed.free c.kind-kind.ensures.kind c.look.ensures.block c.in-Ok.ensures.0 c.in-Ok.ensures.1 c.name.ensures twice)
+    claimed.free c.kind-kind.ensures.kind c.read_block.ensures.block c.in-Ok.ensures.0 c.in-Ok.ensures.1 c.name.ensures twice)
 
 pub kept_header-requires : goal.kept_header-requires
 kept_header-requires g c = omega (arith, parent_short c.kind-kind.ensures.begun refl c.requires.state)
@@ -41,9 +41,9 @@ returns-in-Ok-push-clause-state g c =
     not-true _ (sym c.in-Ok-true.ensures.new ∙ c.in-Ok-true.field-0-test) in
     let count : c.len.result ≡ length store.headers = search rules in
     let pushed : c.push.new.self.items ≡ store.headers ++ record { parent = c.args.chain.now.parent; head = c.args.b } ∷ [] = search rules in
-    let is_dir = c.is_directory.ensures ∙ ap (λ x. word x SECONDARY_TYPE == ST_DIR) (c.in-Ok.ensures.1 ∙ c.look.ensures.block) in
+    let is_dir = c.is_directory.ensures ∙ ap (λ x. word x SECONDARY_TYPE == ST_DIR) (c.in-Ok.ensures.1 ∙ c.read_block.ensures.block) in
     head_done c.args.seen.now c.requires.slot c.kind-kind.ensures.begun c.requires.state c.requires.some claimed.range claimed.free
-    c.kind-kind.ensures.kind c.look.ensures.block c.in-Ok.ensures.0 c.in-Ok.ensures.1 c.name.ensures fresh _ c.in-Ok-true.ensures.more c.next.ensures
+    c.kind-kind.ensures.kind c.read_block.ensures.block c.in-Ok.ensures.0 c.in-Ok.ensures.1 c.name.ensures fresh _ c.in-Ok-true.ensures.more c.next.ensures
     (record {
       owners = claimed.ok ∙ ap (λ n. set store.owners c.args.b (kept.Head n)) (number c.requires.state.read.tells.headers.count count);
       headers = pushed;

@@ -7,6 +7,6 @@ use Rattle.adf_check.proofs.datas.read_datas.Given as goal
 abbrev pub invariant-loop-m : goal.invariant-loop-m
 invariant-loop-m g l = record {
   state : IsInDatas l.image (store_value l.store) l.fn.node l.head l.table (min (72 * l.m) l.count);
-  paid : IsPaid l.store l.looks 1;
+  paid : IsPaid l.store l.reads 1;
   fewer : IsFurther l.fn.store l.store;
 }

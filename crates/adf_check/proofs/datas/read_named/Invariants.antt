@@ -7,6 +7,6 @@ use Rattle.adf_check.proofs.datas.read_named.Given as goal
 abbrev pub invariant-loop-k : goal.invariant-loop-k
 invariant-loop-k g l = record {
   state : IsInDatas l.image (store_value l.store) l.file.node l.file.head l.table l.k;
-  paid : IsPaid l.store l.looks (min 1 (l.k - 72 * l.m));
+  paid : IsPaid l.store l.reads (min 1 (l.k - 72 * l.m));
   fewer : IsFurther l.fn.store l.store;
 }

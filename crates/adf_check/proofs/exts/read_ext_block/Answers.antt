@@ -13,7 +13,7 @@ returns-in_err-claim_named-clause-fault g c =
 pub returns-in-Err-clause-fault : goal.returns-in-Err-clause-fault
 returns-in-Err-clause-fault g c =
     let claimed = c.in_ok-claim_named.ensures in
-    rw c.fault_at.ensures (ext_fault c.begun.ensures c.requires.state c.requires.some claimed.range claimed.free c.look.ensures.block c.in-Err.cause
+    rw c.fault_at.ensures (ext_fault c.begun.ensures c.requires.state c.requires.some claimed.range claimed.free c.read_block.ensures.block c.in-Err.cause
     c.in-Err.ensures)
 
 pub returns-clause-state : goal.returns-clause-state
@@ -24,7 +24,7 @@ returns-clause-state g c =
     let count : c.len-place.result ≡ length store.exts = search rules in
     let pushed : c.push.new.self.items ≡ c.args.table.now.items ++ b ∷ [] = search rules in
     let longer : c.push-else-is_err.new.self.items ≡ store.exts ++ b ∷ [] = search rules in
-    ext_done c.begun.ensures c.requires.state c.requires.some claimed.range claimed.free c.look.ensures.block c.in-Ok.ensures.0 c.in-Ok.ensures.1
+    ext_done c.begun.ensures c.requires.state c.requires.some claimed.range claimed.free c.read_block.ensures.block c.in-Ok.ensures.0 c.in-Ok.ensures.1
     c.next.ensures pushed (record {
       owners = claimed.ok ∙ ap (λ i. set store.owners b (kept.Ext i)) count;
       headers = refl;
@@ -41,8 +41,8 @@ overflow_cast-place g c = omega (arith, (lists_short c.begun.ensures refl c.requ
 pub claim_named-requires-clause-place : goal.claim_named-requires-clause-place
 claim_named-requires-clause-place g c = omega (arith, (lists_short c.begun.ensures refl c.requires.state.read).0, c.len-place.ensures)
 
-pub look-requires-clause-paid : goal.look-requires-clause-paid
-look-requires-clause-paid g c = omega (arith, c.requires.paid, c.in_ok-claim_named.ensures)
+pub read_block-requires-clause-paid : goal.read_block-requires-clause-paid
+read_block-requires-clause-paid g c = omega (arith, c.requires.paid, c.in_ok-claim_named.ensures)
 
 pub returns-clause-paid : goal.returns-clause-paid
-returns-clause-paid g c = omega (arith, c.requires.paid, c.in_ok-claim_named.ensures, c.look.ensures.looks)
+returns-clause-paid g c = omega (arith, c.requires.paid, c.in_ok-claim_named.ensures, c.read_block.ensures.reads)

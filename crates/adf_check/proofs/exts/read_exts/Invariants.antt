@@ -6,7 +6,7 @@ use Rattle.adf_check.proofs.exts.read_exts.Given as goal
 abbrev pub invariant-loop-b : goal.invariant-loop-b
 invariant-loop-b g l = record {
   state : IsInExts l.image (store_value l.store) l.node l.head l.table.items l.holder l.b;
-  paid : IsPaid l.store l.looks 1;
+  paid : IsPaid l.store l.reads 1;
   fewer : IsFurther l.fn.store l.store;
 }
 

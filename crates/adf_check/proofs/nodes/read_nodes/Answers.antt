@@ -25,4 +25,4 @@ returns-clause-state g c =
 pub read_node-requires-clause-paid : goal.read_node-requires-clause-paid
 read_node-requires-clause-paid g c =
     let begun : length c.loop-node.store.starts.items ≡ c.loop-node.node = c.loop-node.invariant.state.read.started in
-    c.in_ok-enter.ensures.paid c.loop-node.looks c.loop-node.invariant.paid (omega (arith, begun))
+    c.in_ok-enter.ensures.paid c.loop-node.reads c.loop-node.invariant.paid (omega (arith, begun))

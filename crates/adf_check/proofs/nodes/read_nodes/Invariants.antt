@@ -7,7 +7,7 @@ use Rattle.adf_check.proofs.nodes.read_nodes.Given as goal
 abbrev pub invariant-loop-node : goal.invariant-loop-node
 invariant-loop-node g l = record {
   state : IsAtNode l.image (store_value l.store) l.node;
-  paid : IsPaid l.store l.looks 0;
+  paid : IsPaid l.store l.reads 0;
   within : l.node ≤ suc (length l.store.headers.items);
 }
 

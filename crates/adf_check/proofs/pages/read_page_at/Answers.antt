@@ -12,7 +12,7 @@ pub returns-in-Ok-clause-state : goal.returns-in-Ok-clause-state
 returns-in-Ok-clause-state g c =
     let claimed = c.in_ok-claim_named.ensures in
     page_done c.begun.ensures c.requires.needed c.requires.state c.page_named-b.ensures.exact claimed.range claimed.free
-    c.look.ensures.block c.in-Ok.ensures.0
+    c.read_block.ensures.block c.in-Ok.ensures.0
     (record { owners = claimed.ok; headers = refl; dirs = c.requires.state.read.tells.dirs; starts = refl; exts = refl; datas = refl; used = claimed.count })
 
 pub returns-in-Ok-clause-page : goal.returns-in-Ok-clause-page
@@ -22,7 +22,7 @@ pub returns-in-Err-clause-fault : goal.returns-in-Err-clause-fault
 returns-in-Err-clause-fault g c =
     let claimed = c.in_ok-claim_named.ensures in
     rw c.fault_at.ensures (page_fault c.begun.ensures c.requires.needed c.requires.state c.page_named-b.ensures.exact claimed.range claimed.free
-    c.look.ensures.block c.in-Err.cause c.in-Err.ensures)
+    c.read_block.ensures.block c.in-Err.cause c.in-Err.ensures)
 
 pub claim_named-requires-clause-place : goal.claim_named-requires-clause-place
 claim_named-requires-clause-place g c = omega (arith, pages_few c.args.image.now c.begun.ensures, c.requires.needed)

@@ -10,6 +10,6 @@ abbrev pub invariant-loop-i : goal.invariant-loop-i
 invariant-loop-i g l = record {
   inside : l.holder < blocks l.image;
   state : IsBeforePage l.image (store_value l.store) l.i l.holder;
-  paid : IsPaid l.store l.looks 1;
+  paid : IsPaid l.store l.reads 1;
   pages : AreListed l.image l.pages.items l.i;
 }

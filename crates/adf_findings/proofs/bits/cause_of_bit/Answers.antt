@@ -1,6 +1,6 @@
 use Rattle.std.proofs.Common.{◌≡◌, refl, sym, subst, ◌∙◌, arith}
 use Rattle.std.specs.Prelude.{true, false}
-use Rattle.adf_findings.specs.Found.{BitTells, cause_told}
+use Rattle.adf_findings.specs.Found.{BitTells, bit_cause}
 use Rattle.adf_findings.proofs.BitSteps.{any_default, no_page, not_compared, page_tells}
 use Rattle.adf_findings.proofs.bits.cause_of_bit.Goals as goal
 
@@ -11,8 +11,8 @@ returns-then-not-is_validated c = λ s fs v st.
 
 pub returns-in-Some : goal.returns-in-Some
 returns-in-Some c = λ s fs v st.
-    subst (BitTells c.args.image.now s c.args.b) (sym c.cause_told.ensures)
-    (subst (λ a. BitTells c.args.image.now s c.args.b (cause_told c.index.result.now a c.in-Some.is_free)) (sym c.is_excused.ensures)
+    subst (BitTells c.args.image.now s c.args.b) (sym c.bit_cause.ensures)
+    (subst (λ a. BitTells c.args.image.now s c.args.b (bit_cause c.index.result.now a c.in-Some.is_free)) (sym c.is_excused.ensures)
     (page_tells c.args.image.now c.args.found.now s v fs st c.args.b _ _ _ c.in-Some.is_free
     (c.index.ensures ∙ (any_default c.args.found.now.owned.items c.args.b _ (let l = c.requires.owned in let i = c.requires.inside in omega arith)
     ∙ st.owned.1 c.args.b c.requires.inside))

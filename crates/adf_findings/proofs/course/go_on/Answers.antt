@@ -2,7 +2,7 @@ use Rattle.std.proofs.Common.{◌≡◌, ◌+◌, sym, subst, arith}
 use Rattle.std.specs.Prelude.{Some}
 use Rattle.adf_findings.specs.Courses.{IsGoneOn}
 use Rattle.adf_findings.specs.Found.{IsTaken}
-use Rattle.adf_findings.proofs.CourseSteps.{passed_on, taken_left, taken_marked, taken_on, to_pass, to_take}
+use Rattle.adf_findings.proofs.CourseSteps.{skipped_on, taken_left, taken_marked, taken_on, to_skip, to_take}
 use Rattle.adf_findings.proofs.course.go_on.Goals as goal
 
 pub take-requires-clause-inside : goal.take-requires-clause-inside
@@ -34,4 +34,4 @@ returns-in_ok-take-in-Some-clause-left c =
     let less : c.take.new.self.left + 1 ≡ c.judge_next.new.found.left = c.in_ok-take-in-Some.ensures.owned.left in omega arith
 
 pub returns-in-None-clause-gone : goal.returns-in-None-clause-gone
-returns-in-None-clause-gone c = λ s n. passed_on n (to_pass n c.word.ensures c.in_ok-part.ensures c.in-None.is)
+returns-in-None-clause-gone c = λ s n. skipped_on n (to_skip n c.word.ensures c.in_ok-part.ensures c.in-None.is)

@@ -1,6 +1,6 @@
 use Rattle.std.specs.Prelude.{IfSome}
 use Rattle.std.proofs.Common.{◌+◌, ◌<◌, ◌≤◌, subst, sym, ◌∙◌, arith}
-use Rattle.adf_findings.proofs.CoursePlaces.{chain_done, header_named, header_passed, header_taken}
+use Rattle.adf_findings.proofs.CoursePlaces.{chain_done, header_named, header_skipped, header_taken}
 use Rattle.adf_findings.proofs.course.go_through_chain.Goals as goal
 
 pub go_on-requires-clause-due : goal.go_on-requires-clause-due
@@ -11,7 +11,7 @@ go_on-requires-clause-due c =
 pub returns-in-None : goal.returns-in-None
 returns-in-None c =
     let x = c.loop-part.invariant.0 in
-    header_passed x c.in-None.is (c.in_ok-header.ensures.gone x.course (header_named x c.requires.slot (λ e. c.loop-part-test.true (c.word.ensures ∙ e))))
+    header_skipped x c.in-None.is (c.in_ok-header.ensures.gone x.course (header_named x c.requires.slot (λ e. c.loop-part-test.true (c.word.ensures ∙ e))))
 
 pub loop-part-preserved : goal.loop-part-preserved
 loop-part-preserved c =

@@ -1,6 +1,6 @@
 use Rattle.std.specs.Prelude.{IfSome}
 use Rattle.std.proofs.Common.{◌+◌, ◌<◌, ◌≤◌, subst, sym, ◌∙◌, arith}
-use Rattle.adf_findings.proofs.CoursePlaces.{ext_is_named, ext_passed, ext_taken, exts_begin, exts_done}
+use Rattle.adf_findings.proofs.CoursePlaces.{ext_is_named, ext_skipped, ext_taken, exts_begin, exts_done}
 use Rattle.adf_findings.proofs.course.go_through_exts.Goals as goal
 
 pub loop-found-init : goal.loop-found-init
@@ -13,7 +13,7 @@ go_on-requires-clause-due c =
 pub returns-in-None-clause-datas : goal.returns-in-None-clause-datas
 returns-in-None-clause-datas c =
     let x = c.loop-found.invariant.0 in
-    ext_passed x c.in-None.is (c.in_ok-ext.ensures.gone x.course (ext_is_named x (λ e. c.loop-found-test.true (c.word.ensures ∙ e))))
+    ext_skipped x c.in-None.is (c.in_ok-ext.ensures.gone x.course (ext_is_named x (λ e. c.loop-found-test.true (c.word.ensures ∙ e))))
 
 pub loop-found-preserved : goal.loop-found-preserved
 loop-found-preserved c =

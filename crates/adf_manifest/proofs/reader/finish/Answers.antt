@@ -2,10 +2,10 @@ use Rattle.std.proofs.Common.{◌∙◌}
 use Rattle.adf_manifest.proofs.StateLaws.{bare_tree, closed_tree, if_ok_weaker}
 use Rattle.adf_manifest.proofs.reader.finish.Goals as goal
 
-pub returns-in-Head-clause-told : goal.returns-in-Head-clause-told
-returns-in-Head-clause-told c = λ m w t.
-    let e = rw c.in-Head.is at t in
-    rw e (if_ok_weaker c.finished.result (λ r h. (h.0 ∙ bare_tree c.in-Head.head c.tree_of.result.tree c.tree_of.ensures, h.1)) c.finished.ensures.told)
+pub returns-in-Preamble-clause-told : goal.returns-in-Preamble-clause-told
+returns-in-Preamble-clause-told c = λ m w t.
+    let e = rw c.in-Preamble.is at t in
+    rw e (if_ok_weaker c.finished.result (λ r h. (h.0 ∙ bare_tree c.in-Preamble.preamble c.tree_of.result.tree c.tree_of.ensures, h.1)) c.finished.ensures.told)
 
 pub returns-in_ok-close-in-Entries-clause-told : goal.returns-in_ok-close-in-Entries-clause-told
 returns-in_ok-close-in-Entries-clause-told c = λ m w t.

@@ -6,4 +6,4 @@ use Rattle.adf_manifest.proofs.reader.first_state.Goals as goal
 pub returns-clause-lines : goal.returns-clause-lines
 returns-clause-lines c =
     let h = c.in_ok-read_volume.field-0 in
-    (bare h, bare_well h c.in_ok-read_volume.ensures.head, refl, bare_lines h ∙ c.in_ok-read_volume.ensures.lines)
+    (bare h, bare_well h c.in_ok-read_volume.ensures.preamble, refl, bare_lines h ∙ c.in_ok-read_volume.ensures.lines)

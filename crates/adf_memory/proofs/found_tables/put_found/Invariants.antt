@@ -1,5 +1,5 @@
 use Rattle.std.proofs.Common.{◌≡◌, ℕ, Bool}
-use Rattle.adf_findings.specs.Marked.{AreMarks}
+use Rattle.adf_findings.specs.SoundMarks.{AreMarks}
 use Rattle.adf_findings.specs.Survey.{OnSurvey}
 use Rattle.adf_memory.specs.FoundTables.{found_rows}
 use Rattle.adf_memory.specs.Rooms.{filled}

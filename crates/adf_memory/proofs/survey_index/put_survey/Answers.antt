@@ -1,5 +1,5 @@
 use Rattle.std.proofs.Common.{◌≡◌, subst, sym}
-use Rattle.adf_findings.specs.Marked.{AreMarks}
+use Rattle.adf_findings.specs.SoundMarks.{AreMarks}
 use Rattle.adf_findings.specs.Survey.{IsSurvey}
 use Rattle.adf_memory.specs.FoundTables.{found_table}
 use Rattle.adf_memory.specs.Rooms.{filled}

@@ -1,6 +1,6 @@
 use Rattle.std.proofs.Common.{◌≡◌, ℕ, Bool, List, arith, subst, sym}
 use Rattle.adf_volume.specs.Walk.{heads}
-use Rattle.adf_findings.specs.Marked.{whole_in}
+use Rattle.adf_findings.specs.SoundMarks.{whole_in}
 use Rattle.adf_rescue.specs.Rescue.{Ground, Look, Verdict, before_first, verdicts}
 use Rattle.adf_rescue.specs.Salvage.{IsSalvage}
 use Rattle.adf_rescue.proofs.Steps.{next_is, verdicts_more}

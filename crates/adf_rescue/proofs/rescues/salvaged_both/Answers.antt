@@ -1,5 +1,5 @@
 use Rattle.std.proofs.Common.{ℕ, Bool, Option, None, Some}
-use Rattle.adf_findings.specs.Marked.{whole_in}
+use Rattle.adf_findings.specs.SoundMarks.{whole_in}
 use Rattle.adf_rescue.specs.Rescue.{IsSecond, Look, before_second, first_verdicts, second_verdicts}
 use Rattle.adf_rescue.specs.Salvage.{IsSalvage}
 use Rattle.adf_rescue.proofs.Steps.{second_some}

@@ -1,7 +1,7 @@
 use Rattle.std.proofs.Common.{◌≡◌, ◌∙◌, ap, false, refl, sym, true}
 use Rattle.std.proofs.lemmas.Bool.{eqb-true, eq-eqb}
 use Rattle.adf_fields.proofs.DateTexts.{date_of, date_of_is}
-use Rattle.adf_findings.specs.Marked.{mark_in}
+use Rattle.adf_findings.specs.SoundMarks.{mark_in}
 use Rattle.adf_runs.specs.Commands.{on_output}
 use Rattle.adf_runs.proofs.Endings.{front_ends}
 use Rattle.adf_survey_cmd.specs.Answers.{TellsFound}

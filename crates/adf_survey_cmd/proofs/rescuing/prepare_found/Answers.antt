@@ -2,7 +2,7 @@ use Rattle.std.proofs.Common.{◌≡◌, ◌∙◌, ℕ, List, ap, false, inl, i
 use Rattle.adf_tree.specs.Tree.{Tree}
 use Rattle.adf_volume.specs.Fits.{Fits}
 use Rattle.adf_volume.specs.Layout.{Layout}
-use Rattle.adf_findings.specs.Marked.{whole_in}
+use Rattle.adf_findings.specs.SoundMarks.{whole_in}
 use Rattle.adf_rescue.specs.Opened.{is_mended}
 use Rattle.adf_rescue.specs.Rescue.{Look, StandsNothing}
 use Rattle.adf_survey_cmd.specs.Prepared.{IsOpened}

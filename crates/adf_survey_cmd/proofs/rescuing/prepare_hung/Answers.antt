@@ -1,5 +1,5 @@
 use Rattle.std.proofs.Common.{ℕ, List, Some, map, refl, sym, subst}
-use Rattle.adf_findings.specs.Marked.{whole_in}
+use Rattle.adf_findings.specs.SoundMarks.{whole_in}
 use Rattle.adf_findings.specs.Parts.{finding_value}
 use Rattle.adf_findings.specs.Survey.{FindingValue, IsSurvey}
 use Rattle.adf_rescue.specs.Rescue.{IsLook, Look}

@@ -1,6 +1,6 @@
 use Rattle.std.proofs.Common.{◌≡◌, ◌∙◌, ℕ, Bool, List, None, Some, ap, false, inl, inr, is_some, map, subst, sym, true}
 use Rattle.std.proofs.lemmas.Bool.{cases_Bool}
-use Rattle.adf_findings.specs.Marked.{whole_in}
+use Rattle.adf_findings.specs.SoundMarks.{whole_in}
 use Rattle.adf_findings.specs.Parts.{finding_value}
 use Rattle.adf_findings.specs.Survey.{FindingValue, IsSurvey}
 use Rattle.adf_rescue.specs.Lost.{has_lost}

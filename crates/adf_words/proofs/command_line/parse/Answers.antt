@@ -7,8 +7,8 @@ use Rattle.adf_words.proofs.command_line.parse.Goals as goal
 pub returns-clause-refused : goal.returns-clause-refused
 returns-clause-refused c =
     let error = c.in-Err-try_get_matches_from.error in
-    let words = texts_of c.args.words.now in
-    let fails : App → Type 0 = λ a. HasKind (fault_of a words) error in
+    let args = texts_of c.args.args.now in
+    let fails : App → Type 0 = λ a. HasKind (fault_of a args) error in
     let kinds : fails adf_app =
     subst fails c.in-Ok.ensures (c.in-Err-try_get_matches_from.ensures.kinds (ap is_simple_and_free c.in-Ok.ensures ∙ adf_simple)) in
     elim kinds [

@@ -9,8 +9,8 @@ use Rattle.adf_words.proofs.survey_line.parse_survey.Goals as goal
 pub returns-clause-refused : goal.returns-clause-refused
 returns-clause-refused c =
     let error = c.in-Err.error in
-    let words = texts_of c.args.words.now in
-    let fails : App → Type 0 = λ a. HasKind (fault_of a words) error in
+    let args = texts_of c.args.args.now in
+    let fails : App → Type 0 = λ a. HasKind (fault_of a args) error in
     let kinds : fails survey_app =
     subst fails c.in-Ok.ensures (c.in-Err.ensures.kinds (ap is_simple_and_free c.in-Ok.ensures ∙ survey_free)) in
     elim kinds [
@@ -20,11 +20,11 @@ returns-clause-refused c =
 
 pub returns-in-Some-clause-ok : goal.returns-in-Some-clause-ok
 returns-in-Some-clause-ok c =
-    let words = texts_of c.args.words.now in
+    let args = texts_of c.args.args.now in
     let matches = c.in-Ok-try_get_matches_from.matches in
     let parsed = c.in-Ok-try_get_matches_from.ensures in
-    let fault : fault_of survey_app words ≡ [] =
-    subst (λ a. fault_of a words ≡ []) c.in-Ok.ensures (parsed.kinds (ap is_simple_and_free c.in-Ok.ensures ∙ survey_free)) in
-    let has : HasMatchesOf survey_app words matches = subst (λ a. HasMatchesOf a words matches) c.in-Ok.ensures parsed.matches in
+    let fault : fault_of survey_app args ≡ [] =
+    subst (λ a. fault_of a args ≡ []) c.in-Ok.ensures (parsed.kinds (ap is_simple_and_free c.in-Ok.ensures ∙ survey_free)) in
+    let has : HasMatchesOf survey_app args matches = subst (λ a. HasMatchesOf a args matches) c.in-Ok.ensures parsed.matches in
     let are = has survey_simple in
     (fault, ap₂ inquiry_met (sym are.0) (sym are.1) ∙ sym c.in-Some.ensures.met)

@@ -10,7 +10,7 @@ pub returns-clause-new : goal.returns-clause-new
 returns-clause-new c =
     let old = c.args.self.now in
     let bytes = uppers c.args.name.now in
-    let same : is_among (c.make_room.new.names.items ++ c.make_room.new.rest.keys) c.of-key.result ≡ has old bytes =
+    let same : is_among (c.make_room.new.names.items ++ c.make_room.new.overflow.keys) c.of-key.result ≡ has old bytes =
     rw (c.in_ok-make_room.ensures.same c.of-key.result, c.self.view_is, c.of-key.ensures.key) (sym (has_key old bytes c.of-key.ensures.short)) in
     rw (← same) c.place.ensures.new
 
@@ -22,8 +22,8 @@ ok_more (Err y) f p = p
 pub returns-clause-more : goal.returns-clause-more
 returns-clause-more c =
     let old = c.args.self.now in
-    let before = c.make_room.new.names.items ++ c.make_room.new.rest.keys in
-    let new = c.place.new.names.items ++ c.place.new.rest.keys in
+    let before = c.make_room.new.names.items ++ c.make_room.new.overflow.keys in
+    let new = c.place.new.names.items ++ c.place.new.overflow.keys in
     let bytes = uppers c.args.name.now in
     let with : IsWith before new c.of-key.result → IsWith old new (key_of_name bytes) =
     λ more k. rw (more k, c.in_ok-make_room.ensures.same k, c.self.view_is, c.of-key.ensures.key) in

@@ -1,0 +1,168 @@
+-- The judgement of a part by tests.
+use Rattle.std.specs.Prelude.{Bool, true, false, ◌&&◌, ◌||◌, cond, Option, Some, None}
+use Rattle.std.proofs.Common.{◌≡◌, ℕ, List, [], ◌∷◌, ◌++◌, inl, inr, ◌<◌, ◌≤◌, refl, sym, subst, ap, ◌∙◌, arith}
+use Rattle.std.proofs.lemmas.Bool.Decides.{nat_tests}
+use Rattle.adf_blocks.specs.declared.cause.Cause.{Cause}
+use Rattle.adf_blocks.specs.declared.cause.Cause.TheVariants.{OutOfRange, SameName, ShortFile, Taken}
+use Rattle.adf_blocks.specs.Forms.{Clause, first_cause}
+use Rattle.adf_blocks.specs.Sizes.{blocks}
+use Rattle.adf_fields.specs.Words.{block}
+use Rattle.adf_tree.specs.declared.entry.Kind.{Kind}
+use Rattle.adf_tree.specs.declared.entry.Kind.TheVariants.{Ofs, Ffs}
+use Rattle.adf_blocks.specs.declared.layout.TheConstants.{SIZE}
+use Rattle.adf_blocks.specs.ExtBlock.{ext_form}
+use Rattle.adf_volume.specs.Demands.{Demand, demand, demands_at, data_demands, AllHold, FirstFails}
+use Rattle.adf_volume.specs.Image.{held, kind_of, word_in}
+use Rattle.adf_volume.specs.Walk.{Role, Enough, IsAbsent, next_data, node_block}
+use Rattle.adf_volume.specs.Walk.Role.{Page, Head, Data}
+use Rattle.adf_findings.specs.Demands.{NewNameIn, demands_in, form_demands_in, head_form_in}
+use Rattle.adf_findings.specs.declared.part.Part.{Part}
+use Rattle.adf_findings.specs.declared.part.Part.TheVariants.{Root as RootPart, Page as PagePart, MapExt as MapExtPart, Head as HeadPart}
+use Rattle.adf_findings.specs.declared.part.Part.TheVariants.{Ext as ExtPart, Data as DataPart}
+use Rattle.adf_findings.specs.declared.forms.Context.{Context}
+use Rattle.adf_findings.specs.declared.judge.Facts.{Facts}
+use Rattle.adf_findings.specs.Survey.{IsItself, Judged, is_kept}
+use Rattle.adf_findings.specs.Forms.{IsContext, Knows, Tells, data_clauses, first_failing, first_of_five, form_of, in_range, itself_by, judged_by}
+use Rattle.adf_findings.specs.Forms.{keeps, of_form}
+use Rattle.adf_findings.specs.Parts.{role_of}
+
+-- what fails first of the demands, or nothing
+abbrev pub FirstIs : List Demand → Option (ℕ × Cause) → Type 0
+FirstIs xs None = AllHold xs
+FirstIs xs (Some x) = FirstFails xs x.0 x.1
+
+tells_range : (image : List ℕ) (b : ℕ) → Tells (in_range image b) ((2 ≤ b) × (b < blocks image))
+tells_range image b = go (in_range image b) refl
+  where
+    go : (t : Bool) → in_range image b ≡ t → Tells t ((2 ≤ b) × (b < blocks image))
+    go true e = (grind (arith, nat_tests), grind (arith, nat_tests))
+    go false e = λ h. let lo : 2 ≤ b = h.0 in let hi : b < blocks image = h.1 in let clash : true ≡ false = grind (arith, nat_tests) in cc
+
+-- the form and what stands behind it
+first_more : (b : ℕ) (form : List Clause) (ys : List Demand) (rest : Option (ℕ × Cause)) → FirstIs ys rest
+    → FirstIs (demands_at b form ++ ys) (of_form b (first_cause form) rest)
+first_more b [] ys rest h = h
+first_more b ((true, c) ∷ cs) ys rest h = go (of_form b (first_cause cs) rest) (first_more b cs ys rest h)
+  where
+    go : (o : Option (ℕ × Cause)) → FirstIs (demands_at b cs ++ ys) o → FirstIs (demands_at b ((true, c) ∷ cs) ++ ys) o
+    go None k = (refl, k)
+    go (Some x) k = inr (refl, k)
+first_more b ((false, c) ∷ cs) ys rest h = inl ((λ (e : false ≡ true). cc), refl, refl)
+
+pass_on : (x : Demand) (xs : List Demand) (o : Option (ℕ × Cause)) → x.holds → FirstIs xs o → FirstIs (x ∷ xs) o
+pass_on x xs None h k = (h, k)
+pass_on x xs (Some y) h k = inr (h, k)
+
+first_new : (b : ℕ) (n : Bool) (N : Type 0) → Tells n N → FirstIs (demand SameName b N ∷ []) (cond n None (Some (b, SameName)))
+first_new b true N h = (h, tt)
+first_new b false N h = inl (h, refl, refl)
+
+first_is : (a b : ℕ) (e r t n : Bool) (form : List Clause) (E R T N : Type 0) → Tells e E → Tells r R → (r ≡ true → Tells t T) → (r ≡ true → Tells n N)
+    → FirstIs (demand ShortFile a E ∷ demand OutOfRange a R ∷ demand Taken b T ∷ demands_at b form ++ demand SameName b N ∷ [])
+    (first_of_five a b e r t (first_cause form) n)
+first_is a b false r t n form E R T N he hr ht hn = inl (he, refl, refl)
+first_is a b true false t n form E R T N he hr ht hn = inr (he, inl (hr, refl, refl))
+first_is a b true true false n form E R T N he hr ht hn = inr (he, inr (hr, inl (ht refl, refl, refl)))
+first_is a b true true true n form E R T N he hr ht hn =
+    let o : Option (ℕ × Cause) = of_form b (first_cause form) (cond n None (Some (b, SameName))) in
+    let xs : List Demand = demands_at b form ++ demand SameName b N ∷ [] in
+    pass_on (demand ShortFile a E) (demand OutOfRange a R ∷ demand Taken b T ∷ xs) o he
+    (pass_on (demand OutOfRange a R) (demand Taken b T ∷ xs) o hr
+    (pass_on (demand Taken b T) xs o (ht refl) (first_more b form (demand SameName b N ∷ []) (cond n None (Some (b, SameName))) (first_new b n N (hn refl)))))
+
+itself_clause : (k c : Bool) → Tells (k || c) (k ≡ false → c ≡ true)
+itself_clause true c = λ (e : true ≡ false). cc
+itself_clause false true = λ e. refl
+itself_clause false false = λ f. let x : false ≡ true = f refl in cc
+
+both : (s t : Bool) (P Q : Type 0) → Tells s P → Tells t Q → Tells (s && t) (P × Q)
+both true true P Q p q = (p, q)
+both true false P Q p q = λ h. q h.1
+both false t P Q p q = λ h. p h.0
+
+-- the form and what stands behind it, of slight causes
+itself_more : (r : Role) (b : ℕ) (form : List Clause) (ys : List Demand) → IsItself r ys → Tells (itself_by r form) (IsItself r (demands_at b form ++ ys))
+itself_more r b [] ys h = h
+itself_more r b (c ∷ cs) ys h =
+    both (is_kept r c.1 || c.0) (itself_by r cs) (is_kept r c.1 ≡ false → c.0 ≡ true) (IsItself r (demands_at b cs ++ ys)) (itself_clause (is_kept r c.1) c.0)
+    (itself_more r b cs ys h)
+
+-- but for pages, of which it is not asked, short files and equal names are slight
+short_slight : (image : List ℕ) (w : List (Role × ℕ)) (r : Role) → is_kept r ShortFile ≡ false → Enough image w r
+short_slight image w (Data n k) e = cc
+short_slight image w _ e = tt
+
+same_slight : (image : List ℕ) (w : List (Role × ℕ)) (r : Role) (b : ℕ) → is_kept r SameName ≡ false → NewNameIn image w r b
+same_slight image w (Head n p s j) b e = cc
+same_slight image w _ b e = tt
+
+-- neither range nor an owner is slight
+pub keeps_range : (r : Role) → is_kept r OutOfRange ≡ false
+keeps_range (Page i) = refl
+keeps_range _ = refl
+
+pub keeps_taken : (r : Role) → is_kept r Taken ≡ false
+keeps_taken (Page i) = refl
+keeps_taken _ = refl
+
+-- the block of a part that is itself is in the image, and no one else's
+pub record ItselfHolds (image : List ℕ) (w : List (Role × ℕ)) (b : ℕ) : Type 0 where
+  pub inside : b < blocks image
+  pub unowned : IsAbsent w b
+
+pub itself_holds : (image : List ℕ) (w : List (Role × ℕ)) (r : Role) (a b : ℕ) → IsItself r (demands_in image w r a b) → ItselfHolds image w b
+itself_holds image w r a b h = record { inside = (h.1.0 (keeps_range r)).1; unowned = h.1.1.0 (keeps_taken r) }
+
+itself_is : (role : Role) (a b : ℕ) (r t : Bool) (form : List Clause) (E R T N : Type 0) → (is_kept role ShortFile ≡ false → E) → Tells r R
+    → (r ≡ true → Tells t T) → (is_kept role SameName ≡ false → N)
+    → Tells (r && (t && itself_by role form))
+    (IsItself role (demand ShortFile a E ∷ demand OutOfRange a R ∷ demand Taken b T ∷ demands_at b form ++ demand SameName b N ∷ []))
+itself_is role a b false t form E R T N he hr ht hn = λ h. hr (h.1.0 (keeps_range role))
+itself_is role a b true false form E R T N he hr ht hn = λ h. ht refl (h.1.1.0 (keeps_taken role))
+itself_is role a b true true form E R T N he hr ht hn = go (itself_by role form) (itself_more role b form (demand SameName b N ∷ []) (hn, tt))
+  where
+    xs : List Demand
+    xs = demands_at b form ++ demand SameName b N ∷ []
+
+    go : (k : Bool) → Tells k (IsItself role (demands_at b form ++ demand SameName b N ∷ []))
+        → Tells k (IsItself role (demand ShortFile a E ∷ demand OutOfRange a R ∷ demand Taken b T ∷ demands_at b form ++ demand SameName b N ∷ []))
+    go true h = (he, ((λ e. hr), ((λ e. ht refl), h)))
+    go false h = λ k. h k.1.1.1
+
+judged_is : (r : Role) (xs : List Demand) (o : Option (ℕ × Cause)) (k : Bool) → FirstIs xs o → Tells k (IsItself r xs) → Judged r xs (judged_by o k)
+judged_is r xs None k h i = h
+judged_is r xs (Some x) true h i = (h, i)
+judged_is r xs (Some x) false h i = (h, i)
+
+data_is : (image : List ℕ) (kind : Kind) (b h k n next : ℕ)
+    → data_demands image kind b h k n next ≡ demands_at b (data_clauses kind h k n next (block image b))
+data_is image Ofs b h k n next = refl
+data_is image Ffs b h k n next = refl
+
+form_is : (image : List ℕ) (w : List (Role × ℕ)) (part : Part) (b : ℕ) (x : Context) → IsContext image w (role_of part) x
+    → form_demands_in image w (role_of part) b ≡ demands_at b (form_of image part b x)
+form_is image w RootPart b x h = refl
+form_is image w (PagePart i) b x h = refl
+form_is image w (MapExtPart j) b x h = refl
+form_is image w (HeadPart n p s j) b x h = ap (λ up. demands_at b (head_form_in image (kind_of image) b up s (block image b))) (sym h)
+form_is image w (ExtPart n k) b x h = ap (λ up. demands_at b (ext_form b up (block image b))) (sym h)
+form_is image w (DataPart n k) b x h =
+    data_is image (kind_of image) b (node_block w n) k (held (kind_of image) (word_in image (node_block w n) SIZE) k) (next_data image w n k)
+    ∙ (λ t. demands_at b (data_clauses (kind_of image) (sym h.0 t) k (held (kind_of image) (word_in image (sym h.0 t) SIZE) k) (sym h.1 t) (block image b)))
+
+-- a part is judged as the tests tell
+pub judged : (image : List ℕ) (w : List (Role × ℕ)) (part : Part) (a b : ℕ) (f : Facts) → Knows image w part b f
+    → Judged (role_of part) (demands_in image w (role_of part) a b) (judged_by (first_failing image part a b f) (keeps image part b f))
+judged image w part a b f k =
+    let r : Role = role_of part in
+    let form : List Clause = form_of image part b f.context in
+    let before : List Demand → List Demand =
+    λ ds. demand ShortFile a (Enough image w r) ∷ demand OutOfRange a ((2 ≤ b) × (b < blocks image)) ∷ demand Taken b (IsAbsent w b)
+    ∷ ds ++ demand SameName b (NewNameIn image w r b) ∷ [] in
+    let P : List Demand → Type 0 = λ ds. Judged r (before ds) (judged_by (first_failing image part a b f) (keeps image part b f)) in
+    subst P (sym (form_is image w part b f.context k.context))
+    (judged_is r (before (demands_at b form)) (first_failing image part a b f) (keeps image part b f)
+    (first_is a b f.is_enough (in_range image b) f.is_absent f.is_new form (Enough image w r) ((2 ≤ b) × (b < blocks image)) (IsAbsent w b)
+    (NewNameIn image w r b) k.enough (tells_range image b) k.absent k.new)
+    (itself_is r a b (in_range image b) f.is_absent form (Enough image w r) ((2 ≤ b) × (b < blocks image)) (IsAbsent w b) (NewNameIn image w r b)
+    (short_slight image w r) (tells_range image b) k.absent (same_slight image w r b)))

@@ -1,0 +1,74 @@
+use Rattle.std.specs.Prelude.{slice_index}
+use Rattle.std.proofs.Common.{ℕ, List, refl, sym, ap, subst, ◌∙◌}
+use Rattle.adf_volume.specs.Walk.{node_block}
+use Rattle.adf_findings.specs.Files.{FileValue}
+use Rattle.adf_findings.specs.Start.{unread_findings}
+use Rattle.adf_findings.specs.Survey.{UnreadTells}
+use Rattle.adf_findings.specs.SurveyResult.{IsOfSurvey}
+use Rattle.adf_findings.proofs.Openings.{entry_begun}
+use Rattle.adf_findings.proofs.SoundFiles.{file_is, has_its_blocks, type_is}
+use Rattle.adf_findings.proofs.survey_result.Survey.file_by.Goals as goal
+
+abbrev blocks_of : FileValue → List ℕ
+blocks_of f = f.blocks
+
+pub returns-in_default-clause-some : goal.returns-in_default-clause-some
+returns-in_default-clause-some c = λ w fs h. (
+  (λ e. cc),
+  (λ y.
+      let gs = unread_findings c.in_default.field-0 in
+      let none = subst (λ i. UnreadTells i gs) (ap (λ v. v.image) c.self.view_is) c.in_default.ensures.unread in
+      absurd (entry_begun c.args.self.now.image w fs gs c.args.n (node_block w c.args.n) h y.0.header none)),
+)
+
+pub returns-then-word-clause-some : goal.returns-then-word-clause-some
+returns-then-word-clause-some c = λ w fs h. (
+  (λ e. cc),
+  (λ y.
+      let kept = subst IsOfSurvey c.self.view_is c.self.invariant in
+      let image = c.in-Ok.ensures.image ∙ ap (λ v. v.image) c.self.view_is in
+      let head = c.number_at-head.ensures ∙ (λ i. slice_index (c.self.view_is i).nodes (c.n.view_is i)) in
+      absurd (c.if-word.true (type_is c.args.self.now kept w fs h c.args.n image head c.word.ensures ∙ y.1))),
+)
+
+pub at-requires : goal.at-requires
+at-requires c =
+    let kept = subst IsOfSurvey c.self.view_is c.self.invariant in
+    let image = c.in-Ok.ensures.image ∙ ap (λ v. v.image) c.self.view_is in
+    let head = c.number_at-head.ensures ∙ (λ i. slice_index (c.self.view_is i).nodes (c.n.view_is i)) in
+    let sound = (c.is_clear.ensures kept.0 kept.1 kept.2.survey).0 c.if-not-is_clear.false in
+    has_its_blocks c.args.self.now kept kept.0 kept.1 kept.2.survey c.args.n image head c.word.ensures c.args.grave sound c.if-word.false
+
+pub returns-in_err-at-clause-none : goal.returns-in_err-at-clause-none
+returns-in_err-at-clause-none c = λ w fs h no.
+    let kept = subst IsOfSurvey c.self.view_is c.self.invariant in
+    let image = c.in-Ok.ensures.image ∙ ap (λ v. v.image) c.self.view_is in
+    let head = c.number_at-head.ensures ∙ (λ i. slice_index (c.self.view_is i).nodes (c.n.view_is i)) in
+    let sound = (c.is_clear.ensures w fs h).0 c.if-not-is_clear.false in
+    absurd (no (sound, sym (type_is c.args.self.now kept w fs h c.args.n image head c.word.ensures) ∙ c.if-word.false))
+
+pub returns-clause-some : goal.returns-clause-some
+returns-clause-some c = λ w fs h.
+    let kept = subst IsOfSurvey c.self.view_is c.self.invariant in
+    let image = c.in-Ok.ensures.image ∙ ap (λ v. v.image) c.self.view_is in
+    let head = c.number_at-head.ensures ∙ (λ i. slice_index (c.self.view_is i).nodes (c.n.view_is i)) in
+    let sound = (c.is_clear.ensures w fs h).0 c.if-not-is_clear.false in
+    let type = type_is c.args.self.now kept w fs h c.args.n image head c.word.ensures in
+    ((λ e. (sound, sym type ∙ c.if-word.false)), (λ y. refl))
+
+pub returns-clause-file : goal.returns-clause-file
+returns-clause-file c = λ w fs h.
+    let kept = subst IsOfSurvey c.self.view_is c.self.invariant in
+    let image = c.in-Ok.ensures.image ∙ ap (λ v. v.image) c.self.view_is in
+    let head = c.number_at-head.ensures ∙ (λ i. slice_index (c.self.view_is i).nodes (c.n.view_is i)) in
+    let sound = (c.is_clear.ensures w fs h).0 c.if-not-is_clear.false in
+    c.in_ok-at.ensures.file ∙ file_is c.args.self.now kept w fs h c.args.n image head c.word.ensures c.args.grave sound c.if-word.false
+
+pub returns-in_err-at-clause-empty : goal.returns-in_err-at-clause-empty
+returns-in_err-at-clause-empty c = λ w fs h none.
+    let kept = subst IsOfSurvey c.self.view_is c.self.invariant in
+    let image = c.in-Ok.ensures.image ∙ ap (λ v. v.image) c.self.view_is in
+    let head = c.number_at-head.ensures ∙ (λ i. slice_index (c.self.view_is i).nodes (c.n.view_is i)) in
+    let sound = (c.is_clear.ensures w fs h).0 c.if-not-is_clear.false in
+    let same = file_is c.args.self.now kept w fs h c.args.n image head c.word.ensures c.args.grave sound c.if-word.false in
+    let no = c.in_err-at.ensures.empty (ap blocks_of same ∙ none) in absurd (cc)

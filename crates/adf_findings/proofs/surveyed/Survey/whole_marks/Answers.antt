@@ -1,7 +1,0 @@
-use Rattle.std.proofs.Common.{subst}
-use Rattle.adf_findings.specs.Surveyed.{IsOfSurvey}
-use Rattle.adf_findings.proofs.Openings.{whole_marks}
-use Rattle.adf_findings.proofs.surveyed.Survey.whole_marks.Goals as goal
-
-pub returns : goal.returns
-returns c = λ w fs h. whole_marks c.args.self.now (subst IsOfSurvey c.self.view_is c.self.invariant) w fs h

@@ -1,0 +1,67 @@
+-- The results of a survey.
+-- Letters: v a result; w, fs the walk and the findings of the survey; k the index of a finding; n a node; b a block; i the number of a page.
+use Rattle.std.specs.Prelude.{◌≡◌, ◌≤◌, ◌-◌, ◌/◌, ◌==◌, ◌↔◌, ℕ, Bool, true, cond, List, Option, Some, None, length, map, slice_get, slice_index, slice_index_or}
+use Rattle.std.specs.BTreeMap.{is_at}
+use Rattle.std.specs.Map.{lookup}
+use Rattle.std.specs.Option.{option_flatten}
+use Rattle.adf_blocks.specs.declared.layout.TheConstants.{PAGE_BITS}
+use Rattle.adf_volume.specs.Walk.{Role, Has, heads, node_block}
+use Rattle.adf_volume.specs.Walk.Role.{Page}
+use Rattle.adf_findings.specs.declared.concern.Concern.{Concern}
+use Rattle.adf_findings.specs.declared.part.Finding.{Finding}
+use Rattle.adf_findings.specs.declared.part.Key.{Key}
+use Rattle.adf_findings.specs.Concerned.{concern_of_nth, is_taken}
+use Rattle.adf_findings.specs.Files.{grave}
+use Rattle.adf_findings.specs.Found.{at_key, number_at, owner, parent_node}
+use Rattle.adf_findings.specs.Marks.{has_mark}
+use Rattle.adf_findings.specs.Parts.{by_key, finding_value, key_of}
+use Rattle.adf_findings.specs.Sound.{IsSound}
+use Rattle.adf_findings.specs.Survey.{FindingValue, IsSurvey, IsValidated}
+
+-- the result: the findings and what they concern; of each block its entry and the number of the data block that it is; the
+-- blocks of pages, by key; for each node its block, its parent, whether it is sound, and whether it is but for harmless findings of headers
+pub record SurveyValue : Type 0 where
+  pub image : List ℕ
+  pub findings : List Finding
+  pub concerned : List (Option Concern)
+  pub owners : List ℕ
+  pub numbers : List ℕ
+  pub taken : List (Key × ℕ)
+  pub nodes : List ℕ
+  pub parents : List ℕ
+  pub sound : List Bool
+  pub whole : List Bool
+
+-- the block of the part with a key by those kept
+abbrev pub block_at : List (Key × ℕ) → Key → Option ℕ
+block_at taken k = lookup (is_at (by_key k)) taken
+
+-- the entry of a block by the numbers kept of blocks; none for 0
+abbrev pub owner_at : List ℕ → ℕ → Option ℕ
+owner_at owners b = cond (slice_index_or owners b 0 == 0) None (Some (slice_index_or owners b 0))
+
+-- the entry of the block of a finding that it is taken
+abbrev pub owner_for : List ℕ → Finding → Option ℕ
+owner_for owners f = cond (is_taken f.cause) (owner_at owners f.block) None
+
+-- the result is that of this walk and these findings
+pub record TellsOf (v : SurveyValue) (w : List (Role × ℕ)) (fs : List FindingValue) : Type 0 where
+  pub survey : IsSurvey v.image w fs
+  pub findings : map finding_value v.findings ≡ fs
+  pub concerned : (k : ℕ) → option_flatten (slice_get v.concerned k) ≡ concern_of_nth w fs k
+  pub owner : (b : ℕ) → owner_at v.owners b ≡ owner w b
+  pub number : (b : ℕ) → slice_index_or v.numbers b 0 ≡ number_at w b
+  pub page : (i : ℕ) → block_at v.taken (key_of (Page i)) ≡ at_key w (key_of (Page i))
+  pub node : (n : ℕ) → slice_index v.nodes n ≡ node_block w n
+  pub parent : (n : ℕ) → slice_index v.parents n ≡ parent_node w n
+  pub count : length v.nodes - 1 ≡ heads w
+  pub sound : (n : ℕ) → 1 ≤ n → (has_mark v.sound n ≡ true) ↔ IsSound v.image w fs n (node_block w n)
+  pub whole : (n : ℕ) → 1 ≤ n → (has_mark v.whole n ≡ true) ↔ IsSound v.image w (grave fs) n (node_block w n)
+
+-- the result is that of a survey
+abbrev pub IsOfSurvey : SurveyValue → Type 0
+IsOfSurvey v = (w : List (Role × ℕ)) × (fs : List FindingValue) × TellsOf v w fs
+
+-- the bitmap tells of block b whether it is free: its flag is that of a valid bitmap, and the walk has the page of b
+abbrev pub IsBitStated : List ℕ → List (Role × ℕ) → ℕ → Type 0
+IsBitStated image w b = (2 ≤ b) × IsValidated image × ((page : ℕ) × Has w (Page ((b - 2) / PAGE_BITS)) page)

@@ -1,0 +1,134 @@
+// The survey of an image.
+
+ghost use Rattle.std.specs.Prelude.{◌≡◌, ◌++◌, ℕ, List, IfOk, OnOk, map};
+ghost use Rattle.adf_volume.specs.Walk.{Role};
+ghost use Rattle.adf_findings.specs.Found.{Stands};
+ghost use Rattle.adf_findings.specs.Parts.{finding_value};
+ghost use Rattle.adf_findings.specs.Start.{boot_findings, root_findings, unread_findings};
+ghost use Rattle.adf_findings.specs.Survey.{BootTells, FindingValue, IsSurvey, RootTells, UnreadTells, begun};
+
+use crate::bits::compare;
+use crate::course::run;
+use crate::found::Found;
+use crate::marks::{clear_marks, concerned, grave};
+use crate::part::{Finding, Part};
+use crate::start::{Started, Unread, start};
+use crate::survey_result::Survey;
+use adf_blocks::Cause;
+use adf_fields::NoMemory;
+use adf_volume::Unopened;
+use std::alloc::Global;
+use std::collections::BTreeMap;
+use std::mem::replace;
+
+// Notes the cause of the boot block, if it has one.
+fn report_boot(findings: &mut Vec<Finding>, boot: Option<Cause>) -> Result<(), NoMemory>
+    ensures { OnOk result (map finding_value findings.new.items
+        ≡ map finding_value findings.old.items ++ boot_findings boot) }
+{
+    let Some(cause) = boot else {
+        return Ok(());
+    };
+    let finding = Finding {
+        part: None,
+        block: 0,
+        cause,
+    };
+    match findings.push(finding) {
+        Ok(()) => Ok(()),
+        Err(_) => Err(NoMemory),
+    }
+}
+
+// The survey of an image of which nothing is taken.
+fn only<'i>(alloc: Global, image: &'i [u8], unread: Unread) -> Result<Survey<'i>, NoMemory>
+    requires { UnreadTells image.now (unread_findings unread) }
+    ensures image { IfOk result (λ v. v.image ≡ image.now) }
+    ensures findings { IfOk result (λ v. (w : List (Role × ℕ))
+        × IsSurvey image.now w (map finding_value v.findings)) }
+{
+    let mut findings = Vec::new(alloc);
+    report_boot(&mut findings, unread.boot)?;
+    let finding = Finding {
+        part: None,
+        block: unread.last.block,
+        cause: unread.last.cause,
+    };
+    match findings.push(finding) {
+        Ok(()) => Ok(Survey {
+            image,
+            findings,
+            concerned: Vec::new(alloc),
+            owners: Vec::new(alloc),
+            numbers: Vec::new(alloc),
+            taken: BTreeMap::new(alloc),
+            nodes: Vec::new(alloc),
+            parents: Vec::new(alloc),
+            sound: Vec::new(alloc),
+            whole: Vec::new(alloc),
+        }),
+        Err(_) => Err(NoMemory),
+    }
+}
+
+// Notes the cause of the root, if it has one.
+fn report_root(found: &mut Found, cause: Option<Unopened>) -> Result<(), NoMemory>
+    ensures { OnOk result ((image : List ℕ) (fs : List FindingValue)
+        → Stands image found.old (begun image fs)
+        → Stands image found.new (begun image (fs ++ root_findings cause))) }
+{
+    match cause {
+        Some(Unopened { block, cause }) => found.report(Finding {
+            part: Some(Part::Root),
+            block,
+            cause,
+        }),
+        None => Ok(()),
+    }
+}
+
+// The survey of an image whose root is taken.
+fn go_through<'i>(alloc: Global, started: &Started<'i>) -> Result<Survey<'i>, NoMemory>
+    requires boot { BootTells started.now.image (boot_findings started.now.boot) }
+    requires root { RootTells started.now.image (root_findings started.now.root) }
+    ensures image { IfOk result (λ v. v.image ≡ started.now.image) }
+    ensures findings { IfOk result (λ v. (w : List (Role × ℕ))
+        × IsSurvey started.now.image w (map finding_value v.findings)) }
+{
+    let image = &started.image;
+    let mut found = Found::begin(alloc, image)?;
+    report_boot(&mut found.findings, started.boot)?;
+    report_root(&mut found, started.root)?;
+    run(image, &mut found)?;
+    compare(image, &mut found)?;
+    let concerned = concerned(alloc, &found)?;
+    let sound = clear_marks(alloc, image, &found)?;
+    let graves = grave(alloc, &found.findings)?;
+    let findings = replace(&mut found.findings, graves);
+    let whole = clear_marks(alloc, image, &found)?;
+    Ok(Survey {
+        image: image.bytes(),
+        findings,
+        concerned,
+        owners: found.owners,
+        numbers: found.numbers,
+        taken: found.taken,
+        nodes: found.nodes,
+        parents: found.parents,
+        sound,
+        whole,
+    })
+}
+
+/// Surveys an image: every part that has a cause, every bit that disagrees, and the entries that are found. `NoMemory`
+/// if an allocation fails.
+pub fn survey<'i>(alloc: Global, image: &'i [u8]) -> Result<Survey<'i>, NoMemory>
+    ensures image { IfOk result (λ v. v.image ≡ image.now) }
+    ensures findings { IfOk result (λ v. (w : List (Role × ℕ))
+        × IsSurvey image.now w (map finding_value v.findings)) }
+{
+    match start(image) {
+        Ok(started) => go_through(alloc, &started),
+        Err(unread) => only(alloc, image, unread),
+    }
+}

@@ -1,0 +1,145 @@
+// The lines of many names.
+
+ghost use Rattle.std.specs.Prelude.{◌≡◌, ℕ, List, Option, false, IfOk, OnErr};
+ghost use Rattle.std.specs.Io.KnownBytes.{Appends};
+ghost use Rattle.adf_runs.specs.Streams.{Says};
+ghost use Rattle.adf_shelf_cmd.specs.declared.files.Unopened.{Unopened};
+ghost use Rattle.adf_shelf_cmd.specs.Files.{why_line};
+ghost use Rattle.adf_shelf_cmd.specs.Lines.{BreaksLine, IsReportOf, IsRunStatus, SaysMore, WritesAll, WritesPart, is_names_stop, is_write_stop, batch_line, stop_line};
+
+use crate::files::Files;
+use crate::names::Names;
+use crate::report::{check_file, push_line, push_why};
+use adf_runs::{Sink, StreamFault, say, write_all};
+use std::alloc::Global;
+
+/// Why the work stopped before the last name.
+#[derive(Clone, Copy, Debug, PartialEq, Eq)]
+pub enum Stop {
+    /// The names failed.
+    ReadFault,
+    /// Output failed.
+    WriteFault,
+    /// Memory was refused to a name or its line.
+    NoMemory,
+}
+
+impl Stop {
+    /// What is said on errors, with its line feed.
+    pub fn line(self) -> &'static str
+        ensures { result.now ≡ stop_line self }
+    {
+        match self {
+            Stop::ReadFault => "read fault\n",
+            Stop::WriteFault => "write fault\n",
+            Stop::NoMemory => "no memory\n",
+        }
+    }
+}
+
+/// Buffers that are used again for each name.
+#[derive(Drop)]
+struct Buffers {
+    image: Vec<u8>,
+    line: Vec<u8>,
+    // what is said on errors of a file
+    why: Vec<u8>,
+}
+
+/// Says more on errors, unless they have failed.
+pub fn say_more<E: Sink>(errors: &mut E, text: &[u8])
+    ensures { SaysMore (E.has_failed errors.old) (E.held errors.old)
+        (E.has_failed errors.new) (E.held errors.new) text.now }
+{
+    if !errors.failed() {
+        say(errors, text);
+    }
+}
+
+// Writes the line of a name, then says on errors why its file could not be opened, and answers its status.
+fn write_line<F: Files, W: Sink, E: Sink>(
+    alloc: Global,
+    files: &F,
+    name: &[u8],
+    buffers: &mut Buffers,
+    output: &mut W,
+    errors: &mut E,
+) -> Result<u8, Stop>
+    requires { W.has_failed output.old ≡ false }
+    ensures ok { IfOk result (λ s. (text : List ℕ) × (why : Option Unopened)
+        × IsReportOf (F.bytes_of files.now) (F.may_fail files.now) (F.may_open files.now)
+        name.now s text why
+        × Appends (W.held output.old) (W.held output.new) (batch_line name.now text)
+        × SaysMore (E.has_failed errors.old) (E.held errors.old)
+        (E.has_failed errors.new) (E.held errors.new) (why_line name.now why)) }
+    ensures err { OnErr result
+        (BreaksLine (IsReportOf (F.bytes_of files.now) (F.may_fail files.now) (F.may_open files.now))
+        name.now (W.has_failed output.new) (W.held output.old) (W.held output.new)) }
+    ensures unsaid { OnErr result (errors.new ≡ errors.old) }
+    ensures status { IfOk result IsRunStatus }
+    ensures read { is_names_stop result ≡ false }
+    ensures failed { W.has_failed output.new ≡ is_write_stop result }
+{
+    let report = check_file(alloc, files, name, &mut buffers.image);
+    buffers.line.clear();
+    if push_line(&mut buffers.line, name, &report).is_err() {
+        return Err(Stop::NoMemory);
+    }
+    buffers.why.clear();
+    if push_why(&mut buffers.why, name, report.why()).is_err() {
+        return Err(Stop::NoMemory);
+    }
+    match write_all(output, &buffers.line) {
+        Ok(()) => {
+            say_more(errors, &buffers.why);
+            Ok(report.status())
+        }
+        Err(_) => Err(Stop::WriteFault),
+    }
+}
+
+/// Writes the line of each name in order, and answers the greatest status of one. A line is in output
+/// before the next name is asked for, and before errors tell why its file could not be opened. A file
+/// that could not be read stops no other; `Stop` where the names or output failed, or memory was
+/// refused to a name or its lines; then the lines before are written, and of one more a front part
+/// where output failed, but not all. Where errors fail, nothing more is said on them.
+pub fn write_verdicts<N: Names, F: Files, W: Sink, E: Sink>(
+    alloc: Global,
+    names: &mut N,
+    files: &F,
+    output: &mut W,
+    errors: &mut E,
+) -> Result<u8, Stop>
+    requires writes { W.has_failed output.old ≡ false }
+    requires tells { E.has_failed errors.old ≡ false }
+    ensures all { IfOk result (λ s. (said : List ℕ)
+        × WritesAll (IsReportOf (F.bytes_of files.now) (F.may_fail files.now) (F.may_open files.now))
+        (N.left names.old) s (W.held output.old) (W.held output.new) said
+        × Says (E.has_failed errors.new) (E.held errors.old) (E.held errors.new) said) }
+    ensures part { OnErr result ((said : List ℕ)
+        × WritesPart (IsReportOf (F.bytes_of files.now) (F.may_fail files.now) (F.may_open files.now))
+        (N.left names.old) (W.has_failed output.new) (W.held output.old) (W.held output.new) said
+        × Says (E.has_failed errors.new) (E.held errors.old) (E.held errors.new) said) }
+    ensures status { IfOk result IsRunStatus }
+    ensures unread { N.has_failed names.new ≡ is_names_stop result }
+    ensures failed { W.has_failed output.new ≡ is_write_stop result }
+{
+    let mut buffers = Buffers {
+        image: Vec::new(alloc),
+        line: Vec::new(alloc),
+        why: Vec::new(alloc),
+    };
+    let mut name = Vec::new(alloc);
+    let mut status = 0u8;
+    loop {
+        match names.next(&mut name) {
+            Ok(true) => match write_line(alloc, files, &name, &mut buffers, output, errors) {
+                Ok(one) => status = status.max(one),
+                Err(stop) => return Err(stop),
+            },
+            Ok(false) => return Ok(status),
+            Err(StreamFault::Device) => return Err(Stop::ReadFault),
+            Err(StreamFault::NoMemory) => return Err(Stop::NoMemory),
+        }
+    }
+}
