@@ -3,8 +3,8 @@ use Rattle.std.proofs.Common.{◌≡◌, ◌≤◌, ℕ, ◌+◌, ◌*◌, List,
 use Rattle.std.specs.Prelude.{None, slice_range}
 use Rattle.std.specs.Cmp.Derive.{both_true}
 use Rattle.std.proofs.lemmas.Bool.{eq-eqb}
-use Rattle.adf_fields.specs.Words.{block, word, with_block, long_sum}
-use Rattle.adf_fields.proofs.WordLaws.{block_written}
+use Rattle.adf_base.specs.Words.{block, word, with_block, long_sum}
+use Rattle.adf_base.proofs.WordLaws.{block_written}
 use Rattle.adf_blocks.specs.declared.layout.TheConstants.{DATA_BYTES, DATA_HEAD, DATA_HELD, DATA_NEXT, DATA_NUMBER, TYPE, T_DATA}
 use Rattle.adf_blocks.specs.Forms.{first_cause}
 use Rattle.adf_blocks.specs.Fields.{Descends}

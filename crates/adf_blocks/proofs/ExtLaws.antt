@@ -4,8 +4,8 @@ use Rattle.std.specs.Prelude.{None, reverse, slice_index}
 use Rattle.std.specs.Cmp.Derive.{both_true}
 use Rattle.std.proofs.lemmas.Bool.{eq-eqb}
 use Rattle.std.proofs.lemmas.List.{length-reverse}
-use Rattle.adf_fields.specs.Words.{block, word, with_block, long_sum}
-use Rattle.adf_fields.proofs.WordLaws.{length_longs, block_written}
+use Rattle.adf_base.specs.Words.{block, word, with_block, long_sum}
+use Rattle.adf_base.proofs.WordLaws.{length_longs, block_written}
 use Rattle.adf_blocks.specs.Forms.{first_cause}
 use Rattle.adf_blocks.specs.declared.layout.TheConstants.{EXTENSION, FIRST_POINTER, OWN_KEY, PARENT, POINTERS, POINTER_COUNT}
 use Rattle.adf_blocks.specs.declared.layout.TheConstants.{SECONDARY_TYPE, ST_FILE, TYPE, T_LIST}

@@ -8,14 +8,14 @@ use Rattle.std.proofs.Math.Seq.{drop-append-add}
 use Rattle.std.specs.Prelude.{slice_range, slice_index, replicate, reverse}
 use Rattle.byteorder.specs.Endian.{big_number}
 use Rattle.byteorder.specs.Numbers.{big_number-reads_back}
-use Rattle.adf_fields.specs.Words.{word, long_sum, sealed, checksum}
-use Rattle.adf_fields.specs.declared.dates.Stamp.{Stamp}
-use Rattle.adf_fields.proofs.WordLaws.{length-with_bytes, range-with_bytes_same, range-with_bytes_below, range-with_bytes_above, word-with_word_other}
-use Rattle.adf_fields.proofs.WordLaws.{length_longs, long_sum-sealed, length-big_bytes}
+use Rattle.adf_base.specs.Words.{word, long_sum, sealed, checksum}
+use Rattle.adf_base.specs.declared.dates.Stamp.{Stamp}
+use Rattle.adf_base.proofs.WordLaws.{length-with_bytes, range-with_bytes_same, range-with_bytes_below, range-with_bytes_above, word-with_word_other}
+use Rattle.adf_base.proofs.WordLaws.{length_longs, long_sum-sealed, length-big_bytes}
 use Rattle.adf_blocks.specs.declared.layout.TheConstants.{CHECKSUM}
 use Rattle.adf_blocks.specs.Forms.{stamp_at, text_at}
 use Rattle.adf_blocks.specs.Fields.{Field, block_of_fields, Descends, downwards, long, longs, stamp, text}
-use Rattle.adf_fields.specs.Dates.{IsStamp}
+use Rattle.adf_base.specs.Dates.{IsStamp}
 
 -- a block that is laid is whole
 pub length-block_of_fields : (top : ℕ) (fs : List Field) → top ≤ 512 → Descends top fs → length (block_of_fields fs) ≡ 512

@@ -7,9 +7,9 @@ use Rattle.std.proofs.lemmas.Bool.Decides.{nat_tests}
 use Rattle.std.proofs.lemmas.List.{length-reverse}
 use Rattle.std.proofs.Math.Bool.{or-true}
 use Rattle.byteorder.specs.Endian.{big_number}
-use Rattle.adf_fields.specs.Hash.{slot_of}
-use Rattle.adf_fields.specs.Words.{block, word, with_block, long_sum}
-use Rattle.adf_fields.proofs.WordLaws.{length_longs, block_written}
+use Rattle.adf_base.specs.Hash.{slot_of}
+use Rattle.adf_base.specs.Words.{block, word, with_block, long_sum}
+use Rattle.adf_base.proofs.WordLaws.{length_longs, block_written}
 use Rattle.adf_tree.specs.Meta.{IsBoundedMeta}
 use Rattle.adf_tree.specs.Texts.{is_name}
 use Rattle.adf_tree.specs.declared.entry.Kind.{Kind}
@@ -18,7 +18,7 @@ use Rattle.adf_blocks.specs.Forms.{first_cause, stamp_at, text_at}
 use Rattle.adf_blocks.specs.declared.layout.TheConstants.{CHECKSUM, COMMENT, DATE, EXTENSION, FIRST_DATA, FIRST_POINTER, FIRST_SLOT, NAME, NEXT_IN_CHAIN}
 use Rattle.adf_blocks.specs.declared.layout.TheConstants.{OWN_KEY, PARENT, POINTERS, PROTECTION, SECONDARY_TYPE, SIZE, SLOTS, ST_DIR, TYPE, T_SHORT}
 use Rattle.adf_blocks.specs.Fields.{Descends, long}
-use Rattle.adf_fields.specs.Dates.{IsStamp}
+use Rattle.adf_base.specs.Dates.{IsStamp}
 use Rattle.adf_blocks.specs.HeadBlock.{BodyFields, FitsBody, FitsBodyWords, FitsHead, HeadFields, head_block, head_form, head_table}
 use Rattle.adf_blocks.specs.HeadBlock.{body_at, body_stated, ext_of, first_of, has_first, has_type, is_link, is_name_at, meta_at, secondary_of, size_of}
 use Rattle.adf_blocks.specs.HeadBlock.{table_of}

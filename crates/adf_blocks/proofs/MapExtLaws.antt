@@ -3,8 +3,8 @@ use Rattle.std.proofs.Common.{◌≡◌, ◌≤◌, ◌<◌, ℕ, ◌+◌, ◌^�
 use Rattle.std.specs.Prelude.{slice_index}
 use Rattle.std.proofs.lemmas.Bool.{cases_lt}
 use Rattle.std.proofs.lemmas.List.{get_or_past}
-use Rattle.adf_fields.specs.Words.{word}
-use Rattle.adf_fields.proofs.WordLaws.{length_longs}
+use Rattle.adf_base.specs.Words.{word}
+use Rattle.adf_base.proofs.WordLaws.{length_longs}
 use Rattle.adf_blocks.specs.declared.layout.TheConstants.{MAP_EXT_FIRST, MAP_EXT_NEXT, MAP_EXT_PAGES}
 use Rattle.adf_blocks.specs.Fields.{Descends, block_of_fields}
 use Rattle.adf_blocks.specs.MapExtBlock.{map_ext_block, map_ext_table}

@@ -3,8 +3,8 @@ use Rattle.std.proofs.Common.{◌≡◌, ◌≤◌, ◌<◌, ℕ, ◌+◌, ◌*�
 use Rattle.std.specs.Prelude.{None, true, nat_le, slice_index}
 use Rattle.std.proofs.lemmas.Bool.{le-leb, cases_lt}
 use Rattle.std.proofs.lemmas.List.{get_or_past}
-use Rattle.adf_fields.specs.Words.{block, word, with_block, long_sum}
-use Rattle.adf_fields.proofs.WordLaws.{length_longs, block_written}
+use Rattle.adf_base.specs.Words.{block, word, with_block, long_sum}
+use Rattle.adf_base.proofs.WordLaws.{length_longs, block_written}
 use Rattle.adf_blocks.specs.declared.layout.TheConstants.{ALTERED, BITMAP_FLAG, CHECKSUM, CREATED, DATE, FIRST_MAP_EXT, FIRST_PAGE, FIRST_SLOT, HASH_SIZE}
 use Rattle.adf_blocks.specs.declared.layout.TheConstants.{NAME, ROOT_PAGES, SECONDARY_TYPE, SLOTS, ST_ROOT, TYPE, T_SHORT, VALID}
 use Rattle.adf_blocks.specs.Forms.{first_cause, text_at}

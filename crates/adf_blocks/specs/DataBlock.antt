@@ -1,6 +1,6 @@
 -- Data blocks of OFS files.
 use Rattle.std.specs.Prelude.{◌≤◌, ◌<◌, ◌*◌, ◌^◌, ℕ, ◌==◌, ◌&&◌, List, [], ◌∷◌, length}
-use Rattle.adf_fields.specs.Words.{word, long_sum, sealed}
+use Rattle.adf_base.specs.Words.{word, long_sum, sealed}
 use Rattle.adf_blocks.specs.declared.cause.Cause.TheVariants.{BadSum, BadType, BadData}
 use Rattle.adf_blocks.specs.declared.«data».DataOut.{DataOut}
 use Rattle.adf_blocks.specs.declared.layout.TheConstants.{CHECKSUM, DATA_BYTES, DATA_HEAD, DATA_HELD, DATA_NEXT, DATA_NUMBER, DATA_ROOM, TYPE, T_DATA}

@@ -1,6 +1,6 @@
 -- Extension blocks of files.
 use Rattle.std.specs.Prelude.{◌≤◌, ◌<◌, ◌*◌, ◌^◌, ℕ, ◌==◌, ◌&&◌, List, [], ◌∷◌, length}
-use Rattle.adf_fields.specs.Words.{word, long_sum, sealed}
+use Rattle.adf_base.specs.Words.{word, long_sum, sealed}
 use Rattle.adf_blocks.specs.declared.cause.Cause.TheVariants.{BadSum, BadType, BadOwnKey, BadParent}
 use Rattle.adf_blocks.specs.declared.ext.ExtOut.{ExtOut}
 use Rattle.adf_blocks.specs.declared.layout.TheConstants.{CHECKSUM, EXTENSION, FIRST_POINTER, OWN_KEY, PARENT, POINTERS, POINTER_COUNT, SECONDARY_TYPE}

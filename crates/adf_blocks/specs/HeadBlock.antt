@@ -1,10 +1,10 @@
 -- The headers of directories and files.
 use Rattle.std.specs.Prelude.{◌≡◌, ◌≤◌, ◌<◌, ◌*◌, ◌^◌, ℕ, ◌==◌, if◌then◌else◌, ◌&&◌, ◌||◌, not, nat_le, Bool, true, false, List, [], ◌∷◌, length}
 use Rattle.std.specs.Prelude.{slice_index, take}
-use Rattle.adf_fields.specs.Words.{word, long_sum, sealed}
-use Rattle.adf_fields.specs.Hash.{slot_by}
-use Rattle.adf_fields.specs.declared.hash.Letters.{Letters}
-use Rattle.adf_fields.specs.declared.hash.Letters.TheVariants.{Ascii}
+use Rattle.adf_base.specs.Words.{word, long_sum, sealed}
+use Rattle.adf_base.specs.Hash.{slot_by}
+use Rattle.adf_base.specs.declared.hash.Letters.{Letters}
+use Rattle.adf_base.specs.declared.hash.Letters.TheVariants.{Ascii}
 use Rattle.adf_tree.specs.Texts.{is_name}
 use Rattle.adf_tree.specs.declared.entry.Kind.{Kind}
 use Rattle.adf_tree.specs.declared.entry.Kind.TheVariants.{Ofs, Ffs}

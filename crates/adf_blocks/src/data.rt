@@ -1,7 +1,7 @@
 // Data blocks of OFS files: reader and writer.
 
 ghost use Rattle.std.specs.Prelude.{◌≡◌, ◌==◌, ◌&&◌, ◌≤◌, ◌+◌, ◌*◌, length, slice_range, None};
-ghost use Rattle.adf_fields.specs.Words.{block, with_block, word};
+ghost use Rattle.adf_base.specs.Words.{block, with_block, word};
 ghost use Rattle.adf_blocks.specs.Forms.{ReadsForm, first_cause};
 ghost use Rattle.adf_blocks.specs.DataBlock.{DataFields, FitsData, data_block, data_fields, data_form};
 
@@ -9,7 +9,7 @@ use crate::cause::Cause;
 use crate::layout::{
     CHECKSUM, DATA_BYTES, DATA_HEAD, DATA_HELD, DATA_NEXT, DATA_NUMBER, DATA_ROOM, T_DATA, TYPE,
 };
-use adf_fields::{Block, put_block, put_bytes, put_word, seal_block};
+use adf_base::{Block, put_block, put_bytes, put_word, seal_block};
 
 /// Whether words 1 to 4 of a block are these: the header of its file, its number in the file, the number of bytes held
 /// and the next data block.

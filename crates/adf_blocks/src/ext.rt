@@ -1,7 +1,7 @@
 // Extension blocks of files: reader and writer.
 
 ghost use Rattle.std.specs.Prelude.{◌≡◌, ◌==◌, ◌&&◌, ◌≤◌, ◌<◌, ◌+◌, ◌*◌, ◌-◌, ◌^◌, ℕ, length, slice_index, None};
-ghost use Rattle.adf_fields.specs.Words.{block, with_block, word};
+ghost use Rattle.adf_base.specs.Words.{block, with_block, word};
 ghost use Rattle.adf_blocks.specs.Forms.{ReadsForm, first_cause};
 ghost use Rattle.adf_blocks.specs.ExtBlock.{ExtFields, FitsExt, ext_block, ext_fields, ext_form};
 
@@ -10,7 +10,7 @@ use crate::layout::{
     CHECKSUM, EXTENSION, FIRST_POINTER, OWN_KEY, PARENT, POINTER_COUNT, POINTERS, SECONDARY_TYPE,
     ST_FILE, T_LIST, TYPE,
 };
-use adf_fields::{Block, put_block, put_word, put_words_down, seal_block};
+use adf_base::{Block, put_block, put_word, put_words_down, seal_block};
 use std::marker::Model;
 
 /// An extension block of a file.

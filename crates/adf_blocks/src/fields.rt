@@ -1,12 +1,12 @@
 // Dates and texts in the bytes of a block.
 
 ghost use Rattle.std.specs.Prelude.{◌≡◌, ◌≤◌, ◌<◌, ◌+◌, ◌*◌, length};
-ghost use Rattle.adf_fields.specs.Words.{with_bytes};
+ghost use Rattle.adf_base.specs.Words.{with_bytes};
 ghost use Rattle.adf_blocks.specs.Fields.{stamp, text};
-ghost use Rattle.adf_fields.specs.Dates.{IsStamp};
+ghost use Rattle.adf_base.specs.Dates.{IsStamp};
 ghost use Rattle.adf_blocks.specs.Forms.{stamp_at};
 
-use adf_fields::{Block, Stamp, put_bytes, put_words};
+use adf_base::{Block, Stamp, put_bytes, put_words};
 
 // The date in words `i` to `i + 2`.
 pub fn stamp_in(b: &Block<'_>, i: usize) -> Stamp
@@ -30,7 +30,7 @@ pub fn put_stamp(block: &mut [u8], i: usize, s: Stamp)
 }
 
 // Writes a length byte and a text to a block, from byte `from` on.
-#[tactic(auto, using(adf_fields::proofs::WordLaws::side_by_side))]
+#[tactic(auto, using(adf_base::proofs::WordLaws::side_by_side))]
 pub fn put_text(block: &mut [u8], from: usize, bytes: &[u8])
     requires room { from + 1 + length bytes.now ≤ length block.old }
     requires short { length bytes.now ≤ 255 }

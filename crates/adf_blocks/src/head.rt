@@ -1,8 +1,8 @@
 // The headers of directories and files: reader.
 
 ghost use Rattle.std.specs.Prelude.{◌≡◌, ◌≤◌, ◌<◌, ◌+◌, ◌-◌, ◌==◌, true, slice_index};
-ghost use Rattle.adf_fields.specs.Hash.{slot_of};
-ghost use Rattle.adf_fields.specs.Words.{word};
+ghost use Rattle.adf_base.specs.Hash.{slot_of};
+ghost use Rattle.adf_base.specs.Words.{word};
 ghost use Rattle.adf_blocks.specs.Forms.{ReadsForm, stamp_at, text_at};
 ghost use Rattle.adf_blocks.specs.declared.layout.TheConstants.{COMMENT};
 ghost use Rattle.adf_blocks.specs.HeadBlock.{body_at, IsHead, has_first, has_type, head_form, is_entry, is_link, is_name_at, meta_at, meta_stated};
@@ -14,7 +14,7 @@ use crate::layout::{
     PARENT, POINTERS, PROTECTION, SECONDARY_TYPE, SIZE, SLOTS, ST_DIR, ST_FILE, ST_LINK_DIR,
     ST_LINK_FILE, ST_SOFT_LINK, T_SHORT, TYPE,
 };
-use adf_fields::{Block, slot as slot_of_name};
+use adf_base::{Block, slot as slot_of_name};
 use adf_tree::{Comment, Kind, Meta, Name};
 use std::marker::Model;
 

@@ -1,11 +1,11 @@
 // The headers of directories and files: writer.
 
 ghost use Rattle.std.specs.Prelude.{◌≡◌, ◌≤◌, ◌<◌, ◌+◌, ◌-◌, ◌*◌, ◌^◌, ℕ, List, length, slice_index, None};
-ghost use Rattle.adf_fields.specs.Hash.{slot_of};
-ghost use Rattle.adf_fields.specs.Words.{block, with_block, with_bytes, word};
+ghost use Rattle.adf_base.specs.Hash.{slot_of};
+ghost use Rattle.adf_base.specs.Words.{block, with_block, with_bytes, word};
 ghost use Rattle.adf_tree.specs.Meta.{IsBoundedMeta};
 ghost use Rattle.adf_tree.specs.declared.entry.Kind.{Kind};
-ghost use Rattle.adf_fields.specs.Dates.{IsStamp};
+ghost use Rattle.adf_base.specs.Dates.{IsStamp};
 ghost use Rattle.adf_blocks.specs.Forms.{first_cause, stamp_at, text_at};
 ghost use Rattle.adf_blocks.specs.HeadBlock.BodyFields.{DirFields, FileFields};
 ghost use Rattle.adf_blocks.specs.HeadBlock.{FitsBody, FitsBodyWords, FitsHead, FitsTable, HeadFields, body_at, body_fields, body_stated, count_of, ext_of, first_of, head_block, head_fields, head_form, meta_at, secondary_of, size_of, table_of};
@@ -16,7 +16,7 @@ use crate::layout::{
     OWN_KEY, PARENT, POINTER_COUNT, POINTERS, PROTECTION, SECONDARY_TYPE, SIZE, SLOTS, ST_DIR,
     ST_FILE, T_SHORT, TYPE,
 };
-use adf_fields::{put_block, put_word, put_words, put_words_down, seal_block};
+use adf_base::{put_block, put_word, put_words, put_words_down, seal_block};
 use adf_tree::{Meta, Name};
 
 /// The fields of a header to write.

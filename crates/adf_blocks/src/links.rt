@@ -1,10 +1,10 @@
 // The pointers in a block of known form.
 
 ghost use Rattle.std.specs.Prelude.{◌≡◌, ◌<◌, ◌+◌, ◌-◌};
-ghost use Rattle.adf_fields.specs.Words.{word};
+ghost use Rattle.adf_base.specs.Words.{word};
 
 use crate::layout::{EXTENSION, FIRST_POINTER, FIRST_SLOT, POINTERS, SLOTS};
-use adf_fields::Block;
+use adf_base::Block;
 use std::marker::Model;
 
 /// The slots of a root, or of the header of a directory.

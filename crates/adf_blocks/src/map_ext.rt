@@ -1,11 +1,11 @@
 // Bitmap extension blocks: reader and writer.
 
 ghost use Rattle.std.specs.Prelude.{◌≡◌, ◌≤◌, ◌<◌, ◌+◌, ◌*◌, ◌^◌, ℕ, List, length, slice_index};
-ghost use Rattle.adf_fields.specs.Words.{with_block, word};
+ghost use Rattle.adf_base.specs.Words.{with_block, word};
 ghost use Rattle.adf_blocks.specs.MapExtBlock.{map_ext_block};
 
 use crate::layout::{MAP_EXT_FIRST, MAP_EXT_NEXT, MAP_EXT_PAGES};
-use adf_fields::{Block, put_block, put_word, put_words};
+use adf_base::{Block, put_block, put_word, put_words};
 use std::marker::Model;
 
 /// A bitmap extension block.

@@ -1,13 +1,13 @@
 // Pages of the bitmap: reader and writer.
 
 ghost use Rattle.std.specs.Prelude.{◌≡◌, ◌≤◌, ◌<◌, ◌+◌, ◌*◌, ◌-◌, ◌/◌, ◌%◌, ◌^◌, ◌↔◌, ℕ, List, length, slice_index, IsBitSet, IsTrue, None};
-ghost use Rattle.adf_fields.specs.Words.{block, with_block, word};
+ghost use Rattle.adf_base.specs.Words.{block, with_block, word};
 ghost use Rattle.adf_blocks.specs.Forms.{ReadsForm, first_cause};
 ghost use Rattle.adf_blocks.specs.PageBlock.{IsFreeBit, page_block, page_form};
 
 use crate::cause::Cause;
 use crate::layout::{PAGE_BITS, PAGE_CHECKSUM, PAGE_FIRST, PAGE_WORDS};
-use adf_fields::{Block, put_block, put_words, seal_block};
+use adf_base::{Block, put_block, put_words, seal_block};
 use std::marker::Model;
 
 /// A page of the bitmap.

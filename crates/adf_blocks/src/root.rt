@@ -1,7 +1,7 @@
 // The root block of a volume: reader.
 
 ghost use Rattle.std.specs.Prelude.{◌≡◌, ◌==◌, ◌&&◌, ◌<◌, ◌+◌};
-ghost use Rattle.adf_fields.specs.Words.{word};
+ghost use Rattle.adf_base.specs.Words.{word};
 ghost use Rattle.adf_blocks.specs.Forms.{ReadsForm, text_at};
 ghost use Rattle.adf_blocks.specs.RootBlock.{label_stated, root_form, stamps_at};
 
@@ -11,7 +11,7 @@ use crate::layout::{
     ALTERED, BITMAP_FLAG, CREATED, DATE, FIRST_MAP_EXT, FIRST_PAGE, FIRST_SLOT, HASH_SIZE, NAME,
     ROOT_PAGES, SECONDARY_TYPE, SLOTS, ST_ROOT, T_SHORT, TYPE, VALID,
 };
-use adf_fields::Block;
+use adf_base::Block;
 use adf_tree::{Label, Stamps};
 use std::marker::Model;
 

@@ -1,7 +1,7 @@
 // The root block of a volume: writer.
 
 ghost use Rattle.std.specs.Prelude.{◌≡◌, ◌≤◌, ◌<◌, ◌+◌, ◌*◌, ◌^◌, ℕ, length, slice_index, None};
-ghost use Rattle.adf_fields.specs.Words.{block, with_block, word};
+ghost use Rattle.adf_base.specs.Words.{block, with_block, word};
 ghost use Rattle.adf_blocks.specs.Forms.{first_cause, text_at};
 ghost use Rattle.adf_blocks.specs.RootBlock.{FitsRoot, RootFields, root_block, root_fields, root_form, stamps_at};
 ghost use Rattle.adf_tree.specs.Bounds.{AreStamps};
@@ -11,7 +11,7 @@ use crate::layout::{
     ALTERED, BITMAP_FLAG, CHECKSUM, CREATED, DATE, FIRST_MAP_EXT, FIRST_PAGE, FIRST_SLOT,
     HASH_SIZE, NAME, ROOT_PAGES, SECONDARY_TYPE, SLOTS, ST_ROOT, T_SHORT, TYPE, VALID,
 };
-use adf_fields::{put_block, put_word, put_words, seal_block};
+use adf_base::{put_block, put_word, put_words, seal_block};
 use adf_tree::{Label, Stamps};
 
 /// The fields of a root block to write.

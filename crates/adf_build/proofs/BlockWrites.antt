@@ -1,7 +1,7 @@
 -- The content of an image after blocks are written.
 use Rattle.std.proofs.Common.{◌≡◌, ℕ, List, [], ◌∷◌, ◌++◌, inl, inr, ◌+◌, ◌*◌, ◌<◌, ◌≤◌, ◌≢◌, length, refl, sym, ap, ◌∙◌, arith}
-use Rattle.adf_fields.specs.Words.{block, with_block}
-use Rattle.adf_fields.proofs.WordLaws.{block_written, block_other, length-with_bytes}
+use Rattle.adf_base.specs.Words.{block, with_block}
+use Rattle.adf_base.proofs.WordLaws.{block_written, block_other, length-with_bytes}
 use Rattle.adf_volume.specs.Lists.{In}
 use Rattle.adf_build.specs.Writes.{with_blocks, AreBlocks, NoneTwice}
 

@@ -1,6 +1,6 @@
 -- Chains with correct pointers to the next member are spelled.
 use Rattle.std.proofs.Common.{◌≡◌, ℕ, suc, List, [], ◌∷◌, refl, sym, ap, subst, ◌∙◌, map, Bool, true, false, cond}
-use Rattle.adf_fields.specs.Hash.{slot_of}
+use Rattle.adf_base.specs.Hash.{slot_of}
 use Rattle.adf_tree.specs.declared.entry.Entry.{Entry}
 use Rattle.adf_tree.specs.Chain.{in_chain}
 use Rattle.adf_volume.specs.Lists.{Spelled}

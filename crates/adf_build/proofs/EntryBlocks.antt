@@ -2,8 +2,8 @@
 use Rattle.std.proofs.Common.{◌≡◌, ℕ, zero, suc, List, [], ◌∷◌, ◌+◌, ◌^◌, ◌<◌, ◌≤◌, map, refl, sym, ap, subst, ◌∙◌, arith}
 use Rattle.std.specs.Prelude.{slice_index}
 use Rattle.std.proofs.lemmas.List.FromFn.{get_or-map-range_with_len}
-use Rattle.adf_fields.specs.Hash.{slot_of}
-use Rattle.adf_fields.specs.Words.{block, word}
+use Rattle.adf_base.specs.Hash.{slot_of}
+use Rattle.adf_base.specs.Words.{block, word}
 use Rattle.adf_tree.specs.Bounds.{IsBoundedEntry}
 use Rattle.adf_tree.specs.declared.entry.Kind.{Kind}
 use Rattle.adf_tree.specs.declared.entry.Entry.{Entry}

@@ -5,7 +5,7 @@ use Rattle.std.specs.Prelude.{replicate}
 use Rattle.std.proofs.lemmas.Bool.{cases_lt}
 use Rattle.std.proofs.lemmas.List.FromFn.{length-range_with_len}
 use Rattle.std.proofs.lemmas.List.{drop-replicate, take-replicate}
-use Rattle.adf_fields.specs.Words.{block}
+use Rattle.adf_base.specs.Words.{block}
 use Rattle.adf_tree.specs.Tree.{Tree}
 use Rattle.adf_tree.specs.declared.entry.Body.TheVariants.{File}
 use Rattle.adf_tree.specs.declared.entry.Entry.{Entry}

@@ -1,6 +1,6 @@
 -- The bitmap extension blocks of a volume.
 use Rattle.std.proofs.Common.{map, take, min, ◌≡◌, ◌≤◌, ◌<◌, ◌+◌, ◌-◌, ◌*◌, ◌^◌, ℕ, List, arith, true, add-one}
-use Rattle.adf_fields.specs.Words.{with_block}
+use Rattle.adf_base.specs.Words.{with_block}
 use Rattle.adf_blocks.specs.MapExtBlock.{map_ext_block}
 use Rattle.adf_blocks.specs.Sizes.{is_allowed, middle, pages_needed}
 use Rattle.adf_blocks.specs.declared.layout.TheConstants.{MAP_EXT_PAGES, ROOT_PAGES}

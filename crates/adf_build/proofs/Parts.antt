@@ -2,7 +2,7 @@
 use Rattle.std.proofs.Common.{◌≡◌, ℕ, zero, suc, List, inl, inr, ◌+◌, ◌-◌, ◌<◌, ◌≤◌, length, map, refl, arith}
 use Rattle.std.proofs.lemmas.Bool.{cases_lt}
 use Rattle.std.specs.List.{range_with_len}
-use Rattle.adf_fields.specs.Words.{block, with_block}
+use Rattle.adf_base.specs.Words.{block, with_block}
 use Rattle.adf_build.specs.Plan.{allocated, nth_free}
 use Rattle.adf_build.specs.Writes.{AreBlocks, HoldsBlocks, numbers_of, with_blocks}
 

@@ -4,7 +4,7 @@
 use Rattle.std.specs.Prelude.{◌≡◌, ◌≤◌, ℕ, List, [], ◌∷◌, ◌++◌, ◌+◌, ◌-◌, ◌*◌, nat_lt, cond, length, take, drop, map, replicate, slice_index, min, true}
 use Rattle.std.specs.List.{range_with_len}
 use Rattle.std.proofs.Common.{suc}
-use Rattle.adf_fields.specs.Hash.{slot_of}
+use Rattle.adf_base.specs.Hash.{slot_of}
 use Rattle.adf_tree.specs.declared.entry.Kind.{Kind}
 use Rattle.adf_tree.specs.declared.entry.Kind.TheVariants.{Ofs, Ffs}
 use Rattle.adf_tree.specs.declared.entry.Body.{Body}

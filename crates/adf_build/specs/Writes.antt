@@ -1,6 +1,6 @@
 -- Blocks written one after another into an image.
 use Rattle.std.specs.Prelude.{◌≡◌, ◌<◌, ◌≢◌, ℕ, List, [], ◌∷◌, length}
-use Rattle.adf_fields.specs.Words.{block, with_block}
+use Rattle.adf_base.specs.Words.{block, with_block}
 use Rattle.adf_volume.specs.Lists.{In}
 
 -- an image after these blocks are written, in the order of the list

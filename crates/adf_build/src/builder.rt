@@ -10,7 +10,7 @@ use crate::counting::count_entries;
 use crate::nodes::nodes_of;
 use crate::plan::Plan;
 use crate::volume::write_volume;
-use adf_fields::BLOCK_LEN;
+use adf_base::BLOCK_LEN;
 use adf_tree::Tree;
 use std::alloc::Global;
 use std::error::Error;

@@ -2,7 +2,7 @@
 
 ghost use Rattle.std.specs.Prelude.{◌≡◌, ◌≤◌, ◌<◌, ◌+◌, ◌*◌, ◌∷◌, ◌≢◌, ℕ, length, drop, slice_index};
 ghost use Rattle.std.specs.List.{AllWithin};
-ghost use Rattle.adf_fields.specs.Hash.{slot_of};
+ghost use Rattle.adf_base.specs.Hash.{slot_of};
 ghost use Rattle.adf_tree.specs.declared.entry.Entry.{Entry};
 ghost use Rattle.adf_tree.specs.Chain.{in_chain};
 ghost use Rattle.adf_blocks.specs.declared.layout.TheConstants.{SLOTS};
@@ -11,8 +11,8 @@ ghost use Rattle.adf_build.specs.Order.{RisesFrom};
 ghost use Rattle.adf_volume.specs.Layout.{nodes_from};
 
 use crate::nodes::{entry_at, parent_of};
+use adf_base::slot;
 use adf_blocks::SLOTS;
-use adf_fields::slot;
 use adf_tree::{Entry, Tree};
 
 // Whether two entries are in the same chain.

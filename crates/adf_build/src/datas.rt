@@ -1,7 +1,7 @@
 // The data blocks of a file.
 
 ghost use Rattle.std.specs.Prelude.{◌≡◌, ◌≤◌, ◌+◌, ◌*◌, [], ◌∷◌, length};
-ghost use Rattle.adf_fields.specs.Words.{with_block};
+ghost use Rattle.adf_base.specs.Words.{with_block};
 ghost use Rattle.adf_blocks.specs.Fields.{block_of_fields};
 ghost use Rattle.adf_blocks.specs.DataBlock.{data_fields};
 ghost use Rattle.adf_blocks.specs.Sizes.{chunk, count};
@@ -11,8 +11,8 @@ ghost use Rattle.adf_build.specs.Plan.{HasFree, exts_needed};
 
 use crate::counting::ext_count;
 use crate::plan::Plan;
+use adf_base::{put_block, put_bytes};
 use adf_blocks::{DataOut, chunk_len, data_count, write_data};
-use adf_fields::{put_block, put_bytes};
 use adf_tree::Kind;
 
 // The 512 bytes of an FFS data block: the bytes held, then zeros.

@@ -2,7 +2,7 @@
 
 ghost use Rattle.std.specs.Prelude.{◌≡◌, ◌+◌, ◌*◌, ℕ, List, length};
 ghost use Rattle.adf_tree.specs.declared.entry.Body.TheVariants.{File as TheFile};
-ghost use Rattle.adf_fields.specs.Words.{with_block};
+ghost use Rattle.adf_base.specs.Words.{with_block};
 ghost use Rattle.adf_blocks.specs.HeadBlock.{FitsTable, body_fields, head_block};
 ghost use Rattle.adf_build.specs.Writes.{with_blocks};
 ghost use Rattle.adf_build.specs.Laid.{entry_writes, planned_head};

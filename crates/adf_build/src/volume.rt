@@ -1,7 +1,7 @@
 // The parts of a volume.
 
 ghost use Rattle.std.specs.Prelude.{◌≡◌, ◌*◌, [], ◌∷◌, length, take};
-ghost use Rattle.adf_fields.specs.Words.{with_block};
+ghost use Rattle.adf_base.specs.Words.{with_block};
 ghost use Rattle.adf_blocks.specs.Fields.{block_of_fields};
 ghost use Rattle.adf_blocks.specs.RootBlock.{root_block};
 ghost use Rattle.adf_blocks.specs.Sizes.{middle};
@@ -15,8 +15,8 @@ use crate::entries::write_entries;
 use crate::map_exts::write_map_exts;
 use crate::pages::write_pages;
 use crate::plan::Plan;
+use adf_base::{put_block, put_bytes};
 use adf_blocks::{ROOT_PAGES, RootOut, SLOTS, write_root};
-use adf_fields::{put_block, put_bytes};
 use adf_tree::{Kind, Tree};
 
 // The 512 bytes of block 0.

@@ -6,8 +6,8 @@ use Rattle.std.specs.Str.{bytes_eq}
 use Rattle.std.proofs.lemmas.Slice.Eq.{bytes_eq-Decides}
 use native.Mathlib.Decide.{dec_lt, ℕ_discrete}
 use Rattle.adf_blocks.specs.declared.layout.TheConstants.{FIRST_SLOT, NAME, NEXT_IN_CHAIN, SECONDARY_TYPE, SLOTS, ST_DIR, ST_FILE}
-use Rattle.adf_fields.specs.Hash.{slot_of}
-use Rattle.adf_fields.specs.Words.{block}
+use Rattle.adf_base.specs.Hash.{slot_of}
+use Rattle.adf_base.specs.Words.{block}
 use Rattle.adf_tree.specs.Texts.{uppers}
 use Rattle.adf_tree.specs.declared.entry.Body.{Body}
 use Rattle.adf_tree.specs.declared.entry.Body.TheVariants.{Dir, File}

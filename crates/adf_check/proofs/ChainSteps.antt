@@ -7,7 +7,7 @@ use Rattle.std.proofs.lemmas.Bool.Decides.{Decides-or}
 use Rattle.std.specs.Str.{bytes_eq}
 use Rattle.std.proofs.lemmas.Slice.Eq.{bytes_eq-Decides}
 use Rattle.adf_blocks.specs.declared.layout.TheConstants.{FIRST_SLOT, NAME, NEXT_IN_CHAIN, SLOTS}
-use Rattle.adf_fields.specs.Words.{block, word}
+use Rattle.adf_base.specs.Words.{block, word}
 use Rattle.adf_tree.specs.Texts.{uppers}
 use Rattle.adf_tree.specs.NameSet.{has, HasMore, Names}
 use Rattle.adf_tree.specs.declared.entry.Kind.{Kind}

@@ -3,7 +3,7 @@ use Rattle.adf_check.specs.Claims.{InRange}
 use Rattle.std.proofs.Common.{◌≡◌, ◌≢◌, inl, inr, ℕ, zero, suc, List, [], ◌∷◌, ◌++◌, length, refl, sym, ap}
 use Rattle.std.proofs.Common.{subst, ◌∙◌, Some, None}
 use Rattle.adf_blocks.specs.declared.layout.TheConstants.{EXTENSION}
-use Rattle.adf_fields.specs.Words.{block, word}
+use Rattle.adf_base.specs.Words.{block, word}
 use Rattle.adf_blocks.specs.declared.cause.Cause.{Cause}
 use Rattle.adf_blocks.specs.Forms.{first_cause}
 use Rattle.adf_blocks.specs.ExtBlock.{ext_form}

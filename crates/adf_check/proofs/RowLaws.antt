@@ -5,7 +5,7 @@ use Rattle.std.proofs.lemmas.Bool.{and_parts}
 use Rattle.std.proofs.lemmas.Bool.Decides.{nat_tests}
 use Rattle.adf_blocks.specs.declared.layout.TheConstants.{COMMENT, EXTENSION, NAME, SECONDARY_TYPE, SIZE, ST_DIR}
 use Rattle.adf_blocks.specs.declared.cause.Cause.TheVariants.{BadComment, BadName}
-use Rattle.adf_fields.specs.Words.{block}
+use Rattle.adf_base.specs.Words.{block}
 use Rattle.adf_tree.specs.Texts.{is_name}
 use Rattle.adf_tree.specs.declared.entry.Body.{Body}
 use Rattle.adf_tree.specs.declared.entry.Body.TheVariants.{Dir, File}

@@ -1,11 +1,11 @@
 // The number of reads of blocks that a check may still do.
 
 ghost use Rattle.std.specs.Prelude.{◌≡◌, ◌+◌, ◌<◌, ◌≤◌};
-ghost use Rattle.adf_fields.specs.Words.{block};
+ghost use Rattle.adf_base.specs.Words.{block};
 ghost use Rattle.adf_blocks.specs.Sizes.{blocks};
 ghost use Rattle.adf_volume.specs.Start.{IsBegun};
 
-use adf_fields::Block;
+use adf_base::Block;
 use adf_volume::Image;
 use std::marker::Model;
 use std::sync::ledger::{Blank, Ledger, Share};

@@ -1,6 +1,6 @@
 // Directories: the headers of each slot's chain.
 
-ghost use Rattle.adf_fields.specs.Words.{word};
+ghost use Rattle.adf_base.specs.Words.{word};
 ghost use Rattle.adf_volume.specs.Fault.{IsTrueFault};
 ghost use Rattle.std.specs.Prelude.{◌≡◌, ◌≢◌, ◌==◌, ◌<◌, ◌+◌, ◌^◌, OnOk, IfOk, IfErr};
 ghost use Rattle.adf_blocks.specs.Sizes.{blocks};

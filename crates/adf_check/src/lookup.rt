@@ -16,8 +16,8 @@ ghost use Rattle.adf_check.specs.Lookup.{headed};
 use crate::kept_owner::KeptOwner;
 use crate::owner_table::OwnerTable;
 use crate::store::Store;
+use adf_base::slot;
 use adf_blocks::{Head, HeadBody};
-use adf_fields::slot;
 use adf_tree::{Name, Node};
 use adf_volume::Image;
 

@@ -5,8 +5,8 @@ ghost use Rattle.std.specs.Prelude.{replicate, ℕ, true, false, IsTrue, IsOk, I
 ghost use Rattle.adf_check.specs.KeptOwner.{claimed_count, is_claimed, kept_at, place_of};
 
 use crate::kept_owner::{KeptOwner, PackedOwner};
+use adf_base::NoMemory;
 use adf_blocks::Cause;
-use adf_fields::NoMemory;
 use std::alloc::Global;
 use std::marker::Model;
 

@@ -3,8 +3,8 @@
 ghost use Rattle.std.specs.Prelude.{◌≡◌, ◌≢◌, ◌≤◌, ◌<◌, ◌+◌, ◌-◌, ◌∷◌, ◌++◌, ◌↔◌, [], length, replicate, true, false, IsOk, IfOk, IfErr, OnOk, OnErr, slice_set};
 ghost use Rattle.adf_check.specs.Owners.{is_part, owned_count, owner_at};
 
+use adf_base::NoMemory;
 use adf_blocks::Cause;
-use adf_fields::NoMemory;
 use adf_volume::Owner;
 use std::alloc::Global;
 use std::marker::Model;

@@ -2,7 +2,7 @@
 
 ghost use Rattle.adf_volume.specs.Fault.{IsTrueFault};
 ghost use Rattle.std.specs.Prelude.{◌≡◌, ◌≤◌, ◌<◌, ◌+◌, ◌-◌, ◌%◌, ◌↔◌, IsTrue, OnOk, IfOk, IfErr};
-ghost use Rattle.adf_fields.specs.Words.{block};
+ghost use Rattle.adf_base.specs.Words.{block};
 ghost use Rattle.adf_blocks.specs.declared.layout.TheConstants.{MAP_EXT_PAGES, ROOT_PAGES};
 ghost use Rattle.adf_blocks.specs.Sizes.{blocks, pages_needed};
 ghost use Rattle.adf_volume.specs.Image.{root_of, word_in};

@@ -8,7 +8,7 @@ ghost use Rattle.adf_check.specs.Rebuild.{body_with};
 ghost use Rattle.adf_check.specs.Volumes.{StandsFor};
 
 use crate::checked::Checked;
-use adf_fields::NoMemory;
+use adf_base::NoMemory;
 use adf_tree::{Body, Bytes, Entry, Label, Node};
 use std::alloc::Global;
 

@@ -12,7 +12,7 @@ ghost use Rattle.adf_check.specs.StoreStands.{StoreStandsFor};
 
 use crate::kept_owner::KeptOwner;
 use crate::owner_table::OwnerTable;
-use adf_fields::NoMemory;
+use adf_base::NoMemory;
 use adf_volume::Image;
 use std::alloc::Global;
 

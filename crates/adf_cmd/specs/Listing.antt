@@ -1,7 +1,7 @@
 -- The lines of an image's words that are not 0.
 use Rattle.std.specs.Prelude.{ℕ, ◌/◌, ◌==◌, Bool, List, [], if◌then◌else◌, length}
 use Rattle.std.specs.List.{flat_map, range_with_len}
-use Rattle.adf_fields.specs.Words.{block, word}
+use Rattle.adf_base.specs.Words.{block, word}
 use Rattle.adf_texts.specs.Lines.{word_line}
 
 -- the line of word i of a block with the number b, where the word is not 0

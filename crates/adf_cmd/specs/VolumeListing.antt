@@ -1,6 +1,6 @@
 -- What is written of the tree of a volume.
 use Rattle.std.specs.Prelude.{ℕ, List}
-use Rattle.adf_fields.specs.declared.dates.Stamp.{Stamp}
+use Rattle.adf_base.specs.declared.dates.Stamp.{Stamp}
 use Rattle.adf_tree.specs.Tree.{Tree}
 use Rattle.adf_volume.specs.Layout.{Layout}
 use Rattle.adf_check.specs.Volumes.{StandsFor, Volume}

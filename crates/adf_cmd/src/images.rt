@@ -10,9 +10,9 @@ ghost use Rattle.adf_cmd.specs.Refusals.{IsRefusedImage};
 ghost use Rattle.adf_runs.specs.Outcomes.{is_read_fault, is_write_fault};
 ghost use Rattle.adf_texts.specs.Lines.{fault_line};
 
+use adf_base::BLOCK_LEN;
 use adf_blocks::{Cause, MOST_BLOCKS};
 use adf_check::{Checked, Fault, check};
-use adf_fields::BLOCK_LEN;
 use adf_runs::Outcome;
 use adf_texts::push_fault;
 use std::alloc::{AllocError, Global};

@@ -2,11 +2,11 @@
 
 ghost use Rattle.std.specs.Prelude.{◌≡◌, ◌+◌, ◌*◌, ◌<◌, ◌≤◌, ◌^◌, ◌++◌, false, IfOk, OnOk, OnErr, length};
 ghost use Rattle.std.specs.Io.KnownBytes.{Appends};
-ghost use Rattle.adf_fields.specs.Words.{block};
+ghost use Rattle.adf_base.specs.Words.{block};
 ghost use Rattle.adf_cmd.specs.Listing.{line_of_word, lines_of, lines_of_block, listing};
 ghost use Rattle.adf_runs.specs.Streams.{AppendsPart, KeepsPending, is_device};
 
-use adf_fields::{BLOCK_LEN, BLOCK_WORDS, Block};
+use adf_base::{BLOCK_LEN, BLOCK_WORDS, Block};
 use adf_runs::{Sink, StreamFault, flush_long, write_all};
 use adf_texts::push_word_line;
 use std::alloc::{AllocError, Global};

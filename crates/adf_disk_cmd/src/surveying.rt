@@ -7,7 +7,7 @@ ghost use Rattle.adf_runs.specs.Outcomes.{EndsBy, is_read_fault, is_write_fault}
 
 use crate::answering::write_text;
 use crate::listing::list_lines;
-use adf_fields::BLOCK_LEN;
+use adf_base::BLOCK_LEN;
 use adf_partitions::readable_partitions;
 use adf_runs::{Outcome, Sink};
 use std::alloc::{AllocError, Global};

@@ -11,7 +11,7 @@ use crate::checking::write_checks;
 use crate::listing::write_list;
 use crate::surveying::write_readable;
 use crate::volumes::volume_at;
-use adf_fields::BLOCK_LEN;
+use adf_base::BLOCK_LEN;
 use adf_partitions::{Disk, DiskCause, DiskFault, DriveName, Partition};
 use adf_runs::{Outcome, Program, Sink, Source, WorkFault, read_input};
 use adf_words::{DISK_USAGE as USAGE, DiskRequest, Wanted, parse_disk};

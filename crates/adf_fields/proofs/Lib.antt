@@ -1,5 +1,3 @@
--- words and blocks
-pub mod WordLaws
 -- dates and their texts
 pub mod Digits
 pub mod CivilDates

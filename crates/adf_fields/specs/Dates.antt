@@ -1,14 +1,9 @@
 -- Dates as texts: the civil date and time if there is one, otherwise the three numbers.
-use Rattle.std.specs.Prelude.{◌≡◌, ℕ, pos, ◌+◌, ◌/◌, ◌%◌, ◌<◌, ◌^◌, ◌&&◌, Bool, nat_lt, List, [], ◌∷◌, ◌++◌, decimal, codes, MatchBool}
+use Rattle.std.specs.Prelude.{◌≡◌, ℕ, pos, ◌+◌, ◌/◌, ◌%◌, ◌&&◌, Bool, nat_lt, List, [], ◌∷◌, ◌++◌, codes, MatchBool}
 use Rattle.jiff.specs.Words.{epoch_day, date_text}
 use Rattle.jiff.specs.Types.{Date}
-use Rattle.adf_fields.specs.declared.dates.Stamp.{Stamp}
-
--- the three numbers of a date fit in 32 bits
-pub record IsStamp (s : Stamp) : Type 0 where
-  pub days : s.days < 2 ^ 32
-  pub mins : s.mins < 2 ^ 32
-  pub ticks : s.ticks < 2 ^ 32
+use Rattle.adf_base.specs.declared.dates.Stamp.{Stamp}
+use Rattle.adf_base.specs.Dates.{plain_text}
 
 -- two digits of a number below 100
 abbrev pub two_digits : ℕ → List ℕ
@@ -26,10 +21,6 @@ is_civil s = nat_lt s.days 2929975 && nat_lt s.mins 1440 && nat_lt s.ticks 3000
 abbrev pub clock_text : Stamp → List ℕ
 clock_text s = two_digits (s.mins / 60) ++ (codes ":" ++ (two_digits (s.mins % 60) ++ (codes ":" ++ (two_digits (s.ticks / 50) ++ (codes "." ++ two_digits
     (s.ticks % 50))))))
-
--- the three numbers
-abbrev pub plain_text : Stamp → List ℕ
-plain_text s = decimal s.days ++ (codes ":" ++ (decimal s.mins ++ (codes ":" ++ decimal s.ticks)))
 
 -- a civil date, then the time of day
 abbrev pub civil_text : Date → Stamp → List ℕ

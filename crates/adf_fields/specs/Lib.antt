@@ -1,3 +1,1 @@
-pub mod Words
-pub mod Hash
 pub mod Dates

@@ -11,7 +11,7 @@ use Rattle.adf_blocks.specs.Sizes.{blocks}
 use Rattle.adf_blocks.specs.DataBlock.{data_form}
 use Rattle.adf_blocks.specs.ExtBlock.{ext_form}
 use Rattle.adf_blocks.specs.PageBlock.{page_form}
-use Rattle.adf_fields.specs.Words.{block}
+use Rattle.adf_base.specs.Words.{block}
 use Rattle.adf_volume.specs.Image.{name_of, kind_of, held, root_of, word_in, IsFreeAt}
 use Rattle.adf_volume.specs.Demands.{Demand, AllHold, FirstFails, demands_at, data_demands}
 use Rattle.adf_volume.specs.Walk.{Role, first, second, Has, data_count, ext_count, Enough, IsAbsent, IsFreeIn}

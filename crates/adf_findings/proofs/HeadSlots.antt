@@ -2,9 +2,9 @@
 -- Letters: l the letters; s the wanted slot, t the one that is asked for; b a block.
 use Rattle.std.specs.Prelude.{Bool, Some, true, false, ◌==◌, not, nat_le, slice_index}
 use Rattle.std.proofs.Common.{◌≡◌, ℕ, List, [], ◌∷◌, ◌++◌, refl, sym, ap, ◌∙◌}
-use Rattle.adf_fields.specs.Hash.{slot_by, slot_of}
-use Rattle.adf_fields.specs.Words.{long_sum, word}
-use Rattle.adf_fields.specs.declared.hash.Letters.{Letters}
+use Rattle.adf_base.specs.Hash.{slot_by, slot_of}
+use Rattle.adf_base.specs.Words.{long_sum, word}
+use Rattle.adf_base.specs.declared.hash.Letters.{Letters}
 use Rattle.adf_tree.specs.declared.entry.Kind.{Kind}
 use Rattle.adf_blocks.specs.declared.cause.Cause.{Cause}
 use Rattle.adf_blocks.specs.declared.cause.Cause.TheVariants.{BadComment, BadFirst, BadName, BadOwnKey, BadParent, BadSum, BadType, Link, WrongSlot}

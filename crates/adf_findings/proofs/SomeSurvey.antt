@@ -6,7 +6,7 @@ use native.Mathlib.Decide.{ℕ_discrete}
 use Rattle.adf_blocks.specs.declared.cause.Cause.{Cause}
 use Rattle.adf_blocks.specs.declared.layout.TheConstants.{POINTERS, SLOTS}
 use Rattle.adf_blocks.specs.Sizes.{blocks, is_allowed, pages_needed}
-use Rattle.adf_fields.specs.Words.{block}
+use Rattle.adf_base.specs.Words.{block}
 use Rattle.adf_blocks.specs.RootBlock.{root_form}
 use Rattle.adf_volume.specs.Image.{letters_of, word_in, root_of}
 use Rattle.adf_volume.specs.Lists.{In}

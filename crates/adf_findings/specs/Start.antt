@@ -1,6 +1,6 @@
 -- Images to survey.
 use Rattle.std.specs.Prelude.{◌≡◌, ◌==◌, ◌&&◌, ℕ, Bool, List, [], ◌∷◌, ◌++◌, Option, Some, None}
-use Rattle.adf_fields.specs.Words.{word}
+use Rattle.adf_base.specs.Words.{word}
 use Rattle.adf_blocks.specs.declared.cause.Cause.{Cause}
 use Rattle.adf_blocks.specs.declared.layout.TheConstants.{SECONDARY_TYPE, ST_ROOT, TYPE, T_SHORT}
 use Rattle.adf_blocks.specs.Sizes.{blocks}

@@ -7,7 +7,7 @@ use Rattle.std.proofs.Common.{suc}
 use Rattle.adf_blocks.specs.declared.cause.Cause.{Cause}
 use Rattle.adf_blocks.specs.declared.cause.Cause.TheVariants.{BadSum, Link, BadName, BadComment, WrongSlot, BadFirst, SameName, ShortFile}
 use Rattle.adf_blocks.specs.declared.cause.Cause.TheVariants.{BadHashSize, DirCache, International, NotValidated}
-use Rattle.adf_fields.specs.Words.{block}
+use Rattle.adf_base.specs.Words.{block}
 use Rattle.adf_blocks.specs.declared.layout.TheConstants.{BITMAP_FLAG, OWN_KEY, PAGE_BITS, T_DIR_CACHE, TYPE, VALID}
 use Rattle.adf_blocks.specs.Sizes.{blocks}
 use Rattle.adf_volume.specs.Image.{word_in, root_of}

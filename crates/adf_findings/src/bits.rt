@@ -9,10 +9,10 @@ ghost use Rattle.adf_findings.specs.Found.{BitTells, IsBitOf, IsCompleted, IsFin
 use crate::found::Found;
 use crate::image::Image;
 use crate::part::{Finding, Key, Part};
+use adf_base::NoMemory;
 use adf_blocks::{
     BITMAP_FLAG, Cause, OWN_KEY, PAGE_FIRST, T_DIR_CACHE, TYPE, VALID, is_set, place_of,
 };
-use adf_fields::NoMemory;
 use std::collections::BTreeMap;
 
 /// Whether the bitmap flag of the root is that of a valid bitmap.

@@ -16,12 +16,12 @@ use crate::found::Found;
 use crate::image::Image;
 use crate::judge::{Judgement, judge};
 use crate::part::{Finding, Part};
+use adf_base::NoMemory;
 use adf_blocks::{
     Cause, EXTENSION, FIRST_MAP_EXT, FIRST_PAGE, FIRST_POINTER, FIRST_SLOT, MAP_EXT_NEXT,
     MAP_EXT_PAGES, NEXT_IN_CHAIN, POINTERS, ROOT_PAGES, SECONDARY_TYPE, SLOTS, ST_DIR, ST_FILE,
     page_count,
 };
-use adf_fields::NoMemory;
 
 /// A part that is next, a header with any number; the block that points to it; and its own block.
 #[derive(Clone, Copy, PartialEq, Eq, Drop)]

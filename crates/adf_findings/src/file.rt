@@ -7,8 +7,8 @@ ghost use Rattle.adf_volume.specs.Image.{kind_of, pieces, word_in};
 ghost use Rattle.adf_findings.specs.Files.{HasItsBlocks, file_content, file_from, names_from};
 
 use crate::image::Image;
+use adf_base::NoMemory;
 use adf_blocks::{EXTENSION, FIRST_POINTER, POINTERS, SIZE};
-use adf_fields::NoMemory;
 use adf_tree::Kind;
 use adf_volume::{Pieces, count_of, joined};
 use std::alloc::Global;

@@ -1,8 +1,8 @@
 // The forms of parts.
 
 ghost use Rattle.std.specs.Prelude.{◌≡◌, ◌<◌, ◌≤◌, ◌==◌, ◌&&◌, true};
-ghost use Rattle.adf_fields.specs.Hash.{slot_by, slot_of};
-ghost use Rattle.adf_fields.specs.Words.{block, word};
+ghost use Rattle.adf_base.specs.Hash.{slot_by, slot_of};
+ghost use Rattle.adf_base.specs.Words.{block, word};
 ghost use Rattle.adf_blocks.specs.Forms.{first_cause, text_at};
 ghost use Rattle.adf_blocks.specs.HeadBlock.{is_name_at};
 ghost use Rattle.adf_blocks.specs.Sizes.{blocks, chunk};
@@ -13,11 +13,11 @@ ghost use Rattle.adf_findings.specs.Parts.{role_of};
 
 use crate::image::Image;
 use crate::part::Part;
+use adf_base::{Block, Letters, slot as slot_of_name, slot_by};
 use adf_blocks::{
     Cause, NAME, OWN_KEY, PARENT, SIZE, SLOTS, T_DATA, TYPE, chunk_len, has_data_words,
     has_ext_type, has_head_type, read_data, read_ext, read_head, read_page,
 };
-use adf_fields::{Block, Letters, slot as slot_of_name, slot_by};
 use adf_tree::Kind;
 use adf_volume::held_in;
 

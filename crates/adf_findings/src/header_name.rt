@@ -3,8 +3,8 @@
 ghost use Rattle.std.specs.Prelude.{◌≡◌, ◌+◌, min, slice_index, slice_range};
 ghost use Rattle.adf_blocks.specs.declared.layout.TheConstants.{NAME};
 
+use adf_base::Block;
 use adf_blocks::NAME;
-use adf_fields::Block;
 
 /// The name in a header, at most 79 bytes.
 pub fn name_in<'b>(head: &Block<'b>) -> &'b [u8]

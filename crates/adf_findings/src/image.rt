@@ -1,13 +1,13 @@
 // An image under survey.
 
 ghost use Rattle.std.specs.Prelude.{◌≡◌, ◌<◌, ◌≤◌, ◌^◌, length, nat_le, slice_index, true};
-ghost use Rattle.adf_fields.specs.Words.{block};
+ghost use Rattle.adf_base.specs.Words.{block};
 ghost use Rattle.adf_blocks.specs.Sizes.{blocks, is_allowed};
 ghost use Rattle.adf_volume.specs.Demands.{IsSize};
 ghost use Rattle.adf_volume.specs.Image.{kind_of, letters_of, root_of, word_in};
 ghost use Rattle.adf_findings.specs.Start.{IsSized};
 
-use adf_fields::{BLOCK_LEN, Block, Letters};
+use adf_base::{BLOCK_LEN, Block, Letters};
 use adf_tree::Kind;
 use adf_volume::letters_in;
 use std::marker::Model;

@@ -5,7 +5,7 @@ ghost use Rattle.adf_findings.specs.Lookup.{IsNamedChild, IsFirstChild, LeadsTo,
 ghost use Rattle.adf_findings.specs.Survey.{OnSurvey};
 
 use crate::survey_result::Survey;
-use adf_fields::NoMemory;
+use adf_base::NoMemory;
 use adf_tree::{Name, Node};
 use std::alloc::Global;
 

@@ -10,8 +10,8 @@ use crate::concern::Concern;
 use crate::found::{DataBlock, Found};
 use crate::image::Image;
 use crate::part::{Finding, Part};
+use adf_base::NoMemory;
 use adf_blocks::Cause;
-use adf_fields::NoMemory;
 use adf_tree::Kind;
 use std::alloc::Global;
 

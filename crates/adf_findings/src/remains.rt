@@ -2,7 +2,7 @@
 
 ghost use Rattle.std.specs.Prelude.{◌≡◌, ◌≤◌, ◌<◌, ◌^◌, ◌+◌, ◌++◌, ◌↔◌, ℕ, IfOk, IsOk, IfSome, IsSome, OnOk, replicate};
 ghost use Rattle.adf_blocks.specs.Sizes.{blocks, count};
-ghost use Rattle.adf_fields.specs.Words.{block};
+ghost use Rattle.adf_base.specs.Words.{block};
 ghost use Rattle.adf_volume.specs.Image.{kind_of, piece};
 ghost use Rattle.adf_volume.specs.Walk.{FileAt, node_block};
 ghost use Rattle.adf_findings.specs.Remains.{blocks_stated, bytes_in, bytes_left, data_at, data_named, gap_at, gaps_left, gaps_of, joined, left_of, size_stated, with_gap, with_lost};
@@ -11,8 +11,8 @@ ghost use Rattle.adf_findings.specs.Survey.{OnSurvey};
 use crate::image::Image;
 use crate::start::start;
 use crate::survey_result::{Survey, number_at};
+use adf_base::NoMemory;
 use adf_blocks::{DATA_BYTES, EXTENSION, FIRST_POINTER, POINTERS, SIZE, chunk_len};
-use adf_fields::NoMemory;
 use adf_tree::{Kind, Node};
 use adf_volume::{count_of, held_in};
 use std::alloc::{AllocError, Global};

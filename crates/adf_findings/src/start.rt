@@ -7,8 +7,8 @@ ghost use Rattle.adf_findings.specs.Survey.{BootTells, RootJudged, RootTells, Un
 ghost use Rattle.adf_findings.specs.Survey.JudgementValue.{skipped};
 
 use crate::image::Image;
+use adf_base::BLOCK_LEN;
 use adf_blocks::{Cause, has_root_type, read_root};
-use adf_fields::BLOCK_LEN;
 use adf_volume::{Unopened, boot_cause, kind_in};
 
 /// An image to survey, and the causes of its boot block and its root, if they have any.

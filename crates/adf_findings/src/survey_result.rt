@@ -5,7 +5,7 @@ ghost use Rattle.std.specs.Prelude.{true, slice_get, IsTrue, IsNone, IsOk, IsSom
 ghost use Rattle.std.specs.Option.{option_flatten};
 ghost use Rattle.adf_blocks.specs.HeadBlock.{body_at, meta_stated};
 ghost use Rattle.adf_blocks.specs.Sizes.{is_allowed};
-ghost use Rattle.adf_fields.specs.Words.{block};
+ghost use Rattle.adf_base.specs.Words.{block};
 ghost use Rattle.adf_volume.specs.Image.{letters_of, name_of};
 ghost use Rattle.adf_volume.specs.Walk.{FileAt, Has, heads, node_block};
 ghost use Rattle.adf_volume.specs.Walk.Role.{Head};
@@ -26,8 +26,8 @@ use crate::opening::Opening;
 use crate::owners::{owner_at, owner_nth};
 use crate::part::{Finding, Key};
 use crate::start::start;
+use adf_base::{Block, Letters, NoMemory};
 use adf_blocks::{HeadBody, SECONDARY_TYPE, ST_FILE, meta_stated};
-use adf_fields::{Block, Letters, NoMemory};
 use adf_tree::{Meta, Node};
 use adf_volume::letters_in;
 use std::alloc::Global;

@@ -4,8 +4,8 @@ use Rattle.std.specs.Fmt.{decimal}
 use Rattle.std.proofs.lemmas.Fmt.{decimal_injective}
 use Rattle.std.proofs.lemmas.Bool.Decides.{nat_tests}
 use Rattle.std.proofs.lemmas.List.{append_cancel_left}
-use Rattle.adf_fields.specs.Dates.{plain_text, IsStamp}
-use Rattle.adf_fields.specs.declared.dates.Stamp.{Stamp}
+use Rattle.adf_base.specs.Dates.{plain_text, IsStamp}
+use Rattle.adf_base.specs.declared.dates.Stamp.{Stamp}
 use Rattle.adf_tree.specs.declared.entry.Stamps.{Stamps}
 use Rattle.adf_manifest.specs.Tokens.{stamps_text}
 use Rattle.adf_tree.specs.Bounds.{AreStamps}

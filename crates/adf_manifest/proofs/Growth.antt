@@ -7,7 +7,7 @@ use Rattle.std.proofs.lemmas.List.Elements.{All-push}
 use Rattle.std.proofs.lemmas.Grind.{flat_map-append}
 use Rattle.adf_tree.specs.Escapes.{escaped}
 use Rattle.adf_tree.specs.Tree.{Tree, room_for}
-use Rattle.adf_fields.specs.declared.dates.Stamp.{Stamp}
+use Rattle.adf_base.specs.declared.dates.Stamp.{Stamp}
 use Rattle.adf_manifest.specs.Lines.{IsRun, RunValue, note_line, run_line}
 use Rattle.adf_manifest.specs.Items.{HaveRoom, IsGivenNote, IsItem, Item, bytes_of_runs, item_lines, items_tree, run_bytes, with_item}
 use Rattle.adf_manifest.specs.Manifest.{Entries, IsWell, Manifest, preamble_lines, preamble_tree, items_of, manifest_lines, manifest_tree}

@@ -16,7 +16,7 @@ use Rattle.adf_manifest.specs.Items.{HaveRoom, IsGivenNote, IsItem, Item, items_
 use Rattle.adf_manifest.specs.Manifest.{Entries, IsPreamble, IsWell, Manifest, preamble_lines, preamble_tree, label_lines, items_of, manifest_lines}
 use Rattle.adf_manifest.specs.Manifest.{manifest_tree, EndsInFile, IsBare, MayStand}
 use Rattle.adf_manifest.specs.Reader.{bare}
-use Rattle.adf_fields.specs.declared.dates.Stamp.{Stamp}
+use Rattle.adf_base.specs.declared.dates.Stamp.{Stamp}
 use Rattle.adf_manifest.specs.declared.lines.Sort.{Sort}
 use Rattle.adf_manifest.specs.declared.lines.Sort.TheVariants.{Dir, File}
 use Rattle.adf_manifest.specs.declared.reader.Preamble.{Preamble}

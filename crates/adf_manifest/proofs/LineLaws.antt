@@ -2,8 +2,8 @@
 use Rattle.std.proofs.Common.{◌≡◌, ◌≤◌, ◌++◌, ◌∙◌, ℕ, List, ◌∷◌, sym, arith, codes}
 use Rattle.std.specs.Fmt.{decimal}
 use Rattle.std.proofs.lemmas.List.{append_cancel_left}
-use Rattle.adf_fields.specs.Dates.{plain_text, IsStamp}
-use Rattle.adf_fields.specs.declared.dates.Stamp.{Stamp}
+use Rattle.adf_base.specs.Dates.{plain_text, IsStamp}
+use Rattle.adf_base.specs.declared.dates.Stamp.{Stamp}
 use Rattle.adf_manifest.specs.Tokens.{LacksByte}
 use Rattle.adf_manifest.specs.Texts.{hex_word, pair}
 use Rattle.adf_manifest.specs.Lines.{fields_text, fill_line, most_fill}

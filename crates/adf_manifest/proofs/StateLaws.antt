@@ -4,7 +4,7 @@ use Rattle.std.specs.Prelude.{IsOk, IfErr, IfOk, Result, Ok, Err, is_some, false
 use Rattle.std.specs.List.{All}
 use Rattle.std.proofs.lemmas.List.{append-nil, length-replicate}
 use Rattle.std.proofs.lemmas.List.Elements.{All-head, All-nil}
-use Rattle.adf_fields.specs.declared.dates.Stamp.{Stamp}
+use Rattle.adf_base.specs.declared.dates.Stamp.{Stamp}
 use Rattle.adf_tree.specs.Escapes.{IsSpelling, escaped}
 use Rattle.adf_tree.specs.PathTexts.{IsPathText, path_text}
 use Rattle.std.specs.Option.{unwrap_or}

@@ -1,8 +1,8 @@
 -- The lines of a manifest and their content, each by itself.
 use Rattle.std.specs.Prelude.{◌≡◌, ◌<◌, ◌≤◌, ◌^◌, ℕ, List, ◌++◌, codes, length, All}
 use Rattle.std.specs.Fmt.{decimal}
-use Rattle.adf_fields.specs.Dates.{plain_text, IsStamp}
-use Rattle.adf_fields.specs.declared.dates.Stamp.{Stamp}
+use Rattle.adf_base.specs.Dates.{plain_text, IsStamp}
+use Rattle.adf_base.specs.declared.dates.Stamp.{Stamp}
 use Rattle.adf_tree.specs.declared.entry.Kind.{Kind}
 use Rattle.adf_tree.specs.declared.entry.Stamps.{Stamps}
 use Rattle.adf_manifest.specs.Tokens.{stamps_text}

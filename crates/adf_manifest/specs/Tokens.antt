@@ -1,7 +1,7 @@
 -- Tokens of a line.
 use Rattle.std.specs.Prelude.{◌≡◌, ◌==◌, ◌&&◌, ◌||◌, not, nat_lt, ℕ, Bool, false, List, ◌++◌, codes, length, slice_index}
 use Rattle.std.specs.List.{All}
-use Rattle.adf_fields.specs.Dates.{plain_text}
+use Rattle.adf_base.specs.Dates.{plain_text}
 use Rattle.adf_tree.specs.declared.entry.Stamps.{Stamps}
 
 -- the text does not contain the byte

@@ -13,8 +13,8 @@ ghost use Rattle.adf_manifest.specs.Reader.{GoesOn, IsLastEntry, IsReading, Stop
 use crate::lines::{EntryText, Line, Run, Sort, line_of};
 use crate::manifest::ManifestKind;
 use crate::tokens::{after, read_number};
+use adf_base::{NoMemory, Stamp};
 use adf_blocks::is_allowed_size;
-use adf_fields::{NoMemory, Stamp};
 use adf_tree::{
     Body, Bytes, Comment, Draft, Kind, Label, Meta, PathFault, Room, RoomFault, Stamps, Tree,
     read_path,

@@ -2,13 +2,13 @@
 
 ghost use Rattle.std.specs.Prelude.{◌≡◌, ◌≢◌, ◌<◌, ◌^◌, ◌++◌, ◌∷◌, ℕ, List, IfSome, IfNone, length};
 ghost use Rattle.std.specs.Fmt.{decimal};
-ghost use Rattle.adf_fields.specs.Dates.{plain_text, IsStamp};
-ghost use Rattle.adf_fields.specs.declared.dates.Stamp.{Stamp as StampValue};
+ghost use Rattle.adf_base.specs.Dates.{plain_text, IsStamp};
+ghost use Rattle.adf_base.specs.declared.dates.Stamp.{Stamp as StampValue};
 ghost use Rattle.adf_tree.specs.declared.entry.Stamps.{Stamps as StampsValue};
 ghost use Rattle.adf_manifest.specs.Tokens.{LacksByte, has_number_front, stamps_text};
 ghost use Rattle.adf_tree.specs.Bounds.{AreStamps};
 
-use adf_fields::Stamp;
+use adf_base::Stamp;
 use adf_tree::Stamps;
 
 /// The rest of a text after a prefix.

@@ -6,7 +6,7 @@ use Rattle.std.proofs.Math.Seq.{drop-append-add, drop-nil, take-append_seam}
 use Rattle.std.proofs.lemmas.Bool.{cases_lt}
 use Rattle.std.proofs.lemmas.List.{drop-take, take-append-drop, take-append-le}
 use Rattle.std.proofs.lemmas.Option.{slice_get-get_or, slice_get_cases}
-use Rattle.adf_fields.specs.Words.{block}
+use Rattle.adf_base.specs.Words.{block}
 use Rattle.adf_tree.specs.declared.entry.Body.{Body}
 use Rattle.adf_tree.specs.declared.entry.Body.TheVariants.{Dir, File}
 use Rattle.adf_tree.specs.declared.entry.Entry.{Entry}

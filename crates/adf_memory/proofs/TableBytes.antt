@@ -4,7 +4,7 @@ use Rattle.std.proofs.Common.{zero, suc, refl, sym, ap, ◌∙◌, arith, inl, i
 use Rattle.std.proofs.Math.Seq.{drop-append-add, drop-cons, drop-nil, take-add, take-append_seam}
 use Rattle.std.proofs.lemmas.Bool.{cases_lt, cond_above, cond_below}
 use Rattle.std.proofs.lemmas.List.{drop-append-le, drop-drop, take-take, take_rest}
-use Rattle.adf_fields.specs.Words.{block}
+use Rattle.adf_base.specs.Words.{block}
 use Rattle.adf_tree.specs.declared.entry.Kind.{Kind}
 use Rattle.adf_tree.specs.declared.entry.Kind.TheVariants.{Ofs, Ffs}
 use Rattle.adf_blocks.specs.Sizes.{blocks, chunk}

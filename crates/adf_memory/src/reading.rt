@@ -1,7 +1,7 @@
 // Reading files through the tables.
 
 ghost use Rattle.std.specs.Prelude.{◌≡◌, ◌≤◌, ◌<◌, ◌+◌, ◌-◌, ◌^◌, ◌++◌, ℕ, List, [], IfSome, IfNone, length, min, take, drop};
-ghost use Rattle.adf_fields.specs.Words.{block};
+ghost use Rattle.adf_base.specs.Words.{block};
 ghost use Rattle.adf_tree.specs.Tree.{Tree};
 ghost use Rattle.adf_volume.specs.Fits.{Fits};
 ghost use Rattle.adf_volume.specs.Image.{area, kind_of};
@@ -11,8 +11,8 @@ ghost use Rattle.adf_memory.specs.Tables.{block_table, bytes_at, entry_table};
 ghost use Rattle.adf_memory.specs.Areas.{bytes_from, file_from, node_from};
 
 use crate::tables::TableEntry;
+use adf_base::{BLOCK_LEN, Block};
 use adf_blocks::{DATA_BYTES, DATA_ROOM, chunk_len};
-use adf_fields::{BLOCK_LEN, Block};
 use adf_tree::Kind;
 use adf_volume::kind_in;
 

@@ -12,8 +12,8 @@ ghost use Rattle.adf_memory.specs.Tables.{block_table, bytes_in, contents_of, da
 ghost use Rattle.adf_memory.specs.Tables.{file_number, refused_at, table_entry};
 
 use crate::verdict::kind_code;
+use adf_base::Stamp;
 use adf_check::{Checked, Counts, Row, RowBody};
-use adf_fields::Stamp;
 use adf_tree::Node;
 
 /// A date of the file system.

@@ -1,8 +1,8 @@
 -- The words of the blocks of written tables.
 use Rattle.std.proofs.Common.{◌≡◌, ◌≢◌, ◌≤◌, ◌<◌, ◌+◌, ◌*◌, ◌^◌, ◌%◌, ◌∙◌, ℕ, zero, suc, List, [], ◌∷◌, length, ap, refl, sym, arith, inr, true}
 use Rattle.std.specs.Prelude.{slice_index, sum}
-use Rattle.adf_fields.specs.Words.{sealed, word, words, checksum}
-use Rattle.adf_fields.proofs.WordLaws.{length-with_word, long_sum-sealed, sum_words_more, range-with_bytes_above, length-big_bytes, word-with_word_other}
+use Rattle.adf_base.specs.Words.{sealed, word, words, checksum}
+use Rattle.adf_base.proofs.WordLaws.{length-with_word, long_sum-sealed, sum_words_more, range-with_bytes_above, length-big_bytes, word-with_word_other}
 use Rattle.adf_blocks.specs.Fields.{Descends, Field, block_of_fields, long, longs, text}
 use Rattle.adf_blocks.specs.Forms.{text_at}
 use Rattle.adf_blocks.proofs.FieldLaws.{Apart, HasField, field_there, fields_between, length-block_of_fields, long_number, numbers_of_field, text_reads}

@@ -5,7 +5,7 @@ use Rattle.std.specs.Int.{cast_signed, cast_unsigned, w32, w8}
 use Rattle.std.proofs.lemmas.Bool.Decides.{nat_tests}
 use Rattle.std.proofs.lemmas.Int.{to_z-of_z}
 use Rattle.std.proofs.lemmas.List.{take_all}
-use Rattle.adf_fields.specs.Words.{word}
+use Rattle.adf_base.specs.Words.{word}
 use Rattle.adf_blocks.specs.Fields.{Descends}
 use Rattle.adf_blocks.specs.Forms.{text_at}
 use Rattle.adf_tree.specs.declared.entry.Kind.TheVariants.{Ofs, Ffs}

@@ -2,7 +2,7 @@
 -- blocks, t its tables; ps are the partitions found; a is the block that names block b.
 use Rattle.std.specs.Prelude.{◌≡◌, ◌≢◌, ◌≤◌, ◌+◌, ◌*◌, min, ℕ, ◌==◌, not, nat_lt, Bool, List, [], ◌∷◌, ◌++◌, Option, Some, None, length}
 use Rattle.std.specs.List.{list_any}
-use Rattle.adf_fields.specs.Words.{block, word}
+use Rattle.adf_base.specs.Words.{block, word}
 use Rattle.adf_partitions.specs.declared.fault.DiskCause.TheVariants.{OutOfRange, Repeated, NotPartition, BadSum, TooMany}
 use Rattle.adf_partitions.specs.declared.fault.DiskFault.{DiskFault}
 use Rattle.adf_partitions.specs.declared.layout.TheConstants.{MARK, MOST_PARTITIONS, MOST_TABLES, NEXT_PART, NO_BLOCK, PART, RDSK_BLOCKS}

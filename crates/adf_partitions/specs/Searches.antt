@@ -2,7 +2,7 @@
 -- number of its blocks, t its tables, `kept` those whose blocks are searched; ps are partitions found before.
 use Rattle.std.specs.Prelude.{◌≢◌, ◌==◌, ◌&&◌, ◌-◌, ◌++◌, ℕ, zero, suc, not, nat_lt, Bool, List, [], ◌∷◌, length, if◌then◌else◌}
 use Rattle.std.specs.List.{list_any}
-use Rattle.adf_fields.specs.Words.{block, word}
+use Rattle.adf_base.specs.Words.{block, word}
 use Rattle.adf_partitions.specs.declared.fault.DiskFault.{DiskFault}
 use Rattle.adf_partitions.specs.declared.layout.TheConstants.{BLOCK_BYTES, MARK, MOST_PARTITIONS, MOST_TABLES, NO_BLOCK, PART, RDSK_BLOCKS}
 use Rattle.adf_partitions.specs.declared.partition.Partition.{Partition}

@@ -1,6 +1,6 @@
 -- Blocks with a sum: the rigid disk block and the partition blocks.
 use Rattle.std.specs.Prelude.{ℕ, ◌+◌, ◌*◌, ◌%◌, ◌^◌, ◌==◌, ◌&&◌, nat_le, Bool, List, length, sum}
-use Rattle.adf_fields.specs.Words.{word, words}
+use Rattle.adf_base.specs.Words.{word, words}
 use Rattle.adf_partitions.specs.declared.layout.TheConstants.{SUMMED_LONGS}
 
 -- the sum of the first n words of a block, modulo 2 ^ 32

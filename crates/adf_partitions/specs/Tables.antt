@@ -1,6 +1,6 @@
 -- The rigid disk block, and the blocks kept for a disk's tables. The list is of the first bytes of the disk.
 use Rattle.std.specs.Prelude.{◌≡◌, ◌≢◌, ◌⊎◌, ◌<◌, ℕ, ◌==◌, ◌&&◌, nat_le, nat_lt, Bool, true, false, List}
-use Rattle.adf_fields.specs.Words.{block, word}
+use Rattle.adf_base.specs.Words.{block, word}
 use Rattle.adf_partitions.specs.declared.fault.DiskCause.TheVariants.{NoRigidDisk, BlockSize}
 use Rattle.adf_partitions.specs.declared.fault.DiskFault.{DiskFault}
 use Rattle.adf_partitions.specs.declared.layout.TheConstants.{BLOCK_BYTES, FIRST_PART, HIGHEST_TABLE, LOWEST_TABLE, MARK, MOST_TABLES, RDSK, RDSK_BLOCKS}

@@ -3,7 +3,7 @@ use Rattle.std.specs.Prelude.{ℕ, ◌+◌, ◌-◌, ◌*◌, nat_lt, List, [], 
 use Rattle.std.specs.Int.{cast_unsigned, w32}
 use Rattle.std.specs.List.{flat_map}
 use Rattle.adf_blocks.specs.Fields.{Field, block_of_fields, longs, text}
-use Rattle.adf_fields.specs.Words.{sealed}
+use Rattle.adf_base.specs.Words.{sealed}
 use Rattle.adf_partitions.specs.Plans.{PlanValue, cylinder_blocks, planned_cylinders, planned_flags, planned_type, table_cylinders}
 use Rattle.adf_partitions.specs.declared.layout.TheConstants.{CHECKSUM, CYLINDERS, DRIVE_NAME, ENV_LENGTH, LOWEST_TABLE, MARK, NO_BLOCK, PART, RDSK}
 use Rattle.adf_partitions.specs.declared.layout.TheConstants.{WRITTEN_LONGS}

@@ -2,7 +2,7 @@
 
 ghost use Rattle.std.specs.Prelude.{◌≡◌, Some, None, ◌<◌, length, IfOk, OnOk, MatchResult};
 ghost use Rattle.std.specs.List.{list_any};
-ghost use Rattle.adf_fields.specs.Words.{block};
+ghost use Rattle.adf_base.specs.Words.{block};
 ghost use Rattle.adf_partitions.specs.Disks.{IsFollowed, is_at, part_form};
 ghost use Rattle.adf_partitions.specs.Faults.{first_failed};
 
@@ -11,7 +11,7 @@ use crate::layout::{MARK, MOST_PARTITIONS, NEXT_PART, NO_BLOCK, PART};
 use crate::partition::{Partition, partition_of};
 use crate::summed::is_summed;
 use crate::tables::{Tables, is_table};
-use adf_fields::Block;
+use adf_base::Block;
 use std::alloc::{AllocError, Global};
 
 /// Whether the list has come to a block.

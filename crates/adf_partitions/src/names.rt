@@ -5,7 +5,7 @@ ghost use Rattle.adf_tree.specs.Texts.{uppers};
 ghost use Rattle.adf_partitions.specs.Partitions.{is_named};
 
 use crate::partition::Partition;
-use adf_fields::upper;
+use adf_base::upper;
 
 // Whether two texts are equal, ignoring the case of `a` to `z`.
 #[tactic(auto, using(adf_tree::proofs::EqualNames::ascii_yes, adf_tree::proofs::EqualNames::ascii_no, adf_tree::proofs::EqualNames::ascii_short))]

@@ -12,7 +12,7 @@ use crate::layout::{
 };
 use crate::place::{Place, PlaceFault, do_overlap, has_cylinders, is_over_tables, place_within};
 use crate::tables::Tables;
-use adf_fields::Block;
+use adf_base::Block;
 use adf_tree::ShortText;
 
 /// The name of a drive, at most 31 bytes.

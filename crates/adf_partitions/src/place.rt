@@ -1,13 +1,13 @@
 // Where the volume of a partition lies.
 
 ghost use Rattle.std.specs.Prelude.{◌≡◌, ◌≤◌, ◌+◌, SomeIff};
-ghost use Rattle.adf_fields.specs.Words.{word};
+ghost use Rattle.adf_base.specs.Words.{word};
 ghost use Rattle.adf_partitions.specs.FaultTexts.{place_fault_number, place_fault_text};
 ghost use Rattle.adf_partitions.specs.Places.{cylinder_of, do_overlap, end_of, has_cylinders, is_before_end, is_over_tables, place_of};
 
 use crate::layout::{HIGH_CYLINDER, LOW_CYLINDER, SURFACES, TRACK_BLOCKS};
 use crate::tables::Tables;
-use adf_fields::Block;
+use adf_base::Block;
 use std::error::Error;
 use std::fmt;
 

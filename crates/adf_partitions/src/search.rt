@@ -11,7 +11,7 @@ use crate::list::{follow_list, is_found};
 use crate::partition::{Partition, partition_of};
 use crate::summed::is_summed;
 use crate::tables::{Tables, is_table, read_tables};
-use adf_fields::Block;
+use adf_base::Block;
 use std::alloc::{AllocError, Global};
 
 // Whether a block says that it is a partition block, with a sound sum.

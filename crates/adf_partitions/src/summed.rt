@@ -4,10 +4,10 @@ ghost use Rattle.std.specs.Prelude.{◌≡◌, ◌≤◌};
 ghost use Rattle.adf_partitions.specs.Summed.{holds, is_summed, sum_of};
 
 use crate::layout::SUMMED_LONGS;
-use adf_fields::{BLOCK_LEN, BLOCK_WORDS, Block};
+use adf_base::{BLOCK_LEN, BLOCK_WORDS, Block};
 
 // The sum of the first words of a block, modulo 2^32.
-#[tactic(auto, using(adf_fields::proofs::WordLaws::sum_words_more, adf_fields::proofs::WordLaws::no_words))]
+#[tactic(auto, using(adf_base::proofs::WordLaws::sum_words_more, adf_base::proofs::WordLaws::no_words))]
 fn sum_of(b: &Block<'_>, count: usize) -> u32
     requires { count ≤ 128 }
     ensures { result ≡ sum_of count b.now }

@@ -1,7 +1,7 @@
 // The rigid disk block, and the blocks kept for a disk's tables.
 
 ghost use Rattle.std.specs.Prelude.{◌≡◌, ◌≤◌, ◌+◌, ◌*◌, length, IfErr, IfNone, IfOk, IfSome};
-ghost use Rattle.adf_fields.specs.Words.{block};
+ghost use Rattle.adf_base.specs.Words.{block};
 ghost use Rattle.adf_partitions.specs.Tables.{HasNoRdsk, HasNoTables, IsRdsk, IsTables, is_rdsk, is_table, tables_at};
 
 use crate::fault::{DiskCause, DiskFault, disk_fault};
@@ -9,7 +9,7 @@ use crate::layout::{
     BLOCK_BYTES, FIRST_PART, HIGHEST_TABLE, LOWEST_TABLE, MARK, MOST_TABLES, RDSK, RDSK_BLOCKS,
 };
 use crate::summed::{holds, is_summed};
-use adf_fields::Block;
+use adf_base::Block;
 
 /// Where a disk's tables are, as its rigid disk block says.
 #[derive(Clone, Copy, Debug, PartialEq, Eq)]

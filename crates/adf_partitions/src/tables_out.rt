@@ -1,7 +1,7 @@
 // The tables of a hard disk: writer.
 
 ghost use Rattle.std.specs.Prelude.{◌≡◌, ◌≤◌, ◌<◌, ◌+◌, ◌-◌, ◌*◌, ◌++◌, ℕ, List, IfOk, length};
-ghost use Rattle.adf_fields.specs.Words.{with_bytes};
+ghost use Rattle.adf_base.specs.Words.{with_bytes};
 ghost use Rattle.adf_blocks.specs.Fields.{text};
 ghost use Rattle.adf_partitions.specs.Disks.{IsDisk};
 ghost use Rattle.adf_partitions.specs.Plans.{PlanValue, AreVolumes, IsPartitionPlan, IsPlan, StandInPlaces, cylinder_blocks, planned_blocks, planned_cylinders, planned_partitions, plan_value};
@@ -16,7 +16,7 @@ use crate::plan::{
     DiskPlan, PartitionPlan, cylinder_blocks, planned_cylinders, planned_flags, planned_type,
     table_cylinders,
 };
-use adf_fields::{BLOCK_LEN, put_bytes, put_words, seal_block};
+use adf_base::{BLOCK_LEN, put_bytes, put_words, seal_block};
 use std::alloc::{AllocError, Global};
 
 // The number of the first partition blocks behind block `b`, if there is one.
@@ -77,7 +77,7 @@ fn rdsk_bytes(plan: &DiskPlan) -> [u8; 512]
 }
 
 // Writes the name of a drive into a partition block.
-#[tactic(auto, using(adf_fields::proofs::WordLaws::side_by_side))]
+#[tactic(auto, using(adf_base::proofs::WordLaws::side_by_side))]
 fn put_name(block: &mut [u8; 512], name: &[u8])
     requires { length name.now ≤ 31 }
     ensures { block.new ≡ with_bytes block.old DRIVE_NAME (text name.now) }

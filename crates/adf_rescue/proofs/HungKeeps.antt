@@ -7,8 +7,8 @@ use Rattle.std.proofs.Common.{◌∙◌, ap, arith, inl, inr, refl, subst, sym}
 use Rattle.std.proofs.lemmas.Bool.{and_from, and_left, and_parts, and_right, cases_Bool, cond-false, cond-true, not_from_true}
 use Rattle.std.proofs.lemmas.Bool.Decides.{nat_tests}
 use Rattle.std.proofs.lemmas.List.{length-replicate}
-use Rattle.adf_fields.specs.Words.{block, checksum, with_block, with_bytes, with_word}
-use Rattle.adf_fields.proofs.WordLaws.{block_other, length-block, length-with_bytes, length-with_word}
+use Rattle.adf_base.specs.Words.{block, checksum, with_block, with_bytes, with_word}
+use Rattle.adf_base.proofs.WordLaws.{block_other, length-block, length-with_bytes, length-with_word}
 use Rattle.adf_tree.specs.declared.entry.Kind.TheVariants.{Ofs, Ffs}
 use Rattle.adf_blocks.specs.declared.layout.TheConstants.{CHECKSUM, FIRST_SLOT, NEXT_IN_CHAIN, PARENT, SLOTS}
 use Rattle.adf_blocks.specs.HeadBlock.{FitsHead, head_block}

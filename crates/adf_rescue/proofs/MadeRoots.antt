@@ -9,9 +9,9 @@ use Rattle.std.proofs.lemmas.Bool.Decides.{nat_tests}
 use Rattle.std.proofs.lemmas.List.{length-take}
 use Rattle.std.proofs.lemmas.List.Edits.{fill_by_more}
 use Rattle.std.proofs.lemmas.List.FromFn.{get_or-map-range_with_len, length-map-range_with_len}
-use Rattle.adf_fields.specs.Dates.{IsStamp}
-use Rattle.adf_fields.specs.Words.{block, long_sum, with_block, word}
-use Rattle.adf_fields.proofs.WordLaws.{block_written, drop-with_bytes_above, front-with_bytes, length-with_bytes, range-with_bytes_below}
+use Rattle.adf_base.specs.Dates.{IsStamp}
+use Rattle.adf_base.specs.Words.{block, long_sum, with_block, word}
+use Rattle.adf_base.proofs.WordLaws.{block_written, drop-with_bytes_above, front-with_bytes, length-with_bytes, range-with_bytes_below}
 use Rattle.adf_tree.specs.Bounds.{AreStamps}
 use Rattle.adf_tree.specs.declared.entry.Stamps.{Stamps}
 use Rattle.adf_blocks.specs.declared.layout.TheConstants.{FIRST_SLOT, MOST_BLOCKS, NAME, ROOT_PAGES, SLOTS}

@@ -6,7 +6,7 @@ use Rattle.std.specs.Prelude.{◌==◌, ◌&&◌, nat_le, slice_index, slice_ran
 use Rattle.std.proofs.lemmas.Bool.{and_from, and_left, and_parts, and_right, cases_Bool, cases_lt, cond-false, cond-true, cond_both}
 use Rattle.std.proofs.lemmas.Bool.{not_from_false, not_from_true, or_from, or_left, or_right}
 use Rattle.std.proofs.lemmas.List.{drop-drop, get_or-take, length-take, take_all}
-use Rattle.adf_fields.specs.Words.{block, long_sum, with_bytes, word}
+use Rattle.adf_base.specs.Words.{block, long_sum, with_bytes, word}
 use Rattle.adf_tree.specs.Tree.{Tree}
 use Rattle.adf_blocks.specs.declared.layout.TheConstants.{FIRST_SLOT, SLOTS}
 use Rattle.adf_blocks.specs.RootBlock.{label_stated, root_block, stamps_at}

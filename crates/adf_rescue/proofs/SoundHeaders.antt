@@ -5,7 +5,7 @@ use Rattle.std.proofs.Common.{Bool, true, false, cond, Result, Ok, Err}
 use Rattle.std.specs.Prelude.{◌==◌, nat_le, slice_index}
 use Rattle.std.proofs.lemmas.Bool.{and_from, and_parts, and_right, eq-eqb, leb-true, ne_eqb}
 use Rattle.std.proofs.lemmas.List.{length-take, take_all}
-use Rattle.adf_fields.specs.Words.{block, word}
+use Rattle.adf_base.specs.Words.{block, word}
 use Rattle.adf_tree.specs.declared.entry.Body.{Body}
 use Rattle.adf_tree.specs.declared.entry.Body.TheVariants.{Dir, File}
 use Rattle.adf_tree.specs.declared.entry.Entry.{Entry}

@@ -2,7 +2,7 @@
 -- Letters: b the bytes of a block, or its number in an image; i the number of a bitmap page.
 use Rattle.std.specs.Prelude.{ℕ, ◌+◌, ◌==◌, ◌&&◌, ◌||◌, not, nat_le, nat_lt, Bool, cond, List, [], map}
 use Rattle.std.specs.List.{range_with_len}
-use Rattle.adf_fields.specs.Words.{block, long_sum, with_block, word}
+use Rattle.adf_base.specs.Words.{block, long_sum, with_block, word}
 use Rattle.adf_tree.specs.declared.entry.Stamps.{Stamps}
 use Rattle.adf_blocks.specs.declared.layout.TheConstants.{FIRST_PAGE, FIRST_SLOT, ROOT_PAGES, SLOTS, TYPE, T_DATA, T_LIST, T_SHORT}
 use Rattle.adf_blocks.specs.RootBlock.{RootFields, label_stated, root_block, stamps_at}

@@ -2,7 +2,7 @@
 -- Letters: b the number of a block; k a number of blocks.
 use Rattle.std.specs.Prelude.{ℕ, ◌==◌, ◌&&◌, ◌||◌, not, nat_lt, Bool, false, cond, List, ◌∷◌, ◌++◌, codes, drop, length, slice_index}
 use Rattle.std.proofs.Common.{zero, suc}
-use Rattle.adf_fields.specs.Words.{block, long_sum}
+use Rattle.adf_base.specs.Words.{block, long_sum}
 use Rattle.adf_blocks.specs.declared.layout.TheConstants.{DATA_HEAD, OWN_KEY, SECONDARY_TYPE, ST_FILE, TYPE, T_DATA, T_SHORT}
 use Rattle.adf_blocks.specs.Sizes.{blocks}
 use Rattle.adf_volume.specs.Image.{word_in}

@@ -1,7 +1,7 @@
 // The hung image: each lost header hangs in the directory that it names, or in the root.
 
 ghost use Rattle.std.specs.Prelude.{◌≡◌, ◌≢◌, ◌<◌, ◌≤◌, ◌||◌, ◌&&◌, ◌==◌, ◌↔◌, ℕ, List, Some, None, true, false, length, is_some, IfOk, IfSome, IsNone, OnOk};
-ghost use Rattle.adf_fields.specs.Words.{block, with_block};
+ghost use Rattle.adf_base.specs.Words.{block, with_block};
 ghost use Rattle.adf_blocks.specs.HeadBlock.{head_block};
 ghost use Rattle.adf_blocks.specs.declared.layout.TheConstants.{PARENT};
 ghost use Rattle.adf_blocks.specs.Sizes.{blocks};
@@ -20,8 +20,8 @@ use crate::image::{block_count, is_image_len, root_of};
 use crate::lost::{directory_at, is_inside, is_marked, lost, mark, says_directory, word_in};
 use crate::opened::copied;
 use crate::rooms::lost_name;
+use adf_base::{NoMemory, Stamp, seal, set_bytes, set_word};
 use adf_blocks::{FIRST_SLOT, HeadOut, HeadOutBody, NEXT_IN_CHAIN, PARENT, SLOTS, write_head};
-use adf_fields::{NoMemory, Stamp, seal, set_bytes, set_word};
 use adf_findings::Survey;
 use adf_tree::{Comment, Meta, Name};
 use std::alloc::Global;

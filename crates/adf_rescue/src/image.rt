@@ -1,13 +1,13 @@
 // The blocks of an image.
 
 ghost use Rattle.std.specs.Prelude.{◌≡◌, ◌<◌, ◌+◌, ◌*◌, ◌≤◌, ◌^◌, length, true};
-ghost use Rattle.adf_fields.specs.Words.{block};
+ghost use Rattle.adf_base.specs.Words.{block};
 ghost use Rattle.adf_blocks.specs.Sizes.{blocks};
 ghost use Rattle.adf_volume.specs.Image.{root_of};
 ghost use Rattle.adf_volume.specs.Start.{is_image_len};
 
+use adf_base::{BLOCK_LEN, Block};
 use adf_blocks::is_allowed_size;
-use adf_fields::{BLOCK_LEN, Block};
 
 /// Whether a volume may have this number of bytes.
 pub fn is_image_len(size: usize) -> bool

@@ -15,8 +15,8 @@ ghost use Rattle.adf_rescue.specs.Lost.{is_unfound, says_directory, says_header}
 
 use crate::image::{block_count, block_in, root_of};
 use crate::opened::says_file;
+use adf_base::{BLOCK_LEN, NoMemory};
 use adf_blocks::{FIRST_POINTER, OWN_KEY, PARENT, SECONDARY_TYPE, SIZE, ST_DIR, T_SHORT, TYPE};
-use adf_fields::{BLOCK_LEN, NoMemory};
 use adf_findings::Survey;
 use adf_tree::Node;
 use std::alloc::Global;

@@ -6,11 +6,11 @@ ghost use Rattle.adf_volume.specs.Start.{is_image_len};
 ghost use Rattle.adf_rescue.specs.MadeRoot.{has_root, is_page, label_in, page_found, pages_in, rooted, says_page, slots_in, stamps_in};
 
 use crate::image::{block_in, root_of};
+use adf_base::{BLOCK_LEN, Block, Stamp};
 use adf_blocks::{
     FIRST_PAGE, FIRST_SLOT, ROOT_PAGES, RootOut, SLOTS, T_DATA, T_LIST, T_SHORT, TYPE,
     has_root_type, label_stated, stamps_stated, write_root,
 };
-use adf_fields::{BLOCK_LEN, Block, Stamp};
 use adf_tree::{Label, Stamps};
 
 /// Whether the middle block is a whole root: by its types and its sum.

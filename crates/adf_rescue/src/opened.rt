@@ -12,8 +12,8 @@ ghost use Rattle.adf_rescue.specs.Opened.{begins_with_dos, begun, has_data, is_m
 
 use crate::image::{block_in, is_image_len};
 use crate::made_root::{has_root, make_root};
+use adf_base::{BLOCK_LEN, NoMemory, put_bytes};
 use adf_blocks::{DATA_HEAD, OWN_KEY, SECONDARY_TYPE, ST_FILE, T_DATA, T_SHORT, TYPE};
-use adf_fields::{BLOCK_LEN, NoMemory, put_bytes};
 use std::alloc::Global;
 
 /// Whether block `b` says that it is a file's header.

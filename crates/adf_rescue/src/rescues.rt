@@ -12,8 +12,8 @@ ghost use Rattle.adf_rescue.specs.Salvage.{free_blocks as blocks_free, IsSalvage
 
 use crate::left_out::LeftOut;
 use crate::salvage::Salvage;
+use adf_base::NoMemory;
 use adf_build::{build, free_blocks};
-use adf_fields::NoMemory;
 use adf_findings::{Opening, Survey, some_survey};
 use adf_tree::{Draft, Node};
 use std::alloc::Global;

@@ -6,7 +6,7 @@ ghost use Rattle.adf_tree.specs.Draft.{IsDirectoryOf};
 ghost use Rattle.adf_rescue.specs.Rescue.{lost_name, path_for, path_in};
 ghost use Rattle.adf_rescue.specs.Salvage.{IsRoomOf};
 
-use adf_fields::NoMemory;
+use adf_base::NoMemory;
 use adf_tree::{Draft, Name, Node, Room};
 use std::alloc::Global;
 

@@ -17,8 +17,8 @@ ghost use Rattle.adf_rescue.specs.Salvage.{GoesOn, IsNext, IsRoomOf, IsSalvage, 
 use crate::left_out::{LeftOut, Why};
 use crate::rooms::room_of;
 use crate::standing::{body_as_given, body_of};
+use adf_base::NoMemory;
 use adf_build::{data_blocks, ext_count};
-use adf_fields::NoMemory;
 use adf_findings::{Opening, Survey};
 use adf_tree::{Body, Draft, Kind, Meta, Node, Room};
 use std::alloc::Global;

@@ -2,7 +2,7 @@
 
 ghost use Rattle.std.specs.Prelude.{◌≡◌, ◌==◌, ◌&&◌, ◌≤◌, ◌+◌, ◌*◌, ℕ, Bool, cond, List, IfOk, drop, length, nat_le};
 ghost use Rattle.std.specs.Str.{bytes_eq};
-ghost use Rattle.adf_fields.specs.Words.{block};
+ghost use Rattle.adf_base.specs.Words.{block};
 ghost use Rattle.adf_tree.specs.declared.entry.Body.TheVariants.{File};
 ghost use Rattle.adf_blocks.specs.HeadBlock.{is_link};
 ghost use Rattle.adf_volume.specs.Image.{word_in};
@@ -12,8 +12,8 @@ ghost use Rattle.adf_findings.specs.Survey.{OnSurvey};
 ghost use Rattle.adf_rescue.specs.Rescue.{OnLook, are_same_blocks, as_given, body_of, body_of_type, is_same_block};
 
 use crate::left_out::Why;
+use adf_base::{BLOCK_LEN, Block, NoMemory};
 use adf_blocks::{SECONDARY_TYPE, ST_DIR, ST_LINK_DIR, ST_LINK_FILE, ST_SOFT_LINK};
-use adf_fields::{BLOCK_LEN, Block, NoMemory};
 use adf_findings::{SoundFile, Survey};
 use adf_tree::{Body, Bytes, Node};
 use std::alloc::Global;

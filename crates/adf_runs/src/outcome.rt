@@ -6,7 +6,7 @@ ghost use Rattle.adf_runs.specs.Streams.{Says};
 
 use crate::devices::Sink;
 use crate::streams::{StreamFault, say};
-use adf_fields::NoMemory;
+use adf_base::NoMemory;
 use std::alloc::AllocError;
 use std::io;
 

@@ -1,7 +1,7 @@
 -- The lines of what is found.
 -- Letters: w the walk of a survey; k, n how many entries; i a number of an entry; text what stands in front.
 use Rattle.std.proofs.Common.{◌≡◌, ◌≤◌, ◌+◌, ◌++◌, ◌∙◌, ℕ, List, [], ◌∷◌, Bool, append_assoc, append-nil, arith, ap, refl, sym, true, false}
-use Rattle.adf_fields.specs.declared.dates.Stamp.{Stamp}
+use Rattle.adf_base.specs.declared.dates.Stamp.{Stamp}
 use Rattle.adf_volume.specs.Walk.{Role, heads}
 use Rattle.adf_texts.proofs.Ranges.{flat_map_front, flat_map_next}
 use Rattle.adf_survey_cmd.specs.FoundLines.{found_lines, found_text, lines_of_found, opening_text}

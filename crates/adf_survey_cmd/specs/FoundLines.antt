@@ -2,8 +2,8 @@
 -- Letters: w the walk of an image's survey, fs its findings; n an entry's node, h the block of its header; k how many entries.
 use Rattle.std.specs.Prelude.{ℕ, Bool, true, false, List, [], ◌∷◌, ◌++◌, codes}
 use Rattle.std.specs.List.{flat_map, range_with_len}
-use Rattle.adf_fields.specs.Words.{block}
-use Rattle.adf_fields.specs.declared.dates.Stamp.{Stamp}
+use Rattle.adf_base.specs.Words.{block}
+use Rattle.adf_base.specs.declared.dates.Stamp.{Stamp}
 use Rattle.adf_blocks.specs.HeadBlock.{body_at, meta_stated}
 use Rattle.adf_volume.specs.Walk.{Role, heads, node_block}
 use Rattle.adf_findings.specs.Lookup.{path_to}

@@ -2,7 +2,7 @@
 
 ghost use Rattle.std.specs.Prelude.{◌≡◌, ◌++◌, ◌≤◌, ℕ, List, OnErr, OnOk, false};
 ghost use Rattle.std.specs.Io.KnownBytes.{Appends};
-ghost use Rattle.adf_fields.specs.declared.dates.Stamp.{Stamp};
+ghost use Rattle.adf_base.specs.declared.dates.Stamp.{Stamp};
 ghost use Rattle.adf_volume.specs.Walk.{heads};
 ghost use Rattle.adf_findings.specs.Opening.{opening_in};
 ghost use Rattle.adf_findings.specs.Survey.{OnSurvey};

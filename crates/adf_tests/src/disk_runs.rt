@@ -4,8 +4,8 @@ ghost use Rattle.std.specs.Prelude.{length};
 
 use crate::disks::changed;
 use crate::memory::{Given, Kept};
+use adf_base::{seal, set_word};
 use adf_disk_cmd::run;
-use adf_fields::{seal, set_word};
 use std::alloc::{AllocError, Global};
 use std::test::Fail;
 

@@ -3,7 +3,7 @@
 
 ghost use Rattle.std.specs.Prelude.{length};
 
-use adf_fields::{seal, set_word};
+use adf_base::{seal, set_word};
 use adf_memory::{TableDisk, TablePartition, put_disk};
 use adf_partitions::{Disk, DiskCause, DiskFault, Partition, Place, PlaceFault, disk_fault};
 use std::alloc::{AllocError, Global};

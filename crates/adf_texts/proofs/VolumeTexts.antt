@@ -1,6 +1,6 @@
 -- The lines of `list`: of a row, and of the first entries.
 use Rattle.std.proofs.Common.{◌≡◌, ◌≤◌, ◌+◌, ℕ, List, [], ◌++◌, refl, ap, ◌∙◌, arith}
-use Rattle.adf_fields.specs.declared.dates.Stamp.{Stamp}
+use Rattle.adf_base.specs.declared.dates.Stamp.{Stamp}
 use Rattle.adf_tree.specs.declared.entry.Body.{Body}
 use Rattle.adf_tree.specs.declared.entry.Body.TheVariants.{Dir, File}
 use Rattle.adf_tree.specs.declared.entry.Entry.{Entry}

@@ -5,7 +5,7 @@ use Rattle.std.specs.List.{Contains}
 use Rattle.std.proofs.lemmas.Bool.{and_from, eq-eqb}
 use Rattle.std.proofs.lemmas.List.Elements.{Contains-get_or, All-contains, filter_passes}
 use Rattle.adf_tree.specs.declared.entry.Entry.{Entry}
-use Rattle.adf_fields.specs.Hash.{slot_of}
+use Rattle.adf_base.specs.Hash.{slot_of}
 use Rattle.adf_tree.specs.Chain.{in_chain, chain}
 use Rattle.adf_tree.specs.Tree.{child, IsTree}
 use Rattle.adf_tree.specs.Laws.{IsChild, IsIn}

@@ -11,7 +11,7 @@ use Rattle.std.proofs.lemmas.List.Sums.{position_or_len_is}
 use Rattle.std.proofs.lemmas.Slice.Eq.{bytes_eq-Decides}
 use Rattle.std.proofs.lemmas.Bool.Decides.{nat_tests}
 use Rattle.adf_tree.specs.declared.entry.Entry.{Entry}
-use Rattle.adf_fields.specs.Hash.{slot_of, hash_more, upper_of}
+use Rattle.adf_base.specs.Hash.{slot_of, hash_more, upper_of}
 use Rattle.adf_tree.specs.Texts.{uppers}
 use Rattle.adf_tree.specs.Tree.{rank, rank_of, is_child, child, place, renumbered, moved, added, IsTree, IsDir, MayAdd}
 use Rattle.adf_tree.proofs.TreeInvariant.{after, moved_same, moved_below, moved_above, moved_up, moved_near, added_tree, place_le, dir_before, length_added}

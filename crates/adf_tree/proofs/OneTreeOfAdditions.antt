@@ -7,7 +7,7 @@ use Rattle.std.proofs.lemmas.Bool.{cases_Bool}
 use Rattle.std.proofs.lemmas.List.{append_assoc, append_cancel_left, map-append, get_or_append_left, get_or_at, length-append, drop_at}
 use Rattle.std.proofs.lemmas.List.Elements.{filter-append, filter_passes, All-filter}
 use Rattle.adf_tree.specs.declared.entry.Entry.{Entry}
-use Rattle.adf_fields.specs.Hash.{slot_of}
+use Rattle.adf_base.specs.Hash.{slot_of}
 use Rattle.adf_tree.specs.Chain.{chain, in_chain}
 use Rattle.adf_tree.specs.Paths.{entry_content, path_in, path_of, Content}
 use Rattle.adf_tree.specs.Tree.{rank, rank_of, IsTree}

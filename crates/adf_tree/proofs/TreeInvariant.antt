@@ -10,7 +10,7 @@ use Rattle.std.proofs.lemmas.List.Sums.{fails_before_first, passes_at_first, pre
 use Rattle.std.proofs.lemmas.List.Sorted.{IsNonDecreasingBy-insert}
 use Rattle.std.proofs.lemmas.Bool.Decides.{nat_tests}
 use Rattle.adf_tree.specs.declared.entry.Entry.{Entry}
-use Rattle.adf_fields.specs.Hash.{slot_of}
+use Rattle.adf_base.specs.Hash.{slot_of}
 use Rattle.adf_tree.specs.Tree.{place, rank, renumbered, moved, added, IsTree, IsDir, AreApart, MayAdd}
 use Rattle.std.proofs.lemmas.List.Folds.{map_fixed}
 

@@ -1,7 +1,7 @@
 -- The bounds of the fields of a tree.
 use Rattle.std.specs.Prelude.{◌≡◌, ◌<◌, ◌≤◌, ◌^◌, length, true}
 use Rattle.std.specs.List.{All}
-use Rattle.adf_fields.specs.Dates.{IsStamp}
+use Rattle.adf_base.specs.Dates.{IsStamp}
 use Rattle.adf_tree.specs.declared.entry.Body.{Body}
 use Rattle.adf_tree.specs.declared.entry.Body.TheVariants.{Dir, File}
 use Rattle.adf_tree.specs.declared.entry.Entry.{Entry}

@@ -1,7 +1,7 @@
 -- The set of names in the last chain of a tree.
 use Rattle.std.specs.Prelude.{◌≡◌, ℕ, ◌==◌, ◌&&◌, Bool, List, true}
 use Rattle.std.specs.List.{list_any}
-use Rattle.adf_fields.specs.Hash.{slot_of}
+use Rattle.adf_base.specs.Hash.{slot_of}
 use Rattle.adf_tree.specs.Texts.{uppers}
 use Rattle.adf_tree.specs.NameSet.{has, HasMore}
 use Rattle.adf_tree.specs.Tree.{is_child}

@@ -1,7 +1,7 @@
 -- The metadata of an entry. Its fields are named here, and in the code that reads and writes its block.
 use Rattle.std.specs.Prelude.{◌<◌, ◌≤◌, ◌^◌, ℕ, List, length}
-use Rattle.adf_fields.specs.Dates.{IsStamp}
-use Rattle.adf_fields.specs.declared.dates.Stamp.{Stamp}
+use Rattle.adf_base.specs.Dates.{IsStamp}
+use Rattle.adf_base.specs.declared.dates.Stamp.{Stamp}
 use Rattle.adf_tree.specs.declared.entry.Meta.{Meta}
 
 -- the metadata with this comment, these protection bits and this date

@@ -4,7 +4,7 @@ use Rattle.std.specs.Prelude.{drop, Option, Some, None, slice_index_or, position
 use Rattle.std.specs.List.{position_or_len, All, AllPairs, slice_get}
 use Rattle.std.specs.List.Sorted.{IsNonDecreasingBy}
 use Rattle.std.specs.Str.{bytes_eq}
-use Rattle.adf_fields.specs.Hash.{slot_of}
+use Rattle.adf_base.specs.Hash.{slot_of}
 use Rattle.adf_tree.specs.Texts.{uppers}
 use Rattle.adf_tree.specs.declared.entry.Entry.{Entry}
 use Rattle.std.specs.Option.{unwrap_or}

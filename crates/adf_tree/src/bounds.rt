@@ -1,10 +1,10 @@
 // The bounds of the fields of a tree.
 
-ghost use Rattle.adf_fields.specs.Dates.{IsStamp};
+ghost use Rattle.adf_base.specs.Dates.{IsStamp};
 ghost use Rattle.adf_tree.specs.Bounds.{IsBoundedEntry, IsData};
 
 use crate::entry::{Body, Entry};
-use adf_fields::Stamp;
+use adf_base::Stamp;
 
 /// The numbers of a date fit in 32 bits.
 pub fn date_bounds(stamp: &Stamp)

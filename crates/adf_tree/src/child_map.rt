@@ -9,7 +9,7 @@ ghost use Rattle.adf_tree.specs.ChildMap.{bucket_of, by_child, child_key, number
 use crate::entry::Node;
 use crate::name::Name;
 use crate::name_key::NameKey;
-use adf_fields::NoMemory;
+use adf_base::NoMemory;
 use std::alloc::Global;
 use std::collections::BTreeMap;
 

@@ -14,7 +14,7 @@ use crate::lookup::is_dir;
 use crate::name::Name;
 use crate::short_text::Label;
 use crate::tree::{AddFault, RoomFault, Tree};
-use adf_fields::NoMemory;
+use adf_base::NoMemory;
 use std::alloc::Global;
 use std::marker::Model;
 

@@ -7,7 +7,7 @@ ghost use Rattle.adf_tree.specs.Meta.{IsBoundedMeta, new_meta};
 use crate::bounds::date_bounds;
 use crate::name::Name;
 use crate::short_text::Comment;
-use adf_fields::Stamp;
+use adf_base::Stamp;
 use std::fmt;
 use std::marker::Model;
 

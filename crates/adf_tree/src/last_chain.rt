@@ -12,7 +12,7 @@ use crate::name::Name;
 use crate::name_set::NameSet;
 use crate::tree::AddFault;
 use crate::walk_order::{insert_entry, place_of, start_of};
-use adf_fields::slot;
+use adf_base::slot;
 use std::alloc::Global;
 
 /// The names, in upper case, of the entries of one parent and slot, if they are known.

@@ -31,4 +31,4 @@ pub use crate::name_set::NameSet;
 pub use crate::path_texts::{PathFault, path_texts_decide, read_path, write_path};
 pub use crate::short_text::{Comment, Label, ShortText};
 pub use crate::tree::{AddFault, RoomFault, Tree};
-pub use adf_fields::{Letters, slot, upper};
+pub use adf_base::{Letters, slot, upper};

@@ -11,7 +11,7 @@ use crate::last_chain::LastChain;
 use crate::name::Name;
 use crate::tree::RoomFault;
 use crate::walk_order::{place_of, start_of};
-use adf_fields::slot;
+use adf_base::slot;
 
 // Whether the entry has this parent and this name, ignoring case.
 fn is_child(e: &Entry, parent: Node, name: &Name) -> bool

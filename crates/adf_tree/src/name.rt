@@ -5,7 +5,7 @@ ghost use Rattle.std.specs.List.{list_all};
 ghost use Rattle.std.specs.Str.{bytes_eq};
 ghost use Rattle.adf_tree.specs.Texts.{is_name, is_name_byte, uppers, uppers_by};
 
-use adf_fields::{Letters, upper, upper_by};
+use adf_base::{Letters, upper, upper_by};
 use arrayvec::ArrayVec;
 use std::marker::Model;
 

@@ -5,7 +5,7 @@ ghost use Rattle.adf_tree.specs.Texts.{uppers};
 ghost use Rattle.adf_tree.specs.NameKeys.{is_short, key_of_name, padded, spread_of, hashed, name_word};
 
 use crate::name::Name;
-use adf_fields::upper;
+use adf_base::upper;
 
 /// A name in upper case, its length before its bytes, as four numbers.
 #[derive(Clone, Copy, PartialEq, Eq, PartialOrd, Ord, Drop)]

@@ -9,7 +9,7 @@ ghost use Rattle.adf_tree.specs.declared.name_set.Probe.TheVariants.{Vacant};
 
 use crate::name::Name;
 use crate::name_key::NameKey;
-use adf_fields::NoMemory;
+use adf_base::NoMemory;
 use std::alloc::Global;
 use std::collections::BTreeSet;
 use std::marker::Model;

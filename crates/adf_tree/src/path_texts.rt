@@ -9,7 +9,7 @@ ghost use Rattle.adf_tree.specs.PathTexts.{between_slashes, path_text, with_name
 
 use crate::escapes::{push_escaped, read_escaped};
 use crate::name::Name;
-use adf_fields::NoMemory;
+use adf_base::NoMemory;
 use std::alloc::{AllocError, Global};
 use std::error::Error;
 use std::fmt;

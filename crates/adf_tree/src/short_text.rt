@@ -5,7 +5,7 @@ ghost use Rattle.std.specs.String.{string_bytes};
 ghost use Rattle.adf_tree.specs.Escapes.{escaped, IsSpelling};
 
 use crate::escapes::{append_escaped, read_escaped};
-use adf_fields::NoMemory;
+use adf_base::NoMemory;
 use arrayvec::ArrayVec;
 use std::marker::Model;
 

@@ -13,7 +13,7 @@ use crate::last_chain::{LastChain, add_entry};
 use crate::lookup::{entry, find, room_for};
 use crate::name::Name;
 use crate::short_text::Label;
-use adf_fields::NoMemory;
+use adf_base::NoMemory;
 use std::alloc::Global;
 use std::error::Error;
 use std::fmt;

@@ -6,7 +6,7 @@ ghost use Rattle.adf_tree.specs.Tree.{added, place, rank, rank_of, renumbered, I
 
 use crate::entry::{Entry, Node};
 use crate::tree::AddFault;
-use adf_fields::slot;
+use adf_base::slot;
 
 // Whether the entry's parent and slot are at most these.
 fn is_at_most(e: &Entry, parent: Node, slot_wanted: u8) -> bool

@@ -7,11 +7,12 @@ use crate::tree_calls::{
     build_and_read_outcome, draft_add_outcome, tree_add_outcome, write_path_outcome,
 };
 use crate::trees::tree_of_lines;
+use adf_base::{NoMemory, Stamp};
 use adf_blocks::Cause;
 use adf_build::build;
 use adf_check::{Owner, Owners};
 use adf_cmd::Work;
-use adf_fields::{NoMemory, Stamp, stamp_text};
+use adf_fields::stamp_text;
 use adf_findings::survey;
 use adf_runs::{Sink, run_program_on};
 use adf_tree::{Comment, Label, Node};

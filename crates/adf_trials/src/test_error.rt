@@ -1,8 +1,8 @@
 // What can be wrong with a row.
 
+use adf_base::NoMemory;
 use adf_check::Fault;
 use adf_cmd::ManifestFault;
-use adf_fields::NoMemory;
 use adf_tree::PathFault;
 use std::alloc::{AllocError, AllocFailed};
 

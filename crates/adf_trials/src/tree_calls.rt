@@ -2,9 +2,9 @@
 
 use crate::calls::CallOutcome;
 use crate::trees::{is_tree, tree_of_lines};
+use adf_base::Stamp;
 use adf_build::BuildFault;
 use adf_cmd::build_and_read;
-use adf_fields::Stamp;
 use adf_tree::{
     AddFault, Body, Bytes, Comment, Draft, Kind, Label, Meta, Name, Node, Stamps, Tree, write_path,
 };

@@ -1,7 +1,7 @@
 // Words of blocks, as a line tells them.
 
 use crate::test_error::TestError;
-use adf_fields::{seal, set_word};
+use adf_base::{seal, set_word};
 use std::alloc::{AllocError, Global};
 
 /// Words of blocks with their values: `BLOCK WORD HEX`, where a block and a word may be a range `FROM-TO`,

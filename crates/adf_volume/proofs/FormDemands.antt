@@ -6,9 +6,9 @@ use Rattle.adf_blocks.specs.declared.cause.Cause.{Cause}
 use Rattle.adf_blocks.specs.declared.cause.Cause.TheVariants.{BadType, Link, WrongSlot}
 use Rattle.adf_blocks.specs.declared.layout.TheConstants.{NAME, SECONDARY_TYPE, ST_DIR, ST_FILE, TYPE, T_SHORT}
 use Rattle.adf_tree.specs.declared.entry.Kind.{Kind}
-use Rattle.adf_fields.specs.Words.{block}
+use Rattle.adf_base.specs.Words.{block}
 use Rattle.adf_volume.specs.Image.{word_in, name_of}
-use Rattle.adf_fields.specs.Hash.{slot_of}
+use Rattle.adf_base.specs.Hash.{slot_of}
 use Rattle.adf_volume.specs.Demands.{AllHold, FirstFails, demands_at}
 use Rattle.adf_volume.specs.Lists.{In}
 use Rattle.adf_blocks.specs.Forms.{first_cause, text_at}

@@ -3,8 +3,8 @@ use Rattle.std.specs.Prelude.{Some, None, cond, slice_index}
 use Rattle.std.proofs.Common.{◌≡◌, ◌<◌, ℕ, List, [], ◌∷◌, ◌++◌, Bool, true, false, inl, inr, length, refl, ap, arith}
 use Rattle.std.proofs.lemmas.Bool.{lt-ltb}
 use Rattle.std.proofs.lemmas.Bool.Decides.{nat_tests}
-use Rattle.adf_fields.specs.Words.{block}
-use Rattle.adf_fields.specs.declared.hash.Letters.TheVariants.{Ascii, International}
+use Rattle.adf_base.specs.Words.{block}
+use Rattle.adf_base.specs.declared.hash.Letters.TheVariants.{Ascii, International}
 use Rattle.adf_blocks.specs.declared.cause.Cause.{Cause}
 use Rattle.adf_blocks.specs.declared.cause.Cause.TheVariants.{BadSize}
 use Rattle.adf_blocks.specs.Forms.{first_cause}

@@ -1,7 +1,7 @@
 -- Lengths of blocks and contents, and the numbers of pages and bitmap extension blocks.
 use Rattle.std.proofs.Common.{◌≡◌, ℕ, suc, List, [], ◌∷◌, ◌+◌, ◌-◌, ◌/◌, ◌*◌, ◌^◌, ◌<◌, ◌≤◌, arith, refl, sym, ◌∙◌, length}
 use Rattle.std.proofs.Common.{length-append, length-drop, length-take}
-use Rattle.adf_fields.specs.Words.{block}
+use Rattle.adf_base.specs.Words.{block}
 use Rattle.adf_blocks.specs.declared.layout.TheConstants.{MAP_EXT_PAGES, PAGE_BITS, ROOT_PAGES, SIZE}
 use Rattle.adf_volume.specs.Lists.{At}
 use Rattle.adf_tree.specs.declared.entry.Kind.{Kind}

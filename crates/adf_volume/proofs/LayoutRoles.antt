@@ -2,7 +2,7 @@
 use Rattle.std.proofs.Common.{◌≡◌, ℕ, zero, suc, List, [], ◌∷◌, ◌++◌, inl, inr, ◌+◌, ◌<◌, ◌≤◌, length, refl, sym, ap, subst, ◌∙◌, arith}
 use Rattle.adf_volume.specs.Lists.{At, In, numbered}
 use Rattle.adf_blocks.specs.Sizes.{blocks}
-use Rattle.adf_fields.specs.Hash.{slot_of}
+use Rattle.adf_base.specs.Hash.{slot_of}
 use Rattle.adf_tree.specs.Tree.{Tree}
 use Rattle.adf_volume.specs.Layout.{chain_nodes, Place, Layout, head_at, exts_at, datas_at, owned_from, owned}
 use Rattle.adf_volume.specs.declared.owner.Owner.{Owner}

@@ -2,7 +2,7 @@
 use Rattle.std.proofs.Common.{◌≡◌, ℕ, suc, List, ◌<◌, length, refl, sym, ap, subst, ◌∙◌, arith}
 use Rattle.adf_blocks.specs.declared.layout.TheConstants.{SECONDARY_TYPE, ST_DIR, ST_FILE}
 use Rattle.adf_volume.specs.Lists.{At}
-use Rattle.adf_fields.specs.Hash.{slot_of}
+use Rattle.adf_base.specs.Hash.{slot_of}
 use Rattle.adf_volume.specs.Image.{name_of, word_in, meta_of, content}
 use Rattle.adf_tree.specs.declared.entry.Body.{Body}
 use Rattle.adf_tree.specs.declared.entry.Entry.{Entry}

@@ -1,7 +1,7 @@
 -- The demands on a part that has no cause, by name.
 use Rattle.std.proofs.Common.{ℕ, List, [], ◌∷◌, ◌<◌, ◌≤◌}
-use Rattle.adf_fields.specs.declared.hash.Letters.{Letters}
-use Rattle.adf_fields.specs.declared.hash.Letters.TheVariants.{Ascii}
+use Rattle.adf_base.specs.declared.hash.Letters.{Letters}
+use Rattle.adf_base.specs.declared.hash.Letters.TheVariants.{Ascii}
 use Rattle.adf_blocks.specs.declared.cause.Cause.TheVariants.{SameName}
 use Rattle.adf_blocks.specs.Sizes.{blocks}
 use Rattle.adf_volume.specs.Demands.{AllHold, demand}

@@ -1,6 +1,6 @@
 -- Fits holds of the smallest volume.
 use Rattle.std.proofs.Common.{◌≡◌, ℕ, zero, suc, inl, inr, ◌+◌, ◌-◌, ◌/◌, ◌%◌, ◌<◌, ◌≤◌, refl, sym, ap, subst, ◌∙◌, arith}
-use Rattle.adf_fields.specs.Words.{block, word, words}
+use Rattle.adf_base.specs.Words.{block, word, words}
 use Rattle.adf_tree.specs.declared.entry.Entry.{Entry}
 use Rattle.adf_tree.specs.Tree.{IsDir}
 use Rattle.adf_volume.specs.declared.owner.Owner.{Owner}

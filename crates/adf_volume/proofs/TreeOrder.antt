@@ -2,7 +2,7 @@
 use Rattle.std.proofs.Common.{◌≡◌, ℕ, zero, suc, ◌+◌, ◌-◌, ◌*◌, ◌<◌, ◌≤◌, ◌≢◌, length, sym, ap, subst, ◌∙◌, arith}
 use Rattle.std.specs.Prelude.{slice_index_or}
 use native.Mathlib.Decide.{dec_lt, ℕ_discrete}
-use Rattle.adf_fields.specs.Hash.{slot_of}
+use Rattle.adf_base.specs.Hash.{slot_of}
 use Rattle.adf_tree.specs.declared.entry.Entry.{Entry}
 use Rattle.adf_tree.specs.declared.entry.Body.TheVariants.{Dir}
 use Rattle.adf_tree.specs.Tree.{Tree, IsDir, IsTree, AreApart, rank}

@@ -5,7 +5,7 @@ use Rattle.adf_blocks.specs.declared.layout.TheConstants.{ST_FILE}
 use Rattle.adf_volume.specs.Lists.{At}
 use Rattle.adf_blocks.specs.Sizes.{blocks, pages_needed}
 use Rattle.adf_volume.specs.Image.{root_of, word_in, table_word}
-use Rattle.adf_fields.specs.Hash.{slot_of}
+use Rattle.adf_base.specs.Hash.{slot_of}
 use Rattle.adf_tree.specs.declared.entry.Body.{Body}
 use Rattle.adf_tree.specs.declared.entry.Entry.{Entry}
 use Rattle.adf_tree.specs.Tree.{Tree}

@@ -7,7 +7,7 @@ use Rattle.adf_blocks.specs.declared.layout.TheConstants.{MAP_EXT_PAGES, POINTER
 use Rattle.adf_volume.specs.Lists.{At}
 use Rattle.adf_blocks.specs.Sizes.{blocks, pages_needed}
 use Rattle.adf_volume.specs.Image.{kind_of, table_word, name_of, root_of}
-use Rattle.adf_fields.specs.Hash.{slot_of}
+use Rattle.adf_base.specs.Hash.{slot_of}
 use Rattle.adf_volume.specs.Layout.{nodes_from}
 use Rattle.adf_volume.specs.Walk.{Role, second, Has, HeadAt, head_count, heads, data_count, NamesPage, Asks, IsDue, Lacks, ext_count_of}
 use Rattle.adf_volume.specs.Walk.{ext_count, NoCause, IsWalk}

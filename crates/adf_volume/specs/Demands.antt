@@ -1,8 +1,8 @@
 -- The demands on one block: a list of conditions with their causes.
 use Rattle.std.specs.Prelude.{◌≡◌, ℕ, List, [], ◌∷◌, Bool, ◌⊎◌, ◌*◌, length, slice_index, true, not, ◌==◌, ◌&&◌, nat_le}
-use Rattle.adf_fields.specs.Words.{block}
-use Rattle.adf_fields.specs.declared.hash.Letters.{Letters}
-use Rattle.adf_fields.specs.declared.hash.Letters.TheVariants.{Ascii}
+use Rattle.adf_base.specs.Words.{block}
+use Rattle.adf_base.specs.declared.hash.Letters.{Letters}
+use Rattle.adf_base.specs.declared.hash.Letters.TheVariants.{Ascii}
 use Rattle.adf_tree.specs.declared.entry.Kind.{Kind}
 use Rattle.adf_tree.specs.declared.entry.Kind.TheVariants.{Ofs, Ffs}
 use Rattle.adf_blocks.specs.declared.cause.Cause.{Cause}

@@ -1,9 +1,9 @@
 -- The content of an image, by block number.
 use Rattle.std.specs.Prelude.{ℕ, List, [], ◌∷◌, ◌++◌, ◌+◌, ◌-◌, ◌*◌, ◌/◌, ◌%◌, ◌==◌, cond, nat_lt, slice_index, slice_range, take}
 use Rattle.std.proofs.Common.{suc}
-use Rattle.adf_fields.specs.Words.{block, word}
-use Rattle.adf_fields.specs.declared.hash.Letters.{Letters}
-use Rattle.adf_fields.specs.declared.hash.Letters.TheVariants.{Ascii, International}
+use Rattle.adf_base.specs.Words.{block, word}
+use Rattle.adf_base.specs.declared.hash.Letters.{Letters}
+use Rattle.adf_base.specs.declared.hash.Letters.TheVariants.{Ascii, International}
 use Rattle.adf_tree.specs.declared.entry.Kind.{Kind}
 use Rattle.adf_tree.specs.declared.entry.Kind.TheVariants.{Ofs, Ffs}
 use Rattle.adf_tree.specs.declared.entry.Meta.{Meta}

@@ -1,6 +1,6 @@
 -- Images with a valid size, boot block and root.
 use Rattle.std.specs.Prelude.{◌≡◌, ◌/◌, ◌%◌, ◌==◌, ◌&&◌, Bool, ℕ, List, ◌∷◌, ◌++◌, length}
-use Rattle.adf_fields.specs.Words.{block}
+use Rattle.adf_base.specs.Words.{block}
 use Rattle.adf_blocks.specs.declared.cause.Cause.TheVariants.{BadSize}
 use Rattle.adf_blocks.specs.Forms.{Clause}
 use Rattle.adf_tree.specs.declared.entry.Kind.{Kind}

@@ -1,14 +1,14 @@
 // Images with a valid size, boot block and root.
 
 ghost use Rattle.std.specs.Prelude.{◌≡◌, ◌<◌, ◌≤◌};
-ghost use Rattle.adf_fields.specs.Words.{block};
+ghost use Rattle.adf_base.specs.Words.{block};
 ghost use Rattle.adf_blocks.specs.HeadBlock.{body_at};
 ghost use Rattle.adf_blocks.specs.Sizes.{blocks};
 ghost use Rattle.adf_volume.specs.Image.{kind_of, root_of, word_in};
 ghost use Rattle.adf_volume.specs.Start.{IsBegun, IsImage};
 
+use adf_base::Block;
 use adf_blocks::{Directory, HeadBody};
-use adf_fields::Block;
 use adf_tree::Kind;
 use std::marker::Model;
 

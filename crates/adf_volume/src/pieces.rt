@@ -7,8 +7,8 @@ ghost use Rattle.adf_blocks.specs.Sizes.{chunk, count};
 ghost use Rattle.adf_volume.specs.Image.{held, piece, pieces};
 ghost use Rattle.adf_volume.specs.Pieces.{AreInside};
 
+use adf_base::{Block, NoMemory};
 use adf_blocks::{DATA_BYTES, chunk_len, data_count};
-use adf_fields::{Block, NoMemory};
 use adf_tree::Kind;
 use std::alloc::Global;
 use std::marker::Model;

@@ -1,7 +1,7 @@
 // The size, the boot block and the root of an image.
 
 ghost use Rattle.std.specs.Prelude.{◌≡◌, ◌≤◌, ◌++◌, length, IfErr, IfNone, IfOk, IfSome};
-ghost use Rattle.adf_fields.specs.Words.{block};
+ghost use Rattle.adf_base.specs.Words.{block};
 ghost use Rattle.adf_volume.specs.Demands.{AllHold, FirstFails, boot_demands, is_dos, root_demands};
 ghost use Rattle.adf_volume.specs.Image.{kind_of, letters_of, root_of};
 ghost use Rattle.adf_volume.specs.Start.{IsBegun, is_image_len, start_form};
@@ -9,8 +9,8 @@ ghost use Rattle.adf_blocks.specs.Forms.{ReadsForm};
 ghost use Rattle.adf_blocks.specs.Sizes.{blocks, is_allowed};
 
 use crate::image::Image;
+use adf_base::{BLOCK_LEN, Block, Letters};
 use adf_blocks::{Cause, Root, is_allowed_size, read_root};
-use adf_fields::{BLOCK_LEN, Block, Letters};
 use adf_tree::Kind;
 
 // The facts in the size and the first four bytes of an image.

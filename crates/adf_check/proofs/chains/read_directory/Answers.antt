@@ -1,5 +1,5 @@
 use Rattle.std.proofs.Common.{◌≡◌, ◌+◌, ap, sym, ◌∙◌}
-use Rattle.adf_fields.specs.Words.{word}
+use Rattle.adf_base.specs.Words.{word}
 use Rattle.adf_volume.specs.Image.{word_in}
 use Rattle.adf_check.specs.Store.{store_value}
 use Rattle.adf_check.proofs.ChainSteps.{empty_chain}

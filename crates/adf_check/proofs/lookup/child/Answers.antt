@@ -1,7 +1,7 @@
 use Rattle.std.proofs.Common.{◌≡◌, ◌<◌, map, ap, subst, sym, ◌∙◌}
 use Rattle.adf_blocks.specs.declared.layout.TheConstants.{NEXT_IN_CHAIN}
-use Rattle.adf_fields.specs.Hash.{slot_of}
-use Rattle.adf_fields.specs.Words.{word}
+use Rattle.adf_base.specs.Hash.{slot_of}
+use Rattle.adf_base.specs.Words.{word}
 use Rattle.adf_blocks.specs.HeadBlock.{IsHead}
 use Rattle.adf_volume.specs.Image.{word_in}
 use Rattle.adf_tree.specs.Tree.{Tree}

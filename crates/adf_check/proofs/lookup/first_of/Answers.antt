@@ -1,6 +1,6 @@
 use Rattle.std.proofs.Common.{◌≡◌, ◌≢◌, ◌+◌, map, ap, subst, sym, ◌∙◌}
 use Rattle.adf_blocks.specs.declared.layout.TheConstants.{FIRST_SLOT, NEXT_IN_CHAIN, SECONDARY_TYPE, ST_DIR}
-use Rattle.adf_fields.specs.Words.{word}
+use Rattle.adf_base.specs.Words.{word}
 use Rattle.adf_volume.specs.Image.{word_in}
 use Rattle.adf_volume.specs.Layout.{at_node, chain_nodes}
 use Rattle.adf_volume.specs.Lists.{Spelled}

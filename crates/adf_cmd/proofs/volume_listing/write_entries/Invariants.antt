@@ -1,5 +1,5 @@
 use Rattle.std.proofs.Common.{◌≡◌, ◌++◌, ℕ, List, false}
-use Rattle.adf_fields.specs.declared.dates.Stamp.{Stamp}
+use Rattle.adf_base.specs.declared.dates.Stamp.{Stamp}
 use Rattle.adf_tree.specs.Tree.{Tree}
 use Rattle.adf_volume.specs.Layout.{Layout}
 use Rattle.adf_check.specs.Volumes.{StandsFor}

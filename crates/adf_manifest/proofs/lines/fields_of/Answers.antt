@@ -1,6 +1,6 @@
 use Rattle.std.proofs.Common.{◌≡◌, ap, arith, length}
 use Rattle.std.proofs.lemmas.Bool.Decides.{nat_tests}
-use Rattle.adf_fields.specs.Dates.{plain_text}
+use Rattle.adf_base.specs.Dates.{plain_text}
 use Rattle.adf_manifest.specs.Texts.{hex_word}
 use Rattle.adf_manifest.proofs.TokenLaws.{if_none, stamp_lacks}
 use Rattle.adf_manifest.proofs.DigitLaws.{word_lacks}

@@ -1,4 +1,4 @@
-use Rattle.adf_fields.specs.Dates.{plain_text}
+use Rattle.adf_base.specs.Dates.{plain_text}
 use Rattle.adf_manifest.proofs.TokenLaws.{if_none, stamp_lacks, stamps_parts}
 use Rattle.adf_manifest.proofs.tokens.read_stamps.Goals as goal
 

@@ -1,5 +1,5 @@
 use Rattle.std.proofs.Common.{arith, ◌∙◌, ap}
-use Rattle.adf_fields.specs.Hash.{slot_of}
+use Rattle.adf_base.specs.Hash.{slot_of}
 use Rattle.adf_memory.proofs.TableNames.{before_both, found_here, one_more, past_end}
 use Rattle.adf_memory.proofs.lookup.child.Goals as goal
 

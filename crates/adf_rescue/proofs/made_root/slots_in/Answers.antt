@@ -1,6 +1,6 @@
 use Rattle.std.proofs.Common.{◌≡◌, ◌<◌, ◌+◌, ℕ, arith, get_or, rules, subst}
 use Rattle.std.proofs.lemmas.List.FromFn.{fill_by_all}
-use Rattle.adf_fields.specs.Words.{word}
+use Rattle.adf_base.specs.Words.{word}
 use Rattle.adf_blocks.specs.declared.layout.TheConstants.{FIRST_SLOT, SLOTS}
 use Rattle.adf_rescue.proofs.MadeRoots.{fill_step}
 use Rattle.adf_rescue.proofs.made_root.slots_in.Goals as goal

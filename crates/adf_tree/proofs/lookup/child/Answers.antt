@@ -1,5 +1,5 @@
 use Rattle.std.proofs.Common.{arith, sym, ◌∙◌, ap}
-use Rattle.adf_fields.specs.Hash.{slot_of}
+use Rattle.adf_base.specs.Hash.{slot_of}
 use Rattle.adf_tree.proofs.ChildLookup.{child_found, child_not_before, child_not_past, no_children}
 use Rattle.adf_tree.proofs.lookup.child.Goals as goal
 

@@ -1,5 +1,5 @@
 use Rattle.std.proofs.Common.{sym, ◌∙◌, ap}
-use Rattle.adf_fields.specs.Hash.{slot_of}
+use Rattle.adf_base.specs.Hash.{slot_of}
 use Rattle.adf_tree.proofs.LastNames.{known_child}
 use Rattle.adf_tree.proofs.lookup.is_taken.Goals as goal
 

@@ -1,5 +1,5 @@
 use Rattle.std.proofs.Common.{◌≡◌, ◌<◌, ℕ, get_or}
-use Rattle.adf_fields.specs.Hash.{upper_by}
+use Rattle.adf_base.specs.Hash.{upper_by}
 use Rattle.adf_tree.proofs.name.are_same_by.Given as goal
 
 abbrev pub invariant-loop-i : goal.invariant-loop-i

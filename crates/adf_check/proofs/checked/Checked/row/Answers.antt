@@ -1,5 +1,5 @@
 use Rattle.std.proofs.Common.{◌≡◌, ◌-◌, ◌∙◌, suc, ap, subst, sym, arith}
-use Rattle.adf_fields.specs.Words.{block}
+use Rattle.adf_base.specs.Words.{block}
 use Rattle.adf_blocks.specs.HeadBlock.{IsHead}
 use Rattle.adf_check.specs.Store.{store_value}
 use Rattle.adf_volume.specs.Rows.{row_in}

@@ -1,7 +1,7 @@
 use Rattle.std.specs.Prelude.{IfSome}
 use Rattle.std.proofs.Common.{◌≡◌, ◌≤◌, ◌<◌, ◌+◌, ◌*◌, ℕ, List, length, refl, ap, subst, arith}
 use Rattle.adf_blocks.specs.Sizes.{blocks}
-use Rattle.adf_fields.specs.Words.{block}
+use Rattle.adf_base.specs.Words.{block}
 use Rattle.adf_volume.specs.Walk.{node_block}
 use Rattle.adf_findings.proofs.Keeping.{header_inside}
 use Rattle.adf_findings.proofs.survey_result.Survey.header.Goals as goal

@@ -1,6 +1,6 @@
 use Rattle.std.proofs.Common.{◌==◌, ◌∙◌, refl, ap}
 use Rattle.adf_blocks.specs.declared.layout.TheConstants.{SECONDARY_TYPE, ST_FILE}
-use Rattle.adf_fields.specs.Words.{word}
+use Rattle.adf_base.specs.Words.{word}
 use Rattle.adf_findings.proofs.FoundFiles.{file_between, file_told}
 use Rattle.adf_findings.proofs.survey_result.Survey.is_file.Goals as goal
 

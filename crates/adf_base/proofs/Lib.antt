@@ -1,0 +1,2 @@
+-- words and blocks
+pub mod WordLaws

@@ -1,0 +1,7 @@
+use Rattle.std.proofs.Common.{◌≡◌, ◌<◌, length, take}
+use Rattle.std.specs.Prelude.{fold}
+use Rattle.adf_base.specs.Hash.{hash_international}
+use Rattle.adf_base.proofs.hash.slot_international.Given as goal
+
+abbrev pub invariant-loop-c : goal.invariant-loop-c
+invariant-loop-c l = (l.hash ≡ fold hash_international (length l.name) (take l.c-index l.name)) × (l.hash < 2048)

@@ -1,0 +1,3 @@
+pub mod Words
+pub mod Hash
+pub mod Dates

@@ -1,7 +1,0 @@
-use Rattle.std.proofs.Common.{◌≡◌, ◌%◌, ◌^◌}
-use Rattle.std.specs.Prelude.{sum}
-use Rattle.adf_fields.specs.Words.{words}
-use Rattle.adf_fields.proofs.blocks.Block.long_sum.Given as goal
-
-abbrev pub invariant-loop-i : goal.invariant-loop-i
-invariant-loop-i l = l.sum ≡ sum (words l.i l.self) % 2 ^ 32

@@ -1,8 +1,0 @@
-use Rattle.std.proofs.Common.{◌≡◌, ◌*◌, take}
-use Rattle.std.specs.List.{flat_map}
-use Rattle.byteorder.specs.Endian.{big_bytes}
-use Rattle.adf_fields.specs.Words.{with_bytes}
-use Rattle.adf_fields.proofs.puts.put_words.Given as goal
-
-abbrev pub invariant-loop-k : goal.invariant-loop-k
-invariant-loop-k l = l.block ≡ with_bytes l.initial.block (4 * l.i) (flat_map (big_bytes 4) (take l.k l.words))
