@@ -7,7 +7,7 @@ measure() {
     work=$(mktemp -d)
     trap 'rm -rf "$work"' EXIT
     mkdir -p "$work/crates/$1/src"
-    for crate in adf_fields adf_tree; do
+    for crate in adf_base adf_tree; do
         mkdir "$work/crates/$crate"
         for part in src specs proofs; do
             cp -R "$top/crates/$crate/$part" "$work/crates/$crate/$part"
@@ -19,8 +19,8 @@ measure() {
     done
     cat >"$work/crates/$1/src/main.rt"
     {
-        grep -E '^adf_(fields|tree):' "$top/crates.txt"
-        echo "$1: adf_fields adf_tree"
+        grep -E '^adf_(base|tree):' "$top/crates.txt"
+        echo "$1: adf_base adf_tree"
     } >"$work/crates.txt"
     cp "$top/HANDLES" "$work/HANDLES"
     cd "$work/crates/$1" || exit
