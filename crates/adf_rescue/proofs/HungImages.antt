@@ -115,35 +115,6 @@ made_marked given w fs marks are p = elim (cases_lt p (blocks given)) [
   | inr high ↦ past_marks marks p (omega (arith, are.length, high)) ∙ sym (and_left _ _ (vacant_inside given w fs p high))
 ]
 
--- the parent of a header is marked
-
-set_yes : (o x : Bool) → x ≡ true → true ≡ (o || x && true)
-set_yes true x e = refl
-set_yes false x e = rw e refl
-
-set_no : (o x : Bool) → o ≡ (o || x && false)
-set_no true x = refl
-set_no false true = refl
-set_no false false = refl
-
-pub parent_marked : (old : Bool) (v : ℕ → Bool) (p q : ℕ) → v p ≡ true → cond (p == q) true old ≡ (old || v q && (p == q))
-parent_marked old v p q vacant = go (p == q) refl
-  where
-    go : (t : Bool) → (p == q) ≡ t → cond t true old ≡ (old || v q && t)
-    go true e = set_yes old (v q) (subst (λ i. v i ≡ true) (eqb-true p q e) vacant)
-    go false e = set_no old (v q)
-
-pub parent_unmarked : (old : Bool) (v : ℕ → Bool) (p q : ℕ) → v p ≡ false → old ≡ (old || v q && (p == q))
-parent_unmarked old v p q none = go (p == q) refl
-  where
-    no_mark : (o x t : Bool) → x ≡ false → o ≡ (o || x && t)
-    no_mark true x t e = refl
-    no_mark false x t e = rw e refl
-
-    go : (t : Bool) → (p == q) ≡ t → old ≡ (old || v q && t)
-    go true e = no_mark old (v q) true (subst (λ i. v i ≡ false) (eqb-true p q e) none)
-    go false e = set_no old (v q)
-
 -- the steps
 
 pub readied_more : (given : List ℕ) (w : List (Role × ℕ)) (fs : List FindingValue) (k : ℕ) (old new : List ℕ) → old ≡ readied given w fs k

@@ -22,6 +22,7 @@ use Rattle.adf_findings.specs.Parts.{key_of}
 use Rattle.adf_findings.specs.Survey.{FindingValue, IsSurvey, IsValidated}
 use Rattle.adf_findings.specs.Survey.IsSurvey.{read, unread}
 use Rattle.adf_findings.proofs.BitSteps.{at_has}
+use Rattle.adf_findings.proofs.BitSteps.{has_page}
 use Rattle.adf_findings.proofs.Keys.{lacks_at, same_of_key}
 use Rattle.adf_findings.proofs.OneSurvey.{gathered}
 use Rattle.adf_rescue.specs.Lost.{AreEntered, AreSettled, bit_stated, directory_at, directory_by, denies, has_child, has_finding, is_denied}
@@ -33,12 +34,6 @@ use Rattle.adf_findings.specs.SurveyResult.{IsBitStated}
 
 abbrev page_of : ℕ → ℕ
 page_of b = (b - 2) / PAGE_BITS
-
-page_has : (w : List (Role × ℕ)) (i page : ℕ) → at_key w (key_of (Page i)) ≡ Some page → Has w (Page i) page
-page_has w i page e =
-    let x = at_has w (key_of (Page i)) page e in
-    has_role w (Page i) (λ n p t j z. let y : second (Page i) ≡ second (Head n p t j) = ap second z in absurd (omega arith)) x.0 page x.1
-    (same_of_key x.0 (Page i) x.2)
 
 one_page : (image : List ℕ) (w : List (Role × ℕ)) (fs : List FindingValue) → IsSurvey image w fs → (i a b : ℕ) → Has w (Page i) a → Has w (Page i) b → a ≡ b
 one_page image w fs (unread told) i a b h g = absurd h
@@ -87,7 +82,7 @@ told_is image w fs b r survey some free = elim (cases_Bool (nat_le 2 b && (word_
         told_none r (λ s. let told = some.0 s in lacks_at w (Page (page_of b)) e (Page (page_of b)) told.2.0 told.2.1 (same_refl (Page (page_of b))))
         ∙ ap (option_map (λ page. is_set_in image page ((b - 2) % PAGE_BITS))) (sym e)
     with_page (Some page) e low valid =
-        let has = page_has w (page_of b) page e in
+        let has = has_page w (page_of b) page e in
         told_some image w b page r (λ a h. one_page image w fs survey (page_of b) a page h has) has (some.1 (low, valid, (page, has))) free
         ∙ ap (option_map (λ page. is_set_in image page ((b - 2) % PAGE_BITS))) (sym e)
 
@@ -195,10 +190,6 @@ settled_some w fs k n marks more x are is node put len =
     (λ m lt. put m lt ∙ (λ i. has_mark marks m && not ((node i == m) || (parent_node w (node i) == m)))) len
 
 -- the marks of lost headers
-
-pub lost_inside : (image : List ℕ) (w : List (Role × ℕ)) (fs : List FindingValue) (b : ℕ) → is_lost image w fs b ≡ true → is_inside image b ≡ true
-unfolding is_lost
-lost_inside image w fs b e = (and_parts (is_inside image b) _ (and_parts _ _ (and_parts _ _ e).0).0).0
 
 lost_outside : (image : List ℕ) (w : List (Role × ℕ)) (fs : List FindingValue) (b : ℕ) → blocks image ≤ b → is_lost image w fs b ≡ false
 unfolding is_lost
