@@ -1,5 +1,7 @@
 // What a run of a command gives.
 
+ghost use Rattle.std.specs.Prelude.{◌≡◌, false};
+
 use crate::devices::{Given, Kept, Pace, WriteFailure};
 use crate::test_error::TestError;
 use crate::wants::{is_status, push_line};
@@ -84,6 +86,25 @@ pub fn words_of<'a>(alloc: Global, line: CommandLine<'a>) -> Result<Vec<&'a str>
     Ok(words)
 }
 
+// Runs a program with these words, and answers the status.
+fn status_of(
+    alloc: Global,
+    program: Program,
+    words: &[&str],
+    input: &mut Given<'_>,
+    output: &mut Kept,
+    errors: &mut Kept,
+) -> u8
+    requires reads { input.old.failed ≡ false }
+    requires writes { output.old.failed ≡ false }
+    requires tells { errors.old.failed ≡ false }
+{
+    match program {
+        Program::Adf => adf_cmd::run(alloc, words, input, output, errors),
+        Program::Survey => adf_survey_cmd::run(alloc, words, input, output, errors),
+    }
+}
+
 /// Runs a program with these words over bytes, by devices that move them so, and tells whether one of these failed.
 pub fn run_by(
     alloc: Global,
@@ -95,10 +116,7 @@ pub fn run_by(
     let mut input = Given::new(bytes, paces.input);
     let mut output = Kept::new(alloc, paces.output, paces.failure);
     let mut errors = Kept::new(alloc, paces.errors, paces.failure);
-    let status = match program {
-        Program::Adf => adf_cmd::run(alloc, words, &mut input, &mut output, &mut errors),
-        Program::Survey => adf_survey_cmd::run(alloc, words, &mut input, &mut output, &mut errors),
-    };
+    let status = status_of(alloc, program, words, &mut input, &mut output, &mut errors);
     let failed = input.failed() || output.failed() || errors.failed();
     let answer = Answer {
         status,
@@ -112,7 +130,8 @@ pub fn run_by(
 pub fn answer_of(alloc: Global, line: CommandLine<'_>, bytes: &[u8]) -> Result<Answer, AllocError> {
     let words = words_of(alloc, line)?;
     let paces = Paces::steady(usize::MAX, usize::MAX);
-    Ok(run_by(alloc, line.program, &words, bytes, paces).0)
+    let (answer, _) = run_by(alloc, line.program, &words, bytes, paces);
+    Ok(answer)
 }
 
 /// Lines, told with ` | ` between them.

@@ -35,23 +35,20 @@ impl<'a> Question<'a> {
 
     /// The text of the call's answer: `nothing` for none.
     pub fn answer(&self, alloc: Global, image: &[u8]) -> Result<String, TestError> {
-        let volume = check(alloc, image)?;
-        let told = match *self {
-            Question::Find(path) => found(alloc, &volume, path)?,
-            Question::Entry(n) => name_of(alloc, &volume, Node(n))?,
-            Question::Owner(b) => match volume.owner(b) {
-                Some(owner) => Some(owner_text(alloc, owner)?),
-                None => None,
-            },
-            Question::Pieces(n) => match volume.pieces(Node(n)) {
-                Some(pieces) => Some(lengths(alloc, pieces)?),
-                None => None,
-            },
-            Question::Read(n) => count_read(alloc, &volume, Node(n))?,
-        };
-        match told {
+        match self.told_of(alloc, &check(alloc, image)?)? {
             Some(text) => Ok(text),
             None => Ok(String::from_str(alloc, "nothing")?),
+        }
+    }
+
+    // What the call tells of a volume.
+    fn told_of(&self, alloc: Global, volume: &Checked<'_>) -> Result<Option<String>, TestError> {
+        match *self {
+            Question::Find(path) => found(alloc, volume, path),
+            Question::Entry(n) => name_of(alloc, volume, Node(n)),
+            Question::Owner(b) => owner_of(alloc, volume, b),
+            Question::Pieces(n) => lengths_of(alloc, volume, Node(n)),
+            Question::Read(n) => count_read(alloc, volume, Node(n)),
         }
     }
 }
@@ -67,6 +64,20 @@ fn found(alloc: Global, volume: &Checked<'_>, path: &str) -> Result<Option<Strin
 fn name_of(alloc: Global, volume: &Checked<'_>, n: Node) -> Result<Option<String>, TestError> {
     match volume.row(n) {
         Some(row) => Ok(Some(write_path(alloc, &[row.name])?)),
+        None => Ok(None),
+    }
+}
+
+fn owner_of(alloc: Global, volume: &Checked<'_>, b: u32) -> Result<Option<String>, TestError> {
+    match volume.owner(b) {
+        Some(owner) => Ok(Some(owner_text(alloc, owner)?)),
+        None => Ok(None),
+    }
+}
+
+fn lengths_of(alloc: Global, volume: &Checked<'_>, n: Node) -> Result<Option<String>, TestError> {
+    match volume.pieces(n) {
+        Some(pieces) => Ok(Some(lengths(alloc, pieces)?)),
         None => Ok(None),
     }
 }

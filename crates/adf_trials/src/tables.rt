@@ -71,30 +71,21 @@ impl<'a> Table<'a> {
     pub fn run(&self, alloc: Global, image: &[u8]) -> Result<(), TestError> {
         let line = self.line;
         match self.kind {
-            TableKind::Patch(items) => is_told(alloc, &patched(alloc, image, items)?, line),
-            TableKind::Findings(items) => are_findings(alloc, &patched(alloc, image, items)?, line),
-            TableKind::Rescue(items) => is_rescued(alloc, &patched(alloc, image, items)?, line),
+            TableKind::Patch(items) => patch_is_told(alloc, image, items, line),
+            TableKind::Findings(items) => patch_is_surveyed(alloc, image, items, line),
+            TableKind::Rescue(items) => patch_is_rescued(alloc, image, items, line),
             TableKind::Flips(from, to) => are_flipped(alloc, image, (from, to), line),
             TableKind::Cuts(from, to) => are_cut(alloc, image, (from, to), line),
             TableKind::Alike(from, to) => are_alike(alloc, image, (from, to)),
             TableKind::Refused(lines) => is_refused(alloc, lines, line),
-            TableKind::Sound(lines) => is_told(alloc, &built(alloc, lines)?, line),
-            TableKind::Tree(lines) => {
-                let wanted = tree_of_lines(alloc, lines)?;
-                is_tree(alloc, &wanted, &tree_of_image(alloc, image)?)
-            }
-            TableKind::Question(question) => {
-                let text = question.answer(alloc, image)?;
-                is_same(alloc, "answer", line.as_bytes(), text.as_bytes())
-            }
+            TableKind::Sound(lines) => is_sound(alloc, lines, line),
+            TableKind::Tree(lines) => has_tree(alloc, image, lines),
+            TableKind::Question(question) => is_answered(alloc, image, question, line),
             TableKind::Need(blocks, lines) => needs(alloc, blocks, lines, line),
             TableKind::Unlaid(blocks, lines) => is_not_laid(alloc, blocks, lines, line),
             TableKind::Failing(failing) => failing.run(alloc, image),
             TableKind::Endless(count) => is_refused_in_the_end(alloc, count, line),
-            TableKind::Call(name) => {
-                let text = text_of_call(alloc, name);
-                is_same(alloc, "call", line.as_bytes(), text.as_bytes())
-            }
+            TableKind::Call(name) => is_call(alloc, name, line),
         }
     }
 }
@@ -149,6 +140,50 @@ fn is_told(alloc: Global, image: &[u8], line: &str) -> Result<(), TestError> {
         alloc,
         &answer_of(alloc, CommandLine::adf("check"), image)?,
     )
+}
+
+fn patch_is_told(alloc: Global, image: &[u8], items: &str, line: &str) -> Result<(), TestError> {
+    is_told(alloc, &patched(alloc, image, items)?, line)
+}
+
+fn patch_is_surveyed(
+    alloc: Global,
+    image: &[u8],
+    items: &str,
+    line: &str,
+) -> Result<(), TestError> {
+    are_findings(alloc, &patched(alloc, image, items)?, line)
+}
+
+fn patch_is_rescued(alloc: Global, image: &[u8], items: &str, line: &str) -> Result<(), TestError> {
+    is_rescued(alloc, &patched(alloc, image, items)?, line)
+}
+
+fn is_sound(alloc: Global, lines: &str, line: &str) -> Result<(), TestError> {
+    is_told(alloc, &built(alloc, lines)?, line)
+}
+
+// An image has the tree of lines.
+fn has_tree(alloc: Global, image: &[u8], lines: &str) -> Result<(), TestError> {
+    let wanted = tree_of_lines(alloc, lines)?;
+    is_tree(alloc, &wanted, &tree_of_image(alloc, image)?)
+}
+
+// A call on the volume of an image answers a line.
+fn is_answered(
+    alloc: Global,
+    image: &[u8],
+    question: Question<'_>,
+    line: &str,
+) -> Result<(), TestError> {
+    let text = question.answer(alloc, image)?;
+    is_same(alloc, "answer", line.as_bytes(), text.as_bytes())
+}
+
+// The library call of a name ends as a line says.
+fn is_call(alloc: Global, name: &str, line: &str) -> Result<(), TestError> {
+    let text = text_of_call(alloc, name);
+    is_same(alloc, "call", line.as_bytes(), text.as_bytes())
 }
 
 // The image with changes.

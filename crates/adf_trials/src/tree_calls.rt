@@ -53,14 +53,29 @@ fn has_names(tree: &Tree, names: &[&[u8]]) -> bool {
     has_all
 }
 
-// A directory `a` with an empty file `b`, and a directory `3`, whose slot is behind that of `a`.
+// Adds a directory.
+fn add_directory(tree: &mut Tree, path: &[Name]) -> Option<()> {
+    tree.add(path, meta()?, Body::Dir).ok()
+}
+
+// Adds an empty file.
+fn add_empty_file(alloc: Global, tree: &mut Tree, path: &[Name]) -> Option<()> {
+    let no_bytes = Bytes::new(Vec::new(alloc));
+    tree.add(path, meta()?, Body::File(no_bytes)).ok()
+}
+
+// Adds a directory `a` with an empty file `b`, and a directory `3`, whose slot is behind that of `a`.
+fn add_entries(alloc: Global, tree: &mut Tree) -> Option<()> {
+    let path = [Name::new(b"a")?, Name::new(b"b")?];
+    add_directory(tree, &path[..1])?;
+    add_empty_file(alloc, tree, &path)?;
+    add_directory(tree, &[Name::new(b"3")?])
+}
+
+// A tree of these entries.
 fn worked_tree(alloc: Global) -> Option<Tree> {
     let mut tree = Tree::new(alloc, Kind::Ofs, Label::new(b"Work")?, stamps());
-    let path = [Name::new(b"a")?, Name::new(b"b")?];
-    tree.add(&path[..1], meta()?, Body::Dir).ok()?;
-    let no_bytes = Body::File(Bytes::new(Vec::new(alloc)));
-    tree.add(&path, meta()?, no_bytes).ok()?;
-    tree.add(&[Name::new(b"3")?], meta()?, Body::Dir).ok()?;
+    add_entries(alloc, &mut tree)?;
     Some(tree)
 }
 
@@ -87,7 +102,7 @@ fn refuses_others(tree: &mut Tree) -> Option<bool> {
 pub fn tree_add_outcome(alloc: Global) -> Option<CallOutcome> {
     let mut tree = worked_tree(alloc)?;
     let refuses = refuses_others(&mut tree)?;
-    tree.add(&[Name::new(b"BA")?], meta()?, Body::Dir).ok()?;
+    add_directory(&mut tree, &[Name::new(b"BA")?])?;
     let res = tree.add(&[Name::new(b"AN")?], meta()?, Body::Dir);
     Some(match res {
         Ok(()) => CallOutcome::done_if(
