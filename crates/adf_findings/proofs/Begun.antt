@@ -48,8 +48,8 @@ one_node b (suc n) = elim (eqb_tells (suc n) 0) [
 
 -- nothing is found but the root
 pub stands_begun : (image : List ℕ) (f g h : Found) → IsEmpty f.taken → f.owned.items ≡ replicate (blocks image) false
-    → f.owners.items ≡ replicate (blocks image) 0 → f.numbers.items ≡ replicate (blocks image) 0 → f.avoided.items ≡ replicate (blocks image) false → f.left ≡ blocks image
-    → f.nodes.items ≡ [] → IsEmpty f.exts → f.findings.items ≡ [] → f.parents.items ≡ 0 ∷ [] → f.places.items ≡ [] → f.datas.items ≡ []
+    → f.owners.items ≡ replicate (blocks image) 0 → f.numbers.items ≡ replicate (blocks image) 0 → f.avoided.items ≡ replicate (blocks image) false
+    → f.left ≡ blocks image → f.nodes.items ≡ [] → IsEmpty f.exts → f.findings.items ≡ [] → f.parents.items ≡ 0 ∷ [] → f.places.items ≡ [] → f.datas.items ≡ []
     → IsOwned RootPart (root_of image) f g → AreSame f g → h ≡ record g { nodes = h.nodes } → h.nodes.items ≡ g.nodes.items ++ root_of image ∷ []
     → root_of image < blocks image → Stands image h (begun image [])
 stands_begun image f g h taken owned owners numbers avoided left nodes exts findings parents places datas o e same pushed lt =

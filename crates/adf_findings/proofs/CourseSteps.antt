@@ -1,11 +1,11 @@
 -- The steps of a course: the part at its position is taken or skipped, or the position advances without one.
-use Rattle.std.specs.Prelude.{Bool, false, not, ◌||◌, slice_index_or, Option, Some, None}
+use Rattle.std.specs.Prelude.{false, not, ◌||◌, slice_index_or, Option, Some, None}
 use Rattle.std.proofs.Common.{◌≡◌, ℕ, zero, suc, length, List, ◌∷◌, ◌<◌, ◌≤◌, refl, sym, subst, ap, ◌∙◌, arith}
 use Rattle.adf_tree.specs.NameSet.{has}
 use Rattle.adf_blocks.specs.Sizes.{blocks}
 use Rattle.adf_volume.specs.Image.{word_in}
 use Rattle.adf_volume.specs.Positions.{Position, IsBelow, IsNoLater, IsUpTo, behind, position_of}
-use Rattle.adf_volume.specs.Walk.{Role, Same, Has, Asks, Lacks, first, heads, second, third}
+use Rattle.adf_volume.specs.Walk.{Role, Same, Has, Asks, Lacks, first, heads, second}
 use Rattle.adf_volume.specs.Walk.Role.{Root, Head, Ext}
 use Rattle.adf_volume.proofs.Gathered.{IsGathered, ext_counted, next_ext}
 use Rattle.adf_volume.proofs.PositionSteps.{not_skipped, not_taken, past_skipped, past_taken, same_behind, same_position}
@@ -92,8 +92,8 @@ module _ {image : List ℕ} {f : Found} {part : Part} {a i : ℕ} {s : Course} (
       go _ h taken = tt
 
   -- what is found of it tells what its demands ask
-  pub known : {z : Part} {b : ℕ} (x : Facts) → role_of z ≡ role → x.is_enough ≡ enough_in image f z → x.is_absent ≡ not (slice_index_or f.owned.items b false)
-      → x.context ≡ context_in image f z → Knows image s.walk z b x
+  pub known : {z : Part} {b : ℕ} (x : Facts) → role_of z ≡ role → x.is_enough ≡ enough_in image f z
+      → x.is_absent ≡ not (slice_index_or f.owned.items b false) → x.context ≡ context_in image f z → Knows image s.walk z b x
   known {z} {b} x is enough absent context =
       knows image f s n.holds.stands z a i b x v (subst (λ r. Asks image s.walk r a i) (sym is) n.asked) enough absent context
 
@@ -134,7 +134,8 @@ module _ {image : List ℕ} {f : Found} {part : Part} {a i : ℕ} {s : Course} (
         course = o.course;
         stands = o.stands;
         up_to = skipped_up_to;
-        names = subst (AreNamed image s.walk (behind (role_of part))) (sym o.names) (λ name m p t j b valid e d here. n.holds.names name m p t j b valid e d here);
+        names = subst (AreNamed image s.walk (behind (role_of part))) (sym o.names)
+            (λ name m p t j b valid e d here. n.holds.names name m p t j b valid e d here);
         small = n.holds.small;
       };
       block = tt;
@@ -188,7 +189,8 @@ module _ {image : List ℕ} {f : Found} {part : Part} {a i : ℕ} {s : Course} (
               let slot : t ≡ v = (let x : suc (suc t) ≡ second role = ap second is in omega arith) in
               let upper = uppers_in image name in
               let here : has g.names upper ≡ has_name image ((Head m p t j, block) ∷ s.walk) p t upper =
-              kept name valid ∙ (λ y. sym (own_name image m p t j block upper) y || known_names image s.walk m p t j f.names named chain name valid y) in
+              kept name valid
+              ∙ (λ y. sym (own_name image m p t j block upper) y || known_names image s.walk m p t j f.names named chain name valid y) in
               here ∙ (λ y. has_name image ((is y, block) ∷ s.walk) (up y) (slot y) upper)
           go _ is named chain kept = λ name c u v k b valid e d here. absurd (let place = same in let x = ap second is in omega arith)
 

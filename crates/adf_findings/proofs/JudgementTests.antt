@@ -188,8 +188,8 @@ itself_whole r ((false, c) ∷ cs) h = cc
 -- the tests of a part, by whether its file has extension blocks, its block is in range and has no owner, and the part is itself
 module _ (a b : ℕ) where
   -- another cause than that of the name
-  pub other_cause : (e r t new kept : Bool) (form : Option Cause) (o : JudgementValue) → judged_by (first_of_five a b e r t form true) kept ≡ o → (o ≡ clean → ⊥)
-      → judged_by (first_of_five a b e r t form new) kept ≡ o
+  pub other_cause : (e r t new kept : Bool) (form : Option Cause) (o : JudgementValue)
+      → judged_by (first_of_five a b e r t form true) kept ≡ o → (o ≡ clean → ⊥) → judged_by (first_of_five a b e r t form new) kept ≡ o
   other_cause false r t new kept form o h some = h
   other_cause true false t new kept form o h some = h
   other_cause true true false new kept form o h some = h
@@ -204,6 +204,7 @@ module _ (a b : ℕ) where
   no_cause true true true kept (Some c) h = absurd (some_cause (b, c) kept h)
   no_cause true true true kept None h = refl
 
+  -- then that of the name counts
   pub name_cause : (e r t itself new : Bool) (form : Option Cause) → (form ≡ None → itself ≡ true)
       → judged_by (first_of_five a b e r t form true) (r && (t && itself)) ≡ clean
       → judged_by (first_of_five a b e r t form new) (r && (t && itself)) ≡ cond new clean (reported b SameName)

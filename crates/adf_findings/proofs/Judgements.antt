@@ -39,8 +39,8 @@ module _ (image : List ℕ) (f : Found) (x : Reference) (part : Part) (facts : F
     judged_else j e some = λ s h n is.
         let form = form_of image part x.block facts.context in
         subst (Judged (role_of part) (demands_in image s.walk (role_of part) x.holder x.block))
-        (other_cause x.holder x.block facts.is_enough (in_range image x.block) facts.is_absent (new_in image s.walk part x.block) (keeps image part x.block facts)
-        (first_cause form) (judgement_value j) (sym e) some)
+        (other_cause x.holder x.block facts.is_enough (in_range image x.block) facts.is_absent (new_in image s.walk part x.block)
+        (keeps image part x.block facts) (first_cause form) (judgement_value j) (sym e) some)
         (judged_in s h n is)
 
     -- no other cause
@@ -55,6 +55,7 @@ module _ (image : List ℕ) (f : Found) (x : Reference) (part : Part) (facts : F
         (no_cause x.holder x.block facts.is_enough (in_range image x.block) facts.is_absent (keeps image part x.block facts) (first_cause form) (sym e)) in
         let now = tells s.walk (known_named named part is) (known_chain named part is) valid in
         subst (Judged (role_of part) (demands_in image s.walk (role_of part) x.holder x.block))
-        (name_cause x.holder x.block facts.is_enough (in_range image x.block) facts.is_absent (itself_by (role_of part) form) (new_in image s.walk part x.block)
-        (first_cause form) (itself_whole (role_of part) form) (sym e) ∙ (ap (λ t. cond t clean (reported x.block SameName)) (sym now) ∙ is_j))
+        (name_cause x.holder x.block facts.is_enough (in_range image x.block) facts.is_absent (itself_by (role_of part) form)
+        (new_in image s.walk part x.block) (first_cause form) (itself_whole (role_of part) form) (sym e)
+        ∙ (ap (λ t. cond t clean (reported x.block SameName)) (sym now) ∙ is_j))
         (judged_in s h n is)

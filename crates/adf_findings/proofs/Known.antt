@@ -2,7 +2,7 @@
 use Rattle.std.specs.Prelude.{Bool, true, false, cond, not, nat_le, nat_lt, ◌==◌, ◌||◌, ◌&&◌, Some, slice_index_or}
 use Rattle.std.proofs.Common.{◌≡◌, ◌≢◌, ℕ, zero, suc, List, [], ◌∷◌, inl, inr, ◌*◌, ◌/◌, ◌<◌, ◌≤◌, refl, sym, subst, ap, ◌∙◌, arith}
 use Rattle.std.specs.Option.{unwrap_or}
-use Rattle.std.specs.Ordering.{is_eq, nat_cmp}
+use Rattle.std.specs.Ordering.{is_eq}
 use Rattle.std.specs.Str.{bytes_eq}
 use Rattle.std.specs.BTreeMap.{get}
 use Rattle.std.proofs.lemmas.Bool.{and_parts, cases_Bool, eqb-true, eq-eqb}
@@ -25,7 +25,8 @@ use Rattle.adf_findings.specs.declared.judge.Facts.{Facts}
 use Rattle.adf_findings.specs.declared.found.Found.{Found}
 use Rattle.adf_findings.specs.Survey.{Course}
 use Rattle.adf_findings.specs.Forms.{IsContext, Knows, Tells, in_range}
-use Rattle.adf_findings.specs.Found.{AreNamed, HasValidName, IsChain, KeepsName, Stands, context_in, at_key, enough_in, has_name, is_named, known_at, member_in, new_in, next_in, owns}
+use Rattle.adf_findings.specs.Found.{AreNamed, HasValidName, IsChain, KeepsName, Stands}
+use Rattle.adf_findings.specs.Found.{at_key, context_in, enough_in, has_name, is_named, known_at, member_in, new_in, next_in, owns}
 use Rattle.adf_findings.specs.Parts.{by_key, key_of, role_of}
 use Rattle.adf_findings.proofs.Keys.{equal_keys}
 use Rattle.adf_findings.proofs.Names.{other_name, upper_twice}
@@ -52,7 +53,8 @@ tells_named : (image : List ℕ) (r : Role) (c p s : ℕ) (name : List ℕ)
     → Tells (not (is_named image r c p s name)) ((m k : ℕ) → r ≡ Head m p s k → uppers_in image (name_of image c) ≢ name)
 tells_named image (Head n q m j) c p s name = go (is_named image (Head n q m j) c p s name) refl
   where
-    go : (t : Bool) → is_named image (Head n q m j) c p s name ≡ t → Tells (not t) ((i k : ℕ) → Head n q m j ≡ Head i p s k → uppers_in image (name_of image c) ≢ name)
+    go : (t : Bool) → is_named image (Head n q m j) c p s name ≡ t
+        → Tells (not t) ((i k : ℕ) → Head n q m j ≡ Head i p s k → uppers_in image (name_of image c) ≢ name)
     go true e =
         let x = and_parts (q == p) ((m == s) && bytes_eq (uppers_in image (name_of image c)) name) e in
         let y = and_parts (m == s) (bytes_eq (uppers_in image (name_of image c)) name) x.1 in
@@ -102,7 +104,7 @@ pub known_names : (image : List ℕ) (w : List (Role × ℕ)) (n p s j : ℕ) (n
 known_names image w n p s zero names named none name valid = sym (no_name image w p s (uppers_in image name) none)
 known_names image w n p s (suc j) names named (m, c, h) name valid = named name m p s j c valid refl refl h
 
--- the names after that of a header: begun has those before it
+-- the names kept with that of a header; `begun` has those before it
 module _ (image : List ℕ) (part : Part) (b n p s j : ℕ) (old begun : Names) (is : part ≡ HeadPart n p s j)
     (begins : (x : List ℕ) → has begun x ≡ known_at j (has old x)) where
   -- the name of the header, if it is valid
@@ -110,12 +112,14 @@ module _ (image : List ℕ) (part : Part) (b n p s j : ℕ) (old begun : Names) 
     own : uppers name ≡ uppers_in image (name_of image b)
     own = ap uppers told ∙ upper_twice (letters_of image) (name_of image b)
 
-    pub name_is_new : (w : List (Role × ℕ)) (t : Bool) → t ≡ not (has begun (uppers name)) → AreNamed image w (position_of (role_of part)) old → IsChain w part
-        → HasValidName image part b → t ≡ new_in image w part b
+    pub name_is_new : (w : List (Role × ℕ)) (t : Bool) → t ≡ not (has begun (uppers name)) → AreNamed image w (position_of (role_of part)) old
+        → IsChain w part → HasValidName image part b → t ≡ new_in image w part b
     name_is_new w t e =
-        subst (λ part. AreNamed image w (position_of (role_of part)) old → IsChain w part → HasValidName image part b → t ≡ new_in image w part b) (sym is)
+        subst (λ part. AreNamed image w (position_of (role_of part)) old → IsChain w part → HasValidName image part b → t ≡ new_in image w part b)
+        (sym is)
         (λ named chain valid.
-        e ∙ ap not (ap (has begun) own ∙ (begins (uppers_in image (name_of image b)) ∙ known_names image w n p s j old named chain (name_of image b) valid)))
+        let known = known_names image w n p s j old named chain (name_of image b) valid in
+        e ∙ ap not (ap (has begun) own ∙ (begins (uppers_in image (name_of image b)) ∙ known)))
 
     pub kept_name : (new : Names) → HasMore begun new (uppers name) → KeepsName image part b old new
     kept_name new more =
@@ -126,7 +130,9 @@ module _ (image : List ℕ) (part : Part) (b n p s j : ℕ) (old begun : Names) 
   pub kept_none : is_name (name_of image b) ≡ false → KeepsName image part b old begun
   kept_none none =
       subst (λ part. KeepsName image part b old begun) (sym is)
-      (λ q valid. begins (uppers_in image q) ∙ sym (ap (λ t. t || known_at j (has old (uppers_in image q))) (other_name (letters_of image) (name_of image b) q none valid)))
+      (λ q valid.
+      let other = other_name (letters_of image) (name_of image b) q none valid in
+      begins (uppers_in image q) ∙ sym (ap (λ t. t || known_at j (has old (uppers_in image q))) other))
 
 -- the block of an extension block, by its key
 at_ext : (w : List (Role × ℕ)) (n m : ℕ) → unwrap_or (at_key w (key_of (Ext n m))) 0 ≡ ext_block_in w n m

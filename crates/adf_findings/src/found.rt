@@ -11,8 +11,8 @@ ghost use Rattle.adf_volume.specs.Positions.{position_of};
 ghost use Rattle.adf_volume.specs.Walk.{Role, data_count};
 ghost use Rattle.adf_findings.specs.Parts.{by_key, finding_value, role_of};
 ghost use Rattle.adf_findings.specs.Found.{AreNamed, AreSame, Stands, IsChain, IsKept, IsReported, IsOwned, IsBlockSkipped};
-ghost use Rattle.adf_findings.specs.Found.{HasValidName, IsPut, IsTaken, KeepsName, KeepsParts, context_in, data_number, enough_in};
-ghost use Rattle.adf_findings.specs.Found.{entry_number, exts_found, known_at, member_in, new_in, next_in, with_data};
+ghost use Rattle.adf_findings.specs.Found.{HasValidName, IsPut, IsTaken, KeepsName, KeepsParts, context_in, data_number};
+ghost use Rattle.adf_findings.specs.Found.{enough_in, entry_number, exts_found, known_at, member_in, new_in, next_in, with_data};
 ghost use Rattle.adf_findings.specs.Survey.{begun};
 
 use crate::forms::Context;
