@@ -46,7 +46,7 @@ module _ (image : List ℕ) (f : Found) (x : Reference) (part : Part) (facts : F
     -- no other cause
     pub judged_named : (new : Bool) → clean ≡ by_name true
         → ((w : List (Role × ℕ)) → AreNamed image w (position_of (role_of part)) f.names → IsChain w part → HasValidName image part x.block
-          → new ≡ new_in image w part x.block)
+        → new ≡ new_in image w part x.block)
         → (j : Judgement) → cond new clean (reported x.block SameName) ≡ judgement_value j → IsJudged image f x part j
     judged_named new e tells j is_j = λ s h n is.
         let form = form_of image part x.block facts.context in

@@ -11,8 +11,8 @@ returns-in-Some-clause-new c =
     let x = c.in-Head in
     IfOk-weaker c.put.result _ _
     (λ t told w named chain valid.
-      name_is_new c.args.image.now c.args.part c.args.b x.node x.parent x.slot x.place c.args.self.now.names c.begin_names.new.self.names x.is
-      c.begin_names.ensures.names c.in-Some.name c.in-Some.ensures.name w t told named chain valid)
+    name_is_new c.args.image.now c.args.part c.args.b x.node x.parent x.slot x.place c.args.self.now.names c.begin_names.new.self.names x.is
+    c.begin_names.ensures.names c.in-Some.name c.in-Some.ensures.name w t told named chain valid)
     c.put.ensures.new
 
 pub returns-in-Some-clause-names : goal.returns-in-Some-clause-names
