@@ -6,9 +6,9 @@ use Rattle.std.specs.Global.{Vec}
 use Rattle.std.specs.Option.{unwrap_or}
 use Rattle.std.specs.Map.{lookup}
 use Rattle.std.specs.BTreeMap.{BTreeMap, IsEmpty, get, is_at}
-use Rattle.std.specs.BTreeSet.{BTreeSet}
 use Rattle.std.proofs.lemmas.Bool.Decides.{eqb_tells}
 use Rattle.std.proofs.lemmas.List.{length-replicate}
+use Rattle.adf_tree.specs.NameSet.{Names}
 use Rattle.adf_blocks.specs.Sizes.{blocks}
 use Rattle.adf_volume.specs.Image.{root_of}
 use Rattle.adf_volume.specs.Positions.{before_page}
@@ -21,7 +21,7 @@ use Rattle.adf_findings.specs.Survey.{FindingValue, IsCourse, begun}
 use Rattle.adf_findings.specs.Parts.{by_key, key_of, finding_value}
 use Rattle.adf_findings.specs.Courses.{HasReachedPage}
 use Rattle.adf_findings.specs.Found.{AreHeld, AreNamed, AreNumbered, AreSame, IsOwned, Stands, owns, unowned}
-use Rattle.adf_findings.proofs.Taking.{held_more, marked_more, numbered_more, unowned_less}
+use Rattle.adf_findings.proofs.Taking.{held_more, marked_more, numbered_more, stands_but, unowned_less}
 
 empty_get : {K X : Type 0} (m : BTreeMap K X) (test : K → Bool) → IsEmpty m → lookup test m.entries ≡ None
 empty_get m test e = ap (lookup test) e
@@ -48,8 +48,8 @@ one_node b (suc n) = elim (eqb_tells (suc n) 0) [
 
 -- nothing is found but the root
 pub stands_begun : (image : List ℕ) (f g h : Found) → IsEmpty f.taken → f.owned.items ≡ replicate (blocks image) false
-    → f.owners.items ≡ replicate (blocks image) 0 → f.numbers.items ≡ replicate (blocks image) 0 → f.avoided.items ≡ replicate (blocks image) false → f.left ≡ blocks image
-    → f.nodes.items ≡ [] → IsEmpty f.exts → f.findings.items ≡ [] → f.parents.items ≡ 0 ∷ [] → f.places.items ≡ [] → f.datas.items ≡ []
+    → f.owners.items ≡ replicate (blocks image) 0 → f.numbers.items ≡ replicate (blocks image) 0 → f.avoided.items ≡ replicate (blocks image) false
+    → f.left ≡ blocks image → f.nodes.items ≡ [] → IsEmpty f.exts → f.findings.items ≡ [] → f.parents.items ≡ 0 ∷ [] → f.places.items ≡ [] → f.datas.items ≡ []
     → IsOwned RootPart (root_of image) f g → AreSame f g → h ≡ record g { nodes = h.nodes } → h.nodes.items ≡ g.nodes.items ++ root_of image ∷ []
     → root_of image < blocks image → Stands image h (begun image [])
 stands_begun image f g h taken owned owners numbers avoided left nodes exts findings parents places datas o e same pushed lt =
@@ -90,27 +90,12 @@ stands_begun image f g h taken owned owners numbers avoided left nodes exts find
 -- the findings of the boot block stand behind none
 pub stands_boot : (image : List ℕ) (f : Found) (reported : Vec Finding) (fs : List FindingValue) → Stands image f (begun image [])
     → map finding_value reported.items ≡ map finding_value f.findings.items ++ fs → Stands image (record f { findings = reported }) (begun image fs)
-stands_boot image f reported fs st e = record {
-  taken = st.taken;
-  owned = st.owned;
-  owners = st.owners;
-  numbers = st.numbers;
-  avoided = st.avoided;
-  left = st.left;
-  node = st.node;
-  count = st.count;
-  few = st.few;
-  ext = st.ext;
-  findings = e ∙ ap (λ xs. xs ++ fs) st.findings;
-  parent = st.parent;
-  parents = st.parents;
-  places = st.places;
-  datas = st.datas;
-}
+stands_boot image f reported fs st e =
+    stands_but image f (record f { findings = reported }) (begun image []) [] fs refl st st.avoided (e ∙ ap (λ xs. xs ++ fs) st.findings)
 
 module _ (image : List ℕ) (fs : List FindingValue) where
-  no_names : (names : BTreeSet (Vec ℕ)) → AreNamed image (begun image fs).walk (before_page 0) names
-  no_names names q m p s j b e f h = absurd (omega arith)
+  no_names : (names : Names) → AreNamed image (begun image fs).walk (before_page 0) names
+  no_names names name m p s j b valid e f h = absurd (omega arith)
 
   -- the course begins at the first page, whose block the root names
   pub on_begun : (f : Found) → IsCourse image (begun image fs) → Stands image f (begun image fs) → blocks image ≤ 1048576

@@ -1,27 +1,27 @@
 -- The steps of a course: the part at its position is taken or skipped, or the position advances without one.
-use Rattle.std.specs.Prelude.{Bool, false, not, ◌||◌, slice_index_or, Option, Some, None}
+use Rattle.std.specs.Prelude.{false, not, ◌||◌, slice_index_or, Option, Some, None}
 use Rattle.std.proofs.Common.{◌≡◌, ℕ, zero, suc, length, List, ◌∷◌, ◌<◌, ◌≤◌, refl, sym, subst, ap, ◌∙◌, arith}
-use Rattle.std.specs.Global.{Vec}
-use Rattle.std.specs.BTreeSet.{contains}
+use Rattle.adf_tree.specs.NameSet.{has}
 use Rattle.adf_blocks.specs.Sizes.{blocks}
 use Rattle.adf_volume.specs.Image.{word_in}
 use Rattle.adf_volume.specs.Positions.{Position, IsBelow, IsNoLater, IsUpTo, behind, position_of}
-use Rattle.adf_volume.specs.Walk.{Role, Same, Has, Asks, Lacks, first, heads, second, third}
+use Rattle.adf_volume.specs.Walk.{Role, Same, Has, Asks, Lacks, first, heads, second}
 use Rattle.adf_volume.specs.Walk.Role.{Root, Head, Ext}
 use Rattle.adf_volume.proofs.Gathered.{IsGathered, ext_counted, next_ext}
 use Rattle.adf_volume.proofs.PositionSteps.{not_skipped, not_taken, past_skipped, past_taken, same_behind, same_position}
 use Rattle.adf_volume.proofs.Roles.{asks_number, renumbered, renumbered_same}
 use Rattle.adf_findings.specs.declared.part.Part.{Part}
-use Rattle.adf_findings.specs.declared.part.Part.TheVariants.{Head as HeadPart}
+use Rattle.adf_findings.specs.declared.part.Part.TheVariants.{Head as HeadPart, Ext as ExtPart}
 use Rattle.adf_findings.specs.declared.course.Reference.{Reference}
 use Rattle.adf_findings.specs.declared.judge.Facts.{Facts}
 use Rattle.adf_findings.specs.declared.found.Found.{Found}
 use Rattle.adf_findings.specs.Survey.{Course}
 use Rattle.adf_findings.specs.Forms.{Knows}
 use Rattle.adf_findings.specs.Parts.{role_of}
-use Rattle.adf_findings.specs.Found.{AreNamed, IsChain, IsKept, IsTaken, Stands, context_in, by_name, enough_in, has_name, known_at, new_in}
+use Rattle.adf_findings.specs.Demands.{uppers_in}
+use Rattle.adf_findings.specs.Found.{AreNamed, IsChain, IsKept, IsTaken, KeepsName, Stands, context_in, enough_in, has_name}
 use Rattle.adf_findings.specs.Courses.{Holds, IsGoneOn, IsNamed, IsNextReference, IsOutcome, IsSkipped, IsToTake, course_on, role_asked}
-use Rattle.adf_findings.proofs.Known.{knows, no_name, own_name}
+use Rattle.adf_findings.proofs.Known.{known_names, knows, own_name}
 use Rattle.adf_findings.proofs.OneSurvey.{gathered}
 use Rattle.adf_findings.proofs.Taking.{IsNumbered, stands_taken, unowned_less}
 
@@ -44,9 +44,9 @@ moved {k = k} h le up_to = record {
   course = h.course;
   stands = h.stands;
   up_to = up_to;
-  names = (λ q m p t j b e d has.
-      let u : IsBelow (Head m p t j) k = h.up_to.taken (Head m p t j) b has in
-      h.names q m p t j b (omega arith) (omega arith) has);
+  names = (λ name m p t j b valid e d here.
+      let u : IsBelow (Head m p t j) k = h.up_to.taken (Head m p t j) b here in
+      h.names name m p t j b valid (omega arith) (omega arith) here);
   small = h.small;
 }
 
@@ -83,7 +83,7 @@ module _ {image : List ℕ} {f : Found} {part : Part} {a i : ℕ} {s : Course} (
   place z is = ap position_of is ∙ same_position role (role_of part) same
 
   -- the walk has earlier headers of the chain of a header that is not the first, and none of the chain of one that is
-  known_chain : (z : Part) → role_of z ≡ role → IsChain s.walk z
+  pub known_chain : (z : Part) → role_of z ≡ role → IsChain s.walk z
   known_chain z is = go z (subst (λ r. Asks image s.walk r a i) (sym is) n.asked) (λ q b h. subst (IsBelow q) (sym (place z is)) (n.holds.up_to.taken q b h))
     where
       go : (z : Part) → Asks image s.walk (role_of z) a i → ((q : Role) (b : ℕ) → Has s.walk q b → IsBelow q (position_of (role_of z))) → IsChain s.walk z
@@ -91,18 +91,15 @@ module _ {image : List ℕ} {f : Found} {part : Part} {a i : ℕ} {s : Course} (
       go (HeadPart m p t (suc j)) h taken = (h.1.0, a, h.1.1)
       go _ h taken = tt
 
-  -- what is found tells whether its name is new
-  new_known : (z : Part) (b : ℕ) {t : Bool} → role_of z ≡ role
-      → (b < blocks image → (w : List (Role × ℕ)) → AreNamed image w (position_of (role_of z)) f.names → IsChain w z → t ≡ new_in image w z b)
-      → b < blocks image → t ≡ new_in image s.walk z b
-  new_known z b is h lt = h lt s.walk (subst (λ k. AreNamed image s.walk k f.names) (sym (place z is)) n.holds.names) (known_chain z is)
-
   -- what is found of it tells what its demands ask
-  pub known : {z : Part} {b : ℕ} (x : Facts) → role_of z ≡ role → x.is_enough ≡ enough_in image f z → x.is_absent ≡ not (slice_index_or f.owned.items b false)
-      → (b < blocks image → (w : List (Role × ℕ)) → AreNamed image w (position_of (role_of z)) f.names → IsChain w z → x.is_new ≡ new_in image w z b)
-      → x.context ≡ context_in image f z → Knows image s.walk z b x
-  known {z} {b} x is enough absent new context =
-      knows image f s n.holds.stands z a i b x v (subst (λ r. Asks image s.walk r a i) (sym is) n.asked) enough absent (new_known z b is new) context
+  pub known : {z : Part} {b : ℕ} (x : Facts) → role_of z ≡ role → x.is_enough ≡ enough_in image f z
+      → x.is_absent ≡ not (slice_index_or f.owned.items b false) → x.context ≡ context_in image f z → Knows image s.walk z b x
+  known {z} {b} x is enough absent context =
+      knows image f s n.holds.stands z a i b x v (subst (λ r. Asks image s.walk r a i) (sym is) n.asked) enough absent context
+
+  -- the names of its chain, for a part with its number
+  pub known_named : (z : Part) → role_of z ≡ role → AreNamed image s.walk (position_of (role_of z)) f.names
+  known_named z is = subst (λ k. AreNamed image s.walk k f.names) (sym (place z is)) n.holds.names
 
   abbrev reference_at : ℕ → Reference
   reference_at b = record { part = part; holder = a; block = b }
@@ -137,7 +134,8 @@ module _ {image : List ℕ} {f : Found} {part : Part} {a i : ℕ} {s : Course} (
         course = o.course;
         stands = o.stands;
         up_to = skipped_up_to;
-        names = (λ q m p t j b e d has. ap (λ x. contains by_name x q) o.names ∙ n.holds.names q m p t j b e d has);
+        names = subst (AreNamed image s.walk (behind (role_of part))) (sym o.names)
+            (λ name m p t j b valid e d here. n.holds.names name m p t j b valid e d here);
         small = n.holds.small;
       };
       block = tt;
@@ -160,7 +158,7 @@ module _ {image : List ℕ} {f : Found} {part : Part} {a i : ℕ} {s : Course} (
         let less = unowned_less g.owned.items block (let l = o.inside in omega arith) (o.stands.owned.1 block o.inside ∙ o.free) in
         omega (arith, o.stands.left)
 
-    module _ {h : Found} (t : IsTaken image taken block g h) where
+    module _ {h : Found} (t : IsTaken taken block g h) where
       abbrev now : Course
       now = course_on s role block (Some block) o.findings
 
@@ -174,30 +172,27 @@ module _ {image : List ℕ} {f : Found} {part : Part} {a i : ℕ} {s : Course} (
       taken_up_to = subst (IsUpTo image ((role, block) ∷ s.walk) s.skipped) (same_behind role (role_of part) same)
           (past_taken image role up_to v a i block n.asked)
 
-      known_names : (j : ℕ) (q : Vec ℕ) {m p t : ℕ} → Head m p t j ≡ role → suc p ≡ first (role_of part) → suc (suc t) ≡ second (role_of part)
-          → Asks image s.walk (Head m p t j) a i → known_at j (contains by_name g.names q) ≡ has_name image s.walk p t q.items
-      known_names zero q {p = p} {t = t} is e d asked =
-          let place = same in
-          let x : 0 ≡ third role = ap third is in
-          sym (no_name image s.walk p t q.items
-          (λ m k c has. let y : k < third (role_of part) = (n.holds.up_to.taken (Head m p t k) c has).2 e d in omega arith))
-      known_names (suc j) q {p = p} {t = t} is e d asked =
-          ap (λ x. contains by_name x q) o.names ∙ n.holds.names q asked.1.0 p t j a e d asked.1.1
+      same_names : (taken : Part) → IsKept taken block g h → h.names ≡ g.names
+      same_names (HeadPart m p t j) kept = kept.names
+      same_names (ExtPart m k) kept = kept.names
+      same_names _ kept = kept.names
 
       taken_names : AreNamed image now.walk (behind (role_of part)) h.names
-      taken_names = go taken o.role t.kept
+      taken_names = subst (AreNamed image now.walk (behind (role_of part))) (sym (same_names taken t.kept))
+          (go taken o.role (known_named taken o.role) (known_chain taken o.role) o.names)
         where
-          go : (taken : Part) → role_of taken ≡ role → IsKept image taken block g h → AreNamed image now.walk (behind (role_of part)) h.names
-          go (HeadPart m p t j) is kept = λ q c u v k b e d has.
+          go : (taken : Part) → role_of taken ≡ role → AreNamed image s.walk (position_of (role_of taken)) f.names → IsChain s.walk taken
+              → KeepsName image taken block f.names g.names → AreNamed image now.walk (behind (role_of part)) g.names
+          go (HeadPart m p t j) is named chain kept = λ name c u v k b valid e d here.
               let place = same in
               let up : p ≡ u = (let x : suc p ≡ first role = ap first is in omega arith) in
               let slot : t ≡ v = (let x : suc (suc t) ≡ second role = ap second is in omega arith) in
-              let asked : Asks image s.walk (Head m p t j) a i = subst (λ r. Asks image s.walk r a i) (sym is) n.asked in
-              let here : contains by_name h.names q ≡ has_name image ((Head m p t j, block) ∷ s.walk) p t q.items =
-              kept.names q ∙ (λ y. sym (own_name image m p t j block q.items) y
-              || known_names j q is (ap suc up ∙ e) (ap (λ t. suc (suc t)) slot ∙ d) asked y) in
-              here ∙ (λ y. has_name image ((is y, block) ∷ s.walk) (up y) (slot y) q.items)
-          go _ is kept = λ q c u v k b e d has. absurd (let place = same in let x = ap second is in omega arith)
+              let upper = uppers_in image name in
+              let here : has g.names upper ≡ has_name image ((Head m p t j, block) ∷ s.walk) p t upper =
+              kept name valid
+              ∙ (λ y. sym (own_name image m p t j block upper) y || known_names image s.walk m p t j f.names named chain name valid y) in
+              here ∙ (λ y. has_name image ((is y, block) ∷ s.walk) (up y) (slot y) upper)
+          go _ is named chain kept = λ name c u v k b valid e d here. absurd (let place = same in let x = ap second is in omega arith)
 
       pub taken_on : IsGoneOn image s part a i h (Some block)
       taken_on = record {

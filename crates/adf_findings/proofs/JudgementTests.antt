@@ -1,18 +1,23 @@
 -- The judgement of a part by tests.
-use Rattle.std.specs.Prelude.{Bool, true, false, ◌&&◌, ◌||◌, cond, Option, Some, None}
-use Rattle.std.proofs.Common.{◌≡◌, ℕ, List, [], ◌∷◌, ◌++◌, inl, inr, ◌<◌, ◌≤◌, refl, sym, subst, ap, ◌∙◌, arith}
+use Rattle.std.specs.Prelude.{Bool, true, false, ◌&&◌, ◌||◌, cond, nat_le, slice_index, Option, Some, None}
+use Rattle.std.proofs.Common.{◌≡◌, ℕ, List, [], ◌∷◌, ◌++◌, inl, inr, ◌<◌, ◌≤◌, refl, sym, subst, ap, ◌∙◌, arith, rules}
+use Rattle.std.proofs.Math.Bool.{or-true}
+use Rattle.std.proofs.lemmas.Bool.{and_parts}
 use Rattle.std.proofs.lemmas.Bool.Decides.{nat_tests}
 use Rattle.adf_blocks.specs.declared.cause.Cause.{Cause}
-use Rattle.adf_blocks.specs.declared.cause.Cause.TheVariants.{OutOfRange, SameName, ShortFile, Taken}
-use Rattle.adf_blocks.specs.Forms.{Clause, first_cause}
+use Rattle.adf_blocks.specs.declared.cause.Cause.TheVariants.{BadName, OutOfRange, SameName, ShortFile, Taken}
+use Rattle.adf_blocks.specs.Forms.{Clause, first_cause, text_at}
+use Rattle.adf_blocks.specs.HeadBlock.{is_name_at}
 use Rattle.adf_blocks.specs.Sizes.{blocks}
 use Rattle.adf_base.specs.Words.{block}
 use Rattle.adf_tree.specs.declared.entry.Kind.{Kind}
 use Rattle.adf_tree.specs.declared.entry.Kind.TheVariants.{Ofs, Ffs}
-use Rattle.adf_blocks.specs.declared.layout.TheConstants.{SIZE}
+use Rattle.adf_tree.specs.Texts.{is_name}
+use Rattle.adf_blocks.specs.declared.layout.TheConstants.{NAME, SIZE}
 use Rattle.adf_blocks.specs.ExtBlock.{ext_form}
 use Rattle.adf_volume.specs.Demands.{Demand, demand, demands_at, data_demands, AllHold, FirstFails}
-use Rattle.adf_volume.specs.Image.{held, kind_of, word_in}
+use Rattle.adf_volume.proofs.FormDemands.{all_demanded, demanded}
+use Rattle.adf_volume.specs.Image.{held, kind_of, name_of, word_in}
 use Rattle.adf_volume.specs.Walk.{Role, Enough, IsAbsent, next_data, node_block}
 use Rattle.adf_volume.specs.Walk.Role.{Page, Head, Data}
 use Rattle.adf_findings.specs.Demands.{NewNameIn, demands_in, form_demands_in, head_form_in}
@@ -21,7 +26,9 @@ use Rattle.adf_findings.specs.declared.part.Part.TheVariants.{Root as RootPart, 
 use Rattle.adf_findings.specs.declared.part.Part.TheVariants.{Ext as ExtPart, Data as DataPart}
 use Rattle.adf_findings.specs.declared.forms.Context.{Context}
 use Rattle.adf_findings.specs.declared.judge.Facts.{Facts}
-use Rattle.adf_findings.specs.Survey.{IsItself, Judged, is_kept}
+use Rattle.adf_findings.specs.Survey.{IsItself, Judged, JudgementValue, is_kept}
+use Rattle.adf_findings.specs.Survey.JudgementValue.{clean, reported}
+use Rattle.adf_findings.specs.Found.{HasValidName}
 use Rattle.adf_findings.specs.Forms.{IsContext, Knows, Tells, data_clauses, first_failing, first_of_five, form_of, in_range, itself_by, judged_by}
 use Rattle.adf_findings.specs.Forms.{keeps, of_form}
 use Rattle.adf_findings.specs.Parts.{role_of}
@@ -57,7 +64,7 @@ first_new : (b : ℕ) (n : Bool) (N : Type 0) → Tells n N → FirstIs (demand 
 first_new b true N h = (h, tt)
 first_new b false N h = inl (h, refl, refl)
 
-first_is : (a b : ℕ) (e r t n : Bool) (form : List Clause) (E R T N : Type 0) → Tells e E → Tells r R → (r ≡ true → Tells t T) → (r ≡ true → Tells n N)
+first_is : (a b : ℕ) (e r t n : Bool) (form : List Clause) (E R T N : Type 0) → Tells e E → Tells r R → (r ≡ true → Tells t T) → Tells n N
     → FirstIs (demand ShortFile a E ∷ demand OutOfRange a R ∷ demand Taken b T ∷ demands_at b form ++ demand SameName b N ∷ [])
     (first_of_five a b e r t (first_cause form) n)
 first_is a b false r t n form E R T N he hr ht hn = inl (he, refl, refl)
@@ -68,7 +75,7 @@ first_is a b true true true n form E R T N he hr ht hn =
     let xs : List Demand = demands_at b form ++ demand SameName b N ∷ [] in
     pass_on (demand ShortFile a E) (demand OutOfRange a R ∷ demand Taken b T ∷ xs) o he
     (pass_on (demand OutOfRange a R) (demand Taken b T ∷ xs) o hr
-    (pass_on (demand Taken b T) xs o (ht refl) (first_more b form (demand SameName b N ∷ []) (cond n None (Some (b, SameName))) (first_new b n N (hn refl)))))
+    (pass_on (demand Taken b T) xs o (ht refl) (first_more b form (demand SameName b N ∷ []) (cond n None (Some (b, SameName))) (first_new b n N hn))))
 
 itself_clause : (k c : Bool) → Tells (k || c) (k ≡ false → c ≡ true)
 itself_clause true c = λ (e : true ≡ false). cc
@@ -151,18 +158,69 @@ form_is image w (DataPart n k) b x h =
     ∙ (λ t. demands_at b (data_clauses (kind_of image) (sym h.0 t) k (held (kind_of image) (word_in image (sym h.0 t) SIZE) k) (sym h.1 t) (block image b)))
 
 -- a part is judged as the tests tell
-pub judged : (image : List ℕ) (w : List (Role × ℕ)) (part : Part) (a b : ℕ) (f : Facts) → Knows image w part b f
-    → Judged (role_of part) (demands_in image w (role_of part) a b) (judged_by (first_failing image part a b f) (keeps image part b f))
-judged image w part a b f k =
+pub judged : (image : List ℕ) (w : List (Role × ℕ)) (part : Part) (a b : ℕ) (f : Facts) (new : Bool) → Knows image w part b f
+    → Tells new (NewNameIn image w (role_of part) b)
+    → Judged (role_of part) (demands_in image w (role_of part) a b) (judged_by (first_failing image part a b f new) (keeps image part b f))
+judged image w part a b f new k named =
     let r : Role = role_of part in
     let form : List Clause = form_of image part b f.context in
     let before : List Demand → List Demand =
     λ ds. demand ShortFile a (Enough image w r) ∷ demand OutOfRange a ((2 ≤ b) × (b < blocks image)) ∷ demand Taken b (IsAbsent w b)
     ∷ ds ++ demand SameName b (NewNameIn image w r b) ∷ [] in
-    let P : List Demand → Type 0 = λ ds. Judged r (before ds) (judged_by (first_failing image part a b f) (keeps image part b f)) in
+    let P : List Demand → Type 0 = λ ds. Judged r (before ds) (judged_by (first_failing image part a b f new) (keeps image part b f)) in
     subst P (sym (form_is image w part b f.context k.context))
-    (judged_is r (before (demands_at b form)) (first_failing image part a b f) (keeps image part b f)
-    (first_is a b f.is_enough (in_range image b) f.is_absent f.is_new form (Enough image w r) ((2 ≤ b) × (b < blocks image)) (IsAbsent w b)
-    (NewNameIn image w r b) k.enough (tells_range image b) k.absent k.new)
+    (judged_is r (before (demands_at b form)) (first_failing image part a b f new) (keeps image part b f)
+    (first_is a b f.is_enough (in_range image b) f.is_absent new form (Enough image w r) ((2 ≤ b) × (b < blocks image)) (IsAbsent w b)
+    (NewNameIn image w r b) k.enough (tells_range image b) k.absent named)
     (itself_is r a b (in_range image b) f.is_absent form (Enough image w r) ((2 ≤ b) × (b < blocks image)) (IsAbsent w b) (NewNameIn image w r b)
     (short_slight image w r) (tells_range image b) k.absent (same_slight image w r b)))
+
+some_cause : (x : ℕ × Cause) (kept : Bool) → judged_by (Some x) kept ≡ clean → ⊥
+some_cause x true h = cc
+some_cause x false h = cc
+
+-- a form without a cause identifies its part
+pub itself_whole : (r : Role) (form : List Clause) → first_cause form ≡ None → itself_by r form ≡ true
+itself_whole r [] h = refl
+itself_whole r ((true, c) ∷ cs) h = rw (or-true (is_kept r c)) (itself_whole r cs h)
+itself_whole r ((false, c) ∷ cs) h = cc
+
+-- the tests of a part, by whether its file has extension blocks, its block is in range and has no owner, and the part is itself
+module _ (a b : ℕ) where
+  -- another cause than that of the name
+  pub other_cause : (e r t new kept : Bool) (form : Option Cause) (o : JudgementValue)
+      → judged_by (first_of_five a b e r t form true) kept ≡ o → (o ≡ clean → ⊥) → judged_by (first_of_five a b e r t form new) kept ≡ o
+  other_cause false r t new kept form o h some = h
+  other_cause true false t new kept form o h some = h
+  other_cause true true false new kept form o h some = h
+  other_cause true true true new kept (Some c) o h some = h
+  other_cause true true true new kept None o h some = absurd (some (sym h))
+
+  -- no other cause
+  pub no_cause : (e r t kept : Bool) (form : Option Cause) → judged_by (first_of_five a b e r t form true) kept ≡ clean → form ≡ None
+  no_cause false r t kept form h = absurd (some_cause (a, ShortFile) kept h)
+  no_cause true false t kept form h = absurd (some_cause (a, OutOfRange) kept h)
+  no_cause true true false kept form h = absurd (some_cause (b, Taken) kept h)
+  no_cause true true true kept (Some c) h = absurd (some_cause (b, c) kept h)
+  no_cause true true true kept None h = refl
+
+  -- then that of the name counts
+  pub name_cause : (e r t itself new : Bool) (form : Option Cause) → (form ≡ None → itself ≡ true)
+      → judged_by (first_of_five a b e r t form true) (r && (t && itself)) ≡ clean
+      → judged_by (first_of_five a b e r t form new) (r && (t && itself)) ≡ cond new clean (reported b SameName)
+  name_cause false r t itself new form is h = absurd (some_cause (a, ShortFile) (r && (t && itself)) h)
+  name_cause true false t itself new form is h = absurd (some_cause (a, OutOfRange) false h)
+  name_cause true true false itself new form is h = absurd (some_cause (b, Taken) false h)
+  name_cause true true true itself new (Some c) is h = absurd (some_cause (b, c) itself h)
+  name_cause true true true itself true None is h = refl
+  name_cause true true true itself false None is h = ap (judged_by (Some (b, SameName))) (is refl)
+
+-- a header without a cause in its form has a valid name
+pub valid_name : (image : List ℕ) (part : Part) (b : ℕ) (x : Context) → first_cause (form_of image part b x) ≡ None → HasValidName image part b
+unfolding name_of
+valid_name image (HeadPart n p s j) b x h =
+    let bytes = block image b in
+    let form = form_of image (HeadPart n p s j) b x in
+    let both = demanded b form (is_name_at bytes NAME) BadName (all_demanded b form h) (search rules) in
+    (and_parts (nat_le (slice_index bytes NAME) 30) (is_name (text_at bytes NAME)) both).1
+valid_name image _ b x h = tt

@@ -27,6 +27,7 @@ use Rattle.adf_findings.proofs.BlockOwners.{owner_is}
 use Rattle.adf_findings.proofs.OneSurvey.{gathered, one_survey}
 use Rattle.adf_findings.proofs.SoundMarks.{clear_is_sound, inside, unread_none}
 use Rattle.adf_findings.proofs.Starts.{course_size}
+use Rattle.adf_findings.proofs.Taking.{stands_but}
 
 -- of an image of which nothing is taken the findings are kept alone
 pub unread_kept : (v : SurveyValue) → UnreadTells v.image (map finding_value v.findings) → v.concerned ≡ [] → v.owners ≡ [] → v.numbers ≡ [] → v.taken ≡ []
@@ -55,23 +56,8 @@ unread_kept v told concerned owners numbers taken nodes parents sound whole = (
 stands_with : (image : List ℕ) (f g : Found) (s : Course) (gs : List FindingValue) → Stands image f s → g ≡ record f { findings = g.findings }
     → map finding_value g.findings.items ≡ gs → Stands image g (record { walk = s.walk; skipped = s.skipped; findings = gs })
 stands_with image f g s gs st same e =
-    subst (λ h. Stands image h (record { walk = s.walk; skipped = s.skipped; findings = gs })) (sym same) (record {
-      taken = st.taken;
-      owned = st.owned;
-      owners = st.owners;
-      numbers = st.numbers;
-      avoided = st.avoided;
-      left = st.left;
-      node = st.node;
-      count = st.count;
-      few = st.few;
-      ext = st.ext;
-      findings = e;
-      parent = st.parent;
-      parents = st.parents;
-      places = st.places;
-      datas = st.datas;
-    })
+    subst (λ h. Stands image h (record { walk = s.walk; skipped = s.skipped; findings = gs })) (sym same)
+    (stands_but image f (record f { findings = g.findings }) s s.skipped gs refl st st.avoided e)
 
 -- of an image whose course is done, with its bits compared
 pub read_kept : (image : List ℕ) (f g : Found) (concerned : List (Option Concern)) (sound whole : List Bool)

@@ -2,17 +2,17 @@
 use Rattle.std.specs.Prelude.{Bool, true, false, cond, not, nat_le, nat_lt, ◌==◌, ◌||◌, ◌&&◌, Some, slice_index_or}
 use Rattle.std.proofs.Common.{◌≡◌, ◌≢◌, ℕ, zero, suc, List, [], ◌∷◌, inl, inr, ◌*◌, ◌/◌, ◌<◌, ◌≤◌, refl, sym, subst, ap, ◌∙◌, arith}
 use Rattle.std.specs.Option.{unwrap_or}
-use Rattle.std.specs.Ordering.{is_eq, nat_cmp}
-use Rattle.std.specs.Cmp.Lexicographic.{slice_cmp}
-use Rattle.std.specs.Global.{Vec}
+use Rattle.std.specs.Ordering.{is_eq}
+use Rattle.std.specs.Str.{bytes_eq}
 use Rattle.std.specs.BTreeMap.{get}
-use Rattle.std.specs.BTreeSet.{BTreeSet, contains}
 use Rattle.std.proofs.lemmas.Bool.{and_parts, cases_Bool, eqb-true, eq-eqb}
 use Rattle.std.proofs.lemmas.Bool.Decides.{nat_tests}
-use Rattle.adf_tree.proofs.NameKeys.{same_number, then_is}
+use Rattle.std.proofs.lemmas.Slice.Eq.{bytes_eq-Decides}
+use Rattle.adf_tree.specs.NameSet.{HasMore, Names, has}
+use Rattle.adf_tree.specs.Texts.{is_name, uppers}
 use Rattle.adf_blocks.specs.declared.layout.TheConstants.{POINTERS}
 use Rattle.adf_blocks.specs.Sizes.{blocks}
-use Rattle.adf_volume.specs.Image.{name_of, table_word, word_in}
+use Rattle.adf_volume.specs.Image.{letters_of, name_of, table_word, word_in}
 use Rattle.adf_volume.specs.Positions.{position_of}
 use Rattle.adf_volume.specs.Walk.{Role, Asks, Enough, FileAt, Has, IsAbsent, data_count, ext_block_in, ext_count, member_block, next_data, node_block}
 use Rattle.adf_volume.specs.Walk.Role.{Root, Page, MapExt, Head, Ext, Data}
@@ -25,9 +25,11 @@ use Rattle.adf_findings.specs.declared.judge.Facts.{Facts}
 use Rattle.adf_findings.specs.declared.found.Found.{Found}
 use Rattle.adf_findings.specs.Survey.{Course}
 use Rattle.adf_findings.specs.Forms.{IsContext, Knows, Tells, in_range}
-use Rattle.adf_findings.specs.Found.{AreNamed, IsChain, Stands, context_in, at_key, by_name, enough_in, is_named, member_in, has_name, new_in, next_in, owns}
+use Rattle.adf_findings.specs.Found.{AreNamed, HasValidName, IsChain, KeepsName, Stands}
+use Rattle.adf_findings.specs.Found.{at_key, context_in, enough_in, has_name, is_named, known_at, member_in, new_in, next_in, owns}
 use Rattle.adf_findings.specs.Parts.{by_key, key_of, role_of}
 use Rattle.adf_findings.proofs.Keys.{equal_keys}
+use Rattle.adf_findings.proofs.Names.{other_name, upper_twice}
 
 pub tells_absent : (w : List (Role × ℕ)) (b : ℕ) → Tells (not (owns w b)) (IsAbsent w b)
 tells_absent [] b = λ q h. h
@@ -41,46 +43,29 @@ tells_absent (x ∷ w) b = go (x.1 == b) (owns w b) refl (tells_absent w b)
       | inr g ↦ h q g
     ]
 
--- names that compare equal are one
-same_name : (x y : List ℕ) → is_eq (slice_cmp nat_cmp x y) ≡ true → x ≡ y
-same_name [] [] e = refl
-same_name [] (y ∷ ys) e = cc
-same_name (x ∷ xs) [] e = cc
-same_name (x ∷ xs) (y ∷ ys) e =
-    let p = and_parts (is_eq (nat_cmp x y)) (is_eq (slice_cmp nat_cmp xs ys)) (sym (then_is (nat_cmp x y) (slice_cmp nat_cmp xs ys)) ∙ e) in
-    let z : x ≡ y = eqb-true x y (sym (same_number x y) ∙ p.0) in
-    λ i. z i ∷ same_name xs ys p.1 i
-
-name_itself : (x : List ℕ) → is_eq (slice_cmp nat_cmp x x) ≡ true
-name_itself [] = refl
-name_itself (x ∷ xs) = rw (then_is (nat_cmp x x) (slice_cmp nat_cmp xs xs), same_number x x, eq-eqb x x refl, name_itself xs) refl
-
-named_is : (image : List ℕ) (q p s c : ℕ) (n m j : ℕ) (name : List ℕ)
-    → is_named image (Head n q m j) c p s name ≡ ((q == p) && ((m == s) && is_eq (slice_cmp nat_cmp (uppers_in image (name_of image c)) name)))
-named_is image q p s c n m j name = simp (then_is, same_number)
-
 -- in its own chain a header has the name that is its own
 pub own_name : (image : List ℕ) (n p s j c : ℕ) (name : List ℕ)
-    → is_named image (Head n p s j) c p s name ≡ is_eq (slice_cmp nat_cmp (uppers_in image (name_of image c)) name)
-own_name image n p s j c name = named_is image p p s c n s j name ∙ rw (eq-eqb p p refl, eq-eqb s s refl) refl
+    → is_named image (Head n p s j) c p s name ≡ bytes_eq (uppers_in image (name_of image c)) name
+own_name image n p s j c name = rw (eq-eqb p p refl, eq-eqb s s refl) refl
 
 -- whether the role is a header of the chain with the name
 tells_named : (image : List ℕ) (r : Role) (c p s : ℕ) (name : List ℕ)
     → Tells (not (is_named image r c p s name)) ((m k : ℕ) → r ≡ Head m p s k → uppers_in image (name_of image c) ≢ name)
 tells_named image (Head n q m j) c p s name = go (is_named image (Head n q m j) c p s name) refl
   where
-    go : (t : Bool) → is_named image (Head n q m j) c p s name ≡ t → Tells (not t) ((i k : ℕ) → Head n q m j ≡ Head i p s k → uppers_in image (name_of image c) ≢ name)
+    go : (t : Bool) → is_named image (Head n q m j) c p s name ≡ t
+        → Tells (not t) ((i k : ℕ) → Head n q m j ≡ Head i p s k → uppers_in image (name_of image c) ≢ name)
     go true e =
-        let x = and_parts (q == p) ((m == s) && is_eq (slice_cmp nat_cmp (uppers_in image (name_of image c)) name)) (sym (named_is image q p s c n m j name) ∙ e) in
-        let y = and_parts (m == s) (is_eq (slice_cmp nat_cmp (uppers_in image (name_of image c)) name)) x.1 in
+        let x = and_parts (q == p) ((m == s) && bytes_eq (uppers_in image (name_of image c)) name) e in
+        let y = and_parts (m == s) (bytes_eq (uppers_in image (name_of image c)) name) x.1 in
         let qp : q ≡ p = eqb-true q p x.0 in
         let ms : m ≡ s = eqb-true m s y.0 in
-        λ f. f n j (λ i. Head n (qp i) (ms i) j) (same_name (uppers_in image (name_of image c)) name y.1)
+        λ f. f n j (λ i. Head n (qp i) (ms i) j) ((bytes_eq-Decides (uppers_in image (name_of image c)) name).0 y.1)
     go false e = λ i k z g.
         let qp : q ≡ p = cc in
         let ms : m ≡ s = cc in
-        let one : is_named image (Head n q m j) c p s name ≡ true =
-        named_is image q p s c n m j name ∙ rw (eq-eqb q p qp, eq-eqb m s ms, g, name_itself name) refl in
+        let same = (bytes_eq-Decides (uppers_in image (name_of image c)) name).1 g in
+        let one : is_named image (Head n q m j) c p s name ≡ true = rw (eq-eqb q p qp, eq-eqb m s ms, same) refl in
         let u : true ≡ false = sym one ∙ e in cc
 tells_named image _ c p s name = λ m k e. cc
 
@@ -104,7 +89,7 @@ tells_new image (x ∷ w) p s name =
     ]
 
 -- a chain without headers has no names
-pub no_name : (image : List ℕ) (w : List (Role × ℕ)) (p s : ℕ) (name : List ℕ) → ((m k c : ℕ) → Has w (Head m p s k) c → ⊥)
+no_name : (image : List ℕ) (w : List (Role × ℕ)) (p s : ℕ) (name : List ℕ) → ((m k c : ℕ) → Has w (Head m p s k) c → ⊥)
     → has_name image w p s name ≡ false
 no_name image w p s name none = go (has_name image w p s name) (tells_new image w p s name)
   where
@@ -112,25 +97,42 @@ no_name image w p s name none = go (has_name image w p s name) (tells_new image 
     go false t = refl
     go true t = absurd (t (λ m k c h. absurd (none m k c h)))
 
--- the first header of a chain has a new name
-pub first_is_new : (image : List ℕ) (w : List (Role × ℕ)) (part : Part) (b n p s : ℕ) → part ≡ HeadPart n p s 0 → IsChain w part
-    → true ≡ new_in image w part b
-first_is_new image w part b n p s e =
-    subst (λ part. IsChain w part → true ≡ new_in image w part b) (sym e)
-    (λ none. sym (ap not (no_name image w p s (uppers_in image (name_of image b)) none)))
+-- the valid names that are known at a position of a chain are those of its headers
+pub known_names : (image : List ℕ) (w : List (Role × ℕ)) (n p s j : ℕ) (names : Names) → AreNamed image w (position_of (Head n p s j)) names
+    → IsChain w (HeadPart n p s j) → (name : List ℕ) → is_name name ≡ true
+    → known_at j (has names (uppers_in image name)) ≡ has_name image w p s (uppers_in image name)
+known_names image w n p s zero names named none name valid = sym (no_name image w p s (uppers_in image name) none)
+known_names image w n p s (suc j) names named (m, c, h) name valid = named name m p s j c valid refl refl h
 
--- a later one has a new name where the set does not have it
-pub later_is_new : (image : List ℕ) (w : List (Role × ℕ)) (part : Part) (b n p s j : ℕ) (names : BTreeSet (Vec ℕ)) (name : Vec ℕ) (t : Bool)
-    → part ≡ HeadPart n p s j → (j ≡ 0 → ⊥) → name.items ≡ uppers_in image (name_of image b) → t ≡ contains by_name names name
-    → AreNamed image w (position_of (role_of part)) names → IsChain w part → not t ≡ new_in image w part b
-later_is_new image w part b n p s j names name t e later is known =
-    subst (λ part. AreNamed image w (position_of (role_of part)) names → IsChain w part → not t ≡ new_in image w part b) (sym e) (go j later)
-  where
-    go : (j : ℕ) → (j ≡ 0 → ⊥) → AreNamed image w (position_of (Head n p s j)) names → IsChain w (HeadPart n p s j)
-        → not t ≡ new_in image w (HeadPart n p s j) b
-    go zero later named_all chain = absurd (later refl)
-    go (suc j) later named_all (m, c, has) =
-        ap not (known ∙ named_all name m p s j c refl refl has ∙ ap (has_name image w p s) is)
+-- the names kept with that of a header; `begun` has those before it
+module _ (image : List ℕ) (part : Part) (b n p s j : ℕ) (old begun : Names) (is : part ≡ HeadPart n p s j)
+    (begins : (x : List ℕ) → has begun x ≡ known_at j (has old x)) where
+  -- the name of the header, if it is valid
+  module _ (name : List ℕ) (told : name ≡ uppers_in image (name_of image b)) where
+    own : uppers name ≡ uppers_in image (name_of image b)
+    own = ap uppers told ∙ upper_twice (letters_of image) (name_of image b)
+
+    pub name_is_new : (w : List (Role × ℕ)) (t : Bool) → t ≡ not (has begun (uppers name)) → AreNamed image w (position_of (role_of part)) old
+        → IsChain w part → HasValidName image part b → t ≡ new_in image w part b
+    name_is_new w t e =
+        subst (λ part. AreNamed image w (position_of (role_of part)) old → IsChain w part → HasValidName image part b → t ≡ new_in image w part b)
+        (sym is)
+        (λ named chain valid.
+        let known = known_names image w n p s j old named chain (name_of image b) valid in
+        e ∙ ap not (ap (has begun) own ∙ (begins (uppers_in image (name_of image b)) ∙ known)))
+
+    pub kept_name : (new : Names) → HasMore begun new (uppers name) → KeepsName image part b old new
+    kept_name new more =
+        subst (λ part. KeepsName image part b old new) (sym is)
+        (λ q valid. more (uppers_in image q) ∙ (λ i. bytes_eq (own i) (uppers_in image q) || begins (uppers_in image q) i))
+
+  -- a header without one
+  pub kept_none : is_name (name_of image b) ≡ false → KeepsName image part b old begun
+  kept_none none =
+      subst (λ part. KeepsName image part b old begun) (sym is)
+      (λ q valid.
+      let other = other_name (letters_of image) (name_of image b) q none valid in
+      begins (uppers_in image q) ∙ sym (ap (λ t. t || known_at j (has old (uppers_in image q))) other))
 
 -- the block of an extension block, by its key
 at_ext : (w : List (Role × ℕ)) (n m : ℕ) → unwrap_or (at_key w (key_of (Ext n m))) 0 ≡ ext_block_in w n m
@@ -223,7 +225,7 @@ module _ (image : List ℕ) (f : Found) (s : Course) (st : Stands image f s) whe
       (λ t. nat_le (data_count image (sym (st.node n) t)) (POINTERS * suc (sym (st.ext n) t)))
       (enough_tells n (suc k) h.0.0 v h.0.1 (nat_le (data_count image (node_block s.walk n)) (POINTERS * suc (ext_count s.walk n))) refl)
 
-  new_is : (part : Part) (b : ℕ) → Tells (new_in image s.walk part b) (NewNameIn image s.walk (role_of part) b)
+  pub new_is : (part : Part) (b : ℕ) → Tells (new_in image s.walk part b) (NewNameIn image s.walk (role_of part) b)
   new_is (HeadPart n p t j) b = tells_new image s.walk p t (uppers_in image (name_of image b))
   new_is RootPart b = tt
   new_is (PagePart k) b = tt
@@ -236,12 +238,11 @@ module _ (image : List ℕ) (f : Found) (s : Course) (st : Stands image f s) whe
 
   -- what is found of a part that is asked for is so
   pub knows : (part : Part) (a i b : ℕ) (x : Facts) → IsGathered image s.walk → Asks image s.walk (role_of part) a i
-      → x.is_enough ≡ enough_in image f part → x.is_absent ≡ not (slice_index_or f.owned.items b false)
-      → (b < blocks image → x.is_new ≡ new_in image s.walk part b) → x.context ≡ context_in image f part → Knows image s.walk part b x
-  knows part a i b x v h enough absent new context = record {
+      → x.is_enough ≡ enough_in image f part → x.is_absent ≡ not (slice_index_or f.owned.items b false) → x.context ≡ context_in image f part
+      → Knows image s.walk part b x
+  knows part a i b x v h enough absent context = record {
     enough = subst (λ t. Tells t (Enough image s.walk (role_of part))) (sym enough) (enough_is part a i v h);
     absent = (λ e. subst (λ t. Tells t (IsAbsent s.walk b)) (sym (absent ∙ ap not (st.owned.1 b (below b e)))) (tells_absent s.walk b));
-    new = (λ e. subst (λ t. Tells t (NewNameIn image s.walk (role_of part) b)) (sym (new (below b e))) (new_is part b));
     context = subst (IsContext image s.walk (role_of part)) (sym context) (context_is part);
   }
 

@@ -26,6 +26,7 @@ pub mod Keys
 pub mod Known
 pub mod Outcomes
 pub mod CourseSteps
+pub mod Judgements
 -- the positions of a course, in turn
 pub mod CoursePlaces
 pub mod MapPlaces

@@ -5,7 +5,6 @@ use Rattle.std.proofs.Common.{get_or-set_same, get_or-set_other}
 use Rattle.std.specs.Option.{unwrap_or}
 use Rattle.std.specs.Ordering.{is_eq, nat_cmp}
 use Rattle.std.specs.BTreeMap.{BTreeMap, Updates, get}
-use Rattle.std.specs.BTreeSet.{contains}
 use Rattle.std.proofs.lemmas.Bool.Decides.{eqb_tells, nat_tests}
 use Rattle.std.proofs.lemmas.List.{map-append}
 use Rattle.adf_tree.proofs.NameKeys.{same_number, then_is}
@@ -24,24 +23,24 @@ use Rattle.adf_findings.specs.Survey.{Course, FindingValue}
 use Rattle.adf_findings.specs.Parts.{by_key, key_of, role_of, finding_value}
 use Rattle.adf_findings.specs.Found.{AreHeld, AreMarked, AreNumbered, AreSame, IsKept, IsLookedUp, IsReported, IsOwned, IsBlockSkipped, IsPut}
 use Rattle.adf_findings.specs.Found.{IsTaken, KeepsParts, Stands}
-use Rattle.adf_findings.specs.Found.{at_key, by_name, data_number, entry_number, exts_found, owns, parent_by, parent_node, places_of, unowned, with_data, with_place}
+use Rattle.adf_findings.specs.Found.{at_key, data_number, entry_number, exts_found, owns, parent_by, parent_node, places_of, unowned, with_data, with_place}
 
-kept_more : (image : List ℕ) (part : Part) (b : ℕ) (f g h : Found) → IsKept image part b f g → AreSame g h → IsKept image part b f h
-kept_more image (HeadPart n p s j) b f g h k e = record {
+kept_more : (part : Part) (b : ℕ) (f g h : Found) → IsKept part b f g → AreSame g h → IsKept part b f h
+kept_more (HeadPart n p s j) b f g h k e = record {
   nodes = ap (λ v. v.items) e.nodes ∙ k.nodes;
-  names = (λ q. ap (λ m. contains by_name m q) e.names ∙ k.names q);
+  names = e.names ∙ k.names;
   exts = e.exts ∙ k.exts;
   parents = ap (λ v. v.items) e.parents ∙ k.parents;
   places = ap (λ v. v.items) e.places ∙ k.places;
 }
-kept_more image (ExtPart n i) b f g h k e = record {
+kept_more (ExtPart n i) b f g h k e = record {
   nodes = e.nodes ∙ k.nodes;
   names = e.names ∙ k.names;
   exts = subst (λ m. Updates nat_cmp f.exts m n (Some i)) (sym e.exts) k.exts;
   parents = e.parents ∙ k.parents;
   places = e.places ∙ k.places;
 }
-kept_more image _ b f g h k e = record {
+kept_more _ b f g h k e = record {
   nodes = e.nodes ∙ k.nodes;
   names = e.names ∙ k.names;
   exts = e.exts ∙ k.exts;
@@ -49,9 +48,8 @@ kept_more image _ b f g h k e = record {
   places = e.places ∙ k.places;
 }
 
-pub taken_last : (image : List ℕ) (part : Part) (b : ℕ) (f g h : Found) → IsKept image part b f g → KeepsParts f g → IsOwned part b g h → AreSame g h
-    → IsTaken image part b f h
-taken_last image part b f g h k p o e =
+pub taken_last : (part : Part) (b : ℕ) (f g h : Found) → IsKept part b f g → KeepsParts f g → IsOwned part b g h → AreSame g h → IsTaken part b f h
+taken_last part b f g h k p o e =
     let x = subst (λ g. IsOwned part b g h) p o in
     let owned : IsOwned part b f h = record {
       taken = x.taken;
@@ -63,7 +61,7 @@ taken_last image part b f g h k p o e =
       avoided = x.avoided;
       findings = x.findings;
     } in
-    record { owned = owned; kept = kept_more image part b f g h k e }
+    record { owned = owned; kept = kept_more part b f g h k e }
 
 at_more : (m n : BTreeMap Key ℕ) (w : List (Role × ℕ)) (r : Role) (b : ℕ) (k : Key) → Updates by_key m n (key_of r) (Some b)
     → get by_key m k ≡ at_key w k → get by_key n k ≡ at_key ((r, b) ∷ w) k
@@ -148,6 +146,30 @@ IsNumbered w (Ext n k) = k ≡ suc (ext_count w n)
 IsNumbered w Root = ⊥
 IsNumbered w _ = Unit {0}
 
+-- what is taken stays so, whatever is skipped and reported and whatever names are kept
+pub stands_but : (image : List ℕ) (f g : Found) (s : Course) (over : List (Role × ℕ)) (fs : List FindingValue)
+    → g ≡ record f { avoided = g.avoided; findings = g.findings; names = g.names } → Stands image f s
+    → AreMarked (blocks image) g.avoided.items over → map finding_value g.findings.items ≡ fs
+    → Stands image g (record { walk = s.walk; skipped = over; findings = fs })
+stands_but image f g s over fs rest st avoided findings =
+    subst (λ h. Stands image h (record { walk = s.walk; skipped = over; findings = fs })) (sym rest) (record {
+      taken = st.taken;
+      owned = st.owned;
+      owners = st.owners;
+      numbers = st.numbers;
+      avoided = avoided;
+      left = st.left;
+      node = st.node;
+      count = st.count;
+      few = st.few;
+      ext = st.ext;
+      findings = findings;
+      parent = st.parent;
+      parents = st.parents;
+      places = st.places;
+      datas = st.datas;
+    })
+
 module _ (image : List ℕ) (f g : Found) (s : Course) (b : ℕ) (st : Stands image f s) where
   -- what of the walk is kept for later
   record IsLater (w : List (Role × ℕ)) : Type 0 where
@@ -172,7 +194,7 @@ module _ (image : List ℕ) (f g : Found) (s : Course) (b : ℕ) (st : Stands im
     places = ap (λ v. v.items) e.places ∙ (st.places ∙ sym (place (places_of s.walk)));
   }
 
-  later : (part : Part) → IsNumbered s.walk (role_of part) → IsKept image part b f g → IsLater ((role_of part, b) ∷ s.walk)
+  later : (part : Part) → IsNumbered s.walk (role_of part) → IsKept part b f g → IsLater ((role_of part, b) ∷ s.walk)
   later (HeadPart n p t j) fit k =
       let c : length f.nodes.items ≡ suc (heads s.walk) = st.count in
       let e : length f.nodes.items ≡ n = c ∙ sym fit in
@@ -208,7 +230,7 @@ module _ (image : List ℕ) (f g : Found) (s : Course) (b : ℕ) (st : Stands im
   later (DataPart n i) fit k = same_later (Data n i) (λ m c. refl) refl (λ m c. refl) (λ m c. refl) (λ cs. refl) k
 
   -- a part is taken
-  pub stands_taken : (part : Part) → IsNumbered s.walk (role_of part) → b < blocks image → owns s.walk b ≡ false → IsTaken image part b f g
+  pub stands_taken : (part : Part) → IsNumbered s.walk (role_of part) → b < blocks image → owns s.walk b ≡ false → IsTaken part b f g
       → Stands image g (record { walk = (role_of part, b) ∷ s.walk; skipped = s.skipped; findings = s.findings })
   stands_taken part fit lt free t =
       let o : IsOwned part b f g = t.owned in
@@ -241,23 +263,8 @@ module _ (image : List ℕ) (f g : Found) (s : Course) (b : ℕ) (st : Stands im
       → AreMarked (blocks image) g.avoided.items over → map finding_value g.findings.items ≡ fs
       → Stands image g (record { walk = s.walk; skipped = over; findings = fs })
   stands_else over fs rest avoided findings =
-      subst (λ h. Stands image h (record { walk = s.walk; skipped = over; findings = fs })) (sym rest) (record {
-        taken = st.taken;
-        owned = st.owned;
-        owners = st.owners;
-        numbers = st.numbers;
-        avoided = avoided;
-        left = st.left;
-        node = st.node;
-        count = st.count;
-        few = st.few;
-        ext = st.ext;
-        findings = findings;
-        parent = st.parent;
-        parents = st.parents;
-        places = st.places;
-        datas = st.datas;
-      })
+      subst (λ h. Stands image h (record { walk = s.walk; skipped = over; findings = fs })) (sym rest)
+      (stands_but image f (record f { avoided = g.avoided; findings = g.findings }) s over fs refl st avoided findings)
 
   -- a part is skipped
   pub stands_skipped : (r : Role) → IsBlockSkipped b f g

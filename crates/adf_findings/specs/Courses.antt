@@ -1,6 +1,6 @@
 -- The state of a survey along its course.
 -- Letters: s a course, w its walk; f, g states; k a position; a, i the block and the word that point to a part;
--- b a block; n, p nodes; x a reference.
+-- b a block; n, p nodes; x a reference; j a judgement.
 use Rattle.std.specs.Prelude.{◌≡◌, ◌≤◌, ◌<◌, ℕ, false, List, ◌∷◌, Option, Some, None, IfSome}
 use Rattle.std.proofs.Common.{suc}
 use Rattle.adf_blocks.specs.Sizes.{blocks}
@@ -12,9 +12,14 @@ use Rattle.adf_volume.proofs.Roles.{renumbered}
 use Rattle.adf_findings.specs.declared.part.Part.{Part}
 use Rattle.adf_findings.specs.declared.course.Reference.{Reference}
 use Rattle.adf_findings.specs.declared.found.Found.{Found}
-use Rattle.adf_findings.specs.Survey.{Course, FindingValue, IsCourse, IsNext}
+use Rattle.adf_findings.specs.declared.judge.Judgement.{Judgement}
+use Rattle.adf_findings.specs.declared.judge.Judgement.TheVariants.{Skipped}
+use Rattle.adf_tree.specs.NameSet.{Names}
+use Rattle.adf_findings.specs.Demands.{demands_in}
+use Rattle.adf_findings.specs.Forms.{judgement_value}
+use Rattle.adf_findings.specs.Survey.{Course, FindingValue, IsCourse, IsNext, Judged}
 use Rattle.adf_findings.specs.Parts.{role_of}
-use Rattle.adf_findings.specs.Found.{AreNamed, Stands, owns}
+use Rattle.adf_findings.specs.Found.{AreNamed, KeepsName, Stands, owns}
 
 -- the state is that of a course that has reached a position
 pub record Holds (image : List ℕ) (f : Found) (k : Position) (s : Course) : Type 0 where
@@ -45,6 +50,17 @@ HasReachedPart image f part a i = (s : Course) × IsNamed image f part a i s
 abbrev pub IsNextReference : List ℕ → Course → Reference → Type 0
 IsNextReference image s x = (i : ℕ) × IsNext image s (role_asked s x.part) x.holder i × (word_in image x.holder i ≡ x.block)
 
+-- the judgement is that of the part, in any course in which it is next
+abbrev pub IsJudged : List ℕ → Found → Reference → Part → Judgement → Type 0
+IsJudged image f x part j =
+    (s : Course) → Holds image f (position_of (role_of x.part)) s → IsNextReference image s x → role_of part ≡ role_asked s x.part
+    → Judged (role_of part) (demands_in image s.walk (role_of part) x.holder x.block) (judgement_value j)
+
+-- the name of a part that is not skipped is kept
+abbrev pub KeepsNameBy : List ℕ → Part → ℕ → Judgement → Names → Names → Type 0
+KeepsNameBy image part b (Skipped at c) old new = new ≡ old
+KeepsNameBy image part b _ old new = KeepsName image part b old new
+
 -- the part is skipped
 pub record IsSkipped (image : List ℕ) (s : Course) (x : Reference) (f g : Found) : Type 0 where
   pub findings : List FindingValue
@@ -62,7 +78,7 @@ pub record IsToTake (image : List ℕ) (s : Course) (x : Reference) (f g : Found
   pub course : IsCourse image (record { walk = (role_asked s x.part, x.block) ∷ s.walk; skipped = s.skipped; findings = findings })
   pub stands : Stands image g (record { walk = s.walk; skipped = s.skipped; findings = findings })
   pub left : g.left ≡ f.left
-  pub names : g.names ≡ f.names
+  pub names : KeepsName image part x.block f.names g.names
 
 -- the part is skipped or to be taken
 abbrev pub IsOutcome : List ℕ → Course → Reference → Found → Found → Option Part → Type 0

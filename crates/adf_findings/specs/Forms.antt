@@ -16,7 +16,7 @@ use Rattle.adf_blocks.specs.PageBlock.{page_form}
 use Rattle.adf_volume.specs.Image.{held, kind_of, word_in}
 use Rattle.adf_volume.specs.Walk.{Role, Enough, IsAbsent, next_data, node_block}
 use Rattle.adf_volume.specs.Walk.Role.{Head, Ext, Data}
-use Rattle.adf_findings.specs.Demands.{NewNameIn, head_form_in}
+use Rattle.adf_findings.specs.Demands.{head_form_in}
 use Rattle.adf_findings.specs.declared.part.Part.{Part}
 use Rattle.adf_findings.specs.declared.part.Part.TheVariants.{Root as RootPart, Page as PagePart, MapExt as MapExtPart, Head as HeadPart}
 use Rattle.adf_findings.specs.declared.part.Part.TheVariants.{Ext as ExtPart, Data as DataPart}
@@ -63,10 +63,10 @@ first_of_five a b true false absent form new = Some (a, OutOfRange)
 first_of_five a b true true false form new = Some (b, Taken)
 first_of_five a b true true true form new = of_form b form (cond new None (Some (b, SameName)))
 
--- the first cause of a part, and its block
-abbrev pub first_failing : List ℕ → Part → ℕ → ℕ → Facts → Option (ℕ × Cause)
-first_failing image part a b f =
-    first_of_five a b f.is_enough (in_range image b) f.is_absent (first_cause (form_of image part b f.context)) f.is_new
+-- the first cause of a part whose name is new or not, and its block
+abbrev pub first_failing : List ℕ → Part → ℕ → ℕ → Facts → Bool → Option (ℕ × Cause)
+first_failing image part a b f new =
+    first_of_five a b f.is_enough (in_range image b) f.is_absent (first_cause (form_of image part b f.context)) new
 
 -- the part is taken, whatever slight causes it has
 abbrev pub keeps : List ℕ → Part → ℕ → Facts → Bool
@@ -100,5 +100,4 @@ IsContext image w _ x = Unit {0}
 pub record Knows (image : List ℕ) (w : List (Role × ℕ)) (part : Part) (b : ℕ) (f : Facts) : Type 0 where
   pub enough : Tells f.is_enough (Enough image w (role_of part))
   pub absent : in_range image b ≡ true → Tells f.is_absent (IsAbsent w b)
-  pub new : in_range image b ≡ true → Tells f.is_new (NewNameIn image w (role_of part) b)
   pub context : IsContext image w (role_of part) f.context

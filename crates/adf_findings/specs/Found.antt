@@ -1,16 +1,15 @@
 -- The state of a survey, as a course.
--- Letters: w a walk, s a course; r a role; b, c blocks; k a key; n, p nodes; q a name in a chain; f a state;
+-- Letters: w a walk, s a course; r a role; b, c blocks; k a key; n, p nodes; f a state;
 -- ds data blocks.
-use Rattle.std.specs.Prelude.{◌≡◌, ◌≤◌, ◌<◌, ◌+◌, ◌-◌, ◌*◌, ◌/◌, ◌==◌, ◌||◌, ℕ, Bool, true, false, cond, not, nat_le, nat_lt, List, []}
+use Rattle.std.specs.Prelude.{◌≡◌, ◌≤◌, ◌<◌, ◌+◌, ◌-◌, ◌*◌, ◌/◌, ◌==◌, ◌&&◌, ◌||◌, ℕ, Bool, true, false, cond, not, nat_le, nat_lt, List, []}
 use Rattle.std.specs.Prelude.{◌∷◌, ◌++◌, length, set, map, slice_index, slice_index_or, Option, Some, None, IsTrue, ◌↔◌}
 use Rattle.std.proofs.Common.{zero, suc}
-use Rattle.std.specs.Global.{Vec}
 use Rattle.std.specs.Option.{unwrap_or}
-use Rattle.std.specs.Ordering.{is_eq, nat_cmp, ordering_then}
-use Rattle.std.specs.declared.cmp.Ordering.{Ordering}
-use Rattle.std.specs.Cmp.Lexicographic.{slice_cmp}
+use Rattle.std.specs.Ordering.{is_eq, nat_cmp}
+use Rattle.std.specs.Str.{bytes_eq}
 use Rattle.std.specs.BTreeMap.{BTreeMap, Updates, get}
-use Rattle.std.specs.BTreeSet.{BTreeSet, contains}
+use Rattle.adf_tree.specs.NameSet.{Names, has}
+use Rattle.adf_tree.specs.Texts.{is_name}
 use Rattle.adf_blocks.specs.declared.cause.Cause.{Cause}
 use Rattle.adf_blocks.specs.declared.cause.Cause.TheVariants.{LostBlock, OwnedFree}
 use Rattle.adf_volume.specs.Demands.{AllHold, FirstFails}
@@ -72,8 +71,7 @@ owner (x ∷ w) b = cond (x.1 == b) (entry_in x.0) (owner w b)
 
 -- whether the role at block c is a header of the chain with this name
 abbrev pub is_named : List ℕ → Role → ℕ → ℕ → ℕ → List ℕ → Bool
-is_named image (Head n p s j) c parent slot name =
-    is_eq (ordering_then (nat_cmp p parent) (ordering_then (nat_cmp s slot) (slice_cmp nat_cmp (uppers_in image (name_of image c)) name)))
+is_named image (Head n p s j) c parent slot name = (p == parent) && ((s == slot) && bytes_eq (uppers_in image (name_of image c)) name)
 is_named image _ c parent slot name = false
 
 -- whether a header of the chain has this name
@@ -81,15 +79,11 @@ abbrev pub has_name : List ℕ → List (Role × ℕ) → ℕ → ℕ → List �
 has_name image [] parent slot name = false
 has_name image (x ∷ w) parent slot name = is_named image x.0 x.1 parent slot name || has_name image w parent slot name
 
--- the order of names
-abbrev pub by_name : Vec ℕ → Vec ℕ → Ordering
-by_name a b = slice_cmp nat_cmp a.items b.items
-
--- the set has the names of the walk's headers in the chain at a position, if there are any
-abbrev pub AreNamed : List ℕ → List (Role × ℕ) → Position → BTreeSet (Vec ℕ) → Type 0
+-- the set has the valid names of the walk's headers in the chain at a position, if there are any
+abbrev pub AreNamed : List ℕ → List (Role × ℕ) → Position → Names → Type 0
 AreNamed image w k names =
-    (q : Vec ℕ) (m p s j b : ℕ) → suc p ≡ k.first → suc (suc s) ≡ k.second → Has w (Head m p s j) b
-    → contains by_name names q ≡ has_name image w p s q.items
+    (name : List ℕ) (m p s j b : ℕ) → is_name name ≡ true → suc p ≡ k.first → suc (suc s) ≡ k.second → Has w (Head m p s j) b
+    → has names (uppers_in image name) ≡ has_name image w p s (uppers_in image name)
 
 -- the walk has headers of the part's chain, unless the part is the first of them
 abbrev pub IsChain : List (Role × ℕ) → Part → Type 0
@@ -101,6 +95,11 @@ IsChain w _ = Unit {0}
 abbrev pub new_in : List ℕ → List (Role × ℕ) → Part → ℕ → Bool
 new_in image w (HeadPart n p s j) b = not (has_name image w p s (uppers_in image (name_of image b)))
 new_in image w _ b = true
+
+-- the name of the part is valid, if it is a header
+abbrev pub HasValidName : List ℕ → Part → ℕ → Type 0
+HasValidName image (HeadPart n p s j) b = is_name (name_of image b) ≡ true
+HasValidName image _ b = Unit {0}
 
 -- p if the role is the header of node n in directory p, otherwise c
 abbrev pub parent_by : ℕ → Role → ℕ → ℕ
@@ -209,11 +208,18 @@ abbrev pub known_at : ℕ → Bool → Bool
 known_at zero known = false
 known_at (suc j) known = known
 
--- the node, the name, the directory p, the slot and the position j of a header are kept
-pub record KeepsHead (image : List ℕ) (p s j b : ℕ) (f g : Found) : Type 0 where
+-- of valid names, the new set has those of the old one, or none if the part is the first header of a chain,
+-- and that of the part if it is a header
+abbrev pub KeepsName : List ℕ → Part → ℕ → Names → Names → Type 0
+KeepsName image (HeadPart n p s j) b old new =
+    (name : List ℕ) → is_name name ≡ true → has new (uppers_in image name)
+    ≡ (bytes_eq (uppers_in image (name_of image b)) (uppers_in image name) || known_at j (has old (uppers_in image name)))
+KeepsName image _ b old new = new ≡ old
+
+-- the node, the directory p, the slot and the position j of a header are kept
+pub record KeepsHead (p s j b : ℕ) (f g : Found) : Type 0 where
   pub nodes : g.nodes.items ≡ f.nodes.items ++ b ∷ []
-  pub names : (q : Vec ℕ)
-      → contains by_name g.names q ≡ (is_eq (slice_cmp nat_cmp (uppers_in image (name_of image b)) q.items) || known_at j (contains by_name f.names q))
+  pub names : g.names ≡ f.names
   pub exts : g.exts ≡ f.exts
   pub parents : g.parents.items ≡ f.parents.items ++ p ∷ []
   pub places : g.places.items ≡ f.places.items ++ record { slot = s; place = j } ∷ []
@@ -227,19 +233,19 @@ pub record KeepsExt (n k : ℕ) (f g : Found) : Type 0 where
   pub places : g.places ≡ f.places
 
 -- the facts of a part that later parts need are kept
-abbrev pub IsKept : List ℕ → Part → ℕ → Found → Found → Type 0
-IsKept image (HeadPart n p s j) b f g = KeepsHead image p s j b f g
-IsKept image (ExtPart n k) b f g = KeepsExt n k f g
-IsKept image _ b f g = AreSame f g
+abbrev pub IsKept : Part → ℕ → Found → Found → Type 0
+IsKept (HeadPart n p s j) b f g = KeepsHead p s j b f g
+IsKept (ExtPart n k) b f g = KeepsExt n k f g
+IsKept _ b f g = AreSame f g
 
--- marks, keys and findings are unchanged
+-- marks, keys, names and findings are unchanged
 abbrev pub KeepsParts : Found → Found → Type 0
-KeepsParts f g = g ≡ record f { nodes = g.nodes; exts = g.exts; names = g.names; parents = g.parents; places = g.places }
+KeepsParts f g = g ≡ record f { nodes = g.nodes; exts = g.exts; parents = g.parents; places = g.places }
 
 -- the part is taken
-pub record IsTaken (image : List ℕ) (part : Part) (b : ℕ) (f g : Found) : Type 0 where
+pub record IsTaken (part : Part) (b : ℕ) (f g : Found) : Type 0 where
   pub owned : IsOwned part b f g
-  pub kept : IsKept image part b f g
+  pub kept : IsKept part b f g
 
 -- the block is skipped
 pub record IsBlockSkipped (b : ℕ) (f g : Found) : Type 0 where

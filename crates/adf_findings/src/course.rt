@@ -10,7 +10,8 @@ ghost use Rattle.adf_findings.specs.Survey.{Course};
 ghost use Rattle.adf_findings.specs.Parts.{role_of};
 ghost use Rattle.adf_findings.specs.Found.{IsFinished};
 ghost use Rattle.adf_findings.specs.Courses.{HasReached, HasReachedData, HasReachedFile, HasReachedPage, HasReachedPart};
-ghost use Rattle.adf_findings.specs.Courses.{HasReachedSlot, Holds, IsGoneOn, IsNamed, IsNextReference, IsOutcome, IsPageNamed};
+ghost use Rattle.adf_findings.specs.Courses.{HasReachedSlot, Holds, IsGoneOn, IsJudged, IsNamed, IsNextReference};
+ghost use Rattle.adf_findings.specs.Courses.{IsOutcome, IsPageNamed, KeepsNameBy};
 
 use crate::found::Found;
 use crate::image::Image;
@@ -42,6 +43,36 @@ fn of_part(part: Part, block: u32, cause: Cause) -> Finding
     }
 }
 
+// Judges the part that is next. The name of a header that is to be taken is kept.
+fn judge_named(
+    image: &Image<'_>,
+    found: &mut Found,
+    part: Part,
+    reference: &Reference,
+) -> Result<Judgement, NoMemory>
+    ensures judged { IfOk result (λ j. IsJudged image.now found.old reference.now part j) }
+    ensures names { IfOk result (λ j. KeepsNameBy image.now part
+        reference.now.block j found.old.names found.new.names) }
+    ensures rest { found.new ≡ record found.old { names = found.new.names } }
+{
+    let b = reference.block;
+    let facts = found.facts(image, part, b);
+    match judge(image, part, reference.holder, b, &facts) {
+        Judgement::Clean => {
+            if found.keep_name(image, part, b)? {
+                Ok(Judgement::Clean)
+            } else {
+                Ok(Judgement::Reported(b, Cause::SameName))
+            }
+        }
+        Judgement::Reported(at, cause) => {
+            found.keep_name(image, part, b)?;
+            Ok(Judgement::Reported(at, cause))
+        }
+        Judgement::Skipped(at, cause) => Ok(Judgement::Skipped(at, cause)),
+    }
+}
+
 // Judges the part that is next and reports its cause. Returns the part if it is to be taken, `None` if skipped.
 fn judge_next(
     image: &Image<'_>,
@@ -53,10 +84,8 @@ fn judge_next(
         → IsNextReference image.now s reference.now
         → IsOutcome image.now s reference.now found.old found.new o) }
 {
-    let b = reference.block;
     let part = reference.part.numbered(found.nodes.len() as u32);
-    let facts = found.facts(image, part, b)?;
-    match judge(image, part, reference.holder, b, &facts) {
+    match judge_named(image, found, part, reference)? {
         Judgement::Clean => Ok(Some(part)),
         Judgement::Reported(at, cause) => {
             found.report(of_part(part, at, cause))?;
@@ -64,7 +93,7 @@ fn judge_next(
         }
         Judgement::Skipped(at, cause) => {
             found.report(of_part(part, at, cause))?;
-            found.skip(b);
+            found.skip(reference.block);
             Ok(None)
         }
     }
@@ -91,7 +120,7 @@ fn go_on(
     };
     match judge_next(image, found, &reference)? {
         Some(part) => {
-            found.take(image, part, reference.block)?;
+            found.take(part, reference.block)?;
             Ok(Some(reference.block))
         }
         None => Ok(None),

@@ -4,29 +4,28 @@ ghost use Rattle.std.specs.Prelude.{◌≡◌, ◌≤◌, ◌<◌, ◌+◌, ℕ,
 ghost use Rattle.std.specs.Prelude.{length, false, true, not, set, slice_index, slice_index_or, slice_set, map};
 ghost use Rattle.std.specs.Ordering.{nat_cmp};
 ghost use Rattle.std.specs.BTreeMap.{Updates};
-ghost use Rattle.std.specs.BTreeSet.{contains};
-ghost use Rattle.adf_findings.specs.Demands.{uppers_in};
 ghost use Rattle.adf_blocks.specs.Sizes.{blocks};
+ghost use Rattle.adf_tree.specs.NameSet.{has};
 ghost use Rattle.adf_volume.specs.Image.{name_of, root_of, word_in};
 ghost use Rattle.adf_volume.specs.Positions.{position_of};
 ghost use Rattle.adf_volume.specs.Walk.{Role, data_count};
 ghost use Rattle.adf_findings.specs.Parts.{by_key, finding_value, role_of};
 ghost use Rattle.adf_findings.specs.Found.{AreNamed, AreSame, Stands, IsChain, IsKept, IsReported, IsOwned, IsBlockSkipped};
-ghost use Rattle.adf_findings.specs.Found.{IsPut, IsTaken, KeepsParts, context_in, by_name, data_number, enough_in, entry_number};
-ghost use Rattle.adf_findings.specs.Found.{exts_found, known_at, member_in, new_in, next_in, with_data};
+ghost use Rattle.adf_findings.specs.Found.{HasValidName, IsPut, IsTaken, KeepsName, KeepsParts, context_in, data_number};
+ghost use Rattle.adf_findings.specs.Found.{enough_in, entry_number, exts_found, known_at, member_in, new_in, next_in, with_data};
 ghost use Rattle.adf_findings.specs.Survey.{begun};
-ghost use Rattle.std.specs.Global.{Vec};
 
 use crate::forms::Context;
-use crate::header_name::name_in;
+use crate::header_name::upper_name;
 use crate::image::Image;
 use crate::judge::Facts;
 use crate::part::{Finding, Key, Part};
-use adf_base::{NoMemory, upper_by};
+use adf_base::NoMemory;
 use adf_blocks::{FIRST_POINTER, POINTERS, SIZE};
+use adf_tree::NameSet;
 use adf_volume::count_of;
 use std::alloc::Global;
-use std::collections::{BTreeMap, BTreeSet};
+use std::collections::BTreeMap;
 
 /// A data block that is taken: the node of its file, and its block.
 #[derive(Clone, Copy, PartialEq, Eq, Drop)]
@@ -45,7 +44,7 @@ pub struct ChainPlace {
 /// The state of a survey: the blocks of the taken parts by key, except headers and data blocks; for each block whether
 /// it is taken, the node of the entry that it belongs to (0 if there is none), the number of the data block that it is
 /// (from 1; 0 if it is none), and whether it was skipped; the number of blocks not taken; the blocks of nodes; the
-/// number of extension blocks of each file; the names in the current chain; the findings; the parents of nodes; the
+/// number of extension blocks of each file; the valid names in the current chain; the findings; the parents of nodes; the
 /// positions of headers, from node 1 on; and the data blocks.
 #[derive(Drop)]
 pub struct Found {
@@ -57,28 +56,11 @@ pub struct Found {
     pub left: u32,
     pub nodes: Vec<u32>,
     pub exts: BTreeMap<u32, u32>,
-    pub names: BTreeSet<Vec<u8>>,
+    pub names: NameSet,
     pub findings: Vec<Finding>,
     pub parents: Vec<u32>,
     pub places: Vec<ChainPlace>,
     pub datas: Vec<DataBlock>,
-}
-
-// The name of the header at block `b`, in upper case.
-#[tactic(auto, using(crate::proofs::Names::cut_name))]
-fn upper_name(alloc: Global, image: &Image<'_>, b: u32) -> Result<Vec<u8>, NoMemory>
-    requires { b < blocks image.now }
-    ensures { IfOk result (λ v. v.items ≡ uppers_in image.now (name_of image.now b)) }
-{
-    let letters = image.letters();
-    let head = image.block(b);
-    let mut name = Vec::new(alloc);
-    for c in name_in(&head) {
-        if name.push(upper_by(letters, *c)).is_err() {
-            return Err(NoMemory);
-        }
-    }
-    Ok(name)
 }
 
 // Adds an entry to a map.
@@ -125,7 +107,7 @@ impl Found {
             left: blocks,
             nodes: Vec::new(alloc),
             exts: BTreeMap::new(alloc),
-            names: BTreeSet::new(alloc),
+            names: NameSet::new(alloc),
             findings: Vec::new(alloc),
             parents,
             places: Vec::new(alloc),
@@ -215,40 +197,17 @@ impl Found {
         }
     }
 
-    // Whether no header of the chain has the name of the one at block `b`, if the part is a header.
-    fn is_new(&self, image: &Image<'_>, part: Part, b: u32) -> Result<bool, NoMemory>
-        requires { b < blocks image.now }
-        ensures { IfOk result (λ t. (w : List (Role × ℕ))
-            → AreNamed image.now w (position_of (role_of part)) self.now.names
-            → IsChain w part → t ≡ new_in image.now w part b) }
-    {
-        let Part::Head { place, .. } = part else {
-            return Ok(true);
-        };
-        if place == 0 {
-            return Ok(true);
-        }
-        let name = upper_name(*self.nodes.allocator(), image, b)?;
-        Ok(!self.names.contains(&name))
-    }
-
     /// The facts about a part in block `b`.
-    pub fn facts(&self, image: &Image<'_>, part: Part, b: u32) -> Result<Facts, NoMemory>
-        ensures enough { IfOk result (λ f. f.is_enough ≡ enough_in image.now self.now part) }
-        ensures absent { IfOk result (λ f.
-            f.is_absent ≡ not (slice_index_or self.now.owned.items b false)) }
-        ensures new { IfOk result (λ f. b < blocks image.now → (w : List (Role × ℕ))
-            → AreNamed image.now w (position_of (role_of part)) self.now.names
-            → IsChain w part → f.is_new ≡ new_in image.now w part b) }
-        ensures context { IfOk result (λ f. f.context ≡ context_in image.now self.now part) }
+    pub fn facts(&self, image: &Image<'_>, part: Part, b: u32) -> Facts
+        ensures enough { result.is_enough ≡ enough_in image.now self.now part }
+        ensures absent { result.is_absent ≡ not (slice_index_or self.now.owned.items b false) }
+        ensures context { result.context ≡ context_in image.now self.now part }
     {
-        let is_new = b >= image.blocks() || self.is_new(image, part, b)?;
-        Ok(Facts {
+        Facts {
             is_enough: self.is_enough(image, part),
             is_absent: !self.owned.get(b as usize).copied().unwrap_or(false),
-            is_new,
             context: self.context(image, part),
-        })
+        }
     }
 
     // Keeps the block of a part by its key; a data block with its file's node, a header with its own node.
@@ -310,8 +269,7 @@ impl Found {
 
     // Clears the names at the first position of a chain.
     fn begin_names(&mut self, place: u32)
-        ensures names { (q : Vec ℕ) → contains by_name self.new.names q
-            ≡ known_at place (contains by_name self.old.names q) }
+        ensures names { (x : List ℕ) → has self.new.names x ≡ known_at place (has self.old.names x) }
         ensures rest { self.new ≡ record self.old { names = self.new.names } }
     {
         if place == 0 {
@@ -319,10 +277,28 @@ impl Found {
         }
     }
 
-    // Keeps the facts of headers and extension blocks that later parts need.
-    fn keep(&mut self, image: &Image<'_>, part: Part, b: u32) -> Result<(), NoMemory>
+    /// Keeps the name of a header that is to be taken, if it is valid. Returns whether it is new in its chain.
+    pub fn keep_name(&mut self, image: &Image<'_>, part: Part, b: u32) -> Result<bool, NoMemory>
         requires { b < blocks image.now }
-        ensures kept { OnOk result (IsKept image.now part b self.old self.new) }
+        ensures new { IfOk result (λ t. (w : List (Role × ℕ))
+            → AreNamed image.now w (position_of (role_of part)) self.old.names → IsChain w part
+            → HasValidName image.now part b → t ≡ new_in image.now w part b) }
+        ensures names { OnOk result (KeepsName image.now part b self.old.names self.new.names) }
+        ensures rest { self.new ≡ record self.old { names = self.new.names } }
+    {
+        let Part::Head { place, .. } = part else {
+            return Ok(true);
+        };
+        self.begin_names(place);
+        match upper_name(image, b) {
+            Some(name) => self.names.put(&name),
+            None => Ok(true),
+        }
+    }
+
+    // Keeps the facts of headers and extension blocks that later parts need.
+    fn keep(&mut self, part: Part, b: u32) -> Result<(), NoMemory>
+        ensures kept { OnOk result (IsKept part b self.old self.new) }
         ensures rest { OnOk result (KeepsParts self.old self.new) }
     {
         match part {
@@ -332,12 +308,9 @@ impl Found {
                 place,
                 ..
             } => {
-                let name = upper_name(*self.nodes.allocator(), image, b)?;
-                self.begin_names(place);
                 if self.nodes.push(b).is_err()
                     || self.parents.push(parent).is_err()
                     || self.places.push(ChainPlace { slot, place }).is_err()
-                    || self.names.insert(name).is_err()
                 {
                     return Err(NoMemory);
                 }
@@ -354,13 +327,12 @@ impl Found {
 
     /// Takes a part, in block `b`.
     #[tactic(auto, using(crate::proofs::Taking::taken_last))]
-    pub fn take(&mut self, image: &Image<'_>, part: Part, b: u32) -> Result<(), NoMemory>
-        requires inside { b < blocks image.now }
-        requires marks { length self.old.owned.items ≡ blocks image.now }
+    pub fn take(&mut self, part: Part, b: u32) -> Result<(), NoMemory>
+        requires inside { b < length self.old.owned.items }
         requires some { 1 ≤ self.old.left }
-        ensures { OnOk result (IsTaken image.now part b self.old self.new) }
+        ensures { OnOk result (IsTaken part b self.old self.new) }
     {
-        self.keep(image, part, b)?;
+        self.keep(part, b)?;
         self.own(part, b)
     }
 

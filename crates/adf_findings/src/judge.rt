@@ -1,6 +1,6 @@
 // The judgement of a part that is next.
 
-ghost use Rattle.std.specs.Prelude.{◌≡◌};
+ghost use Rattle.std.specs.Prelude.{◌≡◌, true};
 ghost use Rattle.adf_findings.specs.Forms.{first_failing, judged_by, keeps, judgement_value};
 
 use crate::forms::{Context, first_cause, is_itself};
@@ -17,16 +17,15 @@ pub enum Judgement {
 }
 
 /// The facts about a part that is next: whether its file has enough extension blocks, whether its block has no owner,
-/// whether its name is new in the chain, and its context.
+/// and its context.
 #[derive(Clone, Copy, PartialEq, Eq, Drop)]
 pub struct Facts {
     pub is_enough: bool,
     pub is_absent: bool,
-    pub is_new: bool,
     pub context: Context,
 }
 
-// The first cause of a part in block `b`, which `holder` points to, and the block of the cause.
+// The first cause of a part in block `b`, which `holder` points to, and the block of the cause, if its name is new.
 fn first_failing(
     image: &Image<'_>,
     part: Part,
@@ -34,7 +33,7 @@ fn first_failing(
     b: u32,
     facts: &Facts,
 ) -> Option<(u32, Cause)>
-    ensures { result ≡ first_failing image.now part holder b facts.now }
+    ensures { result ≡ first_failing image.now part holder b facts.now true }
 {
     if !facts.is_enough {
         return Some((holder, Cause::ShortFile));
@@ -45,14 +44,8 @@ fn first_failing(
     if !facts.is_absent {
         return Some((b, Cause::Taken));
     }
-    if let Some(cause) = first_cause(image, part, b, facts.context) {
-        return Some((b, cause));
-    }
-    if facts.is_new {
-        None
-    } else {
-        Some((b, Cause::SameName))
-    }
+    let cause = first_cause(image, part, b, facts.context)?;
+    Some((b, cause))
 }
 
 // Whether block `b` is in range, has no owner, and identifies itself as the part.
@@ -62,10 +55,10 @@ fn is_kept(image: &Image<'_>, part: Part, b: u32, facts: &Facts) -> bool
     b >= 2 && b < image.blocks() && facts.is_absent && is_itself(image, part, b, facts.context)
 }
 
-/// Judges a part in block `b`, which a word of block `holder` points to.
+/// Judges a part in block `b`, which a word of block `holder` points to, by all but its name.
 pub fn judge(image: &Image<'_>, part: Part, holder: u32, b: u32, facts: &Facts) -> Judgement
     ensures { judgement_value result
-        ≡ judged_by (first_failing image.now part holder b facts.now)
+        ≡ judged_by (first_failing image.now part holder b facts.now true)
         (keeps image.now part b facts.now) }
 {
     match first_failing(image, part, holder, b, facts) {

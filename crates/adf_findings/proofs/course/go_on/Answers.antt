@@ -7,12 +7,9 @@ use Rattle.adf_findings.proofs.course.go_on.Goals as goal
 
 pub take-requires-clause-inside : goal.take-requires-clause-inside
 take-requires-clause-inside c =
-    let o = to_take c.requires.due.1 c.word.ensures c.in_ok-part.ensures c.in-Some.part c.in-Some.is in
-    let inside = o.inside in omega (arith, c.word.ensures)
-
-pub take-requires-clause-marks : goal.take-requires-clause-marks
-take-requires-clause-marks c =
-    let n = c.requires.due.1 in taken_marked n (to_take n c.word.ensures c.in_ok-part.ensures c.in-Some.part c.in-Some.is)
+    let n = c.requires.due.1 in
+    let o = to_take n c.word.ensures c.in_ok-part.ensures c.in-Some.part c.in-Some.is in
+    omega (arith, o.inside, c.word.ensures, taken_marked n o)
 
 pub take-requires-clause-some : goal.take-requires-clause-some
 take-requires-clause-some c =
@@ -25,7 +22,7 @@ returns-in_ok-take-in-Some-clause-gone c = λ s n.
     let h = c.take.new.self in
     subst (λ b. IsGoneOn image s c.args.part c.args.holder c.args.i h (Some b)) (sym c.word.ensures)
     (taken_on n (to_take n c.word.ensures c.in_ok-part.ensures c.in-Some.part c.in-Some.is)
-    (subst (λ b. IsTaken image c.in-Some.part b g h) c.word.ensures c.in_ok-take-in-Some.ensures))
+    (subst (λ b. IsTaken c.in-Some.part b g h) c.word.ensures c.in_ok-take-in-Some.ensures))
 
 pub returns-in_ok-take-in-Some-clause-left : goal.returns-in_ok-take-in-Some-clause-left
 returns-in_ok-take-in-Some-clause-left c =
