@@ -1,22 +1,25 @@
 -- How works end, and by which answers. `part` are the first bytes of an input, as many as count.
-use Rattle.std.proofs.Common.{◌≡◌, ◌+◌, ◌*◌, ◌-◌, ◌/◌, ◌∙◌, inl, inr, ℕ, List, Option, ap, arith, drop, length, min, subst, take}
+use Rattle.std.proofs.Common.{◌≡◌, ◌+◌, ◌*◌, ◌-◌, ◌/◌, ◌∙◌, inl, inr, ℕ, List, [], Option, None, Some, IfSome, ap, append-nil, arith, sym, drop, length, min, subst, take}
 use Rattle.std.proofs.lemmas.List.{drop_min, length-drop, take-take, take_all, take_min}
 use Rattle.adf_disk_cmd.specs.Answers.{DiskAnswer, OfDisk, OfFault, OfPartitions}
 use Rattle.adf_disk_cmd.specs.Lines.{volume_at}
 use Rattle.adf_disk_cmd.specs.Work.{Serves}
 use Rattle.adf_disk_cmd.specs.declared.work.TheConstants.{MOST_DISK_BYTES}
 use Rattle.adf_disk_cmd.specs.declared.work.Work.{Work}
-use Rattle.adf_disk_cmd.specs.declared.work.Work.TheVariants.{Check, Survey}
+use Rattle.adf_disk_cmd.specs.declared.work.Work.TheVariants.{List as ListAll, Check, Survey}
 use Rattle.adf_partitions.specs.Disks.{FirstFault, IsDisk}
 use Rattle.adf_partitions.specs.declared.fault.DiskFault.{DiskFault}
 use Rattle.adf_partitions.specs.declared.partition.Partition.{Partition}
 use Rattle.adf_partitions.specs.declared.place.Place.{Place}
 use Rattle.adf_partitions.specs.declared.tables.Tables.{Tables}
+use Rattle.std.specs.Io.KnownBytes.{Appends}
 use Rattle.adf_runs.proofs.Endings.{ends_weaker}
 use Rattle.adf_runs.specs.Commands.{Reply}
-use Rattle.adf_runs.specs.Outcomes.{EndsBy}
+use Rattle.adf_runs.specs.Outcomes.{EndsBy, after_reading}
 use Rattle.adf_runs.specs.declared.outcome.Outcome.{Outcome}
-use Rattle.adf_words.specs.DiskLine.{DiskRequestValue, check, survey}
+use Rattle.adf_runs.specs.declared.streams.StreamFault.{StreamFault}
+use Rattle.adf_runs.specs.declared.streams.StreamFault.TheVariants.{Device, NoMemory}
+use Rattle.adf_words.specs.DiskLine.{DiskRequestValue, check, list, survey}
 
 -- what is answered to the front of an input that is longer than the largest disk is answered to the whole of it
 pub long_answers : (r : DiskRequestValue) (front bytes : List ℕ) → front ≡ take (MOST_DISK_BYTES + 1) bytes → (reply : Reply) → DiskAnswer r front reply
@@ -63,3 +66,19 @@ volume_is bytes q first count e f =
     let rest : take (length bytes - first) (drop first bytes) ≡ behind = all ∙ ap (λ (k : ℕ). drop k bytes) e ∙ drop_min (q.first * 512) bytes in
     let cut : count ≡ min (q.blocks * 512) (length behind) = f ∙ ap (λ (l : List ℕ). min (q.blocks * 512) (length l)) rest in
     ap (take count) rest ∙ ap (λ (k : ℕ). take k behind) cut ∙ take_min (q.blocks * 512) behind
+
+-- the work of `list` is that of no other request
+pub lists : (work : Work) (r : DiskRequestValue) → work ≡ ListAll → Serves work r → r ≡ list
+lists work r e serves = subst (λ (w : Work). Serves w r) e serves
+
+-- nothing is written
+pub none_added : (o : Option (List ℕ)) → Appends o o []
+none_added None = tt
+none_added (Some x) = sym (append-nil x)
+
+-- no input came
+pub unread_ends : (f : StreamFault) (w : Outcome) (answers : List ℕ → Reply → Type 0) (left o : Option (List ℕ)) → w ≡ after_reading f
+    → IfSome left (λ all. EndsBy (answers all) w o o)
+unread_ends f w answers None o e = tt
+unread_ends Device w answers (Some all) o e = rw e (none_added o)
+unread_ends NoMemory w answers (Some all) o e = rw e (inl (none_added o))

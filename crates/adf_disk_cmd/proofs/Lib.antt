@@ -1,3 +1,4 @@
 pub mod Endings
 pub mod CheckedLines
 pub mod OneAnswer
+pub mod HeldTables

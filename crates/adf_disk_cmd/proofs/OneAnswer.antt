@@ -76,14 +76,14 @@ of_once check bytes ps a b x y = all_once bytes ps a b x y
 of_once survey bytes ps a b x y = x ∙ sym y
 of_once (volume w) bytes ps a b x y = volume_copied_once bytes ps w a b x y
 
-readable_once : (bytes line : List ℕ) (a b : List ℕ) → TellsReadable bytes line a → TellsReadable bytes line b → a ≡ b
-readable_once bytes line a b (ps, h, x) (qs, g, y) =
-    x ∙ ap (λ (k : List Partition). line ++ list_lines 1 k) (one_reading bytes (length bytes / 512) h g) ∙ sym y
+readable_once : (bytes : List ℕ) (n : ℕ) (line a b : List ℕ) → TellsReadable bytes n line a → TellsReadable bytes n line b → a ≡ b
+readable_once bytes n line a b (ps, h, x) (qs, g, y) =
+    x ∙ ap (λ (k : List Partition). line ++ list_lines 1 k) (one_reading bytes n h g) ∙ sym y
 
 fault_once : (r : DiskRequestValue) (bytes : List ℕ) (f : DiskFault) (a b : Reply) → OfFault r bytes f a → OfFault r bytes f b → a ≡ b
 fault_once list bytes f a b x y = x ∙ sym y
 fault_once check bytes f a b x y = x ∙ sym y
-fault_once survey bytes f a b (s, h, x) (t, g, y) = x ∙ ap (λ (k : List ℕ). on_output 1 k) (readable_once bytes (fault_line f) s t h g) ∙ sym y
+fault_once survey bytes f a b (s, h, x) (t, g, y) = x ∙ ap (λ (k : List ℕ). on_output 1 k) (readable_once bytes (length bytes / 512) (fault_line f) s t h g) ∙ sym y
 fault_once (volume w) bytes f a b x y = x ∙ sym y
 
 disk_once : (r : DiskRequestValue) (bytes : List ℕ) (a b : Reply) → OfDisk r bytes a → OfDisk r bytes b → a ≡ b

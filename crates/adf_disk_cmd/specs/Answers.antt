@@ -55,9 +55,9 @@ OfPartitions check bytes ps reply = ChecksAll bytes ps reply
 OfPartitions survey bytes ps reply = reply ≡ on_output 0 (list_lines 1 ps)
 OfPartitions (volume w) bytes ps reply = CopiesVolume bytes ps w reply
 
--- a line, and the lines of the partitions that can be read
-abbrev pub TellsReadable : List ℕ → List ℕ → List ℕ → Type 0
-TellsReadable bytes line text = (ps : List Partition) × AreReadable bytes (length bytes / 512) ps × (text ≡ line ++ list_lines 1 ps)
+-- a line, and the lines of the partitions that can be read of a disk of n blocks
+abbrev pub TellsReadable : List ℕ → ℕ → List ℕ → List ℕ → Type 0
+TellsReadable bytes n line text = (ps : List Partition) × AreReadable bytes n ps × (text ≡ line ++ list_lines 1 ps)
 
 -- the line of a fault
 abbrev pub fault_line : DiskFault → List ℕ
@@ -68,7 +68,7 @@ fault_line f = disk_fault_text f ++ codes "\n"
 abbrev pub OfFault : DiskRequestValue → List ℕ → DiskFault → Reply → Type 0
 OfFault list bytes f reply = reply ≡ refusal (disk_fault_text f)
 OfFault check bytes f reply = reply ≡ on_output 1 (fault_line f)
-OfFault survey bytes f reply = (text : List ℕ) × TellsReadable bytes (fault_line f) text × (reply ≡ on_output 1 text)
+OfFault survey bytes f reply = (text : List ℕ) × TellsReadable bytes (length bytes / 512) (fault_line f) text × (reply ≡ on_output 1 text)
 OfFault (volume w) bytes f reply = reply ≡ refusal (disk_fault_text f)
 
 -- the partitions are told of, or the first fault of the disk, which has as many blocks as the bytes hold

@@ -3,6 +3,7 @@
 
 mod answering;
 mod checking;
+mod list_input;
 mod listing;
 mod runner;
 mod surveying;

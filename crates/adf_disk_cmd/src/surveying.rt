@@ -7,30 +7,40 @@ ghost use Rattle.adf_runs.specs.Outcomes.{EndsBy, is_read_fault, is_write_fault}
 
 use crate::answering::write_text;
 use crate::listing::list_lines;
-use adf_base::BLOCK_LEN;
 use adf_partitions::readable_partitions;
 use adf_runs::{Outcome, Sink};
 use std::alloc::{AllocError, Global};
 
 // A line, and those of the partitions that can be read.
-fn readable_lines(alloc: Global, bytes: &[u8], line: &[u8]) -> Result<Vec<u8>, AllocError>
-    ensures { IfOk result (λ text. TellsReadable bytes.now line.now text.items) }
+fn readable_lines(
+    alloc: Global,
+    bytes: &[u8],
+    blocks: u64,
+    line: &[u8],
+) -> Result<Vec<u8>, AllocError>
+    ensures { IfOk result (λ text. TellsReadable bytes.now blocks line.now text.items) }
 {
-    let partitions = readable_partitions(alloc, bytes, (bytes.len() / BLOCK_LEN) as u64)?;
+    let partitions = readable_partitions(alloc, bytes, blocks)?;
     let mut text = Vec::from_slice(alloc, line)?;
     text.extend_from_slice(&list_lines(alloc, &partitions)?)?;
     Ok(text)
 }
 
-/// Writes the line of a fault, and those of the partitions that can be read.
-pub fn write_readable<W: Sink>(alloc: Global, bytes: &[u8], line: &[u8], output: &mut W) -> Outcome
+/// Writes the line of a fault, and those of the partitions that can be read of a disk of so many blocks.
+pub fn write_readable<W: Sink>(
+    alloc: Global,
+    bytes: &[u8],
+    blocks: u64,
+    line: &[u8],
+    output: &mut W,
+) -> Outcome
     requires { W.has_failed output.old ≡ false }
-    ensures ends { EndsBy (λ reply. (text : List ℕ) × TellsReadable bytes.now line.now text
+    ensures ends { EndsBy (λ reply. (text : List ℕ) × TellsReadable bytes.now blocks line.now text
         × (reply ≡ on_output 1 text)) result (W.held output.old) (W.held output.new) }
     ensures read { is_read_fault result ≡ false }
     ensures written { W.has_failed output.new ≡ is_write_fault result }
 {
-    match readable_lines(alloc, bytes, line) {
+    match readable_lines(alloc, bytes, blocks, line) {
         Ok(text) => write_text(output, &text, false),
         Err(_) => Outcome::NoMemory,
     }

@@ -8,6 +8,7 @@ ghost use Rattle.adf_words.specs.DiskLine.{DiskRequestValue, WantedValue, disk_r
 
 use crate::answering::{refuse, write_text};
 use crate::checking::write_checks;
+use crate::list_input::list_input;
 use crate::listing::write_list;
 use crate::surveying::write_readable;
 use crate::volumes::volume_at;
@@ -138,7 +139,10 @@ impl Work {
         };
         match self {
             Work::Check => write_text(output, line.as_bytes(), false),
-            Work::Survey => write_readable(alloc, bytes, line.as_bytes(), output),
+            Work::Survey => {
+                let blocks = (bytes.len() / BLOCK_LEN) as u64;
+                write_readable(alloc, bytes, blocks, line.as_bytes(), output)
+            }
             Work::List | Work::Volume(_) => Outcome::Refused(line),
         }
     }
@@ -184,9 +188,13 @@ impl Program for Work {
         input: &mut R,
         output: &mut W,
     ) -> Outcome {
-        match read_input(alloc, input, MOST_DISK_BYTES) {
-            Ok(bytes) => self.on(alloc, &bytes, output),
-            Err(outcome) => outcome,
+        match self {
+            Work::List => list_input(alloc, input, false, output),
+            Work::Survey => list_input(alloc, input, true, output),
+            Work::Check | Work::Volume(_) => match read_input(alloc, input, MOST_DISK_BYTES) {
+                Ok(bytes) => self.on(alloc, &bytes, output),
+                Err(outcome) => outcome,
+            },
         }
     }
 

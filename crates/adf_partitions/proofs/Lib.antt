@@ -2,7 +2,9 @@ pub mod Products
 pub mod OneAnswer
 pub mod FoundSteps
 pub mod TablesEnough
+pub mod FirstBlocks
 pub mod VolumesApart
+pub mod AnyLength
 pub mod NumberTests
 pub mod Searches
 pub mod PlanSizes

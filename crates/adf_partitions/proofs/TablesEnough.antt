@@ -25,30 +25,30 @@ use Rattle.adf_partitions.proofs.NumberTests.{le_of, lt_of, of_le}
 use Rattle.adf_partitions.proofs.OneAnswer.{one_tables}
 
 -- the first 16 blocks agree
-record StartAgrees (A B : List ℕ) : Type 0 where
-  blocks : (b : ℕ) → b < RDSK_BLOCKS → block A b ≡ block B b
-  rdsk : (b : ℕ) → b < RDSK_BLOCKS → is_rdsk A b ≡ is_rdsk B b
+pub record StartAgrees (A B : List ℕ) : Type 0 where
+  pub blocks : (b : ℕ) → b < RDSK_BLOCKS → block A b ≡ block B b
+  pub rdsk : (b : ℕ) → b < RDSK_BLOCKS → is_rdsk A b ≡ is_rdsk B b
 
 -- the blocks kept for the tables agree
-record TablesAgree (A B : List ℕ) (t : Tables) : Type 0 where
-  blocks : (b : ℕ) → is_table A t b ≡ true → block A b ≡ block B b
-  tables : (b : ℕ) → is_table A t b ≡ is_table B t b
+pub record TablesAgree (A B : List ℕ) (t : Tables) : Type 0 where
+  pub blocks : (b : ℕ) → is_table A t b ≡ true → block A b ≡ block B b
+  pub tables : (b : ℕ) → is_table A t b ≡ is_table B t b
 
-start_back : {A B : List ℕ} → StartAgrees A B → StartAgrees B A
+pub start_back : {A B : List ℕ} → StartAgrees A B → StartAgrees B A
 start_back s = record { blocks = λ b lt. sym (s.blocks b lt); rdsk = λ b lt. sym (s.rdsk b lt) }
 
-tables_back : {A B : List ℕ} {t : Tables} → TablesAgree A B t → TablesAgree B A t
+pub tables_back : {A B : List ℕ} {t : Tables} → TablesAgree A B t → TablesAgree B A t
 tables_back s = record { blocks = λ b h. sym (s.blocks b (s.tables b ∙ h)); tables = λ b. sym (s.tables b) }
 
 module _ {A B : List ℕ} (s : StartAgrees A B) where
-  same_rdsk : {b : ℕ} → IsRdsk A b → IsRdsk B b
+  pub same_rdsk : {b : ℕ} → IsRdsk A b → IsRdsk B b
   same_rdsk {b} r = record {
     low = r.low;
     is = sym (s.rdsk b r.low) ∙ r.is;
     first = λ k lt. let low = r.low in sym (s.rdsk k (omega arith)) ∙ r.first k lt;
   }
 
-  same_tables : {t : Tables} → IsTables A t → IsTables B t
+  pub same_tables : {t : Tables} → IsTables A t → IsTables B t
   same_tables {t} r =
       let e = s.blocks t.rdsk r.rdsk.low in
       record {
@@ -60,7 +60,7 @@ module _ {A B : List ℕ} (s : StartAgrees A B) where
       tables_of : ℕ → List ℕ → Tables
       tables_of b p = record { rdsk = b; first = word p FIRST_PART; lowest = word p LOWEST_TABLE; highest = word p HIGHEST_TABLE }
 
-  same_lack : {f : DiskFault} → HasNoTables A f → HasNoTables B f
+  pub same_lack : {f : DiskFault} → HasNoTables A f → HasNoTables B f
   same_lack (inl h) = inl ((λ k lt. sym (s.rdsk k lt) ∙ h.0 k lt), h.1)
   same_lack {f} (inr h) =
       let e = s.blocks f.block h.0.low in
@@ -81,7 +81,7 @@ same_form : (ps : List Partition) (a b : ℕ) (kept : Bool) (p q : List ℕ) →
 same_form ps a b true p q h = ap (λ x. first_failed (form_of ps a b true x)) (h refl)
 same_form ps a b false p q h = refl
 
-is_kept : (ps : List Partition) (a b : ℕ) (kept : Bool) (p : List ℕ) → first_failed (form_of ps a b kept p) ≡ None → kept ≡ true
+pub is_kept : (ps : List Partition) (a b : ℕ) (kept : Bool) (p : List ℕ) → first_failed (form_of ps a b kept p) ≡ None → kept ≡ true
 is_kept ps a b true p h = refl
 is_kept ps a b false p h = absurd cc
 
@@ -92,16 +92,16 @@ module _ {A B : List ℕ} {t : Tables} (s : TablesAgree A B t) where
       ∙ ap (λ k. first_failed (form_of ps a b k (block B b))) (s.tables b)
 
   module _ {n : ℕ} where
-    same_found : {ps : List Partition} {a b : ℕ} → IsFound A n t ps a b → IsFound B n t ps a b
+    pub same_found : {ps : List Partition} {a b : ℕ} → IsFound A n t ps a b → IsFound B n t ps a b
     same_found start = start
     same_found (step {ps = ps} {a = a} {b = b} h some sound) =
         let e = s.blocks b (is_kept ps a b (is_table A t b) (block A b) sound) in
         one_more (same_found h) some (sym (same_tests ps a b) ∙ sound) e refl refl refl
 
-    same_whole : {ps : List Partition} → IsWhole A n t ps → IsWhole B n t ps
+    pub same_whole : {ps : List Partition} → IsWhole A n t ps → IsWhole B n t ps
     same_whole w = (w.0, same_found w.1)
 
-    same_cut : {ps : List Partition} {f : DiskFault} → IsCut A n t ps f → IsCut B n t ps f
+    pub same_cut : {ps : List Partition} {f : DiskFault} → IsCut A n t ps f → IsCut B n t ps f
     same_cut {ps} v = record {
       last = v.last;
       next = v.next;
@@ -110,7 +110,7 @@ module _ {A B : List ℕ} {t : Tables} (s : TablesAgree A B t) where
       failed = sym (same_tests ps v.last v.next) ∙ v.failed;
     }
 
-    same_list_fault : {f : DiskFault} → IsListFault A n t f → IsListFault B n t f
+    pub same_list_fault : {f : DiskFault} → IsListFault A n t f → IsListFault B n t f
     same_list_fault v = (v.0, same_cut v.1)
 
 -- a block of the front
@@ -125,7 +125,7 @@ front_holds : (bytes rest : List ℕ) (b : ℕ) → b * 512 + 512 ≤ length byt
 front_holds bytes rest b h =
     of_le (b * 512 + 512) (length bytes) h ∙ sym (of_le (b * 512 + 512) (length (bytes ++ rest)) (omega (arith, length-append bytes rest)))
 
-start_agrees : (bytes rest : List ℕ) → RDSK_BLOCKS * 512 ≤ length bytes → StartAgrees bytes (bytes ++ rest)
+pub start_agrees : (bytes rest : List ℕ) → RDSK_BLOCKS * 512 ≤ length bytes → StartAgrees bytes (bytes ++ rest)
 start_agrees bytes rest h = record {
   blocks = λ b lt. front_block bytes rest b (omega arith);
   rdsk = λ b lt. ap (λ k. k && (word (block bytes b) MARK == RDSK) && is_summed (block bytes b)) (front_holds bytes rest b (omega arith))
@@ -138,13 +138,13 @@ only_last false y z u v h = refl
 only_last true false z u v h = refl
 only_last true true false u v h = refl
 
-fourth : (x y z u : Bool) → (x && y && z && u) ≡ true → u ≡ true
+pub fourth : (x y z u : Bool) → (x && y && z && u) ≡ true → u ≡ true
 fourth true true true u h = h
 fourth false y z u h = absurd cc
 fourth true false z u h = absurd cc
 fourth true true false u h = absurd cc
 
-tables_agree : (bytes rest : List ℕ) (t : Tables) → min (t.highest + 1) MOST_TABLES * 512 ≤ length bytes → TablesAgree bytes (bytes ++ rest) t
+pub tables_agree : (bytes rest : List ℕ) (t : Tables) → min (t.highest + 1) MOST_TABLES * 512 ≤ length bytes → TablesAgree bytes (bytes ++ rest) t
 tables_agree bytes rest t h = record {
   blocks = λ b kept.
       let held = fourth (nat_le t.lowest b) (nat_le b t.highest) (nat_lt b MOST_TABLES) (holds bytes b) kept in

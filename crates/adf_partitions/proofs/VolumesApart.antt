@@ -49,13 +49,13 @@ neither true b h = absurd cc
 neither false b h = (refl, h)
 
 -- what the tests of a partition tell
-record Passed (n : ℕ) (t : Tables) (ps : List Partition) (p : List ℕ) : Type 0 where
-  cylinders : has_cylinders p ≡ true
-  within : nat_le (end_of (place_of p)) n ≡ true
-  tables : is_over_tables (place_of p) t ≡ false
-  earlier : is_over_earlier (place_of p) ps ≡ false
+pub record Passed (n : ℕ) (t : Tables) (ps : List Partition) (p : List ℕ) : Type 0 where
+  pub cylinders : has_cylinders p ≡ true
+  pub within : nat_le (end_of (place_of p)) n ≡ true
+  pub tables : is_over_tables (place_of p) t ≡ false
+  pub earlier : is_over_earlier (place_of p) ps ≡ false
 
-passed : (n : ℕ) (t : Tables) (ps : List Partition) (p : List ℕ) → first_failed (place_form n t ps p) ≡ None → Passed n t ps p
+pub passed : (n : ℕ) (t : Tables) (ps : List Partition) (p : List ℕ) → first_failed (place_form n t ps p) ≡ None → Passed n t ps p
 passed n t ps p h =
     let held = each_held (place_form n t ps p) h in
     record {
@@ -101,7 +101,7 @@ lies_well n t ps p h =
     rdsk t = record { first = t.rdsk; blocks = 1 }
 
 -- what holds of a place that has no fault
-if_placed : (q : Place) (o : Option PlaceFault) (P : Place → Type 0) → (o ≡ None → P q) → IfOk (placed q o) P
+pub if_placed : (q : Place) (o : Option PlaceFault) (P : Place → Type 0) → (o ≡ None → P q) → IfOk (placed q o) P
 if_placed q None P h = h refl
 if_placed q (Some f) P h = tt
 

@@ -1,9 +1,10 @@
 -- Where the volume of a partition lies. p is the partition block.
-use Rattle.std.specs.Prelude.{ℕ, ◌+◌, ◌-◌, ◌*◌, ◌<◌, ◌≤◌, ◌==◌, ◌&&◌, ◌||◌, not, nat_le, nat_lt, Bool, List}
-use Rattle.adf_base.specs.Words.{word}
+use Rattle.std.specs.Prelude.{◌≡◌, ℕ, ◌+◌, ◌-◌, ◌*◌, ◌<◌, ◌≤◌, ◌==◌, ◌&&◌, ◌||◌, not, nat_le, nat_lt, Bool, true, List}
+use Rattle.adf_base.specs.Words.{block, word}
 use Rattle.adf_partitions.specs.declared.layout.TheConstants.{HIGH_CYLINDER, LOW_CYLINDER, SURFACES, TRACK_BLOCKS}
 use Rattle.adf_partitions.specs.declared.place.Place.{Place}
 use Rattle.adf_partitions.specs.declared.tables.Tables.{Tables}
+use Rattle.adf_partitions.specs.Summed.{holds}
 
 -- the blocks of a cylinder
 abbrev pub cylinder_of : List ℕ → ℕ
@@ -24,6 +25,12 @@ place_of p = blocks_from (word p LOW_CYLINDER * cylinder_of p) ((word p HIGH_CYL
 -- the block after the last one of a place
 abbrev pub end_of : Place → ℕ
 end_of q = q.first + q.blocks
+
+-- block b says where a volume lies, within n blocks
+pub record StatesPlace (bytes : List ℕ) (n b : ℕ) : Type 0 where
+  pub held : holds bytes b ≡ true
+  pub cylinders : has_cylinders (block bytes b) ≡ true
+  pub within : end_of (place_of (block bytes b)) ≤ n
 
 -- whether a block is before the end of a place
 abbrev pub is_before_end : ℕ → Place → Bool

@@ -1,9 +1,10 @@
 -- The volumes of a disk, each in its place.
-use Rattle.std.specs.Prelude.{◌≢◌, ◌<◌, ◌≤◌, ℕ, IfOk}
+use Rattle.std.specs.Prelude.{◌≡◌, ◌≢◌, ◌<◌, ◌≤◌, ℕ, List, Option, None, Some, IfOk, ⊤}
+use Rattle.adf_base.specs.Words.{block}
 use Rattle.adf_partitions.specs.declared.partition.Partition.{Partition}
 use Rattle.adf_partitions.specs.declared.place.Place.{Place}
 use Rattle.adf_partitions.specs.declared.tables.Tables.{Tables}
-use Rattle.adf_partitions.specs.Places.{IsIn, end_of}
+use Rattle.adf_partitions.specs.Places.{IsIn, StatesPlace, end_of, place_of}
 
 -- a place has blocks, all within a disk of n blocks, and none of them is kept for its tables
 pub record LiesWell (n : ℕ) (t : Tables) (q : Place) : Type 0 where
@@ -23,3 +24,21 @@ AreApart q r = (b : ℕ) → IsIn b q → IsIn b r → ⊥
 -- the volumes of two partitions have none, if both have a place
 abbrev pub VolumesAreApart : Partition → Partition → Type 0
 VolumesAreApart p other = IfOk p.place (λ q. IfOk other.place (AreApart q))
+
+-- a place is where block b says that a volume lies
+pub record IsStated (bytes : List ℕ) (n b : ℕ) (q : Place) : Type 0 where
+  pub states : StatesPlace bytes n b
+  pub same : q ≡ place_of (block bytes b)
+
+-- two partitions have one block and one name, and the first has no other place than the block says, within n blocks
+pub record AreAlike (bytes : List ℕ) (n : ℕ) (p q : Partition) : Type 0 where
+  pub block : p.block ≡ q.block
+  pub name : p.name ≡ q.name
+  pub place : IfOk p.place (IsStated bytes n p.block)
+
+-- so have two that are found, or neither is
+abbrev pub FoundAlike : List ℕ → ℕ → Option Partition → Option Partition → Type 0
+FoundAlike bytes n None None = ⊤
+FoundAlike bytes n (Some p) (Some q) = AreAlike bytes n p q
+FoundAlike bytes n (Some p) None = ⊥
+FoundAlike bytes n None (Some q) = ⊥

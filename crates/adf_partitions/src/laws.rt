@@ -1,11 +1,12 @@
 // The laws of disks. Each law is the contract of a function that does nothing at run time.
 
-ghost use Rattle.std.specs.Prelude.{◌≡◌, ◌≤◌, ◌*◌, ◌++◌, ◌↔◌, ℕ, List, length, All, AllPairs};
+ghost use Rattle.std.specs.Prelude.{◌≡◌, ◌≤◌, ◌*◌, ◌++◌, ◌↔◌, ℕ, List, length, find, take, All, AllPairs};
 ghost use Rattle.adf_partitions.specs.Disks.{FirstFault, HoldsTables, IsDisk};
+ghost use Rattle.adf_partitions.specs.Partitions.{is_named, partition_numbered};
 ghost use Rattle.adf_partitions.specs.Searches.{AreReadable};
 ghost use Rattle.adf_partitions.specs.Tables.{HasNoTables, IsTables};
-ghost use Rattle.adf_partitions.specs.Volumes.{VolumeLiesWell, VolumesAreApart};
-ghost use Rattle.adf_partitions.specs.declared.layout.TheConstants.{RDSK_BLOCKS};
+ghost use Rattle.adf_partitions.specs.Volumes.{FoundAlike, VolumeLiesWell, VolumesAreApart};
+ghost use Rattle.adf_partitions.specs.declared.layout.TheConstants.{MOST_TABLES, RDSK_BLOCKS};
 ghost use Rattle.adf_partitions.specs.declared.fault.DiskFault.{DiskFault};
 ghost use Rattle.adf_partitions.specs.declared.partition.Partition.{Partition};
 ghost use Rattle.adf_partitions.specs.declared.tables.Tables.{Tables};
@@ -49,6 +50,30 @@ pub fn tables_are_enough()
         → IsDisk bytes n t ps ↔ IsDisk (bytes ++ rest) n t ps }
     ensures fault { (bytes rest : List ℕ) (n : ℕ) (t : Tables) (f : DiskFault) → HoldsTables bytes t
         → IsTables bytes t → FirstFault bytes n f ↔ FirstFault (bytes ++ rest) n f }
+{}
+
+/// The blocks below 65,536 are enough, or all blocks of a disk that has fewer: what follows them changes nothing that is read of
+/// the disk.
+pub fn first_blocks_are_enough()
+    ensures disk { (bytes : List ℕ) (n : ℕ) (t : Tables) (ps : List Partition)
+        → IsDisk (take (MOST_TABLES * 512) bytes) n t ps ↔ IsDisk bytes n t ps }
+    ensures fault { (bytes : List ℕ) (n : ℕ) (f : DiskFault)
+        → FirstFault (take (MOST_TABLES * 512) bytes) n f ↔ FirstFault bytes n f }
+    ensures readable { (bytes : List ℕ) (n : ℕ) (ps : List Partition)
+        → AreReadable (take (MOST_TABLES * 512) bytes) n ps ↔ AreReadable bytes n ps }
+{}
+
+/// A number or a name finds the same partition block whatever the number of blocks, and no volume lies elsewhere than its block
+/// says: so it is known where a volume may lie before the end of the disk is.
+pub fn length_moves_no_volume()
+    ensures disk { (bytes : List ℕ) (n m : ℕ) (t : Tables) (ps : List Partition) → IsDisk bytes n t ps
+        → (qs : List Partition) × IsDisk bytes m t qs }
+    ensures numbered { (bytes : List ℕ) (n m : ℕ) (t u : Tables) (ps qs : List Partition) (number : ℕ)
+        → IsDisk bytes n t ps → IsDisk bytes m u qs
+        → FoundAlike bytes n (partition_numbered ps number) (partition_numbered qs number) }
+    ensures named { (bytes : List ℕ) (n m : ℕ) (t u : Tables) (ps qs : List Partition) (name : List ℕ)
+        → IsDisk bytes n t ps → IsDisk bytes m u qs
+        → FoundAlike bytes n (find (is_named name) ps) (find (is_named name) qs) }
 {}
 
 /// The volumes of a disk lie within it, beside its tables and apart from each other.

@@ -21,7 +21,7 @@ mod tables_out;
 pub use crate::disk::Disk;
 pub use crate::fault::{DiskCause, DiskFault, disk_fault};
 pub use crate::laws::{
-    no_fault_on_a_disk, one_disk, one_disk_fault, one_reading, tables_are_enough, volumes_lie_apart,
+    first_blocks_are_enough, length_moves_no_volume, no_fault_on_a_disk, one_disk, one_disk_fault, one_reading, tables_are_enough, volumes_lie_apart,
 };
 pub use crate::layout::{
     BLOCK_BYTES, BLOCK_SECTORS, BOOT_PRIORITY, BOOTABLE, DOS_TYPE, DRIVE_NAME, ENV_BLOCK_WORDS,
@@ -30,7 +30,7 @@ pub use crate::layout::{
     SUMMED_LONGS, SURFACES, TRACK_BLOCKS,
 };
 pub use crate::partition::{DriveName, Partition};
-pub use crate::place::{Place, PlaceFault};
+pub use crate::place::{Place, PlaceFault, stated_place};
 pub use crate::plan::{DiskPlan, PartitionPlan};
 pub use crate::plan_text::{TextFault, TextKind, one_text, read_plan};
 pub use crate::search::readable_partitions;

@@ -1,9 +1,9 @@
 // Where the volume of a partition lies.
 
 ghost use Rattle.std.specs.Prelude.{◌≡◌, ◌≤◌, ◌+◌, SomeIff};
-ghost use Rattle.adf_base.specs.Words.{word};
+ghost use Rattle.adf_base.specs.Words.{block, word};
 ghost use Rattle.adf_partitions.specs.FaultTexts.{place_fault_number, place_fault_text};
-ghost use Rattle.adf_partitions.specs.Places.{cylinder_of, do_overlap, end_of, has_cylinders, is_before_end, is_over_tables, place_of};
+ghost use Rattle.adf_partitions.specs.Places.{StatesPlace, cylinder_of, do_overlap, end_of, has_cylinders, is_before_end, is_over_tables, place_of};
 
 use crate::layout::{HIGH_CYLINDER, LOW_CYLINDER, SURFACES, TRACK_BLOCKS};
 use crate::tables::Tables;
@@ -110,6 +110,19 @@ pub fn place_within(p: &Block<'_>, blocks: u64) -> Option<Place>
         first: lowest * cylinder,
         blocks: (past - lowest) * cylinder,
     })
+}
+
+/// Where a block says that a volume lies, whatever else is wrong with its partition. `None` if the bytes do not hold the block,
+/// if the volume has no cylinders, or if it ends beyond so many blocks.
+pub fn stated_place(bytes: &[u8], b: u32, blocks: u64) -> Option<Place>
+    ensures { SomeIff result (StatesPlace bytes.now blocks b) (place_of (block bytes.now b)) }
+{
+    let part = Block::at(bytes, b)?;
+    if has_cylinders(&part) {
+        place_within(&part, blocks)
+    } else {
+        None
+    }
 }
 
 // Whether a block is before the end of a place.

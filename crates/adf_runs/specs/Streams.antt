@@ -1,5 +1,5 @@
 -- What whole reads and writes take and add.
-use Rattle.std.specs.Prelude.{◌≡◌, ◌≢◌, ℕ, ◌≤◌, Bool, true, false, List, ◌++◌, length, [], take, Option, IfSome, Result, Err, codes}
+use Rattle.std.specs.Prelude.{◌≡◌, ◌≢◌, ℕ, ◌≤◌, Bool, true, false, List, ◌++◌, ◌-◌, drop, length, min, [], take, Option, IfSome, Result, Err, codes}
 use Rattle.std.specs.Io.KnownBytes.{Appends, Consumes}
 use Rattle.adf_runs.specs.declared.streams.StreamFault.{StreamFault}
 use Rattle.adf_runs.specs.declared.streams.StreamFault.TheVariants.{Device, NoMemory}
@@ -8,9 +8,25 @@ use Rattle.adf_runs.specs.declared.streams.StreamFault.TheVariants.{Device, NoMe
 abbrev pub TakesAtMost : ℕ → Option (List ℕ) → Option (List ℕ) → Type 0
 TakesAtMost n old new = (bs : List ℕ) × (length bs ≤ n) × Consumes old new bs
 
+-- n of the known bytes were taken
+abbrev pub TakesCount : ℕ → Option (List ℕ) → Option (List ℕ) → Type 0
+TakesCount n old new = (bs : List ℕ) × (length bs ≡ n) × Consumes old new bs
+
 -- the bytes are the first n of the known ones, or all where there are fewer
 abbrev pub AreFirst : ℕ → Option (List ℕ) → List ℕ → Type 0
 AreFirst n known bytes = IfSome known (λ all. bytes ≡ take n all)
+
+-- they are, and they were taken
+abbrev pub TakesFirst : ℕ → Option (List ℕ) → Option (List ℕ) → List ℕ → Type 0
+TakesFirst n old new bytes = AreFirst n old bytes × Consumes old new bytes
+
+-- so many bytes were taken: n, or all where there are fewer
+abbrev pub PassesOver : ℕ → Option (List ℕ) → Option (List ℕ) → ℕ → Type 0
+PassesOver n old new count = (bytes : List ℕ) × TakesFirst n old new bytes × (length bytes ≡ count)
+
+-- the bytes between two places of all, and how many all are, up to a limit
+abbrev pub IsPart : ℕ → ℕ → ℕ → List ℕ → List ℕ → ℕ → Type 0
+IsPart from to limit all bytes len = (bytes ≡ take (to - from) (drop from all)) × (len ≡ min limit (length all))
 
 -- a front part of `whole` was added to the known bytes, and where the device has failed not all of it
 abbrev pub AppendsPart : Bool → Option (List ℕ) → Option (List ℕ) → List ℕ → Type 0

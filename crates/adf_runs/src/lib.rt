@@ -4,6 +4,7 @@
 mod devices;
 mod inputs;
 mod outcome;
+mod parts;
 mod programs;
 mod streams;
 mod system;
@@ -12,7 +13,8 @@ mod work_fault;
 pub use crate::devices::{Device, Failed, Sink, Source};
 pub use crate::inputs::read_input;
 pub use crate::outcome::Outcome;
+pub use crate::parts::{Part, pass_over, read_first, read_part};
 pub use crate::programs::{Program, Ran, run_program, run_program_on};
-pub use crate::streams::{StreamFault, flush_long, read_all, read_into, say, write_all};
+pub use crate::streams::{StreamFault, flush_long, read_all, read_into, say, write_all, write_both};
 pub use crate::system::command_words;
 pub use crate::work_fault::WorkFault;

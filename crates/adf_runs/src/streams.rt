@@ -1,6 +1,6 @@
 // Whole reads and writes over devices.
 
-ghost use Rattle.std.specs.Prelude.{◌≡◌, [], ◌+◌, ◌<◌, ◌≤◌, ◌^◌, false, is_err, IfErr, IfOk, IsOk, List, OnOk, OnErr, Option, length, take, vec_len, ℕ};
+ghost use Rattle.std.specs.Prelude.{◌≡◌, [], ◌+◌, ◌++◌, ◌<◌, ◌≤◌, ◌^◌, false, is_err, IfErr, IfOk, IsOk, List, OnOk, OnErr, Option, length, take, vec_len, ℕ};
 ghost use Rattle.std.specs.Io.KnownBytes.{Appends, Consumes, IsAtEnd, Keeps};
 ghost use Rattle.adf_runs.specs.Streams.{AppendsPart, AreFirst, KeepsPending, Says, TakesAtMost, is_device};
 
@@ -55,7 +55,7 @@ impl From<AllocError> for StreamFault {
 }
 
 /// Bytes that a buffer grows by, and of the text that waits to be written.
-const CHUNK: usize = 65536;
+pub const CHUNK: usize = 65536;
 
 /// Bytes that an input has room for from the start, a floppy's and more; what is not filled costs nothing.
 const FIRST_ROOM: usize = 1 << 20;
@@ -124,7 +124,10 @@ pub fn read_into<R: Source>(
     requires works { R.has_failed input.old ≡ false }
     ensures all { IfOk result (λ n.
         AreFirst (limit + 1) (R.left input.old) (take n buffer.new.items)) }
+    ensures taken { IfOk result (λ n.
+        Consumes (R.left input.old) (R.left input.new) (take n buffer.new.items)) }
     ensures within { IfOk result (λ n. n ≤ vec_len buffer.new) }
+    ensures few { IfOk result (λ n. n ≤ limit + 1) }
     ensures at_most { TakesAtMost (limit + 1) (R.left input.old) (R.left input.new) }
     ensures failed { R.has_failed input.new ≡ is_device result }
     ensures reliable { R.may_fail input.old ≡ false → R.has_failed input.new ≡ false }
@@ -157,6 +160,9 @@ pub fn read_all<R: Source>(
     requires limited { limit < 2 ^ 63 }
     requires works { R.has_failed input.old ≡ false }
     ensures all { IfOk result (λ all. AreFirst (limit + 1) (R.left input.old) all.items) }
+    ensures taken { IfOk result (λ all.
+        Consumes (R.left input.old) (R.left input.new) all.items) }
+    ensures few { IfOk result (λ all. vec_len all ≤ limit + 1) }
     ensures at_most { TakesAtMost (limit + 1) (R.left input.old) (R.left input.new) }
     ensures failed { R.has_failed input.new ≡ is_device result }
 {
@@ -188,6 +194,21 @@ pub fn write_all<W: Sink>(output: &mut W, bytes: &[u8]) -> Result<(), Failed>
         }
     }
     Ok(())
+}
+
+/// Writes all bytes of two texts, one behind the other. `Failed` where the writer failed or took 0 of some bytes; then a front part
+/// of them is written, but not all.
+pub fn write_both<W: Sink>(output: &mut W, first: &[u8], second: &[u8]) -> Result<(), Failed>
+    requires { W.has_failed output.old ≡ false }
+    ensures ok { OnOk result (Appends (W.held output.old) (W.held output.new) (first.now ++ second.now)) }
+    ensures err { OnErr result (AppendsPart (W.has_failed output.new)
+        (W.held output.old) (W.held output.new) (first.now ++ second.now)) }
+    ensures failed { W.has_failed output.new ≡ is_err result }
+{
+    match write_all(output, first) {
+        Ok(()) => write_all(output, second),
+        Err(e) => Err(e),
+    }
 }
 
 /// Writes a text, and lets a failure be.

@@ -3,7 +3,7 @@
 ghost use Rattle.std.specs.Prelude.{length};
 
 use crate::disks::changed;
-use crate::memory::{Given, Kept};
+use crate::memory::{Given, Kept, Long};
 use adf_base::{seal, set_word};
 use adf_disk_cmd::run;
 use std::alloc::{AllocError, Global};
@@ -178,6 +178,38 @@ fn disks_are_listed_and_checked(rt: HostRuntime) -> Result<(), Fail> {
     for (command, change, status, output, errors) in LINES {
         let wanted = (*status, output.as_bytes(), *errors);
         assert!(rt; answers(rt.alloc(), &["adf-disk", *command], *change, wanted)?);
+    }
+    Ok(())
+}
+
+// A command, the blocks of a disk whose DH1 has the cylinders 5 to 12,499, the status, and the lines on output.
+const LONG: &[(&str, usize, u8, &str)] = &[
+    (
+        "list",
+        100_000,
+        0,
+        "1 DH0: ffs first 8 blocks 32 flags 1 priority -5\n2 DH1: PFS\\x03 first 40 blocks 99960 flags 2 priority 3\n",
+    ),
+    (
+        "survey",
+        99_999,
+        0,
+        "1 DH0: ffs first 8 blocks 32 flags 1 priority -5\n2 DH1: PFS\\x03 beyond image flags 2 priority 3\n",
+    ),
+];
+
+// A disk that is longer than its first 65,536 blocks, and comes in pieces of 1,000 bytes.
+#[test]
+fn long_disks_are_listed(rt: HostRuntime) -> Result<(), Fail> {
+    let tables = changed(1, &[(42, 12_499)]);
+    for (command, blocks, status, lines) in LONG {
+        let mut input = Long::new(&tables, (*blocks - 4) * 512, 1000);
+        let mut output = Kept::new(rt.alloc(), usize::MAX, usize::MAX);
+        let mut errors = Kept::new(rt.alloc(), usize::MAX, usize::MAX);
+        let words = ["adf-disk", *command];
+        let ended = run(rt.alloc(), &words, &mut input, &mut output, &mut errors);
+        assert_eq!(rt; ended, *status);
+        assert!(rt; output.bytes.as_slice() == lines.as_bytes());
     }
     Ok(())
 }

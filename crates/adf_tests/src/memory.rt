@@ -47,6 +47,41 @@ impl Source for Given<'_> {
     }
 }
 
+/// Gives bytes, and then so many zeros, at most so many at each call. It never fails.
+#[derive(Drop)]
+pub struct Long<'a> {
+    bytes: &'a [u8],
+    zeros: usize,
+    most: usize,
+}
+
+impl<'a> Long<'a> {
+    pub fn new(bytes: &'a [u8], zeros: usize, most: usize) -> Long<'a> {
+        Long { bytes, zeros, most }
+    }
+}
+
+impl Source for Long<'_> {
+    ghost left = { λ _. None };
+
+    ghost has_failed = { λ _. false };
+
+    fn read(&mut self, buf: &mut [u8]) -> Result<usize, Failed> {
+        let room = buf.len().min(self.most);
+        let count = room.min(self.bytes.len());
+        buf[..count].copy_from_slice(&self.bytes[..count]);
+        self.bytes = &self.bytes[count..];
+        let zeros = (room - count).min(self.zeros);
+        buf[count..count + zeros].fill(0);
+        self.zeros -= zeros;
+        Ok(count + zeros)
+    }
+
+    fn failed(&self) -> bool {
+        false
+    }
+}
+
 /// Keeps bytes, at most so many at each call, and fails once so many calls were made.
 #[derive(Drop)]
 pub struct Kept {

@@ -1,0 +1,75 @@
+-- What is told of a disk of which only the blocks that may have tables are held.
+-- Letters: all is an input, bytes what is held of it, len how many it has; n is the number of its blocks that count.
+use Rattle.std.proofs.Common.{◌≡◌, ◌+◌, ◌*◌, ◌/◌, ◌∙◌, ℕ, Bool, true, false, List, Option, None, Some, IfSome, ap, arith, length, length-take, min, refl, subst, sym, take}
+use Rattle.std.proofs.lemmas.List.{take-take}
+use Rattle.adf_disk_cmd.specs.Answers.{DiskAnswer, OfFault, OfPartitions, fault_line}
+use Rattle.adf_disk_cmd.specs.Lines.{list_lines}
+use Rattle.adf_disk_cmd.specs.Work.{TellsFault, listing}
+use Rattle.adf_disk_cmd.specs.declared.list_input.TheConstants.{TABLES_LEN}
+use Rattle.adf_disk_cmd.specs.declared.work.TheConstants.{MOST_DISK_BYTES}
+use Rattle.adf_disk_cmd.proofs.Endings.{refused_ends, told_ends}
+use Rattle.adf_partitions.proofs.FirstBlocks.{first_disk, first_fault, first_readable}
+use Rattle.adf_partitions.specs.Disks.{FirstFault, IsDisk}
+use Rattle.adf_partitions.specs.Searches.{AreReadable}
+use Rattle.adf_partitions.specs.declared.fault.DiskFault.{DiskFault}
+use Rattle.adf_partitions.specs.declared.partition.Partition.{Partition}
+use Rattle.adf_partitions.specs.declared.tables.Tables.{Tables}
+use Rattle.adf_runs.proofs.Endings.{ends_weaker}
+use Rattle.adf_runs.specs.Commands.{Reply, on_output}
+use Rattle.adf_runs.specs.Outcomes.{EndsBy}
+use Rattle.adf_runs.specs.Streams.{IsPart}
+use Rattle.adf_runs.specs.declared.outcome.Outcome.{Outcome}
+
+-- the bytes that count
+abbrev pub disk_of : List ℕ → List ℕ
+disk_of all = take MOST_DISK_BYTES all
+
+pub if_some : {P Q : List ℕ → Type 0} (o : Option (List ℕ)) → ((x : List ℕ) → P x → Q x) → IfSome o P → IfSome o Q
+if_some None f h = tt
+if_some (Some x) f h = f x h
+
+module _ (all bytes : List ℕ) (len n : ℕ) (held : IsPart 0 TABLES_LEN (MOST_DISK_BYTES + 1) all bytes len) (blocks : n ≡ min len MOST_DISK_BYTES / 512) where
+  first_held : bytes ≡ take TABLES_LEN (disk_of all)
+  first_held = held.0 ∙ sym (take-take TABLES_LEN MOST_DISK_BYTES all (omega arith))
+
+  blocks_held : n ≡ length (disk_of all) / 512
+  blocks_held =
+      let same : min len MOST_DISK_BYTES ≡ length (disk_of all) = omega (arith, held.1, length-take MOST_DISK_BYTES all) in
+      blocks ∙ ap (λ (k : ℕ). k / 512) same
+
+  disk_held : {t : Tables} {ps : List Partition} → IsDisk bytes n t ps → IsDisk (disk_of all) (length (disk_of all) / 512) t ps
+  disk_held {t} {ps} d =
+      (first_disk (disk_of all) (length (disk_of all) / 512) t ps).0
+      (subst (λ (l : List ℕ). IsDisk l (length (disk_of all) / 512) t ps) first_held (subst (λ (k : ℕ). IsDisk bytes k t ps) blocks_held d))
+
+  fault_held : {f : DiskFault} → FirstFault bytes n f → FirstFault (disk_of all) (length (disk_of all) / 512) f
+  fault_held {f} v =
+      (first_fault (disk_of all) (length (disk_of all) / 512) f).0
+      (subst (λ (l : List ℕ). FirstFault l (length (disk_of all) / 512) f) first_held (subst (λ (k : ℕ). FirstFault bytes k f) blocks_held v))
+
+  readable_held : {ps : List Partition} → AreReadable bytes n ps → AreReadable (disk_of all) (length (disk_of all) / 512) ps
+  readable_held {ps} v =
+      (first_readable (disk_of all) (length (disk_of all) / 512) ps).0
+      (subst (λ (l : List ℕ). AreReadable l (length (disk_of all) / 512) ps) first_held (subst (λ (k : ℕ). AreReadable bytes k ps) blocks_held v))
+
+  -- its partitions are listed
+  listed : (s : Bool) (ps : List Partition) (reply : Reply) → reply ≡ on_output 0 (list_lines 1 ps) → OfPartitions (listing s) (disk_of all) ps reply
+  listed true ps reply e = e
+  listed false ps reply e = e
+
+  pub listed_ends : (s : Bool) (t : Tables) (ps : List Partition) (w : Outcome) (o o' : Option (List ℕ)) → IsDisk bytes n t ps
+      → EndsBy (λ reply. reply ≡ on_output 0 (list_lines 1 ps)) w o o' → EndsBy (DiskAnswer (listing s) all) w o o'
+  listed_ends s t ps w o o' disk h =
+      told_ends (listing s) all (disk_of all) t ps w o o' refl (disk_held disk)
+      (ends_weaker (λ reply. reply ≡ on_output 0 (list_lines 1 ps)) (OfPartitions (listing s) (disk_of all) ps) w o o' (listed s ps) h)
+
+  -- or its fault is told
+  told : (s : Bool) (f : DiskFault) (reply : Reply) → TellsFault s bytes n f reply → OfFault (listing s) (disk_of all) f reply
+  told true f reply (text, (ps, readable, e), same) = (text, (ps, readable_held readable, e), same)
+  told false f reply e = e
+
+  pub fault_ends : (s : Bool) (f : DiskFault) (w : Outcome) (o o' : Option (List ℕ)) → FirstFault bytes n f
+      → EndsBy (TellsFault s bytes n f) w o o' → EndsBy (DiskAnswer (listing s) all) w o o'
+  fault_ends s f w o o' first h =
+      refused_ends (listing s) all (disk_of all) f w o o' refl (fault_held first)
+      (ends_weaker (TellsFault s bytes n f) (OfFault (listing s) (disk_of all) f) w o o' (told s f) h)

@@ -1,0 +1,92 @@
+// The commands `list` and `survey` over an input, of which only the blocks that may have tables are held.
+
+ghost use Rattle.std.specs.Prelude.{◌≡◌, ◌+◌, ◌/◌, List, ℕ, false, min, true, IfSome};
+ghost use Rattle.adf_disk_cmd.specs.Answers.{DiskAnswer};
+ghost use Rattle.adf_disk_cmd.specs.Work.{TellsFault, listing};
+ghost use Rattle.adf_runs.specs.Outcomes.{EndsBy, is_read_fault, is_write_fault};
+ghost use Rattle.adf_runs.specs.Streams.{IsPart, TakesAtMost};
+
+use crate::listing::write_list;
+use crate::surveying::write_readable;
+use crate::work::MOST_DISK_BYTES;
+use adf_base::BLOCK_LEN;
+use adf_partitions::{Disk, DiskCause, DiskFault, MOST_TABLES};
+use adf_runs::{Outcome, Part, Sink, Source, read_part};
+use std::alloc::Global;
+
+/// The bytes of the blocks that may have tables.
+pub const TABLES_LEN: usize = MOST_TABLES as usize * BLOCK_LEN;
+
+/// How many blocks a disk of so many bytes has that count.
+pub fn blocks_of(len: usize) -> u64
+    ensures { result ≡ min len MOST_DISK_BYTES / 512 }
+{
+    (len.min(MOST_DISK_BYTES) / BLOCK_LEN) as u64
+}
+
+// Tells the fault of the tables: a survey on output, with the partitions that can be read.
+fn write_fault<W: Sink>(
+    alloc: Global,
+    tables: &[u8],
+    blocks: u64,
+    survey: bool,
+    fault: DiskFault,
+    output: &mut W,
+) -> Outcome
+    requires { W.has_failed output.old ≡ false }
+    ensures ends { EndsBy (TellsFault survey tables.now blocks fault) result
+        (W.held output.old) (W.held output.new) }
+    ensures read { is_read_fault result ≡ false }
+    ensures written { W.has_failed output.new ≡ is_write_fault result }
+{
+    let Ok(line) = format!(in alloc; "{fault}\n") else {
+        return Outcome::NoMemory;
+    };
+    if survey {
+        write_readable(alloc, tables, blocks, line.as_bytes(), output)
+    } else {
+        Outcome::Refused(line)
+    }
+}
+
+// Lists the partitions of a disk of which the tables are held.
+fn list_part<W: Sink>(alloc: Global, held: &Part, survey: bool, output: &mut W) -> Outcome
+    requires { W.has_failed output.old ≡ false }
+    ensures ends { (all : List ℕ)
+        → IsPart 0 TABLES_LEN (MOST_DISK_BYTES + 1) all held.now.bytes.items held.now.len
+        → EndsBy (DiskAnswer (listing survey) all) result (W.held output.old) (W.held output.new) }
+    ensures read { is_read_fault result ≡ false }
+    ensures written { W.has_failed output.new ≡ is_write_fault result }
+{
+    let blocks = blocks_of(held.len);
+    let tables = held.bytes.as_slice();
+    match Disk::open(alloc, tables, blocks) {
+        Ok(disk) => write_list(alloc, &disk.partitions, output),
+        Err(fault) => match fault.cause {
+            DiskCause::NoMemory => Outcome::NoMemory,
+            _ => write_fault(alloc, tables, blocks, survey, fault, output),
+        },
+    }
+}
+
+/// Lists the partitions of an input, or surveys it.
+pub fn list_input<R: Source, W: Sink>(
+    alloc: Global,
+    input: &mut R,
+    survey: bool,
+    output: &mut W,
+) -> Outcome
+    requires reads { R.has_failed input.old ≡ false }
+    requires writes { W.has_failed output.old ≡ false }
+    ensures ends { IfSome (R.left input.old) (λ all.
+        EndsBy (DiskAnswer (listing survey) all) result (W.held output.old) (W.held output.new)) }
+    ensures read { R.has_failed input.new ≡ is_read_fault result }
+    ensures written { W.has_failed output.new ≡ is_write_fault result }
+    ensures unwritten { is_read_fault result ≡ true → output.new ≡ output.old }
+    ensures at_most { TakesAtMost (MOST_DISK_BYTES + 1) (R.left input.old) (R.left input.new) }
+{
+    match read_part(alloc, input, 0, TABLES_LEN, MOST_DISK_BYTES) {
+        Ok(held) => list_part(alloc, &held, survey, output),
+        Err(fault) => Outcome::after_reading(fault),
+    }
+}

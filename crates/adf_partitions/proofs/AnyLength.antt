@@ -1,0 +1,151 @@
+-- What a disk says of its partitions whatever its number of blocks.
+-- Letters: as in specs/Disks; n and m two numbers of blocks, ps and p partitions with n, qs and q with m.
+use Rattle.std.proofs.Common.{◌≡◌, ◌≤◌, ◌∙◌, ℕ, zero, suc, List, [], ◌∷◌, ◌++◌, length, refl, sym, ap, subst, arith}
+use Rattle.std.proofs.Common.{Bool, true, false, Option, None, Some, Ok, Err}
+use Rattle.std.specs.Prelude.{◌==◌, ◌&&◌, ◌-◌, cond, find, if◌then◌else◌, nat_le, nat_lt, not, IfOk, IfSome, slice_get, ⊤}
+use Rattle.std.specs.List.{list_any}
+use Rattle.adf_base.specs.Words.{block, word}
+use Rattle.adf_partitions.specs.declared.fault.DiskCause.TheVariants.{OutOfRange, Repeated, NotPartition, BadSum, TooMany}
+use Rattle.adf_partitions.specs.declared.fault.DiskFault.{DiskFault}
+use Rattle.adf_partitions.specs.declared.layout.TheConstants.{MARK, MOST_PARTITIONS, MOST_TABLES, PART}
+use Rattle.adf_partitions.specs.declared.partition.Partition.{Partition}
+use Rattle.adf_partitions.specs.declared.tables.Tables.{Tables}
+use Rattle.adf_partitions.specs.Disks.{IsDisk, IsFound, is_at, part_form, partition_at}
+use Rattle.adf_partitions.specs.Disks.IsFound.{start, step}
+use Rattle.adf_partitions.specs.Faults.{disk_fault, first_failed}
+use Rattle.adf_partitions.specs.Partitions.{is_named, partition_numbered, place_form}
+use Rattle.adf_partitions.specs.Places.{place_of}
+use Rattle.adf_partitions.specs.Summed.{holds, is_summed}
+use Rattle.adf_partitions.specs.Tables.{is_table}
+use Rattle.adf_partitions.specs.Volumes.{AreAlike, FoundAlike, IsStated}
+use Rattle.adf_partitions.proofs.NumberTests.{le_of}
+use Rattle.adf_partitions.proofs.OneAnswer.{one_disk}
+use Rattle.adf_partitions.proofs.TablesEnough.{fourth, is_kept}
+use Rattle.adf_partitions.proofs.VolumesApart.{if_placed, passed}
+
+-- each of one list is as that of the other
+abbrev AreAll : List ℕ → ℕ → List Partition → List Partition → Type 0
+AreAll bytes n [] [] = ⊤
+AreAll bytes n (p ∷ ps) (q ∷ qs) = AreAlike bytes n p q × AreAll bytes n ps qs
+AreAll bytes n (p ∷ ps) [] = ⊥
+AreAll bytes n [] (q ∷ qs) = ⊥
+
+module _ (bytes : List ℕ) (n : ℕ) where
+  one_alike : (ps qs : List Partition) (p q : Partition) → AreAll bytes n ps qs → AreAlike bytes n p q → AreAll bytes n (ps ++ p ∷ []) (qs ++ q ∷ [])
+  one_alike [] [] p q h k = (k, tt)
+  one_alike (x ∷ ps) (y ∷ qs) p q h k = (h.0, one_alike ps qs p q h.1 k)
+  one_alike (x ∷ ps) [] p q h k = absurd h
+  one_alike [] (y ∷ qs) p q h k = absurd h
+
+  same_length : (ps qs : List Partition) → AreAll bytes n ps qs → length ps ≡ length qs
+  same_length [] [] h = refl
+  same_length (x ∷ ps) (y ∷ qs) h = ap suc (same_length ps qs h.1)
+  same_length (x ∷ ps) [] h = absurd h
+  same_length [] (y ∷ qs) h = absurd h
+
+  same_at : (b : ℕ) (ps qs : List Partition) → AreAll bytes n ps qs → list_any (is_at b) ps ≡ list_any (is_at b) qs
+  same_at b [] [] h = refl
+  same_at b (x ∷ ps) (y ∷ qs) h = let e = h.0.block in let f = same_at b ps qs h.1 in cc
+  same_at b (x ∷ ps) [] h = absurd h
+  same_at b [] (y ∷ qs) h = absurd h
+
+  either_alike : (a b : Bool) (p q : Partition) (more others : Option Partition) → a ≡ b → AreAlike bytes n p q → FoundAlike bytes n more others
+      → FoundAlike bytes n (cond a (Some p) more) (cond b (Some q) others)
+  either_alike true true p q more others e h k = h
+  either_alike false false p q more others e h k = k
+  either_alike true false p q more others e h k = absurd cc
+  either_alike false true p q more others e h k = absurd cc
+
+  named_alike : (name : List ℕ) (ps qs : List Partition) → AreAll bytes n ps qs → FoundAlike bytes n (find (is_named name) ps) (find (is_named name) qs)
+  named_alike name [] [] h = tt
+  named_alike name (x ∷ ps) (y ∷ qs) h =
+      let e = h.0.name in
+      let same : is_named name x ≡ is_named name y = cc in
+      either_alike (is_named name x) (is_named name y) x y (find (is_named name) ps) (find (is_named name) qs) same h.0 (named_alike name ps qs h.1)
+  named_alike name (x ∷ ps) [] h = absurd h
+  named_alike name [] (y ∷ qs) h = absurd h
+
+  got_alike : (k : ℕ) (ps qs : List Partition) → AreAll bytes n ps qs → FoundAlike bytes n (slice_get ps k) (slice_get qs k)
+  got_alike k [] [] h = tt
+  got_alike zero (x ∷ ps) (y ∷ qs) h = h.0
+  got_alike (suc k) (x ∷ ps) (y ∷ qs) h = got_alike k ps qs h.1
+  got_alike k (x ∷ ps) [] h = absurd h
+  got_alike k [] (y ∷ qs) h = absurd h
+
+  numbered_alike : (number : ℕ) (ps qs : List Partition) → AreAll bytes n ps qs
+      → FoundAlike bytes n (partition_numbered ps number) (partition_numbered qs number)
+  numbered_alike number ps qs h = by_test (number == 0)
+    where
+      by_test : (zero : Bool)
+          → FoundAlike bytes n (if zero then None else slice_get ps (number - 1)) (if zero then None else slice_get qs (number - 1))
+      by_test true = tt
+      by_test false = got_alike (number - 1) ps qs h
+
+  -- the tests of a block are those with the other number
+  same_tests : (t : Tables) (ps qs : List Partition) (a b : ℕ) → AreAll bytes n ps qs
+      → first_failed (part_form bytes t ps a b) ≡ first_failed (part_form bytes t qs a b)
+  same_tests t ps qs a b h =
+      let e = same_at b ps qs h in
+      let f = same_length ps qs h in
+      ap (λ (x : Bool). form x (length ps)) e ∙ ap (λ (x : ℕ). form (list_any (is_at b) qs) x) f
+    where
+      form : Bool → ℕ → Option DiskFault
+      form found count =
+          first_failed (
+          (is_table bytes t b, disk_fault a OutOfRange)
+          ∷ (not found, disk_fault b Repeated)
+          ∷ (word (block bytes b) MARK == PART, disk_fault b NotPartition)
+          ∷ (is_summed (block bytes b), disk_fault b BadSum)
+          ∷ (nat_lt count MOST_PARTITIONS, disk_fault b TooMany)
+          ∷ [])
+
+  -- a partition has no other place than its block states
+  stated : (t : Tables) (ps : List Partition) (a b : ℕ) → first_failed (part_form bytes t ps a b) ≡ None
+      → IfOk (partition_at bytes n t ps b).place (IsStated bytes n b)
+  stated t ps a b sound =
+      let p = block bytes b in
+      let kept = is_kept ps a b (is_table bytes t b) p sound in
+      if_placed (place_of p) (first_failed (place_form n t ps p)) (IsStated bytes n b) (λ none.
+      let h = passed n t ps p none in
+      record {
+        states = record {
+          held = fourth (nat_le t.lowest b) (nat_le b t.highest) (nat_lt b MOST_TABLES) (holds bytes b) kept;
+          cylinders = h.cylinders;
+          within = le_of _ n h.within;
+        };
+        same = refl;
+      })
+
+  -- the partitions found with the other number of blocks
+  found_alike : (m : ℕ) (t : Tables) {ps : List Partition} {a b : ℕ} → IsFound bytes n t ps a b
+      → (qs : List Partition) × IsFound bytes m t qs a b × AreAll bytes n ps qs
+  found_alike m t start = ([], start, tt)
+  found_alike m t (step {ps = ps} {a = a} {b = b} h some sound) =
+      let (qs, found, all) = found_alike m t h in
+      let tests = sym (same_tests t ps qs a b all) ∙ sound in
+      (qs ++ partition_at bytes m t qs b ∷ [], step found some tests,
+      one_alike ps qs (partition_at bytes n t ps b) (partition_at bytes m t qs b) all
+      (record { block = refl; name = refl; place = stated t ps a b sound }))
+
+  other_disk : (m : ℕ) (t : Tables) (ps : List Partition) → IsDisk bytes n t ps → (qs : List Partition) × IsDisk bytes m t qs × AreAll bytes n ps qs
+  other_disk m t ps d =
+      let (qs, found, all) = found_alike m t d.whole.1 in
+      (qs, record { tables = d.tables; whole = (d.whole.0, found) }, all)
+
+  -- a disk has a list of partitions whatever its number of blocks
+  pub is_disk_too : (m : ℕ) (t : Tables) (ps : List Partition) → IsDisk bytes n t ps → (qs : List Partition) × IsDisk bytes m t qs
+  is_disk_too m t ps d = let (qs, disk, all) = other_disk m t ps d in (qs, disk)
+
+  all_alike : (m : ℕ) (t u : Tables) (ps qs : List Partition) → IsDisk bytes n t ps → IsDisk bytes m u qs → AreAll bytes n ps qs
+  all_alike m t u ps qs d e =
+      let (others, disk, all) = other_disk m t ps d in
+      subst (AreAll bytes n ps) (one_disk bytes m t u others qs disk e).1 all
+
+  -- and the same number or name finds the same partition block
+  pub numbered_is : (m : ℕ) (t u : Tables) (ps qs : List Partition) (number : ℕ) → IsDisk bytes n t ps → IsDisk bytes m u qs
+      → FoundAlike bytes n (partition_numbered ps number) (partition_numbered qs number)
+  numbered_is m t u ps qs number d e = numbered_alike number ps qs (all_alike m t u ps qs d e)
+
+  pub named_is : (m : ℕ) (t u : Tables) (ps qs : List Partition) (name : List ℕ) → IsDisk bytes n t ps → IsDisk bytes m u qs
+      → FoundAlike bytes n (find (is_named name) ps) (find (is_named name) qs)
+  named_is m t u ps qs name d e = named_alike name ps qs (all_alike m t u ps qs d e)

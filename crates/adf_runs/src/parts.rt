@@ -1,0 +1,90 @@
+// Reads that hold a part of an input, and pass over the rest.
+
+ghost use Rattle.std.specs.Prelude.{◌≡◌, ◌+◌, ◌<◌, ◌≤◌, ◌^◌, false, is_err, length, vec_len, IfOk, IfSome};
+ghost use Rattle.adf_runs.specs.Streams.{IsPart, PassesOver, TakesAtMost, TakesFirst, is_device};
+
+use crate::devices::{Failed, Source};
+use crate::streams::{CHUNK, StreamFault, read_all};
+use std::alloc::Global;
+
+/// Passes over so many bytes of an input, or over all where it has fewer, and answers how many; they come through a buffer.
+/// `Failed` where the reader failed.
+pub fn pass_over<R: Source>(
+    input: &mut R,
+    limit: usize,
+    buffer: &mut [u8],
+) -> Result<usize, Failed>
+    requires room { 0 < length buffer.old }
+    requires works { R.has_failed input.old ≡ false }
+    ensures passed { IfOk result (PassesOver limit (R.left input.old) (R.left input.new)) }
+    ensures within { IfOk result (λ n. n ≤ limit) }
+    ensures at_most { TakesAtMost limit (R.left input.old) (R.left input.new) }
+    ensures failed { R.has_failed input.new ≡ is_err result }
+{
+    let mut passed = 0usize;
+    while passed < limit {
+        let end = buffer.len().min(limit - passed);
+        let count = input.read(&mut buffer[..end])?;
+        if count == 0 {
+            return Ok(passed);
+        }
+        passed += count;
+    }
+    Ok(passed)
+}
+
+/// Reads so many bytes of an input, or all where it has fewer. `Device` where the reader failed, `NoMemory` where memory was
+/// refused.
+pub fn read_first<R: Source>(
+    alloc: Global,
+    input: &mut R,
+    count: usize,
+) -> Result<Vec<u8>, StreamFault>
+    requires limited { count ≤ 2 ^ 63 }
+    requires works { R.has_failed input.old ≡ false }
+    ensures first { IfOk result (λ bytes.
+        TakesFirst count (R.left input.old) (R.left input.new) bytes.items) }
+    ensures within { IfOk result (λ bytes. vec_len bytes ≤ count) }
+    ensures at_most { TakesAtMost count (R.left input.old) (R.left input.new) }
+    ensures failed { R.has_failed input.new ≡ is_device result }
+{
+    if count == 0 {
+        return Ok(Vec::new(alloc));
+    }
+    read_all(alloc, input, count - 1)
+}
+
+/// A part of an input.
+#[derive(Drop)]
+pub struct Part {
+    pub bytes: Vec<u8>,
+    /// How many bytes the whole input has.
+    pub len: usize,
+}
+
+/// Reads the bytes between two places of an input, as far as it has them, and passes over the others; at most one byte more than
+/// the limit, so that a longer input is seen to be longer. `Device` where the reader failed, `NoMemory` where memory was refused.
+pub fn read_part<R: Source>(
+    alloc: Global,
+    input: &mut R,
+    from: usize,
+    to: usize,
+    limit: usize,
+) -> Result<Part, StreamFault>
+    requires order { from ≤ to }
+    requires inside { to ≤ limit }
+    requires limited { limit < 2 ^ 63 }
+    requires works { R.has_failed input.old ≡ false }
+    ensures part { IfOk result (λ part. IfSome (R.left input.old)
+        (λ all. IsPart from to (limit + 1) all part.bytes.items part.len)) }
+    ensures within { IfOk result (λ part. part.len ≤ limit + 1) }
+    ensures at_most { TakesAtMost (limit + 1) (R.left input.old) (R.left input.new) }
+    ensures failed { R.has_failed input.new ≡ is_device result }
+{
+    let mut buffer = vec![in alloc; 0u8; CHUNK]?;
+    let before = pass_over(input, from, &mut buffer)?;
+    let bytes = read_first(alloc, input, to - from)?;
+    let after = pass_over(input, limit + 1 - to, &mut buffer)?;
+    let len = before + bytes.len() + after;
+    Ok(Part { bytes, len })
+}
