@@ -1,3 +1,5 @@
 pub mod Endings
 pub mod CheckedLines
 pub mod OneAnswer
+pub mod NewVolumes
+pub mod BuiltDisks

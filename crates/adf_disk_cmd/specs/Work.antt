@@ -1,4 +1,4 @@
--- What is done for words.
+-- What is done with a disk.
 use Rattle.std.specs.Prelude.{◌≡◌, ℕ, List}
 use Rattle.adf_tree.specs.Escapes.{IsSpelling}
 use Rattle.adf_words.specs.DiskLine.{DiskRequestValue, WantedValue, check, list, name, number, survey, volume}

@@ -1,8 +1,8 @@
 use Rattle.adf_disk_cmd.proofs.Endings.{long_answers}
 use Rattle.adf_disk_cmd.specs.Answers.{DiskAnswer}
-use Rattle.adf_disk_cmd.specs.declared.work.TheConstants.{MOST_DISK_BYTES}
+use Rattle.adf_disk_cmd.specs.declared.job.TheConstants.{MOST_DISK_BYTES}
 use Rattle.adf_runs.proofs.Endings.{read_ends}
-use Rattle.adf_disk_cmd.proofs.work.WorkProgram.on_input.Goals as goal
+use Rattle.adf_disk_cmd.proofs.job.JobProgram.on_input.Goals as goal
 
 pub returns-in-Ok-clause-ends : goal.returns-in-Ok-clause-ends
 returns-in-Ok-clause-ends g c = λ r serves.
