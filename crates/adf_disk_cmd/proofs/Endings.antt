@@ -1,12 +1,13 @@
 -- How works end, and by which answers. `part` are the first bytes of an input, as many as count.
 use Rattle.std.proofs.Common.{◌≡◌, ◌+◌, ◌*◌, ◌-◌, ◌/◌, ◌∙◌, inl, inr, ℕ, List, [], Option, None, Some, IfSome, ap, append-nil, arith, sym, drop, length, min, subst, take}
 use Rattle.std.proofs.lemmas.List.{drop_min, length-drop, take-take, take_all, take_min}
-use Rattle.adf_disk_cmd.specs.Answers.{DiskAnswer, OfDisk, OfFault, OfPartitions}
+use Rattle.adf_disk_cmd.specs.Answers.{DiskAnswer, OfBytes, OfDisk, OfFault, OfPartitions}
+use Rattle.adf_disk_cmd.specs.Builds.{BuildsDisk}
 use Rattle.adf_disk_cmd.specs.Lines.{volume_at}
 use Rattle.adf_disk_cmd.specs.Work.{Serves}
 use Rattle.adf_disk_cmd.specs.declared.work.TheConstants.{MOST_DISK_BYTES}
 use Rattle.adf_disk_cmd.specs.declared.work.Work.{Work}
-use Rattle.adf_disk_cmd.specs.declared.work.Work.TheVariants.{List as ListAll, Check, Survey}
+use Rattle.adf_disk_cmd.specs.declared.work.Work.TheVariants.{Check, Survey}
 use Rattle.adf_partitions.specs.Disks.{FirstFault, IsDisk}
 use Rattle.adf_partitions.specs.declared.fault.DiskFault.{DiskFault}
 use Rattle.adf_partitions.specs.declared.partition.Partition.{Partition}
@@ -19,7 +20,7 @@ use Rattle.adf_runs.specs.Outcomes.{EndsBy, after_reading}
 use Rattle.adf_runs.specs.declared.outcome.Outcome.{Outcome}
 use Rattle.adf_runs.specs.declared.streams.StreamFault.{StreamFault}
 use Rattle.adf_runs.specs.declared.streams.StreamFault.TheVariants.{Device, NoMemory}
-use Rattle.adf_words.specs.DiskLine.{DiskRequestValue, check, list, survey}
+use Rattle.adf_words.specs.DiskLine.{DiskRequestValue, build, check, list, survey, volume}
 
 -- what is answered to the front of an input that is longer than the largest disk is answered to the whole of it
 pub long_answers : (r : DiskRequestValue) (front bytes : List ℕ) → front ≡ take (MOST_DISK_BYTES + 1) bytes → (reply : Reply) → DiskAnswer r front reply
@@ -27,7 +28,7 @@ pub long_answers : (r : DiskRequestValue) (front bytes : List ℕ) → front ≡
 long_answers r front bytes e reply h =
     let same : take MOST_DISK_BYTES front ≡ take MOST_DISK_BYTES bytes =
     ap (take MOST_DISK_BYTES) e ∙ take-take MOST_DISK_BYTES (MOST_DISK_BYTES + 1) bytes (omega arith) in
-    subst (λ (l : List ℕ). OfDisk r l reply) same h
+    subst (λ (l : List ℕ). OfBytes r l reply) same h
 
 -- as many bytes count as the largest disk has
 pub counted : (bytes : List ℕ) (n : ℕ) → n ≡ min (length bytes) MOST_DISK_BYTES → take n bytes ≡ take MOST_DISK_BYTES bytes
@@ -36,17 +37,34 @@ counted bytes n e =
     ap (λ (k : ℕ). take k bytes) swapped ∙ take_min MOST_DISK_BYTES bytes
 
 -- what is told of the partitions of a disk answers the request
-pub told_ends : (r : DiskRequestValue) (bytes part : List ℕ) (t : Tables) (ps : List Partition) (w : Outcome) (o o' : Option (List ℕ))
-    → part ≡ take MOST_DISK_BYTES bytes → IsDisk part (length part / 512) t ps → EndsBy (OfPartitions r part ps) w o o' → EndsBy (DiskAnswer r bytes) w o o'
-told_ends r bytes part t ps w o o' e disk h = ends_weaker (OfPartitions r part ps) (DiskAnswer r bytes) w o o'
-    (λ reply tells. subst (λ (l : List ℕ). OfDisk r l reply) e (inl (t, ps, disk, tells))) h
+pub told_ends : (r : DiskRequestValue) (bytes : List ℕ) (t : Tables) (ps : List Partition) (w : Outcome) (o o' : Option (List ℕ))
+    → IsDisk bytes (length bytes / 512) t ps → EndsBy (OfPartitions r bytes ps) w o o' → EndsBy (OfDisk r bytes) w o o'
+told_ends r bytes t ps w o o' disk h = ends_weaker (OfPartitions r bytes ps) (OfDisk r bytes) w o o' (λ reply tells. inl (t, ps, disk, tells)) h
 
 -- so does its first fault
-pub refused_ends : (r : DiskRequestValue) (bytes part : List ℕ) (f : DiskFault) (w : Outcome) (o o' : Option (List ℕ))
-    → part ≡ take MOST_DISK_BYTES bytes → FirstFault part (length part / 512) f → EndsBy (OfFault r part f) w o o'
-    → EndsBy (DiskAnswer r bytes) w o o'
-refused_ends r bytes part f w o o' e first h = ends_weaker (OfFault r part f) (DiskAnswer r bytes) w o o'
-    (λ reply tells. subst (λ (l : List ℕ). OfDisk r l reply) e (inr (f, first, tells))) h
+pub refused_ends : (r : DiskRequestValue) (bytes : List ℕ) (f : DiskFault) (w : Outcome) (o o' : Option (List ℕ))
+    → FirstFault bytes (length bytes / 512) f → EndsBy (OfFault r bytes f) w o o' → EndsBy (OfDisk r bytes) w o o'
+refused_ends r bytes f w o o' first h = ends_weaker (OfFault r bytes f) (OfDisk r bytes) w o o' (λ reply tells. inr (f, first, tells)) h
+
+-- an answer of a disk answers the request
+of_bytes : (r : DiskRequestValue) (bytes : List ℕ) (reply : Reply) → OfDisk r bytes reply → OfBytes r bytes reply
+of_bytes list bytes reply h = h
+of_bytes check bytes reply h = h
+of_bytes survey bytes reply h = h
+of_bytes (volume w) bytes reply h = h
+of_bytes build bytes reply (inl (t, ps, disk, never)) = absurd never
+of_bytes build bytes reply (inr (f, first, never)) = absurd never
+
+-- what is answered to as many bytes as count is the answer to an input
+pub disk_ends : (r : DiskRequestValue) (bytes part : List ℕ) (w : Outcome) (o o' : Option (List ℕ)) → part ≡ take MOST_DISK_BYTES bytes
+    → EndsBy (OfDisk r part) w o o' → EndsBy (DiskAnswer r bytes) w o o'
+disk_ends r bytes part w o o' e h = ends_weaker (OfDisk r part) (DiskAnswer r bytes) w o o'
+    (λ reply tells. subst (λ (l : List ℕ). OfBytes r l reply) e (of_bytes r part reply tells)) h
+
+pub plan_ends : (bytes part : List ℕ) (w : Outcome) (o o' : Option (List ℕ)) → part ≡ take MOST_DISK_BYTES bytes → EndsBy (BuildsDisk part) w o o'
+    → EndsBy (DiskAnswer build bytes) w o o'
+plan_ends bytes part w o o' e h = ends_weaker (BuildsDisk part) (DiskAnswer build bytes) w o o'
+    (λ reply tells. subst (λ (l : List ℕ). BuildsDisk l reply) e tells) h
 
 -- the work of `check` is that of no other request, nor is that of `survey`
 pub checks : (work : Work) (r : DiskRequestValue) → work ≡ Check → Serves work r → r ≡ check
@@ -66,10 +84,6 @@ volume_is bytes q first count e f =
     let rest : take (length bytes - first) (drop first bytes) ≡ behind = all ∙ ap (λ (k : ℕ). drop k bytes) e ∙ drop_min (q.first * 512) bytes in
     let cut : count ≡ min (q.blocks * 512) (length behind) = f ∙ ap (λ (l : List ℕ). min (q.blocks * 512) (length l)) rest in
     ap (take count) rest ∙ ap (λ (k : ℕ). take k behind) cut ∙ take_min (q.blocks * 512) behind
-
--- the work of `list` is that of no other request
-pub lists : (work : Work) (r : DiskRequestValue) → work ≡ ListAll → Serves work r → r ≡ list
-lists work r e serves = subst (λ (w : Work). Serves w r) e serves
 
 -- nothing is written
 pub none_added : (o : Option (List ℕ)) → Appends o o []

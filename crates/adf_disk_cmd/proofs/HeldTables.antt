@@ -7,7 +7,7 @@ use Rattle.adf_disk_cmd.specs.Lines.{list_lines}
 use Rattle.adf_disk_cmd.specs.Work.{TellsFault, listing}
 use Rattle.adf_disk_cmd.specs.declared.list_input.TheConstants.{TABLES_LEN}
 use Rattle.adf_disk_cmd.specs.declared.work.TheConstants.{MOST_DISK_BYTES}
-use Rattle.adf_disk_cmd.proofs.Endings.{refused_ends, told_ends}
+use Rattle.adf_disk_cmd.proofs.Endings.{disk_ends, refused_ends, told_ends}
 use Rattle.adf_partitions.proofs.FirstBlocks.{first_disk, first_fault, first_readable}
 use Rattle.adf_partitions.specs.Disks.{FirstFault, IsDisk}
 use Rattle.adf_partitions.specs.Searches.{AreReadable}
@@ -60,8 +60,8 @@ module _ (all bytes : List ℕ) (len n : ℕ) (held : IsPart 0 TABLES_LEN (MOST_
   pub listed_ends : (s : Bool) (t : Tables) (ps : List Partition) (w : Outcome) (o o' : Option (List ℕ)) → IsDisk bytes n t ps
       → EndsBy (λ reply. reply ≡ on_output 0 (list_lines 1 ps)) w o o' → EndsBy (DiskAnswer (listing s) all) w o o'
   listed_ends s t ps w o o' disk h =
-      told_ends (listing s) all (disk_of all) t ps w o o' refl (disk_held disk)
-      (ends_weaker (λ reply. reply ≡ on_output 0 (list_lines 1 ps)) (OfPartitions (listing s) (disk_of all) ps) w o o' (listed s ps) h)
+      disk_ends (listing s) all (disk_of all) w o o' refl (told_ends (listing s) (disk_of all) t ps w o o' (disk_held disk)
+      (ends_weaker (λ reply. reply ≡ on_output 0 (list_lines 1 ps)) (OfPartitions (listing s) (disk_of all) ps) w o o' (listed s ps) h))
 
   -- or its fault is told
   told : (s : Bool) (f : DiskFault) (reply : Reply) → TellsFault s bytes n f reply → OfFault (listing s) (disk_of all) f reply
@@ -71,5 +71,5 @@ module _ (all bytes : List ℕ) (len n : ℕ) (held : IsPart 0 TABLES_LEN (MOST_
   pub fault_ends : (s : Bool) (f : DiskFault) (w : Outcome) (o o' : Option (List ℕ)) → FirstFault bytes n f
       → EndsBy (TellsFault s bytes n f) w o o' → EndsBy (DiskAnswer (listing s) all) w o o'
   fault_ends s f w o o' first h =
-      refused_ends (listing s) all (disk_of all) f w o o' refl (fault_held first)
-      (ends_weaker (TellsFault s bytes n f) (OfFault (listing s) (disk_of all) f) w o o' (told s f) h)
+      disk_ends (listing s) all (disk_of all) w o o' refl (refused_ends (listing s) (disk_of all) f w o o' (fault_held first)
+      (ends_weaker (TellsFault s bytes n f) (OfFault (listing s) (disk_of all) f) w o o' (told s f) h))

@@ -3,21 +3,26 @@
 use Rattle.std.proofs.Common.{◌≡◌, ◌&&◌, ◌++◌, ◌∙◌, ℕ, Bool, true, false, List, [], ◌∷◌, Option, Some, Result, Ok, Err, inl, inr, ap, ap₂, refl, sym, subst}
 use Rattle.std.specs.Prelude.{codes, find, length, ◌/◌, take}
 use Rattle.adf_cmd.proofs.OneAnswer.{one_answer as one_check}
-use Rattle.adf_disk_cmd.specs.Answers.{ChecksAll, CopiesVolume, DiskAnswer, IsWanted, OfDisk, OfFault, OfPartitions, TellsReadable, fault_line, volume_reply}
+use Rattle.adf_disk_cmd.specs.Answers.{ChecksAll, CopiesVolume, DiskAnswer, IsWanted, OfBytes}
+use Rattle.adf_disk_cmd.specs.Answers.{OfDisk, OfFault, OfPartitions, TellsReadable, fault_line, volume_reply}
+use Rattle.adf_disk_cmd.specs.Builds.{BuildsDisk, plan_reply, refusal}
 use Rattle.adf_disk_cmd.specs.Checks.{AreChecked, TellsPlace, TellsText, TellsVolume, check_status}
 use Rattle.adf_disk_cmd.specs.Lines.{bytes_text, is_checked, list_lines, name_text, volume_at}
 use Rattle.adf_disk_cmd.specs.declared.work.TheConstants.{MOST_DISK_BYTES}
 use Rattle.adf_partitions.proofs.OneAnswer.{no_fault, one_disk, one_fault, one_reading}
-use Rattle.adf_partitions.specs.FaultTexts.{place_fault_text}
+use Rattle.adf_partitions.proofs.OnePlan.{no_text_fault, one_plan, one_text_fault}
+use Rattle.adf_partitions.specs.FaultTexts.{place_fault_text, text_fault_text}
 use Rattle.adf_partitions.specs.Partitions.{is_named}
+use Rattle.adf_partitions.specs.Plans.{PlanValue}
 use Rattle.adf_partitions.specs.declared.fault.DiskFault.{DiskFault}
 use Rattle.adf_partitions.specs.declared.partition.Partition.{Partition}
 use Rattle.adf_partitions.specs.declared.place.Place.{Place}
 use Rattle.adf_partitions.specs.declared.place.PlaceFault.{PlaceFault}
+use Rattle.adf_partitions.specs.declared.plan_text.TextFault.{TextFault}
 use Rattle.adf_runs.specs.Commands.{Reply, on_output}
 use Rattle.adf_tree.proofs.Spellings.{only_spelled}
 use Rattle.adf_words.specs.CommandLine.{check as check_volume}
-use Rattle.adf_words.specs.DiskLine.{AsksDisk, DiskRequestValue, WantedValue, check, list, name, number, survey, volume}
+use Rattle.adf_words.specs.DiskLine.{AsksDisk, DiskRequestValue, WantedValue, build, check, list, name, number, survey, volume}
 
 pub one_request : (words : List (List ℕ)) (r q : DiskRequestValue) → AsksDisk words r → AsksDisk words q → r ≡ q
 one_request words r q a b = same _ r q a.1 b.1
@@ -75,6 +80,7 @@ of_once list bytes ps a b x y = x ∙ sym y
 of_once check bytes ps a b x y = all_once bytes ps a b x y
 of_once survey bytes ps a b x y = x ∙ sym y
 of_once (volume w) bytes ps a b x y = volume_copied_once bytes ps w a b x y
+of_once build bytes ps a b x y = absurd x
 
 readable_once : (bytes : List ℕ) (n : ℕ) (line a b : List ℕ) → TellsReadable bytes n line a → TellsReadable bytes n line b → a ≡ b
 readable_once bytes n line a b (ps, h, x) (qs, g, y) =
@@ -85,6 +91,7 @@ fault_once list bytes f a b x y = x ∙ sym y
 fault_once check bytes f a b x y = x ∙ sym y
 fault_once survey bytes f a b (s, h, x) (t, g, y) = x ∙ ap (λ (k : List ℕ). on_output 1 k) (readable_once bytes (length bytes / 512) (fault_line f) s t h g) ∙ sym y
 fault_once (volume w) bytes f a b x y = x ∙ sym y
+fault_once build bytes f a b x y = absurd x
 
 disk_once : (r : DiskRequestValue) (bytes : List ℕ) (a b : Reply) → OfDisk r bytes a → OfDisk r bytes b → a ≡ b
 disk_once r bytes a b (inl (t, ps, disk, x)) (inl (u, qs, also, y)) =
@@ -95,5 +102,21 @@ disk_once r bytes a b (inr (f, first, x)) (inl (t, ps, disk, y)) = absurd (no_fa
 disk_once r bytes a b (inr (f, first, x)) (inr (g, also, y)) =
     fault_once r bytes g a b (subst (λ (k : DiskFault). OfFault r bytes k a) (one_fault bytes (length bytes / 512) f g first also) x) y
 
+build_once : (text : List ℕ) (a b : Reply) → BuildsDisk text a → BuildsDisk text b → a ≡ b
+build_once text a b (inl (plan, given, is, x)) (inl (other, rest, also, y)) =
+    let same = one_plan text plan other given rest is also in
+    x ∙ ap₂ (λ (p : PlanValue) (l : List ℕ). plan_reply p l) same.0 same.1 ∙ sym y
+build_once text a b (inl (plan, given, is, x)) (inr (f, fault, y)) = absurd (no_text_fault text plan given f is fault)
+build_once text a b (inr (f, fault, x)) (inl (plan, given, is, y)) = absurd (no_text_fault text plan given f is fault)
+build_once text a b (inr (f, fault, x)) (inr (g, also, y)) =
+    x ∙ ap (λ (k : TextFault). refusal (text_fault_text k)) (one_text_fault text f g fault also) ∙ sym y
+
+bytes_once : (r : DiskRequestValue) (bytes : List ℕ) (a b : Reply) → OfBytes r bytes a → OfBytes r bytes b → a ≡ b
+bytes_once list bytes a b x y = disk_once list bytes a b x y
+bytes_once check bytes a b x y = disk_once check bytes a b x y
+bytes_once survey bytes a b x y = disk_once survey bytes a b x y
+bytes_once (volume w) bytes a b x y = disk_once (volume w) bytes a b x y
+bytes_once build bytes a b x y = build_once bytes a b x y
+
 pub one_answer : (r : DiskRequestValue) (input : List ℕ) (a b : Reply) → DiskAnswer r input a → DiskAnswer r input b → a ≡ b
-one_answer r input a b x y = disk_once r (take MOST_DISK_BYTES input) a b x y
+one_answer r input a b x y = bytes_once r (take MOST_DISK_BYTES input) a b x y

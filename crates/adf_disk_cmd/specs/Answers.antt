@@ -10,15 +10,12 @@ use Rattle.adf_partitions.specs.declared.partition.Partition.{Partition}
 use Rattle.adf_partitions.specs.declared.place.Place.{Place}
 use Rattle.adf_partitions.specs.declared.place.PlaceFault.{PlaceFault}
 use Rattle.adf_partitions.specs.declared.tables.Tables.{Tables}
-use Rattle.adf_words.specs.DiskLine.{AreRefusedByDisk, AsksDisk, DiskRequestValue, WantedValue, check, list, name, number, survey, volume}
-use Rattle.adf_runs.specs.Commands.{Command, Reply, on_errors, on_output}
+use Rattle.adf_words.specs.DiskLine.{AreRefusedByDisk, AsksDisk, DiskRequestValue, WantedValue, build, check, list, name, number, survey, volume}
+use Rattle.adf_runs.specs.Commands.{Command, Reply, on_output}
+use Rattle.adf_disk_cmd.specs.Builds.{BuildsDisk, refusal}
 use Rattle.adf_disk_cmd.specs.Checks.{AreChecked, check_status}
 use Rattle.adf_disk_cmd.specs.Lines.{list_lines, volume_at}
 use Rattle.adf_disk_cmd.specs.declared.work.TheConstants.{MOST_DISK_BYTES}
-
--- a text and a line feed on errors, at status 1
-abbrev pub refusal : List ℕ → Reply
-refusal text = on_errors 1 (text ++ codes "\n")
 
 -- `check` writes the lines of all partitions, at status 0 where all of them are sound
 abbrev pub ChecksAll : List ℕ → List Partition → Reply → Type 0
@@ -48,12 +45,13 @@ volume_reply bytes (Some p) = place_reply bytes p.place
 abbrev pub CopiesVolume : List ℕ → List Partition → WantedValue → Reply → Type 0
 CopiesVolume bytes ps w reply = (found : Option Partition) × IsWanted ps w found × (reply ≡ volume_reply bytes found)
 
--- the answer to a request, of a disk with these partitions
+-- the answer to a request, of a disk with these partitions: `build` reads no disk
 abbrev pub OfPartitions : DiskRequestValue → List ℕ → List Partition → Reply → Type 0
 OfPartitions list bytes ps reply = reply ≡ on_output 0 (list_lines 1 ps)
 OfPartitions check bytes ps reply = ChecksAll bytes ps reply
 OfPartitions survey bytes ps reply = reply ≡ on_output 0 (list_lines 1 ps)
 OfPartitions (volume w) bytes ps reply = CopiesVolume bytes ps w reply
+OfPartitions build bytes ps reply = ⊥
 
 -- a line, and the lines of the partitions that can be read of a disk of n blocks
 abbrev pub TellsReadable : List ℕ → ℕ → List ℕ → List ℕ → Type 0
@@ -70,6 +68,7 @@ OfFault list bytes f reply = reply ≡ refusal (disk_fault_text f)
 OfFault check bytes f reply = reply ≡ on_output 1 (fault_line f)
 OfFault survey bytes f reply = (text : List ℕ) × TellsReadable bytes (length bytes / 512) (fault_line f) text × (reply ≡ on_output 1 text)
 OfFault (volume w) bytes f reply = reply ≡ refusal (disk_fault_text f)
+OfFault build bytes f reply = ⊥
 
 -- the partitions are told of, or the first fault of the disk, which has as many blocks as the bytes hold
 abbrev pub OfDisk : DiskRequestValue → List ℕ → Reply → Type 0
@@ -77,9 +76,14 @@ OfDisk r bytes reply =
     ((t : Tables) × (ps : List Partition) × IsDisk bytes (length bytes / 512) t ps × OfPartitions r bytes ps reply)
     ⊎ ((f : DiskFault) × FirstFault bytes (length bytes / 512) f × OfFault r bytes f reply)
 
+-- the answer to a request and the bytes of an input: those of a plan, or of a disk
+abbrev pub OfBytes : DiskRequestValue → List ℕ → Reply → Type 0
+OfBytes build bytes reply = BuildsDisk bytes reply
+OfBytes r bytes reply = OfDisk r bytes reply
+
 -- the answer to a request and an input: what is past the largest disk does not count
 abbrev pub DiskAnswer : DiskRequestValue → List ℕ → Reply → Type 0
-DiskAnswer r input reply = OfDisk r (take MOST_DISK_BYTES input) reply
+DiskAnswer r input reply = OfBytes r (take MOST_DISK_BYTES input) reply
 
 -- words ask for one request at most
 abbrev pub WordsAskForOneDiskRequest : Type 0
@@ -93,7 +97,7 @@ DiskRequestsHaveOneAnswer = (r : DiskRequestValue) (input : List ℕ) (a b : Rep
 abbrev pub disk_usage : List ℕ
 disk_usage =
     codes "usage: adf-disk list < DISK\n       adf-disk check < DISK\n       adf-disk survey < DISK\n       adf-disk volume NAME < DISK\n"
-    ++ codes "the image of a hard disk comes on standard input; man adf-disk tells more\n"
+    ++ codes "       adf-disk build < PLAN > DISK\na disk or the plan of one comes on standard input; man adf-disk tells more\n"
 
 -- the command `adf-disk`, whose words have no path
 abbrev pub disk_command : Command (List (List ℕ))

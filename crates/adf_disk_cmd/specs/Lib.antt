@@ -1,6 +1,8 @@
 -- The promise: the lines, and what the command answers.
 pub mod Lines
 pub mod Checks
+pub mod Builds
 pub mod Answers
 -- The words of the command, as its work keeps them.
 pub mod Work
+pub mod Jobs

@@ -1,11 +1,12 @@
--- What is done for words.
+-- What is done with a disk.
 use Rattle.std.specs.Prelude.{◌≡◌, ℕ, Bool, true, false, List}
 use Rattle.adf_partitions.specs.FaultTexts.{disk_fault_text}
 use Rattle.adf_partitions.specs.declared.fault.DiskFault.{DiskFault}
 use Rattle.adf_runs.specs.Commands.{Reply, on_output}
 use Rattle.adf_tree.specs.Escapes.{IsSpelling}
 use Rattle.adf_words.specs.DiskLine.{DiskRequestValue, WantedValue, check, list, name, number, survey, volume}
-use Rattle.adf_disk_cmd.specs.Answers.{IsNoName, TellsReadable, fault_line, refusal}
+use Rattle.adf_disk_cmd.specs.Answers.{IsNoName, TellsReadable, fault_line}
+use Rattle.adf_disk_cmd.specs.Builds.{refusal}
 use Rattle.adf_disk_cmd.specs.declared.work.Sought.{Sought}
 use Rattle.adf_disk_cmd.specs.declared.work.Sought.TheVariants.{Numbered, Named, Nothing}
 use Rattle.adf_disk_cmd.specs.declared.work.Work.{Work}

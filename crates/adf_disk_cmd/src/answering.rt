@@ -1,7 +1,7 @@
 // How an answer is written.
 
 ghost use Rattle.std.specs.Prelude.{◌≡◌, List, Option, ℕ, false};
-ghost use Rattle.adf_disk_cmd.specs.Answers.{refusal};
+ghost use Rattle.adf_disk_cmd.specs.Builds.{refusal};
 ghost use Rattle.adf_disk_cmd.specs.Checks.{check_status};
 ghost use Rattle.adf_runs.specs.Commands.{on_output};
 ghost use Rattle.adf_runs.specs.Outcomes.{EndsBy, is_read_fault, is_write_fault};

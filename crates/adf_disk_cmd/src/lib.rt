@@ -1,8 +1,10 @@
-//! The command `adf-disk`: the partitions of a whole hard disk, and their volumes.
+//! The command `adf-disk`: the partitions of a whole hard disk, their volumes, and new disks.
 #![tactic(auto)]
 
 mod answering;
+mod building;
 mod checking;
+mod job;
 mod list_input;
 mod listing;
 mod runner;
@@ -11,6 +13,8 @@ mod types;
 mod volumes;
 mod work;
 
+pub use crate::building::built_disks;
+pub use crate::job::Job;
 pub use crate::runner::{one_answer, run};
 pub use crate::work::{MOST_DISK_BYTES, Sought, Work};
 pub use adf_words::{DiskRequest, Wanted, disk_words_as_documented, parse_disk as parse};

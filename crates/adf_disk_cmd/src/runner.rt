@@ -5,15 +5,15 @@ ghost use Rattle.adf_disk_cmd.specs.Answers.{DiskRequestsHaveOneAnswer, WordsAsk
 ghost use Rattle.adf_runs.specs.Commands.{IsUnanswered, RunEnds, TakesEnough};
 ghost use Rattle.adf_words.specs.CommandLine.{texts_of};
 
-use crate::work::Work;
+use crate::job::Job;
 use adf_runs::{Sink, Source, run_program};
 use std::alloc::Global;
 
 /// Does what the words ask for, of which the first is the program's name, and answers the status:
 ///
-/// - 0 where the partitions are listed, all of them are sound volumes, or the bytes of a volume are written;
+/// - 0 where the partitions are listed, all of them are sound volumes, or the bytes of a volume or a new disk are written;
 /// - 1 where the partitions of the disk cannot be read, or one of them is no sound volume, which `check` tells on output; where
-///   there is no such partition, or something is wrong with its place, which errors tell;
+///   there is no such partition, something is wrong with its place, or no disk can be built, which errors tell;
 /// - 2 where the words are not accepted, which errors tell; nothing is read, and output is empty;
 /// - 3 where a device failed or memory was refused, which errors tell.
 pub fn run<R: Source, W: Sink, E: Sink>(
@@ -36,7 +36,7 @@ pub fn run<R: Source, W: Sink, E: Sink>(
     ensures at_most { TakesEnough disk_command (texts_of words.now)
         (R.left input.old) (R.left input.new) }
 {
-    run_program::<Work, R, W, E>(alloc, words, input, output, errors)
+    run_program::<Job, R, W, E>(alloc, words, input, output, errors)
 }
 
 /// Words ask for one thing, and what is asked of a disk has one answer: one status, one output and one text on errors.

@@ -1,21 +1,20 @@
-// What is done for words.
+// What is done with a disk.
 
 ghost use Rattle.std.specs.Prelude.{◌≡◌, false, option_copied};
-ghost use Rattle.adf_disk_cmd.specs.Answers.{IsWanted, OfFault, OfPartitions, volume_reply};
+ghost use Rattle.adf_disk_cmd.specs.Answers.{IsWanted, OfDisk, OfFault, OfPartitions, volume_reply};
 ghost use Rattle.adf_disk_cmd.specs.Work.{Means, Serves};
 ghost use Rattle.adf_runs.specs.Outcomes.{EndsBy, is_read_fault, is_write_fault};
-ghost use Rattle.adf_words.specs.DiskLine.{DiskRequestValue, WantedValue, disk_request_value, wanted_value};
+ghost use Rattle.adf_words.specs.DiskLine.{DiskRequestValue, WantedValue, wanted_value};
 
 use crate::answering::{refuse, write_text};
 use crate::checking::write_checks;
-use crate::list_input::list_input;
 use crate::listing::write_list;
 use crate::surveying::write_readable;
 use crate::volumes::volume_at;
 use adf_base::BLOCK_LEN;
 use adf_partitions::{Disk, DiskCause, DiskFault, DriveName, Partition};
-use adf_runs::{Outcome, Program, Sink, Source, WorkFault, read_input};
-use adf_words::{DISK_USAGE as USAGE, DiskRequest, Wanted, parse_disk};
+use adf_runs::{Outcome, Sink};
+use adf_words::Wanted;
 use std::alloc::Global;
 
 /// The most bytes of a disk: 2^32 blocks.
@@ -40,8 +39,8 @@ pub enum Work {
     Volume(Sought),
 }
 
-// The partition that is sought, where one is wanted.
-fn sought_for(wanted: Wanted<'_>) -> Sought
+/// The partition that is sought, where one is wanted.
+pub fn sought_for(wanted: Wanted<'_>) -> Sought
     ensures { Means result (wanted_value wanted.entry) }
 {
     match wanted {
@@ -50,18 +49,6 @@ fn sought_for(wanted: Wanted<'_>) -> Sought
             Some(name) => Sought::Named(name),
             None => Sought::Nothing,
         },
-    }
-}
-
-// The work that a request asks for.
-fn work_for(request: DiskRequest<'_>) -> Work
-    ensures { Serves result (disk_request_value request.entry) }
-{
-    match request {
-        DiskRequest::List => Work::List,
-        DiskRequest::Check => Work::Check,
-        DiskRequest::Survey => Work::Survey,
-        DiskRequest::Volume(wanted) => Work::Volume(sought_for(wanted)),
     }
 }
 
@@ -146,60 +133,22 @@ impl Work {
             Work::List | Work::Volume(_) => Outcome::Refused(line),
         }
     }
-}
 
-impl Program for Work {
-    ghost use Rattle.std.proofs.Common.{rules};
-    ghost use Rattle.adf_disk_cmd.specs.Answers.{disk_command};
-    ghost use Rattle.adf_disk_cmd.specs.Work.{Serves};
-
-    ghost command = { disk_command };
-
-    ghost serves = { Serves };
-
-    fn usage() -> &'static str {
-        USAGE
-    }
-
-    fn of(alloc: Global, words: &[&str]) -> Result<Work, WorkFault> {
-        let request = parse_disk(alloc, words)?;
-        Ok(work_for(request))
-    }
-
-    fn limit(&self) -> usize {
-        MOST_DISK_BYTES
-    }
-
-    fn on<W: Sink>(&self, alloc: Global, bytes: &[u8], output: &mut W) -> Outcome {
-        let disk_bytes = &bytes[..bytes.len().min(MOST_DISK_BYTES)];
-        let blocks = (disk_bytes.len() / BLOCK_LEN) as u64;
-        match Disk::open(alloc, disk_bytes, blocks) {
-            Ok(disk) => self.on_disk(alloc, disk_bytes, &disk, output),
+    /// Does the work on the bytes of a disk.
+    pub fn on<W: Sink>(&self, alloc: Global, bytes: &[u8], output: &mut W) -> Outcome
+        requires { W.has_failed output.old ≡ false }
+        ensures ends { (r : DiskRequestValue) → Serves self.now r
+            → EndsBy (OfDisk r bytes.now) result (W.held output.old) (W.held output.new) }
+        ensures read { is_read_fault result ≡ false }
+        ensures written { W.has_failed output.new ≡ is_write_fault result }
+    {
+        let blocks = (bytes.len() / BLOCK_LEN) as u64;
+        match Disk::open(alloc, bytes, blocks) {
+            Ok(disk) => self.on_disk(alloc, bytes, &disk, output),
             Err(fault) => match fault.cause {
                 DiskCause::NoMemory => Outcome::NoMemory,
-                _ => self.on_fault(alloc, disk_bytes, fault, output),
+                _ => self.on_fault(alloc, bytes, fault, output),
             },
         }
     }
-
-    fn on_input<R: Source, W: Sink>(
-        &self,
-        alloc: Global,
-        input: &mut R,
-        output: &mut W,
-    ) -> Outcome {
-        match self {
-            Work::List => list_input(alloc, input, false, output),
-            Work::Survey => list_input(alloc, input, true, output),
-            Work::Check | Work::Volume(_) => match read_input(alloc, input, MOST_DISK_BYTES) {
-                Ok(bytes) => self.on(alloc, &bytes, output),
-                Err(outcome) => outcome,
-            },
-        }
-    }
-
-    ghost consistent = { record {
-      taken = Prim.search rules;
-      unread = λ words none. absurd none;
-    } };
 }

@@ -31,7 +31,7 @@ pub use crate::layout::{
 };
 pub use crate::partition::{DriveName, Partition};
 pub use crate::place::{Place, PlaceFault, stated_place};
-pub use crate::plan::{DiskPlan, PartitionPlan};
+pub use crate::plan::{DiskPlan, PartitionPlan, cylinder_blocks};
 pub use crate::plan_text::{TextFault, TextKind, one_text, read_plan};
 pub use crate::search::readable_partitions;
 pub use crate::tables::{Tables, read_tables};

@@ -9,11 +9,13 @@ use adf_disk_cmd::run;
 use std::alloc::{AllocError, Global};
 use std::test::Fail;
 
-type Volume = [u8; 16384];
+/// A volume of 32 blocks.
+pub type Volume = [u8; 16384];
 
 const USAGE: &str =
-    "usage: adf-disk list < DISK\n       adf-disk check < DISK\n       adf-disk survey < DISK\n       adf-disk volume NAME < DISK\n\
-    the image of a hard disk comes on standard input; man adf-disk tells more\n";
+    "usage: adf-disk list < DISK\n       adf-disk check < DISK\n       adf-disk survey < DISK\n       \
+    adf-disk volume NAME < DISK\n       adf-disk build < PLAN > DISK\n\
+    a disk or the plan of one comes on standard input; man adf-disk tells more\n";
 
 const DH0_LISTED: &str = "1 DH0: ffs first 8 blocks 32 flags 1 priority -5\n";
 
@@ -30,14 +32,22 @@ const NONE: Change<'static> = (0, &[]);
 // DH1 begins in the last cylinder of DH0.
 const OVER: Change<'static> = (1, &[(41, 4)]);
 
-// The volume of DH0: in its bitmap the blocks from 2 on are free, except 16 and 17.
+// The volume of DH0, which has no label.
 fn volume() -> Volume {
+    empty_volume((108, 0))
+}
+
+/// An empty FFS volume of 32 blocks, with this word in its root: in its bitmap the blocks from 2 on are free, except 16 and 17.
+pub fn empty_volume(word: (usize, u32)) -> Volume {
     let mut volume = [0; 16384];
     set_word(&mut volume, 0, 0, 0x444F_5301);
     for (i, value) in ROOT {
         if *i < 128 {
             set_word(&mut volume, 16, *i, *value);
         }
+    }
+    if word.0 < 128 {
+        set_word(&mut volume, 16, word.0, word.1);
     }
     seal(&mut volume, 16, 5);
     set_word(&mut volume, 17, 1, 0x3FFF_3FFF);
@@ -66,8 +76,8 @@ fn answers(
     answers_within(alloc, words, &image, usize::MAX, usize::MAX, wanted)
 }
 
-// The same over an input and an output that fail after so many calls.
-fn answers_within(
+/// The same over an input and an output that fail after so many calls.
+pub fn answers_within(
     alloc: Global,
     words: &[&str],
     image: &[u8],

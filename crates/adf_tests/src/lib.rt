@@ -6,6 +6,8 @@ mod batch;
 #[cfg(test)]
 mod devices;
 #[cfg(test)]
+mod disk_builds;
+#[cfg(test)]
 mod disk_runs;
 #[cfg(test)]
 mod disks;

@@ -7,7 +7,7 @@ use Rattle.adf_words.specs.SurveyLine.{number_named}
 use Rattle.adf_words.specs.declared.command_line.ArgsError.{ArgsError}
 use Rattle.adf_words.specs.declared.command_line.ArgsError.TheVariants.{NoMemory, Usage}
 use Rattle.adf_words.specs.declared.disk_line.DiskRequest.{DiskRequest}
-use Rattle.adf_words.specs.declared.disk_line.DiskRequest.TheVariants.{List as ListAll, Check, Survey, Volume}
+use Rattle.adf_words.specs.declared.disk_line.DiskRequest.TheVariants.{List as ListAll, Check, Survey, Volume, Build}
 use Rattle.adf_words.specs.declared.disk_line.Wanted.{Wanted}
 use Rattle.adf_words.specs.declared.disk_line.Wanted.TheVariants.{Number, Name}
 
@@ -27,9 +27,9 @@ volume_app = with_rule (new_app (codes "volume")) name_rule
 abbrev pub plain_disk : App
 plain_disk = with_subcommand (with_subcommand (with_subcommand bare_disk (new_app (codes "list")).top) (new_app (codes "check")).top) (new_app (codes "survey")).top
 
--- the command line: these, and volume NAME
+-- the command line: these, build, and volume NAME
 abbrev pub disk_app : App
-disk_app = with_subcommand plain_disk volume_app.top
+disk_app = with_subcommand (with_subcommand plain_disk (new_app (codes "build")).top) volume_app.top
 
 -- a partition, by its number or its name
 pub data WantedValue : Type 0 where
@@ -42,6 +42,7 @@ pub data DiskRequestValue : Type 0 where
   check : DiskRequestValue
   survey : DiskRequestValue
   volume : WantedValue → DiskRequestValue
+  build : DiskRequestValue
 
 -- the partition that a text means: a number where it is one, else a name
 abbrev pub wanted_named : Text → WantedValue
@@ -53,8 +54,9 @@ disk_request_named command rows =
     if bytes_eq command (codes "list") then Some list
     else (if bytes_eq command (codes "check") then Some check
     else (if bytes_eq command (codes "survey") then Some survey
+    else (if bytes_eq command (codes "build") then Some build
     else (if bytes_eq command (codes "volume") then option_map (λ text. volume (wanted_named text)) (first_of (codes "name") rows)
-    else None)))
+    else None))))
 
 -- what the matches ask for
 abbrev pub disk_met : Option (Text × List Row) → Option DiskRequestValue
@@ -79,6 +81,7 @@ disk_request_value ListAll = list
 disk_request_value Check = check
 disk_request_value Survey = survey
 disk_request_value (Volume wanted) = volume (wanted_value wanted)
+disk_request_value Build = build
 
 -- what an error of the arguments says of them
 abbrev pub ExplainsDiskArgs : ArgsError → List Text → Type 0

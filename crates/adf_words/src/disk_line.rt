@@ -4,7 +4,7 @@ ghost use Rattle.std.specs.Prelude.{◌≡◌, ◌==◌, IfOk, IfErr, ℕ, List,
 ghost use Rattle.clap.specs.Words.{app_of, found_of, rows_of, subcommand_rows_of};
 ghost use Rattle.clap.specs.declared.builder.command.Command.TheViews.{out-Command};
 ghost use Rattle.adf_words.specs.CommandLine.{texts_of};
-ghost use Rattle.adf_words.specs.DiskLine.{AreRefusedByDisk, AsksDisk, ExplainsDiskArgs, check, disk_app, disk_met, disk_request_named, disk_request_value, list, name, number, survey, volume, volume_app, wanted_named, wanted_value};
+ghost use Rattle.adf_words.specs.DiskLine.{AreRefusedByDisk, AsksDisk, ExplainsDiskArgs, build, check, disk_app, disk_met, disk_request_named, disk_request_value, list, name, number, survey, volume, volume_app, wanted_named, wanted_value};
 
 use crate::command_line::{ArgsError, first_text};
 use crate::survey_line::number_named;
@@ -14,8 +14,9 @@ use std::alloc::{AllocError, Global};
 
 /// What is said of arguments that are refused.
 pub const DISK_USAGE: &str =
-    "usage: adf-disk list < DISK\n       adf-disk check < DISK\n       adf-disk survey < DISK\n       adf-disk volume NAME < DISK\n\
-    the image of a hard disk comes on standard input; man adf-disk tells more\n";
+    "usage: adf-disk list < DISK\n       adf-disk check < DISK\n       adf-disk survey < DISK\n       \
+    adf-disk volume NAME < DISK\n       adf-disk build < PLAN > DISK\n\
+    a disk or the plan of one comes on standard input; man adf-disk tells more\n";
 
 /// A partition, by its number or its name.
 #[derive(Clone, Copy, Debug)]
@@ -33,6 +34,7 @@ pub enum DiskRequest<'a> {
     Check,
     Survey,
     Volume(Wanted<'a>),
+    Build,
 }
 
 // The command `volume NAME`.
@@ -54,6 +56,7 @@ fn command<'a>(alloc: Global) -> Result<Command<'a>, AllocError>
     bare.subcommand(Command::new(alloc, "list"))?
         .subcommand(Command::new(alloc, "check"))?
         .subcommand(Command::new(alloc, "survey"))?
+        .subcommand(Command::new(alloc, "build"))?
         .subcommand(volume_command(alloc)?)
 }
 
@@ -78,6 +81,8 @@ fn request_named<'a>(command: &str, found: &ArgMatches<'a>) -> Option<DiskReques
         Some(DiskRequest::Check)
     } else if command == "survey" {
         Some(DiskRequest::Survey)
+    } else if command == "build" {
+        Some(DiskRequest::Build)
     } else if command == "volume" {
         match first_text(found, "name") {
             Some(text) => Some(DiskRequest::Volume(wanted_named(text))),
@@ -127,6 +132,7 @@ pub fn disk_words_as_documented()
     ensures list { AsksDisk (codes "adf-disk" ∷ codes "list" ∷ []) list }
     ensures check { AsksDisk (codes "adf-disk" ∷ codes "check" ∷ []) check }
     ensures survey { AsksDisk (codes "adf-disk" ∷ codes "survey" ∷ []) survey }
+    ensures build { AsksDisk (codes "adf-disk" ∷ codes "build" ∷ []) build }
     ensures number { AsksDisk (codes "adf-disk" ∷ codes "volume" ∷ codes "2" ∷ []) (volume (number 2)) }
     ensures name { AsksDisk (codes "adf-disk" ∷ codes "volume" ∷ codes "DH0" ∷ [])
         (volume (name (codes "DH0"))) }
@@ -144,6 +150,7 @@ pub fn disk_words_as_documented()
     ensures two_names { AreRefusedByDisk
         (codes "adf-disk" ∷ codes "volume" ∷ codes "DH0" ∷ codes "DH1" ∷ []) }
     ensures list_name { AreRefusedByDisk (codes "adf-disk" ∷ codes "list" ∷ codes "DH0" ∷ []) }
+    ensures build_file { AreRefusedByDisk (codes "adf-disk" ∷ codes "build" ∷ codes "plan" ∷ []) }
     ensures help { AreRefusedByDisk (codes "adf-disk" ∷ codes "--help" ∷ []) }
     ensures help_arg { AreRefusedByDisk (codes "adf-disk" ∷ codes "help" ∷ []) }
     ensures version { AreRefusedByDisk (codes "adf-disk" ∷ codes "--version" ∷ []) }

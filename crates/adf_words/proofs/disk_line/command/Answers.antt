@@ -16,5 +16,6 @@ returns c =
     let one_is = c.in_ok-subcommand.ensures.shape c.new-2.ensures.local ∙ ap₂ with_subcommand bare_is (ap top c.new-2.ensures.app) in
     let two_is = c.in_ok-subcommand-2.ensures.shape c.new-3.ensures.local ∙ ap₂ with_subcommand one_is (ap top c.new-3.ensures.app) in
     let three_is = c.in_ok-subcommand-3.ensures.shape c.new-4.ensures.local ∙ ap₂ with_subcommand two_is (ap top c.new-4.ensures.app) in
-    IfOk-weaker c.subcommand-4.result _ _ (λ r h. h.shape c.in_ok-volume_command.ensures.local
-    ∙ ap₂ with_subcommand three_is (ap top c.in_ok-volume_command.ensures.app)) c.subcommand-4.ensures
+    let four_is = c.in_ok-subcommand-4.ensures.shape c.new-5.ensures.local ∙ ap₂ with_subcommand three_is (ap top c.new-5.ensures.app) in
+    IfOk-weaker c.subcommand-5.result _ _ (λ r h. h.shape c.in_ok-volume_command.ensures.local
+    ∙ ap₂ with_subcommand four_is (ap top c.in_ok-volume_command.ensures.app)) c.subcommand-5.ensures

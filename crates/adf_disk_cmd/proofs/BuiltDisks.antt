@@ -1,0 +1,197 @@
+-- Disks that are built. p is the plan of a partition, n the number of its blocks, ps are partitions, c the number of blocks of a cylinder; `given` are
+-- the bytes of given volumes.
+use Rattle.std.proofs.Common.{◌≡◌, ◌≢◌, ◌≤◌, ◌<◌, ◌+◌, ◌*◌, ◌∙◌, ℕ, Bool, true, false}
+use Rattle.std.proofs.Common.{List, [], ◌∷◌, ◌++◌, ap, ap₂, arith, append-nil, append_assoc, drop, get_or}
+use Rattle.std.proofs.Common.{◌^◌, inl, inr, length, length-drop, refl, subst, suc, sym, take, zero}
+use Rattle.std.proofs.lemmas.Bool.Decides.{nat_tests}
+use Rattle.std.proofs.lemmas.List.{drop_all, length-take-le}
+use Rattle.std.proofs.lemmas.List.Folds.{list_all_at}
+use Rattle.std.specs.List.{flat_map, list_all}
+use Rattle.std.specs.Prelude.{◌&&◌, ◌==◌, ◌/◌, if◌then◌else◌}
+use Rattle.adf_disk_cmd.proofs.NewVolumes.{MayBeNew, length_new, may_be_new, new_fits}
+use Rattle.adf_disk_cmd.specs.Builds.{BuildsDisk, HasPlanned, behind_volume, built_disk, given_bytes, given_cylinders, given_line, given_size}
+use Rattle.adf_build.specs.Laid.{volume}
+use Rattle.adf_disk_cmd.specs.Builds.{new_tree, plan_reply, volume_of, volumes_of}
+use Rattle.adf_partitions.proofs.PlanSizes.{blocks_fit, cylinders_fit, plans_at}
+use Rattle.adf_partitions.proofs.PlannedDisk.{planned_disk}
+use Rattle.adf_partitions.proofs.PlannedVolumes.{disk_size, volumes_stand}
+use Rattle.adf_partitions.proofs.TextLines.{is_plan-tells}
+use Rattle.adf_partitions.specs.Disks.{IsDisk}
+use Rattle.adf_partitions.specs.PlanTexts.{IsText, behind_line, has_volume, is_plan}
+use Rattle.adf_partitions.specs.Plans.{AreVolumes, IsPlan, PlanValue, cylinder_blocks, cylinders_of, planned_blocks, planned_partitions}
+use Rattle.adf_partitions.specs.WrittenTables.{disk_bytes, planned_tables}
+use Rattle.adf_partitions.specs.declared.plan.PartitionPlan.{PartitionPlan}
+use Rattle.adf_runs.specs.Commands.{Reply, on_errors, on_output}
+
+-- volumes one behind the other
+abbrev pub joined : List (List ℕ) → List ℕ
+joined vs = flat_map (λ (v : List ℕ). v) vs
+
+-- the given bytes are as many as partitions need
+abbrev pub AreEnough : ℕ → List PartitionPlan → List ℕ → Type 0
+AreEnough c ps given = length given ≡ given_cylinders ps * c * 512
+
+taken : (b : Bool) (k m c : ℕ) (given : List ℕ) → length given ≡ ((if b then k else 0) + m) * c * 512 → b ≡ true → k * c * 512 ≤ length given
+taken true k m c given h e = omega (arith, h)
+taken false k m c given h e = absurd cc
+
+left : (b : Bool) (k m c : ℕ) (given : List ℕ) → length given ≡ ((if b then k else 0) + m) * c * 512
+    → length (if b then drop (k * c * 512) given else given) ≡ m * c * 512
+left true k m c given h = omega (arith, h, length-drop (k * c * 512) given)
+left false k m c given h = omega (arith, h)
+
+pub first_enough : (c : ℕ) (p : PartitionPlan) (ps : List PartitionPlan) (given : List ℕ) → AreEnough c (p ∷ ps) given → p.given ≡ true
+    → p.cylinders * c * 512 ≤ length given
+unfolding given_cylinders
+first_enough c p ps given h e = taken p.given p.cylinders (given_cylinders ps) c given h e
+
+pub others_enough : (c : ℕ) (p : PartitionPlan) (ps : List PartitionPlan) (given : List ℕ) → AreEnough c (p ∷ ps) given
+    → AreEnough c ps (behind_volume (p.cylinders * c) p given)
+unfolding given_cylinders
+others_enough c p ps given h = left p.given p.cylinders (given_cylinders ps) c given h
+
+-- one volume more behind those before it
+volume_put : (c : ℕ) (p : PartitionPlan) (ps : List PartitionPlan) (disk given : List ℕ)
+    → (disk ++ volume_of (p.cylinders * c) p given) ++ joined (volumes_of c ps (behind_volume (p.cylinders * c) p given))
+    ≡ disk ++ joined (volumes_of c (p ∷ ps) given)
+unfolding volumes_of
+volume_put c p ps disk given =
+    append_assoc disk (volume_of (p.cylinders * c) p given) (joined (volumes_of c ps (behind_volume (p.cylinders * c) p given)))
+
+-- what stands before the volumes of partitions, and the given bytes, with which the disk is whole
+pub record Continues (c : ℕ) (ps : List PartitionPlan) (disk given whole : List ℕ) : Type 0 where
+  pub enough : AreEnough c ps given
+  pub bytes : disk ++ joined (volumes_of c ps given) ≡ whole
+
+pub stepped : (c n : ℕ) (ps others : List PartitionPlan) (p : PartitionPlan) (disk given whole next rest : List ℕ) → Continues c ps disk given whole
+    → ps ≡ p ∷ others → n ≡ p.cylinders * c → next ≡ disk ++ volume_of n p given → rest ≡ behind_volume n p given → Continues c others next rest whole
+stepped c n ps others p disk given whole next rest h e size put left_is =
+    let now : Continues c (p ∷ others) disk given whole = subst (λ (k : List PartitionPlan). Continues c k disk given whole) e h in
+    let left_here : rest ≡ behind_volume (p.cylinders * c) p given = left_is ∙ ap (λ (k : ℕ). behind_volume k p given) size in
+    let put_here : next ≡ disk ++ volume_of (p.cylinders * c) p given = put ∙ ap (λ (k : ℕ). disk ++ volume_of k p given) size in
+    record {
+      enough = subst (AreEnough c others) (sym left_here) (others_enough c p others given now.enough);
+      bytes = ap₂ (λ (x y : List ℕ). x ++ joined (volumes_of c others y)) put_here left_here ∙ volume_put c p others disk given ∙ now.bytes;
+    }
+
+pub volumes_end : (c : ℕ) (ps : List PartitionPlan) (i : ℕ) (disk given all : List ℕ) → length ps ≤ i
+    → disk ++ joined (volumes_of c (drop i ps) given) ≡ all → disk ≡ all
+unfolding volumes_of
+volumes_end c ps i disk given all le h =
+    sym (append-nil disk) ∙ ap (λ (k : List PartitionPlan). disk ++ joined (volumes_of c k given)) (sym (drop_all i ps le)) ∙ h
+
+-- each partition has a volume
+pub has_volume_at : (c : ℕ) (ps : List PartitionPlan) (i : ℕ) (d : PartitionPlan) → list_all (has_volume c) ps ≡ true → i < length ps
+    → has_volume c (get_or ps i d) ≡ true
+has_volume_at c ps i d all lt = go (has_volume c (get_or ps i d)) refl
+  where
+    go : (b : Bool) → has_volume c (get_or ps i d) ≡ b → has_volume c (get_or ps i d) ≡ true
+    go true has = has
+    go false has = let none = list_all_at (has_volume c) ps i d lt has in absurd cc
+
+cylinders_within : (ps : List PartitionPlan) (i : ℕ) (p : PartitionPlan) → i < length ps → p ≡ get_or ps i p → p.cylinders ≤ cylinders_of ps
+unfolding cylinders_of
+cylinders_within [] i p lt e = absurd (omega arith)
+cylinders_within (q ∷ ps) zero p lt e = let same = ap (λ (r : PartitionPlan). r.cylinders) e in omega arith
+cylinders_within (q ∷ ps) (suc i) p lt e = omega (arith, cylinders_within ps i p (omega arith) e)
+
+pub blocks_small : (plan : PlanValue) (i : ℕ) (p : PartitionPlan) → IsPlan plan → i < length plan.partitions → p ≡ get_or plan.partitions i p
+    → p.cylinders * cylinder_blocks plan < 2 ^ 32
+blocks_small plan i p h lt e = blocks_fit plan h p.cylinders (omega (arith, cylinders_within plan.partitions i p lt e))
+
+given_few : (ps : List PartitionPlan) → given_cylinders ps ≤ cylinders_of ps
+unfolding given_cylinders cylinders_of
+given_few [] = omega arith
+given_few (p ∷ ps) = go p.given (given_few ps)
+  where
+    go : (b : Bool) → given_cylinders ps ≤ cylinders_of ps → (if b then p.cylinders else 0) + given_cylinders ps ≤ p.cylinders + cylinders_of ps
+    go true h = omega arith
+    go false h = omega arith
+
+pub given_small : (plan : PlanValue) → IsPlan plan → given_cylinders plan.partitions * cylinder_blocks plan < 2 ^ 32
+given_small plan h = blocks_fit plan h (given_cylinders plan.partitions) (omega (arith, given_few plan.partitions))
+
+pub given_fit : (plan : PlanValue) → IsPlan plan → given_cylinders plan.partitions < 2 ^ 32
+given_fit plan h = omega (arith, given_few plan.partitions, cylinders_fit plan h)
+
+given_more : (p : PartitionPlan) (ps : List PartitionPlan) → given_cylinders (p ∷ ps) ≡ given_size p + given_cylinders ps
+unfolding given_cylinders
+given_more p ps = refl
+
+pub given_at : (ps : List PartitionPlan) (i : ℕ) (p : PartitionPlan) → i < length ps → p ≡ get_or ps i p
+    → given_cylinders (drop i ps) ≡ given_size p + given_cylinders (drop (i + 1) ps)
+given_at ps i p lt e = ap given_cylinders (plans_at ps i p lt e) ∙ given_more p (drop (i + 1) ps)
+
+pub given_end : (ps : List PartitionPlan) (i : ℕ) → length ps ≤ i → given_cylinders (drop i ps) ≡ 0
+unfolding given_cylinders
+given_end ps i le = ap given_cylinders (drop_all i ps le)
+
+length_one : (n : ℕ) (p : PartitionPlan) (given : List ℕ) → (p.given ≡ true → n * 512 ≤ length given) → (p.given ≡ false → MayBeNew n p)
+    → length (volume_of n p given) ≡ n * 512
+length_one n p given enough new = go p.given enough new
+  where
+    go : (b : Bool) → (b ≡ true → n * 512 ≤ length given) → (b ≡ false → MayBeNew n p)
+        → length (if b then take (n * 512) given else volume (new_tree p) n) ≡ n * 512
+    go true is may = length-take-le (n * 512) given (is refl)
+    go false is may = length_new n p (may refl)
+
+first_and_others : (a b : Bool) → (a && b) ≡ true → (a ≡ true) × (b ≡ true)
+first_and_others true b h = (refl, h)
+first_and_others false b h = absurd cc
+
+are_volumes : (c : ℕ) (ps : List PartitionPlan) (given : List ℕ) → AreEnough c ps given → list_all (has_volume c) ps ≡ true
+    → AreVolumes c ps (volumes_of c ps given)
+unfolding volumes_of
+are_volumes c [] given h all = tt
+are_volumes c (p ∷ ps) given h all =
+    let both = first_and_others (has_volume c p) (list_all (has_volume c) ps) all in (
+      length_one (p.cylinders * c) p given (first_enough c p ps given h) (may_be_new c p both.0),
+      are_volumes c ps (behind_volume (p.cylinders * c) p given) (others_enough c p ps given h) both.1,
+    )
+
+pub all_have_volumes : (plan : PlanValue) → is_plan plan ≡ true → list_all (has_volume (cylinder_blocks plan)) plan.partitions ≡ true
+all_have_volumes plan h = (first_and_others _ _ h).1
+
+-- the disk of a plan
+has_planned : (text : List ℕ) (plan : PlanValue) (given : List ℕ) → IsText text plan given → length given ≡ given_bytes plan
+    → HasPlanned plan given (built_disk plan given)
+has_planned text plan given is enough =
+    let c = cylinder_blocks plan in
+    let vs = volumes_of c plan.partitions given in
+    let h : IsPlan plan = is_plan-tells plan (behind_line text) is.end is.lines.1 is.good in
+    let all = all_have_volumes plan is.good in
+    let are = are_volumes c plan.partitions given enough all in
+    let size : planned_blocks plan ≡ length (disk_bytes plan vs) / 512 = omega (arith, disk_size plan vs h are) in
+    record {
+      tables = subst (λ (n : ℕ). IsDisk (disk_bytes plan vs) n (planned_tables plan) (planned_partitions plan)) size (planned_disk plan h (joined vs));
+      volumes = volumes_stand plan vs h are;
+      sound = λ k d lt new.
+          let p = get_or plan.partitions k d in
+          new_fits (p.cylinders * c) p (may_be_new c p (has_volume_at c plan.partitions k d all lt) new);
+    }
+
+pub other_bytes : (plan : PlanValue) (given : List ℕ) → length given ≢ given_bytes plan
+    → plan_reply plan given ≡ on_errors 1 (given_line (given_bytes plan) (length given))
+other_bytes plan given other =
+    let test : (length given == given_bytes plan) ≡ false = grind (arith, nat_tests) in
+    rw test refl
+
+pub right_bytes : (plan : PlanValue) (given : List ℕ) → length given ≡ given_bytes plan → plan_reply plan given ≡ on_output 0 (built_disk plan given)
+right_bytes plan given right =
+    let test : (length given == given_bytes plan) ≡ true = grind (arith, nat_tests) in
+    rw test refl
+
+-- what is written at status 0
+pub built_disks : (text : List ℕ) (reply : Reply) → BuildsDisk text reply → reply.status ≡ 0
+    → (plan : PlanValue) × (given : List ℕ) × IsText text plan given × HasPlanned plan given reply.output
+built_disks text reply (inr (f, fault, e)) done = let one = ap (λ (r : Reply). r.status) e in absurd cc
+built_disks text reply (inl (plan, given, is, e)) done = (plan, given, is, go (length given == given_bytes plan) refl)
+  where
+    go : (b : Bool) → (length given == given_bytes plan) ≡ b → HasPlanned plan given reply.output
+    go true same =
+        let enough : length given ≡ given_bytes plan = grind (arith, nat_tests) in
+        subst (λ (r : Reply). HasPlanned plan given r.output) (sym (e ∙ right_bytes plan given enough)) (has_planned text plan given is enough)
+    go false other =
+        let wrong : length given ≢ given_bytes plan = grind (arith, nat_tests) in
+        let one = ap (λ (r : Reply). r.status) (e ∙ other_bytes plan given wrong) in
+        absurd cc

@@ -1,0 +1,70 @@
+-- New volumes. p is the plan of a partition, n the number of its blocks, c that of a cylinder.
+use Rattle.std.proofs.Common.{◌≡◌, ◌≤◌, ◌-◌, ◌*◌, ℕ, Bool, true, false, [], ap, length, refl, arith}
+use Rattle.std.specs.Prelude.{◌&&◌, ◌||◌, nat_le}
+use Rattle.adf_base.specs.Dates.{IsStamp}
+use Rattle.adf_blocks.specs.Sizes.{is_allowed}
+use Rattle.adf_build.proofs.AllocatedBlocks.{reserved_below}
+use Rattle.adf_build.proofs.LaidFits.{volume_fits}
+use Rattle.adf_build.proofs.LaidWrites.{CanHold, volume_long}
+use Rattle.adf_build.specs.Building.{IsBuildFault}
+use Rattle.adf_build.specs.Laid.{volume}
+use Rattle.adf_build.specs.Plan.{blocks_needed, entries_blocks, planned}
+use Rattle.adf_build.specs.declared.builder.BuildFault.TheVariants.{Full}
+use Rattle.adf_disk_cmd.specs.Builds.{new_tree}
+use Rattle.adf_partitions.proofs.NumberTests.{le_of}
+use Rattle.adf_partitions.specs.PlanTexts.{has_volume}
+use Rattle.adf_partitions.specs.declared.plan.PartitionPlan.{PartitionPlan}
+use Rattle.adf_tree.proofs.TreeOfAdditions.{nothing_added}
+use Rattle.adf_tree.specs.Tree.{Tree}
+use Rattle.adf_volume.proofs.Sizes.{size_low}
+use Rattle.adf_volume.specs.Fits.{Fits}
+
+-- the label fits, and the size is allowed
+pub record MayBeNew (n : ℕ) (p : PartitionPlan) : Type 0 where
+  pub size : is_allowed n ≡ true
+  pub label : length p.name ≤ 30
+
+-- there is room for the root and the bitmap
+room : (t : Tree) (n : ℕ) → t.entries ≡ [] → is_allowed n ≡ true → blocks_needed t n ≤ n - 2
+room t n none size =
+    let nothing : entries_blocks t.kind t.entries ≡ 0 = ap (entries_blocks t.kind) none in
+    omega (arith, size_low n size, reserved_below n (size_low n size))
+
+no_date : IsStamp (record { days = 0; mins = 0; ticks = 0 })
+no_date = record { days = omega arith; mins = omega arith; ticks = omega arith }
+
+can_hold : (n : ℕ) (p : PartitionPlan) → MayBeNew n p → CanHold (new_tree p) n
+can_hold n p may = record {
+  sound = record {
+    tree = nothing_added.tree;
+    bounds = record {
+      label = may.label;
+      stamps = record { root = no_date; altered = no_date; created = no_date };
+      entries = λ k d lt. absurd (omega arith);
+    };
+  };
+  allowed = may.size;
+  room = room (new_tree p) n refl may.size;
+}
+
+pub new_fits : (n : ℕ) (p : PartitionPlan) → MayBeNew n p → Fits (volume (new_tree p) n) (new_tree p) (planned (new_tree p) n)
+new_fits n p may = volume_fits (can_hold n p may)
+
+pub length_new : (n : ℕ) (p : PartitionPlan) → MayBeNew n p → length (volume (new_tree p) n) ≡ n * 512
+length_new n p may = volume_long (can_hold n p may)
+
+-- no room is lacking
+pub never_full : (t : Tree) (n need have : ℕ) → t.entries ≡ [] → IsBuildFault t n (Full need have) → ⊥
+never_full t n need have none h = let fits = room t n none h.0 in omega (arith, h.1, h.2)
+
+new_by : (given size label : Bool) → (given || (size && label)) ≡ true → given ≡ false → (size ≡ true) × (label ≡ true)
+new_by false true true h e = (refl, refl)
+new_by false true false h e = absurd cc
+new_by false false label h e = absurd cc
+new_by true size label h e = absurd cc
+
+-- a volume that is not given may be new
+pub may_be_new : (c : ℕ) (p : PartitionPlan) → has_volume c p ≡ true → p.given ≡ false → MayBeNew (p.cylinders * c) p
+may_be_new c p h new =
+    let both = new_by p.given (is_allowed (p.cylinders * c)) (nat_le (length p.name) 30) h new in
+    record { size = both.0; label = le_of (length p.name) 30 both.1 }

@@ -1,0 +1,43 @@
+use Rattle.std.proofs.Common.{◌+◌, ◌*◌, ℕ, ap, arith, drop, rules, subst}
+use Rattle.adf_disk_cmd.proofs.BuiltDisks.{Continues, blocks_small, first_enough, stepped, volumes_end}
+use Rattle.adf_disk_cmd.specs.Builds.{built_disk}
+use Rattle.adf_partitions.proofs.PlanSizes.{plans_at}
+use Rattle.adf_partitions.specs.Plans.{cylinder_blocks, plan_value}
+use Rattle.adf_disk_cmd.proofs.building.disk_of.Goals as goal
+
+pub overflow_mul-blocks : goal.overflow_mul-blocks
+overflow_mul-blocks c =
+    let p = c.partition-item.result in
+    let small = blocks_small (plan_value c.args.plan.now) c.loop-partition.partition-index p c.requires.plan (search rules) (search rules) in
+    let same = ap (λ (k : ℕ). p.cylinders * k) c.cylinder_blocks-cylinder.ensures in
+    omega (arith, small, same)
+
+pub push_volume-requires-clause-enough : goal.push_volume-requires-clause-enough
+push_volume-requires-clause-enough c = λ given.
+    let plan = plan_value c.args.plan.now in
+    let ps = plan.partitions in
+    let i = c.loop-partition.partition-index in
+    let p = c.partition-item.result in
+    let left = c.loop-partition.left.now in
+    let h = subst (λ k. Continues (cylinder_blocks plan) k c.loop-partition.disk.items left (built_disk plan c.args.given.now))
+    (plans_at ps i p (search rules) (search rules)) c.loop-partition.invariant in
+    let enough = first_enough (cylinder_blocks plan) p (drop (i + 1) ps) left h.enough given in
+    let same = ap (λ (k : ℕ). p.cylinders * k) c.cylinder_blocks-cylinder.ensures in
+    omega (arith, enough, same)
+
+pub loop-partition-preserved : goal.loop-partition-preserved
+loop-partition-preserved c =
+    let plan = plan_value c.args.plan.now in
+    let ps = plan.partitions in
+    let i = c.loop-partition.partition-index in
+    let p = c.partition-item.result in
+    stepped (cylinder_blocks plan) _ (drop i ps) (drop (i + 1) ps) p c.loop-partition.disk.items c.loop-partition.left.now
+    (built_disk plan c.args.given.now) c.push_volume.new.disk.items c.in_ok-left.left.now c.loop-partition.invariant
+    (plans_at ps i p (search rules) (search rules)) (ap (λ (k : ℕ). p.cylinders * k) c.cylinder_blocks-cylinder.ensures) (search rules)
+    c.in_ok-left.ensures.rest
+
+pub returns : goal.returns
+returns c =
+    let plan = plan_value c.args.plan.now in
+    volumes_end (cylinder_blocks plan) plan.partitions c.loop-partition.partition-index c.loop-partition.disk.items c.loop-partition.left.now
+    (built_disk plan c.args.given.now) (search (rules, arith)) c.loop-partition.invariant.bytes

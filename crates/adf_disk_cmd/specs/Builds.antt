@@ -1,0 +1,99 @@
+-- What `build` answers. p is the plan of a partition of n blocks, ps are partitions, c the number of blocks of a cylinder; `given` are the bytes behind
+-- the text of a plan, those of the given volumes one behind the other.
+use Rattle.std.specs.Prelude.{◌≡◌, ◌+◌, ◌*◌, ◌/◌, ◌==◌, ◌++◌, ◌⊎◌, ℕ, All, List, [], ◌∷◌, codes, drop, false, if◌then◌else◌, length, take}
+use Rattle.std.specs.Fmt.{decimal}
+use Rattle.adf_tree.specs.Tree.{Tree}
+use Rattle.adf_tree.specs.declared.entry.Stamps.{Stamps}
+use Rattle.adf_volume.specs.Fits.{Fits}
+use Rattle.adf_build.specs.Laid.{volume}
+use Rattle.adf_build.specs.Plan.{planned}
+use Rattle.adf_partitions.specs.Disks.{IsDisk}
+use Rattle.adf_partitions.specs.FaultTexts.{text_fault_text}
+use Rattle.adf_partitions.specs.Plans.{PlanValue, StandInPlaces, cylinder_blocks, planned_partitions}
+use Rattle.adf_partitions.specs.PlanTexts.{IsText, IsTextFault}
+use Rattle.adf_partitions.specs.WrittenTables.{disk_bytes, planned_tables}
+use Rattle.adf_partitions.specs.declared.plan.PartitionPlan.{PartitionPlan}
+use Rattle.adf_partitions.specs.declared.plan_text.TextFault.{TextFault}
+use Rattle.adf_runs.specs.Commands.{Reply, on_errors, on_output}
+
+-- a text and a line feed on errors, at status 1
+abbrev pub refusal : List ℕ → Reply
+refusal text = on_errors 1 (text ++ codes "\n")
+
+-- the dates of a new volume: all numbers 0
+abbrev pub new_stamps : Stamps
+new_stamps = record {
+  root = record { days = 0; mins = 0; ticks = 0 };
+  altered = record { days = 0; mins = 0; ticks = 0 };
+  created = record { days = 0; mins = 0; ticks = 0 };
+}
+
+-- what is on a new volume: nothing, under the drive's name
+abbrev pub new_tree : PartitionPlan → Tree
+new_tree p = record { kind = p.kind; label = p.name; stamps = new_stamps; entries = [] }
+
+-- the volume of a partition: the first of the given bytes, or a new one
+abbrev pub volume_of : ℕ → PartitionPlan → List ℕ → List ℕ
+volume_of n p given = if p.given then take (n * 512) given else volume (new_tree p) n
+
+-- the given bytes behind it
+abbrev pub behind_volume : ℕ → PartitionPlan → List ℕ → List ℕ
+behind_volume n p given = if p.given then drop (n * 512) given else given
+
+-- the volumes of partitions
+unfoldable pub volumes_of : ℕ → List PartitionPlan → List ℕ → List (List ℕ)
+volumes_of c [] given = []
+volumes_of c (p ∷ ps) given = volume_of (p.cylinders * c) p given ∷ volumes_of c ps (behind_volume (p.cylinders * c) p given)
+
+-- the cylinders of a given volume
+abbrev pub given_size : PartitionPlan → ℕ
+given_size p = if p.given then p.cylinders else 0
+
+-- the cylinders of all given volumes
+unfoldable pub given_cylinders : List PartitionPlan → ℕ
+given_cylinders [] = 0
+given_cylinders (p ∷ ps) = given_size p + given_cylinders ps
+
+-- the bytes of all given volumes
+abbrev pub given_bytes : PlanValue → ℕ
+given_bytes plan = given_cylinders plan.partitions * cylinder_blocks plan * 512
+
+-- the disk of a plan: its tables, and its volumes behind them
+abbrev pub built_disk : PlanValue → List ℕ → List ℕ
+built_disk plan given = disk_bytes plan (volumes_of (cylinder_blocks plan) plan.partitions given)
+
+-- the line of so many bytes that given volumes have, and of so many that are there
+abbrev pub given_line : ℕ → ℕ → List ℕ
+given_line need have = codes "given: need " ++ (decimal need ++ (codes ", have " ++ (decimal have ++ codes "\n")))
+
+-- the disk of a plan is written if exactly the bytes of its given volumes are there
+abbrev pub plan_reply : PlanValue → List ℕ → Reply
+plan_reply plan given =
+    if length given == given_bytes plan then on_output 0 (built_disk plan given) else on_errors 1 (given_line (given_bytes plan) (length given))
+
+-- the text has a plan
+abbrev pub BuildsPlan : List ℕ → Reply → Type 0
+BuildsPlan text reply = (plan : PlanValue) × (given : List ℕ) × IsText text plan given × (reply ≡ plan_reply plan given)
+
+-- the text has a fault
+abbrev pub RefusesPlan : List ℕ → Reply → Type 0
+RefusesPlan text reply = (f : TextFault) × IsTextFault text f × (reply ≡ refusal (text_fault_text f))
+
+-- `build` writes the disk of a text, or says why there is none
+abbrev pub BuildsDisk : List ℕ → Reply → Type 0
+BuildsDisk text reply = BuildsPlan text reply ⊎ RefusesPlan text reply
+
+-- a new volume is valid, and empty
+abbrev pub IsSoundIfNew : ℕ → PartitionPlan → Type 0
+IsSoundIfNew c p = p.given ≡ false → Fits (volume (new_tree p) (p.cylinders * c)) (new_tree p) (planned (new_tree p) (p.cylinders * c))
+
+-- a disk has the planned partitions and no others, and each volume at its partition's place
+pub record HasPlanned (plan : PlanValue) (given disk : List ℕ) : Type 0 where
+  pub tables : IsDisk disk (length disk / 512) (planned_tables plan) (planned_partitions plan)
+  pub volumes : StandInPlaces disk (planned_partitions plan) (volumes_of (cylinder_blocks plan) plan.partitions given)
+  pub sound : All (IsSoundIfNew (cylinder_blocks plan)) plan.partitions
+
+-- what is written at status 0 is the disk of a plan
+abbrev pub DisksHavePlanned : Type 0
+DisksHavePlanned = (text : List ℕ) (reply : Reply) → BuildsDisk text reply → reply.status ≡ 0
+    → (plan : PlanValue) × (given : List ℕ) × IsText text plan given × HasPlanned plan given reply.output

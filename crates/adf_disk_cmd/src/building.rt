@@ -1,0 +1,177 @@
+// The command `build`.
+
+ghost use Rattle.std.specs.Prelude.{◌≡◌, ◌≢◌, ◌≤◌, ◌*◌, ◌++◌, ℕ, false, length, true, List, Option, IfOk, OnOk};
+ghost use Rattle.std.specs.List.{list_all};
+ghost use Rattle.adf_blocks.specs.Sizes.{is_allowed};
+ghost use Rattle.adf_build.specs.Laid.{volume};
+ghost use Rattle.adf_disk_cmd.specs.Builds.{BuildsDisk, DisksHavePlanned, RefusesPlan, behind_volume, built_disk, given_bytes, given_line, new_tree, plan_reply, volume_of};
+ghost use Rattle.adf_partitions.specs.Plans.{IsPlan, cylinder_blocks, plan_value};
+ghost use Rattle.adf_partitions.specs.PlanTexts.{IsTextFault, has_volume, is_plan};
+ghost use Rattle.adf_partitions.specs.declared.plan_text.TextKind.{TextKind};
+ghost use Rattle.adf_runs.specs.Commands.{on_errors};
+ghost use Rattle.adf_runs.specs.Outcomes.{EndsBy, is_read_fault, is_write_fault};
+
+use crate::answering::write_text;
+use adf_base::{BLOCK_LEN, Stamp};
+use adf_build::{BuildFault, build};
+use adf_partitions::{
+    DiskPlan, PartitionPlan, TextFault, TextKind, cylinder_blocks, read_plan, write_tables,
+};
+use adf_runs::{Outcome, Sink};
+use adf_tree::{Label, Stamps, Tree};
+use std::alloc::{AllocError, Global};
+
+// The date of a new volume.
+const NO_STAMP: Stamp = Stamp {
+    days: 0,
+    mins: 0,
+    ticks: 0,
+};
+
+// How many bytes the given volumes have.
+fn given_bytes(plan: &DiskPlan) -> usize
+    requires { IsPlan (plan_value plan.now) }
+    ensures { result ≡ given_bytes (plan_value plan.now) }
+{
+    let mut cylinders = 0;
+    for partition in &plan.partitions {
+        if partition.given {
+            cylinders += partition.cylinders;
+        }
+    }
+    cylinders as usize * cylinder_blocks(plan) as usize * BLOCK_LEN
+}
+
+// A new volume of so many blocks, with the drive's name as its label.
+fn new_volume(alloc: Global, partition: &PartitionPlan, blocks: u32) -> Result<Vec<u8>, AllocError>
+    requires size { is_allowed blocks ≡ true }
+    requires label { length partition.now.name ≤ 30 }
+    ensures { IfOk result (λ bytes. bytes.items ≡ volume (new_tree partition.now) blocks) }
+{
+    let label = Label::new(partition.name.bytes()).unwrap();
+    let stamps = Stamps {
+        root: NO_STAMP,
+        altered: NO_STAMP,
+        created: NO_STAMP,
+    };
+    let tree = Tree::new(alloc, partition.kind, label, stamps);
+    match build(alloc, &tree, blocks) {
+        Ok(bytes) => Ok(bytes),
+        Err(BuildFault::BadSize) => unreachable!(),
+        Err(BuildFault::Full { .. }) => unreachable!(),
+        Err(BuildFault::NoMemory) => Err(AllocError),
+    }
+}
+
+// Appends the volume of a partition of so many blocks: the first of the given bytes, or a new one. Returns the given bytes
+// behind it.
+fn push_volume<'a>(
+    alloc: Global,
+    partition: &PartitionPlan,
+    blocks: u32,
+    given: &'a [u8],
+    disk: &mut Vec<u8>,
+) -> Result<&'a [u8], AllocError>
+    requires enough { partition.now.given ≡ true → blocks * 512 ≤ length given.now }
+    requires size { partition.now.given ≡ false → is_allowed blocks ≡ true }
+    requires label { partition.now.given ≡ false → length partition.now.name ≤ 30 }
+    ensures volume { OnOk result
+        (disk.new.items ≡ disk.old.items ++ volume_of blocks partition.now given.now) }
+    ensures rest { IfOk result (λ rest. rest.now ≡ behind_volume blocks partition.now given.now) }
+{
+    if partition.given {
+        let len = blocks as usize * BLOCK_LEN;
+        disk.extend_from_slice(&given[..len])?;
+        return Ok(&given[len..]);
+    }
+    let volume = new_volume(alloc, partition, blocks)?;
+    disk.extend_from_slice(&volume)?;
+    Ok(given)
+}
+
+// The disk of a plan.
+fn disk_of(alloc: Global, plan: &DiskPlan, given: &[u8]) -> Result<Vec<u8>, AllocError>
+    requires plan { IsPlan (plan_value plan.now) }
+    requires volumes { list_all (has_volume (cylinder_blocks (plan_value plan.now)))
+        plan.now.partitions.items ≡ true }
+    requires enough { length given.now ≡ given_bytes (plan_value plan.now) }
+    ensures { IfOk result (λ disk. disk.items ≡ built_disk (plan_value plan.now) given.now) }
+{
+    let cylinder = cylinder_blocks(plan);
+    let mut disk = write_tables(alloc, plan)?;
+    let mut left = given;
+    for partition in &plan.partitions {
+        let blocks = partition.cylinders * cylinder;
+        left = push_volume(alloc, partition, blocks, left, &mut disk)?;
+    }
+    Ok(disk)
+}
+
+// Tells on errors that there are other bytes than those of the given volumes.
+fn refuse_given(alloc: Global, need: usize, have: usize) -> Outcome
+    ensures ends { (held : Option (List ℕ))
+        → EndsBy (λ reply. reply ≡ on_errors 1 (given_line need have)) result held held }
+    ensures read { is_read_fault result ≡ false }
+    ensures written { is_write_fault result ≡ false }
+{
+    match format!(in alloc; "given: need {need}, have {have}\n") {
+        Ok(line) => Outcome::Refused(line),
+        Err(_) => Outcome::NoMemory,
+    }
+}
+
+// Writes the disk of a plan, unless other bytes are there than those of its given volumes.
+fn write_plan<W: Sink>(alloc: Global, plan: &DiskPlan, given: &[u8], output: &mut W) -> Outcome
+    requires works { W.has_failed output.old ≡ false }
+    requires plan { IsPlan (plan_value plan.now) }
+    requires good { is_plan (plan_value plan.now) ≡ true }
+    ensures ends { EndsBy (λ reply. reply ≡ plan_reply (plan_value plan.now) given.now) result
+        (W.held output.old) (W.held output.new) }
+    ensures read { is_read_fault result ≡ false }
+    ensures written { W.has_failed output.new ≡ is_write_fault result }
+{
+    let need = given_bytes(plan);
+    let have = given.len();
+    if have != need {
+        return refuse_given(alloc, need, have);
+    }
+    match disk_of(alloc, plan, given) {
+        Ok(disk) => write_text(output, &disk, true),
+        Err(_) => Outcome::NoMemory,
+    }
+}
+
+// Tells the fault of a text on errors.
+fn refuse_text(alloc: Global, fault: TextFault) -> Outcome
+    ensures ends { (text : List ℕ) → (fault.kind ≢ TextKind.NoMemory → IsTextFault text fault)
+        → (held : Option (List ℕ)) → EndsBy (RefusesPlan text) result held held }
+    ensures read { is_read_fault result ≡ false }
+    ensures written { is_write_fault result ≡ false }
+{
+    if let TextKind::NoMemory = fault.kind {
+        return Outcome::NoMemory;
+    }
+    match format!(in alloc; "{fault}\n") {
+        Ok(line) => Outcome::Refused(line),
+        Err(_) => Outcome::NoMemory,
+    }
+}
+
+/// Builds the disk of a plan: its text comes first, and behind it the bytes of the given volumes.
+pub fn build_disk<W: Sink>(alloc: Global, text: &[u8], output: &mut W) -> Outcome
+    requires { W.has_failed output.old ≡ false }
+    ensures ends { EndsBy (BuildsDisk text.now) result (W.held output.old) (W.held output.new) }
+    ensures read { is_read_fault result ≡ false }
+    ensures written { W.has_failed output.new ≡ is_write_fault result }
+{
+    match read_plan(alloc, text) {
+        Ok((plan, given)) => write_plan(alloc, &plan, given, output),
+        Err(fault) => refuse_text(alloc, fault),
+    }
+}
+
+/// A disk that was built has the planned partitions and no others, and each volume at its partition's place: the given ones as
+/// they came, the new ones valid and empty.
+pub fn built_disks()
+    ensures { DisksHavePlanned }
+{}

@@ -1,0 +1,87 @@
+// What is done for words, of a disk or of a plan.
+
+ghost use Rattle.adf_disk_cmd.specs.Jobs.{Serves};
+ghost use Rattle.adf_words.specs.DiskLine.{disk_request_value};
+
+use crate::building::build_disk;
+use crate::list_input::list_input;
+use crate::work::{MOST_DISK_BYTES, Work, sought_for};
+use adf_runs::{Outcome, Program, Sink, Source, WorkFault, read_input};
+use adf_words::{DISK_USAGE as USAGE, DiskRequest, parse_disk};
+use std::alloc::Global;
+
+/// What is done with an input.
+#[derive(Drop)]
+pub enum Job {
+    /// It is a disk, which is told of.
+    Tell(Work),
+    /// It is a plan, whose disk is built.
+    Build,
+}
+
+// The job that a request asks for.
+fn job_for(request: DiskRequest<'_>) -> Job
+    ensures { Serves result (disk_request_value request.entry) }
+{
+    match request {
+        DiskRequest::List => Job::Tell(Work::List),
+        DiskRequest::Check => Job::Tell(Work::Check),
+        DiskRequest::Survey => Job::Tell(Work::Survey),
+        DiskRequest::Volume(wanted) => Job::Tell(Work::Volume(sought_for(wanted))),
+        DiskRequest::Build => Job::Build,
+    }
+}
+
+impl Program for Job {
+    ghost use Rattle.std.proofs.Common.{rules};
+    ghost use Rattle.adf_disk_cmd.specs.Answers.{disk_command};
+    ghost use Rattle.adf_disk_cmd.specs.Jobs.{Serves};
+
+    ghost command = { disk_command };
+
+    ghost serves = { Serves };
+
+    fn usage() -> &'static str {
+        USAGE
+    }
+
+    fn of(alloc: Global, words: &[&str]) -> Result<Job, WorkFault> {
+        let request = parse_disk(alloc, words)?;
+        Ok(job_for(request))
+    }
+
+    fn limit(&self) -> usize {
+        MOST_DISK_BYTES
+    }
+
+    fn on<W: Sink>(&self, alloc: Global, bytes: &[u8], output: &mut W) -> Outcome {
+        let part = &bytes[..bytes.len().min(MOST_DISK_BYTES)];
+        match self {
+            Job::Tell(work) => work.on(alloc, part, output),
+            Job::Build => build_disk(alloc, part, output),
+        }
+    }
+
+    fn on_input<R: Source, W: Sink>(
+        &self,
+        alloc: Global,
+        input: &mut R,
+        output: &mut W,
+    ) -> Outcome {
+        match self {
+            Job::Tell(Work::List) => list_input(alloc, input, false, output),
+            Job::Tell(Work::Survey) => list_input(alloc, input, true, output),
+            Job::Tell(Work::Check | Work::Volume(_)) | Job::Build => {
+                match read_input(alloc, input, MOST_DISK_BYTES) {
+                    Ok(bytes) => self.on(alloc, &bytes, output),
+                    Err(outcome) => outcome,
+                }
+            }
+        }
+    }
+
+    ghost consistent = { record {
+      taken = Prim.search rules;
+      unread = λ words none. absurd none;
+    } };
+}
