@@ -1,5 +1,6 @@
 -- How works end, and by which answers. `part` are the first bytes of an input, as many as count.
-use Rattle.std.proofs.Common.{◌≡◌, ◌+◌, ◌*◌, ◌-◌, ◌/◌, ◌∙◌, inl, inr, ℕ, List, [], Option, None, Some, IfSome, ap, append-nil, arith, sym, drop, length, min, subst, take}
+use Rattle.std.proofs.Common.{◌≡◌, ◌+◌, ◌*◌, ◌-◌, ◌/◌, ◌∙◌, inl, inr, ℕ, List, [], Option}
+use Rattle.std.proofs.Common.{None, Some, IfSome, ap, append-nil, arith, sym, drop, length, min, subst, take}
 use Rattle.std.proofs.lemmas.List.{drop_min, length-drop, take-take, take_all, take_min}
 use Rattle.adf_disk_cmd.specs.Answers.{DiskAnswer, OfBytes, OfDisk, OfFault, OfPartitions}
 use Rattle.adf_disk_cmd.specs.Builds.{BuildsDisk}

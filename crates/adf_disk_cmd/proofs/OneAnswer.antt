@@ -89,7 +89,8 @@ readable_once bytes n line a b (ps, h, x) (qs, g, y) =
 fault_once : (r : DiskRequestValue) (bytes : List ℕ) (f : DiskFault) (a b : Reply) → OfFault r bytes f a → OfFault r bytes f b → a ≡ b
 fault_once list bytes f a b x y = x ∙ sym y
 fault_once check bytes f a b x y = x ∙ sym y
-fault_once survey bytes f a b (s, h, x) (t, g, y) = x ∙ ap (λ (k : List ℕ). on_output 1 k) (readable_once bytes (length bytes / 512) (fault_line f) s t h g) ∙ sym y
+fault_once survey bytes f a b (s, h, x) (t, g, y) =
+    x ∙ ap (λ (k : List ℕ). on_output 1 k) (readable_once bytes (length bytes / 512) (fault_line f) s t h g) ∙ sym y
 fault_once (volume w) bytes f a b x y = x ∙ sym y
 fault_once build bytes f a b x y = absurd x
 

@@ -122,10 +122,12 @@ module _ (bytes : List ℕ) (n : ℕ) where
   found_alike m t start = ([], start, tt)
   found_alike m t (step {ps = ps} {a = a} {b = b} h some sound) =
       let (qs, found, all) = found_alike m t h in
-      let tests = sym (same_tests t ps qs a b all) ∙ sound in
-      (qs ++ partition_at bytes m t qs b ∷ [], step found some tests,
-      one_alike ps qs (partition_at bytes n t ps b) (partition_at bytes m t qs b) all
-      (record { block = refl; name = refl; place = stated t ps a b sound }))
+      let tests = sym (same_tests t ps qs a b all) ∙ sound in (
+        qs ++ partition_at bytes m t qs b ∷ [],
+        step found some tests,
+        one_alike ps qs (partition_at bytes n t ps b) (partition_at bytes m t qs b) all
+            (record { block = refl; name = refl; place = stated t ps a b sound }),
+      )
 
   other_disk : (m : ℕ) (t : Tables) (ps : List Partition) → IsDisk bytes n t ps → (qs : List Partition) × IsDisk bytes m t qs × AreAll bytes n ps qs
   other_disk m t ps d =

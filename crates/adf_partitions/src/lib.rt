@@ -21,7 +21,8 @@ mod tables_out;
 pub use crate::disk::Disk;
 pub use crate::fault::{DiskCause, DiskFault, disk_fault};
 pub use crate::laws::{
-    first_blocks_are_enough, length_moves_no_volume, no_fault_on_a_disk, one_disk, one_disk_fault, one_reading, tables_are_enough, volumes_lie_apart,
+    first_blocks_are_enough, length_moves_no_volume, no_fault_on_a_disk, one_disk, one_disk_fault,
+    one_reading, tables_are_enough, volumes_lie_apart,
 };
 pub use crate::layout::{
     BLOCK_BYTES, BLOCK_SECTORS, BOOT_PRIORITY, BOOTABLE, DOS_TYPE, DRIVE_NAME, ENV_BLOCK_WORDS,

@@ -1,5 +1,6 @@
 -- Laws of known bytes.
-use Rattle.std.proofs.Common.{◌≡◌, ◌≢◌, ◌≤◌, ◌+◌, ◌-◌, ◌++◌, ap, length-drop, ◌∙◌, ◌<◌, ◌∷◌, [], ℕ, Bool, List, Option, Some, None, Ok, Err, Result, IfSome, OnErr, min, inl, inr, refl, sym, length, take, drop, arith}
+use Rattle.std.proofs.Common.{◌≡◌, ◌≢◌, ◌≤◌, ◌+◌, ◌-◌, ◌++◌, ap, length-drop, ◌∙◌, ◌<◌, ◌∷◌, [], ℕ, Bool, List, Option}
+use Rattle.std.proofs.Common.{Some, None, Ok, Err, Result, IfSome, OnErr, min, inl, inr, refl, sym, length, take, drop, arith}
 use Rattle.std.proofs.Common.{append_assoc, append-nil, length-append, length-take, length-take-le}
 use Rattle.std.specs.Io.KnownBytes.{Appends, Consumes, IsAtEnd, Keeps}
 use Rattle.std.proofs.Math.Seq.{take-add, take-append-add, take-length, drop-append_seam}
@@ -54,7 +55,8 @@ pub none_counted : (a : Option (List ℕ)) → TakesCount 0 a a
 none_counted a = ([], refl, takes_none a)
 
 -- more is taken
-pub more_counted : (n k : ℕ) (a b c : Option (List ℕ)) (part : List ℕ) → TakesCount n a b → k ≤ length part → Consumes b c (take k part) → TakesCount (n + k) a c
+pub more_counted : (n k : ℕ) (a b c : Option (List ℕ)) (part : List ℕ) → TakesCount n a b → k ≤ length part
+    → Consumes b c (take k part) → TakesCount (n + k) a c
 more_counted n k a b c part (bs, len, taken) few more =
     (bs ++ take k part, omega (arith, len, length-append bs (take k part), length-take-le k part few), consumes_more a b c bs (take k part) _ refl taken more)
 
@@ -106,7 +108,8 @@ first_length : (n : ℕ) (x bytes : List ℕ) → bytes ≡ take n x → length 
 first_length n x bytes e = ap length e ∙ length-take n x
 
 -- bytes that are passed over, bytes that are held, and bytes that are passed over again
-pub part_read : (from to limit : ℕ) (a b c d : Option (List ℕ)) (before held after : ℕ) (bytes : List ℕ) → held ≡ length bytes → from ≤ to → to ≤ limit → PassesOver from a b before
+pub part_read : (from to limit : ℕ) (a b c d : Option (List ℕ)) (before held after : ℕ) (bytes : List ℕ)
+    → held ≡ length bytes → from ≤ to → to ≤ limit → PassesOver from a b before
     → TakesFirst (to - from) b c bytes → PassesOver (limit - to) c d after → IfSome a (λ all. IsPart from to limit all bytes (before + held + after))
 part_read from to limit None b c d before held after bytes count order inside p q r = tt
 part_read from to limit (Some x) None c d before held after bytes count order inside (u, f, l) q r = absurd f.1

@@ -15,6 +15,8 @@ pub use crate::inputs::read_input;
 pub use crate::outcome::Outcome;
 pub use crate::parts::{Part, pass_over, read_first, read_part};
 pub use crate::programs::{Program, Ran, run_program, run_program_on};
-pub use crate::streams::{StreamFault, flush_long, read_all, read_into, say, write_all, write_both};
+pub use crate::streams::{
+    StreamFault, flush_long, read_all, read_into, say, write_all, write_both,
+};
 pub use crate::system::command_words;
 pub use crate::work_fault::WorkFault;

@@ -9,11 +9,7 @@ use std::alloc::Global;
 
 /// Passes over so many bytes of an input, or over all where it has fewer, and answers how many; they come through a buffer.
 /// `Failed` where the reader failed.
-pub fn pass_over<R: Source>(
-    input: &mut R,
-    limit: usize,
-    buffer: &mut [u8],
-) -> Result<usize, Failed>
+pub fn pass_over<R: Source>(input: &mut R, limit: usize, buffer: &mut [u8]) -> Result<usize, Failed>
     requires room { 0 < length buffer.old }
     requires works { R.has_failed input.old ≡ false }
     ensures passed { IfOk result (PassesOver limit (R.left input.old) (R.left input.new)) }

@@ -196,8 +196,8 @@ pub fn write_all<W: Sink>(output: &mut W, bytes: &[u8]) -> Result<(), Failed>
     Ok(())
 }
 
-/// Writes all bytes of two texts, one behind the other. `Failed` where the writer failed or took 0 of some bytes; then a front part
-/// of them is written, but not all.
+/// Writes all bytes of two texts, one behind the other. `Failed` where the writer failed or took 0 of some bytes;
+/// then a front part of them is written, but not all.
 pub fn write_both<W: Sink>(output: &mut W, first: &[u8], second: &[u8]) -> Result<(), Failed>
     requires { W.has_failed output.old ≡ false }
     ensures ok { OnOk result (Appends (W.held output.old) (W.held output.new) (first.now ++ second.now)) }

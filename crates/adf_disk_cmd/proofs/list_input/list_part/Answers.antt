@@ -9,4 +9,5 @@ returns-in-Ok-clause-ends g c = λ all held.
 pub returns-in_default-clause-ends : goal.returns-in_default-clause-ends
 returns-in_default-clause-ends g c = λ all held.
     fault_ends all _ _ _ held c.blocks_of-blocks.ensures c.args.survey c.in-Err.fault _ _ _
-    (rw c.as_slice-tables.ensures.value at (c.in-Err.ensures.first c.in_default.not-NoMemory)) (rw c.as_slice-tables.ensures.value at c.write_fault.ensures.ends)
+    (rw c.as_slice-tables.ensures.value at (c.in-Err.ensures.first c.in_default.not-NoMemory))
+    (rw c.as_slice-tables.ensures.value at c.write_fault.ensures.ends)
