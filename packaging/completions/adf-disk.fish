@@ -5,3 +5,4 @@ complete -c adf-disk -n __fish_use_subcommand -a list -d 'list the partitions of
 complete -c adf-disk -n __fish_use_subcommand -a check -d 'tell whether its volumes are sound'
 complete -c adf-disk -n __fish_use_subcommand -a survey -d 'list what can be read of a damaged table'
 complete -c adf-disk -n __fish_use_subcommand -a volume -d 'write the volume of a partition'
+complete -c adf-disk -n __fish_use_subcommand -a build -d 'make a hard disk of a plan'

@@ -27,7 +27,7 @@ _adf_disk() {
     if [[ ${COMP_WORDS[COMP_CWORD - 1]} == [\<\>] ]]; then
         compopt -o default
     elif ((COMP_CWORD == 1)); then
-        COMPREPLY=($(compgen -W "list check survey volume" -- "$2"))
+        COMPREPLY=($(compgen -W "list check survey volume build" -- "$2"))
     fi
 }
 
