@@ -1,7 +1,7 @@
 -- The lines of a plan's text. left is what is left of a text, ps its partitions, e the text behind their lines.
 use Rattle.std.proofs.Common.{◌≡◌, ◌≢◌, ◌<◌, ◌≤◌, ◌+◌, ◌^◌, ℕ, zero, suc, get_or, Bool, true, false, List, [], ◌∷◌, ◌++◌, length, ap, refl, sym, subst, arith}
 use Rattle.std.proofs.Common.{append-nil, append_assoc, inr}
-use Rattle.std.specs.Prelude.{◌==◌, ◌&&◌, All, nat_le, nat_lt, if◌then◌else◌}
+use Rattle.std.specs.Prelude.{◌==◌, ◌&&◌, All, OnErr, Result, Ok, Err, nat_le, nat_lt, if◌then◌else◌}
 use Rattle.std.specs.List.{list_all}
 use Rattle.std.proofs.lemmas.Bool.Decides.{nat_tests}
 use Rattle.adf_partitions.specs.declared.layout.TheConstants.{MOST_PARTITIONS}
@@ -9,7 +9,7 @@ use Rattle.adf_partitions.specs.declared.plan.PartitionPlan.{PartitionPlan}
 use Rattle.adf_partitions.specs.declared.plan_text.TextFault.{TextFault}
 use Rattle.adf_partitions.specs.declared.plan_text.TextKind.{TextKind}
 use Rattle.adf_partitions.specs.Plans.{IsPartitionPlan, IsPlan, PlanValue, cylinder_blocks, planned_blocks}
-use Rattle.adf_partitions.specs.PlanTexts.{AreLines, IsDiskLine, IsEndFault, IsTextFault, IsPartitionLine, IsPartitionText, Stops, before, behind}
+use Rattle.adf_partitions.specs.PlanTexts.{AreLines, HasPartition, IsDiskLine, IsEndFault, IsTextFault, IsPartitionLine, IsPartitionText, Stops, before, behind}
 use Rattle.adf_partitions.specs.PlanTexts.{behind_line, behind_word, first_line, has_volume, is_plan}
 use Rattle.adf_partitions.proofs.NumberTests.{le_of, lt_of}
 
@@ -57,6 +57,17 @@ line_added text left ps p all is = λ qs e h.
 pub lines_ended : (text left : List ℕ) (ps : List PartitionPlan) → Continues text ps left → AreLines text ps left
 unfolding AreLines
 lines_ended text left ps all = subst (λ (k : List PartitionPlan). AreLines text k left) (append-nil ps) (all [] left refl)
+
+pub on_err : {T E P : Type 0} (r : Result T E) → P → OnErr r P
+on_err (Ok x) h = tt
+on_err (Err y) h = h
+
+-- where lines of partitions stand, and one more, one stands first
+pub first_of_lines : (text left : List ℕ) (ps : List PartitionPlan) (p : PartitionPlan) → Continues text ps left → IsPartitionLine (first_line left) p
+    → HasPartition text
+unfolding AreLines
+first_of_lines text left [] p all is = let h = all (p ∷ []) (behind_line left) (is, refl) in (p, h.0)
+first_of_lines text left (q ∷ ps) p all is = let h = all (p ∷ []) (behind_line left) (is, refl) in (q, h.0)
 
 -- partitions of lines can be made
 pub plan_of_text : (text : List ℕ) (p : PartitionPlan) → IsPartitionText text p → IsPartitionPlan p

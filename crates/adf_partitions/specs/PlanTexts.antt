@@ -133,6 +133,14 @@ AreLines left (p ∷ ps) end = IsPartitionLine (first_line left) p × AreLines (
 abbrev pub Stops : List ℕ → Type 0
 Stops left = (p : PartitionPlan) → ¬ IsPartitionLine (first_line left) p
 
+-- a text begins with a line of a partition
+abbrev pub HasPartition : List ℕ → Type 0
+HasPartition text = (p : PartitionPlan) × IsPartitionLine (first_line text) p
+
+-- a line of a partition follows the first line, which is one of a disk
+abbrev pub HasBegun : List ℕ → Type 0
+HasBegun text = (sectors : ℕ) × (heads : ℕ) × IsDiskLine (first_line text) sectors heads × HasPartition (behind_line text)
+
 -- whether the volume of a partition is given, or may be a new one with the drive's name as label
 abbrev pub has_volume : ℕ → PartitionPlan → Bool
 has_volume c p = p.given || (is_allowed (p.cylinders * c) && nat_le (length p.name) 30)

@@ -1,10 +1,10 @@
 // The text of a plan.
 
-ghost use Rattle.std.specs.Prelude.{◌≡◌, ◌≢◌, ◌≤◌, ◌^◌, IfErr, IfOk, bytes_eq, codes, length, nat_lt};
+ghost use Rattle.std.specs.Prelude.{◌≡◌, ◌≢◌, ◌≤◌, ◌^◌, IfErr, IfOk, OnErr, bytes_eq, codes, length, nat_lt};
 ghost use Rattle.std.specs.List.{list_all};
 ghost use Rattle.adf_partitions.specs.Plans.{IsPlan, cylinder_blocks, plan_value, planned_blocks};
 ghost use Rattle.adf_partitions.specs.FaultTexts.{text_kind_text};
-ghost use Rattle.adf_partitions.specs.PlanTexts.{AreLines, IsText, IsTextFault, PlansHaveNoFault, Stops, TextsHaveOneFault, TextsHaveOnePlan, has_volume, is_end, is_plan};
+ghost use Rattle.adf_partitions.specs.PlanTexts.{AreLines, HasBegun, HasPartition, IsText, IsTextFault, PlansHaveNoFault, Stops, TextsHaveOneFault, TextsHaveOnePlan, has_volume, is_end, is_plan};
 ghost use Rattle.adf_partitions.specs.declared.layout.TheConstants.{MOST_PARTITIONS};
 ghost use Rattle.adf_partitions.specs.declared.plan_text.TextKind.{TextKind};
 
@@ -92,6 +92,7 @@ fn is_end(line: &[u8]) -> bool
 fn read_lines(alloc: Global, text: &[u8]) -> Result<(Vec<PartitionPlan>, &[u8]), AllocError>
     ensures lines { IfOk result (λ r. AreLines text.now r.0.items r.1.now) }
     ensures stops { IfOk result (λ r. Stops r.1.now) }
+    ensures begun { OnErr result (HasPartition text.now) }
 {
     let mut partitions = Vec::new(alloc);
     let mut left = text;
@@ -167,11 +168,16 @@ pub fn is_plan(plan: &DiskPlan) -> bool
 /// `bootable`, `priority P` and `given` behind it in this order, and a line `end`. Returns the plan, and the bytes behind the text.
 /// A number is at most 1,048,576, P is -128 to 127.
 ///
-/// The first line with a fault; `NoMemory`, at line 0, if an allocation fails.
+/// The first line with a fault; `NoMemory`, at line 0, if an allocation fails, which can happen only if a line of a partition
+/// stands behind the first.
 pub fn read_plan(alloc: Global, text: &[u8]) -> Result<(DiskPlan, &[u8]), TextFault>
     ensures text { IfOk result (λ r. IsText text.now (plan_value r.0) r.1.now) }
     ensures plan { IfOk result (λ r. IsPlan (plan_value r.0)) }
     ensures fault { IfErr result (λ f. f.kind ≢ TextKind.NoMemory → IsTextFault text.now f) }
+    ensures memory { IfErr result (λ f. f.kind ≡ TextKind.NoMemory → f.line ≡ 0) }
+
+    // Memory is wanted only for the lines of partitions.
+    ensures begun { IfErr result (λ f. f.kind ≡ TextKind.NoMemory → HasBegun text.now) }
 {
     let (line, rest) = cut(text, b'\n');
     let Some((sectors, heads)) = read_disk(line) else {

@@ -1,6 +1,6 @@
 // The hung image: each lost header hangs in the directory that it names, or in the root.
 
-ghost use Rattle.std.specs.Prelude.{◌≡◌, ◌≢◌, ◌<◌, ◌≤◌, ◌||◌, ◌&&◌, ◌==◌, ◌↔◌, ℕ, List, Some, None, true, false, length, is_some, IfOk, IfSome, IsNone, OnOk};
+ghost use Rattle.std.specs.Prelude.{◌≡◌, ◌≢◌, ◌<◌, ◌≤◌, ◌||◌, ◌&&◌, ◌==◌, ◌↔◌, ℕ, List, Some, None, true, false, length, is_some, IfOk, IfSome, IsNone, OnErr, OnOk};
 ghost use Rattle.adf_base.specs.Words.{block, with_block};
 ghost use Rattle.adf_blocks.specs.HeadBlock.{head_block};
 ghost use Rattle.adf_blocks.specs.declared.layout.TheConstants.{PARENT};
@@ -311,12 +311,15 @@ fn changed(alloc: Global, survey: &Survey<'_>, loose: &Loose) -> Result<Vec<u8>,
 /// is lost, or there is no finding. A header is lost if no entry of the survey has its block, and it says that it is one, of a directory (words
 /// 0, 1 and 127) or of a file (these, and its sum), and it is not deleted, as far as the bitmap or else its directory
 /// tells. Where a lost header names a block that is nothing else, a directory `lost-` and its number is made there.
-/// `NoMemory` if an allocation fails.
+/// `NoMemory` if an allocation fails, which can happen only if there is a finding.
 pub fn hung(alloc: Global, survey: &Survey<'_>) -> Result<Option<Vec<u8>>, NoMemory>
     ensures none { OnSurvey survey.now.image (λ w fs.
         IfOk result (λ r. IsNone r ↔ (has_lost survey.now.image w fs ≡ false))) }
     ensures hung { OnSurvey survey.now.image (λ w fs.
         IfOk result (λ r. IfSome r (λ v. v.items ≡ hung survey.now.image w fs))) }
+
+    // Memory is wanted only if there is a finding.
+    ensures begun { OnSurvey survey.now.image (λ _ fs. OnErr result (has_findings fs ≡ true)) }
 {
     if !is_image_len(survey.image().len()) {
         return Ok(None);
