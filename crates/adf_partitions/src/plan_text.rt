@@ -4,7 +4,9 @@ ghost use Rattle.std.specs.Prelude.{◌≡◌, ◌≢◌, ◌≤◌, ◌^◌, If
 ghost use Rattle.std.specs.List.{list_all};
 ghost use Rattle.adf_partitions.specs.Plans.{IsPlan, cylinder_blocks, plan_value, planned_blocks};
 ghost use Rattle.adf_partitions.specs.FaultTexts.{text_kind_text};
-ghost use Rattle.adf_partitions.specs.PlanTexts.{AreLines, HasBegun, HasPartition, IsText, IsTextFault, PlansHaveNoFault, Stops, TextsHaveOneFault, TextsHaveOnePlan, has_volume, is_end, is_plan};
+ghost use Rattle.adf_partitions.specs.PlanTexts.{AreLines, HasBegun, HasPartition, IsText, IsTextFault};
+ghost use Rattle.adf_partitions.specs.PlanTexts.{PlansHaveNoFault, Stops, TextsHaveOneFault, TextsHaveOnePlan};
+ghost use Rattle.adf_partitions.specs.PlanTexts.{has_volume, is_end, is_plan};
 ghost use Rattle.adf_partitions.specs.declared.layout.TheConstants.{MOST_PARTITIONS};
 ghost use Rattle.adf_partitions.specs.declared.plan_text.TextKind.{TextKind};
 

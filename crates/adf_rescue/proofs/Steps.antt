@@ -1,7 +1,7 @@
 -- The state of a rescue after one more verdict.
 use Rattle.std.proofs.Common.{add-one, ◌≢◌, ◌==◌, map, ◌≡◌, ℕ, ◌+◌, ◌-◌, ◌<◌, ◌≤◌, inl, inr, List, [], ◌∷◌, ◌++◌}
 use Rattle.std.proofs.Common.{Option, Some, None, Result, Ok, Err, length, get_or, arith, refl, sym, ◌∙◌, ap, subst, zero, suc, length-append}
-use Rattle.std.specs.Prelude.{IfOk, OnOk, cond, true, false, min, ◌^◌}
+use Rattle.std.specs.Prelude.{IfOk, OnErr, OnOk, cond, true, false, min, ◌^◌}
 use Rattle.std.proofs.lemmas.Bool.{cases_lt, eqb-true, le-leb, lt-leb}
 use Rattle.std.proofs.lemmas.List.Sums.{fold_push}
 use Rattle.std.proofs.lemmas.Grind.{flat_map-append}
@@ -267,6 +267,10 @@ told_unread : (image : List ℕ) (fs : List FindingValue) → UnreadTells image 
 told_unread image fs (bad_boot fails other) e = cc
 told_unread image fs (bad_root {boot = boot} {at = at} {c = c} tells judged) e =
     absurd (omega (arith, ap length e, length_push boot (finding None at c)))
+
+pub on_err : {T E P : Type 0} (r : Result T E) → P → OnErr r P
+on_err (Ok x) h = tt
+on_err (Err y) h = h
 
 -- of an image of which nothing is surveyed there is a finding
 pub unread_fault : (image : List ℕ) (w : List (Role × ℕ)) (fs : List FindingValue) → IsSurvey image w fs → w ≡ [] → fs ≢ []

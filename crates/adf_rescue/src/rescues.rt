@@ -1,6 +1,7 @@
 // The rescue of an image.
 
-ghost use Rattle.std.specs.Prelude.{◌≡◌, ◌≢◌, ◌↔◌, ◌+◌, ℕ, Bool, List, [], IsNone, IsTrue, IfOk, IfSome, OnOk, Option, Some, option_map};
+ghost use Rattle.std.specs.Prelude.{◌≡◌, ◌≢◌, ◌↔◌, ◌+◌, ℕ, Bool, List, [], IsNone, IsTrue, IfOk, IfSome, OnErr};
+ghost use Rattle.std.specs.Prelude.{OnOk, Option, Some, option_map};
 ghost use Rattle.adf_blocks.specs.Sizes.{blocks as blocks_in};
 ghost use Rattle.adf_findings.specs.Opening.{opening_in};
 ghost use Rattle.adf_findings.specs.Survey.{OnSurvey};
@@ -124,7 +125,8 @@ fn stands_nothing(survey: &Survey<'_>, salvage: &Salvage, mended: bool) -> bool
 /// and what stands beside these by a second survey, if there is one, of the image with what was lost hung in it again: each
 /// entry whose block no entry of the first survey has, but a file only if its data blocks are as they were given. With it
 /// come the entries that are left out. `None` if there is a finding of the first survey, or the image was mended, and nothing
-/// of the image is surveyed, or no entry stands. `NoMemory` if an allocation fails.
+/// of the image is surveyed, or no entry stands. `NoMemory` if an allocation fails, which can happen only if something of the
+/// image is surveyed.
 pub fn rescue(
     alloc: Global,
     survey: &Survey<'_>,
@@ -141,6 +143,9 @@ pub fn rescue(
         (λ b. IfOk result (λ r. IfSome r (λ v. v.left_out.items ≡ rescue_leaves a)))) }
     ensures second_left_out { OnLook survey.now.image (λ a _. OnSecond (option_map (λ s. s.now.image) second.entry)
         (λ b. IfOk result (λ r. IfSome r (λ v. v.second_left_out.items ≡ second_leaves a b)))) }
+
+    // Memory is wanted only if something of the image is surveyed.
+    ensures begun { OnSurvey survey.now.image (λ w _. OnErr result (w ≢ [])) }
 {
     let Some(opening) = survey.opening() else {
         return Ok(None);

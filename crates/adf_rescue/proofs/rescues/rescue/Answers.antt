@@ -1,7 +1,7 @@
 use Rattle.std.proofs.Common.{ap, inl, inr, refl}
 use Rattle.adf_blocks.specs.Sizes.{blocks}
 use Rattle.adf_findings.specs.declared.opening.Opening.{Opening}
-use Rattle.adf_rescue.proofs.Steps.{buildable, unread_fault}
+use Rattle.adf_rescue.proofs.Steps.{buildable, on_err, unread_fault}
 use Rattle.adf_rescue.proofs.rescues.rescue.Goals as goal
 
 pub returns-in_default-clause-none : goal.returns-in_default-clause-none
@@ -33,3 +33,7 @@ returns-clause-left_out c = λ w fs sound survey marks b is. (c.in_ok-salvage.en
 
 pub returns-clause-second_left_out : goal.returns-clause-second_left_out
 returns-clause-second_left_out c = λ w fs sound survey marks b is. (c.in_ok-salvage.ensures.state w fs sound survey marks b is).left_out
+
+pub returns-in_err-salvage-clause-begun : goal.returns-in_err-salvage-clause-begun
+returns-in_err-salvage-clause-begun c = λ w fs survey.
+    on_err c.from_residual.result (λ none. let not = (c.in-Some.ensures.some w fs survey).1 none in absurd cc)
