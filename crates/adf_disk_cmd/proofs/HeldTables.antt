@@ -1,9 +1,9 @@
 -- What is told of a disk of which only the blocks that may have tables are held.
 -- Letters: all is an input, bytes what is held of it, len how many it has; n is the number of its blocks that count.
-use Rattle.std.proofs.Common.{◌≡◌, ◌+◌, ◌*◌, ◌/◌, ◌∙◌, ℕ, Bool, true, false, List, Option}
+use Rattle.std.proofs.Common.{◌≡◌, ◌+◌, ◌/◌, ◌∙◌, ℕ, Bool, true, false, List, Option}
 use Rattle.std.proofs.Common.{None, Some, IfSome, ap, arith, length, length-take, min, refl, subst, sym, take}
 use Rattle.std.proofs.lemmas.List.{take-take}
-use Rattle.adf_disk_cmd.specs.Answers.{DiskAnswer, OfFault, OfPartitions, fault_line}
+use Rattle.adf_disk_cmd.specs.Answers.{DiskAnswer, OfFault, OfPartitions}
 use Rattle.adf_disk_cmd.specs.Lines.{list_lines}
 use Rattle.adf_disk_cmd.specs.Work.{TellsFault, listing}
 use Rattle.adf_disk_cmd.specs.declared.list_input.TheConstants.{TABLES_LEN}
@@ -33,17 +33,17 @@ module _ (all bytes : List ℕ) (len n : ℕ) (held : IsPart 0 TABLES_LEN (MOST_
   first_held : bytes ≡ take TABLES_LEN (disk_of all)
   first_held = held.0 ∙ sym (take-take TABLES_LEN MOST_DISK_BYTES all (omega arith))
 
-  blocks_held : n ≡ length (disk_of all) / 512
+  pub blocks_held : n ≡ length (disk_of all) / 512
   blocks_held =
       let same : min len MOST_DISK_BYTES ≡ length (disk_of all) = omega (arith, held.1, length-take MOST_DISK_BYTES all) in
       blocks ∙ ap (λ (k : ℕ). k / 512) same
 
-  disk_held : {t : Tables} {ps : List Partition} → IsDisk bytes n t ps → IsDisk (disk_of all) (length (disk_of all) / 512) t ps
+  pub disk_held : {t : Tables} {ps : List Partition} → IsDisk bytes n t ps → IsDisk (disk_of all) (length (disk_of all) / 512) t ps
   disk_held {t} {ps} d =
       (first_disk (disk_of all) (length (disk_of all) / 512) t ps).0
       (subst (λ (l : List ℕ). IsDisk l (length (disk_of all) / 512) t ps) first_held (subst (λ (k : ℕ). IsDisk bytes k t ps) blocks_held d))
 
-  fault_held : {f : DiskFault} → FirstFault bytes n f → FirstFault (disk_of all) (length (disk_of all) / 512) f
+  pub fault_held : {f : DiskFault} → FirstFault bytes n f → FirstFault (disk_of all) (length (disk_of all) / 512) f
   fault_held {f} v =
       (first_fault (disk_of all) (length (disk_of all) / 512) f).0
       (subst (λ (l : List ℕ). FirstFault l (length (disk_of all) / 512) f) first_held (subst (λ (k : ℕ). FirstFault bytes k f) blocks_held v))

@@ -4,3 +4,4 @@ pub mod OneAnswer
 pub mod HeldTables
 pub mod NewVolumes
 pub mod BuiltDisks
+pub mod HeldVolume

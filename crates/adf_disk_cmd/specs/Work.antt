@@ -1,12 +1,22 @@
 -- What is done with a disk.
-use Rattle.std.specs.Prelude.{◌≡◌, ℕ, Bool, true, false, List}
-use Rattle.adf_partitions.specs.FaultTexts.{disk_fault_text}
+use Rattle.std.specs.Prelude.{◌≡◌, ◌≤◌, ◌+◌, ◌-◌, ◌*◌, ℕ, Bool, true, false, List, Option, None, Some, Result, Ok, Err, IfOk, IfSome, codes, drop, take}
+use Rattle.adf_partitions.specs.FaultTexts.{disk_fault_text, place_fault_text}
 use Rattle.adf_partitions.specs.declared.fault.DiskFault.{DiskFault}
 use Rattle.adf_runs.specs.Commands.{Reply, on_output}
 use Rattle.adf_tree.specs.Escapes.{IsSpelling}
 use Rattle.adf_words.specs.DiskLine.{DiskRequestValue, WantedValue, check, list, name, number, survey, volume}
-use Rattle.adf_disk_cmd.specs.Answers.{IsNoName, TellsReadable, fault_line}
+use Rattle.adf_disk_cmd.specs.Answers.{IsNoName, IsWanted, TellsReadable, fault_line}
 use Rattle.adf_disk_cmd.specs.Builds.{refusal}
+use Rattle.adf_partitions.specs.Disks.{IsDisk}
+use Rattle.adf_partitions.specs.Places.{end_of}
+use Rattle.adf_partitions.specs.declared.partition.Partition.{Partition}
+use Rattle.adf_partitions.specs.declared.place.Place.{Place}
+use Rattle.adf_partitions.specs.declared.place.PlaceFault.{PlaceFault}
+use Rattle.adf_partitions.specs.declared.tables.Tables.{Tables}
+use Rattle.adf_runs.specs.Streams.{IsPart}
+use Rattle.adf_disk_cmd.specs.declared.copy_input.TheConstants.{MOST_DISK_BLOCKS}
+use Rattle.adf_disk_cmd.specs.declared.list_input.TheConstants.{TABLES_LEN}
+use Rattle.adf_disk_cmd.specs.declared.work.TheConstants.{MOST_DISK_BYTES}
 use Rattle.adf_disk_cmd.specs.declared.work.Sought.{Sought}
 use Rattle.adf_disk_cmd.specs.declared.work.Sought.TheVariants.{Numbered, Named, Nothing}
 use Rattle.adf_disk_cmd.specs.declared.work.Work.{Work}
@@ -34,3 +44,25 @@ listing false = list
 abbrev pub TellsFault : Bool → List ℕ → ℕ → DiskFault → Reply → Type 0
 TellsFault true bytes n f reply = (text : List ℕ) × TellsReadable bytes n (fault_line f) text × (reply ≡ on_output 1 text)
 TellsFault false bytes n f reply = reply ≡ refusal (disk_fault_text f)
+
+-- where the volume of the partition that is sought lies, if it has a place on a disk of so many blocks, however many
+abbrev pub IsSoughtPlace : List ℕ → Sought → Place → Type 0
+IsSoughtPlace bytes sought q =
+    (n : ℕ) (t : Tables) (ps : List Partition) (w : WantedValue) (found : Option Partition) → n ≤ MOST_DISK_BLOCKS → IsDisk bytes n t ps → Means sought w
+    → IsWanted ps w found → IfSome found (λ p. IfOk p.place (λ r. q ≡ r))
+
+-- what is held of an input: the blocks that may have tables, and behind them the bytes of the volume at q, and how many bytes are there
+abbrev pub HoldsVolume : List ℕ → List ℕ → Place → List ℕ → ℕ → Type 0
+HoldsVolume all tables q behind len =
+    (tables ≡ take TABLES_LEN all)
+    × IsPart (q.first * 512 - TABLES_LEN) (end_of q * 512 - TABLES_LEN) (MOST_DISK_BYTES - TABLES_LEN + 1) (drop TABLES_LEN all) behind len
+
+-- these bytes of a volume, or what is wrong with its partition
+abbrev pub held_place_reply : List ℕ → Result Place PlaceFault → Reply
+held_place_reply bytes (Ok q) = on_output 0 bytes
+held_place_reply bytes (Err f) = refusal (place_fault_text f)
+
+-- these bytes of the volume of a partition, where there is one
+abbrev pub held_reply : List ℕ → Option Partition → Reply
+held_reply bytes None = refusal (codes "no such partition")
+held_reply bytes (Some p) = held_place_reply bytes p.place

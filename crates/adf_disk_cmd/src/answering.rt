@@ -1,12 +1,12 @@
 // How an answer is written.
 
-ghost use Rattle.std.specs.Prelude.{◌≡◌, List, Option, ℕ, false};
+ghost use Rattle.std.specs.Prelude.{◌≡◌, ◌++◌, List, Option, ℕ, false};
 ghost use Rattle.adf_disk_cmd.specs.Builds.{refusal};
 ghost use Rattle.adf_disk_cmd.specs.Checks.{check_status};
 ghost use Rattle.adf_runs.specs.Commands.{on_output};
 ghost use Rattle.adf_runs.specs.Outcomes.{EndsBy, is_read_fault, is_write_fault};
 
-use adf_runs::{Outcome, Sink, write_all};
+use adf_runs::{Outcome, Sink, write_all, write_both};
 use std::alloc::Global;
 
 /// Writes a text, at status 0 where all is sound, else at status 1.
@@ -20,6 +20,20 @@ pub fn write_text<W: Sink>(output: &mut W, text: &[u8], sound: bool) -> Outcome
     match write_all(output, text) {
         Ok(()) if sound => Outcome::Done,
         Ok(()) => Outcome::FaultWritten,
+        Err(_) => Outcome::WriteFault,
+    }
+}
+
+/// Writes two texts, one behind the other, at status 0.
+pub fn write_parts<W: Sink>(output: &mut W, first: &[u8], second: &[u8]) -> Outcome
+    requires { W.has_failed output.old ≡ false }
+    ensures ends { EndsBy (λ reply. reply ≡ on_output 0 (first.now ++ second.now)) result
+        (W.held output.old) (W.held output.new) }
+    ensures read { is_read_fault result ≡ false }
+    ensures written { W.has_failed output.new ≡ is_write_fault result }
+{
+    match write_both(output, first, second) {
+        Ok(()) => Outcome::Done,
         Err(_) => Outcome::WriteFault,
     }
 }

@@ -4,6 +4,7 @@
 mod answering;
 mod building;
 mod checking;
+mod copy_input;
 mod job;
 mod list_input;
 mod listing;

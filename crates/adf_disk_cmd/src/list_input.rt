@@ -24,8 +24,8 @@ pub fn blocks_of(len: usize) -> u64
     (len.min(MOST_DISK_BYTES) / BLOCK_LEN) as u64
 }
 
-// Tells the fault of the tables: a survey on output, with the partitions that can be read.
-fn write_fault<W: Sink>(
+/// Tells the fault of the tables: a survey on output, with the partitions that can be read.
+pub fn write_fault<W: Sink>(
     alloc: Global,
     tables: &[u8],
     blocks: u64,

@@ -52,8 +52,8 @@ pub fn sought_for(wanted: Wanted<'_>) -> Sought
     }
 }
 
-// The partition that is sought, if the disk has it.
-fn partition_sought<'a>(disk: &'a Disk, sought: &Sought) -> Option<&'a Partition>
+/// The partition that is sought, if the disk has it.
+pub fn partition_sought<'a>(disk: &'a Disk, sought: &Sought) -> Option<&'a Partition>
     ensures { (w : WantedValue) → Means sought.now w → IsWanted disk.now.partitions.items w (option_copied result) }
 {
     match sought {

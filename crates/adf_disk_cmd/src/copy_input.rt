@@ -1,0 +1,166 @@
+// The command `volume` over an input, of which only the blocks that may have tables and the bytes of one volume are held.
+
+ghost use Rattle.std.specs.Prelude.{◌≡◌, ◌+◌, ◌++◌, ◌≤◌, List, ℕ, false, true, IfErr, IfOk, IfSome, OnOk, option_copied};
+ghost use Rattle.adf_disk_cmd.specs.Answers.{DiskAnswer};
+ghost use Rattle.adf_disk_cmd.specs.Work.{HoldsVolume, IsSoughtPlace, Means, held_reply};
+ghost use Rattle.adf_partitions.specs.Places.{end_of};
+ghost use Rattle.adf_runs.specs.Outcomes.{EndsBy, LacksInput, is_read_fault, is_write_fault};
+ghost use Rattle.adf_runs.specs.Streams.{TakesAtMost};
+ghost use Rattle.adf_words.specs.DiskLine.{WantedValue, volume};
+
+use crate::answering::{refuse, write_parts};
+use crate::list_input::{TABLES_LEN, blocks_of, write_fault};
+use crate::volumes::volume_at;
+use crate::work::{MOST_DISK_BYTES, Sought, partition_sought};
+use adf_base::NoMemory;
+use adf_partitions::{Disk, DiskCause, Partition, Place, stated_place};
+use adf_runs::{Outcome, Part, Sink, Source, read_first, read_part};
+use std::alloc::Global;
+
+/// The most blocks of a disk.
+pub const MOST_DISK_BLOCKS: u64 = 1 << 32;
+
+/// A place without blocks.
+const NOWHERE: Place = Place {
+    first: 0,
+    blocks: 0,
+};
+
+// Where the volume that is sought lies, if the disk is long enough; no blocks if there is none.
+fn sought_place(alloc: Global, tables: &[u8], sought: &Sought) -> Result<Place, NoMemory>
+    ensures place { IfOk result (IsSoughtPlace tables.now sought.now) }
+    ensures within { IfOk result (λ place. end_of place ≤ MOST_DISK_BLOCKS) }
+{
+    match Disk::open(alloc, tables, MOST_DISK_BLOCKS) {
+        Ok(disk) => match partition_sought(&disk, sought) {
+            Some(partition) => Ok(stated_place(tables, partition.block, MOST_DISK_BLOCKS).unwrap_or(
+                NOWHERE,
+            )),
+            None => Ok(NOWHERE),
+        },
+        Err(fault) => match fault.cause {
+            DiskCause::NoMemory => Err(NoMemory),
+            _ => Ok(NOWHERE),
+        },
+    }
+}
+
+/// What is held of a disk of which one volume is written.
+#[derive(Drop)]
+struct Held {
+    tables: Vec<u8>,
+    /// Where the volume lies.
+    place: Place,
+    /// The bytes of the volume behind the tables, and how many bytes are there in all.
+    behind: Part,
+}
+
+// Reads the tables, and of what is behind them the bytes of the volume that is sought.
+fn read_volume<R: Source>(alloc: Global, input: &mut R, sought: &Sought) -> Result<Held, Outcome>
+    requires { R.has_failed input.old ≡ false }
+    ensures held { IfOk result (λ held. IfSome (R.left input.old)
+        (λ all. HoldsVolume all held.tables.items held.place held.behind.bytes.items held.behind.len)) }
+    ensures place { IfOk result (λ held. IsSoughtPlace held.tables.items sought.now held.place) }
+    ensures within { IfOk result (λ held. end_of held.place ≤ MOST_DISK_BLOCKS) }
+    ensures at_most { TakesAtMost (MOST_DISK_BYTES + 1) (R.left input.old) (R.left input.new) }
+    ensures works { OnOk result (R.has_failed input.new ≡ false) }
+    ensures unread { IfErr result LacksInput }
+    ensures failed { IfErr result (λ w. R.has_failed input.new ≡ is_read_fault w) }
+    ensures written { IfErr result (λ w. is_write_fault w ≡ false) }
+{
+    let tables = match read_first(alloc, input, TABLES_LEN) {
+        Ok(tables) => tables,
+        Err(fault) => return Err(Outcome::after_reading(fault)),
+    };
+    let Ok(place) = sought_place(alloc, &tables, sought) else {
+        return Err(Outcome::NoMemory);
+    };
+    let first = place.first as usize * 512;
+    let from = first.saturating_sub(TABLES_LEN);
+    let to = (first + place.blocks as usize * 512).saturating_sub(TABLES_LEN);
+    match read_part(alloc, input, from, to, MOST_DISK_BYTES - TABLES_LEN) {
+        Ok(behind) => Ok(Held {
+            tables,
+            place,
+            behind,
+        }),
+        Err(fault) => Err(Outcome::after_reading(fault)),
+    }
+}
+
+// Writes a volume of two parts, or says why a partition has none.
+fn write_held<W: Sink>(
+    alloc: Global,
+    front: &[u8],
+    behind: &[u8],
+    found: Option<&Partition>,
+    output: &mut W,
+) -> Outcome
+    requires { W.has_failed output.old ≡ false }
+    ensures ends { EndsBy (λ reply. reply ≡ held_reply (front.now ++ behind.now) (option_copied found.entry)) result
+        (W.held output.old) (W.held output.new) }
+    ensures read { is_read_fault result ≡ false }
+    ensures written { W.has_failed output.new ≡ is_write_fault result }
+{
+    let Some(partition) = found else {
+        return refuse(alloc, "no such partition");
+    };
+    match partition.place {
+        Ok(_) => write_parts(output, front, behind),
+        Err(fault) => refuse(alloc, fault.text()),
+    }
+}
+
+// Writes the volume that is sought, or says why there is none.
+fn copy_held<W: Sink>(alloc: Global, held: &Held, sought: &Sought, output: &mut W) -> Outcome
+    requires works { W.has_failed output.old ≡ false }
+    requires within { end_of held.now.place ≤ MOST_DISK_BLOCKS }
+    ensures ends { (all : List ℕ) (w : WantedValue)
+        → HoldsVolume all held.now.tables.items held.now.place held.now.behind.bytes.items held.now.behind.len
+        → IsSoughtPlace held.now.tables.items sought.now held.now.place → Means sought.now w
+        → EndsBy (DiskAnswer (volume w) all) result (W.held output.old) (W.held output.new) }
+    ensures read { is_read_fault result ≡ false }
+    ensures written { W.has_failed output.new ≡ is_write_fault result }
+{
+    let blocks = blocks_of(held.tables.len().saturating_add(held.behind.len));
+    let tables = held.tables.as_slice();
+    match Disk::open(alloc, tables, blocks) {
+        Ok(disk) => {
+            let front = volume_at(tables, held.place);
+            let behind = held.behind.bytes.as_slice();
+            write_held(
+                alloc,
+                front,
+                behind,
+                partition_sought(&disk, sought),
+                output,
+            )
+        }
+        Err(fault) => match fault.cause {
+            DiskCause::NoMemory => Outcome::NoMemory,
+            _ => write_fault(alloc, tables, blocks, false, fault, output),
+        },
+    }
+}
+
+/// Writes the volume that is sought.
+pub fn copy_input<R: Source, W: Sink>(
+    alloc: Global,
+    input: &mut R,
+    sought: &Sought,
+    output: &mut W,
+) -> Outcome
+    requires reads { R.has_failed input.old ≡ false }
+    requires writes { W.has_failed output.old ≡ false }
+    ensures ends { (w : WantedValue) → Means sought.now w → IfSome (R.left input.old) (λ all.
+        EndsBy (DiskAnswer (volume w) all) result (W.held output.old) (W.held output.new)) }
+    ensures read { R.has_failed input.new ≡ is_read_fault result }
+    ensures written { W.has_failed output.new ≡ is_write_fault result }
+    ensures unwritten { is_read_fault result ≡ true → output.new ≡ output.old }
+    ensures at_most { TakesAtMost (MOST_DISK_BYTES + 1) (R.left input.old) (R.left input.new) }
+{
+    match read_volume(alloc, input, sought) {
+        Ok(held) => copy_held(alloc, &held, sought, output),
+        Err(outcome) => outcome,
+    }
+}
