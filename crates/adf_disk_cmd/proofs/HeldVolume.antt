@@ -1,10 +1,10 @@
 -- What is told of a disk of which the blocks that may have tables and the bytes of one volume are held.
--- Letters: as in proofs/HeldTables; q is the place of the volume, a its first byte and z the one behind it, t how many bytes may have tables.
+-- Letters: as in proofs/HeldTables; tables are the first t bytes of all, q is the place of the volume, f its first byte and b how many it has.
 use Rattle.std.proofs.Common.{◌≡◌, ◌≤◌, ◌+◌, ◌-◌, ◌*◌, ◌/◌, ◌∙◌, ◌++◌, [], ℕ, List, Option, None, Some, Result, Ok, Err, IfOk, IfSome, inl, inr}
 use Rattle.std.proofs.Common.{ap, append-nil, arith, drop, false, length, length-drop, length-take, min, refl, subst, sym, take}
+use Rattle.std.proofs.Math.ListN.{drop_of_length-le}
 use Rattle.std.proofs.Math.Seq.{take-add}
 use Rattle.std.proofs.lemmas.Bool.{cases_lt}
-use Rattle.std.proofs.Math.ListN.{drop_of_length-le}
 use Rattle.std.proofs.lemmas.List.{drop-drop, drop-take, take-take, take_all}
 use Rattle.std.specs.Option.{SomeIff, unwrap_or}
 use Rattle.std.specs.Prelude.{find}
@@ -94,7 +94,7 @@ pub none_sought : (bytes : List ℕ) (m : ℕ) (sought : Sought) (q : Place) →
 none_sought bytes m sought q none =
     λ n t ps w found few disk means wanted. absurd (none t (is_disk_too bytes n m t ps disk).0 (is_disk_too bytes n m t ps disk).1)
 
--- so many items from one on are those before place t and those behind it
+-- the first b items are those of the first c, and then the others
 two_parts : (b c : ℕ) (ys : List ℕ) → take b ys ≡ take b (take c ys) ++ take (b - c) (drop c ys)
 two_parts b c ys = elim (cases_lt c b) [
   | inl more ↦
@@ -123,6 +123,7 @@ drop_late f t xs =
     let same : f + (t - f) ≡ t + (f - t) = omega arith in
     drop-drop (t - f) f xs ∙ ap (λ (k : ℕ). drop k xs) same ∙ sym (drop-drop (f - t) t xs)
 
+-- so many items from one on are those before place t and those behind it
 parts : (f b t : ℕ) (xs : List ℕ)
     → take b (drop f xs) ≡ take b (drop f (take t xs)) ++ take ((f + b - t) - (f - t)) (drop (f - t) (drop t xs))
 parts f b t xs =

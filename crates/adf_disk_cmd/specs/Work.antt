@@ -1,19 +1,19 @@
 -- What is done with a disk.
 use Rattle.std.specs.Prelude.{◌≡◌, ◌≤◌, ◌+◌, ◌-◌, ◌*◌, ℕ, Bool, true, false, List, Option, None, Some, Result, Ok, Err, IfOk, IfSome, codes, drop, take}
-use Rattle.adf_partitions.specs.FaultTexts.{disk_fault_text, place_fault_text}
-use Rattle.adf_partitions.specs.declared.fault.DiskFault.{DiskFault}
-use Rattle.adf_runs.specs.Commands.{Reply, on_output}
-use Rattle.adf_tree.specs.Escapes.{IsSpelling}
-use Rattle.adf_words.specs.DiskLine.{DiskRequestValue, WantedValue, check, list, name, number, survey, volume}
-use Rattle.adf_disk_cmd.specs.Answers.{IsNoName, IsWanted, TellsReadable, fault_line}
-use Rattle.adf_disk_cmd.specs.Builds.{refusal}
 use Rattle.adf_partitions.specs.Disks.{IsDisk}
+use Rattle.adf_partitions.specs.FaultTexts.{disk_fault_text, place_fault_text}
 use Rattle.adf_partitions.specs.Places.{end_of}
+use Rattle.adf_partitions.specs.declared.fault.DiskFault.{DiskFault}
 use Rattle.adf_partitions.specs.declared.partition.Partition.{Partition}
 use Rattle.adf_partitions.specs.declared.place.Place.{Place}
 use Rattle.adf_partitions.specs.declared.place.PlaceFault.{PlaceFault}
 use Rattle.adf_partitions.specs.declared.tables.Tables.{Tables}
+use Rattle.adf_runs.specs.Commands.{Reply, on_output}
 use Rattle.adf_runs.specs.Streams.{IsPart}
+use Rattle.adf_tree.specs.Escapes.{IsSpelling}
+use Rattle.adf_words.specs.DiskLine.{DiskRequestValue, WantedValue, check, list, name, number, survey, volume}
+use Rattle.adf_disk_cmd.specs.Answers.{IsNoName, IsWanted, TellsReadable, fault_line}
+use Rattle.adf_disk_cmd.specs.Builds.{refusal}
 use Rattle.adf_disk_cmd.specs.declared.copy_input.TheConstants.{MOST_DISK_BLOCKS}
 use Rattle.adf_disk_cmd.specs.declared.list_input.TheConstants.{TABLES_LEN}
 use Rattle.adf_disk_cmd.specs.declared.work.TheConstants.{MOST_DISK_BYTES}
