@@ -1,8 +1,8 @@
 -- What a disk says of its partitions whatever its number of blocks.
 -- Letters: as in specs/Disks; n and m two numbers of blocks, ps and p partitions with n, qs and q with m.
-use Rattle.std.proofs.Common.{◌≡◌, ◌≤◌, ◌∙◌, ℕ, zero, suc, List, [], ◌∷◌, ◌++◌, length, refl, sym, ap, subst, arith}
-use Rattle.std.proofs.Common.{Bool, true, false, Option, None, Some, Ok, Err}
-use Rattle.std.specs.Prelude.{◌==◌, ◌&&◌, ◌-◌, cond, find, if◌then◌else◌, nat_le, nat_lt, not, IfOk, IfSome, slice_get, ⊤}
+use Rattle.std.proofs.Common.{◌≡◌, ◌∙◌, ℕ, zero, suc, List, [], ◌∷◌, ◌++◌, length, refl, sym, ap, subst}
+use Rattle.std.proofs.Common.{Bool, true, false, Option, None, Some}
+use Rattle.std.specs.Prelude.{◌==◌, ◌-◌, cond, find, if◌then◌else◌, nat_le, nat_lt, not, IfOk, slice_get, ⊤}
 use Rattle.std.specs.List.{list_any}
 use Rattle.adf_base.specs.Words.{block, word}
 use Rattle.adf_partitions.specs.declared.fault.DiskCause.TheVariants.{OutOfRange, Repeated, NotPartition, BadSum, TooMany}

@@ -1,9 +1,9 @@
 -- The blocks that may have tables are all that is read of a disk.
 -- Letters: as in specs/Searches; A, B two disks that agree in these blocks.
-use Rattle.std.proofs.Common.{◌≡◌, ◌<◌, ◌≤◌, ◌+◌, ◌*◌, ◌⊎◌, inl, inr, ℕ, zero, suc, List}
-use Rattle.std.proofs.Common.{◌++◌, [], ◌∷◌, length, take, drop, refl, sym, ap, ap₂, subst, ◌∙◌, arith}
+use Rattle.std.proofs.Common.{◌≡◌, ◌<◌, ◌≤◌, ◌+◌, ◌*◌, inl, inr, ℕ, zero, suc, List}
+use Rattle.std.proofs.Common.{◌++◌, [], ◌∷◌, length, take, drop, refl, sym, ap, subst, ◌∙◌, arith}
 use Rattle.std.proofs.Common.{Bool, true, false}
-use Rattle.std.specs.Prelude.{◌&&◌, ◌==◌, ◌≢◌, if◌then◌else◌, not, nat_lt, min, ◌↔◌}
+use Rattle.std.specs.Prelude.{◌&&◌, if◌then◌else◌, not, nat_lt, min, ◌↔◌}
 use Rattle.std.specs.List.{list_any}
 use Rattle.std.proofs.lemmas.Bool.{cases_lt}
 use Rattle.std.proofs.lemmas.List.{take-append-drop, take_all, length-take-le}
@@ -12,12 +12,12 @@ use Rattle.adf_partitions.specs.declared.fault.DiskFault.{DiskFault}
 use Rattle.adf_partitions.specs.declared.layout.TheConstants.{BLOCK_BYTES, MOST_PARTITIONS, MOST_TABLES, RDSK_BLOCKS}
 use Rattle.adf_partitions.specs.declared.partition.Partition.{Partition}
 use Rattle.adf_partitions.specs.declared.tables.Tables.{Tables}
-use Rattle.adf_partitions.specs.Disks.{FirstFault, IsCut, IsDisk, is_at}
+use Rattle.adf_partitions.specs.Disks.{FirstFault, IsDisk, is_at}
 use Rattle.adf_partitions.specs.Disks.FirstFault.{at_list, at_tables}
 use Rattle.adf_partitions.specs.Partitions.{partition_of}
-use Rattle.adf_partitions.specs.Searches.{AreReadable, bare_partitions, is_lost, is_part, kept_up_to, with_all_lost, with_lost}
+use Rattle.adf_partitions.specs.Searches.{AreReadable, is_part, kept_up_to, with_all_lost, with_lost}
 use Rattle.adf_partitions.specs.Searches.AreReadable.{whole, cut, bare, other}
-use Rattle.adf_partitions.specs.Tables.{IsTables, is_table}
+use Rattle.adf_partitions.specs.Tables.{is_table}
 use Rattle.adf_partitions.proofs.TablesEnough.{StartAgrees, TablesAgree, same_cut, same_lack, same_list_fault, same_rdsk}
 use Rattle.adf_partitions.proofs.TablesEnough.{same_tables, same_whole, start_agrees, start_back, tables_agree, tables_back}
 

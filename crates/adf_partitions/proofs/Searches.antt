@@ -1,10 +1,15 @@
 -- The search for lost partition blocks, one block after the other. ps are the partitions before it, `found` those after k blocks.
-use Rattle.std.proofs.Common.{◌≡◌, ◌+◌, ◌++◌, ◌∷◌, [], ◌∙◌, ℕ, suc, List, Bool, true, false, ap, arith, refl, sym}
+use Rattle.std.proofs.Common.{◌≡◌, ◌≢◌, ◌≤◌, ◌<◌, ◌+◌, ◌++◌, ◌∷◌, [], ◌∙◌, ℕ, zero, suc, List, Bool, true, false, ap, arith, inl, inr, length, refl, subst, sym}
+use Rattle.std.proofs.lemmas.Bool.{cases_lt}
+use Rattle.std.proofs.lemmas.List.{length_push}
 use Rattle.std.specs.Prelude.{if◌then◌else◌}
 use Rattle.adf_partitions.specs.Disks.{partition_at}
 use Rattle.adf_partitions.specs.Searches.{is_lost, with_all_lost, with_lost}
 use Rattle.adf_partitions.specs.declared.partition.Partition.{Partition}
 use Rattle.adf_partitions.specs.declared.tables.Tables.{Tables}
+
+pub pushed : (found : List Partition) (p : Partition) → found ++ p ∷ [] ≢ []
+pushed found p e = absurd (omega (arith, ap length e, length_push found p))
 
 module _ (bytes : List ℕ) (n : ℕ) (t kept : Tables) (ps : List Partition) where
   pub none_searched : ps ≡ with_all_lost bytes n t kept ps 0
@@ -28,3 +33,29 @@ module _ (bytes : List ℕ) (n : ℕ) (t kept : Tables) (ps : List Partition) wh
   put_none k found h e =
       sym (one_searched k ∙ ap (λ (f : List Partition). with_lost bytes n t kept f k) (sym h)
       ∙ ap (λ (x : Bool). if x then found ++ partition_at bytes n t found k ∷ [] else found) e)
+
+  some_kept : (found : List Partition) (k : ℕ) (lost : Bool) → found ≢ []
+      → (if lost then found ++ partition_at bytes n t found k ∷ [] else found) ≢ []
+  some_kept found k true some = pushed found (partition_at bytes n t found k)
+  some_kept found k false some = some
+
+  -- what is put stays
+  some_later : (k m : ℕ) → k ≤ m → with_all_lost bytes n t kept ps k ≢ [] → with_all_lost bytes n t kept ps m ≢ []
+  unfolding with_all_lost
+  some_later k zero le some = let e : k ≡ 0 = omega arith in subst (λ i. with_all_lost bytes n t kept ps i ≢ []) e some
+  some_later k (suc m) le some = elim (cases_lt m k) [
+    | inl lt ↦ let e : k ≡ suc m = omega arith in subst (λ i. with_all_lost bytes n t kept ps i ≢ []) e some
+    | inr ge ↦
+        let found = with_all_lost bytes n t kept ps m in
+        some_kept found m (is_lost bytes kept found m) (some_later k m ge some)
+  ]
+
+  -- so does what was found before
+  pub some_before : (m : ℕ) → ps ≢ [] → with_all_lost bytes n t kept ps m ≢ []
+  some_before m some = some_later 0 m (omega arith) (subst (λ (qs : List Partition). qs ≢ []) none_searched some)
+
+  -- and a lost block is put
+  pub some_lost : (k m : ℕ) (found : List Partition) → found ≡ with_all_lost bytes n t kept ps k → is_lost bytes kept found k ≡ true → k < m
+      → with_all_lost bytes n t kept ps m ≢ []
+  some_lost k m found h e lt =
+      some_later (k + 1) m (omega arith) (subst (λ (qs : List Partition). qs ≢ []) (put_lost k found h e) (pushed found (partition_at bytes n t found k)))

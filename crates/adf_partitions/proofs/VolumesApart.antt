@@ -31,11 +31,11 @@ first_held true x rest h = (refl, h)
 first_held false x rest h = absurd cc
 
 -- a test is one of a list
-abbrev In : {C : Type 0} → List (Bool × C) → (Bool × C) → Type 0
+abbrev pub In : {C : Type 0} → List (Bool × C) → (Bool × C) → Type 0
 In [] y = ⊥
 In (x ∷ xs) y = (x ≡ y) ⊎ In xs y
 
-each_held : {C : Type 0} (xs : List (Bool × C)) → first_failed xs ≡ None → (y : Bool × C) → In xs y → y.0 ≡ true
+pub each_held : {C : Type 0} (xs : List (Bool × C)) → first_failed xs ≡ None → (y : Bool × C) → In xs y → y.0 ≡ true
 each_held [] h y i = absurd i
 each_held (x ∷ xs) h y (inl e) = ap (λ z. z.0) (sym e) ∙ (first_held x.0 x.1 xs h).0
 each_held (x ∷ xs) h y (inr i) = each_held xs (first_held x.0 x.1 xs h).1 y i

@@ -38,6 +38,10 @@ pub data IsFound (bytes : List ℕ) (n : ℕ) (t : Tables) : List Partition → 
   step : {ps : List Partition} {a b : ℕ} → IsFound bytes n t ps a b → b ≢ NO_BLOCK → first_failed (part_form bytes t ps a b) ≡ None
       → IsFound bytes n t (ps ++ partition_at bytes n t ps b ∷ []) b (word (block bytes b) NEXT_PART)
 
+-- the rigid disk block names a block, and that passes its tests as the first partition block
+abbrev pub NamesPartition : List ℕ → Tables → Type 0
+NamesPartition bytes t = (t.first ≢ NO_BLOCK) × (first_failed (part_form bytes t [] t.rdsk t.first) ≡ None)
+
 -- these are all partitions of the list: its last block names none
 abbrev pub IsWhole : List ℕ → ℕ → Tables → List Partition → Type 0
 IsWhole bytes n t ps = (last : ℕ) × IsFound bytes n t ps last NO_BLOCK

@@ -45,3 +45,7 @@ pub data AreReadable (bytes : List ℕ) (n : ℕ) : List Partition → Type 0 wh
       → AreReadable bytes n (with_all_lost bytes n t t ps MOST_TABLES)
   bare : HasNoRdsk bytes → AreReadable bytes n (bare_partitions bytes n)
   other : {b : ℕ} → IsRdsk bytes b → word (block bytes b) BLOCK_BYTES ≢ 512 → AreReadable bytes n []
+
+-- there is a partition that can be read
+abbrev pub HasReadable : List ℕ → ℕ → Type 0
+HasReadable bytes n = (ps : List Partition) × AreReadable bytes n ps × (ps ≢ [])

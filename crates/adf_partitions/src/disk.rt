@@ -1,7 +1,7 @@
 // A whole hard disk.
 
 ghost use Rattle.std.specs.Prelude.{◌≡◌, ◌≢◌, List, IfErr, IfOk, find, option_copied};
-ghost use Rattle.adf_partitions.specs.Disks.{FirstFault, IsDisk};
+ghost use Rattle.adf_partitions.specs.Disks.{FirstFault, IsDisk, NamesPartition};
 ghost use Rattle.adf_partitions.specs.Partitions.{is_named, partition_numbered};
 ghost use Rattle.adf_partitions.specs.Tables.{IsTables};
 ghost use Rattle.adf_partitions.specs.declared.fault.DiskCause.{DiskCause};
@@ -30,7 +30,7 @@ impl Disk {
     ///
     /// The first fault: `NoRigidDisk`; `BlockSize`; then of each block that the list names, `OutOfRange`, `Repeated`,
     /// `NotPartition`, `BadSum` or `TooMany`. What is wrong with one partition alone is its `place`. `NoMemory` if an
-    /// allocation fails.
+    /// allocation fails, which can happen only if the tables name a partition.
     pub fn open(alloc: Global, bytes: &[u8], blocks: u64) -> Result<Disk, DiskFault>
         ensures disk { IfOk result (λ d. IsDisk bytes.now blocks d.tables d.partitions.items) }
 
@@ -42,8 +42,9 @@ impl Disk {
             → IsDisk bytes.now blocks t ps → ⊥) }
         ensures memory { IfErr result (λ f. f.cause ≡ DiskCause.NoMemory → f.block ≡ 0) }
 
-        // Memory is wanted only for a disk with tables.
-        ensures begun { IfErr result (λ f. f.cause ≡ DiskCause.NoMemory → (t : Tables) × IsTables bytes.now t) }
+        // Memory is wanted only for a disk whose tables name a partition.
+        ensures begun { IfErr result (λ f. f.cause ≡ DiskCause.NoMemory
+            → (t : Tables) × IsTables bytes.now t × NamesPartition bytes.now t) }
     {
         let tables = read_tables(bytes)?;
         let Ok(Followed { partitions, fault }) = follow_list(alloc, bytes, tables, blocks) else {

@@ -1,9 +1,9 @@
 // The list of partition blocks.
 
-ghost use Rattle.std.specs.Prelude.{◌≡◌, Some, None, ◌<◌, length, IfOk, OnOk, MatchResult};
+ghost use Rattle.std.specs.Prelude.{◌≡◌, Some, None, ◌<◌, length, IfOk, OnErr, OnOk, MatchResult};
 ghost use Rattle.std.specs.List.{list_any};
 ghost use Rattle.adf_base.specs.Words.{block};
-ghost use Rattle.adf_partitions.specs.Disks.{IsFollowed, is_at, part_form};
+ghost use Rattle.adf_partitions.specs.Disks.{IsFollowed, NamesPartition, is_at, part_form};
 ghost use Rattle.adf_partitions.specs.Faults.{first_failed};
 
 use crate::fault::{DiskCause, DiskFault, disk_fault};
@@ -68,7 +68,8 @@ pub fn follow_list(
     tables: Tables,
     blocks: u64,
 ) -> Result<Followed, AllocError>
-    ensures { IfOk result (λ l. IsFollowed bytes.now blocks tables l.partitions.items l.fault) }
+    ensures followed { IfOk result (λ l. IsFollowed bytes.now blocks tables l.partitions.items l.fault) }
+    ensures begun { OnErr result (NamesPartition bytes.now tables) }
 {
     let mut found = Vec::new(alloc);
     let mut holder = tables.rdsk;

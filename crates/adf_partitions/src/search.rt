@@ -1,7 +1,8 @@
 // The partitions that can be read where the tables of a disk have a fault.
 
-ghost use Rattle.std.specs.Prelude.{◌≡◌, IfOk};
-ghost use Rattle.adf_partitions.specs.Searches.{AreReadable, bare_partitions, is_lost, is_part, kept_up_to, with_all_lost};
+ghost use Rattle.std.specs.Prelude.{◌≡◌, ◌≢◌, [], IfOk, OnErr};
+ghost use Rattle.adf_partitions.specs.Searches.{AreReadable, HasReadable, bare_partitions, is_lost, is_part};
+ghost use Rattle.adf_partitions.specs.Searches.{kept_up_to, with_all_lost};
 ghost use Rattle.adf_partitions.specs.Tables.{IsTables};
 ghost use Rattle.adf_partitions.specs.declared.layout.TheConstants.{MOST_TABLES};
 
@@ -39,8 +40,10 @@ fn with_all_lost(
     kept: Tables,
     partitions: Vec<Partition>,
 ) -> Result<Vec<Partition>, AllocError>
-    ensures { IfOk result (λ v. v.items
+    ensures all { IfOk result (λ v. v.items
         ≡ with_all_lost bytes.now blocks tables kept partitions.items MOST_TABLES) }
+    ensures begun { OnErr result (
+        with_all_lost bytes.now blocks tables kept partitions.items MOST_TABLES ≢ []) }
 {
     let mut found = partitions;
     for b in 0..MOST_TABLES {
@@ -67,7 +70,8 @@ fn kept_up_to(highest: u32) -> Tables
 
 // The partitions of lost blocks of a disk without a rigid disk block.
 fn bare_partitions(alloc: Global, bytes: &[u8], blocks: u64) -> Result<Vec<Partition>, AllocError>
-    ensures { IfOk result (λ v. v.items ≡ bare_partitions bytes.now blocks) }
+    ensures all { IfOk result (λ v. v.items ≡ bare_partitions bytes.now blocks) }
+    ensures begun { OnErr result (bare_partitions bytes.now blocks ≢ []) }
 {
     let kept = kept_up_to(RDSK_BLOCKS - 1);
     with_all_lost(bytes, blocks, kept_up_to(0), kept, Vec::new(alloc))
@@ -81,7 +85,8 @@ fn readable_by(
     blocks: u64,
 ) -> Result<Vec<Partition>, AllocError>
     requires { IsTables bytes.now tables }
-    ensures { IfOk result (λ v. AreReadable bytes.now blocks v.items) }
+    ensures readable { IfOk result (λ v. AreReadable bytes.now blocks v.items) }
+    ensures begun { OnErr result (HasReadable bytes.now blocks) }
 {
     let list = follow_list(alloc, bytes, tables, blocks)?;
     match list.fault {
@@ -92,15 +97,18 @@ fn readable_by(
 
 /// The partitions that can be read of a disk of so many blocks of 512 bytes, from its first bytes (as of `Disk::open`): all of
 /// its list; where the list has a fault, those before it, and those of each partition block with a sound sum among the blocks
-/// kept for the tables that the list does not come to, in the order of the blocks, 1,024 in all at most. Of a disk without a rigid
-/// disk block the blocks 0 to 15 are searched, and only block 0 counts as kept. If its blocks have another size than 512 bytes
-/// there are none. `AllocError` if an allocation fails.
+/// kept for the tables that the list does not come to, in the order of the blocks, 1,024 in all at most. Of a disk without a
+/// rigid disk block the blocks 0 to 15 are searched, and only block 0 counts as kept. If its blocks have another size than 512
+/// bytes there are none. `AllocError` if an allocation fails, which can happen only if a partition can be read.
 pub fn readable_partitions(
     alloc: Global,
     bytes: &[u8],
     blocks: u64,
 ) -> Result<Vec<Partition>, AllocError>
-    ensures { IfOk result (λ v. AreReadable bytes.now blocks v.items) }
+    ensures readable { IfOk result (λ v. AreReadable bytes.now blocks v.items) }
+
+    // Memory is wanted only if there is a partition that can be read.
+    ensures begun { OnErr result (HasReadable bytes.now blocks) }
 {
     match read_tables(bytes) {
         Ok(tables) => readable_by(alloc, bytes, tables, blocks),

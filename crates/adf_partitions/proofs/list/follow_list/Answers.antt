@@ -4,6 +4,8 @@ use Rattle.adf_partitions.specs.Disks.{IsFound}
 use Rattle.adf_partitions.specs.Disks.IsFound.{start}
 use Rattle.adf_partitions.specs.Partitions.{partition_of}
 use Rattle.adf_partitions.proofs.FoundSteps.{one_more}
+use Rattle.adf_partitions.proofs.NamedPartitions.{names_one}
+use Rattle.adf_partitions.proofs.TextLines.{on_err}
 use Rattle.adf_partitions.proofs.list.follow_list.Goals as goal
 
 pub loop-next-init : goal.loop-next-init
@@ -24,3 +26,7 @@ loop-next-preserved c =
     let more : c.push.new.self.items ≡ found ++ c.partition_of-partition.result ∷ [] = search rules in
     let is : c.partition_of-partition.result ≡ partition_of c.args.blocks c.args.tables found c.loop-next.next c.in-Ok.part = search rules in
     one_more c.loop-next.invariant c.loop-next-test.true (search rules) (search rules) is more c.word-next.ensures
+
+pub returns-in_err-push-clause-begun : goal.returns-in_err-push-clause-begun
+returns-in_err-push-clause-begun c =
+    on_err c.from_residual.result (names_one c.args.bytes.now c.args.blocks c.args.tables c.loop-next.invariant c.loop-next-test.true (search rules))
