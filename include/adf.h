@@ -335,7 +335,8 @@ struct adf_disk {
  *    whatever the room. The rest of the room is unchanged.
  *    That what follows the tables changes nothing is proved of the fault and of all partitions without one. Of those that can be
  *    read nevertheless it is so by design, not proved.
- * ADF_NO_MEMORY: an allocation failed. All fields of the disk are 0, and the table is unchanged.
+ * ADF_NO_MEMORY: an allocation failed, which can happen only if there is a partition that can be read. All fields of the disk are
+ *    0, and the table is unchanged.
  */
 uint8_t adf_disk_index(const uint8_t *bytes, size_t length, uint64_t blocks, struct adf_partition *partitions, size_t room,
                        struct adf_disk *disk);

@@ -5,7 +5,7 @@ ghost use Rattle.adf_memory.specs.DiskTables.{partition_table, told_of};
 ghost use Rattle.adf_memory.specs.Rooms.{filled};
 ghost use Rattle.adf_memory.specs.Verdicts.{WantsMemory};
 ghost use Rattle.adf_partitions.specs.Disks.{FirstFault, IsDisk};
-ghost use Rattle.adf_partitions.specs.Searches.{AreReadable};
+ghost use Rattle.adf_partitions.specs.Searches.{AreReadable, HasReadable};
 ghost use Rattle.adf_partitions.specs.declared.fault.DiskFault.{DiskFault};
 ghost use Rattle.adf_partitions.specs.declared.partition.Partition.{Partition};
 ghost use Rattle.adf_partitions.specs.declared.tables.Tables.{Tables};
@@ -15,7 +15,7 @@ use std::alloc::Global;
 
 /// Reads the partitions of a hard disk of so many blocks of 512 bytes, from its first bytes: at least the blocks 0 to 15 and those
 /// kept for its tables. Fills a table with those that can be read, as far as it has room, and tells the first fault of the tables.
-/// Returns 0, or the number of `NoMemory` if memory ran out.
+/// Returns 0, or the number of `NoMemory` if memory ran out, which can happen only if a partition can be read.
 #[unsafe(no_mangle)]
 pub extern "C" fn adf_disk_index(
     alloc: Global,
@@ -34,9 +34,10 @@ pub extern "C" fn adf_disk_index(
     ensures fault { result ≡ 0 → (ps : List Partition) (f : DiskFault) → AreReadable bytes.now blocks ps
         → FirstFault bytes.now blocks f → told.new ≡ told_of (length ps) (Some f) }
 
-    // If memory ran out, the table is unchanged.
+    // If memory ran out, the table is unchanged, and there is a partition that can be read.
     ensures unchanged { WantsMemory result
         → (partitions.new ≡ partitions.old) × (told.new ≡ told_of 0 None) }
+    ensures begun { WantsMemory result → HasReadable bytes.now blocks }
 {
     put_disk(alloc, bytes, blocks, partitions, told)
 }

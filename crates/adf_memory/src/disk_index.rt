@@ -1,11 +1,11 @@
 // The partitions of a hard disk in a table.
 
-ghost use Rattle.std.specs.Prelude.{◌≡◌, ◌⊎◌, List, None, Some, length, IfOk};
+ghost use Rattle.std.specs.Prelude.{◌≡◌, ◌⊎◌, List, None, Some, length, IfOk, OnErr};
 ghost use Rattle.adf_memory.specs.DiskTables.{IsRead, partition_table, told_of};
 ghost use Rattle.adf_memory.specs.Rooms.{filled};
 ghost use Rattle.adf_memory.specs.Verdicts.{WantsMemory};
 ghost use Rattle.adf_partitions.specs.Disks.{FirstFault, IsDisk};
-ghost use Rattle.adf_partitions.specs.Searches.{AreReadable};
+ghost use Rattle.adf_partitions.specs.Searches.{AreReadable, HasReadable};
 ghost use Rattle.adf_partitions.specs.declared.fault.DiskFault.{DiskFault};
 ghost use Rattle.adf_partitions.specs.declared.partition.Partition.{Partition};
 ghost use Rattle.adf_partitions.specs.declared.tables.Tables.{Tables};
@@ -24,7 +24,8 @@ struct ReadDisk {
 
 // Reads the partitions of a disk of so many blocks, whether its tables have a fault or not.
 fn read_disk(alloc: Global, bytes: &[u8], blocks: u64) -> Result<ReadDisk, AllocError>
-    ensures { IfOk result (λ d. IsRead bytes.now blocks d.partitions.items d.fault) }
+    ensures read { IfOk result (λ d. IsRead bytes.now blocks d.partitions.items d.fault) }
+    ensures begun { OnErr result (HasReadable bytes.now blocks) }
 {
     match Disk::open(alloc, bytes, blocks) {
         Ok(disk) => Ok(ReadDisk {
@@ -43,7 +44,7 @@ fn read_disk(alloc: Global, bytes: &[u8], blocks: u64) -> Result<ReadDisk, Alloc
 
 /// Reads the partitions of a hard disk of so many blocks of 512 bytes, from its first bytes: at least the blocks 0 to 15 and those
 /// kept for its tables. Fills a table with those that can be read, as far as it has room, and tells the first fault of the tables.
-/// Returns 0, or the number of `NoMemory` if memory ran out.
+/// Returns 0, or the number of `NoMemory` if memory ran out, which can happen only if a partition can be read.
 pub fn put_disk(
     alloc: Global,
     bytes: &[u8],
@@ -61,9 +62,10 @@ pub fn put_disk(
     ensures fault { result ≡ 0 → (ps : List Partition) (f : DiskFault) → AreReadable bytes.now blocks ps
         → FirstFault bytes.now blocks f → told.new ≡ told_of (length ps) (Some f) }
 
-    // If memory ran out, the table is unchanged.
+    // If memory ran out, the table is unchanged, and there is a partition that can be read.
     ensures unchanged { WantsMemory result
         → (partitions.new ≡ partitions.old) × (told.new ≡ told_of 0 None) }
+    ensures begun { WantsMemory result → HasReadable bytes.now blocks }
 {
     match read_disk(alloc, bytes, blocks) {
         Ok(disk) => {

@@ -6,17 +6,17 @@ use Rattle.adf_memory.proofs.disk_index.put_disk.Goals as goal
 
 pub returns-in-Ok-clause-partitions : goal.returns-in-Ok-clause-partitions
 returns-in-Ok-clause-partitions c = λ zero ps readable.
-    let same = same_partitions c.args.bytes.now c.args.blocks _ ps _ c.in-Ok.ensures readable in
+    let same = same_partitions c.args.bytes.now c.args.blocks _ ps _ c.in-Ok.ensures.read readable in
     c.put_partitions.ensures ∙ ap (λ ps. filled (partition_table ps) c.args.partitions.now) (c.deref.ensures.value ∙ same)
 
 pub returns-in-Ok-clause-whole : goal.returns-in-Ok-clause-whole
 returns-in-Ok-clause-whole c = λ zero t ps disk.
     let count : c.len.result ≡ length c.in-Ok.disk.partitions.items = omega (arith, c.len.ensures) in
     c.told_of.ensures ∙ ap (λ k. told_of k c.in-Ok.disk.fault) count
-    ∙ told_whole c.args.bytes.now c.args.blocks _ ps _ t c.in-Ok.ensures disk
+    ∙ told_whole c.args.bytes.now c.args.blocks _ ps _ t c.in-Ok.ensures.read disk
 
 pub returns-in-Ok-clause-fault : goal.returns-in-Ok-clause-fault
 returns-in-Ok-clause-fault c = λ zero ps f readable first.
     let count : c.len.result ≡ length c.in-Ok.disk.partitions.items = omega (arith, c.len.ensures) in
     c.told_of.ensures ∙ ap (λ k. told_of k c.in-Ok.disk.fault) count
-    ∙ told_fault c.args.bytes.now c.args.blocks _ ps _ f c.in-Ok.ensures readable first
+    ∙ told_fault c.args.bytes.now c.args.blocks _ ps _ f c.in-Ok.ensures.read readable first
