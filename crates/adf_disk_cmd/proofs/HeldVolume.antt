@@ -134,7 +134,7 @@ parts f b t xs =
     ∙ ap (λ (k : ℕ). take b (drop f (take t xs)) ++ take k (drop (f - t) (drop t xs))) count
 
 -- what is past the largest disk is no part of a place
-whole_place : (f b m : ℕ) (xs : List ℕ) → f + b ≤ m → take b (drop f (take m xs)) ≡ take b (drop f xs)
+pub whole_place : (f b m : ℕ) (xs : List ℕ) → f + b ≤ m → take b (drop f (take m xs)) ≡ take b (drop f xs)
 whole_place f b m xs h = ap (take b) (drop_cut f m xs) ∙ take-take b (m - f) (drop f xs) (omega (arith, h))
 
 module _ (all tables behind : List ℕ) (q : Place) (len : ℕ) (within : end_of q ≤ MOST_DISK_BLOCKS) (held : HoldsVolume all tables q behind len) where

@@ -5,3 +5,5 @@ pub mod HeldTables
 pub mod NewVolumes
 pub mod BuiltDisks
 pub mod HeldVolume
+pub mod Stretches
+pub mod HeldChecks

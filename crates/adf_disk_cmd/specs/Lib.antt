@@ -6,3 +6,4 @@ pub mod Answers
 -- The words of the command, as its work keeps them.
 pub mod Work
 pub mod Jobs
+pub mod HeldChecks

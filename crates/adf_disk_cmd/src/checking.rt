@@ -1,9 +1,11 @@
 // The command `check`.
 
-ghost use Rattle.std.specs.Prelude.{◌≡◌, ◌++◌, false, string_bytes, IfOk, OnOk};
+ghost use Rattle.std.specs.Prelude.{◌≡◌, ◌++◌, All, List, ℕ, false, find, option_copied, string_bytes, IfOk, OnOk};
+ghost use Rattle.adf_cmd.specs.CheckAnswers.{IsCheckAnswer};
 ghost use Rattle.adf_disk_cmd.specs.Answers.{ChecksAll};
 ghost use Rattle.adf_disk_cmd.specs.Checks.{AreChecked, Tells};
-ghost use Rattle.adf_disk_cmd.specs.Lines.{name_text};
+ghost use Rattle.adf_disk_cmd.specs.HeldChecks.{IsAnswered, IsKnown, KnowsVolume, KnowsVolumes, lies_at};
+ghost use Rattle.adf_disk_cmd.specs.Lines.{name_text, volume_at};
 ghost use Rattle.adf_runs.specs.Outcomes.{EndsBy, is_read_fault, is_write_fault};
 
 use crate::answering::write_text;
@@ -11,7 +13,7 @@ use crate::listing::push_name;
 use crate::types::{bytes_text, is_checked};
 use crate::volumes::volume_at;
 use adf_cmd::{CheckAnswer, answer_to_image};
-use adf_partitions::Partition;
+use adf_partitions::{Partition, Place};
 use adf_runs::{Outcome, Sink};
 use std::alloc::{AllocError, Global};
 
@@ -22,17 +24,58 @@ struct Checks {
     text: Vec<u8>,
 }
 
+/// A volume that was checked.
+#[derive(Drop)]
+pub struct CheckedVolume {
+    pub place: Place,
+    pub answer: CheckAnswer,
+}
+
+// The volume at a place, if it was checked.
+fn volume_checked(checked: &[CheckedVolume], place: Place) -> Option<&CheckedVolume>
+    ensures { option_copied result ≡ find (lies_at place) checked.now }
+{
+    for volume in checked {
+        if volume.place == place {
+            return Some(volume);
+        }
+    }
+    None
+}
+
+// What `adf check` answers to the volume at a place, which was checked or is held.
+fn answer_to_volume(
+    alloc: Global,
+    bytes: &[u8],
+    checked: &[CheckedVolume],
+    place: Place,
+) -> Result<CheckAnswer, AllocError>
+    ensures { (all : List ℕ) → All (IsAnswered all) checked.now → IsKnown all bytes.now checked.now place
+        → IfOk result (IsCheckAnswer (volume_at all place)) }
+{
+    match volume_checked(checked, place) {
+        Some(volume) => {
+            let line = volume.answer.line.clone()?;
+            let sound = volume.answer.sound;
+            Ok(CheckAnswer { sound, line })
+        }
+        None => answer_to_image(alloc, volume_at(bytes, place)),
+    }
+}
+
 // What is told of a partition: of a volume as `adf check` tells it, else its type or what is wrong with its place.
 fn answer_to_partition(
     alloc: Global,
     bytes: &[u8],
+    checked: &[CheckedVolume],
     partition: &Partition,
 ) -> Result<CheckAnswer, AllocError>
-    ensures { IfOk result (λ a. Tells bytes.now partition.now a.sound (string_bytes a.line)) }
+    ensures { (all : List ℕ) → All (IsAnswered all) checked.now → KnowsVolume all bytes.now checked.now partition.now
+        → IfOk result (λ a. Tells all partition.now a.sound (string_bytes a.line)) }
 {
     let line = match partition.place {
         Ok(place) if is_checked(partition.dos_type) => {
-            return answer_to_image(alloc, volume_at(bytes, place));
+            return answer_to_volume(alloc, bytes, checked, place);
         }
         Ok(_) => {
             let kind = bytes_text(alloc, partition.dos_type)?;
@@ -60,34 +103,37 @@ fn push_line(
 fn check_partitions(
     alloc: Global,
     bytes: &[u8],
+    checked: &[CheckedVolume],
     partitions: &[Partition],
 ) -> Result<Checks, AllocError>
-    ensures { IfOk result (λ c. AreChecked bytes.now partitions.now c.sound c.text.items) }
+    ensures { (all : List ℕ) → KnowsVolumes all bytes.now checked.now partitions.now
+        → IfOk result (λ c. AreChecked all partitions.now c.sound c.text.items) }
 {
     let mut text = Vec::new(alloc);
     let mut sound = true;
     for partition in partitions {
-        let answer = answer_to_partition(alloc, bytes, partition)?;
+        let answer = answer_to_partition(alloc, bytes, checked, partition)?;
         push_line(&mut text, partition, &answer)?;
         sound = sound && answer.sound;
     }
     Ok(Checks { sound, text })
 }
 
-/// Writes the lines of all partitions.
+/// Writes the lines of all partitions of a disk, of which these bytes are held and these volumes were checked.
 pub fn write_checks<W: Sink>(
     alloc: Global,
     bytes: &[u8],
+    checked: &[CheckedVolume],
     partitions: &[Partition],
     output: &mut W,
 ) -> Outcome
     requires { W.has_failed output.old ≡ false }
-    ensures ends { EndsBy (ChecksAll bytes.now partitions.now) result
-        (W.held output.old) (W.held output.new) }
+    ensures ends { (all : List ℕ) → KnowsVolumes all bytes.now checked.now partitions.now
+        → EndsBy (ChecksAll all partitions.now) result (W.held output.old) (W.held output.new) }
     ensures read { is_read_fault result ≡ false }
     ensures written { W.has_failed output.new ≡ is_write_fault result }
 {
-    match check_partitions(alloc, bytes, partitions) {
+    match check_partitions(alloc, bytes, checked, partitions) {
         Ok(checks) => write_text(output, &checks.text, checks.sound),
         Err(_) => Outcome::NoMemory,
     }

@@ -4,6 +4,7 @@ ghost use Rattle.adf_disk_cmd.specs.Jobs.{Serves};
 ghost use Rattle.adf_words.specs.DiskLine.{disk_request_value};
 
 use crate::building::build_disk;
+use crate::check_input::check_input;
 use crate::copy_input::copy_input;
 use crate::list_input::list_input;
 use crate::work::{MOST_DISK_BYTES, Work, sought_for};
@@ -73,12 +74,11 @@ impl Program for Job {
             Job::Tell(Work::List) => list_input(alloc, input, false, output),
             Job::Tell(Work::Survey) => list_input(alloc, input, true, output),
             Job::Tell(Work::Volume(sought)) => copy_input(alloc, input, sought, output),
-            Job::Tell(Work::Check) | Job::Build => {
-                match read_input(alloc, input, MOST_DISK_BYTES) {
-                    Ok(bytes) => self.on(alloc, &bytes, output),
-                    Err(outcome) => outcome,
-                }
-            }
+            Job::Tell(Work::Check) => check_input(alloc, input, output),
+            Job::Build => match read_input(alloc, input, MOST_DISK_BYTES) {
+                Ok(bytes) => self.on(alloc, &bytes, output),
+                Err(outcome) => outcome,
+            },
         }
     }
 

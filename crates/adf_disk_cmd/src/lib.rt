@@ -3,6 +3,7 @@
 
 mod answering;
 mod building;
+mod check_input;
 mod checking;
 mod copy_input;
 mod job;

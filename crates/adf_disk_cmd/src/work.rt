@@ -97,7 +97,7 @@ impl Work {
     {
         match self {
             Work::List | Work::Survey => write_list(alloc, &disk.partitions, output),
-            Work::Check => write_checks(alloc, bytes, &disk.partitions, output),
+            Work::Check => write_checks(alloc, bytes, &[], &disk.partitions, output),
             Work::Volume(sought) => write_volume(
                 alloc,
                 bytes,

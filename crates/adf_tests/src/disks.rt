@@ -110,6 +110,31 @@ pub fn changed(b: u32, words: &[(usize, u32)]) -> Tables {
     tables
 }
 
+/// Tables with at most three partitions, in the blocks 1 to 3: the digit of the name, the lowest and the highest cylinder, and the
+/// type.
+pub fn tables_of(partitions: &[(u8, u32, u32, u32)]) -> Tables {
+    let mut tables = changed(0, &[(7, 1)]);
+    let mut block = 1;
+    for (digit, low, high, dos_type) in partitions {
+        if block < 4 {
+            let last = block as usize == partitions.len();
+            let next = if last { NONE } else { block + 1 };
+            let name = 0x0344_4830 + u32::from(*digit);
+            let words = [
+                (4, next),
+                (9, name),
+                (41, *low),
+                (42, *high),
+                (48, *dos_type),
+            ];
+            put(&mut tables, block, DH0);
+            put_summed(&mut tables, block, &words);
+            block += 1;
+        }
+    }
+    tables
+}
+
 /// Whether a partition has this block, name, flags, priority, type and place.
 pub fn is_partition(
     partition: Option<&Partition>,
