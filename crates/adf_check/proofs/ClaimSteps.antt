@@ -1,6 +1,6 @@
 -- One step of a check: the next role is claimed and kept, or refused as the first fault.
 use Rattle.adf_check.specs.Claims.{InRange, IsClaimFault}
-use Rattle.std.proofs.Common.{◌≡◌, ℕ, suc, List, [], ◌∷◌, ◌++◌, ◌+◌, ◌<◌, length, set, count_by, inl, inr, refl, sym, ap, subst, ◌∙◌, arith, Result, Ok, Err}
+use Rattle.std.proofs.Common.{◌≡◌, ℕ, suc, List, [], ◌∷◌, ◌++◌, ◌+◌, length, set, count_by, inl, inr, refl, sym, ap, subst, ◌∙◌, arith, Result, Ok, Err}
 use Rattle.std.specs.Prelude.{IfErr, IsOk, OnOk}
 use Rattle.std.proofs.lemmas.Grind.{common_steps}
 use Rattle.adf_blocks.specs.declared.cause.Cause.{Cause}
@@ -106,9 +106,6 @@ module _ {image : List ℕ} {store : StoreValue} {w : List (Role × ℕ)} {r : R
     claim_refused (Err f) h = claim_fault f h
 
     module _ (range : InRange (length store.owners) b) (free : kept_at store.owners b ≡ Free) where
-      pub inside : b < blocks image
-      inside = (in_image range).1
-
       abbrev late_demands : List Demand
       late_demands = form_demands image w r b ++ demand SameName b (NewName image w r b) ∷ []
 

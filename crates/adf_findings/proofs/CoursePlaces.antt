@@ -4,12 +4,12 @@ use Rattle.std.proofs.Common.{◌≡◌, ◌≢◌, ℕ, zero, suc, length, List
 use Rattle.std.proofs.lemmas.Grind.{common_steps}
 use Rattle.adf_blocks.specs.declared.layout.TheConstants.{EXTENSION, NEXT_IN_CHAIN, POINTERS, SECONDARY_TYPE, SLOTS, ST_DIR, ST_FILE}
 use Rattle.adf_volume.specs.Image.{table_word, word_in}
-use Rattle.adf_volume.specs.Positions.{before_node, position_of}
+use Rattle.adf_volume.specs.Positions.{before_node}
 use Rattle.adf_volume.specs.Walk.{Role, NodeAt, DirAt, FileAt, MemberAt, Asks, data_count, ext_count, heads}
 use Rattle.adf_volume.specs.Walk.Role.{Head, Ext, Data}
 use Rattle.adf_volume.proofs.Gathered.{IsGathered, ext_below, ext_counted, file_one, member_is, node_there}
 use Rattle.adf_volume.proofs.Pointers.{ext_asks, ext_ends, link_asks, link_ends}
-use Rattle.adf_volume.proofs.PositionSteps.{chain_broken, end_chain, end_datas, end_dir, end_exts, end_node, end_nodes, enter_dir, enter_file}
+use Rattle.adf_volume.proofs.PositionSteps.{chain_broken, end_chain, end_datas, end_exts, end_node, end_nodes, enter_dir, enter_file}
 use Rattle.adf_volume.proofs.PositionSteps.{exts_broken, no_exts}
 use Rattle.adf_volume.proofs.Roles.{count_own, dir_up, typed_up}
 use Rattle.adf_findings.specs.declared.part.Part.TheVariants.{Head as HeadPart, Ext as ExtPart, Data as DataPart}
@@ -26,10 +26,6 @@ module _ (image : List ℕ) where
     -- what a directory names comes behind the places of a file
     pub dir_begins : (n b : ℕ) → Holds image f (before_node n) s → DirAt image s.walk n b → HasReachedSlot image f n 0 b
     dir_begins n b h d = (s, moved h (omega arith) (enter_dir image (gathered image h.course) n b d h.up_to), d)
-
-    -- behind the last slot comes the next node
-    pub dir_ends : (n b : ℕ) → Holds image f (position_of (Head 0 n SLOTS 0)) s → HasReached image f (before_node (suc n))
-    dir_ends n b h = (s, moved h (omega arith) (end_dir image n h.up_to))
 
     -- behind the last node nothing is next
     pub nodes_end : (n : ℕ) → length f.nodes.items ≤ n → Holds image f (before_node n) s → IsFinished image f

@@ -5,16 +5,16 @@ use Rattle.std.proofs.lemmas.Grind.{common_steps}
 use Rattle.adf_blocks.specs.declared.layout.TheConstants.{MAP_EXT_PAGES, ROOT_PAGES}
 use Rattle.adf_blocks.specs.Sizes.{blocks, pages_needed}
 use Rattle.adf_volume.specs.Image.{word_in}
-use Rattle.adf_volume.specs.Positions.{IsPageHolder, Position, before_node, before_page, position_of, word_of_map_ext, word_of_page}
+use Rattle.adf_volume.specs.Positions.{IsPageHolder, Position, before_page, position_of, word_of_map_ext, word_of_page}
 use Rattle.adf_volume.specs.Walk.{NamesPage}
 use Rattle.adf_volume.specs.Walk.Role.{Page, MapExt}
 use Rattle.adf_volume.proofs.MemberFacts.{names_up}
-use Rattle.adf_volume.proofs.Pointers.{behind_map_ext, behind_page, map_ext_asks, map_ext_next, names_first, names_page, next_holder, page_next}
-use Rattle.adf_volume.proofs.PositionSteps.{end_map, end_pages, map_broken}
+use Rattle.adf_volume.proofs.Pointers.{behind_map_ext, behind_page, map_ext_asks, map_ext_next, names_first, next_holder}
+use Rattle.adf_volume.proofs.PositionSteps.{end_map, map_broken}
 use Rattle.adf_findings.specs.declared.part.Part.TheVariants.{Page as PagePart, MapExt as MapExtPart}
 use Rattle.adf_findings.specs.declared.found.Found.{Found}
 use Rattle.adf_findings.specs.Survey.{Course}
-use Rattle.adf_findings.specs.Courses.{HasReached, HasReachedPage, Holds, IsGoneOn, IsNamed, IsPageNamed}
+use Rattle.adf_findings.specs.Courses.{HasReachedPage, Holds, IsGoneOn, IsNamed, IsPageNamed}
 use Rattle.adf_findings.proofs.CourseSteps.{moved}
 
 -- a position that is the same
@@ -22,20 +22,6 @@ same_place : {image : List ℕ} {f : Found} {s : Course} {k l : Position} → k 
 same_place {image} {f} {s} e h = subst (λ k. Holds image f k s) e h
 
 module _ (image : List ℕ) (f : Found) (s : Course) (page : ℕ) where
-  -- a page that no bitmap extension block comes before
-  page_next_named : (a : ℕ) → (ROOT_PAGES ≤ page → (page - ROOT_PAGES) % MAP_EXT_PAGES ≡ 0 → ⊥) → Holds image f (before_page page) s
-      → IsPageHolder image s.walk page a → IsPageNamed image f page (Some a)
-  page_next_named a other h holder = (s, same_place (page_next page other) h, names_page image s.walk page a holder other)
-
-  -- a page that the root names
-  pub page_in_root : (a : ℕ) → page < ROOT_PAGES → Holds image f (before_page page) s → IsPageHolder image s.walk page a → IsPageNamed image f page (Some a)
-  page_in_root a lt h holder = page_next_named a (λ le. absurd (omega arith)) h holder
-
-  -- a page whose extension block has come
-  pub page_in_ext : (a : ℕ) → ROOT_PAGES ≤ page → ((page - ROOT_PAGES) % MAP_EXT_PAGES ≡ 0 → ⊥) → Holds image f (before_page page) s
-      → IsPageHolder image s.walk page a → IsPageNamed image f page (Some a)
-  page_in_ext a le other h holder = page_next_named a (λ le. other) h holder
-
   -- the bitmap extension block before a page is named
   pub map_ext_named : (a : ℕ) → page < pages_needed (blocks image) → ROOT_PAGES ≤ page → (page - ROOT_PAGES) % MAP_EXT_PAGES ≡ 0
       → Holds image f (before_page page) s → IsPageHolder image s.walk page a
@@ -62,7 +48,3 @@ module _ (image : List ℕ) (f : Found) (s : Course) (page : ℕ) where
       → HasReachedPage image g (page + 1) a
   page_on a i g None names gone = (_, same_place (behind_page page) gone.holds, next_holder image s.walk page a i names)
   page_on a i g (Some c) names gone = grind (arith, common_steps, same_place, behind_page, next_holder, names_up)
-
-  -- behind the last page come the nodes
-  pub pages_end : (a : ℕ) → pages_needed (blocks image) ≤ page → Holds image f (before_page page) s → HasReached image f (before_node 0)
-  pages_end a le h = (s, moved h (omega arith) (end_pages image page le h.up_to))

@@ -35,12 +35,6 @@ pub no_more : (numbers : Numbers) (bucket : BTreeMap ChildKey ℕ) (p : ℕ) (x 
 unfolding number_in
 no_more numbers bucket p x h = rw (none_more numbers bucket (bucket_of (child_key p x)) (child_key p x) h)
 
--- the number in a bucket that was found
-pub number_is : (numbers : Numbers) (p : ℕ) (x : List ℕ) (o : Option (BTreeMap ChildKey ℕ)) → is_short x ≡ true
-    → slice_get numbers (bucket_of (child_key p x)) ≡ o → number_at o (child_key p x) ≡ number_in numbers p x
-unfolding number_in
-number_is numbers p x o short at = grind (arith, common_steps)
-
 -- one more number
 set_at : (numbers : Numbers) (i j : ℕ) (new : BTreeMap ChildKey ℕ) (k : ChildKey) → j ≢ i
     → number_at (slice_get (set numbers i new) j) k ≡ number_at (slice_get numbers j) k

@@ -3,7 +3,7 @@
 use Rattle.std.proofs.Common.{◌≡◌, ◌≢◌, ℕ, zero, suc, List, [], ◌∷◌, inl, inr, ◌<◌, ◌≤◌, refl, ap, subst, arith}
 use Rattle.std.proofs.lemmas.Grind.{common_steps}
 use native.Mathlib.Decide.{ℕ_discrete}
-use Rattle.adf_blocks.specs.declared.layout.TheConstants.{SECONDARY_TYPE, SLOTS, ST_DIR, ST_FILE}
+use Rattle.adf_blocks.specs.declared.layout.TheConstants.{SECONDARY_TYPE, ST_DIR, ST_FILE}
 use Rattle.adf_blocks.specs.Sizes.{blocks, pages_needed}
 use Rattle.adf_volume.specs.Image.{root_of, word_in}
 use Rattle.adf_volume.specs.Walk.{Role, first, second, third, Before, Same, TypedAt, NodeAt, DirAt, FileAt, Asks, Lacks, heads, ext_count}
@@ -164,10 +164,6 @@ module _ (image : List ℕ) {w over : List (Role × ℕ)} where
         ]
       ]
       none _ a i h y = omega arith
-
-  -- behind the last slot of a directory comes the next node
-  pub end_dir : (p : ℕ) → IsUpTo image w over (position_of (Head 0 p SLOTS 0)) → IsUpTo image w over (before_node (suc p))
-  end_dir p u = grind (arith, common_steps, end_at, low_second)
 
   -- the extension blocks of file n end where the next is not asked for
   pub end_exts : (n k : ℕ) → IsUpTo image w over (position_of (Ext n (suc k))) → ((a i : ℕ) → Asks image w (Ext n (suc k)) a i → ⊥)
