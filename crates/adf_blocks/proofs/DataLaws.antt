@@ -1,7 +1,6 @@
 -- The fields of a written OFS data block.
 use Rattle.std.proofs.Common.{◌≡◌, ◌≤◌, ℕ, ◌+◌, ◌*◌, List, length, arith, rules}
 use Rattle.std.specs.Prelude.{None, slice_range}
-use Rattle.std.specs.Cmp.Derive.{both_true}
 use Rattle.std.proofs.lemmas.Bool.{eq-eqb}
 use Rattle.adf_base.specs.Words.{block, word, with_block, long_sum}
 use Rattle.adf_base.proofs.WordLaws.{block_written}
@@ -53,17 +52,7 @@ data_block-bytes d fits = bytes_of_field (data_table d) DATA_BYTES d.bytes (data
 
 -- a data block that was written is read
 pub data_block-form : (d : DataFields) → FitsData d → first_cause (data_form d.head d.number (length d.bytes) d.next (data_block d)) ≡ None
-data_block-form d fits =
-    let b : List ℕ = data_block d in
-    no_cause (data_form d.head d.number (length d.bytes) d.next b) (search (
-      eq-eqb (long_sum b) 0 (data_block-sum d fits),
-      eq-eqb (word b TYPE) T_DATA (data_block-type d fits),
-      both_true (both_true (both_true
-          (eq-eqb (word b DATA_HEAD) d.head (data_block-head d fits))
-          (eq-eqb (word b DATA_NUMBER) d.number (data_block-number d fits)))
-          (eq-eqb (word b DATA_HELD) (length d.bytes) (data_block-held d fits)))
-          (eq-eqb (word b DATA_NEXT) d.next (data_block-next d fits)),
-    ))
+data_block-form d fits = search (rules, no_cause, eq-eqb, data_block-sum, data_block-type, data_block-head, data_block-number, data_block-held, data_block-next)
 
 -- a data block that was written into an image is read there
 pub written_data_form : (image : List ℕ) (b : ℕ) (d : DataFields) → FitsData d → b * 512 + 512 ≤ length image

@@ -1,7 +1,6 @@
 -- The fields of a written extension block.
 use Rattle.std.proofs.Common.{◌≡◌, ◌≤◌, ◌<◌, ℕ, ◌+◌, ◌-◌, ◌*◌, ◌^◌, List, length, ◌∙◌, arith, rules}
-use Rattle.std.specs.Prelude.{None, reverse, slice_index}
-use Rattle.std.specs.Cmp.Derive.{both_true}
+use Rattle.std.specs.Prelude.{None, slice_index}
 use Rattle.std.proofs.lemmas.Bool.{eq-eqb}
 use Rattle.std.proofs.lemmas.List.{length-reverse}
 use Rattle.adf_base.specs.Words.{block, word, with_block, long_sum}
@@ -16,10 +15,7 @@ use Rattle.adf_blocks.proofs.FieldLaws.{length_sealed_fields, long_number, point
 
 -- the fields of an extension block fit side by side
 pub ext_descends : (e : ExtFields) → FitsExt e → Descends 512 (ext_table e)
-ext_descends e fits =
-    let n = length_longs (reverse e.table) in
-    let m = length-reverse e.table in
-    search (arith, fits.table)
+ext_descends e fits = search (rules, length_longs, length-reverse)
 
 -- an extension block is a whole block
 pub length_ext_block : (e : ExtFields) → FitsExt e → length (ext_block e) ≡ 512
@@ -62,14 +58,7 @@ ext_block-pointer e j fits lt small =
 
 -- an extension block that was written is read
 pub ext_block-form : (e : ExtFields) → FitsExt e → first_cause (ext_form e.own e.head (ext_block e)) ≡ None
-ext_block-form e fits =
-    let b : List ℕ = ext_block e in
-    no_cause (ext_form e.own e.head b) (search (
-      eq-eqb (long_sum b) 0 (ext_block-sum e fits),
-      both_true (eq-eqb (word b TYPE) T_LIST (ext_block-type e fits)) (eq-eqb (word b SECONDARY_TYPE) ST_FILE (ext_block-secondary e fits)),
-      eq-eqb (word b OWN_KEY) e.own (ext_block-own e fits),
-      eq-eqb (word b PARENT) e.head (ext_block-head e fits),
-    ))
+ext_block-form e fits = search (rules, no_cause, eq-eqb, ext_block-sum, ext_block-type, ext_block-secondary, ext_block-own, ext_block-head)
 
 -- an extension block that was written into an image is read there
 pub written_ext_form : (image : List ℕ) (b : ℕ) (e : ExtFields) → FitsExt e → b * 512 + 512 ≤ length image

@@ -6,6 +6,7 @@ use Rattle.std.proofs.lemmas.List.{length-replicate, length-reverse, drop-take, 
 use Rattle.std.proofs.lemmas.List.{get_or-drop, get_or-take, get_or-reverse, get_or_past}
 use Rattle.std.proofs.Math.Seq.{drop-append-add}
 use Rattle.std.specs.Prelude.{slice_range, slice_index, replicate, reverse}
+use Rattle.std.proofs.lemmas.Grind.{common_steps}
 use Rattle.byteorder.specs.Endian.{big_number}
 use Rattle.byteorder.specs.Numbers.{big_number-reads_back}
 use Rattle.adf_base.specs.Words.{word, long_sum, sealed, checksum}
@@ -53,10 +54,7 @@ field_below top (f ∷ fs) e d (inr h) =
 pub field_there : (top : ℕ) (fs : List Field) (e : Field) → top ≤ 512 → Descends top fs → HasField fs e
     → slice_range (block_of_fields fs) e.0 (e.0 + length e.1) ≡ e.1
 field_there top [] e le d h = absurd h
-field_there top (f ∷ fs) e le d (inl x) =
-    let n = length-block_of_fields f.0 fs (omega (arith, d.0)) d.1 in
-    subst (λ (g : Field). slice_range (block_of_fields (f ∷ fs)) g.0 (g.0 + length g.1) ≡ g.1) x
-    (range-with_bytes_same (block_of_fields fs) f.0 f.1 (f.0 + length f.1) (omega (arith, d.0)) refl)
+field_there top (f ∷ fs) e le d (inl x) = grind (arith, common_steps, length-block_of_fields, range-with_bytes_same)
 field_there top (f ∷ fs) e le d (inr h) =
     let n = length-block_of_fields f.0 fs (omega (arith, d.0)) d.1 in
     let below = field_below f.0 fs e d.1 h in
@@ -136,9 +134,7 @@ fields_longs fs i s ws d h in_words =
 -- the number in a word of words that were put down
 pub numbers_of_field : (c : ℕ) (fs : List Field) (i s : ℕ) (ws : List ℕ) → c < 128 → Descends 512 fs → HasField fs (4 * i, longs ws) → s < length ws → i + s ≢ c
     → word (sealed c (block_of_fields fs)) (i + s) ≡ big_number 4 (long (slice_index ws s))
-numbers_of_field c fs i s ws in_block d h in_words other =
-    let n = length-block_of_fields 512 fs (omega arith) d in
-    word-with_word_other (block_of_fields fs) c (checksum c (block_of_fields fs)) (i + s) (omega arith) other ∙ fields_longs fs i s ws d h in_words
+numbers_of_field c fs i s ws in_block d h in_words other = grind (arith, common_steps, length-block_of_fields, word-with_word_other, fields_longs)
 
 -- a date that was put down
 pub stamp_of_field : (fs : List Field) (i : ℕ) (s : Stamp) → Descends 512 fs → HasField fs (4 * i, stamp s)
@@ -165,10 +161,7 @@ apart_below top a b (f ∷ fs) d le = (inr (omega (arith, d.0)), apart_below f.0
 pub apart_between : (top a b : ℕ) (fs : List Field) (e g : Field) → Descends top fs → HasNeighbours fs e g → b ≤ e.0 → g.0 + length g.1 ≤ a → Apart a b fs
 apart_between top a b [] e g d h lo hi = absurd h
 apart_between top a b (f ∷ []) e g d h lo hi = absurd h
-apart_between top a b (f ∷ k ∷ fs) e g d (inl h) lo hi =
-    let above : b ≤ f.0 = subst (λ (x : Field). b ≤ x.0) (sym h.0) lo in
-    let below : k.0 + length k.1 ≤ a = subst (λ (x : Field). x.0 + length x.1 ≤ a) (sym h.1) hi in
-    (inl above, (inr below, apart_below k.0 a b fs d.1.1 (omega (arith, below))))
+apart_between top a b (f ∷ k ∷ fs) e g d (inl h) lo hi = grind (arith, common_steps, apart_below)
 apart_between top a b (f ∷ k ∷ fs) e g d (inr h) lo hi =
     let below = field_below f.0 (k ∷ fs) e d.1 (first_of_neighbours (k ∷ fs) e g h) in
     (inl (omega (arith, lo)), apart_between f.0 a b (k ∷ fs) e g d.1 h lo hi)
@@ -226,10 +219,7 @@ pointer_number fs i j ws behind d h room above in_block next = elim (cases_lt j 
 
 -- a block that was laid and sealed is whole
 pub length_sealed_fields : (fs : List Field) → Descends 512 fs → length (sealed CHECKSUM (block_of_fields fs)) ≡ 512
-length_sealed_fields fs d =
-    let len = length-block_of_fields 512 fs (omega arith) d in
-    length-with_bytes (block_of_fields fs) (4 * CHECKSUM) (long (checksum CHECKSUM (block_of_fields fs)))
-    (omega (arith, length-big_bytes 4 (checksum CHECKSUM (block_of_fields fs)))) ∙ len
+length_sealed_fields fs d = grind (arith, common_steps, length-block_of_fields, length-with_bytes, length-big_bytes)
 
 -- bytes that were put down above word 5
 pub bytes_of_field : (fs : List Field) (from : ℕ) (xs : List ℕ) → Descends 512 fs → HasField fs (from, xs) → 4 * CHECKSUM + 4 ≤ from

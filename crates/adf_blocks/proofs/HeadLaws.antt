@@ -1,11 +1,11 @@
 -- The fields of a written header.
-use Rattle.std.proofs.Common.{◌≡◌, ◌≤◌, ◌<◌, ℕ, ◌+◌, ◌-◌, ◌*◌, ◌^◌, List, length, refl, sym, ap, ◌∙◌, arith, rules, true}
-use Rattle.std.specs.Prelude.{None, not, reverse, slice_index}
-use Rattle.std.specs.Cmp.Derive.{both_true}
+use Rattle.std.proofs.Common.{◌≡◌, ◌≤◌, ◌<◌, ℕ, ◌+◌, ◌-◌, ◌*◌, ◌^◌, List, length, refl, ap, ◌∙◌, arith, rules, true}
+use Rattle.std.specs.Prelude.{None, not, slice_index}
 use Rattle.std.proofs.lemmas.Bool.{eq-eqb, le-leb}
 use Rattle.std.proofs.lemmas.Bool.Decides.{nat_tests}
 use Rattle.std.proofs.lemmas.List.{length-reverse}
 use Rattle.std.proofs.Math.Bool.{or-true}
+use Rattle.std.proofs.lemmas.Grind.{common_steps}
 use Rattle.byteorder.specs.Endian.{big_number}
 use Rattle.adf_base.specs.Hash.{slot_of}
 use Rattle.adf_base.specs.Words.{block, word, with_block, long_sum}
@@ -33,20 +33,12 @@ name_short bs h = grind (arith, nat_tests)
 
 -- the slots or pointers lie between the other fields
 table_fits : (b : BodyFields) → FitsBody b → ((table_of b).0 + length (table_of b).1 ≤ 4 * PROTECTION) × (4 * FIRST_DATA + 4 ≤ (table_of b).0)
-table_fits (DirFields slots) h =
-    let n = length_longs slots in
-    (omega (arith, h), omega arith)
-table_fits (FileFields size table ext) h =
-    let n = length_longs (reverse table) in
-    let m = length-reverse table in
-    (omega (arith, h), omega (arith, h))
+table_fits (DirFields slots) h = search (rules, length_longs)
+table_fits (FileFields size table ext) h = search (rules, length_longs, length-reverse)
 
 -- the fields of a header fit side by side
 pub head_descends : (h : HeadFields) → FitsHead h → Descends 512 (head_table h)
-head_descends h fits =
-    let name = name_short h.name fits.name in
-    let table = table_fits h.body fits.body in
-    search (arith, name, fits.comment, table.0, table.1)
+head_descends h fits = search (rules, name_short, table_fits)
 
 -- a header is a whole block
 pub length_head_block : (h : HeadFields) → FitsHead h → length (head_block h) ≡ 512
@@ -110,11 +102,7 @@ head_block-secondary h fits =
 
 -- what the header's meta, body, slots and pointers read as
 pub head_block-meta : (h : HeadFields) → FitsHead h → IsBoundedMeta h.meta → meta_at (head_block h) ≡ h.meta
-head_block-meta h fits small =
-    let comment = (head_block-comment h fits).1 in
-    let protect = head_block-protect h fits small.protect in
-    let stamp = head_block-stamp h fits small.stamp in
-    rw (comment, protect, stamp) refl
+head_block-meta h fits small = search (rules, head_block-comment, head_block-protect, head_block-stamp)
 
 body_reads : (b : List ℕ) (body : BodyFields) → word b SECONDARY_TYPE ≡ secondary_of body → word b SIZE ≡ size_of body → word b EXTENSION ≡ ext_of body
     → body_at b ≡ body_stated body
@@ -122,8 +110,7 @@ body_reads b (DirFields slots) kind size ext = rw kind refl
 body_reads b (FileFields n table x) kind size ext = rw (kind, size, ext) refl
 
 pub head_block-body : (h : HeadFields) → FitsHead h → FitsBodyWords h.body → body_at (head_block h) ≡ body_stated h.body
-head_block-body h fits small =
-    body_reads (head_block h) h.body (head_block-secondary h fits) (head_block-size h fits small.size) (head_block-ext h fits small.ext)
+head_block-body h fits small = search (rules, body_reads, head_block-secondary, head_block-size, head_block-ext)
 
 pub head_block-slot : (h : HeadFields) (slots : List ℕ) (s : ℕ) → FitsHead h → h.body ≡ DirFields slots → s < SLOTS → slice_index slots s < 2 ^ 32
     → word (head_block h) (FIRST_SLOT + s) ≡ slice_index slots s
@@ -149,10 +136,7 @@ first_there h fits = number_of_field (head_table h) FIRST_DATA (first_of h.body)
 
 first_of_file : (h : HeadFields) (size : ℕ) (table : List ℕ) (ext : ℕ) → FitsHead h → h.body ≡ FileFields size table ext
     → word (head_block h) FIRST_DATA ≡ word (head_block h) FIRST_POINTER
-first_of_file h size table ext fits e =
-    first_there h fits
-    ∙ ap (λ b. big_number 4 (long (first_of b))) e
-    ∙ sym (head_block-pointer h size table ext 0 fits e (omega arith))
+first_of_file h size table ext fits e = search (rules, first_there, head_block-pointer)
 
 has_first_dir : (kind : Kind) (b : List ℕ) → word b SECONDARY_TYPE ≡ ST_DIR → has_first kind b ≡ true
 has_first_dir Ofs b e = rw e refl
@@ -175,10 +159,7 @@ no_link b (DirFields slots) e = rw e refl
 no_link b (FileFields size table ext) e = rw e refl
 
 name_there : (h : HeadFields) → FitsHead h → is_name_at (head_block h) NAME ≡ true
-name_there h fits =
-    let name = head_block-name h fits in
-    let short = name_short h.name fits.name in
-    both_true (le-leb (slice_index (head_block h) NAME) 30 (omega (arith, name.0))) (ap is_name name.1 ∙ fits.name)
+name_there h fits = grind (arith, common_steps, head_block-name, name_short, le-leb)
 
 -- a header that was written is read
 pub head_block-form : (kind : Kind) (h : HeadFields) → FitsHead h → first_cause (head_form kind h.own h.parent (slot_of h.name) (head_block h)) ≡ None

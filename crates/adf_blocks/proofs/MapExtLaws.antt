@@ -12,9 +12,7 @@ use Rattle.adf_blocks.proofs.FieldLaws.{fields_between, fields_long, fields_long
 
 -- the fields fit side by side
 pub map_ext_descends : (pages : List ℕ) (next : ℕ) → length pages ≤ MAP_EXT_PAGES → Descends 512 (map_ext_table pages next)
-map_ext_descends pages next few =
-    let m = length_longs pages in
-    (omega arith, (omega arith, tt))
+map_ext_descends pages next few = search (rules, length_longs)
 
 -- a bitmap extension block is a whole block
 pub length_map_ext_block : (pages : List ℕ) (next : ℕ) → length pages ≤ MAP_EXT_PAGES → length (map_ext_block pages next) ≡ 512

@@ -5,30 +5,23 @@ use Rattle.adf_base.specs.Words.{block, word, with_block, long_sum, checksum}
 use Rattle.adf_base.proofs.WordLaws.{block_written, length-with_bytes, length_longs, long_sum-sealed, length-big_bytes}
 use Rattle.adf_blocks.specs.declared.layout.TheConstants.{PAGE_BITS, PAGE_CHECKSUM, PAGE_FIRST}
 use Rattle.adf_blocks.specs.Forms.{first_cause}
-use Rattle.adf_blocks.specs.Fields.{Descends, block_of_fields, long}
+use Rattle.adf_blocks.specs.Fields.{Descends}
 use Rattle.adf_blocks.specs.PageBlock.{IsFreeBit, page_block, page_form, page_table}
 use Rattle.adf_blocks.proofs.FieldLaws.{length-block_of_fields, long_number, numbers_of_field}
 
 -- the words of bits fit behind the checksum
 page_descends : (bits : List ℕ) → length bits ≡ 127 → Descends 512 (page_table bits)
-page_descends bits n =
-    let m = length_longs bits in
-    (omega arith, tt)
+page_descends bits n = search (rules, length_longs)
 
 -- a page is a whole block
 pub length_page_block : (bits : List ℕ) → length bits ≡ 127 → length (page_block bits) ≡ 512
 unfolding page_block
-length_page_block bits n =
-    let len = length-block_of_fields 512 (page_table bits) (omega arith) (page_descends bits n) in
-    length-with_bytes (block_of_fields (page_table bits)) (4 * PAGE_CHECKSUM) (long (checksum PAGE_CHECKSUM (block_of_fields (page_table bits))))
-    (omega (arith, length-big_bytes 4 (checksum PAGE_CHECKSUM (block_of_fields (page_table bits))))) ∙ len
+length_page_block bits n = search (rules, length-block_of_fields, page_descends, length-with_bytes, length-big_bytes)
 
 -- the sum of a page
 pub page_block-sum : (bits : List ℕ) → length bits ≡ 127 → long_sum (page_block bits) ≡ 0
 unfolding page_block
-page_block-sum bits n =
-    long_sum-sealed PAGE_CHECKSUM (block_of_fields (page_table bits)) (omega arith)
-    (length-block_of_fields 512 (page_table bits) (omega arith) (page_descends bits n))
+page_block-sum bits n = search (rules, long_sum-sealed, length-block_of_fields, page_descends)
 
 -- a word of a page's bits
 pub page_block-word : (bits : List ℕ) (i : ℕ) → length bits ≡ 127 → i < 127 → slice_index bits i < 2 ^ 32
@@ -41,9 +34,7 @@ page_block-word bits i n lt small =
 -- a bit of a page
 pub page_block-bit : (bits : List ℕ) (bit : ℕ) → length bits ≡ 127 → bit < PAGE_BITS → slice_index bits (bit / 32) < 2 ^ 32
     → IsFreeBit (page_block bits) bit ↔ IsBitSet (slice_index bits (bit / 32)) (bit % 32)
-page_block-bit bits bit n lt small =
-    let there = page_block-word bits (bit / 32) n (omega arith) small in
-    rw there (λ set. set, λ set. set)
+page_block-bit bits bit n lt small = search (rules, page_block-word)
 
 -- a page that was written is read
 pub page_block-form : (bits : List ℕ) → length bits ≡ 127 → first_cause (page_form (page_block bits)) ≡ None

@@ -1,6 +1,6 @@
 -- The fields of a written root.
 use Rattle.std.proofs.Common.{◌≡◌, ◌≤◌, ◌<◌, ℕ, ◌+◌, ◌*◌, ◌^◌, List, length, refl, sym, ◌∙◌, arith, rules, inl, inr}
-use Rattle.std.specs.Prelude.{None, true, nat_le, slice_index}
+use Rattle.std.specs.Prelude.{None, slice_index}
 use Rattle.std.proofs.lemmas.Bool.{le-leb, cases_lt}
 use Rattle.std.proofs.lemmas.List.{get_or_past}
 use Rattle.adf_base.specs.Words.{block, word, with_block, long_sum}
@@ -16,10 +16,7 @@ use Rattle.adf_blocks.proofs.FieldLaws.{sum_of_fields, text_of_field, word_betwe
 
 -- the fields of a root fit side by side
 pub root_descends : (r : RootFields) → FitsRoot r → Descends 512 (root_table r)
-root_descends r h =
-    let slots = length_longs r.slots in
-    let pages = length_longs r.pages in
-    search (arith, h.label, h.pages, h.slots)
+root_descends r h = search (rules, length_longs)
 
 -- the words of a root
 pub root_block-sum : (r : RootFields) → FitsRoot r → long_sum (root_block r) ≡ 0
@@ -91,10 +88,7 @@ root_block-stamps r h fits =
 
 -- a root that was written is read
 pub root_block-form : (r : RootFields) → FitsRoot r → first_cause (root_form (root_block r)) ≡ None
-root_block-form r h =
-    let len : nat_le (slice_index (root_block r) NAME) 30 ≡ true =
-    le-leb (slice_index (root_block r) NAME) 30 (omega (arith, (root_block-label r h).0, h.label)) in
-    rw (root_block-sum r h, root_block-type r h, root_block-secondary r h, len, root_block-hash_size r h, root_block-valid r h) refl
+root_block-form r h = search (rules, le-leb, root_block-label, root_block-sum, root_block-type, root_block-secondary, root_block-hash_size, root_block-valid)
 
 -- a root is a whole block
 pub length_root_block : (r : RootFields) → FitsRoot r → length (root_block r) ≡ 512

@@ -1,8 +1,9 @@
 -- The free blocks are distinct, in the volume, and neither the root nor reserved.
-use Rattle.std.proofs.Common.{◌≡◌, ℕ, zero, suc, ◌∷◌, ◌++◌, inl, inr, ◌+◌, ◌-◌, ◌<◌, ◌≤◌, length, refl, sym, ap, ◌∙◌, arith}
+use Rattle.std.proofs.Common.{◌≡◌, ℕ, zero, suc, ◌∷◌, ◌++◌, inl, inr, ◌+◌, ◌-◌, ◌<◌, ◌≤◌, length, refl, ap, ◌∙◌, arith}
 use Rattle.std.specs.List.{range_with_len}
 use Rattle.std.proofs.lemmas.Bool.{cases_lt}
 use Rattle.std.proofs.lemmas.Bool.Decides.{nat_tests}
+use Rattle.std.proofs.lemmas.Grind.{common_steps}
 use Rattle.adf_blocks.specs.Sizes.{middle}
 use Rattle.adf_volume.specs.Lists.{In}
 use Rattle.adf_volume.specs.Image.{map_exts_needed}
@@ -27,16 +28,10 @@ pub stretch : (n k : ℕ) → Stretch n k
 stretch n k = elim (cases_lt (2 + k) (middle n)) [ inl h ↦ low h (free_low n k h) | inr h ↦ high h (free_high n k h) ]
 
 pub free_rises : (n i j : ℕ) → i < j → nth_free n i < nth_free n j
-free_rises n i j h = elim (stretch n i) [
-  | low a e ↦ elim (stretch n j) [ low b f ↦ omega arith | high b f ↦ omega arith ]
-  | high a e ↦ elim (stretch n j) [ low b f ↦ omega arith | high b f ↦ omega arith ]
-]
+free_rises n i j h = grind (arith, common_steps, stretch)
 
 pub free_once : (n i j : ℕ) → nth_free n i ≡ nth_free n j → i ≡ j
-free_once n i j h =
-    let a : i < j → ⊥ = (λ l. let k = free_rises n i j l in omega arith) in
-    let b : j < i → ⊥ = (λ l. let k = free_rises n j i l in omega arith) in
-    omega arith
+free_once n i j h = grind (arith, common_steps, free_rises)
 
 pub free_from : (n k : ℕ) → 2 + k ≤ nth_free n k
 free_from n k = elim (stretch n k) [ low a e ↦ omega arith | high a e ↦ omega arith ]
@@ -105,8 +100,7 @@ distinct_range a zero = tt
 distinct_range a (suc m) = ((λ h. let r = in_range (a + 1) m a h in omega arith), distinct_range (a + 1) m)
 
 pub range_with_len-append : (b m k : ℕ) → range_with_len b m ++ range_with_len (b + m) k ≡ range_with_len b (m + k)
-range_with_len-append b zero k = let e : b + 0 ≡ b = omega arith in let f : 0 + k ≡ k = omega arith in ap (λ b. range_with_len b k) e
-    ∙ ap (range_with_len b) (sym f)
+range_with_len-append b zero k = grind (arith, common_steps)
 range_with_len-append b (suc m) k =
     let e : b + suc m ≡ b + 1 + m = omega arith in
     let f : suc (m + k) ≡ suc m + k = omega arith in

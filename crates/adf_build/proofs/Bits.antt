@@ -11,6 +11,7 @@ use Rattle.std.proofs.Math.ListN.{set}
 use Rattle.std.specs.List.{range_with_len}
 use Rattle.std.proofs.lemmas.List.{take_more_set}
 use Rattle.std.proofs.lemmas.List.FromFn.{map-range_with_len_more}
+use Rattle.std.proofs.lemmas.Grind.{common_steps}
 use Rattle.adf_volume.proofs.Lists.{in_left, in_right, in_cases}
 use Rattle.adf_build.specs.Plan.{reserved, nth_free, allocated}
 use Rattle.adf_build.specs.Bits.{is_used, bits_from, is_free_bit}
@@ -54,21 +55,14 @@ unfolding is_used
 use_high n total b h e = grind (arith, nat_tests)
 
 use_cases : (n total b : ℕ) → is_used n total b ≡ true → Use n total b
-use_cases n total b e = elim (cases_lt b (middle n)) [
-  | inl h ↦ at_low h (use_low n total b h e)
-  | inr h ↦ elim (cases_lt (middle n + reserved n) b) [ inl k ↦ at_high k (use_high n total b k e) | inr k ↦ at_middle h k ]
-]
+use_cases n total b e = grind (arith, common_steps, cases_lt, at_low, use_low, at_high, use_high, at_middle)
 
 pub used_owned : (n total b : ℕ) → 4 ≤ n → 2 ≤ b → is_used n total b ≡ true
     → In (middle n ∷ (range_with_len (middle n + 1) (reserved n) ++ allocated n 0 total)) b
 used_owned n total b big two e = put (use_cases n total b e)
   where
     put : Use n total b → In (middle n ∷ (range_with_len (middle n + 1) (reserved n) ++ allocated n 0 total)) b
-    put (at_middle h k) = elim (cases_lt (middle n) b) [
-      | inl l ↦ inr (in_left (range_with_len (middle n + 1) (reserved n)) (allocated n 0 total) b
-          (range_in (middle n + 1) (reserved n) b (omega arith) (omega arith)))
-      | inr l ↦ inl (omega arith)
-    ]
+    put (at_middle h k) = grind (arith, common_steps, at_middle, cases_lt, in_left, range_in)
     put (at_low h k) = elim (stretch n (b - 2)) [
       | low a f ↦
           let g : nth_free n (b - 2) ≡ b = omega arith in
@@ -91,11 +85,7 @@ flag_small false = omega arith
 -- each bit of a number that was made of bits
 pub bit_of : (f : ℕ → Bool) (q m k : ℕ) → k < m → bits_from f q m / 2 ^ k % 2 ≡ cond (f (q + k)) 1 0
 bit_of f q zero k h = absurd (omega arith)
-bit_of f q (suc m) zero h =
-    let s = flag_small (f q) in
-    let e : q ≡ q + 0 = omega arith in
-    let low : (cond (f q) 1 0 + 2 * bits_from f (suc q) m) / 1 % 2 ≡ cond (f q) 1 0 = omega arith in
-    low ∙ ap (λ j. cond (f j) 1 0) e
+bit_of f q (suc m) zero h = grind (arith, common_steps, flag_small)
 bit_of f q (suc m) (suc k) h =
     let s = flag_small (f q) in
     let e : suc q + k ≡ q + suc k = omega arith in

@@ -1,5 +1,6 @@
 -- Chains with correct pointers to the next member are spelled.
-use Rattle.std.proofs.Common.{◌≡◌, ℕ, suc, List, [], ◌∷◌, refl, sym, ap, subst, ◌∙◌, map, Bool, true, false, cond}
+use Rattle.std.proofs.Common.{◌≡◌, ℕ, suc, List, [], ◌∷◌, refl, map, Bool, true, false, cond, arith}
+use Rattle.std.proofs.lemmas.Grind.{common_steps}
 use Rattle.adf_base.specs.Hash.{slot_of}
 use Rattle.adf_tree.specs.declared.entry.Entry.{Entry}
 use Rattle.adf_tree.specs.Chain.{in_chain}
@@ -24,9 +25,5 @@ spelled_chain link at n (e ∷ es) p s h =
         → Spelled link (first_block at (nodes_from (suc n) es p s)) (map at (nodes_from (suc n) es p s))
         → Spelled link (first_block at (cond t (n ∷ nodes_from (suc n) es p s) (nodes_from (suc n) es p s)))
         (map at (cond t (n ∷ nodes_from (suc n) es p s) (nodes_from (suc n) es p s)))
-    put true f ih =
-        let q = f refl in
-        let w : link (at n) ≡ first_block at (nodes_from (suc n) es p s) =
-        h.0 ∙ ap (λ p. first_block at (nodes_from (suc n) es p (slot_of e.name))) q.0 ∙ ap (λ s. first_block at (nodes_from (suc n) es p s)) q.1 in
-        (refl, subst (λ w. Spelled link w (map at (nodes_from (suc n) es p s))) (sym w) ih)
+    put true f ih = grind (arith, common_steps)
     put false f ih = ih

@@ -4,6 +4,7 @@ use Rattle.std.proofs.Common.{Some, None, add-one, false}
 use Rattle.std.specs.Prelude.{if◌then◌else◌, ◌==◌}
 use Rattle.std.specs.List.{slice_get}
 use Rattle.std.proofs.lemmas.Bool.Decides.{nat_tests}
+use Rattle.std.proofs.lemmas.Grind.{common_steps}
 use Rattle.adf_tree.specs.declared.entry.Kind.{Kind}
 use Rattle.adf_tree.specs.declared.entry.Entry.{Entry}
 use Rattle.adf_tree.specs.Tree.{entry}
@@ -38,8 +39,4 @@ entry_left es i e h = left_is es i e (sym (h ∙ entry-next es i)) ∙ ap (λ k.
 pub count_step : (kind : Kind) (es : List Entry) (i sum new need : ℕ) (e : Entry) → Some e ≡ entry es (i + 1)
     → new ≡ min (sum + entry_blocks kind e) (2 ^ 64 - 1)
     → min (sum + entries_blocks kind (drop i es)) (2 ^ 64 - 1) ≡ need → min (new + entries_blocks kind (drop (i + 1) es)) (2 ^ 64 - 1) ≡ need
-count_step kind es i sum new need e h f inv =
-    let split = left_is es i e (sym (h ∙ entry-next es i)) in
-    let more : entries_blocks kind (drop i es) ≡ entry_blocks kind e + entries_blocks kind (drop (i + 1) es) =
-    ap (entries_blocks kind) split ∙ ap (λ k. entry_blocks kind e + entries_blocks kind (drop k es)) (sym (add-one i)) in
-    omega arith
+count_step kind es i sum new need e h f inv = grind (arith, common_steps, left_is, entry-next, add-one)

@@ -2,6 +2,7 @@
 use Rattle.std.proofs.Common.{◌≡◌, ℕ, zero, suc, List, [], ◌∷◌, ◌+◌, ◌^◌, ◌<◌, ◌≤◌, map, refl, sym, ap, subst, ◌∙◌, arith}
 use Rattle.std.specs.Prelude.{slice_index}
 use Rattle.std.proofs.lemmas.List.FromFn.{get_or-map-range_with_len}
+use Rattle.std.proofs.lemmas.Grind.{common_steps}
 use Rattle.adf_base.specs.Hash.{slot_of}
 use Rattle.adf_base.specs.Words.{block, word}
 use Rattle.adf_tree.specs.Bounds.{IsBoundedEntry}
@@ -20,7 +21,7 @@ use Rattle.adf_volume.specs.Image.{word_in}
 use Rattle.adf_volume.specs.Layout.{Place, nodes_from, chain_nodes, head_at, exts_at, datas_at, at_node}
 use Rattle.adf_build.specs.Plan.{exts_needed, data_blocks, entry_blocks, entries_blocks, nth_free, allocated, places_from, planned}
 use Rattle.adf_build.specs.Writes.{HoldsBlocks}
-use Rattle.adf_build.specs.Laid.{body_writes, entries_writes, first_block, heads_from, node_blocks, planned_body, planned_root, slots_of, volume}
+use Rattle.adf_build.specs.Laid.{body_writes, entries_writes, first_block, heads_from, node_blocks, planned_body, slots_of, volume}
 use Rattle.adf_build.proofs.ChainLinks.{Links, spelled_chain}
 use Rattle.adf_build.proofs.WholeBlocks.{fits_head, entry_head}
 use Rattle.adf_build.proofs.LaidWrites.{CanHold, has_free, near, entry_sound, fits_root, volume_blocks, holds_entries, holds_root}
@@ -131,11 +132,7 @@ module _ {t : Tree} {n : ℕ} (can : CanHold t n) where
 
   -- the slots of the root and of directories
   pub root_slot : (s : ℕ) → s < SLOTS → word_in (volume t n) (middle n) (FIRST_SLOT + s) ≡ first_block (slice_index (node_blocks t n)) (chain_nodes t 0 s)
-  root_slot s l =
-      let e = slot_is 0 s l in
-      let small : slice_index (slots_of (node_blocks t n) t.entries 0) s < 2 ^ 32 =
-      subst (λ m. m < 2 ^ 32) (sym e) (first_near (slice_index (node_blocks t n)) (chain_nodes t 0 s) (near can)) in
-      ap (λ bs. word bs (FIRST_SLOT + s)) (holds_root can) ∙ (root_block-slot (planned_root t n) s (fits_root can) l small ∙ e)
+  root_slot s l = grind (arith, common_steps, slot_is, first_near, near, holds_root, root_block-slot, fits_root)
 
   pub dir_slot : (i s : ℕ) (e : Entry) (h : At t.entries i e) → e.body ≡ Dir → s < SLOTS
       → word_in (volume t n) (nth_free n (standing i e h).k) (FIRST_SLOT + s) ≡ first_block (slice_index (node_blocks t n)) (chain_nodes t (suc i) s)

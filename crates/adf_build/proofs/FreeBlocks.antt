@@ -1,9 +1,10 @@
 -- The blocks free for entries, and the tables that point to them.
-use Rattle.std.proofs.Common.{◌≡◌, ◌≤◌, ◌<◌, ◌+◌, ◌-◌, ◌*◌, ◌/◌, ◌^◌, ℕ, List, [], ◌∷◌, ◌++◌, sym, ap, ◌∙◌, arith, true, length, take}
+use Rattle.std.proofs.Common.{◌≡◌, ◌≤◌, ◌<◌, ◌+◌, ◌-◌, ◌*◌, ◌/◌, ◌^◌, ℕ, List, arith, true, length, take}
 use Rattle.std.specs.Prelude.{nat_le, nat_lt, ◌||◌}
 use Rattle.std.proofs.Math.ListN.{set}
 use Rattle.std.proofs.lemmas.Bool.Decides.{nat_tests}
 use Rattle.std.proofs.lemmas.List.{take_more_set}
+use Rattle.std.proofs.lemmas.Grind.{common_steps}
 use Rattle.adf_tree.specs.declared.entry.Kind.{Kind}
 use Rattle.adf_tree.specs.declared.entry.Kind.TheVariants.{Ofs, Ffs}
 use Rattle.adf_blocks.specs.Sizes.{chunk, count, is_allowed, pages_needed}
@@ -30,16 +31,12 @@ used_high n total b h = grind (arith, nat_tests)
 
 -- a free block lies whole in the image
 pub free_fits : (n k l : ℕ) → is_allowed n ≡ true → 1 + reserved n + (k + 1) ≤ n - 2 → l ≡ n * 512 → nth_free n k * 512 + 512 ≤ l
-free_fits n k l h r e =
-    let four = size_low n h in
-    let b = free_below n k four (omega arith) in
-    omega arith
+free_fits n k l h r e = grind (arith, common_steps, size_low, free_below)
 
 -- one block more in a table
 pub allocated_step : (table : List ℕ) (n k j v : ℕ) → j < length table → take j table ≡ allocated n k j → v ≡ nth_free n (k + j)
     → take (j + 1) (set table j v) ≡ allocated n k (j + 1)
-allocated_step table n k j v h e f =
-    take_more_set table j v h ∙ ap (λ l. l ++ v ∷ []) e ∙ ap (λ v. allocated n k j ++ v ∷ []) f ∙ sym (allocated-append n k j 1)
+allocated_step table n k j v h e f = grind (arith, common_steps, take_more_set, allocated-append)
 
 -- a file in so many data blocks is not longer than they are
 pub size_small : (kind : Kind) (size : ℕ) → size ≤ 512 * count kind size

@@ -1,6 +1,7 @@
 -- The entries of a tree fit the built volume.
-use Rattle.std.proofs.Common.{◌≡◌, ℕ, zero, suc, List, ◌+◌, ◌-◌, ◌*◌, ◌/◌, ◌%◌, ◌^◌, ◌<◌, ◌≤◌, length, take, min, refl, sym, ap, subst, ◌∙◌, arith}
+use Rattle.std.proofs.Common.{◌≡◌, ℕ, zero, suc, List, ◌+◌, ◌-◌, ◌*◌, ◌/◌, ◌%◌, ◌^◌, ◌<◌, ◌≤◌, length, min, refl, sym, ap, subst, ◌∙◌, arith}
 use Rattle.std.specs.Prelude.{slice_index}
+use Rattle.std.proofs.lemmas.Grind.{common_steps}
 use Rattle.adf_base.specs.Hash.{slot_of}
 use Rattle.adf_base.specs.Words.{block, word}
 use Rattle.adf_tree.specs.declared.entry.Kind.{Kind}
@@ -12,13 +13,13 @@ use Rattle.adf_tree.specs.Tree.{Tree}
 use Rattle.adf_blocks.specs.Sizes.{chunk, count}
 use Rattle.adf_blocks.specs.declared.layout.TheConstants.{EXTENSION, FIRST_POINTER, NAME, POINTERS, SECONDARY_TYPE, SIZE}
 use Rattle.adf_blocks.specs.Forms.{text_at}
-use Rattle.adf_blocks.specs.HeadBlock.{HeadFields, meta_at, secondary_of, size_of, ext_of, head_form}
+use Rattle.adf_blocks.specs.HeadBlock.{HeadFields, meta_at, secondary_of, ext_of, head_form}
 use Rattle.adf_blocks.specs.HeadBlock.BodyFields.{FileFields}
 use Rattle.adf_blocks.proofs.HeadLaws.{head_block-form, head_block-name, head_block-meta, head_block-secondary, head_block-size, head_block-ext}
 use Rattle.adf_blocks.proofs.HeadLaws.{head_block-pointer}
 use Rattle.adf_blocks.proofs.FieldLaws.{long_number}
 use Rattle.adf_volume.specs.Lists.{At, Spelled}
-use Rattle.adf_volume.specs.Image.{word_in, held, content, joined, table_word, name_of, meta_of}
+use Rattle.adf_volume.specs.Image.{word_in, held, content, table_word, name_of, meta_of}
 use Rattle.adf_volume.specs.Demands.{AllHold, head_demands, data_demands}
 use Rattle.adf_volume.specs.Layout.{at_node, exts_of, datas_of}
 use Rattle.adf_volume.specs.Fits.{EntryFits, FileFits, BodyFits, TableAt}
@@ -123,15 +124,11 @@ module _ {t : Tree} {n : ℕ} (can : CanHold t n) (i : ℕ) (e : Entry) (h : At 
     datas_are = here.datas ∙ ap (λ b. allocated n (suc here.k + exts_needed (data_blocks t.kind b)) (data_blocks t.kind b)) is
 
     size_laid : word_in (volume t n) (nth_free n here.k) SIZE ≡ length bytes
-    size_laid =
-        let w : size_of fields.body ≡ length bytes = ap size_of body_is in
-        ap (λ bs. word bs SIZE) here.head ∙ (head_block-size fields (head_fits can i e h) (let s = size_word in omega arith) ∙ w)
+    size_laid = grind (arith, common_steps, fields, body_is, here, head_block-size, head_fits, size_word)
 
     content_laid : bytes ≡ content (volume t n) t.kind (nth_free n here.k) data_run
     unfolding content
-    content_laid =
-        sym (ap (λ m. take m (joined (volume t n) t.kind data_run)) size_laid
-        ∙ bytes_held (volume t n) (has_free can) here.k t.kind bytes file_blocks datas_hold (chunks_cover t.kind (length bytes)))
+    content_laid = grind (arith, common_steps, data_run, size_laid, bytes_held, has_free, here, file_blocks, datas_hold, chunks_cover)
 
     -- the header or the extension block that names data block j
     named_laid : (q j b a : ℕ) → j / POINTERS ≡ q → At data_run j b
@@ -197,17 +194,8 @@ module _ {t : Tree} {n : ℕ} (can : CanHold t n) (i : ℕ) (e : Entry) (h : At 
     file_laid = subst (λ b. FileFits (volume t n) t (planned t n) (suc i) b bytes) (sym here.at) file_at
 
   body_laid : (b : Body) → e.body ≡ b → BodyFits (volume t n) t.kind (planned t n) (suc i) (nth_free n here.k) b
-  body_laid Dir z = (
-    type_laid ∙ ap (λ b. secondary_of (planned_body n here.k t.kind (slots_of (node_blocks t n) t.entries (suc i)) b)) z,
-    here.exts ∙ (ap (λ b. allocated n (suc here.k) (exts_needed (data_blocks t.kind b))) z ∙ ap (allocated n (suc here.k)) no_exts),
-    here.datas ∙ ap (λ b. allocated n (suc here.k + exts_needed (data_blocks t.kind b)) (data_blocks t.kind b)) z,
-  )
-  body_laid (File bytes) z = (
-    type_laid ∙ ap (λ b. secondary_of (planned_body n here.k t.kind (slots_of (node_blocks t n) t.entries (suc i)) b)) z,
-    content_laid bytes z ∙ ap (content (volume t n) t.kind (nth_free n here.k)) (sym (datas_are bytes z)),
-    sym (size_laid bytes z),
-  )
+  body_laid Dir z = grind (arith, common_steps, type_laid, here, no_exts)
+  body_laid (File bytes) z = grind (arith, common_steps, type_laid, here, content_laid, datas_are, size_laid)
 
   pub entry_laid : EntryFits (volume t n) t (planned t n) (suc i) (at_node (volume t n) (planned t n) (suc i)) e
-  entry_laid = subst (λ b. EntryFits (volume t n) t (planned t n) (suc i) b e) (sym here.at)
-      (record { form = form_laid; name = name_laid; meta = meta_laid; body = body_laid e.body refl })
+  entry_laid = grind (arith, common_steps, here, form_laid, name_laid, meta_laid, body_laid)

@@ -1,11 +1,12 @@
 -- The extension blocks, the data blocks and the content of a built file.
-use Rattle.std.proofs.Common.{◌≡◌, ℕ, zero, suc, List, [], ◌∷◌, ◌++◌, inl, inr, ◌+◌, ◌-◌, ◌*◌, ◌<◌, ◌≤◌, length, take, drop, min, refl, sym, ap, subst}
-use Rattle.std.proofs.Common.{◌∙◌, arith, Bool, true, false, cond, take_all, length-take, length-drop, length-take-le}
-use Rattle.std.specs.Prelude.{nat_lt, slice_index, None, replicate}
+use Rattle.std.proofs.Common.{◌≡◌, ℕ, zero, suc, List, [], ◌∷◌, ◌++◌, inl, inr, ◌+◌, ◌-◌, ◌*◌, ◌<◌, ◌≤◌, length, take, drop, refl, sym, ap, subst}
+use Rattle.std.proofs.Common.{◌∙◌, arith, take_all, length-take, length-drop, length-take-le}
+use Rattle.std.specs.Prelude.{slice_index, None, replicate}
 use Rattle.std.proofs.lemmas.Bool.{cases_lt}
 use Rattle.std.proofs.lemmas.Bool.Decides.{nat_tests}
 use Rattle.std.proofs.lemmas.List.{drop-drop, take-append-le, take-append-drop, take-take}
 use Rattle.std.proofs.Math.Seq.{take-append-add}
+use Rattle.std.proofs.lemmas.Grind.{common_steps}
 use Rattle.adf_base.specs.Words.{block, word}
 use Rattle.adf_base.proofs.WordLaws.{range-with_bytes_same}
 use Rattle.adf_tree.specs.declared.entry.Kind.{Kind}
@@ -36,22 +37,14 @@ allocated_index n k (suc m) zero h = let z : k ≡ k + 0 = omega arith in ap (nt
 allocated_index n k (suc m) (suc j) h = let z : suc k + j ≡ k + suc j = omega arith in allocated_index n (suc k) m j (omega arith) ∙ ap (nth_free n) z
 
 pub allocated_at : (n k m j b : ℕ) → At (allocated n k m) j b → (j < m) × (b ≡ nth_free n (k + j))
-allocated_at n k m j b h =
-    let l : j < length (allocated n k m) = at_below (allocated n k m) j b h in
-    let below : j < m = rw (length_allocated n k m) at l in
-    (below, sym (at_index (allocated n k m) j b h) ∙ allocated_index n k m j below)
+allocated_at n k m j b h = grind (arith, common_steps, m, b, at_below, length_allocated, at_index, allocated_index)
 
 next_some : (n k m : ℕ) → 0 < m → nth_free_or_none n k m ≡ nth_free n k
 next_some n k m h = grind (arith, nat_tests)
 
 -- what names block j of a run
 run_named : (n k m j i d : ℕ) → i ≡ k + j → d ≡ m - j → nth_free_or_none n i d ≡ slice_index (allocated n k m) j
-run_named n k m j i d e f = elim (cases_lt j m) [
-  | inl l ↦ next_some n i d (omega arith) ∙ ap (nth_free n) e ∙ sym (allocated_index n k m j l)
-  | inr l ↦
-      let z : d ≡ 0 = omega arith in
-      rw z (sym (index_past (allocated n k m) j (omega (arith, length_allocated n k m))))
-]
+run_named n k m j i d e f = grind (arith, common_steps, m, cases_lt, next_some, allocated_index, index_past, length_allocated)
 
 -- a list each of whose members names the next one, or 0 behind the last
 spelled_by : (link : ℕ → ℕ) (bs : List ℕ) → ((j b : ℕ) → At bs j b → link b ≡ slice_index bs (suc j)) → Spelled link (slice_index bs 0) bs
@@ -161,15 +154,7 @@ module _ (v : List ℕ) {n total : ℕ} (free : HasFree n total) (k : ℕ) where
     -- pointer q of extension block j names a data block
     pub exts_point : (j b q : ℕ) → At (allocated n (suc k) (exts_needed c)) j b → q < POINTERS → POINTERS * suc j + q < c
         → word_in v b (FIRST_POINTER - q) ≡ nth_free n (suc k + exts_needed c + (POINTERS * suc j + q))
-    exts_point j b q a lt le =
-        let place = allocated_at n (suc k) (exts_needed c) j b a in
-        let first : ℕ = suc k + exts_needed c + POINTERS * suc j in
-        let m : ℕ = min POINTERS (c - POINTERS * suc j) in
-        let i : slice_index (allocated n first m) q ≡ nth_free n (first + q) = allocated_index n first m q (omega arith) in
-        let s = free_small free (first + q) (omega arith) in
-        let z : first + q ≡ suc k + exts_needed c + (POINTERS * suc j + q) = omega arith in
-        rw place.1 (ap (λ bs. word bs (FIRST_POINTER - q)) (ext_held j place.0)
-        ∙ (ext_block-pointer (planned_ext n k c j) q (ext_fits j place.0) lt (omega (arith, i, s)) ∙ (i ∙ ap (nth_free n) z)))
+    exts_point j b q a lt le = grind (arith, common_steps, b, allocated_at, c, allocated_index, free_small, ext_held, ext_block-pointer, ext_fits)
 
   module _ (kind : Kind) (bytes : List ℕ) (room : k + (1 + exts_needed (count kind (length bytes)) + count kind (length bytes)) ≤ total)
       (hold : HoldsBlocks v (data_writes n kind k bytes)) where
@@ -207,20 +192,4 @@ datas_formed v {n = n} free k bytes room hold j b a =
 -- what data block j holds of the bytes
 pub held_long : (bytes : List ℕ) (j : ℕ) → length (take (chunk Ofs) (drop (chunk Ofs * j) bytes)) ≡ held Ofs (length bytes) (suc j)
 unfolding held
-held_long bytes j = length-take c (drop (c * j) bytes) ∙ go (nat_lt (c * suc j) (length bytes)) refl
-  where
-    c : ℕ
-    c = chunk Ofs
-
-    b : length (drop (c * j) bytes) ≡ length bytes - c * j
-    b = length-drop (c * j) bytes
-
-    m : c * suc j ≡ c + c * j
-    m = omega arith
-
-    go : (t : Bool) → nat_lt (c * suc j) (length bytes) ≡ t → min c (length (drop (c * j) bytes)) ≡ cond t c (length bytes - c * (suc j - 1))
-    go true z = let l : c * suc j < length bytes = grind (arith, nat_tests) in omega (arith, b, m)
-    go false z =
-        let l : length bytes ≤ c * suc j = grind (arith, nat_tests) in
-        let e : c * (suc j - 1) ≡ c * j = ap (λ i. c * i) (omega arith) in
-        omega (arith, b, m)
+held_long bytes j = grind (arith, common_steps, length-take, length-drop, nat_tests)

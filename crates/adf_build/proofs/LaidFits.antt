@@ -2,7 +2,7 @@
 use Rattle.std.proofs.Common.{◌≡◌, ℕ, zero, suc, List, [], ◌∷◌, ◌+◌, ◌-◌, ◌*◌, ◌/◌, ◌%◌, ◌^◌, ◌<◌, ◌≤◌, length, map, refl, sym, ap, subst, ◌∙◌, arith}
 use Rattle.std.specs.List.{range_with_len}
 use Rattle.std.proofs.Common.{Bool, true, false, cond}
-use Rattle.std.specs.Prelude.{min, slice_index, None, ◌↔◌, ◌==◌, IsBitSet}
+use Rattle.std.specs.Prelude.{slice_index, None, ◌↔◌, ◌==◌, IsBitSet}
 use Rattle.std.proofs.lemmas.Bool.Decides.{nat_tests}
 use lib.Bits.{bit_and}
 use Rattle.std.proofs.lemmas.Nat.{bit_set_by_shift, and_mask}
@@ -15,7 +15,7 @@ use Rattle.adf_tree.specs.declared.entry.Entry.{Entry}
 use Rattle.adf_tree.specs.Tree.{Tree, IsDir}
 use Rattle.adf_blocks.specs.declared.layout.TheConstants.{FIRST_MAP_EXT, FIRST_PAGE, FIRST_SLOT, MAP_EXT_NEXT, MAP_EXT_PAGES, NAME, NEXT_IN_CHAIN, PAGE_BITS}
 use Rattle.adf_blocks.specs.declared.layout.TheConstants.{ROOT_PAGES, SLOTS}
-use Rattle.adf_blocks.specs.Sizes.{blocks, middle, pages_needed, is_allowed}
+use Rattle.adf_blocks.specs.Sizes.{blocks, middle, pages_needed}
 use Rattle.adf_blocks.specs.Forms.{first_cause, text_at}
 use Rattle.adf_blocks.specs.Fields.{block_of_fields}
 use Rattle.adf_blocks.specs.RootBlock.{root_form, stamps_at}
@@ -47,6 +47,7 @@ use Rattle.adf_build.proofs.LaidWrites.{holds_map_exts, holds_pages, holds_root,
 use Rattle.adf_build.proofs.EntryBlocks.{standing, chain_laid, root_slot, dir_slot}
 use Rattle.adf_build.proofs.LaidEntries.{entry_laid, file_laid}
 use Rattle.std.proofs.lemmas.Bool.{false_from_ne_true, true≢false}
+use Rattle.std.proofs.lemmas.Grind.{common_steps}
 
 boot_holds : (kind : Kind) → first_cause (boot_form (block_of_fields ((0, boot_bytes kind) ∷ []))) ≡ None
 unfolding with_bytes
@@ -60,10 +61,7 @@ boot_kind Ffs = refl
 
 -- a member of a range is known by its place
 pub range_at : (b m j c : ℕ) → At (range_with_len b m) j c → (j < m) × (c ≡ b + j)
-range_at b m j c h =
-    let l : j < length (range_with_len b m) = at_below (range_with_len b m) j c h in
-    let below : j < m = rw (length-range_with_len b m) at l in
-    (below, sym (at_index (range_with_len b m) j c h) ∙ get_or-range_with_len b m j 0 below)
+range_at b m j c h = grind (arith, common_steps, at_below, length-range_with_len, at_index, get_or-range_with_len)
 
 at_range : (b m j : ℕ) → j < m → At (range_with_len b m) j (b + j)
 at_range b zero j h = absurd (omega arith)
@@ -122,12 +120,7 @@ module _ {t : Tree} {n : ℕ} (can : CanHold t n) where
   size = volume_blocks can
 
   boots_laid : AllHold (boot_demands (volume t n))
-  boots_laid =
-      let l : length (volume t n) ≡ n * 512 = volume_long can in
-      let s = size in (
-        (omega arith, ap is_allowed s ∙ can.allowed),
-        all_demanded 0 (boot_form (block (volume t n) 0)) (subst (λ bs. first_cause (boot_form bs) ≡ None) (sym (holds_boot can)) (boot_holds t.kind)),
-      )
+  boots_laid = grind (arith, common_steps, volume_long, size, all_demanded, holds_boot, boot_holds)
 
   kind_laid : t.kind ≡ kind_of (volume t n)
   unfolding kind_of
@@ -146,12 +139,7 @@ module _ {t : Tree} {n : ℕ} (can : CanHold t n) where
   stamps_laid = sym (ap stamps_at (holds_root can) ∙ root_block-stamps (planned_root t n) (fits_root can) can.sound.bounds.stamps)
 
   page_word : (k b : ℕ) → k < ROOT_PAGES → At (range_with_len (middle n + 1) (pages_needed n)) k b → word_in (volume t n) (middle n) (FIRST_PAGE + k) ≡ b
-  page_word k b l h =
-      let at = range_at (middle n + 1) (pages_needed n) k b h in
-      let e : slice_index (range_with_len (middle n + 1) (min ROOT_PAGES (pages_needed n))) k ≡ b =
-      get_or-range_with_len (middle n + 1) (min ROOT_PAGES (pages_needed n)) k 0 (omega arith) ∙ sym at.1 in
-      ap (λ bs. word bs (FIRST_PAGE + k)) (holds_root can)
-      ∙ (root_block-page (planned_root t n) k (fits_root can) l (omega (arith, small can)) ∙ e)
+  page_word k b l h = grind (arith, common_steps, range_at, get_or-range_with_len, holds_root, root_block-page, fits_root, small)
 
   page_at : (q : ℕ) → q < pages_needed n → block (volume t n) (middle n + 1 + q) ≡ page_block (page_words n (entries_blocks t.kind t.entries) q)
   page_at q l =
@@ -212,18 +200,11 @@ module _ {t : Tree} {n : ℕ} (can : CanHold t n) where
 
   -- a bitmap extension block lies in the volume
   map_ext_near : (j : ℕ) → j ≤ map_exts_needed (pages_needed n) → middle n + 1 + pages_needed n + j < 2 ^ 32
-  map_ext_near j l =
-      let p = reserved_parts n in
-      let r = reserved_below n (four can) in
-      omega (arith, small can)
+  map_ext_near j l = grind (arith, common_steps, reserved_parts, reserved_below, four, small)
 
   map_first_laid : (b : ℕ) → At (range_with_len (middle n + 1 + pages_needed n) (map_exts_needed (pages_needed n))) 0 b
       → word_in (volume t n) (middle n) FIRST_MAP_EXT ≡ b
-  map_first_laid b h =
-      let x = range_at (middle n + 1 + pages_needed n) (map_exts_needed (pages_needed n)) 0 b h in
-      let e : b ≡ middle n + 1 + pages_needed n + 0 = x.1 in
-      let small = map_ext_small n 0 (map_ext_near 0 (omega arith)) in
-      ap (λ bs. word bs FIRST_MAP_EXT) (holds_root can) ∙ (root_block-map_ext (planned_root t n) (fits_root can) small ∙ (map_ext_some n 0 x.0 ∙ sym e))
+  map_first_laid b h = grind (arith, common_steps, range_at, map_ext_small, map_ext_near, holds_root, root_block-map_ext, fits_root, map_ext_some)
 
   map_next_laid : (j a b : ℕ) → At (range_with_len (middle n + 1 + pages_needed n) (map_exts_needed (pages_needed n))) j a
       → At (range_with_len (middle n + 1 + pages_needed n) (map_exts_needed (pages_needed n))) (suc j) b
@@ -241,17 +222,7 @@ module _ {t : Tree} {n : ℕ} (can : CanHold t n) where
   page_listed_laid : (j i a b : ℕ) → i < MAP_EXT_PAGES → At (range_with_len (middle n + 1 + pages_needed n) (map_exts_needed (pages_needed n))) j a
       → At (range_with_len (middle n + 1) (pages_needed n)) (ROOT_PAGES + MAP_EXT_PAGES * j + i) b
       → word_in (volume t n) a i ≡ b
-  page_listed_laid j i a b l g h =
-      let x = range_at (middle n + 1 + pages_needed n) (map_exts_needed (pages_needed n)) j a g in
-      let u : j < map_exts_needed (pages_needed n) = x.0 in
-      let y = range_at (middle n + 1) (pages_needed n) (ROOT_PAGES + MAP_EXT_PAGES * j + i) b h in
-      let near = map_ext_near 0 (omega arith) in
-      let s : slice_index (listed_pages n j) i ≡ b =
-      get_or-range_with_len (middle n + 1 + (ROOT_PAGES + MAP_EXT_PAGES * j)) (min MAP_EXT_PAGES (pages_needed n - (ROOT_PAGES + MAP_EXT_PAGES * j))) i 0
-      (omega arith)
-      ∙ omega arith in
-      ap (λ a. word_in (volume t n) a i) x.1
-      ∙ (ap (λ bs. word bs i) (map_ext_is j u) ∙ (map_ext_block-page (listed_pages n j) (map_ext_or_none n (suc j)) i (listed_few n j) l (omega arith) ∙ s))
+  page_listed_laid j i a b l g h = grind (arith, common_steps, range_at, map_ext_near, get_or-range_with_len, map_ext_is, map_ext_block-page, listed_few)
 
   entries_fit : (m : ℕ) (e : Entry) → EntryAt t m e → EntryFits (volume t n) t (planned t n) m (at_node (volume t n) (planned t n) m) e
   entries_fit zero e h = absurd h

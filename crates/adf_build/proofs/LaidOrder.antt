@@ -5,6 +5,7 @@ use Rattle.std.specs.Prelude.{replicate}
 use Rattle.std.proofs.lemmas.Bool.{cases_lt}
 use Rattle.std.proofs.lemmas.List.FromFn.{length-range_with_len}
 use Rattle.std.proofs.lemmas.List.{drop-replicate, take-replicate}
+use Rattle.std.proofs.lemmas.Grind.{common_steps}
 use Rattle.adf_base.specs.Words.{block}
 use Rattle.adf_tree.specs.Tree.{Tree}
 use Rattle.adf_tree.specs.declared.entry.Body.TheVariants.{File}
@@ -68,21 +69,13 @@ no_gap image t k b four lt lo h =
         → In (middle n ∷ (range_with_len (middle n + 1) (reserved n) ++ allocated n 0 m)) b
     put n m four (inl u) c lt h = there n m four (inl u) lt h
     put n m four (inr u) (inl w) lt h = there n m four (inr w) lt h
-    put n m four (inr u) (inr w) lt h = elim (cases_lt (middle n) b) [
-      | inl x ↦ inr (in_left (range_with_len (middle n + 1) (reserved n)) (allocated n 0 m) b
-          (range_in (middle n + 1) (reserved n) b (omega arith) (omega arith)))
-      | inr x ↦ inl (omega arith)
-    ]
+    put n m four (inr u) (inr w) lt h = grind (arith, common_steps, four, cases_lt, in_left, range_in)
 
 -- a part that is laid stands in its block
 pub write_held : (image : List ℕ) (t : Tree) → IsLaid image t → (b : ℕ) (bytes : List ℕ) → In (writes t (blocks image)) (b, bytes)
     → block image b ≡ bytes
 unfolding volume
-write_held image t l b bytes h = ap (λ v. block v b) l.bytes ∙ held
-  where
-    held : block (volume t (blocks image)) b ≡ bytes
-    held = with_blocks_same (blocks image) (replicate (blocks image * 512) 0) (writes t (blocks image)) b bytes
-        (writes_are (can_hold l)) (writes_once (can_hold l)) (zeros_long (blocks image)) h
+write_held image t l b bytes h = grind (arith, common_steps, with_blocks_same, writes_are, can_hold, writes_once, zeros_long)
 
 -- a block of zeros
 zeros : (n b : ℕ) → b < n → block (replicate (n * 512) 0) b ≡ replicate 512 0
@@ -95,11 +88,7 @@ zeros n b lt =
 pub rest_zero : (image : List ℕ) (t : Tree) → IsLaid image t → (b : ℕ) → b < blocks image → (In (numbers_of (writes t (blocks image))) b → ⊥)
     → block image b ≡ replicate 512 0
 unfolding volume
-rest_zero image t l b lt h = ap (λ v. block v b) l.bytes ∙ (other ∙ zeros (blocks image) b lt)
-  where
-    other : block (volume t (blocks image)) b ≡ block (replicate (blocks image * 512) 0) b
-    other = with_blocks_other (blocks image) (replicate (blocks image * 512) 0) (writes t (blocks image)) b (writes_are (can_hold l))
-        (zeros_long (blocks image)) (λ q i e. h (subst (In (numbers_of (writes t (blocks image)))) e (number_in (writes t (blocks image)) q i)))
+rest_zero image t l b lt h = grind (arith, common_steps, zeros, with_blocks_other, writes_are, can_hold, zeros_long, number_in)
 
 -- the blocks of entries are a run of free blocks
 in_a_row : (n : ℕ) (kind : Kind) (k : ℕ) (es : List Entry) → blocks_in_order (places_from n kind k es) ≡ allocated n k (entries_blocks kind es)
@@ -119,8 +108,7 @@ in_a_row n kind k (e ∷ es) =
 exts_planned : (n : ℕ) (kind : Kind) (k : ℕ) (es : List Entry) (i : ℕ) (e : Entry) → At es i e
     → length (exts_at (places_from n kind k es) i) ≡ exts_needed (data_blocks kind e.body)
 exts_planned n kind k [] i e h = absurd h
-exts_planned n kind k (x ∷ es) zero e h =
-    length_allocated n (suc k) (exts_needed (data_blocks kind x.body)) ∙ ap (λ (y : Entry). exts_needed (data_blocks kind y.body)) h
+exts_planned n kind k (x ∷ es) zero e h = grind (arith, common_steps, length_allocated)
 exts_planned n kind k (x ∷ es) (suc i) e h = exts_planned n kind (k + (1 + exts_needed (data_blocks kind x.body) + data_blocks kind x.body)) es i e h
 
 few_needed : (c m : ℕ) → c ≤ POINTERS * (1 + m) → exts_needed c ≤ m

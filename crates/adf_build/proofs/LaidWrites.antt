@@ -2,16 +2,17 @@
 use Rattle.std.proofs.Common.{◌≡◌, ℕ, zero, suc, List, [], ◌∷◌, ◌++◌, inl, inr, ◌+◌, ◌-◌, ◌*◌, ◌^◌, ◌<◌, ◌≤◌, length, refl, sym, subst, arith, true}
 use Rattle.std.specs.List.{range_with_len}
 use Rattle.std.proofs.Common.{append_assoc}
-use Rattle.std.specs.Prelude.{slice_index, replicate, min}
+use Rattle.std.specs.Prelude.{slice_index, replicate}
 use Rattle.std.proofs.lemmas.List.{length-replicate}
 use Rattle.std.proofs.lemmas.List.FromFn.{length-map-range_with_len, length-range_with_len}
+use Rattle.std.proofs.lemmas.Grind.{common_steps}
 use Rattle.adf_base.specs.Words.{block}
 use Rattle.adf_tree.specs.Bounds.{IsBoundedEntry}
 use Rattle.adf_tree.specs.declared.entry.Kind.{Kind}
 use Rattle.adf_tree.specs.declared.entry.Kind.TheVariants.{Ofs, Ffs}
 use Rattle.adf_tree.specs.declared.entry.Entry.{Entry}
 use Rattle.adf_tree.specs.Tree.{Tree}
-use Rattle.adf_blocks.specs.declared.layout.TheConstants.{MAP_EXT_PAGES, PAGE_BITS, ROOT_PAGES, SLOTS}
+use Rattle.adf_blocks.specs.declared.layout.TheConstants.{MAP_EXT_PAGES, PAGE_BITS}
 use Rattle.adf_blocks.specs.Sizes.{blocks, middle, pages_needed, is_allowed}
 use Rattle.adf_blocks.specs.Fields.{block_of_fields}
 use Rattle.adf_blocks.specs.RootBlock.{FitsRoot, root_block}
@@ -21,14 +22,13 @@ use Rattle.adf_blocks.proofs.PageLaws.{length_page_block}
 use Rattle.adf_blocks.proofs.MapExtLaws.{length_map_ext_block}
 use Rattle.adf_volume.specs.Lists.{At}
 use Rattle.adf_volume.specs.Image.{map_exts_needed}
-use Rattle.adf_volume.specs.Layout.{nodes_from}
 use Rattle.adf_volume.proofs.Lists.{in_cases, at_below, at_index_or}
 use Rattle.adf_volume.proofs.Sizes.{size_low, size_high}
 use Rattle.adf_volume.proofs.DistinctBlocks.{Distinct, distinct-append}
 use Rattle.adf_build.specs.Plan.{reserved, entry_blocks, entries_blocks, blocks_needed, allocated}
 use Rattle.adf_build.specs.Bits.{bits_from, is_free_bit, page_words}
 use Rattle.adf_build.specs.Writes.{AreBlocks, NoneTwice, HoldsBlocks, numbers_of}
-use Rattle.adf_build.specs.Laid.{IsLaid, IsWellFormed, boot_bytes, entries_writes, first_block, heads_from, listed_pages, map_ext_or_none}
+use Rattle.adf_build.specs.Laid.{IsLaid, IsWellFormed, boot_bytes, entries_writes, heads_from, listed_pages, map_ext_or_none}
 use Rattle.adf_build.specs.Laid.{map_ext_part, map_ext_writes, node_blocks, page_part, page_writes, planned_root, volume, writes}
 use Rattle.adf_build.proofs.AllocatedBlocks.{free_from, free_below, free_apart, reserved_below, in_allocated, in_range, distinct_allocated, distinct_range}
 use Rattle.adf_build.proofs.AllocatedBlocks.{range_with_len-append}
@@ -48,10 +48,7 @@ boot_short Ffs = refl
 
 -- a bitmap extension block names at most MAP_EXT_PAGES pages
 pub listed_few : (n j : ℕ) → length (listed_pages n j) ≤ MAP_EXT_PAGES
-listed_few n j =
-    let l : length (listed_pages n j) ≡ min MAP_EXT_PAGES (pages_needed n - (ROOT_PAGES + MAP_EXT_PAGES * j)) =
-    length-range_with_len (middle n + 1 + (ROOT_PAGES + MAP_EXT_PAGES * j)) (min MAP_EXT_PAGES (pages_needed n - (ROOT_PAGES + MAP_EXT_PAGES * j))) in
-    omega arith
+listed_few n j = grind (arith, common_steps, length-range_with_len)
 
 page_long : (n total j : ℕ) → length (page_words n total j) ≡ 127
 page_long n total j = length-map-range_with_len (λ w. bits_from (is_free_bit n total) (PAGE_BITS * j + 32 * w) 32) 0 127
@@ -111,14 +108,7 @@ module _ {t : Tree} {n : ℕ} (can : CanHold t n) where
       subst IsBoundedEntry (at_index_or t.entries j e e h) (can.sound.bounds.entries j e l)
 
   pub fits_root : FitsRoot (planned_root t n)
-  fits_root =
-      let r : length (range_with_len (middle n + 1) (min ROOT_PAGES (pages_needed n))) ≡ min ROOT_PAGES (pages_needed n) =
-      length-range_with_len (middle n + 1) (min ROOT_PAGES (pages_needed n)) in
-      record {
-        slots = length-map-range_with_len (λ s. first_block (slice_index (node_blocks t n)) (nodes_from 1 t.entries 0 s)) 0 SLOTS;
-        pages = omega arith;
-        label = can.sound.bounds.label;
-      }
+  fits_root = grind (arith, common_steps, length-range_with_len, length-map-range_with_len)
 
   pub writes_are : AreBlocks n (writes t n)
   writes_are =

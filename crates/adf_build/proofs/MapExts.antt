@@ -5,6 +5,7 @@ use Rattle.adf_blocks.specs.MapExtBlock.{map_ext_block}
 use Rattle.adf_blocks.specs.Sizes.{is_allowed, middle, pages_needed}
 use Rattle.adf_blocks.specs.declared.layout.TheConstants.{MAP_EXT_PAGES, ROOT_PAGES}
 use Rattle.std.specs.List.{range_with_len}
+use Rattle.std.proofs.lemmas.Grind.{common_steps}
 use Rattle.adf_volume.specs.Image.{map_exts_needed}
 use Rattle.adf_volume.proofs.Sizes.{size_high, size_low}
 use Rattle.adf_build.specs.Laid.{map_ext_or_none, map_ext_part}
@@ -16,11 +17,7 @@ use Rattle.adf_build.proofs.Parts.{part_step}
 -- a bitmap extension block lies whole in the image
 pub map_ext_fits : (n b j l : ℕ) → is_allowed n ≡ true → b ≡ middle n + 1 + pages_needed n + j → j < map_exts_needed (pages_needed n) → l ≡ n * 512
     → b * 512 + 512 ≤ l
-map_ext_fits n b j l a g h e =
-    let four = size_low n a in
-    let r = reserved_below n four in
-    let parts = reserved_parts n in
-    omega arith
+map_ext_fits n b j l a g h e = grind (arith, common_steps, size_low, reserved_below, reserved_parts)
 
 -- and they are few
 pub map_exts_few : (n : ℕ) → is_allowed n ≡ true → map_exts_needed (pages_needed n) < 2 ^ 15

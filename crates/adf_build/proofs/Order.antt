@@ -9,6 +9,7 @@ use Rattle.std.proofs.lemmas.Bool.{cases_eq, cases_lt}
 use Rattle.std.proofs.lemmas.Bool.Decides.{nat_tests}
 use Rattle.std.proofs.lemmas.List.{drop_all, get_or-replicate}
 use Rattle.std.proofs.lemmas.List.FromFn.{fill_by_all}
+use Rattle.std.proofs.lemmas.Grind.{common_steps}
 use Rattle.adf_base.specs.Hash.{slot_of}
 use Rattle.adf_tree.specs.declared.entry.Entry.{Entry}
 use Rattle.adf_tree.specs.Chain.{in_chain}
@@ -85,10 +86,7 @@ next_none at n i es rest e f tree here split t =
     rw (split, passed n f rest e.parent (slot_of e.name) h) (ap (first_block at) (none_below (suc n) (rank f) rest e.parent (slot_of e.name) p.1 up))
   where
     further : (p q s u : ℕ) → 72 * p + s ≤ 72 * q + u → s < 72 → u < 72 → (q ≡ p → u ≡ s → ⊥) → 72 * p + s < 72 * q + u
-    further p q s u l a b h = elim (cases_lt p q) [
-      | inl k ↦ omega arith
-      | inr k ↦ let e : q ≡ p = omega arith in let ne : u ≡ s → ⊥ = h e in omega arith
-    ]
+    further p q s u l a b h = grind (arith, common_steps, cases_lt)
 
 pub next_end : (at : ℕ → ℕ) (n i p s : ℕ) (es : List Entry) → length es ≤ i → first_block at (nodes_from n (drop i es) p s) ≡ 0
 next_end at n i p s es h = rw (drop_all i es h)
@@ -100,10 +98,7 @@ parent_below es rest i e t split l = subst (λ (x : Entry). x.parent ≤ i) (pla
 -- one child more
 pub mine_step : (es : List Entry) (p from end : ℕ) (e : Entry) → drop end es ≡ e ∷ drop (end + 1) es → e.parent ≡ p
     → AllWithin (λ (e : Entry). e.parent ≡ p) es from end → AllWithin (λ (e : Entry). e.parent ≡ p) es from (end + 1)
-mine_step es p from end e here h w = λ k d lo hi. elim (cases_lt k end) [
-  | inl l ↦ w k d lo l
-  | inr l ↦ let z : k ≡ end = omega arith in rw (z, place_is es (drop (end + 1) es) end e d here) h
-]
+mine_step es p from end e here h w = grind (arith, common_steps, cases_lt, place_is)
 
 pub low_step : (es : List Entry) (r end : ℕ) (e : Entry) → drop end es ≡ e ∷ drop (end + 1) es → RisesFrom r (drop end es) → RisesFrom r (drop (end + 1) es)
 low_step es r end e here o = let p = rw here at o in rises_low r (rank e) (drop (end + 1) es) p.0 p.1
@@ -111,9 +106,7 @@ low_step es r end e here o = let p = rw here at o in rises_low r (rank e) (drop 
 -- the chains of other nodes begin behind a child
 pub others_step : (es : List Entry) (end p : ℕ) (e : Entry) (q s : ℕ) → drop end es ≡ e ∷ drop (end + 1) es → e.parent ≡ p → q ≢ p
     → nodes_from (end + 1) (drop end es) q s ≡ nodes_from (end + 1 + 1) (drop (end + 1) es) q s
-others_step es end p e q s here h ne =
-    let up : end + 1 + 1 ≡ suc (end + 1) = omega arith in
-    rw (here, up) (passed (end + 1) e (drop (end + 1) es) q s (λ a b. ne (sym a ∙ h)))
+others_step es end p e q s here h ne = grind (arith, common_steps, passed)
 
 -- no slot is filled behind the children
 pub slots_start : (at : ℕ → ℕ) (n p s : ℕ) (left : List Entry) → RisesFrom (72 * (p + 1)) left → s < 72

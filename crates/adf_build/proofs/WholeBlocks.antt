@@ -1,9 +1,10 @@
 -- Each built part is a whole block in the volume.
-use Rattle.std.proofs.Common.{◌≡◌, ℕ, suc, List, [], ◌∷◌, ◌++◌, ◌+◌, ◌-◌, ◌*◌, ◌^◌, ◌<◌, ◌≤◌, length, take, drop, min, refl, arith, Bool, true, false, cond}
+use Rattle.std.proofs.Common.{◌≡◌, ℕ, suc, List, [], ◌∷◌, ◌++◌, ◌+◌, ◌-◌, ◌*◌, ◌^◌, ◌<◌, ◌≤◌, length, take, drop, refl, arith, true}
 use Rattle.std.proofs.Common.{length-take}
-use Rattle.std.specs.Prelude.{nat_lt, slice_index}
+use Rattle.std.specs.Prelude.{slice_index}
 use Rattle.std.proofs.lemmas.Bool.Decides.{nat_tests}
 use Rattle.std.proofs.lemmas.List.FromFn.{length-map-range_with_len}
+use Rattle.std.proofs.lemmas.Grind.{common_steps}
 use Rattle.adf_tree.specs.Texts.{is_name}
 use Rattle.adf_tree.specs.declared.entry.Kind.{Kind}
 use Rattle.adf_tree.specs.declared.entry.Kind.TheVariants.{Ofs, Ffs}
@@ -11,7 +12,7 @@ use Rattle.adf_tree.specs.declared.entry.Body.{Body}
 use Rattle.adf_tree.specs.declared.entry.Body.TheVariants.{Dir, File}
 use Rattle.adf_tree.specs.declared.entry.Entry.{Entry}
 use Rattle.adf_tree.specs.Tree.{Tree}
-use Rattle.adf_blocks.specs.declared.layout.TheConstants.{DATA_ROOM, POINTERS, SLOTS}
+use Rattle.adf_blocks.specs.declared.layout.TheConstants.{DATA_ROOM, SLOTS}
 use Rattle.adf_blocks.specs.HeadBlock.{FitsHead, FitsBody, HeadFields}
 use Rattle.adf_blocks.specs.ExtBlock.{FitsExt}
 use Rattle.adf_blocks.specs.DataBlock.{FitsData}
@@ -21,10 +22,9 @@ use Rattle.adf_blocks.proofs.ExtLaws.{length_ext_block}
 use Rattle.adf_blocks.proofs.DataLaws.{length_data_block}
 use Rattle.adf_blocks.specs.Sizes.{chunk, count}
 use Rattle.adf_volume.specs.Lists.{At}
-use Rattle.adf_volume.specs.Layout.{nodes_from}
-use Rattle.adf_build.specs.Plan.{exts_needed, data_blocks, entry_blocks, entries_blocks, nth_free, allocated}
+use Rattle.adf_build.specs.Plan.{exts_needed, data_blocks, entry_blocks, entries_blocks, nth_free}
 use Rattle.adf_build.specs.Writes.{AreBlocks}
-use Rattle.adf_build.specs.Laid.{body_writes, data_bytes, data_part, data_writes, entries_writes, ext_part, ext_writes, first_block, node_blocks}
+use Rattle.adf_build.specs.Laid.{body_writes, data_bytes, data_part, data_writes, entries_writes, ext_part, ext_writes, node_blocks}
 use Rattle.adf_build.specs.Laid.{nth_free_or_none, planned_body, planned_data, planned_ext, planned_head, planned_spot, slots_of}
 use Rattle.adf_build.proofs.Parts.{are_parts}
 use Rattle.adf_build.proofs.AllocatedBlocks.{free_from, length_allocated}
@@ -56,26 +56,15 @@ module _ {n total : ℕ} (free : HasFree n total) where
   free_small k l = omega (arith, free.small, free.below k l)
 
   pub next_small : (k m : ℕ) → k + m ≤ total → nth_free_or_none n k m < 2 ^ 32
-  next_small k m h = go (nat_lt 0 m) refl
-    where
-      go : (t : Bool) → nat_lt 0 m ≡ t → cond t (nth_free n k) 0 < 2 ^ 32
-      go true z = let l : 0 < m = grind (arith, nat_tests) in free_small k (omega arith)
-      go false z = omega arith
+  next_small k m h = grind (arith, common_steps, nat_tests, free_small)
 
   -- the blocks of a file of c data blocks whose header is the k-th free block
   pub fits_ext : (k c j : ℕ) → k + (1 + exts_needed c + c) ≤ total → j < exts_needed c → FitsExt (planned_ext n k c j)
-  fits_ext k c j l lt =
-      let r = length_allocated n (suc k + exts_needed c + POINTERS * suc j) (min POINTERS (c - POINTERS * suc j)) in
-      record { own = free_small (suc k + j) (omega arith); head = free_small k (omega arith); table = omega (arith, r) }
+  fits_ext k c j l lt = grind (arith, common_steps, length_allocated, free_small)
 
   pub fits_data : (k : ℕ) (bytes : List ℕ) (j : ℕ) → let c = count Ofs (length bytes) in k + (1 + exts_needed c + c) ≤ total → j < c
       → FitsData (planned_data n Ofs k bytes j)
-  fits_data k bytes j l lt =
-      let t = length-take (chunk Ofs) (drop (chunk Ofs * j) bytes) in
-      let c = chunk_ofs in
-      let f = free_from n (suc j) in
-      let s = free_small (suc j) (omega arith) in
-      record { head = free_small k (omega arith); number = omega (arith, f, s); next = next_small _ _ (omega arith); bytes = omega (arith, t, c) }
+  fits_data k bytes j l lt = grind (arith, common_steps, length-take, chunk_ofs, free_from, free_small, next_small)
 
   pub data_long : (kind : Kind) (k : ℕ) (bytes : List ℕ) (j : ℕ) → let c = count kind (length bytes) in k + (1 + exts_needed c + c) ≤ total → j < c
       → length (data_bytes kind (planned_data n kind k bytes j)) ≡ 512
@@ -97,22 +86,11 @@ module _ {n total : ℕ} (free : HasFree n total) where
 
   pub fits_body : (k : ℕ) (kind : Kind) (slots : List ℕ) (body : Body) → length slots ≡ SLOTS → FitsBody (planned_body n k kind slots body)
   fits_body k kind slots Dir h = h
-  fits_body k kind slots (File bytes) h =
-      let c : ℕ = count kind (length bytes) in
-      let r : length (allocated n (suc k + exts_needed c) (min POINTERS c)) ≡ min POINTERS c = length_allocated n (suc k + exts_needed c) (min POINTERS c) in
-      omega arith
+  fits_body k kind slots (File bytes) h = grind (arith, common_steps, length_allocated)
 
   pub fits_head : (t : Tree) (i k : ℕ) (e : Entry) (es : List Entry) → ((j : ℕ) → slice_index (node_blocks t n) j < 2 ^ 32)
       → k < total → is_name e.name ≡ true → length e.meta.comment ≤ 79 → FitsHead (entry_head n t i k e es)
-  fits_head t i k e es near l name comment =
-      record {
-        own = free_small k l;
-        parent = near e.parent;
-        name = name;
-        comment = comment;
-        body = fits_body k t.kind (slots_of (node_blocks t n) t.entries i) e.body
-            (length-map-range_with_len (λ s. first_block (slice_index (node_blocks t n)) (nodes_from 1 t.entries i s)) 0 SLOTS);
-      }
+  fits_head t i k e es near l name comment = grind (arith, common_steps, free_small, fits_body, length-map-range_with_len)
 
   pub are_entries : (t : Tree) (i k : ℕ) (es : List Entry) → ((j : ℕ) → slice_index (node_blocks t n) j < 2 ^ 32)
       → k + entries_blocks t.kind es ≤ total

@@ -1,6 +1,7 @@
 -- The built volume of a tree as a whole.
-use Rattle.std.proofs.Common.{◌≡◌, ◌*◌, ℕ, List, refl, sym, ap, subst}
+use Rattle.std.proofs.Common.{◌≡◌, ◌*◌, ℕ, List, refl, sym, subst, arith}
 use Rattle.std.specs.Prelude.{replicate}
+use Rattle.std.proofs.lemmas.Grind.{common_steps}
 use Rattle.adf_tree.specs.Bounds.{IsBounded}
 use Rattle.adf_tree.specs.Tree.{IsTree, Tree}
 use Rattle.adf_volume.specs.Fits.{Fits}
@@ -19,10 +20,7 @@ well_formed t bounds tree = record { tree = tree; bounds = bounds }
 
 -- the volume of a tree is laid for it
 pub volume_laid : {t : Tree} {n : ℕ} → CanHold t n → IsLaid (volume t n) t
-volume_laid {t} {n} can =
-    let size = sym (volume_blocks can) in
-    let there = subst (CanHold t) size can in
-    record { sound = there.sound; size = there.allowed; room = there.room; bytes = ap (volume t) size }
+volume_laid {t} {n} can = grind (arith, common_steps, volume_blocks)
 
 pub is_laid : {image : List ℕ} (t : Tree) (n : ℕ) → image ≡ volume t n → CanHold t n → IsLaid image t
 is_laid t n e can = subst (λ im. IsLaid im t) (sym e) (volume_laid can)

@@ -3,6 +3,7 @@ use Rattle.std.proofs.Common.{◌≡◌, ◌<◌, ◌+◌, ◌-◌, ◌*◌, ℕ
 use Rattle.std.specs.Prelude.{slice_index}
 use Rattle.std.specs.List.{range_with_len}
 use Rattle.std.proofs.lemmas.List.{drop-drop, drop_min, take_min}
+use Rattle.std.proofs.lemmas.Grind.{common_steps}
 use Rattle.adf_base.specs.Hash.{slot_of}
 use Rattle.adf_base.specs.Words.{with_block}
 use Rattle.adf_tree.specs.declared.entry.Body.TheVariants.{File}
@@ -47,10 +48,7 @@ data_step image old all n kind k j c exts first b head next m bytes left held lt
 -- the bytes that are left behind a data block
 pub left_step : (kind : Kind) (j m : ℕ) (bytes left rest : List ℕ) → left ≡ drop (chunk kind * j) bytes → m ≡ min (chunk kind) (length left)
     → rest ≡ drop m left → rest ≡ drop (chunk kind * (j + 1)) bytes
-left_step kind j m bytes left rest l e g =
-    let z : chunk kind * j + chunk kind ≡ chunk kind * (j + 1) = omega arith in
-    g ∙ ap (λ m. drop m left) e ∙ drop_min (chunk kind) left ∙ ap (drop (chunk kind)) l ∙ drop-drop (chunk kind) (chunk kind * j) bytes
-    ∙ ap (λ i. drop i bytes) z
+left_step kind j m bytes left rest l e g = grind (arith, common_steps, drop_min, drop-drop)
 
 -- one extension block more
 pub ext_step : (image old all table : List ℕ) (n k j c exts b head before m next : ℕ) → j < exts → exts ≡ exts_needed c → before ≡ POINTERS * (1 + j)
@@ -79,9 +77,7 @@ nodes_length nodes t n e = let l = ap length e in let h = heads_length n t.kind 
 pub room_step : (kind : Kind) (k j total : ℕ) (left rest : List Entry) (e : Entry) → left ≡ e ∷ rest → j ≡ k + entry_blocks kind e
     → k + entries_blocks kind left ≡ total
     → j + entries_blocks kind rest ≡ total
-room_step kind k j total left rest e split skip inv =
-    let s : entries_blocks kind left ≡ entry_blocks kind e + entries_blocks kind rest = ap (entries_blocks kind) split in
-    omega arith
+room_step kind k j total left rest e split skip inv = grind (arith, common_steps)
 
 one_spot : (a b : Spot) → a.k ≡ b.k → a.parent ≡ b.parent → a.next ≡ b.next → a ≡ b
 one_spot a b e f g = λ i. record { k = e i; parent = f i; next = g i }
@@ -120,12 +116,7 @@ pub file_step : (image old head mid bytes slots table : List ℕ) (n : ℕ) (kin
     → mid ≡ with_blocks head (ext_writes n here.k c)
     → image ≡ with_blocks mid (data_writes n kind here.k bytes)
     → image ≡ with_blocks old (entry_writes n kind here slots e)
-file_step image old head mid bytes slots table n kind here e size c exts m next b d x f s t a h w i =
-    let many : c ≡ count kind (length bytes) = d ∙ ap (data_blocks kind) b in
-    let one : here.k + 1 ≡ suc here.k = omega arith in
-    let first : here.k + 1 + exts ≡ suc here.k + exts = omega arith in
-    let all = with_blocks-append head (ext_writes n here.k (count kind (length bytes))) (data_writes n kind here.k bytes) in
-    rw b (cc)
+file_step image old head mid bytes slots table n kind here e size c exts m next b d x f s t a h w i = grind (arith, common_steps, with_blocks-append)
 
 -- the root, with what it names
 pub root_step : (image old slots numbers : List ℕ) (label : List ℕ) (stamps : Stamps) (t : Tree) (n root first few next : ℕ)

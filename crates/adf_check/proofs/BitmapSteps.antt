@@ -3,6 +3,7 @@ use Rattle.adf_volume.specs.Fault.{IsTrueFault}
 use Rattle.std.proofs.Common.{◌≡◌, ◌≢◌, inl, inr, ℕ, zero, suc, List, ◌++◌, ◌+◌, ◌-◌, ◌*◌, ◌/◌, ◌%◌, ◌<◌, ◌≤◌, refl, sym, ap, subst, ◌∙◌, arith}
 use Rattle.std.proofs.Common.{Bool, true, false}
 use Rattle.std.specs.Prelude.{IfErr, Result, Ok, Err, slice_index, IsTrue, ◌↔◌, IsBitSet}
+use Rattle.std.proofs.lemmas.Grind.{common_steps}
 use Rattle.adf_blocks.specs.declared.cause.Cause.{Cause}
 use Rattle.adf_blocks.specs.declared.cause.Cause.TheVariants.{LostBlock, OwnedFree}
 use Rattle.adf_blocks.specs.Sizes.{blocks, pages_needed}
@@ -35,10 +36,7 @@ clash a b = let e : true ≡ false = sym a ∙ b in cc
 -- the demands of n blocks, and then those of the blocks behind them
 bitmap_split : (image : List ℕ) (w : List (Role × ℕ)) (b n m : ℕ)
     → bitmap_demands image w b (n + m) ≡ bitmap_demands image w b n ++ bitmap_demands image w (b + n) m
-bitmap_split image w b zero m =
-    let e : b ≡ b + 0 = omega arith in
-    let z : 0 + m ≡ m = omega arith in
-    ap (bitmap_demands image w b) z ∙ ap (λ b. bitmap_demands image w b m) e
+bitmap_split image w b zero m = grind (arith, common_steps)
 bitmap_split image w b (suc n) m =
     let e : suc b + n ≡ b + suc n = omega arith in
     let z : suc n + m ≡ suc (n + m) = omega arith in
@@ -168,8 +166,7 @@ pub owned_run : (i n : ℕ) {image : List ℕ} {store : StoreValue} {pages : Lis
     → AreListed image pages (pages_needed (blocks image)) → 0 ≡ word_in image (slice_index pages (i / 127)) (1 + i % 127)
     → ((b : ℕ) → 2 + 32 * i ≤ b → b < 2 + 32 * i + n → kept_at store.owners b ≢ Free) → IsMapped image store (2 + 32 * i)
     → IsMapped image store (2 + 32 * i + n)
-owned_run i zero {image = image} {store = store} few hi begun listed none owned st =
-    let e : 2 + 32 * i ≡ 2 + 32 * i + 0 = omega arith in subst (IsMapped image store) e st
+owned_run i zero {image = image} {store = store} few hi begun listed none owned st = grind (arith, common_steps)
 owned_run i (suc n) {image = image} {store = store} few hi begun listed none owned st =
     let before = owned_run i n (omega arith) (omega arith) begun listed none (λ c lo lt. owned c lo (omega arith)) st in
     let here : kept_at store.owners (2 + 32 * i + n) ≢ Free = owned (2 + 32 * i + n) (omega arith) (omega arith) in

@@ -4,6 +4,8 @@ use Rattle.std.proofs.Common.{Bool, true, false, Option, Some, None}
 use Rattle.std.specs.Prelude.{IfSome}
 use Rattle.std.specs.Str.{bytes_eq}
 use Rattle.std.proofs.lemmas.Slice.Eq.{bytes_eq-Decides}
+use Rattle.std.proofs.lemmas.List.{nil_from_length}
+use Rattle.std.proofs.lemmas.Grind.{common_steps}
 use native.Mathlib.Decide.{dec_lt, ℕ_discrete}
 use Rattle.adf_blocks.specs.declared.layout.TheConstants.{FIRST_SLOT, NAME, NEXT_IN_CHAIN, SECONDARY_TYPE, SLOTS, ST_DIR, ST_FILE}
 use Rattle.adf_base.specs.Hash.{slot_of}
@@ -27,7 +29,7 @@ use Rattle.adf_volume.specs.Walk.Role.{Head}
 use Rattle.adf_volume.proofs.Chains.{SlotEntry, chain_rises, entry_at, entry_below}
 use Rattle.adf_volume.proofs.Finds.{chain_no, chain_yes}
 use Rattle.adf_volume.proofs.LayoutRoles.{part_owned, part_range}
-use Rattle.adf_volume.proofs.Lists.{at_below, at_fun, at_map, at_some, at_unmap, no_length, spelled_first, spelled_link, spelled_next, spelled_word}
+use Rattle.adf_volume.proofs.Lists.{at_below, at_fun, at_map, at_some, at_unmap, spelled_first, spelled_link, spelled_next, spelled_word}
 use Rattle.adf_volume.proofs.TreeOrder.{DirNode, is_dir, ordered}
 use Rattle.adf_check.specs.Lookup.{headed}
 use Rattle.adf_check.specs.Reading.{StoreFits}
@@ -50,9 +52,7 @@ module _ (image : List ℕ) (b : ℕ) (name : List ℕ) {told head bytes : List 
   same_name e = sym told_is ∙ (bytes_eq-Decides (uppers told) (uppers name)).0 (sym compared ∙ e)
 
   pub other_name : t ≡ false → uppers (name_of image b) ≢ uppers name
-  other_name e same =
-      let yes : bytes_eq (uppers told) (uppers name) ≡ true = (bytes_eq-Decides (uppers told) (uppers name)).1 (told_is ∙ same) in
-      cc
+  other_name e same = grind (arith, common_steps, bytes_eq-Decides, told_is)
 
 -- the nodes from that of the header at a block on, by its owner
 abbrev node_left : ℕ → KeptOwner → ℕ
@@ -119,7 +119,7 @@ module _ {image : List ℕ} {store : StoreValue} {t : Tree} {l : Layout} (k : St
             let x = entry_at t p s 0 n.0 n.1 in
             absurd (h (type_of p ne (subst (DirNode t) x.parent ((ordered t k.fits.tree).parents n.0 x.entry x.at).1)))
         | no none ↦
-            subst (λ ns. Spelled (next_in image) 0 (map (at_node image l) ns)) (sym (no_length (chain_nodes t p s) (omega arith))) refl
+            subst (λ ns. Spelled (next_in image) 0 (map (at_node image l) ns)) (sym (nil_from_length (chain_nodes t p s) (omega arith))) refl
       ]
 
   module _ (p : ℕ) (name : List ℕ) where
@@ -145,14 +145,7 @@ module _ {image : List ℕ} {store : StoreValue} {t : Tree} {l : Layout} (k : St
 
   module _ {p : ℕ} {name : List ℕ} where
     pub chain_begins : (b : ℕ) → Spelled (next_in image) b (heads_named image t l p name) → OnChain image t l p name b
-    chain_begins b h = record {
-      first = b;
-      spelled = h;
-      place = 0;
-      here = spelled_first (next_in image) b (heads_named image t l p name) h;
-      ended = (λ z. ends_by p name 0 (λ c a. sym z ∙ spelled_word (next_in image) b (heads_named image t l p name) c h a));
-      passed = (λ j n e lt. absurd (omega arith));
-    }
+    chain_begins b h = grind (arith, common_steps, spelled_first, next_in, heads_named, ends_by, spelled_word)
 
     -- no header is left
     pub chain_ended : OnChain image t l p name 0 → child t.entries p name ≡ None

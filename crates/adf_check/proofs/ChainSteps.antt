@@ -6,6 +6,7 @@ use Rattle.std.specs.Prelude.{◌↔◌}
 use Rattle.std.proofs.lemmas.Bool.Decides.{Decides-or}
 use Rattle.std.specs.Str.{bytes_eq}
 use Rattle.std.proofs.lemmas.Slice.Eq.{bytes_eq-Decides}
+use Rattle.std.proofs.lemmas.Grind.{common_steps}
 use Rattle.adf_blocks.specs.declared.layout.TheConstants.{FIRST_SLOT, NAME, NEXT_IN_CHAIN, SLOTS}
 use Rattle.adf_base.specs.Words.{block, word}
 use Rattle.adf_tree.specs.Texts.{uppers}
@@ -49,19 +50,7 @@ chain_ends image store p up s a seen st = record {
 -- a slot's chain begins at the directory, and nothing of it was seen
 pub chain_begins : (image : List ℕ) (store : StoreValue) (p up s : ℕ) (seen : List ℕ → Type 0) → ((x : List ℕ) → seen x → ⊥) → IsAtSlot image store p up s
     → IsInChain image store p up s up (word_in image up (FIRST_SLOT + s)) seen
-chain_begins image store p up s seen none st = record {
-  walk = st.walk;
-  place = 0;
-  read = st.read;
-  dir = st.dir;
-  index = FIRST_SLOT + s;
-  link = (st.dir, refl);
-  named = refl;
-  sees = record {
-    all = (λ m k c h. let x = st.read.up_to.taken (Head m p s k) c h in let y : k < 0 = x.2 refl refl in absurd (omega arith));
-    only = (λ x h. absurd (none x h));
-  };
-}
+chain_begins image store p up s seen none st = grind (arith, common_steps)
 
 -- a slot whose word is 0 has no chain
 pub empty_chain : (image : List ℕ) (store : StoreValue) (p up s : ℕ) → IsAtSlot image store p up s → word_in image up (FIRST_SLOT + s) ≡ 0
@@ -80,13 +69,7 @@ seen_more old new name h x = rw (h x) (Decides-or (bytes_eq name x) (has old x) 
 module _ {image : List ℕ} {store : StoreValue} {p up s a b : ℕ} {seen : List ℕ → Type 0} (lt : s < SLOTS) (begun : IsBegun image)
     (st : IsInChain image store p up s a b seen) (ne : b ≢ 0) where
   pub head_named : IsNextAt image store st.walk (next_head st.walk p s st.place) a b
-  head_named = record {
-    begun = begun;
-    read = st.read;
-    index = st.index;
-    asked = link_asks image st.walk p s st.place a st.index lt st.link (λ z. ne (sym st.named ∙ z));
-    names = st.named;
-  }
+  head_named = grind (arith, common_steps, link_asks)
 
   form_at : (P : List Demand → Type 0) → P (head_demands image (kind_of image) b up s) → P (form_demands image st.walk (next_head st.walk p s st.place) b)
   form_at P =

@@ -1,9 +1,10 @@
 -- One step of a check: the next role is claimed and kept, or refused as the first fault.
 use Rattle.adf_check.specs.Claims.{InRange, IsClaimFault}
-use Rattle.std.proofs.Common.{◌≡◌, ℕ, suc, List, [], ◌∷◌, ◌++◌, ◌+◌, ◌<◌, length, set, count_by, inl, inr, refl, sym, ap, subst, ◌∙◌, arith, Result, Ok, Err}
+use Rattle.std.proofs.Common.{◌≡◌, ℕ, suc, List, [], ◌∷◌, ◌++◌, ◌+◌, length, set, count_by, inl, inr, refl, sym, ap, subst, ◌∙◌, arith, Result, Ok, Err}
 use Rattle.std.specs.Prelude.{IfErr, IsOk, OnOk}
+use Rattle.std.proofs.lemmas.Grind.{common_steps}
 use Rattle.adf_blocks.specs.declared.cause.Cause.{Cause}
-use Rattle.adf_blocks.specs.declared.cause.Cause.TheVariants.{OutOfRange, Taken, SameName, ShortFile}
+use Rattle.adf_blocks.specs.declared.cause.Cause.TheVariants.{Taken, SameName, ShortFile}
 use Rattle.adf_blocks.specs.Sizes.{blocks}
 use Rattle.adf_volume.specs.Demands.{Demand, demand, AllHold, FirstFails}
 use Rattle.adf_volume.specs.Image.{word_in}
@@ -69,17 +70,7 @@ pub record IsStored (image : List ℕ) (old new : StoreValue) (r : Role) (b : �
   pub used : new.used ≡ old.used + 1
 
 stored_is : (image : List ℕ) (old new : StoreValue) (r : Role) (b : ℕ) → IsStored image old new r b → stored image old r b ≡ new
-stored_is image old new r b s =
-    let used : suc old.used ≡ new.used = omega (arith, s.used) in
-    λ i. record {
-      owners = (sym s.owners) i;
-      headers = (sym s.headers) i;
-      dirs = (sym s.dirs) i;
-      starts = (sym s.starts) i;
-      exts = (sym s.exts) i;
-      datas = (sym s.datas) i;
-      used = used i;
-    }
+stored_is image old new r b s = grind (arith, common_steps)
 
 module _ {image : List ℕ} {store : StoreValue} {w : List (Role × ℕ)} {r : Role} {a b : ℕ} (st : IsNextAt image store w r a b) where
   is_due : IsDue image w r a st.index
@@ -104,9 +95,7 @@ module _ {image : List ℕ} {store : StoreValue} {w : List (Role × ℕ)} {r : R
   module _ (enough : Enough image w r) where
     -- the block is not claimed
     claim_fault : (f : Fault) → IsClaimFault store.owners a b f → IsTrueFault image f
-    claim_fault f (inl out) =
-        subst (IsTrueFault image) (sym out.1)
-        (is_fault a OutOfRange (inr (enough, inl ((λ k. out.0 (subst (λ n. InRange n b) (sym st.read.tells.owns.size) k)), refl, refl))))
+    claim_fault f (inl out) = grind (arith, common_steps, is_fault)
     claim_fault f (inr taken) =
         let within = in_image taken.0 in
         let present = taken_present image store.owners w st.read.tells.owns b within.0 within.1 taken.1 in
@@ -117,9 +106,6 @@ module _ {image : List ℕ} {store : StoreValue} {w : List (Role × ℕ)} {r : R
     claim_refused (Err f) h = claim_fault f h
 
     module _ (range : InRange (length store.owners) b) (free : kept_at store.owners b ≡ Free) where
-      pub inside : b < blocks image
-      inside = (in_image range).1
-
       abbrev late_demands : List Demand
       late_demands = form_demands image w r b ++ demand SameName b (NewName image w r b) ∷ []
 

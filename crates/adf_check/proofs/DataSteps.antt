@@ -4,6 +4,7 @@ use Rattle.std.proofs.Common.{◌≡◌, ℕ, zero, suc, List, [], ◌∷◌, �
 use Rattle.std.proofs.Common.{arith}
 use Rattle.std.specs.Prelude.{nat_lt, slice_index}
 use Rattle.std.proofs.lemmas.Bool.{ltb-true}
+use Rattle.std.proofs.lemmas.Grind.{common_steps}
 use Rattle.adf_blocks.specs.declared.layout.TheConstants.{POINTERS, SIZE}
 use Rattle.adf_blocks.specs.declared.cause.Cause.{Cause}
 use Rattle.adf_blocks.specs.declared.cause.Cause.TheVariants.{ShortFile}
@@ -61,13 +62,7 @@ module _ {image : List ℕ} {store : StoreValue} {n h : ℕ} {table : List ℕ} 
 
   named_by : k < data_count image h → (c b : ℕ) → At table (k / POINTERS) c → b ≡ word_in image c (table_word k)
       → IsNextAt image store st.walk (Data n (suc k)) c b
-  named_by lt c b x e = record {
-    begun = begun;
-    read = st.read;
-    index = table_word k;
-    asked = ((h, st.holds.file, lt), st.holds.members (k / POINTERS) c x, refl);
-    names = sym e;
-  }
+  named_by lt c b x e = grind (arith, common_steps)
 
   -- the table names too few data blocks
   pub too_short : k ≡ 0 → POINTERS * length table < data_count image h → IsTrueFault image (fault h ShortFile)
@@ -85,8 +80,7 @@ module _ {image : List ℕ} {store : StoreValue} {n h : ℕ} {table : List ℕ} 
       (e : b ≡ word_in image (slice_index table (k / POINTERS)) (table_word k))
     where
       pub data_named : IsNextAt image store st.walk (Data n (suc k)) holder b
-      data_named = subst (λ c. IsNextAt image store st.walk (Data n (suc k)) c b) (sym holds_it)
-          (named_by (omega arith) (slice_index table (k / POINTERS)) b (at_or table (k / POINTERS) 0 (omega arith)) e)
+      data_named = grind (arith, common_steps, named_by, at_or)
 
       pub data_enough : Enough image st.walk (Data n (suc k))
       data_enough _ a f =

@@ -1,7 +1,8 @@
 -- The steps along the extension blocks of a file.
 use Rattle.adf_check.specs.Claims.{InRange}
-use Rattle.std.proofs.Common.{◌≡◌, ◌≢◌, inl, inr, ℕ, zero, suc, List, [], ◌∷◌, ◌++◌, length, refl, sym, ap}
+use Rattle.std.proofs.Common.{◌≡◌, ◌≢◌, inl, inr, ℕ, zero, suc, List, [], ◌∷◌, ◌++◌, length, refl, sym, ap, arith}
 use Rattle.std.proofs.Common.{subst, ◌∙◌, Some, None}
+use Rattle.std.proofs.lemmas.Grind.{common_steps}
 use Rattle.adf_blocks.specs.declared.layout.TheConstants.{EXTENSION}
 use Rattle.adf_base.specs.Words.{block, word}
 use Rattle.adf_blocks.specs.declared.cause.Cause.{Cause}
@@ -60,13 +61,7 @@ exts_end image store n h table a st = record {
 module _ {image : List ℕ} {store : StoreValue} {n h : ℕ} {table : List ℕ} {a b : ℕ} (begun : IsBegun image) (st : IsInExts image store n h table a b)
     (ne : b ≢ 0) where
   pub ext_named : IsNextAt image store st.walk (Ext n (suc st.extra)) a b
-  ext_named = record {
-    begun = begun;
-    read = st.read;
-    index = EXTENSION;
-    asked = ext_asks image st.walk n st.extra a st.member (λ z. ne (sym st.named ∙ z));
-    names = st.named;
-  }
+  ext_named = grind (arith, common_steps, ext_asks)
 
   form_at : (P : List Demand → Type 0) → P (ext_demands image b h) → P (form_demands image st.walk (Ext n (suc st.extra)) b)
   form_at P = subst (λ h. P (ext_demands image b h)) (sym (file_is image st.walk n h st.read.is_walk st.holds.file))

@@ -6,6 +6,7 @@ use Rattle.std.proofs.lemmas.Bool.{eqb-true, false_from_ne_true, le-ltb, lt-ltb,
 use Rattle.std.proofs.lemmas.Bool.Decides.{nat_tests}
 use Rattle.std.proofs.lemmas.List.{append-nil}
 use Rattle.std.proofs.Math.Seq.{drop-append_seam, take-append_seam}
+use Rattle.std.proofs.lemmas.Grind.{common_steps}
 use Rattle.adf_volume.specs.Image.{root_of}
 use Rattle.adf_volume.specs.Walk.{Role, first, Has, IsWalk}
 use Rattle.adf_volume.specs.Walk.Role.{Root, Ext, Data}
@@ -69,27 +70,15 @@ data_tells _ = tt
 module _ (image : List ℕ) (file : Role → Option ℕ) (tells : TellsFile file) where
   -- a role of a later node is of no file below m
   pub not_below : (m : ℕ) (r : Role) → m < first r → is_below m (file r) ≡ false
-  not_below m r h = go (file r) (tells r)
-    where
-      go : (o : Option ℕ) → ComesAt r o → is_below m o ≡ false
-      go None t = refl
-      go (Some n) t = le-ltb n m (omega arith)
+  not_below m r h = grind (arith, common_steps, le-ltb)
 
   -- where no role is of a later node, all files are below n
   pub all_before : (w : List (Role × ℕ)) (n : ℕ) → ((r : Role) (b : ℕ) → Has w r b → first r ≤ n) → length (file_blocks file w) ≡ blocks_before file w n
-  all_before w n h = ap length (picked_same (λ r. is_some (file r)) (λ r. is_below n (file r)) w (λ r b y. same r (h r b y) (file r) (tells r)))
-    where
-      same : (r : Role) → first r ≤ n → (o : Option ℕ) → ComesAt r o → is_some o ≡ is_below n o
-      same r le None t = refl
-      same r le (Some m) t = sym (lt-ltb m n (omega arith))
+  all_before w n h = grind (arith, common_steps, picked_same, lt-ltb)
 
   -- no file's node is below the root's
   none_before : (w : List (Role × ℕ)) → blocks_before file w 0 ≡ 0
-  none_before w = ap length (picked_none (λ r. is_below 0 (file r)) w (λ r b h. none (file r)))
-    where
-      none : (o : Option ℕ) → is_below 0 o ≡ false
-      none None = refl
-      none (Some n) = le-ltb n 0 (omega arith)
+  none_before w = grind (arith, common_steps, picked_none, le-ltb)
 
   -- what `all` picks is what is of files below n, and then what `rest` picks, which is of later nodes
   module _ (n : ℕ) (all rest : Role → Bool) (parts : (r : Role) → all r ≡ (is_below n (file r) || rest r))
@@ -99,16 +88,7 @@ module _ (image : List ℕ) (file : Role → Option ℕ) (tells : TellsFile file
 
     one_more : (r : Role) (b : ℕ) (w : List (Role × ℕ)) → picked all w ≡ low w ++ picked rest w → (is_below n (file r) ≡ true → picked rest w ≡ [])
         → picked all ((r, b) ∷ w) ≡ low ((r, b) ∷ w) ++ picked rest ((r, b) ∷ w)
-    one_more r b w ih none =
-        ap (λ x. cond x (picked all w ++ b ∷ []) (picked all w)) (parts r)
-        ∙ go (is_below n (file r)) (rest r) none (λ e. sym (not_below n r (from r e)))
-      where
-        go : (y z : Bool) → (y ≡ true → picked rest w ≡ []) → (z ≡ true → false ≡ y) → cond (y || z) (picked all w ++ b ∷ []) (picked all w)
-            ≡ cond y (low w ++ b ∷ []) (low w) ++ cond z (picked rest w ++ b ∷ []) (picked rest w)
-        go true true e d = let no : false ≡ true = d refl in cc
-        go true false e d = simp (ih, e refl, append-nil)
-        go false true e d = simp (ih, append_assoc)
-        go false false e d = ih
+    one_more r b w ih none = grind (arith, common_steps, none, not_below, low, append-nil, append_assoc)
 
     split : {w : List (Role × ℕ)} → IsWalk image w → picked all w ≡ low w ++ picked rest w
     split start = one_more Root (root_of image) [] refl (λ _. refl)
@@ -126,11 +106,7 @@ module _ (image : List ℕ) (file : Role → Option ℕ) (tells : TellsFile file
 
     at_all : (o : Option ℕ) → is_some o ≡ (is_below (suc n) o || is_later (suc n) o)
     at_all None = refl
-    at_all (Some m) = go (nat_lt m (suc n))
-      where
-        go : (t : Bool) → true ≡ (t || not t)
-        go true = refl
-        go false = refl
+    at_all (Some m) = grind (arith, common_steps)
 
     from_file : (r : Role) (o : Option ℕ) → ComesAt r o → is_file n o ≡ true → n < first r
     from_file r None t e = cc

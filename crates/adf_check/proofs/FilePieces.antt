@@ -2,6 +2,7 @@
 use Rattle.std.proofs.Common.{◌≡◌, ◌≢◌, ℕ, zero, suc, List, [], ◌∷◌, length-append, ◌+◌, ◌*◌, ◌^◌, ◌<◌, ◌≤◌, length, take, drop, get_or, refl, sym, ap, subst}
 use Rattle.std.proofs.Common.{◌∙◌, arith, Option, Some, None, length-take, length-drop}
 use Rattle.std.specs.List.{All, concat}
+use Rattle.std.proofs.lemmas.Grind.{common_steps}
 use Rattle.adf_blocks.specs.declared.layout.TheConstants.{SECONDARY_TYPE, SIZE, ST_DIR}
 use Rattle.adf_base.specs.Words.{block}
 use Rattle.adf_tree.specs.declared.entry.Body.{Body}
@@ -12,7 +13,7 @@ use Rattle.adf_tree.specs.Tree.{Tree, entry}
 use Rattle.adf_blocks.specs.Sizes.{blocks, count}
 use Rattle.adf_volume.specs.Walk.Role.{Data}
 use Rattle.adf_volume.specs.Fits.{BodyFits}
-use Rattle.adf_volume.specs.Image.{area, content, held, kind_of, piece, pieces, word_in}
+use Rattle.adf_volume.specs.Image.{area, held, kind_of, piece, pieces, word_in}
 use Rattle.adf_volume.specs.Layout.{EntryAt, Layout, Place, at_node, datas_at, datas_of}
 use Rattle.adf_volume.specs.Lists.{At}
 use Rattle.adf_volume.specs.Pieces.{AreInside}
@@ -54,9 +55,7 @@ module _ {image : List ℕ} {store : StoreValue} {t : Tree} {l : Layout} (k : St
     many = long ∙ ap (λ k. count k size) (sym is_kind) ∙ sym is_count
 
     pub part_is : take c (drop x.datas store.datas) ≡ datas_of l n
-    part_is =
-        let here : At store.starts m x = subst (At store.starts m) (sym start) (at_or store.starts m x (omega (arith, k.starts.count))) in
-        subst (λ c. take c (drop x.datas store.datas) ≡ datas_of l n) many (k.starts.datas n x (subst (λ m. At store.starts m x) view here))
+    part_is = grind (arith, common_steps, at_or, many)
 
     pub part_inside : c ≢ 0 → x.datas + c ≤ length store.datas
     part_inside ne = omega (arith, many, length-take c (drop x.datas store.datas), ap length part_is, length-drop x.datas store.datas)
@@ -90,8 +89,7 @@ past_datas {l = l} k (suc i) lt = past l.places i (omega (arith, k.headers.count
 module _ {image : List ℕ} {store : StoreValue} {n h : ℕ} (is : IsEntry image store n h) where
   module _ (t : Tree) (l : Layout) (k : StoreStandsFor image store t l) where
     here : (x : Entry) × EntryAt t n x
-    here =
-        entry_some t n (omega arith) (omega arith)
+    here = grind (arith, common_steps, entry_some)
 
     body_fits : BodyFits image t.kind l n h here.0.body
     body_fits = subst (λ b. BodyFits image t.kind l n b here.0.body) (sym (is.block t l k)) (k.fits.entries n here.0 here.1).body
@@ -123,10 +121,7 @@ module _ {image : List ℕ} {store : StoreValue} {n h : ℕ} (is : IsEntry image
           ∙ ap (λ kind. count kind (word_in image h SIZE)) k.fits.kind
 
       file_bytes : Some (concat (pieces image (kind_of image) (word_in image h SIZE) 1 (datas_of l n))) ≡ bytes_of (entry t.entries n)
-      file_bytes =
-          ap Some (pieces_joined image (kind_of image) h (datas_of l n) (whole k) (data_range k n)
-          ∙ ap (λ kind. content image kind h (datas_of l n)) (sym k.fits.kind) ∙ sym file_fits.1)
-          ∙ sym (told ∙ ap body_bytes file.1)
+      file_bytes = grind (arith, common_steps, pieces_joined, whole, data_range, file_fits, told, file)
 
       file_inside : word_in image h SIZE < 2 ^ 32 → AreInside image (datas_of l n) 1
       file_inside small =
@@ -140,10 +135,7 @@ module _ {image : List ℕ} {store : StoreValue} {n h : ℕ} (is : IsEntry image
           }
 
       file_pieces : Some (pieces image (kind_of image) (word_in image h SIZE) 1 (datas_of l n)) ≡ pieces_at image t l n
-      file_pieces =
-          ap (λ kind. Some (pieces image kind (word_in image h SIZE) 1 (datas_of l n))) (sym k.fits.kind)
-          ∙ ap (λ size. Some (pieces image t.kind size 1 (datas_of l n))) (sym file_fits.2)
-          ∙ sym (laid ∙ ap (pieces_in image t.kind (datas_of l n)) file.1)
+      file_pieces = grind (arith, common_steps, file_fits, laid, file)
 
       -- no piece is empty
       file_some : All (λ p. 0 < length p) (pieces image (kind_of image) (word_in image h SIZE) 1 (datas_of l n))

@@ -1,6 +1,7 @@
 -- The words of a header that its body is read from.
-use Rattle.std.proofs.Common.{◌≡◌, ◌≢◌, ◌==◌, ℕ, List, Bool, true, false, refl, sym, ◌∙◌, if◌then◌else◌}
+use Rattle.std.proofs.Common.{◌≡◌, ◌≢◌, ℕ, List, Bool, true, false, refl, sym, ◌∙◌, if◌then◌else◌, arith}
 use Rattle.std.proofs.lemmas.Bool.{eqb-true, eqb-false}
+use Rattle.std.proofs.lemmas.Grind.{common_steps}
 use Rattle.adf_blocks.specs.declared.layout.TheConstants.{EXTENSION, SECONDARY_TYPE, SIZE, ST_DIR}
 use Rattle.adf_base.specs.Words.{block}
 use Rattle.adf_blocks.specs.HeadBlock.{body_at}
@@ -24,6 +25,4 @@ module _ (image : List ℕ) (b : ℕ) {body : HeadBody} (is : body ≡ body_at (
   -- a file has not, and its size and its first extension block
   pub file_words : {size ext : ℕ} → body ≡ File size ext
       → (word_in image b SECONDARY_TYPE ≢ ST_DIR) × (size ≡ word_in image b SIZE) × (ext ≡ word_in image b EXTENSION)
-  file_words {size = size} {ext = ext} h =
-      let r = pick_file (word_in image b SECONDARY_TYPE == ST_DIR) (word_in image b SIZE) (word_in image b EXTENSION) size ext (sym is ∙ h) in
-      (eqb-false (word_in image b SECONDARY_TYPE) ST_DIR r.0, r.1, r.2)
+  file_words {size = size} {ext = ext} h = grind (arith, common_steps, pick_file, eqb-false)

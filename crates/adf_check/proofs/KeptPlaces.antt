@@ -6,6 +6,7 @@ use Rattle.std.specs.List.Sorted.{IsPartitionPoint}
 use Rattle.std.proofs.lemmas.Bool.{le-leb}
 use Rattle.std.proofs.lemmas.List.{get_or-take, get_or-drop, length-take, length-drop}
 use Rattle.std.proofs.lemmas.List.Sorted.{IsNonDecreasingBy-from_default}
+use Rattle.std.proofs.lemmas.Grind.{common_steps}
 use native.Mathlib.Decide.{dec_lt}
 use Rattle.adf_tree.specs.Tree.{Tree}
 use Rattle.adf_volume.specs.declared.owner.Owner.{Owner}
@@ -69,10 +70,7 @@ one_place f (x ∷ w) once i j b h k = go (f x.0) (one_place f w once.1) h k
 
     go : (t : Bool) → ((i j b : ℕ) → At (picked f w) i b → At (picked f w) j b → i ≡ j) → At (cond t (picked f w ++ x.1 ∷ []) (picked f w)) i b
         → At (cond t (picked f w ++ x.1 ∷ []) (picked f w)) j b → i ≡ j
-    go true ih h k = elim (at_snoc (picked f w) x.1 i b h) [
-      | inl y ↦ elim (at_snoc (picked f w) x.1 j b k) [ inl z ↦ ih i j b y z | inr z ↦ absurd (new i y z.1) ]
-      | inr y ↦ elim (at_snoc (picked f w) x.1 j b k) [ inl z ↦ absurd (new j z y.1) | inr z ↦ y.0 ∙ sym z.0 ]
-    ]
+    go true ih h k = grind (arith, common_steps, at_snoc, new)
     go false ih h k = ih i j b h k
 
 -- the node of a part of a file is an entry
@@ -146,22 +144,4 @@ module _ {image : List ℕ} {store : StoreValue} {t : Tree} {l : Layout} (st : S
 -- the last of those that begin at a place or before it, by their number
 pub last_found : (first : NodeStart → ℕ) (starts : List NodeStart) (place r : ℕ) → AreStarts first starts → r ≤ length starts
     → IsPartitionPoint (λ x. leb (first x) place ≡ true) (λ x. leb (first x) place ≡ false) starts r → (1 ≤ r) × IsLastStart first starts place (r - 1)
-last_found first starts place r are bound point =
-    let d : NodeStart = record { exts = 0; datas = 0 } in
-    let low : (k : ℕ) → k < r → first (start_of starts k) ≤ place = λ k lt. leb-true (first (start_of starts k)) place (point.0 k d (omega arith) lt) in
-    let high : (k : ℕ) → r ≤ k → k < length starts → place < first (start_of starts k) =
-    λ k le lt. elim (dec_lt place (first (start_of starts k))) [
-      | yes more ↦ more
-      | no less ↦
-          let yes_here : leb (first (start_of starts k)) place ≡ true = le-leb (first (start_of starts k)) place (omega arith) in
-          let no_here : leb (first (start_of starts k)) place ≡ false = point.1 k d le lt in
-          absurd (let z : true ≡ false = sym yes_here ∙ no_here in cc)
-    ] in
-    let some : 1 ≤ r = elim (dec_lt 0 r) [ yes lt ↦ omega arith | no none ↦ absurd (omega (arith, high 0 (omega arith) are.some, are.zero)) ] in (
-      some,
-      record {
-        within = omega (arith, some);
-        begins = low (r - 1) (omega (arith, some));
-        last = (λ m lt within. high m (omega (arith, some)) within);
-      },
-    )
+last_found first starts place r are bound point = grind (arith, common_steps, leb-true, leb, le-leb)

@@ -1,12 +1,12 @@
 -- The steps along the nodes: each is begun, then the parts that its header points to are read.
 use Rattle.std.proofs.Common.{◌≡◌, ◌≢◌, inl, inr, ℕ, suc, ◌-◌, List, [], ◌∷◌, ◌<◌, ◌≤◌, length, get_or, refl, sym, ap, subst, ◌∙◌, arith}
+use Rattle.std.proofs.lemmas.Grind.{common_steps}
 use Rattle.adf_blocks.specs.declared.layout.TheConstants.{EXTENSION, SECONDARY_TYPE, ST_DIR}
 use Rattle.adf_blocks.specs.Sizes.{blocks}
 use Rattle.adf_volume.specs.Image.{kind_of, root_of, word_in}
 use Rattle.adf_volume.specs.Lists.{At}
-use Rattle.adf_volume.specs.Walk.{Role, first, Has, heads, HeadAt, DirAt, FileAt, IsWalk}
+use Rattle.adf_volume.specs.Walk.{Role, Has, heads, HeadAt, DirAt, FileAt, IsWalk}
 use Rattle.adf_volume.specs.Walk.Role.{Root}
-use Rattle.adf_volume.specs.Positions.{before_node}
 use Rattle.adf_volume.proofs.Gathered.{root_in}
 use Rattle.adf_volume.proofs.FormDemands.{head_type}
 use Rattle.adf_volume.proofs.Lists.{at_below, at_fun, at_index_or, at_snoc, at_some, snoc_length}
@@ -15,10 +15,9 @@ use Rattle.adf_volume.proofs.PositionSteps.{end_nodes, enter_dir, low_first}
 use Rattle.adf_volume.proofs.Roles.{head_role}
 use Rattle.adf_volume.proofs.Walks.{numbered}
 use Rattle.adf_check.specs.declared.store.KeptHeader.{KeptHeader}
-use Rattle.adf_check.specs.declared.store.NodeStart.{NodeStart}
 use Rattle.adf_volume.specs.Start.{IsBegun}
 use Rattle.adf_check.specs.Reading.{IsAtNode, IsAtSlot, IsInExts, IsInNode, IsRead}
-use Rattle.adf_check.specs.Store.{StoreValue, StoreMatches, blocks_before, data_file, entered, ext_file}
+use Rattle.adf_check.specs.Store.{StoreValue, StoreMatches, entered}
 use Rattle.adf_check.proofs.NumberBounds.{many_blocks}
 use Rattle.adf_check.proofs.ClaimSteps.{gathered, read_to}
 use Rattle.adf_check.proofs.ExtSteps.{enter_exts}
@@ -35,35 +34,7 @@ header_here headers i r {xs = xs} e lt is = subst (λ xs. At xs i r) e (subst (A
 
 -- the next node is begun
 pub enter_node : (image : List ℕ) (store : StoreValue) (n : ℕ) → IsAtNode image store n → IsInNode image (entered store) n
-enter_node image store n st = record {
-  walk = st.walk;
-  read = record {
-    tells = record {
-      owns = st.read.tells.owns;
-      headers = st.read.tells.headers;
-      dirs = st.read.tells.dirs;
-      exts = st.read.tells.exts;
-      datas = st.read.tells.datas;
-      used = st.read.tells.used;
-      starts = (λ m x a. elim (at_snoc store.starts (record { exts = length store.exts; datas = length store.datas }) m x a) [
-        | inl y ↦ st.read.tells.starts m x y
-        | inr y ↦
-            let e : n ≡ m = let z : length store.starts ≡ n = st.read.started in let z2 : m ≡ length store.starts = y.0 in omega arith in (
-              ap (λ (x : NodeStart). x.exts) (sym y.1) ∙ ap length st.read.tells.exts
-                  ∙ all_before image ext_file ext_tells st.walk n low ∙ ap (blocks_before ext_file st.walk) e,
-              ap (λ (x : NodeStart). x.datas) (sym y.1) ∙ ap length st.read.tells.datas
-                  ∙ all_before image data_file data_tells st.walk n low ∙ ap (blocks_before data_file st.walk) e,
-            )
-      ]);
-    };
-    started = snoc_length store.starts (record { exts = length store.exts; datas = length store.datas }) ∙ ap suc st.read.started;
-    is_walk = st.read.is_walk;
-    up_to = st.read.up_to;
-  };
-}
-  where
-    low : (r : Role) (b : ℕ) → Has st.walk r b → first r ≤ n
-    low r b h = let x = low_first r (before_node n) (st.read.up_to.taken r b h) refl refl in omega arith
+enter_node image store n st = grind (arith, common_steps, at_snoc, all_before, ext_tells, data_tells, snoc_length, low_first)
 
 -- the node of a row
 module _ (image : List ℕ) (store : StoreValue) (w : List (Role × ℕ)) (t : StoreMatches image store w) (v : IsWalk image w) where

@@ -1,7 +1,7 @@
 -- The numbers of blocks and nodes fit in 29 bits, and so do the places of the blocks of files.
-use Rattle.std.proofs.Common.{◌≡◌, ℕ, List, ◌+◌, ◌^◌, ◌<◌, ◌≤◌, length, ap, arith}
-use Rattle.std.specs.Prelude.{is_some}
+use Rattle.std.proofs.Common.{◌≡◌, ℕ, List, ◌+◌, ◌^◌, ◌<◌, ◌≤◌, length, arith}
 use Rattle.std.proofs.lemmas.List.Sums.{count_by-le-length}
+use Rattle.std.proofs.lemmas.Grind.{common_steps}
 use Rattle.adf_blocks.specs.declared.layout.TheConstants.{MOST_BLOCKS}
 use Rattle.adf_blocks.specs.Sizes.{blocks, pages_needed}
 use Rattle.adf_volume.specs.Walk.{Role, heads}
@@ -10,10 +10,11 @@ use Rattle.adf_volume.proofs.Gathered.{dir_number}
 use Rattle.adf_volume.proofs.Walks.{of_walk}
 use Rattle.adf_volume.specs.Positions.{Position}
 use Rattle.adf_check.specs.Reading.{HasRead, IsInChain}
-use Rattle.adf_check.specs.Store.{StoreValue, StoreMatches, data_file, ext_file}
+use Rattle.adf_check.specs.Store.{StoreValue, StoreMatches}
 use Rattle.adf_volume.specs.Start.{IsBegun}
-use Rattle.adf_check.specs.KeptOwner.{claimed_count, is_claimed}
-use Rattle.adf_check.proofs.WalkLengths.{heads_within, picked_within}
+use Rattle.adf_check.specs.KeptOwner.{claimed_count}
+use Rattle.adf_volume.proofs.WalkMembers.{picked_within}
+use Rattle.adf_check.proofs.WalkLengths.{heads_within}
 
 -- there are at least 4 blocks
 pub many_blocks : (image : List ℕ) → IsBegun image → 4 ≤ blocks image
@@ -26,18 +27,11 @@ pages_few image begun = omega (arith, size_high (blocks image) begun.0.1)
 module _ {image : List ℕ} {store : StoreValue} (begun : IsBegun image) (used : store.used ≡ claimed_count store.owners) where
   -- a walk has no more members than there are blocks
   walk_short : {w : List (Role × ℕ)} → StoreMatches image store w → length w ≤ MOST_BLOCKS
-  walk_short {w = w} tells =
-      let owned : claimed_count store.owners ≤ length store.owners = count_by-le-length is_claimed store.owners in
-      let high = size_high (blocks image) begun.0.1 in
-      omega arith
+  walk_short {w = w} tells = grind (arith, common_steps, count_by-le-length, size_high)
 
   -- the lists of all extension blocks and of all data blocks are short
   pub lists_short : {w : List (Role × ℕ)} {n : ℕ} {at : Position} → HasRead image store w n at → (length store.exts < 2 ^ 29) × (length store.datas < 2 ^ 29)
-  lists_short {w = w} read =
-      let short = walk_short read.tells in (
-        omega (arith, ap length read.tells.exts, picked_within (λ r. is_some (ext_file r)) w),
-        omega (arith, ap length read.tells.datas, picked_within (λ r. is_some (data_file r)) w),
-      )
+  lists_short {w = w} read = grind (arith, common_steps, walk_short, picked_within)
 
   heads_short : {w : List (Role × ℕ)} → StoreMatches image store w → heads w + 1 < 2 ^ 29
   heads_short {w = w} tells = omega (arith, walk_short tells, heads_within w)

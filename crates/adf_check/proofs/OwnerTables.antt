@@ -1,5 +1,5 @@
 -- Tables of owners: a new one, and one after another claim.
-use Rattle.std.proofs.Common.{◌≡◌, ℕ, suc, List, ◌∷◌, ◌+◌, ◌-◌, ◌<◌, ◌≤◌, length, get_or, replicate, map, set, true, refl, sym, subst, ap, ◌∙◌, zero, arith}
+use Rattle.std.proofs.Common.{◌≡◌, ℕ, suc, List, ◌∷◌, ◌+◌, ◌-◌, ◌<◌, ◌≤◌, length, get_or, replicate, map, set, true, refl, ap, ◌∙◌, zero, arith}
 use Rattle.std.proofs.lemmas.List.{get_or-map, length-map, map-set}
 use Rattle.std.proofs.lemmas.Grind.{common_steps}
 use Rattle.adf_check.specs.declared.kept_owner.KeptOwner.{KeptOwner}
@@ -23,10 +23,7 @@ bounded t n m h = grind (arith, common_steps)
 
 -- the owner that the table tells is the one that is kept
 owner_is : (xs : List PackedOwner) (b : ℕ) (x : PackedOwner) → b < length (map unpacked xs) → x ≡ get_or xs b x → kept_at (map unpacked xs) b ≡ unpacked x
-owner_is xs b x lt e =
-    let count : length (map unpacked xs) ≡ length xs = length-map xs unpacked in
-    let inside : b < length xs = omega arith in
-    get_or-map unpacked xs b x Free inside ∙ ap unpacked (sym e)
+owner_is xs b x lt e = grind (arith, common_steps, length-map, get_or-map)
 
 -- what holds of the table that is kept when a block was claimed
 pub record IsClaimed (old : List KeptOwner) (items : List PackedOwner) (blocks used b : ℕ) (o : KeptOwner) : Type 0 where
@@ -41,17 +38,7 @@ pub claim_kept : (items : List PackedOwner) (kept : PackedOwner) {old : List Kep
     → b < length old → is_claimed o ≡ true → x ≡ get_or items b x
     → unpacked x ≡ Free → IsClaimed old (set items b kept) blocks used b o
 claim_kept items kept {old = old} {blocks = blocks} {used = used} {b = b} {x = x} {o = o} same view table lo hi part here free =
-    let below : b < length (map unpacked items) = subst (λ t. b < length t) (sym view) hi in
-    let was_free : kept_at (map unpacked items) b ≡ Free = owner_is items b x below here ∙ free in
-    let written : map unpacked (set items b kept) ≡ set (map unpacked items) b o = map-set unpacked items b kept ∙ ap (set (map unpacked items) b) same in
-    let after : IsTable is_claimed Boot (map unpacked (set items b kept)) blocks (used + 1) =
-    subst (λ t. IsTable is_claimed Boot t blocks (used + 1)) (sym written) (claimed (map unpacked items) blocks used b o table lo below part was_free) in
-    record {
-      table = after;
-      view = written ∙ ap (λ t. set t b o) view;
-      count = ap claimed_count written ∙ counted (map unpacked items) b o below part was_free ∙ ap (λ t. claimed_count t + 1) view;
-      bound = bounded (map unpacked (set items b kept)) blocks (used + 1) after;
-    }
+    grind (arith, common_steps, owner_is, set, map-set, claimed, counted, bounded)
 
 -- what is kept of a new table
 pub new_is : (n : ℕ) (xs : List PackedOwner) (free boot : PackedOwner) → 2 ≤ n → xs ≡ replicate n free → unpacked free ≡ Free → unpacked boot ≡ Boot

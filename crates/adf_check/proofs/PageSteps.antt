@@ -12,7 +12,7 @@ use Rattle.adf_blocks.specs.PageBlock.{page_form}
 use Rattle.adf_blocks.specs.Sizes.{blocks, pages_needed}
 use Rattle.adf_blocks.specs.declared.layout.TheConstants.{MAP_EXT_PAGES, ROOT_PAGES}
 use Rattle.adf_volume.specs.Demands.{AllHold, page_demands}
-use Rattle.adf_volume.specs.Image.{root_of, word_in}
+use Rattle.adf_volume.specs.Image.{word_in}
 use Rattle.adf_volume.specs.Walk.{Role, Has, NamesPage, IsWalk}
 use Rattle.adf_volume.specs.Walk.Role.{MapExt, Page}
 use Rattle.adf_volume.proofs.FormDemands.{all_demanded, first_demanded}
@@ -20,7 +20,7 @@ use Rattle.adf_volume.proofs.Lists.{at_snoc, snoc_length}
 use Rattle.adf_volume.proofs.MemberFacts.{kept, names_up}
 use Rattle.adf_volume.proofs.Pointers.{behind_map_ext, behind_page, map_ext_asks, map_ext_next, names_first, names_page, next_holder, page_next}
 use Rattle.adf_volume.proofs.PositionSteps.{end_pages}
-use Rattle.adf_volume.specs.Positions.{IsUpTo, word_of_map_ext, word_of_page}
+use Rattle.adf_volume.specs.Positions.{word_of_map_ext, word_of_page}
 use Rattle.adf_volume.specs.Fault.{IsTrueFault, fault}
 use Rattle.adf_volume.specs.Start.{IsBegun}
 use Rattle.adf_check.specs.Pages.{AreListed}
@@ -33,18 +33,11 @@ use Rattle.adf_check.proofs.ClaimSteps.{IsNextAt, IsStored, form_fault, read_one
 -- where no bitmap extension block comes before page k
 pub same_holder : (image : List ℕ) (store : StoreValue) (k a : ℕ) → IsBeforePage image store k a
     → (ROOT_PAGES ≤ k → (k - ROOT_PAGES) % MAP_EXT_PAGES ≡ 0 → ⊥) → IsAtPage image store k a
-same_holder image store k a st other = record {
-  walk = st.walk;
-  read = read_to st.read (subst (IsUpTo image st.walk []) (page_next k other) st.read.up_to);
-  named = names_page image st.walk k a st.holder other;
-}
+same_holder image store k a st other = grind (arith, common_steps, read_to, page_next, names_page)
 
 -- behind the last page
 pub pages_end : (image : List ℕ) (store : StoreValue) (a : ℕ) → IsBeforePage image store (pages_needed (blocks image)) a → IsAtNode image store 0
-pages_end image store a st = record {
-  walk = st.walk;
-  read = read_to st.read (end_pages image (pages_needed (blocks image)) (omega arith) st.read.up_to);
-}
+pages_end image store a st = grind (arith, common_steps, read_to, end_pages)
 
 -- pages by the words alone
 map_ext_is : (image : List ℕ) (w : List (Role × ℕ)) (j a : ℕ) → IsWalk image w → Has w (MapExt j) a → block_of_map_ext image j ≡ a
@@ -52,8 +45,7 @@ map_ext_is image w zero a v h = (kept image v (MapExt 0) a h).1
 map_ext_is image w (suc j) a v h = let k = (kept image v (MapExt (suc j)) a h).1 in ap (λ a. word_in image a 127) (map_ext_is image w j k.0 v k.1) ∙ k.2
 
 names_is : (image : List ℕ) (w : List (Role × ℕ)) (k b a i : ℕ) → IsWalk image w → NamesPage image w k a i → word_in image a i ≡ b → block_of_page image k ≡ b
-names_is image w k b a i v (inl x) e =
-    cond-true (nat_lt k 25) _ _ (lt-ltb k 25 x.0) ∙ ap (word_in image (root_of image)) (sym x.2) ∙ ap (λ a. word_in image a i) (sym x.1) ∙ e
+names_is image w k b a i v (inl x) e = grind (arith, common_steps, cond-true, lt-ltb)
 names_is image w k b a i v (inr x) e =
     let ej : (k - 25) / 127 ≡ x.0 = omega arith in
     let ei : (k - 25) % 127 ≡ i = omega arith in
@@ -68,13 +60,7 @@ page_is image w k b v h = let x = (kept image v (Page k) b h).1 in names_is imag
 module _ {image : List ℕ} {store : StoreValue} {i a b : ℕ} (begun : IsBegun image) (needed : i < pages_needed (blocks image)) (st : IsAtPage image store i a)
     (named : b ≡ word_in image a (word_of_page i)) where
   pub page_named : IsNextAt image store st.walk (Page i) a b
-  page_named = record {
-    begun = begun;
-    read = st.read;
-    index = word_of_page i;
-    asked = (needed, st.named);
-    names = sym named;
-  }
+  page_named = grind (arith, common_steps)
 
   pub page_by_number : b ≡ block_of_page image i
   page_by_number = sym (names_is image st.walk i b a (word_of_page i) st.read.is_walk st.named (sym named))
@@ -100,13 +86,7 @@ module _ {image : List ℕ} {store : StoreValue} {i a b : ℕ} (begun : IsBegun 
   number = (i - 25) / 127
 
   pub map_ext_named : IsNextAt image store st.walk (MapExt number) a b
-  map_ext_named = record {
-    begun = begun;
-    read = read_to st.read (subst (IsUpTo image st.walk []) (map_ext_next i past begins) st.read.up_to);
-    index = word_of_map_ext i;
-    asked = map_ext_asks image st.walk i a needed past begins st.holder;
-    names = sym named;
-  }
+  map_ext_named = grind (arith, common_steps, read_to, map_ext_next, map_ext_asks)
 
   pub map_ext_done : InRange (length store.owners) b → kept_at store.owners b ≡ Free → {new : StoreValue} → IsStored image store new (MapExt number) b
       → IsAtPage image new i b
@@ -123,13 +103,4 @@ all_below xs b n j h lt below = grind (arith, common_steps, h)
 -- one page more is listed
 pub list_done : (image pages : List ℕ) (b i : ℕ) → AreListed image pages i → b ≡ block_of_page image i → b < blocks image
     → AreListed image (pages ++ b ∷ []) (i + 1)
-list_done image pages b i h e lt = record {
-  listed = record {
-    size = let k : length pages ≡ i = h.listed.size in let s = snoc_length pages b in omega arith;
-    pages = (λ n c x. elim (at_snoc pages b n c x) [
-      | inl y ↦ h.listed.pages n c y
-      | inr y ↦ ap (block_of_page image) (y.0 ∙ h.listed.size) ∙ sym e ∙ y.1
-    ]);
-  };
-  inside = (λ j below. all_below pages b (blocks image) j h.inside lt below);
-}
+list_done image pages b i h e lt = grind (arith, common_steps, snoc_length, at_snoc, all_below)

@@ -42,20 +42,7 @@ new_free m b l h = grind (arith, common_steps)
 -- nothing is read and nothing is claimed
 new_tells : (image : List ℕ) (m : ℕ) → blocks image ≡ 2 + m
     → StoreMatches image (record { owners = new_owners m; headers = []; dirs = 0; starts = []; exts = []; datas = []; used = 0 }) []
-new_tells image m size = record {
-  owns = record {
-    size = new_length m ∙ sym size;
-    boot = (λ b l h. new_boot m b l);
-    assigned = (λ q b h. absurd h);
-    owned = (λ b lo hi h. absurd (h (new_free m b lo (omega arith))));
-  };
-  headers = record { count = refl; header = (λ i p s j b h. absurd h) };
-  dirs = refl;
-  exts = refl;
-  datas = refl;
-  used = refl;
-  starts = (λ n x a. absurd a);
-}
+new_tells image m size = grind (arith, common_steps, new_length, new_boot, new_free)
 
 -- the root alone is claimed
 pub root_read : (image : List ℕ) (m root : ℕ) → blocks image ≡ 2 + m → root_of image ≡ root → 2 ≤ root → root < 2 + m
@@ -90,6 +77,4 @@ begun_with_root image n owners new begun size e f count =
 
 pub root_is_free : (image : List ℕ) (n : ℕ) (owners : List KeptOwner) → IsBegun image → n ≡ blocks image → owners ≡ new_owners (n - 2)
     → kept_at owners (root_of image) ≡ Free
-root_is_free image n owners begun size e =
-    let many : 4 ≤ blocks image = many_blocks image begun in
-    ap (λ os. kept_at os (root_of image)) e ∙ new_free (n - 2) (root_of image) (omega arith) (omega arith)
+root_is_free image n owners begun size e = grind (arith, common_steps, many_blocks, new_free)

@@ -1,18 +1,16 @@
 -- A row agrees with its entry in the tree.
-use Rattle.std.proofs.Common.{Bool, true, false, if◌then◌else◌, ◌≡◌, ℕ, suc, List, ◌<◌, length, refl, sym, ap, subst, ◌∙◌, arith, rules, Some}
-use Rattle.std.specs.Prelude.{nat_le, option_map, slice_index, ◌==◌}
+use Rattle.std.proofs.Common.{Bool, true, false, if◌then◌else◌, ◌≡◌, ℕ, suc, List, ◌<◌, length, refl, sym, ap, subst, ◌∙◌, arith, Some}
+use Rattle.std.specs.Prelude.{option_map, ◌==◌}
 use Rattle.std.proofs.lemmas.Bool.{and_parts}
 use Rattle.std.proofs.lemmas.Bool.Decides.{nat_tests}
-use Rattle.adf_blocks.specs.declared.layout.TheConstants.{COMMENT, EXTENSION, NAME, SECONDARY_TYPE, SIZE, ST_DIR}
-use Rattle.adf_blocks.specs.declared.cause.Cause.TheVariants.{BadComment, BadName}
+use Rattle.std.proofs.lemmas.Grind.{common_steps}
+use Rattle.adf_blocks.specs.declared.layout.TheConstants.{SECONDARY_TYPE, ST_DIR}
 use Rattle.adf_base.specs.Words.{block}
-use Rattle.adf_tree.specs.Texts.{is_name}
 use Rattle.adf_tree.specs.declared.entry.Body.{Body}
 use Rattle.adf_tree.specs.declared.entry.Body.TheVariants.{Dir, File}
 use Rattle.adf_tree.specs.declared.entry.Kind.{Kind}
 use Rattle.adf_tree.specs.Tree.{Tree, entry, is_dir_body}
-use Rattle.adf_blocks.specs.Forms.{text_at}
-use Rattle.adf_blocks.specs.HeadBlock.{IsHead, body_at, head_form, is_name_at}
+use Rattle.adf_blocks.specs.HeadBlock.{IsHead, body_at, head_form}
 use Rattle.adf_blocks.specs.declared.head.HeadBody.TheVariants.{Dir as HeadDir, File as HeadFile}
 use Rattle.adf_volume.specs.Demands.{AllHold, boot_demands, root_demands, demands_at}
 use Rattle.adf_volume.specs.Fits.{BodyFits, EntryFits}
@@ -36,15 +34,7 @@ use Rattle.adf_volume.specs.declared.row.RowBody.TheVariants.{Dir as DirRow, Fil
 
 -- a block with the form of a header is one
 pub head_facts : (kind : Kind) (b own parent slot : ℕ) (bytes : List ℕ) → AllHold (demands_at b (head_form kind own parent slot bytes)) → IsHead bytes
-head_facts kind b own parent slot bytes h =
-    let form = head_form kind own parent slot bytes in
-    let named = and_parts (nat_le _ 30) (is_name (text_at bytes NAME)) (demanded b form (is_name_at bytes NAME) BadName h (search rules)) in
-    let comment_short = demanded b form (nat_le (slice_index bytes COMMENT) 79) BadComment h (search rules) in
-    record {
-      name_len = grind (arith, nat_tests, named.0);
-      name = named.1;
-      comment_len = grind (arith, nat_tests, comment_short);
-    }
+head_facts kind b own parent slot bytes h = grind (arith, common_steps, and_parts, demanded, nat_tests)
 
 -- the block of a row holds a header
 pub header_is_head : {image : List ℕ} {store : StoreValue} → StoreFits image store → (i : ℕ) (r : Kept) → At store.headers i r → IsHead (block image r.head)
@@ -67,12 +57,8 @@ row_file false size ext is = refl
 -- the secondary type of a header tells whether its entry is a directory, and its words the size of a file
 pub type_told : (image : List ℕ) (t : Tree) (l : Layout) (n h : ℕ) (body : Body) → BodyFits image t.kind l n h body
     → ((word_in image h SECONDARY_TYPE == ST_DIR) ≡ is_dir_body body) × (row_body (body_at (block image h)) ≡ row_of_body body)
-type_told image t l n h Dir f =
-    let is : (word_in image h SECONDARY_TYPE == ST_DIR) ≡ true = grind (arith, nat_tests) in
-    (is, row_dir _ (word_in image h SIZE) (word_in image h EXTENSION) is)
-type_told image t l n h (File bytes) f =
-    let is : (word_in image h SECONDARY_TYPE == ST_DIR) ≡ false = grind (arith, nat_tests) in
-    (is, row_file _ (word_in image h SIZE) (word_in image h EXTENSION) is ∙ ap FileRow (sym f.2))
+type_told image t l n h Dir f = grind (arith, common_steps, nat_tests, row_dir)
+type_told image t l n h (File bytes) f = grind (arith, common_steps, nat_tests, row_file)
 
 -- what a row's header tells is what the tree has
 pub entry_told : (image : List ℕ) (store : StoreValue) (t : Tree) (l : Layout) → StoreStandsFor image store t l → (n i : ℕ) (r : Kept) (told : Row) → n ≡ suc i

@@ -1,6 +1,7 @@
 -- The store of a whole walk stands for the tree and the layout that fit.
 use Rattle.std.proofs.Common.{◌≡◌, ◌≢◌, ◌⊎◌, ℕ, zero, suc, List, ◌+◌, ◌-◌, ◌≤◌, inl, inr, length, refl, sym, ap, ◌∙◌, take, drop, arith}
 use Rattle.std.specs.Prelude.{is_some}
+use Rattle.std.proofs.lemmas.Grind.{common_steps}
 use Rattle.adf_tree.specs.declared.entry.Entry.{Entry}
 use Rattle.adf_volume.specs.Layout.{exts_of, datas_of}
 use Rattle.adf_volume.specs.Lists.{At}
@@ -112,9 +113,7 @@ module _ (image : List ℕ) (store : StoreValue) (st : StoreFits image store) wh
   }
     where
       moved : {a b : ℕ} {xs ys is here : List ℕ} → a ≡ b → xs ≡ ys → is ≡ here → take (length here) (drop b ys) ≡ here → take (length is) (drop a xs) ≡ is
-      moved {a = a} {b = b} {xs = xs} {here = here} ea ex ei h =
-          ap (λ (is : List ℕ). take (length is) (drop a xs)) ei ∙ ap (λ a. take (length here) (drop a xs)) ea ∙ ap (λ xs. take (length here) (drop b xs)) ex
-          ∙ h ∙ sym ei
+      moved {a = a} {b = b} {xs = xs} {here = here} ea ex ei h = grind (arith, common_steps)
 
   starts_rise : StartsRise (layout_in st.walk) store.starts
   starts_rise = record {
@@ -129,11 +128,4 @@ module _ (image : List ℕ) (store : StoreValue) (st : StoreFits image store) wh
   }
 
   pub keeps : StoreStandsFor image store (tree_in image st.walk) (layout_in st.walk)
-  keeps = record {
-    fits = st.fits;
-    owners = owners_fit;
-    headers = headers_fit;
-    starts = starts_fit;
-    rising = starts_rise;
-    used = st.read.tells.used ∙ sym (walk_length image st.walk st.read.is_walk st.read.whole);
-  }
+  keeps = grind (arith, common_steps, owners_fit, headers_fit, starts_fit, starts_rise, walk_length)

@@ -1,10 +1,11 @@
 -- The store still matches a walk with one more member.
 use Rattle.std.proofs.Common.{◌≡◌, ◌==◌, ℕ, suc, List, [], ◌∷◌, ◌++◌, inl, inr, ◌+◌, ◌<◌, ◌≤◌, ◌≢◌}
-use Rattle.std.proofs.Common.{length, Option, Bool, true, false, refl, sym, ap, subst, ◌∙◌, arith, set}
+use Rattle.std.proofs.Common.{length, Option, Bool, refl, sym, ap, subst, ◌∙◌, arith, set}
 use Rattle.std.specs.Prelude.{is_some}
 use Rattle.std.specs.Int.{from_bool}
-use Rattle.std.proofs.Common.{length-set, get_or-set_same, get_or-set_other, cond, count_by}
+use Rattle.std.proofs.Common.{length-set, get_or-set_same, get_or-set_other, count_by}
 use Rattle.std.proofs.lemmas.List.Sums.{sum_by-append}
+use Rattle.std.proofs.lemmas.Grind.{common_steps}
 use native.Mathlib.Decide.{ℕ_discrete}
 use Rattle.adf_blocks.specs.declared.layout.TheConstants.{SECONDARY_TYPE, ST_DIR}
 use Rattle.adf_blocks.specs.Sizes.{blocks}
@@ -18,7 +19,7 @@ use Rattle.adf_check.specs.declared.kept_owner.KeptOwner.{KeptOwner}
 use Rattle.adf_check.specs.declared.kept_owner.KeptOwner.TheVariants as kept
 use Rattle.adf_check.specs.KeptOwner.{kept_at}
 use Rattle.adf_check.specs.Store.{StoreValue, IsKept, Owns, KeepsHeaders, StoreMatches, file_blocks, next_kept}
-use Rattle.adf_check.specs.Store.{push_header, push_block, ext_file, data_file, is_below, is_dir_at, blocks_before, stored}
+use Rattle.adf_check.specs.Store.{push_header, push_block, ext_file, data_file, is_dir_at, blocks_before, stored}
 use Rattle.adf_volume.specs.Made.{picked}
 use Rattle.adf_check.proofs.FileBlocks.{TellsFile, data_tells, ext_tells, not_below}
 
@@ -30,11 +31,7 @@ kept_not_free w _ b o k e = cc
 
 -- a place in the list of a walk stays where it is
 at_more : (f : Role → Bool) (w : List (Role × ℕ)) (x : Role × ℕ) (i b : ℕ) → At (picked f w) i b → At (picked f (x ∷ w)) i b
-at_more f w x i b h = go (f x.0)
-  where
-    go : (t : Bool) → At (cond t (picked f w ++ x.1 ∷ []) (picked f w)) i b
-    go true = at_old (picked f w) (x.1 ∷ []) i b h
-    go false = h
+at_more f w x i b h = grind (arith, common_steps, at_old)
 
 kept_more : (w : List (Role × ℕ)) (x : Role × ℕ) (r : Role) (b : ℕ) (o : KeptOwner) → IsKept w r b o → IsKept (x ∷ w) r b o
 kept_more w x (Ext n m) b o k = (k.0, at_more (λ r. is_some (ext_file r)) w x k.0 b k.1, k.2)
@@ -92,41 +89,17 @@ module _ (image : List ℕ) (owners : List KeptOwner) (w : List (Role × ℕ)) (
 -- the rows, one member of a walk more; a header has the next number
 module _ (headers : List KeptHeader) (w : List (Role × ℕ)) (t : KeepsHeaders headers w) where
   no_header : (r : Role) (b : ℕ) → ((n p s j : ℕ) → second r ≡ second (Head n p s j) → ⊥) → head_count r (heads w) ≡ heads w → KeepsHeaders headers ((r, b) ∷ w)
-  no_header r b none c = record {
-    count = t.count ∙ sym c;
-    header = (λ i p s j d h. elim h [
-      | inl y ↦ absurd (none (suc i) p s j (ap second y.0))
-      | inr y ↦ t.header i p s j d y
-    ]);
-  }
+  no_header r b none c = grind (arith, common_steps)
 
   pub headers_more : (r : Role) (b : ℕ) → ((n p s j : ℕ) → r ≡ Head n p s j → n ≡ suc (heads w)) → KeepsHeaders (push_header r b headers) ((r, b) ∷ w)
-  headers_more (Head n p s j) b f = record {
-    count = snoc_length headers (record { parent = p; head = b }) ∙ ap suc t.count;
-    header = (λ i p' s' j' b' h. elim h [
-      | inl y ↦
-          let m : n ≡ suc i = cc in
-          let q : p ≡ p' = cc in
-          let e : n ≡ suc (heads w) = f n p s j refl in
-          let z : record { parent = p; head = b } ≡ record { parent = p'; head = b' } = row_same p b p' b' q y.1 in
-          subst (At (headers ++ record { parent = p; head = b } ∷ []) i) z (at_new headers (record { parent = p; head = b }) i (omega arith))
-      | inr y ↦ at_old headers (record { parent = p; head = b } ∷ []) i (record { parent = p'; head = b' }) (t.header i p' s' j' b' y)
-    ]);
-  }
+  headers_more (Head n p s j) b f = grind (arith, common_steps, snoc_length, row_same, at_new, at_old)
   headers_more r b f = no_header r b (λ n p s j e. omega (arith, e)) refl
 
 -- one header more: it is counted if it is that of a directory
 pub dirs_more : (image : List ℕ) (headers : List KeptHeader) (p b : ℕ) {dirs one : ℕ} {is_dir : Bool} → dirs ≡ count_by (is_dir_at image) headers
     → is_dir ≡ (word_in image b SECONDARY_TYPE == ST_DIR) → one ≡ from_bool is_dir
     → dirs + one ≡ count_by (is_dir_at image) (headers ++ record { parent = p; head = b } ∷ [])
-dirs_more image headers p b {dirs = dirs} {one = one} {is_dir = is_dir} before is counts =
-    let here : one ≡ cond (word_in image b SECONDARY_TYPE == ST_DIR) 1 0 = counts ∙ number is_dir ∙ ap (λ t. cond t 1 0) is in
-    let more = sum_by-append (λ h. cond (is_dir_at image h) 1 0) headers (record { parent = p; head = b } ∷ []) in
-    omega (arith, here, before, more)
-  where
-    number : (t : Bool) → from_bool t ≡ cond t 1 0
-    number true = refl
-    number false = refl
+dirs_more image headers p b {dirs = dirs} {one = one} {is_dir = is_dir} before is counts = grind (arith, common_steps, sum_by-append)
 
 -- one member of a walk more
 pub tells_more : (image : List ℕ) (store : StoreValue) (w : List (Role × ℕ)) (r : Role) (b : ℕ) → ((n p s j : ℕ) → r ≡ Head n p s j → n ≡ suc (heads w))
@@ -146,6 +119,4 @@ tells_more image store w r b f l t lo hi h = record {
 }
   where
     same : (file : Role → Option ℕ) → TellsFile file → (m : ℕ) → m < first r → blocks_before file w m ≡ blocks_before file ((r, b) ∷ w) m
-    same file tells m lt =
-        let old : List ℕ = picked (λ r. is_below m (file r)) w in
-        ap (λ t. length (cond t (old ++ b ∷ []) old)) (sym (not_below image file tells m r lt))
+    same file tells m lt = grind (arith, common_steps, not_below)

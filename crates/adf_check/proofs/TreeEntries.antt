@@ -2,6 +2,7 @@
 use Rattle.std.proofs.Common.{◌≡◌, ℕ, suc, [], ◌∷◌, ◌++◌, ◌+◌, ◌<◌, ◌≤◌, length, take, take_all, get_or, refl, sym, ap, subst, ◌∙◌, arith, Option, Some, None}
 use Rattle.std.specs.Prelude.{IsSome, option_map}
 use Rattle.std.proofs.lemmas.List.{take_more}
+use Rattle.std.proofs.lemmas.Grind.{common_steps}
 use Rattle.adf_tree.specs.declared.entry.Body.{Body}
 use Rattle.adf_tree.specs.declared.entry.Body.TheVariants.{Dir, File}
 use Rattle.adf_tree.specs.declared.entry.Entry.{Entry}
@@ -23,10 +24,7 @@ body_back (File bytes) = refl
 pub entry_back : (r : Row) (body : Body) (x : Option Entry) → Some r ≡ option_map row_of_entry x → body ≡ body_with (bytes_of x)
     → ◌≡◌ {A = Option Entry} (Some (record { parent = r.parent; name = r.name; meta = r.meta; body = body })) x
 entry_back r body None h b = cc
-entry_back r body (Some e) h b =
-    let same : body ≡ e.body = b ∙ body_back e.body in
-    let told : r ≡ row_of_entry e = cc in
-    λ i. Some (record { parent = (told i).parent; name = (told i).name; meta = (told i).meta; body = same i })
+entry_back r body (Some e) h b = grind (arith, common_steps, body_back)
 
 -- of which no row tells is no entry
 pub entry_none : (x : Option Entry) → ◌≡◌ {A = Option Row} None (option_map row_of_entry x) → ◌≡◌ {A = Option Entry} None x
@@ -65,6 +63,4 @@ tree_more t i x lt e =
 -- all entries
 pub tree_whole : (t : Tree) (i : ℕ) → length t.entries ≤ i
     → ◌≡◌ {A = Tree} (record { kind = t.kind; label = t.label; stamps = t.stamps; entries = take i t.entries }) t
-tree_whole t i h =
-    let z : take i t.entries ≡ t.entries = take_all i t.entries h in
-    λ j. record { kind = t.kind; label = t.label; stamps = t.stamps; entries = z j }
+tree_whole t i h = grind (arith, common_steps, take_all)

@@ -3,13 +3,14 @@ use Rattle.std.proofs.Common.{◌≡◌, ℕ, suc, List, [], ◌∷◌, ◌+◌,
 use Rattle.std.specs.Prelude.{◌==◌, not}
 use Rattle.std.proofs.lemmas.List.Filters.{length-filter_both}
 use Rattle.std.proofs.lemmas.List.Sums.{length-filter, sum_by-cons}
+use Rattle.std.proofs.lemmas.Grind.{common_steps}
 use Rattle.adf_blocks.specs.declared.layout.TheConstants.{SECONDARY_TYPE, ST_DIR}
 use Rattle.adf_tree.specs.declared.entry.Entry.{Entry}
 use Rattle.adf_tree.specs.declared.entry.Kind.{Kind}
 use Rattle.adf_tree.specs.Tree.{Tree}
 use Rattle.adf_blocks.specs.Sizes.{blocks}
 use Rattle.adf_volume.specs.Image.{kind_of, word_in}
-use Rattle.adf_volume.specs.Layout.{Layout, at_node, owned}
+use Rattle.adf_volume.specs.Layout.{Layout, at_node}
 use Rattle.adf_volume.specs.Lists.{At}
 use Rattle.adf_volume.proofs.MemberFacts.{in_range}
 use Rattle.adf_volume.proofs.Roles.{head_role}
@@ -25,9 +26,7 @@ use Rattle.adf_volume.specs.declared.counts.Counts.{Counts}
 
 -- the headers of rows are blocks of the image
 pub header_inside : {image : List ℕ} {store : StoreValue} → StoreFits image store → (i : ℕ) (r : KeptHeader) → At store.headers i r → r.head < blocks image
-header_inside {image = image} {store = store} st i r at =
-    let x = node_here image store st.walk st.read.tells st.read.is_walk i r at in
-    (in_range image st.read.is_walk (many_blocks image (tells_begun image store st)) (head_role x) r.head x.has).1
+header_inside {image = image} {store = store} st i r at = grind (arith, common_steps, node_here, in_range, many_blocks, tells_begun, head_role)
 
 -- two lists of one length whose members agree have one count
 same_count : {X Y : Type 0} (f : X → Bool) (g : Y → Bool) (xs : List X) (ys : List Y) → length xs ≡ length ys
@@ -61,10 +60,4 @@ pub counts_are : (image : List ℕ) (store : StoreValue) (t : Tree) (l : Layout)
     → n ≡ blocks image → used ≡ store.used
     → dirs ≡ count_by (is_dir_at image) store.headers → all ≡ length store.headers
     → ◌≡◌ {A = Counts} (record { kind = kind; blocks = n; used = used; free = n - 2 - used; dirs = dirs; files = all - dirs }) (counts_of image t l)
-counts_are image store t l kind n used dirs all k ek en eu ed ea =
-    let e1 : kind ≡ t.kind = ek ∙ sym k.fits.kind in
-    let e2 : used ≡ length (owned image l) = eu ∙ k.used in
-    let e3 : n - 2 - used ≡ blocks image - 2 - length (owned image l) = omega arith in
-    let e4 : dirs ≡ count_by is_directory t.entries = ed ∙ dirs_are image store t l k in
-    let e5 : all - dirs ≡ count_by (λ e. not (is_directory e)) t.entries = others t.entries all dirs (ea ∙ k.headers.count) e4 in
-    λ i. record { kind = e1 i; blocks = en i; used = e2 i; free = e3 i; dirs = e4 i; files = e5 i }
+counts_are image store t l kind n used dirs all k ek en eu ed ea = grind (arith, common_steps, count_by, dirs_are, others)

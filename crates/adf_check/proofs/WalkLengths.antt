@@ -1,14 +1,12 @@
 -- A walk is as long as the list of blocks that its layout owns; no list of its blocks is longer.
-use Rattle.std.proofs.Common.{◌≡◌, ◌≢◌, ℕ, suc, List, [], ◌∷◌, inl, inr, ◌≤◌, length, Bool, refl, sym, ap, subst, ◌∙◌, arith}
-use Rattle.std.proofs.lemmas.Grind.{common_steps}
+use Rattle.std.proofs.Common.{◌≡◌, ◌≢◌, ℕ, suc, List, [], ◌∷◌, inl, inr, ◌≤◌, length, refl, sym, ap, subst, ◌∙◌, arith}
 use Rattle.adf_volume.specs.Layout.{owned}
 use Rattle.adf_volume.specs.LayoutRoles.{owner_of}
 use Rattle.adf_volume.specs.Lists.{In, NoBlockTwice}
-use Rattle.adf_volume.specs.Made.{layout_in, picked}
+use Rattle.adf_volume.specs.Made.{layout_in}
 use Rattle.adf_volume.specs.Walk.{Role, Has, head_count, heads, IsWalk, IsWhole}
 use Rattle.adf_volume.specs.Walk.Role.{Head}
 use Rattle.adf_volume.specs.Walk.IsWalk.{start, step}
-use Rattle.adf_volume.proofs.Lists.{snoc_length}
 use Rattle.adf_volume.proofs.PartDemands.{part_holds}
 use Rattle.adf_volume.proofs.WalkOwners.{is_owned, once, owned_has}
 
@@ -53,7 +51,7 @@ walk_length image w v whole =
     (λ o b i. let x = owned_has image w v whole o b i in (x.0, walk_in w x.0 b x.1)) in
     omega arith
 
--- a walk has no more headers than members, and no more blocks that a test picks
+-- a walk has no more headers than members
 pub heads_within : (w : List (Role × ℕ)) → heads w ≤ length w
 heads_within [] = omega arith
 heads_within (x ∷ w) = omega (arith, heads_within w, one_more x.0 (heads w))
@@ -61,7 +59,3 @@ heads_within (x ∷ w) = omega (arith, heads_within w, one_more x.0 (heads w))
     one_more : (r : Role) (m : ℕ) → head_count r m ≤ suc m
     one_more (Head n p s j) m = omega arith
     one_more _ m = omega arith
-
-pub picked_within : (f : Role → Bool) (w : List (Role × ℕ)) → length (picked f w) ≤ length w
-picked_within f [] = omega arith
-picked_within f (x ∷ w) = grind (arith, common_steps, picked_within f w, snoc_length (picked f w) x.1)

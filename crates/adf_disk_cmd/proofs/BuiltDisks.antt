@@ -7,7 +7,8 @@ use Rattle.std.proofs.lemmas.Bool.Decides.{nat_tests}
 use Rattle.std.proofs.lemmas.List.{drop_all, length-take-le}
 use Rattle.std.proofs.lemmas.List.Folds.{list_all_at}
 use Rattle.std.specs.List.{flat_map, list_all}
-use Rattle.std.specs.Prelude.{◌&&◌, ◌==◌, ◌/◌, if◌then◌else◌}
+use Rattle.std.specs.Prelude.{◌==◌, ◌/◌, if◌then◌else◌}
+use Rattle.std.proofs.lemmas.Bool.{and_parts}
 use Rattle.adf_disk_cmd.proofs.NewVolumes.{MayBeNew, length_new, may_be_new, new_fits}
 use Rattle.adf_disk_cmd.specs.Builds.{BuildsDisk, HasPlanned, behind_volume, built_disk, given_bytes, given_cylinders, given_line, given_size}
 use Rattle.adf_build.specs.Laid.{volume}
@@ -135,22 +136,18 @@ length_one n p given enough new = go p.given enough new
     go true is may = length-take-le (n * 512) given (is refl)
     go false is may = length_new n p (may refl)
 
-first_and_others : (a b : Bool) → (a && b) ≡ true → (a ≡ true) × (b ≡ true)
-first_and_others true b h = (refl, h)
-first_and_others false b h = absurd cc
-
 are_volumes : (c : ℕ) (ps : List PartitionPlan) (given : List ℕ) → AreEnough c ps given → list_all (has_volume c) ps ≡ true
     → AreVolumes c ps (volumes_of c ps given)
 unfolding volumes_of
 are_volumes c [] given h all = tt
 are_volumes c (p ∷ ps) given h all =
-    let both = first_and_others (has_volume c p) (list_all (has_volume c) ps) all in (
+    let both = and_parts (has_volume c p) (list_all (has_volume c) ps) all in (
       length_one (p.cylinders * c) p given (first_enough c p ps given h) (may_be_new c p both.0),
       are_volumes c ps (behind_volume (p.cylinders * c) p given) (others_enough c p ps given h) both.1,
     )
 
 pub all_have_volumes : (plan : PlanValue) → is_plan plan ≡ true → list_all (has_volume (cylinder_blocks plan)) plan.partitions ≡ true
-all_have_volumes plan h = (first_and_others _ _ h).1
+all_have_volumes plan h = (and_parts _ _ h).1
 
 -- the disk of a plan
 has_planned : (text : List ℕ) (plan : PlanValue) (given : List ℕ) → IsText text plan given → length given ≡ given_bytes plan

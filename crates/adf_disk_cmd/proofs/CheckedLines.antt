@@ -2,6 +2,7 @@
 use Rattle.std.proofs.Common.{◌≡◌, ◌&&◌, ◌<◌, ◌+◌, ◌++◌, ◌∙◌, ℕ, Bool, true, false, List, [], ◌∷◌, Ok, ap, ap₂, arith, suc, refl, subst, sym}
 use Rattle.std.proofs.Common.{append-nil, append_assoc, drop, get_or, length}
 use Rattle.std.proofs.Math.Seq.{drop-cons}
+use Rattle.std.proofs.Math.Bool.{and-true}
 use Rattle.adf_cmd.specs.Answers.{Answer}
 use Rattle.adf_disk_cmd.specs.Checks.{AreChecked, Tells, TellsPlace, TellsVolume, check_status}
 use Rattle.adf_disk_cmd.specs.Lines.{is_checked, list_line, list_lines, name_text, volume_at}
@@ -45,13 +46,6 @@ and_assoc : (a b c : Bool) → (a && (b && c)) ≡ ((a && b) && c)
 and_assoc true b c = refl
 and_assoc false b c = refl
 
-and_true : (a : Bool) → (a && true) ≡ a
-and_true true = refl
-and_true false = refl
-
-pub begun : (bytes : List ℕ) (ps : List Partition) → Continues bytes ps ps true []
-begun bytes ps = λ others rest h. h
-
 line_added : (bytes : List ℕ) (ps left : List Partition) (p : Partition) (sound one : Bool) (text line : List ℕ)
     → Continues bytes ps (p ∷ left) sound text → Tells bytes p one line → Continues bytes ps left (sound && one) (text ++ (name_text p ++ line))
 unfolding AreChecked
@@ -71,5 +65,5 @@ stepped bytes ps left p sound one next text line more all tells e f =
 pub ended : (bytes : List ℕ) (ps : List Partition) (sound : Bool) (text : List ℕ) → Continues bytes ps [] sound text → AreChecked bytes ps sound text
 unfolding AreChecked
 ended bytes ps sound text all =
-    let told = subst (λ s. AreChecked bytes ps s (text ++ [])) (and_true sound) (all true [] (refl, refl)) in
+    let told = subst (λ s. AreChecked bytes ps s (text ++ [])) (and-true sound) (all true [] (refl, refl)) in
     subst (λ t. AreChecked bytes ps sound t) (append-nil text) told

@@ -1,6 +1,6 @@
 -- How works end, and by which answers. `part` are the first bytes of an input, as many as count.
-use Rattle.std.proofs.Common.{◌≡◌, ◌+◌, ◌*◌, ◌-◌, ◌/◌, ◌∙◌, inl, inr, ℕ, List, [], Option}
-use Rattle.std.proofs.Common.{None, Some, IfSome, ap, append-nil, arith, sym, drop, length, min, subst, take}
+use Rattle.std.proofs.Common.{◌≡◌, ◌+◌, ◌*◌, ◌-◌, ◌/◌, ◌∙◌, inl, inr, ℕ, List, Option}
+use Rattle.std.proofs.Common.{None, Some, IfSome, ap, arith, drop, length, min, subst, take}
 use Rattle.std.proofs.lemmas.List.{drop_min, length-drop, take-take, take_all, take_min}
 use Rattle.adf_disk_cmd.specs.Answers.{DiskAnswer, OfBytes, OfDisk, OfFault, OfPartitions}
 use Rattle.adf_disk_cmd.specs.Builds.{BuildsDisk}
@@ -14,7 +14,6 @@ use Rattle.adf_partitions.specs.declared.fault.DiskFault.{DiskFault}
 use Rattle.adf_partitions.specs.declared.partition.Partition.{Partition}
 use Rattle.adf_partitions.specs.declared.place.Place.{Place}
 use Rattle.adf_partitions.specs.declared.tables.Tables.{Tables}
-use Rattle.std.specs.Io.KnownBytes.{Appends}
 use Rattle.adf_runs.proofs.Endings.{ends_weaker}
 use Rattle.adf_runs.specs.Commands.{Reply}
 use Rattle.adf_runs.specs.Outcomes.{EndsBy, after_reading}
@@ -22,6 +21,7 @@ use Rattle.adf_runs.specs.declared.outcome.Outcome.{Outcome}
 use Rattle.adf_runs.specs.declared.streams.StreamFault.{StreamFault}
 use Rattle.adf_runs.specs.declared.streams.StreamFault.TheVariants.{Device, NoMemory}
 use Rattle.adf_words.specs.DiskLine.{DiskRequestValue, build, check, list, survey, volume}
+use Rattle.adf_runs.proofs.PendingText.{appends_nil}
 
 -- what is answered to the front of an input that is longer than the largest disk is answered to the whole of it
 pub long_answers : (r : DiskRequestValue) (front bytes : List ℕ) → front ≡ take (MOST_DISK_BYTES + 1) bytes → (reply : Reply) → DiskAnswer r front reply
@@ -86,14 +86,9 @@ volume_is bytes q first count e f =
     let cut : count ≡ min (q.blocks * 512) (length behind) = f ∙ ap (λ (l : List ℕ). min (q.blocks * 512) (length l)) rest in
     ap (take count) rest ∙ ap (λ (k : ℕ). take k behind) cut ∙ take_min (q.blocks * 512) behind
 
--- nothing is written
-pub none_added : (o : Option (List ℕ)) → Appends o o []
-none_added None = tt
-none_added (Some x) = sym (append-nil x)
-
 -- no input came
 pub unread_ends : (f : StreamFault) (w : Outcome) (answers : List ℕ → Reply → Type 0) (left o : Option (List ℕ)) → w ≡ after_reading f
     → IfSome left (λ all. EndsBy (answers all) w o o)
 unread_ends f w answers None o e = tt
-unread_ends Device w answers (Some all) o e = rw e (none_added o)
-unread_ends NoMemory w answers (Some all) o e = rw e (inl (none_added o))
+unread_ends Device w answers (Some all) o e = rw e (appends_nil o)
+unread_ends NoMemory w answers (Some all) o e = rw e (inl (appends_nil o))

@@ -1,6 +1,6 @@
 -- The start of a course.
 use Rattle.std.specs.Prelude.{Bool, true, false, cond, Some, None, map, slice_index, slice_index_or, replicate, ◌==◌}
-use Rattle.std.proofs.Common.{◌≡◌, ℕ, zero, suc, List, [], ◌∷◌, ◌++◌, length, set, inl, inr, ◌+◌, ◌<◌, ◌≤◌, refl, sym, subst, ap, ◌∙◌, arith}
+use Rattle.std.proofs.Common.{◌≡◌, ℕ, zero, suc, List, [], ◌∷◌, ◌++◌, length, set, ◌+◌, ◌<◌, ◌≤◌, refl, sym, subst, ap, ◌∙◌, arith}
 use Rattle.std.specs.Ordering.{is_eq, nat_cmp}
 use Rattle.std.specs.Global.{Vec}
 use Rattle.std.specs.Option.{unwrap_or}
@@ -8,6 +8,7 @@ use Rattle.std.specs.Map.{lookup}
 use Rattle.std.specs.BTreeMap.{BTreeMap, IsEmpty, get, is_at}
 use Rattle.std.proofs.lemmas.Bool.Decides.{eqb_tells}
 use Rattle.std.proofs.lemmas.List.{length-replicate}
+use Rattle.std.proofs.lemmas.Grind.{common_steps}
 use Rattle.adf_tree.specs.NameSet.{Names}
 use Rattle.adf_blocks.specs.Sizes.{blocks}
 use Rattle.adf_volume.specs.Image.{root_of}
@@ -41,10 +42,7 @@ no_parent (suc n) = refl
 
 one_node : (b n : ℕ) → slice_index (b ∷ []) n ≡ cond (n == 0) b 0
 one_node b zero = refl
-one_node b (suc n) = elim (eqb_tells (suc n) 0) [
-  | inl y ↦ let e : suc n ≡ 0 = y.1 in absurd (omega arith)
-  | inr y ↦ sym (ap (λ t. cond t b 0) y.0)
-]
+one_node b (suc n) = grind (arith, common_steps, eqb_tells)
 
 -- nothing is found but the root
 pub stands_begun : (image : List ℕ) (f g h : Found) → IsEmpty f.taken → f.owned.items ≡ replicate (blocks image) false
@@ -90,8 +88,7 @@ stands_begun image f g h taken owned owners numbers avoided left nodes exts find
 -- the findings of the boot block stand behind none
 pub stands_boot : (image : List ℕ) (f : Found) (reported : Vec Finding) (fs : List FindingValue) → Stands image f (begun image [])
     → map finding_value reported.items ≡ map finding_value f.findings.items ++ fs → Stands image (record f { findings = reported }) (begun image fs)
-stands_boot image f reported fs st e =
-    stands_but image f (record f { findings = reported }) (begun image []) [] fs refl st st.avoided (e ∙ ap (λ xs. xs ++ fs) st.findings)
+stands_boot image f reported fs st e = grind (arith, common_steps, stands_but)
 
 module _ (image : List ℕ) (fs : List FindingValue) where
   no_names : (names : Names) → AreNamed image (begun image fs).walk (before_page 0) names
@@ -100,8 +97,4 @@ module _ (image : List ℕ) (fs : List FindingValue) where
   -- the course begins at the first page, whose block the root names
   pub on_begun : (f : Found) → IsCourse image (begun image fs) → Stands image f (begun image fs) → blocks image ≤ 1048576
       → HasReachedPage image f 0 (root_of image)
-  on_begun f course st small = (
-    begun image fs,
-    record { course = course; stands = st; up_to = with_root image; names = no_names f.names; small = small },
-    record { root = (λ l. refl); ext = (λ l. absurd (omega arith)) },
-  )
+  on_begun f course st small = grind (arith, common_steps, with_root, no_names)

@@ -1,15 +1,16 @@
 -- The findings of the bits.
 use Rattle.std.specs.Prelude.{Bool, true, false, ◌||◌, cond, not, Some, None, IsTrue, ◌↔◌, slice_index_or}
-use Rattle.std.proofs.Common.{◌≡◌, ℕ, zero, suc, length, List, [], ◌∷◌, ◌++◌, inl, inr, ◌+◌, ◌-◌, ◌/◌, ◌%◌, ◌<◌, ◌≤◌, refl, sym, subst, ap, ◌∙◌, arith}
+use Rattle.std.proofs.Common.{◌≡◌, ℕ, zero, suc, length, List, [], ◌∷◌, ◌++◌, inl, inr, ◌+◌, ◌-◌, ◌/◌, ◌%◌, ◌<◌, ◌≤◌, refl, sym, subst, ◌∙◌, arith}
 use Rattle.std.specs.Ordering.{is_eq}
 use Rattle.std.specs.BTreeMap.{get}
 use Rattle.std.proofs.lemmas.List.{append_assoc, append-nil}
+use Rattle.std.proofs.lemmas.Grind.{common_steps}
 use Rattle.adf_blocks.specs.declared.cause.Cause.{Cause}
 use Rattle.adf_blocks.specs.declared.layout.TheConstants.{PAGE_BITS}
 use Rattle.adf_blocks.specs.Sizes.{blocks}
 use Rattle.adf_volume.specs.Image.{IsFreeAt}
-use Rattle.adf_volume.specs.Walk.{Role, second, Has, IsAbsent, IsFreeIn}
-use Rattle.adf_volume.specs.Walk.Role.{Page, Head}
+use Rattle.adf_volume.specs.Walk.{Role, Has, IsAbsent, IsFreeIn}
+use Rattle.adf_volume.specs.Walk.Role.{Page}
 use Rattle.adf_volume.proofs.Gathered.{one_block}
 use Rattle.adf_volume.proofs.Roles.{has_role, same_refl}
 use Rattle.adf_findings.specs.declared.part.Key.{Key}
@@ -40,10 +41,7 @@ at_has (x ∷ w) k b e = go (is_eq (by_key (key_of x.0) k)) refl e (at_has w k b
 
 -- the page with a key is in the walk
 pub has_page : (w : List (Role × ℕ)) (page at : ℕ) → at_key w (key_of (Page page)) ≡ Some at → Has w (Page page) at
-has_page w page at e =
-    let x = at_has w (key_of (Page page)) at e in
-    has_role w (Page page) (λ n p t j z. let y : second (Page page) ≡ second (Head n p t j) = ap second z in absurd (omega arith)) x.0 at x.1
-    (same_of_key x.0 (Page page) x.2)
+has_page w page at e = grind (arith, common_steps, page, at_has, has_role, same_of_key)
 
 module _ (image : List ℕ) (f : Found) (s : Course) (v : IsCourse image s) (fs : List FindingValue)
     (st : Stands image f (record { walk = s.walk; skipped = s.skipped; findings = fs })) (b : ℕ) where
@@ -137,9 +135,7 @@ some_on image f g b c x lo is tells reported (s, gs, told, on) =
     )
 
 pub reported_first : (image : List ℕ) (f : Found) → IsFinished image f → HasReportedOn image f 2
-reported_first image f (s, course, done, stands) =
-    let st = subst (λ fs. Stands image f (record { walk = s.walk; skipped = s.skipped; findings = fs })) (sym (append-nil s.findings)) stands in
-    (s, [], record { course = course; done = done; stands = st }, none_reported image s)
+reported_first image f (s, course, done, stands) = grind (arith, common_steps, append-nil, none_reported)
 
 pub reported_last : (image : List ℕ) (f : Found) (b : ℕ) → b ≡ blocks image → HasReportedOn image f b → IsCompleted image f
 reported_last image f b e (s, gs, told, on) = (s, gs, told, subst (λ b. BitsTell image s 2 (b - 2) gs) e (all_reported image s b gs on))

@@ -1,12 +1,12 @@
 -- The entries kept for blocks are those that own them.
-use Rattle.std.specs.Prelude.{true, false, cond, ◌==◌, Some, None, map, slice_get, slice_index_or}
+use Rattle.std.specs.Prelude.{cond, ◌==◌, Some, None, map, slice_get, slice_index_or}
 use Rattle.std.specs.Option.{option_and_then, unwrap_or}
 use Rattle.std.proofs.Common.{◌≡◌, ℕ, zero, suc, List, [], ◌∷◌, Option, ◌≤◌, inl, inr, refl, sym, ap, ◌∙◌, arith}
 use Rattle.std.proofs.lemmas.Bool.{cases_Bool}
 use Rattle.std.proofs.lemmas.Bool.Decides.{eqb_tells}
-use Rattle.adf_volume.specs.Image.{root_of}
+use Rattle.std.proofs.lemmas.Grind.{common_steps}
 use Rattle.adf_volume.specs.Walk.{Role, Asks}
-use Rattle.adf_volume.specs.Walk.Role.{Root, Head, Ext, Data}
+use Rattle.adf_volume.specs.Walk.Role.{Head, Ext, Data}
 use Rattle.adf_volume.proofs.Gathered.{IsGathered, asked_file, number_of}
 use Rattle.adf_volume.proofs.Gathered.IsGathered.{start, step}
 use Rattle.adf_volume.proofs.Roles.{asks_number}
@@ -20,17 +20,12 @@ use Rattle.adf_findings.specs.SurveyResult.{owner_at, owner_for}
 from_number : (o : Option ℕ) → ((n : ℕ) → o ≡ Some n → 1 ≤ n) → cond (unwrap_or o 0 == 0) None (Some (unwrap_or o 0)) ≡ o
 from_number None h = refl
 from_number (Some zero) h = absurd (let l = h 0 refl in omega arith)
-from_number (Some (suc n)) h = elim (eqb_tells (suc n) 0) [
-  | inl y ↦ let e : suc n ≡ 0 = y.1 in absurd (omega arith)
-  | inr y ↦ ap (λ t. cond t None (Some (suc n))) y.0
-]
+from_number (Some (suc n)) h = grind (arith, common_steps, eqb_tells)
 
 module _ (image : List ℕ) where
   -- a part that is asked for is that of an entry with a number from 1
   asked_number : {w : List (Role × ℕ)} → IsGathered image w → (r : Role) (a i n : ℕ) → Asks image w r a i → entry_in r ≡ Some n → 1 ≤ n
-  asked_number {w = w} v (Head m p s j) a i n d e =
-      let k = asks_number image w m p s j a i d in
-      let same : m ≡ n = cc in omega arith
+  asked_number {w = w} v (Head m p s j) a i n d e = grind (arith, common_steps, asks_number)
   asked_number v (Ext m k) a i n d e =
       let l = number_of image v (asked_file image v m k a i d).1.header in
       let same : m ≡ n = cc in omega arith
@@ -42,10 +37,7 @@ module _ (image : List ℕ) where
 
   -- an entry that holds a block has a number from 1
   owner_number : {w : List (Role × ℕ)} → IsGathered image w → (b n : ℕ) → owner w b ≡ Some n → 1 ≤ n
-  owner_number (start) b n e = elim (cases_Bool (root_of image == b)) [
-    | inl y ↦ (let z : cond true (entry_in Root) None ≡ Some n = ap (λ t. cond t (entry_in Root) None) (sym y) ∙ e in cc)
-    | inr y ↦ (let z : cond false (entry_in Root) None ≡ Some n = ap (λ t. cond t (entry_in Root) None) (sym y) ∙ e in cc)
-  ]
+  owner_number (start) b n e = grind (arith, common_steps, start, cases_Bool)
   owner_number (step {w = w} {r = r} a i c v d l) b n e = elim (cases_Bool (c == b)) [
     | inl y ↦ asked_number v r a i n d (ap (λ t. cond t (entry_in r) (owner w b)) (sym y) ∙ e)
     | inr y ↦ owner_number v b n (ap (λ t. cond t (entry_in r) (owner w b)) (sym y) ∙ e)

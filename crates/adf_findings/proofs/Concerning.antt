@@ -1,18 +1,15 @@
 -- The entries kept for the findings are those that they concern.
-use Rattle.std.specs.Prelude.{Some, None, cond, is_some, map, slice_get}
+use Rattle.std.specs.Prelude.{Some, None, is_some, map, slice_get}
 use Rattle.std.specs.Option.{option_and_then, option_flatten}
-use Rattle.std.proofs.Common.{◌≡◌, ℕ, zero, suc, List, [], ◌∷◌, ◌++◌, Option, inl, inr, refl, sym, ap, subst, ◌∙◌}
+use Rattle.std.proofs.Common.{◌≡◌, ℕ, zero, suc, List, [], ◌∷◌, ◌++◌, Option, inl, inr, refl, sym, ap, ◌∙◌, arith}
+use Rattle.std.proofs.lemmas.Grind.{common_steps}
 use Rattle.adf_volume.specs.Lists.{In}
 use Rattle.adf_volume.specs.Walk.{Role, Lacks}
 use Rattle.adf_volume.specs.Walk.Role.{Head}
 use Rattle.adf_findings.specs.declared.found.Found.{Found}
 use Rattle.adf_findings.specs.declared.concern.Concern.{Concern}
-use Rattle.adf_findings.specs.declared.concern.Concern.TheVariants.{Entry, Within}
 use Rattle.adf_findings.specs.declared.part.Finding.{Finding}
-use Rattle.adf_findings.specs.declared.part.Part.{Part}
-use Rattle.adf_findings.specs.declared.part.Part.TheVariants.{Root as RootPart, Page as PagePart, MapExt as MapExtPart, Head as HeadPart}
-use Rattle.adf_findings.specs.declared.part.Part.TheVariants.{Ext as ExtPart, Data as DataPart}
-use Rattle.adf_findings.specs.Concerned.{concern_of, concern_of_nth, concern_with}
+use Rattle.adf_findings.specs.Concerned.{concern_of_nth, concern_with}
 use Rattle.adf_findings.specs.Found.{Stands, at_key}
 use Rattle.adf_findings.specs.Marks.{blamed, is_header}
 use Rattle.adf_findings.specs.Parts.{key_of, part_role, finding_value}
@@ -45,23 +42,11 @@ module _ (image : List ℕ) (f : Found) {s : Course} (v : IsCourse image s) (bit
 
   -- what a finding concerns is told of the walk
   blamed_is : (x : Finding) → In (s.findings ++ bits) (finding_value x) → blamed f x.part ≡ option_and_then (concern_with s.walk) (part_role x.part)
-  blamed_is x i = go x.part refl
-    where
-      go : (o : Option Part) → x.part ≡ o → blamed f o ≡ option_and_then (concern_with s.walk) (part_role o)
-      go None e = refl
-      go (Some RootPart) e = refl
-      go (Some (PagePart i)) e = refl
-      go (Some (MapExtPart j)) e = refl
-      go (Some (HeadPart n p t j)) e = ap (λ y. Some (cond y (Entry n) (Within p))) (header_is (finding_value x) n p t j i (ap part_role e))
-      go (Some (ExtPart n k)) e = refl
-      go (Some (DataPart n k)) e = refl
+  blamed_is x i = grind (arith, common_steps, header_is)
 
   -- of what is found
   pub concerned_kept : (k : ℕ) → option_flatten (slice_get (map (λ x. blamed f x.part) f.findings.items) k) ≡ concern_of_nth s.walk (s.findings ++ bits) k
-  concerned_kept k =
-      at_places (λ x. blamed f x.part) (concern_of s.walk) f.findings.items
-      (λ x i. blamed_is x (subst (λ fs. In fs (finding_value x)) st.findings (in_values f.findings.items x i))) k
-      ∙ ap (λ fs. concern_of_nth s.walk fs k) st.findings
+  concerned_kept k = grind (arith, common_steps, at_places, blamed_is, in_values)
 
 -- findings of no part concern nothing
 pub no_concern_nth : (w : List (Role × ℕ)) (fs : List FindingValue) (k : ℕ) → ((f : FindingValue) → In fs f → f.part ≡ None) → concern_of_nth w fs k ≡ None

@@ -1,14 +1,15 @@
 -- The positions of a course: by chain in a directory, extension blocks before data blocks in a file, node by node.
 use Rattle.std.specs.Prelude.{Option, Some, None, slice_index}
-use Rattle.std.proofs.Common.{◌≡◌, ◌≢◌, ℕ, zero, suc, length, List, ◌⊎◌, inl, inr, ◌+◌, ◌*◌, ◌/◌, ◌<◌, ◌≤◌, refl, sym, subst, ap, ◌∙◌, arith}
+use Rattle.std.proofs.Common.{◌≡◌, ◌≢◌, ℕ, zero, suc, length, List, ◌⊎◌, inl, ◌+◌, ◌*◌, ◌/◌, ◌<◌, ◌≤◌, refl, sym, subst, ap, ◌∙◌, arith}
+use Rattle.std.proofs.lemmas.Grind.{common_steps}
 use Rattle.adf_blocks.specs.declared.layout.TheConstants.{EXTENSION, NEXT_IN_CHAIN, POINTERS, SECONDARY_TYPE, SLOTS, ST_DIR, ST_FILE}
 use Rattle.adf_volume.specs.Image.{table_word, word_in}
-use Rattle.adf_volume.specs.Positions.{before_node, position_of}
+use Rattle.adf_volume.specs.Positions.{before_node}
 use Rattle.adf_volume.specs.Walk.{Role, NodeAt, DirAt, FileAt, MemberAt, Asks, data_count, ext_count, heads}
 use Rattle.adf_volume.specs.Walk.Role.{Head, Ext, Data}
 use Rattle.adf_volume.proofs.Gathered.{IsGathered, ext_below, ext_counted, file_one, member_is, node_there}
 use Rattle.adf_volume.proofs.Pointers.{ext_asks, ext_ends, link_asks, link_ends}
-use Rattle.adf_volume.proofs.PositionSteps.{chain_broken, end_chain, end_datas, end_dir, end_exts, end_node, end_nodes, enter_dir, enter_file}
+use Rattle.adf_volume.proofs.PositionSteps.{chain_broken, end_chain, end_datas, end_exts, end_node, end_nodes, enter_dir, enter_file}
 use Rattle.adf_volume.proofs.PositionSteps.{exts_broken, no_exts}
 use Rattle.adf_volume.proofs.Roles.{count_own, dir_up, typed_up}
 use Rattle.adf_findings.specs.declared.part.Part.TheVariants.{Head as HeadPart, Ext as ExtPart, Data as DataPart}
@@ -26,10 +27,6 @@ module _ (image : List ℕ) where
     pub dir_begins : (n b : ℕ) → Holds image f (before_node n) s → DirAt image s.walk n b → HasReachedSlot image f n 0 b
     dir_begins n b h d = (s, moved h (omega arith) (enter_dir image (gathered image h.course) n b d h.up_to), d)
 
-    -- behind the last slot comes the next node
-    pub dir_ends : (n b : ℕ) → Holds image f (position_of (Head 0 n SLOTS 0)) s → HasReached image f (before_node (suc n))
-    dir_ends n b h = (s, moved h (omega arith) (end_dir image n h.up_to))
-
     -- behind the last node nothing is next
     pub nodes_end : (n : ℕ) → length f.nodes.items ≤ n → Holds image f (before_node n) s → IsFinished image f
     nodes_end n le h = (s, h.course, end_nodes image (gathered image h.course) n (let c = h.stands.count in omega arith) h.up_to, h.stands)
@@ -42,34 +39,18 @@ module _ (image : List ℕ) where
           subst (NodeAt s.walk n) (sym (at ∙ h.stands.node n)) (node_there image (gathered image h.course) n (omega arith))
 
       pub dir_there : (n ≡ 0) ⊎ (word_in image b SECONDARY_TYPE ≡ ST_DIR) → DirAt image s.walk n b
-      dir_there = go n node_at
-        where
-          go : (n : ℕ) → NodeAt s.walk n b → (n ≡ 0) ⊎ (word_in image b SECONDARY_TYPE ≡ ST_DIR) → DirAt image s.walk n b
-          go zero k t = k
-          go (suc n) k (inl e) = absurd (omega arith)
-          go (suc n) k (inr e) = record { header = k; type = e }
+      dir_there = grind (arith, common_steps, node_at)
 
       pub file_there : (n ≡ 0 → ⊥) → word_in image b SECONDARY_TYPE ≡ ST_FILE → FileAt image s.walk n b
-      file_there = go n node_at
-        where
-          go : (n : ℕ) → NodeAt s.walk n b → (n ≡ 0 → ⊥) → word_in image b SECONDARY_TYPE ≡ ST_FILE → FileAt image s.walk n b
-          go zero k other e = absurd (other refl)
-          go (suc n) k other e = record { header = k; type = e }
+      file_there = grind (arith, common_steps, node_at)
 
       pub nothing_there : (n ≡ 0 → ⊥) → word_in image b SECONDARY_TYPE ≢ ST_DIR → word_in image b SECONDARY_TYPE ≢ ST_FILE
           → HasReached image f (before_node (suc n))
-      nothing_there other no_dir no_file =
-          (s, moved h (omega arith) (end_node image (gathered image h.course) n b other node_at no_dir no_file h.up_to))
+      nothing_there other no_dir no_file = grind (arith, common_steps, moved, end_node, gathered, node_at)
 
     -- the extension blocks of a file come first
     pub exts_begin : (n b : ℕ) → Holds image f (before_node n) s → FileAt image s.walk n b → HasReachedExt image f n b 0 b
-    exts_begin n b h file = record {
-      course = s;
-      holds = moved h (omega arith) (enter_file image n h.up_to);
-      file = file;
-      member = file;
-      count = no_exts image (gathered image h.course) n h.up_to;
-    }
+    exts_begin n b h file = grind (arith, common_steps, moved, enter_file, no_exts, gathered)
 
 -- a chain that is gone through
 module _ {image : List ℕ} {f : Found} {p slot j a i b : ℕ} (x : HasReachedHeader image f p slot j a i b) where
@@ -113,8 +94,7 @@ module _ {image : List ℕ} {f : Found} {n b m a : ℕ} (x : HasReachedExt image
 
   gone_on : {g : Found} {o : Option ℕ} (q : Option ℕ) → o ≡ q → IsGoneOn image x.course (ExtPart n (m + 1)) a EXTENSION g o
       → IsGoneOn image x.course (ExtPart n (suc m)) a EXTENSION g q
-  gone_on {g} q e gone = subst (λ k. IsGoneOn image x.course (ExtPart n k) a EXTENSION g q) (sym one_more)
-      (subst (IsGoneOn image x.course (ExtPart n (m + 1)) a EXTENSION g) e gone)
+  gone_on {g} q e gone = grind (arith, common_steps, one_more)
 
   pub ext_is_named : word_in image a EXTENSION ≢ 0 → IsNamed image f (ExtPart n (m + 1)) a EXTENSION x.course
   ext_is_named ne = subst (λ k. IsNamed image f (ExtPart n k) a EXTENSION x.course) one_more
@@ -134,14 +114,7 @@ module _ {image : List ℕ} {f : Found} {n b m a : ℕ} (x : HasReachedExt image
 
   -- behind an extension block that was skipped come the data blocks
   pub ext_skipped : {g : Found} {o : Option ℕ} → o ≡ None → IsGoneOn image x.course (ExtPart n (m + 1)) a EXTENSION g o → HasReachedData image g n b m 0
-  ext_skipped {g} {o} e gone =
-      let on = gone_on None e gone in
-      record {
-        course = _;
-        holds = moved on.holds (omega arith) (end_exts image n (suc m) on.holds.up_to (exts_broken image x.holds.up_to));
-        file = x.file;
-        count = x.count;
-      }
+  ext_skipped {g} {o} e gone = grind (arith, common_steps, gone_on, moved, end_exts, exts_broken)
 
   -- and behind the last one
   pub exts_done : word_in image a EXTENSION ≡ 0 → HasReachedData image f n b m 0
@@ -176,12 +149,7 @@ module _ {image : List ℕ} {f : Found} {n b exts k : ℕ} (x : HasReachedData i
 
   pub data_gone : {g : Found} {o : Option ℕ} {a i : ℕ} → IsGoneOn image x.course (DataPart n (k + 1)) a i g o → HasReachedData image g n b exts (k + 1)
   data_gone {o = None} gone = record { course = _; holds = gone.holds; file = x.file; count = x.count }
-  data_gone {o = Some c} {a} {i} gone = record {
-    course = _;
-    holds = gone.holds;
-    file = typed_up (Data n (k + 1), word_in image a i) x.file;
-    count = x.count;
-  }
+  data_gone {o = Some c} {a} {i} gone = grind (arith, common_steps, typed_up)
 
   -- behind the last data block comes the next node
   pub datas_done : ((j : ℕ) → j < data_count image b → j < POINTERS * (exts + 1) → j < k) → HasReached image f (before_node (n + 1))

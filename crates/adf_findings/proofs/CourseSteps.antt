@@ -1,11 +1,12 @@
 -- The steps of a course: the part at its position is taken or skipped, or the position advances without one.
 use Rattle.std.specs.Prelude.{false, not, ◌||◌, slice_index_or, Option, Some, None}
-use Rattle.std.proofs.Common.{◌≡◌, ℕ, zero, suc, length, List, ◌∷◌, ◌<◌, ◌≤◌, refl, sym, subst, ap, ◌∙◌, arith}
+use Rattle.std.proofs.Common.{◌≡◌, ℕ, suc, length, List, ◌∷◌, ◌≤◌, refl, sym, subst, ap, ◌∙◌, arith}
+use Rattle.std.proofs.lemmas.Grind.{common_steps}
 use Rattle.adf_tree.specs.NameSet.{has}
 use Rattle.adf_blocks.specs.Sizes.{blocks}
 use Rattle.adf_volume.specs.Image.{word_in}
-use Rattle.adf_volume.specs.Positions.{Position, IsBelow, IsNoLater, IsUpTo, behind, position_of}
-use Rattle.adf_volume.specs.Walk.{Role, Same, Has, Asks, Lacks, first, heads, second}
+use Rattle.adf_volume.specs.Positions.{Position, IsNoLater, IsUpTo, behind, position_of}
+use Rattle.adf_volume.specs.Walk.{Role, Same, Asks, Lacks, first, heads, second}
 use Rattle.adf_volume.specs.Walk.Role.{Root, Head, Ext}
 use Rattle.adf_volume.proofs.Gathered.{IsGathered, ext_counted, next_ext}
 use Rattle.adf_volume.proofs.PositionSteps.{not_skipped, not_taken, past_skipped, past_taken, same_behind, same_position}
@@ -40,15 +41,7 @@ role_is image f s part z m st e is = is ∙ ap (λ m. renumbered m (role_of part
 -- a course moves on to a later position that its walk has come to
 pub moved : {image : List ℕ} {f : Found} {k l : Position} {s : Course} → Holds image f k s → IsNoLater k l → IsUpTo image s.walk s.skipped l
     → Holds image f l s
-moved {k = k} h le up_to = record {
-  course = h.course;
-  stands = h.stands;
-  up_to = up_to;
-  names = (λ name m p t j b valid e d here.
-      let u : IsBelow (Head m p t j) k = h.up_to.taken (Head m p t j) b here in
-      h.names name m p t j b valid (omega arith) (omega arith) here);
-  small = h.small;
-}
+moved {k = k} h le up_to = grind (arith, common_steps, up_to)
 
 module _ {image : List ℕ} {f : Found} {part : Part} {a i : ℕ} {s : Course} (n : IsNamed image f part a i s) where
   abbrev role : Role
@@ -62,16 +55,7 @@ module _ {image : List ℕ} {f : Found} {part : Part} {a i : ℕ} {s : Course} (
 
   -- a part that is named is next
   pub is_next : IsNextReference image s (record { part = part; holder = a; block = word_in image a i })
-  is_next = (
-    i,
-    record {
-      asked = n.asked;
-      lacks = not_taken image role up_to;
-      unskipped = not_skipped image role up_to;
-      least = (λ q d k h lack over before. up_to.gone q d k h lack over before);
-    },
-    refl,
-  )
+  is_next = grind (arith, common_steps, not_taken, role, up_to, not_skipped)
 
   v : IsGathered image s.walk
   v = gathered image n.holds.course
@@ -84,12 +68,7 @@ module _ {image : List ℕ} {f : Found} {part : Part} {a i : ℕ} {s : Course} (
 
   -- the walk has earlier headers of the chain of a header that is not the first, and none of the chain of one that is
   pub known_chain : (z : Part) → role_of z ≡ role → IsChain s.walk z
-  known_chain z is = go z (subst (λ r. Asks image s.walk r a i) (sym is) n.asked) (λ q b h. subst (IsBelow q) (sym (place z is)) (n.holds.up_to.taken q b h))
-    where
-      go : (z : Part) → Asks image s.walk (role_of z) a i → ((q : Role) (b : ℕ) → Has s.walk q b → IsBelow q (position_of (role_of z))) → IsChain s.walk z
-      go (HeadPart m p t zero) h taken = λ m j b has. let x : j < 0 = (taken (Head m p t j) b has).2 refl refl in omega arith
-      go (HeadPart m p t (suc j)) h taken = (h.1.0, a, h.1.1)
-      go _ h taken = tt
+  known_chain z is = grind (arith, common_steps, place)
 
   -- what is found of it tells what its demands ask
   pub known : {z : Part} {b : ℕ} (x : Facts) → role_of z ≡ role → x.is_enough ≡ enough_in image f z
@@ -110,8 +89,7 @@ module _ {image : List ℕ} {f : Found} {part : Part} {a i : ℕ} {s : Course} (
       → IsOutcome image t (reference_at b) f g o
 
   outcome : (b : ℕ) (g : Found) (o : Option Part) → b ≡ word_in image a i → AsJudged b g o → IsOutcome image s (reference_at (word_in image a i)) f g o
-  outcome b g o e judged =
-      subst (λ b. IsOutcome image s (reference_at b) f g o) e (judged s n.holds (subst (λ b. IsNextReference image s (reference_at b)) (sym e) is_next))
+  outcome b g o e judged = grind (arith, common_steps, reference_at, is_next)
 
   pub to_take : {b : ℕ} {g : Found} {o : Option Part} → b ≡ word_in image a i → AsJudged b g o → (z : Part) → o ≡ Some z
       → IsToTake image s (reference_at (word_in image a i)) f g z
@@ -124,8 +102,7 @@ module _ {image : List ℕ} {f : Found} {part : Part} {a i : ℕ} {s : Course} (
   -- the place behind a part that was skipped
   module _ {g : Found} (o : IsSkipped image s (reference_at (word_in image a i)) f g) where
     skipped_up_to : IsUpTo image s.walk ((role, word_in image a i) ∷ s.skipped) (behind (role_of part))
-    skipped_up_to = subst (IsUpTo image s.walk ((role, word_in image a i) ∷ s.skipped)) (same_behind role (role_of part) same)
-        (past_skipped image role up_to (word_in image a i))
+    skipped_up_to = grind (arith, common_steps, role, same_behind, same, past_skipped, up_to)
 
     pub skipped_on : IsGoneOn image s part a i g None
     skipped_on = record {
@@ -169,8 +146,7 @@ module _ {image : List ℕ} {f : Found} {part : Part} {a i : ℕ} {s : Course} (
           o.free t)
 
       taken_up_to : IsUpTo image ((role, block) ∷ s.walk) s.skipped (behind (role_of part))
-      taken_up_to = subst (IsUpTo image ((role, block) ∷ s.walk) s.skipped) (same_behind role (role_of part) same)
-          (past_taken image role up_to v a i block n.asked)
+      taken_up_to = grind (arith, common_steps, role, block, same_behind, same, past_taken, up_to, v)
 
       same_names : (taken : Part) → IsKept taken block g h → h.names ≡ g.names
       same_names (HeadPart m p t j) kept = kept.names

@@ -5,8 +5,9 @@ use Rattle.std.specs.Prelude.{◌&&◌, Bool, true, false, cond, nat_lt, Option,
 use Rattle.std.proofs.Common.{◌≡◌, ℕ, suc, zero, List, [], ◌∷◌, ◌==◌, ◌+◌, ◌≤◌, ◌<◌, inl, inr, refl, sym, ap, subst, ◌∙◌, arith}
 use Rattle.std.proofs.lemmas.Bool.{eqb-true, eq-eqb}
 use Rattle.std.proofs.lemmas.Bool.Decides.{eqb_tells, nat_tests}
+use Rattle.std.proofs.lemmas.Grind.{common_steps}
 use Rattle.adf_blocks.specs.Sizes.{blocks}
-use Rattle.adf_volume.specs.Walk.{Role, first, second, Has, FileAt, node_block}
+use Rattle.adf_volume.specs.Walk.{Role, first, Has, FileAt, node_block}
 use Rattle.adf_volume.specs.Walk.Role.{Root, Head, Ext, Data}
 use Rattle.adf_volume.proofs.Gathered.{head_block}
 use Rattle.adf_volume.proofs.Roles.{has_role, same_refl}
@@ -27,10 +28,7 @@ use Rattle.adf_findings.proofs.SoundMarks.{inside}
 
 -- the data block with a key is in the walk
 pub has_data : (w : List (Role × ℕ)) (n k b : ℕ) → at_key w (key_of (Data n k)) ≡ Some b → Has w (Data n k) b
-has_data w n k b e =
-    let x = at_has w (key_of (Data n k)) b e in
-    has_role w (Data n k) (λ m p t j z. let y : second (Data n k) ≡ second (Head m p t j) = ap second z in absurd (omega arith)) x.0 b x.1
-    (same_of_key x.0 (Data n k) x.2)
+has_data w n k b e = grind (arith, common_steps, b, at_has, has_role, same_of_key)
 
 -- a file's data block is the one that the table names, and inside of the image
 pub found_named : (image : List ℕ) (w : List (Role × ℕ)) (fs : List FindingValue) → IsSurvey image w fs → (n h : ℕ) → FileAt image w n h → (k b : ℕ)
@@ -92,16 +90,10 @@ not_all true true true x y h = absurd (h refl refl refl)
 -- the number kept of a block is that of its entry
 kept_some : (m n : ℕ) → cond (m == 0) None (Some m) ≡ Some n → m ≡ n
 kept_some zero n e = cc
-kept_some (suc m) n e = elim (eqb_tells (suc m) 0) [
-  | inl y ↦ let z : suc m ≡ 0 = y.1 in absurd (omega arith)
-  | inr y ↦ let z : Some (suc m) ≡ Some n = ap (λ t. cond t None (Some (suc m))) (sym y.0) ∙ e in cc
-]
+kept_some (suc m) n e = grind (arith, common_steps, eqb_tells)
 
 some_kept : (m n : ℕ) → 1 ≤ n → m ≡ n → cond (m == 0) None (Some m) ≡ Some n
-some_kept m n lo e = elim (eqb_tells m 0) [
-  | inl y ↦ let z : m ≡ 0 = y.1 in absurd (omega arith)
-  | inr y ↦ ap (λ t. cond t None (Some m)) y.0 ∙ ap Some e
-]
+some_kept m n lo e = grind (arith, common_steps, eqb_tells)
 
 module _ (v : SurveyValue) (w : List (Role × ℕ)) (fs : List FindingValue) (t : TellsOf v w fs) (n h : ℕ) (file : FileAt v.image w n h) where
   -- the block that is named as a data block, if it is taken as that, is the one that is found
@@ -138,12 +130,7 @@ module _ (v : SurveyValue) (w : List (Role × ℕ)) (fs : List FindingValue) (t 
       → (bytes_left image size (data_named image v n head) many
       ≡ bytes_left v.image (size_stated v.image h) (data_found w n) (blocks_stated v.image h))
       × (gaps_left image size (data_named image v n head) many ≡ gaps_left v.image (size_stated v.image h) (data_found w n) (blocks_stated v.image h))
-  left_is image head e g size many s c = (
-    (λ i. bytes_left (e i) (s i) (data_named (e i) v n (g i)) (c i))
-        ∙ ap (λ found. bytes_left v.image (size_stated v.image h) found (blocks_stated v.image h)) (λ i k. named_is k i),
-    (λ i. gaps_left (e i) (s i) (data_named (e i) v n (g i)) (c i))
-        ∙ ap (λ found. gaps_left v.image (size_stated v.image h) found (blocks_stated v.image h)) (λ i k. named_is k i),
-  )
+  left_is image head e g size many s c = grind (arith, common_steps, named_is)
 
 -- the header of a file that is found
 pub file_at : (image : List ℕ) (w : List (Role × ℕ)) (fs : List FindingValue) → IsSurvey image w fs → (n h : ℕ) → FileAt image w n h

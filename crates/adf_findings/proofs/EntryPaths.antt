@@ -1,7 +1,7 @@
 -- The path of an entry is the path of its directory and its name.
 use Rattle.std.specs.Prelude.{Bool, true, false, ◌&&◌, cond, map, nat_le, reverse}
-use Rattle.std.proofs.Common.{◌≡◌, ℕ, zero, suc, List, [], ◌∷◌, ◌++◌, ◌<◌, ◌≤◌, refl, ap, ◌∙◌, arith, append_assoc, length, length-append, ◌+◌}
-use Rattle.std.proofs.lemmas.Grind.{reverse_onto}
+use Rattle.std.proofs.Common.{◌≡◌, ℕ, zero, suc, List, [], ◌∷◌, ◌++◌, ◌<◌, ◌≤◌, refl, ap, arith, append_assoc, length, length-append, ◌+◌}
+use Rattle.std.proofs.lemmas.Grind.{reverse_onto, common_steps}
 use Rattle.std.proofs.lemmas.List.{map-append, reverse-append}
 use Rattle.std.proofs.lemmas.Bool.{and_parts}
 use Rattle.std.proofs.lemmas.Bool.Decides.{nat_tests}
@@ -28,17 +28,10 @@ module _ (image : List ℕ) (w : List (Role × ℕ)) (fs : List FindingValue) (h
       omega arith
 
   entry_range : (n : ℕ) → is_entry w n ≡ true → (1 ≤ n) × (n ≤ heads w)
-  entry_range n e =
-      let x = and_parts (nat_le 1 n) (nat_le n (heads w)) e in
-      let lo : nat_le 1 n ≡ true = x.0 in
-      let hi : nat_le n (heads w) ≡ true = x.1 in
-      (grind (arith, nat_tests), grind (arith, nat_tests))
+  entry_range n e = grind (arith, common_steps, and_parts, nat_tests)
 
   in_range : (n : ℕ) → 1 ≤ n → n ≤ heads w → is_entry w n ≡ true
-  in_range n lo hi =
-      let x : nat_le 1 n ≡ true = grind (arith, nat_tests) in
-      let y : nat_le n (heads w) ≡ true = grind (arith, nat_tests) in
-      rw (x, y) refl
+  in_range n lo hi = grind (arith, common_steps, nat_tests)
 
   -- as many steps as the number are enough
   path_enough : (f g n : ℕ) → n ≤ f → n ≤ g → path_up image w f n ≡ path_up image w g n
@@ -55,29 +48,17 @@ module _ (image : List ℕ) (w : List (Role × ℕ)) (fs : List FindingValue) (h
           → cond t (path_up image w f (parent_node w n) ++ name_of image (node_block w n) ∷ []) []
           ≡ cond t (path_up image w g (parent_node w n) ++ name_of image (node_block w n) ∷ []) []
       go false e again = refl
-      go true e again =
-          let r = entry_range n e in
-          ap (λ p. p ++ name_of image (node_block w n) ∷ []) (again (directory_smaller n r.0 r.1))
+      go true e again = grind (arith, common_steps, entry_range, directory_smaller)
 
   -- one step up
   pub path_next : (n : ℕ) → 1 ≤ n → n ≤ heads w → path_to image w n ≡ path_to image w (parent_node w n) ++ name_of image (node_block w n) ∷ []
   path_next zero lo hi = absurd (omega arith)
-  path_next (suc m) lo hi =
-      let p : ℕ = parent_node w (suc m) in
-      let lt : p < suc m = directory_smaller (suc m) lo hi in
-      let name : List ℕ = name_of image (node_block w (suc m)) in
-      ap (λ t. cond t (path_up image w m p ++ name ∷ []) []) (in_range (suc m) lo hi)
-      ∙ ap (λ q. q ++ name ∷ []) (path_enough m p p (omega arith) (omega arith))
+  path_next (suc m) lo hi = grind (arith, common_steps, directory_smaller, in_range, path_enough)
 
   -- no step up
   pub path_none : (n : ℕ) → ((1 ≤ n) × (n ≤ heads w) → ⊥) → path_to image w n ≡ []
   path_none zero none = refl
-  path_none (suc m) none = go (is_entry w (suc m)) refl
-    where
-      go : (t : Bool) → is_entry w (suc m) ≡ t
-          → cond t (path_up image w m (parent_node w (suc m)) ++ name_of image (node_block w (suc m)) ∷ []) [] ≡ []
-      go false e = refl
-      go true e = absurd (none (entry_range (suc m) e))
+  path_none (suc m) none = grind (arith, common_steps, is_entry, entry_range)
 
   -- the names gathered so far, and one more
   pub gathered_more : (path names : List (List ℕ)) (n m : ℕ) (name : List ℕ) → (1 ≤ n) × (n ≤ heads w) → m ≡ parent_node w n

@@ -1,5 +1,6 @@
 -- The data blocks of a file in the walk of a survey, and in its table.
 use Rattle.std.proofs.Common.{◌≡◌, ℕ, zero, suc, List, ◌∷◌, length, inl, inr, ◌/◌, ◌<◌, ◌≤◌, refl, sym, ap, subst, ◌∙◌, arith, eq-eqb}
+use Rattle.std.proofs.lemmas.Grind.{common_steps}
 use Rattle.adf_blocks.specs.declared.layout.TheConstants.{POINTERS}
 use Rattle.adf_volume.specs.Image.{root_of, table_word, word_in}
 use Rattle.adf_volume.specs.Lists.{At}
@@ -36,10 +37,7 @@ module _ (image : List ℕ) where
     module _ (s : Course) (v : IsCourse image s) (clear : (k b : ℕ) → Has s.skipped (Data n k) b → ⊥) (old : DatasListed s.walk) where
       -- it is asked for, and neither in the walk nor skipped
       not_had : Lacks s.walk (Data n (suc (length (datas_in s.walk n))))
-      not_had q b h same =
-          let m : ℕ = length (datas_in s.walk n) in
-          let u = at_below (datas_in s.walk n) m b (old.to m b (has_role s.walk (Data n (suc m)) (no_data_head (suc m)) q b h same)) in
-          omega arith
+      not_had q b h same = grind (arith, common_steps, at_below, has_role, no_data_head)
 
       not_skipped : (k : ℕ) → Lacks s.skipped (Data n k)
       not_skipped k q b h same = clear k b (has_role s.skipped (Data n k) (no_data_head k) q b h same)
@@ -60,9 +58,7 @@ module _ (image : List ℕ) where
           omega arith
 
       more_listed : (r : Role) (a i : ℕ) → IsNext image s r a i → DatasListed ((r, word_in image a i) ∷ s.walk)
-      more_listed r a i d =
-          one_more (is_data_of n) (λ k. Data n (suc k)) (λ k. eq-eqb n n refl) s.walk r (word_in image a i) (λ k m z. cc) old
-          (λ t. let x = data_only image n r t in x.1 ∙ ap (Data n) (next_number x.0 a i (subst (λ r. IsNext image s r a i) x.1 d)))
+      more_listed r a i d = grind (arith, common_steps, one_more, eq-eqb, data_only, next_number)
 
     -- a file of which no data block was skipped
     pub datas_listed : {s : Course} → IsCourse image s → ((k b : ℕ) → Has s.skipped (Data n k) b → ⊥) → DatasListed s.walk

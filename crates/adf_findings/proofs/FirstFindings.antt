@@ -1,17 +1,16 @@
 -- The first finding of a survey, and surveys without one.
-use Rattle.std.specs.Prelude.{false, nat_le, slice_index}
+use Rattle.std.specs.Prelude.{false}
 use Rattle.std.proofs.lemmas.Bool.Decides.{nat_tests}
-use Rattle.std.proofs.Common.{◌≡◌, ℕ, suc, List, [], ◌∷◌, ◌++◌, inl, inr, ◌+◌, ◌-◌, ◌/◌, ◌<◌, ◌≤◌, ◌==◌, refl, sym, subst, arith, rules}
+use Rattle.std.proofs.Common.{◌≡◌, ℕ, suc, List, [], ◌∷◌, ◌++◌, inl, inr, ◌+◌, ◌-◌, ◌/◌, ◌<◌, ◌≤◌, refl, sym, subst, arith}
 use Rattle.std.proofs.lemmas.Bool.{eqb-true}
+use Rattle.std.proofs.lemmas.Grind.{common_steps}
 use Rattle.adf_blocks.specs.declared.cause.Cause.{Cause}
-use Rattle.adf_blocks.specs.declared.cause.Cause.TheVariants.{NotValidated}
-use Rattle.adf_blocks.specs.declared.layout.TheConstants.{BITMAP_FLAG, PAGE_BITS, VALID}
-use Rattle.adf_blocks.specs.RootBlock.{root_form}
+use Rattle.adf_blocks.specs.declared.layout.TheConstants.{PAGE_BITS}
 use Rattle.adf_blocks.specs.Sizes.{blocks, pages_needed}
 use Rattle.adf_base.specs.Words.{block}
 use Rattle.adf_volume.specs.Image.{word_in, root_of}
 use Rattle.adf_volume.specs.Demands.{AllHold, FirstFails, boot_demands, root_demands}
-use Rattle.adf_volume.specs.Walk.{Role, Lacks, IsDue, IsAbsent, IsWalk, IsWhole, FirstFault, bitmap_demands, demands, demands_by}
+use Rattle.adf_volume.specs.Walk.{Role, Lacks, IsDue, IsAbsent, IsWalk, IsWhole, FirstFault, bitmap_demands, demands}
 use Rattle.adf_volume.specs.Walk.Role.{Page, Root}
 use Rattle.adf_volume.specs.Walk.IsWalk.{start as walk_start, step as walk_step}
 use Rattle.adf_volume.specs.Walk.FirstFault.{at_boot, at_due, at_bitmap}
@@ -47,18 +46,12 @@ module _ (image : List ℕ) where
   -- without findings, what is next is what is due
   due : (w over : List (Role × ℕ)) (fs : List FindingValue) (r : Role) (a i : ℕ) → over ≡ []
       → IsNext image (record { walk = w; skipped = over; findings = fs }) r a i → IsDue image w r a i
-  due w over fs r a i e n = record {
-    asked = n.asked;
-    lacks = n.lacks;
-    least = (λ q c k ask lack bef. n.least q c k ask lack (subst (λ l. Lacks l q) (sym e) (λ z b h s. h)) bef);
-  }
+  due w over fs r a i e n = grind (arith, common_steps)
 
   -- then the letters are those of the model
   plain : (w : List (Role × ℕ)) (r : Role) (a b : ℕ) (j : JudgementValue) → IsBegun image → Judged r (demands_in image w r a b) j
       → Judged r (demands image w r a b) j
-  plain w r a b j begun h =
-      let boot = (all_split (boot_demands image) (root_demands image (root_of image)) begun).0 in
-      subst (λ l. Judged r (demands_by l image w r a b) j) (plain_letters image boot) h
+  plain w r a b j begun h = grind (arith, common_steps, all_split, plain_letters)
 
   stepped : (w over : List (Role × ℕ)) (fs : List FindingValue) (r : Role) (a i : ℕ) (j : JudgementValue) → Known w over fs
       → IsNext image (record { walk = w; skipped = over; findings = fs }) r a i → Judged r (demands_in image w r a (word_in image a i)) j
@@ -89,10 +82,7 @@ module _ (image : List ℕ) where
 
   -- a volume of type 0 or 1 has no directory caches
   no_cache : AllHold (boot_demands image) → (b : ℕ) → is_cache image b ≡ false
-  no_cache h b =
-      let low = plain_type image h in
-      let none : nat_le 4 (slice_index (block image 0) 3) ≡ false = grind (arith, nat_tests) in
-      rw none refl
+  no_cache h b = grind (arith, common_steps, plain_type, nat_tests)
 
   -- and all bits are compared, where the root has its form
   compared : (w over : List (Role × ℕ)) (fs : List FindingValue) → over ≡ [] → IsWhole image w → IsBegun image → IsValidated image → (b : ℕ) → 2 ≤ b
@@ -137,10 +127,7 @@ Shows image w (f ∷ fs) = FirstFault image f.block f.cause
 
 -- a root that has its form says that the bitmap is valid
 validated : (image : List ℕ) → IsBegun image → IsValidated image
-validated image h =
-    let root = (all_split (boot_demands image) (root_demands image (root_of image)) h).1 in
-    let flag : ℕ = word_in image (root_of image) BITMAP_FLAG in
-    eqb-true flag VALID (demanded (root_of image) (root_form (block image (root_of image))) (flag == VALID) NotValidated root (search rules))
+validated image h = grind (arith, common_steps, all_split, eqb-true, demanded)
 
 joined : (image : List ℕ) (w over : List (Role × ℕ)) (fs bits : List FindingValue) → Known image w over fs
     → IsDone image (record { walk = w; skipped = over; findings = fs })
@@ -156,8 +143,7 @@ joined image w over [] bits k d t =
 
 pub shown : (image : List ℕ) {w : List (Role × ℕ)} {fs : List FindingValue} → IsSurvey image w fs → Shows image w fs
 shown image (unread (bad_boot {at = at} {c = c} h e)) = at_boot (fails_left (boot_demands image) (root_demands image (root_of image)) at c h)
-shown image (unread (bad_root {at = at} {c = c} (clean_boot h) g)) =
-    at_boot (fails_right (boot_demands image) (root_demands image (root_of image)) at c h g.0)
+shown image (unread (bad_root {at = at} {c = c} (clean_boot h) g)) = grind (arith, common_steps, fails_right)
 shown image (unread (bad_root (other_type {at = at} {c = c} h e) g)) =
     at_boot (fails_left (boot_demands image) (root_demands image (root_of image)) at c h)
 shown image (read {s = s} {bits = bits} v d t) = joined image s.walk s.skipped s.findings bits (known image v) d t

@@ -3,6 +3,7 @@
 use Rattle.std.specs.Prelude.{◌&&◌, Bool, cond, map, not, Some}
 use Rattle.std.specs.List.{filter}
 use Rattle.std.proofs.Common.{◌≡◌, ◌∙◌, ℕ, List, [], ◌∷◌, ap, arith, false, inl, inr, refl, true}
+use Rattle.std.proofs.lemmas.Grind.{common_steps}
 use Rattle.adf_volume.specs.Lists.{In}
 use Rattle.adf_volume.specs.Walk.{Role, second}
 use Rattle.adf_volume.specs.Walk.Role.{Data, Ext, Head}
@@ -26,11 +27,7 @@ grave_is (f ∷ fs) g h = go (not (is_light f)) h (grave_is fs g)
 -- a finding that is not light is a grave one
 pub is_grave : (fs : List FindingValue) (g : FindingValue) → In fs g → is_light g ≡ false → In (grave fs) g
 is_grave [] g h e = h
-is_grave (f ∷ fs) g (inl z) e = go (not (is_light f)) (ap (λ f. not (is_light f)) z ∙ ap not e)
-  where
-    go : (t : Bool) → t ≡ true → In (cond t (f ∷ grave fs) (grave fs)) g
-    go true e = inl z
-    go false e = cc
+is_grave (f ∷ fs) g (inl z) e = grind (arith, common_steps)
 is_grave (f ∷ fs) g (inr h) e = go (not (is_light f)) (is_grave fs g h e)
   where
     go : (t : Bool) → In (grave fs) g → In (cond t (f ∷ grave fs) (grave fs)) g

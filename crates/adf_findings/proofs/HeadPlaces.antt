@@ -3,30 +3,29 @@ use Rattle.std.specs.Prelude.{true, false, not, ◌==◌, ◌&&◌, Option, Some
 use Rattle.std.proofs.Common.{◌≡◌, ℕ, zero, suc, List, [], ◌∷◌, ◌++◌, length, ◌⊎◌, inl, inr, ◌-◌, ◌<◌, ◌≤◌, refl, sym, ap, subst, ◌∙◌, arith}
 use Rattle.std.proofs.lemmas.Bool.{and_parts, eqb-true, eq-eqb}
 use Rattle.std.proofs.lemmas.Bool.Decides.{eqb_tells, nat_tests}
+use Rattle.std.proofs.lemmas.Grind.{common_steps}
 use Rattle.adf_volume.specs.Walk.{Role, second, Has, Asks, heads}
 use Rattle.adf_volume.specs.Walk.Role.{Root, Page, MapExt, Head, Ext, Data}
 use Rattle.adf_volume.proofs.Gathered.{IsGathered, number_of}
 use Rattle.adf_volume.proofs.Gathered.IsGathered.{start, step}
-use Rattle.adf_volume.proofs.Lists.{get_before, get_last, snoc_length}
+use Rattle.adf_volume.proofs.Lists.{get_before, snoc_length}
 use Rattle.adf_volume.proofs.Roles.{asks_number, head_at}
 use Rattle.adf_findings.specs.declared.found.ChainPlace.{ChainPlace}
 use Rattle.adf_findings.specs.declared.found.Found.{Found}
 use Rattle.adf_findings.specs.Survey.{Course}
 use Rattle.adf_findings.specs.Found.{Stands, parent_by, parent_node, places_of, with_place}
 use Rattle.adf_findings.specs.Marks.{is_header, is_place}
+use Rattle.adf_tree.proofs.Lists.{get_last}
 
 -- the parent of what comes later is that of no earlier node
 other_parent : (image : List ℕ) (w : List (Role × ℕ)) (n : ℕ) (r : Role) (a i c : ℕ) → Asks image w r a i → n ≤ heads w → parent_by n r c ≡ c
-other_parent image w n (Head m p s j) a i c d u =
-    let k : m ≡ suc (heads w) = asks_number image w m p s j a i d in
-    elim (eqb_tells n m) [ inl y ↦ let e : n ≡ m = y.1 in absurd (omega arith) | inr y ↦ rw y.0 refl ]
+other_parent image w n (Head m p s j) a i c d u = grind (arith, common_steps, asks_number, eqb_tells)
 other_parent image w n _ a i c d u = refl
 
 pub head_parent : (image : List ℕ) {w : List (Role × ℕ)} → IsGathered image w → (n p s j b : ℕ) → Has w (Head n p s j) b → parent_node w n ≡ p
 head_parent image start n p s j b (inl e) = let h : second Root ≡ second (Head n p s j) = ap second e.0 in absurd (omega arith)
 head_parent image start n p s j b (inr f) = absurd f
-head_parent image (step {w = w} {r = r} a i c v d l) n p s j b (inl e) =
-    subst (λ r. parent_by n r (parent_node w n) ≡ p) (sym e.0) (rw (eq-eqb n n refl) refl)
+head_parent image (step {w = w} {r = r} a i c v d l) n p s j b (inl e) = grind (arith, common_steps, step, eq-eqb)
 head_parent image (step {w = w} {r = r} a i c v d l) n p s j b (inr h) =
     let u : (1 ≤ n) × (n ≤ heads w) = number_of image v (head_at n p s j b h) in
     other_parent image w n r a i (parent_node w n) d (omega arith) ∙ head_parent image v n p s j b h
@@ -50,8 +49,7 @@ module _ (image : List ℕ) where
   -- the place of an earlier header stays
   place_stays : (w : List (Role × ℕ)) (r : Role) (a i k : ℕ) (c : ChainPlace) → Asks image w r a i → k < heads w → slice_get (places_of w) k ≡ Some c
       → slice_get (with_place r (places_of w)) k ≡ Some c
-  place_stays w (Head m p s j) a i k c d lt e =
-      get_before (places_of w) (record { slot = s; place = j }) k (let l = places_long w in omega arith) ∙ e
+  place_stays w (Head m p s j) a i k c d lt e = grind (arith, common_steps, get_before, places_long)
   place_stays w Root a i k c d lt e = absurd d
   place_stays w _ a i k c d lt e = e
 

@@ -1,9 +1,10 @@
 -- The judgement of a part by tests.
 use Rattle.std.specs.Prelude.{Bool, true, false, ◌&&◌, ◌||◌, cond, nat_le, slice_index, Option, Some, None}
-use Rattle.std.proofs.Common.{◌≡◌, ℕ, List, [], ◌∷◌, ◌++◌, inl, inr, ◌<◌, ◌≤◌, refl, sym, subst, ap, ◌∙◌, arith, rules}
+use Rattle.std.proofs.Common.{◌≡◌, ℕ, List, [], ◌∷◌, ◌++◌, inl, inr, ◌<◌, ◌≤◌, refl, sym, subst, ap, arith, rules}
 use Rattle.std.proofs.Math.Bool.{or-true}
 use Rattle.std.proofs.lemmas.Bool.{and_parts}
 use Rattle.std.proofs.lemmas.Bool.Decides.{nat_tests}
+use Rattle.std.proofs.lemmas.Grind.{common_steps}
 use Rattle.adf_blocks.specs.declared.cause.Cause.{Cause}
 use Rattle.adf_blocks.specs.declared.cause.Cause.TheVariants.{BadName, OutOfRange, SameName, ShortFile, Taken}
 use Rattle.adf_blocks.specs.Forms.{Clause, first_cause, text_at}
@@ -13,12 +14,12 @@ use Rattle.adf_base.specs.Words.{block}
 use Rattle.adf_tree.specs.declared.entry.Kind.{Kind}
 use Rattle.adf_tree.specs.declared.entry.Kind.TheVariants.{Ofs, Ffs}
 use Rattle.adf_tree.specs.Texts.{is_name}
-use Rattle.adf_blocks.specs.declared.layout.TheConstants.{NAME, SIZE}
+use Rattle.adf_blocks.specs.declared.layout.TheConstants.{NAME}
 use Rattle.adf_blocks.specs.ExtBlock.{ext_form}
 use Rattle.adf_volume.specs.Demands.{Demand, demand, demands_at, data_demands, AllHold, FirstFails}
 use Rattle.adf_volume.proofs.FormDemands.{all_demanded, demanded}
-use Rattle.adf_volume.specs.Image.{held, kind_of, name_of, word_in}
-use Rattle.adf_volume.specs.Walk.{Role, Enough, IsAbsent, next_data, node_block}
+use Rattle.adf_volume.specs.Image.{kind_of, name_of}
+use Rattle.adf_volume.specs.Walk.{Role, Enough, IsAbsent}
 use Rattle.adf_volume.specs.Walk.Role.{Page, Head, Data}
 use Rattle.adf_findings.specs.Demands.{NewNameIn, demands_in, form_demands_in, head_form_in}
 use Rattle.adf_findings.specs.declared.part.Part.{Part}
@@ -39,11 +40,7 @@ FirstIs xs None = AllHold xs
 FirstIs xs (Some x) = FirstFails xs x.0 x.1
 
 tells_range : (image : List ℕ) (b : ℕ) → Tells (in_range image b) ((2 ≤ b) × (b < blocks image))
-tells_range image b = go (in_range image b) refl
-  where
-    go : (t : Bool) → in_range image b ≡ t → Tells t ((2 ≤ b) × (b < blocks image))
-    go true e = (grind (arith, nat_tests), grind (arith, nat_tests))
-    go false e = λ h. let lo : 2 ≤ b = h.0 in let hi : b < blocks image = h.1 in let clash : true ≡ false = grind (arith, nat_tests) in cc
+tells_range image b = grind (arith, common_steps, nat_tests)
 
 -- the form and what stands behind it
 first_more : (b : ℕ) (form : List Clause) (ys : List Demand) (rest : Option (ℕ × Cause)) → FirstIs ys rest
@@ -153,9 +150,7 @@ form_is image w (PagePart i) b x h = refl
 form_is image w (MapExtPart j) b x h = refl
 form_is image w (HeadPart n p s j) b x h = ap (λ up. demands_at b (head_form_in image (kind_of image) b up s (block image b))) (sym h)
 form_is image w (ExtPart n k) b x h = ap (λ up. demands_at b (ext_form b up (block image b))) (sym h)
-form_is image w (DataPart n k) b x h =
-    data_is image (kind_of image) b (node_block w n) k (held (kind_of image) (word_in image (node_block w n) SIZE) k) (next_data image w n k)
-    ∙ (λ t. demands_at b (data_clauses (kind_of image) (sym h.0 t) k (held (kind_of image) (word_in image (sym h.0 t) SIZE) k) (sym h.1 t) (block image b)))
+form_is image w (DataPart n k) b x h = grind (arith, common_steps, data_is)
 
 -- a part is judged as the tests tell
 pub judged : (image : List ℕ) (w : List (Role × ℕ)) (part : Part) (a b : ℕ) (f : Facts) (new : Bool) → Knows image w part b f

@@ -3,6 +3,7 @@ use Rattle.std.specs.Prelude.{Bool, Option, ◌-◌, false, true, map, not, slic
 use Rattle.std.specs.List.{filter}
 use Rattle.std.specs.Option.{option_flatten}
 use Rattle.std.proofs.Common.{◌≡◌, ℕ, List, [], ◌++◌, ◌≤◌, refl, sym, ap, subst, ◌∙◌, arith, ◌*◌, ◌<◌, length}
+use Rattle.std.proofs.lemmas.Grind.{common_steps}
 use Rattle.adf_blocks.specs.Sizes.{blocks}
 use Rattle.adf_volume.proofs.Gathered.{head_block, numbered as has_number}
 use Rattle.adf_volume.specs.Walk.{Role, second, Has, heads, node_block}
@@ -55,9 +56,7 @@ unread_kept v told concerned owners numbers taken nodes parents sound whole = (
 -- a state with other findings is that of a course with these
 stands_with : (image : List ℕ) (f g : Found) (s : Course) (gs : List FindingValue) → Stands image f s → g ≡ record f { findings = g.findings }
     → map finding_value g.findings.items ≡ gs → Stands image g (record { walk = s.walk; skipped = s.skipped; findings = gs })
-stands_with image f g s gs st same e =
-    subst (λ h. Stands image h (record { walk = s.walk; skipped = s.skipped; findings = gs })) (sym same)
-    (stands_but image f (record f { findings = g.findings }) s s.skipped gs refl st st.avoided e)
+stands_with image f g s gs st same e = grind (arith, common_steps, stands_but)
 
 -- of an image whose course is done, with its bits compared
 pub read_kept : (image : List ℕ) (f g : Found) (concerned : List (Option Concern)) (sound whole : List Bool)
@@ -110,9 +109,7 @@ read_told image f (s, bits, told, bits_tell) =
 
 -- what is kept of an image tells of each survey of it
 pub tells_each : (v : SurveyValue) → IsOfSurvey v → (w : List (Role × ℕ)) (fs : List FindingValue) → IsSurvey v.image w fs → TellsOf v w fs
-tells_each v k w fs h =
-    let e = one_survey v.image k.0 w k.1 fs k.2.survey h in
-    subst (λ (x : List (Role × ℕ) × List FindingValue). TellsOf v x.0 x.1) (λ t. (e.0 t, e.1 t)) k.2
+tells_each v k w fs h = grind (arith, common_steps, one_survey)
 
 -- the root is no entry
 pub root_no_entry : (image : List ℕ) (w : List (Role × ℕ)) (fs : List FindingValue) (c : Bool) (h : ℕ) → IsSurvey image w fs

@@ -1,8 +1,9 @@
 -- Equal keys, and facts of a success.
-use Rattle.std.specs.Prelude.{Bool, true, false, cond, Some, None, Result, Ok, Err, OnOk, ◌&&◌, ◌==◌}
-use Rattle.std.proofs.Common.{◌≡◌, ℕ, List, [], ◌∷◌, inl, inr, refl, sym, subst, ap, ◌∙◌}
+use Rattle.std.specs.Prelude.{Bool, true, false, cond, Some, None, ◌&&◌, ◌==◌}
+use Rattle.std.proofs.Common.{◌≡◌, ℕ, List, [], ◌∷◌, inl, inr, refl, ap, ◌∙◌, arith}
 use Rattle.std.specs.Ordering.{is_eq}
 use Rattle.std.proofs.lemmas.Bool.{and_parts, cases_Bool, eqb-true, eq-eqb}
+use Rattle.std.proofs.lemmas.Grind.{common_steps}
 use Rattle.adf_tree.proofs.NameKeys.{same_number, then_is}
 use Rattle.adf_volume.specs.Walk.{Role, Has, Lacks, Same}
 use Rattle.adf_findings.specs.declared.part.Key.{Key}
@@ -17,10 +18,7 @@ same_parts a b p q r = λ i. record { first = p i; second = q i; third = r i }
 
 -- keys that are equal are one
 pub one_key : (a b : Key) → is_eq (by_key a b) ≡ true → a ≡ b
-one_key a b h =
-    let s = and_parts (a.first == b.first) ((a.second == b.second) && (a.third == b.third)) (sym (equal_keys a b) ∙ h) in
-    let t = and_parts (a.second == b.second) (a.third == b.third) s.1 in
-    same_parts a b (eqb-true a.first b.first s.0) (eqb-true a.second b.second t.0) (eqb-true a.third b.third t.1)
+one_key a b h = grind (arith, common_steps, and_parts, equal_keys, same_parts, eqb-true)
 
 pub same_key : (a : Key) → is_eq (by_key a a) ≡ true
 same_key a = rw (equal_keys a a, eq-eqb a.first a.first refl, eq-eqb a.second a.second refl, eq-eqb a.third a.third refl) refl
@@ -45,13 +43,5 @@ lacks_at (x ∷ w) q e z b h s = go (is_eq (by_key (key_of x.0) (key_of q))) ref
     go : (t : Bool) → is_eq (by_key (key_of x.0) (key_of q)) ≡ t → cond t (Some x.1) (at_key w (key_of q)) ≡ None → Has (x ∷ w) z b
         → (at_key w (key_of q) ≡ None → Has w z b → ⊥) → ⊥
     go true f e h again = cc
-    go false f e (inl g) again =
-        let k : key_of x.0 ≡ key_of q = ap key_of g.0 ∙ key_same z q s in
-        let u : is_eq (by_key (key_of x.0) (key_of q)) ≡ true = subst (λ y. is_eq (by_key (key_of x.0) y) ≡ true) k (same_key (key_of x.0)) in
-        let clash : true ≡ false = sym u ∙ f in cc
+    go false f e (inl g) again = grind (arith, common_steps, key_same, same_key)
     go false f e (inr g) again = again e g
-
--- a fact of a success leads to another
-pub on_ok : {T E : Type 0} {P Q : Type 0} (r : Result T E) → (P → Q) → OnOk r P → OnOk r Q
-on_ok (Ok x) f h = f h
-on_ok (Err e) f h = tt

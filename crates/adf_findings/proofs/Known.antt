@@ -1,6 +1,6 @@
 -- The state of a survey has the facts that the demands on a part need.
 use Rattle.std.specs.Prelude.{Bool, true, false, cond, not, nat_le, nat_lt, ◌==◌, ◌||◌, ◌&&◌, Some, slice_index_or}
-use Rattle.std.proofs.Common.{◌≡◌, ◌≢◌, ℕ, zero, suc, List, [], ◌∷◌, inl, inr, ◌*◌, ◌/◌, ◌<◌, ◌≤◌, refl, sym, subst, ap, ◌∙◌, arith}
+use Rattle.std.proofs.Common.{◌≡◌, ◌≢◌, ℕ, zero, suc, List, [], ◌∷◌, inl, inr, ◌*◌, ◌/◌, ◌<◌, refl, sym, subst, ap, ◌∙◌, arith}
 use Rattle.std.specs.Option.{unwrap_or}
 use Rattle.std.specs.Ordering.{is_eq}
 use Rattle.std.specs.Str.{bytes_eq}
@@ -8,6 +8,7 @@ use Rattle.std.specs.BTreeMap.{get}
 use Rattle.std.proofs.lemmas.Bool.{and_parts, cases_Bool, eqb-true, eq-eqb}
 use Rattle.std.proofs.lemmas.Bool.Decides.{nat_tests}
 use Rattle.std.proofs.lemmas.Slice.Eq.{bytes_eq-Decides}
+use Rattle.std.proofs.lemmas.Grind.{common_steps}
 use Rattle.adf_tree.specs.NameSet.{HasMore, Names, has}
 use Rattle.adf_tree.specs.Texts.{is_name, uppers}
 use Rattle.adf_blocks.specs.declared.layout.TheConstants.{POINTERS}
@@ -38,10 +39,7 @@ tells_absent (x ∷ w) b = go (x.1 == b) (owns w b) refl (tells_absent w b)
     go : (s t : Bool) → (x.1 == b) ≡ s → Tells (not t) (IsAbsent w b) → Tells (not (s || t)) (IsAbsent (x ∷ w) b)
     go true t e h = λ f. f x.0 (inl (refl, eqb-true x.1 b e))
     go false true e h = λ f. h (λ q k. f q (inr k))
-    go false false e h = λ q k. elim k [
-      | inl z ↦ let u : true ≡ false = sym (eq-eqb x.1 b z.1) ∙ e in cc
-      | inr g ↦ h q g
-    ]
+    go false false e h = grind (arith, common_steps, eq-eqb)
 
 -- in its own chain a header has the name that is its own
 pub own_name : (image : List ℕ) (n p s j c : ℕ) (name : List ℕ)
@@ -61,12 +59,7 @@ tells_named image (Head n q m j) c p s name = go (is_named image (Head n q m j) 
         let qp : q ≡ p = eqb-true q p x.0 in
         let ms : m ≡ s = eqb-true m s y.0 in
         λ f. f n j (λ i. Head n (qp i) (ms i) j) ((bytes_eq-Decides (uppers_in image (name_of image c)) name).0 y.1)
-    go false e = λ i k z g.
-        let qp : q ≡ p = cc in
-        let ms : m ≡ s = cc in
-        let same = (bytes_eq-Decides (uppers_in image (name_of image c)) name).1 g in
-        let one : is_named image (Head n q m j) c p s name ≡ true = rw (eq-eqb q p qp, eq-eqb m s ms, same) refl in
-        let u : true ≡ false = sym one ∙ e in cc
+    go false e = grind (arith, common_steps, bytes_eq-Decides, eq-eqb)
 tells_named image _ c p s name = λ m k e. cc
 
 -- no header of the chain has the name
@@ -83,10 +76,7 @@ tells_new image (x ∷ w) p s name =
         → Tells (not (t || u)) (Fresh image p s name (x ∷ w))
     go true u h k = λ f. h (λ m i e. f m i x.1 (inl (e, refl)))
     go false true h k = λ f. k (λ m i c g. f m i c (inr g))
-    go false false h k = λ m i c g. elim g [
-      | inl e ↦ subst (λ c. uppers_in image (name_of image c) ≢ name) e.1 (h m i e.0)
-      | inr z ↦ k m i c z
-    ]
+    go false false h k = grind (arith, common_steps)
 
 -- a chain without headers has no names
 no_name : (image : List ℕ) (w : List (Role × ℕ)) (p s : ℕ) (name : List ℕ) → ((m k c : ℕ) → Has w (Head m p s k) c → ⊥)
@@ -122,17 +112,11 @@ module _ (image : List ℕ) (part : Part) (b n p s j : ℕ) (old begun : Names) 
         e ∙ ap not (ap (has begun) own ∙ (begins (uppers_in image (name_of image b)) ∙ known)))
 
     pub kept_name : (new : Names) → HasMore begun new (uppers name) → KeepsName image part b old new
-    kept_name new more =
-        subst (λ part. KeepsName image part b old new) (sym is)
-        (λ q valid. more (uppers_in image q) ∙ (λ i. bytes_eq (own i) (uppers_in image q) || begins (uppers_in image q) i))
+    kept_name new more = grind (arith, common_steps, own)
 
   -- a header without one
   pub kept_none : is_name (name_of image b) ≡ false → KeepsName image part b old begun
-  kept_none none =
-      subst (λ part. KeepsName image part b old begun) (sym is)
-      (λ q valid.
-      let other = other_name (letters_of image) (name_of image b) q none valid in
-      begins (uppers_in image q) ∙ sym (ap (λ t. t || known_at j (has old (uppers_in image q))) other))
+  kept_none none = grind (arith, common_steps, other_name)
 
 -- the block of an extension block, by its key
 at_ext : (w : List (Role × ℕ)) (n m : ℕ) → unwrap_or (at_key w (key_of (Ext n m))) 0 ≡ ext_block_in w n m
@@ -142,19 +126,9 @@ at_ext ((Ext q k, b) ∷ w) n m = go (n == q) (m == k) refl refl (at_ext w n m)
     go : (s t : Bool) → (n == q) ≡ s → (m == k) ≡ t → unwrap_or (at_key w (key_of (Ext n m))) 0 ≡ ext_block_in w n m
         → unwrap_or (cond (is_eq (by_key (key_of (Ext q k)) (key_of (Ext n m)))) (Some b) (at_key w (key_of (Ext n m)))) 0
         ≡ cond (n == q) (cond (m == k) b (ext_block_in w n m)) (ext_block_in w n m)
-    go true true e f h =
-        let x : n ≡ q = eqb-true n q e in
-        let y : m ≡ k = eqb-true m k f in
-        rw (equal_keys (key_of (Ext q k)) (key_of (Ext n m)), e, f, eq-eqb (suc q) (suc n) (ap suc (sym x)), eq-eqb k m (sym y)) refl
-    go true false e f h =
-        let one : (k == m) ≡ false = grind (arith, nat_tests) in
-        let none : is_eq (by_key (key_of (Ext q k)) (key_of (Ext n m))) ≡ false =
-        equal_keys (key_of (Ext q k)) (key_of (Ext n m)) ∙ rw one (grind (arith, nat_tests)) in
-        rw (none, e, f) h
-    go false t e f h =
-        let one : (suc q == suc n) ≡ false = grind (arith, nat_tests) in
-        let none : is_eq (by_key (key_of (Ext q k)) (key_of (Ext n m))) ≡ false = equal_keys (key_of (Ext q k)) (key_of (Ext n m)) ∙ rw one refl in
-        rw (none, e) h
+    go true true e f h = grind (arith, common_steps, eqb-true, equal_keys, eq-eqb)
+    go true false e f h = grind (arith, common_steps, nat_tests, equal_keys)
+    go false t e f h = grind (arith, common_steps, nat_tests, equal_keys)
 at_ext ((Root, b) ∷ w) n m =
     let none : is_eq (by_key (key_of Root) (key_of (Ext n m))) ≡ false = equal_keys (key_of Root) (key_of (Ext n m)) ∙ grind (arith, nat_tests) in
     rw none (at_ext w n m)
@@ -179,9 +153,7 @@ module _ (image : List ℕ) (f : Found) (s : Course) (st : Stands image f s) whe
 
   pub member_found : (n m : ℕ) → member_in f n m ≡ member_block s.walk n m
   member_found n zero = st.node n
-  member_found n (suc m) =
-      let other : (suc m == 0) ≡ false = grind (arith, nat_tests) in
-      rw other (member_key n m)
+  member_found n (suc m) = grind (arith, common_steps, nat_tests, member_key)
 
   next_is : (n k : ℕ) → next_in image f n k ≡ next_data image s.walk n k
   next_is n k = λ t. cond (nat_lt k (data_count image (st.node n t))) (word_in image (member_found n (k / POINTERS) t) (table_word k)) 0
@@ -205,12 +177,8 @@ module _ (image : List ℕ) (f : Found) (s : Course) (st : Stands image f s) whe
       go : (u : Bool) → (k == 1) ≡ u → (t : Bool) → nat_le (data_count image (node_block s.walk n)) (POINTERS * suc (ext_count s.walk n)) ≡ t
           → Tells (not u || t) (Enough image s.walk (Data n k))
       go false e t z = λ one. let y : true ≡ false = sym (eq-eqb k 1 one) ∙ e in cc
-      go true e true z = λ one c x.
-          subst (λ c. data_count image c ≤ POINTERS * suc (ext_count s.walk n)) (block_is c x) (grind (arith, nat_tests))
-      go true e false z = λ en.
-          let le : data_count image (node_block s.walk n) ≤ POINTERS * suc (ext_count s.walk n) =
-          subst (λ c. data_count image c ≤ POINTERS * suc (ext_count s.walk n)) (sym (block_is h file)) (en (eqb-true k 1 e) h file) in
-          let y : true ≡ false = grind (arith, nat_tests) in cc
+      go true e true z = grind (arith, common_steps, block_is, nat_tests)
+      go true e false z = grind (arith, common_steps, block_is, eqb-true, nat_tests)
 
   enough_is : (part : Part) (a i : ℕ) → IsGathered image s.walk → Asks image s.walk (role_of part) a i
       → Tells (enough_in image f part) (Enough image s.walk (role_of part))
@@ -240,11 +208,7 @@ module _ (image : List ℕ) (f : Found) (s : Course) (st : Stands image f s) whe
   pub knows : (part : Part) (a i b : ℕ) (x : Facts) → IsGathered image s.walk → Asks image s.walk (role_of part) a i
       → x.is_enough ≡ enough_in image f part → x.is_absent ≡ not (slice_index_or f.owned.items b false) → x.context ≡ context_in image f part
       → Knows image s.walk part b x
-  knows part a i b x v h enough absent context = record {
-    enough = subst (λ t. Tells t (Enough image s.walk (role_of part))) (sym enough) (enough_is part a i v h);
-    absent = (λ e. subst (λ t. Tells t (IsAbsent s.walk b)) (sym (absent ∙ ap not (st.owned.1 b (below b e)))) (tells_absent s.walk b));
-    context = subst (IsContext image s.walk (role_of part)) (sym context) (context_is part);
-  }
+  knows part a i b x v h enough absent context = grind (arith, common_steps, enough_is, below, tells_absent, context_is)
 
 -- a block without a part is no member's
 pub no_owner : (w : List (Role × ℕ)) (b : ℕ) → IsAbsent w b → owns w b ≡ false

@@ -1,11 +1,12 @@
 -- What is left of a sound file is its content.
 -- Letters: w the walk of a survey, fs its findings; c whether the grave findings alone count; n a file's node, h the block of its
 -- header; k, j numbers of data blocks, from 0; b a block, bs blocks; found the block of each data block, if any.
-use Rattle.std.specs.Prelude.{Bool, true, false, Option, Some, None, min, replicate}
+use Rattle.std.specs.Prelude.{Bool, true, false, Option, Some, None, replicate}
 use Rattle.std.specs.List.{concat}
 use Rattle.std.proofs.Common.{◌≡◌, ℕ, suc, zero, List, [], ◌∷◌, ◌++◌, length, ◌+◌, ◌*◌, ◌<◌, ◌≤◌, refl, sym, ap, set, ◌∙◌, arith}
-use Rattle.std.proofs.lemmas.Grind.{common_steps}
 use Rattle.std.proofs.lemmas.List.{append_assoc, append-nil, length-replicate}
+use Rattle.std.proofs.Math.Nat.{min-eq_left}
+use Rattle.std.proofs.lemmas.Grind.{common_steps}
 use Rattle.adf_base.specs.Words.{block}
 use Rattle.adf_tree.specs.declared.entry.Kind.{Kind}
 use Rattle.adf_tree.specs.declared.entry.Kind.TheVariants.{Ofs, Ffs}
@@ -13,11 +14,11 @@ use Rattle.adf_blocks.specs.declared.layout.TheConstants.{SIZE}
 use Rattle.adf_blocks.specs.Sizes.{blocks, chunk, count}
 use Rattle.adf_volume.specs.Image.{kind_of, letters_of, piece, pieces, root_of, word_in}
 use Rattle.adf_volume.specs.Lists.{At}
-use Rattle.adf_volume.specs.Made.{datas_in, is_data_of, picked}
+use Rattle.adf_volume.specs.Made.{datas_in, is_data_of}
 use Rattle.adf_volume.specs.Walk.{Role, Has, data_count, node_block}
 use Rattle.adf_volume.specs.Walk.Role.{Root, Data}
 use Rattle.adf_volume.proofs.Gathered.{one_block}
-use Rattle.adf_volume.proofs.Lists.{at_some, snoc_length}
+use Rattle.adf_volume.proofs.Lists.{at_some}
 use Rattle.adf_volume.proofs.PartDemands.{part_holds_by}
 use Rattle.adf_volume.proofs.Roles.{same_refl}
 use Rattle.adf_volume.proofs.Sizes.{size_low}
@@ -37,6 +38,7 @@ use Rattle.adf_findings.proofs.OneSurvey.{gathered}
 use Rattle.adf_findings.proofs.SoundFiles.{file_told, joined_content, whole_listed}
 use Rattle.adf_findings.proofs.Starts.{course_size}
 use Rattle.adf_findings.proofs.Taking.{marked_more, unowned_less}
+use Rattle.adf_volume.proofs.WalkMembers.{picked_within}
 
 -- the blocks of a walk, marked: so many are marked as the walk has members
 record Marked (image : List ℕ) (w : List (Role × ℕ)) : Type 0 where
@@ -77,9 +79,7 @@ fits_in Ffs size n le = omega arith
 -- where a block is found for each data block, their bytes are the pieces
 left_pieces : (image : List ℕ) (size : ℕ) (found : ℕ → Option ℕ) (j : ℕ) (bs : List ℕ) → ((i b : ℕ) → At bs i b → found (j + i) ≡ Some b)
     → bytes_left image size found (j + length bs) ≡ bytes_left image size found j ++ concat (pieces image (kind_of image) size (j + 1) bs)
-left_pieces image size found j [] h =
-    let none : j + length {A = ℕ} [] ≡ j = omega arith in
-    ap (bytes_left image size found) none ∙ sym (append-nil (bytes_left image size found j))
+left_pieces image size found j [] h = grind (arith, common_steps, append-nil)
 left_pieces image size found j (b ∷ bs) h =
     let kind : Kind = kind_of image in
     let here : found j ≡ Some b = (let e : j ≡ j + 0 = omega arith in ap found e ∙ h 0 b refl) in
@@ -111,14 +111,6 @@ is_found image {s = s} v n k b has = go (data_found s.walk n k) refl
         e
         ∙ ap Some (one_block image (gathered image v) (Data n (suc k)) (Data n (suc k)) c b (has_data s.walk n (suc k) c e) has (same_refl (Data n (suc k)))).1
 
--- no more members are picked than there are
-picked_few : (p : Role → Bool) (w : List (Role × ℕ)) → length (picked p w) ≤ length w
-picked_few p [] = omega arith
-picked_few p (x ∷ w) = grind (arith, common_steps, picked_few p w, snoc_length (picked p w) x.1)
-
-least : (a b : ℕ) → a ≤ b → min a b ≡ a
-least a b le = omega arith
-
 -- what is left of a sound file is its content, and nothing is made up
 pub left_of_sound : (image : List ℕ) (w : List (Role × ℕ)) (fs : List FindingValue) (c : Bool) (n : ℕ) → IsSurvey image w fs
     → IsSoundFile image w (counting c fs) n → (left_of image w n ≡ file_content (file_in image w n)) × (gaps_of image w n ≡ [])
@@ -133,13 +125,13 @@ left_of_sound image w fs c n (read {s = s} {bits = bits} v d t) sound =
     let found : (k b : ℕ) → At datas k b → data_found s.walk n k ≡ Some b = λ k b g. is_found image v n k b (listed.from k b g) in
     let marked = walk_marked image v in
     let few : data_count image h ≤ blocks image = (
-    let a = picked_few (is_data_of n) s.walk in
+    let a = picked_within (is_data_of n) s.walk in
     let b = marked.many in
     let e = has.many in
     omega arith
     ) in
     let told : size_stated image h ≡ size =
-    least size (length image) (let l = fits_in (kind_of image) size (blocks image) few in let e = has.whole in omega arith) in
+    min-eq_left (let l = fits_in (kind_of image) size (blocks image) few in let e = has.whole in omega arith) in
     let many : blocks_stated image h ≡ length datas = ap (count (kind_of image)) told ∙ sym has.many in
     let all : length datas ≡ 0 + length datas = omega arith in (
       (λ i. bytes_left image (told i) (data_found s.walk n) (many i))

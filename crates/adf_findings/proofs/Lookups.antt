@@ -5,6 +5,7 @@ use Rattle.std.specs.Str.{bytes_eq}
 use Rattle.std.proofs.lemmas.Slice.Eq.{bytes_eq-Decides}
 use Rattle.adf_volume.specs.Image.{name_of}
 use Rattle.std.proofs.Common.{◌≡◌, ℕ, zero, suc, List, ◌∷◌, ◌+◌, length, ◌<◌, ◌≤◌, sym, ap, subst, ◌∙◌, arith}
+use Rattle.std.proofs.lemmas.Grind.{common_steps}
 use Rattle.adf_volume.specs.Walk.{Role, Has, HeadAt, heads, node_block}
 use Rattle.adf_volume.specs.Walk.Role.{Head}
 use Rattle.adf_volume.proofs.Gathered.{head_block, number_of, parent_below, node_there}
@@ -66,6 +67,4 @@ module _ (image : List ℕ) (w : List (Role × ℕ)) where
 
 -- the names from one on
 pub split_at : (path : List (List ℕ)) (i : ℕ) (name : List ℕ) → i < length path → name ≡ get_or path i name → drop i path ≡ name ∷ drop (i + 1) path
-split_at path i name lt e =
-    let z : suc i ≡ i + 1 = omega arith in
-    drop-cons path i name lt ∙ (λ t. sym e t ∷ drop (z t) path)
+split_at path i name lt e = grind (arith, common_steps, drop-cons)

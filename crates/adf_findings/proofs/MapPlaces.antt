@@ -1,19 +1,20 @@
 -- The positions of a course among the bitmap pages: a bitmap extension block comes before its pages.
 use Rattle.std.specs.Prelude.{Option, Some, None}
 use Rattle.std.proofs.Common.{◌≡◌, ℕ, List, ◌∷◌, inl, ◌+◌, ◌-◌, ◌/◌, ◌%◌, ◌<◌, ◌≤◌, refl, sym, subst, arith}
+use Rattle.std.proofs.lemmas.Grind.{common_steps}
 use Rattle.adf_blocks.specs.declared.layout.TheConstants.{MAP_EXT_PAGES, ROOT_PAGES}
 use Rattle.adf_blocks.specs.Sizes.{blocks, pages_needed}
 use Rattle.adf_volume.specs.Image.{word_in}
-use Rattle.adf_volume.specs.Positions.{IsPageHolder, Position, before_node, before_page, position_of, word_of_map_ext, word_of_page}
+use Rattle.adf_volume.specs.Positions.{IsPageHolder, Position, before_page, position_of, word_of_map_ext, word_of_page}
 use Rattle.adf_volume.specs.Walk.{NamesPage}
 use Rattle.adf_volume.specs.Walk.Role.{Page, MapExt}
 use Rattle.adf_volume.proofs.MemberFacts.{names_up}
-use Rattle.adf_volume.proofs.Pointers.{behind_map_ext, behind_page, map_ext_asks, map_ext_next, names_first, names_page, next_holder, page_next}
-use Rattle.adf_volume.proofs.PositionSteps.{end_map, end_pages, map_broken}
+use Rattle.adf_volume.proofs.Pointers.{behind_map_ext, behind_page, map_ext_asks, map_ext_next, names_first, next_holder}
+use Rattle.adf_volume.proofs.PositionSteps.{end_map, map_broken}
 use Rattle.adf_findings.specs.declared.part.Part.TheVariants.{Page as PagePart, MapExt as MapExtPart}
 use Rattle.adf_findings.specs.declared.found.Found.{Found}
 use Rattle.adf_findings.specs.Survey.{Course}
-use Rattle.adf_findings.specs.Courses.{HasReached, HasReachedPage, Holds, IsGoneOn, IsNamed, IsPageNamed}
+use Rattle.adf_findings.specs.Courses.{HasReachedPage, Holds, IsGoneOn, IsNamed, IsPageNamed}
 use Rattle.adf_findings.proofs.CourseSteps.{moved}
 
 -- a position that is the same
@@ -21,28 +22,11 @@ same_place : {image : List ℕ} {f : Found} {s : Course} {k l : Position} → k 
 same_place {image} {f} {s} e h = subst (λ k. Holds image f k s) e h
 
 module _ (image : List ℕ) (f : Found) (s : Course) (page : ℕ) where
-  -- a page that no bitmap extension block comes before
-  page_next_named : (a : ℕ) → (ROOT_PAGES ≤ page → (page - ROOT_PAGES) % MAP_EXT_PAGES ≡ 0 → ⊥) → Holds image f (before_page page) s
-      → IsPageHolder image s.walk page a → IsPageNamed image f page (Some a)
-  page_next_named a other h holder = (s, same_place (page_next page other) h, names_page image s.walk page a holder other)
-
-  -- a page that the root names
-  pub page_in_root : (a : ℕ) → page < ROOT_PAGES → Holds image f (before_page page) s → IsPageHolder image s.walk page a → IsPageNamed image f page (Some a)
-  page_in_root a lt h holder = page_next_named a (λ le. absurd (omega arith)) h holder
-
-  -- a page whose extension block has come
-  pub page_in_ext : (a : ℕ) → ROOT_PAGES ≤ page → ((page - ROOT_PAGES) % MAP_EXT_PAGES ≡ 0 → ⊥) → Holds image f (before_page page) s
-      → IsPageHolder image s.walk page a → IsPageNamed image f page (Some a)
-  page_in_ext a le other h holder = page_next_named a (λ le. other) h holder
-
   -- the bitmap extension block before a page is named
   pub map_ext_named : (a : ℕ) → page < pages_needed (blocks image) → ROOT_PAGES ≤ page → (page - ROOT_PAGES) % MAP_EXT_PAGES ≡ 0
       → Holds image f (before_page page) s → IsPageHolder image s.walk page a
       → IsNamed image f (MapExtPart ((page - ROOT_PAGES) / MAP_EXT_PAGES)) a (word_of_map_ext page) s
-  map_ext_named a lt le due h holder = record {
-    holds = same_place (map_ext_next page le due) h;
-    asked = map_ext_asks image s.walk page a lt le due holder;
-  }
+  map_ext_named a lt le due h holder = grind (arith, common_steps, same_place, map_ext_next, map_ext_asks)
 
   -- behind a bitmap extension block come the pages that it names, or where it was skipped the nodes
   pub map_ext_on : (a i : ℕ) (g : Found) (o : Option ℕ) → ROOT_PAGES ≤ page → (page - ROOT_PAGES) % MAP_EXT_PAGES ≡ 0
@@ -53,8 +37,7 @@ module _ (image : List ℕ) (f : Found) (s : Course) (page : ℕ) where
     same_place (behind_map_ext page le due) o.holds,
     names_first image ((MapExt ((page - ROOT_PAGES) / MAP_EXT_PAGES), word_in image a i) ∷ s.walk) page c le due (inl (refl, sym o.block)),
   )
-  map_ext_on a i g None le due h o =
-      (_, moved o.holds (omega arith) (end_map image o.holds.up_to (map_broken image ((page - ROOT_PAGES) / MAP_EXT_PAGES) h.up_to)))
+  map_ext_on a i g None le due h o = grind (arith, common_steps, moved, end_map, map_broken)
 
   pub page_named : (a i : ℕ) → i ≡ word_of_page page → page < pages_needed (blocks image) → Holds image f (position_of (Page page)) s
       → NamesPage image s.walk page a (word_of_page page) → IsNamed image f (PagePart page) a i s
@@ -64,12 +47,4 @@ module _ (image : List ℕ) (f : Found) (s : Course) (page : ℕ) where
   pub page_on : (a i : ℕ) (g : Found) (o : Option ℕ) → NamesPage image s.walk page a i → IsGoneOn image s (PagePart page) a i g o
       → HasReachedPage image g (page + 1) a
   page_on a i g None names gone = (_, same_place (behind_page page) gone.holds, next_holder image s.walk page a i names)
-  page_on a i g (Some c) names gone = (
-    _,
-    same_place (behind_page page) gone.holds,
-    next_holder image _ page a i (names_up image s.walk (Page page, word_in image a i) page a i names),
-  )
-
-  -- behind the last page come the nodes
-  pub pages_end : (a : ℕ) → pages_needed (blocks image) ≤ page → Holds image f (before_page page) s → HasReached image f (before_node 0)
-  pages_end a le h = (s, moved h (omega arith) (end_pages image page le h.up_to))
+  page_on a i g (Some c) names gone = grind (arith, common_steps, same_place, behind_page, next_holder, names_up)

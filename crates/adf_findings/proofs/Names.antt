@@ -2,11 +2,12 @@
 use Rattle.std.specs.Prelude.{◌&&◌, false, min, slice_index, slice_range, true}
 use Rattle.std.specs.List.{list_all}
 use Rattle.std.specs.Str.{bytes_eq}
-use Rattle.std.proofs.Common.{◌≡◌, ℕ, List, [], ◌∷◌, ◌+◌, ◌*◌, ◌-◌, ◌<◌, ◌≤◌, length, drop, take, inl, inr, refl, sym, ap, ◌∙◌, arith}
+use Rattle.std.proofs.Common.{◌≡◌, ℕ, List, [], ◌∷◌, ◌+◌, ◌*◌, ◌-◌, ◌<◌, ◌≤◌, length, drop, take, refl, arith}
 use Rattle.std.proofs.lemmas.Bool.{cases_lt, false_from_ne_true}
 use Rattle.std.proofs.lemmas.Bool.Decides.{nat_tests}
 use Rattle.std.proofs.lemmas.List.{length-drop, length-map, take_all}
 use Rattle.std.proofs.lemmas.Slice.Eq.{bytes_eq-Decides}
+use Rattle.std.proofs.lemmas.Grind.{common_steps}
 use Rattle.adf_base.specs.Hash.{upper_by, upper_of}
 use Rattle.adf_base.specs.Words.{block}
 use Rattle.adf_base.specs.declared.hash.Letters.{Letters}
@@ -18,11 +19,7 @@ use Rattle.adf_volume.specs.Image.{name_of}
 use Rattle.adf_volume.proofs.Images.{block_length}
 
 cut : (xs : List ℕ) (n : ℕ) → length xs ≤ 79 → take (min n 79) xs ≡ take n xs
-cut xs n h =
-    elim (cases_lt n 80) [
-      | inl lt ↦ let e : min n 79 ≡ n = omega arith in rw e refl
-      | inr past ↦ let e : min n 79 ≡ 79 = omega arith in rw (e, take_all 79 xs h, take_all n xs (omega arith)) refl
-    ]
+cut xs n h = grind (arith, common_steps, cases_lt, take_all)
 
 -- a name ends where its block ends
 pub cut_name : (image : List ℕ) (b : ℕ) → length image ≡ 512 * blocks image → b < blocks image
@@ -59,7 +56,4 @@ upper_twice l (c ∷ cs) = λ i. upper_once l c i ∷ upper_twice l cs i
 
 -- a name that is not valid is no valid one
 pub other_name : (l : Letters) (x y : List ℕ) → is_name x ≡ false → is_name y ≡ true → bytes_eq (uppers_by l x) (uppers_by l y) ≡ false
-other_name l x y none valid =
-    false_from_ne_true (bytes_eq (uppers_by l x) (uppers_by l y))
-    (λ t. let e = (bytes_eq-Decides (uppers_by l x) (uppers_by l y)).0 t in
-    let clash : false ≡ true = sym none ∙ (sym (valid_upper l x) ∙ (ap is_name e ∙ (valid_upper l y ∙ valid))) in cc)
+other_name l x y none valid = grind (arith, common_steps, false_from_ne_true, bytes_eq-Decides, valid_upper)

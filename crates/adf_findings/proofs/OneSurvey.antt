@@ -1,6 +1,7 @@
 -- An image has at most one survey.
 use Rattle.std.specs.Prelude.{None}
 use Rattle.std.proofs.Common.{◌≡◌, ℕ, suc, List, ◌∷◌, ◌++◌, ◌+◌, ◌-◌, ◌<◌, length, refl, sym, subst, ◌∙◌, arith}
+use Rattle.std.proofs.lemmas.Grind.{common_steps}
 use native.Mathlib.Decide.{dec_lt}
 use Rattle.adf_blocks.specs.Sizes.{blocks}
 use Rattle.adf_volume.specs.Image.{word_in}
@@ -69,12 +70,8 @@ module _ (image : List ℕ) where
   -- courses that have judged as many parts are one
   same_courses : {s t : Course} → IsCourse image s → IsCourse image t → steps s ≡ steps t → s ≡ t
   same_courses (start b t) (start d u) e = λ i. begun image (boot_one image b d i ++ root_one image t u i)
-  same_courses (start b t) (step {s = s} {r = r} {a = a} {i = i} j v n h) e =
-      let m : steps (after s r (word_in image a i) j) ≡ suc (steps s) = one_more s r (word_in image a i) j in
-      absurd (not_empty v (omega arith))
-  same_courses (step {s = s} {r = r} {a = a} {i = i} j v n h) (start c t) e =
-      let m : steps (after s r (word_in image a i) j) ≡ suc (steps s) = one_more s r (word_in image a i) j in
-      absurd (not_empty v (omega arith))
+  same_courses (start b t) (step {s = s} {r = r} {a = a} {i = i} j v n h) e = grind (arith, common_steps, steps, one_more, not_empty)
+  same_courses (step {s = s} {r = r} {a = a} {i = i} j v n h) (start c t) e = grind (arith, common_steps, steps, one_more, not_empty)
   same_courses (step {s = s} {r = r} {a = a} {i = i} j v n h) (step {s = u} {r = q} {a = b} {i = k} l v' n' h') e =
       let m : steps (after s r (word_in image a i) j) ≡ suc (steps s) = one_more s r (word_in image a i) j in
       let m' : steps (after u q (word_in image b k) l) ≡ suc (steps u) = one_more u q (word_in image b k) l in
@@ -100,10 +97,7 @@ module _ (image : List ℕ) where
       ]
 
   one_course : (s t : Course) → IsCourse image s → IsCourse image t → IsDone image s → IsDone image t → s ≡ t
-  one_course s t v v' d d' =
-      let short : steps s < steps t → ⊥ = not_shorter v' s v d in
-      let long : steps t < steps s → ⊥ = not_shorter v t v' d' in
-      same_courses v v' (omega arith)
+  one_course s t v v' d d' = grind (arith, common_steps, steps, not_shorter, same_courses)
 
   bits_one : (s : Course) {b n : ℕ} {fs gs : List FindingValue} → BitsTell image s b n fs → BitsTell image s b n gs → fs ≡ gs
   bits_one s ends ends = refl

@@ -1,6 +1,7 @@
 -- The outcome for a part that is next.
 use Rattle.std.specs.Prelude.{Some, None}
-use Rattle.std.proofs.Common.{◌≡◌, ℕ, List, [], ◌∷◌, ◌++◌, refl, sym, subst, ap, ◌∙◌}
+use Rattle.std.proofs.Common.{◌≡◌, ℕ, List, [], ◌∷◌, ◌++◌, sym, subst, ap, ◌∙◌, arith}
+use Rattle.std.proofs.lemmas.Grind.{common_steps}
 use Rattle.adf_blocks.specs.declared.cause.Cause.{Cause}
 use Rattle.adf_volume.specs.Walk.{Role}
 use Rattle.adf_findings.specs.Demands.{demands_in}
@@ -11,13 +12,12 @@ use Rattle.adf_findings.specs.declared.judge.Judgement.{Judgement}
 use Rattle.adf_findings.specs.declared.judge.Judgement.TheVariants.{Clean, Reported, Skipped}
 use Rattle.adf_findings.specs.declared.found.Found.{Found}
 use Rattle.adf_findings.specs.Survey.{Course, FindingValue, IsCourse, Judged, JudgementValue, after, finding}
-use Rattle.adf_findings.specs.Survey.JudgementValue.{clean, reported, skipped}
+use Rattle.adf_findings.specs.Survey.JudgementValue.{reported, skipped}
 use Rattle.adf_findings.specs.Survey.IsCourse.{step}
 use Rattle.adf_findings.specs.Forms.{judgement_value}
 use Rattle.adf_findings.specs.Found.{IsReported, IsBlockSkipped, KeepsName, Stands}
 use Rattle.adf_findings.specs.Parts.{role_of, finding_value}
 use Rattle.adf_findings.specs.Courses.{IsNextReference, IsOutcome, KeepsNameBy, role_asked}
-use Rattle.adf_volume.specs.Image.{letters_of}
 use Rattle.adf_volume.proofs.PartDemands.{part_holds_by}
 use Rattle.adf_findings.proofs.JudgementTests.{itself_holds}
 use Rattle.adf_findings.proofs.Known.{no_owner}
@@ -31,16 +31,13 @@ module _ (image : List ℕ) (f : Found) (s : Course) (x : Reference) (v : IsCour
   role = role_asked s x.part
 
   judgement : (k : Judgement) → j ≡ k → Judged role (demands_in image s.walk role x.holder x.block) (judgement_value k)
-  judgement k e =
-      subst (λ r. Judged r (demands_in image s.walk r x.holder x.block) (judgement_value k)) is
-      (subst (λ k. Judged (role_of part) (demands_in image s.walk (role_of part) x.holder x.block) (judgement_value k)) e told)
+  judgement k e = grind (arith, common_steps)
 
   kept : (k : Judgement) → j ≡ k → KeepsNameBy image part x.block k f.names g.names
   kept k e = subst (λ k. KeepsNameBy image part x.block k f.names g.names) e named
 
   named_stands : Stands image g s
-  named_stands = subst (λ h. Stands image h s) (sym rest)
-      (stands_but image f (record f { names = g.names }) s s.skipped s.findings refl st st.avoided st.findings)
+  named_stands = grind (arith, common_steps, stands_but)
 
   stepped : (j : JudgementValue) → Judged role (demands_in image s.walk role x.holder x.block) j → IsCourse image (after s role x.block j)
   stepped j h =
@@ -48,19 +45,7 @@ module _ (image : List ℕ) (f : Found) (s : Course) (x : Reference) (v : IsCour
       (step j v n.1 (subst (λ b. Judged role (demands_in image s.walk role x.holder b) j) (sym n.2) h))
 
   pub clean_outcome : j ≡ Clean → IsOutcome image s x f g (Some part)
-  clean_outcome is_clean =
-      let d = judgement Clean is_clean in
-      let holds = part_holds_by (letters_of image) image s.walk role x.holder x.block d in
-      record {
-        role = is;
-        inside = holds.inside;
-        free = no_owner s.walk x.block holds.unowned;
-        findings = s.findings;
-        course = stepped clean d;
-        stands = named_stands;
-        left = ap (λ f. f.left) rest;
-        names = kept Clean is_clean;
-      }
+  clean_outcome is_clean = grind (arith, common_steps, judgement, part_holds_by, role, no_owner, stepped, named_stands, kept)
 
   -- the finding of the part
   told_is : (at : ℕ) (c : Cause)
@@ -69,9 +54,7 @@ module _ (image : List ℕ) (f : Found) (s : Course) (x : Reference) (v : IsCour
 
   reported_stands : (h : Found) (at : ℕ) (c : Cause) → IsReported (record { part = Some part; block = at; cause = c }) g h
       → Stands image h (record { walk = s.walk; skipped = s.skipped; findings = s.findings ++ finding (Some role) at c ∷ [] })
-  reported_stands h at c made =
-      subst (λ fs. Stands image h (record { walk = s.walk; skipped = s.skipped; findings = fs })) (told_is at c)
-      (stands_reported image g h s at named_stands (record { part = Some part; block = at; cause = c }) made)
+  reported_stands h at c made = grind (arith, common_steps, told_is, stands_reported, named_stands)
 
   pub reported_outcome : (h : Found) (at : ℕ) (c : Cause) (y : Finding) → j ≡ Reported at c → y ≡ record { part = Some part; block = at; cause = c }
       → IsReported y g h → IsOutcome image s x f h (Some part)

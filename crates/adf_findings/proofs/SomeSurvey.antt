@@ -1,11 +1,12 @@
 -- An image has a survey: parts are judged until none is next. Each part taken leaves one free block fewer;
 -- each part skipped leaves one role fewer in the lists of what the walk can ask for.
 use Rattle.std.specs.Prelude.{Bool, true, false, Some, None}
-use Rattle.std.proofs.Common.{◌≡◌, ℕ, zero, suc, List, [], ◌∷◌, ◌++◌, inl, inr, ◌+◌, ◌-◌, ◌*◌, ◌/◌, ◌%◌, ◌<◌, length, refl, sym, ap, subst, ◌∙◌, arith}
+use Rattle.std.proofs.Common.{◌≡◌, ℕ, zero, suc, List, [], ◌∷◌, ◌++◌, inl, inr, ◌+◌, ◌-◌, ◌*◌, ◌/◌, ◌%◌, ◌<◌, length, refl, sym, ap, ◌∙◌, arith}
+use Rattle.std.proofs.lemmas.Grind.{common_steps}
 use native.Mathlib.Decide.{ℕ_discrete}
 use Rattle.adf_blocks.specs.declared.cause.Cause.{Cause}
 use Rattle.adf_blocks.specs.declared.layout.TheConstants.{POINTERS, SLOTS}
-use Rattle.adf_blocks.specs.Sizes.{blocks, is_allowed, pages_needed}
+use Rattle.adf_blocks.specs.Sizes.{blocks, pages_needed}
 use Rattle.adf_base.specs.Words.{block}
 use Rattle.adf_blocks.specs.RootBlock.{root_form}
 use Rattle.adf_volume.specs.Image.{letters_of, word_in, root_of}
@@ -61,8 +62,7 @@ askable pages (x ∷ w) = asked_by pages x.0 ++ askable pages w
 
 in_askable : (pages : ℕ) (w : List (Role × ℕ)) (q : Role) (b : ℕ) (r : Role) → Has w q b → In (asked_by pages q) r → In (askable pages w) r
 in_askable pages [] q b r h i = absurd h
-in_askable pages (x ∷ w) q b r (inl e) i =
-    in_left (asked_by pages x.0) (askable pages w) r (subst (λ q. In (asked_by pages q) r) (sym e.0) i)
+in_askable pages (x ∷ w) q b r (inl e) i = grind (arith, common_steps, pages, in_left, asked_by, askable)
 in_askable pages (x ∷ w) q b r (inr h) i = in_right (asked_by pages x.0) (askable pages w) r (in_askable pages w q b r h i)
 
 module _ (image : List ℕ) where
@@ -155,32 +155,12 @@ module _ (image : List ℕ) where
 
       in_wanted : (rs : List Role) → Covers rs s → (r : Role) (a i : ℕ) → Asks image s.walk r a i → Lacks s.walk r → Lacks s.skipped r
           → (z : Role) × In rs z × Wanted z × Same z r
-      in_wanted rs cover r a i ask lack unskipped =
-          let x = cover r a i ask lack unskipped in
-          let k : Same (renumbered number x.0) x.0 = renumbered_same number x.0 in
-          let e : Same (renumbered number x.0) r = same_of (renumbered number x.0) r x.2 in
-          let same : Same x.0 r = omega arith in (
-            x.0,
-            x.1,
-            ((a, i, subst (λ r. Asks image s.walk r a i) (sym x.2) ask), lacks_same s.walk r x.0 same lack, lacks_same s.skipped r x.0 same unskipped),
-            same,
-          )
+      in_wanted rs cover r a i ask lack unskipped = grind (arith, common_steps, renumbered, number, renumbered_same, same_of, lacks_same)
 
       -- the least that is wanted is next
       next_of : (rs : List Role) → Covers rs s → (z : Role) (x : Wanted z) → ((q : Role) → In rs q → Wanted q → Before q z → ⊥)
           → IsNext image s (renumbered number z) x.0.0 x.0.1
-      next_of rs cover z x none =
-          let same : Same (renumbered number z) z = renumbered_same number z in
-          record {
-            asked = x.0.2;
-            lacks = lacks_same s.walk z (renumbered number z) same x.1;
-            unskipped = lacks_same s.skipped z (renumbered number z) same x.2;
-            least =
-                λ q d k ask lack unskipped bef.
-                let y = in_wanted rs cover q d k ask lack unskipped in
-                let t : Same y.0 q = y.3 in
-                none y.0 y.1 y.2 (omega arith, (λ e. omega arith), (λ e f. omega arith));
-          }
+      next_of rs cover z x none = grind (arith, common_steps, renumbered, number, renumbered_same, lacks_same, least, in_wanted)
 
     -- the part that is next is taken, or skipped and wanted no more
     judge_next : (rs : List Role)
@@ -239,10 +219,7 @@ module _ (image : List ℕ) where
       (t.0.walk, t.0.findings ++ bits.0, read t.1 t.2 bits.1)
 
   decided_size : Dec (IsSize image)
-  decided_size = elim (ℕ_discrete (length image) (512 * blocks image)) [
-    | no n ↦ no (λ x. n x.0)
-    | yes e ↦ elim (dec_true (is_allowed (blocks image))) [ no n ↦ no (λ x. n x.1) | yes y ↦ yes (e, y) ]
-  ]
+  decided_size = grind (arith, common_steps, dec_true)
 
   -- behind a boot block of type 0 to 5 the root is judged
   behind_boot : {boot : List FindingValue} → BootTells image boot → (w : List (Role × ℕ)) × (fs : List FindingValue) × IsSurvey image w fs

@@ -2,6 +2,7 @@
 use Rattle.std.specs.Prelude.{Bool, Some, false, nat_lt, true}
 use Rattle.std.proofs.Common.{◌≡◌, ℕ, zero, suc, List, [], ◌∷◌, ◌++◌, ◌⊎◌, inl, inr, ◌*◌, ◌/◌, ◌<◌, ◌≤◌, refl, sym, ap, subst, ◌∙◌, arith}
 use Rattle.std.proofs.lemmas.Bool.{cond-false, cond-true, le-ltb, lt-ltb}
+use Rattle.std.proofs.lemmas.Grind.{common_steps}
 use native.Mathlib.Decide.{dec_lt}
 use Rattle.adf_blocks.specs.declared.layout.TheConstants.{POINTERS, SIZE}
 use Rattle.adf_volume.specs.Image.{letters_of, held, kind_of, word_in, table_word}
@@ -63,18 +64,7 @@ module _ (image : List ℕ) where
     earlier : (q : Role) (c k : ℕ) → Asks image before q c k → Before q r → Lacks before q → IsUnreported fs q → ⊥
 
   came_later : (w : List (Role × ℕ)) (fs : List FindingValue) (r : Role) (b : ℕ) (x : Role × ℕ) → Came w fs r b → Came (x ∷ w) fs r b
-  came_later w fs r b x y = record {
-    before = y.before;
-    came_before = y.came_before;
-    at = y.at;
-    index = y.index;
-    asked = y.asked;
-    named = y.named;
-    judged = y.judged;
-    older = (λ q c h. inr (y.older q c h));
-    counted = (λ n. let k = y.counted n in let u = count_up n x.0 (ext_count w n) in omega arith);
-    earlier = y.earlier;
-  }
+  came_later w fs r b x y = grind (arith, common_steps, count_up)
 
   came_reported : (w : List (Role × ℕ)) (fs gs : List FindingValue) (r : Role) (b : ℕ) → Came w fs r b → Came w (fs ++ gs) r b
   came_reported w fs gs r b y = record {
@@ -250,10 +240,7 @@ module _ (image : List ℕ) where
 
       module _ (none : (k : ℕ) → IsUnreported s.findings (Ext n k)) where
         ext_wanted : (m a : ℕ) → Has s.walk (Ext n (suc m)) a → Came s.walk s.findings (Ext n (suc m)) a
-        ext_wanted m a g = elim (came v (Ext n (suc m)) a g) [
-          | inl e ↦ let x : first Root ≡ first (Ext n (suc m)) = ap first e in absurd (omega arith)
-          | inr y ↦ y
-        ]
+        ext_wanted m a g = grind (arith, common_steps, came)
 
         file_first : (k b : ℕ) (y : Came s.walk s.findings (Data n (suc k)) b) (a : ℕ) → FileAt image s.walk n a → FileAt image y.before n a
         file_first k b y a g =

@@ -4,10 +4,11 @@ use Rattle.std.proofs.Common.{◌≡◌, ℕ, suc, List, [], ◌∷◌, ◌++◌
 use Rattle.std.specs.Option.{option_map}
 use Rattle.std.proofs.lemmas.Bool.{and_parts, cases_Bool, eqb-true, eq-eqb}
 use Rattle.std.proofs.lemmas.Bool.Decides.{nat_tests}
+use Rattle.std.proofs.lemmas.Grind.{common_steps}
 use Rattle.adf_tree.specs.declared.entry.Kind.{Kind}
 use Rattle.adf_tree.specs.declared.entry.Kind.TheVariants.{Ofs, Ffs}
 use Rattle.adf_blocks.specs.Sizes.{blocks}
-use Rattle.adf_volume.specs.Image.{letters_of, kind_of, root_of, word_in}
+use Rattle.adf_volume.specs.Image.{kind_of, root_of, word_in}
 use Rattle.adf_volume.specs.Lists.{In}
 use Rattle.adf_volume.specs.Walk.{Role, first, second, Same, Has, Asks, Lacks, IsAbsent, heads, node_block}
 use Rattle.adf_volume.specs.Walk.Role.{Root, Head, Ext, Data}
@@ -69,11 +70,7 @@ module _ (image : List ℕ) where
   pub unread_none : {fs : List FindingValue} → UnreadTells image fs → (f : FindingValue) → In fs f → f.part ≡ None
   unread_none (bad_boot h e) f (inl k) = ap (λ f. f.part) (sym k)
   unread_none (bad_boot h e) f (inr m) = absurd m
-  unread_none (bad_root {boot = fs} {at = at} {c = c} b h) f m =
-      elim (in_cases fs (finding None at c ∷ []) f m) [
-        | inl k ↦ boot_none b f k
-        | inr k ↦ elim k [ inl e ↦ ap (λ f. f.part) (sym e) | inr n ↦ absurd n ]
-      ]
+  unread_none (bad_root {boot = fs} {at = at} {c = c} b h) f m = grind (arith, common_steps, in_cases, boot_none)
 
   -- the root of itself
   root_part : {fs : List FindingValue} → RootTells image fs → (f : FindingValue) (q : Role) → In fs f → f.part ≡ Some q → Root ≡ q
@@ -136,21 +133,13 @@ module _ (image : List ℕ) where
 
   wanted_later : (s : Course) (z : Role) (a i c : ℕ) → IsCourse image s → IsNext image s z a i → (r : Role) (b : ℕ) → Wanted s.walk r b
       → Wanted ((z, c) ∷ s.walk) r b
-  wanted_later s z a i c v n r b x =
-      let asked = asks_more image s.walk z c r x.holder x.word x.asked in
-      record { holder = x.holder; word = x.word; asked = asked; named = x.named }
+  wanted_later s z a i c v n r b x = grind (arith, common_steps, asks_more)
 
   wanted_new : (s : Course) (z : Role) (a i : ℕ) → IsCourse image s → IsNext image s z a i → (r : Role) (b : ℕ)
       → (Has s.walk r b → (Root ≡ r) ⊎ Wanted s.walk r b) → Has ((z, word_in image a i) ∷ s.walk) r b
       → (Root ≡ r) ⊎ Wanted ((z, word_in image a i) ∷ s.walk) r b
-  wanted_new s z a i v n r b again (inl e) =
-      let w : List (Role × ℕ) = (z, word_in image a i) ∷ s.walk in
-      inr (subst (Wanted w r) e.1 (subst (λ r. Wanted w r (word_in image a i)) e.0
-      (wanted_later s z a i (word_in image a i) v n z (word_in image a i) (wanted_now s.walk z a i n.asked))))
-  wanted_new s z a i v n r b again (inr h) = elim (again h) [
-    | inl e ↦ inl e
-    | inr x ↦ inr (wanted_later s z a i (word_in image a i) v n r b x)
-  ]
+  wanted_new s z a i v n r b again (inl e) = grind (arith, common_steps, wanted_later, wanted_now)
+  wanted_new s z a i v n r b again (inr h) = grind (arith, common_steps, wanted_later)
 
   -- what is taken is asked for in its block
   pub taken_wanted : {s : Course} → IsCourse image s → (r : Role) (b : ℕ) → Has s.walk r b → (Root ≡ r) ⊎ Wanted s.walk r b
@@ -167,20 +156,13 @@ module _ (image : List ℕ) where
       wanted_later s z a i (word_in image a i) v n r b (skipped_wanted v r b h)
   skipped_wanted (step {s = s} {r = z} {a = a} {i = i} (reported at c) v n g) r b h =
       wanted_later s z a i (word_in image a i) v n r b (skipped_wanted v r b h)
-  skipped_wanted (step {s = s} {r = z} {a = a} {i = i} (skipped at c) v n g) r b (inl e) =
-      subst (Wanted s.walk r) e.1 (subst (λ r. Wanted s.walk r (word_in image a i)) e.0 (wanted_now s.walk z a i n.asked))
+  skipped_wanted (step {s = s} {r = z} {a = a} {i = i} (skipped at c) v n g) r b (inl e) = grind (arith, common_steps, wanted_now)
   skipped_wanted (step (skipped at c) v n g) r b (inr h) = skipped_wanted v r b h
 
   -- what is asked for in one place of the order is asked for in one block
   one_wanted : (w : List (Role × ℕ)) → IsGathered image w → (r q : Role) (a i b : ℕ) → Wanted w r b → Asks image w q a i → Same r q
       → b ≡ word_in image a i
-  one_wanted w v r q a i b x h same =
-      let own : Same (renumbered (suc (heads w)) r) r = renumbered_same (suc (heads w)) r in
-      let z : renumbered (suc (heads w)) r ≡ q =
-      same_role (renumbered (suc (heads w)) r) q (omega arith) (λ n m p t j e f.
-      number_is image w (renumbered (suc (heads w)) r) x.holder x.word n p t j x.asked e ∙ sym (number_is image w q a i m p t j h f)) in
-      let y = asks_one image v q x.holder x.word a i (subst (λ r. Asks image w r x.holder x.word) z x.asked) h in
-      sym x.named ∙ (λ t. word_in image (y.0 t) (y.1 t))
+  one_wanted w v r q a i b x h same = grind (arith, common_steps, renumbered, renumbered_same, same_role, number_is, asks_one)
 
   no_root : (w : List (Role × ℕ)) (q r : Role) (a i : ℕ) → Asks image w q a i → Root ≡ r → Same r q → ⊥
   no_root w Root r a i h e s = h
@@ -203,11 +185,9 @@ module _ (image : List ℕ) where
   pub inside : {s : Course} → IsCourse image s → (r : Role) (b : ℕ) → (Root ≡ r → ⊥) → Has s.walk r b → b < blocks image
   inside (start boot root) r b other (inl e) = absurd (other e.0)
   inside (start boot root) r b other (inr h) = absurd h
-  inside (step {s = s} {r = z} {a = a} {i = i} clean v d g) r b other (inl e) =
-      let part = part_holds_by (letters_of image) image s.walk z a (word_in image a i) g in subst (λ b. b < blocks image) e.1 part.inside
+  inside (step {s = s} {r = z} {a = a} {i = i} clean v d g) r b other (inl e) = grind (arith, common_steps, part_holds_by)
   inside (step clean v d g) r b other (inr h) = inside v r b other h
-  inside (step {s = s} {r = z} {a = a} {i = i} (reported at c) v d g) r b other (inl e) =
-      let part = itself_holds image s.walk z a (word_in image a i) g.1 in subst (λ b. b < blocks image) e.1 part.inside
+  inside (step {s = s} {r = z} {a = a} {i = i} (reported at c) v d g) r b other (inl e) = grind (arith, common_steps, itself_holds)
   inside (step (reported at c) v d g) r b other (inr h) = inside v r b other h
   inside (step (skipped at c) v d g) r b other h = inside v r b other h
 
@@ -245,13 +225,7 @@ module _ (image : List ℕ) where
     -- and only such a one
     not_alone : (n k b : ℕ) → Has s.walk (Data n k) b → owns s.skipped b ≡ true
         → ((q : Role) (a i : ℕ) → Asks image s.walk q a i → word_in image a i ≡ b → Same q (Data n k)) → ⊥
-    not_alone n k b d over alone =
-        let x = owner_of s.skipped b over in
-        let y = skipped_wanted v x.0 b x.1 in
-        let q : Role = renumbered (suc (heads s.walk)) x.0 in
-        let same : Same q (Data n k) = alone q y.holder y.word y.asked y.named in
-        let own : Same q x.0 = renumbered_same (suc (heads s.walk)) x.0 in
-        apart v (Data n k) x.0 b b d x.1 (omega arith)
+    not_alone n k b d over alone = grind (arith, common_steps, owner_of, skipped_wanted, renumbered, renumbered_same, apart)
 
 node_is : (o : Option ℕ) (m : ℕ) → is_node o m ≡ true → o ≡ Some m
 node_is None m e = cc
@@ -278,9 +252,7 @@ blamed_by f (x ∷ xs) m e = go (is_node (node_blamed f x.part) m) refl e (blame
 not_blamed : (f : Found) (xs : List Finding) (m : ℕ) (x : Finding) → is_blamed f xs m ≡ false → In xs x
     → node_blamed f x.part ≡ Some m → ⊥
 not_blamed f [] m x e h b = h
-not_blamed f (y ∷ xs) m x e (inl z) b =
-    let one : is_node (node_blamed f y.part) m ≡ true = node_yes (node_blamed f y.part) m (ap (λ y. node_blamed f y.part) z ∙ b) in
-    let clash : true ≡ false = sym (ap (λ t. t || is_blamed f xs m) one) ∙ e in cc
+not_blamed f (y ∷ xs) m x e (inl z) b = grind (arith, common_steps, node_blamed, node_yes)
 not_blamed f (y ∷ xs) m x e (inr h) b = go (is_node (node_blamed f y.part) m) e (λ e. not_blamed f xs m x e h b)
   where
     go : (t : Bool) → (t || is_blamed f xs m) ≡ false → (is_blamed f xs m ≡ false → ⊥) → ⊥
@@ -301,9 +273,7 @@ sharing_by avoided (d ∷ ds) m e = go (is_node (sharing avoided d) m) refl e (s
 not_sharing : (avoided : List Bool) (ds : List DataBlock) (m : ℕ) (d : DataBlock) → is_sharing avoided ds m ≡ false → In ds d
     → sharing avoided d ≡ Some m → ⊥
 not_sharing avoided [] m d e h s = h
-not_sharing avoided (x ∷ ds) m d e (inl z) s =
-    let one : is_node (sharing avoided x) m ≡ true = node_yes (sharing avoided x) m (ap (sharing avoided) z ∙ s) in
-    let clash : true ≡ false = sym (ap (λ t. t || is_sharing avoided ds m) one) ∙ e in cc
+not_sharing avoided (x ∷ ds) m d e (inl z) s = grind (arith, common_steps, node_yes)
 not_sharing avoided (x ∷ ds) m d e (inr h) s = go (is_node (sharing avoided x) m) e (λ e. not_sharing avoided ds m d e h s)
   where
     go : (t : Bool) → (t || is_sharing avoided ds m) ≡ false → (is_sharing avoided ds m ≡ false → ⊥) → ⊥
@@ -313,12 +283,7 @@ not_sharing avoided (x ∷ ds) m d e (inr h) s = go (is_node (sharing avoided x)
 -- what makes a file a sharing one
 sharing_is : (avoided : List Bool) (d : DataBlock) (m : ℕ) → sharing avoided d ≡ Some m
     → (d.node ≡ m) × (slice_index_or avoided d.block false ≡ true)
-sharing_is avoided d m e = go (slice_index_or avoided d.block false) refl e
-  where
-    go : (t : Bool) → slice_index_or avoided d.block false ≡ t → cond t (Some d.node) None ≡ Some m
-        → (d.node ≡ m) × (slice_index_or avoided d.block false ≡ true)
-    go true f e = let z : d.node ≡ m = cc in (z, f)
-    go false f e = cc
+sharing_is avoided d m e = grind (arith, common_steps)
 
 in_with : (r : Role) (b : ℕ) (ds : List DataBlock) (d : DataBlock) → In ds d → In (with_data r b ds) d
 in_with (Data n k) b ds d h = in_left ds (record { node = n; block = b } ∷ []) d h
@@ -345,9 +310,7 @@ data_has (x ∷ w) d h = elim (with_cases x.0 x.1 (data_blocks_of w) d h) [
 
 has_data : (w : List (Role × ℕ)) (n k b : ℕ) → Has w (Data n k) b → In (data_blocks_of w) (record { node = n; block = b })
 has_data [] n k b h = absurd h
-has_data (x ∷ w) n k b (inl e) =
-    subst (λ (y : Role × ℕ). In (with_data y.0 y.1 (data_blocks_of w)) (record { node = n; block = b })) (λ i. (sym e.0 i, sym e.1 i))
-    (in_right (data_blocks_of w) (record { node = n; block = b } ∷ []) (record { node = n; block = b }) (inl refl))
+has_data (x ∷ w) n k b (inl e) = grind (arith, common_steps, in_right)
 has_data (x ∷ w) n k b (inr h) = in_with x.0 x.1 (data_blocks_of w) (record { node = n; block = b }) (has_data w n k b h)
 
 pub in_values : (xs : List Finding) (x : Finding) → In xs x → In (map finding_value xs) (finding_value x)
@@ -394,13 +357,7 @@ data_of : (q : Role) (n k : ℕ) → Same q (Data n k) → q ≡ Data n k
 data_of q n k same = same_role q (Data n k) same (λ a m p s j e f. let x : second (Data n k) ≡ second (Head m p s j) = ap second f in absurd (omega arith))
 
 pub taken_at : (image : List ℕ) (w : List (Role × ℕ)) → IsGathered image w → (q : Role) (b : ℕ) → Has w q b → at_key w (key_of q) ≡ Some b
-taken_at image w v q b h = go (at_key w (key_of q)) refl
-  where
-    go : (o : Option ℕ) → at_key w (key_of q) ≡ o → o ≡ Some b
-    go None e = absurd (lacks_at w q e q b h (same_of q q refl))
-    go (Some c) e =
-        let x = at_has w (key_of q) c e in
-        ap Some (one_block image v x.0 q c b x.1 h (same_of_key x.0 q x.2)).1
+taken_at image w v q b h = grind (arith, common_steps, lacks_at, same_of, at_has, one_block, same_of_key)
 
 -- a part that a finding of a survey concerns was taken or skipped
 pub settled : (image : List ℕ) {s : Course} → IsCourse image s → (bits : List FindingValue) {b n : ℕ} → BitsTell image s b n bits
@@ -482,9 +439,7 @@ module _ (image : List ℕ) (f : Found) {s : Course} (v : IsCourse image s) (don
   -- no finding of a part speaks against the entry
   unspoken : (m : ℕ) → is_blamed f f.findings.items m ≡ false → (g : FindingValue) (q : Role) → In all g → g.part ≡ Some q
       → ((o : Option Part) → part_role o ≡ Some q → node_blamed f o ≡ Some m) → ⊥
-  unspoken m e g q i is names =
-      let x = in_findings f.findings.items g (subst (λ fs. In fs g) (sym st.findings) i) in
-      not_blamed f f.findings.items m x.0 e x.1 (names x.0.part (ap (λ g. g.part) x.2 ∙ is))
+  unspoken m e g q i is names = grind (arith, common_steps, in_findings, not_blamed)
 
   head_clear : (m p t j h : ℕ) → Has s.walk (Head m p t j) h → is_blamed f f.findings.items m ≡ false → IsUnreported all (Head m p t j)
   head_clear m p t j h has e g q i is same = elim (settled image v bits tells g q (are g i) is) [

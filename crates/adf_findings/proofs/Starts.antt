@@ -1,7 +1,8 @@
 -- The start of an image: its size, its boot bytes and its root.
 -- Letters: at, c the block and the cause of a finding.
 use Rattle.std.specs.Prelude.{None, Some, true, false}
-use Rattle.std.proofs.Common.{◌≡◌, ℕ, List, [], ◌∷◌, ◌++◌, inl, inr, refl, sym, ap, subst, ◌∙◌}
+use Rattle.std.proofs.Common.{◌≡◌, ℕ, List, [], ◌∷◌, ◌++◌, inl, inr, refl, ap, subst, ◌∙◌, arith}
+use Rattle.std.proofs.lemmas.Grind.{common_steps}
 use Rattle.adf_base.specs.Words.{block}
 use Rattle.adf_blocks.specs.declared.cause.Cause.{Cause}
 use Rattle.adf_blocks.specs.Forms.{first_cause}
@@ -44,9 +45,7 @@ module _ (image : List ℕ) where
   -- a boot block of type 0 to 5 has no other cause
   not_bad : {fs : List FindingValue} (at : ℕ) (c : Cause) → BootTells image fs → FirstFails (boot_demands image) at c → is_other_type c ≡ false → ⊥
   not_bad at c (clean_boot h) f e = fails_not_all (boot_demands image) at c f h
-  not_bad at c (other_type {at = a} {c = d} g k) f e =
-      let same : d ≡ c = (fails_one (boot_demands image) a d at c g f).1 in
-      let clash : true ≡ false = sym k ∙ ap is_other_type same ∙ e in cc
+  not_bad at c (other_type {at = a} {c = d} g k) f e = grind (arith, common_steps, fails_one)
 
   -- a root that is taken is not skipped
   not_skipped : {fs : List FindingValue} (at : ℕ) (c : Cause) → RootTells image fs → RootJudged image (skipped at c) → ⊥
@@ -63,21 +62,18 @@ module _ (image : List ℕ) where
   boot_one (clean_boot h) (clean_boot g) = refl
   boot_one (clean_boot h) (other_type {at = at} {c = c} g k) = absurd (fails_not_all (boot_demands image) at c g h)
   boot_one (other_type {at = at} {c = c} h e) (clean_boot g) = absurd (fails_not_all (boot_demands image) at c h g)
-  boot_one (other_type {at = a} {c = c} h e) (other_type {at = b} {c = d} g k) =
-      let z = fails_one (boot_demands image) a c b d h g in λ t. finding None (z.0 t) (z.1 t) ∷ []
+  boot_one (other_type {at = a} {c = c} h e) (other_type {at = b} {c = d} g k) = grind (arith, common_steps, fails_one)
 
   -- the root has one cause or none
   pub root_one : {fs gs : List FindingValue} → RootTells image fs → RootTells image gs → fs ≡ gs
   root_one (clean_root h) (clean_root g) = refl
   root_one (clean_root h) (reported_root {at = at} {c = c} g) = absurd (fails_not_all (root_demands image (root_of image)) at c g.0 h)
   root_one (reported_root {at = at} {c = c} h) (clean_root g) = absurd (fails_not_all (root_demands image (root_of image)) at c h.0 g)
-  root_one (reported_root {at = a} {c = c} h) (reported_root {at = b} {c = d} g) =
-      let e = fails_one (root_demands image (root_of image)) a c b d h.0 g.0 in λ t. finding (Some Root) (e.0 t) (e.1 t) ∷ []
+  root_one (reported_root {at = a} {c = c} h) (reported_root {at = b} {c = d} g) = grind (arith, common_steps, fails_one)
 
   -- of an image of which nothing is taken one thing is told
   pub unread_one : {fs gs : List FindingValue} → UnreadTells image fs → UnreadTells image gs → fs ≡ gs
-  unread_one (bad_boot {at = a} {c = c} f e) (bad_boot {at = b} {c = d} g k) =
-      let z = fails_one (boot_demands image) a c b d f g in λ t. finding None (z.0 t) (z.1 t) ∷ []
+  unread_one (bad_boot {at = a} {c = c} f e) (bad_boot {at = b} {c = d} g k) = grind (arith, common_steps, fails_one)
   unread_one (bad_boot {at = a} {c = c} f e) (bad_root b g) = absurd (not_bad a c b f e)
   unread_one (bad_root b f) (bad_boot {at = a} {c = c} g k) = absurd (not_bad a c b g k)
   unread_one (bad_root {at = a} {c = c} b f) (bad_root {at = u} {c = d} t g) =
@@ -102,9 +98,7 @@ module _ (image : List ℕ) (at : ℕ) (b : List ℕ) (is_at : at ≡ root_of im
       clean_root (all_demanded (root_of image) (root_form (block image (root_of image))) (subst (λ b. first_cause (root_form b) ≡ None) is_root h))
 
   root_fails : (c : Cause) → first_cause (root_form b) ≡ Some c → FirstFails (root_demands image (root_of image)) at c
-  root_fails c h =
-      subst (λ at. FirstFails (root_demands image (root_of image)) at c) (sym is_at)
-      (first_demanded (root_of image) (root_form (block image (root_of image))) c (subst (λ b. first_cause (root_form b) ≡ Some c) is_root h))
+  root_fails c h = grind (arith, common_steps, first_demanded, is_root)
 
   -- otherwise it is taken with its cause if it has the types of a root
   pub root_reported : (c : Cause) → first_cause (root_form b) ≡ Some c → has_root_type b ≡ true → RootTells image (finding (Some Root) at c ∷ [])

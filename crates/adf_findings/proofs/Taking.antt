@@ -1,12 +1,12 @@
 -- The state of a survey when parts are taken and skipped.
 use Rattle.std.specs.Prelude.{Bool, true, false, cond, ◌==◌, Some, map, slice_index, slice_index_or}
-use Rattle.std.proofs.Common.{◌≡◌, ℕ, zero, suc, List, [], ◌∷◌, ◌++◌, length, set, inl, inr, ◌<◌, ◌≤◌, refl, sym, subst, ap, ◌∙◌, arith, length-set}
+use Rattle.std.proofs.Common.{◌≡◌, ℕ, zero, suc, List, [], ◌∷◌, ◌++◌, length, set, ◌<◌, ◌≤◌, refl, ap, ◌∙◌, arith, length-set}
 use Rattle.std.proofs.Common.{get_or-set_same, get_or-set_other}
-use Rattle.std.specs.Option.{unwrap_or}
-use Rattle.std.specs.Ordering.{is_eq, nat_cmp}
+use Rattle.std.specs.Ordering.{is_eq}
 use Rattle.std.specs.BTreeMap.{BTreeMap, Updates, get}
 use Rattle.std.proofs.lemmas.Bool.Decides.{eqb_tells, nat_tests}
 use Rattle.std.proofs.lemmas.List.{map-append}
+use Rattle.std.proofs.lemmas.Grind.{common_steps}
 use Rattle.adf_tree.proofs.NameKeys.{same_number, then_is}
 use Rattle.adf_blocks.specs.Sizes.{blocks}
 use Rattle.adf_volume.proofs.Lists.{snoc_length}
@@ -23,45 +23,15 @@ use Rattle.adf_findings.specs.Survey.{Course, FindingValue}
 use Rattle.adf_findings.specs.Parts.{by_key, key_of, role_of, finding_value}
 use Rattle.adf_findings.specs.Found.{AreHeld, AreMarked, AreNumbered, AreSame, IsKept, IsLookedUp, IsReported, IsOwned, IsBlockSkipped, IsPut}
 use Rattle.adf_findings.specs.Found.{IsTaken, KeepsParts, Stands}
-use Rattle.adf_findings.specs.Found.{at_key, data_number, entry_number, exts_found, owns, parent_by, parent_node, places_of, unowned, with_data, with_place}
+use Rattle.adf_findings.specs.Found.{at_key, data_number, entry_number, exts_found, owns, parent_by, parent_node, places_of, unowned, with_place}
 
 kept_more : (part : Part) (b : ℕ) (f g h : Found) → IsKept part b f g → AreSame g h → IsKept part b f h
-kept_more (HeadPart n p s j) b f g h k e = record {
-  nodes = ap (λ v. v.items) e.nodes ∙ k.nodes;
-  names = e.names ∙ k.names;
-  exts = e.exts ∙ k.exts;
-  parents = ap (λ v. v.items) e.parents ∙ k.parents;
-  places = ap (λ v. v.items) e.places ∙ k.places;
-}
-kept_more (ExtPart n i) b f g h k e = record {
-  nodes = e.nodes ∙ k.nodes;
-  names = e.names ∙ k.names;
-  exts = subst (λ m. Updates nat_cmp f.exts m n (Some i)) (sym e.exts) k.exts;
-  parents = e.parents ∙ k.parents;
-  places = e.places ∙ k.places;
-}
-kept_more _ b f g h k e = record {
-  nodes = e.nodes ∙ k.nodes;
-  names = e.names ∙ k.names;
-  exts = e.exts ∙ k.exts;
-  parents = e.parents ∙ k.parents;
-  places = e.places ∙ k.places;
-}
+kept_more (HeadPart n p s j) b f g h k e = grind (arith, common_steps)
+kept_more (ExtPart n i) b f g h k e = grind (arith, common_steps)
+kept_more _ b f g h k e = grind (arith, common_steps)
 
 pub taken_last : (part : Part) (b : ℕ) (f g h : Found) → IsKept part b f g → KeepsParts f g → IsOwned part b g h → AreSame g h → IsTaken part b f h
-taken_last part b f g h k p o e =
-    let x = subst (λ g. IsOwned part b g h) p o in
-    let owned : IsOwned part b f h = record {
-      taken = x.taken;
-      datas = x.datas;
-      owned = x.owned;
-      owners = x.owners;
-      numbers = x.numbers;
-      left = x.left;
-      avoided = x.avoided;
-      findings = x.findings;
-    } in
-    record { owned = owned; kept = kept_more part b f g h k e }
+taken_last part b f g h k p o e = grind (arith, common_steps, kept_more)
 
 at_more : (m n : BTreeMap Key ℕ) (w : List (Role × ℕ)) (r : Role) (b : ℕ) (k : Key) → Updates by_key m n (key_of r) (Some b)
     → get by_key m k ≡ at_key w k → get by_key n k ≡ at_key ((r, b) ∷ w) k
@@ -81,40 +51,20 @@ no_data_key n k r x = simp (then_is, same_number) (grind (arith, nat_tests))
 taken_more : (m n : BTreeMap Key ℕ) (w : List (Role × ℕ)) (part : Part) (b : ℕ) → IsPut part b m n
     → ((r : Role) → IsLookedUp r → get by_key m (key_of r) ≡ at_key w (key_of r))
     → (r : Role) → IsLookedUp r → get by_key n (key_of r) ≡ at_key ((role_of part, b) ∷ w) (key_of r)
-taken_more m n w (HeadPart i p s j) b u h r x =
-    ap (λ m. get by_key m (key_of r)) u ∙ (h r x ∙ sym (ap (λ t. cond t (Some b) (at_key w (key_of r))) (no_head_key i p s j r x)))
-taken_more m n w (DataPart i k) b u h r x =
-    ap (λ m. get by_key m (key_of r)) u ∙ (h r x ∙ sym (ap (λ t. cond t (Some b) (at_key w (key_of r))) (no_data_key i k r x)))
+taken_more m n w (HeadPart i p s j) b u h r x = grind (arith, common_steps, no_head_key)
+taken_more m n w (DataPart i k) b u h r x = grind (arith, common_steps, no_data_key)
 taken_more m n w part b u h r x = at_more m n w (role_of part) b (key_of r) u (h r x)
 
 pub marked_more : (n : ℕ) (xs : List Bool) (w : List (Role × ℕ)) (r : Role) (b : ℕ) → AreMarked n xs w → AreMarked n (set xs b true) ((r, b) ∷ w)
-marked_more n xs w r b h = (
-  length-set xs b true ∙ h.0,
-  (λ c lt. elim (eqb_tells b c) [
-    | inl y ↦ rw (y.0, ← y.1) (get_or-set_same xs b true false (let l : length xs ≡ n = h.0 in let e : b ≡ c = y.1 in omega arith))
-    | inr y ↦ rw y.0 (get_or-set_other xs b c true false (λ e. y.1 (sym e)) ∙ h.1 c lt)
-  ]),
-)
+marked_more n xs w r b h = grind (arith, common_steps, length-set, eqb_tells, get_or-set_same, get_or-set_other)
 
 pub numbered_more : (n : ℕ) (xs : List ℕ) (w : List (Role × ℕ)) (r : Role) (b : ℕ) → b < n → AreNumbered n xs w
     → AreNumbered n (set xs b (data_number r)) ((r, b) ∷ w)
-numbered_more n xs w r b lt h = (
-  length-set xs b (data_number r) ∙ h.0,
-  (λ c. elim (eqb_tells b c) [
-    | inl y ↦ rw (y.0, ← y.1) (get_or-set_same xs b (data_number r) 0 (let l : length xs ≡ n = h.0 in omega arith))
-    | inr y ↦ rw y.0 (get_or-set_other xs b c (data_number r) 0 (λ e. y.1 (sym e)) ∙ h.1 c)
-  ]),
-)
+numbered_more n xs w r b lt h = grind (arith, common_steps, length-set, eqb_tells, get_or-set_same, get_or-set_other)
 
 pub held_more : (n : ℕ) (xs : List ℕ) (w : List (Role × ℕ)) (r : Role) (b : ℕ) → b < n → AreHeld n xs w
     → AreHeld n (set xs b (entry_number r)) ((r, b) ∷ w)
-held_more n xs w r b lt h = (
-  length-set xs b (entry_number r) ∙ h.0,
-  (λ c. elim (eqb_tells b c) [
-    | inl y ↦ rw (y.0, ← y.1) (get_or-set_same xs b (entry_number r) 0 (let l : length xs ≡ n = h.0 in omega arith))
-    | inr y ↦ rw y.0 (get_or-set_other xs b c (entry_number r) 0 (λ e. y.1 (sym e)) ∙ h.1 c)
-  ]),
-)
+held_more n xs w r b lt h = grind (arith, common_steps, length-set, eqb_tells, get_or-set_same, get_or-set_other)
 
 pub unowned_less : (xs : List Bool) (b : ℕ) → b < length xs → slice_index_or xs b false ≡ false → unowned xs ≡ suc (unowned (set xs b true))
 unowned_less [] b lt e = absurd (omega arith)
@@ -134,10 +84,7 @@ node_other (x ∷ xs) b zero ne = refl
 node_other (x ∷ xs) b (suc m) ne = node_other xs b m (λ e. ne (ap suc e))
 
 node_snoc : (xs : List ℕ) (b m : ℕ) → slice_index (xs ++ b ∷ []) m ≡ cond (m == length xs) b (slice_index xs m)
-node_snoc xs b m = elim (eqb_tells m (length xs)) [
-  | inl y ↦ rw y.0 (ap (slice_index (xs ++ b ∷ [])) y.1 ∙ node_here xs b)
-  | inr y ↦ rw y.0 (node_other xs b m y.1)
-]
+node_snoc xs b m = grind (arith, common_steps, eqb_tells, node_here, node_other)
 
 -- a part that comes next has the next number of its kind
 abbrev pub IsNumbered : List (Role × ℕ) → Role → Type 0
@@ -151,24 +98,7 @@ pub stands_but : (image : List ℕ) (f g : Found) (s : Course) (over : List (Rol
     → g ≡ record f { avoided = g.avoided; findings = g.findings; names = g.names } → Stands image f s
     → AreMarked (blocks image) g.avoided.items over → map finding_value g.findings.items ≡ fs
     → Stands image g (record { walk = s.walk; skipped = over; findings = fs })
-stands_but image f g s over fs rest st avoided findings =
-    subst (λ h. Stands image h (record { walk = s.walk; skipped = over; findings = fs })) (sym rest) (record {
-      taken = st.taken;
-      owned = st.owned;
-      owners = st.owners;
-      numbers = st.numbers;
-      avoided = avoided;
-      left = st.left;
-      node = st.node;
-      count = st.count;
-      few = st.few;
-      ext = st.ext;
-      findings = findings;
-      parent = st.parent;
-      parents = st.parents;
-      places = st.places;
-      datas = st.datas;
-    })
+stands_but image f g s over fs rest st avoided findings = grind (arith, common_steps)
 
 module _ (image : List ℕ) (f g : Found) (s : Course) (b : ℕ) (st : Stands image f s) where
   -- what of the walk is kept for later
@@ -184,46 +114,11 @@ module _ (image : List ℕ) (f g : Found) (s : Course) (b : ℕ) (st : Stands im
   same_later : (r : Role) → ((m c : ℕ) → node_block_of m r b c ≡ c) → head_count r (heads s.walk) ≡ heads s.walk → ((m c : ℕ) → ext_count_of m r c ≡ c)
       → ((m c : ℕ) → parent_by m r c ≡ c) → ((cs : List ChainPlace) → with_place r cs ≡ cs) → AreSame f g
       → IsLater ((r, b) ∷ s.walk)
-  same_later r node head ext parent place e = record {
-    node = (λ n. ap (λ v. slice_index v.items n) e.nodes ∙ (st.node n ∙ sym (node n (node_block s.walk n))));
-    count = ap (λ v. length v.items) e.nodes ∙ (st.count ∙ ap suc (sym head));
-    few = (let l = ap (λ v. length v.items) e.nodes in omega arith);
-    ext = (λ n. ap (λ m. unwrap_or (get nat_cmp m n) 0) e.exts ∙ (st.ext n ∙ sym (ext n (ext_count s.walk n))));
-    parent = (λ n. ap (λ v. slice_index v.items n) e.parents ∙ (st.parent n ∙ sym (parent n (parent_node s.walk n))));
-    parents = ap (λ v. length v.items) e.parents ∙ (st.parents ∙ ap suc (sym head));
-    places = ap (λ v. v.items) e.places ∙ (st.places ∙ sym (place (places_of s.walk)));
-  }
+  same_later r node head ext parent place e = grind (arith, common_steps)
 
   later : (part : Part) → IsNumbered s.walk (role_of part) → IsKept part b f g → IsLater ((role_of part, b) ∷ s.walk)
-  later (HeadPart n p t j) fit k =
-      let c : length f.nodes.items ≡ suc (heads s.walk) = st.count in
-      let e : length f.nodes.items ≡ n = c ∙ sym fit in
-      let d : length f.parents.items ≡ n = st.parents ∙ sym fit in
-      record {
-        node = (λ m. ap (λ v. slice_index v m) k.nodes ∙ (node_snoc f.nodes.items b m ∙ (λ t. cond (m == e t) b (st.node m t))));
-        count = (let l = ap length k.nodes in omega (arith, snoc_length f.nodes.items b));
-        few = (let l = ap length k.nodes in omega (arith, snoc_length f.nodes.items b));
-        ext = (λ m. ap (λ x. unwrap_or (get nat_cmp x m) 0) k.exts ∙ st.ext m);
-        parent = (λ m. ap (λ v. slice_index v m) k.parents ∙ (node_snoc f.parents.items p m ∙ (λ t. cond (m == d t) p (st.parent m t))));
-        parents = (let l = ap length k.parents in let g = fit in omega (arith, snoc_length f.parents.items p));
-        places = k.places ∙ ap (with_place (Head n p t j)) st.places;
-      }
-  later (ExtPart n i) fit k = record {
-    node = (λ m. ap (λ v. slice_index v.items m) k.nodes ∙ st.node m);
-    count = ap (λ v. length v.items) k.nodes ∙ st.count;
-    few = (let l = ap (λ v. length v.items) k.nodes in omega arith);
-    ext = (λ m. elim (eqb_tells m n) [
-      | inl y ↦
-          let one : is_eq (nat_cmp n m) ≡ true = (let e : m ≡ n = y.1 in grind (arith, nat_tests)) in
-          ap (λ o. unwrap_or o 0) (k.exts.0 m) ∙ rw (y.0, one) (fit ∙ ap (λ m. suc (ext_count s.walk m)) (sym y.1))
-      | inr y ↦
-          let one : is_eq (nat_cmp n m) ≡ false = (let e : m ≡ n → ⊥ = y.1 in grind (arith, nat_tests)) in
-          ap (λ o. unwrap_or o 0) (k.exts.0 m) ∙ rw (y.0, one) (st.ext m)
-    ]);
-    parent = (λ m. ap (λ v. slice_index v.items m) k.parents ∙ st.parent m);
-    parents = ap (λ v. length v.items) k.parents ∙ st.parents;
-    places = ap (λ v. v.items) k.places ∙ st.places;
-  }
+  later (HeadPart n p t j) fit k = grind (arith, common_steps, node_snoc, snoc_length)
+  later (ExtPart n i) fit k = grind (arith, common_steps, eqb_tells, nat_tests)
   later RootPart fit k = absurd fit
   later (PagePart i) fit k = same_later (Page i) (λ m c. refl) refl (λ m c. refl) (λ m c. refl) (λ cs. refl) k
   later (MapExtPart j) fit k = same_later (MapExt j) (λ m c. refl) refl (λ m c. refl) (λ m c. refl) (λ cs. refl) k
@@ -232,52 +127,20 @@ module _ (image : List ℕ) (f g : Found) (s : Course) (b : ℕ) (st : Stands im
   -- a part is taken
   pub stands_taken : (part : Part) → IsNumbered s.walk (role_of part) → b < blocks image → owns s.walk b ≡ false → IsTaken part b f g
       → Stands image g (record { walk = (role_of part, b) ∷ s.walk; skipped = s.skipped; findings = s.findings })
-  stands_taken part fit lt free t =
-      let o : IsOwned part b f g = t.owned in
-      let l = later part fit t.kept in
-      let less = unowned_less f.owned.items b (let e = st.owned.0 in omega arith) (st.owned.1 b lt ∙ free) in
-      let left : g.left ≡ unowned (set f.owned.items b true) = (let d = st.left in omega arith) in
-      record {
-        taken = taken_more f.taken g.taken s.walk part b o.taken st.taken;
-        owned = subst (λ xs. AreMarked (blocks image) xs ((role_of part, b) ∷ s.walk)) (sym o.owned)
-            (marked_more (blocks image) f.owned.items s.walk (role_of part) b st.owned);
-        owners = subst (λ xs. AreHeld (blocks image) xs ((role_of part, b) ∷ s.walk)) (sym o.owners)
-            (held_more (blocks image) f.owners.items s.walk (role_of part) b lt st.owners);
-        numbers = subst (λ xs. AreNumbered (blocks image) xs ((role_of part, b) ∷ s.walk)) (sym o.numbers)
-            (numbered_more (blocks image) f.numbers.items s.walk (role_of part) b lt st.numbers);
-        avoided = subst (λ v. AreMarked (blocks image) v.items s.skipped) (sym o.avoided) st.avoided;
-        left = left ∙ ap unowned (sym o.owned);
-        node = l.node;
-        count = l.count;
-        few = (let m = l.few in let d = st.few in omega arith);
-        ext = l.ext;
-        findings = ap (λ v. map finding_value v.items) o.findings ∙ st.findings;
-        parent = l.parent;
-        parents = l.parents;
-        places = l.places;
-        datas = o.datas ∙ ap (with_data (role_of part) b) st.datas;
-      }
+  stands_taken part fit lt free t = grind (arith, common_steps, later, unowned_less, set, taken_more, marked_more, held_more, numbered_more)
 
   -- what is taken stays so, whatever is skipped and reported
   stands_else : (over : List (Role × ℕ)) (fs : List FindingValue) → g ≡ record f { avoided = g.avoided; findings = g.findings }
       → AreMarked (blocks image) g.avoided.items over → map finding_value g.findings.items ≡ fs
       → Stands image g (record { walk = s.walk; skipped = over; findings = fs })
-  stands_else over fs rest avoided findings =
-      subst (λ h. Stands image h (record { walk = s.walk; skipped = over; findings = fs })) (sym rest)
-      (stands_but image f (record f { avoided = g.avoided; findings = g.findings }) s over fs refl st avoided findings)
+  stands_else over fs rest avoided findings = grind (arith, common_steps, stands_but)
 
   -- a part is skipped
   pub stands_skipped : (r : Role) → IsBlockSkipped b f g
       → Stands image g (record { walk = s.walk; skipped = (r, b) ∷ s.skipped; findings = s.findings })
-  stands_skipped r t =
-      stands_else ((r, b) ∷ s.skipped) s.findings t.rest
-      (subst (λ xs. AreMarked (blocks image) xs ((r, b) ∷ s.skipped)) (sym t.avoided)
-      (marked_more (blocks image) f.avoided.items s.skipped r b st.avoided)) (ap (λ v. map finding_value v.items) t.findings ∙ st.findings)
+  stands_skipped r t = grind (arith, common_steps, stands_else, marked_more)
 
   -- a finding is reported
   pub stands_reported : (x : Finding) → IsReported x f g
       → Stands image g (record { walk = s.walk; skipped = s.skipped; findings = s.findings ++ finding_value x ∷ [] })
-  stands_reported x t =
-      stands_else s.skipped (s.findings ++ finding_value x ∷ []) t.rest
-      (subst (λ v. AreMarked (blocks image) v.items s.skipped) (sym t.avoided) st.avoided)
-      (ap (map finding_value) t.findings ∙ (map-append finding_value f.findings.items (x ∷ []) ∙ ap (λ fs. fs ++ finding_value x ∷ []) st.findings))
+  stands_reported x t = grind (arith, common_steps, stands_else, map-append)

@@ -5,6 +5,7 @@ use Rattle.std.specs.List.{All, list_all}
 use Rattle.std.proofs.lemmas.Bool.{and_from, and_parts}
 use Rattle.std.proofs.lemmas.Bool.Decides.{nat_tests}
 use Rattle.std.proofs.lemmas.List.Elements.{All-cons, All-head, All-nil, All-tail}
+use Rattle.std.proofs.lemmas.Grind.{common_steps}
 use Rattle.adf_tree.specs.Escapes.{hex_digit}
 use Rattle.adf_manifest.specs.Tokens.{LacksByte}
 use Rattle.adf_manifest.specs.Texts.{digit, hex_word, is_digit, pair, pairs, unpaired, AreDigits}
@@ -12,10 +13,7 @@ use Rattle.adf_tree.proofs.Spellings.{same_digits}
 
 -- the digits of a byte at the head of a text are of one byte
 pub one_pair : (a b : ℕ) (x y : List ℕ) → a < 256 → b < 256 → pair a ++ x ≡ pair b ++ y → (a ≡ b) × (x ≡ y)
-one_pair a b x y h g e =
-    let high : hex_digit (a / 16) ≡ hex_digit (b / 16) = cc in
-    let low : hex_digit (a % 16) ≡ hex_digit (b % 16) = cc in
-    (same_digits a b h g high low, cc)
+one_pair a b x y h g e = grind (arith, common_steps, same_digits)
 
 digit_hex : (d : ℕ) → d < 16 → digit (hex_digit d) ≡ d
 digit_hex d h = grind (arith, nat_tests)
@@ -83,10 +81,7 @@ no_space : (d : ℕ) → d < 16 → (hex_digit d == 32) ≡ false
 no_space d h = grind (arith, nat_tests)
 
 pub pair_lacks : (b : ℕ) (rest : List ℕ) → b < 256 → LacksByte 32 rest → LacksByte 32 (pair b ++ rest)
-pair_lacks b rest h a =
-    let P : ℕ → Type 0 = λ x. (x == 32) ≡ false in
-    All-cons P (hex_digit (b / 16)) (hex_digit (b % 16) ∷ rest) (no_space (b / 16) (omega arith))
-    (All-cons P (hex_digit (b % 16)) rest (no_space (b % 16) (omega arith)) a)
+pair_lacks b rest h a = grind (arith, common_steps, no_space)
 
 pub word_lacks : (w : ℕ) → LacksByte 32 (hex_word w)
 word_lacks w =
@@ -116,10 +111,7 @@ pub unpaired_at : (text : List ℕ) (i a b : ℕ) → a ≡ 2 * i → b ≡ 2 * 
     → get_or (unpaired text) i 0 ≡ 16 * digit (get_or text a 0) + digit (get_or text b 0)
 unpaired_at [] i a b even odd lt = absurd (omega (arith, lt))
 unpaired_at (high ∷ []) i a b even odd lt = absurd (omega (arith, lt))
-unpaired_at (high ∷ low ∷ rest) zero a b even odd lt =
-    let x : a ≡ 0 = omega (arith, even) in
-    let y : b ≡ 1 = omega (arith, odd) in
-    rw (x, y) refl
+unpaired_at (high ∷ low ∷ rest) zero a b even odd lt = grind (arith, common_steps)
 unpaired_at (high ∷ low ∷ rest) (suc i) a b even odd lt =
     let x : a ≡ suc (suc (2 * i)) = omega (arith, even) in
     let y : b ≡ suc (suc (2 * i + 1)) = omega (arith, odd) in

@@ -1,5 +1,5 @@
 -- A manifest has no fault, and lines have at most one first fault.
-use Rattle.std.proofs.Common.{◌≡◌, ◌<◌, ◌≤◌, ◌+◌, ◌++◌, ◌∙◌, ◌⊎◌, inl, inr, ℕ, zero, suc, true, false, List, [], ◌∷◌, Result, Ok, Err, refl, sym, ap, subst}
+use Rattle.std.proofs.Common.{◌≡◌, ◌<◌, ◌≤◌, ◌+◌, ◌++◌, ◌∙◌, ◌⊎◌, inl, inr, ℕ, zero, suc, true, List, [], ◌∷◌, Result, Ok, Err, refl, sym, ap, subst}
 use Rattle.std.proofs.Common.{arith, length, length-append, take, drop}
 use Rattle.std.specs.Prelude.{IsOk}
 use Rattle.std.proofs.lemmas.Bool.{cases_order}
@@ -13,6 +13,7 @@ use Rattle.adf_blocks.specs.Sizes.{is_allowed}
 use Rattle.adf_manifest.specs.Lines.{IsLine, LineValue, LabelLine, StampsLine, EntryLine, NoteLine, RunLine, line_text, volume_line}
 use Rattle.adf_manifest.specs.Items.{item_lines}
 use Rattle.std.specs.List.{flat_map}
+use Rattle.std.proofs.lemmas.Grind.{common_steps}
 use Rattle.adf_manifest.specs.Manifest.{EndsInFile, HasBadText, HasFault, HasFaultOf, HasNoRoom, IsBare, IsFirstFault, IsLaterFault, IsWell}
 use Rattle.adf_manifest.specs.Manifest.{Manifest, MayStandNext, MayStand, items_of, label_lines, manifest_lines, manifest_tree, stamps_lines}
 use Rattle.adf_manifest.specs.declared.manifest.ManifestKind.{ManifestKind}
@@ -134,10 +135,7 @@ later_good m n text rest kind w v e f =
 -- a first line of an allowed size has no fault
 first_good : (kind' : Kind) (n' : ℕ) (line : List ℕ) (kind : ManifestKind) → is_allowed n' ≡ true → line ≡ volume_line kind' n' → IsFirstFault line kind → ⊥
 first_good kind' n' line BadLine h e f = f (kind', n', small n' h, e)
-first_good kind' n' line BadSize h e f =
-    let same = (one_volume f.0 kind' f.1 n' f.2 (small n' h) (sym f.3 ∙ e)).1 in
-    let bad : true ≡ false = sym h ∙ ap is_allowed (sym same) ∙ f.4 in
-    absurd cc
+first_good kind' n' line BadSize h e f = grind (arith, common_steps, one_volume, small)
 first_good kind' n' line kind h e f = f
 
 -- the lines of a manifest begin with its volume line
@@ -147,17 +145,12 @@ volume_first m = ((label_lines m.preamble.label ++ stamps_lines m.preamble.stamp
 mixed : (all : List (List ℕ)) (text : List ℕ) (rest : List (List ℕ)) (kind : ManifestKind) (m : Manifest) (more : List (List ℕ)) → all ≡ text ∷ rest
     → IsFirstFault text kind → IsWell m → all ≡ manifest_lines m ++ more → ⊥
 unfolding volume_first
-mixed all text rest kind m more e f w g =
-    let first = volume_first m in
-    first_good m.preamble.kind m.preamble.blocks text kind w.preamble.size (heads (sym e ∙ g)) f
+mixed all text rest kind m more e f w g = grind (arith, common_steps, volume_first, first_good, heads)
 
 -- a manifest has no fault
 pub faultless : (m : Manifest) (all : List (List ℕ)) (number : ℕ) (kind : ManifestKind) → IsWell m → all ≡ manifest_lines m → HasFault all number kind → ⊥
 unfolding volume_first
-faultless m all number kind w e (inl f) =
-    let first = volume_first m in
-    first_good m.preamble.kind m.preamble.blocks f.text kind w.preamble.size
-    (heads (sym f.lines ∙ e)) f.fault
+faultless m all number kind w e (inl f) = grind (arith, common_steps, volume_first, first_good, heads)
 faultless m all number kind w e (inr f) = later_good f.before m f.text f.rest kind f.well w (sym e ∙ f.lines) f.fault
 
 -- a line has not both a bad text and no room
@@ -214,9 +207,7 @@ fronts xs ys r r' e h = (
 
 -- lines have one first fault at most
 pub one_fault : (all : List (List ℕ)) (n n' : ℕ) (k k' : ManifestKind) → HasFault all n k → HasFault all n' k' → (n ≡ n') × (k ≡ k')
-one_fault all n n' k k' (inl f) (inl g) =
-    let same = heads (sym f.lines ∙ g.lines) in
-    (f.place ∙ sym g.place, one_first_kind g.text k k' (subst (λ l. IsFirstFault l k) same f.fault) g.fault)
+one_fault all n n' k k' (inl f) (inl g) = grind (arith, common_steps, heads, one_first_kind)
 one_fault all n n' k k' (inl f) (inr g) = absurd (mixed all f.text f.rest k g.before (g.text ∷ g.rest) f.lines f.fault g.well g.lines)
 one_fault all n n' k k' (inr f) (inl g) = absurd (mixed all g.text g.rest k' f.before (f.text ∷ f.rest) g.lines g.fault f.well f.lines)
 one_fault all n n' k k' (inr f) (inr g) =

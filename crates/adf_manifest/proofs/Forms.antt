@@ -1,9 +1,9 @@
 -- A text has at most one form, and one content.
 use Rattle.std.proofs.Common.{◌≡◌, ◌<◌, ◌^◌, ◌+◌, ◌*◌, ◌==◌, ◌∙◌, ℕ, false, List, [], refl, sym, ap, arith, codes, slice_index}
-use Rattle.std.specs.Fmt.{decimal}
 use Rattle.std.proofs.lemmas.Fmt.{decimal_injective}
 use Rattle.std.proofs.lemmas.Bool.Decides.{nat_tests}
 use Rattle.std.proofs.lemmas.List.{append_cancel_left}
+use Rattle.std.proofs.lemmas.Grind.{common_steps}
 use Rattle.adf_base.specs.Dates.{plain_text, IsStamp}
 use Rattle.adf_base.specs.declared.dates.Stamp.{Stamp}
 use Rattle.adf_tree.specs.declared.entry.Stamps.{Stamps}
@@ -25,10 +25,7 @@ stamp_same : (s t : Stamp) → s.days ≡ t.days → s.mins ≡ t.mins → s.tic
 stamp_same s t d m k = of_three (λ d m k. record { days = d; mins = m; ticks = k }) d m k
 
 pub one_stamp : (s t : Stamp) → IsStamp s → IsStamp t → plain_text s ≡ plain_text t → s ≡ t
-one_stamp s t g h e =
-    let parts = stamp_parts t (refl, colon_lacks s.days g.days, colon_lacks s.mins g.mins) h e in
-    let same : (a b : ℕ) → a < 2 ^ 32 → b < 2 ^ 32 → decimal a ≡ decimal b → a ≡ b = λ a b x y q. decimal_injective a b (omega arith) (omega arith) q in
-    stamp_same s t (same s.days t.days g.days h.days parts.0) (same s.mins t.mins g.mins h.mins parts.1) (same s.ticks t.ticks g.ticks h.ticks parts.2)
+one_stamp s t g h e = grind (arith, common_steps, stamp_parts, colon_lacks, decimal_injective, stamp_same)
 
 stamps_same : (s t : Stamps) → s.root ≡ t.root → s.altered ≡ t.altered → s.created ≡ t.created → s ≡ t
 stamps_same s t r a k = of_three (λ r a k. record { root = r; altered = a; created = k }) r a k

@@ -1,10 +1,10 @@
 -- A manifest with one more line.
-use Rattle.std.proofs.Common.{◌≡◌, ◌++◌, ◌∙◌, ℕ, List, [], ◌∷◌, Option, Some, None, refl, sym, subst}
+use Rattle.std.proofs.Common.{◌≡◌, ◌++◌, ℕ, List, [], ◌∷◌, Option, Some, None, refl, sym, subst, arith}
 use Rattle.std.specs.Prelude.{IfSome, IsOk}
 use Rattle.std.specs.List.{All, flat_map}
 use Rattle.std.proofs.lemmas.List.{append_assoc, append-nil, map-append}
 use Rattle.std.proofs.lemmas.List.Elements.{All-push}
-use Rattle.std.proofs.lemmas.Grind.{flat_map-append}
+use Rattle.std.proofs.lemmas.Grind.{flat_map-append, common_steps}
 use Rattle.adf_tree.specs.Escapes.{escaped}
 use Rattle.adf_tree.specs.Tree.{Tree, room_for}
 use Rattle.adf_base.specs.declared.dates.Stamp.{Stamp}
@@ -93,8 +93,7 @@ item_with i comment runs g h r p = record { stamp = g.stamp; protect = g.protect
 
 -- an entry with a note: its lines, and its limits
 pub noted_lines : (i : Item) (note : List ℕ) → i.note ≡ None → i.runs ≡ [] → item_lines (noted i note) ≡ item_lines i ++ note_line (escaped note) ∷ []
-noted_lines i note e g =
-    rw (e, g)
+noted_lines i note e g = grind (arith, common_steps)
 
 pub noted_is : (i : Item) (note : List ℕ) → IsItem i → IsGivenNote note → IsItem (noted i note)
 noted_is i note g h = item_with i (Some note) i.runs g h g.runs g.plain
@@ -104,8 +103,7 @@ pub with_run_lines : (i : Item) (run : RunValue) → item_lines (with_run i run)
 with_run_lines i run = simp (map-append, append_assoc)
 
 pub with_run_is : (i : Item) (run : RunValue) → IsItem i → i.sort ≡ File → IsRun run → IsItem (with_run i run)
-with_run_is i run g e h =
-    item_with i i.note (i.runs ++ run ∷ []) g g.note (All-push IsRun i.runs run g.runs h) (λ d. let clash : File ≡ Dir = sym e ∙ d in cc)
+with_run_is i run g e h = grind (arith, common_steps, item_with)
 
 pub with_run_bytes : (i : Item) (run : RunValue) → bytes_of_runs (with_run i run).runs ≡ bytes_of_runs i.runs ++ run_bytes run
 with_run_bytes i run = simp (flat_map-append, append-nil)

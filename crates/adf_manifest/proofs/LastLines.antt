@@ -3,6 +3,7 @@ use Rattle.std.proofs.Common.{◌≡◌, ◌≢◌, ◌<◌, ◌++◌, ◌∙◌
 use Rattle.std.specs.Prelude.{IsOk}
 use Rattle.std.specs.List.{All}
 use Rattle.std.proofs.lemmas.List.{append-nil}
+use Rattle.std.proofs.lemmas.Grind.{common_steps}
 use Rattle.adf_tree.specs.Escapes.{IsSpelling, escaped}
 use Rattle.adf_tree.specs.PathTexts.{IsName, IsPathText, path_text}
 use Rattle.adf_tree.specs.Tree.{room_for}
@@ -13,7 +14,7 @@ use Rattle.adf_tree.proofs.PathParts.{empty_path}
 use Rattle.adf_manifest.specs.Lines.{IsLine, IsRun, LineValue, LabelLine, StampsLine, EntryLine, NoteLine, RunLine, RunValue, line_text, run_line}
 use Rattle.adf_manifest.specs.Lines.{stamps_line, note_line}
 use Rattle.adf_manifest.specs.Items.{HaveRoom, IsGivenNote, IsItem, Item, items_tree}
-use Rattle.adf_manifest.specs.Manifest.{Entries, IsPreamble, IsWell, Manifest, preamble_lines, preamble_tree, label_lines, items_of, manifest_lines}
+use Rattle.adf_manifest.specs.Manifest.{Entries, IsPreamble, IsWell, Manifest, preamble_lines, preamble_tree, items_of, manifest_lines}
 use Rattle.adf_manifest.specs.Manifest.{manifest_tree, EndsInFile, IsBare, MayStand}
 use Rattle.adf_manifest.specs.Reader.{bare}
 use Rattle.adf_base.specs.declared.dates.Stamp.{Stamp}
@@ -104,8 +105,7 @@ filled [] h = absurd (omega arith)
 filled (c ∷ cs) h = filled_list (escaped (c ∷ cs)) (spelling_some c (escaped cs))
 
 stamps_behind : (h : Preamble) (stamps : Stamps) → h.stamps ≡ None → preamble_lines (with_stamps h stamps) ≡ preamble_lines h ++ stamps_line stamps ∷ []
-stamps_behind h stamps e =
-    rw (e, append-nil (label_lines h.label))
+stamps_behind h stamps e = grind (arith, common_steps, append-nil)
 
 pub last_of_preamble : (kind : Kind) (blocks : ℕ) (label : Option (List ℕ)) (stamps : Option Stamps) → let h : Preamble =
     record { kind = kind; blocks = blocks; label = label; stamps = stamps } in IsPreamble h → IsFirst (bare h) ⊎ IsNext (bare h)
@@ -143,11 +143,7 @@ entries_are : (m : Manifest) (e : Entries) (before : List Item) (comment : Optio
     → e.last.note ≡ comment → e.last.runs ≡ runs
     → let n : Manifest = record { preamble = m.preamble; entries = Some (record { before = before; last = record e.last { note = comment; runs = runs } }) }
     in m ≡ n
-entries_are m e before comment runs is b n r =
-    let by_entries : Option Entries → Manifest = λ x. record { preamble = m.preamble; entries = x } in
-    let by_parts : List Item → Option (List ℕ) → List RunValue → Manifest =
-    λ b n r. by_entries (Some (record { before = b; last = record e.last { note = n; runs = r } })) in
-    ap by_entries is ∙ of_three by_parts b n r
+entries_are m e before comment runs is b n r = grind (arith, common_steps, of_three)
 
 not_dir : (i : Item) (run : RunValue) (runs : List RunValue) → IsItem i → i.runs ≡ runs ++ run ∷ [] → (s : Sort) → i.sort ≡ s → s ≡ File
 not_dir i run runs g e File is = refl
@@ -156,9 +152,7 @@ not_dir i run runs g e Dir is = absurd (no_end runs run (sym e ∙ g.plain is))
 -- the same entry with the lines of its bytes but the last
 less_is : (i : Item) (run : RunValue) (runs : List RunValue) → IsItem i → i.runs ≡ runs ++ run ∷ [] → i.sort ≡ File → let j : Item =
     record i { runs = runs } in IsItem j × IsRun run
-less_is i run runs g e f =
-    let all = last_off IsRun runs run (subst (All IsRun) e g.runs) in
-    (item_with i i.note runs g g.note all.0 (λ d. let clash : File ≡ Dir = sym f ∙ d in cc), all.1)
+less_is i run runs g e f = grind (arith, common_steps, last_off, item_with)
 
 -- the last line of a manifest with entries
 last_run : (m : Manifest) (e : Entries) (runs : List RunValue) (run : RunValue) → IsWell m → m.entries ≡ Some e → e.last.runs ≡ runs ++ run ∷ [] → IsNext m

@@ -1,5 +1,5 @@
 -- Laws of a manifest's lines and of their faults.
-use Rattle.std.proofs.Common.{◌≡◌, ◌≤◌, ◌+◌, ◌==◌, ◌++◌, ◌∙◌, ℕ, List, [], ◌∷◌, refl, sym, ap, arith, length, append_assoc}
+use Rattle.std.proofs.Common.{◌≡◌, ◌≤◌, ◌+◌, ◌==◌, ◌++◌, ◌∙◌, ℕ, List, [], ◌∷◌, refl, ap, arith, length}
 use Rattle.std.proofs.lemmas.List.Sums.{count_by-le-length}
 use Rattle.std.proofs.lemmas.List.Splits.{length-slice_split, slice_split_at, slice_split_none}
 use Rattle.adf_manifest.specs.Tokens.{LacksByte}
@@ -14,7 +14,3 @@ parts_whole text h = slice_split_none (λ c. c == 10) text h
 -- there are no more lines than bytes and one
 pub parts_few : (text : List ℕ) → length (between_feeds text) ≤ length text + 1
 parts_few text = omega (arith, length-slice_split (λ c. c == 10) text, count_by-le-length (λ c. c == 10) text)
-
--- the lines that are read, when one more is
-pub one_more : (all front front' behind : List (List ℕ)) (line : List ℕ) → all ≡ front ++ line ∷ behind → front' ≡ front ++ line ∷ [] → all ≡ front' ++ behind
-one_more all front front' behind line e g = e ∙ sym (append_assoc front (line ∷ []) behind) ∙ ap (λ l. l ++ behind) (sym g)

@@ -1,6 +1,6 @@
 -- The state of the reader after one more line.
 use Rattle.std.proofs.Common.{◌≡◌, ◌≤◌, inl, inr, ◌<◌, ◌++◌, ◌∙◌, ℕ, List, [], ◌∷◌, Option, Some, None, refl, sym, ap, subst, arith, length, length-append}
-use Rattle.std.specs.Prelude.{IsOk, IfErr, IfOk, Result, Ok, Err, is_some, false}
+use Rattle.std.specs.Prelude.{IsOk, IfErr, Result, Ok, Err, is_some, false}
 use Rattle.std.specs.List.{All}
 use Rattle.std.proofs.lemmas.List.{append-nil, length-replicate}
 use Rattle.std.proofs.lemmas.List.Elements.{All-head, All-nil}
@@ -27,11 +27,6 @@ use Rattle.adf_manifest.specs.declared.manifest.ManifestKind.{ManifestKind}
 use Rattle.adf_manifest.specs.declared.manifest.ManifestKind.TheVariants.{BadLine, NoMemory, TooLong}
 use Rattle.adf_manifest.proofs.Growth.{with_run, with_run_is, with_run_lines, last_is, last_lines, last_well, new_item, new_lines, new_well, noted, noted_is}
 use Rattle.adf_manifest.proofs.Growth.{noted_lines, room_none, tree_more, tree_none, with_last, with_new}
-
--- what holds of the value of an Ok, weaker
-pub if_ok_weaker : {T E : Type 0} {P Q : T → Type 0} (r : Result T E) → ((x : T) → P x → Q x) → IfOk r P → IfOk r Q
-if_ok_weaker (Ok x) f p = f x p
-if_ok_weaker (Err e) f p = tt
 
 pub bare_well : (h : Preamble) → IsPreamble h → IsWell (bare h)
 bare_well h g = record { preamble = g; items = All-nil IsItem; room = room_none (preamble_tree h) }

@@ -1,5 +1,5 @@
 -- Laws of parts of lines: cuts at a byte, numbers in decimal, stamps.
-use Rattle.std.proofs.Common.{◌≡◌, ◌-◌, ◌+◌, ◌≢◌, inl, inr, ◌≤◌, ◌<◌, ◌^◌, ◌==◌, ◌&&◌, ◌||◌, not, ◌++◌, ◌∙◌, ℕ, Bool, true, false, nat_lt, List, ◌∷◌, []}
+use Rattle.std.proofs.Common.{◌≡◌, ◌-◌, ◌+◌, ◌≢◌, ◌≤◌, ◌<◌, ◌^◌, ◌==◌, ◌&&◌, ◌||◌, not, ◌++◌, ◌∙◌, ℕ, Bool, true, false, nat_lt, List, ◌∷◌, []}
 use Rattle.std.proofs.Common.{Option, Some, None, Result, Ok, IfNone, refl, sym, ap, subst, arith, rules, length, slice_index, slice_index_or, length-append}
 use Rattle.std.proofs.Common.{drop, take, take-append-drop, IfSome, MatchOption, nat_eq}
 use Rattle.std.proofs.Math.Seq.{get_or-append_seam}
@@ -17,6 +17,7 @@ use Rattle.std.proofs.lemmas.List.Elements.{All-append, All-cons, All-from_get_o
 use Rattle.std.proofs.lemmas.List.Splits.{slice_split_at}
 use Rattle.std.proofs.lemmas.Str.{IsUtf8-from_ascii}
 use Rattle.std.proofs.lemmas.Str.Parse.{IsNumeralModel, digit_at, numerals_by_value, parse_plain, tells_digits}
+use Rattle.std.proofs.lemmas.Grind.{common_steps}
 use Rattle.adf_base.specs.Dates.{plain_text, IsStamp}
 use Rattle.adf_base.specs.declared.dates.Stamp.{Stamp}
 use Rattle.adf_tree.specs.declared.entry.Stamps.{Stamps}
@@ -54,10 +55,7 @@ CutTwice c text x y z = (text ≡ x ++ c ∷ (y ++ c ∷ z)) × LacksByte c x ×
 
 -- and so in one way
 pub one_cut_twice : (c : ℕ) (text x y z a b d : List ℕ) → CutTwice c text x y z → CutTwice c text a b d → (x ≡ a) × (y ≡ b) × (z ≡ d)
-one_cut_twice c text x y z a b d (e, hx, hy) (g, ha, hb) =
-    let first = one_cut c x (y ++ c ∷ z) a (b ++ c ∷ d) hx ha (sym e ∙ g) in
-    let second = one_cut c y z b d hy hb first.1 in
-    (first.0, second.0, second.1)
+one_cut_twice c text x y z a b d (e, hx, hy) (g, ha, hb) = grind (arith, common_steps, one_cut)
 
 -- a number in decimal has no other byte than digits
 decimal_lacks : (c n : ℕ) → ((d : ℕ) → 48 ≤ d → d ≤ 57 → (d == c) ≡ false) → n < 2 ^ 32 → LacksByte c (decimal n)
@@ -92,25 +90,14 @@ own = numerals_by_value (AllDigits 10) tells_digits
 
 -- what the test of the front says of a length and a first byte
 front_true : (n first : ℕ) → 0 < n → first ≢ 43 → (first ≡ 48 → n ≡ 1) → (nat_lt 0 n && (not (first == 43) && (not (first == 48) || (n == 1)))) ≡ true
-front_true n first h p z =
-    elim (cases_eq first 48) [
-      | inl e ↦ let one = z e in grind (arith, nat_tests)
-      | inr ne ↦ grind (arith, nat_tests)
-    ]
+front_true n first h p z = grind (arith, common_steps, cases_eq, nat_tests)
 
 front_told : (n first : ℕ) → (nat_lt 0 n && (not (first == 43) && (not (first == 48) || (n == 1)))) ≡ true → (0 < n) × (first ≢ 43) × (first ≡ 48 → n ≡ 1)
 front_told n first h = (grind (arith, nat_tests), (λ e. grind (arith, nat_tests)), (λ e. grind (arith, nat_tests)))
 
 decimal_front : (n : ℕ) → n < 2 ^ 32 → has_number_front (decimal n) ≡ true
 decimal_front n h =
-    let numeral = decimal_is_IsNumeral n (omega arith) in
-    let filled = decimal_nonempty n (omega arith) in
-    let first = digit_at (decimal n) 0 numeral.0.1 filled in
-    front_true (length (decimal n)) (slice_index (decimal n) 0) filled (λ e. omega (arith, first.0))
-    (λ e. elim (cases_lt 0 n) [
-      | inl pos ↦ absurd (omega (arith, first_decimal n pos (omega arith)))
-      | inr zero ↦ ap length (decimal_digit n (omega arith))
-    ])
+    grind (arith, common_steps, decimal_is_IsNumeral, decimal_nonempty, digit_at, front_true, slice_index, cases_lt, first_decimal, decimal_digit)
 
 -- what parse reads of a text with the front of a number
 pub number_is : {E : Type 0} (text : List ℕ) (n : ℕ) (r : Result ℕ E) → has_number_front text ≡ true → ParsesUnsigned 32 10 text r → r ≡ Ok n
@@ -123,9 +110,7 @@ number_is text n r front h e =
     sym (decimal-digits_value own text ok.0.0 told.0 told.2 (let small = ok.0.2 in omega arith)) ∙ ap decimal (sym ok.1)
 
 pub no_number_front : (text : List ℕ) → has_number_front text ≡ false → (n : ℕ) → n < 2 ^ 32 → text ≢ decimal n
-no_number_front text h n lt e =
-    let bad : true ≡ false = sym (decimal_front n lt) ∙ ap has_number_front (sym e) ∙ h in
-    absurd cc
+no_number_front text h n lt e = grind (arith, common_steps, decimal_front)
 
 pub number_utf8 : (text : List ℕ) (n : ℕ) → n < 2 ^ 32 → text ≡ decimal n → IsUtf8 text
 number_utf8 text n lt e = subst IsUtf8 (sym e) (IsUtf8-from_ascii (decimal n) (IsAscii-decimal n (omega arith)))

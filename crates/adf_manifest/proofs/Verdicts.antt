@@ -1,14 +1,13 @@
 -- A manifest has one verdict: one tree and number of blocks, or one first fault.
-use Rattle.std.proofs.Common.{◌≡◌, ◌<◌, ◌≤◌, ◌^◌, ◌∙◌, inl, inr, ℕ, zero, suc, true, List, [], ◌∷◌, Option, Some, None, refl, sym, ap, subst, arith}
+use Rattle.std.proofs.Common.{◌≡◌, ◌<◌, ◌≤◌, ◌^◌, ◌∙◌, inl, inr, ℕ, zero, suc, true, List, [], ◌∷◌, Option, Some, None, sym, ap, subst, arith}
 use Rattle.std.proofs.Common.{length, length-append, codes, slice_index}
-use Rattle.std.specs.Fmt.{decimal}
 use Rattle.std.proofs.lemmas.Bool.Decides.{nat_tests}
 use Rattle.std.proofs.lemmas.Fmt.{decimal_injective}
 use Rattle.std.proofs.lemmas.List.{append_cancel_left, same_from_push}
+use Rattle.std.proofs.lemmas.Grind.{common_steps}
 use Rattle.adf_tree.specs.Escapes.{IsSpelling}
 use Rattle.adf_tree.specs.declared.entry.Kind.{Kind}
 use Rattle.adf_tree.specs.declared.entry.Kind.TheVariants.{Ofs, Ffs}
-use Rattle.adf_tree.specs.declared.entry.Stamps.{Stamps}
 use Rattle.adf_tree.proofs.Spellings.{only_spelled}
 use Rattle.adf_tree.proofs.PathParts.{one_path}
 use Rattle.adf_blocks.specs.Sizes.{is_allowed}
@@ -30,10 +29,8 @@ small n h = grind (arith, nat_tests)
 
 -- a volume line has one kind and one number
 pub one_volume : (kind kind' : Kind) (n n' : ℕ) → n < 2 ^ 32 → n' < 2 ^ 32 → volume_line kind n ≡ volume_line kind' n' → (kind ≡ kind') × (n ≡ n')
-one_volume Ofs Ofs n n' h h' e =
-    (refl, decimal_injective n n' (omega arith) (omega arith) (append_cancel_left (codes "volume ofs ") (decimal n) (decimal n') e))
-one_volume Ffs Ffs n n' h h' e =
-    (refl, decimal_injective n n' (omega arith) (omega arith) (append_cancel_left (codes "volume ffs ") (decimal n) (decimal n') e))
+one_volume Ofs Ofs n n' h h' e = grind (arith, common_steps, decimal_injective, append_cancel_left, codes)
+one_volume Ffs Ffs n n' h h' e = grind (arith, common_steps, decimal_injective, append_cancel_left, codes)
 one_volume Ofs Ffs n n' h h' e = let bad : 111 ≡ 102 = ap (λ t. slice_index t 7) e in absurd (omega (arith, bad))
 one_volume Ffs Ofs n n' h h' e = let bad : 102 ≡ 111 = ap (λ t. slice_index t 7) e in absurd (omega (arith, bad))
 
@@ -55,30 +52,20 @@ one_adds m n n' (RunLine run) g h = rw (g.told, one_entries m.entries g.some h.s
 
 -- a manifest of one line
 pub first_lines : (n : Manifest) → IsFirst n → manifest_lines n ≡ volume_line n.preamble.kind n.preamble.blocks ∷ []
-first_lines n f =
-    rw (f.entries, f.label, f.stamps)
+first_lines n f = grind (arith, common_steps)
 
 first_is : (n : Manifest) → IsFirst n → let h : Preamble = record { kind = n.preamble.kind; blocks = n.preamble.blocks; label = None; stamps = None } in n ≡
     bare h
-first_is n f =
-    let by : Option (List ℕ) → Option Stamps → Option Entries → Manifest =
-    λ l s e. record { preamble = record { kind = n.preamble.kind; blocks = n.preamble.blocks; label = l; stamps = s }; entries = e } in
-    ap (λ e. by n.preamble.label n.preamble.stamps e) f.entries ∙ ap (λ l. by l n.preamble.stamps None) f.label ∙ ap (λ s. by None s None) f.stamps
+first_is n f = grind (arith, common_steps)
 
 same_first : (m n : Manifest) → IsWell m → IsWell n → IsFirst m → IsFirst n → manifest_lines m ≡ manifest_lines n → m ≡ n
-same_first m n w v f g e =
-    let line = heads (sym (first_lines m f) ∙ e ∙ first_lines n g) in
-    let by : Kind → ℕ → Manifest = λ k b. bare (record { kind = k; blocks = b; label = None; stamps = None }) in
-    let same = one_volume m.preamble.kind n.preamble.kind m.preamble.blocks n.preamble.blocks (small m.preamble.blocks w.preamble.size)
-    (small n.preamble.blocks v.preamble.size) line in
-    first_is m f ∙ ap (λ k. by k m.preamble.blocks) same.0 ∙ ap (λ b. by n.preamble.kind b) same.1 ∙ sym (first_is n g)
+same_first m n w v f g e = grind (arith, common_steps, heads, first_lines, one_volume, small, first_is)
 
 pub some_lines : (m : Manifest) → 0 < length (manifest_lines m)
 some_lines m = omega arith
 
 longer : (m n : Manifest) → IsFirst m → IsNext n → manifest_lines m ≡ manifest_lines n → ⊥
-longer m n f g e =
-    omega (arith, ap length (sym (first_lines m f) ∙ e ∙ g.lines), length-append (manifest_lines g.before) (line_text g.last ∷ []), some_lines g.before)
+longer m n f g e = grind (arith, common_steps, first_lines, length-append, some_lines)
 
 -- manifests of the same lines tell the same
 same_told : (f : ℕ) (m n : Manifest) → length (manifest_lines m) ≤ f → IsWell m → IsWell n → manifest_lines m ≡ manifest_lines n → m ≡ n

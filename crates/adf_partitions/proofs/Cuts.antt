@@ -1,7 +1,7 @@
 -- Texts that are read byte after byte. xs is a text, i the number of bytes that were read, x the next one.
 use Rattle.std.proofs.Common.{◌≡◌, ◌≢◌, ◌<◌, ◌≤◌, ◌+◌, ◌-◌, ◌*◌, ◌∙◌, ℕ, suc, Bool, true, false, List, [], ◌∷◌, ◌++◌, Some, None, length, get_or}
 use Rattle.std.proofs.Common.{take, drop, ap, refl, sym, arith}
-use Rattle.std.proofs.Common.{append-nil, append_assoc, length-drop}
+use Rattle.std.proofs.Common.{append-nil, append_assoc}
 use Rattle.std.specs.Prelude.{◌==◌, ◌&&◌, nat_le, if◌then◌else◌}
 use Rattle.std.proofs.lemmas.Bool.Decides.{nat_tests}
 use Rattle.std.proofs.lemmas.List.{drop_all, take_all, take_more}
@@ -20,9 +20,6 @@ module _ (c : ℕ) (xs : List ℕ) (i : ℕ) where
   pub record IsCutLater : Type 0 where
     pub front : before c xs ≡ take i xs ++ before c (drop i xs)
     pub rest : behind c xs ≡ behind c (drop i xs)
-
-pub cut_begun : (c : ℕ) (xs : List ℕ) → IsCutLater c xs 0
-cut_begun c xs = record { front = refl; rest = refl }
 
 front_other : (c x : ℕ) (xs : List ℕ) → (x == c) ≡ false → (before c (x ∷ xs) ≡ x ∷ before c xs) × (behind c (x ∷ xs) ≡ behind c xs)
 unfolding before behind
@@ -87,7 +84,3 @@ number_begun (x ∷ xs) lt = refl
 pub number_done : (xs : List ℕ) (i n : ℕ) → length xs ≤ i → number_from n (drop i xs) ≡ number_of xs → Some n ≡ number_of xs
 unfolding number_from
 number_done xs i n le h = sym (ap (number_from n) (drop_all i xs le)) ∙ h
-
--- a part up to the end of a text
-pub to_end : (xs : List ℕ) (k : ℕ) → take (length xs - k) (drop k xs) ≡ drop k xs
-to_end xs k = take_all (length xs - k) (drop k xs) (omega (arith, length-drop k xs))

@@ -4,6 +4,7 @@ use Rattle.std.proofs.Common.{append-nil, append_assoc, inr}
 use Rattle.std.specs.Prelude.{◌==◌, ◌&&◌, All, OnErr, Result, Ok, Err, nat_le, nat_lt, if◌then◌else◌}
 use Rattle.std.specs.List.{list_all}
 use Rattle.std.proofs.lemmas.Bool.Decides.{nat_tests}
+use Rattle.std.proofs.lemmas.Bool.{and_parts}
 use Rattle.adf_partitions.specs.declared.layout.TheConstants.{MOST_PARTITIONS}
 use Rattle.adf_partitions.specs.declared.plan.PartitionPlan.{PartitionPlan}
 use Rattle.adf_partitions.specs.declared.plan_text.TextFault.{TextFault}
@@ -45,9 +46,6 @@ line_taken (x ∷ xs) p h = shorter 10 (x ∷ xs) (omega arith)
 abbrev pub Continues : List ℕ → List PartitionPlan → List ℕ → Type 0
 Continues text ps left = (qs : List PartitionPlan) (e : List ℕ) → AreLines left qs e → AreLines text (ps ++ qs) e
 
-pub lines_begun : (text : List ℕ) → Continues text [] text
-lines_begun text = λ qs e h. h
-
 pub line_added : (text left : List ℕ) (ps : List PartitionPlan) (p : PartitionPlan) → Continues text ps left → IsPartitionLine (first_line left) p
     → Continues text (ps ++ p ∷ []) (behind_line left)
 unfolding AreLines
@@ -85,19 +83,15 @@ unfolding AreLines
 plans_of_lines left [] e h = λ k d lt. absurd (omega arith)
 plans_of_lines left (p ∷ ps) e h = first_and_others p ps (plan_of_text (behind_word (first_line left)) p h.0.text) (plans_of_lines (behind_line left) ps e h.1)
 
-and_true : (a b : Bool) → (a && b) ≡ true → (a ≡ true) × (b ≡ true)
-and_true true b h = (refl, h)
-and_true false b h = absurd cc
-
 pub is_plan-tells : (plan : PlanValue) (left end : List ℕ) → AreLines left plan.partitions end → is_plan plan ≡ true → IsPlan plan
 is_plan-tells plan left end lines h =
     let t2 = nat_le 1 plan.sectors && nat_le 1 plan.heads in
     let t3 = t2 && nat_le (length plan.partitions) MOST_PARTITIONS in
     let t4 = t3 && nat_lt (planned_blocks plan) (2 ^ 32) in
-    let e = and_true t4 (list_all (has_volume (cylinder_blocks plan)) plan.partitions) h in
-    let d = and_true t3 (nat_lt (planned_blocks plan) (2 ^ 32)) e.0 in
-    let c = and_true t2 (nat_le (length plan.partitions) MOST_PARTITIONS) d.0 in
-    let a = and_true (nat_le 1 plan.sectors) (nat_le 1 plan.heads) c.0 in
+    let e = and_parts t4 (list_all (has_volume (cylinder_blocks plan)) plan.partitions) h in
+    let d = and_parts t3 (nat_lt (planned_blocks plan) (2 ^ 32)) e.0 in
+    let c = and_parts t2 (nat_le (length plan.partitions) MOST_PARTITIONS) d.0 in
+    let a = and_parts (nat_le 1 plan.sectors) (nat_le 1 plan.heads) c.0 in
     record {
       sectors = le_of 1 plan.sectors a.0;
       heads = le_of 1 plan.heads a.1;

@@ -2,9 +2,9 @@
 -- Letters: as in specs/Disks; p a partition block, q and r places, o the first test of a partition that fails.
 use Rattle.std.proofs.Common.{◌≡◌, ◌⊎◌, inl, inr, rules, ◌<◌, ◌≤◌, ◌+◌, ◌-◌, ◌*◌, ℕ, List, [], ◌∷◌, length, get_or, refl, sym, ap, ◌∙◌, arith}
 use Rattle.std.proofs.Common.{Bool, true, false, None, Some, Ok, Err}
-use Rattle.std.specs.Prelude.{Option, Result, ◌&&◌, ◌||◌, not, nat_le, nat_lt, ◌==◌, IfOk}
+use Rattle.std.specs.Prelude.{Option, Result, not, nat_le, nat_lt, ◌==◌, IfOk}
 use Rattle.std.specs.List.{All, AllPairs}
-use Rattle.std.proofs.lemmas.Bool.{false_from_ne_true}
+use Rattle.std.proofs.lemmas.Bool.{false_from_ne_true, and_parts, not-true, or_parts}
 use Rattle.std.proofs.lemmas.Bool.Decides.{nat_tests}
 use Rattle.std.proofs.lemmas.List.Elements.{All-push}
 use Rattle.std.proofs.lemmas.List.Folds.{list_any_at}
@@ -40,14 +40,6 @@ each_held [] h y i = absurd i
 each_held (x ∷ xs) h y (inl e) = ap (λ z. z.0) (sym e) ∙ (first_held x.0 x.1 xs h).0
 each_held (x ∷ xs) h y (inr i) = each_held xs (first_held x.0 x.1 xs h).1 y i
 
-not_true : (a : Bool) → not a ≡ true → a ≡ false
-not_true true h = absurd cc
-not_true false h = refl
-
-neither : (a b : Bool) → (a || b) ≡ false → (a ≡ false) × (b ≡ false)
-neither true b h = absurd cc
-neither false b h = (refl, h)
-
 -- what the tests of a partition tell
 pub record Passed (n : ℕ) (t : Tables) (ps : List Partition) (p : List ℕ) : Type 0 where
   pub cylinders : has_cylinders p ≡ true
@@ -61,8 +53,8 @@ passed n t ps p h =
     record {
       cylinders = held (has_cylinders p, NoCylinders) (search rules);
       within = held (nat_le (end_of (place_of p)) n, BeyondImage) (search rules);
-      tables = not_true (is_over_tables (place_of p) t) (held (not (is_over_tables (place_of p) t), OverTables) (search rules));
-      earlier = not_true (is_over_earlier (place_of p) ps) (held (not (is_over_earlier (place_of p) ps), OverPartition) (search rules));
+      tables = not-true (is_over_tables (place_of p) t) (held (not (is_over_tables (place_of p) t), OverTables) (search rules));
+      earlier = not-true (is_over_earlier (place_of p) ps) (held (not (is_over_earlier (place_of p) ps), OverPartition) (search rules));
     }
 
 -- two places that do not overlap have no block in common
@@ -78,15 +70,11 @@ has_blocks low high c h k =
     let pos : 0 < c = grind (arith, nat_tests) in
     omega (arith, mul-le 1 1 (high + 1 - low) c (omega arith) (omega arith))
 
-and_true : (a b : Bool) → (a && b) ≡ true → (a ≡ true) × (b ≡ true)
-and_true true b h = (refl, h)
-and_true false b h = absurd cc
-
 lies_well : (n : ℕ) (t : Tables) (ps : List Partition) (p : List ℕ) → Passed n t ps p → LiesWell n t (place_of p)
 lies_well n t ps p h =
     let q = place_of p in
-    let cylinders = and_true (nat_le (word p LOW_CYLINDER) (word p HIGH_CYLINDER)) (not (cylinder_of p == 0)) h.cylinders in
-    let over = neither _ _ h.tables in
+    let cylinders = and_parts (nat_le (word p LOW_CYLINDER) (word p HIGH_CYLINDER)) (not (cylinder_of p == 0)) h.cylinders in
+    let over = or_parts _ _ h.tables in
     record {
       some = has_blocks (word p LOW_CYLINDER) (word p HIGH_CYLINDER) (cylinder_of p) cylinders.0 cylinders.1;
       within = le_of (end_of q) n h.within;

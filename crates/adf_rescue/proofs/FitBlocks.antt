@@ -1,23 +1,24 @@
 -- The blocks that a tree needs which fits an image: no more than the image has.
 -- Letters: t a tree, l its layout; es entries, qs their places; n a node; h the block of its header; a, b blocks; xs blocks with what has them.
-use Rattle.std.proofs.Common.{◌≡◌, ℕ, zero, suc, List, [], ◌∷◌, ◌++◌, inl, inr, ◌+◌, ◌-◌, ◌*◌, ◌<◌, ◌≤◌, length, take, length-append, refl, sym, ap, arith}
+use Rattle.std.proofs.Common.{◌≡◌, ℕ, zero, suc, List, [], ◌∷◌, ◌++◌, inl, inr, ◌+◌, ◌-◌, ◌*◌, ◌≤◌, length, take, length-append, refl, sym, arith}
 use Rattle.std.specs.List.{range_with_len}
-use Rattle.std.proofs.lemmas.Bool.{cases_lt}
 use Rattle.std.proofs.lemmas.List.FromFn.{length-range_with_len}
+use Rattle.std.proofs.lemmas.Grind.{common_steps}
 use Rattle.adf_tree.specs.declared.entry.Body.{Body}
 use Rattle.adf_tree.specs.declared.entry.Body.TheVariants.{Dir, File}
 use Rattle.adf_tree.specs.declared.entry.Entry.{Entry}
 use Rattle.adf_tree.specs.declared.entry.Kind.{Kind}
 use Rattle.adf_tree.specs.Tree.{Tree}
 use Rattle.adf_blocks.specs.declared.layout.TheConstants.{POINTERS}
-use Rattle.adf_blocks.specs.Sizes.{blocks, count}
-use Rattle.adf_volume.specs.declared.owner.Owner.TheVariants.{Data, Ext, MapExt, Page}
+use Rattle.adf_blocks.specs.Sizes.{blocks}
+use Rattle.adf_volume.specs.declared.owner.Owner.TheVariants.{Data, Ext}
 use Rattle.adf_volume.specs.Fits.{BodyFits, FileFits, Fits}
 use Rattle.adf_volume.specs.Layout.{Layout, Place, at_node, datas_at, datas_of, exts_at, exts_of, owned, owned_from}
 use Rattle.adf_volume.specs.Lists.{At, In, NoBlockTwice, numbered}
 use Rattle.adf_volume.proofs.FitWalks.{without}
 use Rattle.adf_volume.proofs.Lists.{length_numbered}
 use Rattle.adf_build.specs.Plan.{blocks_needed, data_blocks, entries_blocks, exts_needed, reserved}
+use Rattle.adf_build.proofs.AllocatedBlocks.{range_in}
 
 -- blocks that are all different are as few as a list that has each
 few : {X : Type 0} (xs : List (X × ℕ)) (bs : List ℕ) → NoBlockTwice xs → ((x : X) (b : ℕ) → In xs (x, b) → In bs b) → length xs ≤ length bs
@@ -26,14 +27,6 @@ few (x ∷ xs) bs once h =
     let r = without bs x.1 (h x.0 x.1 (inl refl)) in
     let ih = few xs r.0 once.1 (λ y b i. r.2 b (h y b (inr i)) (λ e. once.0 (y, b) i (sym e))) in
     omega (arith, r.1)
-
--- the blocks from one on
-in_range : (a n b : ℕ) → a ≤ b → b < a + n → In (range_with_len a n) b
-in_range a zero b lo hi = absurd (omega arith)
-in_range a (suc n) b lo hi = elim (cases_lt a b) [
-  | inl lt ↦ inr (in_range (a + 1) n b (omega arith) (omega arith))
-  | inr le ↦ let e : a ≡ b = omega arith in inl e
-]
 
 -- the blocks of a body are at its entry
 
@@ -44,12 +37,8 @@ exts_few c m h = omega arith
 body_blocks : (image : List ℕ) (t : Tree) (l : Layout) (n h : ℕ) (body : Body) → BodyFits image t.kind l n h body
     → ((bytes : List ℕ) → body ≡ File bytes → FileFits image t l n h bytes)
     → (exts_needed (data_blocks t.kind body) ≤ length (exts_of l n)) × (data_blocks t.kind body ≡ length (datas_of l n))
-body_blocks image t l n h Dir fits file =
-    let none : length (datas_of l n) ≡ 0 = ap length fits.2 in
-    (exts_few 0 (length (exts_of l n)) (omega arith), sym none)
-body_blocks image t l n h (File bytes) fits file =
-    let x = file bytes refl in
-    (exts_few (count t.kind (length bytes)) (length (exts_of l n)) x.enough, sym x.datas)
+body_blocks image t l n h Dir fits file = grind (arith, common_steps, exts_few)
+body_blocks image t l n h (File bytes) fits file = grind (arith, common_steps, exts_few)
 
 -- so the entries own as many blocks as they need
 places_own : (kind : Kind) (n : ℕ) (es : List Entry) (qs : List Place) → length qs ≡ length es
@@ -68,12 +57,7 @@ places_own kind n (e ∷ es) (q ∷ qs) long each =
 
 owned_parts : (image : List ℕ) (l : Layout)
     → length (owned image l) ≡ 1 + (length l.pages + (length l.map_exts + length (owned_from 1 l.places)))
-owned_parts image l =
-    let all = length-append (numbered Page 0 l.pages) (numbered MapExt 0 l.map_exts ++ owned_from 1 l.places) in
-    let rest = length-append (numbered MapExt 0 l.map_exts) (owned_from 1 l.places) in
-    let pages = length_numbered Page 0 l.pages in
-    let exts = length_numbered MapExt 0 l.map_exts in
-    omega arith
+owned_parts image l = grind (arith, common_steps, length-append, length_numbered)
 
 reserved_parts : (image : List ℕ) (t : Tree) (l : Layout) → Fits image t l → length l.pages + length l.map_exts ≡ reserved (blocks image)
 unfolding reserved
@@ -85,7 +69,7 @@ fit_room image t l fit =
     let most : ℕ = blocks image - 2 in
     let all : length (owned image l) ≤ length (range_with_len 2 most) =
     few (owned image l) (range_with_len 2 most) fit.once
-    (λ o b i. let r = fit.range o b i in in_range 2 most b r.0 (omega (arith, r.0, r.1))) in
+    (λ o b i. let r = fit.range o b i in range_in 2 most b r.0 (omega (arith, r.0, r.1))) in
     let long : length (range_with_len 2 most) ≡ most = length-range_with_len 2 most in
     let entries : entries_blocks t.kind t.entries ≤ length (owned_from 1 l.places) =
     places_own t.kind 1 t.entries l.places fit.places (λ i e at.

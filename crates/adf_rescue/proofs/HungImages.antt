@@ -20,6 +20,8 @@ use Rattle.adf_rescue.specs.Lost.{is_inside, is_lost, lost_among}
 use Rattle.adf_rescue.specs.Rescue.{lost_name}
 use Rattle.adf_rescue.proofs.LostHeaders.{past_marks}
 use Rattle.std.proofs.lemmas.Str.Parse.{digit_at}
+use Rattle.std.proofs.Math.Bool.{and-false, or-false}
+use Rattle.std.proofs.lemmas.Grind.{common_steps}
 
 -- the name of a directory that is made
 
@@ -62,14 +64,10 @@ one_lost given w fs k (suc n) inside is = elim (cases_lt k n) [
 
 -- the marks of directories that are made
 
-and_none : (v : Bool) → false ≡ (v && false)
-and_none true = refl
-and_none false = refl
-
 pub made_first : (given : List ℕ) (w : List (Role × ℕ)) (fs : List FindingValue) (marks : List Bool) → length marks ≡ blocks given
     → ((p : ℕ) → has_mark marks p ≡ false) → AreMade given w fs 0 marks
 unfolding is_named
-made_first given w fs marks len none = record { length = len; made = λ p lt. none p ∙ and_none (is_vacant given w fs p) }
+made_first given w fs marks len none = record { length = len; made = λ p lt. none p ∙ sym (and-false (is_vacant given w fs p)) }
 
 and_or : (v m t : Bool) → ((v && m) || v && t) ≡ (v && (m || t))
 and_or true m t = refl
@@ -80,18 +78,7 @@ pub made_more : (given : List ℕ) (w : List (Role × ℕ)) (fs : List FindingVa
     → ((p : ℕ) → p < length marks → has_mark more p ≡ (has_mark marks p || is_vacant given w fs p && (word_in given k PARENT == p)))
     → length more ≡ length marks → AreMade given w fs (k + 1) more
 unfolding is_named
-made_more given w fs k marks more are lost put len = record {
-  length = len ∙ are.length;
-  made = λ p lt.
-      put p (omega (arith, are.length, lt))
-      ∙ ((λ i. are.made p lt i || is_vacant given w fs p && (word_in given k PARENT == p))
-      ∙ (and_or (is_vacant given w fs p) (is_named given w fs p k) (word_in given k PARENT == p)
-      ∙ rw add-one (λ i. is_vacant given w fs p && (is_named given w fs p k || sym lost i && (word_in given k PARENT == p)))));
-}
-
-or_none : (m : Bool) → m ≡ (m || false)
-or_none true = refl
-or_none false = refl
+made_more given w fs k marks more are lost put len = grind (arith, common_steps, and_or, add-one)
 
 pub made_same : (given : List ℕ) (w : List (Role × ℕ)) (fs : List FindingValue) (k : ℕ) (marks : List Bool) → AreMade given w fs k marks
     → is_lost given w fs k ≡ false → AreMade given w fs (k + 1) marks
@@ -100,7 +87,7 @@ made_same given w fs k marks are kept = record {
   length = are.length;
   made = λ p lt.
       are.made p lt
-      ∙ ((λ i. is_vacant given w fs p && or_none (is_named given w fs p k) i)
+      ∙ ((λ i. is_vacant given w fs p && sym (or-false (is_named given w fs p k)) i)
       ∙ rw add-one (λ i. is_vacant given w fs p && (is_named given w fs p k || sym kept i && (word_in given k PARENT == p))));
 }
 
@@ -110,10 +97,7 @@ vacant_inside given w fs p out = and_left _ _ (and_left _ _ (and_left (is_inside
 
 pub made_marked : (given : List ℕ) (w : List (Role × ℕ)) (fs : List FindingValue) (marks : List Bool) → AreMade given w fs (blocks given) marks → (p : ℕ)
     → has_mark marks p ≡ is_made given w fs p
-made_marked given w fs marks are p = elim (cases_lt p (blocks given)) [
-  | inl low ↦ are.made p low
-  | inr high ↦ past_marks marks p (omega (arith, are.length, high)) ∙ sym (and_left _ _ (vacant_inside given w fs p high))
-]
+made_marked given w fs marks are p = grind (arith, common_steps, cases_lt, past_marks, and_left, vacant_inside)
 
 -- the steps
 

@@ -2,11 +2,12 @@
 -- Letters: given the image of a survey, w its walk, fs its findings; b, c, d, p blocks; k a number of blocks; i the number of a word;
 -- x, y, z images.
 use Rattle.std.specs.Prelude.{◌==◌, ◌&&◌, ◌||◌, ◌%◌, None, cond, is_some, replicate, slice_index}
-use Rattle.std.proofs.Common.{◌≡◌, ◌≢◌, ◌≤◌, ◌<◌, ℕ, zero, suc, ◌*◌, ◌+◌, ◌^◌, Bool, true, false, List, length}
+use Rattle.std.proofs.Common.{◌≡◌, ◌≢◌, ◌≤◌, ◌<◌, ℕ, zero, suc, ◌*◌, ◌+◌, ◌^◌, true, false, List, length}
 use Rattle.std.proofs.Common.{◌∙◌, ap, arith, inl, inr, refl, subst, sym}
 use Rattle.std.proofs.lemmas.Bool.{and_from, and_left, and_parts, and_right, cases_Bool, cond-false, cond-true, not_from_true}
 use Rattle.std.proofs.lemmas.Bool.Decides.{nat_tests}
 use Rattle.std.proofs.lemmas.List.{length-replicate}
+use Rattle.std.proofs.lemmas.Grind.{common_steps}
 use Rattle.adf_base.specs.Words.{block, checksum, with_block, with_bytes, with_word}
 use Rattle.adf_base.proofs.WordLaws.{block_other, length-block, length-with_bytes, length-with_word}
 use Rattle.adf_tree.specs.declared.entry.Kind.TheVariants.{Ofs, Ffs}
@@ -21,7 +22,7 @@ use Rattle.adf_findings.specs.Found.{owner}
 use Rattle.adf_findings.specs.Survey.{FindingValue}
 use Rattle.adf_rescue.specs.Hung.{emptied, home, hung, hung_first, hung_in, hung_loose, is_container, is_hung, is_made, is_vacant, made_header}
 use Rattle.adf_rescue.specs.Hung.{put_in, readied, ready_in, sealed_in, slot_word}
-use Rattle.adf_rescue.specs.Lost.{directory_at, is_inside, is_lost, is_unfound, says_directory, says_header}
+use Rattle.adf_rescue.specs.Lost.{directory_at, is_inside, is_lost, says_directory}
 use Rattle.adf_rescue.proofs.HungImages.{name_is_valid}
 use Rattle.adf_rescue.proofs.LostHeaders.{root_at}
 use Rattle.adf_rescue.proofs.MadeRoots.{root_within, sized}
@@ -39,10 +40,7 @@ whole : (x : List ℕ) (b : ℕ) → b < blocks x → b * 512 + 512 ≤ length x
 whole x b inside = omega (arith, inside)
 
 written : (x bs : List ℕ) (b : ℕ) → b < blocks x → length bs ≡ 512 → Touches b b x (with_block x b bs)
-written x bs b inside len = record {
-  length = length-with_bytes x (b * 512) bs (omega (arith, whole x b inside, len));
-  others = λ c nb np. block_other x b c bs (whole x b inside) len nb;
-}
+written x bs b inside len = grind (arith, common_steps, length-with_bytes, whole, block_other)
 
 with_word_written : (x : List ℕ) (b i v : ℕ) → b < blocks x → i < 128 → Touches b b x (put_in x b i v)
 with_word_written x b i v inside lt =
@@ -88,8 +86,7 @@ made_header_fits root p r s = record { own = s; parent = r; name = name_is_valid
 
 owned_not_lost : (given : List ℕ) (w : List (Role × ℕ)) (fs : List FindingValue) (b : ℕ) → is_some (owner w b) ≡ true → is_lost given w fs b ≡ false
 unfolding is_lost
-owned_not_lost given w fs b e =
-    and_left _ _ (and_left _ _ (and_right (is_inside given b) (is_unfound given w b) (and_right (says_header given b) _ (not_from_true _ e))))
+owned_not_lost given w fs b e = grind (arith, common_steps, and_left, and_right, not_from_true)
 
 owned_not_made : (given : List ℕ) (w : List (Role × ℕ)) (fs : List FindingValue) (b : ℕ) → is_some (owner w b) ≡ true → is_made given w fs b ≡ false
 unfolding is_vacant
@@ -113,11 +110,7 @@ module _ (given : List ℕ) (w : List (Role × ℕ)) (fs : List FindingValue) (l
   root_small = let r = root_within given len in omega (arith, r.small)
 
   made_or_lost : (b : ℕ) → is_hung given w fs b ≡ false → (is_made given w fs b ≡ false) × (is_lost given w fs b ≡ false)
-  made_or_lost b h = go (is_lost given w fs b) (is_made given w fs b) h
-    where
-      go : (l m : Bool) → (l || m) ≡ false → (m ≡ false) × (l ≡ false)
-      go true m e = absurd cc
-      go false m e = (e, refl)
+  made_or_lost b h = grind (arith, common_steps)
 
   -- making ready changes what is hung alone
   ready_touches : (x : List ℕ) (b : ℕ) → length x ≡ length given → b < blocks given
@@ -168,15 +161,7 @@ module _ (given : List ℕ) (w : List (Role × ℕ)) (fs : List FindingValue) (l
   -- the home is in range
   home_inside : (b : ℕ) → home given w fs b < blocks given
   unfolding home
-  home_inside b =
-      let p : ℕ = word_in given b PARENT in
-      elim (cases_Bool (is_lost given w fs b && is_inside given p && is_container given w fs p)) [
-        | inl named ↦
-            let in_range = (and_parts (is_lost given w fs b) (is_inside given p) (and_parts (is_lost given w fs b && is_inside given p) _ named).0).1 in
-            let low : p < blocks given = grind (arith, nat_tests) in
-            subst (λ n. n < blocks given) (sym (cond-true _ p (root_of given) named)) low
-        | inr other ↦ subst (λ n. n < blocks given) (sym (cond-false _ p (root_of given) other)) (root_within given len).within
-      ]
+  home_inside b = grind (arith, common_steps, cases_Bool, and_parts, nat_tests, cond-true, cond-false, root_within)
 
   -- hanging changes what is hung, and the homes
   loose_touches : (x : List ℕ) (b : ℕ) → length x ≡ length given → b < blocks given

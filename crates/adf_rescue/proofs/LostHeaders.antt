@@ -3,13 +3,15 @@
 use Rattle.std.specs.Prelude.{◌==◌, ◌&&◌, ◌||◌, ◌↔◌, not, nat_le, Option, Some, None, IfSome, IsSome, IsTrue, option_and_then, option_map, cond, map, replicate}
 use Rattle.std.specs.List.{range_with_len}
 use Rattle.std.proofs.Common.{◌≡◌, ◌≢◌, ◌≤◌, ◌<◌, ℕ, zero, suc, ◌+◌, ◌-◌, ◌/◌, ◌%◌, Bool, true, false, List, [], ◌∷◌, ◌++◌, length, add-one}
-use Rattle.std.proofs.Common.{◌∙◌, ap, arith, inl, inr, refl, subst, sym}
+use Rattle.std.proofs.Common.{◌∙◌, ap, arith, inl, inr, refl, sym}
 use Rattle.std.proofs.lemmas.Bool.{and_from, and_left, and_parts, cases_Bool, cases_lt, cond-false, cond-true, eq-eqb, eqb-true, false_from_ne_true}
 use Rattle.std.proofs.lemmas.Bool.Decides.{nat_tests}
 use Rattle.std.proofs.lemmas.List.FromFn.{get_or-map-range_with_len, length-map-range_with_len, map-range_with_len_more}
+use Rattle.std.proofs.Math.Bool.{and-true}
+use Rattle.std.proofs.lemmas.Grind.{common_steps}
 use Rattle.adf_blocks.specs.declared.layout.TheConstants.{BITMAP_FLAG, PAGE_BITS, PARENT, VALID}
 use Rattle.adf_blocks.specs.Sizes.{blocks}
-use Rattle.adf_volume.specs.Image.{IsFreeAt, root_of, word_in}
+use Rattle.adf_volume.specs.Image.{root_of, word_in}
 use Rattle.adf_volume.specs.Walk.{Role, Has, IsFreeIn, heads, second}
 use Rattle.adf_volume.specs.Walk.Role.{Head, Page}
 use Rattle.adf_volume.proofs.Gathered.{one_block}
@@ -26,7 +28,7 @@ use Rattle.adf_findings.proofs.BitSteps.{has_page}
 use Rattle.adf_findings.proofs.Keys.{lacks_at, same_of_key}
 use Rattle.adf_findings.proofs.OneSurvey.{gathered}
 use Rattle.adf_rescue.specs.Lost.{AreEntered, AreSettled, bit_stated, directory_at, directory_by, denies, has_child, has_finding, is_denied}
-use Rattle.adf_rescue.specs.Lost.{is_directory_at, is_inside, is_lost, is_of}
+use Rattle.adf_rescue.specs.Lost.{is_inside, is_lost, is_of}
 use Rattle.adf_rescue.specs.Lost.{is_set_in}
 use Rattle.adf_findings.specs.SurveyResult.{IsBitStated}
 
@@ -49,13 +51,8 @@ is_zero n e z = let clash : not (n == 0) ≡ false = ap not (eq-eqb n 0 z) in cc
 told_some : (image : List ℕ) (w : List (Role × ℕ)) (b page : ℕ) (r : Option Bool) → ((a : ℕ) → Has w (Page (page_of b)) a → a ≡ page)
     → Has w (Page (page_of b)) page → IsSome r → IfSome r (λ t. IsTrue t ↔ IsFreeIn image w b) → r ≡ Some (is_set_in image page ((b - 2) % PAGE_BITS))
 told_some image w b page None one has some free = absurd cc
-told_some image w b page (Some true) one has some free =
-    let x = free.0 refl in
-    let set : IsFreeAt image page ((b - 2) % PAGE_BITS) = subst (λ a. IsFreeAt image a ((b - 2) % PAGE_BITS)) (one x.0 x.1) x.2 in
-    ap Some (sym (not_zero _ set))
-told_some image w b page (Some false) one has some free =
-    ap Some (sym (false_from_ne_true (is_set_in image page ((b - 2) % PAGE_BITS))
-    (λ e. let t : IsTrue false = free.1 (page, has, is_zero _ e) in cc)))
+told_some image w b page (Some true) one has some free = grind (arith, common_steps, not_zero)
+told_some image w b page (Some false) one has some free = grind (arith, common_steps, false_from_ne_true, is_zero)
 
 told_none : (r : Option Bool) → (IsSome r → ⊥) → r ≡ None
 told_none None h = refl
@@ -107,24 +104,12 @@ entry_in_it image w p n ne e = owned_at image w p ne ∙ ap (option_and_then (di
 
 known : (image : List ℕ) (w : List (Role × ℕ)) (p n : ℕ) (o : Option ℕ) → option_and_then (directory_by image w p) o ≡ Some n → n ≤ heads w
 known image w p n None e = absurd cc
-known image w p n (Some m) e = go (is_directory_at image w m p) refl e
-  where
-    go : (t : Bool) → is_directory_at image w m p ≡ t → cond t (Some m) None ≡ Some n → n ≤ heads w
-    go true is h =
-        let same : m ≡ n = cc in
-        let parts = and_parts (nat_le 1 m) (nat_le m (heads w)) (and_parts (nat_le 1 m && nat_le m (heads w)) _ (and_parts _ _ is).0).0 in
-        let low : m ≤ heads w = grind (arith, nat_tests) in
-        omega (arith, same, low)
-    go false is h = absurd cc
+known image w p n (Some m) e = grind (arith, common_steps, and_parts, nat_tests)
 
 -- a directory of the survey is the root or an entry
 pub directory_known : (image : List ℕ) (w : List (Role × ℕ)) (p n : ℕ) → directory_at image w p ≡ Some n → n ≤ heads w
 unfolding directory_at
-directory_known image w p n e = go (p == root_of image) e
-  where
-    go : (t : Bool) → cond t (Some 0) (option_and_then (directory_by image w p) (owner w p)) ≡ Some n → n ≤ heads w
-    go true h = let zero_is : 0 ≡ n = cc in omega (arith, zero_is)
-    go false h = known image w p n (owner w p) h
+directory_known image w p n e = grind (arith, common_steps, known)
 
 -- the marks of those that are settled
 
@@ -141,11 +126,7 @@ or_cond false false = refl
 pub entered_more : (w : List (Role × ℕ)) (k p : ℕ) (marks more : List Bool) → AreEntered w k marks → p ≡ parent_node w (k + 1)
     → ((m : ℕ) → m < length marks → has_mark more m ≡ cond (p == m) true (has_mark marks m)) → length more ≡ length marks → AreEntered w (k + 1) more
 unfolding has_child
-entered_more w k p marks more are is put len = record {
-  length = len ∙ are.length;
-  entry = λ n le.
-      put n (omega (arith, are.length, le)) ∙ (or_cond (has_mark marks n) (p == n) ∙ rw add-one (λ i. are.entry n le i || (rw add-one at is) i == n));
-}
+entered_more w k p marks more are is put len = grind (arith, common_steps, or_cond, add-one)
 
 -- what is struck
 and_more : (a f o : Bool) → ((a && not f) && not o) ≡ (a && not (f || o))
@@ -155,11 +136,7 @@ and_more false f o = refl
 
 pub settled_first : (w : List (Role × ℕ)) (fs : List FindingValue) (marks : List Bool) → AreEntered w (heads w) marks → AreSettled w fs 0 marks
 unfolding has_finding
-settled_first w fs marks are = record { length = are.length; settled = λ n le. are.entry n le ∙ and_yes (has_child w n (heads w)) }
-  where
-    and_yes : (a : Bool) → a ≡ (a && true)
-    and_yes true = refl
-    and_yes false = refl
+settled_first w fs marks are = record { length = are.length; settled = λ n le. are.entry n le ∙ sym (and-true (has_child w n (heads w))) }
 
 settled_by : (w : List (Role × ℕ)) (fs : List FindingValue) (k : ℕ) (marks more : List Bool) (o : Option Concern) → AreSettled w fs k marks
     → o ≡ concern_of_nth w fs k → ((m : ℕ) → m < length marks → has_mark more m ≡ (has_mark marks m && not (is_of w m o))) → length more ≡ length marks
@@ -175,11 +152,7 @@ settled_by w fs k marks more o are is put len = record {
 
 pub settled_none : (w : List (Role × ℕ)) (fs : List FindingValue) (k : ℕ) (marks : List Bool) → AreSettled w fs k marks → None ≡ concern_of_nth w fs k
     → AreSettled w fs (k + 1) marks
-settled_none w fs k marks are is = settled_by w fs k marks marks None are is (λ m lt. and_yes (has_mark marks m)) refl
-  where
-    and_yes : (a : Bool) → a ≡ (a && true)
-    and_yes true = refl
-    and_yes false = refl
+settled_none w fs k marks are is = settled_by w fs k marks marks None are is (λ m lt. sym (and-true (has_mark marks m))) refl
 
 pub settled_some : (w : List (Role × ℕ)) (fs : List FindingValue) (k n : ℕ) (marks more : List Bool) (x : Concern) → AreSettled w fs k marks
     → Some x ≡ concern_of_nth w fs k → n ≡ node_of x
@@ -202,34 +175,19 @@ past_marks (x ∷ xs) (suc b) h = past_marks xs b (omega arith)
 
 pub lost_marked : (image : List ℕ) (w : List (Role × ℕ)) (fs : List FindingValue) (marks : List Bool)
     → marks ≡ map (is_lost image w fs) (range_with_len 0 (blocks image)) → (b : ℕ) → has_mark marks b ≡ is_lost image w fs b
-lost_marked image w fs marks e b =
-    let n : ℕ = blocks image in
-    let all : List Bool = map (is_lost image w fs) (range_with_len 0 n) in
-    ap (λ (xs : List Bool). has_mark xs b) e ∙ elim (cases_lt b n) [
-      | inl low ↦ get_or-map-range_with_len (is_lost image w fs) 0 n b b false low (omega arith)
-      | inr high ↦
-          past_marks all b (omega (arith, high, length-map-range_with_len (is_lost image w fs) 0 n)) ∙ sym (lost_outside image w fs b high)
-    ]
+lost_marked image w fs marks e b = grind (arith, common_steps, cases_lt, get_or-map-range_with_len, past_marks, length-map-range_with_len, lost_outside)
 
 -- what a settled directory denies
 pub denied_by_directory : (image : List ℕ) (w : List (Role × ℕ)) (fs : List FindingValue) (b p n : ℕ) (marks : List Bool) → AreSettled w fs (length fs) marks
     → p ≡ word_in image b PARENT → Some n ≡ directory_at image w p → has_mark marks n ≡ is_denied image w fs b
-denied_by_directory image w fs b p n marks are parent is =
-    are.settled n (directory_known image w p n (sym is))
-    ∙ ((λ i. denies w fs p (is i)) ∙ (λ i. denies w fs (parent i) (directory_at image w (parent i))))
+denied_by_directory image w fs b p n marks are parent is = grind (arith, common_steps, directory_known)
 
 -- one mark more
 pub lost_more : (image : List ℕ) (w : List (Role × ℕ)) (fs : List FindingValue) (b : ℕ) (marks more : List Bool) (t : Bool)
     → marks ≡ map (is_lost image w fs) (range_with_len 0 b) → t ≡ is_lost image w fs b → more ≡ marks ++ t ∷ []
     → more ≡ map (is_lost image w fs) (range_with_len 0 (b + 1))
-lost_more image w fs b marks more t before is put =
-    put ∙ ((λ i. before i ++ is i ∷ []) ∙ sym (map-range_with_len_more (is_lost image w fs) 0 b b (omega arith)))
+lost_more image w fs b marks more t before is put = grind (arith, common_steps, map-range_with_len_more)
 
 -- no marks
 pub unmarked : (n : ℕ) (marks : List Bool) → marks ≡ replicate n false → (i : ℕ) → has_mark marks i ≡ false
-unmarked n marks e i = ap (λ (xs : List Bool). has_mark xs i) e ∙ none n i
-  where
-    none : (n i : ℕ) → has_mark (replicate n false) i ≡ false
-    none zero i = refl
-    none (suc n) zero = refl
-    none (suc n) (suc i) = none n i
+unmarked n marks e i = grind (arith, common_steps)

@@ -9,12 +9,12 @@ use Rattle.std.proofs.lemmas.Bool.Decides.{nat_tests}
 use Rattle.std.proofs.lemmas.List.{length-take}
 use Rattle.std.proofs.lemmas.List.Edits.{fill_by_more}
 use Rattle.std.proofs.lemmas.List.FromFn.{get_or-map-range_with_len, length-map-range_with_len}
-use Rattle.adf_base.specs.Dates.{IsStamp}
+use Rattle.std.proofs.lemmas.Grind.{common_steps}
 use Rattle.adf_base.specs.Words.{block, long_sum, with_block, word}
 use Rattle.adf_base.proofs.WordLaws.{block_written, drop-with_bytes_above, front-with_bytes, length-with_bytes, range-with_bytes_below}
 use Rattle.adf_tree.specs.Bounds.{AreStamps}
 use Rattle.adf_tree.specs.declared.entry.Stamps.{Stamps}
-use Rattle.adf_blocks.specs.declared.layout.TheConstants.{FIRST_SLOT, MOST_BLOCKS, NAME, ROOT_PAGES, SLOTS}
+use Rattle.adf_blocks.specs.declared.layout.TheConstants.{FIRST_SLOT, MOST_BLOCKS, NAME, SLOTS}
 use Rattle.adf_blocks.specs.Forms.{text_at}
 use Rattle.adf_blocks.specs.RootBlock.{FitsRoot, RootFields, label_stated, root_block, stamps_at}
 use Rattle.adf_blocks.specs.Sizes.{blocks}
@@ -23,7 +23,7 @@ use Rattle.adf_blocks.proofs.RootLaws.{root_block-sum, root_block-text, root_blo
 use Rattle.adf_volume.specs.Image.{root_of}
 use Rattle.adf_volume.specs.Start.{is_image_len}
 use Rattle.adf_findings.specs.Start.{has_root_type}
-use Rattle.adf_rescue.specs.MadeRoot.{has_root, label_in, made_root, middle_block, no_stamps, page_found, pages_in, rooted, slots_in, stamps_in}
+use Rattle.adf_rescue.specs.MadeRoot.{has_root, label_in, made_root, middle_block, no_stamps, pages_in, rooted, slots_in, stamps_in}
 
 -- an image of an allowed size is whole blocks, at least 4
 pub record IsSizedAs (n : ℕ) : Type 0 where
@@ -42,14 +42,7 @@ pub record IsRootWithin (image : List ℕ) : Type 0 where
   pub small : root_of image < 2 ^ 20
 
 pub root_within : (image : List ℕ) → is_image_len (length image) ≡ true → IsRootWithin image
-root_within image h =
-    let s = sized (length image) h in
-    record {
-      low = omega (arith, s.low);
-      within = omega (arith, s.low);
-      whole = omega (arith, s.whole, s.low);
-      small = omega (arith, s.low, s.high);
-    }
+root_within image h = grind (arith, common_steps, sized)
 
 -- one more word is written of a list of words
 pub fill_step : (f : ℕ → ℕ) (xs : List ℕ) (i v : ℕ) → i < length xs → ((k : ℕ) → k < i → get_or xs k 0 ≡ f k) → v ≡ f i → (k : ℕ) → k < i + 1
@@ -62,11 +55,7 @@ short_label : (b : List ℕ) → length (label_in b) ≤ 30
 short_label b = cond_both (has_root_type b) (label_stated b) [] (λ l. length l ≤ 30) (λ e. omega (arith, length-take 30 (text_at b NAME))) (λ e. omega arith)
 
 pub made_fits : (image : List ℕ) → FitsRoot (made_root image)
-made_fits image = record {
-  slots = length-map-range_with_len (λ s. word (middle_block image) (FIRST_SLOT + s)) 0 SLOTS;
-  pages = omega (arith, length-map-range_with_len (page_found image) 0 ROOT_PAGES);
-  label = short_label (middle_block image);
-}
+made_fits image = grind (arith, common_steps, length-map-range_with_len, short_label)
 
 -- a root that is written is whole
 pub root_is_whole : (r : RootFields) → FitsRoot r → (has_root_type (root_block r) && (long_sum (root_block r) == 0)) ≡ true
@@ -82,21 +71,13 @@ made_slot image s lt small =
 
 -- it has no label and no dates, if the middle block does not say that it is a root
 pub unnamed : (image : List ℕ) → has_root_type (middle_block image) ≡ false → label_stated (root_block (made_root image)) ≡ []
-unnamed image h =
-    ap (take 30) (root_block-text (made_root image) (made_fits image) ∙ cond-false (has_root_type (middle_block image)) (label_stated (middle_block image))
-    [] h)
+unnamed image h = grind (arith, common_steps, root_block-text, made_fits, cond-false)
 
 nothing_dated : AreStamps no_stamps
-nothing_dated = record { root = nothing; altered = nothing; created = nothing }
-  where
-    nothing : IsStamp (record { days = 0; mins = 0; ticks = 0 })
-    nothing = record { days = omega arith; mins = omega arith; ticks = omega arith }
+nothing_dated = grind (arith, common_steps)
 
 pub undated : (image : List ℕ) → has_root_type (middle_block image) ≡ false → stamps_at (root_block (made_root image)) ≡ no_stamps
-undated image h =
-    let none : stamps_in (middle_block image) ≡ no_stamps =
-    cond-false (has_root_type (middle_block image)) (stamps_at (middle_block image)) no_stamps h in
-    root_block-stamps (made_root image) (made_fits image) (subst AreStamps (sym none) nothing_dated) ∙ none
+undated image h = grind (arith, common_steps, cond-false, root_block-stamps, made_fits, nothing_dated)
 
 -- the image around it stays
 
@@ -113,9 +94,7 @@ module _ (image : List ℕ) (room : root_of image * 512 + 512 ≤ length image) 
       (λ e. front-with_bytes image (root_of image * 512) (root_block (made_root image)) (omega (arith, room)))
 
   pub front_rooted : (from : ℕ) → slice_range (rooted image) from (root_of image * 512) ≡ slice_range image from (root_of image * 512)
-  front_rooted from = cond_both (has_root image) image _
-      (λ l. slice_range l from (root_of image * 512) ≡ slice_range image from (root_of image * 512)) (λ e. refl)
-      (λ e. range-with_bytes_below image (root_of image * 512) (root_block (made_root image)) from (root_of image * 512) (omega (arith, room)) (omega arith))
+  front_rooted from = grind (arith, common_steps, cond_both, range-with_bytes_below)
 
   pub behind_rooted : drop (root_of image * 512 + 512) (rooted image) ≡ drop (root_of image * 512 + 512) image
   behind_rooted = cond_both (has_root image) image _ (λ l. drop (root_of image * 512 + 512) l ≡ drop (root_of image * 512 + 512) image) (λ e. refl)
@@ -123,9 +102,7 @@ module _ (image : List ℕ) (room : root_of image * 512 + 512 ≤ length image) 
       (omega (arith, long)))
 
   pub made_rooted : has_root image ≡ false → block (rooted image) (root_of image) ≡ root_block (made_root image)
-  made_rooted h =
-      ap (λ (l : List ℕ). block l (root_of image)) (cond-false (has_root image) image _ h)
-      ∙ block_written image (root_of image) (root_block (made_root image)) room long
+  made_rooted h = grind (arith, common_steps, cond-false, block_written, long)
 
 pub whole_rooted : (image : List ℕ) → has_root image ≡ true → rooted image ≡ image
 whole_rooted image h = cond-true (has_root image) image _ h

@@ -1,26 +1,22 @@
 -- The next entry of a tree, behind those before it: its path has room, and directories stay where their paths lead.
 -- Letters: es the entries before, e the next one; p, q, m nodes; dir, names paths; x a name.
 use Rattle.std.proofs.Common.{◌≡◌, ℕ, ◌+◌, ◌-◌, ◌<◌, ◌≤◌, List, [], ◌∷◌, ◌++◌, length, get_or, true, Some, None, Ok, arith, refl, sym, ap, ◌∙◌}
-use Rattle.std.proofs.lemmas.Bool.{false_from_ne_true, ne_eqb}
+use Rattle.std.proofs.lemmas.Bool.{false_from_ne_true}
 use Rattle.std.proofs.lemmas.List.{get_or_append_left, get_or_push, length_push}
-use Rattle.std.proofs.Math.Seq.{take-append_seam}
+use Rattle.std.proofs.lemmas.Grind.{common_steps}
 use Rattle.adf_tree.specs.declared.entry.Body.TheVariants.{Dir}
 use Rattle.adf_tree.specs.declared.entry.Entry.{Entry}
-use Rattle.adf_tree.specs.Tree.{IsTree, MayAdd, child, directory_from, free_in, in_directory, is_child, is_dir, is_dir_body}
+use Rattle.adf_tree.specs.Tree.{IsTree, MayAdd, child, directory_from, free_in, is_child, is_dir, is_dir_body}
 use Rattle.adf_tree.specs.Tree.{last_of, new_entry, room_at, room_for}
 use Rattle.adf_tree.proofs.AddRoom.{next_dir}
 use Rattle.adf_tree.proofs.ChildLookup.{child_is, child_says, found_is, is_child_from, no_children}
 use Rattle.adf_tree.proofs.DraftLookup.{dir_at, past}
+use Rattle.adf_tree.proofs.DraftDirectories.{one_more, room_more}
 
 -- one entry more
 
 child_stays : (es : List Entry) (e : Entry) (p : ℕ) (x : List ℕ) (m : ℕ) → IsTree (es ++ e ∷ []) → child es p x ≡ Some m → child (es ++ e ∷ []) p x ≡ Some m
-child_stays es e p x m t h =
-    let found = found_is es p x m e h in
-    let long = length_push es e in
-    let same : get_or (es ++ e ∷ []) (m - 1) e ≡ get_or es (m - 1) e = get_or_append_left es (e ∷ []) e (m - 1) (omega (arith, found.0, found.1)) in
-    let number : m - 1 + 1 ≡ m = omega (arith, found.0) in
-    child_is (es ++ e ∷ []) p x (m - 1) e t (omega (arith, found.0, found.1)) (ap (is_child p x) same ∙ found.2) ∙ ap Some number
+child_stays es e p x m t h = grind (arith, common_steps, found_is, length_push, get_or_append_left, child_is)
 
 dir_stays : (es : List Entry) (e : Entry) (m : ℕ) → 0 < m → m ≤ length es → is_dir (es ++ e ∷ []) m ≡ is_dir es m
 dir_stays es e m some le =
@@ -38,31 +34,13 @@ directory_stays es e p (x ∷ xs) q t h =
     ap (past (es ++ e ∷ []) xs) (child_stays es e p x next.0 t next.1)
     ∙ rw (dir_stays es e next.0 found.0 found.1, next.2) (directory_stays es e next.0 xs q t next.3)
 
--- one name more
-
-one_more : (es : List Entry) (p q : ℕ) (names : List (List ℕ)) (x : List ℕ) → directory_from es p names ≡ Ok q
-    → directory_from es p (names ++ x ∷ []) ≡ past es [] (child es q x)
-one_more es p q [] x h = let same : p ≡ q = cc in rw same
-one_more es p q (y ∷ ys) x h =
-    let next = next_dir es ys q (child es p y) h in
-    ap (past es (ys ++ x ∷ [])) next.1 ∙ rw next.2 (one_more es next.0 q ys x next.3)
-
-room_more : (es : List Entry) (names : List (List ℕ)) (x : List ℕ) → room_for es (names ++ x ∷ []) ≡ room_at es x (directory_from es 0 names)
-room_more es names x =
-    let long = length_push names x in
-    let at : length (names ++ x ∷ []) - 1 ≡ length names = omega arith in
-    rw (ne_eqb (length (names ++ x ∷ [])) 0 (omega arith), at, get_or_push names x [] (length names) refl, take-append_seam names (x ∷ []))
-
 last_is : (names : List (List ℕ)) (x : List ℕ) → last_of (names ++ x ∷ []) ≡ x
-last_is names x =
-    let long = length_push names x in
-    get_or_push names x [] (length (names ++ x ∷ []) - 1) (omega arith)
+last_is names x = grind (arith, common_steps, length_push, get_or_push)
 
 -- the next entry, in the directory that a path leads to
 module _ (es : List Entry) (e : Entry) (dir : List (List ℕ)) (may : MayAdd es e) (to : directory_from es 0 dir ≡ Ok e.parent) where
   none_yet : child es e.parent e.name ≡ None
-  none_yet = no_children es e.parent e.name (λ k d lt. false_from_ne_true (is_child e.parent e.name (get_or es k d))
-      (λ h. let says = child_says e.parent e.name (get_or es k d) h in may.fresh k d lt says.0 says.1))
+  none_yet = grind (arith, common_steps, no_children, false_from_ne_true, child_says)
 
   -- its path has room
   pub has_room : room_for es (dir ++ e.name ∷ []) ≡ Ok e.parent
@@ -70,10 +48,7 @@ module _ (es : List Entry) (e : Entry) (dir : List (List ℕ)) (may : MayAdd es 
 
   -- what is added there is the entry
   pub new_is : new_entry es (dir ++ e.name ∷ []) e.meta e.body ≡ e
-  new_is =
-      let up : in_directory (room_for es (dir ++ e.name ∷ [])) ≡ e.parent = ap in_directory has_room in
-      let last : last_of (dir ++ e.name ∷ []) ≡ e.name = last_is dir e.name in
-      λ i. record { parent = up i; name = last i; meta = e.meta; body = e.body }
+  new_is = grind (arith, common_steps, has_room, last_is)
 
   -- its path leads to it, if it is a directory
   pub new_leads : IsTree (es ++ e ∷ []) → e.body ≡ Dir → directory_from (es ++ e ∷ []) 0 (dir ++ e.name ∷ []) ≡ Ok (length es + 1)

@@ -2,10 +2,11 @@
 -- Letters: b the number of a block; r the root's; n, m, k numbers of bytes or blocks; l a list of bytes.
 use Rattle.std.proofs.Common.{◌≡◌, ◌<◌, ◌≤◌, ℕ, zero, suc, ◌+◌, ◌-◌, ◌*◌, ◌/◌, ◌^◌, Bool, true, false, List, [], ◌∷◌, ◌++◌, length, take, drop}
 use Rattle.std.proofs.Common.{◌∙◌, add-one, ap, arith, codes, inl, inr, length-drop, refl, subst, sym}
-use Rattle.std.specs.Prelude.{◌==◌, ◌&&◌, nat_le, slice_index, slice_range}
+use Rattle.std.specs.Prelude.{◌==◌, ◌&&◌, slice_range}
 use Rattle.std.proofs.lemmas.Bool.{and_from, and_left, and_parts, and_right, cases_Bool, cases_lt, cond-false, cond-true, cond_both}
 use Rattle.std.proofs.lemmas.Bool.{not_from_false, not_from_true, or_from, or_left, or_right}
 use Rattle.std.proofs.lemmas.List.{drop-drop, get_or-take, length-take, take_all}
+use Rattle.std.proofs.lemmas.Grind.{common_steps}
 use Rattle.adf_base.specs.Words.{block, long_sum, with_bytes, word}
 use Rattle.adf_tree.specs.Tree.{Tree}
 use Rattle.adf_blocks.specs.declared.layout.TheConstants.{FIRST_SLOT, SLOTS}
@@ -106,9 +107,7 @@ module _ (image : List ℕ) (len : is_image_len (length image) ≡ true) where
   length_made = length_rooted (begun image) room ∙ same_length
 
   front_made : slice_range (rooted (begun image)) 4 (root_of image * 512) ≡ slice_range image 4 (root_of image * 512)
-  front_made =
-      subst (λ r. slice_range (rooted (begun image)) 4 (r * 512) ≡ slice_range (begun image) 4 (r * 512)) same_root (front_rooted (begun image) room 4)
-      ∙ ap (take (root_of image * 512 - 4)) (rest_begun image)
+  front_made = grind (arith, common_steps, same_root, front_rooted, room, rest_begun)
 
   behind_made : drop (root_of image * 512 + 512) (rooted (begun image)) ≡ drop (root_of image * 512 + 512) image
   behind_made =
@@ -116,13 +115,10 @@ module _ (image : List ℕ) (len : is_image_len (length image) ≡ true) where
       ∙ past (begun image) image 4 (root_of image * 512 + 512) (rest_begun image) (omega arith)
 
   kept_middle : has_root image ≡ true → block (rooted (begun image)) (root_of image) ≡ middle_block image
-  kept_middle h =
-      ap (λ (l : List ℕ). block l (root_of image)) (whole_rooted (begun image) (same_has ∙ h))
-      ∙ block_begun image (root_of image) (let w = root_within image len in omega (arith, w.low))
+  kept_middle h = grind (arith, common_steps, whole_rooted, same_has, block_begun, root_within)
 
   made_middle : has_root image ≡ false → block (rooted (begun image)) (root_of image) ≡ root_block (made_root (begun image))
-  made_middle h =
-      subst (λ r. block (rooted (begun image)) r ≡ root_block (made_root (begun image))) same_root (made_rooted (begun image) room (same_has ∙ h))
+  made_middle h = grind (arith, common_steps, same_root, made_rooted, room, same_has)
 
   same_table : (s : ℕ) → s < SLOTS → word_in image (root_of image) (FIRST_SLOT + s) < 2 ^ 32
       → word_in (rooted (begun image)) (root_of image) (FIRST_SLOT + s) ≡ word_in image (root_of image) (FIRST_SLOT + s)
@@ -158,8 +154,7 @@ pub begun_len : (image : List ℕ) → is_mended image ≡ true → is_image_len
 begun_len image h = ap is_image_len (same_length image (mended_len image h)) ∙ mended_len image h
 
 pub same_opened : (image : List ℕ) → begins_with_dos image ≡ true → has_root image ≡ true → opened image ≡ image
-same_opened image dos root =
-    opened_kept image (and_right (is_image_len (length image)) _ (not_from_true _ (and_from (begins_with_dos image) (has_root image) dos root)))
+same_opened image dos root = grind (arith, common_steps, opened_kept, and_right, not_from_true, and_from)
 
 pub odd_opened : (image : List ℕ) → is_image_len (length image) ≡ false → opened image ≡ image
 odd_opened image odd = opened_kept image (and_left (is_image_len (length image)) _ odd)
@@ -189,8 +184,7 @@ middle_opened : (image : List ℕ) → middle_block (opened image) ≡ block (op
 middle_opened image = ap (λ n. block (opened image) (middle (n / 512))) (length_opened image)
 
 no_root_mended : (image : List ℕ) → is_image_len (length image) ≡ true → has_root image ≡ false → is_mended image ≡ true
-no_root_mended image len none =
-    and_from (is_image_len (length image)) _ len (not_from_false _ (and_right (begins_with_dos image) (has_root image) none))
+no_root_mended image len none = grind (arith, common_steps, and_from, not_from_false, and_right)
 
 pub root_opened : (image : List ℕ) → is_image_len (length image) ≡ true → has_root (opened image) ≡ true
 root_opened image len = elim (cases_Bool (is_mended image)) [
@@ -207,10 +201,7 @@ root_opened image len = elim (cases_Bool (is_mended image)) [
 
 module _ (image : List ℕ) (len : is_image_len (length image) ≡ true) (none : has_root_type (middle_block image) ≡ false) where
   made_opened : middle_block (opened image) ≡ root_block (made_root (begun image))
-  made_opened =
-      let no_root : has_root image ≡ false = and_left (has_root_type (middle_block image)) _ none in
-      middle_opened image ∙ (ap (λ (l : List ℕ). block l (root_of image)) (opened_mended image (no_root_mended image len no_root))
-      ∙ made_middle image len no_root)
+  made_opened = grind (arith, common_steps, and_left, middle_opened, opened_mended, no_root_mended, made_middle)
 
   still_none : has_root_type (middle_block (begun image)) ≡ false
   still_none = ap has_root_type (same_middle image len) ∙ none
@@ -224,11 +215,7 @@ module _ (image : List ℕ) (len : is_image_len (length image) ≡ true) (none :
 -- it begins as a volume
 
 first_bytes : (image : List ℕ) (n : ℕ) → 3 ≤ n → begins_with_dos (take n image) ≡ begins_with_dos image
-first_bytes image n h =
-    let one = get_or-take n image 0 0 (omega arith) in
-    let two = get_or-take n image 1 0 (omega arith) in
-    let three = get_or-take n image 2 0 (omega arith) in
-    λ i. (one i == 0x44) && (two i == 0x4F) && (three i == 0x53)
+first_bytes image n h = grind (arith, common_steps, get_or-take)
 
 dos_rooted : (image : List ℕ) → is_image_len (length image) ≡ true → begins_with_dos (rooted (begun image)) ≡ true
 dos_rooted image len =
@@ -239,16 +226,7 @@ dos_rooted image len =
     ∙ (first_bytes (begun image) n far ∙ dos_begun image))
 
 pub dos_opened : (image : List ℕ) → is_image_len (length image) ≡ true → begins_with_dos (opened image) ≡ true
-dos_opened image len = elim (cases_Bool (is_mended image)) [
-  | inl mended ↦ ap begins_with_dos (opened_mended image mended) ∙ dos_rooted image len
-  | inr kept ↦ elim (cases_Bool (begins_with_dos image)) [
-    | inl dos ↦ ap begins_with_dos (opened_kept image kept) ∙ dos
-    | inr other ↦
-        let mended : is_mended image ≡ true =
-        and_from (is_image_len (length image)) _ len (not_from_false _ (and_left (begins_with_dos image) (has_root image) other)) in
-        absurd cc
-  ]
-]
+dos_opened image len = grind (arith, common_steps, cases_Bool, opened_mended, dos_rooted, opened_kept, and_from, not_from_false, and_left)
 
 -- an image that a tree fits is not mended
 
@@ -263,9 +241,4 @@ unfolding block
 first_block image = first_bytes image 512 (omega arith)
 
 pub volumes_are_kept : (image : List ℕ) (t : Tree) (l : Layout) → Fits image t l → is_mended image ≡ false
-volumes_are_kept image t l fits =
-    let boot = block image 0 in
-    let dos = sym (first_block image)
-    ∙ front_tests (slice_index boot 0 == 0x44) (slice_index boot 1 == 0x4F) (slice_index boot 2 == 0x53) (nat_le (slice_index boot 3) 5) fits.boots.1.0 in
-    let root = and_from (has_root_type (middle_block image)) (long_sum (middle_block image) == 0) fits.root.1.0 fits.root.0 in
-    and_right (is_image_len (length image)) _ (not_from_true _ (and_from (begins_with_dos image) (has_root image) dos root))
+volumes_are_kept image t l fits = grind (arith, common_steps, first_block, front_tests, and_from, and_right, not_from_true)

@@ -1,50 +1,38 @@
 -- Laws of verdicts: sound files stand, and one survey has one rescue.
-use Rattle.std.proofs.Common.{◌≡◌, ℕ, Bool, true, false, cond, length, List, [], Ok, ap, refl, subst, sym, ◌∙◌}
-use mathlib.Core.Path.{fun_ext}
-use Rattle.std.specs.Prelude.{◌&&◌, ◌==◌}
-use Rattle.std.specs.Cmp.{both_ways}
+use Rattle.std.proofs.Common.{◌≡◌, ℕ, Bool, true, false, List, [], Ok, ap, refl, subst, sym, ◌∙◌, arith}
+use Rattle.std.specs.Prelude.{◌&&◌}
 use Rattle.std.proofs.lemmas.Bool.{and_from, eq-eqb}
+use Rattle.std.proofs.lemmas.Grind.{common_steps}
 use Rattle.adf_base.specs.Words.{block}
 use Rattle.adf_tree.specs.declared.entry.Body.TheVariants.{File}
-use Rattle.adf_blocks.specs.declared.layout.TheConstants.{SECONDARY_TYPE, ST_FILE}
 use Rattle.adf_blocks.specs.HeadBlock.{meta_stated}
 use Rattle.adf_blocks.specs.Sizes.{blocks}
-use Rattle.adf_volume.specs.Image.{name_of, word_in}
-use Rattle.adf_volume.specs.Start.{is_image_len}
+use Rattle.adf_volume.specs.Image.{name_of}
 use Rattle.adf_volume.specs.Walk.{Role, node_block}
 use Rattle.adf_findings.specs.Files.{IsSoundFile, file_content, file_in, grave}
 use Rattle.adf_findings.specs.Found.{parent_node}
 use Rattle.adf_findings.specs.SoundMarks.{AreMarks}
 use Rattle.adf_findings.specs.Survey.{FindingValue, IsSurvey}
 use Rattle.adf_findings.proofs.OneSurvey.{one_survey}
-use Rattle.adf_rescue.specs.Lost.{has_lost, lost_among}
-use Rattle.adf_rescue.specs.Rescue.{IsLook, Look, Verdict, at_path, before_first, body_of, body_of_type, by_body, path_by, place_of, tree_of, verdict}
+use Rattle.adf_rescue.specs.Lost.{has_lost}
+use Rattle.adf_rescue.specs.Rescue.{IsLook, Look, Verdict, at_path, before_first, body_of, path_by, place_of, tree_of, verdict}
 
 -- a sound file stands with its content
 pub sound_stands : (l : Look) (fs : List FindingValue) (n : ℕ) → AreMarks l.image l.walk fs l.sound → IsSoundFile l.image l.walk fs n
     → body_of l n ≡ Ok (File (file_content (file_in l.image l.walk n)))
-sound_stands l fs n marks is =
-    let secondary : ℕ = word_in l.image (node_block l.walk n) SECONDARY_TYPE in
-    let both : (l.sound n && (secondary == ST_FILE)) ≡ true =
-    and_from (l.sound n) (secondary == ST_FILE) ((marks n).1 is.0) (eq-eqb secondary ST_FILE is.1) in
-    ap (λ b. cond b (Ok (File (file_content (file_in l.image l.walk n)))) (body_of_type secondary)) both
+sound_stands l fs n marks is = grind (arith, common_steps, and_from, eq-eqb)
 
 -- so the verdict on it is that of its path
 pub sound_verdict : (a : Look) (fs : List FindingValue) (n : ℕ) (vs : List Verdict) → AreMarks a.image a.walk fs a.sound → IsSoundFile a.image a.walk fs n
     → (let t = tree_of (before_first a.image) vs in verdict (before_first a.image) a vs n
     ≡ at_path t (blocks a.image) (meta_stated (block a.image (node_block a.walk n))) (File (file_content (file_in a.image a.walk n)))
     (path_by t (place_of vs (parent_node a.walk n)) (name_of a.image (node_block a.walk n)) (node_block a.walk n)))
-sound_verdict a fs n vs marks is =
-    ap (by_body a.image (blocks a.image) (tree_of (before_first a.image) vs) (place_of vs (parent_node a.walk n)) (node_block a.walk n))
-    (sound_stands a fs n marks is)
+sound_verdict a fs n vs marks is = grind (arith, common_steps, sound_stands)
 
 -- the marks of a survey are one function, so there is one list of verdicts
 pub same_look : (image : List ℕ) (w : List (Role × ℕ)) (fs : List FindingValue) (s t : ℕ → Bool) → AreMarks image w fs s → AreMarks image w fs t
     → (let r : (ℕ → Bool) → Look = λ m. record { image = image; walk = w; sound = m } in r s ≡ r t)
-same_look image w fs s t a b =
-    let same : s ≡ t = fun_ext (λ n. both_ways (s n) (t n) (λ h. (b n).1 ((a n).0 h)) (λ h. (a n).1 ((b n).0 h))) in
-    let r : (ℕ → Bool) → Look = λ m. record { image = image; walk = w; sound = m } in
-    ap r same
+same_look image w fs s t a b = grind (arith, common_steps)
 
 -- an image has one survey as a rescue takes it
 pub one_look : (image : List ℕ) (l m : Look) → IsLook image l → IsLook image m → l ≡ m
@@ -65,5 +53,4 @@ neither false b = refl
 
 -- nothing is lost without a finding
 pub nothing_lost : (image : List ℕ) (w : List (Role × ℕ)) (fs : List FindingValue) → fs ≡ [] → has_lost image w fs ≡ false
-nothing_lost image w fs none =
-    subst (λ gs. has_lost image w gs ≡ false) (sym none) (neither (is_image_len (length image)) (lost_among image w [] (blocks image)))
+nothing_lost image w fs none = grind (arith, common_steps, neither)

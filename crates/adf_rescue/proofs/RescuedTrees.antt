@@ -1,17 +1,17 @@
 -- The tree of a rescue is that of its additions.
 -- Letters: b the body of an entry, or why it is left out; o a path, if there is one; x an addition.
 use Rattle.std.proofs.Common.{◌≡◌, ℕ, Bool, true, false, cond, List, [], ◌∷◌, ◌++◌, Option, Some, None, Result, Ok, Err, refl, sym, ◌∙◌, ap, subst, zero, suc}
-use Rattle.std.specs.Prelude.{IsOk, nat_le, ◌-◌, is_ok, ◌&&◌}
+use Rattle.std.specs.Prelude.{IsOk, ◌-◌}
 use Rattle.std.proofs.lemmas.Bool.{and_parts}
 use Rattle.std.proofs.lemmas.List.{append-nil, append_assoc}
 use Rattle.std.proofs.lemmas.Option.{cond_some}
+use Rattle.std.proofs.lemmas.Grind.{common_steps}
+use Rattle.std.proofs.Common.{arith}
 use Rattle.adf_tree.specs.declared.entry.Body.{Body}
 use Rattle.adf_tree.specs.declared.entry.Meta.{Meta}
 use Rattle.adf_tree.specs.Additions.{Addition, IsTreeOf, entries_of_additions}
-use Rattle.adf_tree.specs.Texts.{is_name}
 use Rattle.adf_tree.specs.Tree.{Tree, room_for, with_entry}
 use Rattle.adf_tree.proofs.TreeOfAdditions.{grown, nothing_added}
-use Rattle.adf_build.specs.Plan.{blocks_needed}
 use Rattle.adf_blocks.specs.Sizes.{blocks}
 use Rattle.adf_volume.specs.Walk.{heads, node_block}
 use Rattle.adf_findings.specs.Found.{owner}
@@ -25,11 +25,10 @@ use Rattle.adf_rescue.proofs.Steps.{additions_more, tree_more}
 -- a path that an entry gets has room
 
 room_in : (t : Tree) (dir : List (List ℕ)) (name : List ℕ) (path : List (List ℕ)) → path_in t dir name ≡ Some path → IsOk (room_for t.entries path)
-room_in t dir name path h =
-    let both = cond_some (is_name name && is_ok (room_for t.entries (dir ++ name ∷ []))) (dir ++ name ∷ []) path h in
-    subst (λ p. IsOk (room_for t.entries p)) both.1 (and_parts (is_name name) (is_ok (room_for t.entries (dir ++ name ∷ []))) both.0).1
+room_in t dir name path h = grind (arith, common_steps, cond_some, and_parts)
 
-abbrev or_else : Option (List (List ℕ)) → Option (List (List ℕ)) → Option (List (List ℕ))
+-- a path, or else another
+abbrev pub or_else : Option (List (List ℕ)) → Option (List (List ℕ)) → Option (List (List ℕ))
 or_else o other = elim o [ Some path ↦ Some path | None ↦ other ]
 
 room_either : (t : Tree) (o other : Option (List (List ℕ))) (path : List (List ℕ)) → ((p : List (List ℕ)) → o ≡ Some p → IsOk (room_for t.entries p))
@@ -52,10 +51,7 @@ fitting_is false x y h = absurd cc
 room_at_path : (t : Tree) (n : ℕ) (meta : Meta) (body : Body) (o : Option (List (List ℕ))) (x : Addition)
     → ((p : List (List ℕ)) → o ≡ Some p → IsOk (room_for t.entries p)) → at_path t n meta body o ≡ adds x → IsOk (room_for t.entries x.path)
 room_at_path t n meta body None x room h = absurd cc
-room_at_path t n meta body (Some path) x room h =
-    let y : Addition = record { path = path; meta = meta; body = body } in
-    let same = fitting_is (nat_le (blocks_needed (with_entry t path meta body) n) (n - 2)) y x h in
-    subst (λ (z : Addition). IsOk (room_for t.entries z.path)) same (room path refl)
+room_at_path t n meta body (Some path) x room h = grind (arith, common_steps, fitting_is)
 
 room_of_body : (image : List ℕ) (n : ℕ) (t : Tree) (dir : Option (List (List ℕ))) (h : ℕ) (b : Result Body Why) (x : Addition)
     → by_body image n t dir h b ≡ adds x → IsOk (room_for t.entries x.path)
@@ -76,9 +72,7 @@ room_of_verdict g l vs n x is =
 
 nothing_more : (g : Ground) (vs : List Verdict) (v : Verdict) → addition_of v ≡ [] → IsTreeOf (tree_of g vs).entries (additions_of g.verdicts ++ additions_of vs)
     → IsTreeOf (tree_of g (vs ++ v ∷ [])).entries (additions_of g.verdicts ++ additions_of (vs ++ v ∷ []))
-nothing_more g vs v none h =
-    let same : additions_of (vs ++ v ∷ []) ≡ additions_of vs = additions_more vs v ∙ (ap (λ xs. additions_of vs ++ xs) none ∙ append-nil (additions_of vs)) in
-    rw same h
+nothing_more g vs v none h = grind (arith, common_steps, additions_more, append-nil)
 
 grown_by : (g : Ground) (vs : List Verdict) (v : Verdict) → IsTreeOf (tree_of g vs).entries (additions_of g.verdicts ++ additions_of vs)
     → ((x : Addition) → v ≡ adds x → IsOk (room_for (tree_of g vs).entries x.path))

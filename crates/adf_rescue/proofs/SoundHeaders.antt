@@ -1,25 +1,26 @@
 -- The entries of a survey without findings: what their headers tell is what the tree of the walk has.
 -- Letters: w the walk of the survey, fs its findings; sound the marks; n a node, i its index; b the block of its header; bs a block's bytes.
-use Rattle.std.proofs.Common.{◌≡◌, ◌⊎◌, ℕ, suc, List, [], inl, inr, ◌+◌, ◌-◌, ◌<◌, ◌≤◌, length, take, drop, refl, sym, ap, ◌∙◌, arith, rules}
-use Rattle.std.proofs.Common.{Bool, true, false, cond, Result, Ok, Err}
-use Rattle.std.specs.Prelude.{◌==◌, nat_le, slice_index}
+use Rattle.std.proofs.Common.{◌≡◌, ◌⊎◌, ℕ, suc, List, [], inl, inr, ◌-◌, ◌<◌, ◌≤◌, length, take, refl, arith, rules}
+use Rattle.std.proofs.Common.{Bool, true, cond, Result, Ok, Err}
+use Rattle.std.specs.Prelude.{nat_le, slice_index}
 use Rattle.std.proofs.lemmas.Bool.{and_from, and_parts, and_right, eq-eqb, leb-true, ne_eqb}
 use Rattle.std.proofs.lemmas.List.{length-take, take_all}
+use Rattle.std.proofs.lemmas.Grind.{common_steps}
 use Rattle.adf_base.specs.Words.{block, word}
 use Rattle.adf_tree.specs.declared.entry.Body.{Body}
-use Rattle.adf_tree.specs.declared.entry.Body.TheVariants.{Dir, File}
+use Rattle.adf_tree.specs.declared.entry.Body.TheVariants.{Dir}
 use Rattle.adf_tree.specs.declared.entry.Entry.{Entry}
 use Rattle.adf_tree.specs.declared.entry.Kind.{Kind}
 use Rattle.adf_tree.specs.Texts.{is_name}
 use Rattle.adf_blocks.specs.declared.cause.Cause.TheVariants.{BadComment, BadName}
 use Rattle.adf_blocks.specs.declared.layout.TheConstants.{COMMENT, DATE, NAME, PROTECTION, SECONDARY_TYPE, ST_DIR, ST_FILE}
 use Rattle.adf_blocks.specs.Forms.{stamp_at, text_at}
-use Rattle.adf_blocks.specs.HeadBlock.{head_form, is_link, is_name_at, meta_stated}
+use Rattle.adf_blocks.specs.HeadBlock.{head_form, is_link, meta_stated}
 use Rattle.adf_blocks.specs.RootBlock.{label_stated, root_form}
 use Rattle.adf_volume.specs.Demands.{AllHold, head_demands, root_demands}
-use Rattle.adf_volume.specs.Image.{content, kind_of, meta_of, name_of, root_of, word_in}
+use Rattle.adf_volume.specs.Image.{kind_of, meta_of, name_of, root_of, word_in}
 use Rattle.adf_volume.specs.Lists.{At}
-use Rattle.adf_volume.specs.Made.{body_in, datas_in, entries_in, entry_in}
+use Rattle.adf_volume.specs.Made.{body_in, entries_in, entry_in}
 use Rattle.adf_volume.specs.Walk.{HeadAt, IsWalk, Role, heads, node_block}
 use Rattle.adf_volume.proofs.FormDemands.{demanded, dir_not_file, head_type}
 use Rattle.adf_volume.proofs.MemberFacts.{kept}
@@ -38,9 +39,7 @@ use Rattle.adf_rescue.specs.Rescue.{Look, body_of, body_of_type}
 -- texts within their fields are told whole
 
 text_short : (bs : List ℕ) (at n : ℕ) → slice_index bs at ≤ n → length (text_at bs at) ≤ n
-text_short bs at n le =
-    let long = length-take (at + 1 + slice_index bs at - (at + 1)) (drop (at + 1) bs) in
-    omega arith
+text_short bs at n le = grind (arith, common_steps, length-take)
 
 pub label_whole : (image : List ℕ) → AllHold (root_demands image (root_of image)) → label_stated (block image (root_of image)) ≡ name_of image (root_of image)
 unfolding name_of
@@ -62,10 +61,7 @@ meta_whole image kind b up s h =
 -- the name in a header is one
 name_valid : (image : List ℕ) (kind : Kind) (b up s : ℕ) → AllHold (head_demands image kind b up s) → is_name (name_of image b) ≡ true
 unfolding name_of
-name_valid image kind b up s h =
-    let bs : List ℕ = block image b in
-    let both : is_name_at bs NAME ≡ true = demanded b (head_form kind b up s bs) (is_name_at bs NAME) BadName h (search rules) in
-    (and_parts (nat_le (slice_index bs NAME) 30) (is_name (text_at bs NAME)) both).1
+name_valid image kind b up s h = grind (arith, common_steps, demanded, and_parts)
 
 -- a sound file and a directory stand, with the body that the tree has
 
@@ -81,18 +77,8 @@ dir_or file x = Ok (cond x Dir file)
 body_stands : (l : Look) (n : ℕ) → l.sound n ≡ true
     → (word_in l.image (node_block l.walk n) SECONDARY_TYPE ≡ ST_DIR) ⊎ (word_in l.image (node_block l.walk n) SECONDARY_TYPE ≡ ST_FILE)
     → body_of l n ≡ Ok (body_in l.image l.walk n (node_block l.walk n))
-body_stands l n s (inl dir) =
-    let t : ℕ = word_in l.image (node_block l.walk n) SECONDARY_TYPE in
-    let file : Body = File (content l.image (kind_of l.image) (node_block l.walk n) (datas_in l.walk n)) in
-    let is : (t == ST_DIR) ≡ true = eq-eqb t ST_DIR dir in
-    let no : (t == ST_FILE) ≡ false = ne_eqb t ST_FILE (λ e. dir_not_file l.image (node_block l.walk n) dir e) in
-    ap (file_or t file) (and_right (l.sound n) (t == ST_FILE) no) ∙ (ap (by_type t) is ∙ sym (ap (dir_or file) is))
-body_stands l n s (inr one) =
-    let t : ℕ = word_in l.image (node_block l.walk n) SECONDARY_TYPE in
-    let file : Body = File (content l.image (kind_of l.image) (node_block l.walk n) (datas_in l.walk n)) in
-    let is : (t == ST_FILE) ≡ true = eq-eqb t ST_FILE one in
-    let no : (t == ST_DIR) ≡ false = ne_eqb t ST_DIR (λ e. dir_not_file l.image (node_block l.walk n) e one) in
-    ap (file_or t file) (and_from (l.sound n) (t == ST_FILE) s is) ∙ sym (ap (dir_or file) no)
+body_stands l n s (inl dir) = grind (arith, common_steps, eq-eqb, ne_eqb, dir_not_file, file_or, and_right, by_type, dir_or)
+body_stands l n s (inr one) = grind (arith, common_steps, eq-eqb, ne_eqb, dir_not_file, file_or, and_from, dir_or)
 
 -- what a survey tells of node n is this entry
 pub record IsToldAs (a : Look) (n : ℕ) (e : Entry) : Type 0 where

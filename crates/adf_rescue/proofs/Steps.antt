@@ -1,10 +1,10 @@
 -- The state of a rescue after one more verdict.
 use Rattle.std.proofs.Common.{add-one, ◌≢◌, ◌==◌, map, ◌≡◌, ℕ, ◌+◌, ◌-◌, ◌<◌, ◌≤◌, inl, inr, List, [], ◌∷◌, ◌++◌}
 use Rattle.std.proofs.Common.{Option, Some, None, Result, Ok, Err, length, get_or, arith, refl, sym, ◌∙◌, ap, subst, zero, suc, length-append}
-use Rattle.std.specs.Prelude.{IfOk, OnErr, OnOk, cond, true, false, min, ◌^◌}
+use Rattle.std.specs.Prelude.{IfOk, OnErr, cond, true, false, min, ◌^◌}
 use Rattle.std.proofs.lemmas.Bool.{cases_lt, eqb-true, le-leb, lt-leb}
 use Rattle.std.proofs.lemmas.List.Sums.{fold_push}
-use Rattle.std.proofs.lemmas.Grind.{flat_map-append}
+use Rattle.std.proofs.lemmas.Grind.{flat_map-append, common_steps}
 use Rattle.std.proofs.lemmas.List.{append-nil, append_assoc, get_or_append_left, get_or_past, get_or_push, length_push, nil_from_length}
 use Rattle.std.proofs.lemmas.Option.{slice_get_past}
 use Rattle.adf_tree.specs.Additions.{Addition, with_addition}
@@ -26,7 +26,7 @@ use Rattle.adf_findings.specs.Survey.IsSurvey.{read, unread}
 use Rattle.adf_findings.specs.Survey.JudgementValue.{clean, reported, skipped}
 use Rattle.adf_findings.specs.Survey.UnreadTells.{bad_boot, bad_root}
 use Rattle.adf_volume.specs.Image.{name_of}
-use Rattle.adf_volume.proofs.Lists.{get_before, get_last}
+use Rattle.adf_volume.proofs.Lists.{get_before}
 use Rattle.adf_volume.specs.Walk.{Role, heads, node_block}
 use Rattle.adf_findings.specs.Found.{owner, parent_node}
 use Rattle.adf_build.specs.Plan.{blocks_needed, entries_blocks, reserved}
@@ -38,6 +38,7 @@ use Rattle.adf_rescue.specs.Rescue.Verdict.{adds, leaves}
 use Rattle.adf_rescue.specs.Salvage.{IsNext, IsPlace, IsRoomOf, IsSalvage, entry_cost, free_blocks}
 use Rattle.adf_rescue.specs.declared.left_out.Why.TheVariants.{NoRoom}
 use Rattle.adf_rescue.proofs.TreeBlocks.{added_blocks}
+use Rattle.adf_tree.proofs.Lists.{get_last}
 
 -- one more verdict
 
@@ -102,8 +103,7 @@ module _ (g : Ground) (l : Look) (vs : List Verdict) (n : ℕ) (new : owner g.wa
   anew = ap (λ o. unless_known g o (verdict_anew g l vs n)) new
 
   pub verdict_err : (why : Why) → body_of l n ≡ Err why → verdict g l vs n ≡ leaves why
-  verdict_err why falls =
-      anew ∙ ap (by_body l.image (blocks g.given) (tree_of g vs) (place_of vs (parent_node l.walk n)) (node_block l.walk n)) falls
+  verdict_err why falls = grind (arith, common_steps, anew)
 
   module _ (body : Body) (stands : body_of l n ≡ Ok body) where
     abbrev path_of_entry : Option (List (List ℕ))
@@ -114,9 +114,7 @@ module _ (g : Ground) (l : Look) (vs : List Verdict) (n : ℕ) (new : owner g.wa
 
     pub verdict_at : (path : List (List ℕ)) (meta : Meta) → path_of_entry ≡ Some path → meta ≡ meta_stated (block l.image (node_block l.walk n))
         → verdict g l vs n ≡ fitting (tree_of g vs) (blocks g.given) (record { path = path; meta = meta; body = body })
-    verdict_at path meta at same =
-        on_path ∙ (ap (at_path (tree_of g vs) (blocks g.given) (meta_stated (block l.image (node_block l.walk n))) body) at
-        ∙ ap (λ (m : Meta). fitting (tree_of g vs) (blocks g.given) (record { path = path; meta = m; body = body })) (sym same))
+    verdict_at path meta at same = grind (arith, common_steps, on_path)
 
     pub verdict_none : path_of_entry ≡ None → verdict g l vs n ≡ leaves NoRoom
     verdict_none at = on_path ∙ ap (at_path (tree_of g vs) (blocks g.given) (meta_stated (block l.image (node_block l.walk n))) body) at
@@ -128,10 +126,6 @@ pub new_place : (d : DraftValue) (path : List (List ℕ)) (meta : Meta) (body : 
 new_place d path meta Dir m place is dir = rw is (dir refl)
 new_place d path meta (File bytes) m place is dir = rw is tt
 
-pub on_ok_then : {T E : Type 0} (r : Result T E) {P Q : Type 0} → OnOk r P → (P → Q) → OnOk r Q
-on_ok_then (Ok x) p f = f p
-on_ok_then (Err e) p f = tt
-
 -- an entry adds nothing
 pub none_more : (g : Ground) (vs : List Verdict) (r s : Salvage) (n : ℕ) (v : Verdict) (place : Option ℕ) → IsSalvage g vs r → n ≡ length vs + 1
     → addition_of v ≡ [] → IsPlace r.draft (directory_in v) place
@@ -139,19 +133,7 @@ pub none_more : (g : Ground) (vs : List Verdict) (r s : Salvage) (n : ℕ) (v : 
     → s.places.items ≡ r.places.items ++ place ∷ [] → s.left_out.items ≡ r.left_out.items ++ left_out_by n v
     → IsSalvage g (vs ++ v ∷ []) s
 none_more g vs r s n v place is at none new d k kn l before ps out =
-    let same : additions_of (vs ++ v ∷ []) ≡ additions_of vs = additions_more vs v ∙ (ap (λ xs. additions_of vs ++ xs) none ∙ append-nil (additions_of vs)) in
-    let number : length vs + 1 ≡ n = sym at in
-    record {
-      tree = rw (d, same) is.tree;
-      kind = k ∙ is.kind;
-      count = rw ps (omega (arith, is.count, length_push r.places.items place, length_push vs v));
-      nodes = rw (d, same) is.nodes;
-      known = rw (d, kn) is.known;
-      places = rw (d, ps) (places_more r.draft vs v r.places.items place is.count is.places new);
-      left = rw (d, l) is.left;
-      left_before = rw before is.left_before;
-      left_out = out ∙ (rw (is.left_out, left_out_more 1 vs v, number) refl);
-    }
+    grind (arith, common_steps, before, additions_more, append-nil, length_push, places_more, left_out_more)
 
 -- an addition
 
@@ -191,19 +173,13 @@ module _ (g : Ground) (vs : List Verdict) (r : Salvage) (x : Addition) (is : IsS
 
     numbers : r.left < 2 ^ 32 → cost ≤ r.left → (1 + reserved (blocks g.given) + entries_blocks before.kind behind.entries ≤ blocks g.given - 2)
         × (r.left - cost + entries_blocks before.kind behind.entries ≡ free_blocks (blocks g.given))
-    numbers small le =
-        rw used_behind (room_left r.left (entries_blocks before.kind before.entries) (free_blocks (blocks g.given)) (blocks g.given - 2) (reserved (blocks g.given))
-        cost (entry_cost before.kind x.body) used_before refl small real (omega arith) le)
+    numbers small le = grind (arith, common_steps, used_behind, room_left, before, used_before, real)
 
     pub fits : r.left < 2 ^ 32 → cost ≤ r.left → fitting before (blocks g.given) x ≡ adds x
     fits small le = rw (le-leb (blocks_needed behind (blocks g.given)) (blocks g.given - 2) (numbers small le).0)
 
     pub fits_not : r.left < cost → fitting before (blocks g.given) x ≡ leaves NoRoom
-    fits_not lt =
-        let short : blocks g.given - 2 < 1 + reserved (blocks g.given) + entries_blocks before.kind behind.entries =
-        rw used_behind (room_short r.left (entries_blocks before.kind before.entries) (free_blocks (blocks g.given)) (blocks g.given - 2) (reserved (blocks g.given))
-        cost (entry_cost before.kind x.body) used_before refl real lt) in
-        rw (lt-leb (blocks_needed behind (blocks g.given)) (blocks g.given - 2) short)
+    fits_not lt = grind (arith, common_steps, before, behind, used_behind, room_short, used_before, real, lt-leb)
 
     -- it is added
     pub added_more : (s : Salvage) (place : Option ℕ) → r.left < 2 ^ 32 → cost ≤ r.left
@@ -265,8 +241,7 @@ course_taken image s (step (skipped at c) before next is) e = course_taken image
 
 told_unread : (image : List ℕ) (fs : List FindingValue) → UnreadTells image fs → fs ≢ []
 told_unread image fs (bad_boot fails other) e = cc
-told_unread image fs (bad_root {boot = boot} {at = at} {c = c} tells judged) e =
-    absurd (omega (arith, ap length e, length_push boot (finding None at c)))
+told_unread image fs (bad_root {boot = boot} {at = at} {c = c} tells judged) e = grind (arith, common_steps, length_push)
 
 pub on_err : {T E P : Type 0} (r : Result T E) → P → OnErr r P
 on_err (Ok x) h = tt
@@ -284,9 +259,7 @@ none_added g vs r is none = nil_from_length (additions_of g.verdicts ++ addition
 -- the tree of the additions fits
 pub buildable : (t : Tree) (left n m : ℕ) → m ≡ n → is_allowed m ≡ true → 1 + reserved m ≤ m - 2 → left + entries_blocks t.kind t.entries ≡ free_blocks n
     → IsBuildable t m
-buildable t left n m same allowed room is =
-    let here : left + entries_blocks t.kind t.entries ≡ free_blocks m = is ∙ ap free_blocks (sym same) in
-    record { allowed = allowed; room = omega arith }
+buildable t left n m same allowed room is = grind (arith, common_steps)
 
 -- what holds of the second survey of an image
 pub second_some : (image : List ℕ) (P : Option Look → Type 0) → OnLook image (λ b _. P (Some b)) → (b : Option Look) → IsSecond (Some image) b → P b

@@ -2,12 +2,12 @@
 -- Letters: t the tree, es its entries, e the next of them; k the number of those before; vs the verdicts on these; x the addition of e;
 -- w the walk of the survey, fs its findings, n a node, h its header's block; p a directory's node, dir its path.
 use Rattle.std.proofs.Common.{◌≡◌, ℕ, zero, suc, List, [], ◌∷◌, ◌++◌, inl, inr, ◌+◌, ◌-◌, ◌<◌, ◌≤◌, length, get_or, take, refl, sym, ap, subst, ◌∙◌, arith}
-use Rattle.std.proofs.Common.{Bool, true, cond, Option, Some, None, Ok, take_all}
-use Rattle.std.specs.Prelude.{◌&&◌, is_ok}
+use Rattle.std.proofs.Common.{Bool, true, cond, Some, None, Ok, take_all}
 use Rattle.std.specs.Option.{option_and_then}
 use Rattle.std.proofs.lemmas.Bool.{and_from, cases_lt, le-leb}
 use Rattle.std.proofs.lemmas.List.{append-nil, length_push, length-take-le, take_more}
 use Rattle.std.proofs.lemmas.List.Sums.{fold_push}
+use Rattle.std.proofs.lemmas.Grind.{common_steps}
 use Rattle.adf_tree.specs.declared.entry.Body.TheVariants.{Dir}
 use Rattle.adf_tree.specs.declared.entry.Entry.{Entry}
 use Rattle.adf_tree.specs.Additions.{Addition, entries_of_additions, with_addition}
@@ -23,7 +23,7 @@ use Rattle.adf_volume.specs.Layout.{Layout}
 use Rattle.adf_volume.specs.Made.{entries_in, layout_in, tree_in}
 use Rattle.adf_volume.specs.Walk.{IsWalk, Role, heads, node_block}
 use Rattle.adf_volume.proofs.FitWalks.{one_fit}
-use Rattle.adf_volume.proofs.Lists.{at_index_or, get_before, get_last}
+use Rattle.adf_volume.proofs.Lists.{at_index_or, get_before}
 use Rattle.adf_volume.proofs.WalkMembers.{entries_length}
 use Rattle.adf_findings.specs.Files.{grave}
 use Rattle.adf_findings.specs.Found.{parent_node}
@@ -31,14 +31,15 @@ use Rattle.adf_findings.specs.SoundMarks.{AreMarks}
 use Rattle.adf_findings.specs.Survey.{FindingValue, IsSurvey}
 use Rattle.adf_findings.proofs.FirstFindings.{finds_none, none_found, shown}
 use Rattle.adf_build.specs.Plan.{blocks_needed, entries_blocks, reserved}
-use Rattle.adf_rescue.specs.declared.left_out.Why.TheVariants.{NoRoom}
 use Rattle.adf_rescue.specs.Rescue.{Ground, Look, Verdict, additions_of, before_first, before_second, directory_in, first_verdicts, fitting, left_out_from}
-use Rattle.adf_rescue.specs.Rescue.{lost_name, path_by, path_for, path_in, place_of, rescue_leaves, rescued_tree, tree_of, verdict, verdicts}
-use Rattle.adf_rescue.specs.Rescue.Verdict.{adds, leaves}
+use Rattle.adf_rescue.specs.Rescue.{path_by, path_for, place_of, rescue_leaves, rescued_tree, tree_of, verdict, verdicts}
+use Rattle.adf_rescue.specs.Rescue.Verdict.{adds}
 use Rattle.adf_rescue.proofs.FitBlocks.{fit_room, front_blocks}
 use Rattle.adf_rescue.proofs.NextEntries.{directory_stays, has_room, new_is, new_leads}
 use Rattle.adf_rescue.proofs.SoundHeaders.{IsToldAs, label_whole, told}
 use Rattle.adf_rescue.proofs.Steps.{additions_more, left_out_more, verdict_at}
+use Rattle.adf_rescue.proofs.RescuedTrees.{or_else}
+use Rattle.adf_tree.proofs.Lists.{get_last}
 
 -- the place of a directory behind one more verdict
 
@@ -57,11 +58,7 @@ record IsFront (es : List Entry) (k : ℕ) (vs : List Verdict) : Type 0 where
   places : (p : ℕ) → p ≤ k → IsDir es p → (dir : List (List ℕ)) × (place_of vs p ≡ Some dir) × (directory_from (take k es) 0 dir ≡ Ok p)
 
 nothing_yet : (es : List Entry) → IsFront es 0 []
-nothing_yet es = record { count = refl; entries = refl; none = refl; places = at_root }
-  where
-    at_root : (p : ℕ) → p ≤ 0 → IsDir es p → (dir : List (List ℕ)) × (place_of [] p ≡ Some dir) × (directory_from (take 0 es) 0 dir ≡ Ok p)
-    at_root zero le is = ([], refl, refl)
-    at_root (suc i) le is = absurd (omega arith)
+nothing_yet es = grind (arith, common_steps)
 
 -- the addition of an entry in a directory
 abbrev addition : List (List ℕ) → Entry → Addition
@@ -117,30 +114,16 @@ module _ (es : List Entry) (k : ℕ) (vs : List Verdict) (e : Entry) (t : IsTree
   ]
 
   front_more : IsFront es (k + 1) (vs ++ added_verdict ∷ [])
-  front_more = record {
-    count = omega (arith, length_push vs added_verdict, f.count);
-    entries = entries_more;
-    none = left_out_more 1 vs added_verdict ∙ (append-nil (left_out_from 1 vs) ∙ f.none);
-    places = place_more;
-  }
+  front_more = grind (arith, common_steps, length_push, added_verdict, entries_more, left_out_more, append-nil, place_more)
 
 -- the verdict on an entry is that it is added, where its path has room and the blocks suffice
 
-abbrev or_else : Option (List (List ℕ)) → Option (List (List ℕ)) → Option (List (List ℕ))
-or_else o other = elim o [ Some path ↦ Some path | None ↦ other ]
-
 own_path : (t : Tree) (dir : List (List ℕ)) (name : List ℕ) (h p : ℕ) → is_name name ≡ true → room_for t.entries (dir ++ name ∷ []) ≡ Ok p
     → path_for t dir name h ≡ Some (dir ++ name ∷ [])
-own_path t dir name h p valid room =
-    let path : List (List ℕ) = dir ++ name ∷ [] in
-    let both : (is_name name && is_ok (room_for t.entries path)) ≡ true = and_from (is_name name) (is_ok (room_for t.entries path)) valid (ap is_ok room) in
-    let own : path_in t dir name ≡ Some path = ap (λ b. cond b (Some path) None) both in
-    ap (λ o. or_else o (path_in t dir (lost_name h))) own
+own_path t dir name h p valid room = grind (arith, common_steps, and_from, or_else)
 
 enough : (t : Tree) (n : ℕ) (x : Addition) → blocks_needed (with_entry t x.path x.meta x.body) n ≤ n - 2 → fitting t n x ≡ adds x
-enough t n x le =
-    let if_fits : Bool → Verdict = λ b. cond b (adds x) (leaves NoRoom) in
-    ap if_fits (le-leb (blocks_needed (with_entry t x.path x.meta x.body) n) (n - 2) le)
+enough t n x le = grind (arith, common_steps, le-leb)
 
 -- the tree of the first entries
 abbrev tree_so_far : Look → List Verdict → Tree
@@ -149,19 +132,12 @@ tree_so_far a vs = tree_of (before_first a.image) vs
 module _ (a : Look) (vs : List Verdict) (n : ℕ) (e : Entry) (is : IsToldAs a n e) (dir : List (List ℕ)) (at : place_of vs e.parent ≡ Some dir) where
   entry_path : room_for (tree_so_far a vs).entries (dir ++ e.name ∷ []) ≡ Ok e.parent
       → path_by (tree_so_far a vs) (place_of vs (parent_node a.walk n)) (name_of a.image (node_block a.walk n)) (node_block a.walk n) ≡ Some (dir ++ e.name ∷ [])
-  entry_path room =
-      let t : Tree = tree_so_far a vs in
-      let h : ℕ = node_block a.walk n in
-      ap (λ p. path_by t (place_of vs p) (name_of a.image h) h) is.parent
-      ∙ (ap (λ o. path_by t o (name_of a.image h) h) at
-      ∙ (ap (λ name. path_for t dir name h) is.name ∙ own_path t dir e.name h e.parent is.valid room))
+  entry_path room = grind (arith, common_steps, tree_so_far, own_path)
 
   entry_stands : room_for (tree_so_far a vs).entries (dir ++ e.name ∷ []) ≡ Ok e.parent
       → blocks_needed (with_entry (tree_so_far a vs) (dir ++ e.name ∷ []) e.meta e.body) (blocks a.image) ≤ blocks a.image - 2
       → verdict (before_first a.image) a vs n ≡ adds (addition dir e)
-  entry_stands room le =
-      verdict_at (before_first a.image) a vs n refl e.body is.body (dir ++ e.name ∷ []) e.meta (entry_path room) (sym is.meta)
-      ∙ enough (tree_so_far a vs) (blocks a.image) (addition dir e) le
+  entry_stands room le = grind (arith, common_steps, verdict_at, entry_path, enough, tree_so_far, addition)
 
 -- so all entries of a tree that fits are added
 
@@ -210,10 +186,7 @@ module _ (image : List ℕ) (w : List (Role × ℕ)) (fs : List FindingValue) (s
 same_tree : (image : List ℕ) (w : List (Role × ℕ)) (g : Ground) (vs : List Verdict) → g.given ≡ image → AllHold (root_demands image (root_of image))
     → entries_of_additions (additions_of g.verdicts ++ additions_of vs) ≡ entries_in image w w → tree_of g vs ≡ tree_in image w
 unfolding stamps_of
-same_tree image w g vs given root same =
-    let label = label_whole image root in
-    ap (λ i. tree_of (record g { given = i }) vs) given
-    ∙ (λ i. record { kind = kind_of image; label = label i; stamps = stamps_of image (root_of image); entries = same i })
+same_tree image w g vs given root same = grind (arith, common_steps, label_whole)
 
 module _ (image : List ℕ) (t : Tree) (l : Layout) (w : List (Role × ℕ)) (fs : List FindingValue) (sound : ℕ → Bool) (fit : Fits image t l)
     (survey : IsSurvey image w fs) (marks : AreMarks image w (grave fs) sound) where

@@ -1,17 +1,13 @@
 -- Laws of known bytes.
-use Rattle.std.proofs.Common.{◌≡◌, ◌≢◌, ◌≤◌, ◌+◌, ◌-◌, ◌++◌, ap, length-drop, ◌∙◌, ◌<◌, ◌∷◌, [], ℕ, Bool, List, Option}
-use Rattle.std.proofs.Common.{Some, None, Ok, Err, Result, IfSome, OnErr, min, inl, inr, refl, sym, length, take, drop, arith}
-use Rattle.std.proofs.Common.{append_assoc, append-nil, length-append, length-take, length-take-le}
-use Rattle.std.specs.Io.KnownBytes.{Appends, Consumes, IsAtEnd, Keeps}
-use Rattle.std.proofs.Math.Seq.{take-add, take-append-add, take-length, drop-append_seam}
-use Rattle.std.proofs.lemmas.List.{take_all, take-append-le}
+use Rattle.std.proofs.Common.{◌≡◌, ◌≤◌, ◌+◌, ◌-◌, ◌++◌, ap, length-drop, ◌∙◌, ℕ, List, Option}
+use Rattle.std.proofs.Common.{Some, None, IfSome, min, inl, inr, refl, sym, length, take, drop, arith}
+use Rattle.std.proofs.Common.{append_assoc, length-append, length-take, length-take-le}
+use Rattle.std.specs.Io.KnownBytes.{Appends, Consumes}
+use Rattle.std.proofs.Math.Seq.{take-add, take-append-add, drop-append_seam}
+use Rattle.std.proofs.lemmas.List.{take_all, take-append-le, nil_from_length}
 use Rattle.std.proofs.lemmas.Bool.{cases_lt}
 use Rattle.std.proofs.Math.ListN.{drop_of_length-le}
-use Rattle.adf_runs.specs.Streams.{AppendsPart, IsPart, PassesOver, TakesAtMost, TakesCount, TakesFirst}
-
--- what is left past `at`, as a slice says it
-pub rest_is : (at : ℕ) (bytes : List ℕ) → take (length bytes - at) (drop at bytes) ≡ drop at bytes
-rest_is at bytes = take_all (length bytes - at) (drop at bytes) (omega (arith, length-drop at bytes))
+use Rattle.adf_runs.specs.Streams.{IsPart, PassesOver, TakesAtMost, TakesCount, TakesFirst}
 
 pub appends_two : (a b c : Option (List ℕ)) (bs cs all : List ℕ) → all ≡ bs ++ cs → Appends a b bs → Appends b c cs → Appends a c all
 appends_two None b c bs cs all e p q = tt
@@ -30,29 +26,12 @@ consumes_more (Some x) None c bs cs all e p q = absurd p
 consumes_more (Some x) (Some y) None bs cs all e p q = absurd q
 consumes_more (Some x) (Some y) (Some z) bs cs all e p q = rw (p, q, e, append_assoc)
 
-pub appends_kept : (a b c : Option (List ℕ)) (bs : List ℕ) → Appends a b bs → Keeps b c → Appends a c bs
-appends_kept None b c bs p q = tt
-appends_kept (Some x) None c bs p q = absurd p
-appends_kept (Some x) (Some y) None bs p q = absurd q
-appends_kept (Some x) (Some y) (Some z) bs p q = q ∙ p
-
 -- what was read before, and then what a read put behind it
 pub read_front : (filled n : ℕ) (before part rest : List ℕ) → filled ≡ length before → n ≤ length part
     → take (filled + n) (before ++ (part ++ rest)) ≡ before ++ take n part
 read_front filled n before part rest e h =
     ap (λ k. take (k + n) (before ++ (part ++ rest))) e ∙ take-append-add before (part ++ rest) n
     ∙ ap (λ l. before ++ l) (take-append-le n part rest h)
-
--- nothing is taken
-pub takes_none : (a : Option (List ℕ)) → Consumes a a []
-takes_none None = tt
-takes_none (Some x) = refl
-
-pub none_at_most : (n : ℕ) (a : Option (List ℕ)) → TakesAtMost n a a
-none_at_most n a = ([], omega arith, takes_none a)
-
-pub none_counted : (a : Option (List ℕ)) → TakesCount 0 a a
-none_counted a = ([], refl, takes_none a)
 
 -- more is taken
 pub more_counted : (n k : ℕ) (a b c : Option (List ℕ)) (part : List ℕ) → TakesCount n a b → k ≤ length part
@@ -66,25 +45,6 @@ two_at_most n m k a b c few (bs, l, x) (cs, r, y) = (bs ++ cs, omega (arith, len
 pub fewer_at_most : (n k : ℕ) (a b : Option (List ℕ)) → n ≤ k → TakesAtMost n a b → TakesAtMost k a b
 fewer_at_most n k a b few (bs, l, x) = (bs, omega arith, x)
 
--- what was counted, up to the end or to the limit, are the first bytes
-pub counted_first : (n k : ℕ) (a b : Option (List ℕ)) → k ≤ n → (k < n → IsAtEnd b) → TakesCount k a b → PassesOver n a b k
-counted_first n k None b few end (bs, len, taken) = (bs, (tt, tt), len)
-counted_first n k (Some x) None few end (bs, len, taken) = absurd taken
-counted_first n k (Some x) (Some y) few end (bs, len, taken) = (bs, (first, taken), len)
-  where
-    first : bs ≡ take n x
-    first = elim (cases_lt k n) [
-      | inl short ↦
-          let all : x ≡ bs = taken ∙ ap (λ (l : List ℕ). bs ++ l) (end short) ∙ append-nil bs in
-          sym (ap (take n) all ∙ take_all n bs (omega (arith, len)))
-      | inr long ↦
-          let full : n ≡ length bs = omega (arith, len) in
-          sym (ap (take n) taken ∙ ap (λ (m : ℕ). take m (bs ++ y)) full ∙ take-append-le (length bs) bs y (omega arith) ∙ take-length bs)
-    ]
-
-pub counted_at_most : (n k : ℕ) (a b : Option (List ℕ)) → k ≤ n → TakesCount k a b → TakesAtMost n a b
-counted_at_most n k a b few (bs, len, taken) = (bs, omega (arith, len), taken)
-
 -- what is left behind the first bytes
 pub left_over : (n : ℕ) (x y bytes : List ℕ) → TakesFirst n (Some x) (Some y) bytes → y ≡ drop n x
 left_over n x y bytes (first, taken) =
@@ -93,15 +53,11 @@ left_over n x y bytes (first, taken) =
       | inl short ↦
           let all : take n x ≡ x = take_all n x (omega arith) in
           let len : length x ≡ length x + length y = ap length e ∙ ap (λ (l : List ℕ). length (l ++ y)) all ∙ length-append x y in
-          nothing_of y (omega (arith, len)) ∙ sym (drop_of_length-le x (omega arith))
+          nil_from_length y (omega (arith, len)) ∙ sym (drop_of_length-le x (omega arith))
       | inr long ↦
           let front : length (take n x) ≡ n = length-take-le n x long in
           sym (ap (drop n) e ∙ ap (λ (m : ℕ). drop m (take n x ++ y)) (sym front) ∙ drop-append_seam (take n x) y)
     ]
-  where
-    nothing_of : (l : List ℕ) → length l ≡ 0 → l ≡ []
-    nothing_of [] h = refl
-    nothing_of (z ∷ l) h = absurd (omega arith)
 
 -- how many bytes the first n are
 first_length : (n : ℕ) (x bytes : List ℕ) → bytes ≡ take n x → length bytes ≡ min n (length x)
@@ -124,22 +80,3 @@ part_read from to limit (Some x) (Some y) (Some z) (Some w) before held after by
     let left : length y ≡ length x - from = ap length at_from ∙ length-drop from x in
     let past : length z ≡ length y - (to - from) = ap length at_to ∙ length-drop (to - from) y in
     (q.0 ∙ ap (take (to - from)) at_from, omega (arith, count, first, middle, rest, left, past, l, m))
-
--- a front part of the first text, or all of it and a front part of the second, is one of both
-pub front_part : (failed : Bool) (a b : Option (List ℕ)) (first second : List ℕ) → AppendsPart failed a b first → AppendsPart failed a b (first ++ second)
-front_part failed a b first second (part, rest, whole, left, added) =
-    (part, rest ++ second, ap (λ l. l ++ second) whole ∙ append_assoc part rest second, (λ h. more_left rest second (left h)), added)
-  where
-    more_left : (rest second : List ℕ) → rest ≢ [] → rest ++ second ≢ []
-    more_left [] second h = absurd (h refl)
-    more_left (x ∷ rest) second h = λ e. absurd cc
-
-behind_part : (failed : Bool) (a b c : Option (List ℕ)) (first second : List ℕ) → Appends a b first → AppendsPart failed b c second
-    → AppendsPart failed a c (first ++ second)
-behind_part failed a b c first second before (part, rest, whole, left, added) =
-    (first ++ part, rest, ap (λ l. first ++ l) whole ∙ sym (append_assoc first part rest), left, appends_two a b c first part _ refl before added)
-
-pub behind_where : {T E : Type 0} (r : Result T E) (failed : Bool) (a b c : Option (List ℕ)) (first second : List ℕ) → Appends a b first
-    → OnErr r (AppendsPart failed b c second) → OnErr r (AppendsPart failed a c (first ++ second))
-behind_where (Ok x) failed a b c first second before part = tt
-behind_where (Err e) failed a b c first second before part = behind_part failed a b c first second before part

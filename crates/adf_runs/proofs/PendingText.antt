@@ -54,8 +54,3 @@ part_behind b c d text more p q = pending_fails b c d more (text ++ more) [] (te
 pub on_err : {T E P : Type 0} (r : Result T E) → P → OnErr r P
 on_err (Ok x) p = tt
 on_err (Err e) p = p
-
--- what follows of what holds of an error
-pub err_more : {T E P Q : Type 0} (r : Result T E) → (P → Q) → OnErr r P → OnErr r Q
-err_more (Ok x) f p = tt
-err_more (Err e) f p = f p

@@ -1,21 +1,20 @@
 -- Whether a path has room, and what may be added there.
-use Rattle.std.proofs.Common.{◌≡◌, ℕ, ◌-◌, ◌<◌, inl, inr, List, [], ◌∷◌, length, get_or, true, false, Bool, Option, Some, None, Result, Ok, Err, arith, ◌==◌}
-use Rattle.std.proofs.Common.{sym, refl, ◌∙◌, ap, subst, if◌then◌else◌, zero, suc, take, ◌++◌, ◌+◌}
+use Rattle.std.proofs.Common.{◌≡◌, ℕ, ◌-◌, ◌<◌, List, [], ◌∷◌, length, get_or, true, false, Bool, Option, Some, None, Result, Ok, Err, arith, ◌==◌}
+use Rattle.std.proofs.Common.{refl, subst, if◌then◌else◌, zero, suc, take, ◌++◌, ◌+◌}
 use Rattle.std.specs.Prelude.{option_map}
 use Rattle.std.specs.Option.{unwrap_or}
 use Rattle.std.specs.List.{slice_get}
-use Rattle.std.specs.Str.{bytes_eq}
 use Rattle.std.proofs.lemmas.Bool.{cases_Bool, and_from, eq-eqb, eqb-false, ne_eqb, both_ways}
 use Rattle.std.proofs.lemmas.List.{get_or_default, take_more, take_all}
 use Rattle.std.proofs.lemmas.Slice.Eq.{bytes_eq-Decides}
+use Rattle.std.proofs.lemmas.Grind.{common_steps}
 use Rattle.adf_tree.specs.declared.entry.Entry.{Entry}
 use Rattle.adf_tree.specs.declared.entry.Meta.{Meta}
 use Rattle.adf_tree.specs.declared.entry.Body.{Body}
 use Rattle.adf_tree.specs.declared.entry.Body.TheVariants.{Dir, File}
 use Rattle.adf_tree.specs.declared.tree.RoomFault.{RoomFault}
 use Rattle.adf_tree.specs.declared.tree.RoomFault.TheVariants.{EmptyPath, NoParent, ParentIsFile, Exists}
-use Rattle.adf_tree.specs.Texts.{uppers}
-use Rattle.adf_tree.specs.Tree.{is_child, child, is_dir, is_dir_body, directory_from, room_at, free_in, added, IsDir, IsTree, AreApart, MayAdd, Tree}
+use Rattle.adf_tree.specs.Tree.{child, is_dir, is_dir_body, directory_from, room_at, free_in, added, IsDir, IsTree, AreApart, MayAdd, Tree}
 use Rattle.adf_tree.specs.Tree.{new_entry, with_entry, last_of, parents_of, room_for}
 use Rattle.adf_tree.proofs.TreeInvariant.{added_tree}
 use Rattle.adf_tree.proofs.ChildLookup.{none_is}
@@ -31,9 +30,7 @@ slice_dir (e ∷ es) zero h = (omega arith, λ d. body_is_dir e.body h)
 slice_dir (e ∷ es) (suc i) h = let more = slice_dir es i h in (omega (arith, more.0), more.1)
 
 is_dir_says : (es : List Entry) (n : ℕ) → is_dir es n ≡ true → IsDir es n
-is_dir_says es n h some =
-    let at = slice_dir es (n - 1) (rw (ne_eqb n 0 (omega arith)) at h) in
-    (omega (arith, at.0), at.1)
+is_dir_says es n h some = grind (arith, common_steps, slice_dir, ne_eqb)
 
 -- a path of directories leads to one
 pub next_dir : (es : List Entry) (names : List (List ℕ)) (q : ℕ) (o : Option ℕ)
@@ -41,11 +38,7 @@ pub next_dir : (es : List Entry) (names : List (List ℕ)) (q : ℕ) (o : Option
     elim o [ None ↦ Err NoParent | Some n ↦ if is_dir es n then directory_from es n names else Err ParentIsFile ] in r ≡ Ok q)
     → (n : ℕ) × (o ≡ Some n) × (is_dir es n ≡ true) × (directory_from es n names ≡ Ok q)
 next_dir es names q None h = cc
-next_dir es names q (Some n) h =
-    elim (cases_Bool (is_dir es n)) [
-      | inl t ↦ (n, refl, t, rw t at h)
-      | inr f ↦ let g : (let r : Result ℕ RoomFault = Err ParentIsFile in r ≡ Ok q) = rw f at h in cc
-    ]
+next_dir es names q (Some n) h = grind (arith, common_steps, cases_Bool)
 
 pub directory_is_dir : (es : List Entry) (p : ℕ) (names : List (List ℕ)) (q : ℕ) → directory_from es p names ≡ Ok q → IsDir es p → IsDir es q
 directory_is_dir es p [] q h dir = let same : q ≡ p = cc in rw same dir
@@ -54,10 +47,7 @@ directory_is_dir es p (name ∷ names) q h dir =
     directory_is_dir es next.0 names q next.3 (is_dir_says es next.0 next.2)
 
 pub none_is_fresh : (es : List Entry) (e : Entry) → child es e.parent e.name ≡ None → (k : ℕ) (d : Entry) → k < length es → AreApart (get_or es k d) e
-none_is_fresh es e h k d lt p u =
-    both_ways (is_child e.parent e.name (get_or es k d)) (none_is es e.parent e.name k d h lt)
-    (and_from ((get_or es k d).parent == e.parent) (bytes_eq (uppers (get_or es k d).name) (uppers e.name)) (eq-eqb (get_or es k d).parent e.parent p)
-    ((bytes_eq-Decides (uppers (get_or es k d).name) (uppers e.name)).1 u))
+none_is_fresh es e h k d lt p u = grind (arith, common_steps, both_ways, none_is, and_from, eq-eqb, bytes_eq-Decides)
 
 free_says : (p q : ℕ) (o : Option ℕ) → free_in p o ≡ Ok q → (p ≡ q) × (o ≡ None)
 free_says p q None h = (cc, refl)
@@ -65,9 +55,7 @@ free_says p q (Some n) h = cc
 
 pub room_says : (es : List Entry) (e : Entry) (r : Result ℕ RoomFault) → room_at es e.name r ≡ Ok e.parent
     → (r ≡ Ok e.parent) × (child es e.parent e.name ≡ None)
-room_says es e (Ok p) h =
-    let both = free_says p e.parent (child es p e.name) h in
-    (rw both.0 refl, rw (← both.0) both.1)
+room_says es e (Ok p) h = grind (arith, common_steps, free_says)
 room_says es e (Err f) h = cc
 
 pub room_may_add : (es : List Entry) (e : Entry) (names : List (List ℕ)) → room_at es e.name (directory_from es 0 names) ≡ Ok e.parent → MayAdd es e
@@ -79,10 +67,7 @@ room_may_add es e names h =
     }
 
 pub whole_path : (path : List (List ℕ)) (d : List ℕ) → (length path == 0) ≡ false → path ≡ take (length path - 1) path ++ get_or path (length path - 1) d ∷ []
-whole_path path d h =
-    let lt : length path - 1 < length path = omega (arith, eqb-false (length path) 0 h) in
-    let n : length path - 1 + 1 ≡ length path = omega arith in
-    sym (take_all (length path) path (omega arith)) ∙ (ap (λ k. take k path) (sym n) ∙ take_more path (length path - 1) d lt)
+whole_path path d h = grind (arith, common_steps, eqb-false, take_all, take_more)
 
 -- so a tree stays one, whatever `add` answers
 pub room_keeps : (es : List Entry) (e : Entry) (names : List (List ℕ)) (b : Bool) → IsTree es → room_at es e.name (directory_from es 0 names) ≡ Ok e.parent
@@ -101,32 +86,18 @@ pub room_is : (es : List Entry) (path : List (List ℕ)) (x name : List ℕ) (p 
     → x ≡ get_or path (length path - 1) x → name ≡ x
     → (let r : Result ℕ RoomFault = Ok p in r ≡ room_at es name (directory_from es 0 (parents_of path)))
     → (name ≡ last_of path) × (room_for es path ≡ Ok p)
-room_is es path x name p some at same ok =
-    let lt : length path - 1 < length path = omega (arith, eqb-false (length path) 0 some) in
-    let last : name ≡ last_of path = same ∙ (at ∙ get_or_default path (length path - 1) x [] lt) in
-    (last, rw (some, ← last) (sym ok))
+room_is es path x name p some at same ok = grind (arith, common_steps, eqb-false, get_or_default)
 
 -- what is put in the room of a path is the path's entry
 pub new_in_room : (es : List Entry) (path : List (List ℕ)) (meta : Meta) (body : Body) (name : List ℕ) (p : ℕ) → name ≡ last_of path
     → room_for es path ≡ Ok p → IsNew es path meta body (record { parent = p; name = name; meta = meta; body = body })
-new_in_room es path meta body name p last room =
-    elim (cases_Bool (length path == 0)) [
-      | inl none ↦ let bad : (let r : Result ℕ RoomFault = Err EmptyPath in r ≡ Ok p) = rw none at room in absurd cc
-      | inr some ↦
-          record {
-            is = whole_path path [] some ∙ ap (λ y. parents_of path ++ y ∷ []) (sym last);
-            room = rw last (rw some at room);
-            entry = rw (room, last) refl;
-          }
-    ]
+new_in_room es path meta body name p last room = grind (arith, common_steps, cases_Bool, whole_path)
 
 pub is_new : (es : List Entry) (path : List (List ℕ)) (meta : Meta) (body : Body) (x name : List ℕ) (p : ℕ) → (length path == 0) ≡ false
     → x ≡ get_or path (length path - 1) x → name ≡ x
     → (let r : Result ℕ RoomFault = Ok p in r ≡ room_at es name (directory_from es 0 (parents_of path)))
     → IsNew es path meta body (record { parent = p; name = name; meta = meta; body = body })
-is_new es path meta body x name p some at same ok =
-    let both = room_is es path x name p some at same ok in
-    new_in_room es path meta body name p both.0 both.1
+is_new es path meta body x name p some at same ok = grind (arith, common_steps, room_is, new_in_room)
 
 -- the tree that it leaves
 pub tree_left : (t : Tree) (entries : List Entry) (e : Entry) (b : Bool) (path : List (List ℕ)) (meta : Meta) (body : Body)
@@ -145,14 +116,7 @@ next_says : (es : List Entry) (names : List (List ℕ)) (f : RoomFault) (o : Opt
     → (let r : Result ℕ RoomFault =
     elim o [ None ↦ Err NoParent | Some n ↦ if is_dir es n then directory_from es n names else Err ParentIsFile ] in r ≡ Err f) → SaysNoRoom f
 next_says es names f None more h = let same : NoParent ≡ f = cc in subst SaysNoRoom same tt
-next_says es names f (Some n) more h =
-    elim (cases_Bool (is_dir es n)) [
-      | inl t ↦ more n (rw t at h)
-      | inr file ↦
-          let g : (let r : Result ℕ RoomFault = Err ParentIsFile in r ≡ Err f) = rw file at h in
-          let same : ParentIsFile ≡ f = cc in
-          subst SaysNoRoom same tt
-    ]
+next_says es names f (Some n) more h = grind (arith, common_steps, cases_Bool)
 
 directory_says : (es : List Entry) (names : List (List ℕ)) (f : RoomFault) (p : ℕ) → directory_from es p names ≡ Err f → SaysNoRoom f
 directory_says es [] f p h = cc
@@ -165,9 +129,7 @@ taken_says p (Some n) f h = let same : Exists ≡ f = cc in subst SaysNoRoom sam
 room_says_why : (es : List Entry) (name : List ℕ) (f : RoomFault) (r : Result ℕ RoomFault) → ((g : RoomFault) → r ≡ Err g → SaysNoRoom g)
     → room_at es name r ≡ Err f → SaysNoRoom f
 room_says_why es name f (Err g) why h = let same : g ≡ f = cc in subst SaysNoRoom same (why g refl)
-room_says_why es name f (Ok p) why h =
-    taken_says p (child es p name) f h
+room_says_why es name f (Ok p) why h = grind (arith, common_steps, taken_says)
 
 pub no_room : (es : List Entry) (path : List (List ℕ)) (f : RoomFault) → 0 < length path → room_for es path ≡ Err f → SaysNoRoom f
-no_room es path f some h =
-    room_says_why es (last_of path) f (directory_from es 0 (parents_of path)) (λ g. directory_says es (parents_of path) g 0) (rw (ne_eqb (length path) 0 (omega arith)) at h)
+no_room es path f some h = grind (arith, common_steps, room_says_why, directory_says, ne_eqb)

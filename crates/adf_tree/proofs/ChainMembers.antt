@@ -3,7 +3,8 @@ use Rattle.std.proofs.Common.{◌≡◌, ℕ, ◌+◌, ◌-◌, ◌<◌, ◌≤�
 use Rattle.std.proofs.Common.{◌↔◌}
 use Rattle.std.specs.List.{Contains}
 use Rattle.std.proofs.lemmas.Bool.{and_from, eq-eqb}
-use Rattle.std.proofs.lemmas.List.Elements.{Contains-get_or, All-contains, filter_passes}
+use Rattle.std.proofs.lemmas.List.Elements.{Contains-get_or, filter_passes}
+use Rattle.std.proofs.lemmas.Grind.{common_steps}
 use Rattle.adf_tree.specs.declared.entry.Entry.{Entry}
 use Rattle.adf_base.specs.Hash.{slot_of}
 use Rattle.adf_tree.specs.Chain.{in_chain, chain}
@@ -23,9 +24,7 @@ in_its_chain es e p s h a b = contains_filter (in_chain p s) es e h (in_chain_fr
 
 -- and of no other
 pub in_no_other : (es : List Entry) (e : Entry) (p s : ℕ) → Contains (chain es p s) e → (p ≡ e.parent) × (s ≡ slot_of e.name)
-in_no_other es e p s h =
-    let at = in_chain_rank p s e (All-contains (λ x. in_chain p s x ≡ true) (chain es p s) e (filter_passes (in_chain p s) es) h) in
-    (sym at.0, sym at.1)
+in_no_other es e p s h = grind (arith, common_steps, in_chain_rank, filter_passes)
 
 pub one_chain : (es : List Entry) (e : Entry) → Contains es e → (p s : ℕ) → IsIn es p s e
 one_chain es e h p s = (in_no_other es e p s, λ at. in_its_chain es e p s h (sym at.0) (sym at.1))

@@ -1,6 +1,6 @@
 -- Look-up by parent and name, and how an addition changes it.
 use Rattle.std.proofs.Common.{◌≡◌, ◌≢◌, ℕ, ◌+◌, ◌*◌, ◌%◌, ◌<◌, ◌≤◌, inl, inr, List, [], ◌∷◌, length, get_or, true, false, Bool, Some, None, arith}
-use Rattle.std.proofs.Common.{nat_lt, ◌==◌, sym, refl, ◌∙◌, ap, ◌-◌, Option, ◌&&◌}
+use Rattle.std.proofs.Common.{nat_lt, sym, refl, ◌∙◌, ap, ◌-◌, Option, ◌&&◌}
 use Rattle.std.specs.Prelude.{fold, option_map, position}
 use Rattle.std.specs.List.{All}
 use Rattle.std.specs.List.Sorted.{IsNonDecreasingBy, IsPartitionPoint}
@@ -18,6 +18,7 @@ use Rattle.adf_tree.proofs.TreeInvariant.{after, moved_same, moved_below, moved_
 use Rattle.adf_tree.proofs.TreeInvariant.{at_place, new_get, by_case}
 use Rattle.adf_tree.proofs.ChainOrder.{moved_test}
 use Rattle.std.proofs.lemmas.List.Quantifiers.{position-Some}
+use Rattle.std.proofs.lemmas.Grind.{common_steps}
 use Rattle.adf_tree.proofs.Lists.{fails_at_none}
 
 pub upper_twice : (c : ℕ) → upper_of (upper_of c) ≡ upper_of c
@@ -35,13 +36,10 @@ pub same_slot : (a b : List ℕ) → uppers a ≡ uppers b → slot_of a ≡ slo
 same_slot a b h = sym (slot_uppers a) ∙ (ap slot_of h ∙ slot_uppers b)
 
 pub child_says : (p : ℕ) (name : List ℕ) (x : Entry) → is_child p name x ≡ true → (x.parent ≡ p) × (uppers x.name ≡ uppers name)
-child_says p name x h =
-    let both = and_parts (x.parent == p) (bytes_eq (uppers x.name) (uppers name)) h in
-    (eqb-true x.parent p both.0, (bytes_eq-Decides (uppers x.name) (uppers name)).0 both.1)
+child_says p name x h = grind (arith, common_steps, and_parts, eqb-true, bytes_eq-Decides)
 
 pub is_child_from : (p : ℕ) (name : List ℕ) (x : Entry) → x.parent ≡ p → uppers x.name ≡ uppers name → is_child p name x ≡ true
-is_child_from p name x a b =
-    and_from (x.parent == p) (bytes_eq (uppers x.name) (uppers name)) (eq-eqb x.parent p a) ((bytes_eq-Decides (uppers x.name) (uppers name)).1 b)
+is_child_from p name x a b = grind (arith, common_steps, and_from, eq-eqb, bytes_eq-Decides)
 
 -- a child stands at its parent and its slot
 pub child_rank : (e : Entry) (parent : ℕ) (name : List ℕ) → is_child parent name e ≡ true → rank e ≡ rank_of parent (slot_of name)
@@ -63,8 +61,7 @@ position_no p (x ∷ xs) others =
 -- what a search along a chain finds
 pub child_found : (es : List Entry) (parent : ℕ) (name : List ℕ) (i : ℕ) (e : Entry) → i < length es → e ≡ get_or es i e → is_child parent name e ≡ true
     → ((k : ℕ) (d : Entry) → k < i → is_child parent name (get_or es k d) ≡ false) → Some (i + 1) ≡ child es parent name
-child_found es parent name i e lt at holds others =
-    sym (ap (option_map (λ j. j + 1)) (position_yes (is_child parent name) es i e lt (ap (is_child parent name) (sym at) ∙ holds) (λ k h. others k e h)))
+child_found es parent name i e lt at holds others = grind (arith, common_steps, position_yes)
 
 pub no_children : (es : List Entry) (p : ℕ) (name : List ℕ) → ((k : ℕ) (d : Entry) → k < length es → is_child p name (get_or es k d) ≡ false)
     → child es p name ≡ None
@@ -74,18 +71,12 @@ no_children es p name h = ap (option_map (λ i. i + 1)) (position_no (is_child p
 pub child_not_before : (es : List Entry) (parent : ℕ) (name : List ℕ) (s from : ℕ) → s ≡ slot_of name
     → IsPartitionPoint (λ e. nat_lt (rank e) (rank_of parent s) ≡ true) (λ e. nat_lt (rank e) (rank_of parent s) ≡ false) es from → (k : ℕ) (d : Entry)
     → k < from → is_child parent name (get_or es k d) ≡ false
-child_not_before es parent name s from same point k d lt =
-    no_child (get_or es k d) parent name
-    (omega (arith, ltb-true (rank (get_or es k d)) (rank_of parent s) (point.0 k d (omega arith) lt), same))
+child_not_before es parent name s from same point k d lt = grind (arith, common_steps, no_child, ltb-true)
 
 pub child_not_past : (es : List Entry) (parent : ℕ) (name : List ℕ) (s to i : ℕ) → s ≡ slot_of name → IsNonDecreasingBy rank es
     → to ≡ place es (rank_of parent s) → to ≤ i → ((k : ℕ) (d : Entry) → k < i → is_child parent name (get_or es k d) ≡ false) → (k : ℕ) (d : Entry)
     → k < length es → is_child parent name (get_or es k d) ≡ false
-child_not_past es parent name s to i same up at past others k d lt =
-    elim (cases_lt k i) [
-      | inl h ↦ others k d h
-      | inr h ↦ no_child (get_or es k d) parent name (omega (arith, after es (rank_of parent s) k d up (omega (arith, at, past, h)) lt, same))
-    ]
+child_not_past es parent name s to i same up at past others k d lt = grind (arith, common_steps, cases_lt, no_child, after)
 
 none_before : (o : Option ℕ) → option_map (λ i. i + 1) o ≡ None → o ≡ None
 none_before None h = refl
@@ -98,12 +89,7 @@ none_is es p name k d h lt = fails_at_none (is_child p name) es (none_before (po
 -- the child is the only one
 pub child_is : (es : List Entry) (p : ℕ) (name : List ℕ) (k : ℕ) (d : Entry) → IsTree es → k < length es → is_child p name (get_or es k d) ≡ true
     → child es p name ≡ Some (k + 1)
-child_is es p name k d t lt h =
-    let a = child_says p name (get_or es k d) h in
-    ap (option_map (λ i. i + 1))
-    (position_yes (is_child p name) es k d lt h
-    (λ j below. false_from_ne_true (is_child p name (get_or es j d))
-    (λ g. let b = child_says p name (get_or es j d) g in t.names j k d below lt (b.0 ∙ sym a.0) (b.1 ∙ sym a.1))))
+child_is es p name k d t lt h = grind (arith, common_steps, child_says, position_yes, false_from_ne_true)
 
 one_before : (o : Option ℕ) (m : ℕ) → option_map (λ i. i + 1) o ≡ Some m → (0 < m) × (o ≡ Some (m - 1))
 one_before None m h = cc
@@ -112,10 +98,7 @@ one_before (Some i) m h = let same : i + 1 ≡ m = cc in (omega arith, ap Some (
 -- and what is found is one
 pub found_is : (es : List Entry) (p : ℕ) (name : List ℕ) (m : ℕ) (d : Entry) → child es p name ≡ Some m
     → (0 < m) × (m ≤ length es) × (is_child p name (get_or es (m - 1) d) ≡ true)
-found_is es p name m d h =
-    let some = one_before (position (is_child p name) es) m h in
-    let at = position-Some (is_child p name) es (m - 1) d some.1 in
-    (some.0, omega (arith, at.0), at.1)
+found_is es p name m d h = grind (arith, common_steps, one_before, position-Some)
 
 is_child_moved : (n p : ℕ) (name : List ℕ) (x : Entry) → is_child (moved n p) name (renumbered n x) ≡ is_child p name x
 is_child_moved n p name x = ap (λ b. b && bytes_eq (uppers x.name) (uppers name)) (moved_test n x.parent p)

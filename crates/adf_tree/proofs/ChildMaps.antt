@@ -13,6 +13,7 @@ use Rattle.adf_tree.specs.NameKeys.{by_words, is_short, key_of_name}
 use Rattle.adf_tree.specs.ChildMap.{bucket_of, by_child, child_key, number_at, number_in, HasNumber, Numbers}
 use Rattle.adf_tree.proofs.NameKeys.{equal_words, not_short, same_names, same_number, then_is}
 use Rattle.std.proofs.Math.Bool.{and_comm}
+use Rattle.std.proofs.lemmas.Grind.{common_steps}
 
 same_key : (m p : ℕ) (k x : List ℕ) → is_short k ≡ true → is_short x ≡ true → is_eq (by_child (child_key m k) (child_key p x)) ≡ ((m == p) && bytes_eq k x)
 same_key m p k x sk sx =
@@ -33,13 +34,6 @@ pub no_more : (numbers : Numbers) (bucket : BTreeMap ChildKey ℕ) (p : ℕ) (x 
     → number_in (numbers ++ bucket ∷ []) p x ≡ number_in numbers p x
 unfolding number_in
 no_more numbers bucket p x h = rw (none_more numbers bucket (bucket_of (child_key p x)) (child_key p x) h)
-
--- the number in a bucket that was found
-pub number_is : (numbers : Numbers) (p : ℕ) (x : List ℕ) (o : Option (BTreeMap ChildKey ℕ)) → is_short x ≡ true
-    → slice_get numbers (bucket_of (child_key p x)) ≡ o → number_at o (child_key p x) ≡ number_in numbers p x
-unfolding number_in
-number_is numbers p x o short at =
-    rw (← at, short)
 
 -- one more number
 set_at : (numbers : Numbers) (i j : ℕ) (new : BTreeMap ChildKey ℕ) (k : ChildKey) → j ≢ i
@@ -65,19 +59,11 @@ written : (numbers : Numbers) (i : ℕ) (old new : BTreeMap ChildKey ℕ) (q : C
     → old ≡ get_or numbers i old → get by_child new q ≡ f (get by_child old q)
     → (bucket_of q ≢ i → number_at (slice_get numbers (bucket_of q)) q ≡ f (number_at (slice_get numbers (bucket_of q)) q))
     → number_at (slice_get (set numbers i new) (bucket_of q)) q ≡ f (number_at (slice_get numbers (bucket_of q)) q)
-written numbers i old new q f lt is here there =
-    elim (cases_eq (bucket_of q) i) [
-      | inl e ↦ rw (e, set_here numbers i new q lt, here, get_here numbers i old q lt is)
-      | inr ne ↦ set_at numbers i (bucket_of q) new q ne ∙ there ne
-    ]
+written numbers i old new q f lt is here there = grind (arith, common_steps, cases_eq, set_here, get_here, set_at)
 
 -- keys that compare equal are in one bucket
 same_bucket : (k q : ChildKey) → is_eq (by_child k q) ≡ true → bucket_of q ≡ bucket_of k
-same_bucket k q h =
-    let both = and_parts (is_eq (by_words k.name q.name)) (is_eq (nat_cmp k.parent q.parent))
-    (sym (then_is (by_words k.name q.name) (nat_cmp k.parent q.parent)) ∙ h) in
-    let w = equal_words k.name q.name both.0 in
-    rw (w.0, w.1, w.2, w.3, eqb-true k.parent q.parent (sym (same_number k.parent q.parent) ∙ both.1))
+same_bucket k q h = grind (arith, common_steps, and_parts, then_is, equal_words, eqb-true, same_number)
 
 -- one number more in a bucket
 one_bucket : (numbers : Numbers) (i : ℕ) (old new : BTreeMap ChildKey ℕ) (k q : ChildKey) (n : ℕ) → i < length numbers → old ≡ get_or numbers i old

@@ -1,10 +1,11 @@
 -- The directories of a draft: what has room in them, and how they stay when an entry is put in the draft.
-use Rattle.std.proofs.Common.{◌≡◌, ◌≢◌, ℕ, ◌+◌, ◌-◌, ◌<◌, ◌≤◌, List, [], ◌∷◌, ◌++◌, length, get_or, map, true, Option, Some, None, Result, Ok, Err}
+use Rattle.std.proofs.Common.{◌≡◌, ◌≢◌, ℕ, ◌+◌, ◌-◌, ◌<◌, ◌≤◌, List, [], ◌∷◌, ◌++◌, length, get_or, true, Option, Some, None, Result, Ok, Err}
 use Rattle.std.proofs.Common.{arith, sym, refl, ◌∙◌, ap, if◌then◌else◌}
 use Rattle.std.specs.Prelude.{is_ok, option_map, OnOk}
 use Rattle.std.proofs.lemmas.Bool.{ne_eqb}
 use Rattle.std.proofs.lemmas.List.{get_or_push, length_push, length-map}
 use Rattle.std.proofs.Math.Seq.{take-append_seam}
+use Rattle.std.proofs.lemmas.Grind.{common_steps}
 use Rattle.adf_tree.specs.declared.draft.Room.{Room}
 use Rattle.adf_tree.specs.declared.entry.Body.{Body}
 use Rattle.adf_tree.specs.declared.entry.Body.TheVariants.{Dir}
@@ -56,7 +57,8 @@ from_root : (es : List Entry) (e : Entry) (names : List (List ℕ)) (q : ℕ) �
     → directory_from (added es e) 0 names ≡ Ok (moved (place es (rank e) + 1) q)
 from_root es e names q t may h = rw (moved_below (place es (rank e) + 1) 0 (omega arith)) at (directory_stays es e 0 names q t may h)
 
-one_more : (es : List Entry) (p q : ℕ) (names : List (List ℕ)) (x : List ℕ) → directory_from es p names ≡ Ok q
+-- a path of directories, and one more name
+pub one_more : (es : List Entry) (p q : ℕ) (names : List (List ℕ)) (x : List ℕ) → directory_from es p names ≡ Ok q
     → directory_from es p (names ++ x ∷ []) ≡ past es [] (child es q x)
 one_more es p q [] x h = let same : p ≡ q = cc in rw same
 one_more es p q (y ∷ ys) x h =
@@ -76,11 +78,8 @@ new_directory es e names t room is =
     one_more (added es e) 0 e.parent names e.name there ∙ (ap (past (added es e) []) (child_new es e e.name t may refl) ∙ rw one)
 
 -- the room of a path with one more name
-room_more : (es : List Entry) (names : List (List ℕ)) (x : List ℕ) → room_for es (names ++ x ∷ []) ≡ room_at es x (directory_from es 0 names)
-room_more es names x =
-    let long = length_push names x in
-    let at : length (names ++ x ∷ []) - 1 ≡ length names = omega arith in
-    rw (ne_eqb (length (names ++ x ∷ [])) 0 (omega arith), at, get_or_push names x [] (length names) refl, take-append_seam names (x ∷ []))
+pub room_more : (es : List Entry) (names : List (List ℕ)) (x : List ℕ) → room_for es (names ++ x ∷ []) ≡ room_at es x (directory_from es 0 names)
+room_more es names x = grind (arith, common_steps, length_push, ne_eqb, get_or_push, take-append_seam)
 
 -- a draft
 module _ (drafts : List Entry) (numbers : Numbers) (kind : Kind) (label : List ℕ) (stamps : Stamps) (h : IsDraft drafts numbers) where
@@ -88,20 +87,12 @@ module _ (drafts : List Entry) (numbers : Numbers) (kind : Kind) (label : List �
   room_in_directory : (path : List (List ℕ)) (m : ℕ) (name : List ℕ) (o : Option ℕ)
       → IsDirectoryOf (draft_value kind label stamps (walk drafts)) path m → number_in numbers m (uppers name) ≡ o
       → room_for (walk drafts).entries (path ++ name ∷ []) ≡ free_in (node_of (walk drafts).nodes m) (option_map (node_of (walk drafts).nodes) o)
-  room_in_directory path m name o is at =
-      rw (room_more (walk drafts).entries path name, is.leads, h.found.found m name (omega (arith, is.within, h.gives.nodes)), at)
+  room_in_directory path m name o is at = grind (arith, common_steps, room_more)
 
   pub has_room_in : (path : List (List ℕ)) (m : ℕ) (name : List ℕ) → IsDirectoryOf (draft_value kind label stamps (walk drafts)) path m
       → number_in numbers m (uppers name) ≡ None
       → IsRoomFor (draft_value kind label stamps (walk drafts)) (path ++ name ∷ []) (record { parent = m; name = name })
-  has_room_in path m name is at =
-      let long = length_push path name in
-      let last : length (path ++ name ∷ []) - 1 ≡ length path = omega arith in
-      record {
-        within = is.within;
-        name = rw last (sym (get_or_push path name [] (length path) refl));
-        leads = room_in_directory path m name None is at;
-      }
+  has_room_in path m name is at = grind (arith, common_steps, length_push, get_or_push, room_in_directory)
 
   pub has_none_in : (path : List (List ℕ)) (m : ℕ) (name : List ℕ) (k : ℕ) → IsDirectoryOf (draft_value kind label stamps (walk drafts)) path m
       → number_in numbers m (uppers name) ≡ Some k
@@ -114,10 +105,7 @@ module _ (drafts : List Entry) (numbers : Numbers) (kind : Kind) (label : List �
     may_put = room_may drafts numbers kind label stamps path room h is meta body
 
     one_more_node : length (walk (drafts ++ put_in room meta body ∷ [])).nodes ≡ length (walk drafts).nodes + 1
-    one_more_node =
-        let n : ℕ = new_number (walk drafts) (put_in room meta body) in
-        rw (walked_more drafts (put_in room meta body))
-        (omega (arith, length_push (map (moved n) (walk drafts).nodes) n, length-map (walk drafts).nodes (moved n)))
+    one_more_node = grind (arith, common_steps, put_in, walked_more, length_push, length-map)
 
     stays : (other : List (List ℕ)) (m : ℕ) → IsDirectoryOf (draft_value kind label stamps (walk drafts)) other m
         → IsDirectoryOf (draft_value kind label stamps (walk (drafts ++ put_in room meta body ∷ []))) other m

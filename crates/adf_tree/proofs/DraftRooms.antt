@@ -1,6 +1,7 @@
 -- The value of a draft after an entry is put in one of its rooms.
 use Rattle.std.proofs.Common.{◌≡◌, ℕ, ◌≤◌, ◌++◌, List, [], ◌∷◌, length, arith, if◌then◌else◌, Result}
 use Rattle.std.specs.Prelude.{is_ok, OnOk}
+use Rattle.std.proofs.lemmas.Grind.{common_steps}
 use Rattle.adf_tree.specs.declared.draft.Room.{Room}
 use Rattle.adf_tree.specs.declared.entry.Body.{Body}
 use Rattle.adf_tree.specs.declared.entry.Entry.{Entry}
@@ -41,6 +42,4 @@ module _ (drafts : List Entry) (numbers : Numbers) (kind : Kind) (label : List �
 
     pub put_tree : (draft_value kind label stamps (walk new)).tree
         ≡ (if is_ok r then with_entry (draft_value kind label stamps (walk drafts)).tree path meta body else (draft_value kind label stamps (walk drafts)).tree)
-    put_tree =
-        tree_left (draft_value kind label stamps (walk drafts)).tree (walk new).entries _ (is_ok r) path meta body
-        (entries_left drafts new (put_in room meta body) (is_ok r) left) (room_new meta body).entry
+    put_tree = grind (arith, common_steps, tree_left, entries_left, put_in, room_new)

@@ -9,6 +9,7 @@ use Rattle.adf_base.specs.declared.hash.Letters.{Letters}
 use Rattle.adf_base.specs.declared.hash.Letters.TheVariants.{Ascii}
 use Rattle.adf_tree.specs.Texts.{uppers, uppers_by}
 use Rattle.std.proofs.lemmas.Bool.{false_from_ne_true}
+use Rattle.std.proofs.lemmas.Grind.{common_steps}
 
 pub same_yes : (l : Letters) (a b : List ℕ) → length a ≡ length b → ((k : ℕ) → k < length a → upper_by l (get_or a k 0) ≡ upper_by l (get_or b k 0))
     → bytes_eq (uppers_by l a) (uppers_by l b) ≡ true
@@ -27,9 +28,7 @@ same_no l a b k la lb ne =
     (λ t. ne (rw (get_or-map (upper_by l) a k 0 0 la, get_or-map (upper_by l) b k 0 0 lb) at (ap (λ s. get_or s k 0) ((bytes_eq-Decides (uppers_by l a) (uppers_by l b)).0 t))))
 
 pub same_short : (l : Letters) (a b : List ℕ) → length a ≢ length b → bytes_eq (uppers_by l a) (uppers_by l b) ≡ false
-same_short l a b ne =
-    false_from_ne_true (bytes_eq (uppers_by l a) (uppers_by l b))
-    (λ t. ne (simp length-map at (ap length ((bytes_eq-Decides (uppers_by l a) (uppers_by l b)).0 t))))
+same_short l a b ne = grind (arith, common_steps, false_from_ne_true, length-map, bytes_eq-Decides)
 
 -- the same of a to z
 pub ascii_yes : (a b : List ℕ) → length a ≡ length b → ((k : ℕ) → k < length a → upper_of (get_or a k 0) ≡ upper_of (get_or b k 0))

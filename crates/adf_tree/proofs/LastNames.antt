@@ -1,22 +1,21 @@
 -- The set of names in the last chain of a tree.
-use Rattle.std.proofs.Common.{◌≡◌, ℕ, ◌-◌, List, [], ◌∷◌, ◌++◌, length, get_or, Bool, true, false, Option, Some, None, Result, Ok, Err}
-use Rattle.std.proofs.Common.{arith, nat_lt, ◌==◌, ◌&&◌, ◌||◌, sym, refl, ◌∙◌, ap}
+use Rattle.std.proofs.Common.{◌≡◌, ℕ, ◌-◌, List, [], ◌∷◌, length, get_or, true, false, Option, Some, None, Result, Ok, Err}
+use Rattle.std.proofs.Common.{arith, nat_lt, sym, refl, ◌∙◌}
 use Rattle.std.specs.List.{list_any}
 use Rattle.std.specs.List.Sorted.{IsPartitionPoint}
 use Rattle.std.specs.Option.{is_some}
 use Rattle.std.specs.Result.{is_err, OnOk}
-use Rattle.std.specs.Str.{bytes_eq}
-use Rattle.std.proofs.lemmas.Bool.{and_parts, eq-eqb, eqb-true, le-ltb, ltb-true}
-use Rattle.std.proofs.lemmas.List.{take_all, drop_all}
+use Rattle.std.proofs.lemmas.Bool.{and_parts, eqb-true, le-ltb, ltb-true}
 use Rattle.std.proofs.lemmas.List.Sums.{position_or_len_is}
-use Rattle.std.proofs.lemmas.List.Folds.{list_any-append, list_any_at, list_any_none}
+use Rattle.std.proofs.lemmas.List.Folds.{list_any_at, list_any_none}
+use Rattle.std.proofs.lemmas.Grind.{common_steps}
 use Rattle.adf_base.specs.Hash.{slot_of}
 use Rattle.adf_tree.specs.declared.entry.Entry.{Entry}
 use Rattle.adf_tree.specs.declared.last_chain.LastChain.{LastChain}
 use Rattle.adf_tree.specs.Texts.{uppers}
-use Rattle.adf_tree.specs.Tree.{place, rank, rank_of, added, is_child, child}
+use Rattle.adf_tree.specs.Tree.{place, rank, rank_of, is_child, child}
 use Rattle.adf_tree.specs.NameSet.{has}
-use Rattle.adf_tree.specs.LastChain.{knows, IsOf, Puts}
+use Rattle.adf_tree.specs.LastChain.{knows, IsOf}
 use Rattle.adf_tree.proofs.ChildLookup.{child_not_before, found_is, none_is}
 
 -- what is said of an Ok
@@ -61,39 +60,7 @@ begun c es parent s from p q none parted all = record {
       (sym (list_any_none (is_child parent name) es (λ k d lt. child_not_before es parent name s from (sym q ∙ sym h) parted k d (omega arith))));
 }
 
-or_swap : (a b : Bool) → (a || b) ≡ (b || (a || false))
-or_swap true true = refl
-or_swap true false = refl
-or_swap false true = refl
-or_swap false false = refl
-
-added_end : (es : List Entry) (e : Entry) → place es (rank e) ≡ length es → added es e ≡ es ++ e ∷ []
-added_end es e at = rw (at, take_all (length es) es (omega arith), drop_all (length es) es (omega arith))
-
--- one entry more at the end of the chain
-pub one_more : (old new : LastChain) (es : List Entry) (e : Entry) (bytes : List ℕ) → IsOf old es → Puts old new bytes → bytes ≡ uppers e.name
-    → (old.is_known ≡ true → old.parent ≡ e.parent) → (old.is_known ≡ true → place es (rank e) ≡ length es) → IsOf new (added es e)
-one_more old new es e bytes of puts is parent at = record {
-  names = λ name t h.
-      let known : old.is_known ≡ true = puts.was_known t in
-      let is_child_here = eq-eqb e.parent old.parent (sym (parent known)) in
-      rw (
-        puts.names t (uppers name),
-        is,
-        of.names name known (h ∙ puts.slot),
-        puts.parent,
-        added_end es e (at known),
-        list_any-append (is_child old.parent name) es (e ∷ []),
-        is_child_here,
-      )
-      (or_swap (bytes_eq (uppers e.name) (uppers name)) (list_any (is_child old.parent name) es));
-}
-
 -- what is known tells whether there is a child
 pub known_child : (c : LastChain) (es : List Entry) (p s : ℕ) (name : List ℕ) → IsOf c es → s ≡ slot_of name → knows c p s ≡ true
     → has c.names (uppers name) ≡ is_some (child es p name)
-known_child c es p s name of same h =
-    let both = and_parts (c.is_known && (c.parent == p)) (c.slot == s) h in
-    let two = and_parts c.is_known (c.parent == p) both.0 in
-    of.names name two.0 (sym same ∙ sym (eqb-true c.slot s both.1))
-    ∙ (any_child es c.parent name ∙ ap (λ q. is_some (child es q name)) (eqb-true c.parent p two.1))
+known_child c es p s name of same h = grind (arith, common_steps, and_parts, eqb-true, any_child)

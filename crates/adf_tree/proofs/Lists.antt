@@ -5,11 +5,12 @@ use Rattle.std.specs.List.{All, Contains, filter, position_or_len, slice_split}
 use Rattle.std.proofs.Math.Bool.{and_comm}
 use Rattle.std.proofs.lemmas.Bool.{cases_Bool, ltb-false}
 use Rattle.std.proofs.lemmas.List.Elements.{All-head, All-tail, Contains-append_cases, Contains-append_right, Contains-push_cases, filter_agree, All-pop}
-use Rattle.std.specs.Prelude.{position}
+use Rattle.std.specs.Prelude.{position, slice_get}
 use Rattle.std.proofs.lemmas.List.{take_rest}
 use Rattle.std.proofs.lemmas.List.Quantifiers.{position-Some}
 use Rattle.std.proofs.lemmas.List.Splits.{slice_split_first, slice_split_none}
 use Rattle.std.proofs.lemmas.List.Sums.{position_or_len_is, fails_before_first}
+use Rattle.std.proofs.lemmas.Grind.{common_steps}
 
 -- an element
 pub some_in : {X : Type 0} → (xs : List X) → 0 < length xs → X
@@ -66,17 +67,11 @@ pub last_off : {X : Type 0} → (P : X → Type 0) (xs : List X) (x : X) → All
 last_off P xs x h = All-pop P (xs ++ x ∷ []) xs (Some x) refl h
 
 position_is : {X : Type 0} → (p : X → Bool) (xs : List X) (i : ℕ) (d : X) → Some i ≡ position p xs → position_or_len p xs ≡ i
-position_is p xs i d h =
-    let says = position-Some p xs i d (sym h) in
-    position_or_len_is p xs i d (omega (arith, says.0)) says.2 (λ _. says.1)
+position_is p xs i d h = grind (arith, common_steps, position-Some, position_or_len_is)
 
 -- none passes where none is found
 pub fails_at_none : {X : Type 0} → (p : X → Bool) (xs : List X) → position p xs ≡ None → All (λ x. p x ≡ false) xs
-fails_at_none p xs h k d lt =
-    elim (cases_Bool (nat_lt (position_or_len p xs) (length xs))) [
-      | inl t ↦ let clash : Some (position_or_len p xs) ≡ None = rw t at h in cc
-      | inr f ↦ fails_before_first p xs k d (omega (arith, ltb-false (position_or_len p xs) (length xs) f))
-    ]
+fails_at_none p xs h k d lt = grind (arith, common_steps, cases_Bool, nat_lt, fails_before_first, ltb-false)
 
 -- a list is cut where the first element passes
 pub cut_at_position : {X : Type 0} → (p : X → Bool) (xs : List X) (i : ℕ) → Some i ≡ position p xs
@@ -92,3 +87,8 @@ cut_at_position p (x ∷ xs) i h =
 -- and is one part where none does
 pub uncut_at_none : {X : Type 0} → (p : X → Bool) (xs : List X) → None ≡ position p xs → slice_split p xs ≡ xs ∷ []
 uncut_at_none p xs h = slice_split_none p xs (fails_at_none p xs (sym h))
+
+-- one more stands last
+pub get_last : {X : Type 0} (xs : List X) (x : X) → slice_get (xs ++ x ∷ []) (length xs) ≡ Some x
+get_last [] x = refl
+get_last (y ∷ ys) x = get_last ys x

@@ -1,8 +1,8 @@
 -- The buckets of names.
-use Rattle.std.proofs.Common.{◌≡◌, ◌≢◌, ◌==◌, ◌&&◌, ◌||◌, ◌⊎◌, inl, inr, ℕ, ◌+◌, ◌-◌, ◌<◌, ◌≤◌, List, [], ◌∷◌, ◌++◌, length}
+use Rattle.std.proofs.Common.{◌≡◌, ◌==◌, ◌&&◌, ◌||◌, ◌⊎◌, inl, inr, ℕ, ◌+◌, ◌-◌, ◌<◌, ◌≤◌, List, [], ◌∷◌, ◌++◌, length}
 use Rattle.std.proofs.Common.{get_or, set, take, Bool, true, false, Option, Some, None, arith, sym, refl, zero, suc, ◌∙◌, ap, get_or-set_same}
 use Rattle.std.proofs.Common.{get_or-set_other}
-use Rattle.std.specs.Prelude.{◌^◌, nat_lt, slice_index}
+use Rattle.std.specs.Prelude.{◌^◌, slice_index}
 use Rattle.std.specs.Ordering.{is_eq}
 use Rattle.std.specs.List.{slice_get}
 use Rattle.std.proofs.Math.Seq.{take-suc}
@@ -10,6 +10,7 @@ use Rattle.std.proofs.lemmas.Bool.{cases_Bool, false_from_ne_true, lt-ltb, ltb-t
 use Rattle.std.proofs.lemmas.List.{length-set}
 use Rattle.std.proofs.lemmas.Option.{get_or_from_slice_get, slice_get_within}
 use Rattle.std.proofs.lemmas.List.Folds.{list_any-append, list_any_at}
+use Rattle.std.proofs.lemmas.Grind.{common_steps}
 use Rattle.adf_tree.specs.declared.name_key.NameKey.{NameKey}
 use Rattle.adf_tree.specs.declared.name_set.Probe.{Probe}
 use Rattle.adf_tree.specs.declared.name_set.Probe.TheVariants.{Stored, Vacant, Full}
@@ -17,16 +18,13 @@ use Rattle.adf_tree.specs.NameKeys.{by_words}
 use Rattle.adf_tree.specs.NameSet.{is_among, IsUnion, IsWith, Names}
 use Rattle.adf_tree.specs.NameBuckets.{holder_of, first_bucket_in, probe_at, probe_from, probe_of, probe_buckets, while_few, AreStored}
 use Rattle.adf_tree.proofs.NameKeys.{one_key, same_either, same_itself, same_words}
+use Rattle.adf_tree.proofs.Lists.{get_last}
 
 -- names and their places
 at_more : (xs ys : Names) (i : ℕ) (k : NameKey) → slice_get xs i ≡ Some k → slice_get (xs ++ ys) i ≡ Some k
 at_more [] ys i k h = cc
 at_more (x ∷ xs) ys zero k h = h
 at_more (x ∷ xs) ys (suc i) k h = at_more xs ys i k h
-
-at_end : (xs : Names) (y : NameKey) → slice_get (xs ++ y ∷ []) (length xs) ≡ Some y
-at_end [] y = refl
-at_end (x ∷ xs) y = at_end xs y
 
 at_among : (xs : Names) (i : ℕ) (h k : NameKey) → slice_get xs i ≡ Some h → is_eq (by_words k h) ≡ true → is_among xs k ≡ true
 at_among xs i h k at same =
@@ -60,9 +58,7 @@ module _ (names : Names) (buckets : List ℕ) (k : NameKey) (answer : Probe) (bu
   probe_next h lt at is = same ∙ (next_bucket names buckets k bucket end lt ∙ rw (at, is) refl)
 
   pub probe_end : end ≤ bucket → answer ≡ Full
-  probe_end le =
-      let none : end - bucket ≡ 0 = omega (arith, le) in
-      same ∙ ap (λ (n : ℕ). probe_from names buckets k bucket n) none
+  probe_end le = grind (arith, common_steps)
 
 -- equal words are those of one name
 pub same_name : (h k : NameKey) (words answer : Bool)
@@ -74,11 +70,7 @@ same_name h k words answer are at = rw (← same_either h k, same_words h k, ←
 stored_step : (names : Names) (i bucket : ℕ) (k : NameKey) (o : Option NameKey) (further : Probe) → slice_get names i ≡ o
     → (further ≡ Stored → is_among names k ≡ true) → probe_at bucket k o further ≡ Stored → is_among names k ≡ true
 stored_step names i bucket k None further at more e = cc
-stored_step names i bucket k (Some h) further at more e =
-    elim (cases_Bool (is_eq (by_words k h))) [
-      | inl t ↦ at_among names i h k at t
-      | inr f ↦ more (rw f at e)
-    ]
+stored_step names i bucket k (Some h) further at more e = grind (arith, common_steps, cases_Bool, at_among)
 
 stored_from : (names : Names) (buckets : List ℕ) (k : NameKey) (bucket n : ℕ) → probe_from names buckets k bucket n ≡ Stored → is_among names k ≡ true
 stored_from names buckets k bucket zero e = cc
@@ -94,15 +86,13 @@ all_told count Full few = refl
 
 stored_told : (count : ℕ) (s : Probe) → while_few count s ≡ Stored → s ≡ Stored
 stored_told count Stored e = refl
-stored_told count (Vacant bucket) e =
-    elim (cases_Bool (nat_lt count (2 ^ 32))) [ inl t ↦ let clash = rw t at e in cc | inr f ↦ let clash = rw f at e in cc ]
+stored_told count (Vacant bucket) e = grind (arith, common_steps, cases_Bool)
 stored_told count Full e = cc
 
 -- a bucket is vacant only where few names have one
 few_told : (count : ℕ) (s : Probe) (bucket : ℕ) → while_few count s ≡ Vacant bucket → count < 2 ^ 32
 few_told count Stored bucket e = cc
-few_told count (Vacant other) bucket e =
-    elim (cases_Bool (nat_lt count (2 ^ 32))) [ inl t ↦ ltb-true count (2 ^ 32) t | inr f ↦ let clash = rw f at e in cc ]
+few_told count (Vacant other) bucket e = grind (arith, common_steps, cases_Bool, ltb-true)
 few_told count Full bucket e = cc
 
 pub few_stored : (names : Names) (buckets : List ℕ) (k : NameKey) (bucket : ℕ) → probe_of names buckets k ≡ Vacant bucket → length names < 2 ^ 32
@@ -124,14 +114,8 @@ record IsVacant (names : Names) (buckets : List ℕ) (from n bucket : ℕ) : Typ
 vacant_step : (names : Names) (buckets : List ℕ) (k : NameKey) (from n bucket : ℕ) (o : Option NameKey) (further : Probe)
     → holder_of names buckets from ≡ o → (further ≡ Vacant bucket → IsVacant names buckets (from + 1) n bucket)
     → probe_at from k o further ≡ Vacant bucket → IsVacant names buckets from (suc n) bucket
-vacant_step names buckets k from n bucket None further at more e =
-    let same : from ≡ bucket = cc in
-    record { none = rw (← same) at; after = omega (arith, same); before = omega (arith, same) }
-vacant_step names buckets k from n bucket (Some h) further at more e =
-    elim (cases_Bool (is_eq (by_words k h))) [
-      | inl t ↦ let clash = rw t at e in cc
-      | inr f ↦ let v = more (rw f at e) in record { none = v.none; after = omega (arith, v.after); before = omega (arith, v.before) }
-    ]
+vacant_step names buckets k from n bucket None further at more e = grind (arith, common_steps)
+vacant_step names buckets k from n bucket (Some h) further at more e = grind (arith, common_steps, cases_Bool)
 
 vacant_from : (names : Names) (buckets : List ℕ) (k : NameKey) (from n bucket : ℕ) → probe_from names buckets k from n ≡ Vacant bucket
     → IsVacant names buckets from n bucket
@@ -144,9 +128,7 @@ vacant_from names buckets k from (suc n) bucket e =
 had : (names : Names) (buckets : List ℕ) (bucket from : ℕ) (name h : NameKey) → holder_of names buckets bucket ≡ None
     → holder_of names buckets from ≡ Some h
     → holder_of (names ++ name ∷ []) (set buckets bucket (length names)) from ≡ Some h
-had names buckets bucket from name h free at =
-    let other : from ≢ bucket = λ e. cc (sym free ∙ (ap (λ (x : ℕ). holder_of names buckets x) (sym e) ∙ at)) in
-    rw (get_or-set_other buckets bucket from (length names) 0 other) (at_more names (name ∷ []) (slice_index buckets from) h at)
+had names buckets bucket from name h free at = grind (arith, common_steps, free, get_or-set_other, at_more)
 
 -- what is found at buckets of which none is vacant
 abbrev IsTaken : Probe → Type 0
@@ -182,7 +164,7 @@ gains_step : (names : Names) (buckets : List ℕ) (bucket from : ℕ) (name : Na
     → probe_at from name (holder_of (names ++ name ∷ []) (set buckets bucket (length names)) from) new ≡ Stored
 gains_step names buckets bucket from name None old new at inside free more e =
     let same : from ≡ bucket = cc in
-    rw (same, get_or-set_same buckets bucket (length names) 0 inside, at_end names name, same_itself name) refl
+    rw (same, get_or-set_same buckets bucket (length names) 0 inside, get_last names name, same_itself name) refl
 gains_step names buckets bucket from name (Some h) old new at inside free more e =
     rw (had names buckets bucket from name h free at)
     (elim (cases_Bool (is_eq (by_words name h))) [
@@ -206,21 +188,11 @@ or_swap false true c = refl
 or_swap false false c = refl
 
 pub with_new : (names overflow : Names) (name : NameKey) → IsWith (names ++ overflow) ((names ++ name ∷ []) ++ overflow) name
-with_new names overflow name = λ k.
-    rw (
-      list_any-append (λ n. is_eq (by_words k n)) (names ++ name ∷ []) overflow,
-      list_any-append (λ n. is_eq (by_words k n)) names (name ∷ []),
-      list_any-append (λ n. is_eq (by_words k n)) names overflow,
-      same_either k name,
-    ) (or_swap (is_among names k) (is_eq (by_words name k)) (is_among overflow k))
+with_new names overflow name = grind (arith, common_steps, list_any-append, same_either, or_swap)
 
 -- a name that is there once more
 pub with_same : (names : Names) (name : NameKey) → is_among names name ≡ true → IsWith names names name
-with_same names name there = λ k.
-    elim (cases_Bool (is_eq (by_words name k))) [
-      | inl t ↦ rw (t, ← one_key name k t) there
-      | inr f ↦ rw f
-    ]
+with_same names name there = grind (arith, common_steps, cases_Bool, one_key)
 
 -- what may be found
 told : (answer : Probe) → (answer ≡ Stored) ⊎ ((answer ≡ Full) ⊎ ((bucket : ℕ) × (answer ≡ Vacant bucket)))
@@ -259,8 +231,7 @@ module _ (names : Names) (buckets : List ℕ) (overflow : Names) (bucket : ℕ) 
 
   stays : (answer : Probe) → IsTaken answer → (k : NameKey) → probe_of names buckets k ≡ answer
       → probe_of (names ++ name ∷ []) (set buckets bucket (length names)) k ≡ answer
-  stays answer taken k e =
-      rw (stay_told answer taken k (sym (all_told (length names) (probe_buckets names buckets k) few) ∙ e)) (taken_told answer taken)
+  stays answer taken k e = grind (arith, common_steps, stay_told, all_told, few, taken_told)
 
   gain_told : (k : NameKey) → is_eq (by_words name k) ≡ true → probe_buckets (names ++ name ∷ []) (set buckets bucket (length names)) k ≡ Stored
   unfolding probe_buckets
@@ -273,29 +244,11 @@ module _ (names : Names) (buckets : List ℕ) (overflow : Names) (bucket : ℕ) 
 
   was_vacant : (k : NameKey) (other : ℕ) → probe_of (names ++ name ∷ []) (set buckets bucket (length names)) k ≡ Vacant other
       → is_among (names ++ overflow) k ≡ false
-  was_vacant k other e =
-      elim (told (probe_of names buckets k)) [
-        | inl stored ↦ cc (sym (stays Stored tt k stored) ∙ e)
-        | inr further ↦
-            elim further [
-              | inl full ↦ cc (sym (stays Full tt k full) ∙ e)
-              | inr vacant ↦ s.vacant k vacant.0 vacant.1
-            ]
-      ]
+  was_vacant k other e = grind (arith, common_steps, told, stays)
 
   was_full : (k : NameKey) → probe_of (names ++ name ∷ []) (set buckets bucket (length names)) k ≡ Full
       → is_among (names ++ overflow) k ≡ is_among overflow k
-  was_full k e =
-      elim (told (probe_of names buckets k)) [
-        | inl stored ↦ cc (sym (stays Stored tt k stored) ∙ e)
-        | inr further ↦
-            elim further [
-              | inl full ↦ s.full k full
-              | inr vacant ↦
-                  let none = s.vacant k vacant.0 vacant.1 in
-                  none ∙ sym (or_right (is_among names k) (is_among overflow k) (sym (list_any-append (λ n. is_eq (by_words k n)) names overflow) ∙ none))
-            ]
-      ]
+  was_full k e = grind (arith, common_steps, told, stays, or_right, list_any-append)
 
   -- a name that has no bucket then is not the new one
   pub stored_new : AreStored (names ++ name ∷ []) (set buckets bucket (length names)) overflow
@@ -332,13 +285,4 @@ stored_overflow names buckets old new name s full with = record {
 -- one name more of many that are put in
 pub with_one : (old now new more : Names) (i : ℕ) (d : NameKey) → i < length more → IsUnion old (take i more) now → IsWith now new (get_or more i d)
     → IsUnion old (take (i + 1) more) new
-with_one old now new more i d lt union with = λ k.
-    let one : i + 1 ≡ suc i = omega arith in
-    rw (
-      one,
-      take-suc more i d lt,
-      list_any-append (λ n. is_eq (by_words k n)) (take i more) (get_or more i d ∷ []),
-      with k,
-      union k,
-      same_either k (get_or more i d),
-    ) (sym (or_swap (is_among (take i more) k) (is_eq (by_words (get_or more i d) k)) (is_among old k)))
+with_one old now new more i d lt union with = grind (arith, common_steps, take-suc, list_any-append, same_either, or_swap)

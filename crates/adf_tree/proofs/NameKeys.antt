@@ -10,8 +10,7 @@ use Rattle.std.specs.declared.cmp.Ordering.TheVariants.{Less, Equal, Greater}
 use Rattle.std.specs.Str.{bytes_eq}
 use Rattle.std.specs.Cmp.{both_ways}
 use Rattle.std.proofs.lemmas.Bool.{cases_Bool, cases_lt, and_parts, eq-eqb, eqb-true, false_from_ne_true, le-leb, leb-true, ltb-true}
-use Rattle.std.proofs.lemmas.List.Elements.{All-append, All-cons, All-drop, All-replicate, All-take}
-use Rattle.std.proofs.lemmas.List.Sums.{AllPass-from_list_all}
+use Rattle.std.proofs.lemmas.List.Elements.{All-drop, All-take}
 use Rattle.std.proofs.Math.ListN.{get_or-eq_default}
 use Rattle.std.proofs.lemmas.Nat.{be_bytes_8}
 use Rattle.std.proofs.lemmas.Slice.Eq.{bytes_eq-Decides}
@@ -19,6 +18,7 @@ use Rattle.std.proofs.lemmas.List.{map-append, length-map, length-take-le, take_
 use Rattle.std.proofs.lemmas.List.{length-drop}
 use Rattle.std.proofs.lemmas.Bool.Decides.{nat_tests}
 use Rattle.std.proofs.Math.Seq.{take-append_seam, take-suc}
+use Rattle.std.proofs.lemmas.Grind.{common_steps}
 use Rattle.adf_base.specs.Hash.{upper_of}
 use Rattle.adf_tree.specs.Texts.{uppers}
 use Rattle.adf_tree.specs.declared.name_key.NameKey.{NameKey}
@@ -62,11 +62,7 @@ few : (xs : List ℕ) → is_short xs ≡ true → length xs ≤ 30
 few xs h = leb-true (length xs) 30 (and_parts (nat_le (length xs) 30) (list_all (λ c. nat_lt c 256) xs) h).0
 
 padded_bytes : (xs : List ℕ) → is_short xs ≡ true → AreBytes (padded xs)
-padded_bytes xs h =
-    let all = AllPass-from_list_all (λ c. nat_lt c 256) xs (and_parts (nat_le (length xs) 30) (list_all (λ c. nat_lt c 256) xs) h).1 in
-    All-cons (λ c. c < 256) (length xs) (xs ++ replicate (31 - length xs) 0) (omega (arith, few xs h))
-    (All-append (λ c. c < 256) xs (replicate (31 - length xs) 0) (λ k d lt. ltb-true (get_or xs k d) 256 (all k d lt))
-    (All-replicate (λ c. c < 256) (31 - length xs) 0 (omega arith)))
+padded_bytes xs h = grind (arith, common_steps, nat_lt, and_parts, nat_le, few, ltb-true)
 
 padded_long : (xs : List ℕ) → is_short xs ≡ true → length (padded xs) ≡ 32
 padded_long xs h = omega (arith, few xs h, length-append xs (replicate (31 - length xs) 0), length-replicate {A = ℕ} (31 - length xs) 0)
@@ -82,15 +78,7 @@ bytes_of_word p i bytes long le =
 
 -- 32 bytes in four parts
 in_parts : (t : List ℕ) → length t ≡ 32 → take 8 (drop 0 t) ++ (take 8 (drop 8 t) ++ (take 8 (drop 16 t) ++ take 8 (drop 24 t))) ≡ t
-in_parts t long =
-    rw (
-      take_all 8 (drop 24 t) (omega (arith, length-drop 24 t)),
-      ← drop-drop 8 16 t,
-      take-append-drop 8 (drop 16 t),
-      ← drop-drop 8 8 t,
-      take-append-drop 8 (drop 8 t),
-      take-append-drop 8 t,
-    )
+in_parts t long = grind (arith, common_steps, take_all, length-drop, drop-drop, take-append-drop)
 
 -- a name has one key, and a key is of one name
 same_text : (p q : List ℕ) → AreBytes p → AreBytes q → length p ≡ 32 → length q ≡ 32 → name_word p 0 ≡ name_word q 0 → name_word p 8 ≡ name_word q 8
@@ -119,15 +107,10 @@ pub same_words : (a b : NameKey) → is_eq (by_words a b) ≡ ((a.first == b.fir
 same_words a b = simp (then_is, same_number)
 
 pub same_itself : (a : NameKey) → is_eq (by_words a a) ≡ true
-same_itself a =
-    rw (same_words a a, eq-eqb a.first a.first refl, eq-eqb a.second a.second refl, eq-eqb a.third a.third refl, eq-eqb a.fourth a.fourth refl)
+same_itself a = grind (arith, common_steps, same_words, eq-eqb)
 
 pub equal_words : (a b : NameKey) → is_eq (by_words a b) ≡ true → (a.first ≡ b.first) × (a.second ≡ b.second) × (a.third ≡ b.third) × (a.fourth ≡ b.fourth)
-equal_words a b h =
-    let s = and_parts (a.first == b.first) ((a.second == b.second) && ((a.third == b.third) && (a.fourth == b.fourth))) (sym (same_words a b) ∙ h) in
-    let t = and_parts (a.second == b.second) ((a.third == b.third) && (a.fourth == b.fourth)) s.1 in
-    let u = and_parts (a.third == b.third) (a.fourth == b.fourth) t.1 in
-    (eqb-true a.first b.first s.0, eqb-true a.second b.second t.0, eqb-true a.third b.third u.0, eqb-true a.fourth b.fourth u.1)
+equal_words a b h = grind (arith, common_steps, and_parts, same_words, eqb-true)
 
 one_name : (x y : List ℕ) → is_short x ≡ true → is_short y ≡ true → is_eq (by_words (key_of_name x) (key_of_name y)) ≡ true → x ≡ y
 one_name x y sx sy h =
@@ -141,8 +124,7 @@ same_names x y sx sy =
 
 -- a name is no text that is none
 pub not_short : (x y : List ℕ) → is_short x ≡ true → is_short y ≡ false → bytes_eq x y ≡ false
-not_short x y sx ny =
-    false_from_ne_true (bytes_eq x y) (λ t. let clash : true ≡ false = sym sx ∙ (ap is_short ((bytes_eq-Decides x y).0 t) ∙ ny) in cc)
+not_short x y sx ny = grind (arith, common_steps, false_from_ne_true, bytes_eq-Decides)
 
 -- a name in a set
 pub has_key : (names : Names) (bytes : List ℕ) → is_short bytes ≡ true → has names bytes ≡ is_among names (key_of_name bytes)
@@ -152,24 +134,15 @@ has_key names bytes short = rw short
 -- a set with one name more
 pub has_more : (old new : Names) (bytes x : List ℕ) → is_short bytes ≡ true → IsWith old new (key_of_name bytes) → has new x ≡ (bytes_eq bytes x || has old x)
 unfolding has
-has_more old new bytes x short more =
-    elim (cases_Bool (is_short x)) [
-      | inl t ↦ rw (t, more (key_of_name x), same_names bytes x short t)
-      | inr f ↦ rw (f, not_short bytes x short f)
-    ]
+has_more old new bytes x short more = grind (arith, common_steps, cases_Bool, same_names, not_short)
 
 -- equal keys are one
 same_fields : (a b : NameKey) → a.first ≡ b.first → a.second ≡ b.second → a.third ≡ b.third → a.fourth ≡ b.fourth → a ≡ b
-same_fields a b p q r s =
-    ap (λ (x : ℕ). record { first = x; second = a.second; third = a.third; fourth = a.fourth }) p
-    ∙ (ap (λ (x : ℕ). record { first = b.first; second = x; third = a.third; fourth = a.fourth }) q
-    ∙ (ap (λ (x : ℕ). record { first = b.first; second = b.second; third = x; fourth = a.fourth }) r
-    ∙ ap (λ (x : ℕ). record { first = b.first; second = b.second; third = b.third; fourth = x }) s))
+same_fields a b p q r s = grind (arith, common_steps)
 
 pub one_key : (a b : NameKey) → is_eq (by_words a b) ≡ true → a ≡ b
 one_key a b h = let w = equal_words a b h in same_fields a b w.0 w.1 w.2 w.3
 
 -- which of two keys comes first does not count
 pub same_either : (a b : NameKey) → is_eq (by_words a b) ≡ is_eq (by_words b a)
-same_either a b =
-    both_ways (is_eq (by_words a b)) (is_eq (by_words b a)) (λ t. rw (one_key a b t) (same_itself b)) (λ t. rw (one_key b a t) (same_itself a))
+same_either a b = grind (arith, common_steps, one_key, same_itself)

@@ -18,6 +18,7 @@ use Rattle.adf_tree.proofs.ChainMembers.{in_chain_from}
 use Rattle.adf_tree.proofs.EntryPaths.{path_found}
 use Rattle.adf_tree.proofs.PathContents.{entry_at, path_past}
 use Rattle.std.proofs.lemmas.List.Sorted.{IsNonDecreasingBy-drop}
+use Rattle.std.proofs.lemmas.Grind.{common_steps}
 
 -- a path depends on the entries up to its own
 pub path_in_front : (front rest : List Entry) (d : Entry) (f n : ℕ) → IsTree (front ++ rest) → n ≤ length front
@@ -35,9 +36,7 @@ path_in_front front rest d (suc f) (suc m) t le =
 
 -- an entry is what it has and where
 rebuilt : (e f : Entry) → e.parent ≡ f.parent → entry_content e ≡ entry_content f → e ≡ f
-rebuilt e f p c =
-    let make : ℕ → Content → Entry = λ q x. record { parent = q; name = x.name; meta = x.meta; body = x.body } in
-    ap (λ q. make q (entry_content e)) p ∙ ap (make f.parent) c
+rebuilt e f p c = grind (arith, common_steps)
 
 -- what is known of the first entry of a list, where a chain's first one is known
 pub record IsFirst (y : Entry) (p s : ℕ) (c : Content) : Type 0 where

@@ -9,26 +9,21 @@ use Rattle.std.proofs.lemmas.List.{append-nil, append_assoc, map-append}
 use Rattle.adf_tree.specs.declared.entry.Entry.{Entry}
 use Rattle.adf_tree.specs.Texts.{uppers}
 use Rattle.adf_tree.specs.Paths.{entry_content, content_at, path_in, path_of, AddsOne, names_in}
-use Rattle.adf_tree.specs.Tree.{place, rank, moved, added, entry, child, find, find_from, IsTree, MayAdd, directory_from, room_at, new_entry, parents_of}
+use Rattle.adf_tree.specs.Tree.{place, rank, moved, added, entry, child, find, find_from, IsTree, MayAdd, directory_from, room_at, new_entry}
 use Rattle.adf_tree.proofs.TreeInvariant.{moved_below, moved_above, moved_up, moved_near, length_added, at_place, place_le, new_get}
 use Rattle.adf_tree.proofs.ChildLookup.{child_new, found_is, child_says, parent_stays}
 use Rattle.adf_tree.proofs.PathLookup.{then_find, leads}
 use Rattle.adf_tree.proofs.AddRoom.{room_may_add, room_says, next_dir, IsNew}
 use Rattle.adf_tree.proofs.ChainOrder.{chain_added}
 use Rattle.std.proofs.lemmas.Option.{slice_get_within, get_or_from_slice_get, slice_get-get_or, slice_get_past}
+use Rattle.std.proofs.lemmas.Grind.{common_steps}
 use Rattle.adf_tree.specs.declared.entry.Meta.{Meta}
 use Rattle.adf_tree.specs.declared.entry.Body.{Body}
 
 -- entries by number
 
 pub entry_says : (es : List Entry) (n : ℕ) (x : Entry) → entry es n ≡ Some x → (0 < n) × (n ≤ length es) × ((d : Entry) → get_or es (n - 1) d ≡ x)
-entry_says es n x h =
-    elim (cases_eq n 0) [
-      | inl z ↦ let g = rw z at h in cc
-      | inr nz ↦
-          let g = rw (ne_eqb n 0 nz) at h in
-          (omega arith, omega (arith, slice_get_within es (n - 1) x g), λ d. get_or_from_slice_get es (n - 1) x d g)
-    ]
+entry_says es n x h = grind (arith, common_steps, cases_eq, ne_eqb, slice_get_within, get_or_from_slice_get)
 
 pub entry_at : (es : List Entry) (n : ℕ) (d : Entry) → 0 < n → n ≤ length es → entry es n ≡ Some (get_or es (n - 1) d)
 entry_at es n d some most = rw (ne_eqb n 0 (omega arith)) (slice_get-get_or es (n - 1) d (omega arith))
@@ -186,17 +181,9 @@ directory_found es p (x ∷ xs) q h =
 
 pub adds_one : (es : List Entry) (e : Entry) (parents path : List (List ℕ)) → IsTree es → room_at es e.name (directory_from es 0 parents) ≡ Ok e.parent
     → path ≡ parents ++ e.name ∷ [] → AddsOne es (added es e) e path
-adds_one es e parents path t room is =
-    let may : MayAdd es e = room_may_add es e parents room in
-    let to : find_from es 0 parents ≡ Some e.parent = directory_found es 0 parents e.parent (room_says es e (directory_from es 0 parents) room).0 in
-    record {
-      there = λ q h. content_new parents q t may to (h ∙ ap (map uppers) is);
-      others = λ q h. content_old parents q t may to (λ g. h (g ∙ sym (ap (map uppers) is)));
-      chains = λ p s. chain_added es e p s t may.parent;
-    }
+adds_one es e parents path t room is = grind (arith, common_steps, room_may_add, directory_found, room_says, content_new, content_old, chain_added)
 
 pub added_paths : {E : Type 0} (r : Result (Unit {0}) E) (es new : List Entry) (e : Entry) (path : List (List ℕ)) (meta : Meta) (body : Body) → IsTree es
     → IsNew es path meta body e → new ≡ (if is_ok r then added es e else es) → OnOk r (AddsOne es new (new_entry es path meta body) path)
-added_paths (Ok u) es new e path meta body t fresh h =
-    rw (h, ← fresh.entry) (adds_one es e (parents_of path) path t fresh.room fresh.is)
+added_paths (Ok u) es new e path meta body t fresh h = grind (arith, common_steps, adds_one)
 added_paths (Err f) es new e path meta body t fresh h = tt

@@ -1,12 +1,13 @@
 -- Where paths lead after an addition.
-use Rattle.std.proofs.Common.{◌≡◌, ◌≢◌, ℕ, ◌+◌, ◌⊎◌, inl, inr, List, [], ◌∷◌, ◌++◌, get_or, Option, Some, None, sym, refl, ◌∙◌, ap}
+use Rattle.std.proofs.Common.{◌≡◌, ◌≢◌, ℕ, ◌+◌, ◌⊎◌, inl, inr, List, [], ◌∷◌, ◌++◌, Option, Some, None, sym, refl, ◌∙◌, ap, arith}
 use Rattle.std.specs.Prelude.{option_map}
 use Rattle.std.specs.Str.{bytes_eq}
 use Rattle.std.proofs.lemmas.Bool.{cases_Bool, cases_eq, both_ways, false_from_ne_true}
 use Rattle.std.proofs.lemmas.Slice.Eq.{bytes_eq-Decides}
+use Rattle.std.proofs.lemmas.Grind.{common_steps}
 use Rattle.adf_tree.specs.declared.entry.Entry.{Entry}
 use Rattle.adf_tree.specs.Texts.{uppers}
-use Rattle.adf_tree.specs.Tree.{place, rank, moved, added, is_child, child, find_from, IsTree, MayAdd}
+use Rattle.adf_tree.specs.Tree.{place, rank, moved, added, child, find_from, IsTree, MayAdd}
 use Rattle.adf_tree.proofs.ChildLookup.{child_new, child_of_new, child_other, child_says, no_children, parent_stays}
 
 -- one name more
@@ -30,10 +31,7 @@ Leads es e p q = (find_from (added es e) (moved (place es (rank e) + 1) p) q ≡
 
 -- the parent has no child of the new entry's name yet
 nothing_yet : (es : List Entry) (e : Entry) (p : ℕ) (x : List ℕ) → MayAdd es e → p ≡ e.parent → uppers e.name ≡ uppers x → child es p x ≡ None
-nothing_yet es e p x may here same =
-    no_children es p x
-    (λ k d lt. false_from_ne_true (is_child p x (get_or es k d))
-    (λ h. let says = child_says p x (get_or es k d) h in may.fresh k d lt (says.0 ∙ here) (says.1 ∙ sym same)))
+nothing_yet es e p x may here same = grind (arith, common_steps, no_children, false_from_ne_true, child_says)
 
 new_there : (es : List Entry) (e : Entry) (p : ℕ) (x : List ℕ) → IsTree es → MayAdd es e → p ≡ e.parent → uppers e.name ≡ uppers x
     → child (added es e) (moved (place es (rank e) + 1) p) x ≡ Some (place es (rank e) + 1)

@@ -1,5 +1,5 @@
 -- The parts of a path's text between `/`.
-use Rattle.std.proofs.Common.{◌≡◌, ◌≢◌, ◌↔◌, Bor, Option, Some, None, ℕ, ◌+◌, ◌<◌, ◌/◌, ◌%◌, inl, inr, List, [], ◌∷◌, ◌++◌, length, get_or, take}
+use Rattle.std.proofs.Common.{◌≡◌, ◌≢◌, ◌↔◌, Bor, Option, Some, None, ℕ, ◌+◌, ◌<◌, ◌/◌, List, [], ◌∷◌, ◌++◌, length, get_or, take}
 use Rattle.std.proofs.Common.{map, Bool, true, false, arith, sym, refl, ◌∙◌, ap, ◌==◌, ◌&&◌, nat_le}
 use Rattle.std.specs.Prelude.{IsSome, IfNone, IfSome, is_some}
 use Rattle.std.proofs.Math.Seq.{get_or-append_seam}
@@ -7,10 +7,11 @@ use Rattle.std.specs.List.{All, join_with_byte, list_all}
 use Rattle.std.proofs.lemmas.Bool.{cases_Bool, and_parts, eqb-true, ne_eqb}
 use Rattle.std.proofs.lemmas.Bool.Decides.{nat_tests}
 use Rattle.std.proofs.lemmas.List.{append-nil, append_assoc, length-append, length-map, get_or-map, map-append, take_more, length-take-le}
-use Rattle.std.proofs.lemmas.List.Elements.{All-head, All-tail, All-append, All-cons, All-nil, All-push}
+use Rattle.std.proofs.lemmas.List.Elements.{All-head, All-tail, All-append, All-nil, All-push}
 use Rattle.std.proofs.lemmas.List.Splits.{slice_split_none, slice_split_at, join_with_byte-slice_split}
+use Rattle.std.proofs.lemmas.Grind.{common_steps}
 use Rattle.adf_tree.specs.Texts.{is_name, is_name_byte}
-use Rattle.adf_tree.specs.Escapes.{escape_of, escaped, hex_digit, is_plain, IsSpelling}
+use Rattle.adf_tree.specs.Escapes.{escape_of, escaped, hex_digit, IsSpelling}
 use Rattle.adf_tree.specs.PathTexts.{path_text, with_name, between_slashes, IsName, IsPathText}
 use Rattle.adf_tree.proofs.Spellings.{spelling_some, spelled_plain, spelled_escape, only_spelled}
 
@@ -27,17 +28,7 @@ name_no_slash : (c : ℕ) → is_name_byte c ≡ true → is_slash c ≡ false
 name_no_slash c h = grind (arith, nat_tests)
 
 no_slash_byte : (c : ℕ) → is_name_byte c ≡ true → All (λ x. is_slash x ≡ false) (escape_of c)
-no_slash_byte c h =
-    let P : ℕ → Type 0 = λ x. is_slash x ≡ false in
-    elim (cases_Bool (is_plain c)) [
-      | inl p ↦ rw (spelled_plain c p) (All-cons P c [] (name_no_slash c h) (All-nil P))
-      | inr p ↦
-          rw (spelled_escape c p)
-          (All-cons P 92 (120 ∷ hex_digit (c / 16) ∷ hex_digit (c % 16) ∷ []) refl
-          (All-cons P 120 (hex_digit (c / 16) ∷ hex_digit (c % 16) ∷ []) refl
-          (All-cons P (hex_digit (c / 16)) (hex_digit (c % 16) ∷ []) (hex_no_slash (c / 16))
-          (All-cons P (hex_digit (c % 16)) [] (hex_no_slash (c % 16)) (All-nil P)))))
-    ]
+no_slash_byte c h = grind (arith, common_steps, is_slash, cases_Bool, spelled_plain, name_no_slash, spelled_escape, hex_no_slash)
 
 no_slash_bytes : (bytes : List ℕ) → list_all is_name_byte bytes ≡ true → All (λ x. is_slash x ≡ false) (escaped bytes)
 no_slash_bytes [] h = λ k d lt. absurd (omega arith)
@@ -61,8 +52,7 @@ parts_of_some [] some h = absurd (omega arith)
 parts_of_some (name ∷ names) some h = parts_of_path name names h
 
 pub parts_of_text : (text : List ℕ) (path : List (List ℕ)) → 0 < length text → IsPathText text path → between_slashes text ≡ map escaped path
-parts_of_text text path some h =
-    ap between_slashes h.spells ∙ parts_of_some path (omega (arith, some, ap length h.spells)) h.names
+parts_of_text text path some h = grind (arith, common_steps, parts_of_some)
 
 -- a part that spells no name
 pub bad_part : (text part rest : List ℕ) (names more : List (List ℕ)) → 0 < length text → between_slashes text ≡ map escaped names ++ between_slashes rest
@@ -78,8 +68,7 @@ bad_part text part rest names more some split cut none path h =
 -- one part more spells a name
 pub one_part : (text part rest name : List ℕ) (names more : List (List ℕ)) → between_slashes text ≡ map escaped names ++ between_slashes rest
     → between_slashes rest ≡ part ∷ more → part ≡ escaped name → between_slashes text ≡ map escaped (names ++ name ∷ []) ++ more
-one_part text part rest name names more split cut is =
-    rw (split, cut, is, map-append escaped names (name ∷ []), append_assoc (map escaped names) (escaped name ∷ []) more)
+one_part text part rest name names more split cut is = grind (arith, common_steps, map-append, append_assoc)
 
 -- and the last one too
 pub last_name : (text part rest name : List ℕ) (names : List (List ℕ)) → between_slashes text ≡ map escaped names ++ between_slashes rest
@@ -162,8 +151,7 @@ path_text_more (first ∷ next ∷ names) name =
 
 pub path_text_step : (path : List (List ℕ)) (i : ℕ) (name text : List ℕ) → i < length path → name ≡ get_or path i name
     → text ≡ with_name (path_text (take i path)) name (i == 0) → text ≡ path_text (take (i + 1) path)
-path_text_step path i name text lt at is =
-    rw (is, take_more path i name lt, ← at, path_text_more (take i path) name, length-take-le i path (omega arith))
+path_text_step path i name text lt at is = grind (arith, common_steps, take_more, path_text_more, length-take-le)
 
 -- the empty text is that of the empty path
 pub empty_is_path : (text : List ℕ) → (length text == 0) ≡ true → IsPathText text []

@@ -1,10 +1,10 @@
 -- A text is the escape form of at most one list of bytes.
-use Rattle.std.proofs.Common.{◌≡◌, ◌≢◌, ℕ, ◌/◌, ◌%◌, ◌<◌, ◌≤◌, inl, inr, List, [], ◌∷◌, ◌++◌, length, get_or, true, false, arith, sym, refl, ◌∙◌, ap}
+use Rattle.std.proofs.Common.{◌≡◌, ◌≢◌, ℕ, ◌/◌, ◌%◌, ◌<◌, ◌≤◌, List, [], ◌∷◌, ◌++◌, length, get_or, true, false, arith, sym, refl, ◌∙◌, ap}
 use Rattle.std.proofs.Common.{if◌then◌else◌}
 use Rattle.std.proofs.lemmas.Bool.{cases_Bool}
 use Rattle.std.proofs.lemmas.Bool.Decides.{nat_tests}
 use Rattle.std.proofs.lemmas.List.{append_assoc, append-nil, length-append}
-use Rattle.std.proofs.lemmas.Grind.{flat_map-append}
+use Rattle.std.proofs.lemmas.Grind.{flat_map-append, common_steps}
 use Rattle.std.proofs.Math.Seq.{get_or-append_seam}
 use Rattle.std.specs.List.{All}
 use Rattle.std.proofs.lemmas.List.Elements.{All-head, All-tail}
@@ -15,10 +15,7 @@ hex_apart a b h x y = grind (arith, nat_tests)
 
 -- the digits of a byte are of no other
 pub same_digits : (c d : ℕ) → c < 256 → d < 256 → hex_digit (c / 16) ≡ hex_digit (d / 16) → hex_digit (c % 16) ≡ hex_digit (d % 16) → c ≡ d
-same_digits c d small other high low =
-    let a : c / 16 ≡ d / 16 = hex_apart (c / 16) (d / 16) high (omega arith) (omega arith) in
-    let b : c % 16 ≡ d % 16 = hex_apart (c % 16) (d % 16) low (omega arith) (omega arith) in
-    omega arith
+same_digits c d small other high low = grind (arith, common_steps, hex_apart)
 
 plain_not_escape : (c : ℕ) → is_plain c ≡ true → c ≢ 92
 plain_not_escape c h e = grind (arith, nat_tests)
@@ -31,37 +28,10 @@ spelled_escape c h = ap (λ b. if b then c ∷ [] else 92 ∷ 120 ∷ hex_digit 
 
 -- two spellings at the head of one text are of one byte
 pub one_spelling : (c d : ℕ) (u v : List ℕ) → c < 256 → d < 256 → escape_of c ++ u ≡ escape_of d ++ v → (c ≡ d) × (u ≡ v)
-one_spelling c d u v cs ds h =
-    elim (cases_Bool (is_plain c)) [
-      | inl p ↦
-          elim (cases_Bool (is_plain d)) [
-            | inl q ↦ let g : c ∷ u ≡ d ∷ v = rw (p, q) at h in (cc, cc)
-            | inr q ↦
-                let g : c ∷ u ≡ 92 ∷ (120 ∷ hex_digit (d / 16) ∷ hex_digit (d % 16) ∷ v) = rw (p, q) at h in
-                let e : c ≡ 92 = cc in
-                absurd (plain_not_escape c p e)
-          ]
-      | inr p ↦
-          elim (cases_Bool (is_plain d)) [
-            | inl q ↦
-                let g : 92 ∷ (120 ∷ hex_digit (c / 16) ∷ hex_digit (c % 16) ∷ u) ≡ d ∷ v = rw (p, q) at h in
-                let e : d ≡ 92 = cc in
-                absurd (plain_not_escape d q e)
-            | inr q ↦
-                let g : 92 ∷ (120 ∷ hex_digit (c / 16) ∷ hex_digit (c % 16) ∷ u) ≡ 92 ∷ (120 ∷ hex_digit (d / 16) ∷ hex_digit (d % 16) ∷ v) =
-                rw (p, q) at h in
-                let high : hex_digit (c / 16) ≡ hex_digit (d / 16) = cc in
-                let low : hex_digit (c % 16) ≡ hex_digit (d % 16) = cc in
-                (same_digits c d cs ds high low, cc)
-          ]
-    ]
+one_spelling c d u v cs ds h = grind (arith, common_steps, cases_Bool, plain_not_escape, same_digits)
 
 pub spelling_some : (c : ℕ) (u : List ℕ) → escape_of c ++ u ≢ []
-spelling_some c u h =
-    elim (cases_Bool (is_plain c)) [
-      | inl p ↦ let g : c ∷ u ≡ [] = sym (ap (λ s. s ++ u) (spelled_plain c p)) ∙ h in cc
-      | inr p ↦ let g : 92 ∷ (120 ∷ hex_digit (c / 16) ∷ hex_digit (c % 16) ∷ u) ≡ [] = sym (ap (λ s. s ++ u) (spelled_escape c p)) ∙ h in cc
-    ]
+spelling_some c u h = grind (arith, common_steps, cases_Bool, spelled_plain, spelled_escape)
 
 -- what was read of a text is the head of what it spells
 pub rest_spelled : (done bytes rest : List ℕ) → All (λ c. c < 256) done → All (λ c. c < 256) bytes → escaped bytes ≡ escaped done ++ rest
@@ -76,8 +46,7 @@ rest_spelled (c ∷ cs) (d ∷ ds) rest x y h =
 
 -- one byte more is read
 pub read_more : (text done rest after : List ℕ) (c : ℕ) → text ≡ escaped done ++ rest → rest ≡ escape_of c ++ after → text ≡ escaped (done ++ c ∷ []) ++ after
-read_more text done rest after c h g =
-    rw (h, g, flat_map-append escape_of done (c ∷ []), append-nil (escape_of c), append_assoc (escaped done) (escape_of c) after)
+read_more text done rest after c h g = grind (arith, common_steps, flat_map-append, append-nil, append_assoc)
 
 some_more : (done rest bytes more : List ℕ) → 0 < length rest → bytes ≡ done ++ more → escaped more ≡ rest
     → (c : ℕ) × (after : List ℕ) × (bytes ≡ done ++ c ∷ after) × (rest ≡ escape_of c ++ escaped after)

@@ -13,6 +13,7 @@ use Rattle.adf_tree.specs.declared.entry.Entry.{Entry}
 use Rattle.adf_base.specs.Hash.{slot_of}
 use Rattle.adf_tree.specs.Tree.{place, rank, renumbered, moved, added, IsTree, IsDir, AreApart, MayAdd}
 use Rattle.std.proofs.lemmas.List.Folds.{map_fixed}
+use Rattle.std.proofs.lemmas.Grind.{common_steps}
 
 -- numbers
 
@@ -78,9 +79,7 @@ pub fixed : (es : List Entry) (i k : ℕ) (d : Entry) → IsTree es → i ≤ le
 fixed es i k d t le lt = rw (moved_below (i + 1) (get_or es k d).parent (omega (arith, t.parents k d (omega arith))))
 
 fixed_front : (es : List Entry) (i : ℕ) → IsTree es → i ≤ length es → map (renumbered (i + 1)) (take i es) ≡ take i es
-fixed_front es i t le =
-    let n = length-take-le i es le in
-    map_fixed (renumbered (i + 1)) (take i es) (λ k d lt. rw (get_or-take i es k d (omega arith)) (fixed es i k d t le (omega arith)))
+fixed_front es i t le = grind (arith, common_steps, length-take-le, map_fixed, get_or-take, fixed)
 
 -- so all may be renumbered
 pub added_is : (es : List Entry) (e : Entry) → IsTree es → added es e ≡ insert (map (renumbered (place es (rank e) + 1)) es) (place es (rank e)) e
@@ -91,15 +90,10 @@ added_is es e t =
 -- the new list
 
 pub length_added : (es : List Entry) (e : Entry) → IsTree es → length (added es e) ≡ length es + 1
-length_added es e t =
-    let i : ℕ = place es (rank e) in
-    let m = length-map es (renumbered (i + 1)) in
-    rw (added_is es e t, length-insert (map (renumbered (i + 1)) es) i e (omega (arith, place_le es (rank e))), m)
+length_added es e t = grind (arith, common_steps, length-map, added_is, length-insert, place_le)
 
 pub at_place : (es : List Entry) (e d : Entry) → IsTree es → get_or (added es e) (place es (rank e)) d ≡ e
-at_place es e d t =
-    let f : Entry → Entry = renumbered (place es (rank e) + 1) in
-    rw (added_is es e t) (get_or-insert_at (map f es) (place es (rank e)) e d (omega (arith, place_le es (rank e), length-map es f)))
+at_place es e d t = grind (arith, common_steps, added_is, get_or-insert_at, place_le, length-map)
 
 -- the old entries stand under their new numbers
 pub new_get : (es : List Entry) (e : Entry) (m : ℕ) (d : Entry) → IsTree es → 0 < m → m ≤ length es
@@ -135,11 +129,7 @@ by_case es e d P t new old k lt =
 
 -- a directory stays one, under its new number
 dir_kept : (es : List Entry) (e : Entry) (p : ℕ) → IsTree es → IsDir es p → IsDir (added es e) (moved (place es (rank e) + 1) p)
-dir_kept es e p t dir some =
-    let n : ℕ = place es (rank e) + 1 in
-    let was : 0 < p = elim (cases_lt 0 p) [ inl lt ↦ lt | inr none ↦ absurd (omega (arith, moved_below n p (omega arith))) ] in
-    let at = (dir was).0 in
-    (omega (arith, moved_near n p, length_added es e t), λ d. rw (new_get es e p d t was at) ((dir was).1 d))
+dir_kept es e p t dir some = grind (arith, common_steps, cases_lt, moved_below, moved_near, length_added, new_get)
 
 kept_parent : (es : List Entry) (e : Entry) (k : ℕ) (d : Entry) → IsTree es → IsDir es e.parent → k < length (added es e)
     → ((get_or (added es e) k d).parent ≤ k) × IsDir (added es e) (get_or (added es e) k d).parent

@@ -1,7 +1,7 @@
 -- Chains of a tree.
 use Rattle.std.proofs.Common.{◌≡◌, ℕ, zero, suc, List, [], ◌∷◌, ◌++◌, ◌⊎◌, inl, inr, ◌+◌, ◌<◌, ◌≤◌, length, refl, sym, ap, subst, ◌∙◌, arith, Bool, true}
 use Rattle.std.proofs.Common.{false, cond}
-use Rattle.std.specs.Prelude.{if◌then◌else◌, Some, None, ◌↔◌, ◌-◌}
+use Rattle.std.specs.Prelude.{Some, ◌↔◌, ◌-◌}
 use Rattle.std.specs.List.{slice_get}
 use Rattle.std.proofs.Common.{map, append_assoc}
 use Rattle.adf_tree.specs.Tree.{entry}
@@ -9,6 +9,7 @@ use Rattle.adf_tree.specs.Chain.{chain, in_chain}
 use Rattle.adf_volume.proofs.Lists.{snoc_length}
 use Rattle.std.specs.Prelude.{◌==◌, ◌&&◌}
 use Rattle.std.proofs.lemmas.Bool.Decides.{nat_tests}
+use Rattle.std.proofs.lemmas.Grind.{common_steps}
 use Rattle.adf_volume.specs.Lists.{At}
 use Rattle.adf_base.specs.Hash.{slot_of}
 use Rattle.adf_tree.specs.declared.entry.Entry.{Entry}
@@ -42,10 +43,7 @@ at_chain k (e ∷ es) p s j n h =
 -- each entry is in the chain of its parent and slot
 pub chain_at : (k : ℕ) (es : List Entry) (i : ℕ) (e : Entry) → At es i e → (j : ℕ) × At (nodes_from k es e.parent (slot_of e.name)) j (k + i)
 chain_at k [] i e h = absurd h
-chain_at k (f ∷ es) zero e h =
-    let t : ((f.parent == e.parent) && (slot_of f.name == slot_of e.name)) ≡ true =
-    equal_both f.parent e.parent (slot_of f.name) (slot_of e.name) (ap (λ (x : Entry). x.parent) h) (ap (λ (x : Entry). slot_of x.name) h) in
-    (0, rw t (omega arith))
+chain_at k (f ∷ es) zero e h = grind (arith, common_steps, equal_both)
 chain_at k (f ∷ es) (suc i) e h =
     let r = chain_at (suc k) es i e h in
     let z : suc k + i ≡ k + suc i = omega arith in
@@ -109,38 +107,16 @@ entry_some t (suc i) l u = at_some t.entries i (omega arith)
 
 -- a node has one place in its chain
 pub place_fun : (t : Tree) (p s i j n : ℕ) → At (chain_nodes t p s) i n → At (chain_nodes t p s) j n → i ≡ j
-place_fun t p s i j n a b =
-    let x : i < j → ⊥ = (λ l. let k : n < n = chain_rises 1 t.entries p s i j n n a b l in omega arith) in
-    let y : j < i → ⊥ = (λ l. let k : n < n = chain_rises 1 t.entries p s j i n n b a l in omega arith) in
-    omega arith
+place_fun t p s i j n a b = grind (arith, common_steps, chain_rises)
 
 -- a node is in one chain, at one place
 pub one_place : (t : Tree) (p s i q u j n : ℕ) → At (chain_nodes t p s) i n → At (chain_nodes t q u) j n → (p ≡ q) × (s ≡ u) × (i ≡ j)
-one_place t p s i q u j n a b =
-    let e = entry_at t p s i n a in
-    let f = entry_at t q u j n b in
-    let z : e.entry ≡ f.entry = entry_fun t n e.entry f.entry e.at f.at in
-    let x : p ≡ q = sym e.parent ∙ ap (λ (x : Entry). x.parent) z ∙ f.parent in
-    let y : s ≡ u = sym e.slot ∙ ap (λ (x : Entry). slot_of x.name) z ∙ f.slot in
-    (x, y, place_fun t p s i j n a (rw (x, y) b))
+one_place t p s i q u j n a b = grind (arith, common_steps, entry_at, entry_fun, place_fun)
 
 -- a node that comes later stands later
 pub sorted_places : (t : Tree) → Ordered t → (p s i q u j n m a b : ℕ) → At (chain_nodes t p s) i n → At (chain_nodes t q u) j m → n < m
     → Before (Head a p s i) (Head b q u j)
-sorted_places t v p s i q u j n m a' b' a b l =
-    let e = entry_at t p s i n a in
-    let f = entry_at t q u j m b in
-    let o = v.order n m e.entry f.entry e.at f.at l in
-    let x : e.entry.parent ≡ p = e.parent in
-    let y : f.entry.parent ≡ q = f.parent in
-    let x1 : slot_of e.entry.name ≡ s = e.slot in
-    let y1 : slot_of f.entry.name ≡ u = f.slot in
-    let later : p ≡ q → s ≡ u → i < j =
-    (λ z y. let b'' : At (chain_nodes t p s) j m = rw (z, y) b in
-    let r : j < i → ⊥ = (λ l2. let k = chain_rises 1 t.entries p s j i m n b'' a l2 in omega arith) in
-    let w : i ≡ j → ⊥ = (λ x. let k = at_fun (chain_nodes t p s) i n m a (subst (λ j. At (chain_nodes t p s) j m) (sym x) b'') in omega arith) in
-    omega arith) in
-    (omega arith, (λ z. let k = o.1 (omega arith) in omega arith), (λ z y. later (omega arith) (omega arith)))
+sorted_places t v p s i q u j n m a' b' a b l = grind (arith, common_steps, entry_at, chain_rises, at_fun)
 
 -- one more entry
 pub chain_snoc : (k : ℕ) (es : List Entry) (e : Entry) (p s : ℕ)
@@ -159,10 +135,7 @@ chain_snoc k (f ∷ es) e p s =
     put false k xs ys zs h = h
 
 entry_suc : (es : List Entry) (i : ℕ) → entry es (suc i) ≡ slice_get es i
-entry_suc es i =
-    let t : (suc i == 0) ≡ false = grind (arith, nat_tests) in
-    let z : suc i - 1 ≡ i = omega arith in
-    ap (λ b. if b then None else slice_get es (suc i - 1)) t ∙ ap (slice_get es) z
+entry_suc es i = grind (arith, common_steps, nat_tests)
 
 -- the nodes of a chain are the entries of the chain
 nodes_chain : (pre es : List Entry) (p s : ℕ) → map (λ n. entry (pre ++ es) n) (nodes_from (suc (length pre)) es p s) ≡ map Some (chain es p s)

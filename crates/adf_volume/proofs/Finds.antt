@@ -12,6 +12,7 @@ use Rattle.adf_volume.specs.Layout.{EntryAt, chain_nodes}
 use Rattle.adf_volume.proofs.Lists.{at_below, at_some, at_index_or}
 use Rattle.adf_volume.proofs.Chains.{entry_at, entry_fun, place_at}
 use Rattle.std.proofs.lemmas.Bool.{false_from_ne_true}
+use Rattle.std.proofs.lemmas.Grind.{common_steps}
 
 -- an entry of the directory with this name is the child
 pub child_yes : (t : Tree) (p : ℕ) (name : List ℕ) (n : ℕ) (e : Entry) → IsTree t.entries → EntryAt t n e → e.parent ≡ p → uppers e.name ≡ uppers name
@@ -36,10 +37,7 @@ child_no t p name h = no_children t.entries p name
 -- a node of the chain with this name is the child
 pub chain_yes : (t : Tree) (p s : ℕ) (name : List ℕ) (j n : ℕ) (e : Entry) → IsTree t.entries → At (chain_nodes t p s) j n → EntryAt t n e
     → uppers e.name ≡ uppers name → child t.entries p name ≡ Some n
-chain_yes t p s name j n e v c h u =
-    let x = entry_at t p s j n c in
-    let z : x.entry ≡ e = entry_fun t n x.entry e x.at h in
-    child_yes t p name n e v h (ap (λ (y : Entry). y.parent) (sym z) ∙ x.parent) u
+chain_yes t p s name j n e v c h u = grind (arith, common_steps, entry_at, entry_fun, child_yes)
 
 -- where no node of the name's chain has this name there is no child
 pub chain_no : (t : Tree) (p : ℕ) (name : List ℕ)

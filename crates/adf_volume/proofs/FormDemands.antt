@@ -1,18 +1,18 @@
 -- Forms as demands, and the facts about headers that follow.
-use Rattle.std.proofs.Common.{◌≡◌, ℕ, List, [], ◌∷◌, ◌⊎◌, inl, inr, Bool, true, false, ◌||◌, not, Some, None, refl, ap, sym, subst, ◌∙◌, arith, rules}
+use Rattle.std.proofs.Common.{◌≡◌, ℕ, List, [], ◌∷◌, ◌⊎◌, inl, inr, Bool, true, false, ◌||◌, not, Some, None, refl, ap, sym, subst, ◌∙◌, arith}
 use Rattle.std.specs.Prelude.{◌==◌}
 use Rattle.std.proofs.lemmas.Bool.{and_parts, eqb-true}
+use Rattle.std.proofs.lemmas.Grind.{common_steps}
 use Rattle.adf_blocks.specs.declared.cause.Cause.{Cause}
-use Rattle.adf_blocks.specs.declared.cause.Cause.TheVariants.{BadType, Link, WrongSlot}
-use Rattle.adf_blocks.specs.declared.layout.TheConstants.{NAME, SECONDARY_TYPE, ST_DIR, ST_FILE, TYPE, T_SHORT}
+use Rattle.adf_blocks.specs.declared.layout.TheConstants.{SECONDARY_TYPE, ST_DIR, ST_FILE}
 use Rattle.adf_tree.specs.declared.entry.Kind.{Kind}
 use Rattle.adf_base.specs.Words.{block}
 use Rattle.adf_volume.specs.Image.{word_in, name_of}
 use Rattle.adf_base.specs.Hash.{slot_of}
 use Rattle.adf_volume.specs.Demands.{AllHold, FirstFails, demands_at}
 use Rattle.adf_volume.specs.Lists.{In}
-use Rattle.adf_blocks.specs.Forms.{first_cause, text_at}
-use Rattle.adf_blocks.specs.HeadBlock.{has_type, is_entry, is_link, head_form}
+use Rattle.adf_blocks.specs.Forms.{first_cause}
+use Rattle.adf_blocks.specs.HeadBlock.{head_form}
 
 -- where no test fails, each demand holds
 pub all_demanded : (b : ℕ) (form : List (Bool × Cause)) → first_cause form ≡ None → AllHold (demands_at b form)
@@ -58,18 +58,11 @@ which t false e h = inr (eqb-true t ST_FILE h)
 -- a header is a directory's or a file's
 pub head_type : (image : List ℕ) (kind : Kind) (b up s : ℕ) → AllHold (demands_at b (head_form kind b up s (block image b)))
     → (word_in image b SECONDARY_TYPE ≡ ST_DIR) ⊎ (word_in image b SECONDARY_TYPE ≡ ST_FILE)
-head_type image kind b up s h =
-    let t : ℕ = word_in image b SECONDARY_TYPE in
-    let form = head_form kind b up s (block image b) in
-    let typed = demanded b form (has_type (block image b)) BadType h (search rules) in
-    let unlinked = demanded b form (not (is_link t)) Link h (search rules) in
-    which t (t == ST_DIR) refl (entry (is_entry t) (is_link t) (and_parts (word_in image b TYPE == T_SHORT) (is_entry t || is_link t) typed).1 unlinked)
+head_type image kind b up s h = grind (arith, common_steps, demanded, not, which, entry, and_parts)
 
 pub head_slot_is : (image : List ℕ) (kind : Kind) (b up s : ℕ) → AllHold (demands_at b (head_form kind b up s (block image b))) → slot_of (name_of image b) ≡ s
 unfolding name_of
-head_slot_is image kind b up s h =
-    eqb-true (slot_of (name_of image b)) s
-    (demanded b (head_form kind b up s (block image b)) (slot_of (text_at (block image b) NAME) == s) WrongSlot h (search rules))
+head_slot_is image kind b up s h = grind (arith, common_steps, eqb-true, demanded)
 
 -- a directory's header is no file's
 pub dir_not_file : (image : List ℕ) (b : ℕ) → word_in image b SECONDARY_TYPE ≡ ST_DIR → word_in image b SECONDARY_TYPE ≡ ST_FILE → ⊥

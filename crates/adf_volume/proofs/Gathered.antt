@@ -1,12 +1,12 @@
 -- Facts of every list of parts that were each asked for and missing when added, for any content of their blocks.
 use Rattle.std.proofs.lemmas.Bool.{eqb-true}
-use Rattle.std.specs.Prelude.{◌==◌}
 use Rattle.std.proofs.Common.{Bool, true, false, cond, eq-eqb, ◌≡◌, ℕ, zero, suc, List, [], ◌∷◌, inl, inr, ◌/◌, ◌<◌, ◌≤◌, ◌≢◌, refl, sym, ap}
 use Rattle.std.proofs.Common.{subst, ◌∙◌, arith}
 use native.Mathlib.Decide.{dec_le, dec_lt}
 use Rattle.adf_blocks.specs.declared.layout.TheConstants.{POINTERS}
 use Rattle.adf_volume.specs.Image.{root_of}
 use Rattle.std.proofs.lemmas.Bool.Decides.{eqb_tells}
+use Rattle.std.proofs.lemmas.Grind.{common_steps}
 use Rattle.adf_volume.specs.Walk.{first, ext_block_in, ext_block_of, ext_count, ext_count_of, member_block, node_block, node_block_of}
 use Rattle.adf_volume.specs.Walk.{Role, second, Same, Has, head_count, heads, HeadAt, NodeAt, DirAt, FileAt, MemberAt, NamesPage, Asks, Lacks}
 use Rattle.adf_volume.specs.Walk.Role.{Root, Page, MapExt, Head, Ext, Data}
@@ -125,11 +125,7 @@ module _ (image : List ℕ) where
     names_one n a i b j (inl h) (inl k) = (h.1 ∙ sym k.1, h.2 ∙ sym k.2)
     names_one n a i b j (inl h) (inr k) = absurd (omega arith)
     names_one n a i b j (inr h) (inl k) = absurd (omega arith)
-    names_one n a i b j (inr h) (inr k) =
-        let e : h.0 ≡ k.0 = omega arith in
-        let f : i ≡ j = omega arith in
-        let k1 : Has w (MapExt h.0) b = subst (λ x. Has w (MapExt x) b) (sym e) k.1 in
-        ((one_block v (MapExt h.0) (MapExt h.0) a b h.1 k1 (refl, refl, refl)).1, f)
+    names_one n a i b j (inr h) (inr k) = grind (arith, common_steps, one_block)
 
     -- a role is asked for by one word
     pub asks_one : (r : Role) (a i b j : ℕ) → Asks image w r a i → Asks image w r b j → (a ≡ b) × (i ≡ j)
@@ -138,8 +134,7 @@ module _ (image : List ℕ) where
     asks_one (MapExt zero) a i b j h k = (h.1 ∙ sym k.1, h.2 ∙ sym k.2)
     asks_one (MapExt (suc x)) a i b j h k = ((one_block v (MapExt x) (MapExt x) a b h.1 k.1 (refl, refl, refl)).1, h.2 ∙ sym k.2)
     asks_one (Head n p s zero) a i b j h k = (dir_one p a b h.2 k.2, h.3 ∙ sym k.3)
-    asks_one (Head n p s (suc x)) a i b j h k =
-        ((one_block v (Head h.1.0 p s x) (Head k.1.0 p s x) a b h.1.1 k.1.1 (refl, refl, refl)).1, h.2 ∙ sym k.2)
+    asks_one (Head n p s (suc x)) a i b j h k = grind (arith, common_steps, one_block)
     asks_one (Ext n zero) a i b j h k = absurd h
     asks_one (Ext n (suc zero)) a i b j h k = (file_one n a b h.0 k.0, h.1 ∙ sym k.1)
     asks_one (Ext n (suc (suc x))) a i b j h k = ((one_block v (Ext n (suc x)) (Ext n (suc x)) a b h.0 k.0 (refl, refl, refl)).1, h.1 ∙ sym k.1)
@@ -149,8 +144,7 @@ module _ (image : List ℕ) where
   pub ext_below : {w : List (Role × ℕ)} → IsGathered image w → (n k b : ℕ) → Has w (Ext n (suc k)) b → k < ext_count w n
   ext_below start n k b (inl e) = let h : first Root ≡ first (Ext n (suc k)) = ap first e.0 in absurd (omega arith)
   ext_below start n k b (inr f) = absurd f
-  ext_below (step {w = w} {r = r} a i c v d l) n zero b (inl h) =
-      subst (λ r. 0 < ext_count_of n r (ext_count w n)) (sym h.0) (rw (count_own n 1 (ext_count w n)) (omega arith))
+  ext_below (step {w = w} {r = r} a i c v d l) n zero b (inl h) = grind (arith, common_steps, step, count_own)
   ext_below (step {w = w} {r = r} a i c v d l) n (suc k) b (inl h) =
       let q = subst (λ r. Asks image w r a i) h.0 d in
       let ih : k < ext_count w n = ext_below v n k a q.0 in
@@ -199,9 +193,7 @@ module _ (image : List ℕ) where
   -- the block of a node, as a function, is not changed by what is no header of that number
   other_node : (w : List (Role × ℕ)) (n : ℕ) (r : Role) (a i b c : ℕ) → Asks image w r a i → n ≤ heads w → node_block_of n r b c ≡ c
   other_node w n Root a i b c d u = absurd d
-  other_node w n (Head m p s j) a i b c d u =
-      let k : m ≡ suc (heads w) = asks_number image w m p s j a i d in
-      elim (eqb_tells n m) [ inl y ↦ let e : n ≡ m = y.1 in absurd (omega arith) | inr y ↦ rw y.0 refl ]
+  other_node w n (Head m p s j) a i b c d u = grind (arith, common_steps, asks_number, eqb_tells)
   other_node w n _ a i b c d u = refl
 
   pub head_block : {w : List (Role × ℕ)} {n b : ℕ} → IsGathered image w → HeadAt w n b → node_block w n ≡ b
@@ -226,8 +218,7 @@ module _ (image : List ℕ) where
 
   -- extension block k of a file, as a function
   ext_block_new : (n k : ℕ) (r : Role) (b c : ℕ) → r ≡ Ext n k → ext_block_of n k r b c ≡ b
-  ext_block_new n k r b c e =
-      ap (λ r. ext_block_of n k r b c) e ∙ ap (λ t. cond t (cond (k == k) b c) c) (eq-eqb n n refl) ∙ ap (λ t. cond t b c) (eq-eqb k k refl)
+  ext_block_new n k r b c e = grind (arith, common_steps, eq-eqb)
 
   cond_both : (t u : Bool) (b c a : ℕ) → (t ≡ true → u ≡ true → ⊥) → c ≡ a → cond t (cond u b c) c ≡ a
   cond_both true true b c a h z = absurd (h refl refl)
@@ -235,13 +226,11 @@ module _ (image : List ℕ) where
   cond_both false u b c a h z = z
 
   ext_block_old : (n k : ℕ) (r : Role) (b c a : ℕ) → (r ≡ Ext n k → ⊥) → c ≡ a → ext_block_of n k r b c ≡ a
-  ext_block_old n k (Ext m i) b c a h z =
-      cond_both (n == m) (k == i) b c a (λ t u. h (ap (λ m. Ext m i) (sym (eqb-true n m t)) ∙ ap (Ext n) (sym (eqb-true k i u)))) z
+  ext_block_old n k (Ext m i) b c a h z = grind (arith, common_steps, cond_both, eqb-true)
   ext_block_old n k _ b c a h z = z
 
   ext_is_block : {w : List (Role × ℕ)} → IsGathered image w → (n k b : ℕ) → Has w (Ext n k) b → ext_block_in w n k ≡ b
-  ext_is_block start n k b (inl e) =
-      let h : second Root ≡ second (Ext n k) = ap second e.0 in let g : first Root ≡ first (Ext n k) = ap first e.0 in absurd (omega arith)
+  ext_is_block start n k b (inl e) = grind (arith, common_steps, start)
   ext_is_block start n k b (inr f) = absurd f
   ext_is_block (step {w = w} {r = r} a i b' v d l) n k b (inl e) = ext_block_new n k r b' (ext_block_in w n k) e.0 ∙ e.1
   ext_is_block (step {w = w} {r = r} a i b' v d l) n k b (inr h) =

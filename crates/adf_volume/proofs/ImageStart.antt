@@ -1,8 +1,9 @@
 -- The size, boot bytes and root of an image.
 use Rattle.std.specs.Prelude.{Some, None, cond, slice_index}
-use Rattle.std.proofs.Common.{◌≡◌, ◌<◌, ℕ, List, [], ◌∷◌, ◌++◌, Bool, true, false, inl, inr, length, refl, ap, arith}
+use Rattle.std.proofs.Common.{◌≡◌, ◌<◌, ℕ, List, [], ◌∷◌, ◌++◌, Bool, true, false, length, refl, ap, arith}
 use Rattle.std.proofs.lemmas.Bool.{lt-ltb}
 use Rattle.std.proofs.lemmas.Bool.Decides.{nat_tests}
+use Rattle.std.proofs.lemmas.Grind.{common_steps}
 use Rattle.adf_base.specs.Words.{block}
 use Rattle.adf_base.specs.declared.hash.Letters.TheVariants.{Ascii, International}
 use Rattle.adf_blocks.specs.declared.cause.Cause.{Cause}
@@ -20,10 +21,7 @@ size_is : (image : List ℕ) → is_image_len (length image) ≡ true → IsSize
 size_is image h = (grind (arith, nat_tests), grind (arith, nat_tests))
 
 size_not : (image : List ℕ) → is_image_len (length image) ≡ false → IsSize image → ⊥
-size_not image h k =
-    let whole = k.0 in
-    let allowed = k.1 in
-    let clash : true ≡ false = grind (arith, nat_tests) in cc
+size_not image h k = grind (arith, common_steps, nat_tests)
 
 -- the size and the boot bytes are those of a volume
 pub boot_holds : (image : List ℕ) → first_cause (start_form image) ≡ None → AllHold (boot_demands image)
@@ -41,12 +39,7 @@ begins image h r = all_append (boot_demands image) (root_demands image (root_of 
 
 -- or not
 pub boot_fails : (image : List ℕ) (c : Cause) → first_cause (start_form image) ≡ Some c → FirstFails (boot_demands image) 0 c
-boot_fails image c h = go (is_image_len (length image)) refl h
-  where
-    go : (whole : Bool) → is_image_len (length image) ≡ whole → first_cause ((whole, BadSize) ∷ boot_form (block image 0)) ≡ Some c
-        → FirstFails (boot_demands image) 0 c
-    go true w h = inr (size_is image w, first_demanded 0 (boot_form (block image 0)) c h)
-    go false w h = let e : BadSize ≡ c = cc in inl (size_not image w, refl, e)
+boot_fails image c h = grind (arith, common_steps, size_is, first_demanded, size_not)
 
 -- or the size, the boot bytes or the root are those of no volume
 pub fails_start : (image : List ℕ) (c : Cause) → first_cause (start_form image) ≡ Some c
@@ -55,9 +48,7 @@ fails_start image c h = fails_left (boot_demands image) (root_demands image (roo
 
 pub fails_root : (image : List ℕ) (c : Cause) → first_cause (start_form image) ≡ None → first_cause (root_form (block image (root_of image))) ≡ Some c
     → FirstFails (boot_demands image ++ root_demands image (root_of image)) (root_of image) c
-fails_root image c h r =
-    fails_right (boot_demands image) (root_demands image (root_of image)) (root_of image) c (boot_holds image h)
-    (first_demanded (root_of image) (root_form (block image (root_of image))) c r)
+fails_root image c h r = grind (arith, common_steps, fails_right, boot_holds, first_demanded)
 
 -- the type is the fourth byte of the image
 pub type_byte : (image : List ℕ) → slice_index (block image 0) 3 ≡ slice_index image 3
@@ -70,11 +61,7 @@ type_byte (a ∷ b ∷ c ∷ d ∷ xs) = refl
 
 -- where the boot bytes have no cause, the type is 0 or 1
 pub plain_type : (image : List ℕ) → AllHold (boot_demands image) → slice_index (block image 0) 3 < 2
-plain_type image h =
-    let dos = h.1.0 in
-    let two = h.1.1.0 in
-    let four = h.1.1.1.0 in
-    grind (arith, nat_tests)
+plain_type image h = grind (arith, common_steps, nat_tests)
 
 -- and the letters are a to z
 pub plain_letters : (image : List ℕ) → AllHold (boot_demands image) → letters_of image ≡ Ascii

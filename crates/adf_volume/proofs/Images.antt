@@ -1,6 +1,7 @@
 -- Lengths of blocks and contents, and the numbers of pages and bitmap extension blocks.
-use Rattle.std.proofs.Common.{◌≡◌, ℕ, suc, List, [], ◌∷◌, ◌+◌, ◌-◌, ◌/◌, ◌*◌, ◌^◌, ◌<◌, ◌≤◌, arith, refl, sym, ◌∙◌, length}
+use Rattle.std.proofs.Common.{◌≡◌, ℕ, suc, List, [], ◌∷◌, ◌+◌, ◌-◌, ◌/◌, ◌*◌, ◌^◌, ◌<◌, ◌≤◌, arith, refl, ◌∙◌, length}
 use Rattle.std.proofs.Common.{length-append, length-drop, length-take}
+use Rattle.std.proofs.lemmas.Grind.{common_steps}
 use Rattle.adf_base.specs.Words.{block}
 use Rattle.adf_blocks.specs.declared.layout.TheConstants.{MAP_EXT_PAGES, PAGE_BITS, ROOT_PAGES, SIZE}
 use Rattle.adf_volume.specs.Lists.{At}
@@ -45,10 +46,7 @@ pub content_length : (image : List ℕ) (k : Kind) (h : ℕ) (bs : List ℕ) →
     → length bs ≡ count k (word_in image h SIZE)
     → length (content image k h bs) ≡ word_in image h SIZE
 unfolding content
-content_length image k h bs z l c =
-    let j : length (joined image k bs) ≡ chunk k * length bs = joined_length image k bs z l in
-    let e : word_in image h SIZE ≤ chunk k * length bs = enough_bytes k (word_in image h SIZE) (length bs) (sym c) in
-    simp length-take (omega arith)
+content_length image k h bs z l c = grind (arith, common_steps, joined_length, enough_bytes, length-take)
 
 pub page_in : (n b : ℕ) → 2 ≤ b → b < n → (b - 2) / PAGE_BITS < pages_needed n
 page_in n b lo hi = omega arith

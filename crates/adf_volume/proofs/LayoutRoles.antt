@@ -1,10 +1,11 @@
 -- The parts of a volume that a tree and a layout fit.
 use Rattle.std.proofs.Common.{◌≡◌, ℕ, zero, suc, List, [], ◌∷◌, ◌++◌, inl, inr, ◌+◌, ◌<◌, ◌≤◌, length, refl, sym, ap, subst, ◌∙◌, arith}
+use Rattle.std.proofs.lemmas.Grind.{common_steps}
 use Rattle.adf_volume.specs.Lists.{At, In, numbered}
 use Rattle.adf_blocks.specs.Sizes.{blocks}
 use Rattle.adf_base.specs.Hash.{slot_of}
 use Rattle.adf_tree.specs.Tree.{Tree}
-use Rattle.adf_volume.specs.Layout.{chain_nodes, Place, Layout, head_at, exts_at, datas_at, owned_from, owned}
+use Rattle.adf_volume.specs.Layout.{Place, Layout, head_at, exts_at, datas_at, owned_from, owned}
 use Rattle.adf_volume.specs.declared.owner.Owner.{Owner}
 use Rattle.adf_volume.specs.declared.owner.Owner.TheVariants.{Root as TheRoot, Page as APage, MapExt as AMapExt, Head as AHead, Ext as AnExt, Data as AData}
 use Rattle.adf_volume.specs.Fits.{Fits}
@@ -17,25 +18,16 @@ use Rattle.adf_volume.proofs.Chains.{entry_at, entry_below, entry_some, place_at
 -- what a later place owns is owned
 owned_later : (n : ℕ) (q : Place) (qs : List Place) (o : ℕ → Owner) (i b : ℕ) → In (owned_from (suc n) qs) (o (suc n + i), b)
     → In (owned_from n (q ∷ qs)) (o (n + suc i), b)
-owned_later n q qs o i b h =
-    let z : suc n + i ≡ n + suc i = omega arith in
-    inr (in_right (numbered (AnExt n) 1 q.exts ++ numbered (AData n) 1 q.datas) (owned_from (suc n) qs) (o (n + suc i), b)
-    (subst (λ m. In (owned_from (suc n) qs) (o m, b)) z h))
+owned_later n q qs o i b h = grind (arith, common_steps, in_right)
 
 -- the blocks behind a header are owned
 owned_here : (n : ℕ) (q : Place) (qs : List Place) (o : ℕ → ℕ → Owner) (k b : ℕ)
     → In (numbered (AnExt n) 1 q.exts ++ numbered (AData n) 1 q.datas) (o n (1 + k), b) → In (owned_from n (q ∷ qs)) (o (n + 0) (suc k), b)
-owned_here n q qs o k b h =
-    let xs : List (Owner × ℕ) = numbered (AnExt n) 1 q.exts ++ numbered (AData n) 1 q.datas in
-    let z : n ≡ n + 0 = omega arith in
-    let y : 1 + k ≡ suc k = omega arith in
-    inr (in_left xs (owned_from (suc n) qs) (o (n + 0) (suc k), b) (subst (λ m. In xs (o m (suc k), b)) z (subst (λ k. In xs (o n k, b)) y h)))
+owned_here n q qs o k b h = grind (arith, common_steps, in_left)
 
 pub owned_head : (n : ℕ) (qs : List Place) (i : ℕ) → i < length qs → In (owned_from n qs) (AHead (n + i), head_at qs i)
 owned_head n [] i h = absurd (omega arith)
-owned_head n (q ∷ qs) zero h =
-    let z : n ≡ n + 0 = omega arith in
-    inl (λ t. (AHead (z t), q.head))
+owned_head n (q ∷ qs) zero h = grind (arith, common_steps)
 owned_head n (q ∷ qs) (suc i) h = owned_later n q qs AHead i (head_at qs i) (owned_head (suc n) qs i (omega arith))
 
 pub owned_ext : (n : ℕ) (qs : List Place) (i k b : ℕ) → At (exts_at qs i) k b → In (owned_from n qs) (AnExt (n + i) (suc k), b)
@@ -83,8 +75,7 @@ owned_stands n (q ∷ qs) o b (inr h) =
 -- each entry has its place
 module _ (image : List ℕ) (t : Tree) (l : Layout) (long : length l.places ≡ length t.entries) where
   places_owned : (o : Owner) (b : ℕ) → In (owned_from 1 l.places) (o, b) → In (owned image l) (o, b)
-  places_owned o b h = inr (in_right (numbered APage 0 l.pages) (numbered AMapExt 0 l.map_exts ++ owned_from 1 l.places) (o, b)
-      (in_right (numbered AMapExt 0 l.map_exts) (owned_from 1 l.places) (o, b) h))
+  places_owned o b h = grind (arith, common_steps, in_right)
 
   pub part_owned : (r : Role) (b : ℕ) → LayoutHas image t l r b → In (owned image l) (owner_of r, b)
   part_owned Root b h = inl (λ i. (TheRoot, h i))
@@ -144,18 +135,11 @@ module _ (image : List ℕ) (t : Tree) (l : Layout) (fit : Fits image t l) where
   same_owner Root Root b c e h k = refl
   same_owner (Page i) (Page j) b c e h k = cc
   same_owner (MapExt i) (MapExt j) b c e h k = cc
-  same_owner (Head n p s j) (Head m q u i) b c e h k =
-      let z : m ≡ n = cc in
-      let x = one_place t p s j q u i n h.0 (subst (λ m. At (chain_nodes t q u) i m) z k.0) in
-      let x0 : p ≡ q = x.0 in
-      let x1 : s ≡ u = x.1 in
-      let x2 : j ≡ i = x.2 in
-      cc
+  same_owner (Head n p s j) (Head m q u i) b c e h k = grind (arith, common_steps, one_place)
   same_owner (Ext n j) (Ext m i) b c e h k = cc
   same_owner (Data n j) (Data m i) b c e h k = cc
   same_owner _ _ b c e h k = cc
 
   -- a block is one part
   pub one_part : (r q : Role) (b : ℕ) → LayoutHas image t l r b → LayoutHas image t l q b → r ≡ q
-  one_part r q b h k = same_owner r q b b (one_member (owned image l) (owner_of r) (owner_of q) b fit.once (part_owned image t l fit.places r b h)
-      (part_owned image t l fit.places q b k)) h k
+  one_part r q b h k = grind (arith, common_steps, same_owner, one_member, part_owned)

@@ -3,7 +3,7 @@ use Rattle.std.proofs.Common.{◌≡◌, ℕ, zero, suc, List, [], ◌∷◌, �
 use Rattle.adf_blocks.specs.declared.cause.Cause.{Cause}
 use Rattle.adf_volume.specs.Lists.{At, In, Spelled, numbered, NoBlockTwice}
 use Rattle.adf_volume.specs.Demands.{Demand, AllHold, FirstFails}
-use Rattle.std.specs.Prelude.{Some, slice_get, slice_index, slice_index_or}
+use Rattle.std.specs.Prelude.{slice_get, slice_index, slice_index_or}
 
 pub at_fun : {X : Type 0} (xs : List X) (i : ℕ) (x y : X) → At xs i x → At xs i y → x ≡ y
 at_fun [] i x y h k = absurd h
@@ -151,10 +151,6 @@ pub snoc_length : {X : Type 0} (xs : List X) (y : X) → length (xs ++ y ∷ [])
 snoc_length [] y = refl
 snoc_length (z ∷ xs) y = ap suc (snoc_length xs y)
 
-pub no_length : {X : Type 0} (xs : List X) → length xs ≡ 0 → xs ≡ []
-no_length [] h = refl
-no_length (x ∷ xs) h = absurd (omega arith)
-
 pub fails_left : (xs ys : List Demand) (b : ℕ) (c : Cause) → FirstFails xs b c → FirstFails (xs ++ ys) b c
 fails_left [] ys b c h = absurd h
 fails_left (x ∷ xs) ys b c (inl h) = inl h
@@ -174,11 +170,6 @@ pub get_before : {X : Type 0} (xs : List X) (x : X) (i : ℕ) → i < length xs 
 get_before [] x i h = absurd (omega arith)
 get_before (y ∷ ys) x zero h = refl
 get_before (y ∷ ys) x (suc i) h = get_before ys x i (omega arith)
-
--- one more stands last
-pub get_last : {X : Type 0} (xs : List X) (x : X) → slice_get (xs ++ x ∷ []) (length xs) ≡ Some x
-get_last [] x = refl
-get_last (y ∷ ys) x = get_last ys x
 
 -- numbering keeps the length
 pub length_numbered : {X : Type 0} (f : ℕ → X) (k : ℕ) (bs : List ℕ) → length (numbered f k bs) ≡ length bs

@@ -9,7 +9,7 @@ use Rattle.adf_blocks.specs.Sizes.{blocks, pages_needed}
 use Rattle.adf_tree.specs.Texts.{uppers}
 use Rattle.adf_volume.specs.Demands.{AllHold, page_demands, head_demands, ext_demands, data_demands}
 use Rattle.adf_volume.specs.Walk.{Role, second, Has, DirAt, FileAt, MemberAt, NamesPage, data_count, Asks, IsDue, ext_count, node_block}
-use Rattle.adf_volume.specs.Walk.{member_block, next_data, NewName, IsWalk}
+use Rattle.adf_volume.specs.Walk.{member_block, next_data, IsWalk}
 use Rattle.adf_volume.specs.Walk.Role.{Root, Page, MapExt, Head, Ext, Data}
 use Rattle.adf_volume.specs.Walk.IsWalk.{start, step}
 use Rattle.adf_volume.proofs.Gathered.{asked_file, ext_counted, member_is, node_is}
@@ -17,6 +17,7 @@ use Rattle.adf_volume.proofs.PartDemands.{PartHolds, part_holds}
 use Rattle.adf_volume.proofs.Roles.{count_up, dir_is_node, dir_up, member_up, typed_up}
 use Rattle.adf_volume.proofs.Walks.{file_is, is_there, of_walk}
 use Rattle.std.proofs.lemmas.Bool.{cond-true, cond-false, le-ltb, lt-ltb}
+use Rattle.std.proofs.lemmas.Grind.{common_steps}
 
 -- the word that names a header
 abbrev pub HeadNamed : List ℕ → List (Role × ℕ) → ℕ → ℕ → ℕ → ℕ → Type 0
@@ -192,21 +193,13 @@ module _ (image : List ℕ) where
       → uppers (name_of image b) ≢ uppers (name_of image c)
   new_names start n m p s i j b c (inl e) h ne z = let x : second Root ≡ second (Head n p s i) = ap second e.0 in absurd (omega arith)
   new_names start n m p s i j b c (inr e) h ne z = e
-  new_names (step {w = w} {r = q} {b = b'} {a = a} v d e g) n m p s i j b c (inl h) (inl k) ne z =
-      absurd (let x : Head n p s i ≡ Head m p s j = sym h.0 ∙ k.0 in ne (same_number n m p s i j x))
-  new_names (step {w = w} {r = q} {b = b'} {a = a} v d e g) n m p s i j b c (inl h) (inr k) ne z =
-      let nn = (part_holds image w q a b' g).new_name in
-      let nn' : NewName image w (Head n p s i) b = subst (λ r. NewName image w r b) h.0 (subst (NewName image w q) h.1 nn) in
-      nn' m j c k (sym z)
-  new_names (step {w = w} {r = q} {b = b'} {a = a} v d e g) n m p s i j b c (inr h) (inl k) ne z =
-      let nn = (part_holds image w q a b' g).new_name in
-      let nn' : NewName image w (Head m p s j) c = subst (λ r. NewName image w r c) k.0 (subst (NewName image w q) k.1 nn) in
-      nn' n i b h z
+  new_names (step {w = w} {r = q} {b = b'} {a = a} v d e g) n m p s i j b c (inl h) (inl k) ne z = grind (arith, common_steps, same_number)
+  new_names (step {w = w} {r = q} {b = b'} {a = a} v d e g) n m p s i j b c (inl h) (inr k) ne z = grind (arith, common_steps, part_holds)
+  new_names (step {w = w} {r = q} {b = b'} {a = a} v d e g) n m p s i j b c (inr h) (inl k) ne z = grind (arith, common_steps, part_holds)
   new_names (step v d e g) n m p s i j b c (inr h) (inr k) ne z = new_names v n m p s i j b c h k ne z
 
   pub in_range : {w : List (Role × ℕ)} → IsWalk image w → 4 ≤ blocks image → (r : Role) (b : ℕ) → Has w r b → (2 ≤ b) × (b < blocks image)
   in_range start four r b (inl e) = let z : root_of image ≡ b = e.1 in omega arith
   in_range start four r b (inr h) = absurd h
-  in_range (step {w = w} {r = q} {b = c} {a = a} v d e g) four r b (inl h) =
-      let part = part_holds image w q a c g in subst (λ b. (2 ≤ b) × (b < blocks image)) h.1 (part.past_boot, part.inside)
+  in_range (step {w = w} {r = q} {b = c} {a = a} v d e g) four r b (inl h) = grind (arith, common_steps, part_holds)
   in_range (step v d e g) four r b (inr h) = in_range v four r b h

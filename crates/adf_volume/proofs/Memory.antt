@@ -1,13 +1,14 @@
 -- No first fault is NoMemory.
-use Rattle.std.proofs.Common.{◌≡◌, ◌≢◌, ℕ, zero, suc, Bool, true, false, not, ◌&&◌, List, [], ◌∷◌, ◌++◌, inl, inr, refl, subst}
+use Rattle.std.proofs.Common.{◌≡◌, ◌≢◌, ℕ, zero, suc, Bool, true, false, not, ◌&&◌, List, [], ◌∷◌, ◌++◌, inl, inr, refl, subst, arith}
 use Rattle.std.proofs.lemmas.Bool.{and_parts}
+use Rattle.std.proofs.lemmas.Grind.{common_steps}
 use Rattle.adf_tree.specs.declared.entry.Kind.{Kind}
 use Rattle.adf_tree.specs.declared.entry.Kind.TheVariants.{Ofs, Ffs}
 use Rattle.adf_blocks.specs.declared.cause.Cause.{Cause}
-use Rattle.adf_blocks.specs.declared.cause.Cause.TheVariants.{NoMemory, SameName}
+use Rattle.adf_blocks.specs.declared.cause.Cause.TheVariants.{NoMemory}
 use Rattle.adf_volume.specs.Demands.{Demand, FirstFails, boot_demands, data_demands, demand, root_demands}
 use Rattle.adf_volume.specs.Image.{root_of, word_in}
-use Rattle.adf_volume.specs.Walk.{FirstFault, NewName, Role, bitmap_demands, demands, form_demands}
+use Rattle.adf_volume.specs.Walk.{FirstFault, Role, bitmap_demands, demands, form_demands}
 use Rattle.adf_volume.specs.Walk.Role.{Root, Page, MapExt, Head, Ext, Data}
 use Rattle.adf_volume.specs.Walk.FirstFault.{at_boot, at_due, at_bitmap}
 
@@ -57,9 +58,7 @@ of_form image w (Head n p s j) b = none_of (form_demands image w (Head n p s j) 
 of_form image w (Ext n k) b = none_of (form_demands image w (Ext n k) b) refl
 
 of_role : (image : List ℕ) (w : List (Role × ℕ)) (r : Role) (a b : ℕ) → NoneHas NoMemory (demands image w r a b)
-of_role image w r a b =
-    let last : List Demand = demand SameName b (NewName image w r b) ∷ [] in
-    ((λ e. cc), ((λ e. cc), ((λ e. cc), none_append NoMemory (form_demands image w r b) last (of_form image w r b) ((λ e. cc), tt))))
+of_role image w r a b = grind (arith, common_steps, none_append, of_form)
 
 of_bitmap : (image : List ℕ) (w : List (Role × ℕ)) (b n : ℕ) → NoneHas NoMemory (bitmap_demands image w b n)
 of_bitmap image w b zero = tt

@@ -1,11 +1,12 @@
 -- If there is a first fault, nothing fits.
-use Rattle.std.proofs.Common.{ℕ, zero, suc, List, ◌++◌, ◌+◌, ◌-◌, ◌/◌, ◌≤◌, arith}
+use Rattle.std.proofs.Common.{ℕ, zero, suc, List, ◌+◌, ◌-◌, ◌/◌, ◌≤◌, arith}
+use Rattle.std.proofs.lemmas.Grind.{common_steps}
 use Rattle.adf_blocks.specs.declared.layout.TheConstants.{PAGE_BITS}
 use Rattle.adf_blocks.specs.declared.cause.Cause.{Cause}
 use Rattle.adf_volume.specs.Lists.{In}
-use Rattle.adf_volume.specs.Image.{root_of, word_in}
+use Rattle.adf_volume.specs.Image.{word_in}
 use Rattle.adf_blocks.specs.Sizes.{blocks}
-use Rattle.adf_volume.specs.Demands.{AllHold, boot_demands, root_demands}
+use Rattle.adf_volume.specs.Demands.{AllHold}
 use Rattle.adf_tree.specs.Tree.{Tree}
 use Rattle.adf_volume.specs.Layout.{Layout, owned}
 use Rattle.adf_volume.specs.declared.owner.Owner.{Owner}
@@ -40,11 +41,6 @@ module _ (image : List ℕ) (t : Tree) (l : Layout) (fit : Fits image t l) (w : 
       ((λ a. free_of b (f.1 (unowned_of b a))), ((λ a. absent_of b (f.0 (free_in_of b a))), bitmap_holds (suc b) n (omega arith) (omega arith)))
 
 pub none_fits : (image : List ℕ) (b : ℕ) (c : Cause) (t : Tree) (l : Layout) → FirstFault image b c → Fits image t l → ⊥
-none_fits image b c t l (at_boot h) fit =
-    fails_not_all (boot_demands image ++ root_demands image (root_of image)) b c h
-    (all_append (boot_demands image) (root_demands image (root_of image)) fit.boots fit.root)
+none_fits image b c t l (at_boot h) fit = grind (arith, common_steps, fails_not_all, all_append)
 none_fits image b c t l (at_due _ w r a i v d h) fit = fails_not_all (demands image w r a (word_in image a i)) b c h (due_is_part image t l fit w r a i v d).1
-none_fits image b c t l (at_bitmap _ w v whole h) fit =
-    let size = fit.boots.0 in
-    let s2 : 4 ≤ blocks image = size_low (blocks image) size.1 in
-    fails_not_all (bitmap_demands image w 2 (blocks image - 2)) b c h (bitmap_holds image t l fit w v whole 2 (blocks image - 2) (omega arith) (omega arith))
+none_fits image b c t l (at_bitmap _ w v whole h) fit = grind (arith, common_steps, size_low, fails_not_all, bitmap_holds)

@@ -1,5 +1,6 @@
 -- There is at most one first fault.
 use Rattle.std.proofs.Common.{◌≡◌, ℕ, suc, List, [], ◌∷◌, ◌++◌, inl, inr, ◌-◌, ◌<◌, length, refl, sym, ap, subst, ◌∙◌, arith}
+use Rattle.std.proofs.lemmas.Grind.{common_steps}
 use native.Mathlib.Decide.{dec_lt}
 use Rattle.adf_blocks.specs.declared.cause.Cause.{Cause}
 use Rattle.adf_volume.specs.Image.{word_in, root_of}
@@ -87,10 +88,7 @@ module _ (image : List ℕ) where
   -- what is due after a walk has a cause, or a step leads on, and not both
   no_step : (w x : List (Role × ℕ)) (r : Role) (a i b : ℕ) (c : Cause) → IsWalk image w → IsDue image w r a i
       → FirstFails (demands image w r a (word_in image a i)) b c → Step w x → ⊥
-  no_step w x r a i b c v d f s =
-      let z = due_one w v r s.role a i s.at s.index d s.due in
-      fails_not_all (demands image w s.role s.at (word_in image s.at s.index)) b c
-      (subst (λ (x : Role × (ℕ × ℕ)). FirstFails (demands image w x.0 x.1.0 (word_in image x.1.0 x.1.1)) b c) (λ t. (z.0 t, (z.1 t, z.2 t))) f) s.fine
+  no_step w x r a i b c v d f s = grind (arith, common_steps, due_one, fails_not_all)
 
   whole_step : (w x : List (Role × ℕ)) → IsWhole image w → Step w x → ⊥
   whole_step w x h s = h s.role s.at s.index s.due.asked s.due.lacks

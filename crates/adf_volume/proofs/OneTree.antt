@@ -1,9 +1,10 @@
 -- Two trees with layouts that fit the same image are equal.
 use Rattle.std.proofs.Common.{◌≡◌, ℕ, suc, List, ◌<◌, length, refl, sym, ap, subst, ◌∙◌, arith}
+use Rattle.std.proofs.lemmas.Grind.{common_steps}
 use Rattle.adf_blocks.specs.declared.layout.TheConstants.{SECONDARY_TYPE, ST_DIR, ST_FILE}
 use Rattle.adf_volume.specs.Lists.{At}
 use Rattle.adf_base.specs.Hash.{slot_of}
-use Rattle.adf_volume.specs.Image.{name_of, word_in, meta_of, content}
+use Rattle.adf_volume.specs.Image.{name_of, word_in, meta_of}
 use Rattle.adf_tree.specs.declared.entry.Body.{Body}
 use Rattle.adf_tree.specs.declared.entry.Entry.{Entry}
 use Rattle.adf_tree.specs.Tree.{Tree}
@@ -52,10 +53,7 @@ module _ (image : List ℕ) (w : List (Role × ℕ)) (v : IsWalk image w) (whole
   same_body n h h' Dir Dir z f g = refl
   same_body n h h' Dir (File ys) z f g = absurd (let e : ST_DIR ≡ ST_FILE = sym f.0 ∙ ap (λ h. word_in image h SECONDARY_TYPE) z ∙ g.0 in omega arith)
   same_body n h h' (File xs) Dir z f g = absurd (let e : ST_DIR ≡ ST_FILE = sym g.0 ∙ ap (λ h. word_in image h SECONDARY_TYPE) (sym z) ∙ f.0 in omega arith)
-  same_body n h h' (File xs) (File ys) z f g =
-      let c : content image t.kind h (datas_of l n) ≡ content image u.kind h' (datas_of m n) =
-      ap (λ k. content image k h (datas_of l n)) same_kind ∙ ap (λ h. content image u.kind h (datas_of l n)) z ∙ ap (content image u.kind h') (same_datas n) in
-      ap File (f.1 ∙ c ∙ sym g.1)
+  same_body n h h' (File xs) (File ys) z f g = grind (arith, common_steps, same_kind, same_datas)
 
   pub same_head_block : (n : ℕ) (e : Entry) → EntryAt t n e → at_node image l n ≡ at_node image m n
   same_head_block n e h =

@@ -1,9 +1,10 @@
 -- The owners of a layout are all different.
 use Rattle.std.proofs.Common.{◌≡◌, ℕ, suc, List, [], ◌∷◌, ◌++◌, inl, inr, ◌+◌, refl, sym, ap, ◌∙◌, ◌<◌, ◌≤◌, arith}
+use Rattle.std.proofs.lemmas.Grind.{common_steps}
 use Rattle.adf_volume.specs.Lists.{In, numbered, NoBlockTwice}
 use Rattle.adf_volume.specs.Layout.{Place, Layout, owned_from, owned}
 use Rattle.adf_volume.specs.declared.owner.Owner.{Owner}
-use Rattle.adf_volume.specs.declared.owner.Owner.TheVariants.{Root as TheRoot, Page as APage, MapExt as AMapExt, Head as AHead, Ext as AnExt, Data as AData}
+use Rattle.adf_volume.specs.declared.owner.Owner.TheVariants.{Head as AHead, Ext as AnExt, Data as AData}
 use Rattle.adf_volume.proofs.Lists.{in_cases, numbered_at}
 use Rattle.adf_volume.proofs.LayoutRoles.{Stands, owned_stands}
 use Rattle.adf_volume.proofs.LayoutRoles.Stands.{in_head, in_ext, in_data}
@@ -74,27 +75,7 @@ once_places n (q ∷ qs) =
     )
 
 pub once_owned : (image : List ℕ) (l : Layout) → Once (owned image l)
-once_owned image l =
-    let maps : List (Owner × ℕ) = numbered AMapExt 0 l.map_exts in
-    let rest : List (Owner × ℕ) = owned_from 1 l.places in (
-      (λ y b i e. elim (in_cases (numbered APage 0 l.pages) (maps ++ rest) (y, b) i) [
-        | inl k ↦ let r = numbered_at APage 0 l.pages y b k in let f : TheRoot ≡ APage (0 + r.0) = e ∙ r.2 in cc
-        | inr k ↦ elim (in_cases maps rest (y, b) k) [
-          | inl m ↦ let r = numbered_at AMapExt 0 l.map_exts y b m in let f : TheRoot ≡ AMapExt (0 + r.0) = e ∙ r.2 in cc
-          | inr m ↦ not_later 1 l.places TheRoot y b (owned_stands 1 l.places y b m) (omega arith) e
-        ]
-      ]),
-      once_append (numbered APage 0 l.pages) (maps ++ rest) (once_numbered APage 0 l.pages (λ a b h. cc))
-          (once_append maps rest (once_numbered AMapExt 0 l.map_exts (λ a b h. cc)) (once_places 1 l.places)
-          (λ x y b c i j e. let r =
-          numbered_at AMapExt 0 l.map_exts x b i in not_later 1 l.places (AMapExt (0 + r.0)) y c (owned_stands 1 l.places y c j) (omega arith) (sym r.2 ∙ e)))
-          (λ x y b c i j e.
-          let r = numbered_at APage 0 l.pages x b i in
-          elim (in_cases maps rest (y, c) j) [
-            | inl m ↦ let s = numbered_at AMapExt 0 l.map_exts y c m in let f : APage (0 + r.0) ≡ AMapExt (0 + s.0) = sym r.2 ∙ e ∙ s.2 in cc
-            | inr m ↦ not_later 1 l.places (APage (0 + r.0)) y c (owned_stands 1 l.places y c m) (omega arith) (sym r.2 ∙ e)
-          ]),
-    )
+once_owned image l = grind (arith, common_steps, in_cases, numbered_at, not_later, owned_stands, once_append, once_numbered, once_places)
 
 -- where a block has one owner, it stands once
 pub blocks_once : (xs : List (Owner × ℕ)) → Once xs → ((x y : Owner) (b : ℕ) → In xs (x, b) → In xs (y, b) → x ≡ y) → NoBlockTwice xs

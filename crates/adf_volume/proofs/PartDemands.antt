@@ -1,8 +1,8 @@
 -- The demands on a part that has no cause, by name.
-use Rattle.std.proofs.Common.{ℕ, List, [], ◌∷◌, ◌<◌, ◌≤◌}
+use Rattle.std.proofs.Common.{ℕ, List, ◌<◌, ◌≤◌, arith}
+use Rattle.std.proofs.lemmas.Grind.{common_steps}
 use Rattle.adf_base.specs.declared.hash.Letters.{Letters}
 use Rattle.adf_base.specs.declared.hash.Letters.TheVariants.{Ascii}
-use Rattle.adf_blocks.specs.declared.cause.Cause.TheVariants.{SameName}
 use Rattle.adf_blocks.specs.Sizes.{blocks}
 use Rattle.adf_volume.specs.Demands.{AllHold, demand}
 use Rattle.adf_volume.specs.Walk.{Role, Enough, IsAbsent, NewNameBy, NoCause, demands_by, form_demands_by}
@@ -19,16 +19,7 @@ pub record PartHoldsBy (l : Letters) (image : List ℕ) (w : List (Role × ℕ))
 
 pub part_holds_by : (l : Letters) (image : List ℕ) (w : List (Role × ℕ)) (r : Role) (a b : ℕ) → AllHold (demands_by l image w r a b)
     → PartHoldsBy l image w r b
-part_holds_by l image w r a b n =
-    let named = all_split (form_demands_by l image w r b) (demand SameName b (NewNameBy l image w r b) ∷ []) n.1.1.1 in
-    record {
-      enough = n.0;
-      past_boot = n.1.0.0;
-      inside = n.1.0.1;
-      unowned = n.1.1.0;
-      form = named.0;
-      new_name = named.1.0;
-    }
+part_holds_by l image w r a b n = grind (arith, common_steps, all_split)
 
 -- the same on volumes of types 0 and 1
 abbrev pub PartHolds : List ℕ → List (Role × ℕ) → Role → ℕ → Type 0

@@ -1,10 +1,11 @@
 -- The pieces of a file joined are its content.
-use Rattle.std.proofs.Common.{◌≡◌, ℕ, zero, suc, List, [], ◌∷◌, ◌++◌, ◌+◌, ◌-◌, ◌*◌, ◌<◌, ◌≤◌, length, refl, sym, ap, subst, ◌∙◌, arith, Bool, true, false}
-use Rattle.std.proofs.Common.{cond, drop, get_or, take, take_all}
-use Rattle.std.specs.Prelude.{nat_lt, slice_range}
+use Rattle.std.proofs.Common.{◌≡◌, ℕ, zero, suc, List, [], ◌∷◌, ◌++◌, ◌+◌, ◌-◌, ◌*◌, ◌<◌, ◌≤◌, length, refl, sym, ap, subst, ◌∙◌, arith}
+use Rattle.std.proofs.Common.{drop, get_or, take, take_all}
+use Rattle.std.specs.Prelude.{slice_range}
 use Rattle.std.specs.List.{concat}
 use Rattle.std.proofs.lemmas.Bool.Decides.{nat_tests}
 use Rattle.std.proofs.lemmas.List.{take-take}
+use Rattle.std.proofs.lemmas.Grind.{common_steps}
 use Rattle.adf_base.specs.Words.{block}
 use Rattle.adf_tree.specs.declared.entry.Kind.{Kind}
 use Rattle.adf_tree.specs.declared.entry.Kind.TheVariants.{Ofs, Ffs}
@@ -34,19 +35,7 @@ left kind size k = size - chunk kind * k
 -- a data block that is followed holds all that it can, the last one what is left
 held_is : (kind : Kind) (size k : ℕ) (xs : List ℕ) → length xs ≡ chunk kind → take (held kind size (suc k)) xs ≡ take (left kind size k) xs
 unfolding held left
-held_is kind size k xs h = go (nat_lt (c * suc k) size) refl
-  where
-    c : ℕ
-    c = chunk kind
-
-    m : c * suc k ≡ c + c * k
-    m = omega arith
-
-    go : (t : Bool) → nat_lt (c * suc k) size ≡ t → take (cond t c (size - c * (suc k - 1))) xs ≡ take (size - c * k) xs
-    go true z =
-        let l : c * suc k < size = grind (arith, nat_tests) in
-        take_all c xs (omega (arith, h)) ∙ sym (take_all (size - c * k) xs (omega (arith, h, m)))
-    go false z = let e : suc k - 1 ≡ k = omega arith in ap (λ n. take (size - c * n) xs) e
+held_is kind size k xs h = grind (arith, common_steps, nat_tests, take_all)
 
 left_more : (kind : Kind) (size k n : ℕ) → n ≡ chunk kind → left kind size k - n ≡ left kind size (suc k)
 unfolding left chunk
@@ -55,11 +44,7 @@ left_more Ffs size k n h = omega arith
 
 pieces_from : (image : List ℕ) (kind : Kind) (size k : ℕ) (bs : List ℕ) → length image ≡ 512 * blocks image → AreIn image bs
     → concat (pieces image kind size (suc k) bs) ≡ take (left kind size k) (joined image kind bs)
-pieces_from image kind size k [] z l = none (left kind size k)
-  where
-    none : (n : ℕ) → ◌≡◌ {A = List ℕ} [] (take n [])
-    none zero = refl
-    none (suc n) = refl
+pieces_from image kind size k [] z l = grind (arith, common_steps, left)
 pieces_from image kind size k (b ∷ bs) z l =
     let n : length (area kind (block image b)) ≡ chunk kind = area_length image kind b z (l 0 b refl) in
     let ih = pieces_from image kind size (suc k) bs z (λ i c h. l (suc i) c h) in
@@ -76,8 +61,7 @@ left_all kind size = let z : chunk kind * 0 ≡ 0 = omega arith in omega arith
 pub pieces_joined : (image : List ℕ) (kind : Kind) (h : ℕ) (bs : List ℕ) → length image ≡ 512 * blocks image
     → AreIn image bs → concat (pieces image kind (word_in image h SIZE) 1 bs) ≡ content image kind h bs
 unfolding content
-pieces_joined image kind h bs z l =
-    pieces_from image kind (word_in image h SIZE) 0 bs z l ∙ ap (λ n. take n (joined image kind bs)) (left_all kind (word_in image h SIZE))
+pieces_joined image kind h bs z l = grind (arith, common_steps, pieces_from, left_all)
 
 -- there is a piece for each data block
 pub pieces_length : (image : List ℕ) (kind : Kind) (size k : ℕ) (bs : List ℕ) → length (pieces image kind size k bs) ≡ length bs
@@ -101,23 +85,7 @@ some_left Ffs size k h = (omega arith, omega arith)
 -- no data block that a size needs is empty, and none holds more than it can
 pub held_some : (kind : Kind) (size k : ℕ) → k < count kind size → (0 < held kind size (suc k)) × (held kind size (suc k) ≤ chunk kind)
 unfolding held
-held_some kind size k h = go (nat_lt (c * suc k) size) refl
-  where
-    c : ℕ
-    c = chunk kind
-
-    some : (0 < c) × (c * k < size)
-    some = some_left kind size k h
-
-    m : c * suc k ≡ c + c * k
-    m = omega arith
-
-    go : (t : Bool) → nat_lt (c * suc k) size ≡ t → (0 < cond t c (size - c * (suc k - 1))) × (cond t c (size - c * (suc k - 1)) ≤ c)
-    go true z = (some.0, omega arith)
-    go false z =
-        let l : size ≤ c * suc k = grind (arith, nat_tests) in
-        let e : c * (suc k - 1) ≡ c * k = ap (λ n. c * n) (omega arith) in
-        (omega (arith, some.1), omega (arith, m))
+held_some kind size k h = grind (arith, common_steps, some_left, nat_tests)
 
 -- where there are data blocks, there are pieces
 pub some_pieces : (bytes : List ℕ) (kind : Kind) (size k : ℕ) (ds : List ℕ) → pieces bytes kind size k ds ≡ [] → ds ≡ []

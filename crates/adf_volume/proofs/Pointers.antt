@@ -1,9 +1,9 @@
 -- The words that point to the next header of a chain, extension block of a file or page of the bitmap.
 -- Letters as in specs/Positions; v says that the walk's parts were asked for; m the number of a block of a file's table.
-use Rattle.std.proofs.Common.{◌≡◌, ◌≢◌, ℕ, zero, suc, List, inl, inr, ◌+◌, ◌-◌, ◌*◌, ◌/◌, ◌%◌, ◌<◌, ◌≤◌, refl, sym, ap, subst, ◌∙◌, arith}
+use Rattle.std.proofs.Common.{◌≡◌, ◌≢◌, ℕ, zero, suc, List, inl, inr, ◌+◌, ◌-◌, ◌/◌, ◌%◌, ◌<◌, ◌≤◌, refl, sym, ap, ◌∙◌, arith}
 use Rattle.std.proofs.lemmas.Bool.Decides.{nat_tests}
-use native.Mathlib.Decide.{dec_lt}
-use Rattle.adf_blocks.specs.declared.layout.TheConstants.{EXTENSION, FIRST_MAP_EXT, FIRST_PAGE, MAP_EXT_NEXT, MAP_EXT_PAGES, ROOT_PAGES, SLOTS}
+use Rattle.std.proofs.lemmas.Grind.{common_steps}
+use Rattle.adf_blocks.specs.declared.layout.TheConstants.{EXTENSION, MAP_EXT_PAGES, ROOT_PAGES, SLOTS}
 use Rattle.adf_blocks.specs.Sizes.{blocks, pages_needed}
 use Rattle.adf_volume.specs.Image.{word_in}
 use Rattle.adf_volume.specs.Walk.{Role, Has, MemberAt, NamesPage, Asks, heads}
@@ -23,16 +23,12 @@ module _ (image : List ℕ) (w : List (Role × ℕ)) where
 
   link_one : IsGathered image w → (p s j a i c k : ℕ) → IsLink image w p s j a i → IsLink image w p s j c k → (a ≡ c) × (i ≡ k)
   link_one v p s zero a i c k x y = (dir_one image v p a c x.0 y.0, x.1 ∙ sym y.1)
-  link_one v p s (suc j) a i c k x y =
-      ((one_block image v (Head x.0.0 p s j) (Head y.0.0 p s j) a c x.0.1 y.0.1 (refl, refl, refl)).1, x.1 ∙ sym y.1)
+  link_one v p s (suc j) a i c k x y = grind (arith, common_steps, one_block)
 
   -- where its word is 0 a chain ends
   pub link_ends : IsGathered image w → (p s j a i : ℕ) → IsLink image w p s j a i → word_in image a i ≡ 0 → (n c k : ℕ) → Asks image w (Head n p s j) c k
       → ⊥
-  link_ends v p s j a i link none n c k h =
-      let x = asked_link n p s j c k h in
-      let e = link_one v p s j a i c k link x.0 in
-      x.1 (sym (λ t. word_in image (e.0 t) (e.1 t)) ∙ none)
+  link_ends v p s j a i link none n c k h = grind (arith, common_steps, asked_link, link_one)
 
   -- an extension block that a word names is asked for
   pub ext_asks : (n m a : ℕ) → MemberAt image w n m a → word_in image a EXTENSION ≢ 0 → Asks image w (Ext n (suc m)) a EXTENSION
@@ -46,66 +42,39 @@ module _ (image : List ℕ) (w : List (Role × ℕ)) where
   -- where its word is 0 the extension blocks end
   pub ext_ends : IsGathered image w → (n m a : ℕ) → MemberAt image w n m a → word_in image a EXTENSION ≡ 0 → (c i : ℕ) → Asks image w (Ext n (suc m)) c i
       → ⊥
-  ext_ends v n m a member none c i h =
-      let x = asked_member n m c i h in
-      let e = member_one image v n m a c member x.0 in
-      x.2 (sym (λ t. word_in image (e t) (sym x.1 t)) ∙ none)
+  ext_ends v n m a member none c i h = grind (arith, common_steps, asked_member, member_one)
 
   -- where no bitmap extension block comes before page k
   pub names_page : (k a : ℕ) → IsPageHolder image w k a → (ROOT_PAGES ≤ k → (k - ROOT_PAGES) % MAP_EXT_PAGES ≡ 0 → ⊥)
       → NamesPage image w k a (word_of_page k)
-  names_page k a h other = elim (dec_lt k ROOT_PAGES) [
-    | yes lt ↦ let word : word_of_page k ≡ FIRST_PAGE + k = grind (arith, nat_tests) in inl (lt, h.root (omega arith), word)
-    | no ge ↦
-        let ne : (k - ROOT_PAGES) % MAP_EXT_PAGES ≡ 0 → ⊥ = other (omega arith) in
-        let word : word_of_page k ≡ (k - ROOT_PAGES) % MAP_EXT_PAGES = grind (arith, nat_tests) in
-        let before : (k - 1 - ROOT_PAGES) / MAP_EXT_PAGES ≡ (k - ROOT_PAGES) / MAP_EXT_PAGES = omega arith in
-        inr ((k - ROOT_PAGES) / MAP_EXT_PAGES, subst (λ j. Has w (MapExt j) a) before (h.ext (omega arith)), omega arith, omega arith)
-  ]
+  names_page k a h other = grind (arith, common_steps, nat_tests)
 
   -- a page that a bitmap extension block begins with
   pub names_first : (k a : ℕ) → ROOT_PAGES ≤ k → (k - ROOT_PAGES) % MAP_EXT_PAGES ≡ 0 → Has w (MapExt ((k - ROOT_PAGES) / MAP_EXT_PAGES)) a
       → NamesPage image w k a (word_of_page k)
-  names_first k a le due h =
-      let word : word_of_page k ≡ 0 = grind (arith, nat_tests) in inr ((k - ROOT_PAGES) / MAP_EXT_PAGES, h, omega arith, omega arith)
+  names_first k a le due h = grind (arith, common_steps, nat_tests)
 
   -- the bitmap extension block that page k begins is asked for
   pub map_ext_asks : (k a : ℕ) → k < pages_needed (blocks image) → ROOT_PAGES ≤ k → (k - ROOT_PAGES) % MAP_EXT_PAGES ≡ 0 → IsPageHolder image w k a
       → Asks image w (MapExt ((k - ROOT_PAGES) / MAP_EXT_PAGES)) a (word_of_map_ext k)
-  map_ext_asks k a lt le due h = asked ((k - ROOT_PAGES) / MAP_EXT_PAGES) (omega arith)
-    where
-      asked : (j : ℕ) → k ≡ ROOT_PAGES + MAP_EXT_PAGES * j → Asks image w (MapExt j) a (word_of_map_ext k)
-      asked zero e = let word : word_of_map_ext k ≡ FIRST_MAP_EXT = grind (arith, nat_tests) in (omega arith, h.root (omega arith), word)
-      asked (suc j) e =
-          let word : word_of_map_ext k ≡ MAP_EXT_NEXT = grind (arith, nat_tests) in
-          let before : (k - 1 - ROOT_PAGES) / MAP_EXT_PAGES ≡ j = omega arith in
-          (omega arith, subst (λ j. Has w (MapExt j) a) before (h.ext (omega arith)), word)
+  map_ext_asks k a lt le due h = grind (arith, common_steps, nat_tests)
 
   -- what names a page is behind that page as well
   pub next_holder : (k a i : ℕ) → NamesPage image w k a i → IsPageHolder image w (k + 1) a
   next_holder k a i (inl x) = record { root = (λ l. x.1); ext = (λ l. absurd (let y : k < ROOT_PAGES = x.0 in omega arith)) }
-  next_holder k a i (inr (j, has, lt, e)) = record {
-    root = (λ l. absurd (omega arith));
-    ext = (λ l. let before : j ≡ (k + 1 - 1 - ROOT_PAGES) / MAP_EXT_PAGES = omega arith in subst (λ j. Has w (MapExt j) a) before has);
-  }
+  next_holder k a i (inr (j, has, lt, e)) = grind (arith, common_steps)
 
 -- the position before a page is its own, or that of the bitmap extension block that it begins
 pub page_next : (k : ℕ) → (ROOT_PAGES ≤ k → (k - ROOT_PAGES) % MAP_EXT_PAGES ≡ 0 → ⊥) → before_page k ≡ position_of (Page k)
-page_next k other =
-    let e : (before_page k).third ≡ (position_of (Page k)).third = elim (dec_lt k ROOT_PAGES) [
-      | yes lt ↦ omega arith
-      | no ge ↦ let ne : (k - ROOT_PAGES) % MAP_EXT_PAGES ≡ 0 → ⊥ = other (omega arith) in omega arith
-    ] in ap in_map e
+page_next k other = grind (arith, common_steps)
 
 pub map_ext_next : (k : ℕ) → ROOT_PAGES ≤ k → (k - ROOT_PAGES) % MAP_EXT_PAGES ≡ 0
     → before_page k ≡ position_of (MapExt ((k - ROOT_PAGES) / MAP_EXT_PAGES))
-map_ext_next k le due =
-    let e : (before_page k).third ≡ (position_of (MapExt ((k - ROOT_PAGES) / MAP_EXT_PAGES))).third = omega arith in ap in_map e
+map_ext_next k le due = grind (arith, common_steps)
 
 pub behind_map_ext : (k : ℕ) → ROOT_PAGES ≤ k → (k - ROOT_PAGES) % MAP_EXT_PAGES ≡ 0
     → behind (MapExt ((k - ROOT_PAGES) / MAP_EXT_PAGES)) ≡ position_of (Page k)
-behind_map_ext k le due =
-    let e : (behind (MapExt ((k - ROOT_PAGES) / MAP_EXT_PAGES))).third ≡ (position_of (Page k)).third = omega arith in ap in_map e
+behind_map_ext k le due = grind (arith, common_steps)
 
 pub behind_page : (k : ℕ) → behind (Page k) ≡ before_page (k + 1)
 behind_page k = let e : (behind (Page k)).third ≡ (before_page (k + 1)).third = omega arith in ap in_map e

@@ -1,8 +1,9 @@
 -- A walk comes from one position to the next: past a part, and past parts that are not asked for.
 -- Letters as in specs/Positions; u says that the walk has come to a position, v that its parts were asked for.
-use Rattle.std.proofs.Common.{◌≡◌, ◌≢◌, ℕ, zero, suc, List, [], ◌∷◌, inl, inr, ◌+◌, ◌*◌, ◌<◌, ◌≤◌, refl, ap, subst, arith}
-use native.Mathlib.Decide.{dec_lt, ℕ_discrete}
-use Rattle.adf_blocks.specs.declared.layout.TheConstants.{MAP_EXT_PAGES, ROOT_PAGES, SECONDARY_TYPE, SLOTS, ST_DIR, ST_FILE}
+use Rattle.std.proofs.Common.{◌≡◌, ◌≢◌, ℕ, zero, suc, List, [], ◌∷◌, inl, inr, ◌<◌, ◌≤◌, refl, ap, subst, arith}
+use Rattle.std.proofs.lemmas.Grind.{common_steps}
+use native.Mathlib.Decide.{ℕ_discrete}
+use Rattle.adf_blocks.specs.declared.layout.TheConstants.{SECONDARY_TYPE, ST_DIR, ST_FILE}
 use Rattle.adf_blocks.specs.Sizes.{blocks, pages_needed}
 use Rattle.adf_volume.specs.Image.{root_of, word_in}
 use Rattle.adf_volume.specs.Walk.{Role, first, second, third, Before, Same, TypedAt, NodeAt, DirAt, FileAt, Asks, Lacks, heads, ext_count}
@@ -21,17 +22,11 @@ same_behind r q e = λ i. record { first = e.0 i; second = e.1 i; third = suc (e
 
 -- what comes before the first position of a chain is in an earlier one
 low_second : (q : Role) (x : Position) → IsBelow q x → x.third ≡ 0 → first q ≡ x.first → second q < x.second
-low_second q x u e f = elim (ℕ_discrete (second q) x.second) [
-  | yes d ↦ let y : third q < x.third = u.2 f d in absurd (omega arith)
-  | no d ↦ let y : second q ≤ x.second = u.1 f in omega arith
-]
+low_second q x u e f = grind (arith, common_steps)
 
 -- what comes before the first position of a node is of an earlier one
 pub low_first : (q : Role) (x : Position) → IsBelow q x → x.second ≡ 0 → x.third ≡ 0 → first q < x.first
-low_first q x u d e = elim (ℕ_discrete (first q) x.first) [
-  | yes f ↦ let y : second q < x.second = low_second q x u e f in absurd (omega arith)
-  | no f ↦ let y : first q ≤ x.first = u.0 in omega arith
-]
+low_first q x u d e = grind (arith, common_steps, low_second)
 
 -- nothing comes before what comes before it
 clash : (r q : Role) → Before r q → IsBelow q (position_of r) → ⊥
@@ -77,8 +72,7 @@ module _ (image : List ℕ) {w over : List (Role × ℕ)} where
     not_skipped q b h e = let x = u.skipped q b h in omega arith
 
     below_behind : (q : Role) → IsBelow q (behind r) → (Same q r → ⊥) → IsBelow q (position_of r)
-    below_behind q x other =
-        (x.0, (λ e. x.1 e), (λ e d. let lt = x.2 e d in let ne : third q ≡ third r → ⊥ = (λ t. other (e, d, t)) in omega arith))
+    below_behind q x other = grind (arith, common_steps, other)
 
     own_below : (q : Role) → r ≡ q → IsBelow q (behind r)
     own_below q e = subst (λ q. IsBelow q (behind r)) e (omega arith)
@@ -134,42 +128,19 @@ module _ (image : List ℕ) {w over : List (Role × ℕ)} where
   -- a node ends where all that is asked for in it comes before the position
   end_at : {x : Position} → IsUpTo image w over x → ((q : Role) (a i : ℕ) → Asks image w q a i → first q ≡ x.first → IsBelow q x)
       → IsUpTo image w over (before_node x.first)
-  end_at {x} u low = moved u (omega arith) none
-    where
-      none : (q : Role) (a i : ℕ) → Asks image w q a i → IsBelow q (before_node x.first) → IsBelow q x
-      none q a i h y =
-          let lt = low_first q (before_node x.first) y refl refl in
-          elim (ℕ_discrete (first q) x.first) [ yes e ↦ low q a i h e | no ne ↦ omega arith ]
+  end_at {x} u low = grind (arith, common_steps, low, moved, low_first)
 
   -- behind the bitmap come the nodes
   pub end_map : {z : ℕ} → IsUpTo image w over (in_map z) → ((q : Role) (a i : ℕ) → Asks image w q a i → first q ≡ 0 → third q < z)
       → IsUpTo image w over (before_node 0)
-  end_map {z} u few = end_at u low
-    where
-      low : (q : Role) (a i : ℕ) → Asks image w q a i → first q ≡ 0 → IsBelow q (in_map z)
-      low Root a i h e = absurd h
-      low (Page k) a i h e = let lt = few (Page k) a i h refl in omega arith
-      low (MapExt j) a i h e = let lt = few (MapExt j) a i h refl in omega arith
-      low _ a i h e = absurd (omega arith)
+  end_map {z} u few = grind (arith, common_steps, few, end_at)
 
   pub end_pages : (k : ℕ) → pages_needed (blocks image) ≤ k → IsUpTo image w over (before_page k) → IsUpTo image w over (before_node 0)
-  end_pages k le u = end_map u few
-    where
-      few : (q : Role) (a i : ℕ) → Asks image w q a i → first q ≡ 0 → third q < (before_page k).third
-      few Root a i h e = absurd h
-      few (Page m) a i h e = let lt : m < pages_needed (blocks image) = h.0 in omega arith
-      few (MapExt zero) a i h e = let lt : ROOT_PAGES < pages_needed (blocks image) = h.0 in omega arith
-      few (MapExt (suc j)) a i h e = let lt : ROOT_PAGES + MAP_EXT_PAGES * suc j < pages_needed (blocks image) = h.0 in omega arith
-      few _ a i h e = absurd (omega arith)
+  end_pages k le u = grind (arith, common_steps, end_map)
 
   -- a file's blocks begin with extension block 1
   pub enter_file : (n : ℕ) → IsUpTo image w over (before_node n) → IsUpTo image w over (position_of (Ext n 1))
-  enter_file n u = moved u (omega arith) none
-    where
-      none : (q : Role) (a i : ℕ) → Asks image w q a i → IsBelow q (position_of (Ext n 1)) → IsBelow q (before_node n)
-      none (Ext m zero) a i h y = absurd h
-      none (Ext m (suc j)) a i h y = omega arith
-      none _ a i h y = omega arith
+  enter_file n u = grind (arith, common_steps, moved)
 
   -- the chain of slot s of directory p ends where no header is asked for
   pub end_chain : (p s j : ℕ) → IsUpTo image w over (position_of (Head 0 p s j)) → ((n a i : ℕ) → Asks image w (Head n p s j) a i → ⊥)
@@ -194,45 +165,15 @@ module _ (image : List ℕ) {w over : List (Role × ℕ)} where
       ]
       none _ a i h y = omega arith
 
-  -- behind the last slot of a directory comes the next node
-  pub end_dir : (p : ℕ) → IsUpTo image w over (position_of (Head 0 p SLOTS 0)) → IsUpTo image w over (before_node (suc p))
-  end_dir p u = end_at u low
-    where
-      low : (q : Role) (a i : ℕ) → Asks image w q a i → first q ≡ suc p → IsBelow q (position_of (Head 0 p SLOTS 0))
-      low (Head n q s zero) a i h e = let lt : s < SLOTS = h.1 in omega arith
-      low (Head n q s (suc j)) a i h e =
-          let x = low_second (Head h.1.0 q s j) (position_of (Head 0 p SLOTS 0)) (u.taken (Head h.1.0 q s j) a h.1.1) refl e in omega arith
-      low _ a i h e = omega arith
-
   -- the extension blocks of file n end where the next is not asked for
   pub end_exts : (n k : ℕ) → IsUpTo image w over (position_of (Ext n (suc k))) → ((a i : ℕ) → Asks image w (Ext n (suc k)) a i → ⊥)
       → IsUpTo image w over (position_of (Data n 1))
-  end_exts n k u ends = moved u (omega arith) none
-    where
-      low : (m j a i : ℕ) → Asks image w (Ext m j) a i → m ≡ n → (j ≡ suc k → ⊥) → j < suc k
-      low m zero a i h e ne = absurd h
-      low m (suc zero) a i h e ne = omega arith
-      low m (suc (suc j)) a i h e ne = let x = u.taken (Ext m (suc j)) a h.0 in omega arith
-
-      none : (q : Role) (a i : ℕ) → Asks image w q a i → IsBelow q (position_of (Data n 1)) → IsBelow q (position_of (Ext n (suc k)))
-      none (Ext m j) a i h y = elim (ℕ_discrete m n) [
-        | no ne ↦ omega arith
-        | yes e ↦
-            let here : Asks image w (Ext n j) a i = subst (λ m. Asks image w (Ext m j) a i) e h in
-            let lt : j < suc k = low m j a i h e (λ f. ends a i (subst (λ j. Asks image w (Ext n j) a i) f here)) in
-            omega arith
-      ]
-      none (Data m zero) a i h y = absurd h
-      none (Data m (suc j)) a i h y = omega arith
-      none _ a i h y = omega arith
+  end_exts n k u ends = grind (arith, common_steps, moved)
 
   module _ (v : IsGathered image w) where
     -- a file that is next has no extension block yet
     pub no_exts : (n : ℕ) → IsUpTo image w over (before_node n) → ext_count w n ≡ 0
-    no_exts n u = elim (dec_lt 0 (ext_count w n)) [
-      | yes lt ↦ let x = ext_counted image v n 0 lt in let y = u.taken (Ext n 1) x.0 x.1 in absurd (omega arith)
-      | no ge ↦ omega arith
-    ]
+    no_exts n u = grind (arith, common_steps, ext_counted)
 
     -- a directory has no file's blocks
     pub enter_dir : (p a : ℕ) → DirAt image w p a → IsUpTo image w over (before_node p) → IsUpTo image w over (position_of (Head 0 p 0 0))
@@ -288,15 +229,4 @@ module _ (image : List ℕ) {w over : List (Role × ℕ)} where
 
 -- the root alone comes before the first page
 pub with_root : (image : List ℕ) → IsUpTo image ((Root, root_of image) ∷ []) [] (before_page 0)
-with_root image = record {
-  taken = (λ q b h. elim h [ inl e ↦ subst (λ q. IsBelow q (before_page 0)) e.0 (omega arith) | inr f ↦ absurd f ]);
-  skipped = (λ q b h. absurd h);
-  gone = gone;
-}
-  where
-    gone : (q : Role) (a i : ℕ) → Asks image ((Root, root_of image) ∷ []) q a i → Lacks ((Root, root_of image) ∷ []) q → Lacks [] q
-        → IsBelow q (before_page 0) → ⊥
-    gone Root a i h l m x = h
-    gone (Page k) a i h l m x = let y : third (Page k) < 0 = x.2 refl refl in omega arith
-    gone (MapExt j) a i h l m x = let y : third (MapExt j) < 0 = x.2 refl refl in omega arith
-    gone _ a i h l m x = omega arith
+with_root image = grind (arith, common_steps)

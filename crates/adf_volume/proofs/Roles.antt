@@ -1,7 +1,7 @@
 -- Roles, and lists of them with blocks, for any content of the blocks.
 use Rattle.std.proofs.Common.{◌≡◌, ℕ, zero, suc, List, [], ◌∷◌, ◌⊎◌, inl, inr, ◌<◌, ◌≤◌, refl, sym, ap, subst, arith}
-use Rattle.std.proofs.Common.{Bool, true, false, cond, eq-eqb}
-use Rattle.std.specs.Prelude.{◌==◌}
+use Rattle.std.proofs.Common.{eq-eqb}
+use Rattle.std.proofs.lemmas.Grind.{common_steps}
 use native.Mathlib.Decide.{ℕ_discrete}
 use Rattle.adf_volume.specs.Walk.{Role, first, second, third, Same, Has, head_count, heads, HeadAt, TypedAt, NodeAt, DirAt, MemberAt, Asks, Lacks}
 use Rattle.adf_volume.specs.Walk.{ext_count_of}
@@ -19,14 +19,8 @@ same_role (Head n p s j) (Head m q t i) h k =
     let eq : Head m q t i ≡ Head m p s j = cc in
     let e4 : n ≡ m = k n m p s j refl eq in
     cc
-same_role (Ext n j) (Ext m i) h k =
-    let e1 : n ≡ m = omega arith in
-    let e3 : j ≡ i = omega arith in
-    cc
-same_role (Data n j) (Data m i) h k =
-    let e1 : n ≡ m = omega arith in
-    let e3 : j ≡ i = omega arith in
-    cc
+same_role (Ext n j) (Ext m i) h k = grind (arith, common_steps)
+same_role (Data n j) (Data m i) h k = grind (arith, common_steps)
 same_role _ _ h k = absurd (omega arith)
 
 pub same_refl : (r : Role) → Same r r
@@ -65,11 +59,7 @@ dir_is_node image w (suc i) a h = h.header
 
 -- extension blocks are counted
 pub count_up : (n : ℕ) (r : Role) (c : ℕ) → c ≤ ext_count_of n r c
-count_up n (Ext m k) c = up (n == m)
-  where
-    up : (t : Bool) → c ≤ cond t (suc c) c
-    up true = omega arith
-    up false = omega arith
+count_up n (Ext m k) c = grind (arith, common_steps)
 count_up n _ c = omega arith
 
 pub count_own : (n k c : ℕ) → ext_count_of n (Ext n k) c ≡ suc c

@@ -1,5 +1,6 @@
 -- Fits holds of the smallest volume.
 use Rattle.std.proofs.Common.{◌≡◌, ℕ, zero, suc, inl, inr, ◌+◌, ◌-◌, ◌/◌, ◌%◌, ◌<◌, ◌≤◌, refl, sym, ap, subst, ◌∙◌, arith}
+use Rattle.std.proofs.lemmas.Grind.{common_steps}
 use Rattle.adf_base.specs.Words.{block, word, words}
 use Rattle.adf_tree.specs.declared.entry.Entry.{Entry}
 use Rattle.adf_tree.specs.Tree.{IsDir}
@@ -76,13 +77,7 @@ tiny_owned (suc (suc (suc (suc b)))) l u f = omega arith
 
 tiny_once : NoBlockTwice (owned tiny tiny_layout)
 unfolding tiny tiny_root
-tiny_once = (
-  (λ y h e. elim h [
-    | inl g ↦ let z : 3 ≡ y.1 = ap (λ (p : Owner × ℕ). p.1) g in let x : 2 ≡ y.1 = e in omega arith
-    | inr g ↦ g
-  ]),
-  ((λ y h e. h), tt),
-)
+tiny_once = grind (arith, common_steps)
 
 pub tiny_fits : Fits tiny tiny_tree tiny_layout
 unfolding tiny tiny_root block word kind_of name_of stamps_of map_exts_needed

@@ -1,6 +1,7 @@
 -- The laws of a tree, entry by entry.
 use Rattle.std.proofs.Common.{◌≡◌, ℕ, zero, suc, ◌+◌, ◌-◌, ◌*◌, ◌<◌, ◌≤◌, ◌≢◌, length, sym, ap, subst, ◌∙◌, arith}
 use Rattle.std.specs.Prelude.{slice_index_or}
+use Rattle.std.proofs.lemmas.Grind.{common_steps}
 use native.Mathlib.Decide.{dec_lt, ℕ_discrete}
 use Rattle.adf_base.specs.Hash.{slot_of}
 use Rattle.adf_tree.specs.declared.entry.Entry.{Entry}
@@ -87,11 +88,7 @@ module _ (t : Tree) (v : IsTree t.entries) where
   names_of : HasNames t
   names_of zero m e f h k ne p = absurd h
   names_of (suc i) zero e f h k ne p = absurd k
-  names_of (suc i) (suc j) e f h k ne p =
-      elim (dec_lt i j) [
-        | yes l ↦ apart i j e f h k l p
-        | no l ↦ λ u. apart j i f e k h (omega arith) (sym p) (sym u)
-      ]
+  names_of (suc i) (suc j) e f h k ne p = grind (arith, common_steps, apart)
 
   pub ordered : Ordered t
   ordered = record { parents = parents_of; order = order_of; names = names_of }

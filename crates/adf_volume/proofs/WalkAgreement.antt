@@ -30,6 +30,7 @@ use Rattle.adf_volume.proofs.Roles.{asks_number, dir_is_node, head_at, head_key,
 use Rattle.adf_volume.proofs.Walks.{number_of, numbered, file_is, is_there, of_walk}
 use Rattle.adf_volume.proofs.LayoutRoles.{part_range, one_part}
 use Rattle.std.proofs.lemmas.Bool.{ltb-false, ltb-true}
+use Rattle.std.proofs.lemmas.Grind.{common_steps}
 use Rattle.adf_volume.proofs.Places.{exts_below}
 use Rattle.adf_volume.proofs.FormDemands.{dir_not_file}
 use Rattle.adf_tree.proofs.TreeInvariant.{slot_small}
@@ -151,12 +152,7 @@ module _ (image : List ℕ) (t : Tree) (l : Layout) (fit : Fits image t l) where
 
     -- and the walk lacks it
     pub next_lacks : (p s j n : ℕ) → At (chain_nodes t p s) j n → n ≡ suc (heads w) → Lacks w (Head n p s j)
-    next_lacks p s j n h u r b has same =
-        let z = head_key n p s j r same in
-        let has' : Has w (Head z.0 p s j) b = subst (λ r. Has w r b) z.1 has in
-        let f = at_fun (chain_nodes t p s) j z.0 n (ag (Head z.0 p s j) b has').0 h in
-        let g = number_of image v (head_at z.0 p s j b has') in
-        omega arith
+    next_lacks p s j n h u r b has same = grind (arith, common_steps, head_key, at_fun, number_of, head_at)
 
     -- what is due in a chain is the tree's next node
     number_agrees : (p s j n m a i : ℕ) → IsDue image w (Head n p s j) a i → n ≡ suc (heads w) → At (chain_nodes t p s) j m → m ≡ n
@@ -320,8 +316,7 @@ module _ (image : List ℕ) (t : Tree) (l : Layout) (fit : Fits image t l) where
         ap (λ b. word_in image b (table_word (suc k))) (member_is image (of_walk image v) n (suc k / POINTERS) m.0 m.1)
         ∙ ff.named (suc k) e.0 m.0 e.1 (member_agrees n (suc k / POINTERS) m.0 m.1)
         ∙ sym (at_index (datas_of l n) (suc k) e.0 e.1)
-    next_agrees n k a i h bytes d f ff c false z u =
-        sym (index_past (datas_of l n) (suc k) (omega (arith, ltb-false (suc k) (data_count image (node_block w n)) z, c, ff.datas)))
+    next_agrees n k a i h bytes d f ff c false z u = grind (arith, common_steps, index_past, ltb-false)
 
     head_form : (n p s j a i b : ℕ) → IsDue image w (Head n p s j) a i → LayoutHas image t l (Head n p s j) b → AllHold (form_demands image w (Head n p s j) b)
     head_form n p s j a i b d h =

@@ -1,5 +1,6 @@
 -- Completeness: if a tree and a layout fit, a walk that asks for nothing more has all their parts.
 use Rattle.std.proofs.Common.{◌≡◌, ℕ, zero, suc, List, ◌+◌, ◌*◌, ◌/◌, ◌<◌, ◌≤◌, length, refl, sym, subst, ◌∙◌, arith}
+use Rattle.std.proofs.lemmas.Grind.{common_steps}
 use Rattle.adf_blocks.specs.declared.layout.TheConstants.{EXTENSION, FIRST_MAP_EXT, MAP_EXT_NEXT, MAP_EXT_PAGES, POINTERS, ROOT_PAGES, SECONDARY_TYPE}
 use Rattle.adf_blocks.specs.declared.layout.TheConstants.{ST_FILE}
 use Rattle.adf_volume.specs.Lists.{At}
@@ -52,11 +53,7 @@ module _ (image : List ℕ) (t : Tree) (l : Layout) (fit : Fits image t l) (w : 
       omega arith
 
   has_file : (n : ℕ) (e : Entry) (bytes : List ℕ) → EntryAt t n e → e.body ≡ File bytes → FileAt image w n (at_node image l n)
-  has_file n e bytes h f =
-      let u : n ≤ length t.entries = entry_below t n e h in
-      let a = all_heads in
-      let head = has_head image t l fit w v ag n e h (omega arith) in
-      record { header = head; type = file_word image t l n e e.body bytes refl (fit.entries n e h).body f }
+  has_file n e bytes h f = grind (arith, common_steps, entry_below, all_heads, has_head, ag, file_word)
 
   -- what the walk has at a place of a list of the layout is what the layout has there
   at_its_block : (r : Role) (xs : List ℕ) (k c b : ℕ) → Has w r c → At xs k c → At xs k b → Has w r b

@@ -3,6 +3,7 @@ use Rattle.std.proofs.Common.{◌≡◌, ℕ, zero, suc, List, [], ◌∷◌, �
 use Rattle.std.proofs.Common.{false, cond, eq-eqb, append-nil}
 use Rattle.std.specs.Prelude.{◌==◌, ◌&&◌}
 use Rattle.std.proofs.lemmas.Bool.{eqb-true}
+use Rattle.std.proofs.lemmas.Grind.{common_steps}
 use Rattle.adf_blocks.specs.declared.layout.TheConstants.{MAP_EXT_PAGES, POINTERS, ROOT_PAGES}
 use Rattle.adf_volume.specs.Lists.{At}
 use Rattle.adf_blocks.specs.Sizes.{blocks, pages_needed}
@@ -31,6 +32,11 @@ pub record Lists (f : Role → Bool) (role : ℕ → Role) (w : List (Role × �
   pub from : (k b : ℕ) → At (picked f w) k b → Has w (role k) b
 
 -- a role that is lacked has no place yet
+-- a test picks at most all members
+pub picked_within : (f : Role → Bool) (w : List (Role × ℕ)) → length (picked f w) ≤ length w
+picked_within f [] = omega arith
+picked_within f (x ∷ w) = grind (arith, common_steps, picked_within f w, snoc_length (picked f w) x.1)
+
 not_yet : {f : Role → Bool} {role : ℕ → Role} {w : List (Role × ℕ)} → Lists f role w → (k : ℕ) → Lacks w (role k) → length (picked f w) ≤ k
 not_yet {f = f} {role = role} {w = w} old k lacks =
     let low : k < length (picked f w) → ⊥ = (λ u. let x = at_some (picked f w) k u in lacks (role k) x.0 (old.from k x.0 x.1) (refl, refl, refl)) in
@@ -47,23 +53,7 @@ module _ (f : Role → Bool) (role : ℕ → Role) (own : (k : ℕ) → f (role 
   -- one member more, which is the next one where the test picks it
   pub one_more : (w : List (Role × ℕ)) (q : Role) (c : ℕ) → ((k m : ℕ) → role k ≡ role m → k ≡ m) → Lists f role w
       → (f q ≡ true → q ≡ role (length (picked f w))) → Lists f role ((q, c) ∷ w)
-  one_more w q c apart old next = record { to = to; from = λ k b h. from k b (f q) refl h }
-    where
-      up : (k b : ℕ) (t : Bool) → At (picked f w) k b → At (cond t (picked f w ++ c ∷ []) (picked f w)) k b
-      up k b true h = at_old (picked f w) (c ∷ []) k b h
-      up k b false h = h
-
-      to : (k b : ℕ) → Has ((q, c) ∷ w) (role k) b → At (cond (f q) (picked f w ++ c ∷ []) (picked f w)) k b
-      to k b (inl y) =
-          let t : f q ≡ true = ap f y.0 ∙ own k in
-          let z : k ≡ length (picked f w) = apart k (length (picked f w)) (sym y.0 ∙ next t) in
-          subst (λ t. At (cond t (picked f w ++ c ∷ []) (picked f w)) k b) (sym t)
-          (subst (λ c. At (picked f w ++ c ∷ []) k b) (sym y.1) (at_new (picked f w) b k z))
-      to k b (inr y) = up k b (f q) (old.to k b y)
-
-      from : (k b : ℕ) (t : Bool) → f q ≡ t → At (cond t (picked f w ++ c ∷ []) (picked f w)) k b → Has ((q, c) ∷ w) (role k) b
-      from k b true z h = elim (at_snoc (picked f w) c k b h) [ inl y ↦ inr (old.from k b y) | inr y ↦ inl (next z ∙ ap role (sym y.0), y.1) ]
-      from k b false z h = inr (old.from k b h)
+  one_more w q c apart old next = grind (arith, common_steps, old, at_old, at_new, at_snoc)
 
 -- what is made of each header
 module _ {X : Type 0} (f : ℕ → ℕ → ℕ → X) where
@@ -108,11 +98,7 @@ module _ (image : List ℕ) (full : List (Role × ℕ)) where
 module _ (image : List ℕ) where
   -- the extension blocks, in order
   ext_length : (n : ℕ) (r : Role) (b m : ℕ) (xs : List ℕ) → length xs ≡ m → length (push_ext n r b xs) ≡ ext_count_of n r m
-  ext_length n (Ext i k) b m xs h = go (n == i)
-    where
-      go : (t : Bool) → length (cond t (xs ++ b ∷ []) xs) ≡ cond t (suc m) m
-      go true = snoc_length xs b ∙ ap suc h
-      go false = h
+  ext_length n (Ext i k) b m xs h = grind (arith, common_steps, snoc_length)
   ext_length n _ b m xs h = h
 
   pub exts_length : (w : List (Role × ℕ)) (n : ℕ) → length (exts_in w n) ≡ ext_count w n
@@ -253,11 +239,7 @@ module _ (image : List ℕ) where
     chain_head : (w : List (Role × ℕ)) (n p s j c q u : ℕ) → n ≡ suc (heads w) →
         nodes_from 1 (push_head (entry_in image full) (Head n p s j) c (entries_in image full w)) q u
         ≡ chain_in w q u ++ cond ((p == q) && (slot_of (name_of image c) == u)) (n ∷ []) []
-    chain_head w n p s j c q u z =
-        let l : length (entries_in image full w) ≡ heads w = entries_length image full w in
-        let y : 1 + length (entries_in image full w) ≡ n = omega arith in
-        chain_snoc 1 (entries_in image full w) (entry_in image full n p c) q u
-        ∙ ap (λ m. chain_in w q u ++ cond ((p == q) && (slot_of (name_of image c) == u)) (m ∷ []) []) y
+    chain_head w n p s j c q u z = grind (arith, common_steps, entries_length, chain_snoc, chain_in)
 
     chain_old : (w : List (Role × ℕ)) (r : Role) (c n p s j : ℕ) → ((m q u k : ℕ) → r ≡ Head m q u k → m ≡ suc (heads w)) → At (chain_in w p s) j n
         → At (nodes_from 1 (push_head (entry_in image full) r c (entries_in image full w)) p s) j n

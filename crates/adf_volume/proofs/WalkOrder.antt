@@ -1,7 +1,8 @@
 -- A walk ascends: what is due comes after everything in it.
-use Rattle.std.proofs.Common.{◌≡◌, ℕ, suc, List, [], ◌∷◌, inl, inr, ◌<◌, ◌≤◌, refl, sym, ap, subst, ◌∙◌, arith}
+use Rattle.std.proofs.Common.{◌≡◌, ℕ, suc, List, [], ◌∷◌, inl, inr, ◌<◌, refl, ap, subst, arith}
+use Rattle.std.proofs.lemmas.Grind.{common_steps}
 use Rattle.adf_volume.specs.Image.{root_of}
-use Rattle.adf_volume.specs.Walk.{Role, first, second, third, Before, Same, Has, head_count, heads, HeadAt, Asks, Lacks, IsDue}
+use Rattle.adf_volume.specs.Walk.{Role, Before, Same, Has, head_count, heads, HeadAt, Asks, Lacks, IsDue}
 use Rattle.adf_volume.specs.Walk.{IsWalk}
 use Rattle.adf_volume.specs.Walk.Role.{Root, Page, MapExt}
 use Rattle.adf_volume.specs.Walk.IsWalk.{start, step}
@@ -13,19 +14,10 @@ pub before_trans : (x y z : Role) → Before x y → Before y z → Before x z
 before_trans x y z h k = (omega arith, (λ e. omega arith), (λ e f. omega arith))
 
 pub before_same : (x y z : Role) → Before x y → Same y z → Before x z
-before_same x y z h s = (
-  subst (λ n. first x ≤ n) s.0 h.0,
-  (λ e. subst (λ n. second x ≤ n) s.1 (h.1 (e ∙ sym s.0))),
-  (λ e f. subst (λ n. third x < n) s.2 (h.2 (e ∙ sym s.0) (f ∙ sym s.1))),
-)
+before_same x y z h s = grind (arith, common_steps)
 
 pub before_total : (x y : Role) → (Before y x → ⊥) → (Same x y → ⊥) → Before x y
-before_total x y nb ns =
-    let one : first y < first x → ⊥ = (λ l. nb (omega arith, (λ e. omega arith), (λ e f. omega arith))) in
-    let two : first x ≡ first y → second y < second x → ⊥ = (λ e l. nb (omega arith, (λ e. omega arith), (λ e f. omega arith))) in
-    let three : first x ≡ first y → second x ≡ second y → third y < third x → ⊥ = (λ e f l. nb (omega arith, (λ e. omega arith), (λ e f. l))) in
-    let apart : first x ≡ first y → second x ≡ second y → third x ≡ third y → ⊥ = (λ e f g. ns (e, f, g)) in
-    (omega arith, (λ e. let l = two e in omega arith), (λ e f. let l = three e f in let g = apart e f in omega arith))
+before_total x y nb ns = grind (arith, common_steps)
 
 last : (w : List (Role × ℕ)) (z : Role) (c : ℕ) (q : Role) (b : ℕ) (r : Role) → Has ((z, c) ∷ w) q b → Before z r → (Has w q b → Before q r) → Before q r
 last w z c q b r (inl y) n o = subst (λ q. Before q r) y.0 n

@@ -1,5 +1,6 @@
 -- Facts of walks: as lists of parts asked for, and because each part has no cause.
 use Rattle.std.proofs.Common.{◌≡◌, ℕ, List, inl, inr, ◌+◌, ◌-◌, ◌*◌, ◌/◌, ◌%◌, ◌<◌, ◌≤◌, refl, sym, subst, ◌∙◌, arith}
+use Rattle.std.proofs.lemmas.Grind.{common_steps}
 use native.Mathlib.Decide.{dec_lt}
 use Rattle.adf_blocks.specs.declared.layout.TheConstants.{FIRST_PAGE, MAP_EXT_PAGES, ROOT_PAGES}
 use Rattle.adf_blocks.specs.Sizes.{blocks, pages_needed}
@@ -26,10 +27,8 @@ module _ (image : List ℕ) where
   one_role start r q b (inl e) (inr f) = absurd f
   one_role start r q b (inr e) f = absurd e
   one_role (step v d g n) r q b (inl e) (inl f) = sym e.0 ∙ f.0
-  one_role (step {w = w} {r = z} {b = c} {a = a} v d g n) r q b (inl e) (inr f) =
-      absurd ((part_holds image w z a c n).unowned q (subst (λ b. Has w q b) (sym e.1) f))
-  one_role (step {w = w} {r = z} {b = c} {a = a} v d g n) r q b (inr e) (inl f) =
-      absurd ((part_holds image w z a c n).unowned r (subst (λ b. Has w r b) (sym f.1) e))
+  one_role (step {w = w} {r = z} {b = c} {a = a} v d g n) r q b (inl e) (inr f) = grind (arith, common_steps, part_holds)
+  one_role (step {w = w} {r = z} {b = c} {a = a} v d g n) r q b (inr e) (inl f) = grind (arith, common_steps, part_holds)
   one_role (step v d g n) r q b (inr e) (inr f) = one_role v r q b e f
 
   pub number_of : {w : List (Role × ℕ)} {n b : ℕ} → IsWalk image w → HeadAt w n b → (1 ≤ n) × (n ≤ heads w)

@@ -22,7 +22,7 @@ use Rattle.adf_volume.specs.Walk.Role.{Page, MapExt, Head, Ext, Data}
 use Rattle.adf_volume.specs.Made.{pages_in, map_exts_in, exts_in, datas_in, body_in, entry_in, place_in, entries_in, places_in, tree_in, layout_in}
 use Rattle.adf_volume.proofs.FormDemands.{head_type, dir_not_file}
 use Rattle.adf_volume.proofs.Images.{content_length, map_exts_high, map_exts_low}
-use Rattle.adf_volume.proofs.Lists.{at_fun, at_below, at_some, at_unmap, spelled_from, no_length, at_index, index_past}
+use Rattle.adf_volume.proofs.Lists.{at_fun, at_below, at_some, at_unmap, spelled_from, at_index, index_past}
 use Rattle.adf_volume.proofs.Gathered.{file_one, parent_below, one_block, one_head, root_in, root_is}
 use Rattle.adf_volume.proofs.Walks.{of_walk, number_of, numbered, ext_file, asked_block, asked_header, page_word}
 use Rattle.adf_volume.proofs.WalkOrder.{in_order}
@@ -31,7 +31,8 @@ use Rattle.adf_volume.proofs.Roles.{head_at, head_role}
 use Rattle.adf_volume.proofs.WalkMembers.{entries_length, entry_has, place_has, exts_length, ext_has, has_ext, data_has, has_data, pages}
 use Rattle.adf_volume.proofs.WalkMembers.{map_exts, slot_is, chains}
 use Rattle.adf_volume.proofs.Places.{place_parts}
-use Rattle.std.proofs.lemmas.List.{length-map}
+use Rattle.std.proofs.lemmas.List.{length-map, nil_from_length}
+use Rattle.std.proofs.lemmas.Grind.{common_steps}
 use Rattle.adf_volume.proofs.Sizes.{size_low}
 use Rattle.adf_tree.proofs.ChildLookup.{same_slot}
 
@@ -47,13 +48,7 @@ body_file image w n b bytes false h = let e : bytes ≡ content image (kind_of i
 -- a header that is no directory is a file
 head_kind : (image : List ℕ) (b c s : ℕ) → AllHold (head_demands image (kind_of image) b c s) → (word_in image b SECONDARY_TYPE == ST_DIR) ≡ false
     → word_in image b SECONDARY_TYPE ≡ ST_FILE
-head_kind image b c s h z =
-    elim (head_type image (kind_of image) b c s h) [
-      | inl d ↦
-          let e : (word_in image b SECONDARY_TYPE == ST_DIR) ≡ true = eq-eqb (word_in image b SECONDARY_TYPE) ST_DIR d in
-          absurd (let x : true ≡ false = sym e ∙ z in cc)
-      | inr f ↦ f
-    ]
+head_kind image b c s h z = grind (arith, common_steps, head_type, eq-eqb)
 
 -- a whole walk has all bitmap extension blocks
 pub all_map_exts : (image : List ℕ) (w : List (Role × ℕ)) → IsWhole image w → (j : ℕ) → ROOT_PAGES + MAP_EXT_PAGES * j < pages_needed (blocks image)
@@ -149,10 +144,7 @@ module _ (image : List ℕ) (w : List (Role × ℕ)) (v : IsWalk image w) (whole
       omega arith
 
   pub map_ext_next : (j a b : ℕ) → At (map_exts_in w) j a → At (map_exts_in w) (suc j) b → word_in image a MAP_EXT_NEXT ≡ b
-  map_ext_next j a b h k =
-      let y = (kept image v (MapExt (suc j)) b ((map_exts image v).from (suc j) b k)).1 in
-      let e : a ≡ y.0 = at_fun (map_exts_in w) j a y.0 h ((map_exts image v).to j y.0 y.1) in
-      ap (λ a. word_in image a MAP_EXT_NEXT) e ∙ y.2
+  map_ext_next j a b h k = grind (arith, common_steps, kept, map_exts, at_fun)
 
   pub root_names : (k b a i : ℕ) → k < ROOT_PAGES → NamesPage image w k a i → word_in image a i ≡ b → word_in image (root_of image) (FIRST_PAGE + k) ≡ b
   root_names k b a i lt (inl x) e = ap (λ a. word_in image a (FIRST_PAGE + k)) (sym x.1) ∙ ap (word_in image a) (sym x.2) ∙ e
@@ -162,11 +154,7 @@ module _ (image : List ℕ) (w : List (Role × ℕ)) (v : IsWalk image w) (whole
       → word_in image a m ≡ b
       → word_in image c i ≡ b
   ext_names j i c b a m lt h (inl x) e = absurd (omega arith)
-  ext_names j i c b a m lt h (inr x) e =
-      let ej : x.0 ≡ j = omega arith in
-      let ei : i ≡ m = omega arith in
-      let ea : c ≡ a = at_fun (map_exts_in w) j c a h (subst (λ j. At (map_exts_in w) j a) ej ((map_exts image v).to x.0 a x.1)) in
-      ap (word_in image c) ei ∙ ap (λ c. word_in image c m) ea ∙ e
+  ext_names j i c b a m lt h (inr x) e = grind (arith, common_steps, at_fun, map_exts)
 
   is_dir_at : (p : ℕ) → DirNode (tree_in image w) p → DirAt image w p (at_node image (layout_in w) p)
   is_dir_at zero d = root_in image (of_walk image v)
@@ -345,10 +333,10 @@ module _ (image : List ℕ) (w : List (Role × ℕ)) (v : IsWalk image w) (whole
         let no_file : (a : ℕ) → FileAt image w n a → ⊥ =
         (λ a f. dir_not_file image b d (subst (λ a. word_in image a SECONDARY_TYPE ≡ ST_FILE) (one_head image (of_walk image v) f.header h).1 f.type)) in (
           d,
-          hp.1 ∙ no_length (exts_in w n) (let none : 0 < length (exts_in w n) → ⊥ = (λ u.
+          hp.1 ∙ nil_from_length (exts_in w n) (let none : 0 < length (exts_in w n) → ⊥ = (λ u.
               let x = at_some (exts_in w n) 0 u in
               let f = ext_file image v n 1 x.0 (has_ext image w v n 0 x.0 x.1) in no_file f.0 f.1) in omega arith),
-          hp.2 ∙ no_length (datas_in w n) (let none : 0 < length (datas_in w n) → ⊥ = (λ u.
+          hp.2 ∙ nil_from_length (datas_in w n) (let none : 0 < length (datas_in w n) → ⊥ = (λ u.
               let x = at_some (datas_in w n) 0 u in
               let f = kept image v (Data n 1) x.0 (has_data image w v n 0 x.0 x.1) in no_file f.head f.file) in omega arith),
         )

@@ -1,14 +1,11 @@
-use Rattle.std.proofs.Common.{◌∙◌, ap, rules}
-use Rattle.adf_build.specs.Laid.{slots_of}
+use Rattle.std.proofs.Common.{arith}
+use Rattle.std.proofs.lemmas.Grind.{common_steps}
 use Rattle.adf_build.proofs.Order.{slots_are}
 use Rattle.adf_build.proofs.WriteSteps.{volume_step}
 use Rattle.adf_build.proofs.volume.write_volume.Goals as goal
 
 pub write_the_root-requires-clause-slots : goal.write_the_root-requires-clause-slots
-write_the_root-requires-clause-slots c =
-    let tree = c.args.tree.now in
-    slots_are c.slots_between-slots.result c.args.nodes.now tree.entries 0 (search rules) c.slots_between-slots.ensures
-    ∙ ap (λ nodes. slots_of nodes tree.entries 0) c.requires.nodes
+write_the_root-requires-clause-slots c = grind (arith, common_steps, slots_are)
 
 pub returns : goal.returns
 returns c =

@@ -1,10 +1,8 @@
-use Rattle.std.proofs.Common.{◌≡◌, ap, subst, sym, ◌∙◌, rules}
-use Rattle.adf_blocks.specs.declared.layout.TheConstants.{NAME}
+use Rattle.std.proofs.Common.{subst, sym, rules, arith}
+use Rattle.std.proofs.lemmas.Grind.{common_steps}
 use Rattle.adf_base.specs.Words.{block}
 use Rattle.adf_tree.specs.Tree.{Tree}
-use Rattle.adf_blocks.specs.Forms.{text_at}
-use Rattle.adf_blocks.specs.RootBlock.{stamps_at}
-use Rattle.adf_volume.specs.Image.{name_of, root_of, stamps_of}
+use Rattle.adf_volume.specs.Image.{name_of, stamps_of}
 use Rattle.adf_volume.specs.Layout.{Layout}
 use Rattle.adf_volume.specs.Made.{layout_in, tree_in}
 use Rattle.adf_check.specs.Store.{store_value}
@@ -17,15 +15,7 @@ use Rattle.adf_check.proofs.checker.check_within.Goals as goal
 
 pub new-requires : goal.new-requires
 unfolding name_of stamps_of
-new-requires g c =
-    let image = c.in_ok-opened.opened.image in
-    let root : c.in_ok-opened.opened.root ≡ block image (root_of image) =
-    c.in_ok-opened.ensures.root ∙ ap (λ i. block i (root_of i)) (sym c.in_ok-opened.ensures.image) in
-    record {
-      tells = c.in_ok-check_bitmap.ensures.fits;
-      label = c.label.ensures ∙ ap (λ b. text_at b NAME) root;
-      stamps = c.stamps.ensures ∙ ap stamps_at root;
-    }
+new-requires g c = grind (arith, common_steps)
 
 pub returns-clause-fits : goal.returns-clause-fits
 returns-clause-fits g c =

@@ -1,4 +1,5 @@
-use Rattle.std.proofs.Common.{◌≡◌, ◌++◌, ◌∷◌, [], length, set, ap, refl, ◌∙◌, rules, arith}
+use Rattle.std.proofs.Common.{set, refl, rules, arith}
+use Rattle.std.proofs.lemmas.Grind.{common_steps}
 use Rattle.adf_check.specs.declared.kept_owner.KeptOwner.TheVariants as kept
 use Rattle.adf_check.proofs.ClaimSteps.{claim_refused}
 use Rattle.adf_check.proofs.NumberBounds.{lists_short}
@@ -28,18 +29,4 @@ returns-in-Err-clause-fault g c =
     c.in-Err.ensures.fault)
 
 pub returns-in-Ok-clause-state : goal.returns-in-Ok-clause-state
-returns-in-Ok-clause-state g c =
-    let q = c.requires in
-    let claimed = c.in_ok-claim_named.ensures in
-    let count : c.len-place.result ≡ length c.args.store.now.datas.items = search rules in
-    let pushed : c.push.new.self.items ≡ c.args.store.now.datas.items ++ c.args.b ∷ [] = search rules in
-    data_done c.begun.ensures q.state q.count q.size q.enough q.inside q.holder q.named claimed.range claimed.free (search rules)
-    (record {
-      owners = claimed.ok ∙ ap (λ i. set c.args.store.now.owners c.args.b (kept.Data i)) count;
-      headers = refl;
-      dirs = q.state.read.tells.dirs;
-      starts = refl;
-      exts = refl;
-      datas = pushed;
-      used = claimed.count;
-    })
+returns-in-Ok-clause-state g c = grind (arith, common_steps, data_done, set)

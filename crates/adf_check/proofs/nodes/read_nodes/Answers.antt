@@ -1,4 +1,5 @@
 use Rattle.std.proofs.Common.{◌≡◌, suc, length, subst, sym, refl, arith}
+use Rattle.std.proofs.lemmas.Grind.{common_steps}
 use Rattle.adf_check.specs.Reading.{IsInNode}
 use Rattle.adf_check.specs.Store.{store_value}
 use Rattle.adf_check.proofs.NodeSteps.{enter_node}
@@ -23,6 +24,4 @@ returns-clause-state g c =
     all_read c.args.image.now (store_value c.loop-node.store) c.loop-node.node end c.loop-node.invariant.state
 
 pub read_node-requires-clause-paid : goal.read_node-requires-clause-paid
-read_node-requires-clause-paid g c =
-    let begun : length c.loop-node.store.starts.items ≡ c.loop-node.node = c.loop-node.invariant.state.read.started in
-    c.in_ok-enter.ensures.paid c.loop-node.reads c.loop-node.invariant.paid (omega (arith, begun))
+read_node-requires-clause-paid g c = grind (arith, common_steps)

@@ -1,6 +1,7 @@
 use Rattle.std.proofs.Common.{◌≡◌, ◌++◌, ℕ, List, refl, rules, append_assoc}
 use Rattle.std.specs.List.{concat}
-use Rattle.adf_runs.proofs.PendingText.{err_more, on_err, pending_fails, pending_more}
+use Rattle.std.proofs.lemmas.Result.{on_err_weaker}
+use Rattle.adf_runs.proofs.PendingText.{on_err, pending_fails, pending_more}
 use Rattle.adf_cmd.proofs.copying.write_pieces.Goals as goal
 
 -- one piece more is done
@@ -31,4 +32,4 @@ returns-in_err-waiting-clause-err g c =
 pub returns-clause-err : goal.returns-clause-err
 returns-clause-err g c =
     let so_far = c.loop-piece.invariant.so_far in
-    err_more c.write_all.result (pending_fails _ _ _ _ _ _ _ so_far.2 so_far.1) c.write_all.ensures.err
+    on_err_weaker c.write_all.result (pending_fails _ _ _ _ _ _ _ so_far.2 so_far.1) c.write_all.ensures.err

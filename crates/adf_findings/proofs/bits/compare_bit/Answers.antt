@@ -1,11 +1,11 @@
 use Rattle.std.proofs.Common.{refl}
-use Rattle.adf_findings.proofs.Keys.{on_ok}
+use Rattle.std.proofs.lemmas.Result.{on_ok_weaker}
 use Rattle.adf_findings.proofs.BitSteps.{none_on, some_on}
 use Rattle.adf_findings.proofs.bits.compare_bit.Goals as goal
 
 pub returns-in-Some : goal.returns-in-Some
 returns-in-Some c =
-    on_ok c.report.result
+    on_ok_weaker c.report.result
     (λ n. some_on c.args.image.now c.args.found.now c.report.new.self c.args.b c.in-Some.cause _ c.requires.low refl c.in-Some.ensures n c.requires.reported)
     c.report.ensures
 

@@ -1,8 +1,7 @@
 use Rattle.std.proofs.Common.{arith}
+use Rattle.std.proofs.lemmas.Grind.{common_steps}
 use Rattle.adf_findings.proofs.CoursePlaces.{nodes_end}
 use Rattle.adf_findings.proofs.course.run.Goals as goal
 
 pub returns : goal.returns
-returns c =
-    nodes_end c.args.image.now c.loop-node.found c.loop-node.invariant.0 c.loop-node.node (omega (arith, c.loop-node-test.false, c.len.ensures))
-    c.loop-node.invariant.1
+returns c = grind (arith, common_steps, nodes_end)

@@ -1,6 +1,6 @@
 use Rattle.std.proofs.Common.{◌+◌, ◌∙◌, arith, length, refl}
-use Rattle.std.proofs.lemmas.List.{drop_all}
-use Rattle.adf_partitions.proofs.Cuts.{cut_nowhere, cut_past, cut_there, to_end}
+use Rattle.std.proofs.lemmas.List.{drop_all, take_rest}
+use Rattle.adf_partitions.proofs.Cuts.{cut_nowhere, cut_past, cut_there}
 use Rattle.adf_partitions.proofs.plan_words.cut.Goals as goal
 
 pub returns-then-text-i-clause-front : goal.returns-then-text-i-clause-front
@@ -9,7 +9,7 @@ returns-then-text-i-clause-front c =
 
 pub returns-then-text-i-clause-rest : goal.returns-then-text-i-clause-rest
 returns-then-text-i-clause-rest c =
-    to_end c.args.text.now (c.loop-i.i + 1)
+    take_rest c.args.text.now (c.loop-i.i + 1)
     ∙ (cut_there c.args.byte c.args.text.now c.loop-i.i _ c.loop-i.invariant c.loop-i-test.true refl c.if-text-i.true).1
 
 pub loop-i-preserved : goal.loop-i-preserved
@@ -20,5 +20,5 @@ returns-clause-front c = (cut_nowhere c.args.byte c.args.text.now c.loop-i.i c.l
 
 pub returns-clause-rest : goal.returns-clause-rest
 returns-clause-rest c =
-    to_end c.args.text.now (length c.args.text.now) ∙ drop_all (length c.args.text.now) c.args.text.now (omega arith)
+    take_rest c.args.text.now (length c.args.text.now) ∙ drop_all (length c.args.text.now) c.args.text.now (omega arith)
     ∙ (cut_nowhere c.args.byte c.args.text.now c.loop-i.i c.loop-i.invariant (omega (arith, c.loop-i-test.false))).1

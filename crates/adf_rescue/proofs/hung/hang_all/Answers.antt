@@ -1,4 +1,5 @@
-use Rattle.std.proofs.Common.{◌∙◌, sym}
+use Rattle.std.proofs.Common.{◌∙◌, sym, arith}
+use Rattle.std.proofs.lemmas.Grind.{common_steps}
 use Rattle.adf_rescue.proofs.HungImages.{hung_begun, hung_more}
 use Rattle.adf_rescue.proofs.hung.hang_all.Goals as goal
 
@@ -6,6 +7,4 @@ pub loop-b-init : goal.loop-b-init
 loop-b-init c = λ w fs survey are before. before ∙ sym (hung_begun c.args.survey.now.image w fs)
 
 pub loop-b-preserved : goal.loop-b-preserved
-loop-b-preserved c = λ w fs survey are before.
-    hung_more c.args.survey.now.image w fs c.loop-b.b c.loop-b.image c.hang_loose.new.image (c.loop-b.invariant w fs survey are before)
-    (c.hang_loose.ensures w fs survey are)
+loop-b-preserved c = grind (arith, common_steps, hung_more)

@@ -1,4 +1,5 @@
 use Rattle.std.proofs.Common.{◌≡◌, ◌∙◌, ◌+◌, ap, arith, subst, sym}
+use Rattle.std.proofs.lemmas.Grind.{common_steps}
 use Rattle.adf_blocks.specs.Sizes.{blocks}
 use Rattle.adf_rescue.specs.Hung.{AreMade}
 use Rattle.adf_rescue.proofs.HungImages.{made_first, made_marked, made_more, made_same}
@@ -28,8 +29,4 @@ loop-b-preserved c = λ w fs survey are.
     ]
 
 pub returns : goal.returns
-returns c = λ w fs survey are.
-    let given = c.args.survey.now.image in
-    let n : c.block_count-blocks.result ≡ blocks given = c.block_count-blocks.ensures.exact ∙ ap blocks c.image.ensures in
-    let last : c.loop-b.b ≡ blocks given = omega (arith, n) in
-    made_marked given w fs c.loop-b.marks.items (subst (λ k. AreMade given w fs k c.loop-b.marks.items) last (c.loop-b.invariant w fs survey are))
+returns c = grind (arith, common_steps, made_marked)

@@ -1,4 +1,5 @@
-use Rattle.std.proofs.Common.{◌∙◌, sym}
+use Rattle.std.proofs.Common.{◌∙◌, sym, arith}
+use Rattle.std.proofs.lemmas.Grind.{common_steps}
 use Rattle.adf_rescue.proofs.HungImages.{readied_first, readied_more}
 use Rattle.adf_rescue.proofs.hung.ready_all.Goals as goal
 
@@ -6,6 +7,4 @@ pub loop-b-init : goal.loop-b-init
 loop-b-init c = λ w fs survey are. c.requires.same ∙ sym (readied_first c.args.survey.now.image w fs)
 
 pub loop-b-preserved : goal.loop-b-preserved
-loop-b-preserved c = λ w fs survey are.
-    readied_more c.args.survey.now.image w fs c.loop-b.b c.loop-b.image c.ready.new.image (c.loop-b.invariant w fs survey are)
-    (c.in_ok-ready.ensures w fs survey are)
+loop-b-preserved c = grind (arith, common_steps, readied_more)

@@ -1,6 +1,6 @@
-use Rattle.std.proofs.Common.{◌≡◌, ◌∙◌, ◌+◌, ap, arith, length, subst, sym}
+use Rattle.std.proofs.Common.{◌∙◌, ◌+◌, arith, length, subst, sym}
 use Rattle.std.proofs.lemmas.List.{length-map}
-use Rattle.adf_findings.specs.Parts.{finding_value}
+use Rattle.std.proofs.lemmas.Grind.{common_steps}
 use Rattle.adf_rescue.specs.Lost.{AreSettled}
 use Rattle.adf_rescue.proofs.LostHeaders.{settled_first, settled_none, settled_some}
 use Rattle.adf_rescue.proofs.lost.settled.Goals.{in-Some, in_default}
@@ -21,8 +21,4 @@ loop-k-preserved c = λ w fs survey. elim c.match-concern_of.branch [
 ]
 
 pub returns : goal.returns
-returns c = λ w fs survey.
-    let all = length-map c.findings-k-end.result.now finding_value in
-    let same = ap length (c.findings-k-end.ensures w fs survey) in
-    let last : c.loop-k.k ≡ length fs = omega (arith, all, same) in
-    subst (λ n. AreSettled w fs n c.loop-k.marks.items) last (c.loop-k.invariant w fs survey)
+returns c = grind (arith, common_steps, length-map)

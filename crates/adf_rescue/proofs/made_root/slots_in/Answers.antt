@@ -1,16 +1,13 @@
-use Rattle.std.proofs.Common.{◌≡◌, ◌<◌, ◌+◌, ℕ, arith, get_or, rules, subst}
+use Rattle.std.proofs.Common.{◌≡◌, ◌<◌, ◌+◌, ℕ, arith, get_or, subst}
 use Rattle.std.proofs.lemmas.List.FromFn.{fill_by_all}
+use Rattle.std.proofs.lemmas.Grind.{common_steps}
 use Rattle.adf_base.specs.Words.{word}
 use Rattle.adf_blocks.specs.declared.layout.TheConstants.{FIRST_SLOT, SLOTS}
 use Rattle.adf_rescue.proofs.MadeRoots.{fill_step}
 use Rattle.adf_rescue.proofs.made_root.slots_in.Goals as goal
 
 pub loop-s-preserved : goal.loop-s-preserved
-loop-s-preserved c = record {
-  whole = search rules;
-  filled = fill_step (λ s. word c.args.root.now (FIRST_SLOT + s)) c.loop-s.slots c.loop-s.s _ (omega (arith, c.loop-s.invariant.whole))
-      c.loop-s.invariant.filled c.word.ensures;
-}
+loop-s-preserved c = grind (arith, common_steps, fill_step)
 
 pub returns : goal.returns
 returns c =

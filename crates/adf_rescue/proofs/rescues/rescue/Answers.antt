@@ -1,22 +1,16 @@
-use Rattle.std.proofs.Common.{ap, inl, inr, refl}
-use Rattle.adf_blocks.specs.Sizes.{blocks}
-use Rattle.adf_findings.specs.declared.opening.Opening.{Opening}
+use Rattle.std.proofs.Common.{refl, arith}
+use Rattle.std.proofs.lemmas.Grind.{common_steps}
 use Rattle.adf_rescue.proofs.Steps.{buildable, on_err, unread_fault}
 use Rattle.adf_rescue.proofs.rescues.rescue.Goals as goal
 
 pub returns-in_default-clause-none : goal.returns-in_default-clause-none
-returns-in_default-clause-none c = λ w fs sound survey marks b is.
-    let none = (c.in_default.ensures.some w fs survey).0 refl in
-    ((λ t. (inr (unread_fault c.args.survey.now.image w fs survey none), inl none)), (λ s. refl))
+returns-in_default-clause-none c = grind (arith, common_steps, unread_fault)
 
 pub stands_nothing-requires : goal.stands_nothing-requires
 stands_nothing-requires c = λ w fs survey none. let not = (c.in-Some.ensures.some w fs survey).1 none in absurd cc
 
 pub returns-clause-fits : goal.returns-clause-fits
-returns-clause-fits c =
-    let image = c.args.survey.now.image in
-    buildable c.in_ok-salvage.salvage.draft.tree c.in_ok-salvage.salvage.left (blocks image) c.in-Some.opening.blocks
-    (ap (λ (o : Opening). o.blocks) c.in-Some.ensures.opening) c.in-Some.ensures.size c.free_blocks-free.ensures.room c.in_ok-salvage.ensures.blocks
+returns-clause-fits c = grind (arith, common_steps, buildable)
 
 pub returns-then-stands_nothing-clause-none : goal.returns-then-stands_nothing-clause-none
 returns-then-stands_nothing-clause-none c = λ w fs sound survey marks b is.
@@ -35,5 +29,4 @@ pub returns-clause-second_left_out : goal.returns-clause-second_left_out
 returns-clause-second_left_out c = λ w fs sound survey marks b is. (c.in_ok-salvage.ensures.state w fs sound survey marks b is).left_out
 
 pub returns-in_err-salvage-clause-begun : goal.returns-in_err-salvage-clause-begun
-returns-in_err-salvage-clause-begun c = λ w fs survey.
-    on_err c.from_residual.result (λ none. let not = (c.in-Some.ensures.some w fs survey).1 none in absurd cc)
+returns-in_err-salvage-clause-begun c = grind (arith, common_steps, on_err)

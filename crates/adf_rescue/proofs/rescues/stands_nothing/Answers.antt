@@ -1,15 +1,12 @@
-use Rattle.std.proofs.Common.{◌∙◌, ap, inl, inr, length, sym}
+use Rattle.std.proofs.Common.{◌∙◌, ap, inl, inr, length, sym, arith}
 use Rattle.std.proofs.lemmas.Bool.{eq-eqb, eqb-true}
+use Rattle.std.proofs.lemmas.Grind.{common_steps}
 use Rattle.adf_rescue.specs.Rescue.{Look, before_second, second_verdicts}
 use Rattle.adf_rescue.proofs.Steps.{none_added}
 use Rattle.adf_rescue.proofs.rescues.stands_nothing.Goals as goal
 
 pub returns-then-not-has_fault : goal.returns-then-not-has_fault
-returns-then-not-has_fault c = λ w fs sound survey marks b is.
-    let faults = c.has_fault.ensures w fs survey in (
-      (λ t. absurd cc),
-      (λ s. let told = faults.1 s.0 in let not = c.if-not-has_fault.true in absurd cc),
-    )
+returns-then-not-has_fault c = grind (arith, common_steps)
 
 pub returns : goal.returns
 returns c = λ w fs sound survey marks b is.

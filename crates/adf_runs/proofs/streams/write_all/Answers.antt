@@ -1,5 +1,7 @@
 use Rattle.std.proofs.Common.{◌≡◌, ◌≢◌, ◌<◌, List, ap, arith, drop, length, rules, ℕ, [], length-drop, length-take, sym, append-nil, take-append-drop}
-use Rattle.adf_runs.proofs.KnownBytes.{appends_kept, appends_more, appends_two, rest_is}
+use Rattle.std.proofs.KnownBytes.{Appends-kept}
+use Rattle.std.proofs.lemmas.List.{take_rest}
+use Rattle.adf_runs.proofs.KnownBytes.{appends_more, appends_two}
 use Rattle.adf_runs.proofs.streams.write_all.Goals as goal
 
 -- something is left behind a front that is shorter
@@ -12,7 +14,7 @@ pub loop-at-preserved : goal.loop-at-preserved
 loop-at-preserved g c = record {
   within = omega (arith, c.in-Ok.ensures.count, length-take {A = ℕ}, length-drop {A = ℕ});
   works = search rules;
-  written = appends_more _ _ _ _ _ _ _ (rest_is c.loop-at.at c.args.bytes.now) c.loop-at.invariant.written c.in-Ok.ensures.bytes;
+  written = appends_more _ _ _ _ _ _ _ (take_rest c.args.bytes.now c.loop-at.at) c.loop-at.invariant.written c.in-Ok.ensures.bytes;
 }
 
 pub returns-then-count-eq0-clause-err : goal.returns-then-count-eq0-clause-err
@@ -26,4 +28,4 @@ pub returns-in-Err-clause-err : goal.returns-in-Err-clause-err
 returns-in-Err-clause-err g c =
     let whole = sym (take-append-drop c.loop-at.at c.args.bytes.now) in
     let some = left_behind c.loop-at.at c.args.bytes.now (omega arith) in
-    (_, _, whole, (λ _. some), appends_kept _ _ _ _ c.loop-at.invariant.written c.in-Err.ensures.bytes)
+    (_, _, whole, (λ _. some), Appends-kept _ _ _ _ c.loop-at.invariant.written c.in-Err.ensures.bytes)

@@ -1,7 +1,7 @@
 use Rattle.std.proofs.Common.{refl}
-use Rattle.std.proofs.lemmas.Result.{on_ok_weaker}
+use Rattle.std.proofs.lemmas.Result.{on_ok_weaker, on_err_weaker}
 use Rattle.adf_runs.proofs.KnownBytes.{appends_two}
-use Rattle.adf_runs.proofs.PendingText.{err_more, on_err, part_behind, part_of_more}
+use Rattle.adf_runs.proofs.PendingText.{on_err, part_behind, part_of_more}
 use Rattle.adf_survey_cmd.proofs.listing.write_both.Goals as goal
 
 pub returns-clause-ok : goal.returns-clause-ok
@@ -11,7 +11,7 @@ returns-clause-ok g c = λ w fs survey date sound dates marks.
 
 pub returns-clause-err : goal.returns-clause-err
 returns-clause-err g c = λ w fs survey date sound dates marks.
-    err_more c.write_found.result (λ h. part_behind _ _ _ _ _ (c.in_ok-write_runs.ensures.ok w fs survey) h)
+    on_err_weaker c.write_found.result (λ h. part_behind _ _ _ _ _ (c.in_ok-write_runs.ensures.ok w fs survey) h)
     (c.write_found.ensures.err w fs survey date sound dates marks)
 
 pub returns-in_err-write_runs-clause-err : goal.returns-in_err-write_runs-clause-err

@@ -1,12 +1,10 @@
-use Rattle.std.proofs.Common.{sym, ◌∙◌}
+use Rattle.std.proofs.Common.{sym, ◌∙◌, arith}
+use Rattle.std.proofs.lemmas.Grind.{common_steps}
 use Rattle.adf_tree.proofs.DraftLookup.{step_none, step_to, step_within}
 use Rattle.adf_tree.proofs.draft.directory.Goals as goal
 
 pub returns-in-None-clause-room : goal.returns-in-None-clause-room
-returns-in-None-clause-room c =
-    c.loop-name.invariant.leads
-    ∙ step_none c.args.path.now c.loop-name.name-index c.requires c.loop-name.invariant.within c.loop-name-test.true c.name-item.is
-    (sym c.get.ensures ∙ c.in-None.is)
+returns-in-None-clause-room c = grind (arith, common_steps, step_none)
 
 pub returns-then-not-is_dir-clause-room : goal.returns-then-not-is_dir-clause-room
 returns-then-not-is_dir-clause-room c =

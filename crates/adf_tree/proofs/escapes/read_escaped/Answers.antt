@@ -1,9 +1,9 @@
-use Rattle.std.proofs.Common.{arith, ◌<◌, ◌≡◌, ◌∷◌, [], length, Result, Some, None, Ok, Err, sym, ◌∙◌, refl}
+use Rattle.std.proofs.Common.{arith, ◌<◌, ◌≡◌, length, Result, Some, None, Ok, Err, sym, ◌∙◌, refl}
 use Rattle.std.specs.Prelude.{OnOk, OnErr, IsOk}
 use Rattle.std.specs.Result.{result_ok}
 use Rattle.std.proofs.lemmas.Bool.Decides.{nat_tests}
 use Rattle.std.proofs.lemmas.List.{length-append}
-use Rattle.std.proofs.lemmas.List.Elements.{All-push}
+use Rattle.std.proofs.lemmas.Grind.{common_steps}
 use Rattle.adf_tree.proofs.Spellings.{read_more, no_spelling, too_many, whole_spelling}
 use Rattle.adf_tree.proofs.escapes.read_escaped.Goals as goal
 
@@ -31,18 +31,7 @@ returns-in_err-ok-clause-none g c =
     (at_err c.try_push.result (sym c.ok.ensures.value ∙ c.in_err-ok.was) c.try_push.ensures.full))
 
 pub loop-rest-preserved : goal.loop-rest-preserved
-loop-rest-preserved g c =
-    let inv = c.loop-rest.invariant in
-    let pushed = at_ok c.try_push.result c.in_ok-ok.field-0 (sym c.ok.ensures.value ∙ c.in_ok-ok.was) c.try_push.ensures.ok in
-    rw pushed.1
-    (record {
-      spells = read_more c.args.text.now c.loop-rest.bytes.items c.loop-rest.rest.now c.in_ok-c.after.now c.in_ok-c.c inv.spells c.in_ok-c.ensures.some;
-      are_bytes = All-push (λ b. b < 256) c.loop-rest.bytes.items c.in_ok-c.c inv.are_bytes c.in_ok-c.ensures.byte;
-      short = omega (arith, c.try_push.ensures.variant.0 pushed.0, length-append c.loop-rest.bytes.items (c.in_ok-c.c ∷ []));
-    })
+loop-rest-preserved g c = grind (arith, common_steps, at_ok, read_more, length-append)
 
 pub returns-clause-some : goal.returns-clause-some
-returns-clause-some g c =
-    let inv = c.loop-rest.invariant in
-    let end : length c.loop-rest.rest.now ≡ 0 = grind (arith, nat_tests) in
-    whole_spelling g.row.MOST c.args.text.now c.loop-rest.bytes.items c.loop-rest.rest.now inv.spells inv.are_bytes inv.short end
+returns-clause-some g c = grind (arith, common_steps, nat_tests, whole_spelling)

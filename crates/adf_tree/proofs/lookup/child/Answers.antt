@@ -1,4 +1,5 @@
 use Rattle.std.proofs.Common.{arith, sym, ◌∙◌, ap}
+use Rattle.std.proofs.lemmas.Grind.{common_steps}
 use Rattle.adf_base.specs.Hash.{slot_of}
 use Rattle.adf_tree.proofs.ChildLookup.{child_found, child_not_before, child_not_past, no_children}
 use Rattle.adf_tree.proofs.lookup.child.Goals as goal
@@ -9,9 +10,7 @@ loop-i-init c =
     (c.slot-slot.ensures.exact ∙ ap slot_of c.bytes.ensures.bytes) c.start_of-start.ensures.parted
 
 pub returns-then-is_child : goal.returns-then-is_child
-returns-then-is_child c =
-    child_found c.args.entries.now c.args.parent c.args.name.now c.loop-i.i c.index-entries-i.result (omega arith) c.index-entries-i.is
-    (sym c.is_child.ensures ∙ c.if-is_child.true) c.loop-i.invariant
+returns-then-is_child c = grind (arith, common_steps, child_found)
 
 pub returns : goal.returns
 returns c =

@@ -1,5 +1,6 @@
-use Rattle.std.proofs.Common.{◌≡◌, ◌++◌, sym, ap, ◌∙◌, Result, Ok, Err, true}
+use Rattle.std.proofs.Common.{◌≡◌, ◌++◌, sym, ap, Result, Ok, Err, true, arith}
 use Rattle.std.specs.Prelude.{not, OnErr, OnOk}
+use Rattle.std.proofs.lemmas.Grind.{common_steps}
 use Rattle.adf_tree.specs.NameSet.{is_among}
 use Rattle.adf_tree.proofs.NameBuckets.{stored_among, stored_overflow, with_same}
 use Rattle.adf_tree.proofs.name_set.place.Goals as goal
@@ -9,9 +10,7 @@ fill_bucket-requires-clause-inside c = c.probe_of.ensures.inside c.requires.some
 
 -- a name with a bucket is in the set
 there : (c : goal.In-Stored) → is_among (c.args.names.now.items ++ c.args.overflow.now.keys) c.args.name ≡ true
-there c =
-    rw (← c.deref.ensures.value)
-    (stored_among c.deref.result.now c.args.buckets.now c.args.overflow.now.keys c.args.name (sym c.probe_of.ensures.exact ∙ c.in-Stored.is))
+there c = grind (arith, common_steps, stored_among)
 
 pub returns-in-Stored-clause-new : goal.returns-in-Stored-clause-new
 returns-in-Stored-clause-new c = ap not (sym (there c))
@@ -25,9 +24,4 @@ on_both (Ok x) p q f g = f p
 on_both (Err e) p q f g = g q
 
 pub returns-in-Full-clause-stored : goal.returns-in-Full-clause-stored
-returns-in-Full-clause-stored c =
-    let names = c.args.names.now.items in
-    on_both c.put_in_overflow.result c.put_in_overflow.ensures.more c.put_in_overflow.ensures.same
-    (λ more. stored_overflow names c.args.buckets.now c.args.overflow.now.keys c.put_in_overflow.new.overflow.keys c.args.name c.requires.stored
-    (rw (← c.deref.ensures.value) (sym c.probe_of.ensures.exact ∙ c.in-Full.is)) more)
-    (λ same. rw same c.requires.stored)
+returns-in-Full-clause-stored c = grind (arith, common_steps, on_both, stored_overflow)

@@ -1,16 +1,12 @@
-use Rattle.std.proofs.Common.{◌∙◌, ap, List, ℕ, [], ◌∷◌, ◌++◌, not}
+use Rattle.std.proofs.Common.{◌∙◌, ap, List, ℕ, [], ◌∷◌, ◌++◌, not, arith}
 use Rattle.std.proofs.lemmas.List.Elements.{All-push}
+use Rattle.std.proofs.lemmas.Grind.{common_steps}
 use Rattle.adf_tree.specs.PathTexts.{between_slashes, IsName}
 use Rattle.adf_tree.proofs.PathParts.{bad_part, last_name, one_part, part_first, at_none, some_name, last_part, part_before}
 use Rattle.adf_tree.proofs.path_texts.has_names.Goals as goal
 
 pub returns-then-is_none-clause-no : goal.returns-then-is_none-clause-no
-returns-then-is_none-clause-no c =
-    let so_far = c.loop-after.invariant in
-    let part : List ℕ = c.cut.result.0.now in
-    let first = part_first c.cut.result.1 part (between_slashes c.loop-after.rest.now) c.cut.ensures.last c.cut.ensures.more in
-    bad_part c.args.text.now part c.loop-after.rest.now so_far.0 first.0 c.requires so_far.1 first.1
-    (at_none c.read_name.result (c.is_none.ensures ∙ ap not c.if-is_none.true) c.read_name.ensures.none)
+returns-then-is_none-clause-no c = grind (arith, common_steps, part_first, bad_part, at_none, not)
 
 pub loop-after-preserved : goal.loop-after-preserved
 loop-after-preserved c =

@@ -1,10 +1,9 @@
-use Rattle.std.proofs.Common.{◌≡◌, ◌≤◌, ◌<◌, ap, subst, Some, ◌∙◌, arith}
+use Rattle.std.proofs.Common.{◌≡◌, ap, subst, Some, ◌∙◌, arith}
+use Rattle.std.proofs.lemmas.Grind.{common_steps}
 use Rattle.adf_tree.specs.Tree.{Tree}
-use Rattle.adf_blocks.specs.Sizes.{blocks}
 use Rattle.adf_volume.specs.declared.owner.Owner.{Owner}
 use Rattle.adf_volume.specs.Layout.{Layout, owned}
 use Rattle.adf_volume.specs.Lists.{In}
-use Rattle.adf_check.specs.declared.owner_class.OwnerClass.TheVariants.{Free}
 use Rattle.adf_check.specs.OwnerClass.{class_kept, class_of}
 use Rattle.adf_check.specs.Store.{store_value}
 use Rattle.adf_check.specs.Volumes.{StandsFor, Volume}
@@ -19,12 +18,7 @@ returns-then-b-blocks-clause-part c =
     ap Some (c.class.ensures ∙ ap class_kept (c.get.ensures.owner ∙ st.owners.part o c.args.b has) ∙ class_same (store_value c.self.inside.store).starts o))
 
 pub returns-then-b-blocks-clause-boot : goal.returns-then-b-blocks-clause-boot
-returns-then-b-blocks-clause-boot c = λ low.
-    let st = keeps c.self.inside.image (store_value c.self.inside.store) c.self.invariant.tells in
-    ap Some (c.class.ensures ∙ ap class_kept (c.get.ensures.owner ∙ st.owners.boot c.args.b low (omega (arith, c.if-b-blocks.true, c.blocks-2.ensures.blocks))))
+returns-then-b-blocks-clause-boot c = grind (arith, common_steps, keeps)
 
 pub returns-then-b-blocks-clause-free : goal.returns-then-b-blocks-clause-free
-returns-then-b-blocks-clause-free c =
-    subst (λ (v : Volume). (t : Tree) (l : Layout) → StandsFor v t l → 2 ≤ c.args.b → c.args.b < blocks v.image
-    → ((o : Owner) → In (owned v.image l) (o, c.args.b) → ⊥) → Some c.class.result ≡ Some Free)
-    c.self.view_is (λ t l st from inside none. ap Some (c.class.ensures ∙ ap class_kept (c.get.ensures.owner ∙ st.owners.free c.args.b from inside none)))
+returns-then-b-blocks-clause-free c = grind (arith, common_steps)

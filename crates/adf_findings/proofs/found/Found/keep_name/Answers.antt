@@ -1,9 +1,9 @@
 use Rattle.std.proofs.lemmas.Bool.{false_from_ne_true}
 use Rattle.std.proofs.lemmas.Result.{IfOk-weaker}
-use Rattle.adf_tree.specs.Texts.{is_name}
-use Rattle.adf_volume.specs.Image.{name_of}
 use Rattle.adf_findings.proofs.Known.{kept_name, kept_none, name_is_new}
-use Rattle.adf_findings.proofs.Keys.{on_ok}
+use Rattle.std.proofs.lemmas.Result.{on_ok_weaker}
+use Rattle.std.proofs.lemmas.Grind.{common_steps}
+use Rattle.std.proofs.Common.{arith}
 use Rattle.adf_findings.proofs.found.Found.keep_name.Goals as goal
 
 pub returns-in-Some-clause-new : goal.returns-in-Some-clause-new
@@ -18,14 +18,10 @@ returns-in-Some-clause-new c =
 pub returns-in-Some-clause-names : goal.returns-in-Some-clause-names
 returns-in-Some-clause-names c =
     let x = c.in-Head in
-    on_ok c.put.result
+    on_ok_weaker c.put.result
     (kept_name c.args.image.now c.args.part c.args.b x.node x.parent x.slot x.place c.args.self.now.names c.begin_names.new.self.names x.is
     c.begin_names.ensures.names c.in-Some.name c.in-Some.ensures.name c.put.new.self)
     c.put.ensures.more
 
 pub returns-in-None-clause-names : goal.returns-in-None-clause-names
-returns-in-None-clause-names c =
-    let x = c.in-Head in
-    kept_none c.args.image.now c.args.part c.args.b x.node x.parent x.slot x.place c.args.self.now.names c.begin_names.new.self.names x.is
-    c.begin_names.ensures.names
-    (false_from_ne_true (is_name (name_of c.args.image.now c.args.b)) (λ t. let none = c.in-None.ensures.valid.1 t in cc))
+returns-in-None-clause-names c = grind (arith, common_steps, kept_none, false_from_ne_true)

@@ -1,5 +1,6 @@
 use Rattle.std.specs.Prelude.{slice_index}
-use Rattle.std.proofs.Common.{ℕ, List, refl, sym, ap, subst, ◌∙◌}
+use Rattle.std.proofs.Common.{ℕ, List, refl, sym, ap, subst, ◌∙◌, arith}
+use Rattle.std.proofs.lemmas.Grind.{common_steps}
 use Rattle.adf_volume.specs.Walk.{node_block}
 use Rattle.adf_findings.specs.Files.{FileValue}
 use Rattle.adf_findings.specs.Start.{unread_findings}
@@ -22,14 +23,7 @@ returns-in_default-clause-some c = λ w fs h. (
 )
 
 pub returns-then-word-clause-some : goal.returns-then-word-clause-some
-returns-then-word-clause-some c = λ w fs h. (
-  (λ e. cc),
-  (λ y.
-      let kept = subst IsOfSurvey c.self.view_is c.self.invariant in
-      let image = c.in-Ok.ensures.image ∙ ap (λ v. v.image) c.self.view_is in
-      let head = c.number_at-head.ensures ∙ (λ i. slice_index (c.self.view_is i).nodes (c.n.view_is i)) in
-      absurd (c.if-word.true (type_is c.args.self.now kept w fs h c.args.n image head c.word.ensures ∙ y.1))),
-)
+returns-then-word-clause-some c = grind (arith, common_steps, type_is)
 
 pub at-requires : goal.at-requires
 at-requires c =
@@ -40,12 +34,7 @@ at-requires c =
     has_its_blocks c.args.self.now kept kept.0 kept.1 kept.2.survey c.args.n image head c.word.ensures c.args.grave sound c.if-word.false
 
 pub returns-in_err-at-clause-none : goal.returns-in_err-at-clause-none
-returns-in_err-at-clause-none c = λ w fs h no.
-    let kept = subst IsOfSurvey c.self.view_is c.self.invariant in
-    let image = c.in-Ok.ensures.image ∙ ap (λ v. v.image) c.self.view_is in
-    let head = c.number_at-head.ensures ∙ (λ i. slice_index (c.self.view_is i).nodes (c.n.view_is i)) in
-    let sound = (c.is_clear.ensures w fs h).0 c.if-not-is_clear.false in
-    absurd (no (sound, sym (type_is c.args.self.now kept w fs h c.args.n image head c.word.ensures) ∙ c.if-word.false))
+returns-in_err-at-clause-none c = grind (arith, common_steps, type_is)
 
 pub returns-clause-some : goal.returns-clause-some
 returns-clause-some c = λ w fs h.
@@ -57,18 +46,7 @@ returns-clause-some c = λ w fs h.
     ((λ e. (sound, sym type ∙ c.if-word.false)), (λ y. refl))
 
 pub returns-clause-file : goal.returns-clause-file
-returns-clause-file c = λ w fs h.
-    let kept = subst IsOfSurvey c.self.view_is c.self.invariant in
-    let image = c.in-Ok.ensures.image ∙ ap (λ v. v.image) c.self.view_is in
-    let head = c.number_at-head.ensures ∙ (λ i. slice_index (c.self.view_is i).nodes (c.n.view_is i)) in
-    let sound = (c.is_clear.ensures w fs h).0 c.if-not-is_clear.false in
-    c.in_ok-at.ensures.file ∙ file_is c.args.self.now kept w fs h c.args.n image head c.word.ensures c.args.grave sound c.if-word.false
+returns-clause-file c = grind (arith, common_steps, file_is)
 
 pub returns-in_err-at-clause-empty : goal.returns-in_err-at-clause-empty
-returns-in_err-at-clause-empty c = λ w fs h none.
-    let kept = subst IsOfSurvey c.self.view_is c.self.invariant in
-    let image = c.in-Ok.ensures.image ∙ ap (λ v. v.image) c.self.view_is in
-    let head = c.number_at-head.ensures ∙ (λ i. slice_index (c.self.view_is i).nodes (c.n.view_is i)) in
-    let sound = (c.is_clear.ensures w fs h).0 c.if-not-is_clear.false in
-    let same = file_is c.args.self.now kept w fs h c.args.n image head c.word.ensures c.args.grave sound c.if-word.false in
-    let no = c.in_err-at.ensures.empty (ap blocks_of same ∙ none) in absurd (cc)
+returns-in_err-at-clause-empty c = grind (arith, common_steps, file_is, blocks_of)

@@ -1,5 +1,5 @@
-use Rattle.std.specs.Prelude.{IfSome}
-use Rattle.std.proofs.Common.{◌≡◌, ◌≤◌, ◌<◌, ◌+◌, ◌*◌, ℕ, List, length, refl, ap, subst, arith}
+use Rattle.std.proofs.Common.{◌≡◌, ◌≤◌, ◌<◌, ◌+◌, ◌*◌, length, refl, ap, arith}
+use Rattle.std.proofs.lemmas.Grind.{common_steps}
 use Rattle.adf_blocks.specs.Sizes.{blocks}
 use Rattle.adf_base.specs.Words.{block}
 use Rattle.adf_volume.specs.Walk.{node_block}
@@ -18,9 +18,7 @@ returns-in-Some-clause-some c = λ w fs h.
     ((λ e. k), (λ y. c.at.ensures.whole.1 le))
 
 pub returns-in-Some-clause-block : goal.returns-in-Some-clause-block
-returns-in-Some-clause-block c = λ w fs h.
-    let at : c.in-Some.b ≡ node_block w c.args.n = c.in-Some.ensures.block w fs h in
-    subst (λ (y : List ℕ × ℕ). IfSome c.at.result (λ x. x ≡ block y.0 y.1)) (λ i. ((c.self.view_is i).image, at i)) c.at.ensures.bytes
+returns-in-Some-clause-block c = grind (arith, common_steps)
 
 pub returns-in-None-clause-some : goal.returns-in-None-clause-some
 returns-in-None-clause-some c = λ w fs h. ((λ e. cc), (λ y. (c.in-None.ensures.some w fs h).1 y))

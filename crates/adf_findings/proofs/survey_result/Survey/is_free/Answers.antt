@@ -1,10 +1,10 @@
 use Rattle.std.proofs.Common.{ap, subst, ◌∙◌, arith, ◌-◌, ◌/◌, ◌%◌}
+use Rattle.std.proofs.lemmas.Grind.{common_steps}
 use Rattle.adf_blocks.specs.declared.layout.TheConstants.{PAGE_BITS}
 use Rattle.adf_volume.specs.Walk.Role.{Page}
 use Rattle.adf_findings.specs.Found.{IsBitOf}
 use Rattle.adf_findings.specs.Parts.{key_of}
-use Rattle.adf_findings.specs.Start.{unread_findings}
-use Rattle.adf_findings.specs.Survey.{IsValidated, UnreadTells}
+use Rattle.adf_findings.specs.Survey.{IsValidated}
 use Rattle.adf_findings.specs.SurveyResult.{IsOfSurvey, block_at}
 use Rattle.adf_findings.proofs.BitsStated.{bit_stated}
 use Rattle.adf_findings.proofs.Keeping.{tells_each}
@@ -12,13 +12,7 @@ use Rattle.adf_findings.proofs.Openings.{page_begun}
 use Rattle.adf_findings.proofs.survey_result.Survey.is_free.Goals as goal
 
 pub returns-in_default-clause-some : goal.returns-in_default-clause-some
-returns-in_default-clause-some c = λ w fs h. (
-  (λ e. cc),
-  (λ y.
-      let gs = unread_findings c.in_default.field-0 in
-      let none = subst (λ i. UnreadTells i gs) (ap (λ v. v.image) c.self.view_is) c.in_default.ensures.unread in
-      absurd (page_begun c.args.self.now.image w fs gs h none ((c.args.b - 2) / PAGE_BITS) y.2.0 y.2.1)),
-)
+returns-in_default-clause-some c = grind (arith, common_steps, page_begun)
 
 pub returns-clause-some : goal.returns-clause-some
 returns-clause-some c = λ w fs h.

@@ -1,5 +1,6 @@
 use Rattle.std.specs.Prelude.{slice_index}
-use Rattle.std.proofs.Common.{◌≡◌, ap, subst, ◌∙◌}
+use Rattle.std.proofs.Common.{ap, subst, ◌∙◌, arith}
+use Rattle.std.proofs.lemmas.Grind.{common_steps}
 use Rattle.adf_volume.specs.Walk.{node_block}
 use Rattle.adf_findings.specs.Remains.{blocks_stated, size_stated}
 use Rattle.adf_findings.specs.Start.{unread_findings}
@@ -44,11 +45,4 @@ returns-in-Ok-left_of-clause-gaps c = λ w fs h.
     (λ i. size_stated (image i) (head i)) (λ i. blocks_stated (image i) (head i))).1
 
 pub returns-in-Err-clause-empty : goal.returns-in-Err-clause-empty
-returns-in-Err-clause-empty c = λ w fs h none.
-    let v = c.args.self.now in
-    let t = tells_each v (subst IsOfSurvey c.self.view_is c.self.invariant) w fs h in
-    let image = c.in-Ok.ensures.image ∙ ap (λ v. v.image) c.self.view_is in
-    let head = c.number_at-head.ensures ∙ ((λ i. slice_index (c.self.view_is i).nodes (c.n.view_is i)) ∙ t.node c.args.n) in
-    let same : blocks_stated c.in-Ok.started.image c.number_at-head.result ≡ blocks_stated v.image (node_block w c.args.n) =
-    λ i. blocks_stated (image i) (head i) in
-    let no = c.left_of.ensures.empty (same ∙ none) in cc
+returns-in-Err-clause-empty c = grind (arith, common_steps, tells_each)

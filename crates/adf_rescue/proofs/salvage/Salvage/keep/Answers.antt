@@ -1,15 +1,13 @@
 use Rattle.std.proofs.Common.{◌≤◌, ◌++◌, ◌∷◌, ◌∙◌, [], arith, subst, sym}
 use Rattle.std.specs.Prelude.{OnOk}
+use Rattle.std.proofs.lemmas.Grind.{common_steps}
 use Rattle.adf_rescue.specs.Rescue.{Look, Verdict}
 use Rattle.adf_rescue.specs.Salvage.{IsSalvage}
 use Rattle.adf_rescue.proofs.Steps.{room_none, room_some, verdict_at, verdict_err, verdict_none}
 use Rattle.adf_rescue.proofs.salvage.Salvage.keep.Goals as goal
 
 pub returns-in-Err : goal.returns-in-Err
-returns-in-Err c = λ g w fs sound vs survey is next new standing.
-    let l : Look = record { image = c.args.survey.now.image; walk = w; sound = sound } in
-    let same = verdict_err g l vs c.args.n new c.in-Err.why (sym standing ∙ c.in-Err.is) in
-    subst (λ (v : Verdict). OnOk c.leave.result (IsSalvage g (vs ++ v ∷ []) c.leave.new.self)) (sym same) (c.leave.ensures g vs is next.number)
+returns-in-Err c = grind (arith, common_steps, verdict_err)
 
 pub put-requires : goal.put-requires
 put-requires c =
@@ -31,12 +29,4 @@ returns-in-Some-2 c = λ g w fs sound vs survey is next new standing.
     (c.put.ensures g vs some.0 is some.2 next.number)
 
 pub returns-in-None : goal.returns-in-None
-returns-in-None c = λ g w fs sound vs survey is next new standing.
-    let l : Look = record { image = c.args.survey.now.image; walk = w; sound = sound } in
-    let low : 1 ≤ c.args.n = omega (arith, next.number) in
-    let rooms = c.in_ok-room.ensures g w fs vs survey is low next.within in
-    let none = room_none c.args.self.now.draft _ (rw c.in-None.is at rooms) in
-    let body = sym standing ∙ c.in-Ok.is in
-    let same = verdict_none g l vs c.args.n new c.in-Ok.body body none in
-    subst (λ (v : Verdict). OnOk c.leave-in-None.result (IsSalvage g (vs ++ v ∷ []) c.leave-in-None.new.self)) (sym same)
-    (c.leave-in-None.ensures g vs is next.number)
+returns-in-None c = grind (arith, common_steps, room_none, verdict_none)

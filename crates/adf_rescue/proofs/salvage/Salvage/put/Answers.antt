@@ -1,12 +1,13 @@
 use Rattle.std.proofs.Common.{◌≡◌, ◌≤◌, ◌<◌, ◌++◌, ◌∷◌, ◌∙◌, ◌^◌, ℕ, List, Some, None, cond, [], ap, arith, length, subst, sym}
 use Rattle.std.specs.Prelude.{OnOk}
+use Rattle.std.proofs.lemmas.Result.{on_ok_weaker}
 use Rattle.adf_tree.specs.declared.entry.Body.TheVariants.{Dir}
 use Rattle.adf_tree.specs.Draft.{DraftValue, IsDirectoryOf}
 use Rattle.adf_rescue.specs.declared.salvage.Salvage.{Salvage}
 use Rattle.adf_tree.specs.Additions.{Addition}
 use Rattle.adf_rescue.specs.Rescue.{Verdict}
 use Rattle.adf_rescue.specs.Salvage.{IsSalvage}
-use Rattle.adf_rescue.proofs.Steps.{added_more, fits_not, new_place, on_ok_then}
+use Rattle.adf_rescue.proofs.Steps.{added_more, fits_not, new_place}
 use Rattle.adf_rescue.proofs.salvage.Salvage.put.Goals as goal
 
 pub returns-then-cost-from : goal.returns-then-cost-from
@@ -31,10 +32,10 @@ returns c = λ g vs path is room at.
     λ dir. subst (λ (d : DraftValue). IsDirectoryOf d path c.len.result) (sym drafts)
     (subst (λ m. IsDirectoryOf c.put.new.self path m) (sym number) (c.in_ok-put.ensures.directory path room dir)) in
     let place = c.place_if-place.ensures ∙ ap (λ b. cond b (Some c.len.result) None) c.is_directory-adds_directory.ensures in
-    on_ok_then c.keep_place.result c.keep_place.ensures.places (λ places.
+    on_ok_weaker c.keep_place.result (λ places.
     added_more g vs c.args.self.now x is c.cost_of-cost.result c.cost_of-cost.ensures c.keep_place.new.self c.place_if-place.result small enough
     (ap (λ (r : Salvage). r.draft.tree) rest ∙ c.in_ok-put.ensures.tree path room)
     (ap (λ (r : Salvage). length r.draft.nodes) rest ∙ count)
     dirs (new_place c.keep_place.new.self.draft path c.args.meta c.args.body c.len.result c.place_if-place.result place fresh)
     (ap (λ (r : Salvage). r.kind) rest) (ap (λ (r : Salvage). r.left) rest) places (ap (λ (r : Salvage). r.left_out.items) rest) (ap (λ (r : Salvage). r.known) rest)
-    (ap (λ (r : Salvage). r.left_before) rest))
+    (ap (λ (r : Salvage). r.left_before) rest)) c.keep_place.ensures.places

@@ -1,4 +1,5 @@
 use Rattle.std.proofs.Common.{set, ℕ, subst, arith}
+use Rattle.std.proofs.lemmas.Grind.{common_steps}
 use Rattle.adf_tree.specs.Texts.{uppers}
 use Rattle.adf_tree.specs.ChildMap.{HasNumber}
 use Rattle.adf_tree.proofs.ChildMaps.{has_number, same_number_in}
@@ -14,7 +15,4 @@ returns-in-Ok-clause-more c =
     c.of-key.ensures.short c.in-Ok.ensures.updates)
 
 pub returns-in-Err-clause-same : goal.returns-in-Err-clause-same
-returns-in-Err-clause-same c = λ p x.
-    same_number_in c.args.self.now.buckets.items c.make_buckets.new.self.buckets.items c.bucket.result c.index_mut.result.now c.insert.new.self p x
-    c.in_ok-make_buckets.ensures.same
-    (omega (arith, c.in_ok-make_buckets.ensures.full, c.bucket.ensures.below)) c.index_mut.ensures.value c.in-Err.ensures.err
+returns-in-Err-clause-same c = grind (arith, common_steps, same_number_in)

@@ -1,4 +1,5 @@
-use Rattle.std.proofs.Common.{List}
+use Rattle.std.proofs.Common.{List, arith}
+use Rattle.std.proofs.lemmas.Grind.{common_steps}
 use Rattle.adf_tree.specs.declared.entry.Entry.{Entry}
 use Rattle.adf_tree.proofs.DraftInvariant.{kept_draft}
 use Rattle.adf_tree.proofs.DraftDirectories.{put_count, put_directories, put_directory}
@@ -32,10 +33,7 @@ returns-clause-tree c = rw (← c.self.view_is) (λ path is.
     (rw c.copy-name.ensures at c.add_child.ensures.entries))
 
 pub returns-clause-count : goal.returns-clause-count
-returns-clause-count c = rw (← c.self.view_is) (λ path is.
-    put_count c.self.inside.entries.items c.self.inside.children.buckets.items c.self.inside.kind c.self.inside.label c.self.inside.stamps c.self.invariant
-    path c.args.room.now is c.args.meta c.args.body c.add_child.new.entries.items c.add_child.result
-    (rw c.copy-name.ensures at c.add_child.ensures.entries))
+returns-clause-count c = grind (arith, common_steps, put_count)
 
 pub returns-clause-directories : goal.returns-clause-directories
 returns-clause-directories c = rw (← c.self.view_is) (λ path other m is.
@@ -44,7 +42,4 @@ returns-clause-directories c = rw (← c.self.view_is) (λ path other m is.
     (rw c.copy-name.ensures at c.add_child.ensures.entries) other m)
 
 pub returns-clause-directory : goal.returns-clause-directory
-returns-clause-directory c = rw (← c.self.view_is) (λ path is.
-    put_directory c.self.inside.entries.items c.self.inside.children.buckets.items c.self.inside.kind c.self.inside.label c.self.inside.stamps
-    c.self.invariant path c.args.room.now is c.args.meta c.args.body c.add_child.new.entries.items c.add_child.result
-    (rw c.copy-name.ensures at c.add_child.ensures.entries))
+returns-clause-directory c = grind (arith, common_steps, put_directory)

@@ -1,5 +1,5 @@
-use Rattle.std.proofs.Common.{◌≡◌, ◌++◌, sym, Result, Ok, Err}
-use Rattle.std.specs.Prelude.{OnOk}
+use Rattle.std.proofs.Common.{◌≡◌, ◌++◌, sym}
+use Rattle.std.proofs.lemmas.Result.{on_ok_weaker}
 use Rattle.adf_tree.specs.Texts.{uppers}
 use Rattle.adf_tree.specs.NameKeys.{key_of_name}
 use Rattle.adf_tree.specs.NameSet.{has, is_among, IsWith}
@@ -14,11 +14,6 @@ returns-clause-new c =
     rw (c.in_ok-make_room.ensures.same c.of-key.result, c.self.view_is, c.of-key.ensures.key) (sym (has_key old bytes c.of-key.ensures.short)) in
     rw (← same) c.place.ensures.new
 
--- what follows of an Ok
-ok_more : {X Y P Q : Type 0} (r : Result X Y) → (P → Q) → OnOk r P → OnOk r Q
-ok_more (Ok x) f p = f p
-ok_more (Err y) f p = p
-
 pub returns-clause-more : goal.returns-clause-more
 returns-clause-more c =
     let old = c.args.self.now in
@@ -27,4 +22,4 @@ returns-clause-more c =
     let bytes = uppers c.args.name.now in
     let with : IsWith before new c.of-key.result → IsWith old new (key_of_name bytes) =
     λ more k. rw (more k, c.in_ok-make_room.ensures.same k, c.self.view_is, c.of-key.ensures.key) in
-    ok_more c.place.result (λ more x. has_more old new bytes x c.of-key.ensures.short (with more)) c.place.ensures.more
+    on_ok_weaker c.place.result (λ more x. has_more old new bytes x c.of-key.ensures.short (with more)) c.place.ensures.more
