@@ -3,13 +3,13 @@ use Rattle.std.proofs.Common.{◌≡◌, ◌≢◌, ◌≤◌, ◌<◌, ℕ, ◌
 use Rattle.std.proofs.Common.{inr, length-append, length-drop, append_assoc, append-nil, zero, suc, add-one, get_or}
 use Rattle.std.specs.Prelude.{sum, slice_range, reverse}
 use Rattle.std.specs.List.{flat_map}
-use Rattle.std.proofs.lemmas.Grind.{flat_map-append}
+use Rattle.std.proofs.lemmas.Grind.{flat_map-append, common_steps}
 use Rattle.std.proofs.lemmas.Bool.{cases_lt}
 use Rattle.std.proofs.lemmas.List.{drop-drop, take_at, drop_at, take-append-le, length-take-le, take-take, take_more}
 use Rattle.std.proofs.lemmas.List.{take-append-drop, length-reverse, reverse-append}
 use Rattle.std.proofs.lemmas.List.FromFn.{sum_by-map-range_with_len_more}
-use Rattle.byteorder.specs.Endian.{big_number, big_bytes}
-use Rattle.byteorder.specs.Numbers.{big_number-reads_back, length-bytes_high_first}
+use Rattle.byteorder.specs.Endian.{big_bytes}
+use Rattle.byteorder.specs.Numbers.{length-bytes_high_first}
 use Rattle.std.proofs.lemmas.Slice.{between_is}
 use Rattle.std.proofs.Math.Seq.{drop-append-add}
 use borrow.Rule.Slice.PartMut.{put_mid}
@@ -49,19 +49,13 @@ front-with_bytes bs from xs h = take_at (take from bs) (xs ++ drop (from + lengt
 pub range-with_bytes_same : (bs : List ℕ) (from : ℕ) (xs : List ℕ) (to : ℕ) → from ≤ length bs → to ≡ from + length xs
     → slice_range (with_bytes bs from xs) from to ≡ xs
 unfolding with_bytes
-range-with_bytes_same bs from xs to h e =
-    let n : to - from ≡ length xs = omega arith in
-    rw (drop_at (take from bs) (xs ++ drop (from + length xs) bs) from (length-take-le from bs h), n)
-    (take_at xs (drop (from + length xs) bs) (length xs) refl)
+range-with_bytes_same bs from xs to h e = grind (arith, common_steps, drop_at, length-take-le, take_at)
 
 -- the bytes before
 pub range-with_bytes_below : (bs : List ℕ) (from : ℕ) (xs : List ℕ) (a b : ℕ) → from ≤ length bs → b ≤ from
     → slice_range (with_bytes bs from xs) a b ≡ slice_range bs a b
 unfolding with_bytes
-range-with_bytes_below bs from xs a b h le =
-    let front : take b (with_bytes bs from xs) ≡ take b bs =
-    take-append-le b (take from bs) (xs ++ drop (from + length xs) bs) (omega (arith, length-take-le from bs h)) ∙ take-take b from bs le in
-    between_is (with_bytes bs from xs) a b ∙ ap (drop a) front ∙ sym (between_is bs a b)
+range-with_bytes_below bs from xs a b h le = grind (arith, common_steps, take-append-le, length-take-le, take-take, between_is)
 
 -- what lies past the bytes written
 pub drop-with_bytes_above : (bs : List ℕ) (from : ℕ) (xs : List ℕ) (a : ℕ) → from ≤ length bs → from + length xs ≤ a
@@ -83,36 +77,22 @@ drop-with_bytes_above bs from xs a h le =
 pub range-with_bytes_above : (bs : List ℕ) (from : ℕ) (xs : List ℕ) (a b : ℕ) → from ≤ length bs → from + length xs ≤ a
     → slice_range (with_bytes bs from xs) a b ≡ slice_range bs a b
 unfolding with_bytes
-range-with_bytes_above bs from xs a b h le =
-    ap (take (b - a)) (drop-with_bytes_above bs from xs a h le)
+range-with_bytes_above bs from xs a b h le = grind (arith, common_steps, drop-with_bytes_above)
 
 -- the word written
 pub word-with_word_same : (bs : List ℕ) (i v : ℕ) → 4 * i + 4 ≤ length bs → v < 2 ^ 32 → word (with_word bs i v) i ≡ v
 unfolding word
-word-with_word_same bs i v h small =
-    let n : 4 * i + 4 ≡ 4 * i + length (big_bytes 4 v) = ap (λ k. 4 * i + k) (sym (length-bytes_high_first 4 v)) in
-    ap (big_number 4) (range-with_bytes_same bs (4 * i) (big_bytes 4 v) (4 * i + 4) (omega arith) n) ∙ ap (big_number 4) (sym (append-nil (big_bytes 4 v)))
-    ∙ big_number-reads_back 4 v [] small
+word-with_word_same bs i v h small = grind (arith, common_steps, range-with_bytes_same, append-nil)
 
 -- the other words
 pub word-with_word_other : (bs : List ℕ) (i v j : ℕ) → 4 * i + 4 ≤ length bs → j ≢ i → word (with_word bs i v) j ≡ word bs j
 unfolding word
-word-with_word_other bs i v j h ne = elim (cases_lt j i) [
-  | inl below ↦ ap (big_number 4) (range-with_bytes_below bs (4 * i) (big_bytes 4 v) (4 * j) (4 * j + 4) (omega arith) (omega arith))
-  | inr from ↦
-      let above : i < j = omega arith in
-      ap (big_number 4) (range-with_bytes_above bs (4 * i) (big_bytes 4 v) (4 * j) (4 * j + 4) (omega arith) (omega (arith, length-bytes_high_first 4 v)))
-]
+word-with_word_other bs i v j h ne = grind (arith, common_steps, cases_lt, range-with_bytes_below, range-with_bytes_above)
 
 -- the later of two writes to one place
 pub with_bytes-with_bytes : (bs : List ℕ) (from : ℕ) (xs ys : List ℕ) → from + length xs ≤ length bs → length xs ≡ length ys
     → with_bytes (with_bytes bs from xs) from ys ≡ with_bytes bs from ys
-with_bytes-with_bytes bs from xs ys h e =
-    let past : drop (from + length ys) (with_bytes bs from xs) ≡ drop (from + length ys) bs =
-    drop-with_bytes_above bs from xs (from + length ys) (omega arith) (omega arith) in
-    let front : take from (with_bytes bs from xs) ≡ take from bs = front-with_bytes bs from xs (omega arith) in
-    with_bytes_is (with_bytes bs from xs) from ys ∙ ap (λ p. p ++ (ys ++ drop (from + length ys) (with_bytes bs from xs))) front
-    ∙ ap (λ q. take from bs ++ (ys ++ q)) past ∙ sym (with_bytes_is bs from ys)
+with_bytes-with_bytes bs from xs ys h e = grind (arith, common_steps, drop-with_bytes_above, front-with_bytes, with_bytes_is)
 
 -- the sum of the words before word i, after a write of it
 sum-with_word_past : (bs : List ℕ) (i v n : ℕ) → 4 * i + 4 ≤ length bs → n ≤ i → sum (words n (with_word bs i v)) ≡ sum (words n bs)
@@ -160,12 +140,7 @@ block_written image b bs h len = range-with_bytes_same image (b * 512) bs (b * 5
 pub block_other : (image : List ℕ) (b c : ℕ) (bs : List ℕ) → b * 512 + 512 ≤ length image → length bs ≡ 512 → c ≢ b
     → block (with_block image b bs) c ≡ block image c
 unfolding block
-block_other image b c bs h len ne = elim (cases_lt c b) [
-  | inl below ↦ range-with_bytes_below image (b * 512) bs (c * 512) (c * 512 + 512) (omega arith) (omega arith)
-  | inr from ↦
-      let above : b < c = omega arith in
-      range-with_bytes_above image (b * 512) bs (c * 512) (c * 512 + 512) (omega arith) (omega arith)
-]
+block_other image b c bs h len ne = grind (arith, common_steps, cases_lt, range-with_bytes_below, range-with_bytes_above)
 
 pub length-block : (image : List ℕ) (b : ℕ) → b * 512 + 512 ≤ length image → length (block image b) ≡ 512
 unfolding block
@@ -177,10 +152,7 @@ length-big_bytes n v = length-bytes_high_first n v
 -- how a block is sealed: its word is zeroed, and then takes what the sum lacks
 pub seal_is : (bs : List ℕ) (i s n : ℕ) → 4 * i + 4 ≤ length bs → s ≡ long_sum (with_word bs i 0) → n < 2 ^ 32 → (n + s) % 2 ^ 32 ≡ 0
     → with_word (with_word bs i 0) i n ≡ sealed i bs
-seal_is bs i s n h e small zero_sum =
-    let same : n ≡ checksum i bs = omega arith in
-    let lens : length (big_bytes 4 0) ≡ length (big_bytes 4 n) = length-big_bytes 4 0 ∙ sym (length-big_bytes 4 n) in
-    with_bytes-with_bytes bs (4 * i) (big_bytes 4 0) (big_bytes 4 n) (omega (arith, length-big_bytes 4 0)) lens ∙ ap (with_word bs i) same
+seal_is bs i s n h e small zero_sum = grind (arith, common_steps, length-big_bytes, with_bytes-with_bytes)
 
 -- a sealed block keeps its length
 pub length-with_word : (bs : List ℕ) (i v : ℕ) → 4 * i + 4 ≤ length bs → length (with_word bs i v) ≡ length bs
@@ -188,10 +160,7 @@ length-with_word bs i v h = length-with_bytes bs (4 * i) (big_bytes 4 v) (omega 
 
 -- the sum of a block that was sealed in an image
 pub sealed_block : (image : List ℕ) (b i : ℕ) → b * 512 + 512 ≤ length image → i < 128 → long_sum (block (with_block image b (sealed i (block image b))) b) ≡ 0
-sealed_block image b i h lt =
-    let len = length-block image b h in
-    ap long_sum (block_written image b (sealed i (block image b)) h
-    (length-with_word (block image b) i (checksum i (block image b)) (omega arith) ∙ len)) ∙ long_sum-sealed i (block image b) lt len
+sealed_block image b i h lt = grind (arith, common_steps, length-block, block_written, length-with_word, long_sum-sealed)
 
 -- nothing written
 pub no_bytes_put : (bs : List ℕ) (from : ℕ) → with_bytes bs from [] ≡ bs
@@ -226,32 +195,12 @@ length_longs (w ∷ ws) =
 pub words_put : (bs : List ℕ) (i at : ℕ) (ws : List ℕ) (k w : ℕ) → 4 * (i + length ws) ≤ length bs → k < length ws → w ≡ get_or ws k 0 → at ≡ i + k
     → with_word (with_bytes bs (4 * i) (flat_map (big_bytes 4) (take k ws))) at w ≡ with_bytes bs (4 * i) (flat_map (big_bytes 4) (take (k + 1) ws))
 words_put bs i at ws k w room lt e place =
-    let n : length (flat_map (big_bytes 4) (take k ws)) ≡ 4 * k =
-    length_longs (take k ws) ∙ ap (λ m. 4 * m) (length-take-le k ws (omega arith)) in
-    let more : flat_map (big_bytes 4) (take (k + 1) ws) ≡ flat_map (big_bytes 4) (take k ws) ++ big_bytes 4 w =
-    ap (flat_map (big_bytes 4)) (take_more ws k 0 lt ∙ ap (λ x. take k ws ++ x ∷ []) (sym e))
-    ∙ flat_map-append (big_bytes 4) (take k ws) (w ∷ [])
-    ∙ ap (λ q. flat_map (big_bytes 4) (take k ws) ++ q) (append-nil (big_bytes 4 w)) in
-    side_by_side bs (4 * i) (4 * at) (flat_map (big_bytes 4) (take k ws)) (big_bytes 4 w) (omega (arith, length-big_bytes 4 w)) (omega arith)
-    ∙ ap (with_bytes bs (4 * i)) (sym more)
+    grind (arith, common_steps, length_longs, length-take-le, take_more, flat_map-append, append-nil, side_by_side, length-big_bytes)
 
 -- a write just before another
 pub just_before : (bs : List ℕ) (from at : ℕ) (xs ys : List ℕ) → from + length xs ≤ length bs → at + length ys ≡ from
     → with_bytes (with_bytes bs from xs) at ys ≡ with_bytes bs at (ys ++ xs)
-just_before bs from at xs ys h e =
-    let front : take at (with_bytes bs from xs) ≡ take at bs =
-    sym (take-take at from (with_bytes bs from xs) (omega arith)) ∙ ap (take at) (front-with_bytes bs from xs (omega arith))
-    ∙ take-take at from bs (omega arith) in
-    let past : drop (at + length ys) (with_bytes bs from xs) ≡ xs ++ drop (at + length (ys ++ xs)) bs =
-    ap (λ k. drop k (with_bytes bs from xs)) e
-    ∙ ap (drop from) (with_bytes_is bs from xs)
-    ∙ drop_at (take from bs) (xs ++ drop (from + length xs) bs) from (length-take-le from bs (omega arith))
-    ∙ ap (λ k. xs ++ drop k bs) (omega (arith, length-append ys xs)) in
-    with_bytes_is (with_bytes bs from xs) at ys
-    ∙ ap (λ p. p ++ (ys ++ drop (at + length ys) (with_bytes bs from xs))) front
-    ∙ ap (λ q. take at bs ++ (ys ++ q)) past
-    ∙ ap (λ q. take at bs ++ q) (sym (append_assoc ys xs (drop (at + length (ys ++ xs)) bs)))
-    ∙ sym (with_bytes_is bs at (ys ++ xs))
+just_before bs from at xs ys h e = grind (arith, common_steps, take-take, front-with_bytes, with_bytes_is, drop_at, length-take-le, length-append, append_assoc)
 
 -- one word more is written downwards
 pub words_put_down : (bs : List ℕ) (i at : ℕ) (ws : List ℕ) (k w : ℕ) → 4 * i + 4 ≤ length bs → length ws ≤ i + 1 → k < length ws → w ≡ get_or ws k 0
@@ -259,13 +208,4 @@ pub words_put_down : (bs : List ℕ) (i at : ℕ) (ws : List ℕ) (k w : ℕ) �
     → with_word (with_bytes bs (4 * (i + 1 - k)) (flat_map (big_bytes 4) (reverse (take k ws)))) at w
     ≡ with_bytes bs (4 * (i + 1 - (k + 1))) (flat_map (big_bytes 4) (reverse (take (k + 1) ws)))
 words_put_down bs i at ws k w room short lt e place =
-    let n : length (flat_map (big_bytes 4) (reverse (take k ws))) ≡ 4 * k =
-    length_longs (reverse (take k ws)) ∙ ap (λ m. 4 * m) (length-reverse (take k ws) ∙ length-take-le k ws (omega arith)) in
-    let more : flat_map (big_bytes 4) (reverse (take (k + 1) ws)) ≡ big_bytes 4 w ++ flat_map (big_bytes 4) (reverse (take k ws)) =
-    ap (λ x. flat_map (big_bytes 4) (reverse x)) (take_more ws k 0 lt ∙ ap (λ x. take k ws ++ x ∷ []) (sym e))
-    ∙ ap (flat_map (big_bytes 4)) (reverse-append (take k ws) (w ∷ [])) in
-    let here : 4 * at ≡ 4 * (i + 1 - (k + 1)) = omega arith in
-    just_before bs (4 * (i + 1 - k)) (4 * at) (flat_map (big_bytes 4) (reverse (take k ws))) (big_bytes 4 w) (omega arith)
-    (omega (arith, length-big_bytes 4 w))
-    ∙ ap (with_bytes bs (4 * at)) (sym more)
-    ∙ ap (λ p. with_bytes bs p (flat_map (big_bytes 4) (reverse (take (k + 1) ws)))) here
+    grind (arith, common_steps, length_longs, length-reverse, length-take-le, take_more, reverse-append, just_before, length-big_bytes)

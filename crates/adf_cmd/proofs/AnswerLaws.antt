@@ -1,6 +1,7 @@
 -- From outcomes to answers.
-use Rattle.std.proofs.Common.{◌≡◌, ap, inl, inr, ℕ, Bool, false, List, [], Option, Some, Err, refl, sym, subst}
+use Rattle.std.proofs.Common.{◌≡◌, ap, inl, inr, ℕ, Bool, false, List, [], Option, Some, Err, refl, sym, subst, arith}
 use Rattle.std.specs.Prelude.{string_bytes}
+use Rattle.std.proofs.lemmas.Grind.{common_steps}
 use Rattle.adf_fields.proofs.DateTexts.{date_of, date_of_is}
 use Rattle.adf_tree.specs.PathTexts.{IsPathText}
 use Rattle.adf_tree.specs.Tree.{Tree, entry, find, with_kind}
@@ -57,17 +58,12 @@ fault_ends _ lines input f o why h = absurd h
 -- an image that was built of a tree is the one that is laid of it
 pub is_built : (image : List ℕ) (tree : Tree) (n : ℕ) → image ≡ volume tree n → IsBuildable tree n → IsLaid image tree → Fits image tree (planned tree n)
     → IsBuilt tree n
-is_built image tree n e room laid fits = record {
-  room = room;
-  laid = subst (λ i. IsLaid i tree) e laid;
-  fits = subst (λ i. Fits i tree (planned tree n)) e fits;
-}
+is_built image tree n e room laid fits = grind (arith, common_steps)
 
 -- what builds the tree of a manifest answers its building
 pub build_ends : (w : Outcome) (lines : Bool) (input : List ℕ) (tree : Tree) (n : ℕ) (o o' : Option (List ℕ)) → IsManifest input tree n
     → EndsBy (BuildsOrIsFull lines tree n) w o o' → EndsBy (Answer (build lines) input) w o o'
-build_ends w lines input tree n o o' m h =
-    ends_weaker (BuildsOrIsFull lines tree n) (Answer (build lines) input) w o o' (λ reply builds. inl (tree, n, m, builds)) h
+build_ends w lines input tree n o o' m h = grind (arith, common_steps, ends_weaker)
 
 -- what builds the tree of an image as one of another kind answers its conversion
 pub convert_ends : (w : Outcome) (kind : Kind) (image : List ℕ) (t : Tree) (l : Layout) (n : ℕ) (o o' : Option (List ℕ)) → Fits image t l → n ≡ blocks image
@@ -80,8 +76,7 @@ convert_ends w kind image t l n o o' fits e h =
 -- the bytes of a file are what its path leads to
 file_at : (t : Tree) (names : List (List ℕ)) (node : ℕ) (bytes : List ℕ) → Some node ≡ find t.entries names → Some bytes ≡ bytes_of (entry t.entries node)
     → contents_at t names ≡ Some (Some bytes)
-file_at t names node bytes e f =
-    rw (← e, f)
+file_at t names node bytes e f = grind (arith, common_steps)
 
 pub file_copied : (t : Tree) (names : List (List ℕ)) (node : ℕ) (bytes : List ℕ) → Some node ≡ find t.entries names
     → Some bytes ≡ bytes_of (entry t.entries node) → Copies (contents_at t names) (on_output 0 bytes)
@@ -90,5 +85,4 @@ file_copied t names node bytes e f = subst (λ found. Copies found (on_output 0 
 -- what copies what a path leads to answers the request for it
 pub copy_ends : (w : Outcome) (path : List ℕ) (names : List (List ℕ)) (image : List ℕ) (t : Tree) (l : Layout) (o o' : Option (List ℕ))
     → IsPathText path names → Fits image t l → EndsBy (Copies (contents_at t names)) w o o' → EndsBy (Answer (cat path) image) w o o'
-copy_ends w path names image t l o o' text fits h =
-    ends_weaker (Copies (contents_at t names)) (Answer (cat path) image) w o o' (λ reply copies. inr (inl (names, text, t, l, fits, copies))) h
+copy_ends w path names image t l o o' text fits h = grind (arith, common_steps, ends_weaker)

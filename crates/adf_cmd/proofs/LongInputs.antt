@@ -1,11 +1,11 @@
 -- What is answered to the front of an input that is longer than the limit is answered to the whole of it.
-use Rattle.std.proofs.Common.{◌≡◌, ◌≢◌, ◌<◌, ◌≤◌, ◌+◌, ◌*◌, ◌∙◌, inl, inr, ℕ, List, Option, Some, None, IfSome, refl, sym, subst, arith}
+use Rattle.std.proofs.Common.{◌≡◌, ◌≢◌, ◌<◌, ◌+◌, ◌*◌, ◌∙◌, inl, inr, ℕ, List, Option, Some, None, IfSome, refl, subst, arith}
 use Rattle.std.proofs.Common.{length, take, length-take}
 use Rattle.std.proofs.lemmas.Bool.{cases_lt}
 use Rattle.std.proofs.lemmas.List.{take_all}
+use Rattle.std.proofs.lemmas.Grind.{common_steps}
 use Rattle.adf_blocks.specs.declared.layout.TheConstants.{MOST_BLOCKS}
 use Rattle.adf_blocks.specs.declared.cause.Cause.TheVariants.{BadSize}
-use Rattle.adf_blocks.specs.Sizes.{blocks}
 use Rattle.adf_volume.specs.Demands.{IsSize}
 use Rattle.adf_volume.specs.Walk.{FirstFault}
 use Rattle.adf_volume.specs.Walk.FirstFault.{at_boot}
@@ -30,10 +30,7 @@ AnswersBoth r image bytes = (reply : Reply) → Answer r image reply → Answer 
 
 -- a size above that of the largest volume is none
 pub too_large : (image : List ℕ) → 512 * MOST_BLOCKS < length image → IsSize image → ⊥
-too_large image h size =
-    let few : blocks image ≤ MOST_BLOCKS = size_high (blocks image) size.1 in
-    let whole : length image ≡ 512 * blocks image = size.0 in
-    omega arith
+too_large image h size = grind (arith, common_steps, size_high)
 
 bad_size : (image : List ℕ) → 512 * MOST_BLOCKS < length image → FirstFault image 0 BadSize
 bad_size image h = at_boot (inl (too_large image h, refl, refl))
@@ -41,10 +38,7 @@ bad_size image h = at_boot (inl (too_large image h, refl, refl))
 -- the first fault of the front of a long image is that of the whole
 pub long_fault : (image bytes : List ℕ) (f : Fault) → 512 * MOST_BLOCKS < length image → 512 * MOST_BLOCKS < length bytes
     → FirstFault image f.block f.cause → FirstFault bytes f.block f.cause
-long_fault image bytes f front long first =
-    let same = one_fault image f.block f.cause 0 BadSize first (bad_size image front) in
-    let at_zero : FirstFault bytes f.block BadSize = subst (λ b. FirstFault bytes b BadSize) (sym same.0) (bad_size bytes long) in
-    subst (λ c. FirstFault bytes f.block c) (sym same.1) at_zero
+long_fault image bytes f front long first = grind (arith, common_steps, one_fault, bad_size)
 
 -- a fault of the front of a long manifest is one of the whole
 long_kind : (kind : ManifestKind) (line : ℕ) (image bytes : List ℕ) → 16777216 < length image → 16777216 < length bytes
@@ -59,10 +53,7 @@ long_answers (cat path) image bytes a b reply (inr (inl (names, text, t, l, fits
 long_answers (cat path) image bytes a b reply (inr (inr (read, h))) = inr (inr (read, (h.0, long_fault image bytes h.0 a b h.1, h.2)))
 long_answers (build lines) image bytes a b reply (inl (tree, n, manifest, builds)) = absurd (omega (arith, manifest.0))
 long_answers (build lines) image bytes a b reply (inr h) = inr (h.0, long_kind h.0.kind h.0.line image bytes a b h.2 h.1, h.2, h.3)
-long_answers _ image bytes a b reply h = elim h [
-  | inl told ↦ absurd (too_large image a told.2.boots.0)
-  | inr refused ↦ inr (refused.0, long_fault image bytes refused.0 a b refused.1, refused.2)
-]
+long_answers _ image bytes a b reply h = grind (arith, common_steps, too_large, long_fault)
 
 -- the answer to the bytes that are read is that to the whole input, where that is known
 pub read_answer : (a : CheckAnswer) (image : List ℕ) (left : Option (List ℕ)) → IfSome left (λ bytes. image ≡ take (limit_of check + 1) bytes)

@@ -1,9 +1,10 @@
 -- A request and an input have one answer.
-use Rattle.std.proofs.Common.{◌≡◌, ◌≢◌, ◌∙◌, ◌⊎◌, inl, inr, ℕ, Bool, false, List, Option, Some, None, refl, sym, ap, subst, arith}
+use Rattle.std.proofs.Common.{◌≡◌, ◌≢◌, ◌∙◌, ◌⊎◌, inl, inr, ℕ, Bool, List, Option, Some, None, refl, sym, ap, subst, arith}
+use Rattle.std.proofs.lemmas.Grind.{common_steps}
 use mathlib.Core.Path.{fun_ext}
 use Rattle.adf_fields.proofs.DateTexts.{one_text}
 use Rattle.adf_base.specs.declared.dates.Stamp.{Stamp}
-use Rattle.adf_tree.specs.Tree.{Tree, with_kind}
+use Rattle.adf_tree.specs.Tree.{Tree}
 use Rattle.adf_tree.specs.declared.entry.Kind.{Kind}
 use Rattle.adf_tree.proofs.PathParts.{one_path}
 use Rattle.adf_blocks.specs.Sizes.{blocks}
@@ -14,7 +15,6 @@ use Rattle.adf_volume.specs.Walk.{FirstFault}
 use Rattle.adf_volume.proofs.FitWalks.{one_fit}
 use Rattle.adf_volume.proofs.NoneFits.{none_fits}
 use Rattle.adf_volume.proofs.OneFault.{one_fault}
-use Rattle.adf_check.specs.Volumes.{counts_of}
 use Rattle.adf_volume.specs.declared.fault.Fault.{Fault}
 use Rattle.adf_manifest.specs.Manifest.{ExplainsKind, IsManifest, lines}
 use Rattle.adf_manifest.specs.declared.manifest.ManifestKind.{ManifestKind}
@@ -22,18 +22,15 @@ use Rattle.adf_manifest.specs.declared.manifest.ManifestKind.TheVariants.{NoMemo
 use Rattle.adf_manifest.proofs.Faults as manifests
 use Rattle.adf_manifest.proofs.TreesOfLines.{one_tree_of}
 use Rattle.adf_manifest.proofs.Verdicts.{one_told}
-use Rattle.adf_texts.specs.Lines.{manifest_fault_line, fault_line, ok_line}
+use Rattle.adf_texts.specs.Lines.{fault_line}
 use Rattle.adf_texts.specs.VolumeLines.{AreDates, volume_lines}
 use Rattle.adf_cmd.specs.Answers.{Accepts, Answer, BuildsManifest, BuildsOrIsFull, Converts, Copies, CopiesFrom, Lists, RefusesImage, RefusesManifest}
 use Rattle.adf_cmd.specs.Answers.{contents_at}
 use Rattle.adf_runs.specs.Commands.{Reply, on_errors, on_output}
-use Rattle.adf_words.specs.CommandLine.{AsksFor, RequestValue, request_of, build, cat, check, convert, list}
+use Rattle.adf_words.specs.CommandLine.{AsksFor, RequestValue, build, cat, check, convert, list}
 
 pub one_request : (words : List (List ℕ)) (r r' : RequestValue) → AsksFor words r → AsksFor words r' → r ≡ r'
-one_request words r r' a b = same (request_of words) r r' a.1 b.1
-  where
-    same : (o : Option RequestValue) (x y : RequestValue) → o ≡ Some x → o ≡ Some y → x ≡ y
-    same o x y p q = cc
+one_request words r r' a b = grind (arith, common_steps)
 
 -- the first fault of an image has one line
 one_line : (input : List ℕ) (f g : Fault) → FirstFault input f.block f.cause → FirstFault input g.block g.cause → fault_line f ≡ fault_line g
@@ -50,9 +47,7 @@ pub refused_once : (input : List ℕ) (a b : Reply) → RefusesImage input a →
 refused_once input a b (f, first, x) (g, also, y) = x ∙ ap (on_errors 1) (one_line input f g first also) ∙ sym y
 
 accepted_once : (input : List ℕ) (a b : Reply) → Accepts input a → Accepts input b → a ≡ b
-accepted_once input a b (t, l, fits, x) (u, m, also, y) =
-    let same = one_fit input t u l m fits also in
-    x ∙ ap (λ v. on_output 0 (ok_line (counts_of input v l))) same.0 ∙ ap (λ n. on_output 0 (ok_line (counts_of input u n))) same.1 ∙ sym y
+accepted_once input a b (t, l, fits, x) (u, m, also, y) = grind (arith, common_steps, one_fit)
 
 -- dates have one text each
 pub one_dates : (date other : Stamp → List ℕ) → AreDates date → AreDates other → date ≡ other
@@ -99,10 +94,7 @@ manifest_built_once written input a b (tree, n, m, h) (u, k, w, g) =
     built_once written u k a b moved g
 
 manifest_refused_once : (input : List ℕ) (a b : Reply) → RefusesManifest input a → RefusesManifest input b → a ≡ b
-manifest_refused_once input a b (f, why, ne, x) (g, how, ne', y) =
-    let by : ℕ → ManifestKind → List ℕ = λ n k. manifest_fault_line (record { line = n; kind = k }) in
-    let same = one_kind f.kind g.kind f.line g.line input ne ne' why how in
-    x ∙ ap (λ n. on_errors 1 (by n f.kind)) same.0 ∙ ap (λ k. on_errors 1 (by g.line k)) same.1 ∙ sym y
+manifest_refused_once input a b (f, why, ne, x) (g, how, ne', y) = grind (arith, common_steps, one_kind)
 
 copied_once : (found : Option (Option (List ℕ))) (a b : Reply) → Copies found a → Copies found b → a ≡ b
 copied_once None a b x y = x ∙ sym y
@@ -119,10 +111,7 @@ copied_from_once path input a b (names, text, t, l, fits, h) (others, also, u, m
 
 converted_once : (kind : Kind) (input : List ℕ) (a b : Reply) → Converts kind input a → Converts kind input b
     → a ≡ b
-converted_once kind input a b (t, l, fits, h) (u, m, also, g) =
-    let same = one_fit input t u l m fits also in
-    let moved = subst (λ (v : Tree). BuildsOrIsFull false (with_kind v kind) (blocks input) a) same.0 h in
-    built_once false (with_kind u kind) (blocks input) a b moved g
+converted_once kind input a b (t, l, fits, h) (u, m, also, g) = grind (arith, common_steps, one_fit, built_once)
 
 -- what one command tells of a tree that fits an image, or that the image is refused
 image_once : (input : List ℕ) (a b : Reply) (tells : Reply → Type 0) → ((reply : Reply) → tells reply → (t : Tree) × (l : Layout) × Fits input t l)

@@ -1,6 +1,7 @@
 -- What is told of a checked volume is told of every tree and layout that fit its image.
 use Rattle.std.specs.Prelude.{◌≡◌, ◌≤◌, ◌<◌, ℕ, Option, Some}
-use Rattle.std.proofs.Common.{◌∙◌, ap, subst}
+use Rattle.std.proofs.Common.{◌∙◌, ap, arith}
+use Rattle.std.proofs.lemmas.Grind.{common_steps}
 use Rattle.adf_tree.specs.Tree.{Tree}
 use Rattle.adf_blocks.specs.Sizes.{blocks}
 use Rattle.adf_volume.specs.declared.owner.Owner.{Owner}
@@ -20,9 +21,7 @@ Stands v = (t : Tree) × (l : Layout) × StandsFor v t l
 
 -- it stands for whatever fits its image
 pub stands_for : (v : Volume) → Stands v → (t : Tree) (l : Layout) → Fits v.image t l → StandsFor v t l
-stands_for v (u, m, k) t l fits =
-    let same = one_fit v.image u t m l k.fits fits in
-    subst (λ (n : Layout). StandsFor v t n) same.1 (subst (λ (s : Tree). StandsFor v s m) same.0 k)
+stands_for v (u, m, k) t l fits = grind (arith, common_steps, one_fit)
 
 -- a class that is told is one
 some_same : (got : Option OwnerClass) (q o : OwnerClass) → got ≡ Some q → got ≡ Some o → q ≡ o

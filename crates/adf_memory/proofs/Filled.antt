@@ -1,10 +1,11 @@
 -- Rooms that are filled from the front.
 use Rattle.std.specs.Prelude.{◌≡◌, ◌+◌, ◌≤◌, ◌<◌, ℕ, List, [], ◌∷◌, ◌++◌, get_or, length, min, take, drop, set}
-use Rattle.std.proofs.Common.{zero, suc, refl, sym, ap, ◌∙◌, arith, inl, inr, append_assoc, length-append, length-take, take_all}
+use Rattle.std.proofs.Common.{zero, suc, refl, sym, ap, ◌∙◌, arith, append_assoc, length-append, length-take, take_all}
 use Rattle.std.proofs.Math.ListN.{drop_of_length-le}
 use Rattle.std.proofs.Math.Seq.{drop-nil, take-nil}
 use Rattle.std.proofs.lemmas.Bool.{cases_lt}
 use Rattle.std.proofs.lemmas.List.{length-take-le, take-append-drop, take-take, take_more}
+use Rattle.std.proofs.lemmas.Grind.{common_steps}
 use Rattle.adf_memory.specs.Rooms.{filled}
 
 -- the first members where there are none to take
@@ -50,13 +51,7 @@ filled_full (x ∷ xs) ys (r ∷ rs) le = ap (λ zs. x ∷ zs) (filled_full xs y
 -- data blocks that are put behind others, one by one
 pub blocks_more : (xs ds room now : List ℕ) (a i : ℕ) → a ≡ length xs → now ≡ filled (xs ++ take i ds) room → i < length ds → a + i < length now
     → set now (a + i) (get_or ds i 0) ≡ filled (xs ++ take (i + 1) ds) room
-blocks_more xs ds room now a i at e lt fits =
-    let long : length now ≡ length room = ap length e ∙ length_filled (xs ++ take i ds) room in
-    let many : a + i ≡ length (xs ++ take i ds) = omega (arith, length-append xs (take i ds), length-take-le i ds (omega arith)) in
-    let all : (xs ++ take i ds) ++ get_or ds i 0 ∷ [] ≡ xs ++ take (i + 1) ds =
-    append_assoc xs (take i ds) (get_or ds i 0 ∷ []) ∙ ap (λ ys. xs ++ ys) (sym (take_more ds i 0 lt)) in
-    ap (λ ys. set ys (a + i) (get_or ds i 0)) e ∙ filled_more (xs ++ take i ds) room (a + i) (get_or ds i 0) many (omega arith)
-    ∙ ap (λ ys. filled ys room) all
+blocks_more xs ds room now a i at e lt fits = grind (arith, common_steps, length_filled, length-append, length-take-le, append_assoc, take_more, filled_more)
 
 -- and where there is no more room
 pub blocks_full : (xs ds room now : List ℕ) (a i : ℕ) → a ≡ length xs → now ≡ filled (xs ++ take i ds) room → i ≤ length ds → length now ≤ a + i
@@ -71,41 +66,22 @@ blocks_full xs ds room now a i at e le full =
 -- where one is put behind those that are there, one more stands there
 pub one_put : {X : Type 0} (xs room now : List X) (i : ℕ) (x : X) → i ≡ length xs → now ≡ filled xs room → i < length now
     → set now i x ≡ filled (xs ++ x ∷ []) room
-one_put xs room now i x at e lt =
-    let long : length now ≡ length room = ap length e ∙ length_filled xs room in
-    ap (λ ys. set ys i x) e ∙ filled_more xs room i x at (omega arith)
+one_put xs room now i x at e lt = grind (arith, common_steps, length_filled, filled_more)
 
 -- and where there is no more room
 pub one_left : {X : Type 0} (xs room now : List X) (i : ℕ) (x : X) → i ≡ length xs → now ≡ filled xs room → length now ≤ i
     → now ≡ filled (xs ++ x ∷ []) room
-one_left xs room now i x at e le =
-    let long : length now ≡ length room = ap length e ∙ length_filled xs room in
-    e ∙ sym (filled_full xs (x ∷ []) room (omega arith))
+one_left xs room now i x at e le = grind (arith, common_steps, length_filled, filled_full)
 
 -- so many bytes from a place on, as far as there is room
 pub filled_part : (q m : ℕ) (xs room : List ℕ) → m ≡ min (length room) q → q ≤ length xs
     → take m xs ++ drop m room ≡ filled (take q xs) room
-filled_part q m xs room is le =
-    let long : length (take q xs) ≡ q = simp length-take (omega arith) in
-    elim (cases_lt (length room) q) [
-      | inl lt ↦
-          let all : m ≡ length room = omega arith in
-          let none : drop m room ≡ [] = drop_of_length-le room (omega arith) in
-          let past : drop (length (take q xs)) room ≡ [] = drop_of_length-le room (omega arith) in
-          ap (λ ys. take m xs ++ ys) (none ∙ sym past)
-          ∙ ap (λ ys. ys ++ drop (length (take q xs)) room) (ap (λ n. take n xs) all ∙ sym (take-take (length room) q xs (omega arith)))
-      | inr ge ↦
-          let all : m ≡ q = omega arith in
-          let same : take (length room) (take q xs) ≡ take m xs = take_all (length room) (take q xs) (omega arith) ∙ ap (λ n. take n xs) (sym all) in
-          ap (λ ys. ys ++ drop m room) (sym same) ∙ ap (λ n. take (length room) (take q xs) ++ drop n room) (all ∙ sym long)
-    ]
+filled_part q m xs room is le = grind (arith, common_steps, length-take, cases_lt, drop_of_length-le, take-take, take_all)
 
 -- as many as there are and fit stand at the front, and nothing behind them changed
 pub filled_so : (n : ℕ) (xs now room : List ℕ) → n ≡ min (length room) (length xs) → take n now ≡ take n xs → drop n now ≡ drop n room
     → now ≡ filled xs room
-filled_so n xs now room is front behind =
-    sym (take-append-drop n now) ∙ ap (λ ys. ys ++ drop n now) front ∙ ap (λ ys. take n xs ++ ys) behind
-    ∙ filled_part (length xs) n xs room is (omega arith) ∙ ap (λ ys. filled ys room) (take_all (length xs) xs (omega arith))
+filled_so n xs now room is front behind = grind (arith, common_steps, take-append-drop, filled_part, take_all)
 
 -- what fills the front part of a room, and the room behind that part
 pub filled_within : (m q : ℕ) (xs room : List ℕ) → m ≡ min (length room) q → filled xs (take m room) ++ drop m room ≡ filled (take q xs) room
@@ -113,8 +89,7 @@ filled_within m q xs [] is = ap (λ ys. filled xs ys ++ drop m []) (take-nil m) 
 filled_within zero zero xs (r ∷ rs) is = ap (λ ys. ys ++ r ∷ rs) (no_room xs) ∙ sym (ap (λ ys. filled ys (r ∷ rs)) (take_zero xs) ∙ filled_none (r ∷ rs))
 filled_within zero (suc q) xs (r ∷ rs) is = absurd (omega arith)
 filled_within (suc m) zero xs (r ∷ rs) is = absurd (omega arith)
-filled_within (suc m) (suc q) [] (r ∷ rs) is =
-    ap (λ ys. ys ++ drop m rs) (filled_none (r ∷ take m rs)) ∙ ap (λ ys. r ∷ ys) (take-append-drop m rs) ∙ sym (filled_none (r ∷ rs))
+filled_within (suc m) (suc q) [] (r ∷ rs) is = grind (arith, common_steps, filled_none, take-append-drop)
 filled_within (suc m) (suc q) (x ∷ xs) (r ∷ rs) is = ap (λ ys. x ∷ ys) (filled_within m q xs rs (omega arith))
 
 -- nothing behind what is filled changes

@@ -1,8 +1,9 @@
 -- The rows of a survey's tables, one after another.
 -- Letters: w a walk, fs its findings, f one of them; r, s runs; k a place among the findings, or a count of entries; room what a table had at first.
 use Rattle.std.specs.Prelude.{◌≡◌, ◌+◌, ◌-◌, ◌*◌, ◌≤◌, ◌<◌, ◌++◌, ◌∷◌, [], ℕ, Bool, true, false, List, Option, Some, None, drop, length, map, min, option_map, slice_get, slice_index}
-use Rattle.std.proofs.Common.{zero, suc, refl, sym, ap, subst, ◌∙◌, arith, append_assoc, length-append, length-take, length-drop}
+use Rattle.std.proofs.Common.{zero, suc, refl, sym, ap, ◌∙◌, arith, append_assoc, length-append, length-take, length-drop}
 use Rattle.std.proofs.lemmas.List.{drop_all, length-map, map-append}
+use Rattle.std.proofs.lemmas.Grind.{common_steps}
 use Rattle.adf_base.specs.Words.{block}
 use Rattle.adf_blocks.specs.declared.layout.TheConstants.{NAME}
 use Rattle.adf_volume.specs.Image.{name_of}
@@ -57,14 +58,11 @@ module _ (w : List (Role × ℕ)) where
 
   joined : (r s : Run) (f : FindingValue) (rest : List FindingValue) → s ≡ run_of w f → continues r s ≡ true
       → runs_from w (record r { last = s.last }) rest ≡ runs_from w r (f ∷ rest)
-  joined r s f rest e h =
-      let last : s.last ≡ f.block = ap (λ (x : Run). x.last) e in
-      ap (λ (n : ℕ). runs_from w (record r { last = n }) rest) last ∙ goes_on r f rest (subst (λ x. continues r x ≡ true) e h)
+  joined r s f rest e h = grind (arith, common_steps, goes_on)
 
   parted : (r s : Run) (f : FindingValue) (rest : List FindingValue) → s ≡ run_of w f → continues r s ≡ false
       → r ∷ runs_from w s rest ≡ runs_from w r (f ∷ rest)
-  parted r s f rest e h =
-      ap (λ (x : Run). r ∷ runs_from w x rest) e ∙ is_over r f rest (subst (λ x. continues r x ≡ false) e h)
+  parted r s f rest e h = grind (arith, common_steps, is_over)
 
   alone : (r : Run) → r ∷ [] ≡ runs_from w r []
   unfolding runs_from
@@ -73,19 +71,14 @@ module _ (w : List (Role × ℕ)) where
 module _ (w : List (Role × ℕ)) (fs : List FindingValue) (room : List TableFinding) where
   put_rows : (before : List Run) (r : Run) (row : TableFinding) (count : ℕ) (now next : List TableFinding) → row ≡ finding_row r → count ≡ length before
       → now ≡ filled (map finding_row before) room → IsPutBehind count row now next → next ≡ filled (map finding_row (before ++ r ∷ [])) room
-  put_rows before r row count now next is e h put =
-      put (map finding_row before) room (e ∙ sym (length-map before finding_row)) h
-      ∙ ap (λ x. filled (map finding_row before ++ x ∷ []) room) is ∙ ap (λ xs. filled xs room) (sym (map-append finding_row before (r ∷ [])))
+  put_rows before r row count now next is e h put = grind (arith, common_steps, length-map, map-append)
 
   one_more : (before : List Run) (r : Run) (count : ℕ) → count ≡ length before → count + 1 ≡ length (before ++ r ∷ [])
   one_more before r count e = omega (arith, length-append before (r ∷ []))
 
   begins : (gs : List FindingValue) (r : Run) (f : FindingValue) → r ≡ run_of w f → drop 0 gs ≡ f ∷ drop 1 gs → runs_from w r (drop 1 gs) ≡ runs w gs
   begins [] r f e d = let clash : [] ≡ f ∷ [] = d in cc
-  begins (x ∷ gs) r f e d =
-      let same : x ∷ gs ≡ f ∷ gs = d in
-      let first : x ≡ f = cc in
-      ap (λ (s : Run). runs_from w s gs) (e ∙ ap (run_of w) (sym first))
+  begins (x ∷ gs) r f e d = grind (arith, common_steps)
 
   -- the first finding begins the runs
   pub begun : (r : Run) → Some r ≡ option_map (run_of w) (slice_get fs 0) → ArePut w fs (drop 1 fs) r 0 room room
@@ -123,12 +116,7 @@ module _ (w : List (Role × ℕ)) (fs : List FindingValue) (room : List TableFin
   pub run_last : (r : Run) (row : TableFinding) (k count : ℕ) (now next : List TableFinding) → row ≡ finding_row r → length fs ≤ k
       → IsPutBehind count row now next
       → ArePut w fs (drop k fs) r count room now → (count + 1 ≡ length (runs w fs)) × (next ≡ filled (finding_table w fs) room)
-  run_last r row k count now next is h put p =
-      let all : p.before ++ r ∷ [] ≡ runs w fs =
-      ap (λ rs. p.before ++ rs) (alone w r ∙ ap (runs_from w r) (sym (drop_all k fs h))) ∙ p.all in (
-        one_more p.before r count p.number ∙ ap length all,
-        put_rows p.before r row count now next is p.number p.rows put ∙ ap (λ rs. filled (map finding_row rs) room) all,
-      )
+  run_last r row k count now next is h put p = grind (arith, common_steps, alone, drop_all, one_more, put_rows)
 
 -- the name in a header has at most 79 bytes
 pub name_within : (image : List ℕ) (b : ℕ) → length (name_of image b) ≤ 79

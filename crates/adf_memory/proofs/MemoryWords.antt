@@ -1,5 +1,6 @@
 -- A command whose words are bytes in memory.
-use Rattle.std.proofs.Common.{rules, ℕ, Bool, false, List, Option, Some, inl, inr}
+use Rattle.std.proofs.Common.{ℕ, Bool, false, List, Option, Some, inl, inr, arith}
+use Rattle.std.proofs.lemmas.Grind.{common_steps}
 use Rattle.adf_runs.specs.Commands.{Command, IsUnanswered, IsConsumed, RunEnds}
 use Rattle.adf_memory.specs.Words.{AreWords, in_memory}
 use Rattle.adf_memory.proofs.WordParts.{along}
@@ -22,21 +23,7 @@ module _ (c : Command (List (List ℕ))) (bytes : List ℕ) (words : List (List 
 
   pub ends_in_memory : (input : List ℕ) (n : ℕ) (no_output no_errors : Bool) (o o' e e' : Option (List ℕ))
       → RunEnds c words (Some input) false n no_output o o' no_errors e e' → RunEnds (in_memory c) bytes (Some input) false n no_output o o' no_errors e e'
-  ends_in_memory input n no_output no_errors o o' e e' h =
-      search (
-        rules,
-        unanswered_words,
-        unanswered_bytes,
-        refused_bytes,
-        bad_path_words,
-        h.answer,
-        h.answered,
-        h.usage,
-        h.bad_path,
-        h.refused,
-        h.failure,
-        h.part,
-      )
+  ends_in_memory input n no_output no_errors o o' e e' h = grind (arith, common_steps, unanswered_words, unanswered_bytes, refused_bytes, bad_path_words)
 
   pub consumed_in_memory : (input : List ℕ) (n consumed : ℕ) → IsConsumed c words input n consumed → IsConsumed (in_memory c) bytes input n consumed
   consumed_in_memory input n consumed h = record {

@@ -1,10 +1,10 @@
 -- The rooms of the caller: filled from the front, and what stands in them whatever their names.
-use Rattle.std.specs.Prelude.{◌≡◌, ◌+◌, ◌≤◌, ◌<◌, ℕ, List, length, get_or, set, Bool, true, false, [], ◌∷◌, ◌++◌, Some}
-use Rattle.std.proofs.Common.{rules, sym, subst, arith, inl, inr, ◌∙◌, ap}
+use Rattle.std.specs.Prelude.{◌≡◌, ◌+◌, ◌≤◌, ◌<◌, ℕ, List, length, get_or, set, Bool, true, false, [], ◌∷◌, Some}
+use Rattle.std.proofs.Common.{arith, inl, inr}
 use Rattle.std.proofs.lemmas.Bool.{cases_lt}
 use Rattle.std.proofs.lemmas.List.{get_or-set_same, get_or-set_other, length-set}
-use borrow.Author.Count.{below_more}
 use Rattle.std.specs.Io.KnownBytes.{Appends}
+use Rattle.std.proofs.lemmas.Grind.{common_steps}
 use Rattle.adf_runs.specs.Commands.{Command, GetsFront, IsUnanswered, RunEnds}
 use Rattle.adf_runs.specs.Streams.{AppendsPart, Says}
 
@@ -12,10 +12,7 @@ use Rattle.adf_runs.specs.Streams.{AppendsPart, Says}
 pub put_more : (P : ℕ → ℕ → Type 0) (xs : List ℕ) (i r : ℕ) → i < length xs → P i r
     → ((k : ℕ) → k < i → k < length xs → P k (get_or xs k 0))
     → (k : ℕ) → k < i + 1 → k < length (set xs i r) → P k (get_or (set xs i r) k 0)
-put_more P xs i r inside here before =
-    below_more (λ k. k < length (set xs i r) → P k (get_or (set xs i r) k 0)) i
-    (λ k low fits. subst (P k) (sym (get_or-set_other xs i k r 0 (omega arith))) (before k low (rw length-set at fits)))
-    (λ fits. subst (P i) (sym (get_or-set_same xs i r 0 inside)) here)
+put_more P xs i r inside here before = grind (arith, common_steps, get_or-set_other, length-set, get_or-set_same)
 
 -- bytes behind it stay
 pub put_keeps : (xs : List ℕ) (i r k : ℕ) → i + 1 ≤ k → get_or (set xs i r) k 0 ≡ get_or xs k 0
@@ -26,16 +23,12 @@ parts_same n n' o k h = (cc, cc)
 
 -- whoever appends to an empty room keeps to it, and what was appended is all that stands in it
 pub appended : (n n' : ℕ) (k o bytes : List ℕ) → k ≡ [] → Appends (Some (n ∷ k)) (Some (n' ∷ o)) bytes → (n' ≡ n) × (o ≡ bytes)
-appended n n' k o bytes empty h =
-    let both = parts_same n n' o (k ++ bytes) h in
-    (both.0, both.1 ∙ ap (λ l. l ++ bytes) empty)
+appended n n' k o bytes empty h = grind (arith, common_steps, parts_same)
 
 -- and so with a front part of the bytes
 appended_part : (failed : Bool) (n n' : ℕ) (k o whole : List ℕ) → k ≡ [] → AppendsPart failed (Some (n ∷ k)) (Some (n' ∷ o)) whole
     → (n' ≡ n) × AppendsPart failed (Some []) (Some o) whole
-appended_part failed n n' k o whole empty (part, rest, is, some, h) =
-    let here = appended n n' k o part empty h in
-    (here.0, (part, rest, is, some, here.1))
+appended_part failed n n' k o whole empty (part, rest, is, some, h) = grind (arith, common_steps, appended)
 
 pub said : (failed : Bool) (n n' : ℕ) (k e text : List ℕ) → k ≡ []
     → Says failed (Some (n ∷ k)) (Some (n' ∷ e)) text → (n' ≡ n) × Says failed (Some []) (Some e) text
@@ -60,8 +53,7 @@ module _ {Words : Type 0} (c : Command Words) (words : Words) (input : List ℕ)
 
   -- the run ends so in rooms without names
   room_ends : RunEnds c words (Some input) false n no_output (Some []) (Some o) no_errors (Some []) (Some e)
-  room_ends =
-      search (rules, put, told, put_front, ends.answer, ends.answered, ends.usage, ends.bad_path, ends.refused, ends.failure, ends.part)
+  room_ends = grind (arith, common_steps, put, told, put_front)
 
   -- the room for output is kept to at status 3
   front_kept : (failed : Bool) → GetsFront (c.asks words) c.answer false failed input (Some (m ∷ k)) (Some (m' ∷ o)) → m' ≡ m
@@ -71,39 +63,13 @@ module _ {Words : Type 0} (c : Command Words) (words : Words) (input : List ℕ)
 
   -- the room for output is kept to, if it is where nothing is answered
   output_kept : (IsUnanswered c words → m' ≡ m) → m' ≡ m
-  output_kept same = elim (cases_lt n 2) [
-    | inl low ↦
-        let (r, asks, reply, is, answers, written, says) =
-        ends.answer (λ refused. ends.answered (λ two. omega arith) (λ three. omega arith) (inl refused)) (λ three. omega arith) in
-        (appended m m' k o reply.output none_o written).0
-    | inr high ↦ elim (cases_lt n 3) [
-      | inl two ↦ same (ends.usage (omega arith))
-      | inr three ↦ front_kept no_output (ends.part (let most = ends.status in omega arith))
-    ]
-  ]
+  output_kept same = grind (arith, common_steps, cases_lt, appended, front_kept)
 
   -- and so is that for errors
   errors_kept : l' ≡ l
-  errors_kept = elim (cases_lt n 2) [
-    | inl low ↦
-        let (r, asks, reply, is, answers, written, says) =
-        ends.answer (λ refused. ends.answered (λ two. omega arith) (λ three. omega arith) (inl refused)) (λ three. omega arith) in
-        (said no_errors l l' j e reply.errors none_e says).0
-    | inr high ↦ elim (cases_lt n 3) [
-      | inl two ↦
-          let at : n ≡ 2 = omega arith in
-          elim (ends.usage at) [
-            | inl refused ↦ (said no_errors l l' j e _ none_e (ends.refused at refused)).0
-            | inr bad ↦ (said no_errors l l' j e _ none_e (ends.bad_path at bad)).0
-          ]
-      | inr three ↦
-          let most = ends.status in
-          (said no_errors l l' j e _ none_e (ends.failure (omega arith))).0
-    ]
-  ]
+  errors_kept = grind (arith, common_steps, cases_lt, said)
 
   -- the run ends so in the caller's rooms, which are these where they have the same names
   pub moved_ends : (no_output' no_errors' : Bool) (o' e' : List ℕ) → (IsUnanswered c words → m' ≡ m) → (m' ≡ m → o ≡ o') → (l' ≡ l → e ≡ e')
       → no_output ≡ no_output' → no_errors ≡ no_errors' → RunEnds c words (Some input) false n no_output' (Some []) (Some o') no_errors' (Some []) (Some e')
-  moved_ends no_output' no_errors' o' e' same room_o room_e written told =
-      rw (← written, ← told, ← room_o (output_kept same), ← room_e errors_kept) room_ends
+  moved_ends no_output' no_errors' o' e' same room_o room_e written told = grind (arith, common_steps, told, output_kept, errors_kept, room_ends)

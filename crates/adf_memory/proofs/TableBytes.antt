@@ -4,6 +4,7 @@ use Rattle.std.proofs.Common.{zero, suc, refl, sym, ap, ◌∙◌, arith, inl, i
 use Rattle.std.proofs.Math.Seq.{drop-append-add, drop-cons, drop-nil, take-add, take-append_seam}
 use Rattle.std.proofs.lemmas.Bool.{cases_lt, cond_above, cond_below}
 use Rattle.std.proofs.lemmas.List.{drop-append-le, drop-drop, take-take, take_rest}
+use Rattle.std.proofs.lemmas.Grind.{common_steps}
 use Rattle.adf_base.specs.Words.{block}
 use Rattle.adf_tree.specs.declared.entry.Kind.{Kind}
 use Rattle.adf_tree.specs.declared.entry.Kind.TheVariants.{Ofs, Ffs}
@@ -35,9 +36,7 @@ no_chunk Ffs j le = absurd (omega arith)
 -- so many data areas further
 pub further : (image : List ℕ) (kind : Kind) (j s : ℕ) (table : List ℕ) → chunk kind * j ≤ length (joined image kind (front_blocks image table))
     → drop (chunk kind * j + s) (joined image kind (front_blocks image table)) ≡ drop s (joined image kind (front_blocks image (drop j table)))
-further image kind zero s table le =
-    let here : chunk kind * 0 + s ≡ s = omega arith in
-    ap (λ n. drop n (joined image kind (front_blocks image table))) here ∙ ap (λ bs. drop s (joined image kind (front_blocks image bs))) (sym (drop_zero table))
+further image kind zero s table le = grind (arith, common_steps, drop_zero)
 further image kind (suc j) s [] le = drop-nil (chunk kind * suc j + s) ∙ sym (drop-nil s)
 further image kind (suc j) s (b ∷ bs) le = elim (cases_lt b (blocks image)) [
   | inl lt ↦
@@ -79,24 +78,7 @@ area_begins Ffs put r n lt le = omega arith
 -- from a place on, so many bytes further
 pub bytes_behind : (image : List ℕ) (kind : Kind) (table : List ℕ) (at put : ℕ) → put ≤ length (bytes_from image kind table at)
     → drop put (bytes_from image kind table at) ≡ bytes_from image kind table (at + put)
-bytes_behind image kind table at put le =
-    let c : ℕ = chunk kind in
-    let i : ℕ = at / c in
-    let r : ℕ = at % c in
-    let here : List ℕ = drop i table in
-    let j : ℕ = (r + put) / c in
-    let s : ℕ = (r + put) % c in
-    let split = place_of kind (r + put) in
-    let behind = place_behind kind at put in
-    let low = (place_of kind at).1 in
-    let long : put ≤ length (joined image kind (front_blocks image here)) - r = omega (arith, length-drop r (joined image kind (front_blocks image here))) in
-    let enough : c * j ≤ length (joined image kind (front_blocks image here)) = area_begins kind put r (length (joined image kind (front_blocks image here))) low long in
-    drop-drop put r (joined image kind (front_blocks image here))
-    ∙ ap (λ n. drop n (joined image kind (front_blocks image here))) (sym split.0)
-    ∙ further image kind j s here enough
-    ∙ ap (λ bs. drop s (joined image kind (front_blocks image bs))) (drop-drop j i table)
-    ∙ ap (λ n. drop s (joined image kind (front_blocks image (drop n table)))) (sym behind.0)
-    ∙ ap (λ n. drop n (joined image kind (front_blocks image (drop ((at + put) / c) table)))) (sym behind.1)
+bytes_behind image kind table at put le = grind (arith, common_steps, place_of, place_behind, length-drop, area_begins, drop-drop, further)
 
 -- the same at the size of a data area
 from_block : (image table : List ℕ) (kind : Kind) (at size : ℕ) → size ≡ chunk kind
@@ -107,16 +89,7 @@ from_block image table kind at size same = ap (λ n. drop (at % n) (joined image
 pub bytes_here : (image table held : List ℕ) (kind : Kind) (at size : ℕ) → size ≡ chunk kind → at / size < length table
     → get_or table (at / size) 0 * 512 + 512 ≤ length image → held ≡ area kind (block image (get_or table (at / size) 0))
     → bytes_from image kind table at ≡ drop (at % size) held ++ joined image kind (front_blocks image (drop (suc (at / size)) table))
-bytes_here image table held kind at size same lt le is =
-    let b : ℕ = get_or table (at / size) 0 in
-    let rest : List ℕ = drop (suc (at / size)) table in
-    let long : length (area kind (block image b)) ≡ chunk kind = area_long image kind b le in
-    let low : at % size ≤ length (area kind (block image b)) = omega (arith, (place_of kind at).1, ap (λ n. at % n) same) in
-    from_block image table kind at size same
-    ∙ ap (λ bs. drop (at % size) (joined image kind (front_blocks image bs))) (drop-cons table (at / size) 0 lt)
-    ∙ ap (λ bs. drop (at % size) (joined image kind bs)) (front_more image b rest (omega arith))
-    ∙ drop-append-le (at % size) (area kind (block image b)) (joined image kind (front_blocks image rest)) low
-    ∙ ap (λ h. drop (at % size) h ++ joined image kind (front_blocks image rest)) (sym is)
+bytes_here image table held kind at size same lt le is = grind (arith, common_steps, area_long, place_of, from_block, drop-cons, front_more, drop-append-le)
 
 -- an image without a block has nothing
 pub bytes_of_no_block : (image table : List ℕ) (kind : Kind) (at : ℕ) → length image < 512 → bytes_from image kind table at ≡ []
@@ -129,11 +102,7 @@ bytes_of_no_block image table kind at lt = go (drop (at / chunk kind) table)
 -- one part more
 pub bytes_more : (all room new part more : List ℕ) (put m next : ℕ) → take next new ≡ take put room ++ take m part → next ≡ put + m
     → take put room ≡ take put all → drop put all ≡ part ++ more → m ≤ length part → take next new ≡ take next all
-bytes_more all room new part more put m next e is before here le =
-    let cut : take m part ≡ take m (drop put all) =
-    ap (take m) (sym (take-append_seam part more)) ∙ take-take m (length part) (part ++ more) le ∙ ap (take m) (sym here) in
-    e ∙ ap (λ xs. xs ++ take m part) before ∙ ap (λ xs. take put all ++ xs) cut
-    ∙ sym (take-add put m all) ∙ ap (λ n. take n all) (sym is)
+bytes_more all room new part more put m next e is before here le = grind (arith, common_steps, take-append_seam, take-take, take-add)
 
 -- also where it was read
 pub area_size : (image held here : List ℕ) (kind : Kind) (b size : ℕ) → held ≡ area kind here → here ≡ block image b → b * 512 + 512 ≤ length image
@@ -149,11 +118,7 @@ behind_more new old put next le e =
 -- the kind matters only where the image has a block, and a slice up to the end of a table is the rest of it
 pub kind_read : (image table : List ℕ) (kind : Kind) (first at : ℕ) → (512 ≤ length image → kind ≡ kind_of image)
     → bytes_from image kind (take (length table - first) (drop first table)) at ≡ bytes_from image (kind_of image) (drop first table) at
-kind_read image table kind first at is =
-    ap (λ bs. bytes_from image kind bs at) (take_rest table first) ∙ elim (cases_lt (length image) 512) [
-      | inl lt ↦ bytes_of_no_block image (drop first table) kind at lt ∙ sym (bytes_of_no_block image (drop first table) (kind_of image) at lt)
-      | inr ge ↦ ap (λ k. bytes_from image k (drop first table) at) (is ge)
-    ]
+kind_read image table kind first at is = grind (arith, common_steps, take_rest, cases_lt, bytes_of_no_block)
 
 -- where there is nothing more, all is put
 pub all_put : (all : List ℕ) (put : ℕ) → put ≤ length all → drop put all ≡ [] → put ≡ length all

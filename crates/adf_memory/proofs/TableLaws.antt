@@ -3,9 +3,10 @@ use Rattle.std.specs.Prelude.{◌≡◌, ◌+◌, ◌^◌, ◌≤◌, ◌<◌, �
 use Rattle.std.proofs.Common.{zero, suc, refl, sym, ap, subst, ◌∙◌, arith, append_assoc, length-append, take_all}
 use Rattle.std.proofs.Math.Seq.{take-nil}
 use Rattle.std.proofs.lemmas.List.{append-nil, length-take-le, take_more}
+use Rattle.std.proofs.lemmas.Grind.{common_steps}
 use Rattle.adf_tree.specs.declared.entry.Entry.{Entry}
 use Rattle.adf_tree.specs.Tree.{Tree, IsTree, entry}
-use Rattle.adf_volume.specs.declared.owner.Owner.TheVariants.{Data, Ext, MapExt, Page}
+use Rattle.adf_volume.specs.declared.owner.Owner.TheVariants.{Data, Ext}
 use Rattle.adf_volume.specs.Fits.{Fits}
 use Rattle.adf_volume.specs.Layout.{EntryAt, Layout, Place, datas_at, datas_of, head_at, owned, owned_from}
 use Rattle.adf_volume.specs.Lists.{At, numbered}
@@ -29,9 +30,7 @@ taken_more xs i x at = take_more xs i x (at_below xs i x at) ∙ ap (λ y. take 
 pub entries_more : {X : Type 0} (xs room now next : List X) (i : ℕ) (x : X) → At xs i x
     → ((ys zs : List X) → i ≡ length ys → now ≡ filled ys zs → next ≡ filled (ys ++ x ∷ []) zs)
     → now ≡ filled (take i xs) room → next ≡ filled (take (i + 1) xs) room
-entries_more xs room now next i x at put e =
-    let below : i < length xs = at_below xs i x at in
-    put (take i xs) room (sym (length-take-le i xs (omega arith))) e ∙ ap (λ ys. filled ys room) (sym (taken_more xs i x at))
+entries_more xs room now next i x at put e = grind (arith, common_steps, at_below, length-take-le, taken_more)
 
 -- the entry at a place of the table
 told_at : (k : ℕ) (es : List Entry) (qs : List Place) (i : ℕ) (e : Entry) → At es i e → length qs ≡ length es
@@ -48,9 +47,7 @@ told_at k (f ∷ es) (q ∷ qs) (suc i) e at z =
 -- the same in the table of a volume
 pub told_here : (t : Tree) (l : Layout) (i k : ℕ) (e : Entry) → At t.entries i e → length l.places ≡ length t.entries
     → k ≡ length (all_datas (take i l.places)) → At (entry_table t l) i (table_entry (head_at l.places i) k e)
-told_here t l i k e at z same =
-    let zero_more : 0 + length (all_datas (take i l.places)) ≡ k = omega arith in
-    subst (λ n. At (entry_table t l) i (table_entry (head_at l.places i) n e)) zero_more (told_at 0 t.entries l.places i e at z)
+told_here t l i k e at z same = grind (arith, common_steps, told_at)
 
 -- a table has an entry for each entry
 pub told_length : (k : ℕ) (es : List Entry) (qs : List Place) → length qs ≡ length es → length (table_entries k es qs) ≡ length es
@@ -89,11 +86,7 @@ parts_many n (q ∷ qs) =
 
 -- so there are fewer entries and data blocks than blocks in use, of which the root is one
 pub tables_small : (image : List ℕ) (l : Layout) → length l.places + length (block_table l) < length (owned image l)
-tables_small image l =
-    let pages = numbered Page 0 l.pages in
-    let exts = numbered MapExt 0 l.map_exts in
-    let rest = owned_from 1 l.places in
-    omega (arith, parts_many 1 l.places, length-append pages (exts ++ rest), length-append exts rest)
+tables_small image l = grind (arith, common_steps, parts_many, length-append)
 
 -- the entry with a number that there is
 pub entry_there : (t : Tree) (n : ℕ) → 0 < n → n ≤ length t.entries → (e : Entry) × (entry t.entries n ≡ Some e)
@@ -145,16 +138,12 @@ blocks_small image t l i first fits few lt is =
 -- also where they are given as a list
 pub next_small : (image : List ℕ) (t : Tree) (l : Layout) (i first : ℕ) (ds : List ℕ) → Fits image t l → length (owned image l) < 2 ^ 32
     → i < length t.entries → first ≡ length (all_datas (take i l.places)) → ds ≡ datas_of l (i + 1) → first + length ds < 2 ^ 32
-next_small image t l i first ds fits few lt is next =
-    let one : i + 1 ≡ suc i = omega arith in
-    omega (arith, ap length (next ∙ ap (datas_of l) one), blocks_small image t l i first fits few lt is)
+next_small image t l i first ds fits few lt is next = grind (arith, common_steps, blocks_small)
 
 -- and with those of the next file
 pub count_more : (l : Layout) (i first more : ℕ) → i < length l.places → first ≡ length (all_datas (take i l.places)) → more ≡ length (datas_at l.places i)
     → first + more ≡ length (all_datas (take (i + 1) l.places))
-count_more l i first more lt is next =
-    let one : i + 1 ≡ suc i = omega arith in
-    rw one (omega (arith, ap length (datas_more l.places i lt), length-append (all_datas (take i l.places)) (datas_at l.places i)))
+count_more l i first more lt is next = grind (arith, common_steps, datas_more, length-append)
 
 -- where the data blocks of the next file are put behind those before them, those of one file more stand there
 pub next_blocks : (l : Layout) (i : ℕ) (ds room next : List ℕ) → i < length l.places → ds ≡ datas_at l.places i
@@ -185,10 +174,7 @@ next_entry t l i k x z lt is tells =
 -- there are fewer blocks in use than blocks, since two are boot blocks
 pub used_small : (image : List ℕ) (t : Tree) (l : Layout) (n : Counts) (x : Contents) → n ≡ counts_of image t l → n.used + n.free + 2 ≡ n.blocks
     → x ≡ contents_of image t l → x.used < x.blocks
-used_small image t l n x counts all is =
-    let used : x.used ≡ n.used = ap (λ (y : Contents). y.used) is ∙ sym (ap (λ (m : Counts). m.used) counts) in
-    let blocks : x.blocks ≡ n.blocks = ap (λ (y : Contents). y.blocks) is ∙ sym (ap (λ (m : Counts). m.blocks) counts) in
-    omega arith
+used_small image t l n x counts all is = grind (arith, common_steps)
 
 -- there are fewer entries and data blocks than blocks in use
 pub contents_small : (image : List ℕ) (t : Tree) (l : Layout) (x : Contents) → Fits image t l → x ≡ contents_of image t l → x.entries + x.data_blocks < x.used

@@ -1,16 +1,14 @@
 -- A table of entries has their directories and names, and look-up in it finds what look-up in the tree finds.
-use Rattle.std.specs.Prelude.{◌≡◌, ◌+◌, ◌≤◌, ◌<◌, ℕ, List, ◌++◌, Bool, true, false, Some, None, get_or, length, max, take, nat_le, nat_lt, replicate}
+use Rattle.std.specs.Prelude.{◌≡◌, ◌+◌, ◌≤◌, ◌<◌, ℕ, List, Bool, true, false, Some, None, get_or, length, max, take, nat_le, nat_lt, replicate}
 use Rattle.std.proofs.Common.{suc, refl, sym, ap, subst, ◌∙◌, arith, inl, inr}
 use Rattle.std.specs.List.Sorted.{IsNonDecreasingBy, IsPartitionPoint}
 use Rattle.std.proofs.lemmas.Bool.{cases_lt, false_from_ne_true}
-use Rattle.std.specs.Prelude.{drop}
 use Rattle.std.proofs.Common.{take_all}
 use Rattle.std.proofs.Math.Seq.{take-append_seam}
 use Rattle.adf_base.specs.Hash.{slot_of}
 use Rattle.adf_base.specs.Words.{block}
-use Rattle.std.specs.Prelude.{◌==◌, ◌&&◌}
-use Rattle.std.specs.Str.{bytes_eq}
-use Rattle.adf_tree.specs.Texts.{is_name, uppers}
+use Rattle.std.proofs.lemmas.Grind.{common_steps}
+use Rattle.adf_tree.specs.Texts.{is_name}
 use Rattle.adf_tree.specs.declared.entry.Entry.{Entry}
 use Rattle.adf_tree.specs.Tree.{Tree, child, is_child, place, rank, rank_of}
 use Rattle.adf_tree.proofs.ChildLookup.{child_found, child_not_before, child_not_past, child_says, no_children}
@@ -37,10 +35,7 @@ module _ {xs : List TableEntry} {es : List Entry} (has : HasNamesOf xs es) where
 
   same_child : (i : ℕ) (x : TableEntry) (e : Entry) (p : ℕ) (name : List ℕ) → i < length es
       → is_child_in p name (get_or xs i x) ≡ is_child p name (get_or es i e)
-  same_child i x e p name lt =
-      let a = has.parents i x e lt in
-      let b = has.names i x e lt in
-      λ j. (a j == p) && bytes_eq (uppers (b j)) (uppers name)
+  same_child i x e p name lt = grind (arith, common_steps)
 
   an_entry : (i : ℕ) → i < length es → TableEntry
   an_entry i lt = some_in xs (omega (arith, has.count))
@@ -67,9 +62,7 @@ module _ {xs : List TableEntry} {es : List Entry} (has : HasNamesOf xs es) where
   module _ (p : ℕ) (name : List ℕ) (s : ℕ) (slot : s ≡ slot_of name) where
     -- an entry before its directory is none of its children
     before_parent : (k : ℕ) (d : Entry) → k < p → k < length es → is_child p name (get_or es k d) ≡ false
-    before_parent k d low short =
-        false_from_ne_true (is_child p name (get_or es k d))
-        (λ is. absurd (omega (arith, (child_says p name (get_or es k d) is).0, has.below k d short)))
+    before_parent k d low short = grind (arith, common_steps, false_from_ne_true, child_says)
 
     before_start : (from : ℕ) → from ≤ length xs → (IsNonDecreasingBy rank_in xs → IsStart xs (rank_of p s) from)
         → (k : ℕ) (d : Entry) → k < from → is_child p name (get_or es k d) ≡ false
@@ -122,8 +115,7 @@ short_name image t l i e fits at =
 
 -- a text that fits a field stands at its front
 text_there : (text room : List ℕ) → length text ≤ length room → take (length text) (filled text room) ≡ text
-text_there text room le =
-    ap (λ xs. take (length text) (xs ++ drop (length text) room)) (take_all (length room) text le) ∙ take-append_seam text (drop (length text) room)
+text_there text room le = grind (arith, common_steps, take_all, take-append_seam)
 
 -- the name that is told of an entry is its own
 pub name_told : (image : List ℕ) (t : Tree) (l : Layout) (i h k : ℕ) (e : Entry) → Fits image t l → At t.entries i e

@@ -6,6 +6,7 @@ use Rattle.std.proofs.Math.Seq.{get_or-append_seam}
 use Rattle.std.proofs.lemmas.List.{append_assoc, append_cancel_right, get_or_append_left, map-append, length-append}
 use Rattle.std.proofs.lemmas.List.Elements.{All-push}
 use Rattle.std.proofs.lemmas.List.Splits.{length-slice_split}
+use Rattle.std.proofs.lemmas.Grind.{common_steps}
 use Rattle.adf_memory.specs.Words.{AreWords, BeginWithWords, is_zero, between_zeros}
 use Rattle.adf_words.specs.CommandLine.{texts_of}
 
@@ -37,10 +38,7 @@ texts_pushed items text = map-append (λ (w : Bor (List ℕ)). w.now) items (tex
 pub pushed_split : (bytes rest word after : List ℕ) (items : List (Bor (List ℕ))) (text : Bor (List ℕ)) → between_zeros bytes ≡ texts_of items
     ++ between_zeros rest
     → between_zeros rest ≡ word ∷ between_zeros after → text.now ≡ word → between_zeros bytes ≡ texts_of (items ++ text ∷ []) ++ between_zeros after
-pushed_split bytes rest word after items text split cut same =
-    let done : List (List ℕ) = texts_of items in
-    split ∙ (ap (λ ps. done ++ ps) cut ∙ (ap (λ w. done ++ w ∷ between_zeros after) (sym same)
-    ∙ (sym (append_assoc done (text.now ∷ []) (between_zeros after)) ∙ ap (λ ps. ps ++ between_zeros after) (sym (texts_pushed items text)))))
+pushed_split bytes rest word after items text split cut same = grind (arith, common_steps, append_assoc, texts_pushed)
 
 pub pushed_texts : (items : List (Bor (List ℕ))) (text : Bor (List ℕ)) → All IsUtf8 (texts_of items) → IsUtf8 text.now
     → All IsUtf8 (texts_of (items ++ text ∷ []))

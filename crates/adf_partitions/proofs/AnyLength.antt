@@ -1,22 +1,17 @@
 -- What a disk says of its partitions whatever its number of blocks.
 -- Letters: as in specs/Disks; n and m two numbers of blocks, ps and p partitions with n, qs and q with m.
-use Rattle.std.proofs.Common.{◌≡◌, ◌∙◌, ℕ, zero, suc, List, [], ◌∷◌, ◌++◌, length, refl, sym, ap, subst}
+use Rattle.std.proofs.Common.{◌≡◌, ◌∙◌, ℕ, zero, suc, List, [], ◌∷◌, ◌++◌, length, refl, sym, ap, subst, arith}
 use Rattle.std.proofs.Common.{Bool, true, false, Option, None, Some}
-use Rattle.std.specs.Prelude.{◌==◌, ◌-◌, cond, find, if◌then◌else◌, nat_le, nat_lt, not, IfOk, slice_get, ⊤}
+use Rattle.std.specs.Prelude.{◌-◌, cond, find, IfOk, slice_get, ⊤}
 use Rattle.std.specs.List.{list_any}
-use Rattle.adf_base.specs.Words.{block, word}
-use Rattle.adf_partitions.specs.declared.fault.DiskCause.TheVariants.{OutOfRange, Repeated, NotPartition, BadSum, TooMany}
-use Rattle.adf_partitions.specs.declared.fault.DiskFault.{DiskFault}
-use Rattle.adf_partitions.specs.declared.layout.TheConstants.{MARK, MOST_PARTITIONS, MOST_TABLES, PART}
+use Rattle.std.proofs.lemmas.Grind.{common_steps}
+use Rattle.adf_base.specs.Words.{block}
 use Rattle.adf_partitions.specs.declared.partition.Partition.{Partition}
 use Rattle.adf_partitions.specs.declared.tables.Tables.{Tables}
 use Rattle.adf_partitions.specs.Disks.{IsDisk, IsFound, is_at, part_form, partition_at}
 use Rattle.adf_partitions.specs.Disks.IsFound.{start, step}
-use Rattle.adf_partitions.specs.Faults.{disk_fault, first_failed}
-use Rattle.adf_partitions.specs.Partitions.{is_named, partition_numbered, place_form}
-use Rattle.adf_partitions.specs.Places.{place_of}
-use Rattle.adf_partitions.specs.Summed.{holds, is_summed}
-use Rattle.adf_partitions.specs.Tables.{is_table}
+use Rattle.adf_partitions.specs.Faults.{first_failed}
+use Rattle.adf_partitions.specs.Partitions.{is_named, partition_numbered}
 use Rattle.adf_partitions.specs.Volumes.{AreAlike, FoundAlike, IsStated}
 use Rattle.adf_partitions.proofs.NumberTests.{le_of}
 use Rattle.adf_partitions.proofs.OneAnswer.{one_disk}
@@ -74,47 +69,17 @@ module _ (bytes : List ℕ) (n : ℕ) where
 
   numbered_alike : (number : ℕ) (ps qs : List Partition) → AreAll bytes n ps qs
       → FoundAlike bytes n (partition_numbered ps number) (partition_numbered qs number)
-  numbered_alike number ps qs h = by_test (number == 0)
-    where
-      by_test : (zero : Bool)
-          → FoundAlike bytes n (if zero then None else slice_get ps (number - 1)) (if zero then None else slice_get qs (number - 1))
-      by_test true = tt
-      by_test false = got_alike (number - 1) ps qs h
+  numbered_alike number ps qs h = grind (arith, common_steps, got_alike)
 
   -- the tests of a block are those with the other number
   same_tests : (t : Tables) (ps qs : List Partition) (a b : ℕ) → AreAll bytes n ps qs
       → first_failed (part_form bytes t ps a b) ≡ first_failed (part_form bytes t qs a b)
-  same_tests t ps qs a b h =
-      let e = same_at b ps qs h in
-      let f = same_length ps qs h in
-      ap (λ (x : Bool). form x (length ps)) e ∙ ap (λ (x : ℕ). form (list_any (is_at b) qs) x) f
-    where
-      form : Bool → ℕ → Option DiskFault
-      form found count =
-          first_failed (
-          (is_table bytes t b, disk_fault a OutOfRange)
-          ∷ (not found, disk_fault b Repeated)
-          ∷ (word (block bytes b) MARK == PART, disk_fault b NotPartition)
-          ∷ (is_summed (block bytes b), disk_fault b BadSum)
-          ∷ (nat_lt count MOST_PARTITIONS, disk_fault b TooMany)
-          ∷ [])
+  same_tests t ps qs a b h = grind (arith, common_steps, same_at, same_length)
 
   -- a partition has no other place than its block states
   stated : (t : Tables) (ps : List Partition) (a b : ℕ) → first_failed (part_form bytes t ps a b) ≡ None
       → IfOk (partition_at bytes n t ps b).place (IsStated bytes n b)
-  stated t ps a b sound =
-      let p = block bytes b in
-      let kept = is_kept ps a b (is_table bytes t b) p sound in
-      if_placed (place_of p) (first_failed (place_form n t ps p)) (IsStated bytes n b) (λ none.
-      let h = passed n t ps p none in
-      record {
-        states = record {
-          held = fourth (nat_le t.lowest b) (nat_le b t.highest) (nat_lt b MOST_TABLES) (holds bytes b) kept;
-          cylinders = h.cylinders;
-          within = le_of _ n h.within;
-        };
-        same = refl;
-      })
+  stated t ps a b sound = grind (arith, common_steps, is_kept, if_placed, passed, fourth, le_of)
 
   -- the partitions found with the other number of blocks
   found_alike : (m : ℕ) (t : Tables) {ps : List Partition} {a b : ℕ} → IsFound bytes n t ps a b

@@ -1,19 +1,18 @@
 -- Texts that are read byte after byte. xs is a text, i the number of bytes that were read, x the next one.
-use Rattle.std.proofs.Common.{◌≡◌, ◌≢◌, ◌<◌, ◌≤◌, ◌+◌, ◌-◌, ◌*◌, ◌∙◌, ℕ, suc, Bool, true, false, List, [], ◌∷◌, ◌++◌, Some, None, length, get_or}
+use Rattle.std.proofs.Common.{◌≡◌, ◌≢◌, ◌<◌, ◌≤◌, ◌+◌, ◌-◌, ◌*◌, ◌∙◌, ℕ, Bool, true, false, List, [], ◌∷◌, ◌++◌, Some, None, length, get_or}
 use Rattle.std.proofs.Common.{take, drop, ap, refl, sym, arith}
 use Rattle.std.proofs.Common.{append-nil, append_assoc}
 use Rattle.std.specs.Prelude.{◌==◌, ◌&&◌, nat_le, if◌then◌else◌}
 use Rattle.std.proofs.lemmas.Bool.Decides.{nat_tests}
 use Rattle.std.proofs.lemmas.List.{drop_all, take_all, take_more}
 use Rattle.std.proofs.Math.Seq.{drop-cons}
+use Rattle.std.proofs.lemmas.Grind.{common_steps}
 use Rattle.adf_partitions.specs.PlanTexts.{before, behind, number_from, number_of}
 use Rattle.adf_partitions.specs.declared.plan_words.TheConstants.{MOST_NUMBER}
 
 -- what is left from a byte on
 pub left_at : (xs : List ℕ) (i x : ℕ) → i < length xs → x ≡ get_or xs i 0 → drop i xs ≡ x ∷ drop (i + 1) xs
-left_at xs i x lt e =
-    let next : suc i ≡ i + 1 = omega arith in
-    drop-cons xs i 0 lt ∙ ap (λ y. y ∷ drop (suc i) xs) (sym e) ∙ ap (λ k. x ∷ drop k xs) next
+left_at xs i x lt e = grind (arith, common_steps, drop-cons)
 
 module _ (c : ℕ) (xs : List ℕ) (i : ℕ) where
   -- the cut of a text is that of what is left of it
@@ -30,40 +29,22 @@ unfolding before behind
 front_same c x xs h = (ap (λ b. if b then [] else x ∷ before c xs) h, ap (λ b. if b then xs else behind c xs) h)
 
 pub cut_past : (c : ℕ) (xs : List ℕ) (i x : ℕ) → IsCutLater c xs i → i < length xs → x ≡ get_or xs i 0 → x ≢ c → IsCutLater c xs (i + 1)
-cut_past c xs i x h lt e ne =
-    let other : (x == c) ≡ false = grind (arith, nat_tests) in
-    let at = left_at xs i x lt e in
-    let past = front_other c x (drop (i + 1) xs) other in
-    let more : take (i + 1) xs ≡ take i xs ++ x ∷ [] = take_more xs i 0 lt ∙ ap (λ y. take i xs ++ y ∷ []) (sym e) in
-    record {
-      front = h.front ∙ ap (λ ys. take i xs ++ before c ys) at ∙ ap (λ ys. take i xs ++ ys) past.0
-          ∙ sym (append_assoc (take i xs) (x ∷ []) (before c (drop (i + 1) xs))) ∙ ap (λ ys. ys ++ before c (drop (i + 1) xs)) (sym more);
-      rest = h.rest ∙ ap (behind c) at ∙ past.1;
-    }
+cut_past c xs i x h lt e ne = grind (arith, common_steps, nat_tests, left_at, front_other, take_more, append_assoc)
 
 pub cut_there : (c : ℕ) (xs : List ℕ) (i x : ℕ) → IsCutLater c xs i → i < length xs → x ≡ get_or xs i 0 → x ≡ c
     → (take i xs ≡ before c xs) × (drop (i + 1) xs ≡ behind c xs)
-cut_there c xs i x h lt e is =
-    let same : (x == c) ≡ true = grind (arith, nat_tests) in
-    let at = left_at xs i x lt e in
-    let there = front_same c x (drop (i + 1) xs) same in (
-      sym (h.front ∙ ap (λ ys. take i xs ++ before c ys) at ∙ ap (λ ys. take i xs ++ ys) there.0 ∙ append-nil (take i xs)),
-      sym (h.rest ∙ ap (behind c) at ∙ there.1),
-    )
+cut_there c xs i x h lt e is = grind (arith, common_steps, nat_tests, left_at, front_same, append-nil)
 
 pub cut_nowhere : (c : ℕ) (xs : List ℕ) (i : ℕ) → IsCutLater c xs i → length xs ≤ i → (xs ≡ before c xs) × ([] ≡ behind c xs)
 unfolding before behind
-cut_nowhere c xs i h le =
-    let none = drop_all i xs le in
-    (sym (h.front ∙ ap (λ ys. take i xs ++ before c ys) none ∙ append-nil (take i xs) ∙ take_all i xs le), sym (h.rest ∙ ap (behind c) none))
+cut_nowhere c xs i h le = grind (arith, common_steps, drop_all, append-nil, take_all)
 
 -- the number of a text is that of what is left of it
 module _ (xs : List ℕ) (i n x : ℕ) (h : number_from n (drop i xs) ≡ number_of xs) (lt : i < length xs) (e : x ≡ get_or xs i 0) where
   number_next : (b : Bool) → (nat_le 48 x && nat_le x 57 && nat_le (10 * n + (x - 48)) MOST_NUMBER) ≡ b
       → number_of xs ≡ (if b then number_from (10 * n + (x - 48)) (drop (i + 1) xs) else None)
   unfolding number_from
-  number_next b test = sym h ∙ ap (number_from n) (left_at xs i x lt e)
-      ∙ ap (λ t. if t then number_from (10 * n + (x - 48)) (drop (i + 1) xs) else None) test
+  number_next b test = grind (arith, common_steps, left_at)
 
   pub digit_read : 48 ≤ x → x ≤ 57 → 10 * n + (x - 48) ≤ MOST_NUMBER → number_from (10 * n + (x - 48)) (drop (i + 1) xs) ≡ number_of xs
   digit_read low high small = sym (number_next true (grind (arith, nat_tests)))

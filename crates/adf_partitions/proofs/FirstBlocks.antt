@@ -3,10 +3,11 @@
 use Rattle.std.proofs.Common.{◌≡◌, ◌<◌, ◌≤◌, ◌+◌, ◌*◌, inl, inr, ℕ, zero, suc, List}
 use Rattle.std.proofs.Common.{◌++◌, [], ◌∷◌, length, take, drop, refl, sym, ap, subst, ◌∙◌, arith}
 use Rattle.std.proofs.Common.{Bool, true, false}
-use Rattle.std.specs.Prelude.{◌&&◌, if◌then◌else◌, not, nat_lt, min, ◌↔◌}
+use Rattle.std.specs.Prelude.{◌&&◌, if◌then◌else◌, not, nat_lt, ◌↔◌}
 use Rattle.std.specs.List.{list_any}
 use Rattle.std.proofs.lemmas.Bool.{cases_lt}
 use Rattle.std.proofs.lemmas.List.{take-append-drop, take_all, length-take-le}
+use Rattle.std.proofs.lemmas.Grind.{common_steps}
 use Rattle.adf_base.specs.Words.{block, word}
 use Rattle.adf_partitions.specs.declared.fault.DiskFault.{DiskFault}
 use Rattle.adf_partitions.specs.declared.layout.TheConstants.{BLOCK_BYTES, MOST_PARTITIONS, MOST_TABLES, RDSK_BLOCKS}
@@ -17,7 +18,6 @@ use Rattle.adf_partitions.specs.Disks.FirstFault.{at_list, at_tables}
 use Rattle.adf_partitions.specs.Partitions.{partition_of}
 use Rattle.adf_partitions.specs.Searches.{AreReadable, is_part, kept_up_to, with_all_lost, with_lost}
 use Rattle.adf_partitions.specs.Searches.AreReadable.{whole, cut, bare, other}
-use Rattle.adf_partitions.specs.Tables.{is_table}
 use Rattle.adf_partitions.proofs.TablesEnough.{StartAgrees, TablesAgree, same_cut, same_lack, same_list_fault, same_rdsk}
 use Rattle.adf_partitions.proofs.TablesEnough.{same_tables, same_whole, start_agrees, start_back, tables_agree, tables_back}
 
@@ -41,9 +41,7 @@ same_lost_of n t ps b false p q h = refl
 
 module _ {A B : List ℕ} {kept : Tables} (s : TablesAgree A B kept) where
   same_lost : (n : ℕ) (t : Tables) (ps : List Partition) (b : ℕ) → with_lost A n t kept ps b ≡ with_lost B n t kept ps b
-  same_lost n t ps b =
-      same_lost_of n t ps b (is_table A kept b) (block A b) (block B b) (s.blocks b)
-      ∙ ap (λ (k : Bool). lost_of n t ps b k (block B b)) (s.tables b)
+  same_lost n t ps b = grind (arith, common_steps, same_lost_of, lost_of)
 
   same_all_lost : (n : ℕ) (t : Tables) (ps : List Partition) (k : ℕ) → with_all_lost A n t kept ps k ≡ with_all_lost B n t kept ps k
   unfolding with_all_lost
@@ -71,19 +69,10 @@ module _ {A B : List ℕ} (g : Agrees A B) (n : ℕ) where
 
 -- the first blocks, and the rest
 all_same : (bytes : List ℕ) → Agrees bytes bytes
-all_same bytes = record {
-  start = record { blocks = λ b lt. refl; rdsk = λ b lt. refl };
-  tables = λ t. record { blocks = λ b kept. refl; tables = λ b. refl };
-}
+all_same bytes = grind (arith, common_steps)
 
 front_agrees : (front rest : List ℕ) → MOST_TABLES * 512 ≤ length front → Agrees front (front ++ rest)
-front_agrees front rest h = record {
-  start = start_agrees front rest (omega arith);
-  tables = λ t. tables_agree front rest t (few t.highest);
-}
-  where
-    few : (highest : ℕ) → min (highest + 1) MOST_TABLES * 512 ≤ length front
-    few highest = omega arith
+front_agrees front rest h = grind (arith, common_steps, start_agrees, tables_agree)
 
 first_agree : (bytes : List ℕ) → Agrees (take (MOST_TABLES * 512) bytes) bytes
 first_agree bytes = elim (cases_lt (length bytes) (MOST_TABLES * 512)) [

@@ -1,16 +1,15 @@
 -- If the tables of a disk name a partition, there is one that can be read. Letters: as in specs/Disks; k is the room that is left.
-use Rattle.std.proofs.Common.{◌≡◌, ◌≢◌, ◌≤◌, ◌<◌, ◌+◌, [], ◌⊎◌, ℕ, zero, suc, List, Option, Some, None, arith, inl, inr, length, refl, rules, subst, true}
-use Rattle.std.specs.Prelude.{nat_lt}
+use Rattle.std.proofs.Common.{◌≡◌, ◌≢◌, ◌≤◌, ◌<◌, ◌+◌, [], ◌⊎◌, ℕ, zero, suc, List, Option, Some, None, arith, inl, inr, length, refl, subst}
 use Rattle.std.proofs.lemmas.Bool.{cases_eq}
 use Rattle.std.proofs.lemmas.List.{length_push}
-use Rattle.adf_partitions.specs.declared.fault.DiskCause.TheVariants.{TooMany}
+use Rattle.std.proofs.lemmas.Grind.{common_steps}
 use Rattle.adf_partitions.specs.declared.fault.DiskFault.{DiskFault}
 use Rattle.adf_partitions.specs.declared.layout.TheConstants.{MOST_PARTITIONS, MOST_TABLES, NO_BLOCK}
 use Rattle.adf_partitions.specs.declared.partition.Partition.{Partition}
 use Rattle.adf_partitions.specs.declared.tables.Tables.{Tables}
 use Rattle.adf_partitions.specs.Disks.{IsFollowed, IsFound, NamesPartition, part_form, partition_at}
 use Rattle.adf_partitions.specs.Disks.IsFound.{start, step}
-use Rattle.adf_partitions.specs.Faults.{disk_fault, first_failed}
+use Rattle.adf_partitions.specs.Faults.{first_failed}
 use Rattle.adf_partitions.specs.Searches.{HasReadable, with_all_lost}
 use Rattle.adf_partitions.specs.Searches.AreReadable.{cut, whole}
 use Rattle.adf_partitions.specs.Tables.{IsTables}
@@ -30,16 +29,12 @@ module _ (bytes : List ℕ) (n : ℕ) (t : Tables) where
   names_one (step h some sound) later passes = names_one h some sound
 
   is_few : (ps : List Partition) (a b : ℕ) → first_failed (part_form bytes t ps a b) ≡ None → length ps < MOST_PARTITIONS
-  is_few ps a b sound =
-      let few : nat_lt (length ps) MOST_PARTITIONS ≡ true =
-      each_held (part_form bytes t ps a b) sound (nat_lt (length ps) MOST_PARTITIONS, disk_fault b TooMany) (search rules) in
-      lt_of (length ps) MOST_PARTITIONS few
+  is_few ps a b sound = grind (arith, common_steps, each_held, lt_of)
 
   -- a list has no more partitions than a disk may have
   no_more : {ps : List Partition} {a b : ℕ} → IsFound bytes n t ps a b → length ps ≤ MOST_PARTITIONS
   no_more start = omega arith
-  no_more (step {ps = ps} {a = a} {b = b} h some sound) =
-      omega (arith, is_few ps a b sound, length_push ps (partition_at bytes n t ps b))
+  no_more (step {ps = ps} {a = a} {b = b} h some sound) = grind (arith, common_steps, is_few, length_push)
 
   -- the list up to its end or its first fault, with a partition
   abbrev HasList : Type 0

@@ -3,6 +3,7 @@
 use Rattle.std.proofs.Common.{◌≡◌, ◌≢◌, ◌<◌, ◌⊎◌, inl, inr, ℕ, zero, suc, List, [], ◌∷◌, ◌++◌, length, refl, sym, ap, subst, ◌∙◌, arith, Some, None}
 use Rattle.std.proofs.lemmas.Bool.{cases_lt}
 use Rattle.std.proofs.lemmas.List.{length_push}
+use Rattle.std.proofs.lemmas.Grind.{common_steps}
 use Rattle.adf_base.specs.Words.{block, word}
 use Rattle.adf_partitions.specs.declared.fault.DiskCause.TheVariants.{BlockSize, NoRigidDisk}
 use Rattle.adf_partitions.specs.declared.fault.DiskFault.{DiskFault}
@@ -19,13 +20,7 @@ use Rattle.adf_partitions.specs.Tables.{HasNoRdsk, HasNoTables, IsRdsk, IsTables
 
 -- a disk has one rigid disk block
 one_rdsk : {bytes : List ℕ} {a b : ℕ} → IsRdsk bytes a → IsRdsk bytes b → a ≡ b
-one_rdsk {a = a} {b = b} r s = elim (cases_lt a b) [
-  | inl lt ↦ let n = s.first a lt in let y = r.is in absurd cc
-  | inr ge ↦ elim (cases_lt b a) [
-    | inl lt ↦ let n = r.first b lt in let y = s.is in absurd cc
-    | inr le ↦ omega arith
-  ]
-]
+one_rdsk {a = a} {b = b} r s = grind (arith, common_steps, cases_lt)
 
 -- and one place of its tables
 pub one_tables : {bytes : List ℕ} {t u : Tables} → IsTables bytes t → IsTables bytes u → t ≡ u
@@ -91,15 +86,7 @@ module _ (bytes : List ℕ) (n : ℕ) (t : Tables) where
 
   pub one_stop : {ps qs : List Partition} {a b c d : ℕ} → IsFound bytes n t ps a b → Stops (state ps a b) → IsFound bytes n t qs c d → Stops (state qs c d)
       → state ps a b ≡ state qs c d
-  one_stop {ps} {qs} h stops k ends = elim (cases_lt (length ps) (length qs)) [
-    | inl lt ↦ absurd (no_longer h stops k lt)
-    | inr ge ↦ elim (cases_lt (length qs) (length ps)) [
-      | inl lt ↦ absurd (no_longer k ends h lt)
-      | inr le ↦
-          let e : length ps ≡ length qs = omega arith in
-          is_after h ∙ ap found_after e ∙ sym (is_after k)
-    ]
-  ]
+  one_stop {ps} {qs} h stops k ends = grind (arith, common_steps, cases_lt, no_longer, is_after, found_after)
 
   one_list : {ps qs : List Partition} → IsWhole bytes n t ps → IsWhole bytes n t qs → ps ≡ qs
   one_list w v = ap (λ (s : State). s.0) (one_stop w.1 (inl refl) v.1 (inl refl))
@@ -111,12 +98,7 @@ module _ (bytes : List ℕ) (n : ℕ) (t : Tables) where
   one_cut {f = f} {g = g} w v = ap (λ (s : State). s.0) (one_stop w.found (inr (f, w.failed)) v.found (inr (g, v.failed)))
 
   one_list_fault : {f g : DiskFault} → IsListFault bytes n t f → IsListFault bytes n t g → f ≡ g
-  one_list_fault {f = f} {g = g} (ps, w) (qs, v) =
-      let e = one_stop w.found (inr (f, w.failed)) v.found (inr (g, v.failed)) in
-      let same = ap (λ (s : State). first_failed (part_form bytes t s.0 s.1 s.2)) e in
-      let x = w.failed in
-      let y = v.failed in
-      cc
+  one_list_fault {f = f} {g = g} (ps, w) (qs, v) = grind (arith, common_steps, one_stop)
 
 pub one_disk : (bytes : List ℕ) (n : ℕ) (t u : Tables) (ps qs : List Partition) → IsDisk bytes n t ps → IsDisk bytes n u qs → (t ≡ u) × (ps ≡ qs)
 one_disk bytes n t u ps qs d e =

@@ -1,5 +1,6 @@
 -- A text has one plan, or one fault. p, q are partitions, a, b plans, e, d what stands behind their lines.
-use Rattle.std.proofs.Common.{◌≡◌, ◌+◌, ◌∙◌, ℕ, true, false, List, [], ◌∷◌, Option, Some, length, ap, ap₂, refl, sym, subst, inl, inr}
+use Rattle.std.proofs.Common.{◌≡◌, ◌∙◌, ℕ, true, false, List, [], ◌∷◌, Option, Some, ap, ap₂, refl, sym, subst, inl, inr, arith}
+use Rattle.std.proofs.lemmas.Grind.{common_steps}
 use Rattle.adf_tree.proofs.Spellings.{only_spelled}
 use Rattle.adf_tree.specs.declared.entry.Kind.{Kind}
 use Rattle.adf_partitions.specs.declared.plan.PartitionPlan.{PartitionPlan}
@@ -41,18 +42,10 @@ plan sectors heads ps = record { sectors = sectors; heads = heads; partitions = 
 
 one_end : (text : List ℕ) (a b : PlanValue) (e d : List ℕ) → HasLines text a e → HasLines text b d → (a ≡ b) × (e ≡ d)
 unfolding plan
-one_end text a b e d h k =
-    let sectors = one_some _ a.sectors b.sectors h.0.text.first k.0.text.first in
-    let heads = one_some _ a.heads b.heads h.0.text.second k.0.text.second in
-    let front = one_front (behind_line text) a.partitions b.partitions e d h.1 k.1 h.2 k.2 in
-    let partitions = front.0 in
-    let same : plan a.sectors a.heads a.partitions ≡ plan b.sectors b.heads b.partitions = cc in
-    (same, front.1)
+one_end text a b e d h k = grind (arith, common_steps, one_some, one_front, plan)
 
 pub one_plan : (text : List ℕ) (a b : PlanValue) (c d : List ℕ) → IsText text a c → IsText text b d → (a ≡ b) × (c ≡ d)
-one_plan text a b c d h k =
-    let same = one_end text a b h.end k.end h.lines k.lines in
-    (same.0, h.behind ∙ ap behind_line same.1 ∙ sym k.behind)
+one_plan text a b c d h k = grind (arith, common_steps, one_end)
 
 no_end_in_nothing : is_end [] ≡ false
 unfolding before
@@ -66,9 +59,7 @@ no_end_fault a e NoMemory ends good h = absurd h
 
 pub no_text_fault : (text : List ℕ) (a : PlanValue) (c : List ℕ) (f : TextFault) → IsText text a c → IsTextFault text f → ⊥
 no_text_fault text a c f h (inl k) = k.2 a.sectors a.heads h.lines.0
-no_text_fault text a c f h (inr (b, d, lines, line, fault)) =
-    let same = one_end text a b h.end d h.lines lines in
-    no_end_fault b d f.kind (ap is_end (sym same.1) ∙ h.ends) (ap is_plan (sym same.0) ∙ h.good) fault
+no_text_fault text a c f h (inr (b, d, lines, line, fault)) = grind (arith, common_steps, fault, one_end, no_end_fault)
 
 one_kind : (a : PlanValue) (e : List ℕ) (k j : TextKind) → IsEndFault a e k → IsEndFault a e j → k ≡ j
 one_kind a e BadLine BadLine h g = refl
@@ -88,15 +79,10 @@ fault line kind = record { line = line; kind = kind }
 
 same_fault : (f g : TextFault) → f.line ≡ g.line → f.kind ≡ g.kind → f ≡ g
 unfolding fault
-same_fault f g line kind =
-    let same : fault f.line f.kind ≡ fault g.line g.kind = ap₂ fault line kind in
-    same
+same_fault f g line kind = grind (arith, common_steps, fault, ap₂)
 
 pub one_text_fault : (text : List ℕ) (f g : TextFault) → IsTextFault text f → IsTextFault text g → f ≡ g
 one_text_fault text f g (inl h) (inl k) = same_fault f g (h.0 ∙ sym k.0) (h.1 ∙ sym k.1)
 one_text_fault text f g (inl h) (inr (b, d, lines, line, fault)) = absurd (h.2 b.sectors b.heads lines.0)
 one_text_fault text f g (inr (a, e, lines, line, fault)) (inl k) = absurd (k.2 a.sectors a.heads lines.0)
-one_text_fault text f g (inr (a, e, lines, line, fault)) (inr (b, d, others, at, other)) =
-    let same = one_end text a b e d lines others in
-    let there : IsEndFault b d f.kind = subst (λ (x : List ℕ). IsEndFault b x f.kind) same.1 (subst (λ (x : PlanValue). IsEndFault x e f.kind) same.0 fault) in
-    same_fault f g (line ∙ ap (λ (x : PlanValue). length x.partitions + 2) same.0 ∙ sym at) (one_kind b d f.kind g.kind there other)
+one_text_fault text f g (inr (a, e, lines, line, fault)) (inr (b, d, others, at, other)) = grind (arith, common_steps, fault, one_end, same_fault, one_kind)

@@ -1,26 +1,20 @@
 -- The sizes of a plan.
-use Rattle.std.proofs.Common.{◌≡◌, ◌≤◌, ◌<◌, ◌+◌, ◌*◌, ◌/◌, ◌^◌, ◌∙◌, ℕ, suc, List, ◌∷◌, drop, get_or, length, ap, ap₂, refl, sym, arith, inl, inr}
+use Rattle.std.proofs.Common.{◌≡◌, ◌≤◌, ◌<◌, ◌+◌, ◌*◌, ◌/◌, ◌^◌, ◌∙◌, ℕ, List, ◌∷◌, drop, get_or, length, ap, ap₂, refl, arith}
 use Rattle.std.proofs.lemmas.Bool.{cases_lt}
 use Rattle.std.proofs.lemmas.List.{drop_all}
 use Rattle.std.proofs.Math.Seq.{drop-cons}
 use Rattle.std.proofs.lemmas.Nat.{mod_below, mul-le}
 use Rattle.std.proofs.Math.Nat.{div-add-mod}
+use Rattle.std.proofs.lemmas.Grind.{common_steps}
 use Rattle.adf_partitions.specs.Plans.{PlanValue, IsPlan, cylinder_blocks, cylinders_of, planned_cylinders, table_cylinders}
 use Rattle.adf_partitions.specs.declared.plan.PartitionPlan.{PartitionPlan}
 
 -- the cylinders of n blocks behind one more
 enough : (n c : ℕ) → 1 ≤ c → n + 1 ≤ (n + c) / c * c
-enough n c pos =
-    let whole = div-add-mod (n + c) c in
-    let part = mod_below (n + c) c (omega arith) in
-    let swap : c * ((n + c) / c) ≡ (n + c) / c * c = omega arith in
-    omega arith
+enough n c pos = grind (arith, common_steps, div-add-mod, mod_below)
 
 factor_positive : (a c : ℕ) → 1 ≤ a * c → 1 ≤ a
-factor_positive a c h = elim (cases_lt 0 a) [
-  | inl pos ↦ omega arith
-  | inr none ↦ let z : a * c ≤ 0 * c = mul-le a c 0 c none (omega arith) in absurd (omega arith)
-]
+factor_positive a c h = grind (arith, common_steps, cases_lt, mul-le)
 
 pub cylinders_more : (p : PartitionPlan) (ps : List PartitionPlan) → cylinders_of (p ∷ ps) ≡ p.cylinders + cylinders_of ps
 unfolding cylinders_of
@@ -28,9 +22,7 @@ cylinders_more p ps = refl
 
 -- what is left from a partition on
 pub plans_at : (ps : List PartitionPlan) (i : ℕ) (p : PartitionPlan) → i < length ps → p ≡ get_or ps i p → drop i ps ≡ p ∷ drop (i + 1) ps
-plans_at ps i p lt e =
-    let next : suc i ≡ i + 1 = omega arith in
-    drop-cons ps i p lt ∙ ap₂ (λ (q : PartitionPlan) (k : ℕ). q ∷ drop k ps) (sym e) next
+plans_at ps i p lt e = grind (arith, common_steps, drop-cons, ap₂)
 
 pub cylinders_at : (ps : List PartitionPlan) (i : ℕ) (p : PartitionPlan) → i < length ps → p ≡ get_or ps i p
     → cylinders_of (drop i ps) ≡ p.cylinders + cylinders_of (drop (i + 1) ps)

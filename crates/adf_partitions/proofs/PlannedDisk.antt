@@ -5,14 +5,14 @@ use Rattle.std.proofs.Common.{◌≡◌, ◌≤◌, ◌<◌, ◌+◌, ◌-◌, �
 use Rattle.std.proofs.Common.{None, Ok, Err}
 use Rattle.std.proofs.Common.{append-nil, append_assoc, length-append}
 use Rattle.std.specs.Prelude.{All, IfOk, Result, ◌&&◌, ◌==◌, not, nat_le, nat_lt, replicate}
-use Rattle.std.specs.Int.{cast_signed, w32}
 use Rattle.std.specs.List.{list_any}
 use Rattle.std.proofs.lemmas.Bool.Decides.{nat_tests}
 use Rattle.std.proofs.lemmas.List.{drop_at, length_push, take_at}
 use Rattle.std.proofs.lemmas.Nat.{mul-le}
+use Rattle.std.proofs.lemmas.Grind.{common_steps}
 use Rattle.adf_base.specs.Words.{block, word}
-use Rattle.adf_partitions.specs.declared.layout.TheConstants.{BLOCK_BYTES, BLOCK_SECTORS, BOOT_PRIORITY, DOS_TYPE, ENV_BLOCK_WORDS, ENV_LENGTH, FLAGS}
-use Rattle.adf_partitions.specs.declared.layout.TheConstants.{MARK, MOST_PARTITIONS, MOST_TABLES, NO_BLOCK}
+use Rattle.adf_partitions.specs.declared.layout.TheConstants.{BLOCK_SECTORS, ENV_BLOCK_WORDS, ENV_LENGTH}
+use Rattle.adf_partitions.specs.declared.layout.TheConstants.{NO_BLOCK}
 use Rattle.adf_partitions.specs.declared.partition.Partition.{Partition}
 use Rattle.adf_partitions.specs.declared.place.Place.{Place}
 use Rattle.adf_partitions.specs.declared.place.PlaceFault.{PlaceFault}
@@ -22,11 +22,10 @@ use Rattle.adf_partitions.specs.declared.plan.PartitionPlan.{PartitionPlan}
 use Rattle.adf_partitions.specs.Disks.{IsDisk, IsFound, IsWhole, is_at, part_form}
 use Rattle.adf_partitions.specs.Disks.IsFound.{start}
 use Rattle.adf_partitions.specs.Faults.{first_failed}
-use Rattle.adf_partitions.specs.Partitions.{has_name, name_at, is_over_earlier, is_over_place, partition_of, place_form, placed}
+use Rattle.adf_partitions.specs.Partitions.{has_name, is_over_earlier, is_over_place, partition_of, place_form, placed}
 use Rattle.adf_partitions.specs.Places.{blocks_from, end_of, has_cylinders, is_over_tables, place_of}
 use Rattle.adf_partitions.specs.Plans.{PlanValue, IsPartitionPlan, IsPlan, cylinder_blocks, cylinders_of, partitions_from, planned_blocks, planned_cylinders}
 use Rattle.adf_partitions.specs.Plans.{planned_partition, planned_partitions, table_cylinders}
-use Rattle.adf_partitions.specs.Summed.{is_summed}
 use Rattle.adf_partitions.specs.Tables.{IsTables}
 use Rattle.adf_partitions.specs.WrittenTables.{block_after, part_block, part_blocks, planned_tables, rdsk_block, table_bytes, written_bytes}
 use Rattle.adf_partitions.proofs.FoundSteps.{one_more}
@@ -48,9 +47,7 @@ not_at b e (q ∷ qs) h =
     rw (other, not_at b e qs h.2) refl
 
 over_none : (r : Place) (e : ℕ) (o : Result Place PlaceFault) → IfOk o (λ s. end_of s ≤ e) → e ≤ r.first → is_over_place r o ≡ false
-over_none r e (Ok s) h le =
-    let past : nat_lt r.first (end_of s) ≡ false = grind (arith, nat_tests) in
-    rw past refl
+over_none r e (Ok s) h le = grind (arith, common_steps, nat_tests)
 over_none r e (Err f) h le = refl
 
 not_over : (r : Place) (b e : ℕ) (qs : List Partition) → AreBefore b e qs → e ≤ r.first → is_over_earlier r qs ≡ false
@@ -98,9 +95,7 @@ StandThere bytes plan k low (p ∷ ps) =
 -- a block behind a front
 block_behind : (front b rest : List ℕ) (k : ℕ) → length front ≡ k * 512 → length b ≡ 512 → block (front ++ (b ++ rest)) k ≡ b
 unfolding block
-block_behind front b rest k e n =
-    let width : k * 512 + 512 - k * 512 ≡ 512 = omega arith in
-    rw (drop_at front (b ++ rest) (k * 512) e, width) (take_at b rest 512 n)
+block_behind front b rest k e n = grind (arith, common_steps, b, drop_at, take_at)
 
 module _ (plan : PlanValue) (h : IsPlan plan) where
   -- the blocks of the partitions, behind a front
@@ -146,12 +141,7 @@ module _ (plan : PlanValue) (h : IsPlan plan) where
         (omega (arith, ends, mul-le (low + p.cylinders) (cylinder_blocks plan) (planned_cylinders plan) (cylinder_blocks plan) within (omega arith)))
 
     beside : is_over_tables place (planned_tables plan) ≡ false
-    beside =
-        let least = mul-le (table_cylinders plan) (cylinder_blocks plan) low (cylinder_blocks plan) l.behind (omega arith) in
-        let hold = tables_hold plan h in
-        let kept : nat_lt (low * cylinder_blocks plan) (0 + ((planned_tables plan).highest + 1 - 0)) ≡ false = grind (arith, nat_tests) in
-        let rdsk : nat_lt (low * cylinder_blocks plan) (0 + 1) ≡ false = grind (arith, nat_tests) in
-        rw (kept, rdsk) refl
+    beside = grind (arith, common_steps, mul-le, tables_hold, nat_tests)
 
     apart : is_over_earlier place done ≡ false
     apart = not_over place (k + 1) (low * cylinder_blocks plan) done before (omega arith)
@@ -170,41 +160,18 @@ module _ (plan : PlanValue) (h : IsPlan plan) where
 
     no_fault : first_failed (tests (place_of b)) ≡ None
     no_fault =
-        ap (λ (q : Place). first_failed (tests q)) (part-place plan h (k + 1) low p fits within)
-        ∙ rw (part-environment plan h (k + 1) low p fits within, part-blocks plan h (k + 1) low p fits within, part-cylinders plan h (k + 1) low p fits within)
-        (rw (in_disk, beside, apart, part-has_name plan h (k + 1) low p fits within) refl)
+        grind (arith, common_steps, tests, part-place, fits, within, part-environment, part-blocks, part-cylinders, in_disk, beside, apart, part-has_name)
 
     placed_there : placed (place_of b) (first_failed (place_form (planned_blocks plan) (planned_tables plan) done b)) ≡ Ok place
     placed_there = ap (placed (place_of b)) no_fault ∙ ap Ok (part-place plan h (k + 1) low p fits within)
 
     is_planned : planned_partition (cylinder_blocks plan) (k + 1) low p ≡ partition_of (planned_blocks plan) (planned_tables plan) done (k + 1) b
-    is_planned =
-        sym (ap (λ (r : Result Place PlaceFault). record {
-          block = k + 1;
-          name = name_at b;
-          flags = word b FLAGS;
-          priority = cast_signed w32 (word b BOOT_PRIORITY);
-          dos_type = word b DOS_TYPE;
-          place = r;
-        }) placed_there
-        ∙ rw (part-name plan h (k + 1) low p fits within, part-flags plan h (k + 1) low p fits within, part_priority plan h (k + 1) low p fits within)
-        (rw (part-type plan h (k + 1) low p fits within) refl))
+    is_planned = grind (arith, common_steps, b, place, placed_there, part-name, fits, within, part-flags, part_priority, part-type)
 
     -- the tests of the block, where the bytes hold it
     passes : (bytes : List ℕ) (a : ℕ) → block bytes (k + 1) ≡ b → (k + 1) * 512 + 512 ≤ length bytes → length done ≡ k
         → first_failed (part_form bytes (planned_tables plan) done a (k + 1)) ≡ None
-    passes bytes a there room count =
-        let hold = tables_hold plan h in
-        let left = l.count in
-        let few = h.few in
-        let high = of_le (k + 1) (planned_tables plan).highest (omega arith) in
-        let low_table = of_le 0 (k + 1) (omega arith) in
-        let before_most = of_lt (k + 1) MOST_TABLES (omega arith) in
-        let held = of_le ((k + 1) * 512 + 512) (length bytes) room in
-        let some = of_lt (length done) MOST_PARTITIONS (omega arith) in
-        let mark = ap (λ x. word x MARK) there ∙ part-mark plan h (k + 1) low p fits within in
-        let summed = ap is_summed there ∙ part-summed plan h (k + 1) low p fits within in
-        rw (low_table, high, before_most, held) (rw (not_at (k + 1) (low * cylinder_blocks plan) done before, mark, summed, some) refl)
+    passes bytes a there room count = grind (arith, common_steps, tables_hold, of_le, of_lt, part-mark, fits, within, part-summed, not_at)
 
   block_next : (k : ℕ) → k + 1 ≤ length plan.partitions → block_after (length plan.partitions) k ≡ k + 1
   block_next k le = let t = of_lt k (length plan.partitions) (omega arith) in rw t refl
@@ -250,16 +217,7 @@ module _ (plan : PlanValue) (h : IsPlan plan) where
 
   are_tables : (rest : List ℕ) → IsTables (rdsk_block plan ++ rest) (planned_tables plan)
   are_tables rest =
-      let bytes = rdsk_block plan ++ rest in
-      let there = rdsk_there rest in
-      let held = of_le (0 * 512 + 512) (length bytes) (omega (arith, length-append (rdsk_block plan) rest, length_rdsk plan h)) in
-      let mark = ap (λ x. word x MARK) there ∙ rdsk_mark plan h in
-      let summed = ap is_summed there ∙ rdsk-summed plan h in
-      record {
-        rdsk = record { low = omega arith; is = rw (held, mark, summed) refl; first = λ k lt. absurd (omega arith) };
-        size = ap (λ x. word x BLOCK_BYTES) there ∙ rdsk-size plan h;
-        same = sym (rw (there, rdsk-first plan h, rdsk-lowest plan h, rdsk-highest plan h) refl);
-      }
+      grind (arith, common_steps, rdsk_there, of_le, length-append, length_rdsk, rdsk_mark, rdsk-summed, rdsk-size, rdsk-first, rdsk-lowest, rdsk-highest)
 
   disk_behind : (rest : List ℕ) → IsDisk (written_bytes plan ++ rest) (planned_blocks plan) (planned_tables plan) (planned_partitions plan)
   disk_behind rest =

@@ -1,10 +1,11 @@
 -- The sizes of written tables, and the volumes behind them.
 -- Letters: as in proofs/PlannedDisk; c the blocks of a cylinder, vs the volumes of ps.
-use Rattle.std.proofs.Common.{◌≡◌, ◌≤◌, ◌+◌, ◌-◌, ◌*◌, ◌∙◌, ℕ, List, [], ◌∷◌, ◌++◌, length, ap, refl, sym, subst, arith, append-nil, append_assoc}
+use Rattle.std.proofs.Common.{◌≡◌, ◌≤◌, ◌+◌, ◌-◌, ◌*◌, ℕ, List, [], ◌∷◌, ◌++◌, length, refl, subst, arith, append-nil, append_assoc}
 use Rattle.std.proofs.Common.{drop, take, length-append}
 use Rattle.std.specs.Prelude.{replicate, slice_range}
 use Rattle.std.specs.List.{flat_map}
 use Rattle.std.proofs.lemmas.List.{drop_all, drop_at, length-replicate, take_all, take_at}
+use Rattle.std.proofs.lemmas.Grind.{common_steps}
 use Rattle.adf_partitions.specs.declared.plan.PartitionPlan.{PartitionPlan}
 use Rattle.adf_partitions.specs.Places.{blocks_from, end_of}
 use Rattle.adf_partitions.specs.Plans.{PlanValue, AreVolumes, IsPlan, StandInPlaces, cylinder_blocks, cylinders_of, partitions_from, planned_blocks}
@@ -31,9 +32,7 @@ length_written_bytes plan h =
 
 pub length_table_bytes : (plan : PlanValue) → IsPlan plan → length (table_bytes plan) ≡ table_cylinders plan * cylinder_blocks plan * 512
 unfolding table_bytes
-length_table_bytes plan h =
-    let left = (table_cylinders plan * cylinder_blocks plan - (length plan.partitions + 1)) * 512 in
-    omega (arith, length_written_bytes plan h, tables_hold plan h, length-append (written_bytes plan) (replicate left 0), length-replicate {A = ℕ} left 0)
+length_table_bytes plan h = grind (arith, common_steps, length_written_bytes, tables_hold, length-append, length-replicate)
 
 length_volumes : (c : ℕ) (ps : List PartitionPlan) (vs : List (List ℕ)) → AreVolumes c ps vs
     → length (flat_map (λ (v : List ℕ). v) vs) ≡ cylinders_of ps * c * 512
@@ -46,9 +45,7 @@ length_volumes c (p ∷ ps) [] h = absurd h
 
 -- what stands behind a front
 behind : (front v rest : List ℕ) (a b : ℕ) → length front ≡ a → b ≡ a + length v → slice_range (front ++ (v ++ rest)) a b ≡ v
-behind front v rest a b e n =
-    let width : b - a ≡ length v = omega arith in
-    rw (drop_at front (v ++ rest) a e, width) (take_at v rest (length v) refl)
+behind front v rest a b e n = grind (arith, common_steps, drop_at, take_at)
 
 stand_volumes : (front : List ℕ) (c k low : ℕ) (ps : List PartitionPlan) (vs : List (List ℕ)) → length front ≡ low * c * 512 → AreVolumes c ps vs
     → StandInPlaces (front ++ flat_map (λ (v : List ℕ). v) vs) (partitions_from c k low ps) vs
@@ -67,13 +64,7 @@ stand_volumes front c k low (p ∷ ps) [] e h = absurd h
 
 module _ (plan : PlanValue) (vs : List (List ℕ)) (h : IsPlan plan) (are : AreVolumes (cylinder_blocks plan) plan.partitions vs) where
   pub disk_size : length (disk_bytes plan vs) ≡ planned_blocks plan * 512
-  disk_size =
-      omega (
-        arith,
-        length_table_bytes plan h,
-        length_volumes (cylinder_blocks plan) plan.partitions vs are,
-        length-append (table_bytes plan) (flat_map (λ (v : List ℕ). v) vs),
-      )
+  disk_size = grind (arith, common_steps, length_table_bytes, length_volumes, length-append)
 
   pub volumes_stand : StandInPlaces (disk_bytes plan vs) (planned_partitions plan) vs
   volumes_stand = stand_volumes (table_bytes plan) (cylinder_blocks plan) 1 (table_cylinders plan) plan.partitions vs (length_table_bytes plan h) are
@@ -83,25 +74,16 @@ pub part_put : (plan : PlanValue) (ps left : List PartitionPlan) (i low : ℕ) (
     → bytes ++ part_blocks plan (i + 1) low (drop i ps) ≡ all
     → (bytes ++ part_block plan (i + 1) low p) ++ part_blocks plan (i + 1 + 1) (low + p.cylinders) left ≡ all
 unfolding part_blocks
-part_put plan ps left i low p bytes all e h =
-    append_assoc bytes (part_block plan (i + 1) low p) (part_blocks plan (i + 1 + 1) (low + p.cylinders) left)
-    ∙ ap (λ (k : List PartitionPlan). bytes ++ part_blocks plan (i + 1) low k) (sym e) ∙ h
+part_put plan ps left i low p bytes all e h = grind (arith, common_steps, append_assoc)
 
 pub parts_end : (plan : PlanValue) (ps : List PartitionPlan) (i low : ℕ) (bytes all : List ℕ) → length ps ≤ i
     → bytes ++ part_blocks plan (i + 1) low (drop i ps) ≡ all → bytes ≡ all
 unfolding part_blocks
-parts_end plan ps i low bytes all le h =
-    sym (append-nil bytes) ∙ ap (λ (k : List PartitionPlan). bytes ++ part_blocks plan (i + 1) low k) (sym (drop_all i ps le)) ∙ h
+parts_end plan ps i low bytes all le h = grind (arith, common_steps, append-nil, drop_all)
 
 -- the tables behind the blocks that have words
 pub zeros_put : (plan : PlanValue) → IsPlan plan → (bytes : List ℕ) (n m : ℕ) → bytes ≡ written_bytes plan → m ≡ length bytes
     → n ≡ table_cylinders plan * cylinder_blocks plan * 512
     → take n bytes ++ replicate (n - m) 0 ≡ table_bytes plan
 unfolding table_bytes
-zeros_put plan h bytes n m e all is =
-    let len = length_written_bytes plan h in
-    let hold = tables_hold plan h in
-    let same : length bytes ≡ length (written_bytes plan) = ap length e in
-    let left : n - m ≡ (table_cylinders plan * cylinder_blocks plan - (length plan.partitions + 1)) * 512 = omega arith in
-    rw left (ap (λ x. x ++ replicate ((table_cylinders plan * cylinder_blocks plan - (length plan.partitions + 1)) * 512) 0)
-    (take_all n bytes (omega arith) ∙ e))
+zeros_put plan h bytes n m e all is = grind (arith, common_steps, length_written_bytes, tables_hold, take_all)

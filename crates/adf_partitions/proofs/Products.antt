@@ -1,6 +1,7 @@
 -- Products of numbers of cylinders, surfaces and blocks.
-use Rattle.std.proofs.Common.{◌≡◌, ◌<◌, ◌≤◌, ℕ, ◌+◌, ◌-◌, ◌*◌, ◌^◌, ◌∙◌, ap, arith}
+use Rattle.std.proofs.Common.{◌≡◌, ◌<◌, ◌≤◌, ℕ, ◌+◌, ◌-◌, ◌*◌, ◌^◌, arith}
 use Rattle.std.proofs.lemmas.Nat.{mul-le, mul-lt}
+use Rattle.std.proofs.lemmas.Grind.{common_steps}
 
 -- the product of two words fits in 64 bits
 pub product_fits : (a b : ℕ) → a < 2 ^ 32 → b < 2 ^ 32 → a * b < 2 ^ 64
@@ -15,6 +16,4 @@ parted_sum a d c = omega arith
 
 -- a product, parted
 pub parted_product : (a b c : ℕ) → a ≤ b → a * c + (b - a) * c ≡ b * c
-parted_product a b c h =
-    let e : a + (b - a) ≡ b = omega arith in
-    parted_sum a (b - a) c ∙ ap (λ x. x * c) e
+parted_product a b c h = grind (arith, common_steps, parted_sum)

@@ -1,8 +1,9 @@
 -- The search for lost partition blocks, one block after the other. ps are the partitions before it, `found` those after k blocks.
-use Rattle.std.proofs.Common.{◌≡◌, ◌≢◌, ◌≤◌, ◌<◌, ◌+◌, ◌++◌, ◌∷◌, [], ◌∙◌, ℕ, zero, suc, List, Bool, true, false, ap, arith, inl, inr, length, refl, subst, sym}
+use Rattle.std.proofs.Common.{◌≡◌, ◌≢◌, ◌≤◌, ◌<◌, ◌+◌, ◌++◌, ◌∷◌, [], ℕ, zero, suc, List, Bool, true, false, ap, arith, inl, inr, length, refl, subst}
 use Rattle.std.proofs.lemmas.Bool.{cases_lt}
 use Rattle.std.proofs.lemmas.List.{length_push}
 use Rattle.std.specs.Prelude.{if◌then◌else◌}
+use Rattle.std.proofs.lemmas.Grind.{common_steps}
 use Rattle.adf_partitions.specs.Disks.{partition_at}
 use Rattle.adf_partitions.specs.Searches.{is_lost, with_all_lost, with_lost}
 use Rattle.adf_partitions.specs.declared.partition.Partition.{Partition}
@@ -23,16 +24,12 @@ module _ (bytes : List ℕ) (n : ℕ) (t kept : Tables) (ps : List Partition) wh
   -- block k is lost
   pub put_lost : (k : ℕ) (found : List Partition) → found ≡ with_all_lost bytes n t kept ps k → is_lost bytes kept found k ≡ true
       → found ++ partition_at bytes n t found k ∷ [] ≡ with_all_lost bytes n t kept ps (k + 1)
-  put_lost k found h e =
-      sym (one_searched k ∙ ap (λ (f : List Partition). with_lost bytes n t kept f k) (sym h)
-      ∙ ap (λ (x : Bool). if x then found ++ partition_at bytes n t found k ∷ [] else found) e)
+  put_lost k found h e = grind (arith, common_steps, one_searched)
 
   -- or it is not
   pub put_none : (k : ℕ) (found : List Partition) → found ≡ with_all_lost bytes n t kept ps k → is_lost bytes kept found k ≡ false
       → found ≡ with_all_lost bytes n t kept ps (k + 1)
-  put_none k found h e =
-      sym (one_searched k ∙ ap (λ (f : List Partition). with_lost bytes n t kept f k) (sym h)
-      ∙ ap (λ (x : Bool). if x then found ++ partition_at bytes n t found k ∷ [] else found) e)
+  put_none k found h e = grind (arith, common_steps, one_searched)
 
   some_kept : (found : List Partition) (k : ℕ) (lost : Bool) → found ≢ []
       → (if lost then found ++ partition_at bytes n t found k ∷ [] else found) ≢ []

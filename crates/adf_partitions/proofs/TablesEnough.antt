@@ -1,17 +1,18 @@
 -- What follows the tables of a disk changes nothing that is read of it.
 -- Letters: as in specs/Disks; A, B two disks that agree in their tables.
-use Rattle.std.proofs.Common.{◌≡◌, ◌<◌, ◌≤◌, ◌+◌, ◌*◌, inl, inr, ℕ, List, ◌++◌, [], ◌∷◌, length, drop, refl, sym, ap, subst, ◌∙◌, arith}
+use Rattle.std.proofs.Common.{◌≡◌, ◌<◌, ◌≤◌, ◌+◌, ◌*◌, inl, inr, ℕ, List, ◌++◌, [], ◌∷◌, length, refl, sym, ap, subst, ◌∙◌, arith}
 use Rattle.std.proofs.Common.{Bool, true, false, None}
-use Rattle.std.specs.Prelude.{◌&&◌, ◌==◌, not, nat_le, nat_lt, min}
+use Rattle.std.specs.Prelude.{◌&&◌, ◌==◌, not, nat_lt, min}
 use Rattle.std.specs.List.{list_any}
 use Rattle.std.proofs.Common.{length-append}
 use Rattle.std.proofs.lemmas.List.{take-append-le}
 use Rattle.std.proofs.lemmas.Slice.{between_is}
+use Rattle.std.proofs.lemmas.Grind.{common_steps}
 use Rattle.adf_base.specs.Words.{block, word}
 use Rattle.adf_partitions.specs.declared.fault.DiskCause.TheVariants.{OutOfRange, Repeated, NotPartition, BadSum, TooMany}
 use Rattle.adf_partitions.specs.declared.fault.DiskFault.{DiskFault}
-use Rattle.adf_partitions.specs.declared.layout.TheConstants.{BLOCK_BYTES, FIRST_PART, HIGHEST_TABLE, LOWEST_TABLE, MARK}
-use Rattle.adf_partitions.specs.declared.layout.TheConstants.{MOST_PARTITIONS, MOST_TABLES, PART, RDSK, RDSK_BLOCKS}
+use Rattle.adf_partitions.specs.declared.layout.TheConstants.{MARK}
+use Rattle.adf_partitions.specs.declared.layout.TheConstants.{MOST_PARTITIONS, MOST_TABLES, PART, RDSK_BLOCKS}
 use Rattle.adf_partitions.specs.declared.partition.Partition.{Partition}
 use Rattle.adf_partitions.specs.declared.tables.Tables.{Tables}
 use Rattle.adf_partitions.specs.Disks.{FirstFault, HoldsTables, IsCut, IsDisk, IsFound, IsListFault, IsWhole, is_at, part_form}
@@ -42,29 +43,14 @@ tables_back s = record { blocks = λ b h. sym (s.blocks b (s.tables b ∙ h)); t
 
 module _ {A B : List ℕ} (s : StartAgrees A B) where
   pub same_rdsk : {b : ℕ} → IsRdsk A b → IsRdsk B b
-  same_rdsk {b} r = record {
-    low = r.low;
-    is = sym (s.rdsk b r.low) ∙ r.is;
-    first = λ k lt. let low = r.low in sym (s.rdsk k (omega arith)) ∙ r.first k lt;
-  }
+  same_rdsk {b} r = grind (arith, common_steps, s)
 
   pub same_tables : {t : Tables} → IsTables A t → IsTables B t
-  same_tables {t} r =
-      let e = s.blocks t.rdsk r.rdsk.low in
-      record {
-        rdsk = same_rdsk r.rdsk;
-        size = ap (λ p. word p BLOCK_BYTES) (sym e) ∙ r.size;
-        same = r.same ∙ ap (λ p. tables_of t.rdsk p) e;
-      }
-    where
-      tables_of : ℕ → List ℕ → Tables
-      tables_of b p = record { rdsk = b; first = word p FIRST_PART; lowest = word p LOWEST_TABLE; highest = word p HIGHEST_TABLE }
+  same_tables {t} r = grind (arith, common_steps, s, same_rdsk)
 
   pub same_lack : {f : DiskFault} → HasNoTables A f → HasNoTables B f
   same_lack (inl h) = inl ((λ k lt. sym (s.rdsk k lt) ∙ h.0 k lt), h.1)
-  same_lack {f} (inr h) =
-      let e = s.blocks f.block h.0.low in
-      inr (same_rdsk h.0, (λ z. h.1 (ap (λ p. word p BLOCK_BYTES) e ∙ z)), h.2)
+  same_lack {f} (inr h) = grind (arith, common_steps, s, same_rdsk)
 
 -- the tests of a block, from whether it is kept for the tables, and its bytes
 abbrev form_of : List Partition → ℕ → ℕ → Bool → List ℕ → List (Bool × DiskFault)
@@ -87,9 +73,7 @@ is_kept ps a b false p h = absurd cc
 
 module _ {A B : List ℕ} {t : Tables} (s : TablesAgree A B t) where
   same_tests : (ps : List Partition) (a b : ℕ) → first_failed (part_form A t ps a b) ≡ first_failed (part_form B t ps a b)
-  same_tests ps a b =
-      same_form ps a b (is_table A t b) (block A b) (block B b) (s.blocks b)
-      ∙ ap (λ k. first_failed (form_of ps a b k (block B b))) (s.tables b)
+  same_tests ps a b = grind (arith, common_steps, same_form, s, form_of)
 
   module _ {n : ℕ} where
     pub same_found : {ps : List Partition} {a b : ℕ} → IsFound A n t ps a b → IsFound B n t ps a b
@@ -102,13 +86,7 @@ module _ {A B : List ℕ} {t : Tables} (s : TablesAgree A B t) where
     same_whole w = (w.0, same_found w.1)
 
     pub same_cut : {ps : List Partition} {f : DiskFault} → IsCut A n t ps f → IsCut B n t ps f
-    same_cut {ps} v = record {
-      last = v.last;
-      next = v.next;
-      found = same_found v.found;
-      some = v.some;
-      failed = sym (same_tests ps v.last v.next) ∙ v.failed;
-    }
+    same_cut {ps} v = grind (arith, common_steps, same_found, same_tests)
 
     pub same_list_fault : {f : DiskFault} → IsListFault A n t f → IsListFault B n t f
     same_list_fault v = (v.0, same_cut v.1)
@@ -116,21 +94,13 @@ module _ {A B : List ℕ} {t : Tables} (s : TablesAgree A B t) where
 -- a block of the front
 front_block : (bytes rest : List ℕ) (b : ℕ) → b * 512 + 512 ≤ length bytes → block bytes b ≡ block (bytes ++ rest) b
 unfolding block
-front_block bytes rest b h =
-    between_is bytes (b * 512) (b * 512 + 512)
-    ∙ ap (drop (b * 512)) (sym (take-append-le (b * 512 + 512) bytes rest h))
-    ∙ sym (between_is (bytes ++ rest) (b * 512) (b * 512 + 512))
+front_block bytes rest b h = grind (arith, common_steps, between_is, take-append-le)
 
 front_holds : (bytes rest : List ℕ) (b : ℕ) → b * 512 + 512 ≤ length bytes → holds bytes b ≡ holds (bytes ++ rest) b
-front_holds bytes rest b h =
-    of_le (b * 512 + 512) (length bytes) h ∙ sym (of_le (b * 512 + 512) (length (bytes ++ rest)) (omega (arith, length-append bytes rest)))
+front_holds bytes rest b h = grind (arith, common_steps, of_le, length-append)
 
 pub start_agrees : (bytes rest : List ℕ) → RDSK_BLOCKS * 512 ≤ length bytes → StartAgrees bytes (bytes ++ rest)
-start_agrees bytes rest h = record {
-  blocks = λ b lt. front_block bytes rest b (omega arith);
-  rdsk = λ b lt. ap (λ k. k && (word (block bytes b) MARK == RDSK) && is_summed (block bytes b)) (front_holds bytes rest b (omega arith))
-      ∙ ap (λ p. holds (bytes ++ rest) b && (word p MARK == RDSK) && is_summed p) (front_block bytes rest b (omega arith));
-}
+start_agrees bytes rest h = grind (arith, common_steps, front_block, front_holds)
 
 only_last : (x y z u v : Bool) → (x ≡ true → y ≡ true → z ≡ true → u ≡ v) → (x && y && z && u) ≡ (x && y && z && v)
 only_last true true true u v h = h refl refl refl
@@ -145,16 +115,7 @@ fourth true false z u h = absurd cc
 fourth true true false u h = absurd cc
 
 pub tables_agree : (bytes rest : List ℕ) (t : Tables) → min (t.highest + 1) MOST_TABLES * 512 ≤ length bytes → TablesAgree bytes (bytes ++ rest) t
-tables_agree bytes rest t h = record {
-  blocks = λ b kept.
-      let held = fourth (nat_le t.lowest b) (nat_le b t.highest) (nat_lt b MOST_TABLES) (holds bytes b) kept in
-      front_block bytes rest b (le_of (b * 512 + 512) (length bytes) held);
-  tables = λ b. only_last (nat_le t.lowest b) (nat_le b t.highest) (nat_lt b MOST_TABLES) (holds bytes b) (holds (bytes ++ rest) b)
-      (λ low high few. front_holds bytes rest b (inside b (le_of b t.highest high) (lt_of b MOST_TABLES few)));
-}
-  where
-    inside : (b : ℕ) → b ≤ t.highest → b < MOST_TABLES → b * 512 + 512 ≤ length bytes
-    inside b high few = omega arith
+tables_agree bytes rest t h = grind (arith, common_steps, fourth, front_block, le_of, only_last, front_holds, lt_of)
 
 module _ (bytes rest : List ℕ) (enough : RDSK_BLOCKS * 512 ≤ length bytes) where
   pub tables_tell : (t : Tables) → (IsTables bytes t → IsTables (bytes ++ rest) t) × (IsTables (bytes ++ rest) t → IsTables bytes t)

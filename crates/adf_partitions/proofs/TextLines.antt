@@ -1,17 +1,16 @@
 -- The lines of a plan's text. left is what is left of a text, ps its partitions, e the text behind their lines.
-use Rattle.std.proofs.Common.{◌≡◌, ◌≢◌, ◌<◌, ◌≤◌, ◌+◌, ◌^◌, ℕ, zero, suc, get_or, Bool, true, false, List, [], ◌∷◌, ◌++◌, length, ap, refl, sym, subst, arith}
-use Rattle.std.proofs.Common.{append-nil, append_assoc, inr}
-use Rattle.std.specs.Prelude.{◌==◌, ◌&&◌, All, OnErr, Result, Ok, Err, nat_le, nat_lt, if◌then◌else◌}
-use Rattle.std.specs.List.{list_all}
+use Rattle.std.proofs.Common.{◌≡◌, ◌≢◌, ◌<◌, ◌≤◌, ◌+◌, ℕ, suc, Bool, true, false, List, [], ◌∷◌, ◌++◌, length, ap, refl, subst, arith}
+use Rattle.std.proofs.Common.{append-nil, append_assoc}
+use Rattle.std.specs.Prelude.{◌==◌, ◌&&◌, All, OnErr, Result, Ok, Err, if◌then◌else◌}
 use Rattle.std.proofs.lemmas.Bool.Decides.{nat_tests}
 use Rattle.std.proofs.lemmas.Bool.{and_parts}
-use Rattle.adf_partitions.specs.declared.layout.TheConstants.{MOST_PARTITIONS}
+use Rattle.std.proofs.lemmas.Grind.{common_steps}
 use Rattle.adf_partitions.specs.declared.plan.PartitionPlan.{PartitionPlan}
 use Rattle.adf_partitions.specs.declared.plan_text.TextFault.{TextFault}
 use Rattle.adf_partitions.specs.declared.plan_text.TextKind.{TextKind}
-use Rattle.adf_partitions.specs.Plans.{IsPartitionPlan, IsPlan, PlanValue, cylinder_blocks, planned_blocks}
+use Rattle.adf_partitions.specs.Plans.{IsPartitionPlan, IsPlan, PlanValue}
 use Rattle.adf_partitions.specs.PlanTexts.{AreLines, HasPartition, IsDiskLine, IsEndFault, IsTextFault, IsPartitionLine, IsPartitionText, Stops, before, behind}
-use Rattle.adf_partitions.specs.PlanTexts.{behind_line, behind_word, first_line, has_volume, is_plan}
+use Rattle.adf_partitions.specs.PlanTexts.{behind_line, behind_word, first_line, is_plan}
 use Rattle.adf_partitions.proofs.NumberTests.{le_of, lt_of}
 
 -- no line of a partition is empty
@@ -31,11 +30,7 @@ at_most c (x ∷ xs) = go (x == c) (at_most c xs)
 pub shorter : (c : ℕ) (xs : List ℕ) → 0 < length xs → length (behind c xs) < length xs
 unfolding behind
 shorter c [] lt = absurd (omega arith)
-shorter c (x ∷ xs) lt = go (x == c)
-  where
-    go : (b : Bool) → length (if b then xs else behind c xs) < suc (length xs)
-    go true = omega arith
-    go false = omega (arith, at_most c xs)
+shorter c (x ∷ xs) lt = grind (arith, common_steps, at_most)
 
 -- a line of a partition takes bytes
 pub line_taken : (left : List ℕ) (p : PartitionPlan) → IsPartitionLine (first_line left) p → length (behind_line left) < length left
@@ -49,8 +44,7 @@ Continues text ps left = (qs : List PartitionPlan) (e : List ℕ) → AreLines l
 pub line_added : (text left : List ℕ) (ps : List PartitionPlan) (p : PartitionPlan) → Continues text ps left → IsPartitionLine (first_line left) p
     → Continues text (ps ++ p ∷ []) (behind_line left)
 unfolding AreLines
-line_added text left ps p all is = λ qs e h.
-    subst (λ (k : List PartitionPlan). AreLines text k e) (sym (append_assoc ps (p ∷ []) qs)) (all (p ∷ qs) e (is, h))
+line_added text left ps p all is = grind (arith, common_steps, append_assoc)
 
 pub lines_ended : (text left : List ℕ) (ps : List PartitionPlan) → Continues text ps left → AreLines text ps left
 unfolding AreLines
@@ -72,11 +66,7 @@ pub plan_of_text : (text : List ℕ) (p : PartitionPlan) → IsPartitionText tex
 plan_of_text text p h = record { some = h.some; short = h.name.short; name = h.bytes; cylinders = h.size; priority = h.priority }
 
 first_and_others : (p : PartitionPlan) (ps : List PartitionPlan) → IsPartitionPlan p → All IsPartitionPlan ps → All IsPartitionPlan (p ∷ ps)
-first_and_others p ps one others = λ k d lt. at k d lt
-  where
-    at : (k : ℕ) (d : PartitionPlan) → k < suc (length ps) → IsPartitionPlan (get_or (p ∷ ps) k d)
-    at zero d lt = one
-    at (suc k) d lt = others k d (omega arith)
+first_and_others p ps one others = grind (arith, common_steps)
 
 pub plans_of_lines : (left : List ℕ) (ps : List PartitionPlan) (e : List ℕ) → AreLines left ps e → All IsPartitionPlan ps
 unfolding AreLines
@@ -84,28 +74,13 @@ plans_of_lines left [] e h = λ k d lt. absurd (omega arith)
 plans_of_lines left (p ∷ ps) e h = first_and_others p ps (plan_of_text (behind_word (first_line left)) p h.0.text) (plans_of_lines (behind_line left) ps e h.1)
 
 pub is_plan-tells : (plan : PlanValue) (left end : List ℕ) → AreLines left plan.partitions end → is_plan plan ≡ true → IsPlan plan
-is_plan-tells plan left end lines h =
-    let t2 = nat_le 1 plan.sectors && nat_le 1 plan.heads in
-    let t3 = t2 && nat_le (length plan.partitions) MOST_PARTITIONS in
-    let t4 = t3 && nat_lt (planned_blocks plan) (2 ^ 32) in
-    let e = and_parts t4 (list_all (has_volume (cylinder_blocks plan)) plan.partitions) h in
-    let d = and_parts t3 (nat_lt (planned_blocks plan) (2 ^ 32)) e.0 in
-    let c = and_parts t2 (nat_le (length plan.partitions) MOST_PARTITIONS) d.0 in
-    let a = and_parts (nat_le 1 plan.sectors) (nat_le 1 plan.heads) c.0 in
-    record {
-      sectors = le_of 1 plan.sectors a.0;
-      heads = le_of 1 plan.heads a.1;
-      few = le_of (length plan.partitions) MOST_PARTITIONS c.1;
-      partitions = plans_of_lines left plan.partitions end lines;
-      size = lt_of (planned_blocks plan) (2 ^ 32) d.1;
-    }
+is_plan-tells plan left end lines h = grind (arith, common_steps, and_parts, le_of, plans_of_lines, lt_of)
 
 -- a fault behind the lines of a plan
 pub fault_behind : (text rest end : List ℕ) (plan : PlanValue) (f : TextFault) (kind : TextKind) → rest ≡ behind_line text
     → IsDiskLine (first_line text) plan.sectors plan.heads → AreLines rest plan.partitions end → Stops end → f.line ≡ length plan.partitions + 2
     → f.kind ≡ kind → IsEndFault plan end kind → IsTextFault text f
-fault_behind text rest end plan f kind e disk lines stops line is fault =
-    inr (plan, end, (disk, subst (λ (x : List ℕ). AreLines x plan.partitions end) e lines, stops), line, subst (IsEndFault plan end) (sym is) fault)
+fault_behind text rest end plan f kind e disk lines stops line is fault = grind (arith, common_steps)
 
 pub none_left : (xs : List ℕ) → (length xs == 0) ≡ true → xs ≡ []
 none_left [] h = refl

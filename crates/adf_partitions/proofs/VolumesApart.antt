@@ -1,8 +1,8 @@
 -- The volumes of a disk lie apart.
 -- Letters: as in specs/Disks; p a partition block, q and r places, o the first test of a partition that fails.
-use Rattle.std.proofs.Common.{◌≡◌, ◌⊎◌, inl, inr, rules, ◌<◌, ◌≤◌, ◌+◌, ◌-◌, ◌*◌, ℕ, List, [], ◌∷◌, length, get_or, refl, sym, ap, ◌∙◌, arith}
+use Rattle.std.proofs.Common.{◌≡◌, ◌⊎◌, inl, inr, rules, ◌<◌, ◌+◌, ◌-◌, ◌*◌, ℕ, List, [], ◌∷◌, length, get_or, refl, sym, ap, ◌∙◌, arith}
 use Rattle.std.proofs.Common.{Bool, true, false, None, Some, Ok, Err}
-use Rattle.std.specs.Prelude.{Option, Result, not, nat_le, nat_lt, ◌==◌, IfOk}
+use Rattle.std.specs.Prelude.{Option, Result, ◌&&◌, ◌||◌, not, nat_le, ◌==◌, IfOk}
 use Rattle.std.specs.List.{All, AllPairs}
 use Rattle.std.proofs.lemmas.Bool.{false_from_ne_true, and_parts, not-true, or_parts}
 use Rattle.std.proofs.lemmas.Bool.Decides.{nat_tests}
@@ -10,8 +10,8 @@ use Rattle.std.proofs.lemmas.List.Elements.{All-push}
 use Rattle.std.proofs.lemmas.List.Folds.{list_any_at}
 use Rattle.std.proofs.lemmas.List.Quantifiers.{all_pairs_push}
 use Rattle.std.proofs.lemmas.Nat.{mul-le}
-use Rattle.adf_base.specs.Words.{block, word}
-use Rattle.adf_partitions.specs.declared.layout.TheConstants.{HIGH_CYLINDER, LOW_CYLINDER}
+use Rattle.std.proofs.lemmas.Grind.{common_steps}
+use Rattle.adf_base.specs.Words.{block}
 use Rattle.adf_partitions.specs.declared.partition.Partition.{Partition}
 use Rattle.adf_partitions.specs.declared.place.Place.{Place}
 use Rattle.adf_partitions.specs.declared.place.PlaceFault.{PlaceFault}
@@ -21,7 +21,7 @@ use Rattle.adf_partitions.specs.Disks.{IsDisk, IsFound, partition_at}
 use Rattle.adf_partitions.specs.Disks.IsFound.{start, step}
 use Rattle.adf_partitions.specs.Faults.{first_failed}
 use Rattle.adf_partitions.specs.Partitions.{is_over, is_over_earlier, is_over_place, place_form, placed}
-use Rattle.adf_partitions.specs.Places.{cylinder_of, do_overlap, end_of, has_cylinders, is_over_tables, place_of}
+use Rattle.adf_partitions.specs.Places.{do_overlap, end_of, has_cylinders, is_over_tables, place_of}
 use Rattle.adf_partitions.proofs.NumberTests.{le_of, of_lt}
 use Rattle.adf_partitions.specs.Volumes.{AreApart, LiesWell, VolumeLiesWell, VolumesAreApart}
 
@@ -59,34 +59,13 @@ passed n t ps p h =
 
 -- two places that do not overlap have no block in common
 no_common : (q r : Place) → do_overlap q r ≡ false → AreApart r q
-no_common q r h = λ b in_r in_q.
-    let x : nat_lt q.first (end_of r) ≡ true = of_lt q.first (end_of r) (omega (arith, in_r.1, in_q.0)) in
-    let y : nat_lt r.first (end_of q) ≡ true = of_lt r.first (end_of q) (omega (arith, in_q.1, in_r.0)) in
-    absurd cc
+no_common q r h = grind (arith, common_steps, of_lt)
 
 has_blocks : (low high c : ℕ) → nat_le low high ≡ true → not (c == 0) ≡ true → 0 < (high + 1 - low) * c
-has_blocks low high c h k =
-    let le : low ≤ high = grind (arith, nat_tests) in
-    let pos : 0 < c = grind (arith, nat_tests) in
-    omega (arith, mul-le 1 1 (high + 1 - low) c (omega arith) (omega arith))
+has_blocks low high c h k = grind (arith, common_steps, nat_tests, mul-le)
 
 lies_well : (n : ℕ) (t : Tables) (ps : List Partition) (p : List ℕ) → Passed n t ps p → LiesWell n t (place_of p)
-lies_well n t ps p h =
-    let q = place_of p in
-    let cylinders = and_parts (nat_le (word p LOW_CYLINDER) (word p HIGH_CYLINDER)) (not (cylinder_of p == 0)) h.cylinders in
-    let over = or_parts _ _ h.tables in
-    record {
-      some = has_blocks (word p LOW_CYLINDER) (word p HIGH_CYLINDER) (cylinder_of p) cylinders.0 cylinders.1;
-      within = le_of (end_of q) n h.within;
-      beside = λ b is low high. no_common q (kept t) over.0 b (low, omega (arith, high)) is;
-      past = λ b is at. no_common q (rdsk t) over.1 b (omega (arith, at), omega (arith, at)) is;
-    }
-  where
-    kept : Tables → Place
-    kept t = record { first = t.lowest; blocks = t.highest + 1 - t.lowest }
-
-    rdsk : Tables → Place
-    rdsk t = record { first = t.rdsk; blocks = 1 }
+lies_well n t ps p h = grind (arith, common_steps, and_parts, or_parts, has_blocks, le_of, no_common)
 
 -- what holds of a place that has no fault
 pub if_placed : (q : Place) (o : Option PlaceFault) (P : Place → Type 0) → (o ≡ None → P q) → IfOk (placed q o) P

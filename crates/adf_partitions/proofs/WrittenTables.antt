@@ -1,10 +1,11 @@
 -- What a reader finds in the rigid disk block and the partition blocks of a plan.
 use Rattle.std.proofs.Common.{◌≡◌, ◌≤◌, ◌<◌, ◌+◌, ◌-◌, ◌*◌, ◌^◌, ◌∙◌, ℕ, length, ap, ap₂, refl, arith, rules, true, false, Bool}
-use Rattle.std.specs.Prelude.{slice_index, take, ◌&&◌, ◌==◌, not, nat_le, nat_lt, if◌then◌else◌, FitsSigned, ℤ, pos, negsuc}
+use Rattle.std.specs.Prelude.{slice_index, take, ◌&&◌, ◌==◌, not, nat_le, if◌then◌else◌, FitsSigned, ℤ, pos, negsuc}
 use Rattle.std.specs.Int.{cast_signed, cast_unsigned, w32, w8}
 use Rattle.std.proofs.lemmas.Bool.Decides.{nat_tests}
 use Rattle.std.proofs.lemmas.Int.{to_z-of_z}
 use Rattle.std.proofs.lemmas.List.{take_all}
+use Rattle.std.proofs.lemmas.Grind.{common_steps}
 use Rattle.adf_base.specs.Words.{word}
 use Rattle.adf_blocks.specs.Fields.{Descends}
 use Rattle.adf_blocks.specs.Forms.{text_at}
@@ -12,7 +13,7 @@ use Rattle.adf_tree.specs.declared.entry.Kind.TheVariants.{Ofs, Ffs}
 use Rattle.adf_tree.specs.declared.entry.Kind.{Kind}
 use Rattle.adf_partitions.specs.declared.layout.TheConstants.{BLOCK_BYTES, BLOCK_SECTORS, BOOT_PRIORITY, BOOTABLE, DOS_TYPE, DRIVE_NAME, ENV_BLOCK_WORDS}
 use Rattle.adf_partitions.specs.declared.layout.TheConstants.{ENV_LENGTH, FIRST_PART, FLAGS, HIGH_CYLINDER, HIGHEST_TABLE, LOW_CYLINDER, LOWEST_TABLE, MARK}
-use Rattle.adf_partitions.specs.declared.layout.TheConstants.{MOST_PARTITIONS, NEXT_PART, NO_BLOCK, PART, RDSK, SUMMED_LONGS, SURFACES, TRACK_BLOCKS}
+use Rattle.adf_partitions.specs.declared.layout.TheConstants.{MOST_PARTITIONS, NEXT_PART, PART, RDSK, SUMMED_LONGS, SURFACES, TRACK_BLOCKS}
 use Rattle.adf_partitions.specs.declared.plan.PartitionPlan.{PartitionPlan}
 use Rattle.adf_partitions.specs.Partitions.{has_name, name_at}
 use Rattle.adf_partitions.specs.Places.{blocks_from, has_cylinders, place_of}
@@ -26,11 +27,7 @@ use Rattle.adf_partitions.proofs.WrittenBlocks.{is_summed_written, length_writte
 
 -- the number of a block is a word
 pub after_fits : (n b : ℕ) → n ≤ MOST_PARTITIONS → b ≤ n → block_after n b < 2 ^ 32
-after_fits n b few le = small (nat_lt b n)
-  where
-    small : (t : Bool) → (if t then b + 1 else NO_BLOCK) < 2 ^ 32
-    small true = omega arith
-    small false = omega arith
+after_fits n b few le = grind (arith, common_steps)
 
 module _ (plan : PlanValue) (h : IsPlan plan) where
   rdsk_descends : Descends 256 (rdsk_table plan)
@@ -176,10 +173,7 @@ module _ (plan : PlanValue) (h : IsPlan plan) (b low : ℕ) (p : PartitionPlan) 
   part-name = ap (take 31) part-text.1 ∙ take_all 31 p.name (omega (arith, fits.short))
 
   pub part-has_name : has_name (part_block plan b low p) ≡ true
-  part-has_name =
-      let some = of_le 1 (length p.name) fits.some in
-      let short = of_le (length p.name) 31 fits.short in
-      rw (part-name, part-text.0, some, short, fits.name) refl
+  part-has_name = grind (arith, common_steps, of_le, part-name, part-text)
 
   pub part-environment : nat_le 16 (word (part_block plan b low p) ENV_LENGTH) ≡ true
   part-environment = rw part-length refl
@@ -191,11 +185,7 @@ module _ (plan : PlanValue) (h : IsPlan plan) (b low : ℕ) (p : PartitionPlan) 
   part-cylinder = ap₂ (λ x y. x * y) part-surfaces part-track
 
   pub part-cylinders : has_cylinders (part_block plan b low p) ≡ true
-  part-cylinders =
-      let order = of_le low (low + p.cylinders - 1) (omega (arith, fits.cylinders)) in
-      rw (part-cylinder, part-low, part-high, order) (positive (cylinder_blocks plan) (some_blocks plan h))
+  part-cylinders = grind (arith, common_steps, of_le, part-cylinder, part-low, part-high, positive, some_blocks)
 
   pub part-place : place_of (part_block plan b low p) ≡ blocks_from (low * cylinder_blocks plan) (p.cylinders * cylinder_blocks plan)
-  part-place =
-      let count : low + p.cylinders - 1 + 1 - low ≡ p.cylinders = omega (arith, fits.cylinders) in
-      rw (part-cylinder, part-low, part-high, count) refl
+  part-place = grind (arith, common_steps, part-cylinder, part-low, part-high)

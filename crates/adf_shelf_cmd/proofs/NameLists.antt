@@ -1,8 +1,9 @@
 -- The names in bytes, one after another.
 use Rattle.std.proofs.Common.{◌≡◌, ◌≤◌, ◌<◌, ◌==◌, ℕ, zero, suc, Bool, true, false, List, [], ◌∷◌}
-use Rattle.std.proofs.Common.{◌∙◌, length, if◌then◌else◌, Option, None, Some, IfSome, option_map, ap, refl, sym, subst, arith}
+use Rattle.std.proofs.Common.{◌∙◌, length, if◌then◌else◌, Option, None, Some, IfSome, option_map, ap, refl, arith}
 use Rattle.std.specs.Io.BufRead.{DropsThrough, drop_through, first_piece, strip_last, take_through}
 use Rattle.std.specs.Io.KnownBytes.{IsAtEnd}
+use Rattle.std.proofs.lemmas.Grind.{common_steps}
 use Rattle.adf_shelf_cmd.specs.Names.{AreGiven, first_names, listed_names}
 
 short_both : (c : Bool) (xs ys : List ℕ) (n : ℕ) → length xs ≤ n → length ys ≤ n → length (if c then xs else ys) ≤ n
@@ -32,9 +33,7 @@ enough (suc k) (suc m) end (b ∷ bytes) h i =
 
 one_name : (end b : ℕ) (bytes : List ℕ) → listed_names end (b ∷ bytes) ≡ first_piece end (b ∷ bytes) ∷ listed_names end (drop_through end (b ∷ bytes))
 unfolding first_names
-one_name end b bytes =
-    let few = rest_shorter end b bytes in
-    ap (λ names. first_piece end (b ∷ bytes) ∷ names) (enough (length bytes) (length (drop_through end (b ∷ bytes))) end _ few (omega arith))
+one_name end b bytes = grind (arith, common_steps, rest_shorter, enough)
 
 no_name : (end : ℕ) → listed_names end [] ≡ []
 unfolding first_names
@@ -51,8 +50,4 @@ pub gives_piece : (end : ℕ) (old new : Option (List ℕ)) (text name : List �
     → AreGiven (option_map (listed_names end) old) (option_map (listed_names end) new) (name ∷ [])
 gives_piece end None new text name piece rest some e = tt
 gives_piece end (Some []) new text name piece rest some e = let none : length text ≡ 0 = ap length piece in absurd (omega arith)
-gives_piece end (Some (b ∷ bytes)) new text name piece rest some e =
-    let left = listed_names end (drop_through end (b ∷ bytes)) in
-    let one : listed_names end (b ∷ bytes) ≡ name ∷ left =
-    one_name end b bytes ∙ ap (λ first. first ∷ left) (sym (e ∙ ap (strip_last end) piece)) in
-    subst (λ k. AreGiven (Some (listed_names end (b ∷ bytes))) (option_map (listed_names end) k) (name ∷ [])) (sym rest) one
+gives_piece end (Some (b ∷ bytes)) new text name piece rest some e = grind (arith, common_steps, one_name, option_map)

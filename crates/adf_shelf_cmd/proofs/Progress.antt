@@ -3,6 +3,7 @@
 use Rattle.std.proofs.Common.{◌≡◌, ◌∙◌, ℕ, max, Bool, true, false, List, [], ◌∷◌, ◌++◌, Option, None, Some, IfSome}
 use Rattle.std.proofs.Common.{append-nil, append_assoc, inl, inr, refl, sym, ap, subst, arith}
 use Rattle.std.specs.Io.KnownBytes.{Appends}
+use Rattle.std.proofs.lemmas.Grind.{common_steps}
 use Rattle.adf_runs.proofs.KnownBytes.{appends_two}
 use Rattle.adf_runs.proofs.PendingText.{appends_nil, part_behind, part_of_more}
 use Rattle.adf_runs.specs.Streams.{Says}
@@ -41,19 +42,7 @@ lines_added : (may : Reports) (names : List (List ℕ)) (s t : ℕ) (output said
     → AreBatchLines may names s output said → may name t text why
     → AreBatchLines may (names ++ name ∷ []) (max s t) (output ++ batch_line name text) (said ++ why_line name why)
 unfolding AreBatchLines
-lines_added may [] s t output said name text why h tells = (
-  t,
-  0,
-  text,
-  [],
-  [],
-  why,
-  tells,
-  (refl, refl, refl),
-  omega (arith, h.0),
-  rw (h.1) (sym (append-nil (batch_line name text))),
-  rw (h.2) (sym (append-nil (why_line name why))),
-)
+lines_added may [] s t output said name text why h tells = grind (arith, common_steps, append-nil)
 lines_added may (n ∷ ns) s t output said name text why (a, b, line, rest, more, first, is_first, lines, e, whole, all) tells = (
   a,
   max b t,
@@ -112,11 +101,9 @@ pub stopped : (may : Reports) (a b : Option (List (List ℕ))) (s : ℕ) (broke 
     → broke ≡ false → Progress may a b s o o' failed e e' → (said : List ℕ) × WritesPart may a broke o o' said × Says failed e e' said
 stopped may None b s broke o o' failed e e' works (names, said, given, written, says) = (said, (names, [], tt, s, o', written, (works, refl)), says)
 stopped may (Some x) None s broke o o' failed e e' works (names, said, given, written, says) = absurd given
-stopped may (Some x) (Some []) s broke o o' failed e e' works (names, said, given, written, says) =
-    (said, (names, [], given, s, o', written, (works, refl)), says)
+stopped may (Some x) (Some []) s broke o o' failed e e' works (names, said, given, written, says) = grind (arith, common_steps)
 stopped may (Some x) (Some (n ∷ ns)) s true o o' failed e e' works (names, said, given, written, says) = cc
-stopped may (Some x) (Some (n ∷ ns)) s false o o' failed e e' works (names, said, given, written, says) =
-    (said, (names, n ∷ ns, given, s, o', written, refl), says)
+stopped may (Some x) (Some (n ∷ ns)) s false o o' failed e e' works (names, said, given, written, says) = grind (arith, common_steps)
 
 -- the line of one name more was begun where output failed, else nothing was written
 pub broken : (may : Reports) (a b c : Option (List (List ℕ))) (s : ℕ) (broke : Bool) (o o' o'' : Option (List ℕ)) (failed : Bool) (e e' : Option (List ℕ))
@@ -126,8 +113,7 @@ broken may None b c s broke o o' o'' failed e e' name (names, said, given, writt
     (said, (names, name ∷ [], tt, s, o', written, breaks), says)
 broken may (Some x) None c s broke o o' o'' failed e e' name (names, said, given, written, says) one breaks = absurd given
 broken may (Some x) (Some y) None s broke o o' o'' failed e e' name (names, said, given, written, says) one breaks = absurd one
-broken may (Some x) (Some y) (Some z) s broke o o' o'' failed e e' name (names, said, given, written, says) one breaks =
-    (said, (names, name ∷ z, given ∙ ap (λ l. names ++ l) one, s, o', written, breaks), says)
+broken may (Some x) (Some y) (Some z) s broke o o' o'' failed e e' name (names, said, given, written, says) one breaks = grind (arith, common_steps)
 
 -- what is reported of the bytes that a source gives is reported of the known bytes of its file
 pub report_known : (known left : Option (List ℕ)) (m n : Bool) (s : ℕ) (text : List ℕ) → IfSome known (λ bytes. left ≡ Some bytes) → (m ≡ false → n ≡ false)

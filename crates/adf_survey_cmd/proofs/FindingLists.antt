@@ -2,9 +2,10 @@
 -- Letters: w a walk; all the findings as they are kept, of which first is the first and others are behind it, and fs as they are told; i a place.
 use Rattle.std.specs.Prelude.{map, option_map, slice_get}
 use Rattle.std.specs.Option.{option_and_then}
-use Rattle.std.proofs.Common.{◌≡◌, ◌∙◌, ◌<◌, ◌≤◌, ◌+◌, ◌++◌, ℕ, suc, List, [], ◌∷◌, Option, sym, ap, subst, add-one, drop, get_or, length}
+use Rattle.std.proofs.Common.{◌≡◌, ◌∙◌, ◌<◌, ◌≤◌, ◌+◌, ◌++◌, ℕ, suc, List, [], ◌∷◌, Option, sym, ap, subst, add-one, drop, get_or, length, arith}
 use Rattle.std.proofs.lemmas.List.{drop_all, drop_more}
 use Rattle.std.proofs.lemmas.Option.{slice_get-get_or, slice_get-map}
+use Rattle.std.proofs.lemmas.Grind.{common_steps}
 use Rattle.adf_volume.specs.Walk.{Role}
 use Rattle.adf_findings.specs.declared.part.Finding.{Finding}
 use Rattle.adf_findings.specs.Parts.{finding_value}
@@ -22,9 +23,7 @@ module _ (image : List ℕ) (w : List (Role × ℕ)) (fs : List FindingValue) (a
   -- the first finding begins the runs
   pub runs_begun : (run : Run) (text : List ℕ) → run ≡ run_of w (finding_value first) → text ≡ []
       → findings_text image w fs ≡ text ++ lines_from image w run (map finding_value others)
-  runs_begun run text r empty =
-      ap (findings_text image w) (sym are) ∙ ap (λ (x : Run). lines_from image w x (map finding_value others)) (sym r)
-      ∙ ap (λ t. t ++ lines_from image w run (map finding_value others)) (sym empty)
+  runs_begun run text r empty = grind (arith, common_steps, are)
 
   -- what is told of the finding at a place
   abbrev Told : Type 0 → Type 0
@@ -55,6 +54,4 @@ module _ (image : List ℕ) (w : List (Role × ℕ)) (others : List Finding) (a 
   -- no finding is left, and the line of the run waits
   pub runs_done : (i : ℕ) (text' : List ℕ) → length others ≤ i → text' ≡ text ++ findings_line image w r
       → Pending a b (text ++ lines_from image w r (map finding_value (drop i others))) whole → Pending a b text' whole
-  runs_done i text' h line p =
-      let last = ap (λ gs. text ++ lines_from image w r (map finding_value gs)) (drop_all i others h) ∙ run_last image w r text text' line in
-      subst (λ t. Pending a b t whole) last p
+  runs_done i text' h line p = grind (arith, common_steps, drop_all, run_last)

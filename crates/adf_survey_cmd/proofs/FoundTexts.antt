@@ -1,6 +1,7 @@
 -- The lines of what is found.
 -- Letters: w the walk of a survey; k, n how many entries; i a number of an entry; text what stands in front.
 use Rattle.std.proofs.Common.{◌≡◌, ◌≤◌, ◌+◌, ◌++◌, ◌∙◌, ℕ, List, [], ◌∷◌, Bool, append_assoc, append-nil, arith, ap, refl, sym, true, false}
+use Rattle.std.proofs.lemmas.Grind.{common_steps}
 use Rattle.adf_base.specs.declared.dates.Stamp.{Stamp}
 use Rattle.adf_volume.specs.Walk.{Role, heads}
 use Rattle.adf_texts.proofs.Ranges.{flat_map_front, flat_map_next}
@@ -23,9 +24,7 @@ module _ (date : Stamp → List ℕ) (sound : ℕ → Bool) (image : List ℕ) (
 
   pub found_more : (text : List ℕ) (i : ℕ)
       → text ++ lines_of_found date sound image w (i + 1) ≡ (text ++ lines_of_found date sound image w i) ++ found_lines date sound image w (i + 1)
-  found_more text i =
-      ap (λ t. text ++ t) (next_found i)
-      ∙ sym (append_assoc text (lines_of_found date sound image w i) (found_lines date sound image w (i + 1)))
+  found_more text i = grind (arith, common_steps, next_found, append_assoc)
 
   fewer : (k n : ℕ) → k ≤ n → (rest : List ℕ) × (lines_of_found date sound image w n ≡ lines_of_found date sound image w k ++ rest)
   unfolding lines_of_found

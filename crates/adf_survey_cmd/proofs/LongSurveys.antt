@@ -4,9 +4,9 @@ use Rattle.std.proofs.Common.{◌≡◌, ◌<◌, ◌≤◌, ◌+◌, ◌-◌, �
 use Rattle.std.proofs.Common.{length, replicate, take}
 use Rattle.std.proofs.lemmas.Bool.{and_left, false_from_ne_true}
 use Rattle.std.proofs.lemmas.List.{take-take}
+use Rattle.std.proofs.lemmas.Grind.{common_steps}
 use Rattle.adf_blocks.specs.declared.layout.TheConstants.{MOST_BLOCKS}
 use Rattle.adf_blocks.specs.declared.cause.Cause.TheVariants.{BadSize}
-use Rattle.adf_volume.specs.Start.{is_image_len}
 use Rattle.adf_volume.specs.Walk.{Role}
 use Rattle.adf_findings.specs.Files.{grave}
 use Rattle.adf_findings.specs.Lookup.{LeadsTo}
@@ -63,10 +63,7 @@ it_finds e = cc
 
 -- no volume has this length, so nothing is hung
 none_second : (image : List ℕ) (w : List (Role × ℕ)) (fs : List FindingValue) → 512 * MOST_BLOCKS < length image → second_image image w fs ≡ None
-none_second image w fs long =
-    let odd : is_image_len (length image) ≡ false =
-    false_from_ne_true (is_image_len (length image)) (λ len. omega (arith, (sized_len (length image) len).whole, (sized_len (length image) len).high)) in
-    none_hung image w fs (and_left (is_image_len (length image)) _ odd)
+none_second image w fs long = grind (arith, common_steps, false_from_ne_true, sized_len, none_hung, and_left)
 
 -- nothing stands, and the first fault is told
 same_rescue : (image bytes opened_image opened_bytes : List ℕ) (reply : Reply) → 512 * MOST_BLOCKS < length image → 512 * MOST_BLOCKS < length bytes

@@ -1,7 +1,7 @@
 -- What is asked of an image has one answer.
 -- Letters: w, u walks of its survey, fs, gs the findings; n, m entries' nodes; r, q inquiries; a, b replies.
-use Rattle.std.proofs.Common.{◌≡◌, ◌∙◌, inl, inr, ℕ, Bool, true, false, List, [], ◌∷◌, Option, Some, sym, ap, subst, None, refl}
-use mathlib.Core.Path.{fun_ext}
+use Rattle.std.proofs.Common.{◌≡◌, ◌∙◌, inl, inr, ℕ, Bool, true, false, List, [], ◌∷◌, Option, Some, sym, ap, subst, None, refl, arith}
+use Rattle.std.proofs.lemmas.Grind.{common_steps}
 use Rattle.adf_tree.proofs.PathParts.{one_path}
 use Rattle.adf_volume.specs.Walk.{FileAt, Role, node_block}
 use Rattle.adf_findings.specs.Files.{IsSoundFile, grave}
@@ -9,25 +9,20 @@ use Rattle.adf_findings.specs.Lookup.{LeadsTo}
 use Rattle.adf_findings.specs.SoundMarks.{AreMarks}
 use Rattle.adf_findings.specs.Survey.{FindingValue}
 use Rattle.adf_findings.proofs.OneSurvey.{one_survey}
-use Rattle.adf_build.specs.Laid.{volume}
 use Rattle.adf_rescue.specs.Opened.{opened}
-use Rattle.adf_rescue.specs.Rescue.{IsSecond, Look, rescue_leaves, rescued_tree, second_leaves}
+use Rattle.adf_rescue.specs.Rescue.{IsSecond, Look}
 use Rattle.adf_rescue.proofs.RescueLaws.{one_look}
 use Rattle.adf_findings.proofs.Lookups.{one_first}
 use Rattle.adf_runs.specs.Commands.{Reply, on_output}
 use Rattle.adf_cmd.proofs.OneAnswer.{one_dates, refused_once}
 use Rattle.adf_survey_cmd.specs.Answers.{CopiesEntry, CopiesFound, CopiesFromSurvey, ListsSurvey, QuestionAnswer, SurveyAnswer, Surveys, TellsFound, findings_status, meant}
-use Rattle.adf_survey_cmd.specs.Rescues.{RescuesBy, RescuesFound, RescuesIn, WritesVolume, rescue_reply, second_image}
-use Rattle.adf_words.specs.SurveyLine.{AsksSurvey, InquiryValue, QuestionValue, cat, inquiry_of, list, report, rescue}
+use Rattle.adf_survey_cmd.specs.Rescues.{RescuesBy, RescuesFound, RescuesIn, WritesVolume, second_image}
+use Rattle.adf_words.specs.SurveyLine.{AsksSurvey, InquiryValue, QuestionValue, cat, list, report, rescue}
 use Rattle.adf_survey_cmd.specs.FoundLines.{listing_text}
-use Rattle.adf_survey_cmd.specs.Lines.{findings_text}
 use Rattle.adf_survey_cmd.proofs.FoundTexts.{same_tests}
 
 pub one_inquiry : (words : List (List ℕ)) (r q : InquiryValue) → AsksSurvey words r → AsksSurvey words q → r ≡ q
-one_inquiry words r q a b = same (inquiry_of words) r q a.1 b.1
-  where
-    same : (o : Option InquiryValue) (x y : InquiryValue) → o ≡ Some x → o ≡ Some y → x ≡ y
-    same o x y p q = cc
+one_inquiry words r q a b = grind (arith, common_steps)
 
 module _ (image : List ℕ) (w : List (Role × ℕ)) where
   one_lead : (p : ℕ) (names : List (List ℕ)) (n m : ℕ) → LeadsTo image w p names n → LeadsTo image w p names m → n ≡ m
@@ -59,20 +54,14 @@ module _ (image : List ℕ) (w : List (Role × ℕ)) where
   found_once damaged fs names a b (inl (none, x)) (inl (never, y)) = x ∙ sym y
   found_once damaged fs names a b (inl (none, x)) (inr (n, leads, y)) = absurd (none n leads)
   found_once damaged fs names a b (inr (n, leads, x)) (inl (none, y)) = absurd (none n leads)
-  found_once damaged fs names a b (inr (n, leads, x)) (inr (m, also, y)) =
-      let same = one_lead 0 names n m leads also in
-      entry_once damaged fs m a b (subst (λ k. CopiesEntry damaged image w fs k a) same x) y
+  found_once damaged fs names a b (inr (n, leads, x)) (inr (m, also, y)) = grind (arith, common_steps, one_lead, entry_once)
 
 surveyed_once : (image : List ℕ) (a b : Reply) → Surveys image a → Surveys image b → a ≡ b
-surveyed_once image a b (w, fs, s, x) (u, gs, t, y) =
-    let same = one_survey image w u fs gs s t in
-    x ∙ ap (λ v. on_output (findings_status fs) (findings_text image v fs)) same.0
-    ∙ ap (λ hs. on_output (findings_status hs) (findings_text image u hs)) same.1 ∙ sym y
+surveyed_once image a b (w, fs, s, x) (u, gs, t, y) = grind (arith, common_steps, one_survey)
 
 one_marks : (image : List ℕ) (w : List (Role × ℕ)) (fs : List FindingValue) (sound others : ℕ → Bool) → AreMarks image w fs sound
     → AreMarks image w fs others → sound ≡ others
-one_marks image w fs sound others p q =
-    fun_ext (λ n. same_tests (sound n) (others n) (λ t. (q n).1 ((p n).0 t)) (λ t. (p n).1 ((q n).0 t)))
+one_marks image w fs sound others p q = grind (arith, common_steps, same_tests)
 
 found_told_once : (image : List ℕ) (w : List (Role × ℕ)) (fs : List FindingValue) (a b : Reply) → TellsFound image w fs a → TellsFound image w fs b → a ≡ b
 found_told_once image w fs a b (date, dates, sound, marks, x) (other, others, tests, also, y) =
@@ -94,10 +83,7 @@ copied_once damaged path image a b (names, text, w, fs, s, x) (others, also, u, 
     found_once image u damaged gs others a b (subst (λ (ns : List (List ℕ)). CopiesFound damaged image u gs ns a) path_is found) y
 
 volume_once : (l : Look) (m : Option Look) (a b : Reply) → WritesVolume l m a → WritesVolume l m b → a ≡ b
-volume_once l m a b (one, laid, size, x) (other, also, long, y) =
-    let t = rescued_tree l m in
-    let same : one ≡ other = laid.bytes ∙ ap (volume t) (size ∙ sym long) ∙ sym also.bytes in
-    x ∙ ap (λ v. rescue_reply l.image l.walk m v (rescue_leaves l) (second_leaves l m)) same ∙ sym y
+volume_once l m a b (one, laid, size, x) (other, also, long, y) = grind (arith, common_steps)
 
 by_surveys_once : (input : List ℕ) (l : Look) (m : Option Look) (fs : List FindingValue) (a b : Reply) → RescuesBy input l m fs a → RescuesBy input l m fs b
     → a ≡ b

@@ -1,9 +1,10 @@
 -- What answers a rescue, and which images a tree fits only as they are.
 -- Letters: w the walk of a survey, fs its findings.
-use Rattle.std.proofs.Common.{◌≡◌, ◌≢◌, ◌∙◌, ◌∷◌, ◌++◌, ℕ, Bool, true, false, List, [], ap, refl, sym, Option, None, Some, IfSome, inl, inr, subst}
+use Rattle.std.proofs.Common.{◌≡◌, ◌≢◌, ◌∙◌, ◌∷◌, ◌++◌, ℕ, Bool, true, false, List, [], ap, refl, sym, Option, None, Some, IfSome, inl, inr, subst, arith}
 use Rattle.std.specs.Prelude.{Result, Ok, Err, is_some}
 use Rattle.std.specs.Result.{IsErrAnd}
 use Rattle.std.proofs.lemmas.Bool.{cond-false, cond-true}
+use Rattle.std.proofs.lemmas.Grind.{common_steps}
 use Rattle.adf_tree.specs.Tree.{Tree}
 use Rattle.adf_volume.specs.Fits.{Fits}
 use Rattle.adf_volume.specs.Layout.{Layout}
@@ -55,10 +56,7 @@ none_hung image w fs none = cond-false (has_lost image w fs) (Some (hung image w
 
 pub one_hung : (image : List ℕ) (w : List (Role × ℕ)) (fs : List FindingValue) (v : List ℕ) → has_lost image w fs ≡ true → v ≡ hung image w fs
     → second_image image w fs ≡ Some v
-one_hung image w fs v some is = cond-true (has_lost image w fs) (Some (hung image w fs)) None some ∙ ap some_image (sym is)
-  where
-    some_image : List ℕ → Option (List ℕ)
-    some_image l = Some l
+one_hung image w fs v some is = grind (arith, common_steps, cond-true)
 
 -- no tree fits an image that has a fault as it is
 pub none_fits_it : (image : List ℕ) (w : List (Role × ℕ)) (fs : List FindingValue) (mended : Bool) → mended ≡ false → IsSurvey image w fs → HasFault mended fs
@@ -83,10 +81,8 @@ pub some_reply : (image : List ℕ) (w : List (Role × ℕ)) (b : Option Look) (
     → text ≡ left_out_text image w xs ++ second_text b ys
     → (let some : Reply = record { status = 1; output = volume; errors = text } in some ≡ rescue_reply image w b volume xs ys)
 some_reply image w b volume text [] [] some e = absurd (some refl)
-some_reply image w b volume text [] (y ∷ ys) some e =
-    let reply : List ℕ → Reply = λ t. record { status = 1; output = volume; errors = t } in ap reply e
-some_reply image w b volume text (x ∷ xs) ys some e =
-    let reply : List ℕ → Reply = λ t. record { status = 1; output = volume; errors = t } in ap reply e
+some_reply image w b volume text [] (y ∷ ys) some e = grind (arith, common_steps)
+some_reply image w b volume text (x ∷ xs) ys some e = grind (arith, common_steps)
 
 -- what stands is prepared as a volume
 pub volume_prepared : (input : List ℕ) (a : Look) (b : Option Look) (fs : List FindingValue) (r : Rescued) (p : Prepared)

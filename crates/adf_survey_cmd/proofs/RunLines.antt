@@ -1,6 +1,7 @@
 -- The lines of runs.
 -- Letters: w a walk; r, s runs; f a finding, fs findings; o, p what is known of an entry.
-use Rattle.std.proofs.Common.{◌≡◌, ◌∙◌, ◌++◌, List, [], ◌∷◌, ℕ, true, false, refl, sym, subst, ap, append_assoc, append-nil}
+use Rattle.std.proofs.Common.{◌≡◌, ◌∙◌, ◌++◌, List, [], ◌∷◌, ℕ, true, false, refl, sym, ap, append_assoc, append-nil, arith}
+use Rattle.std.proofs.lemmas.Grind.{common_steps}
 use Rattle.adf_volume.specs.Walk.{Role}
 use Rattle.adf_findings.specs.Survey.{FindingValue}
 use Rattle.adf_survey_cmd.specs.Lines.{continues, lines_from, findings_line, run_of, runs_from}
@@ -20,18 +21,12 @@ module _ (image : List ℕ) (w : List (Role × ℕ)) where
   -- a run that goes on
   pub run_on : (r s : Run) (f : FindingValue) (fs : List FindingValue) (text : List ℕ) → s ≡ run_of w f → continues r s ≡ true
       → text ++ lines_from image w (record r { last = s.last }) fs ≡ text ++ lines_from image w r (f ∷ fs)
-  run_on r s f fs text e h =
-      let last : s.last ≡ f.block = ap (λ (x : Run). x.last) e in
-      ap (λ (n : ℕ). text ++ lines_from image w (record r { last = n }) fs) last
-      ∙ ap (λ t. text ++ t) (goes_on r f fs (subst (λ x. continues r x ≡ true) e h))
+  run_on r s f fs text e h = grind (arith, common_steps, goes_on)
 
   -- a run that ends
   pub run_over : (r s : Run) (f : FindingValue) (fs : List FindingValue) (text text' : List ℕ) → s ≡ run_of w f → continues r s ≡ false
       → text' ≡ text ++ findings_line image w r → text' ++ lines_from image w s fs ≡ text ++ lines_from image w r (f ∷ fs)
-  run_over r s f fs text text' e h t =
-      ap (λ (x : List ℕ). x ++ lines_from image w s fs) t ∙ append_assoc text (findings_line image w r) (lines_from image w s fs)
-      ∙ ap (λ (x : Run). text ++ (findings_line image w r ++ lines_from image w x fs)) e
-      ∙ ap (λ (x : List ℕ). text ++ x) (is_over r f fs (subst (λ x. continues r x ≡ false) e h))
+  run_over r s f fs text text' e h t = grind (arith, common_steps, append_assoc, is_over)
 
   -- the last run
   pub run_last : (r : Run) (text text' : List ℕ) → text' ≡ text ++ findings_line image w r → text ++ lines_from image w r [] ≡ text'

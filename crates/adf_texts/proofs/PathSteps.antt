@@ -1,11 +1,12 @@
 -- A path with one more name.
-use Rattle.std.proofs.Common.{◌≡◌, ◌<◌, ◌+◌, ◌++◌, ◌==◌, ◌&&◌, ◌∙◌, ℕ, List, [], ◌∷◌, Bool, true, false, if◌then◌else◌, ap, append_assoc, refl, sym, arith}
+use Rattle.std.proofs.Common.{◌≡◌, ◌<◌, ◌+◌, ◌++◌, ◌==◌, ◌∙◌, ℕ, List, [], ◌∷◌, Bool, true, false, if◌then◌else◌, ap, append_assoc, refl, sym, arith}
 use Rattle.std.proofs.Common.{get_or, length, map, nat_le, take}
 use Rattle.std.specs.Borrow.{Bor}
 use Rattle.std.specs.List.{All, join_with_byte, list_all}
 use Rattle.std.proofs.lemmas.Bool.{and_parts, ne_eqb}
 use Rattle.std.proofs.lemmas.List.{length-map, length-take-le, map-append, take_more}
 use Rattle.std.proofs.lemmas.List.Elements.{All-head, All-tail}
+use Rattle.std.proofs.lemmas.Grind.{common_steps}
 use Rattle.adf_tree.specs.Escapes.{escape_of, escaped}
 use Rattle.adf_tree.specs.PathTexts.{IsName, path_text, with_name}
 use Rattle.adf_tree.specs.Texts.{is_name_byte}
@@ -36,16 +37,7 @@ named path = map (λ name. name.now) path
 -- one name more, in a path of names that need not be valid
 pub names_step : (path : List (Bor (List ℕ))) (i : ℕ) (d : Bor (List ℕ)) → i < length path
     → names_text (named (take (i + 1) path)) ≡ behind (names_text (named (take i path))) (spelled (get_or path i d).now) (i == 0)
-names_step path i d lt =
-    let now : Bor (List ℕ) → List ℕ = λ name. name.now in
-    let front : List (List ℕ) = map spelled (named (take i path)) in
-    let long : length front ≡ i =
-    length-map (named (take i path)) spelled ∙ length-map (take i path) now ∙ length-take-le i path (omega arith) in
-    ap (λ ps. join_with_byte 47 (map spelled (named ps))) (take_more path i d lt)
-    ∙ ap (λ ps. join_with_byte 47 (map spelled ps)) (map-append now (take i path) (get_or path i d ∷ []))
-    ∙ ap (join_with_byte 47) (map-append spelled (named (take i path)) ((get_or path i d).now ∷ []))
-    ∙ joined_more front (spelled (get_or path i d).now)
-    ∙ ap (λ n. behind (names_text (named (take i path))) (spelled (get_or path i d).now) (n == 0)) long
+names_step path i d lt = grind (arith, common_steps, named, length-map, length-take-le, take_more, map-append, joined_more, behind)
 
 -- a valid name is spelled by its escapes
 bytes_escaped : (name : List ℕ) → list_all is_name_byte name ≡ true → name_bytes name ≡ escaped name
@@ -56,9 +48,7 @@ bytes_escaped (c ∷ cs) h =
 
 spelled_name : (name : List ℕ) → IsName name → spelled name ≡ escaped name
 spelled_name [] is = let clash : false ≡ true = is.allowed in cc
-spelled_name (c ∷ cs) is =
-    bytes_escaped (c ∷ cs)
-    (and_parts (nat_le 1 (length (c ∷ cs)) && nat_le (length (c ∷ cs)) 30) (list_all is_name_byte (c ∷ cs)) is.allowed).1
+spelled_name (c ∷ cs) is = grind (arith, common_steps, bytes_escaped, and_parts, nat_le)
 
 -- so a path of valid names has one text
 pub one_text : (path : List (List ℕ)) → All IsName path → names_text path ≡ path_text path

@@ -1,5 +1,6 @@
 -- The lines of `list`: of a row, and of the first entries.
-use Rattle.std.proofs.Common.{◌≡◌, ◌≤◌, ◌+◌, ℕ, List, [], ◌++◌, refl, ap, ◌∙◌, arith}
+use Rattle.std.proofs.Common.{◌≡◌, ◌≤◌, ◌+◌, ℕ, List, [], ◌++◌, refl, arith}
+use Rattle.std.proofs.lemmas.Grind.{common_steps}
 use Rattle.adf_base.specs.declared.dates.Stamp.{Stamp}
 use Rattle.adf_tree.specs.declared.entry.Body.{Body}
 use Rattle.adf_tree.specs.declared.entry.Body.TheVariants.{Dir, File}
@@ -18,10 +19,7 @@ body_words (File bytes) = (refl, refl)
 -- the lines of a row are those of the entry of which it tells
 pub row_lines_told : (date : Stamp → List ℕ) (names : List (List ℕ)) (r : Row) (e : Entry) → r ≡ row_of_entry e
     → lines_with date (path_text names) (row_word r.body) (row_size r.body) r.meta ≡ entry_lines date names e
-row_lines_told date names r e told = let same = body_words e.body in
-    ap (λ (x : Row). lines_with date (path_text names) (row_word x.body) (row_size x.body) x.meta) told
-    ∙ ap (λ w. lines_with date (path_text names) w (row_size (row_of_body e.body)) e.meta) same.0
-    ∙ ap (λ s. lines_with date (path_text names) (body_word e.body) s e.meta) same.1
+row_lines_told date names r e told = grind (arith, common_steps, body_words)
 
 pub lines_of_none : (date : Stamp → List ℕ) (es : List Entry) → lines_of_entries date es 0 ≡ []
 unfolding lines_of_entries

@@ -1,12 +1,13 @@
 -- Texts that are numbers.
 -- Letters: t a text; r what `parse` answers of it; a, b, c tests.
-use Rattle.std.proofs.Common.{◌≡◌, ◌≢◌, ◌<◌, ◌≤◌, ◌^◌, ◌&&◌, ℕ, Bool, true, false, List, Some, None, Result, Ok, ap, arith, cond, get_or, length, refl, subst}
+use Rattle.std.proofs.Common.{◌≡◌, ◌≢◌, ◌<◌, ◌≤◌, ◌^◌, ◌&&◌, ℕ, Bool, true, false, List, Some, None, Result, Ok, arith, cond, get_or, length, refl}
 use Rattle.std.specs.Result.{OkIff}
 use Rattle.std.specs.Str.{all_ascii_digits}
 use Rattle.std.specs.Str.Parse.{ParsesUnsigned, digits_value}
 use Rattle.std.proofs.lemmas.Bool.{le-leb, leb-true}
 use Rattle.std.proofs.lemmas.Result.{Ok-from_Ok_iff}
 use Rattle.std.proofs.lemmas.Str.Parse.{IsNumeralModel, numerals_by_value, parse_plain, tells_all_ascii_digits}
+use Rattle.std.proofs.lemmas.Grind.{common_steps}
 use Rattle.adf_blocks.specs.declared.layout.TheConstants.{MOST_BLOCKS}
 use Rattle.adf_words.specs.SurveyLine.{number_named}
 
@@ -28,11 +29,7 @@ module _ {E : Type 0} (t : List ℕ) (r : Result ℕ E) (h : ParsesUnsigned 32 1
 
   -- a number that is not too large is named
   pub named : (n : ℕ) → r ≡ Ok n → n ≤ MOST_BLOCKS → Some n ≡ number_named t
-  named n e few =
-      let ok = subst (λ q. OkIff q Fits (digits_value 10 t)) e plain in
-      let long = le-leb 1 (length t) (omega (arith, ok.0.1)) in
-      let small = le-leb (digits_value 10 t) MOST_BLOCKS (omega (arith, few, ok.1)) in
-      rw (ok.0.0, long, small) (ap Some ok.1)
+  named n e few = grind (arith, common_steps, plain, le-leb)
 
   -- nothing else is
   pub none_named : ((n : ℕ) → r ≡ Ok n → MOST_BLOCKS < n) → None ≡ number_named t

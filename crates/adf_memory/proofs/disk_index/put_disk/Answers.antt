@@ -1,19 +1,14 @@
 use Rattle.std.proofs.Common.{◌≡◌, ◌∙◌, ap, arith, length}
-use Rattle.adf_memory.specs.DiskTables.{partition_table, told_of}
-use Rattle.adf_memory.specs.Rooms.{filled}
+use Rattle.std.proofs.lemmas.Grind.{common_steps}
+use Rattle.adf_memory.specs.DiskTables.{told_of}
 use Rattle.adf_memory.proofs.DiskReadings.{same_partitions, told_fault, told_whole}
 use Rattle.adf_memory.proofs.disk_index.put_disk.Goals as goal
 
 pub returns-in-Ok-clause-partitions : goal.returns-in-Ok-clause-partitions
-returns-in-Ok-clause-partitions c = λ zero ps readable.
-    let same = same_partitions c.args.bytes.now c.args.blocks _ ps _ c.in-Ok.ensures.read readable in
-    c.put_partitions.ensures ∙ ap (λ ps. filled (partition_table ps) c.args.partitions.now) (c.deref.ensures.value ∙ same)
+returns-in-Ok-clause-partitions c = grind (arith, common_steps, same_partitions)
 
 pub returns-in-Ok-clause-whole : goal.returns-in-Ok-clause-whole
-returns-in-Ok-clause-whole c = λ zero t ps disk.
-    let count : c.len.result ≡ length c.in-Ok.disk.partitions.items = omega (arith, c.len.ensures) in
-    c.told_of.ensures ∙ ap (λ k. told_of k c.in-Ok.disk.fault) count
-    ∙ told_whole c.args.bytes.now c.args.blocks _ ps _ t c.in-Ok.ensures.read disk
+returns-in-Ok-clause-whole c = grind (arith, common_steps, told_whole)
 
 pub returns-in-Ok-clause-fault : goal.returns-in-Ok-clause-fault
 returns-in-Ok-clause-fault c = λ zero ps f readable first.

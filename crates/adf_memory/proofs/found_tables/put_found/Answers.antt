@@ -1,6 +1,6 @@
 use Rattle.std.proofs.Common.{◌≡◌, ◌∙◌, ◌+◌, ◌++◌, ◌∷◌, [], Some, ap, arith, sym}
 use Rattle.std.proofs.lemmas.List.FromFn.{length-map-range_with_len, map-range_with_len_more}
-use Rattle.adf_volume.specs.Walk.{heads}
+use Rattle.std.proofs.lemmas.Grind.{common_steps}
 use Rattle.adf_memory.specs.FoundTables.{found_entry, found_rows}
 use Rattle.adf_memory.specs.Rooms.{filled}
 use Rattle.adf_memory.proofs.Filled.{filled_none}
@@ -24,6 +24,4 @@ loop-i-preserved c = record {
 }
 
 pub returns : goal.returns
-returns c = λ w fs survey sound marks.
-    let last : c.loop-i.i ≡ heads w = omega (arith, c.len-i-end.ensures w fs survey) in
-    c.loop-i.invariant.rows w fs survey sound marks ∙ ap (λ k. filled (found_rows c.args.survey.now.image w sound k) c.args.room.now) last
+returns c = grind (arith, common_steps)

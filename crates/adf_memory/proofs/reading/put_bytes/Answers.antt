@@ -1,4 +1,5 @@
 use Rattle.std.proofs.Common.{ap, ◌∙◌, ◌-◌, arith, length, length-append, length-drop, min}
+use Rattle.std.proofs.lemmas.Grind.{common_steps}
 use Rattle.adf_memory.specs.Areas.{bytes_from}
 use Rattle.adf_memory.proofs.Filled.{filled_so}
 use Rattle.adf_memory.proofs.TableBytes.{all_put, behind_more, bytes_behind, bytes_more}
@@ -29,11 +30,7 @@ returns-in_default-clause-count c =
     omega (arith, all_put all c.loop-put.put c.loop-put.invariant.enough none)
 
 pub returns-in_default-clause-bytes : goal.returns-in_default-clause-bytes
-returns-in_default-clause-bytes c =
-    filled_so c.loop-put.put (bytes_from c.args.image.now c.args.kind c.args.datas.now c.args.from) c.loop-put.room c.args.room.now
-    (returns-in_default-clause-count c) c.loop-put.invariant.bytes c.loop-put.invariant.behind
+returns-in_default-clause-bytes c = grind (arith, common_steps, filled_so, returns-in_default-clause-count)
 
 pub returns-clause-bytes : goal.returns-clause-bytes
-returns-clause-bytes c =
-    filled_so c.loop-put.put (bytes_from c.args.image.now c.args.kind c.args.datas.now c.args.from) c.loop-put.room c.args.room.now
-    (omega arith) c.loop-put.invariant.bytes c.loop-put.invariant.behind
+returns-clause-bytes c = grind (arith, common_steps, filled_so)

@@ -1,4 +1,5 @@
 use Rattle.std.proofs.Common.{◌≡◌, ◌+◌, ◌<◌, ◌≤◌, ◌∙◌, ℕ, suc, ap, arith, length, take}
+use Rattle.std.proofs.lemmas.Grind.{common_steps}
 use Rattle.adf_volume.specs.Layout.{at_node, datas_of}
 use Rattle.adf_memory.specs.Rooms.{filled}
 use Rattle.adf_memory.specs.Tables.{all_datas, entry_table, table_entry}
@@ -59,9 +60,7 @@ returns-clause-count c = λ t l st.
     c.loop-i.invariant.first t l st ∙ ap length (whole_blocks l c.loop-i.i le)
 
 pub returns-clause-entries : goal.returns-clause-entries
-returns-clause-entries c = λ t l st.
-    let le : length t.entries ≤ c.loop-i.i = omega (arith, c.len-i-end.ensures.count t l st) in
-    c.loop-i.invariant.entries t l st ∙ ap (λ xs. filled xs c.args.entries.now) (whole_entries t l c.loop-i.i st.fits.places le)
+returns-clause-entries c = grind (arith, common_steps, whole_entries)
 
 pub returns-clause-blocks : goal.returns-clause-blocks
 returns-clause-blocks c = λ t l st.

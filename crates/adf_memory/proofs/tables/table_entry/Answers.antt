@@ -1,4 +1,5 @@
-use Rattle.std.proofs.Common.{◌∙◌, ap}
+use Rattle.std.proofs.Common.{◌∙◌, ap, arith}
+use Rattle.std.proofs.lemmas.Grind.{common_steps}
 use Rattle.adf_memory.specs.Tables.{table_entry}
 use Rattle.adf_memory.proofs.TableLaws.{block_told, parent_small, row_matches, row_there}
 use Rattle.adf_memory.proofs.tables.table_entry.Goals as goal
@@ -10,9 +11,7 @@ unwrap-row-requires c =
     row_there c.row.result s.0 c.args.node there.0 there.1 (c.row.ensures s.0 s.1 s.2)
 
 pub unwrap-header-requires : goal.unwrap-header-requires
-unwrap-header-requires c =
-    let s = c.requires.stands in
-    (c.block_of.ensures.some s.0 s.1 s.2).1 (c.requires.some s.0 s.1 s.2).1
+unwrap-header-requires c = grind (arith, common_steps)
 
 pub entry_of-requires : goal.entry_of-requires
 entry_of-requires c =

@@ -1,14 +1,13 @@
-use Rattle.std.proofs.Common.{◌≡◌, ◌++◌, ◌∷◌, [], ◌∙◌, List, ℕ, Bor, ap, sym, subst, map, if◌then◌else◌}
+use Rattle.std.proofs.Common.{◌≡◌, ◌++◌, ◌∷◌, [], ◌∙◌, List, ℕ, Bor, ap, sym, subst, map, if◌then◌else◌, arith}
 use Rattle.std.specs.List.{All}
 use Rattle.std.specs.Str.{IsUtf8}
+use Rattle.std.proofs.lemmas.Grind.{common_steps}
 use Rattle.adf_memory.specs.Words.{between_zeros}
 use Rattle.adf_memory.proofs.WordParts.{front_pushed, no_text, pushed_split, pushed_texts}
 use Rattle.adf_memory.proofs.words.words_in.Goals as goal
 
 pub returns-in_default-from_utf8-clause-err : goal.returns-in_default-from_utf8-clause-err
-returns-in_default-from_utf8-clause-err c _ =
-    no_text c.args.bytes.now c.loop-rest.rest.now c.in-Some.word.now c.in-Some.after.now (map (λ w. w.now) c.loop-rest.words.items)
-    c.loop-rest.invariant.split c.in-Some.ensures.some c.in_default-from_utf8.ensures.cases.0
+returns-in_default-from_utf8-clause-err c _ = grind (arith, common_steps, no_text)
 
 pub returns-then-is_err-clause-memory : goal.returns-then-is_err-clause-memory
 returns-then-is_err-clause-memory c _ =

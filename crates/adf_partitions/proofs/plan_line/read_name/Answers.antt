@@ -1,16 +1,12 @@
-use Rattle.std.proofs.Common.{◌≡◌, ◌∙◌, ap, arith, false, length, rules, sym, true}
+use Rattle.std.proofs.Common.{◌≡◌, ◌∙◌, ap, arith, false, rules, sym, true}
 use Rattle.std.specs.List.{list_all}
+use Rattle.std.proofs.lemmas.Grind.{common_steps}
 use Rattle.adf_tree.proofs.Spellings.{only_spelled}
 use Rattle.adf_tree.specs.Texts.{is_name_byte}
 use Rattle.adf_partitions.proofs.plan_line.read_name.Goals as goal
 
 pub returns-then-is_empty-clause-none : goal.returns-then-is_empty-clause-none
-returns-then-is_empty-clause-none c = λ name spells some ok.
-    let mine = c.in_ok-name.ensures.some in
-    let same : name ≡ c.in_ok-name.name = only_spelled name c.in_ok-name.name spells.are_bytes mine.are_bytes (sym spells.spells ∙ mine.spells) in
-    let len = ap length same in
-    let none : length c.in_ok-name.name ≡ 0 = search (rules, arith) in
-    omega arith
+returns-then-is_empty-clause-none c = grind (arith, common_steps, only_spelled)
 
 pub returns-else-are_name_bytes-clause-none : goal.returns-else-are_name_bytes-clause-none
 returns-else-are_name_bytes-clause-none c = λ name spells some ok.

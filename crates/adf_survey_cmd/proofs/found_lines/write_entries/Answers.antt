@@ -1,14 +1,12 @@
 use Rattle.std.proofs.Common.{◌≡◌, ◌+◌, arith, rules}
+use Rattle.std.proofs.lemmas.Grind.{common_steps}
 use Rattle.adf_volume.specs.Walk.{heads}
 use Rattle.adf_runs.proofs.PendingText.{on_err, pending_begun, pending_end, pending_fails, pending_more}
 use Rattle.adf_survey_cmd.proofs.FoundTexts.{found_front, found_more, found_none}
 use Rattle.adf_survey_cmd.proofs.found_lines.write_entries.Goals as goal
 
 pub loop-i-init : goal.loop-i-init
-loop-i-init g c = record {
-  works = c.requires.works;
-  so_far = λ w fs survey date sound dates marks. pending_begun _ _ _ (found_none date sound c.args.survey.now.image w c.args.text.items);
-}
+loop-i-init g c = grind (arith, common_steps, pending_begun, found_none)
 
 pub loop-i-preserved : goal.loop-i-preserved
 loop-i-preserved g c = record {

@@ -1,5 +1,6 @@
 use Rattle.std.specs.Prelude.{None}
 use Rattle.std.proofs.Common.{◌+◌, arith, drop, get_or, map, rules}
+use Rattle.std.proofs.lemmas.Grind.{common_steps}
 use Rattle.adf_blocks.specs.declared.cause.Cause.TheVariants.{BadSize}
 use Rattle.adf_findings.specs.Concerned.{concern_of, owner_of}
 use Rattle.adf_findings.specs.Parts.{finding_value}
@@ -10,16 +11,7 @@ use Rattle.adf_survey_cmd.proofs.PendingLines.{pending_breaks, pending_stops}
 use Rattle.adf_survey_cmd.proofs.runs.write_runs.Goals as goal
 
 pub loop-i-init : goal.loop-i-init
-loop-i-init g c = record {
-  works = c.requires.works;
-  so_far = λ w fs survey.
-      let image = c.args.survey.now.image in
-      let all = c.findings.ensures w fs survey in
-      let split = c.in-Some.ensures.cases.0 in
-      let concern = told_first image w fs _ _ _ all split (concern_of w) c.concern_of.result (c.concern_of.ensures w fs survey) in
-      let owner = told_first image w fs _ _ _ all split (owner_of w) c.owner_of.result (c.owner_of.ensures w fs survey) in
-      pending_begun _ _ _ (runs_begun image w fs _ _ _ all split c.of-run.result _ (c.of-run.ensures w concern owner) c.new-text.ensures.items);
-}
+loop-i-init g c = grind (arith, common_steps, told_first, pending_begun, runs_begun)
 
 pub loop-i-preserved : goal.loop-i-preserved
 loop-i-preserved g c = record {
@@ -58,8 +50,7 @@ returns-in_err-run-clause-err g c = λ w fs survey.
     (runs_next image w others _ _ _ _ c.loop-i.run i none (omega arith) (c.loop-i.invariant.so_far w fs survey)) step)
 
 pub returns-in_err-push_run-clause-err : goal.returns-in_err-push_run-clause-err
-returns-in_err-push_run-clause-err g c = λ w fs survey.
-    on_err c.from_residual-in_err-push_run.result (pending_stops _ _ _ _ c.loop-i.invariant.works (c.loop-i.invariant.so_far w fs survey))
+returns-in_err-push_run-clause-err g c = grind (arith, common_steps, on_err, pending_stops, c.loop-i.invariant.works, c.loop-i.invariant.so_far)
 
 pub returns-in_err-write_all-clause-err : goal.returns-in_err-write_all-clause-err
 returns-in_err-write_all-clause-err g c = λ w fs survey.

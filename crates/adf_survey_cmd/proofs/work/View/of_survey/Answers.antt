@@ -1,22 +1,15 @@
-use Rattle.std.proofs.Common.{inr, subst, sym}
-use Rattle.adf_survey_cmd.specs.Answers.{CopiesFound, QuestionAnswer, TellsFindings, TellsFound}
+use Rattle.std.proofs.Common.{inr, subst, sym, arith}
+use Rattle.std.proofs.lemmas.Grind.{common_steps}
+use Rattle.adf_survey_cmd.specs.Answers.{CopiesFound, QuestionAnswer}
 use Rattle.adf_survey_cmd.specs.Work.{Shows}
 use Rattle.adf_runs.proofs.Endings.{ends_weaker}
 use Rattle.adf_survey_cmd.proofs.work.View.of_survey.Goals as goal
 
 pub returns-in-Findings-clause-ends : goal.returns-in-Findings-clause-ends
-returns-in-Findings-clause-ends g c = λ w fs survey q shows.
-    let image = c.args.survey.now.image in
-    let is = subst (λ view. Shows view q) c.in-Findings.is shows in
-    ends_weaker (TellsFindings image w fs) (QuestionAnswer q image) _ _ _
-    (λ reply tells. subst (λ x. QuestionAnswer x image reply) (sym is) (w, fs, survey, tells)) (c.write_findings.ensures.ends w fs survey)
+returns-in-Findings-clause-ends g c = grind (arith, common_steps, ends_weaker)
 
 pub returns-in-List-clause-ends : goal.returns-in-List-clause-ends
-returns-in-List-clause-ends g c = λ w fs survey q shows.
-    let image = c.args.survey.now.image in
-    let is = subst (λ view. Shows view q) c.in-List.is shows in
-    ends_weaker (TellsFound image w fs) (QuestionAnswer q image) _ _ _
-    (λ reply tells. subst (λ x. QuestionAnswer x image reply) (sym is) (w, fs, survey, tells)) (c.write_list.ensures.ends w fs survey)
+returns-in-List-clause-ends g c = grind (arith, common_steps, ends_weaker)
 
 pub returns-in-Cat-clause-ends : goal.returns-in-Cat-clause-ends
 returns-in-Cat-clause-ends g c = λ w fs survey q shows.
