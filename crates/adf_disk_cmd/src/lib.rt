@@ -10,6 +10,7 @@ mod job;
 mod list_input;
 mod listing;
 mod runner;
+mod stretch;
 mod surveying;
 mod types;
 mod volumes;
