@@ -2,17 +2,17 @@
 -- the bytes of given volumes.
 use Rattle.std.proofs.Common.{◌≡◌, ◌≢◌, ◌≤◌, ◌<◌, ◌+◌, ◌*◌, ◌∙◌, ℕ, Bool, true, false}
 use Rattle.std.proofs.Common.{List, [], ◌∷◌, ◌++◌, ap, ap₂, arith, append-nil, append_assoc, drop, get_or}
-use Rattle.std.proofs.Common.{◌^◌, inl, inr, length, length-drop, refl, subst, suc, sym, take, zero}
+use Rattle.std.proofs.Common.{◌^◌, inl, inr, length, length-drop, refl, subst, suc, sym, zero}
 use Rattle.std.proofs.lemmas.Bool.Decides.{nat_tests}
 use Rattle.std.proofs.lemmas.List.{drop_all, length-take-le}
 use Rattle.std.proofs.lemmas.List.Folds.{list_all_at}
 use Rattle.std.specs.List.{flat_map, list_all}
 use Rattle.std.specs.Prelude.{◌==◌, ◌/◌, if◌then◌else◌}
 use Rattle.std.proofs.lemmas.Bool.{and_parts}
+use Rattle.std.proofs.lemmas.Grind.{common_steps}
 use Rattle.adf_disk_cmd.proofs.NewVolumes.{MayBeNew, length_new, may_be_new, new_fits}
 use Rattle.adf_disk_cmd.specs.Builds.{BuildsDisk, HasPlanned, behind_volume, built_disk, given_bytes, given_cylinders, given_line, given_size}
-use Rattle.adf_build.specs.Laid.{volume}
-use Rattle.adf_disk_cmd.specs.Builds.{new_tree, plan_reply, volume_of, volumes_of}
+use Rattle.adf_disk_cmd.specs.Builds.{plan_reply, volume_of, volumes_of}
 use Rattle.adf_partitions.proofs.PlanSizes.{blocks_fit, cylinders_fit, plans_at}
 use Rattle.adf_partitions.proofs.PlannedDisk.{planned_disk}
 use Rattle.adf_partitions.proofs.PlannedVolumes.{disk_size, volumes_stand}
@@ -56,8 +56,7 @@ volume_put : (c : ℕ) (p : PartitionPlan) (ps : List PartitionPlan) (disk given
     → (disk ++ volume_of (p.cylinders * c) p given) ++ joined (volumes_of c ps (behind_volume (p.cylinders * c) p given))
     ≡ disk ++ joined (volumes_of c (p ∷ ps) given)
 unfolding volumes_of
-volume_put c p ps disk given =
-    append_assoc disk (volume_of (p.cylinders * c) p given) (joined (volumes_of c ps (behind_volume (p.cylinders * c) p given)))
+volume_put c p ps disk given = grind (arith, common_steps, append_assoc, joined)
 
 -- what stands before the volumes of partitions, and the given bytes, with which the disk is whole
 pub record Continues (c : ℕ) (ps : List PartitionPlan) (disk given whole : List ℕ) : Type 0 where
@@ -66,29 +65,17 @@ pub record Continues (c : ℕ) (ps : List PartitionPlan) (disk given whole : Lis
 
 pub stepped : (c n : ℕ) (ps others : List PartitionPlan) (p : PartitionPlan) (disk given whole next rest : List ℕ) → Continues c ps disk given whole
     → ps ≡ p ∷ others → n ≡ p.cylinders * c → next ≡ disk ++ volume_of n p given → rest ≡ behind_volume n p given → Continues c others next rest whole
-stepped c n ps others p disk given whole next rest h e size put left_is =
-    let now : Continues c (p ∷ others) disk given whole = subst (λ (k : List PartitionPlan). Continues c k disk given whole) e h in
-    let left_here : rest ≡ behind_volume (p.cylinders * c) p given = left_is ∙ ap (λ (k : ℕ). behind_volume k p given) size in
-    let put_here : next ≡ disk ++ volume_of (p.cylinders * c) p given = put ∙ ap (λ (k : ℕ). disk ++ volume_of k p given) size in
-    record {
-      enough = subst (AreEnough c others) (sym left_here) (others_enough c p others given now.enough);
-      bytes = ap₂ (λ (x y : List ℕ). x ++ joined (volumes_of c others y)) put_here left_here ∙ volume_put c p others disk given ∙ now.bytes;
-    }
+stepped c n ps others p disk given whole next rest h e size put left_is = grind (arith, common_steps, others_enough, ap₂, joined, volume_put)
 
 pub volumes_end : (c : ℕ) (ps : List PartitionPlan) (i : ℕ) (disk given all : List ℕ) → length ps ≤ i
     → disk ++ joined (volumes_of c (drop i ps) given) ≡ all → disk ≡ all
 unfolding volumes_of
-volumes_end c ps i disk given all le h =
-    sym (append-nil disk) ∙ ap (λ (k : List PartitionPlan). disk ++ joined (volumes_of c k given)) (sym (drop_all i ps le)) ∙ h
+volumes_end c ps i disk given all le h = grind (arith, common_steps, append-nil, joined, drop_all)
 
 -- each partition has a volume
 pub has_volume_at : (c : ℕ) (ps : List PartitionPlan) (i : ℕ) (d : PartitionPlan) → list_all (has_volume c) ps ≡ true → i < length ps
     → has_volume c (get_or ps i d) ≡ true
-has_volume_at c ps i d all lt = go (has_volume c (get_or ps i d)) refl
-  where
-    go : (b : Bool) → has_volume c (get_or ps i d) ≡ b → has_volume c (get_or ps i d) ≡ true
-    go true has = has
-    go false has = let none = list_all_at (has_volume c) ps i d lt has in absurd cc
+has_volume_at c ps i d all lt = grind (arith, common_steps, list_all_at)
 
 cylinders_within : (ps : List PartitionPlan) (i : ℕ) (p : PartitionPlan) → i < length ps → p ≡ get_or ps i p → p.cylinders ≤ cylinders_of ps
 unfolding cylinders_of
@@ -129,12 +116,7 @@ given_end ps i le = ap given_cylinders (drop_all i ps le)
 
 length_one : (n : ℕ) (p : PartitionPlan) (given : List ℕ) → (p.given ≡ true → n * 512 ≤ length given) → (p.given ≡ false → MayBeNew n p)
     → length (volume_of n p given) ≡ n * 512
-length_one n p given enough new = go p.given enough new
-  where
-    go : (b : Bool) → (b ≡ true → n * 512 ≤ length given) → (b ≡ false → MayBeNew n p)
-        → length (if b then take (n * 512) given else volume (new_tree p) n) ≡ n * 512
-    go true is may = length-take-le (n * 512) given (is refl)
-    go false is may = length_new n p (may refl)
+length_one n p given enough new = grind (arith, common_steps, length-take-le, length_new)
 
 are_volumes : (c : ℕ) (ps : List PartitionPlan) (given : List ℕ) → AreEnough c ps given → list_all (has_volume c) ps ≡ true
     → AreVolumes c ps (volumes_of c ps given)
@@ -169,14 +151,10 @@ has_planned text plan given is enough =
 
 pub other_bytes : (plan : PlanValue) (given : List ℕ) → length given ≢ given_bytes plan
     → plan_reply plan given ≡ on_errors 1 (given_line (given_bytes plan) (length given))
-other_bytes plan given other =
-    let test : (length given == given_bytes plan) ≡ false = grind (arith, nat_tests) in
-    rw test refl
+other_bytes plan given other = grind (arith, common_steps, nat_tests)
 
 pub right_bytes : (plan : PlanValue) (given : List ℕ) → length given ≡ given_bytes plan → plan_reply plan given ≡ on_output 0 (built_disk plan given)
-right_bytes plan given right =
-    let test : (length given == given_bytes plan) ≡ true = grind (arith, nat_tests) in
-    rw test refl
+right_bytes plan given right = grind (arith, common_steps, nat_tests)
 
 -- what is written at status 0
 pub built_disks : (text : List ℕ) (reply : Reply) → BuildsDisk text reply → reply.status ≡ 0
@@ -188,7 +166,4 @@ built_disks text reply (inl (plan, given, is, e)) done = (plan, given, is, go (l
     go true same =
         let enough : length given ≡ given_bytes plan = grind (arith, nat_tests) in
         subst (λ (r : Reply). HasPlanned plan given r.output) (sym (e ∙ right_bytes plan given enough)) (has_planned text plan given is enough)
-    go false other =
-        let wrong : length given ≢ given_bytes plan = grind (arith, nat_tests) in
-        let one = ap (λ (r : Reply). r.status) (e ∙ other_bytes plan given wrong) in
-        absurd cc
+    go false other = grind (arith, common_steps, nat_tests, other_bytes)

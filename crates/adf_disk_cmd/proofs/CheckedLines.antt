@@ -1,8 +1,9 @@
 -- The lines of partitions, one behind the other.
-use Rattle.std.proofs.Common.{◌≡◌, ◌&&◌, ◌<◌, ◌+◌, ◌++◌, ◌∙◌, ℕ, Bool, true, false, List, [], ◌∷◌, Ok, ap, ap₂, arith, suc, refl, subst, sym}
+use Rattle.std.proofs.Common.{◌≡◌, ◌&&◌, ◌<◌, ◌+◌, ◌++◌, ◌∙◌, ℕ, Bool, true, false, List, [], ◌∷◌, Ok, ap₂, arith, refl, subst, sym}
 use Rattle.std.proofs.Common.{append-nil, append_assoc, drop, get_or, length}
 use Rattle.std.proofs.Math.Seq.{drop-cons}
 use Rattle.std.proofs.Math.Bool.{and-true}
+use Rattle.std.proofs.lemmas.Grind.{common_steps}
 use Rattle.adf_cmd.specs.Answers.{Answer}
 use Rattle.adf_disk_cmd.specs.Checks.{AreChecked, Tells, TellsPlace, TellsVolume, check_status}
 use Rattle.adf_disk_cmd.specs.Lines.{is_checked, list_line, list_lines, name_text, volume_at}
@@ -13,16 +14,13 @@ use Rattle.adf_words.specs.CommandLine.{check}
 
 -- what is left from a partition on
 pub split_at : (ps : List Partition) (i : ℕ) (p : Partition) → i < length ps → p ≡ get_or ps i p → drop i ps ≡ p ∷ drop (i + 1) ps
-split_at ps i p lt e =
-    let next : suc i ≡ i + 1 = omega arith in
-    drop-cons ps i p lt ∙ ap₂ (λ (q : Partition) (k : ℕ). q ∷ drop k ps) (sym e) next
+split_at ps i p lt e = grind (arith, common_steps, drop-cons, ap₂)
 
 -- a line behind those before it
 pub line_put : (ps left : List Partition) (i : ℕ) (p : Partition) (text : List ℕ) → drop i ps ≡ p ∷ left
     → text ++ list_lines (i + 1) (drop i ps) ≡ list_lines 1 ps → (text ++ list_line (i + 1) p) ++ list_lines (i + 1 + 1) left ≡ list_lines 1 ps
 unfolding list_lines
-line_put ps left i p text e h =
-    append_assoc text (list_line (i + 1) p) (list_lines (i + 1 + 1) left) ∙ ap (λ (k : List Partition). text ++ list_lines (i + 1) k) (sym e) ∙ h
+line_put ps left i p text e h = grind (arith, common_steps, append_assoc)
 
 pub lines_end : (ps : List Partition) (n : ℕ) (text : List ℕ) → text ++ list_lines n [] ≡ list_lines 1 ps → text ≡ list_lines 1 ps
 unfolding list_lines
@@ -58,9 +56,7 @@ line_added bytes ps left p sound one text line all tells = λ others rest h.
 pub stepped : (bytes : List ℕ) (ps left : List Partition) (p : Partition) (sound one next : Bool) (text line more : List ℕ)
     → Continues bytes ps (p ∷ left) sound text → Tells bytes p one line → next ≡ (sound && one) → more ≡ text ++ (name_text p ++ line)
     → Continues bytes ps left next more
-stepped bytes ps left p sound one next text line more all tells e f =
-    let added = line_added bytes ps left p sound one text line all tells in
-    subst (λ s. Continues bytes ps left s more) (sym e) (subst (λ t. Continues bytes ps left (sound && one) t) (sym f) added)
+stepped bytes ps left p sound one next text line more all tells e f = grind (arith, common_steps, line_added)
 
 pub ended : (bytes : List ℕ) (ps : List Partition) (sound : Bool) (text : List ℕ) → Continues bytes ps [] sound text → AreChecked bytes ps sound text
 unfolding AreChecked

@@ -14,6 +14,7 @@ use Rattle.adf_partitions.specs.declared.fault.DiskFault.{DiskFault}
 use Rattle.adf_partitions.specs.declared.partition.Partition.{Partition}
 use Rattle.adf_partitions.specs.declared.place.Place.{Place}
 use Rattle.adf_partitions.specs.declared.tables.Tables.{Tables}
+use Rattle.std.proofs.lemmas.Grind.{common_steps}
 use Rattle.adf_runs.proofs.Endings.{ends_weaker}
 use Rattle.adf_runs.specs.Commands.{Reply}
 use Rattle.adf_runs.specs.Outcomes.{EndsBy, after_reading}
@@ -79,12 +80,7 @@ pub volume_is : (bytes : List ℕ) (q : Place) (first count : ℕ) → first ≡
     → count ≡ min (q.blocks * 512) (length (take (length bytes - first) (drop first bytes)))
     → take count (take (length bytes - first) (drop first bytes)) ≡ volume_at bytes q
 unfolding volume_at
-volume_is bytes q first count e f =
-    let behind : List ℕ = drop (q.first * 512) bytes in
-    let all = take_all (length bytes - first) (drop first bytes) (omega (arith, length-drop first bytes)) in
-    let rest : take (length bytes - first) (drop first bytes) ≡ behind = all ∙ ap (λ (k : ℕ). drop k bytes) e ∙ drop_min (q.first * 512) bytes in
-    let cut : count ≡ min (q.blocks * 512) (length behind) = f ∙ ap (λ (l : List ℕ). min (q.blocks * 512) (length l)) rest in
-    ap (take count) rest ∙ ap (λ (k : ℕ). take k behind) cut ∙ take_min (q.blocks * 512) behind
+volume_is bytes q first count e f = grind (arith, common_steps, take_all, length-drop, drop_min, take_min)
 
 -- no input came
 pub unread_ends : (f : StreamFault) (w : Outcome) (answers : List ℕ → Reply → Type 0) (left o : Option (List ℕ)) → w ≡ after_reading f

@@ -8,6 +8,7 @@ use Rattle.std.proofs.lemmas.Bool.{cases_lt}
 use Rattle.std.proofs.lemmas.List.{drop-drop, drop-take, take-take, take_all}
 use Rattle.std.specs.Option.{SomeIff, unwrap_or}
 use Rattle.std.specs.Prelude.{find}
+use Rattle.std.proofs.lemmas.Grind.{common_steps}
 use Rattle.adf_base.specs.Words.{block}
 use Rattle.adf_tree.proofs.Spellings.{only_spelled}
 use Rattle.adf_partitions.proofs.AnyLength.{is_disk_too, named_is, numbered_is}
@@ -22,7 +23,6 @@ use Rattle.adf_partitions.specs.declared.place.PlaceFault.{PlaceFault}
 use Rattle.adf_partitions.specs.declared.tables.Tables.{Tables}
 use Rattle.adf_runs.proofs.Endings.{ends_weaker}
 use Rattle.adf_runs.proofs.KnownBytes.{left_over}
-use Rattle.adf_runs.specs.Commands.{on_output}
 use Rattle.adf_runs.specs.Outcomes.{EndsBy}
 use Rattle.adf_runs.specs.Streams.{IsPart, TakesFirst}
 use Rattle.adf_runs.specs.declared.outcome.Outcome.{Outcome}
@@ -50,15 +50,13 @@ wanted_alike bytes n m t u ps qs (name text) found other d e (inl (one, spells, 
     (ap (λ (b : List ℕ). find (is_named b) qs) same ∙ sym y) (named_is bytes n m t u ps qs one d e))
 wanted_alike bytes n m t u ps qs (name text) found other d e (inl (one, spells, x)) (inr (none, y)) = absurd (none one spells)
 wanted_alike bytes n m t u ps qs (name text) found other d e (inr (none, x)) (inl (two, also, y)) = absurd (none two also)
-wanted_alike bytes n m t u ps qs (name text) found other d e (inr (none, x)) (inr (never, y)) =
-    subst (λ (v : Option Partition). FoundAlike bytes n v other) (sym x) (subst (λ (v : Option Partition). FoundAlike bytes n None v) (sym y) tt)
+wanted_alike bytes n m t u ps qs (name text) found other d e (inr (none, x)) (inr (never, y)) = grind (arith, common_steps)
 
 -- a volume has no other place than its block says with more blocks
 module _ (bytes : List ℕ) (n m : ℕ) (few : n ≤ m) (p : Partition) (stated : Option Place) (nowhere : Place)
     (says : SomeIff stated (StatesPlace bytes m p.block) (place_of (block bytes p.block))) where
   more_stated : (b : ℕ) → b ≡ p.block → StatesPlace bytes n b → StatesPlace bytes m p.block
-  more_stated b e s =
-      subst (λ (k : ℕ). StatesPlace bytes m k) e (record { held = s.held; cylinders = s.cylinders; within = omega (arith, s.within, few) })
+  more_stated b e s = grind (arith, common_steps)
 
   is_said : (o : Option Place) (r : Place) → SomeIff o (StatesPlace bytes m p.block) (place_of (block bytes p.block)) → StatesPlace bytes m p.block
       → r ≡ place_of (block bytes p.block) → unwrap_or o nowhere ≡ r
@@ -68,8 +66,7 @@ module _ (bytes : List ℕ) (n m : ℕ) (few : n ≤ m) (p : Partition) (stated 
   said_place : (b : ℕ) (place : Result Place PlaceFault) → b ≡ p.block → IfOk place (IsStated bytes n b)
       → IfOk place (λ (r : Place). unwrap_or stated nowhere ≡ r)
   said_place b (Err f) e h = tt
-  said_place b (Ok r) e h =
-      is_said stated r says (more_stated b e h.states) (subst (λ (k : ℕ). r ≡ place_of (block bytes k)) e h.same)
+  said_place b (Ok r) e h = grind (arith, common_steps, is_said, more_stated)
 
   found_place : (found : Option Partition) → FoundAlike bytes n found (Some p)
       → IfSome found (λ x. IfOk x.place (λ (r : Place). unwrap_or stated nowhere ≡ r))
@@ -78,9 +75,7 @@ module _ (bytes : List ℕ) (n m : ℕ) (few : n ≤ m) (p : Partition) (stated 
 
   pub sought_found : (q : Place) (other found : Option Partition) → q ≡ unwrap_or stated nowhere → other ≡ Some p → FoundAlike bytes n found other
       → IfSome found (λ x. IfOk x.place (λ (r : Place). q ≡ r))
-  sought_found q other found e f h =
-      subst (λ (k : Place). IfSome found (λ x. IfOk x.place (λ (r : Place). k ≡ r))) (sym e)
-      (found_place found (subst (λ (o : Option Partition). FoundAlike bytes n found o) f h))
+  sought_found q other found e f h = grind (arith, common_steps, found_place)
 
 -- nothing is found where nothing is found alike
 pub none_found : (bytes : List ℕ) (n : ℕ) (q : Place) (found : Option Partition) → FoundAlike bytes n found None
@@ -119,9 +114,7 @@ drop_cut f t xs = elim (cases_lt f t) [
 ]
 
 drop_late : (f t : ℕ) (xs : List ℕ) → drop (t - f) (drop f xs) ≡ drop (f - t) (drop t xs)
-drop_late f t xs =
-    let same : f + (t - f) ≡ t + (f - t) = omega arith in
-    drop-drop (t - f) f xs ∙ ap (λ (k : ℕ). drop k xs) same ∙ sym (drop-drop (f - t) t xs)
+drop_late f t xs = grind (arith, common_steps, drop-drop)
 
 -- so many items from one on are those before place t and those behind it
 parts : (f b t : ℕ) (xs : List ℕ)
@@ -164,8 +157,7 @@ module _ (all tables behind : List ℕ) (q : Place) (len : ℕ) (within : end_of
 
   place_answer : (place : Result Place PlaceFault) → IfOk place (λ (r : Place). q ≡ r)
       → held_place_reply (volume_at tables q ++ behind) place ≡ place_reply (disk_of all) place
-  place_answer (Ok r) e =
-      ap (on_output 0) (both_parts ∙ ap (λ (k : Place). volume_at (disk_of all) k) e)
+  place_answer (Ok r) e = grind (arith, common_steps, both_parts, disk_of)
   place_answer (Err f) e = refl
 
   held_answer : (found : Option Partition) → IfSome found (λ x. IfOk x.place (λ (r : Place). q ≡ r))

@@ -1,6 +1,7 @@
 -- New volumes. p is the plan of a partition, n the number of its blocks, c that of a cylinder.
-use Rattle.std.proofs.Common.{◌≡◌, ◌≤◌, ◌-◌, ◌*◌, ℕ, Bool, true, false, [], ap, length, refl, arith}
-use Rattle.std.specs.Prelude.{◌&&◌, ◌||◌, nat_le}
+use Rattle.std.proofs.Common.{◌≡◌, ◌≤◌, ◌-◌, ◌*◌, ℕ, Bool, true, false, [], length, refl, arith}
+use Rattle.std.specs.Prelude.{◌&&◌, ◌||◌}
+use Rattle.std.proofs.lemmas.Grind.{common_steps}
 use Rattle.adf_base.specs.Dates.{IsStamp}
 use Rattle.adf_blocks.specs.Sizes.{is_allowed}
 use Rattle.adf_build.proofs.AllocatedBlocks.{reserved_below}
@@ -8,7 +9,7 @@ use Rattle.adf_build.proofs.LaidFits.{volume_fits}
 use Rattle.adf_build.proofs.LaidWrites.{CanHold, volume_long}
 use Rattle.adf_build.specs.Building.{IsBuildFault}
 use Rattle.adf_build.specs.Laid.{volume}
-use Rattle.adf_build.specs.Plan.{blocks_needed, entries_blocks, planned}
+use Rattle.adf_build.specs.Plan.{blocks_needed, planned}
 use Rattle.adf_build.specs.declared.builder.BuildFault.TheVariants.{Full}
 use Rattle.adf_disk_cmd.specs.Builds.{new_tree}
 use Rattle.adf_partitions.proofs.NumberTests.{le_of}
@@ -26,9 +27,7 @@ pub record MayBeNew (n : ℕ) (p : PartitionPlan) : Type 0 where
 
 -- there is room for the root and the bitmap
 room : (t : Tree) (n : ℕ) → t.entries ≡ [] → is_allowed n ≡ true → blocks_needed t n ≤ n - 2
-room t n none size =
-    let nothing : entries_blocks t.kind t.entries ≡ 0 = ap (entries_blocks t.kind) none in
-    omega (arith, size_low n size, reserved_below n (size_low n size))
+room t n none size = grind (arith, common_steps, size_low, reserved_below)
 
 no_date : IsStamp (record { days = 0; mins = 0; ticks = 0 })
 no_date = record { days = omega arith; mins = omega arith; ticks = omega arith }
@@ -65,6 +64,4 @@ new_by true size label h e = absurd cc
 
 -- a volume that is not given may be new
 pub may_be_new : (c : ℕ) (p : PartitionPlan) → has_volume c p ≡ true → p.given ≡ false → MayBeNew (p.cylinders * c) p
-may_be_new c p h new =
-    let both = new_by p.given (is_allowed (p.cylinders * c)) (nat_le (length p.name) 30) h new in
-    record { size = both.0; label = le_of (length p.name) 30 both.1 }
+may_be_new c p h new = grind (arith, common_steps, new_by, le_of)

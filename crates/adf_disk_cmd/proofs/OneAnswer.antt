@@ -1,13 +1,15 @@
 -- What is asked of a disk has one answer.
 -- Letters: ps are its partitions, p is one of them; s, t whether it is sound, l, m its lines; a, b replies.
-use Rattle.std.proofs.Common.{◌≡◌, ◌&&◌, ◌++◌, ◌∙◌, ℕ, Bool, true, false, List, [], ◌∷◌, Option, Some, Result, Ok, Err, inl, inr, ap, ap₂, refl, sym, subst}
+use Rattle.std.proofs.Common.{◌≡◌, ◌&&◌, ◌++◌, ◌∙◌, ℕ, Bool, true, false, List, [], ◌∷◌, Option, Result, Ok, Err, inl, inr, ap, ap₂, refl, sym, subst}
 use Rattle.std.specs.Prelude.{codes, find, length, ◌/◌, take}
+use Rattle.std.proofs.lemmas.Grind.{common_steps}
+use Rattle.std.proofs.Common.{arith}
 use Rattle.adf_cmd.proofs.OneAnswer.{one_answer as one_check}
 use Rattle.adf_disk_cmd.specs.Answers.{ChecksAll, CopiesVolume, DiskAnswer, IsWanted, OfBytes}
 use Rattle.adf_disk_cmd.specs.Answers.{OfDisk, OfFault, OfPartitions, TellsReadable, fault_line, volume_reply}
 use Rattle.adf_disk_cmd.specs.Builds.{BuildsDisk, plan_reply, refusal}
 use Rattle.adf_disk_cmd.specs.Checks.{AreChecked, TellsPlace, TellsText, TellsVolume, check_status}
-use Rattle.adf_disk_cmd.specs.Lines.{bytes_text, is_checked, list_lines, name_text, volume_at}
+use Rattle.adf_disk_cmd.specs.Lines.{bytes_text, is_checked, name_text, volume_at}
 use Rattle.adf_disk_cmd.specs.declared.work.TheConstants.{MOST_DISK_BYTES}
 use Rattle.adf_partitions.proofs.OneAnswer.{no_fault, one_disk, one_fault, one_reading}
 use Rattle.adf_partitions.proofs.OnePlan.{no_text_fault, one_plan, one_text_fault}
@@ -25,10 +27,7 @@ use Rattle.adf_words.specs.CommandLine.{check as check_volume}
 use Rattle.adf_words.specs.DiskLine.{AsksDisk, DiskRequestValue, WantedValue, build, check, list, name, number, survey, volume}
 
 pub one_request : (words : List (List ℕ)) (r q : DiskRequestValue) → AsksDisk words r → AsksDisk words q → r ≡ q
-one_request words r q a b = same _ r q a.1 b.1
-  where
-    same : (o : Option DiskRequestValue) (x y : DiskRequestValue) → o ≡ Some x → o ≡ Some y → x ≡ y
-    same o x y p q = cc
+one_request words r q a b = grind (arith, common_steps)
 
 same_sound : (s t : Bool) → check_status s ≡ check_status t → s ≡ t
 same_sound true true e = refl
@@ -60,9 +59,7 @@ checked_once bytes (p ∷ ps) s t l m (one, others, line, rest, tells, are, e, f
     (e ∙ ap₂ (λ (x y : Bool). x && y) told.0 more.0 ∙ sym e', f ∙ ap₂ (λ (x y : List ℕ). (name_text p ++ x) ++ y) told.1 more.1 ∙ sym f')
 
 all_once : (bytes : List ℕ) (ps : List Partition) (a b : Reply) → ChecksAll bytes ps a → ChecksAll bytes ps b → a ≡ b
-all_once bytes ps a b (s, l, h, x) (t, m, g, y) =
-    let same = checked_once bytes ps s t l m h g in
-    x ∙ ap₂ (λ (k : Bool) (v : List ℕ). on_output (check_status k) v) same.0 same.1 ∙ sym y
+all_once bytes ps a b (s, l, h, x) (t, m, g, y) = grind (arith, common_steps, checked_once, ap₂)
 
 wanted_once : (ps : List Partition) (w : WantedValue) (p q : Option Partition) → IsWanted ps w p → IsWanted ps w q → p ≡ q
 wanted_once ps (number n) p q h g = h ∙ sym g
@@ -83,8 +80,7 @@ of_once (volume w) bytes ps a b x y = volume_copied_once bytes ps w a b x y
 of_once build bytes ps a b x y = absurd x
 
 readable_once : (bytes : List ℕ) (n : ℕ) (line a b : List ℕ) → TellsReadable bytes n line a → TellsReadable bytes n line b → a ≡ b
-readable_once bytes n line a b (ps, h, x) (qs, g, y) =
-    x ∙ ap (λ (k : List Partition). line ++ list_lines 1 k) (one_reading bytes n h g) ∙ sym y
+readable_once bytes n line a b (ps, h, x) (qs, g, y) = grind (arith, common_steps, one_reading)
 
 fault_once : (r : DiskRequestValue) (bytes : List ℕ) (f : DiskFault) (a b : Reply) → OfFault r bytes f a → OfFault r bytes f b → a ≡ b
 fault_once list bytes f a b x y = x ∙ sym y

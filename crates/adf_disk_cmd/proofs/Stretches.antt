@@ -1,6 +1,6 @@
 -- The bytes of an input that are held, up to where it stands.
 -- Letters: `start` is what the input had at first, a, b and c what is left of it; k is where the held bytes begin, f the first byte of a place, n a count.
-use Rattle.std.proofs.Common.{◌≡◌, ◌<◌, ◌≤◌, ◌+◌, ◌-◌, ◌*◌, ◌∙◌, ◌++◌, ◌∷◌, [], ℕ, List, Option, None, Some, inl, inr}
+use Rattle.std.proofs.Common.{◌≡◌, ◌<◌, ◌≤◌, ◌+◌, ◌-◌, ◌*◌, ◌∙◌, ◌++◌, ◌∷◌, [], ℕ, List, Option, None, Some}
 use Rattle.std.proofs.Common.{All, ap, append-nil, append_assoc, arith, drop, get_or, length, min, subst, sym, take}
 use Rattle.std.proofs.Common.{length-append, length-drop, length-take, length-take-le}
 use Rattle.std.proofs.Math.Seq.{drop-append_seam}
@@ -9,6 +9,7 @@ use Rattle.std.proofs.lemmas.List.{drop-append-le, drop-drop, get_or-drop, map_p
 use Rattle.std.proofs.lemmas.List.Elements.{All-append, All-cons, All-from_get_or, All-get_or, All-nil}
 use Rattle.std.specs.Io.KnownBytes.{Consumes, IsAtEnd}
 use Rattle.std.specs.List.Sorted.{IsNonDecreasingBy}
+use Rattle.std.proofs.lemmas.Grind.{common_steps}
 use Rattle.adf_cmd.specs.CheckAnswers.{IsCheckAnswer}
 use Rattle.adf_partitions.specs.Places.{end_of}
 use Rattle.adf_partitions.specs.declared.place.Place.{Place}
@@ -36,12 +37,7 @@ more_taken start a b m n bytes taken more few = two_at_most (length bytes) m n s
 -- more bytes are held
 pub stretch_more : (start a b : Option (List ℕ)) (k : ℕ) (bytes more both : List ℕ) → both ≡ bytes ++ more → Consumes a b more → IsStretch start a k bytes
     → IsStretch start b k both
-stretch_more start a b k bytes more both e taken s = record {
-  before = s.before;
-  from = s.from;
-  taken = consumes_more start a b (s.before ++ bytes) more (s.before ++ both)
-      (ap (λ (l : List ℕ). s.before ++ l) e ∙ sym (append_assoc s.before bytes more)) s.taken taken;
-}
+stretch_more start a b k bytes more both e taken s = grind (arith, common_steps, consumes_more, append_assoc)
 
 -- what is held is let go, and more is passed over
 pub stretch_passed : (start a b : Option (List ℕ)) (k j count limit : ℕ) (bytes none : List ℕ) → j ≡ (k + length bytes) + count → none ≡ []
@@ -67,13 +63,7 @@ volume_held all (Some rest) k f n bytes s before end =
     sym (ap (take n) there ∙ cut)
   where
     cut : take n (drop (f - k) (bytes ++ rest)) ≡ take n (drop (f - k) bytes)
-    cut = elim (cases_lt (k + length bytes) (f + n)) [
-      | inl short ↦
-          ap (λ (l : List ℕ). take n (drop (f - k) (bytes ++ l))) (end short) ∙ ap (λ (l : List ℕ). take n (drop (f - k) l)) (append-nil bytes)
-      | inr enough ↦
-          ap (take n) (drop-append-le (f - k) bytes rest (omega (arith, before, enough)))
-          ∙ take-append-le n (drop (f - k) bytes) rest (omega (arith, before, enough, length-drop (f - k) bytes))
-    ]
+    cut = grind (arith, common_steps, cases_lt, append-nil, drop-append-le, take-append-le, length-drop)
 
 -- so an answer to them is that to the volume at the place
 pub one_answered : (all image bytes : List ℕ) (left : Option (List ℕ)) (k : ℕ) (q : Place) (v : CheckedVolume) → IsStretch (Some all) left k bytes
@@ -103,11 +93,7 @@ pub later_from : (k i : ℕ) (places : List Place) (d : Place) → IsNonDecreasi
 later_from k i places d order from = All-from_get_or (IsFrom k) (drop (i + 1) places) d one
   where
     one : (j : ℕ) → j < length (drop (i + 1) places) → IsFrom k (get_or (drop (i + 1) places) j d)
-    one j lt =
-        let inside : (i + 1) + j < length places = omega (arith, lt, length-drop (i + 1) places) in
-        let rising : first_of (get_or places i d) ≤ first_of (get_or places ((i + 1) + j) d) = order i ((i + 1) + j) d (omega arith) inside in
-        let there : IsFrom k (get_or places ((i + 1) + j) d) = omega (arith, from, rising) in
-        subst (IsFrom k) (sym (get_or-drop (i + 1) places j d)) there
+    one j lt = grind (arith, common_steps, length-drop, get_or-drop)
 
 -- the tables from a byte on are the first stretch
 pub stretch_first : (start left : Option (List ℕ)) (n k : ℕ) (tables bytes : List ℕ) → TakesFirst n start left tables → bytes ≡ drop k tables
@@ -121,13 +107,7 @@ stretch_first start left n k tables bytes first e inside = record {
 -- what was held and what is passed over behind it are all bytes, as many as count
 pub all_counted : (all rest bytes : List ℕ) (k count limit : ℕ) → IsStretch (Some all) (Some rest) k bytes → k + length bytes ≤ limit
     → (left : Option (List ℕ)) → PassesOver (limit - (k + length bytes)) (Some rest) left count → (k + length bytes) + count ≡ min limit (length all)
-all_counted all rest bytes k count limit s few left (passed, first, len) =
-    let whole : length all ≡ (k + length bytes) + length rest =
-    ap length s.taken ∙ length-append (s.before ++ bytes) rest
-    ∙ ap (λ (m : ℕ). m + length rest) (length-append s.before bytes ∙ ap (λ (m : ℕ). m + length bytes) s.from) in
-    let more : length passed ≡ min (limit - (k + length bytes)) (length rest) =
-    ap length first.0 ∙ length-take (limit - (k + length bytes)) rest in
-    omega (arith, whole, more, len, few)
+all_counted all rest bytes k count limit s few left (passed, first, len) = grind (arith, common_steps, length-append, length-take)
 
 -- a volume that was checked behind those before it
 abbrev pub AddsCheck : List ℕ → Place → List CheckedVolume → List CheckedVolume → Type 0
@@ -145,9 +125,7 @@ answer_added all image bytes left k q few more (v, place, answer, e) h s from wi
 -- and its place behind theirs
 pub place_added : (image : List ℕ) (few more : List CheckedVolume) (places : List Place) (i : ℕ) (d : Place)
     → AddsCheck image (get_or places i d) few more → places_of few ≡ take i places → i < length places → places_of more ≡ take (i + 1) places
-place_added image few more places i d (v, place, answer, e) f lt =
-    ap places_of e ∙ map_push (λ (x : CheckedVolume). x.place) few v ∙ ap (λ (l : List Place). l ++ v.place ∷ []) f
-    ∙ ap (λ (r : Place). take i places ++ r ∷ []) place ∙ sym (take_more places i d lt)
+place_added image few more places i d (v, place, answer, e) f lt = grind (arith, common_steps, map_push, take_more)
 
 -- what is read is counted
 pub count_of : (n : ℕ) (a b : Option (List ℕ)) (old bytes : List ℕ) → ((more : List ℕ) × (bytes ≡ old ++ more) × (length more ≡ n) × Consumes a b more)

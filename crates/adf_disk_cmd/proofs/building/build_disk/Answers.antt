@@ -1,13 +1,11 @@
-use Rattle.std.proofs.Common.{inl, inr}
+use Rattle.std.proofs.Common.{inr, arith}
+use Rattle.std.proofs.lemmas.Grind.{common_steps}
 use Rattle.adf_disk_cmd.specs.Builds.{BuildsDisk, RefusesPlan}
-use Rattle.adf_partitions.specs.Plans.{plan_value}
 use Rattle.adf_runs.proofs.Endings.{ends_weaker}
 use Rattle.adf_disk_cmd.proofs.building.build_disk.Goals as goal
 
 pub returns-in-Ok-clause-ends : goal.returns-in-Ok-clause-ends
-returns-in-Ok-clause-ends g c =
-    ends_weaker _ (BuildsDisk c.args.text.now) c.write_plan.result _ _
-    (λ reply e. inl (plan_value c.in-Ok.plan, c.in-Ok.given.now, c.in-Ok.ensures.text, e)) c.write_plan.ensures.ends
+returns-in-Ok-clause-ends g c = grind (arith, common_steps, ends_weaker)
 
 pub returns-in-Err-clause-ends : goal.returns-in-Err-clause-ends
 returns-in-Err-clause-ends g c =

@@ -1,5 +1,6 @@
-use Rattle.std.proofs.Common.{◌+◌, ◌*◌, ℕ, ap, arith, drop, rules, subst}
-use Rattle.adf_disk_cmd.proofs.BuiltDisks.{Continues, blocks_small, first_enough, stepped, volumes_end}
+use Rattle.std.proofs.Common.{◌+◌, ◌*◌, ℕ, ap, arith, drop, rules}
+use Rattle.std.proofs.lemmas.Grind.{common_steps}
+use Rattle.adf_disk_cmd.proofs.BuiltDisks.{blocks_small, first_enough, stepped, volumes_end}
 use Rattle.adf_disk_cmd.specs.Builds.{built_disk}
 use Rattle.adf_partitions.proofs.PlanSizes.{plans_at}
 use Rattle.adf_partitions.specs.Plans.{cylinder_blocks, plan_value}
@@ -13,17 +14,7 @@ overflow_mul-blocks c =
     omega (arith, small, same)
 
 pub push_volume-requires-clause-enough : goal.push_volume-requires-clause-enough
-push_volume-requires-clause-enough c = λ given.
-    let plan = plan_value c.args.plan.now in
-    let ps = plan.partitions in
-    let i = c.loop-partition.partition-index in
-    let p = c.partition-item.result in
-    let left = c.loop-partition.left.now in
-    let h = subst (λ k. Continues (cylinder_blocks plan) k c.loop-partition.disk.items left (built_disk plan c.args.given.now))
-    (plans_at ps i p (search rules) (search rules)) c.loop-partition.invariant in
-    let enough = first_enough (cylinder_blocks plan) p (drop (i + 1) ps) left h.enough given in
-    let same = ap (λ (k : ℕ). p.cylinders * k) c.cylinder_blocks-cylinder.ensures in
-    omega (arith, enough, same)
+push_volume-requires-clause-enough c = grind (arith, common_steps, plans_at, first_enough)
 
 pub loop-partition-preserved : goal.loop-partition-preserved
 loop-partition-preserved c =

@@ -1,9 +1,9 @@
 use Rattle.std.proofs.Common.{◌≡◌, arith, refl, rules}
+use Rattle.std.proofs.lemmas.Grind.{common_steps}
 use Rattle.adf_disk_cmd.proofs.BuiltDisks.{given_at, given_end, given_fit, given_small}
 use Rattle.adf_disk_cmd.specs.Builds.{given_cylinders, given_size}
 use Rattle.adf_partitions.specs.Plans.{plan_value}
 use Rattle.adf_disk_cmd.proofs.building.given_bytes.Goals as goal
-use Rattle.adf_disk_cmd.proofs.building.given_bytes.Goals.{then-partition, else-partition}
 
 pub overflow_add-cylinders : goal.overflow_add-cylinders
 overflow_add-cylinders c =
@@ -14,13 +14,7 @@ overflow_add-cylinders c =
     omega (arith, c.loop-partition.invariant, given_fit plan c.requires)
 
 pub loop-partition-preserved : goal.loop-partition-preserved
-loop-partition-preserved c =
-    let p = c.partition-item.result in
-    let more = given_at (plan_value c.args.plan.now).partitions c.loop-partition.partition-index p (search rules) (search rules) in
-    elim c.if-partition.branch [
-      | then-partition w ↦ let size : given_size p ≡ p.cylinders = rw w.if-partition.true refl in omega (arith, w.cylinders-is, c.loop-partition.invariant)
-      | else-partition w ↦ let size : given_size p ≡ 0 = rw w.if-partition.false refl in omega (arith, w.cylinders-is, c.loop-partition.invariant)
-    ]
+loop-partition-preserved c = grind (arith, common_steps, given_at)
 
 pub overflow_mul-result-2 : goal.overflow_mul-result-2
 overflow_mul-result-2 c =
@@ -31,8 +25,4 @@ overflow_mul-result-2 c =
     rw (all, c.cylinder_blocks.ensures) (omega arith)
 
 pub returns : goal.returns
-returns c =
-    let plan = plan_value c.args.plan.now in
-    let none = given_end plan.partitions c.loop-partition.partition-index (search (rules, arith)) in
-    let all : c.loop-partition.cylinders ≡ given_cylinders plan.partitions = omega (arith, c.loop-partition.invariant) in
-    rw (all, c.cylinder_blocks.ensures) refl
+returns c = grind (arith, common_steps, given_end)

@@ -2,6 +2,7 @@ use Rattle.std.proofs.Common.{◌≡◌, ◌&&◌, ◌+◌, ◌∙◌, arith, dr
 use Rattle.std.proofs.lemmas.List.{drop_all}
 use Rattle.std.proofs.lemmas.List.Elements.{All-get_or}
 use Rattle.std.specs.Prelude.{string_bytes}
+use Rattle.std.proofs.lemmas.Grind.{common_steps}
 use Rattle.adf_disk_cmd.proofs.CheckedLines.{Continues, ended, split_at, stepped}
 use Rattle.adf_disk_cmd.specs.HeldChecks.{KnowsVolume}
 use Rattle.adf_disk_cmd.proofs.checking.check_partitions.Goals as goal
@@ -24,8 +25,4 @@ loop-partition-preserved c = λ all knows.
     c.in_ok-push_line.ensures
 
 pub returns : goal.returns
-returns c = λ all knows.
-    let ps = c.args.partitions.now in
-    let none = drop_all c.loop-partition.partition-index ps (omega (arith, c.loop-partition-test.false)) in
-    ended all ps c.loop-partition.sound c.loop-partition.text.items
-    (subst (λ left. Continues all ps left c.loop-partition.sound c.loop-partition.text.items) none (c.loop-partition.invariant all knows))
+returns c = grind (arith, common_steps, drop_all, ended)
