@@ -91,10 +91,3 @@ filled_within zero (suc q) xs (r ∷ rs) is = absurd (omega arith)
 filled_within (suc m) zero xs (r ∷ rs) is = absurd (omega arith)
 filled_within (suc m) (suc q) [] (r ∷ rs) is = grind (arith, common_steps, filled_none, take-append-drop)
 filled_within (suc m) (suc q) (x ∷ xs) (r ∷ rs) is = ap (λ ys. x ∷ ys) (filled_within m q xs rs (omega arith))
-
--- nothing behind what is filled changes
-pub behind_filled : (n : ℕ) (xs room : List ℕ) → n ≡ min (length room) (length xs) → drop n (filled xs room) ≡ drop n room
-behind_filled n xs [] is = ap (drop n) (no_room xs)
-behind_filled n [] (r ∷ rs) is = ap (drop n) (filled_none (r ∷ rs))
-behind_filled zero (x ∷ xs) (r ∷ rs) is = absurd (omega arith)
-behind_filled (suc n) (x ∷ xs) (r ∷ rs) is = behind_filled n xs rs (omega arith)

@@ -36,16 +36,6 @@ module _ (w : List (Role × ℕ)) where
   there (f ∷ fs) zero r h = (f, cc, refl)
   there (f ∷ fs) (suc k) r h = there fs k r h
 
-  -- none is there
-  pub none_there : (fs : List FindingValue) (k : ℕ) → None ≡ option_map (run_of w) (slice_get fs k) → k < length fs → ⊥
-  none_there [] k h lt = absurd (omega arith)
-  none_there (f ∷ fs) zero h lt = let clash : None ≡ Some (run_of w f) = h in cc
-  none_there (f ∷ fs) (suc k) h lt = none_there fs k h (omega arith)
-
-  pub no_findings : (fs : List FindingValue) → None ≡ option_map (run_of w) (slice_get fs 0) → runs w fs ≡ []
-  no_findings [] h = refl
-  no_findings (f ∷ fs) h = let clash : None ≡ Some (run_of w f) = h in cc
-
   goes_on : (r : Run) (f : FindingValue) (rest : List FindingValue) → continues r (run_of w f) ≡ true
       → runs_from w (record r { last = f.block }) rest ≡ runs_from w r (f ∷ rest)
   unfolding runs_from

@@ -15,36 +15,36 @@ use Rattle.adf_findings.specs.SoundMarks.{AreMarks}
 use Rattle.adf_findings.specs.Survey.{FindingValue, IsSurvey}
 use Rattle.adf_findings.proofs.OneSurvey.{one_survey}
 use Rattle.adf_rescue.specs.Lost.{has_lost}
-use Rattle.adf_rescue.specs.Rescue.{IsLook, Look, Verdict, at_path, before_first, body_of, path_by, place_of, tree_of, verdict}
+use Rattle.adf_rescue.specs.Rescue.{IsBasis, Basis, Verdict, at_path, before_first, body_of, path_by, place_of, tree_of, verdict}
 
 -- a sound file stands with its content
-pub sound_stands : (l : Look) (fs : List FindingValue) (n : ℕ) → AreMarks l.image l.walk fs l.sound → IsSoundFile l.image l.walk fs n
+pub sound_stands : (l : Basis) (fs : List FindingValue) (n : ℕ) → AreMarks l.image l.walk fs l.sound → IsSoundFile l.image l.walk fs n
     → body_of l n ≡ Ok (File (file_content (file_in l.image l.walk n)))
 sound_stands l fs n marks is = grind (arith, common_steps, and_from, eq-eqb)
 
 -- so the verdict on it is that of its path
-pub sound_verdict : (a : Look) (fs : List FindingValue) (n : ℕ) (vs : List Verdict) → AreMarks a.image a.walk fs a.sound → IsSoundFile a.image a.walk fs n
+pub sound_verdict : (a : Basis) (fs : List FindingValue) (n : ℕ) (vs : List Verdict) → AreMarks a.image a.walk fs a.sound → IsSoundFile a.image a.walk fs n
     → (let t = tree_of (before_first a.image) vs in verdict (before_first a.image) a vs n
     ≡ at_path t (blocks a.image) (meta_stated (block a.image (node_block a.walk n))) (File (file_content (file_in a.image a.walk n)))
     (path_by t (place_of vs (parent_node a.walk n)) (name_of a.image (node_block a.walk n)) (node_block a.walk n)))
 sound_verdict a fs n vs marks is = grind (arith, common_steps, sound_stands)
 
 -- the marks of a survey are one function, so there is one list of verdicts
-pub same_look : (image : List ℕ) (w : List (Role × ℕ)) (fs : List FindingValue) (s t : ℕ → Bool) → AreMarks image w fs s → AreMarks image w fs t
-    → (let r : (ℕ → Bool) → Look = λ m. record { image = image; walk = w; sound = m } in r s ≡ r t)
-same_look image w fs s t a b = grind (arith, common_steps)
+pub same_basis : (image : List ℕ) (w : List (Role × ℕ)) (fs : List FindingValue) (s t : ℕ → Bool) → AreMarks image w fs s → AreMarks image w fs t
+    → (let r : (ℕ → Bool) → Basis = λ m. record { image = image; walk = w; sound = m } in r s ≡ r t)
+same_basis image w fs s t a b = grind (arith, common_steps)
 
 -- an image has one survey as a rescue takes it
-pub one_look : (image : List ℕ) (l m : Look) → IsLook image l → IsLook image m → l ≡ m
-one_look image l m x y =
+pub one_basis : (image : List ℕ) (l m : Basis) → IsBasis image l → IsBasis image m → l ≡ m
+one_basis image l m x y =
     let here = subst (λ i. IsSurvey i l.walk x.findings) x.of x.survey in
     let there = subst (λ i. IsSurvey i m.walk y.findings) y.of y.survey in
     let same = one_survey image l.walk m.walk x.findings y.findings here there in
     let image_is : l.image ≡ m.image = x.of ∙ sym y.of in
     let marks = subst (λ i. AreMarks i m.walk (grave y.findings) l.sound) image_is
     (subst (λ gs. AreMarks l.image m.walk (grave gs) l.sound) same.1 (subst (λ w. AreMarks l.image w (grave x.findings) l.sound) same.0 x.marks)) in
-    let step : (i : List ℕ) (w : List (Role × ℕ)) → Look = λ i w. record { image = i; walk = w; sound = l.sound } in
-    ap (λ i. step i l.walk) image_is ∙ (ap (step m.image) same.0 ∙ same_look m.image m.walk (grave y.findings) l.sound m.sound marks y.marks)
+    let step : (i : List ℕ) (w : List (Role × ℕ)) → Basis = λ i w. record { image = i; walk = w; sound = l.sound } in
+    ap (λ i. step i l.walk) image_is ∙ (ap (step m.image) same.0 ∙ same_basis m.image m.walk (grave y.findings) l.sound m.sound marks y.marks)
 
 neither : (a b : Bool) → (a && (b && false)) ≡ false
 neither true true = refl

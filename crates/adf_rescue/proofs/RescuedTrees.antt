@@ -17,7 +17,7 @@ use Rattle.adf_volume.specs.Walk.{heads, node_block}
 use Rattle.adf_findings.specs.Found.{owner}
 use Rattle.adf_rescue.specs.declared.left_out.Why.{Why}
 use Rattle.adf_rescue.specs.declared.left_out.Why.TheVariants.{NoRoom}
-use Rattle.adf_rescue.specs.Rescue.{Ground, Look, Verdict, addition_of, additions_of, as_given, at_path, before_first, before_second, by_body, lost_name}
+use Rattle.adf_rescue.specs.Rescue.{Ground, Basis, Verdict, addition_of, additions_of, as_given, at_path, before_first, before_second, by_body, lost_name}
 use Rattle.adf_rescue.specs.Rescue.{path_by, path_in, rescued_additions, rescued_tree, tree_of, unless_known, verdict, verdict_anew, verdicts}
 use Rattle.adf_rescue.specs.Rescue.Verdict.{adds, knows, leaves}
 use Rattle.adf_rescue.proofs.Steps.{additions_more, tree_more}
@@ -63,7 +63,7 @@ room_unless : (g : Ground) (o : Option ℕ) (v : Verdict) (t : Tree) (x : Additi
 room_unless g None v t x room is = room x is
 room_unless g (Some m) v t x room is = absurd cc
 
-room_of_verdict : (g : Ground) (l : Look) (vs : List Verdict) (n : ℕ) (x : Addition) → verdict g l vs n ≡ adds x
+room_of_verdict : (g : Ground) (l : Basis) (vs : List Verdict) (n : ℕ) (x : Addition) → verdict g l vs n ≡ adds x
     → IsOk (room_for (tree_of g vs).entries x.path)
 room_of_verdict g l vs n x is =
     room_unless g (owner g.walk (node_block l.walk n)) (verdict_anew g l vs n) (tree_of g vs) x (room_of_body l.image (blocks g.given) (tree_of g vs) _ _ _) is
@@ -92,14 +92,14 @@ nothing_yet : (g : Ground) → IsTreeOf (entries_of_additions (additions_of g.ve
     → IsTreeOf (tree_of g []).entries (additions_of g.verdicts ++ additions_of [])
 nothing_yet g h = let same : additions_of g.verdicts ++ [] ≡ additions_of g.verdicts = append-nil (additions_of g.verdicts) in rw same h
 
-tree_of_verdicts : (g : Ground) (l : Look) (k : ℕ) → IsTreeOf (entries_of_additions (additions_of g.verdicts)) (additions_of g.verdicts)
+tree_of_verdicts : (g : Ground) (l : Basis) (k : ℕ) → IsTreeOf (entries_of_additions (additions_of g.verdicts)) (additions_of g.verdicts)
     → IsTreeOf (tree_of g (verdicts g l k)).entries (additions_of g.verdicts ++ additions_of (verdicts g l k))
 tree_of_verdicts g l zero h = nothing_yet g h
 tree_of_verdicts g l (suc k) h =
     let vs : List Verdict = verdicts g l k in
     grown_by g vs (verdict g l vs (suc k)) (tree_of_verdicts g l k h) (room_of_verdict g l vs (suc k))
 
-pub tree_of_rescue : (a : Look) (b : Option Look) → IsTreeOf (rescued_tree a b).entries (rescued_additions a b)
+pub tree_of_rescue : (a : Basis) (b : Option Basis) → IsTreeOf (rescued_tree a b).entries (rescued_additions a b)
 tree_of_rescue a None = nothing_yet (before_second a) (tree_of_verdicts (before_first a.image) a (heads a.walk) nothing_added)
 tree_of_rescue a (Some b) =
     tree_of_verdicts (before_second a) (as_given a.image b) (heads b.walk) (tree_of_verdicts (before_first a.image) a (heads a.walk) nothing_added)

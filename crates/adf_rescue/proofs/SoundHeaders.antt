@@ -34,7 +34,7 @@ use Rattle.adf_findings.proofs.Keeping.{parent_is}
 use Rattle.adf_findings.proofs.Lookups.{header_at}
 use Rattle.adf_rescue.specs.declared.left_out.Why.{Why}
 use Rattle.adf_rescue.specs.declared.left_out.Why.TheVariants.{Damaged, Link}
-use Rattle.adf_rescue.specs.Rescue.{Look, body_of, body_of_type}
+use Rattle.adf_rescue.specs.Rescue.{Basis, body_of, body_of_type}
 
 -- texts within their fields are told whole
 
@@ -74,14 +74,14 @@ by_type secondary x = cond x (Ok Dir) (Err (cond (is_link secondary) Link Damage
 abbrev dir_or : Body → Bool → Result Body Why
 dir_or file x = Ok (cond x Dir file)
 
-body_stands : (l : Look) (n : ℕ) → l.sound n ≡ true
+body_stands : (l : Basis) (n : ℕ) → l.sound n ≡ true
     → (word_in l.image (node_block l.walk n) SECONDARY_TYPE ≡ ST_DIR) ⊎ (word_in l.image (node_block l.walk n) SECONDARY_TYPE ≡ ST_FILE)
     → body_of l n ≡ Ok (body_in l.image l.walk n (node_block l.walk n))
 body_stands l n s (inl dir) = grind (arith, common_steps, eq-eqb, ne_eqb, dir_not_file, file_or, and_right, by_type, dir_or)
 body_stands l n s (inr one) = grind (arith, common_steps, eq-eqb, ne_eqb, dir_not_file, file_or, and_from, dir_or)
 
 -- what a survey tells of node n is this entry
-pub record IsToldAs (a : Look) (n : ℕ) (e : Entry) : Type 0 where
+pub record IsToldAs (a : Basis) (n : ℕ) (e : Entry) : Type 0 where
   pub parent : parent_node a.walk n ≡ e.parent
   pub name : name_of a.image (node_block a.walk n) ≡ e.name
   pub valid : is_name e.name ≡ true

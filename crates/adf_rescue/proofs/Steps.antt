@@ -32,7 +32,7 @@ use Rattle.adf_findings.specs.Found.{owner, parent_node}
 use Rattle.adf_build.specs.Plan.{blocks_needed, entries_blocks, reserved}
 use Rattle.adf_rescue.specs.declared.left_out.Why.{Why}
 use Rattle.adf_rescue.specs.declared.salvage.Salvage.{Salvage}
-use Rattle.adf_rescue.specs.Rescue.{Ground, IsSecond, Look, OnLook, Verdict, addition_of, additions_of, at_path, body_of, by_body, directory_in, fitting}
+use Rattle.adf_rescue.specs.Rescue.{Ground, IsSecond, Basis, OnBasis, Verdict, addition_of, additions_of, at_path, body_of, by_body, directory_in, fitting}
 use Rattle.adf_rescue.specs.Rescue.{left_out_by, left_out_from, path_by, path_for, place_of, tree_of, unless_known, verdict, verdict_anew, verdicts}
 use Rattle.adf_rescue.specs.Rescue.Verdict.{adds, leaves}
 use Rattle.adf_rescue.specs.Salvage.{IsNext, IsPlace, IsRoomOf, IsSalvage, entry_cost, free_blocks}
@@ -98,7 +98,7 @@ room_in_place d t None m name own b h r tree place e1 e2 found = absurd place
 room_in_place d t (Some dir) m name own b h r tree place e1 e2 found = rw (← tree, ← e1, ← e2) (found dir place)
 
 -- the verdict on an entry that is not known and stands, by its path
-module _ (g : Ground) (l : Look) (vs : List Verdict) (n : ℕ) (new : owner g.walk (node_block l.walk n) ≡ None) where
+module _ (g : Ground) (l : Basis) (vs : List Verdict) (n : ℕ) (new : owner g.walk (node_block l.walk n) ≡ None) where
   pub anew : verdict g l vs n ≡ verdict_anew g l vs n
   anew = ap (λ o. unless_known g o (verdict_anew g l vs n)) new
 
@@ -211,16 +211,16 @@ module _ (g : Ground) (vs : List Verdict) (r : Salvage) (x : Addition) (is : IsS
         })
 
 -- the verdicts on all entries up to one
-pub verdicts_more : (g : Ground) (l : Look) (k : ℕ) → verdicts g l (k + 1) ≡ verdicts g l k ++ verdict g l (verdicts g l k) (k + 1) ∷ []
+pub verdicts_more : (g : Ground) (l : Basis) (k : ℕ) → verdicts g l (k + 1) ≡ verdicts g l k ++ verdict g l (verdicts g l k) (k + 1) ∷ []
 verdicts_more g l k = rw add-one refl
 
-verdicts_count : (g : Ground) (l : Look) (k : ℕ) → length (verdicts g l k) ≡ k
+verdicts_count : (g : Ground) (l : Basis) (k : ℕ) → length (verdicts g l k) ≡ k
 verdicts_count g l zero = refl
 verdicts_count g l (suc k) =
     let vs : List Verdict = verdicts g l k in
     omega (arith, length_push vs (verdict g l vs (suc k)), verdicts_count g l k)
 
-pub next_is : (g : Ground) (l : Look) (k : ℕ) → k + 1 ≤ heads l.walk → IsNext l.walk (verdicts g l k) (k + 1)
+pub next_is : (g : Ground) (l : Basis) (k : ℕ) → k + 1 ≤ heads l.walk → IsNext l.walk (verdicts g l k) (k + 1)
 next_is g l k le = record { number = omega (arith, verdicts_count g l k); within = le }
 
 -- whether anything stands
@@ -262,7 +262,7 @@ pub buildable : (t : Tree) (left n m : ℕ) → m ≡ n → is_allowed m ≡ tru
 buildable t left n m same allowed room is = grind (arith, common_steps)
 
 -- what holds of the second survey of an image
-pub second_some : (image : List ℕ) (P : Option Look → Type 0) → OnLook image (λ b _. P (Some b)) → (b : Option Look) → IsSecond (Some image) b → P b
+pub second_some : (image : List ℕ) (P : Option Basis → Type 0) → OnBasis image (λ b _. P (Some b)) → (b : Option Basis) → IsSecond (Some image) b → P b
 second_some image P h None is = absurd is
 second_some image P h (Some b) is =
-    subst (λ i. OnLook i (λ l _. P (Some l))) (sym is.of) h b.walk is.findings b.sound is.survey is.marks
+    subst (λ i. OnBasis i (λ l _. P (Some l))) (sym is.of) h b.walk is.findings b.sound is.survey is.marks

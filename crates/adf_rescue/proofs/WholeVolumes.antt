@@ -31,7 +31,7 @@ use Rattle.adf_findings.specs.SoundMarks.{AreMarks}
 use Rattle.adf_findings.specs.Survey.{FindingValue, IsSurvey}
 use Rattle.adf_findings.proofs.FirstFindings.{finds_none, none_found, shown}
 use Rattle.adf_build.specs.Plan.{blocks_needed, entries_blocks, reserved}
-use Rattle.adf_rescue.specs.Rescue.{Ground, Look, Verdict, additions_of, before_first, before_second, directory_in, first_verdicts, fitting, left_out_from}
+use Rattle.adf_rescue.specs.Rescue.{Ground, Basis, Verdict, additions_of, before_first, before_second, directory_in, first_verdicts, fitting, left_out_from}
 use Rattle.adf_rescue.specs.Rescue.{path_by, path_for, place_of, rescue_leaves, rescued_tree, tree_of, verdict, verdicts}
 use Rattle.adf_rescue.specs.Rescue.Verdict.{adds}
 use Rattle.adf_rescue.proofs.FitBlocks.{fit_room, front_blocks}
@@ -126,10 +126,10 @@ enough : (t : Tree) (n : ℕ) (x : Addition) → blocks_needed (with_entry t x.p
 enough t n x le = grind (arith, common_steps, le-leb)
 
 -- the tree of the first entries
-abbrev tree_so_far : Look → List Verdict → Tree
+abbrev tree_so_far : Basis → List Verdict → Tree
 tree_so_far a vs = tree_of (before_first a.image) vs
 
-module _ (a : Look) (vs : List Verdict) (n : ℕ) (e : Entry) (is : IsToldAs a n e) (dir : List (List ℕ)) (at : place_of vs e.parent ≡ Some dir) where
+module _ (a : Basis) (vs : List Verdict) (n : ℕ) (e : Entry) (is : IsToldAs a n e) (dir : List (List ℕ)) (at : place_of vs e.parent ≡ Some dir) where
   entry_path : room_for (tree_so_far a vs).entries (dir ++ e.name ∷ []) ≡ Ok e.parent
       → path_by (tree_so_far a vs) (place_of vs (parent_node a.walk n)) (name_of a.image (node_block a.walk n)) (node_block a.walk n) ≡ Some (dir ++ e.name ∷ [])
   entry_path room = grind (arith, common_steps, tree_so_far, own_path)
@@ -146,8 +146,8 @@ module _ (image : List ℕ) (w : List (Role × ℕ)) (fs : List FindingValue) (s
   abbrev all : List Entry
   all = entries_in image w w
 
-  abbrev look : Look
-  look = record { image = image; walk = w; sound = sound }
+  abbrev basis : Basis
+  basis = record { image = image; walk = w; sound = sound }
 
   -- the first entries have the blocks that they need
   front_room : (k : ℕ) → 1 + reserved (blocks image) + entries_blocks (kind_of image) (take k all) ≤ blocks image - 2
@@ -156,7 +156,7 @@ module _ (image : List ℕ) (w : List (Role × ℕ)) (fs : List FindingValue) (s
       let fewer = front_blocks (kind_of image) k all in
       omega arith
 
-  next_front : (k : ℕ) (vs : List Verdict) → k < heads w → IsFront all k vs → IsFront all (suc k) (vs ++ verdict (before_first image) look vs (suc k) ∷ [])
+  next_front : (k : ℕ) (vs : List Verdict) → k < heads w → IsFront all k vs → IsFront all (suc k) (vs ++ verdict (before_first image) basis vs (suc k) ∷ [])
   next_front k vs lt f =
       let x = told image w fs sound survey clean marks v k lt in
       let e : Entry = x.0 in
@@ -173,14 +173,14 @@ module _ (image : List ℕ) (w : List (Role × ℕ)) (fs : List FindingValue) (s
       ap (λ (us : List Entry). with_addition us (addition dir e)) f.entries ∙ entry_added all k vs e fit.tree within here f dir place.2 in
       let fits : 1 + reserved (blocks image) + entries_blocks (kind_of image) (with_addition before (addition dir e)) ≤ blocks image - 2 =
       subst (λ (us : List Entry). 1 + reserved (blocks image) + entries_blocks (kind_of image) us ≤ blocks image - 2) (sym added_one) (front_room (k + 1)) in
-      let is = entry_stands look vs (suc k) e x.2 dir place.1 room fits in
+      let is = entry_stands basis vs (suc k) e x.2 dir place.1 room fits in
       let number : k + 1 ≡ suc k = omega arith in
-      subst (λ m. IsFront all m (vs ++ verdict (before_first image) look vs (suc k) ∷ [])) number
+      subst (λ m. IsFront all m (vs ++ verdict (before_first image) basis vs (suc k) ∷ [])) number
       (subst (λ (u : Verdict). IsFront all (k + 1) (vs ++ u ∷ [])) (sym is) (front_more all k vs e fit.tree within here f dir place.2))
 
-  front : (k : ℕ) → k ≤ heads w → IsFront all k (verdicts (before_first image) look k)
+  front : (k : ℕ) → k ≤ heads w → IsFront all k (verdicts (before_first image) basis k)
   front zero le = nothing_yet all
-  front (suc k) le = next_front k (verdicts (before_first image) look k) (omega arith) (front k (omega arith))
+  front (suc k) le = next_front k (verdicts (before_first image) basis k) (omega arith) (front k (omega arith))
 
 -- the tree of the additions is that of the walk
 same_tree : (image : List ℕ) (w : List (Role × ℕ)) (g : Ground) (vs : List Verdict) → g.given ≡ image → AllHold (root_demands image (root_of image))
@@ -190,8 +190,8 @@ same_tree image w g vs given root same = grind (arith, common_steps, label_whole
 
 module _ (image : List ℕ) (t : Tree) (l : Layout) (w : List (Role × ℕ)) (fs : List FindingValue) (sound : ℕ → Bool) (fit : Fits image t l)
     (survey : IsSurvey image w fs) (marks : AreMarks image w (grave fs) sound) where
-  abbrev whole_look : Look
-  whole_look = record { image = image; walk = w; sound = sound }
+  abbrev whole_basis : Basis
+  whole_basis = record { image = image; walk = w; sound = sound }
 
   clean : fs ≡ []
   clean = finds_none image t l w fs fit survey
@@ -206,17 +206,17 @@ module _ (image : List ℕ) (t : Tree) (l : Layout) (w : List (Role × ℕ)) (fs
   made : Fits image (tree_in image w) (layout_in w)
   made = none_found image w unreported
 
-  whole : IsFront (entries_in image w w) (heads w) (first_verdicts whole_look)
+  whole : IsFront (entries_in image w w) (heads w) (first_verdicts whole_basis)
   whole = front image w fs sound survey clean all_marks (shown image unreported).1 made (heads w) (omega arith)
 
-  pub tree_kept : rescued_tree whole_look None ≡ t
+  pub tree_kept : rescued_tree whole_basis None ≡ t
   tree_kept =
-      let xs : List Addition = additions_of (first_verdicts whole_look) in
+      let xs : List Addition = additions_of (first_verdicts whole_basis) in
       let all : entries_of_additions (xs ++ []) ≡ entries_in image w w =
       ap entries_of_additions (append-nil xs)
       ∙ (whole.entries ∙ take_all (heads w) (entries_in image w w) (omega (arith, entries_length image w w))) in
-      same_tree image w (before_second whole_look) [] refl made.root all
+      same_tree image w (before_second whole_basis) [] refl made.root all
       ∙ sym (one_fit image t (tree_in image w) l (layout_in w) fit made).0
 
-  pub none_left : rescue_leaves whole_look ≡ []
+  pub none_left : rescue_leaves whole_basis ≡ []
   none_left = whole.none

@@ -32,33 +32,33 @@ use Rattle.adf_rescue.specs.declared.left_out.Why.{Why}
 use Rattle.adf_rescue.specs.declared.left_out.Why.TheVariants.{Damaged, Link, NoRoom}
 
 -- a survey as a rescue takes it: its image and walk, and whether an entry is whole
-pub record Look : Type 0 where
+pub record Basis : Type 0 where
   pub image : List ℕ
   pub walk : List (Role × ℕ)
   pub sound : ℕ → Bool
 
 -- what holds of the survey of an image and of its findings; whole is what is sound but for harmless findings of headers
-abbrev pub OnLook : List ℕ → (Look → List FindingValue → Type 0) → Type 0
-OnLook image holds =
+abbrev pub OnBasis : List ℕ → (Basis → List FindingValue → Type 0) → Type 0
+OnBasis image holds =
     (w : List (Role × ℕ)) (fs : List FindingValue) (sound : ℕ → Bool) → IsSurvey image w fs → AreMarks image w (grave fs) sound
     → holds (record { image = image; walk = w; sound = sound }) fs
 
 -- it is the survey of this image
-pub record IsLook (image : List ℕ) (l : Look) : Type 0 where
+pub record IsBasis (image : List ℕ) (l : Basis) : Type 0 where
   pub of : l.image ≡ image
   pub findings : List FindingValue
   pub survey : IsSurvey l.image l.walk findings
   pub marks : AreMarks l.image l.walk (grave findings) l.sound
 
 -- it is the survey of the second image, if there is one
-abbrev pub IsSecond : Option (List ℕ) → Option Look → Type 0
+abbrev pub IsSecond : Option (List ℕ) → Option Basis → Type 0
 IsSecond None None = Unit {0}
-IsSecond (Some image) (Some b) = IsLook image b
+IsSecond (Some image) (Some b) = IsBasis image b
 IsSecond _ _ = ⊥
 
 -- what holds of the second survey, if there is one
-abbrev pub OnSecond : Option (List ℕ) → (Option Look → Type 0) → Type 0
-OnSecond image holds = (b : Option Look) → IsSecond image b → holds b
+abbrev pub OnSecond : Option (List ℕ) → (Option Basis → Type 0) → Type 0
+OnSecond image holds = (b : Option Basis) → IsSecond image b → holds b
 
 -- an entry becomes an addition, or is left out; or it is known from the survey before, with its place in the new tree, if it has one
 pub data Verdict : Type 0 where
@@ -77,7 +77,7 @@ abbrev pub body_of_type : ℕ → Result Body Why
 body_of_type secondary = cond (secondary == ST_DIR) (Ok Dir) (Err (cond (is_link secondary) Link Damaged))
 
 -- the body of an entry that stands: the bytes of a whole file, or a directory, sound or not; else why it is left out
-abbrev pub body_of : Look → ℕ → Result Body Why
+abbrev pub body_of : Basis → ℕ → Result Body Why
 body_of l n =
     let secondary = word_in l.image (node_block l.walk n) SECONDARY_TYPE in
     cond (l.sound n && (secondary == ST_FILE)) (Ok (File (file_content (file_in l.image l.walk n)))) (body_of_type secondary)
@@ -141,7 +141,7 @@ by_body image n t dir h (Ok body) = at_path t n (meta_stated (block image h)) bo
 by_body image n t dir h (Err why) = leaves why
 
 -- the verdict on an entry that is not known
-abbrev pub verdict_anew : Ground → Look → List Verdict → ℕ → Verdict
+abbrev pub verdict_anew : Ground → Basis → List Verdict → ℕ → Verdict
 verdict_anew g l vs n =
     by_body l.image (blocks g.given) (tree_of g vs) (place_of vs (parent_node l.walk n)) (node_block l.walk n) (body_of l n)
 
@@ -151,11 +151,11 @@ unless_known g None v = v
 unless_known g (Some m) v = knows (place_of g.verdicts m)
 
 -- the verdict on an entry
-abbrev pub verdict : Ground → Look → List Verdict → ℕ → Verdict
+abbrev pub verdict : Ground → Basis → List Verdict → ℕ → Verdict
 verdict g l vs n = unless_known g (owner g.walk (node_block l.walk n)) (verdict_anew g l vs n)
 
 -- the verdicts on the first k entries: each by those before it
-abbrev pub verdicts : Ground → Look → ℕ → List Verdict
+abbrev pub verdicts : Ground → Basis → ℕ → List Verdict
 verdicts g l zero = []
 verdicts g l (suc k) = let vs = verdicts g l k in vs ++ verdict g l vs (suc k) ∷ []
 
@@ -164,11 +164,11 @@ abbrev pub before_first : List ℕ → Ground
 before_first image = record { given = image; walk = []; verdicts = [] }
 
 -- the verdicts on its entries
-abbrev pub first_verdicts : Look → List Verdict
+abbrev pub first_verdicts : Basis → List Verdict
 first_verdicts a = verdicts (before_first a.image) a (heads a.walk)
 
 -- they are taken before the second survey
-abbrev pub before_second : Look → Ground
+abbrev pub before_second : Basis → Ground
 before_second a = record { given = a.image; walk = a.walk; verdicts = first_verdicts a }
 
 -- both images have this block, with the same bytes
@@ -181,20 +181,20 @@ are_same_blocks given image [] = true
 are_same_blocks given image (b ∷ bs) = is_same_block given image b && are_same_blocks given image bs
 
 -- the second survey, of which a file is whole only if its data blocks are as they were given
-abbrev pub as_given : List ℕ → Look → Look
+abbrev pub as_given : List ℕ → Basis → Basis
 as_given given b = record b { sound = λ n. b.sound n && are_same_blocks given b.image (datas_in b.walk n) }
 
 -- the verdicts on the entries of the second survey
-abbrev pub second_verdicts : Look → Option Look → List Verdict
+abbrev pub second_verdicts : Basis → Option Basis → List Verdict
 second_verdicts a None = []
 second_verdicts a (Some b) = verdicts (before_second a) (as_given a.image b) (heads b.walk)
 
 -- the additions of a rescue
-abbrev pub rescued_additions : Look → Option Look → List Addition
+abbrev pub rescued_additions : Basis → Option Basis → List Addition
 rescued_additions a b = additions_of (first_verdicts a) ++ additions_of (second_verdicts a b)
 
 -- the tree of the new volume
-abbrev pub rescued_tree : Look → Option Look → Tree
+abbrev pub rescued_tree : Basis → Option Basis → Tree
 rescued_tree a b = tree_of (before_second a) (second_verdicts a b)
 
 -- entry n, if the verdict leaves it out
@@ -209,11 +209,11 @@ left_out_from n [] = []
 left_out_from n (v ∷ vs) = left_out_by n v ++ left_out_from (suc n) vs
 
 -- the entries of the survey of the image that the rescue leaves out
-abbrev pub rescue_leaves : Look → List LeftOut
+abbrev pub rescue_leaves : Basis → List LeftOut
 rescue_leaves a = left_out_from 1 (first_verdicts a)
 
 -- the entries of the second survey that it leaves out
-abbrev pub second_leaves : Look → Option Look → List LeftOut
+abbrev pub second_leaves : Basis → Option Basis → List LeftOut
 second_leaves a b = left_out_from 1 (second_verdicts a b)
 
 -- the image was mended, or there is a finding
@@ -221,5 +221,5 @@ abbrev pub HasFault : Bool → List FindingValue → Type 0
 HasFault mended fs = (mended ≡ true) ⊎ (fs ≢ [])
 
 -- there is a fault, and nothing of the image is surveyed, or no entry stands
-abbrev pub StandsNothing : Look → Option Look → List FindingValue → Bool → Type 0
+abbrev pub StandsNothing : Basis → Option Basis → List FindingValue → Bool → Type 0
 StandsNothing a b fs mended = HasFault mended fs × ((a.walk ≡ []) ⊎ (rescued_additions a b ≡ []))

@@ -17,11 +17,11 @@ ghost use Rattle.adf_volume.specs.Fits.{Fits};
 ghost use Rattle.adf_volume.specs.Layout.{Layout};
 ghost use Rattle.adf_volume.specs.Walk.{Role, node_block};
 ghost use Rattle.adf_rescue.specs.Lost.{has_lost};
-ghost use Rattle.adf_rescue.specs.Rescue.{Look, Verdict, additions_of, at_path, before_first, first_verdicts, path_by, place_of, rescue_leaves, rescued_additions, rescued_tree, second_verdicts, tree_of, verdict};
+ghost use Rattle.adf_rescue.specs.Rescue.{Basis, Verdict, additions_of, at_path, before_first, first_verdicts, path_by, place_of, rescue_leaves, rescued_additions, rescued_tree, second_verdicts, tree_of, verdict};
 
 /// The tree of a rescue is that of its additions.
 pub fn rescued_additions_have_their_tree()
-    ensures { (a : Look) (b : Option Look) → IsTreeOf (rescued_tree a b).entries (rescued_additions a b) }
+    ensures { (a : Basis) (b : Option Basis) → IsTreeOf (rescued_tree a b).entries (rescued_additions a b) }
 {}
 
 /// A sound file is whole, and a whole file stands: the verdict on it is that of its path, with its content and what its
@@ -30,14 +30,14 @@ pub fn rescued_additions_have_their_tree()
 pub fn sound_files_stand()
     ensures whole { (image : List ℕ) (w : List (Role × ℕ)) (fs : List FindingValue) (n : ℕ)
         → IsSoundFile image w fs n → IsSoundFile image w (grave fs) n }
-    ensures stand { (a : Look) (fs : List FindingValue) (n : ℕ) (vs : List Verdict)
+    ensures stand { (a : Basis) (fs : List FindingValue) (n : ℕ) (vs : List Verdict)
         → AreMarks a.image a.walk (grave fs) a.sound → IsSoundFile a.image a.walk (grave fs) n
         → verdict (before_first a.image) a vs n
         ≡ at_path (tree_of (before_first a.image) vs) (blocks a.image) (meta_stated (block a.image (node_block a.walk n)))
         (File (file_content (file_in a.image a.walk n)))
         (path_by (tree_of (before_first a.image) vs) (place_of vs (parent_node a.walk n))
         (name_of a.image (node_block a.walk n)) (node_block a.walk n)) }
-    ensures front { (a : Look) (b : Option Look) → rescued_additions a b
+    ensures front { (a : Basis) (b : Option Basis) → rescued_additions a b
         ≡ additions_of (first_verdicts a) ++ additions_of (second_verdicts a b) }
 {}
 
@@ -47,7 +47,7 @@ pub fn one_rescue()
         → AreMarks image w (grave fs) s → AreMarks image w (grave fs) t
         → first_verdicts (record { image = image; walk = w; sound = s })
         ≡ first_verdicts (record { image = image; walk = w; sound = t }) }
-    ensures second { (a : Look) (image : List ℕ) (w : List (Role × ℕ)) (fs : List FindingValue) (s t : ℕ → Bool)
+    ensures second { (a : Basis) (image : List ℕ) (w : List (Role × ℕ)) (fs : List FindingValue) (s t : ℕ → Bool)
         → AreMarks image w (grave fs) s → AreMarks image w (grave fs) t
         → second_verdicts a (Some (record { image = image; walk = w; sound = s }))
         ≡ second_verdicts a (Some (record { image = image; walk = w; sound = t })) }

@@ -8,7 +8,7 @@ ghost use Rattle.adf_findings.specs.Survey.{OnSurvey};
 ghost use Rattle.adf_build.specs.Laid.{IsLaid};
 ghost use Rattle.adf_build.specs.Building.{IsBuildable};
 ghost use Rattle.adf_build.specs.Plan.{entries_blocks};
-ghost use Rattle.adf_rescue.specs.Rescue.{HasFault, Look, OnLook, OnSecond, StandsNothing, before_first, before_second, first_verdicts, rescue_leaves, rescued_tree, second_leaves, second_verdicts};
+ghost use Rattle.adf_rescue.specs.Rescue.{HasFault, Basis, OnBasis, OnSecond, StandsNothing, before_first, before_second, first_verdicts, rescue_leaves, rescued_tree, second_leaves, second_verdicts};
 ghost use Rattle.adf_rescue.specs.Salvage.{free_blocks as blocks_free, IsSalvage};
 
 use crate::left_out::LeftOut;
@@ -38,7 +38,7 @@ fn salvaged(
 ) -> Result<Salvage, NoMemory>
     requires opening { opening ≡ opening_in survey.now.image }
     requires free { free ≡ blocks_free (blocks_in survey.now.image) }
-    ensures { OnLook survey.now.image (λ a _. IfOk result (IsSalvage (before_first a.image) (first_verdicts a))) }
+    ensures { OnBasis survey.now.image (λ a _. IfOk result (IsSalvage (before_first a.image) (first_verdicts a))) }
 {
     survey.whole_marks();
     some_survey();
@@ -56,8 +56,8 @@ fn take_second(
     second: &Survey<'_>,
     salvage: &mut Salvage,
 ) -> Result<(), NoMemory>
-    requires { OnLook survey.now.image (λ a _. IsSalvage (before_second a) [] salvage.old) }
-    ensures { OnLook survey.now.image (λ a _. OnLook second.now.image (λ b _.
+    requires { OnBasis survey.now.image (λ a _. IsSalvage (before_second a) [] salvage.old) }
+    ensures { OnBasis survey.now.image (λ a _. OnBasis second.now.image (λ b _.
         OnOk result (IsSalvage (before_second a) (second_verdicts a (Some b)) salvage.new))) }
 {
     survey.whole_marks();
@@ -79,7 +79,7 @@ fn salvaged_both(
 ) -> Result<Salvage, NoMemory>
     requires opening { opening ≡ opening_in survey.now.image }
     requires free { free ≡ blocks_free (blocks_in survey.now.image) }
-    ensures state { OnLook survey.now.image (λ a _. OnSecond (option_map (λ s. s.now.image) second.entry)
+    ensures state { OnBasis survey.now.image (λ a _. OnSecond (option_map (λ s. s.now.image) second.entry)
         (λ b. IfOk result (IsSalvage (before_second a) (second_verdicts a b)))) }
     ensures blocks { IfOk result (λ r. r.left + entries_blocks r.draft.tree.kind r.draft.tree.entries
         ≡ blocks_free (blocks_in survey.now.image)) }
@@ -111,7 +111,7 @@ fn has_fault(survey: &Survey<'_>, mended: bool) -> bool
 // Whether there is a fault, and no entry stands of an image that is surveyed.
 fn stands_nothing(survey: &Survey<'_>, salvage: &Salvage, mended: bool) -> bool
     requires { OnSurvey survey.now.image (λ w _. w ≢ []) }
-    ensures { OnLook survey.now.image (λ a fs. (b : Option Look)
+    ensures { OnBasis survey.now.image (λ a fs. (b : Option Basis)
         → IsSalvage (before_second a) (second_verdicts a b) salvage.now
         → IsTrue result ↔ StandsNothing a b fs mended) }
 {
@@ -133,15 +133,15 @@ pub fn rescue(
     second: Option<&Survey<'_>>,
     mended: bool,
 ) -> Result<Option<Rescued>, NoMemory>
-    ensures none { OnLook survey.now.image (λ a fs. OnSecond (option_map (λ s. s.now.image) second.entry)
+    ensures none { OnBasis survey.now.image (λ a fs. OnSecond (option_map (λ s. s.now.image) second.entry)
         (λ b. IfOk result (λ r. IsNone r ↔ StandsNothing a b fs mended))) }
-    ensures tree { OnLook survey.now.image (λ a _. OnSecond (option_map (λ s. s.now.image) second.entry)
+    ensures tree { OnBasis survey.now.image (λ a _. OnSecond (option_map (λ s. s.now.image) second.entry)
         (λ b. IfOk result (λ r. IfSome r (λ v. v.draft.tree ≡ rescued_tree a b)))) }
     ensures size { IfOk result (λ r. IfSome r (λ v. v.blocks ≡ blocks_in survey.now.image)) }
     ensures fits { IfOk result (λ r. IfSome r (λ v. IsBuildable v.draft.tree v.blocks)) }
-    ensures left_out { OnLook survey.now.image (λ a _. OnSecond (option_map (λ s. s.now.image) second.entry)
+    ensures left_out { OnBasis survey.now.image (λ a _. OnSecond (option_map (λ s. s.now.image) second.entry)
         (λ b. IfOk result (λ r. IfSome r (λ v. v.left_out.items ≡ rescue_leaves a)))) }
-    ensures second_left_out { OnLook survey.now.image (λ a _. OnSecond (option_map (λ s. s.now.image) second.entry)
+    ensures second_left_out { OnBasis survey.now.image (λ a _. OnSecond (option_map (λ s. s.now.image) second.entry)
         (λ b. IfOk result (λ r. IfSome r (λ v. v.second_left_out.items ≡ second_leaves a b)))) }
 
     // Memory is wanted only if something of the image is surveyed.

@@ -10,7 +10,7 @@ ghost use Rattle.adf_volume.specs.Image.{name_of};
 ghost use Rattle.adf_findings.specs.Found.{owner, parent_node};
 ghost use Rattle.adf_findings.specs.Opening.{opening_in};
 ghost use Rattle.adf_findings.specs.Survey.{FindingValue, IsSurvey, OnSurvey};
-ghost use Rattle.adf_rescue.specs.Rescue.{Ground, Look, OnLook, Verdict, as_given, before_first, body_of, fitting, path_by, place_of, tree_of, verdict};
+ghost use Rattle.adf_rescue.specs.Rescue.{Ground, Basis, OnBasis, Verdict, as_given, before_first, body_of, fitting, path_by, place_of, tree_of, verdict};
 ghost use Rattle.adf_rescue.specs.Rescue.Verdict.{leaves, knows};
 ghost use Rattle.adf_rescue.specs.Salvage.{GoesOn, IsNext, IsRoomOf, IsSalvage, entry_cost, free_blocks};
 
@@ -252,7 +252,7 @@ impl Salvage {
     /// state is of no use.
     pub fn take(&mut self, alloc: Global, survey: &Survey<'_>, n: Node) -> Result<(), NoMemory>
         requires { GoesOn survey.now.image n self.old }
-        ensures { OnLook survey.now.image (λ a _. (vs : List Verdict)
+        ensures { OnBasis survey.now.image (λ a _. (vs : List Verdict)
             → IsSalvage (before_first a.image) vs self.old → IsNext a.walk vs n
             → OnOk result (IsSalvage (before_first a.image) (vs ++ verdict (before_first a.image) a vs n ∷ []) self.new)) }
     {
@@ -270,7 +270,7 @@ impl Salvage {
         n: Node,
     ) -> Result<(), NoMemory>
         requires { GoesOn survey.now.image n self.old }
-        ensures { OnSurvey before.now.image (λ v _. OnLook survey.now.image (λ b _. (us vs : List Verdict)
+        ensures { OnSurvey before.now.image (λ v _. OnBasis survey.now.image (λ b _. (us vs : List Verdict)
             → IsSalvage (record { given = before.now.image; walk = v; verdicts = us }) vs self.old → IsNext b.walk vs n
             → OnOk result (IsSalvage (record { given = before.now.image; walk = v; verdicts = us })
             (vs ++ verdict (record { given = before.now.image; walk = v; verdicts = us }) (as_given before.now.image b) vs n ∷ []) self.new))) }

@@ -9,7 +9,7 @@ ghost use Rattle.adf_volume.specs.Image.{word_in};
 ghost use Rattle.adf_volume.specs.Walk.{heads, node_block};
 ghost use Rattle.adf_findings.specs.Files.{file_content};
 ghost use Rattle.adf_findings.specs.Survey.{OnSurvey};
-ghost use Rattle.adf_rescue.specs.Rescue.{OnLook, are_same_blocks, as_given, body_of, body_of_type, is_same_block};
+ghost use Rattle.adf_rescue.specs.Rescue.{OnBasis, are_same_blocks, as_given, body_of, body_of_type, is_same_block};
 
 use crate::left_out::Why;
 use adf_base::{BLOCK_LEN, Block, NoMemory};
@@ -50,7 +50,7 @@ fn bytes_of(alloc: Global, file: &SoundFile<'_>) -> Result<Body, NoMemory>
 /// The body of an entry that stands: the bytes of a whole file, or a directory, sound or not; else why it is left
 /// out. `NoMemory` if an allocation fails.
 pub fn body_of(alloc: Global, survey: &Survey<'_>, n: Node) -> Result<Result<Body, Why>, NoMemory>
-    ensures { OnLook survey.now.image (λ a _. 1 ≤ n → n ≤ heads a.walk → IfOk result (λ r. r ≡ body_of a n)) }
+    ensures { OnBasis survey.now.image (λ a _. 1 ≤ n → n ≤ heads a.walk → IfOk result (λ r. r ≡ body_of a n)) }
 {
     match survey.whole_file(alloc, n)? {
         Some(file) => Ok(Ok(bytes_of(alloc, &file)?)),
@@ -87,7 +87,7 @@ pub fn body_as_given(
     survey: &Survey<'_>,
     n: Node,
 ) -> Result<Result<Body, Why>, NoMemory>
-    ensures { OnLook survey.now.image (λ b _. 1 ≤ n → n ≤ heads b.walk
+    ensures { OnBasis survey.now.image (λ b _. 1 ≤ n → n ≤ heads b.walk
         → IfOk result (λ r. r ≡ body_of (as_given given.now b) n)) }
 {
     if let Some(file) = survey.whole_file(alloc, n)? {

@@ -92,10 +92,6 @@ stepped may a b c s t o o' o'' failed failed' e e' e'' name (names, said, given,
   says_more failed failed' e e' e'' said (why_line name why) says says_one,
 )
 
-pub ended : (may : Reports) (a b : Option (List (List ℕ))) (s : ℕ) (o o' : Option (List ℕ)) (failed : Bool) (e e' : Option (List ℕ))
-    → Progress may a b s o o' failed e e' → IfSome b (λ names. names ≡ []) → (said : List ℕ) × WritesAll may a s o o' said × Says failed e e' said
-ended may a b s o o' failed e e' (names, said, given, written, says) none = (said, (names, given_all a b names given none, written), says)
-
 -- no more line was begun
 pub stopped : (may : Reports) (a b : Option (List (List ℕ))) (s : ℕ) (broke : Bool) (o o' : Option (List ℕ)) (failed : Bool) (e e' : Option (List ℕ))
     → broke ≡ false → Progress may a b s o o' failed e e' → (said : List ℕ) × WritesPart may a broke o o' said × Says failed e e' said

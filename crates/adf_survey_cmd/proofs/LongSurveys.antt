@@ -17,7 +17,7 @@ use Rattle.adf_findings.specs.Survey.UnreadTells.{bad_boot}
 use Rattle.adf_findings.proofs.OneSurvey.{one_survey}
 use Rattle.adf_runs.specs.Commands.{Reply, on_output}
 use Rattle.adf_rescue.specs.Opened.{opened}
-use Rattle.adf_rescue.specs.Rescue.{Look}
+use Rattle.adf_rescue.specs.Rescue.{Basis}
 use Rattle.adf_rescue.proofs.OpenedImages.{length_opened}
 use Rattle.adf_rescue.proofs.MadeRoots.{sized as sized_len}
 use Rattle.adf_cmd.proofs.LongInputs.{long_fault, too_large}
@@ -69,10 +69,10 @@ none_second image w fs long = grind (arith, common_steps, false_from_ne_true, si
 same_rescue : (image bytes opened_image opened_bytes : List ℕ) (reply : Reply) → 512 * MOST_BLOCKS < length image → 512 * MOST_BLOCKS < length bytes
     → 512 * MOST_BLOCKS < length opened_bytes → RescuesFound image opened_image [] bad_size reply → RescuesFound bytes opened_bytes [] bad_size reply
 same_rescue image bytes opened_image opened_bytes reply a b c (sound, marks, (two, second, inl (none, (f, first, e)))) =
-    let look : Look = record { image = opened_bytes; walk = []; sound = λ n. false } in (
+    let basis : Basis = record { image = opened_bytes; walk = []; sound = λ n. false } in (
       (λ n. false),
       no_marks opened_bytes (grave bad_size),
-      subst (λ o. RescuesBoth bytes look o bad_size reply) (sym (none_second opened_bytes [] bad_size c))
+      subst (λ o. RescuesBoth bytes basis o bad_size reply) (sym (none_second opened_bytes [] bad_size c))
           (None, tt, inl ((inr it_finds, inl refl), (f, long_fault image bytes f a b first, e))),
     )
 same_rescue image bytes opened_image opened_bytes reply a b c (sound, marks, (two, second, inr (some, e))) = absurd (some (inr it_finds, inl refl))

@@ -10,8 +10,8 @@ use Rattle.adf_findings.specs.SoundMarks.{AreMarks}
 use Rattle.adf_findings.specs.Survey.{FindingValue}
 use Rattle.adf_findings.proofs.OneSurvey.{one_survey}
 use Rattle.adf_rescue.specs.Opened.{opened}
-use Rattle.adf_rescue.specs.Rescue.{IsSecond, Look}
-use Rattle.adf_rescue.proofs.RescueLaws.{one_look}
+use Rattle.adf_rescue.specs.Rescue.{IsSecond, Basis}
+use Rattle.adf_rescue.proofs.RescueLaws.{one_basis}
 use Rattle.adf_findings.proofs.Lookups.{one_first}
 use Rattle.adf_runs.specs.Commands.{Reply, on_output}
 use Rattle.adf_cmd.proofs.OneAnswer.{one_dates, refused_once}
@@ -82,31 +82,31 @@ copied_once damaged path image a b (names, text, w, fs, s, x) (others, also, u, 
     let path_is = one_path path names others text also in
     found_once image u damaged gs others a b (subst (λ (ns : List (List ℕ)). CopiesFound damaged image u gs ns a) path_is found) y
 
-volume_once : (l : Look) (m : Option Look) (a b : Reply) → WritesVolume l m a → WritesVolume l m b → a ≡ b
+volume_once : (l : Basis) (m : Option Basis) (a b : Reply) → WritesVolume l m a → WritesVolume l m b → a ≡ b
 volume_once l m a b (one, laid, size, x) (other, also, long, y) = grind (arith, common_steps)
 
-by_surveys_once : (input : List ℕ) (l : Look) (m : Option Look) (fs : List FindingValue) (a b : Reply) → RescuesBy input l m fs a → RescuesBy input l m fs b
+by_surveys_once : (input : List ℕ) (l : Basis) (m : Option Basis) (fs : List FindingValue) (a b : Reply) → RescuesBy input l m fs a → RescuesBy input l m fs b
     → a ≡ b
 by_surveys_once input l m fs a b (inl (none, x)) (inl (also, y)) = refused_once input a b x y
 by_surveys_once input l m fs a b (inl (none, x)) (inr (some, y)) = absurd (some none)
 by_surveys_once input l m fs a b (inr (some, x)) (inl (none, y)) = absurd (some none)
 by_surveys_once input l m fs a b (inr (some, x)) (inr (also, y)) = volume_once l m a b x y
 
-one_second : (image : Option (List ℕ)) (l m : Option Look) → IsSecond image l → IsSecond image m → l ≡ m
+one_second : (image : Option (List ℕ)) (l m : Option Basis) → IsSecond image l → IsSecond image m → l ≡ m
 one_second None None None x y = refl
 one_second None None (Some m) x y = absurd y
 one_second None (Some l) m x y = absurd x
 one_second (Some image) None m x y = absurd x
 one_second (Some image) (Some l) None x y = absurd y
-one_second (Some image) (Some l) (Some m) x y = ap some (one_look image l m x y)
+one_second (Some image) (Some l) (Some m) x y = ap some (one_basis image l m x y)
   where
-    some : Look → Option Look
+    some : Basis → Option Basis
     some k = Some k
 
 found_rescued_once : (input image : List ℕ) (w : List (Role × ℕ)) (fs : List FindingValue) (a b : Reply) → RescuesFound input image w fs a
     → RescuesFound input image w fs b → a ≡ b
 found_rescued_once input image w fs a b (sound, marks, (l, second, x)) (others, also, (m, twice, y)) =
-    let r : (ℕ → Bool) → Look = λ s. record { image = image; walk = w; sound = s } in
+    let r : (ℕ → Bool) → Basis = λ s. record { image = image; walk = w; sound = s } in
     by_surveys_once input (r others) m fs a b
     (subst (λ o. RescuesBy input (r others) o fs a) (one_second (second_image image w fs) l m second twice)
     (subst (λ s. RescuesBy input (r s) l fs a) (one_marks image w (grave fs) sound others marks also) x)) y

@@ -17,7 +17,7 @@ use Rattle.adf_rescue.specs.declared.left_out.LeftOut.{LeftOut}
 use Rattle.adf_rescue.specs.Hung.{hung}
 use Rattle.adf_rescue.specs.Lost.{has_lost}
 use Rattle.adf_rescue.specs.Opened.{is_mended, opened}
-use Rattle.adf_rescue.specs.Rescue.{HasFault, Look, StandsNothing, rescue_leaves, rescued_tree, second_leaves}
+use Rattle.adf_rescue.specs.Rescue.{HasFault, Basis, StandsNothing, rescue_leaves, rescued_tree, second_leaves}
 use Rattle.adf_rescue.specs.declared.rescues.Rescued.{Rescued}
 use Rattle.adf_tree.specs.Draft.{DraftValue}
 use Rattle.adf_blocks.specs.Sizes.{blocks}
@@ -45,7 +45,7 @@ pub found_answers : (input image : List ℕ) (w : List (Role × ℕ)) (fs : List
     → image ≡ opened input → IsSurvey image w fs → AreMarks image w (grave fs) sound → second_image image w fs ≡ second
     → RescuesBoth input (record { image = image; walk = w; sound = sound }) second fs reply → Rescues input reply
 found_answers input image w fs sound second reply same survey marks is by =
-    let a : Look = record { image = image; walk = w; sound = sound } in
+    let a : Basis = record { image = image; walk = w; sound = sound } in
     subst (λ (l : List ℕ). RescuesIn input l reply) same
     (w, fs, survey, (sound, marks, subst (λ (o : Option (List ℕ)). RescuesBoth input a o fs reply) (sym is) by))
 
@@ -69,7 +69,7 @@ pub none_fits_mended : (image : List ℕ) → is_mended image ≡ true → (t : 
 none_fits_mended image mended t l fits = let kept = volumes_are_kept image t l fits in absurd cc
 
 -- where nothing is left out, nothing is on errors
-pub whole_reply : (image : List ℕ) (w : List (Role × ℕ)) (b : Option Look) (volume : List ℕ) (xs ys : List LeftOut) → xs ++ ys ≡ []
+pub whole_reply : (image : List ℕ) (w : List (Role × ℕ)) (b : Option Basis) (volume : List ℕ) (xs ys : List LeftOut) → xs ++ ys ≡ []
     → (let whole : Reply = record { status = 0; output = volume; errors = [] } in whole ≡ rescue_reply image w b volume xs ys)
 whole_reply image w None volume [] [] e = refl
 whole_reply image w (Some l) volume [] [] e = refl
@@ -77,7 +77,7 @@ whole_reply image w b volume [] (y ∷ ys) e = absurd cc
 whole_reply image w b volume (x ∷ xs) ys e = absurd cc
 
 -- where something is left out, errors get lines
-pub some_reply : (image : List ℕ) (w : List (Role × ℕ)) (b : Option Look) (volume text : List ℕ) (xs ys : List LeftOut) → xs ++ ys ≢ []
+pub some_reply : (image : List ℕ) (w : List (Role × ℕ)) (b : Option Basis) (volume text : List ℕ) (xs ys : List LeftOut) → xs ++ ys ≢ []
     → text ≡ left_out_text image w xs ++ second_text b ys
     → (let some : Reply = record { status = 1; output = volume; errors = text } in some ≡ rescue_reply image w b volume xs ys)
 some_reply image w b volume text [] [] some e = absurd (some refl)
@@ -85,7 +85,7 @@ some_reply image w b volume text [] (y ∷ ys) some e = grind (arith, common_ste
 some_reply image w b volume text (x ∷ xs) ys some e = grind (arith, common_steps)
 
 -- what stands is prepared as a volume
-pub volume_prepared : (input : List ℕ) (a : Look) (b : Option Look) (fs : List FindingValue) (r : Rescued) (p : Prepared)
+pub volume_prepared : (input : List ℕ) (a : Basis) (b : Option Basis) (fs : List FindingValue) (r : Rescued) (p : Prepared)
     → p.draft ≡ r.draft → p.blocks ≡ r.blocks → IsBuildable r.draft.tree r.blocks → r.draft.tree ≡ rescued_tree a b → r.blocks ≡ blocks a.image
     → r.left_out.items ≡ rescue_leaves a → r.second_left_out.items ≡ second_leaves a b
     → ((volume : List ℕ) → prepared_reply p volume ≡ rescue_reply a.image a.walk b volume r.left_out.items r.second_left_out.items)

@@ -12,7 +12,7 @@ use Rattle.adf_build.specs.Laid.{IsLaid}
 use Rattle.adf_rescue.specs.Hung.{hung}
 use Rattle.adf_rescue.specs.Lost.{has_lost}
 use Rattle.adf_rescue.specs.Opened.{is_mended, opened}
-use Rattle.adf_rescue.specs.Rescue.{IsSecond, Look, StandsNothing, rescue_leaves, rescued_tree, second_leaves}
+use Rattle.adf_rescue.specs.Rescue.{IsSecond, Basis, StandsNothing, rescue_leaves, rescued_tree, second_leaves}
 use Rattle.adf_rescue.specs.declared.left_out.LeftOut.{LeftOut}
 use Rattle.adf_rescue.specs.declared.left_out.Why.{Why}
 use Rattle.adf_rescue.specs.declared.left_out.Why.TheVariants.{Damaged, Link, NoRoom}
@@ -35,7 +35,7 @@ abbrev pub left_out_text : List ℕ → List (Role × ℕ) → List LeftOut → 
 left_out_text image w xs = flat_map (left_out_line image w) xs
 
 -- the lines of those of the second survey, if there is one
-abbrev pub second_text : Option Look → List LeftOut → List ℕ
+abbrev pub second_text : Option Basis → List LeftOut → List ℕ
 second_text None xs = []
 second_text (Some b) xs = left_out_text b.image b.walk xs
 
@@ -45,18 +45,18 @@ left_out_status [] = 0
 left_out_status (x ∷ xs) = 1
 
 -- a volume on output, and on errors the lines of what it leaves out: of the entries xs of the survey of the image, and ys of the second one
-abbrev pub rescue_reply : List ℕ → List (Role × ℕ) → Option Look → List ℕ → List LeftOut → List LeftOut → Reply
+abbrev pub rescue_reply : List ℕ → List (Role × ℕ) → Option Basis → List ℕ → List LeftOut → List LeftOut → Reply
 rescue_reply image w b volume xs ys =
     record { status = left_out_status (xs ++ ys); output = volume; errors = left_out_text image w xs ++ second_text b ys }
 
 -- the volume is written that is laid for the tree of all that stands, in as many blocks
-abbrev pub WritesVolume : Look → Option Look → Reply → Type 0
+abbrev pub WritesVolume : Basis → Option Basis → Reply → Type 0
 WritesVolume a b reply =
     (volume : List ℕ) × IsLaid volume (rescued_tree a b) × (blocks volume ≡ blocks a.image)
     × (reply ≡ rescue_reply a.image a.walk b volume (rescue_leaves a) (second_leaves a b))
 
 -- the rescue of an input by the surveys: its volume, or where nothing stands the first fault of the input
-abbrev pub RescuesBy : List ℕ → Look → Option Look → List FindingValue → Reply → Type 0
+abbrev pub RescuesBy : List ℕ → Basis → Option Basis → List FindingValue → Reply → Type 0
 RescuesBy input a b fs reply =
     (StandsNothing a b fs (is_mended input) × RefusesImage input reply) ⊎ ((¬ StandsNothing a b fs (is_mended input)) × WritesVolume a b reply)
 
@@ -65,8 +65,8 @@ abbrev pub second_image : List ℕ → List (Role × ℕ) → List FindingValue 
 second_image image w fs = cond (has_lost image w fs) (Some (hung image w fs)) None
 
 -- the rescue of an input by the survey of its image, and by that of a second image, if there is one
-abbrev pub RescuesBoth : List ℕ → Look → Option (List ℕ) → List FindingValue → Reply → Type 0
-RescuesBoth input a image fs reply = (b : Option Look) × IsSecond image b × RescuesBy input a b fs reply
+abbrev pub RescuesBoth : List ℕ → Basis → Option (List ℕ) → List FindingValue → Reply → Type 0
+RescuesBoth input a image fs reply = (b : Option Basis) × IsSecond image b × RescuesBy input a b fs reply
 
 -- the rescue of an input by what is found in an image
 abbrev pub RescuesFound : List ℕ → List ℕ → List (Role × ℕ) → List FindingValue → Reply → Type 0

@@ -8,7 +8,7 @@ ghost use Rattle.adf_volume.specs.Layout.{Layout};
 ghost use Rattle.adf_findings.specs.Survey.{OnSurvey};
 ghost use Rattle.adf_build.specs.Building.{IsBuildable};
 ghost use Rattle.adf_rescue.specs.Opened.{is_mended};
-ghost use Rattle.adf_rescue.specs.Rescue.{IsSecond, Look, OnLook, OnSecond};
+ghost use Rattle.adf_rescue.specs.Rescue.{IsSecond, Basis, OnBasis, OnSecond};
 ghost use Rattle.adf_cmd.specs.Refusals.{IsRefusedImage};
 ghost use Rattle.adf_runs.specs.Outcomes.{EndsBy, is_read_fault, is_write_fault};
 ghost use Rattle.adf_survey_cmd.specs.Prepared.{IsOpened, Prepares, WritesPrepared, prepared_reply};
@@ -194,9 +194,9 @@ fn prepare_found(
     second: Option<&Survey<'_>>,
     refusal: Option<Outcome>,
 ) -> Result<Prepared, Outcome>
-    requires { (b : Option Look) × IsSecond (option_map (λ s. s.now.image) second) b }
+    requires { (b : Option Basis) × IsSecond (option_map (λ s. s.now.image) second) b }
     ensures { (input : List ℕ) → IsOpened input found.now.image refusal
-        → OnLook found.now.image (λ a fs. OnSecond (option_map (λ s. s.now.image) second.entry) (λ b.
+        → OnBasis found.now.image (λ a fs. OnSecond (option_map (λ s. s.now.image) second.entry) (λ b.
         Prepares (RescuesBy input a b fs) result)) }
 {
     found.whole_marks();
@@ -215,7 +215,7 @@ fn prepare_hung(
     refusal: Option<Outcome>,
 ) -> Result<Prepared, Outcome>
     ensures { (input : List ℕ) → IsOpened input found.now.image refusal
-        → OnLook found.now.image (λ a fs. Prepares (RescuesBoth input a (Some hung.now) fs) result) }
+        → OnBasis found.now.image (λ a fs. Prepares (RescuesBoth input a (Some hung.now) fs) result) }
 {
     let second = survey(alloc, hung)?;
     second.whole_marks();

@@ -1,11 +1,11 @@
 use Rattle.std.proofs.Common.{Some, ap}
 use Rattle.adf_findings.specs.Files.{grave}
-use Rattle.adf_rescue.specs.Rescue.{Look, first_verdicts, second_verdicts}
-use Rattle.adf_rescue.proofs.RescueLaws.{same_look}
+use Rattle.adf_rescue.specs.Rescue.{Basis, first_verdicts, second_verdicts}
+use Rattle.adf_rescue.proofs.RescueLaws.{same_basis}
 use Rattle.adf_rescue.proofs.laws.one_rescue.Goals as goal
 
 pub returns : goal.returns
 returns c = record {
-  first = λ image w fs s t x y. ap first_verdicts (same_look image w (grave fs) s t x y);
-  second = λ a image w fs s t x y. ap (λ (b : Look). second_verdicts a (Some b)) (same_look image w (grave fs) s t x y);
+  first = λ image w fs s t x y. ap first_verdicts (same_basis image w (grave fs) s t x y);
+  second = λ a image w fs s t x y. ap (λ (b : Basis). second_verdicts a (Some b)) (same_basis image w (grave fs) s t x y);
 }

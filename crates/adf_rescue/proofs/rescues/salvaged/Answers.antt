@@ -1,7 +1,7 @@
 use Rattle.std.proofs.Common.{◌≡◌, ℕ, Bool, List, arith, subst, sym}
 use Rattle.adf_volume.specs.Walk.{heads}
 use Rattle.adf_findings.specs.SoundMarks.{whole_in}
-use Rattle.adf_rescue.specs.Rescue.{Ground, Look, Verdict, before_first, verdicts}
+use Rattle.adf_rescue.specs.Rescue.{Ground, Basis, Verdict, before_first, verdicts}
 use Rattle.adf_rescue.specs.Salvage.{IsSalvage}
 use Rattle.adf_rescue.proofs.Steps.{next_is, verdicts_more}
 use Rattle.adf_rescue.proofs.rescues.salvaged.Goals as goal
@@ -19,7 +19,7 @@ take-requires c =
     let marks = c.whole_marks.ensures w fs some.2 in
     let all = c.len-before-end.ensures w fs some.2 in
     let g : Ground = before_first image in
-    let a : Look = record { image = image; walk = w; sound = sound } in
+    let a : Basis = record { image = image; walk = w; sound = sound } in
     record {
       ground = g;
       walk = w;
@@ -35,7 +35,7 @@ loop-before-preserved c = λ w fs sound survey marks.
     let image = c.args.survey.now.image in
     let all = c.len-before-end.ensures w fs survey in
     let g : Ground = before_first image in
-    let a : Look = record { image = image; walk = w; sound = sound } in
+    let a : Basis = record { image = image; walk = w; sound = sound } in
     let more = c.in_ok-take.ensures w fs sound survey marks (verdicts g a c.loop-before.before) (c.loop-before.invariant w fs sound survey marks)
     (next_is g a c.loop-before.before (omega (arith, all))) in
     subst (λ (us : List Verdict). IsSalvage g us c.take.new.self) (sym (verdicts_more g a c.loop-before.before)) more

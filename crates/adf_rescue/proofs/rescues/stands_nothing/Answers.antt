@@ -1,7 +1,7 @@
 use Rattle.std.proofs.Common.{◌∙◌, ap, inl, inr, length, sym, arith}
 use Rattle.std.proofs.lemmas.Bool.{eq-eqb, eqb-true}
 use Rattle.std.proofs.lemmas.Grind.{common_steps}
-use Rattle.adf_rescue.specs.Rescue.{Look, before_second, second_verdicts}
+use Rattle.adf_rescue.specs.Rescue.{Basis, before_second, second_verdicts}
 use Rattle.adf_rescue.proofs.Steps.{none_added}
 use Rattle.adf_rescue.proofs.rescues.stands_nothing.Goals as goal
 
@@ -10,7 +10,7 @@ returns-then-not-has_fault c = grind (arith, common_steps)
 
 pub returns : goal.returns
 returns c = λ w fs sound survey marks b is.
-    let a : Look = record { image = c.args.survey.now.image; walk = w; sound = sound } in (
+    let a : Basis = record { image = c.args.survey.now.image; walk = w; sound = sound } in (
       (λ t. (
         (c.has_fault.ensures w fs survey).0 c.if-not-has_fault.false,
         inr (none_added (before_second a) (second_verdicts a b) c.args.salvage.now is (sym c.len.ensures ∙ eqb-true c.len.result 0 t)),

@@ -1,7 +1,7 @@
 use Rattle.std.proofs.Common.{◌≡◌, ℕ, Bool, List, arith, subst, sym}
 use Rattle.adf_volume.specs.Walk.{heads}
 use Rattle.adf_findings.specs.SoundMarks.{whole_in}
-use Rattle.adf_rescue.specs.Rescue.{Ground, Look, Verdict, as_given, before_second, first_verdicts, verdicts}
+use Rattle.adf_rescue.specs.Rescue.{Ground, Basis, Verdict, as_given, before_second, first_verdicts, verdicts}
 use Rattle.adf_rescue.specs.Salvage.{IsSalvage}
 use Rattle.adf_rescue.proofs.Steps.{next_is, verdicts_more}
 use Rattle.adf_rescue.proofs.rescues.take_second.Goals as goal
@@ -18,8 +18,8 @@ take_second-requires c =
     let marks = c.whole_marks.ensures one.0 one.1 one.2 in
     let whole = c.whole_marks-2.ensures other.0 other.1 other.2 in
     let all = c.len-before-end.ensures other.0 other.1 other.2 in
-    let a : Look = record { image = c.args.survey.now.image; walk = one.0; sound = before } in
-    let b : Look = as_given a.image (record { image = c.args.second.now.image; walk = other.0; sound = sound }) in
+    let a : Basis = record { image = c.args.survey.now.image; walk = one.0; sound = before } in
+    let b : Basis = as_given a.image (record { image = c.args.second.now.image; walk = other.0; sound = sound }) in
     let g : Ground = before_second a in
     record {
       ground = g;
@@ -34,8 +34,8 @@ take_second-requires c =
 pub loop-before-preserved : goal.loop-before-preserved
 loop-before-preserved c = λ v gs before first marks w fs sound survey whole.
     let all = c.len-before-end.ensures w fs survey in
-    let a : Look = record { image = c.args.survey.now.image; walk = v; sound = before } in
-    let b : Look = as_given a.image (record { image = c.args.second.now.image; walk = w; sound = sound }) in
+    let a : Basis = record { image = c.args.survey.now.image; walk = v; sound = before } in
+    let b : Basis = as_given a.image (record { image = c.args.second.now.image; walk = w; sound = sound }) in
     let g : Ground = before_second a in
     let more = c.in_ok-take_second.ensures v gs first w fs sound survey whole (first_verdicts a) (verdicts g b c.loop-before.before)
     (c.loop-before.invariant v gs before first marks w fs sound survey whole) (next_is g b c.loop-before.before (omega (arith, all))) in

@@ -1,7 +1,7 @@
-use Rattle.adf_rescue.specs.Rescue.{OnLook, as_given, before_second, verdicts}
+use Rattle.adf_rescue.specs.Rescue.{OnBasis, as_given, before_second, verdicts}
 use Rattle.adf_rescue.specs.Salvage.{IsSalvage}
 use Rattle.adf_rescue.proofs.rescues.take_second.Given as goal
 
 abbrev pub invariant-loop-before : goal.invariant-loop-before
-invariant-loop-before l = OnLook l.survey.image (λ a _. OnLook l.second.image (λ b _.
+invariant-loop-before l = OnBasis l.survey.image (λ a _. OnBasis l.second.image (λ b _.
     IsSalvage (before_second a) (verdicts (before_second a) (as_given a.image b) l.before) l.salvage))

@@ -4,7 +4,7 @@ use Rattle.adf_volume.specs.Fits.{Fits}
 use Rattle.adf_volume.specs.Layout.{Layout}
 use Rattle.adf_findings.specs.SoundMarks.{whole_in}
 use Rattle.adf_rescue.specs.Opened.{is_mended}
-use Rattle.adf_rescue.specs.Rescue.{Look, StandsNothing}
+use Rattle.adf_rescue.specs.Rescue.{Basis, StandsNothing}
 use Rattle.adf_survey_cmd.specs.Prepared.{IsOpened}
 use Rattle.adf_survey_cmd.specs.Rescues.{RescuesBy}
 use Rattle.adf_survey_cmd.proofs.RescueAnswers.{if_some, mended_so, none_fits_it, none_prepared, refusal_prepared, volume_prepared}
@@ -19,7 +19,7 @@ returns-in_err-with_lines-in-Some c = λ input opened w fs sound here marks b se
 
 pub returns-in_ok-with_lines-in-Some : goal.returns-in_ok-with_lines-in-Some
 returns-in_ok-with_lines-in-Some c = λ input opened w fs sound here marks b second.
-    let a : Look = record { image = c.args.found.now.image; walk = w; sound = sound } in
+    let a : Basis = record { image = c.args.found.now.image; walk = w; sound = sound } in
     let kept = c.in_ok-rescued.ensures in
     let is = c.in-Some.is in
     let done = c.in_ok-with_lines-in-Some.ensures in
@@ -45,7 +45,7 @@ refuse_opened-requires c = λ as_it_is.
 
 pub returns-in-None : goal.returns-in-None
 returns-in-None c = λ input opened w fs sound here marks b second.
-    let a : Look = record { image = c.args.found.now.image; walk = w; sound = sound } in
+    let a : Basis = record { image = c.args.found.now.image; walk = w; sound = sound } in
     let nothing =
     subst (StandsNothing a b fs) (c.is_some.ensures ∙ mended_so input _ _ opened)
     ((c.in_ok-rescued.ensures.none w fs sound here marks b second).0 (ap is_some c.in-None.is)) in

@@ -2,7 +2,7 @@ use Rattle.std.proofs.Common.{ℕ, List, Some, map, refl, sym, subst}
 use Rattle.adf_findings.specs.SoundMarks.{whole_in}
 use Rattle.adf_findings.specs.Parts.{finding_value}
 use Rattle.adf_findings.specs.Survey.{FindingValue, IsSurvey}
-use Rattle.adf_rescue.specs.Rescue.{IsLook, Look}
+use Rattle.adf_rescue.specs.Rescue.{IsBasis, Basis}
 use Rattle.adf_survey_cmd.specs.Rescues.{RescuesBoth, RescuesBy}
 use Rattle.adf_survey_cmd.proofs.RescueAnswers.{none_prepared, prepares_weaker}
 use Rattle.adf_survey_cmd.proofs.rescuing.prepare_hung.Goals as goal
@@ -13,8 +13,8 @@ prepare_found-requires c =
     let (w, survey) = c.in_ok-second.ensures.findings in
     let fs : List FindingValue = map finding_value v.findings in
     let here = subst (λ (image : List ℕ). IsSurvey image w fs) (sym c.in_ok-second.ensures.image) survey in
-    let b : Look = record { image = v.image; walk = w; sound = whole_in v } in
-    let is : IsLook v.image b = record { of = refl; findings = fs; survey = here; marks = c.whole_marks.ensures w fs here } in
+    let b : Basis = record { image = v.image; walk = w; sound = whole_in v } in
+    let is : IsBasis v.image b = record { of = refl; findings = fs; survey = here; marks = c.whole_marks.ensures w fs here } in
     (Some b, is)
 
 pub returns : goal.returns
@@ -24,10 +24,10 @@ returns c = λ input opened u gs sound found marks.
     let (w, survey) = c.in_ok-second.ensures.findings in
     let fs : List FindingValue = map finding_value v.findings in
     let here = subst (λ (image : List ℕ). IsSurvey image w fs) (sym c.in_ok-second.ensures.image) survey in
-    let a : Look = record { image = c.args.found.now.image; walk = u; sound = sound } in
-    let b : Look = record { image = v.image; walk = w; sound = whole_in v } in
-    let is : IsLook v.image b = record { of = refl; findings = fs; survey = here; marks = c.whole_marks.ensures w fs here } in
-    let whole = subst (λ (image : List ℕ). IsLook image b) c.in_ok-second.ensures.image is in
+    let a : Basis = record { image = c.args.found.now.image; walk = u; sound = sound } in
+    let b : Basis = record { image = v.image; walk = w; sound = whole_in v } in
+    let is : IsBasis v.image b = record { of = refl; findings = fs; survey = here; marks = c.whole_marks.ensures w fs here } in
+    let whole = subst (λ (image : List ℕ). IsBasis image b) c.in_ok-second.ensures.image is in
     prepares_weaker (RescuesBy input a (Some b) gs) (RescuesBoth input a (Some hung) gs) _ (λ reply by. (Some b, whole, by))
     (c.prepare_found.ensures input opened u gs sound found marks (Some b) is)
 

@@ -4,7 +4,7 @@ use Rattle.adf_findings.specs.SoundMarks.{whole_in}
 use Rattle.adf_findings.specs.Parts.{finding_value}
 use Rattle.adf_findings.specs.Survey.{FindingValue, IsSurvey}
 use Rattle.adf_rescue.specs.Lost.{has_lost}
-use Rattle.adf_rescue.specs.Rescue.{Look}
+use Rattle.adf_rescue.specs.Rescue.{Basis}
 use Rattle.adf_survey_cmd.specs.Prepared.{IsOpened}
 use Rattle.adf_survey_cmd.specs.Rescues.{Rescues, RescuesBoth, RescuesBy}
 use Rattle.adf_survey_cmd.proofs.RescueAnswers.{found_answers, if_some, none_hung, none_prepared, one_hung, opened_so, prepares_weaker}
@@ -22,7 +22,7 @@ returns-in-Some c = λ input opened.
     let here = subst (λ (image : List ℕ). IsSurvey image w fs) (sym same) survey in
     let sound : ℕ → Bool = whole_in v in
     let marks = c.whole_marks.ensures w fs here in
-    let a : Look = record { image = v.image; walk = w; sound = sound } in
+    let a : Basis = record { image = v.image; walk = w; sound = sound } in
     let is = c.in-Some.is in
     let told = c.in_ok-hung.ensures.none w fs here in
     let lost : has_lost v.image w fs ≡ true = elim (cases_Bool (has_lost v.image w fs)) [
@@ -44,7 +44,7 @@ returns c = λ input opened.
     let here = subst (λ (image : List ℕ). IsSurvey image w fs) (sym same) survey in
     let sound : ℕ → Bool = whole_in v in
     let marks = c.whole_marks.ensures w fs here in
-    let a : Look = record { image = v.image; walk = w; sound = sound } in
+    let a : Basis = record { image = v.image; walk = w; sound = sound } in
     let none = none_hung v.image w fs ((c.in_ok-hung.ensures.none w fs here).0 (ap is_some c.in-None.is)) in
     prepares_weaker (RescuesBy input a None fs) (Rescues input) _
     (λ reply by. found_answers input v.image w fs sound None reply (same ∙ opened_so input _ _ opened) here marks none (None, tt, by))

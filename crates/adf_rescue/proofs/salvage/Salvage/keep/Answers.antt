@@ -1,7 +1,7 @@
 use Rattle.std.proofs.Common.{◌≤◌, ◌++◌, ◌∷◌, ◌∙◌, [], arith, subst, sym}
 use Rattle.std.specs.Prelude.{OnOk}
 use Rattle.std.proofs.lemmas.Grind.{common_steps}
-use Rattle.adf_rescue.specs.Rescue.{Look, Verdict}
+use Rattle.adf_rescue.specs.Rescue.{Basis, Verdict}
 use Rattle.adf_rescue.specs.Salvage.{IsSalvage}
 use Rattle.adf_rescue.proofs.Steps.{room_none, room_some, verdict_at, verdict_err, verdict_none}
 use Rattle.adf_rescue.proofs.salvage.Salvage.keep.Goals as goal
@@ -19,7 +19,7 @@ put-requires c =
 
 pub returns-in-Some-2 : goal.returns-in-Some-2
 returns-in-Some-2 c = λ g w fs sound vs survey is next new standing.
-    let l : Look = record { image = c.args.survey.now.image; walk = w; sound = sound } in
+    let l : Basis = record { image = c.args.survey.now.image; walk = w; sound = sound } in
     let low : 1 ≤ c.args.n = omega (arith, next.number) in
     let rooms = c.in_ok-room.ensures g w fs vs survey is low next.within in
     let some = room_some c.args.self.now.draft _ c.in-Some-2.room (rw c.in-Some-2.is at rooms) in
