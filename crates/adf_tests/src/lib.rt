@@ -7,6 +7,7 @@ mod batch;
 mod devices;
 #[cfg(test)]
 mod disk_builds;
+#[cfg(test)]
 mod disk_checks;
 #[cfg(test)]
 mod disk_runs;
