@@ -3,7 +3,7 @@ pub mod Lines
 pub mod Checks
 pub mod Builds
 pub mod Answers
--- The words of the command, as its work keeps them.
+-- The words of the command, as its work keeps them, and what is known of a disk of which one volume is held.
 pub mod Work
 pub mod Jobs
 pub mod HeldChecks

@@ -1,1 +1,2 @@
+-- All of it is the promise: the texts of dates.
 pub mod Dates

@@ -1,9 +1,11 @@
+-- The promise: the buffers and tables of a caller in memory, and what the calls put there.
 pub mod Areas
 pub mod FoundTables
 pub mod DiskTables
 pub mod OwnerNumbers
 pub mod Rooms
-pub mod TableNames
 pub mod Tables
 pub mod Verdicts
 pub mod Words
+-- The states of what looks up a name in a table.
+pub mod TableNames

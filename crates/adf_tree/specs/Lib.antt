@@ -1,3 +1,4 @@
+-- The promise: names, paths, trees, and what adding to them and finding in them means.
 pub mod Texts
 pub mod Kinds
 pub mod Tree
@@ -7,13 +8,14 @@ pub mod Faults
 pub mod Chain
 pub mod NameKeys
 pub mod NameSet
-pub mod NameBuckets
-pub mod LastChain
 pub mod Paths
 pub mod Escapes
 pub mod PathTexts
 pub mod Additions
-pub mod ChildMap
 pub mod Draft
-pub mod Groups
 pub mod Laws
+-- The states of sets of names, of drafts, and of what sorts and groups their entries.
+pub mod NameBuckets
+pub mod LastChain
+pub mod ChildMap
+pub mod Groups
