@@ -7,7 +7,7 @@ ghost use Rattle.adf_survey_cmd.specs.Answers.{survey_command};
 ghost use Rattle.adf_memory.specs.Rooms.{StandIn};
 ghost use Rattle.adf_memory.specs.Words.{in_memory};
 
-use adf_memory::{Moved, run_command, run_survey};
+use adf_memory::{Moved, run_in_memory};
 use std::alloc::Global;
 
 /// Runs the command `adf` on an input in memory. Each word ends with a zero byte, and the first is the program's name. Returns
@@ -35,7 +35,7 @@ pub extern "C" fn adf_run(
     ensures output { StandIn moved.new.output moved.new.output_full output.new }
     ensures errors { StandIn moved.new.errors moved.new.errors_full errors.new }
 {
-    run_command(alloc, words, input, output, errors, moved)
+    run_in_memory::<adf_cmd::Work>(alloc, words, input, output, errors, moved)
 }
 
 /// Runs the command `adf-survey` on an image in memory. Each word ends with a zero byte, and the first is the program's name.
@@ -64,5 +64,5 @@ pub extern "C" fn adf_survey_run(
     ensures output { StandIn moved.new.output moved.new.output_full output.new }
     ensures errors { StandIn moved.new.errors moved.new.errors_full errors.new }
 {
-    run_survey(alloc, words, input, output, errors, moved)
+    run_in_memory::<adf_survey_cmd::Work>(alloc, words, input, output, errors, moved)
 }

@@ -1,7 +1,7 @@
 // The table of a hard disk's partitions.
 
 ghost use Rattle.std.specs.Prelude.{◌≡◌, ◌⊎◌, List, None, Some, length};
-ghost use Rattle.adf_memory.specs.DiskTables.{partition_table, told_of};
+ghost use Rattle.adf_memory.specs.DiskTables.{partition_table, table_disk};
 ghost use Rattle.adf_memory.specs.Rooms.{filled};
 ghost use Rattle.adf_memory.specs.Verdicts.{WantsMemory};
 ghost use Rattle.adf_partitions.specs.Disks.{FirstFault, IsDisk};
@@ -22,22 +22,22 @@ pub extern "C" fn adf_disk_index(
     bytes: &[u8],
     blocks: u64,
     partitions: &mut [TablePartition],
-    told: &mut TableDisk,
+    disk: &mut TableDisk,
 ) -> u8
     ensures number { (result ≡ 0) ⊎ WantsMemory result }
 
-    // The rows are those of the partitions that can be read, and `told` has the first fault of the tables, if there is one.
+    // The rows are those of the partitions that can be read, and `disk` has the first fault of the tables, if there is one.
     ensures partitions { result ≡ 0 → (ps : List Partition) → AreReadable bytes.now blocks ps
         → partitions.new ≡ filled (partition_table ps) partitions.old }
     ensures whole { result ≡ 0 → (t : Tables) (ps : List Partition) → IsDisk bytes.now blocks t ps
-        → told.new ≡ told_of (length ps) None }
+        → disk.new ≡ table_disk (length ps) None }
     ensures fault { result ≡ 0 → (ps : List Partition) (f : DiskFault) → AreReadable bytes.now blocks ps
-        → FirstFault bytes.now blocks f → told.new ≡ told_of (length ps) (Some f) }
+        → FirstFault bytes.now blocks f → disk.new ≡ table_disk (length ps) (Some f) }
 
     // If memory ran out, the table is unchanged, and there is a partition that can be read.
     ensures unchanged { WantsMemory result
-        → (partitions.new ≡ partitions.old) × (told.new ≡ told_of 0 None) }
+        → (partitions.new ≡ partitions.old) × (disk.new ≡ table_disk 0 None) }
     ensures begun { WantsMemory result → HasReadable bytes.now blocks }
 {
-    put_disk(alloc, bytes, blocks, partitions, told)
+    put_disk(alloc, bytes, blocks, partitions, disk)
 }

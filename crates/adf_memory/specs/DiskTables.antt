@@ -46,9 +46,9 @@ abbrev pub partition_table : List Partition → List TablePartition
 partition_table ps = map partition_row ps
 
 -- what is told of a disk besides its k partitions: the first fault of its tables, if they have one
-abbrev pub told_of : ℕ → Option DiskFault → TableDisk
-told_of k None = record { partitions = k; block = 0; cause = 0 }
-told_of k (Some f) = record { partitions = k; block = f.block; cause = disk_cause_number f.cause }
+abbrev pub table_disk : ℕ → Option DiskFault → TableDisk
+table_disk k None = record { partitions = k; block = 0; cause = 0 }
+table_disk k (Some f) = record { partitions = k; block = f.block; cause = disk_cause_number f.cause }
 
 -- the partitions that can be read, and the first fault of the tables, if they have one
 abbrev pub IsRead : List ℕ → ℕ → List Partition → Option DiskFault → Type 0

@@ -1,7 +1,7 @@
 // The partitions of a hard disk in a table.
 
 ghost use Rattle.std.specs.Prelude.{◌≡◌, ◌⊎◌, List, None, Some, length, IfOk, OnErr};
-ghost use Rattle.adf_memory.specs.DiskTables.{IsRead, partition_table, told_of};
+ghost use Rattle.adf_memory.specs.DiskTables.{IsRead, partition_table, table_disk};
 ghost use Rattle.adf_memory.specs.Rooms.{filled};
 ghost use Rattle.adf_memory.specs.Verdicts.{WantsMemory};
 ghost use Rattle.adf_partitions.specs.Disks.{FirstFault, IsDisk};
@@ -10,7 +10,7 @@ ghost use Rattle.adf_partitions.specs.declared.fault.DiskFault.{DiskFault};
 ghost use Rattle.adf_partitions.specs.declared.partition.Partition.{Partition};
 ghost use Rattle.adf_partitions.specs.declared.tables.Tables.{Tables};
 
-use crate::disk_tables::{TableDisk, TablePartition, put_partitions, told_of};
+use crate::disk_tables::{TableDisk, TablePartition, put_partitions, table_disk};
 use adf_blocks::Cause;
 use adf_partitions::{Disk, DiskCause, DiskFault, Partition, readable_partitions};
 use std::alloc::{AllocError, Global};
@@ -50,31 +50,31 @@ pub fn put_disk(
     bytes: &[u8],
     blocks: u64,
     partitions: &mut [TablePartition],
-    told: &mut TableDisk,
+    disk: &mut TableDisk,
 ) -> u8
     ensures number { (result ≡ 0) ⊎ WantsMemory result }
 
-    // The rows are those of the partitions that can be read, and `told` has the first fault of the tables, if there is one.
+    // The rows are those of the partitions that can be read, and `disk` has the first fault of the tables, if there is one.
     ensures partitions { result ≡ 0 → (ps : List Partition) → AreReadable bytes.now blocks ps
         → partitions.new ≡ filled (partition_table ps) partitions.old }
     ensures whole { result ≡ 0 → (t : Tables) (ps : List Partition) → IsDisk bytes.now blocks t ps
-        → told.new ≡ told_of (length ps) None }
+        → disk.new ≡ table_disk (length ps) None }
     ensures fault { result ≡ 0 → (ps : List Partition) (f : DiskFault) → AreReadable bytes.now blocks ps
-        → FirstFault bytes.now blocks f → told.new ≡ told_of (length ps) (Some f) }
+        → FirstFault bytes.now blocks f → disk.new ≡ table_disk (length ps) (Some f) }
 
     // If memory ran out, the table is unchanged, and there is a partition that can be read.
     ensures unchanged { WantsMemory result
-        → (partitions.new ≡ partitions.old) × (told.new ≡ told_of 0 None) }
+        → (partitions.new ≡ partitions.old) × (disk.new ≡ table_disk 0 None) }
     ensures begun { WantsMemory result → HasReadable bytes.now blocks }
 {
     match read_disk(alloc, bytes, blocks) {
-        Ok(disk) => {
-            put_partitions(&disk.partitions, partitions);
-            *told = told_of(disk.partitions.len(), disk.fault);
+        Ok(read) => {
+            put_partitions(&read.partitions, partitions);
+            *disk = table_disk(read.partitions.len(), read.fault);
             0
         }
         Err(_) => {
-            *told = told_of(0, None);
+            *disk = table_disk(0, None);
             Cause::NoMemory.number()
         }
     }

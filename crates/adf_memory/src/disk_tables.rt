@@ -1,7 +1,7 @@
 // The table of a hard disk's partitions, and how it is filled.
 
 ghost use Rattle.std.specs.Prelude.{◌≡◌};
-ghost use Rattle.adf_memory.specs.DiskTables.{blocks_of, fault_of, first_of, partition_row, partition_table, told_of};
+ghost use Rattle.adf_memory.specs.DiskTables.{blocks_of, fault_of, first_of, partition_row, partition_table, table_disk};
 ghost use Rattle.adf_memory.specs.Rooms.{filled};
 
 use crate::tables::{field, put};
@@ -100,8 +100,8 @@ pub fn put_partitions(partitions: &[Partition], room: &mut [TablePartition])
 }
 
 /// What a disk has besides so many partitions.
-pub fn told_of(partitions: usize, fault: Option<DiskFault>) -> TableDisk
-    ensures { result ≡ told_of partitions fault }
+pub fn table_disk(partitions: usize, fault: Option<DiskFault>) -> TableDisk
+    ensures { result ≡ table_disk partitions fault }
 {
     match fault {
         None => TableDisk {

@@ -1,14 +1,12 @@
-// Programs over memory, and the command `adf`.
+// Programs over memory.
 
 ghost use Rattle.std.specs.Prelude.{◌≡◌, [], Some, false, take};
-ghost use Rattle.adf_cmd.specs.Answers.{adf_command};
 ghost use Rattle.adf_runs.specs.Commands.{IsUnanswered, IsConsumed, RunEnds};
 ghost use Rattle.adf_memory.specs.Rooms.{StandIn};
 ghost use Rattle.adf_memory.specs.Words.{in_memory};
 
 use crate::memory::{CallerMemory, Moved};
 use crate::words::words_in;
-use adf_cmd::Work;
 use adf_runs::{Program, Ran, Sink, WorkFault, run_program_on};
 use std::alloc::Global;
 
@@ -74,31 +72,4 @@ pub fn run_in_memory<P: Program>(
         most_errors,
     );
     ran.status
-}
-
-/// Runs the command `adf` on an input in memory. Each word ends with a zero byte, and the first is the program's name. Returns
-/// the exit status:
-///
-/// - 0 if the answer is written to the output;
-/// - 1 if the input is refused: `check` reports it on the output, the other commands on the errors;
-/// - 2 if the words or the path are refused: the errors say which, nothing is read, and the output is empty;
-/// - 3 if the output is too small or memory ran out: the errors say which.
-pub fn run_command(
-    alloc: Global,
-    words: &[u8],
-    input: &[u8],
-    output: &mut [u8],
-    errors: &mut [u8],
-    moved: &mut Moved,
-) -> u8
-    ensures ends { RunEnds (in_memory adf_command) words.now (Some input.now) false result
-        moved.new.output_full (Some []) (Some (take moved.new.output output.new))
-        moved.new.errors_full (Some []) (Some (take moved.new.errors errors.new)) }
-    ensures untouched { IsUnanswered (in_memory adf_command) words.now
-        → (moved.new.output ≡ 0) × (output.new ≡ output.old) }
-    ensures consumed { IsConsumed (in_memory adf_command) words.now input.now result moved.new.input }
-    ensures output { StandIn moved.new.output moved.new.output_full output.new }
-    ensures errors { StandIn moved.new.errors moved.new.errors_full errors.new }
-{
-    run_in_memory::<Work>(alloc, words, input, output, errors, moved)
 }

@@ -4,7 +4,7 @@ ghost use Rattle.std.specs.Prelude.{◌≡◌, ◌<◌, ◌∷◌, [], IfOk, IfE
 ghost use Rattle.adf_words.specs.CommandLine.{texts_of};
 ghost use Rattle.adf_memory.specs.Words.{AreNoWords, AreWords, BeginWithWords, is_zero, between_zeros};
 
-use adf_cmd::ArgsError;
+use adf_words::ArgsError;
 use std::alloc::Global;
 use std::str;
 

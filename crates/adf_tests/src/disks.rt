@@ -344,8 +344,8 @@ fn indexed(
 
 #[test]
 fn partitions_are_put_in_a_table(rt: HostRuntime) {
-    let (row, told) = indexed(&rt, 0, &[], 80);
-    assert_eq!(rt; told, (2, 0, 0));
+    let (row, disk) = indexed(&rt, 0, &[], 80);
+    assert_eq!(rt; disk, (2, 0, 0));
     assert_eq!(rt; (row.first, row.blocks, row.block), (8, 32, 2));
     assert_eq!(rt;
         (row.flags, row.priority, row.dos_type, row.fault),
@@ -354,12 +354,12 @@ fn partitions_are_put_in_a_table(rt: HostRuntime) {
     assert_eq!(rt; (row.name_length, &row.name[..4]), (3, b"DH0\0".as_slice()));
 
     // DH0 ends beyond a disk of 39 blocks.
-    let (row, told) = indexed(&rt, 0, &[], 39);
-    assert_eq!(rt; told, (2, 0, 0));
+    let (row, disk) = indexed(&rt, 0, &[], 39);
+    assert_eq!(rt; disk, (2, 0, 0));
     assert_eq!(rt; (row.first, row.blocks, row.fault), (0, 0, 4));
 
     // What is not a partition block is none, and DH1 is found.
-    let (row, told) = indexed(&rt, 2, &[(0, 0)], 80);
-    assert_eq!(rt; told, (1, 2, 5));
+    let (row, disk) = indexed(&rt, 2, &[(0, 0)], 80);
+    assert_eq!(rt; disk, (1, 2, 5));
     assert_eq!(rt; (row.first, row.blocks, row.block), (40, 40, 1));
 }

@@ -3,7 +3,7 @@
 use adf_memory::{
     Contents, Date, FoundEntry, Moved, Surveyed, TableDisk, TableEntry, TableFinding,
     TablePartition, Verdict, cause_text, check_image, find_entry, owners_of, put_index, put_survey,
-    read_bytes, run_command, run_survey,
+    read_bytes, run_in_memory,
 };
 use std::mem::size_of;
 use std::process::Abort;
@@ -104,7 +104,7 @@ fn built(rt: &(impl Abort + AllocGlobal)) -> [u8; 8192] {
     let mut image = [0; 8192];
     let mut errors = [0; 80];
     let mut moved = MOVED;
-    let status = run_command(
+    let status = run_in_memory::<adf_cmd::Work>(
         rt.alloc(),
         b"adf\0build\0",
         MANIFEST,
@@ -204,7 +204,14 @@ fn a_survey_fills_its_tables(rt: HostRuntime) {
 fn surveyed(rt: &impl AllocGlobal, words: &[u8], image: &[u8], output: &mut [u8]) -> (u8, Moved) {
     let mut errors = [0; 80];
     let mut moved = MOVED;
-    let status = run_survey(rt.alloc(), words, image, output, &mut errors, &mut moved);
+    let status = run_in_memory::<adf_survey_cmd::Work>(
+        rt.alloc(),
+        words,
+        image,
+        output,
+        &mut errors,
+        &mut moved,
+    );
     (status, moved)
 }
 
