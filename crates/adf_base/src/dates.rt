@@ -10,3 +10,10 @@ pub struct Stamp {
     /// Ticks of the minute, fiftieths of a second: 0 to 2999 in a civil date.
     pub ticks: u32,
 }
+
+/// The date that stands where none is given: all of its numbers are 0.
+pub const NO_STAMP: Stamp = Stamp {
+    days: 0,
+    mins: 0,
+    ticks: 0,
+};

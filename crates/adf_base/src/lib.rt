@@ -8,7 +8,7 @@ mod images;
 mod puts;
 
 pub use crate::blocks::{BLOCK_LEN, BLOCK_WORDS, Block};
-pub use crate::dates::Stamp;
+pub use crate::dates::{NO_STAMP, Stamp};
 pub use crate::hash::{Letters, slot, slot_by, upper, upper_by};
 pub use crate::images::{put_block, seal, set_bytes, set_word};
 pub use crate::puts::{put_bytes, put_word, put_words, put_words_down, seal_block};

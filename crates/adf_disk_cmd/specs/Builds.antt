@@ -3,7 +3,7 @@
 use Rattle.std.specs.Prelude.{◌≡◌, ◌+◌, ◌*◌, ◌/◌, ◌==◌, ◌++◌, ◌⊎◌, ℕ, All, List, [], ◌∷◌, codes, drop, false, if◌then◌else◌, length, take}
 use Rattle.std.specs.Fmt.{decimal}
 use Rattle.adf_tree.specs.Tree.{Tree}
-use Rattle.adf_tree.specs.declared.entry.Stamps.{Stamps}
+use Rattle.adf_tree.specs.declared.entry.TheConstants.{NO_STAMPS}
 use Rattle.adf_volume.specs.Fits.{Fits}
 use Rattle.adf_build.specs.Laid.{volume}
 use Rattle.adf_build.specs.Plan.{planned}
@@ -20,17 +20,9 @@ use Rattle.adf_runs.specs.Commands.{Reply, on_errors, on_output}
 abbrev pub refusal : List ℕ → Reply
 refusal text = on_errors 1 (text ++ codes "\n")
 
--- the dates of a new volume: all numbers 0
-abbrev pub new_stamps : Stamps
-new_stamps = record {
-  root = record { days = 0; mins = 0; ticks = 0 };
-  altered = record { days = 0; mins = 0; ticks = 0 };
-  created = record { days = 0; mins = 0; ticks = 0 };
-}
-
 -- what is on a new volume: nothing, under the drive's name
 abbrev pub new_tree : PartitionPlan → Tree
-new_tree p = record { kind = p.kind; label = p.name; stamps = new_stamps; entries = [] }
+new_tree p = record { kind = p.kind; label = p.name; stamps = NO_STAMPS; entries = [] }
 
 -- the volume of a partition: the first of the given bytes, or a new one
 abbrev pub volume_of : ℕ → PartitionPlan → List ℕ → List ℕ

@@ -12,21 +12,14 @@ ghost use Rattle.adf_runs.specs.Commands.{on_errors};
 ghost use Rattle.adf_runs.specs.Outcomes.{EndsBy, is_read_fault, is_write_fault};
 
 use crate::answering::write_text;
-use adf_base::{BLOCK_LEN, Stamp};
+use adf_base::BLOCK_LEN;
 use adf_build::{BuildFault, build};
 use adf_partitions::{
     DiskPlan, PartitionPlan, TextFault, TextKind, cylinder_blocks, read_plan, write_tables,
 };
 use adf_runs::{Outcome, Sink};
-use adf_tree::{Label, Stamps, Tree};
+use adf_tree::{Label, NO_STAMPS, Tree};
 use std::alloc::{AllocError, Global};
-
-// The date of a new volume.
-const NO_STAMP: Stamp = Stamp {
-    days: 0,
-    mins: 0,
-    ticks: 0,
-};
 
 // How many bytes the given volumes have.
 fn given_bytes(plan: &DiskPlan) -> usize
@@ -49,12 +42,7 @@ fn new_volume(alloc: Global, partition: &PartitionPlan, blocks: u32) -> Result<V
     ensures { IfOk result (λ bytes. bytes.items ≡ volume (new_tree partition.now) blocks) }
 {
     let label = Label::new(partition.name.bytes()).unwrap();
-    let stamps = Stamps {
-        root: NO_STAMP,
-        altered: NO_STAMP,
-        created: NO_STAMP,
-    };
-    let tree = Tree::new(alloc, partition.kind, label, stamps);
+    let tree = Tree::new(alloc, partition.kind, label, NO_STAMPS);
     match build(alloc, &tree, blocks) {
         Ok(bytes) => Ok(bytes),
         Err(BuildFault::BadSize) => unreachable!(),

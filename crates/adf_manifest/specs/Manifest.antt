@@ -9,6 +9,7 @@ use Rattle.adf_tree.specs.Additions.{IsTreeOf}
 use Rattle.adf_tree.specs.Tree.{Tree, room_for}
 use Rattle.adf_tree.specs.declared.entry.Kind.{Kind}
 use Rattle.adf_tree.specs.declared.entry.Stamps.{Stamps}
+use Rattle.adf_tree.specs.declared.entry.TheConstants.{NO_STAMPS}
 use Rattle.adf_tree.specs.declared.tree.RoomFault.{RoomFault}
 use Rattle.adf_tree.specs.declared.tree.RoomFault.TheVariants as room
 use Rattle.adf_blocks.specs.Sizes.{is_allowed}
@@ -68,17 +69,9 @@ pub record IsPreamble (h : Preamble) : Type 0 where
   pub label : IfSome h.label IsGivenLabel
   pub stamps : IfSome h.stamps AreStamps
 
--- the dates of a manifest without a stamps line
-abbrev pub no_stamps : Stamps
-no_stamps = record {
-  root = record { days = 0; mins = 0; ticks = 0 };
-  altered = record { days = 0; mins = 0; ticks = 0 };
-  created = record { days = 0; mins = 0; ticks = 0 };
-}
-
 -- the tree of a preamble: without a label line the label is empty, without a stamps line all dates are 0
 abbrev pub preamble_tree : Preamble → Tree
-preamble_tree h = record { kind = h.kind; label = unwrap_or h.label []; stamps = unwrap_or h.stamps no_stamps; entries = [] }
+preamble_tree h = record { kind = h.kind; label = unwrap_or h.label []; stamps = unwrap_or h.stamps NO_STAMPS; entries = [] }
 
 -- the entries of a manifest that has any: those before the last, and the last
 pub record Entries : Type 0 where

@@ -16,17 +16,11 @@ use crate::tokens::{after, read_number};
 use adf_base::{NoMemory, Stamp};
 use adf_blocks::is_allowed_size;
 use adf_tree::{
-    Body, Bytes, Comment, Draft, Kind, Label, Meta, PathFault, Room, RoomFault, Stamps, Tree,
-    read_path,
+    Body, Bytes, Comment, Draft, Kind, Label, Meta, NO_STAMPS, PathFault, Room, RoomFault, Stamps,
+    Tree, read_path,
 };
 use std::alloc::Global;
 use std::mem;
-
-const NO_STAMP: Stamp = Stamp {
-    days: 0,
-    mins: 0,
-    ticks: 0,
-};
 
 /// The content of the lines before the entries.
 #[derive(Drop)]
@@ -150,16 +144,11 @@ fn tree_of(alloc: Global, preamble: Preamble) -> Draft
         ..
     } = preamble;
     let no_label = Label::new(b"").unwrap();
-    let no_stamps = Stamps {
-        root: NO_STAMP,
-        altered: NO_STAMP,
-        created: NO_STAMP,
-    };
     Draft::new(
         alloc,
         kind,
         label.unwrap_or(no_label),
-        stamps.unwrap_or(no_stamps),
+        stamps.unwrap_or(NO_STAMPS),
     )
 }
 

@@ -23,7 +23,8 @@ use Rattle.adf_blocks.proofs.RootLaws.{root_block-sum, root_block-text, root_blo
 use Rattle.adf_volume.specs.Image.{root_of}
 use Rattle.adf_volume.specs.Start.{is_image_len}
 use Rattle.adf_findings.specs.Start.{has_root_type}
-use Rattle.adf_rescue.specs.MadeRoot.{has_root, label_in, made_root, middle_block, no_stamps, pages_in, rooted, slots_in, stamps_in}
+use Rattle.adf_tree.specs.declared.entry.TheConstants.{NO_STAMPS}
+use Rattle.adf_rescue.specs.MadeRoot.{has_root, label_in, made_root, middle_block, pages_in, rooted, slots_in, stamps_in}
 
 -- an image of an allowed size is whole blocks, at least 4
 pub record IsSizedAs (n : ℕ) : Type 0 where
@@ -73,10 +74,10 @@ made_slot image s lt small =
 pub unnamed : (image : List ℕ) → has_root_type (middle_block image) ≡ false → label_stated (root_block (made_root image)) ≡ []
 unnamed image h = grind (arith, common_steps, root_block-text, made_fits, cond-false)
 
-nothing_dated : AreStamps no_stamps
+nothing_dated : AreStamps NO_STAMPS
 nothing_dated = grind (arith, common_steps)
 
-pub undated : (image : List ℕ) → has_root_type (middle_block image) ≡ false → stamps_at (root_block (made_root image)) ≡ no_stamps
+pub undated : (image : List ℕ) → has_root_type (middle_block image) ≡ false → stamps_at (root_block (made_root image)) ≡ NO_STAMPS
 undated image h = grind (arith, common_steps, cond-false, root_block-stamps, made_fits, nothing_dated)
 
 -- the image around it stays

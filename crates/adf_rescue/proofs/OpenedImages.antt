@@ -18,7 +18,8 @@ use Rattle.adf_volume.specs.Layout.{Layout}
 use Rattle.adf_volume.specs.Start.{is_image_len}
 use Rattle.adf_findings.specs.Opening.{opening_in}
 use Rattle.adf_findings.specs.Start.{has_root_type}
-use Rattle.adf_rescue.specs.MadeRoot.{has_root, made_root, middle_block, no_stamps, rooted}
+use Rattle.adf_tree.specs.declared.entry.TheConstants.{NO_STAMPS}
+use Rattle.adf_rescue.specs.MadeRoot.{has_root, made_root, middle_block, rooted}
 use Rattle.adf_rescue.specs.Opened.{begins_with_dos, begun, has_data, is_mended, opened, says_data, type_byte}
 use Rattle.adf_rescue.proofs.MadeRoots.{before_rooted, behind_rooted, front_rooted, length_rooted, made_fits, made_rooted, made_slot}
 use Rattle.adf_rescue.proofs.MadeRoots.{root_is_whole, root_within, sized, undated, unnamed, whole_rooted}
@@ -209,7 +210,7 @@ module _ (image : List ℕ) (len : is_image_len (length image) ≡ true) (none :
   pub unnamed_opened : (opening_in (opened image)).label ≡ []
   unnamed_opened = ap label_stated made_opened ∙ unnamed (begun image) still_none
 
-  pub undated_opened : (opening_in (opened image)).stamps ≡ no_stamps
+  pub undated_opened : (opening_in (opened image)).stamps ≡ NO_STAMPS
   undated_opened = ap stamps_at made_opened ∙ undated (begun image) still_none
 
 -- it begins as a volume

@@ -4,6 +4,7 @@ use Rattle.std.specs.Prelude.{ℕ, ◌+◌, ◌==◌, ◌&&◌, ◌||◌, not, n
 use Rattle.std.specs.List.{range_with_len}
 use Rattle.adf_base.specs.Words.{block, long_sum, with_block, word}
 use Rattle.adf_tree.specs.declared.entry.Stamps.{Stamps}
+use Rattle.adf_tree.specs.declared.entry.TheConstants.{NO_STAMPS}
 use Rattle.adf_blocks.specs.declared.layout.TheConstants.{FIRST_PAGE, FIRST_SLOT, ROOT_PAGES, SLOTS, TYPE, T_DATA, T_LIST, T_SHORT}
 use Rattle.adf_blocks.specs.RootBlock.{RootFields, label_stated, root_block, stamps_at}
 use Rattle.adf_blocks.specs.Sizes.{blocks}
@@ -48,17 +49,9 @@ pages_in image = map (page_found image) (range_with_len 0 ROOT_PAGES)
 abbrev pub label_in : List ℕ → List ℕ
 label_in b = cond (has_root_type b) (label_stated b) []
 
--- no dates
-abbrev pub no_stamps : Stamps
-no_stamps = record {
-  root = record { days = 0; mins = 0; ticks = 0 };
-  altered = record { days = 0; mins = 0; ticks = 0 };
-  created = record { days = 0; mins = 0; ticks = 0 };
-}
-
 -- the dates of a block that says that it is a root; otherwise none
 abbrev pub stamps_in : List ℕ → Stamps
-stamps_in b = cond (has_root_type b) (stamps_at b) no_stamps
+stamps_in b = cond (has_root_type b) (stamps_at b) NO_STAMPS
 
 -- the fields of the root that is made: the table as it stands, the pages that are found, and no bitmap extension block
 abbrev pub made_root : List ℕ → RootFields

@@ -20,7 +20,7 @@ use crate::image::{block_count, is_image_len, root_of};
 use crate::lost::{directory_at, is_inside, is_marked, lost, mark, says_directory, word_in};
 use crate::opened::copied;
 use crate::rooms::lost_name;
-use adf_base::{NoMemory, Stamp, seal, set_bytes, set_word};
+use adf_base::{NO_STAMP, NoMemory, seal, set_bytes, set_word};
 use adf_blocks::{FIRST_SLOT, HeadOut, HeadOutBody, NEXT_IN_CHAIN, PARENT, SLOTS, write_head};
 use adf_findings::Survey;
 use adf_tree::{Comment, Meta, Name};
@@ -76,12 +76,7 @@ fn make(alloc: Global, image: &mut [u8], root: u32, p: u32) -> Result<(), NoMemo
     ensures { OnOk result (image.new ≡ with_block image.old p (head_block (made_header root p))) }
 {
     let name = made_name(alloc, p)?;
-    let stamp = Stamp {
-        days: 0,
-        mins: 0,
-        ticks: 0,
-    };
-    let meta = Meta::new(Comment::new(b"").unwrap(), 0, stamp);
+    let meta = Meta::new(Comment::new(b"").unwrap(), 0, NO_STAMP);
     let header = HeadOut {
         own: p,
         parent: root,

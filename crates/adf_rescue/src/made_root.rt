@@ -6,12 +6,12 @@ ghost use Rattle.adf_volume.specs.Start.{is_image_len};
 ghost use Rattle.adf_rescue.specs.MadeRoot.{has_root, is_page, label_in, page_found, pages_in, rooted, says_page, slots_in, stamps_in};
 
 use crate::image::{block_in, root_of};
-use adf_base::{BLOCK_LEN, Block, Stamp};
+use adf_base::{BLOCK_LEN, Block};
 use adf_blocks::{
     FIRST_PAGE, FIRST_SLOT, ROOT_PAGES, RootOut, SLOTS, T_DATA, T_LIST, T_SHORT, TYPE,
     has_root_type, label_stated, stamps_stated, write_root,
 };
-use adf_tree::{Label, Stamps};
+use adf_tree::{Label, NO_STAMPS, Stamps};
 
 /// Whether the middle block is a whole root: by its types and its sum.
 pub fn has_root(image: &[u8]) -> bool
@@ -95,17 +95,9 @@ fn stamps_in(root: &Block<'_>) -> Stamps
     ensures { result ≡ stamps_in root.now }
 {
     if has_root_type(root) {
-        return stamps_stated(root);
-    }
-    let none = Stamp {
-        days: 0,
-        mins: 0,
-        ticks: 0,
-    };
-    Stamps {
-        root: none,
-        altered: none,
-        created: none,
+        stamps_stated(root)
+    } else {
+        NO_STAMPS
     }
 }
 

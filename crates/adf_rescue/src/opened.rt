@@ -7,7 +7,8 @@ ghost use Rattle.adf_volume.specs.Image.{root_of, word_in};
 ghost use Rattle.adf_volume.specs.Start.{is_image_len};
 ghost use Rattle.adf_findings.specs.Opening.{opening_in};
 ghost use Rattle.adf_findings.specs.Start.{has_root_type};
-ghost use Rattle.adf_rescue.specs.MadeRoot.{has_root, middle_block, no_stamps};
+ghost use Rattle.adf_tree.specs.declared.entry.TheConstants.{NO_STAMPS};
+ghost use Rattle.adf_rescue.specs.MadeRoot.{has_root, middle_block};
 ghost use Rattle.adf_rescue.specs.Opened.{begins_with_dos, begun, has_data, is_mended, opened, says_data, says_file, type_byte};
 
 use crate::image::{block_in, is_image_len};
@@ -141,5 +142,5 @@ pub fn opened_keeps()
     ensures label { (image : List ℕ) → is_image_len (length image) ≡ true
         → has_root_type (middle_block image) ≡ false → (opening_in (opened image)).label ≡ [] }
     ensures stamps { (image : List ℕ) → is_image_len (length image) ≡ true
-        → has_root_type (middle_block image) ≡ false → (opening_in (opened image)).stamps ≡ no_stamps }
+        → has_root_type (middle_block image) ≡ false → (opening_in (opened image)).stamps ≡ NO_STAMPS }
 {}

@@ -7,7 +7,7 @@ ghost use Rattle.adf_tree.specs.Meta.{IsBoundedMeta, new_meta};
 use crate::bounds::date_bounds;
 use crate::name::Name;
 use crate::short_text::Comment;
-use adf_base::Stamp;
+use adf_base::{NO_STAMP, Stamp};
 use std::fmt;
 use std::marker::Model;
 
@@ -77,6 +77,13 @@ pub struct Stamps {
     pub altered: Stamp,
     pub created: Stamp,
 }
+
+/// The dates of a volume that is given none.
+pub const NO_STAMPS: Stamps = Stamps {
+    root: NO_STAMP,
+    altered: NO_STAMP,
+    created: NO_STAMP,
+};
 
 /// The metadata of an entry: all but its name and its body.
 #[derive(Drop)]

@@ -19,7 +19,7 @@ mod tree;
 mod walk_order;
 
 pub use crate::draft::{Draft, Room};
-pub use crate::entry::{Body, Bytes, Entry, Kind, Meta, Node, Stamps};
+pub use crate::entry::{Body, Bytes, Entry, Kind, Meta, NO_STAMPS, Node, Stamps};
 pub use crate::escapes::{digit_value, hex_digit, is_plain, spellings_decide};
 pub use crate::laws::{
     adding_grows_the_tree, additions_are_built, additions_have_one_tree, case_keeps_paths,

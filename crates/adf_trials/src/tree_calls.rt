@@ -2,30 +2,17 @@
 
 use crate::calls::CallOutcome;
 use crate::trees::{is_tree, tree_of_lines};
-use adf_base::Stamp;
+use adf_base::NO_STAMP;
 use adf_build::BuildFault;
 use adf_cmd::build_and_read;
 use adf_tree::{
-    AddFault, Body, Bytes, Comment, Draft, Kind, Label, Meta, Name, Node, Stamps, Tree, write_path,
+    AddFault, Body, Bytes, Comment, Draft, Kind, Label, Meta, NO_STAMPS, Name, Node, Tree,
+    write_path,
 };
 use std::alloc::Global;
 
-const NO_DATE: Stamp = Stamp {
-    days: 0,
-    mins: 0,
-    ticks: 0,
-};
-
-fn stamps() -> Stamps {
-    Stamps {
-        root: NO_DATE,
-        altered: NO_DATE,
-        created: NO_DATE,
-    }
-}
-
 fn meta() -> Option<Meta> {
-    Some(Meta::new(Comment::new(b"note")?, 15, NO_DATE))
+    Some(Meta::new(Comment::new(b"note")?, 15, NO_STAMP))
 }
 
 /// The text of a path of two names.
@@ -74,7 +61,7 @@ fn add_entries(alloc: Global, tree: &mut Tree) -> Option<()> {
 
 // A tree of these entries.
 fn worked_tree(alloc: Global) -> Option<Tree> {
-    let mut tree = Tree::new(alloc, Kind::Ofs, Label::new(b"Work")?, stamps());
+    let mut tree = Tree::new(alloc, Kind::Ofs, Label::new(b"Work")?, NO_STAMPS);
     add_entries(alloc, &mut tree)?;
     Some(tree)
 }
@@ -116,7 +103,7 @@ pub fn tree_add_outcome(alloc: Global) -> Option<CallOutcome> {
 
 /// A second entry in a draft, which is then finished.
 pub fn draft_add_outcome(alloc: Global) -> Option<CallOutcome> {
-    let mut draft = Draft::new(alloc, Kind::Ofs, Label::new(b"Work")?, stamps());
+    let mut draft = Draft::new(alloc, Kind::Ofs, Label::new(b"Work")?, NO_STAMPS);
     draft.add(&[Name::new(b"b")?], meta()?, Body::Dir).ok()?;
     let path = [Name::new(b"b")?, Name::new(b"c")?];
     let res = draft.add(&path, meta()?, Body::Dir);
