@@ -13,7 +13,7 @@ use crate::tables::{Date, date_of, field, put};
 use crate::verdict::kind_code;
 use adf_blocks::HeadBody;
 use adf_findings::{Concern, Survey, some_survey};
-use adf_survey_cmd::{Run, run_at};
+use adf_survey_cmd::{Run, run_from};
 use adf_tree::{Meta, Node};
 
 /// Findings of neighbouring blocks that have one cause and concern the same.
@@ -131,24 +131,14 @@ pub fn put_findings(survey: &Survey<'_>, room: &mut [TableFinding]) -> usize
     ensures count { OnSurvey survey.now.image (λ w fs. result ≡ length (runs w fs)) }
     ensures table { OnSurvey survey.now.image (λ w fs. room.new ≡ filled (finding_table w fs) room.old) }
 {
-    let Some(mut run) = run_at(survey, 0) else {
-        return 0;
-    };
     let mut count = 0;
-    for k in 1..survey.findings().len() {
-        let Some(next) = run_at(survey, k) else {
-            return count;
-        };
-        if run.continues(&next) {
-            run.last = next.last;
-        } else {
-            put(room, count, finding_row(&run));
-            count += 1;
-            run = next;
-        }
+    let mut k = 0;
+    while let Some((run, next)) = run_from(survey, k) {
+        put(room, count, finding_row(&run));
+        count += 1;
+        k = next;
     }
-    put(room, count, finding_row(&run));
-    count + 1
+    count
 }
 
 // 1 for a file or a link, 0 for a directory.

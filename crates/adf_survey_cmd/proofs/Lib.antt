@@ -1,6 +1,5 @@
 pub mod RunLines
 pub mod PendingLines
-pub mod FindingLists
 pub mod FindingStatus
 pub mod FoundTexts
 pub mod LongSurveys

@@ -1,34 +1,74 @@
--- The lines of runs.
--- Letters: w a walk; r, s runs; f a finding, fs findings; o, p what is known of an entry.
-use Rattle.std.proofs.Common.{◌≡◌, ◌∙◌, ◌++◌, List, [], ◌∷◌, ℕ, true, false, refl, sym, ap, append_assoc, append-nil, arith}
-use Rattle.std.proofs.lemmas.Grind.{common_steps}
+-- Runs of findings, one after another, and their lines.
+-- Letters: w a walk, fs its findings, f one of them; r, s runs; k a place among the findings.
+use Rattle.std.proofs.Common.{◌≡◌, ◌∙◌, ◌++◌, ◌+◌, ◌≤◌, List, Some, None, [], ◌∷◌, ℕ, zero, suc, true, false, drop, length, refl, sym, ap, ap₂, append_assoc, append-nil, arith}
+use Rattle.std.specs.Prelude.{option_map, slice_get}
+use Rattle.std.specs.List.{flat_map}
+use Rattle.std.proofs.lemmas.List.{drop_all}
 use Rattle.adf_volume.specs.Walk.{Role}
 use Rattle.adf_findings.specs.Survey.{FindingValue}
-use Rattle.adf_survey_cmd.specs.Lines.{continues, lines_from, findings_line, run_of, runs_from}
+use Rattle.adf_survey_cmd.specs.Lines.{continues, findings_line, findings_text, run_of, runs, runs_from}
 use Rattle.adf_survey_cmd.specs.declared.runs.Run.{Run}
 
-module _ (image : List ℕ) (w : List (Role × ℕ)) where
+module _ (w : List (Role × ℕ)) where
+  -- a finding at a place
+  there : (fs : List FindingValue) (k : ℕ) (r : Run) → Some r ≡ option_map (run_of w) (slice_get fs k)
+      → (f : FindingValue) × (r ≡ run_of w f) × (drop k fs ≡ f ∷ drop (suc k) fs)
+  there [] k r h = let clash : Some r ≡ None = h in cc
+  there (f ∷ fs) zero r h = (f, cc, refl)
+  there (f ∷ fs) (suc k) r h = there fs k r h
+
+  pub past : (fs : List FindingValue) (k : ℕ) → None ≡ option_map (run_of w) (slice_get fs k) → length fs ≤ k
+  past [] k h = omega arith
+  past (f ∷ fs) zero h = let clash : None ≡ Some (run_of w f) = h in cc
+  past (f ∷ fs) (suc k) h = let less = past fs k h in omega arith
+
   goes_on : (r : Run) (f : FindingValue) (fs : List FindingValue) → continues r (run_of w f) ≡ true
-      → lines_from image w (record r { last = f.block }) fs ≡ lines_from image w r (f ∷ fs)
+      → runs_from w (record r { last = f.block }) fs ≡ runs_from w r (f ∷ fs)
   unfolding runs_from
   goes_on r f fs h = rw h refl
 
-  is_over : (r : Run) (f : FindingValue) (fs : List FindingValue) → continues r (run_of w f) ≡ false
-      → findings_line image w r ++ lines_from image w (run_of w f) fs ≡ lines_from image w r (f ∷ fs)
+  is_over : (r : Run) (f : FindingValue) (fs : List FindingValue) → continues r (run_of w f) ≡ false → r ∷ runs w (f ∷ fs) ≡ runs_from w r (f ∷ fs)
   unfolding runs_from
   is_over r f fs h = rw h refl
 
+  -- a run of one finding
+  pub run_begun : (fs : List FindingValue) (k : ℕ) (r : Run) → Some r ≡ option_map (run_of w) (slice_get fs k)
+      → runs_from w r (drop (k + 1) fs) ≡ runs w (drop k fs)
+  run_begun fs k r at =
+      let x = there fs k r at in
+      let one : k + 1 ≡ suc k = omega arith in
+      ap₂ (λ r (n : ℕ). runs_from w r (drop n fs)) x.1 one ∙ ap (runs w) (sym x.2)
+
   -- a run that goes on
-  pub run_on : (r s : Run) (f : FindingValue) (fs : List FindingValue) (text : List ℕ) → s ≡ run_of w f → continues r s ≡ true
-      → text ++ lines_from image w (record r { last = s.last }) fs ≡ text ++ lines_from image w r (f ∷ fs)
-  run_on r s f fs text e h = grind (arith, common_steps, goes_on)
+  pub run_on : (fs : List FindingValue) (k : ℕ) (r s : Run) → Some s ≡ option_map (run_of w) (slice_get fs k) → continues r s ≡ true
+      → runs_from w (record r { last = s.last }) (drop (k + 1) fs) ≡ runs_from w r (drop k fs)
+  run_on fs k r s at h =
+      let x = there fs k s at in
+      let one : k + 1 ≡ suc k = omega arith in
+      ap₂ (λ (s : Run) (n : ℕ). runs_from w (record r { last = s.last }) (drop n fs)) x.1 one
+      ∙ goes_on r x.0 (drop (suc k) fs) (ap (continues r) (sym x.1) ∙ h) ∙ ap (runs_from w r) (sym x.2)
 
   -- a run that ends
-  pub run_over : (r s : Run) (f : FindingValue) (fs : List FindingValue) (text text' : List ℕ) → s ≡ run_of w f → continues r s ≡ false
-      → text' ≡ text ++ findings_line image w r → text' ++ lines_from image w s fs ≡ text ++ lines_from image w r (f ∷ fs)
-  run_over r s f fs text text' e h t = grind (arith, common_steps, append_assoc, is_over)
+  pub run_over : (fs : List FindingValue) (k : ℕ) (r s : Run) → Some s ≡ option_map (run_of w) (slice_get fs k) → continues r s ≡ false
+      → r ∷ runs w (drop k fs) ≡ runs_from w r (drop k fs)
+  run_over fs k r s at h =
+      let x = there fs k s at in
+      ap (λ l. r ∷ runs w l) x.2 ∙ is_over r x.0 (drop (suc k) fs) (ap (continues r) (sym x.1) ∙ h) ∙ ap (runs_from w r) (sym x.2)
 
   -- the last run
-  pub run_last : (r : Run) (text text' : List ℕ) → text' ≡ text ++ findings_line image w r → text ++ lines_from image w r [] ≡ text'
+  pub run_last : (fs : List FindingValue) (k : ℕ) (r : Run) → None ≡ option_map (run_of w) (slice_get fs k)
+      → r ∷ runs w (drop k fs) ≡ runs_from w r (drop k fs)
   unfolding runs_from
-  run_last r text text' e = ap (λ t. text ++ t) (append-nil (findings_line image w r)) ∙ sym e
+  run_last fs k r at = let le = past fs k at in rw drop_all refl
+
+module _ (image : List ℕ) (w : List (Role × ℕ)) where
+  -- the line of a run, and those that are to come
+  pub line_first : (r : Run) (rest fs : List FindingValue) (text text' : List ℕ) → r ∷ runs w rest ≡ runs w fs → text' ≡ text ++ findings_line image w r
+      → text' ++ findings_text image w rest ≡ text ++ findings_text image w fs
+  line_first r rest fs text text' e t =
+      ap (λ l. l ++ findings_text image w rest) t ∙ append_assoc text (findings_line image w r) (findings_text image w rest)
+      ∙ ap (λ rs. text ++ flat_map (findings_line image w) rs) e
+
+  -- no line is to come
+  pub lines_end : (fs : List FindingValue) (k : ℕ) (text : List ℕ) → length fs ≤ k → text ++ findings_text image w (drop k fs) ≡ text
+  lines_end fs k text le = rw drop_all (append-nil text)

@@ -71,10 +71,6 @@ findings_line image w r =
     blocks_text r.first r.last
     ++ (codes ": " ++ (cause_text r.cause ++ (concern_text image w r.concern ++ (owner_text image w r.owner ++ codes "\n"))))
 
--- the lines of findings behind a run
-abbrev pub lines_from : List ℕ → List (Role × ℕ) → Run → List FindingValue → List ℕ
-lines_from image w r fs = flat_map (findings_line image w) (runs_from w r fs)
-
 -- the lines of findings
 abbrev pub findings_text : List ℕ → List (Role × ℕ) → List FindingValue → List ℕ
 findings_text image w fs = flat_map (findings_line image w) (runs w fs)

@@ -11,6 +11,6 @@ mod runs;
 mod work;
 
 pub use crate::runner::{one_answer, run};
-pub use crate::runs::{Run, run_at};
+pub use crate::runs::{Run, run_from};
 pub use crate::work::{Task, View, Work};
 pub use adf_words::{Inquiry, Question, parse_survey as parse, survey_words_as_documented};

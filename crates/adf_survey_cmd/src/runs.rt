@@ -1,15 +1,16 @@
 // Runs of findings, and their lines.
 
-ghost use Rattle.std.specs.Prelude.{◌≡◌, ◌++◌, ◌∷◌, ℕ, List, IfOk, OnErr, OnOk, codes, false, option_map, slice_get};
+ghost use Rattle.std.specs.Prelude.{◌≡◌, ◌++◌, ◌∷◌, ◌<◌, ◌≤◌, ◌^◌, ℕ, List, IfNone, IfSome, OnErr, OnOk, codes, drop, false, length, option_map, slice_get};
 ghost use Rattle.std.specs.Io.KnownBytes.{Appends};
 ghost use Rattle.adf_volume.specs.Walk.{Role};
 ghost use Rattle.adf_findings.specs.Concerned.{concern_of, owner_of};
 ghost use Rattle.adf_findings.specs.Lookup.{path_to};
 ghost use Rattle.adf_findings.specs.Parts.{finding_value};
-ghost use Rattle.adf_findings.specs.Survey.{FindingValue, OnSurvey};
+ghost use Rattle.adf_findings.specs.Survey.{OnSurvey};
 ghost use Rattle.adf_texts.specs.Names.{names_text};
-ghost use Rattle.adf_runs.specs.Streams.{AppendsPart, KeepsPending, is_device};
-ghost use Rattle.adf_survey_cmd.specs.Lines.{are_owned_alike, are_one, blocks_text, concern_text, continues, findings_text, is_beside, lines_from, findings_line, owner_text, run_of};
+ghost use Rattle.adf_runs.specs.Streams.{AppendsPart, is_device};
+ghost use Rattle.adf_survey_cmd.specs.Lines.{are_owned_alike, are_one, blocks_text, concern_text, continues, findings_line, findings_text};
+ghost use Rattle.adf_survey_cmd.specs.Lines.{is_beside, owner_text, run_of, runs};
 
 use adf_blocks::Cause;
 use adf_findings::{Concern, Finding, Survey};
@@ -75,9 +76,9 @@ impl Run {
         is_next || (self.first == block && self.last == block)
     }
 
-    /// Whether the run goes on with another, of one finding: the cause, what is concerned and the owner are the same, and
-    /// the block is the one behind the run, or the run's only one.
-    pub fn continues(&self, next: &Run) -> bool
+    // Whether the run goes on with another, of one finding: the cause, what is concerned and the owner are the same, and
+    // the block is the one behind the run, or the run's only one.
+    fn continues(&self, next: &Run) -> bool
         ensures { result ≡ continues self.now next.now }
     {
         let is_same = self.cause.number() == next.cause.number();
@@ -88,12 +89,32 @@ impl Run {
     }
 }
 
-/// Finding `k` of a survey, counted from 0, as a run of one block; `None` past the last.
-pub fn run_at(survey: &Survey<'_>, k: usize) -> Option<Run>
-    ensures { OnSurvey survey.now.image (λ w fs. result ≡ option_map (run_of w) (slice_get fs k)) }
+// Finding `k` of a survey, counted from 0, as a run of one block; `None` past the last.
+fn run_at(survey: &Survey<'_>, k: usize) -> Option<Run>
+    ensures run { OnSurvey survey.now.image (λ w fs. result ≡ option_map (run_of w) (slice_get fs k)) }
+    ensures small { IfSome result (λ _. k < 2 ^ 63) }
 {
     let finding = survey.findings().get(k)?;
     Some(Run::of(finding, survey.concern_of(k), survey.owner_of(k)))
+}
+
+/// The run that begins with finding `k` of a survey, counted from 0, and the number of the finding behind it; `None` past the last.
+pub fn run_from(survey: &Survey<'_>, k: usize) -> Option<(Run, usize)>
+    ensures run { OnSurvey survey.now.image (λ w fs. IfSome result (λ next.
+        next.0 ∷ runs w (drop next.1 fs) ≡ runs w (drop k fs))) }
+    ensures none { OnSurvey survey.now.image (λ w fs. IfNone result (length fs ≤ k)) }
+    ensures behind { IfSome result (λ next. k < next.1) }
+{
+    let mut run = run_at(survey, k)?;
+    let mut next = k + 1;
+    while let Some(single) = run_at(survey, next) {
+        if !run.continues(&single) {
+            return Some((run, next));
+        }
+        run.last = single.last;
+        next += 1;
+    }
+    Some((run, next))
 }
 
 // Appends the blocks of a run.
@@ -186,57 +207,6 @@ fn push_run(
     text.extend_from_slice(b"\n")
 }
 
-// Goes on from a run to the next finding: answers the run with it; or where it does not go on,
-// appends the line of the run and answers that finding.
-fn join_run(
-    alloc: Global,
-    survey: &Survey<'_>,
-    run: Run,
-    next: Run,
-    text: &mut Vec<u8>,
-) -> Result<Run, AllocError>
-    ensures { OnSurvey survey.now.image (λ w _.
-        (f : FindingValue) (gs : List FindingValue) → next ≡ run_of w f
-        → IfOk result (λ r. text.new.items ++ lines_from survey.now.image w r gs
-        ≡ text.old.items ++ lines_from survey.now.image w run (f ∷ gs))) }
-{
-    if run.continues(&next) {
-        return Ok(Run {
-            last: next.last,
-            ..run
-        });
-    }
-    push_run(alloc, survey, &run, text)?;
-    Ok(next)
-}
-
-// Goes on from a run to the next finding, and writes what is long.
-fn tell_finding<W: Sink>(
-    alloc: Global,
-    survey: &Survey<'_>,
-    run: Run,
-    next: Run,
-    text: &mut Vec<u8>,
-    output: &mut W,
-) -> Result<Run, StreamFault>
-    requires works { W.has_failed output.old ≡ false }
-    ensures ok { OnSurvey survey.now.image (λ w _.
-        (f : FindingValue) (gs : List FindingValue) → next ≡ run_of w f
-        → IfOk result (λ r. KeepsPending
-        (W.held output.old) (text.old.items ++ lines_from survey.now.image w run (f ∷ gs))
-        (W.held output.new) (text.new.items ++ lines_from survey.now.image w r gs))) }
-    ensures err { OnSurvey survey.now.image (λ w _.
-        (f : FindingValue) (gs : List FindingValue) → next ≡ run_of w f
-        → OnErr result (AppendsPart
-        (W.has_failed output.new) (W.held output.old) (W.held output.new)
-        (text.old.items ++ lines_from survey.now.image w run (f ∷ gs)))) }
-    ensures failed { W.has_failed output.new ≡ is_device result }
-{
-    let joined = join_run(alloc, survey, run, next, text)?;
-    flush_long(output, text)?;
-    Ok(joined)
-}
-
 /// Writes the lines of the findings, of which those of neighbouring blocks are one. `Device` where the
 /// writer failed, `NoMemory` where memory was refused; then a front part of the lines is written, and
 /// where the writer failed not all of them.
@@ -254,16 +224,13 @@ pub fn write_runs<W: Sink>(
         (findings_text survey.now.image w fs))) }
     ensures failed { W.has_failed output.new ≡ is_device result }
 {
-    let Some((first, others)) = survey.findings().split_first() else {
-        return Ok(());
-    };
     let mut text = Vec::new(alloc);
-    let mut run = Run::of(first, survey.concern_of(0), survey.owner_of(0));
-    for (i, finding) in others.iter().enumerate() {
-        let next = Run::of(finding, survey.concern_of(i + 1), survey.owner_of(i + 1));
-        run = tell_finding(alloc, survey, run, next, &mut text, output)?;
+    let mut k = 0;
+    while let Some((run, next)) = run_from(survey, k) {
+        push_run(alloc, survey, &run, &mut text)?;
+        flush_long(output, &mut text)?;
+        k = next;
     }
-    push_run(alloc, survey, &run, &mut text)?;
     write_all(output, &text)?;
     Ok(())
 }
