@@ -25,6 +25,7 @@ use Rattle.adf_findings.proofs.Keys.{lacks_at, one_key, same_of_key}
 use Rattle.adf_findings.proofs.Known.{tells_absent}
 use Rattle.adf_findings.proofs.Taking.{stands_reported}
 use Rattle.adf_findings.proofs.OneSurvey.{gathered}
+use Rattle.std.proofs.Common.{add-one}
 
 -- where the bitmap is not valid, no bit is compared
 pub not_compared : (image : List ℕ) (s : Course) (b : ℕ) → (IsValidated image → ⊥) → BitTells image s b None
@@ -71,12 +72,9 @@ module _ (image : List ℕ) (f : Found) (s : Course) (v : IsCourse image s) (fs 
       → Tells t (IsFreeIn image s.walk b) → BitTells image s b (bit_cause o a t)
   tells_bit false false false at vd h ow av fr = ((vd, (at, h), (λ x. av)), inl ((λ k. fr (k ow)), refl, refl))
   tells_bit false true false at vd h ow av fr = λ c. absurd (av (c.2 ow))
-  tells_bit false false true at vd h ow av fr = λ c. ((λ x. fr), ((λ x. ow), tt))
-  tells_bit false true true at vd h ow av fr = λ c. ((λ x. fr), ((λ x. ow), tt))
-  tells_bit true false true at vd h ow av fr = ((vd, (at, h), (λ x. absurd (ow x))), inr ((λ x. fr), inl ((λ k. ow (k fr)), refl, refl)))
-  tells_bit true true true at vd h ow av fr = ((vd, (at, h), (λ x. absurd (ow x))), inr ((λ x. fr), inl ((λ k. ow (k fr)), refl, refl)))
-  tells_bit true false false at vd h ow av fr = λ c. ((λ x. absurd (ow x)), ((λ x. absurd (fr x)), tt))
-  tells_bit true true false at vd h ow av fr = λ c. ((λ x. absurd (ow x)), ((λ x. absurd (fr x)), tt))
+  tells_bit false _ true at vd h ow av fr = λ c. ((λ x. fr), ((λ x. ow), tt))
+  tells_bit true _ true at vd h ow av fr = ((vd, (at, h), (λ x. absurd (ow x))), inr ((λ x. fr), inl ((λ k. ow (k fr)), refl, refl)))
+  tells_bit true _ false at vd h ow av fr = λ c. ((λ x. absurd (ow x)), ((λ x. absurd (fr x)), tt))
 
   -- with its page the bit tells by whose the block is
   pub page_tells : (o p k t : Bool) → o ≡ owns s.walk b → p ≡ owns s.skipped b → k ≡ is_cache image b → IsValidated image
@@ -89,18 +87,16 @@ module _ (image : List ℕ) (f : Found) (s : Course) (v : IsCourse image s) (fs 
 pub tells_none : (image : List ℕ) (s : Course) (b : ℕ) (gs : List FindingValue) → 2 ≤ b → BitTells image s b None
     → TellsOn image s b gs → TellsOn image s (b + 1) gs
 tells_none image s b gs lo t on n fs h =
-    let one : b + 1 ≡ suc b = omega arith in
     let more : b - 2 + suc n ≡ b + 1 - 2 + n = omega arith in
-    subst (λ m. BitsTell image s 2 m (gs ++ fs)) more (on (suc n) fs (agrees t (subst (λ c. BitsTell image s c n fs) one h)))
+    subst (λ m. BitsTell image s 2 m (gs ++ fs)) more (on (suc n) fs (agrees t (subst (λ c. BitsTell image s c n fs) (add-one b) h)))
 
 pub tells_some : (image : List ℕ) (s : Course) (b : ℕ) (gs : List FindingValue) (c : Cause) → 2 ≤ b → BitTells image s b (Some c) → TellsOn image s b gs
     → TellsOn image s (b + 1) (gs ++ finding None b c ∷ [])
 tells_some image s b gs c lo t on n fs h =
-    let one : b + 1 ≡ suc b = omega arith in
     let more : b - 2 + suc n ≡ b + 1 - 2 + n = omega arith in
     subst (λ m. BitsTell image s 2 m (gs ++ finding None b c ∷ [] ++ fs)) more
     (subst (BitsTell image s 2 (b - 2 + suc n)) (sym (append_assoc gs (finding None b c ∷ []) fs))
-    (on (suc n) (finding None b c ∷ fs) (differs t.0 t.1 (subst (λ c. BitsTell image s c n fs) one h))))
+    (on (suc n) (finding None b c ∷ fs) (differs t.0 t.1 (subst (λ c. BitsTell image s c n fs) (add-one b) h))))
 
 -- the bits of no block are compared at first, and at last all are
 pub none_reported : (image : List ℕ) (s : Course) → TellsOn image s 2 []

@@ -7,7 +7,6 @@ use Rattle.std.proofs.lemmas.Grind.{common_steps}
 use Rattle.adf_blocks.specs.declared.cause.Cause.{Cause}
 use Rattle.adf_blocks.specs.declared.layout.TheConstants.{PAGE_BITS}
 use Rattle.adf_blocks.specs.Sizes.{blocks, pages_needed}
-use Rattle.adf_base.specs.Words.{block}
 use Rattle.adf_volume.specs.Image.{word_in, root_of}
 use Rattle.adf_volume.specs.Demands.{AllHold, FirstFails, boot_demands, root_demands}
 use Rattle.adf_volume.specs.Walk.{Role, Lacks, IsDue, IsAbsent, IsWalk, IsWhole, FirstFault, bitmap_demands, demands}
@@ -62,8 +61,7 @@ module _ (image : List ℕ) where
   stepped w over [] r a i (skipped at c) k n h =
       at_due k.0 w r a i k.1 (due w over [] r a i k.2 n) (plain w r a (word_in image a i) (skipped at c) k.0 h).0
   stepped w over (f ∷ fs) r a i clean k n h = k
-  stepped w over (f ∷ fs) r a i (reported at c) k n h = k
-  stepped w over (f ∷ fs) r a i (skipped at c) k n h = k
+  stepped w over (f ∷ fs) r a i _ k n h = k
 
   -- the first finding of boot block and root
   started : {fs gs : List FindingValue} → BootTells image fs → RootTells image gs → Known ((Root, root_of image) ∷ []) [] (fs ++ gs)

@@ -5,7 +5,7 @@ use Rattle.std.specs.List.{filter}
 use Rattle.std.proofs.Common.{◌≡◌, ◌∙◌, ℕ, List, [], ◌∷◌, ap, arith, false, inl, inr, refl, true}
 use Rattle.std.proofs.lemmas.Grind.{common_steps}
 use Rattle.adf_volume.specs.Lists.{In}
-use Rattle.adf_volume.specs.Walk.{Role, second}
+use Rattle.adf_volume.specs.Walk.{Role}
 use Rattle.adf_volume.specs.Walk.Role.{Data, Ext, Head}
 use Rattle.adf_volume.proofs.Roles.{same_role}
 use Rattle.adf_findings.specs.declared.part.Finding.{Finding}
@@ -53,16 +53,12 @@ counts false fs g h e = h
 -- where no finding that counts concerns an extension block, none does
 pub ext_unreported : (b : Bool) (fs : List FindingValue) (n k : ℕ) → IsUnreported (counting b fs) (Ext n k) → IsUnreported fs (Ext n k)
 ext_unreported b fs n k none g q h e same =
-    let is : q ≡ Ext n k =
-    same_role q (Ext n k) same (λ a m p s j e f. let x : second (Ext n k) ≡ second (Head m p s j) = ap second f in absurd (omega arith)) in
-    none g q (counts b fs g h (ap is_head e ∙ ap (λ r. is_head (Some r)) is)) e same
+    let is = same_role q (Ext n k) same (λ a m p s j e f. cc) in none g q (counts b fs g h (ap is_head e ∙ ap (λ r. is_head (Some r)) is)) e same
 
 -- nor a data block
 pub data_unreported : (b : Bool) (fs : List FindingValue) (n k : ℕ) → IsUnreported (counting b fs) (Data n k) → IsUnreported fs (Data n k)
 data_unreported b fs n k none g q h e same =
-    let is : q ≡ Data n k =
-    same_role q (Data n k) same (λ a m p s j e f. let x : second (Data n k) ≡ second (Head m p s j) = ap second f in absurd (omega arith)) in
-    none g q (counts b fs g h (ap is_head e ∙ ap (λ r. is_head (Some r)) is)) e same
+    let is = same_role q (Data n k) same (λ a m p s j e f. cc) in none g q (counts b fs g h (ap is_head e ∙ ap (λ r. is_head (Some r)) is)) e same
 
 -- a sound file is sound by the grave findings
 less_unreported : (fs : List FindingValue) (r : Role) → IsUnreported fs r → IsUnreported (grave fs) r

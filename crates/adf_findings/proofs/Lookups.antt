@@ -61,10 +61,6 @@ module _ (image : List ℕ) (w : List (Role × ℕ)) where
       → LeadsTo image w m names n
   leads_on p m n name names x y = subst (λ m. LeadsTo image w m names n) (one_first p name y.0 m y.1 x) y.2
 
-  pub leads_from : (p m n : ℕ) (name : List ℕ) (names : List (List ℕ)) → IsFirstChild image w p name m → LeadsTo image w m names n
-      → LeadsTo image w p (name ∷ names) n
-  leads_from p m n name names x y = (m, x, y)
-
 -- the names from one on
 pub split_at : (path : List (List ℕ)) (i : ℕ) (name : List ℕ) → i < length path → name ≡ get_or path i name → drop i path ≡ name ∷ drop (i + 1) path
 split_at path i name lt e = grind (arith, common_steps, drop-cons)

@@ -19,7 +19,7 @@ use Rattle.adf_findings.proofs.Keeping.{root_no_entry, tells_each}
 use Rattle.adf_findings.proofs.OneSurvey.{gathered}
 use Rattle.adf_findings.proofs.Starts.{boot_told, not_unread, root_told}
 
-some_part : (image : List ℕ) (w : List (Role × ℕ)) → IsGathered image w → w ≡ [] → ⊥
+pub some_part : (image : List ℕ) (w : List (Role × ℕ)) → IsGathered image w → w ≡ [] → ⊥
 some_part image w start e = cc
 some_part image w (step a i b v asked lacks) e = cc
 
@@ -37,14 +37,12 @@ unbegun_walk image w fs gs (read v d t) none = absurd (not_unread image (boot_to
 -- the root is taken of an image in which a page of the bitmap is found
 pub page_begun : (image : List ℕ) (w : List (Role × ℕ)) (fs gs : List FindingValue) → IsSurvey image w fs → UnreadTells image gs → (i at : ℕ)
     → Has w (Page i) at → ⊥
-page_begun image w fs gs (unread f) none i at h = h
-page_begun image w fs gs (read v d t) none i at h = not_unread image (boot_told image v).1 (root_told image v).1 none
+page_begun image w fs gs h none i at has = subst (λ w. Has w (Page i) at) (unbegun_walk image w fs gs h none) has
 
 -- the root is taken of an image in which an entry is found
-pub entry_begun : (image : List ℕ) (w : List (Role × ℕ)) (fs gs : List FindingValue) (n h : ℕ) → IsSurvey image w fs → HeadAt w n h
+pub entry_begun : {image : List ℕ} {w : List (Role × ℕ)} {fs gs : List FindingValue} {n b : ℕ} → IsSurvey image w fs → HeadAt w n b
     → UnreadTells image gs → ⊥
-entry_begun image w fs gs n h (unread f) header none = header.has
-entry_begun image w fs gs n h (read v d t) header none = not_unread image (boot_told image v).1 (root_told image v).1 none
+entry_begun {image} {w} {fs} {gs} {n} {b} h header none = (subst (λ w. HeadAt w n b) (unbegun_walk image w fs gs h none) header).has
 
 -- the marks that are kept are those of the sound entries, by the findings that count
 marks_by : (v : SurveyValue) (c : Bool) (marks : List Bool) → (w : List (Role × ℕ)) (fs : List FindingValue) → IsSurvey v.image w fs

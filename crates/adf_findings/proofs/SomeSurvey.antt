@@ -31,7 +31,7 @@ use Rattle.adf_volume.proofs.DecidedAsks.{dec_asked}
 use Rattle.adf_volume.proofs.Gathered.{IsGathered, root_in}
 use Rattle.adf_volume.proofs.PartDemands.{part_holds_by}
 use Rattle.adf_findings.proofs.JudgementTests.{itself_holds}
-use Rattle.adf_findings.proofs.Decidability.{decided, decided_form, dec_true, first_failing, judged, bits_told}
+use Rattle.adf_findings.proofs.Decidability.{decided, decided_form, dec_all, dec_true, first_failing, judged, bits_told}
 use Rattle.adf_findings.proofs.OneSurvey.{gathered}
 
 -- the values at the numbers below n
@@ -142,13 +142,7 @@ module _ (image : List ℕ) where
       Wanted z = Asked image s.walk z × Lacks s.walk z × Lacks s.skipped z
 
       dec_wanted : (z : Role) → Dec (Wanted z)
-      dec_wanted z = elim (dec_asked image s.walk (gathered image v) z) [
-        | no n ↦ no (λ x. n x.0)
-        | yes a ↦ elim (dec_lacks s.walk z) [
-          | no n ↦ no (λ x. n x.1)
-          | yes k ↦ elim (dec_lacks s.skipped z) [ no n ↦ no (λ x. n x.2) | yes l ↦ yes (a, k, l) ]
-        ]
-      ]
+      dec_wanted z = dec_all (dec_asked image s.walk (gathered image v) z) (dec_lacks s.walk z) (dec_lacks s.skipped z)
 
       abbrev number : ℕ
       number = suc (heads s.walk)

@@ -8,7 +8,7 @@ use Rattle.adf_blocks.specs.declared.layout.TheConstants.{POINTERS, SIZE}
 use Rattle.adf_volume.specs.Image.{letters_of, held, kind_of, word_in, table_word}
 use Rattle.adf_volume.specs.Lists.{In}
 use Rattle.adf_volume.specs.Demands.{AllHold, data_demands, ext_demands}
-use Rattle.adf_volume.specs.Walk.{first, Before, Lacks, NodeAt, member_block, next_data, node_block}
+use Rattle.adf_volume.specs.Walk.{Before, Lacks, NodeAt, member_block, next_data, node_block}
 use Rattle.adf_volume.specs.Walk.{Role, second, Has, FileAt, MemberAt, data_count, Asks, IsAbsent, ext_count}
 use Rattle.adf_volume.specs.Walk.Role.{Root, Head, Ext, Data}
 use Rattle.adf_volume.proofs.Lists.{in_left, in_right}
@@ -156,7 +156,7 @@ module _ (image : List ℕ) where
     head_formed : (n p t j h up : ℕ) → Has s.walk (Head n p t j) h → IsUnreported s.findings (Head n p t j) → NodeAt s.walk p up
         → AllHold (head_demands_in image (kind_of image) h up t)
     head_formed n p t j h up g clear node =
-        let x = came_formed (Head n p t j) h g (λ e. let x : second Root ≡ second (Head n p t j) = ap second e in omega arith) clear in
+        let x = came_formed (Head n p t j) h g (λ e. cc) clear in
         let w : List (Role × ℕ) = x.0.before in
         let d = asked_dir image x.0.came_before n p t j x.0.at x.0.index x.0.asked in
         let f : NodeAt w p d.0 = dir_is_node image w p d.0 d.1 in
@@ -172,7 +172,7 @@ module _ (image : List ℕ) where
 
     ext_formed : (n k b h : ℕ) → Has s.walk (Ext n k) b → IsUnreported s.findings (Ext n k) → FileAt image s.walk n h → AllHold (ext_demands image b h)
     ext_formed n k b h g clear file =
-        let x = came_formed (Ext n k) b g (λ e. let x : first Root ≡ first (Ext n k) = ap first e in omega arith) clear in
+        let x = came_formed (Ext n k) b g (λ e. cc) clear in
         let d = asked_file image x.0.came_before n k x.0.at x.0.index x.0.asked in
         let e : node_block x.0.before n ≡ h = file_was x.0.before n d.0 h x.0.came_before x.0.older d.1 file in
         subst (λ h. AllHold (ext_demands image b h)) e x.1
@@ -199,7 +199,7 @@ module _ (image : List ℕ) where
       member_before w (suc m) a older f = older (Ext n (suc m)) a f
 
       data_clean : (k b : ℕ) → Has s.walk (Data n k) b → (y : Came s.walk s.findings (Data n k) b) × AllHold (demands_in image y.before (Data n k) y.at b)
-      data_clean k b g = came_clean (Data n k) b g (λ e. let x : second Root ≡ second (Data n k) = ap second e in omega arith) (clear k)
+      data_clean k b g = came_clean (Data n k) b g (λ e. cc) (clear k)
 
       enough : data_count image h ≤ POINTERS * suc (ext_count s.walk n)
       enough =

@@ -10,14 +10,14 @@ use Rattle.adf_tree.specs.declared.entry.Kind.TheVariants.{Ofs, Ffs}
 use Rattle.adf_blocks.specs.Sizes.{blocks}
 use Rattle.adf_volume.specs.Image.{kind_of, root_of, word_in}
 use Rattle.adf_volume.specs.Lists.{In}
-use Rattle.adf_volume.specs.Walk.{Role, first, second, Same, Has, Asks, Lacks, IsAbsent, heads, node_block}
+use Rattle.adf_volume.specs.Walk.{Role, Same, Has, Asks, Lacks, IsAbsent, heads, node_block}
 use Rattle.adf_volume.specs.Walk.Role.{Root, Head, Ext, Data}
 use Rattle.adf_volume.proofs.Gathered.{IsGathered, asks_one, head_block, number_of, numbered as has_number, one_block, one_head}
 use Rattle.adf_volume.proofs.Lists.{in_cases, in_left, in_right}
 use Rattle.adf_volume.proofs.OneFault.{number_is}
 use Rattle.adf_volume.proofs.Roles.{asks_number, dec_has, head_at, head_role, renumbered, renumbered_same, same_of, same_refl, same_role}
 use Rattle.adf_findings.specs.declared.part.Part.{Part}
-use Rattle.adf_findings.specs.declared.part.Part.TheVariants.{Root as RootPart, Page as PagePart, MapExt as MapExtPart, Head as HeadPart}
+use Rattle.adf_findings.specs.declared.part.Part.TheVariants.{Head as HeadPart}
 use Rattle.adf_findings.specs.declared.part.Part.TheVariants.{Ext as ExtPart, Data as DataPart}
 use Rattle.adf_findings.specs.declared.part.Finding.{Finding}
 use Rattle.adf_findings.specs.declared.found.DataBlock.{DataBlock}
@@ -110,12 +110,10 @@ module _ (image : List ℕ) where
   -- what is taken was not skipped
   pub apart : {s : Course} → IsCourse image s → (r q : Role) (b c : ℕ) → Has s.walk r b → Has s.skipped q c → Same r q → ⊥
   apart (start boot root) r q b c h k same = k
-  apart (step {s = s} {r = z} clean v n g) r q b c (inl e) k same = new_apart s.skipped z r q c n.unskipped e.0 k same
-  apart (step clean v n g) r q b c (inr h) k same = apart v r q b c h k same
-  apart (step {s = s} {r = z} (reported at d) v n g) r q b c (inl e) k same = new_apart s.skipped z r q c n.unskipped e.0 k same
-  apart (step (reported at d) v n g) r q b c (inr h) k same = apart v r q b c h k same
   apart (step {s = s} {r = z} (skipped at d) v n g) r q b c h (inl e) same = new_apart s.walk z q r b n.lacks e.0 h (omega arith)
   apart (step (skipped at d) v n g) r q b c h (inr k) same = apart v r q b c h k same
+  apart (step {s = s} {r = z} _ v n g) r q b c (inl e) k same = new_apart s.skipped z r q c n.unskipped e.0 k same
+  apart (step _ v n g) r q b c (inr h) k same = apart v r q b c h k same
 
   -- the walk asks for the part, a header with the next number, in block b
   pub record Wanted (w : List (Role × ℕ)) (r : Role) (b : ℕ) : Type 0 where
@@ -145,19 +143,15 @@ module _ (image : List ℕ) where
   pub taken_wanted : {s : Course} → IsCourse image s → (r : Role) (b : ℕ) → Has s.walk r b → (Root ≡ r) ⊎ Wanted s.walk r b
   taken_wanted (start boot root) r b (inl e) = inl e.0
   taken_wanted (start boot root) r b (inr h) = absurd h
-  taken_wanted (step {s = s} {r = z} {a = a} {i = i} clean v n g) r b h = wanted_new s z a i v n r b (taken_wanted v r b) h
-  taken_wanted (step {s = s} {r = z} {a = a} {i = i} (reported at c) v n g) r b h = wanted_new s z a i v n r b (taken_wanted v r b) h
   taken_wanted (step (skipped at c) v n g) r b h = taken_wanted v r b h
+  taken_wanted (step {s = s} {r = z} {a = a} {i = i} _ v n g) r b h = wanted_new s z a i v n r b (taken_wanted v r b) h
 
   -- what was skipped is asked for in its block
   skipped_wanted : {s : Course} → IsCourse image s → (r : Role) (b : ℕ) → Has s.skipped r b → Wanted s.walk r b
   skipped_wanted (start boot root) r b h = absurd h
-  skipped_wanted (step {s = s} {r = z} {a = a} {i = i} clean v n g) r b h =
-      wanted_later s z a i (word_in image a i) v n r b (skipped_wanted v r b h)
-  skipped_wanted (step {s = s} {r = z} {a = a} {i = i} (reported at c) v n g) r b h =
-      wanted_later s z a i (word_in image a i) v n r b (skipped_wanted v r b h)
   skipped_wanted (step {s = s} {r = z} {a = a} {i = i} (skipped at c) v n g) r b (inl e) = grind (arith, common_steps, wanted_now)
   skipped_wanted (step (skipped at c) v n g) r b (inr h) = skipped_wanted v r b h
+  skipped_wanted (step {s = s} {r = z} {a = a} {i = i} _ v n g) r b h = wanted_later s z a i (word_in image a i) v n r b (skipped_wanted v r b h)
 
   -- what is asked for in one place of the order is asked for in one block
   one_wanted : (w : List (Role × ℕ)) → IsGathered image w → (r q : Role) (a i b : ℕ) → Wanted w r b → Asks image w q a i → Same r q
@@ -191,8 +185,8 @@ module _ (image : List ℕ) where
   inside (step (reported at c) v d g) r b other (inr h) = inside v r b other h
   inside (step (skipped at c) v d g) r b other h = inside v r b other h
 
-  data_inside : {s : Course} → IsCourse image s → (n k b : ℕ) → Has s.walk (Data n k) b → b < blocks image
-  data_inside v n k b h = inside v (Data n k) b (λ e. let x : first Root ≡ first (Data n k) = ap first e in omega arith) h
+  pub data_inside : {s : Course} → IsCourse image s → (n k b : ℕ) → Has s.walk (Data n k) b → b < blocks image
+  data_inside v n k b h = inside v (Data n k) b (λ e. cc) h
 
   module _ {s : Course} (v : IsCourse image s) (done : IsDone image s) where
     -- what is asked for at the end was taken or skipped, in the block that is asked for
@@ -325,36 +319,24 @@ in_findings (y ∷ ys) g (inr h) = let x = in_findings ys g h in (x.0, inr x.1, 
 
 head_part : (o : Option Part) (n p s j : ℕ) → part_role o ≡ Some (Head n p s j) → o ≡ Some (HeadPart n p s j)
 head_part (Some (HeadPart m q t i)) n p s j e = cc
-head_part (Some RootPart) n p s j e = cc
-head_part (Some (PagePart i)) n p s j e = cc
-head_part (Some (MapExtPart i)) n p s j e = cc
-head_part (Some (ExtPart m i)) n p s j e = cc
-head_part (Some (DataPart m i)) n p s j e = cc
+head_part (Some _) n p s j e = cc
 head_part None n p s j e = cc
 
 ext_part : (o : Option Part) (n k : ℕ) → part_role o ≡ Some (Ext n k) → o ≡ Some (ExtPart n k)
 ext_part (Some (ExtPart m i)) n k e = cc
-ext_part (Some RootPart) n k e = cc
-ext_part (Some (PagePart i)) n k e = cc
-ext_part (Some (MapExtPart i)) n k e = cc
-ext_part (Some (HeadPart m q t i)) n k e = cc
-ext_part (Some (DataPart m i)) n k e = cc
+ext_part (Some _) n k e = cc
 ext_part None n k e = cc
 
 data_part : (o : Option Part) (n k : ℕ) → part_role o ≡ Some (Data n k) → o ≡ Some (DataPart n k)
 data_part (Some (DataPart m i)) n k e = cc
-data_part (Some RootPart) n k e = cc
-data_part (Some (PagePart i)) n k e = cc
-data_part (Some (MapExtPart i)) n k e = cc
-data_part (Some (HeadPart m q t i)) n k e = cc
-data_part (Some (ExtPart m i)) n k e = cc
+data_part (Some _) n k e = cc
 data_part None n k e = cc
 
 ext_of : (q : Role) (n k : ℕ) → Same q (Ext n k) → q ≡ Ext n k
-ext_of q n k same = same_role q (Ext n k) same (λ a m p s j e f. let x : second (Ext n k) ≡ second (Head m p s j) = ap second f in absurd (omega arith))
+ext_of q n k same = same_role q (Ext n k) same (λ a m p s j e f. cc)
 
 data_of : (q : Role) (n k : ℕ) → Same q (Data n k) → q ≡ Data n k
-data_of q n k same = same_role q (Data n k) same (λ a m p s j e f. let x : second (Data n k) ≡ second (Head m p s j) = ap second f in absurd (omega arith))
+data_of q n k same = same_role q (Data n k) same (λ a m p s j e f. cc)
 
 pub taken_at : (image : List ℕ) (w : List (Role × ℕ)) → IsGathered image w → (q : Role) (b : ℕ) → Has w q b → at_key w (key_of q) ≡ Some b
 taken_at image w v q b h = grind (arith, common_steps, lacks_at, same_of, at_has, one_block, same_of_key)
@@ -383,10 +365,6 @@ module _ (image : List ℕ) (f : Found) {s : Course} (v : IsCourse image s) (don
     (st : Stands image f (record { walk = s.walk; skipped = s.skipped; findings = all })) where
   -- a finding that speaks against an entry concerns a part of it
   speaks : (m h : ℕ) (g : FindingValue) (o : Option Part) → In all g → g.part ≡ part_role o → node_blamed f o ≡ Some m → IsSound image s.walk all m h → ⊥
-  speaks m h g None i e z sound = cc
-  speaks m h g (Some RootPart) i e z sound = cc
-  speaks m h g (Some (PagePart k)) i e z sound = cc
-  speaks m h g (Some (MapExtPart k)) i e z sound = cc
   speaks m h g (Some (ExtPart q k)) i e z sound =
       let one : q ≡ m = cc in sound.exts k g (Ext q k) i e (same_of (Ext q k) (Ext m k) (ap (λ q. Ext q k) one))
   speaks m h g (Some (DataPart q k)) i e z sound =
@@ -406,6 +384,7 @@ module _ (image : List ℕ) (f : Found) {s : Course} (v : IsCourse image s) (don
           let head = sound.header in
           let same = same_of (head_role head) (Head m p t j) (one_head image (gathered image v) head (head_at m p t j x.0 here)).0 in
           sound.unreported g (Head q p t j) i e (sym same.0, sym same.1, sym same.2)
+  speaks m h g _ i e z sound = cc
 
   not_reported : (m h : ℕ) → IsSound image s.walk all m h → is_blamed f f.findings.items m ≡ false
   not_reported m h sound = elim (cases_Bool (is_blamed f f.findings.items m)) [

@@ -27,7 +27,6 @@ use Rattle.adf_findings.specs.Found.{at_key, data_number, entry_number, exts_fou
 
 kept_more : (part : Part) (b : ℕ) (f g h : Found) → IsKept part b f g → AreSame g h → IsKept part b f h
 kept_more (HeadPart n p s j) b f g h k e = grind (arith, common_steps)
-kept_more (ExtPart n i) b f g h k e = grind (arith, common_steps)
 kept_more _ b f g h k e = grind (arith, common_steps)
 
 pub taken_last : (part : Part) (b : ℕ) (f g h : Found) → IsKept part b f g → KeepsParts f g → IsOwned part b g h → AreSame g h → IsTaken part b f h

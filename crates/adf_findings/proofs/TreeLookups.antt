@@ -1,6 +1,6 @@
 -- Where a tree fits an image, look-up in its survey is look-up in the tree, and its files are sound, with the bytes of the tree.
 use Rattle.std.specs.Prelude.{◌==◌, ◌↔◌, Option, Some, None, cond, get_or}
-use Rattle.std.proofs.Common.{◌≡◌, ℕ, zero, suc, List, [], ◌∷◌, ◌+◌, ◌-◌, ◌≤◌, ◌<◌, true, refl, sym, ap, subst, ◌∙◌, arith}
+use Rattle.std.proofs.Common.{◌≡◌, ℕ, zero, suc, List, [], ◌∷◌, ◌-◌, ◌≤◌, ◌<◌, true, refl, sym, ap, subst, ◌∙◌, add-one, arith}
 use Rattle.adf_blocks.specs.declared.layout.TheConstants.{SECONDARY_TYPE, ST_DIR, ST_FILE}
 use Rattle.adf_base.specs.declared.hash.Letters.TheVariants.{Ascii}
 use Rattle.adf_tree.specs.Texts.{uppers_by}
@@ -43,8 +43,7 @@ module _ (image : List ℕ) (w : List (Role × ℕ)) (v : IsWalk image w) (tree 
       let holds : is_child p name (get_or entries i x) ≡ true =
       ap (is_child p name) (at_index_or entries i x x at)
       ∙ is_child_from p name x refl (subst (λ l. uppers_by l (name_of image b) ≡ uppers_by l name) plain same) in
-      let z : i + 1 ≡ suc i = omega arith in
-      child_is entries p name i x tree (at_below entries i x at) holds ∙ ap Some z
+      child_is entries p name i x tree (at_below entries i x at) holds ∙ ap Some (add-one i)
 
   entry_child : (p n : ℕ) (name : List ℕ) → child entries p name ≡ Some n → IsNamedChild image w p name n
   entry_child p zero name e = let f = found_is entries p name 0 (entry_in image w 0 0 0) e in let lt : 0 < 0 = f.0 in absurd (omega arith)

@@ -1,12 +1,7 @@
 use Rattle.std.proofs.Common.{refl, sym, subst, ◌∙◌, arith}
-use Rattle.std.specs.Prelude.{false}
-use Rattle.std.proofs.lemmas.Grind.{common_steps}
 use Rattle.adf_findings.specs.Found.{BitTells, bit_cause}
-use Rattle.adf_findings.proofs.BitSteps.{any_default, no_page, not_compared, page_tells}
+use Rattle.adf_findings.proofs.BitSteps.{any_default, no_page, page_tells}
 use Rattle.adf_findings.proofs.bits.cause_of_bit.Goals as goal
-
-pub returns-then-not-is_validated : goal.returns-then-not-is_validated
-returns-then-not-is_validated c = grind (arith, common_steps, not_compared)
 
 pub returns-in-Some : goal.returns-in-Some
 returns-in-Some c = λ s fs v st.

@@ -1,11 +1,7 @@
 use Rattle.std.specs.Prelude.{IfSome}
 use Rattle.std.proofs.Common.{◌+◌, ◌<◌, ◌≤◌, subst, sym, ◌∙◌, arith}
-use Rattle.std.proofs.lemmas.Grind.{common_steps}
 use Rattle.adf_findings.proofs.CoursePlaces.{chain_done, header_named, header_skipped, header_taken}
 use Rattle.adf_findings.proofs.course.go_through_chain.Goals as goal
-
-pub go_on-requires-clause-due : goal.go_on-requires-clause-due
-go_on-requires-clause-due c = grind (arith, common_steps, header_named)
 
 pub returns-in-None : goal.returns-in-None
 returns-in-None c =

@@ -4,11 +4,7 @@ use Rattle.adf_findings.proofs.CoursePlaces.{ext_is_named, ext_skipped, ext_take
 use Rattle.adf_findings.proofs.course.go_through_exts.Goals as goal
 
 pub loop-found-init : goal.loop-found-init
-loop-found-init c = (exts_begin c.args.image.now c.args.found.now c.requires.0 c.args.node c.args.b c.requires.1 c.requires.2, omega arith)
-
-pub go_on-requires-clause-due : goal.go_on-requires-clause-due
-go_on-requires-clause-due c =
-    let x = c.loop-found.invariant.0 in (x.course, ext_is_named x (λ e. c.loop-found-test.true (c.word.ensures ∙ e)))
+loop-found-init c = (exts_begin c.args.node c.args.b c.requires.1 c.requires.2, omega arith)
 
 pub returns-in-None-clause-datas : goal.returns-in-None-clause-datas
 returns-in-None-clause-datas c =

@@ -1,7 +1,7 @@
 use Rattle.std.specs.Prelude.{drop}
 use Rattle.std.proofs.Common.{ℕ, List, ◌+◌, sym, subst}
 use Rattle.adf_findings.specs.Lookup.{LeadsTo}
-use Rattle.adf_findings.proofs.Lookups.{leads_from, leads_on, split_at}
+use Rattle.adf_findings.proofs.Lookups.{leads_on, split_at}
 use Rattle.adf_findings.proofs.survey_result.Survey.find.Goals as goal
 
 pub returns-in-None-clause-none : goal.returns-in-None-clause-none
@@ -19,6 +19,5 @@ loop-name-preserved c = λ w fs h n.
     let before = c.loop-name.invariant w fs h n in (
       (λ y. leads_on image w c.loop-name.node c.in-Some.n n c.name-item.result rest first
           (subst (λ names. LeadsTo image w c.loop-name.node names n) split (before.0 y))),
-      (λ y. before.1 (subst (λ names. LeadsTo image w c.loop-name.node names n) (sym split)
-          (leads_from image w c.loop-name.node c.in-Some.n n c.name-item.result rest first y))),
+      (λ y. before.1 (subst (λ names. LeadsTo image w c.loop-name.node names n) (sym split) (c.in-Some.n, first, y))),
     )

@@ -1,5 +1,4 @@
 use Rattle.std.proofs.Common.{ap, subst, ◌∙◌, arith, ◌-◌, ◌/◌, ◌%◌}
-use Rattle.std.proofs.lemmas.Grind.{common_steps}
 use Rattle.adf_blocks.specs.declared.layout.TheConstants.{PAGE_BITS}
 use Rattle.adf_volume.specs.Walk.Role.{Page}
 use Rattle.adf_findings.specs.Found.{IsBitOf}
@@ -8,11 +7,7 @@ use Rattle.adf_findings.specs.Survey.{IsValidated}
 use Rattle.adf_findings.specs.SurveyResult.{IsOfSurvey, block_at}
 use Rattle.adf_findings.proofs.BitsStated.{bit_stated}
 use Rattle.adf_findings.proofs.Keeping.{tells_each}
-use Rattle.adf_findings.proofs.Openings.{page_begun}
 use Rattle.adf_findings.proofs.survey_result.Survey.is_free.Goals as goal
-
-pub returns-in_default-clause-some : goal.returns-in_default-clause-some
-returns-in_default-clause-some c = grind (arith, common_steps, page_begun)
 
 pub returns-clause-some : goal.returns-clause-some
 returns-clause-some c = λ w fs h.
