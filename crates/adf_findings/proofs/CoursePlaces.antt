@@ -71,7 +71,8 @@ module _ {image : List ℕ} {f : Found} {p slot j a i b : ℕ} (x : HasReachedHe
       })
 
   -- behind a header that was skipped its chain ends
-  pub header_skipped : {g : Found} {o : Option ℕ} → o ≡ None → IsGoneOn image x.course (HeadPart 0 p slot j) a i g o → HasReachedSlot image g p (slot + 1) b
+  pub header_skipped : {g : Found} {o : Option ℕ} → o ≡ None → IsGoneOn image x.course (HeadPart 0 p slot j) a i g o
+      → HasReachedSlot image g p (slot + 1) b
   header_skipped {g} {o} e gone =
       let on = subst (IsGoneOn image x.course (HeadPart 0 p slot j) a i g) e gone in
       rw add-one (_, moved on.holds (omega arith) (end_chain image p slot (suc j) on.holds.up_to (chain_broken image x.holds.up_to)), x.dir)
@@ -79,8 +80,8 @@ module _ {image : List ℕ} {f : Found} {p slot j a i b : ℕ} (x : HasReachedHe
   -- a chain ends where its word names no block
   pub chain_done : word_in image a i ≡ 0 → HasReachedSlot image f p (slot + 1) b
   chain_done e =
-      let v = gathered image x.holds.course in
-      rw add-one (_, moved x.holds (omega arith) (end_chain image p slot j x.holds.up_to (link_ends image x.course.walk v p slot j a i x.link e)), x.dir)
+      let end = link_ends image x.course.walk (gathered image x.holds.course) p slot j a i x.link e in
+      rw add-one (_, moved x.holds (omega arith) (end_chain image p slot j x.holds.up_to end), x.dir)
 
 -- the extension blocks of a file that are gone through
 module _ {image : List ℕ} {f : Found} {n b m a : ℕ} (x : HasReachedExt image f n b m a) where
@@ -107,7 +108,8 @@ module _ {image : List ℕ} {f : Found} {n b m a : ℕ} (x : HasReachedExt image
       })
 
   -- behind an extension block that was skipped come the data blocks
-  pub ext_skipped : {g : Found} {o : Option ℕ} → o ≡ None → IsGoneOn image x.course (ExtPart n (m + 1)) a EXTENSION g o → HasReachedData image g n b m 0
+  pub ext_skipped : {g : Found} {o : Option ℕ} → o ≡ None → IsGoneOn image x.course (ExtPart n (m + 1)) a EXTENSION g o
+      → HasReachedData image g n b m 0
   ext_skipped {g} {o} e gone = grind (arith, common_steps, gone_on, moved, end_exts, exts_broken)
 
   -- and behind the last one
@@ -140,7 +142,8 @@ module _ {image : List ℕ} {f : Found} {n b exts k : ℕ} (x : HasReachedData i
         asked = ((b, x.file, lt), subst (MemberAt image x.course.walk n (k / POINTERS)) is c.1, refl);
       })
 
-  pub data_gone : {g : Found} {o : Option ℕ} {a i : ℕ} → IsGoneOn image x.course (DataPart n (k + 1)) a i g o → HasReachedData image g n b exts (k + 1)
+  pub data_gone : {g : Found} {o : Option ℕ} {a i : ℕ} → IsGoneOn image x.course (DataPart n (k + 1)) a i g o
+      → HasReachedData image g n b exts (k + 1)
   data_gone {o = None} gone = record { course = _; holds = gone.holds; file = x.file; count = x.count }
   data_gone {o = Some c} {a} {i} gone = grind (arith, common_steps, typed_up)
 

@@ -88,7 +88,8 @@ module _ {image : List ℕ} {f : Found} {part : Part} {a i : ℕ} {s : Course} (
   AsJudged b g o = (t : Course) → Holds image f (position_of (role_of part)) t → IsNextReference image t (reference_at b)
       → IsOutcome image t (reference_at b) f g o
 
-  outcome : (b : ℕ) (g : Found) (o : Option Part) → b ≡ word_in image a i → AsJudged b g o → IsOutcome image s (reference_at (word_in image a i)) f g o
+  outcome : (b : ℕ) (g : Found) (o : Option Part) → b ≡ word_in image a i → AsJudged b g o
+      → IsOutcome image s (reference_at (word_in image a i)) f g o
   outcome b g o e judged = grind (arith, common_steps, reference_at, is_next)
 
   pub to_take : {b : ℕ} {g : Found} {o : Option Part} → b ≡ word_in image a i → AsJudged b g o → (z : Part) → o ≡ Some z

@@ -20,7 +20,7 @@ use Rattle.adf_findings.specs.Survey.IsSurvey.{read, unread}
 use Rattle.adf_findings.specs.SurveyResult.{SurveyValue, TellsOf}
 use Rattle.adf_findings.proofs.BitSteps.{at_has}
 use Rattle.adf_findings.proofs.FileBlocks.{data_is}
-use Rattle.adf_findings.proofs.FoundFiles.{file_between}
+use Rattle.adf_findings.proofs.Lookups.{file_between}
 use Rattle.adf_findings.proofs.Keys.{lacks_at, same_of_key}
 use Rattle.adf_findings.proofs.OneSurvey.{gathered}
 use Rattle.adf_findings.proofs.SoundEntries.{one_part}
@@ -66,13 +66,11 @@ held_has : (w : List (Role × ℕ)) (b n k : ℕ) → owner w b ≡ Some n → n
 held_has [] b n k e f = cc
 held_has (x ∷ w) b n k e f = elim (eqb_tells x.1 b) [
   | inl y ↦
-      inl (
-        role_is x.0 n k (ap (λ t. cond t (entry_in x.0) (owner w b)) (sym y.0) ∙ e) (ap (λ t. cond t (data_number x.0) (number_at w b)) (sym y.0) ∙ f),
-        y.1,
-      )
+      let own = ap (λ t. cond t (entry_in x.0) (owner w b)) (sym y.0) ∙ e in
+      let number = ap (λ t. cond t (data_number x.0) (number_at w b)) (sym y.0) ∙ f in inl (role_is x.0 n k own number, y.1)
   | inr y ↦
-      inr
-      (held_has w b n k (ap (λ t. cond t (entry_in x.0) (owner w b)) (sym y.0) ∙ e) (ap (λ t. cond t (data_number x.0) (number_at w b)) (sym y.0) ∙ f))
+      let own = ap (λ t. cond t (entry_in x.0) (owner w b)) (sym y.0) ∙ e in
+      let number = ap (λ t. cond t (data_number x.0) (number_at w b)) (sym y.0) ∙ f in inr (held_has w b n k own number)
 ]
 
 all_true : {A : Type 0} (p q r : Bool) (x y : A) → p ≡ true → q ≡ true → r ≡ true → cond (p && (q && r)) x y ≡ x

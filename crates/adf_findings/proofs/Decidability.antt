@@ -77,6 +77,7 @@ dec_absent (x ∷ w) b =
     map_dec (λ n q h. elim h [ inl e ↦ n.0 e.1 | inr k ↦ n.1 q k ]) (λ f. ((λ e. f x.0 (inl (refl, e))), (λ q h. f q (inr h))))
     (dec_and (dec_not (ℕ_discrete x.1 b)) (dec_absent w b))
 
+-- three together
 pub dec_all : {P Q R : Type 0} → Dec P → Dec Q → Dec R → Dec (P × Q × R)
 dec_all p q r = map_dec (λ x. (x.0, x.1.0, x.1.1)) (λ x. (x.0, (x.1, x.2))) (dec_and p (dec_and q r))
 
@@ -127,7 +128,8 @@ module _ (image : List ℕ) (w : List (Role × ℕ)) (v : IsGathered image w) wh
 
   -- whether a member is a header of a chain with a name
   dec_named : (p s c : ℕ) (name : List ℕ) (q : Role)
-      → ((m k : ℕ) × (q ≡ Head m p s k) × (uppers_in image (name_of image c) ≡ name)) ⊎ ((m k : ℕ) → q ≡ Head m p s k → uppers_in image (name_of image c) ≢ name)
+      → ((m k : ℕ) × (q ≡ Head m p s k) × (uppers_in image (name_of image c) ≡ name))
+      ⊎ ((m k : ℕ) → q ≡ Head m p s k → uppers_in image (name_of image c) ≢ name)
   dec_named p s c name (Head m x y k) =
       elim (ℕ_discrete x p) [
         | no n ↦ inr (λ a b e. absurd (n cc))
@@ -160,7 +162,8 @@ module _ (image : List ℕ) (w : List (Role × ℕ)) (v : IsGathered image w) wh
   dec_new _ b = yes tt
 
   pub decided : (r : Role) (a b : ℕ) → Decided (demands_in image w r a b)
-  decided r a b = (dec_enough r, (dec_range b, (dec_absent w b, decided_append (form_demands_in image w r b) _ (decided_forms r b) (dec_new r b, tt))))
+  decided r a b =
+      (dec_enough r, (dec_range b, (dec_absent w b, decided_append (form_demands_in image w r b) _ (decided_forms r b) (dec_new r b, tt))))
 
   dec_free : (b : ℕ) → Dec (IsFreeIn image w b)
   dec_free b =

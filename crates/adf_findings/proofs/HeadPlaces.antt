@@ -30,7 +30,8 @@ head_parent image (step {w = w} {r = r} a i c v d l) n p s j b (inr h) =
     let u : (1 ≤ n) × (n ≤ heads w) = number_of image v (head_at n p s j b h) in
     other_parent image w n r a i (parent_node w n) d (omega arith) ∙ head_parent image v n p s j b h
 
-get_cases : {A : Type 0} (xs : List A) (x y : A) (k : ℕ) → slice_get (xs ++ x ∷ []) k ≡ Some y → (slice_get xs k ≡ Some y) ⊎ ((k ≡ length xs) × (x ≡ y))
+get_cases : {A : Type 0} (xs : List A) (x y : A) (k : ℕ) → slice_get (xs ++ x ∷ []) k ≡ Some y
+    → (slice_get xs k ≡ Some y) ⊎ ((k ≡ length xs) × (x ≡ y))
 get_cases [] x y zero e = inr (refl, cc)
 get_cases [] x y (suc k) e = cc
 get_cases (z ∷ xs) x y zero e = inl e

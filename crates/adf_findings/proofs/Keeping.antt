@@ -31,8 +31,8 @@ use Rattle.adf_findings.proofs.Starts.{course_size}
 use Rattle.adf_findings.proofs.Taking.{stands_but}
 
 -- of an image of which nothing is taken the findings are kept alone
-pub unread_kept : (v : SurveyValue) → UnreadTells v.image (map finding_value v.findings) → v.concerned ≡ [] → v.owners ≡ [] → v.numbers ≡ [] → v.taken ≡ []
-    → v.nodes ≡ []
+pub unread_kept : (v : SurveyValue) → UnreadTells v.image (map finding_value v.findings) → v.concerned ≡ [] → v.owners ≡ [] → v.numbers ≡ []
+    → v.taken ≡ [] → v.nodes ≡ []
     → v.parents ≡ [] → v.sound ≡ [] → v.whole ≡ [] → IsOfSurvey v
 unread_kept v told concerned owners numbers taken nodes parents sound whole = (
   [],

@@ -72,8 +72,8 @@ tells_new image [] p s name = λ m k c h. absurd h
 tells_new image (x ∷ w) p s name =
     go (is_named image x.0 x.1 p s name) (has_name image w p s name) (tells_named image x.0 x.1 p s name) (tells_new image w p s name)
   where
-    go : (t u : Bool) → Tells (not t) ((m k : ℕ) → x.0 ≡ Head m p s k → uppers_in image (name_of image x.1) ≢ name) → Tells (not u) (Fresh image p s name w)
-        → Tells (not (t || u)) (Fresh image p s name (x ∷ w))
+    go : (t u : Bool) → Tells (not t) ((m k : ℕ) → x.0 ≡ Head m p s k → uppers_in image (name_of image x.1) ≢ name)
+        → Tells (not u) (Fresh image p s name w) → Tells (not (t || u)) (Fresh image p s name (x ∷ w))
     go true u h k = λ f. h (λ m i e. f m i x.1 (inl (e, refl)))
     go false true h k = λ f. k (λ m i c g. f m i c (inr g))
     go false false h k = grind (arith, common_steps)

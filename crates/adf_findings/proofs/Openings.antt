@@ -12,7 +12,7 @@ use Rattle.adf_findings.specs.Files.{counting, grave}
 use Rattle.adf_findings.specs.SoundMarks.{AreMarks, mark_in, whole_in}
 use Rattle.adf_findings.specs.Marks.{has_mark}
 use Rattle.adf_findings.specs.Sound.{IsSound}
-use Rattle.adf_findings.specs.Survey.{BootTells, FindingValue, IsSurvey, RootTells, UnreadTells}
+use Rattle.adf_findings.specs.Survey.{BootTells, FindingValue, IsSurvey, OnSurvey, RootTells, UnreadTells}
 use Rattle.adf_findings.specs.Survey.IsSurvey.{read, unread}
 use Rattle.adf_findings.specs.SurveyResult.{IsOfSurvey, SurveyValue}
 use Rattle.adf_findings.proofs.Keeping.{root_no_entry, tells_each}
@@ -24,8 +24,8 @@ some_part image w start e = cc
 some_part image w (step a i b v asked lacks) e = cc
 
 -- the walk of an image whose root is taken is not empty
-pub begun_walk : (image : List ℕ) (w : List (Role × ℕ)) (fs boot root : List FindingValue) → IsSurvey image w fs → BootTells image boot → RootTells image root
-    → w ≡ [] → ⊥
+pub begun_walk : (image : List ℕ) (w : List (Role × ℕ)) (fs boot root : List FindingValue) → IsSurvey image w fs → BootTells image boot
+    → RootTells image root → w ≡ [] → ⊥
 begun_walk image w fs boot root (unread f) b r e = not_unread image b r f
 begun_walk image w fs boot root (read {s = s} v d t) b r e = some_part image s.walk (gathered image v) e
 
@@ -60,9 +60,8 @@ marks_by v c marks w fs h are n = elim (cases_lt 0 n) [
       rw e ((λ t. cc), (λ s. absurd (no s)))
 ]
 
-pub kept_marks : (v : SurveyValue) → IsOfSurvey v → (w : List (Role × ℕ)) (fs : List FindingValue) → IsSurvey v.image w fs → AreMarks v.image w fs (mark_in v)
+pub kept_marks : (v : SurveyValue) → IsOfSurvey v → OnSurvey v.image (λ w fs. AreMarks v.image w fs (mark_in v))
 kept_marks v k w fs h = marks_by v false v.sound w fs h (tells_each v k w fs h).sound
 
-pub whole_marks : (v : SurveyValue) → IsOfSurvey v → (w : List (Role × ℕ)) (fs : List FindingValue) → IsSurvey v.image w fs
-    → AreMarks v.image w (grave fs) (whole_in v)
+pub whole_marks : (v : SurveyValue) → IsOfSurvey v → OnSurvey v.image (λ w fs. AreMarks v.image w (grave fs) (whole_in v))
 whole_marks v k w fs h = marks_by v true v.whole w fs h (tells_each v k w fs h).whole

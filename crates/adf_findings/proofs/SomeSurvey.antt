@@ -127,7 +127,8 @@ module _ (image : List ℕ) where
   abbrev Covers : List Role → Course → Type 0
   Covers rs s = (r : Role) (a i : ℕ) → Asks image s.walk r a i → Lacks s.walk r → Lacks s.skipped r → Listed s.walk rs r
 
-  module _ (free : List ℕ) (again : (rest : List ℕ) → length free ≡ suc (length rest) → (s : Course) → IsCourse image s → Frees rest s → Finished) where
+  module _ (free : List ℕ)
+      (again : (rest : List ℕ) → length free ≡ suc (length rest) → (s : Course) → IsCourse image s → Frees rest s → Finished) where
     -- a part is taken, and its block is free no more
     took : (w over : List (Role × ℕ)) (fs : List FindingValue) (r : Role) (b : ℕ)
         → IsCourse image (record { walk = (r, b) ∷ w; skipped = over; findings = fs })
@@ -197,7 +198,8 @@ module _ (image : List ℕ) where
   finish : (n : ℕ) (free : List ℕ) → length free ≡ n → (s : Course) → IsCourse image s → Frees free s → Finished
   finish zero free long s v fr =
       let rs : List Role = askable pages s.walk in
-      judge_all free (λ rest k. absurd (omega arith)) (length rs) rs refl s v fr (λ r a i ask lack unskipped. covered s.walk (gathered image v) r a i ask)
+      judge_all free (λ rest k. absurd (omega arith)) (length rs) rs refl s v fr
+      (λ r a i ask lack unskipped. covered s.walk (gathered image v) r a i ask)
   finish (suc n) free long s v fr =
       let rs : List Role = askable pages s.walk in
       judge_all free (λ rest k. finish n rest (omega arith)) (length rs) rs refl s v fr

@@ -41,9 +41,10 @@ module _ (image : List ℕ) where
   pub skipped_reported : {s : Course} → IsCourse image s → (r : Role) (b : ℕ) → Has s.skipped r b → Reported s.findings r
   skipped_reported (start boot root) r b h = absurd h
   skipped_reported (step {s = s} {r = q} {a = a} {i = i} clean v n g) r b h = skipped_reported v r b h
-  skipped_reported (step {s = s} {r = q} {a = a} {i = i} (reported at c) v n g) r b h = reported_more s.findings (finding (Some q) at c ∷ []) r
-      (skipped_reported v r b h)
-  skipped_reported (step {s = s} {r = q} {a = a} {i = i} (skipped at c) v n g) r b (inl e) = reported_now s.findings r (finding (Some q) at c) (ap Some e.0)
+  skipped_reported (step {s = s} {r = q} {a = a} {i = i} (reported at c) v n g) r b h =
+      reported_more s.findings (finding (Some q) at c ∷ []) r (skipped_reported v r b h)
+  skipped_reported (step {s = s} {r = q} {a = a} {i = i} (skipped at c) v n g) r b (inl e) =
+      reported_now s.findings r (finding (Some q) at c) (ap Some e.0)
   skipped_reported (step {s = s} {r = q} {a = a} {i = i} (skipped at c) v n g) r b (inr h) =
       reported_more s.findings (finding (Some q) at c ∷ []) r (skipped_reported v r b h)
 
@@ -170,7 +171,8 @@ module _ (image : List ℕ) where
     file_was w n a h g older f file =
         head_block image g f.header ∙ file_one image (gathered image v) n a h (typed_in f (older (head_role f.header) a f.header.has)) file
 
-    ext_formed : (n k b h : ℕ) → Has s.walk (Ext n k) b → IsUnreported s.findings (Ext n k) → FileAt image s.walk n h → AllHold (ext_demands image b h)
+    ext_formed : (n k b h : ℕ) → Has s.walk (Ext n k) b → IsUnreported s.findings (Ext n k) → FileAt image s.walk n h
+        → AllHold (ext_demands image b h)
     ext_formed n k b h g clear file =
         let x = came_formed (Ext n k) b g (λ e. cc) clear in
         let d = asked_file image x.0.came_before n k x.0.at x.0.index x.0.asked in
@@ -198,7 +200,8 @@ module _ (image : List ℕ) where
       member_before w zero a older f = file_before w a older f
       member_before w (suc m) a older f = older (Ext n (suc m)) a f
 
-      data_clean : (k b : ℕ) → Has s.walk (Data n k) b → (y : Came s.walk s.findings (Data n k) b) × AllHold (demands_in image y.before (Data n k) y.at b)
+      data_clean : (k b : ℕ) → Has s.walk (Data n k) b → (y : Came s.walk s.findings (Data n k) b)
+          × AllHold (demands_in image y.before (Data n k) y.at b)
       data_clean k b g = came_clean (Data n k) b g (λ e. cc) (clear k)
 
       enough : data_count image h ≤ POINTERS * suc (ext_count s.walk n)
@@ -299,7 +302,7 @@ module _ (image : List ℕ) where
         data_formed k b g =
             let x = data_clean (suc k) b g in
             let y = x.0 in
-            let form : AllHold (form_demands_in image y.before (Data n (suc k)) b) = (part_holds_by (letters_of image) image y.before (Data n (suc k)) y.at b x.1).form in
+            let form = (part_holds_by (letters_of image) image y.before (Data n (suc k)) y.at b x.1).form in
             let d = y.asked.0 in
             let e : node_block y.before n ≡ h = file_was y.before n d.0 h y.came_before y.older d.1 file in
             let next : ℕ = next_data image y.before n (suc k) in (

@@ -1,8 +1,8 @@
 -- The marks of a finished course are those of its sound entries.
-use Rattle.std.specs.Prelude.{Bool, true, false, cond, not, ◌==◌, ◌||◌, ◌&&◌, nat_lt, map, Option, Some, None, slice_index_or, ◌↔◌}
+use Rattle.std.specs.Prelude.{Bool, true, false, cond, not, ◌==◌, ◌&&◌, nat_lt, map, Option, Some, None, slice_index_or, ◌↔◌}
 use Rattle.std.proofs.Common.{◌≡◌, ℕ, suc, List, [], ◌∷◌, ◌++◌, length, ◌⊎◌, inl, inr, ◌<◌, ◌≤◌, refl, sym, ap, subst, ◌∙◌, arith}
 use Rattle.std.specs.Option.{option_map}
-use Rattle.std.proofs.lemmas.Bool.{and_parts, cases_Bool, eqb-true, eq-eqb}
+use Rattle.std.proofs.lemmas.Bool.{and_parts, cases_Bool, eq-eqb, eqb-true, not-true, or_cases, or_parts}
 use Rattle.std.proofs.lemmas.Bool.Decides.{nat_tests}
 use Rattle.std.proofs.lemmas.Grind.{common_steps}
 use Rattle.adf_tree.specs.declared.entry.Kind.{Kind}
@@ -164,11 +164,10 @@ module _ (image : List ℕ) where
 
   owner_of : (w : List (Role × ℕ)) (b : ℕ) → owns w b ≡ true → (q : Role) × Has w q b
   owner_of [] b e = cc
-  owner_of (x ∷ w) b e = go (x.1 == b) refl e (owner_of w b)
-    where
-      go : (t : Bool) → (x.1 == b) ≡ t → (t || owns w b) ≡ true → (owns w b ≡ true → (q : Role) × Has w q b) → (q : Role) × Has (x ∷ w) q b
-      go true f e again = (x.0, inl (refl, eqb-true x.1 b f))
-      go false f e again = let y = again e in (y.0, inr y.1)
+  owner_of (x ∷ w) b e = elim (or_cases (x.1 == b) (owns w b) e) [
+    | inl t ↦ (x.0, inl (refl, eqb-true x.1 b t))
+    | inr n ↦ let y = owner_of w b n in (y.0, inr y.1)
+  ]
 
   no_owner_has : (w : List (Role × ℕ)) (q : Role) (b : ℕ) → owns w b ≡ false → Has w q b → ⊥
   no_owner_has w q b e h =
@@ -235,44 +234,30 @@ node_blamed f o = option_map node_of (blamed f o)
 blamed_by : (f : Found) (xs : List Finding) (m : ℕ) → is_blamed f xs m ≡ true
     → (x : Finding) × In xs x × (node_blamed f x.part ≡ Some m)
 blamed_by f [] m e = cc
-blamed_by f (x ∷ xs) m e = go (is_node (node_blamed f x.part) m) refl e (blamed_by f xs m)
-  where
-    go : (t : Bool) → is_node (node_blamed f x.part) m ≡ t → (t || is_blamed f xs m) ≡ true
-        → (is_blamed f xs m ≡ true → (y : Finding) × In xs y × (node_blamed f y.part ≡ Some m))
-        → (y : Finding) × In (x ∷ xs) y × (node_blamed f y.part ≡ Some m)
-    go true k e again = (x, inl refl, node_is (node_blamed f x.part) m k)
-    go false k e again = let y = again e in (y.0, inr y.1, y.2)
+blamed_by f (x ∷ xs) m e = elim (or_cases (is_node (node_blamed f x.part) m) (is_blamed f xs m) e) [
+  | inl t ↦ (x, inl refl, node_is (node_blamed f x.part) m t)
+  | inr n ↦ let y = blamed_by f xs m n in (y.0, inr y.1, y.2)
+]
 
 not_blamed : (f : Found) (xs : List Finding) (m : ℕ) (x : Finding) → is_blamed f xs m ≡ false → In xs x
     → node_blamed f x.part ≡ Some m → ⊥
 not_blamed f [] m x e h b = h
 not_blamed f (y ∷ xs) m x e (inl z) b = grind (arith, common_steps, node_blamed, node_yes)
-not_blamed f (y ∷ xs) m x e (inr h) b = go (is_node (node_blamed f y.part) m) e (λ e. not_blamed f xs m x e h b)
-  where
-    go : (t : Bool) → (t || is_blamed f xs m) ≡ false → (is_blamed f xs m ≡ false → ⊥) → ⊥
-    go true e again = cc
-    go false e again = again e
+not_blamed f (y ∷ xs) m x e (inr h) b = not_blamed f xs m x (or_parts (is_node (node_blamed f y.part) m) (is_blamed f xs m) e).1 h b
 
 sharing_by : (avoided : List Bool) (ds : List DataBlock) (m : ℕ) → is_sharing avoided ds m ≡ true
     → (d : DataBlock) × In ds d × (sharing avoided d ≡ Some m)
 sharing_by avoided [] m e = cc
-sharing_by avoided (d ∷ ds) m e = go (is_node (sharing avoided d) m) refl e (sharing_by avoided ds m)
-  where
-    go : (t : Bool) → is_node (sharing avoided d) m ≡ t → (t || is_sharing avoided ds m) ≡ true
-        → (is_sharing avoided ds m ≡ true → (x : DataBlock) × In ds x × (sharing avoided x ≡ Some m))
-        → (x : DataBlock) × In (d ∷ ds) x × (sharing avoided x ≡ Some m)
-    go true f e again = (d, inl refl, node_is (sharing avoided d) m f)
-    go false f e again = let y = again e in (y.0, inr y.1, y.2)
+sharing_by avoided (d ∷ ds) m e = elim (or_cases (is_node (sharing avoided d) m) (is_sharing avoided ds m) e) [
+  | inl t ↦ (d, inl refl, node_is (sharing avoided d) m t)
+  | inr n ↦ let y = sharing_by avoided ds m n in (y.0, inr y.1, y.2)
+]
 
 not_sharing : (avoided : List Bool) (ds : List DataBlock) (m : ℕ) (d : DataBlock) → is_sharing avoided ds m ≡ false → In ds d
     → sharing avoided d ≡ Some m → ⊥
 not_sharing avoided [] m d e h s = h
 not_sharing avoided (x ∷ ds) m d e (inl z) s = grind (arith, common_steps, node_yes)
-not_sharing avoided (x ∷ ds) m d e (inr h) s = go (is_node (sharing avoided x) m) e (λ e. not_sharing avoided ds m d e h s)
-  where
-    go : (t : Bool) → (t || is_sharing avoided ds m) ≡ false → (is_sharing avoided ds m ≡ false → ⊥) → ⊥
-    go true e again = cc
-    go false e again = again e
+not_sharing avoided (x ∷ ds) m d e (inr h) s = not_sharing avoided ds m d (or_parts (is_node (sharing avoided x) m) (is_sharing avoided ds m) e).1 h s
 
 -- what makes a file a sharing one
 sharing_is : (avoided : List Bool) (d : DataBlock) (m : ℕ) → sharing avoided d ≡ Some m
@@ -364,7 +349,8 @@ module _ (image : List ℕ) (f : Found) {s : Course} (v : IsCourse image s) (don
     (tells : BitsTell image s b n bits) (all : List FindingValue) (are : (g : FindingValue) → In all g → In (s.findings ++ bits) g)
     (st : Stands image f (record { walk = s.walk; skipped = s.skipped; findings = all })) where
   -- a finding that speaks against an entry concerns a part of it
-  speaks : (m h : ℕ) (g : FindingValue) (o : Option Part) → In all g → g.part ≡ part_role o → node_blamed f o ≡ Some m → IsSound image s.walk all m h → ⊥
+  speaks : (m h : ℕ) (g : FindingValue) (o : Option Part) → In all g → g.part ≡ part_role o → node_blamed f o ≡ Some m
+      → IsSound image s.walk all m h → ⊥
   speaks m h g (Some (ExtPart q k)) i e z sound =
       let one : q ≡ m = cc in sound.exts k g (Ext q k) i e (same_of (Ext q k) (Ext m k) (ap (λ q. Ext q k) one))
   speaks m h g (Some (DataPart q k)) i e z sound =
@@ -470,10 +456,6 @@ module _ (image : List ℕ) (f : Found) {s : Course} (v : IsCourse image s) (don
         alone = alone_clear m free;
       }
 
-  not_false : (t : Bool) → not t ≡ true → t ≡ false
-  not_false false e = refl
-  not_false true e = cc
-
   -- the nodes that nothing is said against are the sound entries
   pub clear_is_sound : (m : ℕ) → 1 ≤ m → (is_clear image f m ≡ true) ↔ IsSound image s.walk all m (node_block s.walk m)
   clear_is_sound m lo = (
@@ -482,7 +464,7 @@ module _ (image : List ℕ) (f : Found) {s : Course} (v : IsCourse image s) (don
         let y = and_parts (not (is_blamed f f.findings.items m)) (not (is_doubtful (kind_of image) f m)) x.1 in
         let count : length f.nodes.items ≡ suc (heads s.walk) = st.count in
         let lt : m < length f.nodes.items = (let z = x.0 in grind (arith, nat_tests)) in
-        clear_sound m lo (omega arith) (not_false (is_blamed f f.findings.items m) y.0) (not_false (is_doubtful (kind_of image) f m) y.1)),
+        clear_sound m lo (omega arith) (not-true (is_blamed f f.findings.items m) y.0) (not-true (is_doubtful (kind_of image) f m) y.1)),
     (λ sound.
         let few = number_of image (gathered image v) sound.header in
         let count : length f.nodes.items ≡ suc (heads s.walk) = st.count in

@@ -115,7 +115,8 @@ module _ (image : List ℕ) (w : List (Role × ℕ)) (v : IsWalk image w) (tree 
         ap (λ h. content image (kind_of image) h (datas_in w n)) here ∙ sym x.2,
       )
 
-module _ (image : List ℕ) (t : Tree) (l : Layout) (w : List (Role × ℕ)) (fs : List FindingValue) (fit : Fits image t l) (survey : IsSurvey image w fs) where
+module _ (image : List ℕ) (t : Tree) (l : Layout) (w : List (Role × ℕ)) (fs : List FindingValue) (fit : Fits image t l)
+    (survey : IsSurvey image w fs) where
   none : fs ≡ []
   none = finds_none image t l w fs fit survey
 
@@ -133,7 +134,8 @@ module _ (image : List ℕ) (t : Tree) (l : Layout) (w : List (Role × ℕ)) (fs
 
   pub paths_as_in_tree : (path : List (List ℕ)) (n : ℕ) → LeadsTo image w 0 path n ↔ (find t.entries path ≡ Some n)
   paths_as_in_tree path n =
-      subst (λ (t : Tree). LeadsTo image w 0 path n ↔ (find t.entries path ≡ Some n)) same (paths_lead image w (shown image clean).1 made.tree plain path n)
+      subst (λ (t : Tree). LeadsTo image w 0 path n ↔ (find t.entries path ≡ Some n)) same
+      (paths_lead image w (shown image clean).1 made.tree plain path n)
 
   pub files_as_in_tree : (n : ℕ) (e : Entry) (bytes : List ℕ) → entry t.entries n ≡ Some e → e.body ≡ File bytes
       → IsSoundFile image w fs n × (file_content (file_in image w n) ≡ bytes)

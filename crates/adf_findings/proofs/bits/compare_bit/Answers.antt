@@ -6,5 +6,6 @@ use Rattle.adf_findings.proofs.bits.compare_bit.Goals as goal
 pub returns-in-Some : goal.returns-in-Some
 returns-in-Some c =
     on_ok_weaker c.report.result
-    (λ n. some_on c.args.image.now c.args.found.now c.report.new.self c.args.b c.in-Some.cause _ c.requires.low refl c.in-Some.ensures n c.requires.reported)
+    (λ n. some_on c.args.image.now c.args.found.now c.report.new.self c.args.b c.in-Some.cause _ c.requires.low refl c.in-Some.ensures
+    n c.requires.reported)
     c.report.ensures

@@ -16,8 +16,8 @@ returns-clause-some c = λ w fs h.
     let valid = subst IsValidated image (c.is_validated.ensures.0 c.if-not-is_validated.false) in
     let bit = subst (λ i. IsBitOf i c.self.inside.taken ((c.args.b - 2) / PAGE_BITS) ((c.args.b - 2) % PAGE_BITS) c.bit_of.result) image
     (rw (← c.place_of-page.ensures.page, ← c.place_of-page.ensures.bit) c.bit_of.ensures) in
-    (bit_stated c.args.self.now.image w fs h c.self.inside.taken (λ i. ap (λ v. block_at v.taken (key_of (Page i))) c.self.view_is ∙ t.page i) c.args.b
-    (omega (arith, c.if-b-lt2.false)) valid c.bit_of.result bit).0
+    (bit_stated c.args.self.now.image w fs h c.self.inside.taken (λ i. ap (λ v. block_at v.taken (key_of (Page i))) c.self.view_is ∙ t.page i)
+    c.args.b (omega (arith, c.if-b-lt2.false)) valid c.bit_of.result bit).0
 
 pub returns-clause-free : goal.returns-clause-free
 returns-clause-free c = λ w fs h.
@@ -26,5 +26,5 @@ returns-clause-free c = λ w fs h.
     let valid = subst IsValidated image (c.is_validated.ensures.0 c.if-not-is_validated.false) in
     let bit = subst (λ i. IsBitOf i c.self.inside.taken ((c.args.b - 2) / PAGE_BITS) ((c.args.b - 2) % PAGE_BITS) c.bit_of.result) image
     (rw (← c.place_of-page.ensures.page, ← c.place_of-page.ensures.bit) c.bit_of.ensures) in
-    (bit_stated c.args.self.now.image w fs h c.self.inside.taken (λ i. ap (λ v. block_at v.taken (key_of (Page i))) c.self.view_is ∙ t.page i) c.args.b
-    (omega (arith, c.if-b-lt2.false)) valid c.bit_of.result bit).1
+    (bit_stated c.args.self.now.image w fs h c.self.inside.taken (λ i. ap (λ v. block_at v.taken (key_of (Page i))) c.self.view_is ∙ t.page i)
+    c.args.b (omega (arith, c.if-b-lt2.false)) valid c.bit_of.result bit).1
