@@ -13,7 +13,8 @@ pub put-requires : goal.put-requires
 put-requires c =
     let next = c.requires.next in
     let low : 1 ≤ c.args.n = omega (arith, next.number) in
-    let rooms = c.in_ok-room.ensures c.requires.ground c.requires.walk c.requires.findings c.requires.verdicts c.requires.survey c.requires.state low next.within in
+    let r = c.requires in
+    let rooms = c.in_ok-room.ensures r.ground r.walk r.findings r.verdicts r.survey r.state low next.within in
     let some = room_some c.args.self.now.draft _ c.in-Some-2.room (rw c.in-Some-2.is at rooms) in
     (some.0, some.2)
 

@@ -11,7 +11,8 @@ returns-in-Some c = λ v gs before w fs sound survey marks us vs is next.
     let g : Ground = record { given = c.args.before.now.image; walk = v; verdicts = us } in
     let b : Basis = as_given c.args.before.now.image (record { image = c.args.survey.now.image; walk = w; sound = sound }) in
     let low : 1 ≤ c.args.n = omega (arith, next.number) in
-    let known : owner v (node_block w c.args.n) ≡ Some c.in-Some.m = sym (c.known_as.ensures v gs before w fs survey low next.within) ∙ c.in-Some.is in
+    let known : owner v (node_block w c.args.n) ≡ Some c.in-Some.m =
+    sym (c.known_as.ensures v gs before w fs survey low next.within) ∙ c.in-Some.is in
     subst (λ (x : Verdict). OnOk c.keep_known.result (IsSalvage g (vs ++ x ∷ []) c.keep_known.new.self))
     (sym (ap (λ o. unless_known g o (verdict_anew g b vs c.args.n)) known)) (c.keep_known.ensures g vs is)
 
