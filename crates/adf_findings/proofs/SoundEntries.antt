@@ -162,7 +162,7 @@ module _ (image : List ℕ) where
         let d = asked_dir image x.0.came_before n p t j x.0.at x.0.index x.0.asked in
         let f : NodeAt w p d.0 = dir_is_node image w p d.0 d.1 in
         let e : node_block w p ≡ up =
-        node_is image x.0.came_before p d.0 f ∙ node_one image (gathered image v) p d.0 up (node_before w p d.0 x.0.older f) node in
+        ◌∙◌ {b = d.0} (node_is image x.0.came_before p d.0 f) (node_one image (gathered image v) p d.0 up (node_before w p d.0 x.0.older f) node) in
         subst (λ up. AllHold (head_demands_in image (kind_of image) h up t)) e x.1
 
     -- the file of a part is that of the walk

@@ -133,9 +133,7 @@ module _ (image : List ℕ) (t : Tree) (l : Layout) (w : List (Role × ℕ)) (fs
   same = sym (one_fit image t (tree_in image w) l (layout_in w) fit made).0
 
   pub paths_as_in_tree : (path : List (List ℕ)) (n : ℕ) → LeadsTo image w 0 path n ↔ (find t.entries path ≡ Some n)
-  paths_as_in_tree path n =
-      subst (λ (t : Tree). LeadsTo image w 0 path n ↔ (find t.entries path ≡ Some n)) same
-      (paths_lead image w (shown image clean).1 made.tree plain path n)
+  paths_as_in_tree path n = rw (← same) (paths_lead image w (shown image clean).1 made.tree plain path n)
 
   pub files_as_in_tree : (n : ℕ) (e : Entry) (bytes : List ℕ) → entry t.entries n ≡ Some e → e.body ≡ File bytes
       → IsSoundFile image w fs n × (file_content (file_in image w n) ≡ bytes)
@@ -145,6 +143,4 @@ module _ (image : List ℕ) (t : Tree) (l : Layout) (w : List (Role × ℕ)) (fs
 
   pub entries_as_in_tree : (n : ℕ) → IsSoundFile image w fs n
       → (e : Entry) × (entry t.entries n ≡ Some e) × (e.body ≡ File (file_content (file_in image w n)))
-  entries_as_in_tree n sound =
-      subst (λ (t : Tree). (e : Entry) × (entry t.entries n ≡ Some e) × (e.body ≡ File (file_content (file_in image w n)))) same
-      (sound_entry image w (shown image clean).1 made.tree plain fs n sound)
+  entries_as_in_tree n sound = rw (← same) (sound_entry image w (shown image clean).1 made.tree plain fs n sound)
