@@ -1,11 +1,8 @@
-use Rattle.std.proofs.Common.{◌≡◌, ◌≤◌, ◌<◌, ◌++◌, ◌∷◌, ◌∙◌, ◌^◌, ℕ, List, Some, None, cond, [], ap, arith, length, subst, sym}
-use Rattle.std.specs.Prelude.{OnOk}
+use Rattle.std.proofs.Common.{◌≡◌, ◌≤◌, ◌<◌, ◌∙◌, ◌^◌, ℕ, List, Some, None, cond, ap, arith, length, subst, sym}
 use Rattle.std.proofs.lemmas.Result.{on_ok_weaker}
 use Rattle.adf_tree.specs.declared.entry.Body.TheVariants.{Dir}
 use Rattle.adf_tree.specs.Draft.{DraftValue, IsDirectoryOf}
 use Rattle.adf_tree.specs.Additions.{Addition}
-use Rattle.adf_rescue.specs.Rescue.{Verdict}
-use Rattle.adf_rescue.specs.Salvage.{IsSalvage}
 use Rattle.adf_rescue.proofs.Steps.{added_more, fits_not, new_place}
 use Rattle.adf_rescue.proofs.salvage.Salvage.put.Goals as goal
 
@@ -13,8 +10,7 @@ pub returns-then-cost-from : goal.returns-then-cost-from
 returns-then-cost-from c = λ g vs path is room at.
     let x : Addition = record { path = path; meta = c.args.meta; body = c.args.body } in
     let short : c.args.self.now.left < c.cost_of-cost.result = omega arith in
-    subst (λ (v : Verdict). OnOk c.leave.result (IsSalvage g (vs ++ v ∷ []) c.leave.new.self))
-    (sym (fits_not g vs c.args.self.now x is c.cost_of-cost.result c.cost_of-cost.ensures short)) (c.leave.ensures g vs is at)
+    rw (fits_not g vs c.args.self.now x is c.cost_of-cost.result c.cost_of-cost.ensures short) (c.leave.ensures g vs is at)
 
 pub returns : goal.returns
 returns c = λ g vs path is room at.
