@@ -1,7 +1,7 @@
-use Rattle.std.proofs.Common.{◌≡◌, ◌≤◌, ◌<◌, ◌∙◌, ◌^◌, ℕ, List, Some, None, cond, ap, arith, length, subst, sym}
+use Rattle.std.proofs.Common.{◌≡◌, ◌≤◌, ◌<◌, ◌∙◌, ◌^◌, ℕ, List, Some, None, cond, ap, arith, length}
 use Rattle.std.proofs.lemmas.Result.{on_ok_weaker}
 use Rattle.adf_tree.specs.declared.entry.Body.TheVariants.{Dir}
-use Rattle.adf_tree.specs.Draft.{DraftValue, IsDirectoryOf}
+use Rattle.adf_tree.specs.Draft.{IsDirectoryOf}
 use Rattle.adf_tree.specs.Additions.{Addition}
 use Rattle.adf_rescue.proofs.Steps.{added_more, fits_not, new_place}
 use Rattle.adf_rescue.proofs.salvage.Salvage.put.Goals as goal
@@ -22,10 +22,9 @@ returns c = λ g vs path is room at.
     let number = c.len.ensures ∙ count in
     let drafts = ap (λ r. r.draft) rest in
     let dirs : (dir : List (List ℕ)) (m : ℕ) → IsDirectoryOf c.args.self.now.draft dir m → IsDirectoryOf c.keep_place.new.self.draft dir m =
-    λ dir m h. subst (λ (d : DraftValue). IsDirectoryOf d dir m) (sym drafts) (c.in_ok-put.ensures.directories path dir m room h) in
+    λ dir m h. rw drafts (c.in_ok-put.ensures.directories path dir m room h) in
     let fresh : c.args.body ≡ Dir → IsDirectoryOf c.keep_place.new.self.draft path c.len.result =
-    λ dir. subst (λ (d : DraftValue). IsDirectoryOf d path c.len.result) (sym drafts)
-    (subst (λ m. IsDirectoryOf c.put.new.self path m) (sym number) (c.in_ok-put.ensures.directory path room dir)) in
+    λ dir. rw (drafts, number) (c.in_ok-put.ensures.directory path room dir) in
     let place = c.place_if-place.ensures ∙ ap (λ b. cond b (Some c.len.result) None) c.is_directory-adds_directory.ensures in
     on_ok_weaker c.keep_place.result (λ places.
     added_more g vs c.args.self.now x is c.cost_of-cost.result c.cost_of-cost.ensures c.keep_place.new.self c.place_if-place.result small enough
