@@ -28,17 +28,11 @@ empty_get : {K X : Type 0} (m : BTreeMap K X) (test : K → Bool) → IsEmpty m 
 empty_get m test e = ap (lookup test) e
 
 pub none_default : {A : Type 0} (n : ℕ) (x : A) (b : ℕ) → slice_index_or (replicate n x) b x ≡ x
-none_default zero x b = refl
-none_default (suc n) x zero = refl
-none_default (suc n) x (suc b) = none_default n x b
+none_default n x b = grind (arith, common_steps)
 
 pub all_free : (n : ℕ) → unowned (replicate n false) ≡ n
 all_free zero = refl
 all_free (suc n) = ap suc (all_free n)
-
-no_parent : (n : ℕ) → slice_index (0 ∷ []) n ≡ 0
-no_parent zero = refl
-no_parent (suc n) = refl
 
 one_node : (b n : ℕ) → slice_index (b ∷ []) n ≡ cond (n == 0) b 0
 one_node b zero = refl
@@ -47,9 +41,9 @@ one_node b (suc n) = grind (arith, common_steps, eqb_tells)
 -- nothing is found but the root
 pub stands_begun : (image : List ℕ) (f g h : Found) → IsEmpty f.taken → f.owned.items ≡ replicate (blocks image) false
     → f.owners.items ≡ replicate (blocks image) 0 → f.numbers.items ≡ replicate (blocks image) 0 → f.avoided.items ≡ replicate (blocks image) false
-    → f.left ≡ blocks image → f.nodes.items ≡ [] → IsEmpty f.exts → f.findings.items ≡ [] → f.parents.items ≡ 0 ∷ [] → f.places.items ≡ [] → f.datas.items ≡ []
-    → IsOwned RootPart (root_of image) f g → AreSame f g → h ≡ record g { nodes = h.nodes } → h.nodes.items ≡ g.nodes.items ++ root_of image ∷ []
-    → root_of image < blocks image → Stands image h (begun image [])
+    → f.left ≡ blocks image → f.nodes.items ≡ [] → IsEmpty f.exts → f.findings.items ≡ [] → f.parents.items ≡ 0 ∷ [] → f.places.items ≡ []
+    → f.datas.items ≡ [] → IsOwned RootPart (root_of image) f g → AreSame f g → h ≡ record g { nodes = h.nodes }
+    → h.nodes.items ≡ g.nodes.items ++ root_of image ∷ [] → root_of image < blocks image → Stands image h (begun image [])
 stands_begun image f g h taken owned owners numbers avoided left nodes exts findings parents places datas o e same pushed lt =
     let n : ℕ = blocks image in
     let root : ℕ = root_of image in
@@ -79,7 +73,7 @@ stands_begun image f g h taken owned owners numbers avoided left nodes exts find
       few = (let l : length h.nodes.items ≡ 1 = ap length items in omega arith);
       ext = (λ m. ap (λ x. unwrap_or (get nat_cmp x m) 0) e.exts ∙ ap (λ c. unwrap_or c 0) (empty_get f.exts (is_at (nat_cmp m)) exts));
       findings = ap (λ v. map finding_value v.items) o.findings ∙ ap (map finding_value) findings;
-      parent = (λ m. ap (λ v. slice_index v.items m) e.parents ∙ (ap (λ xs. slice_index xs m) parents ∙ no_parent m));
+      parent = (λ m. ap (λ v. slice_index v.items m) e.parents ∙ (ap (λ xs. slice_index xs m) parents ∙ none_default 1 0 m));
       parents = ap (λ v. length v.items) e.parents ∙ ap length parents;
       places = ap (λ v. v.items) e.places ∙ places;
       datas = o.datas ∙ datas;

@@ -1,6 +1,6 @@
 -- The findings of the bits.
-use Rattle.std.specs.Prelude.{Bool, true, false, ◌||◌, cond, not, Some, None, IsTrue, ◌↔◌, slice_index_or}
-use Rattle.std.proofs.Common.{◌≡◌, ℕ, zero, suc, length, List, [], ◌∷◌, ◌++◌, inl, inr, ◌+◌, ◌-◌, ◌/◌, ◌%◌, ◌<◌, ◌≤◌, refl, sym, subst, ◌∙◌, arith}
+use Rattle.std.specs.Prelude.{Bool, true, false, ◌||◌, not, Some, None, IsTrue, ◌↔◌}
+use Rattle.std.proofs.Common.{◌≡◌, ℕ, suc, List, [], ◌∷◌, ◌++◌, inl, inr, ◌+◌, ◌-◌, ◌/◌, ◌%◌, ◌≤◌, refl, sym, subst, ◌∙◌, arith}
 use Rattle.std.specs.Ordering.{is_eq}
 use Rattle.std.specs.BTreeMap.{get}
 use Rattle.std.proofs.lemmas.List.{append_assoc, append-nil}
@@ -25,6 +25,8 @@ use Rattle.adf_findings.proofs.Keys.{lacks_at, one_key, same_of_key}
 use Rattle.adf_findings.proofs.Known.{tells_absent}
 use Rattle.adf_findings.proofs.Taking.{stands_reported}
 use Rattle.adf_findings.proofs.OneSurvey.{gathered}
+use Rattle.std.proofs.Common.{add-one}
+use Rattle.std.proofs.lemmas.Bool.{cases_Bool, cond-true, cond-false}
 
 -- where the bitmap is not valid, no bit is compared
 pub not_compared : (image : List ℕ) (s : Course) (b : ℕ) → (IsValidated image → ⊥) → BitTells image s b None
@@ -32,12 +34,11 @@ not_compared image s b n = λ c. absurd (n c.0)
 
 pub at_has : (w : List (Role × ℕ)) (k : Key) (b : ℕ) → at_key w k ≡ Some b → (q : Role) × Has w q b × (key_of q ≡ k)
 at_has [] k b e = cc
-at_has (x ∷ w) k b e = go (is_eq (by_key (key_of x.0) k)) refl e (at_has w k b)
-  where
-    go : (t : Bool) → is_eq (by_key (key_of x.0) k) ≡ t → cond t (Some x.1) (at_key w k) ≡ Some b
-        → (at_key w k ≡ Some b → (q : Role) × Has w q b × (key_of q ≡ k)) → (q : Role) × Has (x ∷ w) q b × (key_of q ≡ k)
-    go true f e again = let z : x.1 ≡ b = cc in (x.0, inl (refl, z), one_key (key_of x.0) k f)
-    go false f e again = let y = again e in (y.0, inr y.1, y.2)
+at_has (x ∷ w) k b e = elim (cases_Bool (is_eq (by_key (key_of x.0) k))) [
+  | inl t ↦
+      let z : x.1 ≡ b = (let some = sym (cond-true _ (Some x.1) (at_key w k) t) ∙ e in cc) in (x.0, inl (refl, z), one_key (key_of x.0) k t)
+  | inr n ↦ let y = at_has w k b (sym (cond-false _ (Some x.1) (at_key w k) n) ∙ e) in (y.0, inr y.1, y.2)
+]
 
 -- the page with a key is in the walk
 pub has_page : (w : List (Role × ℕ)) (page at : ℕ) → at_key w (key_of (Page page)) ≡ Some at → Has w (Page page) at
@@ -55,7 +56,8 @@ module _ (image : List ℕ) (f : Found) (s : Course) (v : IsCourse image s) (fs 
   pub no_page : get by_key f.taken (key_of (Page page)) ≡ None → BitTells image s b None
   no_page e c = absurd (lacks_at s.walk (Page page) (sym (st.taken (Page page) tt) ∙ e) (Page page) c.1.0 c.1.1 (same_refl (Page page)))
 
-  tells_free : (at : ℕ) (t : Bool) → Has s.walk (Page page) at → (IsTrue t ↔ IsFreeAt image at ((b - 2) % PAGE_BITS)) → Tells t (IsFreeIn image s.walk b)
+  tells_free : (at : ℕ) (t : Bool) → Has s.walk (Page page) at → (IsTrue t ↔ IsFreeAt image at ((b - 2) % PAGE_BITS))
+      → Tells t (IsFreeIn image s.walk b)
   tells_free at true h free = (at, h, free.0 refl)
   tells_free at false h free = λ y.
       let one : y.0 ≡ at = (one_block image (gathered image v) (Page page) (Page page) y.0 at y.1 h (same_refl (Page page))).1 in
@@ -67,16 +69,13 @@ module _ (image : List ℕ) (f : Found) (s : Course) (v : IsCourse image s) (fs 
   tells_excuse false true h e = λ x. let clash : true ≡ false = e ∙ x.1 in cc
   tells_excuse false false h e = (h, sym e)
 
-  tells_bit : (o a t : Bool) (at : ℕ) → IsValidated image → Has s.walk (Page page) at → Tells (not o) (IsAbsent s.walk b) → Tells (not a) (IsUnexcused image s b)
-      → Tells t (IsFreeIn image s.walk b) → BitTells image s b (bit_cause o a t)
+  tells_bit : (o a t : Bool) (at : ℕ) → IsValidated image → Has s.walk (Page page) at → Tells (not o) (IsAbsent s.walk b)
+      → Tells (not a) (IsUnexcused image s b) → Tells t (IsFreeIn image s.walk b) → BitTells image s b (bit_cause o a t)
   tells_bit false false false at vd h ow av fr = ((vd, (at, h), (λ x. av)), inl ((λ k. fr (k ow)), refl, refl))
   tells_bit false true false at vd h ow av fr = λ c. absurd (av (c.2 ow))
-  tells_bit false false true at vd h ow av fr = λ c. ((λ x. fr), ((λ x. ow), tt))
-  tells_bit false true true at vd h ow av fr = λ c. ((λ x. fr), ((λ x. ow), tt))
-  tells_bit true false true at vd h ow av fr = ((vd, (at, h), (λ x. absurd (ow x))), inr ((λ x. fr), inl ((λ k. ow (k fr)), refl, refl)))
-  tells_bit true true true at vd h ow av fr = ((vd, (at, h), (λ x. absurd (ow x))), inr ((λ x. fr), inl ((λ k. ow (k fr)), refl, refl)))
-  tells_bit true false false at vd h ow av fr = λ c. ((λ x. absurd (ow x)), ((λ x. absurd (fr x)), tt))
-  tells_bit true true false at vd h ow av fr = λ c. ((λ x. absurd (ow x)), ((λ x. absurd (fr x)), tt))
+  tells_bit false _ true at vd h ow av fr = λ c. ((λ x. fr), ((λ x. ow), tt))
+  tells_bit true _ true at vd h ow av fr = ((vd, (at, h), (λ x. absurd (ow x))), inr ((λ x. fr), inl ((λ k. ow (k fr)), refl, refl)))
+  tells_bit true _ false at vd h ow av fr = λ c. ((λ x. absurd (ow x)), ((λ x. absurd (fr x)), tt))
 
   -- with its page the bit tells by whose the block is
   pub page_tells : (o p k t : Bool) → o ≡ owns s.walk b → p ≡ owns s.skipped b → k ≡ is_cache image b → IsValidated image
@@ -89,18 +88,16 @@ module _ (image : List ℕ) (f : Found) (s : Course) (v : IsCourse image s) (fs 
 pub tells_none : (image : List ℕ) (s : Course) (b : ℕ) (gs : List FindingValue) → 2 ≤ b → BitTells image s b None
     → TellsOn image s b gs → TellsOn image s (b + 1) gs
 tells_none image s b gs lo t on n fs h =
-    let one : b + 1 ≡ suc b = omega arith in
     let more : b - 2 + suc n ≡ b + 1 - 2 + n = omega arith in
-    subst (λ m. BitsTell image s 2 m (gs ++ fs)) more (on (suc n) fs (agrees t (subst (λ c. BitsTell image s c n fs) one h)))
+    subst (λ m. BitsTell image s 2 m (gs ++ fs)) more (on (suc n) fs (agrees t (subst (λ c. BitsTell image s c n fs) (add-one b) h)))
 
-pub tells_some : (image : List ℕ) (s : Course) (b : ℕ) (gs : List FindingValue) (c : Cause) → 2 ≤ b → BitTells image s b (Some c) → TellsOn image s b gs
-    → TellsOn image s (b + 1) (gs ++ finding None b c ∷ [])
+pub tells_some : (image : List ℕ) (s : Course) (b : ℕ) (gs : List FindingValue) (c : Cause) → 2 ≤ b → BitTells image s b (Some c)
+    → TellsOn image s b gs → TellsOn image s (b + 1) (gs ++ finding None b c ∷ [])
 tells_some image s b gs c lo t on n fs h =
-    let one : b + 1 ≡ suc b = omega arith in
     let more : b - 2 + suc n ≡ b + 1 - 2 + n = omega arith in
     subst (λ m. BitsTell image s 2 m (gs ++ finding None b c ∷ [] ++ fs)) more
     (subst (BitsTell image s 2 (b - 2 + suc n)) (sym (append_assoc gs (finding None b c ∷ []) fs))
-    (on (suc n) (finding None b c ∷ fs) (differs t.0 t.1 (subst (λ c. BitsTell image s c n fs) one h))))
+    (on (suc n) (finding None b c ∷ fs) (differs t.0 t.1 (subst (λ c. BitsTell image s c n fs) (add-one b) h))))
 
 -- the bits of no block are compared at first, and at last all are
 pub none_reported : (image : List ℕ) (s : Course) → TellsOn image s 2 []
@@ -139,9 +136,3 @@ reported_first image f (s, course, done, stands) = grind (arith, common_steps, a
 
 pub reported_last : (image : List ℕ) (f : Found) (b : ℕ) → b ≡ blocks image → HasReportedOn image f b → IsCompleted image f
 reported_last image f b e (s, gs, told, on) = (s, gs, told, subst (λ b. BitsTell image s 2 (b - 2) gs) e (all_reported image s b gs on))
-
--- inside a list the default does not count
-pub any_default : (xs : List Bool) (b : ℕ) (d : Bool) → b < length xs → slice_index_or xs b d ≡ slice_index_or xs b false
-any_default [] b d lt = absurd (omega arith)
-any_default (x ∷ xs) zero d lt = refl
-any_default (x ∷ xs) (suc b) d lt = any_default xs b d (omega arith)

@@ -20,8 +20,8 @@ use Rattle.adf_findings.proofs.Keys.{lacks_at}
 use Rattle.adf_findings.proofs.OneSurvey.{gathered}
 
 -- the walk of a survey has one block at most for a page
-one_page : (image : List ℕ) (w : List (Role × ℕ)) (fs : List FindingValue) → IsSurvey image w fs → (i at b : ℕ) → Has w (Page i) at → Has w (Page i) b
-    → b ≡ at
+pub one_page : (image : List ℕ) (w : List (Role × ℕ)) (fs : List FindingValue) → IsSurvey image w fs → (i at b : ℕ) → Has w (Page i) at
+    → Has w (Page i) b → b ≡ at
 one_page image w fs (unread f) i at b h g = absurd h
 one_page image w fs (read v d t) i at b h g = (one_block image (gathered image v) (Page i) (Page i) b at g h (same_refl (Page i))).1
 

@@ -20,7 +20,8 @@ use Rattle.adf_findings.proofs.OneSurvey.{gathered}
 use Rattle.adf_findings.proofs.SoundMarks.{apart, in_values, skipped_header, settled, taken_at}
 
 -- what holds of each finding holds at each place
-at_places : (g : Finding → Option Concern) (h : FindingValue → Option Concern) (xs : List Finding) → ((x : Finding) → In xs x → g x ≡ h (finding_value x)) → (k : ℕ)
+at_places : (g : Finding → Option Concern) (h : FindingValue → Option Concern) (xs : List Finding)
+    → ((x : Finding) → In xs x → g x ≡ h (finding_value x)) → (k : ℕ)
     → option_flatten (slice_get (map g xs) k) ≡ option_and_then h (slice_get (map finding_value xs) k)
 at_places g h [] e k = refl
 at_places g h (x ∷ xs) e zero = e x (inl refl)
@@ -45,11 +46,13 @@ module _ (image : List ℕ) (f : Found) {s : Course} (v : IsCourse image s) (bit
   blamed_is x i = grind (arith, common_steps, header_is)
 
   -- of what is found
-  pub concerned_kept : (k : ℕ) → option_flatten (slice_get (map (λ x. blamed f x.part) f.findings.items) k) ≡ concern_of_nth s.walk (s.findings ++ bits) k
+  pub concerned_kept : (k : ℕ) → option_flatten (slice_get (map (λ x. blamed f x.part) f.findings.items) k)
+      ≡ concern_of_nth s.walk (s.findings ++ bits) k
   concerned_kept k = grind (arith, common_steps, at_places, blamed_is, in_values)
 
 -- findings of no part concern nothing
-pub no_concern_nth : (w : List (Role × ℕ)) (fs : List FindingValue) (k : ℕ) → ((f : FindingValue) → In fs f → f.part ≡ None) → concern_of_nth w fs k ≡ None
+pub no_concern_nth : (w : List (Role × ℕ)) (fs : List FindingValue) (k : ℕ) → ((f : FindingValue) → In fs f → f.part ≡ None)
+    → concern_of_nth w fs k ≡ None
 no_concern_nth w [] k h = refl
 no_concern_nth w (f ∷ fs) zero h = ap (option_and_then (concern_with w)) (h f (inl refl))
 no_concern_nth w (f ∷ fs) (suc k) h = no_concern_nth w fs k (λ g i. h g (inr i))

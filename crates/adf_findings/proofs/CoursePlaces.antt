@@ -1,6 +1,6 @@
 -- The positions of a course: by chain in a directory, extension blocks before data blocks in a file, node by node.
 use Rattle.std.specs.Prelude.{Option, Some, None, slice_index}
-use Rattle.std.proofs.Common.{◌≡◌, ◌≢◌, ℕ, zero, suc, length, List, ◌⊎◌, inl, ◌+◌, ◌*◌, ◌/◌, ◌<◌, ◌≤◌, refl, sym, subst, ap, ◌∙◌, arith}
+use Rattle.std.proofs.Common.{◌≡◌, ◌≢◌, ℕ, zero, suc, length, List, ◌⊎◌, inl, ◌+◌, ◌*◌, ◌/◌, ◌<◌, ◌≤◌, refl, sym, subst, ap, ◌∙◌, add-one, arith}
 use Rattle.std.proofs.lemmas.Grind.{common_steps}
 use Rattle.adf_blocks.specs.declared.layout.TheConstants.{EXTENSION, NEXT_IN_CHAIN, POINTERS, SECONDARY_TYPE, SLOTS, ST_DIR, ST_FILE}
 use Rattle.adf_volume.specs.Image.{table_word, word_in}
@@ -21,8 +21,8 @@ use Rattle.adf_findings.proofs.CourseSteps.{moved}
 use Rattle.adf_findings.proofs.Known.{member_found}
 use Rattle.adf_findings.proofs.OneSurvey.{gathered}
 
-module _ (image : List ℕ) where
-  module _ (f : Found) (s : Course) where
+module _ {image : List ℕ} where
+  module _ {f : Found} {s : Course} where
     -- what a directory names comes behind the places of a file
     pub dir_begins : (n b : ℕ) → Holds image f (before_node n) s → DirAt image s.walk n b → HasReachedSlot image f n 0 b
     dir_begins n b h d = (s, moved h (omega arith) (enter_dir image (gathered image h.course) n b d h.up_to), d)
@@ -31,7 +31,7 @@ module _ (image : List ℕ) where
     pub nodes_end : (n : ℕ) → length f.nodes.items ≤ n → Holds image f (before_node n) s → IsFinished image f
     nodes_end n le h = (s, h.course, end_nodes image (gathered image h.course) n (let c = h.stands.count in omega arith) h.up_to, h.stands)
 
-    module _ (n b : ℕ) (h : Holds image f (before_node n) s) (lt : n < length f.nodes.items) (at : b ≡ slice_index f.nodes.items n) where
+    module _ {n b : ℕ} (h : Holds image f (before_node n) s) (lt : n < length f.nodes.items) (at : b ≡ slice_index f.nodes.items n) where
       -- a node that is found has its block
       node_at : NodeAt s.walk n b
       node_at =
@@ -45,8 +45,8 @@ module _ (image : List ℕ) where
       file_there = grind (arith, common_steps, node_at)
 
       pub nothing_there : (n ≡ 0 → ⊥) → word_in image b SECONDARY_TYPE ≢ ST_DIR → word_in image b SECONDARY_TYPE ≢ ST_FILE
-          → HasReached image f (before_node (suc n))
-      nothing_there other no_dir no_file = grind (arith, common_steps, moved, end_node, gathered, node_at)
+          → HasReached image f (before_node (n + 1))
+      nothing_there other no_dir no_file = rw add-one (grind (arith, common_steps, moved, end_node, gathered, node_at))
 
     -- the extension blocks of a file come first
     pub exts_begin : (n b : ℕ) → Holds image f (before_node n) s → FileAt image s.walk n b → HasReachedExt image f n b 0 b
@@ -62,9 +62,8 @@ module _ {image : List ℕ} {f : Found} {p slot j a i b : ℕ} (x : HasReachedHe
       → HasReachedHeader image g p slot (j + 1) c NEXT_IN_CHAIN b
   header_taken {g} {o} {c} e gone =
       let w : List (Role × ℕ) = x.course.walk in
-      let one : suc j ≡ j + 1 = omega arith in
       let on = subst (IsGoneOn image x.course (HeadPart 0 p slot j) a i g) e gone in
-      subst (λ j. HasReachedHeader image g p slot j c NEXT_IN_CHAIN b) one (record {
+      rw add-one (record {
         course = _;
         holds = on.holds;
         dir = dir_up image w (Head (suc (heads w)) p slot j, word_in image a i) p b x.dir;
@@ -72,20 +71,17 @@ module _ {image : List ℕ} {f : Found} {p slot j a i b : ℕ} (x : HasReachedHe
       })
 
   -- behind a header that was skipped its chain ends
-  pub header_skipped : {g : Found} {o : Option ℕ} → o ≡ None → IsGoneOn image x.course (HeadPart 0 p slot j) a i g o → HasReachedSlot image g p (slot + 1) b
+  pub header_skipped : {g : Found} {o : Option ℕ} → o ≡ None → IsGoneOn image x.course (HeadPart 0 p slot j) a i g o
+      → HasReachedSlot image g p (slot + 1) b
   header_skipped {g} {o} e gone =
-      let one : suc slot ≡ slot + 1 = omega arith in
       let on = subst (IsGoneOn image x.course (HeadPart 0 p slot j) a i g) e gone in
-      subst (λ slot. HasReachedSlot image g p slot b) one
-      (_, moved on.holds (omega arith) (end_chain image p slot (suc j) on.holds.up_to (chain_broken image x.holds.up_to)), x.dir)
+      rw add-one (_, moved on.holds (omega arith) (end_chain image p slot (suc j) on.holds.up_to (chain_broken image x.holds.up_to)), x.dir)
 
   -- a chain ends where its word names no block
   pub chain_done : word_in image a i ≡ 0 → HasReachedSlot image f p (slot + 1) b
   chain_done e =
-      let one : suc slot ≡ slot + 1 = omega arith in
-      let v = gathered image x.holds.course in
-      subst (λ slot. HasReachedSlot image f p slot b) one
-      (_, moved x.holds (omega arith) (end_chain image p slot j x.holds.up_to (link_ends image x.course.walk v p slot j a i x.link e)), x.dir)
+      let end = link_ends image x.course.walk (gathered image x.holds.course) p slot j a i x.link e in
+      rw add-one (_, moved x.holds (omega arith) (end_chain image p slot j x.holds.up_to end), x.dir)
 
 -- the extension blocks of a file that are gone through
 module _ {image : List ℕ} {f : Found} {n b m a : ℕ} (x : HasReachedExt image f n b m a) where
@@ -97,14 +93,13 @@ module _ {image : List ℕ} {f : Found} {n b m a : ℕ} (x : HasReachedExt image
   gone_on {g} q e gone = grind (arith, common_steps, one_more)
 
   pub ext_is_named : word_in image a EXTENSION ≢ 0 → IsNamed image f (ExtPart n (m + 1)) a EXTENSION x.course
-  ext_is_named ne = subst (λ k. IsNamed image f (ExtPart n k) a EXTENSION x.course) one_more
-      (record { holds = x.holds; asked = ext_asks image x.course.walk n m a x.member ne })
+  ext_is_named ne = rw add-one (record { holds = x.holds; asked = ext_asks image x.course.walk n m a x.member ne })
 
   pub ext_taken : {g : Found} {o : Option ℕ} {c : ℕ} → o ≡ Some c → IsGoneOn image x.course (ExtPart n (m + 1)) a EXTENSION g o
       → HasReachedExt image g n b (m + 1) c
   ext_taken {g} {o} {c} e gone =
       let on = gone_on (Some c) e gone in
-      subst (λ m. HasReachedExt image g n b m c) one_more (record {
+      rw add-one (record {
         course = _;
         holds = on.holds;
         file = typed_up (Ext n (suc m), word_in image a EXTENSION) x.file;
@@ -113,7 +108,8 @@ module _ {image : List ℕ} {f : Found} {n b m a : ℕ} (x : HasReachedExt image
       })
 
   -- behind an extension block that was skipped come the data blocks
-  pub ext_skipped : {g : Found} {o : Option ℕ} → o ≡ None → IsGoneOn image x.course (ExtPart n (m + 1)) a EXTENSION g o → HasReachedData image g n b m 0
+  pub ext_skipped : {g : Found} {o : Option ℕ} → o ≡ None → IsGoneOn image x.course (ExtPart n (m + 1)) a EXTENSION g o
+      → HasReachedData image g n b m 0
   ext_skipped {g} {o} e gone = grind (arith, common_steps, gone_on, moved, end_exts, exts_broken)
 
   -- and behind the last one
@@ -138,25 +134,22 @@ module _ {image : List ℕ} {f : Found} {n b exts k : ℕ} (x : HasReachedData i
   pub data_is_named : {a : ℕ} → a ≡ member_in f n (k / POINTERS) → k < data_count image b → k < POINTERS * (exts + 1)
       → IsNamed image f (DataPart n (k + 1)) a (table_word k) x.course
   data_is_named {a} e lt few =
-      let one : suc k ≡ k + 1 = omega arith in
       let c = there (k / POINTERS) (omega arith) in
       let is : c.0 ≡ a =
       sym (e ∙ member_found image f x.course x.holds.stands n (k / POINTERS) ∙ member_is image v n (k / POINTERS) c.0 c.1) in
-      subst (λ j. IsNamed image f (DataPart n j) a (table_word k) x.course) one (record {
+      rw add-one (record {
         holds = x.holds;
         asked = ((b, x.file, lt), subst (MemberAt image x.course.walk n (k / POINTERS)) is c.1, refl);
       })
 
-  pub data_gone : {g : Found} {o : Option ℕ} {a i : ℕ} → IsGoneOn image x.course (DataPart n (k + 1)) a i g o → HasReachedData image g n b exts (k + 1)
+  pub data_gone : {g : Found} {o : Option ℕ} {a i : ℕ} → IsGoneOn image x.course (DataPart n (k + 1)) a i g o
+      → HasReachedData image g n b exts (k + 1)
   data_gone {o = None} gone = record { course = _; holds = gone.holds; file = x.file; count = x.count }
   data_gone {o = Some c} {a} {i} gone = grind (arith, common_steps, typed_up)
 
   -- behind the last data block comes the next node
   pub datas_done : ((j : ℕ) → j < data_count image b → j < POINTERS * (exts + 1) → j < k) → HasReached image f (before_node (n + 1))
-  datas_done all =
-      let one : suc n ≡ n + 1 = omega arith in
-      subst (λ n. HasReached image f (before_node n)) one
-      (x.course, moved x.holds (omega arith) (end_datas image v n k b x.file asked x.holds.up_to))
+  datas_done all = rw add-one (x.course, moved x.holds (omega arith) (end_datas image v n k b x.file asked x.holds.up_to))
     where
       few : (j m a : ℕ) → j / POINTERS ≡ m → MemberAt image x.course.walk n m a → j < POINTERS * (exts + 1)
       few j zero a e member = omega arith

@@ -12,7 +12,7 @@ use Rattle.adf_volume.proofs.Gathered.{IsGathered, ext_counted, next_ext}
 use Rattle.adf_volume.proofs.PositionSteps.{not_skipped, not_taken, past_skipped, past_taken, same_behind, same_position}
 use Rattle.adf_volume.proofs.Roles.{asks_number, renumbered, renumbered_same}
 use Rattle.adf_findings.specs.declared.part.Part.{Part}
-use Rattle.adf_findings.specs.declared.part.Part.TheVariants.{Head as HeadPart, Ext as ExtPart}
+use Rattle.adf_findings.specs.declared.part.Part.TheVariants.{Head as HeadPart}
 use Rattle.adf_findings.specs.declared.course.Reference.{Reference}
 use Rattle.adf_findings.specs.declared.judge.Facts.{Facts}
 use Rattle.adf_findings.specs.declared.found.Found.{Found}
@@ -34,9 +34,9 @@ numbered image w v (Ext n k) a i h l = next_ext image w v n k a i h l (ext_count
 numbered image w v _ a i h l = tt
 
 -- a part with the number of nodes is that which is asked for
-pub role_is : (image : List ℕ) (f : Found) (s : Course) (part z : Part) (m : ℕ) → Stands image f s → m ≡ length f.nodes.items
+pub role_is : {image : List ℕ} {f : Found} {s : Course} (part z : Part) {m : ℕ} → Stands image f s → m ≡ length f.nodes.items
     → role_of z ≡ renumbered m (role_of part) → role_of z ≡ role_asked s part
-role_is image f s part z m st e is = is ∙ ap (λ m. renumbered m (role_of part)) (e ∙ st.count)
+role_is part z st e is = is ∙ ap (λ m. renumbered m (role_of part)) (e ∙ st.count)
 
 -- a course moves on to a later position that its walk has come to
 pub moved : {image : List ℕ} {f : Found} {k l : Position} {s : Course} → Holds image f k s → IsNoLater k l → IsUpTo image s.walk s.skipped l
@@ -88,7 +88,8 @@ module _ {image : List ℕ} {f : Found} {part : Part} {a i : ℕ} {s : Course} (
   AsJudged b g o = (t : Course) → Holds image f (position_of (role_of part)) t → IsNextReference image t (reference_at b)
       → IsOutcome image t (reference_at b) f g o
 
-  outcome : (b : ℕ) (g : Found) (o : Option Part) → b ≡ word_in image a i → AsJudged b g o → IsOutcome image s (reference_at (word_in image a i)) f g o
+  outcome : (b : ℕ) (g : Found) (o : Option Part) → b ≡ word_in image a i → AsJudged b g o
+      → IsOutcome image s (reference_at (word_in image a i)) f g o
   outcome b g o e judged = grind (arith, common_steps, reference_at, is_next)
 
   pub to_take : {b : ℕ} {g : Found} {o : Option Part} → b ≡ word_in image a i → AsJudged b g o → (z : Part) → o ≡ Some z
@@ -150,7 +151,6 @@ module _ {image : List ℕ} {f : Found} {part : Part} {a i : ℕ} {s : Course} (
 
       same_names : (taken : Part) → IsKept taken block g h → h.names ≡ g.names
       same_names (HeadPart m p t j) kept = kept.names
-      same_names (ExtPart m k) kept = kept.names
       same_names _ kept = kept.names
 
       taken_names : AreNamed image now.walk (behind (role_of part)) h.names

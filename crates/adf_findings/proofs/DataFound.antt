@@ -2,13 +2,13 @@
 -- Letters: w the walk of a survey, fs its findings; v a result; n a file's node, h the block of its header; k the number of a
 -- data block, from 0; b its block; r, q roles.
 use Rattle.std.specs.Prelude.{◌&&◌, Bool, true, false, cond, nat_lt, Option, Some, None, slice_index}
-use Rattle.std.proofs.Common.{◌≡◌, ℕ, suc, zero, List, [], ◌∷◌, ◌==◌, ◌+◌, ◌≤◌, ◌<◌, inl, inr, refl, sym, ap, subst, ◌∙◌, arith}
+use Rattle.std.proofs.Common.{◌≡◌, ℕ, suc, zero, List, [], ◌∷◌, ◌==◌, ◌+◌, ◌≤◌, ◌<◌, inl, inr, refl, sym, ap, subst, ◌∙◌, add-one, arith}
 use Rattle.std.proofs.lemmas.Bool.{eqb-true, eq-eqb}
 use Rattle.std.proofs.lemmas.Bool.Decides.{eqb_tells, nat_tests}
 use Rattle.std.proofs.lemmas.Grind.{common_steps}
 use Rattle.adf_blocks.specs.Sizes.{blocks}
-use Rattle.adf_volume.specs.Walk.{Role, first, Has, FileAt, node_block}
-use Rattle.adf_volume.specs.Walk.Role.{Root, Head, Ext, Data}
+use Rattle.adf_volume.specs.Walk.{Role, Has, FileAt, node_block}
+use Rattle.adf_volume.specs.Walk.Role.{Head, Ext, Data}
 use Rattle.adf_volume.proofs.Gathered.{head_block}
 use Rattle.adf_volume.proofs.Roles.{has_role, same_refl}
 use Rattle.adf_findings.specs.Files.{named_from}
@@ -20,11 +20,11 @@ use Rattle.adf_findings.specs.Survey.IsSurvey.{read, unread}
 use Rattle.adf_findings.specs.SurveyResult.{SurveyValue, TellsOf}
 use Rattle.adf_findings.proofs.BitSteps.{at_has}
 use Rattle.adf_findings.proofs.FileBlocks.{data_is}
-use Rattle.adf_findings.proofs.FoundFiles.{file_between}
+use Rattle.adf_findings.proofs.Lookups.{file_between}
 use Rattle.adf_findings.proofs.Keys.{lacks_at, same_of_key}
 use Rattle.adf_findings.proofs.OneSurvey.{gathered}
 use Rattle.adf_findings.proofs.SoundEntries.{one_part}
-use Rattle.adf_findings.proofs.SoundMarks.{inside}
+use Rattle.adf_findings.proofs.SoundMarks.{data_inside}
 
 -- the data block with a key is in the walk
 pub has_data : (w : List (Role × ℕ)) (n k b : ℕ) → at_key w (key_of (Data n k)) ≡ Some b → Has w (Data n k) b
@@ -34,10 +34,7 @@ has_data w n k b e = grind (arith, common_steps, b, at_has, has_role, same_of_ke
 pub found_named : (image : List ℕ) (w : List (Role × ℕ)) (fs : List FindingValue) → IsSurvey image w fs → (n h : ℕ) → FileAt image w n h → (k b : ℕ)
     → Has w (Data n (suc k)) b → (named_from image h k ≡ b) × (b < blocks image)
 found_named image w fs (unread f) n h file k b has = absurd has
-found_named image w fs (read v d t) n h file k b has = (
-  (data_is image n v h file k b has).0,
-  inside image v (Data n (suc k)) b (λ z. let y : first Root ≡ first (Data n (suc k)) = ap first z in omega arith) has,
-)
+found_named image w fs (read v d t) n h file k b has = ((data_is image n v h file k b has).0, data_inside image v n (suc k) b has)
 
 -- a block that one role has tells its entry and its number
 first_with : (w : List (Role × ℕ)) (r : Role) (b : ℕ) → Has w r b → ((q : Role) → Has w q b → q ≡ r)
@@ -69,13 +66,11 @@ held_has : (w : List (Role × ℕ)) (b n k : ℕ) → owner w b ≡ Some n → n
 held_has [] b n k e f = cc
 held_has (x ∷ w) b n k e f = elim (eqb_tells x.1 b) [
   | inl y ↦
-      inl (
-        role_is x.0 n k (ap (λ t. cond t (entry_in x.0) (owner w b)) (sym y.0) ∙ e) (ap (λ t. cond t (data_number x.0) (number_at w b)) (sym y.0) ∙ f),
-        y.1,
-      )
+      let own = ap (λ t. cond t (entry_in x.0) (owner w b)) (sym y.0) ∙ e in
+      let number = ap (λ t. cond t (data_number x.0) (number_at w b)) (sym y.0) ∙ f in inl (role_is x.0 n k own number, y.1)
   | inr y ↦
-      inr
-      (held_has w b n k (ap (λ t. cond t (entry_in x.0) (owner w b)) (sym y.0) ∙ e) (ap (λ t. cond t (data_number x.0) (number_at w b)) (sym y.0) ∙ f))
+      let own = ap (λ t. cond t (entry_in x.0) (owner w b)) (sym y.0) ∙ e in
+      let number = ap (λ t. cond t (data_number x.0) (number_at w b)) (sym y.0) ∙ f in inr (held_has w b n k own number)
 ]
 
 all_true : {A : Type 0} (p q r : Bool) (x y : A) → p ≡ true → q ≡ true → r ≡ true → cond (p && (q && r)) x y ≡ x
@@ -95,7 +90,7 @@ kept_some (suc m) n e = grind (arith, common_steps, eqb_tells)
 some_kept : (m n : ℕ) → 1 ≤ n → m ≡ n → cond (m == 0) None (Some m) ≡ Some n
 some_kept m n lo e = grind (arith, common_steps, eqb_tells)
 
-module _ (v : SurveyValue) (w : List (Role × ℕ)) (fs : List FindingValue) (t : TellsOf v w fs) (n h : ℕ) (file : FileAt v.image w n h) where
+module _ {v : SurveyValue} {w : List (Role × ℕ)} {fs : List FindingValue} (t : TellsOf v w fs) (n h : ℕ) (file : FileAt v.image w n h) where
   -- the block that is named as a data block, if it is taken as that, is the one that is found
   pub named_is : (k : ℕ) → data_named v.image v n h k ≡ data_found w n k
   named_is k = go (data_found w n k) refl
@@ -109,8 +104,7 @@ module _ (v : SurveyValue) (w : List (Role × ℕ)) (fs : List FindingValue) (t 
           (λ inside own number.
           let lo = (file_between v.image w fs t.survey n h file).0 in
           let whose : owner w b ≡ Some n = sym (t.owner b) ∙ some_kept (slice_index v.owners b) n lo (eqb-true _ _ own) in
-          let one : k + 1 ≡ suc k = omega arith in
-          let which : number_at w b ≡ suc k = sym (t.number b) ∙ (eqb-true _ _ number ∙ one) in
+          let which : number_at w b ≡ suc k = sym (t.number b) ∙ (eqb-true _ _ number ∙ add-one k) in
           lacks_at w (Data n (suc k)) e (Data n (suc k)) b (held_has w b n k whose which) (same_refl (Data n (suc k))))
       go (Some c) e =
           let has : Has w (Data n (suc k)) c = has_data w n (suc k) c e in
@@ -118,19 +112,19 @@ module _ (v : SurveyValue) (w : List (Role × ℕ)) (fs : List FindingValue) (t 
           let at = first_with w (Data n (suc k)) c has (λ q g. one_part v.image w fs t.survey q (Data n (suc k)) c g has) in
           let own : slice_index v.owners b ≡ n =
           ap (slice_index v.owners) named.0 ∙ kept_some (slice_index v.owners c) n (t.owner c ∙ at.0) in
-          let one : suc k ≡ k + 1 = omega arith in
-          let number : slice_index v.numbers b ≡ k + 1 = ap (slice_index v.numbers) named.0 ∙ (t.number c ∙ (at.1 ∙ one)) in
+          let number : slice_index v.numbers b ≡ k + 1 = ap (slice_index v.numbers) named.0 ∙ (t.number c ∙ (at.1 ∙ sym (add-one k))) in
           let lt : b < blocks v.image = subst (λ c. c < blocks v.image) (sym named.0) named.1 in
           all_true (nat_lt b (blocks v.image)) (slice_index v.owners b == n) (slice_index v.numbers b == k + 1) (Some b) None
           (grind (arith, nat_tests)) (eq-eqb _ _ own) (eq-eqb _ _ number)
           ∙ ap Some named.0
 
   -- what is left by the blocks that are named is what is left by those that are found
-  pub left_is : (image : List ℕ) (head : ℕ) → image ≡ v.image → head ≡ h → (size many : ℕ) → size ≡ size_stated v.image h → many ≡ blocks_stated v.image h
-      → (bytes_left image size (data_named image v n head) many
+  pub left_is : {image : List ℕ} {head : ℕ} → image ≡ v.image → head ≡ h
+      → (bytes_left image (size_stated image head) (data_named image v n head) (blocks_stated image head)
       ≡ bytes_left v.image (size_stated v.image h) (data_found w n) (blocks_stated v.image h))
-      × (gaps_left image size (data_named image v n head) many ≡ gaps_left v.image (size_stated v.image h) (data_found w n) (blocks_stated v.image h))
-  left_is image head e g size many s c = grind (arith, common_steps, named_is)
+      × (gaps_left image (size_stated image head) (data_named image v n head) (blocks_stated image head)
+      ≡ gaps_left v.image (size_stated v.image h) (data_found w n) (blocks_stated v.image h))
+  left_is e g = grind (arith, common_steps, named_is)
 
 -- the header of a file that is found
 pub file_at : (image : List ℕ) (w : List (Role × ℕ)) (fs : List FindingValue) → IsSurvey image w fs → (n h : ℕ) → FileAt image w n h

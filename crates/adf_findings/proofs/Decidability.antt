@@ -1,6 +1,7 @@
 -- The judgement of a part and the findings of the bits are decided.
 use Rattle.std.specs.Prelude.{Bool, true, false, drop, slice_index}
-use Rattle.std.proofs.Common.{◌≡◌, ℕ, zero, suc, List, [], ◌∷◌, ◌++◌, ◌⊎◌, inl, inr, ◌-◌, ◌*◌, ◌/◌, ◌%◌, ◌<◌, ◌≤◌, ◌≢◌, refl, sym, ap, subst, arith}
+use Rattle.std.proofs.Common.{◌≡◌, ℕ, zero, suc, List, [], ◌∷◌, ◌++◌, ◌⊎◌, inl, inr, ◌-◌, ◌*◌, ◌/◌, ◌%◌, ◌<◌, ◌≤◌, ◌≢◌, refl, ap, subst, arith}
+use mathlib.Core.Logic.Dec.{and as dec_and, not as dec_not}
 use native.Mathlib.Decide.{dec_le, dec_lt, map_dec, ℕ_discrete}
 use Rattle.adf_tree.specs.declared.entry.Kind.{Kind}
 use Rattle.adf_tree.specs.declared.entry.Kind.TheVariants.{Ofs, Ffs}
@@ -14,7 +15,7 @@ use Rattle.adf_blocks.specs.PageBlock.{page_form}
 use Rattle.adf_base.specs.Words.{block}
 use Rattle.adf_volume.specs.Image.{name_of, kind_of, held, root_of, word_in, IsFreeAt}
 use Rattle.adf_volume.specs.Demands.{Demand, AllHold, FirstFails, demands_at, data_demands}
-use Rattle.adf_volume.specs.Walk.{Role, first, second, Has, data_count, ext_count, Enough, IsAbsent, IsFreeIn}
+use Rattle.adf_volume.specs.Walk.{Role, Has, data_count, ext_count, Enough, IsAbsent, IsFreeIn}
 use Rattle.adf_volume.specs.Walk.{bitmap_demands, next_data, node_block}
 use Rattle.adf_volume.specs.Walk.Role.{Page, Head, Ext, Data}
 use Rattle.adf_findings.specs.Demands.{NewNameIn, demands_in, form_demands_in, head_form_in, uppers_in}
@@ -38,20 +39,13 @@ first_failing (x ∷ xs) d =
       | yes h ↦ elim (first_failing xs d.1) [ inl k ↦ inl (h, k) | inr y ↦ inr (y.0, y.1, inr (h, y.2)) ]
     ]
 
-true_not_false : true ≡ false → ⊥
-true_not_false e = cc
-
 dec_unless : (t : Bool) (P : Type 0) → Dec P → Dec (t ≡ false → P)
-dec_unless true P d = yes (λ e. absurd (true_not_false e))
+dec_unless true P d = yes (λ e. cc)
 dec_unless false P d = map_dec (λ p e. p) (λ f. f refl) d
 
 dec_itself : (r : Role) (xs : List Demand) → Decided xs → Dec (IsItself r xs)
 dec_itself r [] d = yes tt
-dec_itself r (x ∷ xs) d =
-    elim (dec_unless (is_kept r x.cause) x.holds d.0) [
-      | no n ↦ no (λ h. n h.0)
-      | yes y ↦ elim (dec_itself r xs d.1) [ no n ↦ no (λ h. n h.1) | yes z ↦ yes (y, z) ]
-    ]
+dec_itself r (x ∷ xs) d = dec_and (dec_unless (is_kept r x.cause) x.holds d.0) (dec_itself r xs d.1)
 
 -- a part whose demands are decided is judged
 pub judged : (r : Role) (xs : List Demand) → Decided xs → (j : JudgementValue) × Judged r xs j
@@ -67,10 +61,10 @@ decided_append (x ∷ xs) ys d e = (d.0, decided_append xs ys d.1 e)
 
 pub dec_true : (t : Bool) → Dec (t ≡ true)
 dec_true true = yes refl
-dec_true false = no (λ e. true_not_false (sym e))
+dec_true false = no (λ e. cc)
 
 dec_false : (t : Bool) → Dec (t ≡ false)
-dec_false true = no (λ e. true_not_false e)
+dec_false true = no (λ e. cc)
 dec_false false = yes refl
 
 pub decided_form : (b : ℕ) (form : List Clause) → Decided (demands_at b form)
@@ -80,13 +74,12 @@ decided_form b (x ∷ xs) = (dec_true x.0, decided_form b xs)
 pub dec_absent : (w : List (Role × ℕ)) (b : ℕ) → Dec (IsAbsent w b)
 dec_absent [] b = yes (λ q h. h)
 dec_absent (x ∷ w) b =
-    elim (ℕ_discrete x.1 b) [
-      | yes e ↦ no (λ f. f x.0 (inl (refl, e)))
-      | no n ↦ elim (dec_absent w b) [
-        | yes l ↦ yes (λ q h. elim h [ inl e ↦ n e.1 | inr k ↦ l q k ])
-        | no m ↦ no (λ f. m (λ q h. f q (inr h)))
-      ]
-    ]
+    map_dec (λ n q h. elim h [ inl e ↦ n.0 e.1 | inr k ↦ n.1 q k ]) (λ f. ((λ e. f x.0 (inl (refl, e))), (λ q h. f q (inr h))))
+    (dec_and (dec_not (ℕ_discrete x.1 b)) (dec_absent w b))
+
+-- three together
+pub dec_all : {P Q R : Type 0} → Dec P → Dec Q → Dec R → Dec (P × Q × R)
+dec_all p q r = map_dec (λ x. (x.0, x.1.0, x.1.1)) (λ x. (x.0, (x.1, x.2))) (dec_and p (dec_and q r))
 
 dec_both : (P Q : Type 0) → Dec P → Dec Q → Dec (P → Q)
 dec_both P Q p (yes q) = yes (λ x. q)
@@ -109,10 +102,7 @@ module _ (image : List ℕ) (w : List (Role × ℕ)) (v : IsGathered image w) wh
   dec_enough _ = yes tt
 
   dec_range : (b : ℕ) → Dec ((2 ≤ b) × (b < blocks image))
-  dec_range b = elim (dec_le 2 b) [
-    | no n ↦ no (λ x. n x.0)
-    | yes l ↦ elim (dec_lt b (blocks image)) [ no n ↦ no (λ x. n x.1) | yes u ↦ yes (l, u) ]
-  ]
+  dec_range b = dec_and (dec_le 2 b) (dec_lt b (blocks image))
 
   decided_data : (kind : Kind) (b h k n next : ℕ) → Decided (data_demands image kind b h k n next)
   decided_data Ofs b h k n next = decided_form b (data_form h k n next (block image b))
@@ -138,19 +128,20 @@ module _ (image : List ℕ) (w : List (Role × ℕ)) (v : IsGathered image w) wh
 
   -- whether a member is a header of a chain with a name
   dec_named : (p s c : ℕ) (name : List ℕ) (q : Role)
-      → ((m k : ℕ) × (q ≡ Head m p s k) × (uppers_in image (name_of image c) ≡ name)) ⊎ ((m k : ℕ) → q ≡ Head m p s k → uppers_in image (name_of image c) ≢ name)
+      → ((m k : ℕ) × (q ≡ Head m p s k) × (uppers_in image (name_of image c) ≡ name))
+      ⊎ ((m k : ℕ) → q ≡ Head m p s k → uppers_in image (name_of image c) ≢ name)
   dec_named p s c name (Head m x y k) =
       elim (ℕ_discrete x p) [
-        | no n ↦ inr (λ a b e. let h : first (Head m x y k) ≡ first (Head a p s b) = ap first e in absurd (n (omega arith)))
+        | no n ↦ inr (λ a b e. absurd (n cc))
         | yes e ↦ elim (ℕ_discrete y s) [
-          | no n ↦ inr (λ a b e. let h : second (Head m x y k) ≡ second (Head a p s b) = ap second e in absurd (n (omega arith)))
+          | no n ↦ inr (λ a b e. absurd (n cc))
           | yes f ↦ elim (dec_names (uppers_in image (name_of image c)) name) [
             | no n ↦ inr (λ a b e. n)
             | yes g ↦ inl (m, k, (λ t. Head m (e t) (f t) k), g)
           ]
         ]
       ]
-  dec_named p s c name q = inr (λ a b e. let h : second q ≡ second (Head a p s b) = ap second e in absurd (omega arith))
+  dec_named p s c name q = inr (λ a b e. cc)
 
   dec_fresh : (u : List (Role × ℕ)) (p s : ℕ) (name : List ℕ) → Dec ((m k c : ℕ) → Has u (Head m p s k) c → uppers_in image (name_of image c) ≢ name)
   dec_fresh [] p s name = yes (λ m k c h. absurd h)
@@ -171,7 +162,8 @@ module _ (image : List ℕ) (w : List (Role × ℕ)) (v : IsGathered image w) wh
   dec_new _ b = yes tt
 
   pub decided : (r : Role) (a b : ℕ) → Decided (demands_in image w r a b)
-  decided r a b = (dec_enough r, (dec_range b, (dec_absent w b, decided_append (form_demands_in image w r b) _ (decided_forms r b) (dec_new r b, tt))))
+  decided r a b =
+      (dec_enough r, (dec_range b, (dec_absent w b, decided_append (form_demands_in image w r b) _ (decided_forms r b) (dec_new r b, tt))))
 
   dec_free : (b : ℕ) → Dec (IsFreeIn image w b)
   dec_free b =
@@ -187,23 +179,12 @@ module _ (image : List ℕ) (w : List (Role × ℕ)) (v : IsGathered image w) wh
 
 module _ (image : List ℕ) (s : Course) (v : IsGathered image s.walk) where
   dec_unexcused : (b : ℕ) → Dec (IsUnexcused image s b)
-  dec_unexcused b = elim (dec_absent s.skipped b) [
-    | no n ↦ no (λ x. n x.0)
-    | yes y ↦ elim (dec_false (is_cache image b)) [ no n ↦ no (λ x. n x.1) | yes z ↦ yes (y, z) ]
-  ]
+  dec_unexcused b = dec_and (dec_absent s.skipped b) (dec_false (is_cache image b))
 
   dec_compared : (b : ℕ) → Dec (IsCompared image s b)
   dec_compared b =
-      elim (ℕ_discrete (word_in image (root_of image) BITMAP_FLAG) VALID) [
-        | no n ↦ no (λ x. n x.0)
-        | yes e ↦ elim (dec_low image s.walk v (Page ((b - 2) / PAGE_BITS)) (omega arith)) [
-          | no n ↦ no (λ x. n x.1)
-          | yes y ↦ elim (dec_both (IsAbsent s.walk b) (IsUnexcused image s b) (dec_absent s.walk b) (dec_unexcused b)) [
-            | no n ↦ no (λ x. n x.2)
-            | yes z ↦ yes (e, y, z)
-          ]
-        ]
-      ]
+      dec_all (ℕ_discrete (word_in image (root_of image) BITMAP_FLAG) VALID) (dec_low image s.walk v (Page ((b - 2) / PAGE_BITS)) (omega arith))
+      (dec_both (IsAbsent s.walk b) (IsUnexcused image s b) (dec_absent s.walk b) (dec_unexcused b))
 
   pub bits_told : (b n : ℕ) → (fs : List FindingValue) × BitsTell image s b n fs
   bits_told b zero = ([], ends)

@@ -5,8 +5,8 @@ use Rattle.adf_blocks.specs.declared.layout.TheConstants.{POINTERS}
 use Rattle.adf_volume.specs.Image.{root_of, table_word, word_in}
 use Rattle.adf_volume.specs.Lists.{At}
 use Rattle.adf_volume.specs.Made.{datas_in, is_data_of}
-use Rattle.adf_volume.specs.Walk.{Role, first, second, Has, FileAt, Lacks, MemberAt, data_count}
-use Rattle.adf_volume.specs.Walk.Role.{Root, Head, Ext, Data}
+use Rattle.adf_volume.specs.Walk.{Role, Has, FileAt, Lacks, MemberAt, data_count}
+use Rattle.adf_volume.specs.Walk.Role.{Head, Ext, Data}
 use Rattle.adf_volume.proofs.Gathered.{IsGathered, ext_below, ext_counted, file_one}
 use Rattle.adf_volume.proofs.Lists.{at_below, at_snoc, at_some, same_list, snoc_length}
 use Rattle.adf_volume.proofs.Roles.{has_role}
@@ -14,7 +14,7 @@ use Rattle.adf_volume.proofs.WalkMembers.{Lists, data_only, none_listed, one_mor
 use Rattle.adf_findings.specs.Files.{member_from, named_from, names_from}
 use Rattle.adf_findings.specs.Survey.{Course, IsCourse, IsNext}
 use Rattle.adf_findings.specs.Survey.IsCourse.{start, step}
-use Rattle.adf_findings.specs.Survey.JudgementValue.{clean, reported, skipped}
+use Rattle.adf_findings.specs.Survey.JudgementValue.{skipped}
 use Rattle.adf_findings.proofs.OneSurvey.{gathered}
 use Rattle.adf_findings.proofs.SoundMarks.{taken_wanted}
 
@@ -32,7 +32,7 @@ module _ (image : List ℕ) where
     DatasListed w = Lists (is_data_of n) (λ k. Data n (suc k)) w
 
     no_data_head : (k m p s j : ℕ) → Data n k ≡ Head m p s j → ⊥
-    no_data_head k m p s j e = let x : second (Data n k) ≡ second (Head m p s j) = ap second e in omega arith
+    no_data_head k m p s j e = cc
 
     module _ (s : Course) (v : IsCourse image s) (clear : (k b : ℕ) → Has s.skipped (Data n k) b → ⊥) (old : DatasListed s.walk) where
       -- it is asked for, and neither in the walk nor skipped
@@ -63,22 +63,21 @@ module _ (image : List ℕ) where
     -- a file of which no data block was skipped
     pub datas_listed : {s : Course} → IsCourse image s → ((k b : ℕ) → Has s.skipped (Data n k) b → ⊥) → DatasListed s.walk
     datas_listed (start boot root) clear = none_listed (is_data_of n) (λ k. Data n (suc k)) (λ k. eq-eqb n n refl) (root_of image) refl
-    datas_listed (step {s = s} {r = r} {a = a} {i = i} clean v d g) clear = more_listed s v clear (datas_listed v clear) r a i d
-    datas_listed (step {s = s} {r = r} {a = a} {i = i} (reported at c) v d g) clear = more_listed s v clear (datas_listed v clear) r a i d
     datas_listed (step (skipped at c) v d g) clear = datas_listed v (λ k b h. clear k b (inr h))
+    datas_listed (step {s = s} {r = r} {a = a} {i = i} _ v d g) clear = more_listed s v clear (datas_listed v clear) r a i d
 
     module _ {s : Course} (v : IsCourse image s) (h : ℕ) (file : FileAt image s.walk n h) where
       -- each member is named by the one before
       pub member_is : (m a : ℕ) → MemberAt image s.walk n m a → member_from image h m ≡ a
       member_is zero a g = file_one image (gathered image v) n h a file g
       member_is (suc zero) a g = elim (taken_wanted image v (Ext n 1) a g) [
-        | inl e ↦ let x : first Root ≡ first (Ext n 1) = ap first e in absurd (omega arith)
+        | inl e ↦ cc
         | inr x ↦
             let here : h ≡ x.holder = file_one image (gathered image v) n h x.holder file x.asked.0 in
             (λ t. word_in image (here t) (sym x.asked.1 t)) ∙ x.named
       ]
       member_is (suc (suc m)) a g = elim (taken_wanted image v (Ext n (suc (suc m))) a g) [
-        | inl e ↦ let x : first Root ≡ first (Ext n (suc (suc m))) = ap first e in absurd (omega arith)
+        | inl e ↦ cc
         | inr x ↦
             let here : member_from image h (suc m) ≡ x.holder = member_is (suc m) x.holder x.asked.0 in
             (λ t. word_in image (here t) (sym x.asked.1 t)) ∙ x.named
@@ -87,7 +86,7 @@ module _ (image : List ℕ) where
       -- a data block is the one that the table names, and among those that the size asks for
       pub data_is : (k b : ℕ) → Has s.walk (Data n (suc k)) b → (named_from image h k ≡ b) × (k < data_count image h)
       data_is k b g = elim (taken_wanted image v (Data n (suc k)) b g) [
-        | inl e ↦ let x : first Root ≡ first (Data n (suc k)) = ap first e in absurd (omega arith)
+        | inl e ↦ cc
         | inr x ↦
             let here : member_from image h (k / POINTERS) ≡ x.holder = member_is (k / POINTERS) x.holder x.asked.1 in
             let own : x.asked.0.0 ≡ h = file_one image (gathered image v) n x.asked.0.0 h x.asked.0.1 file in

@@ -7,7 +7,6 @@ use Rattle.std.proofs.lemmas.Grind.{common_steps}
 use Rattle.adf_blocks.specs.declared.cause.Cause.{Cause}
 use Rattle.adf_blocks.specs.declared.layout.TheConstants.{PAGE_BITS}
 use Rattle.adf_blocks.specs.Sizes.{blocks, pages_needed}
-use Rattle.adf_base.specs.Words.{block}
 use Rattle.adf_volume.specs.Image.{word_in, root_of}
 use Rattle.adf_volume.specs.Demands.{AllHold, FirstFails, boot_demands, root_demands}
 use Rattle.adf_volume.specs.Walk.{Role, Lacks, IsDue, IsAbsent, IsWalk, IsWhole, FirstFault, bitmap_demands, demands}
@@ -62,13 +61,13 @@ module _ (image : List ℕ) where
   stepped w over [] r a i (skipped at c) k n h =
       at_due k.0 w r a i k.1 (due w over [] r a i k.2 n) (plain w r a (word_in image a i) (skipped at c) k.0 h).0
   stepped w over (f ∷ fs) r a i clean k n h = k
-  stepped w over (f ∷ fs) r a i (reported at c) k n h = k
-  stepped w over (f ∷ fs) r a i (skipped at c) k n h = k
+  stepped w over (f ∷ fs) r a i _ k n h = k
 
   -- the first finding of boot block and root
   started : {fs gs : List FindingValue} → BootTells image fs → RootTells image gs → Known ((Root, root_of image) ∷ []) [] (fs ++ gs)
   started (clean_boot h) (clean_root g) = (all_append (boot_demands image) (root_demands image (root_of image)) h g, walk_start, refl)
-  started (clean_boot h) (reported_root {at = at} {c = c} g) = at_boot (fails_right (boot_demands image) (root_demands image (root_of image)) at c h g.0)
+  started (clean_boot h) (reported_root {at = at} {c = c} g) =
+      at_boot (fails_right (boot_demands image) (root_demands image (root_of image)) at c h g.0)
   started (other_type {at = at} {c = c} h e) t = at_boot (fails_left (boot_demands image) (root_demands image (root_of image)) at c h)
 
   known : {s : Course} → IsCourse image s → Known s.walk s.skipped s.findings
@@ -108,12 +107,14 @@ module _ (image : List ℕ) where
   agreed w b n [] h t = (h.0, (h.1.0, t))
   agreed w b n (f ∷ fs) h t = inr (h.0, inr (h.1.0, t))
 
-  differed : (w : List (Role × ℕ)) (b n at : ℕ) (c : Cause) → FirstFails (bitmap_demands image w b 1) at c → FirstFails (bitmap_demands image w b (suc n)) at c
+  differed : (w : List (Role × ℕ)) (b n at : ℕ) (c : Cause) → FirstFails (bitmap_demands image w b 1) at c
+      → FirstFails (bitmap_demands image w b (suc n)) at c
   differed w b n at c (inl h) = inl h
   differed w b n at c (inr (x, inl h)) = inr (x, inl h)
   differed w b n at c (inr (x, inr h)) = absurd h.1
 
-  told : {s : Course} {b n : ℕ} {fs : List FindingValue} → BitsTell image s b n fs → ((c : ℕ) → b ≤ c → c < b + n → IsCompared image s c) → Told s.walk b n fs
+  told : {s : Course} {b n : ℕ} {fs : List FindingValue} → BitsTell image s b n fs → ((c : ℕ) → b ≤ c → c < b + n → IsCompared image s c)
+      → Told s.walk b n fs
   told ends all = tt
   told {s = s} (agrees {b = b} {n = n} {fs = fs} h t) all =
       agreed s.walk b n fs (h (all b (omega arith) (omega arith))) (told t (λ c lo hi. all c (omega arith) (omega arith)))
@@ -161,6 +162,7 @@ none_found image w v =
     fits image w k.1 k.2 b.0 b.1 k.3
 
 -- where a tree and a layout fit, a survey has no finding
-pub finds_none : (image : List ℕ) (t : Tree) (l : Layout) (w : List (Role × ℕ)) (fs : List FindingValue) → Fits image t l → IsSurvey image w fs → fs ≡ []
+pub finds_none : (image : List ℕ) (t : Tree) (l : Layout) (w : List (Role × ℕ)) (fs : List FindingValue) → Fits image t l
+    → IsSurvey image w fs → fs ≡ []
 finds_none image t l w [] fit v = refl
 finds_none image t l w (f ∷ fs) fit v = absurd (none_fits image f.block f.cause t l (first_finding image w f fs v) fit)

@@ -1,11 +1,11 @@
 -- The findings that leave a file its blocks, and the others.
 -- Letters: f, g findings; fs, gs lists of them; xs the same as they are kept; n a file's node; k a part's number.
-use Rattle.std.specs.Prelude.{◌&&◌, Bool, cond, map, not, Some}
+use Rattle.std.specs.Prelude.{◌&&◌, Bool, map, not, Some}
 use Rattle.std.specs.List.{filter}
-use Rattle.std.proofs.Common.{◌≡◌, ◌∙◌, ℕ, List, [], ◌∷◌, ap, arith, false, inl, inr, refl, true}
+use Rattle.std.proofs.Common.{◌≡◌, ◌∙◌, ℕ, List, [], ◌∷◌, ap, sym, arith, false, inl, inr, true}
 use Rattle.std.proofs.lemmas.Grind.{common_steps}
 use Rattle.adf_volume.specs.Lists.{In}
-use Rattle.adf_volume.specs.Walk.{Role, second}
+use Rattle.adf_volume.specs.Walk.{Role}
 use Rattle.adf_volume.specs.Walk.Role.{Data, Ext, Head}
 use Rattle.adf_volume.proofs.Roles.{same_role}
 use Rattle.adf_findings.specs.declared.part.Finding.{Finding}
@@ -13,37 +13,26 @@ use Rattle.adf_findings.specs.Files.{IsSoundFile, counting, grave, is_harmless, 
 use Rattle.adf_findings.specs.Parts.{finding_value}
 use Rattle.adf_findings.specs.Sound.{IsUnreported}
 use Rattle.adf_findings.specs.Survey.{FindingValue}
+use Rattle.std.proofs.lemmas.Bool.{cond_both}
+use Rattle.adf_tree.proofs.Lists.{filter_of_map}
 
 -- a grave finding is a finding
 pub grave_is : (fs : List FindingValue) (g : FindingValue) → In (grave fs) g → In fs g
 grave_is [] g h = h
-grave_is (f ∷ fs) g h = go (not (is_light f)) h (grave_is fs g)
-  where
-    go : (t : Bool) → In (cond t (f ∷ grave fs) (grave fs)) g → (In (grave fs) g → In fs g) → In (f ∷ fs) g
-    go true (inl e) again = inl e
-    go true (inr h) again = inr (again h)
-    go false h again = inr (again h)
+grave_is (f ∷ fs) g h =
+    cond_both (not (is_light f)) (f ∷ grave fs) (grave fs) (λ gs. In gs g → In (f ∷ fs) g)
+    (λ t i. elim i [ inl e ↦ inl e | inr k ↦ inr (grave_is fs g k) ]) (λ t i. inr (grave_is fs g i)) h
 
 -- a finding that is not light is a grave one
 pub is_grave : (fs : List FindingValue) (g : FindingValue) → In fs g → is_light g ≡ false → In (grave fs) g
 is_grave [] g h e = h
 is_grave (f ∷ fs) g (inl z) e = grind (arith, common_steps)
-is_grave (f ∷ fs) g (inr h) e = go (not (is_light f)) (is_grave fs g h e)
-  where
-    go : (t : Bool) → In (grave fs) g → In (cond t (f ∷ grave fs) (grave fs)) g
-    go true h = inr h
-    go false h = h
+is_grave (f ∷ fs) g (inr h) e =
+    let i = is_grave fs g h e in cond_both (not (is_light f)) (f ∷ grave fs) (grave fs) (λ gs. In gs g) (λ t. inr i) (λ t. i)
 
 -- the grave findings among those that are kept
 pub grave_kept : (xs : List Finding) → map finding_value (filter (λ x. not (is_light (finding_value x))) xs) ≡ grave (map finding_value xs)
-grave_kept [] = refl
-grave_kept (x ∷ xs) = go (not (is_light (finding_value x))) (grave_kept xs)
-  where
-    go : (t : Bool) → map finding_value (filter (λ x. not (is_light (finding_value x))) xs) ≡ grave (map finding_value xs)
-        → map finding_value (cond t (x ∷ filter (λ x. not (is_light (finding_value x))) xs) (filter (λ x. not (is_light (finding_value x))) xs))
-        ≡ cond t (finding_value x ∷ grave (map finding_value xs)) (grave (map finding_value xs))
-    go true e = ap (λ (gs : List FindingValue). finding_value x ∷ gs) e
-    go false e = e
+grave_kept xs = sym (filter_of_map finding_value (λ f. not (is_light f)) xs)
 
 -- a finding of no header counts
 pub counts : (b : Bool) (fs : List FindingValue) (g : FindingValue) → In fs g → is_head g.part ≡ false → In (counting b fs) g
@@ -53,16 +42,12 @@ counts false fs g h e = h
 -- where no finding that counts concerns an extension block, none does
 pub ext_unreported : (b : Bool) (fs : List FindingValue) (n k : ℕ) → IsUnreported (counting b fs) (Ext n k) → IsUnreported fs (Ext n k)
 ext_unreported b fs n k none g q h e same =
-    let is : q ≡ Ext n k =
-    same_role q (Ext n k) same (λ a m p s j e f. let x : second (Ext n k) ≡ second (Head m p s j) = ap second f in absurd (omega arith)) in
-    none g q (counts b fs g h (ap is_head e ∙ ap (λ r. is_head (Some r)) is)) e same
+    let is = same_role q (Ext n k) same (λ a m p s j e f. cc) in none g q (counts b fs g h (ap is_head e ∙ ap (λ r. is_head (Some r)) is)) e same
 
 -- nor a data block
 pub data_unreported : (b : Bool) (fs : List FindingValue) (n k : ℕ) → IsUnreported (counting b fs) (Data n k) → IsUnreported fs (Data n k)
 data_unreported b fs n k none g q h e same =
-    let is : q ≡ Data n k =
-    same_role q (Data n k) same (λ a m p s j e f. let x : second (Data n k) ≡ second (Head m p s j) = ap second f in absurd (omega arith)) in
-    none g q (counts b fs g h (ap is_head e ∙ ap (λ r. is_head (Some r)) is)) e same
+    let is = same_role q (Data n k) same (λ a m p s j e f. cc) in none g q (counts b fs g h (ap is_head e ∙ ap (λ r. is_head (Some r)) is)) e same
 
 -- a sound file is sound by the grave findings
 less_unreported : (fs : List FindingValue) (r : Role) → IsUnreported fs r → IsUnreported (grave fs) r

@@ -4,8 +4,8 @@ use Rattle.std.proofs.Common.{◌≡◌, ℕ, zero, suc, List, [], ◌∷◌, �
 use Rattle.std.proofs.lemmas.Bool.{and_parts, eqb-true, eq-eqb}
 use Rattle.std.proofs.lemmas.Bool.Decides.{eqb_tells, nat_tests}
 use Rattle.std.proofs.lemmas.Grind.{common_steps}
-use Rattle.adf_volume.specs.Walk.{Role, second, Has, Asks, heads}
-use Rattle.adf_volume.specs.Walk.Role.{Root, Page, MapExt, Head, Ext, Data}
+use Rattle.adf_volume.specs.Walk.{Role, Has, Asks, heads}
+use Rattle.adf_volume.specs.Walk.Role.{Root, Head}
 use Rattle.adf_volume.proofs.Gathered.{IsGathered, number_of}
 use Rattle.adf_volume.proofs.Gathered.IsGathered.{start, step}
 use Rattle.adf_volume.proofs.Lists.{get_before, snoc_length}
@@ -23,14 +23,15 @@ other_parent image w n (Head m p s j) a i c d u = grind (arith, common_steps, as
 other_parent image w n _ a i c d u = refl
 
 pub head_parent : (image : List ℕ) {w : List (Role × ℕ)} → IsGathered image w → (n p s j b : ℕ) → Has w (Head n p s j) b → parent_node w n ≡ p
-head_parent image start n p s j b (inl e) = let h : second Root ≡ second (Head n p s j) = ap second e.0 in absurd (omega arith)
+head_parent image start n p s j b (inl e) = let root = e.0 in cc
 head_parent image start n p s j b (inr f) = absurd f
 head_parent image (step {w = w} {r = r} a i c v d l) n p s j b (inl e) = grind (arith, common_steps, step, eq-eqb)
 head_parent image (step {w = w} {r = r} a i c v d l) n p s j b (inr h) =
     let u : (1 ≤ n) × (n ≤ heads w) = number_of image v (head_at n p s j b h) in
     other_parent image w n r a i (parent_node w n) d (omega arith) ∙ head_parent image v n p s j b h
 
-get_cases : {A : Type 0} (xs : List A) (x y : A) (k : ℕ) → slice_get (xs ++ x ∷ []) k ≡ Some y → (slice_get xs k ≡ Some y) ⊎ ((k ≡ length xs) × (x ≡ y))
+get_cases : {A : Type 0} (xs : List A) (x y : A) (k : ℕ) → slice_get (xs ++ x ∷ []) k ≡ Some y
+    → (slice_get xs k ≡ Some y) ⊎ ((k ≡ length xs) × (x ≡ y))
 get_cases [] x y zero e = inr (refl, cc)
 get_cases [] x y (suc k) e = cc
 get_cases (z ∷ xs) x y zero e = inl e
@@ -39,11 +40,7 @@ get_cases (z ∷ xs) x y (suc k) e = elim (get_cases xs x y k e) [ inl h ↦ inl
 places_long : (w : List (Role × ℕ)) → length (places_of w) ≡ heads w
 places_long [] = refl
 places_long ((Head n p s j, b) ∷ w) = snoc_length (places_of w) (record { slot = s; place = j }) ∙ ap suc (places_long w)
-places_long ((Root, b) ∷ w) = places_long w
-places_long ((Page i, b) ∷ w) = places_long w
-places_long ((MapExt j, b) ∷ w) = places_long w
-places_long ((Ext n k, b) ∷ w) = places_long w
-places_long ((Data n k, b) ∷ w) = places_long w
+places_long (_ ∷ w) = places_long w
 
 module _ (image : List ℕ) where
   -- the place of an earlier header stays
@@ -56,7 +53,7 @@ module _ (image : List ℕ) where
   -- each header has its place
   place_kept : {w : List (Role × ℕ)} → IsGathered image w → (n p s j b : ℕ) → Has w (Head n p s j) b
       → slice_get (places_of w) (n - 1) ≡ Some (record { slot = s; place = j })
-  place_kept start n p s j b (inl e) = let h : second Root ≡ second (Head n p s j) = ap second e.0 in absurd (omega arith)
+  place_kept start n p s j b (inl e) = let root = e.0 in cc
   place_kept start n p s j b (inr f) = absurd f
   place_kept (step {w = w} {r = r} a i c v d l) n p s j b (inl e) =
       let k : n ≡ suc (heads w) = asks_number image w n p s j a i (subst (λ r. Asks image w r a i) e.0 d) in

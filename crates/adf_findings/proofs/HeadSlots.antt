@@ -39,7 +39,8 @@ pub same_cause : (l : Letters) (kind : Kind) (own up s t : ℕ) (b : List ℕ)
     → (is_name_at b NAME ≡ true → (slot_of (text_at b NAME) == t) ≡ (slot_by l (text_at b NAME) == s))
     → first_cause (head_form kind own up t b) ≡ first_cause (head_form_by l kind own up s b)
 same_cause l kind own up s t b h =
-    same_behind (front own up b) (is_name_at b NAME) BadName (behind kind (slot_of (text_at b NAME) == t) b) (behind kind (slot_by l (text_at b NAME) == s) b)
+    same_behind (front own up b) (is_name_at b NAME) BadName (behind kind (slot_of (text_at b NAME) == t) b)
+    (behind kind (slot_by l (text_at b NAME) == s) b)
     (λ named. ap (λ slot. first_cause (behind kind slot b)) (h named))
 
 -- so is the cause that a reader answers of block x, at b

@@ -72,7 +72,8 @@ first_is a b true true true n form E R T N he hr ht hn =
     let xs : List Demand = demands_at b form ++ demand SameName b N ∷ [] in
     pass_on (demand ShortFile a E) (demand OutOfRange a R ∷ demand Taken b T ∷ xs) o he
     (pass_on (demand OutOfRange a R) (demand Taken b T ∷ xs) o hr
-    (pass_on (demand Taken b T) xs o (ht refl) (first_more b form (demand SameName b N ∷ []) (cond n None (Some (b, SameName))) (first_new b n N hn))))
+    (pass_on (demand Taken b T) xs o (ht refl) (first_more b form (demand SameName b N ∷ []) (cond n None (Some (b, SameName)))
+    (first_new b n N hn))))
 
 itself_clause : (k c : Bool) → Tells (k || c) (k ≡ false → c ≡ true)
 itself_clause true c = λ (e : true ≡ false). cc
@@ -85,11 +86,12 @@ both true false P Q p q = λ h. q h.1
 both false t P Q p q = λ h. p h.0
 
 -- the form and what stands behind it, of slight causes
-itself_more : (r : Role) (b : ℕ) (form : List Clause) (ys : List Demand) → IsItself r ys → Tells (itself_by r form) (IsItself r (demands_at b form ++ ys))
+itself_more : (r : Role) (b : ℕ) (form : List Clause) (ys : List Demand) → IsItself r ys
+    → Tells (itself_by r form) (IsItself r (demands_at b form ++ ys))
 itself_more r b [] ys h = h
 itself_more r b (c ∷ cs) ys h =
-    both (is_kept r c.1 || c.0) (itself_by r cs) (is_kept r c.1 ≡ false → c.0 ≡ true) (IsItself r (demands_at b cs ++ ys)) (itself_clause (is_kept r c.1) c.0)
-    (itself_more r b cs ys h)
+    both (is_kept r c.1 || c.0) (itself_by r cs) (is_kept r c.1 ≡ false → c.0 ≡ true) (IsItself r (demands_at b cs ++ ys))
+    (itself_clause (is_kept r c.1) c.0) (itself_more r b cs ys h)
 
 -- but for pages, of which it is not asked, short files and equal names are slight
 short_slight : (image : List ℕ) (w : List (Role × ℕ)) (r : Role) → is_kept r ShortFile ≡ false → Enough image w r

@@ -52,7 +52,8 @@ module _ (image : List ℕ) (f : Found) (x : Reference) (part : Part) (facts : F
         let form = form_of image part x.block facts.context in
         let named : IsNamed image f x.part x.holder n.0 s = record { holds = h; asked = n.1.asked } in
         let valid = valid_name image part x.block facts.context
-        (no_cause x.holder x.block facts.is_enough (in_range image x.block) facts.is_absent (keeps image part x.block facts) (first_cause form) (sym e)) in
+        (no_cause x.holder x.block facts.is_enough (in_range image x.block) facts.is_absent (keeps image part x.block facts)
+        (first_cause form) (sym e)) in
         let now = tells s.walk (known_named named part is) (known_chain named part is) valid in
         subst (Judged (role_of part) (demands_in image s.walk (role_of part) x.holder x.block))
         (name_cause x.holder x.block facts.is_enough (in_range image x.block) facts.is_absent (itself_by (role_of part) form)

@@ -6,8 +6,8 @@ use Rattle.std.proofs.Common.{◌≡◌, ℕ, List, [], ◌++◌, ◌≤◌, ref
 use Rattle.std.proofs.lemmas.Grind.{common_steps}
 use Rattle.adf_blocks.specs.Sizes.{blocks}
 use Rattle.adf_volume.proofs.Gathered.{head_block, numbered as has_number}
-use Rattle.adf_volume.specs.Walk.{Role, second, Has, heads, node_block}
-use Rattle.adf_volume.specs.Walk.Role.{Root, Page, Head}
+use Rattle.adf_volume.specs.Walk.{Role, Has, heads, node_block}
+use Rattle.adf_volume.specs.Walk.Role.{Page, Head}
 use Rattle.adf_volume.proofs.Roles.{head_role}
 use Rattle.adf_findings.specs.Found.{parent_node}
 use Rattle.adf_findings.specs.declared.found.Found.{Found}
@@ -31,8 +31,8 @@ use Rattle.adf_findings.proofs.Starts.{course_size}
 use Rattle.adf_findings.proofs.Taking.{stands_but}
 
 -- of an image of which nothing is taken the findings are kept alone
-pub unread_kept : (v : SurveyValue) → UnreadTells v.image (map finding_value v.findings) → v.concerned ≡ [] → v.owners ≡ [] → v.numbers ≡ [] → v.taken ≡ []
-    → v.nodes ≡ []
+pub unread_kept : (v : SurveyValue) → UnreadTells v.image (map finding_value v.findings) → v.concerned ≡ [] → v.owners ≡ [] → v.numbers ≡ []
+    → v.taken ≡ [] → v.nodes ≡ []
     → v.parents ≡ [] → v.sound ≡ [] → v.whole ≡ [] → IsOfSurvey v
 unread_kept v told concerned owners numbers taken nodes parents sound whole = (
   [],
@@ -131,5 +131,5 @@ header_inside image w fs (read {s = s} v d t) n lo hi =
     let x = has_number image (gathered image v) n lo hi in
     let at : node_block s.walk n ≡ x.0 = head_block image (gathered image v) x.1 in
     let lt : x.0 < blocks image =
-    inside image v (head_role x.1) x.0 (λ e. let y : second Root ≡ second (head_role x.1) = ap second e in omega arith) x.1.has in
+    inside image v (head_role x.1) x.0 (λ e. cc) x.1.has in
     ((course_size image v).0, omega arith)

@@ -16,11 +16,11 @@ use Rattle.adf_blocks.specs.Sizes.{blocks}
 use Rattle.adf_volume.specs.Image.{letters_of, name_of, table_word, word_in}
 use Rattle.adf_volume.specs.Positions.{position_of}
 use Rattle.adf_volume.specs.Walk.{Role, Asks, Enough, FileAt, Has, IsAbsent, data_count, ext_block_in, ext_count, member_block, next_data, node_block}
-use Rattle.adf_volume.specs.Walk.Role.{Root, Page, MapExt, Head, Ext, Data}
+use Rattle.adf_volume.specs.Walk.Role.{Head, Ext, Data}
 use Rattle.adf_volume.proofs.Gathered.{IsGathered, head_block}
 use Rattle.adf_findings.specs.Demands.{NewNameIn, uppers_in}
 use Rattle.adf_findings.specs.declared.part.Part.{Part}
-use Rattle.adf_findings.specs.declared.part.Part.TheVariants.{Root as RootPart, Page as PagePart, MapExt as MapExtPart, Head as HeadPart}
+use Rattle.adf_findings.specs.declared.part.Part.TheVariants.{Head as HeadPart}
 use Rattle.adf_findings.specs.declared.part.Part.TheVariants.{Ext as ExtPart, Data as DataPart}
 use Rattle.adf_findings.specs.declared.judge.Facts.{Facts}
 use Rattle.adf_findings.specs.declared.found.Found.{Found}
@@ -72,8 +72,8 @@ tells_new image [] p s name = λ m k c h. absurd h
 tells_new image (x ∷ w) p s name =
     go (is_named image x.0 x.1 p s name) (has_name image w p s name) (tells_named image x.0 x.1 p s name) (tells_new image w p s name)
   where
-    go : (t u : Bool) → Tells (not t) ((m k : ℕ) → x.0 ≡ Head m p s k → uppers_in image (name_of image x.1) ≢ name) → Tells (not u) (Fresh image p s name w)
-        → Tells (not (t || u)) (Fresh image p s name (x ∷ w))
+    go : (t u : Bool) → Tells (not t) ((m k : ℕ) → x.0 ≡ Head m p s k → uppers_in image (name_of image x.1) ≢ name)
+        → Tells (not u) (Fresh image p s name w) → Tells (not (t || u)) (Fresh image p s name (x ∷ w))
     go true u h k = λ f. h (λ m i e. f m i x.1 (inl (e, refl)))
     go false true h k = λ f. k (λ m i c g. f m i c (inr g))
     go false false h k = grind (arith, common_steps)
@@ -95,7 +95,7 @@ known_names image w n p s zero names named none name valid = sym (no_name image 
 known_names image w n p s (suc j) names named (m, c, h) name valid = named name m p s j c valid refl refl h
 
 -- the names kept with that of a header; `begun` has those before it
-module _ (image : List ℕ) (part : Part) (b n p s j : ℕ) (old begun : Names) (is : part ≡ HeadPart n p s j)
+module _ (image : List ℕ) {part : Part} (b : ℕ) {n p s j : ℕ} (old begun : Names) (is : part ≡ HeadPart n p s j)
     (begins : (x : List ℕ) → has begun x ≡ known_at j (has old x)) where
   -- the name of the header, if it is valid
   module _ (name : List ℕ) (told : name ≡ uppers_in image (name_of image b)) where
@@ -129,22 +129,8 @@ at_ext ((Ext q k, b) ∷ w) n m = go (n == q) (m == k) refl refl (at_ext w n m)
     go true true e f h = grind (arith, common_steps, eqb-true, equal_keys, eq-eqb)
     go true false e f h = grind (arith, common_steps, nat_tests, equal_keys)
     go false t e f h = grind (arith, common_steps, nat_tests, equal_keys)
-at_ext ((Root, b) ∷ w) n m =
-    let none : is_eq (by_key (key_of Root) (key_of (Ext n m))) ≡ false = equal_keys (key_of Root) (key_of (Ext n m)) ∙ grind (arith, nat_tests) in
-    rw none (at_ext w n m)
-at_ext ((Page i, b) ∷ w) n m =
-    let none : is_eq (by_key (key_of (Page i)) (key_of (Ext n m))) ≡ false = equal_keys (key_of (Page i)) (key_of (Ext n m)) ∙ grind (arith, nat_tests) in
-    rw none (at_ext w n m)
-at_ext ((MapExt j, b) ∷ w) n m =
-    let none : is_eq (by_key (key_of (MapExt j)) (key_of (Ext n m))) ≡ false = equal_keys (key_of (MapExt j)) (key_of (Ext n m)) ∙ grind (arith, nat_tests) in
-    rw none (at_ext w n m)
-at_ext ((Head q p s j, b) ∷ w) n m =
-    let none : is_eq (by_key (key_of (Head q p s j)) (key_of (Ext n m))) ≡ false =
-    equal_keys (key_of (Head q p s j)) (key_of (Ext n m)) ∙ grind (arith, nat_tests) in
-    rw none (at_ext w n m)
-at_ext ((Data q k, b) ∷ w) n m =
-    let none : is_eq (by_key (key_of (Data q k)) (key_of (Ext n m))) ≡ false =
-    equal_keys (key_of (Data q k)) (key_of (Ext n m)) ∙ grind (arith, nat_tests) in
+at_ext ((r, b) ∷ w) n m =
+    let none : is_eq (by_key (key_of r) (key_of (Ext n m))) ≡ false = equal_keys (key_of r) (key_of (Ext n m)) ∙ grind (arith, nat_tests) in
     rw none (at_ext w n m)
 
 module _ (image : List ℕ) (f : Found) (s : Course) (st : Stands image f s) where
@@ -159,12 +145,10 @@ module _ (image : List ℕ) (f : Found) (s : Course) (st : Stands image f s) whe
   next_is n k = λ t. cond (nat_lt k (data_count image (st.node n t))) (word_in image (member_found n (k / POINTERS) t) (table_word k)) 0
 
   context_is : (part : Part) → IsContext image s.walk (role_of part) (context_in image f part)
-  context_is RootPart = tt
-  context_is (PagePart i) = tt
-  context_is (MapExtPart j) = tt
   context_is (HeadPart n p t j) = st.node p
   context_is (ExtPart n k) = st.node n
   context_is (DataPart n k) = (st.node n, next_is n k)
+  context_is _ = tt
 
   enough_tells : (n k h : ℕ) → IsGathered image s.walk → FileAt image s.walk n h → (t : Bool)
       → nat_le (data_count image (node_block s.walk n)) (POINTERS * suc (ext_count s.walk n)) ≡ t
@@ -182,24 +166,16 @@ module _ (image : List ℕ) (f : Found) (s : Course) (st : Stands image f s) whe
 
   enough_is : (part : Part) (a i : ℕ) → IsGathered image s.walk → Asks image s.walk (role_of part) a i
       → Tells (enough_in image f part) (Enough image s.walk (role_of part))
-  enough_is RootPart a i v h = tt
-  enough_is (PagePart k) a i v h = tt
-  enough_is (MapExtPart j) a i v h = tt
-  enough_is (HeadPart n p t j) a i v h = tt
-  enough_is (ExtPart n k) a i v h = tt
   enough_is (DataPart n zero) a i v h = absurd h
   enough_is (DataPart n (suc k)) a i v h =
       subst (λ t. Tells (not (suc k == 1) || t) (Enough image s.walk (Data n (suc k))))
       (λ t. nat_le (data_count image (sym (st.node n) t)) (POINTERS * suc (sym (st.ext n) t)))
       (enough_tells n (suc k) h.0.0 v h.0.1 (nat_le (data_count image (node_block s.walk n)) (POINTERS * suc (ext_count s.walk n))) refl)
+  enough_is _ a i v h = tt
 
   pub new_is : (part : Part) (b : ℕ) → Tells (new_in image s.walk part b) (NewNameIn image s.walk (role_of part) b)
   new_is (HeadPart n p t j) b = tells_new image s.walk p t (uppers_in image (name_of image b))
-  new_is RootPart b = tt
-  new_is (PagePart k) b = tt
-  new_is (MapExtPart j) b = tt
-  new_is (ExtPart n k) b = tt
-  new_is (DataPart n k) b = tt
+  new_is _ b = tt
 
   below : (b : ℕ) → in_range image b ≡ true → b < blocks image
   below b e = grind (arith, nat_tests)

@@ -95,7 +95,8 @@ left_pieces image size found j (b ∷ bs) h =
     ∙ append_assoc (bytes_left image size found j) (piece kind size (j + 1) (block image b)) rest))
 
 -- and no bytes are made up
-no_gaps : (image : List ℕ) (size : ℕ) (found : ℕ → Option ℕ) (k : ℕ) → ((i : ℕ) → i < k → (b : ℕ) × (found i ≡ Some b)) → gaps_left image size found k ≡ []
+no_gaps : (image : List ℕ) (size : ℕ) (found : ℕ → Option ℕ) (k : ℕ) → ((i : ℕ) → i < k → (b : ℕ) × (found i ≡ Some b))
+    → gaps_left image size found k ≡ []
 no_gaps image size found zero h = refl
 no_gaps image size found (suc k) h =
     let here = h k (omega arith) in
@@ -108,8 +109,8 @@ is_found image {s = s} v n k b has = go (data_found s.walk n k) refl
     go : (o : Option ℕ) → data_found s.walk n k ≡ o → data_found s.walk n k ≡ Some b
     go None e = absurd (lacks_at s.walk (Data n (suc k)) e (Data n (suc k)) b has (same_refl (Data n (suc k))))
     go (Some c) e =
-        e
-        ∙ ap Some (one_block image (gathered image v) (Data n (suc k)) (Data n (suc k)) c b (has_data s.walk n (suc k) c e) has (same_refl (Data n (suc k)))).1
+        let r : Role = Data n (suc k) in
+        e ∙ ap Some (one_block image (gathered image v) r r c b (has_data s.walk n (suc k) c e) has (same_refl r)).1
 
 -- what is left of a sound file is its content, and nothing is made up
 pub left_of_sound : (image : List ℕ) (w : List (Role × ℕ)) (fs : List FindingValue) (c : Bool) (n : ℕ) → IsSurvey image w fs

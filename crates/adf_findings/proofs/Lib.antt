@@ -41,7 +41,6 @@ pub mod Concerning
 pub mod BlockOwners
 pub mod Keeping
 -- what is left of files
-pub mod FoundFiles
 pub mod Gaps
 pub mod DataFound
 pub mod LeftOfSound

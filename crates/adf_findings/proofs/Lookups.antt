@@ -1,12 +1,14 @@
--- Look-up of paths among the entries found.
+-- Look-up of paths among the entries found, and which of these are files.
 use Rattle.std.specs.Prelude.{Bool, true, ◌↔◌, drop, get_or}
 use Rattle.std.proofs.Math.Seq.{drop-cons}
+use Rattle.std.proofs.lemmas.Bool.{eqb-true, eq-eqb}
 use Rattle.std.specs.Str.{bytes_eq}
 use Rattle.std.proofs.lemmas.Slice.Eq.{bytes_eq-Decides}
-use Rattle.adf_volume.specs.Image.{name_of}
-use Rattle.std.proofs.Common.{◌≡◌, ℕ, zero, suc, List, ◌∷◌, ◌+◌, length, ◌<◌, ◌≤◌, sym, ap, subst, ◌∙◌, arith}
+use Rattle.adf_volume.specs.Image.{name_of, word_in}
+use Rattle.adf_blocks.specs.declared.layout.TheConstants.{SECONDARY_TYPE, ST_FILE}
+use Rattle.std.proofs.Common.{◌≡◌, ℕ, zero, suc, List, ◌∷◌, ◌+◌, ◌==◌, length, ◌<◌, ◌≤◌, sym, ap, subst, ◌∙◌, arith}
 use Rattle.std.proofs.lemmas.Grind.{common_steps}
-use Rattle.adf_volume.specs.Walk.{Role, Has, HeadAt, heads, node_block}
+use Rattle.adf_volume.specs.Walk.{FileAt, Role, Has, HeadAt, heads, node_block}
 use Rattle.adf_volume.specs.Walk.Role.{Head}
 use Rattle.adf_volume.proofs.Gathered.{head_block, number_of, parent_below, node_there}
 use Rattle.adf_volume.proofs.Roles.{head_at}
@@ -35,9 +37,25 @@ header_one : (image : List ℕ) (w : List (Role × ℕ)) (fs : List FindingValue
 header_one image w fs (unread f) n p s j b g = absurd g
 header_one image w fs (read v d t) n p s j b g = head_block image (gathered image v) (head_at n p s j b g)
 
+-- the number of an entry that is found
+pub file_between : (image : List ℕ) (w : List (Role × ℕ)) (fs : List FindingValue) → IsSurvey image w fs → (n h : ℕ) → FileAt image w n h
+    → (1 ≤ n) × (n ≤ heads w)
+file_between image w fs (unread f) n h at = absurd at.header.has
+file_between image w fs (read v d t) n h at = number_of image (gathered image v) at.header
+
+-- an entry is a file where its header says so
+pub file_told : (image : List ℕ) (w : List (Role × ℕ)) (fs : List FindingValue) → IsSurvey image w fs → (n : ℕ) (t : Bool) → 1 ≤ n → n ≤ heads w
+    → t ≡ (word_in image (node_block w n) SECONDARY_TYPE == ST_FILE) → (t ≡ true) ↔ ((h : ℕ) × FileAt image w n h)
+file_told image w fs survey n t lo hi e =
+    let at : (h : ℕ) → HeadAt w n h → word_in image (node_block w n) SECONDARY_TYPE ≡ word_in image h SECONDARY_TYPE =
+    λ h g. ap (λ b. word_in image b SECONDARY_TYPE) (header_one image w fs survey n g.parent g.slot g.place h g.has) in (
+      (λ y. (node_block w n, record { header = header_at image w fs survey n lo hi; type = eqb-true _ _ (sym e ∙ y) })),
+      (λ y. e ∙ eq-eqb _ _ (at y.0 y.1.header ∙ y.1.type)),
+    )
+
 -- an entry of the directory is a child by its name
-pub child_told : (image : List ℕ) (w : List (Role × ℕ)) (fs : List FindingValue) → IsSurvey image w fs → (p n : ℕ) (name text : List ℕ) (t : Bool) (up : ℕ)
-    → 1 ≤ n → n ≤ heads w → ((q s j b : ℕ) → Has w (Head n q s j) b → up ≡ q) → up ≡ p → text ≡ name_of image (node_block w n)
+pub child_told : (image : List ℕ) (w : List (Role × ℕ)) (fs : List FindingValue) → IsSurvey image w fs → (p n : ℕ) (name text : List ℕ)
+    (t : Bool) (up : ℕ) → 1 ≤ n → n ≤ heads w → ((q s j b : ℕ) → Has w (Head n q s j) b → up ≡ q) → up ≡ p → text ≡ name_of image (node_block w n)
     → t ≡ bytes_eq (uppers_in image text) (uppers_in image name) → (t ≡ true) ↔ IsNamedChild image w p name n
 child_told image w fs h p n name text t up lo hi parent same is_text is_t =
     let x = header_at image w fs h n lo hi in
@@ -60,10 +78,6 @@ module _ (image : List ℕ) (w : List (Role × ℕ)) where
   pub leads_on : (p m n : ℕ) (name : List ℕ) (names : List (List ℕ)) → IsFirstChild image w p name m → LeadsTo image w p (name ∷ names) n
       → LeadsTo image w m names n
   leads_on p m n name names x y = subst (λ m. LeadsTo image w m names n) (one_first p name y.0 m y.1 x) y.2
-
-  pub leads_from : (p m n : ℕ) (name : List ℕ) (names : List (List ℕ)) → IsFirstChild image w p name m → LeadsTo image w m names n
-      → LeadsTo image w p (name ∷ names) n
-  leads_from p m n name names x y = (m, x, y)
 
 -- the names from one on
 pub split_at : (path : List (List ℕ)) (i : ℕ) (name : List ℕ) → i < length path → name ≡ get_or path i name → drop i path ≡ name ∷ drop (i + 1) path

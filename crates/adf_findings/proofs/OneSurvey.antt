@@ -37,9 +37,8 @@ module _ (image : List ℕ) where
   -- the walk of a course was gathered
   came : (s : Course) (r : Role) (a i : ℕ) (j : JudgementValue) → IsGathered image s.walk → IsNext image s r a i
       → IsGathered image (after s r (word_in image a i) j).walk
-  came s r a i clean v n = gathered_step a i (word_in image a i) v n.asked n.lacks
-  came s r a i (reported at c) v n = gathered_step a i (word_in image a i) v n.asked n.lacks
   came s r a i (skipped at c) v n = v
+  came s r a i _ v n = gathered_step a i (word_in image a i) v n.asked n.lacks
 
   pub gathered : {s : Course} → IsCourse image s → IsGathered image s.walk
   gathered (start b t) = gathered_start
@@ -60,8 +59,7 @@ module _ (image : List ℕ) where
 
   one_more : (s : Course) (r : Role) (b : ℕ) (j : JudgementValue) → steps (after s r b j) ≡ suc (steps s)
   one_more s r b clean = omega arith
-  one_more s r b (reported at c) = omega arith
-  one_more s r b (skipped at c) = omega arith
+  one_more s r b _ = omega arith
 
   not_empty : {s : Course} → IsCourse image s → steps s ≡ 0 → ⊥
   not_empty (start b t) e = omega arith

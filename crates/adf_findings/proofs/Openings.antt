@@ -12,20 +12,20 @@ use Rattle.adf_findings.specs.Files.{counting, grave}
 use Rattle.adf_findings.specs.SoundMarks.{AreMarks, mark_in, whole_in}
 use Rattle.adf_findings.specs.Marks.{has_mark}
 use Rattle.adf_findings.specs.Sound.{IsSound}
-use Rattle.adf_findings.specs.Survey.{BootTells, FindingValue, IsSurvey, RootTells, UnreadTells}
+use Rattle.adf_findings.specs.Survey.{BootTells, FindingValue, IsSurvey, OnSurvey, RootTells, UnreadTells}
 use Rattle.adf_findings.specs.Survey.IsSurvey.{read, unread}
 use Rattle.adf_findings.specs.SurveyResult.{IsOfSurvey, SurveyValue}
 use Rattle.adf_findings.proofs.Keeping.{root_no_entry, tells_each}
 use Rattle.adf_findings.proofs.OneSurvey.{gathered}
 use Rattle.adf_findings.proofs.Starts.{boot_told, not_unread, root_told}
 
-some_part : (image : List ℕ) (w : List (Role × ℕ)) → IsGathered image w → w ≡ [] → ⊥
+pub some_part : (image : List ℕ) (w : List (Role × ℕ)) → IsGathered image w → w ≡ [] → ⊥
 some_part image w start e = cc
 some_part image w (step a i b v asked lacks) e = cc
 
 -- the walk of an image whose root is taken is not empty
-pub begun_walk : (image : List ℕ) (w : List (Role × ℕ)) (fs boot root : List FindingValue) → IsSurvey image w fs → BootTells image boot → RootTells image root
-    → w ≡ [] → ⊥
+pub begun_walk : (image : List ℕ) (w : List (Role × ℕ)) (fs boot root : List FindingValue) → IsSurvey image w fs → BootTells image boot
+    → RootTells image root → w ≡ [] → ⊥
 begun_walk image w fs boot root (unread f) b r e = not_unread image b r f
 begun_walk image w fs boot root (read {s = s} v d t) b r e = some_part image s.walk (gathered image v) e
 
@@ -37,14 +37,12 @@ unbegun_walk image w fs gs (read v d t) none = absurd (not_unread image (boot_to
 -- the root is taken of an image in which a page of the bitmap is found
 pub page_begun : (image : List ℕ) (w : List (Role × ℕ)) (fs gs : List FindingValue) → IsSurvey image w fs → UnreadTells image gs → (i at : ℕ)
     → Has w (Page i) at → ⊥
-page_begun image w fs gs (unread f) none i at h = h
-page_begun image w fs gs (read v d t) none i at h = not_unread image (boot_told image v).1 (root_told image v).1 none
+page_begun image w fs gs h none i at has = subst (λ w. Has w (Page i) at) (unbegun_walk image w fs gs h none) has
 
 -- the root is taken of an image in which an entry is found
-pub entry_begun : (image : List ℕ) (w : List (Role × ℕ)) (fs gs : List FindingValue) (n h : ℕ) → IsSurvey image w fs → HeadAt w n h
+pub entry_begun : {image : List ℕ} {w : List (Role × ℕ)} {fs gs : List FindingValue} {n b : ℕ} → IsSurvey image w fs → HeadAt w n b
     → UnreadTells image gs → ⊥
-entry_begun image w fs gs n h (unread f) header none = header.has
-entry_begun image w fs gs n h (read v d t) header none = not_unread image (boot_told image v).1 (root_told image v).1 none
+entry_begun {image} {w} {fs} {gs} {n} {b} h header none = (subst (λ w. HeadAt w n b) (unbegun_walk image w fs gs h none) header).has
 
 -- the marks that are kept are those of the sound entries, by the findings that count
 marks_by : (v : SurveyValue) (c : Bool) (marks : List Bool) → (w : List (Role × ℕ)) (fs : List FindingValue) → IsSurvey v.image w fs
@@ -62,9 +60,8 @@ marks_by v c marks w fs h are n = elim (cases_lt 0 n) [
       rw e ((λ t. cc), (λ s. absurd (no s)))
 ]
 
-pub kept_marks : (v : SurveyValue) → IsOfSurvey v → (w : List (Role × ℕ)) (fs : List FindingValue) → IsSurvey v.image w fs → AreMarks v.image w fs (mark_in v)
+pub kept_marks : (v : SurveyValue) → IsOfSurvey v → OnSurvey v.image (λ w fs. AreMarks v.image w fs (mark_in v))
 kept_marks v k w fs h = marks_by v false v.sound w fs h (tells_each v k w fs h).sound
 
-pub whole_marks : (v : SurveyValue) → IsOfSurvey v → (w : List (Role × ℕ)) (fs : List FindingValue) → IsSurvey v.image w fs
-    → AreMarks v.image w (grave fs) (whole_in v)
+pub whole_marks : (v : SurveyValue) → IsOfSurvey v → OnSurvey v.image (λ w fs. AreMarks v.image w (grave fs) (whole_in v))
 whole_marks v k w fs h = marks_by v true v.whole w fs h (tells_each v k w fs h).whole

@@ -31,7 +31,7 @@ use Rattle.adf_volume.proofs.DecidedAsks.{dec_asked}
 use Rattle.adf_volume.proofs.Gathered.{IsGathered, root_in}
 use Rattle.adf_volume.proofs.PartDemands.{part_holds_by}
 use Rattle.adf_findings.proofs.JudgementTests.{itself_holds}
-use Rattle.adf_findings.proofs.Decidability.{decided, decided_form, dec_true, first_failing, judged, bits_told}
+use Rattle.adf_findings.proofs.Decidability.{decided, decided_form, dec_all, dec_true, first_failing, judged, bits_told}
 use Rattle.adf_findings.proofs.OneSurvey.{gathered}
 
 -- the values at the numbers below n
@@ -127,7 +127,8 @@ module _ (image : List ℕ) where
   abbrev Covers : List Role → Course → Type 0
   Covers rs s = (r : Role) (a i : ℕ) → Asks image s.walk r a i → Lacks s.walk r → Lacks s.skipped r → Listed s.walk rs r
 
-  module _ (free : List ℕ) (again : (rest : List ℕ) → length free ≡ suc (length rest) → (s : Course) → IsCourse image s → Frees rest s → Finished) where
+  module _ (free : List ℕ)
+      (again : (rest : List ℕ) → length free ≡ suc (length rest) → (s : Course) → IsCourse image s → Frees rest s → Finished) where
     -- a part is taken, and its block is free no more
     took : (w over : List (Role × ℕ)) (fs : List FindingValue) (r : Role) (b : ℕ)
         → IsCourse image (record { walk = (r, b) ∷ w; skipped = over; findings = fs })
@@ -142,13 +143,7 @@ module _ (image : List ℕ) where
       Wanted z = Asked image s.walk z × Lacks s.walk z × Lacks s.skipped z
 
       dec_wanted : (z : Role) → Dec (Wanted z)
-      dec_wanted z = elim (dec_asked image s.walk (gathered image v) z) [
-        | no n ↦ no (λ x. n x.0)
-        | yes a ↦ elim (dec_lacks s.walk z) [
-          | no n ↦ no (λ x. n x.1)
-          | yes k ↦ elim (dec_lacks s.skipped z) [ no n ↦ no (λ x. n x.2) | yes l ↦ yes (a, k, l) ]
-        ]
-      ]
+      dec_wanted z = dec_all (dec_asked image s.walk (gathered image v) z) (dec_lacks s.walk z) (dec_lacks s.skipped z)
 
       abbrev number : ℕ
       number = suc (heads s.walk)
@@ -203,7 +198,8 @@ module _ (image : List ℕ) where
   finish : (n : ℕ) (free : List ℕ) → length free ≡ n → (s : Course) → IsCourse image s → Frees free s → Finished
   finish zero free long s v fr =
       let rs : List Role = askable pages s.walk in
-      judge_all free (λ rest k. absurd (omega arith)) (length rs) rs refl s v fr (λ r a i ask lack unskipped. covered s.walk (gathered image v) r a i ask)
+      judge_all free (λ rest k. absurd (omega arith)) (length rs) rs refl s v fr
+      (λ r a i ask lack unskipped. covered s.walk (gathered image v) r a i ask)
   finish (suc n) free long s v fr =
       let rs : List Role = askable pages s.walk in
       judge_all free (λ rest k. finish n rest (omega arith)) (length rs) rs refl s v fr

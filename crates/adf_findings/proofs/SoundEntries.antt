@@ -8,7 +8,7 @@ use Rattle.adf_blocks.specs.declared.layout.TheConstants.{POINTERS, SIZE}
 use Rattle.adf_volume.specs.Image.{letters_of, held, kind_of, word_in, table_word}
 use Rattle.adf_volume.specs.Lists.{In}
 use Rattle.adf_volume.specs.Demands.{AllHold, data_demands, ext_demands}
-use Rattle.adf_volume.specs.Walk.{first, Before, Lacks, NodeAt, member_block, next_data, node_block}
+use Rattle.adf_volume.specs.Walk.{Before, Lacks, NodeAt, member_block, next_data, node_block}
 use Rattle.adf_volume.specs.Walk.{Role, second, Has, FileAt, MemberAt, data_count, Asks, IsAbsent, ext_count}
 use Rattle.adf_volume.specs.Walk.Role.{Root, Head, Ext, Data}
 use Rattle.adf_volume.proofs.Lists.{in_left, in_right}
@@ -41,9 +41,10 @@ module _ (image : List ℕ) where
   pub skipped_reported : {s : Course} → IsCourse image s → (r : Role) (b : ℕ) → Has s.skipped r b → Reported s.findings r
   skipped_reported (start boot root) r b h = absurd h
   skipped_reported (step {s = s} {r = q} {a = a} {i = i} clean v n g) r b h = skipped_reported v r b h
-  skipped_reported (step {s = s} {r = q} {a = a} {i = i} (reported at c) v n g) r b h = reported_more s.findings (finding (Some q) at c ∷ []) r
-      (skipped_reported v r b h)
-  skipped_reported (step {s = s} {r = q} {a = a} {i = i} (skipped at c) v n g) r b (inl e) = reported_now s.findings r (finding (Some q) at c) (ap Some e.0)
+  skipped_reported (step {s = s} {r = q} {a = a} {i = i} (reported at c) v n g) r b h =
+      reported_more s.findings (finding (Some q) at c ∷ []) r (skipped_reported v r b h)
+  skipped_reported (step {s = s} {r = q} {a = a} {i = i} (skipped at c) v n g) r b (inl e) =
+      reported_now s.findings r (finding (Some q) at c) (ap Some e.0)
   skipped_reported (step {s = s} {r = q} {a = a} {i = i} (skipped at c) v n g) r b (inr h) =
       reported_more s.findings (finding (Some q) at c ∷ []) r (skipped_reported v r b h)
 
@@ -156,12 +157,12 @@ module _ (image : List ℕ) where
     head_formed : (n p t j h up : ℕ) → Has s.walk (Head n p t j) h → IsUnreported s.findings (Head n p t j) → NodeAt s.walk p up
         → AllHold (head_demands_in image (kind_of image) h up t)
     head_formed n p t j h up g clear node =
-        let x = came_formed (Head n p t j) h g (λ e. let x : second Root ≡ second (Head n p t j) = ap second e in omega arith) clear in
+        let x = came_formed (Head n p t j) h g (λ e. cc) clear in
         let w : List (Role × ℕ) = x.0.before in
         let d = asked_dir image x.0.came_before n p t j x.0.at x.0.index x.0.asked in
         let f : NodeAt w p d.0 = dir_is_node image w p d.0 d.1 in
         let e : node_block w p ≡ up =
-        node_is image x.0.came_before p d.0 f ∙ node_one image (gathered image v) p d.0 up (node_before w p d.0 x.0.older f) node in
+        ◌∙◌ {b = d.0} (node_is image x.0.came_before p d.0 f) (node_one image (gathered image v) p d.0 up (node_before w p d.0 x.0.older f) node) in
         subst (λ up. AllHold (head_demands_in image (kind_of image) h up t)) e x.1
 
     -- the file of a part is that of the walk
@@ -170,9 +171,10 @@ module _ (image : List ℕ) where
     file_was w n a h g older f file =
         head_block image g f.header ∙ file_one image (gathered image v) n a h (typed_in f (older (head_role f.header) a f.header.has)) file
 
-    ext_formed : (n k b h : ℕ) → Has s.walk (Ext n k) b → IsUnreported s.findings (Ext n k) → FileAt image s.walk n h → AllHold (ext_demands image b h)
+    ext_formed : (n k b h : ℕ) → Has s.walk (Ext n k) b → IsUnreported s.findings (Ext n k) → FileAt image s.walk n h
+        → AllHold (ext_demands image b h)
     ext_formed n k b h g clear file =
-        let x = came_formed (Ext n k) b g (λ e. let x : first Root ≡ first (Ext n k) = ap first e in omega arith) clear in
+        let x = came_formed (Ext n k) b g (λ e. cc) clear in
         let d = asked_file image x.0.came_before n k x.0.at x.0.index x.0.asked in
         let e : node_block x.0.before n ≡ h = file_was x.0.before n d.0 h x.0.came_before x.0.older d.1 file in
         subst (λ h. AllHold (ext_demands image b h)) e x.1
@@ -198,8 +200,9 @@ module _ (image : List ℕ) where
       member_before w zero a older f = file_before w a older f
       member_before w (suc m) a older f = older (Ext n (suc m)) a f
 
-      data_clean : (k b : ℕ) → Has s.walk (Data n k) b → (y : Came s.walk s.findings (Data n k) b) × AllHold (demands_in image y.before (Data n k) y.at b)
-      data_clean k b g = came_clean (Data n k) b g (λ e. let x : second Root ≡ second (Data n k) = ap second e in omega arith) (clear k)
+      data_clean : (k b : ℕ) → Has s.walk (Data n k) b → (y : Came s.walk s.findings (Data n k) b)
+          × AllHold (demands_in image y.before (Data n k) y.at b)
+      data_clean k b g = came_clean (Data n k) b g (λ e. cc) (clear k)
 
       enough : data_count image h ≤ POINTERS * suc (ext_count s.walk n)
       enough =
@@ -299,7 +302,7 @@ module _ (image : List ℕ) where
         data_formed k b g =
             let x = data_clean (suc k) b g in
             let y = x.0 in
-            let form : AllHold (form_demands_in image y.before (Data n (suc k)) b) = (part_holds_by (letters_of image) image y.before (Data n (suc k)) y.at b x.1).form in
+            let form = (part_holds_by (letters_of image) image y.before (Data n (suc k)) y.at b x.1).form in
             let d = y.asked.0 in
             let e : node_block y.before n ≡ h = file_was y.before n d.0 h y.came_before y.older d.1 file in
             let next : ℕ = next_data image y.before n (suc k) in (

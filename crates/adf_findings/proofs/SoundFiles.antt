@@ -5,8 +5,8 @@ use Rattle.adf_blocks.specs.declared.layout.TheConstants.{SECONDARY_TYPE, SIZE, 
 use Rattle.adf_volume.proofs.Images.{count_small}
 use Rattle.adf_volume.specs.Image.{kind_of, pieces, word_in}
 use Rattle.adf_volume.specs.Made.{datas_in}
-use Rattle.adf_volume.specs.Walk.{Role, first, FileAt, data_count, node_block}
-use Rattle.adf_volume.specs.Walk.Role.{Root, Data}
+use Rattle.adf_volume.specs.Walk.{Role, FileAt, data_count, node_block}
+use Rattle.adf_volume.specs.Walk.Role.{Data}
 use Rattle.adf_volume.proofs.Lists.{at_index_or, at_some, in_left}
 use Rattle.adf_blocks.specs.Sizes.{blocks}
 use Rattle.adf_volume.specs.Pieces.{AreInside}
@@ -22,7 +22,7 @@ use Rattle.adf_findings.proofs.Keeping.{tells_each}
 use Rattle.adf_findings.proofs.FileBlocks.{DatasListed, datas_listed, listed_named, names_length}
 use Rattle.adf_findings.proofs.GraveFindings.{data_unreported}
 use Rattle.adf_findings.proofs.SoundEntries.{skipped_reported, whole_file}
-use Rattle.adf_findings.proofs.SoundMarks.{inside}
+use Rattle.adf_findings.proofs.SoundMarks.{data_inside}
 use Rattle.adf_findings.proofs.Starts.{course_size}
 
 -- the data blocks of a sound entry are in the walk in order; the findings that count may be the grave ones alone
@@ -52,8 +52,7 @@ file_told image w fs c n (read {s = s} {bits = bits} v d told) sound type =
       (λ i. record { image = image; head = h; blocks = e i }),
       record {
         whole = (course_size image v).0;
-        inside = (λ k b g. inside image v (Data n (suc k)) b (λ z. let y : first Root ≡ first (Data n (suc k)) = ap first z in omega arith)
-            (listed.from k b g));
+        inside = (λ k b g. data_inside image v n (suc k) b (listed.from k b g));
         many = sym (ap length e) ∙ names_length image n h (data_count image h);
       },
     )

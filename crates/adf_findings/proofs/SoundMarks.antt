@@ -1,8 +1,8 @@
 -- The marks of a finished course are those of its sound entries.
-use Rattle.std.specs.Prelude.{Bool, true, false, cond, not, ◌==◌, ◌||◌, ◌&&◌, nat_lt, map, Option, Some, None, slice_index_or, ◌↔◌}
+use Rattle.std.specs.Prelude.{Bool, true, false, cond, not, ◌==◌, ◌&&◌, nat_lt, map, Option, Some, None, slice_index_or, ◌↔◌}
 use Rattle.std.proofs.Common.{◌≡◌, ℕ, suc, List, [], ◌∷◌, ◌++◌, length, ◌⊎◌, inl, inr, ◌<◌, ◌≤◌, refl, sym, ap, subst, ◌∙◌, arith}
 use Rattle.std.specs.Option.{option_map}
-use Rattle.std.proofs.lemmas.Bool.{and_parts, cases_Bool, eqb-true, eq-eqb}
+use Rattle.std.proofs.lemmas.Bool.{and_parts, cases_Bool, eq-eqb, eqb-true, not-true, or_cases, or_parts}
 use Rattle.std.proofs.lemmas.Bool.Decides.{nat_tests}
 use Rattle.std.proofs.lemmas.Grind.{common_steps}
 use Rattle.adf_tree.specs.declared.entry.Kind.{Kind}
@@ -10,14 +10,14 @@ use Rattle.adf_tree.specs.declared.entry.Kind.TheVariants.{Ofs, Ffs}
 use Rattle.adf_blocks.specs.Sizes.{blocks}
 use Rattle.adf_volume.specs.Image.{kind_of, root_of, word_in}
 use Rattle.adf_volume.specs.Lists.{In}
-use Rattle.adf_volume.specs.Walk.{Role, first, second, Same, Has, Asks, Lacks, IsAbsent, heads, node_block}
+use Rattle.adf_volume.specs.Walk.{Role, Same, Has, Asks, Lacks, IsAbsent, heads, node_block}
 use Rattle.adf_volume.specs.Walk.Role.{Root, Head, Ext, Data}
 use Rattle.adf_volume.proofs.Gathered.{IsGathered, asks_one, head_block, number_of, numbered as has_number, one_block, one_head}
 use Rattle.adf_volume.proofs.Lists.{in_cases, in_left, in_right}
 use Rattle.adf_volume.proofs.OneFault.{number_is}
 use Rattle.adf_volume.proofs.Roles.{asks_number, dec_has, head_at, head_role, renumbered, renumbered_same, same_of, same_refl, same_role}
 use Rattle.adf_findings.specs.declared.part.Part.{Part}
-use Rattle.adf_findings.specs.declared.part.Part.TheVariants.{Root as RootPart, Page as PagePart, MapExt as MapExtPart, Head as HeadPart}
+use Rattle.adf_findings.specs.declared.part.Part.TheVariants.{Head as HeadPart}
 use Rattle.adf_findings.specs.declared.part.Part.TheVariants.{Ext as ExtPart, Data as DataPart}
 use Rattle.adf_findings.specs.declared.part.Finding.{Finding}
 use Rattle.adf_findings.specs.declared.found.DataBlock.{DataBlock}
@@ -110,12 +110,10 @@ module _ (image : List ℕ) where
   -- what is taken was not skipped
   pub apart : {s : Course} → IsCourse image s → (r q : Role) (b c : ℕ) → Has s.walk r b → Has s.skipped q c → Same r q → ⊥
   apart (start boot root) r q b c h k same = k
-  apart (step {s = s} {r = z} clean v n g) r q b c (inl e) k same = new_apart s.skipped z r q c n.unskipped e.0 k same
-  apart (step clean v n g) r q b c (inr h) k same = apart v r q b c h k same
-  apart (step {s = s} {r = z} (reported at d) v n g) r q b c (inl e) k same = new_apart s.skipped z r q c n.unskipped e.0 k same
-  apart (step (reported at d) v n g) r q b c (inr h) k same = apart v r q b c h k same
   apart (step {s = s} {r = z} (skipped at d) v n g) r q b c h (inl e) same = new_apart s.walk z q r b n.lacks e.0 h (omega arith)
   apart (step (skipped at d) v n g) r q b c h (inr k) same = apart v r q b c h k same
+  apart (step {s = s} {r = z} _ v n g) r q b c (inl e) k same = new_apart s.skipped z r q c n.unskipped e.0 k same
+  apart (step _ v n g) r q b c (inr h) k same = apart v r q b c h k same
 
   -- the walk asks for the part, a header with the next number, in block b
   pub record Wanted (w : List (Role × ℕ)) (r : Role) (b : ℕ) : Type 0 where
@@ -145,19 +143,15 @@ module _ (image : List ℕ) where
   pub taken_wanted : {s : Course} → IsCourse image s → (r : Role) (b : ℕ) → Has s.walk r b → (Root ≡ r) ⊎ Wanted s.walk r b
   taken_wanted (start boot root) r b (inl e) = inl e.0
   taken_wanted (start boot root) r b (inr h) = absurd h
-  taken_wanted (step {s = s} {r = z} {a = a} {i = i} clean v n g) r b h = wanted_new s z a i v n r b (taken_wanted v r b) h
-  taken_wanted (step {s = s} {r = z} {a = a} {i = i} (reported at c) v n g) r b h = wanted_new s z a i v n r b (taken_wanted v r b) h
   taken_wanted (step (skipped at c) v n g) r b h = taken_wanted v r b h
+  taken_wanted (step {s = s} {r = z} {a = a} {i = i} _ v n g) r b h = wanted_new s z a i v n r b (taken_wanted v r b) h
 
   -- what was skipped is asked for in its block
   skipped_wanted : {s : Course} → IsCourse image s → (r : Role) (b : ℕ) → Has s.skipped r b → Wanted s.walk r b
   skipped_wanted (start boot root) r b h = absurd h
-  skipped_wanted (step {s = s} {r = z} {a = a} {i = i} clean v n g) r b h =
-      wanted_later s z a i (word_in image a i) v n r b (skipped_wanted v r b h)
-  skipped_wanted (step {s = s} {r = z} {a = a} {i = i} (reported at c) v n g) r b h =
-      wanted_later s z a i (word_in image a i) v n r b (skipped_wanted v r b h)
   skipped_wanted (step {s = s} {r = z} {a = a} {i = i} (skipped at c) v n g) r b (inl e) = grind (arith, common_steps, wanted_now)
   skipped_wanted (step (skipped at c) v n g) r b (inr h) = skipped_wanted v r b h
+  skipped_wanted (step {s = s} {r = z} {a = a} {i = i} _ v n g) r b h = wanted_later s z a i (word_in image a i) v n r b (skipped_wanted v r b h)
 
   -- what is asked for in one place of the order is asked for in one block
   one_wanted : (w : List (Role × ℕ)) → IsGathered image w → (r q : Role) (a i b : ℕ) → Wanted w r b → Asks image w q a i → Same r q
@@ -170,11 +164,10 @@ module _ (image : List ℕ) where
 
   owner_of : (w : List (Role × ℕ)) (b : ℕ) → owns w b ≡ true → (q : Role) × Has w q b
   owner_of [] b e = cc
-  owner_of (x ∷ w) b e = go (x.1 == b) refl e (owner_of w b)
-    where
-      go : (t : Bool) → (x.1 == b) ≡ t → (t || owns w b) ≡ true → (owns w b ≡ true → (q : Role) × Has w q b) → (q : Role) × Has (x ∷ w) q b
-      go true f e again = (x.0, inl (refl, eqb-true x.1 b f))
-      go false f e again = let y = again e in (y.0, inr y.1)
+  owner_of (x ∷ w) b e = elim (or_cases (x.1 == b) (owns w b) e) [
+    | inl t ↦ (x.0, inl (refl, eqb-true x.1 b t))
+    | inr n ↦ let y = owner_of w b n in (y.0, inr y.1)
+  ]
 
   no_owner_has : (w : List (Role × ℕ)) (q : Role) (b : ℕ) → owns w b ≡ false → Has w q b → ⊥
   no_owner_has w q b e h =
@@ -191,8 +184,8 @@ module _ (image : List ℕ) where
   inside (step (reported at c) v d g) r b other (inr h) = inside v r b other h
   inside (step (skipped at c) v d g) r b other h = inside v r b other h
 
-  data_inside : {s : Course} → IsCourse image s → (n k b : ℕ) → Has s.walk (Data n k) b → b < blocks image
-  data_inside v n k b h = inside v (Data n k) b (λ e. let x : first Root ≡ first (Data n k) = ap first e in omega arith) h
+  pub data_inside : {s : Course} → IsCourse image s → (n k b : ℕ) → Has s.walk (Data n k) b → b < blocks image
+  data_inside v n k b h = inside v (Data n k) b (λ e. cc) h
 
   module _ {s : Course} (v : IsCourse image s) (done : IsDone image s) where
     -- what is asked for at the end was taken or skipped, in the block that is asked for
@@ -241,44 +234,30 @@ node_blamed f o = option_map node_of (blamed f o)
 blamed_by : (f : Found) (xs : List Finding) (m : ℕ) → is_blamed f xs m ≡ true
     → (x : Finding) × In xs x × (node_blamed f x.part ≡ Some m)
 blamed_by f [] m e = cc
-blamed_by f (x ∷ xs) m e = go (is_node (node_blamed f x.part) m) refl e (blamed_by f xs m)
-  where
-    go : (t : Bool) → is_node (node_blamed f x.part) m ≡ t → (t || is_blamed f xs m) ≡ true
-        → (is_blamed f xs m ≡ true → (y : Finding) × In xs y × (node_blamed f y.part ≡ Some m))
-        → (y : Finding) × In (x ∷ xs) y × (node_blamed f y.part ≡ Some m)
-    go true k e again = (x, inl refl, node_is (node_blamed f x.part) m k)
-    go false k e again = let y = again e in (y.0, inr y.1, y.2)
+blamed_by f (x ∷ xs) m e = elim (or_cases (is_node (node_blamed f x.part) m) (is_blamed f xs m) e) [
+  | inl t ↦ (x, inl refl, node_is (node_blamed f x.part) m t)
+  | inr n ↦ let y = blamed_by f xs m n in (y.0, inr y.1, y.2)
+]
 
 not_blamed : (f : Found) (xs : List Finding) (m : ℕ) (x : Finding) → is_blamed f xs m ≡ false → In xs x
     → node_blamed f x.part ≡ Some m → ⊥
 not_blamed f [] m x e h b = h
 not_blamed f (y ∷ xs) m x e (inl z) b = grind (arith, common_steps, node_blamed, node_yes)
-not_blamed f (y ∷ xs) m x e (inr h) b = go (is_node (node_blamed f y.part) m) e (λ e. not_blamed f xs m x e h b)
-  where
-    go : (t : Bool) → (t || is_blamed f xs m) ≡ false → (is_blamed f xs m ≡ false → ⊥) → ⊥
-    go true e again = cc
-    go false e again = again e
+not_blamed f (y ∷ xs) m x e (inr h) b = not_blamed f xs m x (or_parts (is_node (node_blamed f y.part) m) (is_blamed f xs m) e).1 h b
 
 sharing_by : (avoided : List Bool) (ds : List DataBlock) (m : ℕ) → is_sharing avoided ds m ≡ true
     → (d : DataBlock) × In ds d × (sharing avoided d ≡ Some m)
 sharing_by avoided [] m e = cc
-sharing_by avoided (d ∷ ds) m e = go (is_node (sharing avoided d) m) refl e (sharing_by avoided ds m)
-  where
-    go : (t : Bool) → is_node (sharing avoided d) m ≡ t → (t || is_sharing avoided ds m) ≡ true
-        → (is_sharing avoided ds m ≡ true → (x : DataBlock) × In ds x × (sharing avoided x ≡ Some m))
-        → (x : DataBlock) × In (d ∷ ds) x × (sharing avoided x ≡ Some m)
-    go true f e again = (d, inl refl, node_is (sharing avoided d) m f)
-    go false f e again = let y = again e in (y.0, inr y.1, y.2)
+sharing_by avoided (d ∷ ds) m e = elim (or_cases (is_node (sharing avoided d) m) (is_sharing avoided ds m) e) [
+  | inl t ↦ (d, inl refl, node_is (sharing avoided d) m t)
+  | inr n ↦ let y = sharing_by avoided ds m n in (y.0, inr y.1, y.2)
+]
 
 not_sharing : (avoided : List Bool) (ds : List DataBlock) (m : ℕ) (d : DataBlock) → is_sharing avoided ds m ≡ false → In ds d
     → sharing avoided d ≡ Some m → ⊥
 not_sharing avoided [] m d e h s = h
 not_sharing avoided (x ∷ ds) m d e (inl z) s = grind (arith, common_steps, node_yes)
-not_sharing avoided (x ∷ ds) m d e (inr h) s = go (is_node (sharing avoided x) m) e (λ e. not_sharing avoided ds m d e h s)
-  where
-    go : (t : Bool) → (t || is_sharing avoided ds m) ≡ false → (is_sharing avoided ds m ≡ false → ⊥) → ⊥
-    go true e again = cc
-    go false e again = again e
+not_sharing avoided (x ∷ ds) m d e (inr h) s = not_sharing avoided ds m d (or_parts (is_node (sharing avoided x) m) (is_sharing avoided ds m) e).1 h s
 
 -- what makes a file a sharing one
 sharing_is : (avoided : List Bool) (d : DataBlock) (m : ℕ) → sharing avoided d ≡ Some m
@@ -325,36 +304,24 @@ in_findings (y ∷ ys) g (inr h) = let x = in_findings ys g h in (x.0, inr x.1, 
 
 head_part : (o : Option Part) (n p s j : ℕ) → part_role o ≡ Some (Head n p s j) → o ≡ Some (HeadPart n p s j)
 head_part (Some (HeadPart m q t i)) n p s j e = cc
-head_part (Some RootPart) n p s j e = cc
-head_part (Some (PagePart i)) n p s j e = cc
-head_part (Some (MapExtPart i)) n p s j e = cc
-head_part (Some (ExtPart m i)) n p s j e = cc
-head_part (Some (DataPart m i)) n p s j e = cc
+head_part (Some _) n p s j e = cc
 head_part None n p s j e = cc
 
 ext_part : (o : Option Part) (n k : ℕ) → part_role o ≡ Some (Ext n k) → o ≡ Some (ExtPart n k)
 ext_part (Some (ExtPart m i)) n k e = cc
-ext_part (Some RootPart) n k e = cc
-ext_part (Some (PagePart i)) n k e = cc
-ext_part (Some (MapExtPart i)) n k e = cc
-ext_part (Some (HeadPart m q t i)) n k e = cc
-ext_part (Some (DataPart m i)) n k e = cc
+ext_part (Some _) n k e = cc
 ext_part None n k e = cc
 
 data_part : (o : Option Part) (n k : ℕ) → part_role o ≡ Some (Data n k) → o ≡ Some (DataPart n k)
 data_part (Some (DataPart m i)) n k e = cc
-data_part (Some RootPart) n k e = cc
-data_part (Some (PagePart i)) n k e = cc
-data_part (Some (MapExtPart i)) n k e = cc
-data_part (Some (HeadPart m q t i)) n k e = cc
-data_part (Some (ExtPart m i)) n k e = cc
+data_part (Some _) n k e = cc
 data_part None n k e = cc
 
 ext_of : (q : Role) (n k : ℕ) → Same q (Ext n k) → q ≡ Ext n k
-ext_of q n k same = same_role q (Ext n k) same (λ a m p s j e f. let x : second (Ext n k) ≡ second (Head m p s j) = ap second f in absurd (omega arith))
+ext_of q n k same = same_role q (Ext n k) same (λ a m p s j e f. cc)
 
 data_of : (q : Role) (n k : ℕ) → Same q (Data n k) → q ≡ Data n k
-data_of q n k same = same_role q (Data n k) same (λ a m p s j e f. let x : second (Data n k) ≡ second (Head m p s j) = ap second f in absurd (omega arith))
+data_of q n k same = same_role q (Data n k) same (λ a m p s j e f. cc)
 
 pub taken_at : (image : List ℕ) (w : List (Role × ℕ)) → IsGathered image w → (q : Role) (b : ℕ) → Has w q b → at_key w (key_of q) ≡ Some b
 taken_at image w v q b h = grind (arith, common_steps, lacks_at, same_of, at_has, one_block, same_of_key)
@@ -382,11 +349,8 @@ module _ (image : List ℕ) (f : Found) {s : Course} (v : IsCourse image s) (don
     (tells : BitsTell image s b n bits) (all : List FindingValue) (are : (g : FindingValue) → In all g → In (s.findings ++ bits) g)
     (st : Stands image f (record { walk = s.walk; skipped = s.skipped; findings = all })) where
   -- a finding that speaks against an entry concerns a part of it
-  speaks : (m h : ℕ) (g : FindingValue) (o : Option Part) → In all g → g.part ≡ part_role o → node_blamed f o ≡ Some m → IsSound image s.walk all m h → ⊥
-  speaks m h g None i e z sound = cc
-  speaks m h g (Some RootPart) i e z sound = cc
-  speaks m h g (Some (PagePart k)) i e z sound = cc
-  speaks m h g (Some (MapExtPart k)) i e z sound = cc
+  speaks : (m h : ℕ) (g : FindingValue) (o : Option Part) → In all g → g.part ≡ part_role o → node_blamed f o ≡ Some m
+      → IsSound image s.walk all m h → ⊥
   speaks m h g (Some (ExtPart q k)) i e z sound =
       let one : q ≡ m = cc in sound.exts k g (Ext q k) i e (same_of (Ext q k) (Ext m k) (ap (λ q. Ext q k) one))
   speaks m h g (Some (DataPart q k)) i e z sound =
@@ -406,6 +370,7 @@ module _ (image : List ℕ) (f : Found) {s : Course} (v : IsCourse image s) (don
           let head = sound.header in
           let same = same_of (head_role head) (Head m p t j) (one_head image (gathered image v) head (head_at m p t j x.0 here)).0 in
           sound.unreported g (Head q p t j) i e (sym same.0, sym same.1, sym same.2)
+  speaks m h g _ i e z sound = cc
 
   not_reported : (m h : ℕ) → IsSound image s.walk all m h → is_blamed f f.findings.items m ≡ false
   not_reported m h sound = elim (cases_Bool (is_blamed f f.findings.items m)) [
@@ -491,10 +456,6 @@ module _ (image : List ℕ) (f : Found) {s : Course} (v : IsCourse image s) (don
         alone = alone_clear m free;
       }
 
-  not_false : (t : Bool) → not t ≡ true → t ≡ false
-  not_false false e = refl
-  not_false true e = cc
-
   -- the nodes that nothing is said against are the sound entries
   pub clear_is_sound : (m : ℕ) → 1 ≤ m → (is_clear image f m ≡ true) ↔ IsSound image s.walk all m (node_block s.walk m)
   clear_is_sound m lo = (
@@ -503,7 +464,7 @@ module _ (image : List ℕ) (f : Found) {s : Course} (v : IsCourse image s) (don
         let y = and_parts (not (is_blamed f f.findings.items m)) (not (is_doubtful (kind_of image) f m)) x.1 in
         let count : length f.nodes.items ≡ suc (heads s.walk) = st.count in
         let lt : m < length f.nodes.items = (let z = x.0 in grind (arith, nat_tests)) in
-        clear_sound m lo (omega arith) (not_false (is_blamed f f.findings.items m) y.0) (not_false (is_doubtful (kind_of image) f m) y.1)),
+        clear_sound m lo (omega arith) (not-true (is_blamed f f.findings.items m) y.0) (not-true (is_doubtful (kind_of image) f m) y.1)),
     (λ sound.
         let few = number_of image (gathered image v) sound.header in
         let count : length f.nodes.items ≡ suc (heads s.walk) = st.count in

@@ -80,12 +80,9 @@ module _ (image : List ℕ) where
       let z = fails_one (root_demands image (root_of image)) a c u d f.0 g.0 in
       let y = boot_one b t in λ t. y t ++ finding None (z.0 t) (z.1 t) ∷ []
 
-slight : {P : Type 0} → true ≡ false → P
-slight e = absurd (let none : ⊥ = cc in none)
-
 -- with its types the root says that it is the root
 pub is_itself : (image : List ℕ) → has_root_type (block image (root_of image)) ≡ true → IsItself Root (root_demands image (root_of image))
-is_itself image t = (slight, ((λ e. t), (slight, (slight, (slight, tt)))))
+is_itself image t = ((λ e. cc), ((λ e. t), ((λ e. cc), ((λ e. cc), ((λ e. cc), tt)))))
 
 -- the root as it is read: b, in block at
 module _ (image : List ℕ) (at : ℕ) (b : List ℕ) (is_at : at ≡ root_of image) (is_b : b ≡ block image at) where

@@ -5,7 +5,7 @@ use Rattle.std.proofs.Common.{get_or-set_same, get_or-set_other}
 use Rattle.std.specs.Ordering.{is_eq}
 use Rattle.std.specs.BTreeMap.{BTreeMap, Updates, get}
 use Rattle.std.proofs.lemmas.Bool.Decides.{eqb_tells, nat_tests}
-use Rattle.std.proofs.lemmas.List.{map-append}
+use Rattle.std.proofs.lemmas.List.{map-append, get_or_push, get_or_append_left, get_or_past, length_push}
 use Rattle.std.proofs.lemmas.Grind.{common_steps}
 use Rattle.adf_tree.proofs.NameKeys.{same_number, then_is}
 use Rattle.adf_blocks.specs.Sizes.{blocks}
@@ -24,10 +24,10 @@ use Rattle.adf_findings.specs.Parts.{by_key, key_of, role_of, finding_value}
 use Rattle.adf_findings.specs.Found.{AreHeld, AreMarked, AreNumbered, AreSame, IsKept, IsLookedUp, IsReported, IsOwned, IsBlockSkipped, IsPut}
 use Rattle.adf_findings.specs.Found.{IsTaken, KeepsParts, Stands}
 use Rattle.adf_findings.specs.Found.{at_key, data_number, entry_number, exts_found, owns, parent_by, parent_node, places_of, unowned, with_place}
+use Rattle.std.proofs.lemmas.Bool.{cases_lt}
 
 kept_more : (part : Part) (b : ℕ) (f g h : Found) → IsKept part b f g → AreSame g h → IsKept part b f h
 kept_more (HeadPart n p s j) b f g h k e = grind (arith, common_steps)
-kept_more (ExtPart n i) b f g h k e = grind (arith, common_steps)
 kept_more _ b f g h k e = grind (arith, common_steps)
 
 pub taken_last : (part : Part) (b : ℕ) (f g h : Found) → IsKept part b f g → KeepsParts f g → IsOwned part b g h → AreSame g h → IsTaken part b f h
@@ -73,18 +73,8 @@ unowned_less (false ∷ xs) zero lt e = refl
 unowned_less (true ∷ xs) (suc b) lt e = unowned_less xs b (omega arith) e
 unowned_less (false ∷ xs) (suc b) lt e = ap suc (unowned_less xs b (omega arith) e)
 
-node_here : (xs : List ℕ) (b : ℕ) → slice_index (xs ++ b ∷ []) (length xs) ≡ b
-node_here [] b = refl
-node_here (x ∷ xs) b = node_here xs b
-
-node_other : (xs : List ℕ) (b m : ℕ) → (m ≡ length xs → ⊥) → slice_index (xs ++ b ∷ []) m ≡ slice_index xs m
-node_other [] b zero ne = absurd (ne refl)
-node_other [] b (suc m) ne = refl
-node_other (x ∷ xs) b zero ne = refl
-node_other (x ∷ xs) b (suc m) ne = node_other xs b m (λ e. ne (ap suc e))
-
 node_snoc : (xs : List ℕ) (b m : ℕ) → slice_index (xs ++ b ∷ []) m ≡ cond (m == length xs) b (slice_index xs m)
-node_snoc xs b m = grind (arith, common_steps, eqb_tells, node_here, node_other)
+node_snoc xs b m = grind (arith, common_steps, eqb_tells, cases_lt, get_or_push, get_or_append_left, get_or_past, length_push)
 
 -- a part that comes next has the next number of its kind
 abbrev pub IsNumbered : List (Role × ℕ) → Role → Type 0
@@ -111,8 +101,8 @@ module _ (image : List ℕ) (f g : Found) (s : Course) (b : ℕ) (st : Stands im
     parents : length g.parents.items ≡ suc (heads w)
     places : g.places.items ≡ places_of w
 
-  same_later : (r : Role) → ((m c : ℕ) → node_block_of m r b c ≡ c) → head_count r (heads s.walk) ≡ heads s.walk → ((m c : ℕ) → ext_count_of m r c ≡ c)
-      → ((m c : ℕ) → parent_by m r c ≡ c) → ((cs : List ChainPlace) → with_place r cs ≡ cs) → AreSame f g
+  same_later : (r : Role) → ((m c : ℕ) → node_block_of m r b c ≡ c) → head_count r (heads s.walk) ≡ heads s.walk
+      → ((m c : ℕ) → ext_count_of m r c ≡ c) → ((m c : ℕ) → parent_by m r c ≡ c) → ((cs : List ChainPlace) → with_place r cs ≡ cs) → AreSame f g
       → IsLater ((r, b) ∷ s.walk)
   same_later r node head ext parent place e = grind (arith, common_steps)
 

@@ -1,6 +1,6 @@
 -- Where a tree fits an image, look-up in its survey is look-up in the tree, and its files are sound, with the bytes of the tree.
 use Rattle.std.specs.Prelude.{◌==◌, ◌↔◌, Option, Some, None, cond, get_or}
-use Rattle.std.proofs.Common.{◌≡◌, ℕ, zero, suc, List, [], ◌∷◌, ◌+◌, ◌-◌, ◌≤◌, ◌<◌, true, refl, sym, ap, subst, ◌∙◌, arith}
+use Rattle.std.proofs.Common.{◌≡◌, ℕ, zero, suc, List, [], ◌∷◌, ◌-◌, ◌≤◌, ◌<◌, true, refl, sym, ap, subst, ◌∙◌, add-one, arith}
 use Rattle.adf_blocks.specs.declared.layout.TheConstants.{SECONDARY_TYPE, ST_DIR, ST_FILE}
 use Rattle.adf_base.specs.declared.hash.Letters.TheVariants.{Ascii}
 use Rattle.adf_tree.specs.Texts.{uppers_by}
@@ -43,8 +43,7 @@ module _ (image : List ℕ) (w : List (Role × ℕ)) (v : IsWalk image w) (tree 
       let holds : is_child p name (get_or entries i x) ≡ true =
       ap (is_child p name) (at_index_or entries i x x at)
       ∙ is_child_from p name x refl (subst (λ l. uppers_by l (name_of image b) ≡ uppers_by l name) plain same) in
-      let z : i + 1 ≡ suc i = omega arith in
-      child_is entries p name i x tree (at_below entries i x at) holds ∙ ap Some z
+      child_is entries p name i x tree (at_below entries i x at) holds ∙ ap Some (add-one i)
 
   entry_child : (p n : ℕ) (name : List ℕ) → child entries p name ≡ Some n → IsNamedChild image w p name n
   entry_child p zero name e = let f = found_is entries p name 0 (entry_in image w 0 0 0) e in let lt : 0 < 0 = f.0 in absurd (omega arith)
@@ -116,7 +115,8 @@ module _ (image : List ℕ) (w : List (Role × ℕ)) (v : IsWalk image w) (tree 
         ap (λ h. content image (kind_of image) h (datas_in w n)) here ∙ sym x.2,
       )
 
-module _ (image : List ℕ) (t : Tree) (l : Layout) (w : List (Role × ℕ)) (fs : List FindingValue) (fit : Fits image t l) (survey : IsSurvey image w fs) where
+module _ (image : List ℕ) (t : Tree) (l : Layout) (w : List (Role × ℕ)) (fs : List FindingValue) (fit : Fits image t l)
+    (survey : IsSurvey image w fs) where
   none : fs ≡ []
   none = finds_none image t l w fs fit survey
 
@@ -133,8 +133,7 @@ module _ (image : List ℕ) (t : Tree) (l : Layout) (w : List (Role × ℕ)) (fs
   same = sym (one_fit image t (tree_in image w) l (layout_in w) fit made).0
 
   pub paths_as_in_tree : (path : List (List ℕ)) (n : ℕ) → LeadsTo image w 0 path n ↔ (find t.entries path ≡ Some n)
-  paths_as_in_tree path n =
-      subst (λ (t : Tree). LeadsTo image w 0 path n ↔ (find t.entries path ≡ Some n)) same (paths_lead image w (shown image clean).1 made.tree plain path n)
+  paths_as_in_tree path n = rw (← same) (paths_lead image w (shown image clean).1 made.tree plain path n)
 
   pub files_as_in_tree : (n : ℕ) (e : Entry) (bytes : List ℕ) → entry t.entries n ≡ Some e → e.body ≡ File bytes
       → IsSoundFile image w fs n × (file_content (file_in image w n) ≡ bytes)
@@ -144,6 +143,4 @@ module _ (image : List ℕ) (t : Tree) (l : Layout) (w : List (Role × ℕ)) (fs
 
   pub entries_as_in_tree : (n : ℕ) → IsSoundFile image w fs n
       → (e : Entry) × (entry t.entries n ≡ Some e) × (e.body ≡ File (file_content (file_in image w n)))
-  entries_as_in_tree n sound =
-      subst (λ (t : Tree). (e : Entry) × (entry t.entries n ≡ Some e) × (e.body ≡ File (file_content (file_in image w n)))) same
-      (sound_entry image w (shown image clean).1 made.tree plain fs n sound)
+  entries_as_in_tree n sound = rw (← same) (sound_entry image w (shown image clean).1 made.tree plain fs n sound)

@@ -63,7 +63,7 @@ fn bit_cause(is_owned: bool, is_excused: bool, is_free: bool) -> Option<Cause>
 }
 
 // The cause of the bit of block `b`, if it disagrees.
-#[tactic(auto, using(crate::proofs::BitSteps::no_page, crate::proofs::BitSteps::page_tells))]
+#[tactic(auto, using(crate::proofs::BitSteps::no_page, crate::proofs::BitSteps::not_compared))]
 fn cause_of_bit(image: &Image<'_>, found: &Found, b: u32) -> Option<Cause>
     requires low { 2 ≤ b }
     requires inside { b < blocks image.now }
@@ -90,6 +90,7 @@ fn cause_of_bit(image: &Image<'_>, found: &Found, b: u32) -> Option<Cause>
 }
 
 // Compares the bit of block `b`, and notes a finding if it disagrees.
+#[tactic(auto, using(crate::proofs::BitSteps::none_on))]
 fn compare_bit(image: &Image<'_>, found: &mut Found, b: u32) -> Result<(), NoMemory>
     requires low { 2 ≤ b }
     requires inside { b < blocks image.now }

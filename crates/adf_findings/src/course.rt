@@ -154,6 +154,7 @@ fn map_ext_word(page: u32) -> usize
 
 // The block that points to a page: the one that points to the page before, or the next bitmap extension block; `None`
 // if that is skipped.
+#[tactic(auto, using(crate::proofs::MapPlaces::map_ext_named, crate::proofs::MapPlaces::map_ext_on))]
 fn holder_of(
     image: &Image<'_>,
     found: &mut Found,
@@ -191,6 +192,7 @@ fn go_through_map(image: &Image<'_>, found: &mut Found) -> Result<(), NoMemory>
 }
 
 // Visits the chain of a slot of a directory.
+#[tactic(auto, using(crate::proofs::CoursePlaces::header_named))]
 fn go_through_chain(
     image: &Image<'_>,
     found: &mut Found,
@@ -234,6 +236,7 @@ fn go_through_dir(image: &Image<'_>, found: &mut Found, node: u32, b: u32) -> Re
 }
 
 // Visits the extension blocks of a file, with its header at block `b`; returns how many are taken.
+#[tactic(auto, using(crate::proofs::CoursePlaces::ext_is_named))]
 fn go_through_exts(image: &Image<'_>, found: &mut Found, node: u32, b: u32) -> Result<u32, NoMemory>
     requires { HasReachedFile image.now found.old node b }
     ensures datas { IfOk result (λ exts. HasReachedData image.now found.new node b exts 0) }
@@ -291,6 +294,7 @@ fn go_through_node(image: &Image<'_>, found: &mut Found, node: u32) -> Result<()
 }
 
 /// Visits the parts of a volume, until none is next.
+#[tactic(auto, using(crate::proofs::CoursePlaces::nodes_end))]
 pub fn run(image: &Image<'_>, found: &mut Found) -> Result<(), NoMemory>
     requires { HasReachedPage image.now found.old 0 (root_of image.now) }
     ensures { OnOk result (IsFinished image.now found.new) }

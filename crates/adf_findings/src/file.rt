@@ -69,6 +69,7 @@ fn named_blocks(
 
 impl<'i> SoundFile<'i> {
     // The file with its header at a block.
+    #[tactic(auto, using(crate::proofs::SoundFiles::names_none))]
     pub(crate) fn at(alloc: Global, image: &Image<'i>, head: u32) -> Result<SoundFile<'i>, NoMemory>
         requires { HasItsBlocks (file_from image.now head) }
         ensures file { IfOk result (λ f. f ≡ file_from image.now head) }
@@ -104,6 +105,7 @@ impl SoundFile<'_> {
     }
 
     /// The bytes of the file as slices of the image, one for each data block.
+    #[tactic(auto, using(crate::proofs::SoundFiles::joined_content))]
     pub fn pieces(&self) -> Pieces<'_>
         ensures exact { result
             ≡ pieces self.now.image (kind_of self.now.image)

@@ -278,6 +278,7 @@ impl Found {
     }
 
     /// Keeps the name of a header that is to be taken, if it is valid. Returns whether it is new in its chain.
+    #[tactic(auto, using(crate::proofs::Known::kept_none, std::proofs::lemmas::Bool::false_from_ne_true))]
     pub fn keep_name(&mut self, image: &Image<'_>, part: Part, b: u32) -> Result<bool, NoMemory>
         requires { b < blocks image.now }
         ensures new { IfOk result (λ t. (w : List (Role × ℕ))

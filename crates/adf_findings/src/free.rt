@@ -13,6 +13,7 @@ use adf_blocks::place_of;
 impl Survey<'_> {
     /// What the bitmap tells of a block: whether it is free. `None` for a boot block, and unless the bitmap flag of the root
     /// (word 78) is that of a valid bitmap and the page of the block is found.
+    #[tactic(auto, using(crate::proofs::Openings::page_begun))]
     pub fn is_free(&self, b: u32) -> Option<bool>
         ensures some { OnSurvey self.now.image (λ w _. IsSome result ↔ IsBitStated self.now.image w b) }
         ensures free { OnSurvey self.now.image (λ w _.

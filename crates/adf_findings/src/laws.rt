@@ -23,6 +23,7 @@ pub fn some_survey()
 {}
 
 /// An image has at most one survey.
+#[tactic(auto, using(crate::proofs::OneSurvey::one_survey))]
 pub fn one_survey()
     ensures { (image : List ℕ) (w u : List (Role × ℕ)) (fs gs : List FindingValue)
         → IsSurvey image w fs
@@ -47,6 +48,7 @@ pub fn no_finding()
 {}
 
 /// A block in the walk of a survey has one role.
+#[tactic(auto, using(crate::proofs::SoundEntries::one_part))]
 pub fn one_part()
     ensures { (image : List ℕ) → OnSurvey image (λ w _.
         (r q : Role) (b : ℕ) → Has w r b → Has w q b → r ≡ q) }
@@ -74,6 +76,7 @@ pub fn directories_first()
 {}
 
 /// The path of an entry is the path of its directory, followed by the name in its header.
+#[tactic(auto, using(crate::proofs::Directories::path_of_directory))]
 pub fn paths_of_directories()
     ensures { (image : List ℕ) (w : List (Role × ℕ)) (fs : List FindingValue) (n h : ℕ)
         → IsSurvey image w fs

@@ -196,6 +196,7 @@ impl<'i> Survey<'i> {
     /// What is left of a file, whether sound or not: the bytes of each data block that is found as the file's own, and zeros for
     /// the others; as many as its header says, but no more than the image has. `None` for what is no file. `NoMemory` if an
     /// allocation fails; never if there is no file, or it is empty.
+    #[tactic(auto, using(crate::proofs::Keeping::tells_each))]
     pub fn remains(&self, alloc: Global, n: Node) -> Result<Option<Remains>, NoMemory>
         ensures some { OnSurvey self.now.image (λ w _.
             IfOk result (λ x. IsSome x ↔ ((h : ℕ) × FileAt self.now.image w n h))) }

@@ -60,6 +60,7 @@ fn sized<'a>(bytes: &'a [u8]) -> Image<'a>
 }
 
 // The cause of the root, if it has one; otherwise why it is not taken.
+#[tactic(auto, using(crate::proofs::Starts::root_clean, crate::proofs::Starts::root_reported))]
 fn judge_root(image: &Image<'_>) -> Result<Option<Unopened>, Unopened>
     ensures reported { IfOk result (λ root. RootTells image.now (root_findings root)) }
     ensures skipped { IfErr result (λ u. RootJudged image.now (skipped u.block u.cause)) }
@@ -81,6 +82,7 @@ fn judge_root(image: &Image<'_>) -> Result<Option<Unopened>, Unopened>
 }
 
 /// Reads the size, the boot bytes and the root of an image; if the root is not taken, returns the only findings.
+#[tactic(auto, using(crate::proofs::Starts::boot_size))]
 pub fn start<'a>(bytes: &'a [u8]) -> Result<Started<'a>, Unread>
     ensures image { IfOk result (λ s. s.image ≡ bytes.now) }
     ensures boot { IfOk result (λ s. BootTells bytes.now (boot_findings s.boot)) }

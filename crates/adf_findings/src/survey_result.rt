@@ -118,6 +118,7 @@ impl Survey<'_> {
     }
 
     /// The findings, in the order of the survey.
+    #[tactic(auto, using(crate::proofs::Keeping::tells_each))]
     pub fn findings(&self) -> &[Finding]
         ensures { OnSurvey self.now.image (λ _ fs. map finding_value result.now ≡ fs) }
     {
@@ -126,6 +127,7 @@ impl Survey<'_> {
 
     /// What finding `k`, counted from 0, concerns: the entry of a header that is found, or the file of an extension or
     /// data block; of a header that was skipped, its directory. `None` for other parts, and past the last finding.
+    #[tactic(auto, using(crate::proofs::Keeping::tells_each))]
     pub fn concern_of(&self, k: usize) -> Option<Concern>
         ensures { OnSurvey self.now.image (λ w fs. result ≡ concern_of_nth w fs k) }
     {
@@ -135,6 +137,7 @@ impl Survey<'_> {
     /// The entry that holds the block of finding `k`, counted from 0, if its cause is `taken`: that of a header, or the
     /// file of an extension or data block. `None` for a block of the root or the bitmap, for other causes, and past the
     /// last finding.
+    #[tactic(auto, using(crate::proofs::Keeping::tells_each, crate::proofs::BlockOwners::owner_nth_is))]
     pub fn owner_of(&self, k: usize) -> Option<Node>
         ensures { OnSurvey self.now.image (λ w fs. result ≡ owner_of_nth w fs k) }
     {
@@ -143,6 +146,7 @@ impl Survey<'_> {
 
     /// The entry that has a block: the one whose header, extension block or data block it is. `None` for a block of the root
     /// or the bitmap, for one that is not taken, and past the last block.
+    #[tactic(auto, using(crate::proofs::Keeping::tells_each))]
     pub fn entry_at(&self, b: u32) -> Option<Node>
         ensures { OnSurvey self.now.image (λ w _. result ≡ owner w b) }
     {
@@ -150,6 +154,7 @@ impl Survey<'_> {
     }
 
     /// The number of entries found.
+    #[tactic(auto, using(crate::proofs::Keeping::tells_each))]
     pub fn len(&self) -> usize
         ensures { OnSurvey self.now.image (λ w _. result ≡ heads w) }
     {
@@ -157,6 +162,7 @@ impl Survey<'_> {
     }
 
     // Whether there is an entry with this number.
+    #[tactic(auto, using(std::proofs::lemmas::Bool::Decides::nat_tests))]
     fn has_entry(&self, n: Node) -> bool
         ensures { OnSurvey self.now.image (λ w _. IsTrue result ↔ ((1 ≤ n) × (n ≤ heads w))) }
     {
@@ -164,6 +170,7 @@ impl Survey<'_> {
     }
 
     /// The header's block of an entry; `None` for the root and past the last entry.
+    #[tactic(auto, using(crate::proofs::Keeping::tells_each))]
     pub fn block_of(&self, n: Node) -> Option<u32>
         ensures some { OnSurvey self.now.image (λ w _. IsSome result ↔ ((1 ≤ n) × (n ≤ heads w))) }
         ensures block { OnSurvey self.now.image (λ w _. IfSome result (λ b. b ≡ node_block w n)) }
@@ -237,6 +244,7 @@ impl Survey<'_> {
 
     /// The facts in the boot bytes and the root, even if the root has a finding; `None` if the root is not taken, and
     /// so nothing is surveyed.
+    #[tactic(auto, using(crate::proofs::Openings::begun_walk, crate::proofs::Openings::unbegun_walk))]
     pub fn opening(&self) -> Option<Opening>
         ensures some { OnSurvey self.now.image (λ w _. IsNone result ↔ (w ≡ [])) }
         ensures opening { IfSome result (λ o. o ≡ opening_in self.now.image) }
@@ -249,6 +257,7 @@ impl Survey<'_> {
     }
 
     /// The parent of an entry, as a function: 0 if it is in the root, and if there is no such entry.
+    #[tactic(auto, using(crate::proofs::Keeping::tells_each))]
     pub fn directory_of(&self, n: Node) -> Node
         ensures { OnSurvey self.now.image (λ w _. result ≡ parent_node w n) }
     {
@@ -256,6 +265,7 @@ impl Survey<'_> {
     }
 
     /// The parent of an entry, 0 if it is in the root; `None` for the root and past the last entry.
+    #[tactic(auto, using(crate::proofs::Keeping::parent_is))]
     pub fn parent_of(&self, n: Node) -> Option<Node>
         ensures some { OnSurvey self.now.image (λ w _. IsSome result ↔ ((1 ≤ n) × (n ≤ heads w))) }
         ensures parent { OnSurvey self.now.image (λ w _.
@@ -307,6 +317,7 @@ impl Survey<'_> {
 
 impl<'i> Survey<'i> {
     // A file that is sound, or is by the grave findings alone, if these count.
+    #[tactic(auto, using(crate::proofs::SoundFiles::type_is, crate::proofs::SoundFiles::file_is))]
     fn file_by(
         &self,
         alloc: Global,

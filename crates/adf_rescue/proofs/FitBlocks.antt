@@ -42,8 +42,8 @@ body_blocks image t l n h (File bytes) fits file = grind (arith, common_steps, e
 
 -- so the entries own as many blocks as they need
 places_own : (kind : Kind) (n : ℕ) (es : List Entry) (qs : List Place) → length qs ≡ length es
-    → ((i : ℕ) (e : Entry) → At es i e → (exts_needed (data_blocks kind e.body) ≤ length (exts_at qs i)) × (data_blocks kind e.body ≡ length (datas_at qs i)))
-    → entries_blocks kind es ≤ length (owned_from n qs)
+    → ((i : ℕ) (e : Entry) → At es i e → (exts_needed (data_blocks kind e.body) ≤ length (exts_at qs i))
+    × (data_blocks kind e.body ≡ length (datas_at qs i))) → entries_blocks kind es ≤ length (owned_from n qs)
 places_own kind n [] qs long each = omega arith
 places_own kind n (e ∷ es) [] long each = absurd (omega arith)
 places_own kind n (e ∷ es) (q ∷ qs) long each =

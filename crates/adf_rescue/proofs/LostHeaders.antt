@@ -2,48 +2,42 @@
 -- Letters: w a walk, fs findings; b, p blocks; n, m nodes; k a number of entries, findings or blocks; i the number of a page; r an answer.
 use Rattle.std.specs.Prelude.{◌==◌, ◌&&◌, ◌||◌, ◌↔◌, not, nat_le, Option, Some, None, IfSome, IsSome, IsTrue, option_and_then, option_map, cond, map, replicate}
 use Rattle.std.specs.List.{range_with_len}
-use Rattle.std.proofs.Common.{◌≡◌, ◌≢◌, ◌≤◌, ◌<◌, ℕ, zero, suc, ◌+◌, ◌-◌, ◌/◌, ◌%◌, Bool, true, false, List, [], ◌∷◌, ◌++◌, length, add-one}
+use Rattle.std.proofs.Common.{◌≡◌, ◌≢◌, ◌≤◌, ◌<◌, ℕ, suc, ◌+◌, ◌-◌, ◌/◌, ◌%◌, Bool, true, false, List, [], ◌∷◌, ◌++◌, length, add-one}
 use Rattle.std.proofs.Common.{◌∙◌, ap, arith, inl, inr, refl, sym}
 use Rattle.std.proofs.lemmas.Bool.{and_from, and_left, and_parts, cases_Bool, cases_lt, cond-false, cond-true, eq-eqb, eqb-true, false_from_ne_true}
 use Rattle.std.proofs.lemmas.Bool.Decides.{nat_tests}
 use Rattle.std.proofs.lemmas.List.FromFn.{get_or-map-range_with_len, length-map-range_with_len, map-range_with_len_more}
-use Rattle.std.proofs.Math.Bool.{and-true}
+use Rattle.std.proofs.Math.Bool.{and-true, or-true}
 use Rattle.std.proofs.lemmas.Grind.{common_steps}
 use Rattle.adf_blocks.specs.declared.layout.TheConstants.{BITMAP_FLAG, PAGE_BITS, PARENT, VALID}
 use Rattle.adf_blocks.specs.Sizes.{blocks}
 use Rattle.adf_volume.specs.Image.{root_of, word_in}
-use Rattle.adf_volume.specs.Walk.{Role, Has, IsFreeIn, heads, second}
-use Rattle.adf_volume.specs.Walk.Role.{Head, Page}
-use Rattle.adf_volume.proofs.Gathered.{one_block}
-use Rattle.adf_volume.proofs.Roles.{has_role, same_refl}
+use Rattle.adf_volume.specs.Walk.{Role, Has, IsFreeIn, heads}
+use Rattle.adf_volume.specs.Walk.Role.{Page}
+use Rattle.adf_volume.proofs.Roles.{same_refl}
 use Rattle.adf_findings.specs.declared.concern.Concern.{Concern}
 use Rattle.adf_findings.specs.Concerned.{concern_of_nth, node_of}
 use Rattle.adf_findings.specs.Found.{at_key, owner, parent_node}
 use Rattle.adf_findings.specs.Marks.{has_mark}
 use Rattle.adf_findings.specs.Parts.{key_of}
 use Rattle.adf_findings.specs.Survey.{FindingValue, IsSurvey, IsValidated}
-use Rattle.adf_findings.specs.Survey.IsSurvey.{read, unread}
-use Rattle.adf_findings.proofs.BitSteps.{at_has}
 use Rattle.adf_findings.proofs.BitSteps.{has_page}
-use Rattle.adf_findings.proofs.Keys.{lacks_at, same_of_key}
-use Rattle.adf_findings.proofs.OneSurvey.{gathered}
-use Rattle.adf_rescue.specs.Lost.{AreEntered, AreSettled, bit_stated, directory_at, directory_by, denies, has_child, has_finding, is_denied}
+use Rattle.adf_findings.proofs.BitsStated.{one_page}
+use Rattle.adf_findings.proofs.Keys.{lacks_at}
+use Rattle.adf_rescue.specs.Lost.{AreEntered, AreSettled, bit_stated, directory_at, directory_by, has_child, has_finding, is_denied}
 use Rattle.adf_rescue.specs.Lost.{is_inside, is_lost, is_of}
 use Rattle.adf_rescue.specs.Lost.{is_set_in}
 use Rattle.adf_findings.specs.SurveyResult.{IsBitStated}
+use Rattle.std.proofs.lemmas.Bool.{ne_eqb}
 
 -- what the bitmap tells of a block
 
 abbrev page_of : ℕ → ℕ
 page_of b = (b - 2) / PAGE_BITS
 
-one_page : (image : List ℕ) (w : List (Role × ℕ)) (fs : List FindingValue) → IsSurvey image w fs → (i a b : ℕ) → Has w (Page i) a → Has w (Page i) b → a ≡ b
-one_page image w fs (unread told) i a b h g = absurd h
-one_page image w fs (read {s = s} v done bits) i a b h g = (one_block image (gathered image v) (Page i) (Page i) a b h g (same_refl (Page i))).1
-
 -- a test of a number that is not 0
 not_zero : (n : ℕ) → n ≢ 0 → not (n == 0) ≡ true
-not_zero n ne = ap not (false_from_ne_true (n == 0) (λ e. ne (eqb-true n 0 e)))
+not_zero n ne = ap not (ne_eqb n 0 ne)
 
 is_zero : (n : ℕ) → not (n == 0) ≡ true → n ≢ 0
 is_zero n e z = let clash : not (n == 0) ≡ false = ap not (eq-eqb n 0 z) in cc
@@ -80,53 +74,51 @@ told_is image w fs b r survey some free = elim (cases_Bool (nat_le 2 b && (word_
         ∙ ap (option_map (λ page. is_set_in image page ((b - 2) % PAGE_BITS))) (sym e)
     with_page (Some page) e low valid =
         let has = has_page w (page_of b) page e in
-        told_some image w b page r (λ a h. one_page image w fs survey (page_of b) a page h has) has (some.1 (low, valid, (page, has))) free
+        told_some image w b page r (λ a h. one_page image w fs survey (page_of b) page a has h) has (some.1 (low, valid, (page, has))) free
         ∙ ap (option_map (λ page. is_set_in image page ((b - 2) % PAGE_BITS))) (sym e)
 
 -- the directories of a survey
 
-other : (a b : ℕ) → a ≢ b → (a == b) ≡ false
-other a b ne = false_from_ne_true (a == b) (λ e. ne (eqb-true a b e))
+module _ (image : List ℕ) (w : List (Role × ℕ)) (p : ℕ) where
+  pub root_at : p ≡ root_of image → directory_at image w p ≡ Some 0
+  unfolding directory_at
+  root_at e = cond-true (p == root_of image) (Some 0) _ (eq-eqb p (root_of image) e)
 
-pub root_at : (image : List ℕ) (w : List (Role × ℕ)) (p : ℕ) → p ≡ root_of image → directory_at image w p ≡ Some 0
-unfolding directory_at
-root_at image w p e = cond-true (p == root_of image) (Some 0) _ (eq-eqb p (root_of image) e)
+  owned_at : p ≢ root_of image → directory_at image w p ≡ option_and_then (directory_by image w p) (owner w p)
+  unfolding directory_at
+  owned_at ne = cond-false (p == root_of image) (Some 0) _ (ne_eqb p (root_of image) ne)
 
-owned_at : (image : List ℕ) (w : List (Role × ℕ)) (p : ℕ) → p ≢ root_of image → directory_at image w p ≡ option_and_then (directory_by image w p) (owner w p)
-unfolding directory_at
-owned_at image w p ne = cond-false (p == root_of image) (Some 0) _ (other p (root_of image) ne)
+  pub none_at : p ≢ root_of image → None ≡ owner w p → directory_at image w p ≡ None
+  none_at ne e = owned_at ne ∙ ap (option_and_then (directory_by image w p)) (sym e)
 
-pub none_at : (image : List ℕ) (w : List (Role × ℕ)) (p : ℕ) → p ≢ root_of image → None ≡ owner w p → directory_at image w p ≡ None
-none_at image w p ne e = owned_at image w p ne ∙ ap (option_and_then (directory_by image w p)) (sym e)
+  pub entry_in_it : (n : ℕ) → p ≢ root_of image → Some n ≡ owner w p → directory_at image w p ≡ directory_by image w p n
+  entry_in_it n ne e = owned_at ne ∙ ap (option_and_then (directory_by image w p)) (sym e)
 
-pub entry_in_it : (image : List ℕ) (w : List (Role × ℕ)) (p n : ℕ) → p ≢ root_of image → Some n ≡ owner w p → directory_at image w p ≡ directory_by image w p n
-entry_in_it image w p n ne e = owned_at image w p ne ∙ ap (option_and_then (directory_by image w p)) (sym e)
+  known : (n : ℕ) (o : Option ℕ) → option_and_then (directory_by image w p) o ≡ Some n → n ≤ heads w
+  known n None e = absurd cc
+  known n (Some m) e = grind (arith, common_steps, and_parts, nat_tests)
 
-known : (image : List ℕ) (w : List (Role × ℕ)) (p n : ℕ) (o : Option ℕ) → option_and_then (directory_by image w p) o ≡ Some n → n ≤ heads w
-known image w p n None e = absurd cc
-known image w p n (Some m) e = grind (arith, common_steps, and_parts, nat_tests)
-
--- a directory of the survey is the root or an entry
-pub directory_known : (image : List ℕ) (w : List (Role × ℕ)) (p n : ℕ) → directory_at image w p ≡ Some n → n ≤ heads w
-unfolding directory_at
-directory_known image w p n e = grind (arith, common_steps, known)
+  -- a directory of the survey is the root or an entry
+  pub directory_known : (n : ℕ) → directory_at image w p ≡ Some n → n ≤ heads w
+  unfolding directory_at
+  directory_known n e = grind (arith, common_steps, known)
 
 -- the marks of those that are settled
 
-pub entered_first : (w : List (Role × ℕ)) (marks : List Bool) → length marks ≡ suc (heads w) → ((n : ℕ) → has_mark marks n ≡ false) → AreEntered w 0 marks
+pub entered_first : (w : List (Role × ℕ)) (marks : List Bool) → length marks ≡ suc (heads w)
+    → ((n : ℕ) → has_mark marks n ≡ false) → AreEntered w 0 marks
 unfolding has_child
 entered_first w marks len none = record { length = len; entry = λ n le. none n }
 
 or_cond : (a b : Bool) → cond b true a ≡ (a || b)
-or_cond true true = refl
+or_cond a true = sym (or-true a)
 or_cond true false = refl
-or_cond false true = refl
 or_cond false false = refl
 
-pub entered_more : (w : List (Role × ℕ)) (k p : ℕ) (marks more : List Bool) → AreEntered w k marks → p ≡ parent_node w (k + 1)
+pub entered_more : {w : List (Role × ℕ)} {k p : ℕ} {marks more : List Bool} → AreEntered w k marks → p ≡ parent_node w (k + 1)
     → ((m : ℕ) → m < length marks → has_mark more m ≡ cond (p == m) true (has_mark marks m)) → length more ≡ length marks → AreEntered w (k + 1) more
 unfolding has_child
-entered_more w k p marks more are is put len = grind (arith, common_steps, or_cond, add-one)
+entered_more are is put len = grind (arith, common_steps, or_cond, add-one)
 
 -- what is struck
 and_more : (a f o : Bool) → ((a && not f) && not o) ≡ (a && not (f || o))
@@ -139,8 +131,8 @@ unfolding has_finding
 settled_first w fs marks are = record { length = are.length; settled = λ n le. are.entry n le ∙ sym (and-true (has_child w n (heads w))) }
 
 settled_by : (w : List (Role × ℕ)) (fs : List FindingValue) (k : ℕ) (marks more : List Bool) (o : Option Concern) → AreSettled w fs k marks
-    → o ≡ concern_of_nth w fs k → ((m : ℕ) → m < length marks → has_mark more m ≡ (has_mark marks m && not (is_of w m o))) → length more ≡ length marks
-    → AreSettled w fs (k + 1) more
+    → o ≡ concern_of_nth w fs k → ((m : ℕ) → m < length marks → has_mark more m ≡ (has_mark marks m && not (is_of w m o)))
+    → length more ≡ length marks → AreSettled w fs (k + 1) more
 unfolding has_finding
 settled_by w fs k marks more o are is put len = record {
   length = len ∙ are.length;
@@ -150,44 +142,39 @@ settled_by w fs k marks more o are is put len = record {
       ∙ rw add-one (and_more (has_child w n (heads w)) (has_finding w fs n k) (is_of w n (concern_of_nth w fs k))));
 }
 
-pub settled_none : (w : List (Role × ℕ)) (fs : List FindingValue) (k : ℕ) (marks : List Bool) → AreSettled w fs k marks → None ≡ concern_of_nth w fs k
+pub settled_none : {w : List (Role × ℕ)} {fs : List FindingValue} {k : ℕ} {marks : List Bool} → AreSettled w fs k marks → None ≡ concern_of_nth w fs k
     → AreSettled w fs (k + 1) marks
-settled_none w fs k marks are is = settled_by w fs k marks marks None are is (λ m lt. sym (and-true (has_mark marks m))) refl
+settled_none {w} {fs} {k} {marks} are is = settled_by w fs k marks marks None are is (λ m lt. sym (and-true (has_mark marks m))) refl
 
-pub settled_some : (w : List (Role × ℕ)) (fs : List FindingValue) (k n : ℕ) (marks more : List Bool) (x : Concern) → AreSettled w fs k marks
+pub settled_some : {w : List (Role × ℕ)} {fs : List FindingValue} {k n : ℕ} {marks more : List Bool} {x : Concern} → AreSettled w fs k marks
     → Some x ≡ concern_of_nth w fs k → n ≡ node_of x
     → ((m : ℕ) → m < length marks → has_mark more m ≡ (has_mark marks m && not ((n == m) || (parent_node w n == m)))) → length more ≡ length marks
     → AreSettled w fs (k + 1) more
-settled_some w fs k n marks more x are is node put len =
+settled_some {w} {fs} {k} {n} {marks} {more} {x} are is node put len =
     settled_by w fs k marks more (Some x) are is
     (λ m lt. put m lt ∙ (λ i. has_mark marks m && not ((node i == m) || (parent_node w (node i) == m)))) len
 
 -- the marks of lost headers
 
-lost_outside : (image : List ℕ) (w : List (Role × ℕ)) (fs : List FindingValue) (b : ℕ) → blocks image ≤ b → is_lost image w fs b ≡ false
-unfolding is_lost
-lost_outside image w fs b out = and_left _ _ (and_left _ _ (and_left (is_inside image b) _ (grind (arith, nat_tests))))
-
-pub past_marks : (marks : List Bool) (b : ℕ) → length marks ≤ b → has_mark marks b ≡ false
-past_marks [] b h = refl
-past_marks (x ∷ xs) zero h = absurd (omega arith)
-past_marks (x ∷ xs) (suc b) h = past_marks xs b (omega arith)
-
-pub lost_marked : (image : List ℕ) (w : List (Role × ℕ)) (fs : List FindingValue) (marks : List Bool)
-    → marks ≡ map (is_lost image w fs) (range_with_len 0 (blocks image)) → (b : ℕ) → has_mark marks b ≡ is_lost image w fs b
-lost_marked image w fs marks e b = grind (arith, common_steps, cases_lt, get_or-map-range_with_len, past_marks, length-map-range_with_len, lost_outside)
-
--- what a settled directory denies
-pub denied_by_directory : (image : List ℕ) (w : List (Role × ℕ)) (fs : List FindingValue) (b p n : ℕ) (marks : List Bool) → AreSettled w fs (length fs) marks
-    → p ≡ word_in image b PARENT → Some n ≡ directory_at image w p → has_mark marks n ≡ is_denied image w fs b
-denied_by_directory image w fs b p n marks are parent is = grind (arith, common_steps, directory_known)
-
--- one mark more
-pub lost_more : (image : List ℕ) (w : List (Role × ℕ)) (fs : List FindingValue) (b : ℕ) (marks more : List Bool) (t : Bool)
-    → marks ≡ map (is_lost image w fs) (range_with_len 0 b) → t ≡ is_lost image w fs b → more ≡ marks ++ t ∷ []
-    → more ≡ map (is_lost image w fs) (range_with_len 0 (b + 1))
-lost_more image w fs b marks more t before is put = grind (arith, common_steps, map-range_with_len_more)
-
 -- no marks
 pub unmarked : (n : ℕ) (marks : List Bool) → marks ≡ replicate n false → (i : ℕ) → has_mark marks i ≡ false
 unmarked n marks e i = grind (arith, common_steps)
+
+module _ (image : List ℕ) (w : List (Role × ℕ)) (fs : List FindingValue) where
+  lost_outside : (b : ℕ) → blocks image ≤ b → is_lost image w fs b ≡ false
+  unfolding is_lost
+  lost_outside b out = and_left _ _ (and_left _ _ (and_left (is_inside image b) _ (grind (arith, nat_tests))))
+
+  pub lost_marked : (marks : List Bool) → marks ≡ map (is_lost image w fs) (range_with_len 0 (blocks image)) → (b : ℕ)
+      → has_mark marks b ≡ is_lost image w fs b
+  lost_marked marks e b = grind (arith, common_steps, cases_lt, get_or-map-range_with_len, length-map-range_with_len, lost_outside)
+
+  -- what a settled directory denies
+  pub denied_by_directory : (b p n : ℕ) (marks : List Bool) → AreSettled w fs (length fs) marks → p ≡ word_in image b PARENT
+      → Some n ≡ directory_at image w p → has_mark marks n ≡ is_denied image w fs b
+  denied_by_directory b p n marks are parent is = grind (arith, common_steps, directory_known)
+
+  -- one mark more
+  pub lost_more : (b : ℕ) (marks more : List Bool) (t : Bool) → marks ≡ map (is_lost image w fs) (range_with_len 0 b)
+      → t ≡ is_lost image w fs b → more ≡ marks ++ t ∷ [] → more ≡ map (is_lost image w fs) (range_with_len 0 (b + 1))
+  lost_more b marks more t before is put = grind (arith, common_steps, map-range_with_len_more)

@@ -15,7 +15,8 @@ use Rattle.adf_tree.proofs.DraftDirectories.{one_more, room_more}
 
 -- one entry more
 
-child_stays : (es : List Entry) (e : Entry) (p : ℕ) (x : List ℕ) (m : ℕ) → IsTree (es ++ e ∷ []) → child es p x ≡ Some m → child (es ++ e ∷ []) p x ≡ Some m
+child_stays : (es : List Entry) (e : Entry) (p : ℕ) (x : List ℕ) (m : ℕ) → IsTree (es ++ e ∷ []) → child es p x ≡ Some m
+    → child (es ++ e ∷ []) p x ≡ Some m
 child_stays es e p x m t h = grind (arith, common_steps, found_is, length_push, get_or_append_left, child_is)
 
 dir_stays : (es : List Entry) (e : Entry) (m : ℕ) → 0 < m → m ≤ length es → is_dir (es ++ e ∷ []) m ≡ is_dir es m
@@ -59,7 +60,8 @@ module _ (es : List Entry) (e : Entry) (dir : List (List ℕ)) (may : MayAdd es 
       let here : get_or (es ++ e ∷ []) (length es) e ≡ e = get_or_push es e e (length es) refl in
       let behind : get_or (es ++ e ∷ []) (n - 1) e ≡ e = get_or_push es e e (n - 1) (omega arith) in
       let found : child (es ++ e ∷ []) e.parent e.name ≡ Some n =
-      child_is (es ++ e ∷ []) e.parent e.name (length es) e t (omega arith) (ap (is_child e.parent e.name) here ∙ is_child_from e.parent e.name e refl refl) in
+      child_is (es ++ e ∷ []) e.parent e.name (length es) e t (omega arith)
+      (ap (is_child e.parent e.name) here ∙ is_child_from e.parent e.name e refl refl) in
       let one : is_dir (es ++ e ∷ []) n ≡ true =
       dir_at (es ++ e ∷ []) n e (omega arith) (omega arith) ∙ (ap (λ (d : Entry). is_dir_body d.body) behind ∙ ap is_dir_body is) in
       one_more (es ++ e ∷ []) 0 e.parent dir e.name there ∙ (ap (past (es ++ e ∷ []) []) found ∙ rw one refl)

@@ -65,7 +65,8 @@ pub begun_other : (image : List ℕ) → begins_with_dos image ≡ false → beg
 begun_other image h = cond-false (begins_with_dos image) image _ h
 
 pub length_begun : (image : List ℕ) → 4 ≤ length image → length (begun image) ≡ length image
-length_begun image long = cond_both (begins_with_dos image) image _ (λ l. length l ≡ length image) (λ e. refl) (λ e. omega (arith, length-drop 4 image))
+length_begun image long =
+    cond_both (begins_with_dos image) image _ (λ l. length l ≡ length image) (λ e. refl) (λ e. omega (arith, length-drop 4 image))
 
 rest_begun : (image : List ℕ) → drop 4 (begun image) ≡ drop 4 image
 rest_begun image = cond_both (begins_with_dos image) image _ (λ l. drop 4 l ≡ drop 4 image) (λ e. refl) (λ e. refl)
@@ -131,7 +132,7 @@ module _ (image : List ℕ) (len : is_image_len (length image) ≡ true) where
         ∙ ap (λ b. word b (FIRST_SLOT + s)) same_middle)
   ]
 
-  middle_is_whole : (has_root_type (block (rooted (begun image)) (root_of image)) && (long_sum (block (rooted (begun image)) (root_of image)) == 0)) ≡ true
+  middle_is_whole : (let b = block (rooted (begun image)) (root_of image) in has_root_type b && (long_sum b == 0)) ≡ true
   middle_is_whole = elim (cases_Bool (has_root image)) [
     | inl whole ↦ ap (λ b. has_root_type b && (long_sum b == 0)) (kept_middle whole) ∙ whole
     | inr none ↦ ap (λ b. has_root_type b && (long_sum b == 0)) (made_middle none) ∙ root_is_whole (made_root (begun image)) (made_fits (begun image))
@@ -232,10 +233,7 @@ dos_opened image len = grind (arith, common_steps, cases_Bool, opened_mended, do
 -- an image that a tree fits is not mended
 
 front_tests : (a b c d : Bool) → (a && b && c && d) ≡ true → (a && b && c) ≡ true
-front_tests true true true d h = refl
-front_tests true true false d h = absurd cc
-front_tests true false c d h = absurd cc
-front_tests false b c d h = absurd cc
+front_tests a b c d h = grind (arith, common_steps, and_parts, and_from)
 
 first_block : (image : List ℕ) → begins_with_dos (block image 0) ≡ begins_with_dos image
 unfolding block

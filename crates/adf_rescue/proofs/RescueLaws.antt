@@ -1,6 +1,6 @@
 -- Laws of verdicts: sound files stand, and one survey has one rescue.
-use Rattle.std.proofs.Common.{◌≡◌, ℕ, Bool, true, false, List, [], Ok, ap, refl, subst, sym, ◌∙◌, arith}
-use Rattle.std.specs.Prelude.{◌&&◌}
+use Rattle.std.proofs.Common.{◌≡◌, ℕ, Bool, false, List, [], Ok, ap, subst, sym, ◌∙◌, arith}
+use Rattle.std.proofs.Math.Bool.{and-false}
 use Rattle.std.proofs.lemmas.Bool.{and_from, eq-eqb}
 use Rattle.std.proofs.lemmas.Grind.{common_steps}
 use Rattle.adf_base.specs.Words.{block}
@@ -23,8 +23,8 @@ pub sound_stands : (l : Basis) (fs : List FindingValue) (n : ℕ) → AreMarks l
 sound_stands l fs n marks is = grind (arith, common_steps, and_from, eq-eqb)
 
 -- so the verdict on it is that of its path
-pub sound_verdict : (a : Basis) (fs : List FindingValue) (n : ℕ) (vs : List Verdict) → AreMarks a.image a.walk fs a.sound → IsSoundFile a.image a.walk fs n
-    → (let t = tree_of (before_first a.image) vs in verdict (before_first a.image) a vs n
+pub sound_verdict : (a : Basis) (fs : List FindingValue) (n : ℕ) (vs : List Verdict) → AreMarks a.image a.walk fs a.sound
+    → IsSoundFile a.image a.walk fs n → (let t = tree_of (before_first a.image) vs in verdict (before_first a.image) a vs n
     ≡ at_path t (blocks a.image) (meta_stated (block a.image (node_block a.walk n))) (File (file_content (file_in a.image a.walk n)))
     (path_by t (place_of vs (parent_node a.walk n)) (name_of a.image (node_block a.walk n)) (node_block a.walk n)))
 sound_verdict a fs n vs marks is = grind (arith, common_steps, sound_stands)
@@ -46,11 +46,6 @@ one_basis image l m x y =
     let step : (i : List ℕ) (w : List (Role × ℕ)) → Basis = λ i w. record { image = i; walk = w; sound = l.sound } in
     ap (λ i. step i l.walk) image_is ∙ (ap (step m.image) same.0 ∙ same_basis m.image m.walk (grave y.findings) l.sound m.sound marks y.marks)
 
-neither : (a b : Bool) → (a && (b && false)) ≡ false
-neither true true = refl
-neither true false = refl
-neither false b = refl
-
 -- nothing is lost without a finding
 pub nothing_lost : (image : List ℕ) (w : List (Role × ℕ)) (fs : List FindingValue) → fs ≡ [] → has_lost image w fs ≡ false
-nothing_lost image w fs none = grind (arith, common_steps, neither)
+nothing_lost image w fs none = grind (arith, common_steps, and-false)

@@ -1,7 +1,7 @@
 -- The tree of a rescue is that of its additions.
 -- Letters: b the body of an entry, or why it is left out; o a path, if there is one; x an addition.
 use Rattle.std.proofs.Common.{◌≡◌, ℕ, Bool, true, false, cond, List, [], ◌∷◌, ◌++◌, Option, Some, None, Result, Ok, Err, refl, sym, ◌∙◌, ap, subst, zero, suc}
-use Rattle.std.specs.Prelude.{IsOk, ◌-◌}
+use Rattle.std.specs.Prelude.{IsOk}
 use Rattle.std.proofs.lemmas.Bool.{and_parts}
 use Rattle.std.proofs.lemmas.List.{append-nil, append_assoc}
 use Rattle.std.proofs.lemmas.Option.{cond_some}
@@ -66,11 +66,13 @@ room_unless g (Some m) v t x room is = absurd cc
 room_of_verdict : (g : Ground) (l : Basis) (vs : List Verdict) (n : ℕ) (x : Addition) → verdict g l vs n ≡ adds x
     → IsOk (room_for (tree_of g vs).entries x.path)
 room_of_verdict g l vs n x is =
-    room_unless g (owner g.walk (node_block l.walk n)) (verdict_anew g l vs n) (tree_of g vs) x (room_of_body l.image (blocks g.given) (tree_of g vs) _ _ _) is
+    room_unless g (owner g.walk (node_block l.walk n)) (verdict_anew g l vs n) (tree_of g vs) x
+    (room_of_body l.image (blocks g.given) (tree_of g vs) _ _ _) is
 
 -- one more verdict
 
-nothing_more : (g : Ground) (vs : List Verdict) (v : Verdict) → addition_of v ≡ [] → IsTreeOf (tree_of g vs).entries (additions_of g.verdicts ++ additions_of vs)
+nothing_more : (g : Ground) (vs : List Verdict) (v : Verdict) → addition_of v ≡ []
+    → IsTreeOf (tree_of g vs).entries (additions_of g.verdicts ++ additions_of vs)
     → IsTreeOf (tree_of g (vs ++ v ∷ [])).entries (additions_of g.verdicts ++ additions_of (vs ++ v ∷ []))
 nothing_more g vs v none h = grind (arith, common_steps, additions_more, append-nil)
 

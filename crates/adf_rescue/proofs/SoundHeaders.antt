@@ -1,6 +1,6 @@
 -- The entries of a survey without findings: what their headers tell is what the tree of the walk has.
 -- Letters: w the walk of the survey, fs its findings; sound the marks; n a node, i its index; b the block of its header; bs a block's bytes.
-use Rattle.std.proofs.Common.{◌≡◌, ◌⊎◌, ℕ, suc, List, [], inl, inr, ◌-◌, ◌<◌, ◌≤◌, length, take, refl, arith, rules}
+use Rattle.std.proofs.Common.{◌≡◌, ◌⊎◌, ℕ, suc, List, [], inl, inr, ◌<◌, ◌≤◌, length, take, refl, arith, rules}
 use Rattle.std.proofs.Common.{Bool, true, cond, Result, Ok, Err}
 use Rattle.std.specs.Prelude.{nat_le, slice_index}
 use Rattle.std.proofs.lemmas.Bool.{and_from, and_parts, and_right, eq-eqb, leb-true, ne_eqb}
@@ -41,7 +41,8 @@ use Rattle.adf_rescue.specs.Rescue.{Basis, body_of, body_of_type}
 text_short : (bs : List ℕ) (at n : ℕ) → slice_index bs at ≤ n → length (text_at bs at) ≤ n
 text_short bs at n le = grind (arith, common_steps, length-take)
 
-pub label_whole : (image : List ℕ) → AllHold (root_demands image (root_of image)) → label_stated (block image (root_of image)) ≡ name_of image (root_of image)
+pub label_whole : (image : List ℕ) → AllHold (root_demands image (root_of image))
+    → label_stated (block image (root_of image)) ≡ name_of image (root_of image)
 unfolding name_of
 label_whole image h =
     let bs : List ℕ = block image (root_of image) in
@@ -88,8 +89,8 @@ pub record IsToldAs (a : Basis) (n : ℕ) (e : Entry) : Type 0 where
   pub meta : meta_stated (block a.image (node_block a.walk n)) ≡ e.meta
   pub body : body_of a n ≡ Ok e.body
 
-pub told : (image : List ℕ) (w : List (Role × ℕ)) (fs : List FindingValue) (sound : ℕ → Bool) → IsSurvey image w fs → fs ≡ [] → AreMarks image w fs sound
-    → IsWalk image w → (i : ℕ) → i < heads w
+pub told : (image : List ℕ) (w : List (Role × ℕ)) (fs : List FindingValue) (sound : ℕ → Bool) → IsSurvey image w fs → fs ≡ []
+    → AreMarks image w fs sound → IsWalk image w → (i : ℕ) → i < heads w
     → (e : Entry) × At (entries_in image w w) i e × IsToldAs (record { image = image; walk = w; sound = sound }) (suc i) e
 told image w fs sound survey clean marks v i lt =
     let b : ℕ = node_block w (suc i) in

@@ -20,15 +20,15 @@ use Rattle.adf_blocks.specs.Sizes.{blocks, is_allowed}
 use Rattle.adf_build.specs.Building.{IsBuildable}
 use Rattle.adf_findings.specs.declared.part.Finding.{Finding}
 use Rattle.adf_findings.specs.Parts.{finding_value}
-use Rattle.adf_findings.specs.Survey.{Course, FindingValue, IsCourse, IsSurvey, UnreadTells, finding}
-use Rattle.adf_findings.specs.Survey.IsCourse.{start, step}
+use Rattle.adf_findings.specs.Survey.{FindingValue, IsSurvey, UnreadTells}
 use Rattle.adf_findings.specs.Survey.IsSurvey.{read, unread}
-use Rattle.adf_findings.specs.Survey.JudgementValue.{clean, reported, skipped}
 use Rattle.adf_findings.specs.Survey.UnreadTells.{bad_boot, bad_root}
 use Rattle.adf_volume.specs.Image.{name_of}
 use Rattle.adf_volume.proofs.Lists.{get_before}
 use Rattle.adf_volume.specs.Walk.{Role, heads, node_block}
 use Rattle.adf_findings.specs.Found.{owner, parent_node}
+use Rattle.adf_findings.proofs.OneSurvey.{gathered}
+use Rattle.adf_findings.proofs.Openings.{some_part}
 use Rattle.adf_build.specs.Plan.{blocks_needed, entries_blocks, reserved}
 use Rattle.adf_rescue.specs.declared.left_out.Why.{Why}
 use Rattle.adf_rescue.specs.declared.salvage.Salvage.{Salvage}
@@ -91,8 +91,8 @@ room_none d (Some path) h = absurd h
 room_none d None h = refl
 
 -- the place of a path
-pub room_in_place : {E : Type 0} (d : DraftValue) (t : Tree) (o : Option (List (List ℕ))) (m : ℕ) (name own : List ℕ) (b h : ℕ) (r : Result (Option Room) E)
-    → d.tree ≡ t → IsPlace d o (Some m) → name ≡ own → b ≡ h
+pub room_in_place : {E : Type 0} (d : DraftValue) (t : Tree) (o : Option (List (List ℕ))) (m : ℕ) (name own : List ℕ)
+    (b h : ℕ) (r : Result (Option Room) E) → d.tree ≡ t → IsPlace d o (Some m) → name ≡ own → b ≡ h
     → ((dir : List (List ℕ)) → IsDirectoryOf d dir m → IfOk r (IsRoomOf d (path_for d.tree dir name b))) → IfOk r (IsRoomOf d (path_by t o own h))
 room_in_place d t None m name own b h r tree place e1 e2 found = absurd place
 room_in_place d t (Some dir) m name own b h r tree place e1 e2 found = rw (← tree, ← e1, ← e2) (found dir place)
@@ -186,7 +186,8 @@ module _ (g : Ground) (vs : List Verdict) (r : Salvage) (x : Addition) (is : IsS
         → s.draft.tree ≡ with_entry r.draft.tree x.path x.meta x.body → length s.draft.nodes ≡ length r.draft.nodes + 1
         → ((dir : List (List ℕ)) (m : ℕ) → IsDirectoryOf r.draft dir m → IsDirectoryOf s.draft dir m)
         → IsPlace s.draft (directory_in (adds x)) place
-        → s.kind ≡ r.kind → s.left ≡ r.left - cost → s.places.items ≡ r.places.items ++ place ∷ [] → s.left_out.items ≡ r.left_out.items → s.known ≡ r.known → s.left_before ≡ r.left_before
+        → s.kind ≡ r.kind → s.left ≡ r.left - cost → s.places.items ≡ r.places.items ++ place ∷ [] → s.left_out.items ≡ r.left_out.items
+        → s.known ≡ r.known → s.left_before ≡ r.left_before
         → IsSalvage g (vs ++ fitting before (blocks g.given) x ∷ []) s
     added_more s place small le tree nodes dirs new k l ps out kn before_out =
         let v : Verdict = adds x in
@@ -205,7 +206,7 @@ module _ (g : Ground) (vs : List Verdict) (r : Salvage) (x : Addition) (is : IsS
           known = rw kn (λ m. kept_place r.draft s.draft dirs (place_of g.verdicts m) (get_or r.known.items m None) (is.known m));
           places = rw ps (places_more s.draft vs v r.places.items place is.count
               (λ p. kept_place r.draft s.draft dirs (place_of vs p) (get_or r.places.items p None) (is.places p)) new);
-          left = subst (λ (t : Tree). s.left + entries_blocks t.kind t.entries ≡ free_blocks (blocks g.given)) (sym grown) (rw l (numbers small le).1);
+          left = rw grown (rw l (numbers small le).1);
           left_before = rw before_out is.left_before;
           left_out = out ∙ (is.left_out ∙ (sym (append-nil (left_out_from 1 vs)) ∙ sym (left_out_more 1 vs v)));
         })
@@ -233,12 +234,6 @@ pub no_finding : (fs : List FindingValue) (xs : List Finding) → map finding_va
 no_finding fs [] m none = sym m
 no_finding fs (x ∷ xs) m none = absurd (omega (arith, eqb-true (length (x ∷ xs)) 0 none))
 
-course_taken : (image : List ℕ) (s : Course) → IsCourse image s → s.walk ≢ []
-course_taken image s (start boot root) e = cc
-course_taken image s (step clean before next is) e = cc
-course_taken image s (step (reported at c) before next is) e = cc
-course_taken image s (step (skipped at c) before next is) e = course_taken image _ before e
-
 told_unread : (image : List ℕ) (fs : List FindingValue) → UnreadTells image fs → fs ≢ []
 told_unread image fs (bad_boot fails other) e = cc
 told_unread image fs (bad_root {boot = boot} {at = at} {c = c} tells judged) e = grind (arith, common_steps, length_push)
@@ -250,19 +245,20 @@ on_err (Err y) h = h
 -- of an image of which nothing is surveyed there is a finding
 pub unread_fault : (image : List ℕ) (w : List (Role × ℕ)) (fs : List FindingValue) → IsSurvey image w fs → w ≡ [] → fs ≢ []
 unread_fault image w fs (unread told) e = told_unread image fs told
-unread_fault image w fs (read course done bits) e = absurd (course_taken image _ course e)
+unread_fault image w fs (read course done bits) e = absurd (some_part image _ (gathered image course) e)
 
 pub none_added : (g : Ground) (vs : List Verdict) (r : Salvage) → IsSalvage g vs r → length r.draft.nodes ≡ 0
     → additions_of g.verdicts ++ additions_of vs ≡ []
 none_added g vs r is none = nil_from_length (additions_of g.verdicts ++ additions_of vs) (sym is.nodes ∙ none)
 
 -- the tree of the additions fits
-pub buildable : (t : Tree) (left n m : ℕ) → m ≡ n → is_allowed m ≡ true → 1 + reserved m ≤ m - 2 → left + entries_blocks t.kind t.entries ≡ free_blocks n
-    → IsBuildable t m
+pub buildable : (t : Tree) (left n m : ℕ) → m ≡ n → is_allowed m ≡ true → 1 + reserved m ≤ m - 2
+    → left + entries_blocks t.kind t.entries ≡ free_blocks n → IsBuildable t m
 buildable t left n m same allowed room is = grind (arith, common_steps)
 
 -- what holds of the second survey of an image
-pub second_some : (image : List ℕ) (P : Option Basis → Type 0) → OnBasis image (λ b _. P (Some b)) → (b : Option Basis) → IsSecond (Some image) b → P b
+pub second_some : (image : List ℕ) (P : Option Basis → Type 0) → OnBasis image (λ b _. P (Some b)) → (b : Option Basis)
+    → IsSecond (Some image) b → P b
 second_some image P h None is = absurd is
 second_some image P h (Some b) is =
     subst (λ i. OnBasis i (λ l _. P (Some l))) (sym is.of) h b.walk is.findings b.sound is.survey is.marks

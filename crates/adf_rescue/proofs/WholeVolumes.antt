@@ -2,7 +2,7 @@
 -- Letters: t the tree, es its entries, e the next of them; k the number of those before; vs the verdicts on these; x the addition of e;
 -- w the walk of the survey, fs its findings, n a node, h its header's block; p a directory's node, dir its path.
 use Rattle.std.proofs.Common.{◌≡◌, ℕ, zero, suc, List, [], ◌∷◌, ◌++◌, inl, inr, ◌+◌, ◌-◌, ◌<◌, ◌≤◌, length, get_or, take, refl, sym, ap, subst, ◌∙◌, arith}
-use Rattle.std.proofs.Common.{Bool, true, cond, Some, None, Ok, take_all}
+use Rattle.std.proofs.Common.{Bool, true, cond, Some, None, Ok, take_all, add-one}
 use Rattle.std.specs.Option.{option_and_then}
 use Rattle.std.proofs.lemmas.Bool.{and_from, cases_lt, le-leb}
 use Rattle.std.proofs.lemmas.List.{append-nil, length_push, length-take-le, take_more}
@@ -65,8 +65,8 @@ abbrev addition : List (List ℕ) → Entry → Addition
 addition dir e = record { path = dir ++ e.name ∷ []; meta = e.meta; body = e.body }
 
 -- one more entry is added
-module _ (es : List Entry) (k : ℕ) (vs : List Verdict) (e : Entry) (t : IsTree es) (lt : k < length es) (here : get_or es k e ≡ e) (f : IsFront es k vs)
-    (dir : List (List ℕ)) (to : directory_from (take k es) 0 dir ≡ Ok e.parent) where
+module _ (es : List Entry) (k : ℕ) (vs : List Verdict) (e : Entry) (t : IsTree es) (lt : k < length es) (here : get_or es k e ≡ e)
+    (f : IsFront es k vs) (dir : List (List ℕ)) (to : directory_from (take k es) 0 dir ≡ Ok e.parent) where
   abbrev added_verdict : Verdict
   added_verdict = adds (addition dir e)
 
@@ -131,7 +131,8 @@ tree_so_far a vs = tree_of (before_first a.image) vs
 
 module _ (a : Basis) (vs : List Verdict) (n : ℕ) (e : Entry) (is : IsToldAs a n e) (dir : List (List ℕ)) (at : place_of vs e.parent ≡ Some dir) where
   entry_path : room_for (tree_so_far a vs).entries (dir ++ e.name ∷ []) ≡ Ok e.parent
-      → path_by (tree_so_far a vs) (place_of vs (parent_node a.walk n)) (name_of a.image (node_block a.walk n)) (node_block a.walk n) ≡ Some (dir ++ e.name ∷ [])
+      → path_by (tree_so_far a vs) (place_of vs (parent_node a.walk n)) (name_of a.image (node_block a.walk n)) (node_block a.walk n)
+      ≡ Some (dir ++ e.name ∷ [])
   entry_path room = grind (arith, common_steps, tree_so_far, own_path)
 
   entry_stands : room_for (tree_so_far a vs).entries (dir ++ e.name ∷ []) ≡ Ok e.parent
@@ -152,11 +153,13 @@ module _ (image : List ℕ) (w : List (Role × ℕ)) (fs : List FindingValue) (s
   -- the first entries have the blocks that they need
   front_room : (k : ℕ) → 1 + reserved (blocks image) + entries_blocks (kind_of image) (take k all) ≤ blocks image - 2
   front_room k =
-      let needed : 1 + reserved (blocks image) + entries_blocks (kind_of image) all ≤ blocks image - 2 = fit_room image (tree_in image w) (layout_in w) fit in
+      let needed : 1 + reserved (blocks image) + entries_blocks (kind_of image) all ≤ blocks image - 2 =
+      fit_room image (tree_in image w) (layout_in w) fit in
       let fewer = front_blocks (kind_of image) k all in
       omega arith
 
-  next_front : (k : ℕ) (vs : List Verdict) → k < heads w → IsFront all k vs → IsFront all (suc k) (vs ++ verdict (before_first image) basis vs (suc k) ∷ [])
+  next_front : (k : ℕ) (vs : List Verdict) → k < heads w → IsFront all k vs
+      → IsFront all (suc k) (vs ++ verdict (before_first image) basis vs (suc k) ∷ [])
   next_front k vs lt f =
       let x = told image w fs sound survey clean marks v k lt in
       let e : Entry = x.0 in
@@ -172,10 +175,10 @@ module _ (image : List ℕ) (w : List (Role × ℕ)) (fs : List FindingValue) (s
       let added_one : with_addition before (addition dir e) ≡ take (k + 1) all =
       ap (λ (us : List Entry). with_addition us (addition dir e)) f.entries ∙ entry_added all k vs e fit.tree within here f dir place.2 in
       let fits : 1 + reserved (blocks image) + entries_blocks (kind_of image) (with_addition before (addition dir e)) ≤ blocks image - 2 =
-      subst (λ (us : List Entry). 1 + reserved (blocks image) + entries_blocks (kind_of image) us ≤ blocks image - 2) (sym added_one) (front_room (k + 1)) in
+      subst (λ (us : List Entry). 1 + reserved (blocks image) + entries_blocks (kind_of image) us ≤ blocks image - 2)
+      (sym added_one) (front_room (k + 1)) in
       let is = entry_stands basis vs (suc k) e x.2 dir place.1 room fits in
-      let number : k + 1 ≡ suc k = omega arith in
-      subst (λ m. IsFront all m (vs ++ verdict (before_first image) basis vs (suc k) ∷ [])) number
+      subst (λ m. IsFront all m (vs ++ verdict (before_first image) basis vs (suc k) ∷ [])) (add-one k)
       (subst (λ (u : Verdict). IsFront all (k + 1) (vs ++ u ∷ [])) (sym is) (front_more all k vs e fit.tree within here f dir place.2))
 
   front : (k : ℕ) → k ≤ heads w → IsFront all k (verdicts (before_first image) basis k)

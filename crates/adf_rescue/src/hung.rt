@@ -99,6 +99,7 @@ struct Loose {
 }
 
 // Whether one of the blocks is a lost header.
+#[tactic(auto, using(crate::proofs::HungImages::lost_steps))]
 fn has_lost(survey: &Survey<'_>, lost: &Vec<bool>) -> bool
     requires { is_image_len (length survey.now.image) ≡ true }
     ensures { OnSurvey survey.now.image (λ w fs. AreLost survey.now.image w fs lost.now.items
@@ -222,6 +223,7 @@ fn ready(
 }
 
 // Makes all blocks ready.
+#[tactic(auto, using(crate::proofs::HungImages::readied_first, crate::proofs::HungImages::readied_more))]
 fn ready_all(
     alloc: Global,
     survey: &Survey<'_>,
@@ -262,6 +264,7 @@ fn hang_loose(survey: &Survey<'_>, loose: &Loose, image: &mut [u8], b: u32)
 }
 
 // Hangs all blocks that are to be.
+#[tactic(auto, using(crate::proofs::HungImages::hung_begun, crate::proofs::HungImages::hung_more))]
 fn hang_all(survey: &Survey<'_>, loose: &Loose, image: &mut [u8])
     requires sized { is_image_len (length survey.now.image) ≡ true }
     requires same { length image.old ≡ length survey.now.image }

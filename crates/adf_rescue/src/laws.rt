@@ -27,6 +27,7 @@ pub fn rescued_additions_have_their_tree()
 /// A sound file is whole, and a whole file stands: the verdict on it is that of its path, with its content and what its
 /// header says of it. So it is kept in the place of its directory, by its name or else by `lost-` and its block, or has
 /// no room. What a second survey adds comes behind all that the first one adds.
+#[tactic(auto, using(crate::proofs::RescueLaws::sound_verdict))]
 pub fn sound_files_stand()
     ensures whole { (image : List ℕ) (w : List (Role × ℕ)) (fs : List FindingValue) (n : ℕ)
         → IsSoundFile image w fs n → IsSoundFile image w (grave fs) n }
@@ -55,6 +56,7 @@ pub fn one_rescue()
 
 /// Where a tree and a layout fit the image, the rescue has that tree and leaves out nothing, and nothing is lost, so that there
 /// is no second survey.
+#[tactic(auto, using(crate::proofs::WholeVolumes::tree_kept, crate::proofs::WholeVolumes::none_left))]
 pub fn whole_is_kept()
     ensures tree { (image : List ℕ) (t : Tree) (l : Layout) (w : List (Role
         × ℕ)) (fs : List FindingValue) (sound : ℕ → Bool)

@@ -142,6 +142,7 @@ pub fn mark(marks: &mut Vec<bool>, n: usize, is: bool)
 }
 
 // The marks of the root and the directories that have entries.
+#[tactic(auto, using(crate::proofs::LostHeaders::entered_first, crate::proofs::LostHeaders::unmarked))]
 fn entered(alloc: Global, survey: &Survey<'_>) -> Result<Vec<bool>, NoMemory>
     ensures { OnSurvey survey.now.image (λ w _.
         IfOk result (λ v. AreEntered w (heads w) v.items)) }
@@ -182,6 +183,7 @@ pub fn settled(alloc: Global, survey: &Survey<'_>) -> Result<Vec<bool>, NoMemory
 }
 
 // Whether the directory that a header names does not have it.
+#[tactic(auto, using(crate::proofs::LostHeaders::denied_by_directory, std::proofs::lemmas::Grind::common_steps))]
 fn is_denied(survey: &Survey<'_>, settled: &Vec<bool>, b: u32) -> bool
     requires sized { is_image_len (length survey.now.image) ≡ true }
     requires inside { b < blocks survey.now.image }
@@ -225,6 +227,7 @@ fn is_lost(survey: &Survey<'_>, settled: &Vec<bool>, b: u32) -> bool
 }
 
 /// Whether each block is a lost header.
+#[tactic(auto, using(crate::proofs::LostHeaders::lost_more, crate::proofs::LostHeaders::lost_marked))]
 pub fn lost(alloc: Global, survey: &Survey<'_>) -> Result<Vec<bool>, NoMemory>
     requires { is_image_len (length survey.now.image) ≡ true }
     ensures { OnSurvey survey.now.image (λ w fs.

@@ -102,6 +102,7 @@ fn stamps_in(root: &Block<'_>) -> Stamps
 }
 
 /// Writes the root that is made into the middle of an image that has no whole root there.
+#[tactic(auto, using(crate::proofs::MadeRoots::whole_rooted, crate::proofs::MadeRoots::made_anew))]
 pub fn make_root(image: &mut [u8])
     requires { is_image_len (length image.old) ≡ true }
     ensures { image.new ≡ rooted image.old }

@@ -196,6 +196,7 @@ impl Salvage {
     }
 
     // The room of an entry, if its directory is kept and has one.
+    #[tactic(auto, using(crate::proofs::Steps::room_in_place))]
     fn room_of_entry(
         &self,
         alloc: Global,

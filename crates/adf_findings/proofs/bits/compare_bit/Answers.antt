@@ -1,13 +1,11 @@
 use Rattle.std.proofs.Common.{refl}
 use Rattle.std.proofs.lemmas.Result.{on_ok_weaker}
-use Rattle.adf_findings.proofs.BitSteps.{none_on, some_on}
+use Rattle.adf_findings.proofs.BitSteps.{some_on}
 use Rattle.adf_findings.proofs.bits.compare_bit.Goals as goal
 
 pub returns-in-Some : goal.returns-in-Some
 returns-in-Some c =
     on_ok_weaker c.report.result
-    (λ n. some_on c.args.image.now c.args.found.now c.report.new.self c.args.b c.in-Some.cause _ c.requires.low refl c.in-Some.ensures n c.requires.reported)
+    (λ n. some_on c.args.image.now c.args.found.now c.report.new.self c.args.b c.in-Some.cause _ c.requires.low refl c.in-Some.ensures
+    n c.requires.reported)
     c.report.ensures
-
-pub returns-in-None : goal.returns-in-None
-returns-in-None c = none_on c.args.image.now c.args.found.now c.args.b c.requires.low c.in-None.ensures c.requires.reported

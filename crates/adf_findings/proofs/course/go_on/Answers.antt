@@ -1,7 +1,4 @@
-use Rattle.std.proofs.Common.{◌≡◌, ◌+◌, sym, subst, arith}
-use Rattle.std.specs.Prelude.{Some}
-use Rattle.adf_findings.specs.Courses.{IsGoneOn}
-use Rattle.adf_findings.specs.Found.{IsTaken}
+use Rattle.std.proofs.Common.{◌≡◌, ◌+◌, arith}
 use Rattle.adf_findings.proofs.CourseSteps.{skipped_on, taken_left, taken_marked, taken_on, to_skip, to_take}
 use Rattle.adf_findings.proofs.course.go_on.Goals as goal
 
@@ -17,12 +14,8 @@ take-requires-clause-some c =
 
 pub returns-in_ok-take-in-Some-clause-gone : goal.returns-in_ok-take-in-Some-clause-gone
 returns-in_ok-take-in-Some-clause-gone c = λ s n.
-    let image = c.args.image.now in
-    let g = c.judge_next.new.found in
-    let h = c.take.new.self in
-    subst (λ b. IsGoneOn image s c.args.part c.args.holder c.args.i h (Some b)) (sym c.word.ensures)
-    (taken_on n (to_take n c.word.ensures c.in_ok-part.ensures c.in-Some.part c.in-Some.is)
-    (subst (λ b. IsTaken c.in-Some.part b g h) c.word.ensures c.in_ok-take-in-Some.ensures))
+    rw c.word.ensures (taken_on n (to_take n c.word.ensures c.in_ok-part.ensures c.in-Some.part c.in-Some.is)
+    (rw c.word.ensures at c.in_ok-take-in-Some.ensures))
 
 pub returns-in_ok-take-in-Some-clause-left : goal.returns-in_ok-take-in-Some-clause-left
 returns-in_ok-take-in-Some-clause-left c =

@@ -1,24 +1,20 @@
-use Rattle.std.specs.Prelude.{IfSome}
-use Rattle.std.proofs.Common.{◌+◌, ◌<◌, ◌≤◌, subst, sym, ◌∙◌, arith}
-use Rattle.std.proofs.lemmas.Grind.{common_steps}
+use Rattle.std.proofs.Common.{◌+◌, ◌<◌, ◌≤◌, sym, ◌∙◌, arith}
 use Rattle.adf_findings.proofs.CoursePlaces.{chain_done, header_named, header_skipped, header_taken}
 use Rattle.adf_findings.proofs.course.go_through_chain.Goals as goal
-
-pub go_on-requires-clause-due : goal.go_on-requires-clause-due
-go_on-requires-clause-due c = grind (arith, common_steps, header_named)
 
 pub returns-in-None : goal.returns-in-None
 returns-in-None c =
     let x = c.loop-part.invariant.0 in
-    header_skipped x c.in-None.is (c.in_ok-header.ensures.gone x.course (header_named x c.requires.slot (λ e. c.loop-part-test.true (c.word.ensures ∙ e))))
+    let named = header_named x c.requires.slot (λ e. c.loop-part-test.true (c.word.ensures ∙ e)) in
+    header_skipped x c.in-None.is (c.in_ok-header.ensures.gone x.course named)
 
 pub loop-part-preserved : goal.loop-part-preserved
 loop-part-preserved c =
     let x = c.loop-part.invariant.0 in
-    let less : c.go_on.new.found.left < c.loop-part.found.left =
-    subst (λ o. IfSome o (λ b. c.go_on.new.found.left < c.loop-part.found.left)) c.in-Some.is c.in_ok-header.ensures.left in
+    let named = header_named x c.requires.slot (λ e. c.loop-part-test.true (c.word.ensures ∙ e)) in
+    let less : c.go_on.new.found.left < c.loop-part.found.left = rw c.in-Some.is at c.in_ok-header.ensures.left in
     let all : c.loop-part.place + c.loop-part.found.left ≤ c.args.found.now.left = c.loop-part.invariant.2 in (
-      header_taken x c.in-Some.is (c.in_ok-header.ensures.gone x.course (header_named x c.requires.slot (λ e. c.loop-part-test.true (c.word.ensures ∙ e)))),
+      header_taken x c.in-Some.is (c.in_ok-header.ensures.gone x.course named),
       omega arith,
       omega arith,
     )

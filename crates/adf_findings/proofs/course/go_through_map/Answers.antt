@@ -1,6 +1,5 @@
-use Rattle.std.proofs.Common.{◌<◌, subst, arith}
+use Rattle.std.proofs.Common.{◌<◌, arith}
 use Rattle.adf_blocks.specs.Sizes.{blocks, pages_needed}
-use Rattle.adf_findings.specs.Courses.{IsPageNamed}
 use Rattle.adf_findings.proofs.MapPlaces.{page_named, page_on}
 use Rattle.adf_findings.proofs.course.go_through_map.Goals as goal
 
@@ -11,8 +10,9 @@ loop-page-preserved c =
     let page = c.loop-page.page in
     let a = c.in-Some.at in
     let i = c.page_word.result in
-    let x = subst (IsPageNamed image f page) c.in-Some.is c.in_ok-at.ensures in
-    let lt : page < pages_needed (blocks image) = omega (arith, c.loop-page-test.true, c.page_count-page-end.ensures.exact, c.blocks-2.ensures.blocks) in
+    let x = rw c.in-Some.is at c.in_ok-at.ensures in
+    let lt : page < pages_needed (blocks image) =
+    omega (arith, c.loop-page-test.true, c.page_count-page-end.ensures.exact, c.blocks-2.ensures.blocks) in
     let n = page_named image f x.0 page a i c.page_word.ensures.named lt x.1 x.2 in
     page_on image f x.0 page a i c.go_on.new.found c.in_ok-go_on.field-0 n.asked.1
     (c.in_ok-go_on.ensures.gone x.0 n)

@@ -11,25 +11,26 @@ returns-then-branch-clause-judged c =
     let x = c.args.reference.now in
     let facts = c.facts-facts in
     let kept = c.in_ok-keep_name-in-Clean in
-    judged_named c.args.image.now c.args.found.now x c.args.part facts.result facts.ensures.enough facts.ensures.absent facts.ensures.context kept.field-0
-    c.in-Clean.ensures kept.ensures.new Clean (ap (λ t. cond t clean (reported x.block SameName)) c.if-branch.true)
+    judged_named c.args.image.now c.args.found.now x c.args.part facts.result facts.ensures.enough facts.ensures.absent facts.ensures.context
+    kept.field-0 c.in-Clean.ensures kept.ensures.new Clean (ap (λ t. cond t clean (reported x.block SameName)) c.if-branch.true)
 
 pub returns-else-branch-clause-judged : goal.returns-else-branch-clause-judged
 returns-else-branch-clause-judged c =
     let x = c.args.reference.now in
     let facts = c.facts-facts in
     let kept = c.in_ok-keep_name-in-Clean in
-    judged_named c.args.image.now c.args.found.now x c.args.part facts.result facts.ensures.enough facts.ensures.absent facts.ensures.context kept.field-0
-    c.in-Clean.ensures kept.ensures.new (Reported x.block SameName) (ap (λ t. cond t clean (reported x.block SameName)) c.if-branch.false)
+    judged_named c.args.image.now c.args.found.now x c.args.part facts.result facts.ensures.enough facts.ensures.absent facts.ensures.context
+    kept.field-0 c.in-Clean.ensures kept.ensures.new (Reported x.block SameName) (ap (λ t. cond t clean (reported x.block SameName))
+    c.if-branch.false)
 
 pub returns-in_ok-keep_name-in-Reported-clause-judged : goal.returns-in_ok-keep_name-in-Reported-clause-judged
 returns-in_ok-keep_name-in-Reported-clause-judged c =
     let facts = c.facts-facts in
-    judged_else c.args.image.now c.args.found.now c.args.reference.now c.args.part facts.result facts.ensures.enough facts.ensures.absent facts.ensures.context
-    (Reported c.in-Reported.at c.in-Reported.cause) c.in-Reported.ensures (λ e. cc)
+    judged_else c.args.image.now c.args.found.now c.args.reference.now c.args.part facts.result facts.ensures.enough facts.ensures.absent
+    facts.ensures.context (Reported c.in-Reported.at c.in-Reported.cause) c.in-Reported.ensures (λ e. cc)
 
 pub returns-in-Skipped-clause-judged : goal.returns-in-Skipped-clause-judged
 returns-in-Skipped-clause-judged c =
     let facts = c.facts-facts in
-    judged_else c.args.image.now c.args.found.now c.args.reference.now c.args.part facts.result facts.ensures.enough facts.ensures.absent facts.ensures.context
-    (Skipped c.in-Skipped.at c.in-Skipped.cause) c.in-Skipped.ensures (λ e. cc)
+    judged_else c.args.image.now c.args.found.now c.args.reference.now c.args.part facts.result facts.ensures.enough facts.ensures.absent
+    facts.ensures.context (Skipped c.in-Skipped.at c.in-Skipped.cause) c.in-Skipped.ensures (λ e. cc)

@@ -1,12 +1,8 @@
 use Rattle.std.proofs.Common.{length-set, arith}
-use Rattle.std.proofs.lemmas.List.{take_all, take_more, take_more_set, map-append}
+use Rattle.std.proofs.lemmas.List.{take_more, take_more_set, map-append}
 use Rattle.std.proofs.lemmas.Grind.{common_steps}
 use Rattle.adf_blocks.proofs.HeadLaws.{name_short}
-use Rattle.adf_findings.proofs.Names.{valid_upper}
 use Rattle.adf_findings.proofs.header_name.upper_case.Goals as goal
 
 pub loop-i-preserved : goal.loop-i-preserved
 loop-i-preserved c = grind (arith, common_steps, length-set, take_more_set, name_short, take_more, map-append)
-
-pub known-requires : goal.known-requires
-known-requires c = grind (arith, common_steps, take_all, valid_upper)

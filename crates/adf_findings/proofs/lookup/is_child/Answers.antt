@@ -17,5 +17,5 @@ returns-then-up-parent c = λ w fs h.
     let some = (c.in-Some.ensures.some w fs h).0 refl in
     let same : c.in-Some.up ≡ c.args.parent = sym c.up.view_is ∙ c.if-up-parent.true ∙ c.parent.view_is in
     let told = ap (λ l. bytes_eq (uppers_by l c.in-Some-name.text.now) (uppers_by l c.args.name.now)) c.letters.ensures in
-    child_told c.args.survey.now.image w fs h c.args.parent c.args.n c.args.name.now c.in-Some-name.text.now c.matches_by.result c.in-Some.up some.0 some.1
-    (c.in-Some.ensures.parent w fs h) same (c.in-Some-name.ensures.name w fs h) (c.matches_by.ensures ∙ told)
+    child_told c.args.survey.now.image w fs h c.args.parent c.args.n c.args.name.now c.in-Some-name.text.now c.matches_by.result c.in-Some.up
+    some.0 some.1 (c.in-Some.ensures.parent w fs h) same (c.in-Some-name.ensures.name w fs h) (c.matches_by.ensures ∙ told)

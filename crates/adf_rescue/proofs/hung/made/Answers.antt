@@ -1,7 +1,6 @@
-use Rattle.std.proofs.Common.{◌≡◌, ◌∙◌, ◌+◌, ap, arith, subst, sym}
+use Rattle.std.proofs.Common.{◌≡◌, ◌∙◌, ap, arith, sym}
 use Rattle.std.proofs.lemmas.Grind.{common_steps}
 use Rattle.adf_blocks.specs.Sizes.{blocks}
-use Rattle.adf_rescue.specs.Hung.{AreMade}
 use Rattle.adf_rescue.proofs.HungImages.{made_first, made_marked, made_more, made_same}
 use Rattle.adf_rescue.proofs.LostHeaders.{unmarked}
 use Rattle.adf_rescue.proofs.hung.made.Goals.{then-is_marked, else-is_marked}
@@ -16,16 +15,12 @@ loop-b-init c = λ w fs survey are.
 
 pub loop-b-preserved : goal.loop-b-preserved
 loop-b-preserved c = λ w fs survey are.
-    let given = c.args.survey.now.image in
     let before = c.loop-b.invariant w fs survey are in
     elim c.if-is_marked.branch [
       | then-is_marked b ↦
-          subst (AreMade given w fs (c.loop-b.b + 1)) (λ i. (sym b.marks-is i).items)
-          (made_more given w fs c.loop-b.b c.loop-b.marks.items b.mark_parent.new.made.items before
-          (sym (are c.loop-b.b) ∙ (sym c.is_marked.ensures ∙ b.if-is_marked.true)) (b.mark_parent.ensures.marks w fs survey are) b.mark_parent.ensures.length)
-      | else-is_marked b ↦
-          subst (AreMade given w fs (c.loop-b.b + 1)) (λ i. (sym b.marks-is i).items)
-          (made_same given w fs c.loop-b.b c.loop-b.marks.items before (sym (are c.loop-b.b) ∙ (sym c.is_marked.ensures ∙ b.if-is_marked.false)))
+          rw b.marks-is (made_more before (sym (are c.loop-b.b) ∙ (sym c.is_marked.ensures ∙ b.if-is_marked.true))
+          (b.mark_parent.ensures.marks w fs survey are) b.mark_parent.ensures.length)
+      | else-is_marked b ↦ rw b.marks-is (made_same before (sym (are c.loop-b.b) ∙ (sym c.is_marked.ensures ∙ b.if-is_marked.false)))
     ]
 
 pub returns : goal.returns

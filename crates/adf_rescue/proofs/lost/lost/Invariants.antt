@@ -1,11 +1,9 @@
 use Rattle.std.specs.Prelude.{map}
 use Rattle.std.specs.List.{range_with_len}
-use Rattle.std.proofs.Common.{◌≡◌, ℕ, List}
-use Rattle.adf_volume.specs.Walk.{Role}
-use Rattle.adf_findings.specs.Survey.{FindingValue, IsSurvey}
+use Rattle.std.proofs.Common.{◌≡◌}
+use Rattle.adf_findings.specs.Survey.{OnSurvey}
 use Rattle.adf_rescue.specs.Lost.{is_lost}
 use Rattle.adf_rescue.proofs.lost.lost.Given as goal
 
 abbrev pub invariant-loop-b : goal.invariant-loop-b
-invariant-loop-b l = (w : List (Role × ℕ)) (fs : List FindingValue) → IsSurvey l.survey.image w fs
-    → l.marks.items ≡ map (is_lost l.survey.image w fs) (range_with_len 0 l.b)
+invariant-loop-b l = OnSurvey l.survey.image (λ w fs. l.marks.items ≡ map (is_lost l.survey.image w fs) (range_with_len 0 l.b))

@@ -1,7 +1,6 @@
-use Rattle.std.proofs.Common.{◌∙◌, ◌+◌, arith, length, subst, sym}
+use Rattle.std.proofs.Common.{◌∙◌, arith, sym}
 use Rattle.std.proofs.lemmas.List.{length-map}
 use Rattle.std.proofs.lemmas.Grind.{common_steps}
-use Rattle.adf_rescue.specs.Lost.{AreSettled}
 use Rattle.adf_rescue.proofs.LostHeaders.{settled_first, settled_none, settled_some}
 use Rattle.adf_rescue.proofs.lost.settled.Goals.{in-Some, in_default}
 use Rattle.adf_rescue.proofs.lost.settled.Goals as goal
@@ -12,12 +11,9 @@ loop-k-init c = λ w fs survey. settled_first w fs c.in_ok-marks.marks.items (c.
 pub loop-k-preserved : goal.loop-k-preserved
 loop-k-preserved c = λ w fs survey. elim c.match-concern_of.branch [
   | in-Some b ↦
-      subst (AreSettled w fs (c.loop-k.k + 1)) (λ i. (sym b.marks-is i).items)
-      (settled_some w fs c.loop-k.k b.node.result c.loop-k.marks.items b.strike.new.marks.items b.in-Some.concern (c.loop-k.invariant w fs survey)
-      (sym b.in-Some.is ∙ c.concern_of.ensures w fs survey) b.node.ensures (b.strike.ensures.marks w fs survey) b.strike.ensures.length)
-  | in_default b ↦
-      subst (AreSettled w fs (c.loop-k.k + 1)) (λ i. (sym b.marks-is i).items)
-      (settled_none w fs c.loop-k.k c.loop-k.marks.items (c.loop-k.invariant w fs survey) (sym b.in_default.is ∙ c.concern_of.ensures w fs survey))
+      rw b.marks-is (settled_some (c.loop-k.invariant w fs survey) (sym b.in-Some.is ∙ c.concern_of.ensures w fs survey) b.node.ensures
+      (b.strike.ensures.marks w fs survey) b.strike.ensures.length)
+  | in_default b ↦ rw b.marks-is (settled_none (c.loop-k.invariant w fs survey) (sym b.in_default.is ∙ c.concern_of.ensures w fs survey))
 ]
 
 pub returns : goal.returns

@@ -1,4 +1,4 @@
-use Rattle.std.proofs.Common.{◌≡◌, ◌<◌, ℕ, arith, get_or, rules, subst}
+use Rattle.std.proofs.Common.{◌≡◌, ℕ, arith, rules}
 use Rattle.std.proofs.lemmas.List.FromFn.{fill_by_all}
 use Rattle.adf_blocks.specs.declared.layout.TheConstants.{ROOT_PAGES}
 use Rattle.adf_rescue.specs.MadeRoot.{page_found}
@@ -16,5 +16,4 @@ pub returns : goal.returns
 returns c =
     let f : ℕ → ℕ = page_found c.args.image.now in
     let last : c.loop-i.i ≡ ROOT_PAGES = omega arith in
-    fill_by_all f c.loop-i.pages ROOT_PAGES 0 c.loop-i.invariant.whole
-    (subst (λ n. (k : ℕ) → k < n → get_or c.loop-i.pages k 0 ≡ f k) last c.loop-i.invariant.filled)
+    fill_by_all f c.loop-i.pages ROOT_PAGES 0 c.loop-i.invariant.whole (rw last at c.loop-i.invariant.filled)

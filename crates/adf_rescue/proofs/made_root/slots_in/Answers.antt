@@ -1,4 +1,4 @@
-use Rattle.std.proofs.Common.{◌≡◌, ◌<◌, ◌+◌, ℕ, arith, get_or, subst}
+use Rattle.std.proofs.Common.{◌≡◌, ◌+◌, ℕ, arith}
 use Rattle.std.proofs.lemmas.List.FromFn.{fill_by_all}
 use Rattle.std.proofs.lemmas.Grind.{common_steps}
 use Rattle.adf_base.specs.Words.{word}
@@ -13,5 +13,4 @@ pub returns : goal.returns
 returns c =
     let f : ℕ → ℕ = λ s. word c.args.root.now (FIRST_SLOT + s) in
     let last : c.loop-s.s ≡ SLOTS = omega arith in
-    fill_by_all f c.loop-s.slots SLOTS 0 c.loop-s.invariant.whole
-    (subst (λ n. (k : ℕ) → k < n → get_or c.loop-s.slots k 0 ≡ f k) last c.loop-s.invariant.filled)
+    fill_by_all f c.loop-s.slots SLOTS 0 c.loop-s.invariant.whole (rw last at c.loop-s.invariant.filled)

@@ -1,8 +1,7 @@
-use Rattle.std.proofs.Common.{◌≡◌, ℕ, Bool, List, arith, subst, sym}
+use Rattle.std.proofs.Common.{◌≡◌, arith}
 use Rattle.adf_volume.specs.Walk.{heads}
 use Rattle.adf_findings.specs.SoundMarks.{whole_in}
-use Rattle.adf_rescue.specs.Rescue.{Ground, Basis, Verdict, before_first, verdicts}
-use Rattle.adf_rescue.specs.Salvage.{IsSalvage}
+use Rattle.adf_rescue.specs.Rescue.{Ground, Basis, before_first, verdicts}
 use Rattle.adf_rescue.proofs.Steps.{next_is, verdicts_more}
 use Rattle.adf_rescue.proofs.rescues.salvaged.Goals as goal
 
@@ -13,20 +12,17 @@ pub take-requires : goal.take-requires
 take-requires c =
     let image = c.args.survey.now.image in
     let some = c.some_survey.ensures image in
-    let w = some.0 in
-    let fs = some.1 in
-    let sound : ℕ → Bool = whole_in c.args.survey.now in
-    let marks = c.whole_marks.ensures w fs some.2 in
-    let all = c.len-before-end.ensures w fs some.2 in
+    let marks = c.whole_marks.ensures some.0 some.1 some.2 in
+    let all = c.len-before-end.ensures some.0 some.1 some.2 in
     let g : Ground = before_first image in
-    let a : Basis = record { image = image; walk = w; sound = sound } in
+    let a : Basis = record { image = image; walk = some.0; sound = whole_in c.args.survey.now } in
     record {
       ground = g;
-      walk = w;
-      findings = fs;
+      walk = some.0;
+      findings = some.1;
       verdicts = verdicts g a c.loop-before.before;
       survey = some.2;
-      state = c.loop-before.invariant w fs sound some.2 marks;
+      state = c.loop-before.invariant some.0 some.1 a.sound some.2 marks;
       next = next_is g a c.loop-before.before (omega (arith, all));
     }
 
@@ -34,11 +30,9 @@ pub loop-before-preserved : goal.loop-before-preserved
 loop-before-preserved c = λ w fs sound survey marks.
     let image = c.args.survey.now.image in
     let all = c.len-before-end.ensures w fs survey in
-    let g : Ground = before_first image in
     let a : Basis = record { image = image; walk = w; sound = sound } in
-    let more = c.in_ok-take.ensures w fs sound survey marks (verdicts g a c.loop-before.before) (c.loop-before.invariant w fs sound survey marks)
-    (next_is g a c.loop-before.before (omega (arith, all))) in
-    subst (λ (us : List Verdict). IsSalvage g us c.take.new.self) (sym (verdicts_more g a c.loop-before.before)) more
+    let next = next_is (before_first image) a c.loop-before.before (omega (arith, all)) in
+    rw verdicts_more (c.in_ok-take.ensures w fs sound survey marks _ (c.loop-before.invariant w fs sound survey marks) next)
 
 pub returns : goal.returns
 returns c = λ w fs sound survey marks.

@@ -1,8 +1,7 @@
-use Rattle.std.proofs.Common.{◌≡◌, ℕ, Bool, List, arith, subst, sym}
+use Rattle.std.proofs.Common.{◌≡◌, arith}
 use Rattle.adf_volume.specs.Walk.{heads}
 use Rattle.adf_findings.specs.SoundMarks.{whole_in}
-use Rattle.adf_rescue.specs.Rescue.{Ground, Basis, Verdict, as_given, before_second, first_verdicts, verdicts}
-use Rattle.adf_rescue.specs.Salvage.{IsSalvage}
+use Rattle.adf_rescue.specs.Rescue.{Ground, Basis, as_given, before_second, first_verdicts, verdicts}
 use Rattle.adf_rescue.proofs.Steps.{next_is, verdicts_more}
 use Rattle.adf_rescue.proofs.rescues.take_second.Goals as goal
 
@@ -13,13 +12,11 @@ pub take_second-requires : goal.take_second-requires
 take_second-requires c =
     let one = c.some_survey.ensures c.args.survey.now.image in
     let other = c.some_survey.ensures c.args.second.now.image in
-    let before : ℕ → Bool = whole_in c.args.survey.now in
-    let sound : ℕ → Bool = whole_in c.args.second.now in
     let marks = c.whole_marks.ensures one.0 one.1 one.2 in
     let whole = c.whole_marks-2.ensures other.0 other.1 other.2 in
     let all = c.len-before-end.ensures other.0 other.1 other.2 in
-    let a : Basis = record { image = c.args.survey.now.image; walk = one.0; sound = before } in
-    let b : Basis = as_given a.image (record { image = c.args.second.now.image; walk = other.0; sound = sound }) in
+    let a : Basis = record { image = c.args.survey.now.image; walk = one.0; sound = whole_in c.args.survey.now } in
+    let b : Basis = as_given a.image (record { image = c.args.second.now.image; walk = other.0; sound = whole_in c.args.second.now }) in
     let g : Ground = before_second a in
     record {
       ground = g;
@@ -27,7 +24,7 @@ take_second-requires c =
       findings = other.1;
       verdicts = verdicts g b c.loop-before.before;
       survey = other.2;
-      state = c.loop-before.invariant one.0 one.1 before one.2 marks other.0 other.1 sound other.2 whole;
+      state = c.loop-before.invariant one.0 one.1 a.sound one.2 marks other.0 other.1 (whole_in c.args.second.now) other.2 whole;
       next = next_is g b c.loop-before.before (omega (arith, all));
     }
 
@@ -36,10 +33,9 @@ loop-before-preserved c = λ v gs before first marks w fs sound survey whole.
     let all = c.len-before-end.ensures w fs survey in
     let a : Basis = record { image = c.args.survey.now.image; walk = v; sound = before } in
     let b : Basis = as_given a.image (record { image = c.args.second.now.image; walk = w; sound = sound }) in
-    let g : Ground = before_second a in
-    let more = c.in_ok-take_second.ensures v gs first w fs sound survey whole (first_verdicts a) (verdicts g b c.loop-before.before)
-    (c.loop-before.invariant v gs before first marks w fs sound survey whole) (next_is g b c.loop-before.before (omega (arith, all))) in
-    subst (λ (us : List Verdict). IsSalvage g us c.take_second.new.self) (sym (verdicts_more g b c.loop-before.before)) more
+    let next = next_is (before_second a) b c.loop-before.before (omega (arith, all)) in
+    rw verdicts_more (c.in_ok-take_second.ensures v gs first w fs sound survey whole (first_verdicts a) _
+    (c.loop-before.invariant v gs before first marks w fs sound survey whole) next)
 
 pub returns : goal.returns
 returns c = λ v gs before first marks w fs sound survey whole.

@@ -1,10 +1,9 @@
 use Rattle.std.proofs.Common.{◌<◌, ◌^◌, sym, subst, arith}
-use Rattle.std.proofs.lemmas.Grind.{common_steps}
 use Rattle.adf_blocks.specs.declared.layout.TheConstants.{SIZE}
 use Rattle.adf_volume.specs.Image.{word_in}
 use Rattle.adf_volume.specs.Pieces.{AreInside}
 use Rattle.adf_findings.specs.Files.{FileValue}
-use Rattle.adf_findings.proofs.SoundFiles.{blocks_inside, joined_content}
+use Rattle.adf_findings.proofs.SoundFiles.{blocks_inside}
 use Rattle.adf_findings.proofs.file.SoundFile.pieces.Goals as goal
 
 pub new-requires : goal.new-requires
@@ -12,6 +11,3 @@ new-requires c =
     let f : FileValue = record { image = c.self.inside.image.now; head = c.self.inside.head; blocks = c.self.inside.blocks.items } in
     let small : word_in f.image f.head SIZE < 2 ^ 32 = omega (arith, c.self.invariant.1) in
     subst (λ bs. AreInside f.image bs 1) (sym c.deref.ensures.value) (blocks_inside f c.self.invariant.2 small)
-
-pub returns-clause-joined : goal.returns-clause-joined
-returns-clause-joined c = grind (arith, common_steps, joined_content)

@@ -1,7 +1,6 @@
 use Rattle.std.specs.Prelude.{slice_index}
 use Rattle.std.proofs.Common.{ℕ, List, refl, sym, ap, subst, ◌∙◌, arith}
 use Rattle.std.proofs.lemmas.Grind.{common_steps}
-use Rattle.adf_volume.specs.Walk.{node_block}
 use Rattle.adf_findings.specs.Files.{FileValue}
 use Rattle.adf_findings.specs.Start.{unread_findings}
 use Rattle.adf_findings.specs.Survey.{UnreadTells}
@@ -14,16 +13,9 @@ abbrev blocks_of : FileValue → List ℕ
 blocks_of f = f.blocks
 
 pub returns-in_default-clause-some : goal.returns-in_default-clause-some
-returns-in_default-clause-some c = λ w fs h. (
-  (λ e. cc),
-  (λ y.
-      let gs = unread_findings c.in_default.field-0 in
-      let none = subst (λ i. UnreadTells i gs) (ap (λ v. v.image) c.self.view_is) c.in_default.ensures.unread in
-      absurd (entry_begun c.args.self.now.image w fs gs c.args.n (node_block w c.args.n) h y.0.header none)),
-)
-
-pub returns-then-word-clause-some : goal.returns-then-word-clause-some
-returns-then-word-clause-some c = grind (arith, common_steps, type_is)
+returns-in_default-clause-some c = λ w fs h.
+    let none = subst (λ v. UnreadTells v.image (unread_findings c.in_default.field-0)) c.self.view_is c.in_default.ensures.unread in
+    ((λ e. cc), (λ y. absurd (entry_begun h y.0.header none)))
 
 pub at-requires : goal.at-requires
 at-requires c =
@@ -33,9 +25,6 @@ at-requires c =
     let sound = (c.is_clear.ensures kept.0 kept.1 kept.2.survey).0 c.if-not-is_clear.false in
     has_its_blocks c.args.self.now kept kept.0 kept.1 kept.2.survey c.args.n image head c.word.ensures c.args.grave sound c.if-word.false
 
-pub returns-in_err-at-clause-none : goal.returns-in_err-at-clause-none
-returns-in_err-at-clause-none c = grind (arith, common_steps, type_is)
-
 pub returns-clause-some : goal.returns-clause-some
 returns-clause-some c = λ w fs h.
     let kept = subst IsOfSurvey c.self.view_is c.self.invariant in
@@ -44,9 +33,6 @@ returns-clause-some c = λ w fs h.
     let sound = (c.is_clear.ensures w fs h).0 c.if-not-is_clear.false in
     let type = type_is c.args.self.now kept w fs h c.args.n image head c.word.ensures in
     ((λ e. (sound, sym type ∙ c.if-word.false)), (λ y. refl))
-
-pub returns-clause-file : goal.returns-clause-file
-returns-clause-file c = grind (arith, common_steps, file_is)
 
 pub returns-in_err-at-clause-empty : goal.returns-in_err-at-clause-empty
 returns-in_err-at-clause-empty c = grind (arith, common_steps, file_is, blocks_of)

@@ -1,13 +1,12 @@
 use Rattle.std.specs.Prelude.{drop}
-use Rattle.std.proofs.Common.{ℕ, List, ◌+◌, sym, subst}
-use Rattle.adf_findings.specs.Lookup.{LeadsTo}
-use Rattle.adf_findings.proofs.Lookups.{leads_from, leads_on, split_at}
+use Rattle.std.proofs.Common.{ℕ, List, ◌+◌}
+use Rattle.adf_findings.proofs.Lookups.{leads_on, split_at}
 use Rattle.adf_findings.proofs.survey_result.Survey.find.Goals as goal
 
 pub returns-in-None-clause-none : goal.returns-in-None-clause-none
 returns-in-None-clause-none c = λ w fs h n y.
     let split = split_at c.args.path.now c.loop-name.name-index c.name-item.result c.loop-name-test.true c.name-item.is in
-    let z = subst (λ names. LeadsTo c.args.self.now.image w c.loop-name.node names n) split ((c.loop-name.invariant w fs h n).0 y) in
+    let z = rw split at ((c.loop-name.invariant w fs h n).0 y) in
     c.in-None.ensures.none w fs h z.0 z.1.0
 
 pub loop-name-preserved : goal.loop-name-preserved
@@ -17,8 +16,6 @@ loop-name-preserved c = λ w fs h n.
     let split = split_at c.args.path.now c.loop-name.name-index c.name-item.result c.loop-name-test.true c.name-item.is in
     let first = c.in-Some.ensures.first w fs h in
     let before = c.loop-name.invariant w fs h n in (
-      (λ y. leads_on image w c.loop-name.node c.in-Some.n n c.name-item.result rest first
-          (subst (λ names. LeadsTo image w c.loop-name.node names n) split (before.0 y))),
-      (λ y. before.1 (subst (λ names. LeadsTo image w c.loop-name.node names n) (sym split)
-          (leads_from image w c.loop-name.node c.in-Some.n n c.name-item.result rest first y))),
+      (λ y. leads_on image w c.loop-name.node c.in-Some.n n c.name-item.result rest first (rw split at (before.0 y))),
+      (λ y. before.1 (rw split (c.in-Some.n, first, y))),
     )

@@ -1,7 +1,5 @@
 use Rattle.std.proofs.Common.{◌≡◌, ◌≤◌, ◌<◌, ◌+◌, ◌*◌, length, refl, ap, arith}
-use Rattle.std.proofs.lemmas.Grind.{common_steps}
 use Rattle.adf_blocks.specs.Sizes.{blocks}
-use Rattle.adf_base.specs.Words.{block}
 use Rattle.adf_volume.specs.Walk.{node_block}
 use Rattle.adf_findings.proofs.Keeping.{header_inside}
 use Rattle.adf_findings.proofs.survey_result.Survey.header.Goals as goal
@@ -16,9 +14,3 @@ returns-in-Some-clause-some c = λ w fs h.
     let lt : node_block w c.args.n < blocks c.args.self.now.image = fits.1 in
     let le : c.in-Some.b * 512 + 512 ≤ length c.self.inside.image.now = omega arith in
     ((λ e. k), (λ y. c.at.ensures.whole.1 le))
-
-pub returns-in-Some-clause-block : goal.returns-in-Some-clause-block
-returns-in-Some-clause-block c = grind (arith, common_steps)
-
-pub returns-in-None-clause-some : goal.returns-in-None-clause-some
-returns-in-None-clause-some c = λ w fs h. ((λ e. cc), (λ y. (c.in-None.ensures.some w fs h).1 y))

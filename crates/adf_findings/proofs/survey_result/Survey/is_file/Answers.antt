@@ -1,7 +1,7 @@
 use Rattle.std.proofs.Common.{◌==◌, ◌∙◌, refl, ap}
 use Rattle.adf_blocks.specs.declared.layout.TheConstants.{SECONDARY_TYPE, ST_FILE}
 use Rattle.adf_base.specs.Words.{word}
-use Rattle.adf_findings.proofs.FoundFiles.{file_between, file_told}
+use Rattle.adf_findings.proofs.Lookups.{file_between, file_told}
 use Rattle.adf_findings.proofs.survey_result.Survey.is_file.Goals as goal
 
 pub returns-in-Some : goal.returns-in-Some

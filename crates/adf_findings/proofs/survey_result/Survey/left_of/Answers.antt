@@ -1,4 +1,4 @@
-use Rattle.std.proofs.Common.{◌≡◌, ◌+◌, ◌/◌, ◌++◌, ap, suc, sym, ◌∙◌, arith}
+use Rattle.std.proofs.Common.{◌≡◌, ◌+◌, ◌/◌, ◌++◌, ap, suc, sym, ◌∙◌, add-one, arith}
 use Rattle.adf_blocks.specs.declared.layout.TheConstants.{EXTENSION, POINTERS}
 use Rattle.adf_volume.specs.Image.{table_word, word_in}
 use Rattle.adf_findings.specs.Files.{member_from}
@@ -13,7 +13,6 @@ loop-k-preserved c =
     let size = c.size_stated-size.result in
     let k = c.loop-k.k in
     let found = data_named image c.args.self.now c.args.n head in
-    let one : k + 1 ≡ suc k = omega arith in
     let named : c.data_at.result ≡ found k =
     c.data_at.ensures.data
     ∙ ap (data_at image c.args.self.now c.args.n k) (c.word-b.ensures ∙ ap (λ m. word_in image m (table_word k)) c.loop-k.invariant.0) in (
@@ -26,7 +25,7 @@ loop-k-preserved c =
             w.member-is ∙ (c.loop-k.invariant.0 ∙ ap (member_from image head) e)
       ],
       c.in_ok-add.ensures.bytes
-          ∙ ((λ i. c.loop-k.invariant.1 i ++ bytes_in image size k (named i)) ∙ ap (bytes_left image size found) (sym one)),
+          ∙ ((λ i. c.loop-k.invariant.1 i ++ bytes_in image size k (named i)) ∙ ap (bytes_left image size found) (sym (add-one k))),
       c.in_ok-add.ensures.gaps
-          ∙ ((λ i. with_lost image size (c.loop-k.invariant.2 i) k (named i)) ∙ ap (gaps_left image size found) (sym one)),
+          ∙ ((λ i. with_lost image size (c.loop-k.invariant.2 i) k (named i)) ∙ ap (gaps_left image size found) (sym (add-one k))),
     )

@@ -6,5 +6,6 @@ use Rattle.adf_findings.proofs.survey_result.Survey.left_of.Given as goal
 
 abbrev pub invariant-loop-k : goal.invariant-loop-k
 invariant-loop-k l =
-    (l.member ≡ member_from l.image l.head (l.k / POINTERS)) × (l.remains.bytes.items ≡ bytes_left l.image l.size (data_named l.image l.self l.n l.head) l.k)
+    (l.member ≡ member_from l.image l.head (l.k / POINTERS))
+    × (l.remains.bytes.items ≡ bytes_left l.image l.size (data_named l.image l.self l.n l.head) l.k)
     × (l.remains.gaps.items ≡ gaps_left l.image l.size (data_named l.image l.self l.n l.head) l.k)

@@ -6,9 +6,6 @@ use Rattle.adf_findings.proofs.Keeping.{header_inside}
 use Rattle.adf_findings.proofs.Names.{cut_name}
 use Rattle.adf_findings.proofs.survey_result.Survey.name.Goals as goal
 
-pub returns-in-Some-clause-some : goal.returns-in-Some-clause-some
-returns-in-Some-clause-some c = λ w fs h. ((λ e. (c.in-Some.ensures.some w fs h).0 refl), (λ y. refl))
-
 pub returns-in-Some-clause-name : goal.returns-in-Some-clause-name
 returns-in-Some-clause-name c = λ w fs h.
     let k = (c.in-Some.ensures.some w fs h).0 refl in
@@ -16,6 +13,3 @@ returns-in-Some-clause-name c = λ w fs h.
     c.name_in.ensures
     ∙ (ap (λ b. slice_range b (NAME + 1) (NAME + 1 + min (slice_index b NAME) 79)) (c.in-Some.ensures.block w fs h)
     ∙ cut_name c.args.self.now.image (node_block w c.args.n) fits.0 fits.1)
-
-pub returns-in-None-clause-some : goal.returns-in-None-clause-some
-returns-in-None-clause-some c = λ w fs h. ((λ e. cc), (λ y. (c.in-None.ensures.some w fs h).1 y))

@@ -22,8 +22,8 @@ loop-name-preserved c = λ w fs h.
     let grown : c.push.new.self.items ≡ items ++ c.in-Some.name ∷ [] =
     c.push.ensures.items ∙ ap (λ t. cond t (items ++ c.in-Some.name ∷ []) items) (c.is_err.ensures.negation ∙ ap not c.if-is_err.false) in
     let names = ap (map (λ x. x.now)) grown ∙ map-append (λ x. x.now) items (c.in-Some.name ∷ []) in
-    gathered_more image w fs h (path_to image w c.args.n) (map (λ x. x.now) items) c.loop-name.node c.directory_of-node.result c.in-Some.name.now range
-    (c.directory_of-node.ensures w fs h) (c.in-Some.ensures.name w fs h) (c.loop-name.invariant w fs h)
+    gathered_more image w fs h (path_to image w c.args.n) (map (λ x. x.now) items) c.loop-name.node c.directory_of-node.result c.in-Some.name.now
+    range (c.directory_of-node.ensures w fs h) (c.in-Some.ensures.name w fs h) (c.loop-name.invariant w fs h)
     ∙ ap (λ p. path_to image w c.directory_of-node.result ++ reverse p) (sym names)
 
 pub returns-clause-names : goal.returns-clause-names

@@ -1,8 +1,6 @@
 use Rattle.std.specs.Prelude.{slice_index}
-use Rattle.std.proofs.Common.{ap, subst, ◌∙◌, arith}
-use Rattle.std.proofs.lemmas.Grind.{common_steps}
+use Rattle.std.proofs.Common.{ap, subst, ◌∙◌}
 use Rattle.adf_volume.specs.Walk.{node_block}
-use Rattle.adf_findings.specs.Remains.{blocks_stated, size_stated}
 use Rattle.adf_findings.specs.Start.{unread_findings}
 use Rattle.adf_findings.specs.Survey.{UnreadTells}
 use Rattle.adf_findings.specs.SurveyResult.{IsOfSurvey}
@@ -12,13 +10,9 @@ use Rattle.adf_findings.proofs.Openings.{entry_begun}
 use Rattle.adf_findings.proofs.survey_result.Survey.remains.Goals as goal
 
 pub returns-in_default-clause-some : goal.returns-in_default-clause-some
-returns-in_default-clause-some c = λ w fs h. (
-  (λ e. cc),
-  (λ y.
-      let gs = unread_findings c.in_default.field-0 in
-      let none = subst (λ i. UnreadTells i gs) (ap (λ v. v.image) c.self.view_is) c.in_default.ensures.unread in
-      absurd (entry_begun c.args.self.now.image w fs gs c.args.n y.0 h y.1.header none)),
-)
+returns-in_default-clause-some c = λ w fs h.
+    let none = subst (λ v. UnreadTells v.image (unread_findings c.in_default.field-0)) c.self.view_is c.in_default.ensures.unread in
+    ((λ e. cc), (λ y. absurd (entry_begun h y.1.header none)))
 
 pub returns-in-Ok-left_of-clause-bytes : goal.returns-in-Ok-left_of-clause-bytes
 returns-in-Ok-left_of-clause-bytes c = λ w fs h.
@@ -28,9 +22,7 @@ returns-in-Ok-left_of-clause-bytes c = λ w fs h.
     let image = c.in-Ok.ensures.image ∙ ap (λ v. v.image) c.self.view_is in
     let head = c.number_at-head.ensures ∙ ((λ i. slice_index (c.self.view_is i).nodes (c.n.view_is i)) ∙ t.node c.args.n) in
     c.in-Ok-left_of.ensures.bytes
-    ∙ (left_is v w fs t c.args.n (node_block w c.args.n) (file_at v.image w fs h c.args.n file.0 file.1) c.in-Ok.started.image c.number_at-head.result image
-    head (size_stated c.in-Ok.started.image c.number_at-head.result) (blocks_stated c.in-Ok.started.image c.number_at-head.result)
-    (λ i. size_stated (image i) (head i)) (λ i. blocks_stated (image i) (head i))).0
+    ∙ (left_is t c.args.n (node_block w c.args.n) (file_at v.image w fs h c.args.n file.0 file.1) image head).0
 
 pub returns-in-Ok-left_of-clause-gaps : goal.returns-in-Ok-left_of-clause-gaps
 returns-in-Ok-left_of-clause-gaps c = λ w fs h.
@@ -40,9 +32,4 @@ returns-in-Ok-left_of-clause-gaps c = λ w fs h.
     let image = c.in-Ok.ensures.image ∙ ap (λ v. v.image) c.self.view_is in
     let head = c.number_at-head.ensures ∙ ((λ i. slice_index (c.self.view_is i).nodes (c.n.view_is i)) ∙ t.node c.args.n) in
     c.in-Ok-left_of.ensures.gaps
-    ∙ (left_is v w fs t c.args.n (node_block w c.args.n) (file_at v.image w fs h c.args.n file.0 file.1) c.in-Ok.started.image c.number_at-head.result image
-    head (size_stated c.in-Ok.started.image c.number_at-head.result) (blocks_stated c.in-Ok.started.image c.number_at-head.result)
-    (λ i. size_stated (image i) (head i)) (λ i. blocks_stated (image i) (head i))).1
-
-pub returns-in-Err-clause-empty : goal.returns-in-Err-clause-empty
-returns-in-Err-clause-empty c = grind (arith, common_steps, tells_each)
+    ∙ (left_is t c.args.n (node_block w c.args.n) (file_at v.image w fs h c.args.n file.0 file.1) image head).1

@@ -1,8 +1,6 @@
-use Rattle.std.proofs.Common.{◌≤◌, ◌++◌, ◌∷◌, ◌∙◌, [], arith, subst, sym}
-use Rattle.std.specs.Prelude.{OnOk}
+use Rattle.std.proofs.Common.{◌≤◌, ◌∙◌, arith, sym}
 use Rattle.std.proofs.lemmas.Grind.{common_steps}
-use Rattle.adf_rescue.specs.Rescue.{Basis, Verdict}
-use Rattle.adf_rescue.specs.Salvage.{IsSalvage}
+use Rattle.adf_rescue.specs.Rescue.{Basis}
 use Rattle.adf_rescue.proofs.Steps.{room_none, room_some, verdict_at, verdict_err, verdict_none}
 use Rattle.adf_rescue.proofs.salvage.Salvage.keep.Goals as goal
 
@@ -13,7 +11,8 @@ pub put-requires : goal.put-requires
 put-requires c =
     let next = c.requires.next in
     let low : 1 ≤ c.args.n = omega (arith, next.number) in
-    let rooms = c.in_ok-room.ensures c.requires.ground c.requires.walk c.requires.findings c.requires.verdicts c.requires.survey c.requires.state low next.within in
+    let r = c.requires in
+    let rooms = c.in_ok-room.ensures r.ground r.walk r.findings r.verdicts r.survey r.state low next.within in
     let some = room_some c.args.self.now.draft _ c.in-Some-2.room (rw c.in-Some-2.is at rooms) in
     (some.0, some.2)
 
@@ -25,8 +24,7 @@ returns-in-Some-2 c = λ g w fs sound vs survey is next new standing.
     let some = room_some c.args.self.now.draft _ c.in-Some-2.room (rw c.in-Some-2.is at rooms) in
     let body = sym standing ∙ c.in-Ok.is in
     let same = verdict_at g l vs c.args.n new c.in-Ok.body body some.0 c.in-Some.meta some.1 (c.in-Some.ensures.meta w fs survey) in
-    subst (λ (v : Verdict). OnOk c.put.result (IsSalvage g (vs ++ v ∷ []) c.put.new.self)) (sym same)
-    (c.put.ensures g vs some.0 is some.2 next.number)
+    rw same (c.put.ensures g vs some.0 is some.2 next.number)
 
 pub returns-in-None : goal.returns-in-None
 returns-in-None c = grind (arith, common_steps, room_none, verdict_none)

@@ -1,9 +1,7 @@
-use Rattle.std.proofs.Common.{◌∙◌, ◌+◌, ℕ, Option, ap, append-nil, length, refl, subst, sym}
+use Rattle.std.proofs.Common.{◌∙◌, ◌+◌, ap, append-nil, length, refl, sym}
 use Rattle.std.proofs.lemmas.Result.{on_ok_weaker}
-use Rattle.adf_rescue.specs.declared.salvage.Salvage.{Salvage}
 use Rattle.adf_rescue.specs.Rescue.{place_of}
 use Rattle.adf_rescue.specs.Rescue.Verdict.{knows}
-use Rattle.adf_rescue.specs.Salvage.{IsPlace}
 use Rattle.adf_rescue.proofs.Steps.{none_more}
 use Rattle.adf_rescue.proofs.salvage.Salvage.keep_known.Goals as goal
 
@@ -11,9 +9,9 @@ pub returns : goal.returns
 returns c = λ g vs is.
     let rest = c.keep_place.ensures.rest in
     let place = c.place_before-place.result in
-    let new = subst (λ (o : Option ℕ). IsPlace c.args.self.now.draft (place_of g.verdicts c.args.m) o) (sym c.place_before-place.ensures) (is.known c.args.m) in
+    let new = rw (← c.place_before-place.ensures) at (is.known c.args.m) in
     on_ok_weaker c.keep_place.result (λ places.
     none_more g vs c.args.self.now _ (length vs + 1) (knows (place_of g.verdicts c.args.m)) place is refl refl new
-    (ap (λ (r : Salvage). r.draft) rest) (ap (λ (r : Salvage). r.kind) rest) (ap (λ (r : Salvage). r.known) rest) (ap (λ (r : Salvage). r.left) rest)
-    (ap (λ (r : Salvage). r.left_before) rest) places
-    (ap (λ (r : Salvage). r.left_out.items) rest ∙ sym (append-nil c.args.self.now.left_out.items))) c.keep_place.ensures.places
+    (ap (λ r. r.draft) rest) (ap (λ r. r.kind) rest) (ap (λ r. r.known) rest) (ap (λ r. r.left) rest)
+    (ap (λ r. r.left_before) rest) places
+    (ap (λ r. r.left_out.items) rest ∙ sym (append-nil c.args.self.now.left_out.items))) c.keep_place.ensures.places

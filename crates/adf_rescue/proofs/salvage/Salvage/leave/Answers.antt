@@ -1,5 +1,4 @@
 use Rattle.std.proofs.Common.{◌++◌, ◌∷◌, ◌∙◌, [], None, ap, refl}
-use Rattle.adf_rescue.specs.declared.salvage.Salvage.{Salvage}
 use Rattle.adf_rescue.specs.Rescue.Verdict.{leaves}
 use Rattle.adf_rescue.proofs.Steps.{none_more}
 use Rattle.adf_rescue.proofs.salvage.Salvage.leave.Goals as goal
@@ -7,6 +6,6 @@ use Rattle.adf_rescue.proofs.salvage.Salvage.leave.Goals as goal
 pub returns-in-Ok : goal.returns-in-Ok
 returns-in-Ok c = λ g vs is at.
     let rest = c.in_ok-keep_place.ensures.rest in
-    none_more g vs c.args.self.now _ c.args.n (leaves c.args.why) None is at refl tt (ap (λ (r : Salvage). r.draft) rest) (ap (λ (r : Salvage). r.kind) rest)
-    (ap (λ (r : Salvage). r.known) rest) (ap (λ (r : Salvage). r.left) rest) (ap (λ (r : Salvage). r.left_before) rest) c.in_ok-keep_place.ensures.places
-    (c.in-Ok.ensures.items ∙ ap (λ (r : Salvage). r.left_out.items ++ record { entry = c.args.n; why = c.args.why } ∷ []) rest)
+    none_more g vs c.args.self.now _ c.args.n (leaves c.args.why) None is at refl tt (ap (λ r. r.draft) rest) (ap (λ r. r.kind) rest)
+    (ap (λ r. r.known) rest) (ap (λ r. r.left) rest) (ap (λ r. r.left_before) rest) c.in_ok-keep_place.ensures.places
+    (c.in-Ok.ensures.items ∙ ap (λ r. r.left_out.items ++ record { entry = c.args.n; why = c.args.why } ∷ []) rest)

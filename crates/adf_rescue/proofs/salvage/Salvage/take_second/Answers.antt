@@ -1,19 +1,16 @@
-use Rattle.std.proofs.Common.{◌≡◌, ◌≤◌, ◌∙◌, ◌++◌, ◌∷◌, [], Some, None, ap, arith, subst, sym}
-use Rattle.std.specs.Prelude.{OnOk}
+use Rattle.std.proofs.Common.{◌≡◌, ◌≤◌, ◌∙◌, Some, None, ap, arith, sym}
 use Rattle.adf_volume.specs.Walk.{node_block}
 use Rattle.adf_findings.specs.Found.{owner}
-use Rattle.adf_rescue.specs.Rescue.{Ground, Basis, Verdict, as_given, body_of, unless_known, verdict_anew}
-use Rattle.adf_rescue.specs.Salvage.{IsSalvage}
+use Rattle.adf_rescue.specs.Rescue.{Ground, Basis, as_given, body_of}
 use Rattle.adf_rescue.proofs.salvage.Salvage.take_second.Goals as goal
 
 pub returns-in-Some : goal.returns-in-Some
 returns-in-Some c = λ v gs before w fs sound survey marks us vs is next.
     let g : Ground = record { given = c.args.before.now.image; walk = v; verdicts = us } in
-    let b : Basis = as_given c.args.before.now.image (record { image = c.args.survey.now.image; walk = w; sound = sound }) in
     let low : 1 ≤ c.args.n = omega (arith, next.number) in
-    let known : owner v (node_block w c.args.n) ≡ Some c.in-Some.m = sym (c.known_as.ensures v gs before w fs survey low next.within) ∙ c.in-Some.is in
-    subst (λ (x : Verdict). OnOk c.keep_known.result (IsSalvage g (vs ++ x ∷ []) c.keep_known.new.self))
-    (sym (ap (λ o. unless_known g o (verdict_anew g b vs c.args.n)) known)) (c.keep_known.ensures g vs is)
+    let known : owner v (node_block w c.args.n) ≡ Some c.in-Some.m =
+    sym (c.known_as.ensures v gs before w fs survey low next.within) ∙ c.in-Some.is in
+    rw known (c.keep_known.ensures g vs is)
 
 pub returns-in_ok-standing-in-None : goal.returns-in_ok-standing-in-None
 returns-in_ok-standing-in-None c = λ v gs before w fs sound survey marks us vs is next.
