@@ -1,6 +1,6 @@
 -- Whether a path has room, and what may be added there.
 use Rattle.std.proofs.Common.{◌≡◌, ℕ, ◌-◌, ◌<◌, List, [], ◌∷◌, length, get_or, true, false, Bool, Option, Some, None, Result, Ok, Err, arith, ◌==◌}
-use Rattle.std.proofs.Common.{refl, subst, if◌then◌else◌, zero, suc, take, ◌++◌, ◌+◌}
+use Rattle.std.proofs.Common.{refl, subst, if◌then◌else◌, zero, suc, take, ◌++◌}
 use Rattle.std.specs.Prelude.{option_map}
 use Rattle.std.specs.Option.{unwrap_or}
 use Rattle.std.specs.List.{slice_get}

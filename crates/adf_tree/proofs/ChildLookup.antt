@@ -1,5 +1,5 @@
 -- Look-up by parent and name, and how an addition changes it.
-use Rattle.std.proofs.Common.{◌≡◌, ◌≢◌, ℕ, ◌+◌, ◌*◌, ◌%◌, ◌<◌, ◌≤◌, inl, inr, List, [], ◌∷◌, length, get_or, true, false, Bool, Some, None, arith}
+use Rattle.std.proofs.Common.{◌≡◌, ◌≢◌, ℕ, ◌+◌, ◌*◌, ◌%◌, ◌<◌, ◌≤◌, List, [], ◌∷◌, length, get_or, true, false, Bool, Some, None, arith}
 use Rattle.std.proofs.Common.{nat_lt, sym, refl, ◌∙◌, ap, ◌-◌, Option, ◌&&◌}
 use Rattle.std.specs.Prelude.{fold, option_map, position}
 use Rattle.std.specs.List.{All}
@@ -105,7 +105,7 @@ is_child_moved n p name x = ap (λ b. b && bytes_eq (uppers x.name) (uppers name
 
 -- nothing is a child of the new entry
 pub moved_past : (n p : ℕ) → moved n p ≢ n
-moved_past n p h = elim (cases_lt p n) [ inl lt ↦ absurd (omega (arith, moved_below n p lt, h)) | inr le ↦ absurd (omega (arith, moved_above n p le, h)) ]
+moved_past n p h = grind (arith, common_steps, cases_lt, moved_below, moved_above)
 
 -- nothing stands in the new entry
 pub no_parent : (es : List Entry) (e : Entry) → IsTree es → IsDir es e.parent → All (λ x. x.parent ≢ place es (rank e) + 1) (added es e)
@@ -120,7 +120,7 @@ child_of_new es e name t dir =
     (λ h. no_parent es e t dir k d lt (child_says (place es (rank e) + 1) name (get_or (added es e) k d) h).0))
 
 pub parent_stays : (es : List Entry) (e : Entry) → IsTree es → IsDir es e.parent → moved (place es (rank e) + 1) e.parent ≡ e.parent
-parent_stays es e t dir = let early : e.parent ≤ place es (rank e) = dir_before es e t dir in moved_below (place es (rank e) + 1) e.parent (omega arith)
+parent_stays es e t dir = grind (arith, common_steps, dir_before, moved_below)
 
 -- the new entry is found under its name
 pub child_new : (es : List Entry) (e : Entry) (name : List ℕ) → IsTree es → MayAdd es e → uppers e.name ≡ uppers name

@@ -1,12 +1,8 @@
-use Rattle.std.proofs.Common.{◌∙◌, ap, List, ℕ, [], ◌∷◌, ◌++◌, not, arith}
+use Rattle.std.proofs.Common.{◌∙◌, ap, List, ℕ, [], ◌∷◌, ◌++◌, not}
 use Rattle.std.proofs.lemmas.List.Elements.{All-push}
-use Rattle.std.proofs.lemmas.Grind.{common_steps}
 use Rattle.adf_tree.specs.PathTexts.{between_slashes, IsName}
-use Rattle.adf_tree.proofs.PathParts.{bad_part, last_name, one_part, part_first, at_none, some_name, last_part, part_before}
+use Rattle.adf_tree.proofs.PathParts.{last_name, one_part, some_name, last_part, part_before}
 use Rattle.adf_tree.proofs.path_texts.has_names.Goals as goal
-
-pub returns-then-is_none-clause-no : goal.returns-then-is_none-clause-no
-returns-then-is_none-clause-no c = grind (arith, common_steps, part_first, bad_part, at_none, not)
 
 pub loop-after-preserved : goal.loop-after-preserved
 loop-after-preserved c =

@@ -1,8 +1,7 @@
-use Rattle.std.proofs.Common.{List, arith}
-use Rattle.std.proofs.lemmas.Grind.{common_steps}
+use Rattle.std.proofs.Common.{List}
 use Rattle.adf_tree.specs.declared.entry.Entry.{Entry}
 use Rattle.adf_tree.proofs.DraftInvariant.{kept_draft}
-use Rattle.adf_tree.proofs.DraftDirectories.{put_count, put_directories, put_directory}
+use Rattle.adf_tree.proofs.DraftDirectories.{put_directories}
 use Rattle.adf_tree.proofs.DraftRooms.{put_in, put_paths, put_tree, room_may, room_within}
 use Rattle.adf_tree.proofs.draft.Draft.put.Goals as goal
 
@@ -32,14 +31,8 @@ returns-clause-tree c = rw (← c.self.view_is) (λ path is.
     c.args.room.now c.self.invariant is c.add_child.new.entries.items c.add_child.result c.args.meta c.args.body
     (rw c.copy-name.ensures at c.add_child.ensures.entries))
 
-pub returns-clause-count : goal.returns-clause-count
-returns-clause-count c = grind (arith, common_steps, put_count)
-
 pub returns-clause-directories : goal.returns-clause-directories
 returns-clause-directories c = rw (← c.self.view_is) (λ path other m is.
     put_directories c.self.inside.entries.items c.self.inside.children.buckets.items c.self.inside.kind c.self.inside.label c.self.inside.stamps
     c.self.invariant path c.args.room.now is c.args.meta c.args.body c.add_child.new.entries.items c.add_child.result
     (rw c.copy-name.ensures at c.add_child.ensures.entries) other m)
-
-pub returns-clause-directory : goal.returns-clause-directory
-returns-clause-directory c = grind (arith, common_steps, put_directory)
