@@ -2,10 +2,9 @@
 -- Letters: as in specs/Disks; n and m two numbers of blocks, ps and p partitions with n, qs and q with m.
 use Rattle.std.proofs.Common.{◌≡◌, ◌∙◌, ℕ, zero, suc, List, [], ◌∷◌, ◌++◌, length, refl, sym, ap, subst, arith}
 use Rattle.std.proofs.Common.{Bool, true, false, Option, None, Some}
-use Rattle.std.specs.Prelude.{◌-◌, cond, find, IfOk, slice_get, ⊤}
+use Rattle.std.specs.Prelude.{cond, find, IfOk, slice_get, ⊤}
 use Rattle.std.specs.List.{list_any}
 use Rattle.std.proofs.lemmas.Grind.{common_steps}
-use Rattle.adf_base.specs.Words.{block}
 use Rattle.adf_partitions.specs.declared.partition.Partition.{Partition}
 use Rattle.adf_partitions.specs.declared.tables.Tables.{Tables}
 use Rattle.adf_partitions.specs.Disks.{IsDisk, IsFound, is_at, part_form, partition_at}
