@@ -27,6 +27,7 @@ use Rattle.adf_manifest.specs.declared.manifest.ManifestKind.{ManifestKind}
 use Rattle.adf_manifest.specs.declared.manifest.ManifestKind.TheVariants.{BadLine, NoMemory, TooLong}
 use Rattle.adf_manifest.proofs.Growth.{with_run, with_run_is, with_run_lines, last_is, last_lines, last_well, new_item, new_lines, new_well, noted, noted_is}
 use Rattle.adf_manifest.proofs.Growth.{noted_lines, room_none, tree_more, tree_none, with_last, with_new}
+use Rattle.std.proofs.lemmas.Grind.{common_steps}
 
 pub bare_well : (h : Preamble) → IsPreamble h → IsWell (bare h)
 bare_well h g = record { preamble = g; items = All-nil IsItem; room = room_none (preamble_tree h) }
@@ -143,8 +144,7 @@ is_none (Some x) h = absurd cc
 pub closed_is : (t : Tree) (o : LastEntry) (i : Item) (comment : List ℕ) (body : Body) → IsLastEntry o i
     → comment ≡ unwrap_or o.note [] → body ≡ body_of_sort o.sort o.bytes.items
     → with_entry t i.path (new_meta comment o.protect o.stamp) body ≡ with_item t i
-closed_is t o i comment body g e2 e3 =
-    rw (e2, g.note, g.protect, g.stamp, e3, g.sort, g.bytes)
+closed_is t o i comment body g e2 e3 = grind (arith, common_steps)
 
 pub stopped : {T : Type 0} (r : Result T ManifestKind) (m : Manifest) (line : LineValue) (tree : Tree) → tree ≡ manifest_tree m → MayStand m line
     → IfErr r (λ k. StopsIn tree line k) → IfErr r (λ k. Stops m line k)
