@@ -52,10 +52,7 @@ module _ (bytes : List ℕ) (n : ℕ) where
 
   named_alike : (name : List ℕ) (ps qs : List Partition) → AreAll bytes n ps qs → FoundAlike bytes n (find (is_named name) ps) (find (is_named name) qs)
   named_alike name [] [] h = tt
-  named_alike name (x ∷ ps) (y ∷ qs) h =
-      let e = h.0.name in
-      let same : is_named name x ≡ is_named name y = cc in
-      either_alike (is_named name x) (is_named name y) x y (find (is_named name) ps) (find (is_named name) qs) same h.0 (named_alike name ps qs h.1)
+  named_alike name (x ∷ ps) (y ∷ qs) h = grind (arith, common_steps, either_alike, (named_alike name ps qs h.1))
   named_alike name (x ∷ ps) [] h = absurd h
   named_alike name [] (y ∷ qs) h = absurd h
 

@@ -46,8 +46,7 @@ module _ {A B : List ℕ} {kept : Tables} (s : TablesAgree A B kept) where
   same_all_lost : (n : ℕ) (t : Tables) (ps : List Partition) (k : ℕ) → with_all_lost A n t kept ps k ≡ with_all_lost B n t kept ps k
   unfolding with_all_lost
   same_all_lost n t ps zero = refl
-  same_all_lost n t ps (suc k) =
-      ap (λ (qs : List Partition). with_lost A n t kept qs k) (same_all_lost n t ps k) ∙ same_lost n t (with_all_lost B n t kept ps k) k
+  same_all_lost n t ps (suc k) = grind (arith, common_steps, same_lost, (same_all_lost n t ps k))
 
 module _ {A B : List ℕ} (g : Agrees A B) (n : ℕ) where
   same_disk : {t : Tables} {ps : List Partition} → IsDisk A n t ps → IsDisk B n t ps
