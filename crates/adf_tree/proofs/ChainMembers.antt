@@ -30,7 +30,8 @@ pub one_chain : (es : List Entry) (e : Entry) → Contains es e → (p s : ℕ) 
 one_chain es e h p s = (in_no_other es e p s, λ at. in_its_chain es e p s h (sym at.0) (sym at.1))
 
 -- what is found for a name is an entry of that name, in the chain of its slot
-pub child_in_chain : (es : List Entry) (p : ℕ) (name : List ℕ) (n : ℕ) (d : Entry) → child es p name ≡ Some n → IsChild es p name n (get_or es (n - 1) d)
+pub child_in_chain : (es : List Entry) (p : ℕ) (name : List ℕ) (n : ℕ) (d : Entry) → child es p name ≡ Some n
+    → IsChild es p name n (get_or es (n - 1) d)
 child_in_chain es p name n d h = grind (arith, common_steps, found_is, child_says, entry_at, in_its_chain, Contains-get_or, same_slot)
 
 pub child_found_is : (es : List Entry) (p : ℕ) (name : List ℕ) (n : ℕ) (d : Entry) → IsTree es

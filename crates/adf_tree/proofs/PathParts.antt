@@ -54,7 +54,8 @@ pub parts_of_text : (text : List ℕ) (path : List (List ℕ)) → 0 < length te
 parts_of_text text path some h = grind (arith, common_steps, parts_of_some)
 
 -- a part that spells no name
-pub bad_part : (text part rest : List ℕ) (names more : List (List ℕ)) → 0 < length text → between_slashes text ≡ map escaped names ++ between_slashes rest
+pub bad_part : (text part rest : List ℕ) (names more : List (List ℕ)) → 0 < length text
+    → between_slashes text ≡ map escaped names ++ between_slashes rest
     → between_slashes rest ≡ part ∷ more → ((name : List ℕ) → IsName name → part ≢ escaped name) → (path : List (List ℕ)) → ¬ IsPathText text path
 bad_part text part rest names more some split cut none path h =
     let front : List (List ℕ) = map escaped names in
