@@ -62,8 +62,8 @@ abbrev four : ℕ → ℕ → ℕ → ℕ → List ℕ
 four a b c d = pair a ++ (pair b ++ (pair c ++ pair d))
 
 -- the digits of the bytes of a word
-pub word_is : {text : List ℕ} {a b c : ℕ} (d w : ℕ) → a < 256 → b < 256 → c < 256 → d < 256 → w ≡ a * 16777216 + b * 65536 + c * 256 + d → text ≡ four a b c d
-    → text ≡ hex_word w
+pub word_is : {text : List ℕ} {a b c : ℕ} (d w : ℕ) → a < 256 → b < 256 → c < 256 → d < 256 → w ≡ a * 16777216 + b * 65536 + c * 256 + d
+    → text ≡ four a b c d → text ≡ hex_word w
 word_is {a = a} {b = b} {c = c} d w ha hb hc hd s e =
     let p : a ≡ w / 16777216 % 256 = omega arith in
     let q : b ≡ w / 65536 % 256 = omega arith in

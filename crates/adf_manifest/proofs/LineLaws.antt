@@ -12,7 +12,8 @@ use Rattle.adf_manifest.proofs.DigitLaws.{word_lacks}
 use Rattle.std.proofs.lemmas.Grind.{common_steps}
 
 -- what stands behind the word of a fill line
-pub fill_text : (line text : List ℕ) (count byte : ℕ) → line ≡ codes "fill " ++ text → line ≡ fill_line count byte → text ≡ decimal count ++ 32 ∷ pair byte
+pub fill_text : (line text : List ℕ) (count byte : ℕ) → line ≡ codes "fill " ++ text → line ≡ fill_line count byte
+    → text ≡ decimal count ++ 32 ∷ pair byte
 fill_text line text count byte e g = append_cancel_left (codes "fill ") text (decimal count ++ 32 ∷ pair byte) (sym e ∙ g)
 
 -- the parts of a fill line

@@ -87,8 +87,8 @@ entry_step m blocks draft last sort stamp protect text path w b t l p room e1 e2
       rw p.spells (new_lines m item),
     )
 
-reading_with : (r : Reading) (last : LastEntry) (m : Manifest) (e : Entries) (i : Item) → IsReading r m e → IsLastEntry last i → last.room ≡ r.last.room
-    → i.path ≡ e.last.path
+reading_with : (r : Reading) (last : LastEntry) (m : Manifest) (e : Entries) (i : Item) → IsReading r m e → IsLastEntry last i
+    → last.room ≡ r.last.room → i.path ≡ e.last.path
     → let n : Manifest = with_last m e i in let s : Entries = record { before = e.before; last = i } in let q : Reading =
     record { blocks = r.blocks; draft = r.draft; last = last } in IsReading q n s
 reading_with r last m e i g o at same = record { entries = refl; blocks = g.blocks; tree = g.tree; last = o; room = rw (at, same) g.room }
@@ -112,8 +112,8 @@ note_step r last m e text note w g n b filled spelling o at =
     )
 
 -- behind a line of bytes
-pub run_step : (r : Reading) (last : LastEntry) (m : Manifest) (e : Entries) (run : RunValue) → IsWell m → IsReading r m e → r.last.sort ≡ File → IsRun run
-    → IsLastEntry last (with_run e.last run) → last.room ≡ r.last.room
+pub run_step : (r : Reading) (last : LastEntry) (m : Manifest) (e : Entries) (run : RunValue) → IsWell m → IsReading r m e → r.last.sort ≡ File
+    → IsRun run → IsLastEntry last (with_run e.last run) → last.room ≡ r.last.room
     → GoesOn (state.Entries (record { blocks = r.blocks; draft = r.draft; last = last })) m (run_line run)
 run_step r last m e run w g f h o at =
     let item = with_run e.last run in (
@@ -124,7 +124,8 @@ run_step r last m e run w g f h o at =
     )
 
 -- the tree with the last entry
-pub closed_tree : (r : Reading) (m : Manifest) (e : Entries) (tree : Tree) → IsReading r m e → tree ≡ with_item r.draft.tree e.last → tree ≡ manifest_tree m
+pub closed_tree : (r : Reading) (m : Manifest) (e : Entries) (tree : Tree) → IsReading r m e → tree ≡ with_item r.draft.tree e.last
+    → tree ≡ manifest_tree m
 closed_tree r m e tree g h =
     rw (h, g.tree, g.entries, tree_more)
 

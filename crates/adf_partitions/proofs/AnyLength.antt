@@ -50,7 +50,8 @@ module _ (bytes : List ℕ) (n : ℕ) where
   either_alike true false p q more others e h k = absurd cc
   either_alike false true p q more others e h k = absurd cc
 
-  named_alike : (name : List ℕ) (ps qs : List Partition) → AreAll bytes n ps qs → FoundAlike bytes n (find (is_named name) ps) (find (is_named name) qs)
+  named_alike : (name : List ℕ) (ps qs : List Partition) → AreAll bytes n ps qs
+      → FoundAlike bytes n (find (is_named name) ps) (find (is_named name) qs)
   named_alike name [] [] h = tt
   named_alike name (x ∷ ps) (y ∷ qs) h = grind (arith, common_steps, either_alike, (named_alike name ps qs h.1))
   named_alike name (x ∷ ps) [] h = absurd h

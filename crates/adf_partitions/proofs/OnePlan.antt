@@ -28,7 +28,8 @@ one_partition text p q h k =
     let same : made p.name p.kind p.cylinders (options_in p) ≡ made q.name q.kind q.cylinders (options_in q) = cc in
     same
 
-one_front : (left : List ℕ) (ps qs : List PartitionPlan) (e d : List ℕ) → AreLines left ps e → AreLines left qs d → Stops e → Stops d → (ps ≡ qs) × (e ≡ d)
+one_front : (left : List ℕ) (ps qs : List PartitionPlan) (e d : List ℕ) → AreLines left ps e → AreLines left qs d → Stops e → Stops d
+    → (ps ≡ qs) × (e ≡ d)
 unfolding AreLines
 one_front left [] [] e d h k x y = (refl, sym h ∙ k)
 one_front left [] (q ∷ qs) e d h k x y = absurd (x q (subst (λ (l : List ℕ). IsPartitionLine (first_line l) q) h k.0))

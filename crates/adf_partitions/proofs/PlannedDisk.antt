@@ -178,8 +178,8 @@ module _ (plan : PlanValue) (h : IsPlan plan) where
   no_block k e = let f : nat_lt k (length plan.partitions) ≡ false = grind (arith, nat_tests) in rw f refl
 
   -- all partitions that are left are found
-  found_all : (bytes : List ℕ) (k low a : ℕ) (ps : List PartitionPlan) (done : List Partition) → AreLeft plan k low ps → StandThere bytes plan k low ps
-      → AreBefore (k + 1) (low * cylinder_blocks plan) done → length done ≡ k
+  found_all : (bytes : List ℕ) (k low a : ℕ) (ps : List PartitionPlan) (done : List Partition) → AreLeft plan k low ps
+      → StandThere bytes plan k low ps → AreBefore (k + 1) (low * cylinder_blocks plan) done → length done ≡ k
       → IsFound bytes (planned_blocks plan) (planned_tables plan) done a (block_after (length plan.partitions) k)
       → IsWhole bytes (planned_blocks plan) (planned_tables plan) (done ++ partitions_from (cylinder_blocks plan) (k + 1) low ps)
   unfolding partitions_from
