@@ -26,8 +26,8 @@ fn block_after(count: u32, b: u32) -> u32
     if b < count { b + 1 } else { NO_BLOCK }
 }
 
-#[tactic(auto, using(crate::proofs::PlanSizes::tables_hold, crate::proofs::PlanSizes::kept_fit, crate::proofs::PlanSizes::some_cylinders), unfolding(crate::specs::WrittenTables::rdsk_block))]
 // The rigid disk block.
+#[tactic(auto, using(crate::proofs::PlanSizes::tables_hold, crate::proofs::PlanSizes::kept_fit, crate::proofs::PlanSizes::some_cylinders), unfolding(crate::specs::WrittenTables::rdsk_block))]
 fn rdsk_bytes(plan: &DiskPlan) -> [u8; 512]
     requires { IsPlan (plan_value plan.now) }
     ensures { result ≡ rdsk_block (plan_value plan.now) }
