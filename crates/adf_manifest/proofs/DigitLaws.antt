@@ -23,8 +23,7 @@ byte_digits b h = omega (arith, digit_hex (b / 16) (omega arith), digit_hex (b %
 
 pub unpaired_pairs : (bytes : List ℕ) → All (λ b. b < 256) bytes → unpaired (pairs bytes) ≡ bytes
 unpaired_pairs [] h = refl
-unpaired_pairs (b ∷ bs) h =
-    rw (byte_digits b (All-head (λ k. k < 256) b bs h), unpaired_pairs bs (All-tail (λ k. k < 256) b bs h))
+unpaired_pairs (b ∷ bs) h = grind (arith, common_steps, byte_digits, All-head, All-tail, (unpaired_pairs bs (All-tail (λ k. k < 256) b bs h)))
 
 digit_back : (c : ℕ) → is_digit c ≡ true → (digit c < 16) × (hex_digit (digit c) ≡ c)
 digit_back c h = (grind (arith, nat_tests), grind (arith, nat_tests))
@@ -54,12 +53,7 @@ pairs_of_digits (high ∷ low ∷ rest) even h =
 pub digits_of_pairs : (bytes : List ℕ) → All (λ b. b < 256) bytes → (length (pairs bytes) % 2 ≡ 0) × (list_all is_digit (pairs bytes) ≡ true)
 digits_of_pairs [] h = (refl, refl)
 digits_of_pairs (b ∷ bs) h =
-    let small : b < 256 = All-head (λ k. k < 256) b bs h in
-    let more = digits_of_pairs bs (All-tail (λ k. k < 256) b bs h) in
-    let low = and_from (is_digit (hex_digit (b % 16))) (list_all is_digit (pairs bs)) (hex_is_digit (b % 16) (omega arith)) more.1 in (
-      omega (arith, more.0),
-      and_from (is_digit (hex_digit (b / 16))) (is_digit (hex_digit (b % 16)) && list_all is_digit (pairs bs)) (hex_is_digit (b / 16) (omega arith)) low,
-    )
+    grind (arith, common_steps, All-head, All-tail, and_from, hex_is_digit, (digits_of_pairs bs (All-tail (λ k. k < 256) b bs h)))
 
 pub all_digits : (text : List ℕ) → AreDigits text → list_all is_digit text ≡ true
 all_digits text h = ap (list_all is_digit) h.spells ∙ (digits_of_pairs (unpaired text) h.are_bytes).1
@@ -68,8 +62,8 @@ abbrev four : ℕ → ℕ → ℕ → ℕ → List ℕ
 four a b c d = pair a ++ (pair b ++ (pair c ++ pair d))
 
 -- the digits of the bytes of a word
-pub word_is : {text : List ℕ} {a b c : ℕ} (d w : ℕ) → a < 256 → b < 256 → c < 256 → d < 256 → w ≡ a * 16777216 + b * 65536 + c * 256 + d → text ≡ four a b c d
-    → text ≡ hex_word w
+pub word_is : {text : List ℕ} {a b c : ℕ} (d w : ℕ) → a < 256 → b < 256 → c < 256 → d < 256 → w ≡ a * 16777216 + b * 65536 + c * 256 + d
+    → text ≡ four a b c d → text ≡ hex_word w
 word_is {a = a} {b = b} {c = c} d w ha hb hc hd s e =
     let p : a ≡ w / 16777216 % 256 = omega arith in
     let q : b ≡ w / 65536 % 256 = omega arith in

@@ -133,7 +133,8 @@ later_good m n text rest kind w v e f =
     line_good i.before i.next i.line text kind i.adds i.is_line i.reads (later_kind i.before text kind (subst (λ (x : Manifest). IsLaterFault x text kind) (sym same) f))
 
 -- a first line of an allowed size has no fault
-first_good : (kind' : Kind) (n' : ℕ) (line : List ℕ) (kind : ManifestKind) → is_allowed n' ≡ true → line ≡ volume_line kind' n' → IsFirstFault line kind → ⊥
+first_good : (kind' : Kind) (n' : ℕ) (line : List ℕ) (kind : ManifestKind) → is_allowed n' ≡ true → line ≡ volume_line kind' n'
+    → IsFirstFault line kind → ⊥
 first_good kind' n' line BadLine h e f = f (kind', n', small n' h, e)
 first_good kind' n' line BadSize h e f = grind (arith, common_steps, one_volume, small)
 first_good kind' n' line kind h e f = f
@@ -148,7 +149,8 @@ unfolding volume_first
 mixed all text rest kind m more e f w g = grind (arith, common_steps, volume_first, first_good, heads)
 
 -- a manifest has no fault
-pub faultless : (m : Manifest) (all : List (List ℕ)) (number : ℕ) (kind : ManifestKind) → IsWell m → all ≡ manifest_lines m → HasFault all number kind → ⊥
+pub faultless : (m : Manifest) (all : List (List ℕ)) (number : ℕ) (kind : ManifestKind) → IsWell m → all ≡ manifest_lines m → HasFault all number kind
+    → ⊥
 unfolding volume_first
 faultless m all number kind w e (inl f) = grind (arith, common_steps, volume_first, first_good, heads)
 faultless m all number kind w e (inr f) = later_good f.before m f.text f.rest kind f.well w (sym e ∙ f.lines) f.fault

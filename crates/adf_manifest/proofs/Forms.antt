@@ -41,8 +41,8 @@ one_stamps s t g h e =
 same_fields : (sort : Sort) (s t : Stamp) (p q : ℕ) (x y : List ℕ) → s ≡ t → p ≡ q → x ≡ y → EntryLine sort s p x ≡ EntryLine sort t q y
 same_fields sort s t p q x y e f g = cc
 
-one_entry : (sort : Sort) (s t : Stamp) (p q : ℕ) (x y : List ℕ) → IsStamp s → IsStamp t → p < 2 ^ 32 → q < 2 ^ 32 → fields_text s p x ≡ fields_text t q y
-    → EntryLine sort s p x ≡ EntryLine sort t q y
+one_entry : (sort : Sort) (s t : Stamp) (p q : ℕ) (x y : List ℕ) → IsStamp s → IsStamp t → p < 2 ^ 32 → q < 2 ^ 32
+    → fields_text s p x ≡ fields_text t q y → EntryLine sort s p x ≡ EntryLine sort t q y
 one_entry sort s t p q x y hs ht hp hq e =
     let parts = fields_parts t q y (refl, stamp_lacks s hs, word_lacks p) ht e in
     same_fields sort s t p q x y (one_stamp s t hs ht parts.0) (one_word p q hp hq parts.1) parts.2

@@ -104,7 +104,8 @@ filled : (l : List ℕ) → 0 < length l → 0 < length (escaped l)
 filled [] h = absurd (omega arith)
 filled (c ∷ cs) h = filled_list (escaped (c ∷ cs)) (spelling_some c (escaped cs))
 
-stamps_behind : (h : Preamble) (stamps : Stamps) → h.stamps ≡ None → preamble_lines (with_stamps h stamps) ≡ preamble_lines h ++ stamps_line stamps ∷ []
+stamps_behind : (h : Preamble) (stamps : Stamps) → h.stamps ≡ None
+    → preamble_lines (with_stamps h stamps) ≡ preamble_lines h ++ stamps_line stamps ∷ []
 stamps_behind h stamps e = grind (arith, common_steps, append-nil)
 
 pub last_of_preamble : (kind : Kind) (blocks : ℕ) (label : Option (List ℕ)) (stamps : Option Stamps) → let h : Preamble =
@@ -139,8 +140,8 @@ no_end [] run e = cc
 no_end (x ∷ xs) run e = cc
 
 -- a manifest by the parts of its entries
-entries_are : (m : Manifest) (e : Entries) (before : List Item) (comment : Option (List ℕ)) (runs : List RunValue) → m.entries ≡ Some e → e.before ≡ before
-    → e.last.note ≡ comment → e.last.runs ≡ runs
+entries_are : (m : Manifest) (e : Entries) (before : List Item) (comment : Option (List ℕ)) (runs : List RunValue) → m.entries ≡ Some e
+    → e.before ≡ before → e.last.note ≡ comment → e.last.runs ≡ runs
     → let n : Manifest = record { preamble = m.preamble; entries = Some (record { before = before; last = record e.last { note = comment; runs = runs } }) }
     in m ≡ n
 entries_are m e before comment runs is b n r = grind (arith, common_steps, of_three)
@@ -155,7 +156,8 @@ less_is : (i : Item) (run : RunValue) (runs : List RunValue) → IsItem i → i.
 less_is i run runs g e f = grind (arith, common_steps, last_off, item_with)
 
 -- the last line of a manifest with entries
-last_run : (m : Manifest) (e : Entries) (runs : List RunValue) (run : RunValue) → IsWell m → m.entries ≡ Some e → e.last.runs ≡ runs ++ run ∷ [] → IsNext m
+last_run : (m : Manifest) (e : Entries) (runs : List RunValue) (run : RunValue) → IsWell m → m.entries ≡ Some e → e.last.runs ≡ runs ++ run ∷ []
+    → IsNext m
 last_run m e runs run w is r =
     let item : IsItem e.last = last_is m e w is in
     let file = not_dir e.last run runs item r e.last.sort refl in

@@ -9,16 +9,17 @@ use Rattle.adf_manifest.specs.Texts.{hex_word, pair}
 use Rattle.adf_manifest.specs.Lines.{fields_text, fill_line, most_fill}
 use Rattle.adf_manifest.proofs.TokenLaws.{CutTwice, one_cut, one_cut_twice, space_lacks, stamp_lacks}
 use Rattle.adf_manifest.proofs.DigitLaws.{word_lacks}
+use Rattle.std.proofs.lemmas.Grind.{common_steps}
 
 -- what stands behind the word of a fill line
-pub fill_text : (line text : List ℕ) (count byte : ℕ) → line ≡ codes "fill " ++ text → line ≡ fill_line count byte → text ≡ decimal count ++ 32 ∷ pair byte
+pub fill_text : (line text : List ℕ) (count byte : ℕ) → line ≡ codes "fill " ++ text → line ≡ fill_line count byte
+    → text ≡ decimal count ++ 32 ∷ pair byte
 fill_text line text count byte e g = append_cancel_left (codes "fill ") text (decimal count ++ 32 ∷ pair byte) (sym e ∙ g)
 
 -- the parts of a fill line
 pub fill_parts : {line text a b : List ℕ} (count byte : ℕ) → line ≡ codes "fill " ++ text → (text ≡ a ++ 32 ∷ b) × LacksByte 32 a → count ≤ most_fill
     → line ≡ fill_line count byte → (a ≡ decimal count) × (b ≡ pair byte)
-fill_parts {line = line} {text = text} {a = a} {b = b} count byte e cut h g =
-    one_cut 32 a b (decimal count) (pair byte) cut.1 (space_lacks count (omega arith)) (sym cut.0 ∙ fill_text line text count byte e g)
+fill_parts {line = line} {text = text} {a = a} {b = b} count byte e cut h g = grind (arith, common_steps, one_cut, space_lacks, fill_text)
 
 -- the parts of the fields of an entry line
 pub fields_parts : {text x y z : List ℕ} (s : Stamp) (p : ℕ) (path : List ℕ) → CutTwice 32 text x y z → IsStamp s → text ≡ fields_text s p path

@@ -27,6 +27,7 @@ use Rattle.adf_manifest.specs.declared.manifest.ManifestKind.{ManifestKind}
 use Rattle.adf_manifest.specs.declared.manifest.ManifestKind.TheVariants.{BadLine, NoMemory, TooLong}
 use Rattle.adf_manifest.proofs.Growth.{with_run, with_run_is, with_run_lines, last_is, last_lines, last_well, new_item, new_lines, new_well, noted, noted_is}
 use Rattle.adf_manifest.proofs.Growth.{noted_lines, room_none, tree_more, tree_none, with_last, with_new}
+use Rattle.std.proofs.lemmas.Grind.{common_steps}
 
 pub bare_well : (h : Preamble) → IsPreamble h → IsWell (bare h)
 bare_well h g = record { preamble = g; items = All-nil IsItem; room = room_none (preamble_tree h) }
@@ -86,8 +87,8 @@ entry_step m blocks draft last sort stamp protect text path w b t l p room e1 e2
       rw p.spells (new_lines m item),
     )
 
-reading_with : (r : Reading) (last : LastEntry) (m : Manifest) (e : Entries) (i : Item) → IsReading r m e → IsLastEntry last i → last.room ≡ r.last.room
-    → i.path ≡ e.last.path
+reading_with : (r : Reading) (last : LastEntry) (m : Manifest) (e : Entries) (i : Item) → IsReading r m e → IsLastEntry last i
+    → last.room ≡ r.last.room → i.path ≡ e.last.path
     → let n : Manifest = with_last m e i in let s : Entries = record { before = e.before; last = i } in let q : Reading =
     record { blocks = r.blocks; draft = r.draft; last = last } in IsReading q n s
 reading_with r last m e i g o at same = record { entries = refl; blocks = g.blocks; tree = g.tree; last = o; room = rw (at, same) g.room }
@@ -111,8 +112,8 @@ note_step r last m e text note w g n b filled spelling o at =
     )
 
 -- behind a line of bytes
-pub run_step : (r : Reading) (last : LastEntry) (m : Manifest) (e : Entries) (run : RunValue) → IsWell m → IsReading r m e → r.last.sort ≡ File → IsRun run
-    → IsLastEntry last (with_run e.last run) → last.room ≡ r.last.room
+pub run_step : (r : Reading) (last : LastEntry) (m : Manifest) (e : Entries) (run : RunValue) → IsWell m → IsReading r m e → r.last.sort ≡ File
+    → IsRun run → IsLastEntry last (with_run e.last run) → last.room ≡ r.last.room
     → GoesOn (state.Entries (record { blocks = r.blocks; draft = r.draft; last = last })) m (run_line run)
 run_step r last m e run w g f h o at =
     let item = with_run e.last run in (
@@ -123,7 +124,8 @@ run_step r last m e run w g f h o at =
     )
 
 -- the tree with the last entry
-pub closed_tree : (r : Reading) (m : Manifest) (e : Entries) (tree : Tree) → IsReading r m e → tree ≡ with_item r.draft.tree e.last → tree ≡ manifest_tree m
+pub closed_tree : (r : Reading) (m : Manifest) (e : Entries) (tree : Tree) → IsReading r m e → tree ≡ with_item r.draft.tree e.last
+    → tree ≡ manifest_tree m
 closed_tree r m e tree g h =
     rw (h, g.tree, g.entries, tree_more)
 
@@ -143,8 +145,7 @@ is_none (Some x) h = absurd cc
 pub closed_is : (t : Tree) (o : LastEntry) (i : Item) (comment : List ℕ) (body : Body) → IsLastEntry o i
     → comment ≡ unwrap_or o.note [] → body ≡ body_of_sort o.sort o.bytes.items
     → with_entry t i.path (new_meta comment o.protect o.stamp) body ≡ with_item t i
-closed_is t o i comment body g e2 e3 =
-    rw (e2, g.note, g.protect, g.stamp, e3, g.sort, g.bytes)
+closed_is t o i comment body g e2 e3 = grind (arith, common_steps)
 
 pub stopped : {T : Type 0} (r : Result T ManifestKind) (m : Manifest) (line : LineValue) (tree : Tree) → tree ≡ manifest_tree m → MayStand m line
     → IfErr r (λ k. StopsIn tree line k) → IfErr r (λ k. Stops m line k)

@@ -92,7 +92,8 @@ own = numerals_by_value (AllDigits 10) tells_digits
 front_true : (n first : ℕ) → 0 < n → first ≢ 43 → (first ≡ 48 → n ≡ 1) → (nat_lt 0 n && (not (first == 43) && (not (first == 48) || (n == 1)))) ≡ true
 front_true n first h p z = grind (arith, common_steps, cases_eq, nat_tests)
 
-front_told : (n first : ℕ) → (nat_lt 0 n && (not (first == 43) && (not (first == 48) || (n == 1)))) ≡ true → (0 < n) × (first ≢ 43) × (first ≡ 48 → n ≡ 1)
+front_told : (n first : ℕ) → (nat_lt 0 n && (not (first == 43) && (not (first == 48) || (n == 1)))) ≡ true
+    → (0 < n) × (first ≢ 43) × (first ≡ 48 → n ≡ 1)
 front_told n first h = (grind (arith, nat_tests), (λ e. grind (arith, nat_tests)), (λ e. grind (arith, nat_tests)))
 
 decimal_front : (n : ℕ) → n < 2 ^ 32 → has_number_front (decimal n) ≡ true
@@ -129,7 +130,8 @@ prefix_says L text prefix f (Some x) h =
     (sym (take-append-drop n text) ∙ ap (λ l. l ++ drop n text) (same_text _ _ (sym h.0)) ∙ ap (λ l. prefix ++ l) (sym h.1), tt)
 
 -- a text of one digit is that number
-pub one_digit : (text : List ℕ) (n : ℕ) → length text ≡ 1 → 48 ≤ slice_index text 0 → slice_index text 0 ≤ 57 → n ≡ slice_index text 0 - 48 → text ≡ decimal n
+pub one_digit : (text : List ℕ) (n : ℕ) → length text ≡ 1 → 48 ≤ slice_index text 0 → slice_index text 0 ≤ 57 → n ≡ slice_index text 0 - 48
+    → text ≡ decimal n
 one_digit [] n long low high is = absurd (omega arith)
 one_digit (d ∷ []) n long low high is = let same : 48 + n ≡ d = omega arith in sym (decimal_digit n (omega arith) ∙ ap (λ k. k ∷ []) same)
 one_digit (d ∷ e ∷ more) n long low high is = absurd (omega arith)

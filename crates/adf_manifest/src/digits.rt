@@ -26,6 +26,7 @@ impl<'a> Model for Digits<'a> {
 }
 
 impl<'a> Digits<'a> {
+    #[tactic(auto, using(crate::proofs::DigitLaws::digits_of_pairs, crate::proofs::DigitLaws::pairs_of_digits))]
     /// The text as digits; `None` if it is not an even number of digits.
     pub fn read(text: &'a [u8]) -> Option<Digits<'a>>
         ensures some { IfSome result (λ bytes. text.now ≡ pairs bytes) }
@@ -40,6 +41,7 @@ impl<'a> Digits<'a> {
         }
     }
 
+    #[tactic(auto, using(crate::proofs::DigitLaws::all_digits))]
     /// Appends the bytes with these digits; if memory is refused, some of them may have been appended.
     pub fn push_onto(self, bytes: &mut Vec<u8>) -> Result<(), AllocError>
         ensures { IfOk result (λ _. bytes.new.items ≡ bytes.old.items ++ self.entry) }

@@ -202,6 +202,7 @@ fn note_or_none(note: Option<Comment>) -> Comment
     }
 }
 
+#[tactic(auto, using(crate::proofs::StateLaws::closed_is))]
 // Adds an entry in its room, after all its lines are read.
 fn close(alloc: Global, draft: &mut Draft, last: &mut LastEntry) -> Result<(), ManifestKind>
     requires room { (path : List (List ℕ)) × IsRoomFor draft.old path last.old.room }
@@ -256,6 +257,7 @@ fn next_entry(alloc: Global, reading: &mut Reading, line: EntryText) -> Result<(
     }
 }
 
+#[tactic(auto, using(crate::proofs::StateLaws::is_none, crate::proofs::StateLaws::no_runs, crate::proofs::Growth::last_is))]
 // Reads a note line.
 fn take_note(reading: &mut Reading, text: &[u8]) -> Result<(), ManifestKind>
     requires form { 0 < length text.now }
@@ -318,6 +320,7 @@ fn take_run(reading: &mut Reading, run: Run) -> Result<(), ManifestKind>
     }
 }
 
+#[tactic(auto, using(crate::proofs::Growth::tree_none, crate::proofs::StateLaws::preamble_step, crate::proofs::StateLaws::stopped))]
 // The state after a line of this form, before any entry line.
 fn line_in_preamble(alloc: Global, preamble: Preamble, line: Line) -> Result<State, ManifestKind>
     requires form { IsLine (line_value line) }
@@ -361,6 +364,7 @@ fn line_in_entries(alloc: Global, reading: &mut Reading, line: Line) -> Result<(
     }
 }
 
+#[tactic(auto, using(crate::proofs::StateLaws::bare_lines, crate::proofs::StateLaws::bare_well))]
 /// The state after the first line.
 pub fn first_state(line: &[u8]) -> Result<State, ManifestKind>
     ensures lines { IfOk result (λ s. (m : Manifest) × IsWell m × StateMatches s m
@@ -402,6 +406,7 @@ fn finished(alloc: Global, draft: Draft, blocks: u32) -> Result<(Tree, u32), Man
     }
 }
 
+#[tactic(auto, using(crate::proofs::StateLaws::bare_tree))]
 /// The tree and the number of blocks of the lines.
 pub fn finish(alloc: Global, state: State) -> Result<(Tree, u32), ManifestKind>
     requires told { (m : Manifest) × StateMatches state m }

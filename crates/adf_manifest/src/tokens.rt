@@ -48,6 +48,7 @@ fn has_number_front(text: &[u8]) -> bool
     !text.is_empty() && text[0] != b'+' && (text[0] != b'0' || text.len() == 1)
 }
 
+#[tactic(auto, using(crate::proofs::TokenLaws::one_digit))]
 // Reads one digit as a number.
 fn read_digit(text: &[u8]) -> Option<u32>
     ensures { IfSome result (λ n. text.now ≡ decimal n) }
@@ -58,6 +59,7 @@ fn read_digit(text: &[u8]) -> Option<u32>
     }
 }
 
+#[tactic(auto, using(crate::proofs::TokenLaws::no_number_front, crate::proofs::TokenLaws::number_read))]
 // Reads any number of digits as a number.
 fn read_digits(text: &[u8]) -> Option<u32>
     ensures some { IfSome result (λ n. text.now ≡ decimal n) }
@@ -86,6 +88,7 @@ pub fn read_number(text: &[u8]) -> Option<u32>
     }
 }
 
+#[tactic(auto, using(crate::proofs::TokenLaws::colon_lacks, crate::proofs::TokenLaws::stamp_parts))]
 /// Reads a date: days, minutes and ticks in decimal, joined by `:`.
 pub fn read_stamp(text: &[u8]) -> Option<Stamp>
     ensures some { IfSome result (λ s. text.now ≡ plain_text s) }
@@ -98,6 +101,7 @@ pub fn read_stamp(text: &[u8]) -> Option<Stamp>
     Some(Stamp { days, mins, ticks })
 }
 
+#[tactic(auto, using(crate::proofs::TokenLaws::stamp_lacks, crate::proofs::TokenLaws::stamps_parts))]
 /// Reads three dates, joined by spaces.
 pub fn read_stamps(text: &[u8]) -> Option<Stamps>
     ensures some { IfSome result (λ s. text.now ≡ stamps_text s) }

@@ -2,10 +2,9 @@
 -- Letters: as in specs/Disks; n and m two numbers of blocks, ps and p partitions with n, qs and q with m.
 use Rattle.std.proofs.Common.{◌≡◌, ◌∙◌, ℕ, zero, suc, List, [], ◌∷◌, ◌++◌, length, refl, sym, ap, subst, arith}
 use Rattle.std.proofs.Common.{Bool, true, false, Option, None, Some}
-use Rattle.std.specs.Prelude.{◌-◌, cond, find, IfOk, slice_get, ⊤}
+use Rattle.std.specs.Prelude.{cond, find, IfOk, slice_get, ⊤}
 use Rattle.std.specs.List.{list_any}
 use Rattle.std.proofs.lemmas.Grind.{common_steps}
-use Rattle.adf_base.specs.Words.{block}
 use Rattle.adf_partitions.specs.declared.partition.Partition.{Partition}
 use Rattle.adf_partitions.specs.declared.tables.Tables.{Tables}
 use Rattle.adf_partitions.specs.Disks.{IsDisk, IsFound, is_at, part_form, partition_at}
@@ -51,12 +50,10 @@ module _ (bytes : List ℕ) (n : ℕ) where
   either_alike true false p q more others e h k = absurd cc
   either_alike false true p q more others e h k = absurd cc
 
-  named_alike : (name : List ℕ) (ps qs : List Partition) → AreAll bytes n ps qs → FoundAlike bytes n (find (is_named name) ps) (find (is_named name) qs)
+  named_alike : (name : List ℕ) (ps qs : List Partition) → AreAll bytes n ps qs
+      → FoundAlike bytes n (find (is_named name) ps) (find (is_named name) qs)
   named_alike name [] [] h = tt
-  named_alike name (x ∷ ps) (y ∷ qs) h =
-      let e = h.0.name in
-      let same : is_named name x ≡ is_named name y = cc in
-      either_alike (is_named name x) (is_named name y) x y (find (is_named name) ps) (find (is_named name) qs) same h.0 (named_alike name ps qs h.1)
+  named_alike name (x ∷ ps) (y ∷ qs) h = grind (arith, common_steps, either_alike, (named_alike name ps qs h.1))
   named_alike name (x ∷ ps) [] h = absurd h
   named_alike name [] (y ∷ qs) h = absurd h
 

@@ -1,6 +1,6 @@
 -- The blocks that may have tables are all that is read of a disk.
 -- Letters: as in specs/Searches; A, B two disks that agree in these blocks.
-use Rattle.std.proofs.Common.{◌≡◌, ◌<◌, ◌≤◌, ◌+◌, ◌*◌, inl, inr, ℕ, zero, suc, List}
+use Rattle.std.proofs.Common.{◌≡◌, ◌<◌, ◌≤◌, ◌*◌, inl, inr, ℕ, zero, suc, List}
 use Rattle.std.proofs.Common.{◌++◌, [], ◌∷◌, length, take, drop, refl, sym, ap, subst, ◌∙◌, arith}
 use Rattle.std.proofs.Common.{Bool, true, false}
 use Rattle.std.specs.Prelude.{◌&&◌, if◌then◌else◌, not, nat_lt, ◌↔◌}
@@ -8,7 +8,7 @@ use Rattle.std.specs.List.{list_any}
 use Rattle.std.proofs.lemmas.Bool.{cases_lt}
 use Rattle.std.proofs.lemmas.List.{take-append-drop, take_all, length-take-le}
 use Rattle.std.proofs.lemmas.Grind.{common_steps}
-use Rattle.adf_base.specs.Words.{block, word}
+use Rattle.adf_base.specs.Words.{word}
 use Rattle.adf_partitions.specs.declared.fault.DiskFault.{DiskFault}
 use Rattle.adf_partitions.specs.declared.layout.TheConstants.{BLOCK_BYTES, MOST_PARTITIONS, MOST_TABLES, RDSK_BLOCKS}
 use Rattle.adf_partitions.specs.declared.partition.Partition.{Partition}
@@ -46,8 +46,7 @@ module _ {A B : List ℕ} {kept : Tables} (s : TablesAgree A B kept) where
   same_all_lost : (n : ℕ) (t : Tables) (ps : List Partition) (k : ℕ) → with_all_lost A n t kept ps k ≡ with_all_lost B n t kept ps k
   unfolding with_all_lost
   same_all_lost n t ps zero = refl
-  same_all_lost n t ps (suc k) =
-      ap (λ (qs : List Partition). with_lost A n t kept qs k) (same_all_lost n t ps k) ∙ same_lost n t (with_all_lost B n t kept ps k) k
+  same_all_lost n t ps (suc k) = grind (arith, common_steps, same_lost, (same_all_lost n t ps k))
 
 module _ {A B : List ℕ} (g : Agrees A B) (n : ℕ) where
   same_disk : {t : Tables} {ps : List Partition} → IsDisk A n t ps → IsDisk B n t ps

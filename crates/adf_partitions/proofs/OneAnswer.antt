@@ -81,11 +81,12 @@ module _ (bytes : List ℕ) (n : ℕ) (t : Tables) where
   not_both s p (inr q) = let x = p.1 in let y = q.1 in absurd cc
 
   -- a list stops once
-  no_longer : {ps qs : List Partition} {a b c d : ℕ} → IsFound bytes n t ps a b → Stops (state ps a b) → IsFound bytes n t qs c d → length ps < length qs → ⊥
+  no_longer : {ps qs : List Partition} {a b c d : ℕ} → IsFound bytes n t ps a b → Stops (state ps a b) → IsFound bytes n t qs c d
+      → length ps < length qs → ⊥
   no_longer {ps} h stops k lt = not_both (found_after (length ps)) (each_passes k (length ps) lt) (subst Stops (is_after h) stops)
 
-  pub one_stop : {ps qs : List Partition} {a b c d : ℕ} → IsFound bytes n t ps a b → Stops (state ps a b) → IsFound bytes n t qs c d → Stops (state qs c d)
-      → state ps a b ≡ state qs c d
+  pub one_stop : {ps qs : List Partition} {a b c d : ℕ} → IsFound bytes n t ps a b → Stops (state ps a b) → IsFound bytes n t qs c d
+      → Stops (state qs c d) → state ps a b ≡ state qs c d
   one_stop {ps} {qs} h stops k ends = grind (arith, common_steps, cases_lt, no_longer, is_after, found_after)
 
   one_list : {ps qs : List Partition} → IsWhole bytes n t ps → IsWhole bytes n t qs → ps ≡ qs

@@ -28,14 +28,13 @@ one_partition text p q h k =
     let same : made p.name p.kind p.cylinders (options_in p) ≡ made q.name q.kind q.cylinders (options_in q) = cc in
     same
 
-one_front : (left : List ℕ) (ps qs : List PartitionPlan) (e d : List ℕ) → AreLines left ps e → AreLines left qs d → Stops e → Stops d → (ps ≡ qs) × (e ≡ d)
+one_front : (left : List ℕ) (ps qs : List PartitionPlan) (e d : List ℕ) → AreLines left ps e → AreLines left qs d → Stops e → Stops d
+    → (ps ≡ qs) × (e ≡ d)
 unfolding AreLines
 one_front left [] [] e d h k x y = (refl, sym h ∙ k)
 one_front left [] (q ∷ qs) e d h k x y = absurd (x q (subst (λ (l : List ℕ). IsPartitionLine (first_line l) q) h k.0))
 one_front left (p ∷ ps) [] e d h k x y = absurd (y p (subst (λ (l : List ℕ). IsPartitionLine (first_line l) p) k h.0))
-one_front left (p ∷ ps) (q ∷ qs) e d h k x y =
-    let others = one_front (behind_line left) ps qs e d h.1 k.1 x y in
-    (ap₂ (λ (r : PartitionPlan) (rs : List PartitionPlan). r ∷ rs) (one_partition _ p q h.0.text k.0.text) others.0, others.1)
+one_front left (p ∷ ps) (q ∷ qs) e d h k x y = grind (arith, common_steps, one_partition, (one_front (behind_line left) ps qs e d h.1 k.1 x y))
 
 plan : ℕ → ℕ → List PartitionPlan → PlanValue
 plan sectors heads ps = record { sectors = sectors; heads = heads; partitions = ps }

@@ -61,3 +61,6 @@ module _ (plan : PlanValue) (h : IsPlan plan) where
 
   pub kept_fit : table_cylinders plan < 2 ^ 32
   kept_fit = omega (arith, cylinders_fit)
+
+-- the cylinders of all partitions of a plan, added up
+pub ruleset cylinder_sums = (cylinders_at, cylinders_end, cylinders_fit)

@@ -42,9 +42,7 @@ AreBefore b e (q ∷ qs) = (q.block < b) × IfOk q.place (λ r. end_of r ≤ e) 
 
 not_at : (b e : ℕ) (qs : List Partition) → AreBefore b e qs → list_any (is_at b) qs ≡ false
 not_at b e [] h = refl
-not_at b e (q ∷ qs) h =
-    let other : (q.block == b) ≡ false = grind (arith, nat_tests, h.0) in
-    rw (other, not_at b e qs h.2) refl
+not_at b e (q ∷ qs) h = grind (arith, common_steps, (not_at b e qs h.2))
 
 over_none : (r : Place) (e : ℕ) (o : Result Place PlaceFault) → IfOk o (λ s. end_of s ≤ e) → e ≤ r.first → is_over_place r o ≡ false
 over_none r e (Ok s) h le = grind (arith, common_steps, nat_tests)
@@ -180,8 +178,8 @@ module _ (plan : PlanValue) (h : IsPlan plan) where
   no_block k e = let f : nat_lt k (length plan.partitions) ≡ false = grind (arith, nat_tests) in rw f refl
 
   -- all partitions that are left are found
-  found_all : (bytes : List ℕ) (k low a : ℕ) (ps : List PartitionPlan) (done : List Partition) → AreLeft plan k low ps → StandThere bytes plan k low ps
-      → AreBefore (k + 1) (low * cylinder_blocks plan) done → length done ≡ k
+  found_all : (bytes : List ℕ) (k low a : ℕ) (ps : List PartitionPlan) (done : List Partition) → AreLeft plan k low ps
+      → StandThere bytes plan k low ps → AreBefore (k + 1) (low * cylinder_blocks plan) done → length done ≡ k
       → IsFound bytes (planned_blocks plan) (planned_tables plan) done a (block_after (length plan.partitions) k)
       → IsWhole bytes (planned_blocks plan) (planned_tables plan) (done ++ partitions_from (cylinder_blocks plan) (k + 1) low ps)
   unfolding partitions_from

@@ -1,7 +1,7 @@
 -- The lines of a plan's text. left is what is left of a text, ps its partitions, e the text behind their lines.
-use Rattle.std.proofs.Common.{◌≡◌, ◌≢◌, ◌<◌, ◌≤◌, ◌+◌, ℕ, suc, Bool, true, false, List, [], ◌∷◌, ◌++◌, length, ap, refl, subst, arith}
+use Rattle.std.proofs.Common.{◌≡◌, ◌≢◌, ◌<◌, ◌≤◌, ◌+◌, ℕ, true, false, List, [], ◌∷◌, ◌++◌, length, ap, refl, subst, arith}
 use Rattle.std.proofs.Common.{append-nil, append_assoc}
-use Rattle.std.specs.Prelude.{◌==◌, ◌&&◌, All, OnErr, Result, Ok, Err, if◌then◌else◌}
+use Rattle.std.specs.Prelude.{◌==◌, All, OnErr, Result, Ok, Err}
 use Rattle.std.proofs.lemmas.Bool.Decides.{nat_tests}
 use Rattle.std.proofs.lemmas.Bool.{and_parts}
 use Rattle.std.proofs.lemmas.Grind.{common_steps}
@@ -10,7 +10,7 @@ use Rattle.adf_partitions.specs.declared.plan_text.TextFault.{TextFault}
 use Rattle.adf_partitions.specs.declared.plan_text.TextKind.{TextKind}
 use Rattle.adf_partitions.specs.Plans.{IsPartitionPlan, IsPlan, PlanValue}
 use Rattle.adf_partitions.specs.PlanTexts.{AreLines, HasPartition, IsDiskLine, IsEndFault, IsTextFault, IsPartitionLine, IsPartitionText, Stops, before, behind}
-use Rattle.adf_partitions.specs.PlanTexts.{behind_line, behind_word, first_line, is_plan}
+use Rattle.adf_partitions.specs.PlanTexts.{behind_line, first_line, is_plan}
 use Rattle.adf_partitions.proofs.NumberTests.{le_of, lt_of}
 
 -- no line of a partition is empty
@@ -21,11 +21,7 @@ no_empty_line p h = let w = h.word in absurd cc
 at_most : (c : ℕ) (xs : List ℕ) → length (behind c xs) ≤ length xs
 unfolding behind
 at_most c [] = omega arith
-at_most c (x ∷ xs) = go (x == c) (at_most c xs)
-  where
-    go : (b : Bool) → length (behind c xs) ≤ length xs → length (if b then xs else behind c xs) ≤ suc (length xs)
-    go true h = omega arith
-    go false h = omega arith
+at_most c (x ∷ xs) = grind (arith, common_steps, (at_most c xs))
 
 pub shorter : (c : ℕ) (xs : List ℕ) → 0 < length xs → length (behind c xs) < length xs
 unfolding behind
@@ -71,7 +67,7 @@ first_and_others p ps one others = grind (arith, common_steps)
 pub plans_of_lines : (left : List ℕ) (ps : List PartitionPlan) (e : List ℕ) → AreLines left ps e → All IsPartitionPlan ps
 unfolding AreLines
 plans_of_lines left [] e h = λ k d lt. absurd (omega arith)
-plans_of_lines left (p ∷ ps) e h = first_and_others p ps (plan_of_text (behind_word (first_line left)) p h.0.text) (plans_of_lines (behind_line left) ps e h.1)
+plans_of_lines left (p ∷ ps) e h = grind (arith, common_steps, first_and_others, plan_of_text, (plans_of_lines (behind_line left) ps e h.1))
 
 pub is_plan-tells : (plan : PlanValue) (left end : List ℕ) → AreLines left plan.partitions end → is_plan plan ≡ true → IsPlan plan
 is_plan-tells plan left end lines h = grind (arith, common_steps, and_parts, le_of, plans_of_lines, lt_of)

@@ -2,7 +2,7 @@
 -- Letters: as in specs/Disks; p a partition block, q and r places, o the first test of a partition that fails.
 use Rattle.std.proofs.Common.{◌≡◌, ◌⊎◌, inl, inr, rules, ◌<◌, ◌+◌, ◌-◌, ◌*◌, ℕ, List, [], ◌∷◌, length, get_or, refl, sym, ap, ◌∙◌, arith}
 use Rattle.std.proofs.Common.{Bool, true, false, None, Some, Ok, Err}
-use Rattle.std.specs.Prelude.{Option, Result, ◌&&◌, ◌||◌, not, nat_le, ◌==◌, IfOk}
+use Rattle.std.specs.Prelude.{Option, Result, not, nat_le, ◌==◌, IfOk}
 use Rattle.std.specs.List.{All, AllPairs}
 use Rattle.std.proofs.lemmas.Bool.{false_from_ne_true, and_parts, not-true, or_parts}
 use Rattle.std.proofs.lemmas.Bool.Decides.{nat_tests}
@@ -77,7 +77,8 @@ apart_from : (q : Place) (r : Result Place PlaceFault) (o : Option PlaceFault) �
 apart_from q (Ok r) o h = if_placed q o (AreApart r) (λ e. no_common q r (h e))
 apart_from q (Err f) o h = tt
 
-not_over : (q : Place) (ps : List Partition) → is_over_earlier q ps ≡ false → (k : ℕ) (d : Partition) → k < length ps → is_over q (get_or ps k d) ≡ false
+not_over : (q : Place) (ps : List Partition) → is_over_earlier q ps ≡ false → (k : ℕ) (d : Partition) → k < length ps
+    → is_over q (get_or ps k d) ≡ false
 not_over q ps h k d lt = false_from_ne_true (is_over q (get_or ps k d)) (λ over. let z = list_any_at (is_over q) ps k d lt over in absurd cc)
 
 module _ {bytes : List ℕ} {n : ℕ} {t : Tables} where

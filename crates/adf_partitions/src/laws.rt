@@ -39,6 +39,7 @@ pub fn one_reading()
         → AreReadable bytes n ps }
 {}
 
+#[tactic(auto, using(crate::proofs::TablesEnough::lack_tells))]
 /// The first bytes of a disk are enough if they hold the blocks 0 to 15 and those kept for the tables: what follows them
 /// changes nothing.
 pub fn tables_are_enough()
@@ -52,6 +53,7 @@ pub fn tables_are_enough()
         → IsTables bytes t → FirstFault bytes n f ↔ FirstFault (bytes ++ rest) n f }
 {}
 
+#[tactic(auto, using(crate::proofs::FirstBlocks::first_readable))]
 /// The blocks below 65,536 are enough, or all blocks of a disk that has fewer: what follows them changes nothing that is read of
 /// the disk.
 pub fn first_blocks_are_enough()
@@ -76,6 +78,7 @@ pub fn length_moves_no_volume()
         → FoundAlike bytes n (find (is_named name) ps) (find (is_named name) qs) }
 {}
 
+#[tactic(auto, using(crate::proofs::VolumesApart::volumes_lie_well))]
 /// The volumes of a disk lie within it, beside its tables and apart from each other.
 pub fn volumes_lie_apart()
     ensures each { (bytes : List ℕ) (n : ℕ) (t : Tables) (ps : List Partition) → IsDisk bytes n t ps

@@ -64,6 +64,7 @@ pub fn table_cylinders(plan: &DiskPlan) -> u32
     ((plan.partitions.len() as u64 + cylinder) / cylinder) as u32
 }
 
+#[tactic(auto, using(crate::proofs::PlanSizes::cylinder_sums))]
 /// The cylinders of the disk.
 pub fn planned_cylinders(plan: &DiskPlan) -> u32
     requires { IsPlan (plan_value plan.now) }

@@ -80,6 +80,7 @@ fn read_kind(word: &[u8]) -> Option<Kind>
     }
 }
 
+#[tactic(auto, using(adf_tree::proofs::Spellings::only_spelled))]
 // The name of a drive, 1 to 31 bytes, none of them `/` or `:`.
 fn read_name(word: &[u8]) -> Option<DriveName>
     ensures some { IfSome result (λ name. IsSpelling 31 word.now name × (1 ≤ length name)

@@ -90,6 +90,7 @@ fn is_end(line: &[u8]) -> bool
     line == b"end".as_slice()
 }
 
+#[tactic(auto, using(crate::proofs::TextLines::line_taken, crate::proofs::TextLines::line_added))]
 // The partitions whose lines stand first, and the text behind them.
 fn read_lines(alloc: Global, text: &[u8]) -> Result<(Vec<PartitionPlan>, &[u8]), AllocError>
     ensures lines { IfOk result (λ r. AreLines text.now r.0.items r.1.now) }
@@ -135,6 +136,7 @@ fn have_volumes(partitions: &[PartitionPlan], cylinder: u64) -> bool
         .all(|partition| has_volume(partition, cylinder))
 }
 
+#[tactic(auto, using(crate::proofs::PlanSizes::cylinder_sums))]
 // Whether a disk of this plan has fewer blocks than 2^32.
 fn is_small(plan: &DiskPlan, cylinder: u64) -> bool
     requires positive { 1 ≤ cylinder }

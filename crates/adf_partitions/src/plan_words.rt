@@ -6,6 +6,7 @@ ghost use Rattle.adf_partitions.specs.PlanTexts.{before, behind, number_of, prio
 /// The largest number of a text.
 pub const MOST_NUMBER: u32 = 1_048_576;
 
+#[tactic(auto, using(crate::proofs::Cuts::cut_there, crate::proofs::Cuts::cut_nowhere, std::proofs::lemmas::List::take_rest))]
 /// The bytes before and behind the first byte of this value; all bytes and none, if there is none.
 pub fn cut(text: &[u8], byte: u8) -> (&[u8], &[u8])
     ensures front { result.0.now ≡ before byte text.now }
@@ -19,6 +20,7 @@ pub fn cut(text: &[u8], byte: u8) -> (&[u8], &[u8])
     (text, &text[text.len()..])
 }
 
+#[tactic(auto, using(crate::proofs::Cuts::no_room, crate::proofs::Cuts::digit_read, crate::proofs::Cuts::number_done))]
 /// The number of decimal digits, at most `MOST_NUMBER`.
 pub fn read_number(text: &[u8]) -> Option<u32>
     ensures { result ≡ number_of text.now }

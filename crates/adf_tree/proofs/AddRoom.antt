@@ -1,6 +1,6 @@
 -- Whether a path has room, and what may be added there.
 use Rattle.std.proofs.Common.{◌≡◌, ℕ, ◌-◌, ◌<◌, List, [], ◌∷◌, length, get_or, true, false, Bool, Option, Some, None, Result, Ok, Err, arith, ◌==◌}
-use Rattle.std.proofs.Common.{refl, subst, if◌then◌else◌, zero, suc, take, ◌++◌, ◌+◌}
+use Rattle.std.proofs.Common.{refl, subst, if◌then◌else◌, zero, suc, take, ◌++◌}
 use Rattle.std.specs.Prelude.{option_map}
 use Rattle.std.specs.Option.{unwrap_or}
 use Rattle.std.specs.List.{slice_get}
@@ -66,12 +66,13 @@ room_may_add es e names h =
       fresh = none_is_fresh es e both.1;
     }
 
-pub whole_path : (path : List (List ℕ)) (d : List ℕ) → (length path == 0) ≡ false → path ≡ take (length path - 1) path ++ get_or path (length path - 1) d ∷ []
+pub whole_path : (path : List (List ℕ)) (d : List ℕ) → (length path == 0) ≡ false
+    → path ≡ take (length path - 1) path ++ get_or path (length path - 1) d ∷ []
 whole_path path d h = grind (arith, common_steps, eqb-false, take_all, take_more)
 
 -- so a tree stays one, whatever `add` answers
-pub room_keeps : (es : List Entry) (e : Entry) (names : List (List ℕ)) (b : Bool) → IsTree es → room_at es e.name (directory_from es 0 names) ≡ Ok e.parent
-    → IsTree (if b then added es e else es)
+pub room_keeps : (es : List Entry) (e : Entry) (names : List (List ℕ)) (b : Bool) → IsTree es
+    → room_at es e.name (directory_from es 0 names) ≡ Ok e.parent → IsTree (if b then added es e else es)
 room_keeps es e names true t h = added_tree es e t (room_may_add es e names h)
 room_keeps es e names false t h = t
 

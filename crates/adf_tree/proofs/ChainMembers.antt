@@ -30,17 +30,9 @@ pub one_chain : (es : List Entry) (e : Entry) → Contains es e → (p s : ℕ) 
 one_chain es e h p s = (in_no_other es e p s, λ at. in_its_chain es e p s h (sym at.0) (sym at.1))
 
 -- what is found for a name is an entry of that name, in the chain of its slot
-pub child_in_chain : (es : List Entry) (p : ℕ) (name : List ℕ) (n : ℕ) (d : Entry) → child es p name ≡ Some n → IsChild es p name n (get_or es (n - 1) d)
-child_in_chain es p name n d h =
-    let found = found_is es p name n d h in
-    let e : Entry = get_or es (n - 1) d in
-    let says = child_says p name e found.2 in
-    record {
-      entry = entry_at es n d found.0 found.1;
-      parent = says.0;
-      name = says.1;
-      chain = in_its_chain es e p (slot_of name) (Contains-get_or es (n - 1) d (omega (arith, found.0, found.1))) says.0 (same_slot e.name name says.1);
-    }
+pub child_in_chain : (es : List Entry) (p : ℕ) (name : List ℕ) (n : ℕ) (d : Entry) → child es p name ≡ Some n
+    → IsChild es p name n (get_or es (n - 1) d)
+child_in_chain es p name n d h = grind (arith, common_steps, found_is, child_says, entry_at, in_its_chain, Contains-get_or, same_slot)
 
 pub child_found_is : (es : List Entry) (p : ℕ) (name : List ℕ) (n : ℕ) (d : Entry) → IsTree es
     → (child es p name ≡ Some n) ↔ ((0 < n) × (n ≤ length es) × IsChild es p name n (get_or es (n - 1) d))

@@ -1,5 +1,5 @@
 -- Look-up by parent and name, and how an addition changes it.
-use Rattle.std.proofs.Common.{◌≡◌, ◌≢◌, ℕ, ◌+◌, ◌*◌, ◌%◌, ◌<◌, ◌≤◌, inl, inr, List, [], ◌∷◌, length, get_or, true, false, Bool, Some, None, arith}
+use Rattle.std.proofs.Common.{◌≡◌, ◌≢◌, ℕ, ◌+◌, ◌*◌, ◌%◌, ◌<◌, ◌≤◌, List, [], ◌∷◌, length, get_or, true, false, Bool, Some, None, arith}
 use Rattle.std.proofs.Common.{nat_lt, sym, refl, ◌∙◌, ap, ◌-◌, Option, ◌&&◌}
 use Rattle.std.specs.Prelude.{fold, option_map, position}
 use Rattle.std.specs.List.{All}
@@ -52,60 +52,59 @@ pub position_yes : {X : Type 0} (p : X → Bool) (xs : List X) (i : ℕ) (d : X)
     → ((k : ℕ) → k < i → p (get_or xs k d) ≡ false) → position p xs ≡ Some i
 position_yes p xs i d lt holds others = rw (position_or_len_is p xs i d (omega arith) others (λ _. holds), lt-ltb i (length xs) lt)
 
-pub position_no : {X : Type 0} (p : X → Bool) (xs : List X) → ((k : ℕ) (d : X) → k < length xs → p (get_or xs k d) ≡ false) → position p xs ≡ None
+pub position_no : {X : Type 0} (p : X → Bool) (xs : List X) → All (λ x. p x ≡ false) xs → position p xs ≡ None
 position_no p [] others = refl
 position_no p (x ∷ xs) others =
     let at = position_or_len_is p (x ∷ xs) (length (x ∷ xs)) x (omega arith) (λ k lt. others k x lt) (λ lt. absurd (omega arith)) in
     rw (at, le-ltb (length (x ∷ xs)) (length (x ∷ xs)) (omega arith))
 
--- what a search along a chain finds
-pub child_found : (es : List Entry) (parent : ℕ) (name : List ℕ) (i : ℕ) (e : Entry) → i < length es → e ≡ get_or es i e → is_child parent name e ≡ true
-    → ((k : ℕ) (d : Entry) → k < i → is_child parent name (get_or es k d) ≡ false) → Some (i + 1) ≡ child es parent name
-child_found es parent name i e lt at holds others = grind (arith, common_steps, position_yes)
-
-pub no_children : (es : List Entry) (p : ℕ) (name : List ℕ) → ((k : ℕ) (d : Entry) → k < length es → is_child p name (get_or es k d) ≡ false)
-    → child es p name ≡ None
-no_children es p name h = ap (option_map (λ i. i + 1)) (position_no (is_child p name) es h)
-
--- nothing stands before the chain, and nothing past it
-pub child_not_before : (es : List Entry) (parent : ℕ) (name : List ℕ) (s from : ℕ) → s ≡ slot_of name
-    → IsPartitionPoint (λ e. nat_lt (rank e) (rank_of parent s) ≡ true) (λ e. nat_lt (rank e) (rank_of parent s) ≡ false) es from → (k : ℕ) (d : Entry)
-    → k < from → is_child parent name (get_or es k d) ≡ false
-child_not_before es parent name s from same point k d lt = grind (arith, common_steps, no_child, ltb-true)
-
-pub child_not_past : (es : List Entry) (parent : ℕ) (name : List ℕ) (s to i : ℕ) → s ≡ slot_of name → IsNonDecreasingBy rank es
-    → to ≡ place es (rank_of parent s) → to ≤ i → ((k : ℕ) (d : Entry) → k < i → is_child parent name (get_or es k d) ≡ false) → (k : ℕ) (d : Entry)
-    → k < length es → is_child parent name (get_or es k d) ≡ false
-child_not_past es parent name s to i same up at past others k d lt = grind (arith, common_steps, cases_lt, no_child, after)
-
 none_before : (o : Option ℕ) → option_map (λ i. i + 1) o ≡ None → o ≡ None
 none_before None h = refl
 none_before (Some i) h = cc
-
--- where no child is found there is none
-pub none_is : (es : List Entry) (p : ℕ) (name : List ℕ) (k : ℕ) (d : Entry) → child es p name ≡ None → k < length es → is_child p name (get_or es k d) ≡ false
-none_is es p name k d h lt = fails_at_none (is_child p name) es (none_before (position (is_child p name) es) h) k d lt
-
--- the child is the only one
-pub child_is : (es : List Entry) (p : ℕ) (name : List ℕ) (k : ℕ) (d : Entry) → IsTree es → k < length es → is_child p name (get_or es k d) ≡ true
-    → child es p name ≡ Some (k + 1)
-child_is es p name k d t lt h = grind (arith, common_steps, child_says, position_yes, false_from_ne_true)
 
 one_before : (o : Option ℕ) (m : ℕ) → option_map (λ i. i + 1) o ≡ Some m → (0 < m) × (o ≡ Some (m - 1))
 one_before None m h = cc
 one_before (Some i) m h = let same : i + 1 ≡ m = cc in (omega arith, ap Some (omega arith))
 
--- and what is found is one
-pub found_is : (es : List Entry) (p : ℕ) (name : List ℕ) (m : ℕ) (d : Entry) → child es p name ≡ Some m
-    → (0 < m) × (m ≤ length es) × (is_child p name (get_or es (m - 1) d) ≡ true)
-found_is es p name m d h = grind (arith, common_steps, one_before, position-Some)
+-- the child of a name
+module _ (es : List Entry) (p : ℕ) (name : List ℕ) where
+  -- what a search along a chain finds
+  pub child_found : (i : ℕ) (e : Entry) → i < length es → e ≡ get_or es i e → is_child p name e ≡ true
+      → ((k : ℕ) (d : Entry) → k < i → is_child p name (get_or es k d) ≡ false) → Some (i + 1) ≡ child es p name
+  child_found i e lt at holds others = grind (arith, common_steps, position_yes)
+
+  pub no_children : ((k : ℕ) (d : Entry) → k < length es → is_child p name (get_or es k d) ≡ false) → child es p name ≡ None
+  no_children h = ap (option_map (λ i. i + 1)) (position_no (is_child p name) es h)
+
+  -- nothing stands before the chain, and nothing past it
+  pub child_not_before : (s from : ℕ) → s ≡ slot_of name
+      → IsPartitionPoint (λ e. nat_lt (rank e) (rank_of p s) ≡ true) (λ e. nat_lt (rank e) (rank_of p s) ≡ false) es from
+      → (k : ℕ) (d : Entry) → k < from → is_child p name (get_or es k d) ≡ false
+  child_not_before s from same point k d lt = grind (arith, common_steps, no_child, ltb-true)
+
+  pub child_not_past : (s to i : ℕ) → s ≡ slot_of name → IsNonDecreasingBy rank es → to ≡ place es (rank_of p s) → to ≤ i
+      → ((k : ℕ) (d : Entry) → k < i → is_child p name (get_or es k d) ≡ false)
+      → (k : ℕ) (d : Entry) → k < length es → is_child p name (get_or es k d) ≡ false
+  child_not_past s to i same up at past others k d lt = grind (arith, common_steps, cases_lt, no_child, after)
+
+  -- where no child is found there is none
+  pub none_is : (k : ℕ) (d : Entry) → child es p name ≡ None → k < length es → is_child p name (get_or es k d) ≡ false
+  none_is k d h lt = fails_at_none (is_child p name) es (none_before (position (is_child p name) es) h) k d lt
+
+  -- the child is the only one
+  pub child_is : (k : ℕ) (d : Entry) → IsTree es → k < length es → is_child p name (get_or es k d) ≡ true → child es p name ≡ Some (k + 1)
+  child_is k d t lt h = grind (arith, common_steps, child_says, position_yes, false_from_ne_true)
+
+  -- and what is found is one
+  pub found_is : (m : ℕ) (d : Entry) → child es p name ≡ Some m → (0 < m) × (m ≤ length es) × (is_child p name (get_or es (m - 1) d) ≡ true)
+  found_is m d h = grind (arith, common_steps, one_before, position-Some)
 
 is_child_moved : (n p : ℕ) (name : List ℕ) (x : Entry) → is_child (moved n p) name (renumbered n x) ≡ is_child p name x
 is_child_moved n p name x = ap (λ b. b && bytes_eq (uppers x.name) (uppers name)) (moved_test n x.parent p)
 
 -- nothing is a child of the new entry
 pub moved_past : (n p : ℕ) → moved n p ≢ n
-moved_past n p h = elim (cases_lt p n) [ inl lt ↦ absurd (omega (arith, moved_below n p lt, h)) | inr le ↦ absurd (omega (arith, moved_above n p le, h)) ]
+moved_past n p h = grind (arith, common_steps, cases_lt, moved_below, moved_above)
 
 -- nothing stands in the new entry
 pub no_parent : (es : List Entry) (e : Entry) → IsTree es → IsDir es e.parent → All (λ x. x.parent ≢ place es (rank e) + 1) (added es e)
@@ -114,13 +113,15 @@ no_parent es e t dir k d lt =
     (λ m some le. moved_past (place es (rank e) + 1) (get_or es (m - 1) d).parent) k lt
 
 -- the new entry has no children
-pub child_of_new : (es : List Entry) (e : Entry) (name : List ℕ) → IsTree es → IsDir es e.parent → child (added es e) (place es (rank e) + 1) name ≡ None
+pub child_of_new : (es : List Entry) (e : Entry) (name : List ℕ) → IsTree es → IsDir es e.parent → let n : ℕ = place es (rank e) + 1 in
+    child (added es e) n name ≡ None
 child_of_new es e name t dir =
-    no_children (added es e) (place es (rank e) + 1) name (λ k d lt. false_from_ne_true (is_child (place es (rank e) + 1) name (get_or (added es e) k d))
-    (λ h. no_parent es e t dir k d lt (child_says (place es (rank e) + 1) name (get_or (added es e) k d) h).0))
+    let n : ℕ = place es (rank e) + 1 in
+    no_children (added es e) n name (λ k d lt. let x = get_or (added es e) k d in
+    false_from_ne_true (is_child n name x) (λ h. no_parent es e t dir k d lt (child_says n name x h).0))
 
 pub parent_stays : (es : List Entry) (e : Entry) → IsTree es → IsDir es e.parent → moved (place es (rank e) + 1) e.parent ≡ e.parent
-parent_stays es e t dir = let early : e.parent ≤ place es (rank e) = dir_before es e t dir in moved_below (place es (rank e) + 1) e.parent (omega arith)
+parent_stays es e t dir = grind (arith, common_steps, dir_before, moved_below)
 
 -- the new entry is found under its name
 pub child_new : (es : List Entry) (e : Entry) (name : List ℕ) → IsTree es → MayAdd es e → uppers e.name ≡ uppers name

@@ -15,7 +15,8 @@ use Rattle.adf_tree.proofs.NameKeys.{equal_words, not_short, same_names, same_nu
 use Rattle.std.proofs.Math.Bool.{and_comm}
 use Rattle.std.proofs.lemmas.Grind.{common_steps}
 
-same_key : (m p : ℕ) (k x : List ℕ) → is_short k ≡ true → is_short x ≡ true → is_eq (by_child (child_key m k) (child_key p x)) ≡ ((m == p) && bytes_eq k x)
+same_key : (m p : ℕ) (k x : List ℕ) → is_short k ≡ true → is_short x ≡ true
+    → is_eq (by_child (child_key m k) (child_key p x)) ≡ ((m == p) && bytes_eq k x)
 same_key m p k x sk sx =
     rw (then_is (by_words (key_of_name k) (key_of_name x)) (nat_cmp m p), same_names k x sk sx, same_number m p) (and_comm (bytes_eq k x) (m == p))
 
@@ -87,8 +88,8 @@ has_number old numbers i m x bucket new k n same lt is at key short up p y =
 
 -- a bucket that was not changed
 pub same_number_in : (old numbers : Numbers) (i : ℕ) (bucket new : BTreeMap ChildKey ℕ) (p : ℕ) (y : List ℕ)
-    → ((p : ℕ) (y : List ℕ) → number_in numbers p y ≡ number_in old p y) → i < length numbers → bucket ≡ get_or numbers i bucket → IsUnchanged bucket new
-    → number_in (set numbers i new) p y ≡ number_in old p y
+    → ((p : ℕ) (y : List ℕ) → number_in numbers p y ≡ number_in old p y) → i < length numbers → bucket ≡ get_or numbers i bucket
+    → IsUnchanged bucket new → number_in (set numbers i new) p y ≡ number_in old p y
 unfolding number_in
 same_number_in old numbers i bucket new p y same lt is un =
     rw (written numbers i bucket new (child_key p y) (λ o. o) lt is (ap (lookup (is_at (by_child (child_key p y)))) un) (λ ne. refl)) (same p y)

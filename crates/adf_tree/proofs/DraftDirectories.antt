@@ -35,7 +35,7 @@ dir_stays es e k t some le =
     let n : ℕ = place es (rank e) + 1 in
     let near = moved_near n k in
     let up = moved_up n k in
-    rw (dir_at (added es e) (moved n k) e (omega (arith, up)) (omega (arith, near, length_added es e t)), new_get es e k e t some le, dir_at es k e some le)
+    rw (dir_at (added es e) (moved n k) e (omega arith) (omega (arith, length_added es e t)), new_get es e k e t some le, dir_at es k e some le)
 
 -- it leads to the same directory, under its new number
 directory_stays : (es : List Entry) (e : Entry) (p : ℕ) (names : List (List ℕ)) (q : ℕ) → IsTree es → MayAdd es e → directory_from es p names ≡ Ok q
@@ -82,27 +82,28 @@ pub room_more : (es : List Entry) (names : List (List ℕ)) (x : List ℕ) → r
 room_more es names x = grind (arith, common_steps, length_push, ne_eqb, get_or_push, take-append_seam)
 
 -- a draft
-module _ (drafts : List Entry) (numbers : Numbers) (kind : Kind) (label : List ℕ) (stamps : Stamps) (h : IsDraft drafts numbers) where
+module _ {drafts : List Entry} {numbers : Numbers} {kind : Kind} {label : List ℕ} {stamps : Stamps} (h : IsDraft drafts numbers) where
   -- a directory has room for a name that none of its entries has, and for no other
   room_in_directory : (path : List (List ℕ)) (m : ℕ) (name : List ℕ) (o : Option ℕ)
       → IsDirectoryOf (draft_value kind label stamps (walk drafts)) path m → number_in numbers m (uppers name) ≡ o
       → room_for (walk drafts).entries (path ++ name ∷ []) ≡ free_in (node_of (walk drafts).nodes m) (option_map (node_of (walk drafts).nodes) o)
   room_in_directory path m name o is at = grind (arith, common_steps, room_more)
 
-  pub has_room_in : (path : List (List ℕ)) (m : ℕ) (name : List ℕ) → IsDirectoryOf (draft_value kind label stamps (walk drafts)) path m
+  pub has_room_in : {path : List (List ℕ)} {m : ℕ} (name : List ℕ) → IsDirectoryOf (draft_value kind label stamps (walk drafts)) path m
       → number_in numbers m (uppers name) ≡ None
       → IsRoomFor (draft_value kind label stamps (walk drafts)) (path ++ name ∷ []) (record { parent = m; name = name })
-  has_room_in path m name is at = grind (arith, common_steps, length_push, get_or_push, room_in_directory)
+  has_room_in name is at = grind (arith, common_steps, length_push, get_or_push, room_in_directory)
 
-  pub has_none_in : (path : List (List ℕ)) (m : ℕ) (name : List ℕ) (k : ℕ) → IsDirectoryOf (draft_value kind label stamps (walk drafts)) path m
+  pub has_none_in : {path : List (List ℕ)} {m k : ℕ} (name : List ℕ) → IsDirectoryOf (draft_value kind label stamps (walk drafts)) path m
       → number_in numbers m (uppers name) ≡ Some k
       → (let r : Result ℕ RoomFault = Err Exists in room_for (walk drafts).entries (path ++ name ∷ []) ≡ r)
-  has_none_in path m name k is at = room_in_directory path m name (Some k) is at
+  has_none_in {path} {m} {k} name is at = room_in_directory path m name (Some k) is at
 
   -- an entry is put in a room
-  module _ (path : List (List ℕ)) (room : Room) (is : IsRoomFor (draft_value kind label stamps (walk drafts)) path room) (meta : Meta) (body : Body) where
+  module _ {path : List (List ℕ)} {room : Room} (is : IsRoomFor (draft_value kind label stamps (walk drafts)) path room)
+      (meta : Meta) (body : Body) where
     may_put : MayAdd (walk drafts).entries (in_tree (walk drafts).nodes (put_in room meta body))
-    may_put = room_may drafts numbers kind label stamps path room h is meta body
+    may_put = room_may h is meta body
 
     one_more_node : length (walk (drafts ++ put_in room meta body ∷ [])).nodes ≡ length (walk drafts).nodes + 1
     one_more_node = grind (arith, common_steps, put_in, walked_more, length_push, length-map)
@@ -124,7 +125,7 @@ module _ (drafts : List Entry) (numbers : Numbers) (kind : Kind) (label : List �
         let n : ℕ = new_number (walk drafts) (put_in room meta body) in
         let more = one_more_node in
         let fresh : IsNew (walk drafts).entries path meta body (in_tree (walk drafts).nodes (put_in room meta body)) =
-        room_new drafts numbers kind label stamps path room h is meta body in
+        room_new h is meta body in
         record {
           within = omega arith;
           leads = rw (walked_more drafts (put_in room meta body), node_new (walk drafts).nodes n (length (walk drafts).nodes + 1) refl)
@@ -132,18 +133,14 @@ module _ (drafts : List Entry) (numbers : Numbers) (kind : Kind) (label : List �
               ∙ new_directory (walk drafts).entries (in_tree (walk drafts).nodes (put_in room meta body)) (parents_of path) h.gives.tree fresh.room dir);
         }
 
-    pub put_count : {E : Type 0} (new : List Entry) (r : Result (Unit {0}) E) → new ≡ (if is_ok r then drafts ++ put_in room meta body ∷ [] else drafts)
-        → OnOk r (length (walk new).nodes ≡ length (walk drafts).nodes + 1)
-    put_count new (Ok u) left = rw left one_more_node
-    put_count new (Err f) left = tt
+    module _ {E : Type 0} (new : List Entry) (r : Result (Unit {0}) E)
+        (left : new ≡ (if is_ok r then drafts ++ put_in room meta body ∷ [] else drafts)) where
+      pub put_count : OnOk r (length (walk new).nodes ≡ length (walk drafts).nodes + 1)
+      put_count = grind (arith, common_steps, one_more_node)
 
-    pub put_directories : {E : Type 0} (new : List Entry) (r : Result (Unit {0}) E)
-        → new ≡ (if is_ok r then drafts ++ put_in room meta body ∷ [] else drafts) → (other : List (List ℕ)) (m : ℕ)
-        → IsDirectoryOf (draft_value kind label stamps (walk drafts)) other m → IsDirectoryOf (draft_value kind label stamps (walk new)) other m
-    put_directories new (Ok u) left other m at = rw left (stays other m at)
-    put_directories new (Err f) left other m at = rw left at
+      pub put_directories : (other : List (List ℕ)) (m : ℕ) → IsDirectoryOf (draft_value kind label stamps (walk drafts)) other m
+          → IsDirectoryOf (draft_value kind label stamps (walk new)) other m
+      put_directories other m at = grind (arith, common_steps, stays)
 
-    pub put_directory : {E : Type 0} (new : List Entry) (r : Result (Unit {0}) E) → new ≡ (if is_ok r then drafts ++ put_in room meta body ∷ [] else drafts)
-        → body ≡ Dir → OnOk r (IsDirectoryOf (draft_value kind label stamps (walk new)) path (length (walk drafts).nodes + 1))
-    put_directory new (Ok u) left dir = rw left (is_new dir)
-    put_directory new (Err f) left dir = tt
+      pub put_directory : body ≡ Dir → OnOk r (IsDirectoryOf (draft_value kind label stamps (walk new)) path (length (walk drafts).nodes + 1))
+      put_directory dir = grind (arith, common_steps, is_new)

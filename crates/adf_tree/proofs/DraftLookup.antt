@@ -38,7 +38,8 @@ past es names o = elim o [ None ↦ Err NoParent | Some n ↦ if is_dir es n the
 -- what a look-up says of the next name of a path
 module _ {drafts : List Entry} {numbers : Numbers} (path : List (List ℕ)) (i : ℕ) {m : ℕ} {name : List ℕ} (h : IsDraft drafts numbers)
     (le : m ≤ length drafts) (lt : i < length path) (is : name ≡ get_or path i name) where
-  step_is : {o : Option ℕ} → number_in numbers m (uppers name) ≡ o → directory_from (walk drafts).entries (node_of (walk drafts).nodes m) (drop i path)
+  step_is : {o : Option ℕ} → number_in numbers m (uppers name) ≡ o
+      → directory_from (walk drafts).entries (node_of (walk drafts).nodes m) (drop i path)
       ≡ past (walk drafts).entries (drop (i + 1) path) (option_map (node_of (walk drafts).nodes) o)
   step_is at = rw (drop_more path i name lt, ← is) (ap (past (walk drafts).entries (drop (i + 1) path)) (rw at at (h.found.found m name le)))
 

@@ -21,7 +21,7 @@ abbrev pub put_in : Room → Meta → Body → Entry
 put_in room meta body = record { parent = room.parent; name = room.name; meta = meta; body = body }
 
 -- a draft, and a room of it
-module _ (drafts : List Entry) (numbers : Numbers) (kind : Kind) (label : List ℕ) (stamps : Stamps) (path : List (List ℕ)) (room : Room)
+module _ {drafts : List Entry} {numbers : Numbers} {kind : Kind} {label : List ℕ} {stamps : Stamps} {path : List (List ℕ)} {room : Room}
     (h : IsDraft drafts numbers) (is : IsRoomFor (draft_value kind label stamps (walk drafts)) path room) where
   pub room_within : room.parent ≤ length drafts
   room_within = omega (arith, is.within, h.gives.nodes)

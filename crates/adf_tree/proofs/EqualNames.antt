@@ -25,7 +25,9 @@ pub same_no : (l : Letters) (a b : List ℕ) (k : ℕ) → k < length a → k < 
     → bytes_eq (uppers_by l a) (uppers_by l b) ≡ false
 same_no l a b k la lb ne =
     false_from_ne_true (bytes_eq (uppers_by l a) (uppers_by l b))
-    (λ t. ne (rw (get_or-map (upper_by l) a k 0 0 la, get_or-map (upper_by l) b k 0 0 lb) at (ap (λ s. get_or s k 0) ((bytes_eq-Decides (uppers_by l a) (uppers_by l b)).0 t))))
+    (λ t.
+    let same : uppers_by l a ≡ uppers_by l b = (bytes_eq-Decides _ _).0 t in
+    ne (rw (get_or-map (upper_by l) a k 0 0 la, get_or-map (upper_by l) b k 0 0 lb) at (ap (λ s. get_or s k 0) same)))
 
 pub same_short : (l : Letters) (a b : List ℕ) → length a ≢ length b → bytes_eq (uppers_by l a) (uppers_by l b) ≡ false
 same_short l a b ne = grind (arith, common_steps, false_from_ne_true, length-map, bytes_eq-Decides)

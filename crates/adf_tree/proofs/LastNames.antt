@@ -47,7 +47,8 @@ pub place_past : (es : List Entry) (r from : ℕ) → IsPartitionPoint (λ e. na
 place_past [] r from parted all = refl
 place_past (e ∷ es) r from parted all =
     position_or_len_is (λ x. nat_lt r (rank x)) (e ∷ es) (length (e ∷ es)) e (omega arith)
-    (λ k lt. le-ltb r (rank (get_or (e ∷ es) k e)) (omega (arith, ltb-true (rank (get_or (e ∷ es) k e)) r (parted.0 k e (omega arith) (omega arith)))))
+    (λ k lt. let x = get_or (e ∷ es) k e in
+    le-ltb r (rank x) (omega (arith, ltb-true (rank x) r (parted.0 k e (omega arith) (omega arith)))))
     (λ lt. absurd (omega arith))
 
 -- a chain that begins

@@ -2,7 +2,7 @@
 use Rattle.std.proofs.Common.{◌≡◌, ◌==◌, ◌&&◌, ◌||◌, ◌⊎◌, inl, inr, ℕ, ◌+◌, ◌-◌, ◌<◌, ◌≤◌, List, [], ◌∷◌, ◌++◌, length}
 use Rattle.std.proofs.Common.{get_or, set, take, Bool, true, false, Option, Some, None, arith, sym, refl, zero, suc, ◌∙◌, ap, get_or-set_same}
 use Rattle.std.proofs.Common.{get_or-set_other}
-use Rattle.std.specs.Prelude.{◌^◌, slice_index}
+use Rattle.std.specs.Prelude.{◌^◌}
 use Rattle.std.specs.Ordering.{is_eq}
 use Rattle.std.specs.List.{slice_get}
 use Rattle.std.proofs.Math.Seq.{take-suc}
@@ -66,6 +66,9 @@ pub same_name : (h k : NameKey) (words answer : Bool)
     → is_eq (by_words k h) ≡ answer
 same_name h k words answer are at = rw (← same_either h k, same_words h k, ← are) at
 
+-- the search, bucket by bucket
+pub ruleset bucket_steps = (probe_start, probe_vacant, probe_stored, probe_next, probe_end, same_name)
+
 -- a name with a bucket is among the names
 stored_step : (names : Names) (i bucket : ℕ) (k : NameKey) (o : Option NameKey) (further : Probe) → slice_get names i ≡ o
     → (further ≡ Stored → is_among names k ≡ true) → probe_at bucket k o further ≡ Stored → is_among names k ≡ true
@@ -74,9 +77,7 @@ stored_step names i bucket k (Some h) further at more e = grind (arith, common_s
 
 stored_from : (names : Names) (buckets : List ℕ) (k : NameKey) (bucket n : ℕ) → probe_from names buckets k bucket n ≡ Stored → is_among names k ≡ true
 stored_from names buckets k bucket zero e = cc
-stored_from names buckets k bucket (suc n) e =
-    stored_step names (slice_index buckets bucket) bucket k (holder_of names buckets bucket) (probe_from names buckets k (bucket + 1) n) refl
-    (stored_from names buckets k (bucket + 1) n) e
+stored_from names buckets k bucket (suc n) e = grind (arith, common_steps, stored_step, (stored_from names buckets k (bucket + 1) n))
 
 -- where few names have buckets, the buckets tell all
 all_told : (count : ℕ) (s : Probe) → count < 2 ^ 32 → while_few count s ≡ s
@@ -162,9 +163,7 @@ gains_step : (names : Names) (buckets : List ℕ) (bucket from : ℕ) (name : Na
     → holder_of names buckets from ≡ o → bucket < length buckets → holder_of names buckets bucket ≡ None
     → (old ≡ Vacant bucket → new ≡ Stored) → probe_at from name o old ≡ Vacant bucket
     → probe_at from name (holder_of (names ++ name ∷ []) (set buckets bucket (length names)) from) new ≡ Stored
-gains_step names buckets bucket from name None old new at inside free more e =
-    let same : from ≡ bucket = cc in
-    rw (same, get_or-set_same buckets bucket (length names) 0 inside, get_last names name, same_itself name) refl
+gains_step names buckets bucket from name None old new at inside free more e = grind (arith, common_steps, get_or-set_same, get_last, same_itself)
 gains_step names buckets bucket from name (Some h) old new at inside free more e =
     rw (had names buckets bucket from name h free at)
     (elim (cases_Bool (is_eq (by_words name h))) [

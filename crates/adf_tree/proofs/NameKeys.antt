@@ -109,7 +109,8 @@ same_words a b = simp (then_is, same_number)
 pub same_itself : (a : NameKey) → is_eq (by_words a a) ≡ true
 same_itself a = grind (arith, common_steps, same_words, eq-eqb)
 
-pub equal_words : (a b : NameKey) → is_eq (by_words a b) ≡ true → (a.first ≡ b.first) × (a.second ≡ b.second) × (a.third ≡ b.third) × (a.fourth ≡ b.fourth)
+pub equal_words : (a b : NameKey) → is_eq (by_words a b) ≡ true
+    → (a.first ≡ b.first) × (a.second ≡ b.second) × (a.third ≡ b.third) × (a.fourth ≡ b.fourth)
 equal_words a b h = grind (arith, common_steps, and_parts, same_words, eqb-true)
 
 one_name : (x y : List ℕ) → is_short x ≡ true → is_short y ≡ true → is_eq (by_words (key_of_name x) (key_of_name y)) ≡ true → x ≡ y
@@ -132,7 +133,8 @@ unfolding has
 has_key names bytes short = rw short
 
 -- a set with one name more
-pub has_more : (old new : Names) (bytes x : List ℕ) → is_short bytes ≡ true → IsWith old new (key_of_name bytes) → has new x ≡ (bytes_eq bytes x || has old x)
+pub has_more : (old new : Names) (bytes x : List ℕ) → is_short bytes ≡ true → IsWith old new (key_of_name bytes)
+    → has new x ≡ (bytes_eq bytes x || has old x)
 unfolding has
 has_more old new bytes x short more = grind (arith, common_steps, cases_Bool, same_names, not_short)
 

@@ -43,8 +43,8 @@ pub record IsFirst (y : Entry) (p s : ℕ) (c : Content) : Type 0 where
   pub early : rank y ≤ rank_of p s
   pub same : in_chain p s y ≡ true → entry_content y ≡ c
 
-early_one : (y : Entry) (p s : ℕ) (l : List Entry) (c : Content) (cs : List Content) → All (λ w. rank y ≤ rank w) l → All (λ w. in_chain p s w ≡ true) l
-    → c ∷ cs ≡ map entry_content l → rank y ≤ rank_of p s
+early_one : (y : Entry) (p s : ℕ) (l : List Entry) (c : Content) (cs : List Content) → All (λ w. rank y ≤ rank w) l
+    → All (λ w. in_chain p s w ≡ true) l → c ∷ cs ≡ map entry_content l → rank y ≤ rank_of p s
 early_one y p s [] c cs later in_it h = cc
 early_one y p s (w ∷ ws) c cs later in_it h = omega (arith, chain_rank p s w (in_it 0 w (omega arith)), later 0 w (omega arith))
 

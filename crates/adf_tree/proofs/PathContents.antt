@@ -64,7 +64,8 @@ names_fuel es (suc f) (suc g) n t a b = fuel_past es f g (entry es n) (λ e h.
 fuel : (es : List Entry) (f g n : ℕ) → IsTree es → n ≤ f → n ≤ g → path_in es f n ≡ path_in es g n
 fuel es f g n t a b = sym (raised_names es f n) ∙ (ap (map uppers) (names_fuel es f g n t a b) ∙ raised_names es g n)
 
-child_path : (es : List Entry) (p : ℕ) (x : List ℕ) (k : ℕ) (d : Entry) → IsTree es → child es p x ≡ Some k → path_of es k ≡ path_of es p ++ uppers x ∷ []
+child_path : (es : List Entry) (p : ℕ) (x : List ℕ) (k : ℕ) (d : Entry) → IsTree es → child es p x ≡ Some k
+    → path_of es k ≡ path_of es p ++ uppers x ∷ []
 child_path es p x k d t h =
     let found = found_is es p x k d h in
     let says = child_says p x (get_or es (k - 1) d) found.2 in
@@ -75,7 +76,8 @@ child_path es p x k d t h =
     ∙ rw (says.0, says.1, fuel es (k - 1) p p t (omega (arith, small, says.0)) (omega arith)) refl)
 
 -- a path leads to the node whose path it is
-pub led : (es : List Entry) (p m : ℕ) (q : List (List ℕ)) (d : Entry) → IsTree es → find_from es p q ≡ Some m → path_of es m ≡ path_of es p ++ map uppers q
+pub led : (es : List Entry) (p m : ℕ) (q : List (List ℕ)) (d : Entry) → IsTree es → find_from es p q ≡ Some m
+    → path_of es m ≡ path_of es p ++ map uppers q
 led es p m [] d t h = let same : m ≡ p = cc in rw same (sym (append-nil (path_of es p)))
 led es p m (x ∷ xs) d t h =
     (elim (child es p x) as (λ o. child es p x ≡ o → then_find es xs o ≡ Some m → path_of es m ≡ path_of es p ++ (uppers x ∷ map uppers xs)) [
@@ -179,11 +181,11 @@ directory_found es p (x ∷ xs) q h =
     let next = next_dir es xs q (child es p x) h in
     ap (then_find es xs) next.1 ∙ directory_found es next.0 xs q next.3
 
-pub adds_one : (es : List Entry) (e : Entry) (parents path : List (List ℕ)) → IsTree es → room_at es e.name (directory_from es 0 parents) ≡ Ok e.parent
-    → path ≡ parents ++ e.name ∷ [] → AddsOne es (added es e) e path
+pub adds_one : (es : List Entry) (e : Entry) (parents path : List (List ℕ)) → IsTree es
+    → room_at es e.name (directory_from es 0 parents) ≡ Ok e.parent → path ≡ parents ++ e.name ∷ [] → AddsOne es (added es e) e path
 adds_one es e parents path t room is = grind (arith, common_steps, room_may_add, directory_found, room_says, content_new, content_old, chain_added)
 
-pub added_paths : {E : Type 0} (r : Result (Unit {0}) E) (es new : List Entry) (e : Entry) (path : List (List ℕ)) (meta : Meta) (body : Body) → IsTree es
-    → IsNew es path meta body e → new ≡ (if is_ok r then added es e else es) → OnOk r (AddsOne es new (new_entry es path meta body) path)
+pub added_paths : {E : Type 0} (r : Result (Unit {0}) E) (es new : List Entry) (e : Entry) (path : List (List ℕ)) (meta : Meta) (body : Body)
+    → IsTree es → IsNew es path meta body e → new ≡ (if is_ok r then added es e else es) → OnOk r (AddsOne es new (new_entry es path meta body) path)
 added_paths (Ok u) es new e path meta body t fresh h = grind (arith, common_steps, adds_one)
 added_paths (Err f) es new e path meta body t fresh h = tt

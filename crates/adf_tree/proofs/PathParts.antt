@@ -1,5 +1,5 @@
 -- The parts of a path's text between `/`.
-use Rattle.std.proofs.Common.{◌≡◌, ◌≢◌, ◌↔◌, Bor, Option, Some, None, ℕ, ◌+◌, ◌<◌, ◌/◌, List, [], ◌∷◌, ◌++◌, length, get_or, take}
+use Rattle.std.proofs.Common.{◌≡◌, ◌≢◌, ◌↔◌, Bor, Option, Some, None, ℕ, ◌+◌, ◌<◌, List, [], ◌∷◌, ◌++◌, length, get_or, take}
 use Rattle.std.proofs.Common.{map, Bool, true, false, arith, sym, refl, ◌∙◌, ap, ◌==◌, ◌&&◌, nat_le}
 use Rattle.std.specs.Prelude.{IsSome, IfNone, IfSome, is_some}
 use Rattle.std.proofs.Math.Seq.{get_or-append_seam}
@@ -44,8 +44,7 @@ pub parts_of_path : (name : List ℕ) (names : List (List ℕ)) → All IsName (
     → between_slashes (path_text (name ∷ names)) ≡ map escaped (name ∷ names)
 parts_of_path name [] h = slice_split_none is_slash (escaped name) (no_slash name (All-head IsName name [] h))
 parts_of_path name (next ∷ names) h =
-    slice_split_at is_slash (escaped name) 47 (path_text (next ∷ names)) (no_slash name (All-head IsName name (next ∷ names) h)) refl
-    ∙ ap (λ ps. escaped name ∷ ps) (parts_of_path next names (All-tail IsName name (next ∷ names) h))
+    grind (arith, common_steps, slice_split_at, no_slash, All-head, All-tail, (parts_of_path next names (All-tail IsName name (next ∷ names) h)))
 
 parts_of_some : (path : List (List ℕ)) → 0 < length (path_text path) → All IsName path → between_slashes (path_text path) ≡ map escaped path
 parts_of_some [] some h = absurd (omega arith)
@@ -55,7 +54,8 @@ pub parts_of_text : (text : List ℕ) (path : List (List ℕ)) → 0 < length te
 parts_of_text text path some h = grind (arith, common_steps, parts_of_some)
 
 -- a part that spells no name
-pub bad_part : (text part rest : List ℕ) (names more : List (List ℕ)) → 0 < length text → between_slashes text ≡ map escaped names ++ between_slashes rest
+pub bad_part : (text part rest : List ℕ) (names more : List (List ℕ)) → 0 < length text
+    → between_slashes text ≡ map escaped names ++ between_slashes rest
     → between_slashes rest ≡ part ∷ more → ((name : List ℕ) → IsName name → part ≢ escaped name) → (path : List (List ℕ)) → ¬ IsPathText text path
 bad_part text part rest names more some split cut none path h =
     let front : List (List ℕ) = map escaped names in
@@ -103,6 +103,9 @@ pub some_name : (r : Option (List ℕ)) (part : List ℕ) → is_some r ≡ true
 some_name (Some name) part h is ok = (name, is, ok)
 some_name None part h is ok = cc
 
+-- the names of a path, part by part
+pub ruleset name_steps = (part_first, bad_part, last_part, last_name)
+
 -- so a text is that of one path at most
 
 nothing_spelled : (name : List ℕ) → is_name name ≡ true → escaped name ≢ []
@@ -143,11 +146,7 @@ no_name None text bytes h allowed = λ name is e.
 pub path_text_more : (path : List (List ℕ)) (name : List ℕ) → path_text (path ++ name ∷ []) ≡ with_name (path_text path) name (length path == 0)
 path_text_more [] name = refl
 path_text_more (first ∷ []) name = sym (append_assoc (escaped first) (47 ∷ []) (escaped name))
-path_text_more (first ∷ next ∷ names) name =
-    let rest : List ℕ = path_text (next ∷ names) in
-    rw (path_text_more (next ∷ names) name, ne_eqb (length (next ∷ names)) 0 (omega arith), ne_eqb (length (first ∷ next ∷ names)) 0 (omega arith))
-    (sym (append_assoc (escaped first) (47 ∷ (rest ++ 47 ∷ [])) (escaped name))
-    ∙ ap (λ t. t ++ escaped name) (sym (append_assoc (escaped first) (47 ∷ rest) (47 ∷ []))))
+path_text_more (first ∷ next ∷ names) name = grind (arith, common_steps, ne_eqb, append_assoc, (path_text_more (next ∷ names) name))
 
 pub path_text_step : (path : List (List ℕ)) (i : ℕ) (name text : List ℕ) → i < length path → name ≡ get_or path i name
     → text ≡ with_name (path_text (take i path)) name (i == 0) → text ≡ path_text (take (i + 1) path)

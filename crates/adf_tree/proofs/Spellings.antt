@@ -45,7 +45,8 @@ rest_spelled (c ∷ cs) (d ∷ ds) rest x y h =
     (more.0, ap (λ k. k ∷ ds) both.0 ∙ ap (λ zs. c ∷ zs) more.1, more.2)
 
 -- one byte more is read
-pub read_more : (text done rest after : List ℕ) (c : ℕ) → text ≡ escaped done ++ rest → rest ≡ escape_of c ++ after → text ≡ escaped (done ++ c ∷ []) ++ after
+pub read_more : (text done rest after : List ℕ) (c : ℕ) → text ≡ escaped done ++ rest → rest ≡ escape_of c ++ after
+    → text ≡ escaped (done ++ c ∷ []) ++ after
 read_more text done rest after c h g = grind (arith, common_steps, flat_map-append, append-nil, append_assoc)
 
 some_more : (done rest bytes more : List ℕ) → 0 < length rest → bytes ≡ done ++ more → escaped more ≡ rest
@@ -77,8 +78,8 @@ too_many most text done rest h x some full bytes spelling =
     omega (arith, spelling.short, full, ap length next.2, length-append done (next.0 ∷ next.1))
 
 -- all was read
-pub whole_spelling : (most : ℕ) (text done rest : List ℕ) → text ≡ escaped done ++ rest → All (λ c. c < 256) done → length done ≤ most → length rest ≡ 0
-    → IsSpelling most text done
+pub whole_spelling : (most : ℕ) (text done rest : List ℕ) → text ≡ escaped done ++ rest → All (λ c. c < 256) done → length done ≤ most
+    → length rest ≡ 0 → IsSpelling most text done
 whole_spelling most text done [] h x short end = record { spells = h ∙ append-nil (escaped done); are_bytes = x; short = short }
 whole_spelling most text done (c ∷ cs) h x short end = absurd (omega arith)
 

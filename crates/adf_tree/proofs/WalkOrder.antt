@@ -7,6 +7,7 @@ use Rattle.adf_tree.specs.declared.entry.Entry.{Entry}
 use Rattle.adf_tree.specs.Tree.{place, rank}
 use Rattle.std.specs.List.{insert}
 use Rattle.std.proofs.lemmas.List.{append_assoc, take_at, drop_at, length-take-le, drop_all, append-nil, take_all, length-append}
+use Rattle.std.proofs.lemmas.Grind.{common_steps}
 
 pub place_is : (es : List Entry) (r i : ℕ) → i ≤ length es → IsPartitionPoint (λ e. nat_le (rank e) r ≡ true) (λ e. nat_le (rank e) r ≡ false) es i
     → i ≡ place es r
@@ -27,5 +28,4 @@ inserted_mapped f xs i y le =
 
 -- a list that was written whole
 pub written_whole : {X : Type 0} (n : ℕ) (xs ys : List X) → length ys ≡ n → length xs ≡ n → take n (ys ++ drop (length ys) xs) ≡ ys
-written_whole n xs ys h k =
-    rw (drop_all (length ys) xs (omega arith), append-nil ys, take_all n ys (omega arith))
+written_whole n xs ys h k = grind (arith, common_steps, drop_all, append-nil, take_all)

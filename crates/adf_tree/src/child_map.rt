@@ -87,6 +87,7 @@ impl ChildMap {
         number_at(&self.buckets[bucket], &key)
     }
 
+    #[tactic(auto, using(crate::proofs::ChildMaps::no_more))]
     // Allocates the buckets that are missing.
     fn make_buckets(&mut self) -> Result<(), NoMemory>
         ensures same { (p : ℕ) (x : List ℕ)
@@ -102,6 +103,7 @@ impl ChildMap {
         Ok(())
     }
 
+    #[tactic(auto, using(crate::proofs::ChildMaps::has_number, crate::proofs::ChildMaps::same_number_in))]
     /// Adds an entry. On `NoMemory` the map is unchanged.
     pub fn put(&mut self, parent: Node, name: &Name, number: Node) -> Result<(), NoMemory>
         ensures more { OnOk result

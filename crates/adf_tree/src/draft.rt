@@ -45,6 +45,7 @@ pub struct Room {
     pub name: Name,
 }
 
+#[tactic(auto, using(crate::proofs::DraftLookup::step_none))]
 // The directory that the path leads to, by number of addition.
 fn directory(entries: &[Entry], children: &ChildMap, path: &[Name]) -> Result<Node, RoomFault>
     requires { IsDraft entries.now children.now.buckets.items }
@@ -169,6 +170,7 @@ impl Draft {
         Ok(Room { parent, name })
     }
 
+    #[tactic(auto, using(crate::proofs::DraftDirectories::put_count, crate::proofs::DraftDirectories::put_directory))]
     /// Adds an entry in a room of this draft, without another look-up. On `NoMemory` the draft is unchanged.
     pub fn put(&mut self, room: &Room, meta: Meta, body: Body) -> Result<(), NoMemory>
         requires room { (path : List (List ℕ)) × IsRoomFor self.old path room.now }

@@ -71,6 +71,7 @@ impl LastChain {
         self.slot = slot;
     }
 
+    #[tactic(auto, using(crate::proofs::LastNames::at_ok))]
     // Adds a name; if memory is refused, forgets all of them.
     fn put(&mut self, name: &Name)
         ensures { Puts self.old self.new (uppers name.now) }
@@ -80,6 +81,7 @@ impl LastChain {
         }
     }
 
+    #[tactic(auto, using(crate::proofs::LastNames::begun, crate::proofs::LastNames::place_past))]
     // Prepares for an entry of this parent and slot: keeps names only if they are those of the last chain.
     fn prepare(&mut self, entries: &[Entry], parent: Node, slot: u8)
         requires slot { slot < 72 }

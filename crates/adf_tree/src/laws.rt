@@ -7,11 +7,13 @@ pub fn entries_stand_in_one_chain()
     ensures { EntriesStandInOneChain }
 {}
 
+#[tactic(auto, using(crate::proofs::ChildLookup::same_slot))]
 /// Names that are equal ignoring case have the same slot.
 pub fn case_keeps_slots()
     ensures { CaseKeepsSlots }
 {}
 
+#[tactic(auto, using(crate::proofs::PathContents::find_uppers))]
 /// Paths that are equal ignoring case lead to the same node.
 pub fn case_keeps_paths()
     ensures { CaseKeepsPaths }
@@ -22,16 +24,19 @@ pub fn children_are_found()
     ensures { ChildrenAreFound }
 {}
 
+#[tactic(auto, using(crate::proofs::EntryPaths::path_found))]
 /// Each entry is found under its path.
 pub fn paths_are_found()
     ensures { PathsAreFound }
 {}
 
+#[tactic(auto, using(crate::proofs::EntryPaths::names_found))]
 /// Each entry is found under its names as written, from the root on.
 pub fn names_are_found()
     ensures { NamesAreFound }
 {}
 
+#[tactic(auto, using(crate::proofs::TreePrefixes::is_next))]
 /// Adding the entries of a tree in their order gives the same tree.
 pub fn trees_grow_in_order()
     ensures { TreesGrowInOrder }

@@ -20,6 +20,7 @@ fn is_child(e: &Entry, parent: Node, name: &Name) -> bool
     e.parent.0 == parent.0 && e.name.same(name)
 }
 
+#[tactic(auto, using(crate::proofs::ChildLookup::child_found))]
 // The number of the entry with this parent and this name.
 fn child(entries: &[Entry], parent: Node, name: &Name) -> Option<Node>
     requires { IsNonDecreasingBy rank entries.now }
@@ -104,6 +105,7 @@ fn directory(entries: &[Entry], path: &[Name]) -> Result<Node, RoomFault>
     Ok(node)
 }
 
+#[tactic(auto, using(crate::proofs::LastNames::known_child))]
 // Whether an entry has this parent and this name; the last chain needs no scan.
 fn is_taken(entries: &[Entry], chain: &LastChain, parent: Node, name: &Name) -> bool
     requires order { IsNonDecreasingBy rank entries.now }

@@ -26,6 +26,7 @@ fn hashed(number: u64, word: u64) -> u64
     number.wrapping_mul(FACTOR).wrapping_add(word)
 }
 
+#[tactic(auto, using(crate::proofs::NameKeys::short_name, crate::proofs::NameKeys::next_byte, crate::proofs::NameKeys::whole))]
 // The length of a name, its bytes in upper case, and zeros.
 fn padded(name: &[u8]) -> [u8; 32]
     requires { length name.now ≤ 30 }

@@ -72,6 +72,7 @@ fn holder(names: &[NameKey], buckets: &[u32], bucket: usize) -> Option<NameKey>
     names.get(place as usize).copied()
 }
 
+#[tactic(auto, using(crate::proofs::NameBuckets::bucket_steps))]
 // Searches the buckets of a name.
 fn probe_buckets(names: &[NameKey], buckets: &[u32], name: NameKey) -> Probe
     ensures exact { result ≡ probe_buckets names.now buckets.now name }
@@ -111,6 +112,7 @@ fn probe_of(names: &[NameKey], buckets: &[u32], name: NameKey) -> Probe
     }
 }
 
+#[tactic(auto, using(crate::proofs::NameBuckets::stored_among))]
 // Whether a name has a bucket or is in the overflow.
 fn is_in(names: &[NameKey], buckets: &[u32], overflow: &BTreeSet<NameKey>, name: NameKey) -> bool
     requires { AreStored names.now buckets.now overflow.now.keys }
@@ -142,6 +144,7 @@ fn double_buckets(buckets: &mut Vec<u32>) -> Result<(), NoMemory>
     }
 }
 
+#[tactic(auto, using(crate::proofs::NameBuckets::stored_new))]
 // Puts a new name in its vacant bucket.
 fn fill_bucket(
     names: &mut Vec<NameKey>,
@@ -176,6 +179,7 @@ fn put_in_overflow(overflow: &mut BTreeSet<NameKey>, name: NameKey) -> Result<bo
     }
 }
 
+#[tactic(auto, using(crate::proofs::NameBuckets::stored_among, crate::proofs::NameBuckets::with_same))]
 // Adds a name; returns whether it is new.
 fn place(
     names: &mut Vec<NameKey>,
@@ -279,6 +283,7 @@ impl NameSet {
         }
     }
 
+    #[tactic(auto, using(crate::proofs::NameKeys::has_key))]
     /// Whether the set has the name, ignoring case.
     pub fn has(&self, name: &Name) -> bool
         ensures { result ≡ has self.now (uppers name.now) }
@@ -287,6 +292,7 @@ impl NameSet {
         is_in(&self.stored, &self.buckets, &self.overflow, key)
     }
 
+    #[tactic(auto, using(crate::proofs::NameKeys::has_key, crate::proofs::NameKeys::has_more))]
     /// Adds a name; returns whether it is new. `NoMemory` if an allocation fails.
     pub fn put(&mut self, name: &Name) -> Result<bool, NoMemory>
         ensures new { IfOk result (λ is_new. is_new ≡ not (has self.old (uppers name.now))) }

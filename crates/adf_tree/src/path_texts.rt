@@ -48,6 +48,7 @@ impl fmt::Display for PathFault {
 
 impl Error for PathFault {}
 
+#[tactic(auto, using(crate::proofs::PathParts::no_name))]
 // The name whose escape form is the text.
 fn read_name(text: &[u8]) -> Option<Name>
     ensures some { IfSome result (λ n. text.now ≡ escaped n) }
@@ -65,6 +66,7 @@ fn slash(text: &[u8]) -> Option<usize>
     text.iter().position(|c| *c == b'/')
 }
 
+#[tactic(auto, using(crate::proofs::Lists::cut_at_position, crate::proofs::Lists::uncut_at_none))]
 // The part of a text before the first `/`, and the part after it.
 fn cut(text: &[u8]) -> (&[u8], Option<&[u8]>)
     ensures last { IfNone result.1 (between_slashes text.now ≡ result.0.now ∷ []) }
@@ -78,6 +80,7 @@ fn cut(text: &[u8]) -> (&[u8], Option<&[u8]>)
     }
 }
 
+#[tactic(auto, using(crate::proofs::PathParts::name_steps, crate::proofs::PathParts::at_none))]
 // Whether the text is that of a path.
 fn has_names(text: &[u8]) -> bool
     requires { 0 < length text.now }
@@ -97,6 +100,7 @@ fn has_names(text: &[u8]) -> bool
     }
 }
 
+#[tactic(auto, using(crate::proofs::PathParts::name_steps))]
 // The names of the text of a path.
 fn names_of(alloc: Global, text: &[u8]) -> Result<Vec<Name>, PathFault>
     requires { 0 < length text.now }
@@ -169,6 +173,7 @@ pub fn write_path(alloc: Global, path: &[Name]) -> Result<String, NoMemory>
     joined(alloc, path).map_err(|_| NoMemory)
 }
 
+#[tactic(auto, using(crate::proofs::PathParts::one_path))]
 /// A text is that of at most one path, so `read_path` inverts `write_path`.
 pub fn path_texts_decide()
     ensures { PathTextsDecide }

@@ -78,6 +78,7 @@ fn renumber(entries: &mut [Entry], at: usize)
     renumber_all(&mut entries[at + 1..count], Node(at + 1));
 }
 
+#[tactic(auto, using(crate::proofs::WalkOrder::inserted_mapped, crate::proofs::WalkOrder::written_whole))]
 /// Adds an entry after all entries of the same or a lower parent and slot.
 pub fn insert_entry(entries: &mut Vec<Entry>, entry: Entry) -> Result<(), AddFault>
     requires tree { IsTree entries.old.items }

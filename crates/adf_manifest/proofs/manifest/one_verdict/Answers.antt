@@ -1,7 +1,7 @@
 use Rattle.std.proofs.Common.{◌∙◌, sym}
 use Rattle.adf_manifest.specs.Manifest.{lines}
 use Rattle.adf_manifest.proofs.Faults.{faultless, one_fault}
-use Rattle.adf_manifest.proofs.TreesOfLines.{adding_lines, one_tree_of}
+use Rattle.adf_manifest.proofs.TreesOfLines.{one_tree_of}
 use Rattle.adf_manifest.proofs.Verdicts.{one_told}
 use Rattle.adf_manifest.proofs.manifest.one_verdict.Goals as goal
 
@@ -17,6 +17,3 @@ returns-clause-faultless c = λ bytes tree n number kind m f. faultless m.1.0 (l
 
 pub returns-clause-one_fault : goal.returns-clause-one_fault
 returns-clause-one_fault c = one_fault
-
-pub returns-clause-adding : goal.returns-clause-adding
-returns-clause-adding c = adding_lines

@@ -1,12 +1,8 @@
-use Rattle.std.proofs.Common.{◌≡◌, ◌∙◌, ap, arith, false, rules, sym, true}
+use Rattle.std.proofs.Common.{◌≡◌, ◌∙◌, ap, false, rules, sym, true}
 use Rattle.std.specs.List.{list_all}
-use Rattle.std.proofs.lemmas.Grind.{common_steps}
 use Rattle.adf_tree.proofs.Spellings.{only_spelled}
 use Rattle.adf_tree.specs.Texts.{is_name_byte}
 use Rattle.adf_partitions.proofs.plan_line.read_name.Goals as goal
-
-pub returns-then-is_empty-clause-none : goal.returns-then-is_empty-clause-none
-returns-then-is_empty-clause-none c = grind (arith, common_steps, only_spelled)
 
 pub returns-else-are_name_bytes-clause-none : goal.returns-else-are_name_bytes-clause-none
 returns-else-are_name_bytes-clause-none c = λ name spells some ok.

@@ -1,17 +1,9 @@
-use Rattle.std.proofs.Common.{arith}
-use Rattle.std.proofs.lemmas.Grind.{common_steps}
 use Rattle.adf_partitions.specs.PlanTexts.{IsPartitionLine, first_line}
-use Rattle.adf_partitions.proofs.TextLines.{first_of_lines, line_added, line_taken, lines_ended, on_err}
+use Rattle.adf_partitions.proofs.TextLines.{first_of_lines, lines_ended, on_err}
 use Rattle.adf_partitions.proofs.plan_text.read_lines.Goals as goal
 
 pub returns-in-None-clause-lines : goal.returns-in-None-clause-lines
 returns-in-None-clause-lines c = lines_ended c.args.text.now c.loop-partition.left.now c.loop-partition.partitions.items c.loop-partition.invariant
-
-pub loop-partition-smaller : goal.loop-partition-smaller
-loop-partition-smaller c = grind (arith, common_steps, line_taken)
-
-pub loop-partition-preserved : goal.loop-partition-preserved
-loop-partition-preserved c = grind (arith, common_steps, line_added)
 
 pub returns-in_err-push-in-Some-clause-begun : goal.returns-in_err-push-in-Some-clause-begun
 returns-in_err-push-in-Some-clause-begun c =

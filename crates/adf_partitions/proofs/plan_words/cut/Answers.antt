@@ -1,20 +1,11 @@
 use Rattle.std.proofs.Common.{arith, refl}
 use Rattle.std.proofs.lemmas.List.{drop_all, take_rest}
 use Rattle.std.proofs.lemmas.Grind.{common_steps}
-use Rattle.adf_partitions.proofs.Cuts.{cut_nowhere, cut_past, cut_there}
+use Rattle.adf_partitions.proofs.Cuts.{cut_nowhere, cut_past}
 use Rattle.adf_partitions.proofs.plan_words.cut.Goals as goal
-
-pub returns-then-text-i-clause-front : goal.returns-then-text-i-clause-front
-returns-then-text-i-clause-front c = grind (arith, common_steps, cut_there)
-
-pub returns-then-text-i-clause-rest : goal.returns-then-text-i-clause-rest
-returns-then-text-i-clause-rest c = grind (arith, common_steps, take_rest, cut_there)
 
 pub loop-i-preserved : goal.loop-i-preserved
 loop-i-preserved c = cut_past c.args.byte c.args.text.now c.loop-i.i _ c.loop-i.invariant c.loop-i-test.true refl c.if-text-i.false
-
-pub returns-clause-front : goal.returns-clause-front
-returns-clause-front c = (cut_nowhere c.args.byte c.args.text.now c.loop-i.i c.loop-i.invariant (omega (arith, c.loop-i-test.false))).0
 
 pub returns-clause-rest : goal.returns-clause-rest
 returns-clause-rest c = grind (arith, common_steps, take_rest, drop_all, cut_nowhere)

@@ -1,16 +1,9 @@
 use Rattle.std.proofs.Common.{◌≡◌, ◌+◌, ◌++◌, ap, arith, drop, rules, ◌∙◌}
-use Rattle.std.proofs.lemmas.Grind.{common_steps}
 use Rattle.adf_partitions.specs.Plans.{plan_value}
 use Rattle.adf_partitions.specs.WrittenTables.{part_block, part_blocks, written_bytes}
-use Rattle.adf_partitions.proofs.PlanSizes.{cylinders_at, cylinders_fit, plans_at}
+use Rattle.adf_partitions.proofs.PlanSizes.{cylinders_at, plans_at}
 use Rattle.adf_partitions.proofs.PlannedVolumes.{part_put, parts_end}
 use Rattle.adf_partitions.proofs.tables_out.written_bytes.Goals as goal
-
-pub part_bytes-requires-clause-within : goal.part_bytes-requires-clause-within
-part_bytes-requires-clause-within c = grind (arith, common_steps, cylinders_at)
-
-pub overflow_add-low : goal.overflow_add-low
-overflow_add-low c = grind (arith, common_steps, cylinders_at, cylinders_fit)
 
 pub loop-i-preserved : goal.loop-i-preserved
 loop-i-preserved c =

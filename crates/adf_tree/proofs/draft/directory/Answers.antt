@@ -1,10 +1,6 @@
-use Rattle.std.proofs.Common.{sym, ◌∙◌, arith}
-use Rattle.std.proofs.lemmas.Grind.{common_steps}
-use Rattle.adf_tree.proofs.DraftLookup.{step_none, step_to, step_within}
+use Rattle.std.proofs.Common.{sym, ◌∙◌}
+use Rattle.adf_tree.proofs.DraftLookup.{step_to, step_within}
 use Rattle.adf_tree.proofs.draft.directory.Goals as goal
-
-pub returns-in-None-clause-room : goal.returns-in-None-clause-room
-returns-in-None-clause-room c = grind (arith, common_steps, step_none)
 
 pub returns-then-not-is_dir-clause-room : goal.returns-then-not-is_dir-clause-room
 returns-then-not-is_dir-clause-room c =

@@ -4,7 +4,7 @@ use Rattle.std.specs.Result.{result_ok}
 use Rattle.std.proofs.lemmas.Bool.Decides.{nat_tests}
 use Rattle.std.proofs.lemmas.List.{length-append}
 use Rattle.std.proofs.lemmas.Grind.{common_steps}
-use Rattle.adf_tree.proofs.Spellings.{read_more, no_spelling, too_many, whole_spelling}
+use Rattle.adf_tree.proofs.Spellings.{read_more, no_spelling, too_many}
 use Rattle.adf_tree.proofs.escapes.read_escaped.Goals as goal
 
 at_err : {T E P : Type 0} (r : Result T E) → result_ok r ≡ None → OnErr r P → P
@@ -32,6 +32,3 @@ returns-in_err-ok-clause-none g c =
 
 pub loop-rest-preserved : goal.loop-rest-preserved
 loop-rest-preserved g c = grind (arith, common_steps, at_ok, read_more, length-append)
-
-pub returns-clause-some : goal.returns-clause-some
-returns-clause-some g c = grind (arith, common_steps, nat_tests, whole_spelling)

@@ -1,16 +1,12 @@
 use Rattle.std.proofs.Common.{arith, sym, ◌∙◌, ap}
-use Rattle.std.proofs.lemmas.Grind.{common_steps}
 use Rattle.adf_base.specs.Hash.{slot_of}
-use Rattle.adf_tree.proofs.ChildLookup.{child_found, child_not_before, child_not_past, no_children}
+use Rattle.adf_tree.proofs.ChildLookup.{child_not_before, child_not_past, no_children}
 use Rattle.adf_tree.proofs.lookup.child.Goals as goal
 
 pub loop-i-init : goal.loop-i-init
 loop-i-init c =
     child_not_before c.args.entries.now c.args.parent c.args.name.now c.slot-slot.result c.start_of-start.result
     (c.slot-slot.ensures.exact ∙ ap slot_of c.bytes.ensures.bytes) c.start_of-start.ensures.parted
-
-pub returns-then-is_child : goal.returns-then-is_child
-returns-then-is_child c = grind (arith, common_steps, child_found)
 
 pub returns : goal.returns
 returns c =

@@ -1,45 +1,27 @@
-use Rattle.std.proofs.Common.{List, arith}
-use Rattle.std.proofs.lemmas.Grind.{common_steps}
-use Rattle.adf_tree.specs.declared.entry.Entry.{Entry}
 use Rattle.adf_tree.proofs.DraftInvariant.{kept_draft}
-use Rattle.adf_tree.proofs.DraftDirectories.{put_count, put_directories, put_directory}
+use Rattle.adf_tree.proofs.DraftDirectories.{put_directories}
 use Rattle.adf_tree.proofs.DraftRooms.{put_in, put_paths, put_tree, room_may, room_within}
 use Rattle.adf_tree.proofs.draft.Draft.put.Goals as goal
 
 pub invariant_of-self : goal.invariant_of-self
 invariant_of-self c =
-    let in_room = c.requires.room in
-    let is = rw (← c.self.view_is) at in_room.1 in
-    let drafts : List Entry = c.self.inside.entries.items in
-    kept_draft drafts c.add_child.new.entries.items c.self.inside.children.buckets.items c.add_child.new.children.buckets.items c.add_child.result
-    (put_in c.args.room.now c.args.meta c.args.body) c.self.invariant
-    (room_within drafts c.self.inside.children.buckets.items c.self.inside.kind c.self.inside.label c.self.inside.stamps in_room.0 c.args.room.now
-    c.self.invariant is)
-    (room_may drafts c.self.inside.children.buckets.items c.self.inside.kind c.self.inside.label c.self.inside.stamps in_room.0 c.args.room.now
-    c.self.invariant is c.args.meta c.args.body)
-    (rw c.copy-name.ensures at c.add_child.ensures.entries)
+    let is = rw (← c.self.view_is) at c.requires.room.1 in
+    kept_draft c.self.inside.entries.items c.add_child.new.entries.items c.self.inside.children.buckets.items c.add_child.new.children.buckets.items
+    c.add_child.result (put_in c.args.room.now c.args.meta c.args.body) c.self.invariant (room_within c.self.invariant is)
+    (room_may c.self.invariant is c.args.meta c.args.body) (rw c.copy-name.ensures at c.add_child.ensures.entries)
     (rw c.copy-name.ensures at c.add_child.ensures.more) c.add_child.ensures.same
 
 pub returns-clause-paths : goal.returns-clause-paths
 returns-clause-paths c = rw (← c.self.view_is) (λ path is.
-    put_paths c.self.inside.entries.items c.self.inside.children.buckets.items c.self.inside.kind c.self.inside.label c.self.inside.stamps path
-    c.args.room.now c.self.invariant is c.add_child.new.entries.items c.add_child.result c.args.meta c.args.body
+    put_paths c.self.invariant is c.add_child.new.entries.items c.add_child.result c.args.meta c.args.body
     (rw c.copy-name.ensures at c.add_child.ensures.entries))
 
 pub returns-clause-tree : goal.returns-clause-tree
 returns-clause-tree c = rw (← c.self.view_is) (λ path is.
-    put_tree c.self.inside.entries.items c.self.inside.children.buckets.items c.self.inside.kind c.self.inside.label c.self.inside.stamps path
-    c.args.room.now c.self.invariant is c.add_child.new.entries.items c.add_child.result c.args.meta c.args.body
+    put_tree c.self.invariant is c.add_child.new.entries.items c.add_child.result c.args.meta c.args.body
     (rw c.copy-name.ensures at c.add_child.ensures.entries))
-
-pub returns-clause-count : goal.returns-clause-count
-returns-clause-count c = grind (arith, common_steps, put_count)
 
 pub returns-clause-directories : goal.returns-clause-directories
 returns-clause-directories c = rw (← c.self.view_is) (λ path other m is.
-    put_directories c.self.inside.entries.items c.self.inside.children.buckets.items c.self.inside.kind c.self.inside.label c.self.inside.stamps
-    c.self.invariant path c.args.room.now is c.args.meta c.args.body c.add_child.new.entries.items c.add_child.result
+    put_directories c.self.invariant is c.args.meta c.args.body c.add_child.new.entries.items c.add_child.result
     (rw c.copy-name.ensures at c.add_child.ensures.entries) other m)
-
-pub returns-clause-directory : goal.returns-clause-directory
-returns-clause-directory c = grind (arith, common_steps, put_directory)

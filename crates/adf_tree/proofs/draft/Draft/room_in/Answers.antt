@@ -4,10 +4,8 @@ use Rattle.adf_tree.proofs.draft.Draft.room_in.Goals as goal
 
 pub returns-in-None-clause-some : goal.returns-in-None-clause-some
 returns-in-None-clause-some c = rw (← c.self.view_is, c.copy.ensures) (λ path is.
-    has_room_in c.self.inside.entries.items c.self.inside.children.buckets.items c.self.inside.kind c.self.inside.label c.self.inside.stamps
-    c.self.invariant path c.args.directory c.args.name.now is (sym c.get.ensures ∙ c.in-None.is))
+    has_room_in c.self.invariant c.args.name.now is (sym c.get.ensures ∙ c.in-None.is))
 
 pub returns-in-Some-clause-none : goal.returns-in-Some-clause-none
 returns-in-Some-clause-none c = rw (← c.self.view_is) (λ path is.
-    has_none_in c.self.inside.entries.items c.self.inside.children.buckets.items c.self.inside.kind c.self.inside.label c.self.inside.stamps
-    c.self.invariant path c.args.directory c.args.name.now c.in-Some.field-0 is (sym c.get.ensures ∙ c.in-Some.is))
+    has_none_in c.self.invariant c.args.name.now is (sym c.get.ensures ∙ c.in-Some.is))

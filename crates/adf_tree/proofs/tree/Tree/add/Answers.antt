@@ -9,9 +9,6 @@ use Rattle.adf_tree.proofs.tree.Tree.add.Goals as goal
 pub room_for-requires-clause-order : goal.room_for-requires-clause-order
 room_for-requires-clause-order c = rw c.deref.ensures.value c.self.invariant.0.order
 
-pub room_for-requires-clause-names : goal.room_for-requires-clause-names
-room_for-requires-clause-names c = rw c.deref.ensures.value c.self.invariant.1
-
 pub invariant_of-self : goal.invariant_of-self
 invariant_of-self c =
     let e : Entry = record { parent = c.in_ok-parent.parent; name = c.copy-name.result; meta = c.args.meta; body = c.args.body } in

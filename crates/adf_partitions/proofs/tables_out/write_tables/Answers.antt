@@ -1,7 +1,0 @@
-use Rattle.std.proofs.Common.{arith}
-use Rattle.std.proofs.lemmas.Grind.{common_steps}
-use Rattle.adf_partitions.proofs.PlannedVolumes.{zeros_put}
-use Rattle.adf_partitions.proofs.tables_out.write_tables.Goals as goal
-
-pub returns : goal.returns
-returns c = grind (arith, common_steps, zeros_put)
