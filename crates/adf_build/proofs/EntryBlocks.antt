@@ -108,7 +108,7 @@ module _ {t : Tree} {n : ℕ} (can : CanHold t n) where
         ap (λ b. word_in (volume t n) b NEXT_IN_CHAIN) a
             ∙ (ap (λ bs. word bs NEXT_IN_CHAIN) h.0 ∙ head_block-next (entry_head n t i k e es) fh nx),
         links (suc i) (k + entry_blocks t.kind e) es
-        (λ j. let y : suc i + j ≡ i + suc j = omega arith in ap (slice_index (node_blocks t n)) y ∙ f (suc j))
+            (λ j. let y : suc i + j ≡ i + suc j = omega arith in ap (slice_index (node_blocks t n)) y ∙ f (suc j))
             (holds_right (volume t n) (body_writes n t.kind k e.body) (entries_writes n t (suc i) (k + entry_blocks t.kind e) es) h.1)
             (omega arith) (λ j d q. g (suc j) d q),
       )

@@ -103,6 +103,6 @@ module _ {n total : ℕ} (free : HasFree n total) where
         free.below k b,
         length_head_block (entry_head n t i k e es) (fits_head t i k e es near b g.0 g.1),
         are-append n (body_writes n t.kind k e.body) (entries_writes n t (suc i) (k + entry_blocks t.kind e) es)
-        (are_body t.kind k e.body (omega arith))
+            (are_body t.kind k e.body (omega arith))
             (are_entries t (suc i) (k + entry_blocks t.kind e) es near (omega arith) (λ j d h. f (suc j) d h)),
       )
