@@ -42,17 +42,22 @@ dir_node t (suc i) h =
     let x = h (omega arith) in
     let l : suc i ≤ length t.entries = x.0 in
     let e = at_some t.entries i (omega arith) in
-    let z : suc i - 1 ≡ i = omega arith in
-    (e.0, e.1, ap (λ (y : Entry). y.body) (sym (at_index_or t.entries i e.0 e.0 e.1)) ∙ subst (λ k. (slice_index_or t.entries k e.0).body ≡ Dir) z
-    (x.1 e.0))
+    let z : suc i - 1 ≡ i = omega arith in (
+      e.0,
+      e.1,
+      ap (λ (y : Entry). y.body) (sym (at_index_or t.entries i e.0 e.0 e.1)) ∙ subst (λ k. (slice_index_or t.entries k e.0).body ≡ Dir) z
+          (x.1 e.0),
+    )
 
 pub is_dir : (t : Tree) (p : ℕ) → DirNode t p → IsDir t.entries p
 is_dir t zero d = λ h. absurd (omega arith)
 is_dir t (suc i) d = λ h.
     let l : i < length t.entries = at_below t.entries i d.0 d.1 in
-    let z : i ≡ suc i - 1 = omega arith in
-    (omega arith, λ x. subst (λ k. (slice_index_or t.entries k x).body ≡ Dir) z
-    (ap (λ (y : Entry). y.body) (at_index_or t.entries i d.0 x d.1) ∙ d.2))
+    let z : i ≡ suc i - 1 = omega arith in (
+      omega arith,
+      λ x. subst (λ k. (slice_index_or t.entries k x).body ≡ Dir) z
+          (ap (λ (y : Entry). y.body) (at_index_or t.entries i d.0 x d.1) ∙ d.2),
+    )
 
 rank_below : (p q s u : ℕ) → 72 * p + s ≤ 72 * q + u → s < 72 → u < 72 → (p ≤ q) × (p ≡ q → s ≤ u)
 rank_below p q s u h a b = (omega arith, λ e. omega arith)
