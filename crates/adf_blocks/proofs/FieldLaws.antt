@@ -1,11 +1,11 @@
 -- The content of a block composed of fields.
-use Rattle.std.proofs.Common.{◌≡◌, ◌≢◌, ◌≤◌, ◌<◌, ℕ, zero, suc, ◌+◌, ◌-◌, ◌*◌, ◌^◌, ◌⊎◌, List, ◌++◌, [], ◌∷◌}
+use Rattle.std.proofs.Common.{◌≡◌, ◌≢◌, ◌≤◌, ◌<◌, ℕ, zero, suc, ◌+◌, ◌-◌, ◌*◌, ◌^◌, ◌⊎◌, List, ◌++◌, [], ◌∷◌, rules}
 use Rattle.std.proofs.Common.{length, get_or, take, drop, refl, sym, ap, subst, ◌∙◌, arith, add-zero, append-nil, inl, inr}
 use Rattle.std.proofs.lemmas.Bool.{cases_lt}
 use Rattle.std.proofs.lemmas.List.{length-replicate, length-reverse, drop-take, drop-drop, take-take, take_at, take_all, drop-replicate, take-replicate}
-use Rattle.std.proofs.lemmas.List.{get_or-drop, get_or-take, get_or-reverse, get_or_past}
+use Rattle.std.proofs.lemmas.List.{get_or-drop, get_or-take, get_or-reverse, get_or_past, length-take}
 use Rattle.std.proofs.Math.Seq.{drop-append-add}
-use Rattle.std.specs.Prelude.{slice_range, slice_index, replicate, reverse}
+use Rattle.std.specs.Prelude.{slice_range, slice_index, replicate, reverse, min}
 use Rattle.std.proofs.lemmas.Grind.{common_steps}
 use Rattle.byteorder.specs.Endian.{big_number}
 use Rattle.byteorder.specs.Numbers.{big_number-reads_back}
@@ -46,9 +46,7 @@ first_of_neighbours (f ∷ k ∷ fs) e g (inr h) = inr (first_of_neighbours (k �
 field_below : (top : ℕ) (fs : List Field) (e : Field) → Descends top fs → HasField fs e → e.0 + length e.1 ≤ top
 field_below top [] e d h = absurd h
 field_below top (f ∷ fs) e d (inl x) = subst (λ (g : Field). g.0 + length g.1 ≤ top) x d.0
-field_below top (f ∷ fs) e d (inr h) =
-    let ih = field_below f.0 fs e d.1 h in
-    omega (arith, d.0)
+field_below top (f ∷ fs) e d (inr h) = search (rules, field_below f.0 fs e d.1 h)
 
 -- a field stands where it was put
 pub field_there : (top : ℕ) (fs : List Field) (e : Field) → top ≤ 512 → Descends top fs → HasField fs e
@@ -132,8 +130,8 @@ fields_longs fs i s ws d h in_words =
     number_there (block_of_fields fs) (i + s) (slice_index ws s) part
 
 -- the number in a word of words that were put down
-pub numbers_of_field : (c : ℕ) (fs : List Field) (i s : ℕ) (ws : List ℕ) → c < 128 → Descends 512 fs → HasField fs (4 * i, longs ws) → s < length ws → i + s ≢ c
-    → word (sealed c (block_of_fields fs)) (i + s) ≡ big_number 4 (long (slice_index ws s))
+pub numbers_of_field : (c : ℕ) (fs : List Field) (i s : ℕ) (ws : List ℕ) → c < 128 → Descends 512 fs → HasField fs (4 * i, longs ws) → s < length ws
+    → i + s ≢ c → word (sealed c (block_of_fields fs)) (i + s) ≡ big_number 4 (long (slice_index ws s))
 numbers_of_field c fs i s ws in_block d h in_words other = grind (arith, common_steps, length-block_of_fields, word-with_word_other, fields_longs)
 
 -- a date that was put down
@@ -158,7 +156,8 @@ apart_below top a b [] d le = tt
 apart_below top a b (f ∷ fs) d le = (inr (omega (arith, d.0)), apart_below f.0 a b fs d.1 (omega (arith, d.0)))
 
 -- what lies between a field and the one behind it is apart from all fields
-pub apart_between : (top a b : ℕ) (fs : List Field) (e g : Field) → Descends top fs → HasNeighbours fs e g → b ≤ e.0 → g.0 + length g.1 ≤ a → Apart a b fs
+pub apart_between : (top a b : ℕ) (fs : List Field) (e g : Field) → Descends top fs → HasNeighbours fs e g → b ≤ e.0 → g.0 + length g.1 ≤ a
+    → Apart a b fs
 apart_between top a b [] e g d h lo hi = absurd h
 apart_between top a b (f ∷ []) e g d h lo hi = absurd h
 apart_between top a b (f ∷ k ∷ fs) e g d (inl h) lo hi = grind (arith, common_steps, apart_below)
@@ -171,12 +170,7 @@ range_between : (top a b : ℕ) (fs : List Field) → top ≤ 512 → Descends t
     → slice_range (block_of_fields fs) a b ≡ slice_range (replicate 512 0) a b
 range_between top a b [] le d apart = refl
 range_between top a b (f ∷ fs) le d apart =
-    let n = length-block_of_fields f.0 fs (omega (arith, d.0)) d.1 in
-    let ih = range_between f.0 a b fs (omega (arith, d.0)) d.1 apart.1 in
-    elim apart.0 [
-      | inl below ↦ range-with_bytes_below (block_of_fields fs) f.0 f.1 a b (omega (arith, d.0)) below ∙ ih
-      | inr above ↦ range-with_bytes_above (block_of_fields fs) f.0 f.1 a b (omega (arith, d.0)) above ∙ ih
-    ]
+    grind (arith, common_steps, length-block_of_fields, range-with_bytes_below, range-with_bytes_above, range_between f.0 a b fs)
 
 -- a word of zeros
 zero_word : (i : ℕ) → i < 128 → slice_range (replicate 512 0) (4 * i) (4 * i + 4) ≡ long 0
@@ -188,7 +182,8 @@ zero_word i lt =
 
 -- a word that no field is put over, where nothing is sealed
 pub fields_between : (fs : List Field) (i : ℕ) → Descends 512 fs → i < 128 → Apart (4 * i) (4 * i + 4) fs → word (block_of_fields fs) i ≡ 0
-fields_between fs i d lt apart = number_there (block_of_fields fs) i 0 (range_between 512 (4 * i) (4 * i + 4) fs (omega arith) d apart ∙ zero_word i lt)
+fields_between fs i d lt apart =
+    number_there (block_of_fields fs) i 0 (range_between 512 (4 * i) (4 * i + 4) fs (omega arith) d apart ∙ zero_word i lt)
 
 -- a word that no field is put over
 pub word_between : (fs : List Field) (i : ℕ) → Descends 512 fs → i < 128 → Apart (4 * i) (4 * i + 4) fs → i ≢ CHECKSUM
@@ -231,7 +226,8 @@ bytes_of_field fs from xs d h above =
     (omega (arith, length-big_bytes 4 (checksum CHECKSUM (block_of_fields fs)))) ∙ there
 
 -- how a length and a text read
-pub text_reads : (bs xs : List ℕ) (at : ℕ) → slice_range xs at (at + length (text bs)) ≡ text bs → (slice_index xs at ≡ length bs) × (text_at xs at ≡ bs)
+pub text_reads : (bs xs : List ℕ) (at : ℕ) → slice_range xs at (at + length (text bs)) ≡ text bs
+    → (slice_index xs at ≡ length bs) × (text_at xs at ≡ bs)
 text_reads bs xs at h =
     let n : at + length (text bs) - at ≡ suc (length bs) = omega arith in
     let whole : take (suc (length bs)) (drop at xs) ≡ length bs ∷ bs = ap (λ k. take k (drop at xs)) (sym n) ∙ h in
@@ -248,3 +244,15 @@ text_reads bs xs at h =
 pub text_of_field : (fs : List Field) (at : ℕ) (bs : List ℕ) → Descends 512 fs → HasField fs (at, text bs) → 4 * CHECKSUM + 4 ≤ at
     → (slice_index (sealed CHECKSUM (block_of_fields fs)) at ≡ length bs) × (text_at (sealed CHECKSUM (block_of_fields fs)) at ≡ bs)
 text_of_field fs at bs d h above = text_reads bs (sealed CHECKSUM (block_of_fields fs)) at (bytes_of_field fs at (text bs) d h above)
+
+-- the first bytes of a text
+pub cut_text : (b : List ℕ) (at m : ℕ) → slice_range b (at + 1) (at + 1 + min (slice_index b at) m) ≡ take m (text_at b at)
+cut_text b at m =
+    let n = slice_index b at in
+    let xs = drop (at + 1) b in
+    let e : (at + 1 + min n m) - (at + 1) ≡ min n m = omega arith in
+    let f : at + 1 + n - (at + 1) ≡ n = omega arith in
+    rw (e, f) (elim (cases_lt m n) [
+      | inl past ↦ let z : min n m ≡ m = omega arith in rw (z, take-take m n xs (omega arith)) refl
+      | inr fits ↦ let z : min n m ≡ n = omega arith in rw (z, take_all m (take n xs) (omega (arith, length-take n xs))) refl
+    ])

@@ -104,8 +104,8 @@ head_block-secondary h fits =
 pub head_block-meta : (h : HeadFields) → FitsHead h → IsBoundedMeta h.meta → meta_at (head_block h) ≡ h.meta
 head_block-meta h fits small = search (rules, head_block-comment, head_block-protect, head_block-stamp)
 
-body_reads : (b : List ℕ) (body : BodyFields) → word b SECONDARY_TYPE ≡ secondary_of body → word b SIZE ≡ size_of body → word b EXTENSION ≡ ext_of body
-    → body_at b ≡ body_stated body
+body_reads : (b : List ℕ) (body : BodyFields) → word b SECONDARY_TYPE ≡ secondary_of body → word b SIZE ≡ size_of body
+    → word b EXTENSION ≡ ext_of body → body_at b ≡ body_stated body
 body_reads b (DirFields slots) kind size ext = rw kind refl
 body_reads b (FileFields n table x) kind size ext = rw (kind, size, ext) refl
 
@@ -117,7 +117,8 @@ pub head_block-slot : (h : HeadFields) (slots : List ℕ) (s : ℕ) → FitsHead
 unfolding head_block
 head_block-slot h slots s fits e lt small =
     let n : length slots ≡ SLOTS = rw e at fits.body in
-    numbers_of_field CHECKSUM (head_table h) FIRST_SLOT s slots (omega arith) (head_descends h fits) (search (rules, ap table_of e)) (omega arith) (omega arith)
+    numbers_of_field CHECKSUM (head_table h) FIRST_SLOT s slots (omega arith) (head_descends h fits) (search (rules, ap table_of e)) (omega arith)
+    (omega arith)
     ∙ long_number (slice_index slots s) small
 
 -- the number in pointer j of a file, or 0 past the last
@@ -126,8 +127,8 @@ pub head_block-pointer : (h : HeadFields) (size : ℕ) (table : List ℕ) (ext j
 unfolding head_block
 head_block-pointer h size table ext j fits e lt =
     let n : length table ≤ POINTERS = rw e at fits.body in
-    pointer_number (head_table h) FIRST_POINTER j table (4 * FIRST_DATA, long (first_of h.body)) (head_descends h fits) (search (rules, ap table_of e))
-    (omega arith) (omega arith) (omega arith) (omega arith)
+    pointer_number (head_table h) FIRST_POINTER j table (4 * FIRST_DATA, long (first_of h.body)) (head_descends h fits)
+    (search (rules, ap table_of e)) (omega arith) (omega arith) (omega arith) (omega arith)
 
 -- the first data block is named twice
 first_there : (h : HeadFields) → FitsHead h → word (head_block h) FIRST_DATA ≡ big_number 4 (long (first_of h.body))

@@ -36,7 +36,8 @@ map_ext_block-page pages next j few lt small = elim (cases_lt j (length pages)) 
 ]
 
 -- the next bitmap extension block
-pub map_ext_block-next : (pages : List ℕ) (next : ℕ) → length pages ≤ MAP_EXT_PAGES → next < 2 ^ 32 → word (map_ext_block pages next) MAP_EXT_NEXT ≡ next
+pub map_ext_block-next : (pages : List ℕ) (next : ℕ) → length pages ≤ MAP_EXT_PAGES → next < 2 ^ 32
+    → word (map_ext_block pages next) MAP_EXT_NEXT ≡ next
 unfolding map_ext_block
 map_ext_block-next pages next few small =
     fields_long (map_ext_table pages next) MAP_EXT_NEXT next (map_ext_descends pages next few) (search rules) ∙ long_number next small

@@ -40,7 +40,8 @@ pub root_block-slot : (r : RootFields) (s : ℕ) → FitsRoot r → s < SLOTS �
     → word (root_block r) (FIRST_SLOT + s) ≡ slice_index r.slots s
 unfolding root_block
 root_block-slot r s h lt small =
-    numbers_of_field CHECKSUM (root_table r) FIRST_SLOT s r.slots (omega arith) (root_descends r h) (search rules) (omega (arith, h.slots)) (omega arith)
+    numbers_of_field CHECKSUM (root_table r) FIRST_SLOT s r.slots (omega arith) (root_descends r h) (search rules) (omega (arith, h.slots))
+    (omega arith)
     ∙ long_number (slice_index r.slots s) small
 
 pub root_block-hash_size : (r : RootFields) → FitsRoot r → word (root_block r) HASH_SIZE ≡ SLOTS
@@ -66,8 +67,8 @@ root_block-page r i h lt small = elim (cases_lt i (length r.pages)) [
   | inr past ↦
       let pages = length_longs r.pages in
       word_between (root_table r) (FIRST_PAGE + i) (root_descends r h) (omega arith)
-      (apart_between 512 (4 * (FIRST_PAGE + i)) (4 * (FIRST_PAGE + i) + 4) (root_table r) (4 * FIRST_MAP_EXT, long r.map_ext) (4 * FIRST_PAGE, longs r.pages)
-      (root_descends r h) (search rules) (omega arith) (omega arith))
+      (apart_between 512 (4 * (FIRST_PAGE + i)) (4 * (FIRST_PAGE + i) + 4) (root_table r) (4 * FIRST_MAP_EXT, long r.map_ext)
+      (4 * FIRST_PAGE, longs r.pages) (root_descends r h) (search rules) (omega arith) (omega arith))
       (omega arith)
       ∙ sym (get_or_past r.pages i 0 past)
 ]
@@ -88,7 +89,8 @@ root_block-stamps r h fits =
 
 -- a root that was written is read
 pub root_block-form : (r : RootFields) → FitsRoot r → first_cause (root_form (root_block r)) ≡ None
-root_block-form r h = search (rules, le-leb, root_block-label, root_block-sum, root_block-type, root_block-secondary, root_block-hash_size, root_block-valid)
+root_block-form r h =
+    search (rules, le-leb, root_block-label, root_block-sum, root_block-type, root_block-secondary, root_block-hash_size, root_block-valid)
 
 -- a root is a whole block
 pub length_root_block : (r : RootFields) → FitsRoot r → length (root_block r) ≡ 512

@@ -37,7 +37,10 @@ owned_used n total b (inr h) = elim (in_cases (range_with_len (middle n + 1) (re
   | inl i ↦ let r = in_range (middle n + 1) (reserved n) b i in used_middle n total b (omega arith) (omega arith)
   | inr i ↦
       let r = in_allocated n 0 total b i in
-      elim (stretch n r.number) [ low a f ↦ used_low n total b (omega arith) (omega arith) | high a f ↦ used_high n total b (omega arith) (omega arith) ]
+      elim (stretch n r.number) [
+        | low a f ↦ used_low n total b (omega arith) (omega arith)
+        | high a f ↦ used_high n total b (omega arith) (omega arith)
+      ]
 ]
 
 -- by cases

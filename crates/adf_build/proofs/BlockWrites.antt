@@ -9,7 +9,8 @@ pub with_blocks-append : (image : List ℕ) (ps qs : List (ℕ × List ℕ)) →
 with_blocks-append image [] qs = refl
 with_blocks-append image (p ∷ ps) qs = with_blocks-append (with_block image p.0 p.1) ps qs
 
-pub length-with_blocks : (n : ℕ) (image : List ℕ) (ps : List (ℕ × List ℕ)) → AreBlocks n ps → length image ≡ n * 512 → length (with_blocks image ps) ≡ n * 512
+pub length-with_blocks : (n : ℕ) (image : List ℕ) (ps : List (ℕ × List ℕ)) → AreBlocks n ps → length image ≡ n * 512
+    → length (with_blocks image ps) ≡ n * 512
 length-with_blocks n image [] a len = len
 length-with_blocks n image (p ∷ ps) a len =
     length-with_blocks n (with_block image p.0 p.1) ps a.2 (length-with_bytes image (p.0 * 512) p.1 (room n p.0 p.1 (length image) a.0 a.1 len) ∙ len)
@@ -32,8 +33,8 @@ with_blocks_other n image (p ∷ ps) b a len f =
     ∙ block_other image p.0 b p.1 s.1 a.1 (λ e. f p (inl refl) (sym e))
 
 -- a block that was written
-pub with_blocks_same : (n : ℕ) (image : List ℕ) (ps : List (ℕ × List ℕ)) (b : ℕ) (bs : List ℕ) → AreBlocks n ps → NoneTwice ps → length image ≡ n * 512
-    → In ps (b, bs) → block (with_blocks image ps) b ≡ bs
+pub with_blocks_same : (n : ℕ) (image : List ℕ) (ps : List (ℕ × List ℕ)) (b : ℕ) (bs : List ℕ) → AreBlocks n ps → NoneTwice ps
+    → length image ≡ n * 512 → In ps (b, bs) → block (with_blocks image ps) b ≡ bs
 with_blocks_same n image [] b bs a d len i = absurd i
 with_blocks_same n image (p ∷ ps) b bs a d len (inl e) =
     let s = step n image p.0 p.1 a.0 a.1 len in

@@ -107,7 +107,8 @@ module _ {t : Tree} {n : ℕ} (can : CanHold t n) where
       let nx = first_near (slice_index (node_blocks t n)) (nodes_from (suc i) es e.parent (slot_of e.name)) (near can) in (
         ap (λ b. word_in (volume t n) b NEXT_IN_CHAIN) a
             ∙ (ap (λ bs. word bs NEXT_IN_CHAIN) h.0 ∙ head_block-next (entry_head n t i k e es) fh nx),
-        links (suc i) (k + entry_blocks t.kind e) es (λ j. let y : suc i + j ≡ i + suc j = omega arith in ap (slice_index (node_blocks t n)) y ∙ f (suc j))
+        links (suc i) (k + entry_blocks t.kind e) es
+            (λ j. let y : suc i + j ≡ i + suc j = omega arith in ap (slice_index (node_blocks t n)) y ∙ f (suc j))
             (holds_right (volume t n) (body_writes n t.kind k e.body) (entries_writes n t (suc i) (k + entry_blocks t.kind e) es) h.1)
             (omega arith) (λ j d q. g (suc j) d q),
       )
@@ -125,24 +126,25 @@ module _ {t : Tree} {n : ℕ} (can : CanHold t n) where
       (subst (λ w. Spelled (λ b. word_in (volume t n) b NEXT_IN_CHAIN) w (map (slice_index (node_blocks t n)) (chain_nodes t p s))) (sym e)
       (spelled_chain (λ b. word_in (volume t n) b NEXT_IN_CHAIN) (slice_index (node_blocks t n)) 1 t.entries p s all_links))
 
-  slot_is : (p s : ℕ) → s < SLOTS → slice_index (slots_of (node_blocks t n) t.entries p) s ≡ first_block (slice_index (node_blocks t n)) (chain_nodes t p s)
+  slot_is : (p s : ℕ) → s < SLOTS
+      → slice_index (slots_of (node_blocks t n) t.entries p) s ≡ first_block (slice_index (node_blocks t n)) (chain_nodes t p s)
   slot_is p s l =
       let z : 0 + s ≡ s = omega arith in
       get_or-map-range_with_len (λ s. first_block (slice_index (node_blocks t n)) (nodes_from 1 t.entries p s)) 0 SLOTS s s 0 l z
 
   -- the slots of the root and of directories
-  pub root_slot : (s : ℕ) → s < SLOTS → word_in (volume t n) (middle n) (FIRST_SLOT + s) ≡ first_block (slice_index (node_blocks t n)) (chain_nodes t 0 s)
+  pub root_slot : (s : ℕ) → s < SLOTS
+      → word_in (volume t n) (middle n) (FIRST_SLOT + s) ≡ first_block (slice_index (node_blocks t n)) (chain_nodes t 0 s)
   root_slot s l = grind (arith, common_steps, slot_is, first_near, near, holds_root, root_block-slot, fits_root)
 
   pub dir_slot : (i s : ℕ) (e : Entry) (h : At t.entries i e) → e.body ≡ Dir → s < SLOTS
       → word_in (volume t n) (nth_free n (standing i e h).k) (FIRST_SLOT + s) ≡ first_block (slice_index (node_blocks t n)) (chain_nodes t (suc i) s)
   dir_slot i s e h d l =
       let p = standing i e h in
+      let ls : List ℕ = slots_of (node_blocks t n) t.entries (suc i) in
       let y = slot_is (suc i) s l in
-      let small : slice_index (slots_of (node_blocks t n) t.entries (suc i)) s < 2 ^ 32 =
+      let small : slice_index ls s < 2 ^ 32 =
       subst (λ m. m < 2 ^ 32) (sym y) (first_near (slice_index (node_blocks t n)) (chain_nodes t (suc i) s) (near can)) in
-      let b : planned_body n p.k t.kind (slots_of (node_blocks t n) t.entries (suc i)) e.body ≡ DirFields (slots_of (node_blocks t n) t.entries (suc i)) =
-      ap (planned_body n p.k t.kind (slots_of (node_blocks t n) t.entries (suc i))) d in
+      let b : planned_body n p.k t.kind ls e.body ≡ DirFields ls = ap (planned_body n p.k t.kind ls) d in
       ap (λ bs. word bs (FIRST_SLOT + s)) p.head
-      ∙ (head_block-slot (entry_head n t (suc i) p.k e p.rest) (slots_of (node_blocks t n) t.entries (suc i)) s
-      (head_fits i e h) b l small ∙ y)
+      ∙ (head_block-slot (entry_head n t (suc i) p.k e p.rest) ls s (head_fits i e h) b l small ∙ y)

@@ -99,7 +99,8 @@ module _ {t : Tree} {n : ℕ} (can : CanHold t n) (i : ℕ) (e : Entry) (h : At 
     data_parts = data_writes n t.kind here.k bytes
 
     file_blocks : here.k + (1 + file_exts + file_datas) ≤ entries_blocks t.kind t.entries
-    file_blocks = subst (λ b. here.k + (1 + exts_needed (data_blocks t.kind b) + data_blocks t.kind b) ≤ entries_blocks t.kind t.entries) is kept_blocks
+    file_blocks =
+        subst (λ b. here.k + (1 + exts_needed (data_blocks t.kind b) + data_blocks t.kind b) ≤ entries_blocks t.kind t.entries) is kept_blocks
 
     size_word : length bytes < 2 ^ 32
     size_word = omega (arith, size_small t.kind (length bytes), file_blocks, small can)
@@ -186,7 +187,8 @@ module _ {t : Tree} {n : ℕ} (can : CanHold t n) (i : ℕ) (e : Entry) (h : At 
               ap length exts_are ∙ length_allocated n (suc here.k) file_exts in omega arith);
           datas = ap length datas_are ∙ length_allocated n (suc here.k + file_exts) file_datas;
           named = (λ k b a at ta. named_laid (k / POINTERS) k b a refl (subst (λ xs. At xs k b) datas_are at) ta);
-          data_form = (λ k b at. subst (λ xs. AllHold (data_demands (volume t n) t.kind b (nth_free n here.k) (suc k) (held t.kind (length bytes) (suc k))
+          data_form =
+              (λ k b at. subst (λ xs. AllHold (data_demands (volume t n) t.kind b (nth_free n here.k) (suc k) (held t.kind (length bytes) (suc k))
               (slice_index xs (suc k)))) (sym datas_are) (formed_laid t.kind refl k b (subst (λ xs. At xs k b) datas_are at)));
         }
 

@@ -137,7 +137,8 @@ module _ (v : List ℕ) {n total : ℕ} (free : HasFree n total) (k : ℕ) where
     pub exts_linked : Spelled (λ b. word_in v b EXTENSION) (nth_free_or_none n (suc k) (exts_needed c)) (allocated n (suc k) (exts_needed c))
     exts_linked =
         let m : ℕ = exts_needed c in
-        subst (λ w. Spelled (λ b. word_in v b EXTENSION) w (allocated n (suc k) m)) (sym (run_named n (suc k) m 0 (suc k) m (omega arith) (omega arith)))
+        subst (λ w. Spelled (λ b. word_in v b EXTENSION) w (allocated n (suc k) m))
+        (sym (run_named n (suc k) m 0 (suc k) m (omega arith) (omega arith)))
         (spelled_by (λ b. word_in v b EXTENSION) (allocated n (suc k) m) (λ j b a.
         let place = allocated_at n (suc k) m j b a in
         rw place.1 (ap (λ bs. word bs EXTENSION) (ext_held j place.0)

@@ -66,7 +66,8 @@ range_at b m j c h = grind (arith, common_steps, at_below, length-range_with_len
 at_range : (b m j : ℕ) → j < m → At (range_with_len b m) j (b + j)
 at_range b zero j h = absurd (omega arith)
 at_range b (suc m) zero h = omega arith
-at_range b (suc m) (suc j) h = let z : b + 1 + j ≡ b + suc j = omega arith in subst (At (range_with_len (b + 1) m) j) z (at_range (b + 1) m j (omega arith))
+at_range b (suc m) (suc j) h =
+    let z : b + 1 + j ≡ b + suc j = omega arith in subst (At (range_with_len (b + 1) m) j) z (at_range (b + 1) m j (omega arith))
 
 places_long : (n : ℕ) (kind : Kind) (k : ℕ) (es : List Entry) → length (places_from n kind k es) ≡ length es
 places_long n kind k [] = refl
@@ -138,7 +139,8 @@ module _ {t : Tree} {n : ℕ} (can : CanHold t n) where
   unfolding stamps_of
   stamps_laid = sym (ap stamps_at (holds_root can) ∙ root_block-stamps (planned_root t n) (fits_root can) can.sound.bounds.stamps)
 
-  page_word : (k b : ℕ) → k < ROOT_PAGES → At (range_with_len (middle n + 1) (pages_needed n)) k b → word_in (volume t n) (middle n) (FIRST_PAGE + k) ≡ b
+  page_word : (k b : ℕ) → k < ROOT_PAGES → At (range_with_len (middle n + 1) (pages_needed n)) k b
+      → word_in (volume t n) (middle n) (FIRST_PAGE + k) ≡ b
   page_word k b l h = grind (arith, common_steps, range_at, get_or-range_with_len, holds_root, root_block-page, fits_root, small)
 
   page_at : (q : ℕ) → q < pages_needed n → block (volume t n) (middle n + 1 + q) ≡ page_block (page_words n (entries_blocks t.kind t.entries) q)
@@ -186,7 +188,8 @@ module _ {t : Tree} {n : ℕ} (can : CanHold t n) where
       let r : ℕ = (b - 2) % PAGE_BITS in
       let lt : q < pages_needed n = page_in n b lo hi in
       let y = false_from_ne_true (is_used n (entries_blocks t.kind t.entries) b) (λ u. let x = in_block (owned (volume t n) (planned t n)) b
-      (subst (λ l. In l b) (sym (owned_blocks (volume t n) t n size)) (used_owned n (entries_blocks t.kind t.entries) b (four can) lo u)) in f x.0 x.1) in
+      (subst (λ l. In l b) (sym (owned_blocks (volume t n) t n size))
+      (used_owned n (entries_blocks t.kind t.entries) b (four can) lo u)) in f x.0 x.1) in
       let x = unused_free n (entries_blocks t.kind t.entries) (PAGE_BITS * q + r) b (omega arith) hi y in
       let g = (bit_tells n (entries_blocks t.kind t.entries) q r (omega arith)).1 x in
       (middle n + 1 + q, at_range (middle n + 1) (pages_needed n) q lt, subst (λ bs. IsFreeBit bs r) (sym (page_at q lt)) g)
@@ -222,7 +225,8 @@ module _ {t : Tree} {n : ℕ} (can : CanHold t n) where
   page_listed_laid : (j i a b : ℕ) → i < MAP_EXT_PAGES → At (range_with_len (middle n + 1 + pages_needed n) (map_exts_needed (pages_needed n))) j a
       → At (range_with_len (middle n + 1) (pages_needed n)) (ROOT_PAGES + MAP_EXT_PAGES * j + i) b
       → word_in (volume t n) a i ≡ b
-  page_listed_laid j i a b l g h = grind (arith, common_steps, range_at, map_ext_near, get_or-range_with_len, map_ext_is, map_ext_block-page, listed_few)
+  page_listed_laid j i a b l g h =
+      grind (arith, common_steps, range_at, map_ext_near, get_or-range_with_len, map_ext_is, map_ext_block-page, listed_few)
 
   entries_fit : (m : ℕ) (e : Entry) → EntryAt t m e → EntryFits (volume t n) t (planned t n) m (at_node (volume t n) (planned t n) m) e
   entries_fit zero e h = absurd h

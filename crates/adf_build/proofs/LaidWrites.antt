@@ -148,7 +148,9 @@ module _ {t : Tree} {n : ℕ} (can : CanHold t n) where
       (distinct-append (allocated n 0 m) (range_with_len (middle n + 1) (reserved n) ++ middle n ∷ 0 ∷ []) (distinct_allocated n 0 m)
       (distinct-append (range_with_len (middle n + 1) (reserved n)) (middle n ∷ 0 ∷ []) (distinct_range (middle n + 1) (reserved n))
       ((λ h. elim h [ inl e ↦ omega arith | inr g ↦ g ]), ((λ h. h), tt))
-      (λ b i j. let r = in_range (middle n + 1) (reserved n) b i in elim j [ inl e ↦ omega arith | inr g ↦ elim g [ inl e ↦ omega arith | inr f ↦ f ] ]))
+      (λ b i j.
+      let r = in_range (middle n + 1) (reserved n) b i in
+      elim j [ inl e ↦ omega arith | inr g ↦ elim g [ inl e ↦ omega arith | inr f ↦ f ] ]))
       (λ b i j.
       let s = in_allocated n 0 m b i in
       let f = free_from n s.number in

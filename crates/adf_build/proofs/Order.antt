@@ -25,7 +25,8 @@ pub rises_low : (q r : ℕ) (es : List Entry) → q ≤ r → RisesFrom r es →
 rises_low q r [] h o = tt
 rises_low q r (e ∷ es) h o = let l : r ≤ rank e = o.0 in (omega arith, o.1)
 
-rises : (r : ℕ) (es : List Entry) → ((j : ℕ) (d : Entry) → j < length es → r ≤ rank (slice_index_or es j d)) → IsNonDecreasingBy rank es → RisesFrom r es
+rises : (r : ℕ) (es : List Entry) → ((j : ℕ) (d : Entry) → j < length es → r ≤ rank (slice_index_or es j d)) → IsNonDecreasingBy rank es
+    → RisesFrom r es
 rises r [] f o = tt
 rises r (e ∷ es) f o = (
   f 0 e (omega arith),
@@ -45,11 +46,13 @@ apart : (a b c d : ℕ) → (a ≡ b → c ≡ d → ⊥) → ((a == b) && (c ==
 apart a b c d h = grind (arith, nat_tests)
 
 -- an entry that does not stand in a chain
-passed : (n : ℕ) (e : Entry) (es : List Entry) (p s : ℕ) → (e.parent ≡ p → slot_of e.name ≡ s → ⊥) → nodes_from n (e ∷ es) p s ≡ nodes_from (suc n) es p s
+passed : (n : ℕ) (e : Entry) (es : List Entry) (p s : ℕ) → (e.parent ≡ p → slot_of e.name ≡ s → ⊥)
+    → nodes_from n (e ∷ es) p s ≡ nodes_from (suc n) es p s
 passed n e es p s h = ap (λ t. cond t (n ∷ nodes_from (suc n) es p s) (nodes_from (suc n) es p s)) (apart e.parent p (slot_of e.name) s h)
 
 -- an entry that stands in a chain
-taken : (n : ℕ) (e : Entry) (es : List Entry) (p s : ℕ) → e.parent ≡ p → slot_of e.name ≡ s → nodes_from n (e ∷ es) p s ≡ n ∷ nodes_from (suc n) es p s
+taken : (n : ℕ) (e : Entry) (es : List Entry) (p s : ℕ) → e.parent ≡ p → slot_of e.name ≡ s
+    → nodes_from n (e ∷ es) p s ≡ n ∷ nodes_from (suc n) es p s
 taken n e es p s h k = ap (λ t. cond t (n ∷ nodes_from (suc n) es p s) (nodes_from (suc n) es p s)) (equal_both e.parent p (slot_of e.name) s h k)
 
 -- where all entries stand behind a chain, it is empty
@@ -100,7 +103,8 @@ pub mine_step : (es : List Entry) (p from end : ℕ) (e : Entry) → drop end es
     → AllWithin (λ (e : Entry). e.parent ≡ p) es from end → AllWithin (λ (e : Entry). e.parent ≡ p) es from (end + 1)
 mine_step es p from end e here h w = grind (arith, common_steps, cases_lt, place_is)
 
-pub low_step : (es : List Entry) (r end : ℕ) (e : Entry) → drop end es ≡ e ∷ drop (end + 1) es → RisesFrom r (drop end es) → RisesFrom r (drop (end + 1) es)
+pub low_step : (es : List Entry) (r end : ℕ) (e : Entry) → drop end es ≡ e ∷ drop (end + 1) es → RisesFrom r (drop end es)
+    → RisesFrom r (drop (end + 1) es)
 low_step es r end e here o = let p = rw here at o in rises_low r (rank e) (drop (end + 1) es) p.0 p.1
 
 -- the chains of other nodes begin behind a child

@@ -24,7 +24,8 @@ are_parts n f j (suc m) h =
     (here.0, here.1, are_parts n f (j + 1) m (λ i l. h i (omega arith)))
 
 -- an image that holds them holds each
-pub part_held : (v : List ℕ) (f : ℕ → ℕ × List ℕ) (j m i : ℕ) → HoldsBlocks v (map f (range_with_len j m)) → j ≤ i → i < j + m → block v (f i).0 ≡ (f i).1
+pub part_held : (v : List ℕ) (f : ℕ → ℕ × List ℕ) (j m i : ℕ) → HoldsBlocks v (map f (range_with_len j m)) → j ≤ i → i < j + m
+    → block v (f i).0 ≡ (f i).1
 part_held v f j zero i h a b = absurd (omega arith)
 part_held v f j (suc m) i h a b = elim (cases_lt j i) [
   | inl l ↦ part_held v f (j + 1) m i h.1 (omega arith) (omega arith)
@@ -32,7 +33,8 @@ part_held v f j (suc m) i h a b = elim (cases_lt j i) [
 ]
 
 -- their blocks, where they ascend by one, and where they are free blocks in order
-pub range_numbers : (f : ℕ → ℕ × List ℕ) (b j m : ℕ) → ((i : ℕ) → (f i).0 ≡ b + i) → numbers_of (map f (range_with_len j m)) ≡ range_with_len (b + j) m
+pub range_numbers : (f : ℕ → ℕ × List ℕ) (b j m : ℕ) → ((i : ℕ) → (f i).0 ≡ b + i)
+    → numbers_of (map f (range_with_len j m)) ≡ range_with_len (b + j) m
 range_numbers f b j zero h = refl
 range_numbers f b j (suc m) h =
     let z : b + (j + 1) ≡ b + j + 1 = omega arith in

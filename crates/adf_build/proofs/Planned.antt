@@ -35,7 +35,8 @@ blocks_of_places n kind i k (e ∷ es) =
     simp (blocks_of-append, blocks_of-numbered) (cc)
 
 pub owned_blocks : (image : List ℕ) (t : Tree) (n : ℕ) → blocks image ≡ n
-    → blocks_of (owned image (planned t n)) ≡ middle n ∷ (range_with_len (middle n + 1) (reserved n) ++ allocated n 0 (entries_blocks t.kind t.entries))
+    → blocks_of (owned image (planned t n))
+    ≡ middle n ∷ (range_with_len (middle n + 1) (reserved n) ++ allocated n 0 (entries_blocks t.kind t.entries))
 unfolding reserved
 owned_blocks image t n e =
     let places = blocks_of_places n t.kind 1 0 t.entries in

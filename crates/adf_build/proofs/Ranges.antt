@@ -8,4 +8,5 @@ use Rattle.adf_build.proofs.AllocatedBlocks.{range_with_len-append}
 -- one block more in a table
 pub range_step : (table : List ℕ) (b j v : ℕ) → j < length table → take j table ≡ range_with_len b j → v ≡ b + j
     → take (j + 1) (set table j v) ≡ range_with_len b (j + 1)
-range_step table b j v h e f = take_more_set table j v h ∙ ap (λ l. l ++ v ∷ []) e ∙ ap (λ v. range_with_len b j ++ v ∷ []) f ∙ range_with_len-append b j 1
+range_step table b j v h e f =
+    take_more_set table j v h ∙ ap (λ l. l ++ v ∷ []) e ∙ ap (λ v. range_with_len b j ++ v ∷ []) f ∙ range_with_len-append b j 1

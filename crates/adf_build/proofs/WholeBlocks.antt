@@ -82,7 +82,8 @@ module _ {n total : ℕ} (free : HasFree n total) where
       are-append n (ext_writes n k c) (data_writes n kind k bytes)
       (are_parts n (ext_part n k c) 0 (exts_needed c)
       (λ j lt. (free.below (suc k + j) (omega arith), length_ext_block (planned_ext n k c j) (fits_ext k c j l (omega arith)))))
-      (are_parts n (data_part n kind k bytes) 0 c (λ j lt. (free.below (suc k + exts_needed c + j) (omega arith), data_long kind k bytes j l (omega arith))))
+      (are_parts n (data_part n kind k bytes) 0 c
+      (λ j lt. (free.below (suc k + exts_needed c + j) (omega arith), data_long kind k bytes j l (omega arith))))
 
   pub fits_body : (k : ℕ) (kind : Kind) (slots : List ℕ) (body : Body) → length slots ≡ SLOTS → FitsBody (planned_body n k kind slots body)
   fits_body k kind slots Dir h = h
@@ -101,6 +102,7 @@ module _ {n total : ℕ} (free : HasFree n total) where
       let b : k < total = omega arith in (
         free.below k b,
         length_head_block (entry_head n t i k e es) (fits_head t i k e es near b g.0 g.1),
-        are-append n (body_writes n t.kind k e.body) (entries_writes n t (suc i) (k + entry_blocks t.kind e) es) (are_body t.kind k e.body (omega arith))
+        are-append n (body_writes n t.kind k e.body) (entries_writes n t (suc i) (k + entry_blocks t.kind e) es)
+            (are_body t.kind k e.body (omega arith))
             (are_entries t (suc i) (k + entry_blocks t.kind e) es near (omega arith) (λ j d h. f (suc j) d h)),
       )

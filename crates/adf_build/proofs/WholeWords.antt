@@ -41,9 +41,11 @@ not_used : (n total b c : ℕ) → (b < n / 2 → c < n / 2) → b ≤ c → is_
 not_used n total b c side le u = false_from_ne_true (is_used n total c) (λ t. true≢false (sym (used_before n total b c side le t) ∙ u))
 
 -- a word of one side, from block a to block b, whose last block is in use
-pub none_free : (n total q a b : ℕ) → a ≡ 2 + q → b ≡ 33 + q → (a < n / 2 → b < n / 2) → is_used n total b ≡ true → 0 ≡ bits_from (is_free_bit n total) q 32
+pub none_free : (n total q a b : ℕ) → a ≡ 2 + q → b ≡ 33 + q → (a < n / 2 → b < n / 2) → is_used n total b ≡ true
+    → 0 ≡ bits_from (is_free_bit n total) q 32
 none_free n total q a b e g side u =
-    sym (bits_clear (is_free_bit n total) q 32 (λ k l h. used_bit n total k (used_before n total (2 + k) b (λ m. side (omega arith)) (omega arith) u)))
+    sym (bits_clear (is_free_bit n total) q 32
+    (λ k l h. used_bit n total k (used_before n total (2 + k) b (λ m. side (omega arith)) (omega arith) u)))
 
 -- a word of one side, from block a to block b, whose first block is free and whose last one is there
 pub all_free : (n total q a b : ℕ) → a ≡ 2 + q → b ≡ 33 + q → (a < n / 2 → b < n / 2) → b < n → is_used n total a ≡ false

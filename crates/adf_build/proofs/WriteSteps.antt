@@ -87,8 +87,8 @@ run_step : (image old all : List ℕ) (ps left rest : List (ℕ × List ℕ)) �
 run_step image old all ps left rest e f inv = let both = with_blocks-append old ps rest in cc
 
 -- one entry more
-pub entry_step : (image old all nodes slots : List ℕ) (n : ℕ) (t : Tree) (kind : Kind) (left rest : List Entry) (i k next p : ℕ) (e : Entry) (here : Spot)
-    → left ≡ e ∷ rest → kind ≡ t.kind → p ≡ i + 1 → next ≡ k + entry_blocks t.kind e → nodes ≡ node_blocks t n
+pub entry_step : (image old all nodes slots : List ℕ) (n : ℕ) (t : Tree) (kind : Kind) (left rest : List Entry) (i k next p : ℕ) (e : Entry)
+    (here : Spot) → left ≡ e ∷ rest → kind ≡ t.kind → p ≡ i + 1 → next ≡ k + entry_blocks t.kind e → nodes ≡ node_blocks t n
     → here.k ≡ k → here.parent ≡ slice_index nodes e.parent
     → here.next ≡ first_block (slice_index nodes) (nodes_from p rest e.parent (slot_of e.name))
     → slots ≡ slots_of nodes t.entries i
@@ -102,7 +102,8 @@ entry_step image old all nodes slots n t kind left rest i k next p e here split 
     (follow ∙ ap (λ ns. first_block (slice_index ns) (nodes_from p rest e.parent (slot_of e.name))) known
     ∙ ap (λ p. first_block (slice_index (node_blocks t n)) (nodes_from p rest e.parent (slot_of e.name))) (place ∙ up)) in
     let mine : image ≡ with_blocks old (entry_writes n t.kind (planned_spot n t i k e rest) (slots_of (node_blocks t n) t.entries i) e) =
-    written ∙ ap (λ kind. with_blocks old (entry_writes n kind here slots e)) same ∙ ap (λ here. with_blocks old (entry_writes n t.kind here slots e)) spot
+    written ∙ ap (λ kind. with_blocks old (entry_writes n kind here slots e)) same
+    ∙ ap (λ here. with_blocks old (entry_writes n t.kind here slots e)) spot
     ∙ ap (λ ls. with_blocks old (entry_writes n t.kind (planned_spot n t i k e rest) ls e)) (slot ∙ ap (λ ns. slots_of ns t.entries i) known) in
     run_step image old all (entry_writes n t.kind (planned_spot n t i k e rest) (slots_of (node_blocks t n) t.entries i) e)
     (entries_writes n t (i + 1) next rest) (entries_writes n t (suc i) (k + entry_blocks t.kind e) rest) mine

@@ -62,7 +62,8 @@ body_numbers n kind k (File bytes) =
     simp (numbers_of-append) (cc)
 
 -- the blocks of entries that are written are a run of free blocks: those of the layout
-pub entries_numbers : (n : ℕ) (t : Tree) (i k : ℕ) (es : List Entry) → numbers_of (entries_writes n t i k es) ≡ allocated n k (entries_blocks t.kind es)
+pub entries_numbers : (n : ℕ) (t : Tree) (i k : ℕ) (es : List Entry)
+    → numbers_of (entries_writes n t i k es) ≡ allocated n k (entries_blocks t.kind es)
 entries_numbers n t i k [] = refl
 entries_numbers n t i k (e ∷ es) =
     let b : ℕ = exts_needed (data_blocks t.kind e.body) + data_blocks t.kind e.body in

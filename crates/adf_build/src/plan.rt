@@ -54,7 +54,7 @@ impl Plan {
     }
 
     /// A table that starts with the blocks of `m` bitmap pages, from page `j` on.
-    #[tactic(auto, using(crate::proofs::Ranges::range_step))]
+    #[tactic(auto, using(std::proofs::lemmas::Grind::common_steps, crate::proofs::Ranges::range_step))]
     pub fn page_table<const N: usize>(self, j: u32, m: usize) -> [u32; N]
         requires short { m ≤ N }
         requires near { j + m < 2 ^ 30 }
@@ -135,7 +135,7 @@ impl Plan {
     }
 
     /// A table that starts with `m` free blocks, from the `k`-th on.
-    #[tactic(auto, using(crate::proofs::FreeBlocks::allocated_step))]
+    #[tactic(auto, using(std::proofs::lemmas::Grind::common_steps, crate::proofs::FreeBlocks::allocated_step))]
     pub fn table_of(self, k: u32, m: usize) -> [u32; POINTERS]
         requires room { k < 2 ^ 29 }
         requires short { m ≤ POINTERS }

@@ -58,7 +58,8 @@ module _ (free : Bool) {image : List ℕ} {store : StoreValue} {b page : ℕ} {l
       subst (Has st.walk (Page q)) (sym k ∙ l ∙ sym page_is_at) x.1
 
   only_page : (c : ℕ) → Has st.walk (Page ((b - 2) / 4064)) c → c ≡ page
-  only_page c h = (one_block image (of_walk image st.read.is_walk) (Page ((b - 2) / 4064)) (Page ((b - 2) / 4064)) c page h has_page (refl, refl, refl)).1
+  only_page c h =
+      (one_block image (of_walk image st.read.is_walk) (Page ((b - 2) / 4064)) (Page ((b - 2) / 4064)) c page h has_page (refl, refl, refl)).1
 
   free_then : free ≡ true → IsFreeIn image st.walk b
   free_then e = (page, has_page, free_is.0 e)
@@ -134,7 +135,8 @@ bit_at i bit h = omega arith
 abbrev block_of_bit : ℕ → ℕ → ℕ
 block_of_bit i bit = 2 + 32 * i + bit
 
-module _ (i bit : ℕ) {image : List ℕ} {store : StoreValue} {pages : List ℕ} (within : bit < 32) (begun : IsBegun image) (hi : 2 + 32 * i + bit < blocks image)
+module _ (i bit : ℕ) {image : List ℕ} {store : StoreValue} {pages : List ℕ} (within : bit < 32) (begun : IsBegun image)
+    (hi : 2 + 32 * i + bit < blocks image)
     (listed : AreListed image pages (pages_needed (blocks image))) (st : IsMapped image store (2 + 32 * i + bit)) {word : ℕ} {free : Bool}
     (word_is : word ≡ word_in image (slice_index pages (i / 127)) (1 + i % 127)) (told : IsTrue free ↔ IsBitSet word bit) where
   here : IsTrue free ↔ IsFreeAt image (slice_index pages ((block_of_bit i bit - 2) / 4064)) ((block_of_bit i bit - 2) % 4064)
@@ -172,4 +174,5 @@ owned_run i (suc n) {image = image} {store = store} few hi begun listed none own
     let here : kept_at store.owners (2 + 32 * i + n) ≢ Free = owned (2 + 32 * i + n) (omega arith) (omega arith) in
     let e : n + 1 ≡ suc n = omega arith in
     subst (λ n. IsMapped image store (2 + 32 * i + n)) e
-    (bit_agrees i n (omega arith) begun (omega arith) listed before none (no_bit n) ((λ h. absurd (let x : false ≡ true = h in cc)), (λ h. absurd (here h))))
+    (bit_agrees i n (omega arith) begun (omega arith) listed before none (no_bit n)
+    ((λ h. absurd (let x : false ≡ true = h in cc)), (λ h. absurd (here h))))

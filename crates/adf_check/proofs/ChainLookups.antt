@@ -140,7 +140,8 @@ module _ {image : List ℕ} {store : StoreValue} {t : Tree} {l : Layout} (k : St
         → (kept_at store.owners b ≡ kept.Head n) × (chain_left store b ≡ suc (length store.headers) - n) × (n ≤ length store.headers)
     left_at j n a {b = b} is =
         let x = entry_at t p (slot_of name) j n a in
-        let o : kept_at store.owners b ≡ kept.Head n = k.owners.part (AHead n) b (part_owned image t l k.fits.places (Head n p (slot_of name) j) b (a, is)) in
+        let o : kept_at store.owners b ≡ kept.Head n =
+        k.owners.part (AHead n) b (part_owned image t l k.fits.places (Head n p (slot_of name) j) b (a, is)) in
         (o, ap (node_left (length store.headers)) o, omega (arith, entry_below t n x.entry x.at, k.headers.count))
 
   module _ {p : ℕ} {name : List ℕ} where
@@ -224,9 +225,15 @@ module _ {image : List ℕ} {store : StoreValue} (tells : StoreFits image store)
   child_within p name None h = tt
   child_within p name (Some n) h =
       let k = keeps image store tells in
-      omega (arith, child_below (tree_in image tells.walk).entries p name n (sym (h (tree_in image tells.walk) (layout_in tells.walk) k)), k.headers.count)
+      omega (
+        arith,
+        child_below (tree_in image tells.walk).entries p name n
+            (sym (h (tree_in image tells.walk) (layout_in tells.walk) k)),
+        k.headers.count,
+      )
 
-  module _ {p : ℕ} {name : List ℕ} {b : ℕ} (c : (t : Tree) (l : Layout) → StoreStandsFor image store t l → OnChain image t l p name b) (ne : b ≢ 0) where
+  module _ {p : ℕ} {name : List ℕ} {b : ℕ} (c : (t : Tree) (l : Layout) → StoreStandsFor image store t l → OnChain image t l p name b)
+      (ne : b ≢ 0) where
     abbrev known : OnChain image (tree_in image tells.walk) (layout_in tells.walk) p name b
     known = c (tree_in image tells.walk) (layout_in tells.walk) (keeps image store tells)
 

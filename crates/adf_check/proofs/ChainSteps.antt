@@ -48,8 +48,8 @@ chain_ends image store p up s a seen st = record {
 }
 
 -- a slot's chain begins at the directory, and nothing of it was seen
-pub chain_begins : (image : List ℕ) (store : StoreValue) (p up s : ℕ) (seen : List ℕ → Type 0) → ((x : List ℕ) → seen x → ⊥) → IsAtSlot image store p up s
-    → IsInChain image store p up s up (word_in image up (FIRST_SLOT + s)) seen
+pub chain_begins : (image : List ℕ) (store : StoreValue) (p up s : ℕ) (seen : List ℕ → Type 0) → ((x : List ℕ) → seen x → ⊥)
+    → IsAtSlot image store p up s → IsInChain image store p up s up (word_in image up (FIRST_SLOT + s)) seen
 chain_begins image store p up s seen none st = grind (arith, common_steps)
 
 -- a slot whose word is 0 has no chain
@@ -71,7 +71,8 @@ module _ {image : List ℕ} {store : StoreValue} {p up s a b : ℕ} {seen : List
   pub head_named : IsNextAt image store st.walk (next_head st.walk p s st.place) a b
   head_named = grind (arith, common_steps, link_asks)
 
-  form_at : (P : List Demand → Type 0) → P (head_demands image (kind_of image) b up s) → P (form_demands image st.walk (next_head st.walk p s st.place) b)
+  form_at : (P : List Demand → Type 0) → P (head_demands image (kind_of image) b up s)
+      → P (form_demands image st.walk (next_head st.walk p s st.place) b)
   form_at P =
       subst (λ u. P (head_demands image (kind_of image) b u s))
       (sym (node_is image (gathered st.read) p up (dir_is_node image st.walk p up st.dir)))
@@ -111,7 +112,8 @@ module _ {image : List ℕ} {store : StoreValue} {p up s a b : ℕ} {seen : List
 
 -- what was read of it
 module _ {image : List ℕ} {store : StoreValue} {p up s a b : ℕ} (names : Names) (lt : s < SLOTS) (begun : IsBegun image)
-    (st : IsInChain image store p up s a b (sees_of names)) (ne : b ≢ 0) (range : InRange (length store.owners) b) (free : kept_at store.owners b ≡ Free)
+    (st : IsInChain image store p up s a b (sees_of names)) (ne : b ≢ 0) (range : InRange (length store.owners) b)
+    (free : kept_at store.owners b ≡ Free)
     {kind : Kind} {bytes : List ℕ} (is_kind : kind ≡ kind_of image) (is_block : bytes ≡ block image b) where
   cause_is : first_cause (head_form kind b up s bytes) ≡ first_cause (head_form (kind_of image) b up s (block image b))
   cause_is = ap (λ x. first_cause (head_form kind b up s x)) is_block ∙ ap (λ k. first_cause (head_form k b up s (block image b))) is_kind

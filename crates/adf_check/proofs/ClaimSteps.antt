@@ -43,8 +43,8 @@ pub first_fault : (image : List ℕ) (b : ℕ) (c : Cause) → FirstFault image 
 first_fault image b c h = record { first = (λ _. h); memory = (λ e. absurd (fault_of_image image b c h e)) }
 
 -- a reader at one position is at another, where its walk has as much up to there
-pub read_to : {image : List ℕ} {store : StoreValue} {w : List (Role × ℕ)} {n : ℕ} {old new : Position} → HasRead image store w n old → IsUpTo image w [] new
-    → HasRead image store w n new
+pub read_to : {image : List ℕ} {store : StoreValue} {w : List (Role × ℕ)} {n : ℕ} {old new : Position} → HasRead image store w n old
+    → IsUpTo image w [] new → HasRead image store w n new
 read_to read up_to = record { tells = read.tells; started = read.started; is_walk = read.is_walk; up_to = up_to }
 
 -- its walk was gathered

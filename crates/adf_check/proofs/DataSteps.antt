@@ -37,8 +37,8 @@ member_inside image w begun v n zero c h = (in_range image v (many_blocks image 
 member_inside image w begun v n (suc m) c h = (in_range image v (many_blocks image begun) (Ext n (suc m)) c h).1
 
 -- the blocks of the table are those of the image
-pub table_inside : {image : List ℕ} {store : StoreValue} {n h : ℕ} {table : List ℕ} {k : ℕ} → IsBegun image → IsInDatas image store n h table k → (i : ℕ)
-    → i < length table → slice_index table i < blocks image
+pub table_inside : {image : List ℕ} {store : StoreValue} {n h : ℕ} {table : List ℕ} {k : ℕ} → IsBegun image → IsInDatas image store n h table k
+    → (i : ℕ) → i < length table → slice_index table i < blocks image
 table_inside {image = image} {n = n} {table = table} begun st i lt =
     member_inside image st.walk begun st.read.is_walk n i (slice_index table i) (st.holds.members i (slice_index table i) (at_or table i 0 lt))
 
@@ -56,7 +56,8 @@ datas_end image store n h table k st le = record {
         subst (λ h. j < data_count image h) (file_one image (gathered st.read) n x.0.0 h x.0.1 st.holds.file) x.0.2 in
         omega arith
 
-module _ {image : List ℕ} {store : StoreValue} {n h : ℕ} {table : List ℕ} {k : ℕ} (begun : IsBegun image) (st : IsInDatas image store n h table k) where
+module _ {image : List ℕ} {store : StoreValue} {n h : ℕ} {table : List ℕ} {k : ℕ} (begun : IsBegun image)
+    (st : IsInDatas image store n h table k) where
   one_file : (a : ℕ) → FileAt image st.walk n a → h ≡ a
   one_file a f = file_one image (gathered st.read) n h a st.holds.file f
 
@@ -84,7 +85,8 @@ module _ {image : List ℕ} {store : StoreValue} {n h : ℕ} {table : List ℕ} 
 
       pub data_enough : Enough image st.walk (Data n (suc k))
       data_enough _ a f =
-          let x : data_count image a ≤ POINTERS * length table = subst (λ a. data_count image a ≤ POINTERS * length table) (one_file a f) (omega arith) in
+          let x : data_count image a ≤ POINTERS * length table =
+          subst (λ a. data_count image a ≤ POINTERS * length table) (one_file a f) (omega arith) in
           omega arith
 
       next_here : (t : Bool) → nat_lt (suc k) (data_count image h) ≡ t
@@ -94,8 +96,8 @@ module _ {image : List ℕ} {store : StoreValue} {n h : ℕ} {table : List ℕ} 
       next_here true z =
           let more : suc k < data_count image h = ltb-true (suc k) (data_count image h) z in
           let x = at_or table (suc k / POINTERS) 0 (omega arith) in
-          ap (λ b. word_in image b (table_word (suc k))) (member_is image (gathered st.read) n (suc k / POINTERS) (slice_index table (suc k / POINTERS))
-          (st.holds.members (suc k / POINTERS) (slice_index table (suc k / POINTERS)) x))
+          ap (λ b. word_in image b (table_word (suc k))) (member_is image (gathered st.read) n (suc k / POINTERS)
+          (slice_index table (suc k / POINTERS)) (st.holds.members (suc k / POINTERS) (slice_index table (suc k / POINTERS)) x))
 
       abbrev pub demands_here : List Demand
       demands_here = data_demands image (kind_of image) b h (k + 1) (held (kind_of image) size (k + 1)) (next_of image table count (k + 1))
@@ -110,7 +112,8 @@ module _ {image : List ℕ} {store : StoreValue} {n h : ℕ} {table : List ℕ} 
         pub data_fault : (c : Cause) → FirstFails demands_here b c → IsTrueFault image (fault b c)
         data_fault c f = form_fault data_named data_enough range free c (subst (λ ds. FirstFails ds b c) form_is f)
 
-        pub data_done : AllHold demands_here → {new : StoreValue} → IsStored image store new (Data n (k + 1)) b → IsInDatas image new n h table (k + 1)
+        pub data_done : AllHold demands_here → {new : StoreValue} → IsStored image store new (Data n (k + 1)) b
+            → IsInDatas image new n h table (k + 1)
         data_done f {new = new} stored =
             let r : Role = Data n (suc k) in
             let one : k + 1 ≡ suc k = omega arith in

@@ -73,7 +73,8 @@ module _ (image : List ℕ) (file : Role → Option ℕ) (tells : TellsFile file
   not_below m r h = grind (arith, common_steps, le-ltb)
 
   -- where no role is of a later node, all files are below n
-  pub all_before : (w : List (Role × ℕ)) (n : ℕ) → ((r : Role) (b : ℕ) → Has w r b → first r ≤ n) → length (file_blocks file w) ≡ blocks_before file w n
+  pub all_before : (w : List (Role × ℕ)) (n : ℕ) → ((r : Role) (b : ℕ) → Has w r b → first r ≤ n)
+      → length (file_blocks file w) ≡ blocks_before file w n
   all_before w n h = grind (arith, common_steps, picked_same, lt-ltb)
 
   -- no file's node is below the root's
@@ -142,7 +143,8 @@ module _ (image : List ℕ) (file : Role → Option ℕ) (tells : TellsFile file
         let all : file_blocks file w ≡ below ++ (picked of w ++ later) =
         split (suc n) (λ r. is_some (file r)) (λ r. is_later (suc n) (file r)) (λ r. at_all (file r)) (λ r. from_later r (file r) (tells r)) v
         ∙ ap (λ xs. xs ++ later) below_next ∙ append_assoc below (picked of w) later in
-        ap (λ xs. take (length (picked of w)) (drop (length below) xs)) all ∙ ap (take (length (picked of w))) (drop-append_seam below (picked of w ++ later))
+        ap (λ xs. take (length (picked of w)) (drop (length below) xs)) all
+        ∙ ap (take (length (picked of w))) (drop-append_seam below (picked of w ++ later))
         ∙ take-append_seam (picked of w) later
 
 -- extension blocks and data blocks

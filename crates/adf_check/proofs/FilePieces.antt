@@ -36,8 +36,8 @@ pub no_pieces : (ps : List (List ℕ)) → All (λ p. 0 < length p) ps → conca
 no_pieces [] some e = refl
 no_pieces (p ∷ ps) some e = absurd (omega (arith, some 0 [] (omega arith), ap length e, length-append p (concat ps)))
 
-body_other : (image : List ℕ) (kind : Kind) (l : Layout) (n h : ℕ) (body : Body) → BodyFits image kind l n h body → word_in image h SECONDARY_TYPE ≢ ST_DIR
-    → (bytes : List ℕ) × (body ≡ File bytes)
+body_other : (image : List ℕ) (kind : Kind) (l : Layout) (n h : ℕ) (body : Body) → BodyFits image kind l n h body
+    → word_in image h SECONDARY_TYPE ≢ ST_DIR → (bytes : List ℕ) × (body ≡ File bytes)
 body_other image kind l n h Dir f w = absurd (w f.0)
 body_other image kind l n h (File bytes) f w = (bytes, refl)
 
@@ -49,7 +49,8 @@ module _ {image : List ℕ} {store : StoreValue} {t : Tree} {l : Layout} (k : St
   whole = k.fits.boots.0.0
 
   -- the data blocks of a node stand in the list of all, from its start on, by their count
-  module _ (size : ℕ) {n m c : ℕ} {kind : Kind} {x : NodeStart} (within : n ≤ length store.headers) (view : m ≡ n) (start : x ≡ get_or store.starts m x)
+  module _ (size : ℕ) {n m c : ℕ} {kind : Kind} {x : NodeStart} (within : n ≤ length store.headers) (view : m ≡ n)
+      (start : x ≡ get_or store.starts m x)
       (long : length (datas_of l n) ≡ count (kind_of image) size) (is_kind : kind ≡ kind_of image) (is_count : c ≡ count kind size) where
     many : length (datas_of l n) ≡ c
     many = long ∙ ap (λ k. count k size) (sym is_kind) ∙ sym is_count
@@ -67,8 +68,8 @@ pub record IsEntry (image : List ℕ) (store : StoreValue) (n h : ℕ) : Type 0 
   pub block : (t : Tree) (l : Layout) → StoreStandsFor image store t l → h ≡ at_node image l n
 
 -- the node is an entry, by its number and the number of rows
-pub is_entry : {image : List ℕ} {store : StoreValue} {n m h : ℕ} → ((t : Tree) (l : Layout) → StoreStandsFor image store t l → h ≡ at_node image l n) → m ≡ n
-    → m ≢ 0 → n ≤ length store.headers → IsEntry image store n h
+pub is_entry : {image : List ℕ} {store : StoreValue} {n m h : ℕ} → ((t : Tree) (l : Layout) → StoreStandsFor image store t l → h ≡ at_node image l n)
+    → m ≡ n → m ≢ 0 → n ≤ length store.headers → IsEntry image store n h
 is_entry block view ne le = record { some = (λ z. ne (view ∙ z)); within = le; block = block }
 
 past : (qs : List Place) (i : ℕ) → length qs ≤ i → ◌≡◌ {A = List ℕ} [] (datas_at qs i)
@@ -156,8 +157,8 @@ module _ {image : List ℕ} {store : StoreValue} {n h : ℕ} (is : IsEntry image
           subst (λ p. 0 < length p) (sym piece_is) (omega (arith, held_here.0, held_here.1, area_is, taken))
 
   -- what is made of the data blocks of a file
-  module _ (tells : StoreFits image store) (w : word_in image h SECONDARY_TYPE ≢ ST_DIR) {xs ds : List ℕ} {kind : Kind} {size : ℕ} (is_image : xs ≡ image)
-      (is_kind : kind ≡ kind_of image) (is_size : size ≡ word_in image h SIZE)
+  module _ (tells : StoreFits image store) (w : word_in image h SECONDARY_TYPE ≢ ST_DIR) {xs ds : List ℕ} {kind : Kind} {size : ℕ}
+      (is_image : xs ≡ image) (is_kind : kind ≡ kind_of image) (is_size : size ≡ word_in image h SIZE)
       (are : (t : Tree) (l : Layout) → StoreStandsFor image store t l → ds ≡ datas_of l n) where
     pieces_are : (t : Tree) (l : Layout) → StoreStandsFor image store t l
         → pieces xs kind size 1 ds ≡ pieces image (kind_of image) (word_in image h SIZE) 1 (datas_of l n)

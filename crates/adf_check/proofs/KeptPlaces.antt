@@ -96,7 +96,8 @@ module _ {image : List ℕ} {store : StoreValue} {t : Tree} {l : Layout} (st : S
         some = some;
         zero = begins (start_of store.starts 0) (start_at store.starts 0 some);
         rising = IsNonDecreasingBy-from_default first store.starts (record { exts = 0; datas = 0 }) (λ i j le lt. elim (dec_lt i j) [
-          | yes more ↦ up i j (start_of store.starts i) (start_of store.starts j) more (start_at store.starts i (omega arith)) (start_at store.starts j lt)
+          | yes more ↦ up i j (start_of store.starts i) (start_of store.starts j) more (start_at store.starts i (omega arith))
+              (start_at store.starts j lt)
           | no same ↦ let e : i ≡ j = omega arith in let f = ap (λ i. first (start_of store.starts i)) e in omega (arith, f)
         ]);
       }
@@ -143,5 +144,6 @@ module _ {image : List ℕ} {store : StoreValue} {t : Tree} {l : Layout} (st : S
 
 -- the last of those that begin at a place or before it, by their number
 pub last_found : (first : NodeStart → ℕ) (starts : List NodeStart) (place r : ℕ) → AreStarts first starts → r ≤ length starts
-    → IsPartitionPoint (λ x. leb (first x) place ≡ true) (λ x. leb (first x) place ≡ false) starts r → (1 ≤ r) × IsLastStart first starts place (r - 1)
+    → IsPartitionPoint (λ x. leb (first x) place ≡ true) (λ x. leb (first x) place ≡ false) starts r
+    → (1 ≤ r) × IsLastStart first starts place (r - 1)
 last_found first starts place r are bound point = grind (arith, common_steps, leb-true, leb, le-leb)

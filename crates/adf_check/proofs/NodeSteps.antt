@@ -54,7 +54,8 @@ module _ (image : List ℕ) (store : StoreValue) (w : List (Role × ℕ)) (t : S
       record { header = x; type = elim (head_type image (kind_of image) r.head k.0 x.slot k.2) [ inl e ↦ absurd (d e) | inr e ↦ e ] }
 
 -- a directory's slots are next
-pub enter_directory : (image : List ℕ) (store : StoreValue) (n a : ℕ) (st : IsInNode image store n) → DirAt image st.walk n a → IsAtSlot image store n a 0
+pub enter_directory : (image : List ℕ) (store : StoreValue) (n a : ℕ) (st : IsInNode image store n) → DirAt image st.walk n a
+    → IsAtSlot image store n a 0
 enter_directory image store n a st dir = record {
   walk = st.walk;
   read = read_to st.read (enter_dir image (gathered st.read) n a dir st.read.up_to);
@@ -63,7 +64,8 @@ enter_directory image store n a st dir = record {
 
 pub root_begins : (image : List ℕ) (store : StoreValue) (n a : ℕ) → n ≡ 0 → a ≡ root_of image → IsInNode image store n → IsAtSlot image store n a 0
 root_begins image store n a z e st =
-    enter_directory image store n a st (subst (λ n. DirAt image st.walk n a) (sym z) (subst (Has st.walk Root) (sym e) (root_in image (gathered st.read))))
+    enter_directory image store n a st (subst (λ n. DirAt image st.walk n a) (sym z)
+    (subst (Has st.walk Root) (sym e) (root_in image (gathered st.read))))
 
 -- the next node is n, and its row is known
 module _ {image : List ℕ} {store : StoreValue} {m n : ℕ} {header : KeptHeader} (begun : IsBegun image) (view : m ≡ n) (ne : m ≢ 0)

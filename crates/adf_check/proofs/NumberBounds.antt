@@ -30,7 +30,8 @@ module _ {image : List ℕ} {store : StoreValue} (begun : IsBegun image) (used :
   walk_short {w = w} tells = grind (arith, common_steps, count_by-le-length, size_high)
 
   -- the lists of all extension blocks and of all data blocks are short
-  pub lists_short : {w : List (Role × ℕ)} {n : ℕ} {at : Position} → HasRead image store w n at → (length store.exts < 2 ^ 29) × (length store.datas < 2 ^ 29)
+  pub lists_short : {w : List (Role × ℕ)} {n : ℕ} {at : Position} → HasRead image store w n at
+      → (length store.exts < 2 ^ 29) × (length store.datas < 2 ^ 29)
   lists_short {w = w} read = grind (arith, common_steps, walk_short, picked_within)
 
   heads_short : {w : List (Role × ℕ)} → StoreMatches image store w → heads w + 1 < 2 ^ 29

@@ -9,9 +9,10 @@ use Rattle.adf_check.specs.KeptOwner.{claimed_count, is_claimed, kept_at, unpack
 use Rattle.adf_check.specs.Owners.{IsTable}
 
 -- a table is one still when a free block is claimed
-claimed : (t : List KeptOwner) (n m b : ℕ) (o : KeptOwner) → IsTable is_claimed Boot t n m → 2 ≤ b → b < length t → is_claimed o ≡ true → kept_at t b ≡ Free
-    → IsTable is_claimed Boot (set t b o) n (m + 1)
-claimed t n m b o h lo hi part free = record { boot = grind (arith, common_steps); blocks = grind (arith, common_steps); used = grind (arith, common_steps) }
+claimed : (t : List KeptOwner) (n m b : ℕ) (o : KeptOwner) → IsTable is_claimed Boot t n m → 2 ≤ b → b < length t → is_claimed o ≡ true
+    → kept_at t b ≡ Free → IsTable is_claimed Boot (set t b o) n (m + 1)
+claimed t n m b o h lo hi part free =
+    record { boot = grind (arith, common_steps); blocks = grind (arith, common_steps); used = grind (arith, common_steps) }
 
 counted : (t : List KeptOwner) (b : ℕ) (o : KeptOwner) → b < length t → is_claimed o ≡ true → kept_at t b ≡ Free
     → claimed_count (set t b o) ≡ claimed_count t + 1
@@ -22,7 +23,8 @@ bounded : (t : List KeptOwner) (n m : ℕ) → IsTable is_claimed Boot t n m →
 bounded t n m h = grind (arith, common_steps)
 
 -- the owner that the table tells is the one that is kept
-owner_is : (xs : List PackedOwner) (b : ℕ) (x : PackedOwner) → b < length (map unpacked xs) → x ≡ get_or xs b x → kept_at (map unpacked xs) b ≡ unpacked x
+owner_is : (xs : List PackedOwner) (b : ℕ) (x : PackedOwner) → b < length (map unpacked xs) → x ≡ get_or xs b x
+    → kept_at (map unpacked xs) b ≡ unpacked x
 owner_is xs b x lt e = grind (arith, common_steps, length-map, get_or-map)
 
 -- what holds of the table that is kept when a block was claimed

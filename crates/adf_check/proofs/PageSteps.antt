@@ -42,9 +42,11 @@ pages_end image store a st = grind (arith, common_steps, read_to, end_pages)
 -- pages by the words alone
 map_ext_is : (image : List ℕ) (w : List (Role × ℕ)) (j a : ℕ) → IsWalk image w → Has w (MapExt j) a → block_of_map_ext image j ≡ a
 map_ext_is image w zero a v h = (kept image v (MapExt 0) a h).1
-map_ext_is image w (suc j) a v h = let k = (kept image v (MapExt (suc j)) a h).1 in ap (λ a. word_in image a 127) (map_ext_is image w j k.0 v k.1) ∙ k.2
+map_ext_is image w (suc j) a v h =
+    let k = (kept image v (MapExt (suc j)) a h).1 in ap (λ a. word_in image a 127) (map_ext_is image w j k.0 v k.1) ∙ k.2
 
-names_is : (image : List ℕ) (w : List (Role × ℕ)) (k b a i : ℕ) → IsWalk image w → NamesPage image w k a i → word_in image a i ≡ b → block_of_page image k ≡ b
+names_is : (image : List ℕ) (w : List (Role × ℕ)) (k b a i : ℕ) → IsWalk image w → NamesPage image w k a i → word_in image a i ≡ b
+    → block_of_page image k ≡ b
 names_is image w k b a i v (inl x) e = grind (arith, common_steps, cond-true, lt-ltb)
 names_is image w k b a i v (inr x) e =
     let ej : (k - 25) / 127 ≡ x.0 = omega arith in
@@ -57,8 +59,8 @@ pub page_is : (image : List ℕ) (w : List (Role × ℕ)) (k b : ℕ) → IsWalk
 page_is image w k b v h = let x = (kept image v (Page k) b h).1 in names_is image w k b x.0 x.1 v x.2 x.3
 
 -- page i comes next, and a word of block a names it as block b
-module _ {image : List ℕ} {store : StoreValue} {i a b : ℕ} (begun : IsBegun image) (needed : i < pages_needed (blocks image)) (st : IsAtPage image store i a)
-    (named : b ≡ word_in image a (word_of_page i)) where
+module _ {image : List ℕ} {store : StoreValue} {i a b : ℕ} (begun : IsBegun image) (needed : i < pages_needed (blocks image))
+    (st : IsAtPage image store i a) (named : b ≡ word_in image a (word_of_page i)) where
   pub page_named : IsNextAt image store st.walk (Page i) a b
   page_named = grind (arith, common_steps)
 
@@ -68,11 +70,13 @@ module _ {image : List ℕ} {store : StoreValue} {i a b : ℕ} (begun : IsBegun 
   module _ (range : InRange (length store.owners) b) (free : kept_at store.owners b ≡ Free) {bytes : List ℕ} (is_block : bytes ≡ block image b) where
     pub page_fault : (c : Cause) → first_cause (page_form bytes) ≡ Some c → IsTrueFault image (fault b c)
     page_fault c f =
-        form_fault page_named tt range free c (first_demanded b (page_form (block image b)) c (ap (λ x. first_cause (page_form x)) (sym is_block) ∙ f))
+        form_fault page_named tt range free c (first_demanded b (page_form (block image b)) c
+        (ap (λ x. first_cause (page_form x)) (sym is_block) ∙ f))
 
     pub page_done : first_cause (page_form bytes) ≡ None → {new : StoreValue} → IsStored image store new (Page i) b → IsBeforePage image new (i + 1) a
     page_done f {new = new} stored =
-        let form : AllHold (page_demands image b) = all_demanded b (page_form (block image b)) (ap (λ x. first_cause (page_form x)) (sym is_block) ∙ f) in
+        let form : AllHold (page_demands image b) =
+        all_demanded b (page_form (block image b)) (ap (λ x. first_cause (page_form x)) (sym is_block) ∙ f) in
         record {
           walk = (Page i, b) ∷ st.walk;
           read = subst (HasRead image new ((Page i, b) ∷ st.walk) 0) (behind_page i) (read_one page_named tt range free form tt stored);
@@ -97,7 +101,8 @@ module _ {image : List ℕ} {store : StoreValue} {i a b : ℕ} (begun : IsBegun 
     named = names_first image ((MapExt number, b) ∷ st.walk) i b past begins (inl (refl, refl));
   }
 
-all_below : (xs : List ℕ) (b n j : ℕ) → ((i : ℕ) → i < length xs → slice_index xs i < n) → b < n → j < length (xs ++ b ∷ []) → slice_index (xs ++ b ∷ []) j < n
+all_below : (xs : List ℕ) (b n j : ℕ) → ((i : ℕ) → i < length xs → slice_index xs i < n) → b < n → j < length (xs ++ b ∷ [])
+    → slice_index (xs ++ b ∷ []) j < n
 all_below xs b n j h lt below = grind (arith, common_steps, h)
 
 -- one page more is listed

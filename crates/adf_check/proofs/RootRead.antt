@@ -65,7 +65,8 @@ none_owned (suc m) = none_owned m
 
 pub begun_with_root : (image : List ℕ) (n : ℕ) (owners new : List KeptOwner) → IsBegun image → n ≡ blocks image → owners ≡ new_owners (n - 2)
     → new ≡ set owners (root_of image) Root → claimed_count new ≡ claimed_count owners + 1
-    → IsBeforePage image (record { owners = new; headers = []; dirs = 0; starts = []; exts = []; datas = []; used = claimed_count new }) 0 (root_of image)
+    → IsBeforePage image (record { owners = new; headers = []; dirs = 0; starts = []; exts = []; datas = []; used = claimed_count new }) 0
+    (root_of image)
 begun_with_root image n owners new begun size e f count =
     let many : 4 ≤ blocks image = many_blocks image begun in
     let claimed : new ≡ owners_of (n - 2) (root_of image) = f ∙ ap (λ os. set os (root_of image) Root) e in

@@ -37,7 +37,8 @@ pub head_facts : (kind : Kind) (b own parent slot : ℕ) (bytes : List ℕ) → 
 head_facts kind b own parent slot bytes h = grind (arith, common_steps, and_parts, demanded, nat_tests)
 
 -- the block of a row holds a header
-pub header_is_head : {image : List ℕ} {store : StoreValue} → StoreFits image store → (i : ℕ) (r : Kept) → At store.headers i r → IsHead (block image r.head)
+pub header_is_head : {image : List ℕ} {store : StoreValue} → StoreFits image store → (i : ℕ) (r : Kept) → At store.headers i r
+    → IsHead (block image r.head)
 header_is_head {image = image} {store = store} st i r at =
     let x = node_here image store st.walk st.read.tells st.read.is_walk i r at in
     let k = (kept image st.read.is_walk (head_role x) r.head x.has).2 in
@@ -61,8 +62,8 @@ type_told image t l n h Dir f = grind (arith, common_steps, nat_tests, row_dir)
 type_told image t l n h (File bytes) f = grind (arith, common_steps, nat_tests, row_file)
 
 -- what a row's header tells is what the tree has
-pub entry_told : (image : List ℕ) (store : StoreValue) (t : Tree) (l : Layout) → StoreStandsFor image store t l → (n i : ℕ) (r : Kept) (told : Row) → n ≡ suc i
-    → At store.headers i r → told ≡ row_in r.parent (block image r.head)
+pub entry_told : (image : List ℕ) (store : StoreValue) (t : Tree) (l : Layout) → StoreStandsFor image store t l → (n i : ℕ) (r : Kept) (told : Row)
+    → n ≡ suc i → At store.headers i r → told ≡ row_in r.parent (block image r.head)
     → Some told ≡ option_map row_of_entry (entry t.entries n)
 unfolding name_of meta_of
 entry_told image store t l k n i r told e at_header is =

@@ -6,7 +6,7 @@ use Rattle.adf_tree.specs.declared.entry.Entry.{Entry}
 use Rattle.adf_volume.specs.Layout.{exts_of, datas_of}
 use Rattle.adf_volume.specs.Lists.{At}
 use Rattle.adf_volume.specs.Walk.{Role, Has}
-use Rattle.adf_volume.specs.Walk.Role.{Root, Page, MapExt, Head, Ext, Data}
+use Rattle.adf_volume.specs.Walk.Role.{Ext, Data}
 use Rattle.adf_volume.specs.LayoutRoles.{LayoutHas}
 use Rattle.adf_volume.specs.LayoutRoles.{owner_of}
 use Rattle.adf_volume.specs.Made.{tree_in, layout_in, exts_in, datas_in}
@@ -74,34 +74,45 @@ module _ (image : List ℕ) (store : StoreValue) (st : StoreFits image store) wh
   kept_fits (Ext n zero) b h = absurd (agreed (Ext n zero) b h)
   kept_fits (Ext n (suc k)) b h =
       let x = st.read.tells.owns.assigned (Ext n (suc k)) b h in
-      let at = at_whole (file_blocks ext_file st.walk) (exts_in st.walk n) (blocks_before ext_file st.walk n) k b (exts_stored image n st.read.is_walk)
-      (ext_has image st.read.is_walk n k b h) in
-      let start = (st.read.tells.starts n (start_of store.starts n) (start_here n (ext_node (layout_in st.walk) n k b (agreed (Ext n (suc k)) b h)))).0 in
+      let at = at_whole (file_blocks ext_file st.walk) (exts_in st.walk n) (blocks_before ext_file st.walk n) k b
+      (exts_stored image n st.read.is_walk) (ext_has image st.read.is_walk n k b h) in
+      let here = start_here n (ext_node (layout_in st.walk) n k b (agreed (Ext n (suc k)) b h)) in
+      let start = (st.read.tells.starts n (start_of store.starts n) here).0 in
       let place : x.0 ≡ (start_of store.starts n).exts + (suc k - 1) =
-      omega (arith, start, one_place (λ r. is_some (ext_file r)) st.walk (walked_once st.read.is_walk) x.0 (blocks_before ext_file st.walk n + k) b x.1 at) in
+      omega (
+        arith,
+        start,
+        one_place (λ r. is_some (ext_file r)) st.walk (walked_once st.read.is_walk) x.0 (blocks_before ext_file st.walk n + k)
+            b x.1 at,
+      ) in
       x.2 ∙ ap kept.Ext place
   kept_fits (Data n zero) b h = absurd (agreed (Data n zero) b h)
   kept_fits (Data n (suc k)) b h =
       let x = st.read.tells.owns.assigned (Data n (suc k)) b h in
-      let at = at_whole (file_blocks data_file st.walk) (datas_in st.walk n) (blocks_before data_file st.walk n) k b (datas_stored image n st.read.is_walk)
-      (data_has image st.walk st.read.is_walk n k b h) in
-      let start = (st.read.tells.starts n (start_of store.starts n) (start_here n (data_node (layout_in st.walk) n k b (agreed (Data n (suc k)) b h)))).1 in
+      let at = at_whole (file_blocks data_file st.walk) (datas_in st.walk n) (blocks_before data_file st.walk n) k b
+      (datas_stored image n st.read.is_walk) (data_has image st.walk st.read.is_walk n k b h) in
+      let here = start_here n (data_node (layout_in st.walk) n k b (agreed (Data n (suc k)) b h)) in
+      let start = (st.read.tells.starts n (start_of store.starts n) here).1 in
       let place : x.0 ≡ (start_of store.starts n).datas + (suc k - 1) =
-      omega (arith, start, one_place (λ r. is_some (data_file r)) st.walk (walked_once st.read.is_walk) x.0 (blocks_before data_file st.walk n + k) b x.1 at) in
+      omega (
+        arith,
+        start,
+        one_place (λ r. is_some (data_file r)) st.walk (walked_once st.read.is_walk) x.0 (blocks_before data_file st.walk n + k)
+            b x.1 at,
+      ) in
       x.2 ∙ ap kept.Data place
-  kept_fits Root b h = st.read.tells.owns.assigned Root b h
-  kept_fits (Page k) b h = st.read.tells.owns.assigned (Page k) b h
-  kept_fits (MapExt k) b h = st.read.tells.owns.assigned (MapExt k) b h
-  kept_fits (Head n p s j) b h = st.read.tells.owns.assigned (Head n p s j) b h
+  kept_fits r b h = st.read.tells.owns.assigned r b h
 
   owners_fit : OwnersFit image (layout_in st.walk) store.starts store.owners
   owners_fit = record {
     size = st.read.tells.owns.size;
     boot = st.read.tells.owns.boot;
-    part = (λ o b h. let r = owned_has image st.walk st.read.is_walk st.read.whole o b h in kept_fits r.0 b r.1 ∙ ap (kept_as store.starts) (sym r.2));
+    part =
+        (λ o b h. let r = owned_has image st.walk st.read.is_walk st.read.whole o b h in kept_fits r.0 b r.1 ∙ ap (kept_as store.starts) (sym r.2));
     free = (λ b lo hi h. elim (is_free (kept_at store.owners b)) [
       | inl e ↦ e
-      | inr n ↦ let x = st.read.tells.owns.owned b lo hi n in absurd (h (owner_of x.0) (is_owned image st.walk st.read.is_walk st.read.whole x.0 b x.1))
+      | inr n ↦ let x = st.read.tells.owns.owned b lo hi n in absurd
+          (h (owner_of x.0) (is_owned image st.walk st.read.is_walk st.read.whole x.0 b x.1))
     ]);
   }
 
@@ -112,7 +123,8 @@ module _ (image : List ℕ) (store : StoreValue) (st : StoreFits image store) wh
     datas = (λ n x h. moved (st.read.tells.starts n x h).1 st.read.tells.datas (datas_are n) (datas_stored image n st.read.is_walk));
   }
     where
-      moved : {a b : ℕ} {xs ys is here : List ℕ} → a ≡ b → xs ≡ ys → is ≡ here → take (length here) (drop b ys) ≡ here → take (length is) (drop a xs) ≡ is
+      moved : {a b : ℕ} {xs ys is here : List ℕ} → a ≡ b → xs ≡ ys → is ≡ here → take (length here) (drop b ys) ≡ here
+          → take (length is) (drop a xs) ≡ is
       moved {a = a} {b = b} {xs = xs} {here = here} ea ex ei h = grind (arith, common_steps)
 
   starts_rise : StartsRise (layout_in st.walk) store.starts

@@ -39,8 +39,8 @@ kept_more w x (Data n m) b o k = (k.0, at_more (λ r. is_some (data_file r)) w x
 kept_more w x _ b o k = k
 
 -- what is kept of the next block
-kept_next : (store : StoreValue) (w : List (Role × ℕ)) → store.exts ≡ file_blocks ext_file w → store.datas ≡ file_blocks data_file w → (r : Role) (b : ℕ)
-    → IsKept ((r, b) ∷ w) r b (next_kept store r)
+kept_next : (store : StoreValue) (w : List (Role × ℕ)) → store.exts ≡ file_blocks ext_file w → store.datas ≡ file_blocks data_file w
+    → (r : Role) (b : ℕ) → IsKept ((r, b) ∷ w) r b (next_kept store r)
 kept_next store w exts datas (Ext n m) b = (length store.exts, at_new (file_blocks ext_file w) b (length store.exts) (ap length exts), refl)
 kept_next store w exts datas (Data n m) b = (length store.datas, at_new (file_blocks data_file w) b (length store.datas) (ap length datas), refl)
 kept_next store w exts datas _ b = refl
@@ -88,7 +88,8 @@ module _ (image : List ℕ) (owners : List KeptOwner) (w : List (Role × ℕ)) (
 
 -- the rows, one member of a walk more; a header has the next number
 module _ (headers : List KeptHeader) (w : List (Role × ℕ)) (t : KeepsHeaders headers w) where
-  no_header : (r : Role) (b : ℕ) → ((n p s j : ℕ) → second r ≡ second (Head n p s j) → ⊥) → head_count r (heads w) ≡ heads w → KeepsHeaders headers ((r, b) ∷ w)
+  no_header : (r : Role) (b : ℕ) → ((n p s j : ℕ) → second r ≡ second (Head n p s j) → ⊥) → head_count r (heads w) ≡ heads w
+      → KeepsHeaders headers ((r, b) ∷ w)
   no_header r b none c = grind (arith, common_steps)
 
   pub headers_more : (r : Role) (b : ℕ) → ((n p s j : ℕ) → r ≡ Head n p s j → n ≡ suc (heads w)) → KeepsHeaders (push_header r b headers) ((r, b) ∷ w)
@@ -102,7 +103,8 @@ pub dirs_more : (image : List ℕ) (headers : List KeptHeader) (p b : ℕ) {dirs
 dirs_more image headers p b {dirs = dirs} {one = one} {is_dir = is_dir} before is counts = grind (arith, common_steps, sum_by-append)
 
 -- one member of a walk more
-pub tells_more : (image : List ℕ) (store : StoreValue) (w : List (Role × ℕ)) (r : Role) (b : ℕ) → ((n p s j : ℕ) → r ≡ Head n p s j → n ≡ suc (heads w))
+pub tells_more : (image : List ℕ) (store : StoreValue) (w : List (Role × ℕ)) (r : Role) (b : ℕ)
+    → ((n p s j : ℕ) → r ≡ Head n p s j → n ≡ suc (heads w))
     → length store.starts ≤ first r → StoreMatches image store w → 2 ≤ b → b < blocks image → kept_at store.owners b ≡ kept.Free
     → StoreMatches image (stored image store r b) ((r, b) ∷ w)
 tells_more image store w r b f l t lo hi h = record {

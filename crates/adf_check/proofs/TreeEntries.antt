@@ -48,7 +48,8 @@ pub may_follow : {t u : Tree} {i n : ℕ} {x : Entry} {r : Option Entry} → IsT
     → u ≡ record { kind = t.kind; label = t.label; stamps = t.stamps; entries = take i t.entries } → n ≡ length t.entries → i < n
     → r ≡ entry t.entries (i + 1) → r ≡ Some x → MayAdd u.entries x × IsLast u.entries x
 may_follow {t = t} {u = u} {i = i} {x = x} tree e count lt here is =
-    let next : IsNextEntry t.entries i x = subst (IsNextEntry t.entries i) (entry_here t i x (sym is ∙ here)) (is_next t.entries i x tree (omega arith)) in
+    let next : IsNextEntry t.entries i x =
+    subst (IsNextEntry t.entries i) (entry_here t i x (sym is ∙ here)) (is_next t.entries i x tree (omega arith)) in
     subst (λ (u : Tree). MayAdd u.entries x × IsLast u.entries x) (sym e) (next.may, next.last)
 
 -- the first entries and the next one

@@ -25,7 +25,8 @@ use Rattle.adf_check.specs.Volumes.{counts_of, is_directory}
 use Rattle.adf_volume.specs.declared.counts.Counts.{Counts}
 
 -- the headers of rows are blocks of the image
-pub header_inside : {image : List ℕ} {store : StoreValue} → StoreFits image store → (i : ℕ) (r : KeptHeader) → At store.headers i r → r.head < blocks image
+pub header_inside : {image : List ℕ} {store : StoreValue} → StoreFits image store → (i : ℕ) (r : KeptHeader) → At store.headers i r
+    → r.head < blocks image
 header_inside {image = image} {store = store} st i r at = grind (arith, common_steps, node_here, in_range, many_blocks, tells_begun, head_role)
 
 -- two lists of one length whose members agree have one count
@@ -41,7 +42,8 @@ same_count f g (x ∷ xs) (y ∷ ys) e h =
     ∙ sym (sum_by-cons (λ y. cond (g y) 1 0) y ys)
 
 -- those that are directories and those that are not are all
-pub others : (es : List Entry) (all dirs : ℕ) → all ≡ length es → dirs ≡ count_by is_directory es → all - dirs ≡ count_by (λ e. not (is_directory e)) es
+pub others : (es : List Entry) (all dirs : ℕ) → all ≡ length es → dirs ≡ count_by is_directory es
+    → all - dirs ≡ count_by (λ e. not (is_directory e)) es
 others es all dirs a d =
     let file : Entry → Bool = λ e. not (is_directory e) in
     omega (arith, length-filter_both is_directory file (λ _. refl) es, length-filter is_directory es, length-filter file es)

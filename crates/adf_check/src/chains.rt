@@ -123,6 +123,7 @@ fn read_chain<L: Ledger>(
 }
 
 /// Reads the slots of a directory; `up` is its block.
+#[tactic(auto, using(crate::proofs::ChainSteps::empty_chain))]
 pub fn read_directory<L: Ledger>(
     image: &Image<'_>,
     store: &mut Store,

@@ -83,6 +83,7 @@ impl Checked<'_> {
     }
 
     /// The class of the owner of a block, without a search for its file; `None` if there is no such block.
+    #[tactic(auto, using(crate::proofs::StoreStands::keeps))]
     pub fn owner_class(&self, b: u32) -> Option<OwnerClass>
         ensures some { IsSome result ↔ (b < blocks self.now.image) }
         ensures part { (t : Tree) (l : Layout) (o : Owner) → StandsFor self.now t l
@@ -179,6 +180,7 @@ impl Checked<'_> {
     }
 
     /// The bytes of a file; `None` for the root, a directory, and past the last entry. An empty file needs no memory.
+    #[tactic(auto, using(crate::proofs::FilePieces::no_pieces))]
     pub fn read(&self, alloc: Global, n: Node) -> Result<Option<Vec<u8>>, NoMemory>
         ensures bytes { (t : Tree) (l : Layout) → StandsFor self.now t l
             → IfOk result (λ r. option_map (λ v. v.items) r ≡ bytes_of (entry t.entries n)) }
@@ -201,6 +203,7 @@ impl Checked<'_> {
     }
 
     /// The counts of the volume.
+    #[tactic(auto, using(crate::proofs::VolumeCounts::counts_are))]
     pub fn counts(&self) -> Counts
         ensures exact { (t : Tree) (l : Layout) → StandsFor self.now t l
             → result ≡ counts_of self.now.image t l }

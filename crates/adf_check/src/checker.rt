@@ -82,6 +82,7 @@ fn check_all<'a, L: Ledger>(
 
 /// Checks an image as `check` does, with a bound on its reads: each read of a block, except block 0 and the root, uses
 /// one of the reads. Six for each block of the image are enough for any content.
+#[tactic(auto, unfolding(adf_volume::specs::Image::name_of, adf_volume::specs::Image::stamps_of))]
 pub fn check_within<'a, L: Ledger>(
     alloc: Global,
     image: &'a [u8],

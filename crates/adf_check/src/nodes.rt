@@ -71,6 +71,7 @@ fn read_file<L: Ledger>(
 }
 
 // Reads the chains of a directory, or the blocks of a file.
+#[tactic(auto, using(crate::proofs::NodeSteps::root_begins))]
 fn read_node<L: Ledger>(
     image: &Image<'_>,
     store: &mut Store,

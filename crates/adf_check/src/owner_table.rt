@@ -34,6 +34,7 @@ impl Model for OwnerTable {
 
 impl OwnerTable {
     // The table for `blocks` blocks: `Boot` for blocks 0 and 1, `Free` for all others.
+    #[tactic(auto, using(crate::proofs::OwnerTables::new_is, crate::proofs::OwnerTables::new_table))]
     pub fn new(alloc: Global, blocks: u32) -> Result<OwnerTable, NoMemory>
         requires { 2 ≤ blocks }
         ensures { IfOk result (λ t.

@@ -76,6 +76,7 @@ fn page_named<L: Ledger>(
 }
 
 // Claims the bitmap extension block that `holder` points to, whose first page is page `i`.
+#[tactic(auto, using(crate::proofs::NumberBounds::pages_few))]
 fn claim_map_ext<L: Ledger>(
     image: &Image<'_>,
     root: &Root<'_>,
@@ -104,6 +105,7 @@ fn claim_map_ext<L: Ledger>(
 }
 
 // The block that points to page `i`; `holder` points to the page before, or is the root. Claims bitmap extensions.
+#[tactic(auto, using(crate::proofs::PageSteps::same_holder))]
 fn holder_of_page<L: Ledger>(
     image: &Image<'_>,
     root: &Root<'_>,
@@ -131,6 +133,7 @@ fn holder_of_page<L: Ledger>(
 }
 
 // Claims and reads page `i`, which `holder` points to.
+#[tactic(auto, using(crate::proofs::NumberBounds::pages_few))]
 fn read_page_at<L: Ledger>(
     image: &Image<'_>,
     root: &Root<'_>,
@@ -160,6 +163,7 @@ fn read_page_at<L: Ledger>(
 }
 
 /// Claims and reads the bitmap pages, each bitmap extension block before its pages; returns the blocks of the pages.
+#[tactic(auto, using(crate::proofs::PageSteps::list_done))]
 pub fn read_pages<L: Ledger>(
     alloc: Global,
     image: &Image<'_>,

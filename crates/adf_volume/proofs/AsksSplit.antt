@@ -44,7 +44,8 @@ module _ (image : List ℕ) (w : List (Role × ℕ)) (r : Role) (b : ℕ) where
     split_page k a i lt (inr (j, inl e, li, ke)) = new (MapExt j) (Page k) a i e.0 (omega arith)
     split_page k a i lt (inr (j, inr h, li, ke)) = old (Page k) (Page k) a i (lt, inr (j, h, li, ke)) (same_refl (Page k))
 
-    split_slot : (n p s a i : ℕ) → s < SLOTS → DirAt image ((r, b) ∷ w) p a → i ≡ FIRST_SLOT + s → word_in image a i ≢ 0 → Either (Head n p s zero) a i
+    split_slot : (n p s a i : ℕ) → s < SLOTS → DirAt image ((r, b) ∷ w) p a → i ≡ FIRST_SLOT + s → word_in image a i ≢ 0
+        → Either (Head n p s zero) a i
     split_slot n zero s a i ls (inl e) ie ne = absurd (other e.0)
     split_slot n zero s a i ls (inr h) ie ne = old (Head (suc (heads w)) zero s zero) (Head n zero s zero) a i (refl, ls, h, ie, ne) (omega arith)
     split_slot n (suc p) s a i ls d ie ne = elim (typed_cases d) [
@@ -78,7 +79,8 @@ module _ (image : List ℕ) (w : List (Role × ℕ)) (r : Role) (b : ℕ) where
       | inr g ↦ old (Ext n 1) (Ext n 1) a i (g, ie, ne) (same_refl (Ext n 1))
     ]
     asks_split (Ext n (suc (suc k))) a i (inl e, ie, ne) = new (Ext n (suc k)) (Ext n (suc (suc k))) a i e.0 (omega arith)
-    asks_split (Ext n (suc (suc k))) a i (inr h, ie, ne) = old (Ext n (suc (suc k))) (Ext n (suc (suc k))) a i (h, ie, ne) (same_refl (Ext n (suc (suc k))))
+    asks_split (Ext n (suc (suc k))) a i (inr h, ie, ne) =
+        old (Ext n (suc (suc k))) (Ext n (suc (suc k))) a i (h, ie, ne) (same_refl (Ext n (suc (suc k))))
     asks_split (Data n zero) a i h = absurd h
     asks_split (Data n (suc k)) a i ((h, f, lt), m, ie) = elim (typed_cases f) [
       | inl e ↦ new_head (Data n (suc k)) a i f.header e.0 refl

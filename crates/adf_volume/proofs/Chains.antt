@@ -1,7 +1,7 @@
 -- Chains of a tree.
 use Rattle.std.proofs.Common.{◌≡◌, ℕ, zero, suc, List, [], ◌∷◌, ◌++◌, ◌⊎◌, inl, inr, ◌+◌, ◌<◌, ◌≤◌, length, refl, sym, ap, subst, ◌∙◌, arith, Bool, true}
-use Rattle.std.proofs.Common.{false, cond}
-use Rattle.std.specs.Prelude.{Some, ◌↔◌, ◌-◌}
+use Rattle.std.proofs.Common.{false, cond, rules}
+use Rattle.std.specs.Prelude.{Some, ◌↔◌}
 use Rattle.std.specs.List.{slice_get}
 use Rattle.std.proofs.Common.{map, append_assoc}
 use Rattle.adf_tree.specs.Tree.{entry}
@@ -65,10 +65,7 @@ rises_kept false k rest i j n m low ih a b l = ih i j n m a b l
 
 pub chain_rises : (k : ℕ) (es : List Entry) (p s i j n m : ℕ) → At (nodes_from k es p s) i n → At (nodes_from k es p s) j m → i < j → n < m
 chain_rises k [] p s i j n m a b l = absurd a
-chain_rises k (e ∷ es) p s i j n m a b l =
-    rises_kept ((e.parent == p) && (slot_of e.name == s)) k (nodes_from (suc k) es p s) i j n m
-    (λ q x h. let r = at_chain (suc k) es p s q x h in let z : x ≡ suc k + r.index = r.number in omega arith)
-    (chain_rises (suc k) es p s) a b l
+chain_rises k (e ∷ es) p s i j n m a b l = search (rules, rises_kept, at_chain, chain_rises (suc k) es p s)
 
 -- entry n is one of slot s of directory p
 pub record SlotEntry (t : Tree) (p s n : ℕ) : Type 0 where
@@ -80,18 +77,11 @@ pub record SlotEntry (t : Tree) (p s n : ℕ) : Type 0 where
 
 -- the entry of a place in a chain
 pub entry_at : (t : Tree) (p s j n : ℕ) → At (chain_nodes t p s) j n → SlotEntry t p s n
-entry_at t p s j n h =
-    let r = at_chain 1 t.entries p s j n h in
-    let y : n ≡ 1 + r.index = r.number in
-    let z : suc r.index ≡ n = omega arith in
-    record { entry = r.entry; at = subst (λ n. EntryAt t n r.entry) z r.at; parent = r.parent; slot = r.slot; low = omega arith }
+entry_at t p s j n h = search (rules, at_chain)
 
 pub place_at : (t : Tree) (n : ℕ) (e : Entry) → EntryAt t n e → (j : ℕ) × At (chain_nodes t e.parent (slot_of e.name)) j n
 place_at t zero e h = absurd h
-place_at t (suc i) e h =
-    let r = chain_at 1 t.entries i e h in
-    let z : 1 + i ≡ suc i = omega arith in
-    (r.0, subst (λ n. At (chain_nodes t e.parent (slot_of e.name)) r.0 n) z r.1)
+place_at t (suc i) e h = grind (arith, common_steps, chain_at 1 t.entries i e h)
 
 pub entry_fun : (t : Tree) (n : ℕ) (e f : Entry) → EntryAt t n e → EntryAt t n f → e ≡ f
 entry_fun t zero e f h k = absurd h
@@ -122,17 +112,7 @@ sorted_places t v p s i q u j n m a' b' a b l = grind (arith, common_steps, entr
 pub chain_snoc : (k : ℕ) (es : List Entry) (e : Entry) (p s : ℕ)
     → nodes_from k (es ++ e ∷ []) p s ≡ nodes_from k es p s ++ cond ((e.parent == p) && (slot_of e.name == s)) ((k + length es) ∷ []) []
 chain_snoc k [] e p s = let z : k ≡ k + 0 = omega arith in ap (λ m. cond ((e.parent == p) && (slot_of e.name == s)) (m ∷ []) []) z
-chain_snoc k (f ∷ es) e p s =
-    let z : suc k + length es ≡ k + suc (length es) = omega arith in
-    let ih : nodes_from (suc k) (es ++ e ∷ []) p s
-    ≡ nodes_from (suc k) es p s ++ cond ((e.parent == p) && (slot_of e.name == s)) ((k + suc (length es)) ∷ []) [] =
-    chain_snoc (suc k) es e p s ∙ ap (λ m. nodes_from (suc k) es p s ++ cond ((e.parent == p) && (slot_of e.name == s)) (m ∷ []) []) z in
-    put ((f.parent == p) && (slot_of f.name == s)) k (nodes_from (suc k) (es ++ e ∷ []) p s) (nodes_from (suc k) es p s)
-    (cond ((e.parent == p) && (slot_of e.name == s)) ((k + suc (length es)) ∷ []) []) ih
-  where
-    put : (t : Bool) (k : ℕ) (xs ys zs : List ℕ) → xs ≡ ys ++ zs → cond t (k ∷ xs) xs ≡ cond t (k ∷ ys) ys ++ zs
-    put true k xs ys zs h = ap (λ l. k ∷ l) h
-    put false k xs ys zs h = h
+chain_snoc k (f ∷ es) e p s = search (rules, chain_snoc (suc k) es e p s)
 
 entry_suc : (es : List Entry) (i : ℕ) → entry es (suc i) ≡ slice_get es i
 entry_suc es i = grind (arith, common_steps, nat_tests)

@@ -1,6 +1,7 @@
 -- Whether a list of parts, each asked for in turn, asks for a role.
 use Rattle.std.proofs.Common.{◌≡◌, ℕ, zero, suc, List, inl, inr, ◌+◌, ◌-◌, ◌*◌, ◌/◌, ◌%◌, ◌<◌, ◌≢◌, refl, ap, subst, ◌∙◌, arith}
 use native.Mathlib.Decide.{dec_le, dec_lt, map_dec, ℕ_discrete}
+use Rattle.std.proofs.lemmas.Grind.{common_steps}
 use Rattle.adf_blocks.specs.declared.layout.TheConstants.{EXTENSION, FIRST_MAP_EXT, FIRST_PAGE, FIRST_SLOT, MAP_EXT_NEXT, MAP_EXT_PAGES, NEXT_IN_CHAIN}
 use Rattle.adf_blocks.specs.declared.layout.TheConstants.{POINTERS, ROOT_PAGES, SECONDARY_TYPE, SLOTS, ST_DIR, ST_FILE}
 use Rattle.adf_blocks.specs.Sizes.{blocks, pages_needed}
@@ -35,11 +36,7 @@ module _ (image : List ℕ) (w : List (Role × ℕ)) (v : IsGathered image w) wh
 
   -- whether the walk has a header at a place
   dec_chain : (p s j : ℕ) → Dec ((a : ℕ) × InChain p s j a)
-  dec_chain p s j =
-      elim (dec_has w (Head 0 p s j)) [
-        | inl l ↦ no (λ x. l (Head x.1.0 p s j) x.0 x.1.1 (refl, refl, refl))
-        | inr y ↦ let z = head_key 0 p s j y.role y.same in yes (y.block, (z.0, subst (λ r. Has w r y.block) z.1 y.has))
-      ]
+  dec_chain p s j = grind (arith, common_steps, dec_has w (Head 0 p s j), head_key)
 
   one_chain : (p s j a b : ℕ) → InChain p s j a → InChain p s j b → a ≡ b
   one_chain p s j a b h k = (one_block image v (Head h.0 p s j) (Head k.0 p s j) a b h.1 k.1 (refl, refl, refl)).1

@@ -1,5 +1,5 @@
 -- The block numbers of a list, and lists with no block number twice.
-use Rattle.std.proofs.Common.{◌≡◌, ℕ, suc, List, [], ◌∷◌, ◌++◌, inl, inr, refl, sym, ap, subst}
+use Rattle.std.proofs.Common.{◌≡◌, ℕ, suc, List, [], ◌∷◌, ◌++◌, inl, inr, refl, sym, ap, subst, rules}
 use Rattle.adf_volume.specs.Lists.{In, numbered, NoBlockTwice}
 use Rattle.adf_volume.proofs.Lists.{in_cases}
 
@@ -37,8 +37,4 @@ distinct_blocks {X} (x ∷ xs) d = ((λ y i e. d.0 (subst (λ b. In (blocks_of x
 
 pub distinct-append : (xs ys : List ℕ) → Distinct xs → Distinct ys → ((b : ℕ) → In xs b → In ys b → ⊥) → Distinct (xs ++ ys)
 distinct-append [] ys d e f = e
-distinct-append (x ∷ xs) ys d e f = (
-  (λ i. elim (in_cases xs ys x i) [ inl j ↦ d.0 j | inr j ↦ f x (inl refl) j ]),
-  distinct-append xs ys d.1 e
-      (λ b i j. f b (inr i) j),
-)
+distinct-append (x ∷ xs) ys d e f = search (rules, in_cases, distinct-append xs ys d.1 e)

@@ -1,5 +1,5 @@
 -- A look-up in a chain finds the entry of the tree.
-use Rattle.std.proofs.Common.{◌≡◌, ◌≢◌, true, false, ℕ, zero, suc, List, ◌+◌, ◌<◌, length, sym, ap, subst, ◌∙◌, arith, get_or}
+use Rattle.std.proofs.Common.{◌≡◌, ◌≢◌, false, ℕ, zero, suc, List, sym, subst, arith, get_or}
 use Rattle.std.specs.Prelude.{Some, None}
 use Rattle.std.proofs.lemmas.Bool.{false_from_ne_true}
 use Rattle.adf_base.specs.Hash.{slot_of}
@@ -19,10 +19,7 @@ pub child_yes : (t : Tree) (p : ℕ) (name : List ℕ) (n : ℕ) (e : Entry) →
     → child t.entries p name ≡ Some n
 child_yes t p name zero e v h q u = absurd h
 child_yes t p name (suc i) e v h q u =
-    let l : i < length t.entries = at_below t.entries i e h in
-    let z : get_or t.entries i e ≡ e = at_index_or t.entries i e e h in
-    let y : i + 1 ≡ suc i = omega arith in
-    child_is t.entries p name i e v l (subst (λ (x : Entry). is_child p name x ≡ true) (sym z) (is_child_from p name e q u)) ∙ ap Some y
+    grind (arith, common_steps, at_below t.entries i e h, at_index_or t.entries i e e h, is_child_from p name e q u, child_is)
 
 -- where no entry of the directory has this name there is no child
 pub child_no : (t : Tree) (p : ℕ) (name : List ℕ) → ((n : ℕ) (e : Entry) → EntryAt t n e → e.parent ≡ p → uppers e.name ≢ uppers name)
@@ -45,4 +42,5 @@ pub chain_no : (t : Tree) (p : ℕ) (name : List ℕ)
 chain_no t p name h = child_no t p name
     (λ n e a q u.
     let x = place_at t n e a in
-    h x.0 n e (subst (λ p. At (chain_nodes t p (slot_of name)) x.0 n) q (subst (λ s. At (chain_nodes t e.parent s) x.0 n) (same_slot e.name name u) x.1)) a u)
+    h x.0 n e (subst (λ p. At (chain_nodes t p (slot_of name)) x.0 n) q
+    (subst (λ s. At (chain_nodes t e.parent s) x.0 n) (same_slot e.name name u) x.1)) a u)

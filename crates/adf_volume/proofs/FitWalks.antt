@@ -1,13 +1,13 @@
 -- The whole walk of an image that a tree and a layout fit: each step takes what is due, so fewer roles remain.
-use Rattle.std.proofs.Common.{◌≡◌, ℕ, zero, suc, List, [], ◌∷◌, ◌⊎◌, inl, inr, ◌<◌, ◌≤◌, length, refl, sym, ap, subst, ◌∙◌, arith}
-use native.Mathlib.Decide.{dec_lt, ℕ_discrete}
+use Rattle.std.proofs.Common.{◌≡◌, ℕ, zero, suc, List, [], ◌∷◌, ◌⊎◌, inl, inr, ◌<◌, length, refl, sym, ap, subst, ◌∙◌, arith, rules}
+use native.Mathlib.Decide.{dec_lt}
 use Rattle.adf_tree.specs.Tree.{Tree}
 use Rattle.adf_volume.specs.Fits.{Fits}
 use Rattle.adf_volume.specs.Image.{root_of, word_in}
 use Rattle.adf_volume.specs.Layout.{Layout, owned}
 use Rattle.adf_volume.specs.LayoutRoles.{LayoutHas, owner_of}
 use Rattle.adf_volume.specs.Lists.{In}
-use Rattle.adf_volume.specs.Walk.{Role, first, second, third, Before, Same, heads, Asks, Lacks, IsDue, IsWalk, IsWhole}
+use Rattle.adf_volume.specs.Walk.{Role, third, Before, Same, heads, Asks, Lacks, IsDue, IsWalk, IsWhole}
 use Rattle.adf_volume.specs.Walk.Role.{Root}
 use Rattle.adf_volume.specs.Walk.IsWalk.{start, step}
 use Rattle.adf_volume.specs.declared.owner.Owner.{Owner}
@@ -20,23 +20,7 @@ use Rattle.adf_volume.proofs.WalkOrder.{before_trans}
 use Rattle.adf_volume.proofs.Roles.{asks_next_number, dec_has, renumbered, renumbered_same}
 
 dec_before : (r q : Role) → Dec (Before r q)
-dec_before r q =
-    elim (dec_lt (first r) (first q)) [
-      | yes l ↦ yes (omega arith, (λ e. omega arith), (λ e f. omega arith))
-      | no l ↦ elim (ℕ_discrete (first r) (first q)) [
-        | no n ↦ no (λ b. let u : first r ≤ first q = b.0 in omega arith)
-        | yes e ↦ elim (dec_lt (second r) (second q)) [
-          | yes k ↦ yes (omega arith, (λ e. omega arith), (λ e f. omega arith))
-          | no k ↦ elim (ℕ_discrete (second r) (second q)) [
-            | no n ↦ no (λ b. let u : second r ≤ second q = b.1 e in omega arith)
-            | yes f ↦ elim (dec_lt (third r) (third q)) [
-              | yes m ↦ yes (omega arith, (λ e. omega arith), (λ e f. m))
-              | no m ↦ no (λ b. m (b.2 e f))
-            ]
-          ]
-        ]
-      ]
-    ]
+dec_before r q = search (rules, dec_lt)
 
 not_before_self : (r : Role) → Before r r → ⊥
 not_before_self r b = let l : third r < third r = b.2 refl refl in omega arith
@@ -69,7 +53,8 @@ least P test (z ∷ rs) =
     ]
 
 -- a list without one member
-pub without : {X : Type 0} (rs : List X) (r : X) → In rs r → (rest : List X) × (length rs ≡ suc (length rest)) × ((q : X) → In rs q → (q ≡ r → ⊥) → In rest q)
+pub without : {X : Type 0} (rs : List X) (r : X) → In rs r
+    → (rest : List X) × (length rs ≡ suc (length rest)) × ((q : X) → In rs q → (q ≡ r → ⊥) → In rest q)
 without [] r i = absurd i
 without (z ∷ rs) r (inl e) = (rs, refl, (λ q i n. elim i [ inl f ↦ absurd (n (sym f ∙ e)) | inr j ↦ j ]))
 without (z ∷ rs) r (inr i) =
@@ -88,8 +73,8 @@ module _ (image : List ℕ) (t : Tree) (l : Layout) (fit : Fits image t l) where
   roles [] own = []
   roles (x ∷ xs) own = (owned_part image t l fit.places x.0 x.1 (own x.0 x.1 (inl refl))).0 ∷ roles xs (λ o b h. own o b (inr h))
 
-  in_roles : (xs : List (Owner × ℕ)) (own : (o : Owner) (b : ℕ) → In xs (o, b) → In (owned image l) (o, b)) (r : Role) (b : ℕ) → LayoutHas image t l r b
-      → In xs (owner_of r, b) → In (roles xs own) r
+  in_roles : (xs : List (Owner × ℕ)) (own : (o : Owner) (b : ℕ) → In xs (o, b) → In (owned image l) (o, b)) (r : Role) (b : ℕ)
+      → LayoutHas image t l r b → In xs (owner_of r, b) → In (roles xs own) r
   in_roles [] own r b h i = absurd i
   in_roles (x ∷ xs) own r b h (inl e) =
       let y = owned_part image t l fit.places x.0 x.1 (own x.0 x.1 (inl refl)) in

@@ -60,7 +60,8 @@ pub head_type : (image : List ℕ) (kind : Kind) (b up s : ℕ) → AllHold (dem
     → (word_in image b SECONDARY_TYPE ≡ ST_DIR) ⊎ (word_in image b SECONDARY_TYPE ≡ ST_FILE)
 head_type image kind b up s h = grind (arith, common_steps, demanded, not, which, entry, and_parts)
 
-pub head_slot_is : (image : List ℕ) (kind : Kind) (b up s : ℕ) → AllHold (demands_at b (head_form kind b up s (block image b))) → slot_of (name_of image b) ≡ s
+pub head_slot_is : (image : List ℕ) (kind : Kind) (b up s : ℕ) → AllHold (demands_at b (head_form kind b up s (block image b)))
+    → slot_of (name_of image b) ≡ s
 unfolding name_of
 head_slot_is image kind b up s h = grind (arith, common_steps, eqb-true, demanded)
 

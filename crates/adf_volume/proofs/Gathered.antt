@@ -1,7 +1,7 @@
 -- Facts of every list of parts that were each asked for and missing when added, for any content of their blocks.
 use Rattle.std.proofs.lemmas.Bool.{eqb-true}
 use Rattle.std.proofs.Common.{Bool, true, false, cond, eq-eqb, ◌≡◌, ℕ, zero, suc, List, [], ◌∷◌, inl, inr, ◌/◌, ◌<◌, ◌≤◌, ◌≢◌, refl, sym, ap}
-use Rattle.std.proofs.Common.{subst, ◌∙◌, arith}
+use Rattle.std.proofs.Common.{subst, ◌∙◌, arith, rules}
 use native.Mathlib.Decide.{dec_le, dec_lt}
 use Rattle.adf_blocks.specs.declared.layout.TheConstants.{POINTERS}
 use Rattle.adf_volume.specs.Image.{root_of}
@@ -93,7 +93,8 @@ module _ (image : List ℕ) where
   parent_asked v = asked_after v (λ m b k. parent_below v k)
 
   -- a number has one header
-  pub one_head : {w : List (Role × ℕ)} {n b c : ℕ} → IsGathered image w → (h : HeadAt w n b) (k : HeadAt w n c) → (head_role h ≡ head_role k) × (b ≡ c)
+  pub one_head : {w : List (Role × ℕ)} {n b c : ℕ} → IsGathered image w → (h : HeadAt w n b) (k : HeadAt w n c)
+      → (head_role h ≡ head_role k) × (b ≡ c)
   one_head start h k = absurd (no_head h)
   one_head (step {w = w} a i x v d l) h k = elim h.has [
     | inl e ↦ elim k.has [
@@ -145,14 +146,8 @@ module _ (image : List ℕ) where
   ext_below start n k b (inl e) = let h : first Root ≡ first (Ext n (suc k)) = ap first e.0 in absurd (omega arith)
   ext_below start n k b (inr f) = absurd f
   ext_below (step {w = w} {r = r} a i c v d l) n zero b (inl h) = grind (arith, common_steps, step, count_own)
-  ext_below (step {w = w} {r = r} a i c v d l) n (suc k) b (inl h) =
-      let q = subst (λ r. Asks image w r a i) h.0 d in
-      let ih : k < ext_count w n = ext_below v n k a q.0 in
-      subst (λ r. suc k < ext_count_of n r (ext_count w n)) (sym h.0) (rw (count_own n (suc (suc k)) (ext_count w n)) (omega arith))
-  ext_below (step {w = w} {r = r} a i c v d l) n k b (inr h) =
-      let ih : k < ext_count w n = ext_below v n k b h in
-      let up : ext_count w n ≤ ext_count_of n r (ext_count w n) = count_up n r (ext_count w n) in
-      omega arith
+  ext_below (step {w = w} {r = r} a i c v d l) n (suc k) b (inl h) = search (rules, count_own, ext_below v n k a)
+  ext_below (step {w = w} {r = r} a i c v d l) n k b (inr h) = search (rules, count_up, ext_below v n k b h)
 
   -- an extension block that comes is the next one
   pub next_ext : (w : List (Role × ℕ)) → IsGathered image w → (n k a i : ℕ) → Asks image w (Ext n k) a i → Lacks w (Ext n k)

@@ -1,6 +1,6 @@
 -- The size, boot bytes and root of an image.
 use Rattle.std.specs.Prelude.{Some, None, cond, slice_index}
-use Rattle.std.proofs.Common.{◌≡◌, ◌<◌, ℕ, List, [], ◌∷◌, ◌++◌, Bool, true, false, length, refl, ap, arith}
+use Rattle.std.proofs.Common.{◌≡◌, ◌<◌, ℕ, List, ◌∷◌, ◌++◌, Bool, true, false, length, refl, ap, arith}
 use Rattle.std.proofs.lemmas.Bool.{lt-ltb}
 use Rattle.std.proofs.lemmas.Bool.Decides.{nat_tests}
 use Rattle.std.proofs.lemmas.Grind.{common_steps}
@@ -53,11 +53,8 @@ fails_root image c h r = grind (arith, common_steps, fails_right, boot_holds, fi
 -- the type is the fourth byte of the image
 pub type_byte : (image : List ℕ) → slice_index (block image 0) 3 ≡ slice_index image 3
 unfolding block
-type_byte [] = refl
-type_byte (a ∷ []) = refl
-type_byte (a ∷ b ∷ []) = refl
-type_byte (a ∷ b ∷ c ∷ []) = refl
 type_byte (a ∷ b ∷ c ∷ d ∷ xs) = refl
+type_byte _ = refl
 
 -- where the boot bytes have no cause, the type is 0 or 1
 pub plain_type : (image : List ℕ) → AllHold (boot_demands image) → slice_index (block image 0) 3 < 2

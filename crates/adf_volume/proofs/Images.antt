@@ -18,7 +18,8 @@ pub block_length : (image : List ℕ) (b : ℕ) → length image ≡ 512 * block
 unfolding block
 block_length image b h l = simp (length-take, length-drop) (omega arith)
 
-pub area_length : (image : List ℕ) (k : Kind) (b : ℕ) → length image ≡ 512 * blocks image → b < blocks image → length (area k (block image b)) ≡ chunk k
+pub area_length : (image : List ℕ) (k : Kind) (b : ℕ) → length image ≡ 512 * blocks image → b < blocks image
+    → length (area k (block image b)) ≡ chunk k
 unfolding area chunk
 area_length image Ofs b h l = let z = block_length image b h l in simp (length-take, length-drop) (omega arith)
 area_length image Ffs b h l = let z = block_length image b h l in simp (length-take, length-drop) (omega arith)

@@ -32,9 +32,7 @@ owned_head n (q ∷ qs) (suc i) h = owned_later n q qs AHead i (head_at qs i) (o
 
 pub owned_ext : (n : ℕ) (qs : List Place) (i k b : ℕ) → At (exts_at qs i) k b → In (owned_from n qs) (AnExt (n + i) (suc k), b)
 owned_ext n [] i k b h = absurd h
-owned_ext n (q ∷ qs) zero k b h =
-    owned_here n q qs AnExt k b
-    (in_left (numbered (AnExt n) 1 q.exts) (numbered (AData n) 1 q.datas) (AnExt n (1 + k), b) (in_numbered (AnExt n) 1 q.exts k b h))
+owned_ext n (q ∷ qs) zero k b h = grind (arith, common_steps, in_numbered (AnExt n) 1 q.exts k b h, owned_here, in_left)
 owned_ext n (q ∷ qs) (suc i) k b h = owned_later n q qs (λ m. AnExt m (suc k)) i b (owned_ext (suc n) qs i k b h)
 
 pub owned_data : (n : ℕ) (qs : List Place) (i k b : ℕ) → At (datas_at qs i) k b → In (owned_from n qs) (AData (n + i) (suc k), b)
@@ -57,7 +55,8 @@ later n q qs o b (in_data i k h z) = let y : suc n + i ≡ n + suc i = omega ari
 
 pub owned_stands : (n : ℕ) (qs : List Place) (o : Owner) (b : ℕ) → In (owned_from n qs) (o, b) → Stands n qs o b
 owned_stands n [] o b h = absurd h
-owned_stands n (q ∷ qs) o b (inl e) = let z : n ≡ n + 0 = omega arith in in_head 0 (omega arith) (ap (λ p. p.1) e) (sym (ap (λ p. p.0) e) ∙ ap AHead z)
+owned_stands n (q ∷ qs) o b (inl e) =
+    let z : n ≡ n + 0 = omega arith in in_head 0 (omega arith) (ap (λ p. p.1) e) (sym (ap (λ p. p.0) e) ∙ ap AHead z)
 owned_stands n (q ∷ qs) o b (inr h) =
     let z : n ≡ n + 0 = omega arith in
     elim (in_cases (numbered (AnExt n) 1 q.exts ++ numbered (AData n) 1 q.datas) (owned_from (suc n) qs) (o, b) h) [
@@ -97,14 +96,10 @@ module _ (image : List ℕ) (t : Tree) (l : Layout) (long : length l.places ≡ 
       (subst (λ m. In (owned_from 1 l.places) (AHead m, head_at l.places i)) z (owned_head 1 l.places i (omega arith))))
   part_owned (Ext n zero) b h = absurd h
   part_owned (Ext zero (suc k)) b h = absurd h
-  part_owned (Ext (suc i) (suc k)) b h =
-      let z : 1 + i ≡ suc i = omega arith in
-      places_owned (AnExt (suc i) (suc k)) b (subst (λ m. In (owned_from 1 l.places) (AnExt m (suc k), b)) z (owned_ext 1 l.places i k b h))
+  part_owned (Ext (suc i) (suc k)) b h = grind (arith, common_steps, owned_ext 1 l.places i k b h, places_owned)
   part_owned (Data n zero) b h = absurd h
   part_owned (Data zero (suc k)) b h = absurd h
-  part_owned (Data (suc i) (suc k)) b h =
-      let z : 1 + i ≡ suc i = omega arith in
-      places_owned (AData (suc i) (suc k)) b (subst (λ m. In (owned_from 1 l.places) (AData m (suc k), b)) z (owned_data 1 l.places i k b h))
+  part_owned (Data (suc i) (suc k)) b h = grind (arith, common_steps, owned_data 1 l.places i k b h, places_owned)
 
   -- each member is a part
   pub owned_part : (o : Owner) (b : ℕ) → In (owned image l) (o, b) → (r : Role) × LayoutHas image t l r b × (o ≡ owner_of r)

@@ -18,6 +18,7 @@ use Rattle.adf_volume.proofs.Roles.{count_up, dir_is_node, dir_up, member_up, ty
 use Rattle.adf_volume.proofs.Walks.{file_is, is_there, of_walk}
 use Rattle.std.proofs.lemmas.Bool.{cond-true, cond-false, le-ltb, lt-ltb}
 use Rattle.std.proofs.lemmas.Grind.{common_steps}
+use Rattle.std.proofs.Common.{rules}
 
 -- the word that names a header
 abbrev pub HeadNamed : List ℕ → List (Role × ℕ) → ℕ → ℕ → ℕ → ℕ → Type 0
@@ -35,11 +36,13 @@ pub record IsNext (image : List ℕ) (w : List (Role × ℕ)) (n k h x : ℕ) : 
 
 abbrev pub Kept : List ℕ → List (Role × ℕ) → Role → ℕ → Type 0
 Kept image w Root b = Unit {0}
-Kept image w (Page k) b = (k < pages_needed (blocks image)) × ((a i : ℕ) × NamesPage image w k a i × (word_in image a i ≡ b)) × AllHold (page_demands image b)
+Kept image w (Page k) b =
+    (k < pages_needed (blocks image)) × ((a i : ℕ) × NamesPage image w k a i × (word_in image a i ≡ b)) × AllHold (page_demands image b)
 Kept image w (MapExt zero) b = (ROOT_PAGES < pages_needed (blocks image)) × (word_in image (root_of image) FIRST_MAP_EXT ≡ b)
 Kept image w (MapExt (suc j)) b =
     (ROOT_PAGES + MAP_EXT_PAGES * suc j < pages_needed (blocks image)) × ((a : ℕ) × Has w (MapExt j) a × (word_in image a MAP_EXT_NEXT ≡ b))
-Kept image w (Head n p s j) b = (s < SLOTS) × HeadNamed image w p s j b × ((c : ℕ) × DirAt image w p c × AllHold (head_demands image (kind_of image) b c s))
+Kept image w (Head n p s j) b =
+    (s < SLOTS) × HeadNamed image w p s j b × ((c : ℕ) × DirAt image w p c × AllHold (head_demands image (kind_of image) b c s))
 Kept image w (Ext n zero) b = ⊥
 Kept image w (Ext n (suc k)) b = ExtNamed image w n k b × ((h : ℕ) × FileAt image w n h × AllHold (ext_demands image b h))
 Kept image w (Data n zero) b = ⊥
@@ -76,15 +79,7 @@ module _ (image : List ℕ) where
   kept_up w x (Ext n (suc zero)) b h = ((h.0.0, typed_up x h.0.1, h.0.2), (h.1.0, typed_up x h.1.1, h.1.2))
   kept_up w x (Ext n (suc (suc k))) b h = ((h.0.0, inr h.0.1, h.0.2), (h.1.0, typed_up x h.1.1, h.1.2))
   kept_up w x (Data n zero) b h = absurd h
-  kept_up w x (Data n (suc k)) b h =
-      record {
-        head = h.head;
-        file = typed_up x h.file;
-        asked = h.asked;
-        enough = omega (arith, h.enough, count_up n x.0 (ext_count w n));
-        named = (h.named.0, member_up image w x n (k / POINTERS) h.named.0 h.named.1, h.named.2);
-        form = (h.form.0, next_up w x n (suc k) h.head h.form.0 h.form.1, h.form.2);
-      }
+  kept_up w x (Data n (suc k)) b h = search (rules, typed_up, count_up, member_up, next_up)
 
   -- a header that is asked for has its directory
   asks_dir : {w : List (Role × ℕ)} → ((r : Role) (b : ℕ) → Has w r b → Kept image w r b) → (n p s j a i : ℕ) → Asks image w (Head n p s j) a i
@@ -98,8 +93,8 @@ module _ (image : List ℕ) where
     there n (suc m) a f u = ext_counted image (of_walk image v) n m (omega arith)
 
     -- a file whose data block is due has enough extension blocks
-    pub enough : (n k a i b h : ℕ) → IsDue image w (Data n (suc k)) a i → PartHolds image w (Data n (suc k)) b → FileAt image w n h → k < data_count image h
-        → data_count image h ≤ POINTERS * suc (ext_count w n)
+    pub enough : (n k a i b h : ℕ) → IsDue image w (Data n (suc k)) a i → PartHolds image w (Data n (suc k)) b → FileAt image w n h
+        → k < data_count image h → data_count image h ≤ POINTERS * suc (ext_count w n)
     enough n zero a i b h d g f u = g.enough refl h f
     enough n (suc k) a i b h d g f u =
         let x = is_there image w (Data n 1) (Data n (suc (suc k))) a i h FIRST_POINTER d ((h, f, omega arith), f, refl)
@@ -138,7 +133,7 @@ module _ (image : List ℕ) where
     kept_new : (r : Role) (a i b : ℕ) → IsDue image w r a i → word_in image a i ≡ b → PartHolds image w r b → Kept image w r b
     kept_new Root a i b d e g = tt
     kept_new (Page k) a i b d e g = (d.asked.0, (a, i, d.asked.1, e), g.form)
-    kept_new (MapExt zero) a i b d e g = (d.asked.0, ap (λ a. word_in image a FIRST_MAP_EXT) (sym d.asked.1) ∙ ap (word_in image a) (sym d.asked.2) ∙ e)
+    kept_new (MapExt zero) a i b d e g = search rules
     kept_new (MapExt (suc j)) a i b d e g = (d.asked.0, (a, d.asked.1, ap (word_in image a) (sym d.asked.2) ∙ e))
     kept_new (Head n p s j) a i b d e g =
         let ad = asks_dir old n p s j a i d.asked in
@@ -170,9 +165,7 @@ module _ (image : List ℕ) where
   pub kept : {w : List (Role × ℕ)} → IsWalk image w → (r : Role) (b : ℕ) → Has w r b → Kept image w r b
   kept start r b (inl e) = subst (λ r. Kept image ((Root, root_of image) ∷ []) r b) e.0 tt
   kept start r b (inr h) = absurd h
-  kept (step {w = w} {r = q} {b = c} {a = a} {i = i} v d e g) r b (inl h) =
-      let new = kept_new w v (kept v) q a i c d e (part_holds image w q a c g) in
-      subst (λ r. Kept image ((q, c) ∷ w) r b) h.0 (subst (Kept image ((q, c) ∷ w) q) h.1 (kept_up w (q, c) q c new))
+  kept (step {w = w} {r = q} {b = c} {a = a} {i = i} v d e g) r b (inl h) = search (rules, kept_new, part_holds, kept_up, kept v)
   kept (step {w = w} {r = q} {b = c} v d e g) r b (inr h) = kept_up w (q, c) r b (kept v r b h)
 
   -- a bitmap extension block has all before it
@@ -184,7 +177,8 @@ module _ (image : List ℕ) where
         | no u ↦ let e : suc j ≡ i = omega arith in (b, subst (λ i. Has w (MapExt i) b) e h)
       ]
 
-  pub map_ext_low : (w : List (Role × ℕ)) (j b : ℕ) → IsWalk image w → Has w (MapExt j) b → ROOT_PAGES + MAP_EXT_PAGES * j < pages_needed (blocks image)
+  pub map_ext_low : (w : List (Role × ℕ)) (j b : ℕ) → IsWalk image w → Has w (MapExt j) b
+      → ROOT_PAGES + MAP_EXT_PAGES * j < pages_needed (blocks image)
   map_ext_low w zero b v h = (kept v (MapExt 0) b h).0
   map_ext_low w (suc j) b v h = (kept v (MapExt (suc j)) b h).0
 

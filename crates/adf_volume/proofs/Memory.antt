@@ -1,13 +1,13 @@
 -- No first fault is NoMemory.
-use Rattle.std.proofs.Common.{◌≡◌, ◌≢◌, ℕ, zero, suc, Bool, true, false, not, ◌&&◌, List, [], ◌∷◌, ◌++◌, inl, inr, refl, subst, arith}
+use Rattle.std.proofs.Common.{◌≡◌, ◌≢◌, ℕ, zero, suc, Bool, true, false, not, ◌&&◌, List, [], ◌∷◌, ◌++◌, inl, inr, refl, subst, arith, rules}
 use Rattle.std.proofs.lemmas.Bool.{and_parts}
 use Rattle.std.proofs.lemmas.Grind.{common_steps}
 use Rattle.adf_tree.specs.declared.entry.Kind.{Kind}
 use Rattle.adf_tree.specs.declared.entry.Kind.TheVariants.{Ofs, Ffs}
 use Rattle.adf_blocks.specs.declared.cause.Cause.{Cause}
 use Rattle.adf_blocks.specs.declared.cause.Cause.TheVariants.{NoMemory}
-use Rattle.adf_volume.specs.Demands.{Demand, FirstFails, boot_demands, data_demands, demand, root_demands}
-use Rattle.adf_volume.specs.Image.{root_of, word_in}
+use Rattle.adf_volume.specs.Demands.{Demand, FirstFails, boot_demands, data_demands, root_demands}
+use Rattle.adf_volume.specs.Image.{root_of}
 use Rattle.adf_volume.specs.Walk.{FirstFault, Role, bitmap_demands, demands, form_demands}
 use Rattle.adf_volume.specs.Walk.Role.{Root, Page, MapExt, Head, Ext, Data}
 use Rattle.adf_volume.specs.Walk.FirstFault.{at_boot, at_due, at_bitmap}
@@ -41,9 +41,7 @@ other_cause c e is = let none : false ≡ true = subst (λ (d : Cause). not (is_
 
 none_of : (xs : List Demand) → is_clear xs ≡ true → NoneHas NoMemory xs
 none_of [] h = tt
-none_of (x ∷ xs) h =
-    let parts = and_parts (not (is_memory x.cause)) (is_clear xs) h in
-    (other_cause x.cause parts.0, none_of xs parts.1)
+none_of (x ∷ xs) h = search (rules, and_parts, other_cause, none_of xs (and_parts (not (is_memory x.cause)) (is_clear xs) h).1)
 
 of_data : (image : List ℕ) (kind : Kind) (b h k n next : ℕ) → NoneHas NoMemory (data_demands image kind b h k n next)
 of_data image Ofs b h k n next = none_of (data_demands image Ofs b h k n next) refl
@@ -69,7 +67,7 @@ of_start image = none_of (boot_demands image ++ root_demands image (root_of imag
 
 no_memory : (image : List ℕ) (b : ℕ) → FirstFault image b NoMemory → ⊥
 no_memory image b (at_boot h) = none_fails (boot_demands image ++ root_demands image (root_of image)) b NoMemory (of_start image) h
-no_memory image b (at_due _ w r a i v d h) = none_fails (demands image w r a (word_in image a i)) b NoMemory (of_role image w r a (word_in image a i)) h
+no_memory image b (at_due _ w r a i v d h) = search (rules, none_fails, of_role)
 no_memory image b (at_bitmap _ w v whole h) = none_fails (bitmap_demands image w 2 _) b NoMemory (of_bitmap image w 2 _) h
 
 pub fault_of_image : (image : List ℕ) (b : ℕ) (c : Cause) → FirstFault image b c → c ≢ NoMemory

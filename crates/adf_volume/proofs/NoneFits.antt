@@ -42,5 +42,6 @@ module _ (image : List ℕ) (t : Tree) (l : Layout) (fit : Fits image t l) (w : 
 
 pub none_fits : (image : List ℕ) (b : ℕ) (c : Cause) (t : Tree) (l : Layout) → FirstFault image b c → Fits image t l → ⊥
 none_fits image b c t l (at_boot h) fit = grind (arith, common_steps, fails_not_all, all_append)
-none_fits image b c t l (at_due _ w r a i v d h) fit = fails_not_all (demands image w r a (word_in image a i)) b c h (due_is_part image t l fit w r a i v d).1
+none_fits image b c t l (at_due _ w r a i v d h) fit =
+    fails_not_all (demands image w r a (word_in image a i)) b c h (due_is_part image t l fit w r a i v d).1
 none_fits image b c t l (at_bitmap _ w v whole h) fit = grind (arith, common_steps, size_low, fails_not_all, bitmap_holds)

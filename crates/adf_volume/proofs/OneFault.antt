@@ -1,5 +1,5 @@
 -- There is at most one first fault.
-use Rattle.std.proofs.Common.{◌≡◌, ℕ, suc, List, [], ◌∷◌, ◌++◌, inl, inr, ◌-◌, ◌<◌, length, refl, sym, ap, subst, ◌∙◌, arith}
+use Rattle.std.proofs.Common.{◌≡◌, ℕ, suc, List, [], ◌∷◌, ◌++◌, inl, inr, ◌-◌, ◌<◌, length, refl, sym, subst, ◌∙◌, arith, rules}
 use Rattle.std.proofs.lemmas.Grind.{common_steps}
 use native.Mathlib.Decide.{dec_lt}
 use Rattle.adf_blocks.specs.declared.cause.Cause.{Cause}
@@ -33,7 +33,8 @@ module _ (image : List ℕ) where
   number_is w r a i n p s j h e = asks_number image w n p s j a i (subst (λ r. Asks image w r a i) e h)
 
   -- one role is due, by one word
-  due_one : (w : List (Role × ℕ)) → IsWalk image w → (r q : Role) (a i b j : ℕ) → IsDue image w r a i → IsDue image w q b j → (r ≡ q) × (a ≡ b) × (i ≡ j)
+  due_one : (w : List (Role × ℕ)) → IsWalk image w → (r q : Role) (a i b j : ℕ) → IsDue image w r a i → IsDue image w q b j
+      → (r ≡ q) × (a ≡ b) × (i ≡ j)
   due_one w v r q a i b j d e =
       let same : Same r q = neither_before r q (e.least r a i d.asked d.lacks) (d.least q b j e.asked e.lacks) in
       let z : r ≡ q = same_role r q same (λ n m p s k f g. number_is w r a i n p s k d.asked f ∙ sym (number_is w q b j m p s k e.asked g)) in
@@ -59,11 +60,7 @@ module _ (image : List ℕ) where
   same_walks start (step v d f n) e = absurd (not_empty v (omega arith))
   same_walks (step v d f n) start e = absurd (not_empty v (omega arith))
   same_walks (step {w = w} {r = r} {b = b} {a = a} {i = i} v d f n) (step {w = u} {r = q} {b = c} {a = a'} {i = i'} v' d' f' n') e =
-      let z : w ≡ u = same_walks v v' (omega arith) in
-      let d2 : IsDue image u r a i = subst (λ w. IsDue image w r a i) z d in
-      let x = due_one u v' r q a i a' i' d2 d' in
-      let y : b ≡ c = sym f ∙ ap (λ a. word_in image a i) x.1 ∙ ap (word_in image a') x.2 ∙ f' in
-      λ t. (x.0 t, y t) ∷ z t
+      search (rules, due_one, same_walks v v')
 
   -- from the shorter of two walks a step leads on
   goes_on : {u : List (Role × ℕ)} → IsWalk image u → (w : List (Role × ℕ)) → IsWalk image w → length w < length u → (x : List (Role × ℕ)) × Step w x
@@ -101,8 +98,8 @@ module _ (image : List ℕ) where
       let long : length u < length w → ⊥ = (λ l. let s = goes_on v u v' l in g s.0 s.1) in
       same_walks v v' (omega arith)
 
-  two_due : (w u : List (Role × ℕ)) (r q : Role) (a i a' i' b : ℕ) (c : Cause) (b' : ℕ) (c' : Cause) → IsWalk image w → IsWalk image u → IsDue image w r a i
-      → IsDue image u q a' i' →
+  two_due : (w u : List (Role × ℕ)) (r q : Role) (a i a' i' b : ℕ) (c : Cause) (b' : ℕ) (c' : Cause) → IsWalk image w → IsWalk image u
+      → IsDue image w r a i → IsDue image u q a' i' →
       FirstFails (demands image w r a (word_in image a i)) b c → FirstFails (demands image u q a' (word_in image a' i')) b' c' → (b ≡ b') × (c ≡ c')
   two_due w u r q a i a' i' b c b' c' v v' d d' f f' =
       let z = one_walk w u v v' (λ x. no_step w x r a i b c v d f) (λ x. no_step u x q a' i' b' c' v' d' f') in
@@ -125,7 +122,7 @@ module _ (image : List ℕ) where
   one_fault b c b' c' (at_boot f) (at_boot g) = fails_one (boot_demands image ++ root_demands image (root_of image)) b c b' c' f g
   one_fault b c b' c' (at_boot f) (at_due h w r a i v d g) = absurd (fails_not_all (boot_demands image ++ root_demands image (root_of image)) b c f h)
   one_fault b c b' c' (at_boot f) (at_bitmap h w v k g) = absurd (fails_not_all (boot_demands image ++ root_demands image (root_of image)) b c f h)
-  one_fault b c b' c' (at_due h w r a i v d g) (at_boot f) = absurd (fails_not_all (boot_demands image ++ root_demands image (root_of image)) b' c' f h)
+  one_fault b c b' c' (at_due h w r a i v d g) (at_boot f) = search (rules, fails_not_all)
   one_fault b c b' c' (at_due h w r a i v d g) (at_due h' w' r' a' i' v' d' g') = two_due w w' r r' a i a' i' b c b' c' v v' d d' g g'
   one_fault b c b' c' (at_due h w r a i v d g) (at_bitmap h' w' v' k' g') = absurd (due_and_whole w w' r a i b c v v' d g k')
   one_fault b c b' c' (at_bitmap h w v k g) (at_boot f) = absurd (fails_not_all (boot_demands image ++ root_demands image (root_of image)) b' c' f h)

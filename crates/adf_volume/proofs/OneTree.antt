@@ -26,8 +26,8 @@ same_entry e f a b c d = λ i. record { parent = a i; name = b i; meta = c i; bo
 same_place : (q r : Place) → q.head ≡ r.head → q.exts ≡ r.exts → q.datas ≡ r.datas → q ≡ r
 same_place q r a b c = λ i. record { head = a i; exts = b i; datas = c i }
 
-module _ (image : List ℕ) (w : List (Role × ℕ)) (v : IsWalk image w) (whole : IsWhole image w) (t : Tree) (l : Layout) (fit : Fits image t l) (u : Tree)
-    (m : Layout) (fit' : Fits image u m) where
+module _ (image : List ℕ) (w : List (Role × ℕ)) (v : IsWalk image w) (whole : IsWhole image w) (t : Tree) (l : Layout) (fit : Fits image t l)
+    (u : Tree) (m : Layout) (fit' : Fits image u m) where
   carry : (r : Role) (b : ℕ) → LayoutHas image t l r b → LayoutHas image u m r b
   carry r b h = agreement image u m fit' w r b v (part_walked image t l fit w v whole r b h)
 
@@ -52,7 +52,8 @@ module _ (image : List ℕ) (w : List (Role × ℕ)) (v : IsWalk image w) (whole
   same_body : (n h h' : ℕ) (a b : Body) → h ≡ h' → BodyFits image t.kind l n h a → BodyFits image u.kind m n h' b → a ≡ b
   same_body n h h' Dir Dir z f g = refl
   same_body n h h' Dir (File ys) z f g = absurd (let e : ST_DIR ≡ ST_FILE = sym f.0 ∙ ap (λ h. word_in image h SECONDARY_TYPE) z ∙ g.0 in omega arith)
-  same_body n h h' (File xs) Dir z f g = absurd (let e : ST_DIR ≡ ST_FILE = sym g.0 ∙ ap (λ h. word_in image h SECONDARY_TYPE) (sym z) ∙ f.0 in omega arith)
+  same_body n h h' (File xs) Dir z f g =
+      absurd (let e : ST_DIR ≡ ST_FILE = sym g.0 ∙ ap (λ h. word_in image h SECONDARY_TYPE) (sym z) ∙ f.0 in omega arith)
   same_body n h h' (File xs) (File ys) z f g = grind (arith, common_steps, same_kind, same_datas)
 
   pub same_head_block : (n : ℕ) (e : Entry) → EntryAt t n e → at_node image l n ≡ at_node image m n
@@ -102,5 +103,6 @@ one_tree image w t u l m v whole f g = (
       (same_list t.entries u.entries (λ i e h. entry_carried image w v whole t l f u m g (suc i) e h)
       (λ i e h. entry_carried image w v whole u m g t l f (suc i) e h)),
   same_layout l m (same_pages image w v whole t l f u m g) (same_map_exts image w v whole t l f u m g)
-      (same_list l.places m.places (λ i q h. place_carried image w v whole t l f u m g i q h) (λ i q h. place_carried image w v whole u m g t l f i q h)),
+      (same_list l.places m.places (λ i q h. place_carried image w v whole t l f u m g i q h)
+      (λ i q h. place_carried image w v whole u m g t l f i q h)),
 )

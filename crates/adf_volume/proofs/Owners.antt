@@ -1,5 +1,5 @@
 -- The owners of a layout are all different.
-use Rattle.std.proofs.Common.{◌≡◌, ℕ, suc, List, [], ◌∷◌, ◌++◌, inl, inr, ◌+◌, refl, sym, ap, ◌∙◌, ◌<◌, ◌≤◌, arith}
+use Rattle.std.proofs.Common.{◌≡◌, ℕ, suc, List, [], ◌∷◌, ◌++◌, inl, inr, ◌+◌, refl, ap, ◌<◌, ◌≤◌, arith, rules}
 use Rattle.std.proofs.lemmas.Grind.{common_steps}
 use Rattle.adf_volume.specs.Lists.{In, numbered, NoBlockTwice}
 use Rattle.adf_volume.specs.Layout.{Place, Layout, owned_from, owned}
@@ -23,10 +23,7 @@ once_append (x ∷ xs) ys h k d = (
 
 once_numbered : (f : ℕ → Owner) (k : ℕ) (bs : List ℕ) → ((a b : ℕ) → f a ≡ f b → a ≡ b) → Once (numbered f k bs)
 once_numbered f k [] inj = tt
-once_numbered f k (b ∷ bs) inj = (
-  (λ y c i e. let r = numbered_at f (suc k) bs y c i in let z : k ≡ suc k + r.0 = inj k (suc k + r.0) (e ∙ r.2) in omega arith),
-  once_numbered f (suc k) bs inj,
-)
+once_numbered f k (b ∷ bs) inj = search (rules, numbered_at, once_numbered f (suc k) bs inj)
 
 -- the number of an owner's node, 0 where it has none
 abbrev owner_node : Owner → ℕ
@@ -46,33 +43,7 @@ not_later n qs x y b s l e = let f = ap owner_node e in let g = stands_node n qs
 
 once_places : (n : ℕ) (qs : List Place) → Once (owned_from n qs)
 once_places n [] = tt
-once_places n (q ∷ qs) =
-    let exts : List (Owner × ℕ) = numbered (AnExt n) 1 q.exts in
-    let datas : List (Owner × ℕ) = numbered (AData n) 1 q.datas in
-    let rest : List (Owner × ℕ) = owned_from (suc n) qs in (
-      (λ y b i e. elim (in_cases (exts ++ datas) rest (y, b) i) [
-        | inl j ↦ elim (in_cases exts datas (y, b) j) [
-          | inl k ↦ let r = numbered_at (AnExt n) 1 q.exts y b k in let f : AHead n ≡ AnExt n (1 + r.0) = e ∙ r.2 in cc
-          | inr k ↦ let r = numbered_at (AData n) 1 q.datas y b k in let f : AHead n ≡ AData n (1 + r.0) = e ∙ r.2 in cc
-        ]
-        | inr j ↦ not_later (suc n) qs (AHead n) y b (owned_stands (suc n) qs y b j) (omega arith) e
-      ]),
-      once_append (exts ++ datas) rest
-          (once_append exts datas (once_numbered (AnExt n) 1 q.exts (λ a b h. cc)) (once_numbered (AData n) 1 q.datas (λ a b h. cc))
-          (λ x y b c i j e.
-          let r = numbered_at (AnExt n) 1 q.exts x b i in
-          let s = numbered_at (AData n) 1 q.datas y c j in
-          let f : AnExt n (1 + r.0) ≡ AData n (1 + s.0) = sym r.2 ∙ e ∙ s.2 in cc))
-          (once_places (suc n) qs)
-          (λ x y b c i j e. elim (in_cases exts datas (x, b) i) [
-            | inl k ↦
-                let r = numbered_at (AnExt n) 1 q.exts x b k in
-                not_later (suc n) qs (AnExt n (1 + r.0)) y c (owned_stands (suc n) qs y c j) (omega arith) (sym r.2 ∙ e)
-            | inr k ↦
-                let r = numbered_at (AData n) 1 q.datas x b k in
-                not_later (suc n) qs (AData n (1 + r.0)) y c (owned_stands (suc n) qs y c j) (omega arith) (sym r.2 ∙ e)
-          ]),
-    )
+once_places n (q ∷ qs) = search (rules, in_cases, numbered_at, not_later, owned_stands, once_append, once_numbered, once_places (suc n) qs)
 
 pub once_owned : (image : List ℕ) (l : Layout) → Once (owned image l)
 once_owned image l = grind (arith, common_steps, in_cases, numbered_at, not_later, owned_stands, once_append, once_numbered, once_places)

@@ -1,5 +1,5 @@
 -- The pieces of a file joined are its content.
-use Rattle.std.proofs.Common.{◌≡◌, ℕ, zero, suc, List, [], ◌∷◌, ◌++◌, ◌+◌, ◌-◌, ◌*◌, ◌<◌, ◌≤◌, length, refl, sym, ap, subst, ◌∙◌, arith}
+use Rattle.std.proofs.Common.{◌≡◌, ℕ, zero, suc, List, [], ◌∷◌, ◌++◌, ◌+◌, ◌-◌, ◌*◌, ◌<◌, ◌≤◌, length, refl, sym, ap, subst, ◌∙◌, arith, rules}
 use Rattle.std.proofs.Common.{drop, get_or, take, take_all}
 use Rattle.std.specs.Prelude.{slice_range}
 use Rattle.std.specs.List.{concat}
@@ -25,8 +25,7 @@ take_append : (s : ℕ) (xs ys : List ℕ) → take s (xs ++ ys) ≡ take s xs +
 take_append zero [] ys = let z : 0 - length {A = ℕ} [] ≡ 0 = omega arith in ap (λ k. take k ys) (sym z)
 take_append (suc s) [] ys = let z : suc s - length {A = ℕ} [] ≡ suc s = omega arith in ap (λ k. take k ys) (sym z)
 take_append zero (x ∷ xs) ys = let z : 0 - length (x ∷ xs) ≡ 0 = omega arith in sym (take_zero ys) ∙ ap (λ k. take k ys) (sym z)
-take_append (suc s) (x ∷ xs) ys =
-    let z : s - length xs ≡ suc s - length (x ∷ xs) = omega arith in ap (λ zs. x ∷ zs) (take_append s xs ys) ∙ ap (λ k. x ∷ (take s xs ++ take k ys)) z
+take_append (suc s) (x ∷ xs) ys = search (rules, take_append s xs ys)
 
 -- what is left of a size from data block k + 1 on
 left : Kind → ℕ → ℕ → ℕ
@@ -72,9 +71,7 @@ pub piece_at : (image : List ℕ) (kind : Kind) (size k : ℕ) (bs : List ℕ) (
     → At (pieces image kind size k bs) i (piece kind size (k + i) (block image b))
 piece_at image kind size k [] i b h = absurd h
 piece_at image kind size k (c ∷ bs) zero b h = let z : k ≡ k + 0 = omega arith in λ t. piece kind size (z t) (block image (h t))
-piece_at image kind size k (c ∷ bs) (suc i) b h =
-    let z : suc k + i ≡ k + suc i = omega arith in
-    subst (λ m. At (pieces image kind size (suc k) bs) i (piece kind size m (block image b))) z (piece_at image kind size (suc k) bs i b h)
+piece_at image kind size k (c ∷ bs) (suc i) b h = search (rules, piece_at image kind size (suc k) bs i b h)
 
 -- a data block that a size needs begins within it
 some_left : (kind : Kind) (size k : ℕ) → k < count kind size → (0 < chunk kind) × (chunk kind * k < size)
@@ -105,12 +102,8 @@ inside_next image ds others x k e h =
 -- what a data block holds is the first part of its data area
 pub piece_ofs : (size k n : ℕ) (b : List ℕ) → n ≡ held Ofs size k → n ≤ chunk Ofs → slice_range b 24 (24 + n) ≡ piece Ofs size k b
 unfolding area chunk
-piece_ofs size k n b e le =
-    let z : 24 + n - 24 ≡ n = omega arith in
-    ap (λ m. take m (drop 24 b)) z ∙ sym (take-take n 488 (drop 24 b) le) ∙ ap (λ m. take m (take 488 (drop 24 b))) e
+piece_ofs size k n b e le = grind (arith, common_steps, take-take n 488 (drop 24 b) le)
 
 pub piece_ffs : (size k n : ℕ) (b : List ℕ) → n ≡ held Ffs size k → n ≤ chunk Ffs → slice_range b 0 (0 + n) ≡ piece Ffs size k b
 unfolding area chunk
-piece_ffs size k n b e le =
-    let z : 0 + n - 0 ≡ n = omega arith in
-    ap (λ m. take m (drop 0 b)) z ∙ sym (take-take n 512 (drop 0 b) le) ∙ ap (λ m. take m (take 512 (drop 0 b))) e
+piece_ffs size k n b e le = grind (arith, common_steps, take-take n 512 (drop 0 b) le)

@@ -26,8 +26,8 @@ module _ (image : List ℕ) (w : List (Role × ℕ)) where
   link_one v p s (suc j) a i c k x y = grind (arith, common_steps, one_block)
 
   -- where its word is 0 a chain ends
-  pub link_ends : IsGathered image w → (p s j a i : ℕ) → IsLink image w p s j a i → word_in image a i ≡ 0 → (n c k : ℕ) → Asks image w (Head n p s j) c k
-      → ⊥
+  pub link_ends : IsGathered image w → (p s j a i : ℕ) → IsLink image w p s j a i → word_in image a i ≡ 0 → (n c k : ℕ)
+      → Asks image w (Head n p s j) c k → ⊥
   link_ends v p s j a i link none n c k h = grind (arith, common_steps, asked_link, link_one)
 
   -- an extension block that a word names is asked for
@@ -40,8 +40,8 @@ module _ (image : List ℕ) (w : List (Role × ℕ)) where
   asked_member n (suc m) a i h = h
 
   -- where its word is 0 the extension blocks end
-  pub ext_ends : IsGathered image w → (n m a : ℕ) → MemberAt image w n m a → word_in image a EXTENSION ≡ 0 → (c i : ℕ) → Asks image w (Ext n (suc m)) c i
-      → ⊥
+  pub ext_ends : IsGathered image w → (n m a : ℕ) → MemberAt image w n m a → word_in image a EXTENSION ≡ 0 → (c i : ℕ)
+      → Asks image w (Ext n (suc m)) c i → ⊥
   ext_ends v n m a member none c i h = grind (arith, common_steps, asked_member, member_one)
 
   -- where no bitmap extension block comes before page k

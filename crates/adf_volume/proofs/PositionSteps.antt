@@ -224,7 +224,8 @@ module _ (image : List ℕ) {w over : List (Role × ℕ)} where
         low _ a i h e = omega arith
 
     -- behind the last node nothing is asked for
-    pub end_nodes : (n : ℕ) → heads w < n → IsUpTo image w over (before_node n) → (q : Role) (a i : ℕ) → Asks image w q a i → Lacks w q → Lacks over q → ⊥
+    pub end_nodes : (n : ℕ) → heads w < n → IsUpTo image w over (before_node n) → (q : Role) (a i : ℕ) → Asks image w q a i → Lacks w q → Lacks over q
+        → ⊥
     end_nodes n lt u q a i h l m = u.gone q a i h l m (let x = asked_low image v q a i h in omega arith)
 
 -- the root alone comes before the first page

@@ -1,8 +1,7 @@
 -- Roles, and lists of them with blocks, for any content of the blocks.
-use Rattle.std.proofs.Common.{◌≡◌, ℕ, zero, suc, List, [], ◌∷◌, ◌⊎◌, inl, inr, ◌<◌, ◌≤◌, refl, sym, ap, subst, arith}
+use Rattle.std.proofs.Common.{◌≡◌, ℕ, zero, suc, List, [], ◌∷◌, ◌⊎◌, inl, inr, ◌<◌, ◌≤◌, refl, sym, ap, subst, arith, rules}
 use Rattle.std.proofs.Common.{eq-eqb}
 use Rattle.std.proofs.lemmas.Grind.{common_steps}
-use native.Mathlib.Decide.{ℕ_discrete}
 use Rattle.adf_volume.specs.Walk.{Role, first, second, third, Same, Has, head_count, heads, HeadAt, TypedAt, NodeAt, DirAt, MemberAt, Asks, Lacks}
 use Rattle.adf_volume.specs.Walk.{ext_count_of}
 use Rattle.adf_volume.specs.Walk.Role.{Root, Page, MapExt, Head, Ext, Data}
@@ -67,14 +66,7 @@ count_own n k c = rw (eq-eqb n n refl)
 
 -- whether two roles have one key
 pub dec_same : (r q : Role) → Dec (Same r q)
-dec_same r q =
-    elim (ℕ_discrete (first r) (first q)) [
-      | no n ↦ no (λ s. n s.0)
-      | yes e ↦ elim (ℕ_discrete (second r) (second q)) [
-        | no n ↦ no (λ s. n s.1)
-        | yes f ↦ elim (ℕ_discrete (third r) (third q)) [ no n ↦ no (λ s. n s.2) | yes g ↦ yes (e, f, g) ]
-      ]
-    ]
+dec_same r q = search rules
 
 -- whether a walk has a role
 pub dec_has : (w : List (Role × ℕ)) (r : Role) → Lacks w r ⊎ record { role : Role; block : ℕ; has : Has w role block; same : Same role r }
@@ -94,10 +86,7 @@ has_role w r nohead q b h s = subst (λ z. Has w z b) (same_role q r s (λ n m p
 
 -- whether a walk has a role that is no header's
 pub has_low : (w : List (Role × ℕ)) (r : Role) → second r < 2 → Lacks w r ⊎ ((b : ℕ) × Has w r b)
-has_low w r low = elim (dec_has w r) [
-  | inl l ↦ inl l
-  | inr y ↦ inr (y.block, has_role w r (λ n p s j z. omega (arith, low, ap second z)) y.role y.block y.has y.same)
-]
+has_low w r low = grind (arith, common_steps, dec_has w r, has_role)
 
 -- only a header has a header's key
 pub head_key : (n p s j : ℕ) (q : Role) → Same q (Head n p s j) → (m : ℕ) × (q ≡ Head m p s j)

@@ -58,22 +58,18 @@ tiny_range o b (inr (inr h)) = absurd h
 -- each bit of the page is clear
 tiny_bits : (b : ℕ) → IsFreeAt tiny 3 ((b - 2) % 4064) → 2 ≤ b → b < 4 → ⊥
 unfolding tiny tiny_root block word
-tiny_bits zero h l u = omega arith
-tiny_bits (suc zero) h l u = omega arith
 tiny_bits (suc (suc zero)) h l u = h refl
 tiny_bits (suc (suc (suc zero))) h l u = h refl
-tiny_bits (suc (suc (suc (suc b)))) h l u = omega arith
+tiny_bits _ h l u = omega arith
 
 tiny_bitmap : (b : ℕ) → 2 ≤ b → b < 4 → IsFree tiny tiny_layout.pages b → ⊥
 tiny_bitmap b l u f = let x = page_at ((b - 2) / 4064) f.0 f.1 in tiny_bits b (subst (λ p. IsFreeAt tiny p ((b - 2) % 4064)) (sym x.1) f.2) l u
 
 tiny_owned : (b : ℕ) → 2 ≤ b → b < 4 → ((o : Owner) → In (owned tiny tiny_layout) (o, b) → ⊥) → ⊥
 unfolding tiny tiny_root
-tiny_owned zero l u f = omega arith
-tiny_owned (suc zero) l u f = omega arith
 tiny_owned (suc (suc zero)) l u f = f _ (inl refl)
 tiny_owned (suc (suc (suc zero))) l u f = f _ (inr (inl refl))
-tiny_owned (suc (suc (suc (suc b)))) l u f = omega arith
+tiny_owned _ l u f = omega arith
 
 tiny_once : NoBlockTwice (owned tiny tiny_layout)
 unfolding tiny tiny_root

@@ -42,15 +42,22 @@ dir_node t (suc i) h =
     let x = h (omega arith) in
     let l : suc i ≤ length t.entries = x.0 in
     let e = at_some t.entries i (omega arith) in
-    let z : suc i - 1 ≡ i = omega arith in
-    (e.0, e.1, ap (λ (y : Entry). y.body) (sym (at_index_or t.entries i e.0 e.0 e.1)) ∙ subst (λ k. (slice_index_or t.entries k e.0).body ≡ Dir) z (x.1 e.0))
+    let z : suc i - 1 ≡ i = omega arith in (
+      e.0,
+      e.1,
+      ap (λ (y : Entry). y.body) (sym (at_index_or t.entries i e.0 e.0 e.1)) ∙ subst (λ k. (slice_index_or t.entries k e.0).body ≡ Dir) z
+          (x.1 e.0),
+    )
 
 pub is_dir : (t : Tree) (p : ℕ) → DirNode t p → IsDir t.entries p
 is_dir t zero d = λ h. absurd (omega arith)
 is_dir t (suc i) d = λ h.
     let l : i < length t.entries = at_below t.entries i d.0 d.1 in
-    let z : i ≡ suc i - 1 = omega arith in
-    (omega arith, λ x. subst (λ k. (slice_index_or t.entries k x).body ≡ Dir) z (ap (λ (y : Entry). y.body) (at_index_or t.entries i d.0 x d.1) ∙ d.2))
+    let z : i ≡ suc i - 1 = omega arith in (
+      omega arith,
+      λ x. subst (λ k. (slice_index_or t.entries k x).body ≡ Dir) z
+          (ap (λ (y : Entry). y.body) (at_index_or t.entries i d.0 x d.1) ∙ d.2),
+    )
 
 rank_below : (p q s u : ℕ) → 72 * p + s ≤ 72 * q + u → s < 72 → u < 72 → (p ≤ q) × (p ≡ q → s ≤ u)
 rank_below p q s u h a b = (omega arith, λ e. omega arith)
@@ -61,12 +68,7 @@ rank_up p q s u h f a = elim (ℕ_discrete p q) [ yes e ↦ let k : s ≤ u = f 
 module _ (t : Tree) (v : IsTree t.entries) where
   parents_of : HasParents t
   parents_of zero e h = absurd h
-  parents_of (suc i) e h =
-      let l : i < length t.entries = at_below t.entries i e h in
-      let z : slice_index_or t.entries i e ≡ e = at_index_or t.entries i e e h in
-      let x : (slice_index_or t.entries i e).parent ≤ i = v.parents i e l in
-      let y : e.parent ≤ i = subst (λ (f : Entry). f.parent ≤ i) z x in
-      (omega arith, dir_node t e.parent (subst (λ (f : Entry). IsDir t.entries f.parent) z (v.dirs i e l)))
+  parents_of (suc i) e h = grind (arith, common_steps, at_below t.entries i e h, at_index_or t.entries i e e h, dir_node)
 
   order_of : HasOrder t
   order_of zero m e f h k lt = absurd h
@@ -80,10 +82,7 @@ module _ (t : Tree) (v : IsTree t.entries) where
       rank_below e.parent f.parent (slot_of e.name) (slot_of f.name) y (slot_small e.name) (slot_small f.name)
 
   apart : (i j : ℕ) (e f : Entry) → At t.entries i e → At t.entries j f → i < j → AreApart e f
-  apart i j e f h k lt =
-      let l : j < length t.entries = at_below t.entries j f k in
-      subst (λ (g : Entry). AreApart e g) (at_index_or t.entries j f e k)
-      (subst (λ (g : Entry). AreApart g (slice_index_or t.entries j e)) (at_index_or t.entries i e e h) (v.names i j e lt l))
+  apart i j e f h k lt = grind (arith, common_steps, at_below t.entries j f k, at_index_or t.entries j f e k, at_index_or t.entries i e e h)
 
   names_of : HasNames t
   names_of zero m e f h k ne p = absurd h
@@ -118,7 +117,8 @@ is_tree_from t o = record {
     rises i j e f h k le =
         elim (dec_lt i j) [
           | yes lt ↦
-              let x = o.order (suc i) (suc j) e f h k (omega arith) in rank_up e.parent f.parent (slot_of e.name) (slot_of f.name) x.0 x.1 (slot_small e.name)
+              let x = o.order (suc i) (suc j) e f h k (omega arith) in rank_up e.parent f.parent (slot_of e.name) (slot_of f.name) x.0 x.1
+              (slot_small e.name)
           | no lt ↦
               let z : e ≡ f = at_fun t.entries i e f h (subst (λ m. At t.entries m f) (omega arith) k) in
               subst (λ (g : Entry). rank e ≤ rank g) z (omega arith)

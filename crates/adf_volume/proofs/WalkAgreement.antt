@@ -144,8 +144,8 @@ module _ (image : List ℕ) (t : Tree) (l : Layout) (fit : Fits image t l) where
         let k = has_node p s j m b.1 (omega arith) in
         let z : at_node image l m ≡ k.0 = (ag (Head m p s j) k.0 k.1).1 in
         let named : word_in image (at_node image l m) NEXT_IN_CHAIN ≡ at_node image l n =
-        spelled_link (λ b. word_in image b NEXT_IN_CHAIN) (word_in image (at_node image l p) (FIRST_SLOT + s)) (map (at_node image l) (chain_nodes t p s)) j
-        (at_node image l m) (at_node image l n) sp
+        spelled_link (λ b. word_in image b NEXT_IN_CHAIN) (word_in image (at_node image l p) (FIRST_SLOT + s))
+        (map (at_node image l) (chain_nodes t p s)) j (at_node image l m) (at_node image l n) sp
         (at_map (at_node image l) (chain_nodes t p s) j m b.1) (at_map (at_node image l) (chain_nodes t p s) (suc j) n h) in
         let r = part_range image t l fit (Head n p s (suc j)) (at_node image l n) (h, refl) in
         (k.0, NEXT_IN_CHAIN, (u, (m, k.1), refl, (λ q. omega (arith, r.0, sym named ∙ (ap (λ b. word_in image b NEXT_IN_CHAIN) z ∙ q)))))
@@ -211,8 +211,8 @@ module _ (image : List ℕ) (t : Tree) (l : Layout) (fit : Fits image t l) where
         ap (λ a. word_in image a (FIRST_SLOT + s)) g.1 ∙ ap (word_in image a) (sym q.3) in
         let sp = fit.chains p s (is_dir t p g.0) q.1 in
         let x : At (map (at_node image l) (chain_nodes t p s)) 0 (word_in image (at_node image l p) (FIRST_SLOT + s)) =
-        spelled_first (λ b. word_in image b NEXT_IN_CHAIN) (word_in image (at_node image l p) (FIRST_SLOT + s)) (map (at_node image l) (chain_nodes t p s)) sp
-        (λ y. q.4 (sym z ∙ y)) in
+        spelled_first (λ b. word_in image b NEXT_IN_CHAIN) (word_in image (at_node image l p) (FIRST_SLOT + s))
+        (map (at_node image l) (chain_nodes t p s)) sp (λ y. q.4 (sym z ∙ y)) in
         let m = at_unmap (at_node image l) (chain_nodes t p s) 0 (word_in image (at_node image l p) (FIRST_SLOT + s)) x in
         (m.0, (m.1, m.2 ∙ z))
     asked_part (Head n p s (suc j)) a i q =
@@ -223,8 +223,8 @@ module _ (image : List ℕ) (t : Tree) (l : Layout) (fit : Fits image t l) where
         let z : word_in image (at_node image l y.0) NEXT_IN_CHAIN ≡ word_in image a i =
         ap (λ a. word_in image a NEXT_IN_CHAIN) pt.1 ∙ ap (word_in image a) (sym q.2) in
         let x : At (map (at_node image l) (chain_nodes t p s)) (suc j) (word_in image (at_node image l y.0) NEXT_IN_CHAIN) =
-        spelled_next (λ b. word_in image b NEXT_IN_CHAIN) (word_in image (at_node image l p) (FIRST_SLOT + s)) (map (at_node image l) (chain_nodes t p s)) j
-        (at_node image l y.0) sp
+        spelled_next (λ b. word_in image b NEXT_IN_CHAIN) (word_in image (at_node image l p) (FIRST_SLOT + s))
+        (map (at_node image l) (chain_nodes t p s)) j (at_node image l y.0) sp
         (at_map (at_node image l) (chain_nodes t p s) j y.0 pt.0) (λ k. q.3 (sym z ∙ k)) in
         let m = at_unmap (at_node image l) (chain_nodes t p s) (suc j) (word_in image (at_node image l y.0) NEXT_IN_CHAIN) x in
         (m.0, (m.1, m.2 ∙ z))
@@ -242,7 +242,8 @@ module _ (image : List ℕ) (t : Tree) (l : Layout) (fit : Fits image t l) where
         let ff = fit_file (is_file n k a h) in
         let z : word_in image a EXTENSION ≡ word_in image a i = ap (word_in image a) (sym q.1) in
         let x : At (exts_of l n) (suc k) (word_in image a EXTENSION) =
-        spelled_next (λ b. word_in image b EXTENSION) (word_in image (at_node image l n) EXTENSION) (exts_of l n) k a ff.exts h (λ y. q.2 (sym z ∙ y)) in
+        spelled_next (λ b. word_in image b EXTENSION) (word_in image (at_node image l n) EXTENSION) (exts_of l n) k a ff.exts h
+        (λ y. q.2 (sym z ∙ y)) in
         (0, subst (At (exts_of l n) (suc k)) z x)
     asked_part (Data n zero) a i q = absurd q
     asked_part (Data n (suc k)) a i q =
@@ -300,13 +301,14 @@ module _ (image : List ℕ) (t : Tree) (l : Layout) (fit : Fits image t l) where
         omega (arith, g.count, (fit_file g.file).enough)
     enough_due _ a i d = tt
 
-    table_there : (n d0 a i h m : ℕ) → IsDue image w (Data n (suc d0)) a i → FileAt image w n h → m ≤ length (exts_of l n) → (c : ℕ) × MemberAt image w n m c
+    table_there : (n d0 a i h m : ℕ) → IsDue image w (Data n (suc d0)) a i → FileAt image w n h → m ≤ length (exts_of l n)
+        → (c : ℕ) × MemberAt image w n m c
     table_there n d0 a i h zero d f u = (h, f)
     table_there n d0 a i h (suc m) d f u = has_exts n d0 a i h d f m (omega arith)
 
     -- what the table has for the next data block is the layout's next data block
-    next_agrees : (n k a i h : ℕ) (bytes : List ℕ) → IsDue image w (Data n (suc k)) a i → FileAt image w n h → FileFits image t l n (at_node image l n) bytes
-        → count t.kind (length bytes) ≡ data_count image (node_block w n) →
+    next_agrees : (n k a i h : ℕ) (bytes : List ℕ) → IsDue image w (Data n (suc k)) a i → FileAt image w n h
+        → FileFits image t l n (at_node image l n) bytes → count t.kind (length bytes) ≡ data_count image (node_block w n) →
         (x : Bool) → nat_lt (suc k) (data_count image (node_block w n)) ≡ x → k < length (datas_of l n) →
         cond x (word_in image (member_block w n (suc k / POINTERS)) (table_word (suc k))) 0 ≡ slice_index (datas_of l n) (suc k)
     next_agrees n k a i h bytes d f ff c true z u =
@@ -318,7 +320,8 @@ module _ (image : List ℕ) (t : Tree) (l : Layout) (fit : Fits image t l) where
         ∙ sym (at_index (datas_of l n) (suc k) e.0 e.1)
     next_agrees n k a i h bytes d f ff c false z u = grind (arith, common_steps, index_past, ltb-false)
 
-    head_form : (n p s j a i b : ℕ) → IsDue image w (Head n p s j) a i → LayoutHas image t l (Head n p s j) b → AllHold (form_demands image w (Head n p s j) b)
+    head_form : (n p s j a i b : ℕ) → IsDue image w (Head n p s j) a i → LayoutHas image t l (Head n p s j) b
+        → AllHold (form_demands image w (Head n p s j) b)
     head_form n p s j a i b d h =
         let e = entry_at t p s j n h.0 in
         let ef = fit.entries n e.entry e.at in
@@ -353,14 +356,13 @@ module _ (image : List ℕ) (t : Tree) (l : Layout) (fit : Fits image t l) where
         rw (next, ← size, ← fit.kind, ← z) (ff.data_form k b h)
 
     form_due : (r : Role) (a i b : ℕ) → IsDue image w r a i → LayoutHas image t l r b → AllHold (form_demands image w r b)
-    form_due Root a i b d h = tt
     form_due (Page k) a i b d h = fit.page_form k b h
-    form_due (MapExt j) a i b d h = tt
     form_due (Head n p s j) a i b d h = head_form n p s j a i b d h
     form_due (Ext n zero) a i b d h = absurd h
     form_due (Ext n (suc k)) a i b d h = ext_form n k a i b d h
     form_due (Data n zero) a i b d h = absurd h
     form_due (Data n (suc k)) a i b d h = data_form n k a i b d h
+    form_due _ a i b d h = tt
 
     new_due : (r : Role) (a i b : ℕ) → IsDue image w r a i → LayoutHas image t l r b → NewName image w r b
     new_due (Head n p s j) a i b d h = λ m k c has eq.

@@ -31,8 +31,8 @@ file_word : (image : List ℕ) (t : Tree) (l : Layout) (n : ℕ) (e : Entry) (b 
 file_word image t l n e Dir bytes z f d = let k : Dir ≡ File bytes = z ∙ d in cc
 file_word image t l n e (File x) bytes z f d = f.0
 
-no_datas : (image : List ℕ) (t : Tree) (l : Layout) (n : ℕ) (e : Entry) (b : Body) (k x : ℕ) → b ≡ e.body → BodyFits image t.kind l n (at_node image l n) b
-    → At (datas_of l n) k x → (bytes : List ℕ) × (e.body ≡ File bytes)
+no_datas : (image : List ℕ) (t : Tree) (l : Layout) (n : ℕ) (e : Entry) (b : Body) (k x : ℕ) → b ≡ e.body
+    → BodyFits image t.kind l n (at_node image l n) b → At (datas_of l n) k x → (bytes : List ℕ) × (e.body ≡ File bytes)
 no_datas image t l n e Dir k x z f a = absurd (subst (λ xs. At xs k x) f.2 a)
 no_datas image t l n e (File bytes) k x z f a = (bytes, sym z)
 
@@ -76,7 +76,8 @@ module _ (image : List ℕ) (t : Tree) (l : Layout) (fit : Fits image t l) (w : 
       let rg : 2 ≤ b = (part_range image t l fit (Ext n (suc (suc k))) b h).0 in
       let y : word_in image c.0 EXTENSION ≡ b =
       spelled_link (λ b. word_in image b EXTENSION) (word_in image (at_node image l n) EXTENSION) (exts_of l n) k c.0 b ff.exts c.1 h in
-      let x = asked_block image w whole (Ext n (suc (suc k))) c.0 EXTENSION (hc, refl, (λ z. let o : b ≡ 0 = sym y ∙ z in omega arith)) (omega arith) in
+      let x = asked_block image w whole (Ext n (suc (suc k))) c.0 EXTENSION (hc, refl, (λ z. let o : b ≡ 0 = sym y ∙ z in omega arith))
+      (omega arith) in
       subst (Has w (Ext n (suc (suc k)))) (at_fun (exts_of l n) (suc k) x.0 b (ag (Ext n (suc (suc k))) x.0 x.1) h) x.1
 
   all_datas : (n k b : ℕ) → At (datas_of l n) k b → Has w (Data n (suc k)) b

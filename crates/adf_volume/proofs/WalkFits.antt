@@ -28,7 +28,8 @@ module _ (image : List ℕ) (w : List (Role × ℕ)) (v : IsWalk image w) (whole
         | no ne ↦ bitmap_at (suc b0) n b h.1.1 (omega arith) (omega arith)
       ]
 
-  pub fits : AllHold (root_demands image (root_of image)) → AllHold (bitmap_demands image w 2 (blocks image - 2)) → Fits image (tree_in image w) (layout_in w)
+  pub fits : AllHold (root_demands image (root_of image)) → AllHold (bitmap_demands image w 2 (blocks image - 2))
+      → Fits image (tree_in image w) (layout_in w)
   fits root bits = record {
     boots = boots;
     kind = refl;

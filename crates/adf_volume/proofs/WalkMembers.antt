@@ -1,6 +1,6 @@
 -- The tree and the layout of a walk list its members.
 use Rattle.std.proofs.Common.{◌≡◌, ℕ, zero, suc, List, [], ◌∷◌, ◌++◌, inl, inr, ◌+◌, ◌*◌, ◌/◌, ◌<◌, ◌≤◌, length, refl, sym, ap, subst, ◌∙◌, arith, Bool, true}
-use Rattle.std.proofs.Common.{false, cond, eq-eqb, append-nil}
+use Rattle.std.proofs.Common.{false, cond, eq-eqb, append-nil, rules}
 use Rattle.std.specs.Prelude.{◌==◌, ◌&&◌}
 use Rattle.std.proofs.lemmas.Bool.{eqb-true}
 use Rattle.std.proofs.lemmas.Grind.{common_steps}
@@ -45,10 +45,7 @@ not_yet {f = f} {role = role} {w = w} old k lacks =
 module _ (f : Role → Bool) (role : ℕ → Role) (own : (k : ℕ) → f (role k) ≡ true) where
   -- the root alone has none
   pub none_listed : (c : ℕ) → f Root ≡ false → Lists f role ((Root, c) ∷ [])
-  none_listed c z = record {
-    to = (λ k b h. elim h [ inl y ↦ absurd (let x : true ≡ false = sym (ap f y.0 ∙ own k) ∙ z in cc) | inr y ↦ absurd y ]);
-    from = (λ k b h. absurd (subst (λ t. At (cond t (c ∷ []) []) k b) z h));
-  }
+  none_listed c z = search rules
 
   -- one member more, which is the next one where the test picks it
   pub one_more : (w : List (Role × ℕ)) (q : Role) (c : ℕ) → ((k m : ℕ) → role k ≡ role m → k ≡ m) → Lists f role w
@@ -191,12 +188,10 @@ module _ (image : List ℕ) where
       (λ t. let x = page_only q t in x.1 ∙ ap Page (next_page w v (pages v) x.0 a i (subst (λ r. IsDue image w r a i) x.1 d)))
 
   -- the bitmap extension blocks
-  next_map_ext : (w : List (Role × ℕ)) → IsWalk image w → Lists is_map_ext MapExt w → (j a i : ℕ) → IsDue image w (MapExt j) a i → j ≡ length (map_exts_in w)
+  next_map_ext : (w : List (Role × ℕ)) → IsWalk image w → Lists is_map_ext MapExt w → (j a i : ℕ) → IsDue image w (MapExt j) a i
+      → j ≡ length (map_exts_in w)
   next_map_ext w v ih zero a i d = let low = not_yet ih 0 d.lacks in omega arith
-  next_map_ext w v ih (suc j) a i d =
-      let low = not_yet ih (suc j) d.lacks in
-      let y = at_below (map_exts_in w) j a (ih.to j a d.asked.1) in
-      omega arith
+  next_map_ext w v ih (suc j) a i d = grind (arith, common_steps, not_yet ih (suc j) d.lacks, at_below (map_exts_in w) j a (ih.to j a d.asked.1))
 
   map_ext_only : (q : Role) → is_map_ext q ≡ true → (k : ℕ) × (q ≡ MapExt k)
   map_ext_only (MapExt k) t = (k, refl)
@@ -204,9 +199,7 @@ module _ (image : List ℕ) where
 
   pub map_exts : {w : List (Role × ℕ)} → IsWalk image w → Lists is_map_ext MapExt w
   map_exts start = none_listed is_map_ext MapExt (λ k. refl) (root_of image) refl
-  map_exts (step {w = w} {r = q} {b = c} {a = a} {i = i} v d e g) =
-      one_more is_map_ext MapExt (λ k. refl) w q c (λ k m z. cc) (map_exts v)
-      (λ t. let x = map_ext_only q t in x.1 ∙ ap MapExt (next_map_ext w v (map_exts v) x.0 a i (subst (λ r. IsDue image w r a i) x.1 d)))
+  map_exts (step {w = w} {r = q} {b = c} {a = a} {i = i} v d e g) = search (rules, one_more, map_ext_only, next_map_ext, map_exts v)
 
   -- the slot of a header's name
   pub slot_is : {w : List (Role × ℕ)} {n b : ℕ} → IsWalk image w → (h : HeadAt w n b) → slot_of (name_of image b) ≡ h.slot

@@ -19,7 +19,8 @@ before_same x y z h s = grind (arith, common_steps)
 pub before_total : (x y : Role) → (Before y x → ⊥) → (Same x y → ⊥) → Before x y
 before_total x y nb ns = grind (arith, common_steps)
 
-last : (w : List (Role × ℕ)) (z : Role) (c : ℕ) (q : Role) (b : ℕ) (r : Role) → Has ((z, c) ∷ w) q b → Before z r → (Has w q b → Before q r) → Before q r
+last : (w : List (Role × ℕ)) (z : Role) (c : ℕ) (q : Role) (b : ℕ) (r : Role) → Has ((z, c) ∷ w) q b → Before z r → (Has w q b → Before q r)
+    → Before q r
 last w z c q b r (inl y) n o = subst (λ q. Before q r) y.0 n
 last w z c q b r (inr y) n o = o y
 
@@ -48,7 +49,8 @@ module _ (image : List ℕ) where
           ]
 
   -- headers stand in the order of their numbers
-  pub in_order : {w : List (Role × ℕ)} {n m b c : ℕ} → IsWalk image w → (h : HeadAt w n b) (k : HeadAt w m c) → n < m → Before (head_role h) (head_role k)
+  pub in_order : {w : List (Role × ℕ)} {n m b c : ℕ} → IsWalk image w → (h : HeadAt w n b) (k : HeadAt w m c) → n < m
+      → Before (head_role h) (head_role k)
   in_order start h k l = absurd (no_head h)
   in_order {n = n} {m = m} {b = b} (step {w = w} {r = r} {a = a} {i = i} v d e g) h k l = elim h.has [
     | inl x ↦

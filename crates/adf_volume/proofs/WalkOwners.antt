@@ -37,7 +37,8 @@ module _ (image : List ℕ) (w : List (Role × ℕ)) (v : IsWalk image w) (whole
       subst (λ xs. At xs k b) (sym (head_is image w v whole f.file.header).2) (data_has image w v n k b h)
 
   -- the blocks of a place are those of its file
-  place_lists : (i : ℕ) → i < length (places_in w w) → (exts_at (places_in w w) i ≡ exts_in w (suc i)) × (datas_at (places_in w w) i ≡ datas_in w (suc i))
+  place_lists : (i : ℕ) → i < length (places_in w w)
+      → (exts_at (places_in w w) i ≡ exts_in w (suc i)) × (datas_at (places_in w w) i ≡ datas_in w (suc i))
   place_lists i u =
       let l = places_length image w w in
       let x = numbers image v (suc i) (omega arith) (omega arith) in

@@ -44,13 +44,14 @@ module _ (image : List ℕ) where
   file_is w n a v h = gathered.head_block image (of_walk v) h.header
 
 -- what is asked for and comes before what is due is there
-pub is_there : (image : List ℕ) (w : List (Role × ℕ)) (q r : Role) (a i c k : ℕ) → IsDue image w r a i → Asks image w q c k → Before q r → second q < 2
-    → (b : ℕ) × Has w q b
+pub is_there : (image : List ℕ) (w : List (Role × ℕ)) (q r : Role) (a i c k : ℕ) → IsDue image w r a i → Asks image w q c k → Before q r
+    → second q < 2 → (b : ℕ) × Has w q b
 is_there image w q r a i c k d ask bef low =
     elim (has_low w q low) [ inr y ↦ y | inl y ↦ absurd (d.least q c k ask y bef) ]
 
 -- what a whole walk asks for is there
-pub asked_block : (image : List ℕ) (w : List (Role × ℕ)) → IsWhole image w → (r : Role) (a i : ℕ) → Asks image w r a i → second r < 2 → (b : ℕ) × Has w r b
+pub asked_block : (image : List ℕ) (w : List (Role × ℕ)) → IsWhole image w → (r : Role) (a i : ℕ) → Asks image w r a i → second r < 2
+    → (b : ℕ) × Has w r b
 asked_block image w whole r a i ask low =
     elim (has_low w r low) [ inr y ↦ y | inl y ↦ absurd (whole r a i ask y) ]
 

@@ -36,12 +36,14 @@ use Rattle.std.proofs.lemmas.Grind.{common_steps}
 use Rattle.adf_volume.proofs.Sizes.{size_low}
 use Rattle.adf_tree.proofs.ChildLookup.{same_slot}
 
-body_dir : (image : List ℕ) (w : List (Role × ℕ)) (n b : ℕ) (x : Bool) → cond x Dir (File (content image (kind_of image) b (datas_in w n))) ≡ Dir → x ≡ true
+body_dir : (image : List ℕ) (w : List (Role × ℕ)) (n b : ℕ) (x : Bool) → cond x Dir (File (content image (kind_of image) b (datas_in w n))) ≡ Dir
+    → x ≡ true
 body_dir image w n b true h = refl
 body_dir image w n b false h = cc
 
 body_file : (image : List ℕ) (w : List (Role × ℕ)) (n b : ℕ) (bytes : List ℕ) (x : Bool)
-    → cond x Dir (File (content image (kind_of image) b (datas_in w n))) ≡ File bytes → (x ≡ false) × (bytes ≡ content image (kind_of image) b (datas_in w n))
+    → cond x Dir (File (content image (kind_of image) b (datas_in w n))) ≡ File bytes
+    → (x ≡ false) × (bytes ≡ content image (kind_of image) b (datas_in w n))
 body_file image w n b bytes true h = cc
 body_file image w n b bytes false h = let e : bytes ≡ content image (kind_of image) b (datas_in w n) = cc in (refl, e)
 
@@ -146,7 +148,8 @@ module _ (image : List ℕ) (w : List (Role × ℕ)) (v : IsWalk image w) (whole
   pub map_ext_next : (j a b : ℕ) → At (map_exts_in w) j a → At (map_exts_in w) (suc j) b → word_in image a MAP_EXT_NEXT ≡ b
   map_ext_next j a b h k = grind (arith, common_steps, kept, map_exts, at_fun)
 
-  pub root_names : (k b a i : ℕ) → k < ROOT_PAGES → NamesPage image w k a i → word_in image a i ≡ b → word_in image (root_of image) (FIRST_PAGE + k) ≡ b
+  pub root_names : (k b a i : ℕ) → k < ROOT_PAGES → NamesPage image w k a i → word_in image a i ≡ b
+      → word_in image (root_of image) (FIRST_PAGE + k) ≡ b
   root_names k b a i lt (inl x) e = ap (λ a. word_in image a (FIRST_PAGE + k)) (sym x.1) ∙ ap (word_in image a) (sym x.2) ∙ e
   root_names k b a i lt (inr x) e = absurd (omega arith)
 
@@ -288,7 +291,8 @@ module _ (image : List ℕ) (w : List (Role × ℕ)) (v : IsWalk image w) (whole
       ]
 
   data_formed : (n h k b : ℕ) → FileAt image w n h → At (datas_in w n) k b
-      → AllHold (data_demands image (kind_of image) b h (suc k) (held (kind_of image) (word_in image h SIZE) (suc k)) (slice_index (datas_in w n) (suc k)))
+      → AllHold (data_demands image (kind_of image) b h (suc k) (held (kind_of image) (word_in image h SIZE) (suc k))
+      (slice_index (datas_in w n) (suc k)))
   data_formed n h k b f x =
       let y = kept image v (Data n (suc k)) b (has_data image w v n k b x) in
       let z : y.head ≡ h = file_one image (of_walk image v) n y.head h y.file f in
@@ -331,7 +335,8 @@ module _ (image : List ℕ) (w : List (Role × ℕ)) (v : IsWalk image w) (whole
         let d : word_in image b SECONDARY_TYPE ≡ ST_DIR = eqb-true (word_in image b SECONDARY_TYPE) ST_DIR z in
         let hp = head_is h in
         let no_file : (a : ℕ) → FileAt image w n a → ⊥ =
-        (λ a f. dir_not_file image b d (subst (λ a. word_in image a SECONDARY_TYPE ≡ ST_FILE) (one_head image (of_walk image v) f.header h).1 f.type)) in (
+        (λ a f. dir_not_file image b d (subst (λ a. word_in image a SECONDARY_TYPE ≡ ST_FILE)
+        (one_head image (of_walk image v) f.header h).1 f.type)) in (
           d,
           hp.1 ∙ nil_from_length (exts_in w n) (let none : 0 < length (exts_in w n) → ⊥ = (λ u.
               let x = at_some (exts_in w n) 0 u in
@@ -345,7 +350,8 @@ module _ (image : List ℕ) (w : List (Role × ℕ)) (v : IsWalk image w) (whole
         let hp = head_is h in
         (f.type, ap (content image (kind_of image) b) (sym hp.2), content_long n b f)
 
-    pub entry_fits : (n : ℕ) (e : Entry) → EntryAt (tree_in image w) n e → EntryFits image (tree_in image w) (layout_in w) n (at_node image (layout_in w) n) e
+    pub entry_fits : (n : ℕ) (e : Entry) → EntryAt (tree_in image w) n e
+        → EntryFits image (tree_in image w) (layout_in w) n (at_node image (layout_in w) n) e
     entry_fits n e h =
         let x = entry_is n e h in
         let b : ℕ = x.block in

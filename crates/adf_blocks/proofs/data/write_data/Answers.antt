@@ -4,5 +4,5 @@ use Rattle.adf_blocks.proofs.data.write_data.Goals as goal
 
 pub returns-clause-form : goal.returns-clause-form
 returns-clause-form c =
-    rw (c.put_block.ensures, c.data_bytes.ensures.exact) (written_data_form c.args.image.now c.args.b (data_fields c.args.d.now) c.data_bytes.ensures.fits
-    c.requires.whole)
+    rw (c.put_block.ensures, c.data_bytes.ensures.exact) (written_data_form c.args.image.now c.args.b (data_fields c.args.d.now)
+    c.data_bytes.ensures.fits c.requires.whole)

@@ -1,4 +1,4 @@
-use Rattle.std.proofs.Common.{refl, arith}
+use Rattle.std.proofs.Common.{refl}
 use Rattle.adf_blocks.specs.HeadBlock.{head_block}
 use Rattle.adf_blocks.proofs.head_out.head_bytes.Goals as goal
 
@@ -29,12 +29,3 @@ returns-clause-exact c = rw (
   c.put_word-2.ensures,
   c.put_word.ensures,
 ) refl
-
-pub returns-clause-fits : goal.returns-clause-fits
-returns-clause-fits c = record {
-  own = omega arith;
-  parent = omega arith;
-  name = rw c.bytes-2.ensures.bytes at c.bytes-2.ensures.allowed;
-  comment = rw c.bytes.ensures.bytes at c.bytes.ensures.short;
-  body = c.put_table.ensures.fits;
-}

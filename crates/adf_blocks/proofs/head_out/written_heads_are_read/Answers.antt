@@ -36,4 +36,5 @@ pub returns-clause-slots : goal.returns-clause-slots
 returns-clause-slots c = head_block-slot
 
 pub returns-clause-pointers : goal.returns-clause-pointers
-returns-clause-pointers c = λ h size table ext j fits e lt small. head_block-pointer h size table ext j fits e lt ∙ long_number (slice_index table j) small
+returns-clause-pointers c = λ h size table ext j fits e lt small.
+    head_block-pointer h size table ext j fits e lt ∙ long_number (slice_index table j) small

@@ -4,7 +4,7 @@ use Rattle.adf_build.proofs.exts.write_exts.Goals as goal
 
 pub loop-j-preserved : goal.loop-j-preserved
 loop-j-preserved c =
-    ext_step c.write_ext.new.image c.loop-j.image _ _ c.args.plan.blocks c.args.k c.loop-j.j c.args.datas c.ext_count-count.result c.nth_free-own.result
-    c.nth_free.result _ c.min-short.result c.nth_free_or_none.result (omega arith) c.ext_count-count.ensures refl
-    (omega (arith, c.saturating_sub.ensures)) c.table_of.ensures c.nth_free-own.ensures c.nth_free.ensures c.nth_free_or_none.ensures c.loop-j.invariant
-    c.write_ext.ensures.exact
+    ext_step c.write_ext.new.image c.loop-j.image _ _ c.args.plan.blocks c.args.k c.loop-j.j c.args.datas c.ext_count-count.result
+    c.nth_free-own.result c.nth_free.result _ c.min-short.result c.nth_free_or_none.result (omega arith) c.ext_count-count.ensures refl
+    (omega (arith, c.saturating_sub.ensures)) c.table_of.ensures c.nth_free-own.ensures c.nth_free.ensures c.nth_free_or_none.ensures
+    c.loop-j.invariant c.write_ext.ensures.exact

@@ -3,7 +3,8 @@ use Rattle.adf_build.proofs.MapExts.{map_ext_fits, map_exts_step}
 use Rattle.adf_build.proofs.map_exts.write_map_exts.Goals as goal
 
 pub write_map_ext-requires-clause-whole : goal.write_map_ext-requires-clause-whole
-write_map_ext-requires-clause-whole c = map_ext_fits c.args.plan.blocks _ c.loop-j.j _ c.args.plan.allowed c.map_ext.ensures (omega arith) (search rules)
+write_map_ext-requires-clause-whole c =
+    map_ext_fits c.args.plan.blocks _ c.loop-j.j _ c.args.plan.allowed c.map_ext.ensures (omega arith) (search rules)
 
 pub loop-j-preserved : goal.loop-j-preserved
 loop-j-preserved c =

@@ -19,8 +19,8 @@ returns-in_err-claim_named-clause-fault g c =
 pub returns-in-Err-clause-fault : goal.returns-in-Err-clause-fault
 returns-in-Err-clause-fault g c =
     let claimed = c.in_ok-claim_named.ensures in
-    rw c.fault_at.ensures (head_fault c.args.seen.now c.requires.slot c.kind-kind.ensures.begun c.requires.state c.requires.some claimed.range claimed.free
-    c.kind-kind.ensures.kind c.read_block.ensures.block c.in-Err.cause c.in-Err.ensures)
+    rw c.fault_at.ensures (head_fault c.args.seen.now c.requires.slot c.kind-kind.ensures.begun c.requires.state c.requires.some claimed.range
+    claimed.free c.kind-kind.ensures.kind c.read_block.ensures.block c.in-Err.cause c.in-Err.ensures)
 
 pub returns-in-Ok-false-clause-fault : goal.returns-in-Ok-false-clause-fault
 returns-in-Ok-false-clause-fault g c =
@@ -43,8 +43,8 @@ returns-in-Ok-push-clause-state g c =
     let pushed : c.push.new.self.items ≡ store.headers ++ record { parent = c.args.chain.now.parent; head = c.args.b } ∷ [] = search rules in
     let is_dir = c.is_directory.ensures ∙ ap (λ x. word x SECONDARY_TYPE == ST_DIR) (c.in-Ok.ensures.1 ∙ c.read_block.ensures.block) in
     head_done c.args.seen.now c.requires.slot c.kind-kind.ensures.begun c.requires.state c.requires.some claimed.range claimed.free
-    c.kind-kind.ensures.kind c.read_block.ensures.block c.in-Ok.ensures.0 c.in-Ok.ensures.1 c.name.ensures fresh _ c.in-Ok-true.ensures.more c.next.ensures
-    (record {
+    c.kind-kind.ensures.kind c.read_block.ensures.block c.in-Ok.ensures.0 c.in-Ok.ensures.1 c.name.ensures fresh _ c.in-Ok-true.ensures.more
+    c.next.ensures (record {
       owners = claimed.ok ∙ ap (λ n. set store.owners c.args.b (kept.Head n)) (number c.requires.state.read.tells.headers.count count);
       headers = pushed;
       dirs = dirs_more c.args.image.now store.headers c.args.chain.now.parent c.args.b c.requires.state.read.tells.dirs is_dir c.from.ensures;

@@ -17,6 +17,6 @@ returns-clause-first c =
 
 pub returns-clause-none : goal.returns-clause-none
 returns-clause-none c =
-    if_err c.check_all.result (λ f. IsTrueFault c.args.image.now f) (λ f. f.cause ≢ NoMemory → (t : Tree) (l : Layout) → Fits c.args.image.now t l → ⊥)
-    c.check_all.ensures.fault
+    if_err c.check_all.result (λ f. IsTrueFault c.args.image.now f)
+    (λ f. f.cause ≢ NoMemory → (t : Tree) (l : Layout) → Fits c.args.image.now t l → ⊥) c.check_all.ensures.fault
     (λ f right ne t l fits. none_fits c.args.image.now f.block f.cause t l (right.first ne) fits)

@@ -1,8 +1,6 @@
-use Rattle.std.proofs.Common.{subst, sym, rules, arith}
-use Rattle.std.proofs.lemmas.Grind.{common_steps}
+use Rattle.std.proofs.Common.{subst, sym, rules}
 use Rattle.adf_base.specs.Words.{block}
 use Rattle.adf_tree.specs.Tree.{Tree}
-use Rattle.adf_volume.specs.Image.{name_of, stamps_of}
 use Rattle.adf_volume.specs.Layout.{Layout}
 use Rattle.adf_volume.specs.Made.{layout_in, tree_in}
 use Rattle.adf_check.specs.Store.{store_value}
@@ -12,10 +10,6 @@ use Rattle.adf_volume.specs.Fault.{IsTrueFault}
 use Rattle.adf_check.proofs.ClaimSteps.{first_fault, if_err}
 use Rattle.adf_check.proofs.StoreStands.{keeps}
 use Rattle.adf_check.proofs.checker.check_within.Goals as goal
-
-pub new-requires : goal.new-requires
-unfolding name_of stamps_of
-new-requires g c = grind (arith, common_steps)
 
 pub returns-clause-fits : goal.returns-clause-fits
 returns-clause-fits g c =

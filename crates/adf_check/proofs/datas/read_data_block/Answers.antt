@@ -25,8 +25,8 @@ pub returns-in-Err-clause-fault : goal.returns-in-Err-clause-fault
 returns-in-Err-clause-fault g c =
     let q = c.requires in
     let claimed = c.in_ok-claim_named.ensures in
-    rw c.fault_at.ensures (data_fault c.begun.ensures q.state q.count q.size q.enough q.inside q.holder q.named claimed.range claimed.free c.in-Err.cause
-    c.in-Err.ensures.fault)
+    rw c.fault_at.ensures (data_fault c.begun.ensures q.state q.count q.size q.enough q.inside q.holder q.named claimed.range claimed.free
+    c.in-Err.cause c.in-Err.ensures.fault)
 
 pub returns-in-Ok-clause-state : goal.returns-in-Ok-clause-state
 returns-in-Ok-clause-state g c = grind (arith, common_steps, data_done, set)

@@ -13,8 +13,8 @@ returns-in_err-claim_named-clause-fault g c =
 pub returns-in-Err-clause-fault : goal.returns-in-Err-clause-fault
 returns-in-Err-clause-fault g c =
     let claimed = c.in_ok-claim_named.ensures in
-    rw c.fault_at.ensures (ext_fault c.begun.ensures c.requires.state c.requires.some claimed.range claimed.free c.read_block.ensures.block c.in-Err.cause
-    c.in-Err.ensures)
+    rw c.fault_at.ensures (ext_fault c.begun.ensures c.requires.state c.requires.some claimed.range claimed.free c.read_block.ensures.block
+    c.in-Err.cause c.in-Err.ensures)
 
 pub returns-clause-state : goal.returns-clause-state
 returns-clause-state g c =
@@ -24,8 +24,8 @@ returns-clause-state g c =
     let count : c.len-place.result ≡ length store.exts = search rules in
     let pushed : c.push.new.self.items ≡ c.args.table.now.items ++ b ∷ [] = search rules in
     let longer : c.push-else-is_err.new.self.items ≡ store.exts ++ b ∷ [] = search rules in
-    ext_done c.begun.ensures c.requires.state c.requires.some claimed.range claimed.free c.read_block.ensures.block c.in-Ok.ensures.0 c.in-Ok.ensures.1
-    c.next.ensures pushed (record {
+    ext_done c.begun.ensures c.requires.state c.requires.some claimed.range claimed.free c.read_block.ensures.block c.in-Ok.ensures.0
+    c.in-Ok.ensures.1 c.next.ensures pushed (record {
       owners = claimed.ok ∙ ap (λ i. set store.owners b (kept.Ext i)) count;
       headers = refl;
       dirs = c.requires.state.read.tells.dirs;

@@ -14,7 +14,8 @@ returns-in-File c = λ t l k.
     let image = c.args.image.now in
     let up : c.block_of-up.result ≡ at_node image l c.args.parent = c.block_of-up.ensures.block t l k in
     let told = file_words c.args.image.now c.block_of-up.result c.body.ensures.body c.in-File.is in
-    file_chain k c.args.parent c.args.slot (λ z. c.if-parent-ne0.true (c.parent.view_is ∙ z)) (subst (λ b. word_in image b SECONDARY_TYPE ≢ ST_DIR) up told.0)
+    file_chain k c.args.parent c.args.slot (λ z. c.if-parent-ne0.true (c.parent.view_is ∙ z))
+    (subst (λ b. word_in image b SECONDARY_TYPE ≢ ST_DIR) up told.0)
 
 pub returns-in_default : goal.returns-in_default
 returns-in_default c = λ t l k.

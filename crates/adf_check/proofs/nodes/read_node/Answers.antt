@@ -1,11 +1,8 @@
 use Rattle.std.proofs.Common.{arith}
 use Rattle.std.proofs.lemmas.Grind.{common_steps}
 use Rattle.adf_check.proofs.HeaderBodies.{dir_type, file_words}
-use Rattle.adf_check.proofs.NodeSteps.{directory_begins, file_begins, head_inside, root_begins}
+use Rattle.adf_check.proofs.NodeSteps.{directory_begins, file_begins, head_inside}
 use Rattle.adf_check.proofs.nodes.read_node.Goals as goal
-
-pub read_directory-requires-clause-state : goal.read_directory-requires-clause-state
-read_directory-requires-clause-state g c = grind (arith, common_steps, root_begins)
 
 pub read_block-requires-clause-inside : goal.read_block-requires-clause-inside
 read_block-requires-clause-inside g c =

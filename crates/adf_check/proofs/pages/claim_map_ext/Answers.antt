@@ -1,13 +1,13 @@
-use Rattle.std.proofs.Common.{refl, rules, arith}
+use Rattle.std.proofs.Common.{refl, rules}
 use Rattle.adf_check.proofs.ClaimSteps.{claim_refused}
-use Rattle.adf_check.proofs.NumberBounds.{pages_few}
 use Rattle.adf_check.proofs.PageSteps.{map_ext_done, map_ext_named}
 use Rattle.adf_check.proofs.pages.claim_map_ext.Goals as goal
 
 pub returns-in_err-claim_named-clause-fault : goal.returns-in_err-claim_named-clause-fault
 returns-in_err-claim_named-clause-fault g c =
     let q = c.requires in
-    claim_refused (map_ext_named c.begun.ensures q.needed q.past q.first q.state c.map_ext_named-b.ensures.exact) tt c.from_residual.result (search rules)
+    claim_refused (map_ext_named c.begun.ensures q.needed q.past q.first q.state c.map_ext_named-b.ensures.exact) tt c.from_residual.result
+    (search rules)
 
 pub returns-clause-state : goal.returns-clause-state
 returns-clause-state g c =
@@ -15,6 +15,3 @@ returns-clause-state g c =
     let claimed = c.in_ok-claim_named.ensures in
     map_ext_done c.begun.ensures q.needed q.past q.first q.state c.map_ext_named-b.ensures.exact claimed.range claimed.free
     (record { owners = claimed.ok; headers = refl; dirs = q.state.read.tells.dirs; starts = refl; exts = refl; datas = refl; used = claimed.count })
-
-pub claim_named-requires-clause-place : goal.claim_named-requires-clause-place
-claim_named-requires-clause-place g c = omega (arith, pages_few c.args.image.now c.begun.ensures, c.requires.needed)

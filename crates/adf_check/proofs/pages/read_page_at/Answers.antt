@@ -1,12 +1,12 @@
-use Rattle.std.proofs.Common.{refl, rules, arith}
+use Rattle.std.proofs.Common.{refl, rules}
 use Rattle.adf_check.proofs.ClaimSteps.{claim_refused}
-use Rattle.adf_check.proofs.NumberBounds.{pages_few}
 use Rattle.adf_check.proofs.PageSteps.{page_by_number, page_done, page_fault, page_named}
 use Rattle.adf_check.proofs.pages.read_page_at.Goals as goal
 
 pub returns-in_err-claim_named-clause-fault : goal.returns-in_err-claim_named-clause-fault
 returns-in_err-claim_named-clause-fault g c =
-    claim_refused (page_named c.begun.ensures c.requires.needed c.requires.state c.page_named-b.ensures.exact) tt c.from_residual.result (search rules)
+    claim_refused (page_named c.begun.ensures c.requires.needed c.requires.state c.page_named-b.ensures.exact) tt c.from_residual.result
+    (search rules)
 
 pub returns-in-Ok-clause-state : goal.returns-in-Ok-clause-state
 returns-in-Ok-clause-state g c =
@@ -23,6 +23,3 @@ returns-in-Err-clause-fault g c =
     let claimed = c.in_ok-claim_named.ensures in
     rw c.fault_at.ensures (page_fault c.begun.ensures c.requires.needed c.requires.state c.page_named-b.ensures.exact claimed.range claimed.free
     c.read_block.ensures.block c.in-Err.cause c.in-Err.ensures)
-
-pub claim_named-requires-clause-place : goal.claim_named-requires-clause-place
-claim_named-requires-clause-place g c = omega (arith, pages_few c.args.image.now c.begun.ensures, c.requires.needed)

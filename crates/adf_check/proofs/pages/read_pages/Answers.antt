@@ -1,14 +1,9 @@
 use Rattle.std.proofs.Common.{◌≡◌, subst, arith}
-use Rattle.std.proofs.lemmas.Grind.{common_steps}
 use Rattle.adf_blocks.specs.Sizes.{blocks, pages_needed}
 use Rattle.adf_check.specs.Reading.{IsBeforePage}
 use Rattle.adf_check.specs.Store.{store_value}
 use Rattle.adf_check.proofs.PageSteps.{pages_end}
-use Rattle.adf_check.proofs.PageSteps.{list_done}
 use Rattle.adf_check.proofs.pages.read_pages.Goals as goal
-
-pub loop-i-preserved : goal.loop-i-preserved
-loop-i-preserved g c = grind (arith, common_steps, list_done)
 
 pub returns-clause-state : goal.returns-clause-state
 returns-clause-state g c =

@@ -6,11 +6,13 @@ use Rattle.adf_check.proofs.KeptPlaces.{last_found}
 use Rattle.adf_check.proofs.places.file_of_ext.Goals.{After-partition_point}
 use Rattle.adf_check.proofs.places.file_of_ext.Goals as goal
 
-found : (c : After-partition_point) → (1 ≤ c.partition_point.result) × IsLastStart first_ext c.args.starts.now c.args.place (c.partition_point.result - 1)
+found : (c : After-partition_point)
+    → (1 ≤ c.partition_point.result) × IsLastStart first_ext c.args.starts.now c.args.place (c.partition_point.result - 1)
 found c =
+    let at = λ (x : NodeStart). leb (first_ext x) c.args.place in
     let parted = IsPartitionedBy-leb first_ext c.args.starts.now c.args.place c.requires.rising in
     last_found first_ext c.args.starts.now c.args.place c.partition_point.result c.requires c.partition_point.ensures.bound
-    (IsPartitionPoint-from_clause (λ (x : NodeStart). leb (first_ext x) c.args.place) _ _ c.partition_point.ensures.partitioned parted (λ a r q k. search rules))
+    (IsPartitionPoint-from_clause at _ _ c.partition_point.ensures.partitioned parted (λ a r q k. search rules))
 
 pub overflow_sub-result : goal.overflow_sub-result
 overflow_sub-result c = (found c).0

@@ -1,5 +1,4 @@
-use Rattle.std.proofs.Common.{◌≡◌, ap, subst, Some, ◌∙◌, arith}
-use Rattle.std.proofs.lemmas.Grind.{common_steps}
+use Rattle.std.proofs.Common.{◌≡◌, ap, subst, Some, ◌∙◌}
 use Rattle.adf_tree.specs.Tree.{Tree}
 use Rattle.adf_volume.specs.declared.owner.Owner.{Owner}
 use Rattle.adf_volume.specs.Layout.{Layout, owned}
@@ -8,17 +7,12 @@ use Rattle.adf_check.specs.OwnerClass.{class_kept, class_of}
 use Rattle.adf_check.specs.Store.{store_value}
 use Rattle.adf_check.specs.Volumes.{StandsFor, Volume}
 use Rattle.adf_check.proofs.KeptPlaces.{class_same}
-use Rattle.adf_check.proofs.StoreStands.{keeps}
 use Rattle.adf_check.proofs.checked.Checked.owner_class.Goals as goal
 
 pub returns-then-b-blocks-clause-part : goal.returns-then-b-blocks-clause-part
 returns-then-b-blocks-clause-part c =
-    subst (λ (v : Volume). (t : Tree) (l : Layout) (o : Owner) → StandsFor v t l → In (owned v.image l) (o, c.args.b) → Some c.class.result ≡ Some (class_of o))
+    subst (λ (v : Volume). (t : Tree) (l : Layout) (o : Owner) → StandsFor v t l → In (owned v.image l) (o, c.args.b) → Some c.class.result ≡ Some
+    (class_of o))
     c.self.view_is (λ t l o st has.
-    ap Some (c.class.ensures ∙ ap class_kept (c.get.ensures.owner ∙ st.owners.part o c.args.b has) ∙ class_same (store_value c.self.inside.store).starts o))
-
-pub returns-then-b-blocks-clause-boot : goal.returns-then-b-blocks-clause-boot
-returns-then-b-blocks-clause-boot c = grind (arith, common_steps, keeps)
-
-pub returns-then-b-blocks-clause-free : goal.returns-then-b-blocks-clause-free
-returns-then-b-blocks-clause-free c = grind (arith, common_steps)
+    ap Some (c.class.ensures ∙ ap class_kept (c.get.ensures.owner ∙ st.owners.part o c.args.b has) ∙ class_same
+    (store_value c.self.inside.store).starts o))

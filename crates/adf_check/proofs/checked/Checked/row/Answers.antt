@@ -27,5 +27,5 @@ returns c = λ t l stands.
     let node : c.args.n ≡ suc (c.n.inside.0 - 1) = omega (arith, c.n.view_is, c.if-n-eq0.false) in
     let told : c.row_of.result ≡ row_in kept.parent (block c.self.inside.image kept.head) =
     c.row_of.ensures ∙ ap (row_in kept.parent) (c.over-head.ensures ∙ c.block.ensures.block) in
-    entry_told c.self.inside.image (store_value c.self.inside.store) t l (subst (λ (v : Volume). StandsFor v t l) (sym c.self.view_is) stands) c.args.n
-    (c.n.inside.0 - 1) kept c.row_of.result node (header_here _ _ _ c.deref.ensures.value found.3.0 found.1) told
+    entry_told c.self.inside.image (store_value c.self.inside.store) t l (subst (λ (v : Volume). StandsFor v t l) (sym c.self.view_is) stands)
+    c.args.n (c.n.inside.0 - 1) kept c.row_of.result node (header_here _ _ _ c.deref.ensures.value found.3.0 found.1) told

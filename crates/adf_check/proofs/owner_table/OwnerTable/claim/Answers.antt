@@ -12,6 +12,13 @@ invariant_of-self c =
 pub returns : goal.returns
 returns c =
     let free : c.is_free.result ≡ true = search rules in
-    let kept = claim_kept c.self.inside.owners.items c.of.result c.of.ensures c.self.view_is c.self.invariant c.requires.from c.requires.below c.requires.part
-    c.index.ensures (c.is_free.ensures.0 free) in
-    record { free = grind (arith, common_steps); ok = kept.view; taken = search rules; unchanged = search rules; count = kept.count; bound = kept.bound }
+    let kept = claim_kept c.self.inside.owners.items c.of.result c.of.ensures c.self.view_is c.self.invariant c.requires.from c.requires.below
+    c.requires.part c.index.ensures (c.is_free.ensures.0 free) in
+    record {
+      free = grind (arith, common_steps);
+      ok = kept.view;
+      taken = search rules;
+      unchanged = search rules;
+      count = kept.count;
+      bound = kept.bound;
+    }

@@ -5,6 +5,3 @@ use Rattle.adf_check.proofs.owner_table.OwnerTable.new.Goals as goal
 
 pub invariant_of-result : goal.invariant_of-result
 invariant_of-result c = grind (arith, common_steps, replicate, common_steps, new_is, new_table)
-
-pub returns : goal.returns
-returns c = grind (arith, common_steps, replicate, new_is)
