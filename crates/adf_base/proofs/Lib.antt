@@ -1,2 +1,4 @@
 -- words and blocks
 pub mod WordLaws
+-- results
+pub mod Results

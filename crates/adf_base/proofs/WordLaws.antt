@@ -1,7 +1,6 @@
 -- Laws of words and blocks.
 use Rattle.std.proofs.Common.{◌≡◌, ◌≢◌, ◌≤◌, ◌<◌, ℕ, ◌+◌, ◌-◌, ◌*◌, ◌^◌, ◌%◌, List, ◌++◌, [], ◌∷◌, length, take, drop, refl, sym, ap, ◌∙◌, arith, inl}
-use Rattle.std.proofs.Common.{inr, length-append, length-drop, append_assoc, append-nil, zero, suc, add-one, get_or}
-use Rattle.std.specs.Prelude.{sum, slice_range, reverse}
+use Rattle.std.proofs.Common.{inr, length-append, length-drop, append_assoc, append-nil, zero, suc, add-one, get_or, sum, slice_range, reverse}
 use Rattle.std.specs.List.{flat_map}
 use Rattle.std.proofs.lemmas.Grind.{flat_map-append, common_steps}
 use Rattle.std.proofs.lemmas.Bool.{cases_lt}

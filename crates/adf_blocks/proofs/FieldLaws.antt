@@ -1,11 +1,10 @@
 -- The content of a block composed of fields.
-use Rattle.std.proofs.Common.{◌≡◌, ◌≢◌, ◌≤◌, ◌<◌, ℕ, zero, suc, ◌+◌, ◌-◌, ◌*◌, ◌^◌, ◌⊎◌, List, ◌++◌, [], ◌∷◌, rules}
-use Rattle.std.proofs.Common.{length, get_or, take, drop, refl, sym, ap, subst, ◌∙◌, arith, add-zero, append-nil, inl, inr}
+use Rattle.std.proofs.Common.{◌≡◌, ◌≢◌, ◌≤◌, ◌<◌, ℕ, zero, suc, ◌+◌, ◌-◌, ◌*◌, ◌^◌, ◌⊎◌, List, ◌++◌, [], ◌∷◌, rules, length, get_or, take, drop, refl}
+use Rattle.std.proofs.Common.{sym, ap, subst, ◌∙◌, arith, add-zero, append-nil, inl, inr, slice_range, slice_index, replicate, reverse, min}
 use Rattle.std.proofs.lemmas.Bool.{cases_lt}
 use Rattle.std.proofs.lemmas.List.{length-replicate, length-reverse, drop-take, drop-drop, take-take, take_at, take_all, drop-replicate, take-replicate}
 use Rattle.std.proofs.lemmas.List.{get_or-drop, get_or-take, get_or-reverse, get_or_past, length-take}
 use Rattle.std.proofs.Math.Seq.{drop-append-add}
-use Rattle.std.specs.Prelude.{slice_range, slice_index, replicate, reverse, min}
 use Rattle.std.proofs.lemmas.Grind.{common_steps}
 use Rattle.byteorder.specs.Endian.{big_number}
 use Rattle.byteorder.specs.Numbers.{big_number-reads_back}

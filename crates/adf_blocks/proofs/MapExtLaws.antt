@@ -1,6 +1,5 @@
 -- The fields of a written bitmap extension block.
-use Rattle.std.proofs.Common.{◌≡◌, ◌≤◌, ◌<◌, ℕ, ◌+◌, ◌^◌, List, length, sym, ap, ◌∙◌, arith, rules, inl, inr}
-use Rattle.std.specs.Prelude.{slice_index}
+use Rattle.std.proofs.Common.{◌≡◌, ◌≤◌, ◌<◌, ℕ, ◌+◌, ◌^◌, List, length, sym, ap, ◌∙◌, arith, rules, inl, inr, slice_index}
 use Rattle.std.proofs.lemmas.Bool.{cases_lt}
 use Rattle.std.proofs.lemmas.List.{get_or_past}
 use Rattle.adf_base.specs.Words.{word}

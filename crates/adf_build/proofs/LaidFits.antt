@@ -1,16 +1,14 @@
 -- A built volume fits its tree.
 use Rattle.std.proofs.Common.{◌≡◌, ℕ, zero, suc, List, [], ◌∷◌, ◌+◌, ◌-◌, ◌*◌, ◌/◌, ◌%◌, ◌^◌, ◌<◌, ◌≤◌, length, map, refl, sym, ap, subst, ◌∙◌, arith}
+use Rattle.std.proofs.Common.{Bool, true, false, cond, slice_index, None, ◌↔◌, ◌==◌, IsBitSet}
 use Rattle.std.specs.List.{range_with_len}
-use Rattle.std.proofs.Common.{Bool, true, false, cond}
-use Rattle.std.specs.Prelude.{slice_index, None, ◌↔◌, ◌==◌, IsBitSet}
 use Rattle.std.proofs.lemmas.Bool.Decides.{nat_tests}
 use lib.Bits.{bit_and}
 use Rattle.std.proofs.lemmas.Nat.{bit_set_by_shift, and_mask}
 use Rattle.adf_tree.specs.declared.entry.Body.TheVariants.{File}
 use Rattle.std.proofs.lemmas.List.FromFn.{get_or-map-range_with_len, get_or-range_with_len, length-map-range_with_len, length-range_with_len}
 use Rattle.adf_base.specs.Words.{block, word, with_bytes}
-use Rattle.adf_tree.specs.declared.entry.Kind.{Kind}
-use Rattle.adf_tree.specs.declared.entry.Kind.TheVariants.{Ofs, Ffs}
+use Rattle.adf_tree.specs.declared.entry.Kind.{Kind, TheVariants.Ofs, TheVariants.Ffs}
 use Rattle.adf_tree.specs.declared.entry.Entry.{Entry}
 use Rattle.adf_tree.specs.Tree.{Tree, IsDir}
 use Rattle.adf_blocks.specs.declared.layout.TheConstants.{FIRST_MAP_EXT, FIRST_PAGE, FIRST_SLOT, MAP_EXT_NEXT, MAP_EXT_PAGES, NAME, NEXT_IN_CHAIN, PAGE_BITS}

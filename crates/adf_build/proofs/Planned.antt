@@ -1,8 +1,8 @@
 -- The blocks of a planned layout: the root, the reserved blocks and a run of free blocks.
 use Rattle.std.proofs.Common.{◌≡◌, ℕ, suc, List, [], ◌∷◌, ◌++◌, inl, inr, ◌+◌, ◌-◌, ◌<◌, ◌≤◌, length, refl, sym, ap, subst, ◌∙◌, arith, append_assoc}
+use Rattle.std.proofs.Common.{length-append}
 use Rattle.std.proofs.lemmas.List.FromFn.{length-range_with_len}
 use Rattle.std.specs.List.{range_with_len}
-use Rattle.std.proofs.Common.{length-append}
 use Rattle.adf_volume.specs.Lists.{In, NoBlockTwice}
 use Rattle.adf_tree.specs.declared.entry.Kind.{Kind}
 use Rattle.adf_tree.specs.declared.entry.Entry.{Entry}
@@ -15,8 +15,7 @@ use Rattle.adf_volume.proofs.DistinctBlocks.{blocks_of, blocks_of-append, blocks
 use Rattle.adf_volume.proofs.Lists.{in_cases}
 use Rattle.adf_build.specs.Plan.{reserved, allocated, exts_needed, data_blocks, entries_blocks, blocks_needed, places_from, planned}
 use Rattle.adf_build.proofs.AllocatedBlocks.{length_allocated, free_from, free_below, free_apart, reserved_below, in_allocated, allocated-append}
-use Rattle.adf_build.proofs.AllocatedBlocks.{distinct_allocated, in_range}
-use Rattle.adf_build.proofs.AllocatedBlocks.{distinct_range, range_with_len-append}
+use Rattle.adf_build.proofs.AllocatedBlocks.{distinct_allocated, in_range, distinct_range, range_with_len-append}
 
 -- the blocks of entries are a run of free blocks
 blocks_of_places : (n : ℕ) (kind : Kind) (i k : ℕ) (es : List Entry) → blocks_of (owned_from i (places_from n kind k es)) ≡ allocated n k

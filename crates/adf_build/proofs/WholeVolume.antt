@@ -1,6 +1,5 @@
 -- The built volume of a tree as a whole.
-use Rattle.std.proofs.Common.{◌≡◌, ◌*◌, ℕ, List, refl, sym, subst, arith}
-use Rattle.std.specs.Prelude.{replicate}
+use Rattle.std.proofs.Common.{◌≡◌, ◌*◌, ℕ, List, refl, sym, subst, arith, replicate}
 use Rattle.std.proofs.lemmas.Grind.{common_steps}
 use Rattle.adf_tree.specs.Bounds.{IsBounded}
 use Rattle.adf_tree.specs.Tree.{IsTree, Tree}

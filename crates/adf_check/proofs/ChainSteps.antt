@@ -1,8 +1,7 @@
 -- The steps along the headers of a chain.
 use Rattle.adf_check.specs.Claims.{InRange}
-use Rattle.std.proofs.Common.{◌≡◌, ◌≢◌, ◌⊎◌, inl, inr, ℕ, suc, List, ◌∷◌, ◌+◌, ◌<◌, length, true, false, refl, sym, ap, subst, ◌∙◌, arith}
-use Rattle.std.proofs.Common.{Some, None}
-use Rattle.std.specs.Prelude.{◌↔◌}
+use Rattle.std.proofs.Common.{◌≡◌, ◌≢◌, ◌⊎◌, inl, inr, ℕ, suc, List, ◌∷◌, ◌+◌, ◌<◌, length, true, false, refl, sym, ap, subst, ◌∙◌, arith, Some, None}
+use Rattle.std.proofs.Common.{◌↔◌}
 use Rattle.std.proofs.lemmas.Bool.Decides.{Decides-or}
 use Rattle.std.specs.Str.{bytes_eq}
 use Rattle.std.proofs.lemmas.Slice.Eq.{bytes_eq-Decides}
@@ -12,8 +11,7 @@ use Rattle.adf_base.specs.Words.{block, word}
 use Rattle.adf_tree.specs.Texts.{uppers}
 use Rattle.adf_tree.specs.NameSet.{has, HasMore, Names}
 use Rattle.adf_tree.specs.declared.entry.Kind.{Kind}
-use Rattle.adf_blocks.specs.declared.cause.Cause.{Cause}
-use Rattle.adf_blocks.specs.declared.cause.Cause.TheVariants.{SameName}
+use Rattle.adf_blocks.specs.declared.cause.Cause.{Cause, TheVariants.SameName}
 use Rattle.adf_blocks.specs.Forms.{first_cause, text_at}
 use Rattle.adf_blocks.specs.HeadBlock.{head_form}
 use Rattle.adf_volume.specs.Demands.{Demand, AllHold, FirstFails, head_demands}

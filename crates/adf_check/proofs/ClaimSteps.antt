@@ -3,8 +3,7 @@ use Rattle.adf_check.specs.Claims.{InRange, IsClaimFault}
 use Rattle.std.proofs.Common.{◌≡◌, ℕ, suc, List, [], ◌∷◌, ◌++◌, ◌+◌, length, set, count_by, inl, inr, refl, sym, ap, subst, ◌∙◌, arith, Result, Ok, Err}
 use Rattle.std.specs.Prelude.{IfErr, IsOk, OnOk}
 use Rattle.std.proofs.lemmas.Grind.{common_steps}
-use Rattle.adf_blocks.specs.declared.cause.Cause.{Cause}
-use Rattle.adf_blocks.specs.declared.cause.Cause.TheVariants.{Taken, SameName, ShortFile}
+use Rattle.adf_blocks.specs.declared.cause.Cause.{Cause, TheVariants.Taken, TheVariants.SameName, TheVariants.ShortFile}
 use Rattle.adf_blocks.specs.Sizes.{blocks}
 use Rattle.adf_volume.specs.Demands.{Demand, demand, AllHold, FirstFails}
 use Rattle.adf_volume.specs.Image.{word_in}

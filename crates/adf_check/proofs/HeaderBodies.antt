@@ -5,8 +5,7 @@ use Rattle.std.proofs.lemmas.Grind.{common_steps}
 use Rattle.adf_blocks.specs.declared.layout.TheConstants.{EXTENSION, SECONDARY_TYPE, SIZE, ST_DIR}
 use Rattle.adf_base.specs.Words.{block}
 use Rattle.adf_blocks.specs.HeadBlock.{body_at}
-use Rattle.adf_blocks.specs.declared.head.HeadBody.{HeadBody}
-use Rattle.adf_blocks.specs.declared.head.HeadBody.TheVariants.{Dir, File}
+use Rattle.adf_blocks.specs.declared.head.HeadBody.{HeadBody, TheVariants.Dir, TheVariants.File}
 use Rattle.adf_volume.specs.Image.{word_in}
 
 pick_dir : (t : Bool) (s e : ℕ) → (if t then Dir else File s e) ≡ Dir → t ≡ true

@@ -2,8 +2,7 @@
 use Rattle.std.proofs.Common.{◌≡◌, ℕ, suc, List, ◌∷◌, ◌+◌, ◌-◌, ◌<◌, ◌≤◌, length, get_or, replicate, map, set, true, refl, ap, ◌∙◌, zero, arith}
 use Rattle.std.proofs.lemmas.List.{get_or-map, length-map, map-set}
 use Rattle.std.proofs.lemmas.Grind.{common_steps}
-use Rattle.adf_check.specs.declared.kept_owner.KeptOwner.{KeptOwner}
-use Rattle.adf_check.specs.declared.kept_owner.KeptOwner.TheVariants.{Free, Boot}
+use Rattle.adf_check.specs.declared.kept_owner.KeptOwner.{KeptOwner, TheVariants.Free, TheVariants.Boot}
 use Rattle.adf_check.specs.declared.kept_owner.PackedOwner.{PackedOwner}
 use Rattle.adf_check.specs.KeptOwner.{claimed_count, is_claimed, kept_at, unpacked}
 use Rattle.adf_check.specs.Owners.{IsTable}

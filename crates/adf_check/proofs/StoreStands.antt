@@ -1,14 +1,12 @@
 -- The store of a whole walk stands for the tree and the layout that fit.
-use Rattle.std.proofs.Common.{◌≡◌, ◌≢◌, ◌⊎◌, ℕ, zero, suc, List, ◌+◌, ◌-◌, ◌≤◌, inl, inr, length, refl, sym, ap, ◌∙◌, take, drop, arith}
-use Rattle.std.specs.Prelude.{is_some}
+use Rattle.std.proofs.Common.{◌≡◌, ◌≢◌, ◌⊎◌, ℕ, zero, suc, List, ◌+◌, ◌-◌, ◌≤◌, inl, inr, length, refl, sym, ap, ◌∙◌, take, drop, arith, is_some}
 use Rattle.std.proofs.lemmas.Grind.{common_steps}
 use Rattle.adf_tree.specs.declared.entry.Entry.{Entry}
 use Rattle.adf_volume.specs.Layout.{exts_of, datas_of}
 use Rattle.adf_volume.specs.Lists.{At}
 use Rattle.adf_volume.specs.Walk.{Role, Has}
 use Rattle.adf_volume.specs.Walk.Role.{Ext, Data}
-use Rattle.adf_volume.specs.LayoutRoles.{LayoutHas}
-use Rattle.adf_volume.specs.LayoutRoles.{owner_of}
+use Rattle.adf_volume.specs.LayoutRoles.{LayoutHas, owner_of}
 use Rattle.adf_volume.specs.Made.{tree_in, layout_in, exts_in, datas_in}
 use Rattle.adf_volume.proofs.Lists.{at_fun, same_list}
 use Rattle.adf_volume.proofs.WalkAgreement.{agreement}

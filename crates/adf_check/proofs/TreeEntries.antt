@@ -3,8 +3,7 @@ use Rattle.std.proofs.Common.{◌≡◌, ℕ, suc, [], ◌∷◌, ◌++◌, ◌+
 use Rattle.std.specs.Prelude.{IsSome, option_map}
 use Rattle.std.proofs.lemmas.List.{take_more}
 use Rattle.std.proofs.lemmas.Grind.{common_steps}
-use Rattle.adf_tree.specs.declared.entry.Body.{Body}
-use Rattle.adf_tree.specs.declared.entry.Body.TheVariants.{Dir, File}
+use Rattle.adf_tree.specs.declared.entry.Body.{Body, TheVariants.Dir, TheVariants.File}
 use Rattle.adf_tree.specs.declared.entry.Entry.{Entry}
 use Rattle.adf_tree.specs.Laws.{IsNextEntry}
 use Rattle.adf_tree.specs.Tree.{IsTree, Tree, entry, with_last, IsLast, MayAdd}

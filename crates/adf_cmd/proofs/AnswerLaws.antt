@@ -1,6 +1,5 @@
 -- From outcomes to answers.
-use Rattle.std.proofs.Common.{◌≡◌, ap, inl, inr, ℕ, Bool, false, List, [], Option, Some, Err, refl, sym, subst, arith}
-use Rattle.std.specs.Prelude.{string_bytes}
+use Rattle.std.proofs.Common.{◌≡◌, ap, inl, inr, ℕ, Bool, false, List, [], Option, Some, Err, refl, sym, subst, arith, string_bytes}
 use Rattle.std.proofs.lemmas.Grind.{common_steps}
 use Rattle.adf_fields.proofs.DateTexts.{date_of, date_of_is}
 use Rattle.adf_tree.specs.PathTexts.{IsPathText}
@@ -24,10 +23,8 @@ use Rattle.adf_cmd.specs.Refusals.{IsFaultOutcome, IsRefusedImage}
 use Rattle.adf_texts.specs.Lines.{fault_line}
 use Rattle.adf_texts.specs.VolumeLines.{volume_lines}
 use Rattle.adf_manifest.specs.declared.manifest.ManifestFault.{ManifestFault}
-use Rattle.adf_runs.specs.declared.outcome.Outcome.{Outcome}
-use Rattle.adf_runs.specs.declared.outcome.Outcome.TheVariants.{Refused, ReadFault, WriteFault, NoMemory}
-use Rattle.adf_runs.specs.declared.streams.StreamFault.{StreamFault}
-use Rattle.adf_runs.specs.declared.streams.StreamFault.TheVariants.{Device, NoMemory as StreamNoMemory}
+use Rattle.adf_runs.specs.declared.outcome.Outcome.{Outcome, TheVariants.Refused, TheVariants.ReadFault, TheVariants.WriteFault, TheVariants.NoMemory}
+use Rattle.adf_runs.specs.declared.streams.StreamFault.{StreamFault, TheVariants.Device, TheVariants.NoMemory as StreamNoMemory}
 use Rattle.adf_runs.specs.Streams.{is_device}
 use Rattle.adf_runs.proofs.Endings.{ends_weaker}
 use Rattle.adf_runs.proofs.PendingText.{appends_nil}

@@ -1,6 +1,5 @@
 -- Laws of the lines of words and blocks.
-use Rattle.std.proofs.Common.{◌≡◌, ◌≤◌, ◌+◌, ◌/◌, ◌++◌, ℕ, List, [], refl, sym, ap, arith}
-use Rattle.std.proofs.Common.{length}
+use Rattle.std.proofs.Common.{◌≡◌, ◌≤◌, ◌+◌, ◌/◌, ◌++◌, ℕ, List, [], refl, sym, ap, arith, length}
 use Rattle.adf_base.specs.Words.{block}
 use Rattle.adf_texts.proofs.Ranges.{flat_map_front, flat_map_next}
 use Rattle.adf_cmd.specs.Listing.{line_of_word, lines_of, lines_of_blocks, listing}

@@ -13,8 +13,7 @@ use Rattle.adf_volume.proofs.OneFault.{one_fault}
 use Rattle.adf_volume.proofs.Sizes.{size_high}
 use Rattle.adf_volume.specs.declared.fault.Fault.{Fault}
 use Rattle.adf_manifest.specs.Manifest.{ExplainsKind}
-use Rattle.adf_manifest.specs.declared.manifest.ManifestKind.{ManifestKind}
-use Rattle.adf_manifest.specs.declared.manifest.ManifestKind.TheVariants.{NoMemory as ManifestNoMemory, TooLong}
+use Rattle.adf_manifest.specs.declared.manifest.ManifestKind.{ManifestKind, TheVariants.NoMemory as ManifestNoMemory, TheVariants.TooLong}
 use Rattle.adf_cmd.specs.Answers.{Answer, limit_of}
 use Rattle.adf_runs.specs.Commands.{Reply}
 use Rattle.adf_words.specs.CommandLine.{RequestValue, build, cat, check}

@@ -1,14 +1,12 @@
 -- How works end, and by which answers. `part` are the first bytes of an input, as many as count.
-use Rattle.std.proofs.Common.{◌≡◌, ◌+◌, ◌*◌, ◌-◌, ◌/◌, ◌∙◌, inl, inr, ℕ, List, Option}
-use Rattle.std.proofs.Common.{None, Some, IfSome, ap, arith, drop, length, min, subst, take}
+use Rattle.std.proofs.Common.{◌≡◌, ◌+◌, ◌*◌, ◌-◌, ◌/◌, ◌∙◌, inl, inr, ℕ, List, Option, None, Some, IfSome, ap, arith, drop, length, min, subst, take}
 use Rattle.std.proofs.lemmas.List.{drop_min, length-drop, take-take, take_all, take_min}
 use Rattle.adf_disk_cmd.specs.Answers.{DiskAnswer, OfBytes, OfDisk, OfFault, OfPartitions}
 use Rattle.adf_disk_cmd.specs.Builds.{BuildsDisk}
 use Rattle.adf_disk_cmd.specs.Lines.{volume_at}
 use Rattle.adf_disk_cmd.specs.Work.{Serves}
 use Rattle.adf_disk_cmd.specs.declared.work.TheConstants.{MOST_DISK_BYTES}
-use Rattle.adf_disk_cmd.specs.declared.work.Work.{Work}
-use Rattle.adf_disk_cmd.specs.declared.work.Work.TheVariants.{Check, Survey}
+use Rattle.adf_disk_cmd.specs.declared.work.Work.{Work, TheVariants.Check, TheVariants.Survey}
 use Rattle.adf_partitions.specs.Disks.{FirstFault, IsDisk}
 use Rattle.adf_partitions.specs.declared.fault.DiskFault.{DiskFault}
 use Rattle.adf_partitions.specs.declared.partition.Partition.{Partition}
@@ -19,8 +17,7 @@ use Rattle.adf_runs.proofs.Endings.{ends_weaker}
 use Rattle.adf_runs.specs.Commands.{Reply}
 use Rattle.adf_runs.specs.Outcomes.{EndsBy, after_reading}
 use Rattle.adf_runs.specs.declared.outcome.Outcome.{Outcome}
-use Rattle.adf_runs.specs.declared.streams.StreamFault.{StreamFault}
-use Rattle.adf_runs.specs.declared.streams.StreamFault.TheVariants.{Device, NoMemory}
+use Rattle.adf_runs.specs.declared.streams.StreamFault.{StreamFault, TheVariants.Device, TheVariants.NoMemory}
 use Rattle.adf_words.specs.DiskLine.{DiskRequestValue, build, check, list, survey, volume}
 use Rattle.adf_runs.proofs.PendingText.{appends_nil}
 

@@ -1,6 +1,5 @@
 -- New volumes. p is the plan of a partition, n the number of its blocks, c that of a cylinder.
-use Rattle.std.proofs.Common.{◌≡◌, ◌≤◌, ◌-◌, ◌*◌, ℕ, Bool, true, false, [], length, refl, arith}
-use Rattle.std.specs.Prelude.{◌&&◌, ◌||◌}
+use Rattle.std.proofs.Common.{◌≡◌, ◌≤◌, ◌-◌, ◌*◌, ℕ, Bool, true, false, [], length, refl, arith, ◌&&◌, ◌||◌}
 use Rattle.std.proofs.lemmas.Grind.{common_steps}
 use Rattle.adf_base.specs.Dates.{IsStamp}
 use Rattle.adf_blocks.specs.Sizes.{is_allowed}

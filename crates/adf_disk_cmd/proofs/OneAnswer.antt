@@ -1,9 +1,8 @@
 -- What is asked of a disk has one answer.
 -- Letters: ps are its partitions, p is one of them; s, t whether it is sound, l, m its lines; a, b replies.
 use Rattle.std.proofs.Common.{◌≡◌, ◌&&◌, ◌++◌, ◌∙◌, ℕ, Bool, true, false, List, [], ◌∷◌, Option, Result, Ok, Err, inl, inr, ap, ap₂, refl, sym, subst}
-use Rattle.std.specs.Prelude.{codes, find, length, ◌/◌, take}
+use Rattle.std.proofs.Common.{codes, find, length, ◌/◌, take, arith}
 use Rattle.std.proofs.lemmas.Grind.{common_steps}
-use Rattle.std.proofs.Common.{arith}
 use Rattle.adf_cmd.proofs.OneAnswer.{one_answer as one_check}
 use Rattle.adf_disk_cmd.specs.Answers.{ChecksAll, CopiesVolume, DiskAnswer, IsWanted, OfBytes}
 use Rattle.adf_disk_cmd.specs.Answers.{OfDisk, OfFault, OfPartitions, TellsReadable, fault_line, volume_reply}

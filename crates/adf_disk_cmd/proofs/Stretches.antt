@@ -1,8 +1,7 @@
 -- The bytes of an input that are held, up to where it stands.
 -- Letters: `start` is what the input had at first, a, b and c what is left of it; k is where the held bytes begin, f the first byte of a place, n a count.
-use Rattle.std.proofs.Common.{◌≡◌, ◌<◌, ◌≤◌, ◌+◌, ◌-◌, ◌*◌, ◌∙◌, ◌++◌, ◌∷◌, [], ℕ, List, Option, None, Some}
-use Rattle.std.proofs.Common.{All, ap, append-nil, append_assoc, arith, drop, get_or, length, min, subst, sym, take}
-use Rattle.std.proofs.Common.{length-append, length-drop, length-take, length-take-le}
+use Rattle.std.proofs.Common.{◌≡◌, ◌<◌, ◌≤◌, ◌+◌, ◌-◌, ◌*◌, ◌∙◌, ◌++◌, ◌∷◌, [], ℕ, List, Option, None, Some, All, ap, append-nil, append_assoc, arith}
+use Rattle.std.proofs.Common.{drop, get_or, length, min, subst, sym, take, length-append, length-drop, length-take, length-take-le}
 use Rattle.std.proofs.Math.Seq.{drop-append_seam}
 use Rattle.std.proofs.lemmas.Bool.{cases_lt}
 use Rattle.std.proofs.lemmas.List.{drop-append-le, drop-drop, get_or-drop, map_push, take-append-drop, take-append-le, take_more}
@@ -33,11 +32,6 @@ more_at_most start a b k m n bytes s more few =
 pub more_taken : (start a b : Option (List ℕ)) (m n : ℕ) (bytes : List ℕ) → Consumes start a bytes → TakesAtMost m a b → length bytes + m ≤ n
     → TakesAtMost n start b
 more_taken start a b m n bytes taken more few = two_at_most (length bytes) m n start a b few (bytes, omega arith, taken) more
-
--- more bytes are held
-pub stretch_more : (start a b : Option (List ℕ)) (k : ℕ) (bytes more both : List ℕ) → both ≡ bytes ++ more → Consumes a b more → IsStretch start a k bytes
-    → IsStretch start b k both
-stretch_more start a b k bytes more both e taken s = grind (arith, common_steps, consumes_more, append_assoc)
 
 -- what is held is let go, and more is passed over
 pub stretch_passed : (start a b : Option (List ℕ)) (k j count limit : ℕ) (bytes none : List ℕ) → j ≡ (k + length bytes) + count → none ≡ []

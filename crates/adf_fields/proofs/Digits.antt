@@ -1,9 +1,8 @@
 -- Numbers below 100 in two digits.
-use Rattle.std.proofs.Common.{◌≡◌, ℕ, ◌+◌, ◌-◌, ◌/◌, ◌%◌, ◌^◌, ◌<◌, List, [], arith, refl, inl, inr, false, true, sym, decimal}
+use Rattle.std.proofs.Common.{◌≡◌, ℕ, ◌+◌, ◌-◌, ◌/◌, ◌%◌, ◌^◌, ◌<◌, List, [], arith, refl, inl, inr, false, true, sym, decimal, pos}
 use Rattle.std.specs.Fmt.{padded_integral, char_count, format_spec}
 use Rattle.std.proofs.lemmas.Bool.{cases_lt}
 use Rattle.std.proofs.lemmas.Fmt.{decimal_digit, decimal_step}
-use Rattle.std.specs.Prelude.{pos}
 use Rattle.jiff.specs.Types.{Date}
 use Rattle.jiff.specs.Words.{epoch_day, IsYmd}
 use Rattle.jiff.proofs.SpanFacts.{signed_arith}

@@ -1,6 +1,6 @@
 -- The findings of the bits.
-use Rattle.std.specs.Prelude.{Bool, true, false, ◌||◌, not, Some, None, IsTrue, ◌↔◌}
-use Rattle.std.proofs.Common.{◌≡◌, ℕ, suc, List, [], ◌∷◌, ◌++◌, inl, inr, ◌+◌, ◌-◌, ◌/◌, ◌%◌, ◌≤◌, refl, sym, subst, ◌∙◌, arith}
+use Rattle.std.proofs.Common.{Bool, true, false, ◌||◌, not, Some, None, IsTrue, ◌↔◌, ◌≡◌, ℕ, suc, List, [], ◌∷◌, ◌++◌, inl, inr, ◌+◌, ◌-◌, ◌/◌, ◌%◌}
+use Rattle.std.proofs.Common.{◌≤◌, refl, sym, subst, ◌∙◌, arith, add-one}
 use Rattle.std.specs.Ordering.{is_eq}
 use Rattle.std.specs.BTreeMap.{get}
 use Rattle.std.proofs.lemmas.List.{append_assoc, append-nil}
@@ -25,7 +25,6 @@ use Rattle.adf_findings.proofs.Keys.{lacks_at, one_key, same_of_key}
 use Rattle.adf_findings.proofs.Known.{tells_absent}
 use Rattle.adf_findings.proofs.Taking.{stands_reported}
 use Rattle.adf_findings.proofs.OneSurvey.{gathered}
-use Rattle.std.proofs.Common.{add-one}
 use Rattle.std.proofs.lemmas.Bool.{cases_Bool, cond-true, cond-false}
 
 -- where the bitmap is not valid, no bit is compared

@@ -1,7 +1,6 @@
 -- What the bitmap tells of a block, by the pages that are kept.
 -- Letters: w the walk of a survey, fs its findings; b a block; at the block of its page; t the bit.
-use Rattle.std.specs.Prelude.{Bool, Option, None, Some, IfSome, IsSome, IsTrue, ◌↔◌}
-use Rattle.std.proofs.Common.{◌≡◌, ℕ, List, ◌-◌, ◌/◌, ◌%◌, ◌≤◌, refl, sym, subst, ◌∙◌}
+use Rattle.std.proofs.Common.{Bool, Option, None, Some, IfSome, IsSome, IsTrue, ◌↔◌, ◌≡◌, ℕ, List, ◌-◌, ◌/◌, ◌%◌, ◌≤◌, refl, sym, subst, ◌∙◌}
 use Rattle.std.specs.BTreeMap.{BTreeMap, get}
 use Rattle.adf_blocks.specs.declared.layout.TheConstants.{PAGE_BITS}
 use Rattle.adf_volume.specs.Image.{IsFreeAt}

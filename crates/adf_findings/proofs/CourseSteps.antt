@@ -11,8 +11,7 @@ use Rattle.adf_volume.specs.Walk.Role.{Root, Head, Ext}
 use Rattle.adf_volume.proofs.Gathered.{IsGathered, ext_counted, next_ext}
 use Rattle.adf_volume.proofs.PositionSteps.{not_skipped, not_taken, past_skipped, past_taken, same_behind, same_position}
 use Rattle.adf_volume.proofs.Roles.{asks_number, renumbered, renumbered_same}
-use Rattle.adf_findings.specs.declared.part.Part.{Part}
-use Rattle.adf_findings.specs.declared.part.Part.TheVariants.{Head as HeadPart}
+use Rattle.adf_findings.specs.declared.part.Part.{Part, TheVariants.Head as HeadPart}
 use Rattle.adf_findings.specs.declared.course.Reference.{Reference}
 use Rattle.adf_findings.specs.declared.judge.Facts.{Facts}
 use Rattle.adf_findings.specs.declared.found.Found.{Found}

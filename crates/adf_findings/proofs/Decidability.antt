@@ -3,8 +3,7 @@ use Rattle.std.specs.Prelude.{Bool, true, false, drop, slice_index}
 use Rattle.std.proofs.Common.{◌≡◌, ℕ, zero, suc, List, [], ◌∷◌, ◌++◌, ◌⊎◌, inl, inr, ◌-◌, ◌*◌, ◌/◌, ◌%◌, ◌<◌, ◌≤◌, ◌≢◌, refl, ap, subst, arith}
 use mathlib.Core.Logic.Dec.{and as dec_and, not as dec_not}
 use native.Mathlib.Decide.{dec_le, dec_lt, map_dec, ℕ_discrete}
-use Rattle.adf_tree.specs.declared.entry.Kind.{Kind}
-use Rattle.adf_tree.specs.declared.entry.Kind.TheVariants.{Ofs, Ffs}
+use Rattle.adf_tree.specs.declared.entry.Kind.{Kind, TheVariants.Ofs, TheVariants.Ffs}
 use Rattle.adf_blocks.specs.declared.cause.Cause.{Cause}
 use Rattle.adf_blocks.specs.declared.layout.TheConstants.{BITMAP_FLAG, PAGE_BITS, POINTERS, SIZE, VALID}
 use Rattle.adf_blocks.specs.Forms.{Clause}
@@ -15,16 +14,14 @@ use Rattle.adf_blocks.specs.PageBlock.{page_form}
 use Rattle.adf_base.specs.Words.{block}
 use Rattle.adf_volume.specs.Image.{name_of, kind_of, held, root_of, word_in, IsFreeAt}
 use Rattle.adf_volume.specs.Demands.{Demand, AllHold, FirstFails, demands_at, data_demands}
-use Rattle.adf_volume.specs.Walk.{Role, Has, data_count, ext_count, Enough, IsAbsent, IsFreeIn}
-use Rattle.adf_volume.specs.Walk.{bitmap_demands, next_data, node_block}
+use Rattle.adf_volume.specs.Walk.{Role, Has, data_count, ext_count, Enough, IsAbsent, IsFreeIn, bitmap_demands, next_data, node_block}
 use Rattle.adf_volume.specs.Walk.Role.{Page, Head, Ext, Data}
 use Rattle.adf_findings.specs.Demands.{NewNameIn, demands_in, form_demands_in, head_form_in, uppers_in}
 use Rattle.adf_findings.specs.Survey.{FindingValue, JudgementValue, Judged, IsItself, is_cache, is_kept, Course, IsCompared, IsUnexcused, BitsTell}
 use Rattle.adf_findings.specs.Survey.JudgementValue.{clean, reported, skipped}
 use Rattle.adf_findings.specs.Survey.BitsTell.{ends, agrees, differs}
 use Rattle.adf_volume.proofs.Gathered.{IsGathered, file_one}
-use Rattle.adf_volume.proofs.DecidedAsks.{dec_where, dec_not_zero}
-use Rattle.adf_volume.proofs.DecidedAsks.{dec_low, one_low, dec_file}
+use Rattle.adf_volume.proofs.DecidedAsks.{dec_where, dec_not_zero, dec_low, one_low, dec_file}
 
 -- each demand is decided
 abbrev pub Decided : List Demand → Type 0

@@ -1,8 +1,7 @@
 -- The findings that leave a file its blocks, and the others.
 -- Letters: f, g findings; fs, gs lists of them; xs the same as they are kept; n a file's node; k a part's number.
-use Rattle.std.specs.Prelude.{◌&&◌, Bool, map, not, Some}
+use Rattle.std.proofs.Common.{◌&&◌, Bool, map, not, Some, ◌≡◌, ◌∙◌, ℕ, List, [], ◌∷◌, ap, sym, arith, false, inl, inr, true}
 use Rattle.std.specs.List.{filter}
-use Rattle.std.proofs.Common.{◌≡◌, ◌∙◌, ℕ, List, [], ◌∷◌, ap, sym, arith, false, inl, inr, true}
 use Rattle.std.proofs.lemmas.Grind.{common_steps}
 use Rattle.adf_volume.specs.Lists.{In}
 use Rattle.adf_volume.specs.Walk.{Role}

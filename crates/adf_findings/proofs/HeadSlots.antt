@@ -1,7 +1,6 @@
 -- The form of a header by the letters of a volume, read by ASCII letters.
 -- Letters: l the letters; s the wanted slot, t the one that is asked for; b a block.
-use Rattle.std.specs.Prelude.{Bool, Some, true, false, ◌==◌, not, nat_le, slice_index}
-use Rattle.std.proofs.Common.{◌≡◌, ℕ, List, [], ◌∷◌, ◌++◌, refl, sym, ap, ◌∙◌}
+use Rattle.std.proofs.Common.{Bool, Some, true, false, ◌==◌, not, nat_le, slice_index, ◌≡◌, ℕ, List, [], ◌∷◌, ◌++◌, refl, sym, ap, ◌∙◌}
 use Rattle.adf_base.specs.Hash.{slot_by, slot_of}
 use Rattle.adf_base.specs.Words.{long_sum, word}
 use Rattle.adf_base.specs.declared.hash.Letters.{Letters}

@@ -11,8 +11,7 @@ use Rattle.adf_blocks.specs.Forms.{Clause, first_cause, text_at}
 use Rattle.adf_blocks.specs.HeadBlock.{is_name_at}
 use Rattle.adf_blocks.specs.Sizes.{blocks}
 use Rattle.adf_base.specs.Words.{block}
-use Rattle.adf_tree.specs.declared.entry.Kind.{Kind}
-use Rattle.adf_tree.specs.declared.entry.Kind.TheVariants.{Ofs, Ffs}
+use Rattle.adf_tree.specs.declared.entry.Kind.{Kind, TheVariants.Ofs, TheVariants.Ffs}
 use Rattle.adf_tree.specs.Texts.{is_name}
 use Rattle.adf_blocks.specs.declared.layout.TheConstants.{NAME}
 use Rattle.adf_blocks.specs.ExtBlock.{ext_form}
@@ -22,9 +21,8 @@ use Rattle.adf_volume.specs.Image.{kind_of, name_of}
 use Rattle.adf_volume.specs.Walk.{Role, Enough, IsAbsent}
 use Rattle.adf_volume.specs.Walk.Role.{Page, Head, Data}
 use Rattle.adf_findings.specs.Demands.{NewNameIn, demands_in, form_demands_in, head_form_in}
-use Rattle.adf_findings.specs.declared.part.Part.{Part}
-use Rattle.adf_findings.specs.declared.part.Part.TheVariants.{Root as RootPart, Page as PagePart, MapExt as MapExtPart, Head as HeadPart}
-use Rattle.adf_findings.specs.declared.part.Part.TheVariants.{Ext as ExtPart, Data as DataPart}
+use Rattle.adf_findings.specs.declared.part.Part.{Part, TheVariants.Root as RootPart, TheVariants.Page as PagePart, TheVariants.MapExt as MapExtPart}
+use Rattle.adf_findings.specs.declared.part.Part.{TheVariants.Head as HeadPart, TheVariants.Ext as ExtPart, TheVariants.Data as DataPart}
 use Rattle.adf_findings.specs.declared.forms.Context.{Context}
 use Rattle.adf_findings.specs.declared.judge.Facts.{Facts}
 use Rattle.adf_findings.specs.Survey.{IsItself, Judged, JudgementValue, is_kept}

@@ -1,6 +1,5 @@
 -- The judgement of a part that is next, by what is found of it and by its name.
-use Rattle.std.specs.Prelude.{Bool, cond, false, not, slice_index_or, true}
-use Rattle.std.proofs.Common.{◌≡◌, ℕ, List, sym, subst, ap, ◌∙◌}
+use Rattle.std.proofs.Common.{Bool, cond, false, not, slice_index_or, true, ◌≡◌, ℕ, List, sym, subst, ap, ◌∙◌}
 use Rattle.adf_blocks.specs.declared.cause.Cause.TheVariants.{SameName}
 use Rattle.adf_blocks.specs.Forms.{first_cause}
 use Rattle.adf_volume.specs.Positions.{position_of}

@@ -1,25 +1,23 @@
 -- The result for an image is that of its survey.
 use Rattle.std.specs.Prelude.{Bool, Option, ◌-◌, false, true, map, not, slice_get, slice_index, slice_index_or}
+use Rattle.std.proofs.Common.{◌≡◌, ℕ, List, [], ◌++◌, ◌≤◌, refl, sym, ap, subst, ◌∙◌, arith, ◌*◌, ◌<◌, length}
 use Rattle.std.specs.List.{filter}
 use Rattle.std.specs.Option.{option_flatten}
-use Rattle.std.proofs.Common.{◌≡◌, ℕ, List, [], ◌++◌, ◌≤◌, refl, sym, ap, subst, ◌∙◌, arith, ◌*◌, ◌<◌, length}
 use Rattle.std.proofs.lemmas.Grind.{common_steps}
 use Rattle.adf_blocks.specs.Sizes.{blocks}
-use Rattle.adf_volume.proofs.Gathered.{head_block, numbered as has_number}
+use Rattle.adf_volume.proofs.Gathered.{head_block, numbered as has_number, number_of}
 use Rattle.adf_volume.specs.Walk.{Role, Has, heads, node_block}
 use Rattle.adf_volume.specs.Walk.Role.{Page, Head}
 use Rattle.adf_volume.proofs.Roles.{head_role}
-use Rattle.adf_findings.specs.Found.{parent_node}
+use Rattle.adf_findings.specs.Found.{parent_node, IsCompleted, Stands}
 use Rattle.adf_findings.specs.declared.found.Found.{Found}
 use Rattle.adf_findings.specs.Files.{counting, grave, is_light}
-use Rattle.adf_findings.specs.Found.{IsCompleted, Stands}
 use Rattle.adf_findings.specs.Marks.{blamed, has_mark, is_clear}
 use Rattle.adf_findings.specs.declared.concern.Concern.{Concern}
 use Rattle.adf_findings.specs.Parts.{finding_value, key_of}
 use Rattle.adf_findings.specs.Survey.{Course, FindingValue, IsSurvey, UnreadTells}
 use Rattle.adf_findings.specs.Survey.IsSurvey.{read, unread}
 use Rattle.adf_findings.specs.Sound.{IsSound}
-use Rattle.adf_volume.proofs.Gathered.{number_of}
 use Rattle.adf_findings.specs.SurveyResult.{IsOfSurvey, SurveyValue, TellsOf, block_at, owner_at}
 use Rattle.adf_findings.proofs.Concerning.{concerned_kept, no_concern_nth}
 use Rattle.adf_findings.proofs.GraveFindings.{grave_is, grave_kept}

@@ -1,6 +1,5 @@
 -- Equal keys, and facts of a success.
-use Rattle.std.specs.Prelude.{Bool, true, false, cond, Some, None, ◌&&◌, ◌==◌}
-use Rattle.std.proofs.Common.{◌≡◌, ℕ, List, [], ◌∷◌, inl, inr, refl, ap, ◌∙◌, arith}
+use Rattle.std.proofs.Common.{Bool, true, false, cond, Some, None, ◌&&◌, ◌==◌, ◌≡◌, ℕ, List, [], ◌∷◌, inl, inr, refl, ap, ◌∙◌, arith}
 use Rattle.std.specs.Ordering.{is_eq}
 use Rattle.std.proofs.lemmas.Bool.{and_parts, cases_Bool, eqb-true, eq-eqb}
 use Rattle.std.proofs.lemmas.Grind.{common_steps}

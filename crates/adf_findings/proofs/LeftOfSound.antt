@@ -2,14 +2,13 @@
 -- Letters: w the walk of a survey, fs its findings; c whether the grave findings alone count; n a file's node, h the block of its
 -- header; k, j numbers of data blocks, from 0; b a block, bs blocks; found the block of each data block, if any.
 use Rattle.std.specs.Prelude.{Bool, true, false, Option, Some, None, replicate}
-use Rattle.std.specs.List.{concat}
 use Rattle.std.proofs.Common.{◌≡◌, ℕ, suc, zero, List, [], ◌∷◌, ◌++◌, length, ◌+◌, ◌*◌, ◌<◌, ◌≤◌, refl, sym, ap, set, ◌∙◌, arith}
+use Rattle.std.specs.List.{concat}
 use Rattle.std.proofs.lemmas.List.{append_assoc, append-nil, length-replicate}
 use Rattle.std.proofs.Math.Nat.{min-eq_left}
 use Rattle.std.proofs.lemmas.Grind.{common_steps}
 use Rattle.adf_base.specs.Words.{block}
-use Rattle.adf_tree.specs.declared.entry.Kind.{Kind}
-use Rattle.adf_tree.specs.declared.entry.Kind.TheVariants.{Ofs, Ffs}
+use Rattle.adf_tree.specs.declared.entry.Kind.{Kind, TheVariants.Ofs, TheVariants.Ffs}
 use Rattle.adf_blocks.specs.declared.layout.TheConstants.{SIZE}
 use Rattle.adf_blocks.specs.Sizes.{blocks, chunk, count}
 use Rattle.adf_volume.specs.Image.{kind_of, letters_of, piece, pieces, root_of, word_in}

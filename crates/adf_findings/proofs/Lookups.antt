@@ -1,12 +1,11 @@
 -- Look-up of paths among the entries found, and which of these are files.
-use Rattle.std.specs.Prelude.{Bool, true, ◌↔◌, drop, get_or}
+use Rattle.std.proofs.Common.{Bool, true, ◌↔◌, drop, get_or, ◌≡◌, ℕ, zero, suc, List, ◌∷◌, ◌+◌, ◌==◌, length, ◌<◌, ◌≤◌, sym, ap, subst, ◌∙◌, arith}
 use Rattle.std.proofs.Math.Seq.{drop-cons}
 use Rattle.std.proofs.lemmas.Bool.{eqb-true, eq-eqb}
 use Rattle.std.specs.Str.{bytes_eq}
 use Rattle.std.proofs.lemmas.Slice.Eq.{bytes_eq-Decides}
 use Rattle.adf_volume.specs.Image.{name_of, word_in}
 use Rattle.adf_blocks.specs.declared.layout.TheConstants.{SECONDARY_TYPE, ST_FILE}
-use Rattle.std.proofs.Common.{◌≡◌, ℕ, zero, suc, List, ◌∷◌, ◌+◌, ◌==◌, length, ◌<◌, ◌≤◌, sym, ap, subst, ◌∙◌, arith}
 use Rattle.std.proofs.lemmas.Grind.{common_steps}
 use Rattle.adf_volume.specs.Walk.{FileAt, Role, Has, HeadAt, heads, node_block}
 use Rattle.adf_volume.specs.Walk.Role.{Head}

@@ -1,7 +1,6 @@
 -- Whether the parts of an image are surveyed, and the marks that are kept.
 -- Letters: w the walk of a survey, fs its findings; v a result; n a node.
-use Rattle.std.specs.Prelude.{◌&&◌, ◌↔◌, Bool, nat_le, true, false}
-use Rattle.std.proofs.Common.{◌≡◌, ◌≤◌, ℕ, List, [], inl, inr, refl, subst, arith}
+use Rattle.std.proofs.Common.{◌&&◌, ◌↔◌, Bool, nat_le, true, false, ◌≡◌, ◌≤◌, ℕ, List, [], inl, inr, refl, subst, arith}
 use Rattle.std.proofs.lemmas.Bool.{cases_lt}
 use Rattle.std.proofs.lemmas.Bool.Decides.{nat_tests}
 use Rattle.adf_volume.specs.Walk.{Role, Has, HeadAt, node_block}

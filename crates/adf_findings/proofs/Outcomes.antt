@@ -1,6 +1,5 @@
 -- The outcome for a part that is next.
-use Rattle.std.specs.Prelude.{Some, None}
-use Rattle.std.proofs.Common.{◌≡◌, ℕ, List, [], ◌∷◌, ◌++◌, sym, subst, ap, ◌∙◌, arith}
+use Rattle.std.proofs.Common.{Some, None, ◌≡◌, ℕ, List, [], ◌∷◌, ◌++◌, sym, subst, ap, ◌∙◌, arith}
 use Rattle.std.proofs.lemmas.Grind.{common_steps}
 use Rattle.adf_blocks.specs.declared.cause.Cause.{Cause}
 use Rattle.adf_volume.specs.Walk.{Role}
@@ -8,8 +7,7 @@ use Rattle.adf_findings.specs.Demands.{demands_in}
 use Rattle.adf_findings.specs.declared.part.Part.{Part}
 use Rattle.adf_findings.specs.declared.part.Finding.{Finding}
 use Rattle.adf_findings.specs.declared.course.Reference.{Reference}
-use Rattle.adf_findings.specs.declared.judge.Judgement.{Judgement}
-use Rattle.adf_findings.specs.declared.judge.Judgement.TheVariants.{Clean, Reported, Skipped}
+use Rattle.adf_findings.specs.declared.judge.Judgement.{Judgement, TheVariants.Clean, TheVariants.Reported, TheVariants.Skipped}
 use Rattle.adf_findings.specs.declared.found.Found.{Found}
 use Rattle.adf_findings.specs.Survey.{Course, FindingValue, IsCourse, Judged, JudgementValue, after, finding}
 use Rattle.adf_findings.specs.Survey.JudgementValue.{reported, skipped}

@@ -14,7 +14,7 @@ use Rattle.adf_volume.specs.Lists.{In}
 use Rattle.adf_volume.specs.Demands.{FirstFails, IsSize, boot_form, boot_demands, root_demands}
 use Rattle.adf_volume.specs.Walk.{Role, Before, Same, Has, heads, MemberAt, Asks, Lacks, IsAbsent}
 use Rattle.adf_volume.specs.Walk.Role.{Root, Page, MapExt, Head, Ext, Data}
-use Rattle.adf_volume.proofs.DecidedAsks.{Asked}
+use Rattle.adf_volume.proofs.DecidedAsks.{Asked, dec_asked}
 use Rattle.adf_volume.proofs.FitWalks.{dec_lacks, lacks_same, least, without}
 use Rattle.adf_volume.proofs.Lists.{in_left, in_right}
 use Rattle.adf_volume.proofs.Roles.{head_role, renumbered, renumbered_same, same_of}
@@ -27,7 +27,6 @@ use Rattle.adf_findings.specs.Survey.BootTells.{clean_boot, other_type}
 use Rattle.adf_findings.specs.Survey.RootTells.{clean_root, reported_root}
 use Rattle.adf_findings.specs.Survey.UnreadTells.{bad_boot, bad_root}
 use Rattle.adf_findings.specs.Survey.IsSurvey.{unread, read}
-use Rattle.adf_volume.proofs.DecidedAsks.{dec_asked}
 use Rattle.adf_volume.proofs.Gathered.{IsGathered, root_in}
 use Rattle.adf_volume.proofs.PartDemands.{part_holds_by}
 use Rattle.adf_findings.proofs.JudgementTests.{itself_holds}

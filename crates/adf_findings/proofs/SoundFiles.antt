@@ -1,6 +1,5 @@
 -- The data blocks of a sound file are those in its table.
-use Rattle.std.specs.Prelude.{Bool, false, get_or, slice_index}
-use Rattle.std.proofs.Common.{◌≡◌, ℕ, suc, List, [], ◌++◌, ◌*◌, ◌^◌, ◌<◌, length, sym, ap, subst, ◌∙◌, arith}
+use Rattle.std.proofs.Common.{Bool, false, get_or, slice_index, ◌≡◌, ℕ, suc, List, [], ◌++◌, ◌*◌, ◌^◌, ◌<◌, length, sym, ap, subst, ◌∙◌, arith}
 use Rattle.adf_blocks.specs.declared.layout.TheConstants.{SECONDARY_TYPE, SIZE, ST_FILE}
 use Rattle.adf_volume.proofs.Images.{count_small}
 use Rattle.adf_volume.specs.Image.{kind_of, pieces, word_in}

@@ -1,7 +1,6 @@
 -- The start of an image: its size, its boot bytes and its root.
 -- Letters: at, c the block and the cause of a finding.
-use Rattle.std.specs.Prelude.{None, Some, true, false}
-use Rattle.std.proofs.Common.{◌≡◌, ℕ, List, [], ◌∷◌, ◌++◌, inl, inr, refl, ap, subst, ◌∙◌, arith}
+use Rattle.std.proofs.Common.{None, Some, true, false, ◌≡◌, ℕ, List, [], ◌∷◌, ◌++◌, inl, inr, refl, ap, subst, ◌∙◌, arith}
 use Rattle.std.proofs.lemmas.Grind.{common_steps}
 use Rattle.adf_base.specs.Words.{block}
 use Rattle.adf_blocks.specs.declared.cause.Cause.{Cause}

@@ -1,7 +1,6 @@
 -- A manifest has no fault, and lines have at most one first fault.
 use Rattle.std.proofs.Common.{◌≡◌, ◌<◌, ◌≤◌, ◌+◌, ◌++◌, ◌∙◌, ◌⊎◌, inl, inr, ℕ, zero, suc, true, List, [], ◌∷◌, Result, Ok, Err, refl, sym, ap, subst}
-use Rattle.std.proofs.Common.{arith, length, length-append, take, drop}
-use Rattle.std.specs.Prelude.{IsOk}
+use Rattle.std.proofs.Common.{arith, length, length-append, take, drop, IsOk}
 use Rattle.std.proofs.lemmas.Bool.{cases_order}
 use Rattle.std.proofs.lemmas.List.{append_assoc, same_from_push, take_at, drop_at}
 use Rattle.adf_tree.specs.Tree.{Tree, room_for}

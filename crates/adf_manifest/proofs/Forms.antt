@@ -12,8 +12,7 @@ use Rattle.adf_tree.specs.Bounds.{AreStamps}
 use Rattle.adf_manifest.specs.Texts.{pairs, unpaired}
 use Rattle.adf_manifest.specs.Lines.{IsLine, IsRun, LineValue, LabelLine, StampsLine, EntryLine, NoteLine, RunLine, DataRun, FillRun, fields_text, fill_line}
 use Rattle.adf_manifest.specs.Lines.{line_text, stamps_line}
-use Rattle.adf_manifest.specs.declared.lines.Sort.{Sort}
-use Rattle.adf_manifest.specs.declared.lines.Sort.TheVariants.{Dir, File}
+use Rattle.adf_manifest.specs.declared.lines.Sort.{Sort, TheVariants.Dir, TheVariants.File}
 use Rattle.adf_manifest.proofs.DigitLaws.{one_pair, one_word, unpaired_pairs, word_lacks}
 use Rattle.adf_manifest.proofs.LineLaws.{fields_parts, fill_parts}
 use Rattle.adf_manifest.proofs.TokenLaws.{colon_lacks, space_lacks, stamp_lacks, stamp_parts, stamps_parts}

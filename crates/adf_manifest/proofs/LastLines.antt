@@ -18,13 +18,11 @@ use Rattle.adf_manifest.specs.Manifest.{Entries, IsPreamble, IsWell, Manifest, p
 use Rattle.adf_manifest.specs.Manifest.{manifest_tree, EndsInFile, IsBare, MayStand}
 use Rattle.adf_manifest.specs.Reader.{bare}
 use Rattle.adf_base.specs.declared.dates.Stamp.{Stamp}
-use Rattle.adf_manifest.specs.declared.lines.Sort.{Sort}
-use Rattle.adf_manifest.specs.declared.lines.Sort.TheVariants.{Dir, File}
+use Rattle.adf_manifest.specs.declared.lines.Sort.{Sort, TheVariants.Dir, TheVariants.File}
 use Rattle.adf_manifest.specs.declared.reader.Preamble.{Preamble}
 use Rattle.adf_manifest.proofs.Forms.{of_three}
-use Rattle.adf_manifest.proofs.Growth.{with_run, with_run_lines, last_lines, new_item, new_lines, noted, noted_lines, room_less, well_before, with_last}
-use Rattle.adf_manifest.proofs.Growth.{with_new}
-use Rattle.adf_manifest.proofs.Growth.{item_with, last_is, last_well}
+use Rattle.adf_manifest.proofs.Growth.{with_run, with_run_lines, last_lines, new_item, new_lines, noted, noted_lines, room_less, well_before}
+use Rattle.adf_manifest.proofs.Growth.{with_last, with_new, item_with, last_is, last_well}
 use Rattle.adf_manifest.proofs.StateLaws.{bare_lines, bare_well}
 use Rattle.adf_tree.proofs.Lists.{last_off}
 

@@ -17,14 +17,12 @@ use Rattle.adf_manifest.specs.Items.{IsItem, Item, body_of_sort, bytes_of_runs, 
 use Rattle.adf_manifest.specs.Manifest.{Entries, IsPreamble, IsWell, Manifest, MayStand, preamble_lines, preamble_tree, items_of, manifest_lines}
 use Rattle.adf_manifest.specs.Manifest.{manifest_tree, ExplainsKind, lines, most_bytes}
 use Rattle.adf_manifest.specs.Reader.{GoesOn, IsLastEntry, IsReading, Stops, StopsIn, bare, ExplainsLines}
-use Rattle.adf_manifest.specs.declared.lines.Sort.{Sort}
-use Rattle.adf_manifest.specs.declared.lines.Sort.TheVariants.{File}
+use Rattle.adf_manifest.specs.declared.lines.Sort.{Sort, TheVariants.File}
 use Rattle.adf_manifest.specs.declared.reader.Preamble.{Preamble}
 use Rattle.adf_manifest.specs.declared.reader.LastEntry.{LastEntry}
 use Rattle.adf_manifest.specs.declared.reader.Reading.{Reading}
 use Rattle.adf_manifest.specs.declared.reader.State.TheVariants as state
-use Rattle.adf_manifest.specs.declared.manifest.ManifestKind.{ManifestKind}
-use Rattle.adf_manifest.specs.declared.manifest.ManifestKind.TheVariants.{BadLine, NoMemory, TooLong}
+use Rattle.adf_manifest.specs.declared.manifest.ManifestKind.{ManifestKind, TheVariants.BadLine, TheVariants.NoMemory, TheVariants.TooLong}
 use Rattle.adf_manifest.proofs.Growth.{with_run, with_run_is, with_run_lines, last_is, last_lines, last_well, new_item, new_lines, new_well, noted, noted_is}
 use Rattle.adf_manifest.proofs.Growth.{noted_lines, room_none, tree_more, tree_none, with_last, with_new}
 use Rattle.std.proofs.lemmas.Grind.{common_steps}

@@ -1,6 +1,5 @@
 -- What is told of a checked volume is told of every tree and layout that fit its image.
-use Rattle.std.specs.Prelude.{◌≡◌, ◌≤◌, ◌<◌, ℕ, Option, Some}
-use Rattle.std.proofs.Common.{◌∙◌, ap, arith}
+use Rattle.std.proofs.Common.{◌≡◌, ◌≤◌, ◌<◌, ℕ, Option, Some, ◌∙◌, ap, arith}
 use Rattle.std.proofs.lemmas.Grind.{common_steps}
 use Rattle.adf_tree.specs.Tree.{Tree}
 use Rattle.adf_blocks.specs.Sizes.{blocks}
@@ -10,8 +9,7 @@ use Rattle.adf_volume.specs.Layout.{Layout, owned}
 use Rattle.adf_volume.specs.Lists.{In}
 use Rattle.adf_volume.proofs.FitWalks.{one_fit}
 use Rattle.adf_check.specs.OwnerClass.{class_of}
-use Rattle.adf_check.specs.declared.owner_class.OwnerClass.{OwnerClass}
-use Rattle.adf_check.specs.declared.owner_class.OwnerClass.TheVariants.{Free, Boot}
+use Rattle.adf_check.specs.declared.owner_class.OwnerClass.{OwnerClass, TheVariants.Free, TheVariants.Boot}
 use Rattle.adf_check.specs.Volumes.{StandsFor, Volume}
 use Rattle.adf_memory.specs.OwnerNumbers.{IsOwnerNumber, class_number}
 

@@ -7,8 +7,7 @@ use Rattle.std.proofs.lemmas.Bool.{cases_lt}
 use Rattle.std.proofs.lemmas.List.{drop-take, take-append-drop, take-append-le}
 use Rattle.std.proofs.lemmas.Option.{slice_get-get_or, slice_get_cases}
 use Rattle.adf_base.specs.Words.{block}
-use Rattle.adf_tree.specs.declared.entry.Body.{Body}
-use Rattle.adf_tree.specs.declared.entry.Body.TheVariants.{Dir, File}
+use Rattle.adf_tree.specs.declared.entry.Body.{Body, TheVariants.Dir, TheVariants.File}
 use Rattle.adf_tree.specs.declared.entry.Entry.{Entry}
 use Rattle.adf_tree.specs.declared.entry.Kind.{Kind}
 use Rattle.adf_tree.specs.Tree.{Tree, entry}

@@ -1,9 +1,7 @@
 -- What a number tells of the fault of a check.
-use Rattle.std.specs.Prelude.{◌≡◌, ◌≢◌, ℕ, List}
-use Rattle.std.proofs.Common.{◌∙◌, ap, sym, subst, inr}
+use Rattle.std.proofs.Common.{◌≡◌, ◌≢◌, ℕ, List, ◌∙◌, ap, sym, subst, inr}
 use Rattle.adf_blocks.specs.Causes.{cause_number}
-use Rattle.adf_blocks.specs.declared.cause.Cause.{Cause}
-use Rattle.adf_blocks.specs.declared.cause.Cause.TheVariants.{NoMemory}
+use Rattle.adf_blocks.specs.declared.cause.Cause.{Cause, TheVariants.NoMemory}
 use Rattle.adf_volume.specs.Walk.{FirstFault}
 use Rattle.adf_memory.specs.Verdicts.{IsFirstCause, IsVerdictNumber, OnFault}
 

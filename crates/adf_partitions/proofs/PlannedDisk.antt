@@ -2,17 +2,14 @@
 -- Letters: `plan` a plan, k the number of partitions before the one in block k + 1, low its lowest cylinder, ps those that are left, `done`
 -- the partitions found before.
 use Rattle.std.proofs.Common.{◌≡◌, ◌≤◌, ◌<◌, ◌+◌, ◌-◌, ◌*◌, ◌∙◌, ℕ, suc, List, [], ◌∷◌, ◌++◌, length, ap, refl, sym, subst, arith, true, false, Bool}
-use Rattle.std.proofs.Common.{None, Ok, Err}
-use Rattle.std.proofs.Common.{append-nil, append_assoc, length-append}
-use Rattle.std.specs.Prelude.{All, IfOk, Result, ◌&&◌, ◌==◌, not, nat_le, nat_lt, replicate}
+use Rattle.std.proofs.Common.{None, Ok, Err, append-nil, append_assoc, length-append, All, IfOk, Result, ◌&&◌, ◌==◌, not, nat_le, nat_lt, replicate}
 use Rattle.std.specs.List.{list_any}
 use Rattle.std.proofs.lemmas.Bool.Decides.{nat_tests}
 use Rattle.std.proofs.lemmas.List.{drop_at, length_push, take_at}
 use Rattle.std.proofs.lemmas.Nat.{mul-le}
 use Rattle.std.proofs.lemmas.Grind.{common_steps}
 use Rattle.adf_base.specs.Words.{block, word}
-use Rattle.adf_partitions.specs.declared.layout.TheConstants.{BLOCK_SECTORS, ENV_BLOCK_WORDS, ENV_LENGTH}
-use Rattle.adf_partitions.specs.declared.layout.TheConstants.{NO_BLOCK}
+use Rattle.adf_partitions.specs.declared.layout.TheConstants.{BLOCK_SECTORS, ENV_BLOCK_WORDS, ENV_LENGTH, NO_BLOCK}
 use Rattle.adf_partitions.specs.declared.partition.Partition.{Partition}
 use Rattle.adf_partitions.specs.declared.place.Place.{Place}
 use Rattle.adf_partitions.specs.declared.place.PlaceFault.{PlaceFault}

@@ -1,7 +1,6 @@
 -- The lines of a plan's text. left is what is left of a text, ps its partitions, e the text behind their lines.
-use Rattle.std.proofs.Common.{◌≡◌, ◌≢◌, ◌<◌, ◌≤◌, ◌+◌, ℕ, true, false, List, [], ◌∷◌, ◌++◌, length, ap, refl, subst, arith}
-use Rattle.std.proofs.Common.{append-nil, append_assoc}
-use Rattle.std.specs.Prelude.{◌==◌, All, OnErr, Result, Ok, Err}
+use Rattle.std.proofs.Common.{◌≡◌, ◌≢◌, ◌<◌, ◌≤◌, ◌+◌, ℕ, true, false, List, [], ◌∷◌, ◌++◌, length, ap, refl, subst, arith, append-nil, append_assoc}
+use Rattle.std.proofs.Common.{◌==◌, All, OnErr, Result, Ok, Err}
 use Rattle.std.proofs.lemmas.Bool.Decides.{nat_tests}
 use Rattle.std.proofs.lemmas.Bool.{and_parts}
 use Rattle.std.proofs.lemmas.Grind.{common_steps}
@@ -45,10 +44,6 @@ line_added text left ps p all is = grind (arith, common_steps, append_assoc)
 pub lines_ended : (text left : List ℕ) (ps : List PartitionPlan) → Continues text ps left → AreLines text ps left
 unfolding AreLines
 lines_ended text left ps all = subst (λ (k : List PartitionPlan). AreLines text k left) (append-nil ps) (all [] left refl)
-
-pub on_err : {T E P : Type 0} (r : Result T E) → P → OnErr r P
-on_err (Ok x) h = tt
-on_err (Err y) h = h
 
 -- where lines of partitions stand, and one more, one stands first
 pub first_of_lines : (text left : List ℕ) (ps : List PartitionPlan) (p : PartitionPlan) → Continues text ps left → IsPartitionLine (first_line left) p

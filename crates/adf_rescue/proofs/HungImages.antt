@@ -1,9 +1,8 @@
 -- Hung images: the directories that are made, the steps, and what stays.
 -- Letters: given the image of a survey, w its walk, fs its findings; b, p blocks; k, n numbers of blocks; v, m, l, t answers of tests.
-use Rattle.std.specs.Prelude.{◌==◌, ◌&&◌, ◌||◌, slice_index_or, codes, decimal}
+use Rattle.std.proofs.Common.{◌==◌, ◌&&◌, ◌||◌, slice_index_or, codes, decimal, ◌≡◌, ◌≤◌, ◌<◌, ℕ, zero, suc, ◌+◌, ◌^◌, Bool, true, false, List, []}
+use Rattle.std.proofs.Common.{◌∷◌, length, add-one, ◌∙◌, ap, arith, inl, inr, refl, subst, sym, length-append}
 use Rattle.std.specs.List.{list_all}
-use Rattle.std.proofs.Common.{◌≡◌, ◌≤◌, ◌<◌, ℕ, zero, suc, ◌+◌, ◌^◌, Bool, true, false, List, [], ◌∷◌, length, add-one}
-use Rattle.std.proofs.Common.{◌∙◌, ap, arith, inl, inr, refl, subst, sym, length-append}
 use Rattle.std.proofs.lemmas.Bool.{and_from, and_left, cases_lt, or_from, or_left, or_right}
 use Rattle.std.proofs.lemmas.Bool.Decides.{nat_tests}
 use Rattle.std.proofs.lemmas.Fmt.{decimal_is_IsNumeral, length-decimal-le}

@@ -1,9 +1,8 @@
 -- What stays in a hung image.
 -- Letters: given the image of a survey, w its walk, fs its findings; b, c, d, p blocks; k a number of blocks; i the number of a word;
 -- x, y, z images.
-use Rattle.std.specs.Prelude.{◌==◌, ◌&&◌, ◌||◌, ◌%◌, None, cond, is_some, replicate, slice_index}
-use Rattle.std.proofs.Common.{◌≡◌, ◌≢◌, ◌≤◌, ◌<◌, ℕ, zero, suc, ◌*◌, ◌+◌, ◌^◌, true, false, List, length}
-use Rattle.std.proofs.Common.{◌∙◌, arith, refl, subst, sym}
+use Rattle.std.proofs.Common.{◌==◌, ◌&&◌, ◌||◌, ◌%◌, None, cond, is_some, replicate, slice_index, ◌≡◌, ◌≢◌, ◌≤◌, ◌<◌, ℕ, zero, suc, ◌*◌, ◌+◌, ◌^◌}
+use Rattle.std.proofs.Common.{true, false, List, length, ◌∙◌, arith, refl, subst, sym}
 use Rattle.std.proofs.lemmas.Bool.{and_from, and_left, and_parts, and_right, cases_Bool, cond-false, cond-true, cond_both, not_from_true, or_left, or_right}
 use Rattle.std.proofs.lemmas.Bool.Decides.{nat_tests}
 use Rattle.std.proofs.lemmas.List.{length-replicate}

@@ -1,10 +1,11 @@
 -- Lost headers: what the bitmap tells of a block, the directories of a survey, and the marks of those that are settled.
 -- Letters: w a walk, fs findings; b, p blocks; n, m nodes; k a number of entries, findings or blocks; i the number of a page; r an answer.
 use Rattle.std.specs.Prelude.{◌==◌, ◌&&◌, ◌||◌, ◌↔◌, not, nat_le, Option, Some, None, IfSome, IsSome, IsTrue, option_and_then, option_map, cond, map, replicate}
-use Rattle.std.specs.List.{range_with_len}
 use Rattle.std.proofs.Common.{◌≡◌, ◌≢◌, ◌≤◌, ◌<◌, ℕ, suc, ◌+◌, ◌-◌, ◌/◌, ◌%◌, Bool, true, false, List, [], ◌∷◌, ◌++◌, length, add-one}
 use Rattle.std.proofs.Common.{◌∙◌, ap, arith, inl, inr, refl, sym}
+use Rattle.std.specs.List.{range_with_len}
 use Rattle.std.proofs.lemmas.Bool.{and_from, and_left, and_parts, cases_Bool, cases_lt, cond-false, cond-true, eq-eqb, eqb-true, false_from_ne_true}
+use Rattle.std.proofs.lemmas.Bool.{ne_eqb}
 use Rattle.std.proofs.lemmas.Bool.Decides.{nat_tests}
 use Rattle.std.proofs.lemmas.List.FromFn.{get_or-map-range_with_len, length-map-range_with_len, map-range_with_len_more}
 use Rattle.std.proofs.Math.Bool.{and-true, or-true}
@@ -24,11 +25,9 @@ use Rattle.adf_findings.specs.Survey.{FindingValue, IsSurvey, IsValidated}
 use Rattle.adf_findings.proofs.BitSteps.{has_page}
 use Rattle.adf_findings.proofs.BitsStated.{one_page}
 use Rattle.adf_findings.proofs.Keys.{lacks_at}
-use Rattle.adf_rescue.specs.Lost.{AreEntered, AreSettled, bit_stated, directory_at, directory_by, has_child, has_finding, is_denied}
-use Rattle.adf_rescue.specs.Lost.{is_inside, is_lost, is_of}
-use Rattle.adf_rescue.specs.Lost.{is_set_in}
+use Rattle.adf_rescue.specs.Lost.{AreEntered, AreSettled, bit_stated, directory_at, directory_by, has_child, has_finding, is_denied, is_inside}
+use Rattle.adf_rescue.specs.Lost.{is_lost, is_of, is_set_in}
 use Rattle.adf_findings.specs.SurveyResult.{IsBitStated}
-use Rattle.std.proofs.lemmas.Bool.{ne_eqb}
 
 -- what the bitmap tells of a block
 

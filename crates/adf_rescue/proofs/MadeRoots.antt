@@ -1,8 +1,7 @@
 -- The root that is made: where it stands in an image, what it says, and what of the image stays.
 -- Letters: b a block or its number; i the number of a page; from, to places of bytes.
-use Rattle.std.proofs.Common.{◌≡◌, ◌<◌, ◌≤◌, ℕ, ◌+◌, ◌*◌, ◌/◌, ◌^◌, true, false, List, [], length, take, drop, get_or, set}
-use Rattle.std.proofs.Common.{◌∙◌, ap, arith, map, refl, subst, sym}
-use Rattle.std.specs.Prelude.{◌==◌, ◌&&◌, slice_range}
+use Rattle.std.proofs.Common.{◌≡◌, ◌<◌, ◌≤◌, ℕ, ◌+◌, ◌*◌, ◌/◌, ◌^◌, true, false, List, [], length, take, drop, get_or, set, ◌∙◌, ap, arith, map, refl}
+use Rattle.std.proofs.Common.{subst, sym, ◌==◌, ◌&&◌, slice_range}
 use Rattle.std.specs.List.{range_with_len}
 use Rattle.std.proofs.lemmas.Bool.{cond-false, cond-true, cond_both}
 use Rattle.std.proofs.lemmas.Bool.Decides.{nat_tests}

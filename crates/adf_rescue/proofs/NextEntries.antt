@@ -6,8 +6,7 @@ use Rattle.std.proofs.lemmas.List.{get_or_append_left, get_or_push, length_push}
 use Rattle.std.proofs.lemmas.Grind.{common_steps}
 use Rattle.adf_tree.specs.declared.entry.Body.TheVariants.{Dir}
 use Rattle.adf_tree.specs.declared.entry.Entry.{Entry}
-use Rattle.adf_tree.specs.Tree.{IsTree, MayAdd, child, directory_from, free_in, is_child, is_dir, is_dir_body}
-use Rattle.adf_tree.specs.Tree.{last_of, new_entry, room_at, room_for}
+use Rattle.adf_tree.specs.Tree.{IsTree, MayAdd, child, directory_from, free_in, is_child, is_dir, is_dir_body, last_of, new_entry, room_at, room_for}
 use Rattle.adf_tree.proofs.AddRoom.{next_dir}
 use Rattle.adf_tree.proofs.ChildLookup.{child_is, child_says, found_is, is_child_from, no_children}
 use Rattle.adf_tree.proofs.DraftLookup.{dir_at, past}

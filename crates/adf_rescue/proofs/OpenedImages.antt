@@ -1,8 +1,7 @@
 -- Images that are opened: their blocks, and what stays of their bytes.
 -- Letters: b the number of a block; r the root's; n, m, k numbers of bytes or blocks; l a list of bytes.
-use Rattle.std.proofs.Common.{◌≡◌, ◌<◌, ◌≤◌, ℕ, zero, suc, ◌+◌, ◌-◌, ◌*◌, ◌/◌, ◌^◌, Bool, true, false, List, [], ◌∷◌, ◌++◌, length, take, drop}
-use Rattle.std.proofs.Common.{◌∙◌, add-one, ap, arith, codes, inl, inr, length-drop, refl, subst, sym}
-use Rattle.std.specs.Prelude.{◌==◌, ◌&&◌, slice_range}
+use Rattle.std.proofs.Common.{◌≡◌, ◌<◌, ◌≤◌, ℕ, zero, suc, ◌+◌, ◌-◌, ◌*◌, ◌/◌, ◌^◌, Bool, true, false, List, [], ◌∷◌, ◌++◌, length, take, drop, ◌∙◌}
+use Rattle.std.proofs.Common.{add-one, ap, arith, codes, inl, inr, length-drop, refl, subst, sym, ◌==◌, ◌&&◌, slice_range}
 use Rattle.std.proofs.lemmas.Bool.{and_from, and_left, and_parts, and_right, cases_Bool, cases_lt, cond-false, cond-true, cond_both}
 use Rattle.std.proofs.lemmas.Bool.{not_from_false, not_from_true, or_from, or_left, or_right}
 use Rattle.std.proofs.lemmas.List.{drop-drop, get_or-take, length-take, take_all}

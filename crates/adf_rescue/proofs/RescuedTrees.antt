@@ -1,12 +1,11 @@
 -- The tree of a rescue is that of its additions.
 -- Letters: b the body of an entry, or why it is left out; o a path, if there is one; x an addition.
-use Rattle.std.proofs.Common.{◌≡◌, ℕ, Bool, true, false, cond, List, [], ◌∷◌, ◌++◌, Option, Some, None, Result, Ok, Err, refl, sym, ◌∙◌, ap, subst, zero, suc}
-use Rattle.std.specs.Prelude.{IsOk}
+use Rattle.std.proofs.Common.{◌≡◌, ℕ, Bool, true, false, cond, List, [], ◌∷◌, ◌++◌, Option, Some, None, Result, Ok, Err, refl, sym, ◌∙◌, ap, subst}
+use Rattle.std.proofs.Common.{zero, suc, IsOk, arith}
 use Rattle.std.proofs.lemmas.Bool.{and_parts}
 use Rattle.std.proofs.lemmas.List.{append-nil, append_assoc}
 use Rattle.std.proofs.lemmas.Option.{cond_some}
 use Rattle.std.proofs.lemmas.Grind.{common_steps}
-use Rattle.std.proofs.Common.{arith}
 use Rattle.adf_tree.specs.declared.entry.Body.{Body}
 use Rattle.adf_tree.specs.declared.entry.Meta.{Meta}
 use Rattle.adf_tree.specs.Additions.{Addition, IsTreeOf, entries_of_additions}
@@ -15,8 +14,7 @@ use Rattle.adf_tree.proofs.TreeOfAdditions.{grown, nothing_added}
 use Rattle.adf_blocks.specs.Sizes.{blocks}
 use Rattle.adf_volume.specs.Walk.{heads, node_block}
 use Rattle.adf_findings.specs.Found.{owner}
-use Rattle.adf_rescue.specs.declared.left_out.Why.{Why}
-use Rattle.adf_rescue.specs.declared.left_out.Why.TheVariants.{NoRoom}
+use Rattle.adf_rescue.specs.declared.left_out.Why.{Why, TheVariants.NoRoom}
 use Rattle.adf_rescue.specs.Rescue.{Ground, Basis, Verdict, addition_of, additions_of, as_given, at_path, before_first, before_second, by_body, lost_name}
 use Rattle.adf_rescue.specs.Rescue.{path_by, path_in, rescued_additions, rescued_tree, tree_of, unless_known, verdict, verdict_anew, verdicts}
 use Rattle.adf_rescue.specs.Rescue.Verdict.{adds, knows, leaves}

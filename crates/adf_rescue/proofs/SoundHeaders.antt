@@ -1,14 +1,12 @@
 -- The entries of a survey without findings: what their headers tell is what the tree of the walk has.
 -- Letters: w the walk of the survey, fs its findings; sound the marks; n a node, i its index; b the block of its header; bs a block's bytes.
-use Rattle.std.proofs.Common.{◌≡◌, ◌⊎◌, ℕ, suc, List, [], inl, inr, ◌<◌, ◌≤◌, length, take, refl, arith, rules}
-use Rattle.std.proofs.Common.{Bool, true, cond, Result, Ok, Err}
-use Rattle.std.specs.Prelude.{nat_le, slice_index}
+use Rattle.std.proofs.Common.{◌≡◌, ◌⊎◌, ℕ, suc, List, [], inl, inr, ◌<◌, ◌≤◌, length, take, refl, arith, rules, Bool, true, cond, Result, Ok, Err}
+use Rattle.std.proofs.Common.{nat_le, slice_index}
 use Rattle.std.proofs.lemmas.Bool.{and_from, and_parts, and_right, eq-eqb, leb-true, ne_eqb}
 use Rattle.std.proofs.lemmas.List.{length-take, take_all}
 use Rattle.std.proofs.lemmas.Grind.{common_steps}
 use Rattle.adf_base.specs.Words.{block, word}
-use Rattle.adf_tree.specs.declared.entry.Body.{Body}
-use Rattle.adf_tree.specs.declared.entry.Body.TheVariants.{Dir}
+use Rattle.adf_tree.specs.declared.entry.Body.{Body, TheVariants.Dir}
 use Rattle.adf_tree.specs.declared.entry.Entry.{Entry}
 use Rattle.adf_tree.specs.declared.entry.Kind.{Kind}
 use Rattle.adf_tree.specs.Texts.{is_name}
@@ -32,8 +30,7 @@ use Rattle.adf_findings.specs.Survey.{FindingValue, IsSurvey}
 use Rattle.adf_findings.proofs.AllSound.{all_sound}
 use Rattle.adf_findings.proofs.Keeping.{parent_is}
 use Rattle.adf_findings.proofs.Lookups.{header_at}
-use Rattle.adf_rescue.specs.declared.left_out.Why.{Why}
-use Rattle.adf_rescue.specs.declared.left_out.Why.TheVariants.{Damaged, Link}
+use Rattle.adf_rescue.specs.declared.left_out.Why.{Why, TheVariants.Damaged, TheVariants.Link}
 use Rattle.adf_rescue.specs.Rescue.{Basis, body_of, body_of_type}
 
 -- texts within their fields are told whole

@@ -1,7 +1,6 @@
 -- The state of a rescue after one more verdict.
-use Rattle.std.proofs.Common.{add-one, ◌≢◌, ◌==◌, map, ◌≡◌, ℕ, ◌+◌, ◌-◌, ◌<◌, ◌≤◌, inl, inr, List, [], ◌∷◌, ◌++◌}
-use Rattle.std.proofs.Common.{Option, Some, None, Result, Ok, Err, length, get_or, arith, refl, sym, ◌∙◌, ap, subst, zero, suc, length-append}
-use Rattle.std.specs.Prelude.{IfOk, OnErr, cond, true, false, min, ◌^◌}
+use Rattle.std.proofs.Common.{add-one, ◌≢◌, ◌==◌, map, ◌≡◌, ℕ, ◌+◌, ◌-◌, ◌<◌, ◌≤◌, inl, inr, List, [], ◌∷◌, ◌++◌, Option, Some, None, Result, Ok, Err}
+use Rattle.std.proofs.Common.{length, get_or, arith, refl, sym, ◌∙◌, ap, subst, zero, suc, length-append, IfOk, OnErr, cond, true, false, min, ◌^◌}
 use Rattle.std.proofs.lemmas.Bool.{cases_lt, eqb-true, le-leb, lt-leb}
 use Rattle.std.proofs.lemmas.List.Sums.{fold_push}
 use Rattle.std.proofs.lemmas.Grind.{flat_map-append, common_steps}
@@ -10,9 +9,8 @@ use Rattle.std.proofs.lemmas.Option.{slice_get_past}
 use Rattle.adf_tree.specs.Additions.{Addition, with_addition}
 use Rattle.adf_tree.specs.declared.draft.Room.{Room}
 use Rattle.adf_tree.specs.Draft.{DraftValue, IsDirectoryOf, IsRoomFor}
-use Rattle.adf_tree.specs.declared.entry.Body.TheVariants.{Dir, File}
+use Rattle.adf_tree.specs.declared.entry.Body.{TheVariants.Dir, TheVariants.File, Body}
 use Rattle.adf_tree.specs.Tree.{Tree, is_dir_body, new_entry, with_entry}
-use Rattle.adf_tree.specs.declared.entry.Body.{Body}
 use Rattle.adf_tree.specs.declared.entry.Meta.{Meta}
 use Rattle.adf_base.specs.Words.{block}
 use Rattle.adf_blocks.specs.HeadBlock.{meta_stated}
@@ -30,13 +28,12 @@ use Rattle.adf_findings.specs.Found.{owner, parent_node}
 use Rattle.adf_findings.proofs.OneSurvey.{gathered}
 use Rattle.adf_findings.proofs.Openings.{some_part}
 use Rattle.adf_build.specs.Plan.{blocks_needed, entries_blocks, reserved}
-use Rattle.adf_rescue.specs.declared.left_out.Why.{Why}
+use Rattle.adf_rescue.specs.declared.left_out.Why.{Why, TheVariants.NoRoom}
 use Rattle.adf_rescue.specs.declared.salvage.Salvage.{Salvage}
 use Rattle.adf_rescue.specs.Rescue.{Ground, IsSecond, Basis, OnBasis, Verdict, addition_of, additions_of, at_path, body_of, by_body, directory_in, fitting}
 use Rattle.adf_rescue.specs.Rescue.{left_out_by, left_out_from, path_by, path_for, place_of, tree_of, unless_known, verdict, verdict_anew, verdicts}
 use Rattle.adf_rescue.specs.Rescue.Verdict.{adds, leaves}
 use Rattle.adf_rescue.specs.Salvage.{IsNext, IsPlace, IsRoomOf, IsSalvage, entry_cost, free_blocks}
-use Rattle.adf_rescue.specs.declared.left_out.Why.TheVariants.{NoRoom}
 use Rattle.adf_rescue.proofs.TreeBlocks.{added_blocks}
 use Rattle.adf_tree.proofs.Lists.{get_last}
 
@@ -237,10 +234,6 @@ no_finding fs (x ∷ xs) m none = absurd (omega (arith, eqb-true (length (x ∷ 
 told_unread : (image : List ℕ) (fs : List FindingValue) → UnreadTells image fs → fs ≢ []
 told_unread image fs (bad_boot fails other) e = cc
 told_unread image fs (bad_root {boot = boot} {at = at} {c = c} tells judged) e = grind (arith, common_steps, length_push)
-
-pub on_err : {T E P : Type 0} (r : Result T E) → P → OnErr r P
-on_err (Ok x) h = tt
-on_err (Err y) h = h
 
 -- of an image of which nothing is surveyed there is a finding
 pub unread_fault : (image : List ℕ) (w : List (Role × ℕ)) (fs : List FindingValue) → IsSurvey image w fs → w ≡ [] → fs ≢ []

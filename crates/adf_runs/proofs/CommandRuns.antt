@@ -3,8 +3,7 @@ use Rattle.std.proofs.Common.{◌≡◌, rules, inl, ℕ, Bool, false, List, Opt
 use Rattle.adf_runs.specs.Commands.{Command, GetsAnswer, GetsFront, IsConsistent, RunEnds, bad_path}
 use Rattle.adf_runs.specs.Streams.{Says}
 use Rattle.adf_runs.specs.WorkFaults.{IsNoWork, refusal_line, refusal_status}
-use Rattle.adf_runs.specs.declared.work_fault.WorkFault.{WorkFault}
-use Rattle.adf_runs.specs.declared.work_fault.WorkFault.TheVariants.{BadPath, NoMemory, Usage}
+use Rattle.adf_runs.specs.declared.work_fault.WorkFault.{WorkFault, TheVariants.BadPath, TheVariants.NoMemory, TheVariants.Usage}
 use Rattle.adf_runs.proofs.PendingText.{appends_nil}
 
 -- what holds of every input holds of a known one

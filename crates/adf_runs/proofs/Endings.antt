@@ -1,15 +1,12 @@
 -- How a work ends, and by which answers.
-use Rattle.std.proofs.Common.{◌≡◌, ◌<◌, ◌+◌, ◌∙◌, inl, inr, ℕ, Bool, List, Option, Some, None, IfSome, Err, subst, arith}
-use Rattle.std.proofs.Common.{length, take, length-take}
+use Rattle.std.proofs.Common.{◌≡◌, ◌<◌, ◌+◌, ◌∙◌, inl, inr, ℕ, Bool, List, Option, Some, None, IfSome, Err, subst, arith, length, take, length-take}
 use Rattle.std.proofs.lemmas.Bool.{cases_lt}
 use Rattle.std.proofs.lemmas.List.{take_all}
 use Rattle.adf_runs.specs.Commands.{Reply, WritesFront}
 use Rattle.adf_runs.specs.Outcomes.{EndsBy, after_writing, outcome_text, status_of}
 use Rattle.adf_runs.specs.Streams.{is_device}
-use Rattle.adf_runs.specs.declared.outcome.Outcome.{Outcome}
-use Rattle.adf_runs.specs.declared.outcome.Outcome.TheVariants.{ReadFault, WriteFault, NoMemory}
-use Rattle.adf_runs.specs.declared.streams.StreamFault.{StreamFault}
-use Rattle.adf_runs.specs.declared.streams.StreamFault.TheVariants.{Device, NoMemory as StreamNoMemory}
+use Rattle.adf_runs.specs.declared.outcome.Outcome.{Outcome, TheVariants.ReadFault, TheVariants.WriteFault, TheVariants.NoMemory}
+use Rattle.adf_runs.specs.declared.streams.StreamFault.{StreamFault, TheVariants.Device, TheVariants.NoMemory as StreamNoMemory}
 
 -- what ends by some answers ends by others that they are
 pub ends_weaker : (few more : Reply → Type 0) (w : Outcome) (o o' : Option (List ℕ)) → ((reply : Reply) → few reply → more reply)

@@ -49,8 +49,3 @@ part_of_more b c text more q = pending_fails b b c text text more (text ++ more)
 pub part_behind : {failed : Bool} (b c d : Option (List ℕ)) (text more : List ℕ) → Appends b c text → AppendsPart failed c d more
     → AppendsPart failed b d (text ++ more)
 part_behind b c d text more p q = pending_fails b c d more (text ++ more) [] (text ++ more) (sym (append-nil (text ++ more))) (text, p, refl) q
-
--- what holds whatever a result is holds where it is an error
-pub on_err : {T E P : Type 0} (r : Result T E) → P → OnErr r P
-on_err (Ok x) p = tt
-on_err (Err e) p = p

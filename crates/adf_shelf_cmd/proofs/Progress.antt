@@ -67,11 +67,6 @@ given_more (Some x) None c xs ys p q = absurd p
 given_more (Some x) (Some y) None xs ys p q = absurd q
 given_more (Some x) (Some y) (Some z) xs ys p q = p ∙ ap (λ l. xs ++ l) q ∙ sym (append_assoc xs ys z)
 
-given_all : (a b : Option (List (List ℕ))) (xs : List (List ℕ)) → AreGiven a b xs → IfSome b (λ names. names ≡ []) → IfSome a (λ all. all ≡ xs)
-given_all None b xs p q = tt
-given_all (Some x) None xs p q = absurd p
-given_all (Some x) (Some y) xs p q = p ∙ ap (λ l. xs ++ l) q ∙ append-nil xs
-
 pub started : (may : Reports) (a : Option (List (List ℕ))) (o : Option (List ℕ)) (failed : Bool) (e : Option (List ℕ)) → failed ≡ false
     → Progress may a a 0 o o failed e e
 unfolding AreBatchLines

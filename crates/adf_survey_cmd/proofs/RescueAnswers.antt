@@ -25,8 +25,7 @@ use Rattle.adf_build.specs.Building.{IsBuildable}
 use Rattle.adf_build.specs.Laid.{IsLaid}
 use Rattle.adf_rescue.proofs.OpenedImages.{opened_kept, volumes_are_kept}
 use Rattle.adf_runs.specs.Commands.{Reply}
-use Rattle.adf_runs.specs.declared.outcome.Outcome.{Outcome}
-use Rattle.adf_runs.specs.declared.outcome.Outcome.TheVariants.{NoMemory, Refused}
+use Rattle.adf_runs.specs.declared.outcome.Outcome.{Outcome, TheVariants.NoMemory, TheVariants.Refused}
 use Rattle.adf_cmd.specs.Answers.{RefusesImage}
 use Rattle.adf_cmd.specs.Refusals.{IsRefusedImage}
 use Rattle.adf_cmd.proofs.AnswerLaws.{refused_image_ends}

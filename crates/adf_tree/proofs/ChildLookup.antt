@@ -1,7 +1,6 @@
 -- Look-up by parent and name, and how an addition changes it.
-use Rattle.std.proofs.Common.{◌≡◌, ◌≢◌, ℕ, ◌+◌, ◌*◌, ◌%◌, ◌<◌, ◌≤◌, List, [], ◌∷◌, length, get_or, true, false, Bool, Some, None, arith}
-use Rattle.std.proofs.Common.{nat_lt, sym, refl, ◌∙◌, ap, ◌-◌, Option, ◌&&◌}
-use Rattle.std.specs.Prelude.{fold, option_map, position}
+use Rattle.std.proofs.Common.{◌≡◌, ◌≢◌, ℕ, ◌+◌, ◌*◌, ◌%◌, ◌<◌, ◌≤◌, List, [], ◌∷◌, length, get_or, true, false, Bool, Some, None, arith, nat_lt, sym}
+use Rattle.std.proofs.Common.{refl, ◌∙◌, ap, ◌-◌, Option, ◌&&◌, fold, option_map, position}
 use Rattle.std.specs.List.{All}
 use Rattle.std.specs.List.Sorted.{IsNonDecreasingBy, IsPartitionPoint}
 use Rattle.std.specs.Str.{bytes_eq}

@@ -1,25 +1,21 @@
 -- The directories of a draft: what has room in them, and how they stay when an entry is put in the draft.
-use Rattle.std.proofs.Common.{◌≡◌, ◌≢◌, ℕ, ◌+◌, ◌-◌, ◌<◌, ◌≤◌, List, [], ◌∷◌, ◌++◌, length, get_or, true, Option, Some, None, Result, Ok, Err}
-use Rattle.std.proofs.Common.{arith, sym, refl, ◌∙◌, ap, if◌then◌else◌}
-use Rattle.std.specs.Prelude.{is_ok, option_map, OnOk}
+use Rattle.std.proofs.Common.{◌≡◌, ◌≢◌, ℕ, ◌+◌, ◌-◌, ◌<◌, ◌≤◌, List, [], ◌∷◌, ◌++◌, length, get_or, true, Option, Some, None, Result, Ok, Err, arith}
+use Rattle.std.proofs.Common.{sym, refl, ◌∙◌, ap, if◌then◌else◌, is_ok, option_map, OnOk}
 use Rattle.std.proofs.lemmas.Bool.{ne_eqb}
 use Rattle.std.proofs.lemmas.List.{get_or_push, length_push, length-map}
 use Rattle.std.proofs.Math.Seq.{take-append_seam}
 use Rattle.std.proofs.lemmas.Grind.{common_steps}
 use Rattle.adf_tree.specs.declared.draft.Room.{Room}
-use Rattle.adf_tree.specs.declared.entry.Body.{Body}
-use Rattle.adf_tree.specs.declared.entry.Body.TheVariants.{Dir}
+use Rattle.adf_tree.specs.declared.entry.Body.{Body, TheVariants.Dir}
 use Rattle.adf_tree.specs.declared.entry.Entry.{Entry}
 use Rattle.adf_tree.specs.declared.entry.Kind.{Kind}
 use Rattle.adf_tree.specs.declared.entry.Meta.{Meta}
 use Rattle.adf_tree.specs.declared.entry.Stamps.{Stamps}
-use Rattle.adf_tree.specs.declared.tree.RoomFault.{RoomFault}
-use Rattle.adf_tree.specs.declared.tree.RoomFault.TheVariants.{Exists}
+use Rattle.adf_tree.specs.declared.tree.RoomFault.{RoomFault, TheVariants.Exists}
 use Rattle.adf_tree.specs.Texts.{uppers}
 use Rattle.adf_tree.specs.ChildMap.{number_in, Numbers}
 use Rattle.adf_tree.specs.Draft.{draft_value, in_tree, new_number, node_of, walk, walk_more, IsDirectoryOf, IsDraft, IsRoomFor}
-use Rattle.adf_tree.specs.Tree.{added, child, directory_from, free_in, is_dir, moved, parents_of, place, rank, room_at, room_for}
-use Rattle.adf_tree.specs.Tree.{IsTree, MayAdd}
+use Rattle.adf_tree.specs.Tree.{added, child, directory_from, free_in, is_dir, moved, parents_of, place, rank, room_at, room_for, IsTree, MayAdd}
 use Rattle.adf_tree.proofs.AddRoom.{next_dir, room_may_add, room_says, IsNew}
 use Rattle.adf_tree.proofs.ChildLookup.{child_new, child_other, child_says, found_is, parent_stays}
 use Rattle.adf_tree.proofs.DraftInvariant.{node_new, node_old, walked_more}

@@ -1,12 +1,10 @@
 -- Where paths lead in a draft.
-use Rattle.std.proofs.Common.{◌≡◌, ℕ, ◌+◌, ◌-◌, ◌<◌, ◌≤◌, inl, inr, List, length, get_or, drop, Bool, Option, Some, None, Result, Err}
-use Rattle.std.proofs.Common.{arith, ap, if◌then◌else◌}
-use Rattle.std.specs.Prelude.{option_map}
+use Rattle.std.proofs.Common.{◌≡◌, ℕ, ◌+◌, ◌-◌, ◌<◌, ◌≤◌, inl, inr, List, length, get_or, drop, Bool, Option, Some, None, Result, Err, arith, ap}
+use Rattle.std.proofs.Common.{if◌then◌else◌, option_map}
 use Rattle.std.proofs.lemmas.Bool.{cases_eq, ne_eqb}
 use Rattle.std.proofs.lemmas.List.{drop_more}
 use Rattle.adf_tree.specs.declared.entry.Entry.{Entry}
-use Rattle.adf_tree.specs.declared.tree.RoomFault.{RoomFault}
-use Rattle.adf_tree.specs.declared.tree.RoomFault.TheVariants.{NoParent, ParentIsFile}
+use Rattle.adf_tree.specs.declared.tree.RoomFault.{RoomFault, TheVariants.NoParent, TheVariants.ParentIsFile}
 use Rattle.adf_tree.specs.Texts.{uppers}
 use Rattle.adf_tree.specs.Tree.{directory_from, is_dir, is_dir_body}
 use Rattle.adf_tree.specs.ChildMap.{number_in, Numbers}

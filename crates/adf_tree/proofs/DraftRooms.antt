@@ -1,6 +1,5 @@
 -- The value of a draft after an entry is put in one of its rooms.
-use Rattle.std.proofs.Common.{◌≡◌, ℕ, ◌≤◌, ◌++◌, List, [], ◌∷◌, length, arith, if◌then◌else◌, Result}
-use Rattle.std.specs.Prelude.{is_ok, OnOk}
+use Rattle.std.proofs.Common.{◌≡◌, ℕ, ◌≤◌, ◌++◌, List, [], ◌∷◌, length, arith, if◌then◌else◌, Result, is_ok, OnOk}
 use Rattle.std.proofs.lemmas.Grind.{common_steps}
 use Rattle.adf_tree.specs.declared.draft.Room.{Room}
 use Rattle.adf_tree.specs.declared.entry.Body.{Body}

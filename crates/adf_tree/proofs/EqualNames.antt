@@ -5,8 +5,7 @@ use Rattle.std.proofs.lemmas.List.{same_lists, get_or-map, length-map}
 use Rattle.std.proofs.lemmas.Slice.Eq.{bytes_eq-Decides}
 use Rattle.std.specs.Str.{bytes_eq}
 use Rattle.adf_base.specs.Hash.{upper_by, upper_of}
-use Rattle.adf_base.specs.declared.hash.Letters.{Letters}
-use Rattle.adf_base.specs.declared.hash.Letters.TheVariants.{Ascii}
+use Rattle.adf_base.specs.declared.hash.Letters.{Letters, TheVariants.Ascii}
 use Rattle.adf_tree.specs.Texts.{uppers, uppers_by}
 use Rattle.std.proofs.lemmas.Bool.{false_from_ne_true}
 use Rattle.std.proofs.lemmas.Grind.{common_steps}

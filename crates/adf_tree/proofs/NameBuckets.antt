@@ -1,8 +1,6 @@
 -- The buckets of names.
-use Rattle.std.proofs.Common.{◌≡◌, ◌==◌, ◌&&◌, ◌||◌, ◌⊎◌, inl, inr, ℕ, ◌+◌, ◌-◌, ◌<◌, ◌≤◌, List, [], ◌∷◌, ◌++◌, length}
-use Rattle.std.proofs.Common.{get_or, set, take, Bool, true, false, Option, Some, None, arith, sym, refl, zero, suc, ◌∙◌, ap, get_or-set_same}
-use Rattle.std.proofs.Common.{get_or-set_other}
-use Rattle.std.specs.Prelude.{◌^◌}
+use Rattle.std.proofs.Common.{◌≡◌, ◌==◌, ◌&&◌, ◌||◌, ◌⊎◌, inl, inr, ℕ, ◌+◌, ◌-◌, ◌<◌, ◌≤◌, List, [], ◌∷◌, ◌++◌, length, get_or, set, take, Bool, true}
+use Rattle.std.proofs.Common.{false, Option, Some, None, arith, sym, refl, zero, suc, ◌∙◌, ap, get_or-set_same, get_or-set_other, ◌^◌}
 use Rattle.std.specs.Ordering.{is_eq}
 use Rattle.std.specs.List.{slice_get}
 use Rattle.std.proofs.Math.Seq.{take-suc}
@@ -12,8 +10,7 @@ use Rattle.std.proofs.lemmas.Option.{get_or_from_slice_get, slice_get_within}
 use Rattle.std.proofs.lemmas.List.Folds.{list_any-append, list_any_at}
 use Rattle.std.proofs.lemmas.Grind.{common_steps}
 use Rattle.adf_tree.specs.declared.name_key.NameKey.{NameKey}
-use Rattle.adf_tree.specs.declared.name_set.Probe.{Probe}
-use Rattle.adf_tree.specs.declared.name_set.Probe.TheVariants.{Stored, Vacant, Full}
+use Rattle.adf_tree.specs.declared.name_set.Probe.{Probe, TheVariants.Stored, TheVariants.Vacant, TheVariants.Full}
 use Rattle.adf_tree.specs.NameKeys.{by_words}
 use Rattle.adf_tree.specs.NameSet.{is_among, IsUnion, IsWith, Names}
 use Rattle.adf_tree.specs.NameBuckets.{holder_of, first_bucket_in, probe_at, probe_from, probe_of, probe_buckets, while_few, AreStored}

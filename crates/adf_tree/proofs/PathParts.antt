@@ -1,7 +1,6 @@
 -- The parts of a path's text between `/`.
-use Rattle.std.proofs.Common.{◌≡◌, ◌≢◌, ◌↔◌, Bor, Option, Some, None, ℕ, ◌+◌, ◌<◌, List, [], ◌∷◌, ◌++◌, length, get_or, take}
-use Rattle.std.proofs.Common.{map, Bool, true, false, arith, sym, refl, ◌∙◌, ap, ◌==◌, ◌&&◌, nat_le}
-use Rattle.std.specs.Prelude.{IsSome, IfNone, IfSome, is_some}
+use Rattle.std.proofs.Common.{◌≡◌, ◌≢◌, ◌↔◌, Bor, Option, Some, None, ℕ, ◌+◌, ◌<◌, List, [], ◌∷◌, ◌++◌, length, get_or, take, map, Bool, true, false}
+use Rattle.std.proofs.Common.{arith, sym, refl, ◌∙◌, ap, ◌==◌, ◌&&◌, nat_le, IsSome, IfNone, IfSome, is_some}
 use Rattle.std.proofs.Math.Seq.{get_or-append_seam}
 use Rattle.std.specs.List.{All, join_with_byte, list_all}
 use Rattle.std.proofs.lemmas.Bool.{cases_Bool, and_parts, eqb-true, ne_eqb}

@@ -1,6 +1,5 @@
 -- An addition keeps the invariant of trees: numbers, order, directories and names.
-use Rattle.std.proofs.Common.{◌≡◌, ℕ, ◌+◌, ◌-◌, ◌*◌, ◌<◌, ◌≤◌, inl, inr, List, length, get_or, take, map, arith, nat_lt, sym, ◌∙◌, ap}
-use Rattle.std.proofs.Common.{not}
+use Rattle.std.proofs.Common.{◌≡◌, ℕ, ◌+◌, ◌-◌, ◌*◌, ◌<◌, ◌≤◌, inl, inr, List, length, get_or, take, map, arith, nat_lt, sym, ◌∙◌, ap, not}
 use Rattle.std.specs.List.{AllPairs, insert, drop-map}
 use Rattle.std.specs.List.Sorted.{IsNonDecreasingBy}
 use Rattle.std.proofs.lemmas.Bool.{cases_lt, cases_order, ltb-true, ltb-false}

@@ -1,24 +1,19 @@
 -- Chains of a tree.
-use Rattle.std.proofs.Common.{◌≡◌, ℕ, zero, suc, List, [], ◌∷◌, ◌++◌, ◌⊎◌, inl, inr, ◌+◌, ◌<◌, ◌≤◌, length, refl, sym, ap, subst, ◌∙◌, arith, Bool, true}
-use Rattle.std.proofs.Common.{false, cond, rules}
-use Rattle.std.specs.Prelude.{Some, ◌↔◌}
+use Rattle.std.proofs.Common.{◌≡◌, ℕ, zero, suc, List, [], ◌∷◌, ◌++◌, ◌⊎◌, inl, inr, ◌+◌, ◌<◌, ◌≤◌, length, refl, sym, ap, subst, ◌∙◌, arith, Bool}
+use Rattle.std.proofs.Common.{true, false, cond, rules, Some, ◌↔◌, map, append_assoc, ◌==◌, ◌&&◌}
 use Rattle.std.specs.List.{slice_get}
-use Rattle.std.proofs.Common.{map, append_assoc}
-use Rattle.adf_tree.specs.Tree.{entry}
+use Rattle.adf_tree.specs.Tree.{entry, Tree}
 use Rattle.adf_tree.specs.Chain.{chain, in_chain}
-use Rattle.adf_volume.proofs.Lists.{snoc_length}
-use Rattle.std.specs.Prelude.{◌==◌, ◌&&◌}
+use Rattle.adf_volume.proofs.Lists.{snoc_length, at_fun, at_below, at_some}
 use Rattle.std.proofs.lemmas.Bool.Decides.{nat_tests}
 use Rattle.std.proofs.lemmas.Grind.{common_steps}
 use Rattle.adf_volume.specs.Lists.{At}
 use Rattle.adf_base.specs.Hash.{slot_of}
 use Rattle.adf_tree.specs.declared.entry.Entry.{Entry}
-use Rattle.adf_tree.specs.Tree.{Tree}
 use Rattle.adf_volume.specs.Layout.{EntryAt, nodes_from, chain_nodes}
 use Rattle.adf_volume.proofs.TreeOrder.{Ordered}
 use Rattle.adf_volume.specs.Walk.{Before}
 use Rattle.adf_volume.specs.Walk.Role.{Head}
-use Rattle.adf_volume.proofs.Lists.{at_fun, at_below, at_some}
 use Rattle.adf_volume.proofs.Comparisons.{both_equal, equal_both}
 
 -- a place in a list that begins with k where t holds

@@ -1,6 +1,5 @@
 -- A look-up in a chain finds the entry of the tree.
-use Rattle.std.proofs.Common.{◌≡◌, ◌≢◌, false, ℕ, zero, suc, List, sym, subst, arith, get_or}
-use Rattle.std.specs.Prelude.{Some, None}
+use Rattle.std.proofs.Common.{◌≡◌, ◌≢◌, false, ℕ, zero, suc, List, sym, subst, arith, get_or, Some, None}
 use Rattle.std.proofs.lemmas.Bool.{false_from_ne_true}
 use Rattle.adf_base.specs.Hash.{slot_of}
 use Rattle.adf_tree.specs.Texts.{uppers}
@@ -11,7 +10,6 @@ use Rattle.adf_volume.specs.Lists.{At}
 use Rattle.adf_volume.specs.Layout.{EntryAt, chain_nodes}
 use Rattle.adf_volume.proofs.Lists.{at_below, at_some, at_index_or}
 use Rattle.adf_volume.proofs.Chains.{entry_at, entry_fun, place_at}
-use Rattle.std.proofs.lemmas.Bool.{false_from_ne_true}
 use Rattle.std.proofs.lemmas.Grind.{common_steps}
 
 -- an entry of the directory with this name is the child

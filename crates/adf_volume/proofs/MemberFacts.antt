@@ -1,6 +1,6 @@
 -- The facts of each member of a walk when it was added, stated of the walk as it is now.
 use Rattle.std.proofs.Common.{◌≡◌, ℕ, zero, suc, List, [], ◌∷◌, inl, inr, ◌+◌, ◌*◌, ◌/◌, ◌<◌, ◌≤◌, ◌≢◌, refl, sym, ap, subst, ◌∙◌, arith, true}
-use Rattle.std.specs.Prelude.{nat_lt}
+use Rattle.std.proofs.Common.{nat_lt, rules}
 use native.Mathlib.Decide.{dec_le}
 use Rattle.adf_blocks.specs.declared.layout.TheConstants.{EXTENSION, FIRST_MAP_EXT, FIRST_POINTER, FIRST_SLOT, MAP_EXT_NEXT, MAP_EXT_PAGES, NEXT_IN_CHAIN}
 use Rattle.adf_blocks.specs.declared.layout.TheConstants.{POINTERS, ROOT_PAGES, SIZE, SLOTS}
@@ -18,7 +18,6 @@ use Rattle.adf_volume.proofs.Roles.{count_up, dir_is_node, dir_up, member_up, ty
 use Rattle.adf_volume.proofs.Walks.{file_is, is_there, of_walk}
 use Rattle.std.proofs.lemmas.Bool.{cond-true, cond-false, le-ltb, lt-ltb}
 use Rattle.std.proofs.lemmas.Grind.{common_steps}
-use Rattle.std.proofs.Common.{rules}
 
 -- the word that names a header
 abbrev pub HeadNamed : List ℕ → List (Role × ℕ) → ℕ → ℕ → ℕ → ℕ → Type 0

@@ -6,8 +6,7 @@ use Rattle.adf_blocks.specs.declared.cause.Cause.{Cause}
 use Rattle.adf_volume.specs.Image.{word_in, root_of}
 use Rattle.adf_blocks.specs.Sizes.{blocks}
 use Rattle.adf_volume.specs.Demands.{Demand, FirstFails, boot_demands, root_demands}
-use Rattle.adf_volume.specs.Walk.{Role, Before, Same, heads, Asks, IsDue, NoCause, demands, bitmap_demands, IsWalk}
-use Rattle.adf_volume.specs.Walk.{IsWhole, FirstFault}
+use Rattle.adf_volume.specs.Walk.{Role, Before, Same, heads, Asks, IsDue, NoCause, demands, bitmap_demands, IsWalk, IsWhole, FirstFault}
 use Rattle.adf_volume.specs.Walk.Role.{Head}
 use Rattle.adf_volume.specs.Walk.IsWalk.{start, step}
 use Rattle.adf_volume.specs.Walk.FirstFault.{at_boot, at_due, at_bitmap}

@@ -1,6 +1,6 @@
 -- Agreement: if a tree and a layout fit, each walk follows them.
 use Rattle.std.proofs.Common.{◌≡◌, ℕ, zero, suc, List, inl, inr, ◌+◌, ◌/◌, ◌<◌, ◌≤◌, ◌≢◌, length, refl, sym, ap, subst, ◌∙◌, arith, map, Bool, true}
-use Rattle.std.proofs.Common.{false, cond}
+use Rattle.std.proofs.Common.{false, cond, slice_index, nat_lt}
 use Rattle.adf_blocks.specs.declared.layout.TheConstants.{EXTENSION, FIRST_SLOT, NEXT_IN_CHAIN, POINTERS, SECONDARY_TYPE, SIZE, SLOTS, ST_DIR, ST_FILE}
 use Rattle.adf_volume.specs.Lists.{At}
 use Rattle.adf_blocks.specs.Sizes.{blocks, count, pages_needed}
@@ -8,14 +8,12 @@ use Rattle.adf_volume.specs.Image.{root_of, name_of, word_in, kind_of, table_wor
 use Rattle.adf_base.specs.Hash.{slot_of}
 use Rattle.adf_tree.specs.Texts.{uppers}
 use Rattle.adf_volume.specs.Demands.{AllHold, ext_demands}
-use Rattle.std.specs.Prelude.{slice_index, nat_lt}
-use Rattle.adf_tree.specs.declared.entry.Body.{Body}
+use Rattle.adf_tree.specs.declared.entry.Body.{Body, TheVariants.Dir, TheVariants.File}
 use Rattle.adf_tree.specs.declared.entry.Entry.{Entry}
 use Rattle.adf_tree.specs.Tree.{Tree}
 use Rattle.adf_volume.specs.Layout.{EntryAt, IsFile, chain_nodes, Layout, at_node, exts_of, datas_of}
 use Rattle.adf_volume.proofs.Gathered.{asked_file, ext_below, member_is, node_is, root_in, root_is}
 use Rattle.adf_volume.proofs.TreeOrder.{DirNode, ordered, is_dir}
-use Rattle.adf_tree.specs.declared.entry.Body.TheVariants.{Dir, File}
 use Rattle.adf_volume.specs.Fits.{Fits, FileFits, BodyFits, TableAt}
 use Rattle.adf_volume.specs.Walk.{Role, Before, Has, heads, HeadAt, DirAt, FileAt, MemberAt, NamesPage, data_count, Asks, Lacks, IsDue, ext_count, Enough}
 use Rattle.adf_volume.specs.Walk.{NewName, form_demands, node_block, member_block, next_data, NoCause, IsWalk}

@@ -7,11 +7,10 @@ use Rattle.adf_volume.specs.Lists.{At}
 use Rattle.adf_blocks.specs.Sizes.{blocks, pages_needed}
 use Rattle.adf_volume.specs.Image.{root_of, word_in, table_word}
 use Rattle.adf_base.specs.Hash.{slot_of}
-use Rattle.adf_tree.specs.declared.entry.Body.{Body}
+use Rattle.adf_tree.specs.declared.entry.Body.{Body, TheVariants.Dir, TheVariants.File}
 use Rattle.adf_tree.specs.declared.entry.Entry.{Entry}
 use Rattle.adf_tree.specs.Tree.{Tree}
 use Rattle.adf_volume.specs.Layout.{EntryAt, Layout, at_node, exts_of, datas_of}
-use Rattle.adf_tree.specs.declared.entry.Body.TheVariants.{Dir, File}
 use Rattle.adf_volume.specs.Fits.{Fits, BodyFits}
 use Rattle.adf_volume.specs.Walk.{Role, Has, heads, FileAt, MemberAt, data_count, IsWalk, IsWhole}
 use Rattle.adf_volume.specs.Walk.Role.{Root, Page, MapExt, Head, Ext, Data}

@@ -2,8 +2,7 @@
 use Rattle.std.proofs.Common.{◌≡◌, ℕ, suc, List, [], ◌∷◌, inl, inr, ◌<◌, refl, ap, subst, arith}
 use Rattle.std.proofs.lemmas.Grind.{common_steps}
 use Rattle.adf_volume.specs.Image.{root_of}
-use Rattle.adf_volume.specs.Walk.{Role, Before, Same, Has, head_count, heads, HeadAt, Asks, Lacks, IsDue}
-use Rattle.adf_volume.specs.Walk.{IsWalk}
+use Rattle.adf_volume.specs.Walk.{Role, Before, Same, Has, head_count, heads, HeadAt, Asks, Lacks, IsDue, IsWalk}
 use Rattle.adf_volume.specs.Walk.Role.{Root, Page, MapExt}
 use Rattle.adf_volume.specs.Walk.IsWalk.{start, step}
 use Rattle.adf_volume.proofs.AsksSplit.{gathered_split}

@@ -5,8 +5,7 @@ use native.Mathlib.Decide.{dec_lt}
 use Rattle.adf_blocks.specs.declared.layout.TheConstants.{FIRST_PAGE, MAP_EXT_PAGES, ROOT_PAGES}
 use Rattle.adf_blocks.specs.Sizes.{blocks, pages_needed}
 use Rattle.adf_volume.specs.Image.{root_of}
-use Rattle.adf_volume.specs.Walk.{Role, second, Has, heads, HeadAt, FileAt, Asks, IsDue, IsWalk, IsWhole, Before}
-use Rattle.adf_volume.specs.Walk.{node_block}
+use Rattle.adf_volume.specs.Walk.{Role, second, Has, heads, HeadAt, FileAt, Asks, IsDue, IsWalk, IsWhole, Before, node_block}
 use Rattle.adf_volume.specs.Walk.Role.{Page, MapExt, Head, Ext}
 use Rattle.adf_volume.specs.Walk.IsWalk.{start, step}
 use Rattle.adf_volume.proofs.Roles.{dec_has, has_low, head_key}

@@ -1,5 +1,4 @@
-use Rattle.std.proofs.Common.{◌≡◌, ◌<◌, length, take}
-use Rattle.std.specs.Prelude.{fold}
+use Rattle.std.proofs.Common.{◌≡◌, ◌<◌, length, take, fold}
 use Rattle.adf_base.specs.Hash.{hash_international}
 use Rattle.adf_base.proofs.hash.slot_international.Given as goal
 

@@ -1,5 +1,4 @@
-use Rattle.std.specs.Prelude.{slice_index}
-use Rattle.std.proofs.Common.{◌∙◌}
+use Rattle.std.proofs.Common.{slice_index, ◌∙◌}
 use Rattle.adf_blocks.proofs.HeadLaws.{head_block-body, head_block-comment, head_block-form, head_block-meta, head_block-name, head_block-next}
 use Rattle.adf_blocks.proofs.HeadLaws.{head_block-pointer, head_block-protect, head_block-slot, head_block-stamp, length_head_block}
 use Rattle.adf_blocks.proofs.FieldLaws.{long_number}

@@ -1,5 +1,4 @@
-use Rattle.std.proofs.Common.{◌-◌, ◌∙◌, ap, arith, rules}
-use Rattle.std.specs.Prelude.{slice_index}
+use Rattle.std.proofs.Common.{◌-◌, ◌∙◌, ap, arith, rules, slice_index}
 use Rattle.adf_base.specs.Hash.{slot_of}
 use Rattle.adf_build.proofs.Order.{slots_step}
 use Rattle.adf_build.proofs.chains.slots_between.Goals as goal

@@ -1,5 +1,4 @@
-use Rattle.std.proofs.Common.{◌≡◌, ◌≤◌, ◌<◌, ◌+◌, ℕ, length, drop}
-use Rattle.std.specs.Prelude.{slice_index}
+use Rattle.std.proofs.Common.{◌≡◌, ◌≤◌, ◌<◌, ◌+◌, ℕ, length, drop, slice_index}
 use Rattle.adf_blocks.specs.declared.layout.TheConstants.{SLOTS}
 use Rattle.adf_volume.specs.Layout.{nodes_from}
 use Rattle.adf_build.specs.Laid.{first_block}

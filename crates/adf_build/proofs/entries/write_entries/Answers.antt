@@ -1,5 +1,4 @@
-use Rattle.std.proofs.Common.{◌≡◌, ◌∷◌, ◌+◌, ◌∙◌, ℕ, List, drop, ap, refl, sym, arith, rules}
-use Rattle.std.specs.Prelude.{slice_index}
+use Rattle.std.proofs.Common.{◌≡◌, ◌∷◌, ◌+◌, ◌∙◌, ℕ, List, drop, ap, refl, sym, arith, rules, slice_index}
 use Rattle.adf_tree.specs.declared.entry.Entry.{Entry}
 use Rattle.adf_build.specs.Laid.{first_block}
 use Rattle.adf_build.specs.Plan.{entry_blocks}

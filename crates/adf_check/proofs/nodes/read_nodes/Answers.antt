@@ -2,8 +2,7 @@ use Rattle.std.proofs.Common.{◌≡◌, suc, length, subst, sym, refl, arith}
 use Rattle.std.proofs.lemmas.Grind.{common_steps}
 use Rattle.adf_check.specs.Reading.{IsInNode}
 use Rattle.adf_check.specs.Store.{store_value}
-use Rattle.adf_check.proofs.NodeSteps.{enter_node}
-use Rattle.adf_check.proofs.NodeSteps.{all_read}
+use Rattle.adf_check.proofs.NodeSteps.{enter_node, all_read}
 use Rattle.adf_check.proofs.NumberBounds.{lists_short}
 use Rattle.adf_check.proofs.nodes.read_nodes.Goals as goal
 

@@ -1,7 +1,8 @@
 use Rattle.std.proofs.Common.{◌≡◌, ◌++◌, ℕ, List, refl, rules, append_assoc}
 use Rattle.std.specs.List.{concat}
 use Rattle.std.proofs.lemmas.Result.{on_err_weaker}
-use Rattle.adf_runs.proofs.PendingText.{on_err, pending_fails, pending_more}
+use Rattle.adf_base.proofs.Results.{on_err}
+use Rattle.adf_runs.proofs.PendingText.{pending_fails, pending_more}
 use Rattle.adf_cmd.proofs.copying.write_pieces.Goals as goal
 
 -- one piece more is done

@@ -1,6 +1,7 @@
 use Rattle.std.proofs.Common.{◌+◌, ◌∙◌, sym, rules, arith}
+use Rattle.adf_base.proofs.Results.{on_err}
 use Rattle.adf_cmd.proofs.Lines.{blocks_more, blocks_none, listing_front, listing_whole}
-use Rattle.adf_runs.proofs.PendingText.{on_err, pending_begun, pending_end, pending_fails, pending_more}
+use Rattle.adf_runs.proofs.PendingText.{pending_begun, pending_end, pending_fails, pending_more}
 use Rattle.adf_cmd.proofs.listing.write_listing.Goals as goal
 
 pub loop-b-init : goal.loop-b-init

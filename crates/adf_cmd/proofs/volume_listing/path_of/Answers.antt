@@ -1,5 +1,4 @@
-use Rattle.std.proofs.Common.{◌++◌, ◌∙◌, ap, sym}
-use Rattle.std.specs.Prelude.{reverse}
+use Rattle.std.proofs.Common.{◌++◌, ◌∙◌, ap, sym, reverse}
 use Rattle.adf_tree.specs.Paths.{names_of}
 use Rattle.adf_cmd.proofs.EntryNames.{gathered_all, gathered_more, parent_smaller}
 use Rattle.adf_cmd.proofs.volume_listing.path_of.Goals as goal

@@ -1,6 +1,7 @@
 use Rattle.std.proofs.Common.{◌≡◌, ◌+◌, arith, length, rules}
+use Rattle.adf_base.proofs.Results.{on_err}
 use Rattle.adf_cmd.proofs.EntryLines.{entries_front, entries_more, entries_none}
-use Rattle.adf_runs.proofs.PendingText.{on_err, pending_begun, pending_end, pending_fails, pending_more}
+use Rattle.adf_runs.proofs.PendingText.{pending_begun, pending_end, pending_fails, pending_more}
 use Rattle.adf_cmd.proofs.volume_listing.write_entries.Goals as goal
 
 pub loop-i-init : goal.loop-i-init

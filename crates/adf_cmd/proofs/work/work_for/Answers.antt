@@ -1,5 +1,4 @@
-use Rattle.std.proofs.Common.{rules, ap}
-use Rattle.std.specs.Prelude.{Err}
+use Rattle.std.proofs.Common.{rules, ap, Err}
 use Rattle.adf_cmd.specs.Answers.{HasBadPath}
 use Rattle.adf_words.specs.CommandLine.{request_value}
 use Rattle.adf_runs.proofs.WorkFaults.{no_path}

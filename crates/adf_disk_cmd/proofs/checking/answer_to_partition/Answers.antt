@@ -1,6 +1,5 @@
-use Rattle.std.proofs.Common.{◌∙◌, IfOk, refl, subst, sym}
+use Rattle.std.proofs.Common.{◌∙◌, IfOk, refl, subst, sym, string_bytes}
 use Rattle.std.proofs.lemmas.Result.{IfOk-weaker}
-use Rattle.std.specs.Prelude.{string_bytes}
 use Rattle.adf_disk_cmd.proofs.CheckedLines.{told}
 use Rattle.adf_disk_cmd.specs.HeldChecks.{IsKnown}
 use Rattle.adf_disk_cmd.specs.Lines.{volume_at}

@@ -1,5 +1,4 @@
-use Rattle.std.proofs.Common.{◌∙◌, ap, refl, sym, arith}
-use Rattle.std.specs.Prelude.{option_copied}
+use Rattle.std.proofs.Common.{◌∙◌, ap, refl, sym, arith, option_copied}
 use Rattle.std.proofs.lemmas.Grind.{common_steps}
 use Rattle.adf_disk_cmd.proofs.HeldChecks.{found_answer, held_answer}
 use Rattle.adf_disk_cmd.proofs.checking.answer_to_volume.Goals as goal

@@ -1,5 +1,4 @@
-use Rattle.std.proofs.Common.{ap, arith, subst}
-use Rattle.std.specs.Prelude.{option_copied}
+use Rattle.std.proofs.Common.{ap, arith, subst, option_copied}
 use Rattle.adf_disk_cmd.proofs.HeldVolume.{none_found, none_sought, sought_found, wanted_alike}
 use Rattle.adf_partitions.specs.Volumes.{FoundAlike}
 use Rattle.adf_disk_cmd.proofs.copy_input.sought_place.Goals as goal

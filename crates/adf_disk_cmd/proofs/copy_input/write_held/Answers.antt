@@ -1,5 +1,4 @@
-use Rattle.std.proofs.Common.{◌≡◌, ◌++◌, ap, subst, sym}
-use Rattle.std.specs.Prelude.{option_copied}
+use Rattle.std.proofs.Common.{◌≡◌, ◌++◌, ap, subst, sym, option_copied}
 use Rattle.adf_disk_cmd.specs.Work.{held_place_reply, held_reply}
 use Rattle.adf_runs.specs.Outcomes.{EndsBy}
 use Rattle.adf_disk_cmd.proofs.copy_input.write_held.Goals as goal

@@ -1,6 +1,5 @@
-use Rattle.std.proofs.Common.{◌∙◌, sym}
+use Rattle.std.proofs.Common.{◌∙◌, sym, string_bytes}
 use Rattle.std.proofs.lemmas.Result.{IfOk-weaker}
-use Rattle.std.specs.Prelude.{string_bytes}
 use Rattle.adf_fields.proofs.Digits.{civil_case}
 use Rattle.adf_fields.proofs.date_texts.text_of.Goals as goal
 

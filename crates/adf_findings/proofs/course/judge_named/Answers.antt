@@ -1,5 +1,4 @@
-use Rattle.std.specs.Prelude.{cond}
-use Rattle.std.proofs.Common.{ap}
+use Rattle.std.proofs.Common.{cond, ap}
 use Rattle.adf_blocks.specs.declared.cause.Cause.TheVariants.{SameName}
 use Rattle.adf_findings.specs.declared.judge.Judgement.TheVariants.{Clean, Reported, Skipped}
 use Rattle.adf_findings.specs.Survey.JudgementValue.{clean, reported}

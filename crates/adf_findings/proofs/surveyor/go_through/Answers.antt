@@ -1,6 +1,5 @@
-use Rattle.std.specs.Prelude.{map, not}
+use Rattle.std.proofs.Common.{map, not, ◌≡◌, ◌++◌, ◌∙◌, ℕ, List, ap, refl, sym, subst}
 use Rattle.std.specs.List.{filter}
-use Rattle.std.proofs.Common.{◌≡◌, ◌++◌, ◌∙◌, ℕ, List, ap, refl, sym, subst}
 use Rattle.adf_volume.specs.Walk.{Role}
 use Rattle.adf_findings.specs.declared.found.Found.{Found}
 use Rattle.adf_findings.specs.declared.part.Finding.{Finding}

@@ -1,5 +1,4 @@
-use Rattle.std.proofs.Common.{◌≡◌, ◌+◌, ◌-◌, ℕ, List, drop, inl, inr, refl, slice_index, take, arith}
-use Rattle.std.specs.Prelude.{min, slice_range}
+use Rattle.std.proofs.Common.{◌≡◌, ◌+◌, ◌-◌, ℕ, List, drop, inl, inr, refl, slice_index, take, arith, min, slice_range}
 use Rattle.std.proofs.lemmas.Bool.{cases_lt}
 use Rattle.std.proofs.lemmas.List.{length-take, take-take, take_all}
 use Rattle.adf_partitions.specs.declared.layout.TheConstants.{DRIVE_NAME}

@@ -1,5 +1,6 @@
+use Rattle.adf_base.proofs.Results.{on_err}
 use Rattle.adf_partitions.specs.PlanTexts.{IsPartitionLine, first_line}
-use Rattle.adf_partitions.proofs.TextLines.{first_of_lines, lines_ended, on_err}
+use Rattle.adf_partitions.proofs.TextLines.{first_of_lines, lines_ended}
 use Rattle.adf_partitions.proofs.plan_text.read_lines.Goals as goal
 
 pub returns-in-None-clause-lines : goal.returns-in-None-clause-lines

@@ -1,6 +1,5 @@
-use Rattle.std.specs.Prelude.{map}
+use Rattle.std.proofs.Common.{map, ◌≡◌}
 use Rattle.std.specs.List.{range_with_len}
-use Rattle.std.proofs.Common.{◌≡◌}
 use Rattle.adf_findings.specs.Survey.{OnSurvey}
 use Rattle.adf_rescue.specs.Lost.{is_lost}
 use Rattle.adf_rescue.proofs.lost.lost.Given as goal

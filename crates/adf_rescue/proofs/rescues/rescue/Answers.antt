@@ -1,6 +1,7 @@
 use Rattle.std.proofs.Common.{refl, arith}
 use Rattle.std.proofs.lemmas.Grind.{common_steps}
-use Rattle.adf_rescue.proofs.Steps.{buildable, on_err, unread_fault}
+use Rattle.adf_base.proofs.Results.{on_err}
+use Rattle.adf_rescue.proofs.Steps.{buildable, unread_fault}
 use Rattle.adf_rescue.proofs.rescues.rescue.Goals as goal
 
 pub returns-in_default-clause-none : goal.returns-in_default-clause-none

@@ -1,5 +1,4 @@
-use Rattle.std.specs.Prelude.{true, false}
-use Rattle.std.proofs.Common.{inr, subst, sym}
+use Rattle.std.proofs.Common.{true, false, inr, subst, sym}
 use Rattle.adf_runs.proofs.Endings.{ends_weaker}
 use Rattle.adf_survey_cmd.specs.Answers.{CopiesEntry, CopiesFound}
 use Rattle.adf_survey_cmd.proofs.copying.copy_found.Goals as goal

@@ -1,5 +1,4 @@
-use Rattle.std.specs.Prelude.{IsSome}
-use Rattle.std.proofs.Common.{[], inl, refl, subst}
+use Rattle.std.proofs.Common.{IsSome, [], inl, refl, subst}
 use Rattle.adf_runs.proofs.PendingText.{appends_nil}
 use Rattle.adf_survey_cmd.proofs.copying.copy_remains.Goals as goal
 

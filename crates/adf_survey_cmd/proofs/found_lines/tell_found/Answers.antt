@@ -1,4 +1,4 @@
-use Rattle.adf_runs.proofs.PendingText.{on_err}
+use Rattle.adf_base.proofs.Results.{on_err}
 use Rattle.adf_survey_cmd.proofs.found_lines.tell_found.Goals as goal
 
 pub returns-in_err-flush_long-clause-err : goal.returns-in_err-flush_long-clause-err

@@ -1,7 +1,8 @@
 use Rattle.std.proofs.Common.{◌≡◌, ◌+◌, arith, rules}
 use Rattle.std.proofs.lemmas.Grind.{common_steps}
+use Rattle.adf_base.proofs.Results.{on_err}
 use Rattle.adf_volume.specs.Walk.{heads}
-use Rattle.adf_runs.proofs.PendingText.{on_err, pending_begun, pending_end, pending_fails, pending_more}
+use Rattle.adf_runs.proofs.PendingText.{pending_begun, pending_end, pending_fails, pending_more}
 use Rattle.adf_survey_cmd.proofs.FoundTexts.{found_front, found_more, found_none}
 use Rattle.adf_survey_cmd.proofs.found_lines.write_entries.Goals as goal
 

@@ -1,5 +1,6 @@
 use Rattle.std.proofs.Common.{rules}
-use Rattle.adf_runs.proofs.PendingText.{on_err, pending_end}
+use Rattle.adf_base.proofs.Results.{on_err}
+use Rattle.adf_runs.proofs.PendingText.{pending_end}
 use Rattle.adf_survey_cmd.proofs.RunLines.{line_first, lines_end}
 use Rattle.adf_survey_cmd.proofs.PendingLines.{part_before, pending_before, pending_breaks, pending_stops}
 use Rattle.adf_survey_cmd.proofs.runs.write_runs.Goals as goal

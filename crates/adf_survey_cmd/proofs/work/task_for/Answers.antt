@@ -1,5 +1,4 @@
-use Rattle.std.proofs.Common.{rules, ap}
-use Rattle.std.specs.Prelude.{Err}
+use Rattle.std.proofs.Common.{rules, ap, Err}
 use Rattle.adf_runs.proofs.WorkFaults.{no_path}
 use Rattle.adf_survey_cmd.specs.Answers.{HasBadSurveyPath}
 use Rattle.adf_words.specs.SurveyLine.{question_value}

@@ -1,5 +1,4 @@
-use Rattle.std.proofs.Common.{arith, ◌<◌, ◌≡◌, length, Result, Some, None, Ok, Err, sym, ◌∙◌, refl}
-use Rattle.std.specs.Prelude.{OnOk, OnErr, IsOk}
+use Rattle.std.proofs.Common.{arith, ◌<◌, ◌≡◌, length, Result, Some, None, Ok, Err, sym, ◌∙◌, refl, OnOk, OnErr, IsOk}
 use Rattle.std.specs.Result.{result_ok}
 use Rattle.std.proofs.lemmas.Bool.Decides.{nat_tests}
 use Rattle.std.proofs.lemmas.List.{length-append}

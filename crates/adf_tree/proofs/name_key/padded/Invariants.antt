@@ -1,5 +1,4 @@
-use Rattle.std.proofs.Common.{◌≡◌, ◌-◌, take, ◌∷◌, ◌++◌}
-use Rattle.std.specs.Prelude.{replicate}
+use Rattle.std.proofs.Common.{◌≡◌, ◌-◌, take, ◌∷◌, ◌++◌, replicate}
 use Rattle.adf_tree.specs.Texts.{uppers}
 use Rattle.adf_tree.proofs.name_key.padded.Given as goal
 

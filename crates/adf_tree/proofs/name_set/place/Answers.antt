@@ -1,5 +1,4 @@
-use Rattle.std.proofs.Common.{Result, Ok, Err, arith}
-use Rattle.std.specs.Prelude.{OnErr, OnOk}
+use Rattle.std.proofs.Common.{Result, Ok, Err, arith, OnErr, OnOk}
 use Rattle.std.proofs.lemmas.Grind.{common_steps}
 use Rattle.adf_tree.proofs.NameBuckets.{stored_overflow}
 use Rattle.adf_tree.proofs.name_set.place.Goals as goal

@@ -1,9 +1,8 @@
 use Rattle.std.proofs.Common.{◌≡◌, [], ap, ap₂, subst, sym, ◌∙◌, inl, inr}
 use Rattle.clap.specs.Words.{App, HasKind, HasMatchesOf, fault_of, is_simple_and_free}
 use Rattle.adf_words.specs.CommandLine.{texts_of}
-use Rattle.adf_words.proofs.Refusals.{among_some}
+use Rattle.adf_words.proofs.Refusals.{among_some, survey_free, survey_simple}
 use Rattle.adf_words.specs.SurveyLine.{inquiry_met, survey_app}
-use Rattle.adf_words.proofs.Refusals.{survey_free, survey_simple}
 use Rattle.adf_words.proofs.survey_line.parse_survey.Goals as goal
 
 pub returns-clause-refused : goal.returns-clause-refused

@@ -1,5 +1,4 @@
-use Rattle.std.proofs.Common.{◌≡◌, ◌%◌, ◌^◌}
-use Rattle.std.specs.Prelude.{sum}
+use Rattle.std.proofs.Common.{◌≡◌, ◌%◌, ◌^◌, sum}
 use Rattle.adf_base.specs.Words.{words}
 use Rattle.adf_base.proofs.blocks.Block.long_sum.Given as goal
 

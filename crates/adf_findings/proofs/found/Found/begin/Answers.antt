@@ -1,5 +1,4 @@
-use Rattle.std.proofs.Common.{◌≡◌, ◌<◌, ◌++◌, ◌∷◌, [], refl, ap, subst, ◌∙◌}
-use Rattle.std.specs.Prelude.{replicate, false}
+use Rattle.std.proofs.Common.{◌≡◌, ◌<◌, ◌++◌, ◌∷◌, [], refl, ap, subst, ◌∙◌, replicate, false}
 use Rattle.adf_blocks.specs.Sizes.{blocks}
 use Rattle.adf_findings.specs.declared.found.Found.{Found}
 use Rattle.adf_findings.specs.declared.part.Part.TheVariants.{Root as RootPart}

@@ -1,5 +1,4 @@
-use Rattle.std.specs.Prelude.{drop}
-use Rattle.std.proofs.Common.{ℕ, List, ◌+◌}
+use Rattle.std.proofs.Common.{drop, ℕ, List, ◌+◌}
 use Rattle.adf_findings.proofs.Lookups.{leads_on, split_at}
 use Rattle.adf_findings.proofs.survey_result.Survey.find.Goals as goal
 

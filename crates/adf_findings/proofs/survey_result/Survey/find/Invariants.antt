@@ -1,5 +1,4 @@
-use Rattle.std.specs.Prelude.{◌↔◌, drop}
-use Rattle.std.proofs.Common.{ℕ}
+use Rattle.std.proofs.Common.{◌↔◌, drop, ℕ}
 use Rattle.adf_findings.specs.Lookup.{LeadsTo}
 use Rattle.adf_findings.specs.Survey.{OnSurvey}
 use Rattle.adf_findings.proofs.survey_result.Survey.find.Given as goal

@@ -1,5 +1,4 @@
-use Rattle.std.specs.Prelude.{min, slice_index, slice_range}
-use Rattle.std.proofs.Common.{◌+◌, refl, ap, ◌∙◌}
+use Rattle.std.proofs.Common.{min, slice_index, slice_range, ◌+◌, refl, ap, ◌∙◌}
 use Rattle.adf_blocks.specs.declared.layout.TheConstants.{NAME}
 use Rattle.adf_volume.specs.Walk.{node_block}
 use Rattle.adf_findings.proofs.Keeping.{header_inside}

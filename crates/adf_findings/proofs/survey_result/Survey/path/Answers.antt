@@ -1,5 +1,4 @@
-use Rattle.std.specs.Prelude.{cond, map, not, reverse}
-use Rattle.std.proofs.Common.{◌≡◌, ◌∷◌, ◌++◌, ◌<◌, ℕ, List, [], refl, sym, ap, subst, ◌∙◌}
+use Rattle.std.proofs.Common.{cond, map, not, reverse, ◌≡◌, ◌∷◌, ◌++◌, ◌<◌, ℕ, List, [], refl, sym, ap, subst, ◌∙◌}
 use Rattle.std.proofs.lemmas.List.{map-append}
 use Rattle.adf_findings.specs.Lookup.{path_to}
 use Rattle.adf_findings.proofs.EntryPaths.{directory_smaller, gathered_all, gathered_more, gathered_some, map_reverse}

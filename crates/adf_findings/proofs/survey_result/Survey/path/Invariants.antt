@@ -1,5 +1,4 @@
-use Rattle.std.specs.Prelude.{◌≡◌, map, reverse}
-use Rattle.std.proofs.Common.{◌++◌}
+use Rattle.std.proofs.Common.{◌≡◌, map, reverse, ◌++◌}
 use Rattle.adf_findings.specs.Lookup.{path_to}
 use Rattle.adf_findings.specs.Survey.{OnSurvey}
 use Rattle.adf_findings.proofs.survey_result.Survey.path.Given as goal

@@ -1,5 +1,4 @@
-use Rattle.std.specs.Prelude.{slice_index}
-use Rattle.std.proofs.Common.{ap, subst, ◌∙◌}
+use Rattle.std.proofs.Common.{slice_index, ap, subst, ◌∙◌}
 use Rattle.adf_volume.specs.Walk.{node_block}
 use Rattle.adf_findings.specs.Start.{unread_findings}
 use Rattle.adf_findings.specs.Survey.{UnreadTells}

@@ -1,0 +1,7 @@
+-- Results.
+use Rattle.std.proofs.Common.{Result, Ok, Err, OnErr}
+
+-- what holds whatever a result is holds where it is an error
+pub on_err : {T E P : Type 0} (r : Result T E) → P → OnErr r P
+on_err (Ok x) p = tt
+on_err (Err e) p = p
