@@ -1,6 +1,7 @@
 // Runs of findings, and their lines.
 
-ghost use Rattle.std.specs.Prelude.{◌≡◌, ◌++◌, ◌∷◌, ◌<◌, ◌≤◌, ◌^◌, ℕ, List, IfNone, IfSome, OnErr, OnOk, codes, drop, false, length, option_map, slice_get};
+ghost use Rattle.std.specs.Prelude.{◌≡◌, ◌++◌, ◌∷◌, ◌<◌, ◌≤◌, ◌^◌, ℕ, List, IfNone, IfSome, OnErr, OnOk};
+ghost use Rattle.std.specs.Prelude.{codes, drop, false, length, option_map, slice_get};
 ghost use Rattle.std.specs.Io.KnownBytes.{Appends};
 ghost use Rattle.adf_volume.specs.Walk.{Role};
 ghost use Rattle.adf_findings.specs.Concerned.{concern_of, owner_of};
@@ -9,8 +10,8 @@ ghost use Rattle.adf_findings.specs.Parts.{finding_value};
 ghost use Rattle.adf_findings.specs.Survey.{OnSurvey};
 ghost use Rattle.adf_texts.specs.Names.{names_text};
 ghost use Rattle.adf_runs.specs.Streams.{AppendsPart, is_device};
-ghost use Rattle.adf_survey_cmd.specs.Lines.{are_owned_alike, are_one, blocks_text, concern_text, continues, findings_line, findings_text};
-ghost use Rattle.adf_survey_cmd.specs.Lines.{is_beside, owner_text, run_of, runs};
+ghost use Rattle.adf_survey_cmd.specs.Lines.{are_owned_alike, are_one, blocks_text, concern_text, continues, is_beside};
+ghost use Rattle.adf_survey_cmd.specs.Lines.{findings_line, findings_text, owner_text, run_of, runs};
 
 use adf_blocks::Cause;
 use adf_findings::{Concern, Finding, Survey};
@@ -98,7 +99,7 @@ fn run_at(survey: &Survey<'_>, k: usize) -> Option<Run>
     Some(Run::of(finding, survey.concern_of(k), survey.owner_of(k)))
 }
 
-/// The run that begins with finding `k` of a survey, counted from 0, and the number of the finding behind it; `None` past the last.
+/// The run that begins with finding `k`, counted from 0, and the number of the finding behind the run; `None` past the last.
 pub fn run_from(survey: &Survey<'_>, k: usize) -> Option<(Run, usize)>
     ensures run { OnSurvey survey.now.image (λ w fs. IfSome result (λ next.
         next.0 ∷ runs w (drop next.1 fs) ≡ runs w (drop k fs))) }
