@@ -13,7 +13,10 @@ loop-run-preserved c = record {
       (c.loop-run.invariant.so_far w fs survey);
 }
 
-pub returns : goal.returns
-returns c =
-    let all = λ w fs survey. all_put w fs c.args.room.now _ _ _ (c.in_default.ensures.none w fs survey) (c.loop-run.invariant.so_far w fs survey) in
-    record { count = λ w fs survey. (all w fs survey).0; table = λ w fs survey. (all w fs survey).1 }
+pub returns-clause-count : goal.returns-clause-count
+returns-clause-count c = λ w fs survey.
+    (all_put w fs c.args.room.now _ _ _ (c.in_default.ensures.none w fs survey) (c.loop-run.invariant.so_far w fs survey)).0
+
+pub returns-clause-table : goal.returns-clause-table
+returns-clause-table c = λ w fs survey.
+    (all_put w fs c.args.room.now _ _ _ (c.in_default.ensures.none w fs survey) (c.loop-run.invariant.so_far w fs survey)).1
