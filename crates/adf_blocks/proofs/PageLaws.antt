@@ -1,6 +1,6 @@
 -- The fields of a written bitmap page.
 use Rattle.std.proofs.Common.{◌≡◌, ◌≤◌, ◌<◌, ℕ, ◌+◌, ◌*◌, ◌^◌, List, length, refl, arith, rules, ◌∙◌, None, slice_index, IsBitSet, ◌/◌, ◌%◌, ◌↔◌}
-use Rattle.adf_base.specs.Words.{block, word, with_block, long_sum, checksum}
+use Rattle.adf_base.specs.Words.{block, word, with_block, long_sum}
 use Rattle.adf_base.proofs.WordLaws.{block_written, length-with_bytes, length_longs, long_sum-sealed, length-big_bytes}
 use Rattle.adf_blocks.specs.declared.layout.TheConstants.{PAGE_BITS, PAGE_CHECKSUM, PAGE_FIRST}
 use Rattle.adf_blocks.specs.Forms.{first_cause}

@@ -18,10 +18,7 @@ use Rattle.adf_cmd.specs.Answers.{Answer, limit_of}
 use Rattle.adf_runs.specs.Commands.{Reply}
 use Rattle.adf_words.specs.CommandLine.{RequestValue, build, cat, check}
 use Rattle.adf_cmd.specs.declared.checking.CheckAnswer.{CheckAnswer}
-use Rattle.adf_runs.specs.Outcomes.{EndsBy}
 use Rattle.adf_cmd.specs.CheckAnswers.{IsCheckAnswer, IsCheckAnswerTo}
-use Rattle.adf_runs.specs.declared.outcome.Outcome.{Outcome}
-use Rattle.adf_runs.proofs.Endings.{ends_weaker}
 
 -- each answer to one input is one to another
 abbrev pub AnswersBoth : RequestValue → List ℕ → List ℕ → Type 0

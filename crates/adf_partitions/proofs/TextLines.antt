@@ -1,6 +1,6 @@
 -- The lines of a plan's text. left is what is left of a text, ps its partitions, e the text behind their lines.
 use Rattle.std.proofs.Common.{◌≡◌, ◌≢◌, ◌<◌, ◌≤◌, ◌+◌, ℕ, true, false, List, [], ◌∷◌, ◌++◌, length, ap, refl, subst, arith, append-nil, append_assoc}
-use Rattle.std.proofs.Common.{◌==◌, All, OnErr, Result, Ok, Err}
+use Rattle.std.proofs.Common.{◌==◌, All}
 use Rattle.std.proofs.lemmas.Bool.Decides.{nat_tests}
 use Rattle.std.proofs.lemmas.Bool.{and_parts}
 use Rattle.std.proofs.lemmas.Grind.{common_steps}

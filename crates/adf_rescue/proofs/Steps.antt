@@ -1,6 +1,6 @@
 -- The state of a rescue after one more verdict.
 use Rattle.std.proofs.Common.{add-one, ◌≢◌, ◌==◌, map, ◌≡◌, ℕ, ◌+◌, ◌-◌, ◌<◌, ◌≤◌, inl, inr, List, [], ◌∷◌, ◌++◌, Option, Some, None, Result, Ok, Err}
-use Rattle.std.proofs.Common.{length, get_or, arith, refl, sym, ◌∙◌, ap, subst, zero, suc, length-append, IfOk, OnErr, cond, true, false, min, ◌^◌}
+use Rattle.std.proofs.Common.{length, get_or, arith, refl, sym, ◌∙◌, ap, subst, zero, suc, length-append, IfOk, cond, true, false, min, ◌^◌}
 use Rattle.std.proofs.lemmas.Bool.{cases_lt, eqb-true, le-leb, lt-leb}
 use Rattle.std.proofs.lemmas.List.Sums.{fold_push}
 use Rattle.std.proofs.lemmas.Grind.{flat_map-append, common_steps}

@@ -1,5 +1,5 @@
 -- Laws of what is pending.
-use Rattle.std.proofs.Common.{◌≡◌, ◌≢◌, ◌++◌, ◌∙◌, ℕ, Bool, List, Option, Some, None, Result, Ok, Err, OnErr, [], ◌∷◌, refl, sym, ap, append_assoc, append-nil}
+use Rattle.std.proofs.Common.{◌≡◌, ◌≢◌, ◌++◌, ◌∙◌, ℕ, Bool, List, Option, Some, None, [], ◌∷◌, refl, sym, ap, append_assoc, append-nil}
 use Rattle.std.specs.Io.KnownBytes.{Appends}
 use Rattle.adf_runs.specs.Streams.{AppendsPart, KeepsPending, Pending}
 use Rattle.adf_runs.proofs.KnownBytes.{appends_two}

@@ -3,7 +3,7 @@ use Rattle.std.proofs.Common.{ℕ, List, ◌<◌, ◌≤◌, arith}
 use Rattle.std.proofs.lemmas.Grind.{common_steps}
 use Rattle.adf_base.specs.declared.hash.Letters.{Letters, TheVariants.Ascii}
 use Rattle.adf_blocks.specs.Sizes.{blocks}
-use Rattle.adf_volume.specs.Demands.{AllHold, demand}
+use Rattle.adf_volume.specs.Demands.{AllHold}
 use Rattle.adf_volume.specs.Walk.{Role, Enough, IsAbsent, NewNameBy, NoCause, demands_by, form_demands_by}
 use Rattle.adf_volume.proofs.Lists.{all_split}
 
