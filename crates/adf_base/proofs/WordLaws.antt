@@ -104,7 +104,8 @@ sum-with_word_past bs i v (suc n) h le =
     rw (← add-one n) (omega arith)
 
 -- the sum after a write of word i
-pub sum-with_word : (bs : List ℕ) (i v n : ℕ) → 4 * n ≤ length bs → v < 2 ^ 32 → i < n → sum (words n (with_word bs i v)) + word bs i ≡ sum (words n bs) + v
+pub sum-with_word : (bs : List ℕ) (i v n : ℕ) → 4 * n ≤ length bs → v < 2 ^ 32 → i < n
+    → sum (words n (with_word bs i v)) + word bs i ≡ sum (words n bs) + v
 sum-with_word bs i v zero h small lt = absurd (omega arith)
 sum-with_word bs i v (suc n) h small lt =
     let more = sum_words_more (with_word bs i v) n in
@@ -158,7 +159,8 @@ pub length-with_word : (bs : List ℕ) (i v : ℕ) → 4 * i + 4 ≤ length bs �
 length-with_word bs i v h = length-with_bytes bs (4 * i) (big_bytes 4 v) (omega (arith, length-big_bytes 4 v))
 
 -- the sum of a block that was sealed in an image
-pub sealed_block : (image : List ℕ) (b i : ℕ) → b * 512 + 512 ≤ length image → i < 128 → long_sum (block (with_block image b (sealed i (block image b))) b) ≡ 0
+pub sealed_block : (image : List ℕ) (b i : ℕ) → b * 512 + 512 ≤ length image → i < 128
+    → long_sum (block (with_block image b (sealed i (block image b))) b) ≡ 0
 sealed_block image b i h lt = grind (arith, common_steps, length-block, block_written, length-with_word, long_sum-sealed)
 
 -- nothing written
@@ -199,7 +201,8 @@ words_put bs i at ws k w room lt e place =
 -- a write just before another
 pub just_before : (bs : List ℕ) (from at : ℕ) (xs ys : List ℕ) → from + length xs ≤ length bs → at + length ys ≡ from
     → with_bytes (with_bytes bs from xs) at ys ≡ with_bytes bs at (ys ++ xs)
-just_before bs from at xs ys h e = grind (arith, common_steps, take-take, front-with_bytes, with_bytes_is, drop_at, length-take-le, length-append, append_assoc)
+just_before bs from at xs ys h e =
+    grind (arith, common_steps, take-take, front-with_bytes, with_bytes_is, drop_at, length-take-le, length-append, append_assoc)
 
 -- one word more is written downwards
 pub words_put_down : (bs : List ℕ) (i at : ℕ) (ws : List ℕ) (k w : ℕ) → 4 * i + 4 ≤ length bs → length ws ≤ i + 1 → k < length ws → w ≡ get_or ws k 0

@@ -51,7 +51,8 @@ fault_ends NoMemory lines input f o why h = inl (appends_nil o)
 fault_ends _ lines input f o why h = absurd h
 
 -- an image that was built of a tree is the one that is laid of it
-pub is_built : (image : List ℕ) (tree : Tree) (n : ℕ) → image ≡ volume tree n → IsBuildable tree n → IsLaid image tree → Fits image tree (planned tree n)
+pub is_built : (image : List ℕ) (tree : Tree) (n : ℕ) → image ≡ volume tree n → IsBuildable tree n → IsLaid image tree
+    → Fits image tree (planned tree n)
     → IsBuilt tree n
 is_built image tree n e room laid fits = grind (arith, common_steps)
 
@@ -61,7 +62,8 @@ pub build_ends : (w : Outcome) (lines : Bool) (input : List ℕ) (tree : Tree) (
 build_ends w lines input tree n o o' m h = grind (arith, common_steps, ends_weaker)
 
 -- what builds the tree of an image as one of another kind answers its conversion
-pub convert_ends : (w : Outcome) (kind : Kind) (image : List ℕ) (t : Tree) (l : Layout) (n : ℕ) (o o' : Option (List ℕ)) → Fits image t l → n ≡ blocks image
+pub convert_ends : (w : Outcome) (kind : Kind) (image : List ℕ) (t : Tree) (l : Layout) (n : ℕ) (o o' : Option (List ℕ)) → Fits image t l
+    → n ≡ blocks image
     → EndsBy (BuildsOrIsFull false (with_kind t kind) n) w o o' → EndsBy (Answer (convert kind) image) w o o'
 convert_ends w kind image t l n o o' fits e h =
     let u = with_kind t kind in
@@ -69,7 +71,8 @@ convert_ends w kind image t l n o o' fits e h =
     (λ reply builds. inl (t, l, fits, subst (λ k. BuildsOrIsFull false u k reply) e builds)) h
 
 -- the bytes of a file are what its path leads to
-file_at : (t : Tree) (names : List (List ℕ)) (node : ℕ) (bytes : List ℕ) → Some node ≡ find t.entries names → Some bytes ≡ bytes_of (entry t.entries node)
+file_at : (t : Tree) (names : List (List ℕ)) (node : ℕ) (bytes : List ℕ) → Some node ≡ find t.entries names
+    → Some bytes ≡ bytes_of (entry t.entries node)
     → contents_at t names ≡ Some (Some bytes)
 file_at t names node bytes e f = grind (arith, common_steps)
 

@@ -140,7 +140,8 @@ has_planned text plan given is enough =
     let are = are_volumes c plan.partitions given enough all in
     let size : planned_blocks plan ≡ length (disk_bytes plan vs) / 512 = omega (arith, disk_size plan vs h are) in
     record {
-      tables = subst (λ (n : ℕ). IsDisk (disk_bytes plan vs) n (planned_tables plan) (planned_partitions plan)) size (planned_disk plan h (joined vs));
+      tables =
+          subst (λ (n : ℕ). IsDisk (disk_bytes plan vs) n (planned_tables plan) (planned_partitions plan)) size (planned_disk plan h (joined vs));
       volumes = volumes_stand plan vs h are;
       sound = λ k d lt new.
           let p = get_or plan.partitions k d in

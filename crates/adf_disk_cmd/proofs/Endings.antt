@@ -22,7 +22,8 @@ use Rattle.adf_words.specs.DiskLine.{DiskRequestValue, build, check, list, surve
 use Rattle.adf_runs.proofs.PendingText.{appends_nil}
 
 -- what is answered to the front of an input that is longer than the largest disk is answered to the whole of it
-pub long_answers : (r : DiskRequestValue) (front bytes : List ℕ) → front ≡ take (MOST_DISK_BYTES + 1) bytes → (reply : Reply) → DiskAnswer r front reply
+pub long_answers : (r : DiskRequestValue) (front bytes : List ℕ) → front ≡ take (MOST_DISK_BYTES + 1) bytes → (reply : Reply)
+    → DiskAnswer r front reply
     → DiskAnswer r bytes reply
 long_answers r front bytes e reply h =
     let same : take MOST_DISK_BYTES front ≡ take MOST_DISK_BYTES bytes =

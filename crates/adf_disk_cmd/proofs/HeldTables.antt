@@ -29,7 +29,8 @@ pub if_some : {P Q : List ℕ → Type 0} (o : Option (List ℕ)) → ((x : List
 if_some None f h = tt
 if_some (Some x) f h = f x h
 
-module _ (all bytes : List ℕ) (len n : ℕ) (held : IsPart 0 TABLES_LEN (MOST_DISK_BYTES + 1) all bytes len) (blocks : n ≡ min len MOST_DISK_BYTES / 512) where
+module _ (all bytes : List ℕ) (len n : ℕ) (held : IsPart 0 TABLES_LEN (MOST_DISK_BYTES + 1) all bytes len)
+    (blocks : n ≡ min len MOST_DISK_BYTES / 512) where
   first_held : bytes ≡ take TABLES_LEN (disk_of all)
   first_held = held.0 ∙ sym (take-take TABLES_LEN MOST_DISK_BYTES all (omega arith))
 

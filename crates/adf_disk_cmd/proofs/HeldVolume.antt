@@ -37,7 +37,8 @@ use Rattle.adf_disk_cmd.specs.declared.work.Sought.{Sought}
 use Rattle.adf_disk_cmd.specs.declared.work.TheConstants.{MOST_DISK_BYTES}
 
 -- what is wanted is found alike whatever the number of blocks
-pub wanted_alike : (bytes : List ℕ) (n m : ℕ) (t u : Tables) (ps qs : List Partition) (w : WantedValue) (found other : Option Partition) → IsDisk bytes n t ps
+pub wanted_alike : (bytes : List ℕ) (n m : ℕ) (t u : Tables) (ps qs : List Partition) (w : WantedValue) (found other : Option Partition)
+    → IsDisk bytes n t ps
     → IsDisk bytes m u qs → IsWanted ps w found → IsWanted qs w other → FoundAlike bytes n found other
 wanted_alike bytes n m t u ps qs (number k) found other d e h g =
     subst (λ (x : Option Partition). FoundAlike bytes n x other) (sym h)

@@ -49,7 +49,8 @@ place_once : (bytes : List ℕ) (place : Result Place PlaceFault) (dos : ℕ) (s
 place_once bytes (Ok q) dos s t l m h g = volume_once (is_checked dos) dos (volume_at bytes q) s t l m h g
 place_once bytes (Err f) dos s t l m h g = text_once (place_fault_text f) s t l m h g
 
-checked_once : (bytes : List ℕ) (ps : List Partition) (s t : Bool) (l m : List ℕ) → AreChecked bytes ps s l → AreChecked bytes ps t m → (s ≡ t) × (l ≡ m)
+checked_once : (bytes : List ℕ) (ps : List Partition) (s t : Bool) (l m : List ℕ) → AreChecked bytes ps s l → AreChecked bytes ps t m
+    → (s ≡ t) × (l ≡ m)
 unfolding AreChecked
 checked_once bytes [] s t l m h g = (h.0 ∙ sym g.0, h.1 ∙ sym g.1)
 checked_once bytes (p ∷ ps) s t l m (one, others, line, rest, tells, are, e, f) (one', others', line', rest', tells', are', e', f') =
@@ -68,7 +69,8 @@ wanted_once ps (name text) p q (inl (bytes, spells, x)) (inr (none, y)) = absurd
 wanted_once ps (name text) p q (inr (none, x)) (inl (bytes, spells, y)) = absurd (none bytes spells)
 wanted_once ps (name text) p q (inr (none, x)) (inr (never, y)) = x ∙ sym y
 
-volume_copied_once : (bytes : List ℕ) (ps : List Partition) (w : WantedValue) (a b : Reply) → CopiesVolume bytes ps w a → CopiesVolume bytes ps w b → a ≡ b
+volume_copied_once : (bytes : List ℕ) (ps : List Partition) (w : WantedValue) (a b : Reply) → CopiesVolume bytes ps w a → CopiesVolume bytes ps w b
+    → a ≡ b
 volume_copied_once bytes ps w a b (p, h, x) (q, g, y) = x ∙ ap (volume_reply bytes) (wanted_once ps w p q h g) ∙ sym y
 
 of_once : (r : DiskRequestValue) (bytes : List ℕ) (ps : List Partition) (a b : Reply) → OfPartitions r bytes ps a → OfPartitions r bytes ps b → a ≡ b

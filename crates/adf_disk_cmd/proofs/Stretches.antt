@@ -24,7 +24,8 @@ pub stretch_at_most : (start left : Option (List ℕ)) (k n : ℕ) (bytes : List
     → TakesAtMost n start left
 stretch_at_most start left k n bytes s few = (s.before ++ bytes, omega (arith, length-append s.before bytes, s.from), s.taken)
 
-pub more_at_most : (start a b : Option (List ℕ)) (k m n : ℕ) (bytes : List ℕ) → IsStretch start a k bytes → TakesAtMost m a b → k + length bytes + m ≤ n
+pub more_at_most : (start a b : Option (List ℕ)) (k m n : ℕ) (bytes : List ℕ) → IsStretch start a k bytes → TakesAtMost m a b
+    → k + length bytes + m ≤ n
     → TakesAtMost n start b
 more_at_most start a b k m n bytes s more few =
     two_at_most (k + length bytes) m n start a b few (stretch_at_most start a k (k + length bytes) bytes s (omega arith)) more
@@ -107,14 +108,16 @@ all_counted all rest bytes k count limit s few left (passed, first, len) = grind
 abbrev pub AddsCheck : List ℕ → Place → List CheckedVolume → List CheckedVolume → Type 0
 AddsCheck image q few more = (v : CheckedVolume) × (v.place ≡ q) × IsCheckAnswer image v.answer × (more ≡ few ++ v ∷ [])
 
-pub answer_added : (all image bytes : List ℕ) (left : Option (List ℕ)) (k : ℕ) (q : Place) (few more : List CheckedVolume) → AddsCheck image q few more
+pub answer_added : (all image bytes : List ℕ) (left : Option (List ℕ)) (k : ℕ) (q : Place) (few more : List CheckedVolume)
+    → AddsCheck image q few more
     → All (IsAnswered (take MOST_DISK_BYTES all)) few → IsStretch (Some all) left k bytes → IsFrom k q → IsWithin q
     → (k + length bytes < end_of q * 512 → IsAtEnd left) → image ≡ take (q.blocks * 512) (drop (q.first * 512 - k) bytes)
     → All (IsAnswered (take MOST_DISK_BYTES all)) more
 answer_added all image bytes left k q few more (v, place, answer, e) h s from within end same =
     let one = one_answered all image bytes left k q v s from within end same place answer in
     let disk : List ℕ = take MOST_DISK_BYTES all in
-    subst (All (IsAnswered disk)) (sym e) (All-append (IsAnswered disk) few (v ∷ []) h (All-cons (IsAnswered disk) v [] one (All-nil (IsAnswered disk))))
+    subst (All (IsAnswered disk)) (sym e)
+    (All-append (IsAnswered disk) few (v ∷ []) h (All-cons (IsAnswered disk) v [] one (All-nil (IsAnswered disk))))
 
 -- and its place behind theirs
 pub place_added : (image : List ℕ) (few more : List CheckedVolume) (places : List Place) (i : ℕ) (d : Place)
@@ -122,6 +125,7 @@ pub place_added : (image : List ℕ) (few more : List CheckedVolume) (places : L
 place_added image few more places i d (v, place, answer, e) f lt = grind (arith, common_steps, map_push, take_more)
 
 -- what is read is counted
-pub count_of : (n : ℕ) (a b : Option (List ℕ)) (old bytes : List ℕ) → ((more : List ℕ) × (bytes ≡ old ++ more) × (length more ≡ n) × Consumes a b more)
+pub count_of : (n : ℕ) (a b : Option (List ℕ)) (old bytes : List ℕ)
+    → ((more : List ℕ) × (bytes ≡ old ++ more) × (length more ≡ n) × Consumes a b more)
     → TakesCount n a b
 count_of n a b old bytes (more, e, len, taken) = (more, len, taken)

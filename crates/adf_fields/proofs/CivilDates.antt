@@ -26,7 +26,15 @@ in_month n d is short = (
 
 in_year : (n : ℕ) (d : Date) → IsCivilDay n d → d.day ≡ days_in_month d.year d.month → d.month < 12 → HasDate (suc n)
 in_year n d is last short = (
-  record { year = d.year; month = d.month + 1; day = 1; year_in = d.year_in; month_in = (omega arith, omega arith); day_in = (omega arith, grind arith) },
+  record {
+    year =
+        d.year;
+    month = d.month + 1;
+    day = 1;
+    year_in = d.year_in;
+    month_in = (omega arith, omega arith);
+    day_in = (omega arith, grind arith);
+  },
   omega (arith, signed_arith, is, days_from_civil-next_month d.year d.month d.day d.month_in.0 last),
 )
 
@@ -34,7 +42,8 @@ in_next_year : (n : ℕ) (d : Date) → IsCivilDay n d → d.month ≡ 12 → d.
 in_next_year n d is december last short =
     let day = rw (december, last) at is in
     let early : d.year <ℤ pos 9999 = by_lt_z d.year (pos 9999) (λ lt. lt)
-    (λ ge. let year : d.year ≡ pos 9999 = omega (arith, signed_arith) in absurd (omega (arith, signed_arith, days_from_civil-max, rw year at day))) in (
+    (λ ge. let year : d.year ≡ pos 9999 =
+    omega (arith, signed_arith) in absurd (omega (arith, signed_arith, days_from_civil-max, rw year at day))) in (
       record {
         year = d.year +ℤ pos 1;
         month = 1;

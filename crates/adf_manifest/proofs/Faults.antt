@@ -106,7 +106,8 @@ inner (suc k) n front rest text s w e h =
       | inr p ↦
           elim (ends rest) [
             | inl r ↦
-                let both = same_from_push front (manifest_lines p.before) text (line_text p.last) (ap (λ x. front ++ text ∷ x) (sym r) ∙ sym e ∙ p.lines) in
+                let both = same_from_push front (manifest_lines p.before) text (line_text p.last)
+                (ap (λ x. front ++ text ∷ x) (sym r) ∙ sym e ∙ p.lines) in
                 record {
                   before = p.before;
                   next = n;
@@ -120,7 +121,13 @@ inner (suc k) n front rest text s w e h =
             | inr q ↦
                 let split = append_assoc front (text ∷ q.0) (q.1 ∷ []) ∙ ap (λ x. front ++ text ∷ x) (sym q.2) ∙ sym e ∙ p.lines in
                 let both = same_from_push (front ++ text ∷ q.0) (manifest_lines p.before) q.1 (line_text p.last) split in
-                inner k p.before front q.0 text (omega (arith, s, ap length p.lines, length-append (manifest_lines p.before) (line_text p.last ∷ []))) p.well (sym both.0) h
+                inner k p.before front q.0 text (omega (
+                  arith,
+                  s,
+                  ap length p.lines,
+                  length-append (manifest_lines p.before)
+                      (line_text p.last ∷ []),
+                )) p.well (sym both.0) h
           ]
     ]
 
@@ -129,7 +136,8 @@ pub later_good : (m n : Manifest) (text : List ℕ) (rest : List (List ℕ)) (ki
 later_good m n text rest kind w v e f =
     let i = inner (length (manifest_lines n)) n (manifest_lines m) rest text (omega arith) v e (some_lines m) in
     let same = one_told i.before m i.well w i.lines in
-    line_good i.before i.next i.line text kind i.adds i.is_line i.reads (later_kind i.before text kind (subst (λ (x : Manifest). IsLaterFault x text kind) (sym same) f))
+    line_good i.before i.next i.line text kind i.adds i.is_line i.reads
+    (later_kind i.before text kind (subst (λ (x : Manifest). IsLaterFault x text kind) (sym same) f))
 
 -- a first line of an allowed size has no fault
 first_good : (kind' : Kind) (n' : ℕ) (line : List ℕ) (kind : ManifestKind) → is_allowed n' ≡ true → line ≡ volume_line kind' n'
@@ -217,8 +225,11 @@ one_fault all n n' k k' (inr f) (inr g) =
           let both = fronts (manifest_lines f.before) (manifest_lines g.before) (f.text ∷ f.rest) (g.text ∷ g.rest) (sym f.lines ∙ g.lines) e in
           let told = one_told f.before g.before f.well g.well both.0 in
           let text = heads both.1 in
-          let moved = subst (λ (m : Manifest). IsLaterFault m g.text k) told (subst (λ t. IsLaterFault f.before t k) text f.fault) in
-          (f.place ∙ ap (λ m. m + 1) e ∙ sym g.place, one_later_kind g.before g.text k k' (later_kind g.before g.text k moved) (later_kind g.before g.text k' g.fault))
+          let moved = subst (λ (m : Manifest). IsLaterFault m g.text k) told (subst (λ t. IsLaterFault f.before t k) text f.fault) in (
+            f.place ∙ ap (λ m. m + 1) e ∙ sym g.place,
+            one_later_kind g.before g.text k k' (later_kind g.before g.text k moved)
+                (later_kind g.before g.text k' g.fault),
+          )
       | inr (inl lt) ↦
           let more = inside (manifest_lines f.before) (manifest_lines g.before) f.rest (g.text ∷ g.rest) f.text (sym f.lines ∙ g.lines) lt in
           absurd (later_good f.before g.before f.text more.0 k f.well g.well more.1 f.fault)

@@ -114,7 +114,8 @@ last_well m e i w is g same =
     record {
       preamble = w.preamble;
       items = All-push IsItem e.before i (last_off IsItem e.before e.last both.0).0 g;
-      room = room_more (preamble_tree m.preamble) e.before i less.0 (subst (λ p. IsOk (room_for (items_tree (preamble_tree m.preamble) e.before).entries p))
+      room = room_more (preamble_tree m.preamble) e.before i less.0
+          (subst (λ p. IsOk (room_for (items_tree (preamble_tree m.preamble) e.before).entries p))
           (sym same)
           less.1);
     }

@@ -140,7 +140,11 @@ no_end (x ∷ xs) run e = cc
 -- a manifest by the parts of its entries
 entries_are : (m : Manifest) (e : Entries) (before : List Item) (comment : Option (List ℕ)) (runs : List RunValue) → m.entries ≡ Some e
     → e.before ≡ before → e.last.note ≡ comment → e.last.runs ≡ runs
-    → let n : Manifest = record { preamble = m.preamble; entries = Some (record { before = before; last = record e.last { note = comment; runs = runs } }) }
+    → let n : Manifest = record {
+      preamble = m.preamble;
+      entries = Some
+          (record { before = before; last = record e.last { note = comment; runs = runs } });
+    }
     in m ≡ n
 entries_are m e before comment runs is b n r = grind (arith, common_steps, of_three)
 
@@ -237,7 +241,8 @@ bare_entry m e None w is r n =
 by_entries : (n : Manifest) (o : Option Entries) → IsWell n → n.entries ≡ o → IsFirst n ⊎ IsNext n
 by_entries n None w is =
     let by : Option Entries → Manifest = λ x. record { preamble = n.preamble; entries = x } in
-    subst (λ (x : Manifest). IsFirst x ⊎ IsNext x) (sym (ap by is)) (last_of_preamble n.preamble.kind n.preamble.blocks n.preamble.label n.preamble.stamps
+    subst (λ (x : Manifest). IsFirst x ⊎ IsNext x) (sym (ap by is))
+    (last_of_preamble n.preamble.kind n.preamble.blocks n.preamble.label n.preamble.stamps
     w.preamble)
 by_entries n (Some e) w is =
     elim (ends e.last.runs) [

@@ -24,4 +24,5 @@ fill_parts {line = line} {text = text} {a = a} {b = b} count byte e cut h g = gr
 -- the parts of the fields of an entry line
 pub fields_parts : {text x y z : List ℕ} (s : Stamp) (p : ℕ) (path : List ℕ) → CutTwice 32 text x y z → IsStamp s → text ≡ fields_text s p path
     → (x ≡ plain_text s) × (y ≡ hex_word p) × (z ≡ path)
-fields_parts {text = text} {x = x} {y = y} {z = z} s p path cut h e = one_cut_twice 32 text x y z (plain_text s) (hex_word p) path cut (e, stamp_lacks s h, word_lacks p)
+fields_parts {text = text} {x = x} {y = y} {z = z} s p path cut h e = one_cut_twice 32 text x y z (plain_text s) (hex_word p) path cut
+    (e, stamp_lacks s h, word_lacks p)

@@ -61,7 +61,8 @@ one_cut_twice c text x y z a b d (e, hx, hy) (g, ha, hb) = grind (arith, common_
 decimal_lacks : (c n : ℕ) → ((d : ℕ) → 48 ≤ d → d ≤ 57 → (d == c) ≡ false) → n < 2 ^ 32 → LacksByte c (decimal n)
 decimal_lacks c n f h =
     let numeral = decimal_is_IsNumeral n (omega arith) in
-    All-from_get_or (λ x. (x == c) ≡ false) (decimal n) 0 (λ i lt. let r = digit_at (decimal n) i numeral.0.1 lt in f (slice_index_or (decimal n) i 0) r.0 r.1)
+    All-from_get_or (λ x. (x == c) ≡ false) (decimal n) 0
+    (λ i lt. let r = digit_at (decimal n) i numeral.0.1 lt in f (slice_index_or (decimal n) i 0) r.0 r.1)
 
 pub colon_lacks : (n : ℕ) → n < 2 ^ 32 → LacksByte 58 (decimal n)
 colon_lacks n h = decimal_lacks 58 n (λ d low high. grind (arith, nat_tests)) h
@@ -78,12 +79,14 @@ stamp_lacks s h =
 -- the parts of a stamp
 pub stamp_parts : {text x y z : List ℕ} (s : Stamp) → CutTwice 58 text x y z → IsStamp s → text ≡ plain_text s
     → (x ≡ decimal s.days) × (y ≡ decimal s.mins) × (z ≡ decimal s.ticks)
-stamp_parts {text = text} {x = x} {y = y} {z = z} s cut h e = one_cut_twice 58 text x y z _ _ _ cut (e, colon_lacks s.days h.days, colon_lacks s.mins h.mins)
+stamp_parts {text =
+    text} {x = x} {y = y} {z = z} s cut h e = one_cut_twice 58 text x y z _ _ _ cut (e, colon_lacks s.days h.days, colon_lacks s.mins h.mins)
 
 -- the parts of three stamps
 pub stamps_parts : {text x y z : List ℕ} (s : Stamps) → CutTwice 32 text x y z → AreStamps s → text ≡ stamps_text s
     → (x ≡ plain_text s.root) × (y ≡ plain_text s.altered) × (z ≡ plain_text s.created)
-stamps_parts {text = text} {x = x} {y = y} {z = z} s cut h e = one_cut_twice 32 text x y z _ _ (plain_text s.created) cut (e, stamp_lacks s.root h.root, stamp_lacks s.altered h.altered)
+stamps_parts {text = text} {x = x} {y = y} {z = z} s cut h e = one_cut_twice 32 text x y z _ _ (plain_text s.created) cut
+    (e, stamp_lacks s.root h.root, stamp_lacks s.altered h.altered)
 
 own : IsNumeralModel (AllDigits 10) (digits_value 10)
 own = numerals_by_value (AllDigits 10) tells_digits

@@ -21,7 +21,8 @@ unfolding items_tree HaveRoom
 grown_by t before [] h room = subst (λ (xs : List Addition). IsTreeOf t.entries xs) (sym (append-nil before)) h
 grown_by t before (i ∷ items) h room =
     let more : IsTreeOf (with_item t i).entries (before ++ addition_of i ∷ []) = grown t.entries before (addition_of i) h room.0 in
-    subst (λ (xs : List Addition). IsTreeOf (items_tree (with_item t i) items).entries xs) (append_assoc before (addition_of i ∷ []) (map addition_of items))
+    subst (λ (xs : List Addition). IsTreeOf (items_tree (with_item t i) items).entries xs)
+    (append_assoc before (addition_of i ∷ []) (map addition_of items))
     (grown_by (with_item t i) (before ++ addition_of i ∷ []) items more room.1)
 
 pub adding_lines : (m : Manifest) → IsWell m → IsTreeOfManifest (manifest_tree m) m
@@ -35,7 +36,8 @@ of_parts : (t u : Tree) → record t { entries = [] } ≡ record u { entries = [
 of_parts t u e g = ap (λ (v : Tree). record v { entries = t.entries }) e ∙ ap (λ es. record u { entries = es }) g
 
 pub one_tree_of : (m : Manifest) (t u : Tree) → IsTreeOfManifest t m → IsTreeOfManifest u m → t ≡ u
-one_tree_of m t u g h = of_parts t u (g.preamble ∙ sym h.preamble) (one_tree t.entries u.entries (map addition_of (items_of m.entries)) g.entries h.entries)
+one_tree_of m t u g h =
+    of_parts t u (g.preamble ∙ sym h.preamble) (one_tree t.entries u.entries (map addition_of (items_of m.entries)) g.entries h.entries)
 
 -- what is read as the tree that adding gives is the tree of the manifest
 pub added_tree : (m : Manifest) (t : Tree) → IsWell m → t ≡ manifest_tree m → IsTreeOfManifest t m

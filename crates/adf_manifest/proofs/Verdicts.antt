@@ -53,7 +53,8 @@ one_adds m n n' (RunLine run) g h = rw (g.told, one_entries m.entries g.some h.s
 pub first_lines : (n : Manifest) → IsFirst n → manifest_lines n ≡ volume_line n.preamble.kind n.preamble.blocks ∷ []
 first_lines n f = grind (arith, common_steps)
 
-first_is : (n : Manifest) → IsFirst n → let h : Preamble = record { kind = n.preamble.kind; blocks = n.preamble.blocks; label = None; stamps = None } in n ≡
+first_is : (n : Manifest) → IsFirst n
+    → let h : Preamble = record { kind = n.preamble.kind; blocks = n.preamble.blocks; label = None; stamps = None } in n ≡
     bare h
 first_is n f = grind (arith, common_steps)
 
@@ -80,11 +81,14 @@ same_told (suc f) m n small_f w v e =
           elim (last_line n v) [
             | inl q ↦ absurd (longer n m q p (sym e))
             | inr q ↦
-                let both = same_from_push (manifest_lines p.before) (manifest_lines q.before) (line_text p.last) (line_text q.last) (sym p.lines ∙ e ∙ q.lines) in
-                let before = same_told f p.before q.before (omega (arith, small_f, ap length p.lines, length-append (manifest_lines p.before) (line_text p.last ∷ []))) p.well q.well
+                let both = same_from_push (manifest_lines p.before) (manifest_lines q.before) (line_text p.last) (line_text q.last)
+                (sym p.lines ∙ e ∙ q.lines) in
+                let before = same_told f p.before q.before
+                (omega (arith, small_f, ap length p.lines, length-append (manifest_lines p.before) (line_text p.last ∷ []))) p.well q.well
                 both.0 in
                 let line = line_same p.last q.last p.is_line q.is_line both.1 in
-                let moved : Adds q.before q.last m = subst (λ (k : Manifest). Adds k q.last m) before (subst (λ (l : LineValue). Adds p.before l m) line p.adds) in
+                let moved : Adds q.before q.last m = subst (λ (k : Manifest). Adds k q.last m) before
+                (subst (λ (l : LineValue). Adds p.before l m) line p.adds) in
                 one_adds q.before m n q.last moved q.adds
           ]
     ]

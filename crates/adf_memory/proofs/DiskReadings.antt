@@ -22,7 +22,8 @@ module _ (bytes : List ℕ) (n : ℕ) where
   table_whole ps qs None t h d = ap (λ (ps : List Partition). table_disk (length ps) None) (one_disk bytes n h.0 t ps qs h.1 d).1
   table_whole ps qs (Some f) t h d = absurd (no_fault bytes n t qs f h.1 d)
 
-  pub table_fault : (ps qs : List Partition) (o : Option DiskFault) (f : DiskFault) → IsRead bytes n ps o → AreReadable bytes n qs → FirstFault bytes n f
+  pub table_fault : (ps qs : List Partition) (o : Option DiskFault) (f : DiskFault) → IsRead bytes n ps o → AreReadable bytes n qs
+      → FirstFault bytes n f
       → table_disk (length ps) o ≡ table_disk (length qs) (Some f)
   table_fault ps qs None f h r first = absurd (no_fault bytes n h.0 ps f first h.1)
   table_fault ps qs (Some g) f h r first =

@@ -51,7 +51,8 @@ filled_full (x ∷ xs) ys (r ∷ rs) le = ap (λ zs. x ∷ zs) (filled_full xs y
 -- data blocks that are put behind others, one by one
 pub blocks_more : (xs ds room now : List ℕ) (a i : ℕ) → a ≡ length xs → now ≡ filled (xs ++ take i ds) room → i < length ds → a + i < length now
     → set now (a + i) (get_or ds i 0) ≡ filled (xs ++ take (i + 1) ds) room
-blocks_more xs ds room now a i at e lt fits = grind (arith, common_steps, length_filled, length-append, length-take-le, append_assoc, take_more, filled_more)
+blocks_more xs ds room now a i at e lt fits =
+    grind (arith, common_steps, length_filled, length-append, length-take-le, append_assoc, take_more, filled_more)
 
 -- and where there is no more room
 pub blocks_full : (xs ds room now : List ℕ) (a i : ℕ) → a ≡ length xs → now ≡ filled (xs ++ take i ds) room → i ≤ length ds → length now ≤ a + i
@@ -85,8 +86,10 @@ filled_so n xs now room is front behind = grind (arith, common_steps, take-appen
 
 -- what fills the front part of a room, and the room behind that part
 pub filled_within : (m q : ℕ) (xs room : List ℕ) → m ≡ min (length room) q → filled xs (take m room) ++ drop m room ≡ filled (take q xs) room
-filled_within m q xs [] is = ap (λ ys. filled xs ys ++ drop m []) (take-nil m) ∙ ap (λ ys. ys ++ drop m []) (no_room xs) ∙ drop-nil m ∙ sym (no_room (take q xs))
-filled_within zero zero xs (r ∷ rs) is = ap (λ ys. ys ++ r ∷ rs) (no_room xs) ∙ sym (ap (λ ys. filled ys (r ∷ rs)) (take_zero xs) ∙ filled_none (r ∷ rs))
+filled_within m q xs [] is =
+    ap (λ ys. filled xs ys ++ drop m []) (take-nil m) ∙ ap (λ ys. ys ++ drop m []) (no_room xs) ∙ drop-nil m ∙ sym (no_room (take q xs))
+filled_within zero zero xs (r ∷ rs) is =
+    ap (λ ys. ys ++ r ∷ rs) (no_room xs) ∙ sym (ap (λ ys. filled ys (r ∷ rs)) (take_zero xs) ∙ filled_none (r ∷ rs))
 filled_within zero (suc q) xs (r ∷ rs) is = absurd (omega arith)
 filled_within (suc m) zero xs (r ∷ rs) is = absurd (omega arith)
 filled_within (suc m) (suc q) [] (r ∷ rs) is = grind (arith, common_steps, filled_none, take-append-drop)

@@ -22,8 +22,10 @@ module _ (c : Command (List (List ℕ))) (bytes : List ℕ) (words : List (List 
   unanswered_bytes (inr bad) = inr (words, are, bad)
 
   pub ends_in_memory : (input : List ℕ) (n : ℕ) (no_output no_errors : Bool) (o o' e e' : Option (List ℕ))
-      → RunEnds c words (Some input) false n no_output o o' no_errors e e' → RunEnds (in_memory c) bytes (Some input) false n no_output o o' no_errors e e'
-  ends_in_memory input n no_output no_errors o o' e e' h = grind (arith, common_steps, unanswered_words, unanswered_bytes, refused_bytes, bad_path_words)
+      → RunEnds c words (Some input) false n no_output o o' no_errors e e'
+      → RunEnds (in_memory c) bytes (Some input) false n no_output o o' no_errors e e'
+  ends_in_memory input n no_output no_errors o o' e e' h =
+      grind (arith, common_steps, unanswered_words, unanswered_bytes, refused_bytes, bad_path_words)
 
   pub consumed_in_memory : (input : List ℕ) (n consumed : ℕ) → IsConsumed c words input n consumed → IsConsumed (in_memory c) bytes input n consumed
   consumed_in_memory input n consumed h = record {

@@ -52,7 +52,8 @@ file_read image x table ds at is = elim (cases_lt at x.size) [
       let all : List ℕ = joined image kind ds in
       let long : length all ≡ chunk kind * length ds = joined_length image kind ds is.listed.whole (are_in is.listed) in
       let whole : joined image kind (front_blocks image here) ≡ all ++ behind =
-      ap (λ bs. joined image kind (front_blocks image bs)) (sym (take-append-drop (length ds) here) ∙ ap (λ bs. bs ++ drop (length ds) here) is.listed.front)
+      ap (λ bs. joined image kind (front_blocks image bs))
+      (sym (take-append-drop (length ds) here) ∙ ap (λ bs. bs ++ drop (length ds) here) is.listed.front)
       ∙ front_joined image kind ds (drop (length ds) here) (are_in is.listed) in
       let place = place_of kind at in
       let enough : chunk kind * (at / chunk kind) ≤ length (joined image kind (front_blocks image here)) =

@@ -70,5 +70,6 @@ module _ {Words : Type 0} (c : Command Words) (words : Words) (input : List ℕ)
 
   -- the run ends so in the caller's rooms, which are these where they have the same names
   pub moved_ends : (no_output' no_errors' : Bool) (o' e' : List ℕ) → (IsUnanswered c words → m' ≡ m) → (m' ≡ m → o ≡ o') → (l' ≡ l → e ≡ e')
-      → no_output ≡ no_output' → no_errors ≡ no_errors' → RunEnds c words (Some input) false n no_output' (Some []) (Some o') no_errors' (Some []) (Some e')
+      → no_output ≡ no_output' → no_errors ≡ no_errors'
+      → RunEnds c words (Some input) false n no_output' (Some []) (Some o') no_errors' (Some []) (Some e')
   moved_ends no_output' no_errors' o' e' same room_o room_e written told = grind (arith, common_steps, told, output_kept, errors_kept, room_ends)

@@ -63,7 +63,8 @@ place_of Ffs at = (omega arith, omega arith)
 
 -- a place so many bytes behind another
 place_behind : (kind : Kind) (at put : ℕ)
-    → ((at + put) / chunk kind ≡ at / chunk kind + (at % chunk kind + put) / chunk kind) × ((at + put) % chunk kind ≡ (at % chunk kind + put) % chunk kind)
+    → ((at + put) / chunk kind ≡ at / chunk kind + (at % chunk kind + put) / chunk kind)
+    × ((at + put) % chunk kind ≡ (at % chunk kind + put) % chunk kind)
 unfolding chunk
 place_behind Ofs at put = (omega arith, omega arith)
 place_behind Ffs at put = (omega arith, omega arith)
@@ -88,7 +89,8 @@ from_block image table kind at size same = ap (λ n. drop (at % n) (joined image
 pub bytes_here : (image table held : List ℕ) (kind : Kind) (at size : ℕ) → size ≡ chunk kind → at / size < length table
     → get_or table (at / size) 0 * 512 + 512 ≤ length image → held ≡ area kind (block image (get_or table (at / size) 0))
     → bytes_from image kind table at ≡ drop (at % size) held ++ joined image kind (front_blocks image (drop (suc (at / size)) table))
-bytes_here image table held kind at size same lt le is = grind (arith, common_steps, area_long, place_of, from_block, drop-cons, front_more, drop-append-le)
+bytes_here image table held kind at size same lt le is =
+    grind (arith, common_steps, area_long, place_of, from_block, drop-cons, front_more, drop-append-le)
 
 -- an image without a block has nothing
 pub bytes_of_no_block : (image table : List ℕ) (kind : Kind) (at : ℕ) → length image < 512 → bytes_from image kind table at ≡ []
@@ -112,7 +114,8 @@ area_size image held here kind b size e is le same = ap length (e ∙ ap (area k
 pub behind_more : (new old : List ℕ) (put next : ℕ) → put ≤ next → drop put new ≡ drop put old → drop next new ≡ drop next old
 behind_more new old put next le e =
     let z : next ≡ put + (next - put) = omega arith in
-    ap (λ n. drop n new) z ∙ sym (drop-drop (next - put) put new) ∙ ap (drop (next - put)) e ∙ drop-drop (next - put) put old ∙ ap (λ n. drop n old) (sym z)
+    ap (λ n. drop n new) z ∙ sym (drop-drop (next - put) put new) ∙ ap (drop (next - put)) e ∙ drop-drop (next - put) put old
+    ∙ ap (λ n. drop n old) (sym z)
 
 -- the kind matters only where the image has a block, and a slice up to the end of a table is the rest of it
 pub kind_read : (image table : List ℕ) (kind : Kind) (first at : ℕ) → (512 ≤ length image → kind ≡ kind_of image)

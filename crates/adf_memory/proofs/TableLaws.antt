@@ -59,7 +59,8 @@ told_length k (e ∷ es) (q ∷ qs) z = ap suc (told_length (k + length q.datas)
 pub datas_more : (qs : List Place) (i : ℕ) → i < length qs → all_datas (take (suc i) qs) ≡ all_datas (take i qs) ++ datas_at qs i
 datas_more [] i lt = absurd (omega arith)
 datas_more (q ∷ qs) zero lt = ap (λ ps. q.datas ++ all_datas ps) (take_zero qs) ∙ append-nil q.datas
-datas_more (q ∷ qs) (suc i) lt = ap (λ bs. q.datas ++ bs) (datas_more qs i (omega arith)) ∙ sym (append_assoc q.datas (all_datas (take i qs)) (datas_at qs i))
+datas_more (q ∷ qs) (suc i) lt =
+    ap (λ bs. q.datas ++ bs) (datas_more qs i (omega arith)) ∙ sym (append_assoc q.datas (all_datas (take i qs)) (datas_at qs i))
 
 -- no more than of all files
 pub datas_within : (qs : List Place) (i : ℕ) → length (all_datas (take i qs)) ≤ length (all_datas qs)
@@ -133,7 +134,13 @@ pub blocks_small : (image : List ℕ) (t : Tree) (l : Layout) (i first : ℕ) �
     → first ≡ length (all_datas (take i l.places)) → first + length (datas_at l.places i) < 2 ^ 32
 blocks_small image t l i first fits few lt is =
     let more = datas_more l.places i (omega (arith, fits.places)) in
-    omega (arith, ap length more, length-append (all_datas (take i l.places)) (datas_at l.places i), datas_within l.places (suc i), tables_small image l)
+    omega (
+      arith,
+      ap length more,
+      length-append (all_datas (take i l.places)) (datas_at l.places i),
+      datas_within l.places (suc i),
+      tables_small image l,
+    )
 
 -- also where they are given as a list
 pub next_small : (image : List ℕ) (t : Tree) (l : Layout) (i first : ℕ) (ds : List ℕ) → Fits image t l → length (owned image l) < 2 ^ 32
@@ -141,7 +148,8 @@ pub next_small : (image : List ℕ) (t : Tree) (l : Layout) (i first : ℕ) (ds 
 next_small image t l i first ds fits few lt is next = grind (arith, common_steps, blocks_small)
 
 -- and with those of the next file
-pub count_more : (l : Layout) (i first more : ℕ) → i < length l.places → first ≡ length (all_datas (take i l.places)) → more ≡ length (datas_at l.places i)
+pub count_more : (l : Layout) (i first more : ℕ) → i < length l.places → first ≡ length (all_datas (take i l.places))
+    → more ≡ length (datas_at l.places i)
     → first + more ≡ length (all_datas (take (i + 1) l.places))
 count_more l i first more lt is next = grind (arith, common_steps, datas_more, length-append)
 
@@ -158,7 +166,8 @@ pub whole_blocks : (l : Layout) (i : ℕ) → length l.places ≤ i → all_data
 whole_blocks l i le = ap all_datas (take_all i l.places le)
 
 -- and all entries
-pub whole_entries : (t : Tree) (l : Layout) (i : ℕ) → length l.places ≡ length t.entries → length t.entries ≤ i → take i (entry_table t l) ≡ entry_table t l
+pub whole_entries : (t : Tree) (l : Layout) (i : ℕ) → length l.places ≡ length t.entries → length t.entries ≤ i
+    → take i (entry_table t l) ≡ entry_table t l
 whole_entries t l i z le = take_all i (entry_table t l) (omega (arith, told_length 0 t.entries l.places z))
 
 -- the next entry of the table
@@ -177,5 +186,7 @@ pub used_small : (image : List ℕ) (t : Tree) (l : Layout) (n : Counts) (x : Co
 used_small image t l n x counts all is = grind (arith, common_steps)
 
 -- there are fewer entries and data blocks than blocks in use
-pub contents_small : (image : List ℕ) (t : Tree) (l : Layout) (x : Contents) → Fits image t l → x ≡ contents_of image t l → x.entries + x.data_blocks < x.used
-contents_small image t l x fits is = subst (λ (y : Contents). y.entries + y.data_blocks < y.used) (sym is) (omega (arith, tables_small image l, fits.places))
+pub contents_small : (image : List ℕ) (t : Tree) (l : Layout) (x : Contents) → Fits image t l → x ≡ contents_of image t l
+    → x.entries + x.data_blocks < x.used
+contents_small image t l x fits is =
+    subst (λ (y : Contents). y.entries + y.data_blocks < y.used) (sym is) (omega (arith, tables_small image l, fits.places))

@@ -68,7 +68,8 @@ module _ {xs : List TableEntry} {es : List Entry} (has : HasNamesOf xs es) where
     before_start from within point = child_not_before es p name s from slot (parted (λ r. nat_lt r (rank_of p s)) from within (point in_order))
 
     -- what stands before the chain, or before the directory
-    pub before_both : (from at : ℕ) → from ≤ length xs → p ≤ length xs → at ≡ max from p → (IsNonDecreasingBy rank_in xs → IsStart xs (rank_of p s) from)
+    pub before_both : (from at : ℕ) → from ≤ length xs → p ≤ length xs → at ≡ max from p
+        → (IsNonDecreasingBy rank_in xs → IsStart xs (rank_of p s) from)
         → (k : ℕ) (d : Entry) → k < at → is_child p name (get_or es k d) ≡ false
     before_both from at within inside is point k d low =
         elim (cases_lt k from) [
@@ -85,7 +86,8 @@ module _ {xs : List TableEntry} {es : List Entry} (has : HasNamesOf xs es) where
         sym (no_children es p name (child_not_past es p name s to i slot has.order at past others))
 
   pub one_more : (p : ℕ) (name : List ℕ) (i : ℕ) (x : TableEntry) (is : Bool) → i < length xs → is ≡ is_child_in p name (get_or xs i x) → is ≡ false
-      → ((k : ℕ) (d : Entry) → k < i → is_child p name (get_or es k d) ≡ false) → (k : ℕ) (d : Entry) → k < i + 1 → is_child p name (get_or es k d) ≡ false
+      → ((k : ℕ) (d : Entry) → k < i → is_child p name (get_or es k d) ≡ false) → (k : ℕ) (d : Entry) → k < i + 1
+      → is_child p name (get_or es k d) ≡ false
   one_more p name i x is lt told other others k d low =
       elim (cases_lt k i) [
         | inl less ↦ others k d less

@@ -21,7 +21,13 @@ pub no_text : (bytes rest word after : List ℕ) (done : List (List ℕ)) → be
 no_text bytes rest word after done split cut bad words h =
     let whole : words ++ [] ∷ [] ≡ done ++ word ∷ between_zeros after = sym h.ended ∙ (split ∙ ap (λ ps. done ++ ps) cut) in
     let within : length done < length words =
-    omega (arith, ap length whole, length-append words ([] ∷ []), length-append done (word ∷ between_zeros after), length-slice_split is_zero after) in
+    omega (
+      arith,
+      ap length whole,
+      length-append words ([] ∷ []),
+      length-append done (word ∷ between_zeros after),
+      length-slice_split is_zero after,
+    ) in
     let same : get_or words (length done) word ≡ word =
     sym (get_or_append_left words ([] ∷ []) word (length done) within)
     ∙ (ap (λ zs. get_or zs (length done) word) whole ∙ get_or-append_seam done word (between_zeros after) word) in

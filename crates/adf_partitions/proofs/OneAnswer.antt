@@ -133,7 +133,8 @@ one_reading bytes n (cut {ps = ps} {f = f} h w) (whole {t = t} {ps = qs} d) = ab
 one_reading bytes n (cut {t = t} {ps = ps} {f = f} h w) (cut {t = u} {ps = qs} {f = g} k v) =
     let same = one_tables h k in
     ap (λ (t : Tables). with_all_lost bytes n t t ps MOST_TABLES) same
-    ∙ ap (λ (ps : List Partition). with_all_lost bytes n u u ps MOST_TABLES) (one_cut bytes n u (subst (λ (t : Tables). IsCut bytes n t ps f) same w) v)
+    ∙ ap (λ (ps : List Partition). with_all_lost bytes n u u ps MOST_TABLES)
+    (one_cut bytes n u (subst (λ (t : Tables). IsCut bytes n t ps f) same w) v)
 one_reading bytes n (cut h w) (bare k) = absurd (some_tables h (no_rdsk k))
 one_reading bytes n (cut h w) (other r s) = absurd (some_tables h (other_size r s))
 one_reading bytes n (bare h) (whole d) = absurd (some_tables d.tables (no_rdsk h))

@@ -84,4 +84,5 @@ pub one_text_fault : (text : List ℕ) (f g : TextFault) → IsTextFault text f 
 one_text_fault text f g (inl h) (inl k) = same_fault f g (h.0 ∙ sym k.0) (h.1 ∙ sym k.1)
 one_text_fault text f g (inl h) (inr (b, d, lines, line, fault)) = absurd (h.2 b.sectors b.heads lines.0)
 one_text_fault text f g (inr (a, e, lines, line, fault)) (inl k) = absurd (k.2 a.sectors a.heads lines.0)
-one_text_fault text f g (inr (a, e, lines, line, fault)) (inr (b, d, others, at, other)) = grind (arith, common_steps, fault, one_end, same_fault, one_kind)
+one_text_fault text f g (inr (a, e, lines, line, fault)) (inr (b, d, others, at, other)) =
+    grind (arith, common_steps, fault, one_end, same_fault, one_kind)

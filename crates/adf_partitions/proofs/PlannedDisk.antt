@@ -85,7 +85,8 @@ left_rest plan k low p ps l = record {
 abbrev StandThere : List ℕ → PlanValue → ℕ → ℕ → List PartitionPlan → Type 0
 StandThere bytes plan k low [] = Unit {0}
 StandThere bytes plan k low (p ∷ ps) =
-    (block bytes (k + 1) ≡ part_block plan (k + 1) low p) × ((k + 1) * 512 + 512 ≤ length bytes) × StandThere bytes plan (k + 1) (low + p.cylinders) ps
+    (block bytes (k + 1) ≡ part_block plan (k + 1) low p) × ((k + 1) * 512 + 512 ≤ length bytes) × StandThere bytes plan (k + 1)
+    (low + p.cylinders) ps
 
 -- a block behind a front
 block_behind : (front b rest : List ℕ) (k : ℕ) → length front ≡ k * 512 → length b ≡ 512 → block (front ++ (b ++ rest)) k ≡ b
@@ -155,7 +156,21 @@ module _ (plan : PlanValue) (h : IsPlan plan) where
 
     no_fault : first_failed (tests (place_of b)) ≡ None
     no_fault =
-        grind (arith, common_steps, tests, part-place, fits, within, part-environment, part-blocks, part-cylinders, in_disk, beside, apart, part-has_name)
+        grind (
+          arith,
+          common_steps,
+          tests,
+          part-place,
+          fits,
+          within,
+          part-environment,
+          part-blocks,
+          part-cylinders,
+          in_disk,
+          beside,
+          apart,
+          part-has_name,
+        )
 
     placed_there : placed (place_of b) (first_failed (place_form (planned_blocks plan) (planned_tables plan) done b)) ≡ Ok place
     placed_there = ap (placed (place_of b)) no_fault ∙ ap Ok (part-place plan h (k + 1) low p fits within)
@@ -199,7 +214,8 @@ module _ (plan : PlanValue) (h : IsPlan plan) where
       (sym (part-next plan h (k + 1) low p first inside (omega arith))) in
       let later_blocks = before_push (k + 1) (low * c) (k + 1 + 1) ((low + p.cylinders) * c) done q before (omega arith)
       (mul-le low c (low + p.cylinders) c (omega arith) (omega arith)) (omega arith) (omega arith) in
-      subst (IsWhole bytes (planned_blocks plan) (planned_tables plan)) (append_assoc done (q ∷ []) (partitions_from c (k + 1 + 1) (low + p.cylinders) ps))
+      subst (IsWhole bytes (planned_blocks plan) (planned_tables plan))
+      (append_assoc done (q ∷ []) (partitions_from c (k + 1 + 1) (low + p.cylinders) ps))
       (found_all bytes (k + 1) (low + p.cylinders) (k + 1) ps (done ++ q ∷ []) (left_rest plan k low p ps l) there.2 later_blocks
       (omega (arith, length_push done q)) next)
 
@@ -212,7 +228,20 @@ module _ (plan : PlanValue) (h : IsPlan plan) where
 
   are_tables : (rest : List ℕ) → IsTables (rdsk_block plan ++ rest) (planned_tables plan)
   are_tables rest =
-      grind (arith, common_steps, rdsk_there, of_le, length-append, length_rdsk, rdsk_mark, rdsk-summed, rdsk-size, rdsk-first, rdsk-lowest, rdsk-highest)
+      grind (
+        arith,
+        common_steps,
+        rdsk_there,
+        of_le,
+        length-append,
+        length_rdsk,
+        rdsk_mark,
+        rdsk-summed,
+        rdsk-size,
+        rdsk-first,
+        rdsk-lowest,
+        rdsk-highest,
+      )
 
   disk_behind : (rest : List ℕ) → IsDisk (written_bytes plan ++ rest) (planned_blocks plan) (planned_tables plan) (planned_partitions plan)
   disk_behind rest =

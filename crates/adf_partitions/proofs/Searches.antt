@@ -55,4 +55,5 @@ module _ (bytes : List ℕ) (n : ℕ) (t kept : Tables) (ps : List Partition) wh
   pub some_lost : (k m : ℕ) (found : List Partition) → found ≡ with_all_lost bytes n t kept ps k → is_lost bytes kept found k ≡ true → k < m
       → with_all_lost bytes n t kept ps m ≢ []
   some_lost k m found h e lt =
-      some_later (k + 1) m (omega arith) (subst (λ (qs : List Partition). qs ≢ []) (put_lost k found h e) (pushed found (partition_at bytes n t found k)))
+      some_later (k + 1) m (omega arith) (subst (λ (qs : List Partition). qs ≢ []) (put_lost k found h e)
+      (pushed found (partition_at bytes n t found k)))

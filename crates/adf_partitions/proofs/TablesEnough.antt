@@ -122,7 +122,8 @@ module _ (bytes rest : List ℕ) (enough : RDSK_BLOCKS * 512 ≤ length bytes) w
   lack_tells f = let s = start_agrees bytes rest enough in (same_lack s, same_lack (start_back s))
 
 module _ (bytes rest : List ℕ) (n : ℕ) (t : Tables) (enough : HoldsTables bytes t) where
-  pub disk_tells : (ps : List Partition) → (IsDisk bytes n t ps → IsDisk (bytes ++ rest) n t ps) × (IsDisk (bytes ++ rest) n t ps → IsDisk bytes n t ps)
+  pub disk_tells : (ps : List Partition)
+      → (IsDisk bytes n t ps → IsDisk (bytes ++ rest) n t ps) × (IsDisk (bytes ++ rest) n t ps → IsDisk bytes n t ps)
   disk_tells ps =
       let s = start_agrees bytes rest enough.0 in
       let l = tables_agree bytes rest t enough.1 in (

@@ -96,11 +96,13 @@ module _ (plan : PlanValue) (h : IsPlan plan) (b low : ℕ) (p : PartitionPlan) 
 
   pub part-mark : word (part_block plan b low p) MARK ≡ PART
   unfolding part_block
-  part-mark = word_written (part_table plan b low p) part_descends MARK 0 (part_words plan b p) (search rules) (omega arith) (omega arith) (omega arith)
+  part-mark =
+      word_written (part_table plan b low p) part_descends MARK 0 (part_words plan b p) (search rules) (omega arith) (omega arith) (omega arith)
 
   part-longs : word (part_block plan b low p) SUMMED_LONGS ≡ 64
   unfolding part_block
-  part-longs = word_written (part_table plan b low p) part_descends MARK 1 (part_words plan b p) (search rules) (omega arith) (omega arith) (omega arith)
+  part-longs =
+      word_written (part_table plan b low p) part_descends MARK 1 (part_words plan b p) (search rules) (omega arith) (omega arith) (omega arith)
 
   pub part-summed : is_summed (part_block plan b low p) ≡ true
   unfolding part_block

@@ -25,7 +25,8 @@ front_ends StreamNoMemory w answers o o' e d h = rw e (inr (rw d at h))
 
 -- what is done with the bytes that are read is done with the whole input, where that is known and what answers a long front answers the whole
 pub read_ends : (w : Outcome) (limit : ℕ) (answers : List ℕ → Reply → Type 0) (image : List ℕ) (left o o' : Option (List ℕ))
-    → ((bytes : List ℕ) → image ≡ take (limit + 1) bytes → limit < length image → limit < length bytes → (reply : Reply) → answers image reply → answers bytes reply)
+    → ((bytes : List ℕ) → image ≡ take (limit + 1) bytes → limit < length image → limit < length bytes
+    → (reply : Reply) → answers image reply → answers bytes reply)
     → IfSome left (λ bytes. image ≡ take (limit + 1) bytes)
     → EndsBy (answers image) w o o' → IfSome left (λ bytes. EndsBy (answers bytes) w o o')
 read_ends w limit answers image None o o' both e h = tt

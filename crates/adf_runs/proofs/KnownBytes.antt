@@ -15,7 +15,8 @@ appends_two (Some x) (Some y) None bs cs all e p q = absurd q
 appends_two (Some x) (Some y) (Some z) bs cs all e p q = rw (e, q, p, append_assoc)
 
 -- a write of the rest adds to the prefix that was written
-pub appends_more : (a b c : Option (List ℕ)) (at n : ℕ) (bytes part : List ℕ) → part ≡ drop at bytes → Appends a b (take at bytes) → Appends b c (take n part)
+pub appends_more : (a b c : Option (List ℕ)) (at n : ℕ) (bytes part : List ℕ) → part ≡ drop at bytes → Appends a b (take at bytes)
+    → Appends b c (take n part)
     → Appends a c (take (at + n) bytes)
 appends_more a b c at n bytes part e p q = appends_two a b c _ _ _ (rw e (take-add at n bytes)) p q
 
@@ -35,8 +36,11 @@ read_front filled n before part rest e h =
 -- more is taken
 pub more_counted : (n k : ℕ) (a b c : Option (List ℕ)) (part : List ℕ) → TakesCount n a b → k ≤ length part
     → Consumes b c (take k part) → TakesCount (n + k) a c
-more_counted n k a b c part (bs, len, taken) few more =
-    (bs ++ take k part, omega (arith, len, length-append bs (take k part), length-take-le k part few), consumes_more a b c bs (take k part) _ refl taken more)
+more_counted n k a b c part (bs, len, taken) few more = (
+  bs ++ take k part,
+  omega (arith, len, length-append bs (take k part), length-take-le k part few),
+  consumes_more a b c bs (take k part) _ refl taken more,
+)
 
 pub two_at_most : (n m k : ℕ) (a b c : Option (List ℕ)) → n + m ≤ k → TakesAtMost n a b → TakesAtMost m b c → TakesAtMost k a c
 two_at_most n m k a b c few (bs, l, x) (cs, r, y) = (bs ++ cs, omega (arith, length-append bs cs), consumes_more a b c bs cs _ refl x y)

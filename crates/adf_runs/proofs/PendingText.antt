@@ -12,7 +12,8 @@ appends_nil (Some x) = sym (append-nil x)
 pub pending_begun : (a : Option (List ℕ)) (text done : List ℕ) → done ≡ text → Pending a a text done
 pending_begun a text done e = ([], appends_nil a, e)
 
-pub pending_more : (a b : Option (List ℕ)) (text done more done' : List ℕ) → done' ≡ done ++ more → Pending a b text done → Pending a b (text ++ more) done'
+pub pending_more : (a b : Option (List ℕ)) (text done more done' : List ℕ) → done' ≡ done ++ more → Pending a b text done
+    → Pending a b (text ++ more) done'
 pending_more a b text done more done' e p = (p.0, p.1, rw (e, p.2, append_assoc))
 
 pub pending_end : (a b c : Option (List ℕ)) (text done : List ℕ) → Pending a b text done → Appends b c text → Appends a c done

@@ -13,7 +13,8 @@ use Rattle.adf_shelf_cmd.specs.Lines.{AreBatchLines, BreaksLine, IsOpenedReport,
 use Rattle.adf_shelf_cmd.specs.Names.{AreGiven}
 
 -- what was said, and a text behind it
-pub says_more : (failed failed' : Bool) (e e' e'' : Option (List ℕ)) (said text : List ℕ) → Says failed e e' said → SaysMore failed e' failed' e'' text
+pub says_more : (failed failed' : Bool) (e e' e'' : Option (List ℕ)) (said text : List ℕ) → Says failed e e' said
+    → SaysMore failed e' failed' e'' text
     → Says failed' e e'' (said ++ text)
 says_more true true e e' e'' said text p q = subst (λ k. Says true e k (said ++ text)) (sym (q.1)) (part_of_more e e' said text p)
 says_more true false e e' e'' said text p q = absurd (cc)
@@ -72,20 +73,22 @@ pub started : (may : Reports) (a : Option (List (List ℕ))) (o : Option (List �
 unfolding AreBatchLines
 started may a o failed e works = ([], [], given_none a, ([], (refl, refl, refl), appends_nil o), says_none failed e works)
 
-pub stepped : (may : Reports) (a b c : Option (List (List ℕ))) (s t : ℕ) (o o' o'' : Option (List ℕ)) (failed failed' : Bool) (e e' e'' : Option (List ℕ))
+pub stepped : (may : Reports) (a b c : Option (List (List ℕ))) (s t : ℕ) (o o' o'' : Option (List ℕ))
+    (failed failed' : Bool) (e e' e'' : Option (List ℕ))
     (name : List ℕ) → Progress may a b s o o' failed e e' → AreGiven b c (name ∷ []) → Line may name t o' o'' failed e' failed' e''
     → Progress may a c (max s t) o o'' failed' e e''
-stepped may a b c s t o o' o'' failed failed' e e' e'' name (names, said, given, (output, lines, written), says) one (text, why, tells, more, says_one) = (
-  names ++ name ∷ [],
-  said ++ why_line name why,
-  given_more a b c names (name ∷ []) given one,
-  (
-    output ++ batch_line name text,
-    lines_added may names s t output said name text why lines tells,
-    appends_two o o' o'' output (batch_line name text) _ refl written more,
-  ),
-  says_more failed failed' e e' e'' said (why_line name why) says says_one,
-)
+stepped may a b c s t o o' o'' failed failed' e e' e'' name (names, said, given, (output, lines, written), says) one
+    (text, why, tells, more, says_one) = (
+      names ++ name ∷ [],
+      said ++ why_line name why,
+      given_more a b c names (name ∷ []) given one,
+      (
+        output ++ batch_line name text,
+        lines_added may names s t output said name text why lines tells,
+        appends_two o o' o'' output (batch_line name text) _ refl written more,
+      ),
+      says_more failed failed' e e' e'' said (why_line name why) says says_one,
+    )
 
 -- no more line was begun
 pub stopped : (may : Reports) (a b : Option (List (List ℕ))) (s : ℕ) (broke : Bool) (o o' : Option (List ℕ)) (failed : Bool) (e e' : Option (List ℕ))
@@ -97,7 +100,8 @@ stopped may (Some x) (Some (n ∷ ns)) s true o o' failed e e' works (names, sai
 stopped may (Some x) (Some (n ∷ ns)) s false o o' failed e e' works (names, said, given, written, says) = grind (arith, common_steps)
 
 -- the line of one name more was begun where output failed, else nothing was written
-pub broken : (may : Reports) (a b c : Option (List (List ℕ))) (s : ℕ) (broke : Bool) (o o' o'' : Option (List ℕ)) (failed : Bool) (e e' : Option (List ℕ))
+pub broken : (may : Reports) (a b c : Option (List (List ℕ))) (s : ℕ) (broke : Bool) (o o' o'' : Option (List ℕ))
+    (failed : Bool) (e e' : Option (List ℕ))
     (name : List ℕ) → Progress may a b s o o' failed e e' → AreGiven b c (name ∷ []) → BreaksLine may name broke o' o''
     → (said : List ℕ) × WritesPart may a broke o o'' said × Says failed e e' said
 broken may None b c s broke o o' o'' failed e e' name (names, said, given, written, says) one breaks =
@@ -107,7 +111,8 @@ broken may (Some x) (Some y) None s broke o o' o'' failed e e' name (names, said
 broken may (Some x) (Some y) (Some z) s broke o o' o'' failed e e' name (names, said, given, written, says) one breaks = grind (arith, common_steps)
 
 -- what is reported of the bytes that a source gives is reported of the known bytes of its file
-pub report_known : (known left : Option (List ℕ)) (m n : Bool) (s : ℕ) (text : List ℕ) → IfSome known (λ bytes. left ≡ Some bytes) → (m ≡ false → n ≡ false)
+pub report_known : (known left : Option (List ℕ)) (m n : Bool) (s : ℕ) (text : List ℕ) → IfSome known (λ bytes. left ≡ Some bytes)
+    → (m ≡ false → n ≡ false)
     → IsOpenedReport left n s text → IsOpenedReport known m s text
 report_known None left m n s text e fails (inl h) = inl (h.0, tt, h.2)
 report_known None left true n s text e fails (inr (inl h)) = inr (inl (refl, h.1, h.2))

@@ -51,8 +51,10 @@ same_leads image bytes (name ∷ names) n h = absurd h.1.0.3
 same_found : (damaged : Bool) (image bytes : List ℕ) (names : List (List ℕ)) (reply : Reply) → CopiesFound damaged image [] bad_size names reply
     → CopiesFound damaged bytes [] bad_size names reply
 same_found damaged image bytes names reply (inl (none, e)) = inl ((λ n h. none n (same_leads bytes image names n h)), e)
-same_found false image bytes names reply (inr (n, leads, inl (none, e))) = inr (n, same_leads image bytes names n leads, inl ((λ h at. at.header.has), e))
-same_found true image bytes names reply (inr (n, leads, inl (none, e))) = inr (n, same_leads image bytes names n leads, inl ((λ h at. at.header.has), e))
+same_found false image bytes names reply (inr (n, leads, inl (none, e))) =
+    inr (n, same_leads image bytes names n leads, inl ((λ h at. at.header.has), e))
+same_found true image bytes names reply (inr (n, leads, inl (none, e))) =
+    inr (n, same_leads image bytes names n leads, inl ((λ h at. at.header.has), e))
 same_found true image bytes names reply (inr (n, leads, inr (file, e))) = absurd file.1.header.has
 same_found false image bytes names reply (inr (n, leads, inr (inl (file, damage, e)))) = absurd file.1.header.has
 same_found false image bytes names reply (inr (n, leads, inr (inr (sound, e)))) = absurd sound.0.header.has

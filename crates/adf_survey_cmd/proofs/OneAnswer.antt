@@ -34,7 +34,8 @@ module _ (image : List ℕ) (w : List (Role × ℕ)) where
   sound_is_file : (fs : List FindingValue) (n : ℕ) → IsSoundFile image w fs n → (h : ℕ) × FileAt image w n h
   sound_is_file fs n s = (node_block w n, record { header = s.0.header; type = s.1 })
 
-  entry_once : (damaged : Bool) (fs : List FindingValue) (n : ℕ) (a b : Reply) → CopiesEntry damaged image w fs n a → CopiesEntry damaged image w fs n b → a ≡ b
+  entry_once : (damaged : Bool) (fs : List FindingValue) (n : ℕ) (a b : Reply) → CopiesEntry damaged image w fs n a
+      → CopiesEntry damaged image w fs n b → a ≡ b
   entry_once false fs n a b (inl (none, x)) (inl (never, y)) = x ∙ sym y
   entry_once false fs n a b (inl (none, x)) (inr (inl (file, damage, y))) = absurd (none file.0 file.1)
   entry_once false fs n a b (inl (none, x)) (inr (inr (sound, y))) = let file = sound_is_file fs n sound in absurd (none file.0 file.1)
@@ -63,7 +64,8 @@ one_marks : (image : List ℕ) (w : List (Role × ℕ)) (fs : List FindingValue)
     → AreMarks image w fs others → sound ≡ others
 one_marks image w fs sound others p q = grind (arith, common_steps, same_tests)
 
-found_told_once : (image : List ℕ) (w : List (Role × ℕ)) (fs : List FindingValue) (a b : Reply) → TellsFound image w fs a → TellsFound image w fs b → a ≡ b
+found_told_once : (image : List ℕ) (w : List (Role × ℕ)) (fs : List FindingValue) (a b : Reply) → TellsFound image w fs a → TellsFound image w fs b
+    → a ≡ b
 found_told_once image w fs a b (date, dates, sound, marks, x) (other, others, tests, also, y) =
     x ∙ ap (λ d. on_output (findings_status fs) (listing_text d sound image w fs)) (one_dates date other dates others)
     ∙ ap (λ m. on_output (findings_status fs) (listing_text other m image w fs)) (one_marks image w fs sound tests marks also) ∙ sym y
@@ -74,7 +76,8 @@ listed_once image a b (w, fs, s, x) (u, gs, t, y) =
     let moved = subst (λ v. TellsFound image v fs a) same.0 x in
     found_told_once image u gs a b (subst (λ hs. TellsFound image u hs a) same.1 moved) y
 
-copied_once : (damaged : Bool) (path image : List ℕ) (a b : Reply) → CopiesFromSurvey damaged path image a → CopiesFromSurvey damaged path image b → a ≡ b
+copied_once : (damaged : Bool) (path image : List ℕ) (a b : Reply) → CopiesFromSurvey damaged path image a → CopiesFromSurvey damaged path image b
+    → a ≡ b
 copied_once damaged path image a b (names, text, w, fs, s, x) (others, also, u, gs, t, y) =
     let same = one_survey image w u fs gs s t in
     let walk = subst (λ v. CopiesFound damaged image v fs names a) same.0 x in
@@ -85,7 +88,8 @@ copied_once damaged path image a b (names, text, w, fs, s, x) (others, also, u, 
 volume_once : (l : Basis) (m : Option Basis) (a b : Reply) → WritesVolume l m a → WritesVolume l m b → a ≡ b
 volume_once l m a b (one, laid, size, x) (other, also, long, y) = grind (arith, common_steps)
 
-by_surveys_once : (input : List ℕ) (l : Basis) (m : Option Basis) (fs : List FindingValue) (a b : Reply) → RescuesBy input l m fs a → RescuesBy input l m fs b
+by_surveys_once : (input : List ℕ) (l : Basis) (m : Option Basis) (fs : List FindingValue) (a b : Reply) → RescuesBy input l m fs a
+    → RescuesBy input l m fs b
     → a ≡ b
 by_surveys_once input l m fs a b (inl (none, x)) (inl (also, y)) = refused_once input a b x y
 by_surveys_once input l m fs a b (inl (none, x)) (inr (some, y)) = absurd (some none)

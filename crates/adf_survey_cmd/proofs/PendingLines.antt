@@ -17,7 +17,8 @@ pub part_before : {failed : Bool} (b c : Option (List ℕ)) (text more whole : L
 part_before {failed = failed} b c text more whole e q = subst (λ t. AppendsPart failed b c t) e (part_of_more b c text more q)
 
 -- what is written is a front part, if the device has not failed
-pub pending_stops : {failed : Bool} (a b : Option (List ℕ)) (text done : List ℕ) → failed ≡ false → Pending a b text done → AppendsPart failed a b done
+pub pending_stops : {failed : Bool} (a b : Option (List ℕ)) (text done : List ℕ) → failed ≡ false → Pending a b text done
+    → AppendsPart failed a b done
 pending_stops a b text done works p = (p.0, text, p.2, (λ fails. let clash : false ≡ true = sym works ∙ fails in cc), p.1)
 
 -- where what waits is not all written, a front part is

@@ -40,7 +40,8 @@ pub if_some : {X : Type 0} (o : Option X) (x : X) (P : X → Type 0) → o ≡ S
 if_some o x P e h = subst (λ o. IfSome o P) e h
 
 -- what is answered by the survey of an opened image, and by that of a second one, if there is one
-pub found_answers : (input image : List ℕ) (w : List (Role × ℕ)) (fs : List FindingValue) (sound : ℕ → Bool) (second : Option (List ℕ)) (reply : Reply)
+pub found_answers : (input image : List ℕ) (w : List (Role × ℕ)) (fs : List FindingValue) (sound : ℕ → Bool)
+    (second : Option (List ℕ)) (reply : Reply)
     → image ≡ opened input → IsSurvey image w fs → AreMarks image w (grave fs) sound → second_image image w fs ≡ second
     → RescuesBoth input (record { image = image; walk = w; sound = sound }) second fs reply → Rescues input reply
 found_answers input image w fs sound second reply same survey marks is by =
@@ -58,7 +59,8 @@ pub one_hung : (image : List ℕ) (w : List (Role × ℕ)) (fs : List FindingVal
 one_hung image w fs v some is = grind (arith, common_steps, cond-true)
 
 -- no tree fits an image that has a fault as it is
-pub none_fits_it : (image : List ℕ) (w : List (Role × ℕ)) (fs : List FindingValue) (mended : Bool) → mended ≡ false → IsSurvey image w fs → HasFault mended fs
+pub none_fits_it : (image : List ℕ) (w : List (Role × ℕ)) (fs : List FindingValue) (mended : Bool) → mended ≡ false → IsSurvey image w fs
+    → HasFault mended fs
     → (t : Tree) (l : Layout) → Fits image t l → ⊥
 none_fits_it image w fs mended kept survey (inl is) t l fits = absurd cc
 none_fits_it image w fs mended kept survey (inr some) t l fits = some (finds_none image t l w fs fits survey)

@@ -63,7 +63,8 @@ module _ (w : List (Role × ℕ)) where
 
 module _ (image : List ℕ) (w : List (Role × ℕ)) where
   -- the line of a run, and those that are to come
-  pub line_first : (r : Run) (rest fs : List FindingValue) (text text' : List ℕ) → r ∷ runs w rest ≡ runs w fs → text' ≡ text ++ findings_line image w r
+  pub line_first : (r : Run) (rest fs : List FindingValue) (text text' : List ℕ) → r ∷ runs w rest ≡ runs w fs
+      → text' ≡ text ++ findings_line image w r
       → text' ++ findings_text image w rest ≡ text ++ findings_text image w fs
   line_first r rest fs text text' e t =
       ap (λ l. l ++ findings_text image w rest) t ∙ append_assoc text (findings_line image w r) (findings_text image w rest)

@@ -22,7 +22,8 @@ abbrev behind : List ℕ → List ℕ → Bool → List ℕ
 behind text part is_first = text ++ ((if is_first then [] else 47 ∷ []) ++ part)
 
 -- one part more, joined to the others
-joined_more : (parts : List (List ℕ)) (part : List ℕ) → join_with_byte 47 (parts ++ part ∷ []) ≡ behind (join_with_byte 47 parts) part (length parts == 0)
+joined_more : (parts : List (List ℕ)) (part : List ℕ)
+    → join_with_byte 47 (parts ++ part ∷ []) ≡ behind (join_with_byte 47 parts) part (length parts == 0)
 joined_more [] part = refl
 joined_more (first ∷ []) part = refl
 joined_more (first ∷ next ∷ rest) part =
@@ -57,4 +58,5 @@ one_text path names = ap (join_with_byte 47) (parts path names)
     parts : (path : List (List ℕ)) → All IsName path → map spelled path ≡ map escaped path
     parts [] names = refl
     parts (name ∷ rest) names =
-        ap (λ text. text ∷ map spelled rest) (spelled_name name (All-head IsName name rest names)) ∙ ap (λ ps. escaped name ∷ ps) (parts rest (All-tail IsName name rest names))
+        ap (λ text. text ∷ map spelled rest) (spelled_name name (All-head IsName name rest names))
+        ∙ ap (λ ps. escaped name ∷ ps) (parts rest (All-tail IsName name rest names))

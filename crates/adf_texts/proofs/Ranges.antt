@@ -13,7 +13,8 @@ flat_map_next f a n next e =
     simp (flat_map-map, flat_map-append, append-nil) at more
 
 -- what is joined over fewer numbers stands in front
-pub flat_map_front : (f : ℕ → List ℕ) (a k n : ℕ) → k ≤ n → (rest : List ℕ) × (flat_map f (range_with_len a n) ≡ flat_map f (range_with_len a k) ++ rest)
+pub flat_map_front : (f : ℕ → List ℕ) (a k n : ℕ) → k ≤ n
+    → (rest : List ℕ) × (flat_map f (range_with_len a n) ≡ flat_map f (range_with_len a k) ++ rest)
 flat_map_front f a zero n h = (flat_map f (range_with_len a n), refl)
 flat_map_front f a (suc k) zero h = absurd (omega arith)
 flat_map_front f a (suc k) (suc n) h = let more = flat_map_front f (a + 1) k n (omega arith) in (more.0, rw (more.1, append_assoc))

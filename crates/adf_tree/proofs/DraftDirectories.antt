@@ -112,7 +112,8 @@ module _ {drafts : List Entry} {numbers : Numbers} {kind : Kind} {label : List â
         record {
           within = omega (arith, at.within);
           leads = rw (walked_more drafts (put_in room meta body), node_old (walk drafts).nodes n m (omega arith) at.within)
-              (from_root (walk drafts).entries (in_tree (walk drafts).nodes (put_in room meta body)) other (node_of (walk drafts).nodes m) h.gives.tree may_put at.leads);
+              (from_root (walk drafts).entries (in_tree (walk drafts).nodes (put_in room meta body)) other
+              (node_of (walk drafts).nodes m) h.gives.tree may_put at.leads);
         }
 
     is_new : body â‰¡ Dir
@@ -126,7 +127,8 @@ module _ {drafts : List Entry} {numbers : Numbers} {kind : Kind} {label : List â
           within = omega arith;
           leads = rw (walked_more drafts (put_in room meta body), node_new (walk drafts).nodes n (length (walk drafts).nodes + 1) refl)
               (ap (directory_from (walk_more (walk drafts) (put_in room meta body)).entries 0) fresh.is
-              âˆ™ new_directory (walk drafts).entries (in_tree (walk drafts).nodes (put_in room meta body)) (parents_of path) h.gives.tree fresh.room dir);
+              âˆ™ new_directory (walk drafts).entries (in_tree (walk drafts).nodes (put_in room meta body))
+              (parents_of path) h.gives.tree fresh.room dir);
         }
 
     module _ {E : Type 0} (new : List Entry) (r : Result (Unit {0}) E)

@@ -40,5 +40,6 @@ module _ {drafts : List Entry} {numbers : Numbers} {kind : Kind} {label : List �
         (entries_left drafts new (put_in room meta body) (is_ok r) left)
 
     pub put_tree : (draft_value kind label stamps (walk new)).tree
-        ≡ (if is_ok r then with_entry (draft_value kind label stamps (walk drafts)).tree path meta body else (draft_value kind label stamps (walk drafts)).tree)
+        ≡ (if is_ok r then with_entry (draft_value kind label stamps (walk drafts)).tree path meta body else
+        (draft_value kind label stamps (walk drafts)).tree)
     put_tree = grind (arith, common_steps, tree_left, entries_left, put_in, room_new)

@@ -223,7 +223,8 @@ module _ (names : Names) (buckets : List ℕ) (overflow : Names) (bucket : ℕ) 
       → probe_buckets (names ++ name ∷ []) (set buckets bucket (length names)) k ≡ answer
   unfolding probe_buckets
   stay_told answer taken k e =
-      rw (length-set buckets bucket (length names)) (stays_from names buckets bucket name free answer taken k (first_bucket_in (length buckets - 8) k) 8 e)
+      rw (length-set buckets bucket (length names))
+      (stays_from names buckets bucket name free answer taken k (first_bucket_in (length buckets - 8) k) 8 e)
 
   stays : (answer : Probe) → IsTaken answer → (k : NameKey) → probe_of names buckets k ≡ answer
       → probe_of (names ++ name ∷ []) (set buckets bucket (length names)) k ≡ answer

@@ -46,7 +46,8 @@ next_byte name text i lt le is =
     let fewer : 31 - i ≡ suc (31 - suc i) = omega arith in
     let one : i + 1 ≡ suc i = omega arith in
     rw (one, is, fewer, take-suc name i 0 lt, map-append upper_of (take i name) (get_or name i 0 ∷ []))
-    (ap (λ ys. 0 ∷ ys) (ap (λ n. set (uppers (take i name) ++ replicate (suc (31 - suc i)) 0) n v) (sym long) ∙ put_next (uppers (take i name)) (31 - suc i) v))
+    (ap (λ ys. 0 ∷ ys) (ap (λ n. set (uppers (take i name) ++ replicate (suc (31 - suc i)) 0) n v) (sym long) ∙ put_next (uppers (take i name))
+    (31 - suc i) v))
 
 pub whole : (name text : List ℕ) (i : ℕ) → i ≡ length name → length name ≤ 30 → text ≡ 0 ∷ (uppers (take i name) ++ replicate (31 - i) 0)
     → set text 0 (length name) ≡ padded (uppers name)
@@ -101,7 +102,8 @@ then_is Greater p = refl
 pub same_number : (a b : ℕ) → is_eq (nat_cmp a b) ≡ (a == b)
 same_number a b = grind (arith, nat_tests)
 
-pub same_words : (a b : NameKey) → is_eq (by_words a b) ≡ ((a.first == b.first) && ((a.second == b.second) && ((a.third == b.third) && (a.fourth == b.fourth))))
+pub same_words : (a b : NameKey)
+    → is_eq (by_words a b) ≡ ((a.first == b.first) && ((a.second == b.second) && ((a.third == b.third) && (a.fourth == b.fourth))))
 same_words a b = simp (then_is, same_number)
 
 pub same_itself : (a : NameKey) → is_eq (by_words a a) ≡ true

@@ -86,7 +86,8 @@ same_chain front r other e a t u =
     let leads_too = rw dir at (path_found os p u.tree (omega arith)) in
     let both : map entry_content (chain es p s) ≡ map entry_content (chain os p s) =
     t.chains (path_of es p) p s (path_found es p t.tree (omega arith)) ∙ sym (u.chains (path_of es p) p s leads_too) in
-    let split : (back : List Entry) → map entry_content (chain (front ++ back) p s) ≡ map entry_content (filter q front) ++ map entry_content (filter q back) =
+    let split : (back : List Entry) → map entry_content (chain (front ++ back) p s) ≡ map entry_content (filter q front) ++ map entry_content
+    (filter q back) =
     λ back. ap (map entry_content) (filter-append q front back) ∙ map-append entry_content (filter q front) (filter q back) in
     let mine : filter q (e ∷ r) ≡ e ∷ filter q r = ap (λ b. cond b (e ∷ filter q r) (filter q r)) (in_chain_from p s e refl refl) in
     ap (map entry_content) (sym mine)

@@ -144,7 +144,12 @@ module _ {es : List Entry} {e : Entry} (parents q : List (List ℕ)) (t : IsTree
         | inl h ↦ rw (moved_below n 0 (omega arith), to, parent_stays es e t may.parent) at h
         | inr g ↦ let no_way : None ≡ Some e.parent = sym g.old ∙ to in cc
       ] in
-      rw (find_uppers (added es e) 0 q (parents ++ e.name ∷ []) same, find_snoc (added es e) 0 e.parent parents e.name there, child_new es e e.name t may refl)
+      rw (
+        find_uppers (added es e) 0 q (parents ++ e.name ∷ []) same,
+        find_snoc
+            (added es e) 0 e.parent parents e.name there,
+        child_new es e e.name t may refl,
+      )
       refl
 
   content_new : map uppers q ≡ map uppers (parents ++ e.name ∷ []) → content_at (added es e) q ≡ Some (entry_content e)

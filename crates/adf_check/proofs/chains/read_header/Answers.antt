@@ -27,7 +27,8 @@ returns-in-Ok-false-clause-fault g c =
     let claimed = c.in_ok-claim_named.ensures in
     let twice : has c.args.seen.now (uppers c.name.result) ≡ true =
     not-false _ (sym c.in-Ok-false.ensures.new ∙ c.in-Ok-false.field-0-test) in
-    rw c.fault_at-in-Ok-false.ensures (twice_fault c.args.seen.now c.requires.slot c.kind-kind.ensures.begun c.requires.state c.requires.some claimed.range
+    rw c.fault_at-in-Ok-false.ensures (twice_fault c.args.seen.now c.requires.slot
+    c.kind-kind.ensures.begun c.requires.state c.requires.some claimed.range
     claimed.free c.kind-kind.ensures.kind c.read_block.ensures.block c.in-Ok.ensures.0 c.in-Ok.ensures.1 c.name.ensures twice)
 
 pub kept_header-requires : goal.kept_header-requires

@@ -33,7 +33,8 @@ node_at-requires c =
 
 pub returns-then-same : goal.returns-then-same
 returns-then-same c =
-    let same = same_name c.args.image.now c.loop-b.b c.args.name.now c.name.ensures c.over-head.ensures c.block.ensures.block c.same.ensures c.if-same.true in
+    let same = same_name c.args.image.now c.loop-b.b c.args.name.now c.name.ensures c.over-head.ensures
+    c.block.ensures.block c.same.ensures c.if-same.true in
     let found = λ (t : Tree) (l : Layout) (k : StoreStandsFor c.args.image.now (store_value c.args.store.now) t l).
     c.node_at.ensures ∙ chain_found k (c.loop-b.invariant t l k) c.loop-b-test.true same in
     record { found = found; node = child_within c.requires.tells c.args.parent c.args.name.now c.node_at.result found }

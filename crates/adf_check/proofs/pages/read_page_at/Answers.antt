@@ -13,7 +13,15 @@ returns-in-Ok-clause-state g c =
     let claimed = c.in_ok-claim_named.ensures in
     page_done c.begun.ensures c.requires.needed c.requires.state c.page_named-b.ensures.exact claimed.range claimed.free
     c.read_block.ensures.block c.in-Ok.ensures.0
-    (record { owners = claimed.ok; headers = refl; dirs = c.requires.state.read.tells.dirs; starts = refl; exts = refl; datas = refl; used = claimed.count })
+    (record {
+      owners = claimed.ok;
+      headers = refl;
+      dirs = c.requires.state.read.tells.dirs;
+      starts = refl;
+      exts = refl;
+      datas = refl;
+      used = claimed.count;
+    })
 
 pub returns-in-Ok-clause-page : goal.returns-in-Ok-clause-page
 returns-in-Ok-clause-page g c = page_by_number c.begun.ensures c.requires.needed c.requires.state c.page_named-b.ensures.exact

@@ -39,7 +39,8 @@ returns c =
       exact =
           (λ t l k. made_exact entry c.requires file.0 c.bytes.ensures.bytes c.kind.ensures.kind file.1 c.datas_of-datas.ensures t l k c.new.ensures);
       joined =
-          (λ t l k. made_joined entry c.requires file.0 c.bytes.ensures.bytes c.kind.ensures.kind file.1 c.datas_of-datas.ensures t l k c.new.ensures);
+          (λ t l k. made_joined entry c.requires file.0 c.bytes.ensures.bytes c.kind.ensures.kind file.1
+          c.datas_of-datas.ensures t l k c.new.ensures);
       one_each = (λ t l k. ap length c.new.ensures ∙ pieces_length c.bytes.result.now c.kind.result c.in-File.size 1 c.datas_of-datas.result.now
           ∙ ap length (c.datas_of-datas.ensures t l k));
       some = made_some entry c.requires file.0 c.bytes.ensures.bytes c.kind.ensures.kind file.1 c.datas_of-datas.ensures c.new.ensures;

@@ -5,4 +5,5 @@ use Rattle.adf_cmd.proofs.AnswerLaws.{refused_image_ends}
 use Rattle.adf_cmd.proofs.volume_listing.list_image.Goals as goal
 
 pub returns-in-Err-clause-ends : goal.returns-in-Err-clause-ends
-returns-in-Err-clause-ends g c = refused_image_ends c.in-Err.outcome _ (Answer list c.args.image.now) _ (λ err refuses. inr refuses) c.in-Err.ensures.refused
+returns-in-Err-clause-ends g c =
+    refused_image_ends c.in-Err.outcome _ (Answer list c.args.image.now) _ (λ err refuses. inr refuses) c.in-Err.ensures.refused

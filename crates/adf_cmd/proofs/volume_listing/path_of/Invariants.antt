@@ -6,7 +6,8 @@ use Rattle.adf_check.specs.Volumes.{StandsFor}
 use Rattle.adf_cmd.proofs.volume_listing.path_of.Given as goal
 
 abbrev pub invariant-loop-row : goal.invariant-loop-row
-invariant-loop-row l = (t : Tree) (m : Layout) → StandsFor l.volume t m → names_of t.entries l.fn.n ≡ names_of t.entries l.node ++ reverse l.path.items
+invariant-loop-row l =
+    (t : Tree) (m : Layout) → StandsFor l.volume t m → names_of t.entries l.fn.n ≡ names_of t.entries l.node ++ reverse l.path.items
 
 abbrev pub decreases-loop-row : goal.decreases-loop-row
 decreases-loop-row l = l.node

@@ -14,13 +14,15 @@ pub loop-i-preserved : goal.loop-i-preserved
 loop-i-preserved g c = record {
   works = search rules;
   so_far = λ date t l dates stands.
-      let more = pending_more _ _ _ _ _ _ (entries_more date t.entries c.args.text.items c.loop-i.i) (c.loop-i.invariant.so_far date t l dates stands) in
+      let more = pending_more _ _ _ _ _ _ (entries_more date t.entries c.args.text.items c.loop-i.i)
+      (c.loop-i.invariant.so_far date t l dates stands) in
       c.in_ok-list_entry.ensures.ok date t l dates stands _ _ more;
 }
 
 pub returns-in_err-list_entry-clause-err : goal.returns-in_err-list_entry-clause-err
 returns-in_err-list_entry-clause-err g c = λ date t l dates stands.
-    let more = pending_more _ _ _ _ _ _ (entries_more date t.entries c.args.text.items c.loop-i.i) (c.loop-i.invariant.so_far date t l dates stands) in
+    let more = pending_more _ _ _ _ _ _ (entries_more date t.entries c.args.text.items c.loop-i.i)
+    (c.loop-i.invariant.so_far date t l dates stands) in
     let front = entries_front date t c.args.text.items (c.loop-i.i + 1) (omega (arith, c.len-i-end.ensures.count t l stands)) in
     on_err c.from_residual.result (pending_fails _ _ _ _ _ front.0 _ front.1 more (c.in_err-list_entry.ensures.err date t l dates stands))
 

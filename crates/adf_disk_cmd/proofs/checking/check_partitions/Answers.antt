@@ -14,7 +14,8 @@ loop-partition-preserved c = λ all knows.
     let p = c.partition-item.result in
     let one = c.in_ok-answer.answer.sound in
     let split = split_at ps i p c.loop-partition-test.true c.partition-item.is in
-    let before = subst (λ left. Continues all ps left c.loop-partition.sound c.loop-partition.text.items) split (c.loop-partition.invariant all knows) in
+    let before = subst (λ left. Continues all ps left c.loop-partition.sound c.loop-partition.text.items) split
+    (c.loop-partition.invariant all knows) in
     let known = subst (KnowsVolume all c.args.bytes.now c.args.checked.now) (sym c.partition-item.is)
     (All-get_or (KnowsVolume all c.args.bytes.now c.args.checked.now) ps i p c.loop-partition-test.true knows.known) in
     let sound : c.if-sound.sound ≡ (c.loop-partition.sound && one) =

@@ -15,8 +15,10 @@ returns-in-Ok-read_part-clause-place g c = rw c.deref.ensures.value at c.in-Ok-s
 
 pub returns-in-Ok-read_part-clause-at_most : goal.returns-in-Ok-read_part-clause-at_most
 returns-in-Ok-read_part-clause-at_most g c =
-    two_at_most TABLES_LEN (MOST_DISK_BYTES - TABLES_LEN + 1) (MOST_DISK_BYTES + 1) _ _ _ (omega arith) c.read_first.ensures.at_most c.read_part.ensures.at_most
+    two_at_most TABLES_LEN (MOST_DISK_BYTES - TABLES_LEN + 1) (MOST_DISK_BYTES + 1) _ _ _ (omega arith) c.read_first.ensures.at_most
+    c.read_part.ensures.at_most
 
 pub returns-in-Err-read_part-clause-at_most : goal.returns-in-Err-read_part-clause-at_most
 returns-in-Err-read_part-clause-at_most g c =
-    two_at_most TABLES_LEN (MOST_DISK_BYTES - TABLES_LEN + 1) (MOST_DISK_BYTES + 1) _ _ _ (omega arith) c.read_first.ensures.at_most c.read_part.ensures.at_most
+    two_at_most TABLES_LEN (MOST_DISK_BYTES - TABLES_LEN + 1) (MOST_DISK_BYTES + 1) _ _ _ (omega arith) c.read_first.ensures.at_most
+    c.read_part.ensures.at_most

@@ -14,7 +14,8 @@ loop-i-preserved c = λ k lt.
     rw (c.digit.ensures.value, c.digit-in-loop-i.ensures.value) (sym (unpaired_at c.args.text.now i (2 * i) (2 * i + 1) refl refl short)) in
     elim (cases_eq k i) [
       | inl same ↦
-          get_or-set_at c.loop-i.bytes i k (16 * c.digit.result + c.digit-in-loop-i.result) 0 same (omega (arith, c.loop-i-test.true, c.loop-i.auto.bytes))
+          get_or-set_at c.loop-i.bytes i k (16 * c.digit.result + c.digit-in-loop-i.result) 0 same
+          (omega (arith, c.loop-i-test.true, c.loop-i.auto.bytes))
           ∙ (value ∙ ap (λ j. get_or (unpaired c.args.text.now) j 0) (sym same))
       | inr other ↦
           get_or-set_other c.loop-i.bytes i k (16 * c.digit.result + c.digit-in-loop-i.result) 0 other

@@ -12,7 +12,8 @@ returns-in_err-count-clause-none c = if_none c.from_residual-in_err-count.result
     not_cut 32 _ (decimal count) (pair byte) c.in_err-count.ensures.none (fill_text _ _ count byte c.in_ok-text.ensures.some e))
 
 pub returns-in_err-count-2-clause-none : goal.returns-in_err-count-2-clause-none
-returns-in_err-count-2-clause-none c = if_none c.from_residual-in_err-count-2.result (λ count byte h e. c.in_err-count-2.ensures.none count (omega (arith, h.1))
+returns-in_err-count-2-clause-none c =
+    if_none c.from_residual-in_err-count-2.result (λ count byte h e. c.in_err-count-2.ensures.none count (omega (arith, h.1))
     (fill_parts count byte c.in_ok-text.ensures.some c.in_ok-count.ensures.some h.1 e).0)
 
 pub returns-in_err-byte-clause-none : goal.returns-in_err-byte-clause-none

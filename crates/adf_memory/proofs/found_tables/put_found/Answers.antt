@@ -18,7 +18,8 @@ loop-i-preserved c = record {
       let row = c.found_entry.ensures w fs survey sound marks (omega arith) (omega (arith, all)) in
       let same : Some c.in-Some.entry ≡ Some (found_entry image w sound (i + 1)) = sym c.in-Some.is ∙ row in
       let entry : c.in-Some.entry ≡ found_entry image w sound (i + 1) = cc in
-      let put = c.put.ensures (found_rows image w sound i) c.args.room.now (sym (length-map-range_with_len (found_entry image w sound) 1 i)) (c.loop-i.invariant.rows w fs survey sound marks) in
+      let put = c.put.ensures (found_rows image w sound i) c.args.room.now
+      (sym (length-map-range_with_len (found_entry image w sound) 1 i)) (c.loop-i.invariant.rows w fs survey sound marks) in
       let more = map-range_with_len_more (found_entry image w sound) 1 i (i + 1) (omega arith) in
       put ∙ ap (λ x. filled (found_rows image w sound i ++ x ∷ []) c.args.room.now) entry ∙ ap (λ rows. filled rows c.args.room.now) (sym more);
 }

@@ -34,6 +34,7 @@ slice_bounds-result-start c =
 
 pub returns-clause-some : goal.returns-clause-some
 returns-clause-some c =
-    let long = area_size c.args.image.now c.area.result.now c.in_ok-block.block c.args.kind (get_or c.args.datas.now (c.args.at / c.chunk_len-size.result) 0)
+    let long = area_size c.args.image.now c.area.result.now c.in_ok-block.block c.args.kind
+    (get_or c.args.datas.now (c.args.at / c.chunk_len-size.result) 0)
     c.chunk_len-size.result c.area.ensures c.in_ok-block.ensures.bytes (c.in_ok-block.ensures.whole.0 refl) c.chunk_len-size.ensures.exact in
     simp (length-take, length-drop) (omega (arith, long, c.chunk_len-size.ensures.low))

@@ -11,7 +11,11 @@ overflow_cast-first c =
     let s = c.len-i-end.ensures.stands in
     let image = c.args.volume.now.image in
     let lt : c.loop-i.i < length (s.0).entries = omega (arith, c.len-i-end.ensures.count s.0 s.1 s.2) in
-    omega (arith, blocks_small image s.0 s.1 c.loop-i.i c.loop-i.first s.2.fits (c.requires.few s.0 s.1 s.2) lt (c.loop-i.invariant.first s.0 s.1 s.2))
+    omega (
+      arith,
+      blocks_small image s.0 s.1 c.loop-i.i c.loop-i.first s.2.fits (c.requires.few s.0 s.1 s.2) lt
+          (c.loop-i.invariant.first s.0 s.1 s.2),
+    )
 
 pub put_blocks-requires : goal.put_blocks-requires
 put_blocks-requires c =
@@ -50,8 +54,10 @@ loop-i-preserved c =
           c.put.ensures (c.loop-i.invariant.entries t l st));
       blocks = (λ t l st.
           let lt : i < length l.places = omega (arith, c.len-i-end.ensures.count t l st, st.fits.places) in
-          next_blocks l i c.blocks_of-datas.result.now c.args.blocks.now c.put_blocks.new.table lt (c.blocks_of-datas.ensures t l st ∙ ap (datas_of l) one)
-          (c.put_blocks.ensures (all_datas (take i l.places)) c.args.blocks.now (c.loop-i.invariant.first t l st) (c.loop-i.invariant.blocks t l st)));
+          next_blocks l i c.blocks_of-datas.result.now c.args.blocks.now c.put_blocks.new.table lt
+          (c.blocks_of-datas.ensures t l st ∙ ap (datas_of l) one)
+          (c.put_blocks.ensures (all_datas (take i l.places)) c.args.blocks.now (c.loop-i.invariant.first t l st)
+          (c.loop-i.invariant.blocks t l st)));
     }
 
 pub returns-clause-count : goal.returns-clause-count

@@ -17,10 +17,12 @@ pub entry_of-requires : goal.entry_of-requires
 entry_of-requires c =
     let s = c.requires.stands in
     let there = c.requires.some s.0 s.1 s.2 in
-    parent_small c.row.result c.unwrap-row.result c.args.volume.now.image s.0 s.1 c.args.node c.unwrap-row.ensures s.2.fits (c.requires.few s.0 s.1 s.2)
+    parent_small c.row.result c.unwrap-row.result c.args.volume.now.image s.0 s.1 c.args.node c.unwrap-row.ensures s.2.fits
+    (c.requires.few s.0 s.1 s.2)
     there.0 there.1 (c.row.ensures s.0 s.1 s.2)
 
 pub returns : goal.returns
 returns c = λ t l e st at.
     c.entry_of.ensures e (row_matches c.row.result c.unwrap-row.result _ e c.unwrap-row.ensures at (c.row.ensures t l st))
-    ∙ ap (λ h. table_entry h c.args.first e) (block_told c.block_of.result c.unwrap-header.result _ c.unwrap-header.ensures (c.block_of.ensures.block t l st))
+    ∙ ap (λ h. table_entry h c.args.first e)
+    (block_told c.block_of.result c.unwrap-header.result _ c.unwrap-header.ensures (c.block_of.ensures.block t l st))

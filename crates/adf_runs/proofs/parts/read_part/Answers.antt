@@ -24,4 +24,5 @@ returns-clause-at_most g c =
 pub returns-clause-part : goal.returns-clause-part
 returns-clause-part g c =
     part_read c.args.from c.args.to (c.args.limit + 1) _ _ _ _ c.in_ok-before.before _ c.in_ok-after.after c.in_ok-bytes.bytes.items
-    (omega (arith, c.len.ensures)) c.requires.order (omega arith) c.in_ok-before.ensures.passed c.in_ok-bytes.ensures.first c.in_ok-after.ensures.passed
+    (omega (arith, c.len.ensures)) c.requires.order (omega arith) c.in_ok-before.ensures.passed c.in_ok-bytes.ensures.first
+    c.in_ok-after.ensures.passed

@@ -9,7 +9,8 @@ pub loop-run-preserved : goal.loop-run-preserved
 loop-run-preserved g c = record {
   works = search rules;
   so_far = λ w fs survey.
-      let line = line_first c.args.survey.now.image w c.in-Some.run' _ _ _ _ (c.in-Some.ensures.run w fs survey) (c.in_ok-push_run.ensures w fs survey) in
+      let line = line_first c.args.survey.now.image w c.in-Some.run' _ _ _ _ (c.in-Some.ensures.run w fs survey)
+      (c.in_ok-push_run.ensures w fs survey) in
       pending_before _ _ _ _ _ _ line c.in_ok-flush_long.ensures.ok _ _ (c.loop-run.invariant.so_far w fs survey);
 }
 
@@ -19,7 +20,8 @@ returns-in_err-push_run-clause-err g c = λ w fs survey.
 
 pub returns-in_err-flush_long-clause-err : goal.returns-in_err-flush_long-clause-err
 returns-in_err-flush_long-clause-err g c = λ w fs survey.
-    let line = line_first c.args.survey.now.image w c.in-Some.run' _ _ _ _ (c.in-Some.ensures.run w fs survey) (c.in_ok-push_run.ensures w fs survey) in
+    let line = line_first c.args.survey.now.image w c.in-Some.run' _ _ _ _ (c.in-Some.ensures.run w fs survey)
+    (c.in_ok-push_run.ensures w fs survey) in
     on_err c.from_residual-in_err-flush_long.result
     (pending_breaks _ _ _ _ _ (c.loop-run.invariant.so_far w fs survey) (part_before _ _ _ _ _ line c.in_err-flush_long.ensures.err))
 

@@ -8,7 +8,8 @@ pub loop-after-preserved : goal.loop-after-preserved
 loop-after-preserved c =
     let so_far = c.loop-after.invariant in
     let part : List ℕ = c.cut.result.0.now in
-    let here = some_name c.read_name.result part (c.is_none.ensures ∙ ap not c.if-is_none.false) c.read_name.ensures.some c.read_name.ensures.name in (
+    let here = some_name c.read_name.result part
+    (c.is_none.ensures ∙ ap not c.if-is_none.false) c.read_name.ensures.some c.read_name.ensures.name in (
       so_far.0 ++ here.0 ∷ [],
       one_part c.args.text.now part c.loop-after.rest.now here.0 so_far.0 (between_slashes c.in-Some.text.now) so_far.1
           (part_before c.cut.result.1 part (between_slashes c.loop-after.rest.now) c.in-Some.text c.in-Some.is c.cut.ensures.more) here.1,

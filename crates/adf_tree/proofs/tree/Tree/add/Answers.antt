@@ -13,7 +13,8 @@ pub invariant_of-self : goal.invariant_of-self
 invariant_of-self c =
     let e : Entry = record { parent = c.in_ok-parent.parent; name = c.copy-name.result; meta = c.args.meta; body = c.args.body } in
     let room = rw c.deref.ensures.value at (sym c.in_ok-parent.ensures) in (
-      rw c.add_entry.ensures.entries (room_keeps c.self.inside.entries.items e (parents_of c.args.path.now) (is_ok c.add_entry.result) c.self.invariant.0 room),
+      rw c.add_entry.ensures.entries (room_keeps c.self.inside.entries.items e (parents_of c.args.path.now)
+          (is_ok c.add_entry.result) c.self.invariant.0 room),
       c.add_entry.ensures.names,
     )
 
@@ -29,5 +30,6 @@ returns c =
       answer = search rules;
       paths = added_paths c.add_entry.result es c.add_entry.new.entries.items _ path c.args.meta c.args.body c.self.invariant.0 fresh
           c.add_entry.ensures.entries;
-      tree = tree_left _ c.add_entry.new.entries.items _ (is_ok c.add_entry.result) path c.args.meta c.args.body c.add_entry.ensures.entries fresh.entry;
+      tree =
+          tree_left _ c.add_entry.new.entries.items _ (is_ok c.add_entry.result) path c.args.meta c.args.body c.add_entry.ensures.entries fresh.entry;
     })
