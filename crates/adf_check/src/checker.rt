@@ -4,9 +4,7 @@ ghost use Rattle.adf_volume.specs.Fault.{IsTrueFault};
 ghost use Rattle.std.specs.Prelude.{◌≡◌, ◌≢◌, ◌≤◌, ◌*◌, IfOk, IfErr};
 ghost use Rattle.adf_blocks.specs.Sizes.{blocks};
 ghost use Rattle.adf_tree.specs.Tree.{Tree};
-ghost use Rattle.adf_base.specs.Words.{block};
 ghost use Rattle.adf_volume.specs.Fits.{Fits};
-ghost use Rattle.adf_volume.specs.Image.{root_of};
 ghost use Rattle.adf_volume.specs.Layout.{Layout};
 ghost use Rattle.adf_volume.specs.Walk.{FirstFault};
 ghost use Rattle.adf_volume.specs.Start.{IsBegun};
@@ -20,7 +18,7 @@ use crate::pages::read_pages;
 use crate::store::Store;
 use adf_base::BLOCK_LEN;
 use adf_blocks::Cause;
-use adf_volume::{Fault, Opened, fault_at, no_memory, open};
+use adf_volume::{Fault, no_memory, open};
 use std::alloc::Global;
 use std::marker::Brand;
 use std::sync::ledger::{Blank, Ledger};
@@ -48,18 +46,6 @@ pub fn check<'a>(alloc: Global, image: &'a [u8]) -> Result<Checked<'a>, Fault>
     ensures begun { IfErr result (λ f. f.cause ≡ Cause.NoMemory → IsBegun image.now) }
 {
     check_all::<Brand>(alloc, image, Blank::new(2))
-}
-
-// Reads the size, the first four bytes and the root; the first that is invalid is the first fault.
-fn open_volume<'a>(image: &'a [u8]) -> Result<Opened<'a>, Fault>
-    ensures image { IfOk result (λ o. o.image ≡ image.now) }
-    ensures root { IfOk result (λ o. o.root ≡ block image.now (root_of image.now)) }
-    ensures fault { IfErr result (λ f. FirstFault image.now f.block f.cause) }
-{
-    match open(image) {
-        Ok(opened) => Ok(opened),
-        Err(unopened) => Err(fault_at(unopened.block, unopened.cause)),
-    }
 }
 
 // Checks an image, with at most six reads for each of its blocks.
@@ -94,7 +80,7 @@ pub fn check_within<'a, L: Ledger>(
     ensures fault { IfErr result (λ f. IsTrueFault image.now f) }
     ensures begun { IfErr result (λ f. f.cause ≡ Cause.NoMemory → IsBegun image.now) }
 {
-    let opened = open_volume(image)?;
+    let opened = open(image)?;
     let Ok(mut store) = Store::begin(alloc, &opened.image) else {
         return Err(no_memory());
     };

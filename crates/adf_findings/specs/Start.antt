@@ -8,7 +8,7 @@ use Rattle.adf_tree.specs.declared.entry.Kind.{Kind}
 use Rattle.adf_volume.specs.Demands.{IsSize}
 use Rattle.adf_volume.specs.Image.{kind_of}
 use Rattle.adf_volume.specs.Walk.Role.{Root}
-use Rattle.adf_volume.specs.declared.start.Unopened.{Unopened}
+use Rattle.adf_volume.specs.declared.fault.Fault.{Fault}
 use Rattle.adf_findings.specs.declared.start.Unread.{Unread}
 use Rattle.adf_findings.specs.Survey.{FindingValue, finding}
 
@@ -28,7 +28,7 @@ boot_findings None = []
 boot_findings (Some c) = finding None 0 c ∷ []
 
 -- the findings of the root: its cause, if it has one
-abbrev pub root_findings : Option Unopened → List FindingValue
+abbrev pub root_findings : Option Fault → List FindingValue
 root_findings None = []
 root_findings (Some u) = finding (Some Root) u.block u.cause ∷ []
 

@@ -9,21 +9,21 @@ ghost use Rattle.adf_findings.specs.Survey.JudgementValue.{skipped};
 use crate::image::Image;
 use adf_base::BLOCK_LEN;
 use adf_blocks::{Cause, has_root_type, read_root};
-use adf_volume::{Unopened, boot_cause, kind_in};
+use adf_volume::{Fault, boot_cause, kind_in};
 
 /// An image to survey, and the causes of its boot block and its root, if they have any.
 #[derive(Drop)]
 pub struct Started<'a> {
     pub image: Image<'a>,
     pub boot: Option<Cause>,
-    pub root: Option<Unopened>,
+    pub root: Option<Fault>,
 }
 
 /// Why nothing of an image is taken: the cause of its boot block, if the survey went on to the root, and the last cause.
 #[derive(Clone, Copy, PartialEq, Eq, Drop)]
 pub struct Unread {
     pub boot: Option<Cause>,
-    pub last: Unopened,
+    pub last: Fault,
 }
 
 // Whether a boot block with this cause is of another type, 2 to 5.
@@ -61,7 +61,7 @@ fn sized<'a>(bytes: &'a [u8]) -> Image<'a>
 
 // The cause of the root, if it has one; otherwise why it is not taken.
 #[tactic(auto, using(crate::proofs::Starts::root_clean, crate::proofs::Starts::root_reported))]
-fn judge_root(image: &Image<'_>) -> Result<Option<Unopened>, Unopened>
+fn judge_root(image: &Image<'_>) -> Result<Option<Fault>, Fault>
     ensures reported { IfOk result (λ root. RootTells image.now (root_findings root)) }
     ensures skipped { IfErr result (λ u. RootJudged image.now (skipped u.block u.cause)) }
 {
@@ -71,12 +71,8 @@ fn judge_root(image: &Image<'_>) -> Result<Option<Unopened>, Unopened>
     match read_root(root) {
         Ok(_) => Ok(None),
         Err(cause) => {
-            let unopened = Unopened { block: at, cause };
-            if is_root {
-                Ok(Some(unopened))
-            } else {
-                Err(unopened)
-            }
+            let fault = Fault { block: at, cause };
+            if is_root { Ok(Some(fault)) } else { Err(fault) }
         }
     }
 }
@@ -94,7 +90,7 @@ pub fn start<'a>(bytes: &'a [u8]) -> Result<Started<'a>, Unread>
         Err(cause) => {
             return Err(Unread {
                 boot: None,
-                last: Unopened { block: 0, cause },
+                last: Fault { block: 0, cause },
             });
         }
     };

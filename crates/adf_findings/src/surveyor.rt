@@ -16,7 +16,7 @@ use crate::start::{Started, Unread, start};
 use crate::survey_result::Survey;
 use adf_base::NoMemory;
 use adf_blocks::Cause;
-use adf_volume::Unopened;
+use adf_volume::Fault;
 use std::alloc::Global;
 use std::collections::BTreeMap;
 use std::mem::replace;
@@ -72,13 +72,13 @@ fn only<'i>(alloc: Global, image: &'i [u8], unread: Unread) -> Result<Survey<'i>
 }
 
 // Notes the cause of the root, if it has one.
-fn report_root(found: &mut Found, cause: Option<Unopened>) -> Result<(), NoMemory>
+fn report_root(found: &mut Found, cause: Option<Fault>) -> Result<(), NoMemory>
     ensures { OnOk result ((image : List ℕ) (fs : List FindingValue)
         → Stands image found.old (begun image fs)
         → Stands image found.new (begun image (fs ++ root_findings cause))) }
 {
     match cause {
-        Some(Unopened { block, cause }) => found.report(Finding {
+        Some(Fault { block, cause }) => found.report(Finding {
             part: Some(Part::Root),
             block,
             cause,

@@ -22,4 +22,4 @@ pub use crate::owner::Owner;
 pub use crate::pieces::{Pieces, count_of, held_in, joined};
 pub use crate::row::{Row, RowBody, row_of};
 pub use crate::samples::tiny_volume_fits;
-pub use crate::start::{Opened, Unopened, boot_cause, kind_in, letters_in, open};
+pub use crate::start::{Opened, boot_cause, kind_in, letters_in, open};

@@ -8,6 +8,7 @@ ghost use Rattle.adf_volume.specs.Start.{IsBegun, is_image_len, start_form};
 ghost use Rattle.adf_blocks.specs.Forms.{ReadsForm};
 ghost use Rattle.adf_blocks.specs.Sizes.{blocks, is_allowed};
 
+use crate::fault::{Fault, fault_at};
 use crate::image::Image;
 use adf_base::{BLOCK_LEN, Block, Letters};
 use adf_blocks::{Cause, Root, is_allowed_size, read_root};
@@ -25,13 +26,6 @@ struct Start {
 pub struct Opened<'a> {
     pub image: Image<'a>,
     pub root: Root<'a>,
-}
-
-/// Why an image is refused at its size, boot block or root, and the block of the fault.
-#[derive(Clone, Copy, Debug, PartialEq, Eq)]
-pub struct Unopened {
-    pub block: u32,
-    pub cause: Cause,
 }
 
 // Whether a volume may have this number of bytes.
@@ -123,7 +117,7 @@ pub fn boot_cause(image: &[u8]) -> Option<Cause>
 
 /// Reads the size, the first four bytes and the root of an image; if one is invalid, the first cause and its block.
 #[tactic(auto, using(crate::proofs::ImageStart::begins, crate::proofs::ImageStart::fails_start, crate::proofs::ImageStart::fails_root))]
-pub fn open<'a>(bytes: &'a [u8]) -> Result<Opened<'a>, Unopened>
+pub fn open<'a>(bytes: &'a [u8]) -> Result<Opened<'a>, Fault>
     ensures image { IfOk result (λ o. o.image ≡ bytes.now) }
     ensures begun { IfOk result (λ o. IsBegun o.image) }
     ensures root { IfOk result (λ o. o.root ≡ block bytes.now (root_of bytes.now)) }
@@ -133,7 +127,7 @@ pub fn open<'a>(bytes: &'a [u8]) -> Result<Opened<'a>, Unopened>
 {
     let start = match read_start(bytes) {
         Ok(start) => start,
-        Err(cause) => return Err(Unopened { block: 0, cause }),
+        Err(cause) => return Err(fault_at(0, cause)),
     };
     let middle = start.blocks / 2;
     match read_root(Block::at(bytes, middle).unwrap()) {
@@ -141,9 +135,6 @@ pub fn open<'a>(bytes: &'a [u8]) -> Result<Opened<'a>, Unopened>
             image: Image::new(bytes, start.kind, start.blocks),
             root,
         }),
-        Err(cause) => Err(Unopened {
-            block: middle,
-            cause,
-        }),
+        Err(cause) => Err(fault_at(middle, cause)),
     }
 }

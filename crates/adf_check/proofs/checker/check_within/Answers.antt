@@ -1,11 +1,13 @@
-use Rattle.std.proofs.Common.{subst, sym, rules}
+use Rattle.std.proofs.Common.{◌++◌, subst, sym, rules}
 use Rattle.adf_base.specs.Words.{block}
 use Rattle.adf_tree.specs.Tree.{Tree}
 use Rattle.adf_volume.specs.Layout.{Layout}
 use Rattle.adf_volume.specs.Made.{layout_in, tree_in}
 use Rattle.adf_check.specs.Store.{store_value}
 use Rattle.adf_check.specs.Volumes.{StandsFor, Volume}
-use Rattle.adf_volume.specs.Walk.{FirstFault}
+use Rattle.adf_volume.specs.Demands.{FirstFails, boot_demands, root_demands}
+use Rattle.adf_volume.specs.Image.{root_of}
+use Rattle.adf_volume.specs.Walk.FirstFault.{at_boot}
 use Rattle.adf_volume.specs.Fault.{IsTrueFault}
 use Rattle.adf_check.proofs.ClaimSteps.{first_fault, if_err}
 use Rattle.adf_check.proofs.StoreStands.{keeps}
@@ -22,5 +24,5 @@ returns-clause-fits g c =
 pub returns-in_err-opened-clause-fault : goal.returns-in_err-opened-clause-fault
 returns-in_err-opened-clause-fault g c =
     let image = c.args.image.now in
-    if_err c.from_residual.result (λ f. FirstFault image f.block f.cause) (λ f. IsTrueFault image f) (search rules)
-    (λ f h. first_fault image f.block f.cause h)
+    if_err c.from_residual.result (λ f. FirstFails (boot_demands image ++ root_demands image (root_of image)) f.block f.cause) (λ f. IsTrueFault image f)
+    (search rules) (λ f h. first_fault image f.block f.cause (at_boot h))
