@@ -7,7 +7,7 @@ measure() {
     work=$(mktemp -d)
     trap 'rm -rf "$work"' EXIT
     mkdir -p "$work/crates/$1/src"
-    for crate in adf_base adf_tree; do
+    for crate in adf_base adf_names adf_tree; do
         mkdir "$work/crates/$crate"
         for part in src specs proofs; do
             cp -R "$top/crates/$crate/$part" "$work/crates/$crate/$part"

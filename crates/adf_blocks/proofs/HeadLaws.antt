@@ -9,9 +9,9 @@ use Rattle.byteorder.specs.Endian.{big_number}
 use Rattle.adf_base.specs.Hash.{slot_of}
 use Rattle.adf_base.specs.Words.{block, word, with_block, long_sum}
 use Rattle.adf_base.proofs.WordLaws.{length_longs, block_written}
-use Rattle.adf_tree.specs.Meta.{IsBoundedMeta}
-use Rattle.adf_tree.specs.Texts.{is_name}
-use Rattle.adf_tree.specs.declared.entry.Kind.{Kind, TheVariants.Ofs, TheVariants.Ffs}
+use Rattle.adf_names.specs.Meta.{IsBoundedMeta}
+use Rattle.adf_names.specs.Texts.{is_name}
+use Rattle.adf_names.specs.declared.kind.Kind.{Kind, TheVariants.Ofs, TheVariants.Ffs}
 use Rattle.adf_blocks.specs.Forms.{first_cause, stamp_at, text_at}
 use Rattle.adf_blocks.specs.declared.layout.TheConstants.{CHECKSUM, COMMENT, DATE, EXTENSION, FIRST_DATA, FIRST_POINTER, FIRST_SLOT, NAME, NEXT_IN_CHAIN}
 use Rattle.adf_blocks.specs.declared.layout.TheConstants.{OWN_KEY, PARENT, POINTERS, PROTECTION, SECONDARY_TYPE, SIZE, SLOTS, ST_DIR, TYPE, T_SHORT}

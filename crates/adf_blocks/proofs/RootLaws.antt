@@ -9,7 +9,7 @@ use Rattle.adf_blocks.specs.declared.layout.TheConstants.{NAME, ROOT_PAGES, SECO
 use Rattle.adf_blocks.specs.Forms.{first_cause, text_at}
 use Rattle.adf_blocks.specs.Fields.{Descends, long, longs}
 use Rattle.adf_blocks.specs.RootBlock.{FitsRoot, RootFields, root_block, root_form, root_table, stamps_at}
-use Rattle.adf_tree.specs.Bounds.{AreStamps}
+use Rattle.adf_names.specs.Meta.{AreStamps}
 use Rattle.adf_blocks.proofs.FieldLaws.{apart_between, length_sealed_fields, long_number, numbers_of_field, stamp_of_field}
 use Rattle.adf_blocks.proofs.FieldLaws.{sum_of_fields, text_of_field, word_between, word_of_field}
 

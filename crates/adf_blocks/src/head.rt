@@ -15,7 +15,7 @@ use crate::layout::{
     ST_LINK_FILE, ST_SOFT_LINK, T_SHORT, TYPE,
 };
 use adf_base::{Block, slot as slot_of_name};
-use adf_tree::{Comment, Kind, Meta, Name};
+use adf_names::{Comment, Kind, Meta, Name};
 use std::marker::Model;
 
 /// The header of a directory or a file.

@@ -3,8 +3,8 @@
 ghost use Rattle.std.specs.Prelude.{◌≡◌, ◌≤◌, ◌<◌, ◌+◌, ◌-◌, ◌*◌, ◌^◌, ℕ, List, length, slice_index, None};
 ghost use Rattle.adf_base.specs.Hash.{slot_of};
 ghost use Rattle.adf_base.specs.Words.{block, with_block, with_bytes, word};
-ghost use Rattle.adf_tree.specs.Meta.{IsBoundedMeta};
-ghost use Rattle.adf_tree.specs.declared.entry.Kind.{Kind};
+ghost use Rattle.adf_names.specs.Meta.{IsBoundedMeta};
+ghost use Rattle.adf_names.specs.declared.kind.Kind.{Kind};
 ghost use Rattle.adf_base.specs.Dates.{IsStamp};
 ghost use Rattle.adf_blocks.specs.Forms.{first_cause, stamp_at, text_at};
 ghost use Rattle.adf_blocks.specs.HeadBlock.BodyFields.{DirFields, FileFields};
@@ -17,7 +17,7 @@ use crate::layout::{
     ST_FILE, T_SHORT, TYPE,
 };
 use adf_base::{put_block, put_word, put_words, put_words_down, seal_block};
-use adf_tree::{Meta, Name};
+use adf_names::{Meta, Name};
 
 /// The fields of a header to write.
 #[derive(Drop)]

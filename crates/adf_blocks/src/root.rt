@@ -12,7 +12,7 @@ use crate::layout::{
     ROOT_PAGES, SECONDARY_TYPE, SLOTS, ST_ROOT, T_SHORT, TYPE, VALID,
 };
 use adf_base::Block;
-use adf_tree::{Label, Stamps};
+use adf_names::{Label, Stamps};
 use std::marker::Model;
 
 /// The root block of a volume.

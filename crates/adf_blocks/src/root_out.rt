@@ -4,7 +4,7 @@ ghost use Rattle.std.specs.Prelude.{◌≡◌, ◌≤◌, ◌<◌, ◌+◌, ◌*
 ghost use Rattle.adf_base.specs.Words.{block, with_block, word};
 ghost use Rattle.adf_blocks.specs.Forms.{first_cause, text_at};
 ghost use Rattle.adf_blocks.specs.RootBlock.{FitsRoot, RootFields, root_block, root_fields, root_form, stamps_at};
-ghost use Rattle.adf_tree.specs.Bounds.{AreStamps};
+ghost use Rattle.adf_names.specs.Meta.{AreStamps};
 
 use crate::fields::{put_stamp, put_text};
 use crate::layout::{
@@ -12,7 +12,7 @@ use crate::layout::{
     HASH_SIZE, NAME, ROOT_PAGES, SECONDARY_TYPE, SLOTS, ST_ROOT, T_SHORT, TYPE, VALID,
 };
 use adf_base::{put_block, put_word, put_words, seal_block};
-use adf_tree::{Label, Stamps};
+use adf_names::{Label, Stamps};
 
 /// The fields of a root block to write.
 #[derive(Drop)]

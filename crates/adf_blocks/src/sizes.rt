@@ -4,7 +4,7 @@ ghost use Rattle.std.specs.Prelude.{◌≡◌, ◌≤◌, true};
 ghost use Rattle.adf_blocks.specs.Sizes.{chunk, count, is_allowed, pages_needed};
 
 use crate::layout::{DATA_ROOM, MOST_BLOCKS, PAGE_BITS};
-use adf_tree::Kind;
+use adf_names::Kind;
 
 /// Whether a volume may have this number of blocks: even, 4 to `MOST_BLOCKS`.
 pub fn is_allowed_size(blocks: u32) -> bool

@@ -7,7 +7,7 @@ use Rattle.std.proofs.lemmas.List.FromFn.{length-map-range_with_len, length-rang
 use Rattle.std.proofs.lemmas.Grind.{common_steps}
 use Rattle.adf_base.specs.Words.{block}
 use Rattle.adf_tree.specs.Bounds.{IsBoundedEntry}
-use Rattle.adf_tree.specs.declared.entry.Kind.{Kind, TheVariants.Ofs, TheVariants.Ffs}
+use Rattle.adf_names.specs.declared.kind.Kind.{Kind, TheVariants.Ofs, TheVariants.Ffs}
 use Rattle.adf_tree.specs.declared.entry.Entry.{Entry}
 use Rattle.adf_tree.specs.Tree.{Tree}
 use Rattle.adf_blocks.specs.declared.layout.TheConstants.{MAP_EXT_PAGES, PAGE_BITS}

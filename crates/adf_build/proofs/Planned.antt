@@ -4,7 +4,7 @@ use Rattle.std.proofs.Common.{length-append}
 use Rattle.std.proofs.lemmas.List.FromFn.{length-range_with_len}
 use Rattle.std.specs.List.{range_with_len}
 use Rattle.adf_volume.specs.Lists.{In, NoBlockTwice}
-use Rattle.adf_tree.specs.declared.entry.Kind.{Kind}
+use Rattle.adf_names.specs.declared.kind.Kind.{Kind}
 use Rattle.adf_tree.specs.declared.entry.Entry.{Entry}
 use Rattle.adf_tree.specs.Tree.{Tree}
 use Rattle.adf_blocks.specs.Sizes.{blocks, middle, pages_needed}

@@ -1,7 +1,7 @@
 // The tables of an image, and what is found and read through them.
 
 ghost use Rattle.std.specs.Prelude.{◌≡◌, ◌<◌, ◌+◌, ◌≤◌, ◌↔◌, ◌⊎◌, ℕ, List, [], Some, None, length, min, take, drop};
-ghost use Rattle.adf_tree.specs.PathTexts.{IsPathText};
+ghost use Rattle.adf_names.specs.PathTexts.{IsPathText};
 ghost use Rattle.adf_tree.specs.Tree.{Tree, find};
 ghost use Rattle.adf_volume.specs.Fits.{Fits};
 ghost use Rattle.adf_volume.specs.Layout.{Layout};

@@ -9,7 +9,7 @@ use native.Mathlib.Decide.{dec_lt, ℕ_discrete}
 use Rattle.adf_blocks.specs.declared.layout.TheConstants.{FIRST_SLOT, NAME, NEXT_IN_CHAIN, SECONDARY_TYPE, SLOTS, ST_DIR, ST_FILE}
 use Rattle.adf_base.specs.Hash.{slot_of}
 use Rattle.adf_base.specs.Words.{block}
-use Rattle.adf_tree.specs.Texts.{uppers}
+use Rattle.adf_names.specs.Texts.{uppers}
 use Rattle.adf_tree.specs.declared.entry.Body.{Body, TheVariants.Dir, TheVariants.File}
 use Rattle.adf_tree.specs.declared.entry.Entry.{Entry}
 use Rattle.adf_tree.specs.Tree.{Tree, child}

@@ -8,9 +8,9 @@ use Rattle.std.proofs.lemmas.Slice.Eq.{bytes_eq-Decides}
 use Rattle.std.proofs.lemmas.Grind.{common_steps}
 use Rattle.adf_blocks.specs.declared.layout.TheConstants.{FIRST_SLOT, NAME, NEXT_IN_CHAIN, SLOTS}
 use Rattle.adf_base.specs.Words.{block, word}
-use Rattle.adf_tree.specs.Texts.{uppers}
+use Rattle.adf_names.specs.Texts.{uppers}
 use Rattle.adf_tree.specs.NameSet.{has, HasMore, Names}
-use Rattle.adf_tree.specs.declared.entry.Kind.{Kind}
+use Rattle.adf_names.specs.declared.kind.Kind.{Kind}
 use Rattle.adf_blocks.specs.declared.cause.Cause.{Cause, TheVariants.SameName}
 use Rattle.adf_blocks.specs.Forms.{first_cause, text_at}
 use Rattle.adf_blocks.specs.HeadBlock.{head_form}

@@ -7,7 +7,7 @@ use Rattle.std.proofs.lemmas.Grind.{common_steps}
 use Rattle.adf_blocks.specs.declared.layout.TheConstants.{SECONDARY_TYPE, ST_DIR}
 use Rattle.adf_base.specs.Words.{block}
 use Rattle.adf_tree.specs.declared.entry.Body.{Body, TheVariants.Dir, TheVariants.File}
-use Rattle.adf_tree.specs.declared.entry.Kind.{Kind}
+use Rattle.adf_names.specs.declared.kind.Kind.{Kind}
 use Rattle.adf_tree.specs.Tree.{Tree, entry, is_dir_body}
 use Rattle.adf_blocks.specs.HeadBlock.{IsHead, body_at, head_form}
 use Rattle.adf_blocks.specs.declared.head.HeadBody.TheVariants.{Dir as HeadDir, File as HeadFile}

@@ -3,7 +3,7 @@ use Rattle.std.specs.Prelude.{ℕ, List, length, Option, Some, None}
 use Rattle.adf_tree.specs.declared.entry.Body.{Body}
 use Rattle.adf_tree.specs.declared.entry.Body.TheVariants.{Dir, File}
 use Rattle.adf_tree.specs.declared.entry.Entry.{Entry}
-use Rattle.adf_tree.specs.declared.entry.Kind.{Kind}
+use Rattle.adf_names.specs.declared.kind.Kind.{Kind}
 use Rattle.adf_tree.specs.Tree.{Tree, entry}
 use Rattle.adf_volume.specs.Image.{pieces}
 use Rattle.adf_volume.specs.Layout.{Layout, datas_of}

@@ -1,7 +1,7 @@
 -- The tree and layout that a checked volume stands for.
 use Rattle.std.specs.Prelude.{◌≡◌, ◌-◌, ℕ, Bool, not, List, length, count_by}
 use Rattle.adf_tree.specs.declared.entry.Entry.{Entry}
-use Rattle.adf_tree.specs.declared.entry.Stamps.{Stamps}
+use Rattle.adf_names.specs.declared.meta.Stamps.{Stamps}
 use Rattle.adf_tree.specs.Tree.{Tree, is_dir_body}
 use Rattle.adf_blocks.specs.Sizes.{blocks}
 use Rattle.adf_volume.specs.Image.{name_of, root_of, stamps_of}

@@ -2,9 +2,9 @@
 use Rattle.std.proofs.Common.{◌≡◌, ap, inl, inr, ℕ, Bool, false, List, [], Option, Some, refl, sym, subst, arith, string_bytes}
 use Rattle.std.proofs.lemmas.Grind.{common_steps}
 use Rattle.adf_fields.proofs.DateTexts.{date_of, date_of_is}
-use Rattle.adf_tree.specs.PathTexts.{IsPathText}
+use Rattle.adf_names.specs.PathTexts.{IsPathText}
 use Rattle.adf_tree.specs.Tree.{Tree, entry, find, with_kind}
-use Rattle.adf_tree.specs.declared.entry.Kind.{Kind}
+use Rattle.adf_names.specs.declared.kind.Kind.{Kind}
 use Rattle.adf_blocks.specs.Sizes.{blocks}
 use Rattle.adf_volume.specs.Fits.{Fits}
 use Rattle.adf_volume.specs.Layout.{Layout}

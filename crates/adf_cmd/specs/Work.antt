@@ -1,6 +1,6 @@
 -- What a command does, once its words and its path are read.
 use Rattle.std.specs.Prelude.{◌≡◌, ℕ, List}
-use Rattle.adf_tree.specs.PathTexts.{IsPathText}
+use Rattle.adf_names.specs.PathTexts.{IsPathText}
 use Rattle.adf_words.specs.CommandLine.{RequestValue, build, cat, check, convert, list}
 use Rattle.adf_cmd.specs.declared.work.Work.{Work}
 use Rattle.adf_cmd.specs.declared.work.Work.TheVariants.{Check, List as ListAll, Cat, Build, Convert}

@@ -9,7 +9,7 @@ use Rattle.std.proofs.lemmas.List.{drop-drop, drop-take, take-take, take_all}
 use Rattle.std.specs.Option.{SomeIff, unwrap_or}
 use Rattle.std.proofs.lemmas.Grind.{common_steps}
 use Rattle.adf_base.specs.Words.{block}
-use Rattle.adf_tree.proofs.Spellings.{only_spelled}
+use Rattle.adf_names.proofs.Spellings.{only_spelled}
 use Rattle.adf_partitions.proofs.AnyLength.{is_disk_too, named_is, numbered_is}
 use Rattle.adf_partitions.specs.Disks.{FirstFault, IsDisk}
 use Rattle.adf_partitions.specs.Partitions.{is_named, partition_numbered}

@@ -21,7 +21,7 @@ use Rattle.adf_partitions.specs.declared.place.Place.{Place}
 use Rattle.adf_partitions.specs.declared.place.PlaceFault.{PlaceFault}
 use Rattle.adf_partitions.specs.declared.plan_text.TextFault.{TextFault}
 use Rattle.adf_runs.specs.Commands.{Reply, on_output}
-use Rattle.adf_tree.proofs.Spellings.{only_spelled}
+use Rattle.adf_names.proofs.Spellings.{only_spelled}
 use Rattle.adf_words.specs.CommandLine.{check as check_volume}
 use Rattle.adf_words.specs.DiskLine.{AsksDisk, DiskRequestValue, WantedValue, build, check, list, name, number, survey, volume}
 

@@ -1,6 +1,6 @@
 -- What the command answers to its words and its input. `bytes` are those of a disk, ps its partitions.
 use Rattle.std.specs.Prelude.{◌≡◌, ◌++◌, ◌/◌, ◌⊎◌, ℕ, Bool, List, codes, find, length, take, Option, None, Some, Result, Ok, Err}
-use Rattle.adf_tree.specs.Escapes.{IsSpelling}
+use Rattle.adf_names.specs.Escapes.{IsSpelling}
 use Rattle.adf_partitions.specs.Disks.{FirstFault, IsDisk}
 use Rattle.adf_partitions.specs.FaultTexts.{disk_fault_text, place_fault_text}
 use Rattle.adf_partitions.specs.Partitions.{is_named, partition_numbered}

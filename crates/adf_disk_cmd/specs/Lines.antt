@@ -7,7 +7,7 @@ use Rattle.adf_partitions.specs.declared.partition.Partition.{Partition}
 use Rattle.adf_partitions.specs.declared.place.Place.{Place}
 use Rattle.adf_partitions.specs.declared.place.PlaceFault.{PlaceFault}
 use Rattle.adf_texts.specs.Names.{names_text}
-use Rattle.adf_tree.specs.Escapes.{escaped}
+use Rattle.adf_names.specs.Escapes.{escaped}
 use Rattle.adf_disk_cmd.specs.declared.types.TheConstants.{DOS}
 
 -- the four bytes of a type, in the escape form

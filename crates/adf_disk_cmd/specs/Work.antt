@@ -10,7 +10,7 @@ use Rattle.adf_partitions.specs.declared.place.PlaceFault.{PlaceFault}
 use Rattle.adf_partitions.specs.declared.tables.Tables.{Tables}
 use Rattle.adf_runs.specs.Commands.{Reply, on_output}
 use Rattle.adf_runs.specs.Streams.{IsPart}
-use Rattle.adf_tree.specs.Escapes.{IsSpelling}
+use Rattle.adf_names.specs.Escapes.{IsSpelling}
 use Rattle.adf_words.specs.DiskLine.{DiskRequestValue, WantedValue, check, list, name, number, survey, volume}
 use Rattle.adf_disk_cmd.specs.Answers.{IsNoName, IsWanted, TellsReadable, fault_line}
 use Rattle.adf_disk_cmd.specs.Builds.{refusal}

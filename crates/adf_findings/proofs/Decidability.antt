@@ -3,7 +3,7 @@ use Rattle.std.specs.Prelude.{Bool, true, false, drop, slice_index}
 use Rattle.std.proofs.Common.{◌≡◌, ℕ, zero, suc, List, [], ◌∷◌, ◌++◌, ◌⊎◌, inl, inr, ◌-◌, ◌*◌, ◌/◌, ◌%◌, ◌<◌, ◌≤◌, ◌≢◌, refl, ap, subst, arith}
 use mathlib.Core.Logic.Dec.{and as dec_and, not as dec_not}
 use native.Mathlib.Decide.{dec_le, dec_lt, map_dec, ℕ_discrete}
-use Rattle.adf_tree.specs.declared.entry.Kind.{Kind, TheVariants.Ofs, TheVariants.Ffs}
+use Rattle.adf_names.specs.declared.kind.Kind.{Kind, TheVariants.Ofs, TheVariants.Ffs}
 use Rattle.adf_blocks.specs.declared.cause.Cause.{Cause}
 use Rattle.adf_blocks.specs.declared.layout.TheConstants.{BITMAP_FLAG, PAGE_BITS, POINTERS, SIZE, VALID}
 use Rattle.adf_blocks.specs.Forms.{Clause}

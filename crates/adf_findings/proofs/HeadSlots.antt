@@ -4,7 +4,7 @@ use Rattle.std.proofs.Common.{Bool, Some, true, false, ◌==◌, not, nat_le, sl
 use Rattle.adf_base.specs.Hash.{slot_by, slot_of}
 use Rattle.adf_base.specs.Words.{long_sum, word}
 use Rattle.adf_base.specs.declared.hash.Letters.{Letters}
-use Rattle.adf_tree.specs.declared.entry.Kind.{Kind}
+use Rattle.adf_names.specs.declared.kind.Kind.{Kind}
 use Rattle.adf_blocks.specs.declared.cause.Cause.{Cause}
 use Rattle.adf_blocks.specs.declared.cause.Cause.TheVariants.{BadComment, BadFirst, BadName, BadOwnKey, BadParent, BadSum, BadType, Link, WrongSlot}
 use Rattle.adf_blocks.specs.declared.layout.TheConstants.{COMMENT, NAME, OWN_KEY, PARENT, SECONDARY_TYPE}

@@ -11,7 +11,7 @@ use Rattle.std.proofs.lemmas.Grind.{common_steps}
 use Rattle.adf_base.specs.Hash.{upper_by, upper_of}
 use Rattle.adf_base.specs.Words.{block}
 use Rattle.adf_base.specs.declared.hash.Letters.{Letters, TheVariants.Ascii, TheVariants.International}
-use Rattle.adf_tree.specs.Texts.{is_name, is_name_byte, uppers, uppers_by}
+use Rattle.adf_names.specs.Texts.{is_name, is_name_byte, uppers, uppers_by}
 use Rattle.adf_blocks.specs.declared.layout.TheConstants.{NAME}
 use Rattle.adf_blocks.specs.Sizes.{blocks}
 use Rattle.adf_volume.specs.Image.{name_of}

@@ -1,8 +1,8 @@
 -- The demands on parts by the letters of the volume. On types 0 and 1 these are the demands of the model.
 -- Letters: w a walk; r a role; b the block of a part, a the block that points to it.
 use Rattle.std.specs.Prelude.{ℕ, List}
-use Rattle.adf_tree.specs.declared.entry.Kind.{Kind}
-use Rattle.adf_tree.specs.Texts.{uppers_by}
+use Rattle.adf_names.specs.declared.kind.Kind.{Kind}
+use Rattle.adf_names.specs.Texts.{uppers_by}
 use Rattle.adf_blocks.specs.Forms.{Clause}
 use Rattle.adf_blocks.specs.HeadBlock.{head_form_by}
 use Rattle.adf_volume.specs.Demands.{Demand, head_demands_by}

@@ -9,7 +9,7 @@ use Rattle.std.specs.Ordering.{is_eq, nat_cmp}
 use Rattle.std.specs.Str.{bytes_eq}
 use Rattle.std.specs.BTreeMap.{BTreeMap, Updates, get}
 use Rattle.adf_tree.specs.NameSet.{Names, has}
-use Rattle.adf_tree.specs.Texts.{is_name}
+use Rattle.adf_names.specs.Texts.{is_name}
 use Rattle.adf_blocks.specs.declared.cause.Cause.{Cause}
 use Rattle.adf_blocks.specs.declared.cause.Cause.TheVariants.{LostBlock, OwnedFree}
 use Rattle.adf_volume.specs.Demands.{AllHold, FirstFails}

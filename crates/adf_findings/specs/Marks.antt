@@ -4,8 +4,8 @@
 use Rattle.std.specs.Prelude.{◌==◌, ◌||◌, ◌&&◌, ◌-◌, ℕ, Bool, false, cond, not, nat_lt, List, [], ◌∷◌, length, slice_get, slice_index, slice_index_or}
 use Rattle.std.specs.Prelude.{Option, Some, None}
 use Rattle.std.specs.Option.{option_map}
-use Rattle.adf_tree.specs.declared.entry.Kind.{Kind}
-use Rattle.adf_tree.specs.declared.entry.Kind.TheVariants.{Ofs, Ffs}
+use Rattle.adf_names.specs.declared.kind.Kind.{Kind}
+use Rattle.adf_names.specs.declared.kind.Kind.TheVariants.{Ofs, Ffs}
 use Rattle.adf_volume.specs.Image.{kind_of}
 use Rattle.adf_findings.specs.declared.part.Part.{Part}
 use Rattle.adf_findings.specs.declared.part.Part.TheVariants.{Head as HeadPart, Ext as ExtPart, Data as DataPart}

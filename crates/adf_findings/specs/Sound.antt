@@ -5,7 +5,7 @@ use Rattle.std.specs.Prelude.{◌≡◌, ◌<◌, ◌≤◌, ◌/◌, ◌↔◌,
 use Rattle.std.proofs.Common.{suc}
 use Rattle.adf_blocks.specs.declared.layout.TheConstants.{POINTERS, SIZE}
 use Rattle.adf_volume.specs.Demands.{AllHold, data_demands, ext_demands}
-use Rattle.adf_tree.specs.declared.entry.Kind.TheVariants.{Ffs}
+use Rattle.adf_names.specs.declared.kind.Kind.TheVariants.{Ffs}
 use Rattle.adf_volume.specs.Lists.{At, In}
 use Rattle.adf_volume.specs.Made.{datas_in}
 use Rattle.adf_volume.specs.Image.{held, kind_of, table_word, word_in}

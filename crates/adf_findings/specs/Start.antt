@@ -4,7 +4,7 @@ use Rattle.adf_base.specs.Words.{word}
 use Rattle.adf_blocks.specs.declared.cause.Cause.{Cause}
 use Rattle.adf_blocks.specs.declared.layout.TheConstants.{SECONDARY_TYPE, ST_ROOT, TYPE, T_SHORT}
 use Rattle.adf_blocks.specs.Sizes.{blocks}
-use Rattle.adf_tree.specs.declared.entry.Kind.{Kind}
+use Rattle.adf_names.specs.declared.kind.Kind.{Kind}
 use Rattle.adf_volume.specs.Demands.{IsSize}
 use Rattle.adf_volume.specs.Image.{kind_of}
 use Rattle.adf_volume.specs.Walk.Role.{Root}

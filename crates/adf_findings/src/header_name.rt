@@ -4,7 +4,7 @@ ghost use Rattle.std.specs.Prelude.{◌≡◌, ◌+◌, ◌<◌, ◌↔◌, IfSo
 ghost use Rattle.adf_blocks.specs.Sizes.{blocks};
 ghost use Rattle.adf_blocks.specs.declared.layout.TheConstants.{NAME};
 ghost use Rattle.adf_findings.specs.Demands.{uppers_in};
-ghost use Rattle.adf_tree.specs.Texts.{is_name, uppers_by};
+ghost use Rattle.adf_names.specs.Texts.{is_name, uppers_by};
 ghost use Rattle.adf_volume.specs.Image.{name_of};
 
 use crate::image::Image;

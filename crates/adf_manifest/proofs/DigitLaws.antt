@@ -6,10 +6,10 @@ use Rattle.std.proofs.lemmas.Bool.{and_from, and_parts}
 use Rattle.std.proofs.lemmas.Bool.Decides.{nat_tests}
 use Rattle.std.proofs.lemmas.List.Elements.{All-cons, All-head, All-nil, All-tail}
 use Rattle.std.proofs.lemmas.Grind.{common_steps}
-use Rattle.adf_tree.specs.Escapes.{hex_digit}
+use Rattle.adf_names.specs.Escapes.{hex_digit}
 use Rattle.adf_manifest.specs.Tokens.{LacksByte}
 use Rattle.adf_manifest.specs.Texts.{digit, hex_word, is_digit, pair, pairs, unpaired, AreDigits}
-use Rattle.adf_tree.proofs.Spellings.{same_digits}
+use Rattle.adf_names.proofs.Spellings.{same_digits}
 
 -- the digits of a byte at the head of a text are of one byte
 pub one_pair : (a b : ℕ) (x y : List ℕ) → a < 256 → b < 256 → pair a ++ x ≡ pair b ++ y → (a ≡ b) × (x ≡ y)

@@ -6,9 +6,9 @@ use Rattle.std.proofs.lemmas.List.{append_cancel_left}
 use Rattle.std.proofs.lemmas.Grind.{common_steps}
 use Rattle.adf_base.specs.Dates.{plain_text, IsStamp}
 use Rattle.adf_base.specs.declared.dates.Stamp.{Stamp}
-use Rattle.adf_tree.specs.declared.entry.Stamps.{Stamps}
+use Rattle.adf_names.specs.declared.meta.Stamps.{Stamps}
 use Rattle.adf_manifest.specs.Tokens.{stamps_text}
-use Rattle.adf_tree.specs.Bounds.{AreStamps}
+use Rattle.adf_names.specs.Meta.{AreStamps}
 use Rattle.adf_manifest.specs.Texts.{pairs, unpaired}
 use Rattle.adf_manifest.specs.Lines.{IsLine, IsRun, LineValue, LabelLine, StampsLine, EntryLine, NoteLine, RunLine, DataRun, FillRun, fields_text, fill_line}
 use Rattle.adf_manifest.specs.Lines.{line_text, stamps_line}

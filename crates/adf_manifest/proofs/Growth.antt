@@ -4,7 +4,7 @@ use Rattle.std.specs.List.{All, flat_map}
 use Rattle.std.proofs.lemmas.List.{append_assoc, append-nil, map-append}
 use Rattle.std.proofs.lemmas.List.Elements.{All-push}
 use Rattle.std.proofs.lemmas.Grind.{flat_map-append, common_steps}
-use Rattle.adf_tree.specs.Escapes.{escaped}
+use Rattle.adf_names.specs.Escapes.{escaped}
 use Rattle.adf_tree.specs.Tree.{Tree, room_for}
 use Rattle.adf_base.specs.declared.dates.Stamp.{Stamp}
 use Rattle.adf_manifest.specs.Lines.{IsRun, RunValue, note_line, run_line}

@@ -4,13 +4,13 @@ use Rattle.std.specs.Prelude.{IsOk}
 use Rattle.std.specs.List.{All}
 use Rattle.std.proofs.lemmas.List.{append-nil}
 use Rattle.std.proofs.lemmas.Grind.{common_steps}
-use Rattle.adf_tree.specs.Escapes.{IsSpelling, escaped}
-use Rattle.adf_tree.specs.PathTexts.{IsName, IsPathText, path_text}
+use Rattle.adf_names.specs.Escapes.{IsSpelling, escaped}
+use Rattle.adf_names.specs.PathTexts.{IsName, IsPathText, path_text}
 use Rattle.adf_tree.specs.Tree.{room_for}
-use Rattle.adf_tree.specs.declared.entry.Kind.{Kind}
-use Rattle.adf_tree.specs.declared.entry.Stamps.{Stamps}
-use Rattle.adf_tree.proofs.Spellings.{spelling_some}
-use Rattle.adf_tree.proofs.PathParts.{empty_path}
+use Rattle.adf_names.specs.declared.kind.Kind.{Kind}
+use Rattle.adf_names.specs.declared.meta.Stamps.{Stamps}
+use Rattle.adf_names.proofs.Spellings.{spelling_some}
+use Rattle.adf_names.proofs.PathParts.{empty_path}
 use Rattle.adf_manifest.specs.Lines.{IsLine, IsRun, LineValue, LabelLine, StampsLine, EntryLine, NoteLine, RunLine, RunValue, line_text, run_line}
 use Rattle.adf_manifest.specs.Lines.{stamps_line, note_line}
 use Rattle.adf_manifest.specs.Items.{HaveRoom, IsGivenNote, IsItem, Item, items_tree}

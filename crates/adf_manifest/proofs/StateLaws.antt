@@ -5,11 +5,11 @@ use Rattle.std.specs.List.{All}
 use Rattle.std.proofs.lemmas.List.{append-nil, length-replicate}
 use Rattle.std.proofs.lemmas.List.Elements.{All-head, All-nil}
 use Rattle.adf_base.specs.declared.dates.Stamp.{Stamp}
-use Rattle.adf_tree.specs.Escapes.{IsSpelling, escaped}
-use Rattle.adf_tree.specs.PathTexts.{IsPathText, path_text}
+use Rattle.adf_names.specs.Escapes.{IsSpelling, escaped}
+use Rattle.adf_names.specs.PathTexts.{IsPathText, path_text}
 use Rattle.std.specs.Option.{unwrap_or}
 use Rattle.adf_tree.specs.Draft.{DraftValue, IsRoomFor}
-use Rattle.adf_tree.specs.Meta.{new_meta}
+use Rattle.adf_names.specs.Meta.{new_meta}
 use Rattle.adf_tree.specs.Tree.{Tree, room_for, with_entry}
 use Rattle.adf_tree.specs.declared.entry.Body.{Body}
 use Rattle.adf_manifest.specs.Lines.{EntryLine, IsLine, IsRun, RunValue, DataRun, FillRun, entry_line, note_line, run_line, LineValue}

@@ -20,9 +20,9 @@ use Rattle.std.proofs.lemmas.Str.Parse.{IsNumeralModel, digit_at, numerals_by_va
 use Rattle.std.proofs.lemmas.Grind.{common_steps}
 use Rattle.adf_base.specs.Dates.{plain_text, IsStamp}
 use Rattle.adf_base.specs.declared.dates.Stamp.{Stamp}
-use Rattle.adf_tree.specs.declared.entry.Stamps.{Stamps}
+use Rattle.adf_names.specs.declared.meta.Stamps.{Stamps}
 use Rattle.adf_manifest.specs.Tokens.{LacksByte, has_number_front, stamps_text}
-use Rattle.adf_tree.specs.Bounds.{AreStamps}
+use Rattle.adf_names.specs.Meta.{AreStamps}
 
 pub if_none : {T P : Type 0} (o : Option T) → P → IfNone o P
 if_none None p = p

@@ -3,14 +3,14 @@ use Rattle.std.specs.Prelude.{◌≡◌, ◌<◌, ◌^◌, ℕ, List, [], ◌∷
 use Rattle.std.specs.List.{flat_map}
 use Rattle.std.specs.Option.{unwrap_or}
 use Rattle.adf_base.specs.declared.dates.Stamp.{Stamp}
-use Rattle.adf_tree.specs.Escapes.{IsSpelling, escaped}
-use Rattle.adf_tree.specs.PathTexts.{IsName, path_text}
+use Rattle.adf_names.specs.Escapes.{IsSpelling, escaped}
+use Rattle.adf_names.specs.PathTexts.{IsName, path_text}
 use Rattle.adf_tree.specs.Additions.{Addition}
-use Rattle.adf_tree.specs.Meta.{new_meta}
+use Rattle.adf_names.specs.Meta.{new_meta}
 use Rattle.adf_tree.specs.Tree.{Tree, room_for, with_entry}
 use Rattle.adf_tree.specs.declared.entry.Body.{Body}
 use Rattle.adf_tree.specs.declared.entry.Body.TheVariants as body
-use Rattle.adf_tree.specs.declared.entry.Meta.{Meta}
+use Rattle.adf_names.specs.declared.meta.Meta.{Meta}
 use Rattle.adf_base.specs.Dates.{IsStamp}
 use Rattle.adf_manifest.specs.Lines.{IsRun, RunValue, DataRun, FillRun, entry_line, note_line, run_line}
 use Rattle.adf_manifest.specs.declared.lines.Sort.{Sort}

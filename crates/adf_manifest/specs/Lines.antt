@@ -3,11 +3,11 @@ use Rattle.std.specs.Prelude.{◌≡◌, ◌<◌, ◌≤◌, ◌^◌, ℕ, List,
 use Rattle.std.specs.Fmt.{decimal}
 use Rattle.adf_base.specs.Dates.{plain_text, IsStamp}
 use Rattle.adf_base.specs.declared.dates.Stamp.{Stamp}
-use Rattle.adf_tree.specs.declared.entry.Kind.{Kind}
-use Rattle.adf_tree.specs.declared.entry.Stamps.{Stamps}
+use Rattle.adf_names.specs.declared.kind.Kind.{Kind}
+use Rattle.adf_names.specs.declared.meta.Stamps.{Stamps}
 use Rattle.adf_manifest.specs.Tokens.{stamps_text}
-use Rattle.adf_tree.specs.Bounds.{AreStamps}
-use Rattle.adf_tree.specs.Kinds.{kind_text}
+use Rattle.adf_names.specs.Meta.{AreStamps}
+use Rattle.adf_names.specs.Kinds.{kind_text}
 use Rattle.adf_manifest.specs.Texts.{hex_word, pair, pairs}
 use Rattle.adf_manifest.specs.declared.lines.Sort.{Sort}
 use Rattle.adf_manifest.specs.declared.lines.Sort.TheVariants.{Dir, File}

@@ -3,17 +3,17 @@ use Rattle.std.specs.Prelude.{◌≡◌, ◌+◌, ◌-◌, ◌<◌, ◌≤◌, �
 use Rattle.std.specs.Prelude.{if◌then◌else◌, map, Option, Some, None, IfSome, All, Err}
 use Rattle.std.specs.List.{slice_split, flat_map}
 use Rattle.std.specs.Option.{unwrap_or}
-use Rattle.adf_tree.specs.Escapes.{IsSpelling, escaped}
-use Rattle.adf_tree.specs.PathTexts.{IsPathText}
+use Rattle.adf_names.specs.Escapes.{IsSpelling, escaped}
+use Rattle.adf_names.specs.PathTexts.{IsPathText}
 use Rattle.adf_tree.specs.Additions.{IsTreeOf}
 use Rattle.adf_tree.specs.Tree.{Tree, room_for}
-use Rattle.adf_tree.specs.declared.entry.Kind.{Kind}
-use Rattle.adf_tree.specs.declared.entry.Stamps.{Stamps}
-use Rattle.adf_tree.specs.declared.entry.TheConstants.{NO_STAMPS}
+use Rattle.adf_names.specs.declared.kind.Kind.{Kind}
+use Rattle.adf_names.specs.declared.meta.Stamps.{Stamps}
+use Rattle.adf_names.specs.declared.meta.TheConstants.{NO_STAMPS}
 use Rattle.adf_tree.specs.declared.tree.RoomFault.{RoomFault}
 use Rattle.adf_tree.specs.declared.tree.RoomFault.TheVariants as room
 use Rattle.adf_blocks.specs.Sizes.{is_allowed}
-use Rattle.adf_tree.specs.Bounds.{AreStamps}
+use Rattle.adf_names.specs.Meta.{AreStamps}
 use Rattle.adf_manifest.specs.Lines.{IsLine, IsVolumeLine, LineValue, LabelLine, StampsLine, EntryLine, NoteLine, RunLine, label_line, line_text, stamps_line}
 use Rattle.adf_manifest.specs.Lines.{volume_line}
 use Rattle.adf_manifest.specs.Items.{HaveRoom, IsItem, Item, addition_of, item_lines, items_tree}

@@ -1,7 +1,7 @@
 -- The texts of bytes and words.
 use Rattle.std.specs.Prelude.{◌≡◌, ◌<◌, All, ◌/◌, ◌%◌, ◌^◌, ◌+◌, ◌-◌, ◌*◌, ◌&&◌, ◌||◌, nat_le, nat_lt, Bool, ℕ, List, [], ◌∷◌, ◌++◌, if◌then◌else◌}
 use Rattle.std.specs.List.{flat_map}
-use Rattle.adf_tree.specs.Escapes.{hex_digit}
+use Rattle.adf_names.specs.Escapes.{hex_digit}
 
 -- the two hexadecimal digits of a byte
 abbrev pub pair : ℕ → List ℕ

@@ -2,7 +2,7 @@
 use Rattle.std.specs.Prelude.{◌≡◌, ◌==◌, ◌&&◌, ◌||◌, not, nat_lt, ℕ, Bool, false, List, ◌++◌, codes, length, slice_index}
 use Rattle.std.specs.List.{All}
 use Rattle.adf_base.specs.Dates.{plain_text}
-use Rattle.adf_tree.specs.declared.entry.Stamps.{Stamps}
+use Rattle.adf_names.specs.declared.meta.Stamps.{Stamps}
 
 -- the text does not contain the byte
 abbrev pub LacksByte : ℕ → List ℕ → Type 0

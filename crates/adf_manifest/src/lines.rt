@@ -2,10 +2,10 @@
 
 ghost use Rattle.std.specs.Prelude.{◌≡◌, ◌≢◌, ◌<◌, ◌≤◌, ◌^◌, ◌++◌, ◌∷◌, ℕ, List, IfSome, IfNone, length};
 ghost use Rattle.adf_base.specs.declared.dates.Stamp.{Stamp as StampValue};
-ghost use Rattle.adf_tree.specs.declared.entry.Stamps.{Stamps as StampsValue};
+ghost use Rattle.adf_names.specs.declared.meta.Stamps.{Stamps as StampsValue};
 ghost use Rattle.adf_manifest.specs.declared.lines.Sort.{Sort as SortValue};
 ghost use Rattle.adf_base.specs.Dates.{IsStamp};
-ghost use Rattle.adf_tree.specs.Bounds.{AreStamps};
+ghost use Rattle.adf_names.specs.Meta.{AreStamps};
 ghost use Rattle.adf_manifest.specs.Lines.{DataRun, FillRun, HasForm, IsLine, IsRun, LineValue, RunValue, data_line, entry_line, fields_text, fill_line, label_line, line_text, line_value, note_line, run_line, run_value, sort_text, stamps_line};
 
 use crate::digits::{Digits, read_byte, read_word};

@@ -2,9 +2,9 @@
 
 ghost use Rattle.std.specs.Prelude.{◌≡◌, ◌<◌, ◌++◌, ◌∷◌, [], ℕ, List, IfSome, IfNone, IfOk, IfErr, None, length, replicate};
 ghost use Rattle.std.specs.Option.{unwrap_or};
-ghost use Rattle.adf_tree.specs.PathTexts.{IsPathText};
+ghost use Rattle.adf_names.specs.PathTexts.{IsPathText};
 ghost use Rattle.adf_tree.specs.Draft.{IsRoomFor};
-ghost use Rattle.adf_tree.specs.Bounds.{AreStamps};
+ghost use Rattle.adf_names.specs.Meta.{AreStamps};
 ghost use Rattle.adf_manifest.specs.Lines.{IsLine, IsRun, IsVolumeLine, LabelLine, NoteLine, RunLine, StampsLine, entry_value, label_line, line_text, line_value, run_value, stamps_line, volume_line};
 ghost use Rattle.adf_manifest.specs.Items.{Item, body_of_sort, run_bytes, with_item};
 ghost use Rattle.adf_manifest.specs.Manifest.{Entries, HasBadText, IsFirstFault, IsPreamble, IsLaterFault, IsWell, Manifest, preamble_lines, preamble_tree, manifest_lines, manifest_tree};

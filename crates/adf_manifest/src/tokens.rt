@@ -4,9 +4,9 @@ ghost use Rattle.std.specs.Prelude.{◌≡◌, ◌≢◌, ◌<◌, ◌^◌, ◌+
 ghost use Rattle.std.specs.Fmt.{decimal};
 ghost use Rattle.adf_base.specs.Dates.{plain_text, IsStamp};
 ghost use Rattle.adf_base.specs.declared.dates.Stamp.{Stamp as StampValue};
-ghost use Rattle.adf_tree.specs.declared.entry.Stamps.{Stamps as StampsValue};
+ghost use Rattle.adf_names.specs.declared.meta.Stamps.{Stamps as StampsValue};
 ghost use Rattle.adf_manifest.specs.Tokens.{LacksByte, has_number_front, stamps_text};
-ghost use Rattle.adf_tree.specs.Bounds.{AreStamps};
+ghost use Rattle.adf_names.specs.Meta.{AreStamps};
 
 use adf_base::Stamp;
 use adf_tree::Stamps;

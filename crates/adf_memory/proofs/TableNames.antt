@@ -7,16 +7,16 @@ use Rattle.std.proofs.Math.Seq.{take-append_seam}
 use Rattle.adf_base.specs.Hash.{slot_of}
 use Rattle.adf_base.specs.Words.{block}
 use Rattle.std.proofs.lemmas.Grind.{common_steps}
-use Rattle.adf_tree.specs.Texts.{is_name}
+use Rattle.adf_names.specs.Texts.{is_name}
 use Rattle.adf_tree.specs.declared.entry.Entry.{Entry}
 use Rattle.adf_tree.specs.Tree.{Tree, child, is_child, place, rank, rank_of}
 use Rattle.adf_tree.proofs.ChildLookup.{child_found, child_not_before, child_not_past, child_says, no_children}
 use Rattle.adf_tree.proofs.Lists.{some_in}
-use Rattle.adf_tree.proofs.PathParts.{one_path}
+use Rattle.adf_names.proofs.PathParts.{one_path}
 use Rattle.adf_tree.proofs.WalkOrder.{place_is}
 use Rattle.adf_blocks.proofs.HeadLaws.{name_short}
 use Rattle.adf_volume.proofs.Lists.{at_index_or, at_some}
-use Rattle.adf_tree.specs.PathTexts.{IsPathText}
+use Rattle.adf_names.specs.PathTexts.{IsPathText}
 use Rattle.adf_volume.specs.Fits.{Fits}
 use Rattle.adf_volume.specs.Image.{name_of}
 use Rattle.adf_volume.specs.Layout.{Layout, at_node, head_at}

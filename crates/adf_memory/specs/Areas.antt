@@ -2,7 +2,7 @@
 -- Letters: b a block, bs blocks; n a node; at a place in a file.
 use Rattle.std.specs.Prelude.{◌≡◌, ◌<◌, ◌≤◌, ◌*◌, ◌-◌, ◌/◌, ◌%◌, ℕ, List, [], ◌∷◌, Option, Some, None, length, take, drop, get_or, slice_get, cond, nat_lt}
 use Rattle.std.proofs.Common.{zero, suc}
-use Rattle.adf_tree.specs.declared.entry.Kind.{Kind}
+use Rattle.adf_names.specs.declared.kind.Kind.{Kind}
 use Rattle.adf_blocks.specs.Sizes.{blocks, chunk}
 use Rattle.adf_volume.specs.Image.{joined, kind_of}
 use Rattle.adf_memory.specs.declared.tables.TableEntry.{TableEntry}

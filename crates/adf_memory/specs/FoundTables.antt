@@ -7,7 +7,7 @@ use Rattle.adf_blocks.specs.Causes.{cause_number}
 use Rattle.adf_blocks.specs.declared.head.HeadBody.{HeadBody}
 use Rattle.adf_blocks.specs.declared.head.HeadBody.TheVariants.{Dir, File}
 use Rattle.adf_blocks.specs.HeadBlock.{body_at, meta_stated}
-use Rattle.adf_tree.specs.declared.entry.Meta.{Meta}
+use Rattle.adf_names.specs.declared.meta.Meta.{Meta}
 use Rattle.adf_volume.specs.Image.{name_of}
 use Rattle.adf_volume.specs.Walk.{Role, heads, node_block}
 use Rattle.adf_findings.specs.declared.concern.Concern.{Concern}

@@ -1,7 +1,7 @@
 -- The verdict on an image.
 use Rattle.std.specs.Prelude.{◌≡◌, ◌⊎◌, ℕ, List}
-use Rattle.adf_tree.specs.declared.entry.Kind.{Kind}
-use Rattle.adf_tree.specs.declared.entry.Kind.TheVariants.{Ofs, Ffs}
+use Rattle.adf_names.specs.declared.kind.Kind.{Kind}
+use Rattle.adf_names.specs.declared.kind.Kind.TheVariants.{Ofs, Ffs}
 use Rattle.adf_blocks.specs.Causes.{cause_number}
 use Rattle.adf_blocks.specs.declared.cause.Cause.{Cause}
 use Rattle.adf_blocks.specs.declared.cause.Cause.TheVariants.{NoMemory}

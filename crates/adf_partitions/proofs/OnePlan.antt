@@ -1,8 +1,8 @@
 -- A text has one plan, or one fault. p, q are partitions, a, b plans, e, d what stands behind their lines.
 use Rattle.std.proofs.Common.{◌≡◌, ◌∙◌, ℕ, true, false, List, [], ◌∷◌, Option, Some, ap, ap₂, refl, sym, subst, inl, inr, arith}
 use Rattle.std.proofs.lemmas.Grind.{common_steps}
-use Rattle.adf_tree.proofs.Spellings.{only_spelled}
-use Rattle.adf_tree.specs.declared.entry.Kind.{Kind}
+use Rattle.adf_names.proofs.Spellings.{only_spelled}
+use Rattle.adf_names.specs.declared.kind.Kind.{Kind}
 use Rattle.adf_partitions.specs.declared.plan.PartitionPlan.{PartitionPlan}
 use Rattle.adf_partitions.specs.declared.plan_line.Options.{Options}
 use Rattle.adf_partitions.specs.declared.plan_text.TextFault.{TextFault}

@@ -4,7 +4,7 @@ use Rattle.std.specs.Prelude.{bytes_eq, slice_get, slice_index, take}
 use Rattle.std.specs.Int.{w32, cast_signed}
 use Rattle.std.specs.List.{list_all, list_any}
 use Rattle.adf_base.specs.Words.{word}
-use Rattle.adf_tree.specs.Texts.{is_name_byte, uppers}
+use Rattle.adf_names.specs.Texts.{is_name_byte, uppers}
 use Rattle.adf_blocks.specs.Forms.{text_at}
 use Rattle.adf_partitions.specs.declared.layout.TheConstants.{BLOCK_SECTORS, BOOT_PRIORITY, DOS_TYPE, DRIVE_NAME, ENV_BLOCK_WORDS, ENV_LENGTH, FLAGS}
 use Rattle.adf_partitions.specs.declared.partition.Partition.{Partition}

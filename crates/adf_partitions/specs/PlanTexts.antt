@@ -7,9 +7,9 @@ use Rattle.std.specs.Int.{w8}
 use Rattle.std.specs.List.{list_all}
 use Rattle.std.specs.Str.{bytes_eq}
 use Rattle.adf_blocks.specs.Sizes.{is_allowed}
-use Rattle.adf_tree.specs.Escapes.{IsSpelling}
-use Rattle.adf_tree.specs.Kinds.{kind_named}
-use Rattle.adf_tree.specs.Texts.{is_name_byte}
+use Rattle.adf_names.specs.Escapes.{IsSpelling}
+use Rattle.adf_names.specs.Kinds.{kind_named}
+use Rattle.adf_names.specs.Texts.{is_name_byte}
 use Rattle.adf_partitions.specs.declared.layout.TheConstants.{MOST_PARTITIONS}
 use Rattle.adf_partitions.specs.declared.plan.PartitionPlan.{PartitionPlan}
 use Rattle.adf_partitions.specs.declared.plan_line.Options.{Options}

@@ -2,9 +2,9 @@
 use Rattle.std.specs.Prelude.{◌≡◌, ◌≤◌, ◌<◌, ◌+◌, ◌*◌, ◌/◌, ◌^◌, ℕ, true, List, [], ◌∷◌, All, IfOk, Ok, length, slice_range, FitsSigned, if◌then◌else◌}
 use Rattle.std.specs.Int.{w8}
 use Rattle.std.specs.List.{list_all}
-use Rattle.adf_tree.specs.Texts.{is_name_byte}
-use Rattle.adf_tree.specs.declared.entry.Kind.{Kind}
-use Rattle.adf_tree.specs.declared.entry.Kind.TheVariants.{Ofs, Ffs}
+use Rattle.adf_names.specs.Texts.{is_name_byte}
+use Rattle.adf_names.specs.declared.kind.Kind.{Kind}
+use Rattle.adf_names.specs.declared.kind.Kind.TheVariants.{Ofs, Ffs}
 use Rattle.adf_partitions.specs.Places.{blocks_from, end_of}
 use Rattle.adf_partitions.specs.declared.layout.TheConstants.{BOOTABLE, MOST_PARTITIONS}
 use Rattle.adf_partitions.specs.declared.partition.Partition.{Partition}

@@ -1,14 +1,14 @@
 // Partitions by name.
 
 ghost use Rattle.std.specs.Prelude.{◌≡◌, bytes_eq};
-ghost use Rattle.adf_tree.specs.Texts.{uppers};
+ghost use Rattle.adf_names.specs.Texts.{uppers};
 ghost use Rattle.adf_partitions.specs.Partitions.{is_named};
 
 use crate::partition::Partition;
 use adf_base::upper;
 
 // Whether two texts are equal, ignoring the case of `a` to `z`.
-#[tactic(auto, using(adf_tree::proofs::EqualNames::ascii_yes, adf_tree::proofs::EqualNames::ascii_no, adf_tree::proofs::EqualNames::ascii_short))]
+#[tactic(auto, using(adf_names::proofs::EqualNames::ascii_yes, adf_names::proofs::EqualNames::ascii_no, adf_names::proofs::EqualNames::ascii_short))]
 fn are_same(a: &[u8], b: &[u8]) -> bool
     ensures { result ≡ bytes_eq (uppers a.now) (uppers b.now) }
 {

@@ -2,7 +2,7 @@
 
 ghost use Rattle.std.specs.Prelude.{◌≡◌};
 ghost use Rattle.std.specs.List.{list_all, list_any};
-ghost use Rattle.adf_tree.specs.Texts.{is_name_byte};
+ghost use Rattle.adf_names.specs.Texts.{is_name_byte};
 ghost use Rattle.adf_partitions.specs.Faults.{first_failed};
 ghost use Rattle.adf_partitions.specs.Partitions.{has_name, is_over, is_over_earlier, name_at, partition_of, place_form, placed};
 ghost use Rattle.adf_partitions.specs.Places.{place_of};
@@ -13,7 +13,7 @@ use crate::layout::{
 use crate::place::{Place, PlaceFault, do_overlap, has_cylinders, is_over_tables, place_within};
 use crate::tables::Tables;
 use adf_base::Block;
-use adf_tree::ShortText;
+use adf_names::ShortText;
 
 /// The name of a drive, at most 31 bytes.
 pub type DriveName = ShortText<31>;

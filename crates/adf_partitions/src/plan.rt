@@ -5,7 +5,7 @@ ghost use Rattle.adf_partitions.specs.Plans.{IsPlan, cylinder_blocks, planned_cy
 
 use crate::layout::BOOTABLE;
 use crate::partition::DriveName;
-use adf_tree::Kind;
+use adf_names::Kind;
 
 /// A partition to be made.
 #[derive(Drop)]

@@ -1,9 +1,9 @@
 // The lines of a plan's text.
 
 ghost use Rattle.std.specs.Prelude.{◌≡◌, ◌≤◌, IfNone, IfSome, List, length, true, ℕ};
-ghost use Rattle.adf_tree.specs.Escapes.{IsSpelling};
-ghost use Rattle.adf_tree.specs.Kinds.{kind_named};
-ghost use Rattle.adf_tree.specs.Texts.{is_name_byte};
+ghost use Rattle.adf_names.specs.Escapes.{IsSpelling};
+ghost use Rattle.adf_names.specs.Kinds.{kind_named};
+ghost use Rattle.adf_names.specs.Texts.{is_name_byte};
 ghost use Rattle.std.specs.List.{list_all};
 ghost use Rattle.adf_partitions.specs.Plans.{IsPartitionPlan};
 ghost use Rattle.adf_partitions.specs.PlanTexts.{IsDiskLine, IsDiskText, IsPartitionLine, IsPartitionText, has_word, option_priority, options_of, without_priority, without_word};
@@ -12,7 +12,7 @@ ghost use Rattle.adf_partitions.specs.declared.plan.PartitionPlan.{PartitionPlan
 use crate::partition::{DriveName, are_name_bytes};
 use crate::plan::PartitionPlan;
 use crate::plan_words::{cut, read_number, read_priority};
-use adf_tree::Kind;
+use adf_names::Kind;
 
 /// What stands behind the cylinders of a partition.
 #[derive(Clone, Copy, Debug)]
@@ -80,7 +80,7 @@ fn read_kind(word: &[u8]) -> Option<Kind>
     }
 }
 
-#[tactic(auto, using(adf_tree::proofs::Spellings::only_spelled))]
+#[tactic(auto, using(adf_names::proofs::Spellings::only_spelled))]
 // The name of a drive, 1 to 31 bytes, none of them `/` or `:`.
 fn read_name(word: &[u8]) -> Option<DriveName>
     ensures some { IfSome result (λ name. IsSpelling 31 word.now name × (1 ≤ length name)

@@ -7,7 +7,7 @@ use Rattle.std.proofs.lemmas.Bool.{and_from, and_left, cases_lt, or_from, or_lef
 use Rattle.std.proofs.lemmas.Bool.Decides.{nat_tests}
 use Rattle.std.proofs.lemmas.Fmt.{decimal_is_IsNumeral, length-decimal-le}
 use Rattle.std.proofs.lemmas.List.Folds.{list_all-append}
-use Rattle.adf_tree.specs.Texts.{is_name, is_name_byte}
+use Rattle.adf_names.specs.Texts.{is_name, is_name_byte}
 use Rattle.adf_blocks.specs.declared.layout.TheConstants.{PARENT}
 use Rattle.adf_blocks.specs.Sizes.{blocks}
 use Rattle.adf_volume.specs.Image.{word_in}

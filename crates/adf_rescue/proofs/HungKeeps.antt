@@ -9,7 +9,7 @@ use Rattle.std.proofs.lemmas.List.{length-replicate}
 use Rattle.std.proofs.lemmas.Grind.{common_steps}
 use Rattle.adf_base.specs.Words.{block, checksum, with_block, with_bytes, with_word}
 use Rattle.adf_base.proofs.WordLaws.{block_other, length-block, length-with_bytes, length-with_word}
-use Rattle.adf_tree.specs.declared.entry.Kind.TheVariants.{Ofs, Ffs}
+use Rattle.adf_names.specs.declared.kind.Kind.TheVariants.{Ofs, Ffs}
 use Rattle.adf_blocks.specs.declared.layout.TheConstants.{CHECKSUM, FIRST_SLOT, NEXT_IN_CHAIN, PARENT, SLOTS}
 use Rattle.adf_blocks.specs.HeadBlock.{FitsHead, head_block}
 use Rattle.adf_blocks.specs.Sizes.{blocks}

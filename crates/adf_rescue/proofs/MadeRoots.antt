@@ -11,8 +11,8 @@ use Rattle.std.proofs.lemmas.List.FromFn.{get_or-map-range_with_len, length-map-
 use Rattle.std.proofs.lemmas.Grind.{common_steps}
 use Rattle.adf_base.specs.Words.{block, long_sum, with_block, word}
 use Rattle.adf_base.proofs.WordLaws.{block_written, drop-with_bytes_above, front-with_bytes, length-with_bytes, range-with_bytes_below}
-use Rattle.adf_tree.specs.Bounds.{AreStamps}
-use Rattle.adf_tree.specs.declared.entry.Stamps.{Stamps}
+use Rattle.adf_names.specs.Meta.{AreStamps}
+use Rattle.adf_names.specs.declared.meta.Stamps.{Stamps}
 use Rattle.adf_blocks.specs.declared.layout.TheConstants.{FIRST_SLOT, MOST_BLOCKS, NAME, SLOTS}
 use Rattle.adf_blocks.specs.Forms.{text_at}
 use Rattle.adf_blocks.specs.RootBlock.{FitsRoot, RootFields, label_stated, root_block, stamps_at}
@@ -22,7 +22,7 @@ use Rattle.adf_blocks.proofs.RootLaws.{root_block-sum, root_block-text, root_blo
 use Rattle.adf_volume.specs.Image.{root_of}
 use Rattle.adf_volume.specs.Start.{is_image_len}
 use Rattle.adf_findings.specs.Start.{has_root_type}
-use Rattle.adf_tree.specs.declared.entry.TheConstants.{NO_STAMPS}
+use Rattle.adf_names.specs.declared.meta.TheConstants.{NO_STAMPS}
 use Rattle.adf_rescue.specs.MadeRoot.{has_root, label_in, made_root, middle_block, pages_in, rooted, slots_in, stamps_in}
 
 -- an image of an allowed size is whole blocks, at least 4

@@ -17,7 +17,7 @@ use Rattle.adf_volume.specs.Layout.{Layout}
 use Rattle.adf_volume.specs.Start.{is_image_len}
 use Rattle.adf_findings.specs.Opening.{opening_in}
 use Rattle.adf_findings.specs.Start.{has_root_type}
-use Rattle.adf_tree.specs.declared.entry.TheConstants.{NO_STAMPS}
+use Rattle.adf_names.specs.declared.meta.TheConstants.{NO_STAMPS}
 use Rattle.adf_rescue.specs.MadeRoot.{has_root, made_root, middle_block, rooted}
 use Rattle.adf_rescue.specs.Opened.{begins_with_dos, begun, has_data, is_mended, opened, says_data, type_byte}
 use Rattle.adf_rescue.proofs.MadeRoots.{before_rooted, behind_rooted, front_rooted, length_rooted, made_fits, made_rooted, made_slot}

@@ -8,8 +8,8 @@ use Rattle.std.proofs.lemmas.Grind.{common_steps}
 use Rattle.adf_base.specs.Words.{block, word}
 use Rattle.adf_tree.specs.declared.entry.Body.{Body, TheVariants.Dir}
 use Rattle.adf_tree.specs.declared.entry.Entry.{Entry}
-use Rattle.adf_tree.specs.declared.entry.Kind.{Kind}
-use Rattle.adf_tree.specs.Texts.{is_name}
+use Rattle.adf_names.specs.declared.kind.Kind.{Kind}
+use Rattle.adf_names.specs.Texts.{is_name}
 use Rattle.adf_blocks.specs.declared.cause.Cause.TheVariants.{BadComment, BadName}
 use Rattle.adf_blocks.specs.declared.layout.TheConstants.{COMMENT, DATE, NAME, PROTECTION, SECONDARY_TYPE, ST_DIR, ST_FILE}
 use Rattle.adf_blocks.specs.Forms.{stamp_at, text_at}

@@ -11,7 +11,7 @@ use Rattle.adf_tree.specs.declared.draft.Room.{Room}
 use Rattle.adf_tree.specs.Draft.{DraftValue, IsDirectoryOf, IsRoomFor}
 use Rattle.adf_tree.specs.declared.entry.Body.{TheVariants.Dir, TheVariants.File, Body}
 use Rattle.adf_tree.specs.Tree.{Tree, is_dir_body, new_entry, with_entry}
-use Rattle.adf_tree.specs.declared.entry.Meta.{Meta}
+use Rattle.adf_names.specs.declared.meta.Meta.{Meta}
 use Rattle.adf_base.specs.Words.{block}
 use Rattle.adf_blocks.specs.HeadBlock.{meta_stated}
 use Rattle.adf_blocks.specs.Sizes.{blocks, is_allowed}

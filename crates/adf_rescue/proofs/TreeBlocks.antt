@@ -1,7 +1,7 @@
 -- The blocks that the entries of a tree need, with one more entry.
 use Rattle.std.proofs.Common.{◌≡◌, ℕ, ◌+◌, List, [], ◌∷◌, ◌++◌, map, take, drop, arith, refl, ap, take-append-drop}
 use Rattle.adf_tree.specs.declared.entry.Entry.{Entry}
-use Rattle.adf_tree.specs.declared.entry.Kind.{Kind}
+use Rattle.adf_names.specs.declared.kind.Kind.{Kind}
 use Rattle.adf_tree.specs.Tree.{added, place, rank, renumbered}
 use Rattle.adf_build.specs.Plan.{entries_blocks, entry_blocks}
 

@@ -12,7 +12,7 @@ use Rattle.adf_tree.specs.declared.entry.Body.TheVariants.{Dir}
 use Rattle.adf_tree.specs.declared.entry.Entry.{Entry}
 use Rattle.adf_tree.specs.Additions.{Addition, entries_of_additions, with_addition}
 use Rattle.adf_tree.specs.Laws.{IsNextEntry}
-use Rattle.adf_tree.specs.Texts.{is_name}
+use Rattle.adf_names.specs.Texts.{is_name}
 use Rattle.adf_tree.specs.Tree.{IsDir, IsTree, Tree, added, directory_from, is_dir_body, room_for, with_entry}
 use Rattle.adf_tree.proofs.TreePrefixes.{first_tree, is_next}
 use Rattle.adf_blocks.specs.Sizes.{blocks}

@@ -3,8 +3,8 @@
 use Rattle.std.specs.Prelude.{ℕ, ◌+◌, ◌==◌, ◌&&◌, ◌||◌, not, nat_le, nat_lt, Bool, cond, List, [], map}
 use Rattle.std.specs.List.{range_with_len}
 use Rattle.adf_base.specs.Words.{block, long_sum, with_block, word}
-use Rattle.adf_tree.specs.declared.entry.Stamps.{Stamps}
-use Rattle.adf_tree.specs.declared.entry.TheConstants.{NO_STAMPS}
+use Rattle.adf_names.specs.declared.meta.Stamps.{Stamps}
+use Rattle.adf_names.specs.declared.meta.TheConstants.{NO_STAMPS}
 use Rattle.adf_blocks.specs.declared.layout.TheConstants.{FIRST_PAGE, FIRST_SLOT, ROOT_PAGES, SLOTS, TYPE, T_DATA, T_LIST, T_SHORT}
 use Rattle.adf_blocks.specs.RootBlock.{RootFields, label_stated, root_block, stamps_at}
 use Rattle.adf_blocks.specs.Sizes.{blocks}

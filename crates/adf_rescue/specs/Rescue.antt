@@ -11,9 +11,9 @@ use Rattle.std.proofs.Common.{zero, suc}
 use Rattle.adf_base.specs.Words.{block}
 use Rattle.adf_tree.specs.declared.entry.Body.{Body}
 use Rattle.adf_tree.specs.declared.entry.Body.TheVariants.{Dir, File}
-use Rattle.adf_tree.specs.declared.entry.Meta.{Meta}
+use Rattle.adf_names.specs.declared.meta.Meta.{Meta}
 use Rattle.adf_tree.specs.Additions.{Addition, entries_of_additions}
-use Rattle.adf_tree.specs.Texts.{is_name}
+use Rattle.adf_names.specs.Texts.{is_name}
 use Rattle.adf_tree.specs.Tree.{Tree, is_dir_body, room_for, with_entry}
 use Rattle.adf_blocks.specs.declared.layout.TheConstants.{SECONDARY_TYPE, ST_DIR, ST_FILE}
 use Rattle.adf_blocks.specs.HeadBlock.{is_link, meta_stated}

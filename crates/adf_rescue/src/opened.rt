@@ -7,7 +7,7 @@ ghost use Rattle.adf_volume.specs.Image.{root_of, word_in};
 ghost use Rattle.adf_volume.specs.Start.{is_image_len};
 ghost use Rattle.adf_findings.specs.Opening.{opening_in};
 ghost use Rattle.adf_findings.specs.Start.{has_root_type};
-ghost use Rattle.adf_tree.specs.declared.entry.TheConstants.{NO_STAMPS};
+ghost use Rattle.adf_names.specs.declared.meta.TheConstants.{NO_STAMPS};
 ghost use Rattle.adf_rescue.specs.MadeRoot.{has_root, middle_block};
 ghost use Rattle.adf_rescue.specs.Opened.{begins_with_dos, begun, has_data, is_mended, opened, says_data, says_file, type_byte};
 

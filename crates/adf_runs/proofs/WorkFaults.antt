@@ -1,7 +1,7 @@
 -- Why no work is begun.
 use Rattle.std.proofs.Common.{◌≡◌, refl, Result, Ok, Err, IfErr}
 use Rattle.std.specs.Result.{IsErrAnd}
-use Rattle.adf_tree.specs.declared.path_texts.PathFault.{PathFault, TheVariants.BadText, TheVariants.NoMemory}
+use Rattle.adf_names.specs.declared.path_texts.PathFault.{PathFault, TheVariants.BadText, TheVariants.NoMemory}
 use Rattle.adf_runs.specs.WorkFaults.{IsNoWork, path_refused}
 use Rattle.adf_runs.specs.declared.work_fault.WorkFault.{WorkFault}
 

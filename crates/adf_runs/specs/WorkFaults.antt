@@ -1,7 +1,7 @@
 -- Why no work is begun for the words of a command.
 use Rattle.std.specs.Prelude.{ℕ, List, codes}
-use Rattle.adf_tree.specs.declared.path_texts.PathFault.{PathFault}
-use Rattle.adf_tree.specs.declared.path_texts.PathFault.TheVariants.{BadText, NoMemory as PathNoMemory}
+use Rattle.adf_names.specs.declared.path_texts.PathFault.{PathFault}
+use Rattle.adf_names.specs.declared.path_texts.PathFault.TheVariants.{BadText, NoMemory as PathNoMemory}
 use Rattle.adf_words.specs.declared.command_line.ArgsError.{ArgsError}
 use Rattle.adf_words.specs.declared.command_line.ArgsError.TheVariants.{NoMemory as ArgsNoMemory, Usage as ArgsUsage}
 use Rattle.adf_runs.specs.declared.work_fault.WorkFault.{WorkFault}

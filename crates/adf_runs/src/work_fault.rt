@@ -6,7 +6,7 @@ ghost use Rattle.adf_runs.specs.WorkFaults.{refusal_line, refusal_status};
 
 use crate::devices::Sink;
 use crate::streams::say;
-use adf_tree::PathFault;
+use adf_names::PathFault;
 use adf_words::ArgsError;
 use std::error::Error;
 use std::fmt;

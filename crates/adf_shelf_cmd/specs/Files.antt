@@ -1,6 +1,6 @@
 -- What comes of opening files.
 use Rattle.std.specs.Prelude.{List, [], ◌++◌, codes, ℕ, Option, None, Some, IsUtf8}
-use Rattle.adf_tree.specs.Escapes.{escaped}
+use Rattle.adf_names.specs.Escapes.{escaped}
 use Rattle.adf_shelf_cmd.specs.declared.files.Unopened.{Unopened}
 use Rattle.adf_shelf_cmd.specs.declared.files.Unopened.TheVariants.{Missing, Forbidden, Directory, NotText, Other}
 

@@ -3,7 +3,7 @@
 use Rattle.std.specs.Prelude.{◌≡◌, ◌≢◌, ◌≤◌, ◌⊎◌, ℕ, max, Bool, true, false, List, [], ◌∷◌, ◌++◌, codes}
 use Rattle.std.specs.Prelude.{Option, None, Some, IfSome, Result, Err, if◌then◌else◌, string_bytes}
 use Rattle.std.specs.Io.KnownBytes.{Appends}
-use Rattle.adf_tree.specs.Escapes.{escaped}
+use Rattle.adf_names.specs.Escapes.{escaped}
 use Rattle.adf_cmd.specs.Answers.{Answer}
 use Rattle.adf_runs.specs.Commands.{on_output}
 use Rattle.adf_words.specs.CommandLine.{check}

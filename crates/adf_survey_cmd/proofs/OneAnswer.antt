@@ -2,7 +2,7 @@
 -- Letters: w, u walks of its survey, fs, gs the findings; n, m entries' nodes; r, q inquiries; a, b replies.
 use Rattle.std.proofs.Common.{◌≡◌, ◌∙◌, inl, inr, ℕ, Bool, true, false, List, [], ◌∷◌, Option, Some, sym, ap, subst, None, refl, arith}
 use Rattle.std.proofs.lemmas.Grind.{common_steps}
-use Rattle.adf_tree.proofs.PathParts.{one_path}
+use Rattle.adf_names.proofs.PathParts.{one_path}
 use Rattle.adf_volume.specs.Walk.{FileAt, Role, node_block}
 use Rattle.adf_findings.specs.Files.{IsSoundFile, grave}
 use Rattle.adf_findings.specs.Lookup.{LeadsTo}

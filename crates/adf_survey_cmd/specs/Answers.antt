@@ -2,7 +2,7 @@
 -- Letters: w the walk of a survey, fs its findings; n an entry's node, h the block of its header; r an inquiry.
 use Rattle.std.specs.Prelude.{◌≡◌, ◌*◌, ◌-◌, ◌⊎◌, ◌++◌, ℕ, Bool, true, false, List, [], ◌∷◌, Option, None, Some, codes, length, replicate, take}
 use Rattle.adf_blocks.specs.declared.layout.TheConstants.{MOST_BLOCKS}
-use Rattle.adf_tree.specs.PathTexts.{IsPathText}
+use Rattle.adf_names.specs.PathTexts.{IsPathText}
 use Rattle.adf_volume.specs.Walk.{FileAt, Role}
 use Rattle.adf_findings.specs.Files.{IsSoundFile, file_content, file_in}
 use Rattle.adf_findings.specs.Lookup.{LeadsTo}

@@ -7,9 +7,9 @@ use Rattle.std.proofs.lemmas.Bool.{and_parts, ne_eqb}
 use Rattle.std.proofs.lemmas.List.{length-map, length-take-le, map-append, take_more}
 use Rattle.std.proofs.lemmas.List.Elements.{All-head, All-tail}
 use Rattle.std.proofs.lemmas.Grind.{common_steps}
-use Rattle.adf_tree.specs.Escapes.{escape_of, escaped}
-use Rattle.adf_tree.specs.PathTexts.{IsName, path_text, with_name}
-use Rattle.adf_tree.specs.Texts.{is_name_byte}
+use Rattle.adf_names.specs.Escapes.{escape_of, escaped}
+use Rattle.adf_names.specs.PathTexts.{IsName, path_text, with_name}
+use Rattle.adf_names.specs.Texts.{is_name_byte}
 use Rattle.adf_texts.specs.Names.{digits_of, name_bytes, names_text, spelled}
 
 -- a name behind a text

@@ -4,7 +4,7 @@ use Rattle.std.proofs.lemmas.Grind.{common_steps}
 use Rattle.adf_base.specs.declared.dates.Stamp.{Stamp}
 use Rattle.adf_tree.specs.declared.entry.Body.{Body, TheVariants.Dir, TheVariants.File}
 use Rattle.adf_tree.specs.declared.entry.Entry.{Entry}
-use Rattle.adf_tree.specs.PathTexts.{path_text}
+use Rattle.adf_names.specs.PathTexts.{path_text}
 use Rattle.adf_volume.specs.Rows.{row_of_body, row_of_entry}
 use Rattle.adf_volume.specs.declared.row.Row.{Row}
 use Rattle.adf_texts.proofs.Ranges.{flat_map_front, flat_map_next}

@@ -1,7 +1,7 @@
 -- The output lines of the commands.
 use Rattle.std.specs.Prelude.{ℕ, List, [], ◌∷◌, ◌++◌, codes}
 use Rattle.std.specs.Fmt.{decimal}
-use Rattle.adf_tree.specs.Kinds.{kind_text}
+use Rattle.adf_names.specs.Kinds.{kind_text}
 use Rattle.adf_manifest.specs.Kinds.{manifest_fault_text}
 use Rattle.adf_manifest.specs.Texts.{hex_word}
 use Rattle.adf_manifest.specs.declared.manifest.ManifestFault.{ManifestFault}

@@ -11,14 +11,14 @@ use Rattle.std.proofs.lemmas.Slice.Eq.{bytes_eq-Decides}
 use Rattle.std.proofs.lemmas.Bool.Decides.{nat_tests}
 use Rattle.adf_tree.specs.declared.entry.Entry.{Entry}
 use Rattle.adf_base.specs.Hash.{slot_of, hash_more, upper_of}
-use Rattle.adf_tree.specs.Texts.{uppers}
+use Rattle.adf_names.specs.Texts.{uppers}
 use Rattle.adf_tree.specs.Tree.{rank, rank_of, is_child, child, place, renumbered, moved, added, IsTree, IsDir, MayAdd}
 use Rattle.adf_tree.proofs.TreeInvariant.{after, moved_same, moved_below, moved_above, moved_up, moved_near, added_tree, place_le, dir_before, length_added}
 use Rattle.adf_tree.proofs.TreeInvariant.{at_place, new_get, by_case}
 use Rattle.adf_tree.proofs.ChainOrder.{moved_test}
 use Rattle.std.proofs.lemmas.List.Quantifiers.{position-Some}
 use Rattle.std.proofs.lemmas.Grind.{common_steps}
-use Rattle.adf_tree.proofs.Lists.{fails_at_none}
+use Rattle.adf_names.proofs.Positions.{fails_at_none}
 
 pub upper_twice : (c : ℕ) → upper_of (upper_of c) ≡ upper_of c
 upper_twice c = grind (arith, nat_tests)

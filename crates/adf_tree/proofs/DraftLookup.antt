@@ -5,7 +5,7 @@ use Rattle.std.proofs.lemmas.Bool.{cases_eq, ne_eqb}
 use Rattle.std.proofs.lemmas.List.{drop_more}
 use Rattle.adf_tree.specs.declared.entry.Entry.{Entry}
 use Rattle.adf_tree.specs.declared.tree.RoomFault.{RoomFault, TheVariants.NoParent, TheVariants.ParentIsFile}
-use Rattle.adf_tree.specs.Texts.{uppers}
+use Rattle.adf_names.specs.Texts.{uppers}
 use Rattle.adf_tree.specs.Tree.{directory_from, is_dir, is_dir_body}
 use Rattle.adf_tree.specs.ChildMap.{number_in, Numbers}
 use Rattle.adf_tree.specs.Draft.{node_of, walk, IsDraft, IsNumberedTree, NumberedTree}

@@ -1,7 +1,7 @@
 -- Each entry is found under its path, and under its names as written.
 use Rattle.std.proofs.Common.{◌≡◌, ℕ, ◌+◌, ◌-◌, ◌≤◌, List, [], ◌∷◌, length, get_or, Some, arith, sym, refl, ◌∙◌, ap, zero, suc, ◌++◌, map}
 use Rattle.adf_tree.specs.declared.entry.Entry.{Entry}
-use Rattle.adf_tree.specs.Texts.{uppers}
+use Rattle.adf_names.specs.Texts.{uppers}
 use Rattle.adf_tree.specs.Paths.{path_in, path_of, names_of}
 use Rattle.adf_tree.specs.Tree.{find, IsTree, entry}
 use Rattle.adf_tree.proofs.ChildLookup.{upper_twice, child_is, is_child_from}

@@ -12,7 +12,7 @@ use Rattle.std.proofs.lemmas.Grind.{common_steps}
 use Rattle.adf_base.specs.Hash.{slot_of}
 use Rattle.adf_tree.specs.declared.entry.Entry.{Entry}
 use Rattle.adf_tree.specs.declared.last_chain.LastChain.{LastChain}
-use Rattle.adf_tree.specs.Texts.{uppers}
+use Rattle.adf_names.specs.Texts.{uppers}
 use Rattle.adf_tree.specs.Tree.{place, rank, rank_of, is_child, child}
 use Rattle.adf_tree.specs.NameSet.{has}
 use Rattle.adf_tree.specs.LastChain.{knows, IsOf}

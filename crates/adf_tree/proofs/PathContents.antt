@@ -6,7 +6,7 @@ use Rattle.std.specs.Str.{bytes_eq}
 use Rattle.std.proofs.lemmas.Bool.{cases_eq, ne_eqb, cases_lt}
 use Rattle.std.proofs.lemmas.List.{append-nil, append_assoc, map-append}
 use Rattle.adf_tree.specs.declared.entry.Entry.{Entry}
-use Rattle.adf_tree.specs.Texts.{uppers}
+use Rattle.adf_names.specs.Texts.{uppers}
 use Rattle.adf_tree.specs.Paths.{entry_content, content_at, path_in, path_of, AddsOne, names_in}
 use Rattle.adf_tree.specs.Tree.{place, rank, moved, added, entry, child, find, find_from, IsTree, MayAdd, directory_from, room_at, new_entry}
 use Rattle.adf_tree.proofs.TreeInvariant.{moved_below, moved_above, moved_up, moved_near, length_added, at_place, place_le, new_get}
@@ -16,7 +16,7 @@ use Rattle.adf_tree.proofs.AddRoom.{room_may_add, room_says, next_dir, IsNew}
 use Rattle.adf_tree.proofs.ChainOrder.{chain_added}
 use Rattle.std.proofs.lemmas.Option.{slice_get_within, get_or_from_slice_get, slice_get-get_or, slice_get_past}
 use Rattle.std.proofs.lemmas.Grind.{common_steps}
-use Rattle.adf_tree.specs.declared.entry.Meta.{Meta}
+use Rattle.adf_names.specs.declared.meta.Meta.{Meta}
 use Rattle.adf_tree.specs.declared.entry.Body.{Body}
 
 -- entries by number

@@ -1,20 +1,12 @@
 -- The bounds of the fields of a tree.
 use Rattle.std.specs.Prelude.{◌≡◌, ◌<◌, ◌≤◌, ◌^◌, length, true}
 use Rattle.std.specs.List.{All}
-use Rattle.adf_base.specs.Dates.{IsStamp}
 use Rattle.adf_tree.specs.declared.entry.Body.{Body}
 use Rattle.adf_tree.specs.declared.entry.Body.TheVariants.{Dir, File}
 use Rattle.adf_tree.specs.declared.entry.Entry.{Entry}
-use Rattle.adf_tree.specs.declared.entry.Stamps.{Stamps}
-use Rattle.adf_tree.specs.Meta.{IsBoundedMeta}
-use Rattle.adf_tree.specs.Texts.{is_name}
+use Rattle.adf_names.specs.Meta.{AreStamps, IsBoundedMeta}
+use Rattle.adf_names.specs.Texts.{is_name}
 use Rattle.adf_tree.specs.Tree.{Tree}
-
--- the numbers of a volume's three dates fit in 32 bits
-pub record AreStamps (s : Stamps) : Type 0 where
-  pub root : IsStamp s.root
-  pub altered : IsStamp s.altered
-  pub created : IsStamp s.created
 
 -- a file has fewer than 2^63 bytes
 abbrev pub IsData : Body → Type 0

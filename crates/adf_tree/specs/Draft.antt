@@ -1,11 +1,11 @@
 -- Trees under construction: entries in order of addition, numbered from 1, with parents by these numbers.
 use Rattle.std.specs.Prelude.{◌≡◌, ℕ, ◌+◌, ◌-◌, ◌<◌, ◌≤◌, List, [], ◌∷◌, ◌++◌, Some, Result, Ok, Err, option_map, length, map, fold, slice_index_or}
-use Rattle.adf_tree.specs.Texts.{uppers}
+use Rattle.adf_names.specs.Texts.{uppers}
 use Rattle.adf_tree.specs.declared.entry.Entry.{Entry}
 use Rattle.adf_tree.specs.declared.tree.RoomFault.{RoomFault}
 use Rattle.adf_tree.specs.declared.draft.Room.{Room}
-use Rattle.adf_tree.specs.declared.entry.Kind.{Kind}
-use Rattle.adf_tree.specs.declared.entry.Stamps.{Stamps}
+use Rattle.adf_names.specs.declared.kind.Kind.{Kind}
+use Rattle.adf_names.specs.declared.meta.Stamps.{Stamps}
 use Rattle.adf_tree.specs.Tree.{added, child, directory_from, last_of, moved, place, rank, room_for, IsTree, Tree}
 use Rattle.adf_tree.specs.Chain.{chain}
 use Rattle.adf_tree.specs.ChildMap.{number_in, Numbers}

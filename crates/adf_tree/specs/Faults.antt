@@ -4,8 +4,6 @@ use Rattle.adf_tree.specs.declared.tree.AddFault.{AddFault}
 use Rattle.adf_tree.specs.declared.tree.AddFault.TheVariants as add
 use Rattle.adf_tree.specs.declared.tree.RoomFault.{RoomFault}
 use Rattle.adf_tree.specs.declared.tree.RoomFault.TheVariants as room
-use Rattle.adf_tree.specs.declared.path_texts.PathFault.{PathFault}
-use Rattle.adf_tree.specs.declared.path_texts.PathFault.TheVariants as path
 
 -- the fault of `add` for a path that has no room
 abbrev pub add_fault : RoomFault → AddFault
@@ -22,11 +20,6 @@ add_fault_number add.Exists = 3
 add_fault_number add.NoMemory = 4
 add_fault_number add.EmptyPath = 5
 
--- the number of a fault of a path's text, 1 or 2
-abbrev pub path_fault_number : PathFault → ℕ
-path_fault_number path.BadText = 1
-path_fault_number path.NoMemory = 2
-
 -- the text of a fault of `add`
 abbrev pub add_fault_text : AddFault → List ℕ
 add_fault_text add.NoParent = codes "no parent"
@@ -34,8 +27,3 @@ add_fault_text add.ParentIsFile = codes "parent is file"
 add_fault_text add.Exists = codes "exists"
 add_fault_text add.NoMemory = codes "no memory"
 add_fault_text add.EmptyPath = codes "no name"
-
--- the text of a fault of a path's text
-abbrev pub path_fault_text : PathFault → List ℕ
-path_fault_text path.BadText = codes "bad path"
-path_fault_text path.NoMemory = codes "no memory"

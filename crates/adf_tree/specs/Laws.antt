@@ -1,7 +1,7 @@
 -- Laws of trees, each the contract of a function in `laws.rt`.
 use Rattle.std.specs.Prelude.{◌≡◌, ℕ, ◌+◌, ◌-◌, ◌<◌, ◌≤◌, ◌↔◌, List, length, map, take, Some, slice_index_or, Contains, [], ◌∷◌, ◌++◌, IsOk}
 use Rattle.adf_base.specs.Hash.{slot_of}
-use Rattle.adf_tree.specs.Texts.{uppers}
+use Rattle.adf_names.specs.Texts.{uppers}
 use Rattle.adf_tree.specs.declared.entry.Entry.{Entry}
 use Rattle.adf_tree.specs.Tree.{added, child, entry, find, room_for, IsLast, IsTree, MayAdd}
 use Rattle.adf_tree.specs.Chain.{chain}

@@ -5,7 +5,7 @@ use Rattle.std.specs.List.{position_or_len, All, AllPairs, slice_get}
 use Rattle.std.specs.List.Sorted.{IsNonDecreasingBy}
 use Rattle.std.specs.Str.{bytes_eq}
 use Rattle.adf_base.specs.Hash.{slot_of}
-use Rattle.adf_tree.specs.Texts.{uppers}
+use Rattle.adf_names.specs.Texts.{uppers}
 use Rattle.adf_tree.specs.declared.entry.Entry.{Entry}
 use Rattle.std.specs.Option.{unwrap_or}
 use Rattle.adf_tree.specs.Faults.{add_fault}
@@ -13,9 +13,9 @@ use Rattle.adf_tree.specs.declared.tree.AddFault.{AddFault}
 use Rattle.adf_tree.specs.declared.tree.AddFault.TheVariants.{NoMemory}
 use Rattle.adf_tree.specs.declared.tree.RoomFault.{RoomFault}
 use Rattle.adf_tree.specs.declared.tree.RoomFault.TheVariants.{EmptyPath, NoParent, ParentIsFile, Exists}
-use Rattle.adf_tree.specs.declared.entry.Kind.{Kind}
-use Rattle.adf_tree.specs.declared.entry.Stamps.{Stamps}
-use Rattle.adf_tree.specs.declared.entry.Meta.{Meta}
+use Rattle.adf_names.specs.declared.kind.Kind.{Kind}
+use Rattle.adf_names.specs.declared.meta.Stamps.{Stamps}
+use Rattle.adf_names.specs.declared.meta.Meta.{Meta}
 use Rattle.adf_tree.specs.declared.entry.Body.{Body}
 use Rattle.adf_tree.specs.declared.entry.Body.TheVariants.{Dir, File}
 

@@ -1,19 +1,8 @@
 // The bounds of the fields of a tree.
 
-ghost use Rattle.adf_base.specs.Dates.{IsStamp};
 ghost use Rattle.adf_tree.specs.Bounds.{IsBoundedEntry, IsData};
 
 use crate::entry::{Body, Entry};
-use adf_base::Stamp;
-
-/// The numbers of a date fit in 32 bits.
-pub fn date_bounds(stamp: &Stamp)
-    ensures { IsStamp stamp.now }
-{
-    let _days = stamp.days;
-    let _mins = stamp.mins;
-    let _ticks = stamp.ticks;
-}
 
 // A file has fewer than 2^63 bytes.
 fn body_bounds(body: &Body)

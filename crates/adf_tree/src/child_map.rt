@@ -2,14 +2,14 @@
 
 ghost use Rattle.std.specs.Prelude.{◌≡◌, ◌≤◌, ◌<◌, ℕ, List, None, OnOk, OnErr, length, true};
 ghost use Rattle.std.specs.BTreeMap.{get};
-ghost use Rattle.adf_tree.specs.Texts.{uppers};
+ghost use Rattle.adf_names.specs.Texts.{uppers};
 ghost use Rattle.adf_tree.specs.NameKeys.{is_short};
 ghost use Rattle.adf_tree.specs.ChildMap.{bucket_of, by_child, child_key, number_in, HasNumber};
 
 use crate::entry::Node;
-use crate::name::Name;
 use crate::name_key::NameKey;
 use adf_base::NoMemory;
+use adf_names::Name;
 use std::alloc::Global;
 use std::collections::BTreeMap;
 

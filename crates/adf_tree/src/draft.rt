@@ -3,18 +3,17 @@
 ghost use Rattle.std.specs.Prelude.{◌≡◌, ◌≤◌, ◌+◌, ◌++◌, ◌∷◌, ℕ, List, [], length, is_ok, if◌then◌else◌, Err, IfOk, IfErr, IfNone, IfSome, OnOk, OnErr};
 ghost use Rattle.adf_tree.specs.Tree.{directory_from, new_entry, room_at, room_for, with_entry, IsAnswer};
 ghost use Rattle.adf_tree.specs.Paths.{AddsOne};
-ghost use Rattle.adf_tree.specs.Texts.{uppers};
+ghost use Rattle.adf_names.specs.Texts.{uppers};
 ghost use Rattle.adf_tree.specs.ChildMap.{number_in, HasNumber};
 ghost use Rattle.adf_tree.specs.Draft.{room_in_tree, walk, IsDirectoryOf, IsDraft, IsRoomFor};
 
 use crate::child_map::ChildMap;
-use crate::entry::{Body, Entry, Kind, Meta, Node, Stamps};
+use crate::entry::{Body, Entry, Node};
 use crate::groups::walked;
 use crate::lookup::is_dir;
-use crate::name::Name;
-use crate::short_text::Label;
 use crate::tree::{AddFault, RoomFault, Tree};
 use adf_base::NoMemory;
+use adf_names::{Kind, Label, Meta, Name, Stamps};
 use std::alloc::Global;
 use std::marker::Model;
 

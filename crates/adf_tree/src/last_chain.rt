@@ -2,17 +2,17 @@
 
 ghost use Rattle.std.specs.Prelude.{◌≡◌, ◌<◌, ◌≤◌, ℕ, List, length, true, false, is_ok, if◌then◌else◌, IfErr};
 ghost use Rattle.std.specs.List.Sorted.{IsNonDecreasingBy};
-ghost use Rattle.adf_tree.specs.Texts.{uppers};
+ghost use Rattle.adf_names.specs.Texts.{uppers};
 ghost use Rattle.adf_tree.specs.Tree.{added, place, rank, rank_of, IsTree};
 ghost use Rattle.adf_tree.specs.NameSet.{has};
 ghost use Rattle.adf_tree.specs.LastChain.{knows, IsOf, Puts};
 
 use crate::entry::{Entry, Node};
-use crate::name::Name;
 use crate::name_set::NameSet;
 use crate::tree::AddFault;
 use crate::walk_order::{insert_entry, place_of, start_of};
 use adf_base::slot;
+use adf_names::Name;
 use std::alloc::Global;
 
 /// The names, in upper case, of the entries of one parent and slot, if they are known.

@@ -8,10 +8,10 @@ ghost use Rattle.adf_tree.specs.Tree.{child, directory_from, entry, find, is_chi
 
 use crate::entry::{Body, Entry, Node};
 use crate::last_chain::LastChain;
-use crate::name::Name;
 use crate::tree::RoomFault;
 use crate::walk_order::{place_of, start_of};
 use adf_base::slot;
+use adf_names::Name;
 
 // Whether the entry has this parent and this name, ignoring case.
 fn is_child(e: &Entry, parent: Node, name: &Name) -> bool

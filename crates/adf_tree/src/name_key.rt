@@ -1,11 +1,11 @@
 // Names as four numbers, so that comparing two names compares a few words.
 
 ghost use Rattle.std.specs.Prelude.{◌≡◌, ◌≤◌, ◌+◌, length, true};
-ghost use Rattle.adf_tree.specs.Texts.{uppers};
+ghost use Rattle.adf_names.specs.Texts.{uppers};
 ghost use Rattle.adf_tree.specs.NameKeys.{is_short, key_of_name, padded, spread_of, hashed, name_word};
 
-use crate::name::Name;
 use adf_base::upper;
+use adf_names::Name;
 
 /// A name in upper case, its length before its bytes, as four numbers.
 #[derive(Clone, Copy, PartialEq, Eq, PartialOrd, Ord, Drop)]

@@ -1,15 +1,15 @@
 // Sets of names, ignoring the case of `a` to `z`.
 
 ghost use Rattle.std.specs.Prelude.{◌≡◌, ◌<◌, ◌≤◌, ◌^◌, ◌++◌, [], ◌∷◌, ℕ, List, length, false, not, IfOk, OnErr, OnOk};
-ghost use Rattle.adf_tree.specs.Texts.{uppers};
+ghost use Rattle.adf_names.specs.Texts.{uppers};
 ghost use Rattle.adf_tree.specs.NameSet.{has, is_among, HasMore, IsUnion, IsWith, Names};
 ghost use Rattle.adf_tree.specs.declared.name_key.NameKey.{NameKey};
 ghost use Rattle.adf_tree.specs.NameBuckets.{holder_of, first_bucket_in, probe_of, probe_buckets, AreStored};
 ghost use Rattle.adf_tree.specs.declared.name_set.Probe.TheVariants.{Vacant};
 
-use crate::name::Name;
 use crate::name_key::NameKey;
 use adf_base::NoMemory;
+use adf_names::Name;
 use std::alloc::Global;
 use std::collections::BTreeSet;
 use std::marker::Model;

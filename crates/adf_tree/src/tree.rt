@@ -7,13 +7,12 @@ ghost use Rattle.adf_tree.specs.Faults.{add_fault_number};
 ghost use Rattle.adf_tree.specs.Bounds.{IsBounded};
 ghost use Rattle.adf_tree.specs.Paths.{AddsOne};
 
-use crate::bounds::{date_bounds, entry_bounds};
-use crate::entry::{Body, Entry, Kind, Meta, Node, Stamps};
+use crate::bounds::entry_bounds;
+use crate::entry::{Body, Entry, Node};
 use crate::last_chain::{LastChain, add_entry};
 use crate::lookup::{entry, find, room_for};
-use crate::name::Name;
-use crate::short_text::Label;
 use adf_base::NoMemory;
+use adf_names::{Kind, Label, Meta, Name, Stamps};
 use std::alloc::Global;
 use std::error::Error;
 use std::fmt;
@@ -200,9 +199,7 @@ impl Tree {
         ensures { IsBounded self.now }
     {
         let _label = self.label.bytes();
-        date_bounds(&self.stamps.root);
-        date_bounds(&self.stamps.altered);
-        date_bounds(&self.stamps.created);
+        self.stamps.bounds();
         for entry in &self.entries {
             entry_bounds(entry);
         }

@@ -2,7 +2,7 @@
 use Rattle.std.proofs.Common.{◌≡◌, ◌≢◌, false, ℕ, zero, suc, List, sym, subst, arith, get_or, Some, None}
 use Rattle.std.proofs.lemmas.Bool.{false_from_ne_true}
 use Rattle.adf_base.specs.Hash.{slot_of}
-use Rattle.adf_tree.specs.Texts.{uppers}
+use Rattle.adf_names.specs.Texts.{uppers}
 use Rattle.adf_tree.specs.declared.entry.Entry.{Entry}
 use Rattle.adf_tree.specs.Tree.{Tree, IsTree, child, is_child}
 use Rattle.adf_tree.proofs.ChildLookup.{child_says, is_child_from, child_is, no_children, same_slot}

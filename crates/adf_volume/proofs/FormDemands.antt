@@ -4,7 +4,7 @@ use Rattle.std.proofs.lemmas.Bool.{and_parts, eqb-true}
 use Rattle.std.proofs.lemmas.Grind.{common_steps}
 use Rattle.adf_blocks.specs.declared.cause.Cause.{Cause}
 use Rattle.adf_blocks.specs.declared.layout.TheConstants.{SECONDARY_TYPE, ST_DIR, ST_FILE}
-use Rattle.adf_tree.specs.declared.entry.Kind.{Kind}
+use Rattle.adf_names.specs.declared.kind.Kind.{Kind}
 use Rattle.adf_base.specs.Words.{block}
 use Rattle.adf_volume.specs.Image.{word_in, name_of}
 use Rattle.adf_base.specs.Hash.{slot_of}

@@ -6,7 +6,7 @@ use Rattle.adf_blocks.specs.declared.layout.TheConstants.{EXTENSION, FIRST_MAP_E
 use Rattle.adf_blocks.specs.declared.layout.TheConstants.{POINTERS, ROOT_PAGES, SIZE, SLOTS}
 use Rattle.adf_volume.specs.Image.{word_in, root_of, kind_of, held, table_word, name_of}
 use Rattle.adf_blocks.specs.Sizes.{blocks, pages_needed}
-use Rattle.adf_tree.specs.Texts.{uppers}
+use Rattle.adf_names.specs.Texts.{uppers}
 use Rattle.adf_volume.specs.Demands.{AllHold, page_demands, head_demands, ext_demands, data_demands}
 use Rattle.adf_volume.specs.Walk.{Role, second, Has, DirAt, FileAt, MemberAt, NamesPage, data_count, Asks, IsDue, ext_count, node_block}
 use Rattle.adf_volume.specs.Walk.{member_block, next_data, IsWalk}

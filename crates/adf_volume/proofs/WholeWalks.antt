@@ -9,7 +9,7 @@ use Rattle.adf_volume.specs.Lists.{At, Spelled}
 use Rattle.adf_blocks.specs.Sizes.{blocks, count, pages_needed}
 use Rattle.adf_volume.specs.Image.{word_in, root_of, map_exts_needed, kind_of, held, table_word, name_of, content}
 use Rattle.adf_base.specs.Hash.{slot_of}
-use Rattle.adf_tree.specs.Texts.{uppers}
+use Rattle.adf_names.specs.Texts.{uppers}
 use Rattle.adf_volume.specs.Demands.{AllHold, boot_demands, head_demands, ext_demands, data_demands}
 use Rattle.adf_tree.specs.declared.entry.Entry.{Entry}
 use Rattle.adf_volume.specs.Layout.{EntryAt, nodes_from, chain_nodes, at_node, exts_of, datas_of}

@@ -5,7 +5,7 @@
 use Rattle.std.specs.Prelude.{◌≡◌, ℕ, List, [], ◌+◌, ◌-◌, ◌*◌, ◌/◌, ◌%◌, ◌<◌, ◌≤◌, ◌↔◌, map, length, slice_index}
 use Rattle.std.proofs.Common.{zero, suc}
 use Rattle.adf_volume.specs.Lists.{At, In, Spelled, NoBlockTwice}
-use Rattle.adf_tree.specs.declared.entry.Kind.{Kind}
+use Rattle.adf_names.specs.declared.kind.Kind.{Kind}
 use Rattle.adf_blocks.specs.Sizes.{blocks, count, pages_needed}
 use Rattle.adf_volume.specs.Image.{word_in, root_of, map_exts_needed, kind_of, held, table_word, name_of, meta_of, stamps_of}
 use Rattle.adf_volume.specs.Image.{content, IsFreeAt}

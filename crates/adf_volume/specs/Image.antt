@@ -4,10 +4,10 @@ use Rattle.std.proofs.Common.{suc}
 use Rattle.adf_base.specs.Words.{block, word}
 use Rattle.adf_base.specs.declared.hash.Letters.{Letters}
 use Rattle.adf_base.specs.declared.hash.Letters.TheVariants.{Ascii, International}
-use Rattle.adf_tree.specs.declared.entry.Kind.{Kind}
-use Rattle.adf_tree.specs.declared.entry.Kind.TheVariants.{Ofs, Ffs}
-use Rattle.adf_tree.specs.declared.entry.Meta.{Meta}
-use Rattle.adf_tree.specs.declared.entry.Stamps.{Stamps}
+use Rattle.adf_names.specs.declared.kind.Kind.{Kind}
+use Rattle.adf_names.specs.declared.kind.Kind.TheVariants.{Ofs, Ffs}
+use Rattle.adf_names.specs.declared.meta.Meta.{Meta}
+use Rattle.adf_names.specs.declared.meta.Stamps.{Stamps}
 use Rattle.adf_blocks.specs.declared.layout.TheConstants.{DATA_BYTES, FIRST_POINTER, MAP_EXT_PAGES, NAME, POINTERS}
 use Rattle.adf_blocks.specs.declared.layout.TheConstants.{ROOT_PAGES, SIZE}
 use Rattle.adf_blocks.specs.Forms.{text_at}

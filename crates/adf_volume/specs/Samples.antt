@@ -1,7 +1,7 @@
 -- The smallest volume, for trying the definitions.
 use Rattle.std.specs.Prelude.{ℕ, List, [], ◌∷◌, ◌++◌, replicate}
 use Rattle.adf_base.specs.declared.dates.Stamp.{Stamp}
-use Rattle.adf_tree.specs.declared.entry.Kind.TheVariants.{Ffs}
+use Rattle.adf_names.specs.declared.kind.Kind.TheVariants.{Ffs}
 use Rattle.adf_tree.specs.Tree.{Tree}
 use Rattle.adf_volume.specs.Layout.{Layout}
 

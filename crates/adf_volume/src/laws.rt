@@ -3,7 +3,7 @@
 ghost use Rattle.std.specs.Prelude.{◌≡◌, ◌<◌, ℕ, List, ◌*◌, ◌-◌, ◌↔◌, length, map, Some, None};
 ghost use Rattle.std.specs.List.{concat};
 ghost use Rattle.adf_tree.specs.declared.entry.Entry.{Entry};
-ghost use Rattle.adf_tree.specs.declared.entry.Kind.{Kind};
+ghost use Rattle.adf_names.specs.declared.kind.Kind.{Kind};
 ghost use Rattle.adf_tree.specs.Chain.{chain};
 ghost use Rattle.adf_tree.specs.Tree.{Tree, entry};
 ghost use Rattle.adf_blocks.specs.declared.cause.Cause.{Cause};

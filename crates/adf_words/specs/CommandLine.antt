@@ -4,8 +4,8 @@ use Rattle.std.specs.Borrow.{Bor}
 use Rattle.std.specs.Str.{bytes_eq}
 use Rattle.clap.specs.Words.{App, Row, Rule, Text, fault_of, first_of, new_app, new_rule, subcommand_of, with_rule, with_subcommand}
 use Rattle.clap.specs.declared.builder.action.ArgAction.TheVariants.{SetTrue}
-use Rattle.adf_tree.specs.declared.entry.Kind.{Kind}
-use Rattle.adf_tree.specs.Kinds.{kind_named}
+use Rattle.adf_names.specs.declared.kind.Kind.{Kind}
+use Rattle.adf_names.specs.Kinds.{kind_named}
 use Rattle.adf_words.specs.declared.command_line.Request.{Request}
 use Rattle.adf_words.specs.declared.command_line.Request.TheVariants.{Check, List as ListAll, Cat, Build, Convert}
 use Rattle.adf_words.specs.declared.command_line.ArgsError.{ArgsError}

@@ -3,7 +3,7 @@ use Rattle.std.proofs.lemmas.Bool.{not-false, not-true}
 use Rattle.adf_blocks.specs.declared.layout.TheConstants.{SECONDARY_TYPE, ST_DIR}
 use Rattle.adf_base.specs.Words.{word}
 use Rattle.adf_tree.specs.NameSet.{has}
-use Rattle.adf_tree.specs.Texts.{uppers}
+use Rattle.adf_names.specs.Texts.{uppers}
 use Rattle.adf_check.specs.declared.kept_owner.KeptOwner.TheVariants as kept
 use Rattle.adf_check.specs.Store.{store_value}
 use Rattle.adf_check.proofs.NumberBounds.{entry_short, parent_short}

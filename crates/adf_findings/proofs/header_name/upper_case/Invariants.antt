@@ -1,5 +1,5 @@
 use Rattle.std.proofs.Common.{◌≡◌, length, take}
-use Rattle.adf_tree.specs.Texts.{uppers_by}
+use Rattle.adf_names.specs.Texts.{uppers_by}
 use Rattle.adf_findings.proofs.header_name.upper_case.Given as goal
 
 abbrev pub invariant-loop-i : goal.invariant-loop-i

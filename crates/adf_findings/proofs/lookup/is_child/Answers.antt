@@ -1,6 +1,6 @@
 use Rattle.std.proofs.Common.{◌∙◌, ◌≡◌, ap, refl, sym, arith}
 use Rattle.std.specs.Str.{bytes_eq}
-use Rattle.adf_tree.specs.Texts.{uppers_by}
+use Rattle.adf_names.specs.Texts.{uppers_by}
 use Rattle.adf_findings.proofs.Lookups.{child_between, child_told}
 use Rattle.adf_findings.proofs.lookup.is_child.Goals as goal
 

@@ -1,5 +1,5 @@
 use Rattle.std.proofs.Common.{◌∙◌, sym}
-use Rattle.adf_tree.proofs.Lists.{cut_at_position, uncut_at_none}
+use Rattle.adf_names.proofs.Positions.{cut_at_position, uncut_at_none}
 use Rattle.adf_memory.specs.Words.{is_zero}
 use Rattle.adf_memory.proofs.words.cut.Goals as goal
 

@@ -1,7 +1,7 @@
 use Rattle.std.proofs.Common.{◌≡◌, ◌∙◌, ap, false, rules, sym, true}
 use Rattle.std.specs.List.{list_all}
-use Rattle.adf_tree.proofs.Spellings.{only_spelled}
-use Rattle.adf_tree.specs.Texts.{is_name_byte}
+use Rattle.adf_names.proofs.Spellings.{only_spelled}
+use Rattle.adf_names.specs.Texts.{is_name_byte}
 use Rattle.adf_partitions.proofs.plan_line.read_name.Goals as goal
 
 pub returns-else-are_name_bytes-clause-none : goal.returns-else-are_name_bytes-clause-none

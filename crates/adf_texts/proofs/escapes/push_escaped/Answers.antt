@@ -1,8 +1,8 @@
 use Rattle.std.proofs.Common.{◌≡◌, ◌∙◌, ℕ, List, [], ◌∷◌, true, refl, rules, sym}
 use Rattle.std.specs.List.{list_all}
 use Rattle.std.proofs.lemmas.Bool.{and_parts}
-use Rattle.adf_tree.specs.Escapes.{escaped, is_plain}
-use Rattle.adf_tree.proofs.Spellings.{spelled_plain}
+use Rattle.adf_names.specs.Escapes.{escaped, is_plain}
+use Rattle.adf_names.proofs.Spellings.{spelled_plain}
 use Rattle.adf_texts.proofs.escapes.push_escaped.Goals as goal
 
 -- bytes that stand for themselves are their escape form

@@ -1,5 +1,5 @@
 use Rattle.std.proofs.Common.{◌≡◌, ◌++◌, take}
-use Rattle.adf_tree.specs.Escapes.{escaped}
+use Rattle.adf_names.specs.Escapes.{escaped}
 use Rattle.adf_texts.proofs.escapes.push_escaped.Given as goal
 
 abbrev pub invariant-loop-c : goal.invariant-loop-c

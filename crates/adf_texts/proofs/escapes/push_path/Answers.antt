@@ -1,6 +1,6 @@
 use Rattle.std.proofs.Common.{arith, refl, ◌==◌, append_assoc, take}
-use Rattle.adf_tree.specs.PathTexts.{path_text, with_name}
-use Rattle.adf_tree.proofs.PathParts.{path_text_step}
+use Rattle.adf_names.specs.PathTexts.{path_text, with_name}
+use Rattle.adf_names.proofs.PathParts.{path_text_step}
 use Rattle.adf_texts.proofs.PathSteps.{name_put}
 use Rattle.adf_texts.proofs.escapes.push_path.Goals as goal
 

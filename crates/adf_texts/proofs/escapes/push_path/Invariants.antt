@@ -1,5 +1,5 @@
 use Rattle.std.proofs.Common.{◌≡◌, ◌++◌, take}
-use Rattle.adf_tree.specs.PathTexts.{path_text}
+use Rattle.adf_names.specs.PathTexts.{path_text}
 use Rattle.adf_texts.proofs.escapes.push_path.Given as goal
 
 abbrev pub invariant-loop-i : goal.invariant-loop-i

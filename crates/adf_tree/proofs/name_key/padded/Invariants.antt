@@ -1,5 +1,5 @@
 use Rattle.std.proofs.Common.{◌≡◌, ◌-◌, take, ◌∷◌, ◌++◌, replicate}
-use Rattle.adf_tree.specs.Texts.{uppers}
+use Rattle.adf_names.specs.Texts.{uppers}
 use Rattle.adf_tree.proofs.name_key.padded.Given as goal
 
 abbrev pub invariant-loop-i : goal.invariant-loop-i

@@ -1,0 +1,6 @@
+-- lists
+pub mod Positions
+-- names and their bytes
+pub mod EqualNames
+pub mod Spellings
+pub mod PathParts

@@ -1,0 +1,16 @@
+//! Names, labels, comments, paths and metadata of Amiga volumes.
+#![tactic(auto)]
+
+mod escapes;
+mod kind;
+mod meta;
+mod name;
+mod path_texts;
+mod short_text;
+
+pub use crate::escapes::{digit_value, hex_digit, is_plain, spellings_decide};
+pub use crate::kind::Kind;
+pub use crate::meta::{Meta, NO_STAMPS, Stamps};
+pub use crate::name::Name;
+pub use crate::path_texts::{PathFault, path_texts_decide, read_path, write_path};
+pub use crate::short_text::{Comment, Label, ShortText};
