@@ -1,4 +1,5 @@
-// The calls over memory, on an OFS volume of 16 blocks with the directory `c` and in it the file `long`, 489 bytes 0x41.
+// The calls over memory, on an OFS volume of 16 blocks with the directory `c` and in it the files `long`, 489 bytes 0x41, and
+// `short`, one byte. Their headers are blocks 2, 3 and 6, their data 4, 5 and 7.
 
 use adf_memory::{
     Contents, Date, FoundEntry, Moved, Surveyed, TableDisk, TableEntry, TableFinding,
@@ -9,7 +10,7 @@ use std::mem::size_of;
 use std::process::Abort;
 
 const MANIFEST: &[u8] =
-    b"volume ofs 16\ndir 0:0:0 00000000 c\nfile 0:0:0 00000000 c/long\nfill 489 41\n";
+    b"volume ofs 16\ndir 0:0:0 00000000 c\nfile 0:0:0 00000000 c/long\nfill 489 41\nfile 0:0:0 00000000 c/short\ndata 42\n";
 
 const DATE: Date = Date {
     days: 9,
@@ -120,15 +121,19 @@ fn built(rt: &(impl Abort + AllocGlobal)) -> [u8; 8192] {
 #[test]
 fn calls_succeed_on_a_sound_image(rt: HostRuntime) {
     let image = built(&rt);
-    let mut entries = [ENTRY; 2];
-    let mut blocks = [9; 2];
+    let mut entries = [ENTRY; 3];
+    let mut blocks = [9; 3];
     let mut contents = CONTENTS;
     let cause = put_index(rt.alloc(), &image, &mut entries, &mut blocks, &mut contents);
-    assert_eq!(rt; (cause, contents.entries, contents.data_blocks), (0, 2, 2));
+    assert_eq!(rt; (cause, contents.entries, contents.data_blocks), (0, 3, 3));
+    assert_eq!(rt;
+        (entries[1].first, entries[2].first, blocks),
+        (0, 2, [4, 5, 7])
+    );
 
     let mut verdict = VERDICT;
     assert_eq!(rt; check_image(rt.alloc(), &image, &mut verdict), 0);
-    assert_eq!(rt; (verdict.used, verdict.dirs, verdict.files), (6, 1, 1));
+    assert_eq!(rt; (verdict.used, verdict.dirs, verdict.files), (8, 1, 2));
 
     let mut roles = [9; 17];
     assert_eq!(rt; owners_of(rt.alloc(), &image, &mut roles), 0);
@@ -166,13 +171,14 @@ fn calls_name_the_fault_of_a_refused_image(rt: HostRuntime) {
     assert_eq!(rt; &room, b"bad su");
 }
 
-// With memory there, a survey of an image with a bit changed in the header of `c`, block 2, fills its tables.
+// With memory there, a survey of an image with a bit changed in the headers of `c` and of `short` fills its tables.
 #[test]
 fn a_survey_fills_its_tables(rt: HostRuntime) {
     let mut image = built(&rt);
     image[2 * 512 + 323] ^= 1;
-    let mut findings = [FINDING; 2];
-    let mut entries = [FOUND; 3];
+    image[6 * 512 + 323] ^= 1;
+    let mut findings = [FINDING; 3];
+    let mut entries = [FOUND; 4];
     let mut surveyed = SURVEYED;
     let cause = put_survey(
         rt.alloc(),
@@ -183,19 +189,28 @@ fn a_survey_fills_its_tables(rt: HostRuntime) {
     );
     assert_eq!(rt;
         (cause, surveyed.findings, surveyed.entries, surveyed.blocks),
-        (0, 1, 2, 16)
+        (0, 2, 3, 16)
     );
-    let finding = findings[0];
+    let [first, second, third] = findings;
     assert_eq!(rt;
-        (finding.first, finding.last, finding.node, finding.cause),
+        (first.first, first.last, first.node, first.cause),
         (2, 2, 1, 7)
     );
     assert_eq!(rt;
-        (findings[1].first, entries[0].is_sound, entries[1].is_sound),
-        (9, 0, 1)
+        (second.first, second.last, second.node, second.cause),
+        (6, 6, 3, 7)
     );
     assert_eq!(rt;
-        (entries[1].parent, entries[1].size, entries[2].size),
+        (
+            third.first,
+            entries[0].is_sound,
+            entries[1].is_sound,
+            entries[2].is_sound
+        ),
+        (9, 0, 1, 0)
+    );
+    assert_eq!(rt;
+        (entries[1].parent, entries[1].size, entries[3].size),
         (1, 489, 9)
     );
 }
