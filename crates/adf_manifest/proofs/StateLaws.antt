@@ -8,7 +8,7 @@ use Rattle.adf_base.specs.declared.dates.Stamp.{Stamp}
 use Rattle.adf_names.specs.Escapes.{IsSpelling, escaped}
 use Rattle.adf_names.specs.PathTexts.{IsPathText, path_text}
 use Rattle.std.specs.Option.{unwrap_or}
-use Rattle.adf_tree.specs.Draft.{DraftValue, IsRoomFor}
+use Rattle.adf_drafts.specs.Draft.{DraftValue, IsRoomFor}
 use Rattle.adf_names.specs.Meta.{new_meta}
 use Rattle.adf_tree.specs.Tree.{Tree, room_for, with_entry}
 use Rattle.adf_tree.specs.declared.entry.Body.{Body}

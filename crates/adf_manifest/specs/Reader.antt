@@ -1,6 +1,6 @@
 -- The state of the reader of a manifest.
 use Rattle.std.specs.Prelude.{◌≡◌, ◌++◌, ◌∷◌, ℕ, List, [], Some, None}
-use Rattle.adf_tree.specs.Draft.{IsRoomFor}
+use Rattle.adf_drafts.specs.Draft.{IsRoomFor}
 use Rattle.adf_tree.specs.Tree.{Tree}
 use Rattle.adf_manifest.specs.Lines.{LineValue}
 use Rattle.adf_manifest.specs.Items.{Item, bytes_of_runs, items_tree}

@@ -3,7 +3,7 @@
 ghost use Rattle.std.specs.Prelude.{◌≡◌, ◌<◌, ◌++◌, ◌∷◌, [], ℕ, List, IfSome, IfNone, IfOk, IfErr, None, length, replicate};
 ghost use Rattle.std.specs.Option.{unwrap_or};
 ghost use Rattle.adf_names.specs.PathTexts.{IsPathText};
-ghost use Rattle.adf_tree.specs.Draft.{IsRoomFor};
+ghost use Rattle.adf_drafts.specs.Draft.{IsRoomFor};
 ghost use Rattle.adf_names.specs.Meta.{AreStamps};
 ghost use Rattle.adf_manifest.specs.Lines.{IsLine, IsRun, IsVolumeLine, LabelLine, NoteLine, RunLine, StampsLine, entry_value, label_line, line_text, line_value, run_value, stamps_line, volume_line};
 ghost use Rattle.adf_manifest.specs.Items.{Item, body_of_sort, run_bytes, with_item};
@@ -15,9 +15,10 @@ use crate::manifest::ManifestKind;
 use crate::tokens::{after, read_number};
 use adf_base::{NoMemory, Stamp};
 use adf_blocks::is_allowed_size;
+use adf_drafts::{Draft, Room};
 use adf_tree::{
-    Body, Bytes, Comment, Draft, Kind, Label, Meta, NO_STAMPS, PathFault, Room, RoomFault, Stamps,
-    Tree, read_path,
+    Body, Bytes, Comment, Kind, Label, Meta, NO_STAMPS, PathFault, RoomFault, Stamps, Tree,
+    read_path,
 };
 use std::alloc::Global;
 use std::mem;

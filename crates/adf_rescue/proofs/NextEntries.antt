@@ -9,8 +9,8 @@ use Rattle.adf_tree.specs.declared.entry.Entry.{Entry}
 use Rattle.adf_tree.specs.Tree.{IsTree, MayAdd, child, directory_from, free_in, is_child, is_dir, is_dir_body, last_of, new_entry, room_at, room_for}
 use Rattle.adf_tree.proofs.AddRoom.{next_dir}
 use Rattle.adf_tree.proofs.ChildLookup.{child_is, child_says, found_is, is_child_from, no_children}
-use Rattle.adf_tree.proofs.DraftLookup.{dir_at, past}
-use Rattle.adf_tree.proofs.DraftDirectories.{one_more, room_more}
+use Rattle.adf_drafts.proofs.DraftLookup.{dir_at, past}
+use Rattle.adf_drafts.proofs.DraftDirectories.{one_more, room_more}
 
 -- one entry more
 

@@ -7,8 +7,8 @@ use Rattle.std.proofs.lemmas.Grind.{flat_map-append, common_steps}
 use Rattle.std.proofs.lemmas.List.{append-nil, append_assoc, get_or_append_left, get_or_past, get_or_push, length_push, nil_from_length}
 use Rattle.std.proofs.lemmas.Option.{slice_get_past}
 use Rattle.adf_tree.specs.Additions.{Addition, with_addition}
-use Rattle.adf_tree.specs.declared.draft.Room.{Room}
-use Rattle.adf_tree.specs.Draft.{DraftValue, IsDirectoryOf, IsRoomFor}
+use Rattle.adf_drafts.specs.declared.draft.Room.{Room}
+use Rattle.adf_drafts.specs.Draft.{DraftValue, IsDirectoryOf, IsRoomFor}
 use Rattle.adf_tree.specs.declared.entry.Body.{TheVariants.Dir, TheVariants.File, Body}
 use Rattle.adf_tree.specs.Tree.{Tree, is_dir_body, new_entry, with_entry}
 use Rattle.adf_names.specs.declared.meta.Meta.{Meta}

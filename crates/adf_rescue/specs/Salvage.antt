@@ -2,10 +2,10 @@
 -- Letters: d the draft of the tree so far; r the state; g what is taken before the survey, vs the verdicts on its entries so far;
 -- m the number of an addition in the draft, or a node of the survey before.
 use Rattle.std.specs.Prelude.{◌≡◌, ◌≤◌, ◌+◌, ◌-◌, ◌++◌, ℕ, List, Option, Some, None, length, slice_index_or}
-use Rattle.adf_tree.specs.declared.draft.Room.{Room}
+use Rattle.adf_drafts.specs.declared.draft.Room.{Room}
 use Rattle.adf_tree.specs.declared.entry.Body.{Body}
 use Rattle.adf_names.specs.declared.kind.Kind.{Kind}
-use Rattle.adf_tree.specs.Draft.{DraftValue, IsDirectoryOf, IsRoomFor}
+use Rattle.adf_drafts.specs.Draft.{DraftValue, IsDirectoryOf, IsRoomFor}
 use Rattle.adf_blocks.specs.Sizes.{blocks}
 use Rattle.adf_volume.specs.Image.{kind_of}
 use Rattle.adf_volume.specs.Walk.{Role, heads}

@@ -15,8 +15,9 @@ use crate::left_out::LeftOut;
 use crate::salvage::Salvage;
 use adf_base::NoMemory;
 use adf_build::{build, free_blocks};
+use adf_drafts::Draft;
 use adf_findings::{Opening, Survey, some_survey};
-use adf_tree::{Draft, Node};
+use adf_tree::Node;
 use std::alloc::Global;
 
 /// A rescue: the draft of the new volume's tree, and the number of its blocks; and the entries that are left out, in the

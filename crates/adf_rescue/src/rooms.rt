@@ -2,12 +2,13 @@
 
 ghost use Rattle.std.specs.Prelude.{◌≡◌, ℕ, List, IfOk};
 ghost use Rattle.std.specs.String.{string_bytes};
-ghost use Rattle.adf_tree.specs.Draft.{IsDirectoryOf};
+ghost use Rattle.adf_drafts.specs.Draft.{IsDirectoryOf};
 ghost use Rattle.adf_rescue.specs.Rescue.{lost_name, path_for, path_in};
 ghost use Rattle.adf_rescue.specs.Salvage.{IsRoomOf};
 
 use adf_base::NoMemory;
-use adf_tree::{Draft, Name, Node, Room};
+use adf_drafts::{Draft, Room};
+use adf_tree::{Name, Node};
 use std::alloc::Global;
 
 // The room of this name in a directory; `None` if it is no name, or an entry of the directory has it.

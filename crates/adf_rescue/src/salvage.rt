@@ -2,7 +2,7 @@
 
 ghost use Rattle.std.specs.Prelude.{◌≡◌, ◌≤◌, ◌+◌, ◌-◌, ◌++◌, ◌∷◌, ◌^◌, ℕ, Bool, List, [], cond, Some, None, Result, IfOk, OnOk, min, length, slice_index_or};
 ghost use Rattle.adf_tree.specs.declared.entry.Body.{Body as ABody};
-ghost use Rattle.adf_tree.specs.Draft.{IsRoomFor};
+ghost use Rattle.adf_drafts.specs.Draft.{IsRoomFor};
 ghost use Rattle.adf_blocks.specs.Sizes.{blocks};
 ghost use Rattle.adf_tree.specs.Tree.{is_dir_body};
 ghost use Rattle.adf_volume.specs.Walk.{Role, heads, node_block};
@@ -19,8 +19,9 @@ use crate::rooms::room_of;
 use crate::standing::{body_as_given, body_of};
 use adf_base::NoMemory;
 use adf_build::{data_blocks, ext_count};
+use adf_drafts::{Draft, Room};
 use adf_findings::{Opening, Survey};
-use adf_tree::{Body, Draft, Kind, Meta, Node, Room};
+use adf_tree::{Body, Kind, Meta, Node};
 use std::alloc::Global;
 
 /// What is kept so far: the draft of the new tree; for each node of the survey before, and of this one, from the root on,

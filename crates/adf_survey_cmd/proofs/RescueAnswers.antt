@@ -19,7 +19,7 @@ use Rattle.adf_rescue.specs.Lost.{has_lost}
 use Rattle.adf_rescue.specs.Opened.{is_mended, opened}
 use Rattle.adf_rescue.specs.Rescue.{HasFault, Basis, StandsNothing, rescue_leaves, rescued_tree, second_leaves}
 use Rattle.adf_rescue.specs.declared.rescues.Rescued.{Rescued}
-use Rattle.adf_tree.specs.Draft.{DraftValue}
+use Rattle.adf_drafts.specs.Draft.{DraftValue}
 use Rattle.adf_blocks.specs.Sizes.{blocks}
 use Rattle.adf_build.specs.Building.{IsBuildable}
 use Rattle.adf_build.specs.Laid.{IsLaid}

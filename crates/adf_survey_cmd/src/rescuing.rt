@@ -16,10 +16,10 @@ ghost use Rattle.adf_survey_cmd.specs.Rescues.{Rescues, RescuesBoth, RescuesBy, 
 
 use crate::runs::push_path;
 use adf_cmd::volume_of;
+use adf_drafts::Draft;
 use adf_findings::{Survey, some_survey, survey};
 use adf_rescue::{LeftOut, Rescued, Why, hung_image, is_mended, lay, open_image, rescue};
 use adf_runs::{Outcome, Sink, write_all};
-use adf_tree::Draft;
 use std::alloc::{AllocError, Global};
 
 // Appends why an entry is left out.

@@ -1,4 +1,4 @@
--- The promise: names, paths, trees, and what adding to them and finding in them means.
+-- The promise: trees, sets of names, and what adding to them and finding in them means.
 pub mod Tree
 pub mod Bounds
 pub mod Faults
@@ -7,10 +7,7 @@ pub mod NameKeys
 pub mod NameSet
 pub mod Paths
 pub mod Additions
-pub mod Draft
 pub mod Laws
--- The states of sets of names, of drafts, and of what sorts and groups their entries.
+-- The states of sets of names, and of what adds to a tree.
 pub mod NameBuckets
 pub mod LastChain
-pub mod ChildMap
-pub mod Groups

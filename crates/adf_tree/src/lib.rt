@@ -2,10 +2,7 @@
 #![tactic(auto)]
 
 mod bounds;
-mod child_map;
-mod draft;
 mod entry;
-mod groups;
 mod last_chain;
 mod laws;
 mod lookup;
@@ -14,13 +11,14 @@ mod name_set;
 mod tree;
 mod walk_order;
 
-pub use crate::draft::{Draft, Room};
 pub use crate::entry::{Body, Bytes, Entry, Node};
 pub use crate::laws::{
     adding_grows_the_tree, additions_are_built, additions_have_one_tree, case_keeps_paths,
     case_keeps_slots, children_are_found, entries_stand_in_one_chain, names_are_found,
     paths_are_found, trees_grow_in_order,
 };
+pub use crate::lookup::is_dir;
+pub use crate::name_key::NameKey;
 pub use crate::name_set::NameSet;
 pub use crate::tree::{AddFault, RoomFault, Tree};
 pub use adf_base::{Letters, slot, upper};

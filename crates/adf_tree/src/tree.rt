@@ -140,7 +140,7 @@ impl Tree {
     }
 
     /// A tree with no entries, and memory for `count` of them.
-    pub(crate) fn with_capacity(
+    pub fn with_capacity(
         alloc: Global,
         kind: Kind,
         label: Label,

@@ -5,9 +5,9 @@ use crate::trees::{is_tree, tree_of_lines};
 use adf_base::NO_STAMP;
 use adf_build::BuildFault;
 use adf_cmd::build_and_read;
+use adf_drafts::Draft;
 use adf_tree::{
-    AddFault, Body, Bytes, Comment, Draft, Kind, Label, Meta, NO_STAMPS, Name, Node, Tree,
-    write_path,
+    AddFault, Body, Bytes, Comment, Kind, Label, Meta, NO_STAMPS, Name, Node, Tree, write_path,
 };
 use std::alloc::Global;
 

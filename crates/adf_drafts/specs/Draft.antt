@@ -1,0 +1,91 @@
+-- Trees under construction: entries in order of addition, numbered from 1, with parents by these numbers.
+use Rattle.std.specs.Prelude.{◌≡◌, ℕ, ◌+◌, ◌-◌, ◌<◌, ◌≤◌, List, [], ◌∷◌, ◌++◌, Some, Result, Ok, Err, option_map, length, map, fold, slice_index_or}
+use Rattle.adf_names.specs.Texts.{uppers}
+use Rattle.adf_tree.specs.declared.entry.Entry.{Entry}
+use Rattle.adf_tree.specs.declared.tree.RoomFault.{RoomFault}
+use Rattle.adf_drafts.specs.declared.draft.Room.{Room}
+use Rattle.adf_names.specs.declared.kind.Kind.{Kind}
+use Rattle.adf_names.specs.declared.meta.Stamps.{Stamps}
+use Rattle.adf_tree.specs.Tree.{added, child, directory_from, last_of, moved, place, rank, room_for, IsTree, Tree}
+use Rattle.adf_tree.specs.Chain.{chain}
+use Rattle.adf_drafts.specs.ChildMap.{number_in, Numbers}
+
+-- the tree of the additions, and the number of each addition in it
+pub record NumberedTree : Type 0 where
+  pub entries : List Entry
+  pub nodes : List ℕ
+
+-- the number in the tree of an addition; 0 for the root
+abbrev pub node_of : List ℕ → ℕ → ℕ
+node_of nodes m = slice_index_or (0 ∷ nodes) m 0
+
+-- the entry of an addition, with its parent's number in the tree
+abbrev pub in_tree : List ℕ → Entry → Entry
+in_tree nodes d = record d { parent = node_of nodes d.parent }
+
+-- the number in the tree that one more addition gets
+abbrev pub new_number : NumberedTree → Entry → ℕ
+new_number w d = place w.entries (rank (in_tree w.nodes d)) + 1
+
+-- the tree with one more addition
+abbrev pub walk_more : NumberedTree → Entry → NumberedTree
+walk_more w d = record { entries = added w.entries (in_tree w.nodes d); nodes = map (moved (new_number w d)) w.nodes ++ new_number w d ∷ [] }
+
+-- the tree of entries added one after another, and their numbers in it
+abbrev pub walk : List Entry → NumberedTree
+walk drafts = fold walk_more (record { entries = []; nodes = [] }) drafts
+
+-- the parent of each addition is the root or an earlier one
+abbrev pub HasEarlyParents : List Entry → Type 0
+HasEarlyParents drafts = (i : ℕ) (d : Entry) → i < length drafts → (slice_index_or drafts i d).parent ≤ i
+
+-- the invariant of additions and their tree
+pub record IsNumberedTree (drafts : List Entry) (w : NumberedTree) : Type 0 where
+  pub tree : IsTree w.entries
+  pub count : length w.entries ≡ length drafts
+  pub nodes : length w.nodes ≡ length drafts
+  pub within : (m : ℕ) → m ≤ length drafts → node_of w.nodes m ≤ length drafts
+  pub apart : (m k : ℕ) → m ≤ length drafts → k ≤ length drafts → node_of w.nodes m ≡ node_of w.nodes k → m ≡ k
+  pub parents : HasEarlyParents drafts
+  pub entries : (m : ℕ) (d : Entry) → 0 < m → m ≤ length drafts
+      → slice_index_or w.entries (node_of w.nodes m - 1) d ≡ in_tree w.nodes (slice_index_or drafts (m - 1) d)
+  pub chains : (m s : ℕ) → m ≤ length drafts → chain w.entries (node_of w.nodes m) s ≡ map (in_tree w.nodes) (chain drafts m s)
+
+-- each addition's number is found by its parent and name
+pub record AreNumbered (drafts : List Entry) (w : NumberedTree) (numbers : Numbers) : Type 0 where
+  pub within : (m k : ℕ) (name : List ℕ) → number_in numbers m name ≡ Some k → (m ≤ length drafts) × (k ≤ length drafts)
+  pub found : (m : ℕ) (name : List ℕ) → m ≤ length drafts
+      → child w.entries (node_of w.nodes m) name ≡ option_map (node_of w.nodes) (number_in numbers m (uppers name))
+
+-- the invariant of a draft
+pub record IsDraft (drafts : List Entry) (numbers : Numbers) : Type 0 where
+  pub gives : IsNumberedTree drafts (walk drafts)
+  pub found : AreNumbered drafts (walk drafts) numbers
+
+-- the value of a draft: the tree so far, and the number in it of each addition
+pub record DraftValue : Type 0 where
+  pub tree : Tree
+  pub nodes : List ℕ
+
+-- the value of a draft, from its kind, label, dates and additions
+abbrev pub draft_value : Kind → List ℕ → Stamps → NumberedTree → DraftValue
+draft_value kind label stamps w = record {
+  tree = record { kind = kind; label = label; stamps = stamps; entries = w.entries };
+  nodes = w.nodes;
+}
+
+-- the room of a path in a draft: its last name, in the directory that the names before it lead to
+pub record IsRoomFor (d : DraftValue) (path : List (List ℕ)) (room : Room) : Type 0 where
+  pub within : room.parent ≤ length d.nodes
+  pub name : room.name ≡ last_of path
+  pub leads : room_for d.tree.entries path ≡ Ok (node_of d.nodes room.parent)
+
+-- addition m of a draft is the directory that the path leads to; 0 is the root
+pub record IsDirectoryOf (d : DraftValue) (path : List (List ℕ)) (m : ℕ) : Type 0 where
+  pub within : m ≤ length d.nodes
+  pub leads : directory_from d.tree.entries 0 path ≡ Ok (node_of d.nodes m)
+
+-- a directory by number of addition, turned into its number in the tree
+abbrev pub room_in_tree : List ℕ → Result ℕ RoomFault → Result ℕ RoomFault
+room_in_tree nodes (Ok m) = Ok (node_of nodes m)
+room_in_tree nodes (Err f) = Err f
