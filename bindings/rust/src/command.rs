@@ -7,7 +7,7 @@ const FIRST_ERRORS: usize = 1024;
 const MOST_OUTPUT: usize = 1 << 32;
 
 /// What a command wrote, and its status.
-#[derive(Clone, Debug, PartialEq, Eq)]
+#[derive(Clone, PartialEq, Eq)]
 pub struct Answer {
     /// 0: success. 1: the input is refused or has findings. 2: the words are refused. 3: an allocation failed, or the output has
     /// more than 4 GiB: then it is cut there, and errors say `write fault`.
@@ -23,6 +23,13 @@ impl Answer {
             0 => Ok(self.output),
             _ => Err(Failed { answer: self }),
         }
+    }
+}
+
+impl fmt::Debug for Answer {
+    fn fmt(&self, f: &mut fmt::Formatter<'_>) -> fmt::Result {
+        let (output, errors) = (format_args!("{} bytes", self.output.len()), String::from_utf8_lossy(&self.errors));
+        f.debug_struct("Answer").field("status", &self.status).field("output", &output).field("errors", &errors).finish()
     }
 }
 
