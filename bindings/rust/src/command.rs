@@ -9,7 +9,7 @@ const MOST_OUTPUT: usize = 1 << 32;
 /// What a command wrote, and its status.
 #[derive(Clone, PartialEq, Eq)]
 pub struct Answer {
-    /// 0: success. 1: the input is refused or has findings. 2: the words are refused. 3: an allocation failed, or the output has
+    /// 0: success. 1: the input is refused or has findings. 2: the arguments are refused. 3: an allocation failed, or the output has
     /// more than 4 GiB: then it is cut there, and errors say `write fault`.
     pub status: u8,
     pub output: Vec<u8>,
@@ -59,19 +59,22 @@ impl fmt::Display for Failed {
 
 impl Error for Failed {}
 
-/// Runs the command `adf` with these words, without the program's name, over an input: an image, or a manifest for `build`.
-/// `run(&["build"], manifest)` makes an image. A zero byte ends a word.
+/// Runs the command `adf` with these arguments, without the program's name, over an input: an image, or a manifest for `build`.
+/// `run(&["build"], manifest)` makes an image. An argument with a zero byte is refused, at status 2.
 pub fn run(words: &[&str], input: &[u8]) -> Answer {
     run_program(Program::Adf, "adf", words, input)
 }
 
-/// Runs the command `adf-survey` with these words over an image: `survey(&["--blocks", "1760", "--list"], image)`. `Survey::of`,
+/// Runs the command `adf-survey` with these arguments over an image: `survey(&["--blocks", "1760", "--list"], image)`. `Survey::of`,
 /// `remains` and `rescue` give its answers as structs.
 pub fn survey(words: &[&str], image: &[u8]) -> Answer {
     run_program(Program::Survey, "adf-survey", words, image)
 }
 
 fn run_program(program: Program, name: &str, words: &[&str], input: &[u8]) -> Answer {
+    if words.iter().any(|word| word.contains('\0')) {
+        return Failed::with(2, "an argument has a zero byte").answer;
+    }
     let mut line = format!("{name}\0").into_bytes();
     for word in words {
         line.extend_from_slice(word.as_bytes());

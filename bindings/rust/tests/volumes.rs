@@ -258,6 +258,10 @@ fn the_command_runs_over_memory() {
     let image = built("volume ffs 120000\nlabel Large\n");
     assert_eq!(image.len(), 120_000 * 512);
     assert_eq!(run(&["frob"], b"").status, 2);
+    for words in [&["cat\0c/readme"][..], &["check", "\0"], &["cat", "a\0--list"]] {
+        let answer = run(words, &image);
+        assert_eq!((answer.status, answer.output, &answer.errors[..]), (2, vec![], &b"an argument has a zero byte\n"[..]));
+    }
     let answer = run(&["cat", "nix"], &image);
     assert_eq!((answer.status, &answer.output[..], &answer.errors[..]), (1, &b""[..], &b"no such path\n"[..]));
 }
