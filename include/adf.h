@@ -48,15 +48,17 @@
 #include <stddef.h>
 #include <stdint.h>
 
-/* The version of the library and of the program. */
+/* The version of this header, as a text, and as a number to compare: 10000 for each major version, 100 for each minor one. */
 #define ADF_VERSION "1.0"
+#define ADF_VERSION_NUMBER 10000
 
 #ifdef __cplusplus
 extern "C" {
 #endif
 
-/* Why an image is refused, as adf_check, adf_owners and adf_index answer it. Within one block the causes are tested in this
- * order, except that ADF_SAME_NAME comes after all other causes of a header. FAULTS.md explains them. */
+/* Why an image is refused: what adf_check, adf_owners and adf_index return. Within one block the causes are tested in this
+ * order, except that ADF_SAME_NAME comes after all other causes of a header. FAULTS.md explains them. A later version may have
+ * more of them: an image is accepted if and only if the call returns 0. */
 enum adf_cause {
     ADF_ACCEPTED = 0,
     ADF_BAD_SIZE = 1,       /* The length is not a multiple of 512, or not an allowed number of blocks. */
@@ -201,11 +203,11 @@ uint8_t adf_index(const uint8_t *image, size_t length, struct adf_entry *entries
  * 2: the text is not a path, and node is unchanged.
  * ADF_NO_MEMORY: an allocation failed, and node is unchanged.
  *
- * If adf_index did not make the table, or it has been changed, the answer is still one of these four, 2 is returned for the
- * same texts, and node is at most count.
+ * If adf_index did not make the table, or it has been changed, the call still returns one of these four, 2 for the same texts,
+ * and node is at most count.
  *
- * A budget, by reading the code and not proved: whatever the table is, each name of the path takes two binary searches, and all
- * names together look at each entry at most once beside that. In the table of a volume these are the entries of the chains
+ * A budget, by reading the code and not proved: whatever the table is, each name of the path takes two binary searches, and
+ * besides, all names together look at each entry at most once. In the table of a volume these are the entries of the chains
  * along the path.
  */
 uint8_t adf_find(const struct adf_entry *entries, size_t count, const uint8_t *path, size_t path_length, size_t *node);
@@ -223,11 +225,11 @@ size_t adf_read(const uint8_t *image, size_t length, const struct adf_entry *ent
 
 /* Surveys
  *
- * A survey goes on behind the first fault: it finds everything that is wrong, and every directory and file that can still be
+ * A survey continues past the first fault: it finds everything that is wrong, and every directory and file that can still be
  * reached. adf-survey(1) says what each finding means, and what makes an entry sound.
  */
 
-/* Findings of neighbouring blocks that have one cause and concern the same, in the order of the survey. */
+/* Findings of neighbouring blocks that have one cause and concern the same entry, in the order of the survey. */
 struct adf_finding {
     uint32_t first;    /* the first block */
     uint32_t last;     /* the last block */
@@ -247,7 +249,7 @@ struct adf_found {
     struct adf_date date;
     uint8_t is_file;        /* 1 for a file or a link, 0 for a directory */
     uint8_t is_sound;       /* 1 if the entry is sound, otherwise 0 */
-    uint8_t name_length;    /* 0 to 79: the name may be none that a volume can have */
+    uint8_t name_length;    /* 0 to 79: the name may be one that no volume can have */
     uint8_t name[79];       /* in no particular encoding, padded with zeros */
     uint8_t comment_length; /* 0 to 79 */
     uint8_t comment[79];    /* padded with zeros */
@@ -286,11 +288,11 @@ uint8_t adf_survey_index(const uint8_t *image, size_t length, struct adf_finding
 /* What is wrong with the tables of a disk: the first fault. */
 enum adf_disk_cause {
     ADF_DISK_WHOLE = 0,
-    ADF_DISK_NO_RIGID_DISK = 1, /* None of the blocks 0 to 15 is a rigid disk block with a sound sum; at block 0. */
-    ADF_DISK_BLOCK_SIZE = 2,    /* Its blocks have not 512 bytes. */
-    ADF_DISK_OUT_OF_RANGE = 3,  /* The block names one that is not kept for the tables, or is not there. */
-    ADF_DISK_REPEATED = 4,      /* The list of partition blocks comes back to the block. */
-    ADF_DISK_NO_PARTITION = 5,  /* The block is named as a partition block, and is none. */
+    ADF_DISK_NO_RIGID_DISK = 1, /* None of the blocks 0 to 15 is a rigid disk block with a sound checksum; at block 0. */
+    ADF_DISK_BLOCK_SIZE = 2,    /* Its blocks do not have 512 bytes. */
+    ADF_DISK_OUT_OF_RANGE = 3,  /* The block names a block outside the tables, or past the end. */
+    ADF_DISK_REPEATED = 4,      /* The list of partition blocks leads back to the block. */
+    ADF_DISK_NO_PARTITION = 5,  /* The block should be a partition block, and is not. */
     ADF_DISK_BAD_SUM = 6,       /* Its checksum is wrong. */
     ADF_DISK_TOO_MANY = 7       /* It comes after 1,024 partitions. */
 };
@@ -299,10 +301,10 @@ enum adf_disk_cause {
 enum adf_partition_fault {
     ADF_PARTITION_SOUND = 0,
     ADF_PARTITION_SHORT_ENVIRONMENT = 1, /* Its block lacks the type. */
-    ADF_PARTITION_BLOCK_SIZE = 2,        /* Its blocks have not 512 bytes. */
+    ADF_PARTITION_BLOCK_SIZE = 2,        /* Its blocks do not have 512 bytes. */
     ADF_PARTITION_BAD_CYLINDERS = 3,     /* It ends before it begins, or its cylinders have no blocks. */
     ADF_PARTITION_BEYOND_IMAGE = 4,      /* It ends past the end of the disk. */
-    ADF_PARTITION_OVER_TABLES = 5,       /* It has blocks that are kept for the tables. */
+    ADF_PARTITION_OVER_TABLES = 5,       /* It has blocks that belong to the tables. */
     ADF_PARTITION_OVER_PARTITION = 6,    /* It has blocks of an earlier partition. */
     ADF_PARTITION_BAD_NAME = 7           /* Its name is empty, longer than 31 bytes, or has `/` or `:`. */
 };
@@ -330,11 +332,11 @@ struct adf_disk {
  * are the first ones of the disk: at least the blocks 0 to 15 and those that are kept for its tables, at most 65,536. Returns an
  * adf_cause: 0 or ADF_NO_MEMORY.
  *
- * 0: disk->cause is the first fault of the tables, in disk->block. Without one the table has all partitions, in their order;
- *    otherwise those that can be read nevertheless, as `adf-disk survey` tells them. disk->partitions is the whole number,
- *    whatever the room. The rest of the room is unchanged.
- *    That what follows the tables changes nothing is proved of the fault and of all partitions without one. Of those that can be
- *    read nevertheless it is so by design, not proved.
+ * 0: disk->cause is the first fault of the tables, in disk->block. Without a fault the table has all partitions, in their order;
+ *    otherwise those that can still be read, as `adf-disk survey` lists them. disk->partitions is the whole number, whatever the
+ *    room. The rest of the room is unchanged.
+ *    What follows the tables changes nothing. This is proved for the fault, and for all partitions if there is no fault. For those
+ *    that can still be read it is so by design, not proved.
  * ADF_NO_MEMORY: an allocation failed, which can happen only if there is a partition that can be read. All fields of the disk are
  *    0, and the table is unchanged.
  */
@@ -345,39 +347,39 @@ struct adf_moved {
     size_t input;     /* bytes that were read */
     size_t output;    /* bytes at the front of the room for output */
     size_t errors;    /* bytes at the front of the room for errors */
-    bool output_full; /* output had too little room, so that it is only a front part, and the status is 3 */
-    bool errors_full; /* errors had too little room, so that they are only a front part */
+    bool output_full; /* output had too little room, so that it has only the first part, and the status is 3 */
+    bool errors_full; /* errors had too little room, so that they have only the first part */
 };
 
-/* Runs the command `adf` with these words over the input, and returns its status.
+/* Runs the command `adf` with these arguments over the input, and returns its status.
  *
- * Each word is UTF-8 text that ends in a zero byte, and the first is the program's name. So `adf cat s/startup-sequence` is
- * "adf\0cat\0s/startup-sequence\0", 27 bytes. The input of `build` is a manifest, that of all others an image. adf(1) has the
- * commands and what each writes.
+ * Each of the words is one argument: UTF-8 text that ends in a zero byte. The first is the program's name. So
+ * `adf cat s/startup-sequence` is "adf\0cat\0s/startup-sequence\0", 27 bytes. The input of `build` is a manifest, that of all
+ * other commands an image. adf(1) has the commands and what each writes.
  *
- * 0: the answer is in output, and errors are empty.
+ * 0: the result is in output, and errors are empty.
  * 1: the input is refused, or the path does not lead to a file. `check` says so in output, the others in errors.
- * 2: the words are refused, or are not such texts, or the path is not one. Nothing was read, and output is empty. Errors have
- *    the usage, or `bad path` for a path that is not one.
+ * 2: the arguments are refused, or are not such texts, or the path is not a path. Nothing was read, and output is empty. Errors
+ *    have the usage, or `bad path` if the path is not a path.
  * 3: output had too little room (output_full), or an allocation failed. Errors say which (`write fault`, `no memory`), and
- *    output has the front part of an answer, or nothing; with output_full, the front part of an answer, but not all of it. Call
- *    again with more room: nothing was kept.
+ *    output has the first part of a result, or nothing; with output_full, the first part of a result, but not all of it. Call
+ *    again with more room: there is no state between calls.
  *
  * Nothing is said about the bytes of a room after those that `moved` counts.
  */
 uint8_t adf_run(const uint8_t *words, size_t words_length, const uint8_t *input, size_t input_length, uint8_t *output,
                 size_t output_room, uint8_t *errors, size_t errors_room, struct adf_moved *moved);
 
-/* Runs the command `adf-survey` with these words over an image, and returns its status. The words are as for adf_run: so
+/* Runs the command `adf-survey` with these arguments over an image, and returns its status. The words are as for adf_run: so
  * `adf-survey cat c/readme` is "adf-survey\0cat\0c/readme\0", 24 bytes; with `rescue` the output is a volume of as many bytes as
  * the image. adf-survey(1) has what it writes.
  *
  * 0: there is no finding, and output is empty; for `cat`, output has the bytes of the file, which is sound. Errors are empty.
  * 1: output has the lines of the findings; for `cat`, it is empty, and errors say `no such path`, `not a file` or `damaged`.
- *    For `cat --damaged`, output has what is left of the file, and errors a line for each run of bytes that are no data.
+ *    For `cat --damaged`, output has what is left of the file, and errors a line for each range of bytes that are lost, and zeros.
  *    With `--list` the lines of what is found follow those of the findings, at status 0 too.
  *    For `rescue`, output has the new volume, and errors a line for each entry that it leaves out; or output is empty, and errors
- *    have the line of the first finding. Where errors_full is set, call again with more room for them.
+ *    have the line of the first finding. If errors_full is set, call again with more room for them.
  * 2, 3: as for adf_run.
  *
  * Nothing is said about the bytes of a room after those that `moved` counts.

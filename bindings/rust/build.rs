@@ -3,7 +3,8 @@
 //! - `ADF_LIBRARY`, the path of `libadf.a` or `libadf.so` as `install` leaves them, or of `libadf_c.a` with `ADF_LIBC`, the path
 //!   of the toolchain's `liblibc_c.a`;
 //! - in a clone: `crates/adf_c/out/libadf_c.a`, and the `liblibc_c.a` of the kit that `rt doc` names;
-//! - the library that pkg-config finds as `adf`.
+//! - the archive `libadf.a` that pkg-config finds as `adf`, so that a program starts wherever adf was installed. The shared library
+//!   is linked if `ADF_LIBRARY` is the path of `libadf.so`, or if no archive is installed.
 
 use std::env;
 use std::path::{Path, PathBuf};
@@ -41,7 +42,7 @@ fn link(library: &Path) {
     println!("cargo:rustc-link-lib={kind}={name}");
 }
 
-/// What a command writes on one line, where it succeeds.
+/// What a command writes on one line, if it succeeds.
 fn answer(command: &mut Command) -> Option<String> {
     let output = command.output().ok().filter(|output| output.status.success())?;
     String::from_utf8(output.stdout).ok().map(|text| text.trim().to_owned())
@@ -52,14 +53,23 @@ fn kit() -> Option<PathBuf> {
     answer(Command::new("rt").arg("doc")).and_then(|page| Some(Path::new(&page).parent()?.to_owned()))
 }
 
-/// Links what pkg-config says of the installed library.
+/// Links the installed archive; without one, what pkg-config says of the installed library.
 fn link_installed() {
-    let Some(flags) = answer(Command::new("pkg-config").args(["--libs", "adf"])) else {
+    let pkg_config = |flag| answer(Command::new("pkg-config").args([flag, "adf"]));
+    let Some(flags) = pkg_config("--libs") else {
         panic!(
             "no libadf: set ADF_LIBRARY to the path of libadf.a, run `rt lib` in crates/adf_c of a clone, \
              or have pkg-config find adf.pc (PKG_CONFIG_PATH)"
         );
     };
+    for name in ["PKG_CONFIG_PATH", "PKG_CONFIG_LIBDIR", "PKG_CONFIG_SYSROOT_DIR"] {
+        println!("cargo:rerun-if-env-changed={name}");
+    }
+    if let Some(archive) = pkg_config("--variable=libdir").map(|folder| Path::new(&folder).join("libadf.a")) {
+        if archive.exists() {
+            return link(&archive);
+        }
+    }
     for flag in flags.split_whitespace() {
         match flag.split_at(flag.len().min(2)) {
             ("-L", folder) => println!("cargo:rustc-link-search=native={folder}"),

@@ -14,11 +14,17 @@ _adf() {
 }
 
 _adf_survey() {
+    local at=1 words="cat rescue --list --blocks"
+    if ((COMP_CWORD > 1)) && [[ ${COMP_WORDS[1]} == --blocks ]]; then
+        at=3 words="cat rescue --list"
+    fi
     if [[ ${COMP_WORDS[COMP_CWORD - 1]} == [\<\>] ]]; then
         compopt -o default
-    elif ((COMP_CWORD == 1)); then
-        COMPREPLY=($(compgen -W "--blocks --list cat rescue" -- "$2"))
-    elif [[ $2 == -* && " ${COMP_WORDS[*]} " == *" cat "* ]]; then
+    elif ((COMP_CWORD == at)); then
+        COMPREPLY=($(compgen -W "$words" -- "$2"))
+    elif ((COMP_CWORD < at)); then
+        COMPREPLY=($(compgen -W "1760 3520" -- "$2"))
+    elif [[ $2 == -* && ${COMP_WORDS[at]} == cat ]]; then
         COMPREPLY=($(compgen -W "--damaged" -- "$2"))
     fi
 }

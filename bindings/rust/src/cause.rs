@@ -1,12 +1,11 @@
 use crate::ffi;
+use crate::numbered::numbered;
 use std::error::Error;
 use std::fmt;
 
-/// Why an image is refused. The numbers are those of `enum adf_cause` in include/adf.h, which says what each one means.
-#[derive(Clone, Copy, Debug, PartialEq, Eq, Hash)]
-#[repr(u8)]
-#[non_exhaustive]
-pub enum Cause {
+numbered! {
+    /// Why an image is refused. The numbers are those of `enum adf_cause` in include/adf.h, which says what each one means.
+    Cause(u8):
     BadSize = 1,
     NotDos = 2,
     International = 3,
@@ -29,61 +28,25 @@ pub enum Cause {
     BadData = 20,
     LostBlock = 21,
     OwnedFree = 22,
-    /// Memory was refused: nothing is said of the image.
+    /// An allocation failed. Nothing is said about the image.
     NoMemory = 23,
 }
 
-impl Cause {
-    /// All causes, in the order of their numbers.
-    pub const ALL: [Cause; 23] = [
-        Cause::BadSize,
-        Cause::NotDos,
-        Cause::International,
-        Cause::DirCache,
-        Cause::OutOfRange,
-        Cause::Taken,
-        Cause::BadSum,
-        Cause::BadType,
-        Cause::Link,
-        Cause::BadOwnKey,
-        Cause::BadParent,
-        Cause::BadName,
-        Cause::BadComment,
-        Cause::WrongSlot,
-        Cause::BadFirst,
-        Cause::SameName,
-        Cause::BadHashSize,
-        Cause::NotValidated,
-        Cause::ShortFile,
-        Cause::BadData,
-        Cause::LostBlock,
-        Cause::OwnedFree,
-        Cause::NoMemory,
-    ];
-
-    /// The number of the cause, 1 to 23.
-    pub fn number(self) -> u8 {
-        self as u8
-    }
-
-    /// The cause of a number, if it is from 1 to 23.
-    pub fn from_number(number: u8) -> Option<Cause> {
-        Cause::ALL.get(usize::from(number).checked_sub(1)?).copied()
-    }
-}
-
-/// The text that `adf check` writes, as `bad sum`.
+/// The text that `adf check` writes, such as `bad sum`.
 impl fmt::Display for Cause {
     fn fmt(&self, f: &mut fmt::Formatter<'_>) -> fmt::Result {
-        f.write_str(&ffi::cause_text(self.number()))
+        match ffi::cause_text(self.number()) {
+            text if text.is_empty() => write!(f, "unknown cause {}", self.number()),
+            text => f.write_str(&text),
+        }
     }
 }
 
-/// An image is refused: its first fault, and the block where it stands. Shown as `block 880: bad sum`.
+/// An image is refused: its first fault, and the block it is in. Shown as `block 880: bad sum`.
 #[derive(Clone, Copy, Debug, PartialEq, Eq, Hash)]
 pub struct Refused {
     pub cause: Cause,
-    /// The number of the block, 0 where memory was refused.
+    /// The number of the block, 0 if an allocation failed.
     pub block: u32,
 }
 
@@ -95,24 +58,28 @@ impl fmt::Display for Refused {
 
 impl Error for Refused {}
 
-/// Why a path leads to no entry.
+/// Why no entry is found under a path.
 #[derive(Clone, Copy, Debug, PartialEq, Eq, Hash)]
+#[non_exhaustive]
 pub enum NotFound {
-    /// Nothing is there.
+    /// Nothing has this path.
     Nothing,
-    /// The text is that of no path.
+    /// The text is not a path.
     NoPath,
-    /// Memory was refused.
+    /// An allocation failed.
     NoMemory,
+    /// A number that this crate does not know: the library is newer than the crate.
+    Unknown(u8),
 }
 
 impl fmt::Display for NotFound {
     fn fmt(&self, f: &mut fmt::Formatter<'_>) -> fmt::Result {
-        f.write_str(match self {
-            NotFound::Nothing => "no such path",
-            NotFound::NoPath => "bad path",
-            NotFound::NoMemory => "no memory",
-        })
+        match self {
+            NotFound::Nothing => f.write_str("no such path"),
+            NotFound::NoPath => f.write_str("bad path"),
+            NotFound::NoMemory => f.write_str("no memory"),
+            NotFound::Unknown(number) => write!(f, "unknown answer {number}"),
+        }
     }
 }
 

@@ -1,59 +1,80 @@
 use crate::ffi::{self, Moved, Program};
-use std::ops::Range;
+use std::error::Error;
+use std::fmt;
 
 const FIRST_OUTPUT: usize = 1 << 20;
 const FIRST_ERRORS: usize = 1024;
 const MOST_OUTPUT: usize = 1 << 32;
 
-/// What a run of the command came to.
-#[derive(Clone, Debug, PartialEq, Eq)]
+/// What a command wrote, and its status.
+#[derive(Clone, PartialEq, Eq)]
 pub struct Answer {
-    /// 0, or 1 where the input is refused or has findings, 2 where the words are refused, 3 where memory was, or where the
-    /// output has more than 4 GiB: it is then cut there, and errors say `write fault`.
+    /// 0: success. 1: the input is refused or has findings. 2: the arguments are refused. 3: an allocation failed, or the output has
+    /// more than 4 GiB: then it is cut there, and errors say `write fault`.
     pub status: u8,
     pub output: Vec<u8>,
     pub errors: Vec<u8>,
 }
 
-/// Runs the command `adf` with these words, the program's name not among them, over an input: an image, or for `build` a
-/// manifest. `run(&["build"], manifest)` makes an image. A zero byte ends a word.
+impl Answer {
+    /// The output at status 0; the answer as an error at any other.
+    pub fn into_output(self) -> Result<Vec<u8>, Failed> {
+        match self.status {
+            0 => Ok(self.output),
+            _ => Err(Failed { answer: self }),
+        }
+    }
+}
+
+impl fmt::Debug for Answer {
+    fn fmt(&self, f: &mut fmt::Formatter<'_>) -> fmt::Result {
+        let (output, errors) = (format_args!("{} bytes", self.output.len()), String::from_utf8_lossy(&self.errors));
+        f.debug_struct("Answer").field("status", &self.status).field("output", &output).field("errors", &errors).finish()
+    }
+}
+
+/// The answer of a command that did not do what was asked. Shown as the first line that it wrote, such as `no such path`.
+#[derive(Clone, Debug, PartialEq, Eq)]
+pub struct Failed {
+    pub answer: Answer,
+}
+
+impl Failed {
+    /// An answer with this status and error.
+    pub(crate) fn with(status: u8, error: &str) -> Failed {
+        Failed { answer: Answer { status, output: Vec::new(), errors: format!("{error}\n").into_bytes() } }
+    }
+}
+
+impl fmt::Display for Failed {
+    fn fmt(&self, f: &mut fmt::Formatter<'_>) -> fmt::Result {
+        let Answer { status, output, errors } = &self.answer;
+        let text = String::from_utf8_lossy(if errors.is_empty() { output } else { errors });
+        match text.lines().next() {
+            Some(line) => f.write_str(line),
+            None => write!(f, "status {status}"),
+        }
+    }
+}
+
+impl Error for Failed {}
+
+/// Runs the command `adf` with these arguments, without the program's name, over an input: an image, or a manifest for `build`.
+/// `run(&["build"], manifest)` makes an image. An argument with a zero byte is refused, at status 2.
 pub fn run(words: &[&str], input: &[u8]) -> Answer {
     run_program(Program::Adf, "adf", words, input)
 }
 
-/// Runs the command `adf-survey` with these words over an image: `survey(&[], image)` has a line for each finding,
-/// `survey(&["--list"], image)` behind them what is found, `survey(&["cat", path], image)` the bytes of a sound file,
-/// `survey(&["cat", "--damaged", path], image)` what is left of any file, and `survey(&["rescue"], image)` a new volume of all
-/// that stands.
+/// Runs the command `adf-survey` with these arguments over an image: `survey(&["--blocks", "1760", "--list"], image)`. `Survey::of`,
+/// `remains` and `rescue` give its answers as structs.
 pub fn survey(words: &[&str], image: &[u8]) -> Answer {
     run_program(Program::Survey, "adf-survey", words, image)
 }
 
-/// What is left of a file: its bytes, with zeros for those that are lost, and the runs of these.
-#[derive(Clone, Debug, PartialEq, Eq)]
-pub struct Remains {
-    pub bytes: Vec<u8>,
-    pub lost: Vec<Range<usize>>,
-}
-
-/// What is left of a file of an image, sound or damaged, under a path in the escape form, as `adf-survey cat --damaged` writes
-/// it. An error is the answer of that command where it writes none: errors say why.
-pub fn remains(path: &str, image: &[u8]) -> Result<Remains, Answer> {
-    let answer = survey(&["cat", "--damaged", "--", path], image);
-    let lost: Option<Vec<_>> = String::from_utf8_lossy(&answer.errors).lines().map(lost_of).collect();
-    match lost {
-        Some(lost) if answer.status <= 1 => Ok(Remains { bytes: answer.output, lost }),
-        _ => Err(answer),
-    }
-}
-
-/// The bytes of a line `bytes FIRST to LAST: no data`.
-fn lost_of(line: &str) -> Option<Range<usize>> {
-    let (first, last) = line.strip_prefix("bytes ")?.strip_suffix(": no data")?.split_once(" to ")?;
-    Some(first.parse().ok()?..last.parse::<usize>().ok()? + 1)
-}
-
 fn run_program(program: Program, name: &str, words: &[&str], input: &[u8]) -> Answer {
+    if words.iter().any(|word| word.contains('\0')) {
+        return Failed::with(2, "an argument has a zero byte").answer;
+    }
     let mut line = format!("{name}\0").into_bytes();
     for word in words {
         line.extend_from_slice(word.as_bytes());

@@ -1,7 +1,81 @@
 use crate::ffi::{self, DiskRecord, PartitionRecord};
+use crate::numbered::numbered;
 use crate::{Refused, Text};
 use std::error::Error;
 use std::fmt;
+
+numbered! {
+    /// What is wrong with the tables of a disk. The numbers are those of `enum adf_disk_cause` in include/adf.h.
+    DiskCause(u8):
+    NoRigidDisk = 1,
+    BlockSize = 2,
+    OutOfRange = 3,
+    Repeated = 4,
+    NoPartition = 5,
+    BadSum = 6,
+    TooMany = 7,
+}
+
+numbered! {
+    /// What is wrong with a partition alone. The numbers are those of `enum adf_partition_fault` in include/adf.h.
+    PartitionFault(u8):
+    ShortEnvironment = 1,
+    BlockSize = 2,
+    BadCylinders = 3,
+    BeyondImage = 4,
+    OverTables = 5,
+    OverPartition = 6,
+    BadName = 7,
+}
+
+/// The text that `adf-disk` writes, such as `no rigid disk`.
+impl fmt::Display for DiskCause {
+    fn fmt(&self, f: &mut fmt::Formatter<'_>) -> fmt::Result {
+        f.write_str(match self {
+            DiskCause::NoRigidDisk => "no rigid disk",
+            DiskCause::BlockSize => "bad block size",
+            DiskCause::OutOfRange => "out of range",
+            DiskCause::Repeated => "repeated",
+            DiskCause::NoPartition => "not a partition",
+            DiskCause::BadSum => "bad sum",
+            DiskCause::TooMany => "too many",
+            DiskCause::Unknown(number) => return write!(f, "unknown cause {number}"),
+        })
+    }
+}
+
+/// The text that `adf-disk` writes, such as `beyond image`.
+impl fmt::Display for PartitionFault {
+    fn fmt(&self, f: &mut fmt::Formatter<'_>) -> fmt::Result {
+        f.write_str(match self {
+            PartitionFault::ShortEnvironment => "short environment",
+            PartitionFault::BlockSize => "bad block size",
+            PartitionFault::BadCylinders => "bad cylinders",
+            PartitionFault::BeyondImage => "beyond image",
+            PartitionFault::OverTables => "over tables",
+            PartitionFault::OverPartition => "over partition",
+            PartitionFault::BadName => "bad name",
+            PartitionFault::Unknown(number) => return write!(f, "unknown fault {number}"),
+        })
+    }
+}
+
+impl Error for PartitionFault {}
+
+/// The first fault of the tables of a disk, and the block it is in. Shown as `block 0: no rigid disk`.
+#[derive(Clone, Copy, Debug, PartialEq, Eq, Hash)]
+pub struct DiskFault {
+    pub cause: DiskCause,
+    pub block: u32,
+}
+
+impl fmt::Display for DiskFault {
+    fn fmt(&self, f: &mut fmt::Formatter<'_>) -> fmt::Result {
+        write!(f, "block {}: {}", self.block, self.cause)
+    }
+}
+
+impl Error for DiskFault {}
 
 /// A whole hard disk: its partitions, in the order of its tables.
 pub struct Disk<'image> {
@@ -10,35 +84,9 @@ pub struct Disk<'image> {
     partitions: Vec<PartitionRecord>,
 }
 
-/// What is wrong with the tables of a disk, with the block of the first fault, or with one partition.
-#[derive(Clone, Copy, Debug, PartialEq, Eq, Hash)]
-pub enum DiskFault {
-    Tables { cause: u8, block: u32 },
-    Partition { fault: u8 },
-}
-
-const DISK_CAUSES: [&str; 8] =
-    ["", "no rigid disk", "bad block size", "out of range", "repeated", "not a partition", "bad sum", "too many"];
-
-const PARTITION_FAULTS: [&str; 8] =
-    ["", "short environment", "bad block size", "bad cylinders", "beyond image", "over tables", "over partition", "bad name"];
-
-impl fmt::Display for DiskFault {
-    fn fmt(&self, f: &mut fmt::Formatter<'_>) -> fmt::Result {
-        match *self {
-            DiskFault::Tables { cause, block } => {
-                write!(f, "block {block}: {}", DISK_CAUSES.get(usize::from(cause)).unwrap_or(&"unknown"))
-            }
-            DiskFault::Partition { fault } => f.write_str(PARTITION_FAULTS.get(usize::from(fault)).unwrap_or(&"unknown")),
-        }
-    }
-}
-
-impl Error for DiskFault {}
-
 impl<'image> Disk<'image> {
-    /// Reads the partitions of a disk. An error is `Cause::NoMemory`: of tables with a fault there are the partitions that can be
-    /// read nevertheless, and `fault`.
+    /// Reads the partitions of a disk. An error is `Cause::NoMemory`. If the tables have a fault, `fault` reports it, and the
+    /// partitions are those that can be read nevertheless.
     pub fn of(image: &'image [u8]) -> Result<Disk<'image>, Refused> {
         const MOST_TABLES: usize = 512 * 65_536;
         let tables = &image[..image.len().min(MOST_TABLES)];
@@ -49,7 +97,7 @@ impl<'image> Disk<'image> {
     /// The first fault of the tables, if they have one.
     pub fn fault(&self) -> Option<DiskFault> {
         let DiskRecord { cause, block, .. } = self.record;
-        (cause != 0).then_some(DiskFault::Tables { cause, block })
+        (cause != 0).then(|| DiskFault { cause: cause.into(), block })
     }
 
     /// All partitions, or those that can be read.
@@ -57,7 +105,7 @@ impl<'image> Disk<'image> {
         (0..self.partitions.len()).map(|place| Partition { disk: self, place })
     }
 
-    /// The first partition with a name; the case of a to z does not count.
+    /// The first partition with a name. The case of a to z is ignored.
     pub fn named(&self, name: impl AsRef<[u8]>) -> Option<Partition<'_>> {
         self.partitions().find(|partition| partition.name().as_bytes().eq_ignore_ascii_case(name.as_ref()))
     }
@@ -86,7 +134,7 @@ impl<'disk> Partition<'disk> {
         self.place + 1
     }
 
-    /// The drive's name, which may be none.
+    /// The drive's name, which may be empty.
     pub fn name(&self) -> Text<'disk> {
         Text::of(&self.record().name, self.record().name_length)
     }
@@ -112,16 +160,16 @@ impl<'disk> Partition<'disk> {
     }
 
     /// The first block of its volume on the disk, and how many it has; or what is wrong with it.
-    pub fn place(&self) -> Result<(u64, u64), DiskFault> {
+    pub fn place(&self) -> Result<(u64, u64), PartitionFault> {
         let PartitionRecord { first, blocks, fault, .. } = *self.record();
         match fault {
             0 => Ok((first, blocks)),
-            _ => Err(DiskFault::Partition { fault }),
+            _ => Err(fault.into()),
         }
     }
 
     /// The bytes of its volume, an image of its own; or what is wrong with it.
-    pub fn volume(&self) -> Result<&'disk [u8], DiskFault> {
+    pub fn volume(&self) -> Result<&'disk [u8], PartitionFault> {
         let (first, blocks) = self.place()?;
         let (from, length) = (512 * first as usize, 512 * blocks as usize);
         Ok(&self.disk.image[from..from + length])

@@ -214,6 +214,14 @@ fn with_room<T>(count: usize) -> Result<Vec<T>, Refused> {
     }
 }
 
+/// What a call answers that refuses: 0 alone accepts, also for a library that is newer than this crate.
+fn accepted(answer: u8) -> Result<(), Cause> {
+    match answer {
+        0 => Ok(()),
+        _ => Err(answer.into()),
+    }
+}
+
 /// Checks an image and makes its tables.
 pub(crate) fn index(image: &[u8]) -> Result<Tables, Refused> {
     let most = image.len() / 512;
@@ -232,9 +240,7 @@ pub(crate) fn index(image: &[u8]) -> Result<Tables, Refused> {
             &mut contents,
         )
     };
-    if let Some(cause) = Cause::from_number(answer) {
-        return Err(Refused { cause, block: contents.block });
-    }
+    accepted(answer).map_err(|cause| Refused { cause, block: contents.block })?;
     // "fills two tables, each as far as there is room"; "contents->entries and contents->data_blocks are the whole numbers": so
     // many were written, and no more than there is room for.
     unsafe {
@@ -270,9 +276,7 @@ fn survey_into(image: &[u8], findings_room: usize, entries_room: usize) -> Resul
             &mut surveyed,
         )
     };
-    if let Some(cause) = Cause::from_number(answer) {
-        return Err(Refused { cause, block: 0 });
-    }
+    accepted(answer).map_err(|cause| Refused { cause, block: 0 })?;
     // "fills two tables, each as far as there is room"; "surveyed->findings and surveyed->entries are the whole numbers": so many
     // were written, and no more than there is room for.
     unsafe {
@@ -301,9 +305,7 @@ pub(crate) fn disk(bytes: &[u8], blocks: u64) -> Result<(DiskRecord, Vec<Partiti
     let mut disk = DiskRecord::default();
     // "A pointer to bytes has as many bytes as its length or room says", and "buffers and structs need not be initialised".
     let answer = unsafe { adf_disk_index(bytes.as_ptr(), bytes.len(), blocks, partitions.as_mut_ptr(), room, &mut disk) };
-    if let Some(cause) = Cause::from_number(answer) {
-        return Err(Refused { cause, block: 0 });
-    }
+    accepted(answer).map_err(|cause| Refused { cause, block: 0 })?;
     // "fills a table with them, as far as there is room"; "disk->partitions is the whole number": so many were written, and no more
     // than there is room for.
     unsafe { partitions.set_len(disk.partitions.min(room)) };
@@ -316,10 +318,8 @@ pub(crate) fn owners(image: &[u8]) -> Result<Vec<u8>, Refused> {
     roles.resize(image.len() / 512, 0);
     // "A pointer to bytes has as many bytes as its length or room says".
     let answer = unsafe { adf_owners(image.as_ptr(), image.len(), roles.as_mut_ptr(), roles.len()) };
-    match Cause::from_number(answer) {
-        None => Ok(roles),
-        Some(cause) => Err(Refused { cause, block: 0 }),
-    }
+    accepted(answer).map_err(|cause| Refused { cause, block: 0 })?;
+    Ok(roles)
 }
 
 /// The number of the entry under a path in escape form, 0 for the root.
@@ -331,7 +331,8 @@ pub(crate) fn find(entries: &[Record], path: &[u8]) -> Result<usize, NotFound> {
         0 => Ok(node),
         1 => Err(NotFound::Nothing),
         2 => Err(NotFound::NoPath),
-        _ => Err(NotFound::NoMemory),
+        _ if Cause::from(answer) == Cause::NoMemory => Err(NotFound::NoMemory),
+        _ => Err(NotFound::Unknown(answer)),
     }
 }
 
@@ -355,7 +356,7 @@ pub(crate) fn read(image: &[u8], tables: &Tables, node: usize, offset: usize, ro
     }
 }
 
-/// The text of a cause, empty where no cause has the number.
+/// The text of a cause, empty if no cause has the number.
 pub(crate) fn cause_text(cause: u8) -> String {
     let mut room = [0; 64];
     // "A pointer to bytes has as many bytes as its length or room says".
@@ -423,6 +424,8 @@ mod tests {
         all.extend(layout!(FoundRecord, "adf_found": parent header size protection date is_file is_sound name_length name
             comment_length comment));
         all.extend(layout!(Surveyed, "adf_surveyed": kind blocks findings entries root altered created label_length label));
+        all.extend(layout!(PartitionRecord, "adf_partition": first blocks block flags priority dos_type fault name_length name));
+        all.extend(layout!(DiskRecord, "adf_disk": partitions block cause));
         all.extend(layout!(Moved, "adf_moved": input output errors output_full errors_full));
         all
     }
@@ -447,6 +450,12 @@ mod tests {
 
     #[test]
     fn structs_are_those_of_the_header() {
+        // Only adf_verdict is not bound: adf_contents has all of it.
+        let header = include_str!("../../../include/adf.h");
+        let structs = header.lines().filter_map(|line| line.strip_prefix("struct ")?.strip_suffix(" {"));
+        for name in structs.filter(|name| *name != "adf_verdict") {
+            assert!(layouts().iter().any(|(what, _)| *what == format!("sizeof(struct {name})")), "{name}");
+        }
         let include = Path::new(env!("CARGO_MANIFEST_DIR")).join("../../include");
         let folder = std::env::temp_dir().join(format!("adf-layout-{}", std::process::id()));
         std::fs::create_dir(&folder).unwrap();

@@ -4,23 +4,27 @@ mod cause;
 mod command;
 mod disk;
 mod ffi;
+mod numbered;
+mod rescue;
 mod role;
 mod survey;
 mod text;
 
 pub use cause::{Cause, NotFound, Refused};
-pub use command::{remains, run, survey, Answer, Remains};
-pub use disk::{Disk, DiskFault, Partition};
+pub use command::{run, survey, Answer, Failed};
+pub use disk::{Disk, DiskCause, DiskFault, Partition, PartitionFault};
 pub use ffi::Date;
-pub use role::Role;
+pub use rescue::{remains, rescue, LeftOut, Reason, Remains, Rescue};
+pub use role::{Kind, Role};
 pub use survey::{Finding, Found, Survey};
-pub use text::{escape, Text};
+pub use text::{escape, unescape, Text};
 
+use std::borrow::Cow;
 use std::fmt;
 use std::time::{Duration, SystemTime};
 
 impl Date {
-    /// The moment, where the date is read as UTC; none where it has more minutes than a day, or more ticks than a minute.
+    /// The moment, if the date is read as UTC; `None` if it has more minutes than a day, or more ticks than a minute.
     pub fn to_system_time(self) -> Option<SystemTime> {
         const DAYS_TO_1978: u64 = 2922;
         let is_date = self.mins < 24 * 60 && self.ticks < 60 * 50;
@@ -30,38 +34,38 @@ impl Date {
     }
 }
 
-/// How the data blocks of a volume are written.
-#[derive(Clone, Copy, Debug, PartialEq, Eq, Hash)]
-pub enum Kind {
-    Ofs,
-    Ffs,
-}
-
 /// A sound volume: an image that was checked, and the tables of its entries.
 pub struct Volume<'image> {
-    image: &'image [u8],
+    image: Cow<'image, [u8]>,
     tables: ffi::Tables,
 }
 
 impl<'image> Volume<'image> {
-    /// Checks an image. Of one that is no volume the first fault is told; `Cause::NoMemory` says nothing of the image.
+    /// Checks an image. If it is not a volume, the error is its first fault. `Cause::NoMemory` says nothing about the image.
     pub fn check(image: &'image [u8]) -> Result<Volume<'image>, Refused> {
-        Ok(Volume { image, tables: ffi::index(image)? })
+        Ok(Volume { tables: ffi::index(image)?, image: Cow::Borrowed(image) })
+    }
+
+    /// Checks an image, and keeps its bytes in the volume, which then borrows nothing.
+    pub fn check_owned(image: Vec<u8>) -> Result<Volume<'static>, Refused> {
+        Ok(Volume { tables: ffi::index(&image)?, image: Cow::Owned(image) })
+    }
+
+    /// The bytes of the image.
+    pub fn image(&self) -> &[u8] {
+        &self.image
     }
 
     pub fn kind(&self) -> Kind {
-        match self.tables.contents.kind {
-            0 => Kind::Ofs,
-            _ => Kind::Ffs,
-        }
+        self.tables.contents.kind.into()
     }
 
-    /// All blocks of 512 bytes, the two boot blocks among them.
+    /// All blocks of 512 bytes, the two boot blocks included.
     pub fn blocks(&self) -> u32 {
         self.tables.contents.blocks
     }
 
-    /// Blocks that parts of the volume own, so not the two boot blocks.
+    /// Blocks that parts of the volume own, so without the two boot blocks.
     pub fn used(&self) -> u32 {
         self.tables.contents.used
     }
@@ -96,20 +100,20 @@ impl<'image> Volume<'image> {
         Entry { volume: self, number: 0 }
     }
 
-    /// All directories and files but the root. A directory comes before what is in it, and what is in one directory stands
-    /// together, in the order of the slots and chains of the disk.
+    /// All directories and files, without the root. A directory comes before what is in it. The entries of one directory are next to
+    /// each other, in the order of the slots and chains of the disk.
     pub fn entries(&self) -> impl ExactSizeIterator<Item = Entry<'_>> + DoubleEndedIterator {
         (0..self.tables.entries.len()).map(|place| Entry { volume: self, number: place + 1 })
     }
 
-    /// The role of each block. The image is checked once more for it, so memory may be refused.
+    /// The role of each block. The image is checked once more for it, so an allocation may fail.
     pub fn owners(&self) -> Result<Vec<Role>, Refused> {
-        let roles = ffi::owners(self.image)?;
-        Ok(roles.into_iter().map(Role::from_number).collect())
+        let roles = ffi::owners(&self.image)?;
+        Ok(roles.into_iter().map(Role::from).collect())
     }
 
-    /// The entry under a path: names with `/` between them, as `Entry::path` has it. The case of a to z does not count. The empty
-    /// path is the root's. A letter that Latin-1 does not have is in no path.
+    /// The entry under a path: names with `/` between them, as `Entry::path` has it. The case of a to z is ignored. The empty path is
+    /// the root's. A character that is not in Latin-1 is in no path.
     pub fn find(&self, path: impl AsRef<str>) -> Result<Entry<'_>, NotFound> {
         self.find_bytes(&text::to_latin(path.as_ref()).ok_or(NotFound::NoPath)?)
     }
@@ -128,7 +132,7 @@ impl fmt::Debug for Volume<'_> {
     }
 }
 
-/// A directory or a file of a volume. The root is one too, which has no name, comment and protection.
+/// A directory or file of a volume. The root is one too; it has no name, comment or protection.
 #[derive(Clone, Copy)]
 pub struct Entry<'volume> {
     volume: &'volume Volume<'volume>,
@@ -140,7 +144,7 @@ impl<'volume> Entry<'volume> {
         self.volume.tables.entries.get(self.number.checked_sub(1)?)
     }
 
-    /// The number of the entry, 0 for the root, then as they come in `Volume::entries`.
+    /// The number of the entry: 0 for the root, the others from 1 in the order of `Volume::entries`.
     pub fn number(&self) -> usize {
         self.number
     }
@@ -158,7 +162,7 @@ impl<'volume> Entry<'volume> {
         self.record().map(|record| Text::of(&record.comment, record.comment_length)).unwrap_or_default()
     }
 
-    /// Bytes of a file, 0 of a directory.
+    /// Bytes of a file, 0 for a directory.
     pub fn size(&self) -> u32 {
         self.record().map_or(0, |record| record.size)
     }
@@ -172,17 +176,17 @@ impl<'volume> Entry<'volume> {
         self.record().map_or(self.volume.date(), |record| record.date)
     }
 
-    /// The number of the header's block, of the root that of the root block.
+    /// The block of the header; for the root, the root block.
     pub fn header(&self) -> u32 {
         self.record().map_or(self.volume.blocks() / 2, |record| record.header)
     }
 
-    /// The directory that the entry is in; none of the root.
+    /// The directory that the entry is in, `None` for the root.
     pub fn parent(&self) -> Option<Entry<'volume>> {
         self.record().map(|record| Entry { volume: self.volume, number: record.parent as usize })
     }
 
-    /// What is in a directory; nothing of a file.
+    /// What is in a directory; nothing for a file.
     pub fn children(&self) -> impl ExactSizeIterator<Item = Entry<'volume>> + DoubleEndedIterator {
         let Entry { volume, number } = *self;
         let entries = &volume.tables.entries;
@@ -191,7 +195,7 @@ impl<'volume> Entry<'volume> {
         (first..behind).map(move |place| Entry { volume, number: place + 1 })
     }
 
-    /// The path as `Volume::find` takes it: names with `/` between them, their bytes read as Latin-1; empty of the root.
+    /// The path as `Volume::find` takes it: names with `/` between them, their bytes read as Latin-1; empty for the root.
     pub fn path(&self) -> String {
         text::from_latin(&self.path_bytes())
     }
@@ -204,13 +208,13 @@ impl<'volume> Entry<'volume> {
         names.join(&b'/')
     }
 
-    /// Puts bytes of a file from an offset on into the room, as many as there are and fit, and answers how many: 0 of a
+    /// Copies the bytes of a file from an offset on into the room, as many as there are and fit, and returns how many: 0 for a
     /// directory, and past the end.
     pub fn read_at(&self, room: &mut [u8], offset: usize) -> usize {
-        ffi::read(self.volume.image, &self.volume.tables, self.number, offset, room)
+        ffi::read(&self.volume.image, &self.volume.tables, self.number, offset, room)
     }
 
-    /// The bytes of a file; none of a directory.
+    /// The bytes of a file; none for a directory.
     pub fn read(&self) -> Vec<u8> {
         let mut bytes = vec![0; self.size() as usize];
         let length = self.read_at(&mut bytes, 0);

@@ -1,47 +1,51 @@
 use crate::ffi::{self, Date, SurveyTables};
-use crate::{text, Cause, Kind, Refused, Text};
+use crate::{escape, rescue, text, Cause, Failed, Kind, Refused, Remains, Text};
 use std::fmt;
 
 /// What is found in an image by `adf-survey`: everything that is wrong, and the entries that can still be reached.
-pub struct Survey {
+pub struct Survey<'image> {
+    image: &'image [u8],
     tables: SurveyTables,
 }
 
-impl Survey {
+impl<'image> Survey<'image> {
     /// Surveys an image, sound or not. An error is `Cause::NoMemory`.
-    pub fn of(image: &[u8]) -> Result<Survey, Refused> {
-        Ok(Survey { tables: ffi::survey(image)? })
+    pub fn of(image: &'image [u8]) -> Result<Survey<'image>, Refused> {
+        Ok(Survey { image, tables: ffi::survey(image)? })
     }
 
     /// The kind, if the root is found.
     pub fn kind(&self) -> Option<Kind> {
         match (self.tables.surveyed.blocks, self.tables.surveyed.kind) {
             (0, _) => None,
-            (_, 0) => Some(Kind::Ofs),
-            _ => Some(Kind::Ffs),
+            (_, kind) => Some(kind.into()),
         }
     }
 
-    /// The label; empty where no root is found.
+    /// The label, empty if no root is found.
     pub fn label(&self) -> Text<'_> {
         let surveyed = &self.tables.surveyed;
         Text::of(&surveyed.label, surveyed.label_length)
     }
 
-    /// The three dates of the root: its own, that of the last change, and that of the creation.
+    /// The three dates of the root: its own, that of the last change, that of the creation.
     pub fn dates(&self) -> [Date; 3] {
         let surveyed = &self.tables.surveyed;
         [surveyed.root, surveyed.altered, surveyed.created]
     }
 
-    /// What is wrong, in the order of the survey; nothing exactly where `Volume::check` takes the image.
+    /// What is wrong, in the order of the survey: nothing, if and only if `Volume::check` accepts the image.
     pub fn findings(&self) -> impl ExactSizeIterator<Item = Finding<'_>> + DoubleEndedIterator {
         (0..self.tables.findings.len()).map(|place| Finding { survey: self, place })
     }
 
-    /// The entries that are found, each behind its directory.
+    /// The entries that are found, each after its directory.
     pub fn entries(&self) -> impl ExactSizeIterator<Item = Found<'_>> + DoubleEndedIterator {
         (0..self.tables.entries.len()).map(|place| Found { survey: self, number: place + 1 })
+    }
+
+    pub(crate) fn image(&self) -> &'image [u8] {
+        self.image
     }
 
     fn entry(&self, number: usize) -> Option<Found<'_>> {
@@ -49,17 +53,17 @@ impl Survey {
     }
 }
 
-impl fmt::Debug for Survey {
+impl fmt::Debug for Survey<'_> {
     fn fmt(&self, f: &mut fmt::Formatter<'_>) -> fmt::Result {
         let (findings, entries) = (self.tables.findings.len(), self.tables.entries.len());
         f.debug_struct("Survey").field("findings", &findings).field("entries", &entries).finish()
     }
 }
 
-/// Blocks from the first to the last with one cause, that concern the same.
+/// Neighbouring blocks that have one cause and concern the same.
 #[derive(Clone, Copy)]
 pub struct Finding<'survey> {
-    survey: &'survey Survey,
+    survey: &'survey Survey<'survey>,
     place: usize,
 }
 
@@ -76,9 +80,8 @@ impl<'survey> Finding<'survey> {
         self.record().last
     }
 
-    /// The cause; none that this crate does not know.
-    pub fn cause(&self) -> Option<Cause> {
-        Cause::from_number(self.record().cause)
+    pub fn cause(&self) -> Cause {
+        self.record().cause.into()
     }
 
     /// The entry that is concerned, or the directory in which a header was skipped; none for the root and the bitmap.
@@ -91,7 +94,7 @@ impl<'survey> Finding<'survey> {
         self.record().is_within == 1
     }
 
-    /// The entry that owns the blocks, if the cause is that they are taken.
+    /// The entry that owns the blocks, if the cause is `Cause::Taken`.
     pub fn owner(&self) -> Option<Found<'survey>> {
         self.survey.entry(self.record().owner)
     }
@@ -100,7 +103,7 @@ impl<'survey> Finding<'survey> {
 /// A directory, file or link that is found; a link counts as a file.
 #[derive(Clone, Copy)]
 pub struct Found<'survey> {
-    survey: &'survey Survey,
+    survey: &'survey Survey<'survey>,
     number: usize,
 }
 
@@ -114,7 +117,7 @@ impl<'survey> Found<'survey> {
         self.number
     }
 
-    /// No finding concerns the entry: a sound file has all its bytes.
+    /// Whether no finding concerns the entry: a sound file has all its bytes.
     pub fn is_sound(&self) -> bool {
         self.record().is_sound == 1
     }
@@ -123,7 +126,7 @@ impl<'survey> Found<'survey> {
         self.record().is_file == 1
     }
 
-    /// The name in the header, which may be none that a volume can have.
+    /// The name in the header, which may be one that no volume can have.
     pub fn name(&self) -> Text<'survey> {
         Text::of(&self.record().name, self.record().name_length)
     }
@@ -133,7 +136,7 @@ impl<'survey> Found<'survey> {
         Text::of(&self.record().comment, self.record().comment_length)
     }
 
-    /// Bytes of a file, as its header says; 0 of a directory.
+    /// Bytes of a file, as its header says; 0 for a directory.
     pub fn size(&self) -> u32 {
         self.record().size
     }
@@ -152,7 +155,7 @@ impl<'survey> Found<'survey> {
         self.record().header
     }
 
-    /// The directory that the entry is in; none if that is the root.
+    /// The directory that the entry is in, `None` for the root.
     pub fn parent(&self) -> Option<Found<'survey>> {
         self.survey.entry(self.record().parent)
     }
@@ -168,6 +171,12 @@ impl<'survey> Found<'survey> {
             std::iter::successors(Some(*self), Found::parent).map(|found| found.name().as_bytes()).collect();
         names.reverse();
         names.join(&b'/')
+    }
+
+    /// What is left of this file. The image is surveyed again for it. An entry whose path another one has too, up to the case of
+    /// letters, is refused with `not unique`: the library looks files up by their paths, and would read the first.
+    pub fn remains(&self) -> Result<Remains, Failed> {
+        rescue::remains_of(self.survey, &escape(&self.path_bytes()))
     }
 }
 

@@ -1,6 +1,6 @@
 use std::fmt;
 
-/// A name, a comment or a label: bytes of no stated encoding. Shown, they are read as Latin-1, as Amigas do.
+/// A name, a comment or a label: bytes in no particular encoding. They are shown as Latin-1, as Amigas do.
 #[derive(Clone, Copy, Debug, Default, PartialEq, Eq, PartialOrd, Ord, Hash)]
 pub struct Text<'volume>(&'volume [u8]);
 
@@ -14,14 +14,13 @@ impl<'volume> Text<'volume> {
         self.0
     }
 
-    /// The escape form, as `adf list` writes it: a byte outside 32 to 126 and the backslash stand as `\xHH`.
+    /// The escape form, as `adf list` writes it: a byte outside 32 to 126, and the backslash, is `\xHH`.
     pub fn escaped(self) -> String {
         escape(self.0)
     }
 }
 
-/// The escape form of bytes, as `adf list` writes it and `adf cat` takes it: a byte outside 32 to 126 and the backslash stand as
-/// `\xHH`.
+/// The escape form of bytes, as `adf list` writes it and `adf cat` takes it: a byte outside 32 to 126, and the backslash, is `\xHH`.
 pub fn escape(bytes: &[u8]) -> String {
     let escaped = |&byte: &u8| match byte {
         b'\\' => "\\x5c".to_owned(),
@@ -31,12 +30,41 @@ pub fn escape(bytes: &[u8]) -> String {
     bytes.iter().map(escaped).collect()
 }
 
+/// The bytes of an escape form; `None` if a backslash does not begin `\xHH`, or another character is not one of the bytes 32 to 126.
+pub fn unescape(text: &str) -> Option<Vec<u8>> {
+    let mut bytes = Vec::new();
+    let mut rest = text.as_bytes();
+    while let [first, after @ ..] = rest {
+        rest = after;
+        match *first {
+            b'\\' => {
+                let (digits, behind) = rest.strip_prefix(b"x").filter(|hex| hex.len() >= 2)?.split_at(2);
+                let digit = |&byte: &u8| char::from(byte).to_digit(16);
+                bytes.push((16 * digit(&digits[0])? + digit(&digits[1])?) as u8);
+                rest = behind;
+            }
+            byte @ 32..=126 => bytes.push(byte),
+            _ => return None,
+        }
+    }
+    Some(bytes)
+}
+
+/// The bytes with their letters in capitals, as the volumes compare names that ignore the case of most letters: those of Latin-1.
+pub(crate) fn in_capitals(bytes: &[u8]) -> Vec<u8> {
+    let capital = |&byte: &u8| match byte {
+        b'a'..=b'z' | 0xe0..=0xf6 | 0xf8..=0xfe => byte - 32,
+        _ => byte,
+    };
+    bytes.iter().map(capital).collect()
+}
+
 /// The text of bytes that are Latin-1.
 pub(crate) fn from_latin(bytes: &[u8]) -> String {
     bytes.iter().copied().map(char::from).collect()
 }
 
-/// The bytes of a text in Latin-1, if it has no other letters.
+/// The bytes of a text in Latin-1; `None` if it has other characters.
 pub(crate) fn to_latin(text: &str) -> Option<Vec<u8>> {
     text.chars().map(|letter| u8::try_from(letter).ok()).collect()
 }

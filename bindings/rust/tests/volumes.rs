@@ -1,6 +1,10 @@
 //! Small volumes, built by the library itself.
 
-use adf::{remains, run, survey, Cause, Date, Disk, Kind, NotFound, Refused, Remains, Role, Survey, Volume};
+use adf::{
+    remains, rescue, run, survey, Cause, Date, Disk, DiskCause, Kind, LeftOut, NotFound, PartitionFault, Reason, Refused,
+    Remains, Role, Survey, Volume,
+};
+use std::fmt::Debug;
 use std::time::{Duration, SystemTime};
 
 const MANIFEST: &str = r"volume ofs 1760
@@ -154,21 +158,55 @@ fn blocks_have_their_roles() {
     assert_eq!((count(Role::Data), count(Role::Ext), count(Role::Free)), (165, 2, volume.free() as usize));
 }
 
-#[test]
-fn causes_are_those_of_the_header() {
+/// The lines of an enum in the header are those of an enum of the crate: names with this front, and numbers.
+fn are_those_of_the_header<T: Debug>(title: &str, front: &str, ours: impl Iterator<Item = (T, u32)>, accepted: usize) {
     let header = include_str!("../../../include/adf.h");
-    let causes = &header[header.find("enum adf_cause {").unwrap()..];
-    let causes = &causes[..causes.find("};").unwrap()];
-    for cause in Cause::ALL {
-        let name: String =
-            format!("{cause:?}").chars().flat_map(|c| [c.is_uppercase().then_some('_'), Some(c)]).flatten().collect();
-        let line = format!("ADF{} = {}", name.to_uppercase(), cause.number());
-        assert!(causes.contains(&line), "{line}");
-        assert_eq!(Cause::from_number(cause.number()), Some(cause));
-        assert!(!cause.to_string().is_empty());
+    let lines = &header[header.find(&format!("enum {title} {{")).unwrap()..];
+    let lines = &lines[..lines.find('}').unwrap()];
+    let mut count = accepted;
+    for (item, number) in ours {
+        let spelled = |c: char| [c.is_uppercase().then_some('_'), Some(c)];
+        let name: String = format!("{item:?}").chars().flat_map(spelled).flatten().collect();
+        let line = format!("{front}{} = {number}", name.to_uppercase());
+        assert!(lines.contains(&format!("{line},")) || lines.contains(&format!("{line} ")), "{line}");
+        count += 1;
     }
-    assert_eq!((Cause::from_number(0), Cause::from_number(24)), (None, None));
-    assert_eq!(causes.matches(" = ").count(), 24);
+    assert_eq!(lines.matches(" = ").count(), count, "{title}");
+}
+
+#[test]
+fn numbers_are_those_of_the_header() {
+    are_those_of_the_header("adf_cause", "ADF", Cause::ALL.iter().map(|cause| (cause, cause.number().into())), 1);
+    are_those_of_the_header("adf_role", "ADF_ROLE", Role::ALL.iter().map(|role| (role, role.number().into())), 0);
+    are_those_of_the_header("adf_kind", "ADF", Kind::ALL.iter().map(|kind| (kind, kind.number())), 0);
+    are_those_of_the_header("adf_disk_cause", "ADF_DISK", DiskCause::ALL.iter().map(|cause| (cause, cause.number().into())), 1);
+    let faults = PartitionFault::ALL.iter().map(|fault| (fault, fault.number().into()));
+    are_those_of_the_header("adf_partition_fault", "ADF_PARTITION", faults, 1);
+}
+
+#[test]
+fn a_number_stands_for_itself_alone() {
+    for number in 0..=u8::MAX {
+        assert_eq!(Cause::from(number).number(), number);
+        assert_eq!(Cause::ALL.contains(&Cause::from(number)), (1..=23).contains(&number));
+        assert_eq!((Role::from(number).number(), Kind::from(u32::from(number)).number()), (number, number.into()));
+        assert_eq!((DiskCause::from(number).number(), PartitionFault::from(number).number()), (number, number));
+    }
+}
+
+#[test]
+fn texts_are_those_of_the_programs() {
+    // The rows of causes are `block B: CAUSE`; the page of adf-disk has an item for each text.
+    for cause in Cause::ALL {
+        assert!(
+            include_str!("../../../docs/FAULTS.md").contains(&format!("**`{cause}`")) || *cause == Cause::NoMemory,
+            "{cause}"
+        );
+    }
+    let page = include_str!("../../../docs/adf-disk.1");
+    for text in DiskCause::ALL.iter().map(DiskCause::to_string).chain(PartitionFault::ALL.iter().map(PartitionFault::to_string)) {
+        assert!(page.contains(&format!("\n.It {text}\n")), "{text}");
+    }
 }
 
 #[test]
@@ -193,10 +231,37 @@ fn threads_share_a_volume() {
 }
 
 #[test]
+fn a_volume_owns_its_bytes() {
+    fn opened() -> Volume<'static> {
+        Volume::check_owned(image("ofs")).unwrap()
+    }
+    let volume = opened();
+    assert_eq!((volume.find("c/readme").unwrap().read(), volume.image().len()), (b"Hello\n".to_vec(), 1760 * 512));
+    assert_eq!(volume.owners().unwrap()[880], Role::Root);
+    let refused = Volume::check_owned(vec![0; 2048]).unwrap_err();
+    assert_eq!(refused, Refused { cause: Cause::NotDos, block: 0 });
+}
+
+#[test]
+fn answers_are_errors_too() {
+    fn file(path: &str, image: &[u8]) -> Result<Vec<u8>, Box<dyn std::error::Error>> {
+        Ok([run(&["cat", path], image).into_output()?, remains(path, image)?.bytes].concat())
+    }
+    let image = image("ofs");
+    assert_eq!(file("c/readme", &image).unwrap(), b"Hello\nHello\n");
+    assert_eq!(file("nix", &image).unwrap_err().to_string(), "no such path");
+    assert_eq!(run(&["check"], &[0; 2048]).into_output().unwrap_err().to_string(), "block 0: not dos");
+}
+
+#[test]
 fn the_command_runs_over_memory() {
     let image = built("volume ffs 120000\nlabel Large\n");
     assert_eq!(image.len(), 120_000 * 512);
     assert_eq!(run(&["frob"], b"").status, 2);
+    for words in [&["cat\0c/readme"][..], &["check", "\0"], &["cat", "a\0--list"]] {
+        let answer = run(words, &image);
+        assert_eq!((answer.status, answer.output, &answer.errors[..]), (2, vec![], &b"an argument has a zero byte\n"[..]));
+    }
     let answer = run(&["cat", "nix"], &image);
     assert_eq!((answer.status, &answer.output[..], &answer.errors[..]), (1, &b""[..], &b"no such path\n"[..]));
 }
@@ -213,7 +278,7 @@ fn a_survey_tells_findings_and_reads_what_stands() {
     assert_eq!((answer.status, &answer.output[..]), (0, &b"abc"[..]));
     let found = Survey::of(&image).unwrap();
     let findings: Vec<_> = found.findings().map(|finding| (finding.first(), finding.last(), finding.cause())).collect();
-    assert_eq!(findings, [(2, 2, Some(Cause::BadSum))]);
+    assert_eq!(findings, [(2, 2, Cause::BadSum)]);
     assert_eq!(found.findings().next().and_then(|finding| finding.entry()).map(|entry| entry.path()), Some("c".to_owned()));
     let entries: Vec<_> = found.entries().map(|entry| (entry.path(), entry.is_sound(), entry.size())).collect();
     assert_eq!(entries, [("c".to_owned(), false, 0), ("c/a".to_owned(), true, 3)]);
@@ -249,9 +314,10 @@ fn a_disk_tells_its_partitions() {
 
     // The disk ends within it.
     let disk = Disk::of(&image[..31 * 512]).unwrap();
-    assert_eq!(disk.partitions().next().unwrap().place().unwrap_err().to_string(), "beyond image");
+    assert_eq!(disk.partitions().next().unwrap().place(), Err(PartitionFault::BeyondImage));
     let disk = Disk::of(&image[512..]).unwrap();
-    assert_eq!(disk.fault().unwrap().to_string(), "block 0: no rigid disk");
+    let fault = disk.fault().unwrap();
+    assert_eq!((fault.cause, fault.block, &fault.to_string()[..]), (DiskCause::NoRigidDisk, 0, "block 0: no rigid disk"));
 }
 
 #[test]
@@ -264,7 +330,52 @@ fn what_is_left_of_a_file_is_told() {
     let bytes = [vec![0; 488], vec![b'A'; 488], vec![0; 24]].concat();
     assert_eq!(remains("a", &image), Ok(Remains { bytes, lost: vec![0..488, 976..1000] }));
     for (path, why) in [("nix", "no such path\n"), ("c", "not a file\n"), ("a//b", "bad path\n")] {
-        assert_eq!(remains(path, &image).unwrap_err().errors, why.as_bytes());
+        assert_eq!(remains(path, &image).unwrap_err().answer.errors, why.as_bytes());
     }
-    assert_eq!(remains("a", b"").unwrap_err().errors, b"no such path\n");
+    assert_eq!(remains("a", b"").unwrap_err().to_string(), "no such path");
+}
+
+#[test]
+fn a_path_that_two_files_have_is_refused() {
+    // The header of `a` is block 2, that of `b` block 4, each with one data block behind it. `b` becomes a second `a`, in the slot
+    // of `b`, so that it is found, and its slot is wrong.
+    let mut image = built("volume ofs 16\nfile 0:0:0 00000000 a\ndata 41\nfile 0:0:0 00000000 b\ndata 42\n");
+    let name = (2..16).find(|block| image[block * 512 + 432..][..2] == *b"\x01b").unwrap() * 512 + 433;
+    image[name] = b'A';
+    let sum = name / 512 * 512 + 23;
+    image[sum] = image[sum].wrapping_add(b'b' - b'A');
+    let survey = Survey::of(&image).unwrap();
+    let found: Vec<_> = survey.entries().collect();
+    assert_eq!(found.iter().map(|found| found.path().to_lowercase()).collect::<Vec<_>>(), ["a", "a"]);
+    for found in &found {
+        assert_eq!(found.remains().unwrap_err().to_string(), "not unique");
+    }
+    assert_eq!(remains("a", &image).unwrap_err().to_string(), "not unique");
+    image[name] = b'b';
+    image[sum] = image[sum].wrapping_sub(b'b' - b'A');
+    let survey = Survey::of(&image).unwrap();
+    let left: Vec<_> = survey.entries().map(|found| (found.path(), found.remains().unwrap().bytes)).collect();
+    assert_eq!(left, [("a".to_owned(), b"A".to_vec()), ("b".to_owned(), b"B".to_vec())]);
+}
+
+#[test]
+fn a_rescue_tells_what_it_leaves_out() {
+    // The header of `a` is block 2, its data 3 to 5; the type of 3 becomes 0.
+    let mut image = built("volume ofs 16\nfile 0:0:0 00000000 a\nfill 1000 41\ndir 0:0:0 00000000 c\n");
+    assert_eq!(rescue(&image).unwrap().left_out, []);
+    image[3 * 512 + 3] = 0;
+    let rescued = rescue(&image).unwrap();
+    assert_eq!(rescued.left_out, [LeftOut { reason: Reason::Damaged, path: b"a".to_vec() }]);
+    let volume = Volume::check_owned(rescued.image).unwrap();
+    assert_eq!(volume.entries().map(|entry| entry.path()).collect::<Vec<_>>(), ["c"]);
+    assert_eq!(rescue(b"").unwrap_err().to_string(), "block 0: bad size");
+}
+
+#[test]
+fn escape_forms_are_read_back() {
+    let all: Vec<u8> = (0..=u8::MAX).collect();
+    assert_eq!(adf::unescape(&adf::escape(&all)), Some(all));
+    for text in ["\\", "\\x", "\\x0", "\\x0g", "\\y00", "\\x+1", "\u{fc}", "\n"] {
+        assert_eq!(adf::unescape(text), None, "{text}");
+    }
 }

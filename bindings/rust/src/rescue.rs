@@ -1,0 +1,88 @@
+use crate::text::{in_capitals, unescape};
+use crate::{command, Failed, Survey};
+use std::ops::Range;
+
+/// What is left of a file: its bytes, with zeros for those that are lost, and the ranges of these.
+#[derive(Clone, Debug, PartialEq, Eq)]
+pub struct Remains {
+    pub bytes: Vec<u8>,
+    pub lost: Vec<Range<usize>>,
+}
+
+/// What is left of a file of an image, sound or damaged, under a path in the escape form, as `adf-survey cat --damaged` writes it.
+/// If several entries have the path, up to the case of letters, the error is `not unique`.
+pub fn remains(path: &str, image: &[u8]) -> Result<Remains, Failed> {
+    remains_of(&Survey::of(image).map_err(|refused| Failed::with(3, &refused.cause.to_string()))?, path)
+}
+
+/// The same with the survey of the image.
+pub(crate) fn remains_of(survey: &Survey, path: &str) -> Result<Remains, Failed> {
+    let wanted = unescape(path).map(|path| in_capitals(&path));
+    if survey.entries().filter(|found| Some(in_capitals(&found.path_bytes())) == wanted).count() > 1 {
+        return Err(Failed::with(1, "not unique"));
+    }
+    let answer = command::survey(&["cat", "--damaged", "--", path], survey.image());
+    let lost: Option<Vec<_>> = String::from_utf8_lossy(&answer.errors).lines().map(lost_of).collect();
+    match lost {
+        Some(lost) if answer.status <= 1 => Ok(Remains { bytes: answer.output, lost }),
+        _ => Err(Failed { answer }),
+    }
+}
+
+/// The bytes of a line `bytes FIRST to LAST: no data`.
+fn lost_of(line: &str) -> Option<Range<usize>> {
+    let (first, last) = line.strip_prefix("bytes ")?.strip_suffix(": no data")?.split_once(" to ")?;
+    Some(first.parse().ok()?..last.parse::<usize>().ok()? + 1)
+}
+
+/// A new, sound volume of all that stands in a damaged image, and what it leaves out.
+#[derive(Clone, Debug, PartialEq, Eq)]
+pub struct Rescue {
+    /// The image of the new volume.
+    pub image: Vec<u8>,
+    pub left_out: Vec<LeftOut>,
+}
+
+/// An entry that is found and not in the new volume.
+#[derive(Clone, Debug, PartialEq, Eq)]
+pub struct LeftOut {
+    pub reason: Reason,
+    /// The bytes of the path.
+    pub path: Vec<u8>,
+}
+
+/// Why an entry is left out.
+#[derive(Clone, Debug, PartialEq, Eq, Hash)]
+#[non_exhaustive]
+pub enum Reason {
+    Damaged,
+    Link,
+    NoRoom,
+    /// The text of a reason that this crate does not know: the library is newer than the crate.
+    Unknown(String),
+}
+
+/// Makes a new volume of all that stands in an image, as `adf-survey rescue` does. If nothing stands, the error is the first
+/// finding.
+pub fn rescue(image: &[u8]) -> Result<Rescue, Failed> {
+    let mut answer = command::survey(&["rescue"], image);
+    let left_out: Option<Vec<_>> = String::from_utf8_lossy(&answer.errors).lines().map(left_out_of).collect();
+    match left_out {
+        Some(left_out) if answer.status <= 1 && !answer.output.is_empty() => {
+            Ok(Rescue { image: std::mem::take(&mut answer.output), left_out })
+        }
+        _ => Err(Failed { answer }),
+    }
+}
+
+/// The entry of a line `REASON: PATH`.
+fn left_out_of(line: &str) -> Option<LeftOut> {
+    let (reason, path) = line.split_once(": ")?;
+    let reason = match reason {
+        "damaged" => Reason::Damaged,
+        "link" => Reason::Link,
+        "no room" => Reason::NoRoom,
+        _ => Reason::Unknown(reason.to_owned()),
+    };
+    Some(LeftOut { reason, path: unescape(path)? })
+}

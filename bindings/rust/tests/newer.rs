@@ -1,0 +1,225 @@
+//! A library that is newer than the crate: all calls of include/adf.h are defined here, in place of the library's, and answer
+//! numbers that the header does not have. Nothing may stand for a number that the crate knows, and 0 alone accepts.
+#![allow(unsafe_code)]
+
+use adf::{Cause, Disk, DiskCause, Kind, NotFound, PartitionFault, Refused, Role, Survey, Volume};
+use std::ptr::addr_of_mut;
+
+const NEW: u8 = 24;
+
+/// The front of `struct adf_contents`, and of `struct adf_surveyed`.
+#[repr(C)]
+pub struct Numbers {
+    kind: u32,
+    blocks: u32,
+}
+
+/// `struct adf_finding`.
+#[repr(C)]
+pub struct Finding {
+    first: u32,
+    last: u32,
+    node: usize,
+    owner: usize,
+    cause: u8,
+    is_within: u8,
+}
+
+/// `struct adf_surveyed` up to its number of findings.
+#[repr(C)]
+pub struct Surveyed {
+    numbers: Numbers,
+    findings: usize,
+}
+
+/// `struct adf_partition`.
+#[repr(C)]
+pub struct Partition {
+    places: [u64; 2],
+    words: [u32; 4],
+    fault: u8,
+    name: [u8; 32],
+}
+
+/// `struct adf_disk`.
+#[repr(C)]
+pub struct DiskNumbers {
+    partitions: usize,
+    block: u32,
+    cause: u8,
+}
+
+type Moved = [usize; 4];
+
+/// Refuses an image of no bytes, and accepts any other.
+#[no_mangle]
+extern "C" fn adf_index(_: *const u8, length: usize, _: *mut u8, _: usize, _: *mut u32, _: usize, contents: *mut Numbers) -> u8 {
+    unsafe { *contents = Numbers { kind: NEW.into(), blocks: 4 } };
+    if length == 0 {
+        NEW
+    } else {
+        0
+    }
+}
+
+/// Refuses an image of one block, and accepts any other.
+#[no_mangle]
+extern "C" fn adf_owners(_: *const u8, length: usize, roles: *mut u8, room: usize) -> u8 {
+    unsafe { roles.write_bytes(NEW, room) };
+    if length == 512 {
+        NEW
+    } else {
+        0
+    }
+}
+
+#[no_mangle]
+extern "C" fn adf_find(_: *const u8, _: usize, _: *const u8, _: usize, _: *mut usize) -> u8 {
+    NEW
+}
+
+#[no_mangle]
+#[allow(clippy::too_many_arguments)]
+extern "C" fn adf_read(
+    _: *const u8,
+    _: usize,
+    _: *const u8,
+    _: usize,
+    _: *const u32,
+    _: usize,
+    _: usize,
+    _: usize,
+    _: *mut u8,
+    _: usize,
+) -> usize {
+    0
+}
+
+#[no_mangle]
+extern "C" fn adf_cause_text(cause: u8, room: *mut u8, _: usize) -> usize {
+    if cause != NEW + 1 {
+        return 0;
+    }
+    unsafe { room.copy_from(b"new".as_ptr(), 3) };
+    3
+}
+
+/// Refuses an image of no bytes, and has one finding in any other.
+#[no_mangle]
+extern "C" fn adf_survey_index(
+    _: *const u8,
+    length: usize,
+    findings: *mut Finding,
+    _: usize,
+    _: *mut u8,
+    _: usize,
+    surveyed: *mut Surveyed,
+) -> u8 {
+    if length == 0 {
+        return NEW;
+    }
+    unsafe {
+        *findings = Finding { first: 2, last: 2, node: 0, owner: 0, cause: NEW, is_within: 0 };
+        addr_of_mut!((*surveyed).numbers).write(Numbers { kind: NEW.into(), blocks: 4 });
+        addr_of_mut!((*surveyed).findings).write(1);
+    }
+    0
+}
+
+/// Refuses an image of no bytes, and has one partition in any other.
+#[no_mangle]
+extern "C" fn adf_disk_index(
+    _: *const u8,
+    length: usize,
+    _: u64,
+    partitions: *mut Partition,
+    _: usize,
+    disk: *mut DiskNumbers,
+) -> u8 {
+    if length == 0 {
+        return NEW;
+    }
+    unsafe {
+        *partitions = Partition { places: [0; 2], words: [0; 4], fault: NEW, name: [0; 32] };
+        *disk = DiskNumbers { partitions: 1, block: 3, cause: NEW };
+    }
+    0
+}
+
+#[no_mangle]
+#[allow(clippy::too_many_arguments)]
+extern "C" fn adf_run(
+    _: *const u8,
+    _: usize,
+    _: *const u8,
+    _: usize,
+    _: *mut u8,
+    _: usize,
+    _: *mut u8,
+    _: usize,
+    _: *mut Moved,
+) -> u8 {
+    NEW
+}
+
+/// Writes a rescued volume of one byte, and leaves an entry out for a new reason.
+#[no_mangle]
+#[allow(clippy::too_many_arguments)]
+extern "C" fn adf_survey_run(
+    _: *const u8,
+    _: usize,
+    _: *const u8,
+    _: usize,
+    output: *mut u8,
+    _: usize,
+    errors: *mut u8,
+    _: usize,
+    moved: *mut Moved,
+) -> u8 {
+    let line = b"moonlight: a/b\n";
+    unsafe {
+        *output = b'A';
+        errors.copy_from(line.as_ptr(), line.len());
+        *moved = [0, 1, line.len(), 0];
+    }
+    1
+}
+
+#[test]
+fn an_answer_that_is_new_accepts_no_image() {
+    let refused = Refused { cause: Cause::Unknown(NEW), block: 0 };
+    assert_eq!(Volume::check(b"").unwrap_err(), refused);
+    assert_eq!(Volume::check_owned(vec![]).unwrap_err(), refused);
+    assert_eq!(Survey::of(b"").unwrap_err(), refused);
+    assert_eq!(Disk::of(b"").unwrap_err(), refused);
+    assert_eq!(Volume::check(&[0; 512]).unwrap().owners().unwrap_err(), refused);
+    assert_eq!(refused.to_string(), "block 0: unknown cause 24");
+    assert_eq!(Cause::from(NEW + 1).to_string(), "new");
+}
+
+#[test]
+fn what_is_new_is_not_taken_for_what_is_known() {
+    let image = [0; 1024];
+    let volume = Volume::check(&image).unwrap();
+    assert_eq!(volume.kind(), Kind::Unknown(NEW.into()));
+    assert_eq!(volume.owners().unwrap(), [Role::Unknown(NEW), Role::Unknown(NEW)]);
+    assert_eq!(volume.find("a").unwrap_err(), NotFound::Unknown(NEW));
+    let survey = Survey::of(&image).unwrap();
+    assert_eq!(
+        (survey.kind(), survey.findings().next().unwrap().cause()),
+        (Some(Kind::Unknown(NEW.into())), Cause::Unknown(NEW))
+    );
+    let disk = Disk::of(&image).unwrap();
+    assert_eq!(disk.fault().map(|fault| (fault.cause, fault.block)), Some((DiskCause::Unknown(NEW), 3)));
+    assert_eq!(disk.partitions().next().unwrap().place(), Err(PartitionFault::Unknown(NEW)));
+    assert_eq!(adf::run(&[], b"").into_output().unwrap_err().to_string(), "status 24");
+}
+
+#[test]
+fn a_reason_that_is_new_keeps_its_text() {
+    let adf::Rescue { image, left_out } = adf::rescue(b"").unwrap();
+    assert_eq!(
+        (image, &left_out[0].reason, &left_out[0].path[..]),
+        (b"A".to_vec(), &adf::Reason::Unknown("moonlight".into()), &b"a/b"[..])
+    );
+}
