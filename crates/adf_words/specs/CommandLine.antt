@@ -35,13 +35,17 @@ build_app = with_rule (new_app (codes "build")) list_rule
 abbrev pub convert_app : App
 convert_app = with_rule (new_app (codes "convert")) kind_rule
 
--- adf, with no flag and no subcommand for help
-abbrev pub bare_adf : App
-bare_adf = record (new_app (codes "adf")) { top = record (new_app (codes "adf")).top { disable_help_flag = true; disable_help_subcommand = true } }
+-- a program of this name, with no flag and no subcommand for help
+abbrev pub bare_app : Text → App
+bare_app name = record (new_app name) { top = record (new_app name).top { disable_help_flag = true; disable_help_subcommand = true } }
+
+-- one more subcommand, which has no argument
+abbrev pub with_plain : App → Text → App
+with_plain app name = with_subcommand app (new_app name).top
 
 -- adf with the two commands that have no argument
 abbrev pub plain_app : App
-plain_app = with_subcommand (with_subcommand bare_adf (new_app (codes "check")).top) (new_app (codes "list")).top
+plain_app = with_plain (with_plain (bare_app (codes "adf")) (codes "check")) (codes "list")
 
 -- the command line: check, list, cat PATH, build [--list], convert KIND
 abbrev pub adf_app : App

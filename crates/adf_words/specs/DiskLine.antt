@@ -3,6 +3,7 @@ use Rattle.std.specs.Prelude.{◌≡◌, ◌⊎◌, ℕ, List, [], Option, Some,
 use Rattle.std.specs.Option.{option_and_then}
 use Rattle.std.specs.Str.{bytes_eq}
 use Rattle.clap.specs.Words.{App, Row, Rule, Text, fault_of, first_of, new_app, new_rule, subcommand_of, with_rule, with_subcommand}
+use Rattle.adf_words.specs.CommandLine.{bare_app, with_plain}
 use Rattle.adf_words.specs.SurveyLine.{number_named}
 use Rattle.adf_words.specs.declared.command_line.ArgsError.{ArgsError}
 use Rattle.adf_words.specs.declared.command_line.ArgsError.TheVariants.{NoMemory, Usage}
@@ -10,10 +11,6 @@ use Rattle.adf_words.specs.declared.disk_line.DiskRequest.{DiskRequest}
 use Rattle.adf_words.specs.declared.disk_line.DiskRequest.TheVariants.{List as ListAll, Check, Survey, Volume, Build}
 use Rattle.adf_words.specs.declared.disk_line.Wanted.{Wanted}
 use Rattle.adf_words.specs.declared.disk_line.Wanted.TheVariants.{Number, Name}
-
--- with no flag and no subcommand for help
-abbrev pub bare_disk : App
-bare_disk = record (new_app (codes "adf-disk")) { top = record (new_app (codes "adf-disk")).top { disable_help_flag = true; disable_help_subcommand = true } }
 
 -- the argument NAME
 abbrev pub name_rule : Rule
@@ -23,13 +20,13 @@ name_rule = record (new_rule (codes "name")) { required = true }
 abbrev pub volume_app : App
 volume_app = with_rule (new_app (codes "volume")) name_rule
 
--- list, check, survey
-abbrev pub plain_disk : App
-plain_disk = with_subcommand (with_subcommand (with_subcommand bare_disk (new_app (codes "list")).top) (new_app (codes "check")).top) (new_app (codes "survey")).top
+-- list, check
+abbrev pub lists_and_checks : App
+lists_and_checks = with_plain (with_plain (bare_app (codes "adf-disk")) (codes "list")) (codes "check")
 
--- the command line: these, build, and volume NAME
+-- the command line: these, survey, build, and volume NAME
 abbrev pub disk_app : App
-disk_app = with_subcommand (with_subcommand plain_disk (new_app (codes "build")).top) volume_app.top
+disk_app = with_subcommand (with_plain (with_plain lists_and_checks (codes "survey")) (codes "build")) volume_app.top
 
 -- a partition, by its number or its name
 pub data WantedValue : Type 0 where

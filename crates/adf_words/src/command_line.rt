@@ -3,7 +3,7 @@
 ghost use Rattle.std.specs.Prelude.{◌≡◌, IfOk, IfErr, false, true, ℕ, ◌==◌, List, [], ◌∷◌, codes, option_map};
 ghost use Rattle.clap.specs.Words.{app_of, first_of, found_of, rows_of, rule_of, subcommand_rows_of};
 ghost use Rattle.clap.specs.declared.builder.command.Command.TheViews.{out-Command};
-ghost use Rattle.adf_words.specs.CommandLine.{AsksFor, ExplainsArgs, AreRefused, adf_app, request_value, build, build_app, cat, cat_app, check, convert, convert_app, is_text, list, list_rule, met, request_named, texts_of};
+ghost use Rattle.adf_words.specs.CommandLine.{AsksFor, ExplainsArgs, AreRefused, adf_app, bare_app, request_value, build, build_app, cat, cat_app, check, convert, convert_app, is_text, list, list_rule, met, plain_app, request_named, texts_of, with_plain};
 
 use adf_names::Kind;
 use clap::error::ErrorKind;
@@ -87,17 +87,39 @@ fn convert_command<'a>(alloc: Global) -> Result<Command<'a>, AllocError>
     Command::new(alloc, "convert").arg(kind)
 }
 
-// The command line, with its subcommands. Arguments for help are refused like others, so that clap lays out no text for them.
+// A program of this name. Arguments for help are refused like others, so that clap lays out no text for them.
+pub(crate) fn bare_command<'a>(alloc: Global, name: &'a str) -> Command<'a>
+    ensures { app_of result ≡ bare_app name.entry.now }
+{
+    Command::new(alloc, name)
+        .disable_help_flag(true)
+        .disable_help_subcommand(true)
+}
+
+// The command line with one more subcommand, which has no argument.
+pub(crate) fn with_plain<'a>(
+    alloc: Global,
+    command: Command<'a>,
+    name: &'a str,
+) -> Result<Command<'a>, AllocError>
+    ensures { IfOk result (λ c. app_of c ≡ with_plain (app_of command.entry) name.entry.now) }
+{
+    command.subcommand(Command::new(alloc, name))
+}
+
+// The subcommands that have no argument.
+fn plain_command<'a>(alloc: Global) -> Result<Command<'a>, AllocError>
+    ensures { IfOk result (λ c. app_of c ≡ plain_app) }
+{
+    let checks = with_plain(alloc, bare_command(alloc, "adf"), "check")?;
+    with_plain(alloc, checks, "list")
+}
+
+// The command line, with its subcommands.
 fn command<'a>(alloc: Global) -> Result<Command<'a>, AllocError>
     ensures { IfOk result (λ c. app_of c ≡ adf_app) }
 {
-    let bare = Command::new(alloc, "adf")
-        .disable_help_flag(true)
-        .disable_help_subcommand(true);
-    let plain = bare
-        .subcommand(Command::new(alloc, "check"))?
-        .subcommand(Command::new(alloc, "list"))?;
-    plain
+    plain_command(alloc)?
         .subcommand(cat_command(alloc)?)?
         .subcommand(build_command(alloc)?)?
         .subcommand(convert_command(alloc)?)

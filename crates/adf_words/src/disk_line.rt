@@ -3,10 +3,10 @@
 ghost use Rattle.std.specs.Prelude.{◌≡◌, ◌==◌, IfOk, IfErr, ℕ, List, [], ◌∷◌, codes, false, option_map};
 ghost use Rattle.clap.specs.Words.{app_of, found_of, rows_of, subcommand_rows_of};
 ghost use Rattle.clap.specs.declared.builder.command.Command.TheViews.{out-Command};
-ghost use Rattle.adf_words.specs.CommandLine.{texts_of};
-ghost use Rattle.adf_words.specs.DiskLine.{AreRefusedByDisk, AsksDisk, ExplainsDiskArgs, build, check, disk_app, disk_met, disk_request_named, disk_request_value, list, name, number, survey, volume, volume_app, wanted_named, wanted_value};
+ghost use Rattle.adf_words.specs.CommandLine.{bare_app, texts_of, with_plain};
+ghost use Rattle.adf_words.specs.DiskLine.{AreRefusedByDisk, AsksDisk, ExplainsDiskArgs, build, check, disk_app, disk_met, disk_request_named, disk_request_value, list, lists_and_checks, name, number, survey, volume, volume_app, wanted_named, wanted_value};
 
-use crate::command_line::{ArgsError, first_text};
+use crate::command_line::{ArgsError, bare_command, first_text, with_plain};
 use crate::survey_line::number_named;
 use clap::error::ErrorKind;
 use clap::{Arg, ArgMatches, Command};
@@ -46,18 +46,20 @@ fn volume_command<'a>(alloc: Global) -> Result<Command<'a>, AllocError>
     Command::new(alloc, "volume").arg(name)
 }
 
-// The command line. Arguments for help are refused like others, so that clap lays out no text for them.
+// The subcommands `list` and `check`.
+fn lists_and_checks<'a>(alloc: Global) -> Result<Command<'a>, AllocError>
+    ensures { IfOk result (λ c. app_of c ≡ lists_and_checks) }
+{
+    let lists = with_plain(alloc, bare_command(alloc, "adf-disk"), "list")?;
+    with_plain(alloc, lists, "check")
+}
+
+// The command line.
 fn command<'a>(alloc: Global) -> Result<Command<'a>, AllocError>
     ensures { IfOk result (λ c. app_of c ≡ disk_app) }
 {
-    let bare = Command::new(alloc, "adf-disk")
-        .disable_help_flag(true)
-        .disable_help_subcommand(true);
-    bare.subcommand(Command::new(alloc, "list"))?
-        .subcommand(Command::new(alloc, "check"))?
-        .subcommand(Command::new(alloc, "survey"))?
-        .subcommand(Command::new(alloc, "build"))?
-        .subcommand(volume_command(alloc)?)
+    let surveys = with_plain(alloc, lists_and_checks(alloc)?, "survey")?;
+    with_plain(alloc, surveys, "build")?.subcommand(volume_command(alloc)?)
 }
 
 // The partition that a text means.
