@@ -1,0 +1,104 @@
+// Library calls on paths and trees that no command makes.
+
+use crate::outcome::CallOutcome;
+use adf_base::NO_STAMP;
+use adf_drafts::Draft;
+use adf_tree::{
+    AddFault, Body, Bytes, Comment, Kind, Label, Meta, NO_STAMPS, Name, Node, Tree, read_path,
+    write_path,
+};
+use std::alloc::Global;
+
+/// Paths that have no place in the worked tree.
+const REFUSED: [(&str, AddFault); 4] = [
+    ("x/y", AddFault::NoParent),
+    ("a/b/z", AddFault::ParentIsFile),
+    ("A", AddFault::Exists),
+    ("", AddFault::EmptyPath),
+];
+
+/// The text of a path of two names.
+pub fn write_path_outcome(alloc: Global) -> Option<CallOutcome> {
+    let path = [Name::new(b"c")?, Name::new(b"a b\\")?];
+    Some(match write_path(alloc, &path) {
+        Ok(text) => CallOutcome::Done.only_if(text.as_str() == "c/a b\\x5c"),
+        Err(_) => CallOutcome::NoMemory,
+    })
+}
+
+fn meta() -> Option<Meta> {
+    Some(Meta::new(Comment::new(b"note")?, 15, NO_STAMP))
+}
+
+// Whether a tree has entries of these names, in this order, and no others.
+fn has_names(tree: &Tree, names: &[&[u8]]) -> bool {
+    for (i, name) in names.iter().enumerate() {
+        match tree.entry(Node(i.saturating_add(1))) {
+            Some(entry) if entry.name.bytes() == *name => {}
+            _ => return false,
+        }
+    }
+    tree.len() == names.len()
+}
+
+// Adds an entry at a path.
+fn add(alloc: Global, tree: &mut Tree, path: &str, body: Body) -> Option<Result<(), AddFault>> {
+    let names = read_path(alloc, path.as_bytes()).ok()?;
+    Some(tree.add(&names, meta()?, body))
+}
+
+// A tree of a directory `a` with an empty file `b`, and of a directory `3`, whose slot is behind that of `a`.
+fn worked_tree(alloc: Global) -> Option<Tree> {
+    let mut tree = Tree::new(alloc, Kind::Ofs, Label::new(b"Work")?, NO_STAMPS);
+    add(alloc, &mut tree, "a", Body::Dir)?.ok()?;
+    add(
+        alloc,
+        &mut tree,
+        "a/b",
+        Body::File(Bytes::new(Vec::new(alloc))),
+    )?
+    .ok()?;
+    add(alloc, &mut tree, "3", Body::Dir)?.ok()?;
+    Some(tree)
+}
+
+// Whether entries that have no place in the worked tree are refused, and the tree stays.
+fn refuses_others(alloc: Global, tree: &mut Tree) -> Option<bool> {
+    let mut refuses = true;
+    for (path, fault) in REFUSED {
+        let res = add(alloc, tree, path, Body::Dir)?;
+        refuses = refuses && res == Err(fault) && has_names(tree, &[b"a", b"3", b"b"]);
+    }
+    Some(refuses)
+}
+
+/// The second of two entries of one chain, where the entries fill the room that was made for them.
+pub fn tree_add_outcome(alloc: Global) -> Option<CallOutcome> {
+    let mut tree = worked_tree(alloc)?;
+    let refuses = refuses_others(alloc, &mut tree)?;
+    add(alloc, &mut tree, "BA", Body::Dir)?.ok()?;
+    Some(match add(alloc, &mut tree, "AN", Body::Dir)? {
+        Ok(()) => CallOutcome::Done.only_if(
+            refuses && has_names(&tree, &[b"a", b"BA", b"AN", b"3", b"b"]),
+        ),
+        Err(fault) => CallOutcome::NoMemory.only_if(
+            fault == AddFault::NoMemory && has_names(&tree, &[b"a", b"BA", b"3", b"b"]),
+        ),
+    })
+}
+
+/// A second entry in a draft, which is then finished.
+pub fn draft_add_outcome(alloc: Global) -> Option<CallOutcome> {
+    let mut draft = Draft::new(alloc, Kind::Ofs, Label::new(b"Work")?, NO_STAMPS);
+    draft.add(&[Name::new(b"b")?], meta()?, Body::Dir).ok()?;
+    let path = [Name::new(b"b")?, Name::new(b"c")?];
+    let res = draft.add(&path, meta()?, Body::Dir);
+    let has_room = draft.room(&path).is_ok();
+    Some(match res {
+        Err(fault) => { CallOutcome::NoMemory.only_if(has_room && fault == AddFault::NoMemory) }
+        Ok(()) => match draft.finish(alloc) {
+            Ok(tree) => CallOutcome::Done.only_if(!has_room && has_names(&tree, &[b"b", b"c"])),
+            Err(_) => CallOutcome::NoMemory,
+        },
+    })
+}

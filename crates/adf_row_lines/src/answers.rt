@@ -1,0 +1,64 @@
+// What runs of the programs answer.
+
+use crate::bench::Bench;
+use crate::devices::Devices;
+use crate::library::{Library, Program, Programs};
+use crate::row_error::RowError;
+use crate::texts::lines_text;
+use crate::wants::{Answer, is_number};
+use std::alloc::{AllocError, Global};
+
+// The words of a command, the program's name in front.
+fn words_of(alloc: Global, program: Program, text: &str) -> Result<Vec<&str>, AllocError> {
+    let mut words = Vec::new(alloc);
+    words.push(match program {
+        Program::Adf => "adf",
+        Program::Survey => "adf-survey",
+    })?;
+    for word in text.split(' ') {
+        if !word.is_empty() {
+            words.push(word)?;
+        }
+    }
+    Ok(words)
+}
+
+impl<P: Programs, L: Library> Bench<'_, P, L> {
+    /// Runs a program with these words over these devices.
+    pub fn answer_by(
+        &self,
+        program: Program,
+        words: &str,
+        mut devices: Devices<'_>,
+    ) -> Result<Answer, RowError> {
+        let words = words_of(self.alloc, program, words)?;
+        let status = self.programs.run(program, &words, &mut devices);
+        let has_failed = devices.have_failed();
+        let Devices {
+            input,
+            output,
+            errors,
+        } = devices;
+        Ok(Answer {
+            status,
+            output: output.bytes,
+            errors: errors.bytes,
+            taken: input.given,
+            has_failed,
+        })
+    }
+
+    /// Runs a program with these words over bytes.
+    pub fn answer(&self, program: Program, words: &str, bytes: &[u8]) -> Result<Answer, RowError> {
+        let devices = Devices::new(self.alloc, bytes, usize::MAX, usize::MAX);
+        self.answer_by(program, words, devices)
+    }
+
+    /// What `build` makes of the lines of a manifest that it takes.
+    pub fn built(&self, lines: &str) -> Result<Vec<u8>, RowError> {
+        let text = lines_text(self.alloc, lines)?;
+        let came = self.answer(Program::Adf, "build", &text)?;
+        is_number(self.alloc, "status", 0, came.status as usize)?;
+        Ok(came.output)
+    }
+}

@@ -1,0 +1,22 @@
+//! Worked rows: what the lines of a file of rows say, what is wanted of a run, and whether it came.
+#![tactic(auto)]
+
+mod answers;
+mod bench;
+mod changes;
+mod devices;
+mod failing;
+mod files;
+mod library;
+mod row_error;
+mod surveys;
+mod tables;
+mod texts;
+mod wants;
+mod words;
+
+pub use crate::devices::{Devices, Input, Output};
+pub use crate::files::run;
+pub use crate::library::{Library, Program, Programs, Question, TreeOf};
+pub use crate::row_error::RowError;
+pub use crate::texts::{begin_item, lines_text, number_text, runs_text};

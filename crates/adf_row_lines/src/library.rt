@@ -1,0 +1,64 @@
+// What the rows try.
+
+use crate::devices::Devices;
+use crate::row_error::RowError;
+
+/// A program that a row runs.
+#[derive(Clone, Copy)]
+pub enum Program {
+    Adf,
+    Survey,
+}
+
+/// A library call on the volume of an image.
+#[derive(Clone, Copy)]
+pub enum Question<'a> {
+    /// `find PATH`: the node that the path leads to.
+    Find(&'a str),
+    /// `entry NODE`: the name of the node.
+    Entry(usize),
+    /// `owner BLOCK`: whose the block is.
+    Owner(u32),
+    /// `pieces NODE`: the lengths of the pieces of a file.
+    Pieces(usize),
+    /// `read NODE`: how many bytes are read of a file.
+    Read(usize),
+}
+
+/// What has a tree.
+#[derive(Clone, Copy)]
+pub enum TreeOf<'a> {
+    /// The lines of a manifest, told with ` | ` between them.
+    Lines(&'a str),
+    Image(&'a [u8]),
+}
+
+/// The programs that the rows run, and the library calls that have names.
+pub trait Programs {
+    /// Runs a program with these words, of which the first is its name, and answers its status.
+    fn run(&self, program: Program, words: &[&str], devices: &mut Devices<'_>) -> u8;
+
+    /// The names of the calls that take memory and that no command makes.
+    fn call_names(&self) -> &'static [&'static str];
+
+    /// Makes the call of a name, and tells how it ended: `done`, or what went wrong.
+    fn call(&self, name: &str) -> &'static str;
+}
+
+/// The library calls that the rows ask. A text is what a call answers; there is none where it answers nothing.
+pub trait Library {
+    /// The answer to a question about the volume of an image.
+    fn answer(&self, question: Question<'_>, image: &[u8]) -> Result<Option<Vec<u8>>, RowError>;
+
+    /// How many blocks the tree of these lines needs in a volume of so many.
+    fn need(&self, blocks: u32, lines: &str) -> Result<Option<Vec<u8>>, RowError>;
+
+    /// Why the tree of these lines is not built in so many blocks.
+    fn unlaid(&self, blocks: u32, lines: &str) -> Result<Vec<u8>, RowError>;
+
+    /// The paths of a valid volume in the order of its walk, with `, ` between them.
+    fn paths(&self, image: &[u8]) -> Result<Vec<u8>, RowError>;
+
+    /// The first entry in which an image has not the tree that is wanted: 0 the root, `None` if it has that tree.
+    fn other_entry(&self, wanted: TreeOf<'_>, image: &[u8]) -> Result<Option<usize>, RowError>;
+}
