@@ -1,5 +1,7 @@
 // What runs of the programs answer.
 
+ghost use Rattle.std.specs.Prelude.{◌≡◌, false};
+
 use crate::bench::Bench;
 use crate::devices::Devices;
 use crate::library::{Library, Program, Programs};
@@ -30,7 +32,11 @@ impl<P: Programs, L: Library> Bench<'_, P, L> {
         program: Program,
         words: &str,
         mut devices: Devices<'_>,
-    ) -> Result<Answer, RowError> {
+    ) -> Result<Answer, RowError>
+        requires input { devices.input.has_failed ≡ false }
+        requires output { devices.output.has_failed ≡ false }
+        requires errors { devices.errors.has_failed ≡ false }
+    {
         let words = words_of(self.alloc, program, words)?;
         let status = self.programs.run(program, &words, &mut devices);
         let has_failed = devices.have_failed();

@@ -1,8 +1,9 @@
 // Devices in memory that move a few bytes at each call, and of which one call may fail.
 
+ghost use Rattle.std.specs.Prelude.{◌≡◌, None, false};
+
+use adf_runs::{Failed, Sink, Source};
 use std::alloc::Global;
-use std::io;
-use std::io::{Read, Write};
 
 /// Gives bytes, or line feeds without end.
 #[derive(Drop)]
@@ -18,11 +19,15 @@ pub struct Input<'a> {
     pub has_failed: bool,
 }
 
-impl Read for Input<'_> {
-    fn read(&mut self, buf: &mut [u8]) -> io::Result<usize> {
+impl Source for Input<'_> {
+    ghost left = { λ _. None };
+
+    ghost has_failed = { λ s. s.has_failed };
+
+    fn read(&mut self, buf: &mut [u8]) -> Result<usize, Failed> {
         if self.calls == 0 {
             self.has_failed = true;
-            return Err(io::ErrorKind::Other.into());
+            return Err(Failed);
         }
         self.calls -= 1;
         let mut count = buf.len().min(self.at_most);
@@ -35,6 +40,10 @@ impl Read for Input<'_> {
         }
         self.given = self.given.saturating_add(count);
         Ok(count)
+    }
+
+    fn failed(&self) -> bool {
+        self.has_failed
     }
 }
 
@@ -53,7 +62,9 @@ pub struct Output {
 
 impl Output {
     /// Takes at most so many bytes at a call, of which none fails.
-    pub fn new(alloc: Global, at_most: usize) -> Output {
+    pub fn new(alloc: Global, at_most: usize) -> Output
+        ensures { result.has_failed ≡ false }
+    {
         Output {
             bytes: Vec::new(alloc),
             at_most,
@@ -64,8 +75,12 @@ impl Output {
     }
 }
 
-impl Write for Output {
-    fn write(&mut self, bytes: &[u8]) -> io::Result<usize> {
+impl Sink for Output {
+    ghost held = { λ _. None };
+
+    ghost has_failed = { λ s. s.has_failed };
+
+    fn write(&mut self, bytes: &[u8]) -> Result<usize, Failed> {
         let count = bytes.len().min(self.at_most);
         if self.calls > 0 && self.bytes.extend_from_slice(&bytes[..count]).is_ok() {
             self.calls -= 1;
@@ -77,11 +92,11 @@ impl Write for Output {
             return Ok(0);
         }
         self.has_failed = true;
-        Err(io::ErrorKind::Other.into())
+        Err(Failed)
     }
 
-    fn flush(&mut self) -> io::Result<()> {
-        Ok(())
+    fn failed(&self) -> bool {
+        self.has_failed
     }
 }
 
@@ -95,7 +110,11 @@ pub struct Devices<'a> {
 
 impl<'a> Devices<'a> {
     /// An input of these bytes, and devices that move at most so many at a call.
-    pub fn new(alloc: Global, bytes: &'a [u8], read: usize, write: usize) -> Devices<'a> {
+    pub fn new(alloc: Global, bytes: &'a [u8], read: usize, write: usize) -> Devices<'a>
+        ensures input { result.input.has_failed ≡ false }
+        ensures output { result.output.has_failed ≡ false }
+        ensures errors { result.errors.has_failed ≡ false }
+    {
         Devices {
             input: Input {
                 bytes,
@@ -111,7 +130,11 @@ impl<'a> Devices<'a> {
     }
 
     /// An input of line feeds without end.
-    pub fn endless(alloc: Global) -> Devices<'a> {
+    pub fn endless(alloc: Global) -> Devices<'a>
+        ensures input { result.input.has_failed ≡ false }
+        ensures output { result.output.has_failed ≡ false }
+        ensures errors { result.errors.has_failed ≡ false }
+    {
         let mut devices = Devices::new(alloc, b"", usize::MAX, usize::MAX);
         devices.input.is_endless = true;
         devices

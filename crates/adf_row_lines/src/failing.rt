@@ -1,5 +1,7 @@
 // Runs in which one call of a device fails.
 
+ghost use Rattle.std.specs.Prelude.{◌≡◌, false};
+
 use crate::bench::Bench;
 use crate::devices::Devices;
 use crate::library::{Library, Program, Programs};
@@ -87,7 +89,11 @@ impl<P: Programs, L: Library> Runs<'_, '_, P, L> {
     }
 
     // Devices of which that of one side fails after so many calls.
-    fn devices(&self, side: Side, takes_none: bool, calls: usize) -> Devices<'_> {
+    fn devices(&self, side: Side, takes_none: bool, calls: usize) -> Devices<'_>
+        ensures input { result.input.has_failed ≡ false }
+        ensures output { result.output.has_failed ≡ false }
+        ensures errors { result.errors.has_failed ≡ false }
+    {
         let bench = self.bench;
         let mut devices = Devices::new(bench.alloc, &bench.image, self.read, self.write);
         devices.output.takes_none = takes_none;

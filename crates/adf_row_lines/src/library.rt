@@ -1,5 +1,7 @@
 // What the rows try.
 
+ghost use Rattle.std.specs.Prelude.{◌≡◌, false};
+
 use crate::devices::Devices;
 use crate::row_error::RowError;
 
@@ -36,7 +38,10 @@ pub enum TreeOf<'a> {
 /// The programs that the rows run, and the library calls that have names.
 pub trait Programs {
     /// Runs a program with these words, of which the first is its name, and answers its status.
-    fn run(&self, program: Program, words: &[&str], devices: &mut Devices<'_>) -> u8;
+    fn run(&self, program: Program, words: &[&str], devices: &mut Devices<'_>) -> u8
+        requires input { devices.old.input.has_failed ≡ false }
+        requires output { devices.old.output.has_failed ≡ false }
+        requires errors { devices.old.errors.has_failed ≡ false };
 
     /// The names of the calls that take memory and that no command makes.
     fn call_names(&self) -> &'static [&'static str];

@@ -1,10 +1,12 @@
 // Library calls of the commands' crates that take memory and that no command makes, each with a name.
 
+ghost use Rattle.std.specs.Prelude.{◌≡◌, IfSome, false};
+
 use adf_build::BuildFault;
 use adf_cmd::{Work, build_and_read};
 use adf_row_calls::{CallOutcome, FILE, file_image, first_other, outcome_of, tree_of_lines};
 use adf_row_lines::Output;
-use adf_runs::{Device, run_program_on};
+use adf_runs::run_program_on;
 use std::alloc::Global;
 
 /// The names of all calls.
@@ -48,7 +50,9 @@ fn build_and_read_outcome(alloc: Global) -> Option<CallOutcome> {
 }
 
 // A device that keeps so many bytes without asking for memory.
-fn roomy(alloc: Global, count: usize) -> Option<Output> {
+fn roomy(alloc: Global, count: usize) -> Option<Output>
+    ensures { IfSome result (λ output. output.has_failed ≡ false) }
+{
     let mut output = Output::new(alloc, usize::MAX);
     output.bytes.reserve(count).ok()?;
     Some(output)
@@ -59,12 +63,12 @@ fn convert_outcome(alloc: Global) -> Option<CallOutcome> {
     let image = file_image(alloc)?;
     let mut output = roomy(alloc, image.len())?;
     let mut errors = roomy(alloc, 80)?;
-    let ran = run_program_on::<Work, Device<&mut Output>, Device<&mut Output>>(
+    let ran = run_program_on::<Work, Output, Output>(
         alloc,
         &["adf", "convert", "ofs"],
         &image,
-        &mut Device::new(&mut output),
-        &mut Device::new(&mut errors),
+        &mut output,
+        &mut errors,
     );
     if ran.status == 3 {
         let is_told = errors.bytes.as_slice() == b"no memory\n".as_slice();
