@@ -81,8 +81,11 @@ def is_left_out(entry: os.DirEntry[bytes], left_out: Container[Identity]) -> boo
     """Whether a folder is not gone into: it is a link, or left out, or what a run of adf-catalogue is making."""
     if entry.is_symlink() or entry.name.startswith(os.fsencode(WORKING)):
         return True
-    found = entry.stat(follow_symlinks=False)
-    return (found.st_dev, found.st_ino) in left_out
+    try:
+        found = entry.stat(follow_symlinks=False)
+        return (found.st_dev, found.st_ino) in left_out
+    except OSError:
+        return False
 
 
 def files_below(folder: bytes, left_out: Container[Identity] = ()) -> list[bytes]:

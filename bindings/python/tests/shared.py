@@ -43,10 +43,10 @@ def image_of(kind: str = "ofs", blocks: int = 1760) -> bytes:
 
 
 @functools.lru_cache(maxsize=None)
-def nested(depth: int) -> bytes:
-    """A volume of directories in directories, with a file in the last."""
-    names = (f"dir 8035:0:0 00000000 {'d/' * level}d" for level in range(depth))
-    return built(["volume ffs 4000", *names, f"file 8035:0:0 00000000 {'d/' * depth}f", "data 41"])
+def nested(depth: int, size: int = 1) -> bytes:
+    """A volume of directories in directories, with a file of this size in the last."""
+    names = (f"dir 8035:0:0 00000000 {'ddd/' * level}ddd" for level in range(depth))
+    return built(["volume ffs 4000", *names, f"file 8035:0:0 00000000 {'ddd/' * depth}f", f"fill {size} 41"])
 
 
 def changed(image: bytes, block: int, byte: int, bits: int) -> bytes:

@@ -19,13 +19,13 @@ class Browser:
     """A browser that is asked, and tells what happens."""
 
     def __init__(self):
-        inside, self.asks = os.pipe()
-        self.answers, outside = os.pipe()
-        inside, outside = (fcntl.fcntl(fd, fcntl.F_DUPFD, 10) for fd in (inside, outside))
+        first, self.asks = os.pipe()
+        self.answers, second = os.pipe()
+        inside, outside = (fcntl.fcntl(fd, fcntl.F_DUPFD, 10) for fd in (first, second))
         line = f"exec timeout 120 {BROWSER} {FLAGS} 3<&{inside} 4>&{outside} > browser.out 2>&1"
-        self.process = subprocess.Popen(["/bin/sh", "-c", line], pass_fds=(inside, outside))
-        os.close(inside)
-        os.close(outside)
+        self.process = subprocess.Popen(["bash", "-c", line], pass_fds=(inside, outside))
+        for fd in (first, second, inside, outside):
+            os.close(fd)
         self.told, self.heard, self.number, self.session = self.messages(), [], 0, {}
 
     def messages(self):

@@ -130,7 +130,7 @@ class Pages(Catalogues):
         self.assertEqual((lettered["image"], lettered["label"]), ("ü.adf", "Größe"))
         self.assertEqual([rows_of(f"{out}/entries.tsv")[-1]["path"] for out in ("plain", "lettered")], ["B\\xfccher/gr\\xf6\\xdfe", "Bücher/größe"])
 
-    def test_ends_the_filter_never(self):
+    def test_takes_any_text_for_its_filter(self):
         self.catalogue(".", "out")
         self.assertIn("try { filter.value = decodeURIComponent(filter.value); } catch { }", Page("out/index.html").text)
 
@@ -159,16 +159,16 @@ class Bounds(Catalogues):
 
     def test_ends_tables_of_long_paths(self):
         os.mkdir("disks")
-        written("disks/deep.adf", self.nested(1700))
+        written("disks/deep.adf", self.nested(1000))
         self.catalogue("disks", "out")
         (page,) = pages_of("out")
         self.assertLess(len(page.text), 10 << 20)
         (left_out,) = re.findall(r"(\d+) more are left out: <code>adf list &lt; IMAGE</code>", page.text)
-        self.assertEqual(page.tags.count("tr") - 8, 1700 - int(left_out), page.tags.count("tr"))
+        self.assertEqual(page.tags.count("tr") - 9, 1000 - int(left_out))
 
     def test_ends_tables_of_findings(self):
         os.mkdir("disks")
-        image = bytearray(self.nested(1700))
+        image = bytearray(self.nested(1000))
         for entry in adf.Volume(image).entries:
             image[512 * entry.header + 323] ^= 1
         written("disks/deep.adf", image)
@@ -263,6 +263,15 @@ class Archives(Catalogues):
 class Folders(Catalogues):
     """What is below the folder, and what is not."""
 
+    def put_deep(self, name, depth):
+        """Puts an image below folders in folders with this name."""
+        with trees.Place("disks") as place:
+            for _ in range(depth):
+                os.mkdir(name, dir_fd=place.fd)
+                place.go_in(name)
+            with place.create(b"a.adf") as file:
+                file.write(SMALLEST)
+
     def test_says_why_a_folder_cannot_be_read(self):
         os.makedirs("disks/closed")
         written("disks/a.adf", OFS)
@@ -272,21 +281,15 @@ class Folders(Catalogues):
 
     def test_goes_into_deep_folders_as_far_as_paths_go(self):
         os.mkdir("disks")
-        with trees.Place("disks") as place:
-            for level in range(1200):
-                if level == 1100:
-                    with place.create(b"a.adf") as file:
-                        file.write(SMALLEST)
-                os.mkdir(b"ddd", dir_fd=place.fd)
-                place.go_in(b"ddd")
+        self.put_deep(b"ddd", 1100)
         self.catalogue("disks", "out", "--tsv", status=3)
         (verdict,) = self.verdicts("out").values()
         self.assertEqual(verdict, "read fault: File name too long")
         trees.remove("disks")
 
     def test_reads_files_in_deep_folders(self):
-        os.makedirs("disks/" + "d/" * 1100)
-        written("disks/" + "d/" * 1100 + "a.adf", SMALLEST)
+        os.mkdir("disks")
+        self.put_deep(b"d", 1100)
         self.catalogue("disks", "out", "--tsv")
         self.assertEqual(list(self.verdicts("out").values()), ["ok"])
         trees.remove("disks")
@@ -368,7 +371,7 @@ class Again(Catalogues):
     def test_reads_a_floppy_that_was_swapped_under_one_date(self):
         self.agrees()
         found = os.stat("disks/5.adf")
-        written("disks/5.adf", changed(BAD, 1, 1, 0))
+        written("disks/5.adf", BAD)
         os.utime("disks/5.adf", ns=(found.st_atime_ns, found.st_mtime_ns))
         self.agrees()
         written("other.adf", OFS)

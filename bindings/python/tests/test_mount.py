@@ -36,8 +36,9 @@ def table(words):
 class Mounts(Folder):
     def setUp(self):
         super().setUp()
-        line = ["cc", "-std=c11", "-o", "adf-mount", "-I", os.path.join(TOP, "include"), SOURCE, adf.library_path(), *flags()]
-        subprocess.run([*line, f"-Wl,-rpath,{os.path.dirname(adf.library_path())}"], check=True)
+        shutil.copy(adf.library_path(), adf.SONAME)
+        line = ["cc", "-std=c11", "-o", "adf-mount", "-I", os.path.join(TOP, "include"), SOURCE, os.path.abspath(adf.SONAME), *flags()]
+        subprocess.run([*line, f"-Wl,-rpath,{os.getcwd()}"], check=True)
         os.mkdir("seen")
         self.addCleanup(subprocess.run, ["fusermount3", "-u", "-q", os.path.abspath("seen")], stderr=subprocess.DEVNULL)
         written("a.adf", image_of())

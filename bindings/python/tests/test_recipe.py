@@ -16,11 +16,12 @@ class Recipes(Folder):
         self.refused(1, "block 880: bad sum", "recipe", given=changed(image_of(), 880, 440, 1))
 
     def test_refuses_what_is_too_long(self):
-        noise = "".join(f"data {os.urandom(30000).hex()}\n" for _ in range(240))
-        image = built("volume ffs 20000\nfile 0:0:0 00000000 a\n" + noise)
-        more = built("volume ffs 40000\nfile 0:0:0 00000000 a\n" + noise)
-        self.assertEqual((len(image), len(more)), (20000 * 512, 40000 * 512))
-        self.assertEqual(adf.Volume(built(self.tool("recipe", given=image).decode()))["a"].read(), adf.Volume(image)["a"].read())
+        for parts, is_taken in ((240, True), (270, False)):
+            image = built("volume ffs 20000\nfile 0:0:0 00000000 a\n" + "".join(f"data {os.urandom(30000).hex()}\n" for _ in range(parts)))
+            if is_taken:
+                self.assertEqual(adf.Volume(built(self.tool("recipe", given=image).decode()))["a"].read(), adf.Volume(image)["a"].read())
+            else:
+                self.refused(1, "more than 16777216 bytes, the most that adf build takes", "recipe", given=image)
 
     def test_says_that_nothing_can_be_written(self):
         with open("disk.adf", "wb") as file:

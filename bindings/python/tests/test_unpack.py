@@ -22,8 +22,8 @@ class Folders(Folder):
         self.tool("unpack", "--uaem", "deep", given=nested(1756))
         with trees.Place("deep") as place:
             for _ in range(1756):
-                self.assertEqual(place.status(b"d").st_mtime_ns, 946684800 * 10**9)
-                place.go_in(b"d")
+                self.assertEqual(place.status(b"ddd").st_mtime_ns, 946684800 * 10**9)
+                place.go_in(b"ddd")
             self.assertEqual(sorted(place.names()), [b"f", b"f.uaem"])
         trees.remove("deep")
 
@@ -32,12 +32,8 @@ class Folders(Folder):
         self.leaves()
 
     def test_leaves_nothing_of_a_deep_tree_that_fails(self):
-        deep = nested(1756)
-        volume = adf.Volume(deep)
-        lines = [f"dir 8035:0:0 00000000 {entry.path}" for entry in volume.entries if not entry.is_file]
-        path = volume.entries[-1].path
-        image = built(["volume ffs 4000", *lines, f"file 0:0:0 00000000 {path}", "fill 600 41"])
-        self.refused(3, "/d/f: File too large", "unpack", "new", given=image, prefix=["prlimit", "--fsize=512"])
+        image = nested(1756, 600)
+        self.refused(3, "/ddd/f: File too large", "unpack", "new", given=image, prefix=["prlimit", "--fsize=512"])
         self.leaves()
 
     def test_refuses(self):
