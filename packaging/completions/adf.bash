@@ -41,7 +41,7 @@ _adf_files() {
     case $1:$2 in
         adf-mount:-*) COMPREPLY=($(compgen -W "--partition -f -o -h --help -V --version" -- "$2")) ;;
         adf-shelf:-*) COMPREPLY=($(compgen -W "--null" -- "$2")) ;;
-        adf-catalogue:-*) COMPREPLY=($(compgen -W "--tsv --rescue --escape -h --help --version" -- "$2")) ;;
+        adf-catalogue:-*) COMPREPLY=($(compgen -W "--tsv --rescue --fresh --escape -h --help --version" -- "$2")) ;;
         adf-pack:-*)
             COMPREPLY=($(compgen -W "--label --date --altered --created --no-uaem --escape -h --help --version" -- "$2"))
             ;;
