@@ -23,8 +23,10 @@ as well, and mean themselves. `raw_label`, `raw_name`, `raw_path` and `raw_comme
 
 The shared library is the one that `adf.load(path)` is given; else the one that ADF_LIBRARY names; else that beside this file;
 else libadf.so.1, where the loader finds it; else that in PREFIX/lib, if this module is installed in PREFIX or the program
-PREFIX/bin/adf is on the path. include/adf.h says what its calls promise. Threads may
-share a volume.
+PREFIX/bin/adf is on the path. include/adf.h says what its calls promise. Threads may share a volume.
+
+What the module itself raises is an adf.Error, and also the error of Python that fits: so adf.NoSuchPath is a KeyError, adf.NoMemory
+a MemoryError. A file that cannot be read is an OSError, and a wrong argument a TypeError or ValueError, as everywhere.
 """
 
 from __future__ import annotations
@@ -39,7 +41,7 @@ import mmap
 import os
 import re
 import shutil
-from typing import Any, Iterable, Iterator, NamedTuple, Sequence, Union, overload
+from typing import Any, BinaryIO, Iterable, Iterator, NamedTuple, Sequence, Union, overload
 
 __version__ = "1.0"
 BLOCK = 512
@@ -51,9 +53,14 @@ PARTITION_FAULTS = ("", "short environment", "bad block size", "bad cylinders", 
 MOST_PARTITIONS, MOST_TABLES, DOS_TYPE = 1024, BLOCK * 65536, 0x444F5300
 ROLES = ("free", "boot", "root", "page", "map extension", "header", "extension", "data")
 SONAME = "libadf.so.1"
+LONGEST_NAME, LONGEST_COMMENT, MOST_NUMBER, PART = 30, 79, 2**32 - 1, 1 << 20
 FIRST_ROOM, FIRST_OUTPUT, FIRST_ERRORS, MOST_OUTPUT, LONGEST_CAUSE = 2048, 4096, 4096, 1 << 32, 64
 EPOCH = datetime.datetime(1978, 1, 1)
 LAST_DAY = (datetime.datetime.max - EPOCH).days
+CAPITALS = bytes(byte - 32 if 97 <= byte <= 122 else byte for byte in range(256))
+LATIN_CAPITALS = bytes(byte - 32 if 224 <= byte <= 254 and byte != 247 else CAPITALS[byte] for byte in range(256))
+STAMP = re.compile(":".join([r"(0|[1-9][0-9]*)"] * 3))
+CIVIL = re.compile(r"([0-9]{4}-[0-9]{2}-[0-9]{2} [0-9]{2}:[0-9]{2}:[0-9]{2})\.([0-4][0-9])")
 
 Path = Union[str, bytes, "os.PathLike[str]", "os.PathLike[bytes]"]
 Image = Union[bytes, bytearray, memoryview, mmap.mmap]
@@ -118,7 +125,7 @@ def _places() -> list[str]:
 
 
 def load(path: str | os.PathLike[str] | None = None) -> ctypes.CDLL:
-    """Takes the shared library from here on, as the head of this file says; ImportError where it cannot be loaded."""
+    """Takes the shared library from here on, as the head of this file says; NoLibrary if it cannot be loaded."""
     global _library
     given, said = path or os.environ.get("ADF_LIBRARY"), None
     for place in [os.path.abspath(given)] if given else _places():
@@ -130,14 +137,54 @@ def load(path: str | os.PathLike[str] | None = None) -> ctypes.CDLL:
             return library
         except (OSError, AttributeError) as error:
             said = said or error
-    raise ImportError(f"no shared library of adf ({said}); ADF_LIBRARY may name it")
+    raise NoLibrary(f"no shared library of adf ({said}); ADF_LIBRARY may name it")
 
 
 def _calls() -> ctypes.CDLL:
     return _library or load()
 
 
-class Refused(Exception):
+def library_path() -> str:
+    """The file of the shared library that is loaded."""
+    found = _struct(("name", ctypes.c_char_p), ("base", _POINTER), ("symbol", ctypes.c_char_p), ("place", _POINTER))()
+    if not ctypes.CDLL(None).dladdr(ctypes.cast(_calls().adf_check, _POINTER), ctypes.byref(found)):
+        raise NoLibrary("the system does not tell the file of the shared library")
+    return os.fsdecode(found.name)
+
+
+class Error(Exception):
+    """What the module itself raises; each kind is also the error of Python that fits."""
+
+
+class NoLibrary(Error, ImportError):
+    """The shared library was not found, or cannot be loaded."""
+
+
+class NoMemory(Error, MemoryError):
+    """The library was refused memory."""
+
+
+class Closed(Error, ValueError):
+    """The volume is closed."""
+
+
+class NoSuchPath(Error, KeyError):
+    """Nothing has this path, or no partition this name or number."""
+
+
+class NotAFile(Error, IsADirectoryError):
+    """It has no bytes to read: a directory, or a link."""
+
+
+class Damaged(Error, OSError):
+    """A file of a survey is damaged, or something is wrong with a partition."""
+
+
+class NotReached(Error, LookupError):
+    """No path leads to an entry of a survey: an earlier one has the same path, or no path can have its name."""
+
+
+class Refused(Error):
     """No volume has the image: the cause of the first fault, as `bad sum`, its block and its number, and the file, if it is one.
 
     Its text is that of `adf check`, behind the name of the file.
@@ -173,11 +220,17 @@ class Date(NamedTuple):
     @classmethod
     def of(cls, text: str) -> Date:
         """The date that `adf list` or a manifest writes so. ValueError where it is none."""
-        if " " not in text:
-            days, mins, ticks = map(int, text.split(":"))
-            return cls(days, mins, ticks)
-        past = datetime.datetime.strptime(text[:-3], "%Y-%m-%d %H:%M:%S") - EPOCH
-        return cls(past.days, past.seconds // 60, past.seconds % 60 * 50 + int(text[-2:]))
+        numbers, civil = STAMP.fullmatch(text), CIVIL.fullmatch(text)
+        if numbers:
+            date = cls(*map(int, numbers.groups()))
+        elif civil:
+            past = datetime.datetime.fromisoformat(civil[1]) - EPOCH
+            date = cls(past.days, past.seconds // 60, past.seconds % 60 * 50 + int(civil[2]))
+        else:
+            raise ValueError(f"not a date, as 2026-11-25 06:56:04.05 or 17860:416:205: {text!r}")
+        if date.days < 0 or max(date) > MOST_NUMBER:
+            raise ValueError(f"no disk has this date: {text!r}")
+        return date
 
     @property
     def civil(self) -> datetime.datetime | None:
@@ -204,9 +257,15 @@ def _bytes(image: Image) -> bytes:
     return image if isinstance(image, bytes) else bytes(memoryview(image))
 
 
+def _view(image: Image) -> memoryview:
+    """The bytes of an image, not copied if they stand one behind the other."""
+    view = memoryview(image)
+    return view if view.format == "B" and view.ndim == 1 and view.contiguous else memoryview(view.tobytes())
+
+
 def _accept(number: int, block: int, filename: Path | None = None) -> None:
     if number == NO_MEMORY:
-        raise MemoryError
+        raise NoMemory
     if number != 0:
         raise Refused(_cause(number), block, number, filename)
 
@@ -225,9 +284,19 @@ def check(image: Image) -> Verdict:
     return Verdict(KINDS[verdict.kind], *(getattr(verdict, name) for name in Verdict._fields[1:]))
 
 
-def _run(call: Any, program: str, words: Iterable[str], given: Image) -> tuple[int, bytes, bytes]:
-    """Runs a program of the library with these words over the input: its status, output and errors."""
+class Answer(NamedTuple):
+    """How a command ended: its status, and what it wrote to output and to errors."""
+
+    status: int
+    output: bytes
+    errors: bytes
+
+
+def _run(call: Any, program: str, words: Iterable[str], given: Image) -> Answer:
+    """Runs a program of the library with these words over the input."""
     all_words, given = (program, *words), _bytes(given)
+    if isinstance(words, (str, bytes)) or not all(isinstance(word, str) for word in all_words):
+        raise TypeError('words are a list of str, as ["cat", "c/list"]')
     line = b"".join(word.encode() + b"\0" for word in all_words)
     if line.count(b"\0") != len(all_words):
         raise ValueError("a word has a zero byte")
@@ -239,16 +308,16 @@ def _run(call: Any, program: str, words: Iterable[str], given: Image) -> tuple[i
         more_output = moved.output_full and most_output < MOST_OUTPUT
         more_errors = moved.errors_full and most_errors < MOST_OUTPUT
         if not more_output and not more_errors:
-            return status, ctypes.string_at(output, moved.output), ctypes.string_at(errors, moved.errors)
+            return Answer(status, ctypes.string_at(output, moved.output), ctypes.string_at(errors, moved.errors))
         if more_output:
             most_output = min(4 * most_output, MOST_OUTPUT)
         if more_errors:
             most_errors = min(4 * most_errors, MOST_OUTPUT)
 
 
-def run(words: Iterable[str], given: Image = b"") -> tuple[int, bytes, bytes]:
-    """Runs the command `adf` with these words over the input: its status, and what it wrote to output and to errors.
-    An output of more than 4 GiB is cut there, with status 3 and `write fault` on errors."""
+def run(words: Iterable[str], given: Image = b"") -> Answer:
+    """Runs the command `adf` with these words over the input. An output of more than 4 GiB is cut there, with status 3 and
+    `write fault` on errors."""
     return _run(_calls().adf_run, "adf", words, given)
 
 
@@ -278,7 +347,7 @@ def rescue(image: Image, blocks: int | None = None) -> tuple[bytes, list[LeftOut
     number of blocks as if the image had so many. Refused where nothing stands."""
     status, volume, errors = _run(_calls().adf_survey_run, "adf-survey", ["rescue"], _sized(_bytes(image), blocks))
     if status == 3:
-        raise MemoryError(errors.decode("ascii").strip())
+        raise NoMemory(errors.decode("ascii").strip())
     if not volume:
         first = survey(image, blocks).findings[0]
         number = next(number for number in range(1, NO_MEMORY + 1) if _cause(number) == first.cause)
@@ -338,12 +407,12 @@ class Found(NamedTuple):
         return f"<adf.Found {self.path!r}>"
 
     def read(self) -> bytes:
-        """The bytes of a sound file, as Survey.read gives them."""
-        return self.survey.read(self.raw_path)
+        """The bytes of a sound file, as Survey.read gives them; NotReached if no path leads to this entry."""
+        return self.survey.read(self.survey._path_to(self.number))
 
     def remains(self) -> tuple[bytes, list[range]]:
-        """What is left of a file, as Survey.remains gives it."""
-        return self.survey.remains(self.raw_path)
+        """What is left of a file, as Survey.remains gives it; NotReached if no path leads to this entry."""
+        return self.survey.remains(self.survey._path_to(self.number))
 
 
 class _ReadOnly:
@@ -364,7 +433,6 @@ class Survey(_ReadOnly):
     """
 
     image: bytes
-    findings: list[Finding]
     entries: list[Found]
     kind: str
     date: Date
@@ -372,6 +440,7 @@ class Survey(_ReadOnly):
     created: Date
     raw_label: bytes
     label: str
+    _rows: Any
 
     def __init__(self, image: Image, blocks: int | None = None) -> None:
         raw, told = _sized(_bytes(image), blocks), _Surveyed()
@@ -380,7 +449,7 @@ class Survey(_ReadOnly):
             rooms = wanted
             tables = (_Finding * rooms[0])(), rooms[0], (_Found * rooms[1])(), rooms[1]
             if _calls().adf_survey_index(raw, len(raw), *tables, ctypes.byref(told)) != 0:
-                raise MemoryError
+                raise NoMemory
             wanted = max(rooms[0], told.findings), max(rooms[1], told.entries)
         label = bytes(told.label)[: told.label_length]
         vars(self).update(
@@ -388,7 +457,22 @@ class Survey(_ReadOnly):
             created=_date(told.created), raw_label=label, label=label.decode("latin-1"),
         )
         vars(self)["entries"] = [self._entry(place + 1, tables[2][place]) for place in range(told.entries)]
-        vars(self)["findings"] = [self._finding(row) for row in tables[0][: told.findings]]
+        vars(self)["_rows"] = (_Finding * told.findings).from_buffer_copy(tables[0])
+
+    def __repr__(self) -> str:
+        return f"<adf.Survey {self.label!r}: {len(self.findings)} findings, {len(self.entries)} entries>"
+
+    def __reduce__(self) -> Any:
+        """Pickled as its image, which is surveyed again."""
+        return Survey, (self.image,)
+
+    @property
+    def findings(self) -> Findings:
+        return Findings(self)
+
+    def ranges(self) -> Iterator[range]:
+        """The blocks of each finding, without paths, which can be very long."""
+        return (range(row.first, row.last + 1) for row in self._rows)
 
     def _entry(self, number: int, row: Any) -> Found:
         name, comment = bytes(row.name)[: row.name_length], bytes(row.comment)[: row.comment_length]
@@ -402,32 +486,83 @@ class Survey(_ReadOnly):
         return Finding(row.first, row.last, _cause(row.cause), path, self.entries[row.owner - 1].path if row.owner else None)
 
     def read(self, path: str | bytes) -> bytes:
-        """The bytes of a sound file, for which the image is surveyed again. KeyError where nothing is under the path,
-        IsADirectoryError where it is no file, OSError (EIO) where it is damaged."""
+        """The bytes of a sound file, for which the image is surveyed again; of several with this path those of the first. NoSuchPath
+        if nothing has the path, NotAFile if it is not a file, Damaged if it is damaged."""
         return self._cat(path)[0]
 
     def remains(self, path: str | bytes) -> tuple[bytes, list[range]]:
         """What is left of a file, sound or damaged, for which the image is surveyed again: its bytes, with zeros for those that are
-        lost, and the ranges of these. KeyError and IsADirectoryError as of `read`."""
+        lost, and the ranges of these. NoSuchPath and NotAFile as of `read`."""
         left, lines = self._cat(path, "--damaged")
         return left, [range(int(first), int(last) + 1) for first, last in re.findall(rb"bytes (\d+) to (\d+)", lines)]
+
+    @functools.cached_property
+    def _firsts(self) -> dict[tuple[int, bytes], int]:
+        """The number of the first entry with a name in a directory, to which a path leads; capital letters stand for all."""
+        firsts: dict[tuple[int, bytes], int] = {}
+        for entry in self.entries:
+            firsts.setdefault((entry.parent, self._capitals(entry.raw_name)), entry.number)
+        return firsts
+
+    def _capitals(self, name: bytes) -> bytes:
+        """A name in capital letters, by those that the type of the image compares: a to z, or those of Latin-1."""
+        return name.translate(LATIN_CAPITALS if self.image[3] > 1 else CAPITALS)
+
+    def _path_to(self, number: int) -> bytes:
+        """The path that leads to an entry. NotReached if none does: the library finds entries by their paths."""
+        names = []
+        while number:
+            entry = self.entries[number - 1]
+            if self._firsts[entry.parent, self._capitals(entry.raw_name)] != number:
+                raise NotReached(f"{entry.path} (block {entry.header}): an earlier entry has the same path")
+            if not 0 < len(entry.raw_name) <= LONGEST_NAME or set(entry.raw_name) & set(b"/:"):
+                raise NotReached(f"{entry.path} (block {entry.header}): no path can have this name")
+            names.append(entry.raw_name)
+            number = entry.parent
+        return b"/".join(reversed(names))
 
     def _cat(self, path: str | bytes, *flags: str) -> tuple[bytes, bytes]:
         """What the command `cat` writes to output and to errors."""
         try:
             words = ["cat", *flags, "--", escape(path)]
         except UnicodeEncodeError:
-            raise KeyError(path) from None
+            raise NoSuchPath(path) from None
         status, output, errors = _run(_calls().adf_survey_run, "adf-survey", words, self.image)
         if status == 3:
-            raise MemoryError(errors.decode("ascii").strip())
+            raise NoMemory(errors.decode("ascii").strip())
         if errors in (b"no such path\n", b"bad path\n"):
-            raise KeyError(path)
+            raise NoSuchPath(path)
         if errors == b"not a file\n":
-            raise IsADirectoryError(errno.EISDIR, os.strerror(errno.EISDIR), path)
+            raise NotAFile(errno.EISDIR, os.strerror(errno.EISDIR), path)
         if errors == b"damaged\n":
-            raise OSError(errno.EIO, "damaged", path)
+            raise Damaged(errno.EIO, "damaged", path)
         return output, errors
+
+
+class Findings(Sequence["Finding"]):
+    """The findings of a survey, each made as it is asked for; equal to a list of the same."""
+
+    def __init__(self, survey: Survey) -> None:
+        self._survey, self._rows = survey, survey._rows
+
+    def __len__(self) -> int:
+        return len(self._rows)
+
+    @overload
+    def __getitem__(self, place: int) -> Finding: ...
+
+    @overload
+    def __getitem__(self, place: slice) -> list[Finding]: ...
+
+    def __getitem__(self, place: int | slice) -> Finding | list[Finding]:
+        taken = self._rows[place]
+        return [self._survey._finding(row) for row in taken] if isinstance(place, slice) else self._survey._finding(taken)
+
+    def __eq__(self, other: object) -> bool:
+        return isinstance(other, (list, Findings)) and list(self) == list(other)
+
+    def __repr__(self) -> str:
+        return repr(list(self))
 
 
 class Partition(NamedTuple):
@@ -464,11 +599,15 @@ class Disk(_ReadOnly):
 
     def __init__(self, image: Image) -> None:
         told, rows = _Disk(), (_Partition * MOST_PARTITIONS)()
-        tables, blocks = bytes(memoryview(image)[:MOST_TABLES]), len(image) // BLOCK
+        view = _view(image)
+        tables, blocks = bytes(view[:MOST_TABLES]), len(view) // BLOCK
         if _calls().adf_disk_index(tables, len(tables), blocks, rows, MOST_PARTITIONS, ctypes.byref(told)) != 0:
-            raise MemoryError
+            raise NoMemory
         partitions = [self._partition(number, row) for number, row in enumerate(rows[: told.partitions], 1)]
         vars(self).update(image=image, partitions=partitions, cause=DISK_CAUSES[told.cause], block=told.block)
+
+    def __repr__(self) -> str:
+        return f"<adf.Disk: {len(self.partitions)} partitions" + (f", block {self.block}: {self.cause}>" if self.cause else ">")
 
     @staticmethod
     def _partition(number: int, row: Any) -> Partition:
@@ -478,18 +617,18 @@ class Disk(_ReadOnly):
         return Partition(number, bytes(row.name)[: row.name_length], text, *fields)
 
     def __getitem__(self, wanted: int | str) -> Partition:
-        """The partition with a number, or the first with a name; the case of a to z does not count. KeyError where there is none."""
+        """The partition with a number, or the first with a name; the case of a to z does not count. NoSuchPath if there is none."""
         for partition in self.partitions:
             if wanted == partition.number or isinstance(wanted, str) and _upper(wanted) == _upper(partition.name):
                 return partition
-        raise KeyError(wanted)
+        raise NoSuchPath(wanted)
 
     def volume(self, wanted: int | str) -> bytes:
-        """The bytes of its volume. KeyError where there is no such partition, OSError (EIO) where something is wrong with it."""
+        """The bytes of its volume. NoSuchPath if there is no such partition, Damaged if something is wrong with it."""
         partition = self[wanted]
         if partition.fault:
-            raise OSError(errno.EIO, partition.fault, partition.name)
-        return bytes(memoryview(self.image)[BLOCK * partition.first : BLOCK * (partition.first + partition.blocks)])
+            raise Damaged(errno.EIO, partition.fault, partition.name)
+        return bytes(_view(self.image)[BLOCK * partition.first : BLOCK * (partition.first + partition.blocks)])
 
 
 def partitions(image: Image) -> list[Partition]:
@@ -515,10 +654,23 @@ def escape(text: str | bytes) -> str:
     return re.sub(rb"[^ -\[\]-~]", lambda found: b"\\x%02x" % ord(found[0]), raw).decode("ascii")
 
 
+def read_image(file: BinaryIO) -> bytes:
+    """The rest of an open file, but at most one byte more than the largest image has; memory is taken for what is there."""
+    size = os.fstat(file.fileno()).st_size
+    image = file.read(min(size, MOST_BYTES) + 1)
+    if len(image) <= size:
+        return image
+    room = io.BytesIO()
+    room.write(image)
+    while part := file.read(min(PART, MOST_BYTES + 1 - room.tell())):
+        room.write(part)
+    return room.getvalue()
+
+
 def open(path: Path) -> Volume:
-    """The volume of an image in a file. Refused where it is that of none, OSError where the file cannot be read."""
+    """The volume of an image in a file. Refused if it is not a volume, OSError if the file cannot be read."""
     with io.open(path, "rb") as file:
-        return Volume(file.read(MOST_BYTES + 1), path)
+        return Volume(read_image(file), path)
 
 
 class Volume(_ReadOnly):
@@ -561,6 +713,14 @@ class Volume(_ReadOnly):
         """Gives the image and the tables back."""
         vars(self).update(image=b"", _known_tables=None)
 
+    def __repr__(self) -> str:
+        told = f"{self.kind}, {self.blocks} blocks"
+        return f"<adf.Volume {self.label!r}: {told if self._known_tables else 'closed'}>"
+
+    def __reduce__(self) -> Any:
+        """Pickled as its image, which is checked again."""
+        return Volume, (self._tables[0][0],)
+
     def __enter__(self) -> Volume:
         return self
 
@@ -570,7 +730,7 @@ class Volume(_ReadOnly):
     @property
     def _tables(self) -> Any:
         if self._known_tables is None:
-            raise ValueError("the volume is closed")
+            raise Closed("the volume is closed")
         return self._known_tables
 
     @property
@@ -582,10 +742,10 @@ class Volume(_ReadOnly):
         return Entries(self)
 
     def __getitem__(self, path: str | bytes) -> Entry:
-        """The entry under a path, a text or bytes: names with `/` between them. KeyError where none is there."""
+        """The entry under a path, a text or bytes: names with `/` between them. NoSuchPath if there is none."""
         number = self._find(path)
         if not number:
-            raise KeyError(path)
+            raise NoSuchPath(path)
         return self._entry(number)
 
     def __contains__(self, path: str | bytes) -> bool:
@@ -602,11 +762,11 @@ class Volume(_ReadOnly):
             path = waiting.pop()
             number = self._find(path)
             if number is None or number > 0 and self._table[number - 1].is_file:
-                raise KeyError(path)
+                raise NoSuchPath(path)
             inside = self.entries[bisect.bisect_left(self._parents, number) : bisect.bisect_right(self._parents, number)]
-            inside = [(entry.is_file, entry.raw_name if is_raw else entry.name) for entry in inside]
-            directories = [name for is_file, name in inside if not is_file]
-            yield path, directories, [name for is_file, name in inside if is_file]
+            names = [(entry.is_file, entry.raw_name if is_raw else entry.name) for entry in inside]
+            directories = [name for is_file, name in names if not is_file]
+            yield path, directories, [name for is_file, name in names if is_file]
             slash = b"/" if is_raw else "/"
             waiting += (path + slash + name if path else name for name in reversed(directories))
 
@@ -637,7 +797,7 @@ class Volume(_ReadOnly):
         node = ctypes.c_size_t()
         answer = _calls().adf_find(*self._tables[1], text, len(text), ctypes.byref(node))
         if answer == NO_MEMORY:
-            raise MemoryError
+            raise NoMemory
         return node.value if answer == 0 else None
 
 
@@ -702,7 +862,7 @@ class Entry(NamedTuple):
     def read_into(self, room: Buffer, offset: int = 0) -> int:
         """Puts the bytes of the file from an offset on into a buffer, as many as there are and fit; answers how many."""
         if not self.is_file:
-            raise IsADirectoryError(errno.EISDIR, os.strerror(errno.EISDIR), self.path)
+            raise NotAFile(errno.EISDIR, os.strerror(errno.EISDIR), self.path)
         if offset < 0:
             raise ValueError("an offset is below 0")
         view, (image, table, blocks) = memoryview(room).cast("B"), self.volume._tables
@@ -740,6 +900,8 @@ class File(io.RawIOBase):
         return moved
 
     def seek(self, offset: int, whence: int = io.SEEK_SET) -> int:
+        if whence not in (io.SEEK_SET, io.SEEK_CUR, io.SEEK_END):
+            raise ValueError(f"whence is {whence}, and not 0, 1 or 2")
         at = offset + (0, self._at, self._entry.size)[whence]
         if at < 0:
             raise OSError(errno.EINVAL, os.strerror(errno.EINVAL))

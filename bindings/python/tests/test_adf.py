@@ -1,11 +1,10 @@
-"""Tests of the module adf. The images are built by the command adf of the library itself.
+"""Tests of the module adf."""
 
-    ADF_LIBRARY=../../libadf.so python3 -m unittest
-"""
-
+import copy
 import datetime
 import io
 import os
+import pickle
 import struct
 import tempfile
 import threading
@@ -13,41 +12,7 @@ import unittest
 import unittest.mock
 
 import adf
-
-NAME_BYTES = [byte for byte in range(256) if byte not in b"/:"]
-MANIFEST = """volume {kind} 1760
-label B\\xfccher
-stamps 1:2:3 4:5:6 4000000:1:1
-dir 8035:61:151 00000000 c
-file 8035:0:0 0000000f c/readme
-note ein <\\xdcbel>
-data 48656c6c6f0a
-dir 0:0:0 00000000 empty
-file 0:0:0 00000000 none
-file 9000:1:2 00000000 large
-""".format
-
-
-def built(manifest):
-    status, image, errors = adf.run(["build"], manifest.encode())
-    assert status == 0, errors
-    return image
-
-
-def image_of(kind="ofs"):
-    large = "".join(f"data {bytes((n * 7 + n // 251) % 256 for n in range(at, at + 100)).hex()}\n" for at in range(0, 60000, 100))
-    return built(MANIFEST(kind=kind) + large)
-
-
-def large_of():
-    return bytes((n * 7 + n // 251) % 256 for n in range(60000))
-
-
-def changed(image, block, byte, bits):
-    """The image with bits of one byte turned and no sum set."""
-    image = bytearray(image)
-    image[512 * block + byte] ^= bits
-    return bytes(image)
+from tests.shared import LARGE, NAME_BYTES, built, changed, image_of
 
 
 class Volumes(unittest.TestCase):
@@ -101,6 +66,26 @@ class Volumes(unittest.TestCase):
             del volume.label
         self.assertEqual(volume.label, "Bücher")
 
+    def test_says_what_it_is(self):
+        volume, survey = adf.Volume(image_of()), adf.survey(changed(image_of(), 880, 440, 1))
+        self.assertEqual(repr(volume), "<adf.Volume 'Bücher': ofs, 1760 blocks>")
+        self.assertEqual((repr(volume["c"]), repr(survey)), ("<adf.Entry 'c'>", "<adf.Survey 'Bücher': 1 findings, 5 entries>"))
+        self.assertEqual(repr(adf.Disk(b"")), "<adf.Disk: 0 partitions, block 0: no rigid disk>")
+        volume.close()
+        self.assertEqual(repr(volume), "<adf.Volume 'Bücher': closed>")
+
+    def test_is_pickled_with_its_entries(self):
+        entry = adf.Volume(image_of())["c/readme"]
+        for again in (pickle.loads(pickle.dumps(entry)), copy.deepcopy(entry)):
+            self.assertEqual((again.path, again.read(), again[1:]), ("c/readme", b"Hello\n", entry[1:]))
+        survey = pickle.loads(pickle.dumps(adf.survey(changed(image_of(), 880, 440, 1))))
+        self.assertEqual((survey.findings[0].cause, survey.entries[0].survey), ("bad sum", survey))
+        refused = pickle.loads(pickle.dumps(adf.Refused("bad sum", 880, 7, "disk.adf")))
+        self.assertEqual(str(refused), "disk.adf: block 880: bad sum")
+        entry.volume.close()
+        with self.assertRaises(adf.Closed):
+            pickle.dumps(entry)
+
     def test_is_closed(self):
         with adf.Volume(image_of()) as volume:
             entry = volume["c/readme"]
@@ -146,6 +131,15 @@ class Volumes(unittest.TestCase):
             image = built(f"volume ofs 4\nstamps {adf.Date(*date).stamp} 0:0:0 0:0:0\n")
             self.assertIn(f"root {text}\n".encode(), adf.run(["list"], image)[1])
 
+    def test_takes_no_other_dates(self):
+        for text in (
+            *("", "2026-11-25 06:56:04.99", "2026-11-25 06:56:04x49", "2026-11-25 06:56:04.-1", "2026-11-25 06:56:04", "2026-11-25"),
+            *("2026-11-25 06:56:04.5", "2026-13-25 06:56:04.05", "1977-12-31 23:59:59.00", "2026-11-25T06:56:04.05", "2026-11-25 06:56:04.05 "),
+            *("1:2", "1:2:3:4", "-1:0:0", "+1:0:0", "01:0:0", "1_0:0:0", " 1:2:3", "\u0661:0:0", "4294967296:0:0"),
+        ):
+            with self.assertRaises(ValueError, msg=text):
+                adf.Date.of(text)
+
     def test_has_names_of_every_byte(self):
         names = [bytes([byte]) for byte in NAME_BYTES if not 97 <= byte <= 122]
         names += [bytes(NAME_BYTES[at : at + 30]) for at in range(0, 240, 30)]
@@ -176,6 +170,13 @@ class Volumes(unittest.TestCase):
         for wrong in (7, "text", None):
             with self.assertRaises(TypeError):
                 adf.Volume(wrong)
+
+    def test_takes_the_bytes_that_a_view_shows(self):
+        image = image_of()
+        apart = bytearray(2 * len(image))
+        apart[::2] = image
+        for view in (memoryview(apart)[::2], memoryview(image).cast("I"), memoryview(image[::-1])[::-1]):
+            self.assertEqual((adf.Volume(view).image, adf.check(view).blocks, adf.survey(view).findings), (image, 1760, []))
 
 
 class Refusals(unittest.TestCase):
@@ -210,13 +211,51 @@ class Refusals(unittest.TestCase):
                     adf.open(name)
                 self.assertEqual((raised.exception.filename, str(raised.exception)), (name, f"{path}: block 0: bad size"))
 
+    def test_reads_no_more_than_there_is(self):
+        image = image_of()
+        with tempfile.TemporaryDirectory() as folder:
+            path = os.path.join(folder, "disk.adf")
+            with open(path, "wb") as file:
+                file.write(image)
+            with open(path, "rb") as file:
+                asked = unittest.mock.Mock(wraps=file)
+                self.assertEqual(adf.read_image(asked), image)
+                asked.read.assert_called_once_with(len(image) + 1)
+            reading, writing = os.pipe()
+            with open(reading, "rb") as pipe, open(writing, "wb") as file:
+                threading.Thread(target=lambda: (file.write(image), file.close())).start()
+                self.assertEqual(adf.read_image(pipe), image)
+            with open(path, "r+b") as file:
+                file.truncate(adf.MOST_BYTES + 512)
+                self.assertEqual(len(adf.read_image(file)), adf.MOST_BYTES + 1)
+
+    def test_raises_errors_of_its_own(self):
+        for kind, python in (
+            *((adf.Refused, Exception), (adf.NoLibrary, ImportError), (adf.NoMemory, MemoryError), (adf.Closed, ValueError)),
+            *((adf.NoSuchPath, KeyError), (adf.NotAFile, IsADirectoryError), (adf.Damaged, OSError), (adf.NotReached, LookupError)),
+        ):
+            self.assertTrue(issubclass(kind, adf.Error) and issubclass(kind, python))
+        volume = adf.Volume(image_of())
+        with self.assertRaises(adf.NoSuchPath) as missing:
+            volume["nix"]
+        with self.assertRaises(adf.NotAFile) as directory:
+            volume["c"].read()
+        self.assertEqual((str(missing.exception), directory.exception.filename), ("'nix'", "c"))
+        with self.assertRaises(adf.Error):
+            adf.load("/nix/libadf.so")
+
     def test_runs_commands(self):
         self.assertEqual(adf.run(["cat", "nix"], image_of())[::2], (1, b"no such path\n"))
         self.assertEqual(adf.run(["frob"])[0], 2)
-        self.assertEqual(adf.run(["cat", "large"], image_of()), (0, large_of(), b""))
+        self.assertEqual(adf.run(["cat", "large"], image_of()), (0, LARGE, b""))
         self.assertEqual(len(adf.run(["build"], b"volume ffs 20000\n")[1]), 20000 * 512)
         with self.assertRaises(ValueError):
             adf.run(["cat", "a\0b"], image_of())
+        ran = adf.run(["check"], built("volume ofs 4\n"))
+        self.assertEqual((ran.status, ran.output, ran.errors), (0, b"ok ofs blocks 4 used 2 free 0 dirs 0 files 0\n", b""))
+        for words in ("check", b"check", ["cat", b"c"], 7):
+            with self.assertRaises(TypeError):
+                adf.run(words, image_of())
 
     def test_cuts_output_at_the_largest_room(self):
         manifest, image = b"volume ofs 80\n", built("volume ofs 80\n")
@@ -273,6 +312,66 @@ class Surveys(unittest.TestCase):
         found = adf.survey(changed(sound, other, 499, one))
         self.assertEqual(found.findings, [adf.Finding(other, other, "bad sum", "b", None), adf.Finding(one, one, "taken", "/", "a")])
         self.assertEqual([(entry.path, entry.is_sound) for entry in found.entries], [("a", True), ("b", False)])
+
+    def test_reads_no_file_for_another_one(self):
+        # The header of `b` gets the name `a` or `A`, and its sum stays right: byte 432 is the length of the name, 433 its first.
+        for kind in adf.KINDS:
+            sound = built(f"volume {kind} 16\nfile 0:0:0 00000000 a\ndata 31\nfile 0:0:0 00000000 b\ndata 32\n")
+            for name in b"aA":
+                image = bytearray(sound)
+                place = 512 * adf.Volume(sound)["b"].header
+                image[place + 433] = name
+                (total,) = struct.unpack_from(">I", image, place + 20)
+                struct.pack_into(">I", image, place + 20, (total + ((ord("b") - name) << 16)) % 2**32)
+                survey = adf.survey(image)
+                first, second = survey.entries
+                self.assertEqual([entry.path.lower() for entry in survey.entries], ["a", "a"])
+                self.assertEqual((first.remains(), survey.remains("a")), ((b"1", []), (b"1", [])))
+                for call in (second.read, second.remains):
+                    with self.assertRaisesRegex(adf.NotReached, rf"^{chr(name)} \(block \d+\): an earlier entry has the same path$"):
+                        call()
+
+    def test_reads_no_file_in_a_directory_of_another_one(self):
+        sound = built("volume ofs 32\ndir 0:0:0 00000000 a\nfile 0:0:0 00000000 a/f\ndata 31\ndir 0:0:0 00000000 b\nfile 0:0:0 00000000 b/f\ndata 32\n")
+        image, place = bytearray(sound), 512 * adf.Volume(sound)["b"].header
+        image[place + 433] = ord("a")
+        survey = adf.survey(image)
+        self.assertEqual([entry.path for entry in survey.entries], ["a", "a", "a/f", "a/f"])
+        self.assertEqual(survey.entries[2].read(), b"1")
+        with self.assertRaises(adf.NotReached):
+            survey.entries[3].read()
+
+    def test_compares_names_by_the_type_of_the_image(self):
+        # Of types 0 and 1 the names differ, of types 2 and 3 they are the same.
+        sound = built("volume ofs 16\nfile 0:0:0 00000000 \\xe4\ndata 31\nfile 0:0:0 00000000 \\xc4\ndata 32\n")
+        self.assertEqual({entry.read() for entry in adf.survey(sound).entries}, {b"1", b"2"})
+        first, second = adf.survey(changed(sound, 0, 3, 2)).entries
+        self.assertEqual(first.remains()[0], b"1" if first.raw_name == b"\xe4" else b"2")
+        with self.assertRaises(adf.NotReached):
+            second.remains()
+
+    def test_reads_no_file_that_no_path_leads_to(self):
+        sound = built("volume ofs 16\nfile 0:0:0 00000000 ab\ndata 31\n")
+        for name in b"/:":
+            (entry,) = adf.survey(changed(sound, adf.Volume(sound)["ab"].header, 433, name ^ ord("a"))).entries
+            with self.assertRaisesRegex(adf.NotReached, "no path can have this name"):
+                entry.remains()
+
+    def test_has_findings_as_a_list_has(self):
+        findings = adf.survey(changed(changed(image_of(), 880, 440, 1), 0, 3, 2)).findings
+        self.assertEqual((findings[:1], [findings[-2]], list(findings)), ([findings[0]], [findings[0]], findings))
+        self.assertEqual((len(findings), findings[0] in findings, repr(findings)), (2, True, repr(list(findings))))
+        self.assertFalse(findings == [] or findings == 7)
+
+    def test_makes_paths_when_they_are_asked_for(self):
+        # Each directory of 1,000 has a finding; all their paths together have 15 million letters.
+        names = ["/".join(["d" * 30] * (level + 1)) for level in range(1000)]
+        image = bytearray(built(["volume ffs 4000", *(f"dir 0:0:0 00000000 {name}" for name in names)]))
+        for entry in adf.Volume(image).entries:
+            image[512 * entry.header + 323] ^= 1
+        survey = adf.survey(image)
+        self.assertEqual((len(survey.findings), len(list(survey.ranges()))), (1000, 1000))
+        self.assertEqual(len(survey.findings[-1].path), 31 * 1000 - 1)
 
     def test_finds_nothing_in_no_volume(self):
         nothing = adf.survey(b"")
@@ -351,6 +450,14 @@ class Disks(unittest.TestCase):
             self.assertRaises(KeyError, disk.volume, wanted)
         self.assertRaises(OSError, disk.volume, "DH1")
 
+    def test_takes_the_bytes_that_a_view_shows(self):
+        whole = self.disk()
+        apart = bytearray(2 * len(whole))
+        apart[::2] = whole
+        for view in (memoryview(apart)[::2], memoryview(whole).cast("I")):
+            self.assertEqual(adf.Disk(view).partitions, adf.Disk(whole).partitions)
+            self.assertEqual(adf.Disk(view).volume(1), adf.Disk(whole).volume(1))
+
     def test_tells_what_can_be_read(self):
         damaged = self.disk({**RIGID_DISK, 7: 3})
         disk = adf.Disk(bytearray(damaged))
@@ -366,15 +473,14 @@ class Files(unittest.TestCase):
         self.volumes = [adf.Volume(image_of(kind)) for kind in adf.KINDS]
 
     def test_reads_parts(self):
-        large = large_of()
         for volume in self.volumes:
             entry = volume["large"]
-            self.assertEqual(entry.read(), large)
+            self.assertEqual(entry.read(), LARGE)
             for offset in (0, 1, 487, 488, 489, 511, 512, 513, 36863, 36864, 59999, 60000, 60001, 2**70):
                 for count in (0, 1, 24, 488, 512, 1000, 70000):
-                    self.assertEqual(entry.read(offset, count), large[offset : offset + count])
+                    self.assertEqual(entry.read(offset, count), LARGE[offset : offset + count])
             room = bytearray(b"?" * 10)
-            self.assertEqual((entry.read_into(memoryview(room)[2:5], 100), bytes(room)), (3, b"??" + large[100:103] + b"?" * 5))
+            self.assertEqual((entry.read_into(memoryview(room)[2:5], 100), bytes(room)), (3, b"??" + LARGE[100:103] + b"?" * 5))
             self.assertEqual((volume["none"].read(), volume["none"].read(5), volume["none"].read_into(room)), (b"", b"", 0))
 
     def test_refuses_what_is_no_part(self):
@@ -388,7 +494,7 @@ class Files(unittest.TestCase):
                 call()
 
     def test_is_a_file_that_seeks(self):
-        wanted = io.BytesIO(large_of())
+        wanted = io.BytesIO(LARGE)
         for volume in self.volumes:
             with volume["large"].open() as file:
                 steps = (0, 0, 10), (500, 1, 700), (-7, 2, 20), (3, 2, 5), (70000, 0, 1), (100, 0, -1), (0, 0, 9000)
@@ -397,6 +503,9 @@ class Files(unittest.TestCase):
                     self.assertEqual((file.read(count), file.tell()), (wanted.read(count), wanted.tell()))
                 with self.assertRaises(OSError):
                     file.seek(-1)
+                for whence in (-1, 3):
+                    with self.assertRaises(ValueError):
+                        adf.File(volume["large"]).seek(0, whence)
                 with self.assertRaises(io.UnsupportedOperation):
                     file.write(b"x")
             with self.assertRaises(ValueError):
@@ -406,11 +515,11 @@ class Files(unittest.TestCase):
             self.assertEqual(list(io.TextIOWrapper(volume["c/readme"].open(), "latin-1")), ["Hello\n"])
 
     def test_is_read_by_many_threads(self):
-        large, came = large_of(), []
+        came = []
 
         def work(volume, first):
             for offset in range(first, 60000, 997):
-                came.append(volume["LARGE"].read(offset, 1500) == large[offset : offset + 1500])
+                came.append(volume["LARGE"].read(offset, 1500) == LARGE[offset : offset + 1500])
             came.append(len(volume.entries) == 5 and adf.Volume(volume.image).owners() == volume.owners())
 
         crowd = [threading.Thread(target=work, args=(self.volumes[n % 2], n)) for n in range(8)]
@@ -419,7 +528,3 @@ class Files(unittest.TestCase):
         for thread in crowd:
             thread.join()
         self.assertEqual((set(came), len(came)), ({True}, 8 * 62))
-
-
-if __name__ == "__main__":
-    unittest.main()
