@@ -1,1 +1,12 @@
-"""The programs adf-catalogue, adf-map, adf-unpack, adf-pack and adf-recipe, which stand on the module adf."""
+"""The programs adf-catalogue, adf-map, adf-unpack, adf-pack and adf-recipe, which stand on the module adf.
+
+Until the work of a program begins, Ctrl-C ends it at once, without a traceback of what is being loaded. The module `signal` is one of
+the things that are loaded; what it stands on is there from the beginning.
+"""
+
+import _signal  # type: ignore
+import os
+import sys
+
+if sys.argv[0] == "-m" or os.path.basename(sys.argv[0]).startswith("adf-"):
+    _signal.signal(_signal.SIGINT, _signal.SIG_DFL)

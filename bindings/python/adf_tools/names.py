@@ -5,7 +5,10 @@ Amigas write in Latin-1. On the host a text is in UTF-8, with \\x and two hexade
 126, too.
 """
 
+from __future__ import annotations
+
 import re
+import unicodedata
 
 import adf
 
@@ -13,25 +16,25 @@ NO_LETTER = re.compile(r"[\x00-\x1f\\\x7f-\x9f]")
 ESCAPED = re.compile(rb"\\x([0-9a-f]{2})")
 
 
-def letters(text):
+def letters(text: str | bytes) -> str:
     """The text of bytes, or of a text in Latin-1, with \\x and two digits for what has no letter."""
     plain = text.decode("latin-1") if isinstance(text, bytes) else text
     return NO_LETTER.sub(lambda found: f"\\x{ord(found[0]):02x}", plain)
 
 
-def text_of(text, is_escaped=False):
+def text_of(text: str | bytes, is_escaped: bool = False) -> str:
     """The text of the host for bytes, or for a text in Latin-1; in the escape form where that is wanted."""
     return adf.escape(text) if is_escaped else letters(text)
 
 
-def bytes_of(text, is_escaped=False):
+def bytes_of(text: bytes, is_escaped: bool = False) -> bytes:
     """The bytes for which a text of the host stands, in UTF-8 or in the escape form. ValueError if it is not UTF-8, or has a
-    letter that Latin-1 has not."""
-    latin = text if is_escaped else text.decode("utf-8").encode("latin-1")
+    letter that Latin-1 does not have. A letter may be written as two characters, as on macOS."""
+    latin = text if is_escaped else unicodedata.normalize("NFC", text.decode("utf-8")).encode("latin-1")
     return ESCAPED.sub(lambda found: bytes.fromhex(found[1].decode("ascii")), latin)
 
 
-def host_letters(name):
+def host_letters(name: bytes) -> str:
     """A name of the host, of any bytes, as a text that can be printed: \\x and two digits for each byte of what cannot."""
     text = name.decode("utf-8", "surrogateescape")
     plain = (c if c.isprintable() and c != "\\" else adf.escape(c.encode("utf-8", "surrogateescape")) for c in text)

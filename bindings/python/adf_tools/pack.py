@@ -1,114 +1,167 @@
 """adf-pack: writes a manifest of a folder; `adf build` makes a volume of it (docs/adf-pack.1)."""
 
+from __future__ import annotations
+
+import argparse
+import itertools
 import os
 import re
 import stat
 import sys
+from typing import BinaryIO, Iterable, Iterator
 
 import adf
 from adf_tools.names import bytes_of
 from adf_tools.program import REFUSED, add_escape, begin, command_line, host_text, manifest_of, run_lines, stop
+from adf_tools.trees import Place
 from adf_tools.uaem import ENDING, Kept, kept_in, name_in
 
 TICKS_TO_1978 = 2922 * 86400 * 50
 NEVER = adf.Date(0, 0, 0)
+LONGEST_SIDECAR, LONGEST_LINE = 4096, 100
 
 
-def amiga_text(text, path, is_escaped, is_kept=False):
-    """The escape form of the bytes that a text of the host stands for, or a name that has a file NAME.uaem; what cannot be is told
-    by its path."""
+def amiga_text(text: bytes, path: str | bytes, is_escaped: bool, is_kept: bool = False) -> str:
+    """The escape form of the bytes that a text of the host stands for, or a name that has a file NAME.uaem; if a volume cannot have
+    them, its path is told."""
     try:
         raw = name_in(text) if is_kept and not is_escaped else bytes_of(text, is_escaped)
     except UnicodeEncodeError as error:
         stop(REFUSED, f"{host_text(path)}: Latin-1, in which an Amiga writes, has no {error.object[error.start]}")
     except UnicodeDecodeError:
         stop(REFUSED, f"{host_text(path)}: not UTF-8 (with --escape bytes stand for themselves)")
-    if b"/" in raw:
-        stop(REFUSED, f"{host_text(path)}: no name on an Amiga has a /")
+    for byte in "/:":
+        if byte.encode() in raw:
+            stop(REFUSED, f"{host_text(path)}: no name on an Amiga has a {byte}")
+    if len(raw) > adf.LONGEST_NAME:
+        stop(REFUSED, f"{host_text(path)}: a name of {len(raw)} bytes, and an Amiga has at most {adf.LONGEST_NAME}")
     return adf.escape(raw)
 
 
-def stamp_of(nanoseconds):
+def stamp_of(nanoseconds: int) -> str:
     ticks = max(nanoseconds // 20_000_000 - TICKS_TO_1978, 0)
     return f"{ticks // 4_320_000}:{ticks // 3000 % 1440}:{ticks % 3000}"
 
 
-def content_of(path):
-    """The bytes of a file; a link that stands there is not followed."""
-    with open(os.open(path, os.O_RDONLY | os.O_NOFOLLOW), "rb") as file:
-        return file.read()
+def opened(place: Place, name: bytes) -> BinaryIO:
+    """A regular file, to be read. It may have become another thing since its folder was read."""
+    file = place.open(name)
+    if not stat.S_ISREG(os.fstat(file.fileno()).st_mode):
+        file.close()
+        stop(REFUSED, f"{host_text(place.path_of(name))}: neither a file nor a directory")
+    return file
 
 
-def kept_beside(path):
+def kept_beside(place: Place, name: bytes) -> Kept:
     """What is kept in the file NAME.uaem beside a file or directory."""
-    beside = path + os.fsencode(ENDING)
+    beside = name + os.fsencode(ENDING)
+    with opened(place, beside) as file:
+        content = file.read(LONGEST_SIDECAR + 1)
     try:
-        return kept_in(content_of(beside))
+        return kept_in(content)
     except ValueError as error:
-        stop(REFUSED, f"{host_text(beside)}: {error}")
+        stop(REFUSED, f"{host_text(place.path_of(beside))}: {error}")
 
 
-def entry_lines(kind, text, kept):
+def entry_lines(kind: str, text: str, kept: Kept) -> Iterator[str]:
     yield f"{kind} {kept.stamp} {kept.protection:08x} {text}"
     if kept.comment:
         yield f"note {adf.escape(kept.comment)}"
 
 
 class Packer:
-    """Makes the lines of a folder: whether names are in the escape form, and whether files NAME.uaem are read."""
+    """Makes the lines of a folder: whether names are in the escape form, whether files NAME.uaem are read, and how many bytes files
+    may have before the volume is full."""
 
-    def __init__(self, words):
+    def __init__(self, words: argparse.Namespace) -> None:
         self.is_escaped, self.reads_uaem = words.escape, not words.no_uaem
+        self.blocks, self.left = words.blocks, adf.BLOCK * words.blocks
 
-    def names(self, folder):
-        """The names in a folder, each with whether a file beside it keeps what it has; such a file is none of them."""
-        found = set(os.listdir(folder))
-        kept = {name for name in found if self.reads_uaem and name + os.fsencode(ENDING) in found}
-        return [(name, name in kept) for name in sorted(found - {name + os.fsencode(ENDING) for name in kept})]
+    def names(self, place: Place) -> Iterator[tuple[bytes, bool]]:
+        """The names in a folder, each with whether a file beside it keeps what it has; such a file is not one of them."""
+        found = set(place.names())
+        for name in sorted(found):
+            if name in found:
+                beside = name + os.fsencode(ENDING)
+                is_kept = self.reads_uaem and beside in found and stat.S_ISREG(place.status(beside).st_mode)
+                if is_kept:
+                    found.remove(beside)
+                yield name, is_kept
 
-    def lines(self, folder, above=""):
-        """The lines of what is in a folder, by names."""
-        for name, is_kept in self.names(folder):
-            path = os.path.join(folder, name)
-            found = os.lstat(path)
-            text = above + amiga_text(name, path, self.is_escaped, is_kept)
-            kept = kept_beside(path) if is_kept else Kept(0, stamp_of(found.st_mtime_ns), b"")
-            if stat.S_ISDIR(found.st_mode):
-                yield from entry_lines("dir", text, kept)
-                yield from self.lines(path, text + "/")
-            elif stat.S_ISREG(found.st_mode):
-                yield from entry_lines("file", text, kept)
-                yield from run_lines(content_of(path))
-            else:
-                stop(REFUSED, f"{host_text(path)}: neither a file nor a directory")
+    def parts(self, place: Place, name: bytes) -> Iterator[bytes]:
+        """The bytes of a file, in parts."""
+        with opened(place, name) as file:
+            while part := file.read(adf.PART):
+                self.left -= len(part)
+                if self.left < 0:
+                    stop(REFUSED, f"{host_text(place.path_of(name))}: with this file there are more bytes than {self.blocks} blocks have")
+                yield part
+
+    def lines(self, folder: bytes) -> Iterator[str]:
+        """The lines of all that is in a folder, by names, each folder before what is in it."""
+        with Place(folder) as place:
+            waiting, above = [self.names(place)], [""]
+            while waiting:
+                name, is_kept = next(waiting[-1], (b"", False))
+                if not name:
+                    waiting.pop()
+                    above.pop()
+                    if waiting:
+                        place.go_out()
+                    continue
+                path, found = place.path_of(name), place.status(name)
+                text = above[-1] + amiga_text(name, path, self.is_escaped, is_kept)
+                kept = kept_beside(place, name) if is_kept else Kept(0, stamp_of(found.st_mtime_ns), b"")
+                if stat.S_ISDIR(found.st_mode):
+                    yield from entry_lines("dir", text, kept)
+                    place.go_in(name)
+                    waiting.append(self.names(place))
+                    above.append(text + "/")
+                elif stat.S_ISREG(found.st_mode):
+                    yield from entry_lines("file", text, kept)
+                    yield from run_lines(self.parts(place, name))
+                else:
+                    stop(REFUSED, f"{host_text(path)}: neither a file nor a directory")
 
 
-def date(text):
-    """A date as `adf list` writes it, with or without the time, or as a manifest does. ValueError where it is none."""
-    return adf.Date.of(f"{text} 00:00:00.00" if re.fullmatch(r"[\d-]+", text) else text)
+def date(text: str) -> adf.Date:
+    """A date as `adf list` writes it, with or without the time, or as a manifest does. ValueError if it is not one."""
+    return adf.Date.of(f"{text} 00:00:00.00" if re.fullmatch(r"[0-9-]+", text) else text)
 
 
-def tried(lines):
+def shortened(line: str) -> str:
+    """A line of a manifest for an error: its begin and its end, if it is long."""
+    return line if len(line) <= LONGEST_LINE else f"{line[:40]} .. {line[4 + 40 - LONGEST_LINE :]}"
+
+
+def tried(lines: Iterable[str]) -> bytes:
     """The manifest of these lines, which `adf build` takes."""
     manifest = manifest_of(lines)
     status, _, refusal = adf.run(["build"], manifest)
     if status:
         said = refusal.decode().strip()
-        number = re.match(r"line (\d+)", said)
-        stop(status, f"{said}: {lines[int(number[1]) - 1][:100]}" if number else said)
+        number = re.match(r"line ([1-9][0-9]*)", said)
+        stop(status, f"{said}: {shortened(manifest.decode().splitlines()[int(number[1]) - 1])}" if number else said)
     return manifest
 
 
-def work(words):
-    lines = [f"volume {words.kind} {words.blocks}"]
+def head_of(words: argparse.Namespace) -> Iterator[str]:
+    """The lines of the volume."""
+    yield f"volume {words.kind} {words.blocks}"
     if words.label:
-        lines.append("label " + amiga_text(os.fsencode(words.label), words.label, words.escape))
-    lines.append(f"stamps {words.date.stamp} {words.altered.stamp} {words.created.stamp}")
-    lines += Packer(words).lines(os.fsencode(words.folder))
+        yield "label " + amiga_text(os.fsencode(words.label), words.label, words.escape)
+    yield f"stamps {words.date.stamp} {words.altered.stamp} {words.created.stamp}"
+
+
+def work(words: argparse.Namespace) -> int:
+    if not 0 <= words.blocks <= adf.MOST_BYTES // adf.BLOCK:
+        tried(head_of(words))
+    lines = itertools.chain(head_of(words), Packer(words).lines(os.fsencode(words.folder)))
     sys.stdout.buffer.write(tried(lines))
+    return 0
 
 
-def main():
+def main() -> None:
     line = command_line("adf-pack", "Writes a manifest of a folder on standard output; adf build makes a volume of it.")
     line.add_argument("kind", metavar="KIND", choices=adf.KINDS, help="ofs or ffs")
     line.add_argument("blocks", metavar="BLOCKS", type=int, help="blocks of 512 bytes; a floppy of 880 KB has 1760")
@@ -116,7 +169,7 @@ def main():
     line.add_argument("--label", metavar="TEXT", help="the name of the volume")
     for option, what in (("--date", "the root"), ("--altered", "the last change of the volume"), ("--created", "its creation")):
         line.add_argument(option, metavar="DATE", type=date, default=NEVER, help=f"the date of {what}, as 2026-11-25 06:56:04.10")
-    line.add_argument("--no-uaem", action="store_true", help="take files NAME.uaem as files like others, and not for what they keep")
+    line.add_argument("--no-uaem", action="store_true", help="pack files NAME.uaem like other files")
     add_escape(line, "read names and the label")
     begin(line, work)
 

@@ -1,5 +1,7 @@
 """What the programs share: their command lines, their ends, new folders, and the texts of manifests."""
 
+from __future__ import annotations
+
 import argparse
 import contextlib
 import errno
@@ -9,73 +11,92 @@ import signal
 import sys
 import tempfile
 import time
+from typing import Callable, Iterable, Iterator, NoReturn
 
 import adf
+from adf_tools import trees
 from adf_tools.names import host_letters
 
 MOST_MANIFEST_BYTES = 16_777_216
 FILL = re.compile(rb"(.)\1{63,}", re.DOTALL)
+FEWEST, DATA = 64, 32  # so many equal bytes are a line `fill`, and so many others at most a line `data`
 REFUSED, FAILED = 1, 3
+WORKING = ".adf-"  # the names of folders that are being made begin so
+INTERRUPTS = (signal.SIGINT, signal.SIGTERM)
 
 
 class Stop(Exception):
     """What cannot be done: the status to end with, and why."""
 
+    def __init__(self, status: int, text: str) -> None:
+        super().__init__(status, text)
+        self.status, self.text = status, text
 
-def stop(status, text):
+
+def stop(status: int, text: str) -> NoReturn:
     raise Stop(status, text)
 
 
-def command_line(program, does, more=None):
+def command_line(program: str, does: str, more: str | None = None) -> argparse.ArgumentParser:
     """The command line of a program, to which its words are to be added. Wrong words end it with the usage, at status 2."""
     line = argparse.ArgumentParser(prog=program, description=does, epilog=more, allow_abbrev=False)
     line.add_argument("--version", action="version", version=f"{program} {adf.__version__}")
     return line
 
 
-def add_escape(line, what):
+def add_escape(line: argparse.ArgumentParser, what: str) -> None:
     """Adds the option that wants the escape form in place of letters."""
     line.add_argument("--escape", action="store_true", help=f"{what} in the escape form: \\x and two digits for bytes outside 32 to 126")
 
 
-def end(program, status, text):
-    """Says in one line what cannot be done, and ends here; what waits for standard output is not written."""
-    print(f"{program}: {text}", file=sys.stderr, flush=True)
-    os._exit(status)
+def why(error: BaseException) -> tuple[int, str]:
+    """The status that a program ends with for an error, and what it says; an empty text if nobody reads on."""
+    if isinstance(error, Stop):
+        return error.status, error.text
+    if isinstance(error, adf.Refused):
+        return REFUSED, str(error)
+    if isinstance(error, BrokenPipeError):
+        return FAILED, ""
+    if isinstance(error, KeyboardInterrupt):
+        return FAILED, "interrupted"
+    if isinstance(error, MemoryError):
+        return FAILED, str(error) or "no memory"
+    if isinstance(error, OSError):
+        name = "" if error.filename is None else host_text(error.filename) + ": "
+        return FAILED, name + (error.strerror or str(error))
+    if isinstance(error, ImportError):
+        return FAILED, str(error)
+    return FAILED, f"an error that nobody foresaw: {type(error).__name__}: {error}".replace("\n", " ")
 
 
-def begin(line, work):
-    """Runs a program: does the work that the words ask for, and ends with the status that it answers. What it cannot do is said
-    in one line, with a status of its own; that nobody reads on is not said."""
-    signal.signal(signal.SIGTERM, signal.default_int_handler)
+def begin(line: argparse.ArgumentParser, work: Callable[[argparse.Namespace], int]) -> NoReturn:
+    """Runs a program: does the work that the words ask for, and ends with the status that it returns. An error is one line, and what
+    waits for standard output is not written then; python3 -X dev shows where an error comes from that nobody foresaw."""
     try:
+        for number in INTERRUPTS:
+            signal.signal(number, signal.default_int_handler)
         status = work(line.parse_args())
         sys.stdout.flush()
-        sys.exit(status)
-    except Stop as stopped:
-        end(line.prog, *stopped.args)
-    except adf.Refused as refused:
-        end(line.prog, REFUSED, refused)
-    except ImportError as error:
-        end(line.prog, FAILED, error)
-    except KeyboardInterrupt:
-        end(line.prog, FAILED, "interrupted")
-    except MemoryError as error:
-        end(line.prog, FAILED, str(error) or "no memory")
-    except BrokenPipeError:
-        os._exit(FAILED)
-    except OSError as error:
-        name = "" if error.filename is None else host_text(error.filename) + ": "
-        end(line.prog, FAILED, name + (error.strerror or str(error)))
+    except SystemExit:
+        raise
+    except BaseException as error:
+        status, text = why(error)
+        if sys.flags.dev_mode and not isinstance(error, (adf.Error, Stop, OSError, MemoryError, KeyboardInterrupt)):
+            raise
+        if text:
+            print(f"{line.prog}: {text}", file=sys.stderr, flush=True)
+        os._exit(status)
+    signal.signal(signal.SIGINT, signal.SIG_DFL)
+    sys.exit(status)
 
 
 class Progress:
     """How far long work is: a line on standard error that is written over, where that is a terminal."""
 
-    def __init__(self, whole, what):
+    def __init__(self, whole: int, what: str) -> None:
         self.whole, self.what, self.done, self.begun, self.shown = whole, what, 0, time.monotonic(), 0.0
 
-    def step(self):
+    def step(self) -> None:
         self.done += 1
         now = time.monotonic()
         if sys.stderr.isatty() and (now - self.shown > 0.1 or self.done == self.whole):
@@ -83,56 +104,118 @@ class Progress:
             left = (self.whole - self.done) / rate
             self.write(f"{self.done} of {self.whole} {self.what}, {rate:.0f} a second, {left:.0f} s left")
 
-    def end(self):
+    def end(self) -> None:
         if self.shown:
             self.write("")
 
     @staticmethod
-    def write(text):
+    def write(text: str) -> None:
         print(f"\r\x1b[K{text}", end="", file=sys.stderr, flush=True)
 
 
 @contextlib.contextmanager
-def new_folder(path):
+def uninterrupted() -> Iterator[None]:
+    """What interrupts the program waits until this is done."""
+    before = signal.pthread_sigmask(signal.SIG_BLOCK, INTERRUPTS)
+    try:
+        yield
+    finally:
+        signal.pthread_sigmask(signal.SIG_SETMASK, before)
+
+
+@contextlib.contextmanager
+def working_folder(above: str, path: str) -> Iterator[str]:
+    """A folder in the one above, which is removed at the end; that it cannot be made is told of this path."""
+    folder = ""
+    try:
+        with trees.named(path), uninterrupted():
+            folder = tempfile.mkdtemp(prefix=WORKING, dir=above)
+        yield folder
+    finally:
+        if folder:
+            with uninterrupted():
+                trees.remove(folder)
+
+
+@contextlib.contextmanager
+def new_folder(path: str) -> Iterator[str]:
     """A folder that takes this path when all is written in it, and is removed if something fails."""
     path = path.rstrip("/") or path
-    try:
+    with trees.named(path):
         if os.path.lexists(path):
             raise FileExistsError(errno.EEXIST, os.strerror(errno.EEXIST))
-        with tempfile.TemporaryDirectory(prefix=".adf-", dir=os.path.dirname(path) or ".") as beside:
-            folder = os.path.join(beside, "whole")
+    with working_folder(os.path.dirname(path) or ".", path) as beside:
+        folder = os.path.join(beside, "whole")
+        with trees.named(path):
             os.mkdir(folder)
+        with moved(folder, path):
             yield folder
+        with trees.named(path):
             os.rename(folder, path)
+
+
+@contextlib.contextmanager
+def moved(folder: str, path: str) -> Iterator[None]:
+    """Errors of files in a folder are told as if it had this path already; so are those of no file, such as that no space is left."""
+    try:
+        yield
     except OSError as error:
-        error.filename = path
+        name = folder if error.filename is None else os.fsdecode(error.filename)
+        if name == folder or name.startswith(folder + "/"):
+            error.filename = path + name[len(folder) :]
         raise
 
 
-def host_text(name):
+def host_text(name: str | bytes | os.PathLike[str]) -> str:
     """A name of the host as a text that can be printed."""
     return host_letters(os.fsencode(name))
 
 
-def given_volume():
+def given_volume() -> adf.Volume:
     """The volume of the image on standard input."""
-    return adf.Volume(sys.stdin.buffer.read(adf.MOST_BYTES + 1))
+    return adf.Volume(adf.read_image(sys.stdin.buffer))
 
 
-def run_lines(content):
-    """The lines of a file's bytes: `fill` for 64 or more that are equal, else `data` of at most 32."""
+def run_lines(parts: Iterable[bytes]) -> Iterator[str]:
+    """The lines of a file's bytes, which come in parts: `fill` for 64 or more that are equal, else `data` of at most 32."""
+    left, more = b"", 0  # bytes that have no line yet, and how many more there are of the run with which they begin
+    for part in parts:
+        left += part
+        cut = certain(left)
+        yield from lines_of(left[:cut], more)
+        left, more = left[cut:], 0 if cut else more
+        if left and left.count(left[:1]) == len(left) > FEWEST:
+            left, more = left[:FEWEST], more + len(left) - FEWEST
+    yield from lines_of(left, more)
+
+
+def certain(content: bytes) -> int:
+    """How many bytes at the front have lines that do not depend on what follows."""
+    last = len(content.rstrip(content[-1:]))  # where the last run begins, which may go on
+    if len(content) - last >= FEWEST:
+        return last
+    at = 0
+    for fill in FILL.finditer(content, 0, last):
+        at = fill.end()
+    return last - (last - at) % DATA
+
+
+def lines_of(content: bytes, more: int) -> Iterator[str]:
+    """The lines of bytes, of which the run at the front has so many more."""
     at = 0
     for fill in [*FILL.finditer(content), None]:
         end = fill.start() if fill else len(content)
-        yield from (f"data {content[i : min(i + 32, end)].hex()}" for i in range(at, end, 32))
+        yield from (f"data {content[i : min(i + DATA, end)].hex()}" for i in range(at, end, DATA))
         if fill:
-            yield f"fill {len(fill[0])} {fill[1].hex()}"
+            yield f"fill {len(fill[0]) + (0 if fill.start() else more)} {fill[1].hex()}"
             at = fill.end()
 
 
-def manifest_of(lines):
-    """The bytes of a manifest, if it is not too long."""
-    manifest = "".join(line + "\n" for line in lines).encode("ascii")
-    if len(manifest) > MOST_MANIFEST_BYTES:
-        stop(REFUSED, f"the manifest has {len(manifest)} bytes, and adf build takes at most {MOST_MANIFEST_BYTES}")
-    return manifest
+def manifest_of(lines: Iterable[str]) -> bytes:
+    """The bytes of a manifest, of which no more is made than `adf build` takes."""
+    manifest = bytearray()
+    for line in lines:
+        manifest += line.encode("ascii") + b"\n"
+        if len(manifest) > MOST_MANIFEST_BYTES:
+            stop(REFUSED, f"the manifest has more than {MOST_MANIFEST_BYTES} bytes, the most that adf build takes")
+    return bytes(manifest)

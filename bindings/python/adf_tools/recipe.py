@@ -1,21 +1,30 @@
 """adf-recipe: writes the manifest of an image; `adf build` of it gives the same tree (docs/adf-recipe.1)."""
 
+from __future__ import annotations
+
+import argparse
 import sys
+from typing import Iterator
 
 import adf
 from adf_tools.program import begin, command_line, given_volume, manifest_of, run_lines
 
 
-def entry_lines(entry):
+def parts_of(entry: adf.Entry) -> Iterator[bytes]:
+    """The bytes of a file, in parts."""
+    return (entry.read(at, adf.PART) for at in range(0, entry.size, adf.PART))
+
+
+def entry_lines(entry: adf.Entry) -> Iterator[str]:
     kind = "file" if entry.is_file else "dir"
     yield f"{kind} {entry.date.stamp} {entry.protection:08x} {adf.escape(entry.raw_path)}"
     if entry.raw_comment:
         yield f"note {adf.escape(entry.raw_comment)}"
     if entry.is_file:
-        yield from run_lines(entry.read())
+        yield from run_lines(parts_of(entry))
 
 
-def lines_of(volume):
+def lines_of(volume: adf.Volume) -> Iterator[str]:
     yield f"volume {volume.kind} {volume.blocks}"
     if volume.raw_label:
         yield f"label {adf.escape(volume.raw_label)}"
@@ -24,11 +33,12 @@ def lines_of(volume):
         yield from entry_lines(entry)
 
 
-def work(_words):
+def work(_words: argparse.Namespace) -> int:
     sys.stdout.buffer.write(manifest_of(lines_of(given_volume())))
+    return 0
 
 
-def main():
+def main() -> None:
     does = "Writes the manifest of the image on standard input; adf build of it gives the same tree."
     begin(command_line("adf-recipe", does), work)
 

@@ -1,12 +1,18 @@
 """Files NAME.uaem, in which FS-UAE and WinUAE keep beside a file what a host has no room for: protection, date and comment.
 
 A line: `----rwed 2026-11-25 06:56:04.10 comment`, with hundredths of a second. In the comment % and two hexadecimal digits stand for
-a byte: 0 to 31, 128 to 255, each of "%*/<>?\\|, and a dot or space at the end. Every other byte stands for itself. A name that has
-such a file is in UTF-8, with % and digits for bytes that have no letter, for these bytes, and for the dot of .uaem at its end.
+a byte: 0 to 31, 128 to 255, each of "%*/<>?\\|, and a dot or space at the end. Every other byte stands for itself.
+
+A name that has such a file is in UTF-8, with % and digits for bytes that have no letter, for these bytes, for the last letter of
+.uaem at the end, and for the third letter of names that Windows keeps for itself: aux, con, nul, prn, com0 to com9 and lpt0 to lpt9,
+also with a dot and more behind them. FS-UAE 3.1.66 writes the same, but for bytes 127 to 159, which it does not turn into digits.
 """
+
+from __future__ import annotations
 
 import datetime
 import re
+import unicodedata
 from typing import NamedTuple
 
 import adf
@@ -15,7 +21,8 @@ from adf_tools.protection import protection_of, protection_text
 ENDING = ".uaem"
 LINE = re.compile(r"([h-][s-][p-][a-][r-][w-][e-][d-]) ([\d-]{10} [\d:]{8})\.(\d\d)(?: (.*))?")
 NOT_PLAIN = re.compile(rb'[^ -\x7f]|["%*/<>?\\|]|[. ]\Z')
-NOT_IN_NAMES = re.compile(rb'[^ -~\xa0-\xff]|["%*/<>?\\|]|[. ]\Z|\.(?=[Uu][Aa][Ee][Mm]\Z)')
+WINDOWS = rb"(?<=\Aau)x(?=\.|\Z)|(?:(?<=\Aco)|(?<=\Apr))n(?=\.|\Z)|(?<=\Anu)l(?=\.|\Z)|(?:(?<=\Aco)m|(?<=\Alp)t)(?=[0-9](?:\.|\Z))"
+NOT_IN_NAMES = re.compile(rb'[^ -~\xa0-\xff]|["%*/<>?\\|]|[. ]\Z|(?<=\.uae)m\Z|' + WINDOWS, re.IGNORECASE)
 DIGITS = re.compile(rb"%([0-9a-fA-F]{2})")
 CIVIL = "%Y-%m-%d %H:%M:%S"
 NEVER = datetime.datetime(1978, 1, 1)
@@ -29,35 +36,35 @@ class Kept(NamedTuple):
     comment: bytes
 
 
-def with_digits(pattern, raw):
+def with_digits(pattern: re.Pattern[bytes], raw: bytes) -> bytes:
     """Bytes with % and two digits for each that fits the pattern."""
     return pattern.sub(lambda found: b"%%%02x" % ord(found[0]), raw)
 
 
-def without_digits(text):
+def without_digits(text: bytes) -> bytes:
     """The bytes that stand in a text with % and digits."""
     return DIGITS.sub(lambda found: bytes.fromhex(found[1].decode("ascii")), text)
 
 
-def host_name(raw):
+def host_name(raw: bytes) -> bytes:
     """The name of the host for a name of an Amiga that has such a file."""
     return with_digits(NOT_IN_NAMES, raw).decode("latin-1").encode("utf-8")
 
 
-def name_in(text):
+def name_in(text: bytes) -> bytes:
     """The name of an Amiga for one of the host that has such a file. UnicodeError if it is not UTF-8, or not in Latin-1."""
-    return without_digits(text.decode("utf-8").encode("latin-1"))
+    return without_digits(unicodedata.normalize("NFC", text.decode("utf-8")).encode("latin-1"))
 
 
-def line_of(entry):
-    """The bytes of the line that keeps what an entry has. A date that is none is kept as the first of all."""
+def line_of(entry: adf.Entry) -> bytes:
+    """The bytes of the line that keeps what an entry has. A value that is not a date is kept as the first of all."""
     hundredths = entry.date.ticks % 50 * 2 if entry.date.civil else 0
     front = f"{protection_text(entry.protection)} {entry.date.civil or NEVER:{CIVIL}}.{hundredths:02} "
     return front.encode("ascii") + with_digits(NOT_PLAIN, entry.raw_comment) + b"\n"
 
 
-def kept_in(content):
-    """What is kept in the bytes of such a file. ValueError where they are no such line."""
+def kept_in(content: bytes) -> Kept:
+    """What is kept in the bytes of such a file. ValueError if they are not such a line."""
     found = LINE.fullmatch(content.decode("latin-1").rstrip("\r\n"))
     if not found:
         raise ValueError("not as in: ----rwed 2026-11-25 06:56:04.10 comment")
@@ -66,4 +73,7 @@ def kept_in(content):
     if past.days < 0:
         raise ValueError("a date before 1978")
     stamp = f"{past.days}:{past.seconds // 60}:{past.seconds % 60 * 50 + int(hundredths) // 2}"
-    return Kept(protection_of(letters), stamp, without_digits((comment or "").encode("latin-1")))
+    raw = without_digits((comment or "").encode("latin-1"))
+    if len(raw) > adf.LONGEST_COMMENT:
+        raise ValueError(f"a comment of {len(raw)} bytes, and an Amiga has at most {adf.LONGEST_COMMENT}")
+    return Kept(protection_of(letters), stamp, raw)

@@ -1,0 +1,100 @@
+"""Tests of what the programs share: their words, and how they end."""
+
+import os
+import random
+import signal
+import time
+import unittest
+
+import adf
+from adf_tools.program import FILL, new_folder, run_lines
+from tests.shared import Folder, image_of, written
+
+TOOLS = ("catalogue", "map", "pack", "recipe", "unpack")
+FAILING = """
+import errno, sys
+from adf_tools.program import begin, command_line
+def work(_words):
+    print("more")
+    {}
+begin(command_line("adf-try", "Tries."), work)
+"""
+
+
+class Words(Folder):
+    def test_answers_help_and_version(self):
+        for tool in TOOLS:
+            self.assertTrue(self.tool(tool, "--help").decode().startswith(f"usage: adf-{tool} "))
+            self.assertEqual(self.tool(tool, "--version").decode(), f"adf-{tool} {adf.__version__}\n")
+
+    def test_refuses_words(self):
+        for tool in TOOLS:
+            ran = self.run_tool(tool, "1", "2", "3", "4", "5")
+            self.assertEqual((ran.returncode, ran.stdout), (2, b""))
+            self.assertTrue(ran.stderr.decode().startswith(f"usage: adf-{tool} "))
+
+
+class Ends(Folder):
+    def ended(self, body):
+        """The status, output and errors of a program whose work is this."""
+        ran = self.run_python("-c", FAILING.format(body))
+        return ran.returncode, ran.stdout.decode(), ran.stderr.decode()
+
+    def test_says_each_error_in_one_line(self):
+        for body, told in (
+            ('raise RuntimeError("one\\ntwo")', "an error that nobody foresaw: RuntimeError: one two"),
+            ("work(_words)", "an error that nobody foresaw: RecursionError"),
+            ("raise MemoryError", "no memory"),
+            ('raise OSError(errno.EIO, "damaged", "file")', "file: damaged"),
+            ("raise KeyboardInterrupt", "interrupted"),
+        ):
+            status, output, errors = self.ended(body)
+            self.assertEqual((status, output, errors.count("\n")), (3, "", 1), errors)
+            self.assertTrue(errors.startswith(f"adf-try: {told}"), errors)
+
+    def test_is_interrupted_without_a_traceback(self):
+        written("a.adf", image_of())
+        for part in range(40):
+            process = self.started("map", "a.adf")
+            time.sleep(0.003 * part + 0.01)
+            process.send_signal(signal.SIGINT)
+            errors = process.communicate(timeout=60)[1].decode()
+            if "adf_tools" in errors or "adf-map" in errors:  # else it is Python's own, before it has found the program
+                self.assertEqual(errors, "adf-map: interrupted\n")
+
+
+class NewFolders(Folder):
+    def test_takes_its_path_when_it_is_whole(self):
+        with new_folder("new/") as folder:
+            os.mkdir(os.path.join(folder, "a"))
+            self.assertFalse(os.path.exists("new"))
+        self.assertEqual(os.listdir("new"), ["a"])
+        self.leaves("new")
+
+    def test_names_the_file_that_an_error_is_about(self):
+        for inside, told in ((lambda _: "/nix/file", "/nix/file"), (lambda folder: f"{folder}/x/y", "new/x/y"), (lambda _: None, "new")):
+            with self.assertRaises(OSError) as raised:
+                with new_folder("new") as folder:
+                    raise OSError(5, "wrong", inside(folder))
+            self.assertEqual(raised.exception.filename, told)
+            self.leaves()
+
+
+class Lines(unittest.TestCase):
+    def test_are_the_same_whatever_the_parts(self):
+        def whole(content):
+            at = 0
+            for fill in [*FILL.finditer(content), None]:
+                end = fill.start() if fill else len(content)
+                yield from (f"data {content[i : min(i + 32, end)].hex()}" for i in range(at, end, 32))
+                if fill:
+                    yield f"fill {len(fill[0])} {fill[1].hex()}"
+                    at = fill.end()
+
+        chance = random.Random(1)
+        for _ in range(2000):
+            lengths = chance.choices([1, 2, 5, 31, 32, 33, 63, 64, 65, 127, 128, 129, 500], k=chance.randrange(12))
+            content = b"".join(bytes([chance.randrange(3)]) * length for length in lengths)
+            cuts = [0, *sorted(chance.choices(range(len(content) + 1), k=chance.randrange(8))), len(content)]
+            parts = [content[begin:end] for begin, end in zip(cuts, cuts[1:])]
+            self.assertEqual(list(run_lines(parts)), list(whole(content)))
