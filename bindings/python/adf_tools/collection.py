@@ -1,6 +1,7 @@
 """The images of a collection: files below a folder, as they are or in archives, which are unpacked in memory alone.
 
-What an archive says of itself is not relied on: of each image at most one byte more is unpacked than the largest has.
+What an archive says of itself is not relied on: of each image at most one byte more is unpacked than the largest has, and of an archive
+so many images and bytes as MOST_IMAGES and MOST_UNPACKED say; the rest is told in one line.
 """
 
 from __future__ import annotations
@@ -13,16 +14,22 @@ import stat
 import struct
 import zipfile
 import zlib
-from typing import NamedTuple
+from typing import IO, BinaryIO, Container, Iterator, NamedTuple, Union
 
 import adf
+from adf_tools.program import WORKING
+from adf_tools.trees import Identity
 
 SIGN = b"DOS"
 IMAGES, PACKED_IMAGES = (b".adf", b".hdf"), (b".adz", b".hdz", b".adf.gz", b".hdf.gz")
 ZIP, ARCHIVES = b".zip", (b".zip", b".gz", b".adz", b".hdz")
 METHODS = (zipfile.ZIP_STORED, zipfile.ZIP_DEFLATED)
-ENCRYPTED, PART = 1, 1 << 20
-FAULTS = (OSError, EOFError, ValueError, RuntimeError, struct.error, zlib.error, zipfile.BadZipFile)
+ENCRYPTED = 1
+MOST_IMAGES, MOST_UNPACKED = 4096, 4 << 30
+FAULTS = (OSError, EOFError, ValueError, RuntimeError, MemoryError, struct.error, zlib.error, zipfile.BadZipFile)
+
+
+Stream = Union[IO[bytes], gzip.GzipFile]
 
 
 class Image(NamedTuple):
@@ -36,7 +43,11 @@ class Image(NamedTuple):
     fault: str
 
 
-def begins_as_volume(file):
+def unread(name: bytes, fault: str, number: int = 0) -> Image:
+    return Image(name, number, b"", None, fault)
+
+
+def begins_as_volume(file: Stream) -> bool:
     """Whether an open file begins as a volume does; it is read from its begin again."""
     try:
         begin = file.read(len(SIGN))
@@ -46,7 +57,7 @@ def begins_as_volume(file):
         return False
 
 
-def is_candidate(path):
+def is_candidate(path: bytes) -> bool:
     """Whether a file can have images, by the end of its name, or begins as a volume does."""
     if path.lower().endswith((*IMAGES, *ARCHIVES)):
         return True
@@ -59,72 +70,110 @@ def is_candidate(path):
         return False
 
 
-def files_below(folder):
+def is_folder(entry: os.DirEntry[bytes]) -> bool:
+    try:
+        return entry.is_dir()
+    except OSError:
+        return False
+
+
+def is_left_out(entry: os.DirEntry[bytes], left_out: Container[Identity]) -> bool:
+    """Whether a folder is not gone into: it is a link, or left out, or what a run of adf-catalogue is making."""
+    if entry.is_symlink() or entry.name.startswith(os.fsencode(WORKING)):
+        return True
+    try:
+        found = entry.stat(follow_symlinks=False)
+        return (found.st_dev, found.st_ino) in left_out
+    except OSError:
+        return False
+
+
+def files_below(folder: bytes, left_out: Container[Identity] = ()) -> list[bytes]:
     """The paths of all files below a folder that can have images, and of folders that cannot be read, by their bytes."""
-    unread = []
-    files = (os.path.join(path, name) for path, _, names in os.walk(folder, onerror=unread.append) for name in names)
-    return sorted([*filter(is_candidate, files), *(error.filename for error in unread)])
+    found: list[bytes] = []
+    waiting = [folder]
+    while waiting:
+        path = waiting.pop()
+        try:
+            with os.scandir(path) as entries:
+                inside = list(entries)
+            waiting += (entry.path for entry in inside if is_folder(entry) and not is_left_out(entry, left_out))
+            found += (entry.path for entry in inside if not is_folder(entry) and is_candidate(entry.path))
+        except OSError:
+            found.append(path)
+    return sorted(found)
 
 
-def images_in(path, name):
+def images_in(path: bytes, name: bytes) -> Iterator[Image]:
     """The images in a file of this name, one after the other."""
     kind = path.lower()
     try:
         found = os.stat(path)
+        if stat.S_ISDIR(found.st_mode):
+            os.listdir(path)
         if not stat.S_ISREG(found.st_mode):
-            yield Image(name, 0, b"", None, "not a file")
+            yield unread(name, "not a file")
             return
         with open(path, "rb") as file:
             if kind.endswith(ZIP):
                 yield from images_in_zip(file, name)
             elif not kind.endswith(ARCHIVES):
-                yield Image(name, 0, file.read(adf.MOST_BYTES + 1), found.st_size, "")
+                yield Image(name, 0, adf.read_image(file), found.st_size, "")
             else:
                 yield from image_in_gzip(file, name)
     except FAULTS as error:
-        yield Image(name, 0, b"", None, fault_of(error))
+        yield unread(name, fault_of(error))
 
 
-def image_in_gzip(file, name):
+def image_in_gzip(file: BinaryIO, name: bytes) -> Iterator[Image]:
     """The image in a packed file, if it is named as one, or begins as a volume does."""
     with gzip.GzipFile(fileobj=file) as packed:
         if name.lower().endswith(PACKED_IMAGES) or begins_as_volume(packed):
             yield unpacked(packed, name, 0)
 
 
-def images_in_zip(file, name):
+def images_in_zip(file: BinaryIO, name: bytes) -> Iterator[Image]:
     """The images in an archive, by their names."""
-    seen = {}
+    seen: dict[bytes, int] = {}
+    left = MOST_UNPACKED
     with zipfile.ZipFile(file) as archive:
-        for member in archive.infolist():
-            inside = member.filename.encode("utf-8", "surrogateescape")
-            if inside.lower().endswith(IMAGES):
-                seen[inside] = seen.get(inside, -1) + 1
-                yield member_of_zip(archive, member, name + b"/" + inside, seen[inside])
+        members = [(member, member.filename.encode("utf-8", "surrogateescape")) for member in archive.infolist()]
+        members = [(member, inside) for member, inside in members if inside.lower().endswith(IMAGES)]
+        for place, (member, inside) in enumerate(members):
+            if place == MOST_IMAGES or left <= 0:
+                yield unread(name, f"{len(members) - place} of {len(members)} images in it are left out")
+                return
+            seen[inside] = seen.get(inside, -1) + 1
+            image = member_of_zip(archive, member, name + b"/" + inside, seen[inside])
+            left -= len(image.content)
+            yield image
 
 
-def member_of_zip(archive, member, name, number):
+def member_of_zip(archive: zipfile.ZipFile, member: zipfile.ZipInfo, name: bytes, number: int) -> Image:
     """An image of an archive. Only methods that unpack step by step are used."""
     if member.flag_bits & ENCRYPTED:
-        return Image(name, number, b"", None, "encrypted")
+        return unread(name, "encrypted", number)
     if member.compress_type not in METHODS:
-        return Image(name, number, b"", None, "packed by a method that is not read")
+        return unread(name, "packed by a method that is not read", number)
     try:
         with archive.open(member) as packed:
             return unpacked(packed, name, number)
     except FAULTS as error:
-        return Image(name, number, b"", None, fault_of(error))
+        return unread(name, fault_of(error), number)
 
 
-def unpacked(packed, name, number):
+def unpacked(packed: Stream, name: bytes, number: int) -> Image:
     """The image in an open archive. How long one is that is too long is not known."""
     room = io.BytesIO()
-    while part := packed.read(min(adf.MOST_BYTES + 1 - room.tell(), PART)):
+    while part := packed.read(min(adf.MOST_BYTES + 1 - room.tell(), adf.PART)):
         room.write(part)
     return Image(name, number, room.getvalue(), room.tell() if room.tell() <= adf.MOST_BYTES else None, "")
 
 
-def fault_of(error):
+def fault_of(error: BaseException) -> str:
     """Why a file cannot be read: what the system says, else that the archive is damaged, which may lead nowhere."""
-    is_told = isinstance(error, OSError) and error.errno not in (None, errno.EINVAL)
-    return error.strerror if is_told else "damaged archive"
+    if isinstance(error, MemoryError):
+        return "no memory"
+    if isinstance(error, OSError) and error.errno not in (None, errno.EINVAL):
+        return error.strerror
+    return "damaged archive"

@@ -1,6 +1,9 @@
 """A picture of a volume as SVG: a square for each block, coloured by what the block is; adf-map and adf-catalogue draw it."""
 
+from __future__ import annotations
+
 import re
+from typing import Iterable
 from xml.sax.saxutils import escape
 
 import adf
@@ -15,16 +18,16 @@ FAULT = "#d62728"
 RUN = re.compile(rb"(.)\1*", re.DOTALL)
 
 
-def roles_of_refused(image, findings):
+def roles_of_refused(survey: adf.Survey) -> bytes:
     """The roles of a refused image, which nobody knows but that a block has a finding."""
-    roles = bytearray([UNKNOWN]) * (len(image) // adf.BLOCK)
-    for finding in findings:
-        inside = range(finding.first, min(finding.last + 1, len(roles)))
-        roles[finding.first : finding.first + len(inside)] = bytes([NOTED]) * len(inside)
+    roles = bytearray([UNKNOWN]) * (len(survey.image) // adf.BLOCK)
+    for blocks in survey.ranges():
+        inside = range(blocks.start, min(blocks.stop, len(roles)))
+        roles[blocks.start : blocks.start + len(inside)] = bytes([NOTED]) * len(inside)
     return bytes(roles)
 
 
-def width_of(count):
+def width_of(count: int) -> int:
     """The blocks of a row: a cylinder of a floppy, 22, or 44 of one of high density; of larger volumes 88, 176 and so on."""
     width = CYLINDER
     while count > 4 * width * width:
@@ -32,9 +35,9 @@ def width_of(count):
     return width
 
 
-def lines_of(roles, width):
+def lines_of(roles: bytes, width: int) -> dict[int, str]:
     """For each role the path of its blocks: a line for each run in a row, which is dashed into squares."""
-    found = {}
+    found: dict[int, list[str]] = {}
     for top in range(0, len(roles), width):
         y = top // width * STEP + SIDE / 2
         for run in RUN.finditer(roles[top : top + width]):
@@ -42,13 +45,13 @@ def lines_of(roles, width):
     return {role: "".join(found[role]) for role in sorted(found)}
 
 
-def mark(x, y):
+def mark(x: int, y: int) -> str:
     """A frame round the block of a fault, and a cross over it."""
     frame = f"M{x - 3} {y - 3}h{SIDE + 6}v{SIDE + 6}h-{SIDE + 6}z"
     return f'<path d="{frame}M{x} {y}l{SIDE} {SIDE}M{x + SIDE} {y}l-{SIDE} {SIDE}" fill="none" stroke="{FAULT}" stroke-width="2"/>'
 
 
-def legend(parts, top):
+def legend(parts: Iterable[tuple[str, str]], top: int) -> list[str]:
     """A line for each part: what is drawn, and its text."""
     lines = []
     for i, (drawn, text) in enumerate(parts):
@@ -57,7 +60,7 @@ def legend(parts, top):
     return lines
 
 
-def picture(title, roles, refused=None):
+def picture(title: str, roles: bytes, refused: adf.Refused | None = None) -> str:
     """The picture of these roles, a byte for each block; of a refused image the block of its fault is marked, and says why."""
     width = width_of(len(roles))
     rows, paths = -(-len(roles) // width), lines_of(roles, width)

@@ -1,4 +1,6 @@
-"""Work on all processors, with its answers in order."""
+"""Work on as many processors as memory allows, with its answers in order."""
+
+from __future__ import annotations
 
 import collections
 import concurrent.futures.process
@@ -6,27 +8,64 @@ import multiprocessing
 import os
 import signal
 import threading
+from typing import Callable, Deque, Generator, Sequence, TypeVar
 
 from adf_tools.program import FAILED, stop
 
 AHEAD = 16  # so many pieces for each process are given out before the first of them is done
+MEMORY, GROUP = "/proc/meminfo", "/sys/fs/cgroup"
+Piece = TypeVar("Piece")
+Answer = TypeVar("Answer")
 
 
-def begin_process():
+def begin_process() -> None:
     """A process beside the program: the program alone hears what interrupts both, and when it ends, the process does."""
     signal.signal(signal.SIGINT, signal.SIG_IGN)
     signal.signal(signal.SIGTERM, signal.SIG_DFL)
+    threading.Thread(target=end_with_program, daemon=True).start()
+
+
+def end_with_program() -> None:
     program = multiprocessing.parent_process()
-    threading.Thread(target=lambda: (program.join(), os._exit(FAILED)), daemon=True).start()
+    if program:
+        program.join()
+        os._exit(FAILED)
 
 
-def in_order(work, pieces):
-    """What the work answers of each piece, in their order, done on all processors."""
-    count = min(len(os.sched_getaffinity(0)), len(pieces))
+def number_in(path: str, name: str | None = None) -> int | None:
+    """The number in a file of the system, or the one behind this name there; None if it has none."""
+    try:
+        with open(path, encoding="ascii") as file:
+            for words in map(str.split, file):
+                if name in (None, words[0]):
+                    return int(words[0 if name is None else 1])
+    except (OSError, ValueError, IndexError):
+        pass
+    return None
+
+
+def free_memory() -> int | None:
+    """How many bytes can be had, of the system and of the group that the program is in; None if nothing tells it."""
+    system, most, used = number_in(MEMORY, "MemAvailable:"), number_in(f"{GROUP}/memory.max"), number_in(f"{GROUP}/memory.current")
+    known = [1024 * system] if system is not None else []
+    if most is not None and used is not None:
+        known.append(most - used)
+    return min(known, default=None)
+
+
+def workers(pieces: int, need: int) -> int:
+    """As many processes as there are processors and pieces, and memory if each takes so many bytes; at least one."""
+    free = free_memory()
+    return max(1, min(len(os.sched_getaffinity(0)), pieces, pieces if free is None else free // need))
+
+
+def in_order(work: Callable[[Piece], Answer], pieces: Sequence[Piece], need: int) -> Generator[Answer, None, None]:
+    """What the work answers of each piece, in their order. A process takes so many bytes of memory."""
+    count = workers(len(pieces), need)
     if count < 2:
         yield from map(work, pieces)
         return
-    waiting = collections.deque()
+    waiting: Deque[concurrent.futures.Future[Answer]] = collections.deque()
     with concurrent.futures.ProcessPoolExecutor(count, multiprocessing.get_context("fork"), begin_process) as pool:
         try:
             for piece in pieces:

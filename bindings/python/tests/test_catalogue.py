@@ -1,0 +1,482 @@
+"""Tests of adf-catalogue."""
+
+import fcntl
+import glob
+import gzip
+import html.parser
+import os
+import re
+import shutil
+import signal
+import subprocess
+import sys
+import time
+import unittest.mock
+import zipfile
+
+import adf
+from adf_tools import collection, processes, trees
+from tests.shared import Folder, built, changed, image_of, written
+
+OFS, SMALLEST = image_of(), built("volume ofs 4\n")
+BAD = changed(OFS, 880, 440, 1)
+UNPRIVILEGED = ["setpriv", "--bounding-set=-dac_override,-dac_read_search"]
+
+
+class Page(html.parser.HTMLParser):
+    """The tags, links and ids of a page, and its text."""
+
+    def __init__(self, path):
+        super().__init__()
+        self.path, self.tags, self.ids, self.links = path, [], [], []
+        with open(path, encoding="utf-8") as file:
+            self.text = file.read()
+        self.feed(self.text)
+
+    def handle_starttag(self, tag, attributes):
+        self.tags.append(tag)
+        self.ids += [value for name, value in attributes if name == "id"]
+        self.links += [value for name, value in attributes if name == "href"]
+        for name, value in attributes:
+            assert name not in ("src", "style", "xlink:href") and not name.startswith("on"), (self.path, name)
+            if name == "href":
+                assert os.path.isfile(os.path.join(os.path.dirname(self.path), value.partition("#")[0])), (self.path, value)
+
+
+def rows_of(path):
+    """The lines of a table, each a dictionary."""
+    with open(path, encoding="utf-8") as file:
+        heads, *lines = (line.split("\t") for line in file.read().split("\n")[:-1])
+    assert all(len(line) == len(heads) for line in lines), path
+    return [dict(zip(heads, line)) for line in lines]
+
+
+def pages_of(out):
+    return [Page(path) for path in sorted(glob.glob(f"{out}/images/*.html"))]
+
+
+def trees_of(out):
+    """The bytes of all files in a folder, by their paths."""
+    paths = [os.path.join(path, name) for path, _, names in os.walk(out) for name in names]
+    found = {}
+    for path in paths:
+        with open(path, "rb") as file:
+            found[os.path.relpath(path, out)] = file.read()
+    return found
+
+
+class Catalogues(Folder):
+    def catalogue(self, *words, status=0, told="", **more):
+        """Runs adf-catalogue, which says nothing, or how many images are refused and not read."""
+        ran = self.run_tool("catalogue", *words, **more)
+        said = ran.stderr.decode()
+        self.assertEqual((ran.returncode, ran.stdout), (status, b""), said)
+        self.assertRegex(said, f"^adf-catalogue: .*{told}.*\n$" if status else "^$")
+
+    def verdicts(self, out):
+        return {row["image"]: row["verdict"] for row in rows_of(f"{out}/images.tsv")}
+
+
+class Pages(Catalogues):
+    def test_has_a_page_for_each_image(self):
+        os.makedirs("disks/games")
+        for name, content in (
+            *((b"bad_sum.adf", BAD), (b"a\tb\\c.adf", OFS), ("a\nbü.adf".encode(), OFS), (b"readme.txt", b"no image")),
+            *((b"games/<script>alert(1)<.aDf", b"X" + OFS[1:]), (b"games/boot", SMALLEST)),
+        ):
+            written(b"disks/" + name, content)
+        os.mkfifo("disks/pipe.adf")
+        os.mkfifo("disks/pipe")
+        self.catalogue("disks", "out", "--tsv", status=3, told="out/index.html: of 6 images 2 refused, 1 not read")
+        index, pages = Page("out/index.html"), pages_of("out")
+        self.assertEqual((index.tags.count("script"), index.tags.count("a"), len(pages), index.tags.count("tr")), (1, 6, 5, 7))
+        self.assertEqual(sum(link.endswith("#found") for link in index.links), sum("found" in page.ids for page in pages))
+        self.assertFalse(any("script" in page.tags for page in pages))
+        self.assertTrue(all(page.tags.count("svg") == 1 for page in pages))
+        bad = "block 880: bad sum"
+        self.assertEqual(
+            self.verdicts("out"),
+            {
+                **{"a\\x09b\\x5cc.adf": "ok", "a\\x0abü.adf": "ok", "bad_sum.adf": bad, "games/boot": "ok"},
+                **{"games/<script>alert(1)<.aDf": "block 0: not dos", "pipe.adf": "read fault: not a file"},
+            },
+        )
+        self.assertEqual({row["label"] for row in rows_of("out/images.tsv")}, {"Bücher", ""})
+        states = [(row["path"], row["state"]) for row in rows_of("out/entries.tsv") if row["image"] == "bad_sum.adf"]
+        self.assertEqual(sorted(states), [(path, "sound") for path in ("c", "c/readme", "empty", "large", "none")])
+        (refused,) = (page.text for page in pages if "not dos" in page.text)
+        self.assertIn("does not begin as a volume of this format", refused)
+        self.assertIn("&lt;script&gt;alert(1)&lt;", refused)
+
+    def test_counts_in_plain_words(self):
+        os.mkdir("disks")
+        sound = built("volume ofs 16\ndir 0:0:0 00000000 c\n")
+        written("disks/sound.adf", sound)
+        written("disks/bad.adf", changed(sound, 2, 323, 1))
+        self.catalogue("disks", "out", "--rescue", status=1)
+        bad, good = (page.text for page in pages_of("out"))
+        self.assertIn("1 line; 0 of 1 entry sound", bad)
+        self.assertIn("0 entries left out", bad)
+        self.assertIn("1 directory, 0 files", good)
+        self.assertIn("2 images, 1 sound", Page("out/index.html").text)
+
+    def test_writes_tables_in_the_escape_form(self):
+        os.mkdir("disks")
+        written("disks/ü.adf", built(MANIFEST_OF_LETTERS))
+        self.catalogue("--escape", "--tsv", "disks", "plain")
+        self.catalogue("--tsv", "disks", "lettered")
+        (plain,), (lettered,) = (rows_of(f"{out}/images.tsv") for out in ("plain", "lettered"))
+        self.assertEqual((plain["image"], plain["label"]), ("\\xc3\\xbc.adf", "Gr\\xf6\\xdfe"))
+        self.assertEqual((lettered["image"], lettered["label"]), ("ü.adf", "Größe"))
+        self.assertEqual([rows_of(f"{out}/entries.tsv")[-1]["path"] for out in ("plain", "lettered")], ["B\\xfccher/gr\\xf6\\xdfe", "Bücher/größe"])
+
+    def test_takes_any_text_for_its_filter(self):
+        self.catalogue(".", "out")
+        self.assertIn("try { filter.value = decodeURIComponent(filter.value); } catch { }", Page("out/index.html").text)
+
+    def test_offers_new_volumes(self):
+        os.mkdir("disks")
+        written("disks/bad.adf", BAD)
+        written("disks/zeros.adf", bytes(901120))
+        self.catalogue("--rescue", "disks", "out", status=1)
+        (path,) = glob.glob("out/images/*.adf")
+        with open(path, "rb") as file:
+            self.assertEqual(adf.check(file.read()).files, 3)
+        self.assertTrue(any(f'href="{os.path.basename(path)}" download' in page.text for page in pages_of("out")))
+        self.catalogue("disks", "out", status=1)
+        self.assertEqual(glob.glob("out/images/*.adf"), [])
+
+
+MANIFEST_OF_LETTERS = "volume ofs 1760\nlabel Gr\\xf6\\xdfe\ndir 0:0:0 00000000 B\\xfccher\nfile 0:0:0 00000000 B\\xfccher/gr\\xf6\\xdfe\n"
+
+
+class Bounds(Catalogues):
+    """What one small file can make a catalogue write."""
+
+    def nested(self, depth):
+        names = ("/".join(["d" * 30] * (level + 1)) for level in range(depth))
+        return built(["volume ffs 4000", *(f"dir 0:0:0 00000000 {name}" for name in names)])
+
+    def test_ends_tables_of_long_paths(self):
+        os.mkdir("disks")
+        written("disks/deep.adf", self.nested(1000))
+        self.catalogue("disks", "out")
+        (page,) = pages_of("out")
+        self.assertLess(len(page.text), 10 << 20)
+        (left_out,) = re.findall(r"(\d+) more are left out: <code>adf list &lt; IMAGE</code>", page.text)
+        self.assertEqual(page.tags.count("tr") - 9, 1000 - int(left_out))
+
+    def test_ends_tables_of_findings(self):
+        os.mkdir("disks")
+        image = bytearray(self.nested(1000))
+        for entry in adf.Volume(image).entries:
+            image[512 * entry.header + 323] ^= 1
+        written("disks/deep.adf", image)
+        self.catalogue("disks", "out", "--rescue", status=1)
+        (page,) = pages_of("out")
+        self.assertLess(len(page.text), 30 << 20)
+        self.assertIn("more are left out: <code>adf-survey &lt; IMAGE</code>", page.text)
+        self.assertIn("more are left out: <code>adf-survey --list &lt; IMAGE</code>", page.text)
+
+    def test_says_what_is_not_in_the_table(self):
+        os.mkdir("disks")
+        written("disks/many.adf", OFS)
+        self.run_python("-c", "from adf_tools import catalogue, reader; reader.MOST_LINES = 300; catalogue.main()", "disks", "out", "--tsv")
+        (row,), entries = rows_of("out/images.tsv"), rows_of("out/entries.tsv")
+        self.assertEqual((int(row["unlisted"]) + len(entries), row["verdict"]), (5, "ok"))
+        self.assertGreater(int(row["unlisted"]), 0)
+        self.assertIn(f"the last {row['unlisted']} of the entries", pages_of("out")[0].text)
+
+    def test_leaves_out_the_rest_of_an_archive(self):
+        os.mkdir("disks")
+        with zipfile.ZipFile("disks/many.zip", "w", zipfile.ZIP_DEFLATED) as archive:
+            for number in range(9):
+                archive.writestr(f"{number}.adf", SMALLEST)
+        for limit, read, told in (
+            ("collection.MOST_IMAGES = 4", 4, "5 of 9 images in it are left out"),
+            (f"collection.MOST_UNPACKED = {len(SMALLEST) * 5 - 1}", 5, "4 of 9 images in it are left out"),
+            ("reader.MOST_WRITTEN = 20000", 0, "further images in it are left out"),
+        ):
+            line = f"from adf_tools import catalogue, collection, reader; {limit}; catalogue.main()"
+            ran = self.run_python("-c", line, "disks", "out", "--tsv")
+            self.assertEqual(ran.returncode, 3)
+            verdicts = self.verdicts("out")
+            self.assertIn(told, verdicts.pop("many.zip"))
+            self.assertEqual((set(verdicts.values()), read or len(verdicts)), ({"ok"}, len(verdicts)))
+            self.assertIn(told, Page("out/index.html").text)
+            shutil.rmtree("out")
+
+    def test_goes_on_if_an_image_needs_too_much_memory(self):
+        os.mkdir("disks")
+        written("disks/a.adf", OFS)
+        with open("disks/b.hdf", "wb") as file:
+            file.truncate(500_000_000)
+        self.catalogue("disks", "out", "--tsv", status=3, prefix=["prlimit", "--as=400000000"])
+        self.assertEqual(self.verdicts("out"), {"a.adf": "ok", "b.hdf": "read fault: no memory"})
+
+    def test_has_as_many_workers_as_memory_allows(self):
+        with unittest.mock.patch.object(processes, "free_memory", lambda: 5 << 30), unittest.mock.patch.object(os, "sched_getaffinity", lambda _: range(16)):
+            self.assertEqual([processes.workers(pieces, 1 << 30) for pieces in (0, 3, 99)], [1, 3, 5])
+            self.assertEqual([processes.workers(99, need) for need in (1, 6 << 30)], [16, 1])
+
+    def test_knows_the_memory_of_its_group(self):
+        for name, text in (("memory.max", "3000\n"), ("memory.current", "1000\n"), ("meminfo", "MemTotal: 9 kB\nMemAvailable:  7 kB\n")):
+            written(name, text.encode())
+        with unittest.mock.patch.multiple(processes, MEMORY="meminfo", GROUP="."):
+            self.assertEqual(processes.free_memory(), 2000)
+            written("memory.max", b"max\n")
+            self.assertEqual(processes.free_memory(), 7 * 1024)
+            os.remove("meminfo")
+            self.assertIsNone(processes.free_memory())
+
+
+class Archives(Catalogues):
+    def test_reads_images_in_archives(self):
+        os.mkdir("packed")
+        with zipfile.ZipFile("packed/a.zip", "w", zipfile.ZIP_DEFLATED) as archive:
+            for name in ("../../out.adf", "x/B\xfc.ADF", "x.adf/"):
+                archive.writestr(name, OFS)
+            archive.writestr("lzma.adf", OFS, zipfile.ZIP_LZMA)
+            archive.writestr("readme.txt", OFS)
+        for name, content in (("b.adz", OFS), ("c.adf.gz", OFS), ("d.gz", OFS), ("notes.gz", b"no image"), ("empty.adz", b"")):
+            written(f"packed/{name}", gzip.compress(content))
+        with open("packed/a.zip", "rb") as file:
+            written("packed/cut.zip", file.read()[:-9])
+        written("packed/cut.adf.gz", gzip.compress(OFS)[:-9])
+        with gzip.open("packed/long.adz", "wb", 1) as file:
+            for _ in range(513):
+                file.write(bytes(1 << 20))
+        self.catalogue("packed", "out", "--tsv", status=3)
+        self.assertEqual(
+            [(row["image"], row["bytes"], row["verdict"]) for row in rows_of("out/images.tsv")],
+            [
+                *(("a.zip/../../out.adf", "901120", "ok"), ("a.zip/x/Bü.ADF", "901120", "ok")),
+                *(("a.zip/lzma.adf", "", "read fault: packed by a method that is not read"), ("b.adz", "901120", "ok")),
+                *(("c.adf.gz", "901120", "ok"), ("cut.adf.gz", "", "read fault: damaged archive")),
+                *(("cut.zip", "", "read fault: damaged archive"), ("d.gz", "901120", "ok")),
+                *(("empty.adz", "0", "block 0: bad size"), ("long.adz", "", "block 0: bad size")),
+            ],
+        )
+        self.assertEqual(len(rows_of("out/entries.tsv")), 25)
+
+
+class Folders(Catalogues):
+    """What is below the folder, and what is not."""
+
+    def put_deep(self, name, depth):
+        """Puts an image below folders in folders with this name."""
+        with trees.Place("disks") as place:
+            for _ in range(depth):
+                os.mkdir(name, dir_fd=place.fd)
+                place.go_in(name)
+            with place.create(b"a.adf") as file:
+                file.write(SMALLEST)
+
+    def test_says_why_a_folder_cannot_be_read(self):
+        os.makedirs("disks/closed")
+        written("disks/a.adf", OFS)
+        os.chmod("disks/closed", 0)
+        self.catalogue("disks", "out", "--tsv", status=3, prefix=UNPRIVILEGED if os.getuid() == 0 else [])
+        self.assertEqual(self.verdicts("out"), {"a.adf": "ok", "closed": "read fault: Permission denied"})
+
+    def test_goes_into_deep_folders_as_far_as_paths_go(self):
+        os.mkdir("disks")
+        self.put_deep(b"ddd", 1100)
+        self.catalogue("disks", "out", "--tsv", status=3)
+        (verdict,) = self.verdicts("out").values()
+        self.assertEqual(verdict, "read fault: File name too long")
+        trees.remove("disks")
+
+    def test_reads_files_in_deep_folders(self):
+        os.mkdir("disks")
+        self.put_deep(b"d", 1100)
+        self.catalogue("disks", "out", "--tsv")
+        self.assertEqual(list(self.verdicts("out").values()), ["ok"])
+        trees.remove("disks")
+
+    def test_does_not_list_its_own_volumes(self):
+        os.mkdir("disks")
+        written("disks/bad.adf", BAD)
+        for _ in range(2):
+            self.catalogue("disks", "disks/out", "--tsv", "--rescue", status=1)
+            self.assertEqual(list(self.verdicts("disks/out")), ["bad.adf"])
+        written("disks/out/more.adf", OFS)
+        self.catalogue("disks/out", "disks/out", "--tsv")
+        self.assertEqual(list(self.verdicts("disks/out")), ["more.adf"])
+
+    def test_does_not_list_what_another_run_makes(self):
+        os.makedirs("disks/.adf-x/whole/images")
+        written("disks/.adf-x/whole/images/bad.adf", BAD)
+        self.assertEqual(collection.files_below(b"disks"), [])
+
+    def test_follows_no_links_to_folders(self):
+        os.makedirs("disks/real.adf")
+        written("disks/real.adf/a.adf", OFS)
+        os.symlink("real.adf", "disks/link.adf")
+        os.symlink("nix", "disks/nix.adf")
+        os.symlink("real.adf/a.adf", "disks/b.adf")
+        self.assertEqual(collection.files_below(b"disks"), [b"disks/b.adf", b"disks/nix.adf", b"disks/real.adf/a.adf"])
+
+
+class Again(Catalogues):
+    """What a second run reads, and what it leaves."""
+
+    def setUp(self):
+        super().setUp()
+        os.mkdir("disks")
+        for number in range(12):
+            written(f"disks/{number}.adf", BAD if number in (3, 7) else OFS)
+        with gzip.open("disks/9.adf.gz", "wb") as file:
+            file.write(OFS)
+
+    def agrees(self):
+        """A second run leaves what a first one would."""
+        self.catalogue("disks", "again", "--tsv", status=1)
+        shutil.rmtree("fresh", ignore_errors=True)
+        self.catalogue("disks", "fresh", "--tsv", status=1)
+        again = trees_of("again")
+        own = again.pop("images/own.html", None)
+        self.assertEqual(again, trees_of("fresh"))
+        return own
+
+    def pages(self):
+        """The inodes of pages, by which a page that is written again is known."""
+        return {path: os.stat(path).st_ino for path in glob.glob("again/images/*.html")}
+
+    def read_again(self, *words, status=1):
+        """How many pages the next run writes again."""
+        before = self.pages()
+        self.catalogue("disks", "again", *words, status=status)
+        return sum(before.get(path) != inode for path, inode in self.pages().items())
+
+    def test_reads_what_has_changed_alone(self):
+        self.agrees()
+        self.assertEqual(self.read_again(), 0)
+        written("disks/5.adf", BAD)
+        self.assertEqual(self.read_again(), 1)
+        self.agrees()
+        os.rename("disks/4.adf", "four.adf")
+        self.agrees()
+        written("again/images/own.html", b"own")
+        os.rename("four.adf", "disks/4.adf")
+        self.assertEqual(self.agrees(), b"own")
+        for path in ("again/adf-catalogue.state", "again/entries.tsv"):
+            with open(path, "r+b") as file:
+                file.seek(99)
+                file.write(b"X")
+            self.agrees()
+        os.remove(glob.glob("again/images/1*.html")[0])
+        self.agrees()
+
+    def test_reads_a_floppy_that_was_swapped_under_one_date(self):
+        self.agrees()
+        found = os.stat("disks/5.adf")
+        written("disks/5.adf", BAD)
+        os.utime("disks/5.adf", ns=(found.st_atime_ns, found.st_mtime_ns))
+        self.agrees()
+        written("other.adf", OFS)
+        os.utime("other.adf", ns=(found.st_atime_ns, found.st_mtime_ns))
+        os.replace("other.adf", "disks/5.adf")
+        self.agrees()
+        self.assertEqual(self.verdicts("again")["5.adf"], "ok")
+
+    def test_reads_all_again_if_that_is_wanted(self):
+        self.agrees()
+        self.assertEqual(self.read_again("--fresh"), 13)
+
+    def test_reads_all_again_by_another_library(self):
+        self.agrees()
+        shutil.copy(adf.library_path(), "library.so")
+        with open("library.so", "ab") as file:
+            file.write(b"\0")
+        before = self.pages()
+        self.catalogue("disks", "again", status=1, library=os.path.abspath("library.so"))
+        self.assertFalse(set(before.items()) & set(self.pages().items()))
+
+    def test_keeps_tables_up_to_date(self):
+        self.agrees()
+        written("disks/5.adf", BAD)
+        self.catalogue("disks", "again", status=1)
+        self.assertEqual(self.verdicts("again")["5.adf"], "block 880: bad sum")
+        self.agrees()
+
+    def test_leaves_no_two_runs_in_one_catalogue(self):
+        self.agrees()
+        whole = trees_of("again")
+        held = os.open("again", os.O_RDONLY)
+        fcntl.flock(held, fcntl.LOCK_EX)
+        self.catalogue("disks", "again", status=3, told="again: another run is writing this catalogue")
+        os.close(held)
+        self.assertEqual(trees_of("again"), whole)
+
+    def test_gives_the_same_by_one_processor(self):
+        processor = str(min(os.sched_getaffinity(0)))
+        self.catalogue("disks", "alone", "--tsv", status=1, prefix=["taskset", "-c", processor])
+        self.catalogue("disks", "all", "--tsv", status=1)
+        self.assertEqual(trees_of("alone"), trees_of("all"))
+
+
+class Failures(Catalogues):
+    def setUp(self):
+        super().setUp()
+        os.mkdir("disks")
+        for number in range(40):
+            written(f"disks/{number}.adf", OFS)
+
+    def test_names_what_is_wrong(self):
+        written("file")
+        os.mkdir("there")
+        for folder, out, told in (
+            *(("nix", "out", "nix: No such file or directory"), ("file", "out", "file: Not a directory")),
+            *(("disks", "there", "there: File exists"), ("disks", "nix/out", "nix/out: No such file or directory")),
+        ):
+            self.refused(3, told, "catalogue", folder, out)
+        self.refused(3, "no shared library of adf", "catalogue", "disks", "out", library="nix")
+        self.leaves("disks", "file", "there")
+
+    def test_names_the_file_that_cannot_be_written(self):
+        self.refused(3, "adf-catalogue: out/images/", "catalogue", "disks", "out", prefix=["prlimit", "--fsize=512"])
+        self.leaves("disks")
+
+    def test_leaves_nothing_if_it_is_interrupted(self):
+        process = self.started("catalogue", "disks", "out")
+        while not glob.glob(".adf-*") and process.poll() is None:
+            time.sleep(0.001)
+        process.send_signal(signal.SIGTERM)
+        errors = process.communicate(timeout=60)[1]
+        if process.returncode == 3:
+            self.assertEqual(errors, b"adf-catalogue: interrupted\n")
+            self.leaves("disks")
+        else:
+            self.leaves("disks", "out")
+
+    def test_leaves_a_catalogue_as_it_was(self):
+        self.catalogue("disks", "out", "--tsv")
+        whole = trees_of("out")
+        written("disks/0.adf", BAD)
+        self.refused(3, "adf-catalogue: out/", "catalogue", "disks", "out", prefix=["prlimit", "--fsize=512"])
+        self.assertEqual(trees_of("out"), whole)
+
+
+class Terminals(Catalogues):
+    def on_terminal(self, *words):
+        """What is seen on a terminal."""
+        line = "import pty, sys; pty.spawn(sys.argv[1:])"
+        ran = subprocess.run(
+            [sys.executable, "-c", line, sys.executable, "-m", "adf_tools.catalogue", *words],
+            stdin=subprocess.DEVNULL, stdout=subprocess.PIPE, env=self.python(), timeout=300,
+        )
+        return ran.stdout.decode()
+
+    def test_says_how_far_it_is(self):
+        os.mkdir("disks")
+        for number in range(20):
+            written(f"disks/{number}.adf", OFS)
+        for number in range(2):
+            with zipfile.ZipFile(f"disks/{number}.zip", "w", zipfile.ZIP_DEFLATED) as archive:
+                for disk in range(5):
+                    archive.writestr(f"{disk}.adf", OFS)
+        self.assertRegex(self.on_terminal("disks", "out", "--tsv"), "22 of 22 files, [0-9]+ a second, 0 s left")
+        self.assertEqual(list(self.verdicts("out").values()), ["ok"] * 30)
+        self.catalogue("disks", "again", "--tsv")
+        self.assertEqual(trees_of("out"), trees_of("again"))
