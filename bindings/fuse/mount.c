@@ -16,6 +16,8 @@
 #include <errno.h>
 #include <fcntl.h>
 #include <fuse.h>
+#include <fuse_log.h>
+#include <stdarg.h>
 #include <stddef.h>
 #include <stdio.h>
 #include <stdlib.h>
@@ -27,6 +29,9 @@
 
 enum { NAME_TEXT = 4 * 30 + 1, DAYS_TO_1978 = 2922, LAST_DAY = 2929974, SECONDS = 86400 };
 enum { SOUND = 0, REFUSED = 1, USAGE = 2, FAILED = 3 };
+
+/* fuse_main answers 1 to 3 for words that it does not take; 3 also for a lack of memory, which it tells. */
+enum { NO_SUCH_OPTION = 3 };
 
 /* One byte more than the largest image, so that a longer one is seen to be longer. */
 static const size_t MOST_BYTES = (size_t)512 * 1048576 + 1;
@@ -272,6 +277,13 @@ static const struct adf_partition *choose(const char *name, const char *wanted, 
     return NULL;
 }
 
+/* Whether a file begins as a volume does: then its volume is that of the whole file, whatever tables of a disk are saved in it. */
+static bool begins_as_volume(FILE *file) {
+    char begin[3];
+    rewind(file);
+    return fread(begin, 1, sizeof begin, file) == sizeof begin && memcmp(begin, "DOS", sizeof begin) == 0;
+}
+
 /* Reads the partitions of a disk of this length from the beginning of its file. */
 static bool read_partitions(FILE *file, off_t length, struct adf_partition *rows, struct adf_disk *disk) {
     uint8_t *tables = malloc(MOST_TABLES);
@@ -283,15 +295,18 @@ static bool read_partitions(FILE *file, off_t length, struct adf_partition *rows
     return cause == ADF_ACCEPTED && !ferror(file);
 }
 
-/* Goes to where the volume begins in the file, and tells its most bytes: SOUND, or the status to end with. A file that has no
- * place, such as a pipe, or no rigid disk block is the image of a volume, unless a partition is wanted. */
+/* Goes to where the volume begins in the file, and tells its most bytes: SOUND, or the status to end with. If no partition is
+ * wanted, a file is the image of a volume if it cannot be sought in, as a pipe, begins as a volume, or has no rigid disk block. */
 static int seek_volume(FILE *file, const char *name, const char *wanted, size_t *most) {
     static struct adf_partition rows[MOST_PARTITIONS];
     struct adf_disk disk = {0};
     off_t length = fseeko(file, 0, SEEK_END) == 0 ? ftello(file) : 0;
     if (length == 0 && wanted == NULL)
         return SOUND;
+    bool is_volume = wanted == NULL && begins_as_volume(file);
     rewind(file);
+    if (is_volume)
+        return SOUND;
     if (!read_partitions(file, length, rows, &disk))
         return FAILED;
     rewind(file);
@@ -441,14 +456,26 @@ static bool name_source(const char *image, struct fuse_args *arguments) {
     return is_named;
 }
 
+/* Writes what libfuse says to standard error, in pieces, with the name of the program in place of that of the library. */
+static void say(enum fuse_log_level level, const char *format, va_list values) {
+    static const char LIBRARY[] = "fuse: ";
+    (void)level;
+    if (strncmp(format, LIBRARY, sizeof LIBRARY - 1) == 0) {
+        fputs("adf-mount: ", stderr);
+        format += sizeof LIBRARY - 1;
+    }
+    vfprintf(stderr, format, values);
+}
+
 /* Mounts until the folder is unmounted. The volume never changes, so the host may keep what it was told for a day. */
 static int mount_volume(const struct words *words, struct fuse_args *arguments) {
     if (!name_source(words->image, arguments) ||
         fuse_opt_insert_arg(arguments, 1, "-oentry_timeout=86400,attr_timeout=86400,negative_timeout=86400") != 0 ||
         fuse_opt_add_arg(arguments, "-oro,default_permissions,subtype=adf") != 0)
         return FAILED;
+    fuse_set_log_func(say);
     int answer = fuse_main(arguments->argc, arguments->argv, &OPERATIONS, NULL);
-    return answer == 0 ? SOUND : answer <= 2 ? USAGE : FAILED;
+    return answer == 0 ? SOUND : answer <= NO_SUCH_OPTION ? USAGE : FAILED;
 }
 
 /* Does what the words ask for, and answers the status. */

@@ -1,0 +1,80 @@
+"""Tests of adf-mount's words, and of what it takes for a volume; examples/try-mount tries what it shows."""
+
+import os
+import shlex
+import shutil
+import struct
+import subprocess
+import unittest
+
+import adf
+from tests.shared import TOP, Folder, built, changed, image_of, written
+
+SOURCE = os.path.join(TOP, "bindings", "fuse", "mount.c")
+RIGID_DISK = {0: 0x5244534B, 1: 64, 4: 512, 7: 3, 32: 0, 33: 15}
+DRIVE = {0: 0x50415254, 1: 64, 4: 0xFFFFFFFF, 5: 1, 9: 0x03444830, 32: 16, 33: 128, 35: 1, 36: 1, 37: 16, 41: 1, 42: 1, 48: 0x444F5301}
+
+
+def flags():
+    """What the compiler is told of libfuse, or None."""
+    if not (shutil.which("pkg-config") and shutil.which("cc") and shutil.which("fusermount3") and os.path.exists("/dev/fuse")):
+        return None
+    ran = subprocess.run(["pkg-config", "--cflags", "--libs", "fuse3"], stdout=subprocess.PIPE, stderr=subprocess.DEVNULL)
+    return shlex.split(ran.stdout.decode()) if ran.returncode == 0 and os.path.exists(SOURCE) else None
+
+
+def table(words):
+    """A block of a disk's tables with these words, and its sum in word 2."""
+    block = [0] * 128
+    for place, value in words.items():
+        block[place] = value
+    block[2] = -sum(block) % 2**32
+    return struct.pack(">128I", *block)
+
+
+@unittest.skipUnless(flags(), "needs cc, libfuse 3, fusermount3 and /dev/fuse")
+class Mounts(Folder):
+    def setUp(self):
+        super().setUp()
+        shutil.copy(adf.library_path(), adf.SONAME)
+        line = ["cc", "-std=c11", "-o", "adf-mount", "-I", os.path.join(TOP, "include"), SOURCE, os.path.abspath(adf.SONAME), *flags()]
+        subprocess.run([*line, f"-Wl,-rpath,{os.getcwd()}"], check=True)
+        os.mkdir("seen")
+        self.addCleanup(subprocess.run, ["fusermount3", "-u", "-q", os.path.abspath("seen")], stderr=subprocess.DEVNULL)
+        written("a.adf", image_of())
+
+    def mount(self, *words):
+        """The status, output and errors."""
+        ran = subprocess.run(["./adf-mount", *words], stdout=subprocess.PIPE, stderr=subprocess.PIPE, timeout=60)
+        return ran.returncode, ran.stdout.decode(), ran.stderr.decode()
+
+    def test_takes_a_floppy_with_a_saved_table_for_a_volume(self):
+        # Block 1 becomes the rigid disk block, and block 3, the data of `a`, the block of the only partition.
+        image = bytearray(built(f"volume ffs 1760\nfile 0:0:0 00000000 a\ndata {table(DRIVE).hex()}\n"))
+        image[512:1024] = table(RIGID_DISK)
+        self.assertEqual([(each.name, each.first, each.fault) for each in adf.Disk(image).partitions], [("DH0", 16, "")])
+        written("saved.adf", image)
+        self.assertEqual(self.mount("saved.adf", "seen"), (0, "", ""))
+        self.assertEqual(os.listdir("seen"), ["a"])
+        subprocess.run(["fusermount3", "-u", "seen"], check=True)
+        self.assertEqual(self.mount("saved.adf", "seen", "--partition", "DH0"), (1, "", "adf-mount: saved.adf: block 0: not dos\n"))
+
+    def test_ends_at_2_for_words_that_it_does_not_take(self):
+        for words in (("a.adf", "seen", "-o", "frobnicate"), ("a.adf", "seen", "--frobnicate"), ("a.adf",), (), ("a.adf", "seen", "more"), ("a.adf", "nix")):
+            status, output, errors = self.mount(*words)
+            self.assertEqual((status, output), (2, ""), words)
+            self.assertRegex(errors, "^(usage: adf-mount |adf-mount: )[^\n]*\n$")
+        self.assertEqual(self.mount("a.adf", "seen", "-o", "frobnicate")[2], "adf-mount: unknown option(s): `-o frobnicate'\n")
+
+    def test_names_the_program_in_each_error(self):
+        written("bad.adf", changed(image_of(), 880, 440, 1))
+        for words, status, told in (
+            *((("bad.adf", "seen"), 1, "bad.adf: block 880: bad sum"), (("nix.adf", "seen"), 3, "nix.adf: No such file or directory")),
+            *((("a.adf", "bad.adf"), 3, "bad.adf: Not a directory"), (("seen", "seen"), 3, "seen: Is a directory")),
+        ):
+            self.assertEqual(self.mount(*words), (status, "", f"adf-mount: {told}\n"))
+
+    def test_answers_help_and_version(self):
+        for words, told in ((["--help"], "usage: adf-mount IMAGE FOLDER "), (["--version"], f"adf-mount {adf.__version__}, libfuse ")):
+            status, output, errors = self.mount(*words)
+            self.assertEqual((status, errors, output.startswith(told)), (0, "", True))
