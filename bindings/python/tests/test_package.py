@@ -1,0 +1,91 @@
+"""Tests of the wheel, the sdist and the editable wheel. No network is asked."""
+
+import os
+import shutil
+import subprocess
+import sys
+import tarfile
+import unittest
+import zipfile
+
+import adf
+from tests.shared import HERE, TOP, Folder, image_of, written
+
+SOURCE = os.path.dirname(HERE)
+ARCHIVE = os.path.join(TOP, "crates", "adf_c", "out", "libadf_c.a")
+LIBRARY = adf.load() and adf.library_path()
+
+
+def has_venv():
+    return subprocess.run([sys.executable, "-c", "import venv, ensurepip"], stderr=subprocess.DEVNULL).returncode == 0
+
+
+class Packages(Folder):
+    def setUp(self):
+        super().setUp()
+        ignored = shutil.ignore_patterns("__pycache__", "libadf.so.1")
+        shutil.copytree(SOURCE, "clone/bindings/python", ignore=ignored)
+        os.mkdir("clone/docs")
+        shutil.copy(os.path.join(TOP, "docs", "FAULTS.md"), "clone/docs")
+        self.source = os.path.abspath("clone/bindings/python")
+
+    def built_by(self, hook, source=None, library=""):
+        """The name of what a hook of the backend builds into this folder."""
+        line = f"import backend; print(backend.{hook}({os.getcwd()!r}))"
+        environment = {**os.environ, "ADF_LIBRARY": library, "PYTHONDONTWRITEBYTECODE": "1"}
+        words = [sys.executable, "-c", line]
+        return subprocess.run(words, cwd=source or self.source, env=environment, check=True, stdout=subprocess.PIPE).stdout.decode().strip()
+
+    def test_has_the_library_if_there_is_one(self):
+        for library, tag in (("", "any"), (LIBRARY, "linux_x86_64")):
+            name = self.built_by("build_wheel", library=library)
+            self.assertEqual(name, f"adf-{adf.__version__}-py3-none-{tag}.whl")
+            with zipfile.ZipFile(name) as wheel:
+                names = set(wheel.namelist())
+            self.assertEqual("adf/libadf.so.1" in names, bool(library))
+            self.assertTrue({"adf/__init__.py", "adf/py.typed", "adf_tools/trees.py", "adf_tools/FAULTS.md"} < names)
+            self.assertFalse(any(name.startswith("tests") for name in names))
+
+    def test_builds_the_same_wheel_of_an_sdist(self):
+        name = self.built_by("build_sdist")
+        self.assertEqual(name, f"adf-{adf.__version__}.tar.gz")
+        with tarfile.open(name) as archive:
+            archive.extractall("sdist")
+        top = os.path.abspath(f"sdist/adf-{adf.__version__}")
+        self.assertTrue({"PKG-INFO", "README.md", "backend.py", "pyproject.toml", "tests"} < set(os.listdir(top)))
+        with open(self.built_by("build_wheel"), "rb") as file:
+            wheel = file.read()
+        with open(self.built_by("build_wheel", source=top), "rb") as file:
+            self.assertEqual(file.read(), wheel)
+
+    def test_puts_the_library_beside_an_editable_module(self):
+        with zipfile.ZipFile(self.built_by("build_editable", library=LIBRARY)) as wheel:
+            self.assertEqual(wheel.read("adf.pth").decode(), self.source + "\n")
+        self.assertTrue(os.path.exists(os.path.join(self.source, "adf", "libadf.so.1")))
+
+    @unittest.skipUnless(os.path.exists(ARCHIVE) and shutil.which("rt") and shutil.which("nm"), "needs rt lib in crates/adf_c, and nm")
+    def test_links_a_library_that_shows_its_calls_alone(self):
+        line = "import backend, sys; sys.stdout.buffer.write(backend.library())"
+        environment = {**os.environ, "ADF_LIBRARY": "", "PYTHONDONTWRITEBYTECODE": "1"}
+        words = [sys.executable, "-c", line]
+        written("libadf.so", subprocess.run(words, cwd=SOURCE, env=environment, check=True, stdout=subprocess.PIPE).stdout)
+        shown = subprocess.run(["nm", "-D", "--defined-only", "libadf.so"], check=True, stdout=subprocess.PIPE).stdout.decode().split()[2::3]
+        self.assertTrue(set(adf._CALLS) <= set(shown) and all(name.startswith("adf_") for name in shown), shown)
+
+    @unittest.skipUnless(has_venv(), "needs venv")
+    def test_is_installed_by_pip(self):
+        written("a.adf", image_of())
+        subprocess.run([sys.executable, "-m", "venv", "venv"], check=True)
+        pip = ["venv/bin/pip", "install", "-q", "--no-index", "--force-reinstall", "--disable-pip-version-check"]
+        environment = {"PATH": os.environ["PATH"], "ADF_LIBRARY": LIBRARY}
+        sdist = self.built_by("build_sdist")
+        for what in ([self.source], [sdist], ["-e", self.source]):
+            subprocess.run([*pip, *what], check=True, env=environment)
+            bare = {"PATH": os.path.abspath("venv/bin") + ":/usr/bin:/bin"}
+            line = 'import adf; assert adf.open("a.adf")["c/readme"].read() == b"Hello\\n"; print(adf.__file__)'
+            ran = subprocess.run(["venv/bin/python", "-c", line], env=bare, check=True, stdout=subprocess.PIPE)
+            self.assertEqual(ran.stdout.decode().startswith(self.source), what[0] == "-e")
+            for tool in ("catalogue", "map", "pack", "recipe", "unpack"):
+                subprocess.run([f"venv/bin/adf-{tool}", "--version"], env=bare, check=True, stdout=subprocess.DEVNULL)
+            picture = subprocess.run(["venv/bin/adf-map", "a.adf"], env=bare, check=True, stdout=subprocess.PIPE).stdout
+            self.assertIn(b"</svg>", picture)
