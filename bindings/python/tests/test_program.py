@@ -63,6 +63,16 @@ class Ends(Folder):
             if "adf_tools" in errors or "adf-map" in errors:  # else it is Python's own, before it has found the program
                 self.assertEqual(errors, "adf-map: interrupted\n")
 
+    def test_goes_on_if_interrupts_are_ignored(self):
+        written("a.adf", image_of())
+        for part in range(8):
+            process = self.started("map", "a.adf", prefix=["sh", "-c", "trap '' INT; exec \"$@\"", "sh"])
+            time.sleep(0.02 * part + 0.02)
+            process.send_signal(signal.SIGINT)
+            output, errors = process.communicate(timeout=60)
+            if process.returncode != -signal.SIGINT:  # the shell itself, before its trap
+                self.assertEqual((process.returncode, errors, output[-7:]), (0, b"", b"</svg>\n"))
+
 
 class NewFolders(Folder):
     def test_takes_its_path_when_it_is_whole(self):
