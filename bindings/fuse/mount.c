@@ -456,13 +456,15 @@ static bool name_source(const char *image, struct fuse_args *arguments) {
     return is_named;
 }
 
-/* Writes what libfuse says to standard error, with the name of the program before errors. */
+/* Writes what libfuse says to standard error, in pieces, with the name of the program in place of that of the library. */
 static void say(enum fuse_log_level level, const char *format, va_list values) {
-    static const char PREFIX[] = "fuse: ";
-    bool has_prefix = strncmp(format, PREFIX, sizeof PREFIX - 1) == 0;
-    if (level <= FUSE_LOG_ERR)
+    static const char LIBRARY[] = "fuse: ";
+    (void)level;
+    if (strncmp(format, LIBRARY, sizeof LIBRARY - 1) == 0) {
         fputs("adf-mount: ", stderr);
-    vfprintf(stderr, has_prefix ? format + sizeof PREFIX - 1 : format, values);
+        format += sizeof LIBRARY - 1;
+    }
+    vfprintf(stderr, format, values);
 }
 
 /* Mounts until the folder is unmounted. The volume never changes, so the host may keep what it was told for a day. */

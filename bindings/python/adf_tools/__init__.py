@@ -8,5 +8,7 @@ import _signal  # type: ignore
 import os
 import sys
 
-if sys.argv[0] == "-m" or os.path.basename(sys.argv[0]).startswith("adf-"):
+IS_MODULE = sys.argv[0] == "-m" and any(word.startswith("adf_tools.") for word in getattr(sys, "orig_argv", ()))
+IS_PROGRAM = IS_MODULE or os.path.basename(sys.argv[0]).startswith("adf-")
+if IS_PROGRAM and _signal.getsignal(_signal.SIGINT) == _signal.default_int_handler:
     _signal.signal(_signal.SIGINT, _signal.SIG_DFL)

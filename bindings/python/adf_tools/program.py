@@ -72,8 +72,9 @@ def why(error: BaseException) -> tuple[int, str]:
 def begin(line: argparse.ArgumentParser, work: Callable[[argparse.Namespace], int]) -> NoReturn:
     """Runs a program: does the work that the words ask for, and ends with the status that it returns. An error is one line, and what
     waits for standard output is not written then; python3 -X dev shows where an error comes from that nobody foresaw."""
+    heard = [number for number in INTERRUPTS if signal.getsignal(number) != signal.SIG_IGN]
     try:
-        for number in INTERRUPTS:
+        for number in heard:
             signal.signal(number, signal.default_int_handler)
         status = work(line.parse_args())
         sys.stdout.flush()
@@ -86,7 +87,8 @@ def begin(line: argparse.ArgumentParser, work: Callable[[argparse.Namespace], in
         if text:
             print(f"{line.prog}: {text}", file=sys.stderr, flush=True)
         os._exit(status)
-    signal.signal(signal.SIGINT, signal.SIG_DFL)
+    for number in heard:
+        signal.signal(number, signal.SIG_DFL)
     sys.exit(status)
 
 

@@ -34,7 +34,7 @@ class Place:
 
     def __init__(self, path: str | bytes) -> None:
         self.fd = os.open(path, FOLDER)
-        self._names = [os.fsencode(path)]
+        self._names = [os.fsencode(path).rstrip(b"/")]
         self._above: list[Identity] = []
 
     def __enter__(self) -> Place:
@@ -43,13 +43,18 @@ class Place:
     def __exit__(self, *_error: object) -> None:
         os.close(self.fd)
 
+    @property
+    def path(self) -> bytes:
+        """The path of the folder; it may be longer than the system takes."""
+        return b"/".join(self._names) or b"/"
+
     def path_of(self, name: bytes) -> bytes:
-        """The path of what has this name here; it may be longer than the system takes."""
+        """The path of what has this name here."""
         return b"/".join((*self._names, name))
 
     def names(self) -> list[bytes]:
         """The names of all that is here."""
-        with named(b"/".join(self._names)):
+        with named(self.path):
             return list(map(os.fsencode, os.listdir(self.fd)))
 
     def status(self, name: bytes) -> os.stat_result:
@@ -77,7 +82,7 @@ class Place:
 
     def go_out(self) -> bytes:
         """Goes out of the folder, to where it was gone in, and gives its name. A folder that was moved in the meantime is an error."""
-        with named(b"/".join(self._names)):
+        with named(self.path):
             self._be_in(os.open("..", FOLDER, dir_fd=self.fd))
             if identity(self.fd) != self._above.pop():
                 raise OSError(errno.ESTALE, "The folder was moved")

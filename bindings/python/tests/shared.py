@@ -85,9 +85,9 @@ class Folder(unittest.TestCase):
         line = [*prefix, sys.executable, *words]
         return subprocess.run(line, input=given, stdout=subprocess.PIPE, stderr=subprocess.PIPE, env=self.python(library), timeout=300)
 
-    def started(self, name: str, *words: Any) -> subprocess.Popen[bytes]:
+    def started(self, name: str, *words: Any, prefix: Iterable[str] = ()) -> subprocess.Popen[bytes]:
         """A run of adf-NAME that goes on."""
-        line = [sys.executable, "-m", f"adf_tools.{name}", *words]
+        line = [*prefix, sys.executable, "-m", f"adf_tools.{name}", *words]
         return subprocess.Popen(line, stdin=subprocess.DEVNULL, stdout=subprocess.PIPE, stderr=subprocess.PIPE, env=self.python())
 
     def shell(self, line: str) -> tuple[int, str]:

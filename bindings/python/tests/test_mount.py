@@ -64,6 +64,7 @@ class Mounts(Folder):
             status, output, errors = self.mount(*words)
             self.assertEqual((status, output), (2, ""), words)
             self.assertRegex(errors, "^(usage: adf-mount |adf-mount: )[^\n]*\n$")
+        self.assertEqual(self.mount("a.adf", "seen", "-o", "frobnicate")[2], "adf-mount: unknown option(s): `-o frobnicate'\n")
 
     def test_names_the_program_in_each_error(self):
         written("bad.adf", changed(image_of(), 880, 440, 1))

@@ -12,6 +12,7 @@ import adf
 from tests.shared import HERE, TOP, Folder, image_of, written
 
 SOURCE = os.path.dirname(HERE)
+ARCHIVE = os.path.join(TOP, "crates", "adf_c", "out", "libadf_c.a")
 LIBRARY = adf.load() and adf.library_path()
 
 
@@ -62,12 +63,12 @@ class Packages(Folder):
             self.assertEqual(wheel.read("adf.pth").decode(), self.source + "\n")
         self.assertTrue(os.path.exists(os.path.join(self.source, "adf", "libadf.so.1")))
 
+    @unittest.skipUnless(os.path.exists(ARCHIVE) and shutil.which("rt") and shutil.which("nm"), "needs rt lib in crates/adf_c, and nm")
     def test_links_a_library_that_shows_its_calls_alone(self):
-        archive = os.path.join(os.path.dirname(LIBRARY), "libadf.a")
-        if not os.path.exists(archive) or not shutil.which("nm"):
-            self.skipTest(f"needs {archive} and nm")
-        line = f"import backend, sys; sys.stdout.buffer.write(backend.linked({archive!r}, {archive!r}))"
-        written("libadf.so", subprocess.run([sys.executable, "-c", line], cwd=self.source, check=True, stdout=subprocess.PIPE).stdout)
+        line = "import backend, sys; sys.stdout.buffer.write(backend.library())"
+        environment = {**os.environ, "ADF_LIBRARY": "", "PYTHONDONTWRITEBYTECODE": "1"}
+        words = [sys.executable, "-c", line]
+        written("libadf.so", subprocess.run(words, cwd=SOURCE, env=environment, check=True, stdout=subprocess.PIPE).stdout)
         shown = subprocess.run(["nm", "-D", "--defined-only", "libadf.so"], check=True, stdout=subprocess.PIPE).stdout.decode().split()[2::3]
         self.assertTrue(set(adf._CALLS) <= set(shown) and all(name.startswith("adf_") for name in shown), shown)
 

@@ -7,6 +7,7 @@ import time
 import unittest
 
 import adf
+from adf_tools import trees
 from adf_tools.program import FILL, new_folder, run_lines
 from tests.shared import Folder, image_of, written
 
@@ -62,6 +63,16 @@ class Ends(Folder):
             if "adf_tools" in errors or "adf-map" in errors:  # else it is Python's own, before it has found the program
                 self.assertEqual(errors, "adf-map: interrupted\n")
 
+    def test_goes_on_if_interrupts_are_ignored(self):
+        written("a.adf", image_of())
+        for part in range(8):
+            process = self.started("map", "a.adf", prefix=["sh", "-c", "trap '' INT; exec \"$@\"", "sh"])
+            time.sleep(0.02 * part + 0.02)
+            process.send_signal(signal.SIGINT)
+            output, errors = process.communicate(timeout=60)
+            if process.returncode != -signal.SIGINT:  # the shell itself, before its trap
+                self.assertEqual((process.returncode, errors, output[-7:]), (0, b"", b"</svg>\n"))
+
 
 class NewFolders(Folder):
     def test_takes_its_path_when_it_is_whole(self):
@@ -78,6 +89,37 @@ class NewFolders(Folder):
                     raise OSError(5, "wrong", inside(folder))
             self.assertEqual(raised.exception.filename, told)
             self.leaves()
+
+
+class Places(Folder):
+    def test_know_their_paths(self):
+        os.makedirs("a/b")
+        for top, path in (("a", b"a"), ("a/", b"a"), (os.path.abspath("a"), os.path.abspath("a").encode())):
+            with trees.Place(top) as place:
+                place.go_in(b"b")
+                self.assertEqual((place.path, place.path_of(b"c")), (path + b"/b", path + b"/b/c"))
+                self.assertEqual((place.go_out(), place.path, place.names()), (b"b", path, [b"b"]))
+        with trees.Place("/") as place:
+            self.assertEqual((place.path, place.path_of(b"a")), (b"/", b"/a"))
+
+    def test_say_that_a_folder_was_moved(self):
+        os.makedirs("a/b")
+        with trees.Place("a") as place:
+            place.go_in(b"b")
+            os.rename("a/b", "b")
+            with self.assertRaisesRegex(OSError, "The folder was moved"):
+                place.go_out()
+
+    def test_follow_no_links(self):
+        os.makedirs("a/b")
+        os.symlink("b", "a/c")
+        with trees.Place("a") as place:
+            for call in (place.go_in, place.open):
+                with self.assertRaises(OSError) as raised:
+                    call(b"c")
+                self.assertEqual(raised.exception.filename, b"a/c")
+        trees.remove("a")
+        self.leaves()
 
 
 class Lines(unittest.TestCase):
