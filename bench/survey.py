@@ -264,13 +264,23 @@ class Survey:
     def path(self, n):
         return [] if n == 0 else self.path(self.nodes[n][2]) + [self.text(self.block_of(n), 432)[:79]]
 
+    def says_data_of(self, n, k, b):
+        """The block says of itself that it is OFS data block k of file n."""
+        return unpack_from(">3I", self.image, 512 * b) == (8, self.block_of(n), k) and self.sealed(b)
+
+    def is_mistyped(self):
+        """The type is of FFS, but of the data blocks that are found more than half say that they are OFS ones."""
+        says = [self.says_data_of(*role[2:], b) for b, role in self.owner.items() if role[1] == "data"]
+        return bool(self.owner) and self.offset == 0 and sum(says) > len(says) - sum(says)
+
     def is_sound(self, n):
-        """Nothing of the entry is reported, no header in it was skipped, and no other word names an FFS data block of it, which does
-        not say whose it is."""
+        """Nothing of the entry is reported, no header in it was skipped, and no FFS data block of it, which has no form, is named by
+        another word too or says that it is an OFS one."""
         parts = {key: b for key, b in self.walk.items() if key == self.nodes[n][0] or key[0] == n + 1 and key[1] < 2}
         reported = {role[0] for role, _, _ in self.findings if role}
         headed = any(key[0] == n + 1 and (key[1] < 2 or key in self.skipped) for key in reported)
-        return not headed and not reported & set(parts) and all(self.offset or key[1] != 1 or self.names[b] == 1 for key, b in parts.items())
+        doubted = [b for key, b in parts.items() if key[1] == 1 and not self.offset and (self.names[b] > 1 or self.says_data_of(n, key[2], b))]
+        return not headed and not reported & set(parts) and not doubted
 
     def found(self):
         """A line for each run of findings with one cause, that concern the same and with one owner, at one block or at neighbouring

@@ -62,6 +62,7 @@ sound_is_whole image w fs n (s, type) = (
     datas = (λ k. less_unreported fs (Data n k) (s.datas k));
     chains = (λ f m t j i e. s.chains f m t j (grave_is fs f i) e);
     alone = s.alone;
+    own = s.own;
   },
   type,
 )

@@ -1,5 +1,5 @@
 -- The marks of a finished course are those of its sound entries.
-use Rattle.std.specs.Prelude.{Bool, true, false, cond, not, ◌==◌, ◌&&◌, nat_lt, map, Option, Some, None, slice_index_or, ◌↔◌}
+use Rattle.std.specs.Prelude.{Bool, true, false, cond, not, ◌==◌, ◌&&◌, ◌||◌, nat_lt, map, Option, Some, None, slice_index, slice_index_or, ◌↔◌}
 use Rattle.std.proofs.Common.{◌≡◌, ℕ, suc, List, [], ◌∷◌, ◌++◌, length, ◌⊎◌, inl, inr, ◌<◌, ◌≤◌, refl, sym, ap, subst, ◌∙◌, arith}
 use Rattle.std.specs.Option.{option_map}
 use Rattle.std.proofs.lemmas.Bool.{and_parts, cases_Bool, eq-eqb, eqb-true, not-true, or_cases, or_parts}
@@ -23,9 +23,9 @@ use Rattle.adf_findings.specs.declared.concern.Concern.TheVariants.{Entry, Withi
 use Rattle.adf_findings.specs.Concerned.{node_of}
 use Rattle.adf_findings.specs.Forms.{Tells}
 use Rattle.adf_findings.specs.Found.{Stands, at_key, data_blocks_of, owns, with_data}
-use Rattle.adf_findings.specs.Marks.{blamed, is_blamed, is_clear, is_doubtful, is_node, is_sharing, sharing, is_header}
+use Rattle.adf_findings.specs.Marks.{blamed, doubted, is_blamed, is_clear, is_doubted, is_doubtful, is_node, is_header}
 use Rattle.adf_findings.specs.Parts.{key_of, part_role, finding_value}
-use Rattle.adf_findings.specs.Sound.{IsSound, IsUnreported}
+use Rattle.adf_findings.specs.Sound.{IsSound, IsUnreported, says_data_of}
 use Rattle.adf_findings.specs.Survey.{BitsTell, BootTells, Course, FindingValue, IsCourse, IsDone, IsNext, RootTells, UnreadTells, finding}
 use Rattle.adf_findings.specs.Survey.BitsTell.{agrees, differs, ends}
 use Rattle.adf_findings.specs.Survey.IsCourse.{start, step}
@@ -242,52 +242,72 @@ not_blamed f [] m x e h b = h
 not_blamed f (y ∷ xs) m x e (inl z) b = grind (arith, common_steps, node_blamed, node_yes)
 not_blamed f (y ∷ xs) m x e (inr h) b = not_blamed f xs m x (or_parts (is_node (node_blamed f y.part) m) (is_blamed f xs m) e).1 h b
 
-sharing_by : (avoided : List Bool) (ds : List DataBlock) (m : ℕ) → is_sharing avoided ds m ≡ true
-    → (d : DataBlock) × In ds d × (sharing avoided d ≡ Some m)
-sharing_by avoided [] m e = cc
-sharing_by avoided (d ∷ ds) m e = elim (or_cases (is_node (sharing avoided d) m) (is_sharing avoided ds m) e) [
-  | inl t ↦ (d, inl refl, node_is (sharing avoided d) m t)
-  | inr n ↦ let y = sharing_by avoided ds m n in (y.0, inr y.1, y.2)
+doubted_by : (image : List ℕ) (f : Found) (ds : List DataBlock) (m : ℕ) → is_doubted image f ds m ≡ true
+    → (d : DataBlock) × In ds d × (doubted image f d ≡ Some m)
+doubted_by image f [] m e = cc
+doubted_by image f (d ∷ ds) m e = elim (or_cases (is_node (doubted image f d) m) (is_doubted image f ds m) e) [
+  | inl t ↦ (d, inl refl, node_is (doubted image f d) m t)
+  | inr n ↦ let y = doubted_by image f ds m n in (y.0, inr y.1, y.2)
 ]
 
-not_sharing : (avoided : List Bool) (ds : List DataBlock) (m : ℕ) (d : DataBlock) → is_sharing avoided ds m ≡ false → In ds d
-    → sharing avoided d ≡ Some m → ⊥
-not_sharing avoided [] m d e h s = h
-not_sharing avoided (x ∷ ds) m d e (inl z) s = grind (arith, common_steps, node_yes)
-not_sharing avoided (x ∷ ds) m d e (inr h) s = not_sharing avoided ds m d (or_parts (is_node (sharing avoided x) m) (is_sharing avoided ds m) e).1 h s
+not_doubted : (image : List ℕ) (f : Found) (ds : List DataBlock) (m : ℕ) (d : DataBlock) → is_doubted image f ds m ≡ false → In ds d
+    → doubted image f d ≡ Some m → ⊥
+not_doubted image f [] m d e h s = h
+not_doubted image f (x ∷ ds) m d e (inl z) s = grind (arith, common_steps, node_yes)
+not_doubted image f (x ∷ ds) m d e (inr h) s =
+    not_doubted image f ds m d (or_parts (is_node (doubted image f x) m) (is_doubted image f ds m) e).1 h s
 
--- what makes a file a sharing one
-sharing_is : (avoided : List Bool) (d : DataBlock) (m : ℕ) → sharing avoided d ≡ Some m
-    → (d.node ≡ m) × (slice_index_or avoided d.block false ≡ true)
-sharing_is avoided d m e = grind (arith, common_steps)
+-- what makes a file a doubted one
+abbrev said_of : List ℕ → Found → DataBlock → Bool
+said_of image f d = says_data_of image (slice_index f.nodes.items d.node) d.number d.block
+
+doubted_is : (image : List ℕ) (f : Found) (d : DataBlock) (m : ℕ) → doubted image f d ≡ Some m
+    → (d.node ≡ m) × ((slice_index_or f.avoided.items d.block false ≡ true) ⊎ (said_of image f d ≡ true))
+doubted_is image f d m e = go (slice_index_or f.avoided.items d.block false) (said_of image f d) refl refl e
+  where
+    go : (p q : Bool) → slice_index_or f.avoided.items d.block false ≡ p → said_of image f d ≡ q → cond (p || q) (Some d.node) None ≡ Some m
+        → (d.node ≡ m) × ((slice_index_or f.avoided.items d.block false ≡ true) ⊎ (said_of image f d ≡ true))
+    go true q a b e = (cc, inl a)
+    go false true a b e = (cc, inr b)
+    go false false a b e = cc
+
+-- and each of the two does
+doubted_yes : (image : List ℕ) (f : Found) (d : DataBlock) → (slice_index_or f.avoided.items d.block false ≡ true) ⊎ (said_of image f d ≡ true)
+    → doubted image f d ≡ Some d.node
+doubted_yes image f d (inl e) = ap (λ t. cond (t || said_of image f d) (Some d.node) None) e
+doubted_yes image f d (inr e) = go (slice_index_or f.avoided.items d.block false)
+  where
+    go : (p : Bool) → cond (p || said_of image f d) (Some d.node) None ≡ Some d.node
+    go true = refl
+    go false = ap (λ t. cond t (Some d.node) None) e
 
 in_with : (r : Role) (b : ℕ) (ds : List DataBlock) (d : DataBlock) → In ds d → In (with_data r b ds) d
-in_with (Data n k) b ds d h = in_left ds (record { node = n; block = b } ∷ []) d h
+in_with (Data n k) b ds d h = in_left ds (record { node = n; number = k; block = b } ∷ []) d h
 in_with _ b ds d h = h
 
 with_cases : (r : Role) (b : ℕ) (ds : List DataBlock) (d : DataBlock) → In (with_data r b ds) d
-    → In ds d ⊎ ((k : ℕ) × (r ≡ Data d.node k) × (b ≡ d.block))
-with_cases (Data n k) b ds d h = elim (in_cases ds (record { node = n; block = b } ∷ []) d h) [
+    → In ds d ⊎ ((r ≡ Data d.node d.number) × (b ≡ d.block))
+with_cases (Data n k) b ds d h = elim (in_cases ds (record { node = n; number = k; block = b } ∷ []) d h) [
   | inl g ↦ inl g
   | inr g ↦ elim g [
-    | inl e ↦ inr (k, ap (λ (d : DataBlock). Data d.node k) e, ap (λ (d : DataBlock). d.block) e)
+    | inl e ↦ inr (ap (λ (d : DataBlock). Data d.node d.number) e, ap (λ (d : DataBlock). d.block) e)
     | inr e ↦ absurd e
   ]
 ]
 with_cases _ b ds d h = inl h
 
 -- the data blocks that are kept are those of the walk
-data_has : (w : List (Role × ℕ)) (d : DataBlock) → In (data_blocks_of w) d → (k : ℕ) × Has w (Data d.node k) d.block
+data_has : (w : List (Role × ℕ)) (d : DataBlock) → In (data_blocks_of w) d → Has w (Data d.node d.number) d.block
 data_has [] d h = absurd h
 data_has (x ∷ w) d h = elim (with_cases x.0 x.1 (data_blocks_of w) d h) [
-  | inl g ↦ let y = data_has w d g in (y.0, inr y.1)
-  | inr y ↦ (y.0, inl (y.1, y.2))
+  | inl g ↦ inr (data_has w d g)
+  | inr y ↦ inl y
 ]
 
-has_data : (w : List (Role × ℕ)) (n k b : ℕ) → Has w (Data n k) b → In (data_blocks_of w) (record { node = n; block = b })
+has_data : (w : List (Role × ℕ)) (n k b : ℕ) → Has w (Data n k) b → In (data_blocks_of w) (record { node = n; number = k; block = b })
 has_data [] n k b h = absurd h
 has_data (x ∷ w) n k b (inl e) = grind (arith, common_steps, in_right)
-has_data (x ∷ w) n k b (inr h) = in_with x.0 x.1 (data_blocks_of w) (record { node = n; block = b }) (has_data w n k b h)
+has_data (x ∷ w) n k b (inr h) = in_with x.0 x.1 (data_blocks_of w) (record { node = n; number = k; block = b }) (has_data w n k b h)
 
 pub in_values : (xs : List Finding) (x : Finding) → In xs x → In (map finding_value xs) (finding_value x)
 in_values [] x h = h
@@ -378,25 +398,33 @@ module _ (image : List ℕ) (f : Found) {s : Course} (v : IsCourse image s) (don
     | inr e ↦ e
   ]
 
-  not_shared : (m h : ℕ) → kind_of image ≡ Ffs → IsSound image s.walk all m h → is_sharing f.avoided.items f.datas.items m ≡ false
-  not_shared m h ffs sound = elim (cases_Bool (is_sharing f.avoided.items f.datas.items m)) [
+  -- no data block of a sound file is doubted
+  undoubted : (m h : ℕ) → kind_of image ≡ Ffs → IsSound image s.walk all m h → is_doubted image f f.datas.items m ≡ false
+  undoubted m h ffs sound = elim (cases_Bool (is_doubted image f f.datas.items m)) [
     | inl t ↦
-        let x = sharing_by f.avoided.items f.datas.items m t in
-        let y = sharing_is f.avoided.items x.0 m x.2 in
-        let d = data_has s.walk x.0 (subst (λ ds. In ds x.0) st.datas x.1) in
+        let x = doubted_by image f f.datas.items m t in
+        let y = doubted_is image f x.0 m x.2 in
+        let k : ℕ = x.0.number in
         let b : ℕ = x.0.block in
-        let has : Has s.walk (Data m d.0) b = subst (λ n. Has s.walk (Data n d.0) b) y.0 d.1 in
-        let over : owns s.skipped b ≡ true = sym (st.avoided.1 b (data_inside image v m d.0 b has)) ∙ y.1 in
-        absurd (not_alone image v done m d.0 b has over (sound.alone ffs d.0 b has))
+        let has : Has s.walk (Data m k) b =
+        subst (λ n. Has s.walk (Data n k) b) y.0 (data_has s.walk x.0 (subst (λ ds. In ds x.0) st.datas x.1)) in
+        elim y.1 [
+          | inl over ↦
+              absurd (not_alone image v done m k b has (sym (st.avoided.1 b (data_inside image v m k b has)) ∙ over) (sound.alone ffs k b has))
+          | inr said ↦
+              let head : slice_index f.nodes.items x.0.node ≡ h =
+              ap (slice_index f.nodes.items) y.0 ∙ (st.node m ∙ head_block image (gathered image v) sound.header) in
+              let clash : false ≡ true = sym (sound.own ffs k b has) ∙ (ap (λ h. says_data_of image h k b) (sym head) ∙ said) in cc
+        ]
     | inr e ↦ e
   ]
 
-  not_doubtful : (m h : ℕ) → IsSound image s.walk all m h → is_doubtful (kind_of image) f m ≡ false
+  not_doubtful : (m h : ℕ) → IsSound image s.walk all m h → is_doubtful (kind_of image) image f m ≡ false
   not_doubtful m h sound = go (kind_of image) refl
     where
-      go : (k : Kind) → kind_of image ≡ k → is_doubtful k f m ≡ false
+      go : (k : Kind) → kind_of image ≡ k → is_doubtful k image f m ≡ false
       go Ofs e = refl
-      go Ffs e = not_shared m h e sound
+      go Ffs e = undoubted m h e sound
 
   -- no finding of a part speaks against the entry
   unspoken : (m : ℕ) → is_blamed f f.findings.items m ≡ false → (g : FindingValue) (q : Role) → In all g → g.part ≡ Some q
@@ -424,21 +452,32 @@ module _ (image : List ℕ) (f : Found) {s : Course} (v : IsCourse image s) (don
         ap (node_blamed f) (head_part o q m t j z) ∙ ap (λ t. option_map node_of (Some (cond t (Entry q) (Within m)))) none))
   ]
 
-  alone_clear : (m : ℕ) → is_doubtful (kind_of image) f m ≡ false → kind_of image ≡ Ffs → (k c : ℕ) → Has s.walk (Data m k) c
+  -- nothing speaks against a data block of an entry that is not doubtful
+  data_clear : (m : ℕ) → is_doubtful (kind_of image) image f m ≡ false → kind_of image ≡ Ffs → (k c : ℕ) → Has s.walk (Data m k) c
+      → (slice_index_or f.avoided.items c false ≡ true) ⊎ (says_data_of image (slice_index f.nodes.items m) k c ≡ true) → ⊥
+  data_clear m e ffs k c has doubt =
+      let none : is_doubted image f f.datas.items m ≡ false = subst (λ k. is_doubtful k image f m ≡ false) ffs e in
+      let d : DataBlock = record { node = m; number = k; block = c } in
+      let i : In f.datas.items d = subst (λ ds. In ds d) (sym st.datas) (has_data s.walk m k c has) in
+      not_doubted image f f.datas.items m d none i (doubted_yes image f d doubt)
+
+  alone_clear : (m : ℕ) → is_doubtful (kind_of image) image f m ≡ false → kind_of image ≡ Ffs → (k c : ℕ) → Has s.walk (Data m k) c
       → (q : Role) (a i : ℕ) → Asks image s.walk q a i → word_in image a i ≡ c → Same q (Data m k)
   alone_clear m e ffs k c has =
-      let none : is_sharing f.avoided.items f.datas.items m ≡ false = subst (λ k. is_doubtful k f m ≡ false) ffs e in
-      let d : DataBlock = record { node = m; block = c } in
-      let i : In f.datas.items d = subst (λ ds. In ds d) (sym st.datas) (has_data s.walk m k c has) in
       let free : owns s.skipped c ≡ false = elim (cases_Bool (owns s.skipped c)) [
-        | inl t ↦
-            absurd (not_sharing f.avoided.items f.datas.items m d none i
-            (ap (λ t. cond t (Some m) None) (st.avoided.1 c (data_inside image v m k c has) ∙ t)))
+        | inl t ↦ absurd (data_clear m e ffs k c has (inl (st.avoided.1 c (data_inside image v m k c has) ∙ t)))
         | inr t ↦ t
       ] in
       is_alone image v done m k c has free
 
-  clear_sound : (m : ℕ) → 1 ≤ m → m ≤ heads s.walk → is_blamed f f.findings.items m ≡ false → is_doubtful (kind_of image) f m ≡ false
+  own_clear : (m : ℕ) → is_doubtful (kind_of image) image f m ≡ false → kind_of image ≡ Ffs → (k c : ℕ) → Has s.walk (Data m k) c
+      → says_data_of image (node_block s.walk m) k c ≡ false
+  own_clear m e ffs k c has = elim (cases_Bool (says_data_of image (node_block s.walk m) k c)) [
+    | inl t ↦ absurd (data_clear m e ffs k c has (inr (ap (λ h. says_data_of image h k c) (st.node m) ∙ t)))
+    | inr t ↦ t
+  ]
+
+  clear_sound : (m : ℕ) → 1 ≤ m → m ≤ heads s.walk → is_blamed f f.findings.items m ≡ false → is_doubtful (kind_of image) image f m ≡ false
       → IsSound image s.walk all m (node_block s.walk m)
   clear_sound m lo hi clear free =
       let x = has_number image (gathered image v) m lo hi in
@@ -451,17 +490,18 @@ module _ (image : List ℕ) (f : Found) {s : Course} (v : IsCourse image s) (don
         datas = (λ k g q i is same. unspoken m clear g q i is (λ o z. ap (node_blamed f) (data_part o m k (z ∙ ap Some (data_of q m k same)))));
         chains = chains_clear m clear;
         alone = alone_clear m free;
+        own = own_clear m free;
       }
 
   -- the nodes that nothing is said against are the sound entries
   pub clear_is_sound : (m : ℕ) → 1 ≤ m → (is_clear image f m ≡ true) ↔ IsSound image s.walk all m (node_block s.walk m)
   clear_is_sound m lo = (
     (λ t.
-        let x = and_parts (nat_lt m (length f.nodes.items)) (not (is_blamed f f.findings.items m) && not (is_doubtful (kind_of image) f m)) t in
-        let y = and_parts (not (is_blamed f f.findings.items m)) (not (is_doubtful (kind_of image) f m)) x.1 in
+        let x = and_parts (nat_lt m (length f.nodes.items)) (not (is_blamed f f.findings.items m) && not (is_doubtful (kind_of image) image f m)) t in
+        let y = and_parts (not (is_blamed f f.findings.items m)) (not (is_doubtful (kind_of image) image f m)) x.1 in
         let count : length f.nodes.items ≡ suc (heads s.walk) = st.count in
         let lt : m < length f.nodes.items = (let z = x.0 in grind (arith, nat_tests)) in
-        clear_sound m lo (omega arith) (not-true (is_blamed f f.findings.items m) y.0) (not-true (is_doubtful (kind_of image) f m) y.1)),
+        clear_sound m lo (omega arith) (not-true (is_blamed f f.findings.items m) y.0) (not-true (is_doubtful (kind_of image) image f m) y.1)),
     (λ sound.
         let few = number_of image (gathered image v) sound.header in
         let count : length f.nodes.items ≡ suc (heads s.walk) = st.count in

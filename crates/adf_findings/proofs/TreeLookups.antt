@@ -25,6 +25,7 @@ use Rattle.adf_volume.proofs.WalkMembers.{entries_length, entry_has}
 use Rattle.adf_volume.proofs.Walks.{file_is, number_of, numbered as has_number}
 use Rattle.adf_volume.proofs.WholeWalks.{file_at}
 use Rattle.adf_findings.specs.Files.{IsSoundFile, file_content, file_in}
+use Rattle.adf_findings.specs.Sound.{IsOfItsKind}
 use Rattle.adf_findings.specs.Lookup.{IsFirstChild, IsNamedChild, LeadsTo}
 use Rattle.adf_findings.specs.Survey.{FindingValue, IsSurvey}
 use Rattle.adf_findings.proofs.AllSound.{all_sound}
@@ -103,13 +104,13 @@ module _ (image : List ℕ) (w : List (Role × ℕ)) (v : IsWalk image w) (tree 
         ap (λ t. cond (t == ST_DIR) Dir (File (content image (kind_of image) (node_block w n) (datas_in w n)))) sound.1,
       )
 
-  pub file_sound : (fs : List FindingValue) → IsSurvey image w fs → fs ≡ [] → IsWhole image w → (n : ℕ) (e : Entry) (bytes : List ℕ)
+  pub file_sound : (fs : List FindingValue) → IsSurvey image w fs → fs ≡ [] → IsOfItsKind image w → IsWhole image w → (n : ℕ) (e : Entry) (bytes : List ℕ)
       → entry entries n ≡ Some e → e.body ≡ File bytes → IsSoundFile image w fs n × (file_content (file_in image w n) ≡ bytes)
-  file_sound fs survey none whole n e bytes at body =
+  file_sound fs survey none own whole n e bytes at body =
       let x = file_at image w v whole n e bytes ((entry_is_at (tree_in image w) n e).1 at) body in
       let here : node_block w n ≡ x.0 = file_is image w n x.0 v x.1 in (
         (
-          all_sound image w fs n (node_block w n) survey none (subst (HeadAt w n) (sym here) x.1.header),
+          all_sound image w fs n (node_block w n) survey none own (subst (HeadAt w n) (sym here) x.1.header),
           subst (λ h. word_in image h SECONDARY_TYPE ≡ ST_FILE) (sym here) x.1.type,
         ),
         ap (λ h. content image (kind_of image) h (datas_in w n)) here ∙ sym x.2,
@@ -135,10 +136,10 @@ module _ (image : List ℕ) (t : Tree) (l : Layout) (w : List (Role × ℕ)) (fs
   pub paths_as_in_tree : (path : List (List ℕ)) (n : ℕ) → LeadsTo image w 0 path n ↔ (find t.entries path ≡ Some n)
   paths_as_in_tree path n = rw (← same) (paths_lead image w (shown image clean).1 made.tree plain path n)
 
-  pub files_as_in_tree : (n : ℕ) (e : Entry) (bytes : List ℕ) → entry t.entries n ≡ Some e → e.body ≡ File bytes
+  pub files_as_in_tree : IsOfItsKind image w → (n : ℕ) (e : Entry) (bytes : List ℕ) → entry t.entries n ≡ Some e → e.body ≡ File bytes
       → IsSoundFile image w fs n × (file_content (file_in image w n) ≡ bytes)
-  files_as_in_tree n e bytes at body =
-      file_sound image w (shown image clean).1 made.tree plain fs survey none (shown image clean).2 n e bytes
+  files_as_in_tree own n e bytes at body =
+      file_sound image w (shown image clean).1 made.tree plain fs survey none own (shown image clean).2 n e bytes
       (subst (λ (t : Tree). entry t.entries n ≡ Some e) (sym same) at) body
 
   pub entries_as_in_tree : (n : ℕ) → IsSoundFile image w fs n

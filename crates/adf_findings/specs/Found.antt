@@ -44,7 +44,7 @@ IsLookedUp _ = Unit {0}
 
 -- the data blocks, with one more if the role is one
 abbrev pub with_data : Role → ℕ → List DataBlock → List DataBlock
-with_data (Data n k) b ds = ds ++ record { node = n; block = b } ∷ []
+with_data (Data n k) b ds = ds ++ record { node = n; number = k; block = b } ∷ []
 with_data _ b ds = ds
 
 -- the data blocks of a walk, in order

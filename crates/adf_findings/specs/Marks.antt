@@ -16,6 +16,7 @@ use Rattle.adf_findings.specs.declared.found.Found.{Found}
 use Rattle.adf_findings.specs.declared.concern.Concern.{Concern}
 use Rattle.adf_findings.specs.declared.concern.Concern.TheVariants.{Entry, Within}
 use Rattle.adf_findings.specs.Concerned.{node_of}
+use Rattle.adf_findings.specs.Sound.{says_data_of}
 
 -- whether a position is this one
 abbrev pub is_place : Option ChainPlace → ℕ → ℕ → Bool
@@ -43,19 +44,20 @@ abbrev pub is_blamed : Found → List Finding → ℕ → Bool
 is_blamed f [] m = false
 is_blamed f (x ∷ xs) m = is_node (option_map node_of (blamed f x.part)) m || is_blamed f xs m
 
--- the file of a data block, if the block was also skipped
-abbrev pub sharing : List Bool → DataBlock → Option ℕ
-sharing avoided d = cond (slice_index_or avoided d.block false) (Some d.node) None
+-- the file of a data block, if the block was also skipped, or says that it is an OFS one
+abbrev pub doubted : List ℕ → Found → DataBlock → Option ℕ
+doubted image f d =
+    cond (slice_index_or f.avoided.items d.block false || says_data_of image (slice_index f.nodes.items d.node) d.number d.block) (Some d.node) None
 
--- whether a data block of the file was also skipped
-abbrev pub is_sharing : List Bool → List DataBlock → ℕ → Bool
-is_sharing avoided [] m = false
-is_sharing avoided (d ∷ ds) m = is_node (sharing avoided d) m || is_sharing avoided ds m
+-- whether that is so of a data block of the file
+abbrev pub is_doubted : List ℕ → Found → List DataBlock → ℕ → Bool
+is_doubted image f [] m = false
+is_doubted image f (d ∷ ds) m = is_node (doubted image f d) m || is_doubted image f ds m
 
 -- whether that makes the file unsound: only FFS, as an OFS data block identifies its file
-abbrev pub is_doubtful : Kind → Found → ℕ → Bool
-is_doubtful Ofs f m = false
-is_doubtful Ffs f m = is_sharing f.avoided.items f.datas.items m
+abbrev pub is_doubtful : Kind → List ℕ → Found → ℕ → Bool
+is_doubtful Ofs image f m = false
+is_doubtful Ffs image f m = is_doubted image f f.datas.items m
 
 -- whether the node has a mark
 abbrev pub has_mark : List Bool → ℕ → Bool
@@ -64,4 +66,4 @@ has_mark marks m = slice_index_or marks m false
 -- whether the node exists and no finding concerns it
 abbrev pub is_clear : List ℕ → Found → ℕ → Bool
 is_clear image f m =
-    nat_lt m (length f.nodes.items) && (not (is_blamed f f.findings.items m) && not (is_doubtful (kind_of image) f m))
+    nat_lt m (length f.nodes.items) && (not (is_blamed f f.findings.items m) && not (is_doubtful (kind_of image) image f m))

@@ -27,10 +27,11 @@ use adf_volume::count_of;
 use std::alloc::Global;
 use std::collections::BTreeMap;
 
-/// A data block that is taken: the node of its file, and its block.
+/// A data block that is taken: the node of its file, its number in the file, from 1, and its block.
 #[derive(Clone, Copy, PartialEq, Eq, Drop)]
 pub struct DataBlock {
     pub node: u32,
+    pub number: u32,
     pub block: u32,
 }
 
@@ -219,8 +220,13 @@ impl Found {
             ≡ record self.old { taken = self.new.taken; datas = self.new.datas }) }
     {
         match part {
-            Part::Data(node, _) => {
-                if self.datas.push(DataBlock { node, block: b }).is_err() {
+            Part::Data(node, number) => {
+                let data_block = DataBlock {
+                    node,
+                    number,
+                    block: b,
+                };
+                if self.datas.push(data_block).is_err() {
                     return Err(NoMemory);
                 }
                 Ok(())

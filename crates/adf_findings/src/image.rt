@@ -5,9 +5,11 @@ ghost use Rattle.adf_base.specs.Words.{block};
 ghost use Rattle.adf_blocks.specs.Sizes.{blocks, is_allowed};
 ghost use Rattle.adf_volume.specs.Demands.{IsSize};
 ghost use Rattle.adf_volume.specs.Image.{kind_of, letters_of, root_of, word_in};
+ghost use Rattle.adf_findings.specs.Sound.{says_data_of};
 ghost use Rattle.adf_findings.specs.Start.{IsSized};
 
 use adf_base::{BLOCK_LEN, Block, Letters};
+use adf_blocks::{DATA_HEAD, DATA_NUMBER, T_DATA, TYPE};
 use adf_tree::Kind;
 use adf_volume::letters_in;
 use std::marker::Model;
@@ -117,6 +119,22 @@ impl<'a> Image<'a> {
         match Block::at(self.bytes, b) {
             Some(block) => block.word(i),
             None => 0,
+        }
+    }
+
+    /// Whether a block says of itself that it is OFS data block `number` of the file with its header at block `head`.
+    #[tactic(auto, using(adf_volume::proofs::WordsPast::past_word))]
+    pub fn says_data_of(&self, head: u32, number: u32, b: u32) -> bool
+        ensures { result ≡ says_data_of self.now head number b }
+    {
+        match Block::at(self.bytes, b) {
+            Some(block) => {
+                block.word(TYPE) == T_DATA
+                    && block.word(DATA_HEAD) == head
+                    && block.word(DATA_NUMBER) == number
+                    && block.long_sum() == 0
+            }
+            None => false,
         }
     }
 }

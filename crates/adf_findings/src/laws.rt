@@ -13,7 +13,7 @@ ghost use Rattle.adf_findings.specs.Files.{IsSoundFile, file_content, file_in, n
 ghost use Rattle.adf_findings.specs.Lookup.{LeadsTo, path_to};
 ghost use Rattle.adf_findings.specs.Remains.{data_found, gaps_of, left_of};
 ghost use Rattle.adf_findings.specs.Survey.{FindingValue, IsSurvey, OnSurvey};
-ghost use Rattle.adf_findings.specs.Sound.{DatasInOrder, FileHolds, HeaderHolds, IsSound};
+ghost use Rattle.adf_findings.specs.Sound.{DatasInOrder, FileHolds, HeaderHolds, IsOfItsKind, IsSound};
 
 /// Every image has a survey.
 #[tactic(auto, using(crate::proofs::SomeSurvey::some_survey))]
@@ -84,14 +84,15 @@ pub fn paths_of_directories()
         → path_to image w n ≡ path_to image w g.parent ++ name_of image h ∷ [] }
 {}
 
-/// If a survey has no finding, all of its entries are sound.
+/// If a survey has no finding, and no data block of an FFS volume says that it is an OFS one, all of its entries are sound.
 pub fn all_sound()
     ensures { (image : List ℕ) (w : List (Role × ℕ)) (n h : ℕ) → IsSurvey image w []
-        → HeadAt w n h
+        → IsOfItsKind image w → HeadAt w n h
         → IsSound image w [] n h }
 {}
 
-/// On a volume, a path leads to the same entry in the survey as in the tree, and both have the same files, with the same bytes.
+/// On a volume, a path leads to the same entry in the survey as in the tree. Where no data block of an FFS volume says that it is
+/// an OFS one, each file of the tree is a sound one with the same bytes; and there are no others.
 pub fn found_as_in_the_tree()
     ensures paths { (image : List ℕ) (t : Tree) (l : Layout) (w : List (Role
         × ℕ)) (fs : List FindingValue) → Fits image t l
@@ -99,7 +100,7 @@ pub fn found_as_in_the_tree()
         → (path : List (List ℕ)) (n : ℕ) → LeadsTo image w 0 path n ↔ (find t.entries path ≡ Some n) }
     ensures files { (image : List ℕ) (t : Tree) (l : Layout) (w : List (Role
         × ℕ)) (fs : List FindingValue) → Fits image t l
-        → IsSurvey image w fs
+        → IsSurvey image w fs → IsOfItsKind image w
         → (n : ℕ) (e : Entry) (bytes : List ℕ) → entry t.entries n ≡ Some e
         → e.body ≡ File bytes
         → IsSoundFile image w fs n × (file_content (file_in image w n) ≡ bytes) }

@@ -4,7 +4,7 @@ ghost use Rattle.std.specs.Prelude.{◌≡◌, ◌==◌, ◌&&◌, ℕ, IfOk, ma
 ghost use Rattle.std.specs.List.{filter};
 ghost use Rattle.adf_findings.specs.Files.{is_harmless, is_light};
 ghost use Rattle.adf_findings.specs.Parts.{finding_value};
-ghost use Rattle.adf_findings.specs.Marks.{blamed, has_mark, is_blamed, is_clear, is_header, is_sharing, sharing};
+ghost use Rattle.adf_findings.specs.Marks.{blamed, doubted, has_mark, is_blamed, is_clear, is_doubted, is_header};
 
 use crate::concern::Concern;
 use crate::found::{DataBlock, Found};
@@ -61,13 +61,21 @@ fn blamed(found: &Found, part: Option<Part>) -> Option<Concern>
     }
 }
 
-// The file of a data block, if the block was also skipped.
-fn sharing(found: &Found, data_block: DataBlock) -> Option<u32>
-    ensures { result ≡ sharing found.now.avoided.items data_block }
+// The file of a data block, if the block was also skipped, or says that it is an OFS one.
+fn doubted(image: &Image<'_>, found: &Found, data_block: DataBlock) -> Option<u32>
+    ensures { result ≡ doubted image.now found.now data_block }
 {
-    let DataBlock { node, block } = data_block;
+    let DataBlock {
+        node,
+        number,
+        block,
+    } = data_block;
     let is_avoided = found.avoided.get(block as usize).copied().unwrap_or(false);
-    if is_avoided { Some(node) } else { None }
+    if is_avoided || image.says_data_of(found.node_block(node), number, block) {
+        Some(node)
+    } else {
+        None
+    }
 }
 
 /// What the findings concern, in the order of the findings.
@@ -99,14 +107,14 @@ fn strike_blamed(found: &Found, marks: &mut Vec<bool>)
     }
 }
 
-// Removes the marks of files with a data block that was also skipped.
-fn strike_sharing(found: &Found, marks: &mut Vec<bool>)
+// Removes the marks of files with a data block that was also skipped, or says that it is an OFS one.
+fn strike_doubted(image: &Image<'_>, found: &Found, marks: &mut Vec<bool>)
     ensures { (m : ℕ) → has_mark marks.new.items m
         ≡ (has_mark marks.old.items m && not
-        (is_sharing found.now.avoided.items found.now.datas.items m)) }
+        (is_doubted image.now found.now found.now.datas.items m)) }
 {
     for data_block in &found.datas {
-        if let Some(node) = sharing(found, *data_block) {
+        if let Some(node) = doubted(image, found, *data_block) {
             strike(marks, node);
         }
     }
@@ -159,7 +167,7 @@ pub fn clear_marks(alloc: Global, image: &Image<'_>, found: &Found) -> Result<Ve
     strike_blamed(found, &mut marks);
     match image.kind() {
         Kind::Ofs => (),
-        Kind::Ffs => strike_sharing(found, &mut marks),
+        Kind::Ffs => strike_doubted(image, found, &mut marks),
     }
     Ok(marks)
 }

@@ -1,0 +1,51 @@
+"""What `adf-survey` surveys of an input, by its definition (crates/adf_survey_cmd), over bench/survey.py and bench/rescue.py."""
+
+import sys
+
+sys.dont_write_bytecode = True
+from rescue import is_root, says_data, sealed
+from survey import Survey
+
+
+def begun(image):
+    """The image with `DOS` and a type in place of its first four bytes."""
+    return b"DOS" + bytes([0 if any(says_data(image, b) for b in range(len(image) // 512)) else 1]) + image[4:]
+
+
+def lacks_boot(image):
+    """The image has the length of a volume and a whole root, but does not begin with `DOS`."""
+    blocks = len(image) // 512
+    allowed = len(image) % 1024 == 0 and 4 <= blocks <= 1048576
+    return allowed and image[:3] != b"DOS" and is_root(image, blocks // 2) and sealed(image, blocks // 2)
+
+
+class Subject:
+    """The survey of the image that is meant by an input, begun and of the type that its files say; the lines in front of its findings;
+    how many of its blocks the input holds."""
+
+    def __init__(self, given, blocks=None):
+        image = given if blocks is None else given[: 512 * blocks] + bytes(max(0, 512 * blocks - len(given)))
+        self.held, self.front = min(len(given), len(image)) // 512, []
+        if blocks is not None and self.held < blocks:
+            self.front.append(run_text(self.held, blocks - 1) + ": no data")
+        if lacks_boot(image):
+            image = begun(image)
+            self.front.append("block 0: not dos")
+        self.survey = Survey(image)
+        if self.survey.is_mistyped():
+            self.survey = Survey(image[:3] + bytes([image[3] & 254]) + image[4:])
+            self.front.append("block 0: type of ffs, files of ofs")
+
+    def findings(self):
+        return [*self.front, *self.survey.found()]
+
+    def is_held(self, n):
+        """Each data block of the entry is one that the input holds."""
+        return all(b < self.held for b, role in self.survey.owner.items() if role[1:3] == ("data", n))
+
+    def is_sound(self, n):
+        return self.survey.is_sound(n) and self.is_held(n)
+
+
+def run_text(first, last):
+    return f"block {first}" if first == last else f"blocks {first} to {last}"
