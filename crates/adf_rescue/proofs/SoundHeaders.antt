@@ -25,6 +25,7 @@ use Rattle.adf_volume.proofs.MemberFacts.{kept}
 use Rattle.adf_volume.proofs.Roles.{head_role}
 use Rattle.adf_volume.proofs.WalkMembers.{entry_has}
 use Rattle.adf_findings.specs.Found.{parent_node}
+use Rattle.adf_findings.specs.Sound.{IsOfItsKind}
 use Rattle.adf_findings.specs.SoundMarks.{AreMarks}
 use Rattle.adf_findings.specs.Survey.{FindingValue, IsSurvey}
 use Rattle.adf_findings.proofs.AllSound.{all_sound}
@@ -87,14 +88,14 @@ pub record IsToldAs (a : Basis) (n : ℕ) (e : Entry) : Type 0 where
   pub body : body_of a n ≡ Ok e.body
 
 pub told : (image : List ℕ) (w : List (Role × ℕ)) (fs : List FindingValue) (sound : ℕ → Bool) → IsSurvey image w fs → fs ≡ []
-    → AreMarks image w fs sound → IsWalk image w → (i : ℕ) → i < heads w
+    → IsOfItsKind image w → AreMarks image w fs sound → IsWalk image w → (i : ℕ) → i < heads w
     → (e : Entry) × At (entries_in image w w) i e × IsToldAs (record { image = image; walk = w; sound = sound }) (suc i) e
-told image w fs sound survey clean marks v i lt =
+told image w fs sound survey clean own marks v i lt =
     let b : ℕ = node_block w (suc i) in
     let h : HeadAt w (suc i) b = header_at image w fs survey (suc i) (omega arith) (omega arith) in
     let up = (kept image v (head_role h) b h.has).2 in
     let form : AllHold (head_demands image (kind_of image) b up.0 h.slot) = up.2 in
-    let is : sound (suc i) ≡ true = (marks (suc i)).1 (all_sound image w fs (suc i) b survey clean h) in (
+    let is : sound (suc i) ≡ true = (marks (suc i)).1 (all_sound image w fs (suc i) b survey clean own h) in (
       entry_in image w (suc i) h.parent b,
       entry_has image w v h,
       record {

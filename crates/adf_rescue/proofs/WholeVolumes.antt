@@ -27,6 +27,7 @@ use Rattle.adf_volume.proofs.Lists.{at_index_or, get_before}
 use Rattle.adf_volume.proofs.WalkMembers.{entries_length}
 use Rattle.adf_findings.specs.Files.{grave}
 use Rattle.adf_findings.specs.Found.{parent_node}
+use Rattle.adf_findings.specs.Sound.{IsOfItsKind}
 use Rattle.adf_findings.specs.SoundMarks.{AreMarks}
 use Rattle.adf_findings.specs.Survey.{FindingValue, IsSurvey}
 use Rattle.adf_findings.proofs.FirstFindings.{finds_none, none_found, shown}
@@ -143,7 +144,7 @@ module _ (a : Basis) (vs : List Verdict) (n : ℕ) (e : Entry) (is : IsToldAs a 
 -- so all entries of a tree that fits are added
 
 module _ (image : List ℕ) (w : List (Role × ℕ)) (fs : List FindingValue) (sound : ℕ → Bool) (survey : IsSurvey image w fs) (clean : fs ≡ [])
-    (marks : AreMarks image w fs sound) (v : IsWalk image w) (fit : Fits image (tree_in image w) (layout_in w)) where
+    (own : IsOfItsKind image w) (marks : AreMarks image w fs sound) (v : IsWalk image w) (fit : Fits image (tree_in image w) (layout_in w)) where
   abbrev all : List Entry
   all = entries_in image w w
 
@@ -161,7 +162,7 @@ module _ (image : List ℕ) (w : List (Role × ℕ)) (fs : List FindingValue) (s
   next_front : (k : ℕ) (vs : List Verdict) → k < heads w → IsFront all k vs
       → IsFront all (suc k) (vs ++ verdict (before_first image) basis vs (suc k) ∷ [])
   next_front k vs lt f =
-      let x = told image w fs sound survey clean marks v k lt in
+      let x = told image w fs sound survey clean own marks v k lt in
       let e : Entry = x.0 in
       let within : k < length all = omega (arith, entries_length image w w) in
       let here : get_or all k e ≡ e = at_index_or all k e e x.1 in
@@ -192,7 +193,7 @@ unfolding stamps_of
 same_tree image w g vs given root same = grind (arith, common_steps, label_whole)
 
 module _ (image : List ℕ) (t : Tree) (l : Layout) (w : List (Role × ℕ)) (fs : List FindingValue) (sound : ℕ → Bool) (fit : Fits image t l)
-    (survey : IsSurvey image w fs) (marks : AreMarks image w (grave fs) sound) where
+    (survey : IsSurvey image w fs) (own : IsOfItsKind image w) (marks : AreMarks image w (grave fs) sound) where
   abbrev whole_basis : Basis
   whole_basis = record { image = image; walk = w; sound = sound }
 
@@ -210,7 +211,7 @@ module _ (image : List ℕ) (t : Tree) (l : Layout) (w : List (Role × ℕ)) (fs
   made = none_found image w unreported
 
   whole : IsFront (entries_in image w w) (heads w) (first_verdicts whole_basis)
-  whole = front image w fs sound survey clean all_marks (shown image unreported).1 made (heads w) (omega arith)
+  whole = front image w fs sound survey clean own all_marks (shown image unreported).1 made (heads w) (omega arith)
 
   pub tree_kept : rescued_tree whole_basis None ≡ t
   tree_kept =

@@ -42,6 +42,10 @@ begins_with_dos image = (slice_index image 0 == 0x44) && (slice_index image 1 ==
 abbrev pub begun : List ℕ → List ℕ
 begun image = cond (begins_with_dos image) image (codes "DOS" ++ type_byte image ∷ drop 4 image)
 
+-- the image has the length of a volume and a whole root, but does not begin with `DOS`
+abbrev pub lacks_boot : List ℕ → Bool
+lacks_boot image = is_image_len (length image) && (not (begins_with_dos image) && has_root image)
+
 -- the image has the length of a volume, but does not begin with `DOS` or has no whole root
 abbrev pub is_mended : List ℕ → Bool
 is_mended image = is_image_len (length image) && not (begins_with_dos image && has_root image)

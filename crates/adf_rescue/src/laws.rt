@@ -10,6 +10,7 @@ ghost use Rattle.adf_blocks.specs.Sizes.{blocks};
 ghost use Rattle.adf_volume.specs.Image.{name_of};
 ghost use Rattle.adf_findings.specs.Files.{IsSoundFile, file_content, file_in, grave};
 ghost use Rattle.adf_findings.specs.Found.{parent_node};
+ghost use Rattle.adf_findings.specs.Sound.{IsOfItsKind};
 ghost use Rattle.adf_findings.specs.SoundMarks.{AreMarks};
 ghost use Rattle.adf_findings.specs.Survey.{FindingValue, IsSurvey};
 ghost use Rattle.adf_tree.specs.Tree.{Tree};
@@ -54,17 +55,17 @@ pub fn one_rescue()
         ≡ second_verdicts a (Some (record { image = image; walk = w; sound = t })) }
 {}
 
-/// Where a tree and a layout fit the image, the rescue has that tree and leaves out nothing, and nothing is lost, so that there
-/// is no second survey.
-#[tactic(auto, using(crate::proofs::WholeVolumes::tree_kept, crate::proofs::WholeVolumes::none_left))]
+/// Where a tree and a layout fit the image, nothing is lost, so that there is no second survey; and if no data block of an FFS
+/// volume says that it is an OFS one, the rescue has that tree and leaves out nothing.
+#[tactic(auto, using(crate::proofs::WholeVolumes::tree_kept))]
 pub fn whole_is_kept()
     ensures tree { (image : List ℕ) (t : Tree) (l : Layout) (w : List (Role
         × ℕ)) (fs : List FindingValue) (sound : ℕ → Bool)
-        → Fits image t l → IsSurvey image w fs → AreMarks image w (grave fs) sound
+        → Fits image t l → IsSurvey image w fs → IsOfItsKind image w → AreMarks image w (grave fs) sound
         → rescued_tree (record { image = image; walk = w; sound = sound }) None ≡ t }
     ensures all { (image : List ℕ) (t : Tree) (l : Layout) (w : List (Role
         × ℕ)) (fs : List FindingValue) (sound : ℕ → Bool)
-        → Fits image t l → IsSurvey image w fs → AreMarks image w (grave fs) sound
+        → Fits image t l → IsSurvey image w fs → IsOfItsKind image w → AreMarks image w (grave fs) sound
         → rescue_leaves (record { image = image; walk = w; sound = sound }) ≡ [] }
     ensures lost { (image : List ℕ) (t : Tree) (l : Layout) (w : List (Role
         × ℕ)) (fs : List FindingValue)

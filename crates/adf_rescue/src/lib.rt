@@ -18,5 +18,7 @@ pub use crate::laws::{
     one_rescue, rescued_additions_have_their_tree, sound_files_stand, whole_is_kept,
 };
 pub use crate::left_out::{LeftOut, Why};
-pub use crate::opened::{is_mended, open as open_image, opened_keeps};
+pub use crate::opened::{
+    begin as begin_image, is_mended, lacks_boot, open as open_image, opened_keeps,
+};
 pub use crate::rescues::{Rescued, lay, rescue};

@@ -9,7 +9,7 @@ ghost use Rattle.adf_findings.specs.Opening.{opening_in};
 ghost use Rattle.adf_findings.specs.Start.{has_root_type};
 ghost use Rattle.adf_names.specs.declared.meta.TheConstants.{NO_STAMPS};
 ghost use Rattle.adf_rescue.specs.MadeRoot.{has_root, middle_block};
-ghost use Rattle.adf_rescue.specs.Opened.{begins_with_dos, begun, has_data, is_mended, opened, says_data, says_file, type_byte};
+ghost use Rattle.adf_rescue.specs.Opened.{begins_with_dos, begun, has_data, is_mended, lacks_boot, opened, says_data, says_file, type_byte};
 
 use crate::image::{block_in, is_image_len};
 use crate::made_root::{has_root, make_root};
@@ -69,9 +69,17 @@ fn begins_with_dos(image: &[u8]) -> bool
     matches!(image, [b'D', b'O', b'S', ..])
 }
 
-// Writes `DOS` and a type in place of the first four bytes of an image, if it does not begin with `DOS`.
+/// Whether an image has the length of a volume and a whole root, but does not begin with `DOS`.
+pub fn lacks_boot(image: &[u8]) -> bool
+    ensures { result ≡ lacks_boot image.now }
+{
+    is_image_len(image.len()) && !begins_with_dos(image) && has_root(image)
+}
+
+/// Writes `DOS` and a type in place of the first four bytes of an image, if it does not begin with `DOS`: OFS (0) if some OFS
+/// data block names a file's header that says that it is one, else FFS (1).
 #[tactic(auto, using(crate::proofs::OpenedImages::begun_anew, crate::proofs::OpenedImages::begun_same, crate::proofs::OpenedImages::begun_other))]
-fn begin(image: &mut [u8])
+pub fn begin(image: &mut [u8])
     requires { 4 ≤ length image.old }
     ensures { image.new ≡ begun image.old }
 {
