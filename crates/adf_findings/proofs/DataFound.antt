@@ -14,7 +14,7 @@ use Rattle.adf_volume.proofs.Roles.{has_role, same_refl}
 use Rattle.adf_findings.specs.Files.{named_from}
 use Rattle.adf_findings.specs.Found.{at_key, data_number, entry_in, number_at, owner}
 use Rattle.adf_findings.specs.Parts.{key_of}
-use Rattle.adf_findings.specs.Remains.{blocks_stated, bytes_left, data_found, data_named, gaps_left, size_stated}
+use Rattle.adf_findings.specs.Remains.{below, blocks_stated, bytes_left, data_below, data_found, data_named, gaps_left, named_below, size_stated}
 use Rattle.adf_findings.specs.Survey.{FindingValue, IsSurvey}
 use Rattle.adf_findings.specs.Survey.IsSurvey.{read, unread}
 use Rattle.adf_findings.specs.SurveyResult.{SurveyValue, TellsOf}
@@ -119,12 +119,19 @@ module _ {v : SurveyValue} {w : List (Role × ℕ)} {fs : List FindingValue} (t 
           ∙ ap Some named.0
 
   -- what is left by the blocks that are named is what is left by those that are found
-  pub left_is : {image : List ℕ} {head : ℕ} → image ≡ v.image → head ≡ h
-      → (bytes_left image (size_stated image head) (data_named image v n head) (blocks_stated image head)
-      ≡ bytes_left v.image (size_stated v.image h) (data_found w n) (blocks_stated v.image h))
-      × (gaps_left image (size_stated image head) (data_named image v n head) (blocks_stated image head)
-      ≡ gaps_left v.image (size_stated v.image h) (data_found w n) (blocks_stated v.image h))
-  left_is e g = grind (arith, common_steps, named_is)
+  below_is : (end : ℕ) → named_below end v.image v n h ≡ data_below end w n
+  below_is end = λ i k. below end (named_is k i)
+
+  pub left_is : (end : ℕ) {image : List ℕ} {head : ℕ} → image ≡ v.image → head ≡ h
+      → (bytes_left image (size_stated image head) (named_below end image v n head) (blocks_stated image head)
+      ≡ bytes_left v.image (size_stated v.image h) (data_below end w n) (blocks_stated v.image h))
+      × (gaps_left image (size_stated image head) (named_below end image v n head) (blocks_stated image head)
+      ≡ gaps_left v.image (size_stated v.image h) (data_below end w n) (blocks_stated v.image h))
+  left_is end {image = image} {head = head} e g =
+      let found : named_below end image v n head ≡ data_below end w n = (λ i. named_below end (e i) v n (g i)) ∙ below_is end in (
+        (λ i. bytes_left (e i) (size_stated (e i) (g i)) (found i) (blocks_stated (e i) (g i))),
+        (λ i. gaps_left (e i) (size_stated (e i) (g i)) (found i) (blocks_stated (e i) (g i))),
+      )
 
 -- the header of a file that is found
 pub file_at : (image : List ℕ) (w : List (Role × ℕ)) (fs : List FindingValue) → IsSurvey image w fs → (n h : ℕ) → FileAt image w n h

@@ -6,6 +6,7 @@ use Rattle.std.proofs.Common.{◌≡◌, ℕ, suc, zero, List, [], ◌∷◌, �
 use Rattle.std.specs.List.{concat}
 use Rattle.std.proofs.lemmas.List.{append_assoc, append-nil, length-replicate}
 use Rattle.std.proofs.Math.Nat.{min-eq_left}
+use Rattle.std.proofs.lemmas.Bool.Decides.{nat_tests}
 use Rattle.std.proofs.lemmas.Grind.{common_steps}
 use Rattle.adf_base.specs.Words.{block}
 use Rattle.adf_names.specs.declared.kind.Kind.{Kind, TheVariants.Ofs, TheVariants.Ffs}
@@ -23,7 +24,7 @@ use Rattle.adf_volume.proofs.Roles.{same_refl}
 use Rattle.adf_volume.proofs.Sizes.{size_low}
 use Rattle.adf_findings.specs.Files.{IsSoundFile, counting, file_content, file_in}
 use Rattle.adf_findings.specs.Found.{AreMarked, unowned}
-use Rattle.adf_findings.specs.Remains.{blocks_stated, bytes_in, bytes_left, data_found, gaps_left, gaps_of, left_of, size_stated, with_lost}
+use Rattle.adf_findings.specs.Remains.{below, blocks_stated, bytes_in, bytes_left, data_below, data_found, gaps_left, gaps_of, left_of, size_stated, with_lost}
 use Rattle.adf_findings.specs.Survey.{Course, FindingValue, IsCourse, IsSurvey}
 use Rattle.adf_findings.specs.Survey.IsCourse.{start, step}
 use Rattle.adf_findings.specs.Survey.IsSurvey.{read, unread}
@@ -111,18 +112,24 @@ is_found image {s = s} v n k b has = go (data_found s.walk n k) refl
         let r : Role = Data n (suc k) in
         e ∙ ap Some (one_block image (gathered image v) r r c b (has_data s.walk n (suc k) c e) has (same_refl r)).1
 
+-- so is one that is before a block
+found_below : (end : ℕ) (o : Option ℕ) (b : ℕ) → o ≡ Some b → b < end → below end o ≡ Some b
+found_below end o b e lt = ap (below end) e ∙ grind (arith, common_steps, nat_tests)
+
 -- what is left of a sound file is its content, and nothing is made up
-pub left_of_sound : (image : List ℕ) (w : List (Role × ℕ)) (fs : List FindingValue) (c : Bool) (n : ℕ) → IsSurvey image w fs
-    → IsSoundFile image w (counting c fs) n → (left_of image w n ≡ file_content (file_in image w n)) × (gaps_of image w n ≡ [])
-left_of_sound image w fs c n (unread f) sound = absurd sound.0.header.has
-left_of_sound image w fs c n (read {s = s} {bits = bits} v d t) sound =
+pub left_of_sound : (image : List ℕ) (w : List (Role × ℕ)) (fs : List FindingValue) (c : Bool) (n end : ℕ) → IsSurvey image w fs
+    → IsSoundFile image w (counting c fs) n → ((k b : ℕ) → Has w (Data n k) b → b < end)
+    → (left_of image w end n ≡ file_content (file_in image w n)) × (gaps_of image w end n ≡ [])
+left_of_sound image w fs c n end (unread f) sound few = absurd sound.0.header.has
+left_of_sound image w fs c n end (read {s = s} {bits = bits} v d t) sound before =
     let survey = read v d t in
     let h : ℕ = node_block s.walk n in
     let size : ℕ = word_in image h SIZE in
     let datas : List ℕ = datas_in s.walk n in
     let has = (file_told image s.walk (s.findings ++ bits) c n survey sound.0 sound.1).1 in
     let listed = whole_listed image s.walk (s.findings ++ bits) c n h survey sound.0 in
-    let found : (k b : ℕ) → At datas k b → data_found s.walk n k ≡ Some b = λ k b g. is_found image v n k b (listed.from k b g) in
+    let found : (k b : ℕ) → At datas k b → data_below end s.walk n k ≡ Some b =
+    λ k b g. let has = listed.from k b g in found_below end (data_found s.walk n k) b (is_found image v n k b has) (before (suc k) b has) in
     let marked = walk_marked image v in
     let few : data_count image h ≤ blocks image = (
     let a = picked_within (is_data_of n) s.walk in
@@ -134,11 +141,11 @@ left_of_sound image w fs c n (read {s = s} {bits = bits} v d t) sound =
     min-eq_left (let l = fits_in (kind_of image) size (blocks image) few in let e = has.whole in omega arith) in
     let many : blocks_stated image h ≡ length datas = ap (count (kind_of image)) told ∙ sym has.many in
     let all : length datas ≡ 0 + length datas = omega arith in (
-      (λ i. bytes_left image (told i) (data_found s.walk n) (many i))
-          ∙ (ap (bytes_left image size (data_found s.walk n)) all
-          ∙ (left_pieces image size (data_found s.walk n) 0 datas
-          (λ i b g. let e : 0 + i ≡ i = omega arith in ap (data_found s.walk n) e ∙ found i b g)
+      (λ i. bytes_left image (told i) (data_below end s.walk n) (many i))
+          ∙ (ap (bytes_left image size (data_below end s.walk n)) all
+          ∙ (left_pieces image size (data_below end s.walk n) 0 datas
+          (λ i b g. let e : 0 + i ≡ i = omega arith in ap (data_below end s.walk n) e ∙ found i b g)
           ∙ joined_content (file_in image s.walk n) has)),
-      (λ i. gaps_left image (told i) (data_found s.walk n) (many i))
-          ∙ no_gaps image size (data_found s.walk n) (length datas) (λ k lt. let x = at_some datas k lt in (x.0, found k x.0 x.1)),
+      (λ i. gaps_left image (told i) (data_below end s.walk n) (many i))
+          ∙ no_gaps image size (data_below end s.walk n) (length datas) (λ k lt. let x = at_some datas k lt in (x.0, found k x.0 x.1)),
     )

@@ -52,3 +52,5 @@ pub mod Directories
 pub mod AllSound
 -- look-up in surveys of volumes
 pub mod TreeLookups
+-- what the data blocks say of the kind of their volume
+pub mod OwnKinds

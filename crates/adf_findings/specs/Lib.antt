@@ -10,6 +10,7 @@ pub mod Remains
 pub mod Lookup
 pub mod Opening
 pub mod SoundMarks
+pub mod OwnKind
 -- The states of the surveyor. A promise names `owner` and `parent_node` of Found with what these name, and `has_mark` of Marks.
 pub mod Start
 pub mod Forms

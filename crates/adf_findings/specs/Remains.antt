@@ -1,6 +1,6 @@
 -- What is left of a file that may be damaged.
 -- Letters: w the walk of a survey; n a file's node, h the block of its header; k the number of a data block, from 0; b its block;
--- size how many bytes are stated; found the block of each data block, if any.
+-- size how many bytes are stated; found the block of each data block, if any; end a block.
 use Rattle.std.specs.Prelude.{ℕ, ◌+◌, ◌-◌, ◌*◌, ◌==◌, ◌&&◌, nat_lt, slice_index, List, [], ◌∷◌, ◌++◌, Option, Some, None, cond, length, min, replicate}
 use Rattle.std.proofs.Common.{suc, zero}
 use Rattle.adf_base.specs.Words.{block}
@@ -62,13 +62,22 @@ abbrev pub gaps_left : List ℕ → ℕ → (ℕ → Option ℕ) → ℕ → Lis
 gaps_left image size found zero = []
 gaps_left image size found (suc k) = with_lost image size (gaps_left image size found k) k (found k)
 
--- the bytes of file n: those of the data blocks that are found, and zeros for the others
-abbrev pub left_of : List ℕ → List (Role × ℕ) → ℕ → List ℕ
-left_of image w n = let h = node_block w n in bytes_left image (size_stated image h) (data_found w n) (blocks_stated image h)
+-- a block, if it is before this one
+abbrev pub below : ℕ → Option ℕ → Option ℕ
+below end None = None
+below end (Some b) = cond (nat_lt b end) (Some b) None
+
+-- the block that is taken as data block k of file n, if it is before block `end`
+abbrev pub data_below : ℕ → List (Role × ℕ) → ℕ → ℕ → Option ℕ
+data_below end w n k = below end (data_found w n k)
+
+-- the bytes of file n: those of the data blocks that are found before block `end`, and zeros for the others
+abbrev pub left_of : List ℕ → List (Role × ℕ) → ℕ → ℕ → List ℕ
+left_of image w end n = let h = node_block w n in bytes_left image (size_stated image h) (data_below end w n) (blocks_stated image h)
 
 -- the runs of these zeros
-abbrev pub gaps_of : List ℕ → List (Role × ℕ) → ℕ → List Gap
-gaps_of image w n = let h = node_block w n in gaps_left image (size_stated image h) (data_found w n) (blocks_stated image h)
+abbrev pub gaps_of : List ℕ → List (Role × ℕ) → ℕ → ℕ → List Gap
+gaps_of image w end n = let h = node_block w n in gaps_left image (size_stated image h) (data_below end w n) (blocks_stated image h)
 
 -- block b, if it is taken as data block k of entry n by the entries and the numbers kept of blocks
 abbrev pub data_at : List ℕ → SurveyValue → ℕ → ℕ → ℕ → Option ℕ
@@ -78,3 +87,7 @@ data_at image v n k b =
 -- the block that the table of a file names as data block k, if it is taken as that
 abbrev pub data_named : List ℕ → SurveyValue → ℕ → ℕ → ℕ → Option ℕ
 data_named image v n h k = data_at image v n k (named_from image h k)
+
+-- the same, if it is before block `end`
+abbrev pub named_below : ℕ → List ℕ → SurveyValue → ℕ → ℕ → ℕ → Option ℕ
+named_below end image v n h k = below end (data_named image v n h k)

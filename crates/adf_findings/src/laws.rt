@@ -9,6 +9,7 @@ ghost use Rattle.adf_volume.specs.Image.{name_of};
 ghost use Rattle.adf_volume.specs.Layout.{Layout};
 ghost use Rattle.adf_volume.specs.Made.{layout_in, tree_in};
 ghost use Rattle.adf_volume.specs.Walk.{FileAt, FirstFault, Has, HeadAt, NodeAt, Role};
+ghost use Rattle.adf_volume.specs.Walk.Role.{Data};
 ghost use Rattle.adf_findings.specs.Files.{IsSoundFile, file_content, file_in, named_from};
 ghost use Rattle.adf_findings.specs.Lookup.{LeadsTo, path_to};
 ghost use Rattle.adf_findings.specs.Remains.{data_found, gaps_of, left_of};
@@ -112,11 +113,11 @@ pub fn found_as_in_the_tree()
         × (e.body ≡ File (file_content (file_in image w n))) }
 {}
 
-/// What is left of a sound file is its content, and none of its bytes are made up.
+/// What is left of a sound file before a block that is behind its data blocks is its content, and none of its bytes are made up.
 pub fn left_of_sound()
-    ensures { (image : List ℕ) (w : List (Role × ℕ)) (fs : List FindingValue) (n : ℕ)
-        → IsSurvey image w fs → IsSoundFile image w fs n
-        → (left_of image w n ≡ file_content (file_in image w n)) × (gaps_of image w n ≡ []) }
+    ensures { (image : List ℕ) (w : List (Role × ℕ)) (fs : List FindingValue) (n end : ℕ)
+        → IsSurvey image w fs → IsSoundFile image w fs n → ((k b : ℕ) → Has w (Data n k) b → b < end)
+        → (left_of image w end n ≡ file_content (file_in image w n)) × (gaps_of image w end n ≡ []) }
 {}
 
 /// A data block that is found of a file is the one that the table of the file names.

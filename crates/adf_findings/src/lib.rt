@@ -15,6 +15,7 @@ mod laws;
 mod lookup;
 mod marks;
 mod opening;
+mod own_kind;
 mod owners;
 mod part;
 mod remains;
@@ -30,6 +31,7 @@ pub use crate::laws::{
     sound_entries,
 };
 pub use crate::opening::Opening;
+pub use crate::own_kind::{Tally, retype};
 pub use crate::part::{Finding, Part};
 pub use crate::remains::{Gap, Remains};
 pub use crate::survey_result::Survey;

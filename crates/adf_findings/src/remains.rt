@@ -5,7 +5,8 @@ ghost use Rattle.adf_blocks.specs.Sizes.{blocks, count};
 ghost use Rattle.adf_base.specs.Words.{block};
 ghost use Rattle.adf_volume.specs.Image.{kind_of, piece};
 ghost use Rattle.adf_volume.specs.Walk.{FileAt, node_block};
-ghost use Rattle.adf_findings.specs.Remains.{blocks_stated, bytes_in, bytes_left, data_at, data_named, gap_at, gaps_left, gaps_of, joined, left_of, size_stated, with_gap, with_lost};
+ghost use Rattle.adf_findings.specs.Remains.{below, blocks_stated, bytes_in, bytes_left, data_at, gap_at, gaps_left, gaps_of, joined, left_of, named_below};
+ghost use Rattle.adf_findings.specs.Remains.{size_stated, with_gap, with_lost};
 ghost use Rattle.adf_findings.specs.Survey.{OnSurvey};
 
 use crate::image::Image;
@@ -144,6 +145,17 @@ impl Remains {
     }
 }
 
+// A block, if it is before this one.
+fn below(end: u32, found: Option<u32>) -> Option<u32>
+    ensures below { result ≡ below end found }
+    ensures inside { (n : ℕ) → IfSome found (λ b. b < n) → IfSome result (λ b. b < n) }
+{
+    match found {
+        Some(b) if b < end => Some(b),
+        _ => None,
+    }
+}
+
 impl<'i> Survey<'i> {
     // A block, if it is taken as data block `k`, counted from 0, of an entry.
     fn data_at(&self, image: &Image<'_>, n: Node, k: u32, b: u32) -> Option<u32>
@@ -168,12 +180,13 @@ impl<'i> Survey<'i> {
         image: &Image<'_>,
         n: Node,
         head: u32,
+        end: u32,
     ) -> Result<Remains, AllocError>
         ensures bytes { IfOk result (λ r. r.bytes.items
-            ≡ bytes_left image.now (size_stated image.now head) (data_named image.now self.now n head)
+            ≡ bytes_left image.now (size_stated image.now head) (named_below end image.now self.now n head)
             (blocks_stated image.now head)) }
         ensures gaps { IfOk result (λ r. r.gaps.items
-            ≡ gaps_left image.now (size_stated image.now head) (data_named image.now self.now n head)
+            ≡ gaps_left image.now (size_stated image.now head) (named_below end image.now self.now n head)
             (blocks_stated image.now head)) }
         ensures empty { blocks_stated image.now head ≡ 0 → IsOk result }
     {
@@ -185,7 +198,8 @@ impl<'i> Survey<'i> {
         let mut member = head;
         for k in 0..count_stated(image.kind(), size) {
             let b = image.word(member, FIRST_POINTER - k as usize % POINTERS);
-            remains.add(alloc, image, size, k, self.data_at(image, n, k, b))?;
+            let found = below(end, self.data_at(image, n, k, b));
+            remains.add(alloc, image, size, k, found)?;
             if (k as usize + 1) % POINTERS == 0 {
                 member = image.word(member, EXTENSION);
             }
@@ -193,17 +207,17 @@ impl<'i> Survey<'i> {
         Ok(remains)
     }
 
-    /// What is left of a file, whether sound or not: the bytes of each data block that is found as the file's own, and zeros for
-    /// the others; as many as its header says, but no more than the image has. `None` for what is no file. `NoMemory` if an
+    /// What is left of a file, whether sound or not: the bytes of each data block that is found as the file's own before block
+    /// `end`, and zeros for the others; as many as its header says, but no more than the image has. `None` for what is no file. `NoMemory` if an
     /// allocation fails; never if there is no file, or it is empty.
     #[tactic(auto, using(crate::proofs::Keeping::tells_each))]
-    pub fn remains(&self, alloc: Global, n: Node) -> Result<Option<Remains>, NoMemory>
+    pub fn remains(&self, alloc: Global, n: Node, end: u32) -> Result<Option<Remains>, NoMemory>
         ensures some { OnSurvey self.now.image (λ w _.
             IfOk result (λ x. IsSome x ↔ ((h : ℕ) × FileAt self.now.image w n h))) }
         ensures bytes { OnSurvey self.now.image (λ w _.
-            IfOk result (λ x. IfSome x (λ r. r.bytes.items ≡ left_of self.now.image w n))) }
+            IfOk result (λ x. IfSome x (λ r. r.bytes.items ≡ left_of self.now.image w end n))) }
         ensures gaps { OnSurvey self.now.image (λ w _.
-            IfOk result (λ x. IfSome x (λ r. r.gaps.items ≡ gaps_of self.now.image w n))) }
+            IfOk result (λ x. IfSome x (λ r. r.gaps.items ≡ gaps_of self.now.image w end n))) }
         ensures none { OnSurvey self.now.image (λ w _.
             ((h : ℕ) → FileAt self.now.image w n h → ⊥) → IsOk result) }
         ensures empty { OnSurvey self.now.image (λ w _.
@@ -216,7 +230,7 @@ impl<'i> Survey<'i> {
             return Ok(None);
         };
         let head = number_at(&self.nodes, n.0);
-        match self.left_of(alloc, &started.image, n, head) {
+        match self.left_of(alloc, &started.image, n, head, end) {
             Ok(remains) => Ok(Some(remains)),
             Err(_) => Err(NoMemory),
         }

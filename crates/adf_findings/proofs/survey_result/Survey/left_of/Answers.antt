@@ -2,7 +2,7 @@ use Rattle.std.proofs.Common.{◌≡◌, ◌+◌, ◌/◌, ◌++◌, ap, suc, sy
 use Rattle.adf_blocks.specs.declared.layout.TheConstants.{EXTENSION, POINTERS}
 use Rattle.adf_volume.specs.Image.{table_word, word_in}
 use Rattle.adf_findings.specs.Files.{member_from}
-use Rattle.adf_findings.specs.Remains.{bytes_in, bytes_left, data_at, data_named, gaps_left, with_lost}
+use Rattle.adf_findings.specs.Remains.{below, bytes_in, bytes_left, data_at, gaps_left, named_below, with_lost}
 use Rattle.adf_findings.proofs.survey_result.Survey.left_of.Goals as goal
 use Rattle.adf_findings.proofs.survey_result.Survey.left_of.Goals.{then-k-eq0, else-k-eq0}
 
@@ -12,10 +12,12 @@ loop-k-preserved c =
     let head = c.args.head in
     let size = c.size_stated-size.result in
     let k = c.loop-k.k in
-    let found = data_named image c.args.self.now c.args.n head in
-    let named : c.data_at.result ≡ found k =
-    c.data_at.ensures.data
-    ∙ ap (data_at image c.args.self.now c.args.n k) (c.word-b.ensures ∙ ap (λ m. word_in image m (table_word k)) c.loop-k.invariant.0) in (
+    let end = c.args.end in
+    let found = named_below end image c.args.self.now c.args.n head in
+    let named : c.below-found.result ≡ found k =
+    c.below-found.ensures.below
+    ∙ ap (below end) (c.data_at.ensures.data
+    ∙ ap (data_at image c.args.self.now c.args.n k) (c.word-b.ensures ∙ ap (λ m. word_in image m (table_word k)) c.loop-k.invariant.0)) in (
       elim c.if-k-eq0.branch [
         | then-k-eq0 w ↦
             let e : suc (k / POINTERS) ≡ (k + 1) / POINTERS = omega (arith, w.if-k-eq0.true) in

@@ -21,7 +21,7 @@ returns-in-Ok-left_of-clause-bytes c = λ w fs h.
     let image = c.in-Ok.ensures.image ∙ ap (λ v. v.image) c.self.view_is in
     let head = c.number_at-head.ensures ∙ ((λ i. slice_index (c.self.view_is i).nodes (c.n.view_is i)) ∙ t.node c.args.n) in
     c.in-Ok-left_of.ensures.bytes
-    ∙ (left_is t c.args.n (node_block w c.args.n) (file_at v.image w fs h c.args.n file.0 file.1) image head).0
+    ∙ (left_is t c.args.n (node_block w c.args.n) (file_at v.image w fs h c.args.n file.0 file.1) c.args.end image head).0
 
 pub returns-in-Ok-left_of-clause-gaps : goal.returns-in-Ok-left_of-clause-gaps
 returns-in-Ok-left_of-clause-gaps c = λ w fs h.
@@ -31,4 +31,4 @@ returns-in-Ok-left_of-clause-gaps c = λ w fs h.
     let image = c.in-Ok.ensures.image ∙ ap (λ v. v.image) c.self.view_is in
     let head = c.number_at-head.ensures ∙ ((λ i. slice_index (c.self.view_is i).nodes (c.n.view_is i)) ∙ t.node c.args.n) in
     c.in-Ok-left_of.ensures.gaps
-    ∙ (left_is t c.args.n (node_block w c.args.n) (file_at v.image w fs h c.args.n file.0 file.1) image head).1
+    ∙ (left_is t c.args.n (node_block w c.args.n) (file_at v.image w fs h c.args.n file.0 file.1) c.args.end image head).1

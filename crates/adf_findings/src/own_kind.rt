@@ -1,0 +1,101 @@
+// What the data blocks of a survey say of the kind of their volume.
+
+ghost use Rattle.std.specs.Prelude.{◌≡◌, ◌<◌, ℕ, List};
+ghost use Rattle.adf_blocks.specs.Sizes.{blocks};
+ghost use Rattle.adf_volume.specs.Walk.{Role};
+ghost use Rattle.adf_findings.specs.OwnKind.{is_mistyped, is_other_kind, retyped, said_in, tallied, tally};
+ghost use Rattle.adf_findings.specs.Survey.{OnSurvey};
+
+use crate::image::Image;
+use crate::start::start;
+use crate::survey_result::{Survey, number_at};
+use adf_tree::Kind;
+
+/// How many data blocks say that they are OFS ones, and how many do not.
+#[derive(Clone, Copy, PartialEq, Eq, Drop)]
+pub struct Tally {
+    pub says: u32,
+    pub others: u32,
+}
+
+impl Tally {
+    // A tally with one more block.
+    fn with(self, said: Option<bool>) -> Tally
+        requires says { self.says < 1048576 }
+        requires others { self.others < 1048576 }
+        ensures { result ≡ tallied self said }
+    {
+        match said {
+            None => self,
+            Some(true) => Tally {
+                says: self.says + 1,
+                others: self.others,
+            },
+            Some(false) => Tally {
+                says: self.says,
+                others: self.others + 1,
+            },
+        }
+    }
+
+    // Whether a volume of a kind is not what the tally says.
+    fn is_other_kind(self, kind: Kind) -> bool
+        ensures { result ≡ is_other_kind kind self }
+    {
+        match kind {
+            Kind::Ofs => false,
+            Kind::Ffs => self.others < self.says,
+        }
+    }
+}
+
+impl Survey<'_> {
+    // Whether the data block at a block says that it is an OFS one of its file; `None` where no data block is found.
+    fn said_at(&self, image: &Image<'_>, b: u32) -> Option<bool>
+        ensures { result ≡ said_in image.now self.now b }
+    {
+        let number = number_at(&self.numbers, b as usize);
+        if number == 0 {
+            return None;
+        }
+        let entry = number_at(&self.owners, b as usize);
+        let head = number_at(&self.nodes, entry as usize);
+        Some(image.says_data_of(head, number, b))
+    }
+
+    // How many data blocks say so, and how many do not.
+    fn tally(&self, image: &Image<'_>) -> Tally
+        ensures { OnSurvey self.now.image (λ w _. result ≡ tally image.now w (blocks image.now)) }
+    {
+        let _numbers = &self.numbers;
+        let mut tally = Tally { says: 0, others: 0 };
+        for b in 0..image.blocks() {
+            tally = tally.with(self.said_at(image, b));
+        }
+        tally
+    }
+
+    /// Whether the type is one of FFS, but more of the data blocks that are found say that they are OFS ones of their files than
+    /// do not.
+    #[tactic(auto, using(crate::proofs::OwnKinds::none_mistyped, crate::proofs::Openings::unbegun_walk))]
+    pub fn is_mistyped(&self) -> bool
+        ensures { OnSurvey self.now.image (λ w _. result ≡ is_mistyped self.now.image w) }
+    {
+        match start(self.image) {
+            Ok(started) => self
+                .tally(&started.image)
+                .is_other_kind(started.image.kind()),
+            Err(_) => false,
+        }
+    }
+}
+
+/// Makes the type of an image one less: one of FFS becomes that of OFS.
+#[tactic(auto, using(std::proofs::lemmas::List::set_past))]
+pub fn retype(image: &mut [u8])
+    ensures { image.new ≡ retyped image.old }
+{
+    if image.len() > 3 {
+        image[3] = image[3].saturating_sub(1);
+    }
+}
