@@ -10,7 +10,7 @@ import sys
 from struct import pack_into, unpack_from
 
 sys.dont_write_bytecode = True
-from survey import DIR, FILE, LINKS, PAGE_BITS, ROOT_PAGES, SLOTS, Survey, page, spelled
+from survey import DIR, FILE, LINKS, PAGE_BITS, POINTERS, ROOT_PAGES, SLOTS, Survey, page, spelled
 
 HARMLESS = {"bad name", "bad comment", "wrong slot", "bad first", "same name"}
 
@@ -100,11 +100,10 @@ def opened(image):
 class Lost:
     """The headers of a survey that nothing leads to, and where they are hung."""
 
-    def __init__(self, survey):
+    def __init__(self, survey, mended):
         self.sv, self.image, self.blocks = survey, survey.image, survey.blocks
-        self.entry_at = {b: role[2] if role[1] != "head" else None for b, role in survey.owner.items() if role[1] in ("head", "ext", "data")}
         self.heads = {survey.block_of(n): n for n in range(len(survey.nodes))}
-        self.unsettled = set()
+        self.unsettled = {0} if mended or any(role and role[1] == "root" for role, _, _ in survey.findings) else set()
         for role, _, _ in survey.findings:
             n = survey.node_of(role)
             if n is None and role and role[1] == "head":
@@ -125,21 +124,25 @@ class Lost:
 
     def denies(self, p):
         if not self.is_directory(p):
-            return p in self.entry_at
+            return p in self.sv.owner
         n = self.heads[p]
         return n not in self.unsettled and any(role[2] == n for role in self.sv.nodes[1:])
 
+    def is_freed(self, b):
+        """The bitmap tells that the header is free, or a data block that its table names."""
+        w = words(self.image, b)
+        datas = 0 if w[127] == DIR else min(-(-w[81] // self.sv.chunk), POINTERS)
+        return any(self.is_free(c) for c in (b, *(w[77 - k] for k in range(datas))))
+
     def is_lost(self, b):
-        if b in self.entry_at or not (says_file(self.image, b) or says_dir(self.image, b)):
+        """The block says that it is a header, is no part of the survey, and is not deleted, by the bitmap or else its directory."""
+        if b in self.sv.owner or not (says_file(self.image, b) or says_dir(self.image, b)) or self.is_freed(b):
             return False
-        w, free = words(self.image, b), self.is_free(b)
-        if free or w[127] == FILE and w[81] and self.is_free(w[77]):
-            return False
-        return free == 0 or not self.denies(w[125])
+        return self.is_free(b) == 0 or not self.denies(words(self.image, b)[125])
 
     def is_made(self, p):
-        """A directory is made of a block that lost headers name, if no entry has it and it is no lost header."""
-        return 2 <= p < self.blocks and p != self.sv.root and p not in self.entry_at and p not in self.lost
+        """A directory is made of a block that lost headers name, if it is no part of the survey and no lost header."""
+        return 2 <= p < self.blocks and p not in self.sv.owner and p not in self.lost
 
     def hung(self):
         image, r, lost = bytearray(self.image), self.sv.root, set(self.lost)
@@ -156,18 +159,28 @@ class Lost:
             head[432 : 433 + len(name)] = bytes([len(name)]) + name
             pack_into(">I", head, 508, DIR)
             image[512 * p : 512 * p + 512] = head
+        ends = {}
+        for n in range(1, len(self.sv.nodes)):
+            h = self.sv.block_of(n)
+            if self.sv.word(h, 124) not in self.sv.owner:
+                ends[self.sv.block_of(self.sv.nodes[n][2])] = h
         for b in sorted({*made, *lost}):
             p = words(self.image, b)[125] if b in lost else r
             is_home = self.is_directory(p) or p in made or p in lost and says_dir(self.image, p)
-            self.hang(image, b, p if is_home else r)
+            self.hang(image, b, p if is_home else r, ends)
         return bytes(image)
 
-    def hang(self, image, b, home):
-        """First in a slot of its home, by its number."""
-        slot = 6 + b % SLOTS
-        put(image, b, 124, words(image, home)[slot])
+    def hang(self, image, b, home, ends):
+        """First in the slot of its number, if the survey has nothing there; else behind the last header of the directory behind which it
+        has nothing."""
+        at, i = home, 6 + b % SLOTS
+        if words(image, at)[i] in self.sv.owner:
+            if home not in ends:
+                return
+            at, i = ends[home], 124
+        put(image, b, 124, words(image, at)[i])
         put(image, b, 125, home)
-        put(image, home, slot, b)
+        put(image, at, i, b)
 
 
 # The tree of all that stands
@@ -192,7 +205,7 @@ class Rescue:
         self.root, self.added = Node((), None, None), []
         places = self.take(survey, {survey.root: self.root})
         known = {survey.block_of(n): places.get(survey.block_of(n)) for n in range(len(survey.nodes))}
-        lost = Lost(survey)
+        lost = Lost(survey, self.mended)
         self.lost = lost.lost
         if lost.lost and self.findings:
             self.take(Survey(lost.hung()), known)

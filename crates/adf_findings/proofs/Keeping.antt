@@ -1,21 +1,24 @@
 -- The result for an image is that of its survey.
 use Rattle.std.specs.Prelude.{Bool, Option, ◌-◌, false, true, map, not, slice_get, slice_index, slice_index_or}
-use Rattle.std.proofs.Common.{◌≡◌, ℕ, List, [], ◌++◌, ◌≤◌, refl, sym, ap, subst, ◌∙◌, arith, ◌*◌, ◌<◌, length}
+use Rattle.std.proofs.Common.{◌≡◌, ℕ, List, [], ◌++◌, ◌≤◌, refl, sym, ap, subst, ◌∙◌, arith, ◌*◌, ◌<◌, length, inl, inr}
+use Rattle.std.proofs.lemmas.Bool.{cases_lt, false_from_ne_true}
+use Rattle.std.proofs.lemmas.Bool.Decides.{nat_tests}
+use Rattle.std.proofs.lemmas.List.{get_or_past}
 use Rattle.std.specs.List.{filter}
 use Rattle.std.specs.Option.{option_flatten}
 use Rattle.std.proofs.lemmas.Grind.{common_steps}
 use Rattle.adf_blocks.specs.Sizes.{blocks}
-use Rattle.adf_volume.proofs.Gathered.{head_block, numbered as has_number, number_of}
+use Rattle.adf_volume.proofs.Gathered.{head_block, numbered as has_number, number_of, root_is}
 use Rattle.adf_volume.specs.Walk.{Role, Has, heads, node_block}
-use Rattle.adf_volume.specs.Walk.Role.{Page, Head}
+use Rattle.adf_volume.specs.Walk.Role.{Root, Page, Head}
 use Rattle.adf_volume.proofs.Roles.{head_role}
-use Rattle.adf_findings.specs.Found.{parent_node, IsCompleted, Stands}
+use Rattle.adf_findings.specs.Found.{AreMarked, IsCompleted, Stands, owns, parent_node}
 use Rattle.adf_findings.specs.declared.found.Found.{Found}
 use Rattle.adf_findings.specs.Files.{counting, grave, is_light}
 use Rattle.adf_findings.specs.Marks.{blamed, has_mark, is_clear}
 use Rattle.adf_findings.specs.declared.concern.Concern.{Concern}
 use Rattle.adf_findings.specs.Parts.{finding_value, key_of}
-use Rattle.adf_findings.specs.Survey.{Course, FindingValue, IsSurvey, UnreadTells}
+use Rattle.adf_findings.specs.Survey.{Course, FindingValue, IsCourse, IsSurvey, UnreadTells}
 use Rattle.adf_findings.specs.Survey.IsSurvey.{read, unread}
 use Rattle.adf_findings.specs.Sound.{IsSound}
 use Rattle.adf_findings.specs.SurveyResult.{IsOfSurvey, SurveyValue, TellsOf, block_at, owner_at}
@@ -24,15 +27,15 @@ use Rattle.adf_findings.proofs.GraveFindings.{grave_is, grave_kept}
 use Rattle.adf_findings.proofs.HeadPlaces.{head_parent}
 use Rattle.adf_findings.proofs.BlockOwners.{owner_is}
 use Rattle.adf_findings.proofs.OneSurvey.{gathered, one_survey}
-use Rattle.adf_findings.proofs.SoundMarks.{clear_is_sound, inside, unread_none}
+use Rattle.adf_findings.proofs.SoundMarks.{clear_is_sound, inside, owner_of, unread_none}
 use Rattle.adf_findings.proofs.Starts.{course_size}
 use Rattle.adf_findings.proofs.Taking.{stands_but}
 
 -- of an image of which nothing is taken the findings are kept alone
 pub unread_kept : (v : SurveyValue) → UnreadTells v.image (map finding_value v.findings) → v.concerned ≡ [] → v.owners ≡ [] → v.numbers ≡ []
-    → v.taken ≡ [] → v.nodes ≡ []
+    → v.owned ≡ [] → v.taken ≡ [] → v.nodes ≡ []
     → v.parents ≡ [] → v.sound ≡ [] → v.whole ≡ [] → IsOfSurvey v
-unread_kept v told concerned owners numbers taken nodes parents sound whole = (
+unread_kept v told concerned owners numbers owned taken nodes parents sound whole = (
   [],
   map finding_value v.findings,
   record {
@@ -42,6 +45,7 @@ unread_kept v told concerned owners numbers taken nodes parents sound whole = (
         ap (λ os. option_flatten (slice_get os k)) concerned ∙ sym (no_concern_nth [] (map finding_value v.findings) k (unread_none v.image told)));
     owner = (λ b. ap (λ os. owner_at os b) owners);
     number = (λ b. ap (λ ns. slice_index_or ns b 0) numbers);
+    part = (λ b. ap (λ ms. has_mark ms b) owned);
     page = (λ i. ap (λ es. block_at es (key_of (Page i))) taken);
     node = (λ n. ap (λ ns. slice_index ns n) nodes);
     parent = (λ n. ap (λ ps. slice_index ps n) parents);
@@ -56,6 +60,24 @@ stands_with : (image : List ℕ) (f g : Found) (s : Course) (gs : List FindingVa
     → map finding_value g.findings.items ≡ gs → Stands image g (record { walk = s.walk; skipped = s.skipped; findings = gs })
 stands_with image f g s gs st same e = grind (arith, common_steps, stands_but)
 
+-- a part is inside of the image
+has_inside : (image : List ℕ) {s : Course} → IsCourse image s → (r : Role) (b : ℕ) → Has s.walk r b → b < blocks image
+has_inside image v Root b h = grind (arith, common_steps, nat_tests, root_is image (gathered image v) b h, (course_size image v).1)
+has_inside image v r b h = inside image v r b (λ e. cc) h
+
+owned_inside : (image : List ℕ) {s : Course} → IsCourse image s → (b : ℕ) → owns s.walk b ≡ true → b < blocks image
+owned_inside image {s} v b e = let y = owner_of image s.walk b e in has_inside image v y.0 b y.1
+
+-- the marks kept of blocks are those of the blocks of parts
+part_is : (image : List ℕ) {s : Course} → IsCourse image s → (marks : List Bool) → AreMarked (blocks image) marks s.walk → (b : ℕ)
+    → has_mark marks b ≡ owns s.walk b
+part_is image {s} v marks are b = elim (cases_lt b (blocks image)) [
+  | inl lt ↦ are.1 b lt
+  | inr ge ↦
+      get_or_past marks b false (omega (arith, are.0, ge))
+      ∙ sym (false_from_ne_true (owns s.walk b) (λ e. let lt = owned_inside image v b e in omega (arith, ge)))
+]
+
 -- of an image whose course is done, with its bits compared
 pub read_kept : (image : List ℕ) (f g : Found) (concerned : List (Option Concern)) (sound whole : List Bool)
     → IsCompleted image f → concerned ≡ map (λ x. blamed f x.part) f.findings.items → ((m : ℕ) → has_mark sound m ≡ is_clear image f m)
@@ -67,6 +89,7 @@ pub read_kept : (image : List ℕ) (f g : Found) (concerned : List (Option Conce
       concerned = concerned;
       owners = f.owners.items;
       numbers = f.numbers.items;
+      owned = f.owned.items;
       taken = f.taken.entries;
       nodes = f.nodes.items;
       parents = f.parents.items;
@@ -83,6 +106,7 @@ read_kept image f g concerned sound whole (s, bits, told, bits_tell) entries mar
         ap (λ os. option_flatten (slice_get os k)) entries ∙ concerned_kept image f told.course bits bits_tell told.stands k);
     owner = owner_is image (gathered image told.course) f.owners.items told.stands.owners.1;
     number = told.stands.numbers.1;
+    part = part_is image told.course f.owned.items told.stands.owned;
     page = (λ i. told.stands.taken (Page i) tt);
     node = told.stands.node;
     parent = told.stands.parent;

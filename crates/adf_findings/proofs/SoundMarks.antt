@@ -159,7 +159,7 @@ module _ (image : List ℕ) where
   no_root w Root r a i h e s = h
   no_root w _ r a i h e s = let t : Same Root r = same_of Root r e in omega arith
 
-  owner_of : (w : List (Role × ℕ)) (b : ℕ) → owns w b ≡ true → (q : Role) × Has w q b
+  pub owner_of : (w : List (Role × ℕ)) (b : ℕ) → owns w b ≡ true → (q : Role) × Has w q b
   owner_of [] b e = cc
   owner_of (x ∷ w) b e = elim (or_cases (x.1 == b) (owns w b) e) [
     | inl t ↦ (x.0, inl (refl, eqb-true x.1 b t))

@@ -12,20 +12,21 @@ use Rattle.adf_findings.specs.declared.part.Finding.{Finding}
 use Rattle.adf_findings.specs.declared.part.Key.{Key}
 use Rattle.adf_findings.specs.Concerned.{concern_of_nth, is_taken}
 use Rattle.adf_findings.specs.Files.{grave}
-use Rattle.adf_findings.specs.Found.{at_key, number_at, owner, parent_node}
+use Rattle.adf_findings.specs.Found.{at_key, number_at, owner, owns, parent_node}
 use Rattle.adf_findings.specs.Marks.{has_mark}
 use Rattle.adf_findings.specs.Parts.{by_key, finding_value, key_of}
 use Rattle.adf_findings.specs.Sound.{IsSound}
 use Rattle.adf_findings.specs.Survey.{FindingValue, IsSurvey, IsValidated}
 
--- the result: the findings and what they concern; of each block its entry and the number of the data block that it is; the
--- blocks of pages, by key; for each node its block, its parent, whether it is sound, and whether it is but for harmless findings of headers
+-- the result: the findings and what they concern; of each block its entry, the number of the data block that it is, and whether a part
+-- has it; the blocks of pages, by key; for each node its block, its parent, whether it is sound, and whether it is but for harmless findings of headers
 pub record SurveyValue : Type 0 where
   pub image : List ℕ
   pub findings : List Finding
   pub concerned : List (Option Concern)
   pub owners : List ℕ
   pub numbers : List ℕ
+  pub owned : List Bool
   pub taken : List (Key × ℕ)
   pub nodes : List ℕ
   pub parents : List ℕ
@@ -51,6 +52,7 @@ pub record TellsOf (v : SurveyValue) (w : List (Role × ℕ)) (fs : List Finding
   pub concerned : (k : ℕ) → option_flatten (slice_get v.concerned k) ≡ concern_of_nth w fs k
   pub owner : (b : ℕ) → owner_at v.owners b ≡ owner w b
   pub number : (b : ℕ) → slice_index_or v.numbers b 0 ≡ number_at w b
+  pub part : (b : ℕ) → has_mark v.owned b ≡ owns w b
   pub page : (i : ℕ) → block_at v.taken (key_of (Page i)) ≡ at_key w (key_of (Page i))
   pub node : (n : ℕ) → slice_index v.nodes n ≡ node_block w n
   pub parent : (n : ℕ) → slice_index v.parents n ≡ parent_node w n

@@ -11,7 +11,7 @@ ghost use Rattle.adf_volume.specs.Walk.{FileAt, Has, heads, node_block};
 ghost use Rattle.adf_volume.specs.Walk.Role.{Head};
 ghost use Rattle.adf_findings.specs.Concerned.{concern_of_nth, owner_of_nth};
 ghost use Rattle.adf_findings.specs.Files.{IsSoundFile, counting, file_in, grave};
-ghost use Rattle.adf_findings.specs.Found.{owner, parent_node};
+ghost use Rattle.adf_findings.specs.Found.{owner, owns, parent_node};
 ghost use Rattle.adf_findings.specs.SoundMarks.{AreMarks, mark_in, whole_in};
 ghost use Rattle.adf_findings.specs.Marks.{has_mark};
 ghost use Rattle.adf_findings.specs.Opening.{opening_in};
@@ -42,6 +42,7 @@ pub struct Survey<'i> {
     pub(crate) concerned: Vec<Option<Concern>>,
     pub(crate) owners: Vec<u32>,
     pub(crate) numbers: Vec<u32>,
+    pub(crate) owned: Vec<bool>,
     pub(crate) taken: BTreeMap<Key, u32>,
     pub(crate) nodes: Vec<u32>,
     pub(crate) parents: Vec<u32>,
@@ -60,6 +61,7 @@ impl<'i> Model for Survey<'i> {
       concerned = v.concerned.items;
       owners = v.owners.items;
       numbers = v.numbers.items;
+      owned = v.owned.items;
       taken = v.taken.entries;
       nodes = v.nodes.items;
       parents = v.parents.items;
@@ -73,6 +75,7 @@ impl<'i> Model for Survey<'i> {
       concerned = v.concerned.items;
       owners = v.owners.items;
       numbers = v.numbers.items;
+      owned = v.owned.items;
       taken = v.taken.entries;
       nodes = v.nodes.items;
       parents = v.parents.items;
@@ -151,6 +154,14 @@ impl Survey<'_> {
         ensures { OnSurvey self.now.image (λ w _. result ≡ owner w b) }
     {
         owner_at(&self.owners, b)
+    }
+
+    /// Whether a block is a part of what is found: the root, a block of the bitmap, or a block of an entry.
+    #[tactic(auto, using(crate::proofs::Keeping::tells_each))]
+    pub fn has_part(&self, b: u32) -> bool
+        ensures { OnSurvey self.now.image (λ w _. result ≡ owns w b) }
+    {
+        has_mark(&self.owned, b as usize)
     }
 
     /// The number of entries found.

@@ -1,22 +1,25 @@
 -- Hung images: the directories that are made, the steps, and what stays.
--- Letters: given the image of a survey, w its walk, fs its findings; b, p blocks; k, n numbers of blocks; v, m, l, t answers of tests.
-use Rattle.std.proofs.Common.{◌==◌, ◌&&◌, ◌||◌, slice_index_or, codes, decimal, ◌≡◌, ◌≤◌, ◌<◌, ℕ, zero, suc, ◌+◌, ◌^◌, Bool, true, false, List, []}
+-- Letters: given the image of a survey, w its walk, s whether each directory is settled; b, p blocks; k, n numbers of blocks;
+-- e an end; v, m, l, t answers of tests.
+use Rattle.std.proofs.Common.{◌==◌, ◌&&◌, ◌||◌, slice_index, slice_index_or, cond, replicate, Some, None, codes, decimal, ◌≡◌, ◌≤◌, ◌<◌, ℕ, zero, suc, ◌+◌, ◌^◌, Bool, true, false, List, []}
 use Rattle.std.proofs.Common.{◌∷◌, length, add-one, ◌∙◌, ap, arith, inl, inr, refl, subst, sym, length-append}
 use Rattle.std.specs.List.{list_all}
-use Rattle.std.proofs.lemmas.Bool.{and_from, and_left, cases_lt, or_from, or_left, or_right}
+use Rattle.std.proofs.lemmas.Bool.{and_from, and_left, cases_lt, cond-false, cond-true, or_from, or_left, or_right}
 use Rattle.std.proofs.lemmas.Bool.Decides.{nat_tests}
 use Rattle.std.proofs.lemmas.Fmt.{decimal_is_IsNumeral, length-decimal-le}
 use Rattle.std.proofs.lemmas.List.Folds.{list_all-append}
 use Rattle.adf_names.specs.Texts.{is_name, is_name_byte}
-use Rattle.adf_blocks.specs.declared.layout.TheConstants.{PARENT}
+use Rattle.adf_blocks.specs.declared.layout.TheConstants.{NEXT_IN_CHAIN, PARENT}
 use Rattle.adf_blocks.specs.Sizes.{blocks}
 use Rattle.adf_volume.specs.Image.{word_in}
-use Rattle.adf_volume.specs.Walk.{Role}
+use Rattle.adf_volume.specs.Walk.{Role, heads}
 use Rattle.adf_findings.specs.Marks.{has_mark}
-use Rattle.adf_findings.specs.Survey.{FindingValue}
-use Rattle.adf_rescue.specs.Hung.{AreMade, hung_first, hung_loose, is_made, is_named, is_vacant, readied, ready_in}
-use Rattle.adf_rescue.specs.Lost.{is_inside, is_lost, lost_among}
+use Rattle.adf_findings.specs.Found.{owns, parent_node}
+use Rattle.adf_rescue.specs.Hung.{AreEnds, AreMade, end_of, hung_at, hung_in, slot_word, last_open, open_end, hung_first, hung_loose, is_made, is_named, is_vacant, readied, ready_in}
+use Rattle.adf_rescue.specs.Lost.{directory_at, is_inside, is_lost, lost_among}
 use Rattle.adf_rescue.specs.Rescue.{lost_name}
+use Rattle.std.specs.Option.{unwrap_or}
+use Rattle.adf_rescue.proofs.LostHeaders.{number_known}
 use Rattle.std.proofs.lemmas.Str.Parse.{digit_at}
 use Rattle.std.proofs.Math.Bool.{and-false, or-false}
 use Rattle.std.proofs.lemmas.Grind.{common_steps}
@@ -40,81 +43,118 @@ name_is_valid p small =
     let all : list_all is_name_byte (lost_name p) ≡ true = list_all-append is_name_byte (codes "lost-") (decimal p) ∙ digits in
     and_from _ _ (grind (arith, nat_tests)) all
 
-module _ (given : List ℕ) (w : List (Role × ℕ)) (fs : List FindingValue) where
+module _ (given : List ℕ) (w : List (Role × ℕ)) (s : ℕ → Bool) where
   -- whether something is lost
 
-  pub none_lost_first : lost_among given w fs 0 ≡ false
+  pub none_lost_first : lost_among given w s 0 ≡ false
   unfolding lost_among
   none_lost_first = refl
 
-  pub none_lost_more : (k : ℕ) (marks : List Bool) → lost_among given w fs k ≡ false → has_mark marks k ≡ is_lost given w fs k
-      → has_mark marks k ≡ false → lost_among given w fs (k + 1) ≡ false
+  pub none_lost_more : (k : ℕ) (marks : List Bool) → lost_among given w s k ≡ false → has_mark marks k ≡ is_lost given w s k
+      → has_mark marks k ≡ false → lost_among given w s (k + 1) ≡ false
   unfolding lost_among
-  none_lost_more k marks before is none = rw add-one (or_from (lost_among given w fs k) (is_lost given w fs k) before (sym is ∙ none))
+  none_lost_more k marks before is none = rw add-one (or_from (lost_among given w s k) (is_lost given w s k) before (sym is ∙ none))
 
-  pub one_lost : (k n : ℕ) → k < n → is_lost given w fs k ≡ true → lost_among given w fs n ≡ true
+  pub one_lost : (k n : ℕ) → k < n → is_lost given w s k ≡ true → lost_among given w s n ≡ true
   unfolding lost_among
   one_lost k zero inside is = absurd (omega arith)
   one_lost k (suc n) inside is = elim (cases_lt k n) [
-    | inl before ↦ or_left (lost_among given w fs n) (is_lost given w fs n) (one_lost k n before is)
+    | inl before ↦ or_left (lost_among given w s n) (is_lost given w s n) (one_lost k n before is)
     | inr from ↦
         let last : k ≡ n = omega arith in
-        or_right (lost_among given w fs n) (is_lost given w fs n) (subst (λ i. is_lost given w fs i ≡ true) last is)
+        or_right (lost_among given w s n) (is_lost given w s n) (subst (λ i. is_lost given w s i ≡ true) last is)
   ]
 
   -- the steps
 
-  pub readied_more : (k : ℕ) (old new : List ℕ) → old ≡ readied given w fs k → new ≡ ready_in given w fs old k → new ≡ readied given w fs (k + 1)
+  pub readied_more : (k : ℕ) (old new : List ℕ) → old ≡ readied given w s k → new ≡ ready_in given w s old k → new ≡ readied given w s (k + 1)
   unfolding readied
-  readied_more k old new before step = step ∙ (ap (λ l. ready_in given w fs l k) before ∙ rw add-one refl)
+  readied_more k old new before step = step ∙ (ap (λ l. ready_in given w s l k) before ∙ rw add-one refl)
 
-  pub readied_first : readied given w fs 0 ≡ given
+  pub readied_first : readied given w s 0 ≡ given
   unfolding readied
   readied_first = refl
 
-  pub hung_more : (k : ℕ) (old new : List ℕ) → old ≡ hung_first given w fs k → new ≡ hung_loose given w fs old k → new ≡ hung_first given w fs (k + 1)
+  pub hung_more : (k : ℕ) (old new : List ℕ) → old ≡ hung_first given w s k → new ≡ hung_loose given w s old k → new ≡ hung_first given w s (k + 1)
   unfolding hung_first
-  hung_more k old new before step = step ∙ (ap (λ l. hung_loose given w fs l k) before ∙ rw add-one refl)
+  hung_more k old new before step = step ∙ (ap (λ l. hung_loose given w s l k) before ∙ rw add-one refl)
 
-  pub hung_begun : hung_first given w fs 0 ≡ readied given w fs (blocks given)
+  pub hung_begun : hung_first given w s 0 ≡ readied given w s (blocks given)
   unfolding hung_first
   hung_begun = refl
 
 -- what a loop over the marks needs
 pub ruleset lost_steps = (none_lost_first, none_lost_more, one_lost)
 
+-- the blocks behind which things are hung
+
+-- no numbers
+pub unset : (n : ℕ) (numbers : List ℕ) → numbers ≡ replicate n 0 → (i : ℕ) → slice_index numbers i ≡ 0
+unset n numbers e i = grind (arith, common_steps)
+
+pub ends_first : (given : List ℕ) (w : List (Role × ℕ)) (ends : List ℕ) → length ends ≡ suc (heads w) → ((n : ℕ) → slice_index ends n ≡ 0)
+    → AreEnds given w 0 ends
+unfolding last_open
+ends_first given w ends len none = record { length = len; end = λ n le. none n }
+
+module _ {given : List ℕ} {w : List (Role × ℕ)} {k : ℕ} {ends : List ℕ} (are : AreEnds given w k ends) where
+  pub ends_more : {more : List ℕ} (e p : ℕ) → p ≡ parent_node w (k + 1) → Some e ≡ open_end given w (k + 1)
+      → ((m : ℕ) → m < length ends → slice_index more m ≡ cond (p == m) e (slice_index ends m)) → length more ≡ length ends
+      → AreEnds given w (k + 1) more
+  unfolding last_open
+  ends_more e p is some put len = grind (arith, common_steps, add-one)
+
+  pub ends_same : None ≡ open_end given w (k + 1) → AreEnds given w (k + 1) ends
+  unfolding last_open
+  ends_same closed = grind (arith, common_steps, add-one)
+
+module _ (given : List ℕ) (w : List (Role × ℕ)) (p : ℕ) where
+  pub end_found : (n : ℕ) (ends : List ℕ) → AreEnds given w (heads w) ends → n ≡ unwrap_or (directory_at given w p) 0
+      → slice_index ends n ≡ end_of given w p
+  end_found n ends are is = ap (slice_index ends) is ∙ are.end (unwrap_or (directory_at given w p) 0) (number_known given w p)
+
+  pub hung_at_end : (image : List ℕ) (b e : ℕ) → owns w (word_in image p (slot_word b)) ≡ true → e ≡ end_of given w p → is_inside image e ≡ true
+      → hung_at image b p e NEXT_IN_CHAIN ≡ hung_in given w image b p
+  unfolding hung_in
+  hung_at_end image b e full is inside = grind (arith, common_steps, cond-true)
+
+  pub not_hung : (image : List ℕ) (b e : ℕ) → owns w (word_in image p (slot_word b)) ≡ true → e ≡ end_of given w p → is_inside image e ≡ false
+      → image ≡ hung_in given w image b p
+  unfolding hung_in
+  not_hung image b e full is out = grind (arith, common_steps, cond-true, cond-false)
+
 -- the marks of directories that are made
 
-pub made_first : (given : List ℕ) (w : List (Role × ℕ)) (fs : List FindingValue) (marks : List Bool) → length marks ≡ blocks given
-    → ((p : ℕ) → has_mark marks p ≡ false) → AreMade given w fs 0 marks
+pub made_first : (given : List ℕ) (w : List (Role × ℕ)) (s : ℕ → Bool) (marks : List Bool) → length marks ≡ blocks given
+    → ((p : ℕ) → has_mark marks p ≡ false) → AreMade given w s 0 marks
 unfolding is_named
-made_first given w fs marks len none = record { length = len; made = λ p lt. none p ∙ sym (and-false (is_vacant given w fs p)) }
+made_first given w s marks len none = record { length = len; made = λ p lt. none p ∙ sym (and-false (is_vacant given w s p)) }
 
 and_or : (v m t : Bool) → ((v && m) || v && t) ≡ (v && (m || t))
 and_or true m t = refl
 and_or false m t = refl
 
-module _ {given : List ℕ} {w : List (Role × ℕ)} {fs : List FindingValue} {k : ℕ} {marks : List Bool} (are : AreMade given w fs k marks) where
-  pub made_more : {more : List Bool} → is_lost given w fs k ≡ true
-      → ((p : ℕ) → p < length marks → has_mark more p ≡ (has_mark marks p || is_vacant given w fs p && (word_in given k PARENT == p)))
-      → length more ≡ length marks → AreMade given w fs (k + 1) more
+module _ {given : List ℕ} {w : List (Role × ℕ)} {s : ℕ → Bool} {k : ℕ} {marks : List Bool} (are : AreMade given w s k marks) where
+  pub made_more : {more : List Bool} → is_lost given w s k ≡ true
+      → ((p : ℕ) → p < length marks → has_mark more p ≡ (has_mark marks p || is_vacant given w s p && (word_in given k PARENT == p)))
+      → length more ≡ length marks → AreMade given w s (k + 1) more
   unfolding is_named
   made_more lost put len = grind (arith, common_steps, and_or, add-one)
 
-  pub made_same : is_lost given w fs k ≡ false → AreMade given w fs (k + 1) marks
+  pub made_same : is_lost given w s k ≡ false → AreMade given w s (k + 1) marks
   unfolding is_named
   made_same kept = record {
     length = are.length;
     made = λ p lt.
         are.made p lt
-        ∙ ((λ i. is_vacant given w fs p && sym (or-false (is_named given w fs p k)) i)
-        ∙ rw add-one (λ i. is_vacant given w fs p && (is_named given w fs p k || sym kept i && (word_in given k PARENT == p))));
+        ∙ ((λ i. is_vacant given w s p && sym (or-false (is_named given w s p k)) i)
+        ∙ rw add-one (λ i. is_vacant given w s p && (is_named given w s p k || sym kept i && (word_in given k PARENT == p))));
   }
 
-vacant_inside : (given : List ℕ) (w : List (Role × ℕ)) (fs : List FindingValue) (p : ℕ) → blocks given ≤ p → is_vacant given w fs p ≡ false
+vacant_inside : (given : List ℕ) (w : List (Role × ℕ)) (s : ℕ → Bool) (p : ℕ) → blocks given ≤ p → is_vacant given w s p ≡ false
 unfolding is_vacant
-vacant_inside given w fs p out = and_left _ _ (and_left _ _ (and_left (is_inside given p) _ (grind (arith, nat_tests))))
+vacant_inside given w s p out = and_left _ _ (and_left _ _ (and_left (is_inside given p) _ (grind (arith, nat_tests))))
 
-pub made_marked : (given : List ℕ) (w : List (Role × ℕ)) (fs : List FindingValue) (marks : List Bool) → AreMade given w fs (blocks given) marks
-    → (p : ℕ) → has_mark marks p ≡ is_made given w fs p
-made_marked given w fs marks are p = grind (arith, common_steps, cases_lt, and_left, vacant_inside)
+pub made_marked : (given : List ℕ) (w : List (Role × ℕ)) (s : ℕ → Bool) (marks : List Bool) → AreMade given w s (blocks given) marks
+    → (p : ℕ) → has_mark marks p ≡ is_made given w s p
+made_marked given w s marks are p = grind (arith, common_steps, cases_lt, and_left, vacant_inside)

@@ -1,14 +1,18 @@
 -- What stays in a hung image.
--- Letters: given the image of a survey, w its walk, fs its findings; b, c, d, p blocks; k a number of blocks; i the number of a word;
+-- Letters: given the image of a survey, w its walk, s whether each directory is settled; b, c, d, p, e blocks; n, m nodes; i the number of a
+-- word; k that of one too, or a number of blocks or nodes;
 -- x, y, z images.
-use Rattle.std.proofs.Common.{◌==◌, ◌&&◌, ◌||◌, ◌%◌, None, cond, is_some, replicate, slice_index, ◌≡◌, ◌≢◌, ◌≤◌, ◌<◌, ℕ, zero, suc, ◌*◌, ◌+◌, ◌^◌}
-use Rattle.std.proofs.Common.{true, false, List, length, ◌∙◌, arith, refl, subst, sym}
+use Rattle.std.proofs.Common.{◌==◌, ◌&&◌, ◌||◌, ◌%◌, ◌/◌, None, cond, is_some, replicate, slice_index, ◌≡◌, ◌≢◌, ◌≤◌, ◌<◌, ℕ, zero, suc, ◌*◌, ◌+◌, ◌^◌}
+use Rattle.std.proofs.Common.{Bool, true, false, List, [], ◌∷◌, length, ◌∙◌, ap, arith, inl, inr, refl, subst, sym, ◌⊎◌}
+use Rattle.std.specs.Prelude.{nat_le, nat_lt}
+use Rattle.std.specs.Option.{unwrap_or}
 use Rattle.std.proofs.lemmas.Bool.{and_from, and_left, and_parts, and_right, cases_Bool, cond-false, cond-true, cond_both, not_from_true, or_left, or_right}
+use Rattle.std.proofs.lemmas.Bool.{eq-eqb, eqb-true}
 use Rattle.std.proofs.lemmas.Bool.Decides.{nat_tests}
 use Rattle.std.proofs.lemmas.List.{length-replicate}
 use Rattle.std.proofs.lemmas.Grind.{common_steps}
-use Rattle.adf_base.specs.Words.{block, checksum, with_block, with_bytes, with_word}
-use Rattle.adf_base.proofs.WordLaws.{block_other, length-block, length-with_bytes, length-with_word}
+use Rattle.adf_base.specs.Words.{block, checksum, with_block, with_bytes, with_word, word}
+use Rattle.adf_base.proofs.WordLaws.{block_other, block_written, length-block, length-with_bytes, length-with_word, word-with_word_other}
 use Rattle.adf_names.specs.declared.kind.Kind.TheVariants.{Ofs, Ffs}
 use Rattle.adf_blocks.specs.declared.layout.TheConstants.{CHECKSUM, FIRST_SLOT, NEXT_IN_CHAIN, PARENT, SLOTS}
 use Rattle.adf_blocks.specs.HeadBlock.{FitsHead, head_block}
@@ -16,11 +20,10 @@ use Rattle.adf_blocks.specs.Sizes.{blocks}
 use Rattle.adf_blocks.proofs.HeadLaws.{length_head_block}
 use Rattle.adf_volume.specs.Image.{kind_of, root_of, word_in}
 use Rattle.adf_volume.specs.Start.{is_image_len}
-use Rattle.adf_volume.specs.Walk.{Role}
-use Rattle.adf_findings.specs.Found.{owner}
-use Rattle.adf_findings.specs.Survey.{FindingValue}
-use Rattle.adf_rescue.specs.Hung.{home, hung, hung_first, hung_in, hung_loose, is_container, is_hung, is_made, is_vacant, made_header}
-use Rattle.adf_rescue.specs.Hung.{put_in, readied, ready_in, sealed_in, slot_word}
+use Rattle.adf_volume.specs.Walk.{Role, heads, node_block}
+use Rattle.adf_findings.specs.Found.{entry_in, owner, owns}
+use Rattle.adf_rescue.specs.Hung.{end_of, home, hung, hung_at, hung_behind, hung_first, hung_in, hung_loose, is_container, is_hung, is_made, is_vacant}
+use Rattle.adf_rescue.specs.Hung.{last_open, made_header, put_in, readied, ready_in, sealed_in, slot_word}
 use Rattle.adf_rescue.specs.Lost.{directory_at, is_inside, is_lost, says_directory}
 use Rattle.adf_rescue.proofs.HungImages.{name_is_valid}
 use Rattle.adf_rescue.proofs.LostHeaders.{root_at}
@@ -52,47 +55,88 @@ at_first p h = record { length = h.length; others = λ c nb np. h.others c nb nb
 at_second : (b : ℕ) {p : ℕ} {x y : List ℕ} → Touches p p x y → Touches b p x y
 at_second b h = record { length = h.length; others = λ c nb np. h.others c np np }
 
+-- another word of the block stays
+word_other : (x : List ℕ) (b i v k : ℕ) → b < blocks x → i < 128 → k ≢ i → word_in (put_in x b i v) b k ≡ word_in x b k
+word_other x b i v k inside lt other =
+    let len = length-block x b (whole x b inside) in
+    let long : length (with_word (block x b) i v) ≡ 512 = length-with_word (block x b) i v (omega (arith, len, lt)) ∙ len in
+    ap (λ bs. word bs k) (block_written x b (with_word (block x b) i v) (whole x b inside) long)
+    ∙ word-with_word_other (block x b) i v k (omega (arith, len, lt)) other
+
 still : (x y : List ℕ) (b : ℕ) → length y ≡ length x → b < blocks x → b < blocks y
 still x y b e inside = omega (arith, e, inside)
 
-hung_touches : (x : List ℕ) (b p : ℕ) → b < blocks x → p < blocks x → Touches b p x (hung_in x b p)
-unfolding hung_in
-hung_touches x b p lb lp =
-    let next = word_in x p (slot_word b) in
-    let s1 : List ℕ = put_in x b NEXT_IN_CHAIN next in
-    let s2 : List ℕ = put_in s1 b PARENT p in
-    let s3 : List ℕ = sealed_in s2 b in
-    let s4 : List ℕ = put_in s3 p (slot_word b) b in
-    let h1 = at_first p (with_word_written x b NEXT_IN_CHAIN next lb (omega arith)) in
-    let h2 = touches_more h1 (at_first p (with_word_written s1 b PARENT p (still x s1 b h1.length lb) (omega arith))) in
-    let h3 =
-    touches_more h2 (at_first p (with_word_written s2 b CHECKSUM (checksum CHECKSUM (block s2 b)) (still x s2 b h2.length lb) (omega arith))) in
-    let h4 = touches_more h3 (at_second b (with_word_written s3 p (slot_word b) b (still x s3 p h3.length lp) (omega arith))) in
-    touches_more h4 (at_second b (with_word_written s4 p CHECKSUM (checksum CHECKSUM (block s4 p)) (still x s4 p h4.length lp) (omega arith)))
+module _ (x : List ℕ) (b p e i : ℕ) (lb : b < blocks x) (le : e < blocks x) (lt : i < 128) where
+  abbrev s1 : List ℕ
+  s1 = put_in x b NEXT_IN_CHAIN (word_in x e i)
+
+  abbrev s2 : List ℕ
+  s2 = put_in s1 b PARENT p
+
+  abbrev s3 : List ℕ
+  s3 = sealed_in s2 b
+
+  abbrev s4 : List ℕ
+  s4 = put_in s3 e i b
+
+  first_touches_b : Touches b b x s3
+  first_touches_b =
+      let h1 = with_word_written x b NEXT_IN_CHAIN (word_in x e i) lb (omega arith) in
+      let h2 = touches_more h1 (with_word_written s1 b PARENT p (still x s1 b h1.length lb) (omega arith)) in
+      touches_more h2 (with_word_written s2 b CHECKSUM (checksum CHECKSUM (block s2 b)) (still x s2 b h2.length lb) (omega arith))
+
+  hung_touches : Touches b e x (hung_at x b p e i)
+  unfolding hung_at
+  hung_touches =
+      let h3 = at_first e first_touches_b in
+      let h4 = touches_more h3 (at_second b (with_word_written s3 e i b (still x s3 e h3.length le) lt)) in
+      touches_more h4 (at_second b (with_word_written s4 e CHECKSUM (checksum CHECKSUM (block s4 e)) (still x s4 e h4.length le) (omega arith)))
+
+  -- of block e only the sum and word i change
+  hung_word : (k : ℕ) → e ≢ b → k ≢ i → k ≢ CHECKSUM → k < 128 → word_in (hung_at x b p e i) e k ≡ word_in x e k
+  unfolding hung_at
+  hung_word k ne other sum small =
+      let same = first_touches_b.others e ne ne in
+      let l3 = still x s3 e first_touches_b.length le in
+      let h4 = with_word_written s3 e i b l3 lt in
+      let l4 = still s3 s4 e h4.length l3 in
+      word_other s4 e CHECKSUM (checksum CHECKSUM (block s4 e)) k l4 (omega arith) sum
+      ∙ (word_other s3 e i b k l3 lt other ∙ ap (λ bs. word bs k) same)
 
 -- the header of a directory that is made is a block
 
 made_header_fits : (root p : ℕ) → root < 2 ^ 32 → p < 2 ^ 32 → FitsHead (made_header root p)
 made_header_fits root p r s = record { own = s; parent = r; name = name_is_valid p s; comment = omega arith; body = length-replicate {A = ℕ} SLOTS 0 }
 
+-- the block of an entry is that of a part
+owner_owns : (w : List (Role × ℕ)) (b : ℕ) → is_some (owner w b) ≡ true → owns w b ≡ true
+owner_owns [] b e = cc
+owner_owns (x ∷ w) b e = elim (cases_Bool (x.1 == b)) [
+  | inl here ↦ or_left (x.1 == b) (owns w b) here
+  | inr other ↦ or_right (x.1 == b) (owns w b) (owner_owns w b (sym (ap is_some (cond-false (x.1 == b) (entry_in x.0) (owner w b) other)) ∙ e))
+]
+
+slot_small : (b : ℕ) → slot_word b < 128
+slot_small b = omega arith
+
 -- the laws, of an image with the length of a volume
 
-module _ (given : List ℕ) (w : List (Role × ℕ)) (fs : List FindingValue) (len : is_image_len (length given) ≡ true) where
+module _ (given : List ℕ) (w : List (Role × ℕ)) (s : ℕ → Bool) (len : is_image_len (length given) ≡ true) where
   -- what is neither lost nor made
 
-  owned_not_lost : (b : ℕ) → is_some (owner w b) ≡ true → is_lost given w fs b ≡ false
+  owned_not_lost : (b : ℕ) → owns w b ≡ true → is_lost given w s b ≡ false
   unfolding is_lost
   owned_not_lost b e = grind (arith, common_steps, and_left, and_right, not_from_true)
 
-  owned_not_made : (b : ℕ) → is_some (owner w b) ≡ true → is_made given w fs b ≡ false
+  owned_not_made : (b : ℕ) → owns w b ≡ true → is_made given w s b ≡ false
   unfolding is_vacant
-  owned_not_made b e = and_left _ _ (and_left _ _ (and_right _ _ (not_from_true (is_some (owner w b)) e)))
+  owned_not_made b e = and_left _ _ (and_left _ _ (and_right _ _ (not_from_true (owns w b) e)))
 
-  boot_not_lost : is_lost given w fs 0 ≡ false
+  boot_not_lost : is_lost given w s 0 ≡ false
   unfolding is_lost
   boot_not_lost = refl
 
-  boot_not_made : is_made given w fs 0 ≡ false
+  boot_not_made : is_made given w s 0 ≡ false
   unfolding is_vacant
   boot_not_made = refl
 
@@ -104,17 +148,17 @@ module _ (given : List ℕ) (w : List (Role × ℕ)) (fs : List FindingValue) (l
 
   -- what is not hung stays
   abbrev Keeps : List ℕ → List ℕ → Type 0
-  Keeps x y = (length y ≡ length x) × ((c : ℕ) → is_hung given w fs c ≡ false → block y c ≡ block x c)
+  Keeps x y = (length y ≡ length x) × ((c : ℕ) → is_hung given w s c ≡ false → block y c ≡ block x c)
 
-  keeps : {b : ℕ} {x y : List ℕ} → is_hung given w fs b ≡ true → Touches b b x y → Keeps x y
+  keeps : {b : ℕ} {x y : List ℕ} → is_hung given w s b ≡ true → Touches b b x y → Keeps x y
   keeps h t = (
     t.length,
     λ c out.
-        let ne : c ≢ _ = λ e. let yes = subst (λ i. is_hung given w fs i ≡ true) (sym e) h in cc in t.others c ne ne,
+        let ne : c ≢ _ = λ e. let yes = subst (λ i. is_hung given w s i ≡ true) (sym e) h in cc in t.others c ne ne,
   )
 
   -- making ready changes what is hung alone
-  ready_touches : (x : List ℕ) (b : ℕ) → length x ≡ length given → b < blocks given → Keeps x (ready_in given w fs x b)
+  ready_touches : (x : List ℕ) (b : ℕ) → length x ≡ length given → b < blocks given → Keeps x (ready_in given w s x b)
   unfolding ready_in
   ready_touches x b same inside =
       let here = still given x b same inside in
@@ -122,86 +166,175 @@ module _ (given : List ℕ) (w : List (Role × ℕ)) (fs : List FindingValue) (l
       let long = length-block x b (whole x b here) in
       let none : List ℕ = replicate (4 * SLOTS) 0 in
       let zeros : List ℕ = with_bytes (block x b) (4 * FIRST_SLOT) none in
-      cond_both (is_made given w fs b) (with_block x b head) _ (Keeps x)
-      (λ made. keeps (or_right (is_lost given w fs b) _ made) (written x head b here
+      cond_both (is_made given w s b) (with_block x b head) _ (Keeps x)
+      (λ made. keeps (or_right (is_lost given w s b) _ made) (written x head b here
       (length_head_block (made_header (root_of given) b) (made_header_fits (root_of given) b root_small (omega (arith, inside, few))))))
-      (λ other. cond_both (is_lost given w fs b && says_directory given b) (with_block x b zeros) x (Keeps x)
-      (λ lost. keeps (or_left (is_lost given w fs b) _ (and_parts (is_lost given w fs b) _ lost).0) (written x zeros b here
+      (λ other. cond_both (is_lost given w s b && says_directory given b) (with_block x b zeros) x (Keeps x)
+      (λ lost. keeps (or_left (is_lost given w s b) _ (and_parts (is_lost given w s b) _ lost).0) (written x zeros b here
       (length-with_bytes (block x b) (4 * FIRST_SLOT) none (omega (arith, long, length-replicate {A = ℕ} (4 * SLOTS) 0)) ∙ long)))
       (λ none. (refl, λ c out. refl)))
 
-  readied_touches : (k : ℕ) → k ≤ blocks given → Keeps given (readied given w fs k)
+  readied_touches : (k : ℕ) → k ≤ blocks given → Keeps given (readied given w s k)
   unfolding readied
   readied_touches zero le = (refl, λ c out. refl)
   readied_touches (suc k) le =
       let h = readied_touches k (omega arith) in
-      let t = ready_touches (readied given w fs k) k h.0 (omega arith) in
+      let t = ready_touches (readied given w s k) k h.0 (omega arith) in
       (t.0 ∙ h.0, λ c out. t.1 c out ∙ h.1 c out)
 
   -- the home is in range
-  home_inside : (b : ℕ) → home given w fs b < blocks given
+  home_inside : (b : ℕ) → home given w s b < blocks given
   unfolding home
   home_inside b = grind (arith, common_steps, cases_Bool, and_parts, nat_tests, cond-true, cond-false, root_within)
 
-  -- hanging changes what is hung, and the homes
-  abbrev KeepsMore : List ℕ → List ℕ → Type 0
-  KeepsMore x y = (length y ≡ length x)
-      × ((c : ℕ) → is_hung given w fs c ≡ false → ((d : ℕ) → is_hung given w fs d ≡ true → home given w fs d ≢ c) → block y c ≡ block x c)
+  -- block c is neither a home of what is hung nor the end there
+  abbrev IsApart : ℕ → Type 0
+  IsApart c = ((d : ℕ) → is_hung given w s d ≡ true → home given w s d ≢ c)
+      × ((d : ℕ) → is_hung given w s d ≡ true → is_inside given (end_of given w (home given w s d)) ≡ true → end_of given w (home given w s d) ≢ c)
 
-  loose_touches : (x : List ℕ) (b : ℕ) → length x ≡ length given → b < blocks given → KeepsMore x (hung_loose given w fs x b)
-  unfolding hung_loose
+  -- hanging changes what is hung, the homes and the ends; and no word that leads to a part of the survey
+  abbrev IsOwnedWord : ℕ → ℕ → Type 0
+  IsOwnedWord c i = (is_hung given w s c ≡ false) × (i < 128) × (i ≢ CHECKSUM) × (owns w (word_in given c i) ≡ true)
+
+  record KeepsMore (x y : List ℕ) : Type 0 where
+    length : length y ≡ length x
+    others : (c : ℕ) → is_hung given w s c ≡ false → IsApart c → block y c ≡ block x c
+    words : ((c i : ℕ) → IsOwnedWord c i → word_in x c i ≡ word_in given c i) → (c i : ℕ) → IsOwnedWord c i → word_in y c i ≡ word_in x c i
+
+  keeps_all : (x : List ℕ) → KeepsMore x x
+  keeps_all x = record { length = refl; others = λ c out apart. refl; words = λ before c i owned. refl }
+
+  -- where block b is hung at word i of block e, which leads to no part of the survey
+  module _ (x : List ℕ) (b : ℕ) (same : length x ≡ length given) (inside : b < blocks given) (is : is_hung given w s b ≡ true) (e i : ℕ)
+      (le : e < blocks given) (lt : i < 128) where
+    not_it : (c : ℕ) → is_hung given w s c ≡ false → c ≢ b
+    not_it c out at = let yes = subst (λ i. is_hung given w s i ≡ true) (sym at) is in cc
+
+    at_keeps : ((c : ℕ) → IsApart c → c ≢ e) → (((c k : ℕ) → IsOwnedWord c k → word_in x c k ≡ word_in given c k) → IsOwnedWord e i → ⊥)
+        → KeepsMore x (hung_at x b (home given w s b) e i)
+    at_keeps apart_from free =
+        let lb = still given x b same inside in
+        let lx = still given x e same le in
+        let t = hung_touches x b (home given w s b) e i lb lx lt in
+        record {
+          length = t.length;
+          others = λ c out apart. t.others c (not_it c out) (apart_from c apart);
+          words = λ before c k owned. elim (cases_Bool (c == e)) [
+            | inl y ↦
+                let at = eqb-true c e y in
+                let here : IsOwnedWord e k = subst (λ c. IsOwnedWord c k) at owned in
+                let other : k ≢ i = λ at_word. free before (subst (λ k. IsOwnedWord e k) at_word here) in
+                subst (λ c. word_in (hung_at x b (home given w s b) e i) c k ≡ word_in x c k) (sym at)
+                (hung_word x b (home given w s b) e i lb lx lt k (not_it e here.0) other here.2 here.1)
+            | inr n ↦ ap (λ bs. word bs k) (t.others c (not_it c owned.0) (λ at. let y = eq-eqb c e at in cc))
+          ];
+        }
+
+  -- the word of an end leads to no part of the survey
+  open_word : (n k : ℕ) → (last_open given w n k ≡ 0) ⊎ (owns w (word_in given (last_open given w n k) NEXT_IN_CHAIN) ≡ false)
+  unfolding last_open
+  open_word n zero = inl refl
+  open_word n (suc k) = grind (arith, common_steps, open_word n k, cases_Bool, cond-true, cond-false)
+
+  loose_touches : (x : List ℕ) (b : ℕ) → length x ≡ length given → b < blocks given → KeepsMore x (hung_loose given w s x b)
+  unfolding hung_loose hung_in
   loose_touches x b same inside =
-      cond_both (is_hung given w fs b) (hung_in x b (home given w fs b)) x (KeepsMore x)
+      let p : ℕ = home given w s b in
+      let e : ℕ = end_of given w p in
+      cond_both (is_hung given w s b) (hung_in given w x b p) x (KeepsMore x)
       (λ is.
-      let t = hung_touches x b (home given w fs b) (still given x b same inside) (still given x (home given w fs b) same (home_inside b)) in (
-        t.length,
-        λ c out no_home.
-            t.others c (λ e. let yes = subst (λ i. is_hung given w fs i ≡ true) (sym e) is in cc) (λ e. no_home b is (sym e)),
-      ))
-      (λ none. (refl, λ c out no_home. refl))
+      cond_both (owns w (word_in x p (slot_word b))) (hung_behind x b p e) (hung_at x b p p (slot_word b)) (KeepsMore x)
+      (λ full.
+      cond_both (is_inside x e) (hung_at x b p e NEXT_IN_CHAIN) x (KeepsMore x)
+      (λ there.
+      let low : 2 ≤ e = grind (arith, nat_tests) in
+      let high : e < blocks x = grind (arith, nat_tests) in
+      let found : is_inside given e ≡ true = sym (ap (λ l. nat_le 2 e && nat_lt e (l / 512)) same) ∙ there in
+      at_keeps x b same inside is e NEXT_IN_CHAIN (still x given e (sym same) high) (omega arith) (λ c apart at. apart.1 b is found (sym at))
+      (λ before owned. elim (open_word (unwrap_or (directory_at given w p) 0) (heads w)) [
+        | inl none ↦ omega (arith, low, none)
+        | inr free ↦ let yes = owned.3 in cc
+      ]))
+      (λ out. keeps_all x))
+      (λ free.
+      at_keeps x b same inside is p (slot_word b) (home_inside b) (slot_small b) (λ c apart at. apart.0 b is (sym at))
+      (λ before owned. let yes = subst (λ v. owns w v ≡ true) (sym (before p (slot_word b) owned)) owned.3 in cc)))
+      (λ none. keeps_all x)
 
-  first_touches : (k : ℕ) → k ≤ blocks given → KeepsMore given (hung_first given w fs k)
+  record KeepsAll (y : List ℕ) : Type 0 where
+    length : length y ≡ length given
+    others : (c : ℕ) → is_hung given w s c ≡ false → IsApart c → block y c ≡ block given c
+    words : (c i : ℕ) → IsOwnedWord c i → word_in y c i ≡ word_in given c i
+
+  first_touches : (k : ℕ) → k ≤ blocks given → KeepsAll (hung_first given w s k)
   unfolding hung_first
-  first_touches zero le = let h = readied_touches (blocks given) (omega arith) in (h.0, λ c out no_home. h.1 c out)
+  first_touches zero le =
+      let h = readied_touches (blocks given) (omega arith) in
+      record { length = h.0; others = λ c out apart. h.1 c out; words = λ c i owned. ap (λ bs. word bs i) (h.1 c owned.0) }
   first_touches (suc k) le =
       let h = first_touches k (omega arith) in
-      let t = loose_touches (hung_first given w fs k) k h.0 (omega arith) in
-      (t.0 ∙ h.0, λ c out no_home. t.1 c out no_home ∙ h.1 c out no_home)
+      let t = loose_touches (hung_first given w s k) k h.length (omega arith) in
+      record {
+        length = t.length ∙ h.length;
+        others = λ c out apart. t.others c out apart ∙ h.others c out apart;
+        words = λ c i owned. t.words h.words c i owned ∙ h.words c i owned;
+      }
 
-  pub length_kept : length (hung given w fs) ≡ length given
-  length_kept = (first_touches (blocks given) (omega arith)).0
+  pub length_kept : length (hung given w s) ≡ length given
+  length_kept = (first_touches (blocks given) (omega arith)).length
 
-  pub blocks_kept : (b : ℕ) → is_hung given w fs b ≡ false → ((d : ℕ) → is_hung given w fs d ≡ true → home given w fs d ≢ b)
-      → block (hung given w fs) b ≡ block given b
-  blocks_kept = (first_touches (blocks given) (omega arith)).1
+  apart_kept : (b : ℕ) → is_hung given w s b ≡ false → ((d : ℕ) → is_hung given w s d ≡ true → home given w s d ≢ b)
+      → ((d : ℕ) → is_hung given w s d ≡ true → is_inside given (end_of given w (home given w s d)) ≡ true → end_of given w (home given w s d) ≢ b)
+      → block (hung given w s) b ≡ block given b
+  apart_kept b out no_home no_end = (first_touches (blocks given) (omega arith)).others b out (no_home, no_end)
+
+  pub blocks_kept : (b : ℕ) → is_hung given w s b ≡ false → ((d : ℕ) → is_hung given w s d ≡ true → home given w s d ≢ b)
+      → ((d : ℕ) → is_hung given w s d ≡ true → end_of given w (home given w s d) ≢ b) → block (hung given w s) b ≡ block given b
+  blocks_kept b out no_home no_end = apart_kept b out no_home (λ d h inside. no_end d h)
+
+  pub words_kept : (b i : ℕ) → is_hung given w s b ≡ false → i < 128 → i ≢ CHECKSUM → owns w (word_in given b i) ≡ true
+      → word_in (hung given w s) b i ≡ word_in given b i
+  words_kept b i out small sum owned = (first_touches (blocks given) (omega arith)).words b i (out, small, sum, owned)
 
   -- what is no directory is no home
-  no_home : (b d : ℕ) → (is_inside given b && is_container given w fs b) ≡ false → b ≢ root_of given → home given w fs d ≢ b
+  no_home : (b d : ℕ) → (is_inside given b && is_container given w s b) ≡ false → b ≢ root_of given → home given w s d ≢ b
   unfolding home
   no_home b d none ne e =
       let p : ℕ = word_in given d PARENT in
-      cond_both (is_lost given w fs d && is_inside given p && is_container given w fs p) p (root_of given) (λ h. h ≡ b → ⊥)
+      cond_both (is_lost given w s d && is_inside given p && is_container given w s p) p (root_of given) (λ h. h ≡ b → ⊥)
       (λ named at.
-      let parts = and_parts (is_lost given w fs d && is_inside given p) (is_container given w fs p) named in
-      let both : (is_inside given p && is_container given w fs p) ≡ true =
-      and_from (is_inside given p) (is_container given w fs p) (and_parts (is_lost given w fs d) (is_inside given p) parts.0).1 parts.1 in
-      let clash = subst (λ i. (is_inside given i && is_container given w fs i) ≡ true) at both in absurd cc)
+      let parts = and_parts (is_lost given w s d && is_inside given p) (is_container given w s p) named in
+      let both : (is_inside given p && is_container given w s p) ≡ true =
+      and_from (is_inside given p) (is_container given w s p) (and_parts (is_lost given w s d) (is_inside given p) parts.0).1 parts.1 in
+      let clash = subst (λ i. (is_inside given i && is_container given w s i) ≡ true) at both in absurd cc)
       (λ other at. ne (sym at)) e
 
-  -- the blocks of entries that are no directories
-  pub entries_kept : (b : ℕ) → is_some (owner w b) ≡ true → directory_at given w b ≡ None → block (hung given w fs) b ≡ block given b
-  entries_kept b owned no_directory =
-      let lost = owned_not_lost b owned in
-      let made = owned_not_made b owned in
+  -- an end is a header
+  end_is_header : (n k : ℕ) → (last_open given w n k ≡ 0) ⊎ ((m : ℕ) × (node_block w m ≡ last_open given w n k))
+  unfolding last_open
+  end_is_header n zero = inl refl
+  end_is_header n (suc k) = grind (arith, common_steps, end_is_header n k, cases_Bool, cond-true, cond-false)
+
+  -- the blocks of entries that are no headers
+  pub entries_kept : (b : ℕ) → is_some (owner w b) ≡ true → directory_at given w b ≡ None → ((n : ℕ) → node_block w n ≢ b)
+      → block (hung given w s) b ≡ block given b
+  entries_kept b owned no_directory no_head =
+      let lost = owned_not_lost b (owner_owns w b owned) in
+      let made = owned_not_made b (owner_owns w b owned) in
       let ne : b ≢ root_of given = λ e. let root = root_at given w b e in absurd cc in
-      let none : is_container given w fs b ≡ false = λ i. is_some (no_directory i) || lost i && says_directory given b || made i in
-      blocks_kept b (λ i. lost i || made i) (λ d h. no_home b d (and_right (is_inside given b) _ none) ne)
+      let none : is_container given w s b ≡ false = λ i. is_some (no_directory i) || lost i && says_directory given b || made i in
+      apart_kept b (λ i. lost i || made i) (λ d h. no_home b d (and_right (is_inside given b) _ none) ne)
+      (λ d h inside at. elim (end_is_header (unwrap_or (directory_at given w (home given w s d)) 0) (heads w)) [
+        | inl none ↦ let out : is_inside given 0 ≡ true = subst (λ e. is_inside given e ≡ true) none inside in cc
+        | inr head ↦ no_head head.0 (head.1 ∙ at)
+      ])
 
   -- the boot block
-  pub boot_kept : block (hung given w fs) 0 ≡ block given 0
+  pub boot_kept : block (hung given w s) 0 ≡ block given 0
   boot_kept =
-      blocks_kept 0 (λ i. boot_not_lost i || boot_not_made i) (λ d h. no_home 0 d refl (let r = root_within given len in omega (arith, r.low)))
+      apart_kept 0 (λ i. boot_not_lost i || boot_not_made i) (λ d h. no_home 0 d refl (let r = root_within given len in omega (arith, r.low)))
+      (λ d h inside at. let out : is_inside given 0 ≡ true = subst (λ e. is_inside given e ≡ true) at inside in cc)
 
-  pub kind_kept : kind_of (hung given w fs) ≡ kind_of given
+  pub kind_kept : kind_of (hung given w s) ≡ kind_of given
   unfolding kind_of
   kind_kept = λ i. cond (slice_index (boot_kept i) 3 % 2 == 0) Ofs Ffs

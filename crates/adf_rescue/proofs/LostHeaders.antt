@@ -1,32 +1,34 @@
 -- Lost headers: what the bitmap tells of a block, the directories of a survey, and the marks of those that are settled.
--- Letters: w a walk, fs findings; b, p blocks; n, m nodes; k a number of entries, findings or blocks; i the number of a page; r an answer.
-use Rattle.std.specs.Prelude.{◌==◌, ◌&&◌, ◌||◌, ◌↔◌, not, nat_le, Option, Some, None, IfSome, IsSome, IsTrue, option_and_then, option_map, cond, map, replicate}
+-- Letters: w a walk, fs findings; s whether each directory is settled; b, p, h blocks; n, m nodes; k a number of entries, findings or
+-- blocks; i the number of a page; r an answer.
+use Rattle.std.specs.Prelude.{◌==◌, ◌&&◌, ◌||◌, ◌↔◌, not, nat_le, Option, Some, None, IfSome, IsSome, IsTrue, option_and_then, option_map, unwrap_or, cond, map, replicate}
 use Rattle.std.proofs.Common.{◌≡◌, ◌≢◌, ◌≤◌, ◌<◌, ℕ, suc, ◌+◌, ◌-◌, ◌/◌, ◌%◌, Bool, true, false, List, [], ◌∷◌, ◌++◌, length, add-one}
-use Rattle.std.proofs.Common.{◌∙◌, ap, arith, inl, inr, refl, sym}
-use Rattle.std.specs.List.{range_with_len}
-use Rattle.std.proofs.lemmas.Bool.{and_from, and_left, and_parts, cases_Bool, cases_lt, cond-false, cond-true, eq-eqb, eqb-true, false_from_ne_true}
+use Rattle.std.proofs.Common.{◌∙◌, ap, arith, inl, inr, refl, subst, sym, zero}
+use Rattle.std.specs.List.{list_any, range_with_len}
+use Rattle.std.proofs.lemmas.Bool.{and_from, and_left, and_parts, or_from, or_left, or_right, cases_Bool, cases_lt, cond-false, cond-true, eq-eqb, eqb-true, false_from_ne_true}
 use Rattle.std.proofs.lemmas.Bool.{ne_eqb}
 use Rattle.std.proofs.lemmas.Bool.Decides.{nat_tests}
 use Rattle.std.proofs.lemmas.List.FromFn.{get_or-map-range_with_len, length-map-range_with_len, map-range_with_len_more}
-use Rattle.std.proofs.Math.Bool.{and-true, or-true}
+use Rattle.std.proofs.Math.Bool.{and-false, and-true, or-true}
 use Rattle.std.proofs.lemmas.Grind.{common_steps}
-use Rattle.adf_blocks.specs.declared.layout.TheConstants.{BITMAP_FLAG, PAGE_BITS, PARENT, VALID}
+use Rattle.adf_blocks.specs.declared.layout.TheConstants.{BITMAP_FLAG, FIRST_POINTER, PAGE_BITS, PARENT, VALID}
 use Rattle.adf_blocks.specs.Sizes.{blocks}
 use Rattle.adf_volume.specs.Image.{root_of, word_in}
 use Rattle.adf_volume.specs.Walk.{Role, Has, IsFreeIn, heads}
 use Rattle.adf_volume.specs.Walk.Role.{Page}
 use Rattle.adf_volume.proofs.Roles.{same_refl}
 use Rattle.adf_findings.specs.declared.concern.Concern.{Concern}
+use Rattle.adf_findings.specs.declared.part.Finding.{Finding}
 use Rattle.adf_findings.specs.Concerned.{concern_of_nth, node_of}
 use Rattle.adf_findings.specs.Found.{at_key, owner, parent_node}
 use Rattle.adf_findings.specs.Marks.{has_mark}
-use Rattle.adf_findings.specs.Parts.{key_of}
+use Rattle.adf_findings.specs.Parts.{finding_value, key_of, part_role}
 use Rattle.adf_findings.specs.Survey.{FindingValue, IsSurvey, IsValidated}
 use Rattle.adf_findings.proofs.BitSteps.{has_page}
 use Rattle.adf_findings.proofs.BitsStated.{one_page}
 use Rattle.adf_findings.proofs.Keys.{lacks_at}
-use Rattle.adf_rescue.specs.Lost.{AreEntered, AreSettled, bit_stated, directory_at, directory_by, has_child, has_finding, is_denied, is_inside}
-use Rattle.adf_rescue.specs.Lost.{is_lost, is_of, is_set_in}
+use Rattle.adf_rescue.specs.Lost.{AreEntered, AreSettled, AreUnblamed, bit_stated, has_free_among, is_root_doubtful, is_settled, is_stated_free, directory_at, directory_by, has_child, has_finding, is_denied, is_inside}
+use Rattle.adf_rescue.specs.Lost.{is_lost, is_of, is_root, is_set_in}
 use Rattle.adf_findings.specs.SurveyResult.{IsBitStated}
 
 -- what the bitmap tells of a block
@@ -51,18 +53,18 @@ told_none : (r : Option Bool) → (IsSome r → ⊥) → r ≡ None
 told_none None h = refl
 told_none (Some t) h = absurd (h refl)
 
-pub told_is : (image : List ℕ) (w : List (Role × ℕ)) (fs : List FindingValue) (b : ℕ) (r : Option Bool) → IsSurvey image w fs
-    → (IsSome r ↔ IsBitStated image w b) → IfSome r (λ t. IsTrue t ↔ IsFreeIn image w b) → r ≡ bit_stated image w b
+pub told_is : (image : List ℕ) (w : List (Role × ℕ)) (fs : List FindingValue) (b : ℕ) (r : Option Bool) → is_inside image b ≡ true
+    → IsSurvey image w fs → (IsSome r ↔ IsBitStated image w b) → IfSome r (λ t. IsTrue t ↔ IsFreeIn image w b) → r ≡ bit_stated image w b
 unfolding bit_stated
-told_is image w fs b r survey some free = elim (cases_Bool (nat_le 2 b && (word_in image (root_of image) BITMAP_FLAG == VALID))) [
+told_is image w fs b r inside survey some free = elim (cases_Bool (is_inside image b && (word_in image (root_of image) BITMAP_FLAG == VALID))) [
   | inl stands ↦
-      let parts = and_parts (nat_le 2 b) _ stands in
+      let parts = and_parts (is_inside image b) _ stands in
       let low : 2 ≤ b = grind (arith, nat_tests) in
       let valid : IsValidated image = eqb-true _ _ parts.1 in
       with_page (at_key w (key_of (Page (page_of b)))) refl low valid ∙ sym (cond-true _ _ None stands)
   | inr fails ↦
       told_none r (λ s. let told = some.0 s in
-      let all = and_from (nat_le 2 b) (word_in image (root_of image) BITMAP_FLAG == VALID) (grind (arith, nat_tests)) (eq-eqb _ _ told.1) in cc)
+      let all = and_from (is_inside image b) (word_in image (root_of image) BITMAP_FLAG == VALID) inside (eq-eqb _ _ told.1) in cc)
       ∙ sym (cond-false _ _ None fails)
 ]
   where
@@ -75,6 +77,34 @@ told_is image w fs b r survey some free = elim (cases_Bool (nat_le 2 b && (word_
         let has = has_page w (page_of b) page e in
         told_some image w b page r (λ a h. one_page image w fs survey (page_of b) page a has h) has (some.1 (low, valid, (page, has))) free
         ∙ ap (option_map (λ page. is_set_in image page ((b - 2) % PAGE_BITS))) (sym e)
+
+-- of a block that is not in range the bitmap tells nothing
+pub none_told : (image : List ℕ) (w : List (Role × ℕ)) (b : ℕ) → is_inside image b ≡ false → bit_stated image w b ≡ None
+unfolding bit_stated
+none_told image w b out = grind (arith, common_steps, and_left)
+
+-- the data blocks that a table names
+
+module _ (image : List ℕ) (w : List (Role × ℕ)) (h : ℕ) where
+  pub none_free_first : has_free_among image w h 0 ≡ false
+  unfolding has_free_among
+  none_free_first = refl
+
+  pub none_free_more : (k : ℕ) → has_free_among image w h k ≡ false → is_stated_free image w (word_in image h (FIRST_POINTER - k)) ≡ false
+      → has_free_among image w h (k + 1) ≡ false
+  unfolding has_free_among
+  none_free_more k before here =
+      rw add-one (or_from (has_free_among image w h k) (is_stated_free image w (word_in image h (FIRST_POINTER - k))) before here)
+
+  pub one_free : (k n : ℕ) → k < n → is_stated_free image w (word_in image h (FIRST_POINTER - k)) ≡ true → has_free_among image w h n ≡ true
+  unfolding has_free_among
+  one_free k zero inside here = absurd (omega arith)
+  one_free k (suc n) inside here = elim (cases_lt k n) [
+    | inl before ↦ or_left (has_free_among image w h n) _ (one_free k n before here)
+    | inr from ↦
+        let last : k ≡ n = omega arith in
+        or_right (has_free_among image w h n) _ (subst (λ i. is_stated_free image w (word_in image h (FIRST_POINTER - i)) ≡ true) last here)
+  ]
 
 -- the directories of a survey
 
@@ -102,6 +132,14 @@ module _ (image : List ℕ) (w : List (Role × ℕ)) (p : ℕ) where
   unfolding directory_at
   directory_known n e = grind (arith, common_steps, known)
 
+  -- its number, or that of the root
+  pub number_known : unwrap_or (directory_at image w p) 0 ≤ heads w
+  number_known = by (directory_at image w p) refl
+    where
+      by : (o : Option ℕ) → directory_at image w p ≡ o → unwrap_or o 0 ≤ heads w
+      by None e = omega arith
+      by (Some n) e = directory_known n e
+
 -- the marks of those that are settled
 
 pub entered_first : (w : List (Role × ℕ)) (marks : List Bool) → length marks ≡ suc (heads w)
@@ -125,33 +163,76 @@ and_more true true o = refl
 and_more true false o = refl
 and_more false f o = refl
 
-pub settled_first : (w : List (Role × ℕ)) (fs : List FindingValue) (marks : List Bool) → AreEntered w (heads w) marks → AreSettled w fs 0 marks
+pub unblamed_first : (w : List (Role × ℕ)) (fs : List FindingValue) (marks : List Bool) → AreEntered w (heads w) marks → AreUnblamed w fs 0 marks
 unfolding has_finding
-settled_first w fs marks are = record { length = are.length; settled = λ n le. are.entry n le ∙ sym (and-true (has_child w n (heads w))) }
+unblamed_first w fs marks are = record { length = are.length; unblamed = λ n le. are.entry n le ∙ sym (and-true (has_child w n (heads w))) }
 
-settled_by : (w : List (Role × ℕ)) (fs : List FindingValue) (k : ℕ) (marks more : List Bool) (o : Option Concern) → AreSettled w fs k marks
+unblamed_by : (w : List (Role × ℕ)) (fs : List FindingValue) (k : ℕ) (marks more : List Bool) (o : Option Concern) → AreUnblamed w fs k marks
     → o ≡ concern_of_nth w fs k → ((m : ℕ) → m < length marks → has_mark more m ≡ (has_mark marks m && not (is_of w m o)))
-    → length more ≡ length marks → AreSettled w fs (k + 1) more
+    → length more ≡ length marks → AreUnblamed w fs (k + 1) more
 unfolding has_finding
-settled_by w fs k marks more o are is put len = record {
+unblamed_by w fs k marks more o are is put len = record {
   length = len ∙ are.length;
-  settled = λ n le.
+  unblamed = λ n le.
       put n (omega (arith, are.length, le))
-      ∙ ((λ i. are.settled n le i && not (is_of w n (is i)))
+      ∙ ((λ i. are.unblamed n le i && not (is_of w n (is i)))
       ∙ rw add-one (and_more (has_child w n (heads w)) (has_finding w fs n k) (is_of w n (concern_of_nth w fs k))));
 }
 
-pub settled_none : {w : List (Role × ℕ)} {fs : List FindingValue} {k : ℕ} {marks : List Bool} → AreSettled w fs k marks → None ≡ concern_of_nth w fs k
-    → AreSettled w fs (k + 1) marks
-settled_none {w} {fs} {k} {marks} are is = settled_by w fs k marks marks None are is (λ m lt. sym (and-true (has_mark marks m))) refl
+pub unblamed_none : {w : List (Role × ℕ)} {fs : List FindingValue} {k : ℕ} {marks : List Bool} → AreUnblamed w fs k marks
+    → None ≡ concern_of_nth w fs k → AreUnblamed w fs (k + 1) marks
+unblamed_none {w} {fs} {k} {marks} are is = unblamed_by w fs k marks marks None are is (λ m lt. sym (and-true (has_mark marks m))) refl
 
-pub settled_some : {w : List (Role × ℕ)} {fs : List FindingValue} {k n : ℕ} {marks more : List Bool} {x : Concern} → AreSettled w fs k marks
+pub unblamed_some : {w : List (Role × ℕ)} {fs : List FindingValue} {k n : ℕ} {marks more : List Bool} {x : Concern} → AreUnblamed w fs k marks
     → Some x ≡ concern_of_nth w fs k → n ≡ node_of x
     → ((m : ℕ) → m < length marks → has_mark more m ≡ (has_mark marks m && not ((n == m) || (parent_node w n == m)))) → length more ≡ length marks
-    → AreSettled w fs (k + 1) more
-settled_some {w} {fs} {k} {n} {marks} {more} {x} are is node put len =
-    settled_by w fs k marks more (Some x) are is
+    → AreUnblamed w fs (k + 1) more
+unblamed_some {w} {fs} {k} {n} {marks} {more} {x} are is node put len =
+    unblamed_by w fs k marks more (Some x) are is
     (λ m lt. put m lt ∙ (λ i. has_mark marks m && not ((node i == m) || (parent_node w (node i) == m)))) len
+
+-- the mark of the root, where it is in doubt
+
+module _ (mended : Bool) (w : List (Role × ℕ)) (fs : List FindingValue) (marks : List Bool) (are : AreUnblamed w fs (length fs) marks) where
+  pub settled_kept : is_root_doubtful mended fs ≡ false → AreSettled w (is_settled mended w fs) marks
+  settled_kept sure = record {
+    length = are.length;
+    settled = λ n le.
+        are.unblamed n le
+        ∙ (sym (and-true (has_child w n (heads w) && not (has_finding w fs n (length fs))))
+        ∙ (λ i. (has_child w n (heads w) && not (has_finding w fs n (length fs))) && not (none n i)));
+  }
+    where
+      none : (n : ℕ) → false ≡ ((n == 0) && is_root_doubtful mended fs)
+      none n = sym (and-false (n == 0)) ∙ (λ i. (n == 0) && sym sure i)
+
+  pub settled_less : (more : List Bool) → is_root_doubtful mended fs ≡ true
+      → ((m : ℕ) → m < length marks → has_mark more m ≡ cond (0 == m) false (has_mark marks m)) → length more ≡ length marks
+      → AreSettled w (is_settled mended w fs) more
+  settled_less more doubt put len = record {
+    length = len ∙ are.length;
+    settled = λ n le. by n (put n (omega (arith, are.length, le))) le;
+  }
+    where
+      by : (n : ℕ) → has_mark more n ≡ cond (0 == n) false (has_mark marks n) → n ≤ heads w → has_mark more n ≡ is_settled mended w fs n
+      by zero is le =
+          is ∙ (sym (and-false (has_child w 0 (heads w) && not (has_finding w fs 0 (length fs))))
+          ∙ (λ i. (has_child w 0 (heads w) && not (has_finding w fs 0 (length fs))) && not (sym doubt i)))
+      by (suc n) is le =
+          let free : Bool = has_child w (suc n) (heads w) && not (has_finding w fs (suc n) (length fs)) in
+          let other : (suc n == 0) ≡ false = ne_eqb (suc n) 0 (λ e. cc) in
+          is
+          ∙ (cond-false (0 == suc n) false (has_mark marks (suc n)) (ne_eqb 0 (suc n) (λ e. cc))
+          ∙ (are.unblamed (suc n) le ∙ (sym (and-true free) ∙ (λ i. free && not (sym other i && is_root_doubtful mended fs)))))
+
+-- a finding is of the root
+one_of_root : (xs : List Finding) → list_any (λ x. is_root (part_role x.part)) xs ≡ list_any (λ f. is_root f.part) (map finding_value xs)
+one_of_root [] = refl
+one_of_root (x ∷ xs) = ap (λ t. is_root (part_role x.part) || t) (one_of_root xs)
+
+pub blamed_root : (mended : Bool) (xs : List Finding) (fs : List FindingValue) → map finding_value xs ≡ fs → mended ≡ false
+    → list_any (λ x. is_root (part_role x.part)) xs ≡ is_root_doubtful mended fs
+blamed_root mended xs fs is kept = one_of_root xs ∙ (λ i. sym kept i || list_any (λ f. is_root f.part) (is i))
 
 -- the marks of lost headers
 
@@ -159,21 +240,21 @@ settled_some {w} {fs} {k} {n} {marks} {more} {x} are is node put len =
 pub unmarked : (n : ℕ) (marks : List Bool) → marks ≡ replicate n false → (i : ℕ) → has_mark marks i ≡ false
 unmarked n marks e i = grind (arith, common_steps)
 
-module _ (image : List ℕ) (w : List (Role × ℕ)) (fs : List FindingValue) where
-  lost_outside : (b : ℕ) → blocks image ≤ b → is_lost image w fs b ≡ false
+module _ (image : List ℕ) (w : List (Role × ℕ)) (s : ℕ → Bool) where
+  lost_outside : (b : ℕ) → blocks image ≤ b → is_lost image w s b ≡ false
   unfolding is_lost
   lost_outside b out = and_left _ _ (and_left _ _ (and_left (is_inside image b) _ (grind (arith, nat_tests))))
 
-  pub lost_marked : (marks : List Bool) → marks ≡ map (is_lost image w fs) (range_with_len 0 (blocks image)) → (b : ℕ)
-      → has_mark marks b ≡ is_lost image w fs b
+  pub lost_marked : (marks : List Bool) → marks ≡ map (is_lost image w s) (range_with_len 0 (blocks image)) → (b : ℕ)
+      → has_mark marks b ≡ is_lost image w s b
   lost_marked marks e b = grind (arith, common_steps, cases_lt, get_or-map-range_with_len, length-map-range_with_len, lost_outside)
 
   -- what a settled directory denies
-  pub denied_by_directory : (b p n : ℕ) (marks : List Bool) → AreSettled w fs (length fs) marks → p ≡ word_in image b PARENT
-      → Some n ≡ directory_at image w p → has_mark marks n ≡ is_denied image w fs b
+  pub denied_by_directory : (b p n : ℕ) (marks : List Bool) → AreSettled w s marks → p ≡ word_in image b PARENT
+      → Some n ≡ directory_at image w p → has_mark marks n ≡ is_denied image w s b
   denied_by_directory b p n marks are parent is = grind (arith, common_steps, directory_known)
 
   -- one mark more
-  pub lost_more : (b : ℕ) (marks more : List Bool) (t : Bool) → marks ≡ map (is_lost image w fs) (range_with_len 0 b)
-      → t ≡ is_lost image w fs b → more ≡ marks ++ t ∷ [] → more ≡ map (is_lost image w fs) (range_with_len 0 (b + 1))
+  pub lost_more : (b : ℕ) (marks more : List Bool) (t : Bool) → marks ≡ map (is_lost image w s) (range_with_len 0 b)
+      → t ≡ is_lost image w s b → more ≡ marks ++ t ∷ [] → more ≡ map (is_lost image w s) (range_with_len 0 (b + 1))
   lost_more b marks more t before is put = grind (arith, common_steps, map-range_with_len_more)

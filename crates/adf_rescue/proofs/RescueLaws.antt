@@ -47,5 +47,5 @@ one_basis image l m x y =
     ap (λ i. step i l.walk) image_is ∙ (ap (step m.image) same.0 ∙ same_basis m.image m.walk (grave y.findings) l.sound m.sound marks y.marks)
 
 -- nothing is lost without a finding
-pub nothing_lost : (image : List ℕ) (w : List (Role × ℕ)) (fs : List FindingValue) → fs ≡ [] → has_lost image w fs ≡ false
+pub nothing_lost : (image : List ℕ) (w : List (Role × ℕ)) (fs : List FindingValue) → fs ≡ [] → (mended : Bool) → has_lost mended image w fs ≡ false
 nothing_lost image w fs none = grind (arith, common_steps, and-false)

@@ -1,20 +1,21 @@
 // The hung image: each lost header hangs in the directory that it names, or in the root.
 
-ghost use Rattle.std.specs.Prelude.{◌≡◌, ◌≢◌, ◌<◌, ◌≤◌, ◌||◌, ◌&&◌, ◌==◌, ◌↔◌, ℕ, List, Some, None, true, false, length, is_some, IfOk, IfSome, IsNone, OnErr, OnOk};
+ghost use Rattle.std.specs.Prelude.{◌≡◌, ◌≢◌, ◌<◌, ◌≤◌, ◌||◌, ◌&&◌, ◌==◌, ◌↔◌, ℕ, Bool, List, Some, None, true, false, cond, length, is_some, slice_index};
+ghost use Rattle.std.specs.Prelude.{IfOk, IfSome, IsNone, OnErr, OnOk};
 ghost use Rattle.adf_base.specs.Words.{block, with_block};
 ghost use Rattle.adf_blocks.specs.HeadBlock.{head_block};
-ghost use Rattle.adf_blocks.specs.declared.layout.TheConstants.{PARENT};
+ghost use Rattle.adf_blocks.specs.declared.layout.TheConstants.{CHECKSUM, PARENT};
 ghost use Rattle.adf_blocks.specs.Sizes.{blocks};
 ghost use Rattle.adf_volume.specs.Image.{kind_of, word_in};
 ghost use Rattle.adf_volume.specs.Start.{is_image_len};
-ghost use Rattle.adf_volume.specs.Walk.{Role};
-ghost use Rattle.adf_findings.specs.Found.{owner};
+ghost use Rattle.adf_volume.specs.Walk.{Role, heads, node_block};
+ghost use Rattle.adf_findings.specs.Found.{owner, owns};
 ghost use Rattle.adf_findings.specs.Marks.{has_mark};
-ghost use Rattle.adf_findings.specs.Survey.{FindingValue, IsSurvey, OnSurvey};
-ghost use Rattle.adf_rescue.specs.Lost.{AreLost, directory_at, has_findings, has_lost, is_lost, lost_among};
+ghost use Rattle.adf_findings.specs.Survey.{OnSurvey};
+ghost use Rattle.adf_rescue.specs.Lost.{AreLost, directory_at, has_findings, has_lost, is_lost, is_settled, lost_among};
 ghost use Rattle.adf_rescue.specs.Rescue.{lost_name};
-ghost use Rattle.adf_rescue.specs.Hung.{AreLoose, AreMade, emptied, home, hung, hung_in, hung_loose, is_container, is_hung};
-ghost use Rattle.adf_rescue.specs.Hung.{is_made, is_vacant, made_header, ready_in, readied, slot_word};
+ghost use Rattle.adf_rescue.specs.Hung.{AreEnds, AreLoose, emptied, end_of, home, hung, hung_at, hung_in, hung_loose, is_container, is_hung};
+ghost use Rattle.adf_rescue.specs.Hung.{is_made, is_vacant, made_header, open_end, ready_in, readied, slot_word};
 
 use crate::image::{block_count, is_image_len, root_of};
 use crate::lost::{directory_at, is_inside, is_marked, lost, mark, says_directory, word_in};
@@ -23,7 +24,7 @@ use crate::rooms::lost_name;
 use adf_base::{NO_STAMP, NoMemory, seal, set_bytes, set_word};
 use adf_blocks::{FIRST_SLOT, HeadOut, HeadOutBody, NEXT_IN_CHAIN, PARENT, SLOTS, write_head};
 use adf_findings::Survey;
-use adf_tree::{Comment, Meta, Name};
+use adf_tree::{Comment, Meta, Name, Node};
 use std::alloc::Global;
 
 // The word of the checksum of a header and the root.
@@ -37,20 +38,20 @@ fn slot_word(b: u32) -> usize
     FIRST_SLOT + (b % SLOTS) as usize
 }
 
-// Hangs block `b` as the first header of its slot of block `p`.
-#[tactic(auto, unfolding(crate::specs::Hung::hung_in))]
-fn hang(image: &mut [u8], b: u32, p: u32)
+// Hangs block `b` of directory `p` where word `i` of block `e` leads to.
+#[tactic(auto, unfolding(crate::specs::Hung::hung_at))]
+fn hang(image: &mut [u8], b: u32, p: u32, e: u32, i: usize)
     requires block { b < blocks image.old }
-    requires home { p < blocks image.old }
-    ensures { image.new ≡ hung_in image.old b p }
+    requires holder { e < blocks image.old }
+    requires word { i < 128 }
+    ensures { image.new ≡ hung_at image.old b p e i }
 {
-    let slot = slot_word(b);
-    let next = word_in(image, p, slot);
+    let next = word_in(image, e, i);
     set_word(image, b, NEXT_IN_CHAIN, next);
     set_word(image, b, PARENT, p);
     seal(image, b, CHECKSUM);
-    set_word(image, p, slot, b);
-    seal(image, p, CHECKSUM);
+    set_word(image, e, i, b);
+    seal(image, e, CHECKSUM);
 }
 
 // Empties the table of block `b`.
@@ -91,19 +92,21 @@ fn make(alloc: Global, image: &mut [u8], root: u32, p: u32) -> Result<(), NoMemo
     Ok(())
 }
 
-// The blocks that are hung: whether each is a lost header, and whether a directory is made in it.
+// The blocks that are hung: whether each is a lost header, and whether a directory is made in it. And of each node of the
+// survey the block behind which things are hung.
 #[derive(Drop)]
 struct Loose {
     lost: Vec<bool>,
     made: Vec<bool>,
+    ends: Vec<u32>,
 }
 
 // Whether one of the blocks is a lost header.
 #[tactic(auto, using(crate::proofs::HungImages::lost_steps))]
 fn has_lost(survey: &Survey<'_>, lost: &Vec<bool>) -> bool
     requires { is_image_len (length survey.now.image) ≡ true }
-    ensures { OnSurvey survey.now.image (λ w fs. AreLost survey.now.image w fs lost.now.items
-        → result ≡ lost_among survey.now.image w fs (blocks survey.now.image)) }
+    ensures { OnSurvey survey.now.image (λ w _. (s : ℕ → Bool) → AreLost survey.now.image w s lost.now.items
+        → result ≡ lost_among survey.now.image w s (blocks survey.now.image)) }
 {
     for b in 0..block_count(survey.image()) {
         if is_marked(lost, b as usize) {
@@ -124,13 +127,13 @@ fn has_findings(survey: &Survey<'_>) -> bool
 #[tactic(auto, unfolding(crate::specs::Hung::is_vacant))]
 fn is_vacant(survey: &Survey<'_>, lost: &Vec<bool>, p: u32) -> bool
     requires { is_image_len (length survey.now.image) ≡ true }
-    ensures { OnSurvey survey.now.image (λ w fs. AreLost survey.now.image w fs lost.now.items
-        → result ≡ is_vacant survey.now.image w fs p) }
+    ensures { OnSurvey survey.now.image (λ w _. (s : ℕ → Bool) → AreLost survey.now.image w s lost.now.items
+        → result ≡ is_vacant survey.now.image w s p) }
 {
     let image = survey.image();
     is_inside(image, p)
         && p != root_of(image)
-        && survey.entry_at(p).is_none()
+        && !survey.has_part(p)
         && !is_marked(lost, p as usize)
 }
 
@@ -138,9 +141,9 @@ fn is_vacant(survey: &Survey<'_>, lost: &Vec<bool>, p: u32) -> bool
 fn mark_parent(survey: &Survey<'_>, lost: &Vec<bool>, made: &mut Vec<bool>, b: u32)
     requires sized { is_image_len (length survey.now.image) ≡ true }
     requires inside { b < blocks survey.now.image }
-    ensures marks { OnSurvey survey.now.image (λ w fs. AreLost survey.now.image w fs lost.now.items
+    ensures marks { OnSurvey survey.now.image (λ w _. (s : ℕ → Bool) → AreLost survey.now.image w s lost.now.items
         → (p : ℕ) → p < length made.old.items → has_mark made.new.items p
-        ≡ (has_mark made.old.items p || is_vacant survey.now.image w fs p && (word_in survey.now.image b PARENT == p))) }
+        ≡ (has_mark made.old.items p || is_vacant survey.now.image w s p && (word_in survey.now.image b PARENT == p))) }
     ensures length { length made.new.items ≡ length made.old.items }
 {
     let p = word_in(survey.image(), b, PARENT);
@@ -152,8 +155,8 @@ fn mark_parent(survey: &Survey<'_>, lost: &Vec<bool>, made: &mut Vec<bool>, b: u
 // Whether a directory is made in each block.
 fn made(alloc: Global, survey: &Survey<'_>, lost: &Vec<bool>) -> Result<Vec<bool>, NoMemory>
     requires { is_image_len (length survey.now.image) ≡ true }
-    ensures { OnSurvey survey.now.image (λ w fs. AreLost survey.now.image w fs lost.now.items
-        → IfOk result (λ v. (p : ℕ) → has_mark v.items p ≡ is_made survey.now.image w fs p)) }
+    ensures { OnSurvey survey.now.image (λ w _. (s : ℕ → Bool) → AreLost survey.now.image w s lost.now.items
+        → IfOk result (λ v. (p : ℕ) → has_mark v.items p ≡ is_made survey.now.image w s p)) }
 {
     let blocks = block_count(survey.image());
     let Ok(mut marks) = vec![in alloc; false; blocks as usize] else {
@@ -167,12 +170,56 @@ fn made(alloc: Global, survey: &Survey<'_>, lost: &Vec<bool>) -> Result<Vec<bool
     Ok(marks)
 }
 
+// The block of an entry, if its chain leads to no part of the survey behind it.
+fn open_end(survey: &Survey<'_>, n: Node) -> Option<u32>
+    ensures { OnSurvey survey.now.image (λ w _. 1 ≤ n → n ≤ heads w → result ≡ open_end survey.now.image w n) }
+{
+    let (Some(block), Some(head)) = (survey.block_of(n), survey.header(n)) else {
+        return None;
+    };
+    if survey.has_part(head.word(NEXT_IN_CHAIN)) {
+        None
+    } else {
+        Some(block)
+    }
+}
+
+// Puts a number at an index; nothing past the last.
+fn put(numbers: &mut Vec<u32>, n: usize, number: u32)
+    ensures numbers { (m : ℕ) → m < length numbers.old.items
+        → slice_index numbers.new.items m ≡ cond (n == m) number (slice_index numbers.old.items m) }
+    ensures length { length numbers.new.items ≡ length numbers.old.items }
+{
+    if n < numbers.len() {
+        numbers[n] = number;
+    }
+}
+
+// Of each node of the survey the block behind which things are hung.
+#[tactic(auto)]
+fn ends(alloc: Global, survey: &Survey<'_>) -> Result<Vec<u32>, NoMemory>
+    ensures { OnSurvey survey.now.image (λ w _.
+        IfOk result (λ v. AreEnds survey.now.image w (heads w) v.items)) }
+{
+    let entries = survey.len();
+    let Ok(mut ends) = vec![in alloc; 0u32; entries.saturating_add(1)] else {
+        return Err(NoMemory);
+    };
+    for before in 0..entries {
+        let n = Node(before + 1);
+        if let Some(block) = open_end(survey, n) {
+            put(&mut ends, survey.directory_of(n).0, block);
+        }
+    }
+    Ok(ends)
+}
+
 // Whether block `p` is a directory that things can be hung in: of the survey, lost, or made.
 fn is_container(survey: &Survey<'_>, loose: &Loose, p: u32) -> bool
     requires sized { is_image_len (length survey.now.image) ≡ true }
     requires inside { p < blocks survey.now.image }
-    ensures { OnSurvey survey.now.image (λ w fs. AreLoose survey.now.image w fs loose.now
-        → result ≡ is_container survey.now.image w fs p) }
+    ensures { OnSurvey survey.now.image (λ w _. (s : ℕ → Bool) → AreLoose survey.now.image w s loose.now
+        → result ≡ is_container survey.now.image w s p) }
 {
     directory_at(survey, p).is_some()
         || is_marked(&loose.lost, p as usize) && says_directory(survey.image(), p)
@@ -184,8 +231,8 @@ fn is_container(survey: &Survey<'_>, loose: &Loose, p: u32) -> bool
 fn home(survey: &Survey<'_>, loose: &Loose, b: u32) -> u32
     requires sized { is_image_len (length survey.now.image) ≡ true }
     requires inside { b < blocks survey.now.image }
-    ensures home { OnSurvey survey.now.image (λ w fs. AreLoose survey.now.image w fs loose.now
-        → result ≡ home survey.now.image w fs b) }
+    ensures home { OnSurvey survey.now.image (λ w _. (s : ℕ → Bool) → AreLoose survey.now.image w s loose.now
+        → result ≡ home survey.now.image w s b) }
     ensures inside { result < blocks survey.now.image }
 {
     let image = survey.image();
@@ -209,8 +256,8 @@ fn ready(
     requires sized { is_image_len (length survey.now.image) ≡ true }
     requires same { length image.old ≡ length survey.now.image }
     requires inside { b < blocks survey.now.image }
-    ensures { OnSurvey survey.now.image (λ w fs. AreLoose survey.now.image w fs loose.now
-        → OnOk result (image.new ≡ ready_in survey.now.image w fs image.old b)) }
+    ensures { OnSurvey survey.now.image (λ w _. (s : ℕ → Bool) → AreLoose survey.now.image w s loose.now
+        → OnOk result (image.new ≡ ready_in survey.now.image w s image.old b)) }
 {
     let given = survey.image();
     if is_marked(&loose.made, b as usize) {
@@ -232,8 +279,8 @@ fn ready_all(
 ) -> Result<(), NoMemory>
     requires sized { is_image_len (length survey.now.image) ≡ true }
     requires same { image.old ≡ survey.now.image }
-    ensures { OnSurvey survey.now.image (λ w fs. AreLoose survey.now.image w fs loose.now
-        → OnOk result (image.new ≡ readied survey.now.image w fs (blocks survey.now.image))) }
+    ensures { OnSurvey survey.now.image (λ w _. (s : ℕ → Bool) → AreLoose survey.now.image w s loose.now
+        → OnOk result (image.new ≡ readied survey.now.image w s (blocks survey.now.image))) }
 {
     for b in 0..block_count(survey.image()) {
         ready(alloc, survey, loose, image, b)?;
@@ -243,10 +290,42 @@ fn ready_all(
 
 // Whether block `b` is hung.
 fn is_hung(loose: &Loose, b: u32) -> bool
-    ensures { (given : List ℕ) (w : List (Role × ℕ)) (fs : List FindingValue) → AreLoose given w fs loose.now
-        → result ≡ is_hung given w fs b }
+    ensures { (given : List ℕ) (w : List (Role × ℕ)) (s : ℕ → Bool) → AreLoose given w s loose.now
+        → result ≡ is_hung given w s b }
 {
     is_marked(&loose.lost, b as usize) || is_marked(&loose.made, b as usize)
+}
+
+// The block behind which things are hung in the directory in block `p`; 0 if there is none.
+#[tactic(auto, using(crate::proofs::HungImages::end_found))]
+fn end_of(survey: &Survey<'_>, loose: &Loose, p: u32) -> u32
+    requires { is_image_len (length survey.now.image) ≡ true }
+    ensures { OnSurvey survey.now.image (λ w _. (s : ℕ → Bool) → AreLoose survey.now.image w s loose.now
+        → result ≡ end_of survey.now.image w p) }
+{
+    let n = directory_at(survey, p).unwrap_or(Node(0));
+    loose.ends.get(n.0).copied().unwrap_or(0)
+}
+
+// Hangs block `b` in directory `p`, where nothing of the survey is.
+#[tactic(auto, unfolding(crate::specs::Hung::hung_in))]
+fn hang_in(survey: &Survey<'_>, loose: &Loose, image: &mut [u8], b: u32, p: u32)
+    requires sized { is_image_len (length survey.now.image) ≡ true }
+    requires same { length image.old ≡ length survey.now.image }
+    requires inside { b < blocks survey.now.image }
+    requires home { p < blocks survey.now.image }
+    ensures { OnSurvey survey.now.image (λ w _. (s : ℕ → Bool) → AreLoose survey.now.image w s loose.now
+        → image.new ≡ hung_in survey.now.image w image.old b p) }
+{
+    let slot = slot_word(b);
+    if !survey.has_part(word_in(image, p, slot)) {
+        hang(image, b, p, p, slot);
+        return;
+    }
+    let end = end_of(survey, loose, p);
+    if is_inside(image, end) {
+        hang(image, b, p, end, NEXT_IN_CHAIN);
+    }
 }
 
 // Hangs block `b` in its home, if it is to be.
@@ -255,11 +334,11 @@ fn hang_loose(survey: &Survey<'_>, loose: &Loose, image: &mut [u8], b: u32)
     requires sized { is_image_len (length survey.now.image) ≡ true }
     requires same { length image.old ≡ length survey.now.image }
     requires inside { b < blocks survey.now.image }
-    ensures { OnSurvey survey.now.image (λ w fs. AreLoose survey.now.image w fs loose.now
-        → image.new ≡ hung_loose survey.now.image w fs image.old b) }
+    ensures { OnSurvey survey.now.image (λ w _. (s : ℕ → Bool) → AreLoose survey.now.image w s loose.now
+        → image.new ≡ hung_loose survey.now.image w s image.old b) }
 {
     if is_hung(loose, b) {
-        hang(image, b, home(survey, loose, b));
+        hang_in(survey, loose, image, b, home(survey, loose, b));
     }
 }
 
@@ -268,9 +347,9 @@ fn hang_loose(survey: &Survey<'_>, loose: &Loose, image: &mut [u8], b: u32)
 fn hang_all(survey: &Survey<'_>, loose: &Loose, image: &mut [u8])
     requires sized { is_image_len (length survey.now.image) ≡ true }
     requires same { length image.old ≡ length survey.now.image }
-    ensures { OnSurvey survey.now.image (λ w fs. AreLoose survey.now.image w fs loose.now
-        → image.old ≡ readied survey.now.image w fs (blocks survey.now.image)
-        → image.new ≡ hung survey.now.image w fs) }
+    ensures { OnSurvey survey.now.image (λ w _. (s : ℕ → Bool) → AreLoose survey.now.image w s loose.now
+        → image.old ≡ readied survey.now.image w s (blocks survey.now.image)
+        → image.new ≡ hung survey.now.image w s) }
 {
     for b in 0..block_count(survey.image()) {
         hang_loose(survey, loose, image, b);
@@ -286,8 +365,8 @@ fn change(
 ) -> Result<(), NoMemory>
     requires sized { is_image_len (length survey.now.image) ≡ true }
     requires same { image.old ≡ survey.now.image }
-    ensures { OnSurvey survey.now.image (λ w fs. AreLoose survey.now.image w fs loose.now
-        → OnOk result (image.new ≡ hung survey.now.image w fs)) }
+    ensures { OnSurvey survey.now.image (λ w _. (s : ℕ → Bool) → AreLoose survey.now.image w s loose.now
+        → OnOk result (image.new ≡ hung survey.now.image w s)) }
 {
     ready_all(alloc, survey, loose, image)?;
     hang_all(survey, loose, image);
@@ -297,8 +376,8 @@ fn change(
 // The hung image.
 fn changed(alloc: Global, survey: &Survey<'_>, loose: &Loose) -> Result<Vec<u8>, NoMemory>
     requires { is_image_len (length survey.now.image) ≡ true }
-    ensures { OnSurvey survey.now.image (λ w fs. AreLoose survey.now.image w fs loose.now
-        → IfOk result (λ v. v.items ≡ hung survey.now.image w fs)) }
+    ensures { OnSurvey survey.now.image (λ w _. (s : ℕ → Bool) → AreLoose survey.now.image w s loose.now
+        → IfOk result (λ v. v.items ≡ hung survey.now.image w s)) }
 {
     let mut image = copied(alloc, survey.image())?;
     change(alloc, survey, loose, &mut image)?;
@@ -306,15 +385,16 @@ fn changed(alloc: Global, survey: &Survey<'_>, loose: &Loose) -> Result<Vec<u8>,
 }
 
 /// The hung image of a survey: each lost header hangs in the directory that it names, or in the root; `None` if nothing
-/// is lost, or there is no finding. A header is lost if no entry of the survey has its block, and it says that it is one, of a directory (words
-/// 0, 1 and 127) or of a file (these, and its sum), and it is not deleted, as far as the bitmap or else its directory
-/// tells. Where a lost header names a block that is nothing else, a directory `lost-` and its number is made there.
-/// `NoMemory` if an allocation fails, which can happen only if there is a finding.
-pub fn hung(alloc: Global, survey: &Survey<'_>) -> Result<Option<Vec<u8>>, NoMemory>
+/// is lost, or there is no finding. A header is lost if its block is no part of the survey, and it says that it is one, of a
+/// directory (words 0, 1 and 127) or of a file (these, and its sum), and it is not deleted, as far as the bitmap or else its
+/// directory tells. Where a lost header names a block that is nothing else, a directory `lost-` and its number is made there.
+/// No word that leads to a part of the survey is changed. `mended` tells whether the image was: then the root does not tell
+/// what was deleted. `NoMemory` if an allocation fails, which can happen only if there is a finding.
+pub fn hung(alloc: Global, survey: &Survey<'_>, mended: bool) -> Result<Option<Vec<u8>>, NoMemory>
     ensures none { OnSurvey survey.now.image (λ w fs.
-        IfOk result (λ r. IsNone r ↔ (has_lost survey.now.image w fs ≡ false))) }
+        IfOk result (λ r. IsNone r ↔ (has_lost mended survey.now.image w fs ≡ false))) }
     ensures hung { OnSurvey survey.now.image (λ w fs.
-        IfOk result (λ r. IfSome r (λ v. v.items ≡ hung survey.now.image w fs))) }
+        IfOk result (λ r. IfSome r (λ v. v.items ≡ hung survey.now.image w (is_settled mended w fs)))) }
 
     // Memory is wanted only if there is a finding.
     ensures begun { OnSurvey survey.now.image (λ _ fs. OnErr result (has_findings fs ≡ true)) }
@@ -325,28 +405,35 @@ pub fn hung(alloc: Global, survey: &Survey<'_>) -> Result<Option<Vec<u8>>, NoMem
     if !has_findings(survey) {
         return Ok(None);
     }
-    let lost = lost(alloc, survey)?;
+    let lost = lost(alloc, survey, mended)?;
     if !has_lost(survey, &lost) {
         return Ok(None);
     }
     let made = made(alloc, survey, &lost)?;
-    Ok(Some(changed(alloc, survey, &Loose { lost, made })?))
+    let ends = ends(alloc, survey)?;
+    Ok(Some(changed(alloc, survey, &Loose { lost, made, ends })?))
 }
 
 /// What stays of the image of a survey in its hung image, if it has the length of a volume: the length; each block that
-/// is not hung, nor a home of what is; each block of an entry that is no directory; and the boot block, with the kind.
+/// is not hung, nor a home of what is, nor the end there; each block of an entry that is no header; the boot block, with the
+/// kind; and of each block that is not hung, the words but the sum that lead to a part of the survey.
 pub fn hung_keeps()
-    ensures length { (given : List ℕ) (w : List (Role × ℕ)) (fs : List FindingValue)
-        → is_image_len (length given) ≡ true → length (hung given w fs) ≡ length given }
-    ensures blocks { (given : List ℕ) (w : List (Role × ℕ)) (fs : List FindingValue)
-        → is_image_len (length given) ≡ true → (b : ℕ) → is_hung given w fs b ≡ false
-        → ((d : ℕ) → is_hung given w fs d ≡ true → home given w fs d ≢ b)
-        → block (hung given w fs) b ≡ block given b }
-    ensures entries { (given : List ℕ) (w : List (Role × ℕ)) (fs : List FindingValue)
+    ensures length { (given : List ℕ) (w : List (Role × ℕ)) (s : ℕ → Bool)
+        → is_image_len (length given) ≡ true → length (hung given w s) ≡ length given }
+    ensures blocks { (given : List ℕ) (w : List (Role × ℕ)) (s : ℕ → Bool)
+        → is_image_len (length given) ≡ true → (b : ℕ) → is_hung given w s b ≡ false
+        → ((d : ℕ) → is_hung given w s d ≡ true → home given w s d ≢ b)
+        → ((d : ℕ) → is_hung given w s d ≡ true → end_of given w (home given w s d) ≢ b)
+        → block (hung given w s) b ≡ block given b }
+    ensures entries { (given : List ℕ) (w : List (Role × ℕ)) (s : ℕ → Bool)
         → is_image_len (length given) ≡ true → (b : ℕ) → is_some (owner w b) ≡ true
-        → directory_at given w b ≡ None → block (hung given w fs) b ≡ block given b }
-    ensures boot { (given : List ℕ) (w : List (Role × ℕ)) (fs : List FindingValue)
-        → is_image_len (length given) ≡ true → block (hung given w fs) 0 ≡ block given 0 }
-    ensures kind { (given : List ℕ) (w : List (Role × ℕ)) (fs : List FindingValue)
-        → is_image_len (length given) ≡ true → kind_of (hung given w fs) ≡ kind_of given }
+        → directory_at given w b ≡ None → ((n : ℕ) → node_block w n ≢ b)
+        → block (hung given w s) b ≡ block given b }
+    ensures words { (given : List ℕ) (w : List (Role × ℕ)) (s : ℕ → Bool)
+        → is_image_len (length given) ≡ true → (b i : ℕ) → is_hung given w s b ≡ false → i < 128 → i ≢ CHECKSUM
+        → owns w (word_in given b i) ≡ true → word_in (hung given w s) b i ≡ word_in given b i }
+    ensures boot { (given : List ℕ) (w : List (Role × ℕ)) (s : ℕ → Bool)
+        → is_image_len (length given) ≡ true → block (hung given w s) 0 ≡ block given 0 }
+    ensures kind { (given : List ℕ) (w : List (Role × ℕ)) (s : ℕ → Bool)
+        → is_image_len (length given) ≡ true → kind_of (hung given w s) ≡ kind_of given }
 {}

@@ -69,5 +69,5 @@ pub fn whole_is_kept()
         → rescue_leaves (record { image = image; walk = w; sound = sound }) ≡ [] }
     ensures lost { (image : List ℕ) (t : Tree) (l : Layout) (w : List (Role
         × ℕ)) (fs : List FindingValue)
-        → Fits image t l → IsSurvey image w fs → has_lost image w fs ≡ false }
+        → Fits image t l → IsSurvey image w fs → (mended : Bool) → has_lost mended image w fs ≡ false }
 {}

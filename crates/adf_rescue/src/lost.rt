@@ -1,6 +1,8 @@
 // Lost headers: what no directory of a survey leads to any more.
 
 ghost use Rattle.std.specs.Prelude.{◌≡◌, ◌<◌, ◌≤◌, ◌+◌, ◌==◌, ◌&&◌, ◌||◌, ◌↔◌, ℕ, List, Bool, not, cond, true, length, IfOk};
+ghost use Rattle.std.specs.List.{list_any};
+ghost use Rattle.adf_blocks.specs.declared.layout.TheConstants.{POINTERS};
 ghost use Rattle.adf_blocks.specs.Sizes.{blocks};
 ghost use Rattle.adf_volume.specs.Image.{word_in};
 ghost use Rattle.adf_volume.specs.Start.{is_image_len};
@@ -8,17 +10,22 @@ ghost use Rattle.adf_volume.specs.Walk.{heads};
 ghost use Rattle.adf_findings.specs.Concerned.{concern_of_nth};
 ghost use Rattle.adf_findings.specs.Found.{parent_node};
 ghost use Rattle.adf_findings.specs.Marks.{has_mark};
+ghost use Rattle.adf_findings.specs.Parts.{part_role};
 ghost use Rattle.adf_findings.specs.Survey.{OnSurvey};
-ghost use Rattle.adf_rescue.specs.Lost.{AreEntered, AreLost, AreSettled, bit_stated, directory_at, directory_by, has_free_data};
-ghost use Rattle.adf_rescue.specs.Lost.{is_denied, is_directory_at, is_freed, is_inside, is_lost, is_stated_free, is_stated_used};
-ghost use Rattle.adf_rescue.specs.Lost.{is_unfound, says_directory, says_header};
+ghost use Rattle.adf_rescue.specs.Lost.{AreEntered, AreLost, AreSettled, AreUnblamed, bit_stated, directory_at, directory_by, has_free_data};
+ghost use Rattle.adf_rescue.specs.Lost.{is_denied, is_directory_at, is_freed, is_inside, is_lost, is_root, is_root_doubtful, is_settled};
+ghost use Rattle.adf_rescue.specs.Lost.{is_stated_free, is_stated_used, is_unfound, says_directory, says_header, table_count};
 
 use crate::image::{block_count, block_in, root_of};
 use crate::opened::says_file;
 use adf_base::{BLOCK_LEN, NoMemory};
-use adf_blocks::{FIRST_POINTER, OWN_KEY, PARENT, SECONDARY_TYPE, SIZE, ST_DIR, T_SHORT, TYPE};
-use adf_findings::Survey;
+use adf_blocks::{
+    FIRST_POINTER, OWN_KEY, PARENT, POINTERS, SECONDARY_TYPE, SIZE, ST_DIR, T_SHORT, TYPE,
+    data_count,
+};
+use adf_findings::{Finding, Part, Survey};
 use adf_tree::Node;
+use adf_volume::kind_in;
 use std::alloc::Global;
 
 /// Whether a block is in range: behind the boot blocks.
@@ -55,15 +62,18 @@ fn says_header(image: &[u8], b: u32) -> bool
 }
 
 // What the bitmap tells of a block: whether it is free.
-#[tactic(auto)]
+#[tactic(auto, using(crate::proofs::LostHeaders::none_told))]
 fn bit_stated(survey: &Survey<'_>, b: u32) -> Option<bool>
     ensures { OnSurvey survey.now.image (λ w _. result ≡ bit_stated survey.now.image w b) }
 {
+    if !is_inside(survey.image(), b) {
+        return None;
+    }
     survey.is_free(b)
 }
 
-// Whether the bitmap tells that a block is free.
-fn is_stated_free(survey: &Survey<'_>, b: u32) -> bool
+/// Whether the bitmap tells that a block is free.
+pub fn is_stated_free(survey: &Survey<'_>, b: u32) -> bool
     ensures { OnSurvey survey.now.image (λ w _. result ≡ is_stated_free survey.now.image w b) }
 {
     bit_stated(survey, b).unwrap_or(false)
@@ -76,15 +86,31 @@ fn is_stated_used(survey: &Survey<'_>, b: u32) -> bool
     !bit_stated(survey, b).unwrap_or(true)
 }
 
-// Whether the first data block of a file is free.
+// How many data blocks the table of a header names.
+fn table_count(image: &[u8], b: u32) -> usize
+    requires { b < blocks image.now }
+    ensures exact { result ≡ table_count image.now b }
+    ensures few { result ≤ POINTERS }
+{
+    data_count(kind_in(image), word_in(image, b, SIZE) as usize).min(POINTERS)
+}
+
+// Whether one of the data blocks that the table of a file's header names is free.
+#[tactic(auto, using(crate::proofs::LostHeaders::none_free_first, crate::proofs::LostHeaders::none_free_more))]
 fn has_free_data(survey: &Survey<'_>, b: u32) -> bool
     requires { b < blocks survey.now.image }
     ensures { OnSurvey survey.now.image (λ w _. result ≡ has_free_data survey.now.image w b) }
 {
     let image = survey.image();
-    word_in(image, b, SECONDARY_TYPE) != ST_DIR
-        && word_in(image, b, SIZE) != 0
-        && is_stated_free(survey, word_in(image, b, FIRST_POINTER))
+    if word_in(image, b, SECONDARY_TYPE) == ST_DIR {
+        return false;
+    }
+    for k in 0..table_count(image, b) {
+        if is_stated_free(survey, word_in(image, b, FIRST_POINTER - k)) {
+            return true;
+        }
+    }
+    false
 }
 
 // Whether an entry is a directory with its header in block `p`.
@@ -168,10 +194,10 @@ fn strike(survey: &Survey<'_>, marks: &mut Vec<bool>, n: u32)
     mark(marks, survey.directory_of(Node(n)).0, false);
 }
 
-/// The marks of the root and the directories that are settled.
-pub fn settled(alloc: Global, survey: &Survey<'_>) -> Result<Vec<bool>, NoMemory>
+// The marks of the root and the directories that have entries, and that no finding is of.
+fn unblamed(alloc: Global, survey: &Survey<'_>) -> Result<Vec<bool>, NoMemory>
     ensures { OnSurvey survey.now.image (λ w fs.
-        IfOk result (λ v. AreSettled w fs (length fs) v.items)) }
+        IfOk result (λ v. AreUnblamed w fs (length fs) v.items)) }
 {
     let mut marks = entered(alloc, survey)?;
     for k in 0..survey.findings().len() {
@@ -182,27 +208,62 @@ pub fn settled(alloc: Global, survey: &Survey<'_>) -> Result<Vec<bool>, NoMemory
     Ok(marks)
 }
 
+// Whether the part of a finding is the root.
+fn is_root(part: Option<Part>) -> bool
+    ensures { result ≡ is_root (part_role part) }
+{
+    matches!(part, Some(Part::Root))
+}
+
+// Whether a finding is of the root.
+fn blames_root(findings: &[Finding]) -> bool
+    ensures { result ≡ list_any (λ x. is_root (part_role x.part)) findings.now }
+{
+    findings.iter().any(|finding| is_root(finding.part))
+}
+
+// Whether the root is in doubt.
+#[tactic(auto, using(crate::proofs::LostHeaders::blamed_root))]
+fn is_root_doubtful(survey: &Survey<'_>, mended: bool) -> bool
+    ensures { OnSurvey survey.now.image (λ _ fs. result ≡ is_root_doubtful mended fs) }
+{
+    mended || blames_root(survey.findings())
+}
+
+/// The marks of the root and the directories that are settled.
+#[tactic(auto, using(crate::proofs::LostHeaders::settled_kept, crate::proofs::LostHeaders::settled_less))]
+pub fn settled(alloc: Global, survey: &Survey<'_>, mended: bool) -> Result<Vec<bool>, NoMemory>
+    ensures { OnSurvey survey.now.image (λ w fs.
+        IfOk result (λ v. AreSettled w (is_settled mended w fs) v.items)) }
+{
+    let mut marks = unblamed(alloc, survey)?;
+    if is_root_doubtful(survey, mended) {
+        mark(&mut marks, 0, false);
+    }
+    Ok(marks)
+}
+
 // Whether the directory that a header names does not have it.
 #[tactic(auto, using(crate::proofs::LostHeaders::denied_by_directory, std::proofs::lemmas::Grind::common_steps))]
 fn is_denied(survey: &Survey<'_>, settled: &Vec<bool>, b: u32) -> bool
     requires sized { is_image_len (length survey.now.image) ≡ true }
     requires inside { b < blocks survey.now.image }
-    ensures { OnSurvey survey.now.image (λ w fs. AreSettled w fs (length fs) settled.now.items
-        → result ≡ is_denied survey.now.image w fs b) }
+    ensures { OnSurvey survey.now.image (λ w _. (s : ℕ → Bool) → AreSettled w s settled.now.items
+        → result ≡ is_denied survey.now.image w s b) }
 {
     let p = word_in(survey.image(), b, PARENT);
     match directory_at(survey, p) {
         Some(n) => is_marked(settled, n.0),
-        None => survey.entry_at(p).is_some(),
+        None => survey.has_part(p),
     }
 }
 
-// Whether block `b` says that it is a header, and the survey has no entry there.
+// Whether block `b` says that it is a header, and is no part of the survey.
 fn is_unfound(survey: &Survey<'_>, b: u32) -> bool
     requires { b < blocks survey.now.image }
     ensures { OnSurvey survey.now.image (λ w _. result ≡ is_unfound survey.now.image w b) }
 {
-    says_header(survey.image(), b) && survey.entry_at(b).is_none()
+    says_header(survey.image(), b) && !survey.has_part(b)
 }
 
 // Whether the bitmap tells that header `b` is deleted.
@@ -217,8 +278,8 @@ fn is_freed(survey: &Survey<'_>, b: u32) -> bool
 #[tactic(auto, unfolding(crate::specs::Lost::is_lost))]
 fn is_lost(survey: &Survey<'_>, settled: &Vec<bool>, b: u32) -> bool
     requires { is_image_len (length survey.now.image) ≡ true }
-    ensures { OnSurvey survey.now.image (λ w fs. AreSettled w fs (length fs) settled.now.items
-        → result ≡ is_lost survey.now.image w fs b) }
+    ensures { OnSurvey survey.now.image (λ w _. (s : ℕ → Bool) → AreSettled w s settled.now.items
+        → result ≡ is_lost survey.now.image w s b) }
 {
     is_inside(survey.image(), b)
         && is_unfound(survey, b)
@@ -226,14 +287,14 @@ fn is_lost(survey: &Survey<'_>, settled: &Vec<bool>, b: u32) -> bool
         && (is_stated_used(survey, b) || !is_denied(survey, settled, b))
 }
 
-/// Whether each block is a lost header.
+/// Whether each block is a lost header. Of an image that was mended, the root is not settled.
 #[tactic(auto, using(crate::proofs::LostHeaders::lost_more, crate::proofs::LostHeaders::lost_marked))]
-pub fn lost(alloc: Global, survey: &Survey<'_>) -> Result<Vec<bool>, NoMemory>
+pub fn lost(alloc: Global, survey: &Survey<'_>, mended: bool) -> Result<Vec<bool>, NoMemory>
     requires { is_image_len (length survey.now.image) ≡ true }
     ensures { OnSurvey survey.now.image (λ w fs.
-        IfOk result (λ v. AreLost survey.now.image w fs v.items)) }
+        IfOk result (λ v. AreLost survey.now.image w (is_settled mended w fs) v.items)) }
 {
-    let settled = settled(alloc, survey)?;
+    let settled = settled(alloc, survey, mended)?;
     let blocks = block_count(survey.image());
     let Ok(mut marks) = Vec::with_capacity(alloc, blocks as usize) else {
         return Err(NoMemory);

@@ -38,6 +38,7 @@ invariant_of-result c =
       concerned = entries;
       owners = f.owners.items;
       numbers = f.numbers.items;
+      owned = f.owned.items;
       taken = f.taken.entries;
       nodes = f.nodes.items;
       parents = f.parents.items;

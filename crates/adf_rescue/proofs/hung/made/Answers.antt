@@ -1,27 +1,32 @@
-use Rattle.std.proofs.Common.{◌≡◌, ◌∙◌, ap, arith, sym}
+use Rattle.std.proofs.Common.{◌≡◌, ◌∙◌, ap, arith, subst, sym}
 use Rattle.std.proofs.lemmas.Grind.{common_steps}
 use Rattle.adf_blocks.specs.Sizes.{blocks}
+use Rattle.adf_rescue.specs.Hung.{AreMade}
 use Rattle.adf_rescue.proofs.HungImages.{made_first, made_marked, made_more, made_same}
 use Rattle.adf_rescue.proofs.LostHeaders.{unmarked}
 use Rattle.adf_rescue.proofs.hung.made.Goals.{then-is_marked, else-is_marked}
 use Rattle.adf_rescue.proofs.hung.made.Goals as goal
 
 pub loop-b-init : goal.loop-b-init
-loop-b-init c = λ w fs survey are.
+loop-b-init c = λ w fs survey s are.
     let given = c.args.survey.now.image in
     let n : c.block_count-blocks.result ≡ blocks given = c.block_count-blocks.ensures.exact ∙ ap blocks c.image.ensures in
-    made_first given w fs c.in-Ok.marks.items (omega (arith, c.in-Ok.marks.ok.0, c.in-Ok.ensures.len, n))
+    made_first given w s c.in-Ok.marks.items (omega (arith, c.in-Ok.marks.ok.0, c.in-Ok.ensures.len, n))
     (unmarked c.block_count-blocks.result c.in-Ok.marks.items (c.in-Ok.ensures.items_if_clones_equal (λ y h. h)))
 
 pub loop-b-preserved : goal.loop-b-preserved
-loop-b-preserved c = λ w fs survey are.
-    let before = c.loop-b.invariant w fs survey are in
+loop-b-preserved c = λ w fs survey s are.
+    let before = c.loop-b.invariant w fs survey s are in
     elim c.if-is_marked.branch [
       | then-is_marked b ↦
           rw b.marks-is (made_more before (sym (are c.loop-b.b) ∙ (sym c.is_marked.ensures ∙ b.if-is_marked.true))
-          (b.mark_parent.ensures.marks w fs survey are) b.mark_parent.ensures.length)
+          (b.mark_parent.ensures.marks w fs survey s are) b.mark_parent.ensures.length)
       | else-is_marked b ↦ rw b.marks-is (made_same before (sym (are c.loop-b.b) ∙ (sym c.is_marked.ensures ∙ b.if-is_marked.false)))
     ]
 
 pub returns : goal.returns
-returns c = grind (arith, common_steps, made_marked)
+returns c = λ w fs survey s are.
+    let given = c.args.survey.now.image in
+    let marks = c.loop-b.marks.items in
+    let end : c.loop-b.b ≡ blocks given = grind (arith, common_steps) in
+    made_marked given w s marks (subst (λ k. AreMade given w s k marks) end (c.loop-b.invariant w fs survey s are))
