@@ -4,7 +4,7 @@
  *
  * Writes to standard output the numbers of the volume and its list, or only the bytes under PATH. Status 0; 1 where the image
  * is refused or nothing can be read under PATH, which standard error says; 2 where the words are none of these; 3 where a file
- * or memory failed. examples/try builds it.
+ * or memory failed. trials/library builds it.
  */
 #include "adf.h"
 

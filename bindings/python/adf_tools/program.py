@@ -71,7 +71,7 @@ def why(error: BaseException) -> tuple[int, str]:
 
 def begin(line: argparse.ArgumentParser, work: Callable[[argparse.Namespace], int]) -> NoReturn:
     """Runs a program: does the work that the words ask for, and ends with the status that it returns. An error is one line, and what
-    waits for standard output is not written then; python3 -X dev shows where an error comes from that nobody foresaw."""
+    waits for standard output is not written then; PYTHONDEVMODE=1 shows where an error comes from that nobody foresaw."""
     heard = [number for number in INTERRUPTS if signal.getsignal(number) != signal.SIG_IGN]
     try:
         for number in heard:

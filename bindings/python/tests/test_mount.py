@@ -1,4 +1,4 @@
-"""Tests of adf-mount's words, and of what it takes for a volume; examples/try-mount tries what it shows."""
+"""Tests of adf-mount's words, and of what it takes for a volume; trials/mount tries what it shows."""
 
 import os
 import shlex

@@ -1,9 +1,9 @@
 /* Tries the tables of an image where sanitizers look on: in rooms of just their size, in rooms too small by one, and with each of
  * their words changed, from eight threads at a time.
  *
- *     try-tables IMAGE
+ *     tables IMAGE
  *
- * Status 0 where all went well; a sanitizer ends it otherwise, and so does a failed assertion. examples/try builds and runs it.
+ * Status 0 where all went well; a sanitizer ends it otherwise, and so does a failed assertion. trials/library builds and runs it.
  */
 #include "adf.h"
 
