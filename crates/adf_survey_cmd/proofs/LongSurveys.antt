@@ -16,7 +16,7 @@ use Rattle.adf_findings.specs.Survey.IsSurvey.{unread}
 use Rattle.adf_findings.specs.Survey.UnreadTells.{bad_boot}
 use Rattle.adf_findings.proofs.OneSurvey.{one_survey}
 use Rattle.adf_runs.specs.Commands.{Reply, on_output}
-use Rattle.adf_rescue.specs.Opened.{opened}
+use Rattle.adf_rescue.specs.Opened.{is_mended, opened}
 use Rattle.adf_rescue.specs.Rescue.{Basis}
 use Rattle.adf_rescue.proofs.OpenedImages.{length_opened}
 use Rattle.adf_rescue.proofs.MadeRoots.{sized as sized_len}
@@ -64,8 +64,9 @@ unfolding bad_size
 it_finds e = cc
 
 -- no volume has this length, so nothing is hung
-none_second : (image : List ℕ) (w : List (Role × ℕ)) (fs : List FindingValue) → 512 * MOST_BLOCKS < length image → second_image image w fs ≡ None
-none_second image w fs long = grind (arith, common_steps, false_from_ne_true, sized_len, none_hung, and_left)
+none_second : (mended : Bool) (image : List ℕ) (w : List (Role × ℕ)) (fs : List FindingValue) → 512 * MOST_BLOCKS < length image
+    → second_image mended image w fs ≡ None
+none_second mended image w fs long = grind (arith, common_steps, false_from_ne_true, sized_len, none_hung, and_left)
 
 -- nothing stands, and the first fault is told
 same_rescue : (image bytes opened_image opened_bytes : List ℕ) (reply : Reply) → 512 * MOST_BLOCKS < length image → 512 * MOST_BLOCKS < length bytes
@@ -74,7 +75,7 @@ same_rescue image bytes opened_image opened_bytes reply a b c (sound, marks, (tw
     let basis : Basis = record { image = opened_bytes; walk = []; sound = λ n. false } in (
       (λ n. false),
       no_marks opened_bytes (grave bad_size),
-      subst (λ o. RescuesBoth bytes basis o bad_size reply) (sym (none_second opened_bytes [] bad_size c))
+      subst (λ o. RescuesBoth bytes basis o bad_size reply) (sym (none_second (is_mended bytes) opened_bytes [] bad_size c))
           (None, tt, inl ((inr it_finds, inl refl), (f, long_fault image bytes f a b first, e))),
     )
 same_rescue image bytes opened_image opened_bytes reply a b c (sound, marks, (two, second, inr (some, e))) = absurd (some (inr it_finds, inl refl))

@@ -9,7 +9,7 @@ use Rattle.adf_findings.specs.Lookup.{LeadsTo}
 use Rattle.adf_findings.specs.SoundMarks.{AreMarks}
 use Rattle.adf_findings.specs.Survey.{FindingValue}
 use Rattle.adf_findings.proofs.OneSurvey.{one_survey}
-use Rattle.adf_rescue.specs.Opened.{opened}
+use Rattle.adf_rescue.specs.Opened.{is_mended, opened}
 use Rattle.adf_rescue.specs.Rescue.{IsSecond, Basis}
 use Rattle.adf_rescue.proofs.RescueLaws.{one_basis}
 use Rattle.adf_findings.proofs.Lookups.{one_first}
@@ -112,7 +112,7 @@ found_rescued_once : (input image : List ℕ) (w : List (Role × ℕ)) (fs : Lis
 found_rescued_once input image w fs a b (sound, marks, (l, second, x)) (others, also, (m, twice, y)) =
     let r : (ℕ → Bool) → Basis = λ s. record { image = image; walk = w; sound = s } in
     by_surveys_once input (r others) m fs a b
-    (subst (λ o. RescuesBy input (r others) o fs a) (one_second (second_image image w fs) l m second twice)
+    (subst (λ o. RescuesBy input (r others) o fs a) (one_second (second_image (is_mended input) image w fs) l m second twice)
     (subst (λ s. RescuesBy input (r s) l fs a) (one_marks image w (grave fs) sound others marks also) x)) y
 
 rescued_once : (input image : List ℕ) (a b : Reply) → RescuesIn input image a → RescuesIn input image b → a ≡ b

@@ -15,7 +15,7 @@ use Rattle.adf_findings.specs.Survey.{FindingValue, IsSurvey}
 use Rattle.adf_findings.proofs.FirstFindings.{finds_none}
 use Rattle.adf_rescue.specs.declared.left_out.LeftOut.{LeftOut}
 use Rattle.adf_rescue.specs.Hung.{hung}
-use Rattle.adf_rescue.specs.Lost.{has_lost}
+use Rattle.adf_rescue.specs.Lost.{has_lost, is_settled}
 use Rattle.adf_rescue.specs.Opened.{is_mended, opened}
 use Rattle.adf_rescue.specs.Rescue.{HasFault, Basis, StandsNothing, rescue_leaves, rescued_tree, second_leaves}
 use Rattle.adf_rescue.specs.declared.rescues.Rescued.{Rescued}
@@ -42,7 +42,7 @@ if_some o x P e h = subst (λ o. IfSome o P) e h
 -- what is answered by the survey of an opened image, and by that of a second one, if there is one
 pub found_answers : (input image : List ℕ) (w : List (Role × ℕ)) (fs : List FindingValue) (sound : ℕ → Bool)
     (second : Option (List ℕ)) (reply : Reply)
-    → image ≡ opened input → IsSurvey image w fs → AreMarks image w (grave fs) sound → second_image image w fs ≡ second
+    → image ≡ opened input → IsSurvey image w fs → AreMarks image w (grave fs) sound → second_image (is_mended input) image w fs ≡ second
     → RescuesBoth input (record { image = image; walk = w; sound = sound }) second fs reply → Rescues input reply
 found_answers input image w fs sound second reply same survey marks is by =
     let a : Basis = record { image = image; walk = w; sound = sound } in
@@ -51,12 +51,13 @@ found_answers input image w fs sound second reply same survey marks is by =
 
 -- the hung image is surveyed where something is lost, and only there
 
-pub none_hung : (image : List ℕ) (w : List (Role × ℕ)) (fs : List FindingValue) → has_lost image w fs ≡ false → second_image image w fs ≡ None
-none_hung image w fs none = cond-false (has_lost image w fs) (Some (hung image w fs)) None none
+pub none_hung : (mended : Bool) (image : List ℕ) (w : List (Role × ℕ)) (fs : List FindingValue) → has_lost mended image w fs ≡ false
+    → second_image mended image w fs ≡ None
+none_hung mended image w fs none = cond-false (has_lost mended image w fs) (Some (hung image w (is_settled mended w fs))) None none
 
-pub one_hung : (image : List ℕ) (w : List (Role × ℕ)) (fs : List FindingValue) (v : List ℕ) → has_lost image w fs ≡ true → v ≡ hung image w fs
-    → second_image image w fs ≡ Some v
-one_hung image w fs v some is = grind (arith, common_steps, cond-true)
+pub one_hung : (mended : Bool) (image : List ℕ) (w : List (Role × ℕ)) (fs : List FindingValue) (v : List ℕ) → has_lost mended image w fs ≡ true
+    → v ≡ hung image w (is_settled mended w fs) → second_image mended image w fs ≡ Some v
+one_hung mended image w fs v some is = grind (arith, common_steps, cond-true)
 
 -- no tree fits an image that has a fault as it is
 pub none_fits_it : (image : List ℕ) (w : List (Role × ℕ)) (fs : List FindingValue) (mended : Bool) → mended ≡ false → IsSurvey image w fs

@@ -10,7 +10,7 @@ use Rattle.adf_findings.specs.SoundMarks.{AreMarks}
 use Rattle.adf_findings.specs.Survey.{FindingValue, IsSurvey}
 use Rattle.adf_build.specs.Laid.{IsLaid}
 use Rattle.adf_rescue.specs.Hung.{hung}
-use Rattle.adf_rescue.specs.Lost.{has_lost}
+use Rattle.adf_rescue.specs.Lost.{has_lost, is_settled}
 use Rattle.adf_rescue.specs.Opened.{is_mended, opened}
 use Rattle.adf_rescue.specs.Rescue.{IsSecond, Basis, StandsNothing, rescue_leaves, rescued_tree, second_leaves}
 use Rattle.adf_rescue.specs.declared.left_out.LeftOut.{LeftOut}
@@ -60,9 +60,9 @@ abbrev pub RescuesBy : List ℕ → Basis → Option Basis → List FindingValue
 RescuesBy input a b fs reply =
     (StandsNothing a b fs (is_mended input) × RefusesImage input reply) ⊎ ((¬ StandsNothing a b fs (is_mended input)) × WritesVolume a b reply)
 
--- the second image that is surveyed: the hung one, if something is lost
-abbrev pub second_image : List ℕ → List (Role × ℕ) → List FindingValue → Option (List ℕ)
-second_image image w fs = cond (has_lost image w fs) (Some (hung image w fs)) None
+-- the second image that is surveyed: the hung one, if something is lost; mended tells whether the first one was
+abbrev pub second_image : Bool → List ℕ → List (Role × ℕ) → List FindingValue → Option (List ℕ)
+second_image mended image w fs = cond (has_lost mended image w fs) (Some (hung image w (is_settled mended w fs))) None
 
 -- the rescue of an input by the survey of its image, and by that of a second image, if there is one
 abbrev pub RescuesBoth : List ℕ → Basis → Option (List ℕ) → List FindingValue → Reply → Type 0
@@ -72,7 +72,7 @@ RescuesBoth input a image fs reply = (b : Option Basis) × IsSecond image b × R
 abbrev pub RescuesFound : List ℕ → List ℕ → List (Role × ℕ) → List FindingValue → Reply → Type 0
 RescuesFound input image w fs reply =
     (sound : ℕ → Bool) × AreMarks image w (grave fs) sound
-    × RescuesBoth input (record { image = image; walk = w; sound = sound }) (second_image image w fs) fs reply
+    × RescuesBoth input (record { image = image; walk = w; sound = sound }) (second_image (is_mended input) image w fs) fs reply
 
 -- the rescue of an input by the survey of an image
 abbrev pub RescuesIn : List ℕ → List ℕ → Reply → Type 0

@@ -232,7 +232,7 @@ fn prepare_opened(
 {
     let found = survey(alloc, image)?;
     found.whole_marks();
-    match hung_image(alloc, &found)? {
+    match hung_image(alloc, &found, refusal.is_some())? {
         Some(hung) => prepare_hung(alloc, &found, &hung, refusal),
         None => prepare_found(alloc, &found, None, refusal),
     }

@@ -41,3 +41,5 @@ pub mod WalkCompleteness
 pub mod WalkFits
 -- the samples
 pub mod SampleEmpty
+pub mod SampleFile
+pub mod SampleLost

@@ -1,7 +1,12 @@
--- The smallest volume, for trying the definitions.
+-- Small images, for trying the definitions.
 use Rattle.std.specs.Prelude.{ℕ, List, [], ◌∷◌, ◌++◌, replicate}
+use Rattle.std.specs.List.{concat}
+use Rattle.adf_base.specs.Words.{with_word}
 use Rattle.adf_base.specs.declared.dates.Stamp.{Stamp}
-use Rattle.adf_names.specs.declared.kind.Kind.TheVariants.{Ffs}
+use Rattle.adf_names.specs.declared.kind.Kind.TheVariants.{Ofs, Ffs}
+use Rattle.adf_names.specs.Meta.{new_meta}
+use Rattle.adf_tree.specs.declared.entry.Body.TheVariants.{File}
+use Rattle.adf_tree.specs.declared.entry.Entry.{Entry}
 use Rattle.adf_tree.specs.Tree.{Tree}
 use Rattle.adf_volume.specs.Layout.{Layout}
 
@@ -28,3 +33,43 @@ tiny_tree = record { kind = Ffs; label = []; stamps = record { root = no_stamp; 
 -- the blocks of the smallest volume
 abbrev pub tiny_layout : Layout
 tiny_layout = record { pages = 3 ∷ []; map_exts = []; places = [] }
+
+-- a block of zeros but for these words, each behind its number
+abbrev pub block_with : List (ℕ × ℕ) → List ℕ
+block_with [] = replicate 512 0
+block_with (x ∷ xs) = with_word (block_with xs) x.0 x.1
+
+-- an OFS volume of 6 blocks with a file `a` of one byte: its header, block 2; the root, with it in slot 6; the page, without a free block; and
+-- its data block, block 5
+unfoldable pub one_file : List ℕ
+one_file = concat (
+    block_with ((0, 0x444F5300) ∷ [])
+    ∷ block_with []
+    ∷ block_with ((0, 2) ∷ (1, 2) ∷ (2, 1) ∷ (4, 5) ∷ (5, 0xFE9EFFF0) ∷ (77, 5) ∷ (81, 1) ∷ (108, 0x01610000) ∷ (125, 3) ∷ (127, 0xFFFFFFFD) ∷ [])
+    ∷ block_with ((0, 2) ∷ (3, 0x48) ∷ (5, 0xFFFFFFB0) ∷ (12, 2) ∷ (78, 0xFFFFFFFF) ∷ (79, 4) ∷ (127, 1) ∷ [])
+    ∷ block_with []
+    ∷ block_with ((0, 8) ∷ (1, 2) ∷ (2, 1) ∷ (3, 1) ∷ (5, 0xBEFFFFF4) ∷ (6, 0x41000000) ∷ [])
+    ∷ []
+    )
+
+-- the file
+abbrev pub file_a : Entry
+file_a = record { parent = 0; name = 0x61 ∷ []; meta = new_meta [] 0 no_stamp; body = File (0x41 ∷ []) }
+
+-- its tree
+abbrev pub one_file_tree : Tree
+one_file_tree = record { kind = Ofs; label = []; stamps = record { root = no_stamp; altered = no_stamp; created = no_stamp }; entries = file_a ∷ [] }
+
+-- its blocks
+abbrev pub one_file_layout : Layout
+one_file_layout = record { pages = 4 ∷ []; map_exts = []; places = record { head = 2; exts = []; datas = 5 ∷ [] } ∷ [] }
+
+-- an empty FFS volume of 6 blocks: the root is block 3, and its page, block 4, tells block 2 alone as free; so block 5 is lost
+unfoldable pub one_lost : List ℕ
+one_lost = concat (
+    block_with ((0, 0x444F5301) ∷ [])
+    ∷ block_with [] ∷ block_with []
+    ∷ block_with ((0, 2) ∷ (3, 0x48) ∷ (5, 0xFFFFFFB2) ∷ (78, 0xFFFFFFFF) ∷ (79, 4) ∷ (127, 1) ∷ [])
+    ∷ block_with ((0, 0xFFFFFFFF) ∷ (1, 1) ∷ [])
+    ∷ block_with [] ∷ []
+    )

@@ -21,5 +21,5 @@ pub use crate::laws::{
 pub use crate::owner::Owner;
 pub use crate::pieces::{Pieces, count_of, held_in, joined};
 pub use crate::row::{Row, RowBody, row_of};
-pub use crate::samples::tiny_volume_fits;
+pub use crate::samples::{file_volume_fits, lost_block_is_first_fault, tiny_volume_fits};
 pub use crate::start::{Opened, boot_cause, kind_in, letters_in, open};

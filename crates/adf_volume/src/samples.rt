@@ -1,10 +1,23 @@
-// The definitions tried on the smallest volume. The function does nothing; its contract is the test.
+// The definitions tried on small images. Each function does nothing; its contract is the test.
 
+ghost use Rattle.adf_blocks.specs.declared.cause.Cause.TheVariants.{LostBlock};
 ghost use Rattle.adf_volume.specs.Fits.{Fits};
-ghost use Rattle.adf_volume.specs.Samples.{tiny, tiny_layout, tiny_tree};
+ghost use Rattle.adf_volume.specs.Samples.{one_file, one_file_layout, one_file_tree, one_lost, tiny, tiny_layout, tiny_tree};
+ghost use Rattle.adf_volume.specs.Walk.{FirstFault};
 
 /// The empty tree fits an empty volume of 4 blocks.
 #[tactic(auto, using(crate::proofs::SampleEmpty::tiny_fits))]
 pub fn tiny_volume_fits()
     ensures { Fits tiny tiny_tree tiny_layout }
+{}
+
+/// The tree of a file of one byte fits an OFS volume of 6 blocks with that file.
+#[tactic(auto, using(crate::proofs::SampleFile::one_file_fits))]
+pub fn file_volume_fits()
+    ensures { Fits one_file one_file_tree one_file_layout }
+{}
+
+/// Of an empty volume of 6 blocks whose page tells its last block as in use, that is the first fault.
+pub fn lost_block_is_first_fault()
+    ensures { FirstFault one_lost 5 LostBlock }
 {}

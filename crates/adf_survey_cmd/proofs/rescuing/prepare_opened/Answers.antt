@@ -4,10 +4,11 @@ use Rattle.adf_findings.specs.SoundMarks.{whole_in}
 use Rattle.adf_findings.specs.Parts.{finding_value}
 use Rattle.adf_findings.specs.Survey.{FindingValue, IsSurvey}
 use Rattle.adf_rescue.specs.Lost.{has_lost}
+use Rattle.adf_rescue.specs.Opened.{is_mended}
 use Rattle.adf_rescue.specs.Rescue.{Basis}
 use Rattle.adf_survey_cmd.specs.Prepared.{IsOpened}
-use Rattle.adf_survey_cmd.specs.Rescues.{Rescues, RescuesBoth, RescuesBy}
-use Rattle.adf_survey_cmd.proofs.RescueAnswers.{found_answers, if_some, none_hung, none_prepared, one_hung, opened_so, prepares_weaker}
+use Rattle.adf_survey_cmd.specs.Rescues.{Rescues, RescuesBoth, RescuesBy, second_image}
+use Rattle.adf_survey_cmd.proofs.RescueAnswers.{found_answers, if_some, mended_so, none_hung, none_prepared, one_hung, opened_so, prepares_weaker}
 use Rattle.adf_survey_cmd.proofs.rescuing.prepare_opened.Goals as goal
 
 pub prepare_found-requires : goal.prepare_found-requires
@@ -23,14 +24,17 @@ returns-in-Some c = λ input opened.
     let sound : ℕ → Bool = whole_in v in
     let marks = c.whole_marks.ensures w fs here in
     let a : Basis = record { image = v.image; walk = w; sound = sound } in
+    let so : c.is_some.result ≡ is_mended input = c.is_some.ensures ∙ mended_so input _ _ opened in
     let is = c.in-Some.is in
     let told = c.in_ok-hung.ensures.none w fs here in
-    let lost : has_lost v.image w fs ≡ true = elim (cases_Bool (has_lost v.image w fs)) [
+    let lost : has_lost c.is_some.result v.image w fs ≡ true = elim (cases_Bool (has_lost c.is_some.result v.image w fs)) [
       | inl some ↦ some
       | inr none ↦ let clash : true ≡ false = ap is_some (sym is) ∙ told.1 none in cc
     ] in
     let hung = c.deref.ensures.value ∙ if_some _ _ _ is (c.in_ok-hung.ensures.hung w fs here) in
-    let second = one_hung v.image w fs c.deref.result.now lost hung in
+    let second : second_image (is_mended input) v.image w fs ≡ Some c.deref.result.now =
+    subst (λ mended. second_image mended v.image w fs ≡ Some c.deref.result.now) so
+    (one_hung c.is_some.result v.image w fs c.deref.result.now lost hung) in
     prepares_weaker (RescuesBoth input a (Some c.deref.result.now) fs) (Rescues input) _
     (λ reply by. found_answers input v.image w fs sound (Some c.deref.result.now) reply (same ∙ opened_so input _ _ opened) here marks second by)
     (c.prepare_hung.ensures input (subst (λ (image : List ℕ). IsOpened input image c.args.refusal) (sym same) opened) w fs sound here marks)
@@ -45,7 +49,10 @@ returns c = λ input opened.
     let sound : ℕ → Bool = whole_in v in
     let marks = c.whole_marks.ensures w fs here in
     let a : Basis = record { image = v.image; walk = w; sound = sound } in
-    let none = none_hung v.image w fs ((c.in_ok-hung.ensures.none w fs here).0 (ap is_some c.in-None.is)) in
+    let so : c.is_some.result ≡ is_mended input = c.is_some.ensures ∙ mended_so input _ _ opened in
+    let none : second_image (is_mended input) v.image w fs ≡ None =
+    subst (λ mended. second_image mended v.image w fs ≡ None) so
+    (none_hung c.is_some.result v.image w fs ((c.in_ok-hung.ensures.none w fs here).0 (ap is_some c.in-None.is))) in
     prepares_weaker (RescuesBy input a None fs) (Rescues input) _
     (λ reply by. found_answers input v.image w fs sound None reply (same ∙ opened_so input _ _ opened) here marks none (None, tt, by))
     (c.prepare_found.ensures input (subst (λ (image : List ℕ). IsOpened input image c.args.refusal) (sym same) opened) w fs sound here marks None tt)
