@@ -27,7 +27,7 @@ use Rattle.adf_findings.specs.Survey.{FindingValue, IsSurvey, IsValidated}
 use Rattle.adf_findings.proofs.BitSteps.{has_page}
 use Rattle.adf_findings.proofs.BitsStated.{one_page}
 use Rattle.adf_findings.proofs.Keys.{lacks_at}
-use Rattle.adf_rescue.specs.Lost.{AreEntered, AreSettled, AreUnblamed, bit_stated, has_free_among, is_root_doubtful, is_settled, is_stated_free, directory_at, directory_by, has_child, has_finding, is_denied, is_inside}
+use Rattle.adf_rescue.specs.Lost.{AreEntered, AreSettled, AreUnblamed, bit_stated, has_free_data_among, is_root_doubtful, is_settled, is_stated_free, directory_at, directory_by, has_child, has_finding, is_denied, is_inside}
 use Rattle.adf_rescue.specs.Lost.{is_lost, is_of, is_root, is_set_in}
 use Rattle.adf_findings.specs.SurveyResult.{IsBitStated}
 
@@ -86,24 +86,24 @@ none_told image w b out = grind (arith, common_steps, and_left)
 -- the data blocks that a table names
 
 module _ (image : List ℕ) (w : List (Role × ℕ)) (h : ℕ) where
-  pub none_free_first : has_free_among image w h 0 ≡ false
-  unfolding has_free_among
+  pub none_free_first : has_free_data_among image w h 0 ≡ false
+  unfolding has_free_data_among
   none_free_first = refl
 
-  pub none_free_more : (k : ℕ) → has_free_among image w h k ≡ false → is_stated_free image w (word_in image h (FIRST_POINTER - k)) ≡ false
-      → has_free_among image w h (k + 1) ≡ false
-  unfolding has_free_among
+  pub none_free_more : (k : ℕ) → has_free_data_among image w h k ≡ false → is_stated_free image w (word_in image h (FIRST_POINTER - k)) ≡ false
+      → has_free_data_among image w h (k + 1) ≡ false
+  unfolding has_free_data_among
   none_free_more k before here =
-      rw add-one (or_from (has_free_among image w h k) (is_stated_free image w (word_in image h (FIRST_POINTER - k))) before here)
+      rw add-one (or_from (has_free_data_among image w h k) (is_stated_free image w (word_in image h (FIRST_POINTER - k))) before here)
 
-  pub one_free : (k n : ℕ) → k < n → is_stated_free image w (word_in image h (FIRST_POINTER - k)) ≡ true → has_free_among image w h n ≡ true
-  unfolding has_free_among
+  pub one_free : (k n : ℕ) → k < n → is_stated_free image w (word_in image h (FIRST_POINTER - k)) ≡ true → has_free_data_among image w h n ≡ true
+  unfolding has_free_data_among
   one_free k zero inside here = absurd (omega arith)
   one_free k (suc n) inside here = elim (cases_lt k n) [
-    | inl before ↦ or_left (has_free_among image w h n) _ (one_free k n before here)
+    | inl before ↦ or_left (has_free_data_among image w h n) _ (one_free k n before here)
     | inr from ↦
         let last : k ≡ n = omega arith in
-        or_right (has_free_among image w h n) _ (subst (λ i. is_stated_free image w (word_in image h (FIRST_POINTER - i)) ≡ true) last here)
+        or_right (has_free_data_among image w h n) _ (subst (λ i. is_stated_free image w (word_in image h (FIRST_POINTER - i)) ≡ true) last here)
   ]
 
 -- the directories of a survey

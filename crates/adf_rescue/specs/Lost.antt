@@ -56,13 +56,13 @@ abbrev pub table_count : List ℕ → ℕ → ℕ
 table_count image h = min (data_count image h) POINTERS
 
 -- one of the first k data blocks that the table in header h names is free, as the bitmap tells
-unfoldable pub has_free_among : List ℕ → List (Role × ℕ) → ℕ → ℕ → Bool
-has_free_among image w h zero = false
-has_free_among image w h (suc k) = has_free_among image w h k || is_stated_free image w (word_in image h (FIRST_POINTER - k))
+unfoldable pub has_free_data_among : List ℕ → List (Role × ℕ) → ℕ → ℕ → Bool
+has_free_data_among image w h zero = false
+has_free_data_among image w h (suc k) = has_free_data_among image w h k || is_stated_free image w (word_in image h (FIRST_POINTER - k))
 
 -- one of the data blocks that the table in header h names is free, if it is a file's
 abbrev pub has_free_data : List ℕ → List (Role × ℕ) → ℕ → Bool
-has_free_data image w h = not (word_in image h SECONDARY_TYPE == ST_DIR) && has_free_among image w h (table_count image h)
+has_free_data image w h = not (word_in image h SECONDARY_TYPE == ST_DIR) && has_free_data_among image w h (table_count image h)
 
 -- entry n of the survey is a directory with its header in block p
 abbrev pub is_directory_at : List ℕ → List (Role × ℕ) → ℕ → ℕ → Bool
@@ -97,7 +97,7 @@ abbrev pub is_root : Option Role → Bool
 is_root (Some Root) = true
 is_root _ = false
 
--- the root is in doubt: it was made, or a finding is of it
+-- the root is in doubt: the image was mended, so that it may have been made; or a finding is of it
 abbrev pub is_root_doubtful : Bool → List FindingValue → Bool
 is_root_doubtful mended fs = mended || list_any (λ f. is_root f.part) fs
 
