@@ -2,6 +2,8 @@
 pub mod TreeBlocks
 -- the state after one more verdict
 pub mod Steps
+-- data blocks that were given
+pub mod GivenBlocks
 -- the tree of the additions
 pub mod RescuedTrees
 -- sound files stand, and one survey has one rescue

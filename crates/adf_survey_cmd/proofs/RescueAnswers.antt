@@ -40,14 +40,14 @@ pub if_some : {X : Type 0} (o : Option X) (x : X) (P : X → Type 0) → o ≡ S
 if_some o x P e h = subst (λ o. IfSome o P) e h
 
 -- what is answered by the survey of an opened image, and by that of a second one, if there is one
-pub found_answers : (input image : List ℕ) (w : List (Role × ℕ)) (fs : List FindingValue) (sound : ℕ → Bool)
+pub found_answers : (held : ℕ) (input image : List ℕ) (w : List (Role × ℕ)) (fs : List FindingValue) (sound : ℕ → Bool)
     (second : Option (List ℕ)) (reply : Reply)
     → image ≡ opened input → IsSurvey image w fs → AreMarks image w (grave fs) sound → second_image image w fs ≡ second
-    → RescuesBoth input (record { image = image; walk = w; sound = sound }) second fs reply → Rescues input reply
-found_answers input image w fs sound second reply same survey marks is by =
+    → RescuesBoth held input (record { image = image; walk = w; sound = sound }) second fs reply → Rescues held input reply
+found_answers held input image w fs sound second reply same survey marks is by =
     let a : Basis = record { image = image; walk = w; sound = sound } in
-    subst (λ (l : List ℕ). RescuesIn input l reply) same
-    (w, fs, survey, (sound, marks, subst (λ (o : Option (List ℕ)). RescuesBoth input a o fs reply) (sym is) by))
+    subst (λ (l : List ℕ). RescuesIn held input l reply) same
+    (w, fs, survey, (sound, marks, subst (λ (o : Option (List ℕ)). RescuesBoth held input a o fs reply) (sym is) by))
 
 -- the hung image is surveyed where something is lost, and only there
 
@@ -86,12 +86,12 @@ some_reply image w b volume text [] (y ∷ ys) some e = grind (arith, common_ste
 some_reply image w b volume text (x ∷ xs) ys some e = grind (arith, common_steps)
 
 -- what stands is prepared as a volume
-pub volume_prepared : (input : List ℕ) (a : Basis) (b : Option Basis) (fs : List FindingValue) (r : Rescued) (p : Prepared)
-    → p.draft ≡ r.draft → p.blocks ≡ r.blocks → IsBuildable r.draft.tree r.blocks → r.draft.tree ≡ rescued_tree a b → r.blocks ≡ blocks a.image
-    → r.left_out.items ≡ rescue_leaves a → r.second_left_out.items ≡ second_leaves a b
+pub volume_prepared : (held : ℕ) (input : List ℕ) (a : Basis) (b : Option Basis) (fs : List FindingValue) (r : Rescued) (p : Prepared)
+    → p.draft ≡ r.draft → p.blocks ≡ r.blocks → IsBuildable r.draft.tree r.blocks → r.draft.tree ≡ rescued_tree held a b → r.blocks ≡ blocks a.image
+    → r.left_out.items ≡ rescue_leaves held a → r.second_left_out.items ≡ second_leaves held a b
     → ((volume : List ℕ) → prepared_reply p volume ≡ rescue_reply a.image a.walk b volume r.left_out.items r.second_left_out.items)
-    → ¬ StandsNothing a b fs (is_mended input) → Prepares (RescuesBy input a b fs) (Ok p)
-volume_prepared input a b fs r p draft number fits tree size first second told some =
+    → ¬ StandsNothing held a b fs (is_mended input) → Prepares (RescuesBy held input a b fs) (Ok p)
+volume_prepared held input a b fs r p draft number fits tree size first second told some =
     let kept : p.draft.tree ≡ r.draft.tree = ap (λ (d : DraftValue). d.tree) draft in
     let room : IsBuildable p.draft.tree p.blocks =
     subst (λ (t : Tree). IsBuildable t p.blocks) (sym kept) (subst (λ (n : ℕ). IsBuildable r.draft.tree n) (sym number) fits) in (
@@ -103,7 +103,7 @@ volume_prepared input a b fs r p draft number fits tree size first second told s
           subst (λ (t : Tree). IsLaid writes.0 t) (kept ∙ tree) writes.1,
           writes.2 ∙ (number ∙ size),
           writes.3 ∙ (told writes.0 ∙ (ap (λ (xs : List LeftOut). rescue_reply a.image a.walk b writes.0 xs r.second_left_out.items) first
-              ∙ ap (rescue_reply a.image a.walk b writes.0 (rescue_leaves a)) second)),
+              ∙ ap (rescue_reply a.image a.walk b writes.0 (rescue_leaves held a)) second)),
         ),
       ),
     )

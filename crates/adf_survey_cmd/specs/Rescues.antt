@@ -1,5 +1,6 @@
 -- What a rescue answers.
--- Letters: a the survey of an image, w its walk, fs its findings; b the second survey, if there is one; x an entry that is left out.
+-- Letters: a the survey of an image, w its walk, fs its findings; b the second survey, if there is one; x an entry that is left out;
+-- held the number of blocks that the input holds whole.
 use Rattle.std.specs.Prelude.{◌≡◌, ◌⊎◌, ℕ, Bool, List, [], ◌∷◌, ◌++◌, Option, None, Some, codes, cond}
 use Rattle.std.specs.List.{flat_map}
 use Rattle.adf_blocks.specs.Sizes.{blocks}
@@ -50,34 +51,37 @@ rescue_reply image w b volume xs ys =
     record { status = left_out_status (xs ++ ys); output = volume; errors = left_out_text image w xs ++ second_text b ys }
 
 -- the volume is written that is laid for the tree of all that stands, in as many blocks
-abbrev pub WritesVolume : Basis → Option Basis → Reply → Type 0
-WritesVolume a b reply =
-    (volume : List ℕ) × IsLaid volume (rescued_tree a b) × (blocks volume ≡ blocks a.image)
-    × (reply ≡ rescue_reply a.image a.walk b volume (rescue_leaves a) (second_leaves a b))
+abbrev pub WritesVolume : (held : ℕ) → Basis → Option Basis → Reply → Type 0
+WritesVolume held a b reply =
+    (volume : List ℕ) × IsLaid volume (rescued_tree held a b) × (blocks volume ≡ blocks a.image)
+    × (reply ≡ rescue_reply a.image a.walk b volume (rescue_leaves held a) (second_leaves held a b))
 
 -- the rescue of an input by the surveys: its volume, or where nothing stands the first fault of the input
-abbrev pub RescuesBy : List ℕ → Basis → Option Basis → List FindingValue → Reply → Type 0
-RescuesBy input a b fs reply =
-    (StandsNothing a b fs (is_mended input) × RefusesImage input reply) ⊎ ((¬ StandsNothing a b fs (is_mended input)) × WritesVolume a b reply)
+abbrev pub RescuesBy : (held : ℕ) → List ℕ → Basis → Option Basis → List FindingValue → Reply → Type 0
+RescuesBy held input a b fs reply =
+    (StandsNothing held a b fs (is_mended input) × RefusesImage input reply)
+    ⊎ ((¬ StandsNothing held a b fs (is_mended input)) × WritesVolume held a b reply)
 
 -- the second image that is surveyed: the hung one, if something is lost
 abbrev pub second_image : List ℕ → List (Role × ℕ) → List FindingValue → Option (List ℕ)
 second_image image w fs = cond (has_lost image w fs) (Some (hung image w fs)) None
 
 -- the rescue of an input by the survey of its image, and by that of a second image, if there is one
-abbrev pub RescuesBoth : List ℕ → Basis → Option (List ℕ) → List FindingValue → Reply → Type 0
-RescuesBoth input a image fs reply = (b : Option Basis) × IsSecond image b × RescuesBy input a b fs reply
+abbrev pub RescuesBoth : (held : ℕ) → List ℕ → Basis → Option (List ℕ) → List FindingValue → Reply → Type 0
+RescuesBoth held input a image fs reply = (b : Option Basis) × IsSecond image b × RescuesBy held input a b fs reply
 
 -- the rescue of an input by what is found in an image
-abbrev pub RescuesFound : List ℕ → List ℕ → List (Role × ℕ) → List FindingValue → Reply → Type 0
-RescuesFound input image w fs reply =
+abbrev pub RescuesFound : (held : ℕ) → List ℕ → List ℕ → List (Role × ℕ) → List FindingValue → Reply → Type 0
+RescuesFound held input image w fs reply =
     (sound : ℕ → Bool) × AreMarks image w (grave fs) sound
-    × RescuesBoth input (record { image = image; walk = w; sound = sound }) (second_image image w fs) fs reply
+    × RescuesBoth held input (record { image = image; walk = w; sound = sound }) (second_image image w fs) fs reply
 
 -- the rescue of an input by the survey of an image
-abbrev pub RescuesIn : List ℕ → List ℕ → Reply → Type 0
-RescuesIn input image reply = (w : List (Role × ℕ)) × (fs : List FindingValue) × IsSurvey image w fs × RescuesFound input image w fs reply
+abbrev pub RescuesIn : (held : ℕ) → List ℕ → List ℕ → Reply → Type 0
+RescuesIn held input image reply =
+    (w : List (Role × ℕ)) × (fs : List FindingValue) × IsSurvey image w fs × RescuesFound held input image w fs reply
 
--- `adf-survey rescue` writes the volume of all that stands in the input, whose boot block and root may be overwritten
-abbrev pub Rescues : List ℕ → Reply → Type 0
-Rescues input reply = RescuesIn input (opened input) reply
+-- `adf-survey rescue` writes the volume of all that stands in an image, whose boot block and root may be overwritten, and of which the
+-- input holds the first `held` blocks
+abbrev pub Rescues : (held : ℕ) → List ℕ → Reply → Type 0
+Rescues held input reply = RescuesIn held input (opened input) reply

@@ -192,16 +192,17 @@ fn prepare_found(
     alloc: Global,
     found: &Survey<'_>,
     second: Option<&Survey<'_>>,
+    held: usize,
     refusal: Option<Outcome>,
 ) -> Result<Prepared, Outcome>
     requires { (b : Option Basis) × IsSecond (option_map (λ s. s.now.image) second) b }
     ensures { (input : List ℕ) → IsOpened input found.now.image refusal
         → OnBasis found.now.image (λ a fs. OnSecond (option_map (λ s. s.now.image) second.entry) (λ b.
-        Prepares (RescuesBy input a b fs) result)) }
+        Prepares (RescuesBy held input a b fs) result)) }
 {
     found.whole_marks();
     some_survey();
-    match rescue(alloc, found, second, refusal.is_some())? {
+    match rescue(alloc, found, second, held, refusal.is_some())? {
         Some(rescued) => Ok(with_lines(alloc, found, second, rescued)?),
         None => Err(refuse_opened(alloc, found.image(), refusal)),
     }
@@ -212,86 +213,98 @@ fn prepare_hung(
     alloc: Global,
     found: &Survey<'_>,
     hung: &[u8],
+    held: usize,
     refusal: Option<Outcome>,
 ) -> Result<Prepared, Outcome>
     ensures { (input : List ℕ) → IsOpened input found.now.image refusal
-        → OnBasis found.now.image (λ a fs. Prepares (RescuesBoth input a (Some hung.now) fs) result) }
+        → OnBasis found.now.image (λ a fs. Prepares (RescuesBoth held input a (Some hung.now) fs) result) }
 {
     let second = survey(alloc, hung)?;
     second.whole_marks();
-    prepare_found(alloc, found, Some(&second), refusal)
+    prepare_found(alloc, found, Some(&second), held, refusal)
 }
 
 // Prepares a rescue by the image that an input is opened as.
 fn prepare_opened(
     alloc: Global,
     image: &[u8],
+    held: usize,
     refusal: Option<Outcome>,
 ) -> Result<Prepared, Outcome>
-    ensures { (input : List ℕ) → IsOpened input image.now refusal → Prepares (Rescues input) result }
+    ensures { (input : List ℕ) → IsOpened input image.now refusal → Prepares (Rescues held input) result }
 {
     let found = survey(alloc, image)?;
     found.whole_marks();
     match hung_image(alloc, &found)? {
-        Some(hung) => prepare_hung(alloc, &found, &hung, refusal),
-        None => prepare_found(alloc, &found, None, refusal),
+        Some(hung) => prepare_hung(alloc, &found, &hung, held, refusal),
+        None => prepare_found(alloc, &found, None, held, refusal),
     }
 }
 
 // Mends an input, and prepares its rescue.
-fn prepare_mended(alloc: Global, image: &mut [u8]) -> Result<Prepared, Outcome>
+fn prepare_mended(alloc: Global, image: &mut [u8], held: usize) -> Result<Prepared, Outcome>
     requires { is_mended image.old ≡ true }
-    ensures { Prepares (Rescues image.old) result }
+    ensures { Prepares (Rescues held image.old) result }
 {
     let refusal = refuse(alloc, image);
     open_image(image);
-    prepare_opened(alloc, image, Some(refusal))
+    prepare_opened(alloc, image, held, Some(refusal))
 }
 
 // Prepares the rescue of an input.
-fn prepare(alloc: Global, input: &[u8]) -> Result<Prepared, Outcome>
-    ensures { Prepares (Rescues input.now) result }
+fn prepare(alloc: Global, input: &[u8], held: usize) -> Result<Prepared, Outcome>
+    ensures { Prepares (Rescues held input.now) result }
 {
     if !is_mended(input) {
-        return prepare_opened(alloc, input, None);
+        return prepare_opened(alloc, input, held, None);
     }
     let mut copy = input.to_vec(alloc)?;
-    prepare_mended(alloc, &mut copy)
+    prepare_mended(alloc, &mut copy, held)
 }
 
 // Prepares it too, and lets the input go.
-fn prepare_read(alloc: Global, input: Vec<u8>) -> Result<Prepared, Outcome>
-    ensures { Prepares (Rescues input.items) result }
+fn prepare_read(alloc: Global, input: Vec<u8>, held: usize) -> Result<Prepared, Outcome>
+    ensures { Prepares (Rescues held input.items) result }
 {
     if !is_mended(&input) {
-        return prepare_opened(alloc, &input, None);
+        return prepare_opened(alloc, &input, held, None);
     }
     let mut image = input;
-    prepare_mended(alloc, &mut image)
+    prepare_mended(alloc, &mut image, held)
 }
 
-/// Writes the new volume of all that stands on an input, whose boot block and root may be overwritten, with what no directory
-/// leads to any more; errors get a line for each entry that it leaves out. If nothing stands, and the input is not a valid volume, errors get the line of its first fault.
-pub fn rescue_image<W: Sink>(alloc: Global, input: &[u8], output: &mut W) -> Outcome
+/// Writes the new volume of all that stands on an image, whose boot block and root may be overwritten, and of which the first `held`
+/// blocks were there whole, with what no directory leads to any more; errors get a line for each entry that it leaves out. If nothing stands, and the input is not a valid volume, errors get the line of its first fault.
+pub fn rescue_image<W: Sink>(
+    alloc: Global,
+    input: &[u8],
+    held: usize,
+    output: &mut W,
+) -> Outcome
     requires { W.has_failed output.old ≡ false }
-    ensures ends { EndsBy (Rescues input.now) result (W.held output.old) (W.held output.new) }
+    ensures ends { EndsBy (Rescues held input.now) result (W.held output.old) (W.held output.new) }
     ensures read { is_read_fault result ≡ false }
     ensures written { W.has_failed output.new ≡ is_write_fault result }
 {
-    match prepare(alloc, input) {
+    match prepare(alloc, input, held) {
         Ok(prepared) => write_prepared(alloc, prepared, output),
         Err(outcome) => outcome,
     }
 }
 
 /// Does so too, and lets the input go before the new volume is laid.
-pub fn rescue_read<W: Sink>(alloc: Global, input: Vec<u8>, output: &mut W) -> Outcome
+pub fn rescue_read<W: Sink>(
+    alloc: Global,
+    input: Vec<u8>,
+    held: usize,
+    output: &mut W,
+) -> Outcome
     requires { W.has_failed output.old ≡ false }
-    ensures ends { EndsBy (Rescues input.items) result (W.held output.old) (W.held output.new) }
+    ensures ends { EndsBy (Rescues held input.items) result (W.held output.old) (W.held output.new) }
     ensures read { is_read_fault result ≡ false }
     ensures written { W.has_failed output.new ≡ is_write_fault result }
 {
-    match prepare_read(alloc, input) {
+    match prepare_read(alloc, input, held) {
         Ok(prepared) => write_prepared(alloc, prepared, output),
         Err(outcome) => outcome,
     }

@@ -15,19 +15,24 @@ returns-clause-fits c = grind (arith, common_steps, buildable)
 
 pub returns-then-stands_nothing-clause-none : goal.returns-then-stands_nothing-clause-none
 returns-then-stands_nothing-clause-none c = λ w fs sound survey marks b is.
-    let nothing = c.stands_nothing.ensures w fs sound survey marks b (c.in_ok-salvage.ensures.state w fs sound survey marks b is) in
+    let nothing = c.stands_nothing.ensures w fs sound survey marks c.args.held b (c.in_ok-salvage.ensures.state c.args.held c.in_ok-begun.ensures.held w fs sound survey marks b is) in
     ((λ e. nothing.0 c.if-stands_nothing.true), (λ s. refl))
 
 pub returns-clause-none : goal.returns-clause-none
 returns-clause-none c = λ w fs sound survey marks b is.
-    let nothing = c.stands_nothing.ensures w fs sound survey marks b (c.in_ok-salvage.ensures.state w fs sound survey marks b is) in
+    let nothing = c.stands_nothing.ensures w fs sound survey marks c.args.held b (c.in_ok-salvage.ensures.state c.args.held c.in_ok-begun.ensures.held w fs sound survey marks b is) in
     ((λ e. absurd cc), (λ s. let told = nothing.1 s in let not = c.if-stands_nothing.false in absurd cc))
 
 pub returns-clause-left_out : goal.returns-clause-left_out
-returns-clause-left_out c = λ w fs sound survey marks b is. (c.in_ok-salvage.ensures.state w fs sound survey marks b is).left_before
+returns-clause-left_out c = λ w fs sound survey marks b is. (c.in_ok-salvage.ensures.state c.args.held c.in_ok-begun.ensures.held w fs sound survey marks b is).left_before
 
 pub returns-clause-second_left_out : goal.returns-clause-second_left_out
-returns-clause-second_left_out c = λ w fs sound survey marks b is. (c.in_ok-salvage.ensures.state w fs sound survey marks b is).left_out
+returns-clause-second_left_out c = λ w fs sound survey marks b is. (c.in_ok-salvage.ensures.state c.args.held c.in_ok-begun.ensures.held w fs sound survey marks b is).left_out
 
 pub returns-in_err-salvage-clause-begun : goal.returns-in_err-salvage-clause-begun
-returns-in_err-salvage-clause-begun c = grind (arith, common_steps, on_err)
+returns-in_err-salvage-clause-begun c = λ w fs survey.
+    on_err c.from_residual-in_err-salvage.result (λ none. let not = (c.in-Some.ensures.some w fs survey).1 none in absurd cc)
+
+pub returns-in_err-begun-clause-begun : goal.returns-in_err-begun-clause-begun
+returns-in_err-begun-clause-begun c = λ w fs survey.
+    on_err c.from_residual.result (λ none. let not = (c.in-Some.ensures.some w fs survey).1 none in absurd cc)

@@ -23,11 +23,11 @@ returns-in_ok-with_lines-in-Some c = λ input opened w fs sound here marks b sec
     let kept = c.in_ok-rescued.ensures in
     let is = c.in-Some.is in
     let done = c.in_ok-with_lines-in-Some.ensures in
-    let some : ¬ StandsNothing a b fs (is_mended input) = λ nothing.
+    let some : ¬ StandsNothing c.args.held a b fs (is_mended input) = λ nothing.
     let clash : true ≡ false = ap is_some (sym is)
     ∙ (kept.none w fs sound here marks b second).1
-    (subst (StandsNothing a b fs) (sym (c.is_some.ensures ∙ mended_so input _ _ opened)) nothing) in cc in
-    volume_prepared input a b fs c.in-Some.rescued c.in_ok-with_lines-in-Some.field-0 done.tree done.blocks
+    (subst (StandsNothing c.args.held a b fs) (sym (c.is_some.ensures ∙ mended_so input _ _ opened)) nothing) in cc in
+    volume_prepared c.args.held input a b fs c.in-Some.rescued c.in_ok-with_lines-in-Some.field-0 done.tree done.blocks
     (if_some _ _ _ is kept.fits) (if_some _ _ _ is (kept.tree w fs sound here marks b second)) (if_some _ _ _ is kept.size)
     (if_some _ _ _ is (kept.left_out w fs sound here marks b second)) (if_some _ _ _ is (kept.second_left_out w fs sound here marks b second))
     (done.reply w fs here b second) some
@@ -47,7 +47,7 @@ pub returns-in-None : goal.returns-in-None
 returns-in-None c = λ input opened w fs sound here marks b second.
     let a : Basis = record { image = c.args.found.now.image; walk = w; sound = sound } in
     let nothing =
-    subst (StandsNothing a b fs) (c.is_some.ensures ∙ mended_so input _ _ opened)
+    subst (StandsNothing c.args.held a b fs) (c.is_some.ensures ∙ mended_so input _ _ opened)
     ((c.in_ok-rescued.ensures.none w fs sound here marks b second).0 (ap is_some c.in-None.is)) in
-    refusal_prepared (RescuesBy input a b fs) input c.refuse_opened.result (λ reply refuses. inl (nothing, refuses))
+    refusal_prepared (RescuesBy c.args.held input a b fs) input c.refuse_opened.result (λ reply refuses. inl (nothing, refuses))
     (c.refuse_opened.ensures input (subst (λ (i : List ℕ). IsOpened input i c.args.refusal) (sym c.image.ensures) opened))
