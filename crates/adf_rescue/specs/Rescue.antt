@@ -256,6 +256,6 @@ second_leaves held a b = left_out_from 1 (second_verdicts held a b)
 abbrev pub HasFault : Bool → List FindingValue → Type 0
 HasFault mended fs = (mended ≡ true) ⊎ (fs ≢ [])
 
--- there is a fault, and nothing of the image is surveyed, or no entry stands
+-- there is a fault, and no entry stands
 abbrev pub StandsNothing : (held : ℕ) → Basis → Option Basis → List FindingValue → Bool → Type 0
-StandsNothing held a b fs mended = HasFault mended fs × ((a.walk ≡ []) ⊎ (rescued_additions held a b ≡ []))
+StandsNothing held a b fs mended = HasFault mended fs × (rescued_additions held a b ≡ [])

@@ -1,6 +1,7 @@
 // What the survey of an image tells to be there and no survey has.
 
-ghost use Rattle.std.specs.Prelude.{◌≡◌, IfOk, Option, is_some, option_map, slice_get};
+ghost use Rattle.std.specs.List.{cons_option};
+ghost use Rattle.std.specs.Prelude.{◌≡◌, ◌++◌, [], IfOk, OnOk, Option, is_some, option_map, slice_get};
 ghost use Rattle.std.specs.Option.{option_and_then};
 ghost use Rattle.adf_findings.specs.Parts.{finding_value};
 ghost use Rattle.adf_findings.specs.Survey.{OnSurvey};
@@ -90,6 +91,19 @@ fn lost_block(survey: &Survey<'_>, second: Option<&Survey<'_>>, k: usize) -> Opt
     }
 }
 
+// Appends what is there, if there is something.
+fn push_some<T: Drop>(items: &mut Vec<T>, item: Option<T>) -> Result<(), NoMemory>
+    ensures { OnOk result (items.new.items ≡ items.old.items ++ cons_option item []) }
+{
+    let Some(item) = item else {
+        return Ok(());
+    };
+    match items.push(item) {
+        Ok(()) => Ok(()),
+        Err(_) => Err(NoMemory),
+    }
+}
+
 /// For each header that was skipped and that no entry has, the directory of the survey in which it was skipped, in the order of the
 /// findings. `NoMemory` if an allocation fails.
 pub fn lost_headers(
@@ -102,12 +116,7 @@ pub fn lost_headers(
 {
     let mut lost = Vec::new(alloc);
     for k in 0..survey.findings().len() {
-        if let Some(directory) = lost_header(survey, second, k) {
-            match lost.push(directory) {
-                Ok(()) => (),
-                Err(_) => return Err(NoMemory),
-            }
-        }
+        push_some(&mut lost, lost_header(survey, second, k))?;
     }
     Ok(lost)
 }
@@ -123,12 +132,7 @@ pub fn lost_blocks(
 {
     let mut lost = Vec::new(alloc);
     for k in 0..survey.findings().len() {
-        if let Some(block) = lost_block(survey, second, k) {
-            match lost.push(block) {
-                Ok(()) => (),
-                Err(_) => return Err(NoMemory),
-            }
-        }
+        push_some(&mut lost, lost_block(survey, second, k))?;
     }
     Ok(lost)
 }
