@@ -59,10 +59,6 @@ same_found true image bytes names reply (inr (n, leads, inr (file, e))) = absurd
 same_found false image bytes names reply (inr (n, leads, inr (inl (file, damage, e)))) = absurd file.1.header.has
 same_found false image bytes names reply (inr (n, leads, inr (inr (sound, e)))) = absurd sound.0.header.has
 
-it_finds : bad_size ≡ [] → ⊥
-unfolding bad_size
-it_finds e = cc
-
 -- no volume has this length, so nothing is hung
 none_second : (image : List ℕ) (w : List (Role × ℕ)) (fs : List FindingValue) → 512 * MOST_BLOCKS < length image → second_image image w fs ≡ None
 none_second image w fs long = grind (arith, common_steps, false_from_ne_true, sized_len, none_hung, and_left)
@@ -76,9 +72,9 @@ same_rescue held h image bytes opened_image opened_bytes reply a b c (sound, mar
       (λ n. false),
       no_marks opened_bytes (grave bad_size),
       subst (λ o. RescuesBoth h bytes basis o bad_size reply) (sym (none_second opened_bytes [] bad_size c))
-          (None, tt, inl ((inr it_finds, inl refl), (f, long_fault image bytes f a b first, e))),
+          (None, tt, inl (refl, (f, long_fault image bytes f a b first, e))),
     )
-same_rescue held h image bytes opened_image opened_bytes reply a b c (sound, marks, (two, second, inr (some, e))) = absurd (some (inr it_finds, inl refl))
+same_rescue held h image bytes opened_image opened_bytes reply a b c (sound, marks, (two, second, inr (some, e))) = absurd (some refl)
 
 -- an image that is opened is as long
 long_opened : (image : List ℕ) → 512 * MOST_BLOCKS < length image → 512 * MOST_BLOCKS < length (opened image)

@@ -1,6 +1,6 @@
 -- What is asked of an image has one answer.
 -- Letters: w, u walks of its survey, fs, gs the findings; n, m entries' nodes; r, q inquiries; a, b replies.
-use Rattle.std.proofs.Common.{◌≡◌, ◌∙◌, inl, inr, ℕ, Bool, true, false, List, [], ◌∷◌, Option, Some, sym, ap, subst, None, refl, arith}
+use Rattle.std.proofs.Common.{◌≡◌, ◌∙◌, ◌++◌, inl, inr, ℕ, Bool, true, false, List, [], ◌∷◌, Option, Some, sym, ap, subst, None, refl, arith}
 use Rattle.std.proofs.lemmas.Grind.{common_steps}
 use Rattle.adf_names.proofs.PathParts.{one_path}
 use Rattle.adf_volume.specs.Walk.{FileAt, Role, node_block}
@@ -13,10 +13,11 @@ use Rattle.adf_rescue.specs.Opened.{opened}
 use Rattle.adf_rescue.specs.Rescue.{IsSecond, Basis}
 use Rattle.adf_rescue.proofs.RescueLaws.{one_basis}
 use Rattle.adf_findings.proofs.Lookups.{one_first}
-use Rattle.adf_runs.specs.Commands.{Reply, on_output}
+use Rattle.adf_texts.specs.Lines.{fault_line}
+use Rattle.adf_runs.specs.Commands.{Reply, on_errors, on_output}
 use Rattle.adf_cmd.proofs.OneAnswer.{one_dates, refused_once}
 use Rattle.adf_survey_cmd.specs.Answers.{CopiesEntry, CopiesFound, CopiesFromSurvey, ListsSurvey, QuestionAnswer, SurveyAnswer, Surveys, TellsFound, findings_status, held_whole, meant}
-use Rattle.adf_survey_cmd.specs.Rescues.{RescuesBy, RescuesFound, RescuesIn, WritesVolume, second_image}
+use Rattle.adf_survey_cmd.specs.Rescues.{RescuesBy, RescuesFound, RescuesIn, RescuesSome, rescue_text, second_image}
 use Rattle.adf_words.specs.SurveyLine.{AsksSurvey, InquiryValue, QuestionValue, cat, list, report, rescue}
 use Rattle.adf_survey_cmd.specs.FoundLines.{listing_text}
 use Rattle.adf_survey_cmd.proofs.FoundTexts.{same_tests}
@@ -85,15 +86,21 @@ copied_once damaged path image a b (names, text, w, fs, s, x) (others, also, u, 
     let path_is = one_path path names others text also in
     found_once image u damaged gs others a b (subst (λ (ns : List (List ℕ)). CopiesFound damaged image u gs ns a) path_is found) y
 
-volume_once : (held : ℕ) (l : Basis) (m : Option Basis) (a b : Reply) → WritesVolume held l m a → WritesVolume held l m b → a ≡ b
-volume_once held l m a b (one, laid, size, x) (other, also, long, y) = grind (arith, common_steps)
+some_once : (held : ℕ) (input : List ℕ) (l : Basis) (m : Option Basis) (fs : List FindingValue) (a b : Reply)
+    → RescuesSome held input l m fs a → RescuesSome held input l m fs b → a ≡ b
+some_once held input l m fs a b (inl (none, (f, first, x))) (inl (also, (g, fault, y))) =
+    let same = refused_once input (on_errors 1 (fault_line f)) (on_errors 1 (fault_line g)) (f, first, refl) (g, fault, refl) in
+    x ∙ ap (λ (r : Reply). on_errors 1 (r.errors ++ rescue_text held l m fs)) same ∙ sym y
+some_once held input l m fs a b (inl (none, x)) (inr (some, y)) = absurd (some none)
+some_once held input l m fs a b (inr (some, x)) (inl (none, y)) = absurd (some none)
+some_once held input l m fs a b (inr (some, (one, laid, size, x))) (inr (also, (other, too, long, y))) = grind (arith, common_steps)
 
 by_surveys_once : (held : ℕ) (input : List ℕ) (l : Basis) (m : Option Basis) (fs : List FindingValue) (a b : Reply)
     → RescuesBy held input l m fs a → RescuesBy held input l m fs b → a ≡ b
 by_surveys_once held input l m fs a b (inl (none, x)) (inl (also, y)) = refused_once input a b x y
 by_surveys_once held input l m fs a b (inl (none, x)) (inr (some, y)) = absurd (some none)
 by_surveys_once held input l m fs a b (inr (some, x)) (inl (none, y)) = absurd (some none)
-by_surveys_once held input l m fs a b (inr (some, x)) (inr (also, y)) = volume_once held l m a b x y
+by_surveys_once held input l m fs a b (inr (some, x)) (inr (also, y)) = some_once held input l m fs a b x y
 
 one_second : (image : Option (List ℕ)) (l m : Option Basis) → IsSecond image l → IsSecond image m → l ≡ m
 one_second None None None x y = refl
