@@ -35,8 +35,8 @@ returns-in-Some c = λ input opened.
     let second : second_image (is_mended input) v.image w fs ≡ Some c.deref.result.now =
     subst (λ mended. second_image mended v.image w fs ≡ Some c.deref.result.now) so
     (one_hung c.is_some.result v.image w fs c.deref.result.now lost hung) in
-    prepares_weaker (RescuesBoth input a (Some c.deref.result.now) fs) (Rescues input) _
-    (λ reply by. found_answers input v.image w fs sound (Some c.deref.result.now) reply (same ∙ opened_so input _ _ opened) here marks second by)
+    prepares_weaker (RescuesBoth c.args.held input a (Some c.deref.result.now) fs) (Rescues c.args.held input) _
+    (λ reply by. found_answers c.args.held input v.image w fs sound (Some c.deref.result.now) reply (same ∙ opened_so input _ _ opened) here marks second by)
     (c.prepare_hung.ensures input (subst (λ (image : List ℕ). IsOpened input image c.args.refusal) (sym same) opened) w fs sound here marks)
 
 pub returns : goal.returns
@@ -53,8 +53,8 @@ returns c = λ input opened.
     let none : second_image (is_mended input) v.image w fs ≡ None =
     subst (λ mended. second_image mended v.image w fs ≡ None) so
     (none_hung c.is_some.result v.image w fs ((c.in_ok-hung.ensures.none w fs here).0 (ap is_some c.in-None.is))) in
-    prepares_weaker (RescuesBy input a None fs) (Rescues input) _
-    (λ reply by. found_answers input v.image w fs sound None reply (same ∙ opened_so input _ _ opened) here marks none (None, tt, by))
+    prepares_weaker (RescuesBy c.args.held input a None fs) (Rescues c.args.held input) _
+    (λ reply by. found_answers c.args.held input v.image w fs sound None reply (same ∙ opened_so input _ _ opened) here marks none (None, tt, by))
     (c.prepare_found.ensures input (subst (λ (image : List ℕ). IsOpened input image c.args.refusal) (sym same) opened) w fs sound here marks None tt)
 
 pub returns-in_err-found : goal.returns-in_err-found
