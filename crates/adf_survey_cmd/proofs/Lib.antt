@@ -6,3 +6,4 @@ pub mod LongSurveys
 pub mod OneAnswer
 pub mod RescueAnswers
 pub mod SizedImages
+pub mod Subjects

@@ -1,8 +1,9 @@
 -- What is answered to the front of an input that is longer than the largest image is answered to the whole of it.
--- Letters: w the walk of a survey, fs its findings; n an entry's node.
+-- Letters: s, t what is surveyed; w the walk of a survey, fs its findings; n an entry's node.
 use Rattle.std.proofs.Common.{◌≡◌, ◌<◌, ◌≤◌, ◌+◌, ◌-◌, ◌*◌, ◌∙◌, ◌++◌, true, false, inl, inr, ℕ, Bool, List, [], ◌∷◌, Option, None, Some, refl, ap, ap₂, arith, subst, sym}
 use Rattle.std.proofs.Common.{length, replicate, take}
-use Rattle.std.proofs.lemmas.Bool.{and_left, false_from_ne_true}
+use Rattle.std.proofs.lemmas.Bool.{and_left, cond-false, false_from_ne_true}
+use Rattle.std.proofs.Math.Nat.{min-eq_left}
 use Rattle.std.proofs.lemmas.List.{take-take}
 use Rattle.std.proofs.lemmas.Grind.{common_steps}
 use Rattle.adf_blocks.specs.declared.layout.TheConstants.{MOST_BLOCKS}
@@ -14,14 +15,17 @@ use Rattle.adf_findings.specs.SoundMarks.{AreMarks}
 use Rattle.adf_findings.specs.Survey.{FindingValue, IsSurvey, finding}
 use Rattle.adf_findings.specs.Survey.IsSurvey.{unread}
 use Rattle.adf_findings.specs.Survey.UnreadTells.{bad_boot}
+use Rattle.adf_findings.specs.OwnKind.{is_mistyped}
 use Rattle.adf_findings.proofs.OneSurvey.{one_survey}
+use Rattle.adf_findings.proofs.OwnKinds.{none_mistyped}
 use Rattle.adf_runs.specs.Commands.{Reply, on_output}
-use Rattle.adf_rescue.specs.Opened.{is_mended, opened}
+use Rattle.adf_rescue.specs.Opened.{is_mended, lacks_boot, opened}
 use Rattle.adf_rescue.specs.Rescue.{Basis}
 use Rattle.adf_rescue.proofs.OpenedImages.{length_opened}
 use Rattle.adf_rescue.proofs.MadeRoots.{sized as sized_len}
 use Rattle.adf_cmd.proofs.LongInputs.{long_fault, too_large}
-use Rattle.adf_survey_cmd.specs.Answers.{CopiesFound, QuestionAnswer, SurveyAnswer, TellsFound, findings_status, held_whole, meant, sized}
+use Rattle.adf_survey_cmd.specs.Answers.{CopiesFound, CopiesFromSurvey, ListsSurvey, QuestionAnswer, SurveyAnswer, Surveys, TellsFound, told_status}
+use Rattle.adf_survey_cmd.specs.Subject.{IsTyped, OfTyped, SubjectValue, begun_subject, end_of, missing_text, sized, subject, told_text, typed_subject}
 use Rattle.adf_words.specs.SurveyLine.{AreFew, InquiryValue, QuestionValue, cat, list, report, rescue}
 use Rattle.adf_survey_cmd.specs.Lines.{findings_text, runs_from}
 use Rattle.adf_survey_cmd.specs.Rescues.{RescuesBoth, RescuesFound, second_image}
@@ -48,16 +52,16 @@ same_leads : (image bytes : List ℕ) (names : List (List ℕ)) (n : ℕ) → Le
 same_leads image bytes [] n h = h
 same_leads image bytes (name ∷ names) n h = absurd h.1.0.3
 
-same_found : (damaged : Bool) (image bytes : List ℕ) (names : List (List ℕ)) (reply : Reply) → CopiesFound damaged image [] bad_size names reply
-    → CopiesFound damaged bytes [] bad_size names reply
-same_found damaged image bytes names reply (inl (none, e)) = inl ((λ n h. none n (same_leads bytes image names n h)), e)
-same_found false image bytes names reply (inr (n, leads, inl (none, e))) =
-    inr (n, same_leads image bytes names n leads, inl ((λ h at. at.header.has), e))
-same_found true image bytes names reply (inr (n, leads, inl (none, e))) =
-    inr (n, same_leads image bytes names n leads, inl ((λ h at. at.header.has), e))
-same_found true image bytes names reply (inr (n, leads, inr (file, e))) = absurd file.1.header.has
-same_found false image bytes names reply (inr (n, leads, inr (inl (file, damage, e)))) = absurd file.1.header.has
-same_found false image bytes names reply (inr (n, leads, inr (inr (sound, e)))) = absurd sound.0.header.has
+same_found : (damaged : Bool) (s t : SubjectValue) (names : List (List ℕ)) (reply : Reply) → CopiesFound damaged s [] bad_size names reply
+    → CopiesFound damaged t [] bad_size names reply
+same_found damaged s t names reply (inl (none, e)) = inl ((λ n h. none n (same_leads t.image s.image names n h)), e)
+same_found false s t names reply (inr (n, leads, inl (none, e))) =
+    inr (n, same_leads s.image t.image names n leads, inl ((λ h at. at.header.has), e))
+same_found true s t names reply (inr (n, leads, inl (none, e))) =
+    inr (n, same_leads s.image t.image names n leads, inl ((λ h at. at.header.has), e))
+same_found true s t names reply (inr (n, leads, inr (file, e))) = absurd file.1.header.has
+same_found false s t names reply (inr (n, leads, inr (inl (file, damage, e)))) = absurd file.1.header.has
+same_found false s t names reply (inr (n, leads, inr (inr (sound, e)))) = absurd sound.0.0.header.has
 
 -- no volume has this length, so nothing is hung
 none_second : (mended : Bool) (image : List ℕ) (w : List (Role × ℕ)) (fs : List FindingValue) → 512 * MOST_BLOCKS < length image
@@ -77,6 +81,10 @@ same_rescue held h image bytes opened_image opened_bytes reply a b c (sound, mar
     )
 same_rescue held h image bytes opened_image opened_bytes reply a b c (sound, marks, (two, second, inr (some, e))) = absurd (some refl)
 
+-- and nothing is begun
+not_begun : (image : List ℕ) → 512 * MOST_BLOCKS < length image → lacks_boot image ≡ false
+not_begun image long = grind (arith, common_steps, false_from_ne_true, sized_len, and_left)
+
 -- an image that is opened is as long
 long_opened : (image : List ℕ) → 512 * MOST_BLOCKS < length image → 512 * MOST_BLOCKS < length (opened image)
 long_opened image h = omega (arith, h, length_opened image)
@@ -88,25 +96,47 @@ of_long image w fs holds long s h =
     let same = one_survey image w [] fs bad_size s (long_survey image long) in
     subst (λ (u : List (Role × ℕ)). holds u bad_size) same.0 (subst (λ (gs : List FindingValue). holds w gs) same.1 h)
 
-long_questions : (held h : ℕ) (q : QuestionValue) (image bytes : List ℕ) → 512 * MOST_BLOCKS < length image → 512 * MOST_BLOCKS < length bytes → (reply : Reply)
-    → QuestionAnswer held q image reply → QuestionAnswer h q bytes reply
-long_questions held h report image bytes a b reply (w, fs, s, e) =
-    let told = of_long image w fs (λ u gs. reply ≡ on_output (findings_status gs) (findings_text image u gs)) a s e in
-    ([], bad_size, long_survey bytes b, told ∙ ap (on_output (findings_status bad_size)) (same_text image bytes))
-long_questions held h list image bytes a b reply (w, fs, s, told) =
-    let (date, dates, sound, marks, e) = of_long image w fs (λ u gs. TellsFound image u gs reply) a s told in
-    let same = ap (λ t. on_output (findings_status bad_size) (t ++ [])) (same_text image bytes) in
-    ([], bad_size, long_survey bytes b, (date, dates, (λ n. false), no_marks bytes bad_size, e ∙ same))
-long_questions held h (cat damaged path) image bytes a b reply (inl bad) = inl bad
-long_questions held h (cat damaged path) image bytes a b reply (inr (names, text, w, fs, s, found)) =
-    let same = of_long image w fs (λ u gs. CopiesFound damaged image u gs names reply) a s found in
-    inr (names, text, [], bad_size, long_survey bytes b, same_found damaged image bytes names reply same)
-long_questions held h rescue image bytes a b reply (w, fs, s, found) = (
+-- it is surveyed as it is
+same_typed : (s t : SubjectValue) → 512 * MOST_BLOCKS < length s.image → IsTyped (begun_subject s) t → t ≡ s
+same_typed s t long (w, fs, h, e) =
+    let kept : begun_subject s ≡ s = cond-false (lacks_boot s.image) _ s (not_begun s.image long) in
+    let survey = subst (λ (u : SubjectValue). IsSurvey u.image w fs) kept h in
+    let none : w ≡ [] = (one_survey s.image w [] fs bad_size survey (long_survey s.image long)).0 in
+    e ∙ ((λ i. typed_subject (kept i) w) ∙ cond-false (is_mistyped s.image w) _ s (sym (none_mistyped s.image w none)))
+
+long_typed : (s : SubjectValue) → 512 * MOST_BLOCKS < length s.image → IsTyped (begun_subject s) s
+long_typed s long =
+    let kept : begun_subject s ≡ s = cond-false (lacks_boot s.image) _ s (not_begun s.image long) in (
+      [],
+      bad_size,
+      subst (λ (u : SubjectValue). IsSurvey u.image [] bad_size) (sym kept) (long_survey s.image long),
+      sym ((λ i. typed_subject (kept i) []) ∙ cond-false (is_mistyped s.image []) _ s (sym (none_mistyped s.image [] refl))),
+    )
+
+-- so what is answered to one long input is answered to another
+of_typed : (s t : SubjectValue) (answers : SubjectValue → Reply → Type 0) → 512 * MOST_BLOCKS < length s.image → 512 * MOST_BLOCKS < length t.image
+    → (reply : Reply) → (answers s reply → answers t reply) → OfTyped s answers reply → OfTyped t answers reply
+of_typed s t answers a b reply same (u, is, x) = (t, long_typed t b, same (subst (λ u. answers u reply) (same_typed s u a is) x))
+
+long_questions : (q : QuestionValue) (s t : SubjectValue) → s.front ≡ t.front → 512 * MOST_BLOCKS < length s.image
+    → 512 * MOST_BLOCKS < length t.image → (reply : Reply) → QuestionAnswer q s reply → QuestionAnswer q t reply
+long_questions report s t front a b reply told = of_typed s t Surveys a b reply (λ x.
+    let e = of_long s.image x.0 x.1 (λ u gs. reply ≡ on_output (told_status s.front gs) (told_text s u gs)) a x.2 x.3 in
+    ([], bad_size, long_survey t.image b, e ∙ ap₂ (λ f m. on_output (told_status f bad_size) (f ++ m)) front (same_text s.image t.image))) told
+long_questions list s t front a b reply told = of_typed s t ListsSurvey a b reply (λ x.
+    let (date, dates, sound, marks, e) = of_long s.image x.0 x.1 (λ u gs. TellsFound s u gs reply) a x.2 x.3 in
+    let same = ap₂ (λ f m. on_output (told_status f bad_size) ((f ++ m) ++ [])) front (same_text s.image t.image) in
+    ([], bad_size, long_survey t.image b, (date, dates, (λ n. false), no_marks t.image bad_size, e ∙ same))) told
+long_questions (cat damaged path) s t front a b reply (inl bad) = inl bad
+long_questions (cat damaged path) s t front a b reply (inr told) = inr (of_typed s t (CopiesFromSurvey damaged path) a b reply (λ x.
+    let found = of_long s.image x.2 x.3 (λ u gs. CopiesFound damaged s u gs x.0 reply) a x.4 x.5 in
+    (x.0, x.1, [], bad_size, long_survey t.image b, same_found damaged s t x.0 reply found)) told)
+long_questions rescue s t front a b reply (w, fs, h, found) = (
   [],
   bad_size,
-  long_survey (opened bytes) (long_opened bytes b),
-  same_rescue held h image bytes (opened image) (opened bytes) reply a b (long_opened bytes b)
-      (of_long (opened image) w fs (λ u gs. RescuesFound held image (opened image) u gs reply) (long_opened image a) s found),
+  long_survey (opened t.image) (long_opened t.image b),
+  same_rescue s.end t.end s.image t.image (opened s.image) (opened t.image) reply a b (long_opened t.image b)
+      (of_long (opened s.image) w fs (λ u gs. RescuesFound s.end s.image (opened s.image) u gs reply) (long_opened s.image a) h found),
 )
 
 -- an image of n blocks is made of the front alone
@@ -118,18 +148,20 @@ same_sized n image bytes few e a b =
     let none : 512 * n - length image ≡ 512 * n - length bytes = omega arith in
     ap₂ (λ (kept : List ℕ) (k : ℕ). kept ++ replicate k 0) front none
 
--- and all of its blocks are held
-same_held : (n : ℕ) (image bytes : List ℕ) → n ≤ MOST_BLOCKS → 512 * MOST_BLOCKS < length image → 512 * MOST_BLOCKS < length bytes
-    → held_whole (Some n) image ≡ held_whole (Some n) bytes
-same_held n image bytes few a b = omega (arith, few)
+-- and so is their end
+same_end : (n : ℕ) (image bytes : List ℕ) → n ≤ MOST_BLOCKS → 512 * MOST_BLOCKS < length image → 512 * MOST_BLOCKS < length bytes
+    → end_of n image ≡ end_of n bytes
+same_end n image bytes few a b = min-eq_left (omega arith) ∙ sym (min-eq_left (omega arith))
 
-long_meant : (blocks : Option ℕ) (q : QuestionValue) (image bytes : List ℕ) → AreFew blocks → image ≡ take (512 * MOST_BLOCKS + 1) bytes
-    → 512 * MOST_BLOCKS < length image → 512 * MOST_BLOCKS < length bytes → (reply : Reply)
-    → QuestionAnswer (held_whole blocks image) q (meant blocks image) reply → QuestionAnswer (held_whole blocks bytes) q (meant blocks bytes) reply
-long_meant None q image bytes few e a b reply h = long_questions (held_whole None image) (held_whole None bytes) q image bytes a b reply h
+long_meant : (meant : Option ℕ) (q : QuestionValue) (image bytes : List ℕ) → AreFew meant → image ≡ take (512 * MOST_BLOCKS + 1) bytes
+    → 512 * MOST_BLOCKS < length image → 512 * MOST_BLOCKS < length bytes → (reply : Reply) → QuestionAnswer q (subject meant image) reply
+    → QuestionAnswer q (subject meant bytes) reply
+long_meant None q image bytes few e a b reply h = long_questions q (subject None image) (subject None bytes) refl a b reply h
 long_meant (Some n) q image bytes few e a b reply h =
-    subst (λ (m : ℕ). QuestionAnswer m q (sized n bytes) reply) (same_held n image bytes few a b)
-    (subst (λ (l : List ℕ). QuestionAnswer (held_whole (Some n) image) q l reply) (same_sized n image bytes few e a b) h)
+    let end = same_end n image bytes few a b in
+    let same : subject (Some n) image ≡ subject (Some n) bytes =
+    λ i. record { image = same_sized n image bytes few e a b i; end = end i; front = missing_text (end i) n } in
+    subst (λ s. QuestionAnswer q s reply) same h
 
 pub long_answers : (r : InquiryValue) (image bytes : List ℕ) → AreFew r.blocks → image ≡ take (512 * MOST_BLOCKS + 1) bytes
     → 512 * MOST_BLOCKS < length image → 512 * MOST_BLOCKS < length bytes → (reply : Reply) → SurveyAnswer r image reply → SurveyAnswer r bytes reply

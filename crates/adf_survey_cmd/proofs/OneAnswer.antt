@@ -1,10 +1,10 @@
 -- What is asked of an image has one answer.
--- Letters: w, u walks of its survey, fs, gs the findings; n, m entries' nodes; r, q inquiries; a, b replies.
-use Rattle.std.proofs.Common.{◌≡◌, ◌∙◌, ◌++◌, inl, inr, ℕ, Bool, true, false, List, [], ◌∷◌, Option, Some, sym, ap, subst, None, refl, arith}
+-- Letters: s, t, u what is surveyed; w, u, v walks of its survey, fs, gs the findings; n, m entries' nodes; r, q inquiries; a, b replies.
+use Rattle.std.proofs.Common.{◌≡◌, ◌∙◌, inl, inr, ℕ, Bool, true, false, List, [], ◌∷◌, Option, Some, sym, ap, subst, None, refl, arith}
 use Rattle.std.proofs.lemmas.Grind.{common_steps}
 use Rattle.adf_names.proofs.PathParts.{one_path}
 use Rattle.adf_volume.specs.Walk.{FileAt, Role, node_block}
-use Rattle.adf_findings.specs.Files.{IsSoundFile, grave}
+use Rattle.adf_findings.specs.Files.{grave}
 use Rattle.adf_findings.specs.Lookup.{LeadsTo}
 use Rattle.adf_findings.specs.SoundMarks.{AreMarks}
 use Rattle.adf_findings.specs.Survey.{FindingValue}
@@ -16,7 +16,8 @@ use Rattle.adf_findings.proofs.Lookups.{one_first}
 use Rattle.adf_texts.specs.Lines.{fault_line}
 use Rattle.adf_runs.specs.Commands.{Reply, on_errors, on_output}
 use Rattle.adf_cmd.proofs.OneAnswer.{one_dates, refused_once}
-use Rattle.adf_survey_cmd.specs.Answers.{CopiesEntry, CopiesFound, CopiesFromSurvey, ListsSurvey, QuestionAnswer, SurveyAnswer, Surveys, TellsFound, findings_status, held_whole, meant}
+use Rattle.adf_survey_cmd.specs.Answers.{CopiesEntry, CopiesFound, CopiesFromSurvey, IsWholeFile, ListsSurvey, QuestionAnswer, SurveyAnswer, Surveys, TellsFound, told_status}
+use Rattle.adf_survey_cmd.specs.Subject.{IsTyped, OfTyped, SubjectValue, begun_subject, subject, typed_subject}
 use Rattle.adf_survey_cmd.specs.Rescues.{RescuesBy, RescuesFound, RescuesIn, RescuesSome, rescue_text, second_image}
 use Rattle.adf_words.specs.SurveyLine.{AsksSurvey, InquiryValue, QuestionValue, cat, list, report, rescue}
 use Rattle.adf_survey_cmd.specs.FoundLines.{listing_text}
@@ -25,18 +26,18 @@ use Rattle.adf_survey_cmd.proofs.FoundTexts.{same_tests}
 pub one_inquiry : (words : List (List ℕ)) (r q : InquiryValue) → AsksSurvey words r → AsksSurvey words q → r ≡ q
 one_inquiry words r q a b = grind (arith, common_steps)
 
-module _ (image : List ℕ) (w : List (Role × ℕ)) where
-  one_lead : (p : ℕ) (names : List (List ℕ)) (n m : ℕ) → LeadsTo image w p names n → LeadsTo image w p names m → n ≡ m
+module _ (s : SubjectValue) (w : List (Role × ℕ)) where
+  one_lead : (p : ℕ) (names : List (List ℕ)) (n m : ℕ) → LeadsTo s.image w p names n → LeadsTo s.image w p names m → n ≡ m
   one_lead p [] n m x y = sym x ∙ y
   one_lead p (name ∷ names) n m x y =
-      let same = one_first image w p name x.0 y.0 x.1 y.1 in
-      one_lead x.0 names n m x.2 (subst (λ k. LeadsTo image w k names m) (sym same) y.2)
+      let same = one_first s.image w p name x.0 y.0 x.1 y.1 in
+      one_lead x.0 names n m x.2 (subst (λ k. LeadsTo s.image w k names m) (sym same) y.2)
 
-  sound_is_file : (fs : List FindingValue) (n : ℕ) → IsSoundFile image w fs n → (h : ℕ) × FileAt image w n h
-  sound_is_file fs n s = (node_block w n, record { header = s.0.header; type = s.1 })
+  sound_is_file : (fs : List FindingValue) (n : ℕ) → IsWholeFile s w fs n → (h : ℕ) × FileAt s.image w n h
+  sound_is_file fs n sound = (node_block w n, record { header = sound.0.0.header; type = sound.0.1 })
 
-  entry_once : (damaged : Bool) (fs : List FindingValue) (n : ℕ) (a b : Reply) → CopiesEntry damaged image w fs n a
-      → CopiesEntry damaged image w fs n b → a ≡ b
+  entry_once : (damaged : Bool) (fs : List FindingValue) (n : ℕ) (a b : Reply) → CopiesEntry damaged s w fs n a
+      → CopiesEntry damaged s w fs n b → a ≡ b
   entry_once false fs n a b (inl (none, x)) (inl (never, y)) = x ∙ sym y
   entry_once false fs n a b (inl (none, x)) (inr (inl (file, damage, y))) = absurd (none file.0 file.1)
   entry_once false fs n a b (inl (none, x)) (inr (inr (sound, y))) = let file = sound_is_file fs n sound in absurd (none file.0 file.1)
@@ -51,40 +52,50 @@ module _ (image : List ℕ) (w : List (Role × ℕ)) where
   entry_once true fs n a b (inr (file, x)) (inl (none, y)) = absurd (none file.0 file.1)
   entry_once true fs n a b (inr (file, x)) (inr (also, y)) = x ∙ sym y
 
-  found_once : (damaged : Bool) (fs : List FindingValue) (names : List (List ℕ)) (a b : Reply) → CopiesFound damaged image w fs names a
-      → CopiesFound damaged image w fs names b → a ≡ b
+  found_once : (damaged : Bool) (fs : List FindingValue) (names : List (List ℕ)) (a b : Reply) → CopiesFound damaged s w fs names a
+      → CopiesFound damaged s w fs names b → a ≡ b
   found_once damaged fs names a b (inl (none, x)) (inl (never, y)) = x ∙ sym y
   found_once damaged fs names a b (inl (none, x)) (inr (n, leads, y)) = absurd (none n leads)
   found_once damaged fs names a b (inr (n, leads, x)) (inl (none, y)) = absurd (none n leads)
   found_once damaged fs names a b (inr (n, leads, x)) (inr (m, also, y)) = grind (arith, common_steps, one_lead, entry_once)
 
-surveyed_once : (image : List ℕ) (a b : Reply) → Surveys image a → Surveys image b → a ≡ b
-surveyed_once image a b (w, fs, s, x) (u, gs, t, y) = grind (arith, common_steps, one_survey)
+surveyed_once : (s : SubjectValue) (a b : Reply) → Surveys s a → Surveys s b → a ≡ b
+surveyed_once s a b (w, fs, h, x) (u, gs, t, y) = grind (arith, common_steps, one_survey)
 
 one_marks : (image : List ℕ) (w : List (Role × ℕ)) (fs : List FindingValue) (sound others : ℕ → Bool) → AreMarks image w fs sound
     → AreMarks image w fs others → sound ≡ others
 one_marks image w fs sound others p q = grind (arith, common_steps, same_tests)
 
-found_told_once : (image : List ℕ) (w : List (Role × ℕ)) (fs : List FindingValue) (a b : Reply) → TellsFound image w fs a → TellsFound image w fs b
+found_told_once : (s : SubjectValue) (w : List (Role × ℕ)) (fs : List FindingValue) (a b : Reply) → TellsFound s w fs a → TellsFound s w fs b
     → a ≡ b
-found_told_once image w fs a b (date, dates, sound, marks, x) (other, others, tests, also, y) =
-    x ∙ ap (λ d. on_output (findings_status fs) (listing_text d sound image w fs)) (one_dates date other dates others)
-    ∙ ap (λ m. on_output (findings_status fs) (listing_text other m image w fs)) (one_marks image w fs sound tests marks also) ∙ sym y
+found_told_once s w fs a b (date, dates, sound, marks, x) (other, others, tests, also, y) =
+    x ∙ ap (λ d. on_output (told_status s.front fs) (listing_text d sound s w fs)) (one_dates date other dates others)
+    ∙ ap (λ m. on_output (told_status s.front fs) (listing_text other m s w fs)) (one_marks s.image w fs sound tests marks also) ∙ sym y
 
-listed_once : (image : List ℕ) (a b : Reply) → ListsSurvey image a → ListsSurvey image b → a ≡ b
-listed_once image a b (w, fs, s, x) (u, gs, t, y) =
-    let same = one_survey image w u fs gs s t in
-    let moved = subst (λ v. TellsFound image v fs a) same.0 x in
-    found_told_once image u gs a b (subst (λ hs. TellsFound image u hs a) same.1 moved) y
+listed_once : (s : SubjectValue) (a b : Reply) → ListsSurvey s a → ListsSurvey s b → a ≡ b
+listed_once s a b (w, fs, h, x) (u, gs, t, y) =
+    let same = one_survey s.image w u fs gs h t in
+    let moved = subst (λ v. TellsFound s v fs a) same.0 x in
+    found_told_once s u gs a b (subst (λ hs. TellsFound s u hs a) same.1 moved) y
 
-copied_once : (damaged : Bool) (path image : List ℕ) (a b : Reply) → CopiesFromSurvey damaged path image a → CopiesFromSurvey damaged path image b
-    → a ≡ b
-copied_once damaged path image a b (names, text, w, fs, s, x) (others, also, u, gs, t, y) =
-    let same = one_survey image w u fs gs s t in
-    let walk = subst (λ v. CopiesFound damaged image v fs names a) same.0 x in
-    let found = subst (λ hs. CopiesFound damaged image u hs names a) same.1 walk in
+copied_once : (damaged : Bool) (path : List ℕ) (s : SubjectValue) (a b : Reply) → CopiesFromSurvey damaged path s a
+    → CopiesFromSurvey damaged path s b → a ≡ b
+copied_once damaged path s a b (names, text, w, fs, h, x) (others, also, u, gs, t, y) =
+    let same = one_survey s.image w u fs gs h t in
+    let walk = subst (λ v. CopiesFound damaged s v fs names a) same.0 x in
+    let found = subst (λ hs. CopiesFound damaged s u hs names a) same.1 walk in
     let path_is = one_path path names others text also in
-    found_once image u damaged gs others a b (subst (λ (ns : List (List ℕ)). CopiesFound damaged image u gs ns a) path_is found) y
+    found_once s u damaged gs others a b (subst (λ (ns : List (List ℕ)). CopiesFound damaged s u gs ns a) path_is found) y
+
+-- an input is surveyed as one thing
+one_typed : (s t u : SubjectValue) → IsTyped s t → IsTyped s u → t ≡ u
+one_typed s t u (w, fs, h, x) (v, gs, g, y) = x ∙ (ap (typed_subject s) (one_survey s.image w v fs gs h g).0 ∙ sym y)
+
+-- so what has one answer of that has one of the input
+typed_once : (s : SubjectValue) (answers : SubjectValue → Reply → Type 0)
+    → ((t : SubjectValue) (a b : Reply) → answers t a → answers t b → a ≡ b) → (a b : Reply) → OfTyped s answers a → OfTyped s answers b → a ≡ b
+typed_once s answers once a b (t, is, x) (u, also, y) =
+    once u a b (subst (λ t. answers t a) (one_typed (begun_subject s) t u is also) x) y
 
 some_once : (held : ℕ) (input : List ℕ) (l : Basis) (m : Option Basis) (fs : List FindingValue) (a b : Reply)
     → RescuesSome held input l m fs a → RescuesSome held input l m fs b → a ≡ b
@@ -127,14 +138,14 @@ rescued_once held input image a b (w, fs, s, x) (u, gs, t, y) =
     let moved = subst (λ v. RescuesFound held input image v fs a) same.0 x in
     found_rescued_once held input image u gs a b (subst (λ hs. RescuesFound held input image u hs a) same.1 moved) y
 
-one_question : (held : ℕ) (q : QuestionValue) (image : List ℕ) (a b : Reply) → QuestionAnswer held q image a → QuestionAnswer held q image b → a ≡ b
-one_question held report image a b x y = surveyed_once image a b x y
-one_question held list image a b x y = listed_once image a b x y
-one_question held (cat damaged path) image a b (inl (bad, x)) (inl (worse, y)) = x ∙ sym y
-one_question held (cat damaged path) image a b (inl (bad, x)) (inr h) = absurd (bad h.0 h.1)
-one_question held (cat damaged path) image a b (inr h) (inl (bad, y)) = absurd (bad h.0 h.1)
-one_question held (cat damaged path) image a b (inr h) (inr g) = copied_once damaged path image a b h g
-one_question held rescue image a b x y = rescued_once held image (opened image) a b x y
+one_question : (q : QuestionValue) (s : SubjectValue) (a b : Reply) → QuestionAnswer q s a → QuestionAnswer q s b → a ≡ b
+one_question report s a b x y = typed_once s Surveys surveyed_once a b x y
+one_question list s a b x y = typed_once s ListsSurvey listed_once a b x y
+one_question (cat damaged path) s a b (inl (bad, x)) (inl (worse, y)) = x ∙ sym y
+one_question (cat damaged path) s a b (inl (bad, x)) (inr (t, is, h)) = absurd (bad h.0 h.1)
+one_question (cat damaged path) s a b (inr (t, is, h)) (inl (bad, y)) = absurd (bad h.0 h.1)
+one_question (cat damaged path) s a b (inr h) (inr g) = typed_once s (CopiesFromSurvey damaged path) (copied_once damaged path) a b h g
+one_question rescue s a b x y = rescued_once s.end s.image (opened s.image) a b x y
 
 pub one_answer : (r : InquiryValue) (input : List ℕ) (a b : Reply) → SurveyAnswer r input a → SurveyAnswer r input b → a ≡ b
-one_answer r input a b x y = one_question (held_whole r.blocks input) r.question (meant r.blocks input) a b x y
+one_answer r input a b x y = one_question r.question (subject r.blocks input) a b x y

@@ -3,7 +3,7 @@ use Rattle.std.proofs.Common.{◌≡◌, ◌-◌, ◌*◌, ◌++◌, ℕ, List, 
 use Rattle.std.proofs.lemmas.Bool.{cases_lt}
 use Rattle.std.proofs.lemmas.List.{take_all}
 use Rattle.std.proofs.lemmas.Grind.{common_steps}
-use Rattle.adf_survey_cmd.specs.Answers.{sized}
+use Rattle.adf_survey_cmd.specs.Subject.{sized}
 
 -- the bytes that are kept, and zeros up to the length
 pub sized_is : (bytes : List ℕ) (n long kept : ℕ) → long ≡ n * 512 → kept ≡ min (length bytes) long

@@ -1,8 +1,7 @@
 -- What the command answers to its words and its input.
--- Letters: w the walk of a survey, fs its findings; n an entry's node, h the block of its header; r an inquiry.
-use Rattle.std.specs.Prelude.{◌≡◌, ◌*◌, ◌-◌, ◌⊎◌, ◌++◌, ℕ, Bool, true, false, List, [], ◌∷◌, Option, None, Some, codes, length, min, replicate, take}
+-- Letters: s what is surveyed; w the walk of its survey, fs its findings; n an entry's node, h the block of its header; r an inquiry.
+use Rattle.std.specs.Prelude.{◌≡◌, ◌*◌, ◌⊎◌, ◌++◌, ℕ, Bool, true, false, List, [], ◌∷◌, Option, codes}
 use Rattle.adf_blocks.specs.declared.layout.TheConstants.{MOST_BLOCKS}
-use Rattle.adf_blocks.specs.Sizes.{blocks}
 use Rattle.adf_names.specs.PathTexts.{IsPathText}
 use Rattle.adf_volume.specs.Walk.{FileAt, Role}
 use Rattle.adf_findings.specs.Files.{IsSoundFile, file_content, file_in}
@@ -14,90 +13,85 @@ use Rattle.adf_texts.specs.VolumeLines.{AreDates}
 use Rattle.adf_cmd.specs.Answers.{IsBadPath, RefusesPath}
 use Rattle.adf_runs.specs.Commands.{Command, Reply, on_errors, on_output}
 use Rattle.adf_words.specs.SurveyLine.{AreRefusedBySurvey, AsksSurvey, InquiryValue, QuestionValue, asked, cat, list, report, rescue}
-use Rattle.adf_survey_cmd.specs.FoundLines.{listing_text}
-use Rattle.adf_survey_cmd.specs.Lines.{findings_text}
+use Rattle.adf_survey_cmd.specs.FoundLines.{has_its_data, listing_text}
 use Rattle.adf_survey_cmd.specs.Remains.{WritesRemains}
 use Rattle.adf_survey_cmd.specs.Rescues.{Rescues}
+use Rattle.adf_survey_cmd.specs.Subject.{OfTyped, SubjectValue, subject, told_text}
 
 -- the status of findings: 0 where there is none
 abbrev pub findings_status : List FindingValue → ℕ
 findings_status [] = 0
 findings_status (f ∷ fs) = 1
 
+-- the status of findings with lines in front
+abbrev pub told_status : List ℕ → List FindingValue → ℕ
+told_status [] fs = findings_status fs
+told_status (c ∷ front) fs = 1
+
 -- the lines of the findings are told
-abbrev pub TellsFindings : List ℕ → List (Role × ℕ) → List FindingValue → Reply → Type 0
-TellsFindings input w fs reply = reply ≡ on_output (findings_status fs) (findings_text input w fs)
+abbrev pub TellsFindings : SubjectValue → List (Role × ℕ) → List FindingValue → Reply → Type 0
+TellsFindings s w fs reply = reply ≡ on_output (told_status s.front fs) (told_text s w fs)
 
 -- the lines of the findings are told, and behind them those of what is found, in which each date has its text and the sound entries are marked
-abbrev pub TellsFound : List ℕ → List (Role × ℕ) → List FindingValue → Reply → Type 0
-TellsFound input w fs reply = (date : Stamp → List ℕ) × AreDates date × (sound : ℕ → Bool) × AreMarks input w fs sound
-    × (reply ≡ on_output (findings_status fs) (listing_text date sound input w fs))
+abbrev pub TellsFound : SubjectValue → List (Role × ℕ) → List FindingValue → Reply → Type 0
+TellsFound s w fs reply = (date : Stamp → List ℕ) × AreDates date × (sound : ℕ → Bool) × AreMarks s.image w fs sound
+    × (reply ≡ on_output (told_status s.front fs) (listing_text date sound s w fs))
 
 -- nothing is found under the names
-abbrev pub FindsNothing : List ℕ → List (Role × ℕ) → List (List ℕ) → Reply → Type 0
-FindsNothing input w names reply = ((n : ℕ) → LeadsTo input w 0 names n → ⊥) × (reply ≡ on_errors 1 (codes "no such path\n"))
+abbrev pub FindsNothing : SubjectValue → List (Role × ℕ) → List (List ℕ) → Reply → Type 0
+FindsNothing s w names reply = ((n : ℕ) → LeadsTo s.image w 0 names n → ⊥) × (reply ≡ on_errors 1 (codes "no such path\n"))
 
 -- the entry is no file
-abbrev pub FindsNoFile : List ℕ → List (Role × ℕ) → ℕ → Reply → Type 0
-FindsNoFile input w n reply = ((h : ℕ) → FileAt input w n h → ⊥) × (reply ≡ on_errors 1 (codes "not a file\n"))
+abbrev pub FindsNoFile : SubjectValue → List (Role × ℕ) → ℕ → Reply → Type 0
+FindsNoFile s w n reply = ((h : ℕ) → FileAt s.image w n h → ⊥) × (reply ≡ on_errors 1 (codes "not a file\n"))
 
--- the entry is a file that is not sound
-abbrev pub FindsDamage : List ℕ → List (Role × ℕ) → List FindingValue → ℕ → Reply → Type 0
-FindsDamage input w fs n reply =
-    ((h : ℕ) × FileAt input w n h) × (IsSoundFile input w fs n → ⊥) × (reply ≡ on_errors 1 (codes "damaged\n"))
+-- the entry is a sound file, and the input holds its data
+abbrev pub IsWholeFile : SubjectValue → List (Role × ℕ) → List FindingValue → ℕ → Type 0
+IsWholeFile s w fs n = IsSoundFile s.image w fs n × (has_its_data s.end s.image w n ≡ true)
 
--- the entry is a sound file, whose bytes are written
-abbrev pub CopiesSoundFile : List ℕ → List (Role × ℕ) → List FindingValue → ℕ → Reply → Type 0
-CopiesSoundFile input w fs n reply = IsSoundFile input w fs n × (reply ≡ on_output 0 (file_content (file_in input w n)))
+-- the entry is another file
+abbrev pub FindsDamage : SubjectValue → List (Role × ℕ) → List FindingValue → ℕ → Reply → Type 0
+FindsDamage s w fs n reply =
+    ((h : ℕ) × FileAt s.image w n h) × (IsWholeFile s w fs n → ⊥) × (reply ≡ on_errors 1 (codes "damaged\n"))
+
+-- the entry is such a file, whose bytes are written
+abbrev pub CopiesSoundFile : SubjectValue → List (Role × ℕ) → List FindingValue → ℕ → Reply → Type 0
+CopiesSoundFile s w fs n reply = IsWholeFile s w fs n × (reply ≡ on_output 0 (file_content (file_in s.image w n)))
 
 -- `cat` of an entry: of a sound file, or of one that may be damaged
-abbrev pub CopiesEntry : (damaged : Bool) → List ℕ → List (Role × ℕ) → List FindingValue → ℕ → Reply → Type 0
-CopiesEntry false input w fs n reply = FindsNoFile input w n reply ⊎ (FindsDamage input w fs n reply ⊎ CopiesSoundFile input w fs n reply)
-CopiesEntry true input w fs n reply = FindsNoFile input w n reply ⊎ WritesRemains input w n reply
+abbrev pub CopiesEntry : (damaged : Bool) → SubjectValue → List (Role × ℕ) → List FindingValue → ℕ → Reply → Type 0
+CopiesEntry false s w fs n reply = FindsNoFile s w n reply ⊎ (FindsDamage s w fs n reply ⊎ CopiesSoundFile s w fs n reply)
+CopiesEntry true s w fs n reply = FindsNoFile s w n reply ⊎ WritesRemains s w n reply
 
 -- `cat` of what the names lead to
-abbrev pub CopiesFound : (damaged : Bool) → List ℕ → List (Role × ℕ) → List FindingValue → List (List ℕ) → Reply → Type 0
-CopiesFound damaged input w fs names reply =
-    FindsNothing input w names reply ⊎ ((n : ℕ) × LeadsTo input w 0 names n × CopiesEntry damaged input w fs n reply)
+abbrev pub CopiesFound : (damaged : Bool) → SubjectValue → List (Role × ℕ) → List FindingValue → List (List ℕ) → Reply → Type 0
+CopiesFound damaged s w fs names reply =
+    FindsNothing s w names reply ⊎ ((n : ℕ) × LeadsTo s.image w 0 names n × CopiesEntry damaged s w fs n reply)
 
--- `adf-survey` tells the findings of the image's survey
-abbrev pub Surveys : List ℕ → Reply → Type 0
-Surveys input reply = (w : List (Role × ℕ)) × (fs : List FindingValue) × IsSurvey input w fs × TellsFindings input w fs reply
+-- `adf-survey` tells the findings of the survey
+abbrev pub Surveys : SubjectValue → Reply → Type 0
+Surveys s reply = (w : List (Role × ℕ)) × (fs : List FindingValue) × IsSurvey s.image w fs × TellsFindings s w fs reply
 
--- `adf-survey --list` tells the findings of the image's survey and what is found
-abbrev pub ListsSurvey : List ℕ → Reply → Type 0
-ListsSurvey input reply = (w : List (Role × ℕ)) × (fs : List FindingValue) × IsSurvey input w fs × TellsFound input w fs reply
+-- `adf-survey --list` tells the findings of the survey and what is found
+abbrev pub ListsSurvey : SubjectValue → Reply → Type 0
+ListsSurvey s reply = (w : List (Role × ℕ)) × (fs : List FindingValue) × IsSurvey s.image w fs × TellsFound s w fs reply
 
--- `cat` of a path that is read, in what is found of the image
-abbrev pub CopiesFromSurvey : (damaged : Bool) → List ℕ → List ℕ → Reply → Type 0
-CopiesFromSurvey damaged path input reply =
+-- `cat` of a path that is read, in what is found
+abbrev pub CopiesFromSurvey : (damaged : Bool) → List ℕ → SubjectValue → Reply → Type 0
+CopiesFromSurvey damaged path s reply =
     (names : List (List ℕ)) × IsPathText path names
-    × (w : List (Role × ℕ)) × (fs : List FindingValue) × IsSurvey input w fs × CopiesFound damaged input w fs names reply
+    × (w : List (Role × ℕ)) × (fs : List FindingValue) × IsSurvey s.image w fs × CopiesFound damaged s w fs names reply
 
--- the answer to a question of an image, of which the input holds the first `held` blocks
-abbrev pub QuestionAnswer : (held : ℕ) → QuestionValue → List ℕ → Reply → Type 0
-QuestionAnswer held report image reply = Surveys image reply
-QuestionAnswer held list image reply = ListsSurvey image reply
-QuestionAnswer held (cat damaged path) image reply = RefusesPath path reply ⊎ CopiesFromSurvey damaged path image reply
-QuestionAnswer held rescue image reply = Rescues held image reply
-
--- the image of n blocks that begins with the bytes of the input, as many as it holds, and has zeros for what is not there
-abbrev pub sized : ℕ → List ℕ → List ℕ
-sized n input = take (512 * n) input ++ replicate (512 * n - length input) 0
-
--- the image that is meant: the input, or one of so many blocks
-abbrev pub meant : Option ℕ → List ℕ → List ℕ
-meant None input = input
-meant (Some n) input = sized n input
-
--- how many blocks of the image that is meant the input holds whole
-abbrev pub held_whole : Option ℕ → List ℕ → ℕ
-held_whole None input = blocks input
-held_whole (Some n) input = min n (blocks input)
+-- the answer to a question of what is surveyed: once it is begun, and has the type that its files say
+abbrev pub QuestionAnswer : QuestionValue → SubjectValue → Reply → Type 0
+QuestionAnswer report s reply = OfTyped s Surveys reply
+QuestionAnswer list s reply = OfTyped s ListsSurvey reply
+QuestionAnswer (cat damaged path) s reply = RefusesPath path reply ⊎ OfTyped s (CopiesFromSurvey damaged path) reply
+QuestionAnswer rescue s reply = Rescues s.end s.image reply
 
 -- the answer to an inquiry
 abbrev pub SurveyAnswer : InquiryValue → List ℕ → Reply → Type 0
-SurveyAnswer r input reply = QuestionAnswer (held_whole r.blocks input) r.question (meant r.blocks input) reply
+SurveyAnswer r input reply = QuestionAnswer r.question (subject r.blocks input) reply
 
 -- words ask for one thing at most
 abbrev pub WordsAskForOneInquiry : Type 0

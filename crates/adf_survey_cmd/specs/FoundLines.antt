@@ -1,10 +1,13 @@
 -- The lines of what is found. In each definition `date` gives the text of a date, and `sound` tells whether an entry is sound.
--- Letters: w the walk of an image's survey, fs its findings; n an entry's node, h the block of its header; k how many entries.
-use Rattle.std.specs.Prelude.{ℕ, Bool, true, false, List, [], ◌∷◌, ◌++◌, codes}
-use Rattle.std.specs.List.{flat_map, range_with_len}
+-- Letters: s what is surveyed; w the walk of its image's survey, fs its findings; end a block; n an entry's node, h the block of its header; k how many entries.
+use Rattle.std.specs.Prelude.{ℕ, ◌==◌, ◌&&◌, ◌||◌, Bool, true, false, not, nat_lt, List, [], ◌∷◌, ◌++◌, codes}
+use Rattle.std.specs.List.{flat_map, list_all, range_with_len}
 use Rattle.adf_base.specs.Words.{block}
 use Rattle.adf_base.specs.declared.dates.Stamp.{Stamp}
+use Rattle.adf_blocks.specs.declared.layout.TheConstants.{SECONDARY_TYPE, ST_FILE}
 use Rattle.adf_blocks.specs.HeadBlock.{body_at, meta_stated}
+use Rattle.adf_volume.specs.Image.{word_in}
+use Rattle.adf_volume.specs.Made.{datas_in}
 use Rattle.adf_volume.specs.Walk.{Role, heads, node_block}
 use Rattle.adf_findings.specs.Lookup.{path_to}
 use Rattle.adf_findings.specs.SoundMarks.{AreMarks}
@@ -12,7 +15,7 @@ use Rattle.adf_findings.specs.Opening.{opening_in}
 use Rattle.adf_findings.specs.Survey.{FindingValue}
 use Rattle.adf_texts.specs.RowTexts.{head_lines}
 use Rattle.adf_texts.specs.VolumeLines.{AreDates, opening_lines}
-use Rattle.adf_survey_cmd.specs.Lines.{findings_text}
+use Rattle.adf_survey_cmd.specs.Subject.{SubjectValue, told_text}
 
 -- the mark of an entry, on the left of eight places
 abbrev pub mark_text : Bool → List ℕ
@@ -27,6 +30,15 @@ header_lines date image w n h = head_lines date (path_to image w n) (body_at (bl
 abbrev pub found_lines : (Stamp → List ℕ) → (ℕ → Bool) → List ℕ → List (Role × ℕ) → ℕ → List ℕ
 found_lines date sound image w n = mark_text (sound n) ++ header_lines date image w n (node_block w n)
 
+-- entry n is no file, or each of its data blocks is before block `end`
+abbrev pub has_its_data : ℕ → List ℕ → List (Role × ℕ) → ℕ → Bool
+has_its_data end image w n =
+    not (word_in image (node_block w n) SECONDARY_TYPE == ST_FILE) || list_all (λ b. nat_lt b end) (datas_in w n)
+
+-- an entry is marked sound if it is sound and has its data
+abbrev pub marked : (ℕ → Bool) → ℕ → List ℕ → List (Role × ℕ) → ℕ → Bool
+marked sound end image w n = sound n && has_its_data end image w n
+
 -- the marks and the lines of the first k entries
 unfoldable pub lines_of_found : (Stamp → List ℕ) → (ℕ → Bool) → List ℕ → List (Role × ℕ) → ℕ → List ℕ
 lines_of_found date sound image w k = flat_map (found_lines date sound image w) (range_with_len 1 k)
@@ -40,9 +52,9 @@ abbrev pub found_text : (Stamp → List ℕ) → (ℕ → Bool) → List ℕ →
 found_text date sound image [] = []
 found_text date sound image (x ∷ w) = opening_text date image ++ lines_of_found date sound image (x ∷ w) (heads (x ∷ w))
 
--- the lines of the findings, and behind them those of what is found
-abbrev pub listing_text : (Stamp → List ℕ) → (ℕ → Bool) → List ℕ → List (Role × ℕ) → List FindingValue → List ℕ
-listing_text date sound image w fs = findings_text image w fs ++ found_text date sound image w
+-- the lines of the findings, with those in front, and behind them those of what is found
+abbrev pub listing_text : (Stamp → List ℕ) → (ℕ → Bool) → SubjectValue → List (Role × ℕ) → List FindingValue → List ℕ
+listing_text date sound s w fs = told_text s w fs ++ found_text date (marked sound s.end s.image w) s.image w
 
 -- it holds of any function that gives each date its text, and of any that tells the sound entries of a survey
 abbrev pub InAnyTexts : List ℕ → List (Role × ℕ) → List FindingValue → ((Stamp → List ℕ) → (ℕ → Bool) → Type 0) → Type 0

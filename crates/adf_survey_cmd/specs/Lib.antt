@@ -1,5 +1,6 @@
 -- The promise: the lines, and what the command answers.
 pub mod Lines
+pub mod Subject
 pub mod FoundLines
 pub mod Rescues
 pub mod Remains

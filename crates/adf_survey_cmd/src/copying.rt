@@ -7,8 +7,11 @@ ghost use Rattle.adf_findings.specs.Survey.{OnSurvey};
 ghost use Rattle.adf_runs.specs.Commands.{on_output};
 ghost use Rattle.adf_survey_cmd.specs.Answers.{CopiesEntry, CopiesFound};
 ghost use Rattle.adf_survey_cmd.specs.Remains.{gap_line, remains_reply};
+ghost use Rattle.adf_survey_cmd.specs.Subject.{surveyed_as};
 ghost use Rattle.adf_runs.specs.Outcomes.{EndsBy, is_read_fault, is_write_fault};
 
+use crate::found_lines::are_before;
+use crate::subject::Subject;
 use adf_cmd::{ROOM, write_through};
 use adf_findings::{Gap, Remains, SoundFile, Survey};
 use adf_runs::{Outcome, Sink, write_all};
@@ -30,10 +33,16 @@ fn write_file<W: Sink>(file: &SoundFile<'_>, output: &mut W) -> Outcome
     }
 }
 
-// Writes the bytes of an entry that is a sound file.
-fn copy_entry<W: Sink>(alloc: Global, survey: &Survey<'_>, n: Node, output: &mut W) -> Outcome
+// Writes the bytes of an entry that is a sound file, whose data the input holds.
+fn copy_entry<W: Sink>(
+    alloc: Global,
+    subject: &Subject,
+    survey: &Survey<'_>,
+    n: Node,
+    output: &mut W,
+) -> Outcome
     requires { W.has_failed output.old ≡ false }
-    ensures ends { OnSurvey survey.now.image (λ w fs. EndsBy (CopiesEntry false survey.now.image w fs n) result
+    ensures ends { OnSurvey survey.now.image (λ w fs. EndsBy (CopiesEntry false (surveyed_as survey.now.image subject.now) w fs n) result
         (W.held output.old) (W.held output.new)) }
     ensures read { is_read_fault result ≡ false }
     ensures written { W.has_failed output.new ≡ is_write_fault result }
@@ -42,8 +51,8 @@ fn copy_entry<W: Sink>(alloc: Global, survey: &Survey<'_>, n: Node, output: &mut
         return Outcome::NotAFile;
     }
     match survey.file(alloc, n) {
-        Ok(Some(file)) => write_file(&file, output),
-        Ok(None) => Outcome::Damaged,
+        Ok(Some(file)) if are_before(file.blocks(), subject.end) => write_file(&file, output),
+        Ok(_) => Outcome::Damaged,
         Err(_) => Outcome::NoMemory,
     }
 }
@@ -89,38 +98,51 @@ fn write_remains<W: Sink>(alloc: Global, remains: &Remains, output: &mut W) -> O
 }
 
 // Writes what is left of an entry that is a file.
-fn copy_remains<W: Sink>(alloc: Global, survey: &Survey<'_>, n: Node, output: &mut W) -> Outcome
+fn copy_remains<W: Sink>(
+    alloc: Global,
+    subject: &Subject,
+    survey: &Survey<'_>,
+    n: Node,
+    output: &mut W,
+) -> Outcome
     requires { W.has_failed output.old ≡ false }
-    ensures ends { OnSurvey survey.now.image (λ w fs. EndsBy (CopiesEntry true survey.now.image w fs n) result
+    ensures ends { OnSurvey survey.now.image (λ w fs. EndsBy (CopiesEntry true (surveyed_as survey.now.image subject.now) w fs n) result
         (W.held output.old) (W.held output.new)) }
     ensures read { is_read_fault result ≡ false }
     ensures written { W.has_failed output.new ≡ is_write_fault result }
 {
-    match survey.remains(alloc, n) {
+    match survey.remains(alloc, n, subject.end) {
         Ok(Some(remains)) => write_remains(alloc, &remains, output),
         Ok(None) => Outcome::NotAFile,
         Err(_) => Outcome::NoMemory,
     }
 }
 
+/// The names of a path, and whether the file may be damaged.
+#[derive(Drop)]
+pub struct Asked<'a> {
+    pub names: &'a [Name],
+    pub damaged: bool,
+}
+
 /// Writes the bytes of the file that the names lead to: of a sound one, or what is left of one that may be damaged.
 pub fn copy_found<W: Sink>(
     alloc: Global,
+    subject: &Subject,
     survey: &Survey<'_>,
-    names: &[Name],
-    damaged: bool,
+    asked: &Asked<'_>,
     output: &mut W,
 ) -> Outcome
     requires { W.has_failed output.old ≡ false }
     ensures ends { OnSurvey survey.now.image (λ w fs.
-        EndsBy (CopiesFound damaged survey.now.image w fs names.now) result
+        EndsBy (CopiesFound asked.now.damaged (surveyed_as survey.now.image subject.now) w fs asked.now.names.now) result
         (W.held output.old) (W.held output.new)) }
     ensures read { is_read_fault result ≡ false }
     ensures written { W.has_failed output.new ≡ is_write_fault result }
 {
-    match survey.find(names) {
-        Some(n) if damaged => copy_remains(alloc, survey, n, output),
-        Some(n) => copy_entry(alloc, survey, n, output),
+    match survey.find(asked.names) {
+        Some(n) if asked.damaged => copy_remains(alloc, subject, survey, n, output),
+        Some(n) => copy_entry(alloc, subject, survey, n, output),
         None => Outcome::NoSuchPath,
     }
 }

@@ -1,14 +1,16 @@
 // The lines of what is found.
 
-ghost use Rattle.std.specs.Prelude.{◌≡◌, ◌++◌, ◌≤◌, ℕ, List, OnErr, OnOk, false};
+ghost use Rattle.std.specs.Prelude.{◌≡◌, ◌++◌, ◌≤◌, ℕ, Bool, List, IfOk, OnErr, OnOk, false, nat_lt};
+ghost use Rattle.std.specs.List.{list_all};
 ghost use Rattle.std.specs.Io.KnownBytes.{Appends};
 ghost use Rattle.adf_base.specs.declared.dates.Stamp.{Stamp};
 ghost use Rattle.adf_volume.specs.Walk.{heads};
 ghost use Rattle.adf_findings.specs.Opening.{opening_in};
+ghost use Rattle.adf_findings.specs.SoundMarks.{AreMarks};
 ghost use Rattle.adf_findings.specs.Survey.{OnSurvey};
 ghost use Rattle.adf_texts.specs.VolumeLines.{AreDates};
 ghost use Rattle.adf_runs.specs.Streams.{AppendsPart, KeepsPending, is_device};
-ghost use Rattle.adf_survey_cmd.specs.FoundLines.{InAnyTexts, found_lines, found_text, lines_of_found, mark_text, opening_text};
+ghost use Rattle.adf_survey_cmd.specs.FoundLines.{InAnyTexts, found_lines, found_text, lines_of_found, mark_text, marked, opening_text};
 
 use adf_findings::{Opening, Survey};
 use adf_runs::{Sink, StreamFault, flush_long, write_all};
@@ -27,16 +29,45 @@ fn push_mark(text: &mut Vec<u8>, is_sound: bool) -> Result<(), AllocError>
     }
 }
 
+// Whether each block is before this one.
+pub fn are_before(blocks: &[u32], end: u32) -> bool
+    ensures { result ≡ list_all (λ b. nat_lt b end) blocks.now }
+{
+    for i in 0..blocks.len() {
+        if blocks[i] >= end {
+            return false;
+        }
+    }
+    true
+}
+
+// Whether an entry is marked sound: it is, and if it is a file, each of its data blocks is before block `end`.
+fn is_marked(alloc: Global, survey: &Survey<'_>, n: Node, end: u32) -> Result<bool, AllocError>
+    ensures { OnSurvey survey.now.image (λ w fs. (sound : ℕ → Bool) → AreMarks survey.now.image w fs sound
+        → IfOk result (λ is. is ≡ marked sound end survey.now.image w n)) }
+{
+    if !survey.is_sound(n) {
+        return Ok(false);
+    }
+    match survey.file(alloc, n) {
+        Ok(Some(file)) => Ok(are_before(file.blocks(), end)),
+        Ok(None) => Ok(true),
+        Err(_) => Err(AllocError),
+    }
+}
+
 // Appends the mark and the lines of an entry.
 fn push_found(
     alloc: Global,
     survey: &Survey<'_>,
     n: Node,
+    end: u32,
     text: &mut Vec<u8>,
 ) -> Result<(), AllocError>
     ensures { OnSurvey survey.now.image (λ w fs.
         InAnyTexts survey.now.image w fs (λ date sound. 1 ≤ n → n ≤ heads w → OnOk result
-        (text.new.items ≡ text.old.items ++ found_lines date sound survey.now.image w n))) }
+        (text.new.items ≡ text.old.items
+        ++ found_lines date (marked sound end survey.now.image w) survey.now.image w n))) }
 {
     let (Some(body), Some(meta)) = (survey.body(n), survey.meta(n)) else {
         return Ok(());
@@ -44,7 +75,7 @@ fn push_found(
     let Ok(path) = survey.path(alloc, n) else {
         return Err(AllocError);
     };
-    push_mark(text, survey.is_sound(n))?;
+    push_mark(text, is_marked(alloc, survey, n, end)?)?;
     push_head_lines(text, body, &meta, &path)
 }
 
@@ -53,6 +84,7 @@ fn tell_found<W: Sink>(
     alloc: Global,
     survey: &Survey<'_>,
     n: Node,
+    end: u32,
     text: &mut Vec<u8>,
     output: &mut W,
 ) -> Result<(), StreamFault>
@@ -60,16 +92,17 @@ fn tell_found<W: Sink>(
     ensures ok { OnSurvey survey.now.image (λ w fs.
         InAnyTexts survey.now.image w fs (λ date sound. 1 ≤ n → n ≤ heads w
         → OnOk result (KeepsPending
-        (W.held output.old) (text.old.items ++ found_lines date sound survey.now.image w n)
+        (W.held output.old)
+        (text.old.items ++ found_lines date (marked sound end survey.now.image w) survey.now.image w n)
         (W.held output.new) text.new.items))) }
     ensures err { OnSurvey survey.now.image (λ w fs.
         InAnyTexts survey.now.image w fs (λ date sound. 1 ≤ n → n ≤ heads w
         → OnErr result (AppendsPart
         (W.has_failed output.new) (W.held output.old) (W.held output.new)
-        (text.old.items ++ found_lines date sound survey.now.image w n)))) }
+        (text.old.items ++ found_lines date (marked sound end survey.now.image w) survey.now.image w n)))) }
     ensures failed { W.has_failed output.new ≡ is_device result }
 {
-    push_found(alloc, survey, n, text)?;
+    push_found(alloc, survey, n, end, text)?;
     flush_long(output, text)?;
     Ok(())
 }
@@ -78,6 +111,7 @@ fn tell_found<W: Sink>(
 fn write_entries<W: Sink>(
     alloc: Global,
     survey: &Survey<'_>,
+    end: u32,
     mut text: Vec<u8>,
     output: &mut W,
 ) -> Result<(), StreamFault>
@@ -85,15 +119,15 @@ fn write_entries<W: Sink>(
     ensures ok { OnSurvey survey.now.image (λ w fs.
         InAnyTexts survey.now.image w fs (λ date sound. OnOk result (Appends
         (W.held output.old) (W.held output.new)
-        (text.items ++ lines_of_found date sound survey.now.image w (heads w))))) }
+        (text.items ++ lines_of_found date (marked sound end survey.now.image w) survey.now.image w (heads w))))) }
     ensures err { OnSurvey survey.now.image (λ w fs.
         InAnyTexts survey.now.image w fs (λ date sound. OnErr result (AppendsPart
         (W.has_failed output.new) (W.held output.old) (W.held output.new)
-        (text.items ++ lines_of_found date sound survey.now.image w (heads w))))) }
+        (text.items ++ lines_of_found date (marked sound end survey.now.image w) survey.now.image w (heads w))))) }
     ensures failed { W.has_failed output.new ≡ is_device result }
 {
     for i in 0..survey.len() {
-        tell_found(alloc, survey, Node(i + 1), &mut text, output)?;
+        tell_found(alloc, survey, Node(i + 1), end, &mut text, output)?;
     }
     write_all(output, &text)?;
     Ok(())
@@ -115,21 +149,22 @@ fn push_opening(text: &mut Vec<u8>, opening: &Opening) -> Result<(), AllocError>
 }
 
 /// Writes the lines of what is found: those that open `list` of the volume, and behind them those of each entry, with its mark;
-/// none where the root is not taken. `Device` where the writer failed, `NoMemory` where memory was refused; then
+/// none where the root is not taken. A file with data from block `end` on is marked damaged. `Device` where the writer failed, `NoMemory` where memory was refused; then
 /// a front part of the lines is written, and where the writer failed not all of them.
 pub fn write_found<W: Sink>(
     alloc: Global,
     survey: &Survey<'_>,
+    end: u32,
     output: &mut W,
 ) -> Result<(), StreamFault>
     requires works { W.has_failed output.old ≡ false }
     ensures ok { OnSurvey survey.now.image (λ w fs.
         InAnyTexts survey.now.image w fs (λ date sound. OnOk result (Appends
-        (W.held output.old) (W.held output.new) (found_text date sound survey.now.image w)))) }
+        (W.held output.old) (W.held output.new) (found_text date (marked sound end survey.now.image w) survey.now.image w)))) }
     ensures err { OnSurvey survey.now.image (λ w fs.
         InAnyTexts survey.now.image w fs (λ date sound. OnErr result (AppendsPart
         (W.has_failed output.new) (W.held output.old) (W.held output.new)
-        (found_text date sound survey.now.image w)))) }
+        (found_text date (marked sound end survey.now.image w) survey.now.image w)))) }
     ensures failed { W.has_failed output.new ≡ is_device result }
 {
     let Some(opening) = survey.opening() else {
@@ -137,5 +172,5 @@ pub fn write_found<W: Sink>(
     };
     let mut text = Vec::new(alloc);
     push_opening(&mut text, &opening)?;
-    write_entries(alloc, survey, text, output)
+    write_entries(alloc, survey, end, text, output)
 }

@@ -9,9 +9,11 @@ mod reporting;
 mod rescuing;
 mod runner;
 mod runs;
+mod subject;
 mod work;
 
 pub use crate::runner::{one_answer, run};
 pub use crate::runs::{Run, run_from};
+pub use crate::subject::Subject;
 pub use crate::work::{Task, View, Work};
 pub use adf_words::{Inquiry, Question, parse_survey as parse, survey_words_as_documented};

@@ -7,9 +7,12 @@ ghost use Rattle.adf_runs.specs.Streams.{AppendsPart, is_device};
 ghost use Rattle.adf_survey_cmd.specs.Answers.{TellsFound};
 ghost use Rattle.adf_runs.specs.Outcomes.{EndsBy, is_read_fault, is_write_fault};
 ghost use Rattle.adf_survey_cmd.specs.FoundLines.{InAnyTexts, listing_text};
+ghost use Rattle.adf_survey_cmd.specs.Subject.{surveyed_as};
 
 use crate::found_lines::write_found;
+use crate::reporting::is_clean;
 use crate::runs::write_runs;
+use crate::subject::Subject;
 use adf_findings::Survey;
 use adf_runs::{Outcome, Sink, StreamFault};
 use std::alloc::Global;
@@ -18,33 +21,45 @@ use std::alloc::Global;
 fn write_both<W: Sink>(
     alloc: Global,
     survey: &Survey<'_>,
+    front: Vec<u8>,
+    end: u32,
     output: &mut W,
 ) -> Result<(), StreamFault>
     requires works { W.has_failed output.old ≡ false }
     ensures ok { OnSurvey survey.now.image (λ w fs.
         InAnyTexts survey.now.image w fs (λ date sound. OnOk result (Appends
-        (W.held output.old) (W.held output.new) (listing_text date sound survey.now.image w fs)))) }
+        (W.held output.old) (W.held output.new) (listing_text date sound
+        (record { image = survey.now.image; end = end; front = front.items }) w fs)))) }
     ensures err { OnSurvey survey.now.image (λ w fs.
         InAnyTexts survey.now.image w fs (λ date sound. OnErr result (AppendsPart
         (W.has_failed output.new) (W.held output.old) (W.held output.new)
-        (listing_text date sound survey.now.image w fs)))) }
+        (listing_text date sound
+        (record { image = survey.now.image; end = end; front = front.items }) w fs)))) }
     ensures failed { W.has_failed output.new ≡ is_device result }
 {
-    write_runs(alloc, survey, output)?;
-    write_found(alloc, survey, output)
+    write_runs(alloc, survey, front, output)?;
+    write_found(alloc, survey, end, output)
 }
 
-/// Writes the lines of the findings, and behind them those of what is found.
-pub fn write_list<W: Sink>(alloc: Global, survey: &Survey<'_>, output: &mut W) -> Outcome
+/// Writes the lines of the findings, with those in front, and behind them those of what is found.
+pub fn write_list<W: Sink>(
+    alloc: Global,
+    subject: &Subject,
+    survey: &Survey<'_>,
+    output: &mut W,
+) -> Outcome
     requires { W.has_failed output.old ≡ false }
-    ensures ends { OnSurvey survey.now.image (λ w fs. EndsBy (TellsFound survey.now.image w fs) result
+    ensures ends { OnSurvey survey.now.image (λ w fs. EndsBy (TellsFound (surveyed_as survey.now.image subject.now) w fs) result
         (W.held output.old) (W.held output.new)) }
     ensures read { is_read_fault result ≡ false }
     ensures written { W.has_failed output.new ≡ is_write_fault result }
 {
     survey.marks();
-    match write_both(alloc, survey, output) {
-        Ok(()) if survey.findings().is_empty() => Outcome::Done,
+    let Ok(front) = subject.lines(alloc) else {
+        return Outcome::NoMemory;
+    };
+    match write_both(alloc, survey, front, subject.end, output) {
+        Ok(()) if is_clean(subject, survey) => Outcome::Done,
         Ok(()) => Outcome::FaultWritten,
         Err(fault) => Outcome::after_writing(fault),
     }

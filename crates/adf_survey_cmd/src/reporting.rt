@@ -1,25 +1,42 @@
 // The lines of all findings.
 
-ghost use Rattle.std.specs.Prelude.{◌≡◌, false};
+ghost use Rattle.std.specs.Prelude.{◌≡◌, cond, false};
 ghost use Rattle.adf_findings.specs.Survey.{OnSurvey};
-ghost use Rattle.adf_survey_cmd.specs.Answers.{TellsFindings};
+ghost use Rattle.adf_survey_cmd.specs.Answers.{TellsFindings, told_status};
+ghost use Rattle.adf_survey_cmd.specs.Subject.{surveyed_as};
 ghost use Rattle.adf_runs.specs.Outcomes.{EndsBy, is_read_fault, is_write_fault};
 
 use crate::runs::write_runs;
+use crate::subject::Subject;
 use adf_findings::Survey;
 use adf_runs::{Outcome, Sink};
 use std::alloc::Global;
 
-/// Writes the lines of the findings.
-pub fn write_findings<W: Sink>(alloc: Global, survey: &Survey<'_>, output: &mut W) -> Outcome
+/// Whether there are no findings and no lines in front.
+pub fn is_clean(subject: &Subject, survey: &Survey<'_>) -> bool
+    ensures { OnSurvey survey.now.image (λ _ fs. cond result 0 1 ≡ told_status subject.now.front.items fs) }
+{
+    subject.front.is_empty() && survey.findings().is_empty()
+}
+
+/// Writes the lines of the findings, with those in front.
+pub fn write_findings<W: Sink>(
+    alloc: Global,
+    subject: &Subject,
+    survey: &Survey<'_>,
+    output: &mut W,
+) -> Outcome
     requires { W.has_failed output.old ≡ false }
-    ensures ends { OnSurvey survey.now.image (λ w fs. EndsBy (TellsFindings survey.now.image w fs) result
+    ensures ends { OnSurvey survey.now.image (λ w fs. EndsBy (TellsFindings (surveyed_as survey.now.image subject.now) w fs) result
         (W.held output.old) (W.held output.new)) }
     ensures read { is_read_fault result ≡ false }
     ensures written { W.has_failed output.new ≡ is_write_fault result }
 {
-    match write_runs(alloc, survey, output) {
-        Ok(()) if survey.findings().is_empty() => Outcome::Done,
+    let Ok(front) = subject.lines(alloc) else {
+        return Outcome::NoMemory;
+    };
+    match write_runs(alloc, survey, front, output) {
+        Ok(()) if is_clean(subject, survey) => Outcome::Done,
         Ok(()) => Outcome::FaultWritten,
         Err(fault) => Outcome::after_writing(fault),
     }

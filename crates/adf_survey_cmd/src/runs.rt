@@ -207,24 +207,24 @@ fn push_run(
     text.extend_from_slice(b"\n")
 }
 
-/// Writes the lines of the findings, of which those of neighbouring blocks are one. `Device` where the
-/// writer failed, `NoMemory` where memory was refused; then a front part of the lines is written, and
-/// where the writer failed not all of them.
+/// Writes the lines that wait, and behind them those of the findings, of which those of neighbouring blocks are one. `Device`
+/// where the writer failed, `NoMemory` where memory was refused; then a front part of the lines is written, and where the
+/// writer failed not all of them.
 pub fn write_runs<W: Sink>(
     alloc: Global,
     survey: &Survey<'_>,
+    mut text: Vec<u8>,
     output: &mut W,
 ) -> Result<(), StreamFault>
     requires works { W.has_failed output.old ≡ false }
     ensures ok { OnSurvey survey.now.image (λ w fs.
         OnOk result (Appends (W.held output.old) (W.held output.new)
-        (findings_text survey.now.image w fs))) }
+        (text.items ++ findings_text survey.now.image w fs))) }
     ensures err { OnSurvey survey.now.image (λ w fs. OnErr result (AppendsPart
         (W.has_failed output.new) (W.held output.old) (W.held output.new)
-        (findings_text survey.now.image w fs))) }
+        (text.items ++ findings_text survey.now.image w fs))) }
     ensures failed { W.has_failed output.new ≡ is_device result }
 {
-    let mut text = Vec::new(alloc);
     let mut k = 0;
     while let Some((run, next)) = run_from(survey, k) {
         push_run(alloc, survey, &run, &mut text)?;

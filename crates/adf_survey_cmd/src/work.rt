@@ -1,24 +1,27 @@
 // What is done for words, once they and their path are read.
 
-ghost use Rattle.std.specs.Prelude.{◌≡◌, ℕ, List, false, IfErr, IfOk};
+ghost use Rattle.std.specs.Prelude.{◌≡◌, List, false, true, IfErr, IfNone, IfOk, IfSome};
+ghost use Rattle.adf_findings.specs.OwnKind.{is_mistyped};
 ghost use Rattle.adf_findings.specs.Survey.{OnSurvey};
 ghost use Rattle.adf_runs.specs.Outcomes.{EndsBy, is_read_fault, is_write_fault};
 ghost use Rattle.adf_runs.specs.WorkFaults.{IsNoWork};
-ghost use Rattle.adf_survey_cmd.specs.Answers.{HasBadSurveyPath, QuestionAnswer, SurveyAnswer, held_whole, meant, sized};
+ghost use Rattle.adf_survey_cmd.specs.Answers.{HasBadSurveyPath, QuestionAnswer, SurveyAnswer};
 ghost use Rattle.adf_words.specs.SurveyLine.{InquiryValue, QuestionValue, question_value};
+ghost use Rattle.adf_survey_cmd.specs.Subject.{IsTyped, SubjectValue, begun_subject, subject_value};
 ghost use Rattle.adf_survey_cmd.specs.Work.{Answers, Meets, Shows};
 
-use crate::copying::copy_found;
+use crate::copying::{Asked, copy_found};
 use crate::listing::write_list;
 use crate::reporting::write_findings;
 use crate::rescuing::{rescue_image, rescue_read};
-use adf_base::BLOCK_LEN;
+use crate::subject::{Subject, end_of};
+use adf_blocks::MOST_BLOCKS;
 use adf_cmd::MOST_IMAGE_BYTES;
-use adf_findings::{Survey, survey};
+use adf_findings::{Survey, some_survey, survey};
 use adf_runs::{Outcome, Program, Sink, Source, WorkFault, read_input};
 use adf_tree::{Name, read_path};
 use adf_words::{Question, SURVEY_USAGE as USAGE, parse_survey};
-use std::alloc::{AllocError, Global};
+use std::alloc::Global;
 
 /// What is shown of the survey of an image.
 #[derive(Drop)]
@@ -60,109 +63,130 @@ fn task_for(alloc: Global, question: Question<'_>) -> Result<Task, WorkFault>
     }
 }
 
-// The image of so many blocks that begins with these bytes, with zeros for what is not there.
-#[tactic(auto, using(crate::proofs::SizedImages::sized_is))]
-fn sized(alloc: Global, bytes: &[u8], blocks: u32) -> Result<Vec<u8>, AllocError>
-    ensures { IfOk result (λ image. image.items ≡ sized blocks bytes.now) }
-{
-    let length = blocks as usize * BLOCK_LEN;
-    let kept = bytes.len().min(length);
-    let zeros = vec![in alloc; 0u8; length - kept]?;
-    let mut image = Vec::from_slice(alloc, &bytes[..kept])?;
-    image.extend_from_slice(&zeros)?;
-    Ok(image)
-}
-
 impl View {
-    // Shows this of what is found of an image.
-    fn of_survey<W: Sink>(&self, alloc: Global, survey: &Survey<'_>, output: &mut W) -> Outcome
-        requires { W.has_failed output.old ≡ false }
-        ensures ends { OnSurvey survey.now.image (λ _ _. (held : ℕ) (q : QuestionValue) → Shows self.now q
-            → EndsBy (QuestionAnswer held q survey.now.image) result
-            (W.held output.old) (W.held output.new)) }
+    // Shows this of what is surveyed of an input.
+    fn of_survey<W: Sink>(
+        &self,
+        alloc: Global,
+        subject: &Subject,
+        survey: &Survey<'_>,
+        output: &mut W,
+    ) -> Outcome
+        requires works { W.has_failed output.old ≡ false }
+        requires image { survey.now.image ≡ subject.now.image.items }
+        ensures ends { (s : SubjectValue) (q : QuestionValue) → IsTyped (begun_subject s) (subject_value subject.now)
+            → Shows self.now q
+            → EndsBy (QuestionAnswer q s) result (W.held output.old) (W.held output.new) }
         ensures read { is_read_fault result ≡ false }
         ensures written { W.has_failed output.new ≡ is_write_fault result }
     {
+        some_survey();
         match self {
-            View::Findings => write_findings(alloc, survey, output),
-            View::List => write_list(alloc, survey, output),
-            View::Cat { names, damaged } => copy_found(alloc, survey, names, *damaged, output),
+            View::Findings => write_findings(alloc, subject, survey, output),
+            View::List => write_list(alloc, subject, survey, output),
+            View::Cat { names, damaged } => {
+                let asked = Asked {
+                    names,
+                    damaged: *damaged,
+                };
+                copy_found(alloc, subject, survey, &asked, output)
+            }
         }
     }
 
-    // Surveys an image, and shows this of it.
-    fn of_image<W: Sink>(&self, alloc: Global, image: &[u8], output: &mut W) -> Outcome
+    // Surveys the image as it is, and shows this of it.
+    fn of_image<W: Sink>(&self, alloc: Global, subject: &Subject, output: &mut W) -> Outcome
         requires { W.has_failed output.old ≡ false }
-        ensures ends { (held : ℕ) (q : QuestionValue) → Shows self.now q
-            → EndsBy (QuestionAnswer held q image.now) result (W.held output.old) (W.held output.new) }
+        ensures ends { (s : SubjectValue) (q : QuestionValue) → IsTyped (begun_subject s) (subject_value subject.now)
+            → Shows self.now q
+            → EndsBy (QuestionAnswer q s) result (W.held output.old) (W.held output.new) }
         ensures read { is_read_fault result ≡ false }
         ensures written { W.has_failed output.new ≡ is_write_fault result }
     {
-        match survey(alloc, image) {
-            Ok(survey) => self.of_survey(alloc, &survey, output),
+        match survey(alloc, &subject.image) {
+            Ok(survey) => self.of_survey(alloc, subject, &survey, output),
             Err(_) => Outcome::NoMemory,
+        }
+    }
+
+    // Shows this of what is surveyed of an input, where the type of its image is what its files say. `None` if it is not.
+    fn of_begun<W: Sink>(
+        &self,
+        alloc: Global,
+        subject: &Subject,
+        output: &mut W,
+    ) -> Option<Outcome>
+        requires { W.has_failed output.old ≡ false }
+        ensures ends { (s : SubjectValue) (q : QuestionValue) → subject_value subject.now ≡ begun_subject s
+            → Shows self.now q
+            → IfSome result (λ outcome. EndsBy (QuestionAnswer q s) outcome (W.held output.old) (W.held output.new)) }
+        ensures read { IfSome result (λ outcome. is_read_fault outcome ≡ false) }
+        ensures written { IfSome result (λ outcome. W.has_failed output.new ≡ is_write_fault outcome) }
+        ensures mistyped { IfNone result (OnSurvey subject.now.image.items (λ w _.
+            is_mistyped subject.now.image.items w ≡ true)) }
+        ensures unwritten { IfNone result (output.new ≡ output.old) }
+    {
+        match survey(alloc, &subject.image) {
+            Ok(survey) if survey.is_mistyped() => None,
+            Ok(survey) => Some(self.of_survey(alloc, subject, &survey, output)),
+            Err(_) => Some(Outcome::NoMemory),
+        }
+    }
+
+    // Shows this of what is surveyed of an input, whose image gets the type that its files say.
+    fn of_retyped<W: Sink>(&self, alloc: Global, mut subject: Subject, output: &mut W) -> Outcome
+        requires works { W.has_failed output.old ≡ false }
+        requires mistyped { OnSurvey subject.image.items (λ w _. is_mistyped subject.image.items w ≡ true) }
+        ensures ends { (s : SubjectValue) (q : QuestionValue) → subject_value subject ≡ begun_subject s
+            → Shows self.now q
+            → EndsBy (QuestionAnswer q s) result (W.held output.old) (W.held output.new) }
+        ensures read { is_read_fault result ≡ false }
+        ensures written { W.has_failed output.new ≡ is_write_fault result }
+    {
+        some_survey();
+        match subject.retype() {
+            Ok(()) => self.of_image(alloc, &subject, output),
+            Err(_) => Outcome::NoMemory,
+        }
+    }
+
+    // Shows this of what is surveyed of an input.
+    fn of_subject<W: Sink>(&self, alloc: Global, mut subject: Subject, output: &mut W) -> Outcome
+        requires { W.has_failed output.old ≡ false }
+        ensures ends { (q : QuestionValue) → Shows self.now q
+            → EndsBy (QuestionAnswer q (subject_value subject)) result
+            (W.held output.old) (W.held output.new) }
+        ensures read { is_read_fault result ≡ false }
+        ensures written { W.has_failed output.new ≡ is_write_fault result }
+    {
+        let Ok(()) = subject.begin() else {
+            return Outcome::NoMemory;
+        };
+        match self.of_begun(alloc, &subject, output) {
+            Some(outcome) => outcome,
+            None => self.of_retyped(alloc, subject, output),
         }
     }
 }
 
 impl Task {
-    // Does the task with an image, of which the first `held` blocks were there whole.
-    fn on_image<W: Sink>(&self, alloc: Global, image: &[u8], held: usize, output: &mut W) -> Outcome
+    // Does the task with what is surveyed of an input, and lets that go where it is no longer wanted.
+    fn on_subject<W: Sink>(&self, alloc: Global, subject: Subject, output: &mut W) -> Outcome
         requires { W.has_failed output.old ≡ false }
         ensures ends { (q : QuestionValue) → Answers self.now q
-            → EndsBy (QuestionAnswer held q image.now) result (W.held output.old) (W.held output.new) }
+            → EndsBy (QuestionAnswer q (subject_value subject)) result
+            (W.held output.old) (W.held output.new) }
         ensures read { is_read_fault result ≡ false }
         ensures written { W.has_failed output.new ≡ is_write_fault result }
     {
         match self {
-            Task::Show(view) => view.of_image(alloc, image, output),
-            Task::Rescue => rescue_image(alloc, image, held, output),
-        }
-    }
-
-    // Does the task with an image that was read, and lets it go where it is no longer wanted.
-    fn on_read<W: Sink>(
-        &self,
-        alloc: Global,
-        image: Vec<u8>,
-        held: usize,
-        output: &mut W,
-    ) -> Outcome
-        requires { W.has_failed output.old ≡ false }
-        ensures ends { (q : QuestionValue) → Answers self.now q
-            → EndsBy (QuestionAnswer held q image.items) result (W.held output.old) (W.held output.new) }
-        ensures read { is_read_fault result ≡ false }
-        ensures written { W.has_failed output.new ≡ is_write_fault result }
-    {
-        match self {
-            Task::Show(view) => view.of_image(alloc, &image, output),
-            Task::Rescue => rescue_read(alloc, image, held, output),
+            Task::Show(view) => view.of_subject(alloc, subject, output),
+            Task::Rescue => rescue_read(alloc, subject.image, subject.end as usize, output),
         }
     }
 }
 
 impl Work {
-    // How many blocks of the image that is meant these bytes hold whole.
-    fn held(&self, bytes: &[u8]) -> usize
-        ensures { result ≡ held_whole self.now.blocks bytes.now }
-    {
-        let whole = bytes.len() / BLOCK_LEN;
-        match self.blocks {
-            None => whole,
-            Some(blocks) => whole.min(blocks as usize),
-        }
-    }
-
-    // The image that is meant by bytes that were read, which are let go.
-    fn image_of(&self, alloc: Global, bytes: Vec<u8>) -> Result<Vec<u8>, AllocError>
-        ensures { IfOk result (λ image. image.items ≡ meant self.now.blocks bytes.items) }
-    {
-        match self.blocks {
-            None => Ok(bytes),
-            Some(blocks) => sized(alloc, &bytes, blocks),
-        }
-    }
-
     // Does the work on bytes that were read.
     fn on_read<W: Sink>(&self, alloc: Global, bytes: Vec<u8>, output: &mut W) -> Outcome
         requires { W.has_failed output.old ≡ false }
@@ -171,9 +195,8 @@ impl Work {
         ensures read { is_read_fault result ≡ false }
         ensures written { W.has_failed output.new ≡ is_write_fault result }
     {
-        let held = self.held(&bytes);
-        match self.image_of(alloc, bytes) {
-            Ok(image) => self.task.on_read(alloc, image, held, output),
+        match Subject::of_read(alloc, bytes, self.blocks) {
+            Ok(subject) => self.task.on_subject(alloc, subject, output),
             Err(_) => Outcome::NoMemory,
         }
     }
@@ -206,11 +229,12 @@ impl Program for Work {
     }
 
     fn on<W: Sink>(&self, alloc: Global, bytes: &[u8], output: &mut W) -> Outcome {
-        let held = self.held(bytes);
-        match self.blocks {
-            None => self.task.on_image(alloc, bytes, held, output),
-            Some(blocks) => match sized(alloc, bytes, blocks) {
-                Ok(image) => self.task.on_read(alloc, image, held, output),
+        match (&self.task, self.blocks) {
+            (Task::Rescue, None) => {
+                rescue_image(alloc, bytes, end_of(MOST_BLOCKS, bytes) as usize, output)
+            }
+            _ => match Subject::of(alloc, bytes, self.blocks) {
+                Ok(subject) => self.task.on_subject(alloc, subject, output),
                 Err(_) => Outcome::NoMemory,
             },
         }

@@ -3,6 +3,7 @@ use Rattle.std.proofs.lemmas.Grind.{common_steps}
 use Rattle.adf_base.proofs.Results.{on_err}
 use Rattle.adf_volume.specs.Walk.{heads}
 use Rattle.adf_runs.proofs.PendingText.{pending_begun, pending_end, pending_fails, pending_more}
+use Rattle.adf_survey_cmd.specs.FoundLines.{marked}
 use Rattle.adf_survey_cmd.proofs.FoundTexts.{found_front, found_more, found_none}
 use Rattle.adf_survey_cmd.proofs.found_lines.write_entries.Goals as goal
 
@@ -13,7 +14,7 @@ pub loop-i-preserved : goal.loop-i-preserved
 loop-i-preserved g c = record {
   works = search rules;
   so_far = λ w fs survey date sound dates marks.
-      let more = pending_more _ _ _ _ _ _ (found_more date sound c.args.survey.now.image w c.args.text.items c.loop-i.i)
+      let more = pending_more _ _ _ _ _ _ (found_more date (marked sound c.args.end c.args.survey.now.image w) c.args.survey.now.image w c.args.text.items c.loop-i.i)
       (c.loop-i.invariant.so_far w fs survey date sound dates marks) in
       let all = c.len-i-end.ensures w fs survey in
       c.in_ok-tell_found.ensures.ok w fs survey date sound dates marks (omega arith) (omega (arith, all)) _ _ more;
@@ -23,9 +24,9 @@ pub returns-in_err-tell_found-clause-err : goal.returns-in_err-tell_found-clause
 returns-in_err-tell_found-clause-err g c = λ w fs survey date sound dates marks.
     let image = c.args.survey.now.image in
     let all = c.len-i-end.ensures w fs survey in
-    let more = pending_more _ _ _ _ _ _ (found_more date sound image w c.args.text.items c.loop-i.i)
+    let more = pending_more _ _ _ _ _ _ (found_more date (marked sound c.args.end image w) image w c.args.text.items c.loop-i.i)
     (c.loop-i.invariant.so_far w fs survey date sound dates marks) in
-    let front = found_front date sound image w c.args.text.items (c.loop-i.i + 1) (heads w) (omega (arith, all)) in
+    let front = found_front date (marked sound c.args.end image w) image w c.args.text.items (c.loop-i.i + 1) (heads w) (omega (arith, all)) in
     on_err c.from_residual.result (pending_fails _ _ _ _ _ front.0 _ front.1 more
     (c.in_err-tell_found.ensures.err w fs survey date sound dates marks (omega arith) (omega (arith, all))))
 
@@ -37,7 +38,7 @@ returns-clause-ok g c = λ w fs survey date sound dates marks.
 
 pub returns-in_err-write_all-clause-err : goal.returns-in_err-write_all-clause-err
 returns-in_err-write_all-clause-err g c = λ w fs survey date sound dates marks.
-    let front = found_front date sound c.args.survey.now.image w c.args.text.items c.loop-i.i (heads w)
+    let front = found_front date (marked sound c.args.end c.args.survey.now.image w) c.args.survey.now.image w c.args.text.items c.loop-i.i (heads w)
     (omega (arith, c.len-i-end.ensures w fs survey)) in
     on_err c.from_residual-in_err-write_all.result (pending_fails _ _ _ _ _ front.0 _ front.1
     (c.loop-i.invariant.so_far w fs survey date sound dates marks) (rw c.deref.ensures.value at c.in_err-write_all.ensures.err))

@@ -1,4 +1,5 @@
 use Rattle.std.proofs.Common.{◌≡◌, [], true, false}
+use Rattle.adf_survey_cmd.specs.FoundLines.{marked}
 use Rattle.adf_survey_cmd.proofs.FoundTexts.{found_begun}
 use Rattle.adf_survey_cmd.proofs.found_lines.write_found.Goals as goal
 
@@ -6,7 +7,7 @@ pub returns-clause-ok : goal.returns-clause-ok
 returns-clause-ok g c = λ w fs survey date sound dates marks.
     let image = c.args.survey.now.image in
     let some : w ≡ [] → ⊥ = λ none. let clash : true ≡ false = (c.in-Some.ensures.some w fs survey).1 none in cc in
-    rw (found_begun date sound image w some)
+    rw (found_begun date (marked sound c.args.end image w) image w some)
     (rw (c.in_ok-push_opening.ensures date dates image c.in-Some.ensures.opening, c.new-text.ensures.items)
     at (c.write_entries.ensures.ok w fs survey date sound dates marks))
 
@@ -14,6 +15,6 @@ pub returns-clause-err : goal.returns-clause-err
 returns-clause-err g c = λ w fs survey date sound dates marks.
     let image = c.args.survey.now.image in
     let some : w ≡ [] → ⊥ = λ none. let clash : true ≡ false = (c.in-Some.ensures.some w fs survey).1 none in cc in
-    rw (found_begun date sound image w some)
+    rw (found_begun date (marked sound c.args.end image w) image w some)
     (rw (c.in_ok-push_opening.ensures date dates image c.in-Some.ensures.opening, c.new-text.ensures.items)
     at (c.write_entries.ensures.err w fs survey date sound dates marks))

@@ -1,0 +1,23 @@
+-- What is surveyed of an input.
+-- Letters: s, t what is surveyed; w the walk of a survey, fs its findings.
+use Rattle.std.proofs.Common.{◌≡◌, ◌++◌, ◌∙◌, ℕ, List, true, false, sym}
+use Rattle.std.proofs.lemmas.Bool.{cond-false, cond-true}
+use Rattle.adf_volume.specs.Walk.{Role}
+use Rattle.adf_findings.specs.OwnKind.{is_mistyped, retyped}
+use Rattle.adf_findings.specs.Survey.{FindingValue, IsSurvey}
+use Rattle.adf_survey_cmd.specs.Subject.{IsTyped, SubjectValue, changed, type_line, typed_subject}
+
+-- another image and one more line
+pub changed_is : (s : SubjectValue) (image line new front : List ℕ) → new ≡ image → front ≡ s.front ++ line
+    → record { image = new; end = s.end; front = front } ≡ changed s image line
+changed_is s image line new front e f = λ i. record { image = e i; end = s.end; front = f i; }
+
+-- what has the type that its files say is surveyed as it is
+pub typed_same : (s : SubjectValue) (w : List (Role × ℕ)) (fs : List FindingValue) → IsSurvey s.image w fs → is_mistyped s.image w ≡ false
+    → IsTyped s s
+typed_same s w fs h e = (w, fs, h, sym (cond-false (is_mistyped s.image w) _ s e))
+
+-- and what has not with the other type
+pub typed_anew : (s t : SubjectValue) (w : List (Role × ℕ)) (fs : List FindingValue) → IsSurvey s.image w fs → is_mistyped s.image w ≡ true
+    → t ≡ changed s (retyped s.image) type_line → IsTyped s t
+typed_anew s t w fs h e same = (w, fs, h, same ∙ sym (cond-true (is_mistyped s.image w) _ s e))

@@ -1,0 +1,76 @@
+-- What is surveyed of an input.
+-- Letters: s, t what is surveyed; w the walk of a survey; n a number of blocks; end a block.
+use Rattle.std.specs.Prelude.{◌≡◌, ◌*◌, ◌-◌, ◌++◌, ℕ, List, [], Option, None, Some, codes, cond, length, min, nat_lt, replicate, take}
+use Rattle.adf_blocks.specs.declared.layout.TheConstants.{MOST_BLOCKS}
+use Rattle.adf_blocks.specs.Sizes.{blocks}
+use Rattle.adf_volume.specs.Walk.{Role}
+use Rattle.adf_findings.specs.OwnKind.{is_mistyped, retyped}
+use Rattle.adf_findings.specs.Survey.{FindingValue, IsSurvey}
+use Rattle.adf_rescue.specs.Opened.{begun, lacks_boot}
+use Rattle.adf_runs.specs.Commands.{Reply}
+use Rattle.adf_survey_cmd.specs.Lines.{blocks_text, findings_text}
+use Rattle.adf_survey_cmd.specs.declared.subject.Subject.{Subject}
+
+-- an image; the first block that the input does not hold; the lines in front of those of the findings
+pub record SubjectValue : Type 0 where
+  pub image : List ℕ
+  pub end : ℕ
+  pub front : List ℕ
+
+-- the value of a subject
+abbrev pub subject_value : Subject → SubjectValue
+subject_value s = record { image = s.image.items; end = s.end; front = s.front.items }
+
+-- the same of a survey of its image
+abbrev pub surveyed_as : List ℕ → Subject → SubjectValue
+surveyed_as image s = record { image = image; end = s.end; front = s.front.items }
+
+-- the image of n blocks that begins with the bytes of the input, as many as it holds, and has zeros for what is not there
+abbrev pub sized : ℕ → List ℕ → List ℕ
+sized n input = take (512 * n) input ++ replicate (512 * n - length input) 0
+
+-- the image that is meant: the input, or one of so many blocks
+abbrev pub meant : Option ℕ → List ℕ → List ℕ
+meant None input = input
+meant (Some n) input = sized n input
+
+-- the first of n blocks that the input does not hold whole; n if it holds all
+abbrev pub end_of : ℕ → List ℕ → ℕ
+end_of n input = min n (blocks input)
+
+-- the line of the blocks of an image of n blocks that the input does not hold, if there are any
+abbrev pub missing_text : ℕ → ℕ → List ℕ
+missing_text end n = cond (nat_lt end n) (blocks_text end (n - 1) ++ codes ": no data\n") []
+
+-- what is surveyed of an input, as it is or as if it had so many blocks
+abbrev pub subject : Option ℕ → List ℕ → SubjectValue
+subject None input = record { image = input; end = end_of MOST_BLOCKS input; front = [] }
+subject (Some n) input = record { image = sized n input; end = end_of n input; front = missing_text (end_of n input) n }
+
+-- the lines of the findings, with those in front
+abbrev pub told_text : SubjectValue → List (Role × ℕ) → List FindingValue → List ℕ
+told_text s w fs = s.front ++ findings_text s.image w fs
+
+-- another image in its place, and one more line
+abbrev pub changed : SubjectValue → List ℕ → List ℕ → SubjectValue
+changed s image line = record { image = image; end = s.end; front = s.front ++ line }
+
+-- with `DOS` and a type, where only the boot block is lost
+abbrev pub begun_subject : SubjectValue → SubjectValue
+begun_subject s = cond (lacks_boot s.image) (changed s (begun s.image) (codes "block 0: not dos\n")) s
+
+-- the line of a volume whose type is not what its files say
+unfoldable pub type_line : List ℕ
+type_line = codes "block 0: type of ffs, files of ofs\n"
+
+-- with the type of OFS, where the data blocks of its walk say so
+abbrev pub typed_subject : SubjectValue → List (Role × ℕ) → SubjectValue
+typed_subject s w = cond (is_mistyped s.image w) (changed s (retyped s.image) type_line) s
+
+-- that is t, by the survey of its image
+abbrev pub IsTyped : SubjectValue → SubjectValue → Type 0
+IsTyped s t = (w : List (Role × ℕ)) × (fs : List FindingValue) × IsSurvey s.image w fs × (t ≡ typed_subject s w)
+
+-- the answer is that of what is surveyed in the end, begun and with the type that its files say
+abbrev pub OfTyped : SubjectValue → (SubjectValue → Reply → Type 0) → Reply → Type 0
+OfTyped s answers reply = (t : SubjectValue) × IsTyped (begun_subject s) t × answers t reply

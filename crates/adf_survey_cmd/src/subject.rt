@@ -1,0 +1,144 @@
+// What is surveyed of an input.
+
+ghost use Rattle.std.specs.Prelude.{◌≡◌, ◌≤◌, ◌++◌, IfOk, OnOk};
+ghost use Rattle.adf_blocks.specs.declared.layout.TheConstants.{MOST_BLOCKS};
+ghost use Rattle.adf_findings.specs.OwnKind.{retyped};
+ghost use Rattle.adf_rescue.specs.Opened.{begun};
+ghost use Rattle.adf_survey_cmd.specs.Subject.{begun_subject, changed, end_of, missing_text, sized, subject, subject_value, type_line};
+
+use crate::runs::push_blocks;
+use adf_base::BLOCK_LEN;
+use adf_blocks::MOST_BLOCKS;
+use adf_findings::retype;
+use adf_rescue::{begin_image, lacks_boot};
+use std::alloc::{AllocError, Global};
+
+/// What is surveyed of an input: an image, the first block of it that the input does not hold, and the lines in front of those
+/// of the findings.
+#[derive(Drop)]
+pub struct Subject {
+    pub image: Vec<u8>,
+    pub end: u32,
+    pub front: Vec<u8>,
+}
+
+// The image of so many blocks that begins with these bytes, with zeros for what is not there.
+#[tactic(auto, using(crate::proofs::SizedImages::sized_is))]
+fn sized(alloc: Global, bytes: &[u8], blocks: u32) -> Result<Vec<u8>, AllocError>
+    ensures { IfOk result (λ image. image.items ≡ sized blocks bytes.now) }
+{
+    let length = blocks as usize * BLOCK_LEN;
+    let kept = bytes.len().min(length);
+    let zeros = vec![in alloc; 0u8; length - kept]?;
+    let mut image = Vec::from_slice(alloc, &bytes[..kept])?;
+    image.extend_from_slice(&zeros)?;
+    Ok(image)
+}
+
+/// The first of so many blocks that the bytes do not hold whole.
+pub fn end_of(blocks: u32, bytes: &[u8]) -> u32
+    ensures end { result ≡ end_of blocks bytes.now }
+    ensures few { result ≤ blocks }
+{
+    let held = bytes.len() / BLOCK_LEN;
+    if held < blocks as usize {
+        held as u32
+    } else {
+        blocks
+    }
+}
+
+// The line of the blocks from `end` on that are not there.
+fn missing_line(alloc: Global, end: u32, blocks: u32) -> Result<Vec<u8>, AllocError>
+    ensures { IfOk result (λ text. text.items ≡ missing_text end blocks) }
+{
+    let mut text = Vec::new(alloc);
+    if end < blocks {
+        push_blocks(&mut text, end, blocks - 1, b':')?;
+        text.extend_from_slice(b" no data\n")?;
+    }
+    Ok(text)
+}
+
+// Appends the line of a volume whose type is not what its files say.
+#[tactic(auto, unfolding(crate::specs::Subject::type_line))]
+fn push_type_line(text: &mut Vec<u8>) -> Result<(), AllocError>
+    ensures { OnOk result (text.new.items ≡ text.old.items ++ type_line) }
+{
+    text.extend_from_slice(b"block 0: type of ffs, files of ofs\n")
+}
+
+impl Subject {
+    // An input as it is.
+    fn whole(alloc: Global, bytes: Vec<u8>) -> Subject
+        ensures { subject_value result ≡ subject None bytes.items }
+    {
+        let end = end_of(MOST_BLOCKS, &bytes);
+        Subject {
+            image: bytes,
+            end,
+            front: Vec::new(alloc),
+        }
+    }
+
+    // An input as if it had so many blocks.
+    fn sized(alloc: Global, bytes: &[u8], blocks: u32) -> Result<Subject, AllocError>
+        ensures { IfOk result (λ s. subject_value s ≡ subject (Some blocks) bytes.now) }
+    {
+        let end = end_of(blocks, bytes);
+        let front = missing_line(alloc, end, blocks)?;
+        Ok(Subject {
+            image: sized(alloc, bytes, blocks)?,
+            end,
+            front,
+        })
+    }
+
+    /// What is surveyed of bytes that were read, which are let go: as they are, or as if they had so many blocks.
+    pub fn of_read(alloc: Global, bytes: Vec<u8>, blocks: Option<u32>) -> Result<Subject, AllocError>
+        ensures { IfOk result (λ s. subject_value s ≡ subject blocks bytes.items) }
+    {
+        match blocks {
+            None => Ok(Subject::whole(alloc, bytes)),
+            Some(blocks) => Subject::sized(alloc, &bytes, blocks),
+        }
+    }
+
+    /// The same of bytes that stay.
+    pub fn of(alloc: Global, bytes: &[u8], blocks: Option<u32>) -> Result<Subject, AllocError>
+        ensures { IfOk result (λ s. subject_value s ≡ subject blocks bytes.now) }
+    {
+        match blocks {
+            None => Ok(Subject::whole(alloc, bytes.to_vec(alloc)?)),
+            Some(blocks) => Subject::sized(alloc, bytes, blocks),
+        }
+    }
+
+    /// A copy of the lines in front.
+    pub fn lines(&self, alloc: Global) -> Result<Vec<u8>, AllocError>
+        ensures { IfOk result (λ text. text.items ≡ self.now.front.items) }
+    {
+        self.front.to_vec(alloc)
+    }
+
+    /// Begins the image with `DOS` and a type, where only the boot block is lost, and says so.
+    pub fn begin(&mut self) -> Result<(), AllocError>
+        ensures { OnOk result (subject_value self.new ≡ begun_subject (subject_value self.old)) }
+    {
+        if lacks_boot(&self.image) {
+            self.front.extend_from_slice(b"block 0: not dos\n")?;
+            begin_image(&mut self.image);
+        }
+        Ok(())
+    }
+
+    /// Makes the type of the image that of OFS, and says so.
+    pub fn retype(&mut self) -> Result<(), AllocError>
+        ensures { OnOk result (subject_value self.new ≡ changed (subject_value self.old) (retyped self.old.image.items)
+            type_line) }
+    {
+        push_type_line(&mut self.front)?;
+        retype(&mut self.image);
+        Ok(())
+    }
+}
