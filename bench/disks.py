@@ -248,6 +248,36 @@ def header_copied(disk, image):
     return image, touched
 
 
+def in_use(disk, image, b):
+    """The bitmap tells that block b is in use."""
+    page, bit = disk.pages[(b - 2) // PAGE_BITS], (b - 2) % PAGE_BITS
+    word = unpack_from(">I", image, 512 * page + 4 + 4 * (bit // 32))[0] & ~(1 << bit % 32)
+    pack_into(">I", image, 512 * page + 4 + 4 * (bit // 32), word)
+    pack_into(">I", image, 512 * page, 0)
+    pack_into(">I", image, 512 * page, -sum(unpack_from(">128I", image, 512 * page)) % 2**32)
+
+
+def crossed_claims(disk, image):
+    """Headers of files, there or removed, some of them copied into other blocks, name blocks of other files as their data or directory."""
+    image, touched = bytearray(image), set()
+    files = [file for file in [*disk.files.values(), *disk.removed] if file.content]
+    for _ in range(random.randrange(1, 6)):
+        one, other = random.choice(files), random.choice(files)
+        h = one.blocks[0]
+        if random.random() < 0.5:
+            h = random.choice([random.randrange(2, disk.blocks), random.choice(other.blocks), *disk.removed[-1].blocks[:1]])
+            image[512 * h : 512 * h + 512] = image[512 * one.blocks[0] : 512 * one.blocks[0] + 512]
+            with_word(image, h, 1, h)
+        if random.random() < 0.7:
+            with_word(image, h, 77 - random.randrange(min(POINTERS, len(one.blocks) - 1)), random.choice(other.blocks))
+        if random.random() < 0.4:
+            with_word(image, h, 125, random.choice([*disk.pages, *other.blocks, disk.root, random.randrange(disk.blocks)]))
+        if random.random() < 0.6 and h > 1:
+            in_use(disk, image, h)
+        touched.add(h)
+    return image, touched
+
+
 def boot_lost(disk, image):
     return lost(image, [0, 1])
 
@@ -285,6 +315,7 @@ DAMAGES = {
     "1 % garbage": some_garbage,
     "cut at 60 %": lambda disk, image: lost(image, range(disk.blocks * 6 // 10, disk.blocks), False),
     "cross-linked, 3": cross_linked,
+    "crossed claims, 5": crossed_claims,
     "chain bent, 3": chain_bent,
     "chain ring, 2": chain_ring,
     "header copied, 2": header_copied,

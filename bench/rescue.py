@@ -1,9 +1,9 @@
 #!/usr/bin/env python3
 """The rescue of an image by its definition (crates/adf_rescue), over bench/survey.py.
 
-    bench/rescue.py < IMAGE      the manifest of the new volume, or the first finding; on errors the entries left out
+    bench/rescue.py [BLOCKS] < IMAGE      the manifest of the new volume, or the first finding; on errors what is left out
 
-Two surveys: of the image, opened; and, where headers are lost, of the image with these hung where they say that they belong.
+With BLOCKS the image is filled up with zeros, or cut, to so many blocks. Two surveys: of the image, opened; and, where headers are lost, of the image with these hung where they say that they belong.
 """
 
 import sys
@@ -179,29 +179,57 @@ class Node:
 
 
 class Rescue:
-    def __init__(self, image):
+    def __init__(self, image, blocks=None):
+        self.held = len(image) // 512  # the blocks that the input holds whole; what is filled up behind them is no data
+        if blocks is not None:
+            image = (image + bytes(max(0, 512 * blocks - len(image))))[: 512 * blocks]
         self.given, self.mended = opened(image)
         survey = Survey(self.given)
-        self.findings, self.refused, self.left_out = survey.findings, None, []
+        self.findings, self.refused, self.left_out, self.losses = survey.findings, None, [], []
         if not survey.nodes:
             self.refused = "block %d: %s" % self.findings[0][1:]
             return
         self.survey, self.blocks = survey, survey.blocks
         pages = -(-(self.blocks - 2) // PAGE_BITS)
         self.left = self.blocks - 2 - 1 - pages - max(0, -(-(pages - 25) // 127))
-        self.root, self.added = Node((), None, None), []
+        self.root, self.added, self.kept = Node((), None, None), [], set()
         places = self.take(survey, {survey.root: self.root})
         known = {survey.block_of(n): places.get(survey.block_of(n)) for n in range(len(survey.nodes))}
-        lost = Lost(survey)
-        self.lost = lost.lost
-        if lost.lost and self.findings:
-            self.take(Survey(lost.hung()), known)
+        self.first = Lost(survey)
+        self.lost = self.first.lost
+        surveys = [survey]
+        if self.lost and self.findings:
+            surveys.append(Survey(self.first.hung()))
+            self.take(surveys[1], known)
+        self.losses = [*self.lost_headers(surveys), *self.lost_blocks(surveys)]
         if not self.added and (self.mended or self.findings):
             self.refused = "block %d: %s" % (Survey(image).findings or self.findings)[0][1:]
 
+    def lost_headers(self, surveys):
+        """A line for each directory of the first survey in which a header was skipped that is that of no entry."""
+        found = {survey.block_of(n) for survey in surveys for n in range(1, len(survey.nodes))}
+        places = []
+        for role, at, cause in self.findings:
+            skipped = role and role[1] == "head" and surveys[0].node_of(role) is None
+            if skipped and (cause == "out of range" or at not in found) and role[2] not in places:
+                places.append(role[2])
+        return [f"lost: in {spelled(surveys[0].path(p))}/" for p in places]
+
+    def lost_blocks(self, surveys):
+        """A line for each run of blocks in use that no entry has."""
+        found = {b for survey in surveys for b, role in survey.owner.items() if role[1] in ("head", "ext", "data")}
+        runs = []
+        for _, at, cause in self.findings:
+            if cause == "lost block" and at not in found:
+                if runs and runs[-1][1] == at - 1:
+                    runs[-1][1] = at
+                else:
+                    runs.append([at, at])
+        return [f"lost: block {first}" if first == last else f"lost: blocks {first} to {last}" for first, last in runs]
+
     def take(self, survey, known):
         """Adds what stands of a survey; answers the places of its directories, by their blocks. Known blocks are passed by."""
-        places, first = dict(known), survey is self.survey
+        places, kept = dict(known), set()
         bad = self.not_whole(survey)
         for n in range(1, len(survey.nodes)):
             h, p = survey.block_of(n), survey.block_of(survey.nodes[n][2])
@@ -211,17 +239,35 @@ class Rescue:
             kind, parent = survey.word(h, 127), places[p]
             if kind == DIR:
                 content = None
-            elif kind == FILE and n not in bad and (first or self.content(survey, n, survey.image) == self.content(survey, n, self.given)):
-                content = self.content(survey, n, survey.image)
+            elif kind == FILE and n not in bad and all(self.is_given(survey, b) for b in self.data_blocks(survey, n)):
+                content = self.content(survey, n)
             else:
                 self.left_out.append(("link" if kind in LINKS else "damaged", survey.path(n)))
                 continue
             node = parent and self.add(survey, h, parent, content)
             if node is None:
                 self.left_out.append(("no room", survey.path(n)))
-            elif kind == DIR:
+                continue
+            kept |= self.parts(survey, n)
+            if kind == DIR:
                 places[h] = node
+        self.kept |= kept
         return places
+
+    def is_given(self, survey, b):
+        """A data block is held. Of a second survey it is also the same in the image that is rescued; and there it is of no entry that
+        is kept, and not free by the bitmap."""
+        if b >= self.held or survey is self.survey:
+            return b < self.held
+        place = slice(512 * b, 512 * b + 512)
+        return self.given[place] == survey.image[place] and b not in self.kept and not self.first.is_free(b)
+
+    def parts(self, survey, n):
+        """The blocks of an entry."""
+        return {b for b, role in survey.owner.items() if role == survey.nodes[n] or role[1] in ("ext", "data") and role[2] == n}
+
+    def data_blocks(self, survey, n):
+        return [survey.walk[n + 1, 1, k + 1] for k in range(survey.data_count(n))]
 
     def not_whole(self, survey):
         """The files that a finding concerns which is not harmless, or whose FFS blocks other words name too."""
@@ -235,11 +281,11 @@ class Rescue:
             bad |= {role[2] for b, role in survey.owner.items() if role[1] == "data" and survey.names[b] > 1}
         return bad
 
-    def content(self, survey, n, image):
+    def content(self, survey, n):
         left, out = survey.size(n), []
-        for k in range(survey.data_count(n)):
-            start = 512 * survey.walk[n + 1, 1, k + 1] + survey.offset
-            out.append(image[start : start + min(left, survey.chunk)])
+        for b in self.data_blocks(survey, n):
+            start = 512 * b + survey.offset
+            out.append(survey.image[start : start + min(left, survey.chunk)])
             left -= survey.chunk
         return b"".join(out)
 
@@ -278,7 +324,7 @@ class Rescue:
         return "\n".join(lines) + "\n"
 
     def lines(self):
-        return [f"{why}: {spelled(path)}" for why, path in self.left_out]
+        return [*(f"{why}: {spelled(path)}" for why, path in self.left_out), *self.losses]
 
 
 def escaped(text):
@@ -286,11 +332,11 @@ def escaped(text):
 
 
 def main():
-    if len(sys.argv) > 1:
+    if len(sys.argv) > 2 or not all(word.isdecimal() for word in sys.argv[1:]):
         sys.exit(__doc__)
-    got = Rescue(sys.stdin.buffer.read())
-    sys.stderr.write("".join(line + "\n" for line in got.lines()))
-    sys.stdout.write(got.refused + "\n" if got.refused else got.manifest())
+    got = Rescue(sys.stdin.buffer.read(), *map(int, sys.argv[1:]))
+    sys.stderr.write("".join(line + "\n" for line in ([got.refused] if got.refused else []) + got.lines()))
+    sys.stdout.write("" if got.refused else got.manifest())
 
 
 if __name__ == "__main__":

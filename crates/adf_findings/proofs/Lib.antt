@@ -9,7 +9,7 @@ pub mod OneSurvey
 pub mod SomeSurvey
 -- the blocks of files
 mod FileBlocks
-mod SoundFiles
+pub mod SoundFiles
 -- look-up of paths
 pub mod Lookups
 mod EntryPaths

@@ -2,6 +2,10 @@
 pub mod TreeBlocks
 -- the state after one more verdict
 pub mod Steps
+-- the losses of one more finding
+pub mod LossSteps
+-- data blocks that were given
+pub mod GivenBlocks
 -- the tree of the additions
 pub mod RescuedTrees
 -- sound files stand, and one survey has one rescue

@@ -13,9 +13,8 @@ use Rattle.adf_tree.specs.Tree.{Tree, room_for, with_entry}
 use Rattle.adf_tree.proofs.TreeOfAdditions.{grown, nothing_added}
 use Rattle.adf_blocks.specs.Sizes.{blocks}
 use Rattle.adf_volume.specs.Walk.{heads, node_block}
-use Rattle.adf_findings.specs.Found.{owner}
 use Rattle.adf_rescue.specs.declared.left_out.Why.{Why, TheVariants.NoRoom}
-use Rattle.adf_rescue.specs.Rescue.{Ground, Basis, Verdict, addition_of, additions_of, as_given, at_path, before_first, before_second, by_body, lost_name}
+use Rattle.adf_rescue.specs.Rescue.{Ground, Basis, Verdict, addition_of, additions_of, at_path, before_first, before_second, by_body, entry_at, lost_name}
 use Rattle.adf_rescue.specs.Rescue.{path_by, path_in, rescued_additions, rescued_tree, tree_of, unless_known, verdict, verdict_anew, verdicts}
 use Rattle.adf_rescue.specs.Rescue.Verdict.{adds, knows, leaves}
 use Rattle.adf_rescue.proofs.Steps.{additions_more, tree_more}
@@ -64,7 +63,7 @@ room_unless g (Some m) v t x room is = absurd cc
 room_of_verdict : (g : Ground) (l : Basis) (vs : List Verdict) (n : ℕ) (x : Addition) → verdict g l vs n ≡ adds x
     → IsOk (room_for (tree_of g vs).entries x.path)
 room_of_verdict g l vs n x is =
-    room_unless g (owner g.walk (node_block l.walk n)) (verdict_anew g l vs n) (tree_of g vs) x
+    room_unless g (entry_at g.walk (node_block l.walk n)) (verdict_anew g l vs n) (tree_of g vs) x
     (room_of_body l.image (blocks g.given) (tree_of g vs) _ _ _) is
 
 -- one more verdict
@@ -99,7 +98,8 @@ tree_of_verdicts g l (suc k) h =
     let vs : List Verdict = verdicts g l k in
     grown_by g vs (verdict g l vs (suc k)) (tree_of_verdicts g l k h) (room_of_verdict g l vs (suc k))
 
-pub tree_of_rescue : (a : Basis) (b : Option Basis) → IsTreeOf (rescued_tree a b).entries (rescued_additions a b)
-tree_of_rescue a None = nothing_yet (before_second a) (tree_of_verdicts (before_first a.image) a (heads a.walk) nothing_added)
-tree_of_rescue a (Some b) =
-    tree_of_verdicts (before_second a) (as_given a.image b) (heads b.walk) (tree_of_verdicts (before_first a.image) a (heads a.walk) nothing_added)
+pub tree_of_rescue : (held : ℕ) (a : Basis) (b : Option Basis) → IsTreeOf (rescued_tree held a b).entries (rescued_additions held a b)
+tree_of_rescue held a None =
+    nothing_yet (before_second held a) (tree_of_verdicts (before_first held a.image) a (heads a.walk) nothing_added)
+tree_of_rescue held a (Some b) =
+    tree_of_verdicts (before_second held a) b (heads b.walk) (tree_of_verdicts (before_first held a.image) a (heads a.walk) nothing_added)

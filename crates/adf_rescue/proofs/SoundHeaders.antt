@@ -1,6 +1,6 @@
 -- The entries of a survey without findings: what their headers tell is what the tree of the walk has.
 -- Letters: w the walk of the survey, fs its findings; sound the marks; n a node, i its index; b the block of its header; bs a block's bytes.
-use Rattle.std.proofs.Common.{◌≡◌, ◌⊎◌, ℕ, suc, List, [], inl, inr, ◌<◌, ◌≤◌, length, take, refl, arith, rules, Bool, true, cond, Result, Ok, Err}
+use Rattle.std.proofs.Common.{◌≡◌, ◌⊎◌, ◌∙◌, ℕ, suc, List, [], inl, inr, ◌<◌, ◌≤◌, length, take, refl, arith, rules, Bool, true, false, cond, Result, Ok, Err}
 use Rattle.std.proofs.Common.{nat_le, slice_index}
 use Rattle.std.proofs.lemmas.Bool.{and_from, and_parts, and_right, eq-eqb, leb-true, ne_eqb}
 use Rattle.std.proofs.lemmas.List.{length-take, take_all}
@@ -15,23 +15,28 @@ use Rattle.adf_blocks.specs.declared.layout.TheConstants.{COMMENT, DATE, NAME, P
 use Rattle.adf_blocks.specs.Forms.{stamp_at, text_at}
 use Rattle.adf_blocks.specs.HeadBlock.{head_form, is_link, meta_stated}
 use Rattle.adf_blocks.specs.RootBlock.{label_stated, root_form}
+use Rattle.adf_blocks.specs.Sizes.{blocks}
 use Rattle.adf_volume.specs.Demands.{AllHold, head_demands, root_demands}
 use Rattle.adf_volume.specs.Image.{kind_of, meta_of, name_of, root_of, word_in}
 use Rattle.adf_volume.specs.Lists.{At}
-use Rattle.adf_volume.specs.Made.{body_in, entries_in, entry_in}
+use Rattle.adf_volume.specs.Made.{body_in, datas_in, entries_in, entry_in}
 use Rattle.adf_volume.specs.Walk.{HeadAt, IsWalk, Role, heads, node_block}
 use Rattle.adf_volume.proofs.FormDemands.{demanded, dir_not_file, head_type}
 use Rattle.adf_volume.proofs.MemberFacts.{kept}
 use Rattle.adf_volume.proofs.Roles.{head_role}
 use Rattle.adf_volume.proofs.WalkMembers.{entry_has}
+use Rattle.adf_findings.specs.Files.{file_in}
 use Rattle.adf_findings.specs.Found.{parent_node}
+use Rattle.adf_findings.specs.Sound.{IsSound}
 use Rattle.adf_findings.specs.SoundMarks.{AreMarks}
 use Rattle.adf_findings.specs.Survey.{FindingValue, IsSurvey}
 use Rattle.adf_findings.proofs.AllSound.{all_sound}
 use Rattle.adf_findings.proofs.Keeping.{parent_is}
 use Rattle.adf_findings.proofs.Lookups.{header_at}
+use Rattle.adf_findings.proofs.SoundFiles.{file_told}
 use Rattle.adf_rescue.specs.declared.left_out.Why.{Why, TheVariants.Damaged, TheVariants.Link}
-use Rattle.adf_rescue.specs.Rescue.{Basis, body_of, body_of_type}
+use Rattle.adf_rescue.specs.Rescue.{Basis, are_given, as_given, before_first, body_of, body_of_type}
+use Rattle.adf_rescue.proofs.GivenBlocks.{all_held, first_given_all}
 
 -- texts within their fields are told whole
 
@@ -72,29 +77,41 @@ by_type secondary x = cond x (Ok Dir) (Err (cond (is_link secondary) Link Damage
 abbrev dir_or : Body → Bool → Result Body Why
 dir_or file x = Ok (cond x Dir file)
 
-body_stands : (l : Basis) (n : ℕ) → l.sound n ≡ true
+body_stands : (l : Basis) (n : ℕ)
     → (word_in l.image (node_block l.walk n) SECONDARY_TYPE ≡ ST_DIR) ⊎ (word_in l.image (node_block l.walk n) SECONDARY_TYPE ≡ ST_FILE)
+    → (word_in l.image (node_block l.walk n) SECONDARY_TYPE ≡ ST_FILE → l.sound n ≡ true)
     → body_of l n ≡ Ok (body_in l.image l.walk n (node_block l.walk n))
-body_stands l n s (inl dir) = grind (arith, common_steps, eq-eqb, ne_eqb, dir_not_file, file_or, and_right, by_type, dir_or)
-body_stands l n s (inr one) = grind (arith, common_steps, eq-eqb, ne_eqb, dir_not_file, file_or, and_from, dir_or)
+body_stands l n (inl dir) s = grind (arith, common_steps, eq-eqb, ne_eqb, dir_not_file, file_or, and_right, by_type, dir_or)
+body_stands l n (inr one) s = let is = s one in grind (arith, common_steps, eq-eqb, ne_eqb, dir_not_file, file_or, and_from, dir_or)
+
+-- each data block of a sound file is held, where the image is
+file_given : (held : ℕ) (image : List ℕ) (w : List (Role × ℕ)) (fs : List FindingValue) (n : ℕ) → blocks image ≤ held → IsSurvey image w fs
+    → IsSound image w fs n (node_block w n) → word_in image (node_block w n) SECONDARY_TYPE ≡ ST_FILE
+    → are_given (before_first held image) image (datas_in w n) ≡ true
+file_given held image w fs n le survey is type =
+    let has = (file_told image w fs false n survey is type).1 in
+    first_given_all held (file_in image w n) has ∙ all_held held (blocks image) (datas_in w n) le has.inside
 
 -- what a survey tells of node n is this entry
-pub record IsToldAs (a : Basis) (n : ℕ) (e : Entry) : Type 0 where
+pub record IsToldAs (held : ℕ) (a : Basis) (n : ℕ) (e : Entry) : Type 0 where
   pub parent : parent_node a.walk n ≡ e.parent
   pub name : name_of a.image (node_block a.walk n) ≡ e.name
   pub valid : is_name e.name ≡ true
   pub meta : meta_stated (block a.image (node_block a.walk n)) ≡ e.meta
-  pub body : body_of a n ≡ Ok e.body
+  pub body : body_of (as_given (before_first held a.image) a) n ≡ Ok e.body
 
-pub told : (image : List ℕ) (w : List (Role × ℕ)) (fs : List FindingValue) (sound : ℕ → Bool) → IsSurvey image w fs → fs ≡ []
+pub told : (held : ℕ) (image : List ℕ) (w : List (Role × ℕ)) (fs : List FindingValue) (sound : ℕ → Bool) → blocks image ≤ held
+    → IsSurvey image w fs → fs ≡ []
     → AreMarks image w fs sound → IsWalk image w → (i : ℕ) → i < heads w
-    → (e : Entry) × At (entries_in image w w) i e × IsToldAs (record { image = image; walk = w; sound = sound }) (suc i) e
-told image w fs sound survey clean marks v i lt =
+    → (e : Entry) × At (entries_in image w w) i e × IsToldAs held (record { image = image; walk = w; sound = sound }) (suc i) e
+told held image w fs sound le survey clean marks v i lt =
     let b : ℕ = node_block w (suc i) in
     let h : HeadAt w (suc i) b = header_at image w fs survey (suc i) (omega arith) (omega arith) in
     let up = (kept image v (head_role h) b h.has).2 in
     let form : AllHold (head_demands image (kind_of image) b up.0 h.slot) = up.2 in
-    let is : sound (suc i) ≡ true = (marks (suc i)).1 (all_sound image w fs (suc i) b survey clean h) in (
+    let whole = all_sound image w fs (suc i) b survey clean h in
+    let is : sound (suc i) ≡ true = (marks (suc i)).1 whole in
+    let a : Basis = record { image = image; walk = w; sound = sound } in (
       entry_in image w (suc i) h.parent b,
       entry_has image w v h,
       record {
@@ -102,6 +119,7 @@ told image w fs sound survey clean marks v i lt =
         name = refl;
         valid = name_valid image (kind_of image) b up.0 h.slot form;
         meta = meta_whole image (kind_of image) b up.0 h.slot form;
-        body = body_stands (record { image = image; walk = w; sound = sound }) (suc i) is (head_type image (kind_of image) b up.0 h.slot form);
+        body = body_stands (as_given (before_first held image) a) (suc i) (head_type image (kind_of image) b up.0 h.slot form)
+            (λ type. and_from (sound (suc i)) _ is (file_given held image w fs (suc i) le survey whole type));
       },
     )

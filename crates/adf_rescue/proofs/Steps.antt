@@ -4,7 +4,7 @@ use Rattle.std.proofs.Common.{length, get_or, arith, refl, sym, ◌∙◌, ap, s
 use Rattle.std.proofs.lemmas.Bool.{cases_lt, eqb-true, le-leb, lt-leb}
 use Rattle.std.proofs.lemmas.List.Sums.{fold_push}
 use Rattle.std.proofs.lemmas.Grind.{flat_map-append, common_steps}
-use Rattle.std.proofs.lemmas.List.{append-nil, append_assoc, get_or_append_left, get_or_past, get_or_push, length_push, nil_from_length}
+use Rattle.std.proofs.lemmas.List.{map-append, append-nil, append_assoc, get_or_append_left, get_or_past, get_or_push, length_push, nil_from_length}
 use Rattle.std.proofs.lemmas.Option.{slice_get_past}
 use Rattle.adf_tree.specs.Additions.{Addition, with_addition}
 use Rattle.adf_drafts.specs.declared.draft.Room.{Room}
@@ -24,14 +24,14 @@ use Rattle.adf_findings.specs.Survey.UnreadTells.{bad_boot, bad_root}
 use Rattle.adf_volume.specs.Image.{name_of}
 use Rattle.adf_volume.proofs.Lists.{get_before}
 use Rattle.adf_volume.specs.Walk.{Role, heads, node_block}
-use Rattle.adf_findings.specs.Found.{owner, parent_node}
+use Rattle.adf_findings.specs.Found.{parent_node}
 use Rattle.adf_findings.proofs.OneSurvey.{gathered}
 use Rattle.adf_findings.proofs.Openings.{some_part}
 use Rattle.adf_build.specs.Plan.{blocks_needed, entries_blocks, reserved}
 use Rattle.adf_rescue.specs.declared.left_out.Why.{Why, TheVariants.NoRoom}
 use Rattle.adf_rescue.specs.declared.salvage.Salvage.{Salvage}
-use Rattle.adf_rescue.specs.Rescue.{Ground, IsSecond, Basis, OnBasis, Verdict, addition_of, additions_of, at_path, body_of, by_body, directory_in, fitting}
-use Rattle.adf_rescue.specs.Rescue.{left_out_by, left_out_from, path_by, path_for, place_of, tree_of, unless_known, verdict, verdict_anew, verdicts}
+use Rattle.adf_rescue.specs.Rescue.{Ground, IsSecond, Basis, OnBasis, Verdict, added_marks, addition_of, additions_of, as_given, at_path, before_second, body_of, by_body, directory_in}
+use Rattle.adf_rescue.specs.Rescue.{entry_at, fitting, is_added, left_out_by, left_out_from, path_by, path_for, place_of, tree_of, unless_known, verdict, verdict_anew, verdicts}
 use Rattle.adf_rescue.specs.Rescue.Verdict.{adds, leaves}
 use Rattle.adf_rescue.specs.Salvage.{IsNext, IsPlace, IsRoomOf, IsSalvage, entry_cost, free_blocks}
 use Rattle.adf_rescue.proofs.TreeBlocks.{added_blocks}
@@ -41,6 +41,9 @@ use Rattle.adf_tree.proofs.Lists.{get_last}
 
 pub additions_more : (vs : List Verdict) (v : Verdict) → additions_of (vs ++ v ∷ []) ≡ additions_of vs ++ addition_of v
 additions_more vs v = simp (flat_map-append, append-nil)
+
+pub marks_more : (vs : List Verdict) (v : Verdict) → added_marks (vs ++ v ∷ []) ≡ added_marks vs ++ is_added v ∷ []
+marks_more vs v = ap (λ bs. false ∷ bs) (map-append is_added vs (v ∷ []))
 
 pub left_out_more : (n : ℕ) (vs : List Verdict) (v : Verdict) → left_out_from n (vs ++ v ∷ []) ≡ left_out_from n vs ++ left_out_by (length vs + n) v
 left_out_more n [] v = let at : n ≡ 0 + n = omega arith in rw (append-nil (left_out_by n v)) (ap (λ k. left_out_by k v) at)
@@ -95,14 +98,14 @@ room_in_place d t None m name own b h r tree place e1 e2 found = absurd place
 room_in_place d t (Some dir) m name own b h r tree place e1 e2 found = rw (← tree, ← e1, ← e2) (found dir place)
 
 -- the verdict on an entry that is not known and stands, by its path
-module _ (g : Ground) (l : Basis) (vs : List Verdict) (n : ℕ) (new : owner g.walk (node_block l.walk n) ≡ None) where
+module _ (g : Ground) (l : Basis) (vs : List Verdict) (n : ℕ) (new : entry_at g.walk (node_block l.walk n) ≡ None) where
   pub anew : verdict g l vs n ≡ verdict_anew g l vs n
   anew = ap (λ o. unless_known g o (verdict_anew g l vs n)) new
 
-  pub verdict_err : (why : Why) → body_of l n ≡ Err why → verdict g l vs n ≡ leaves why
+  pub verdict_err : (why : Why) → body_of (as_given g l) n ≡ Err why → verdict g l vs n ≡ leaves why
   verdict_err why falls = grind (arith, common_steps, anew)
 
-  module _ (body : Body) (stands : body_of l n ≡ Ok body) where
+  module _ (body : Body) (stands : body_of (as_given g l) n ≡ Ok body) where
     abbrev path_of_entry : Option (List (List ℕ))
     path_of_entry = path_by (tree_of g vs) (place_of vs (parent_node l.walk n)) (name_of l.image (node_block l.walk n)) (node_block l.walk n)
 
@@ -125,12 +128,13 @@ new_place d path meta (File bytes) m place is dir = rw is tt
 
 -- an entry adds nothing
 pub none_more : (g : Ground) (vs : List Verdict) (r s : Salvage) (n : ℕ) (v : Verdict) (place : Option ℕ) → IsSalvage g vs r → n ≡ length vs + 1
-    → addition_of v ≡ [] → IsPlace r.draft (directory_in v) place
-    → s.draft ≡ r.draft → s.kind ≡ r.kind → s.known ≡ r.known → s.left ≡ r.left → s.left_before ≡ r.left_before
-    → s.places.items ≡ r.places.items ++ place ∷ [] → s.left_out.items ≡ r.left_out.items ++ left_out_by n v
+    → addition_of v ≡ [] → is_added v ≡ false → IsPlace r.draft (directory_in v) place
+    → s.draft ≡ r.draft → s.kind ≡ r.kind → s.held ≡ r.held → s.known ≡ r.known → s.kept ≡ r.kept → s.left ≡ r.left
+    → s.left_before ≡ r.left_before → s.places.items ≡ r.places.items ++ place ∷ [] → s.added.items ≡ r.added.items ++ false ∷ []
+    → s.left_out.items ≡ r.left_out.items ++ left_out_by n v
     → IsSalvage g (vs ++ v ∷ []) s
-none_more g vs r s n v place is at none new d k kn l before ps out =
-    grind (arith, common_steps, before, additions_more, append-nil, length_push, places_more, left_out_more)
+none_more g vs r s n v place is at none unmarked new d k hd kn kp l before ps ad out =
+    grind (arith, common_steps, before, additions_more, marks_more, append-nil, length_push, places_more, left_out_more)
 
 -- an addition
 
@@ -183,15 +187,19 @@ module _ (g : Ground) (vs : List Verdict) (r : Salvage) (x : Addition) (is : IsS
         → s.draft.tree ≡ with_entry r.draft.tree x.path x.meta x.body → length s.draft.nodes ≡ length r.draft.nodes + 1
         → ((dir : List (List ℕ)) (m : ℕ) → IsDirectoryOf r.draft dir m → IsDirectoryOf s.draft dir m)
         → IsPlace s.draft (directory_in (adds x)) place
-        → s.kind ≡ r.kind → s.left ≡ r.left - cost → s.places.items ≡ r.places.items ++ place ∷ [] → s.left_out.items ≡ r.left_out.items
-        → s.known ≡ r.known → s.left_before ≡ r.left_before
+        → s.kind ≡ r.kind → s.held ≡ r.held → s.left ≡ r.left - cost → s.places.items ≡ r.places.items ++ place ∷ []
+        → s.added.items ≡ r.added.items ++ true ∷ [] → s.left_out.items ≡ r.left_out.items
+        → s.known ≡ r.known → s.kept ≡ r.kept → s.left_before ≡ r.left_before
         → IsSalvage g (vs ++ fitting before (blocks g.given) x ∷ []) s
-    added_more s place small le tree nodes dirs new k l ps out kn before_out =
+    added_more s place small le tree nodes dirs new k hd l ps ad out kn kp before_out =
         let v : Verdict = adds x in
         let grown : s.draft.tree ≡ behind = tree ∙ ap (λ (t : Tree). with_entry t x.path x.meta x.body) is.tree in
         rw (fits small le) (record {
           tree = grown ∙ sym (tree_more g vs x);
           kind = k ∙ is.kind;
+          held = hd ∙ is.held;
+          kept = ap (λ m. m.items) kp ∙ is.kept;
+          added = ad ∙ (ap (λ bs. bs ++ true ∷ []) is.added ∙ sym (marks_more vs v));
           count = rw ps (omega (arith, is.count, length_push r.places.items place, length_push vs v));
           nodes = rw (nodes, is.nodes, additions_more vs v)
               (omega (
@@ -243,6 +251,10 @@ unread_fault image w fs (read course done bits) e = absurd (some_part image _ (g
 pub none_added : (g : Ground) (vs : List Verdict) (r : Salvage) → IsSalvage g vs r → length r.draft.nodes ≡ 0
     → additions_of g.verdicts ++ additions_of vs ≡ []
 none_added g vs r is none = nil_from_length (additions_of g.verdicts ++ additions_of vs) (sym is.nodes ∙ none)
+
+-- the state before a second survey has its number of blocks that are held
+pub own_held : (held : ℕ) (a : Basis) (r : Salvage) → IsSalvage (before_second held a) [] r → IsSalvage (before_second r.held a) [] r
+own_held held a r is = subst (λ h. IsSalvage (before_second h a) [] r) (sym is.held) is
 
 -- the tree of the additions fits
 pub buildable : (t : Tree) (left n m : ℕ) → m ≡ n → is_allowed m ≡ true → 1 + reserved m ≤ m - 2

@@ -126,23 +126,24 @@ enough : (t : Tree) (n : ℕ) (x : Addition) → blocks_needed (with_entry t x.p
 enough t n x le = grind (arith, common_steps, le-leb)
 
 -- the tree of the first entries
-abbrev tree_so_far : Basis → List Verdict → Tree
-tree_so_far a vs = tree_of (before_first a.image) vs
+abbrev tree_so_far : ℕ → Basis → List Verdict → Tree
+tree_so_far held a vs = tree_of (before_first held a.image) vs
 
-module _ (a : Basis) (vs : List Verdict) (n : ℕ) (e : Entry) (is : IsToldAs a n e) (dir : List (List ℕ)) (at : place_of vs e.parent ≡ Some dir) where
-  entry_path : room_for (tree_so_far a vs).entries (dir ++ e.name ∷ []) ≡ Ok e.parent
-      → path_by (tree_so_far a vs) (place_of vs (parent_node a.walk n)) (name_of a.image (node_block a.walk n)) (node_block a.walk n)
+module _ (held : ℕ) (a : Basis) (vs : List Verdict) (n : ℕ) (e : Entry) (is : IsToldAs held a n e) (dir : List (List ℕ)) (at : place_of vs e.parent ≡ Some dir) where
+  entry_path : room_for (tree_so_far held a vs).entries (dir ++ e.name ∷ []) ≡ Ok e.parent
+      → path_by (tree_so_far held a vs) (place_of vs (parent_node a.walk n)) (name_of a.image (node_block a.walk n)) (node_block a.walk n)
       ≡ Some (dir ++ e.name ∷ [])
   entry_path room = grind (arith, common_steps, tree_so_far, own_path)
 
-  entry_stands : room_for (tree_so_far a vs).entries (dir ++ e.name ∷ []) ≡ Ok e.parent
-      → blocks_needed (with_entry (tree_so_far a vs) (dir ++ e.name ∷ []) e.meta e.body) (blocks a.image) ≤ blocks a.image - 2
-      → verdict (before_first a.image) a vs n ≡ adds (addition dir e)
+  entry_stands : room_for (tree_so_far held a vs).entries (dir ++ e.name ∷ []) ≡ Ok e.parent
+      → blocks_needed (with_entry (tree_so_far held a vs) (dir ++ e.name ∷ []) e.meta e.body) (blocks a.image) ≤ blocks a.image - 2
+      → verdict (before_first held a.image) a vs n ≡ adds (addition dir e)
   entry_stands room le = grind (arith, common_steps, verdict_at, entry_path, enough, tree_so_far, addition)
 
 -- so all entries of a tree that fits are added
 
-module _ (image : List ℕ) (w : List (Role × ℕ)) (fs : List FindingValue) (sound : ℕ → Bool) (survey : IsSurvey image w fs) (clean : fs ≡ [])
+module _ (held : ℕ) (image : List ℕ) (w : List (Role × ℕ)) (fs : List FindingValue) (sound : ℕ → Bool) (le : blocks image ≤ held)
+    (survey : IsSurvey image w fs) (clean : fs ≡ [])
     (marks : AreMarks image w fs sound) (v : IsWalk image w) (fit : Fits image (tree_in image w) (layout_in w)) where
   abbrev all : List Entry
   all = entries_in image w w
@@ -159,9 +160,9 @@ module _ (image : List ℕ) (w : List (Role × ℕ)) (fs : List FindingValue) (s
       omega arith
 
   next_front : (k : ℕ) (vs : List Verdict) → k < heads w → IsFront all k vs
-      → IsFront all (suc k) (vs ++ verdict (before_first image) basis vs (suc k) ∷ [])
+      → IsFront all (suc k) (vs ++ verdict (before_first held image) basis vs (suc k) ∷ [])
   next_front k vs lt f =
-      let x = told image w fs sound survey clean marks v k lt in
+      let x = told held image w fs sound le survey clean marks v k lt in
       let e : Entry = x.0 in
       let within : k < length all = omega (arith, entries_length image w w) in
       let here : get_or all k e ≡ e = at_index_or all k e e x.1 in
@@ -177,13 +178,13 @@ module _ (image : List ℕ) (w : List (Role × ℕ)) (fs : List FindingValue) (s
       let fits : 1 + reserved (blocks image) + entries_blocks (kind_of image) (with_addition before (addition dir e)) ≤ blocks image - 2 =
       subst (λ (us : List Entry). 1 + reserved (blocks image) + entries_blocks (kind_of image) us ≤ blocks image - 2)
       (sym added_one) (front_room (k + 1)) in
-      let is = entry_stands basis vs (suc k) e x.2 dir place.1 room fits in
-      subst (λ m. IsFront all m (vs ++ verdict (before_first image) basis vs (suc k) ∷ [])) (add-one k)
+      let is = entry_stands held basis vs (suc k) e x.2 dir place.1 room fits in
+      subst (λ m. IsFront all m (vs ++ verdict (before_first held image) basis vs (suc k) ∷ [])) (add-one k)
       (subst (λ (u : Verdict). IsFront all (k + 1) (vs ++ u ∷ [])) (sym is) (front_more all k vs e fit.tree within here f dir place.2))
 
-  front : (k : ℕ) → k ≤ heads w → IsFront all k (verdicts (before_first image) basis k)
+  front : (k : ℕ) → k ≤ heads w → IsFront all k (verdicts (before_first held image) basis k)
   front zero le = nothing_yet all
-  front (suc k) le = next_front k (verdicts (before_first image) basis k) (omega arith) (front k (omega arith))
+  front (suc k) le = next_front k (verdicts (before_first held image) basis k) (omega arith) (front k (omega arith))
 
 -- the tree of the additions is that of the walk
 same_tree : (image : List ℕ) (w : List (Role × ℕ)) (g : Ground) (vs : List Verdict) → g.given ≡ image → AllHold (root_demands image (root_of image))
@@ -191,8 +192,8 @@ same_tree : (image : List ℕ) (w : List (Role × ℕ)) (g : Ground) (vs : List 
 unfolding stamps_of
 same_tree image w g vs given root same = grind (arith, common_steps, label_whole)
 
-module _ (image : List ℕ) (t : Tree) (l : Layout) (w : List (Role × ℕ)) (fs : List FindingValue) (sound : ℕ → Bool) (fit : Fits image t l)
-    (survey : IsSurvey image w fs) (marks : AreMarks image w (grave fs) sound) where
+module _ (held : ℕ) (image : List ℕ) (t : Tree) (l : Layout) (w : List (Role × ℕ)) (fs : List FindingValue) (sound : ℕ → Bool)
+    (le : blocks image ≤ held) (fit : Fits image t l) (survey : IsSurvey image w fs) (marks : AreMarks image w (grave fs) sound) where
   abbrev whole_basis : Basis
   whole_basis = record { image = image; walk = w; sound = sound }
 
@@ -209,17 +210,17 @@ module _ (image : List ℕ) (t : Tree) (l : Layout) (w : List (Role × ℕ)) (fs
   made : Fits image (tree_in image w) (layout_in w)
   made = none_found image w unreported
 
-  whole : IsFront (entries_in image w w) (heads w) (first_verdicts whole_basis)
-  whole = front image w fs sound survey clean all_marks (shown image unreported).1 made (heads w) (omega arith)
+  whole : IsFront (entries_in image w w) (heads w) (first_verdicts held whole_basis)
+  whole = front held image w fs sound le survey clean all_marks (shown image unreported).1 made (heads w) (omega arith)
 
-  pub tree_kept : rescued_tree whole_basis None ≡ t
+  pub tree_kept : rescued_tree held whole_basis None ≡ t
   tree_kept =
-      let xs : List Addition = additions_of (first_verdicts whole_basis) in
+      let xs : List Addition = additions_of (first_verdicts held whole_basis) in
       let all : entries_of_additions (xs ++ []) ≡ entries_in image w w =
       ap entries_of_additions (append-nil xs)
       ∙ (whole.entries ∙ take_all (heads w) (entries_in image w w) (omega (arith, entries_length image w w))) in
-      same_tree image w (before_second whole_basis) [] refl made.root all
+      same_tree image w (before_second held whole_basis) [] refl made.root all
       ∙ sym (one_fit image t (tree_in image w) l (layout_in w) fit made).0
 
-  pub none_left : rescue_leaves whole_basis ≡ []
+  pub none_left : rescue_leaves held whole_basis ≡ []
   none_left = whole.none

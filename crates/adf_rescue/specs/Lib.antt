@@ -6,3 +6,4 @@ pub mod Opened
 pub mod Rescue
 -- The states of what adds entry after entry.
 pub mod Salvage
+pub mod Losses

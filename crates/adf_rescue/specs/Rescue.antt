@@ -1,11 +1,12 @@
 -- A rescue of an image: the entries of its survey that stand become additions, in the order of the walk; the others are left out.
 -- Then the entries of a second survey, of the image with what was lost hung in it again, are taken in the same way.
 -- Letters: a the survey of the image, b the second one, if there is one, l either; n the node of an entry, h the block of its header;
--- g what is taken before a survey; vs the verdicts on the entries before, t the tree with their additions; dir the path of a directory in it.
-use Rattle.std.specs.Prelude.{◌≡◌, ◌≢◌, ◌==◌, ◌&&◌, ◌⊎◌, ◌-◌, ◌+◌, ◌*◌, ℕ, Bool, true, nat_le, cond, List, [], ◌∷◌, ◌++◌, codes, decimal, length, slice_get}
-use Rattle.std.specs.Prelude.{Option, Some, None, Result, Ok, Err, is_ok}
+-- g what is taken before a survey; vs the verdicts on the entries before, t the tree with their additions; dir the path of a directory in it;
+-- held the number of blocks that the input holds whole: data behind these is made up.
+use Rattle.std.specs.Prelude.{◌≡◌, ◌≢◌, ◌==◌, ◌&&◌, ◌⊎◌, ◌-◌, ◌+◌, ◌*◌, ℕ, Bool, true, false, not, nat_le, nat_lt, cond, List, [], ◌∷◌, ◌++◌, codes, decimal}
+use Rattle.std.specs.Prelude.{length, map, slice_get, Option, Some, None, Result, Ok, Err, is_ok}
 use Rattle.std.specs.List.{flat_map}
-use Rattle.std.specs.Option.{option_and_then}
+use Rattle.std.specs.Option.{option_and_then, unwrap_or}
 use Rattle.std.specs.Str.{bytes_eq}
 use Rattle.std.proofs.Common.{zero, suc}
 use Rattle.adf_base.specs.Words.{block}
@@ -23,10 +24,12 @@ use Rattle.adf_volume.specs.Made.{datas_in}
 use Rattle.adf_volume.specs.Walk.{Role, heads, node_block}
 use Rattle.adf_findings.specs.Files.{file_content, file_in, grave}
 use Rattle.adf_findings.specs.Found.{owner, parent_node}
+use Rattle.adf_findings.specs.Marks.{has_mark}
 use Rattle.adf_findings.specs.SoundMarks.{AreMarks}
 use Rattle.adf_findings.specs.Opening.{opening_in}
 use Rattle.adf_findings.specs.Survey.{FindingValue, IsSurvey}
 use Rattle.adf_build.specs.Plan.{blocks_needed}
+use Rattle.adf_rescue.specs.Lost.{is_stated_free}
 use Rattle.adf_rescue.specs.declared.left_out.LeftOut.{LeftOut}
 use Rattle.adf_rescue.specs.declared.left_out.Why.{Why}
 use Rattle.adf_rescue.specs.declared.left_out.Why.TheVariants.{Damaged, Link, NoRoom}
@@ -66,9 +69,11 @@ pub data Verdict : Type 0 where
   leaves : (why : Why) → Verdict
   knows : (place : Option (List (List ℕ))) → Verdict
 
--- what is taken before a survey: the image that is rescued, the walk of the survey before, and the verdicts on its entries
+-- what is taken before a survey: the image that is rescued and how many blocks of it are held, the walk of the survey before, and the
+-- verdicts on its entries
 pub record Ground : Type 0 where
   pub given : List ℕ
+  pub held : ℕ
   pub walk : List (Role × ℕ)
   pub verdicts : List Verdict
 
@@ -140,19 +145,63 @@ abbrev pub by_body : List ℕ → ℕ → Tree → Option (List (List ℕ)) → 
 by_body image n t dir h (Ok body) = at_path t n (meta_stated (block image h)) body (path_by t dir (name_of image h) h)
 by_body image n t dir h (Err why) = leaves why
 
+-- both images have this block, with the same bytes
+abbrev pub is_same_block : List ℕ → List ℕ → ℕ → Bool
+is_same_block given image b = nat_le (b * 512 + 512) (length given) && (nat_le (b * 512 + 512) (length image) && bytes_eq (block given b) (block image b))
+
+-- whether the verdict adds the entry
+abbrev pub is_added : Verdict → Bool
+is_added (adds x) = true
+is_added (leaves why) = false
+is_added (knows place) = false
+
+-- the marks of the root and the entries: whether each is added
+abbrev pub added_marks : List Verdict → List Bool
+added_marks vs = false ∷ map is_added vs
+
+-- an entry that is kept from the survey before has block b
+abbrev pub is_kept : Ground → ℕ → Bool
+is_kept g b = has_mark (added_marks g.verdicts) (unwrap_or (owner g.walk b) 0)
+
+-- data block b of an image was given: it is held, and the same in the image that is rescued; and there neither an entry that is kept
+-- has it, nor does the bitmap tell that it is free
+abbrev pub is_given : Ground → List ℕ → ℕ → Bool
+is_given g image b = nat_lt b g.held && (is_same_block g.given image b && (not (is_kept g b) && not (is_stated_free g.given g.walk b)))
+
+-- so were these blocks
+abbrev pub are_given : Ground → List ℕ → List ℕ → Bool
+are_given g image [] = true
+are_given g image (b ∷ bs) = is_given g image b && are_given g image bs
+
+-- the survey, of which a file is whole only if its data blocks were given
+abbrev pub as_given : Ground → Basis → Basis
+as_given g l = record l { sound = λ n. l.sound n && are_given g l.image (datas_in l.walk n) }
+
 -- the verdict on an entry that is not known
 abbrev pub verdict_anew : Ground → Basis → List Verdict → ℕ → Verdict
 verdict_anew g l vs n =
-    by_body l.image (blocks g.given) (tree_of g vs) (place_of vs (parent_node l.walk n)) (node_block l.walk n) (body_of l n)
+    by_body l.image (blocks g.given) (tree_of g vs) (place_of vs (parent_node l.walk n)) (node_block l.walk n) (body_of (as_given g l) n)
 
--- this verdict, if no entry of the survey before has the block; else the place of the one that has it
+-- block b is the header of entry n
+abbrev pub is_header_at : List (Role × ℕ) → ℕ → ℕ → Bool
+is_header_at w b n = nat_le 1 n && (nat_le n (heads w) && (node_block w n == b))
+
+-- entry n, if it is its header
+abbrev pub entry_by : List (Role × ℕ) → ℕ → ℕ → Option ℕ
+entry_by w b n = cond (is_header_at w b n) (Some n) None
+
+-- the entry that has its header in block b
+abbrev pub entry_at : List (Role × ℕ) → ℕ → Option ℕ
+entry_at w b = option_and_then (entry_by w b) (owner w b)
+
+-- this verdict, if no entry of the survey before has its header there; else the place of the one that has
 abbrev pub unless_known : Ground → Option ℕ → Verdict → Verdict
 unless_known g None v = v
 unless_known g (Some m) v = knows (place_of g.verdicts m)
 
 -- the verdict on an entry
 abbrev pub verdict : Ground → Basis → List Verdict → ℕ → Verdict
-verdict g l vs n = unless_known g (owner g.walk (node_block l.walk n)) (verdict_anew g l vs n)
+verdict g l vs n = unless_known g (entry_at g.walk (node_block l.walk n)) (verdict_anew g l vs n)
 
 -- the verdicts on the first k entries: each by those before it
 abbrev pub verdicts : Ground → Basis → ℕ → List Verdict
@@ -160,42 +209,29 @@ verdicts g l zero = []
 verdicts g l (suc k) = let vs = verdicts g l k in vs ++ verdict g l vs (suc k) ∷ []
 
 -- nothing is taken before the survey of the image
-abbrev pub before_first : List ℕ → Ground
-before_first image = record { given = image; walk = []; verdicts = [] }
+abbrev pub before_first : (held : ℕ) → List ℕ → Ground
+before_first held image = record { given = image; held = held; walk = []; verdicts = [] }
 
 -- the verdicts on its entries
-abbrev pub first_verdicts : Basis → List Verdict
-first_verdicts a = verdicts (before_first a.image) a (heads a.walk)
+abbrev pub first_verdicts : (held : ℕ) → Basis → List Verdict
+first_verdicts held a = verdicts (before_first held a.image) a (heads a.walk)
 
 -- they are taken before the second survey
-abbrev pub before_second : Basis → Ground
-before_second a = record { given = a.image; walk = a.walk; verdicts = first_verdicts a }
-
--- both images have this block, with the same bytes
-abbrev pub is_same_block : List ℕ → List ℕ → ℕ → Bool
-is_same_block given image b = nat_le (b * 512 + 512) (length given) && (nat_le (b * 512 + 512) (length image) && bytes_eq (block given b) (block image b))
-
--- so do they these blocks
-abbrev pub are_same_blocks : List ℕ → List ℕ → List ℕ → Bool
-are_same_blocks given image [] = true
-are_same_blocks given image (b ∷ bs) = is_same_block given image b && are_same_blocks given image bs
-
--- the second survey, of which a file is whole only if its data blocks are as they were given
-abbrev pub as_given : List ℕ → Basis → Basis
-as_given given b = record b { sound = λ n. b.sound n && are_same_blocks given b.image (datas_in b.walk n) }
+abbrev pub before_second : (held : ℕ) → Basis → Ground
+before_second held a = record { given = a.image; held = held; walk = a.walk; verdicts = first_verdicts held a }
 
 -- the verdicts on the entries of the second survey
-abbrev pub second_verdicts : Basis → Option Basis → List Verdict
-second_verdicts a None = []
-second_verdicts a (Some b) = verdicts (before_second a) (as_given a.image b) (heads b.walk)
+abbrev pub second_verdicts : (held : ℕ) → Basis → Option Basis → List Verdict
+second_verdicts held a None = []
+second_verdicts held a (Some b) = verdicts (before_second held a) b (heads b.walk)
 
 -- the additions of a rescue
-abbrev pub rescued_additions : Basis → Option Basis → List Addition
-rescued_additions a b = additions_of (first_verdicts a) ++ additions_of (second_verdicts a b)
+abbrev pub rescued_additions : (held : ℕ) → Basis → Option Basis → List Addition
+rescued_additions held a b = additions_of (first_verdicts held a) ++ additions_of (second_verdicts held a b)
 
 -- the tree of the new volume
-abbrev pub rescued_tree : Basis → Option Basis → Tree
-rescued_tree a b = tree_of (before_second a) (second_verdicts a b)
+abbrev pub rescued_tree : (held : ℕ) → Basis → Option Basis → Tree
+rescued_tree held a b = tree_of (before_second held a) (second_verdicts held a b)
 
 -- entry n, if the verdict leaves it out
 abbrev pub left_out_by : ℕ → Verdict → List LeftOut
@@ -209,17 +245,17 @@ left_out_from n [] = []
 left_out_from n (v ∷ vs) = left_out_by n v ++ left_out_from (suc n) vs
 
 -- the entries of the survey of the image that the rescue leaves out
-abbrev pub rescue_leaves : Basis → List LeftOut
-rescue_leaves a = left_out_from 1 (first_verdicts a)
+abbrev pub rescue_leaves : (held : ℕ) → Basis → List LeftOut
+rescue_leaves held a = left_out_from 1 (first_verdicts held a)
 
 -- the entries of the second survey that it leaves out
-abbrev pub second_leaves : Basis → Option Basis → List LeftOut
-second_leaves a b = left_out_from 1 (second_verdicts a b)
+abbrev pub second_leaves : (held : ℕ) → Basis → Option Basis → List LeftOut
+second_leaves held a b = left_out_from 1 (second_verdicts held a b)
 
 -- the image was mended, or there is a finding
 abbrev pub HasFault : Bool → List FindingValue → Type 0
 HasFault mended fs = (mended ≡ true) ⊎ (fs ≢ [])
 
--- there is a fault, and nothing of the image is surveyed, or no entry stands
-abbrev pub StandsNothing : Basis → Option Basis → List FindingValue → Bool → Type 0
-StandsNothing a b fs mended = HasFault mended fs × ((a.walk ≡ []) ⊎ (rescued_additions a b ≡ []))
+-- there is a fault, and no entry stands
+abbrev pub StandsNothing : (held : ℕ) → Basis → Option Basis → List FindingValue → Bool → Type 0
+StandsNothing held a b fs mended = HasFault mended fs × (rescued_additions held a b ≡ [])

@@ -1,7 +1,7 @@
 -- The state of a rescue.
 -- Letters: d the draft of the tree so far; r the state; g what is taken before the survey, vs the verdicts on its entries so far;
 -- m the number of an addition in the draft, or a node of the survey before.
-use Rattle.std.specs.Prelude.{◌≡◌, ◌≤◌, ◌+◌, ◌-◌, ◌++◌, ℕ, List, Option, Some, None, length, slice_index_or}
+use Rattle.std.specs.Prelude.{◌≡◌, ◌≤◌, ◌+◌, ◌-◌, ◌++◌, ◌∷◌, ◌&&◌, ℕ, Bool, true, nat_lt, List, [], Option, Some, None, length, slice_index_or}
 use Rattle.adf_drafts.specs.declared.draft.Room.{Room}
 use Rattle.adf_tree.specs.declared.entry.Body.{Body}
 use Rattle.adf_names.specs.declared.kind.Kind.{Kind}
@@ -12,7 +12,7 @@ use Rattle.adf_volume.specs.Walk.{Role, heads}
 use Rattle.adf_findings.specs.Survey.{FindingValue, IsSurvey}
 use Rattle.adf_build.specs.Plan.{data_blocks, entries_blocks, exts_needed, reserved}
 use Rattle.adf_rescue.specs.declared.salvage.Salvage.{Salvage}
-use Rattle.adf_rescue.specs.Rescue.{Ground, Verdict, additions_of, left_out_from, place_of, tree_of}
+use Rattle.adf_rescue.specs.Rescue.{Ground, Verdict, added_marks, additions_of, left_out_from, place_of, tree_of}
 
 -- a room is that of a path; there is none without a path
 abbrev pub IsRoomOf : DraftValue → Option (List (List ℕ)) → Option Room → Type 0
@@ -34,14 +34,22 @@ free_blocks n = n - 2 - (1 + reserved n)
 abbrev pub entry_cost : Kind → Body → ℕ
 entry_cost kind body = 1 + exts_needed (data_blocks kind body) + data_blocks kind body
 
+-- these blocks are held: the input has them whole
+abbrev pub are_held : (held : ℕ) → List ℕ → Bool
+are_held held [] = true
+are_held held (b ∷ bs) = nat_lt b held && are_held held bs
+
 -- the state after these verdicts
 pub record IsSalvage (g : Ground) (vs : List Verdict) (r : Salvage) : Type 0 where
   pub tree : r.draft.tree ≡ tree_of g vs
   pub kind : r.kind ≡ kind_of g.given
+  pub held : r.held ≡ g.held
   pub count : length r.places.items ≡ length vs + 1
   pub nodes : length r.draft.nodes ≡ length (additions_of g.verdicts ++ additions_of vs)
   pub known : (m : ℕ) → IsPlace r.draft (place_of g.verdicts m) (slice_index_or r.known.items m None)
   pub places : (p : ℕ) → IsPlace r.draft (place_of vs p) (slice_index_or r.places.items p None)
+  pub kept : r.kept.items ≡ added_marks g.verdicts
+  pub added : r.added.items ≡ added_marks vs
   pub left : r.left + entries_blocks r.draft.tree.kind r.draft.tree.entries ≡ free_blocks (blocks g.given)
   pub left_before : r.left_before.items ≡ left_out_from 1 g.verdicts
   pub left_out : r.left_out.items ≡ left_out_from 1 vs

@@ -1,6 +1,6 @@
 // The laws of rescues. Each is the contract of a function that does nothing at run time.
 
-ghost use Rattle.std.specs.Prelude.{◌≡◌, ◌++◌, ℕ, Bool, List, [], None, Option, Some, true, false};
+ghost use Rattle.std.specs.Prelude.{◌≡◌, ◌≤◌, ◌++◌, ℕ, Bool, List, [], None, Option, Some, true, false};
 ghost use Rattle.std.specs.List.{concat};
 ghost use Rattle.adf_base.specs.Words.{block};
 ghost use Rattle.adf_tree.specs.Additions.{Addition, IsTreeOf};
@@ -15,57 +15,61 @@ ghost use Rattle.adf_findings.specs.Survey.{FindingValue, IsSurvey};
 ghost use Rattle.adf_tree.specs.Tree.{Tree};
 ghost use Rattle.adf_volume.specs.Fits.{Fits};
 ghost use Rattle.adf_volume.specs.Layout.{Layout};
+ghost use Rattle.adf_volume.specs.Made.{datas_in};
 ghost use Rattle.adf_volume.specs.Walk.{Role, node_block};
 ghost use Rattle.adf_rescue.specs.Lost.{has_lost};
 ghost use Rattle.adf_rescue.specs.Rescue.{Basis, Verdict, additions_of, at_path, before_first, first_verdicts, path_by, place_of, rescue_leaves, rescued_additions, rescued_tree, second_verdicts, tree_of, verdict};
+ghost use Rattle.adf_rescue.specs.Salvage.{are_held};
 
 /// The tree of a rescue is that of its additions.
 pub fn rescued_additions_have_their_tree()
-    ensures { (a : Basis) (b : Option Basis) → IsTreeOf (rescued_tree a b).entries (rescued_additions a b) }
+    ensures { (held : ℕ) (a : Basis) (b : Option Basis)
+        → IsTreeOf (rescued_tree held a b).entries (rescued_additions held a b) }
 {}
 
-/// A sound file is whole, and a whole file stands: the verdict on it is that of its path, with its content and what its
-/// header says of it. So it is kept in the place of its directory, by its name or else by `lost-` and its block, or has
-/// no room. What a second survey adds comes behind all that the first one adds.
-#[tactic(auto, using(crate::proofs::RescueLaws::sound_verdict))]
+/// A sound file is whole, and a whole file of which the input holds each data block stands: the verdict on it is that of its path,
+/// with its content and what its header says of it. So it is kept in the place of its directory, by its name or else by `lost-`
+/// and its block, or has no room. What a second survey adds comes behind all that the first one adds.
 pub fn sound_files_stand()
     ensures whole { (image : List ℕ) (w : List (Role × ℕ)) (fs : List FindingValue) (n : ℕ)
         → IsSoundFile image w fs n → IsSoundFile image w (grave fs) n }
-    ensures stand { (a : Basis) (fs : List FindingValue) (n : ℕ) (vs : List Verdict)
-        → AreMarks a.image a.walk (grave fs) a.sound → IsSoundFile a.image a.walk (grave fs) n
-        → verdict (before_first a.image) a vs n
-        ≡ at_path (tree_of (before_first a.image) vs) (blocks a.image) (meta_stated (block a.image (node_block a.walk n)))
+    ensures stand { (held : ℕ) (a : Basis) (fs : List FindingValue) (n : ℕ) (vs : List Verdict)
+        → IsSurvey a.image a.walk fs → AreMarks a.image a.walk (grave fs) a.sound
+        → IsSoundFile a.image a.walk (grave fs) n → are_held held (datas_in a.walk n) ≡ true
+        → verdict (before_first held a.image) a vs n
+        ≡ at_path (tree_of (before_first held a.image) vs) (blocks a.image) (meta_stated (block a.image (node_block a.walk n)))
         (File (file_content (file_in a.image a.walk n)))
-        (path_by (tree_of (before_first a.image) vs) (place_of vs (parent_node a.walk n))
+        (path_by (tree_of (before_first held a.image) vs) (place_of vs (parent_node a.walk n))
         (name_of a.image (node_block a.walk n)) (node_block a.walk n)) }
-    ensures front { (a : Basis) (b : Option Basis) → rescued_additions a b
-        ≡ additions_of (first_verdicts a) ++ additions_of (second_verdicts a b) }
+    ensures front { (held : ℕ) (a : Basis) (b : Option Basis) → rescued_additions held a b
+        ≡ additions_of (first_verdicts held a) ++ additions_of (second_verdicts held a b) }
 {}
 
 /// A survey has one list of verdicts.
 pub fn one_rescue()
-    ensures first { (image : List ℕ) (w : List (Role × ℕ)) (fs : List FindingValue) (s t : ℕ → Bool)
+    ensures first { (held : ℕ) (image : List ℕ) (w : List (Role
+        × ℕ)) (fs : List FindingValue) (s t : ℕ → Bool)
         → AreMarks image w (grave fs) s → AreMarks image w (grave fs) t
-        → first_verdicts (record { image = image; walk = w; sound = s })
-        ≡ first_verdicts (record { image = image; walk = w; sound = t }) }
-    ensures second { (a : Basis) (image : List ℕ) (w : List (Role × ℕ)) (fs : List FindingValue) (s t : ℕ → Bool)
+        → first_verdicts held (record { image = image; walk = w; sound = s })
+        ≡ first_verdicts held (record { image = image; walk = w; sound = t }) }
+    ensures second { (held : ℕ) (a : Basis) (image : List ℕ) (w : List (Role
+        × ℕ)) (fs : List FindingValue) (s t : ℕ → Bool)
         → AreMarks image w (grave fs) s → AreMarks image w (grave fs) t
-        → second_verdicts a (Some (record { image = image; walk = w; sound = s }))
-        ≡ second_verdicts a (Some (record { image = image; walk = w; sound = t })) }
+        → second_verdicts held a (Some (record { image = image; walk = w; sound = s }))
+        ≡ second_verdicts held a (Some (record { image = image; walk = w; sound = t })) }
 {}
 
-/// Where a tree and a layout fit the image, the rescue has that tree and leaves out nothing, and nothing is lost, so that there
-/// is no second survey.
-#[tactic(auto, using(crate::proofs::WholeVolumes::tree_kept, crate::proofs::WholeVolumes::none_left))]
+/// Where a tree and a layout fit an image that is held whole, the rescue has that tree and leaves out nothing, and nothing is lost,
+/// so that there is no second survey.
 pub fn whole_is_kept()
-    ensures tree { (image : List ℕ) (t : Tree) (l : Layout) (w : List (Role
+    ensures tree { (held : ℕ) (image : List ℕ) (t : Tree) (l : Layout) (w : List (Role
         × ℕ)) (fs : List FindingValue) (sound : ℕ → Bool)
-        → Fits image t l → IsSurvey image w fs → AreMarks image w (grave fs) sound
-        → rescued_tree (record { image = image; walk = w; sound = sound }) None ≡ t }
-    ensures all { (image : List ℕ) (t : Tree) (l : Layout) (w : List (Role
+        → blocks image ≤ held → Fits image t l → IsSurvey image w fs → AreMarks image w (grave fs) sound
+        → rescued_tree held (record { image = image; walk = w; sound = sound }) None ≡ t }
+    ensures all { (held : ℕ) (image : List ℕ) (t : Tree) (l : Layout) (w : List (Role
         × ℕ)) (fs : List FindingValue) (sound : ℕ → Bool)
-        → Fits image t l → IsSurvey image w fs → AreMarks image w (grave fs) sound
-        → rescue_leaves (record { image = image; walk = w; sound = sound }) ≡ [] }
+        → blocks image ≤ held → Fits image t l → IsSurvey image w fs → AreMarks image w (grave fs) sound
+        → rescue_leaves held (record { image = image; walk = w; sound = sound }) ≡ [] }
     ensures lost { (image : List ℕ) (t : Tree) (l : Layout) (w : List (Role
         × ℕ)) (fs : List FindingValue)
         → Fits image t l → IsSurvey image w fs → has_lost image w fs ≡ false }

@@ -5,6 +5,7 @@ mod hung;
 mod image;
 mod laws;
 mod left_out;
+mod losses;
 mod lost;
 mod made_root;
 mod opened;

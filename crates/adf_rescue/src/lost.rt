@@ -62,8 +62,8 @@ fn bit_stated(survey: &Survey<'_>, b: u32) -> Option<bool>
     survey.is_free(b)
 }
 
-// Whether the bitmap tells that a block is free.
-fn is_stated_free(survey: &Survey<'_>, b: u32) -> bool
+/// Whether the bitmap tells that a block is free.
+pub fn is_stated_free(survey: &Survey<'_>, b: u32) -> bool
     ensures { OnSurvey survey.now.image (λ w _. result ≡ is_stated_free survey.now.image w b) }
 {
     bit_stated(survey, b).unwrap_or(false)

@@ -3,47 +3,48 @@
 ghost use Rattle.std.specs.Prelude.{◌≡◌, ◌≢◌, ◌↔◌, ◌+◌, ℕ, Bool, List, [], IsNone, IsTrue, IfOk, IfSome, OnErr};
 ghost use Rattle.std.specs.Prelude.{OnOk, Option, Some, option_map};
 ghost use Rattle.adf_blocks.specs.Sizes.{blocks as blocks_in};
-ghost use Rattle.adf_findings.specs.Opening.{opening_in};
 ghost use Rattle.adf_findings.specs.Survey.{OnSurvey};
 ghost use Rattle.adf_build.specs.Laid.{IsLaid};
 ghost use Rattle.adf_build.specs.Building.{IsBuildable};
 ghost use Rattle.adf_build.specs.Plan.{entries_blocks};
+ghost use Rattle.adf_rescue.specs.Losses.{lost_blocks, lost_headers};
 ghost use Rattle.adf_rescue.specs.Rescue.{HasFault, Basis, OnBasis, OnSecond, StandsNothing, before_first, before_second, first_verdicts, rescue_leaves, rescued_tree, second_leaves, second_verdicts};
 ghost use Rattle.adf_rescue.specs.Salvage.{free_blocks as blocks_free, IsSalvage};
 
 use crate::left_out::LeftOut;
+use crate::losses::{lost_blocks, lost_headers};
 use crate::salvage::Salvage;
 use adf_base::NoMemory;
 use adf_build::{build, free_blocks};
 use adf_drafts::Draft;
-use adf_findings::{Opening, Survey, some_survey};
+use adf_findings::{Survey, some_survey};
 use adf_tree::Node;
 use std::alloc::Global;
 
-/// A rescue: the draft of the new volume's tree, and the number of its blocks; and the entries that are left out, in the
-/// order of the walk: those of the survey of the image, and those of the second survey that are not known from the first.
+/// A rescue: whether nothing stands; the draft of the new volume's tree, and the number of its blocks; the entries that are left
+/// out, in the order of the walk: those of the survey of the image, and those of the second survey that are not known from the
+/// first; and what the findings of the survey tell of and no entry has: for each header that was skipped its directory, and
+/// the blocks in use.
 #[derive(Drop)]
 pub struct Rescued {
+    pub stands_nothing: bool,
     pub draft: Draft,
     pub blocks: u32,
     pub left_out: Vec<LeftOut>,
     pub second_left_out: Vec<LeftOut>,
+    pub lost_headers: Vec<Node>,
+    pub lost_blocks: Vec<u32>,
 }
 
 // What is kept of all entries of the survey of the image.
-fn salvaged(
-    alloc: Global,
-    survey: &Survey<'_>,
-    opening: Opening,
-    free: u32,
-) -> Result<Salvage, NoMemory>
-    requires opening { opening ≡ opening_in survey.now.image }
-    requires free { free ≡ blocks_free (blocks_in survey.now.image) }
-    ensures { OnBasis survey.now.image (λ a _. IfOk result (IsSalvage (before_first a.image) (first_verdicts a))) }
+fn salvaged(alloc: Global, survey: &Survey<'_>, begun: Salvage) -> Result<Salvage, NoMemory>
+    requires { IsSalvage (before_first begun.held survey.now.image) [] begun }
+    ensures { OnBasis survey.now.image (λ a _. IfOk result
+        (IsSalvage (before_first begun.held a.image) (first_verdicts begun.held a))) }
 {
     survey.whole_marks();
     some_survey();
-    let mut salvage = Salvage::begin(alloc, opening, free)?;
+    let mut salvage = begun;
     for before in 0..survey.len() {
         salvage.take(alloc, survey, Node(before + 1))?;
     }
@@ -57,9 +58,9 @@ fn take_second(
     second: &Survey<'_>,
     salvage: &mut Salvage,
 ) -> Result<(), NoMemory>
-    requires { OnBasis survey.now.image (λ a _. IsSalvage (before_second a) [] salvage.old) }
+    requires { OnBasis survey.now.image (λ a _. IsSalvage (before_second salvage.old.held a) [] salvage.old) }
     ensures { OnBasis survey.now.image (λ a _. OnBasis second.now.image (λ b _.
-        OnOk result (IsSalvage (before_second a) (second_verdicts a (Some b)) salvage.new))) }
+        OnOk result (IsSalvage (before_second salvage.old.held a) (second_verdicts salvage.old.held a (Some b)) salvage.new))) }
 {
     survey.whole_marks();
     second.whole_marks();
@@ -75,19 +76,18 @@ fn salvaged_both(
     alloc: Global,
     survey: &Survey<'_>,
     second: Option<&Survey<'_>>,
-    opening: Opening,
-    free: u32,
+    begun: Salvage,
 ) -> Result<Salvage, NoMemory>
-    requires opening { opening ≡ opening_in survey.now.image }
-    requires free { free ≡ blocks_free (blocks_in survey.now.image) }
-    ensures state { OnBasis survey.now.image (λ a _. OnSecond (option_map (λ s. s.now.image) second.entry)
-        (λ b. IfOk result (IsSalvage (before_second a) (second_verdicts a b)))) }
+    requires { IsSalvage (before_first begun.held survey.now.image) [] begun }
+    ensures state { (held : ℕ) → begun.held ≡ held → OnBasis survey.now.image (λ a _.
+        OnSecond (option_map (λ s. s.now.image) second.entry)
+        (λ b. IfOk result (IsSalvage (before_second held a) (second_verdicts held a b)))) }
     ensures blocks { IfOk result (λ r. r.left + entries_blocks r.draft.tree.kind r.draft.tree.entries
         ≡ blocks_free (blocks_in survey.now.image)) }
 {
     survey.whole_marks();
     some_survey();
-    let first = salvaged(alloc, survey, opening, free)?;
+    let first = salvaged(alloc, survey, begun)?;
     let mut salvage = first.go_on(alloc)?;
     match second {
         None => Ok(salvage),
@@ -109,12 +109,11 @@ fn has_fault(survey: &Survey<'_>, mended: bool) -> bool
     !survey.findings().is_empty()
 }
 
-// Whether there is a fault, and no entry stands of an image that is surveyed.
+// Whether there is a fault, and no entry stands.
 fn stands_nothing(survey: &Survey<'_>, salvage: &Salvage, mended: bool) -> bool
-    requires { OnSurvey survey.now.image (λ w _. w ≢ []) }
-    ensures { OnBasis survey.now.image (λ a fs. (b : Option Basis)
-        → IsSalvage (before_second a) (second_verdicts a b) salvage.now
-        → IsTrue result ↔ StandsNothing a b fs mended) }
+    ensures { OnBasis survey.now.image (λ a fs. (held : ℕ) (b : Option Basis)
+        → IsSalvage (before_second held a) (second_verdicts held a b) salvage.now
+        → IsTrue result ↔ StandsNothing held a b fs mended) }
 {
     if !has_fault(survey, mended) {
         return false;
@@ -122,28 +121,35 @@ fn stands_nothing(survey: &Survey<'_>, salvage: &Salvage, mended: bool) -> bool
     salvage.draft.len() == 0
 }
 
-/// What stands on a surveyed image: its whole files and its directories, as the draft of a tree that fits in as many blocks;
-/// and what stands beside these by a second survey, if there is one, of the image with what was lost hung in it again: each
-/// entry whose block no entry of the first survey has, but a file only if its data blocks are as they were given. With it
-/// come the entries that are left out. `None` if there is a finding of the first survey, or the image was mended, and nothing
-/// of the image is surveyed, or no entry stands. `NoMemory` if an allocation fails, which can happen only if something of the
-/// image is surveyed.
+/// What stands on a surveyed image, of which the input holds the first `held` blocks: its whole files with all data in these, and
+/// its directories, as the draft of a tree that fits in as many blocks; and what stands beside these by a second survey, if there
+/// is one, of the image with what was lost hung in it again: each entry whose header is not that of an entry of the first survey,
+/// but a file only if its data blocks are as they were given, of no entry that is kept, and not free as the bitmap tells. With it
+/// come the entries that are left out, and what the findings of the first survey tell of and no entry has. Nothing stands if there
+/// is a finding of the first survey, or the image was mended, and there is no addition. `None` if nothing of the image is
+/// surveyed. `NoMemory` if an allocation fails, which can happen only if something of the image is surveyed.
 pub fn rescue(
     alloc: Global,
     survey: &Survey<'_>,
     second: Option<&Survey<'_>>,
+    held: usize,
     mended: bool,
 ) -> Result<Option<Rescued>, NoMemory>
-    ensures none { OnBasis survey.now.image (λ a fs. OnSecond (option_map (λ s. s.now.image) second.entry)
-        (λ b. IfOk result (λ r. IsNone r ↔ StandsNothing a b fs mended))) }
+    ensures none { OnSurvey survey.now.image (λ w _. IfOk result (λ r. IsNone r ↔ (w ≡ []))) }
+    ensures nothing { OnBasis survey.now.image (λ a fs. OnSecond (option_map (λ s. s.now.image) second.entry)
+        (λ b. IfOk result (λ r. IfSome r (λ v. IsTrue v.stands_nothing ↔ StandsNothing held a b fs mended)))) }
     ensures tree { OnBasis survey.now.image (λ a _. OnSecond (option_map (λ s. s.now.image) second.entry)
-        (λ b. IfOk result (λ r. IfSome r (λ v. v.draft.tree ≡ rescued_tree a b)))) }
+        (λ b. IfOk result (λ r. IfSome r (λ v. v.draft.tree ≡ rescued_tree held a b)))) }
     ensures size { IfOk result (λ r. IfSome r (λ v. v.blocks ≡ blocks_in survey.now.image)) }
     ensures fits { IfOk result (λ r. IfSome r (λ v. IsBuildable v.draft.tree v.blocks)) }
     ensures left_out { OnBasis survey.now.image (λ a _. OnSecond (option_map (λ s. s.now.image) second.entry)
-        (λ b. IfOk result (λ r. IfSome r (λ v. v.left_out.items ≡ rescue_leaves a)))) }
+        (λ b. IfOk result (λ r. IfSome r (λ v. v.left_out.items ≡ rescue_leaves held a)))) }
     ensures second_left_out { OnBasis survey.now.image (λ a _. OnSecond (option_map (λ s. s.now.image) second.entry)
-        (λ b. IfOk result (λ r. IfSome r (λ v. v.second_left_out.items ≡ second_leaves a b)))) }
+        (λ b. IfOk result (λ r. IfSome r (λ v. v.second_left_out.items ≡ second_leaves held a b)))) }
+    ensures lost_headers { OnSurvey survey.now.image (λ w fs. OnSecond (option_map (λ s. s.now.image) second.entry)
+        (λ b. IfOk result (λ r. IfSome r (λ v. v.lost_headers.items ≡ lost_headers w b fs)))) }
+    ensures lost_blocks { OnSurvey survey.now.image (λ _ fs. OnSecond (option_map (λ s. s.now.image) second.entry)
+        (λ b. IfOk result (λ r. IfSome r (λ v. v.lost_blocks.items ≡ lost_blocks b fs)))) }
 
     // Memory is wanted only if something of the image is surveyed.
     ensures begun { OnSurvey survey.now.image (λ w _. OnErr result (w ≢ [])) }
@@ -152,16 +158,16 @@ pub fn rescue(
         return Ok(None);
     };
     let blocks = opening.blocks;
-    let free = free_blocks(blocks);
-    let salvage = salvaged_both(alloc, survey, second, opening, free)?;
-    if stands_nothing(survey, &salvage, mended) {
-        return Ok(None);
-    }
+    let begun = Salvage::begin(alloc, opening, free_blocks(blocks), held)?;
+    let salvage = salvaged_both(alloc, survey, second, begun)?;
     Ok(Some(Rescued {
+        stands_nothing: stands_nothing(survey, &salvage, mended),
         draft: salvage.draft,
         blocks,
         left_out: salvage.left_before,
         second_left_out: salvage.left_out,
+        lost_headers: lost_headers(alloc, survey, second)?,
+        lost_blocks: lost_blocks(alloc, survey, second)?,
     }))
 }
 

@@ -1,22 +1,22 @@
 // The state of a rescue: what is kept so far.
 
-ghost use Rattle.std.specs.Prelude.{◌≡◌, ◌≤◌, ◌+◌, ◌-◌, ◌++◌, ◌∷◌, ◌^◌, ℕ, Bool, List, [], cond, Some, None, Result, IfOk, OnOk, min, length, slice_index_or};
+ghost use Rattle.std.specs.Prelude.{◌≡◌, ◌≤◌, ◌+◌, ◌-◌, ◌++◌, ◌∷◌, ◌^◌, ℕ, Bool, false, true, List, [], cond, Some, None, Result, IfOk, OnOk, min, length, slice_index_or};
 ghost use Rattle.adf_tree.specs.declared.entry.Body.{Body as ABody};
 ghost use Rattle.adf_drafts.specs.Draft.{IsRoomFor};
 ghost use Rattle.adf_blocks.specs.Sizes.{blocks};
 ghost use Rattle.adf_tree.specs.Tree.{is_dir_body};
 ghost use Rattle.adf_volume.specs.Walk.{Role, heads, node_block};
 ghost use Rattle.adf_volume.specs.Image.{name_of};
-ghost use Rattle.adf_findings.specs.Found.{owner, parent_node};
+ghost use Rattle.adf_findings.specs.Found.{parent_node};
 ghost use Rattle.adf_findings.specs.Opening.{opening_in};
 ghost use Rattle.adf_findings.specs.Survey.{FindingValue, IsSurvey, OnSurvey};
-ghost use Rattle.adf_rescue.specs.Rescue.{Ground, Basis, OnBasis, Verdict, as_given, before_first, body_of, fitting, path_by, place_of, tree_of, verdict};
+ghost use Rattle.adf_rescue.specs.Rescue.{Ground, Basis, OnBasis, Verdict, added_marks, as_given, before_first, body_of, entry_at, fitting, path_by, place_of, tree_of, verdict};
 ghost use Rattle.adf_rescue.specs.Rescue.Verdict.{leaves, knows};
 ghost use Rattle.adf_rescue.specs.Salvage.{GoesOn, IsNext, IsRoomOf, IsSalvage, entry_cost, free_blocks};
 
 use crate::left_out::{LeftOut, Why};
 use crate::rooms::room_of;
-use crate::standing::{body_as_given, body_of};
+use crate::standing::{are_given, body_of, bytes_of, entry_at, other_body};
 use adf_base::NoMemory;
 use adf_build::{data_blocks, ext_count};
 use adf_drafts::{Draft, Room};
@@ -24,15 +24,18 @@ use adf_findings::{Opening, Survey};
 use adf_tree::{Body, Kind, Meta, Node};
 use std::alloc::Global;
 
-/// What is kept so far: the draft of the new tree; for each node of the survey before, and of this one, from the root on,
-/// its directory in the draft, if it is one that is kept; the number of free blocks that are left; and the entries of the
-/// survey before, and of this one, that are left out.
+/// What is kept so far: the number of blocks that the input holds whole; the draft of the new tree; for each node of the survey
+/// before, and of this one, from the root on, its directory in the draft, if it is one that is kept, and whether it is added;
+/// the number of free blocks that are left; and the entries of the survey before, and of this one, that are left out.
 #[derive(Drop)]
 pub struct Salvage {
     pub kind: Kind,
+    pub held: usize,
     pub draft: Draft,
     pub known: Vec<Option<Node>>,
     pub places: Vec<Option<Node>>,
+    pub kept: Vec<bool>,
+    pub added: Vec<bool>,
     pub left: u32,
     pub left_before: Vec<LeftOut>,
     pub left_out: Vec<LeftOut>,
@@ -76,28 +79,48 @@ fn root_place(alloc: Global) -> Result<Vec<Option<Node>>, NoMemory>
     }
 }
 
-// The entry of the survey before that has the block of an entry's header.
+// The marks before the first entry of a survey: the root is not added.
+fn root_mark(alloc: Global) -> Result<Vec<bool>, NoMemory>
+    ensures { IfOk result (λ v. v.items ≡ false ∷ []) }
+{
+    let mut marks = Vec::new(alloc);
+    match marks.push(false) {
+        Ok(()) => Ok(marks),
+        Err(_) => Err(NoMemory),
+    }
+}
+
+// The entry of the survey before with the header of an entry.
 fn known_as(before: &Survey<'_>, survey: &Survey<'_>, n: Node) -> Option<Node>
     ensures { OnSurvey before.now.image (λ v _. OnSurvey survey.now.image (λ w _.
-        1 ≤ n → n ≤ heads w → result ≡ owner v (node_block w n))) }
+        1 ≤ n → n ≤ heads w → result ≡ entry_at v (node_block w n))) }
 {
     match survey.block_of(n) {
-        Some(block) => before.entry_at(block),
+        Some(block) => entry_at(before, block),
         None => None,
     }
 }
 
 impl Salvage {
-    /// The state with no entry, on a volume with this many free blocks.
-    pub fn begin(alloc: Global, opening: Opening, free: u32) -> Result<Salvage, NoMemory>
-        ensures { (image : List ℕ) → opening ≡ opening_in image → free ≡ free_blocks (blocks image)
-            → IfOk result (IsSalvage (before_first image) []) }
+    /// The state with no entry, on a volume with this many free blocks, and of an image of which the input holds so many.
+    pub fn begin(
+        alloc: Global,
+        opening: Opening,
+        free: u32,
+        held: usize,
+    ) -> Result<Salvage, NoMemory>
+        ensures state { (image : List ℕ) → opening ≡ opening_in image → free ≡ free_blocks (blocks image)
+            → IfOk result (IsSalvage (before_first held image) []) }
+        ensures held { IfOk result (λ r. r.held ≡ held) }
     {
         Ok(Salvage {
             kind: opening.kind,
+            held,
             draft: Draft::new(alloc, opening.kind, opening.label, opening.stamps),
             known: root_place(alloc)?,
             places: root_place(alloc)?,
+            kept: root_mark(alloc)?,
+            added: root_mark(alloc)?,
             left: free,
             left_before: Vec::new(alloc),
             left_out: Vec::new(alloc),
@@ -106,23 +129,28 @@ impl Salvage {
 
     /// The state before a second survey, with what is kept of the first one.
     pub fn go_on(self, alloc: Global) -> Result<Salvage, NoMemory>
-        ensures { (image : List ℕ) (w : List (Role × ℕ)) (vs : List Verdict)
-            → IsSalvage (before_first image) vs self
-            → IfOk result (IsSalvage (record { given = image; walk = w; verdicts = vs }) []) }
+        ensures { (held : ℕ) (image : List ℕ) (w : List (Role × ℕ)) (vs : List Verdict)
+            → IsSalvage (before_first held image) vs self
+            → IfOk result (IsSalvage (record { given = image; held = held; walk = w; verdicts = vs }) []) }
     {
         let Salvage {
             kind,
+            held,
             draft,
             places,
+            added,
             left,
             left_out,
             ..
         } = self;
         Ok(Salvage {
             kind,
+            held,
             draft,
             known: places,
             places: root_place(alloc)?,
+            kept: added,
+            added: root_mark(alloc)?,
             left,
             left_before: left_out,
             left_out: Vec::new(alloc),
@@ -143,12 +171,17 @@ impl Salvage {
         self.places.get(node.0).copied().flatten()
     }
 
-    // Keeps the directory in the draft of the next node.
-    fn keep_place(&mut self, place: Option<Node>) -> Result<(), NoMemory>
-        ensures places { OnOk result (self.new.places.items ≡ self.old.places.items ++ place ∷ []) }
-        ensures rest { self.new ≡ record self.old { places = self.new.places } }
+    // Keeps the directory in the draft of the next node, and whether it is added.
+    fn keep_place(&mut self, place: Option<Node>, is_added: bool) -> Result<(), NoMemory>
+        ensures kept { OnOk result ((self.new.places.items ≡ self.old.places.items ++ place ∷ [])
+            × (self.new.added.items ≡ self.old.added.items ++ is_added ∷ [])) }
+        ensures rest { self.new ≡ record self.old { places = self.new.places; added = self.new.added } }
     {
         match self.places.push(place) {
+            Ok(()) => (),
+            Err(_) => return Err(NoMemory),
+        }
+        match self.added.push(is_added) {
             Ok(()) => Ok(()),
             Err(_) => Err(NoMemory),
         }
@@ -160,7 +193,7 @@ impl Salvage {
             → OnOk result (IsSalvage g (vs ++ knows (place_of g.verdicts m) ∷ []) self.new) }
     {
         let place = self.place_before(m);
-        self.keep_place(place)
+        self.keep_place(place, false)
     }
 
     // Leaves out the next entry.
@@ -169,7 +202,7 @@ impl Salvage {
             → n ≡ length vs + 1
             → OnOk result (IsSalvage g (vs ++ leaves why ∷ []) self.new) }
     {
-        self.keep_place(None)?;
+        self.keep_place(None, false)?;
         match self.left_out.push(LeftOut { entry: n, why }) {
             Ok(()) => Ok(()),
             Err(_) => Err(NoMemory),
@@ -193,7 +226,7 @@ impl Salvage {
         self.draft.put(room, meta, body)?;
         self.left -= cost as u32;
         let place = place_if(adds_directory, Node(self.draft.len()));
-        self.keep_place(place)
+        self.keep_place(place, true)
     }
 
     // The room of an entry, if its directory is kept and has one.
@@ -232,8 +265,8 @@ impl Salvage {
         ensures { (g : Ground) (w : List (Role × ℕ)) (fs : List FindingValue) (sound : ℕ → Bool)
             (vs : List Verdict)
             → IsSurvey survey.now.image w fs → IsSalvage g vs self.old → IsNext w vs n
-            → owner g.walk (node_block w n) ≡ None
-            → standing ≡ body_of (record { image = survey.now.image; walk = w; sound = sound }) n
+            → entry_at g.walk (node_block w n) ≡ None
+            → standing ≡ body_of (as_given g (record { image = survey.now.image; walk = w; sound = sound })) n
             → OnOk result (IsSalvage g
             (vs ++ verdict g (record { image = survey.now.image; walk = w; sound = sound }) vs n ∷ []) self.new) }
     {
@@ -254,12 +287,32 @@ impl Salvage {
     /// state is of no use.
     pub fn take(&mut self, alloc: Global, survey: &Survey<'_>, n: Node) -> Result<(), NoMemory>
         requires { GoesOn survey.now.image n self.old }
-        ensures { OnBasis survey.now.image (λ a _. (vs : List Verdict)
-            → IsSalvage (before_first a.image) vs self.old → IsNext a.walk vs n
-            → OnOk result (IsSalvage (before_first a.image) (vs ++ verdict (before_first a.image) a vs n ∷ []) self.new)) }
+        ensures { OnBasis survey.now.image (λ a _. (held : ℕ) (vs : List Verdict)
+            → IsSalvage (before_first held a.image) vs self.old → IsNext a.walk vs n
+            → OnOk result (IsSalvage (before_first held a.image) (vs ++ verdict (before_first held a.image) a vs n ∷ []) self.new)) }
     {
-        let standing = body_of(alloc, survey, n)?;
+        let standing = body_of(alloc, self.held, survey, n)?;
         self.keep(alloc, survey, n, standing)
+    }
+
+    // The body of an entry of the second survey that stands, but of a file only if its data blocks were given.
+    fn body_as_given(
+        &self,
+        alloc: Global,
+        before: &Survey<'_>,
+        survey: &Survey<'_>,
+        n: Node,
+    ) -> Result<Result<Body, Why>, NoMemory>
+        ensures { OnBasis survey.now.image (λ b _. (g : Ground) (fs : List FindingValue) → g.given ≡ before.now.image
+            → IsSurvey g.given g.walk fs → self.now.held ≡ g.held → self.now.kept.items ≡ added_marks g.verdicts
+            → 1 ≤ n → n ≤ heads b.walk → IfOk result (λ r. r ≡ body_of (as_given g b) n)) }
+    {
+        if let Some(file) = survey.whole_file(alloc, n)? {
+            if are_given(before, &self.kept, self.held, survey.image(), file.blocks()) {
+                return Ok(Ok(bytes_of(alloc, &file)?));
+            }
+        }
+        Ok(other_body(survey, n))
     }
 
     /// Keeps the next entry of the second survey, or leaves it out, or keeps its place if it is known from the survey before.
@@ -272,15 +325,14 @@ impl Salvage {
         n: Node,
     ) -> Result<(), NoMemory>
         requires { GoesOn survey.now.image n self.old }
-        ensures { OnSurvey before.now.image (λ v _. OnBasis survey.now.image (λ b _. (us vs : List Verdict)
-            → IsSalvage (record { given = before.now.image; walk = v; verdicts = us }) vs self.old → IsNext b.walk vs n
-            → OnOk result (IsSalvage (record { given = before.now.image; walk = v; verdicts = us })
-            (vs ++ verdict (record { given = before.now.image; walk = v; verdicts = us }) (as_given before.now.image b) vs n ∷ []) self.new))) }
+        ensures { OnBasis survey.now.image (λ b _. (g : Ground) (fs : List FindingValue) (vs : List Verdict)
+            → g.given ≡ before.now.image → IsSurvey g.given g.walk fs
+            → IsSalvage g vs self.old → IsNext b.walk vs n → OnOk result (IsSalvage g (vs ++ verdict g b vs n ∷ []) self.new)) }
     {
         match known_as(before, survey, n) {
             Some(m) => self.keep_known(m),
             None => {
-                let standing = body_as_given(alloc, before.image(), survey, n)?;
+                let standing = self.body_as_given(alloc, before, survey, n)?;
                 self.keep(alloc, survey, n, standing)
             }
         }

@@ -1,6 +1,6 @@
 // The entries that stand.
 
-ghost use Rattle.std.specs.Prelude.{◌≡◌, ◌==◌, ◌&&◌, ◌≤◌, ◌+◌, ◌*◌, ℕ, Bool, cond, List, IfOk, drop, length, nat_le};
+ghost use Rattle.std.specs.Prelude.{◌≡◌, ◌==◌, ◌&&◌, ◌≤◌, ◌<◌, ◌+◌, ◌*◌, ℕ, Bool, cond, List, IfOk, drop, length, nat_le, not};
 ghost use Rattle.std.specs.Str.{bytes_eq};
 ghost use Rattle.adf_base.specs.Words.{block};
 ghost use Rattle.adf_tree.specs.declared.entry.Body.TheVariants.{File};
@@ -8,10 +8,13 @@ ghost use Rattle.adf_blocks.specs.HeadBlock.{is_link};
 ghost use Rattle.adf_volume.specs.Image.{word_in};
 ghost use Rattle.adf_volume.specs.Walk.{heads, node_block};
 ghost use Rattle.adf_findings.specs.Files.{file_content};
-ghost use Rattle.adf_findings.specs.Survey.{OnSurvey};
-ghost use Rattle.adf_rescue.specs.Rescue.{OnBasis, are_same_blocks, as_given, body_of, body_of_type, is_same_block};
+ghost use Rattle.adf_findings.specs.Survey.{FindingValue, IsSurvey, OnSurvey};
+ghost use Rattle.adf_rescue.specs.Rescue.{Ground, OnBasis, added_marks, are_given, as_given, before_first, body_of, body_of_type, entry_at, entry_by};
+ghost use Rattle.adf_rescue.specs.Rescue.{is_given, is_kept, is_same_block};
+ghost use Rattle.adf_rescue.specs.Salvage.{are_held};
 
 use crate::left_out::Why;
+use crate::lost::{is_marked, is_stated_free};
 use adf_base::{BLOCK_LEN, Block, NoMemory};
 use adf_blocks::{SECONDARY_TYPE, ST_DIR, ST_LINK_DIR, ST_LINK_FILE, ST_SOFT_LINK};
 use adf_findings::{SoundFile, Survey};
@@ -29,8 +32,8 @@ fn body_of_type(secondary: u32) -> Result<Body, Why>
     }
 }
 
-// The body of an entry that is no whole file.
-fn other_body(survey: &Survey<'_>, n: Node) -> Result<Body, Why>
+/// The body of an entry that is no whole file.
+pub fn other_body(survey: &Survey<'_>, n: Node) -> Result<Body, Why>
     ensures { OnSurvey survey.now.image (λ w _. 1 ≤ n → n ≤ heads w
         → result ≡ body_of_type (word_in survey.now.image (node_block w n) SECONDARY_TYPE)) }
 {
@@ -40,21 +43,30 @@ fn other_body(survey: &Survey<'_>, n: Node) -> Result<Body, Why>
     }
 }
 
-// The bytes of a file, as a body.
-fn bytes_of(alloc: Global, file: &SoundFile<'_>) -> Result<Body, NoMemory>
+/// The bytes of a file, as a body. `NoMemory` if an allocation fails.
+pub fn bytes_of(alloc: Global, file: &SoundFile<'_>) -> Result<Body, NoMemory>
     ensures { IfOk result (λ body. body ≡ File (file_content file.now)) }
 {
     Ok(Body::File(Bytes::new(file.read(alloc)?)))
 }
 
-/// The body of an entry that stands: the bytes of a whole file, or a directory, sound or not; else why it is left
-/// out. `NoMemory` if an allocation fails.
-pub fn body_of(alloc: Global, survey: &Survey<'_>, n: Node) -> Result<Result<Body, Why>, NoMemory>
-    ensures { OnBasis survey.now.image (λ a _. 1 ≤ n → n ≤ heads a.walk → IfOk result (λ r. r ≡ body_of a n)) }
+// The entry, if its header is block `b`.
+fn entry_by(survey: &Survey<'_>, b: u32, n: Node) -> Option<Node>
+    ensures { OnSurvey survey.now.image (λ w _. result ≡ entry_by w b n) }
 {
-    match survey.whole_file(alloc, n)? {
-        Some(file) => Ok(Ok(bytes_of(alloc, &file)?)),
-        None => Ok(other_body(survey, n)),
+    match survey.block_of(n) {
+        Some(block) if block == b => Some(n),
+        _ => None,
+    }
+}
+
+/// The entry that has its header in block `b`.
+pub fn entry_at(survey: &Survey<'_>, b: u32) -> Option<Node>
+    ensures { OnSurvey survey.now.image (λ w _. result ≡ entry_at w b) }
+{
+    match survey.entry_at(b) {
+        Some(n) => entry_by(survey, b, n),
+        None => None,
     }
 }
 
@@ -68,30 +80,74 @@ fn is_same_block(given: &[u8], image: &[u8], b: u32) -> bool
     }
 }
 
-// Whether both images have these blocks, with the same bytes.
-fn are_same_blocks(given: &[u8], image: &[u8], blocks: &[u32]) -> bool
-    ensures { result ≡ are_same_blocks given.now image.now blocks.now }
+// Whether an entry that is kept from the survey before has a block, by the marks of its entries.
+fn is_kept(before: &Survey<'_>, kept: &Vec<bool>, b: u32) -> bool
+    ensures { (g : Ground) (fs : List FindingValue) → g.given ≡ before.now.image → IsSurvey g.given g.walk fs
+        → kept.now.items ≡ added_marks g.verdicts → result ≡ is_kept g b }
+{
+    match before.entry_at(b) {
+        Some(n) => is_marked(kept, n.0),
+        None => false,
+    }
+}
+
+// Whether a data block was given, by the survey before and the marks of its entries.
+fn is_given(before: &Survey<'_>, kept: &Vec<bool>, held: usize, image: &[u8], b: u32) -> bool
+    ensures { (g : Ground) (fs : List FindingValue) → g.given ≡ before.now.image → IsSurvey g.given g.walk fs
+        → held ≡ g.held → kept.now.items ≡ added_marks g.verdicts → result ≡ is_given g image.now b }
+{
+    (b as usize) < held
+        && is_same_block(before.image(), image, b)
+        && !is_kept(before, kept, b)
+        && !is_stated_free(before, b)
+}
+
+/// Whether data blocks were given: the input holds them, they are the same in the image of the survey before, and there neither an
+/// entry that is kept has them, nor does the bitmap tell that they are free.
+pub fn are_given(
+    before: &Survey<'_>,
+    kept: &Vec<bool>,
+    held: usize,
+    image: &[u8],
+    blocks: &[u32],
+) -> bool
+    ensures { (g : Ground) (fs : List FindingValue) → g.given ≡ before.now.image → IsSurvey g.given g.walk fs
+        → held ≡ g.held → kept.now.items ≡ added_marks g.verdicts → result ≡ are_given g image.now blocks.now }
 {
     for k in 0..blocks.len() {
-        if !is_same_block(given, image, blocks[k]) {
+        if !is_given(before, kept, held, image, blocks[k]) {
             return false;
         }
     }
     true
 }
 
-/// The body of an entry that stands, but of a file only if its data blocks are the same in the image that was given.
-pub fn body_as_given(
+// Whether the input holds these blocks.
+fn are_held(held: usize, blocks: &[u32]) -> bool
+    ensures { result ≡ are_held held blocks.now }
+{
+    for k in 0..blocks.len() {
+        if blocks[k] as usize >= held {
+            return false;
+        }
+    }
+    true
+}
+
+/// The body of an entry of the first survey that stands: the bytes of a whole file of which the input holds each data block, or a
+/// directory, sound or not; else why it is left out. `NoMemory` if an allocation fails.
+#[tactic(auto, using(crate::proofs::GivenBlocks::first_given_all))]
+pub fn body_of(
     alloc: Global,
-    given: &[u8],
+    held: usize,
     survey: &Survey<'_>,
     n: Node,
 ) -> Result<Result<Body, Why>, NoMemory>
-    ensures { OnBasis survey.now.image (λ b _. 1 ≤ n → n ≤ heads b.walk
-        → IfOk result (λ r. r ≡ body_of (as_given given.now b) n)) }
+    ensures { OnBasis survey.now.image (λ a _. 1 ≤ n → n ≤ heads a.walk
+        → IfOk result (λ r. r ≡ body_of (as_given (before_first held a.image) a) n)) }
 {
     if let Some(file) = survey.whole_file(alloc, n)? {
-        if are_same_blocks(given, survey.image(), file.blocks()) {
+        if are_held(held, file.blocks()) {
             return Ok(Ok(bytes_of(alloc, &file)?));
         }
     }

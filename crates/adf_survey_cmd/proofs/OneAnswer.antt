@@ -1,6 +1,6 @@
 -- What is asked of an image has one answer.
 -- Letters: w, u walks of its survey, fs, gs the findings; n, m entries' nodes; r, q inquiries; a, b replies.
-use Rattle.std.proofs.Common.{◌≡◌, ◌∙◌, inl, inr, ℕ, Bool, true, false, List, [], ◌∷◌, Option, Some, sym, ap, subst, None, refl, arith}
+use Rattle.std.proofs.Common.{◌≡◌, ◌∙◌, ◌++◌, inl, inr, ℕ, Bool, true, false, List, [], ◌∷◌, Option, Some, sym, ap, subst, None, refl, arith}
 use Rattle.std.proofs.lemmas.Grind.{common_steps}
 use Rattle.adf_names.proofs.PathParts.{one_path}
 use Rattle.adf_volume.specs.Walk.{FileAt, Role, node_block}
@@ -13,10 +13,11 @@ use Rattle.adf_rescue.specs.Opened.{opened}
 use Rattle.adf_rescue.specs.Rescue.{IsSecond, Basis}
 use Rattle.adf_rescue.proofs.RescueLaws.{one_basis}
 use Rattle.adf_findings.proofs.Lookups.{one_first}
-use Rattle.adf_runs.specs.Commands.{Reply, on_output}
+use Rattle.adf_texts.specs.Lines.{fault_line}
+use Rattle.adf_runs.specs.Commands.{Reply, on_errors, on_output}
 use Rattle.adf_cmd.proofs.OneAnswer.{one_dates, refused_once}
-use Rattle.adf_survey_cmd.specs.Answers.{CopiesEntry, CopiesFound, CopiesFromSurvey, ListsSurvey, QuestionAnswer, SurveyAnswer, Surveys, TellsFound, findings_status, meant}
-use Rattle.adf_survey_cmd.specs.Rescues.{RescuesBy, RescuesFound, RescuesIn, WritesVolume, second_image}
+use Rattle.adf_survey_cmd.specs.Answers.{CopiesEntry, CopiesFound, CopiesFromSurvey, ListsSurvey, QuestionAnswer, SurveyAnswer, Surveys, TellsFound, findings_status, held_whole, meant}
+use Rattle.adf_survey_cmd.specs.Rescues.{RescuesBy, RescuesFound, RescuesIn, RescuesSome, rescue_text, second_image}
 use Rattle.adf_words.specs.SurveyLine.{AsksSurvey, InquiryValue, QuestionValue, cat, list, report, rescue}
 use Rattle.adf_survey_cmd.specs.FoundLines.{listing_text}
 use Rattle.adf_survey_cmd.proofs.FoundTexts.{same_tests}
@@ -85,16 +86,21 @@ copied_once damaged path image a b (names, text, w, fs, s, x) (others, also, u, 
     let path_is = one_path path names others text also in
     found_once image u damaged gs others a b (subst (λ (ns : List (List ℕ)). CopiesFound damaged image u gs ns a) path_is found) y
 
-volume_once : (l : Basis) (m : Option Basis) (a b : Reply) → WritesVolume l m a → WritesVolume l m b → a ≡ b
-volume_once l m a b (one, laid, size, x) (other, also, long, y) = grind (arith, common_steps)
+some_once : (held : ℕ) (input : List ℕ) (l : Basis) (m : Option Basis) (fs : List FindingValue) (a b : Reply)
+    → RescuesSome held input l m fs a → RescuesSome held input l m fs b → a ≡ b
+some_once held input l m fs a b (inl (none, (f, first, x))) (inl (also, (g, fault, y))) =
+    let same = refused_once input (on_errors 1 (fault_line f)) (on_errors 1 (fault_line g)) (f, first, refl) (g, fault, refl) in
+    x ∙ ap (λ (r : Reply). on_errors 1 (r.errors ++ rescue_text held l m fs)) same ∙ sym y
+some_once held input l m fs a b (inl (none, x)) (inr (some, y)) = absurd (some none)
+some_once held input l m fs a b (inr (some, x)) (inl (none, y)) = absurd (some none)
+some_once held input l m fs a b (inr (some, (one, laid, size, x))) (inr (also, (other, too, long, y))) = grind (arith, common_steps)
 
-by_surveys_once : (input : List ℕ) (l : Basis) (m : Option Basis) (fs : List FindingValue) (a b : Reply) → RescuesBy input l m fs a
-    → RescuesBy input l m fs b
-    → a ≡ b
-by_surveys_once input l m fs a b (inl (none, x)) (inl (also, y)) = refused_once input a b x y
-by_surveys_once input l m fs a b (inl (none, x)) (inr (some, y)) = absurd (some none)
-by_surveys_once input l m fs a b (inr (some, x)) (inl (none, y)) = absurd (some none)
-by_surveys_once input l m fs a b (inr (some, x)) (inr (also, y)) = volume_once l m a b x y
+by_surveys_once : (held : ℕ) (input : List ℕ) (l : Basis) (m : Option Basis) (fs : List FindingValue) (a b : Reply)
+    → RescuesBy held input l m fs a → RescuesBy held input l m fs b → a ≡ b
+by_surveys_once held input l m fs a b (inl (none, x)) (inl (also, y)) = refused_once input a b x y
+by_surveys_once held input l m fs a b (inl (none, x)) (inr (some, y)) = absurd (some none)
+by_surveys_once held input l m fs a b (inr (some, x)) (inl (none, y)) = absurd (some none)
+by_surveys_once held input l m fs a b (inr (some, x)) (inr (also, y)) = some_once held input l m fs a b x y
 
 one_second : (image : Option (List ℕ)) (l m : Option Basis) → IsSecond image l → IsSecond image m → l ≡ m
 one_second None None None x y = refl
@@ -107,28 +113,28 @@ one_second (Some image) (Some l) (Some m) x y = ap some (one_basis image l m x y
     some : Basis → Option Basis
     some k = Some k
 
-found_rescued_once : (input image : List ℕ) (w : List (Role × ℕ)) (fs : List FindingValue) (a b : Reply) → RescuesFound input image w fs a
-    → RescuesFound input image w fs b → a ≡ b
-found_rescued_once input image w fs a b (sound, marks, (l, second, x)) (others, also, (m, twice, y)) =
+found_rescued_once : (held : ℕ) (input image : List ℕ) (w : List (Role × ℕ)) (fs : List FindingValue) (a b : Reply)
+    → RescuesFound held input image w fs a → RescuesFound held input image w fs b → a ≡ b
+found_rescued_once held input image w fs a b (sound, marks, (l, second, x)) (others, also, (m, twice, y)) =
     let r : (ℕ → Bool) → Basis = λ s. record { image = image; walk = w; sound = s } in
-    by_surveys_once input (r others) m fs a b
-    (subst (λ o. RescuesBy input (r others) o fs a) (one_second (second_image image w fs) l m second twice)
-    (subst (λ s. RescuesBy input (r s) l fs a) (one_marks image w (grave fs) sound others marks also) x)) y
+    by_surveys_once held input (r others) m fs a b
+    (subst (λ o. RescuesBy held input (r others) o fs a) (one_second (second_image image w fs) l m second twice)
+    (subst (λ s. RescuesBy held input (r s) l fs a) (one_marks image w (grave fs) sound others marks also) x)) y
 
-rescued_once : (input image : List ℕ) (a b : Reply) → RescuesIn input image a → RescuesIn input image b → a ≡ b
-rescued_once input image a b (w, fs, s, x) (u, gs, t, y) =
+rescued_once : (held : ℕ) (input image : List ℕ) (a b : Reply) → RescuesIn held input image a → RescuesIn held input image b → a ≡ b
+rescued_once held input image a b (w, fs, s, x) (u, gs, t, y) =
     let same = one_survey image w u fs gs s t in
-    let moved = subst (λ v. RescuesFound input image v fs a) same.0 x in
-    found_rescued_once input image u gs a b (subst (λ hs. RescuesFound input image u hs a) same.1 moved) y
+    let moved = subst (λ v. RescuesFound held input image v fs a) same.0 x in
+    found_rescued_once held input image u gs a b (subst (λ hs. RescuesFound held input image u hs a) same.1 moved) y
 
-one_question : (q : QuestionValue) (image : List ℕ) (a b : Reply) → QuestionAnswer q image a → QuestionAnswer q image b → a ≡ b
-one_question report image a b x y = surveyed_once image a b x y
-one_question list image a b x y = listed_once image a b x y
-one_question (cat damaged path) image a b (inl (bad, x)) (inl (worse, y)) = x ∙ sym y
-one_question (cat damaged path) image a b (inl (bad, x)) (inr h) = absurd (bad h.0 h.1)
-one_question (cat damaged path) image a b (inr h) (inl (bad, y)) = absurd (bad h.0 h.1)
-one_question (cat damaged path) image a b (inr h) (inr g) = copied_once damaged path image a b h g
-one_question rescue image a b x y = rescued_once image (opened image) a b x y
+one_question : (held : ℕ) (q : QuestionValue) (image : List ℕ) (a b : Reply) → QuestionAnswer held q image a → QuestionAnswer held q image b → a ≡ b
+one_question held report image a b x y = surveyed_once image a b x y
+one_question held list image a b x y = listed_once image a b x y
+one_question held (cat damaged path) image a b (inl (bad, x)) (inl (worse, y)) = x ∙ sym y
+one_question held (cat damaged path) image a b (inl (bad, x)) (inr h) = absurd (bad h.0 h.1)
+one_question held (cat damaged path) image a b (inr h) (inl (bad, y)) = absurd (bad h.0 h.1)
+one_question held (cat damaged path) image a b (inr h) (inr g) = copied_once damaged path image a b h g
+one_question held rescue image a b x y = rescued_once held image (opened image) a b x y
 
 pub one_answer : (r : InquiryValue) (input : List ℕ) (a b : Reply) → SurveyAnswer r input a → SurveyAnswer r input b → a ≡ b
-one_answer r input a b x y = one_question r.question (meant r.blocks input) a b x y
+one_answer r input a b x y = one_question (held_whole r.blocks input) r.question (meant r.blocks input) a b x y

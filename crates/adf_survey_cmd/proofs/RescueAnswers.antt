@@ -1,6 +1,6 @@
 -- What answers a rescue, and which images a tree fits only as they are.
 -- Letters: w the walk of a survey, fs its findings.
-use Rattle.std.proofs.Common.{◌≡◌, ◌≢◌, ◌∙◌, ◌∷◌, ◌++◌, ℕ, Bool, true, false, List, [], ap, refl, sym, Option, None, Some, IfSome, inl, inr, subst, arith}
+use Rattle.std.proofs.Common.{◌≡◌, ◌≢◌, ◌∙◌, ℕ, Bool, true, false, List, [], ap, refl, sym, Option, None, Some, IfSome, inl, inr, subst, arith}
 use Rattle.std.specs.Prelude.{Result, Ok, Err, is_some}
 use Rattle.std.specs.Result.{IsErrAnd}
 use Rattle.std.proofs.lemmas.Bool.{cond-false, cond-true}
@@ -17,37 +17,36 @@ use Rattle.adf_rescue.specs.declared.left_out.LeftOut.{LeftOut}
 use Rattle.adf_rescue.specs.Hung.{hung}
 use Rattle.adf_rescue.specs.Lost.{has_lost}
 use Rattle.adf_rescue.specs.Opened.{is_mended, opened}
-use Rattle.adf_rescue.specs.Rescue.{HasFault, Basis, StandsNothing, rescue_leaves, rescued_tree, second_leaves}
-use Rattle.adf_rescue.specs.declared.rescues.Rescued.{Rescued}
-use Rattle.adf_drafts.specs.Draft.{DraftValue}
+use Rattle.adf_rescue.specs.Rescue.{HasFault, Basis, StandsNothing, rescued_tree}
 use Rattle.adf_blocks.specs.Sizes.{blocks}
 use Rattle.adf_build.specs.Building.{IsBuildable}
 use Rattle.adf_build.specs.Laid.{IsLaid}
 use Rattle.adf_rescue.proofs.OpenedImages.{opened_kept, volumes_are_kept}
-use Rattle.adf_runs.specs.Commands.{Reply}
+use Rattle.adf_runs.specs.Commands.{Reply, on_errors}
 use Rattle.adf_runs.specs.declared.outcome.Outcome.{Outcome, TheVariants.NoMemory, TheVariants.Refused}
+use Rattle.adf_runs.specs.declared.outcome.Outcome.TheVariants.{LeftOut as Tells}
 use Rattle.adf_cmd.specs.Answers.{RefusesImage}
 use Rattle.adf_cmd.specs.Refusals.{IsRefusedImage}
 use Rattle.adf_cmd.proofs.AnswerLaws.{refused_image_ends}
 use Rattle.adf_runs.proofs.Endings.{ends_weaker}
 use Rattle.adf_runs.proofs.PendingText.{appends_nil}
 use Rattle.adf_survey_cmd.specs.declared.rescuing.Prepared.{Prepared}
-use Rattle.adf_survey_cmd.specs.Prepared.{IsOpened, Prepares, prepared_reply}
-use Rattle.adf_survey_cmd.specs.Rescues.{Rescues, RescuesBoth, RescuesBy, RescuesIn, left_out_text, rescue_reply, second_image, second_text}
+use Rattle.adf_survey_cmd.specs.Prepared.{IsOpened, IsRefusedWith, Prepares}
+use Rattle.adf_survey_cmd.specs.Rescues.{RefusesWith, Rescues, RescuesBoth, RescuesBy, RescuesIn, lines_text, rescue_reply, rescue_text, second_image}
 
 -- what holds if there is a value holds of it
 pub if_some : {X : Type 0} (o : Option X) (x : X) (P : X → Type 0) → o ≡ Some x → IfSome o P → P x
 if_some o x P e h = subst (λ o. IfSome o P) e h
 
 -- what is answered by the survey of an opened image, and by that of a second one, if there is one
-pub found_answers : (input image : List ℕ) (w : List (Role × ℕ)) (fs : List FindingValue) (sound : ℕ → Bool)
+pub found_answers : (held : ℕ) (input image : List ℕ) (w : List (Role × ℕ)) (fs : List FindingValue) (sound : ℕ → Bool)
     (second : Option (List ℕ)) (reply : Reply)
     → image ≡ opened input → IsSurvey image w fs → AreMarks image w (grave fs) sound → second_image image w fs ≡ second
-    → RescuesBoth input (record { image = image; walk = w; sound = sound }) second fs reply → Rescues input reply
-found_answers input image w fs sound second reply same survey marks is by =
+    → RescuesBoth held input (record { image = image; walk = w; sound = sound }) second fs reply → Rescues held input reply
+found_answers held input image w fs sound second reply same survey marks is by =
     let a : Basis = record { image = image; walk = w; sound = sound } in
-    subst (λ (l : List ℕ). RescuesIn input l reply) same
-    (w, fs, survey, (sound, marks, subst (λ (o : Option (List ℕ)). RescuesBoth input a o fs reply) (sym is) by))
+    subst (λ (l : List ℕ). RescuesIn held input l reply) same
+    (w, fs, survey, (sound, marks, subst (λ (o : Option (List ℕ)). RescuesBoth held input a o fs reply) (sym is) by))
 
 -- the hung image is surveyed where something is lost, and only there
 
@@ -69,44 +68,26 @@ none_fits_it image w fs mended kept survey (inr some) t l fits = some (finds_non
 pub none_fits_mended : (image : List ℕ) → is_mended image ≡ true → (t : Tree) (l : Layout) → Fits image t l → ⊥
 none_fits_mended image mended t l fits = let kept = volumes_are_kept image t l fits in absurd cc
 
--- where nothing is left out, nothing is on errors
-pub whole_reply : (image : List ℕ) (w : List (Role × ℕ)) (b : Option Basis) (volume : List ℕ) (xs ys : List LeftOut) → xs ++ ys ≡ []
-    → (let whole : Reply = record { status = 0; output = volume; errors = [] } in whole ≡ rescue_reply image w b volume xs ys)
-whole_reply image w None volume [] [] e = refl
-whole_reply image w (Some l) volume [] [] e = refl
-whole_reply image w b volume [] (y ∷ ys) e = absurd cc
-whole_reply image w b volume (x ∷ xs) ys e = absurd cc
-
--- where something is left out, errors get lines
-pub some_reply : (image : List ℕ) (w : List (Role × ℕ)) (b : Option Basis) (volume text : List ℕ) (xs ys : List LeftOut) → xs ++ ys ≢ []
-    → text ≡ left_out_text image w xs ++ second_text b ys
-    → (let some : Reply = record { status = 1; output = volume; errors = text } in some ≡ rescue_reply image w b volume xs ys)
-some_reply image w b volume text [] [] some e = absurd (some refl)
-some_reply image w b volume text [] (y ∷ ys) some e = grind (arith, common_steps)
-some_reply image w b volume text (x ∷ xs) ys some e = grind (arith, common_steps)
+-- the lines of the same are the same
+pub same_lines : (image : List ℕ) (w : List (Role × ℕ)) (b : Option Basis) (xs us ys vs : List LeftOut) (ps qs ns ms : List ℕ)
+    → xs ≡ us → ys ≡ vs → ps ≡ qs → ns ≡ ms → lines_text image w b xs ys ps ns ≡ lines_text image w b us vs qs ms
+same_lines image w b xs us ys vs ps qs ns ms d e f g = λ i. lines_text image w b (d i) (e i) (f i) (g i)
 
 -- what stands is prepared as a volume
-pub volume_prepared : (input : List ℕ) (a : Basis) (b : Option Basis) (fs : List FindingValue) (r : Rescued) (p : Prepared)
-    → p.draft ≡ r.draft → p.blocks ≡ r.blocks → IsBuildable r.draft.tree r.blocks → r.draft.tree ≡ rescued_tree a b → r.blocks ≡ blocks a.image
-    → r.left_out.items ≡ rescue_leaves a → r.second_left_out.items ≡ second_leaves a b
-    → ((volume : List ℕ) → prepared_reply p volume ≡ rescue_reply a.image a.walk b volume r.left_out.items r.second_left_out.items)
-    → ¬ StandsNothing a b fs (is_mended input) → Prepares (RescuesBy input a b fs) (Ok p)
-volume_prepared input a b fs r p draft number fits tree size first second told some =
-    let kept : p.draft.tree ≡ r.draft.tree = ap (λ (d : DraftValue). d.tree) draft in
-    let room : IsBuildable p.draft.tree p.blocks =
-    subst (λ (t : Tree). IsBuildable t p.blocks) (sym kept) (subst (λ (n : ℕ). IsBuildable r.draft.tree n) (sym number) fits) in (
-      room,
-      λ reply writes. inr (
-        some,
-        (
-          writes.0,
-          subst (λ (t : Tree). IsLaid writes.0 t) (kept ∙ tree) writes.1,
-          writes.2 ∙ (number ∙ size),
-          writes.3 ∙ (told writes.0 ∙ (ap (λ (xs : List LeftOut). rescue_reply a.image a.walk b writes.0 xs r.second_left_out.items) first
-              ∙ ap (rescue_reply a.image a.walk b writes.0 (rescue_leaves a)) second)),
-        ),
-      ),
-    )
+pub volume_prepared : (held : ℕ) (input : List ℕ) (a : Basis) (b : Option Basis) (fs : List FindingValue) (p : Prepared)
+    → IsBuildable p.draft.tree p.blocks → p.draft.tree ≡ rescued_tree held a b → p.blocks ≡ blocks a.image
+    → p.lines.items ≡ rescue_text held a b fs → a.walk ≢ [] → ¬ StandsNothing held a b fs (is_mended input)
+    → Prepares (RescuesBy held input a b fs) (Ok p)
+volume_prepared held input a b fs p room tree size told read some = (
+  room,
+  λ reply writes. inr (
+    read,
+    inr (
+      some,
+      (writes.0, subst (λ (t : Tree). IsLaid writes.0 t) tree writes.1, writes.2 ∙ size, writes.3 ∙ ap (rescue_reply writes.0) told),
+    ),
+  ),
+)
 
 -- a rescue that is prepared with some answers is prepared with others that they are
 pub prepares_weaker : (few more : Reply → Type 0) (r : Result Prepared Outcome) → ((reply : Reply) → few reply → more reply)
@@ -125,6 +106,14 @@ pub refusal_prepared : (answers : Reply → Type 0) (input : List ℕ) (w : Outc
 refusal_prepared answers input (Refused line) f h = (refl, refl, λ o. refused_image_ends (Refused line) input answers o f h)
 refusal_prepared answers input NoMemory f h = (refl, refl, λ o. refused_image_ends NoMemory input answers o f h)
 refusal_prepared answers input _ f h = absurd h
+
+-- so is one that is refused with lines
+pub refused_with_prepared : (answers : Reply → Type 0) (text input : List ℕ) (w : Outcome)
+    → ((reply : Reply) → RefusesWith text input reply → answers reply) → IsRefusedWith text input w → Prepares answers (Err w)
+refused_with_prepared answers text input (Tells lines) f h =
+    (refl, refl, λ o. ([], f (on_errors 1 lines.items) (h.0, h.1, ap (on_errors 1) h.2), appends_nil o))
+refused_with_prepared answers text input NoMemory f h = (refl, refl, λ o. inl (appends_nil o))
+refused_with_prepared answers text input _ f h = absurd h
 
 -- an input is opened as the image that a rescue reads
 pub opened_so : (input image : List ℕ) (refusal : Option Outcome) → IsOpened input image refusal → image ≡ opened input

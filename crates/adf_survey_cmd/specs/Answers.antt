@@ -1,7 +1,8 @@
 -- What the command answers to its words and its input.
 -- Letters: w the walk of a survey, fs its findings; n an entry's node, h the block of its header; r an inquiry.
-use Rattle.std.specs.Prelude.{◌≡◌, ◌*◌, ◌-◌, ◌⊎◌, ◌++◌, ℕ, Bool, true, false, List, [], ◌∷◌, Option, None, Some, codes, length, replicate, take}
+use Rattle.std.specs.Prelude.{◌≡◌, ◌*◌, ◌-◌, ◌⊎◌, ◌++◌, ℕ, Bool, true, false, List, [], ◌∷◌, Option, None, Some, codes, length, min, replicate, take}
 use Rattle.adf_blocks.specs.declared.layout.TheConstants.{MOST_BLOCKS}
+use Rattle.adf_blocks.specs.Sizes.{blocks}
 use Rattle.adf_names.specs.PathTexts.{IsPathText}
 use Rattle.adf_volume.specs.Walk.{FileAt, Role}
 use Rattle.adf_findings.specs.Files.{IsSoundFile, file_content, file_in}
@@ -73,12 +74,12 @@ CopiesFromSurvey damaged path input reply =
     (names : List (List ℕ)) × IsPathText path names
     × (w : List (Role × ℕ)) × (fs : List FindingValue) × IsSurvey input w fs × CopiesFound damaged input w fs names reply
 
--- the answer to a question of an image
-abbrev pub QuestionAnswer : QuestionValue → List ℕ → Reply → Type 0
-QuestionAnswer report image reply = Surveys image reply
-QuestionAnswer list image reply = ListsSurvey image reply
-QuestionAnswer (cat damaged path) image reply = RefusesPath path reply ⊎ CopiesFromSurvey damaged path image reply
-QuestionAnswer rescue image reply = Rescues image reply
+-- the answer to a question of an image, of which the input holds the first `held` blocks
+abbrev pub QuestionAnswer : (held : ℕ) → QuestionValue → List ℕ → Reply → Type 0
+QuestionAnswer held report image reply = Surveys image reply
+QuestionAnswer held list image reply = ListsSurvey image reply
+QuestionAnswer held (cat damaged path) image reply = RefusesPath path reply ⊎ CopiesFromSurvey damaged path image reply
+QuestionAnswer held rescue image reply = Rescues held image reply
 
 -- the image of n blocks that begins with the bytes of the input, as many as it holds, and has zeros for what is not there
 abbrev pub sized : ℕ → List ℕ → List ℕ
@@ -89,9 +90,14 @@ abbrev pub meant : Option ℕ → List ℕ → List ℕ
 meant None input = input
 meant (Some n) input = sized n input
 
+-- how many blocks of the image that is meant the input holds whole
+abbrev pub held_whole : Option ℕ → List ℕ → ℕ
+held_whole None input = blocks input
+held_whole (Some n) input = min n (blocks input)
+
 -- the answer to an inquiry
 abbrev pub SurveyAnswer : InquiryValue → List ℕ → Reply → Type 0
-SurveyAnswer r input reply = QuestionAnswer r.question (meant r.blocks input) reply
+SurveyAnswer r input reply = QuestionAnswer (held_whole r.blocks input) r.question (meant r.blocks input) reply
 
 -- words ask for one thing at most
 abbrev pub WordsAskForOneInquiry : Type 0

@@ -1,24 +1,29 @@
 -- What a rescue answers.
--- Letters: a the survey of an image, w its walk, fs its findings; b the second survey, if there is one; x an entry that is left out.
-use Rattle.std.specs.Prelude.{◌≡◌, ◌⊎◌, ℕ, Bool, List, [], ◌∷◌, ◌++◌, Option, None, Some, codes, cond}
+-- Letters: a the survey of an image, w its walk, fs its findings; b the second survey, if there is one; x an entry that is left out;
+-- p the node of a directory, n a block; held the number of blocks that the input holds whole.
+use Rattle.std.specs.Prelude.{◌≡◌, ◌≢◌, ◌==◌, ◌⊎◌, ◌+◌, ℕ, Bool, false, List, [], ◌∷◌, ◌++◌, Option, None, Some, codes, cond}
 use Rattle.std.specs.List.{flat_map}
 use Rattle.adf_blocks.specs.Sizes.{blocks}
-use Rattle.adf_volume.specs.Walk.{Role}
+use Rattle.adf_volume.specs.declared.fault.Fault.{Fault}
+use Rattle.adf_volume.specs.Walk.{FirstFault, Role}
 use Rattle.adf_findings.specs.Files.{grave}
 use Rattle.adf_findings.specs.Lookup.{path_to}
 use Rattle.adf_findings.specs.SoundMarks.{AreMarks}
 use Rattle.adf_findings.specs.Survey.{FindingValue, IsSurvey}
 use Rattle.adf_build.specs.Laid.{IsLaid}
 use Rattle.adf_rescue.specs.Hung.{hung}
+use Rattle.adf_rescue.specs.Losses.{lost_blocks, lost_headers}
 use Rattle.adf_rescue.specs.Lost.{has_lost}
 use Rattle.adf_rescue.specs.Opened.{is_mended, opened}
 use Rattle.adf_rescue.specs.Rescue.{IsSecond, Basis, StandsNothing, rescue_leaves, rescued_tree, second_leaves}
 use Rattle.adf_rescue.specs.declared.left_out.LeftOut.{LeftOut}
 use Rattle.adf_rescue.specs.declared.left_out.Why.{Why}
 use Rattle.adf_rescue.specs.declared.left_out.Why.TheVariants.{Damaged, Link, NoRoom}
+use Rattle.adf_texts.specs.Lines.{fault_line}
 use Rattle.adf_texts.specs.Names.{names_text}
 use Rattle.adf_cmd.specs.Answers.{RefusesImage}
-use Rattle.adf_runs.specs.Commands.{Reply}
+use Rattle.adf_runs.specs.Commands.{Reply, on_errors}
+use Rattle.adf_survey_cmd.specs.Lines.{blocks_text}
 
 -- why an entry is left out, in front of its path
 abbrev pub why_text : Why → List ℕ
@@ -39,45 +44,94 @@ abbrev pub second_text : Option Basis → List LeftOut → List ℕ
 second_text None xs = []
 second_text (Some b) xs = left_out_text b.image b.walk xs
 
--- the status of a rescue: 0 where nothing is left out
-abbrev pub left_out_status : List LeftOut → ℕ
-left_out_status [] = 0
-left_out_status (x ∷ xs) = 1
+-- the next header is lost in this directory too
+abbrev pub begins_with : ℕ → List ℕ → Bool
+begins_with p [] = false
+begins_with p (q ∷ ps) = p == q
 
--- a volume on output, and on errors the lines of what it leaves out: of the entries xs of the survey of the image, and ys of the second one
-abbrev pub rescue_reply : List ℕ → List (Role × ℕ) → Option Basis → List ℕ → List LeftOut → List LeftOut → Reply
-rescue_reply image w b volume xs ys =
-    record { status = left_out_status (xs ++ ys); output = volume; errors = left_out_text image w xs ++ second_text b ys }
+-- the line of a directory in which headers are lost
+abbrev pub lost_header_line : List ℕ → List (Role × ℕ) → ℕ → List ℕ
+lost_header_line image w p = codes "lost: in " ++ (names_text (path_to image w p) ++ codes "/\n")
+
+-- the lines of lost headers, by the directory of each: one for those that follow on one another in a directory
+abbrev pub lost_headers_text : List ℕ → List (Role × ℕ) → List ℕ → List ℕ
+lost_headers_text image w [] = []
+lost_headers_text image w (p ∷ ps) = cond (begins_with p ps) [] (lost_header_line image w p) ++ lost_headers_text image w ps
+
+-- the line of lost blocks
+abbrev pub lost_run_line : ℕ → ℕ → List ℕ
+lost_run_line first last = codes "lost: " ++ (blocks_text first last ++ codes "\n")
+
+-- the lines of a run of lost blocks and of those behind it
+abbrev pub lost_run_text : ℕ → ℕ → List ℕ → List ℕ
+lost_run_text first last [] = lost_run_line first last
+lost_run_text first last (n ∷ ns) = cond (last + 1 == n) (lost_run_text first n ns) (lost_run_line first last ++ lost_run_text n n ns)
+
+-- the lines of lost blocks: one for each run of neighbours
+abbrev pub lost_blocks_text : List ℕ → List ℕ
+lost_blocks_text [] = []
+lost_blocks_text (n ∷ ns) = lost_run_text n n ns
+
+-- the lines of the entries xs of the survey of the image that are left out, and ys of the second one; of headers that are lost, by
+-- their directories ps; and of blocks ns that are lost
+abbrev pub lines_text : List ℕ → List (Role × ℕ) → Option Basis → List LeftOut → List LeftOut → List ℕ → List ℕ → List ℕ
+lines_text image w b xs ys ps ns =
+    left_out_text image w xs ++ (second_text b ys ++ (lost_headers_text image w ps ++ lost_blocks_text ns))
+
+-- the lines of all that is not in the new volume
+abbrev pub rescue_text : (held : ℕ) → Basis → Option Basis → List FindingValue → List ℕ
+rescue_text held a b fs =
+    lines_text a.image a.walk b (rescue_leaves held a) (second_leaves held a b) (lost_headers a.walk b fs) (lost_blocks b fs)
+
+-- the status of a rescue: 0 where there is no line
+abbrev pub text_status : List ℕ → ℕ
+text_status [] = 0
+text_status (c ∷ text) = 1
+
+-- a volume on output, and lines on errors
+abbrev pub rescue_reply : List ℕ → List ℕ → Reply
+rescue_reply volume text = record { status = text_status text; output = volume; errors = text }
 
 -- the volume is written that is laid for the tree of all that stands, in as many blocks
-abbrev pub WritesVolume : Basis → Option Basis → Reply → Type 0
-WritesVolume a b reply =
-    (volume : List ℕ) × IsLaid volume (rescued_tree a b) × (blocks volume ≡ blocks a.image)
-    × (reply ≡ rescue_reply a.image a.walk b volume (rescue_leaves a) (second_leaves a b))
+abbrev pub WritesVolume : (held : ℕ) → Basis → Option Basis → List FindingValue → Reply → Type 0
+WritesVolume held a b fs reply =
+    (volume : List ℕ) × IsLaid volume (rescued_tree held a b) × (blocks volume ≡ blocks a.image)
+    × (reply ≡ rescue_reply volume (rescue_text held a b fs))
 
--- the rescue of an input by the surveys: its volume, or where nothing stands the first fault of the input
-abbrev pub RescuesBy : List ℕ → Basis → Option Basis → List FindingValue → Reply → Type 0
-RescuesBy input a b fs reply =
-    (StandsNothing a b fs (is_mended input) × RefusesImage input reply) ⊎ ((¬ StandsNothing a b fs (is_mended input)) × WritesVolume a b reply)
+-- nothing is written, and errors get the first fault of the input, and these lines behind it
+abbrev pub RefusesWith : List ℕ → List ℕ → Reply → Type 0
+RefusesWith text input reply = (f : Fault) × FirstFault input f.block f.cause × (reply ≡ on_errors 1 (fault_line f ++ text))
+
+-- the rescue of an input of which something is surveyed: the volume, or where nothing stands the first fault
+abbrev pub RescuesSome : (held : ℕ) → List ℕ → Basis → Option Basis → List FindingValue → Reply → Type 0
+RescuesSome held input a b fs reply =
+    (StandsNothing held a b fs (is_mended input) × RefusesWith (rescue_text held a b fs) input reply)
+    ⊎ ((¬ StandsNothing held a b fs (is_mended input)) × WritesVolume held a b fs reply)
+
+-- the rescue of an input by the surveys; where nothing is surveyed it is refused
+abbrev pub RescuesBy : (held : ℕ) → List ℕ → Basis → Option Basis → List FindingValue → Reply → Type 0
+RescuesBy held input a b fs reply = ((a.walk ≡ []) × RefusesImage input reply) ⊎ ((a.walk ≢ []) × RescuesSome held input a b fs reply)
 
 -- the second image that is surveyed: the hung one, if something is lost
 abbrev pub second_image : List ℕ → List (Role × ℕ) → List FindingValue → Option (List ℕ)
 second_image image w fs = cond (has_lost image w fs) (Some (hung image w fs)) None
 
 -- the rescue of an input by the survey of its image, and by that of a second image, if there is one
-abbrev pub RescuesBoth : List ℕ → Basis → Option (List ℕ) → List FindingValue → Reply → Type 0
-RescuesBoth input a image fs reply = (b : Option Basis) × IsSecond image b × RescuesBy input a b fs reply
+abbrev pub RescuesBoth : (held : ℕ) → List ℕ → Basis → Option (List ℕ) → List FindingValue → Reply → Type 0
+RescuesBoth held input a image fs reply = (b : Option Basis) × IsSecond image b × RescuesBy held input a b fs reply
 
 -- the rescue of an input by what is found in an image
-abbrev pub RescuesFound : List ℕ → List ℕ → List (Role × ℕ) → List FindingValue → Reply → Type 0
-RescuesFound input image w fs reply =
+abbrev pub RescuesFound : (held : ℕ) → List ℕ → List ℕ → List (Role × ℕ) → List FindingValue → Reply → Type 0
+RescuesFound held input image w fs reply =
     (sound : ℕ → Bool) × AreMarks image w (grave fs) sound
-    × RescuesBoth input (record { image = image; walk = w; sound = sound }) (second_image image w fs) fs reply
+    × RescuesBoth held input (record { image = image; walk = w; sound = sound }) (second_image image w fs) fs reply
 
 -- the rescue of an input by the survey of an image
-abbrev pub RescuesIn : List ℕ → List ℕ → Reply → Type 0
-RescuesIn input image reply = (w : List (Role × ℕ)) × (fs : List FindingValue) × IsSurvey image w fs × RescuesFound input image w fs reply
+abbrev pub RescuesIn : (held : ℕ) → List ℕ → List ℕ → Reply → Type 0
+RescuesIn held input image reply =
+    (w : List (Role × ℕ)) × (fs : List FindingValue) × IsSurvey image w fs × RescuesFound held input image w fs reply
 
--- `adf-survey rescue` writes the volume of all that stands in the input, whose boot block and root may be overwritten
-abbrev pub Rescues : List ℕ → Reply → Type 0
-Rescues input reply = RescuesIn input (opened input) reply
+-- `adf-survey rescue` writes the volume of all that stands in an image, whose boot block and root may be overwritten, and of which the
+-- input holds the first `held` blocks
+abbrev pub Rescues : (held : ℕ) → List ℕ → Reply → Type 0
+Rescues held input reply = RescuesIn held input (opened input) reply

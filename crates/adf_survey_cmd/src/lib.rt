@@ -4,6 +4,7 @@
 mod copying;
 mod found_lines;
 mod listing;
+mod lost_lines;
 mod reporting;
 mod rescuing;
 mod runner;

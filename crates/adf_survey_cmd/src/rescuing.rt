@@ -1,7 +1,7 @@
-// The new volume of all that stands on an image, and the lines of what it leaves out.
+// The new volume of all that stands on an image, and the lines of what is not in it.
 
-ghost use Rattle.std.specs.Prelude.{◌≡◌, ◌↔◌, ◌++◌, ℕ, List, [], false, true};
-ghost use Rattle.std.specs.Prelude.{Option, Some, IfOk, IsTrue, OnOk, is_some, option_map};
+ghost use Rattle.std.specs.Prelude.{◌≡◌, ◌++◌, ℕ, List, [], false, true};
+ghost use Rattle.std.specs.Prelude.{Option, Some, IfOk, OnOk, is_some, option_map};
 ghost use Rattle.adf_tree.specs.Tree.{Tree};
 ghost use Rattle.adf_volume.specs.Fits.{Fits};
 ghost use Rattle.adf_volume.specs.Layout.{Layout};
@@ -10,10 +10,11 @@ ghost use Rattle.adf_build.specs.Building.{IsBuildable};
 ghost use Rattle.adf_rescue.specs.Opened.{is_mended};
 ghost use Rattle.adf_rescue.specs.Rescue.{IsSecond, Basis, OnBasis, OnSecond};
 ghost use Rattle.adf_cmd.specs.Refusals.{IsRefusedImage};
-ghost use Rattle.adf_runs.specs.Outcomes.{EndsBy, is_read_fault, is_write_fault};
-ghost use Rattle.adf_survey_cmd.specs.Prepared.{IsOpened, Prepares, WritesPrepared, prepared_reply};
-ghost use Rattle.adf_survey_cmd.specs.Rescues.{Rescues, RescuesBoth, RescuesBy, left_out_line, left_out_text, rescue_reply, second_text, why_text};
+ghost use Rattle.adf_runs.specs.Outcomes.{EndsBy, is_read_fault, is_write_fault, outcome_text, status_of};
+ghost use Rattle.adf_survey_cmd.specs.Prepared.{IsOpened, IsRefusedWith, Prepares, WritesPrepared};
+ghost use Rattle.adf_survey_cmd.specs.Rescues.{Rescues, RescuesBoth, RescuesBy, left_out_line, left_out_text, lines_text, second_text, text_status, why_text};
 
+use crate::lost_lines::{push_lost_blocks, push_lost_headers};
 use crate::runs::push_path;
 use adf_cmd::volume_of;
 use adf_drafts::Draft;
@@ -80,64 +81,49 @@ fn push_second(
     }
 }
 
-// The lines of the entries that are left out.
-fn left_out_lines(
+// The lines of all that is not in the new volume.
+fn rescue_lines(
     alloc: Global,
     survey: &Survey<'_>,
     second: Option<&Survey<'_>>,
     rescued: &Rescued,
 ) -> Result<Vec<u8>, AllocError>
     ensures { OnSurvey survey.now.image (λ w _. OnSecond (option_map (λ s. s.now.image) second.entry) (λ b. IfOk result (λ text.
-        text.items ≡ left_out_text survey.now.image w rescued.now.left_out.items ++ second_text b rescued.now.second_left_out.items))) }
+        text.items ≡ lines_text survey.now.image w b rescued.now.left_out.items rescued.now.second_left_out.items
+        rescued.now.lost_headers.items rescued.now.lost_blocks.items))) }
 {
     let mut text = Vec::new(alloc);
     push_lines(alloc, survey, &rescued.left_out, &mut text)?;
     push_second(alloc, second, &rescued.second_left_out, &mut text)?;
+    push_lost_headers(alloc, survey, &rescued.lost_headers, &mut text)?;
+    push_lost_blocks(&rescued.lost_blocks, &mut text)?;
     Ok(text)
 }
 
-// Whether nothing is left out.
-fn is_whole(rescued: &Rescued) -> bool
-    ensures { IsTrue result ↔ (rescued.now.left_out.items ++ rescued.now.second_left_out.items ≡ []) }
-{
-    rescued.left_out.is_empty() && rescued.second_left_out.is_empty()
-}
-
 /// A rescue of which only the new volume is to be laid and written: the draft of its tree, the number of its blocks, and the
-/// lines of what it leaves out, if there are any.
+/// lines of all that is not in it.
 #[derive(Drop)]
 pub struct Prepared {
     draft: Draft,
     blocks: u32,
-    lines: Option<Vec<u8>>,
+    lines: Vec<u8>,
 }
 
-// The rescue, once nothing more is asked of the surveys.
-fn with_lines(
-    alloc: Global,
-    survey: &Survey<'_>,
-    second: Option<&Survey<'_>>,
-    rescued: Rescued,
-) -> Result<Prepared, AllocError>
-    ensures tree { IfOk result (λ p. p.draft ≡ rescued.draft) }
-    ensures blocks { IfOk result (λ p. p.blocks ≡ rescued.blocks) }
-    ensures reply { OnSurvey survey.now.image (λ w _. OnSecond (option_map (λ s. s.now.image) second.entry)
-        (λ b. IfOk result (λ p. (volume : List ℕ) → prepared_reply p volume ≡ rescue_reply survey.now.image w b volume
-        rescued.left_out.items rescued.second_left_out.items))) }
+// The outcome of a rescue that is written, by its lines.
+fn told(lines: Vec<u8>) -> Outcome
+    ensures status { status_of result ≡ text_status lines.items }
+    ensures text { outcome_text result ≡ lines.items }
+    ensures read { is_read_fault result ≡ false }
+    ensures written { is_write_fault result ≡ false }
 {
-    let lines = if is_whole(&rescued) {
-        None
+    if lines.is_empty() {
+        Outcome::Done
     } else {
-        Some(left_out_lines(alloc, survey, second, &rescued)?)
-    };
-    Ok(Prepared {
-        draft: rescued.draft,
-        blocks: rescued.blocks,
-        lines,
-    })
+        Outcome::LeftOut(lines)
+    }
 }
 
-// Lays and writes the volume of a prepared rescue, and tells what it leaves out.
+// Lays and writes the volume of a prepared rescue, and tells what is not in it.
 fn write_prepared<W: Sink>(alloc: Global, prepared: Prepared, output: &mut W) -> Outcome
     requires works { W.has_failed output.old ≡ false }
     requires fits { IsBuildable prepared.draft.tree prepared.blocks }
@@ -154,10 +140,7 @@ fn write_prepared<W: Sink>(alloc: Global, prepared: Prepared, output: &mut W) ->
         return Outcome::NoMemory;
     };
     match write_all(output, &volume) {
-        Ok(()) => match lines {
-            Some(lines) => Outcome::LeftOut(lines),
-            None => Outcome::Done,
-        },
+        Ok(()) => told(lines),
         Err(_) => Outcome::WriteFault,
     }
 }
@@ -175,7 +158,7 @@ fn refuse(alloc: Global, image: &[u8]) -> Outcome
     }
 }
 
-// Refuses an input of which nothing stands: as it is refused already, if it was mended.
+// Refuses an input of which nothing is surveyed or stands: as it is refused already, if it was mended.
 fn refuse_opened(alloc: Global, image: &[u8], refusal: Option<Outcome>) -> Outcome
     requires { is_some refusal ≡ false → (t : Tree) (l : Layout) → Fits image.now t l → ⊥ }
     ensures { (input : List ℕ) → IsOpened input image.now refusal → IsRefusedImage input result }
@@ -186,25 +169,57 @@ fn refuse_opened(alloc: Global, image: &[u8], refusal: Option<Outcome>) -> Outco
     }
 }
 
+// A line, and lines behind it.
+fn joined(alloc: Global, line: &str, lines: &[u8]) -> Result<Vec<u8>, AllocError>
+    ensures { IfOk result (λ text. text.items ≡ line.now ++ lines.now) }
+{
+    let mut text = Vec::from_slice(alloc, line.as_bytes())?;
+    text.extend_from_slice(lines)?;
+    Ok(text)
+}
+
+// Refuses such an input with lines behind its first fault.
+fn refuse_with(alloc: Global, image: &[u8], refusal: Option<Outcome>, lines: &[u8]) -> Outcome
+    requires { is_some refusal ≡ false → (t : Tree) (l : Layout) → Fits image.now t l → ⊥ }
+    ensures { (input : List ℕ) → IsOpened input image.now refusal → IsRefusedWith lines.now input result }
+{
+    match refuse_opened(alloc, image, refusal) {
+        Outcome::Refused(line) => match joined(alloc, &line, lines) {
+            Ok(text) => Outcome::LeftOut(text),
+            Err(_) => Outcome::NoMemory,
+        },
+        _ => Outcome::NoMemory,
+    }
+}
+
 // Prepares a rescue by what is found in the image that an input is opened as, and in a second one, if there is one. An input
 // that was mended comes with how it is refused.
 fn prepare_found(
     alloc: Global,
     found: &Survey<'_>,
     second: Option<&Survey<'_>>,
+    held: usize,
     refusal: Option<Outcome>,
 ) -> Result<Prepared, Outcome>
     requires { (b : Option Basis) × IsSecond (option_map (λ s. s.now.image) second) b }
     ensures { (input : List ℕ) → IsOpened input found.now.image refusal
         → OnBasis found.now.image (λ a fs. OnSecond (option_map (λ s. s.now.image) second.entry) (λ b.
-        Prepares (RescuesBy input a b fs) result)) }
+        Prepares (RescuesBy held input a b fs) result)) }
 {
     found.whole_marks();
     some_survey();
-    match rescue(alloc, found, second, refusal.is_some())? {
-        Some(rescued) => Ok(with_lines(alloc, found, second, rescued)?),
-        None => Err(refuse_opened(alloc, found.image(), refusal)),
+    let Some(rescued) = rescue(alloc, found, second, held, refusal.is_some())? else {
+        return Err(refuse_opened(alloc, found.image(), refusal));
+    };
+    let lines = rescue_lines(alloc, found, second, &rescued)?;
+    if rescued.stands_nothing {
+        return Err(refuse_with(alloc, found.image(), refusal, &lines));
     }
+    Ok(Prepared {
+        draft: rescued.draft,
+        blocks: rescued.blocks,
+        lines,
+    })
 }
 
 // Prepares a rescue by what is found in the image that an input is opened as, and in the hung one.
@@ -212,86 +227,89 @@ fn prepare_hung(
     alloc: Global,
     found: &Survey<'_>,
     hung: &[u8],
+    held: usize,
     refusal: Option<Outcome>,
 ) -> Result<Prepared, Outcome>
     ensures { (input : List ℕ) → IsOpened input found.now.image refusal
-        → OnBasis found.now.image (λ a fs. Prepares (RescuesBoth input a (Some hung.now) fs) result) }
+        → OnBasis found.now.image (λ a fs. Prepares (RescuesBoth held input a (Some hung.now) fs) result) }
 {
     let second = survey(alloc, hung)?;
     second.whole_marks();
-    prepare_found(alloc, found, Some(&second), refusal)
+    prepare_found(alloc, found, Some(&second), held, refusal)
 }
 
 // Prepares a rescue by the image that an input is opened as.
 fn prepare_opened(
     alloc: Global,
     image: &[u8],
+    held: usize,
     refusal: Option<Outcome>,
 ) -> Result<Prepared, Outcome>
-    ensures { (input : List ℕ) → IsOpened input image.now refusal → Prepares (Rescues input) result }
+    ensures { (input : List ℕ) → IsOpened input image.now refusal → Prepares (Rescues held input) result }
 {
     let found = survey(alloc, image)?;
     found.whole_marks();
     match hung_image(alloc, &found)? {
-        Some(hung) => prepare_hung(alloc, &found, &hung, refusal),
-        None => prepare_found(alloc, &found, None, refusal),
+        Some(hung) => prepare_hung(alloc, &found, &hung, held, refusal),
+        None => prepare_found(alloc, &found, None, held, refusal),
     }
 }
 
 // Mends an input, and prepares its rescue.
-fn prepare_mended(alloc: Global, image: &mut [u8]) -> Result<Prepared, Outcome>
+fn prepare_mended(alloc: Global, image: &mut [u8], held: usize) -> Result<Prepared, Outcome>
     requires { is_mended image.old ≡ true }
-    ensures { Prepares (Rescues image.old) result }
+    ensures { Prepares (Rescues held image.old) result }
 {
     let refusal = refuse(alloc, image);
     open_image(image);
-    prepare_opened(alloc, image, Some(refusal))
+    prepare_opened(alloc, image, held, Some(refusal))
 }
 
 // Prepares the rescue of an input.
-fn prepare(alloc: Global, input: &[u8]) -> Result<Prepared, Outcome>
-    ensures { Prepares (Rescues input.now) result }
+fn prepare(alloc: Global, input: &[u8], held: usize) -> Result<Prepared, Outcome>
+    ensures { Prepares (Rescues held input.now) result }
 {
     if !is_mended(input) {
-        return prepare_opened(alloc, input, None);
+        return prepare_opened(alloc, input, held, None);
     }
     let mut copy = input.to_vec(alloc)?;
-    prepare_mended(alloc, &mut copy)
+    prepare_mended(alloc, &mut copy, held)
 }
 
 // Prepares it too, and lets the input go.
-fn prepare_read(alloc: Global, input: Vec<u8>) -> Result<Prepared, Outcome>
-    ensures { Prepares (Rescues input.items) result }
+fn prepare_read(alloc: Global, input: Vec<u8>, held: usize) -> Result<Prepared, Outcome>
+    ensures { Prepares (Rescues held input.items) result }
 {
     if !is_mended(&input) {
-        return prepare_opened(alloc, &input, None);
+        return prepare_opened(alloc, &input, held, None);
     }
     let mut image = input;
-    prepare_mended(alloc, &mut image)
+    prepare_mended(alloc, &mut image, held)
 }
 
-/// Writes the new volume of all that stands on an input, whose boot block and root may be overwritten, with what no directory
-/// leads to any more; errors get a line for each entry that it leaves out. If nothing stands, and the input is not a valid volume, errors get the line of its first fault.
-pub fn rescue_image<W: Sink>(alloc: Global, input: &[u8], output: &mut W) -> Outcome
+/// Writes the new volume of all that stands on an image, whose boot block and root may be overwritten, and of which the first `held`
+/// blocks were there whole, with what no directory leads to any more; errors get the lines of what is not in it. If nothing
+/// stands, and the input is not a valid volume, errors get the line of its first fault, and these lines behind it.
+pub fn rescue_image<W: Sink>(alloc: Global, input: &[u8], held: usize, output: &mut W) -> Outcome
     requires { W.has_failed output.old ≡ false }
-    ensures ends { EndsBy (Rescues input.now) result (W.held output.old) (W.held output.new) }
+    ensures ends { EndsBy (Rescues held input.now) result (W.held output.old) (W.held output.new) }
     ensures read { is_read_fault result ≡ false }
     ensures written { W.has_failed output.new ≡ is_write_fault result }
 {
-    match prepare(alloc, input) {
+    match prepare(alloc, input, held) {
         Ok(prepared) => write_prepared(alloc, prepared, output),
         Err(outcome) => outcome,
     }
 }
 
 /// Does so too, and lets the input go before the new volume is laid.
-pub fn rescue_read<W: Sink>(alloc: Global, input: Vec<u8>, output: &mut W) -> Outcome
+pub fn rescue_read<W: Sink>(alloc: Global, input: Vec<u8>, held: usize, output: &mut W) -> Outcome
     requires { W.has_failed output.old ≡ false }
-    ensures ends { EndsBy (Rescues input.items) result (W.held output.old) (W.held output.new) }
+    ensures ends { EndsBy (Rescues held input.items) result (W.held output.old) (W.held output.new) }
     ensures read { is_read_fault result ≡ false }
     ensures written { W.has_failed output.new ≡ is_write_fault result }
 {
-    match prepare_read(alloc, input) {
+    match prepare_read(alloc, input, held) {
         Ok(prepared) => write_prepared(alloc, prepared, output),
         Err(outcome) => outcome,
     }

@@ -1,6 +1,6 @@
 // Runs of findings, and their lines.
 
-ghost use Rattle.std.specs.Prelude.{◌≡◌, ◌++◌, ◌∷◌, ◌<◌, ◌≤◌, ◌^◌, ℕ, List, IfNone, IfSome, OnErr, OnOk};
+ghost use Rattle.std.specs.Prelude.{◌≡◌, ◌++◌, ◌∷◌, ◌<◌, ◌≤◌, ◌^◌, ℕ, List, [], IfNone, IfSome, OnErr, OnOk};
 ghost use Rattle.std.specs.Prelude.{codes, drop, false, length, option_map, slice_get};
 ghost use Rattle.std.specs.Io.KnownBytes.{Appends};
 ghost use Rattle.adf_volume.specs.Walk.{Role};
@@ -118,10 +118,9 @@ pub fn run_from(survey: &Survey<'_>, k: usize) -> Option<(Run, usize)>
     Some((run, next))
 }
 
-// Appends the blocks of a run.
-fn push_blocks(text: &mut Vec<u8>, first: u32, last: u32) -> Result<(), AllocError>
-    ensures { OnOk result
-        (text.new.items ≡ text.old.items ++ (blocks_text first last ++ codes ": ")) }
+/// Appends the blocks of a run, and a byte behind them.
+pub fn push_blocks(text: &mut Vec<u8>, first: u32, last: u32, end: u8) -> Result<(), AllocError>
+    ensures { OnOk result (text.new.items ≡ text.old.items ++ (blocks_text first last ++ end ∷ [])) }
 {
     if first == last {
         text.extend_from_slice(b"block ")?;
@@ -130,8 +129,7 @@ fn push_blocks(text: &mut Vec<u8>, first: u32, last: u32) -> Result<(), AllocErr
         push_number(text, first, b' ')?;
         text.extend_from_slice(b"to ")?;
     }
-    push_number(text, last, b':')?;
-    text.extend_from_slice(b" ")
+    push_number(text, last, end)
 }
 
 /// Appends the path of an entry, 0 for the root.
@@ -201,7 +199,8 @@ fn push_run(
     ensures { OnSurvey survey.now.image (λ w _. OnOk result
         (text.new.items ≡ text.old.items ++ findings_line survey.now.image w run.now)) }
 {
-    push_blocks(text, run.first, run.last)?;
+    push_blocks(text, run.first, run.last, b':')?;
+    text.extend_from_slice(b" ")?;
     text.extend_from_slice(run.cause.text().as_bytes())?;
     push_concern(alloc, survey, run.concern, text)?;
     push_owner(alloc, survey, run.owner, text)?;

@@ -1,10 +1,10 @@
 // What is done for words, once they and their path are read.
 
-ghost use Rattle.std.specs.Prelude.{◌≡◌, List, false, IfErr, IfOk};
+ghost use Rattle.std.specs.Prelude.{◌≡◌, ℕ, List, false, IfErr, IfOk};
 ghost use Rattle.adf_findings.specs.Survey.{OnSurvey};
 ghost use Rattle.adf_runs.specs.Outcomes.{EndsBy, is_read_fault, is_write_fault};
 ghost use Rattle.adf_runs.specs.WorkFaults.{IsNoWork};
-ghost use Rattle.adf_survey_cmd.specs.Answers.{HasBadSurveyPath, QuestionAnswer, SurveyAnswer, meant, sized};
+ghost use Rattle.adf_survey_cmd.specs.Answers.{HasBadSurveyPath, QuestionAnswer, SurveyAnswer, held_whole, meant, sized};
 ghost use Rattle.adf_words.specs.SurveyLine.{InquiryValue, QuestionValue, question_value};
 ghost use Rattle.adf_survey_cmd.specs.Work.{Answers, Meets, Shows};
 
@@ -77,8 +77,8 @@ impl View {
     // Shows this of what is found of an image.
     fn of_survey<W: Sink>(&self, alloc: Global, survey: &Survey<'_>, output: &mut W) -> Outcome
         requires { W.has_failed output.old ≡ false }
-        ensures ends { OnSurvey survey.now.image (λ _ _. (q : QuestionValue) → Shows self.now q
-            → EndsBy (QuestionAnswer q survey.now.image) result
+        ensures ends { OnSurvey survey.now.image (λ _ _. (held : ℕ) (q : QuestionValue) → Shows self.now q
+            → EndsBy (QuestionAnswer held q survey.now.image) result
             (W.held output.old) (W.held output.new)) }
         ensures read { is_read_fault result ≡ false }
         ensures written { W.has_failed output.new ≡ is_write_fault result }
@@ -93,8 +93,8 @@ impl View {
     // Surveys an image, and shows this of it.
     fn of_image<W: Sink>(&self, alloc: Global, image: &[u8], output: &mut W) -> Outcome
         requires { W.has_failed output.old ≡ false }
-        ensures ends { (q : QuestionValue) → Shows self.now q
-            → EndsBy (QuestionAnswer q image.now) result (W.held output.old) (W.held output.new) }
+        ensures ends { (held : ℕ) (q : QuestionValue) → Shows self.now q
+            → EndsBy (QuestionAnswer held q image.now) result (W.held output.old) (W.held output.new) }
         ensures read { is_read_fault result ≡ false }
         ensures written { W.has_failed output.new ≡ is_write_fault result }
     {
@@ -106,36 +106,53 @@ impl View {
 }
 
 impl Task {
-    // Does the task with an image.
-    fn on_image<W: Sink>(&self, alloc: Global, image: &[u8], output: &mut W) -> Outcome
+    // Does the task with an image, of which the first `held` blocks were there whole.
+    fn on_image<W: Sink>(&self, alloc: Global, image: &[u8], held: usize, output: &mut W) -> Outcome
         requires { W.has_failed output.old ≡ false }
         ensures ends { (q : QuestionValue) → Answers self.now q
-            → EndsBy (QuestionAnswer q image.now) result (W.held output.old) (W.held output.new) }
+            → EndsBy (QuestionAnswer held q image.now) result (W.held output.old) (W.held output.new) }
         ensures read { is_read_fault result ≡ false }
         ensures written { W.has_failed output.new ≡ is_write_fault result }
     {
         match self {
             Task::Show(view) => view.of_image(alloc, image, output),
-            Task::Rescue => rescue_image(alloc, image, output),
+            Task::Rescue => rescue_image(alloc, image, held, output),
         }
     }
 
     // Does the task with an image that was read, and lets it go where it is no longer wanted.
-    fn on_read<W: Sink>(&self, alloc: Global, image: Vec<u8>, output: &mut W) -> Outcome
+    fn on_read<W: Sink>(
+        &self,
+        alloc: Global,
+        image: Vec<u8>,
+        held: usize,
+        output: &mut W,
+    ) -> Outcome
         requires { W.has_failed output.old ≡ false }
         ensures ends { (q : QuestionValue) → Answers self.now q
-            → EndsBy (QuestionAnswer q image.items) result (W.held output.old) (W.held output.new) }
+            → EndsBy (QuestionAnswer held q image.items) result (W.held output.old) (W.held output.new) }
         ensures read { is_read_fault result ≡ false }
         ensures written { W.has_failed output.new ≡ is_write_fault result }
     {
         match self {
             Task::Show(view) => view.of_image(alloc, &image, output),
-            Task::Rescue => rescue_read(alloc, image, output),
+            Task::Rescue => rescue_read(alloc, image, held, output),
         }
     }
 }
 
 impl Work {
+    // How many blocks of the image that is meant these bytes hold whole.
+    fn held(&self, bytes: &[u8]) -> usize
+        ensures { result ≡ held_whole self.now.blocks bytes.now }
+    {
+        let whole = bytes.len() / BLOCK_LEN;
+        match self.blocks {
+            None => whole,
+            Some(blocks) => whole.min(blocks as usize),
+        }
+    }
+
     // The image that is meant by bytes that were read, which are let go.
     fn image_of(&self, alloc: Global, bytes: Vec<u8>) -> Result<Vec<u8>, AllocError>
         ensures { IfOk result (λ image. image.items ≡ meant self.now.blocks bytes.items) }
@@ -154,8 +171,9 @@ impl Work {
         ensures read { is_read_fault result ≡ false }
         ensures written { W.has_failed output.new ≡ is_write_fault result }
     {
+        let held = self.held(&bytes);
         match self.image_of(alloc, bytes) {
-            Ok(image) => self.task.on_read(alloc, image, output),
+            Ok(image) => self.task.on_read(alloc, image, held, output),
             Err(_) => Outcome::NoMemory,
         }
     }
@@ -188,10 +206,11 @@ impl Program for Work {
     }
 
     fn on<W: Sink>(&self, alloc: Global, bytes: &[u8], output: &mut W) -> Outcome {
+        let held = self.held(bytes);
         match self.blocks {
-            None => self.task.on_image(alloc, bytes, output),
+            None => self.task.on_image(alloc, bytes, held, output),
             Some(blocks) => match sized(alloc, bytes, blocks) {
-                Ok(image) => self.task.on_read(alloc, image, output),
+                Ok(image) => self.task.on_read(alloc, image, held, output),
                 Err(_) => Outcome::NoMemory,
             },
         }

@@ -6,6 +6,6 @@ use Rattle.adf_rescue.proofs.laws.one_rescue.Goals as goal
 
 pub returns : goal.returns
 returns c = record {
-  first = λ image w fs s t x y. ap first_verdicts (same_basis image w (grave fs) s t x y);
-  second = λ a image w fs s t x y. ap (λ (b : Basis). second_verdicts a (Some b)) (same_basis image w (grave fs) s t x y);
+  first = λ held image w fs s t x y. ap (first_verdicts held) (same_basis image w (grave fs) s t x y);
+  second = λ held a image w fs s t x y. ap (λ (b : Basis). second_verdicts held a (Some b)) (same_basis image w (grave fs) s t x y);
 }

@@ -1,4 +1,4 @@
-use Rattle.std.proofs.Common.{refl, arith}
+use Rattle.std.proofs.Common.{arith}
 use Rattle.std.proofs.lemmas.Grind.{common_steps}
 use Rattle.adf_base.proofs.Results.{on_err}
 use Rattle.adf_rescue.proofs.Steps.{buildable, unread_fault}
@@ -7,27 +7,28 @@ use Rattle.adf_rescue.proofs.rescues.rescue.Goals as goal
 pub returns-in_default-clause-none : goal.returns-in_default-clause-none
 returns-in_default-clause-none c = grind (arith, common_steps, unread_fault)
 
-pub stands_nothing-requires : goal.stands_nothing-requires
-stands_nothing-requires c = λ w fs survey none. let not = (c.in-Some.ensures.some w fs survey).1 none in absurd cc
-
 pub returns-clause-fits : goal.returns-clause-fits
 returns-clause-fits c = grind (arith, common_steps, buildable)
 
-pub returns-then-stands_nothing-clause-none : goal.returns-then-stands_nothing-clause-none
-returns-then-stands_nothing-clause-none c = λ w fs sound survey marks b is.
-    let nothing = c.stands_nothing.ensures w fs sound survey marks b (c.in_ok-salvage.ensures.state w fs sound survey marks b is) in
-    ((λ e. nothing.0 c.if-stands_nothing.true), (λ s. refl))
+pub returns-clause-nothing : goal.returns-clause-nothing
+returns-clause-nothing c = λ w fs sound survey marks b is.
+    c.stands_nothing.ensures w fs sound survey marks c.args.held b
+    (c.in_ok-salvage.ensures.state c.args.held c.in_ok-begun.ensures.held w fs sound survey marks b is)
 
 pub returns-clause-none : goal.returns-clause-none
-returns-clause-none c = λ w fs sound survey marks b is.
-    let nothing = c.stands_nothing.ensures w fs sound survey marks b (c.in_ok-salvage.ensures.state w fs sound survey marks b is) in
-    ((λ e. absurd cc), (λ s. let told = nothing.1 s in let not = c.if-stands_nothing.false in absurd cc))
+returns-clause-none c = λ w fs survey.
+    ((λ e. absurd cc), (λ none. let not = (c.in-Some.ensures.some w fs survey).1 none in absurd cc))
 
 pub returns-clause-left_out : goal.returns-clause-left_out
-returns-clause-left_out c = λ w fs sound survey marks b is. (c.in_ok-salvage.ensures.state w fs sound survey marks b is).left_before
+returns-clause-left_out c = λ w fs sound survey marks b is. (c.in_ok-salvage.ensures.state c.args.held c.in_ok-begun.ensures.held w fs sound survey marks b is).left_before
 
 pub returns-clause-second_left_out : goal.returns-clause-second_left_out
-returns-clause-second_left_out c = λ w fs sound survey marks b is. (c.in_ok-salvage.ensures.state w fs sound survey marks b is).left_out
+returns-clause-second_left_out c = λ w fs sound survey marks b is. (c.in_ok-salvage.ensures.state c.args.held c.in_ok-begun.ensures.held w fs sound survey marks b is).left_out
 
 pub returns-in_err-salvage-clause-begun : goal.returns-in_err-salvage-clause-begun
-returns-in_err-salvage-clause-begun c = grind (arith, common_steps, on_err)
+returns-in_err-salvage-clause-begun c = λ w fs survey.
+    on_err c.from_residual-in_err-salvage.result (λ none. let not = (c.in-Some.ensures.some w fs survey).1 none in absurd cc)
+
+pub returns-in_err-begun-clause-begun : goal.returns-in_err-begun-clause-begun
+returns-in_err-begun-clause-begun c = λ w fs survey.
+    on_err c.from_residual.result (λ none. let not = (c.in-Some.ensures.some w fs survey).1 none in absurd cc)

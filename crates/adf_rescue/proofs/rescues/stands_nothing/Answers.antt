@@ -1,4 +1,4 @@
-use Rattle.std.proofs.Common.{◌∙◌, ap, inl, inr, length, sym, arith}
+use Rattle.std.proofs.Common.{◌∙◌, ap, length, sym, arith}
 use Rattle.std.proofs.lemmas.Bool.{eq-eqb, eqb-true}
 use Rattle.std.proofs.lemmas.Grind.{common_steps}
 use Rattle.adf_rescue.specs.Rescue.{Basis, before_second, second_verdicts}
@@ -9,14 +9,11 @@ pub returns-then-not-has_fault : goal.returns-then-not-has_fault
 returns-then-not-has_fault c = grind (arith, common_steps)
 
 pub returns : goal.returns
-returns c = λ w fs sound survey marks b is.
+returns c = λ w fs sound survey marks held b is.
     let a : Basis = record { image = c.args.survey.now.image; walk = w; sound = sound } in (
       (λ t. (
         (c.has_fault.ensures w fs survey).0 c.if-not-has_fault.false,
-        inr (none_added (before_second a) (second_verdicts a b) c.args.salvage.now is (sym c.len.ensures ∙ eqb-true c.len.result 0 t)),
+        none_added (before_second held a) (second_verdicts held a b) c.args.salvage.now is (sym c.len.ensures ∙ eqb-true c.len.result 0 t),
       )),
-      (λ s. elim s.1 [
-        | inl none ↦ absurd (c.requires w fs survey none)
-        | inr none ↦ eq-eqb c.len.result 0 (c.len.ensures ∙ (is.nodes ∙ ap length none))
-      ]),
+      (λ s. eq-eqb c.len.result 0 (c.len.ensures ∙ (is.nodes ∙ ap length s.1))),
     )

@@ -1,7 +1,7 @@
-use Rattle.adf_rescue.specs.Rescue.{OnBasis, as_given, before_second, verdicts}
+use Rattle.adf_rescue.specs.Rescue.{OnBasis, before_second, verdicts}
 use Rattle.adf_rescue.specs.Salvage.{IsSalvage}
 use Rattle.adf_rescue.proofs.rescues.take_second.Given as goal
 
 abbrev pub invariant-loop-before : goal.invariant-loop-before
 invariant-loop-before l = OnBasis l.survey.image (λ a _. OnBasis l.second.image (λ b _.
-    IsSalvage (before_second a) (verdicts (before_second a) (as_given a.image b) l.before) l.salvage))
+    IsSalvage (before_second l.fn.salvage.held a) (verdicts (before_second l.fn.salvage.held a) b l.before) l.salvage))

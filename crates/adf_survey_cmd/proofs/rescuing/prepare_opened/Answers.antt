@@ -31,8 +31,8 @@ returns-in-Some c = λ input opened.
     ] in
     let hung = c.deref.ensures.value ∙ if_some _ _ _ is (c.in_ok-hung.ensures.hung w fs here) in
     let second = one_hung v.image w fs c.deref.result.now lost hung in
-    prepares_weaker (RescuesBoth input a (Some c.deref.result.now) fs) (Rescues input) _
-    (λ reply by. found_answers input v.image w fs sound (Some c.deref.result.now) reply (same ∙ opened_so input _ _ opened) here marks second by)
+    prepares_weaker (RescuesBoth c.args.held input a (Some c.deref.result.now) fs) (Rescues c.args.held input) _
+    (λ reply by. found_answers c.args.held input v.image w fs sound (Some c.deref.result.now) reply (same ∙ opened_so input _ _ opened) here marks second by)
     (c.prepare_hung.ensures input (subst (λ (image : List ℕ). IsOpened input image c.args.refusal) (sym same) opened) w fs sound here marks)
 
 pub returns : goal.returns
@@ -46,8 +46,8 @@ returns c = λ input opened.
     let marks = c.whole_marks.ensures w fs here in
     let a : Basis = record { image = v.image; walk = w; sound = sound } in
     let none = none_hung v.image w fs ((c.in_ok-hung.ensures.none w fs here).0 (ap is_some c.in-None.is)) in
-    prepares_weaker (RescuesBy input a None fs) (Rescues input) _
-    (λ reply by. found_answers input v.image w fs sound None reply (same ∙ opened_so input _ _ opened) here marks none (None, tt, by))
+    prepares_weaker (RescuesBy c.args.held input a None fs) (Rescues c.args.held input) _
+    (λ reply by. found_answers c.args.held input v.image w fs sound None reply (same ∙ opened_so input _ _ opened) here marks none (None, tt, by))
     (c.prepare_found.ensures input (subst (λ (image : List ℕ). IsOpened input image c.args.refusal) (sym same) opened) w fs sound here marks None tt)
 
 pub returns-in_err-found : goal.returns-in_err-found

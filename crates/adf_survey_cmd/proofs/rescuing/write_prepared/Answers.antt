@@ -1,16 +1,16 @@
 use Rattle.std.proofs.Common.{ℕ, Bool, List, refl, subst}
 use Rattle.adf_runs.specs.Streams.{AppendsPart}
-use Rattle.adf_survey_cmd.specs.Prepared.{prepared_reply}
+use Rattle.adf_survey_cmd.specs.Rescues.{rescue_reply}
 use Rattle.adf_survey_cmd.proofs.rescuing.write_prepared.Goals as goal
 
-pub returns-clause-ends : goal.returns-clause-ends
-returns-clause-ends g c =
+pub returns-in-Err-clause-ends : goal.returns-in-Err-clause-ends
+returns-in-Err-clause-ends g c =
     let volume = c.in-Ok.volume.items in
     let old = g.W.Sink.held c.args.output.now in
     let new = g.W.Sink.held c.write_all.new.output in
     let part =
     subst (λ (bytes : List ℕ). AppendsPart (g.W.Sink.has_failed c.write_all.new.output) old new bytes) c.deref.ensures.value c.in-Err.ensures.err in (
-      prepared_reply c.args.prepared volume,
+      rescue_reply volume c.args.prepared.lines.items,
       (volume, c.in-Ok.ensures.laid, c.in-Ok.ensures.size, refl),
       subst (λ (failed : Bool). AppendsPart failed old new volume) c.in-Err.ensures.failed part,
     )

@@ -26,10 +26,10 @@ returns c = λ g vs path is room at.
     let fresh : c.args.body ≡ Dir → IsDirectoryOf c.keep_place.new.self.draft path c.len.result =
     λ dir. rw (drafts, number) (c.in_ok-put.ensures.directory path room dir) in
     let place = c.place_if-place.ensures ∙ ap (λ b. cond b (Some c.len.result) None) c.is_directory-adds_directory.ensures in
-    on_ok_weaker c.keep_place.result (λ places.
+    on_ok_weaker c.keep_place.result (λ done.
     added_more g vs c.args.self.now x is c.cost_of-cost.result c.cost_of-cost.ensures c.keep_place.new.self c.place_if-place.result small enough
     (ap (λ r. r.draft.tree) rest ∙ c.in_ok-put.ensures.tree path room)
     (ap (λ r. length r.draft.nodes) rest ∙ count)
     dirs (new_place c.keep_place.new.self.draft path c.args.meta c.args.body c.len.result c.place_if-place.result place fresh)
-    (ap (λ r. r.kind) rest) (ap (λ r. r.left) rest) places (ap (λ r. r.left_out.items) rest) (ap (λ r. r.known) rest)
-    (ap (λ r. r.left_before) rest)) c.keep_place.ensures.places
+    (ap (λ r. r.kind) rest) (ap (λ r. r.held) rest) (ap (λ r. r.left) rest) done.0 done.1 (ap (λ r. r.left_out.items) rest)
+    (ap (λ r. r.known) rest) (ap (λ r. r.kept) rest) (ap (λ r. r.left_before) rest)) c.keep_place.ensures.kept

@@ -12,9 +12,9 @@ pub returns-in-List-clause-ends : goal.returns-in-List-clause-ends
 returns-in-List-clause-ends g c = grind (arith, common_steps, ends_weaker)
 
 pub returns-in-Cat-clause-ends : goal.returns-in-Cat-clause-ends
-returns-in-Cat-clause-ends g c = λ w fs survey q shows.
+returns-in-Cat-clause-ends g c = λ w fs survey held q shows.
     let image = c.args.survey.now.image in
     let (path, is, text) = subst (λ view. Shows view q) c.in-Cat.is shows in
-    ends_weaker (CopiesFound c.in-Cat.damaged image w fs _) (QuestionAnswer q image) _ _ _
-    (λ reply copies. subst (λ x. QuestionAnswer x image reply) (sym is) (inr (_, text, w, fs, survey, copies)))
+    ends_weaker (CopiesFound c.in-Cat.damaged image w fs _) (QuestionAnswer held q image) _ _ _
+    (λ reply copies. subst (λ x. QuestionAnswer held x image reply) (sym is) (inr (_, text, w, fs, survey, copies)))
     (rw c.deref.ensures.value at (c.copy_found.ensures.ends w fs survey))
