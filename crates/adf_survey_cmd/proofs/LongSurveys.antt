@@ -28,7 +28,7 @@ use Rattle.adf_survey_cmd.specs.Answers.{CopiesFound, CopiesFromSurvey, ListsSur
 use Rattle.adf_survey_cmd.specs.Subject.{IsTyped, OfTyped, SubjectValue, begun_subject, end_of, missing_text, sized, subject, told_text, typed_subject}
 use Rattle.adf_words.specs.SurveyLine.{AreFew, InquiryValue, QuestionValue, cat, list, report, rescue}
 use Rattle.adf_survey_cmd.specs.Lines.{findings_text, runs_from}
-use Rattle.adf_survey_cmd.specs.Rescues.{RescuesBoth, RescuesFound, second_image}
+use Rattle.adf_survey_cmd.specs.Rescues.{Rescues, RescuesBoth, RescuesFound, second_image}
 use Rattle.adf_survey_cmd.proofs.RescueAnswers.{none_hung}
 
 -- an input of a bad size has this finding
@@ -97,26 +97,37 @@ of_long image w fs holds long s h =
     subst (λ (u : List (Role × ℕ)). holds u bad_size) same.0 (subst (λ (gs : List FindingValue). holds w gs) same.1 h)
 
 -- it is surveyed as it is
+long_begun : (s : SubjectValue) → 512 * MOST_BLOCKS < length s.image → begun_subject s ≡ s
+long_begun s long = cond-false (lacks_boot s.image) _ s (not_begun s.image long)
+
+typed_so : (s t : SubjectValue) → 512 * MOST_BLOCKS < length s.image → IsTyped s t → t ≡ s
+typed_so s t long (w, fs, h, e) =
+    let none : w ≡ [] = (one_survey s.image w [] fs bad_size h (long_survey s.image long)).0 in
+    e ∙ cond-false (is_mistyped s.image w) _ s (sym (none_mistyped s.image w none))
+
+is_typed : (s : SubjectValue) → 512 * MOST_BLOCKS < length s.image → IsTyped s s
+is_typed s long = ([], bad_size, long_survey s.image long, sym (cond-false (is_mistyped s.image []) _ s (sym (none_mistyped s.image [] refl))))
+
 same_typed : (s t : SubjectValue) → 512 * MOST_BLOCKS < length s.image → IsTyped (begun_subject s) t → t ≡ s
-same_typed s t long (w, fs, h, e) =
-    let kept : begun_subject s ≡ s = cond-false (lacks_boot s.image) _ s (not_begun s.image long) in
-    let survey = subst (λ (u : SubjectValue). IsSurvey u.image w fs) kept h in
-    let none : w ≡ [] = (one_survey s.image w [] fs bad_size survey (long_survey s.image long)).0 in
-    e ∙ ((λ i. typed_subject (kept i) w) ∙ cond-false (is_mistyped s.image w) _ s (sym (none_mistyped s.image w none)))
+same_typed s t long is = typed_so s t long (subst (λ (u : SubjectValue). IsTyped u t) (long_begun s long) is)
 
 long_typed : (s : SubjectValue) → 512 * MOST_BLOCKS < length s.image → IsTyped (begun_subject s) s
-long_typed s long =
-    let kept : begun_subject s ≡ s = cond-false (lacks_boot s.image) _ s (not_begun s.image long) in (
-      [],
-      bad_size,
-      subst (λ (u : SubjectValue). IsSurvey u.image [] bad_size) (sym kept) (long_survey s.image long),
-      sym ((λ i. typed_subject (kept i) []) ∙ cond-false (is_mistyped s.image []) _ s (sym (none_mistyped s.image [] refl))),
-    )
+long_typed s long = subst (λ (u : SubjectValue). IsTyped u s) (sym (long_begun s long)) (is_typed s long)
 
 -- so what is answered to one long input is answered to another
 of_typed : (s t : SubjectValue) (answers : SubjectValue → Reply → Type 0) → 512 * MOST_BLOCKS < length s.image → 512 * MOST_BLOCKS < length t.image
     → (reply : Reply) → (answers s reply → answers t reply) → OfTyped s answers reply → OfTyped t answers reply
 of_typed s t answers a b reply same (u, is, x) = (t, long_typed t b, same (subst (λ u. answers u reply) (same_typed s u a is) x))
+
+long_rescue : (s t : SubjectValue) → 512 * MOST_BLOCKS < length s.image → 512 * MOST_BLOCKS < length t.image → (reply : Reply)
+    → Rescues s.end s.image reply → Rescues t.end t.image reply
+long_rescue s t a b reply (w, fs, h, found) = (
+  [],
+  bad_size,
+  long_survey (opened t.image) (long_opened t.image b),
+  same_rescue s.end t.end s.image t.image (opened s.image) (opened t.image) reply a b (long_opened t.image b)
+      (of_long (opened s.image) w fs (λ u gs. RescuesFound s.end s.image (opened s.image) u gs reply) (long_opened s.image a) h found),
+)
 
 long_questions : (q : QuestionValue) (s t : SubjectValue) → s.front ≡ t.front → 512 * MOST_BLOCKS < length s.image
     → 512 * MOST_BLOCKS < length t.image → (reply : Reply) → QuestionAnswer q s reply → QuestionAnswer q t reply
@@ -131,13 +142,8 @@ long_questions (cat damaged path) s t front a b reply (inl bad) = inl bad
 long_questions (cat damaged path) s t front a b reply (inr told) = inr (of_typed s t (CopiesFromSurvey damaged path) a b reply (λ x.
     let found = of_long s.image x.2 x.3 (λ u gs. CopiesFound damaged s u gs x.0 reply) a x.4 x.5 in
     (x.0, x.1, [], bad_size, long_survey t.image b, same_found damaged s t x.0 reply found)) told)
-long_questions rescue s t front a b reply (w, fs, h, found) = (
-  [],
-  bad_size,
-  long_survey (opened t.image) (long_opened t.image b),
-  same_rescue s.end t.end s.image t.image (opened s.image) (opened t.image) reply a b (long_opened t.image b)
-      (of_long (opened s.image) w fs (λ u gs. RescuesFound s.end s.image (opened s.image) u gs reply) (long_opened s.image a) h found),
-)
+long_questions rescue s t front a b reply (u, is, told) = (t, is_typed t b, long_rescue s t a b reply
+    (subst (λ (u : SubjectValue). Rescues u.end u.image reply) (typed_so s u a is) told))
 
 -- an image of n blocks is made of the front alone
 same_sized : (n : ℕ) (image bytes : List ℕ) → n ≤ MOST_BLOCKS → image ≡ take (512 * MOST_BLOCKS + 1) bytes → 512 * MOST_BLOCKS < length image

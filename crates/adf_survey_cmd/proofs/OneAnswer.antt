@@ -16,9 +16,9 @@ use Rattle.adf_findings.proofs.Lookups.{one_first}
 use Rattle.adf_texts.specs.Lines.{fault_line}
 use Rattle.adf_runs.specs.Commands.{Reply, on_errors, on_output}
 use Rattle.adf_cmd.proofs.OneAnswer.{one_dates, refused_once}
-use Rattle.adf_survey_cmd.specs.Answers.{CopiesEntry, CopiesFound, CopiesFromSurvey, IsWholeFile, ListsSurvey, QuestionAnswer, SurveyAnswer, Surveys, TellsFound, told_status}
+use Rattle.adf_survey_cmd.specs.Answers.{CopiesEntry, CopiesFound, CopiesFromSurvey, IsWholeFile, ListsSurvey, QuestionAnswer, RescuesTyped, SurveyAnswer, Surveys, TellsFound, told_status}
 use Rattle.adf_survey_cmd.specs.Subject.{IsTyped, OfTyped, SubjectValue, begun_subject, subject, typed_subject}
-use Rattle.adf_survey_cmd.specs.Rescues.{RescuesBy, RescuesFound, RescuesIn, RescuesSome, rescue_text, second_image}
+use Rattle.adf_survey_cmd.specs.Rescues.{Rescues, RescuesBy, RescuesFound, RescuesIn, RescuesSome, rescue_text, second_image}
 use Rattle.adf_words.specs.SurveyLine.{AsksSurvey, InquiryValue, QuestionValue, cat, list, report, rescue}
 use Rattle.adf_survey_cmd.specs.FoundLines.{listing_text}
 use Rattle.adf_survey_cmd.proofs.FoundTexts.{same_tests}
@@ -138,6 +138,10 @@ rescued_once held input image a b (w, fs, s, x) (u, gs, t, y) =
     let moved = subst (λ v. RescuesFound held input image v fs a) same.0 x in
     found_rescued_once held input image u gs a b (subst (λ hs. RescuesFound held input image u hs a) same.1 moved) y
 
+typed_rescued_once : (s : SubjectValue) (a b : Reply) → RescuesTyped s a → RescuesTyped s b → a ≡ b
+typed_rescued_once s a b (t, is, x) (u, also, y) =
+    rescued_once u.end u.image (opened u.image) a b (subst (λ (t : SubjectValue). Rescues t.end t.image a) (one_typed s t u is also) x) y
+
 one_question : (q : QuestionValue) (s : SubjectValue) (a b : Reply) → QuestionAnswer q s a → QuestionAnswer q s b → a ≡ b
 one_question report s a b x y = typed_once s Surveys surveyed_once a b x y
 one_question list s a b x y = typed_once s ListsSurvey listed_once a b x y
@@ -145,7 +149,7 @@ one_question (cat damaged path) s a b (inl (bad, x)) (inl (worse, y)) = x ∙ sy
 one_question (cat damaged path) s a b (inl (bad, x)) (inr (t, is, h)) = absurd (bad h.0 h.1)
 one_question (cat damaged path) s a b (inr (t, is, h)) (inl (bad, y)) = absurd (bad h.0 h.1)
 one_question (cat damaged path) s a b (inr h) (inr g) = typed_once s (CopiesFromSurvey damaged path) (copied_once damaged path) a b h g
-one_question rescue s a b x y = rescued_once s.end s.image (opened s.image) a b x y
+one_question rescue s a b x y = typed_rescued_once s a b x y
 
 pub one_answer : (r : InquiryValue) (input : List ℕ) (a b : Reply) → SurveyAnswer r input a → SurveyAnswer r input b → a ≡ b
 one_answer r input a b x y = one_question r.question (subject r.blocks input) a b x y

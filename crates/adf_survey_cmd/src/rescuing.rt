@@ -265,19 +265,8 @@ fn prepare_mended(alloc: Global, image: &mut [u8], held: usize) -> Result<Prepar
     prepare_opened(alloc, image, held, Some(refusal))
 }
 
-// Prepares the rescue of an input.
-fn prepare(alloc: Global, input: &[u8], held: usize) -> Result<Prepared, Outcome>
-    ensures { Prepares (Rescues held input.now) result }
-{
-    if !is_mended(input) {
-        return prepare_opened(alloc, input, held, None);
-    }
-    let mut copy = input.to_vec(alloc)?;
-    prepare_mended(alloc, &mut copy, held)
-}
-
-// Prepares it too, and lets the input go.
-fn prepare_read(alloc: Global, input: Vec<u8>, held: usize) -> Result<Prepared, Outcome>
+// Prepares the rescue of an input, and lets that go.
+fn prepare(alloc: Global, input: Vec<u8>, held: usize) -> Result<Prepared, Outcome>
     ensures { Prepares (Rescues held input.items) result }
 {
     if !is_mended(&input) {
@@ -289,27 +278,15 @@ fn prepare_read(alloc: Global, input: Vec<u8>, held: usize) -> Result<Prepared, 
 
 /// Writes the new volume of all that stands on an image, whose boot block and root may be overwritten, and of which the first `held`
 /// blocks were there whole, with what no directory leads to any more; errors get the lines of what is not in it. If nothing
-/// stands, and the input is not a valid volume, errors get the line of its first fault, and these lines behind it.
-pub fn rescue_image<W: Sink>(alloc: Global, input: &[u8], held: usize, output: &mut W) -> Outcome
-    requires { W.has_failed output.old ≡ false }
-    ensures ends { EndsBy (Rescues held input.now) result (W.held output.old) (W.held output.new) }
-    ensures read { is_read_fault result ≡ false }
-    ensures written { W.has_failed output.new ≡ is_write_fault result }
-{
-    match prepare(alloc, input, held) {
-        Ok(prepared) => write_prepared(alloc, prepared, output),
-        Err(outcome) => outcome,
-    }
-}
-
-/// Does so too, and lets the input go before the new volume is laid.
-pub fn rescue_read<W: Sink>(alloc: Global, input: Vec<u8>, held: usize, output: &mut W) -> Outcome
+/// stands, and the input is not a valid volume, errors get the line of its first fault, and these lines behind it. The input is let
+/// go before the new volume is laid.
+pub fn rescue_image<W: Sink>(alloc: Global, input: Vec<u8>, held: usize, output: &mut W) -> Outcome
     requires { W.has_failed output.old ≡ false }
     ensures ends { EndsBy (Rescues held input.items) result (W.held output.old) (W.held output.new) }
     ensures read { is_read_fault result ≡ false }
     ensures written { W.has_failed output.new ≡ is_write_fault result }
 {
-    match prepare_read(alloc, input, held) {
+    match prepare(alloc, input, held) {
         Ok(prepared) => write_prepared(alloc, prepared, output),
         Err(outcome) => outcome,
     }

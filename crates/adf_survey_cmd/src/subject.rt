@@ -2,15 +2,18 @@
 
 ghost use Rattle.std.specs.Prelude.{◌≡◌, ◌≤◌, ◌++◌, IfOk, OnOk};
 ghost use Rattle.adf_blocks.specs.declared.layout.TheConstants.{MOST_BLOCKS};
-ghost use Rattle.adf_findings.specs.OwnKind.{retyped};
+ghost use Rattle.adf_findings.specs.OwnKind.{is_mistyped, retyped};
+ghost use Rattle.adf_findings.specs.Survey.{OnSurvey};
 ghost use Rattle.adf_rescue.specs.Opened.{begun};
-ghost use Rattle.adf_survey_cmd.specs.Subject.{begun_subject, changed, end_of, missing_text, sized, subject, subject_value, type_line};
+ghost use Rattle.adf_survey_cmd.specs.Subject.{IsTyped, begun_subject, changed, end_of, missing_text, sized, subject, subject_value, type_line};
 
 use crate::runs::push_blocks;
-use adf_base::BLOCK_LEN;
+use adf_base::{BLOCK_LEN, NoMemory};
 use adf_blocks::MOST_BLOCKS;
-use adf_findings::retype;
+use adf_findings::{retype, survey};
 use adf_rescue::{begin_image, lacks_boot};
+use adf_tree::Kind;
+use adf_volume::kind_in;
 use std::alloc::{AllocError, Global};
 
 /// What is surveyed of an input: an image, the first block of it that the input does not hold, and the lines in front of those
@@ -35,8 +38,8 @@ fn sized(alloc: Global, bytes: &[u8], blocks: u32) -> Result<Vec<u8>, AllocError
     Ok(image)
 }
 
-/// The first of so many blocks that the bytes do not hold whole.
-pub fn end_of(blocks: u32, bytes: &[u8]) -> u32
+// The first of so many blocks that the bytes do not hold whole.
+fn end_of(blocks: u32, bytes: &[u8]) -> u32
     ensures end { result ≡ end_of blocks bytes.now }
     ensures few { result ≤ blocks }
 {
@@ -66,6 +69,17 @@ fn push_type_line(text: &mut Vec<u8>) -> Result<(), AllocError>
     ensures { OnOk result (text.new.items ≡ text.old.items ++ type_line) }
 {
     text.extend_from_slice(b"block 0: type of ffs, files of ofs\n")
+}
+
+// Whether the type of an image is one of FFS, but its files say OFS.
+#[tactic(auto, using(crate::proofs::Subjects::ofs_is_typed))]
+fn is_mistyped(alloc: Global, image: &[u8]) -> Result<bool, NoMemory>
+    ensures { OnSurvey image.now (λ w _. IfOk result (λ mistyped. mistyped ≡ is_mistyped image.now w)) }
+{
+    if BLOCK_LEN <= image.len() && kind_in(image) == Kind::Ofs {
+        return Ok(false);
+    }
+    Ok(survey(alloc, image)?.is_mistyped())
 }
 
 impl Subject {
@@ -139,6 +153,15 @@ impl Subject {
     {
         push_type_line(&mut self.front)?;
         retype(&mut self.image);
+        Ok(())
+    }
+    /// Makes the type of the image what its files say, and then says so. `NoMemory` if an allocation fails; then the image stays.
+    pub fn be_typed(&mut self, alloc: Global) -> Result<(), AllocError>
+        ensures { OnOk result (IsTyped (subject_value self.old) (subject_value self.new)) }
+    {
+        if is_mistyped(alloc, &self.image)? {
+            self.retype()?;
+        }
         Ok(())
     }
 }

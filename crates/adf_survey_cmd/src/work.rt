@@ -5,7 +5,7 @@ ghost use Rattle.adf_findings.specs.OwnKind.{is_mistyped};
 ghost use Rattle.adf_findings.specs.Survey.{OnSurvey};
 ghost use Rattle.adf_runs.specs.Outcomes.{EndsBy, is_read_fault, is_write_fault};
 ghost use Rattle.adf_runs.specs.WorkFaults.{IsNoWork};
-ghost use Rattle.adf_survey_cmd.specs.Answers.{HasBadSurveyPath, QuestionAnswer, SurveyAnswer};
+ghost use Rattle.adf_survey_cmd.specs.Answers.{HasBadSurveyPath, QuestionAnswer, RescuesTyped, SurveyAnswer};
 ghost use Rattle.adf_words.specs.SurveyLine.{InquiryValue, QuestionValue, question_value};
 ghost use Rattle.adf_survey_cmd.specs.Subject.{IsTyped, SubjectValue, begun_subject, subject_value};
 ghost use Rattle.adf_survey_cmd.specs.Work.{Answers, Meets, Shows};
@@ -13,9 +13,8 @@ ghost use Rattle.adf_survey_cmd.specs.Work.{Answers, Meets, Shows};
 use crate::copying::{Asked, copy_found};
 use crate::listing::write_list;
 use crate::reporting::write_findings;
-use crate::rescuing::{rescue_image, rescue_read};
-use crate::subject::{Subject, end_of};
-use adf_blocks::MOST_BLOCKS;
+use crate::rescuing::rescue_image;
+use crate::subject::Subject;
 use adf_cmd::MOST_IMAGE_BYTES;
 use adf_findings::{Survey, some_survey, survey};
 use adf_runs::{Outcome, Program, Sink, Source, WorkFault, read_input};
@@ -169,6 +168,19 @@ impl View {
     }
 }
 
+// Rescues what is surveyed of an input, once its image has the type that its files say.
+fn rescue_subject<W: Sink>(alloc: Global, mut subject: Subject, output: &mut W) -> Outcome
+    requires { W.has_failed output.old ≡ false }
+    ensures ends { EndsBy (RescuesTyped (subject_value subject)) result (W.held output.old) (W.held output.new) }
+    ensures read { is_read_fault result ≡ false }
+    ensures written { W.has_failed output.new ≡ is_write_fault result }
+{
+    match subject.be_typed(alloc) {
+        Ok(()) => rescue_image(alloc, subject.image, subject.end as usize, output),
+        Err(_) => Outcome::NoMemory,
+    }
+}
+
 impl Task {
     // Does the task with what is surveyed of an input, and lets that go where it is no longer wanted.
     fn on_subject<W: Sink>(&self, alloc: Global, subject: Subject, output: &mut W) -> Outcome
@@ -181,7 +193,7 @@ impl Task {
     {
         match self {
             Task::Show(view) => view.of_subject(alloc, subject, output),
-            Task::Rescue => rescue_read(alloc, subject.image, subject.end as usize, output),
+            Task::Rescue => rescue_subject(alloc, subject, output),
         }
     }
 }
@@ -229,14 +241,9 @@ impl Program for Work {
     }
 
     fn on<W: Sink>(&self, alloc: Global, bytes: &[u8], output: &mut W) -> Outcome {
-        match (&self.task, self.blocks) {
-            (Task::Rescue, None) => {
-                rescue_image(alloc, bytes, end_of(MOST_BLOCKS, bytes) as usize, output)
-            }
-            _ => match Subject::of(alloc, bytes, self.blocks) {
-                Ok(subject) => self.task.on_subject(alloc, subject, output),
-                Err(_) => Outcome::NoMemory,
-            },
+        match Subject::of(alloc, bytes, self.blocks) {
+            Ok(subject) => self.task.on_subject(alloc, subject, output),
+            Err(_) => Outcome::NoMemory,
         }
     }
 
