@@ -291,7 +291,7 @@ class Rescue:
             if n is not None:
                 bad.add(n)
         if survey.offset == 0:
-            bad |= {role[2] for b, role in survey.owner.items() if role[1] == "data" and survey.names[b] > 1}
+            bad |= {role[2] for b, role in survey.owner.items() if role[1] == "data" and (survey.names[b] > 1 or survey.says_data_of(*role[2:], b))}
         return bad
 
     def content(self, survey, n):

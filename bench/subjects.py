@@ -3,8 +3,8 @@
 import sys
 
 sys.dont_write_bytecode = True
-from rescue import is_root, says_data, sealed
-from survey import Survey
+from rescue import is_name, is_root, says_data, sealed
+from survey import FILE, Survey, data, spelled, upper
 
 
 def begun(image):
@@ -45,6 +45,37 @@ class Subject:
 
     def is_sound(self, n):
         return self.survey.is_sound(n) and self.is_held(n)
+
+    def marks(self):
+        """The mark and the path of each entry."""
+        return [("sound" if self.is_sound(n) else "damaged", spelled(self.survey.path(n))) for n in range(1, len(self.survey.nodes))]
+
+    def alone(self):
+        """The files under paths that can be asked for, if no two entries have one path."""
+        survey = self.survey
+        entries = range(1, len(survey.nodes))
+        known = {n: tuple(upper(name, survey.international) for name in survey.path(n)) for n in entries}
+        if len(set(known.values())) < len(known):
+            return []
+        return [n for n in entries if survey.word(survey.block_of(n), 127) == FILE and all(map(is_name, known[n]))]
+
+    def left(self, n):
+        """The bytes of a file, with zeros where no data block is found that the input holds, and a line for each run of these."""
+        survey = self.survey
+        size = min(survey.size(n), len(survey.image))
+        content, gaps = b"", []
+        for k in range(-(-size // survey.chunk)):
+            b = survey.walk.get(data(n, k + 1)[0])
+            many = min(survey.chunk, size - survey.chunk * k)
+            if b is not None and b < self.held:
+                content += survey.image[512 * b + survey.offset : 512 * b + survey.offset + many]
+                continue
+            if gaps and gaps[-1][1] + 1 == len(content):
+                gaps[-1][1] += many
+            else:
+                gaps.append([len(content), len(content) + many - 1])
+            content += bytes(many)
+        return content, [f"bytes {first} to {last}: no data" for first, last in gaps]
 
 
 def run_text(first, last):

@@ -248,7 +248,7 @@ struct adf_found {
     uint32_t protection; /* as in struct adf_entry */
     struct adf_date date;
     uint8_t is_file;        /* 1 for a file or a link, 0 for a directory */
-    uint8_t is_sound;       /* 1 if the entry is sound, otherwise 0 */
+    uint8_t is_sound;       /* 1 if the entry is sound, otherwise 0; 0 too for an FFS file with data that says it is OFS */
     uint8_t name_length;    /* 0 to 79: the name may be one that no volume can have */
     uint8_t name[79];       /* in no particular encoding, padded with zeros */
     uint8_t comment_length; /* 0 to 79 */

@@ -9,12 +9,12 @@ use Rattle.adf_volume.specs.Image.{kind_of}
 use Rattle.adf_volume.specs.Walk.{Role}
 use Rattle.adf_findings.specs.OwnKind.{is_mistyped, is_other_kind, retyped, tally}
 use Rattle.adf_findings.specs.Survey.{FindingValue, IsSurvey}
-use Rattle.adf_survey_cmd.specs.Subject.{IsTyped, SubjectValue, changed, type_line, typed_subject}
+use Rattle.adf_survey_cmd.specs.Subject.{IsTyped, SubjectValue, changed, type_line}
 
 -- another image and one more line
 pub changed_is : (s : SubjectValue) (image line new front : List ℕ) → new ≡ image → front ≡ s.front ++ line
     → record { image = new; end = s.end; front = front } ≡ changed s image line
-changed_is s image line new front e f = λ i. record { image = e i; end = s.end; front = f i; }
+changed_is s image line new front e f = λ i. record { image = e i; end = s.end; front = f i }
 
 -- what has the type that its files say is surveyed as it is
 pub typed_same : (s : SubjectValue) (w : List (Role × ℕ)) (fs : List FindingValue) → IsSurvey s.image w fs → is_mistyped s.image w ≡ false

@@ -109,12 +109,7 @@ impl View {
     }
 
     // Shows this of what is surveyed of an input, where the type of its image is what its files say. `None` if it is not.
-    fn of_begun<W: Sink>(
-        &self,
-        alloc: Global,
-        subject: &Subject,
-        output: &mut W,
-    ) -> Option<Outcome>
+    fn of_begun<W: Sink>(&self, alloc: Global, subject: &Subject, output: &mut W) -> Option<Outcome>
         requires { W.has_failed output.old ≡ false }
         ensures ends { (s : SubjectValue) (q : QuestionValue) → subject_value subject.now ≡ begun_subject s
             → Shows self.now q

@@ -1,4 +1,4 @@
-use Rattle.std.proofs.Common.{◌≡◌, ◌∙◌, ap, arith, cond, sym}
+use Rattle.std.proofs.Common.{◌∙◌, ap, arith, cond}
 use Rattle.std.proofs.lemmas.Bool.Decides.{eqb_tells}
 use Rattle.std.proofs.lemmas.Grind.{common_steps}
 use Rattle.adf_survey_cmd.proofs.FindingStatus.{behind_none, behind_some}

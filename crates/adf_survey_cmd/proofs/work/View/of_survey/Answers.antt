@@ -1,5 +1,4 @@
 use Rattle.std.proofs.Common.{◌≡◌, inr, subst, sym}
-use Rattle.adf_findings.specs.Survey.{FindingValue}
 use Rattle.adf_runs.proofs.Endings.{ends_weaker}
 use Rattle.adf_words.specs.SurveyLine.{list, report}
 use Rattle.adf_survey_cmd.specs.Answers.{CopiesFound, QuestionAnswer, TellsFindings, TellsFound}
