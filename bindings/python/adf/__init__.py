@@ -336,7 +336,7 @@ def _sized(image: bytes, blocks: int | None) -> bytes:
 
 
 class LeftOut(NamedTuple):
-    """An entry that a rescue leaves out: why, `damaged`, `link` or `no room`, and its path."""
+    """What a rescue leaves out: an entry, why, `damaged`, `link` or `no room`, and its path; or what is `lost`: `in c/`, `blocks 44 to 65`."""
 
     why: str
     path: str
