@@ -336,7 +336,8 @@ def _sized(image: bytes, blocks: int | None) -> bytes:
 
 
 class LeftOut(NamedTuple):
-    """What a rescue leaves out: an entry, why, `damaged`, `link` or `no room`, and its path; or what is `lost`: `in c/`, `blocks 44 to 65`."""
+    """What a rescue leaves out: an entry, with why, `damaged`, `link` or `no room`, and its path; or what is `lost`, with `in c/` or
+    `blocks 44 to 65` for a path."""
 
     why: str
     path: str

@@ -32,9 +32,9 @@ pub fn rescued_additions_have_their_tree()
         → IsTreeOf (rescued_tree held a b).entries (rescued_additions held a b) }
 {}
 
-/// A sound file is whole, and a whole file of which the input holds each data block stands: the verdict on it is that of its path,
-/// with its content and what its header says of it. So it is kept in the place of its directory, by its name or else by `lost-`
-/// and its block, or has no room. What a second survey adds comes behind all that the first one adds.
+/// A sound file is whole, and a whole file of which the input holds each data block stands: the verdict on it is that of its
+/// path, with its content and what its header says of it. So it is kept in the place of its directory, by its name or else by
+/// `lost-` and its block, or has no room. What a second survey adds comes behind all that the first one adds.
 pub fn sound_files_stand()
     ensures whole { (image : List ℕ) (w : List (Role × ℕ)) (fs : List FindingValue) (n : ℕ)
         → IsSoundFile image w fs n → IsSoundFile image w (grave fs) n }
@@ -64,8 +64,8 @@ pub fn one_rescue()
         ≡ second_verdicts held a (Some (record { image = image; walk = w; sound = t })) }
 {}
 
-/// Where a tree and a layout fit an image that is held whole, the rescue has that tree and leaves out nothing, and nothing is lost,
-/// so that there is no second survey.
+/// Where a tree and a layout fit an image that is held whole, the rescue has that tree and leaves out nothing, and nothing is
+/// lost, so that there is no second survey.
 pub fn whole_is_kept()
     ensures tree { (held : ℕ) (image : List ℕ) (t : Tree) (l : Layout) (w : List (Role
         × ℕ)) (fs : List FindingValue) (sound : ℕ → Bool)
@@ -80,8 +80,8 @@ pub fn whole_is_kept()
         → Fits image t l → IsSurvey image w fs → has_lost image w fs ≡ false }
 {}
 
-/// A whole file is there: each data block, by its size, is in the walk, at the block in the file's table, and in the image; and all
-/// blocks of the file have their forms.
+/// A whole file is there: each data block, by its size, is in the walk, at the block in the file's table, and in the image; and
+/// all blocks of the file have their forms.
 pub fn whole_files()
     ensures file { (image : List ℕ) (w : List (Role × ℕ)) (fs : List FindingValue) (n h : ℕ)
         → IsSurvey image w fs → IsSound image w (grave fs) n h → FileAt image w n h → FileHolds image w n h }
