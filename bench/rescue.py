@@ -1,9 +1,11 @@
 #!/usr/bin/env python3
 """The rescue of an image by its definition (crates/adf_rescue), over bench/survey.py.
 
-    bench/rescue.py [BLOCKS] < IMAGE      the manifest of the new volume, or the first finding; on errors what is left out
+    bench/rescue.py [BLOCKS] < IMAGE      the manifest of the new volume; on errors the first finding, if nothing stands, and what is
+                                          left out and lost
 
-With BLOCKS the image is filled up with zeros, or cut, to so many blocks. Two surveys: of the image, opened; and, where headers are lost, of the image with these hung where they say that they belong.
+With BLOCKS the image is filled up with zeros, or cut, to so many blocks. Two surveys: of the image, opened; and, where headers are
+lost, of the image with these hung where they say that they belong.
 """
 
 import sys

@@ -336,7 +336,8 @@ def _sized(image: bytes, blocks: int | None) -> bytes:
 
 
 class LeftOut(NamedTuple):
-    """An entry that a rescue leaves out: why, `damaged`, `link` or `no room`, and its path."""
+    """What a rescue leaves out: an entry, with why, `damaged`, `link` or `no room`, and its path; or what is `lost`, with `in c/` or
+    `blocks 44 to 65` for a path."""
 
     why: str
     path: str

@@ -43,7 +43,7 @@ pub struct Rescue {
     pub left_out: Vec<LeftOut>,
 }
 
-/// An entry that is found and not in the new volume.
+/// An entry that is found and not in the new volume, or what is lost.
 #[derive(Clone, Debug, PartialEq, Eq)]
 pub struct LeftOut {
     pub reason: Reason,
@@ -58,6 +58,8 @@ pub enum Reason {
     Damaged,
     Link,
     NoRoom,
+    /// What findings tell of and no entry has: the path says where, as `in c/` or `blocks 44 to 65`.
+    Lost,
     /// The text of a reason that this crate does not know: the library is newer than the crate.
     Unknown(String),
 }
@@ -82,6 +84,7 @@ fn left_out_of(line: &str) -> Option<LeftOut> {
         "damaged" => Reason::Damaged,
         "link" => Reason::Link,
         "no room" => Reason::NoRoom,
+        "lost" => Reason::Lost,
         _ => Reason::Unknown(reason.to_owned()),
     };
     Some(LeftOut { reason, path: unescape(path)? })

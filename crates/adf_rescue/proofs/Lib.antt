@@ -8,6 +8,8 @@ pub mod LossSteps
 pub mod GivenBlocks
 -- the tree of the additions
 pub mod RescuedTrees
+-- files that are kept
+pub mod KeptFiles
 -- sound files stand, and one survey has one rescue
 pub mod RescueLaws
 -- the blocks of a tree that fits

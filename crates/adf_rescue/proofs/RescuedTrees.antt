@@ -41,7 +41,7 @@ room_by t (Some dir) name h path is =
 
 -- so has an addition
 
-fitting_is : (b : Bool) (x y : Addition) → (let v : Verdict = cond b (adds x) (leaves NoRoom) in v ≡ adds y) → x ≡ y
+pub fitting_is : (b : Bool) (x y : Addition) → (let v : Verdict = cond b (adds x) (leaves NoRoom) in v ≡ adds y) → x ≡ y
 fitting_is true x y h = cc
 fitting_is false x y h = absurd cc
 

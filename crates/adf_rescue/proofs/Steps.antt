@@ -220,7 +220,7 @@ module _ (g : Ground) (vs : List Verdict) (r : Salvage) (x : Addition) (is : IsS
 pub verdicts_more : (g : Ground) (l : Basis) (k : ℕ) → verdicts g l (k + 1) ≡ verdicts g l k ++ verdict g l (verdicts g l k) (k + 1) ∷ []
 verdicts_more g l k = rw add-one refl
 
-verdicts_count : (g : Ground) (l : Basis) (k : ℕ) → length (verdicts g l k) ≡ k
+pub verdicts_count : (g : Ground) (l : Basis) (k : ℕ) → length (verdicts g l k) ≡ k
 verdicts_count g l zero = refl
 verdicts_count g l (suc k) =
     let vs : List Verdict = verdicts g l k in

@@ -130,7 +130,8 @@ enough t n x le = grind (arith, common_steps, le-leb)
 abbrev tree_so_far : ℕ → Basis → List Verdict → Tree
 tree_so_far held a vs = tree_of (before_first held a.image) vs
 
-module _ (held : ℕ) (a : Basis) (vs : List Verdict) (n : ℕ) (e : Entry) (is : IsToldAs held a n e) (dir : List (List ℕ)) (at : place_of vs e.parent ≡ Some dir) where
+module _ (held : ℕ) (a : Basis) (vs : List Verdict) (n : ℕ) (e : Entry) (is : IsToldAs held a n e) (dir : List (List ℕ))
+    (at : place_of vs e.parent ≡ Some dir) where
   entry_path : room_for (tree_so_far held a vs).entries (dir ++ e.name ∷ []) ≡ Ok e.parent
       → path_by (tree_so_far held a vs) (place_of vs (parent_node a.walk n)) (name_of a.image (node_block a.walk n)) (node_block a.walk n)
       ≡ Some (dir ++ e.name ∷ [])

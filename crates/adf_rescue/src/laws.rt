@@ -1,6 +1,7 @@
 // The laws of rescues. Each is the contract of a function that does nothing at run time.
 
-ghost use Rattle.std.specs.Prelude.{◌≡◌, ◌≤◌, ◌++◌, ℕ, Bool, List, [], None, Option, Some, true, false};
+ghost use Rattle.std.specs.Prelude.{◌≡◌, ◌≤◌, ◌++◌, ℕ, Bool, List, [], None, Option, Some, true, false, slice_get};
+ghost use Rattle.std.proofs.Common.{suc};
 ghost use Rattle.std.specs.List.{concat};
 ghost use Rattle.adf_base.specs.Words.{block};
 ghost use Rattle.adf_tree.specs.Additions.{Addition, IsTreeOf};
@@ -8,18 +9,21 @@ ghost use Rattle.adf_tree.specs.declared.entry.Body.TheVariants.{File};
 ghost use Rattle.adf_blocks.specs.HeadBlock.{meta_stated};
 ghost use Rattle.adf_blocks.specs.Sizes.{blocks};
 ghost use Rattle.adf_volume.specs.Image.{name_of};
-ghost use Rattle.adf_findings.specs.Files.{IsSoundFile, file_content, file_in, grave};
-ghost use Rattle.adf_findings.specs.Found.{parent_node};
-ghost use Rattle.adf_findings.specs.Sound.{IsOfItsKind};
+ghost use Rattle.adf_findings.specs.Files.{HasItsBlocks, IsSoundFile, file_content, file_in, grave};
+ghost use Rattle.adf_findings.specs.Found.{owner, parent_node};
+ghost use Rattle.adf_findings.specs.Sound.{FileHolds, IsOfItsKind, IsSound};
 ghost use Rattle.adf_findings.specs.SoundMarks.{AreMarks};
 ghost use Rattle.adf_findings.specs.Survey.{FindingValue, IsSurvey};
 ghost use Rattle.adf_tree.specs.Tree.{Tree};
 ghost use Rattle.adf_volume.specs.Fits.{Fits};
 ghost use Rattle.adf_volume.specs.Layout.{Layout};
 ghost use Rattle.adf_volume.specs.Made.{datas_in};
-ghost use Rattle.adf_volume.specs.Walk.{Role, node_block};
+ghost use Rattle.adf_volume.specs.Lists.{At};
+ghost use Rattle.adf_volume.specs.Walk.{FileAt, Role, node_block};
 ghost use Rattle.adf_rescue.specs.Lost.{has_lost};
-ghost use Rattle.adf_rescue.specs.Rescue.{Basis, Verdict, additions_of, at_path, before_first, first_verdicts, path_by, place_of, rescue_leaves, rescued_additions, rescued_tree, second_verdicts, tree_of, verdict};
+ghost use Rattle.adf_rescue.specs.Rescue.{Basis, Verdict, additions_of, at_path, before_first, first_verdicts, path_by, place_of};
+ghost use Rattle.adf_rescue.specs.Rescue.{rescue_leaves, rescued_additions, rescued_tree, second_verdicts, tree_of, verdict};
+ghost use Rattle.adf_rescue.specs.Rescue.Verdict.{adds};
 ghost use Rattle.adf_rescue.specs.Salvage.{are_held};
 
 /// The tree of a rescue is that of its additions.
@@ -28,9 +32,9 @@ pub fn rescued_additions_have_their_tree()
         → IsTreeOf (rescued_tree held a b).entries (rescued_additions held a b) }
 {}
 
-/// A sound file is whole, and a whole file of which the input holds each data block stands: the verdict on it is that of its path,
-/// with its content and what its header says of it. So it is kept in the place of its directory, by its name or else by `lost-`
-/// and its block, or has no room. What a second survey adds comes behind all that the first one adds.
+/// A sound file is whole, and a whole file of which the input holds each data block stands: the verdict on it is that of its
+/// path, with its content and what its header says of it. So it is kept in the place of its directory, by its name or else by
+/// `lost-` and its block, or has no room. What a second survey adds comes behind all that the first one adds.
 pub fn sound_files_stand()
     ensures whole { (image : List ℕ) (w : List (Role × ℕ)) (fs : List FindingValue) (n : ℕ)
         → IsSoundFile image w fs n → IsSoundFile image w (grave fs) n }
@@ -74,4 +78,31 @@ pub fn whole_is_kept()
     ensures lost { (image : List ℕ) (t : Tree) (l : Layout) (w : List (Role
         × ℕ)) (fs : List FindingValue)
         → Fits image t l → IsSurvey image w fs → (mended : Bool) → has_lost mended image w fs ≡ false }
+{}
+
+/// A whole file is there: each data block, by its size, is in the walk, at the block in the file's table, and in the image; and
+/// all blocks of the file have their forms.
+pub fn whole_files()
+    ensures file { (image : List ℕ) (w : List (Role × ℕ)) (fs : List FindingValue) (n h : ℕ)
+        → IsSurvey image w fs → IsSound image w (grave fs) n h → FileAt image w n h → FileHolds image w n h }
+    ensures blocks { (image : List ℕ) (w : List (Role × ℕ)) (fs : List FindingValue) (n : ℕ)
+        → IsSurvey image w fs → IsSoundFile image w (grave fs) n → HasItsBlocks (file_in image w n) }
+{}
+
+/// Each file that a rescue adds is a whole file of the survey that adds it, with its content.
+pub fn kept_files_are_whole()
+    ensures first { (held : ℕ) (a : Basis) (fs : List FindingValue) (i : ℕ) (x : Addition) (bytes : List ℕ)
+        → AreMarks a.image a.walk (grave fs) a.sound → slice_get (first_verdicts held a) i ≡ Some (adds x) → x.body ≡ File bytes
+        → IsSoundFile a.image a.walk (grave fs) (suc i) × (bytes ≡ file_content (file_in a.image a.walk (suc i))) }
+    ensures second { (held : ℕ) (a b : Basis) (fs : List FindingValue) (i : ℕ) (x : Addition) (bytes : List ℕ)
+        → AreMarks b.image b.walk (grave fs) b.sound → slice_get (second_verdicts held a (Some b)) i ≡ Some (adds x)
+        → x.body ≡ File bytes
+        → IsSoundFile b.image b.walk (grave fs) (suc i) × (bytes ≡ file_content (file_in b.image b.walk (suc i))) }
+{}
+
+/// No data block of a file that the second survey adds is of an entry that the first one adds.
+pub fn kept_files_lie_apart()
+    ensures { (held : ℕ) (a b : Basis) (i j k n : ℕ) (x y : Addition) (bytes : List ℕ)
+        → slice_get (first_verdicts held a) i ≡ Some (adds x) → slice_get (second_verdicts held a (Some b)) j ≡ Some (adds y)
+        → y.body ≡ File bytes → owner a.walk n ≡ Some (suc i) → At (datas_in b.walk (suc j)) k n → ⊥ }
 {}

@@ -104,8 +104,8 @@ fn push_some<T: Drop>(items: &mut Vec<T>, item: Option<T>) -> Result<(), NoMemor
     }
 }
 
-/// For each header that was skipped and that no entry has, the directory of the survey in which it was skipped, in the order of the
-/// findings. `NoMemory` if an allocation fails.
+/// For each header that was skipped and that no entry has, the directory of the survey in which it was skipped, in the order of
+/// the findings. `NoMemory` if an allocation fails.
 pub fn lost_headers(
     alloc: Global,
     survey: &Survey<'_>,

@@ -125,8 +125,8 @@ fn stands_nothing(survey: &Survey<'_>, salvage: &Salvage, mended: bool) -> bool
 /// its directories, as the draft of a tree that fits in as many blocks; and what stands beside these by a second survey, if there
 /// is one, of the image with what was lost hung in it again: each entry whose header is not that of an entry of the first survey,
 /// but a file only if its data blocks are as they were given, of no entry that is kept, and not free as the bitmap tells. With it
-/// come the entries that are left out, and what the findings of the first survey tell of and no entry has. Nothing stands if there
-/// is a finding of the first survey, or the image was mended, and there is no addition. `None` if nothing of the image is
+/// come the entries that are left out, and what the findings of the first survey tell of and no entry has. Nothing stands if
+/// there is a finding of the first survey, or the image was mended, and there is no addition. `None` if nothing of the image is
 /// surveyed. `NoMemory` if an allocation fails, which can happen only if something of the image is surveyed.
 pub fn rescue(
     alloc: Global,

@@ -289,7 +289,8 @@ impl Salvage {
         requires { GoesOn survey.now.image n self.old }
         ensures { OnBasis survey.now.image (λ a _. (held : ℕ) (vs : List Verdict)
             → IsSalvage (before_first held a.image) vs self.old → IsNext a.walk vs n
-            → OnOk result (IsSalvage (before_first held a.image) (vs ++ verdict (before_first held a.image) a vs n ∷ []) self.new)) }
+            → OnOk result (IsSalvage (before_first held a.image)
+            (vs ++ verdict (before_first held a.image) a vs n ∷ []) self.new)) }
     {
         let standing = body_of(alloc, self.held, survey, n)?;
         self.keep(alloc, survey, n, standing)

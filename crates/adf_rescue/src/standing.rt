@@ -102,8 +102,8 @@ fn is_given(before: &Survey<'_>, kept: &Vec<bool>, held: usize, image: &[u8], b:
         && !is_stated_free(before, b)
 }
 
-/// Whether data blocks were given: the input holds them, they are the same in the image of the survey before, and there neither an
-/// entry that is kept has them, nor does the bitmap tell that they are free.
+/// Whether data blocks were given: the input holds them, they are the same in the image of the survey before, and there neither
+/// an entry that is kept has them, nor does the bitmap tell that they are free.
 pub fn are_given(
     before: &Survey<'_>,
     kept: &Vec<bool>,

@@ -26,8 +26,9 @@ impl<P: Programs, L: Library> Bench<'_, P, L> {
         is_begun(self.alloc, &verdict, &found)
     }
 
-    /// `adf-survey rescue` on an image writes a valid volume with these paths, in the order of its walk, and on errors what follows: a
-    /// line for each entry that it leaves out. If nothing stands, the line of the first finding is all that it writes.
+    /// `adf-survey rescue` on an image writes a valid volume with these paths, in the order of its walk, and on errors what
+    /// follows: a line for each entry that it leaves out, and for what is lost. If nothing stands, it writes nothing, and the
+    /// line of the first finding stands in front of these.
     pub fn is_rescued(&self, image: &[u8], line: &str) -> Result<(), RowError> {
         let answer = self.answer(Program::Survey, "rescue", image)?;
         let status = if answer.errors.is_empty() { 0 } else { 1 };

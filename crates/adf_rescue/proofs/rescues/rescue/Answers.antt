@@ -20,10 +20,12 @@ returns-clause-none c = λ w fs survey.
     ((λ e. absurd cc), (λ none. let not = (c.in-Some.ensures.some w fs survey).1 none in absurd cc))
 
 pub returns-clause-left_out : goal.returns-clause-left_out
-returns-clause-left_out c = λ w fs sound survey marks b is. (c.in_ok-salvage.ensures.state c.args.held c.in_ok-begun.ensures.held w fs sound survey marks b is).left_before
+returns-clause-left_out c = λ w fs sound survey marks b is.
+    (c.in_ok-salvage.ensures.state c.args.held c.in_ok-begun.ensures.held w fs sound survey marks b is).left_before
 
 pub returns-clause-second_left_out : goal.returns-clause-second_left_out
-returns-clause-second_left_out c = λ w fs sound survey marks b is. (c.in_ok-salvage.ensures.state c.args.held c.in_ok-begun.ensures.held w fs sound survey marks b is).left_out
+returns-clause-second_left_out c = λ w fs sound survey marks b is.
+    (c.in_ok-salvage.ensures.state c.args.held c.in_ok-begun.ensures.held w fs sound survey marks b is).left_out
 
 pub returns-in_err-salvage-clause-begun : goal.returns-in_err-salvage-clause-begun
 returns-in_err-salvage-clause-begun c = λ w fs survey.

@@ -9,7 +9,8 @@ pub take_second-requires : goal.take_second-requires
 take_second-requires c = λ w fs sound survey marks.
     let a : Basis = record { image = c.args.survey.now.image; walk = w; sound = sound } in
     own_held c.args.begun.held a c.in_ok-salvage.salvage
-    (c.in_ok-salvage.ensures c.args.begun.held c.args.survey.now.image w (first_verdicts c.args.begun.held a) (c.in_ok-first.ensures w fs sound survey marks))
+    (c.in_ok-salvage.ensures c.args.begun.held c.args.survey.now.image w (first_verdicts c.args.begun.held a)
+    (c.in_ok-first.ensures w fs sound survey marks))
 
 pub returns-in-None-clause-state : goal.returns-in-None-clause-state
 returns-in-None-clause-state c = λ held same w fs sound survey marks b is.
@@ -17,7 +18,8 @@ returns-in-None-clause-state c = λ held same w fs sound survey marks b is.
     subst (λ h. IsSalvage (before_second h a) (second_verdicts h a b) c.in_ok-salvage.salvage) same
     (let none = rw c.in-None.is at is in
     elim b as (λ b. IsSecond None b → IsSalvage (before_second c.args.begun.held a) (second_verdicts c.args.begun.held a b) c.in_ok-salvage.salvage) [
-      | None ↦ λ x. c.in_ok-salvage.ensures c.args.begun.held c.args.survey.now.image w (first_verdicts c.args.begun.held a) (c.in_ok-first.ensures w fs sound survey marks)
+      | None ↦ λ x. c.in_ok-salvage.ensures c.args.begun.held c.args.survey.now.image w (first_verdicts c.args.begun.held a)
+          (c.in_ok-first.ensures w fs sound survey marks)
       | Some l ↦ λ x. absurd x
     ] none)
 
@@ -32,10 +34,12 @@ returns-in-None-clause-blocks c =
 pub returns-in_ok-take_second-in-Some-clause-state : goal.returns-in_ok-take_second-in-Some-clause-state
 returns-in_ok-take_second-in-Some-clause-state c = λ held same w fs sound survey marks b is.
     let a : Basis = record { image = c.args.survey.now.image; walk = w; sound = sound } in
-    let begun = c.in_ok-salvage.ensures c.args.begun.held c.args.survey.now.image w (first_verdicts c.args.begun.held a) (c.in_ok-first.ensures w fs sound survey marks) in
+    let begun = c.in_ok-salvage.ensures c.args.begun.held c.args.survey.now.image w (first_verdicts c.args.begun.held a)
+    (c.in_ok-first.ensures w fs sound survey marks) in
     subst (λ h. IsSalvage (before_second h a) (second_verdicts h a b) c.take_second.new.salvage) (begun.held ∙ same)
     (second_some c.in-Some.second.now.image
-    (λ (x : Option Basis). let held = c.in_ok-salvage.salvage.held in IsSalvage (before_second held a) (second_verdicts held a x) c.take_second.new.salvage)
+    (λ (x : Option Basis). let held = c.in_ok-salvage.salvage.held in
+    IsSalvage (before_second held a) (second_verdicts held a x) c.take_second.new.salvage)
     (c.in_ok-take_second-in-Some.ensures w fs sound survey marks) b (rw c.in-Some.is at is))
 
 pub returns-in_ok-take_second-in-Some-clause-blocks : goal.returns-in_ok-take_second-in-Some-clause-blocks
