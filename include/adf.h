@@ -92,6 +92,11 @@ enum adf_cause {
  */
 size_t adf_cause_text(uint8_t cause, uint8_t *room, size_t room_length);
 
+/* Returns the version of the library, as a number like ADF_VERSION_NUMBER. It is at least that if the library has all calls of this
+ * header.
+ */
+uint32_t adf_version(void);
+
 enum adf_kind { ADF_OFS = 0, ADF_FFS = 1 };
 
 struct adf_verdict {
@@ -342,6 +347,12 @@ struct adf_disk {
  */
 uint8_t adf_disk_index(const uint8_t *bytes, size_t length, uint64_t blocks, struct adf_partition *partitions, size_t room,
                        struct adf_disk *disk);
+
+/* Write the text of an adf_disk_cause, such as `no rigid disk`, and of an adf_partition_fault, such as `beyond image`, as
+ * adf_cause_text does: as far as they fit, with the length of the whole text returned, at most 17; 0 if nothing has the number.
+ */
+size_t adf_disk_cause_text(uint8_t cause, uint8_t *room, size_t room_length);
+size_t adf_partition_fault_text(uint8_t fault, uint8_t *room, size_t room_length);
 
 struct adf_moved {
     size_t input;     /* bytes that were read */

@@ -38,6 +38,7 @@ static const size_t MOST_BYTES = (size_t)512 * 1048576 + 1;
 
 /* The tables of a hard disk lie before this byte. */
 static const size_t MOST_TABLES = (size_t)512 * 65536;
+enum { LONGEST_TEXT = 64 }; /* the bytes of the texts that the library has for numbers */
 
 enum { MOST_PARTITIONS = 1024 };
 
@@ -249,10 +250,6 @@ static bool load(FILE *file, size_t most) {
     return is_read;
 }
 
-/* What is wrong with a partition, by its number. */
-static const char *const PARTITION_FAULTS[] = {
-    "", "short environment", "bad block size", "bad cylinders", "beyond image", "over tables", "over partition", "bad name"};
-
 /* Whether a partition is the one that is wanted, by its number from 1 or its name; the case of a to z does not count. */
 static bool is_wanted(const struct adf_partition *partition, size_t number, const char *wanted) {
     char *end;
@@ -316,7 +313,9 @@ static int seek_volume(FILE *file, const char *name, const char *wanted, size_t 
     if (partition == NULL)
         return wanted == NULL ? USAGE : REFUSED;
     if (partition->fault != ADF_PARTITION_SOUND) {
-        fprintf(stderr, "adf-mount: %s: %s\n", name, PARTITION_FAULTS[partition->fault]);
+        uint8_t text[LONGEST_TEXT];
+        int text_length = (int)adf_partition_fault_text(partition->fault, text, sizeof text);
+        fprintf(stderr, "adf-mount: %s: %.*s\n", name, text_length, (const char *)text);
         return REFUSED;
     }
     if (partition->blocks <= MOST_BYTES / 512)
@@ -360,7 +359,7 @@ static uint8_t make_tables(void) {
 
 /* Loads and checks the image: SOUND, or the status to end with, and why stands on standard error. */
 static int open_volume(const char *name, const char *wanted) {
-    uint8_t text[64];
+    uint8_t text[LONGEST_TEXT];
     int status = load_volume(name, wanted);
     if (status != SOUND)
         return status;

@@ -1,3 +1,5 @@
 # Completion of adf-shelf for fish.
 
 complete -c adf-shelf -l null -d 'names of standard input end in zero bytes'
+complete -c adf-shelf -n '__fish_is_first_token' -l help -d 'write the help'
+complete -c adf-shelf -n '__fish_is_first_token' -l version -d 'write the version'

@@ -8,3 +8,5 @@ complete -c adf-survey -n $first -l list -d 'list what is found, sound or damage
 complete -c adf-survey -n $first -a rescue -d 'write a new volume of all that stands'
 complete -c adf-survey -n "$first; and test (count (commandline -opc)) -le 2" -l blocks -x -a '1760 3520' \
     -d 'take the image as if it had so many blocks'
+complete -c adf-survey -n '__fish_is_first_token' -l help -d 'write the help'
+complete -c adf-survey -n '__fish_is_first_token' -l version -d 'write the version'

@@ -14,7 +14,7 @@ _adf() {
 }
 
 _adf_survey() {
-    local at=1 words="cat rescue --list --blocks"
+    local at=1 words="cat rescue --list --blocks --help --version"
     if ((COMP_CWORD > 1)) && [[ ${COMP_WORDS[1]} == --blocks ]]; then
         at=3 words="cat rescue --list"
     fi
@@ -33,14 +33,14 @@ _adf_disk() {
     if [[ ${COMP_WORDS[COMP_CWORD - 1]} == [\<\>] ]]; then
         compopt -o default
     elif ((COMP_CWORD == 1)); then
-        COMPREPLY=($(compgen -W "list check survey volume build" -- "$2"))
+        COMPREPLY=($(compgen -W "list check survey volume build --help --version" -- "$2"))
     fi
 }
 
 _adf_files() {
     case $1:$2 in
         adf-mount:-*) COMPREPLY=($(compgen -W "--partition -f -o -h --help -V --version" -- "$2")) ;;
-        adf-shelf:-*) COMPREPLY=($(compgen -W "--null" -- "$2")) ;;
+        adf-shelf:-*) COMPREPLY=($(compgen -W "--null --help --version" -- "$2")) ;;
         adf-catalogue:-*) COMPREPLY=($(compgen -W "--tsv --rescue --fresh --escape -h --help --version" -- "$2")) ;;
         adf-pack:-*)
             COMPREPLY=($(compgen -W "--label --date --altered --created --no-uaem --escape -h --help --version" -- "$2"))

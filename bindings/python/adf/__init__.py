@@ -48,13 +48,11 @@ BLOCK = 512
 MOST_BYTES = BLOCK * 1_048_576
 NO_MEMORY = 23
 KINDS = ("ofs", "ffs")
-DISK_CAUSES = ("", "no rigid disk", "bad block size", "out of range", "repeated", "not a partition", "bad sum", "too many")
-PARTITION_FAULTS = ("", "short environment", "bad block size", "bad cylinders", "beyond image", "over tables", "over partition", "bad name")
 MOST_PARTITIONS, MOST_TABLES, DOS_TYPE = 1024, BLOCK * 65536, 0x444F5300
 ROLES = ("free", "boot", "root", "page", "map extension", "header", "extension", "data")
 SONAME = "libadf.so.1"
 LONGEST_NAME, LONGEST_COMMENT, MOST_NUMBER, PART = 30, 79, 2**32 - 1, 1 << 20
-FIRST_ROOM, FIRST_OUTPUT, FIRST_ERRORS, MOST_OUTPUT, LONGEST_CAUSE = 2048, 4096, 4096, 1 << 32, 64
+FIRST_ROOM, FIRST_OUTPUT, FIRST_ERRORS, MOST_OUTPUT, LONGEST_TEXT = 2048, 4096, 4096, 1 << 32, 64
 EPOCH = datetime.datetime(1978, 1, 1)
 LAST_DAY = (datetime.datetime.max - EPOCH).days
 CAPITALS = bytes(byte - 32 if 97 <= byte <= 122 else byte for byte in range(256))
@@ -106,9 +104,12 @@ _CALLS = {
     "adf_find": (_BYTE, _POINTER, _SIZE, _POINTER, _SIZE, _POINTER),
     "adf_read": (_SIZE, *(_POINTER, _SIZE) * 3, _SIZE, _SIZE, _POINTER, _SIZE),
     "adf_cause_text": (_SIZE, _BYTE, _POINTER, _SIZE),
+    "adf_version": (_WORD,),
     "adf_run": (_BYTE, *(_POINTER, _SIZE) * 4, _POINTER),
     "adf_survey_index": (_BYTE, _POINTER, _SIZE, _POINTER, _SIZE, _POINTER, _SIZE, _POINTER),
     "adf_disk_index": (_BYTE, _POINTER, _SIZE, ctypes.c_uint64, _POINTER, _SIZE, _POINTER),
+    "adf_disk_cause_text": (_SIZE, _BYTE, _POINTER, _SIZE),
+    "adf_partition_fault_text": (_SIZE, _BYTE, _POINTER, _SIZE),
     "adf_survey_run": (_BYTE, *(_POINTER, _SIZE) * 4, _POINTER),
 }
 _library: ctypes.CDLL | None = None
@@ -270,11 +271,21 @@ def _accept(number: int, block: int, filename: Path | None = None) -> None:
         raise Refused(_cause(number), block, number, filename)
 
 
+def _text(call: Any, number: int) -> str:
+    """The text that a call of the library has for a number."""
+    room = ctypes.create_string_buffer(LONGEST_TEXT)
+    length = call(number, room, len(room))
+    return room.raw[:length].decode("ascii")
+
+
 def _cause(number: int) -> str:
     """The text of a cause."""
-    room = ctypes.create_string_buffer(LONGEST_CAUSE)
-    length = _calls().adf_cause_text(number, room, len(room))
-    return room.raw[:length].decode("ascii")
+    return _text(_calls().adf_cause_text, number)
+
+
+def library_version() -> int:
+    """The version of the shared library: 10000 for each major version, 100 for each minor one."""
+    return int(_calls().adf_version())
 
 
 def check(image: Image) -> Verdict:
@@ -597,6 +608,7 @@ class Disk(_ReadOnly):
     partitions: list[Partition]
     cause: str
     block: int
+    _number: int
 
     def __init__(self, image: Image) -> None:
         told, rows = _Disk(), (_Partition * MOST_PARTITIONS)()
@@ -605,7 +617,8 @@ class Disk(_ReadOnly):
         if _calls().adf_disk_index(tables, len(tables), blocks, rows, MOST_PARTITIONS, ctypes.byref(told)) != 0:
             raise NoMemory
         partitions = [self._partition(number, row) for number, row in enumerate(rows[: told.partitions], 1)]
-        vars(self).update(image=image, partitions=partitions, cause=DISK_CAUSES[told.cause], block=told.block)
+        cause = _text(_calls().adf_disk_cause_text, told.cause)
+        vars(self).update(image=image, partitions=partitions, cause=cause, block=told.block, _number=told.cause)
 
     def __repr__(self) -> str:
         return f"<adf.Disk: {len(self.partitions)} partitions" + (f", block {self.block}: {self.cause}>" if self.cause else ">")
@@ -614,7 +627,7 @@ class Disk(_ReadOnly):
     def _partition(number: int, row: Any) -> Partition:
         kind = row.dos_type - DOS_TYPE
         text = KINDS[kind] if kind in (0, 1) else escape(row.dos_type.to_bytes(4, "big"))
-        fields = row.first, row.blocks, row.flags, row.priority, row.block, PARTITION_FAULTS[row.fault]
+        fields = row.first, row.blocks, row.flags, row.priority, row.block, _text(_calls().adf_partition_fault_text, row.fault)
         return Partition(number, bytes(row.name)[: row.name_length], text, *fields)
 
     def __getitem__(self, wanted: int | str) -> Partition:
@@ -636,7 +649,7 @@ def partitions(image: Image) -> list[Partition]:
     """The partitions of a whole hard disk. Refused where its tables have a fault: Disk(image) has what can be read then."""
     disk = Disk(image)
     if disk.cause:
-        raise Refused(disk.cause, disk.block, DISK_CAUSES.index(disk.cause))
+        raise Refused(disk.cause, disk.block, disk._number)
     return disk.partitions
 
 

@@ -143,18 +143,32 @@ class Tables(unittest.TestCase):
 
 
 class Causes(unittest.TestCase):
-    def text(self, number, size):
+    def text(self, number, size, call="adf_cause_text"):
         room = ctypes.create_string_buffer(b"?" * 64)
-        length = adf.load(adf.library_path()).adf_cause_text(number, room, size)
+        length = getattr(adf.load(adf.library_path()), call)(number, room, size)
         self.assertEqual(set(room.raw[min(length, size) : 64]), set(b"?"))
         return length, room.raw[: min(length, size)]
 
     def test_have_their_texts(self):
-        for number in range(1, 24):
-            length, whole = self.text(number, 63)
-            self.assertTrue(length == len(whole) > 0)
-            self.assertEqual((self.text(number, length - 1), self.text(number, 0)[0]), ((length, whole[:-1]), length))
-        self.assertEqual({self.text(number, 63) for number in (0, 24, 255)}, {(0, b"")})
+        for call, last in (("adf_cause_text", 23), ("adf_disk_cause_text", 8), ("adf_partition_fault_text", 7)):
+            for number in range(1, last + 1):
+                length, whole = self.text(number, 63, call)
+                self.assertTrue(length == len(whole) > 0)
+                self.assertEqual((self.text(number, length - 1, call), self.text(number, 0, call)[0]), ((length, whole[:-1]), length))
+            self.assertEqual({self.text(number, 63, call) for number in (0, last + 1, 255)}, {(0, b"")})
+
+    def test_of_disks_are_those_of_the_program(self):
+        disk_causes = [self.text(number, 63, "adf_disk_cause_text")[1] for number in range(1, 8)]
+        faults = [self.text(number, 63, "adf_partition_fault_text")[1] for number in range(1, 8)]
+        with open(os.path.join(TOP, "docs", "adf-disk.1"), encoding="utf-8") as file:
+            page = file.read()
+        for text in (*disk_causes, *faults):
+            self.assertIn(text.decode(), page)
+        self.assertEqual((disk_causes[0], faults[3]), (b"no rigid disk", b"beyond image"))
+
+    def test_have_a_library_of_this_version(self):
+        with open(os.path.join(TOP, "include", "adf.h"), encoding="utf-8") as file:
+            self.assertIn(f"#define ADF_VERSION_NUMBER {adf.library_version()}\n", file.read())
 
     def test_have_paragraphs_in_the_page_of_faults(self):
         with open(os.path.join(TOP, "docs", "FAULTS.md"), encoding="utf-8") as file:

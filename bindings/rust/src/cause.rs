@@ -1,4 +1,4 @@
-use crate::ffi;
+use crate::ffi::{self, Numbered};
 use crate::numbered::numbered;
 use std::error::Error;
 use std::fmt;
@@ -35,10 +35,7 @@ numbered! {
 /// The text that `adf check` writes, such as `bad sum`.
 impl fmt::Display for Cause {
     fn fmt(&self, f: &mut fmt::Formatter<'_>) -> fmt::Result {
-        match ffi::cause_text(self.number()) {
-            text if text.is_empty() => write!(f, "unknown cause {}", self.number()),
-            text => f.write_str(&text),
-        }
+        f.write_str(&ffi::text(Numbered::Cause, self.number()))
     }
 }
 

@@ -1,4 +1,4 @@
-use crate::ffi::{self, DiskRecord, PartitionRecord};
+use crate::ffi::{self, DiskRecord, Numbered, PartitionRecord};
 use crate::numbered::numbered;
 use crate::{Refused, Text};
 use std::error::Error;
@@ -31,32 +31,14 @@ numbered! {
 /// The text that `adf-disk` writes, such as `no rigid disk`.
 impl fmt::Display for DiskCause {
     fn fmt(&self, f: &mut fmt::Formatter<'_>) -> fmt::Result {
-        f.write_str(match self {
-            DiskCause::NoRigidDisk => "no rigid disk",
-            DiskCause::BlockSize => "bad block size",
-            DiskCause::OutOfRange => "out of range",
-            DiskCause::Repeated => "repeated",
-            DiskCause::NoPartition => "not a partition",
-            DiskCause::BadSum => "bad sum",
-            DiskCause::TooMany => "too many",
-            DiskCause::Unknown(number) => return write!(f, "unknown cause {number}"),
-        })
+        f.write_str(&ffi::text(Numbered::DiskCause, self.number()))
     }
 }
 
 /// The text that `adf-disk` writes, such as `beyond image`.
 impl fmt::Display for PartitionFault {
     fn fmt(&self, f: &mut fmt::Formatter<'_>) -> fmt::Result {
-        f.write_str(match self {
-            PartitionFault::ShortEnvironment => "short environment",
-            PartitionFault::BlockSize => "bad block size",
-            PartitionFault::BadCylinders => "bad cylinders",
-            PartitionFault::BeyondImage => "beyond image",
-            PartitionFault::OverTables => "over tables",
-            PartitionFault::OverPartition => "over partition",
-            PartitionFault::BadName => "bad name",
-            PartitionFault::Unknown(number) => return write!(f, "unknown fault {number}"),
-        })
+        f.write_str(&ffi::text(Numbered::PartitionFault, self.number()))
     }
 }
 

@@ -23,6 +23,11 @@ use std::borrow::Cow;
 use std::fmt;
 use std::time::{Duration, SystemTime};
 
+/// The version of the library: 10000 for each major version, 100 for each minor one.
+pub fn version() -> u32 {
+    ffi::version()
+}
+
 impl Date {
     /// The moment, if the date is read as UTC; `None` if it has more minutes than a day, or more ticks than a minute.
     pub fn to_system_time(self) -> Option<SystemTime> {

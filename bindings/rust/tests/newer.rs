@@ -104,6 +104,21 @@ extern "C" fn adf_cause_text(cause: u8, room: *mut u8, _: usize) -> usize {
     3
 }
 
+#[no_mangle]
+extern "C" fn adf_disk_cause_text(cause: u8, room: *mut u8, length: usize) -> usize {
+    adf_cause_text(cause, room, length)
+}
+
+#[no_mangle]
+extern "C" fn adf_partition_fault_text(fault: u8, room: *mut u8, length: usize) -> usize {
+    adf_cause_text(fault, room, length)
+}
+
+#[no_mangle]
+extern "C" fn adf_version() -> u32 {
+    20_001
+}
+
 /// Refuses an image of no bytes, and has one finding in any other.
 #[no_mangle]
 extern "C" fn adf_survey_index(
@@ -195,6 +210,7 @@ fn an_answer_that_is_new_accepts_no_image() {
     assert_eq!(Volume::check(&[0; 512]).unwrap().owners().unwrap_err(), refused);
     assert_eq!(refused.to_string(), "block 0: unknown cause 24");
     assert_eq!(Cause::from(NEW + 1).to_string(), "new");
+    assert_eq!(adf::version(), 20_001);
 }
 
 #[test]
@@ -211,6 +227,10 @@ fn what_is_new_is_not_taken_for_what_is_known() {
     );
     let disk = Disk::of(&image).unwrap();
     assert_eq!(disk.fault().map(|fault| (fault.cause, fault.block)), Some((DiskCause::Unknown(NEW), 3)));
+    assert_eq!(DiskCause::Unknown(NEW).to_string(), "unknown cause 24");
+    assert_eq!(DiskCause::from(NEW + 1).to_string(), "new");
+    assert_eq!(PartitionFault::Unknown(NEW).to_string(), "unknown fault 24");
+    assert_eq!(PartitionFault::from(NEW + 1).to_string(), "new");
     assert_eq!(disk.partitions().next().unwrap().place(), Err(PartitionFault::Unknown(NEW)));
     assert_eq!(adf::run(&[], b"").into_output().unwrap_err().to_string(), "status 24");
 }

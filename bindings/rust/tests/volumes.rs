@@ -212,7 +212,9 @@ fn texts_are_those_of_the_programs() {
 #[test]
 fn the_version_is_that_of_the_header() {
     let line = format!("#define ADF_VERSION \"{}\"", env!("CARGO_PKG_VERSION").strip_suffix(".0").unwrap());
-    assert!(include_str!("../../../include/adf.h").contains(&line), "{line}");
+    let number = format!("#define ADF_VERSION_NUMBER {}\n", adf::version());
+    let header = include_str!("../../../include/adf.h");
+    assert!(header.contains(&line) && header.contains(&number), "{line} {number}");
 }
 
 #[test]

@@ -43,7 +43,7 @@ pub extern "C" fn adf_run(
 ///
 /// - 0 if there are no findings, or the bytes of a sound file are written; of `rescue`, if no entry is left out;
 /// - 1 if findings are written to the output; of `cat`, if the path leads to no sound file, which the errors say; of `rescue`, if
-///   the errors say which entries are left out, or that nothing stands;
+///   the errors say which entries are left out, or that nothing can be kept;
 /// - 2 if the words or the path are refused: the errors say which, nothing is read, and the output is empty;
 /// - 3 if the output is too small or memory ran out: the errors say which.
 #[unsafe(no_mangle)]

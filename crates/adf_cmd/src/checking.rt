@@ -27,7 +27,7 @@ fn accepted_line(alloc: Global, counts: &Counts) -> Result<String, AllocError>
     Ok(line)
 }
 
-/// What `check` answers to an image.
+/// The answer of `check` to an image.
 #[derive(Drop)]
 pub struct CheckAnswer {
     /// Whether the image is accepted.
@@ -54,7 +54,7 @@ fn refusal(alloc: Global, fault: Fault) -> Result<CheckAnswer, AllocError>
     Ok(CheckAnswer { sound: false, line })
 }
 
-/// Checks an image. `AllocError` where memory was refused, which says nothing of the image.
+/// Checks an image. `AllocError` if an allocation failed; it says nothing about the image.
 pub fn answer_to_image(alloc: Global, image: &[u8]) -> Result<CheckAnswer, AllocError>
     ensures { IfOk result (IsCheckAnswer image.now) }
 {
@@ -64,8 +64,8 @@ pub fn answer_to_image(alloc: Global, image: &[u8]) -> Result<CheckAnswer, Alloc
     }
 }
 
-/// Reads an image into a buffer, which may be that of an earlier image, and checks it. `Device` where
-/// the reader failed, `NoMemory` where memory was refused.
+/// Reads an image into a buffer, which may be that of an earlier image, and checks it. `Device` if
+/// the reader failed, `NoMemory` if an allocation failed.
 pub fn answer_to_input<R: Source>(
     alloc: Global,
     input: &mut R,

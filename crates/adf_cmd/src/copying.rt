@@ -76,7 +76,7 @@ fn write_pieces<W: Sink>(pieces: Pieces<'_>, room: &mut [u8], output: &mut W) ->
     write_all(output, &room[..waiting])
 }
 
-/// Writes the pieces of a file through a room of so many bytes. `Failed` where the writer failed or took
+/// Writes the pieces of a file through a room of so many bytes. `Failed` if the writer failed or wrote
 /// 0 of some bytes; then a front part of them is written, but not all.
 pub fn write_through<const N: usize, W: Sink>(
     pieces: Pieces<'_>,

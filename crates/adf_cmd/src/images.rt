@@ -29,7 +29,7 @@ pub fn refused_line(alloc: Global, fault: Fault) -> Result<String, AllocError>
     Ok(line)
 }
 
-/// Checks an image: its volume, or its first fault. `AllocError` where memory was refused, which says nothing of the image.
+/// Checks an image: its volume, or its first fault. `AllocError` if an allocation failed; it says nothing about the image.
 pub fn checked<'a>(alloc: Global, image: &'a [u8]) -> Result<Result<Checked<'a>, Fault>, AllocError>
     ensures image { IfOk result (λ r. IfOk r (λ v. v.image ≡ image.now)) }
     ensures fits { IfOk result (λ r. IfOk r (λ v. (t : Tree) × (l : Layout) × StandsFor v t l)) }

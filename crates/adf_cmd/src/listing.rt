@@ -55,8 +55,8 @@ fn list_block<W: Sink>(
     Ok(())
 }
 
-/// Writes the lines of an image's words that are not 0. `Device` where the writer failed, `NoMemory`
-/// where memory was refused; then a front part of the lines is written, and where the writer failed
+/// Writes the lines of an image's words that are not 0. `Device` if the writer failed, `NoMemory`
+/// if an allocation failed; then a front part of the lines is written, and if the writer failed
 /// not all of them.
 pub fn write_listing<W: Sink>(
     alloc: Global,

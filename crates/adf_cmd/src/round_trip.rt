@@ -8,9 +8,9 @@ use adf_build::{BuildFault, build};
 use adf_tree::Tree;
 use std::alloc::Global;
 
-/// Builds a tree in a volume of so many blocks, checks the image, and answers the tree of the checked volume: it is the
+/// Builds a tree in a volume of so many blocks, checks the image, and returns the tree of the checked volume: it is the
 /// tree given.
-/// The image that was built is never refused but for want of memory.
+/// The image that was built is never refused, unless memory runs out.
 pub fn build_and_read(alloc: Global, tree: &Tree, blocks: u32) -> Result<Tree, BuildFault>
     ensures same { IfOk result (λ t. t ≡ tree.now) }
     ensures fault { IfErr result (IsBuildFault tree.now blocks) }

@@ -9,12 +9,12 @@ use crate::work::Work;
 use adf_runs::{Sink, Source, run_program};
 use std::alloc::Global;
 
-/// Runs the command that the words name, of which the first is the program's name, and answers its status:
+/// Runs the command that the words name, and returns its status; the first word is the program's name:
 ///
-/// - 0 where the answer is written to output;
-/// - 1 where the input is refused: `check` says so on output, the others on errors;
-/// - 2 where the words are not accepted, or the path is not read, which errors tell; nothing is read, and output is empty;
-/// - 3 where a device failed or memory was refused, which errors tell.
+/// - 0 if the answer is written to output;
+/// - 1 if the input is refused: `check` says so on output, the others on errors;
+/// - 2 if the words are not accepted, or the path is not a path, as errors say; nothing is read, and output is empty;
+/// - 3 if a device failed or memory ran out, as errors say.
 pub fn run<R: Source, W: Sink, E: Sink>(
     alloc: Global,
     words: &[&str],

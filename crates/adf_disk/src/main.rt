@@ -1,22 +1,46 @@
 //! The partitions of a whole Amiga hard disk, and their volumes.
 #![tactic(auto)]
 
-use adf_cmd::{Device, Outcome, command_words};
 use adf_disk_cmd::run;
+use adf_runs::{
+    About, Device, NamedErrors, Outcome, command_words, refuse_words, tell, telling_asked,
+};
+use std::alloc::AllocError;
 use std::process::ExitCode;
 
-fn status(rt: &HostRuntime) -> Result<u8, Outcome> {
-    let words = command_words(rt)?;
-    let texts: Vec<&str> = words.iter().map(|word| word.as_str()).collect(rt.alloc())?;
+const ABOUT: About = About {
+    name: "adf-disk",
+    help: "Lists and checks the partitions of a whole Amiga hard disk, cuts out its volumes, and builds a disk from a plan.\n\n\
+    usage: adf-disk list < DISK           a line for each partition\n\
+    \x20      adf-disk check < DISK          a verdict on each volume\n\
+    \x20      adf-disk survey < DISK         the partitions of a damaged table\n\
+    \x20      adf-disk volume NAME < DISK    the volume of a partition, by its name or its number\n\
+    \x20      adf-disk build < PLAN > DISK   a new disk\n\
+    \x20      adf-disk --help, adf-disk --version\n\n\
+    man adf-disk tells more.\n",
+};
+
+fn status(rt: &HostRuntime) -> u8 {
+    let mut errors = NamedErrors::new("adf-disk: ", Device::new(rt.stderr()));
+    let words = match command_words(rt) {
+        Ok(words) => words,
+        Err(fault) => return refuse_words(&fault, &mut errors),
+    };
+    let texts: Result<Vec<&str>, AllocError> = words
+        .iter()
+        .map(|word| word.as_str())
+        .collect(rt.alloc());
+    let Ok(texts) = texts else {
+        return refuse_words(&Outcome::NoMemory, &mut errors);
+    };
     let mut input = Device::new(rt.stdin());
     let mut output = Device::new(rt.stdout());
-    let mut errors = Device::new(rt.stderr());
-    Ok(run(rt.alloc(), &texts, &mut input, &mut output, &mut errors))
+    match telling_asked(&texts) {
+        Some(telling) => tell(&ABOUT, telling, &mut output, &mut errors),
+        None => run(rt.alloc(), &texts, &mut input, &mut output, &mut errors),
+    }
 }
 
 fn main(rt: HostRuntime) -> ExitCode {
-    ExitCode::from(match status(&rt) {
-        Ok(status) => status,
-        Err(outcome) => outcome.finish(&mut Device::new(rt.stderr())),
-    })
+    ExitCode::from(status(&rt))
 }

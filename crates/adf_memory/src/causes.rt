@@ -1,19 +1,60 @@
-// The texts of causes.
+// The texts of causes and of faults, by their numbers.
 
-ghost use Rattle.std.specs.Prelude.{◌≡◌, length};
+ghost use Rattle.std.specs.Prelude.{◌≡◌, IfNone, IfSome, length};
 ghost use Rattle.adf_blocks.specs.Causes.{cause_number, cause_text};
 ghost use Rattle.adf_blocks.specs.declared.cause.Cause.{Cause};
+ghost use Rattle.adf_partitions.specs.FaultTexts.{disk_cause_number, disk_cause_text, place_fault_number, place_fault_text};
+ghost use Rattle.adf_partitions.specs.declared.fault.DiskCause.{DiskCause};
+ghost use Rattle.adf_partitions.specs.declared.place.PlaceFault.{PlaceFault};
 ghost use Rattle.adf_memory.specs.Rooms.{filled};
 
 use adf_blocks::Cause;
+use adf_partitions::{DiskCause, PlaceFault};
 
-// Puts a text at the front of the room, as far as it fits.
-fn put_text(room: &mut [u8], text: &str)
-    ensures { room.new ≡ filled text.now room.old }
+// Puts a text at the front of the room, as far as it fits, and returns its length.
+fn put_text(room: &mut [u8], text: &str) -> usize
+    ensures length { result ≡ length text.now }
+    ensures text { room.new ≡ filled text.now room.old }
 {
     let bytes = text.as_bytes();
     let count = bytes.len().min(room.len());
     room[..count].copy_from_slice(&bytes[..count]);
+    bytes.len()
+}
+
+// The cause of a disk with this number.
+fn disk_cause_numbered(number: u8) -> Option<DiskCause>
+    ensures some { IfSome result (λ c. disk_cause_number c ≡ number) }
+    ensures none { IfNone result ((c : DiskCause) → ¬ (disk_cause_number c ≡ number)) }
+{
+    match number {
+        1 => Some(DiskCause::NoRigidDisk),
+        2 => Some(DiskCause::BlockSize),
+        3 => Some(DiskCause::OutOfRange),
+        4 => Some(DiskCause::Repeated),
+        5 => Some(DiskCause::NotPartition),
+        6 => Some(DiskCause::BadSum),
+        7 => Some(DiskCause::TooMany),
+        8 => Some(DiskCause::NoMemory),
+        _ => None,
+    }
+}
+
+// The fault of a partition with this number.
+fn place_fault_numbered(number: u8) -> Option<PlaceFault>
+    ensures some { IfSome result (λ f. place_fault_number f ≡ number) }
+    ensures none { IfNone result ((f : PlaceFault) → ¬ (place_fault_number f ≡ number)) }
+{
+    match number {
+        1 => Some(PlaceFault::ShortEnvironment),
+        2 => Some(PlaceFault::OtherBlocks),
+        3 => Some(PlaceFault::NoCylinders),
+        4 => Some(PlaceFault::BeyondImage),
+        5 => Some(PlaceFault::OverTables),
+        6 => Some(PlaceFault::OverPartition),
+        7 => Some(PlaceFault::BadName),
+        _ => None,
+    }
 }
 
 /// Writes the text of the cause with this number to the front of `room`, as far as it fits. Returns the length of the whole
@@ -28,11 +69,43 @@ pub fn cause_text(cause: u8, room: &mut [u8]) -> usize
     ensures unchanged { ((c : Cause) → ¬ (cause_number c ≡ cause)) → room.new ≡ room.old }
 {
     match Cause::numbered(cause) {
-        Some(named) => {
-            let text = named.text();
-            put_text(room, text);
-            text.len()
-        }
+        Some(named) => put_text(room, named.text()),
+        None => 0,
+    }
+}
+
+/// Writes the text of what is wrong with the tables of a disk, by its number, to the front of `room`, as far as it fits. Returns
+/// the length of the whole text, or 0 if no cause has the number.
+pub fn disk_cause_text(cause: u8, room: &mut [u8]) -> usize
+    ensures length { (c : DiskCause) → disk_cause_number c ≡ cause
+        → result ≡ length (disk_cause_text c) }
+    ensures text { (c : DiskCause) → disk_cause_number c ≡ cause
+        → room.new ≡ filled (disk_cause_text c) room.old }
+
+    // If no cause has the number, nothing is written.
+    ensures none { ((c : DiskCause) → ¬ (disk_cause_number c ≡ cause)) → result ≡ 0 }
+    ensures unchanged { ((c : DiskCause) → ¬ (disk_cause_number c ≡ cause)) → room.new ≡ room.old }
+{
+    match disk_cause_numbered(cause) {
+        Some(named) => put_text(room, named.text()),
+        None => 0,
+    }
+}
+
+/// Writes the text of what is wrong with one partition, by its number, to the front of `room`, as far as it fits. Returns the
+/// length of the whole text, or 0 if no fault has the number.
+pub fn partition_fault_text(fault: u8, room: &mut [u8]) -> usize
+    ensures length { (f : PlaceFault) → place_fault_number f ≡ fault
+        → result ≡ length (place_fault_text f) }
+    ensures text { (f : PlaceFault) → place_fault_number f ≡ fault
+        → room.new ≡ filled (place_fault_text f) room.old }
+
+    // If no fault has the number, nothing is written.
+    ensures none { ((f : PlaceFault) → ¬ (place_fault_number f ≡ fault)) → result ≡ 0 }
+    ensures unchanged { ((f : PlaceFault) → ¬ (place_fault_number f ≡ fault)) → room.new ≡ room.old }
+{
+    match place_fault_numbered(fault) {
+        Some(named) => put_text(room, named.text()),
         None => 0,
     }
 }

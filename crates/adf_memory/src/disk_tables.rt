@@ -26,7 +26,7 @@ pub struct TablePartition {
     /// The number of what is wrong with it, or 0.
     pub fault: u8,
     pub name_length: u8,
-    /// The drive's name as it stands, not necessarily valid, padded with zeros.
+    /// The drive's name as it is in the block, not necessarily valid, padded with zeros.
     pub name: [u8; 31],
 }
 

@@ -52,7 +52,7 @@ pub struct FoundEntry {
     /// 1 if the entry is sound, otherwise 0.
     pub is_sound: u8,
     pub name_length: u8,
-    /// The name as it stands, not necessarily valid, padded with zeros.
+    /// The name as it is in the header, not necessarily valid, padded with zeros.
     pub name: [u8; 79],
     pub comment_length: u8,
     /// The comment, padded with zeros.

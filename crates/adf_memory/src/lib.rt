@@ -16,7 +16,7 @@ mod tables;
 mod verdict;
 mod words;
 
-pub use crate::causes::cause_text;
+pub use crate::causes::{cause_text, disk_cause_text, partition_fault_text};
 pub use crate::disk_index::put_disk;
 pub use crate::disk_tables::{TableDisk, TablePartition};
 pub use crate::found_tables::{FoundEntry, Surveyed, TableFinding};

@@ -161,7 +161,7 @@ fn table_entry(volume: &Checked<'_>, node: Node, first: u32) -> TableEntry
     entry_of(&row, header, first)
 }
 
-/// Puts a row behind those that stand in a table, where there is room.
+/// Appends a row to those in a table, if there is room.
 pub fn put<T: Copy>(table: &mut [T], at: usize, row: T)
     ensures { (xs room : List T) → at ≡ length xs → table.old ≡ filled xs room
         → table.new ≡ filled (xs ++ row ∷ []) room }

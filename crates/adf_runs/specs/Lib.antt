@@ -1,4 +1,5 @@
--- All of it is the promise: what a command is, what devices tell, and how a run ends.
+-- All of it is the promise: what a command is, what devices tell, how a run ends, and what a program tells of itself.
+pub mod About
 pub mod Commands
 pub mod Devices
 pub mod Streams

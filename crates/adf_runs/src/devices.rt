@@ -9,7 +9,7 @@ use std::error::Error;
 use std::fmt;
 use std::io::{Read, Write};
 
-/// A device answered an error.
+/// A device returned an error.
 #[derive(Clone, Copy, Debug, PartialEq, Eq)]
 pub struct Failed;
 
@@ -27,7 +27,7 @@ impl Error for Failed {}
 
 /// What gives bytes.
 pub trait Source {
-    /// The bytes that it will give, where they are known.
+    /// The bytes that it will give, if they are known.
     ghost left: { Self → Option (List ℕ) };
 
     /// Whether it has failed.
@@ -36,8 +36,8 @@ pub trait Source {
     /// Whether a read of it may fail, now or later.
     ghost may_fail: { Self → Bool } = { λ _. true };
 
-    /// Fills the front of `buf` and answers the number of bytes, at most the length of `buf`;
-    /// 0 with room in `buf` means the end. `Failed` where the device answers an error.
+    /// Fills the front of `buf` and returns the number of bytes, at most the length of `buf`;
+    /// 0 with room in `buf` means the end. `Failed` if the device returns an error.
     fn read(&mut self, buf: &mut [u8]) -> Result<usize, Failed>
         requires { has_failed self.old ≡ false }
         ensures count { ReadsAtMost result buf.new }
@@ -53,14 +53,14 @@ pub trait Source {
 
 /// What takes bytes.
 pub trait Sink {
-    /// The bytes that it holds, where they are known.
+    /// The bytes that it holds, if they are known.
     ghost held: { Self → Option (List ℕ) };
 
     /// Whether it has failed.
     ghost has_failed: { Self → Bool };
 
-    /// Takes the front of `bytes` and answers the number of bytes, at most the length of `bytes`.
-    /// `Failed` where the device answers an error; to take 0 of some bytes is a failure too.
+    /// Writes the front of `bytes` and returns the number of bytes, at most the length of `bytes`.
+    /// `Failed` if the device returns an error; to write 0 of some bytes is a failure too.
     fn write(&mut self, bytes: &[u8]) -> Result<usize, Failed>
         requires { has_failed self.old ≡ false }
         ensures count { WritesAtMost result bytes.now }

@@ -9,7 +9,7 @@ use crate::outcome::Outcome;
 use crate::streams::read_all;
 use std::alloc::Global;
 
-/// The input, and at most one byte more than the limit; where it does not come, how the work ends.
+/// The input, and at most one byte more than the limit; if it cannot be read, how the work ends.
 pub fn read_input<R: Source>(alloc: Global, input: &mut R, limit: usize) -> Result<Vec<u8>, Outcome>
     requires limited { limit < 2 ^ 63 }
     requires works { R.has_failed input.old ≡ false }

@@ -1,8 +1,10 @@
 //! Programs and their runs: devices, whole reads and writes, and how a run ends.
 #![tactic(auto)]
 
+mod about;
 mod devices;
 mod inputs;
+mod named_errors;
 mod outcome;
 mod parts;
 mod programs;
@@ -10,13 +12,15 @@ mod streams;
 mod system;
 mod work_fault;
 
+pub use crate::about::{About, Telling, VERSION_NUMBER, tell, telling_asked};
 pub use crate::devices::{Device, Failed, Sink, Source};
 pub use crate::inputs::read_input;
+pub use crate::named_errors::NamedErrors;
 pub use crate::outcome::Outcome;
 pub use crate::parts::{Part, pass_over, read_first, read_part};
 pub use crate::programs::{Program, Ran, run_program, run_program_on};
 pub use crate::streams::{
     StreamFault, flush_long, read_all, read_into, say, write_all, write_both,
 };
-pub use crate::system::command_words;
+pub use crate::system::{command_words, refuse_words};
 pub use crate::work_fault::WorkFault;

@@ -122,7 +122,7 @@ impl Outcome {
         }
     }
 
-    /// Says on errors how the work went, and answers the status.
+    /// Says on errors how the work went, and returns the status.
     pub fn finish<E: Sink>(&self, errors: &mut E) -> u8
         requires { E.has_failed errors.old ≡ false }
         ensures status { result ≡ status_of self.now }

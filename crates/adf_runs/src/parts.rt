@@ -7,8 +7,8 @@ use crate::devices::{Failed, Source};
 use crate::streams::{CHUNK, StreamFault, read_all};
 use std::alloc::Global;
 
-/// Passes over so many bytes of an input, or over all where it has fewer, and answers how many; they come through a buffer.
-/// `Failed` where the reader failed.
+/// Skips so many bytes of an input, or all if it has fewer, and returns how many; they go through a buffer. `Failed` if the
+/// reader failed.
 pub fn pass_over<R: Source>(input: &mut R, limit: usize, buffer: &mut [u8]) -> Result<usize, Failed>
     requires room { 0 < length buffer.old }
     requires works { R.has_failed input.old ≡ false }
@@ -29,8 +29,7 @@ pub fn pass_over<R: Source>(input: &mut R, limit: usize, buffer: &mut [u8]) -> R
     Ok(passed)
 }
 
-/// Reads so many bytes of an input, or all where it has fewer. `Device` where the reader failed, `NoMemory` where memory was
-/// refused.
+/// Reads so many bytes of an input, or all if it has fewer. `Device` if the reader failed, `NoMemory` if an allocation failed.
 pub fn read_first<R: Source>(
     alloc: Global,
     input: &mut R,
@@ -59,7 +58,7 @@ pub struct Part {
 }
 
 /// Reads the bytes between two places of an input, as far as it has them, and passes over the others; at most one byte more than
-/// the limit, so that a longer input is seen to be longer. `Device` where the reader failed, `NoMemory` where memory was refused.
+/// the limit, so that a longer input is seen to be longer. `Device` if the reader failed, `NoMemory` if an allocation failed.
 pub fn read_part<R: Source>(
     alloc: Global,
     input: &mut R,

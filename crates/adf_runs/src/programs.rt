@@ -24,7 +24,7 @@ pub trait Program: Drop {
     fn usage() -> &'static str
         ensures { result.now ≡ command.usage };
 
-    /// The work that words ask for, of which the first is the program's name.
+    /// The work that the words ask for; the first one is the program's name.
     fn of(alloc: Global, words: &[&str]) -> Result<Self, WorkFault>
         ensures ok { IfOk result (λ work. (r : command.Request)
             × command.asks (texts_of words.now) r × serves work r) }
@@ -37,7 +37,7 @@ pub trait Program: Drop {
         ensures exact { (r : command.Request) → serves self.now r → result ≡ command.limit r }
         ensures small { result < 2 ^ 63 };
 
-    /// Does the work on the bytes of an input where they lie.
+    /// Does the work on the bytes of an input, without copying them.
     fn on<W: Sink>(&self, alloc: Global, bytes: &[u8], output: &mut W) -> Outcome
         requires { W.has_failed output.old ≡ false }
         ensures ends { (r : command.Request) → serves self.now r
@@ -62,8 +62,8 @@ pub trait Program: Drop {
     ghost consistent: { IsConsistent command };
 }
 
-/// Runs a program, and answers its status. Where nothing is answered nothing is read or written, and where the input failed
-/// nothing is written.
+/// Runs a program, and returns its status. If the words are refused nothing is read or written, and if the input failed nothing
+/// is written.
 pub fn run_program<P: Program, R: Source, W: Sink, E: Sink>(
     alloc: Global,
     words: &[&str],
@@ -95,11 +95,11 @@ pub fn run_program<P: Program, R: Source, W: Sink, E: Sink>(
 pub struct Ran {
     /// The status.
     pub status: u8,
-    /// How many bytes of the input were consumed, from the front: none where no work was begun.
+    /// How many bytes of the input were consumed, from the front: none if no work began.
     pub consumed: usize,
 }
 
-/// Runs a program, as `run_program` does, over bytes that are in memory, where they lie.
+/// Runs a program, as `run_program` does, over bytes in memory, without copying them.
 pub fn run_program_on<P: Program, W: Sink, E: Sink>(
     alloc: Global,
     words: &[&str],

@@ -113,8 +113,8 @@ fn read_behind<R: Source>(
 }
 
 /// Reads to the end into the front of a buffer, and at most one byte more than the limit, so that a
-/// longer input is seen to be longer; answers how many bytes. The buffer grows where it is full, and
-/// never shrinks. `Device` where the reader failed, `NoMemory` where memory was refused.
+/// longer input is seen to be longer; returns how many bytes. The buffer grows if it is full, and
+/// never shrinks. `Device` if the reader failed, `NoMemory` if an allocation failed.
 pub fn read_into<R: Source>(
     input: &mut R,
     limit: usize,
@@ -151,7 +151,7 @@ pub fn read_into<R: Source>(
 }
 
 /// Reads to the end, and at most one byte more than the limit, so that a longer input is seen to be
-/// longer. `Device` where the reader failed, `NoMemory` where memory was refused.
+/// longer. `Device` if the reader failed, `NoMemory` if an allocation failed.
 pub fn read_all<R: Source>(
     alloc: Global,
     input: &mut R,
@@ -172,7 +172,7 @@ pub fn read_all<R: Source>(
     Ok(all)
 }
 
-/// Writes all the bytes. `Failed` where the writer failed or took 0 of some bytes; then a front part
+/// Writes all the bytes. `Failed` if the writer failed or wrote 0 of some bytes; then a front part
 /// of them is written, but not all.
 pub fn write_all<W: Sink>(output: &mut W, bytes: &[u8]) -> Result<(), Failed>
     requires { W.has_failed output.old ≡ false }
@@ -196,7 +196,7 @@ pub fn write_all<W: Sink>(output: &mut W, bytes: &[u8]) -> Result<(), Failed>
     Ok(())
 }
 
-/// Writes all bytes of two texts, one behind the other. `Failed` where the writer failed or took 0 of some bytes;
+/// Writes all bytes of two texts, one after the other. `Failed` if the writer failed or wrote 0 of some bytes;
 /// then a front part of them is written, but not all.
 pub fn write_both<W: Sink>(output: &mut W, first: &[u8], second: &[u8]) -> Result<(), Failed>
     requires { W.has_failed output.old ≡ false }
@@ -211,7 +211,7 @@ pub fn write_both<W: Sink>(output: &mut W, first: &[u8], second: &[u8]) -> Resul
     }
 }
 
-/// Writes a text, and lets a failure be.
+/// Writes a text, and ignores a failure.
 pub fn say<E: Sink>(errors: &mut E, text: &[u8])
     requires { E.has_failed errors.old ≡ false }
     ensures { Says (E.has_failed errors.new) (E.held errors.old) (E.held errors.new) text.now }

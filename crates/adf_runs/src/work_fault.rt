@@ -16,7 +16,7 @@ use std::fmt;
 pub enum WorkFault {
     /// The words are refused.
     Usage,
-    /// The path of `cat` is none.
+    /// The path of `cat` is not a path.
     BadPath,
     /// Memory was refused.
     NoMemory,
@@ -77,7 +77,7 @@ impl WorkFault {
         }
     }
 
-    /// Says on errors why no work is begun, of refused words by the usage, and answers the status.
+    /// Says on errors why no work is begun, by the usage if the words are refused, and returns the status.
     pub fn refuse<E: Sink>(self, usage: &str, errors: &mut E) -> u8
         requires { E.has_failed errors.old ≡ false }
         ensures status { result ≡ refusal_status self }

@@ -2,11 +2,11 @@
 
 ghost use Rattle.std.specs.Prelude.{◌≡◌, None, false};
 
-use adf_cmd::{Device, Failed, Sink};
+use adf_runs::{Device, Failed, Sink};
 use std::cell::Cell;
 use std::io::{ErrorKind, Write};
 
-/// Standard output, which tells whether its reader has closed it.
+/// Standard output, which knows whether its reader has closed it.
 #[derive(Drop)]
 pub struct Output<'a, T> {
     inner: T,

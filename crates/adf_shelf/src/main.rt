@@ -1,36 +1,95 @@
 //! The verdicts on many images of Amiga floppies and hard disks.
 #![tactic(auto)]
 
+ghost use Rattle.std.specs.Prelude.{◌≡◌, false};
+
 mod closed;
+mod raw_words;
 
 use crate::closed::{Errors, Output};
-use adf_cmd::{Device, Outcome, command_words};
-use adf_shelf_cmd::{SystemFiles, TextNames, run};
+use crate::raw_words::{names_among, raw_words, stand_ins};
+use adf_runs::{
+    About, Device, NamedErrors, Outcome, Sink, command_words, refuse_words, tell, telling_asked,
+};
+use adf_shelf_cmd::{SystemFiles, TextNames, parse, run};
 use std::cell::Cell;
 use std::io::BufReader;
 use std::process::ExitCode;
 
-fn status(rt: &HostRuntime) -> Result<u8, Outcome> {
-    let words = command_words(rt)?;
-    let texts: Vec<&str> = words.iter().map(|word| word.as_str()).collect(rt.alloc())?;
+const ABOUT: About = About {
+    name: "adf-shelf",
+    help: "Checks many images, and writes for each its name, a tab, and the line of `adf check`.\n\n\
+    usage: adf-shelf [--null] [FILE..]\n\
+    \x20      adf-shelf --help, adf-shelf --version\n\n\
+    Without a FILE the names come on standard input, one a line; with --null each ends in a zero byte.\n\
+    man adf-shelf tells more.\n",
+};
+
+// Checks the images of these words.
+fn run_words<W: Sink, E: Sink>(
+    rt: &HostRuntime,
+    texts: &[&str],
+    output: &mut W,
+    errors: &mut E,
+) -> Result<u8, Outcome>
+    requires writes { W.has_failed output.old ≡ false }
+    requires tells { E.has_failed errors.old ≡ false }
+{
+    if let Some(telling) = telling_asked(texts) {
+        return Ok(tell(&ABOUT, telling, output, errors));
+    }
     let mut input = TextNames::new(BufReader::new(rt.alloc(), rt.stdin())?, b'\n');
     let files = SystemFiles::new(rt);
-    let closed = Cell::new(false);
-    let mut output = Output::new(rt.stdout(), &closed);
-    let mut errors = Errors::new(rt.stderr(), &closed);
+    Ok(run(rt.alloc(), texts, &mut input, &files, output, errors))
+}
+
+// Checks the images of words of which one at least is no UTF-8: it is a name.
+fn run_raw<W: Sink, E: Sink>(
+    rt: &HostRuntime,
+    output: &mut W,
+    errors: &mut E,
+) -> Result<u8, Outcome>
+    requires writes { W.has_failed output.old ≡ false }
+    requires tells { E.has_failed errors.old ≡ false }
+{
+    let words = raw_words(rt)?;
+    let texts = stand_ins(rt.alloc(), &words)?;
+    if telling_asked(&texts).is_some() || parse(rt.alloc(), &texts).is_err() {
+        return run_words(rt, &texts, output, errors);
+    }
+    let names = names_among(rt.alloc(), &words)?;
+    let mut input = TextNames::new(names.as_slice(), 0);
+    let files = SystemFiles::new(rt);
     Ok(run(
         rt.alloc(),
-        &texts,
+        &["adf-shelf", "--null"],
         &mut input,
         &files,
-        &mut output,
-        &mut errors,
+        output,
+        errors,
     ))
+}
+
+fn status(rt: &HostRuntime) -> Result<u8, Outcome> {
+    let closed = Cell::new(false);
+    let mut output = Output::new(rt.stdout(), &closed);
+    let mut errors = NamedErrors::new("adf-shelf: ", Errors::new(rt.stderr(), &closed));
+    match command_words(rt) {
+        Ok(words) => {
+            let texts: Vec<&str> = words.iter().map(|word| word.as_str()).collect(rt.alloc())?;
+            run_words(rt, &texts, &mut output, &mut errors)
+        }
+        Err(Outcome::NoMemory) => Err(Outcome::NoMemory),
+        Err(_) => run_raw(rt, &mut output, &mut errors),
+    }
 }
 
 fn main(rt: HostRuntime) -> ExitCode {
     ExitCode::from(match status(&rt) {
         Ok(status) => status,
-        Err(outcome) => outcome.finish(&mut Device::new(rt.stderr())),
+        Err(fault) => {
+            let mut errors = NamedErrors::new("adf-shelf: ", Device::new(rt.stderr()));
+            refuse_words(&fault, &mut errors)
+        }
     })
 }

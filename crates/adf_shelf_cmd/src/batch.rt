@@ -98,11 +98,11 @@ fn write_line<F: Files, W: Sink, E: Sink>(
     }
 }
 
-/// Writes the line of each name in order, and answers the greatest status of one. A line is in output
-/// before the next name is asked for, and before errors tell why its file could not be opened. A file
-/// that could not be read stops no other; `Stop` where the names or output failed, or memory was
-/// refused to a name or its lines; then the lines before are written, and of one more a front part
-/// where output failed, but not all. Where errors fail, nothing more is said on them.
+/// Writes the line of each name in order, and returns the highest status of any. A line is in output
+/// before the next name is read, and before errors say why its file could not be opened. A file that
+/// could not be read stops no other; `Stop` if the names or output failed, or an allocation failed for
+/// a name or its lines; then the lines before are written, and if output failed a front part of the
+/// next one, but not all. If errors fail, nothing more is said on them.
 pub fn write_verdicts<N: Names, F: Files, W: Sink, E: Sink>(
     alloc: Global,
     names: &mut N,

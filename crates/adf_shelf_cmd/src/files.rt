@@ -27,7 +27,7 @@ pub enum Unopened {
 }
 
 impl Unopened {
-    /// What is said on errors behind the name, with its line feed; nothing for `Other`.
+    /// The text on errors after the name, with its line feed; empty for `Other`.
     pub fn text(self) -> &'static str
         ensures { result.now ≡ unopened_text self }
     {
@@ -45,7 +45,7 @@ impl Unopened {
 pub trait Files {
     type Opened: Source + Drop;
 
-    /// The bytes of the file of a name, where they are known.
+    /// The bytes of the file of a name, if they are known.
     ghost bytes_of: { Self → List ℕ → Option (List ℕ) };
 
     /// Whether opening or reading the file of a name may fail.
@@ -54,7 +54,7 @@ pub trait Files {
     /// What may come of opening the file of a name: `None` that it is opened, else why not.
     ghost may_open: { Self → List ℕ → Option Unopened → Type 0 };
 
-    /// Opens the file of a name to be read from its start, or answers why that cannot be done.
+    /// Opens the file of a name to be read from its start, or returns why that cannot be done.
     fn open(&self, name: &[u8]) -> Result<Self::Opened, Unopened>
         ensures works { IfOk result (λ source. Self.Opened.has_failed source ≡ false) }
         ensures bytes { IfOk result (λ source. IfSome (bytes_of self.now name.now)
@@ -77,8 +77,8 @@ fn reason(error: &Error) -> Unopened
     }
 }
 
-/// The files of the system, of which nothing is known, and each of which may fail. One whose name is
-/// no UTF-8 cannot be opened.
+/// The files of the system. Nothing is known of them, and each may fail. One whose name is not UTF-8
+/// cannot be opened.
 #[derive(Drop)]
 pub struct SystemFiles<'a, R: rt::Files> {
     system: &'a R,

@@ -11,7 +11,7 @@ use std::io::{BufRead, ErrorKind};
 
 /// Names, one after another.
 pub trait Names {
-    /// The names that it will give, where they are known.
+    /// The names that it will give, if they are known.
     ghost left: { Self → Option (List (List ℕ)) };
 
     /// It gives at most so many.
@@ -20,8 +20,8 @@ pub trait Names {
     /// Whether the last one could not be read.
     ghost has_failed: { Self → Bool };
 
-    /// Puts the next name in place of another one, and answers whether there was one. `Device` where the
-    /// names cannot be had, `NoMemory` where memory was refused.
+    /// Puts the next name in place of another one, and returns whether there was one. `Device` if the
+    /// names cannot be read, `NoMemory` if an allocation failed.
     fn next(&mut self, name: &mut Vec<u8>) -> Result<bool, StreamFault>
         ensures gives { IfOk result (λ more.
             GivesName more (left self.old) (left self.new) name.new.items) }
@@ -63,7 +63,7 @@ impl Names for WordNames<'_> {
     }
 }
 
-/// The names in a text, each ended by the same byte but perhaps the last.
+/// The names in a text. The same byte ends each of them; the last one may lack it.
 #[derive(Drop)]
 pub struct TextNames<B> {
     pub text: B,

@@ -23,7 +23,7 @@ pub enum Report {
 }
 
 impl Report {
-    /// The status of a run of this file alone: 0 where it is sound, 1 where it is refused, 3 else.
+    /// The status of a run of this file alone: 0 if it is sound, 1 if it is refused, 3 otherwise.
     pub fn status(&self) -> u8
         ensures value { result ≡ report_status self.now }
         ensures run { IsRunStatus result }
@@ -37,7 +37,7 @@ impl Report {
         }
     }
 
-    /// What stands behind the name, with its line feed.
+    /// The text after the name, with its line feed.
     pub fn text(&self) -> &str
         ensures { result.now ≡ report_text self.now }
     {

@@ -67,15 +67,15 @@ fn run_order<B: BufRead, F: Files, W: Sink, E: Sink>(
 }
 
 /// Writes the verdict on each image that the words name, or else the input, in order; the first word is
-/// the program's name. Answers the status:
+/// the program's name. Returns the status:
 ///
-/// - 0 where all are sound;
-/// - 1 where one is refused, and all were read;
-/// - 2 where the words are not accepted, which errors tell; nothing is read or written;
-/// - 3 where an image could not be read, which its line tells, or where the names, a device or memory
-///   failed, which errors tell.
+/// - 0 if all are sound;
+/// - 1 if one is refused, and all were read;
+/// - 2 if the words are not accepted, as errors say; nothing is read or written;
+/// - 3 if an image could not be read, as its line says, or if the names, a device or memory failed, as
+///   errors say.
 ///
-/// Errors also tell why a file could not be opened, as far as the system does.
+/// Errors also say why a file could not be opened, as far as the system does.
 pub fn run<B: BufRead, F: Files, W: Sink, E: Sink>(
     alloc: Global,
     words: &[&str],

@@ -18,4 +18,8 @@ mod images_in_memory;
 #[cfg(test)]
 mod memory;
 #[cfg(test)]
+mod named_errors;
+#[cfg(test)]
 mod planned_disks;
+#[cfg(test)]
+mod telling;

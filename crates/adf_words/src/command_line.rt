@@ -183,8 +183,8 @@ fn request_in<'a>(matches: &ArgMatches<'a>) -> Option<Request<'a>>
     }
 }
 
-/// Reads the arguments, of which the first is the program's name. `Usage` exactly where clap refuses them
-/// or its matches lack the command or its value, `NoMemory` where memory was refused.
+/// Reads the arguments; the first one is the program's name. `Usage` if and only if clap refuses them or its matches lack the
+/// command or its value; `NoMemory` if an allocation failed.
 pub fn parse<'a>(alloc: Global, args: &'a [&str]) -> Result<Request<'a>, ArgsError>
     ensures ok { IfOk result (λ request.
         AsksFor (texts_of args.entry.now) (request_value request)) }

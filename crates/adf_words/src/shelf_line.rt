@@ -19,7 +19,7 @@ pub const SHELF_USAGE: &str = "usage: adf-shelf [--null] [FILE..]\n";
 pub struct Order<'a> {
     /// Whether names that are read end in zero bytes.
     pub null: bool,
-    /// The names; where there is none, they are read.
+    /// The names; if there are none, they are read from the input.
     pub files: Vec<&'a str>,
 }
 
@@ -72,8 +72,8 @@ fn order_in<'a>(alloc: Global, found: &ArgMatches<'a>) -> Result<Order<'a>, Allo
     Ok(Order { null, files })
 }
 
-/// Reads the arguments, of which the first is the program's name. `Usage` exactly where clap refuses them,
-/// `NoMemory` where memory was refused.
+/// Reads the arguments; the first one is the program's name. `Usage` if and only if clap refuses them, `NoMemory` if an
+/// allocation failed.
 pub fn parse_shelf<'a>(alloc: Global, args: &'a [&str]) -> Result<Order<'a>, ArgsError>
     ensures ok { IfOk result (λ order. AsksShelf (texts_of args.entry.now) order) }
     ensures refused { IfErr result (λ fault. ExplainsShelfArgs fault (texts_of args.entry.now)) }

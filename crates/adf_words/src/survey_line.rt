@@ -145,9 +145,8 @@ fn inquiry_in<'a>(matches: &ArgMatches<'a>) -> Option<Inquiry<'a>>
     }
 }
 
-/// Reads the arguments, of which the first is the program's name. `Usage` exactly where clap refuses them
-/// or its matches lack the path, have `--list` before a command, or have no number of blocks; `NoMemory` where memory was
-/// refused.
+/// Reads the arguments; the first one is the program's name. `Usage` if and only if clap refuses them or its matches lack the
+/// path, have `--list` before a command, or have no number of blocks; `NoMemory` if an allocation failed.
 pub fn parse_survey<'a>(alloc: Global, args: &'a [&str]) -> Result<Inquiry<'a>, ArgsError>
     ensures ok { IfOk result (λ inquiry.
         AsksSurvey (texts_of args.entry.now) (inquiry_value inquiry)) }
