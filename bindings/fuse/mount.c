@@ -251,7 +251,7 @@ static bool load(FILE *file, size_t most) {
 
 /* What is wrong with a partition, by its number. */
 static const char *const PARTITION_FAULTS[] = {
-    "", "short environment", "bad block size", "bad cylinders", "beyond image", "over tables", "over partition", "bad name"};
+    "", "short environment", "other block size", "bad cylinders", "beyond image", "over tables", "over partition", "bad name"};
 
 /* Whether a partition is the one that is wanted, by its number from 1 or its name; the case of a to z does not count. */
 static bool is_wanted(const struct adf_partition *partition, size_t number, const char *wanted) {
@@ -315,7 +315,7 @@ static int seek_volume(FILE *file, const char *name, const char *wanted, size_t 
     const struct adf_partition *partition = choose(name, wanted, rows, disk.partitions);
     if (partition == NULL)
         return wanted == NULL ? USAGE : REFUSED;
-    if (partition->fault != ADF_PARTITION_SOUND) {
+    if (partition->blocks == 0) {
         fprintf(stderr, "adf-mount: %s: %s\n", name, PARTITION_FAULTS[partition->fault]);
         return REFUSED;
     }

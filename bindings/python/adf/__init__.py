@@ -49,7 +49,7 @@ MOST_BYTES = BLOCK * 1_048_576
 NO_MEMORY = 23
 KINDS = ("ofs", "ffs")
 DISK_CAUSES = ("", "no rigid disk", "bad block size", "out of range", "repeated", "not a partition", "bad sum", "too many")
-PARTITION_FAULTS = ("", "short environment", "bad block size", "bad cylinders", "beyond image", "over tables", "over partition", "bad name")
+PARTITION_FAULTS = ("", "short environment", "other block size", "bad cylinders", "beyond image", "over tables", "over partition", "bad name")
 MOST_PARTITIONS, MOST_TABLES, DOS_TYPE = 1024, BLOCK * 65536, 0x444F5300
 ROLES = ("free", "boot", "root", "page", "map extension", "header", "extension", "data")
 SONAME = "libadf.so.1"
@@ -567,8 +567,9 @@ class Findings(Sequence["Finding"]):
 
 class Partition(NamedTuple):
     """A partition of a hard disk: its number from 1, the drive's name, the kind ("ofs", "ffs", or the four bytes of another file
-    system in the escape form), the first block of its volume and how many it has (0 and 0 where something is wrong with it),
-    flags, boot priority, its partition block, and what is wrong with it, as `over tables`, or an empty text."""
+    system in the escape form), the first block of its volume and how many it has (0 and 0 where it has no place), flags, boot
+    priority, its partition block, and what is wrong with it, as `over tables`, or an empty text. A volume has a place whatever
+    is wrong with the fields of its file system or with its name."""
 
     number: int
     raw_name: bytes
@@ -624,9 +625,9 @@ class Disk(_ReadOnly):
         raise NoSuchPath(wanted)
 
     def volume(self, wanted: int | str) -> bytes:
-        """The bytes of its volume. NoSuchPath if there is no such partition, Damaged if something is wrong with it."""
+        """The bytes of its volume. NoSuchPath if there is no such partition, Damaged if it has no place."""
         partition = self[wanted]
-        if partition.fault:
+        if not partition.blocks:
             raise Damaged(errno.EIO, partition.fault, partition.name)
         return bytes(_view(self.image)[BLOCK * partition.first : BLOCK * (partition.first + partition.blocks)])
 
