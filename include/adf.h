@@ -27,8 +27,9 @@
  *
  * What the caller owes
  *
- * - No pointer is null, not even where its length is 0.
- * - A pointer to bytes has as many bytes as its length or room says, and no length is above PTRDIFF_MAX.
+ * - No pointer is null, not even where its length is 0: that of an empty std::vector may be, so pass another one in its place.
+ * - A pointer to bytes has as many bytes as its length or room says, and one to structs or numbers as many elements as its room
+ *   or count says. It is aligned for its type, and nothing that it points to has more than PTRDIFF_MAX bytes.
  * - Buffers and structs need not be initialised, except for the bools of a struct, which are true or false: `= {0}` will do.
  * - While a call runs, nothing else writes what it reads (const). What it writes (not const) overlaps nothing else that is
  *   passed, and nothing else reads or writes it.
@@ -151,8 +152,8 @@ uint8_t adf_owners(const uint8_t *image, size_t length, uint8_t *roles, size_t r
 /* A date of the file system, without a time zone. It may not be a civil date. */
 struct adf_date {
     uint32_t days;  /* since 1978-01-01 */
-    uint32_t mins;  /* of the day: 0 to 1439 */
-    uint32_t ticks; /* of 1/50 second, in the minute: 0 to 2999 */
+    uint32_t mins;  /* of the day: below 1,440 in a civil date */
+    uint32_t ticks; /* of 1/50 second, in the minute: below 3,000 in a civil date */
 };
 
 /* An entry. Entry n is at index n - 1 of the table. */
@@ -286,8 +287,8 @@ uint8_t adf_survey_index(const uint8_t *image, size_t length, struct adf_finding
 
 /* A whole hard disk.
  *
- * Its image begins with tables that say where its volumes lie. adf-disk(1) and FORMAT.md have them. The bytes of a volume, from
- * `first` * 512 on and `blocks` * 512 long, are an image for the calls above.
+ * Its image begins with tables that say where its volumes lie. adf-disk(1) and FORMAT.md have them. The bytes of a volume that
+ * has a place, from `first` * 512 on and `blocks` * 512 long, are an image for the calls above.
  */
 
 /* What is wrong with the tables of a disk: the first fault. */
@@ -295,35 +296,36 @@ enum adf_disk_cause {
     ADF_DISK_WHOLE = 0,
     ADF_DISK_NO_RIGID_DISK = 1, /* None of the blocks 0 to 15 is a rigid disk block with a sound checksum; at block 0. */
     ADF_DISK_BLOCK_SIZE = 2,    /* Its blocks do not have 512 bytes. */
-    ADF_DISK_OUT_OF_RANGE = 3,  /* The block names a block outside the tables, or past the end. */
+    ADF_DISK_OUT_OF_RANGE = 3,  /* The block names a block that is not below 65,536, or past the bytes. */
     ADF_DISK_REPEATED = 4,      /* The list of partition blocks leads back to the block. */
     ADF_DISK_NO_PARTITION = 5,  /* The block should be a partition block, and is not. */
     ADF_DISK_BAD_SUM = 6,       /* Its checksum is wrong. */
     ADF_DISK_TOO_MANY = 7       /* It comes after 1,024 partitions. */
 };
 
-/* What is wrong with a partition alone. The tests run in this order. */
+/* What is wrong with a partition alone. With 3 to 6 it has no place; they are tested first, in this order, then 1, 2 and 7, which
+ * are about other fields: the volume lies there all the same, and may be sound. */
 enum adf_partition_fault {
     ADF_PARTITION_SOUND = 0,
     ADF_PARTITION_SHORT_ENVIRONMENT = 1, /* Its block lacks the type. */
-    ADF_PARTITION_BLOCK_SIZE = 2,        /* Its blocks do not have 512 bytes. */
+    ADF_PARTITION_BLOCK_SIZE = 2,        /* The blocks of its file system do not have 512 bytes. */
     ADF_PARTITION_BAD_CYLINDERS = 3,     /* It ends before it begins, or its cylinders have no blocks. */
     ADF_PARTITION_BEYOND_IMAGE = 4,      /* It ends past the end of the disk. */
     ADF_PARTITION_OVER_TABLES = 5,       /* It has blocks that belong to the tables. */
-    ADF_PARTITION_OVER_PARTITION = 6,    /* It has blocks of an earlier partition. */
+    ADF_PARTITION_OVER_PARTITION = 6,    /* It has blocks of an earlier partition that has a place. */
     ADF_PARTITION_BAD_NAME = 7           /* Its name is empty, longer than 31 bytes, or has `/` or `:`. */
 };
 
 struct adf_partition {
-    uint64_t first;      /* the first block of its volume, counted from the beginning of the disk; 0 if something is wrong */
-    uint64_t blocks;     /* the blocks of its volume; 0 if something is wrong */
+    uint64_t first;      /* the first block of its volume, counted from the beginning of the disk; 0 if it has no place */
+    uint64_t blocks;     /* the blocks of its volume, of 512 bytes; 0 if it has no place */
     uint32_t block;      /* its partition block */
     uint32_t flags;      /* bit 0: a computer may start from it; bit 1: it is not mounted by itself */
     int32_t priority;    /* of starting */
     uint32_t dos_type;   /* four bytes, the first one the highest: 0x444F5300 (DOS\0) is OFS, 0x444F5301 is FFS */
     uint8_t fault;       /* an adf_partition_fault */
     uint8_t name_length; /* 0 to 31 */
-    uint8_t name[31];    /* as it stands, in no particular encoding, padded with zeros */
+    uint8_t name[31];    /* as it stands, in no particular encoding, padded with zeros; of a longer one the first 31 bytes */
 };
 
 /* What a disk has beside its partitions. */
@@ -334,14 +336,12 @@ struct adf_disk {
 };
 
 /* Reads the partitions of a disk of so many blocks of 512 bytes, and fills a table with them, as far as there is room. The bytes
- * are the first ones of the disk: at least the blocks 0 to 15 and those that are kept for its tables, at most 65,536. Returns an
- * adf_cause: 0 or ADF_NO_MEMORY.
+ * are the first ones of the disk: its first 65,536 blocks, or all of it; bytes behind these blocks change nothing. The number of
+ * blocks is below 2^55, so that `first` * 512 fits. Returns an adf_cause: 0 or ADF_NO_MEMORY.
  *
  * 0: disk->cause is the first fault of the tables, in disk->block. Without a fault the table has all partitions, in their order;
  *    otherwise those that can still be read, as `adf-disk survey` lists them. disk->partitions is the whole number, whatever the
- *    room. The rest of the room is unchanged.
- *    What follows the tables changes nothing. This is proved for the fault, and for all partitions if there is no fault. For those
- *    that can still be read it is so by design, not proved.
+ *    room. The rest of the room is unchanged. Volumes that have a place lie within the disk, and no two of them share a block.
  * ADF_NO_MEMORY: an allocation failed, which can happen only if there is a partition that can be read. All fields of the disk are
  *    0, and the table is unchanged.
  */
@@ -382,10 +382,11 @@ uint8_t adf_run(const uint8_t *words, size_t words_length, const uint8_t *input,
                 size_t output_room, uint8_t *errors, size_t errors_room, struct adf_moved *moved);
 
 /* Runs the command `adf-survey` with these arguments over an image, and returns its status. The words are as for adf_run: so
- * `adf-survey cat c/readme` is "adf-survey\0cat\0c/readme\0", 24 bytes; with `rescue` the output is a volume of as many bytes as
- * the image. adf-survey(1) has what it writes.
+ * `adf-survey cat c/readme` is "adf-survey\0cat\0c/readme\0", 24 bytes; with `rescue` the output is a volume of as many blocks as
+ * are read, those of the image, or N with `--blocks N`. adf-survey(1) has what it writes.
  *
- * 0: there is no finding, and output is empty; for `cat`, output has the bytes of the file, which is sound. Errors are empty.
+ * 0: there is no finding, and output is empty; for `cat`, output has the bytes of the file, which is sound, or with `--damaged`
+ *    has lost none; for `rescue`, it has the new volume, and nothing that is found is left out. Errors are empty.
  * 1: output has the lines of the findings; for `cat`, it is empty, and errors say `no such path`, `not a file` or `damaged`.
  *    For `cat --damaged`, output has what is left of the file, and errors a line for each range of bytes that are lost, and zeros.
  *    With `--list` the lines of what is found follow those of the findings, at status 0 too.

@@ -312,7 +312,7 @@ static int seek_volume(FILE *file, const char *name, const char *wanted, size_t 
     const struct adf_partition *partition = choose(name, wanted, rows, disk.partitions);
     if (partition == NULL)
         return wanted == NULL ? USAGE : REFUSED;
-    if (partition->fault != ADF_PARTITION_SOUND) {
+    if (partition->blocks == 0) {
         uint8_t text[LONGEST_TEXT];
         int text_length = (int)adf_partition_fault_text(partition->fault, text, sizeof text);
         fprintf(stderr, "adf-mount: %s: %.*s\n", name, text_length, (const char *)text);

@@ -579,8 +579,9 @@ class Findings(Sequence["Finding"]):
 
 class Partition(NamedTuple):
     """A partition of a hard disk: its number from 1, the drive's name, the kind ("ofs", "ffs", or the four bytes of another file
-    system in the escape form), the first block of its volume and how many it has (0 and 0 where something is wrong with it),
-    flags, boot priority, its partition block, and what is wrong with it, as `over tables`, or an empty text."""
+    system in the escape form), the first block of its volume and how many it has (0 and 0 where it has no place), flags, boot
+    priority, its partition block, and what is wrong with it, as `over tables`, or an empty text. A volume has a place whatever
+    is wrong with the fields of its file system or with its name."""
 
     number: int
     raw_name: bytes
@@ -638,9 +639,9 @@ class Disk(_ReadOnly):
         raise NoSuchPath(wanted)
 
     def volume(self, wanted: int | str) -> bytes:
-        """The bytes of its volume. NoSuchPath if there is no such partition, Damaged if something is wrong with it."""
+        """The bytes of its volume. NoSuchPath if there is no such partition, Damaged if it has no place."""
         partition = self[wanted]
-        if partition.fault:
+        if not partition.blocks:
             raise Damaged(errno.EIO, partition.fault, partition.name)
         return bytes(_view(self.image)[BLOCK * partition.first : BLOCK * (partition.first + partition.blocks)])
 

@@ -450,6 +450,12 @@ class Disks(unittest.TestCase):
             self.assertRaises(KeyError, disk.volume, wanted)
         self.assertRaises(OSError, disk.volume, "DH1")
 
+    def test_finds_volumes_whatever_their_file_system(self):
+        head, volume = self.disk()[:512], self.disk()[16 * 512 : 32 * 512]
+        for words, fault in (({32: 9}, "short environment"), ({36: 2}, "other block size"), ({9: 0x03443A30}, "bad name")):
+            other = adf.Disk((head + table({**self.first, **words}) + table(self.second)).ljust(16 * 512, b"\0") + volume)
+            self.assertEqual((other[1].first, other[1].blocks, other[1].fault, other.volume(1)), (16, 16, fault, volume))
+
     def test_takes_the_bytes_that_a_view_shows(self):
         whole = self.disk()
         apart = bytearray(2 * len(whole))

@@ -141,16 +141,23 @@ impl<'disk> Partition<'disk> {
         self.record().block
     }
 
-    /// The first block of its volume on the disk, and how many it has; or what is wrong with it.
+    /// The first block of its volume on the disk, and how many it has; or why it has no place.
     pub fn place(&self) -> Result<(u64, u64), PartitionFault> {
         let PartitionRecord { first, blocks, fault, .. } = *self.record();
-        match fault {
-            0 => Ok((first, blocks)),
-            _ => Err(fault.into()),
+        match blocks {
+            0 => Err(fault.into()),
+            _ => Ok((first, blocks)),
         }
     }
 
-    /// The bytes of its volume, an image of its own; or what is wrong with it.
+    /// What is wrong with it, if something is. Its volume has a place all the same if that is the fields of its file system
+    /// (`ShortEnvironment`, `BlockSize`) or its name (`BadName`).
+    pub fn fault(&self) -> Option<PartitionFault> {
+        let fault = self.record().fault;
+        (fault != 0).then(|| fault.into())
+    }
+
+    /// The bytes of its volume, an image of its own; or why it has no place.
     pub fn volume(&self) -> Result<&'disk [u8], PartitionFault> {
         let (first, blocks) = self.place()?;
         let (from, length) = (512 * first as usize, 512 * blocks as usize);

@@ -3,8 +3,9 @@
 ghost use Rattle.std.specs.Prelude.{◌≡◌, length};
 ghost use Rattle.adf_blocks.specs.Causes.{cause_number, cause_text};
 ghost use Rattle.adf_blocks.specs.declared.cause.Cause.{Cause};
-ghost use Rattle.adf_partitions.specs.FaultTexts.{disk_cause_number, disk_cause_text, place_fault_number, place_fault_text};
+ghost use Rattle.adf_partitions.specs.FaultTexts.{disk_cause_number, disk_cause_text, field_fault_number, field_fault_text, place_fault_number, place_fault_text};
 ghost use Rattle.adf_partitions.specs.declared.fault.DiskCause.{DiskCause};
+ghost use Rattle.adf_partitions.specs.declared.field_fault.FieldFault.{FieldFault};
 ghost use Rattle.adf_partitions.specs.declared.place.PlaceFault.{PlaceFault};
 ghost use Rattle.adf_memory.specs.Rooms.{filled};
 
@@ -50,18 +51,20 @@ pub extern "C" fn adf_disk_cause_text(cause: u8, room: &mut [u8]) -> usize
     disk_cause_text(cause, room)
 }
 
-/// Writes the text of what is wrong with one partition, by its number, to the front of `room`, as far as it fits. Returns the
-/// length of the whole text, or 0 if no fault has the number.
+/// Writes the text of what is wrong with the place of a partition, or with its other fields, by its number, to the front of
+/// `room`, as far as it fits. Returns the length of the whole text, or 0 if no fault has the number.
 #[unsafe(no_mangle)]
 pub extern "C" fn adf_partition_fault_text(fault: u8, room: &mut [u8]) -> usize
-    ensures length { (f : PlaceFault) → place_fault_number f ≡ fault
-        → result ≡ length (place_fault_text f) }
-    ensures text { (f : PlaceFault) → place_fault_number f ≡ fault
-        → room.new ≡ filled (place_fault_text f) room.old }
+    ensures place { (f : PlaceFault) → place_fault_number f ≡ fault
+        → (result ≡ length (place_fault_text f)) × (room.new ≡ filled (place_fault_text f) room.old) }
+    ensures field { (f : FieldFault) → field_fault_number f ≡ fault
+        → (result ≡ length (field_fault_text f)) × (room.new ≡ filled (field_fault_text f) room.old) }
 
     // If no fault has the number, nothing is written.
-    ensures none { ((f : PlaceFault) → ¬ (place_fault_number f ≡ fault)) → result ≡ 0 }
-    ensures unchanged { ((f : PlaceFault) → ¬ (place_fault_number f ≡ fault)) → room.new ≡ room.old }
+    ensures none { ((f : PlaceFault) → ¬ (place_fault_number f ≡ fault)) → ((f : FieldFault) → ¬ (field_fault_number f ≡ fault))
+        → result ≡ 0 }
+    ensures unchanged { ((f : PlaceFault) → ¬ (place_fault_number f ≡ fault))
+        → ((f : FieldFault) → ¬ (field_fault_number f ≡ fault)) → room.new ≡ room.old }
 {
     partition_fault_text(fault, room)
 }

@@ -13,9 +13,9 @@ ghost use Rattle.adf_partitions.specs.declared.tables.Tables.{Tables};
 use adf_memory::{TableDisk, TablePartition, put_disk};
 use std::alloc::Global;
 
-/// Reads the partitions of a hard disk of so many blocks of 512 bytes, from its first bytes: at least the blocks 0 to 15 and
-/// those kept for its tables. Fills a table with those that can be read, as far as it has room, and reports the first fault
-/// of the tables. Returns 0, or the number of `NoMemory` if memory ran out, which can happen only if a partition can be read.
+/// Reads the partitions of a hard disk of so many blocks of 512 bytes, from its first bytes: the blocks below 65,536, or all of
+/// them. Fills a table with those that can be read, as far as it has room, and reports the first fault of the tables.
+/// Returns 0, or the number of `NoMemory` if memory ran out, which can happen only if a partition can be read.
 #[unsafe(no_mangle)]
 pub extern "C" fn adf_disk_index(
     alloc: Global,

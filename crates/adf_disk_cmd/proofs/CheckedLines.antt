@@ -1,12 +1,13 @@
 -- The lines of partitions, one behind the other.
 use Rattle.std.proofs.Common.{◌≡◌, ◌&&◌, ◌<◌, ◌+◌, ◌++◌, ◌∙◌, ℕ, Bool, true, false, List, [], ◌∷◌, Ok, ap₂, arith, refl, subst, sym}
-use Rattle.std.proofs.Common.{append-nil, append_assoc, drop, get_or, length}
+use Rattle.std.proofs.Common.{None, Some, append-nil, append_assoc, codes, drop, get_or, length}
 use Rattle.std.proofs.Math.Seq.{drop-cons}
 use Rattle.std.proofs.Math.Bool.{and-true}
 use Rattle.std.proofs.lemmas.Grind.{common_steps}
 use Rattle.adf_cmd.specs.Answers.{Answer}
-use Rattle.adf_disk_cmd.specs.Checks.{AreChecked, Tells, TellsPlace, TellsVolume, check_status}
-use Rattle.adf_disk_cmd.specs.Lines.{is_checked, list_line, list_lines, name_text, volume_at}
+use Rattle.adf_disk_cmd.specs.Checks.{AreChecked, Tells, TellsPlace, TellsVolume, check_status, unchecked_text, why_unchecked}
+use Rattle.adf_disk_cmd.specs.Lines.{list_line, list_lines, name_text, volume_at}
+use Rattle.adf_disk_cmd.specs.declared.unchecked.Unchecked.{Unchecked}
 use Rattle.adf_partitions.specs.declared.partition.Partition.{Partition}
 use Rattle.adf_partitions.specs.declared.place.Place.{Place}
 use Rattle.adf_runs.specs.Commands.{on_output}
@@ -26,14 +27,19 @@ pub lines_end : (ps : List Partition) (n : ℕ) (text : List ℕ) → text ++ li
 unfolding list_lines
 lines_end ps n text h = sym (append-nil text) ∙ h
 
--- what `adf check` answers to a volume is told of its partition
-pub told : (bytes volume line : List ℕ) (p : Partition) (q : Place) (sound : Bool) → p.place ≡ Ok q → is_checked p.dos_type ≡ true
-    → volume ≡ volume_at bytes q → Answer check volume (on_output (check_status sound) line) → Tells bytes p sound line
-told bytes volume line p q sound e dos same h =
-    let answer : TellsVolume true p.dos_type (volume_at bytes q) sound line =
-    subst (λ (v : List ℕ). Answer check v (on_output (check_status sound) line)) same h in
-    let typed = subst (λ (b : Bool). TellsVolume b p.dos_type (volume_at bytes q) sound line) (sym dos) answer in
-    subst (λ place. TellsPlace bytes place p.dos_type sound line) (sym e) typed
+-- what `adf check` answers to a volume that is checked is told of its partition
+pub told : (bytes line : List ℕ) (p : Partition) (q : Place) (sound : Bool) → p.place ≡ Ok q → why_unchecked p q ≡ None
+    → Answer check (volume_at bytes q) (on_output (check_status sound) line) → Tells bytes p sound line
+told bytes line p q sound e why h =
+    subst (λ place. TellsPlace bytes p place sound line) (sym e)
+    (subst (λ o. TellsVolume (volume_at bytes q) o sound line) (sym why) h)
+
+-- and why it is not, of one that is not
+pub told_why : (bytes line : List ℕ) (p : Partition) (q : Place) (why : Unchecked) → p.place ≡ Ok q → why_unchecked p q ≡ Some why
+    → line ≡ unchecked_text why ++ codes "\n" → Tells bytes p false line
+told_why bytes line p q why e f h =
+    subst (λ place. TellsPlace bytes p place false line) (sym e)
+    (subst (λ o. TellsVolume (volume_at bytes q) o false line) (sym f) (refl, h))
 
 -- the lines of what is left, behind a text, are those of all
 abbrev pub Continues : List ℕ → List Partition → List Partition → Bool → List ℕ → Type 0

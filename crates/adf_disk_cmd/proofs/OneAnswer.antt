@@ -1,14 +1,15 @@
 -- What is asked of a disk has one answer.
 -- Letters: ps are its partitions, p is one of them; s, t whether it is sound, l, m its lines; a, b replies.
-use Rattle.std.proofs.Common.{◌≡◌, ◌&&◌, ◌++◌, ◌∙◌, ℕ, Bool, true, false, List, [], ◌∷◌, Option, Result, Ok, Err, inl, inr, ap, ap₂, refl, sym, subst}
-use Rattle.std.proofs.Common.{codes, find, length, ◌/◌, take, arith}
+use Rattle.std.proofs.Common.{◌≡◌, ◌&&◌, ◌++◌, ◌∙◌, ℕ, Bool, true, false, List, [], ◌∷◌, Option, None, Some, Result, Ok, Err, inl, inr, ap, ap₂, refl, sym, subst}
+use Rattle.std.proofs.Common.{find, length, ◌/◌, take, arith}
 use Rattle.std.proofs.lemmas.Grind.{common_steps}
 use Rattle.adf_cmd.proofs.OneAnswer.{one_answer as one_check}
 use Rattle.adf_disk_cmd.specs.Answers.{ChecksAll, CopiesVolume, DiskAnswer, IsWanted, OfBytes}
 use Rattle.adf_disk_cmd.specs.Answers.{OfDisk, OfFault, OfPartitions, TellsReadable, fault_line, volume_reply}
 use Rattle.adf_disk_cmd.specs.Builds.{BuildsDisk, plan_reply, refusal}
-use Rattle.adf_disk_cmd.specs.Checks.{AreChecked, TellsPlace, TellsText, TellsVolume, check_status}
-use Rattle.adf_disk_cmd.specs.Lines.{bytes_text, is_checked, name_text, volume_at}
+use Rattle.adf_disk_cmd.specs.Checks.{AreChecked, TellsPlace, TellsText, TellsVolume, check_status, unchecked_text, why_unchecked}
+use Rattle.adf_disk_cmd.specs.Lines.{name_text, volume_at}
+use Rattle.adf_disk_cmd.specs.declared.unchecked.Unchecked.{Unchecked}
 use Rattle.adf_disk_cmd.specs.declared.work.TheConstants.{MOST_DISK_BYTES}
 use Rattle.adf_partitions.proofs.OneAnswer.{no_fault, one_disk, one_fault, one_reading}
 use Rattle.adf_partitions.proofs.OnePlan.{no_text_fault, one_plan, one_text_fault}
@@ -37,24 +38,24 @@ same_sound false false e = refl
 text_once : (text : List ℕ) (s t : Bool) (l m : List ℕ) → TellsText text s l → TellsText text t m → (s ≡ t) × (l ≡ m)
 text_once text s t l m h g = (h.0 ∙ sym g.0, h.1 ∙ sym g.1)
 
-volume_once : (ours : Bool) (dos : ℕ) (image : List ℕ) (s t : Bool) (l m : List ℕ) → TellsVolume ours dos image s l → TellsVolume ours dos image t m
+volume_once : (why : Option Unchecked) (image : List ℕ) (s t : Bool) (l m : List ℕ) → TellsVolume image why s l → TellsVolume image why t m
     → (s ≡ t) × (l ≡ m)
-volume_once true dos image s t l m h g =
+volume_once None image s t l m h g =
     let same = one_check check_volume image (on_output (check_status s) l) (on_output (check_status t) m) h g in
     (same_sound s t (ap (λ (r : Reply). r.status) same), ap (λ (r : Reply). r.output) same)
-volume_once false dos image s t l m h g = text_once (codes "type " ++ bytes_text dos) s t l m h g
+volume_once (Some why) image s t l m h g = text_once (unchecked_text why) s t l m h g
 
-place_once : (bytes : List ℕ) (place : Result Place PlaceFault) (dos : ℕ) (s t : Bool) (l m : List ℕ) → TellsPlace bytes place dos s l
-    → TellsPlace bytes place dos t m → (s ≡ t) × (l ≡ m)
-place_once bytes (Ok q) dos s t l m h g = volume_once (is_checked dos) dos (volume_at bytes q) s t l m h g
-place_once bytes (Err f) dos s t l m h g = text_once (place_fault_text f) s t l m h g
+place_once : (bytes : List ℕ) (p : Partition) (place : Result Place PlaceFault) (s t : Bool) (l m : List ℕ) → TellsPlace bytes p place s l
+    → TellsPlace bytes p place t m → (s ≡ t) × (l ≡ m)
+place_once bytes p (Ok q) s t l m h g = volume_once (why_unchecked p q) (volume_at bytes q) s t l m h g
+place_once bytes p (Err f) s t l m h g = text_once (place_fault_text f) s t l m h g
 
 checked_once : (bytes : List ℕ) (ps : List Partition) (s t : Bool) (l m : List ℕ) → AreChecked bytes ps s l → AreChecked bytes ps t m
     → (s ≡ t) × (l ≡ m)
 unfolding AreChecked
 checked_once bytes [] s t l m h g = (h.0 ∙ sym g.0, h.1 ∙ sym g.1)
 checked_once bytes (p ∷ ps) s t l m (one, others, line, rest, tells, are, e, f) (one', others', line', rest', tells', are', e', f') =
-    let told = place_once bytes p.place p.dos_type one one' line line' tells tells' in
+    let told = place_once bytes p p.place one one' line line' tells tells' in
     let more = checked_once bytes ps others others' rest rest' are are' in
     (e ∙ ap₂ (λ (x y : Bool). x && y) told.0 more.0 ∙ sym e', f ∙ ap₂ (λ (x y : List ℕ). (name_text p ++ x) ++ y) told.1 more.1 ∙ sym f')
 

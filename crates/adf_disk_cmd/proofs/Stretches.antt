@@ -44,6 +44,20 @@ stretch_passed start a b k j count limit bytes none e f (passed, first, len) s =
       (ap (λ (l : List ℕ). ((s.before ++ bytes) ++ passed) ++ l) f ∙ append-nil ((s.before ++ bytes) ++ passed)) s.taken first.1;
 }
 
+-- what is held is let go up to a byte
+pub stretch_cut : (start left : Option (List ℕ)) (k f j : ℕ) (bytes rest : List ℕ) → j ≡ f → rest ≡ drop (f - k) bytes → k ≤ f → f ≤ k + length bytes
+    → IsStretch start left k bytes → IsStretch start left j rest
+stretch_cut start left k f j bytes rest same e le within s =
+    let front = take (f - k) bytes in
+    let whole : (s.before ++ front) ++ rest ≡ s.before ++ bytes =
+    append_assoc s.before front rest ∙ ap (λ (l : List ℕ). s.before ++ (front ++ l)) e
+    ∙ ap (λ (l : List ℕ). s.before ++ l) (take-append-drop (f - k) bytes) in
+    record {
+      before = s.before ++ front;
+      from = omega (arith, same, s.from, length-append s.before front, length-take-le (f - k) bytes (omega arith));
+      taken = subst (λ (l : List ℕ). Consumes start left l) (sym whole) s.taken;
+    }
+
 -- what is held of a place are its bytes
 pub volume_held : (all : List ℕ) (left : Option (List ℕ)) (k f n : ℕ) (bytes : List ℕ) → IsStretch (Some all) left k bytes → k ≤ f
     → (k + length bytes < f + n → IsAtEnd left) → take n (drop (f - k) bytes) ≡ take n (drop f all)

@@ -1,13 +1,19 @@
 -- What `check` tells of partitions. `bytes` are those of the disk; `sound` says whether a valid volume is there.
-use Rattle.std.specs.Prelude.{◌≡◌, ℕ, ◌&&◌, Bool, true, false, List, [], ◌∷◌, ◌++◌, codes, Result, Ok, Err, if◌then◌else◌}
+use Rattle.std.specs.Prelude.{◌≡◌, ℕ, ◌==◌, ◌%◌, ◌&&◌, nat_le, Bool, true, false, List, [], ◌∷◌, ◌++◌, codes, Option, None, Some, Result, Ok, Err, if◌then◌else◌}
+use Rattle.std.specs.Fmt.{decimal}
+use Rattle.adf_blocks.specs.declared.layout.TheConstants.{MOST_BLOCKS}
 use Rattle.adf_cmd.specs.Answers.{Answer}
 use Rattle.adf_words.specs.CommandLine.{check}
 use Rattle.adf_runs.specs.Commands.{on_output}
-use Rattle.adf_partitions.specs.FaultTexts.{place_fault_text}
+use Rattle.adf_partitions.specs.Faults.{first_failed}
+use Rattle.adf_partitions.specs.FaultTexts.{field_fault_text, place_fault_text}
+use Rattle.adf_partitions.specs.declared.field_fault.FieldFault.{FieldFault}
 use Rattle.adf_partitions.specs.declared.partition.Partition.{Partition}
 use Rattle.adf_partitions.specs.declared.place.Place.{Place}
 use Rattle.adf_partitions.specs.declared.place.PlaceFault.{PlaceFault}
 use Rattle.adf_disk_cmd.specs.Lines.{bytes_text, is_checked, name_text, volume_at}
+use Rattle.adf_disk_cmd.specs.declared.unchecked.Unchecked.{Unchecked}
+use Rattle.adf_disk_cmd.specs.declared.unchecked.Unchecked.TheVariants.{OtherType, Fields, Reserved, OddBlocks, BadSize}
 
 -- the status of a check: 0 where all is sound
 abbrev pub check_status : Bool → ℕ
@@ -17,19 +23,40 @@ check_status sound = if sound then 0 else 1
 abbrev pub TellsText : List ℕ → Bool → List ℕ → Type 0
 TellsText text sound line = (sound ≡ false) × (line ≡ text ++ codes "\n")
 
--- of a volume of this type its line tells what `adf check` answers, where the type is checked, and else the type
-abbrev pub TellsVolume : Bool → ℕ → List ℕ → Bool → List ℕ → Type 0
-TellsVolume true t volume sound line = Answer check volume (on_output (check_status sound) line)
-TellsVolume false t volume sound line = TellsText (codes "type " ++ bytes_text t) sound line
+-- why a volume is not checked whose type is read, and whose partition has no fault
+abbrev pub size_form : Partition → Place → List (Bool × Unchecked)
+size_form p q = (p.reserved == 2, Reserved p.reserved) ∷ (q.blocks % 2 == 0, OddBlocks) ∷ (nat_le q.blocks MOST_BLOCKS, BadSize) ∷ []
 
--- of a partition that has a place its line tells of the volume there, and of another one what is wrong with it
-abbrev pub TellsPlace : List ℕ → Result Place PlaceFault → ℕ → Bool → List ℕ → Type 0
-TellsPlace bytes (Ok q) t sound line = TellsVolume (is_checked t) t (volume_at bytes q) sound line
-TellsPlace bytes (Err f) t sound line = TellsText (place_fault_text f) sound line
+-- why a volume is not checked whose type is read
+abbrev pub why_of_fields : Partition → Place → Option FieldFault → Option Unchecked
+why_of_fields p q (Some f) = Some (Fields f)
+why_of_fields p q None = first_failed (size_form p q)
+
+-- why the volume of a partition at a place is not checked, if it is not
+abbrev pub why_unchecked : Partition → Place → Option Unchecked
+why_unchecked p q = if is_checked p.dos_type then why_of_fields p q p.fault else Some (OtherType p.dos_type)
+
+-- what is told of it
+abbrev pub unchecked_text : Unchecked → List ℕ
+unchecked_text (OtherType t) = codes "type " ++ bytes_text t
+unchecked_text (Fields f) = field_fault_text f
+unchecked_text (Reserved n) = codes "reserved " ++ decimal n
+unchecked_text OddBlocks = codes "odd blocks"
+unchecked_text BadSize = codes "block 0: bad size"
+
+-- of a volume that is checked its line tells what `adf check` answers, of another one why it is not checked
+abbrev pub TellsVolume : List ℕ → Option Unchecked → Bool → List ℕ → Type 0
+TellsVolume volume None sound line = Answer check volume (on_output (check_status sound) line)
+TellsVolume volume (Some why) sound line = TellsText (unchecked_text why) sound line
+
+-- of a partition that has a place its line tells of the volume there, and of another one why it has none
+abbrev pub TellsPlace : List ℕ → Partition → Result Place PlaceFault → Bool → List ℕ → Type 0
+TellsPlace bytes p (Ok q) sound line = TellsVolume (volume_at bytes q) (why_unchecked p q) sound line
+TellsPlace bytes p (Err f) sound line = TellsText (place_fault_text f) sound line
 
 -- what is told of a partition
 abbrev pub Tells : List ℕ → Partition → Bool → List ℕ → Type 0
-Tells bytes p sound line = TellsPlace bytes p.place p.dos_type sound line
+Tells bytes p sound line = TellsPlace bytes p p.place sound line
 
 -- the lines of partitions in order, each behind its name, and whether all of them are sound
 unfoldable pub AreChecked : List ℕ → List Partition → Bool → List ℕ → Type 0

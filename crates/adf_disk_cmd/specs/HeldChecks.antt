@@ -1,7 +1,7 @@
 -- What is known of volumes of which not all bytes are held. `all` are the bytes of a disk, `tables` those of its blocks that may have tables, `bytes` what
 -- is held; `checked` are volumes that were checked, q is a place, p a partition.
-use Rattle.std.specs.Prelude.{◌≡◌, ◌≤◌, ◌<◌, ◌*◌, ◌++◌, ◌==◌, ◌&&◌, ◌⊎◌, ◌∷◌, [], ℕ, List, Option, Bool, true, false}
-use Rattle.std.specs.Prelude.{All, IfOk, if◌then◌else◌, length, map, min, nat_lt, take}
+use Rattle.std.specs.Prelude.{◌≡◌, ◌≤◌, ◌<◌, ◌*◌, ◌++◌, ◌==◌, ◌&&◌, ◌⊎◌, ℕ, List, Option, None, Bool}
+use Rattle.std.specs.Prelude.{All, IfOk, length, map, min, take}
 use Rattle.std.specs.List.{Contains}
 use Rattle.std.specs.Io.KnownBytes.{Consumes}
 use Rattle.adf_base.specs.Words.{block}
@@ -12,7 +12,8 @@ use Rattle.adf_partitions.specs.declared.layout.TheConstants.{MOST_TABLES}
 use Rattle.adf_partitions.specs.declared.partition.Partition.{Partition}
 use Rattle.adf_partitions.specs.declared.place.Place.{Place}
 use Rattle.adf_partitions.specs.declared.tables.Tables.{Tables}
-use Rattle.adf_disk_cmd.specs.Lines.{is_checked, volume_at}
+use Rattle.adf_disk_cmd.specs.Checks.{why_unchecked}
+use Rattle.adf_disk_cmd.specs.Lines.{volume_at}
 use Rattle.adf_disk_cmd.specs.declared.checking.CheckedVolume.{CheckedVolume}
 use Rattle.adf_disk_cmd.specs.declared.copy_input.TheConstants.{MOST_DISK_BLOCKS}
 use Rattle.adf_disk_cmd.specs.declared.list_input.TheConstants.{TABLES_LEN}
@@ -36,7 +37,7 @@ IsKnown all bytes checked q = Contains (places_of checked) q ⊎ (volume_at byte
 
 -- the volume of a partition is known, if it is one that is checked
 abbrev pub KnowsVolume : List ℕ → List ℕ → List CheckedVolume → Partition → Type 0
-KnowsVolume all bytes checked p = is_checked p.dos_type ≡ true → IfOk p.place (IsKnown all bytes checked)
+KnowsVolume all bytes checked p = IfOk p.place (λ q. why_unchecked p q ≡ None → IsKnown all bytes checked q)
 
 -- all volumes of partitions are known that are checked
 pub record KnowsVolumes (all bytes : List ℕ) (checked : List CheckedVolume) (ps : List Partition) : Type 0 where
@@ -57,7 +58,7 @@ first_of q = q.first
 
 -- the volume of a partition is checked, its block says where it lies, and it ends behind the blocks that may have tables
 pub record IsBehind (tables : List ℕ) (p : Partition) : Type 0 where
-  pub checked : is_checked p.dos_type ≡ true
+  pub checked : why_unchecked p (place_of (block tables p.block)) ≡ None
   pub states : StatesPlace tables MOST_DISK_BLOCKS p.block
   pub behind : MOST_TABLES < end_of (place_of (block tables p.block))
 
@@ -67,7 +68,7 @@ IsCovered tables places p = IsBehind tables p → Contains places (place_of (blo
 
 -- the place of a volume that is checked is one of these, if it ends behind the blocks that may have tables
 abbrev pub IsReadAt : List Place → Partition → Type 0
-IsReadAt places p = is_checked p.dos_type ≡ true → IfOk p.place (λ q. MOST_TABLES < end_of q → Contains places q)
+IsReadAt places p = IfOk p.place (λ q. why_unchecked p q ≡ None → MOST_TABLES < end_of q → Contains places q)
 
 -- so is that of each partition of a disk of so many blocks, however many
 abbrev pub CoversDisk : List ℕ → List Place → Type 0
@@ -79,18 +80,9 @@ pub record IsStretch (start left : Option (List ℕ)) (begin : ℕ) (bytes : Lis
   pub from : length before ≡ begin
   pub taken : Consumes start left (before ++ bytes)
 
--- whether each place begins behind the one before it, the first of them at a block or behind it
-unfoldable pub are_apart : ℕ → List Place → Bool
-are_apart at [] = true
-are_apart at (q ∷ qs) = if nat_lt q.first at then false else are_apart (end_of q) qs
-
--- all bytes are held that count, or those of the blocks that may have tables, and the volumes behind them were checked
-abbrev pub HoldsEnough : List ℕ → List ℕ → List CheckedVolume → Type 0
-HoldsEnough all bytes checked =
-    (bytes ≡ take MOST_DISK_BYTES all) ⊎ ((bytes ≡ take TABLES_LEN all) × CoversDisk bytes (places_of checked))
-
 -- what is held of an input, and how many bytes it has
 pub record HoldsChecks (all bytes : List ℕ) (checked : List CheckedVolume) (len : ℕ) : Type 0 where
   pub counted : min len MOST_DISK_BYTES ≡ min (length all) MOST_DISK_BYTES
   pub answered : All (IsAnswered (take MOST_DISK_BYTES all)) checked
-  pub enough : HoldsEnough all bytes checked
+  pub tables : bytes ≡ take TABLES_LEN all
+  pub covered : CoversDisk bytes (places_of checked)

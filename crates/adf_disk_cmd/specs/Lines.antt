@@ -1,8 +1,9 @@
 -- The lines of partitions. p is a partition, n its number; t is the type of a file system, its four bytes as one number.
-use Rattle.std.specs.Prelude.{ℕ, ◌+◌, ◌*◌, ◌==◌, ◌&&◌, ◌||◌, nat_le, Bool, List, [], ◌∷◌, ◌++◌, codes, drop, take, Result, Ok, Err, if◌then◌else◌}
+use Rattle.std.specs.Prelude.{ℕ, ◌+◌, ◌*◌, ◌==◌, ◌&&◌, ◌||◌, nat_le, Bool, List, [], ◌∷◌, ◌++◌, codes, drop, take, Option, None, Some, Result, Ok, Err, if◌then◌else◌}
 use Rattle.std.specs.Fmt.{decimal, signed_decimal}
 use Rattle.std.specs.Int.{to_be_bytes, w32}
-use Rattle.adf_partitions.specs.FaultTexts.{place_fault_text}
+use Rattle.adf_partitions.specs.FaultTexts.{field_fault_text, place_fault_text}
+use Rattle.adf_partitions.specs.declared.field_fault.FieldFault.{FieldFault}
 use Rattle.adf_partitions.specs.declared.partition.Partition.{Partition}
 use Rattle.adf_partitions.specs.declared.place.Place.{Place}
 use Rattle.adf_partitions.specs.declared.place.PlaceFault.{PlaceFault}
@@ -26,18 +27,23 @@ is_checked t = (t == 0) || (nat_le DOS t && nat_le t (DOS + 5))
 abbrev pub name_text : Partition → List ℕ
 name_text p = names_text (p.name ∷ []) ++ codes ": "
 
--- where the volume lies, or what is wrong with the partition
+-- where the volume lies, or why it has no place
 abbrev pub place_text : Result Place PlaceFault → List ℕ
 place_text (Ok q) = codes "first " ++ (decimal q.first ++ (codes " blocks " ++ decimal q.blocks))
 place_text (Err f) = place_fault_text f
 
--- the end of a partition's line: its type, place, flags and boot priority
+-- what is wrong with the other fields of a partition, if something is
+abbrev pub fault_text : Option FieldFault → List ℕ
+fault_text None = []
+fault_text (Some f) = codes " " ++ field_fault_text f
+
+-- the end of a partition's line: its type, place, flags, boot priority, and what is wrong with its other fields
 abbrev pub words_text : Partition → List ℕ
 words_text p =
     type_text p.dos_type ++ (codes " " ++ (place_text p.place
-    ++ (codes " flags " ++ (decimal p.flags ++ (codes " priority " ++ (signed_decimal p.priority ++ codes "\n"))))))
+    ++ (codes " flags " ++ (decimal p.flags ++ (codes " priority " ++ (signed_decimal p.priority ++ (fault_text p.fault ++ codes "\n")))))))
 
--- the line of partition n: its number, name, type, place, flags and boot priority
+-- the line of partition n
 abbrev pub list_line : ℕ → Partition → List ℕ
 list_line n p = (decimal n ++ codes " ") ++ (name_text p ++ words_text p)
 

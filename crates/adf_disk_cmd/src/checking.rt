@@ -10,7 +10,7 @@ ghost use Rattle.adf_runs.specs.Outcomes.{EndsBy, is_read_fault, is_write_fault}
 
 use crate::answering::write_text;
 use crate::listing::push_name;
-use crate::types::{bytes_text, is_checked};
+use crate::unchecked::{unchecked_text, why_unchecked};
 use crate::volumes::volume_at;
 use adf_cmd::{CheckAnswer, answer_to_image};
 use adf_partitions::{Partition, Place};
@@ -63,7 +63,7 @@ fn answer_to_volume(
     }
 }
 
-// What is told of a partition: of a volume as `adf check` tells it, else its type or what is wrong with its place.
+// What is told of a partition: of a volume as `adf check` tells it, else why it is not checked, or why it has no place.
 fn answer_to_partition(
     alloc: Global,
     bytes: &[u8],
@@ -74,13 +74,13 @@ fn answer_to_partition(
         → IfOk result (λ a. Tells all partition.now a.sound (string_bytes a.line)) }
 {
     let line = match partition.place {
-        Ok(place) if is_checked(partition.dos_type) => {
-            return answer_to_volume(alloc, bytes, checked, place);
-        }
-        Ok(_) => {
-            let kind = bytes_text(alloc, partition.dos_type)?;
-            format!(in alloc; "type {kind}\n")?
-        }
+        Ok(place) => match why_unchecked(partition, place) {
+            None => return answer_to_volume(alloc, bytes, checked, place),
+            Some(why) => {
+                let text = unchecked_text(alloc, why)?;
+                format!(in alloc; "{text}\n")?
+            }
+        },
         Err(fault) => format!(in alloc; "{fault}\n")?,
     };
     Ok(CheckAnswer { sound: false, line })

@@ -1,18 +1,18 @@
 // The command `list`.
 
 ghost use Rattle.std.specs.Prelude.{◌≡◌, ◌++◌, false, string_bytes, IfOk, OnOk};
-ghost use Rattle.adf_disk_cmd.specs.Lines.{list_line, list_lines, name_text, place_text, words_text};
+ghost use Rattle.adf_disk_cmd.specs.Lines.{fault_text, list_line, list_lines, name_text, place_text, words_text};
 ghost use Rattle.adf_runs.specs.Commands.{on_output};
 ghost use Rattle.adf_runs.specs.Outcomes.{EndsBy, is_read_fault, is_write_fault};
 
 use crate::answering::write_text;
 use crate::types::type_text;
-use adf_partitions::{Partition, Place, PlaceFault};
+use adf_partitions::{FieldFault, Partition, Place, PlaceFault};
 use adf_runs::{Outcome, Sink};
 use adf_texts::push_names;
 use std::alloc::{AllocError, Global};
 
-// Where a volume lies, or what is wrong with its partition.
+// Where a volume lies, or why it has no place.
 fn place_text(alloc: Global, place: Result<Place, PlaceFault>) -> Result<String, AllocError>
     ensures { IfOk result (λ text. string_bytes text ≡ place_text place) }
 {
@@ -26,7 +26,17 @@ fn place_text(alloc: Global, place: Result<Place, PlaceFault>) -> Result<String,
     }
 }
 
-// The end of a partition's line: its type, place, flags and boot priority.
+// What is wrong with the other fields of a partition, if something is.
+fn fault_text(alloc: Global, fault: Option<FieldFault>) -> Result<String, AllocError>
+    ensures { IfOk result (λ text. string_bytes text ≡ fault_text fault) }
+{
+    match fault {
+        None => Ok(String::new(alloc)),
+        Some(fault) => format!(in alloc; " {fault}"),
+    }
+}
+
+// The end of a partition's line: its type, place, flags, boot priority, and what is wrong with its other fields.
 fn words_text(alloc: Global, partition: &Partition) -> Result<String, AllocError>
     ensures { IfOk result (λ text. string_bytes text ≡ words_text partition.now) }
 {
@@ -34,7 +44,8 @@ fn words_text(alloc: Global, partition: &Partition) -> Result<String, AllocError
     let place = place_text(alloc, partition.place)?;
     let flags = partition.flags;
     let priority = partition.priority;
-    format!(in alloc; "{kind} {place} flags {flags} priority {priority}\n")
+    let fault = fault_text(alloc, partition.fault)?;
+    format!(in alloc; "{kind} {place} flags {flags} priority {priority}{fault}\n")
 }
 
 /// Appends the name of a partition, and a colon.

@@ -13,6 +13,9 @@ use adf_partitions::Place;
 use adf_runs::{Failed, Source, StreamFault, pass_over};
 use std::alloc::{AllocError, Global};
 
+/// The most bytes that are held before the volume that is read: so what is held is moved once for as many.
+const MOST_BEFORE: usize = 1 << 25;
+
 /// The bytes that are read at once.
 pub const PIECE: usize = 65536;
 
@@ -39,8 +42,8 @@ pub fn first_stretch(alloc: Global, tables: &[u8], places: &[Place]) -> Result<S
     Ok(Stretch { begin, bytes })
 }
 
-/// Reads so many bytes behind those that are held, or all where the input has fewer.
-pub fn read_behind<R: Source>(
+// Reads so many bytes behind those that are held, or all where the input has fewer.
+fn read_behind<R: Source>(
     input: &mut R,
     count: usize,
     piece: &mut [u8],
@@ -66,6 +69,16 @@ pub fn read_behind<R: Source>(
         done += got;
     }
     Ok(())
+}
+
+// Removes so many bytes from the front.
+fn remove_front(bytes: &mut Vec<u8>, count: usize)
+    requires { count ≤ vec_len bytes.old }
+    ensures { bytes.new.items ≡ drop count bytes.old.items }
+{
+    let len = bytes.len();
+    bytes.as_mut_slice().copy_within(count..len, 0);
+    bytes.truncate(len - count);
 }
 
 impl Stretch {
@@ -105,7 +118,49 @@ impl Stretch {
         Ok(())
     }
 
-    /// Holds the bytes of a place, as far as the input has them.
+    // Lets go what is held before a byte of the disk.
+    fn let_go(&mut self, first: usize)
+        requires begun { self.old.begin ≤ first }
+        requires held { first ≤ self.old.begin + vec_len self.old.bytes }
+        ensures begun { self.new.begin ≡ first }
+        ensures rest { self.new.bytes.items ≡ drop (first - self.old.begin) self.old.bytes.items }
+    {
+        remove_front(&mut self.bytes, first - self.begin);
+        self.begin = first;
+    }
+
+    // Lets go what is before a byte of the disk, or most of it, and passes over the input up to that byte.
+    fn go_to<R: Source>(
+        &mut self,
+        input: &mut R,
+        first: usize,
+        piece: &mut [u8],
+    ) -> Result<(), Failed>
+        requires room { 0 < length piece.old }
+        requires works { R.has_failed input.old ≡ false }
+        requires begun { self.old.begin ≤ first }
+        requires few { self.old.begin + vec_len self.old.bytes ≤ MOST_DISK_BYTES }
+        requires within { first ≤ MOST_DISK_BYTES }
+        ensures stretch { OnOk result ((start : Option (List ℕ))
+            → IsStretch start (R.left input.old) self.old.begin self.old.bytes.items
+            → IsStretch start (R.left input.new) self.new.begin self.new.bytes.items) }
+        ensures begun { OnOk result (self.new.begin ≤ first) }
+        ensures few { OnOk result (self.new.begin + vec_len self.new.bytes ≤ MOST_DISK_BYTES) }
+        ensures at_most { (start : Option (List ℕ))
+            → IsStretch start (R.left input.old) self.old.begin self.old.bytes.items
+            → TakesAtMost MOST_DISK_BYTES start (R.left input.new) }
+        ensures failed { R.has_failed input.new ≡ is_err result }
+    {
+        if self.end() <= first {
+            return self.pass_to(input, first, piece);
+        }
+        if first - self.begin >= MOST_BEFORE {
+            self.let_go(first);
+        }
+        Ok(())
+    }
+
+    /// Holds the bytes of a place, as far as the input has them, and at most 32 MiB before them.
     pub fn hold<R: Source>(
         &mut self,
         input: &mut R,
@@ -130,9 +185,7 @@ impl Stretch {
         ensures failed { R.has_failed input.new ≡ is_device result }
     {
         let first = place.first as usize * 512;
-        if self.end() <= first {
-            self.pass_to(input, first, piece)?;
-        }
+        self.go_to(input, first, piece)?;
         let end = first + place.blocks as usize * 512;
         let count = end.saturating_sub(self.end());
         read_behind(input, count, piece, &mut self.bytes)

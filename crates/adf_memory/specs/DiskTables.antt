@@ -1,9 +1,10 @@
 -- The table of a hard disk's partitions. `bytes` are the first bytes of a disk of n blocks; ps are partitions of it.
 use Rattle.std.specs.Prelude.{ℕ, List, length, map, Option, Some, None, Result, Ok, Err}
 use Rattle.adf_partitions.specs.Disks.{FirstFault, IsDisk}
-use Rattle.adf_partitions.specs.FaultTexts.{disk_cause_number, place_fault_number}
+use Rattle.adf_partitions.specs.FaultTexts.{disk_cause_number, field_fault_number, place_fault_number}
 use Rattle.adf_partitions.specs.Searches.{AreReadable}
 use Rattle.adf_partitions.specs.declared.fault.DiskFault.{DiskFault}
+use Rattle.adf_partitions.specs.declared.field_fault.FieldFault.{FieldFault}
 use Rattle.adf_partitions.specs.declared.partition.Partition.{Partition}
 use Rattle.adf_partitions.specs.declared.place.Place.{Place}
 use Rattle.adf_partitions.specs.declared.place.PlaceFault.{PlaceFault}
@@ -22,10 +23,15 @@ abbrev pub blocks_of : Result Place PlaceFault → ℕ
 blocks_of (Ok q) = q.blocks
 blocks_of (Err f) = 0
 
--- the number of what is wrong; 0 if a partition has a place
-abbrev pub fault_of : Result Place PlaceFault → ℕ
-fault_of (Ok q) = 0
-fault_of (Err f) = place_fault_number f
+-- the number of what is wrong with the other fields of a partition; 0 if nothing is
+abbrev pub field_fault_of : Option FieldFault → ℕ
+field_fault_of None = 0
+field_fault_of (Some f) = field_fault_number f
+
+-- the number of what is wrong with its place, or else with its other fields; 0 if nothing is
+abbrev pub fault_of : Result Place PlaceFault → Option FieldFault → ℕ
+fault_of (Ok q) o = field_fault_of o
+fault_of (Err f) o = place_fault_number f
 
 -- the row of a partition
 abbrev pub partition_row : Partition → TablePartition
@@ -36,7 +42,7 @@ partition_row p = record {
   flags = p.flags;
   priority = p.priority;
   dos_type = p.dos_type;
-  fault = fault_of p.place;
+  fault = fault_of p.place p.fault;
   name_length = length p.name;
   name = field 31 p.name;
 }

@@ -3,13 +3,14 @@
 ghost use Rattle.std.specs.Prelude.{◌≡◌, IfNone, IfSome, length};
 ghost use Rattle.adf_blocks.specs.Causes.{cause_number, cause_text};
 ghost use Rattle.adf_blocks.specs.declared.cause.Cause.{Cause};
-ghost use Rattle.adf_partitions.specs.FaultTexts.{disk_cause_number, disk_cause_text, place_fault_number, place_fault_text};
+ghost use Rattle.adf_partitions.specs.FaultTexts.{disk_cause_number, disk_cause_text, field_fault_number, field_fault_text, place_fault_number, place_fault_text};
 ghost use Rattle.adf_partitions.specs.declared.fault.DiskCause.{DiskCause};
+ghost use Rattle.adf_partitions.specs.declared.field_fault.FieldFault.{FieldFault};
 ghost use Rattle.adf_partitions.specs.declared.place.PlaceFault.{PlaceFault};
 ghost use Rattle.adf_memory.specs.Rooms.{filled};
 
 use adf_blocks::Cause;
-use adf_partitions::{DiskCause, PlaceFault};
+use adf_partitions::{DiskCause, FieldFault, PlaceFault};
 
 // Puts a text at the front of the room, as far as it fits, and returns its length.
 fn put_text(room: &mut [u8], text: &str) -> usize
@@ -40,19 +41,29 @@ fn disk_cause_numbered(number: u8) -> Option<DiskCause>
     }
 }
 
-// The fault of a partition with this number.
+// The fault of a partition's place with this number.
 fn place_fault_numbered(number: u8) -> Option<PlaceFault>
     ensures some { IfSome result (λ f. place_fault_number f ≡ number) }
     ensures none { IfNone result ((f : PlaceFault) → ¬ (place_fault_number f ≡ number)) }
 {
     match number {
-        1 => Some(PlaceFault::ShortEnvironment),
-        2 => Some(PlaceFault::OtherBlocks),
         3 => Some(PlaceFault::NoCylinders),
         4 => Some(PlaceFault::BeyondImage),
         5 => Some(PlaceFault::OverTables),
         6 => Some(PlaceFault::OverPartition),
-        7 => Some(PlaceFault::BadName),
+        _ => None,
+    }
+}
+
+// The fault of its other fields with this number.
+fn field_fault_numbered(number: u8) -> Option<FieldFault>
+    ensures some { IfSome result (λ f. field_fault_number f ≡ number) }
+    ensures none { IfNone result ((f : FieldFault) → ¬ (field_fault_number f ≡ number)) }
+{
+    match number {
+        1 => Some(FieldFault::ShortEnvironment),
+        2 => Some(FieldFault::OtherBlocks),
+        7 => Some(FieldFault::BadName),
         _ => None,
     }
 }
@@ -92,19 +103,24 @@ pub fn disk_cause_text(cause: u8, room: &mut [u8]) -> usize
     }
 }
 
-/// Writes the text of what is wrong with one partition, by its number, to the front of `room`, as far as it fits. Returns the
-/// length of the whole text, or 0 if no fault has the number.
+/// Writes the text of what is wrong with the place of a partition, or with its other fields, by its number, to the front of
+/// `room`, as far as it fits. Returns the length of the whole text, or 0 if no fault has the number.
 pub fn partition_fault_text(fault: u8, room: &mut [u8]) -> usize
-    ensures length { (f : PlaceFault) → place_fault_number f ≡ fault
-        → result ≡ length (place_fault_text f) }
-    ensures text { (f : PlaceFault) → place_fault_number f ≡ fault
-        → room.new ≡ filled (place_fault_text f) room.old }
+    ensures place { (f : PlaceFault) → place_fault_number f ≡ fault
+        → (result ≡ length (place_fault_text f)) × (room.new ≡ filled (place_fault_text f) room.old) }
+    ensures field { (f : FieldFault) → field_fault_number f ≡ fault
+        → (result ≡ length (field_fault_text f)) × (room.new ≡ filled (field_fault_text f) room.old) }
 
     // If no fault has the number, nothing is written.
-    ensures none { ((f : PlaceFault) → ¬ (place_fault_number f ≡ fault)) → result ≡ 0 }
-    ensures unchanged { ((f : PlaceFault) → ¬ (place_fault_number f ≡ fault)) → room.new ≡ room.old }
+    ensures none { ((f : PlaceFault) → ¬ (place_fault_number f ≡ fault)) → ((f : FieldFault) → ¬ (field_fault_number f ≡ fault))
+        → result ≡ 0 }
+    ensures unchanged { ((f : PlaceFault) → ¬ (place_fault_number f ≡ fault))
+        → ((f : FieldFault) → ¬ (field_fault_number f ≡ fault)) → room.new ≡ room.old }
 {
-    match place_fault_numbered(fault) {
+    if let Some(named) = place_fault_numbered(fault) {
+        return put_text(room, named.text());
+    }
+    match field_fault_numbered(fault) {
         Some(named) => put_text(room, named.text()),
         None => 0,
     }

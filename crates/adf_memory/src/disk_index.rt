@@ -42,9 +42,9 @@ fn read_disk(alloc: Global, bytes: &[u8], blocks: u64) -> Result<ReadDisk, Alloc
     }
 }
 
-/// Reads the partitions of a hard disk of so many blocks of 512 bytes, from its first bytes: at least the blocks 0 to 15 and
-/// those kept for its tables. Fills a table with those that can be read, as far as it has room, and reports the first fault
-/// of the tables. Returns 0, or the number of `NoMemory` if memory ran out, which can happen only if a partition can be read.
+/// Reads the partitions of a hard disk of so many blocks of 512 bytes, from its first bytes: the blocks below 65,536, or all of
+/// them. Fills a table with those that can be read, as far as it has room, and reports the first fault of the tables.
+/// Returns 0, or the number of `NoMemory` if memory ran out, which can happen only if a partition can be read.
 pub fn put_disk(
     alloc: Global,
     bytes: &[u8],

@@ -1,19 +1,19 @@
 // The table of a hard disk's partitions, and how it is filled.
 
 ghost use Rattle.std.specs.Prelude.{◌≡◌};
-ghost use Rattle.adf_memory.specs.DiskTables.{blocks_of, fault_of, first_of, partition_row, partition_table, table_disk};
+ghost use Rattle.adf_memory.specs.DiskTables.{blocks_of, fault_of, field_fault_of, first_of, partition_row, partition_table, table_disk};
 ghost use Rattle.adf_memory.specs.Rooms.{filled};
 
 use crate::tables::{field, put};
-use adf_partitions::{DiskFault, Partition, Place, PlaceFault};
+use adf_partitions::{DiskFault, FieldFault, Partition, Place, PlaceFault};
 
 /// A partition of a hard disk.
 #[repr(C)]
 #[derive(Clone, Copy)]
 pub struct TablePartition {
-    /// The first block of its volume on the disk, or 0 if something is wrong with it.
+    /// The first block of its volume on the disk, or 0 if it has no place.
     pub first: u64,
-    /// The blocks of its volume, or 0 if something is wrong with it.
+    /// The blocks of its volume, or 0 if it has no place.
     pub blocks: u64,
     /// Its partition block.
     pub block: u32,
@@ -23,7 +23,7 @@ pub struct TablePartition {
     pub priority: i32,
     /// The type of its file system, four bytes, the first one the highest.
     pub dos_type: u32,
-    /// The number of what is wrong with it, or 0.
+    /// The number of what is wrong with it, or 0: with its place, 3 to 6, or else with its other fields, 1, 2 or 7.
     pub fault: u8,
     pub name_length: u8,
     /// The drive's name as it is in the block, not necessarily valid, padded with zeros.
@@ -62,12 +62,22 @@ fn blocks_of(place: Result<Place, PlaceFault>) -> u64
     }
 }
 
-// The number of what is wrong; 0 if a partition has a place.
-fn fault_of(place: Result<Place, PlaceFault>) -> u8
-    ensures { result ≡ fault_of place }
+// The number of what is wrong with the other fields of a partition; 0 if nothing is.
+fn field_fault_of(fault: Option<FieldFault>) -> u8
+    ensures { result ≡ field_fault_of fault }
+{
+    match fault {
+        None => 0,
+        Some(fault) => fault.number(),
+    }
+}
+
+// The number of what is wrong with a partition; 0 if nothing is.
+fn fault_of(place: Result<Place, PlaceFault>, fault: Option<FieldFault>) -> u8
+    ensures { result ≡ fault_of place fault }
 {
     match place {
-        Ok(_) => 0,
+        Ok(_) => field_fault_of(fault),
         Err(fault) => fault.number(),
     }
 }
@@ -84,7 +94,7 @@ fn partition_row(partition: &Partition) -> TablePartition
         flags: partition.flags,
         priority: partition.priority,
         dos_type: partition.dos_type,
-        fault: fault_of(partition.place),
+        fault: fault_of(partition.place, partition.fault),
         name_length: name.len() as u8,
         name: field(name),
     }

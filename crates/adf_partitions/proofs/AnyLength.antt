@@ -4,6 +4,7 @@ use Rattle.std.proofs.Common.{◌≡◌, ◌∙◌, ℕ, zero, suc, List, [], �
 use Rattle.std.proofs.Common.{Bool, true, false, Option, None, Some}
 use Rattle.std.specs.Prelude.{cond, find, IfOk, slice_get, ⊤}
 use Rattle.std.specs.List.{list_any}
+use Rattle.std.proofs.lemmas.Bool.{and_parts}
 use Rattle.std.proofs.lemmas.Grind.{common_steps}
 use Rattle.adf_partitions.specs.declared.partition.Partition.{Partition}
 use Rattle.adf_partitions.specs.declared.tables.Tables.{Tables}
@@ -14,7 +15,7 @@ use Rattle.adf_partitions.specs.Partitions.{is_named, partition_numbered}
 use Rattle.adf_partitions.specs.Volumes.{AreAlike, FoundAlike, IsStated}
 use Rattle.adf_partitions.proofs.NumberTests.{le_of}
 use Rattle.adf_partitions.proofs.OneAnswer.{one_disk}
-use Rattle.adf_partitions.proofs.TablesEnough.{fourth, is_kept}
+use Rattle.adf_partitions.proofs.TablesEnough.{is_held}
 use Rattle.adf_partitions.proofs.VolumesApart.{if_placed, passed}
 
 -- each of one list is as that of the other
@@ -69,14 +70,14 @@ module _ (bytes : List ℕ) (n : ℕ) where
   numbered_alike number ps qs h = grind (arith, common_steps, got_alike)
 
   -- the tests of a block are those with the other number
-  same_tests : (t : Tables) (ps qs : List Partition) (a b : ℕ) → AreAll bytes n ps qs
-      → first_failed (part_form bytes t ps a b) ≡ first_failed (part_form bytes t qs a b)
-  same_tests t ps qs a b h = grind (arith, common_steps, same_at, same_length)
+  same_tests : (ps qs : List Partition) (a b : ℕ) → AreAll bytes n ps qs
+      → first_failed (part_form bytes ps a b) ≡ first_failed (part_form bytes qs a b)
+  same_tests ps qs a b h = grind (arith, common_steps, same_at, same_length)
 
   -- a partition has no other place than its block states
-  stated : (t : Tables) (ps : List Partition) (a b : ℕ) → first_failed (part_form bytes t ps a b) ≡ None
+  stated : (t : Tables) (ps : List Partition) (a b : ℕ) → first_failed (part_form bytes ps a b) ≡ None
       → IfOk (partition_at bytes n t ps b).place (IsStated bytes n b)
-  stated t ps a b sound = grind (arith, common_steps, is_kept, if_placed, passed, fourth, le_of)
+  stated t ps a b sound = grind (arith, common_steps, is_held, if_placed, passed, and_parts, le_of)
 
   -- the partitions found with the other number of blocks
   found_alike : (m : ℕ) (t : Tables) {ps : List Partition} {a b : ℕ} → IsFound bytes n t ps a b
@@ -84,7 +85,7 @@ module _ (bytes : List ℕ) (n : ℕ) where
   found_alike m t start = ([], start, tt)
   found_alike m t (step {ps = ps} {a = a} {b = b} h some sound) =
       let (qs, found, all) = found_alike m t h in
-      let tests = sym (same_tests t ps qs a b all) ∙ sound in (
+      let tests = sym (same_tests ps qs a b all) ∙ sound in (
         qs ++ partition_at bytes m t qs b ∷ [],
         step found some tests,
         one_alike ps qs (partition_at bytes n t ps b) (partition_at bytes m t qs b) all

@@ -3,7 +3,7 @@
 use Rattle.std.proofs.Common.{◌≡◌, ◌<◌, ◌≤◌, ◌*◌, inl, inr, ℕ, zero, suc, List, ◌++◌, [], ◌∷◌, length, take, drop, refl, sym, ap, subst, ◌∙◌, arith}
 use Rattle.std.proofs.Common.{Bool, true, false, ◌&&◌, if◌then◌else◌, not, nat_lt, ◌↔◌}
 use Rattle.std.specs.List.{list_any}
-use Rattle.std.proofs.lemmas.Bool.{cases_lt}
+use Rattle.std.proofs.lemmas.Bool.{and_parts, cases_lt}
 use Rattle.std.proofs.lemmas.List.{take-append-drop, take_all, length-take-le}
 use Rattle.std.proofs.lemmas.Grind.{common_steps}
 use Rattle.adf_base.specs.Words.{word}
@@ -14,7 +14,7 @@ use Rattle.adf_partitions.specs.declared.tables.Tables.{Tables}
 use Rattle.adf_partitions.specs.Disks.{FirstFault, IsDisk, is_at}
 use Rattle.adf_partitions.specs.Disks.FirstFault.{at_list, at_tables}
 use Rattle.adf_partitions.specs.Partitions.{partition_of}
-use Rattle.adf_partitions.specs.Searches.{AreReadable, is_part, kept_up_to, with_all_lost, with_lost}
+use Rattle.adf_partitions.specs.Searches.{AreReadable, is_part, no_tables, with_all_lost, with_lost}
 use Rattle.adf_partitions.specs.Searches.AreReadable.{whole, cut, bare, other}
 use Rattle.adf_partitions.proofs.TablesEnough.{StartAgrees, TablesAgree, same_cut, same_lack, same_list_fault, same_rdsk}
 use Rattle.adf_partitions.proofs.TablesEnough.{same_tables, same_whole, start_agrees, start_back, tables_agree, tables_back}
@@ -22,45 +22,45 @@ use Rattle.adf_partitions.proofs.TablesEnough.{same_tables, same_whole, start_ag
 -- all blocks that may have tables agree
 record Agrees (A B : List ℕ) : Type 0 where
   start : StartAgrees A B
-  tables : (t : Tables) → TablesAgree A B t
+  tables : TablesAgree A B
 
 agrees_back : {A B : List ℕ} → Agrees A B → Agrees B A
-agrees_back g = record { start = start_back g.start; tables = λ t. tables_back (g.tables t) }
+agrees_back g = record { start = start_back g.start; tables = tables_back g.tables }
 
 -- the partitions, and that of a block with these bytes if it is lost
 abbrev lost_of : ℕ → Tables → List Partition → ℕ → Bool → List ℕ → List Partition
-lost_of n t ps b kept p =
-    if kept && is_part p && not (list_any (is_at b) ps) && nat_lt (length ps) MOST_PARTITIONS then ps ++ partition_of n t ps b p ∷ [] else ps
+lost_of n t ps b searched p =
+    if searched && is_part p && not (list_any (is_at b) ps) && nat_lt (length ps) MOST_PARTITIONS then ps ++ partition_of n t ps b p ∷ [] else ps
 
-same_lost_of : (n : ℕ) (t : Tables) (ps : List Partition) (b : ℕ) (kept : Bool) (p q : List ℕ) → (kept ≡ true → p ≡ q)
-    → lost_of n t ps b kept p ≡ lost_of n t ps b kept q
+same_lost_of : (n : ℕ) (t : Tables) (ps : List Partition) (b : ℕ) (searched : Bool) (p q : List ℕ) → (searched ≡ true → p ≡ q)
+    → lost_of n t ps b searched p ≡ lost_of n t ps b searched q
 same_lost_of n t ps b true p q h = ap (lost_of n t ps b true) (h refl)
 same_lost_of n t ps b false p q h = refl
 
-module _ {A B : List ℕ} {kept : Tables} (s : TablesAgree A B kept) where
-  same_lost : (n : ℕ) (t : Tables) (ps : List Partition) (b : ℕ) → with_lost A n t kept ps b ≡ with_lost B n t kept ps b
-  same_lost n t ps b = grind (arith, common_steps, same_lost_of, lost_of)
+module _ {A B : List ℕ} (s : TablesAgree A B) where
+  same_lost : (n : ℕ) (t : Tables) (ps : List Partition) (b : ℕ) → with_lost A n t ps b ≡ with_lost B n t ps b
+  same_lost n t ps b = grind (arith, common_steps, same_lost_of, lost_of, and_parts)
 
-  same_all_lost : (n : ℕ) (t : Tables) (ps : List Partition) (k : ℕ) → with_all_lost A n t kept ps k ≡ with_all_lost B n t kept ps k
+  same_all_lost : (n : ℕ) (t : Tables) (ps : List Partition) (k : ℕ) → with_all_lost A n t ps k ≡ with_all_lost B n t ps k
   unfolding with_all_lost
   same_all_lost n t ps zero = refl
   same_all_lost n t ps (suc k) = grind (arith, common_steps, same_lost, (same_all_lost n t ps k))
 
 module _ {A B : List ℕ} (g : Agrees A B) (n : ℕ) where
   same_disk : {t : Tables} {ps : List Partition} → IsDisk A n t ps → IsDisk B n t ps
-  same_disk {t} d = record { tables = same_tables g.start d.tables; whole = same_whole (g.tables t) d.whole }
+  same_disk {t} d = record { tables = same_tables g.start d.tables; whole = same_whole g.tables d.whole }
 
   same_fault : {f : DiskFault} → FirstFault A n f → FirstFault B n f
   same_fault (at_tables h) = at_tables (same_lack g.start h)
-  same_fault (at_list {t} h v) = at_list (same_tables g.start h) (same_list_fault (g.tables t) v)
+  same_fault (at_list {t} h v) = at_list (same_tables g.start h) (same_list_fault g.tables v)
 
   same_readable : {ps : List Partition} → AreReadable A n ps → AreReadable B n ps
   same_readable (whole d) = whole (same_disk d)
   same_readable (cut {t} {ps} {f} has v) =
-      subst (AreReadable B n) (sym (same_all_lost (g.tables t) n t ps MOST_TABLES)) (cut (same_tables g.start has) (same_cut (g.tables t) v))
+      subst (AreReadable B n) (sym (same_all_lost g.tables n t ps MOST_TABLES)) (cut (same_tables g.start has) (same_cut g.tables v))
   same_readable (bare none) =
       let without : (k : ℕ) → k < RDSK_BLOCKS → _ = λ k lt. sym (g.start.rdsk k lt) ∙ none k lt in
-      subst (AreReadable B n) (sym (same_all_lost (g.tables (kept_up_to 15)) n (kept_up_to 0) [] MOST_TABLES)) (bare without)
+      subst (AreReadable B n) (sym (same_all_lost g.tables n no_tables [] MOST_TABLES)) (bare without)
   same_readable (other {b} is size) =
       other (same_rdsk g.start is) (λ z. size (ap (λ p. word p BLOCK_BYTES) (g.start.blocks b is.low) ∙ z))
 

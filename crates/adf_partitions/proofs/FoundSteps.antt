@@ -11,7 +11,7 @@ use Rattle.adf_partitions.specs.Partitions.{partition_of}
 
 -- the partition block that was named is read, its partition kept, and the next block taken from it
 pub one_more : {bytes : List ℕ} {n : ℕ} {t : Tables} {ps : List Partition} {a b : ℕ} → IsFound bytes n t ps a b → b ≢ NO_BLOCK
-    → first_failed (part_form bytes t ps a b) ≡ None → {p : List ℕ} → p ≡ block bytes b → {q : Partition} → q ≡ partition_of n t ps b p
+    → first_failed (part_form bytes ps a b) ≡ None → {p : List ℕ} → p ≡ block bytes b → {q : Partition} → q ≡ partition_of n t ps b p
     → {more : List Partition} → more ≡ ps ++ q ∷ [] → {next : ℕ} → next ≡ word p NEXT_PART → IsFound bytes n t more b next
 one_more {bytes} {n} {t} {ps} {a} {b} h some sound {p = p} is_block is_partition {more = more} is_more is_next =
     let e = is_more ∙ ap (λ q. ps ++ q ∷ []) (is_partition ∙ ap (partition_of n t ps b) is_block) in

@@ -16,3 +16,5 @@ pub mod WrittenBlocks
 pub mod WrittenTables
 pub mod PlannedDisk
 pub mod PlannedVolumes
+pub mod SeparatePartitions
+pub mod SomeReadings

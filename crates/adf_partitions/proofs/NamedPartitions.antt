@@ -17,22 +17,22 @@ use Rattle.adf_partitions.proofs.NumberTests.{lt_of}
 use Rattle.adf_partitions.proofs.Searches.{pushed, some_before}
 use Rattle.adf_partitions.proofs.VolumesApart.{each_held}
 
-none_or_some : {A : Type 0} (o : Option A) → (o ≡ None) ⊎ ((x : A) × (o ≡ Some x))
+pub none_or_some : {A : Type 0} (o : Option A) → (o ≡ None) ⊎ ((x : A) × (o ≡ Some x))
 none_or_some None = inl refl
 none_or_some (Some x) = inr (x, refl)
 
 module _ (bytes : List ℕ) (n : ℕ) (t : Tables) where
   -- where a block passes its tests, the first one did
-  pub names_one : {ps : List Partition} {a b : ℕ} → IsFound bytes n t ps a b → b ≢ NO_BLOCK → first_failed (part_form bytes t ps a b) ≡ None
+  pub names_one : {ps : List Partition} {a b : ℕ} → IsFound bytes n t ps a b → b ≢ NO_BLOCK → first_failed (part_form bytes ps a b) ≡ None
       → NamesPartition bytes t
   names_one start some sound = (some, sound)
   names_one (step h some sound) later passes = names_one h some sound
 
-  is_few : (ps : List Partition) (a b : ℕ) → first_failed (part_form bytes t ps a b) ≡ None → length ps < MOST_PARTITIONS
+  pub is_few : (ps : List Partition) (a b : ℕ) → first_failed (part_form bytes ps a b) ≡ None → length ps < MOST_PARTITIONS
   is_few ps a b sound = grind (arith, common_steps, each_held, lt_of)
 
   -- a list has no more partitions than a disk may have
-  no_more : {ps : List Partition} {a b : ℕ} → IsFound bytes n t ps a b → length ps ≤ MOST_PARTITIONS
+  pub no_more : {ps : List Partition} {a b : ℕ} → IsFound bytes n t ps a b → length ps ≤ MOST_PARTITIONS
   no_more start = omega arith
   no_more (step {ps = ps} {a = a} {b = b} h some sound) = grind (arith, common_steps, is_few, length_push)
 
@@ -45,7 +45,7 @@ module _ (bytes : List ℕ) (n : ℕ) (t : Tables) where
   goes_on zero {ps} {a} {b} h some room = absurd (omega (arith, no_more h))
   goes_on (suc k) {ps} {a} {b} h some room = elim (cases_eq b NO_BLOCK) [
     | inl last ↦ (ps, None, (a, subst (IsFound bytes n t ps a) last h), some)
-    | inr next ↦ elim (none_or_some (first_failed (part_form bytes t ps a b))) [
+    | inr next ↦ elim (none_or_some (first_failed (part_form bytes ps a b))) [
       | inl sound ↦
           let p = partition_at bytes n t ps b in
           goes_on k (step h next sound) (pushed ps p) (omega (arith, length_push ps p))
@@ -62,7 +62,7 @@ module _ (bytes : List ℕ) (n : ℕ) (t : Tables) where
   is_read : IsTables bytes t → (ps : List Partition) (o : Option DiskFault) → IsFollowed bytes n t ps o → ps ≢ [] → HasReadable bytes n
   is_read tables ps None h some = (ps, whole (record { tables = tables; whole = h }), some)
   is_read tables ps (Some f) h some =
-      (with_all_lost bytes n t t ps MOST_TABLES, cut tables h, some_before bytes n t t ps MOST_TABLES some)
+      (with_all_lost bytes n t ps MOST_TABLES, cut tables h, some_before bytes n t ps MOST_TABLES some)
 
   pub has_readable : IsTables bytes t → NamesPartition bytes t → HasReadable bytes n
   has_readable tables named = let (ps, o, h, some) = has_list named in is_read tables ps o h some

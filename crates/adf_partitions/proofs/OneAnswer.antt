@@ -55,11 +55,11 @@ module _ (bytes : List ℕ) (n : ℕ) (t : Tables) where
 
   -- the next block passes its tests
   abbrev Passes : State → Type 0
-  Passes s = (s.2 ≢ NO_BLOCK) × (first_failed (part_form bytes t s.0 s.1 s.2) ≡ None)
+  Passes s = (s.2 ≢ NO_BLOCK) × (first_failed (part_form bytes s.0 s.1 s.2) ≡ None)
 
   -- the list ends there, or has a fault
   abbrev Stops : State → Type 0
-  Stops s = (s.2 ≡ NO_BLOCK) ⊎ ((f : DiskFault) × (first_failed (part_form bytes t s.0 s.1 s.2) ≡ Some f))
+  Stops s = (s.2 ≡ NO_BLOCK) ⊎ ((f : DiskFault) × (first_failed (part_form bytes s.0 s.1 s.2) ≡ Some f))
 
   is_after : {ps : List Partition} {a b : ℕ} → IsFound bytes n t ps a b → state ps a b ≡ found_after (length ps)
   is_after start = refl
@@ -132,8 +132,8 @@ one_reading bytes n (whole d) (other r s) = absurd (some_tables d.tables (other_
 one_reading bytes n (cut {ps = ps} {f = f} h w) (whole {t = t} {ps = qs} d) = absurd (no_fault bytes n t qs f (at_list h (ps, w)) d)
 one_reading bytes n (cut {t = t} {ps = ps} {f = f} h w) (cut {t = u} {ps = qs} {f = g} k v) =
     let same = one_tables h k in
-    ap (λ (t : Tables). with_all_lost bytes n t t ps MOST_TABLES) same
-    ∙ ap (λ (ps : List Partition). with_all_lost bytes n u u ps MOST_TABLES)
+    ap (λ (t : Tables). with_all_lost bytes n t ps MOST_TABLES) same
+    ∙ ap (λ (ps : List Partition). with_all_lost bytes n u ps MOST_TABLES)
     (one_cut bytes n u (subst (λ (t : Tables). IsCut bytes n t ps f) same w) v)
 one_reading bytes n (cut h w) (bare k) = absurd (some_tables h (no_rdsk k))
 one_reading bytes n (cut h w) (other r s) = absurd (some_tables h (other_size r s))

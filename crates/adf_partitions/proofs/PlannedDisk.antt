@@ -2,24 +2,23 @@
 -- Letters: `plan` a plan, k the number of partitions before the one in block k + 1, low its lowest cylinder, ps those that are left, `done`
 -- the partitions found before.
 use Rattle.std.proofs.Common.{◌≡◌, ◌≤◌, ◌<◌, ◌+◌, ◌-◌, ◌*◌, ◌∙◌, ℕ, suc, List, [], ◌∷◌, ◌++◌, length, ap, refl, sym, subst, arith, true, false, Bool}
-use Rattle.std.proofs.Common.{None, Ok, Err, append-nil, append_assoc, length-append, All, IfOk, Result, ◌&&◌, ◌==◌, not, nat_le, nat_lt, replicate}
+use Rattle.std.proofs.Common.{None, Ok, Err, append-nil, append_assoc, length-append, All, IfOk, Result, not, nat_le, nat_lt, replicate}
 use Rattle.std.specs.List.{list_any}
 use Rattle.std.proofs.lemmas.Bool.Decides.{nat_tests}
 use Rattle.std.proofs.lemmas.List.{drop_at, length_push, take_at}
 use Rattle.std.proofs.lemmas.Nat.{mul-le}
 use Rattle.std.proofs.lemmas.Grind.{common_steps}
-use Rattle.adf_base.specs.Words.{block, word}
-use Rattle.adf_partitions.specs.declared.layout.TheConstants.{BLOCK_SECTORS, ENV_BLOCK_WORDS, ENV_LENGTH, NO_BLOCK}
+use Rattle.adf_base.specs.Words.{block}
+use Rattle.adf_partitions.specs.declared.layout.TheConstants.{NO_BLOCK}
 use Rattle.adf_partitions.specs.declared.partition.Partition.{Partition}
 use Rattle.adf_partitions.specs.declared.place.Place.{Place}
 use Rattle.adf_partitions.specs.declared.place.PlaceFault.{PlaceFault}
-use Rattle.adf_partitions.specs.declared.place.PlaceFault.TheVariants.{BadName, BeyondImage, NoCylinders, OtherBlocks, OverPartition, OverTables}
-use Rattle.adf_partitions.specs.declared.place.PlaceFault.TheVariants.{ShortEnvironment}
+use Rattle.adf_partitions.specs.declared.place.PlaceFault.TheVariants.{BeyondImage, NoCylinders, OverPartition, OverTables}
 use Rattle.adf_partitions.specs.declared.plan.PartitionPlan.{PartitionPlan}
 use Rattle.adf_partitions.specs.Disks.{IsDisk, IsFound, IsWhole, is_at, part_form}
 use Rattle.adf_partitions.specs.Disks.IsFound.{start}
 use Rattle.adf_partitions.specs.Faults.{first_failed}
-use Rattle.adf_partitions.specs.Partitions.{has_name, is_over_earlier, is_over_place, partition_of, place_form, placed}
+use Rattle.adf_partitions.specs.Partitions.{field_form, is_over_earlier, is_over_place, partition_of, place_form, placed}
 use Rattle.adf_partitions.specs.Places.{blocks_from, end_of, has_cylinders, is_over_tables, place_of}
 use Rattle.adf_partitions.specs.Plans.{PlanValue, IsPartitionPlan, IsPlan, cylinder_blocks, cylinders_of, partitions_from, planned_blocks, planned_cylinders}
 use Rattle.adf_partitions.specs.Plans.{planned_partition, planned_partitions, table_cylinders}
@@ -29,7 +28,7 @@ use Rattle.adf_partitions.proofs.FoundSteps.{one_more}
 use Rattle.adf_partitions.proofs.NumberTests.{of_le, of_lt}
 use Rattle.adf_partitions.proofs.PlanSizes.{cylinders_more, tables_hold}
 use Rattle.adf_partitions.proofs.WrittenTables.{length_part, length_rdsk, part-blocks, part-cylinders, part-environment, part-flags, part-has_name, part-mark}
-use Rattle.adf_partitions.proofs.WrittenTables.{part-name, part-next, part-place, part-summed, part-type, part_priority, rdsk-first, rdsk-highest}
+use Rattle.adf_partitions.proofs.WrittenTables.{part-name, part-next, part-place, part-reserved, part-summed, part-type, part_priority, rdsk-first, rdsk-highest}
 use Rattle.adf_partitions.proofs.WrittenTables.{rdsk-lowest, rdsk-size, rdsk-summed, rdsk_mark}
 
 -- partitions in blocks before b, each with its place, if it has one, before block e
@@ -145,42 +144,28 @@ module _ (plan : PlanValue) (h : IsPlan plan) where
     -- the tests of the block, of this place
     abbrev tests : Place → List (Bool × PlaceFault)
     tests q =
-        (nat_le 16 (word b ENV_LENGTH), ShortEnvironment)
-        ∷ ((word b ENV_BLOCK_WORDS == 128) && (word b BLOCK_SECTORS == 1), OtherBlocks)
-        ∷ (has_cylinders b, NoCylinders)
+        (has_cylinders b, NoCylinders)
         ∷ (nat_le (end_of q) (planned_blocks plan), BeyondImage)
         ∷ (not (is_over_tables q (planned_tables plan)), OverTables)
         ∷ (not (is_over_earlier q done), OverPartition)
-        ∷ (has_name b, BadName)
         ∷ []
 
     no_fault : first_failed (tests (place_of b)) ≡ None
     no_fault =
-        grind (
-          arith,
-          common_steps,
-          tests,
-          part-place,
-          fits,
-          within,
-          part-environment,
-          part-blocks,
-          part-cylinders,
-          in_disk,
-          beside,
-          apart,
-          part-has_name,
-        )
+        grind (arith, common_steps, tests, part-place, fits, within, part-cylinders, in_disk, beside, apart)
+
+    fields_hold : first_failed (field_form b) ≡ None
+    fields_hold = grind (arith, common_steps, fits, within, part-environment, part-blocks, part-has_name)
 
     placed_there : placed (place_of b) (first_failed (place_form (planned_blocks plan) (planned_tables plan) done b)) ≡ Ok place
     placed_there = ap (placed (place_of b)) no_fault ∙ ap Ok (part-place plan h (k + 1) low p fits within)
 
     is_planned : planned_partition (cylinder_blocks plan) (k + 1) low p ≡ partition_of (planned_blocks plan) (planned_tables plan) done (k + 1) b
-    is_planned = grind (arith, common_steps, b, place, placed_there, part-name, fits, within, part-flags, part_priority, part-type)
+    is_planned = grind (arith, common_steps, b, place, placed_there, fields_hold, part-name, fits, within, part-flags, part_priority, part-type, part-reserved)
 
     -- the tests of the block, where the bytes hold it
     passes : (bytes : List ℕ) (a : ℕ) → block bytes (k + 1) ≡ b → (k + 1) * 512 + 512 ≤ length bytes → length done ≡ k
-        → first_failed (part_form bytes (planned_tables plan) done a (k + 1)) ≡ None
+        → first_failed (part_form bytes done a (k + 1)) ≡ None
     passes bytes a there room count = grind (arith, common_steps, tables_hold, of_le, of_lt, part-mark, fits, within, part-summed, not_at)
 
   block_next : (k : ℕ) → k + 1 ≤ length plan.partitions → block_after (length plan.partitions) k ≡ k + 1

@@ -63,7 +63,7 @@ no_common q r h = grind (arith, common_steps, of_lt)
 has_blocks : (low high c : ℕ) → nat_le low high ≡ true → not (c == 0) ≡ true → 0 < (high + 1 - low) * c
 has_blocks low high c h k = grind (arith, common_steps, nat_tests, mul-le)
 
-lies_well : (n : ℕ) (t : Tables) (ps : List Partition) (p : List ℕ) → Passed n t ps p → LiesWell n t (place_of p)
+pub lies_well : (n : ℕ) (t : Tables) (ps : List Partition) (p : List ℕ) → Passed n t ps p → LiesWell n t (place_of p)
 lies_well n t ps p h = grind (arith, common_steps, and_parts, or_parts, has_blocks, le_of, no_common)
 
 -- what holds of a place that has no fault
@@ -71,12 +71,12 @@ pub if_placed : (q : Place) (o : Option PlaceFault) (P : Place → Type 0) → (
 if_placed q None P h = h refl
 if_placed q (Some f) P h = tt
 
-apart_from : (q : Place) (r : Result Place PlaceFault) (o : Option PlaceFault) → (o ≡ None → is_over_place q r ≡ false)
+pub apart_from : (q : Place) (r : Result Place PlaceFault) (o : Option PlaceFault) → (o ≡ None → is_over_place q r ≡ false)
     → IfOk r (λ r. IfOk (placed q o) (AreApart r))
 apart_from q (Ok r) o h = if_placed q o (AreApart r) (λ e. no_common q r (h e))
 apart_from q (Err f) o h = tt
 
-not_over : (q : Place) (ps : List Partition) → is_over_earlier q ps ≡ false → (k : ℕ) (d : Partition) → k < length ps
+pub not_over : (q : Place) (ps : List Partition) → is_over_earlier q ps ≡ false → (k : ℕ) (d : Partition) → k < length ps
     → is_over q (get_or ps k d) ≡ false
 not_over q ps h k d lt = false_from_ne_true (is_over q (get_or ps k d)) (λ over. let z = list_any_at (is_over q) ps k d lt over in absurd cc)
 

@@ -12,7 +12,7 @@ use Rattle.adf_blocks.specs.Forms.{text_at}
 use Rattle.adf_names.specs.declared.kind.Kind.{TheVariants.Ofs, TheVariants.Ffs, Kind}
 use Rattle.adf_partitions.specs.declared.layout.TheConstants.{BLOCK_BYTES, BLOCK_SECTORS, BOOT_PRIORITY, BOOTABLE, DOS_TYPE, DRIVE_NAME, ENV_BLOCK_WORDS}
 use Rattle.adf_partitions.specs.declared.layout.TheConstants.{ENV_LENGTH, FIRST_PART, FLAGS, HIGH_CYLINDER, HIGHEST_TABLE, LOW_CYLINDER, LOWEST_TABLE, MARK}
-use Rattle.adf_partitions.specs.declared.layout.TheConstants.{MOST_PARTITIONS, NEXT_PART, PART, RDSK, SUMMED_LONGS, SURFACES, TRACK_BLOCKS}
+use Rattle.adf_partitions.specs.declared.layout.TheConstants.{MOST_PARTITIONS, NEXT_PART, PART, RDSK, RESERVED, SUMMED_LONGS, SURFACES, TRACK_BLOCKS}
 use Rattle.adf_partitions.specs.declared.plan.PartitionPlan.{PartitionPlan}
 use Rattle.adf_partitions.specs.Partitions.{has_name, name_at}
 use Rattle.adf_partitions.specs.Places.{blocks_from, has_cylinders, place_of}
@@ -136,6 +136,11 @@ module _ (plan : PlanValue) (h : IsPlan plan) (b low : ℕ) (p : PartitionPlan) 
   part-sectors : word (part_block plan b low p) BLOCK_SECTORS ≡ 1
   unfolding part_block
   part-sectors = word_written (part_table plan b low p) part_descends ENV_LENGTH 4 (environment plan low p)
+      (search rules) (omega arith) (omega arith) (omega arith)
+
+  pub part-reserved : word (part_block plan b low p) RESERVED ≡ 2
+  unfolding part_block
+  part-reserved = word_written (part_table plan b low p) part_descends ENV_LENGTH 6 (environment plan low p)
       (search rules) (omega arith) (omega arith) (omega arith)
 
   part-track : word (part_block plan b low p) TRACK_BLOCKS ≡ plan.sectors

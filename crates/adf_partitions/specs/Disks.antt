@@ -1,26 +1,26 @@
 -- The list of a disk's partition blocks, and its first fault. `bytes` are the first bytes of the disk, n is the number of its
 -- blocks, t its tables; ps are the partitions found; a is the block that names block b.
-use Rattle.std.specs.Prelude.{◌≡◌, ◌≢◌, ◌≤◌, ◌+◌, ◌*◌, min, ℕ, ◌==◌, not, nat_lt, Bool, List, [], ◌∷◌, ◌++◌, Option, Some, None, length}
+use Rattle.std.specs.Prelude.{◌≡◌, ◌≢◌, ◌⊎◌, ℕ, ◌==◌, not, nat_lt, Bool, List, [], ◌∷◌, ◌++◌, Option, Some, None, length}
 use Rattle.std.specs.List.{list_any}
 use Rattle.adf_base.specs.Words.{block, word}
 use Rattle.adf_partitions.specs.declared.fault.DiskCause.TheVariants.{OutOfRange, Repeated, NotPartition, BadSum, TooMany}
 use Rattle.adf_partitions.specs.declared.fault.DiskFault.{DiskFault}
-use Rattle.adf_partitions.specs.declared.layout.TheConstants.{MARK, MOST_PARTITIONS, MOST_TABLES, NEXT_PART, NO_BLOCK, PART, RDSK_BLOCKS}
+use Rattle.adf_partitions.specs.declared.layout.TheConstants.{MARK, MOST_PARTITIONS, NEXT_PART, NO_BLOCK, PART}
 use Rattle.adf_partitions.specs.declared.partition.Partition.{Partition}
 use Rattle.adf_partitions.specs.declared.tables.Tables.{Tables}
 use Rattle.adf_partitions.specs.Faults.{disk_fault, first_failed}
 use Rattle.adf_partitions.specs.Partitions.{partition_of}
 use Rattle.adf_partitions.specs.Summed.{is_summed}
-use Rattle.adf_partitions.specs.Tables.{HasNoTables, IsTables, is_table}
+use Rattle.adf_partitions.specs.Tables.{HasNoTables, IsTables, may_be_table}
 
 -- whether block b is that of a partition
 abbrev pub is_at : ℕ → Partition → Bool
 is_at b partition = partition.block == b
 
 -- the tests of block b, which block a names, as the next partition block
-abbrev pub part_form : List ℕ → Tables → List Partition → ℕ → ℕ → List (Bool × DiskFault)
-part_form bytes t ps a b =
-    (is_table bytes t b, disk_fault a OutOfRange)
+abbrev pub part_form : List ℕ → List Partition → ℕ → ℕ → List (Bool × DiskFault)
+part_form bytes ps a b =
+    (may_be_table bytes b, disk_fault a OutOfRange)
     ∷ (not (list_any (is_at b) ps), disk_fault b Repeated)
     ∷ (word (block bytes b) MARK == PART, disk_fault b NotPartition)
     ∷ (is_summed (block bytes b), disk_fault b BadSum)
@@ -35,12 +35,12 @@ partition_at bytes n t ps b = partition_of n t ps b (block bytes b)
 -- rigid disk block, which names the first partition block; then each block that passes its tests, and names the next.
 pub data IsFound (bytes : List ℕ) (n : ℕ) (t : Tables) : List Partition → ℕ → ℕ → Type 0 where
   start : IsFound bytes n t [] t.rdsk t.first
-  step : {ps : List Partition} {a b : ℕ} → IsFound bytes n t ps a b → b ≢ NO_BLOCK → first_failed (part_form bytes t ps a b) ≡ None
+  step : {ps : List Partition} {a b : ℕ} → IsFound bytes n t ps a b → b ≢ NO_BLOCK → first_failed (part_form bytes ps a b) ≡ None
       → IsFound bytes n t (ps ++ partition_at bytes n t ps b ∷ []) b (word (block bytes b) NEXT_PART)
 
 -- the rigid disk block names a block, and that passes its tests as the first partition block
 abbrev pub NamesPartition : List ℕ → Tables → Type 0
-NamesPartition bytes t = (t.first ≢ NO_BLOCK) × (first_failed (part_form bytes t [] t.rdsk t.first) ≡ None)
+NamesPartition bytes t = (t.first ≢ NO_BLOCK) × (first_failed (part_form bytes [] t.rdsk t.first) ≡ None)
 
 -- these are all partitions of the list: its last block names none
 abbrev pub IsWhole : List ℕ → ℕ → Tables → List Partition → Type 0
@@ -57,7 +57,7 @@ pub record IsCut (bytes : List ℕ) (n : ℕ) (t : Tables) (ps : List Partition)
   pub next : ℕ
   pub found : IsFound bytes n t ps last next
   pub some : next ≢ NO_BLOCK
-  pub failed : first_failed (part_form bytes t ps last next) ≡ Some f
+  pub failed : first_failed (part_form bytes ps last next) ≡ Some f
 
 -- the partitions of a list, up to its end or its first fault
 abbrev pub IsFollowed : List ℕ → ℕ → Tables → List Partition → Option DiskFault → Type 0
@@ -73,6 +73,6 @@ pub data FirstFault (bytes : List ℕ) (n : ℕ) (f : DiskFault) : Type 0 where
   at_tables : HasNoTables bytes f → FirstFault bytes n f
   at_list : {t : Tables} → IsTables bytes t → IsListFault bytes n t f → FirstFault bytes n f
 
--- the bytes hold the blocks that may be the rigid disk block, and those that may have tables
-abbrev pub HoldsTables : List ℕ → Tables → Type 0
-HoldsTables bytes t = (RDSK_BLOCKS * 512 ≤ length bytes) × (min (t.highest + 1) MOST_TABLES * 512 ≤ length bytes)
+-- a disk has a list of partitions, or a first fault
+abbrev pub HasListOrFault : List ℕ → ℕ → Type 0
+HasListOrFault bytes n = ((t : Tables) × (ps : List Partition) × IsDisk bytes n t ps) ⊎ ((f : DiskFault) × FirstFault bytes n f)

@@ -4,9 +4,10 @@ use Rattle.std.specs.Fmt.{decimal}
 use Rattle.adf_partitions.specs.declared.fault.DiskCause.{DiskCause}
 use Rattle.adf_partitions.specs.declared.fault.DiskCause.TheVariants.{NoRigidDisk, BlockSize, OutOfRange, Repeated, NotPartition, BadSum, TooMany, NoMemory}
 use Rattle.adf_partitions.specs.declared.fault.DiskFault.{DiskFault}
+use Rattle.adf_partitions.specs.declared.field_fault.FieldFault.{FieldFault}
+use Rattle.adf_partitions.specs.declared.field_fault.FieldFault.TheVariants.{ShortEnvironment, OtherBlocks, BadName}
 use Rattle.adf_partitions.specs.declared.place.PlaceFault.{PlaceFault}
-use Rattle.adf_partitions.specs.declared.place.PlaceFault.TheVariants.{ShortEnvironment, OtherBlocks, NoCylinders, BeyondImage}
-use Rattle.adf_partitions.specs.declared.place.PlaceFault.TheVariants.{OverTables, OverPartition, BadName}
+use Rattle.adf_partitions.specs.declared.place.PlaceFault.TheVariants.{NoCylinders, BeyondImage, OverTables, OverPartition}
 use Rattle.adf_partitions.specs.declared.plan_text.TextFault.{TextFault}
 use Rattle.adf_partitions.specs.declared.plan_text.TextKind.{TextKind}
 use Rattle.adf_partitions.specs.declared.plan_text.TextKind.TheVariants.{BadLine, NoEnd, TooLarge, NoMemory as OutOfMemory}
@@ -26,15 +27,18 @@ disk_cause_text NoMemory = codes "no memory"
 abbrev pub disk_fault_text : DiskFault → List ℕ
 disk_fault_text f = codes "block " ++ (decimal f.block ++ (codes ": " ++ disk_cause_text f.cause))
 
--- what is wrong with one partition
+-- what is wrong with the place of a partition
 abbrev pub place_fault_text : PlaceFault → List ℕ
-place_fault_text ShortEnvironment = codes "short environment"
-place_fault_text OtherBlocks = codes "bad block size"
 place_fault_text NoCylinders = codes "bad cylinders"
 place_fault_text BeyondImage = codes "beyond image"
 place_fault_text OverTables = codes "over tables"
 place_fault_text OverPartition = codes "over partition"
-place_fault_text BadName = codes "bad name"
+
+-- what is wrong with its other fields
+abbrev pub field_fault_text : FieldFault → List ℕ
+field_fault_text ShortEnvironment = codes "short environment"
+field_fault_text OtherBlocks = codes "other block size"
+field_fault_text BadName = codes "bad name"
 
 -- the number of what is wrong with a disk; within one block the tests run in ascending order of these numbers
 abbrev pub disk_cause_number : DiskCause → ℕ
@@ -47,15 +51,18 @@ disk_cause_number BadSum = 6
 disk_cause_number TooMany = 7
 disk_cause_number NoMemory = 8
 
--- the number of what is wrong with one partition; the tests run in ascending order
+-- the number of what is wrong with the place of a partition; the tests run in ascending order
 abbrev pub place_fault_number : PlaceFault → ℕ
-place_fault_number ShortEnvironment = 1
-place_fault_number OtherBlocks = 2
 place_fault_number NoCylinders = 3
 place_fault_number BeyondImage = 4
 place_fault_number OverTables = 5
 place_fault_number OverPartition = 6
-place_fault_number BadName = 7
+
+-- the number of what is wrong with its other fields, none of which is that of a place; the tests run in ascending order
+abbrev pub field_fault_number : FieldFault → ℕ
+field_fault_number ShortEnvironment = 1
+field_fault_number OtherBlocks = 2
+field_fault_number BadName = 7
 
 -- what is wrong with the text of a plan
 abbrev pub text_kind_text : TextKind → List ℕ

@@ -6,11 +6,13 @@ use Rattle.std.specs.List.{list_all, list_any}
 use Rattle.adf_base.specs.Words.{word}
 use Rattle.adf_names.specs.Texts.{is_name_byte, uppers}
 use Rattle.adf_blocks.specs.Forms.{text_at}
-use Rattle.adf_partitions.specs.declared.layout.TheConstants.{BLOCK_SECTORS, BOOT_PRIORITY, DOS_TYPE, DRIVE_NAME, ENV_BLOCK_WORDS, ENV_LENGTH, FLAGS}
+use Rattle.adf_partitions.specs.declared.field_fault.FieldFault.{FieldFault}
+use Rattle.adf_partitions.specs.declared.field_fault.FieldFault.TheVariants.{ShortEnvironment, OtherBlocks, BadName}
+use Rattle.adf_partitions.specs.declared.layout.TheConstants.{BLOCK_SECTORS, BOOT_PRIORITY, DOS_TYPE, DRIVE_NAME, ENV_BLOCK_WORDS, ENV_LENGTH, FLAGS, RESERVED}
 use Rattle.adf_partitions.specs.declared.partition.Partition.{Partition}
 use Rattle.adf_partitions.specs.declared.place.Place.{Place}
 use Rattle.adf_partitions.specs.declared.place.PlaceFault.{PlaceFault}
-use Rattle.adf_partitions.specs.declared.place.PlaceFault.TheVariants.{ShortEnvironment, OtherBlocks, NoCylinders, BeyondImage, OverTables, OverPartition, BadName}
+use Rattle.adf_partitions.specs.declared.place.PlaceFault.TheVariants.{NoCylinders, BeyondImage, OverTables, OverPartition}
 use Rattle.adf_partitions.specs.declared.tables.Tables.{Tables}
 use Rattle.adf_partitions.specs.Faults.{first_failed}
 use Rattle.adf_partitions.specs.Places.{do_overlap, end_of, has_cylinders, is_over_tables, place_of}
@@ -36,15 +38,20 @@ is_over q other = is_over_place q other.place
 abbrev pub is_over_earlier : Place → List Partition → Bool
 is_over_earlier q earlier = list_any (is_over q) earlier
 
--- the tests of a partition alone
+-- the tests of a partition's place
 abbrev pub place_form : ℕ → Tables → List Partition → List ℕ → List (Bool × PlaceFault)
 place_form n t earlier p =
-    (nat_le 16 (word p ENV_LENGTH), ShortEnvironment)
-    ∷ ((word p ENV_BLOCK_WORDS == 128) && (word p BLOCK_SECTORS == 1), OtherBlocks)
-    ∷ (has_cylinders p, NoCylinders)
+    (has_cylinders p, NoCylinders)
     ∷ (nat_le (end_of (place_of p)) n, BeyondImage)
     ∷ (not (is_over_tables (place_of p) t), OverTables)
     ∷ (not (is_over_earlier (place_of p) earlier), OverPartition)
+    ∷ []
+
+-- the tests of its other fields, which do not move its place
+abbrev pub field_form : List ℕ → List (Bool × FieldFault)
+field_form p =
+    (nat_le 16 (word p ENV_LENGTH), ShortEnvironment)
+    ∷ ((word p ENV_BLOCK_WORDS == 128) && (word p BLOCK_SECTORS == 1), OtherBlocks)
     ∷ (has_name p, BadName)
     ∷ []
 
@@ -61,7 +68,9 @@ partition_of n t earlier b p = record {
   flags = word p FLAGS;
   priority = cast_signed w32 (word p BOOT_PRIORITY);
   dos_type = word p DOS_TYPE;
+  reserved = word p RESERVED;
   place = placed (place_of p) (first_failed (place_form n t earlier p));
+  fault = first_failed (field_form p);
 }
 
 -- whether a partition has this name, ignoring case

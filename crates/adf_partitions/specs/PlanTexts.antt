@@ -2,7 +2,7 @@
 -- line on, ps are partitions.
 use Rattle.std.specs.Prelude.{◌≡◌, ◌≢◌, ◌≤◌, ◌⊎◌, ◌+◌, ◌-◌, ◌*◌, ◌^◌, ◌==◌, ◌&&◌, ◌||◌, ℕ, ℤ, pos, neg_ℤ, nat_le, nat_lt, Bool, FitsSigned, true}
 use Rattle.std.specs.Prelude.{false, List, [], ◌∷◌, codes}
-use Rattle.std.specs.Prelude.{Option, Some, None, if◌then◌else◌, length}
+use Rattle.std.specs.Prelude.{Option, Some, None, if◌then◌else◌, length, slice_index}
 use Rattle.std.specs.Int.{w8}
 use Rattle.std.specs.List.{list_all}
 use Rattle.std.specs.Str.{bytes_eq}
@@ -36,9 +36,9 @@ first_word text = before 32 text
 abbrev pub behind_word : List ℕ → List ℕ
 behind_word text = behind 32 text
 
--- the first line of a text, and the text behind its line feed
+-- the first line of a text, no bytes if no line feed ends it, and the text behind its line feed
 abbrev pub first_line : List ℕ → List ℕ
-first_line text = before 10 text
+first_line text = if nat_lt (length (before 10 text)) (length text) then before 10 text else []
 
 abbrev pub behind_line : List ℕ → List ℕ
 behind_line text = behind 10 text
@@ -109,8 +109,13 @@ pub record IsPartitionText (text : List ℕ) (p : PartitionPlan) : Type 0 where
   pub size : 1 ≤ p.cylinders
   pub priority : FitsSigned w8 p.priority
 
--- partition NAME KIND CYLINDERS, and options
+-- whether a line ends in a space
+abbrev pub ends_in_space : List ℕ → Bool
+ends_in_space line = slice_index line (length line - 1) == 32
+
+-- partition NAME KIND CYLINDERS, and options, with nothing behind them
 pub record IsPartitionLine (line : List ℕ) (p : PartitionPlan) : Type 0 where
+  pub last : ends_in_space line ≡ false
   pub word : has_word (codes "partition") line ≡ true
   pub text : IsPartitionText (behind_word line) p
 

@@ -1,5 +1,5 @@
 -- Plans of hard disks. p is the plan of a partition, c the number of blocks of a cylinder, low a partition's lowest cylinder.
-use Rattle.std.specs.Prelude.{◌≡◌, ◌≤◌, ◌<◌, ◌+◌, ◌*◌, ◌/◌, ◌^◌, ℕ, true, List, [], ◌∷◌, All, IfOk, Ok, length, slice_range, FitsSigned, if◌then◌else◌}
+use Rattle.std.specs.Prelude.{◌≡◌, ◌≤◌, ◌<◌, ◌+◌, ◌*◌, ◌/◌, ◌^◌, ℕ, true, List, [], ◌∷◌, All, IfOk, None, Ok, length, slice_range, FitsSigned, if◌then◌else◌}
 use Rattle.std.specs.Int.{w8}
 use Rattle.std.specs.List.{list_all}
 use Rattle.adf_names.specs.Texts.{is_name_byte}
@@ -75,7 +75,9 @@ planned_partition c b low p = record {
   flags = planned_flags p;
   priority = p.priority;
   dos_type = planned_type p.kind;
+  reserved = 2;
   place = Ok (blocks_from (low * c) (p.cylinders * c));
+  fault = None;
 }
 
 -- the partitions from block b and cylinder `low` on, one behind the other

@@ -1,6 +1,6 @@
 -- The partitions of a disk that can be read though its tables have a fault. `bytes` are the first bytes of the disk, n is the
--- number of its blocks, t its tables, `kept` those whose blocks are searched; ps are partitions found before.
-use Rattle.std.specs.Prelude.{◌≢◌, ◌==◌, ◌&&◌, ◌-◌, ◌++◌, ℕ, zero, suc, not, nat_lt, Bool, List, [], ◌∷◌, length, if◌then◌else◌}
+-- number of its blocks, t its tables; ps are partitions found before.
+use Rattle.std.specs.Prelude.{◌≢◌, ◌==◌, ◌&&◌, ◌||◌, ◌++◌, ℕ, zero, suc, not, nat_lt, Bool, List, [], ◌∷◌, length, if◌then◌else◌}
 use Rattle.std.specs.List.{list_any}
 use Rattle.adf_base.specs.Words.{block, word}
 use Rattle.adf_partitions.specs.declared.fault.DiskFault.{DiskFault}
@@ -9,40 +9,43 @@ use Rattle.adf_partitions.specs.declared.partition.Partition.{Partition}
 use Rattle.adf_partitions.specs.declared.tables.Tables.{Tables}
 use Rattle.adf_partitions.specs.Disks.{IsCut, IsDisk, is_at, partition_at}
 use Rattle.adf_partitions.specs.Summed.{is_summed}
-use Rattle.adf_partitions.specs.Tables.{HasNoRdsk, IsRdsk, IsTables, is_table}
+use Rattle.adf_partitions.specs.Tables.{HasNoRdsk, IsRdsk, IsTables, is_kept, may_be_table}
 
 -- whether a block says that it is a partition block, with a sound sum
 abbrev pub is_part : List ℕ → Bool
 is_part p = (word p MARK == PART) && is_summed p
 
--- whether block b, kept for tables, is a partition block that these partitions do not have
+-- whether block b is searched: it is kept for the tables, or is one of those in which tables begin
+abbrev pub is_searched : List ℕ → Tables → ℕ → Bool
+is_searched bytes t b = (nat_lt b RDSK_BLOCKS || is_kept t b) && may_be_table bytes b
+
+-- whether block b, which is searched, is a partition block that these partitions do not have
 abbrev pub is_lost : List ℕ → Tables → List Partition → ℕ → Bool
-is_lost bytes kept ps b = is_table bytes kept b && is_part (block bytes b) && not (list_any (is_at b) ps) && nat_lt (length ps) MOST_PARTITIONS
+is_lost bytes t ps b = is_searched bytes t b && is_part (block bytes b) && not (list_any (is_at b) ps) && nat_lt (length ps) MOST_PARTITIONS
 
 -- the partitions, and that of block b if it is lost
-abbrev pub with_lost : List ℕ → ℕ → Tables → Tables → List Partition → ℕ → List Partition
-with_lost bytes n t kept ps b = if is_lost bytes kept ps b then ps ++ partition_at bytes n t ps b ∷ [] else ps
+abbrev pub with_lost : List ℕ → ℕ → Tables → List Partition → ℕ → List Partition
+with_lost bytes n t ps b = if is_lost bytes t ps b then ps ++ partition_at bytes n t ps b ∷ [] else ps
 
 -- the partitions, and those of the first k blocks that are lost, in the order of their blocks
-unfoldable pub with_all_lost : List ℕ → ℕ → Tables → Tables → List Partition → ℕ → List Partition
-with_all_lost bytes n t kept ps zero = ps
-with_all_lost bytes n t kept ps (suc k) = with_lost bytes n t kept (with_all_lost bytes n t kept ps k) k
+unfoldable pub with_all_lost : List ℕ → ℕ → Tables → List Partition → ℕ → List Partition
+with_all_lost bytes n t ps zero = ps
+with_all_lost bytes n t ps (suc k) = with_lost bytes n t (with_all_lost bytes n t ps k) k
 
--- tables without a rigid disk block, which keep the blocks up to this one
-abbrev pub kept_up_to : ℕ → Tables
-kept_up_to b = record { rdsk = 0; first = NO_BLOCK; lowest = 0; highest = b }
+-- no tables: without a rigid disk block, block 0 alone is kept
+abbrev pub no_tables : Tables
+no_tables = record { rdsk = 0; first = NO_BLOCK; lowest = 0; highest = 0 }
 
--- the partitions of lost blocks of a disk without a rigid disk block: in the blocks that may be one, of which a volume may have
--- all but block 0
+-- the partitions of lost blocks of a disk without a rigid disk block
 abbrev pub bare_partitions : List ℕ → ℕ → List Partition
-bare_partitions bytes n = with_all_lost bytes n (kept_up_to 0) (kept_up_to (RDSK_BLOCKS - 1)) [] MOST_TABLES
+bare_partitions bytes n = with_all_lost bytes n no_tables [] MOST_TABLES
 
 -- The partitions that can be read: all of the list; those before its first fault, then those of partition blocks that it does
 -- not come to; without a rigid disk block those of the first blocks; none if its blocks have another size.
 pub data AreReadable (bytes : List ℕ) (n : ℕ) : List Partition → Type 0 where
   whole : {t : Tables} {ps : List Partition} → IsDisk bytes n t ps → AreReadable bytes n ps
   cut : {t : Tables} {ps : List Partition} {f : DiskFault} → IsTables bytes t → IsCut bytes n t ps f
-      → AreReadable bytes n (with_all_lost bytes n t t ps MOST_TABLES)
+      → AreReadable bytes n (with_all_lost bytes n t ps MOST_TABLES)
   bare : HasNoRdsk bytes → AreReadable bytes n (bare_partitions bytes n)
   other : {b : ℕ} → IsRdsk bytes b → word (block bytes b) BLOCK_BYTES ≢ 512 → AreReadable bytes n []
 

@@ -1,16 +1,21 @@
 -- The rigid disk block, and the blocks kept for a disk's tables. The list is of the first bytes of the disk.
-use Rattle.std.specs.Prelude.{◌≡◌, ◌≢◌, ◌⊎◌, ◌<◌, ℕ, ◌==◌, ◌&&◌, nat_le, nat_lt, Bool, true, false, List}
+use Rattle.std.specs.Prelude.{◌≡◌, ◌≢◌, ◌⊎◌, ◌<◌, ℕ, ◌==◌, ◌&&◌, ◌||◌, not, nat_le, nat_lt, Bool, true, false, List}
 use Rattle.adf_base.specs.Words.{block, word}
 use Rattle.adf_partitions.specs.declared.fault.DiskCause.TheVariants.{NoRigidDisk, BlockSize}
 use Rattle.adf_partitions.specs.declared.fault.DiskFault.{DiskFault}
 use Rattle.adf_partitions.specs.declared.layout.TheConstants.{BLOCK_BYTES, FIRST_PART, HIGHEST_TABLE, LOWEST_TABLE, MARK, MOST_TABLES, RDSK, RDSK_BLOCKS}
+use Rattle.adf_partitions.specs.declared.layout.TheConstants.{SUMMED_LONGS}
 use Rattle.adf_partitions.specs.declared.tables.Tables.{Tables}
 use Rattle.adf_partitions.specs.Faults.{disk_fault}
 use Rattle.adf_partitions.specs.Summed.{holds, is_summed}
 
+-- whether a rigid disk block says that blocks have another size than 512 bytes, and has a sum over more words than such a block has
+abbrev pub is_larger : List ℕ → Bool
+is_larger p = nat_lt 128 (word p SUMMED_LONGS) && not (word p BLOCK_BYTES == 512)
+
 -- whether block b is a rigid disk block
 abbrev pub is_rdsk : List ℕ → ℕ → Bool
-is_rdsk bytes b = holds bytes b && (word (block bytes b) MARK == RDSK) && is_summed (block bytes b)
+is_rdsk bytes b = holds bytes b && (word (block bytes b) MARK == RDSK) && (is_summed (block bytes b) || is_larger (block bytes b))
 
 -- the rigid disk block of a disk: the first of those before block RDSK_BLOCKS
 pub record IsRdsk (bytes : List ℕ) (b : ℕ) : Type 0 where
@@ -43,6 +48,10 @@ HasNoTables bytes f =
     (HasNoRdsk bytes × (f ≡ disk_fault 0 NoRigidDisk))
     ⊎ (IsRdsk bytes f.block × (word (block bytes f.block) BLOCK_BYTES ≢ 512) × (f.cause ≡ BlockSize))
 
--- whether block b is kept for the tables, and the bytes hold it
-abbrev pub is_table : List ℕ → Tables → ℕ → Bool
-is_table bytes t b = nat_le t.lowest b && nat_le b t.highest && nat_lt b MOST_TABLES && holds bytes b
+-- whether block b may have a table, and the bytes hold it
+abbrev pub may_be_table : List ℕ → ℕ → Bool
+may_be_table bytes b = nat_lt b MOST_TABLES && holds bytes b
+
+-- whether block b is kept for the tables
+abbrev pub is_kept : Tables → ℕ → Bool
+is_kept t b = nat_le t.lowest b && nat_le b t.highest

@@ -1,6 +1,7 @@
 -- The volumes of a disk, each in its place.
-use Rattle.std.specs.Prelude.{◌≡◌, ◌≢◌, ◌<◌, ◌≤◌, ℕ, List, Option, None, Some, IfOk, ⊤}
+use Rattle.std.specs.Prelude.{◌≡◌, ◌≢◌, ◌<◌, ◌≤◌, ℕ, List, Option, None, Some, All, AllPairs, IfOk, length, ⊤}
 use Rattle.adf_base.specs.Words.{block}
+use Rattle.adf_partitions.specs.declared.layout.TheConstants.{MOST_PARTITIONS}
 use Rattle.adf_partitions.specs.declared.partition.Partition.{Partition}
 use Rattle.adf_partitions.specs.declared.place.Place.{Place}
 use Rattle.adf_partitions.specs.declared.tables.Tables.{Tables}
@@ -24,6 +25,26 @@ AreApart q r = (b : ℕ) → IsIn b q → IsIn b r → ⊥
 -- the volumes of two partitions have none, if both have a place
 abbrev pub VolumesAreApart : Partition → Partition → Type 0
 VolumesAreApart p other = IfOk p.place (λ q. IfOk other.place (AreApart q))
+
+-- a place has blocks, all within a disk of n blocks
+pub record LiesWithin (n : ℕ) (q : Place) : Type 0 where
+  pub some : 0 < q.blocks
+  pub within : end_of q ≤ n
+
+-- the volume of a partition does, if the partition has a place
+abbrev pub VolumeLiesWithin : ℕ → Partition → Type 0
+VolumeLiesWithin n p = IfOk p.place (LiesWithin n)
+
+-- two partitions have different blocks
+abbrev pub AreInOtherBlocks : Partition → Partition → Type 0
+AreInOtherBlocks p other = p.block ≢ other.block
+
+-- partitions of a disk of n blocks, at most 1,024, each in a block of its own, with volumes within the disk and apart
+pub record AreSeparate (n : ℕ) (ps : List Partition) : Type 0 where
+  pub few : length ps ≤ MOST_PARTITIONS
+  pub blocks : AllPairs AreInOtherBlocks ps
+  pub within : All (VolumeLiesWithin n) ps
+  pub apart : AllPairs VolumesAreApart ps
 
 -- a place is where block b says that a volume lies
 pub record IsStated (bytes : List ℕ) (n b : ℕ) (q : Place) : Type 0 where

@@ -23,10 +23,12 @@ planned_tables plan = record {
   highest = table_cylinders plan * cylinder_blocks plan - 1;
 }
 
--- the first words of the rigid disk block: 64 words have its sum, the host is 7, blocks have 512 bytes, and of the lists of blocks
--- that of the partitions alone has any
+-- the first words of the rigid disk block: 64 words have its sum, the host is 7, blocks have 512 bytes, and of all lists of blocks
+-- that of the partitions alone has any; words 11 to 15, which have no meaning yet, name no block either
 abbrev pub rdsk_words : PlanValue → List ℕ
-rdsk_words plan = RDSK ∷ WRITTEN_LONGS ∷ 0 ∷ 7 ∷ 512 ∷ 0 ∷ NO_BLOCK ∷ (planned_tables plan).first ∷ NO_BLOCK ∷ NO_BLOCK ∷ []
+rdsk_words plan =
+    RDSK ∷ WRITTEN_LONGS ∷ 0 ∷ 7 ∷ 512 ∷ 0 ∷ NO_BLOCK ∷ (planned_tables plan).first ∷ NO_BLOCK ∷ NO_BLOCK
+    ∷ NO_BLOCK ∷ NO_BLOCK ∷ NO_BLOCK ∷ NO_BLOCK ∷ NO_BLOCK ∷ NO_BLOCK ∷ []
 
 -- the drive: its cylinders, tracks and heads, interleave 1, and where the heads are parked
 abbrev pub drive_words : PlanValue → List ℕ
@@ -50,10 +52,10 @@ abbrev pub part_words : PlanValue → ℕ → PartitionPlan → List ℕ
 part_words plan b p = PART ∷ WRITTEN_LONGS ∷ 0 ∷ 7 ∷ block_after (length plan.partitions) b ∷ planned_flags p ∷ []
 
 -- the environment, behind its length: blocks of 128 words and one sector, 2 blocks reserved, the lowest and the highest cylinder,
--- 30 buffers, any transfer to any memory, the boot priority and the type
+-- 30 buffers, transfers of at most 255 blocks to any memory, the boot priority and the type
 abbrev pub environment : PlanValue → ℕ → PartitionPlan → List ℕ
 environment plan low p =
-    16 ∷ 128 ∷ 0 ∷ plan.heads ∷ 1 ∷ plan.sectors ∷ 2 ∷ 0 ∷ 0 ∷ low ∷ (low + p.cylinders - 1) ∷ 30 ∷ 0 ∷ 0x7FFFFFFF ∷ 0xFFFFFFFE
+    16 ∷ 128 ∷ 0 ∷ plan.heads ∷ 1 ∷ plan.sectors ∷ 2 ∷ 0 ∷ 0 ∷ low ∷ (low + p.cylinders - 1) ∷ 30 ∷ 0 ∷ 0x1FE00 ∷ 0xFFFFFFFE
     ∷ cast_unsigned w32 p.priority ∷ planned_type p.kind ∷ []
 
 -- the fields of a partition block and their offsets, the last first

@@ -24,9 +24,9 @@ pub struct Disk {
 }
 
 impl Disk {
-    /// Reads the partitions of a disk of so many blocks of 512 bytes, from its first bytes: the blocks 0 to 15, and those up
-    /// to `highest` of its `Tables` that are below 65,536. The whole disk may be given, to the same effect
-    /// (`tables_are_enough`).
+    /// Reads the partitions of a disk of so many blocks of 512 bytes, from its first bytes: the blocks below 65,536, or all of
+    /// them. The whole disk may be given, to the same effect (`first_blocks_are_enough`). Of fewer bytes a list that has no fault
+    /// is the same too (`tables_are_enough`); a list that leads past them is `OutOfRange`.
     ///
     /// The first fault: `NoRigidDisk`; `BlockSize`; then of each block that the list names, `OutOfRange`, `Repeated`,
     /// `NotPartition`, `BadSum` or `TooMany`. What is wrong with one partition alone is its `place`. `NoMemory` if an

@@ -1,11 +1,11 @@
 // The laws of disks. Each law is the contract of a function that does nothing at run time.
 
-ghost use Rattle.std.specs.Prelude.{◌≡◌, ◌≤◌, ◌*◌, ◌++◌, ◌↔◌, ℕ, List, length, find, take, All, AllPairs};
-ghost use Rattle.adf_partitions.specs.Disks.{FirstFault, HoldsTables, IsDisk};
+ghost use Rattle.std.specs.Prelude.{◌≡◌, ◌≤◌, ◌*◌, ◌++◌, ◌↔◌, ℕ, List, length, find, take, true, All, AllPairs};
+ghost use Rattle.adf_partitions.specs.Disks.{FirstFault, HasListOrFault, IsDisk};
 ghost use Rattle.adf_partitions.specs.Partitions.{is_named, partition_numbered};
-ghost use Rattle.adf_partitions.specs.Searches.{AreReadable};
+ghost use Rattle.adf_partitions.specs.Searches.{AreReadable, is_searched, no_tables};
 ghost use Rattle.adf_partitions.specs.Tables.{HasNoTables, IsTables};
-ghost use Rattle.adf_partitions.specs.Volumes.{FoundAlike, VolumeLiesWell, VolumesAreApart};
+ghost use Rattle.adf_partitions.specs.Volumes.{AreSeparate, FoundAlike, VolumeLiesWell, VolumesAreApart};
 ghost use Rattle.adf_partitions.specs.declared.layout.TheConstants.{MOST_TABLES, RDSK_BLOCKS};
 ghost use Rattle.adf_partitions.specs.declared.fault.DiskFault.{DiskFault};
 ghost use Rattle.adf_partitions.specs.declared.partition.Partition.{Partition};
@@ -31,6 +31,28 @@ pub fn one_disk_fault()
     ensures { (bytes : List ℕ) (n : ℕ) (f g : DiskFault) → FirstFault bytes n f → FirstFault bytes n g → f ≡ g }
 {}
 
+/// Every disk has a list of partitions or a first fault.
+pub fn some_disk()
+    ensures { (bytes : List ℕ) (n : ℕ) → HasListOrFault bytes n }
+{}
+
+#[tactic(auto, using(crate::proofs::SomeReadings::some_reading))]
+/// Every disk has a list of partitions that can be read, which may be empty.
+pub fn some_reading()
+    ensures { (bytes : List ℕ) (n : ℕ) → (ps : List Partition) × AreReadable bytes n ps }
+{}
+
+/// The partitions that can be read are at most 1,024, each in a block of its own, and their volumes lie within the disk and apart.
+pub fn readable_are_separate()
+    ensures { (bytes : List ℕ) (n : ℕ) (ps : List Partition) → AreReadable bytes n ps → AreSeparate n ps }
+{}
+
+/// Where tables have a fault, each block is searched that is searched without a rigid disk block.
+pub fn tables_hide_no_block()
+    ensures { (bytes : List ℕ) (t : Tables) (b : ℕ) → is_searched bytes no_tables b ≡ true
+        → is_searched bytes t b ≡ true }
+{}
+
 /// A disk has one list of partitions that can be read. If its tables have no fault these are all of its list.
 pub fn one_reading()
     ensures one { (bytes : List ℕ) (n : ℕ) (ps qs : List Partition) → AreReadable bytes n ps
@@ -39,18 +61,15 @@ pub fn one_reading()
         → AreReadable bytes n ps }
 {}
 
-#[tactic(auto, using(crate::proofs::TablesEnough::lack_tells))]
-/// The first bytes of a disk are enough if they hold the blocks 0 to 15 and those kept for the tables: what follows them
-/// changes nothing.
+/// The first bytes of a disk are enough for its tables if they hold the blocks 0 to 15, and for its partitions if they hold all
+/// of the list: what follows them changes nothing.
 pub fn tables_are_enough()
     ensures tables { (bytes rest : List ℕ) (t : Tables) → RDSK_BLOCKS * 512 ≤ length bytes
         → IsTables bytes t ↔ IsTables (bytes ++ rest) t }
     ensures none { (bytes rest : List ℕ) (f : DiskFault) → RDSK_BLOCKS * 512 ≤ length bytes
         → HasNoTables bytes f ↔ HasNoTables (bytes ++ rest) f }
-    ensures disk { (bytes rest : List ℕ) (n : ℕ) (t : Tables) (ps : List Partition) → HoldsTables bytes t
-        → IsDisk bytes n t ps ↔ IsDisk (bytes ++ rest) n t ps }
-    ensures fault { (bytes rest : List ℕ) (n : ℕ) (t : Tables) (f : DiskFault) → HoldsTables bytes t
-        → IsTables bytes t → FirstFault bytes n f ↔ FirstFault (bytes ++ rest) n f }
+    ensures disk { (bytes rest : List ℕ) (n : ℕ) (t : Tables) (ps : List Partition) → IsDisk bytes n t ps
+        → IsDisk (bytes ++ rest) n t ps }
 {}
 
 #[tactic(auto, using(crate::proofs::FirstBlocks::first_readable))]

@@ -9,7 +9,7 @@ pub const PART: u32 = 0x5041_5254;
 /// A rigid disk block is one of the blocks before this one.
 pub const RDSK_BLOCKS: u32 = 16;
 
-/// The tables lie before this block.
+/// Tables lie before this block.
 pub const MOST_TABLES: u32 = 65_536;
 
 /// The most partitions that are read.
@@ -74,6 +74,9 @@ pub const BLOCK_SECTORS: usize = 36;
 
 /// The word of a partition block with the blocks of a track.
 pub const TRACK_BLOCKS: usize = 37;
+
+/// The word of a partition block with the blocks before the first that its file system uses.
+pub const RESERVED: usize = 38;
 
 /// The word of a partition block with its lowest cylinder.
 pub const LOW_CYLINDER: usize = 41;

@@ -3,6 +3,7 @@
 
 mod disk;
 mod fault;
+mod field_fault;
 mod laws;
 mod layout;
 mod list;
@@ -20,14 +21,16 @@ mod tables_out;
 
 pub use crate::disk::Disk;
 pub use crate::fault::{DiskCause, DiskFault, disk_fault};
+pub use crate::field_fault::FieldFault;
 pub use crate::laws::{
     first_blocks_are_enough, length_moves_no_volume, no_fault_on_a_disk, one_disk, one_disk_fault,
-    one_reading, tables_are_enough, volumes_lie_apart,
+    one_reading, readable_are_separate, some_disk, some_reading, tables_are_enough,
+    tables_hide_no_block, volumes_lie_apart,
 };
 pub use crate::layout::{
     BLOCK_BYTES, BLOCK_SECTORS, BOOT_PRIORITY, BOOTABLE, DOS_TYPE, DRIVE_NAME, ENV_BLOCK_WORDS,
     ENV_LENGTH, FIRST_PART, FLAGS, HIGH_CYLINDER, HIGHEST_TABLE, LOW_CYLINDER, LOWEST_TABLE, MARK,
-    MOST_PARTITIONS, MOST_TABLES, NEXT_PART, NO_BLOCK, NO_MOUNT, PART, RDSK, RDSK_BLOCKS,
+    MOST_PARTITIONS, MOST_TABLES, NEXT_PART, NO_BLOCK, NO_MOUNT, PART, RDSK, RDSK_BLOCKS, RESERVED,
     SUMMED_LONGS, SURFACES, TRACK_BLOCKS,
 };
 pub use crate::partition::{DriveName, Partition};

@@ -10,7 +10,7 @@ use crate::fault::{DiskCause, DiskFault, disk_fault};
 use crate::layout::{MARK, MOST_PARTITIONS, NEXT_PART, NO_BLOCK, PART};
 use crate::partition::{Partition, partition_of};
 use crate::summed::is_summed;
-use crate::tables::{Tables, is_table};
+use crate::tables::{Tables, may_be_table};
 use adf_base::Block;
 use std::alloc::{AllocError, Global};
 
@@ -24,18 +24,17 @@ pub fn is_found(earlier: &[Partition], b: u32) -> bool
 // The partition block `b`, which `holder` names, after the earlier ones.
 fn read_part<'a>(
     bytes: &'a [u8],
-    tables: Tables,
     earlier: &[Partition],
     holder: u32,
     b: u32,
 ) -> Result<Block<'a>, DiskFault>
     ensures form { MatchResult result
-        (λ p. (first_failed (part_form bytes.now tables earlier.now holder b) ≡ None)
+        (λ p. (first_failed (part_form bytes.now earlier.now holder b) ≡ None)
         × (p ≡ block bytes.now b))
-        (λ f. first_failed (part_form bytes.now tables earlier.now holder b) ≡ Some f) }
+        (λ f. first_failed (part_form bytes.now earlier.now holder b) ≡ Some f) }
     ensures few { OnOk result (length earlier.now < MOST_PARTITIONS) }
 {
-    if !is_table(bytes, tables, b) {
+    if !may_be_table(bytes, b) {
         return Err(disk_fault(holder, DiskCause::OutOfRange));
     }
     if is_found(earlier, b) {
@@ -75,7 +74,7 @@ pub fn follow_list(
     let mut holder = tables.rdsk;
     let mut next = tables.first;
     while next != NO_BLOCK {
-        let part = match read_part(bytes, tables, &found, holder, next) {
+        let part = match read_part(bytes, &found, holder, next) {
             Ok(part) => part,
             Err(fault) => {
                 return Ok(Followed {

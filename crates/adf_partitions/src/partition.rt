@@ -4,11 +4,13 @@ ghost use Rattle.std.specs.Prelude.{◌≡◌};
 ghost use Rattle.std.specs.List.{list_all, list_any};
 ghost use Rattle.adf_names.specs.Texts.{is_name_byte};
 ghost use Rattle.adf_partitions.specs.Faults.{first_failed};
-ghost use Rattle.adf_partitions.specs.Partitions.{has_name, is_over, is_over_earlier, name_at, partition_of, place_form, placed};
+ghost use Rattle.adf_partitions.specs.Partitions.{field_form, has_name, is_over, is_over_earlier, name_at, partition_of, place_form, placed};
 ghost use Rattle.adf_partitions.specs.Places.{place_of};
 
+use crate::field_fault::FieldFault;
 use crate::layout::{
     BLOCK_SECTORS, BOOT_PRIORITY, DOS_TYPE, DRIVE_NAME, ENV_BLOCK_WORDS, ENV_LENGTH, FLAGS,
+    RESERVED,
 };
 use crate::place::{Place, PlaceFault, do_overlap, has_cylinders, is_over_tables, place_within};
 use crate::tables::Tables;
@@ -31,8 +33,12 @@ pub struct Partition {
     pub priority: i32,
     /// The type of the file system, four bytes, the first one the highest: word 48.
     pub dos_type: u32,
-    /// Where the volume lies, or what is wrong with the partition.
+    /// The blocks of the volume before the first that its file system uses, of `DOS` volumes 2 as a rule: word 38.
+    pub reserved: u32,
+    /// Where the volume lies, or why it has no place.
     pub place: Result<Place, PlaceFault>,
+    /// What is wrong with the other fields, if something is. The place stands all the same.
+    pub fault: Option<FieldFault>,
 }
 
 // The drive's name in a partition block.
@@ -85,12 +91,6 @@ fn place_in(
     ensures { result ≡ placed (place_of p.now)
         (first_failed (place_form blocks tables earlier.now p.now)) }
 {
-    if p.word(ENV_LENGTH) < 16 {
-        return Err(PlaceFault::ShortEnvironment);
-    }
-    if p.word(ENV_BLOCK_WORDS) != 128 || p.word(BLOCK_SECTORS) != 1 {
-        return Err(PlaceFault::OtherBlocks);
-    }
     if !has_cylinders(p) {
         return Err(PlaceFault::NoCylinders);
     }
@@ -103,10 +103,23 @@ fn place_in(
     if is_over_earlier(place, earlier) {
         return Err(PlaceFault::OverPartition);
     }
-    if !has_name(p) {
-        return Err(PlaceFault::BadName);
-    }
     Ok(place)
+}
+
+// What is wrong with the other fields of a partition block.
+fn field_fault(p: &Block<'_>) -> Option<FieldFault>
+    ensures { result ≡ first_failed (field_form p.now) }
+{
+    if p.word(ENV_LENGTH) < 16 {
+        return Some(FieldFault::ShortEnvironment);
+    }
+    if p.word(ENV_BLOCK_WORDS) != 128 || p.word(BLOCK_SECTORS) != 1 {
+        return Some(FieldFault::OtherBlocks);
+    }
+    if !has_name(p) {
+        return Some(FieldFault::BadName);
+    }
+    None
 }
 
 /// The partition of a partition block, after earlier partitions, on a disk of so many blocks.
@@ -125,6 +138,8 @@ pub fn partition_of(
         flags: p.word(FLAGS),
         priority: p.word(BOOT_PRIORITY).cast_signed(),
         dos_type: p.word(DOS_TYPE),
+        reserved: p.word(RESERVED),
         place: place_in(p, tables, blocks, earlier),
+        fault: field_fault(p),
     }
 }

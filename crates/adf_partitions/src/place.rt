@@ -20,13 +20,9 @@ pub struct Place {
     pub blocks: u64,
 }
 
-/// What is wrong with one partition. The tests run in the order given.
+/// What is wrong with the place of a partition. The tests run in the order given.
 #[derive(Clone, Copy, Debug, PartialEq, Eq)]
 pub enum PlaceFault {
-    /// The environment has fewer than 16 words, so that it lacks the type: word 32.
-    ShortEnvironment = 1,
-    /// A block has not 128 words, or not one sector: words 33 and 36.
-    OtherBlocks = 2,
     /// The highest cylinder is below the lowest, or a cylinder has no blocks: words 41 and 42, 35 and 37.
     NoCylinders = 3,
     /// The volume ends beyond the image.
@@ -35,12 +31,10 @@ pub enum PlaceFault {
     OverTables = 5,
     /// The volume has a block of an earlier partition that has a place.
     OverPartition = 6,
-    /// The drive's name is empty, longer than 31 bytes, or has `/` or `:`.
-    BadName = 7,
 }
 
 impl PlaceFault {
-    /// The number of the fault, 1 to 7.
+    /// The number of the fault, 3 to 6.
     pub fn number(self) -> u8
         ensures { result ≡ place_fault_number self }
     {
@@ -52,13 +46,10 @@ impl PlaceFault {
         ensures { result.now ≡ place_fault_text self }
     {
         match self {
-            PlaceFault::ShortEnvironment => "short environment",
-            PlaceFault::OtherBlocks => "bad block size",
             PlaceFault::NoCylinders => "bad cylinders",
             PlaceFault::BeyondImage => "beyond image",
             PlaceFault::OverTables => "over tables",
             PlaceFault::OverPartition => "over partition",
-            PlaceFault::BadName => "bad name",
         }
     }
 }

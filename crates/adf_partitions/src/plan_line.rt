@@ -11,7 +11,7 @@ ghost use Rattle.adf_partitions.specs.declared.plan.PartitionPlan.{PartitionPlan
 
 use crate::partition::{DriveName, are_name_bytes};
 use crate::plan::PartitionPlan;
-use crate::plan_words::{cut, read_number, read_priority};
+use crate::plan_words::{cut, ends_in_space, read_number, read_priority};
 use adf_names::Kind;
 
 /// What stands behind the cylinders of a partition.
@@ -133,6 +133,9 @@ pub fn read_partition(line: &[u8]) -> Option<PartitionPlan>
     ensures some { IfSome result (λ p. IsPartitionLine line.now p) }
     ensures none { IfNone result ((p : PlanOfPartition) → ¬ IsPartitionLine line.now p) }
 {
+    if ends_in_space(line) {
+        return None;
+    }
     let (has, rest) = take_word(line, b"partition");
     if has { read_words(rest) } else { None }
 }

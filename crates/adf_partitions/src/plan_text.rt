@@ -13,7 +13,7 @@ ghost use Rattle.adf_partitions.specs.declared.plan_text.TextKind.{TextKind};
 use crate::layout::MOST_PARTITIONS;
 use crate::plan::{DiskPlan, PartitionPlan};
 use crate::plan_line::{read_disk, read_partition};
-use crate::plan_words::cut;
+use crate::plan_words::cut_line;
 use adf_blocks::MOST_BLOCKS;
 use std::alloc::{AllocError, Global};
 use std::fmt;
@@ -100,7 +100,7 @@ fn read_lines(alloc: Global, text: &[u8]) -> Result<(Vec<PartitionPlan>, &[u8]),
     let mut partitions = Vec::new(alloc);
     let mut left = text;
     loop {
-        let (line, rest) = cut(left, b'\n');
+        let (line, rest) = cut_line(left);
         match read_partition(line) {
             Some(partition) => partitions.push(partition)?,
             None => return Ok((partitions, left)),
@@ -168,7 +168,7 @@ pub fn is_plan(plan: &DiskPlan) -> bool
     is_small(plan, cylinder) && have_volumes(&plan.partitions, cylinder)
 }
 
-/// Reads the text of a plan: a line `disk SECTORS HEADS`, a line `partition NAME KIND CYLINDERS` for each partition, perhaps with
+/// Reads the text of a plan, whose lines end in a line feed, with one space between their words: a line `disk SECTORS HEADS`, a line `partition NAME KIND CYLINDERS` for each partition, perhaps with
 /// `bootable`, `priority P` and `given` behind it in this order, and a line `end`. Returns the plan, and the bytes behind the text.
 /// A number is at most 1,048,576, P is -128 to 127.
 ///
@@ -183,7 +183,7 @@ pub fn read_plan(alloc: Global, text: &[u8]) -> Result<(DiskPlan, &[u8]), TextFa
     // Memory is wanted only for the lines of partitions.
     ensures begun { IfErr result (λ f. f.kind ≡ TextKind.NoMemory → HasBegun text.now) }
 {
-    let (line, rest) = cut(text, b'\n');
+    let (line, rest) = cut_line(text);
     let Some((sectors, heads)) = read_disk(line) else {
         return Err(fault_at(1, TextKind::BadLine));
     };
@@ -199,7 +199,7 @@ pub fn read_plan(alloc: Global, text: &[u8]) -> Result<(DiskPlan, &[u8]), TextFa
     if end.is_empty() {
         return Err(fault_at(number, TextKind::NoEnd));
     }
-    let (word, rest) = cut(end, b'\n');
+    let (word, rest) = cut_line(end);
     if !is_end(word) {
         return Err(fault_at(number, TextKind::BadLine));
     }

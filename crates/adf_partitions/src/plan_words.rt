@@ -1,7 +1,7 @@
 // The words of a plan's text.
 
 ghost use Rattle.std.specs.Prelude.{◌≡◌, Some};
-ghost use Rattle.adf_partitions.specs.PlanTexts.{before, behind, number_of, priority_down, priority_of, priority_up};
+ghost use Rattle.adf_partitions.specs.PlanTexts.{before, behind, behind_line, ends_in_space, first_line, number_of, priority_down, priority_of, priority_up};
 
 /// The largest number of a text.
 pub const MOST_NUMBER: u32 = 1_048_576;
@@ -18,6 +18,26 @@ pub fn cut(text: &[u8], byte: u8) -> (&[u8], &[u8])
         }
     }
     (text, &text[text.len()..])
+}
+
+/// The first line of a text, no bytes if no line feed ends it, and the text behind its line feed.
+pub fn cut_line(text: &[u8]) -> (&[u8], &[u8])
+    ensures line { result.0.now ≡ first_line text.now }
+    ensures rest { result.1.now ≡ behind_line text.now }
+{
+    let (line, rest) = cut(text, b'\n');
+    if line.len() < text.len() {
+        (line, rest)
+    } else {
+        (&text[..0], rest)
+    }
+}
+
+/// Whether a line ends in a space.
+pub fn ends_in_space(line: &[u8]) -> bool
+    ensures { result ≡ ends_in_space line.now }
+{
+    !line.is_empty() && line[line.len() - 1] == b' '
 }
 
 #[tactic(auto, using(crate::proofs::Cuts::no_room, crate::proofs::Cuts::digit_read, crate::proofs::Cuts::number_done))]

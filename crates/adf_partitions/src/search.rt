@@ -2,7 +2,7 @@
 
 ghost use Rattle.std.specs.Prelude.{◌≡◌, ◌≢◌, [], IfOk, OnErr};
 ghost use Rattle.adf_partitions.specs.Searches.{AreReadable, HasReadable, bare_partitions, is_lost, is_part};
-ghost use Rattle.adf_partitions.specs.Searches.{kept_up_to, with_all_lost};
+ghost use Rattle.adf_partitions.specs.Searches.{is_searched, with_all_lost};
 ghost use Rattle.adf_partitions.specs.Tables.{IsTables};
 ghost use Rattle.adf_partitions.specs.declared.layout.TheConstants.{MOST_TABLES};
 
@@ -11,7 +11,7 @@ use crate::layout::{MARK, MOST_PARTITIONS, MOST_TABLES, NO_BLOCK, PART, RDSK_BLO
 use crate::list::{follow_list, is_found};
 use crate::partition::{Partition, partition_of};
 use crate::summed::is_summed;
-use crate::tables::{Tables, is_table, read_tables};
+use crate::tables::{Tables, is_kept, may_be_table, read_tables};
 use adf_base::Block;
 use std::alloc::{AllocError, Global};
 
@@ -22,32 +22,38 @@ fn is_part(part: &Block<'_>) -> bool
     part.word(MARK) == PART && is_summed(part)
 }
 
-// Whether a block kept for the tables is a partition block that these partitions do not have.
-fn is_lost(bytes: &[u8], kept: Tables, found: &[Partition], b: u32) -> bool
-    ensures { result ≡ is_lost bytes.now kept found.now b }
+// Whether a block is searched: it is kept for the tables, or is one of those in which tables begin.
+fn is_searched(bytes: &[u8], tables: Tables, b: u32) -> bool
+    ensures { result ≡ is_searched bytes.now tables b }
 {
-    is_table(bytes, kept, b)
+    (b < RDSK_BLOCKS || is_kept(tables, b)) && may_be_table(bytes, b)
+}
+
+// Whether a block that is searched is a partition block that these partitions do not have.
+fn is_lost(bytes: &[u8], tables: Tables, found: &[Partition], b: u32) -> bool
+    ensures { result ≡ is_lost bytes.now tables found.now b }
+{
+    is_searched(bytes, tables, b)
         && is_part(&Block::at(bytes, b).unwrap())
         && !is_found(found, b)
         && found.len() < MOST_PARTITIONS
 }
 
-// The partitions, and those of all blocks of the tables `kept` that are lost.
+// The partitions, and those of all blocks that are lost.
 fn with_all_lost(
     bytes: &[u8],
     blocks: u64,
     tables: Tables,
-    kept: Tables,
     partitions: Vec<Partition>,
 ) -> Result<Vec<Partition>, AllocError>
     ensures all { IfOk result (λ v. v.items
-        ≡ with_all_lost bytes.now blocks tables kept partitions.items MOST_TABLES) }
+        ≡ with_all_lost bytes.now blocks tables partitions.items MOST_TABLES) }
     ensures begun { OnErr result (
-        with_all_lost bytes.now blocks tables kept partitions.items MOST_TABLES ≢ []) }
+        with_all_lost bytes.now blocks tables partitions.items MOST_TABLES ≢ []) }
 {
     let mut found = partitions;
     for b in 0..MOST_TABLES {
-        if is_lost(bytes, kept, &found, b) {
+        if is_lost(bytes, tables, &found, b) {
             let part = Block::at(bytes, b).unwrap();
             let partition = partition_of(b, &part, tables, blocks, &found);
             found.push(partition)?;
@@ -56,25 +62,20 @@ fn with_all_lost(
     Ok(found)
 }
 
-// Tables without a rigid disk block, which keep the blocks up to this one.
-fn kept_up_to(highest: u32) -> Tables
-    ensures { result ≡ kept_up_to highest }
-{
-    Tables {
-        rdsk: 0,
-        first: NO_BLOCK,
-        lowest: 0,
-        highest,
-    }
-}
+/// No tables: without a rigid disk block, block 0 alone is kept.
+const NO_TABLES: Tables = Tables {
+    rdsk: 0,
+    first: NO_BLOCK,
+    lowest: 0,
+    highest: 0,
+};
 
 // The partitions of lost blocks of a disk without a rigid disk block.
 fn bare_partitions(alloc: Global, bytes: &[u8], blocks: u64) -> Result<Vec<Partition>, AllocError>
     ensures all { IfOk result (λ v. v.items ≡ bare_partitions bytes.now blocks) }
     ensures begun { OnErr result (bare_partitions bytes.now blocks ≢ []) }
 {
-    let kept = kept_up_to(RDSK_BLOCKS - 1);
-    with_all_lost(bytes, blocks, kept_up_to(0), kept, Vec::new(alloc))
+    with_all_lost(bytes, blocks, NO_TABLES, Vec::new(alloc))
 }
 
 // The partitions of a disk with these tables that can be read.
@@ -91,15 +92,15 @@ fn readable_by(
     let list = follow_list(alloc, bytes, tables, blocks)?;
     match list.fault {
         None => Ok(list.partitions),
-        Some(_) => with_all_lost(bytes, blocks, tables, tables, list.partitions),
+        Some(_) => with_all_lost(bytes, blocks, tables, list.partitions),
     }
 }
 
 /// The partitions that can be read of a disk of so many blocks of 512 bytes, from its first bytes (as of `Disk::open`): all of
-/// its list; where the list has a fault, those before it, and those of each partition block with a sound sum among the blocks
-/// kept for the tables that the list does not come to, in the order of the blocks, 1,024 in all at most. Of a disk without a
-/// rigid disk block the blocks 0 to 15 are searched, and only block 0 counts as kept. If its blocks have another size than 512
-/// bytes there are none. `AllocError` if an allocation fails, which can happen only if a partition can be read.
+/// its list; where the list has a fault, those before it, and those of each partition block with a sound sum among the blocks 0
+/// to 15 and those kept for the tables that the list does not come to, in the order of the blocks, 1,024 in all at most. Of a disk
+/// without a rigid disk block only block 0 counts as kept. If its blocks have another size than 512 bytes there are none.
+/// `AllocError` if an allocation fails, which can happen only if a partition can be read.
 pub fn readable_partitions(
     alloc: Global,
     bytes: &[u8],

@@ -2,11 +2,12 @@
 
 ghost use Rattle.std.specs.Prelude.{◌≡◌, ◌≤◌, ◌+◌, ◌*◌, length, IfErr, IfNone, IfOk, IfSome};
 ghost use Rattle.adf_base.specs.Words.{block};
-ghost use Rattle.adf_partitions.specs.Tables.{HasNoRdsk, HasNoTables, IsRdsk, IsTables, is_rdsk, is_table, tables_at};
+ghost use Rattle.adf_partitions.specs.Tables.{HasNoRdsk, HasNoTables, IsRdsk, IsTables, is_kept, is_larger, is_rdsk, may_be_table, tables_at};
 
 use crate::fault::{DiskCause, DiskFault, disk_fault};
 use crate::layout::{
     BLOCK_BYTES, FIRST_PART, HIGHEST_TABLE, LOWEST_TABLE, MARK, MOST_TABLES, RDSK, RDSK_BLOCKS,
+    SUMMED_LONGS,
 };
 use crate::summed::{holds, is_summed};
 use adf_base::Block;
@@ -24,12 +25,19 @@ pub struct Tables {
     pub highest: u32,
 }
 
+// Whether a rigid disk block says that blocks have another size than 512 bytes, and has a sum over more words than such a block has.
+fn is_larger(block: &Block<'_>) -> bool
+    ensures { result ≡ is_larger block.now }
+{
+    block.word(SUMMED_LONGS) > 128 && block.word(BLOCK_BYTES) != 512
+}
+
 // Whether a block is a rigid disk block.
 fn is_rdsk(bytes: &[u8], b: u32) -> bool
     ensures { result ≡ is_rdsk bytes.now b }
 {
     match Block::at(bytes, b) {
-        Some(block) => block.word(MARK) == RDSK && is_summed(&block),
+        Some(block) => block.word(MARK) == RDSK && (is_summed(&block) || is_larger(&block)),
         None => false,
     }
 }
@@ -70,9 +78,16 @@ pub fn read_tables(bytes: &[u8]) -> Result<Tables, DiskFault>
     })
 }
 
-/// Whether a block is kept for the tables, and the bytes hold it.
-pub fn is_table(bytes: &[u8], tables: Tables, b: u32) -> bool
-    ensures { result ≡ is_table bytes.now tables b }
+/// Whether a block may have a table, and the bytes hold it.
+pub fn may_be_table(bytes: &[u8], b: u32) -> bool
+    ensures { result ≡ may_be_table bytes.now b }
 {
-    tables.lowest <= b && b <= tables.highest && b < MOST_TABLES && holds(bytes, b)
+    b < MOST_TABLES && holds(bytes, b)
+}
+
+/// Whether a block is kept for the tables.
+pub fn is_kept(tables: Tables, b: u32) -> bool
+    ensures { result ≡ is_kept tables b }
+{
+    tables.lowest <= b && b <= tables.highest
 }

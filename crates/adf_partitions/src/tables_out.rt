@@ -52,6 +52,12 @@ fn rdsk_bytes(plan: &DiskPlan) -> [u8; 512]
             first,
             NO_BLOCK,
             NO_BLOCK,
+            NO_BLOCK,
+            NO_BLOCK,
+            NO_BLOCK,
+            NO_BLOCK,
+            NO_BLOCK,
+            NO_BLOCK,
         ],
     );
     put_words(
@@ -122,7 +128,7 @@ fn part_bytes(plan: &DiskPlan, b: u32, low: u32, partition: &PartitionPlan) -> [
             high,
             30,
             0,
-            0x7FFF_FFFF,
+            0x0001_FE00,
             0xFFFF_FFFE,
             priority,
             dos_type,

@@ -129,10 +129,60 @@ const LINES: &[(&str, Change<'static>, u8, &str, &str)] = &[
         "",
     ),
     (
+        "list",
+        (2, &[(9, 0x0344_3A30)]),
+        0,
+        "1 D\\x3a0: ffs first 8 blocks 32 flags 1 priority -5 bad name\n2 DH1: PFS\\x03 first 40 blocks 40 flags 2 priority 3\n",
+        "",
+    ),
+    (
+        "list",
+        (1, &[(32, 11), (41, 4)]),
+        0,
+        "1 DH0: ffs first 8 blocks 32 flags 1 priority -5\n2 DH1: PFS\\x03 over partition flags 2 priority 3 short environment\n",
+        "",
+    ),
+    (
+        "list",
+        (1, &[(36, 2)]),
+        0,
+        "1 DH0: ffs first 8 blocks 32 flags 1 priority -5\n2 DH1: PFS\\x03 first 40 blocks 40 flags 2 priority 3 other block size\n",
+        "",
+    ),
+    (
+        "check",
+        (2, &[(9, 0x0344_3A30)]),
+        1,
+        "D\\x3a0: bad name\nDH1: type PFS\\x03\n",
+        "",
+    ),
+    (
         "check",
         (2, &[(9, 0x0344_3A30), (48, 0x444F_5306)]),
         1,
-        "D\\x3a0: bad name\nDH1: type PFS\\x03\n",
+        "D\\x3a0: type DOS\\x06\nDH1: type PFS\\x03\n",
+        "",
+    ),
+    (
+        "check",
+        (2, &[(36, 2), (38, 1)]),
+        1,
+        "DH0: other block size\nDH1: type PFS\\x03\n",
+        "",
+    ),
+    (
+        "check",
+        (2, &[(38, 1)]),
+        1,
+        "DH0: reserved 1\nDH1: type PFS\\x03\n",
+        "",
+    ),
+    // DH0 has 9 blocks: 3 cylinders of 3 from block 9 on.
+    (
+        "check",
+        (2, &[(35, 1), (37, 3), (41, 3), (42, 5)]),
+        1,
+        "DH0: odd blocks\nDH1: type PFS\\x03\n",
         "",
     ),
     (
@@ -142,7 +192,13 @@ const LINES: &[(&str, Change<'static>, u8, &str, &str)] = &[
         "DH0: ok ffs blocks 32 used 2 free 28 dirs 0 files 0\nDH1: block 0: not dos\n",
         "",
     ),
-    ("check", (2, &[(4, 4)]), 1, "block 2: out of range\n", ""),
+    (
+        "check",
+        (2, &[(4, 65_536)]),
+        1,
+        "block 2: out of range\n",
+        "",
+    ),
     (
         "survey",
         NONE,
@@ -154,9 +210,17 @@ const LINES: &[(&str, Change<'static>, u8, &str, &str)] = &[
     ("survey", (2, &[(4, 0xFFFF_FFFF)]), 0, DH0_LISTED, ""),
     (
         "survey",
-        (2, &[(4, 4)]),
+        (2, &[(4, 65_536)]),
         1,
         "block 2: out of range\n1 DH0: ffs first 8 blocks 32 flags 1 priority -5\n2 DH1: PFS\\x03 first 40 blocks 40 flags 2 priority 3\n",
+        "",
+    ),
+    // The blocks 0 to 15 are searched besides those that the rigid disk block keeps.
+    (
+        "survey",
+        (0, &[(7, 65_536), (32, 3), (33, 3)]),
+        1,
+        "block 0: out of range\n1 DH1: PFS\\x03 first 40 blocks 40 flags 2 priority 3\n2 DH0: ffs first 8 blocks 32 flags 1 priority -5\n",
         "",
     ),
     (
@@ -240,6 +304,10 @@ fn volumes_are_written(rt: HostRuntime) -> Result<(), Fail> {
     let wanted = (0, empty.as_slice(), "");
     for name in ["1", "DH0", "dh0"] {
         assert!(rt; answers(rt.alloc(), &["adf-disk", "volume", name], NONE, wanted)?);
+    }
+    for change in [(2, [(32, 0)]), (2, [(36, 2)]), (2, [(38, 1)])] {
+        let words = ["adf-disk", "volume", "DH0"];
+        assert!(rt; answers(rt.alloc(), &words, (change.0, &change.1), wanted)?);
     }
     for (name, change, errors) in REFUSED {
         let words = ["adf-disk", "volume", *name];

@@ -5,7 +5,10 @@ ghost use Rattle.std.specs.Prelude.{length};
 
 use adf_base::{seal, set_word};
 use adf_memory::{TableDisk, TablePartition, put_disk};
-use adf_partitions::{Disk, DiskCause, DiskFault, Partition, Place, PlaceFault, disk_fault};
+use adf_partitions::{
+    Disk, DiskCause, DiskFault, FieldFault, Partition, Place, PlaceFault, disk_fault, read_plan,
+    write_tables,
+};
 use std::alloc::{AllocError, Global};
 use std::test::Fail;
 
@@ -188,14 +191,26 @@ fn partitions_are_read(rt: HostRuntime) -> Result<(), Fail> {
     Ok(())
 }
 
+// Lists are followed wherever they lead, though the rigid disk block keeps no block for tables, or another one.
+#[test]
+fn lists_lead_anywhere(rt: HostRuntime) -> Result<(), Fail> {
+    for words in [[(32, 0), (33, 0)], [(32, 3), (33, 3)], [(32, 9), (33, 0)]] {
+        let disk = Disk::open(rt.alloc(), &changed(0, &words), 80)?;
+        assert_eq!(rt; disk.partitions.len(), 2);
+    }
+    Ok(())
+}
+
 // A change, and the block and the cause of the first fault.
 const FAULTS: &[(u32, &[(usize, u32)], u32, DiskCause)] = &[
     (0, &[(0, 0)], 0, DiskCause::NoRigidDisk),
     (0, &[(1, 129)], 0, DiskCause::NoRigidDisk),
     (0, &[(1, 0)], 0, DiskCause::NoRigidDisk),
+    (0, &[(1, 256)], 0, DiskCause::NoRigidDisk),
     (0, &[(4, 1024)], 0, DiskCause::BlockSize),
+    (0, &[(1, 256), (4, 1024)], 0, DiskCause::BlockSize),
     (0, &[(7, 4)], 0, DiskCause::OutOfRange),
-    (0, &[(32, 3)], 0, DiskCause::OutOfRange),
+    (0, &[(7, 65_536)], 0, DiskCause::OutOfRange),
     (2, &[(4, 4)], 2, DiskCause::OutOfRange),
     (2, &[(4, 2)], 2, DiskCause::Repeated),
     (1, &[(4, 2)], 2, DiskCause::Repeated),
@@ -220,9 +235,7 @@ const PLACES: &[(
     Result<Place, PlaceFault>,
 )] = &[
     (0, &[], PLACE_0, PLACE_1),
-    (2, &[(32, 15)], Err(PlaceFault::ShortEnvironment), PLACE_1),
-    (2, &[(33, 256)], Err(PlaceFault::OtherBlocks), PLACE_1),
-    (2, &[(36, 2)], Err(PlaceFault::OtherBlocks), PLACE_1),
+    (2, &[(32, 0), (33, 256), (36, 2)], PLACE_0, PLACE_1),
     (2, &[(41, 5)], Err(PlaceFault::NoCylinders), PLACE_1),
     (2, &[(35, 0)], Err(PlaceFault::NoCylinders), PLACE_1),
     (1, &[(42, 10)], PLACE_0, Err(PlaceFault::BeyondImage)),
@@ -234,9 +247,7 @@ const PLACES: &[(
     ),
     (2, &[(41, 0)], Err(PlaceFault::OverTables), PLACE_1),
     (1, &[(41, 4)], PLACE_0, Err(PlaceFault::OverPartition)),
-    (2, &[(9, 0x0044_4830)], Err(PlaceFault::BadName), PLACE_1),
-    (2, &[(9, 0x2044_4830)], Err(PlaceFault::BadName), PLACE_1),
-    (2, &[(9, 0x0344_3A30)], Err(PlaceFault::BadName), PLACE_1),
+    (2, &[(9, 0x0044_4830)], PLACE_0, PLACE_1),
 ];
 
 #[test]
@@ -244,6 +255,54 @@ fn places_are_told(rt: HostRuntime) {
     for (b, words, one, two) in PLACES {
         assert!(rt; places_of(rt.alloc(), *b, words) == Some((*one, *two)));
     }
+}
+
+// A change of DH0, and what is wrong with its other fields.
+const FIELDS: &[(&[(usize, u32)], Option<FieldFault>)] = &[
+    (&[], None),
+    (&[(32, 15)], Some(FieldFault::ShortEnvironment)),
+    (&[(33, 256)], Some(FieldFault::OtherBlocks)),
+    (&[(36, 2)], Some(FieldFault::OtherBlocks)),
+    (&[(9, 0x0044_4830)], Some(FieldFault::BadName)),
+    (&[(9, 0x2044_4830)], Some(FieldFault::BadName)),
+    (&[(9, 0x0344_3A30)], Some(FieldFault::BadName)),
+    (&[(32, 15), (36, 2)], Some(FieldFault::ShortEnvironment)),
+];
+
+// They move no place.
+#[test]
+fn other_fields_are_told(rt: HostRuntime) -> Result<(), Fail> {
+    for (words, fault) in FIELDS {
+        let disk = Disk::open(rt.alloc(), &changed(2, words), 80)?;
+        let one = disk.numbered(1).expect(&rt, "DH0");
+        assert!(rt; one.fault == *fault);
+        assert!(rt; one.place == PLACE_0);
+    }
+    Ok(())
+}
+
+// Words of the blocks 0 and 1 of a planned disk: the lists that have no blocks, and the largest transfer.
+const WRITTEN: &[(usize, u32)] = &[
+    (6, NONE),
+    (8, NONE),
+    (9, NONE),
+    (10, NONE),
+    (11, NONE),
+    (15, NONE),
+    (128 + 45, 0x0001_FE00),
+];
+
+#[test]
+fn tables_name_no_other_lists(rt: HostRuntime) -> Result<(), Fail> {
+    let (plan, _rest) = read_plan(rt.alloc(), b"disk 4 2\npartition A ofs 1\nend\n").expect(
+        &rt, "plan",
+    );
+    let tables = write_tables(rt.alloc(), &plan)?;
+    for (i, value) in WRITTEN {
+        let word = &tables[4 * *i..4 * *i + 4];
+        assert!(rt; word == value.to_be_bytes().as_slice());
+    }
+    Ok(())
 }
 
 // The sum is that of the first 64 words alone, and of a block that was changed without a new sum it is not 0.
@@ -352,6 +411,11 @@ fn partitions_are_put_in_a_table(rt: HostRuntime) {
         (1, -5, 0x444F_5301, 0)
     );
     assert_eq!(rt; (row.name_length, &row.name[..4]), (3, b"DH0\0".as_slice()));
+
+    // Other fields of DH0 do not move its place.
+    let (row, disk) = indexed(&rt, 2, &[(36, 2)], 80);
+    assert_eq!(rt; disk, (2, 0, 0));
+    assert_eq!(rt; (row.first, row.blocks, row.fault), (8, 32, 2));
 
     // DH0 ends beyond a disk of 39 blocks.
     let (row, disk) = indexed(&rt, 0, &[], 39);

@@ -10,5 +10,5 @@ pub returns-in_err-push-in-Some-clause-begun : goal.returns-in_err-push-in-Some-
 returns-in_err-push-in-Some-clause-begun c =
     let left = c.loop-partition.left.now in
     let p = c.in-Some.partition in
-    let is : IsPartitionLine (first_line left) p = rw c.cut.ensures.front at c.in-Some.ensures.some in
+    let is : IsPartitionLine (first_line left) p = rw c.cut_line.ensures.line at c.in-Some.ensures.some in
     on_err c.from_residual.result (first_of_lines c.args.text.now left c.loop-partition.partitions.items p c.loop-partition.invariant is)

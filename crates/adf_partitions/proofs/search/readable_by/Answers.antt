@@ -29,5 +29,5 @@ returns-in-Some-clause-begun c =
     let ps = c.in_ok-list.list.partitions.items in
     let follows = IsFollowed c.args.bytes.now c.args.blocks t ps in
     let stands = cut c.requires (subst follows c.in-Some.is c.in_ok-list.ensures.followed) in
-    let all = with_all_lost c.args.bytes.now c.args.blocks t t ps MOST_TABLES in
+    let all = with_all_lost c.args.bytes.now c.args.blocks t ps MOST_TABLES in
     on_err_weaker c.with_all_lost.result (λ some. (all, stands, some)) c.with_all_lost.ensures.begun

@@ -6,7 +6,7 @@ use Rattle.adf_partitions.proofs.search.with_all_lost.Goals.{then-is_lost+in_ok-
 use Rattle.adf_partitions.proofs.search.with_all_lost.Goals as goal
 
 pub loop-b-init : goal.loop-b-init
-loop-b-init c = none_searched c.args.bytes.now c.args.blocks c.args.tables c.args.kept c.args.partitions.items
+loop-b-init c = none_searched c.args.bytes.now c.args.blocks c.args.tables c.args.partitions.items
 
 pub loop-b-preserved : goal.loop-b-preserved
 loop-b-preserved c = grind (arith, common_steps, then-is_lost+in_ok-push, put_lost, put_none)

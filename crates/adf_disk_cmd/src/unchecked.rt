@@ -1,0 +1,73 @@
+// Why a volume is not checked.
+
+ghost use Rattle.std.specs.Prelude.{◌≡◌, ◌<◌, ◌*◌, ◌++◌, List, ℕ, codes, length, string_bytes, IfOk};
+ghost use Rattle.adf_blocks.specs.declared.layout.TheConstants.{MOST_BLOCKS};
+ghost use Rattle.adf_cmd.specs.Answers.{Answer};
+ghost use Rattle.adf_disk_cmd.specs.Checks.{unchecked_text, why_unchecked};
+ghost use Rattle.adf_disk_cmd.specs.declared.unchecked.Unchecked.{Unchecked};
+ghost use Rattle.adf_runs.specs.Commands.{on_output};
+ghost use Rattle.adf_words.specs.CommandLine.{check};
+
+use crate::types::{bytes_text, is_checked};
+use adf_blocks::MOST_BLOCKS;
+use adf_partitions::{FieldFault, Partition, Place};
+use std::alloc::{AllocError, Global};
+
+/// Why the volume of a partition is not checked. The tests run in the order given.
+#[derive(Clone, Copy)]
+pub enum Unchecked {
+    /// Its file system has this type.
+    OtherType(u32),
+    /// Something is wrong with the fields of the partition.
+    Fields(FieldFault),
+    /// So many blocks are reserved, where a volume that is read has 2.
+    Reserved(u32),
+    /// It has an odd number of blocks.
+    OddBlocks,
+    /// It has more blocks than a volume that is read.
+    BadSize,
+}
+
+/// Why the volume of a partition at a place is not checked; `None` if it is.
+pub fn why_unchecked(partition: &Partition, place: Place) -> Option<Unchecked>
+    ensures { result ≡ why_unchecked partition.now place }
+{
+    if !is_checked(partition.dos_type) {
+        return Some(Unchecked::OtherType(partition.dos_type));
+    }
+    if let Some(fault) = partition.fault {
+        return Some(Unchecked::Fields(fault));
+    }
+    if partition.reserved != 2 {
+        return Some(Unchecked::Reserved(partition.reserved));
+    }
+    if place.blocks % 2 != 0 {
+        return Some(Unchecked::OddBlocks);
+    }
+    if place.blocks > u64::from(MOST_BLOCKS) {
+        return Some(Unchecked::BadSize);
+    }
+    None
+}
+
+/// The text that tells why. That of `BadSize` is what `adf check` writes (`large_volumes_are_refused`).
+pub fn unchecked_text(alloc: Global, why: Unchecked) -> Result<String, AllocError>
+    ensures { IfOk result (λ text. string_bytes text ≡ unchecked_text why) }
+{
+    match why {
+        Unchecked::OtherType(dos_type) => {
+            let kind = bytes_text(alloc, dos_type)?;
+            format!(in alloc; "type {kind}")
+        }
+        Unchecked::Fields(fault) => format!(in alloc; "{fault}"),
+        Unchecked::Reserved(blocks) => format!(in alloc; "reserved {blocks}"),
+        Unchecked::OddBlocks => format!(in alloc; "odd blocks"),
+        Unchecked::BadSize => format!(in alloc; "block 0: bad size"),
+    }
+}
+
+/// `adf check` answers to a volume of more blocks than one that is read what is told of it.
+pub fn large_volumes_are_refused()
+    ensures { (volume : List ℕ) → 512 * MOST_BLOCKS < length volume
+        → Answer check volume (on_output 1 (unchecked_text Unchecked.BadSize ++ codes "\n")) }
+{}
