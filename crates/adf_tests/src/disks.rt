@@ -3,7 +3,7 @@
 
 ghost use Rattle.std.specs.Prelude.{length};
 
-use adf_base::{seal, set_word};
+use adf_base::{Block, seal, set_word};
 use adf_memory::{TableDisk, TablePartition, put_disk};
 use adf_partitions::{
     Disk, DiskCause, DiskFault, FieldFault, Partition, Place, PlaceFault, disk_fault, read_plan,
@@ -281,26 +281,30 @@ fn other_fields_are_told(rt: HostRuntime) -> Result<(), Fail> {
     Ok(())
 }
 
-// Words of the blocks 0 and 1 of a planned disk: the lists that have no blocks, and the largest transfer.
-const WRITTEN: &[(usize, u32)] = &[
-    (6, NONE),
-    (8, NONE),
-    (9, NONE),
-    (10, NONE),
-    (11, NONE),
-    (15, NONE),
-    (128 + 45, 0x0001_FE00),
+// A block and a word of a planned disk: the lists that have no blocks, and the largest transfer.
+const WRITTEN: &[(u32, usize, u32)] = &[
+    (0, 6, NONE),
+    (0, 8, NONE),
+    (0, 9, NONE),
+    (0, 10, NONE),
+    (0, 11, NONE),
+    (0, 12, NONE),
+    (0, 13, NONE),
+    (0, 14, NONE),
+    (0, 15, NONE),
+    (1, 45, 0x0001_FE00),
 ];
 
 #[test]
 fn tables_name_no_other_lists(rt: HostRuntime) -> Result<(), Fail> {
-    let (plan, _rest) = read_plan(rt.alloc(), b"disk 4 2\npartition A ofs 1\nend\n").expect(
-        &rt, "plan",
-    );
+    let text = b"disk 4 2\npartition A ofs 1\nend\n";
+    let (plan, _rest) = read_plan(rt.alloc(), text).expect(&rt, "a plan");
     let tables = write_tables(rt.alloc(), &plan)?;
-    for (i, value) in WRITTEN {
-        let word = &tables[4 * *i..4 * *i + 4];
-        assert!(rt; word == value.to_be_bytes().as_slice());
+    for (b, i, value) in WRITTEN {
+        let block = Block::at(&tables, *b).expect(&rt, "a block");
+        if *i < 128 {
+            assert_eq!(rt; block.word(*i), *value);
+        }
     }
     Ok(())
 }
