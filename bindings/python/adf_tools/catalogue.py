@@ -7,10 +7,10 @@ import contextlib
 import os
 import sqlite3
 import sys
-from typing import Iterator
+from typing import Callable, Dict, Iterator, Tuple
 
 import adf
-from adf_tools import database, known, store, tables, trees
+from adf_tools import database, find, known, store, tables, trees
 from adf_tools.lists import INDEX
 from adf_tools.pages import count_of
 from adf_tools.program import FAILED, REFUSED, WORKING, add_escape, begin, command_line, host_text
@@ -97,9 +97,15 @@ def work(words: argparse.Namespace) -> int:
         return ended(connection, os.path.join(words.out, INDEX))
 
 
+COMMANDS: Dict[str, Tuple[Callable[[], argparse.ArgumentParser], Callable[[argparse.Namespace], int]]] = {
+    "find": (find.line, find.checked),
+}
+
+
 def catalogue_line() -> argparse.ArgumentParser:
     does = "Keeps a database of the images in a folder, and pages for a browser: an index, and one for each image."
-    line = command_line("adf-catalogue", does)
+    more = "Other commands: adf-catalogue find, with -h. A folder with such a name is written ./find."
+    line = command_line("adf-catalogue", does, more)
     line.add_argument("folder", metavar="FOLDER", help="the images, in all folders below: *.adf, *.hdf, files that begin with DOS, also in .zip, .gz, .adz")
     line.add_argument("out", metavar="OUT", help="the catalogue, which is created or brought up to date; its index is index.html")
     line.add_argument("--tsv", action="store_true", help="also write the tables images.tsv and entries.tsv, which later runs keep up to date")
@@ -112,6 +118,9 @@ def catalogue_line() -> argparse.ArgumentParser:
 
 
 def main() -> None:
+    if len(sys.argv) > 1 and sys.argv[1] in COMMANDS:
+        line, does = COMMANDS[sys.argv.pop(1)]
+        begin(line(), does)
     begin(catalogue_line(), work)
 
 
