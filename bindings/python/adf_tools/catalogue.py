@@ -10,7 +10,7 @@ import sys
 from typing import Callable, Dict, Iterator, Tuple
 
 import adf
-from adf_tools import compare, database, find, known, store, tables, trees
+from adf_tools import compare, database, find, known, merge, store, tables, trees
 from adf_tools.lists import INDEX
 from adf_tools.pages import count_of
 from adf_tools.program import FAILED, REFUSED, WORKING, add_escape, begin, command_line, host_text
@@ -97,15 +97,26 @@ def work(words: argparse.Namespace) -> int:
         return ended(connection, os.path.join(words.out, INDEX))
 
 
+def merged(words: argparse.Namespace) -> int:
+    """Puts parts that were read on several machines into a catalogue."""
+    with merge.opened_parts(words.parts) as parts, folder_for(words.out) as is_new:
+        with database.opened(os.path.join(words.out, database.NAME), is_new) as connection:
+            merge.Merge(connection, parts).update()
+            write_pages(connection, words.out, words)
+            return ended(connection, os.path.join(words.out, INDEX))
+
+
 COMMANDS: Dict[str, Tuple[Callable[[], argparse.ArgumentParser], Callable[[argparse.Namespace], int]]] = {
     "find": (find.line, find.checked),
     "compare": (compare.line, compare.work),
+    "scan": (merge.scan_line, merge.scan),
+    "merge": (merge.merge_line, merged),
 }
 
 
 def catalogue_line() -> argparse.ArgumentParser:
     does = "Keeps a database of the images in a folder, and pages for a browser: an index, and one for each image."
-    more = "Other commands: adf-catalogue find, compare, each with -h. A folder with such a name is written ./find."
+    more = "Other commands: adf-catalogue find, compare, scan, merge, each with -h. A folder with such a name is written ./find."
     line = command_line("adf-catalogue", does, more)
     line.add_argument("folder", metavar="FOLDER", help="the images, in all folders below: *.adf, *.hdf, files that begin with DOS, also in .zip, .gz, .adz")
     line.add_argument("out", metavar="OUT", help="the catalogue, which is created or brought up to date; its index is index.html")
