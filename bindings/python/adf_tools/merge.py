@@ -115,13 +115,12 @@ class Merge:
     def update(self) -> None:
         facts = checked(self.parts)
         known = self.begun(facts)
-        names: Dict[str, None] = {}
-        for _, part in self.parts:
-            files = part.execute("SELECT * FROM files ORDER BY path").fetchall()
-            names.update(dict.fromkeys(row["path"] for row in files))
-            new = [row for row in files if known.get(row["path"], (0, None))[1] != stamp_of(row) or row["size"] is None]
-            for at in range(0, len(new), FILES):
-                self.add(part, known, new[at : at + FILES])
+        files = [(row["path"], part, row) for _, part in self.parts for row in part.execute("SELECT * FROM files")]
+        files.sort(key=lambda file: file[0])
+        new = [file for file in files if known.get(file[0], (0, None))[1] != stamp_of(file[2]) or file[2]["size"] is None]
+        for at in range(0, len(new), FILES):
+            self.add(known, new[at : at + FILES])
+        names = {path for path, _, _ in files}
         with transaction(self.connection):
             gone = [number for path, (number, _) in known.items() if path not in names]
             for number in gone:
@@ -139,12 +138,12 @@ class Merge:
             self.run = self.connection.execute(line, (f"adf-catalogue merge {adf.__version__}",)).lastrowid or 0
         return {row["path"]: (row["id"], stamp_of(row)) for row in self.connection.execute("SELECT * FROM files")}
 
-    def add(self, part: sqlite3.Connection, known: Dict[str, Tuple[int, Any]], files: Sequence[sqlite3.Row]) -> None:
+    def add(self, known: Dict[str, Tuple[int, Any]], files: Sequence[Tuple[str, sqlite3.Connection, sqlite3.Row]]) -> None:
         with transaction(self.connection):
-            for row in files:
-                if row["path"] in known:
-                    store.remove(self.connection, known[row["path"]][0])
-                store.add(self.connection, row["path"], stamp_of(row), self.run, records_of(part, row["id"]))
+            for path, part, row in files:
+                if path in known:
+                    store.remove(self.connection, known[path][0])
+                store.add(self.connection, path, stamp_of(row), self.run, records_of(part, row["id"]))
             self.connection.execute("UPDATE runs SET read = read + ? WHERE id = ?", (len(files), self.run))
 
 
