@@ -9,8 +9,9 @@ from typing import Iterator, List
 
 from adf_tools.advice import GROUPS, TITLES, Advice
 from adf_tools.image_pages import is_page
-from adf_tools.pages import cell, count_of, day, page, paragraph, shown, table
+from adf_tools.pages import cell, count_of, day, link, page, paragraph, shown, table
 from adf_tools.scripts import SCRIPT, SEARCHING
+from adf_tools.twice import NAME as TWICE
 
 INDEX = "index.html"
 LIST_NAME = re.compile(r"(index|list-[a-z-]+)(-[0-9]+)?\.html")
@@ -67,7 +68,7 @@ class Lists:
         rows = [group_row(group, self.counts[group.name]) for group in GROUPS if self.counts.get(group.name)]
         counts = paragraph(f"{count_of(whole, 'image')}, {sound} sound")
         groups = table("What to do", ("Images", "Count", "What to do"), rows) if rows else ""
-        return counts + groups + self.known_table() + SEARCH
+        return counts + groups + self.known_table() + paragraph(link(TWICE, "What is there twice")) + SEARCH
 
     def listed(self, name: str, title: str, front: str, where: str, advice: str) -> Iterator[tuple[str, str]]:
         """The pages of one list, the last first."""

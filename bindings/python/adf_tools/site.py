@@ -11,7 +11,7 @@ import sqlite3
 from typing import Iterator, List, Optional, Sequence, Set
 
 import adf
-from adf_tools import database, search, tables
+from adf_tools import database, search, tables, twice
 from adf_tools.database import transaction
 from adf_tools.image_pages import ALSO, ImagePage, is_page
 from adf_tools.lists import Lists, is_list
@@ -21,6 +21,7 @@ from adf_tools.program import Progress
 from adf_tools.reader import FOLDER
 from adf_tools.scan import sum_of
 from adf_tools.trees import named
+from adf_tools.twice import Twice
 
 PAGES, MEMORY = 50, 256 << 20  # of a piece of work, and what it takes
 NEW = ".new"  # how files end that are being written
@@ -170,6 +171,7 @@ class Site:
     def write_lists(self) -> List[str]:
         """Writes the pages of lists, the index last; gives their names."""
         names = []
+        write_file(self.out, twice.NAME, Twice(self.connection).html().encode("utf-8"))
         (title,) = self.connection.execute("SELECT value FROM facts WHERE name = 'title'").fetchone()
         for name, page in Lists(self.connection, title).pages():
             write_file(self.out, name, page.encode("utf-8"))

@@ -131,7 +131,8 @@ class Index(Folder):
     def test_finds_names_and_sums_of_files(self):
         browser, places = self.browser, "[...document.querySelectorAll('#places li')].map(line => line.innerText)"
         readme = [f"{name}: c/readme" for name in ("a\\x09b\\x5cc.adf", "b.adf", "bad_sum.adf")]
-        for text, told in (("c readme", "3 found"), ("READ \xdcbel", "3 found"), ("script alert", "1 found"), ("b\xfccher", "3 found"), ("nothing at all", "0 found"), ("\\ < \" '", "")):
+        asked = (("c readme", "3 found"), ("READ \xdcbel", "3 found"), ("script alert", "1 found"), ("b\xfccher", "3 found"))
+        for text, told in (*asked, ("nothing at all", "0 found"), ("\\ < \" '", "")):
             browser.open("about:blank")
             browser.open(f"{self.address}#find={urllib.parse.quote(text)}")
             self.until("told.textContent", told)

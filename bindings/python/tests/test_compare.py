@@ -6,7 +6,7 @@ import zipfile
 
 from tests.samples import BAD, OFS, Asked, disk, volume
 from tests.shared import written
-from tests.test_catalogue import pages_of
+from tests.test_catalogue import Page, pages_of
 
 
 class Twice(Asked):
@@ -34,6 +34,16 @@ class Twice(Asked):
         rows = self.asked("out", "SELECT GROUP_CONCAT(name) FROM (SELECT * FROM images ORDER BY name) WHERE tree IS NOT NULL GROUP BY tree")
         self.assertEqual(sorted(rows), [("a.zip/B\xfc.adf",), ("free.adf,later.adf,one.adf",), ("games/copy.adf,tools.adf",), ("other.adf",)])
         self.assertIn("The same files", [page.text for page in pages_of("out") if "<h1 class=\"text\">one" in page.text][0])
+
+    def test_has_a_page_of_what_is_there_twice(self):
+        with open("disks/tools.adf", "rb") as file:
+            written("disks/free.adf", file.read()[:-512] + b"\1" * 512)
+        self.catalogue("disks", "out", status=1)
+        page = Page("out/twice.html")
+        same, files, many = (text.count("<tr>") - 1 for text in page.text.split("<caption>")[1:])
+        self.assertEqual((same, files, many), (1, 1, 2))
+        self.assertIn(f"index.html#find={self.sum}", page.links)
+        self.assertIn("twice.html", Page("out/index.html").links)
 
     def test_compares_by_path_and_then_by_block(self):
         one = volume(("a", b"abc"), ("d/b", b"same"), ("gone", b"old"), ("x", b"1"), dirs=["d"])

@@ -64,7 +64,7 @@ class Large(Catalogues):
             written(f"disks/{number:02}.adf", volume((f"file{number}", b"x")) if number == 7 else BAD)
         line = "from adf_tools import catalogue, lists; lists.MOST_IMAGES = 10; catalogue.main()"
         self.run_python("-c", line, "disks", "out")
-        names = sorted(name for name in os.listdir("out") if name.endswith(".html"))
+        names = sorted(name for name in os.listdir("out") if name.endswith(".html") and name != "twice.html")
         lists = [f"{name}{number}.html" for name in ("index", "list-read-again") for number in ("-2", "-3", "")]
         self.assertEqual(names, lists)
         counts = [Page(f"out/{name}").text.split('id="images"')[1].count("<tr>") - 1 for name in ("index.html", "index-2.html", "index-3.html")]
@@ -73,7 +73,7 @@ class Large(Catalogues):
         for number in range(10, 23):
             os.remove(f"disks/{number:02}.adf")
         self.run_python("-c", line, "disks", "out")
-        self.assertEqual(sorted(name for name in os.listdir("out") if name.endswith(".html")), ["index.html", "list-read-again.html"])
+        self.assertEqual(sorted(name for name in os.listdir("out") if name.endswith(".html")), ["index.html", "list-read-again.html", "twice.html"])
 
     def test_has_parts_to_search(self):
         os.mkdir("disks")
