@@ -83,7 +83,8 @@ class Scan:
 
     def __init__(self, connection: sqlite3.Connection, folder: bytes, out: str, own: Container[Identity], options: Options) -> None:
         self.connection, self.folder, self.out, self.options = connection, folder, out, options
-        paths = ((path, os.path.relpath(path, folder)) for path in files_below(folder, own))
+        begin = os.path.join(folder, b"")
+        paths = ((path, path[len(begin) :] if path.startswith(begin) else b".") for path in files_below(folder, own))
         self.files = [File(path, host_letters(name), store.stamp_of(path)) for path, name in paths if options.part.has(name)]
 
     def update(self) -> None:
