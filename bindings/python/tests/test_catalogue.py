@@ -605,6 +605,12 @@ class Databases(Catalogues):
             with open(path, encoding="utf-8") as file:
                 self.assertNotRegex(file.read(), "<img|<b>|<script>[^\n]")
 
+    def test_takes_any_name_for_its_folder(self):
+        for name in (b"o?mode=memory", b"#x%41", b"\xff\xfe", "\u00fc ".encode(), b"a\nb"):
+            self.catalogue("disks", name, status=1)
+            self.assertTrue(os.path.isfile(name + b"/collection.sqlite"))
+            self.assertEqual(self.run_tool("catalogue", "find", "readme", name).stdout.count(b"c/readme"), 3)
+
     def test_waits_for_a_program_that_asks(self):
         self.catalogue("disks", "out", status=1)
         with contextlib.closing(sqlite3.connect("out/collection.sqlite", isolation_level=None)) as connection:
