@@ -40,13 +40,23 @@ def image_at(path: bytes) -> bytes:
     while not os.path.isfile(file) and os.path.dirname(file) not in (file, b""):
         file = os.path.dirname(file)
         rest = path[len(file) :]
-    images = [image for image in images_in(file, file) if not rest or (image.name + b"/").startswith(path + b"/") or path.startswith(image.name + b"/")]
-    if len(images) != 1:
-        stop(FAILED, f"{host_text(path)}: {'no image' if not images else 'more than one image'} has this name")
-    (image,) = images
+    image = only(images_in(file, file), path, bool(rest))
     if image.fault:
         stop(FAILED, f"{host_text(path)}: {image.fault}")
     return content_at(image, path)
+
+
+def only(images: Iterator[Image], path: bytes, is_inside: bool) -> Image:
+    """The one image that has this name, or that of a file which it is inside; others are not kept."""
+    found = None
+    for image in images:
+        if not is_inside or path == image.name or path.startswith(image.name + b"/"):
+            if found is not None:
+                stop(FAILED, f"{host_text(path)}: more than one image has this name")
+            found = image
+    if found is None:
+        stop(FAILED, f"{host_text(path)}: no image has this name")
+    return found
 
 
 def content_at(image: Image, path: bytes) -> bytes:

@@ -29,7 +29,7 @@ BY_FILE_SUM = f"SELECT {FIELDS} FROM entries JOIN images ON images.id = image WH
 
 def query_of(words: Sequence[str]) -> str:
     """The query for what has a word that begins with each of these; any text is a word."""
-    quoted = (word.replace('"', '""').replace("\0", "") for word in words)
+    quoted = (word.encode("utf-8", "replace").decode().replace('"', '""') for word in words)
     return " ".join(f'"{word}"*' for word in quoted)
 
 

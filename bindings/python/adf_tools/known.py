@@ -12,7 +12,7 @@ from adf_tools.database import transaction
 from adf_tools.names import host_letters
 from adf_tools.program import FAILED, host_text, stop
 
-MOST_BYTES, MOST_DISKS, MOST_TEXT, PART = 1 << 30, 5_000_000, 1024, 1 << 20
+MOST_BYTES, MOST_DISKS, MOST_TEXT, MOST_TAG, PART = 1 << 30, 5_000_000, 1024, 4 << 20, 1 << 20
 SUMS = {"crc": (8, "crc32"), "md5": (32, "md5"), "sha1": (40, "sha1")}
 HEXADECIMAL = re.compile("[0-9a-f]+")
 PACKED = (".gz", ".adz", ".hdz", ".zip")
@@ -89,6 +89,8 @@ class Parser:
             if read > MOST_BYTES:
                 raise BadList(f"it has more than {MOST_BYTES} bytes")
             self.parser.Parse(part, False)
+            if read - self.parser.CurrentByteIndex > MOST_TAG:
+                raise BadList(f"it has a tag of more than {MOST_TAG} bytes")
             found, self.found = [disk for disk in self.found if disk.sha1 or disk.md5 or disk.crc32], []
             count += len(found)
             if count > MOST_DISKS:

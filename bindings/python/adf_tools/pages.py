@@ -30,7 +30,7 @@ figure { display: inline-block; margin: 0 1.5em 1em 0; text-align: center } figc
 @media (min-width: 70em) { .beside { display: grid; grid-template-columns: auto 1fr; gap: 2em; align-items: start }
 .beside svg { max-width: 30vw } }
 @media (min-width: 48em) { .verdict { white-space: nowrap } td.text:first-child { min-width: 12em } }
-@media (max-width: 48em) { .wide { display: none } body { margin: .7em } .scroll { overflow-x: auto } td:first-child { min-width: 8em } }
+@media (max-width: 48em) { .wide { display: none } body { margin: .7em } .scroll { overflow-x: auto } td.text:first-child { min-width: 8em } }
 button { font: inherit; font-weight: bold; border: 0; background: none; color: inherit; padding: 0; cursor: pointer }
 [aria-sort=ascending] button::after { content: " \\25b2" } [aria-sort=descending] button::after { content: " \\25bc" }
 """

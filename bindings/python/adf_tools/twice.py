@@ -26,11 +26,15 @@ class Twice:
 
     def html(self) -> str:
         heads = ("Count", "Images")
-        body = paragraph(link(INDEX, "All images"))
-        body += table("Images with the same bytes", heads, self.groups(BYTES, "sha256"))
-        body += table("Images with the same files, which differ in free blocks, dates or places", heads, self.groups(FILES, "tree"))
-        body += table("Files that are on the most disks", ("Disks", "Path", "Size"), map(file_row, self.connection.execute(MANY, (MOST_GROUPS,))))
-        return page("What is there twice", body + paragraph(f"Each table ends after {count_of(MOST_GROUPS, 'line')}.", "note"))
+        files = map(file_row, self.connection.execute(MANY, (MOST_GROUPS,)))
+        tables = (
+            ("Images with the same bytes", heads, list(self.groups(BYTES, "sha256"))),
+            ("Images with the same files, which differ in free blocks, dates or places", heads, list(self.groups(FILES, "tree"))),
+            ("Files that are on the most disks", ("Disks", "Path", "Size"), list(files)),
+        )
+        body = "".join(table(name, heads, rows) for name, heads, rows in tables if rows) or paragraph("Nothing.")
+        note = paragraph(f"Each table ends after {count_of(MOST_GROUPS, 'line')}.", "note")
+        return page("What is there twice", paragraph(link(INDEX, "All images")) + body + note)
 
     def groups(self, query: str, column: str) -> Iterator[str]:
         """The lines of images that share a sum."""

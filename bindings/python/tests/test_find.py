@@ -32,7 +32,7 @@ class Find(Asked):
             self.assertEqual(self.find(*words, "out"), found, words)
 
     def test_takes_any_words(self):
-        for words in (["nothing"], ['"'], ["-"], ["a OR b"], ["NEAR("], ["lemmings", "nothing"], ["*"], ["\u2028"], ["path:"], ["' OR 1"]):
+        for words in (["nothing"], ['"'], ["-"], ["a OR b"], ["NEAR("], ["lemmings", "nothing"], ["*"], ["\u2028"], ["path:"], ["' OR 1"], [b"\xff"]):
             self.assertEqual(self.find(*words, "out", status=1), [], words)
 
     def test_finds_checksums(self):

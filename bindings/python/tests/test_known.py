@@ -43,7 +43,8 @@ class Known(Asked):
         outside = '<!DOCTYPE datafile [<!ENTITY a SYSTEM "file:///etc/passwd">]>'
         self.catalogue("--dat", self.list_of(dat(("x.adf", OFS))), "disks", "out", status=1)
         before = trees_of("out"), self.known()
-        for content in (b"", b"no list", b"<datafile>", dat(head=bomb), dat(head=outside), b"\xff\xfe", b"<a>" * 99999):
+        long = b'<datafile><game name="' + b"a" * (8 << 20) + b'"/></datafile>'
+        for content in (b"", b"no list", b"<datafile>", long, dat(head=bomb), dat(head=outside), b"\xff\xfe", b"<a>" * 99999):
             self.refused(3, "list.dat: not a list of known disks: ", "catalogue", "--dat", self.list_of(content), "disks", "out")
             self.assertEqual((trees_of("out"), self.known()), before)
         self.refused(3, "nix.dat: No such file", "catalogue", "--dat", "nix.dat", "disks", "out")
