@@ -7,13 +7,13 @@ import json
 import os
 import sqlite3
 import zlib
-from typing import Any, Dict, Iterator, List, NamedTuple, Optional, Tuple
+from typing import Any, Dict, Iterator, List, Optional, Tuple
 
 import adf
 from adf_tools.advice import GROUPS
 from adf_tools.icons import MOST_SIDE, Icon, icon_picture, pixels_of
 from adf_tools.pages import cell, count_of, facts, link, long_table, page, paragraph, paragraphs_of_causes, shown
-from adf_tools.picture import disk_picture, picture
+from adf_tools.picture import Fault, disk_picture, picture
 from adf_tools.protection import protection_text
 from adf_tools.reader import PAGE_NAME
 
@@ -24,16 +24,6 @@ PARTITION_HEADS = ("Partition", "Verdict", "Kind", "First block", "Blocks", "-Fl
 ADVICE = {group.name: group for group in GROUPS}
 ALSO = 3  # other images that a page links to
 Row = sqlite3.Row
-
-
-class Fault(NamedTuple):
-    """The fault of a refused image: its block, and its text."""
-
-    block: int
-    text: str
-
-    def __str__(self) -> str:
-        return self.text
 
 
 def is_page(name: object) -> bool:

@@ -9,9 +9,8 @@ from typing import Optional
 
 import adf
 from adf_tools.collection import content_of
-from adf_tools.image_pages import Fault
 from adf_tools.names import letters
-from adf_tools.picture import disk_picture, picture, roles_of_refused
+from adf_tools.picture import Fault, disk_picture, picture, roles_of_refused
 from adf_tools.program import FAILED, REFUSED, begin, command_line, host_text, stop
 from adf_tools.volumes import disk_of, volume_of
 
@@ -29,7 +28,7 @@ def draw_volume(name: str, image: bytes) -> int:
     try:
         volume = adf.Volume(image)
     except adf.Refused as refused:
-        write(picture(f"{name}: refused, {refused}", roles_of_refused(adf.survey(image)), refused))
+        write(picture(f"{name}: refused, {refused}", roles_of_refused(adf.survey(image)), Fault(refused.block, str(refused))))
         return refuse(name, refused)
     write(picture(f"{name}: {volume.kind}, {volume.used} of {volume.blocks} blocks used", volume.owners()))
     return 0

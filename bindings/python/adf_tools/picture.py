@@ -21,6 +21,16 @@ MOST_SQUARES, OUTSIDE, TABLES, OWN = 4096, 0, 1, 2  # of a disk; what its square
 DISK_COLOURS = ("#e8e8e8", "#333333", "#1f77b4", "#ff7f0e", "#2ca02c", "#9467bd", "#8c564b", "#e377c2", "#bcbd22", "#17becf", "#777777")
 
 
+class Fault(NamedTuple):
+    """The fault of a refused image: its block, and its text."""
+
+    block: int
+    text: str
+
+    def __str__(self) -> str:
+        return self.text
+
+
 class Roles(NamedTuple):
     """What the squares of a picture are: what each role is called, and its colour. A role without a count is called by its name
     alone."""
@@ -78,7 +88,7 @@ def legend(parts: Iterable[tuple[str, str]], top: int) -> list[str]:
     return lines
 
 
-def picture(title: str, roles: bytes, refused: Any = None, name: str = "", told: Roles = VOLUME) -> str:
+def picture(title: str, roles: bytes, refused: Fault | None = None, name: str = "", told: Roles = VOLUME) -> str:
     """The picture of these roles, a byte for each square; of a refused image the block of its fault is marked, and says why. It is
     called by this name where it is not seen."""
     width = width_of(len(roles))
@@ -108,7 +118,7 @@ def picture(title: str, roles: bytes, refused: Any = None, name: str = "", told:
 # Whole disks
 
 
-def disk_picture(title: str, blocks: int, partitions: Sequence[Mapping[str, Any]], name: str = "", refused: Any = None) -> str:
+def disk_picture(title: str, blocks: int, partitions: Sequence[Mapping[str, Any]], name: str = "", refused: Fault | None = None) -> str:
     """The picture of a whole hard disk, by its partitions: a square stands for so many blocks that there are not too many squares."""
     unit = 1
     while blocks > unit * MOST_SQUARES:
