@@ -1,4 +1,5 @@
 # Completion of adf-map for fish.
 
+complete -c adf-map -l partition -x -d 'draw the volume of this partition'
 complete -c adf-map -s h -l help -d 'write the usage'
 complete -c adf-map -l version -d 'write the version'

@@ -41,11 +41,12 @@ _adf_files() {
     case $1:$2 in
         adf-mount:-*) COMPREPLY=($(compgen -W "--partition -f -o -h --help -V --version" -- "$2")) ;;
         adf-shelf:-*) COMPREPLY=($(compgen -W "--null --help --version" -- "$2")) ;;
-        adf-catalogue:-*) COMPREPLY=($(compgen -W "--tsv --rescue --fresh --escape -h --help --version" -- "$2")) ;;
+        adf-catalogue:-*) COMPREPLY=($(compgen -W "--tsv --rescue --fresh --escape --index-text --dat -h --help --version" -- "$2")) ;;
         adf-pack:-*)
             COMPREPLY=($(compgen -W "--label --date --altered --created --no-uaem --escape -h --help --version" -- "$2"))
             ;;
         adf-unpack:-*) COMPREPLY=($(compgen -W "--uaem --escape -h --help --version" -- "$2")) ;;
+        adf-map:-*) COMPREPLY=($(compgen -W "--partition -h --help --version" -- "$2")) ;;
         *:-*) COMPREPLY=($(compgen -W "-h --help --version" -- "$2")) ;;
         adf-pack:*) ((COMP_CWORD > 1)) || COMPREPLY=($(compgen -W "ofs ffs" -- "$2")) ;;
     esac

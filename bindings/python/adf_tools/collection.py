@@ -9,6 +9,7 @@ from __future__ import annotations
 import errno
 import gzip
 import io
+import mmap
 import os
 import stat
 import struct
@@ -33,18 +34,20 @@ Stream = Union[IO[bytes], gzip.GzipFile]
 
 
 class Image(NamedTuple):
-    """An image: the name of its file, and behind that its name in an archive; which it is of those with this name; its bytes, or one
-    more than the largest has; how many there are, if that is known; why it cannot be read, else an empty text."""
+    """An image: the name of its file, and behind that its name in an archive; which it is of those with this name; its bytes, of an
+    archive at most one more than the largest volume has; how many there are, if that is known; why it cannot be read, else an empty
+    text; its name in an archive, if it is in one."""
 
     name: bytes
     number: int
-    content: bytes
+    content: adf.Image
     length: int | None
     fault: str
+    member: bytes | None = None
 
 
-def unread(name: bytes, fault: str, number: int = 0) -> Image:
-    return Image(name, number, b"", None, fault)
+def unread(name: bytes, fault: str, number: int = 0, member: bytes | None = None) -> Image:
+    return Image(name, number, b"", None, fault, member)
 
 
 def begins_as_volume(file: Stream) -> bool:
@@ -118,11 +121,16 @@ def images_in(path: bytes, name: bytes) -> Iterator[Image]:
             if kind.endswith(ZIP):
                 yield from images_in_zip(file, name)
             elif not kind.endswith(ARCHIVES):
-                yield Image(name, 0, adf.read_image(file), found.st_size, "")
+                yield Image(name, 0, content_of(file, found.st_size), found.st_size, "")
             else:
                 yield from image_in_gzip(file, name)
     except FAULTS as error:
         yield unread(name, fault_of(error))
+
+
+def content_of(file: BinaryIO, size: int) -> adf.Image:
+    """The bytes of an open file. Those of more than the largest volume has are not read into memory, but mapped."""
+    return adf.read_image(file) if size <= adf.MOST_BYTES else mmap.mmap(file.fileno(), 0, access=mmap.ACCESS_READ)
 
 
 def image_in_gzip(file: BinaryIO, name: bytes) -> Iterator[Image]:
@@ -144,7 +152,7 @@ def images_in_zip(file: BinaryIO, name: bytes) -> Iterator[Image]:
                 yield unread(name, f"{len(members) - place} of {len(members)} images in it are left out")
                 return
             seen[inside] = seen.get(inside, -1) + 1
-            image = member_of_zip(archive, member, name + b"/" + inside, seen[inside])
+            image = member_of_zip(archive, member, name + b"/" + inside, seen[inside])._replace(member=inside)
             left -= len(image.content)
             yield image
 

@@ -13,6 +13,7 @@ import unicodedata
 import adf
 
 NO_LETTER = re.compile(r"[\x00-\x1f\\\x7f-\x9f]")
+CONTROL = re.compile(r"[\x00-\x1f\x7f-\x9f\u2028\u2029]")
 ESCAPED = re.compile(rb"\\x([0-9a-f]{2})")
 
 
@@ -20,6 +21,11 @@ def letters(text: str | bytes) -> str:
     """The text of bytes, or of a text in Latin-1, with \\x and two digits for what has no letter."""
     plain = text.decode("latin-1") if isinstance(text, bytes) else text
     return NO_LETTER.sub(lambda found: f"\\x{ord(found[0]):02x}", plain)
+
+
+def one_line(text: object) -> str:
+    """A text that should be one line already, without what could break or hide it."""
+    return CONTROL.sub(lambda found: f"\\x{ord(found[0]):02x}", str(text))
 
 
 def text_of(text: str | bytes, is_escaped: bool = False) -> str:

@@ -1,10 +1,11 @@
-"""A picture of a volume as SVG: a square for each block, coloured by what the block is; adf-map and adf-catalogue draw it."""
+"""A picture of a volume as SVG: a square for each block, coloured by what the block is; and one of a whole hard disk, a square for
+each of its partitions' parts. adf-map and adf-catalogue draw them."""
 
 from __future__ import annotations
 
 import re
-from typing import Iterable
-from xml.sax.saxutils import escape
+from typing import Any, Iterable, Mapping, NamedTuple, Sequence
+from xml.sax.saxutils import escape, quoteattr
 
 import adf
 
@@ -16,6 +17,33 @@ NAMES = (*adf.ROLES, "unknown", "has a finding")
 COLOURS = ("#e8e8e8", "#333333", "#d62728", "#9467bd", "#c5b0d5", "#ff7f0e", "#bcbd22", "#1f77b4", "#bbbbbb", "#d62728")
 FAULT = "#d62728"
 RUN = re.compile(rb"(.)\1*", re.DOTALL)
+MOST_SQUARES, OUTSIDE, TABLES, OWN = 4096, 0, 1, 2  # of a disk; what its squares are: outside of partitions, tables, the first partition
+DISK_COLOURS = ("#e8e8e8", "#333333", "#1f77b4", "#ff7f0e", "#2ca02c", "#9467bd", "#8c564b", "#e377c2", "#bcbd22", "#17becf", "#777777")
+
+
+class Fault(NamedTuple):
+    """The fault of a refused image: its block, and its text."""
+
+    block: int
+    text: str
+
+    def __str__(self) -> str:
+        return self.text
+
+
+class Roles(NamedTuple):
+    """What the squares of a picture are: what each role is called, and its colour. A role without a count is called by its name
+    alone."""
+
+    names: Sequence[str]
+    colours: Sequence[str]
+    has_counts: bool = True
+
+    def text(self, role: int, roles: bytes) -> str:
+        return f"{self.names[role]}: {roles.count(role)}" if self.has_counts else self.names[role]
+
+
+VOLUME = Roles(NAMES, COLOURS)
 
 
 def roles_of_refused(survey: adf.Survey) -> bytes:
@@ -60,26 +88,51 @@ def legend(parts: Iterable[tuple[str, str]], top: int) -> list[str]:
     return lines
 
 
-def picture(title: str, roles: bytes, refused: adf.Refused | None = None) -> str:
-    """The picture of these roles, a byte for each block; of a refused image the block of its fault is marked, and says why."""
+def picture(title: str, roles: bytes, refused: Fault | None = None, name: str = "", told: Roles = VOLUME) -> str:
+    """The picture of these roles, a byte for each square; of a refused image the block of its fault is marked, and says why. It is
+    called by this name where it is not seen."""
     width = width_of(len(roles))
     rows, paths = -(-len(roles) // width), lines_of(roles, width)
-    parts = [(f'<rect width="{SIDE}" height="{SIDE}" fill="{COLOURS[r]}"/>', f"{NAMES[r]}: {roles.count(r)}") for r in paths]
+    parts = [(f'<rect width="{SIDE}" height="{SIDE}" fill="{told.colours[r]}"/>', told.text(r, roles)) for r in paths]
     if refused is not None:
         parts.insert(0, (mark(0, 0), str(refused)))
     top = MARGIN + LINE if title else MARGIN
     high = top + rows * STEP + LINE + len(parts) * LEGEND + MARGIN
     wide = 2 * MARGIN + max(width * STEP, *(8 * len(text) for text in (title, *(text for _, text in parts))))
     font = 'font-family="sans-serif" font-size="11"'
-    lines = [f'<svg xmlns="http://www.w3.org/2000/svg" width="{wide}" height="{high}" viewBox="0 0 {wide} {high}" {font}>']
+    seen = f'role="img" aria-label={quoteattr(name or title)}'
+    lines = [f'<svg xmlns="http://www.w3.org/2000/svg" width="{wide}" height="{high}" viewBox="0 0 {wide} {high}" {font} {seen}>']
     lines.append('<rect width="100%" height="100%" fill="#ffffff"/>')
     if title:
         lines.append(f'<title>{escape(title)}</title><text x="{MARGIN}" y="{LINE}">{escape(title)}</text>')
     lines.append(f'<g transform="translate({MARGIN} {top})">')
     lines.append(f'<g fill="none" stroke-width="{SIDE}" stroke-dasharray="{SIDE} {STEP - SIDE}">')
-    lines += (f'<path stroke="{COLOURS[role]}" d="{path}"><title>{NAMES[role]}</title></path>' for role, path in paths.items())
+    lines += (f'<path stroke="{told.colours[role]}" d="{path}"><title>{escape(told.names[role])}</title></path>' for role, path in paths.items())
     lines.append("</g>")
     if refused is not None and refused.block < len(roles):
         lines.append(mark(refused.block % width * STEP, refused.block // width * STEP))
     lines += legend(parts, rows * STEP + LINE)
     return "\n".join(lines) + "\n</g>\n</svg>\n"
+
+
+# Whole disks
+
+
+def disk_picture(title: str, blocks: int, partitions: Sequence[Mapping[str, Any]], name: str = "", refused: Fault | None = None) -> str:
+    """The picture of a whole hard disk, by its partitions: a square stands for so many blocks that there are not too many squares."""
+    unit = 1
+    while blocks > unit * MOST_SQUARES:
+        unit *= 2
+    squares = bytearray(-(-blocks // unit))
+    squares[:1] = bytes([TABLES])[: len(squares)]
+    names = ["outside of partitions", "tables"]
+    placed = [row for row in partitions if row["blocks"] and 0 <= row["first"] < blocks]
+    last = len(DISK_COLOURS) - 1
+    for place, row in enumerate(placed):
+        begin, end = row["first"] // unit, min(-(-(row["first"] + row["blocks"]) // unit), len(squares))
+        squares[begin:end] = bytes([min(OWN + place, last)]) * (end - begin)
+        if OWN + place < last:
+            names.append(f"{row['name'] or row['number']}: block {row['first']} to {row['first'] + row['blocks'] - 1}, {row['kind']}")
+    fault = None if refused is None else refused._replace(block=refused.block // unit)
+    legend_title = f"{title}; a square is {unit} blocks" if title else ""
+    return picture(legend_title, bytes(squares), fault, name, Roles((*names, "further partitions"), DISK_COLOURS, False))

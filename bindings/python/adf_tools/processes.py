@@ -6,12 +6,15 @@ import collections
 import concurrent.futures.process
 import multiprocessing
 import os
+import pickle
 import signal
+import tempfile
 import threading
-from typing import Callable, Deque, Generator, Sequence, TypeVar
+from typing import Callable, Deque, Generator, Generic, Optional, Sequence, TypeVar, Union
 
-from adf_tools.program import FAILED, stop
+from adf_tools.program import FAILED, INTERRUPTS, stop, uninterrupted
 
+LARGE = 1 << 20  # bytes of an answer that waits in a file
 AHEAD = 16  # so many pieces for each process are given out before the first of them is done
 MEMORY, GROUP = "/proc/meminfo", "/sys/fs/cgroup"
 Piece = TypeVar("Piece")
@@ -22,6 +25,7 @@ def begin_process() -> None:
     """A process beside the program: the program alone hears what interrupts both, and when it ends, the process does."""
     signal.signal(signal.SIGINT, signal.SIG_IGN)
     signal.signal(signal.SIGTERM, signal.SIG_DFL)
+    signal.pthread_sigmask(signal.SIG_UNBLOCK, INTERRUPTS)
     threading.Thread(target=end_with_program, daemon=True).start()
 
 
@@ -59,21 +63,46 @@ def workers(pieces: int, need: int) -> int:
     return max(1, min(len(os.sched_getaffinity(0)), pieces, pieces if free is None else free // need))
 
 
-def in_order(work: Callable[[Piece], Answer], pieces: Sequence[Piece], need: int) -> Generator[Answer, None, None]:
-    """What the work answers of each piece, in their order. A process takes so many bytes of memory."""
+class Packed(Generic[Piece, Answer]):
+    """Work whose answers are packed. A large one waits in a file of a folder, so that memory does not depend on how many wait."""
+
+    def __init__(self, work: Callable[[Piece], Answer], folder: Optional[str]) -> None:
+        self.work, self.folder = work, folder
+
+    def __call__(self, piece: Piece) -> Union[bytes, str]:
+        packed = pickle.dumps(self.work(piece))
+        if self.folder is None or len(packed) < LARGE:
+            return packed
+        with tempfile.NamedTemporaryFile(dir=self.folder, delete=False) as file:
+            file.write(packed)
+        return file.name
+
+    @staticmethod
+    def answer(packed: Union[bytes, str]) -> Answer:
+        if isinstance(packed, bytes):
+            return pickle.loads(packed)  # type: ignore[no-any-return]
+        with open(packed, "rb") as file:
+            os.remove(packed)
+            return pickle.load(file)  # type: ignore[no-any-return]
+
+
+def in_order(work: Callable[[Piece], Answer], pieces: Sequence[Piece], need: int, folder: Optional[str] = None) -> Generator[Answer, None, None]:
+    """What the work answers of each piece, in their order. A process takes so many bytes of memory; large answers wait in the folder."""
     count = workers(len(pieces), need)
     if count < 2:
         yield from map(work, pieces)
         return
-    waiting: Deque[concurrent.futures.Future[Answer]] = collections.deque()
+    waiting: Deque[concurrent.futures.Future[Union[bytes, str]]] = collections.deque()
+    packed: Packed[Piece, Answer] = Packed(work, folder)
     with concurrent.futures.ProcessPoolExecutor(count, multiprocessing.get_context("fork"), begin_process) as pool:
         try:
             for piece in pieces:
-                waiting.append(pool.submit(work, piece))
+                with uninterrupted():  # what interrupts while processes begin would be lost
+                    waiting.append(pool.submit(packed, piece))
                 if len(waiting) > AHEAD * count:
-                    yield waiting.popleft().result()
+                    yield packed.answer(waiting.popleft().result())
             while waiting:
-                yield waiting.popleft().result()
+                yield packed.answer(waiting.popleft().result())
         except concurrent.futures.process.BrokenProcessPool:
             stop(FAILED, "a process was ended from outside, perhaps for lack of memory")
         finally:

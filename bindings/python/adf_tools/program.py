@@ -20,7 +20,7 @@ from adf_tools.names import host_letters
 MOST_MANIFEST_BYTES = 16_777_216
 FILL = re.compile(rb"(.)\1{63,}", re.DOTALL)
 FEWEST, DATA = 64, 32  # so many equal bytes are a line `fill`, and so many others at most a line `data`
-REFUSED, FAILED = 1, 3
+REFUSED, NOT_FOUND, FAILED = 1, 1, 3
 WORKING = ".adf-"  # the names of folders that are being made begin so
 INTERRUPTS = (signal.SIGINT, signal.SIGTERM)
 
@@ -85,7 +85,7 @@ def begin(line: argparse.ArgumentParser, work: Callable[[argparse.Namespace], in
         if sys.flags.dev_mode and not isinstance(error, (adf.Error, Stop, OSError, MemoryError, KeyboardInterrupt)):
             raise
         if text:
-            print(f"{line.prog}: {text}", file=sys.stderr, flush=True)
+            print(f"{line.prog.split()[0]}: {text}", file=sys.stderr, flush=True)
         os._exit(status)
     for number in heard:
         signal.signal(number, signal.SIG_DFL)
@@ -98,15 +98,15 @@ class Progress:
     def __init__(self, whole: int, what: str) -> None:
         self.whole, self.what, self.done, self.begun, self.shown = whole, what, 0, time.monotonic(), 0.0
 
-    def step(self) -> None:
-        self.done += 1
+    def step(self, count: int = 1) -> None:
+        self.done += count
         now = time.monotonic()
         if sys.stderr.isatty() and (now - self.shown > 0.1 or self.done == self.whole):
             self.shown, rate = now, self.done / max(now - self.begun, 0.001)
             left = (self.whole - self.done) / rate
             self.write(f"{self.done} of {self.whole} {self.what}, {rate:.0f} a second, {left:.0f} s left")
 
-    def end(self) -> None:
+    def close(self) -> None:
         if self.shown:
             self.write("")
 

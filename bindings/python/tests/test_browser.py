@@ -2,11 +2,14 @@
 
 import fcntl
 import glob
+import hashlib
 import json
 import os
 import shutil
 import subprocess
+import time
 import unittest
+import urllib.parse
 
 import adf
 from tests.shared import Folder, changed, image_of, written
@@ -60,7 +63,7 @@ class Browser:
 
     def names(self):
         """The names of the images that the index shows."""
-        return self.value("[...document.querySelectorAll('tbody tr:not([hidden])')].map(row => row.cells[0].innerText)")
+        return self.value("[...document.querySelectorAll('#images tbody tr:not([hidden])')].map(row => row.cells[0].innerText)")
 
     def open(self, address):
         self.ask("Page.navigate", url=address)
@@ -95,7 +98,7 @@ class Index(Folder):
         browser.open(self.address)
         every = browser.names()
         self.assertEqual((len(every), browser.value("shown.textContent")), (4, "4 shown"))
-        head = "document.querySelector('th button')"
+        head = "document.querySelector('#images th button')"
         browser.click(head)
         up = browser.names()
         browser.click(head)
@@ -104,7 +107,7 @@ class Index(Folder):
         browser.click("filter")
         browser.ask("Input.insertText", text="BAD 880")
         self.assertEqual((browser.names(), browser.value("location.hash")), (["bad_sum.adf"], "#BAD%20880"))
-        browser.click("document.querySelector('tbody tr:not([hidden]) a[href$=found]')")
+        browser.click("document.querySelector('#images tbody tr:not([hidden]) a[href$=found]')")
         browser.until_event("Page.loadEventFired")
         found = browser.value("[...document.querySelectorAll('#found tbody tr')].map(row => row.cells[0].innerText + ' ' + row.cells[1].innerText)")
         self.assertEqual(sorted(found), ["sound c", "sound c/readme", "sound empty", "sound large", "sound none"])
@@ -117,6 +120,85 @@ class Index(Folder):
         (path,) = glob.glob("saved/*.adf")
         with open(path, "rb") as file:
             self.assertEqual(adf.check(file.read()).files, 3)
+
+    def until(self, expression, value):
+        """Waits until an expression has a value."""
+        end = time.monotonic() + 30
+        while self.browser.value(expression) != value and time.monotonic() < end:
+            time.sleep(0.05)
+        self.assertEqual(self.browser.value(expression), value)
+
+    def test_finds_names_and_sums_of_files(self):
+        browser, places = self.browser, "[...document.querySelectorAll('#places li')].map(line => line.innerText)"
+        readme = [f"{name}: c/readme" for name in ("a\\x09b\\x5cc.adf", "b.adf", "bad_sum.adf")]
+        asked = (("c readme", "3 found"), ("READ \xdcbel", "3 found"), ("script alert", "1 found"), ("b\xfccher", "3 found"))
+        for text, told in (*asked, ("nothing at all", "0 found"), ("\\ < \" '", "")):
+            browser.open("about:blank")
+            browser.open(f"{self.address}#find={urllib.parse.quote(text)}")
+            self.until("told.textContent", told)
+        self.until("wanted.value", "\\ < \" '")
+        browser.value("wanted.value = ''; wanted.focus()")
+        browser.ask("Input.insertText", text="readme c")
+        self.press("Enter", 13)
+        self.until(f"JSON.stringify({places}.sort())", json.dumps(sorted(readme), separators=(",", ":"), ensure_ascii=False))
+        browser.value("wanted.value = ''; wanted.focus()")
+        browser.ask("Input.insertText", text=hashlib.sha256(b"Hello\n").hexdigest().upper())
+        self.press("Enter", 13)
+        self.until("told.textContent", "2 found")
+        self.assertEqual([message for message in browser.heard if message.get("method") == "Log.entryAdded" and "ERR_FILE_NOT_FOUND" not in str(message)], [])
+        browser.close()
+
+    def press(self, key, code):
+        """Presses a key."""
+        text = {"text": "\r"} if key == "Enter" else {}
+        for kind in ("keyDown", "keyUp"):
+            self.browser.ask("Input.dispatchKeyEvent", type=kind, key=key, code=key, windowsVirtualKeyCode=code, **(text if kind == "keyDown" else {}))
+
+    def test_is_used_by_keyboard(self):
+        self.browser.open(self.address)
+        seen = []
+        for _ in range(60):
+            self.press("Tab", 9)
+            seen.append(self.browser.value("document.activeElement.id || document.activeElement.textContent"))
+            if seen[-1] == "Verdict":
+                self.press("Enter", 13)
+                break
+        self.assertIn("wanted", seen)
+        self.assertIn("filter", seen)
+        self.assertEqual(self.browser.value("heads[1].getAttribute('aria-sort')"), "ascending")
+        self.browser.close()
+
+    def test_names_tables_and_pictures(self):
+        browser = self.browser
+        browser.ask("Accessibility.enable")
+        index = {("table", "What to do"), ("table", "Images"), ("searchbox", "Filter this page")}
+        page = {("table", "Image"), ("table", "Findings"), ("table", "Found"), ("image", "Blocks of bad_sum.adf")}
+        for address, names in ((self.address, index), (self.page("bad_sum"), page)):
+            browser.open(address)
+            nodes = browser.ask("Accessibility.getFullAXTree")["nodes"]
+            told = {(node.get("role", {}).get("value"), node.get("name", {}).get("value")) for node in nodes if not node.get("ignored")}
+            told |= {("image", name) for role, name in told if role == "img"}
+            self.assertTrue(names <= told, names - told)
+            self.assertFalse({role for role, name in told if role in ("table", "image", "img") and not name})
+        browser.close()
+
+    def page(self, name):
+        (path,) = glob.glob(f"out/images/{name.replace('_', '-')}-*.html")
+        return f"file://{os.getcwd()}/{path}"
+
+    def test_is_read_at_any_width(self):
+        browser = self.browser
+        for width in (1280, 420):
+            for scheme in ("light", "dark"):
+                browser.ask("Emulation.setDeviceMetricsOverride", width=width, height=900, deviceScaleFactor=1, mobile=False)
+                browser.ask("Emulation.setEmulatedMedia", features=[{"name": "prefers-color-scheme", "value": scheme}])
+                browser.open(self.address)
+                self.assertLessEqual(browser.value("document.documentElement.scrollWidth"), width)
+                colours = browser.value("[getComputedStyle(document.body).color, getComputedStyle(document.body).backgroundColor].join()")
+                self.assertEqual(colours, {"light": "rgb(34, 34, 34),rgb(255, 255, 255)", "dark": "rgb(221, 221, 221),rgb(27, 27, 27)"}[scheme])
+                lines = "[...document.querySelectorAll('td.verdict')].every(cell => cell.getClientRects().length === 1 && cell.offsetWidth > 0)"
+                self.assertTrue(browser.value(lines))
+        browser.close()
 
     def test_takes_any_text_behind_its_name(self):
         for text, count in (("100%", 0), ("%62ad%20880", 1), ("script", 1)):

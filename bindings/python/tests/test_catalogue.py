@@ -1,21 +1,25 @@
 """Tests of adf-catalogue."""
 
+import contextlib
 import fcntl
 import glob
 import gzip
+import hashlib
 import html.parser
 import os
 import re
 import shutil
 import signal
+import sqlite3
 import subprocess
 import sys
 import time
 import unittest.mock
 import zipfile
+import zlib
 
 import adf
-from adf_tools import collection, processes, trees
+from adf_tools import collection, database, processes, sums, trees
 from tests.shared import Folder, built, changed, image_of, written
 
 OFS, SMALLEST = image_of(), built("volume ofs 4\n")
@@ -56,13 +60,18 @@ def pages_of(out):
 
 
 def trees_of(out):
-    """The bytes of all files in a folder, by their paths."""
-    paths = [os.path.join(path, name) for path, _, names in os.walk(out) for name in names]
+    """The bytes of all files in a folder but a database, by their paths."""
+    paths = [os.path.join(path, name) for path, _, names in os.walk(out) for name in names if name != database.NAME]
     found = {}
     for path in paths:
         with open(path, "rb") as file:
             found[os.path.relpath(path, out)] = file.read()
     return found
+
+
+def long_answer(piece):
+    """An answer that is too large to wait in memory."""
+    return [piece] * 1000
 
 
 class Catalogues(Folder):
@@ -72,6 +81,11 @@ class Catalogues(Folder):
         said = ran.stderr.decode()
         self.assertEqual((ran.returncode, ran.stdout), (status, b""), said)
         self.assertRegex(said, f"^adf-catalogue: .*{told}.*\n$" if status else "^$")
+
+    def asked(self, out, query, *values):
+        """The rows of a query."""
+        with contextlib.closing(sqlite3.connect(f"{out}/{database.NAME}")) as connection:
+            return connection.execute(query, values).fetchall()
 
     def verdicts(self, out):
         return {row["image"]: row["verdict"] for row in rows_of(f"{out}/images.tsv")}
@@ -89,7 +103,7 @@ class Pages(Catalogues):
         os.mkfifo("disks/pipe")
         self.catalogue("disks", "out", "--tsv", status=3, told="out/index.html: of 6 images 2 refused, 1 not read")
         index, pages = Page("out/index.html"), pages_of("out")
-        self.assertEqual((index.tags.count("script"), index.tags.count("a"), len(pages), index.tags.count("tr")), (1, 6, 5, 7))
+        self.assertEqual((index.tags.count("script"), len(pages), index.text.split('id="images"')[1].count("<tr>")), (1, 5, 7))
         self.assertEqual(sum(link.endswith("#found") for link in index.links), sum("found" in page.ids for page in pages))
         self.assertFalse(any("script" in page.tags for page in pages))
         self.assertTrue(all(page.tags.count("svg") == 1 for page in pages))
@@ -106,7 +120,7 @@ class Pages(Catalogues):
         self.assertEqual(sorted(states), [(path, "sound") for path in ("c", "c/readme", "empty", "large", "none")])
         (refused,) = (page.text for page in pages if "not dos" in page.text)
         self.assertIn("does not begin as a volume of this format", refused)
-        self.assertIn("&lt;script&gt;alert(1)&lt;", refused)
+        self.assertIn("&lt;script&gt;alert(1)&lt;", refused.replace("<wbr>", ""))
 
     def test_counts_in_plain_words(self):
         os.mkdir("disks")
@@ -132,7 +146,7 @@ class Pages(Catalogues):
 
     def test_takes_any_text_for_its_filter(self):
         self.catalogue(".", "out")
-        self.assertIn("try { filter.value = decodeURIComponent(filter.value); } catch { }", Page("out/index.html").text)
+        self.assertIn("try { return decodeURIComponent(text); } catch { return text; }", Page("out/index.html").text)
 
     def test_offers_new_volumes(self):
         os.mkdir("disks")
@@ -164,7 +178,7 @@ class Bounds(Catalogues):
         (page,) = pages_of("out")
         self.assertLess(len(page.text), 10 << 20)
         (left_out,) = re.findall(r"(\d+) more are left out: <code>adf list &lt; IMAGE</code>", page.text)
-        self.assertEqual(page.tags.count("tr") - 9, 1000 - int(left_out))
+        self.assertEqual(page.text.partition("<caption>Entries")[2].count("<tr>") - 1, 1000 - int(left_out))
 
     def test_ends_tables_of_findings(self):
         os.mkdir("disks")
@@ -181,7 +195,7 @@ class Bounds(Catalogues):
     def test_says_what_is_not_in_the_table(self):
         os.mkdir("disks")
         written("disks/many.adf", OFS)
-        self.run_python("-c", "from adf_tools import catalogue, reader; reader.MOST_LINES = 300; catalogue.main()", "disks", "out", "--tsv")
+        self.run_python("-c", "from adf_tools import catalogue, volumes; volumes.MOST_LETTERS = 300; catalogue.main()", "disks", "out", "--tsv")
         (row,), entries = rows_of("out/images.tsv"), rows_of("out/entries.tsv")
         self.assertEqual((int(row["unlisted"]) + len(entries), row["verdict"]), (5, "ok"))
         self.assertGreater(int(row["unlisted"]), 0)
@@ -195,7 +209,7 @@ class Bounds(Catalogues):
         for limit, read, told in (
             ("collection.MOST_IMAGES = 4", 4, "5 of 9 images in it are left out"),
             (f"collection.MOST_UNPACKED = {len(SMALLEST) * 5 - 1}", 5, "4 of 9 images in it are left out"),
-            ("reader.MOST_WRITTEN = 20000", 0, "further images in it are left out"),
+            ("reader.MOST_WRITTEN = 250", 0, "further images in it are left out"),
         ):
             line = f"from adf_tools import catalogue, collection, reader; {limit}; catalogue.main()"
             ran = self.run_python("-c", line, "disks", "out", "--tsv")
@@ -218,6 +232,17 @@ class Bounds(Catalogues):
         with unittest.mock.patch.object(processes, "free_memory", lambda: 5 << 30), unittest.mock.patch.object(os, "sched_getaffinity", lambda _: range(16)):
             self.assertEqual([processes.workers(pieces, 1 << 30) for pieces in (0, 3, 99)], [1, 3, 5])
             self.assertEqual([processes.workers(99, need) for need in (1, 6 << 30)], [16, 1])
+
+    def test_lets_large_answers_wait_in_files(self):
+        os.mkdir("waiting")
+        pieces = range(40)
+        with unittest.mock.patch.multiple(processes, LARGE=1000, workers=lambda _pieces, _need: 3):
+            answers = processes.in_order(long_answer, pieces, 1, "waiting")
+            self.assertEqual([next(answers) for _ in range(3)], [long_answer(piece) for piece in pieces[:3]])
+            time.sleep(0.5)
+            self.assertGreater(len(os.listdir("waiting")), 10)
+            self.assertEqual(list(answers), [long_answer(piece) for piece in pieces[3:]])
+            self.assertEqual(os.listdir("waiting"), [])
 
     def test_knows_the_memory_of_its_group(self):
         for name, text in (("memory.max", "3000\n"), ("memory.current", "1000\n"), ("meminfo", "MemTotal: 9 kB\nMemAvailable:  7 kB\n")):
@@ -250,8 +275,8 @@ class Archives(Catalogues):
         self.assertEqual(
             [(row["image"], row["bytes"], row["verdict"]) for row in rows_of("out/images.tsv")],
             [
-                *(("a.zip/../../out.adf", "901120", "ok"), ("a.zip/x/Bü.ADF", "901120", "ok")),
-                *(("a.zip/lzma.adf", "", "read fault: packed by a method that is not read"), ("b.adz", "901120", "ok")),
+                *(("a.zip/../../out.adf", "901120", "ok"), ("a.zip/lzma.adf", "", "read fault: packed by a method that is not read")),
+                *(("a.zip/x/Bü.ADF", "901120", "ok"), ("b.adz", "901120", "ok")),
                 *(("c.adf.gz", "901120", "ok"), ("cut.adf.gz", "", "read fault: damaged archive")),
                 *(("cut.zip", "", "read fault: damaged archive"), ("d.gz", "901120", "ok")),
                 *(("empty.adz", "0", "block 0: bad size"), ("long.adz", "", "block 0: bad size")),
@@ -339,15 +364,10 @@ class Again(Catalogues):
         self.assertEqual(again, trees_of("fresh"))
         return own
 
-    def pages(self):
-        """The inodes of pages, by which a page that is written again is known."""
-        return {path: os.stat(path).st_ino for path in glob.glob("again/images/*.html")}
-
-    def read_again(self, *words, status=1):
-        """How many pages the next run writes again."""
-        before = self.pages()
-        self.catalogue("disks", "again", *words, status=status)
-        return sum(before.get(path) != inode for path, inode in self.pages().items())
+    def read_again(self, *words, **more):
+        """How many files the next run reads again."""
+        self.catalogue("disks", "again", *words, status=1, **more)
+        return self.asked("again", "SELECT read FROM runs ORDER BY id DESC")[0][0]
 
     def test_reads_what_has_changed_alone(self):
         self.agrees()
@@ -360,11 +380,10 @@ class Again(Catalogues):
         written("again/images/own.html", b"own")
         os.rename("four.adf", "disks/4.adf")
         self.assertEqual(self.agrees(), b"own")
-        for path in ("again/adf-catalogue.state", "again/entries.tsv"):
-            with open(path, "r+b") as file:
-                file.seek(99)
-                file.write(b"X")
-            self.agrees()
+        with open("again/entries.tsv", "r+b") as file:
+            file.seek(99)
+            file.write(b"X")
+        self.agrees()
         os.remove(glob.glob("again/images/1*.html")[0])
         self.agrees()
 
@@ -389,9 +408,8 @@ class Again(Catalogues):
         shutil.copy(adf.library_path(), "library.so")
         with open("library.so", "ab") as file:
             file.write(b"\0")
-        before = self.pages()
-        self.catalogue("disks", "again", status=1, library=os.path.abspath("library.so"))
-        self.assertFalse(set(before.items()) & set(self.pages().items()))
+        self.assertEqual(self.read_again(library=os.path.abspath("library.so")), 13)
+        self.assertEqual(self.read_again(library=os.path.abspath("library.so")), 0)
 
     def test_keeps_tables_up_to_date(self):
         self.agrees()
@@ -435,20 +453,46 @@ class Failures(Catalogues):
         self.leaves("disks", "file", "there")
 
     def test_names_the_file_that_cannot_be_written(self):
-        self.refused(3, "adf-catalogue: out/images/", "catalogue", "disks", "out", prefix=["prlimit", "--fsize=512"])
+        self.refused(3, "adf-catalogue: out/collection.sqlite: ", "catalogue", "disks", "out", prefix=["prlimit", "--fsize=512"])
         self.leaves("disks")
+        self.catalogue("disks", "out")
+        page = glob.glob("out/images/0-*.html")[0]
+        os.remove(page)
+        os.mkdir(page)
+        written("disks/0.adf", BAD)
+        self.refused(3, f"adf-catalogue: {page}.new: Is a directory", "catalogue", "disks", "out")
 
-    def test_leaves_nothing_if_it_is_interrupted(self):
-        process = self.started("catalogue", "disks", "out")
-        while not glob.glob(".adf-*") and process.poll() is None:
+    def broken_off(self, number, part):
+        """A run that gets a signal after a part of a second; gives its status and what it says on errors."""
+        process = self.started("catalogue", "disks", "out", "--tsv")
+        while not os.path.exists("out") and process.poll() is None:
             time.sleep(0.001)
-        process.send_signal(signal.SIGTERM)
+        time.sleep(part)
+        process.send_signal(number)
         errors = process.communicate(timeout=60)[1]
-        if process.returncode == 3:
-            self.assertEqual(errors, b"adf-catalogue: interrupted\n")
-            self.leaves("disks")
-        else:
-            self.leaves("disks", "out")
+        return process.returncode, errors
+
+    def test_is_taken_up_where_it_was_interrupted(self):
+        self.catalogue("disks", "whole", "--tsv")
+        for number, statuses in ((signal.SIGTERM, (0, 3)), (signal.SIGKILL, (0, -signal.SIGKILL))):
+            for part in (0, 0.05, 0.2, 0.4):
+                status, errors = self.broken_off(number, part)
+                self.assertIn(status, statuses)
+                self.assertEqual(errors, b"adf-catalogue: interrupted\n" if status == 3 else b"")
+                self.assertFalse(glob.glob("disks/*.new"))
+                self.catalogue("disks", "out", "--tsv")
+                self.assertEqual(trees_of("out"), trees_of("whole"))
+                shutil.rmtree("out")
+
+    def test_goes_on_with_what_was_read(self):
+        line = "from adf_tools import catalogue, scan; scan.FILES = 7; catalogue.main()"
+        self.run_python("-c", line, "disks", "out")
+        self.assertEqual(self.asked("out", "SELECT read FROM runs"), [(40,)])
+        with contextlib.closing(sqlite3.connect("out/collection.sqlite")) as connection, connection:
+            connection.execute("DELETE FROM files WHERE path < '2'")
+            connection.execute("UPDATE runs SET ended = NULL")
+        self.catalogue("disks", "out")
+        self.assertEqual(self.asked("out", "SELECT read, ended IS NULL FROM runs"), [(40, 1), (12, 0)])
 
     def test_leaves_a_catalogue_as_it_was(self):
         self.catalogue("disks", "out", "--tsv")
@@ -456,6 +500,124 @@ class Failures(Catalogues):
         written("disks/0.adf", BAD)
         self.refused(3, "adf-catalogue: out/", "catalogue", "disks", "out", prefix=["prlimit", "--fsize=512"])
         self.assertEqual(trees_of("out"), whole)
+
+
+class Databases(Catalogues):
+    """The database of a catalogue, whole and damaged."""
+
+    def setUp(self):
+        super().setUp()
+        os.mkdir("disks")
+        written("disks/a.adf", OFS)
+        written("disks/bad.adf", BAD)
+        with zipfile.ZipFile("disks/two.zip", "w") as archive:
+            archive.writestr("b.adf", OFS)
+
+    def test_keeps_what_is_known_of_each_image(self):
+        self.catalogue("disks", "out", status=1)
+        names = "name, member, bytes, crc32, md5, sha1, sha256, verdict, block, cause, kind, type, dirs, files, label, advice, lost"
+        digests = (f"{zlib.crc32(OFS):08x}", *(hashlib.new(name, OFS).hexdigest() for name in ("md5", "sha1", "sha256")))
+        rows = self.asked("out", f"SELECT {names} FROM images ORDER BY name")
+        sound = (901120, *digests, "ok", None, None, "ofs", 0, 2, 3, "B\xfccher", "sound", 0)
+        self.assertEqual((rows[0], rows[2]), (("a.adf", None, *sound), ("two.zip/b.adf", "b.adf", *sound)))
+        self.assertEqual(rows[1][7:10] + rows[1][-5:], ("block 880: bad sum", 880, "bad sum", 2, 3, "B\xfccher", "read again", 0))
+        self.assertEqual(self.asked("out", "SELECT first, last, cause, path FROM findings"), [(880, 880, "bad sum", None)])
+        line = """SELECT path, size, protection, comment, state, entries.sha256 FROM entries JOIN images ON images.id = image
+            WHERE name = ? AND path LIKE 'c/%'"""
+        readme = hashlib.sha256(b"Hello\n").hexdigest()
+        self.assertEqual(self.asked("out", line, "a.adf"), [("c/readme", 6, 15, "ein <\xdcbel>", "sound", readme)])
+        self.assertEqual(self.asked("out", line, "bad.adf"), [("c/readme", 6, 15, "ein <\xdcbel>", "sound", None)])
+        self.assertEqual(self.asked("out", "PRAGMA user_version"), [(len(database.STEPS),)])
+        self.assertEqual(self.asked("out", "PRAGMA integrity_check"), [("ok",)])
+
+    def test_sums_boot_blocks_as_the_format_says(self):
+        def boot(*words):
+            return b"".join(word.to_bytes(4, "big") for word in words).ljust(1024, b"\0")
+
+        for words, right in (
+            ((0x444F5300,), 0xBBB0ACFF), ((0x444F5300, 5), 0xBBB0ACFF), ((0x444F5300, 0, 880), 0xBBB0A98F),
+            ((0xFFFFFFFF, 0, 1), 0xFFFFFFFE), ((0xFFFFFFFF, 0, 0xFFFFFFFF), 0), ((), 0xFFFFFFFF),
+        ):  # fmt: skip
+            self.assertEqual(sums.boot_sum(boot(*words)), right, words)
+            self.assertTrue(sums.boot_facts(boot(*(words[:1] or (0,)), right, *words[2:]))["boot_is_right"])
+            self.assertFalse(sums.boot_facts(boot(*(words[:1] or (0,)), right ^ 1, *words[2:]))["boot_is_right"])
+        self.assertEqual(sums.boot_facts(bytes(1023)), {})
+
+    def test_says_that_a_database_is_damaged_and_leaves_it(self):
+        self.catalogue("disks", "out", "--tsv", status=1)
+        with open("out/collection.sqlite", "rb") as file:
+            whole = file.read()
+        page = int.from_bytes(whole[16:18], "big")
+        overwritten = whole[:page] + b"\xff" * page + whole[2 * page :], whole[:20] + b"\xff" * 80 + whole[100:]
+        damages = b"no database at all" * 99, whole[: len(whole) // 2], *overwritten
+        before = trees_of("out")
+        written("disks/c.adf", OFS)
+        for content in damages:
+            written("out/collection.sqlite", content)
+            self.refused(3, "out/collection.sqlite: ", "catalogue", "disks", "out")
+            with open("out/collection.sqlite", "rb") as file:
+                self.assertEqual(file.read(), content)
+            self.assertEqual(trees_of("out"), before)
+        written("out/collection.sqlite", whole)
+        self.catalogue("disks", "out", status=1)
+        self.assertEqual(self.verdicts("out")["c.adf"], "ok")
+
+    def test_leaves_a_database_of_another_program_or_version(self):
+        self.catalogue("disks", "out", status=1)
+        for pragma, told in (("user_version = 99", "of version 99, and this program knows"), ("application_id = 7", "not the database of a catalogue")):
+            with contextlib.closing(sqlite3.connect("out/collection.sqlite")) as connection:
+                connection.execute(f"PRAGMA {pragma}")
+            with open("out/collection.sqlite", "rb") as file:
+                whole = file.read()
+            self.refused(3, told, "catalogue", "disks", "out")
+            with open("out/collection.sqlite", "rb") as file:
+                self.assertEqual(file.read(), whole)
+
+    def test_brings_an_older_version_to_this_one(self):
+        self.catalogue("disks", "new", "--tsv", status=1)
+        os.mkdir("old")
+        with contextlib.closing(sqlite3.connect("old/collection.sqlite")) as connection:
+            connection.executescript(database.STEPS[0] + f"PRAGMA user_version = 1; PRAGMA application_id = {database.APPLICATION};")
+        self.catalogue("disks", "old", "--tsv", status=1)
+        self.assertEqual(trees_of("old"), trees_of("new"))
+        self.assertEqual(self.asked("old", "PRAGMA user_version"), [(len(database.STEPS),)])
+
+    def test_takes_the_place_of_a_catalogue_without_a_database(self):
+        os.mkdir("out")
+        written("out/adf-catalogue.state", b"{}")
+        self.catalogue("disks", "out", "--tsv", status=1)
+        self.assertFalse(os.path.exists("out/adf-catalogue.state"))
+        self.catalogue("disks", "new", "--tsv", status=1)
+        self.assertEqual(trees_of("out"), trees_of("new"))
+
+    def test_relies_on_nothing_that_a_database_says(self):
+        self.catalogue("disks", "out", status=1)
+        written("evil.html", b"own")
+        with contextlib.closing(sqlite3.connect("out/collection.sqlite")) as connection, connection:
+            connection.execute("UPDATE images SET page = '../evil.html', rescued = '../../etc', roles = x'00', is_shown = 0 WHERE name = 'a.adf'")
+            connection.execute("UPDATE images SET label = '<script>', name = '<img src=x>', verdict = '<b>', is_shown = 0 WHERE name = 'bad.adf'")
+            connection.execute("UPDATE images SET roles = ?, is_shown = 0 WHERE name LIKE 'two%'", (zlib.compress(bytes(50_000_000)),))
+        ran = self.run_tool("catalogue", "disks", "out")
+        self.assertIn(ran.returncode, (1, 3))
+        with open("evil.html", "rb") as file:
+            self.assertEqual(file.read(), b"own")
+        for path in ("out/index.html", *glob.glob("out/images/*.html")):
+            with open(path, encoding="utf-8") as file:
+                self.assertNotRegex(file.read(), "<img|<b>|<script>[^\n]")
+
+    def test_takes_any_name_for_its_folder(self):
+        for name in (b"o?mode=memory", b"#x%41", b"\xff\xfe", "\u00fc ".encode(), b"a\nb"):
+            self.catalogue("disks", name, status=1)
+            self.assertTrue(os.path.isfile(name + b"/collection.sqlite"))
+            self.assertEqual(self.run_tool("catalogue", "find", "readme", name).stdout.count(b"c/readme"), 3)
+
+    def test_waits_for_a_program_that_asks(self):
+        self.catalogue("disks", "out", status=1)
+        with contextlib.closing(sqlite3.connect("out/collection.sqlite", isolation_level=None)) as connection:
+            connection.execute("BEGIN EXCLUSIVE")
+            line = "from adf_tools import catalogue, database; database.WAIT = 0.1; catalogue.main()"
+            ran = self.run_python("-c", line, "disks", "out")
+            self.assertEqual((ran.returncode, ran.stderr), (3, b"adf-catalogue: out/collection.sqlite: database is locked\n"))
 
 
 class Terminals(Catalogues):

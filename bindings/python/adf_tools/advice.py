@@ -1,0 +1,64 @@
+"""What to do with an image, by what the library says of it: the groups of the first page of a catalogue."""
+
+from __future__ import annotations
+
+from typing import Iterator, NamedTuple, Optional
+
+import adf
+
+FLOPPIES = (1760, 3520)
+OTHER_TYPES, BITMAP = ("international", "directory cache"), {"not validated", "lost block", "owned free"}
+
+
+class Advice(NamedTuple):
+    """A group of images: its name in the database, what it is called on a page, and what to do."""
+
+    name: str
+    title: str
+    text: str
+
+
+GROUPS = (
+    Advice("sound", "Sound", "Nothing is to be done."),
+    Advice("other type", "Readable, of another type", "Nothing is wrong: the volume is of a type 2 to 5, which adf check refuses by name."),
+    Advice("bitmap", "Files whole, bitmap wrong", "All files can be read. The disk was perhaps taken out before its bitmap was written."),
+    Advice("read again", "Read again", "A checksum, a block or the end is wrong: read the disk once more, and compare."),
+    Advice("wrong length", "Wrong length", "The image is cut, or longer than its disk. Its line says the length that fits, in blocks."),
+    Advice("tables", "Hard disk with a fault", "The tables of the disk, or of a partition, have a fault. Other partitions are read all the same."),
+    Advice("no volume", "Not a volume of an Amiga", "It may be of another computer, or start by its own loader: keep it, and do not mend it."),
+    Advice("not read", "Not read", "The file or its archive cannot be read: copy it again."),
+)
+TITLES = {group.name: group.title for group in GROUPS}
+
+
+def lengths(count: int, is_whole: bool) -> Iterator[int]:
+    """The lengths in blocks that an image of another length may be meant to have, the nearest first."""
+    near = sorted(FLOPPIES, key=lambda blocks: abs(blocks - count))
+    yield from (blocks for blocks in near if blocks != count or not is_whole)
+    if not is_whole:
+        yield from (blocks for blocks in (count, count + 1) if blocks not in FLOPPIES and blocks <= adf.MOST_BYTES // adf.BLOCK)
+
+
+def length_that_fits(image: bytes, refused: adf.Refused) -> Optional[int]:
+    """The blocks of the first of these lengths at which the survey finds a root, if the image has none as it is."""
+    count, rest = divmod(len(image), adf.BLOCK)
+    if refused.cause != "bad size" and (refused.block != count // 2 or count in FLOPPIES):
+        return None
+    return next((blocks for blocks in lengths(count, not rest) if has_root(image, blocks)), None)
+
+
+def has_root(image: bytes, blocks: int) -> bool:
+    survey = adf.survey(image, blocks)
+    return bool(survey.kind and (survey.entries or survey.label))
+
+
+def advice_of(refused: adf.Refused, survey: adf.Survey, fits: Optional[int]) -> str:
+    """The group of a refused image."""
+    if refused.cause in OTHER_TYPES and len(survey.findings) == 1:
+        return "other type"
+    if fits is not None or refused.cause == "bad size":
+        return "wrong length" if fits is not None or survey.image[:3] == b"DOS" else "no volume"
+    if refused.cause == "not dos" and not survey.entries:
+        return "no volume"
+    causes = {finding.cause for finding in survey.findings[:1000]}
+    return "bitmap" if causes <= BITMAP and len(survey.findings) <= 1000 else "read again"

@@ -1,0 +1,159 @@
+"""adf-catalogue compare: what two images do not share, by path, and then by block."""
+
+from __future__ import annotations
+
+import argparse
+import hashlib
+import os
+import sys
+from typing import Dict, Iterator, List, NamedTuple, Optional
+
+import adf
+from adf_tools.collection import Image, images_in
+from adf_tools.names import letters
+from adf_tools.program import FAILED, REFUSED, command_line, host_text, stop
+from adf_tools.volumes import disk_of, file_sum, volume_of
+
+
+class Thing(NamedTuple):
+    """What is compared of an entry; the sum is that of the bytes of a file, and of a damaged one its state."""
+
+    kind: str
+    bytes: str
+    protection: str
+    date: str
+    comment: str
+
+
+class Side(NamedTuple):
+    """One of the two images: its bytes, its verdict and label, and its entries by their paths."""
+
+    image: bytes
+    verdict: str
+    label: str
+    things: Dict[str, Thing]
+
+
+def image_at(path: bytes) -> bytes:
+    """The image in a file, in an archive, or in a partition of a hard disk, named as a catalogue names it."""
+    file, rest = path, b""
+    while not os.path.isfile(file) and os.path.dirname(file) not in (file, b""):
+        file = os.path.dirname(file)
+        rest = path[len(file) :]
+    image = only(images_in(file, file), path, bool(rest))
+    if image.fault:
+        stop(FAILED, f"{host_text(path)}: {image.fault}")
+    return content_at(image, path)
+
+
+def only(images: Iterator[Image], path: bytes, is_inside: bool) -> Image:
+    """The one image that has this name, or that of a file which it is inside; others are not kept."""
+    found = None
+    for image in images:
+        if not is_inside or path == image.name or path.startswith(image.name + b"/"):
+            if found is not None:
+                stop(FAILED, f"{host_text(path)}: more than one image has this name")
+            found = image
+    if found is None:
+        stop(FAILED, f"{host_text(path)}: no image has this name")
+    return found
+
+
+def content_at(image: Image, path: bytes) -> bytes:
+    """The bytes of an image, or of the volume of its partition."""
+    if image.name == path or not path.startswith(image.name + b"/"):
+        return bytes(memoryview(image.content)[: adf.MOST_BYTES + 1])
+    disk, name = disk_of(image.content), path[len(image.name) + 1 :]
+    partition = next((one for one in disk.partitions if name in (one.raw_name, b"%d" % one.number)), None) if disk else None
+    volume = volume_of(disk, partition) if disk and partition else None
+    if volume is None:
+        stop(FAILED, f"{host_text(path)}: no partition has this name, or it has no volume")
+    return volume
+
+
+def thing_of(entry: adf.Entry | adf.Found, content: str) -> Thing:
+    return Thing("file" if entry.is_file else "directory", content, f"{entry.protection:08x}", str(entry.date), letters(entry.comment))
+
+
+def found_sum(entry: adf.Found) -> str:
+    """A sum of the bytes of a file of a damaged image, or why there is none."""
+    if not entry.is_sound:
+        return f"damaged, block {entry.header}"
+    try:
+        return hashlib.sha256(entry.read()).hexdigest() if entry.is_file else ""
+    except adf.Error:
+        return f"not reached, block {entry.header}"
+
+
+def side_of(image: bytes) -> Side:
+    """What is compared of an image; of a refused one what is found in it."""
+    try:
+        volume = adf.Volume(image)
+    except adf.Refused as refused:
+        survey = adf.survey(image)
+        return Side(image, str(refused), letters(survey.label), {letters(entry.path): thing_of(entry, found_sum(entry)) for entry in survey.entries})
+    sums = ((entry, file_sum(entry) if entry.is_file else "") for entry in volume.entries)
+    return Side(image, "ok", letters(volume.label), {letters(entry.path): thing_of(entry, digest) for entry, digest in sums})
+
+
+def same_elsewhere(gone: List[str], new: List[str], one: Side, other: Side) -> Dict[str, str]:
+    """The files that stand under another name: the old name, and the new one."""
+    waiting: Dict[str, List[str]] = {}
+    for path in reversed(new):
+        if other.things[path].kind == "file":
+            waiting.setdefault(other.things[path].bytes, []).append(path)
+    return {path: waiting[one.things[path].bytes].pop() for path in gone if one.things[path].kind == "file" and waiting.get(one.things[path].bytes)}
+
+
+def by_path(one: Side, other: Side) -> Iterator[str]:
+    """What differs in the entries."""
+    gone, new = sorted(set(one.things) - set(other.things)), sorted(set(other.things) - set(one.things))
+    moved = same_elsewhere(gone, new, one, other)
+    yield from (f"removed\t{path}" for path in gone if path not in moved)
+    yield from (f"added\t{path}" for path in new if path not in moved.values())
+    yield from (f"renamed\t{path}\t{moved[path]}" for path in gone if path in moved)
+    for path in sorted(set(one.things) & set(other.things)):
+        pair = one.things[path], other.things[path]
+        differing = [name for name, first, second in zip(Thing._fields, *pair) if first != second]
+        if differing:
+            yield f"changed\t{path}\t{', '.join(differing)}"
+
+
+def by_block(one: bytes, other: bytes) -> Iterator[str]:
+    """The ranges of blocks that differ; a block that one of them does not have differs."""
+    count, begin = -(-max(len(one), len(other)) // adf.BLOCK), None  # type: int, Optional[int]
+    first, second = memoryview(one), memoryview(other)
+    for block in range(count + 1):
+        place = slice(adf.BLOCK * block, adf.BLOCK * (block + 1))
+        is_same = block == count or first[place] == second[place]
+        if not is_same and begin is None:
+            begin = block
+        elif is_same and begin is not None:
+            yield f"blocks\t{begin}\t{block - 1}"
+            begin = None
+
+
+def lines(one: Side, other: Side) -> Iterator[str]:
+    for name in ("verdict", "label"):
+        if getattr(one, name) != getattr(other, name):
+            yield f"{name}\t{getattr(one, name)}\t{getattr(other, name)}"
+    yield from by_path(one, other)
+    yield from by_block(one.image, other.image)
+
+
+def work(words: argparse.Namespace) -> int:
+    """Writes a line for each difference; the status says whether there is one."""
+    adf.load()
+    one, other = (side_of(image_at(os.fsencode(path))) for path in (words.one, words.other))
+    found = 0
+    for line_ in lines(one, other):
+        sys.stdout.buffer.write((line_ + "\n").encode("utf-8"))
+        found += 1
+    return REFUSED if found else 0
+
+
+def line() -> argparse.ArgumentParser:
+    parser = command_line("adf-catalogue compare", "Says what two images do not share: a line for each difference, by path and then by block.")
+    parser.add_argument("one", metavar="A", help="an image; one in an archive, or in a partition, as a catalogue names it: games.zip/disk1.adf")
+    parser.add_argument("other", metavar="B", help="another image")
+    return parser

@@ -1,0 +1,219 @@
+"""The database of a catalogue, OUT/collection.sqlite: its schema, its versions, and how it is opened (docs/adf-catalogue.1).
+
+What it says is not relied on: another program may have written it. A page is written only under a name that a page can have, and every
+text is shown as a text.
+"""
+
+from __future__ import annotations
+
+import contextlib
+import fcntl
+import os
+import sqlite3
+import urllib.parse
+from typing import Iterator
+
+from adf_tools.program import FAILED, host_text, stop
+from adf_tools.trees import named
+
+NAME = "collection.sqlite"
+APPLICATION, WAIT = 0x61646643, 60.0  # adfC; so many seconds one program waits for another to end its transaction
+FIRST = """
+CREATE TABLE facts (name TEXT PRIMARY KEY, value TEXT NOT NULL) WITHOUT ROWID;
+CREATE TABLE runs (
+    id INTEGER PRIMARY KEY, begun TEXT NOT NULL, ended TEXT, program TEXT NOT NULL,
+    files INTEGER, read INTEGER NOT NULL DEFAULT 0, removed INTEGER NOT NULL DEFAULT 0);
+CREATE TABLE files (
+    id INTEGER PRIMARY KEY, path TEXT NOT NULL UNIQUE, size INTEGER, altered_ns INTEGER, inode INTEGER, changed_ns INTEGER,
+    run INTEGER NOT NULL REFERENCES runs);
+CREATE TABLE images (
+    id INTEGER PRIMARY KEY, file INTEGER NOT NULL REFERENCES files ON DELETE CASCADE, disk INTEGER REFERENCES images ON DELETE CASCADE,
+    name TEXT NOT NULL, number INTEGER NOT NULL, member TEXT, page TEXT, bytes INTEGER,
+    crc32 TEXT, md5 TEXT, sha1 TEXT, sha256 TEXT, tree TEXT, advice TEXT NOT NULL, verdict TEXT NOT NULL, block INTEGER, cause TEXT,
+    kind TEXT, type INTEGER, blocks INTEGER, used INTEGER, free INTEGER, dirs INTEGER, files INTEGER,
+    label TEXT, root TEXT, altered TEXT, created TEXT, boot_crc32 TEXT, boot_is_right INTEGER,
+    faults INTEGER, sound INTEGER, lost INTEGER, unlisted INTEGER, fits INTEGER, rescued TEXT, roles BLOB,
+    is_shown INTEGER NOT NULL DEFAULT 0);
+CREATE INDEX images_of_files ON images (file);
+CREATE INDEX images_of_disks ON images (disk);
+CREATE INDEX images_by_name ON images (name, number);
+CREATE INDEX images_by_sha256 ON images (sha256);
+CREATE INDEX images_by_tree ON images (tree);
+CREATE INDEX images_by_advice ON images (advice, name, number);
+CREATE TABLE findings (
+    id INTEGER PRIMARY KEY, image INTEGER NOT NULL REFERENCES images ON DELETE CASCADE,
+    first INTEGER NOT NULL, last INTEGER NOT NULL, cause TEXT NOT NULL, path TEXT, owner TEXT);
+CREATE INDEX findings_of_images ON findings (image);
+CREATE TABLE entries (
+    id INTEGER PRIMARY KEY, image INTEGER NOT NULL REFERENCES images ON DELETE CASCADE, kind TEXT NOT NULL, path TEXT NOT NULL,
+    size INTEGER NOT NULL, protection INTEGER NOT NULL, date TEXT NOT NULL, comment TEXT NOT NULL, header INTEGER NOT NULL,
+    state TEXT NOT NULL, sha256 TEXT);
+CREATE INDEX entries_of_images ON entries (image);
+CREATE INDEX entries_by_sha256 ON entries (sha256) WHERE sha256 IS NOT NULL;
+CREATE TABLE left_out (
+    id INTEGER PRIMARY KEY, image INTEGER NOT NULL REFERENCES images ON DELETE CASCADE, why TEXT NOT NULL, path TEXT NOT NULL);
+CREATE INDEX left_out_of_images ON left_out (image);
+CREATE TABLE partitions (
+    id INTEGER PRIMARY KEY, disk INTEGER NOT NULL REFERENCES images ON DELETE CASCADE, number INTEGER NOT NULL, name TEXT NOT NULL,
+    kind TEXT NOT NULL, first INTEGER NOT NULL, blocks INTEGER NOT NULL, flags INTEGER NOT NULL, priority INTEGER NOT NULL,
+    block INTEGER NOT NULL, fault TEXT NOT NULL, volume INTEGER REFERENCES images ON DELETE SET NULL);
+CREATE INDEX partitions_of_disks ON partitions (disk);
+CREATE INDEX partitions_of_volumes ON partitions (volume);
+CREATE TABLE holders (sha256 TEXT PRIMARY KEY, images TEXT NOT NULL) WITHOUT ROWID;
+CREATE TABLE touched (sha256 TEXT PRIMARY KEY, name TEXT NOT NULL) WITHOUT ROWID;
+"""
+SECOND = """
+CREATE VIRTUAL TABLE image_words USING fts5 (name, label, content = '');
+CREATE VIRTUAL TABLE entry_words USING fts5 (path, comment, content = '');
+CREATE VIRTUAL TABLE text_words USING fts5 (content);
+CREATE VIRTUAL TABLE image_terms USING fts5vocab (image_words, instance);
+CREATE VIRTUAL TABLE entry_terms USING fts5vocab (entry_words, instance);
+CREATE VIRTUAL TABLE image_vocabulary USING fts5vocab (image_words, row);
+CREATE VIRTUAL TABLE entry_vocabulary USING fts5vocab (entry_words, row);
+CREATE VIRTUAL TABLE touched_words USING fts5 (words, content = '', detail = none);
+CREATE VIRTUAL TABLE touched_vocabulary USING fts5vocab (touched_words, row);
+CREATE TABLE parts_due (name TEXT PRIMARY KEY) WITHOUT ROWID;
+INSERT INTO image_words (rowid, name, label) SELECT id, name, label FROM images;
+INSERT INTO entry_words (rowid, path, comment) SELECT id, substr(path, -1024), comment FROM entries;
+"""
+THIRD = """
+CREATE TABLE known (
+    id INTEGER PRIMARY KEY, list TEXT NOT NULL, game TEXT NOT NULL, name TEXT NOT NULL, plain_name TEXT NOT NULL,
+    size INTEGER, crc32 TEXT, md5 TEXT, sha1 TEXT);
+CREATE INDEX known_by_sha1 ON known (sha1);
+CREATE INDEX known_by_md5 ON known (md5);
+CREATE INDEX known_by_crc32 ON known (crc32);
+CREATE INDEX known_by_name ON known (plain_name);
+ALTER TABLE images ADD COLUMN known TEXT;
+ALTER TABLE images ADD COLUMN known_as TEXT;
+CREATE INDEX images_by_sha1 ON images (sha1);
+CREATE INDEX images_by_md5 ON images (md5);
+CREATE INDEX images_by_crc32 ON images (crc32);
+CREATE INDEX images_by_known ON images (known, name, number);
+"""
+FOURTH = """
+CREATE TABLE icons (
+    id INTEGER PRIMARY KEY, image INTEGER NOT NULL REFERENCES images ON DELETE CASCADE, path TEXT NOT NULL,
+    width INTEGER NOT NULL, height INTEGER NOT NULL, palette INTEGER NOT NULL, pixels BLOB NOT NULL);
+CREATE INDEX icons_of_images ON icons (image);
+"""
+STEPS = (FIRST, SECOND, THIRD, FOURTH)  # each brings a database to the next version
+
+
+@contextlib.contextmanager
+def told(path: str) -> Iterator[None]:
+    """What SQLite cannot do with a database is told in one line."""
+    try:
+        yield
+    except sqlite3.DatabaseError as error:
+        is_damaged = not isinstance(error, sqlite3.OperationalError) or "malformed" in str(error)
+        stop(FAILED, f"{host_text(path)}: {'damaged; it is left as it is: ' if is_damaged else ''}{error}")
+
+
+def connection_to(path: str, mode: str) -> sqlite3.Connection:
+    """A connection to the file of a database, which is made if the mode is `rwc`."""
+    name = urllib.parse.quote(os.fsencode(os.path.abspath(path)))
+    connection = sqlite3.connect(f"file:{name}?mode={mode}", uri=True, timeout=WAIT, isolation_level=None)
+    connection.row_factory = sqlite3.Row
+    for pragma in ("trusted_schema = OFF", "foreign_keys = ON", "cell_size_check = ON"):
+        connection.execute(f"PRAGMA {pragma}")
+    return connection
+
+
+def version_of(connection: sqlite3.Connection, path: str) -> int:
+    """The version of a database: 0 if it is empty. A file of another program or of a newer version is left as it is."""
+    mark, version = (connection.execute(f"PRAGMA {name}").fetchone()[0] for name in ("application_id", "user_version"))
+    if mark == 0 and version == 0 and not connection.execute("SELECT COUNT(*) FROM sqlite_master").fetchone()[0]:
+        return 0
+    if mark != APPLICATION:
+        stop(FAILED, f"{host_text(path)}: not the database of a catalogue; it is left as it is")
+    if version > len(STEPS):
+        stop(FAILED, f"{host_text(path)}: of version {version}, and this program knows those up to {len(STEPS)}; it is left as it is")
+    return int(version)
+
+
+@contextlib.contextmanager
+def alone(path: str) -> Iterator[None]:
+    """Keeps other runs out of a folder or a file, as far as its file system can; the file is made if it is not there."""
+    with named(path):
+        file = os.open(path, os.O_RDONLY | os.O_CLOEXEC | (0 if os.path.isdir(path) else os.O_CREAT), 0o666)
+    try:
+        try:
+            fcntl.flock(file, fcntl.LOCK_EX | fcntl.LOCK_NB)
+        except BlockingIOError:
+            stop(FAILED, f"{host_text(path)}: another run is writing this catalogue")
+        except OSError:
+            pass
+        yield
+    finally:
+        os.close(file)
+
+
+@contextlib.contextmanager
+def transaction(connection: sqlite3.Connection) -> Iterator[None]:
+    """All that is written in here is kept, or nothing of it."""
+    connection.execute("BEGIN IMMEDIATE")
+    try:
+        yield
+        connection.execute("COMMIT")
+    except BaseException:
+        with contextlib.suppress(sqlite3.Error):
+            connection.execute("ROLLBACK")
+        raise
+
+
+def migrate(connection: sqlite3.Connection, path: str) -> None:
+    """Brings a database to this version, in one transaction."""
+    with transaction(connection):
+        for step in STEPS[version_of(connection, path) :]:
+            for statement in statements_of(step):
+                connection.execute(statement)
+        connection.execute(f"PRAGMA application_id = {APPLICATION}")
+        connection.execute(f"PRAGMA user_version = {len(STEPS)}")
+
+
+def statements_of(script: str) -> Iterator[str]:
+    """The statements of a script, one after the other: sqlite3's own way to run a script ends the transaction."""
+    left = ""
+    for line in script.splitlines(keepends=True):
+        left += line
+        if sqlite3.complete_statement(left):
+            yield left
+            left = ""
+
+
+def check_whole(connection: sqlite3.Connection, path: str) -> None:
+    """A damaged database is told before anything is written."""
+    (found,) = connection.execute("PRAGMA quick_check(1)").fetchone()
+    if found != "ok":
+        stop(FAILED, f"{host_text(path)}: damaged; it is left as it is: {' '.join(str(found).split())}")
+
+
+@contextlib.contextmanager
+def opened(path: str, is_new: bool = False) -> Iterator[sqlite3.Connection]:
+    """A database to write, which is made if it is new, and brought to this version if it is older."""
+    with told(path):
+        connection = connection_to(path, "rwc" if is_new else "rw")
+        try:
+            if version_of(connection, path):
+                check_whole(connection, path)
+            if version_of(connection, path) < len(STEPS):
+                migrate(connection, path)
+            yield connection
+        finally:
+            connection.close()
+
+
+@contextlib.contextmanager
+def asked(path: str) -> Iterator[sqlite3.Connection]:
+    """A database to ask. An older one is not brought to this version by that."""
+    with told(path):
+        connection = connection_to(path, "rw" if os.access(path, os.W_OK) else "ro")
+        try:
+            connection.execute("PRAGMA query_only = ON")
+            version = version_of(connection, path)
+            if version < len(STEPS):
+                stop(FAILED, f"{host_text(path)}: of version {version}; the next run of adf-catalogue brings it to version {len(STEPS)}")
+            yield connection
+        finally:
+            connection.close()

@@ -1,0 +1,99 @@
+"""adf-catalogue find: asks a catalogue which disks and files have these words, or this checksum."""
+
+from __future__ import annotations
+
+import argparse
+import json
+import os
+import re
+import sqlite3
+import sys
+from typing import Iterator, Sequence
+
+from adf_tools import database
+from adf_tools.names import one_line
+from adf_tools.program import FAILED, NOT_FOUND, command_line, host_text, stop
+
+SUM_COLUMNS = {8: "crc32", 32: "md5", 40: "sha1", 64: "sha256"}
+SUM = re.compile("[0-9a-f]+")
+FIELDS = "images.name AS image, entries.path, entries.kind, entries.size, entries.date, entries.state, entries.sha256"
+OF_IMAGE = "images.name AS image, NULL AS path, kind, bytes AS size, altered AS date, verdict AS state, sha256"
+BY_ENTRY = f"""SELECT {FIELDS} FROM entry_words JOIN entries ON entries.id = entry_words.rowid JOIN images ON images.id = image
+WHERE entry_words MATCH ? ORDER BY images.name, images.number, entries.id"""
+BY_IMAGE = f"""SELECT {OF_IMAGE} FROM image_words JOIN images ON images.id = image_words.rowid
+WHERE image_words MATCH ? ORDER BY images.name, images.number"""
+BY_TEXT = f"""SELECT {FIELDS} FROM text_words JOIN entries ON entries.id = text_words.rowid JOIN images ON images.id = image
+WHERE text_words MATCH ? ORDER BY images.name, images.number, entries.id"""
+BY_FILE_SUM = f"SELECT {FIELDS} FROM entries JOIN images ON images.id = image WHERE entries.sha256 = ? ORDER BY images.name, images.number, entries.id"
+
+
+def query_of(words: Sequence[str]) -> str:
+    """The query for what has a word that begins with each of these; any text is a word."""
+    quoted = (word.encode("utf-8", "replace").decode().replace('"', '""') for word in words)
+    return " ".join(f'"{word}"*' for word in quoted)
+
+
+def by_words(connection: sqlite3.Connection, words: Sequence[str]) -> Iterator[sqlite3.Row]:
+    """The images whose name or label has the words, and then the entries whose path or comment has them."""
+    yield from connection.execute(BY_IMAGE, (query_of(words),))
+    yield from connection.execute(BY_ENTRY, (query_of(words),))
+
+
+def by_text(connection: sqlite3.Connection, words: Sequence[str], out: str) -> Iterator[sqlite3.Row]:
+    """The text files whose contents have the words."""
+    if not connection.execute("SELECT value FROM facts WHERE name = 'texts'").fetchone():
+        stop(FAILED, f"{host_text(out)}: contents are found only if --index-text was given once")
+    yield from connection.execute(BY_TEXT, (query_of(words),))
+
+
+def by_sum(connection: sqlite3.Connection, digits: str) -> Iterator[sqlite3.Row]:
+    """The images with this checksum, and the files, if it is a SHA-256."""
+    column = SUM_COLUMNS[len(digits)]
+    yield from connection.execute(f"SELECT {OF_IMAGE} FROM images WHERE {column} = ? ORDER BY name, number", (digits,))
+    if column == "sha256":
+        yield from connection.execute(BY_FILE_SUM, (digits,))
+
+
+def line_of(row: sqlite3.Row, is_json: bool) -> str:
+    if is_json:
+        return json.dumps({name: row[name] for name in row.keys() if row[name] is not None}, ensure_ascii=False)
+    return f"{one_line(row['image'])}\t{one_line(row['path'] or '')}"
+
+
+def checksum(text: str) -> str:
+    """The digits of a checksum that a word of the command line gives."""
+    digits = text.lower()
+    if not SUM.fullmatch(digits) or len(digits) not in SUM_COLUMNS:
+        raise argparse.ArgumentTypeError(f"not a checksum of 8, 32, 40 or 64 hexadecimal digits: {text!r}")
+    return digits
+
+
+def work(words: argparse.Namespace) -> int:
+    """Writes a line for each place that is found; the status says whether there is one."""
+    count = 0
+    with database.asked(os.path.join(words.out, database.NAME)) as connection:
+        if words.sum:
+            rows = by_sum(connection, words.sum)
+        else:
+            rows = by_text(connection, words.words, words.out) if words.text else by_words(connection, words.words)
+        for row in rows:
+            sys.stdout.buffer.write((line_of(row, words.json) + "\n").encode("utf-8", "backslashreplace"))
+            count += 1
+    return 0 if count else NOT_FOUND
+
+
+def line() -> argparse.ArgumentParser:
+    parser = command_line("adf-catalogue find", "Finds disks and files of a catalogue: a line IMAGE, tab, PATH for each.")
+    parser.add_argument("words", metavar="WORDS", nargs="*", help="words with which words of names, labels, paths and comments begin, all of them")
+    parser.add_argument("out", metavar="OUT", help="the catalogue")
+    parser.add_argument("--sum", type=checksum, metavar="SUM", help="in place of words: a CRC-32, MD5, SHA-1 or SHA-256 of an image, a SHA-256 of a file")
+    parser.add_argument("--text", action="store_true", help="find text files by their contents, if the catalogue was written with --index-text")
+    parser.add_argument("--json", action="store_true", help="write JSON Lines: an object for each")
+    return parser
+
+
+def checked(words: argparse.Namespace) -> int:
+    """Words or a checksum are wanted, and not both."""
+    if bool(words.words) == bool(words.sum) or words.sum and words.text:
+        line().error("either words or --sum is wanted")
+    return work(words)

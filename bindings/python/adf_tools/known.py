@@ -1,0 +1,138 @@
+"""Published lists of known disks (Logiqx XML, as TOSEC and others publish them), and which images they name."""
+
+from __future__ import annotations
+
+import os
+import re
+import sqlite3
+from typing import Any, BinaryIO, Dict, Iterator, List, NamedTuple, NoReturn, Optional, Sequence, Tuple
+from xml.parsers import expat
+
+from adf_tools.database import transaction
+from adf_tools.names import host_letters
+from adf_tools.program import FAILED, host_text, stop
+
+MOST_BYTES, MOST_DISKS, MOST_TEXT, MOST_TAG, PART = 1 << 30, 5_000_000, 1024, 4 << 20, 1 << 20
+SUMS = {"crc": (8, "crc32"), "md5": (32, "md5"), "sha1": (40, "sha1")}
+HEXADECIMAL = re.compile("[0-9a-f]+")
+PACKED = (".gz", ".adz", ".hdz", ".zip")
+INSERT = "INSERT INTO known (list, game, name, plain_name, size, crc32, md5, sha1) VALUES (?, ?, ?, ?, ?, ?, ?, ?)"
+MATCHES = """
+SELECT images.id, known.list, game, known.name FROM images JOIN known ON known.sha1 = images.sha1
+UNION ALL SELECT images.id, known.list, game, known.name FROM images JOIN known ON known.md5 = images.md5 WHERE known.sha1 IS NULL
+UNION ALL SELECT images.id, known.list, game, known.name FROM images JOIN known ON known.crc32 = images.crc32 AND known.size = bytes
+    WHERE known.sha1 IS NULL AND known.md5 IS NULL
+ORDER BY 1, 4, 3, 2"""
+
+
+class Disk(NamedTuple):
+    """A disk that a list names: its list, the game or set it is of, its own name, its length and its checksums."""
+
+    list: str
+    game: str
+    name: str
+    size: Optional[int]
+    crc32: Optional[str]
+    md5: Optional[str]
+    sha1: Optional[str]
+
+
+class BadList(Exception):
+    """What a list has that it may not have."""
+
+
+def refused(*_what: Any) -> NoReturn:
+    raise BadList("it declares entities, which no list needs")
+
+
+def plain_name(name: str) -> str:
+    """The name of an image without folders, in small letters, and without what an archive adds."""
+    name = name.rsplit("/", 1)[-1].lower()
+    for end in PACKED:
+        name = name[: -len(end)] if name.endswith(end) else name
+    return name if name.endswith((".adf", ".hdf")) else name + ".adf"
+
+
+def text(attributes: Dict[str, str], name: str) -> str:
+    return host_letters(attributes.get(name, "")[:MOST_TEXT].encode("utf-8", "surrogateescape"))
+
+
+def digits(attributes: Dict[str, str], name: str) -> Optional[str]:
+    """A checksum, if it has as many digits as it should."""
+    value = attributes.get(name, "").lower()
+    return value if len(value) == SUMS[name][0] and HEXADECIMAL.fullmatch(value) else None
+
+
+class Parser:
+    """Reads a list step by step. Nothing that it names is loaded, and no entity is taken."""
+
+    def __init__(self, title: str) -> None:
+        self.title, self.game, self.found = title, "", []  # type: str, str, List[Disk]
+        self.parser = expat.ParserCreate()
+        self.parser.StartElementHandler = self.begun
+        self.parser.EntityDeclHandler = self.parser.ExternalEntityRefHandler = refused
+
+    def begun(self, element: str, attributes: Dict[str, str]) -> None:
+        if element in ("game", "machine"):
+            self.game = text(attributes, "name")
+        elif element == "rom":
+            size = attributes.get("size", "")
+            sums = (digits(attributes, name) for name in SUMS)
+            number = int(size) if re.fullmatch("[0-9]{1,15}", size) else None
+            self.found.append(Disk(self.title, self.game, text(attributes, "name"), number, *sums))
+
+    def disks(self, file: BinaryIO) -> Iterator[Disk]:
+        """The disks of an open file that have a checksum."""
+        count = read = 0
+        while part := file.read(PART):
+            read += len(part)
+            if read > MOST_BYTES:
+                raise BadList(f"it has more than {MOST_BYTES} bytes")
+            self.parser.Parse(part, False)
+            if read - self.parser.CurrentByteIndex > MOST_TAG:
+                raise BadList(f"it has a tag of more than {MOST_TAG} bytes")
+            found, self.found = [disk for disk in self.found if disk.sha1 or disk.md5 or disk.crc32], []
+            count += len(found)
+            if count > MOST_DISKS:
+                raise BadList(f"it has more than {MOST_DISKS} disks")
+            yield from found
+        self.parser.Parse(b"", True)
+
+
+def take(connection: sqlite3.Connection, paths: Sequence[str]) -> None:
+    """Puts these lists in the place of those that the database has; if one of them cannot be read, nothing changes."""
+    with transaction(connection):
+        connection.execute("DELETE FROM known")
+        for path in paths:
+            try:
+                with open(path, "rb") as file:
+                    disks = Parser(host_letters(os.path.basename(os.fsencode(path)))).disks(file)
+                    connection.executemany(INSERT, (row_of(disk) for disk in disks))
+            except (expat.ExpatError, BadList, ValueError) as error:
+                stop(FAILED, f"{host_text(path)}: not a list of known disks: {error}")
+
+
+def row_of(disk: Disk) -> Tuple[Any, ...]:
+    return disk.list, disk.game, disk.name, plain_name(disk.name), *disk[3:]
+
+
+def note(connection: sqlite3.Connection) -> None:
+    """Notes of each image whether a list knows it, and as what; pages that say something else by that are made again."""
+    has_lists = connection.execute("SELECT EXISTS (SELECT 1 FROM known)").fetchone()[0]
+    found: Dict[int, Tuple[str, str]] = {}
+    if has_lists:
+        for image, title, game, name in connection.execute(MATCHES):
+            found.setdefault(image, ("known", f"{name or game} ({title})"))
+    with transaction(connection):
+        rows = connection.execute("SELECT id, name, sha256, known, known_as FROM images").fetchall()
+        for row in rows:
+            now = found.get(row["id"]) or (unmatched(connection, row) if has_lists and row["sha256"] else (None, None))
+            if now != (row["known"], row["known_as"]):
+                connection.execute("UPDATE images SET known = ?, known_as = ?, is_shown = 0 WHERE id = ?", (*now, row["id"]))
+
+
+def unmatched(connection: sqlite3.Connection, row: sqlite3.Row) -> Tuple[str, Optional[str]]:
+    """Of an image that no list has by its checksums: whether a list has its name."""
+    line = "SELECT name, list FROM known WHERE plain_name = ? ORDER BY list, name LIMIT 1"
+    named = connection.execute(line, (plain_name(row["name"]),)).fetchone()
+    return ("differs", f"{named['name']} ({named['list']})") if named else ("unknown", None)

@@ -1,0 +1,169 @@
+"""adf-catalogue scan and merge: parts of a collection are read on several machines, each into a database of its own, and put together."""
+
+from __future__ import annotations
+
+import argparse
+import contextlib
+import os
+import re
+import sqlite3
+from typing import Any, Dict, List, Sequence, Tuple
+
+import adf
+from adf_tools import database, store
+from adf_tools.database import transaction
+from adf_tools.program import FAILED, REFUSED, add_escape, command_line, host_text, stop
+from adf_tools.scan import Options, Part, Scan
+from adf_tools.trees import identity
+from adf_tools.volumes import Record, record
+
+PART = re.compile("([1-9][0-9]{0,5})/([1-9][0-9]{0,5})")
+IMAGE = tuple(
+    """name number member page bytes crc32 md5 sha1 sha256 tree advice verdict block cause kind type blocks used free dirs files label root
+    altered created boot_crc32 boot_is_right faults sound lost unlisted fits roles""".split()
+)
+FILES = 100  # of a transaction
+
+
+def part_of(text: str) -> Part:
+    """The part that a word of the command line names, as 3/8."""
+    found = PART.fullmatch(text)
+    if not found or int(found[1]) > int(found[2]):
+        raise argparse.ArgumentTypeError(f"not a part, as 3/8, the third of eight: {text!r}")
+    return Part(int(found[1]), int(found[2]))
+
+
+# Scan
+
+
+def scan(words: argparse.Namespace) -> int:
+    """Reads a part of the files into a database, or brings that up to date."""
+    adf.load()
+    os.listdir(os.fsencode(words.folder))
+    out = os.path.dirname(os.path.abspath(words.out))
+    with database.alone(words.out), database.opened(words.out, not os.path.exists(words.out)) as connection:
+        own = {identity(out)} if os.path.exists(os.path.join(out, database.NAME)) else set()
+        options = Options(None, words.fresh, store.wants_texts(connection, words.index_text), words.part)
+        Scan(connection, os.fsencode(words.folder), out, own, options).update()
+        _, refused, unread = store.counts(connection)
+    return FAILED if unread else REFUSED if refused else 0
+
+
+def scan_line() -> argparse.ArgumentParser:
+    parser = command_line("adf-catalogue scan", "Reads a part of the images in a folder into a database, which adf-catalogue merge takes.")
+    parser.add_argument("part", metavar="PART", type=part_of, help="which part, as 3/8: the third of eight")
+    parser.add_argument("folder", metavar="FOLDER", help="the images, as of adf-catalogue")
+    parser.add_argument("out", metavar="DATABASE", help="the database of the part, which is created or brought up to date")
+    parser.add_argument("--index-text", action="store_true", help="keep the contents of text files too")
+    parser.add_argument("--fresh", action="store_true", help="read all files again, not only those that have changed")
+    return parser
+
+
+# Merge
+
+
+def facts_of(connection: sqlite3.Connection) -> Dict[str, str]:
+    return {name: value for name, value in connection.execute("SELECT name, value FROM facts")}
+
+
+def checked(parts: Sequence[Tuple[str, sqlite3.Connection]]) -> Dict[str, str]:
+    """The facts of the parts, which have to be all parts of one collection, read in one way."""
+    each = [(path, facts_of(connection)) for path, connection in parts]
+    found = [PART.fullmatch(facts.get("part", "")) for _, facts in each]
+    for (path, facts), which in zip(each, found):
+        pairs = [(facts.get(name), each[0][1].get(name)) for name in ("reader", "title")] + [(which and which[2], found[0] and found[0][2])]
+        if which is None or any(own != first for own, first in pairs):
+            stop(FAILED, f"{host_text(path)}: not a part of the same collection as the first one, read by the same program")
+    whole, numbers = int(found[0][2]) if found[0] else 0, sorted(int(which[1]) for which in found if which)
+    if numbers != list(range(1, whole + 1)):
+        stop(FAILED, f"the parts of a whole are wanted, 1/{whole} to {whole}/{whole}, each once; these are {', '.join(map(str, numbers))}")
+    return each[0][1]
+
+
+def records_of(part: sqlite3.Connection, file: int) -> List[Record]:
+    """What a part keeps of a file, as a reader gives it."""
+    numbers = {volume: (disk, number) for volume, disk, number in part.execute(
+        "SELECT volume, partitions.disk, partitions.number FROM partitions JOIN images ON images.id = partitions.disk WHERE file = ?", (file,))}  # fmt: skip
+    found = []
+    for row in part.execute("SELECT * FROM images WHERE file = ? ORDER BY COALESCE(disk, id), id", (file,)).fetchall():
+        columns: Dict[str, Any] = {name: row[name] for name in IMAGE}
+        if row["disk"] is not None and row["id"] in numbers:
+            columns["partition"] = numbers[row["id"]][1]
+        found.append(rows_of(part, row["id"], columns))
+    return found
+
+
+def rows_of(part: sqlite3.Connection, image: int, columns: Dict[str, Any]) -> Record:
+    """An image of a part with its rows of all tables."""
+    tables: Dict[str, Tuple[str, ...]] = {**store.TABLES, "partitions": store.PARTITION}
+    rows: Dict[str, Any] = {
+        table: [tuple(row) for row in part.execute(f"SELECT {', '.join(names)} FROM {table} WHERE {key} = ? ORDER BY id", (image,))]
+        for table, names in tables.items()
+        for key in ["disk" if table == "partitions" else "image"]
+    }
+    line = "SELECT entries.id, content FROM entries JOIN text_words ON text_words.rowid = entries.id WHERE image = ? ORDER BY entries.id"
+    (first,) = part.execute("SELECT MIN(id) FROM entries WHERE image = ?", (image,)).fetchone()
+    return record(columns)._replace(texts=[(number - first, text) for number, text in part.execute(line, (image,))], **rows)
+
+
+class Merge:
+    """Puts parts into the database of a catalogue. What it has of a file already is left as it is."""
+
+    def __init__(self, connection: sqlite3.Connection, parts: Sequence[Tuple[str, sqlite3.Connection]]) -> None:
+        self.connection, self.parts = connection, parts
+
+    def update(self) -> None:
+        facts = checked(self.parts)
+        known = self.begun(facts)
+        files = [(row["path"], part, row) for _, part in self.parts for row in part.execute("SELECT * FROM files")]
+        files.sort(key=lambda file: file[0])
+        new = [file for file in files if known.get(file[0], (0, None))[1] != stamp_of(file[2]) or file[2]["size"] is None]
+        for at in range(0, len(new), FILES):
+            self.add(known, new[at : at + FILES])
+        names = {path for path, _, _ in files}
+        with transaction(self.connection):
+            gone = [number for path, (number, _) in known.items() if path not in names]
+            for number in gone:
+                store.remove(self.connection, number)
+            self.connection.execute("UPDATE runs SET ended = datetime('now'), removed = ? WHERE id = ?", (len(gone), self.run))
+
+    def begun(self, facts: Dict[str, str]) -> Dict[str, Tuple[int, Any]]:
+        """Notes that a run begins; gives the files that the catalogue has."""
+        with transaction(self.connection):
+            if facts_of(self.connection).get("reader") != facts.get("reader"):
+                self.connection.execute("UPDATE files SET size = NULL")
+            kept = {name: facts[name] for name in ("reader", "title", "texts") if name in facts}
+            self.connection.executemany("INSERT OR REPLACE INTO facts VALUES (?, ?)", kept.items())
+            line = "INSERT INTO runs (begun, program) VALUES (datetime('now'), ?)"
+            self.run = self.connection.execute(line, (f"adf-catalogue merge {adf.__version__}",)).lastrowid or 0
+        return {row["path"]: (row["id"], stamp_of(row)) for row in self.connection.execute("SELECT * FROM files")}
+
+    def add(self, known: Dict[str, Tuple[int, Any]], files: Sequence[Tuple[str, sqlite3.Connection, sqlite3.Row]]) -> None:
+        with transaction(self.connection):
+            for path, part, row in files:
+                if path in known:
+                    store.remove(self.connection, known[path][0])
+                store.add(self.connection, path, stamp_of(row), self.run, records_of(part, row["id"]))
+            self.connection.execute("UPDATE runs SET read = read + ? WHERE id = ?", (len(files), self.run))
+
+
+def stamp_of(row: sqlite3.Row) -> Any:
+    stamp = tuple(row[name] for name in ("size", "altered_ns", "inode", "changed_ns"))
+    return None if stamp[0] is None else stamp
+
+
+@contextlib.contextmanager
+def opened_parts(paths: Sequence[str]) -> Any:
+    """The databases of the parts, which are only asked."""
+    with contextlib.ExitStack() as stack:
+        yield [(path, stack.enter_context(database.asked(path))) for path in paths]
+
+
+def merge_line() -> argparse.ArgumentParser:
+    parser = command_line("adf-catalogue merge", "Puts the parts that adf-catalogue scan wrote into a catalogue, and writes its pages.")
+    parser.add_argument("out", metavar="OUT", help="the catalogue, which is created or brought up to date")
+    parser.add_argument("parts", metavar="DATABASE", nargs="+", help="the databases of all parts")
+    parser.add_argument("--tsv", action="store_true", help="also write the tables images.tsv and entries.tsv")
+    parser.add_argument("--dat", action="append", metavar="FILE", help="a published list of known disks; may be given more than once")
+    add_escape(parser, "write texts of the tables")
+    return parser

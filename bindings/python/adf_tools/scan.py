@@ -1,0 +1,148 @@
+"""Brings the database of a catalogue up to date with the files below a folder, in transactions of some files each: a run that is
+broken off is taken up by the next one."""
+
+from __future__ import annotations
+
+import contextlib
+import glob
+import hashlib
+import json
+import os
+import sqlite3
+import time
+import zlib
+from typing import Container, Dict, Iterator, List, NamedTuple, Optional, Tuple
+
+import adf
+from adf_tools import store
+from adf_tools.collection import ARCHIVES, files_below
+from adf_tools.database import transaction
+from adf_tools.names import host_letters
+from adf_tools.processes import in_order
+from adf_tools.program import Progress, working_folder
+from adf_tools.reader import Reader
+from adf_tools.trees import Identity
+from adf_tools.volumes import Record
+
+HERE = os.path.dirname(os.path.abspath(__file__))
+READING = ("advice", "collection", "icons", "names", "picture", "reader", "sums", "volumes")  # the modules by which files are read
+LEAST_MEMORY, IMAGE_COPIES, PACKED = 256 << 20, 6, 8  # what a process takes, how often it has an image, how small an archive packs one
+FILES, WEIGHT, SECONDS = 100, 16 << 20, 2.0  # of a transaction
+
+
+class Part(NamedTuple):
+    """One of so many parts of a collection: the files whose names' sums say so, whatever other files there are."""
+
+    number: int
+    whole: int
+
+    def has(self, name: bytes) -> bool:
+        return zlib.crc32(name) % self.whole == self.number - 1
+
+
+class File(NamedTuple):
+    """A file below the folder: its path, its name there, and its stamp."""
+
+    path: bytes
+    name: str
+    stamp: Optional[store.Stamp]
+
+
+class Options(NamedTuple):
+    """What is wanted of the files: the folder for the new volumes of refused images, if they are; all read again; the contents of text
+    files; a part of the files alone."""
+
+    rescues: Optional[str] = None
+    is_fresh: bool = False
+    has_texts: bool = False
+    part: Part = Part(1, 1)
+
+
+def sum_of(path: str) -> str:
+    digest = hashlib.sha256()
+    with open(path, "rb") as file:
+        for part in iter(lambda: file.read(adf.PART), b""):
+            digest.update(part)
+    return digest.hexdigest()
+
+
+def reader_of(options: Options) -> str:
+    """What reads the files: the version of the module, its files, the library, and the options."""
+    own = [path for path in sorted(glob.glob(os.path.join(HERE, "*.py"))) if os.path.basename(path)[:-3] in READING]
+    return json.dumps([adf.__version__, *map(sum_of, (adf.library_path(), adf.__file__, *own)), options.rescues is not None, options.has_texts])
+
+
+def memory_for(files: List[File]) -> int:
+    """How many bytes a process may take that reads these files. What an archive has is guessed by its size."""
+    sizes = ((file.stamp or [0])[0] * (PACKED if file.path.lower().endswith(ARCHIVES) else 1) for file in files)
+    return LEAST_MEMORY + IMAGE_COPIES * min(max(sizes, default=0), adf.MOST_BYTES)
+
+
+class Scan:
+    """An update of a database, which is in another folder, from the files below a folder."""
+
+    def __init__(self, connection: sqlite3.Connection, folder: bytes, out: str, own: Container[Identity], options: Options) -> None:
+        self.connection, self.folder, self.out, self.options = connection, folder, out, options
+        begin = os.path.join(folder, b"")
+        paths = ((path, path[len(begin) :] if path.startswith(begin) else b".") for path in files_below(folder, own))
+        self.files = [File(path, host_letters(name), store.stamp_of(path)) for path, name in paths if options.part.has(name)]
+
+    def update(self) -> None:
+        """Reads the files that are new or have changed, and takes out those that are gone."""
+        run = self.begun()
+        known = self.known()
+        gone = set(known) - {file.name for file in self.files}
+        with transaction(self.connection):
+            for name in gone:
+                store.remove(self.connection, known[name][0])
+        new = [file for file in self.files if file.name not in known or known[file.name][1] != file.stamp or file.stamp is None]
+        for batch in self.batches(new):
+            with transaction(self.connection):
+                for file, records in batch:
+                    if file.name in known:
+                        store.remove(self.connection, known[file.name][0])
+                    store.add(self.connection, file.name, file.stamp, run, records)
+                self.connection.execute("UPDATE runs SET read = read + ? WHERE id = ?", (len(batch), run))
+        with transaction(self.connection):
+            self.connection.execute("UPDATE runs SET ended = datetime('now'), removed = ? WHERE id = ?", (len(gone), run))
+
+    def begun(self) -> int:
+        """The number of the run that begins. If files are read in another way than before, all are read again."""
+        reader = reader_of(self.options)
+        with transaction(self.connection):
+            last = self.connection.execute("SELECT value FROM facts WHERE name = 'reader'").fetchone()
+            if self.options.is_fresh or last is None or last[0] != reader:
+                self.connection.execute("UPDATE files SET size = NULL")
+            facts = {"reader": reader, "title": self.title(), "part": f"{self.options.part.number}/{self.options.part.whole}"}
+            self.connection.executemany("INSERT OR REPLACE INTO facts VALUES (?, ?)", facts.items())
+            line = "INSERT INTO runs (begun, program, files) VALUES (datetime('now'), ?, ?)"
+            return self.connection.execute(line, (f"adf-catalogue {adf.__version__}", len(self.files))).lastrowid or 0
+
+    def title(self) -> str:
+        """What the pages are called: the folder, without those that it is in."""
+        return host_letters(os.path.basename(os.path.abspath(self.folder)) or self.folder)
+
+    def known(self) -> Dict[str, Tuple[int, object]]:
+        """The files in the database: the number and the stamp of each. One whose new volumes are not all there has no stamp."""
+        lost = set()
+        if self.options.rescues is not None:
+            rows = self.connection.execute("SELECT file, rescued FROM images WHERE rescued IS NOT NULL")
+            lost = {file for file, link in rows if not os.path.isfile(os.path.join(self.options.rescues, link))}
+        rows = self.connection.execute("SELECT path, id, size, altered_ns, inode, changed_ns FROM files")
+        return {path: (number, None if number in lost else tuple(stamp)) for path, number, *stamp in rows}
+
+    def batches(self, files: List[File]) -> Iterator[List[Tuple[File, List[Record]]]]:
+        """What is read of these files, some of them at a time."""
+        reader, progress = Reader(self.folder, self.options.rescues, self.options.has_texts), Progress(len(files), "files")
+        batch: List[Tuple[File, List[Record]]] = []
+        weight, begun = 0, time.monotonic()
+        with contextlib.closing(progress), working_folder(self.out, self.out) as folder, contextlib.ExitStack() as stack:
+            answers = stack.enter_context(contextlib.closing(in_order(reader, [file.path for file in files], memory_for(files), folder)))
+            for file, records in zip(files, answers):
+                batch.append((file, records))
+                weight += sum(record.weight for record in records)
+                progress.step()
+                if len(batch) >= FILES or weight > WEIGHT or time.monotonic() - begun > SECONDS:
+                    yield batch
+                    batch, weight, begun = [], 0, time.monotonic()
+        yield batch

@@ -1,0 +1,200 @@
+"""Writes the pages and tables of a catalogue from its database. A page of an image is written if what it shows has changed."""
+
+from __future__ import annotations
+
+import contextlib
+import functools
+import glob
+import json
+import os
+import sqlite3
+from typing import Iterator, List, Optional, Sequence, Set
+
+import adf
+from adf_tools import database, search, tables, twice
+from adf_tools.database import transaction
+from adf_tools.image_pages import ALSO, ImagePage, is_page
+from adf_tools.lists import Lists, is_list
+from adf_tools.pages import FAULTS, HERE
+from adf_tools.processes import in_order
+from adf_tools.program import Progress
+from adf_tools.reader import FOLDER
+from adf_tools.scan import sum_of
+from adf_tools.trees import named
+from adf_tools.twice import Twice
+
+PAGES, MEMORY = 50, 256 << 20  # of a piece of work, and what it takes
+NEW = ".new"  # how files end that are being written
+HOLDING = "SELECT image FROM entries WHERE sha256 = ?1 UNION SELECT id FROM images WHERE sha256 = ?1 UNION SELECT id FROM images WHERE tree = ?1"
+COUNTED = """SELECT touched.sha256, touched.name, holders.images, (SELECT COUNT(*) FROM (
+    SELECT image FROM entries WHERE entries.sha256 = touched.sha256 UNION SELECT id FROM images WHERE images.sha256 = touched.sha256
+    UNION SELECT id FROM images WHERE tree = touched.sha256 LIMIT 2)) FROM touched LEFT JOIN holders ON holders.sha256 = touched.sha256"""
+FIRSTS = ALSO + 2  # images of a sum that are kept: those that a page links to, itself, and one more
+
+
+def write_file(out: str, name: str, content: bytes) -> None:
+    """Writes a file of a catalogue whole, and not at all if it is there with the same bytes."""
+    path = os.path.join(out, name)
+    with contextlib.suppress(OSError), open(path, "rb") as old:
+        if os.fstat(old.fileno()).st_size == len(content) and old.read() == content:
+            return
+    with named(path), open(path + NEW, "wb") as file:
+        file.write(content)
+    os.replace(path + NEW, path)
+
+
+@functools.lru_cache(maxsize=1)
+def connection_of(path: str, _process: int) -> sqlite3.Connection:
+    """The connection of a process, which only asks."""
+    return database.connection_to(path, "ro")
+
+
+def is_behind(name: str, images: Optional[str]) -> bool:
+    """Whether an image comes behind all that are kept of those that hold a sum, so that these stay as they are."""
+    kept = json.loads(images) if images else []
+    return len(kept) == FIRSTS and name > kept[-1][0]
+
+
+class PageWriter:
+    """Writes the pages of some images."""
+
+    def __init__(self, out: str) -> None:
+        self.out = out
+
+    def __call__(self, images: Sequence[int]) -> Sequence[int]:
+        path = os.path.join(self.out, database.NAME)
+        with database.told(path):
+            connection = connection_of(path, os.getpid())
+            for number in images:
+                image = connection.execute("SELECT * FROM images WHERE id = ?", (number,)).fetchone()
+                if image is not None and is_page(image["page"]):
+                    write_file(self.out, image["page"], ImagePage(connection, image).html().encode("utf-8"))
+        return images
+
+
+class Site:
+    """The pages of a catalogue, in the folder of its database."""
+
+    def __init__(self, connection: sqlite3.Connection, out: str) -> None:
+        self.connection, self.out = connection, out
+
+    def write(self, has_tables: bool, is_escaped: bool) -> None:
+        os.makedirs(os.path.join(self.out, FOLDER), exist_ok=True)
+        self.note_maker()
+        self.note_holders()
+        self.note_lost_pages()
+        self.write_images()
+        self.write_parts()
+        lists = self.write_lists()
+        if has_tables:
+            self.write_tables(is_escaped)
+        self.remove_old(lists)
+
+    def note_maker(self) -> None:
+        """If the programs that make pages are other ones than before, all pages are made again."""
+        maker = json.dumps([adf.__version__, *map(sum_of, sorted([FAULTS, *glob.glob(os.path.join(HERE, "*.py"))]))])
+        last = self.connection.execute("SELECT value FROM facts WHERE name = 'maker'").fetchone()
+        if last is None or last[0] != maker:
+            with transaction(self.connection):
+                self.connection.execute("UPDATE images SET is_shown = 0 WHERE is_shown")
+                self.connection.execute("INSERT OR REPLACE INTO facts VALUES ('maker', ?)", (maker,))
+
+    def note_holders(self) -> None:
+        """Brings the table of the first images that hold a sum up to date; pages whose links change by that are made again."""
+        found = [row for row in self.connection.execute(COUNTED) if not is_behind(row["name"], row["images"])]
+        with transaction(self.connection):
+            for digest, _, before, count in found:
+                now = self.first_holders(digest) if count > 1 else None
+                if now != before:
+                    self.hold(digest, now)
+            self.connection.executemany("INSERT OR IGNORE INTO parts_due VALUES (?)", [(name,) for name in search.touched_parts(self.connection)])
+            self.connection.execute("DELETE FROM touched")
+            self.connection.execute("INSERT INTO touched_words (touched_words) VALUES ('delete-all')")
+
+    def hold(self, digest: str, now: Optional[str]) -> None:
+        """Notes which images hold a sum."""
+        if now is None:
+            self.connection.execute("DELETE FROM holders WHERE sha256 = ?", (digest,))
+        else:
+            self.connection.execute("INSERT OR REPLACE INTO holders VALUES (?, ?)", (digest, now))
+        self.connection.execute(f"UPDATE images SET is_shown = 0 WHERE is_shown AND id IN ({HOLDING})", (digest,))
+
+    def first_holders(self, digest: str) -> str:
+        """The first images, by name, that hold a sum, and one more than a page links to, as a text."""
+        line = f"SELECT name, page FROM images WHERE id IN ({HOLDING}) AND page IS NOT NULL ORDER BY name, number LIMIT {FIRSTS}"
+        return json.dumps([[name, page] for name, page in self.connection.execute(line, (digest,))])
+
+    def note_lost_pages(self) -> None:
+        """Pages that are no longer there are made again."""
+        there = {f"{FOLDER}/{name}" for name in os.listdir(os.path.join(self.out, FOLDER))}
+        rows = self.connection.execute("SELECT id, page FROM images WHERE is_shown AND page IS NOT NULL")
+        lost = [(number,) for number, name in rows if name not in there]
+        with transaction(self.connection):
+            self.connection.executemany("UPDATE images SET is_shown = 0 WHERE id = ?", lost)
+
+    def write_images(self) -> None:
+        """Writes the pages of images that are not shown as they are."""
+        due = [row[0] for row in self.connection.execute("SELECT id FROM images WHERE NOT is_shown AND page IS NOT NULL ORDER BY name, number")]
+        pieces = [due[at : at + PAGES] for at in range(0, len(due), PAGES)]
+        progress = Progress(len(due), "pages")
+        with contextlib.closing(progress), contextlib.closing(in_order(PageWriter(self.out), pieces, MEMORY)) as answers:
+            for images in answers:
+                with transaction(self.connection):
+                    self.connection.executemany("UPDATE images SET is_shown = 1 WHERE id = ?", [(number,) for number in images])
+                progress.step(len(images))
+
+    def write_parts(self) -> None:
+        """Writes the parts that the index searches: all, if the programs are other ones or most have changed; else those that are due."""
+        os.makedirs(os.path.join(self.out, search.FOLDER), exist_ok=True)
+        facts = dict(self.connection.execute("SELECT name, value FROM facts").fetchall())
+        due, there = [row[0] for row in self.connection.execute("SELECT name FROM parts_due ORDER BY name")], set(search.parts_in(self.out))
+        if facts.get("parts") != facts["maker"] or 2 * len(due) > len(there):
+            kept = self.write_all_parts()
+            gone = there - kept
+        else:
+            gone = {name for name, content in search.due_parts(self.connection, due) if not self.write_part(name, content)}
+        for name in gone & there:
+            os.remove(os.path.join(self.out, search.file_of(name)))
+        with transaction(self.connection):
+            self.connection.execute("DELETE FROM parts_due")
+            self.connection.execute("INSERT OR REPLACE INTO facts VALUES ('parts', ?)", (facts["maker"],))
+
+    def write_all_parts(self) -> Set[str]:
+        return {name for name, content in search.all_parts(self.connection) if self.write_part(name, content)}
+
+    def write_part(self, name: str, content: Optional[bytes]) -> bool:
+        """Writes a part, if there is one."""
+        if content is not None:
+            write_file(self.out, search.file_of(name), content)
+        return content is not None
+
+    def write_lists(self) -> List[str]:
+        """Writes the pages of lists, the index last; gives their names."""
+        names = []
+        write_file(self.out, twice.NAME, Twice(self.connection).html().encode("utf-8"))
+        (title,) = self.connection.execute("SELECT value FROM facts WHERE name = 'title'").fetchone()
+        for name, page in Lists(self.connection, title).pages():
+            write_file(self.out, name, page.encode("utf-8"))
+            names.append(name)
+        return names
+
+    def write_tables(self, is_escaped: bool) -> None:
+        for name, query in ((tables.IMAGES, tables.IMAGE_QUERY), (tables.ENTRIES, tables.ENTRY_QUERY)):
+            path = os.path.join(self.out, name)
+            with named(path), open(path + NEW, "wb") as file:
+                tables.write_table(self.connection, query, file, is_escaped)
+            os.replace(path + NEW, path)
+
+    def remove_old(self, lists: Sequence[str]) -> None:
+        """Removes pages and volumes to which no row leads, and lists that are no longer written."""
+        leading = set(self.leading())
+        inside = [f"{FOLDER}/{name}" for name in os.listdir(os.path.join(self.out, FOLDER))]
+        old = [name for name in inside if is_page(name) and name not in leading or name.endswith(NEW) and is_page(name[: -len(NEW)])]
+        old += [name for name in os.listdir(self.out) if is_list(name) and name not in lists]
+        for name in old:
+            with contextlib.suppress(FileNotFoundError):
+                os.remove(os.path.join(self.out, name))
+
+    def leading(self) -> Iterator[str]:
+        for row in self.connection.execute("SELECT page, rescued FROM images"):
+            yield from (name for name in row if name is not None)

@@ -1,0 +1,120 @@
+"""What is kept of each file, put into the database of a catalogue, and taken out of it."""
+
+from __future__ import annotations
+
+import os
+import sqlite3
+from typing import Any, Dict, List, Optional, Sequence, Tuple
+
+from adf_tools.volumes import Record, Rows
+
+Stamp = Tuple[int, int, int, int]
+NO_STAMP = (None, None, None, None)
+MOST_NUMBER = 2**63 - 1
+TABLES = {
+    "entries": ("kind", "path", "size", "protection", "date", "comment", "header", "state", "sha256"),
+    "findings": ("first", "last", "cause", "path", "owner"),
+    "left_out": ("why", "path"),
+    "icons": ("path", "width", "height", "palette", "pixels"),
+}
+PARTITION = ("number", "name", "kind", "first", "blocks", "flags", "priority", "block", "fault")
+GOING = (
+    """INSERT INTO image_words (image_words, rowid, name, label) SELECT 'delete', id, name, label FROM images WHERE file = ?1""",
+    """INSERT INTO entry_words (entry_words, rowid, path, comment) SELECT 'delete', entries.id, substr(path, -1024), comment
+        FROM entries JOIN images ON images.id = image WHERE file = ?1""",
+    "DELETE FROM text_words WHERE rowid IN (SELECT entries.id FROM entries JOIN images ON images.id = image WHERE file = ?1)",
+    "DELETE FROM files WHERE id = ?1",
+)
+COMING = (
+    "INSERT INTO image_words (rowid, name, label) SELECT id, name, label FROM images WHERE file = ?1",
+    """INSERT INTO entry_words (rowid, path, comment) SELECT entries.id, substr(path, -1024), comment
+        FROM entries JOIN images ON images.id = image WHERE file = ?1""",
+)
+TOUCHED = (
+    """INSERT INTO touched SELECT * FROM (
+            SELECT entries.sha256, name FROM entries JOIN images ON images.id = entries.image WHERE file = ?1 AND entries.sha256 IS NOT NULL
+            UNION SELECT sha256, name FROM images WHERE file = ?1 AND sha256 IS NOT NULL
+            UNION SELECT tree, name FROM images WHERE file = ?1 AND tree IS NOT NULL)
+        WHERE TRUE ON CONFLICT (sha256) DO UPDATE SET name = MIN(name, excluded.name)""",
+    "INSERT INTO touched_words (words) SELECT name || ' ' || COALESCE(label, '') FROM images WHERE file = ?1",
+    """INSERT INTO touched_words (words) SELECT substr(path, -1024) || ' ' || comment
+        FROM entries JOIN images ON images.id = image WHERE file = ?1""",
+)
+
+
+def stamp_of(path: bytes) -> Optional[Stamp]:
+    """What changes if a file does, or another one takes its place: its size, date, inode, and when the system last changed any of
+    these. None if they cannot be had."""
+    try:
+        found = os.stat(path)
+        return found.st_size, found.st_mtime_ns, found.st_ino & MOST_NUMBER, found.st_ctime_ns
+    except OSError:
+        return None
+
+
+def wants_texts(connection: sqlite3.Connection, is_asked: bool) -> bool:
+    """Whether the contents of text files are kept: once that was asked for, they are."""
+    if is_asked:
+        connection.execute("INSERT OR REPLACE INTO facts VALUES ('texts', '1')")
+    return connection.execute("SELECT 1 FROM facts WHERE name = 'texts'").fetchone() is not None
+
+
+def counts(connection: sqlite3.Connection) -> Tuple[int, int, int]:
+    """How many images there are, how many of them are refused, or have a fault in the tables of a hard disk, and how many not read."""
+    line = """SELECT COUNT(*), COALESCE(SUM(verdict != 'ok' OR advice = 'tables'), 0), COALESCE(SUM(advice = 'not read'), 0) FROM images"""
+    whole, others, unread = connection.execute(line).fetchone()
+    return whole, others - unread, unread
+
+
+def insert(connection: sqlite3.Connection, table: str, columns: Dict[str, Any]) -> int:
+    """Adds a row to a table, and gives its number."""
+    names, marks = ", ".join(columns), ", ".join("?" * len(columns))
+    return connection.execute(f"INSERT INTO {table} ({names}) VALUES ({marks})", tuple(columns.values())).lastrowid or 0
+
+
+def insert_rows(connection: sqlite3.Connection, table: str, names: Sequence[str], first: Tuple[str, int], rows: Rows) -> None:
+    """Adds rows to a table, each with one more value in front."""
+    line = f"INSERT INTO {table} ({first[0]}, {', '.join(names)}) VALUES (?{', ?' * len(names)})"
+    connection.executemany(line, ((first[1], *row) for row in rows))
+
+
+def remove(connection: sqlite3.Connection, file: int) -> None:
+    """Takes a file out, with all that is kept of its images. The sums that it had are noted."""
+    for line in (*TOUCHED, *GOING):
+        connection.execute(line, (file,))
+
+
+def add(connection: sqlite3.Connection, path: str, stamp: Optional[Stamp], run: int, records: List[Record]) -> None:
+    """Puts a file in. What could not be read has no stamp, so the next run reads it again."""
+    is_read = all(record.columns["advice"] != "not read" for record in records)
+    size, altered, inode, changed = stamp if stamp and is_read else NO_STAMP
+    file = insert(connection, "files", dict(path=path, size=size, altered_ns=altered, inode=inode, changed_ns=changed, run=run))
+    disk = None
+    for record in records:
+        if "partition" in record.columns:
+            add_volume(connection, file, disk, record)
+        else:
+            disk = add_image(connection, file, None, record)
+    for line in (*TOUCHED, *COMING):
+        connection.execute(line, (file,))
+
+
+def add_volume(connection: sqlite3.Connection, file: int, disk: Optional[int], record: Record) -> None:
+    """Adds the volume of a partition of a hard disk."""
+    columns = dict(record.columns)
+    number = columns.pop("partition")
+    volume = add_image(connection, file, disk, record._replace(columns=columns))
+    connection.execute("UPDATE partitions SET volume = ? WHERE disk = ? AND number = ?", (volume, disk, number))
+
+
+def add_image(connection: sqlite3.Connection, file: int, disk: Optional[int], record: Record) -> int:
+    """Adds an image and its rows; gives its number."""
+    columns: Dict[str, Any] = {**record.columns, "file": file, "disk": disk}
+    image = insert(connection, "images", columns)
+    for table, names in TABLES.items():
+        insert_rows(connection, table, names, ("image", image), getattr(record, table))
+    insert_rows(connection, "partitions", PARTITION, ("disk", image), record.partitions)
+    if record.texts:
+        (first,) = connection.execute("SELECT MIN(id) FROM entries WHERE image = ?", (image,)).fetchone()
+        connection.executemany("INSERT INTO text_words (rowid, content) VALUES (?, ?)", ((first + place, text) for place, text in record.texts))
+    return image

@@ -1,0 +1,51 @@
+"""The page of what a collection has twice: images with the same bytes, images with the same files, and the files that are on most disks."""
+
+from __future__ import annotations
+
+import sqlite3
+from typing import Iterator
+
+from adf_tools.image_pages import is_page
+from adf_tools.pages import cell, count_of, link, page, paragraph, shown, table
+
+NAME, INDEX = "twice.html", "index.html"
+MOST_GROUPS, MOST_NAMES = 500, 20  # of a table, and the images of a group that are named
+BYTES = """SELECT sha256 AS sum, COUNT(*) AS count FROM images WHERE sha256 IS NOT NULL GROUP BY sha256 HAVING count > 1
+ORDER BY count DESC, sum LIMIT ?"""
+FILES = """SELECT tree AS sum, COUNT(*) AS count FROM images WHERE tree IS NOT NULL GROUP BY tree HAVING COUNT(DISTINCT sha256) > 1
+ORDER BY count DESC, sum LIMIT ?"""
+MANY = """SELECT entries.sha256 AS sum, COUNT(DISTINCT image) AS count, MIN(path) AS path, size FROM holders JOIN entries USING (sha256)
+WHERE size > 0 GROUP BY entries.sha256 HAVING count > 1 ORDER BY count DESC, path, sum LIMIT ?"""
+
+
+class Twice:
+    """The page, whose rows are asked of the database."""
+
+    def __init__(self, connection: sqlite3.Connection) -> None:
+        self.connection = connection
+
+    def html(self) -> str:
+        heads = ("Count", "Images")
+        files = map(file_row, self.connection.execute(MANY, (MOST_GROUPS,)))
+        tables = (
+            ("Images with the same bytes", heads, list(self.groups(BYTES, "sha256"))),
+            ("Images with the same files, which differ in free blocks, dates or places", heads, list(self.groups(FILES, "tree"))),
+            ("Files that are on the most disks", ("Disks", "Path", "Size"), list(files)),
+        )
+        body = "".join(table(name, heads, rows) for name, heads, rows in tables if rows) or paragraph("Nothing.")
+        note = paragraph(f"Each table ends after {count_of(MOST_GROUPS, 'line')}.", "note")
+        return page("What is there twice", paragraph(link(INDEX, "All images")) + body + note)
+
+    def groups(self, query: str, column: str) -> Iterator[str]:
+        """The lines of images that share a sum."""
+        line = f"SELECT name, page FROM images WHERE {column} = ? ORDER BY name, number LIMIT {MOST_NAMES}"
+        for row in self.connection.execute(query, (MOST_GROUPS,)).fetchall():
+            names = [link(name, text) if is_page(name) else shown(text) for text, name in self.connection.execute(line, (row["sum"],))]
+            every = link(f"{INDEX}#find={row['sum']}", "all")
+            more = f", {every}" if row["count"] > len(names) else ""
+            yield cell(row["count"], "number") + cell(", ".join(names) + more, "text")
+
+
+def file_row(row: sqlite3.Row) -> str:
+    places = link(f"{INDEX}#find={row['sum']}", row["path"])
+    return cell(row["count"], "number") + cell(places, "text") + cell(row["size"], "number")

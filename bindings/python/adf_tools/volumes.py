@@ -1,0 +1,189 @@
+"""What a catalogue keeps of an image: of a volume, of a refused image, and of a whole hard disk with its partitions."""
+
+from __future__ import annotations
+
+import hashlib
+import itertools
+import zlib
+from typing import Any, Dict, Iterable, Iterator, List, NamedTuple, Optional, Sequence, Tuple
+
+import adf
+from adf_tools import icons
+from adf_tools.advice import advice_of, length_that_fits
+from adf_tools.names import letters
+from adf_tools.picture import roles_of_refused
+from adf_tools.sums import BOOT, boot_facts, sums_of
+
+DOS = b"DOS"
+MOST_LETTERS, MOST_FINDINGS, LINE = 64 << 20, 100_000, 100  # of the texts of one image; a row has so many letters beside them
+LONGEST_TEXT, MOST_ICONS, INFO = 1 << 16, 32, b".info"
+CONTROLS = bytes({*range(32), 127} - set(b"\t\n\r\f\x1b"))  # no text has them
+Columns = Dict[str, Any]
+Rows = List[Tuple[Any, ...]]
+
+
+class Record(NamedTuple):
+    """What is kept of one image: its columns, and its rows of the tables entries, findings, left_out, partitions and icons; of text files
+    the place among the entries, and the text, where that is wanted."""
+
+    columns: Columns
+    entries: Rows
+    findings: Rows
+    left_out: Rows
+    partitions: Rows
+    icons: Rows
+    texts: Rows
+
+    @property
+    def weight(self) -> int:
+        """How many letters it has, roughly."""
+        rows = (*self.entries, *self.findings, *self.left_out, *self.partitions, *self.texts)
+        return LINE + sum(LINE + sum(len(value) for value in row if isinstance(value, str)) for row in rows)
+
+
+def record(columns: Columns) -> Record:
+    return Record(columns, [], [], [], [], [], [])
+
+
+def limited(rows: Iterable[Tuple[Any, ...]]) -> Rows:
+    """As many rows as an image may have in the database."""
+    taken: Rows = []
+    count = 0
+    for row in rows:
+        count += LINE + sum(len(value) for value in row if isinstance(value, str))
+        if count > MOST_LETTERS:
+            break
+        taken.append(row)
+    return taken
+
+
+def file_sum(entry: adf.Entry) -> str:
+    """The SHA-256 of the bytes of a file."""
+    digest = hashlib.sha256()
+    for at in range(0, entry.size, adf.PART):
+        digest.update(entry.read(at, adf.PART))
+    return digest.hexdigest()
+
+
+def entry_row(entry: adf.Entry | adf.Found, digest: Optional[str], state: str) -> Tuple[Any, ...]:
+    kind, path, comment = "file" if entry.is_file else "dir", letters(entry.path), letters(entry.comment)
+    return kind, path, entry.size, entry.protection, str(entry.date), comment, entry.header, state, digest
+
+
+def dates_of(volume: adf.Volume | adf.Survey) -> Columns:
+    return {"root": str(volume.date), "altered": str(volume.altered), "created": str(volume.created)}
+
+
+def tree_sum(volume: adf.Volume, rows: Rows) -> str:
+    """A sum of all that a volume is but its dates, its free blocks, and which blocks hold what."""
+    digest = hashlib.sha256(volume.image[:BOOT])
+    digest.update(repr((volume.kind, volume.blocks, volume.label)).encode())
+    for kind, path, size, protection, _, comment, _, _, content in sorted(rows, key=lambda row: row[1]):
+        digest.update(repr((kind, path, size, protection, comment, content)).encode())
+    return digest.hexdigest()
+
+
+def icon_rows(entries: Sequence[adf.Entry] | Sequence[adf.Found]) -> Iterator[Tuple[Any, ...]]:
+    """The icons of the disk and of its drawers, as far as they are sound."""
+    drawers = {entry.raw_path.lower() for entry in entries if not entry.is_file and not entry.parent} | {b"disk"}
+    for entry in entries:
+        if entry.is_file and not entry.parent and entry.raw_name.lower().endswith(INFO) and entry.raw_name.lower()[: -len(INFO)] in drawers:
+            icon = icons.icon_of(content_of(entry)) if entry.size <= icons.MOST_BYTES else None
+            if icon:
+                yield letters(entry.path), icon.width, icon.height, icon.palette, zlib.compress(icon.pixels)
+
+
+def content_of(entry: adf.Entry | adf.Found) -> bytes:
+    """The bytes of a file, or none if they cannot be had."""
+    try:
+        return entry.read()
+    except adf.Error:
+        return b""
+
+
+def text_rows(entries: Sequence[adf.Entry]) -> Iterator[Tuple[Any, ...]]:
+    """The text files of a volume, each by its place among the entries."""
+    for place, entry in enumerate(entries):
+        content = entry.read() if entry.is_file and 0 < entry.size <= LONGEST_TEXT else b""
+        if content and len(content.translate(None, CONTROLS)) == len(content):
+            yield place, content.decode("latin-1")
+
+
+def volume_record(volume: adf.Volume, columns: Columns, has_texts: bool) -> Record:
+    """What is kept of a volume."""
+    rows = limited(entry_row(entry, file_sum(entry) if entry.is_file else None, "sound") for entry in volume.entries)
+    whole, files = len(volume.entries), sum(entry.is_file for entry in volume.entries)
+    numbers = {"kind": volume.kind, "blocks": volume.blocks, "used": volume.used, "free": volume.free, "type": volume.image[3]}
+    counts = {"dirs": whole - files, "files": files, "faults": 0, "sound": whole, "lost": 0, "unlisted": whole - len(rows)}
+    tree = tree_sum(volume, rows) if len(rows) == whole else None
+    told = {"verdict": "ok", "advice": "sound", "label": letters(volume.label), "tree": tree, "roles": zlib.compress(volume.owners())}
+    texts = limited(text_rows(volume.entries[: len(rows)])) if has_texts else []
+    drawn = list(itertools.islice(icon_rows(volume.entries), MOST_ICONS))
+    return record({**columns, **numbers, **counts, **dates_of(volume), **told})._replace(entries=rows, icons=drawn, texts=texts)
+
+
+def refused_record(image: bytes, refused: adf.Refused, columns: Columns) -> Record:
+    """What is kept of a refused image: its findings, and what is found in it all the same."""
+    survey = adf.survey(image)
+    rows = limited(entry_row(entry, None, "sound" if entry.is_sound else "damaged") for entry in survey.entries)
+    findings = limited(finding_rows(survey))
+    sound, lost = (sum(entry.is_sound == is_sound for entry in survey.entries if is_sound or entry.is_file) for is_sound in (True, False))
+    files = sum(entry.is_file for entry in survey.entries)
+    counts = {"dirs": len(survey.entries) - files, "files": files, "sound": sound, "lost": lost, "unlisted": len(survey.entries) - len(rows)}
+    fits = length_that_fits(image, refused)
+    told = {"verdict": str(refused), "block": refused.block, "cause": refused.cause, "label": letters(survey.label), "fits": fits}
+    told.update(advice=advice_of(refused, survey, fits), faults=len(survey.findings), roles=zlib.compress(roles_of_refused(survey)))
+    if survey.kind:
+        told.update(kind=survey.kind, type=image[3], blocks=len(image) // adf.BLOCK, **dates_of(survey))
+    drawn = list(itertools.islice(icon_rows(survey.entries), MOST_ICONS))
+    return record({**columns, **counts, **told})._replace(entries=rows, findings=findings, icons=drawn)
+
+
+def finding_rows(survey: adf.Survey) -> Iterator[Tuple[Any, ...]]:
+    for place in range(min(len(survey.findings), MOST_FINDINGS)):
+        first, last, cause, *paths = survey.findings[place]
+        yield first, last, cause, *(None if path is None else letters(path) for path in paths)
+
+
+def image_record(image: bytes, columns: Columns, has_texts: bool) -> Record:
+    """What is kept of the image of a volume, refused or not."""
+    columns = {**columns, **boot_facts(image)}
+    try:
+        volume = adf.Volume(image)
+    except adf.Refused as refused:
+        return refused_record(image, refused, columns)
+    return volume_record(volume, columns, has_texts)
+
+
+def content_facts(content: adf.Image, length: Optional[int]) -> Columns:
+    """The length and the checksums of an image; if it is longer than what was read of it, neither is known."""
+    return {"bytes": length, **(sums_of(content)._asdict() if length == len(content) else {})}
+
+
+def disk_of(content: adf.Image) -> Optional[adf.Disk]:
+    """The hard disk of an image, if it is one. What begins as a volume is none, whatever else stands in it."""
+    if bytes(memoryview(content)[: len(DOS)]) == DOS:
+        return None
+    disk = adf.Disk(content)
+    return disk if disk.partitions or disk.cause != "no rigid disk" else None
+
+
+def disk_record(disk: adf.Disk, columns: Columns) -> Record:
+    """What is kept of a whole hard disk, without its volumes."""
+    faults = sum(bool(partition.fault) for partition in disk.partitions)
+    told = {"kind": "disk", "verdict": f"block {disk.block}: {disk.cause}" if disk.cause else "ok", "faults": faults + bool(disk.cause)}
+    cause = {"block": disk.block, "cause": disk.cause} if disk.cause else {}
+    blocks, advice = len(memoryview(disk.image)) // adf.BLOCK, "tables" if told["faults"] else "sound"
+    return record({**columns, **told, **cause, "blocks": blocks, "advice": advice})._replace(
+        partitions=[
+            (row.number, letters(row.name), row.kind, row.first, row.blocks, row.flags, row.priority, row.block, row.fault) for row in disk.partitions
+        ]
+    )
+
+
+def volume_of(disk: adf.Disk, partition: adf.Partition) -> Optional[bytes]:
+    """The bytes of the volume of a partition, if it has one of an Amiga; of one that is too large one more than the largest has."""
+    if partition.fault or not partition.kind.startswith((*adf.KINDS, "DOS")):
+        return None
+    begin = adf.BLOCK * partition.first
+    return bytes(memoryview(disk.image)[begin : begin + min(adf.BLOCK * partition.blocks, adf.MOST_BYTES + 1)])

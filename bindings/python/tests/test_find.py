@@ -1,0 +1,131 @@
+"""Tests of adf-catalogue find, and of the queries of its manual page."""
+
+import glob
+import hashlib
+import json
+import os
+import re
+import shutil
+import subprocess
+import unittest
+import zlib
+
+from tests.samples import OFS, Asked, dat, disk, volume
+from tests.shared import TOP, changed, written
+
+PAGE = os.path.join(TOP, "docs", "adf-catalogue.1")
+
+
+class Find(Asked):
+    def setUp(self):
+        super().setUp()
+        self.catalogue("disks", "out", status=1)
+
+    def test_finds_names_paths_comments_and_labels(self):
+        lemmings = [("games/bad.adf", "lemmings"), ("games/copy.adf", "lemmings"), ("tools.adf", "lemmings")]
+        startup = [(image, "s/startup-sequence") for image in ("games/bad.adf", "games/copy.adf", "tools.adf")]
+        for words, found in (
+            (["lemmings"], lemmings), (["LEMM"], lemmings), (["startup", "seq"], startup), (["startup-sequence"], startup), (["seq", "s"], startup),
+            (["\xfcbel"], [("a.zip/B\xfc.adf", "c/readme")]), (["ein", "ubel"], [("a.zip/B\xfc.adf", "c/readme")]),
+            (["bucher"], [("a.zip/B\xfc.adf", "")]), (["other"], [("other.adf", "")]),
+        ):  # fmt: skip
+            self.assertEqual(self.find(*words, "out"), found, words)
+
+    def test_takes_any_words(self):
+        for words in (["nothing"], ['"'], ["-"], ["a OR b"], ["NEAR("], ["lemmings", "nothing"], ["*"], ["\u2028"], ["path:"], ["' OR 1"], [b"\xff"]):
+            self.assertEqual(self.find(*words, "out", status=1), [], words)
+
+    def test_finds_checksums(self):
+        self.assertEqual(self.find("--sum", self.sum, "out"), [("games/copy.adf", "lemmings"), ("tools.adf", "lemmings")])
+        with open("disks/tools.adf", "rb") as file:
+            content = file.read()
+        for digest in (f"{zlib.crc32(content):08X}", *(hashlib.new(name, content).hexdigest() for name in ("md5", "sha1", "sha256"))):
+            self.assertEqual(self.find("--sum", digest, "out"), [("games/copy.adf", ""), ("tools.adf", "")])
+        self.assertEqual(self.find("--sum", "0" * 64, "out", status=1), [])
+
+    def test_refuses_words_that_ask_nothing(self):
+        for words in (["out"], ["--sum", "xyz", "out"], ["--sum", "0" * 9, "out"], ["--sum", self.sum, "word", "out"], []):
+            ran = self.run_tool("catalogue", "find", *words)
+            self.assertEqual((ran.returncode, ran.stdout), (2, b""))
+        self.refused(3, "nix/collection.sqlite: unable to open database file", "catalogue", "find", "a", "nix")
+        self.refused(3, "contents are found only if --index-text was given once", "catalogue", "find", "--text", "hello", "out")
+
+    def test_writes_json_lines(self):
+        ran = self.tool("catalogue", "find", "--json", "lemmings", "out")
+        rows = [json.loads(line) for line in ran.splitlines()]
+        found = [(row["image"], row["path"], row["size"], row.get("sha256")) for row in rows]
+        copies = [(name, "lemmings", 600, self.sum) for name in ("games/copy.adf", "tools.adf")]
+        self.assertEqual(found, [("games/bad.adf", "lemmings", 600, None), *copies])
+
+    def test_finds_what_has_come_and_not_what_has_gone(self):
+        os.remove("disks/tools.adf")
+        written("disks/new.adf", volume(("turrican", b"x")))
+        self.catalogue("disks", "out", status=1)
+        self.assertEqual(self.find("turrican", "out"), [("new.adf", "turrican")])
+        self.assertEqual(self.find("--sum", self.sum, "out"), [("games/copy.adf", "lemmings")])
+
+    def test_finds_texts_where_they_are_kept(self):
+        self.catalogue("--index-text", "disks", "out", status=1)
+        startup = [(image, "s/startup-sequence") for image in ("games/copy.adf", "tools.adf")]
+        self.assertEqual(self.find("--text", "HELLO", "wor", "out"), startup)
+        self.assertEqual(self.find("--text", "nothing", "out", status=1), [])
+        written("disks/new.adf", volume(("readme", b"gr\xfc\xdfe\n"), ("binary", b"gr\xfc\xdfe\0")))
+        os.remove("disks/tools.adf")
+        self.catalogue("disks", "out", status=1)
+        self.assertEqual(self.find("--text", "gr\xfc\xdfe", "out"), [("new.adf", "readme")])
+        self.assertEqual(self.find("--text", "hello", "out"), [("a.zip/B\xfc.adf", "c/readme"), startup[0]])
+
+    def test_leaves_a_database_that_cannot_be_asked(self):
+        written("out/collection.sqlite", b"no database" * 99)
+        self.refused(3, "out/collection.sqlite: damaged", "catalogue", "find", "a", "out")
+
+
+def queries():
+    """The queries of the manual page."""
+    with open(PAGE, encoding="utf-8") as file:
+        blocks = re.findall(r"^\.Bd[^\n]*\n(.*?)^\.Ed", file.read(), re.DOTALL | re.MULTILINE)
+    return [block.replace("\\e", "\\") for block in blocks if block.startswith("SELECT")]
+
+
+class Queries(Asked):
+    """The queries of the manual page, each with what it has to find here."""
+
+    def test_find_what_the_page_says(self):
+        with open("disks/tools.adf", "rb") as file:
+            tools = bytearray(file.read())
+        tools[512 * 1700 : 512 * 1701] = b"X" * 512
+        written("disks/free.adf", tools)
+        written("disks/cut.adf", OFS[: 512 * 1700])
+        written("disks/disk.hdf", disk(volume(blocks=64, label="Work"), changed(volume(blocks=64, label="Bad"), 32, 440, 1)))
+        written("list.dat", dat(("Tools.adf", OFS)))
+        self.catalogue("--dat", "list.dat", "disks", "out", status=1)
+        startup = [(image, "s/startup-sequence") for image in ("free.adf", "games/bad.adf", "games/copy.adf", "tools.adf")]
+        with open("disks/tools.adf", "rb") as file:
+            same = hashlib.sha256(file.read()).hexdigest()
+        expected = {
+            "path LIKE": startup,
+            "HAVING COUNT(*) > 1": [(same, 2, "games/copy.adf, tools.adf")],
+            "COUNT(DISTINCT sha256) > 1": [("free.adf, games/copy.adf, tools.adf",)],
+            "MIN(path)": [(3, "lemmings"), (3, "s/startup-sequence")],
+            "advice = 'read again'": [("disk.hdf/DH1", "block 32: bad sum", 0), ("games/bad.adf", "block 880: bad sum", 0)],
+            "GROUP BY cause": [("bad sum", 2), ("bad type", 1), ("not dos", 1)],
+            "fits": [("cut.adf", 870400, 901120)],
+            "known = 'differs'": [("tools.adf", "Tools.adf (list.dat)")],
+            "boot_crc32": [(f"{zlib.crc32(OFS[:1024]):08x}", 0, 8), (f"{zlib.crc32(b'no volume'.ljust(1024, bytes(1))):08x}", 0, 1)],
+            "partitions": [("disk.hdf", "DH0", "ofs", "ok"), ("disk.hdf", "DH1", "ofs", "block 32: bad sum")],
+        }
+        found = queries()
+        self.assertEqual(len(found), 11)
+        for word, rows in expected.items():
+            (query,) = [query for query in found if word in query]
+            self.assertEqual(self.asked("out", query), rows, query)
+            found.remove(query)
+        (query,) = found
+        names = sorted(os.path.relpath(path, "disks") for path in glob.glob("disks/**/*.*", recursive=True))
+        self.assertEqual(sorted(row[0] for row in self.asked("out", query)), names)
+
+    @unittest.skipUnless(shutil.which("sqlite3"), "needs sqlite3")
+    def test_are_taken_by_sqlite3(self):
+        self.catalogue("disks", "out", status=1)
+        for query in queries():
+            subprocess.run(["sqlite3", "-readonly", "out/collection.sqlite", query], check=True, stdout=subprocess.PIPE)
