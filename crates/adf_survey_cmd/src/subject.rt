@@ -159,13 +159,17 @@ impl Subject {
         retype(&mut self.image);
         Ok(())
     }
+
     /// Makes the type of the image what its files say, and then says so. `NoMemory` if an allocation fails; then the image stays.
-    pub fn be_typed(&mut self, alloc: Global) -> Result<(), AllocError>
+    pub fn be_typed(&mut self, alloc: Global) -> Result<(), NoMemory>
         ensures { OnOk result (IsTyped (subject_value self.old) (subject_value self.new)) }
     {
-        if is_mistyped(alloc, &self.image)? {
-            self.retype()?;
+        if !is_mistyped(alloc, &self.image)? {
+            return Ok(());
         }
-        Ok(())
+        match self.retype() {
+            Ok(()) => Ok(()),
+            Err(_) => Err(NoMemory),
+        }
     }
 }
