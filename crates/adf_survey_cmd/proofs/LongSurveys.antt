@@ -64,8 +64,8 @@ none_second : (image : List ℕ) (w : List (Role × ℕ)) (fs : List FindingValu
 none_second image w fs long = grind (arith, common_steps, false_from_ne_true, sized_len, none_hung, and_left)
 
 -- nothing stands, and the first fault is told
-same_rescue : (held h : ℕ) (image bytes opened_image opened_bytes : List ℕ) (reply : Reply) → 512 * MOST_BLOCKS < length image → 512 * MOST_BLOCKS < length bytes
-    → 512 * MOST_BLOCKS < length opened_bytes → RescuesFound held image opened_image [] bad_size reply
+same_rescue : (held h : ℕ) (image bytes opened_image opened_bytes : List ℕ) (reply : Reply) → 512 * MOST_BLOCKS < length image
+    → 512 * MOST_BLOCKS < length bytes → 512 * MOST_BLOCKS < length opened_bytes → RescuesFound held image opened_image [] bad_size reply
     → RescuesFound h bytes opened_bytes [] bad_size reply
 same_rescue held h image bytes opened_image opened_bytes reply a b c (sound, marks, (two, second, inl (none, (f, first, e)))) =
     let basis : Basis = record { image = opened_bytes; walk = []; sound = λ n. false } in (
@@ -87,7 +87,8 @@ of_long image w fs holds long s h =
     let same = one_survey image w [] fs bad_size s (long_survey image long) in
     subst (λ (u : List (Role × ℕ)). holds u bad_size) same.0 (subst (λ (gs : List FindingValue). holds w gs) same.1 h)
 
-long_questions : (held h : ℕ) (q : QuestionValue) (image bytes : List ℕ) → 512 * MOST_BLOCKS < length image → 512 * MOST_BLOCKS < length bytes → (reply : Reply)
+long_questions : (held h : ℕ) (q : QuestionValue) (image bytes : List ℕ) → 512 * MOST_BLOCKS < length image
+    → 512 * MOST_BLOCKS < length bytes → (reply : Reply)
     → QuestionAnswer held q image reply → QuestionAnswer h q bytes reply
 long_questions held h report image bytes a b reply (w, fs, s, e) =
     let told = of_long image w fs (λ u gs. reply ≡ on_output (findings_status gs) (findings_text image u gs)) a s e in

@@ -287,9 +287,9 @@ fn prepare_read(alloc: Global, input: Vec<u8>, held: usize) -> Result<Prepared, 
     prepare_mended(alloc, &mut image, held)
 }
 
-/// Writes the new volume of all that stands on an image, whose boot block and root may be overwritten, and of which the first `held`
-/// blocks were there whole, with what no directory leads to any more; errors get the lines of what is not in it. If nothing
-/// stands, and the input is not a valid volume, errors get the line of its first fault, and these lines behind it.
+/// Writes the new volume of all that stands on an image, whose boot block and root may be overwritten, and of which the first
+/// `held` blocks were there whole, with what no directory leads to any more; errors get the lines of what is not in it. If
+/// nothing stands, and the input is not a valid volume, errors get the line of its first fault, and these lines behind it.
 pub fn rescue_image<W: Sink>(alloc: Global, input: &[u8], held: usize, output: &mut W) -> Outcome
     requires { W.has_failed output.old ≡ false }
     ensures ends { EndsBy (Rescues held input.now) result (W.held output.old) (W.held output.new) }

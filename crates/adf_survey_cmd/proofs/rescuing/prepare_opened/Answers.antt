@@ -32,7 +32,8 @@ returns-in-Some c = λ input opened.
     let hung = c.deref.ensures.value ∙ if_some _ _ _ is (c.in_ok-hung.ensures.hung w fs here) in
     let second = one_hung v.image w fs c.deref.result.now lost hung in
     prepares_weaker (RescuesBoth c.args.held input a (Some c.deref.result.now) fs) (Rescues c.args.held input) _
-    (λ reply by. found_answers c.args.held input v.image w fs sound (Some c.deref.result.now) reply (same ∙ opened_so input _ _ opened) here marks second by)
+    (λ reply by. found_answers c.args.held input v.image w fs sound (Some c.deref.result.now) reply
+    (same ∙ opened_so input _ _ opened) here marks second by)
     (c.prepare_hung.ensures input (subst (λ (image : List ℕ). IsOpened input image c.args.refusal) (sym same) opened) w fs sound here marks)
 
 pub returns : goal.returns

@@ -11,5 +11,7 @@ returns-in-Ok-clause-ends g c = λ held q shows.
     let (w, survey) = c.in-Ok.ensures.findings in
     let fs : List FindingValue = map finding_value c.in-Ok.survey.findings in
     let here = subst (λ (image : List ℕ). IsSurvey image w fs) (sym same) survey in
-    subst (λ (image : List ℕ). EndsBy (QuestionAnswer held q image) c.of_survey.result (g.W.Sink.held c.args.output.now) (g.W.Sink.held c.of_survey.new.output))
+    let old = g.W.Sink.held c.args.output.now in
+    let new = g.W.Sink.held c.of_survey.new.output in
+    subst (λ (image : List ℕ). EndsBy (QuestionAnswer held q image) c.of_survey.result old new)
     same (c.of_survey.ensures.ends w fs here held q shows)
