@@ -69,8 +69,8 @@ none_second : (mended : Bool) (image : List ℕ) (w : List (Role × ℕ)) (fs : 
 none_second mended image w fs long = grind (arith, common_steps, false_from_ne_true, sized_len, none_hung, and_left)
 
 -- nothing stands, and the first fault is told
-same_rescue : (held h : ℕ) (image bytes opened_image opened_bytes : List ℕ) (reply : Reply) → 512 * MOST_BLOCKS < length image → 512 * MOST_BLOCKS < length bytes
-    → 512 * MOST_BLOCKS < length opened_bytes → RescuesFound held image opened_image [] bad_size reply
+same_rescue : (held h : ℕ) (image bytes opened_image opened_bytes : List ℕ) (reply : Reply) → 512 * MOST_BLOCKS < length image
+    → 512 * MOST_BLOCKS < length bytes → 512 * MOST_BLOCKS < length opened_bytes → RescuesFound held image opened_image [] bad_size reply
     → RescuesFound h bytes opened_bytes [] bad_size reply
 same_rescue held h image bytes opened_image opened_bytes reply a b c (sound, marks, (two, second, inl (none, (f, first, e)))) =
     let basis : Basis = record { image = opened_bytes; walk = []; sound = λ n. false } in (

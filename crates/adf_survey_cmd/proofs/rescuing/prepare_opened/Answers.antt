@@ -36,7 +36,8 @@ returns-in-Some c = λ input opened.
     subst (λ mended. second_image mended v.image w fs ≡ Some c.deref.result.now) so
     (one_hung c.is_some.result v.image w fs c.deref.result.now lost hung) in
     prepares_weaker (RescuesBoth c.args.held input a (Some c.deref.result.now) fs) (Rescues c.args.held input) _
-    (λ reply by. found_answers c.args.held input v.image w fs sound (Some c.deref.result.now) reply (same ∙ opened_so input _ _ opened) here marks second by)
+    (λ reply by. found_answers c.args.held input v.image w fs sound (Some c.deref.result.now) reply
+    (same ∙ opened_so input _ _ opened) here marks second by)
     (c.prepare_hung.ensures input (subst (λ (image : List ℕ). IsOpened input image c.args.refusal) (sym same) opened) w fs sound here marks)
 
 pub returns : goal.returns
