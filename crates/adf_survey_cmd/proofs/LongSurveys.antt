@@ -142,8 +142,12 @@ long_questions (cat damaged path) s t front a b reply (inl bad) = inl bad
 long_questions (cat damaged path) s t front a b reply (inr told) = inr (of_typed s t (CopiesFromSurvey damaged path) a b reply (λ x.
     let found = of_long s.image x.2 x.3 (λ u gs. CopiesFound damaged s u gs x.0 reply) a x.4 x.5 in
     (x.0, x.1, [], bad_size, long_survey t.image b, same_found damaged s t x.0 reply found)) told)
-long_questions rescue s t front a b reply (u, is, told) = (t, is_typed t b, long_rescue s t a b reply
-    (subst (λ (u : SubjectValue). Rescues u.end u.image reply) (typed_so s u a is) told))
+long_questions rescue s t front a b reply (u, is, told) = (
+  t,
+  is_typed t b,
+  long_rescue s t a b reply
+      (subst (λ (u : SubjectValue). Rescues u.end u.image reply) (typed_so s u a is) told),
+)
 
 -- an image of n blocks is made of the front alone
 same_sized : (n : ℕ) (image bytes : List ℕ) → n ≤ MOST_BLOCKS → image ≡ take (512 * MOST_BLOCKS + 1) bytes → 512 * MOST_BLOCKS < length image
