@@ -2,7 +2,6 @@
 -- Letters: s, t what is surveyed; w the walk of a survey, fs its findings.
 use Rattle.std.proofs.Common.{◌≡◌, ◌++◌, ◌∙◌, ℕ, List, true, false, ap, sym}
 use Rattle.std.proofs.lemmas.Bool.{cond-false, cond-true}
-use Rattle.adf_names.specs.declared.kind.Kind.{Kind}
 use Rattle.adf_names.specs.declared.kind.Kind.TheVariants.{Ofs}
 use Rattle.adf_blocks.specs.Sizes.{blocks}
 use Rattle.adf_volume.specs.Image.{kind_of}

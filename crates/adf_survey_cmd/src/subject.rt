@@ -10,7 +10,7 @@ ghost use Rattle.adf_survey_cmd.specs.Subject.{IsTyped, begun_subject, changed, 
 use crate::runs::push_blocks;
 use adf_base::{BLOCK_LEN, NoMemory};
 use adf_blocks::MOST_BLOCKS;
-use adf_findings::{retype, survey};
+use adf_findings::{retype, some_survey, survey};
 use adf_rescue::{begin_image, lacks_boot};
 use adf_tree::Kind;
 use adf_volume::kind_in;
@@ -164,6 +164,7 @@ impl Subject {
     pub fn be_typed(&mut self, alloc: Global) -> Result<(), NoMemory>
         ensures { OnOk result (IsTyped (subject_value self.old) (subject_value self.new)) }
     {
+        some_survey();
         if !is_mistyped(alloc, &self.image)? {
             return Ok(());
         }
