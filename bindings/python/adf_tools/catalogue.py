@@ -13,7 +13,7 @@ import adf
 from adf_tools import compare, database, find, known, merge, store, tables, trees
 from adf_tools.lists import INDEX
 from adf_tools.pages import count_of
-from adf_tools.program import FAILED, REFUSED, WORKING, add_escape, begin, command_line, host_text
+from adf_tools.program import FAILED, REFUSED, WORKING, add_escape, begin, command_line, host_text, new_folder
 from adf_tools.reader import FOLDER
 from adf_tools.scan import Options, Scan
 from adf_tools.site import Site
@@ -27,16 +27,16 @@ def is_catalogue(path: str) -> bool:
 
 @contextlib.contextmanager
 def folder_for(path: str) -> Iterator[bool]:
-    """The folder of a catalogue, which is made if nothing is there; tells whether it is new. One that is made is removed again if
-    nothing was written into its database."""
+    """The folder of a catalogue, which is made with an empty database if nothing is there; tells whether it has none. One that is made is
+    removed again if no file was read."""
     path = path.rstrip("/") or path
     is_new = not is_catalogue(path)
     if is_new:
-        with trees.named(path):
-            os.mkdir(path)
+        with new_folder(path) as folder, database.opened(os.path.join(folder, database.NAME), True, path):
+            pass
     try:
         with database.alone(path):
-            yield is_new or not os.path.isfile(os.path.join(path, database.NAME))
+            yield not os.path.isfile(os.path.join(path, database.NAME))
     except BaseException:
         if is_new and not has_files(os.path.join(path, database.NAME)):
             trees.remove(path)

@@ -3,16 +3,15 @@
 from __future__ import annotations
 
 import argparse
-import hashlib
 import os
 import sys
-from typing import Dict, Iterator, List, NamedTuple, Optional
+from typing import Dict, Iterator, List, NamedTuple, Optional, Tuple
 
 import adf
 from adf_tools.collection import Image, images_in
 from adf_tools.names import letters
 from adf_tools.program import FAILED, REFUSED, command_line, host_text, stop
-from adf_tools.volumes import disk_of, file_sum, volume_of
+from adf_tools.volumes import disk_of, file_sum, sound_sums, volume_of
 
 
 class Thing(NamedTuple):
@@ -75,14 +74,9 @@ def thing_of(entry: adf.Entry | adf.Found, content: str) -> Thing:
     return Thing("file" if entry.is_file else "directory", content, f"{entry.protection:08x}", str(entry.date), letters(entry.comment))
 
 
-def found_sum(entry: adf.Found) -> str:
-    """A sum of the bytes of a file of a damaged image, or why there is none."""
-    if not entry.is_sound:
-        return f"damaged, block {entry.header}"
-    try:
-        return hashlib.sha256(entry.read()).hexdigest() if entry.is_file else ""
-    except adf.Error:
-        return f"not reached, block {entry.header}"
+def found_sum(entry: adf.Found, sums: Dict[Tuple[int, bytes], str]) -> str:
+    """A sum of the bytes of a file of a damaged image; of a damaged file its block, which no sum is equal to."""
+    return sums.get((entry.header, entry.raw_path), f"damaged, block {entry.header}") if entry.is_file else ""
 
 
 def side_of(image: bytes) -> Side:
@@ -90,8 +84,9 @@ def side_of(image: bytes) -> Side:
     try:
         volume = adf.Volume(image)
     except adf.Refused as refused:
-        survey = adf.survey(image)
-        return Side(image, str(refused), letters(survey.label), {letters(entry.path): thing_of(entry, found_sum(entry)) for entry in survey.entries})
+        survey, found = adf.survey(image), sound_sums(image)
+        things = {letters(entry.path): thing_of(entry, found_sum(entry, found)) for entry in survey.entries}
+        return Side(image, str(refused), letters(survey.label), things)
     sums = ((entry, file_sum(entry) if entry.is_file else "") for entry in volume.entries)
     return Side(image, "ok", letters(volume.label), {letters(entry.path): thing_of(entry, digest) for entry, digest in sums})
 

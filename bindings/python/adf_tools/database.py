@@ -190,9 +190,10 @@ def check_whole(connection: sqlite3.Connection, path: str) -> None:
 
 
 @contextlib.contextmanager
-def opened(path: str, is_new: bool = False) -> Iterator[sqlite3.Connection]:
-    """A database to write, which is made if it is new, and brought to this version if it is older."""
-    with told(path):
+def opened(path: str, is_new: bool = False, folder: str = "") -> Iterator[sqlite3.Connection]:
+    """A database to write, which is made if it is new, and brought to this version if it is older. Errors are told as if it were in the
+    given folder already."""
+    with told(os.path.join(folder, NAME) if folder else path):
         connection = connection_to(path, "rwc" if is_new else "rw")
         try:
             if version_of(connection, path):

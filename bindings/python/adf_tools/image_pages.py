@@ -18,10 +18,12 @@ from adf_tools.protection import protection_text
 from adf_tools.reader import PAGE_NAME
 
 ENTRY_HEADS = ("Path", "Kind", "Size", "-Protection", "-Date", "-Header", "-Comment", "Also on")
-FOUND_HEADS = ("State", "Path", "Kind", "Size", "-Protection", "-Date", "-Comment")
+FOUND_HEADS = ("State", "Path", "Kind", "Size", "-Protection", "-Date", "-Comment", "Also on")
 FINDING_HEADS = ("Blocks", "Cause", "Path", "Owned by")
 PARTITION_HEADS = ("Partition", "Verdict", "Kind", "First block", "Blocks", "-Flags", "-Priority", "Label")
 ADVICE = {group.name: group for group in GROUPS}
+ENTRIES = """SELECT entries.*, holders.images FROM entries LEFT JOIN holders ON holders.sha256 = entries.sha256
+WHERE image = :image ORDER BY entries.id"""
 ALSO = 3  # other images that a page links to
 Row = sqlite3.Row
 
@@ -116,9 +118,7 @@ class ImagePage:
         numbers = f"{image['kind']}, {image['used']} of {image['blocks']} blocks used, {image['free']} free"
         counts = f"{count_of(image['dirs'], 'directory', 'directories')}, {count_of(image['files'], 'file')}"
         pairs = [("Label", shown(image["label"])), ("Volume", numbers), ("Holds", counts), *self.date_facts(), *self.sum_facts()]
-        line = """SELECT entries.*, holders.images FROM entries LEFT JOIN holders ON holders.sha256 = entries.sha256
-            WHERE image = :image ORDER BY entries.id"""
-        whole, rows = image["dirs"] + image["files"], map(self.entry_row, self.rows(line))
+        whole, rows = image["dirs"] + image["files"], map(self.entry_row, self.rows(ENTRIES))
         entries = long_table("Entries", ENTRY_HEADS, rows, whole, "adf list < IMAGE") if whole else ""
         drawn = picture("", self.roles(), name=f"Blocks of {image['name']}")
         return facts("Volume", pairs) + self.icons() + f'<div class="beside">{drawn}{entries}</div>'
@@ -165,14 +165,15 @@ class ImagePage:
 
     def found_row(self, row: Row) -> str:
         mark = "sound" if row["state"] == "sound" else '<span class="refused">damaged</span>'
-        return "".join((cell(mark), *self.columns(row), cell(shown(row["comment"]), "text wide")))
+        also = others(row["images"], self.image["page"], row["sha256"])
+        return "".join((cell(mark), *self.columns(row), cell(shown(row["comment"]), "text wide"), cell(also, "text")))
 
     def found_part(self, whole: int) -> str:
         """The entries that are found in a refused image."""
         if not whole:
             return ""
         rescue = "<p>Of a sound file, <code>adf-survey cat PATH &lt; IMAGE &gt; FILE</code> writes the bytes.</p>\n"
-        rows = map(self.found_row, self.rows("SELECT * FROM entries WHERE image = :image ORDER BY id"))
+        rows = map(self.found_row, self.rows(ENTRIES))
         return f'<div id="found">{rescue}{long_table("Found", FOUND_HEADS, rows, whole, "adf-survey --list < IMAGE")}</div>'
 
     def finding_table(self) -> str:

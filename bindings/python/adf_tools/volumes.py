@@ -70,6 +70,11 @@ def entry_row(entry: adf.Entry | adf.Found, digest: Optional[str], state: str) -
     return kind, path, entry.size, entry.protection, str(entry.date), comment, entry.header, state, digest
 
 
+def found_row(entry: adf.Found, sums: Dict[Tuple[int, bytes], str]) -> Tuple[Any, ...]:
+    digest = sums.get((entry.header, entry.raw_path)) if entry.is_sound and entry.is_file else None
+    return entry_row(entry, digest, "sound" if entry.is_sound else "damaged")
+
+
 def dates_of(volume: adf.Volume | adf.Survey) -> Columns:
     return {"root": str(volume.date), "altered": str(volume.altered), "created": str(volume.created)}
 
@@ -122,10 +127,21 @@ def volume_record(volume: adf.Volume, columns: Columns, has_texts: bool) -> Reco
     return record({**columns, **numbers, **counts, **dates_of(volume), **told})._replace(entries=rows, icons=drawn, texts=texts)
 
 
+def sound_sums(image: bytes) -> Dict[Tuple[int, bytes], str]:
+    """The SHA-256 of the sound files of a refused image, by their headers and paths: a rescue keeps these with their bytes, in their
+    places."""
+    try:
+        volume = adf.Volume(adf.rescue(image)[0])
+    except adf.Refused:
+        return {}
+    return {(entry.header, entry.raw_path): file_sum(entry) for entry in volume.entries if entry.is_file}
+
+
 def refused_record(image: bytes, refused: adf.Refused, columns: Columns) -> Record:
     """What is kept of a refused image: its findings, and what is found in it all the same."""
     survey = adf.survey(image)
-    rows = limited(entry_row(entry, None, "sound" if entry.is_sound else "damaged") for entry in survey.entries)
+    sums = sound_sums(image) if any(entry.is_file and entry.is_sound for entry in survey.entries) else {}
+    rows = limited(found_row(entry, sums) for entry in survey.entries)
     findings = limited(finding_rows(survey))
     sound, lost = (sum(entry.is_sound == is_sound for entry in survey.entries if is_sound or entry.is_file) for is_sound in (True, False))
     files = sum(entry.is_file for entry in survey.entries)

@@ -144,7 +144,7 @@ class Index(Folder):
         browser.value("wanted.value = ''; wanted.focus()")
         browser.ask("Input.insertText", text=hashlib.sha256(b"Hello\n").hexdigest().upper())
         self.press("Enter", 13)
-        self.until("told.textContent", "2 found")
+        self.until("told.textContent", "3 found")
         self.assertEqual([message for message in browser.heard if message.get("method") == "Log.entryAdded" and "ERR_FILE_NOT_FOUND" not in str(message)], [])
         browser.close()
 

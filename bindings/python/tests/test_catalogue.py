@@ -526,7 +526,8 @@ class Databases(Catalogues):
             WHERE name = ? AND path LIKE 'c/%'"""
         readme = hashlib.sha256(b"Hello\n").hexdigest()
         self.assertEqual(self.asked("out", line, "a.adf"), [("c/readme", 6, 15, "ein <\xdcbel>", "sound", readme)])
-        self.assertEqual(self.asked("out", line, "bad.adf"), [("c/readme", 6, 15, "ein <\xdcbel>", "sound", None)])
+        self.assertEqual(self.asked("out", line, "bad.adf"), [("c/readme", 6, 15, "ein <\xdcbel>", "sound", readme)])
+        self.assertEqual(self.asked("out", "SELECT COUNT(DISTINCT sha256), COUNT(*) FROM entries WHERE kind = 'file'"), [(3, 9)])
         self.assertEqual(self.asked("out", "PRAGMA user_version"), [(len(database.STEPS),)])
         self.assertEqual(self.asked("out", "PRAGMA integrity_check"), [("ok",)])
 

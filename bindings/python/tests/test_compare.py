@@ -23,6 +23,9 @@ class Twice(Asked):
         os.remove("disks/new.adf")
         os.remove("disks/games/copy.adf")
         self.catalogue("disks", "out", status=1)
+        self.assertEqual((self.also("tools.adf"), self.also("games/bad.adf")), ({"games"}, {"tools"}))
+        os.remove("disks/games/bad.adf")
+        self.catalogue("disks", "out", status=1)
         self.assertEqual(self.also("tools.adf"), set())
 
     def test_knows_disks_that_differ_in_free_blocks_or_dates(self):
