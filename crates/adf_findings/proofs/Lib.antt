@@ -15,6 +15,7 @@ pub mod Lookups
 mod EntryPaths
 -- the blocks of sound entries
 pub mod SoundEntries
+pub mod SoundChains
 -- the findings that leave a file its blocks, and the others
 pub mod GraveFindings
 pub mod JudgementTests

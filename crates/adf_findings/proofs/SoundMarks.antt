@@ -186,7 +186,7 @@ module _ (image : List ℕ) where
 
   module _ {s : Course} (v : IsCourse image s) (done : IsDone image s) where
     -- what is asked for at the end was taken or skipped, in the block that is asked for
-    settled_at : (q : Role) (a i b : ℕ) → Asks image s.walk q a i → word_in image a i ≡ b
+    pub settled_at : (q : Role) (a i b : ℕ) → Asks image s.walk q a i → word_in image a i ≡ b
         → ((r : Role) × Has s.walk r b × Same r q) ⊎ ((r : Role) × Has s.skipped r b × Same r q)
     settled_at q a i b h e = elim (dec_has s.walk q) [
       | inr x ↦ elim (taken_wanted v x.role x.block x.has) [

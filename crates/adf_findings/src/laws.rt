@@ -5,11 +5,11 @@ ghost use Rattle.adf_tree.specs.declared.entry.Body.TheVariants.{File};
 ghost use Rattle.adf_tree.specs.declared.entry.Entry.{Entry};
 ghost use Rattle.adf_tree.specs.Tree.{Tree, entry, find};
 ghost use Rattle.adf_volume.specs.Fits.{Fits};
-ghost use Rattle.adf_volume.specs.Image.{name_of};
+ghost use Rattle.adf_volume.specs.Image.{name_of, word_in};
 ghost use Rattle.adf_volume.specs.Layout.{Layout};
 ghost use Rattle.adf_volume.specs.Made.{layout_in, tree_in};
-ghost use Rattle.adf_volume.specs.Walk.{FileAt, FirstFault, Has, HeadAt, NodeAt, Role};
-ghost use Rattle.adf_volume.specs.Walk.Role.{Data};
+ghost use Rattle.adf_volume.specs.Walk.{Asks, FileAt, FirstFault, Has, HeadAt, NodeAt, Role};
+ghost use Rattle.adf_volume.specs.Walk.Role.{Data, Head};
 ghost use Rattle.adf_findings.specs.Files.{IsSoundFile, file_content, file_in, named_from};
 ghost use Rattle.adf_findings.specs.Lookup.{LeadsTo, path_to};
 ghost use Rattle.adf_findings.specs.Remains.{data_found, gaps_of, left_of};
@@ -56,7 +56,8 @@ pub fn one_part()
 {}
 
 /// The header of a sound entry has its form. Each data block of a sound file, by its size, is in the walk, at the
-/// block in the file's table. All blocks of the file have their forms, and its data blocks are in the walk in order.
+/// block in the file's table. All blocks of the file have their forms, and its data blocks are in the walk in order. Each
+/// header that a chain of a sound directory names is in the walk, at its place in the chain.
 pub fn sound_entries()
     ensures header { (image : List ℕ) (w : List (Role × ℕ)) (fs : List FindingValue) (n h : ℕ)
         → IsSurvey image w fs
@@ -67,6 +68,10 @@ pub fn sound_entries()
     ensures order { (image : List ℕ) (w : List (Role × ℕ)) (fs : List FindingValue) (n h : ℕ)
         → IsSurvey image w fs
         → IsSound image w fs n h → DatasInOrder w n }
+    ensures chains { (image : List ℕ) (w : List (Role × ℕ)) (fs : List FindingValue) (n h : ℕ)
+        → IsSurvey image w fs
+        → IsSound image w fs n h → (m s j a i : ℕ) → Asks image w (Head m n s j) a i
+        → (k : ℕ) × Has w (Head k n s j) (word_in image a i) }
 {}
 
 /// The directory of an entry is in the walk, and has a smaller number.

@@ -208,8 +208,8 @@ impl<'i> Survey<'i> {
     }
 
     /// What is left of a file, whether sound or not: the bytes of each data block that is found as the file's own before block
-    /// `end`, and zeros for the others; as many as its header says, but no more than the image has. `None` for what is no file. `NoMemory` if an
-    /// allocation fails; never if there is no file, or it is empty.
+    /// `end`, and zeros for the others; as many as its header says, but no more than the image has. `None` for what is no
+    /// file. `NoMemory` if an allocation fails; never if there is no file, or it is empty.
     #[tactic(auto, using(crate::proofs::Keeping::tells_each))]
     pub fn remains(&self, alloc: Global, n: Node, end: u32) -> Result<Option<Remains>, NoMemory>
         ensures some { OnSurvey self.now.image (λ w _.

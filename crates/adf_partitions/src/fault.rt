@@ -10,8 +10,8 @@ use std::fmt;
 /// What is wrong with the tables of a disk, or `NoMemory`.
 #[derive(Clone, Copy, Debug, PartialEq, Eq)]
 pub enum DiskCause {
-    /// None of the blocks 0 to 15 is a rigid disk block: one that begins with `RDSK` and has a sound sum, or says that blocks have
-    /// another size than 512 bytes and has a sum over more than 128 words. Reported at block 0.
+    /// None of the blocks 0 to 15 is a rigid disk block: one that begins with `RDSK` and has a sound sum, or says that blocks
+    /// have another size than 512 bytes and has a sum over more than 128 words. Reported at block 0.
     NoRigidDisk = 1,
     /// Word 4 of the rigid disk block, the bytes of a block, is not 512.
     BlockSize = 2,

@@ -42,7 +42,8 @@ pub fn some_reading()
     ensures { (bytes : List ℕ) (n : ℕ) → (ps : List Partition) × AreReadable bytes n ps }
 {}
 
-/// The partitions that can be read are at most 1,024, each in a block of its own, and their volumes lie within the disk and apart.
+/// The partitions that can be read are at most 1,024, each in a block of its own, and their volumes lie within the disk and
+/// apart.
 pub fn readable_are_separate()
     ensures { (bytes : List ℕ) (n : ℕ) (ps : List Partition) → AreReadable bytes n ps → AreSeparate n ps }
 {}

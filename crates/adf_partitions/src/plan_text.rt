@@ -168,9 +168,10 @@ pub fn is_plan(plan: &DiskPlan) -> bool
     is_small(plan, cylinder) && have_volumes(&plan.partitions, cylinder)
 }
 
-/// Reads the text of a plan, whose lines end in a line feed, with one space between their words: a line `disk SECTORS HEADS`, a line `partition NAME KIND CYLINDERS` for each partition, perhaps with
-/// `bootable`, `priority P` and `given` behind it in this order, and a line `end`. Returns the plan, and the bytes behind the text.
-/// A number is at most 1,048,576, P is -128 to 127.
+/// Reads the text of a plan, whose lines end in a line feed, with one space between their words: a line `disk SECTORS HEADS`,
+/// a line `partition NAME KIND CYLINDERS` for each partition, perhaps with `bootable`, `priority P` and `given` behind it in
+/// this order, and a line `end`. Returns the plan, and the bytes behind the text. A number is at most 1,048,576, P is -128 to
+/// 127.
 ///
 /// The first line with a fault; `NoMemory`, at line 0, if an allocation fails, which can happen only if a line of a partition
 /// stands behind the first.

@@ -98,9 +98,9 @@ fn readable_by(
 
 /// The partitions that can be read of a disk of so many blocks of 512 bytes, from its first bytes (as of `Disk::open`): all of
 /// its list; where the list has a fault, those before it, and those of each partition block with a sound sum among the blocks 0
-/// to 15 and those kept for the tables that the list does not come to, in the order of the blocks, 1,024 in all at most. Of a disk
-/// without a rigid disk block only block 0 counts as kept. If its blocks have another size than 512 bytes there are none.
-/// `AllocError` if an allocation fails, which can happen only if a partition can be read.
+/// to 15 and those kept for the tables that the list does not come to, in the order of the blocks, 1,024 in all at most. Of a
+/// disk without a rigid disk block only block 0 counts as kept. If its blocks have another size than 512 bytes there are
+/// none. `AllocError` if an allocation fails, which can happen only if a partition can be read.
 pub fn readable_partitions(
     alloc: Global,
     bytes: &[u8],

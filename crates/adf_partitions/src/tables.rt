@@ -25,7 +25,8 @@ pub struct Tables {
     pub highest: u32,
 }
 
-// Whether a rigid disk block says that blocks have another size than 512 bytes, and has a sum over more words than such a block has.
+// Whether a rigid disk block says that blocks have another size than 512 bytes, and has a sum over more words than such a
+// block has.
 fn is_larger(block: &Block<'_>) -> bool
     ensures { result ≡ is_larger block.now }
 {

@@ -52,8 +52,8 @@ pub fn put_items(image: &mut [u8], items: &str) -> Result<(), RowError> {
     Ok(())
 }
 
-// Changes a word or a byte, and seals the block by its word 5. With `p` in front the block is a bitmap page, sealed by its word 0;
-// with `!` behind nothing is sealed.
+// Changes a word or a byte, and seals the block by its word 5. With `p` in front the block is a bitmap page, sealed by its
+// word 0; with `!` behind nothing is sealed.
 fn put_item(image: &mut [u8], item: &str) -> Result<(), RowError> {
     let (change, is_sealed) = match item.strip_suffix('!') {
         Some(front) => (front, false),

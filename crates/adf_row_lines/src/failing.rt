@@ -40,8 +40,8 @@ const SIDES: [(Side, bool); 5] = [
 ];
 
 impl<P: Programs, L: Library> Bench<'_, P, L> {
-    /// Runs a command, `READ WRITE WORDS`, over the image by devices that move at most so many bytes at a call, and lets each call
-    /// of each device fail in turn.
+    /// Runs a command, `READ WRITE WORDS`, over the image by devices that move at most so many bytes at a call, and lets each
+    /// call of each device fail in turn.
     pub fn fail_each_call(&self, program: Program, text: &str) -> Result<(), RowError> {
         let (read, rest) = first_word(text);
         let (write, words) = first_word(rest);

@@ -276,10 +276,10 @@ fn prepare(alloc: Global, input: Vec<u8>, held: usize) -> Result<Prepared, Outco
     prepare_mended(alloc, &mut image, held)
 }
 
-/// Writes the new volume of all that stands on an image, whose boot block and root may be overwritten, and of which the first `held`
-/// blocks were there whole, with what no directory leads to any more; errors get the lines of what is not in it. If nothing
-/// stands, and the input is not a valid volume, errors get the line of its first fault, and these lines behind it. The input is let
-/// go before the new volume is laid.
+/// Writes the new volume of all that stands on an image, whose boot block and root may be overwritten, and of which the first
+/// `held` blocks were there whole, with what no directory leads to any more; errors get the lines of what is not in it. If
+/// nothing stands, and the input is not a valid volume, errors get the line of its first fault, and these lines behind it.
+/// The input is let go before the new volume is laid.
 pub fn rescue_image<W: Sink>(alloc: Global, input: Vec<u8>, held: usize, output: &mut W) -> Outcome
     requires { W.has_failed output.old ≡ false }
     ensures ends { EndsBy (Rescues held input.items) result (W.held output.old) (W.held output.new) }

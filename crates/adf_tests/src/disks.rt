@@ -113,8 +113,8 @@ pub fn changed(b: u32, words: &[(usize, u32)]) -> Tables {
     tables
 }
 
-/// Tables with at most three partitions, in the blocks 1 to 3: the digit of the name, the lowest and the highest cylinder, and the
-/// type.
+/// Tables with at most three partitions, in the blocks 1 to 3: the digit of the name, the lowest and the highest cylinder,
+/// and the type.
 pub fn tables_of(partitions: &[(u8, u32, u32, u32)]) -> Tables {
     let mut tables = changed(0, &[(7, 1)]);
     let mut block = 1;

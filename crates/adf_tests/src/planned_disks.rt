@@ -1,5 +1,5 @@
-// Disks that are made from a text. A cylinder has 2 heads of 2 sectors, so the tables, 3 blocks, take one cylinder; Work has 8 blocks
-// and DH1 has 12.
+// Disks that are made from a text. A cylinder has 2 heads of 2 sectors, so the tables, 3 blocks, take one cylinder; Work has
+// 8 blocks and DH1 has 12.
 
 use crate::disks::is_partition;
 use adf_partitions::{Disk, Place, TextFault, TextKind, read_plan, write_tables};

@@ -1,4 +1,5 @@
 use Rattle.adf_findings.proofs.SoundEntries as laws
+use Rattle.adf_findings.proofs.SoundChains.{chains_followed}
 use Rattle.adf_findings.proofs.SoundFiles.{sound_listed}
 use Rattle.adf_findings.proofs.laws.sound_entries.Goals as goal
 
@@ -10,3 +11,6 @@ returns-clause-file c = λ image w fs n h v s f. laws.sound_file image w fs n h 
 
 pub returns-clause-order : goal.returns-clause-order
 returns-clause-order c = λ image w fs n h v sound k b. let l = sound_listed image w fs n h v sound in (l.from k b, l.to k b)
+
+pub returns-clause-chains : goal.returns-clause-chains
+returns-clause-chains c = λ image w fs n h v sound m s j a i ask. chains_followed image w fs n h v sound m s j a i ask
