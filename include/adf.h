@@ -33,6 +33,7 @@
  * - Buffers and structs need not be initialised, except for the bools of a struct, which are true or false: `= {0}` will do.
  * - While a call runs, nothing else writes what it reads (const). What it writes (not const) overlaps nothing else that is
  *   passed, and nothing else reads or writes it.
+ * - The thread that calls has 128 KiB of stack left. The calls took at most 52 KiB when this was measured.
  * - malloc, realloc and free belong together, and align as C demands: for any object that fits the size.
  * - No call is made from a signal handler, or in the forked child of a process that had threads.
  *
