@@ -9,7 +9,7 @@ ghost use Rattle.adf_runs.specs.Outcomes.{EndsBy, is_read_fault, is_write_fault}
 use adf_runs::{Outcome, Sink, write_all, write_both};
 use std::alloc::Global;
 
-/// Writes a text, at status 0 where all is sound, else at status 1.
+/// Writes a text, at status 0 if all is sound, else at status 1.
 pub fn write_text<W: Sink>(output: &mut W, text: &[u8], sound: bool) -> Outcome
     requires { W.has_failed output.old ≡ false }
     ensures ends { EndsBy (λ reply. reply ≡ on_output (check_status sound) text.now) result
@@ -24,7 +24,7 @@ pub fn write_text<W: Sink>(output: &mut W, text: &[u8], sound: bool) -> Outcome
     }
 }
 
-/// Writes two texts, one behind the other, at status 0.
+/// Writes two texts, one after the other, at status 0.
 pub fn write_parts<W: Sink>(output: &mut W, first: &[u8], second: &[u8]) -> Outcome
     requires { W.has_failed output.old ≡ false }
     ensures ends { EndsBy (λ reply. reply ≡ on_output 0 (first.now ++ second.now)) result

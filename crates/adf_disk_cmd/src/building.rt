@@ -145,7 +145,7 @@ fn refuse_text(alloc: Global, fault: TextFault) -> Outcome
     }
 }
 
-/// Builds the disk of a plan: its text comes first, and behind it the bytes of the given volumes.
+/// Builds the disk of a plan: its text comes first, then the bytes of the given volumes.
 pub fn build_disk<W: Sink>(alloc: Global, text: &[u8], output: &mut W) -> Outcome
     requires { W.has_failed output.old ≡ false }
     ensures ends { EndsBy (BuildsDisk text.now) result (W.held output.old) (W.held output.new) }

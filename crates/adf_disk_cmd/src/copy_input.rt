@@ -51,7 +51,7 @@ struct Held {
     tables: Vec<u8>,
     /// Where the volume lies.
     place: Place,
-    /// The bytes of the volume behind the tables, and how many bytes are there in all.
+    /// The bytes of the volume after the tables, and how many bytes there are in all.
     behind: Part,
 }
 

@@ -15,7 +15,7 @@ use std::alloc::Global;
 /// What is done with an input.
 #[derive(Drop)]
 pub enum Job {
-    /// It is a disk, which is told of.
+    /// It is a disk, about which something is asked.
     Tell(Work),
     /// It is a plan, whose disk is built.
     Build,

@@ -9,13 +9,13 @@ use crate::job::Job;
 use adf_runs::{Sink, Source, run_program};
 use std::alloc::Global;
 
-/// Does what the words ask for, of which the first is the program's name, and answers the status:
+/// Does what the words ask for; the first one is the program's name. Returns the status:
 ///
-/// - 0 where the partitions are listed, all of them are sound volumes, or the bytes of a volume or a new disk are written;
-/// - 1 where the partitions of the disk cannot be read, or one of them is no sound volume, which `check` tells on output; where
-///   there is no such partition, something is wrong with its place, or no disk can be built, which errors tell;
-/// - 2 where the words are not accepted, which errors tell; nothing is read, and output is empty;
-/// - 3 where a device failed or memory was refused, which errors tell.
+/// - 0 if the partitions are listed, all of them are sound volumes, or the bytes of a volume or a new disk are written;
+/// - 1 if the partitions of the disk cannot be read, or one of them is not a sound volume, which `check` writes to output; or if
+///   there is no such partition, something is wrong with its place, or no disk can be built, which is said on errors;
+/// - 2 if the words are not accepted, which is said on errors; nothing is read, and output is empty;
+/// - 3 if a device failed or an allocation failed, which is said on errors.
 pub fn run<R: Source, W: Sink, E: Sink>(
     alloc: Global,
     words: &[&str],
@@ -39,7 +39,7 @@ pub fn run<R: Source, W: Sink, E: Sink>(
     run_program::<Job, R, W, E>(alloc, words, input, output, errors)
 }
 
-/// Words ask for one thing, and what is asked of a disk has one answer: one status, one output and one text on errors.
+/// Words ask for one thing at most, and what is asked of a disk has one answer at most: one status, one output and one text on errors.
 #[tactic(auto, using(crate::proofs::OneAnswer::one_request))]
 pub fn one_answer()
     ensures request { WordsAskForOneDiskRequest }

@@ -19,7 +19,7 @@ const MOST_BEFORE: usize = 1 << 25;
 /// The bytes that are read at once.
 pub const PIECE: usize = 65536;
 
-/// What is held of a disk: its bytes from one on, up to where the input stands.
+/// What is held of a disk: its bytes from one on, up to the place that the input has reached.
 #[derive(Drop)]
 pub struct Stretch {
     pub begin: usize,
@@ -82,7 +82,7 @@ fn remove_front(bytes: &mut Vec<u8>, count: usize)
 }
 
 impl Stretch {
-    /// The byte of the disk behind those that are held.
+    /// The byte of the disk after those that are held.
     pub fn end(&self) -> usize
         requires { self.now.begin + vec_len self.now.bytes ≤ MOST_DISK_BYTES }
         ensures { result ≡ self.now.begin + vec_len self.now.bytes }

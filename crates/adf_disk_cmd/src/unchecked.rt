@@ -20,7 +20,7 @@ pub enum Unchecked {
     OtherType(u32),
     /// Something is wrong with the fields of the partition.
     Fields(FieldFault),
-    /// So many blocks are reserved, where a volume that is read has 2.
+    /// So many blocks are reserved; a volume that is read has 2.
     Reserved(u32),
     /// It has an odd number of blocks.
     OddBlocks,
@@ -50,7 +50,7 @@ pub fn why_unchecked(partition: &Partition, place: Place) -> Option<Unchecked>
     None
 }
 
-/// The text that tells why. That of `BadSize` is what `adf check` writes (`large_volumes_are_refused`).
+/// The text of the reason. That of `BadSize` is what `adf check` writes (`large_volumes_are_refused`).
 pub fn unchecked_text(alloc: Global, why: Unchecked) -> Result<String, AllocError>
     ensures { IfOk result (λ text. string_bytes text ≡ unchecked_text why) }
 {
@@ -66,7 +66,7 @@ pub fn unchecked_text(alloc: Global, why: Unchecked) -> Result<String, AllocErro
     }
 }
 
-/// `adf check` answers to a volume of more blocks than one that is read what is told of it.
+/// What is written of a volume of more blocks than one that is read is what `adf check` answers to it.
 pub fn large_volumes_are_refused()
     ensures { (volume : List ℕ) → 512 * MOST_BLOCKS < length volume
         → Answer check volume (on_output 1 (unchecked_text Unchecked.BadSize ++ codes "\n")) }

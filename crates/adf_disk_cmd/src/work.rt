@@ -39,7 +39,7 @@ pub enum Work {
     Volume(Sought),
 }
 
-/// The partition that is sought, where one is wanted.
+/// The partition that is sought, if one is wanted.
 pub fn sought_for(wanted: Wanted<'_>) -> Sought
     ensures { Means result (wanted_value wanted.entry) }
 {

@@ -386,9 +386,9 @@ fn changed(alloc: Global, survey: &Survey<'_>, loose: &Loose) -> Result<Vec<u8>,
 
 /// The hung image of a survey: each lost header hangs in the directory that it names, or in the root; `None` if nothing
 /// is lost, or there is no finding. A header is lost if its block is no part of the survey, and it says that it is one, of a
-/// directory (words 0, 1 and 127) or of a file (these, and its sum), and it is not deleted, as far as the bitmap or else its
-/// directory tells. Where a lost header names a block that is nothing else, a directory `lost-` and its number is made there.
-/// No word that leads to a part of the survey is changed. `mended` tells whether the image was: then the root does not tell
+/// directory (words 0, 1 and 127) or of a file (these, and its checksum), and it is not deleted, as far as the bitmap or else
+/// its directory shows. If a lost header names a block that is nothing else, a directory `lost-` and its number is made there.
+/// No word that leads to a part of the survey is changed. `mended` is whether the image was: then the root does not show
 /// what was deleted. `NoMemory` if an allocation fails, which can happen only if there is a finding.
 pub fn hung(alloc: Global, survey: &Survey<'_>, mended: bool) -> Result<Option<Vec<u8>>, NoMemory>
     ensures none { OnSurvey survey.now.image (λ w fs.

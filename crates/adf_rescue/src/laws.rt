@@ -34,7 +34,7 @@ pub fn rescued_additions_have_their_tree()
 
 /// A sound file is whole, and a whole file of which the input holds each data block stands: the verdict on it is that of its
 /// path, with its content and what its header says of it. So it is kept in the place of its directory, by its name or else by
-/// `lost-` and its block, or has no room. What a second survey adds comes behind all that the first one adds.
+/// `lost-` and its block, or has no room. What a second survey adds comes after all that the first one adds.
 pub fn sound_files_stand()
     ensures whole { (image : List ℕ) (w : List (Role × ℕ)) (fs : List FindingValue) (n : ℕ)
         → IsSoundFile image w fs n → IsSoundFile image w (grave fs) n }

@@ -28,7 +28,7 @@ use adf_tree::Node;
 use adf_volume::kind_in;
 use std::alloc::Global;
 
-/// Whether a block is in range: behind the boot blocks.
+/// Whether a block is in range: after the boot blocks.
 pub fn is_inside(image: &[u8], b: u32) -> bool
     ensures { result ≡ is_inside image.now b }
 {
@@ -72,7 +72,7 @@ fn bit_stated(survey: &Survey<'_>, b: u32) -> Option<bool>
     survey.is_free(b)
 }
 
-/// Whether the bitmap tells that a block is free.
+/// Whether a block is free, as the bitmap shows.
 pub fn is_stated_free(survey: &Survey<'_>, b: u32) -> bool
     ensures { OnSurvey survey.now.image (λ w _. result ≡ is_stated_free survey.now.image w b) }
 {

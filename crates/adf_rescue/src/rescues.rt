@@ -23,7 +23,7 @@ use std::alloc::Global;
 
 /// A rescue: whether nothing stands; the draft of the new volume's tree, and the number of its blocks; the entries that are left
 /// out, in the order of the walk: those of the survey of the image, and those of the second survey that are not known from the
-/// first; and what the findings of the survey tell of and no entry has: for each header that was skipped its directory, and
+/// first; and what the findings of the survey report and no entry has: for each header that was skipped its directory, and
 /// the blocks in use.
 #[derive(Drop)]
 pub struct Rescued {
@@ -124,8 +124,8 @@ fn stands_nothing(survey: &Survey<'_>, salvage: &Salvage, mended: bool) -> bool
 /// What stands on a surveyed image, of which the input holds the first `held` blocks: its whole files with all data in these, and
 /// its directories, as the draft of a tree that fits in as many blocks; and what stands beside these by a second survey, if there
 /// is one, of the image with what was lost hung in it again: each entry whose header is not that of an entry of the first survey,
-/// but a file only if its data blocks are as they were given, of no entry that is kept, and not free as the bitmap tells. With it
-/// come the entries that are left out, and what the findings of the first survey tell of and no entry has. Nothing stands if
+/// but a file only if its data blocks are as they were given, of no entry that is kept, and not free by the bitmap. With it
+/// come the entries that are left out, and what the findings of the first survey report and no entry has. Nothing stands if
 /// there is a finding of the first survey, or the image was mended, and there is no addition. `None` if nothing of the image is
 /// surveyed. `NoMemory` if an allocation fails, which can happen only if something of the image is surveyed.
 pub fn rescue(

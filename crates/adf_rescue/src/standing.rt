@@ -103,7 +103,7 @@ fn is_given(before: &Survey<'_>, kept: &Vec<bool>, held: usize, image: &[u8], b:
 }
 
 /// Whether data blocks were given: the input holds them, they are the same in the image of the survey before, and there neither
-/// an entry that is kept has them, nor does the bitmap tell that they are free.
+/// an entry that is kept has them, nor does the bitmap show them as free.
 pub fn are_given(
     before: &Survey<'_>,
     kept: &Vec<bool>,

@@ -148,10 +148,9 @@ fn push_opening(text: &mut Vec<u8>, opening: &Opening) -> Result<(), AllocError>
     )
 }
 
-/// Writes the lines of what is found: those that open `list` of the volume, and behind them those of each entry, with its mark;
-/// none where the root is not taken. A file with data from block `end` on is marked damaged. `Device` where the writer
-/// failed, `NoMemory` where memory was refused; then a front part of the lines is written, and where the writer failed not
-/// all of them.
+/// Writes the lines of what is found: those that open `list` of the volume, then those of each entry, with its mark; none if
+/// the root is not taken. A file with data from block `end` on is marked damaged. `Device` if the writer failed, `NoMemory` if
+/// an allocation failed; then a front part of the lines is written, and if the writer failed not all of them.
 pub fn write_found<W: Sink>(
     alloc: Global,
     survey: &Survey<'_>,

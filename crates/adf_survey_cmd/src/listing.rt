@@ -41,7 +41,7 @@ fn write_both<W: Sink>(
     write_found(alloc, survey, end, output)
 }
 
-/// Writes the lines of the findings, with those in front, and behind them those of what is found.
+/// Writes the lines of the findings, with those in front, then those of what is found.
 pub fn write_list<W: Sink>(
     alloc: Global,
     subject: &Subject,

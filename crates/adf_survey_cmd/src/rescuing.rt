@@ -278,7 +278,7 @@ fn prepare(alloc: Global, input: Vec<u8>, held: usize) -> Result<Prepared, Outco
 
 /// Writes the new volume of all that stands on an image, whose boot block and root may be overwritten, and of which the first
 /// `held` blocks were there whole, with what no directory leads to any more; errors get the lines of what is not in it. If
-/// nothing stands, and the input is not a valid volume, errors get the line of its first fault, and these lines behind it.
+/// nothing stands, and the input is not a valid volume, errors get the line of its first fault, then these lines.
 /// The input is let go before the new volume is laid.
 pub fn rescue_image<W: Sink>(alloc: Global, input: Vec<u8>, held: usize, output: &mut W) -> Outcome
     requires { W.has_failed output.old ≡ false }

@@ -9,13 +9,13 @@ use crate::work::Work;
 use adf_runs::{Sink, Source, run_program};
 use std::alloc::Global;
 
-/// Does what the words ask for, of which the first is the program's name, and answers the status:
+/// Does what the words ask for; the first one is the program's name. Returns the status:
 ///
-/// - 0 where there is no finding, the bytes of a sound file are written, or a rescue leaves nothing out;
-/// - 1 where findings are written; where nothing, no file or no sound file is under the path, or a rescue leaves entries out or
-///   has none, which errors tell;
-/// - 2 where the words are not accepted, or the path is not read, which errors tell; nothing is read, and output is empty;
-/// - 3 where a device failed or memory was refused, which errors tell.
+/// - 0 if there is no finding, the bytes of a sound file are written, or a rescue leaves nothing out;
+/// - 1 if findings are written; or if nothing, no file or no sound file is under the path, or a rescue leaves anything out or
+///   has no entry, which is said on errors;
+/// - 2 if the words are not accepted, or the path is not read, which is said on errors; nothing is read, and output is empty;
+/// - 3 if a device failed or an allocation failed, which is said on errors.
 pub fn run<R: Source, W: Sink, E: Sink>(
     alloc: Global,
     words: &[&str],
@@ -39,7 +39,7 @@ pub fn run<R: Source, W: Sink, E: Sink>(
     run_program::<Work, R, W, E>(alloc, words, input, output, errors)
 }
 
-/// Words ask for one thing, and what is asked of an image has one answer: one status, one output and one text on errors.
+/// Words ask for one thing at most, and what is asked of an image has one answer at most: one status, one output and one text on errors.
 #[tactic(auto, using(crate::proofs::OneAnswer::one_answer, crate::proofs::OneAnswer::one_inquiry))]
 pub fn one_answer()
     ensures request { WordsAskForOneInquiry }

@@ -99,7 +99,7 @@ fn run_at(survey: &Survey<'_>, k: usize) -> Option<Run>
     Some(Run::of(finding, survey.concern_of(k), survey.owner_of(k)))
 }
 
-/// The run that begins with finding `k`, counted from 0, and the number of the finding behind the run; `None` past the last.
+/// The run that begins with finding `k`, counted from 0, and the number of the finding after the run; `None` past the last.
 pub fn run_from(survey: &Survey<'_>, k: usize) -> Option<(Run, usize)>
     ensures run { OnSurvey survey.now.image (λ w fs. IfSome result (λ next.
         next.0 ∷ runs w (drop next.1 fs) ≡ runs w (drop k fs))) }
@@ -118,7 +118,7 @@ pub fn run_from(survey: &Survey<'_>, k: usize) -> Option<(Run, usize)>
     Some((run, next))
 }
 
-/// Appends the blocks of a run, and a byte behind them.
+/// Appends the blocks of a run, then a byte.
 pub fn push_blocks(text: &mut Vec<u8>, first: u32, last: u32, end: u8) -> Result<(), AllocError>
     ensures { OnOk result (text.new.items ≡ text.old.items ++ (blocks_text first last ++ end ∷ [])) }
 {
@@ -207,9 +207,9 @@ fn push_run(
     text.extend_from_slice(b"\n")
 }
 
-/// Writes the lines that wait, and behind them those of the findings, of which those of neighbouring blocks are one. `Device`
-/// where the writer failed, `NoMemory` where memory was refused; then a front part of the lines is written, and where the
-/// writer failed not all of them.
+/// Writes the lines that wait, then those of the findings; those of neighbouring blocks are one. `Device` if the writer
+/// failed, `NoMemory` if an allocation failed; then a front part of the lines is written, and if the writer failed not all of
+/// them.
 pub fn write_runs<W: Sink>(
     alloc: Global,
     survey: &Survey<'_>,

@@ -139,7 +139,7 @@ impl Subject {
         self.front.to_vec(alloc)
     }
 
-    /// Begins the image with `DOS` and a type, where only the boot block is lost, and says so.
+    /// Begins the image with `DOS` and a type, if only the boot block is lost, and says so.
     pub fn begin(&mut self) -> Result<(), AllocError>
         ensures { OnOk result (subject_value self.new ≡ begun_subject (subject_value self.old)) }
     {
