@@ -1,7 +1,8 @@
--- All of it is the promise: what a command is, what devices tell, how a run ends, and what a program tells of itself.
+-- All of it is the promise: what a command is, what devices and files tell, how a run ends, and what a program tells of itself.
 pub mod About
 pub mod Commands
 pub mod Devices
+pub mod Files
 pub mod Streams
 pub mod Outcomes
 pub mod WorkFaults

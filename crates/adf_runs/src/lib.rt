@@ -1,8 +1,9 @@
-//! Programs and their runs: devices, whole reads and writes, and how a run ends.
+//! Programs and their runs: devices, files, whole reads and writes, and how a run ends.
 #![tactic(auto)]
 
 mod about;
 mod devices;
+mod files;
 mod inputs;
 mod named_errors;
 mod outcome;
@@ -14,6 +15,7 @@ mod work_fault;
 
 pub use crate::about::{About, Telling, VERSION_NUMBER, tell, telling_asked};
 pub use crate::devices::{Device, Failed, Sink, Source};
+pub use crate::files::{Files, SystemFiles, Unopened};
 pub use crate::inputs::read_input;
 pub use crate::named_errors::NamedErrors;
 pub use crate::outcome::Outcome;

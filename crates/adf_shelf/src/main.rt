@@ -9,9 +9,10 @@ mod raw_words;
 use crate::closed::{Errors, Output};
 use crate::raw_words::{names_among, raw_words, stand_ins};
 use adf_runs::{
-    About, Device, NamedErrors, Outcome, Sink, command_words, refuse_words, tell, telling_asked,
+    About, Device, NamedErrors, Outcome, Sink, SystemFiles, command_words, refuse_words, tell,
+    telling_asked,
 };
-use adf_shelf_cmd::{SystemFiles, TextNames, parse, run};
+use adf_shelf_cmd::{TextNames, parse, run};
 use std::cell::Cell;
 use std::io::BufReader;
 use std::process::ExitCode;

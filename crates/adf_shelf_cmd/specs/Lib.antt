@@ -1,4 +1,3 @@
--- All of it is the promise: the names, the files, and the lines of all images.
+-- All of it is the promise: the names, and the lines of all images.
 pub mod Names
-pub mod Files
 pub mod Lines

@@ -2,13 +2,11 @@
 #![tactic(auto)]
 
 mod batch;
-mod files;
 mod names;
 mod report;
 mod runner;
 
 pub use crate::batch::{Stop, say_more, write_verdicts};
-pub use crate::files::{Files, SystemFiles, Unopened};
 pub use crate::names::{Names, TextNames, WordNames};
 pub use crate::report::{Report, check_file, push_line, push_why};
 pub use crate::runner::run;

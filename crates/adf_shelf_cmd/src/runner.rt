@@ -8,9 +8,8 @@ ghost use Rattle.adf_shelf_cmd.specs.Lines.{Ends, IsReportOf, IsRunStatus};
 ghost use Rattle.adf_shelf_cmd.specs.Names.{are_unread, names_asked};
 
 use crate::batch::{Stop, say_more, write_verdicts};
-use crate::files::Files;
 use crate::names::{Names, TextNames, WordNames};
-use adf_runs::{Sink, say};
+use adf_runs::{Files, Sink, say};
 use adf_words::{ArgsError, Order, SHELF_USAGE as USAGE, parse_shelf};
 use std::alloc::Global;
 use std::io::BufRead;

@@ -1,11 +1,11 @@
 // What opens files by their names.
 
 ghost use Rattle.std.specs.Prelude.{◌≡◌, ◌≢◌, Bool, ℕ, false, IfErr, IfOk, IfSome, List, None, OnErr, OnOk, Option, Some, true};
-ghost use Rattle.adf_shelf_cmd.specs.declared.files.Unopened.{Unopened};
-ghost use Rattle.adf_shelf_cmd.specs.declared.files.Unopened.TheVariants.{NotText};
-ghost use Rattle.adf_shelf_cmd.specs.Files.{SystemOpens, unopened_text};
+ghost use Rattle.adf_runs.specs.declared.files.Unopened.{Unopened};
+ghost use Rattle.adf_runs.specs.declared.files.Unopened.TheVariants.{NotText};
+ghost use Rattle.adf_runs.specs.Files.{SystemOpens, unopened_text};
 
-use adf_runs::{Device, Source};
+use crate::devices::{Device, Source};
 use std::fs::File;
 use std::io::{Error, ErrorKind};
 use std::path::Path;

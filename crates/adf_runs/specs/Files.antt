@@ -1,8 +1,8 @@
 -- What comes of opening files.
 use Rattle.std.specs.Prelude.{List, [], ◌++◌, codes, ℕ, Option, None, Some, IsUtf8}
 use Rattle.adf_names.specs.Escapes.{escaped}
-use Rattle.adf_shelf_cmd.specs.declared.files.Unopened.{Unopened}
-use Rattle.adf_shelf_cmd.specs.declared.files.Unopened.TheVariants.{Missing, Forbidden, Directory, NotText, Other}
+use Rattle.adf_runs.specs.declared.files.Unopened.{Unopened}
+use Rattle.adf_runs.specs.declared.files.Unopened.TheVariants.{Missing, Forbidden, Directory, NotText, Other}
 
 -- what opening a file of the system may come to, `None` if it is opened: a name is refused as no UTF-8 if and only if it is none
 abbrev pub SystemOpens : List ℕ → Option Unopened → Type 0
