@@ -1,18 +1,19 @@
 -- What is told of a disk of which the blocks that may have tables and the bytes of one volume are held.
 -- Letters: as in proofs/HeldTables; tables are the first t bytes of all, q is the place of the volume, f its first byte and b how many it has.
 use Rattle.std.proofs.Common.{◌≡◌, ◌≤◌, ◌+◌, ◌-◌, ◌*◌, ◌/◌, ◌∙◌, ◌++◌, [], ℕ, List, Option, None, Some, Result, Ok, Err, IfOk, IfSome, inl, inr, ap}
-use Rattle.std.proofs.Common.{append-nil, arith, drop, false, length, length-drop, length-take, min, refl, subst, sym, take, find}
+use Rattle.std.proofs.Common.{append-nil, arith, drop, false, length, length-drop, length-take, min, refl, subst, sym, take}
 use Rattle.std.proofs.Math.ListN.{drop_of_length-le}
 use Rattle.std.proofs.Math.Seq.{take-add}
+use Rattle.std.specs.Prelude.{Bool, bytes_eq, ◌||◌, ◌∷◌}
 use Rattle.std.proofs.lemmas.Bool.{cases_lt}
 use Rattle.std.proofs.lemmas.List.{drop-drop, drop-take, take-take, take_all}
 use Rattle.std.specs.Option.{SomeIff, unwrap_or}
 use Rattle.std.proofs.lemmas.Grind.{common_steps}
 use Rattle.adf_base.specs.Words.{block}
-use Rattle.adf_names.proofs.Spellings.{only_spelled}
+use Rattle.adf_names.specs.Escapes.{escaped}
+use Rattle.adf_names.specs.Texts.{uppers}
 use Rattle.adf_partitions.proofs.AnyLength.{is_disk_too, named_is, numbered_is}
 use Rattle.adf_partitions.specs.Disks.{FirstFault, IsDisk}
-use Rattle.adf_partitions.specs.Partitions.{is_named, partition_numbered}
 use Rattle.adf_partitions.specs.Places.{StatesPlace, end_of, place_of}
 use Rattle.adf_partitions.specs.Volumes.{FoundAlike, IsStated}
 use Rattle.adf_partitions.specs.declared.fault.DiskFault.{DiskFault}
@@ -20,6 +21,7 @@ use Rattle.adf_partitions.specs.declared.partition.Partition.{Partition}
 use Rattle.adf_partitions.specs.declared.place.Place.{Place}
 use Rattle.adf_partitions.specs.declared.place.PlaceFault.{PlaceFault}
 use Rattle.adf_partitions.specs.declared.tables.Tables.{Tables}
+use Rattle.adf_texts.specs.Names.{names_text}
 use Rattle.adf_runs.proofs.Endings.{ends_weaker}
 use Rattle.adf_runs.proofs.KnownBytes.{left_over}
 use Rattle.adf_runs.specs.Outcomes.{EndsBy}
@@ -28,29 +30,22 @@ use Rattle.adf_runs.specs.declared.outcome.Outcome.{Outcome}
 use Rattle.adf_words.specs.DiskLine.{WantedValue, name, number, volume}
 use Rattle.adf_disk_cmd.proofs.Endings.{disk_ends, refused_ends, told_ends}
 use Rattle.adf_disk_cmd.proofs.HeldTables.{disk_held, disk_of, fault_held}
-use Rattle.adf_disk_cmd.specs.Answers.{DiskAnswer, IsWanted, OfPartitions, place_reply, volume_reply}
+use Rattle.adf_disk_cmd.specs.Answers.{DiskAnswer, OfPartitions, place_reply, volume_reply, wanted_of}
 use Rattle.adf_disk_cmd.specs.Lines.{volume_at}
-use Rattle.adf_disk_cmd.specs.Work.{HoldsVolume, IsSoughtPlace, Means, TellsFault, held_place_reply, held_reply}
+use Rattle.adf_disk_cmd.specs.Work.{HoldsVolume, IsSoughtPlace, TellsFault, held_place_reply, held_reply}
 use Rattle.adf_disk_cmd.specs.declared.copy_input.TheConstants.{MOST_DISK_BLOCKS}
 use Rattle.adf_disk_cmd.specs.declared.list_input.TheConstants.{TABLES_LEN}
-use Rattle.adf_disk_cmd.specs.declared.work.Sought.{Sought}
 use Rattle.adf_disk_cmd.specs.declared.work.TheConstants.{MOST_DISK_BYTES}
 
+-- whether a text is this name
+abbrev is_name_of : List ℕ → List ℕ → Bool
+is_name_of text k = bytes_eq (uppers (names_text (k ∷ []))) (uppers text) || bytes_eq (uppers (escaped k)) (uppers text)
+
 -- what is wanted is found alike whatever the number of blocks
-pub wanted_alike : (bytes : List ℕ) (n m : ℕ) (t u : Tables) (ps qs : List Partition) (w : WantedValue) (found other : Option Partition)
-    → IsDisk bytes n t ps
-    → IsDisk bytes m u qs → IsWanted ps w found → IsWanted qs w other → FoundAlike bytes n found other
-wanted_alike bytes n m t u ps qs (number k) found other d e h g =
-    subst (λ (x : Option Partition). FoundAlike bytes n x other) (sym h)
-    (subst (λ (y : Option Partition). FoundAlike bytes n (partition_numbered ps k) y) (sym g) (numbered_is bytes n m t u ps qs k d e))
-wanted_alike bytes n m t u ps qs (name text) found other d e (inl (one, spells, x)) (inl (two, also, y)) =
-    let same : one ≡ two = only_spelled one two spells.are_bytes also.are_bytes (sym spells.spells ∙ also.spells) in
-    subst (λ (v : Option Partition). FoundAlike bytes n v other) (sym x)
-    (subst (λ (v : Option Partition). FoundAlike bytes n (find (is_named one) ps) v)
-    (ap (λ (b : List ℕ). find (is_named b) qs) same ∙ sym y) (named_is bytes n m t u ps qs one d e))
-wanted_alike bytes n m t u ps qs (name text) found other d e (inl (one, spells, x)) (inr (none, y)) = absurd (none one spells)
-wanted_alike bytes n m t u ps qs (name text) found other d e (inr (none, x)) (inl (two, also, y)) = absurd (none two also)
-wanted_alike bytes n m t u ps qs (name text) found other d e (inr (none, x)) (inr (never, y)) = grind (arith, common_steps)
+pub wanted_alike : (bytes : List ℕ) (n m : ℕ) (t u : Tables) (ps qs : List Partition) (w : WantedValue) → IsDisk bytes n t ps → IsDisk bytes m u qs
+    → FoundAlike bytes n (wanted_of ps w) (wanted_of qs w)
+wanted_alike bytes n m t u ps qs (number k) d e = numbered_is bytes n m t u ps qs k d e
+wanted_alike bytes n m t u ps qs (name text) d e = named_is bytes n m t u ps qs (is_name_of text) d e
 
 -- a volume has no other place than its block says with more blocks
 module _ (bytes : List ℕ) (n m : ℕ) (few : n ≤ m) (p : Partition) (stated : Option Place) (nowhere : Place)
@@ -84,10 +79,10 @@ none_found bytes n q None h = tt
 none_found bytes n q (Some x) h = absurd h
 
 -- a disk has tables whatever its number of blocks
-pub none_sought : (bytes : List ℕ) (m : ℕ) (sought : Sought) (q : Place) → ((t : Tables) (ps : List Partition) → IsDisk bytes m t ps → ⊥)
-    → IsSoughtPlace bytes sought q
-none_sought bytes m sought q none =
-    λ n t ps w found few disk means wanted. absurd (none t (is_disk_too bytes n m t ps disk).0 (is_disk_too bytes n m t ps disk).1)
+pub none_sought : (bytes : List ℕ) (m : ℕ) (w : WantedValue) (q : Place) → ((t : Tables) (ps : List Partition) → IsDisk bytes m t ps → ⊥)
+    → IsSoughtPlace bytes w q
+none_sought bytes m w q none =
+    λ n t ps few disk. absurd (none t (is_disk_too bytes n m t ps disk).0 (is_disk_too bytes n m t ps disk).1)
 
 -- the first b items are those of the first c, and then the others
 two_parts : (b c : ℕ) (ys : List ℕ) → take b ys ≡ take b (take c ys) ++ take (b - c) (drop c ys)
@@ -165,19 +160,21 @@ module _ (all tables behind : List ℕ) (q : Place) (len : ℕ) (within : end_of
   held_answer None h = refl
   held_answer (Some p) h = place_answer p.place h
 
-  module _ (sought : Sought) (w : WantedValue) (s n : ℕ) (is_sum : s ≡ length tables + len) (blocks : n ≡ min s MOST_DISK_BYTES / 512) where
+  module _ (w : WantedValue) (s n : ℕ) (is_sum : s ≡ length tables + len) (blocks : n ≡ min s MOST_DISK_BYTES / 512) where
     blocks_are : n ≡ min (length tables + len) MOST_DISK_BYTES / 512
     blocks_are = blocks ∙ ap (λ (k : ℕ). min k MOST_DISK_BYTES / 512) is_sum
 
     pub copied_ends : (t : Tables) (ps : List Partition) (found : Option Partition) (end : Outcome) (o o' : Option (List ℕ))
-        → IsSoughtPlace tables sought q → Means sought w → IsDisk tables n t ps → IsWanted ps w found
+        → IsSoughtPlace tables w q → IsDisk tables n t ps → found ≡ wanted_of ps w
         → EndsBy (λ reply. reply ≡ held_reply (volume_at tables q ++ behind) found) end o o' → EndsBy (DiskAnswer (volume w) all) end o o'
-    copied_ends t ps found end o o' place means disk wanted h =
-        let answer = held_answer found (place n t ps w found (omega (arith, blocks)) disk means wanted) in
+    copied_ends t ps found end o o' place disk wanted h =
+        let held_found = subst (λ (x : Option Partition). IfSome x (λ p. IfOk p.place (λ (r : Place). q ≡ r))) (sym wanted)
+        (place n t ps (omega (arith, blocks)) disk) in
+        let answer = held_answer found held_found ∙ ap (volume_reply (disk_of all)) wanted in
         disk_ends (volume w) all (disk_of all) end o o' refl
         (told_ends (volume w) (disk_of all) t ps end o o' (disk_held all tables (length tables + len) n tables_part blocks_are disk)
         (ends_weaker (λ reply. reply ≡ held_reply (volume_at tables q ++ behind) found) (OfPartitions (volume w) (disk_of all) ps) end o o'
-        (λ reply e. (found, wanted, e ∙ answer)) h))
+        (λ reply e. e ∙ answer) h))
 
     pub no_copy_ends : (f : DiskFault) (end : Outcome) (o o' : Option (List ℕ)) → FirstFault tables n f
         → EndsBy (TellsFault false tables n f) end o o' → EndsBy (DiskAnswer (volume w) all) end o o'

@@ -1,11 +1,11 @@
 -- What is asked of a disk has one answer.
 -- Letters: ps are its partitions, p is one of them; s, t whether it is sound, l, m its lines; a, b replies.
 use Rattle.std.proofs.Common.{◌≡◌, ◌&&◌, ◌++◌, ◌∙◌, ℕ, Bool, true, false, List, [], ◌∷◌, Option, None, Some, Result, Ok, Err, inl, inr, ap, ap₂, refl, sym, subst}
-use Rattle.std.proofs.Common.{find, length, ◌/◌, take, arith}
+use Rattle.std.proofs.Common.{length, ◌/◌, take, arith}
 use Rattle.std.proofs.lemmas.Grind.{common_steps}
 use Rattle.adf_cmd.proofs.OneAnswer.{one_answer as one_check}
-use Rattle.adf_disk_cmd.specs.Answers.{ChecksAll, CopiesVolume, DiskAnswer, IsWanted, OfBytes}
-use Rattle.adf_disk_cmd.specs.Answers.{OfDisk, OfFault, OfPartitions, TellsReadable, fault_line, volume_reply}
+use Rattle.adf_disk_cmd.specs.Answers.{ChecksAll, DiskAnswer, OfBytes}
+use Rattle.adf_disk_cmd.specs.Answers.{OfDisk, OfFault, OfPartitions, TellsReadable, fault_line}
 use Rattle.adf_disk_cmd.specs.Builds.{BuildsDisk, plan_reply, refusal}
 use Rattle.adf_disk_cmd.specs.Checks.{AreChecked, TellsPlace, TellsText, TellsVolume, check_status, unchecked_text, why_unchecked}
 use Rattle.adf_disk_cmd.specs.Lines.{name_text, volume_at}
@@ -14,7 +14,6 @@ use Rattle.adf_disk_cmd.specs.declared.work.TheConstants.{MOST_DISK_BYTES}
 use Rattle.adf_partitions.proofs.OneAnswer.{no_fault, one_disk, one_fault, one_reading}
 use Rattle.adf_partitions.proofs.OnePlan.{no_text_fault, one_plan, one_text_fault}
 use Rattle.adf_partitions.specs.FaultTexts.{place_fault_text, text_fault_text}
-use Rattle.adf_partitions.specs.Partitions.{is_named}
 use Rattle.adf_partitions.specs.Plans.{PlanValue}
 use Rattle.adf_partitions.specs.declared.fault.DiskFault.{DiskFault}
 use Rattle.adf_partitions.specs.declared.partition.Partition.{Partition}
@@ -22,9 +21,8 @@ use Rattle.adf_partitions.specs.declared.place.Place.{Place}
 use Rattle.adf_partitions.specs.declared.place.PlaceFault.{PlaceFault}
 use Rattle.adf_partitions.specs.declared.plan_text.TextFault.{TextFault}
 use Rattle.adf_runs.specs.Commands.{Reply, on_output}
-use Rattle.adf_names.proofs.Spellings.{only_spelled}
 use Rattle.adf_words.specs.CommandLine.{check as check_volume}
-use Rattle.adf_words.specs.DiskLine.{AsksDisk, DiskRequestValue, WantedValue, build, check, list, name, number, survey, volume}
+use Rattle.adf_words.specs.DiskLine.{AsksDisk, DiskRequestValue, build, check, list, survey, volume}
 
 pub one_request : (words : List (List ℕ)) (r q : DiskRequestValue) → AsksDisk words r → AsksDisk words q → r ≡ q
 one_request words r q a b = grind (arith, common_steps)
@@ -62,23 +60,11 @@ checked_once bytes (p ∷ ps) s t l m (one, others, line, rest, tells, are, e, f
 all_once : (bytes : List ℕ) (ps : List Partition) (a b : Reply) → ChecksAll bytes ps a → ChecksAll bytes ps b → a ≡ b
 all_once bytes ps a b (s, l, h, x) (t, m, g, y) = grind (arith, common_steps, checked_once, ap₂)
 
-wanted_once : (ps : List Partition) (w : WantedValue) (p q : Option Partition) → IsWanted ps w p → IsWanted ps w q → p ≡ q
-wanted_once ps (number n) p q h g = h ∙ sym g
-wanted_once ps (name text) p q (inl (bytes, spells, x)) (inl (other, also, y)) =
-    x ∙ ap (λ (k : List ℕ). find (is_named k) ps) (only_spelled bytes other spells.are_bytes also.are_bytes (sym spells.spells ∙ also.spells)) ∙ sym y
-wanted_once ps (name text) p q (inl (bytes, spells, x)) (inr (none, y)) = absurd (none bytes spells)
-wanted_once ps (name text) p q (inr (none, x)) (inl (bytes, spells, y)) = absurd (none bytes spells)
-wanted_once ps (name text) p q (inr (none, x)) (inr (never, y)) = x ∙ sym y
-
-volume_copied_once : (bytes : List ℕ) (ps : List Partition) (w : WantedValue) (a b : Reply) → CopiesVolume bytes ps w a → CopiesVolume bytes ps w b
-    → a ≡ b
-volume_copied_once bytes ps w a b (p, h, x) (q, g, y) = x ∙ ap (volume_reply bytes) (wanted_once ps w p q h g) ∙ sym y
-
 of_once : (r : DiskRequestValue) (bytes : List ℕ) (ps : List Partition) (a b : Reply) → OfPartitions r bytes ps a → OfPartitions r bytes ps b → a ≡ b
 of_once list bytes ps a b x y = x ∙ sym y
 of_once check bytes ps a b x y = all_once bytes ps a b x y
 of_once survey bytes ps a b x y = x ∙ sym y
-of_once (volume w) bytes ps a b x y = volume_copied_once bytes ps w a b x y
+of_once (volume w) bytes ps a b x y = x ∙ sym y
 of_once build bytes ps a b x y = absurd x
 
 readable_once : (bytes : List ℕ) (n : ℕ) (line a b : List ℕ) → TellsReadable bytes n line a → TellsReadable bytes n line b → a ≡ b

@@ -1,9 +1,11 @@
 -- What the command answers to its words and its input. `bytes` are those of a disk, ps its partitions.
-use Rattle.std.specs.Prelude.{◌≡◌, ◌++◌, ◌/◌, ◌⊎◌, ℕ, Bool, List, codes, find, length, take, Option, None, Some, Result, Ok, Err}
-use Rattle.adf_names.specs.Escapes.{IsSpelling}
+use Rattle.std.specs.Prelude.{◌≡◌, ◌++◌, ◌/◌, ◌⊎◌, ◌||◌, ℕ, Bool, List, [], ◌∷◌, bytes_eq, codes, find, length, take, Option, None, Some, Result, Ok, Err}
+use Rattle.adf_names.specs.Escapes.{escaped}
+use Rattle.adf_names.specs.Texts.{uppers}
+use Rattle.adf_texts.specs.Names.{names_text}
 use Rattle.adf_partitions.specs.Disks.{FirstFault, IsDisk}
 use Rattle.adf_partitions.specs.FaultTexts.{disk_fault_text, place_fault_text}
-use Rattle.adf_partitions.specs.Partitions.{is_named, partition_numbered}
+use Rattle.adf_partitions.specs.Partitions.{partition_numbered}
 use Rattle.adf_partitions.specs.Searches.{AreReadable}
 use Rattle.adf_partitions.specs.declared.fault.DiskFault.{DiskFault}
 use Rattle.adf_partitions.specs.declared.partition.Partition.{Partition}
@@ -21,15 +23,14 @@ use Rattle.adf_disk_cmd.specs.declared.work.TheConstants.{MOST_DISK_BYTES}
 abbrev pub ChecksAll : List ℕ → List Partition → Reply → Type 0
 ChecksAll bytes ps reply = (sound : Bool) × (text : List ℕ) × AreChecked bytes ps sound text × (reply ≡ on_output (check_status sound) text)
 
--- the text spells a name that no partition can have
-abbrev pub IsNoName : List ℕ → Type 0
-IsNoName text = (bytes : List ℕ) → ¬ IsSpelling 31 text bytes
+-- whether a text is the name of a partition, as `list` writes it or in the escape form, ignoring case
+abbrev pub is_called : List ℕ → Partition → Bool
+is_called text p = bytes_eq (uppers (names_text (p.name ∷ []))) (uppers text) || bytes_eq (uppers (escaped p.name)) (uppers text)
 
--- what is wanted: the partition with this number; or the first that has the name, whatever its case, where the text spells one
-abbrev pub IsWanted : List Partition → WantedValue → Option Partition → Type 0
-IsWanted ps (number n) found = found ≡ partition_numbered ps n
-IsWanted ps (name text) found =
-    ((bytes : List ℕ) × IsSpelling 31 text bytes × (found ≡ find (is_named bytes) ps)) ⊎ (IsNoName text × (found ≡ None))
+-- what is wanted, where a disk has it: the partition with this number, or the first that has the name
+abbrev pub wanted_of : List Partition → WantedValue → Option Partition
+wanted_of ps (number n) = partition_numbered ps n
+wanted_of ps (name text) = find (is_called text) ps
 
 -- the bytes of the volume, or what is wrong with its partition
 abbrev pub place_reply : List ℕ → Result Place PlaceFault → Reply
@@ -41,16 +42,12 @@ abbrev pub volume_reply : List ℕ → Option Partition → Reply
 volume_reply bytes None = refusal (codes "no such partition")
 volume_reply bytes (Some p) = place_reply bytes p.place
 
--- `volume` writes the bytes of what is wanted
-abbrev pub CopiesVolume : List ℕ → List Partition → WantedValue → Reply → Type 0
-CopiesVolume bytes ps w reply = (found : Option Partition) × IsWanted ps w found × (reply ≡ volume_reply bytes found)
-
 -- the answer to a request, of a disk with these partitions: `build` reads no disk
 abbrev pub OfPartitions : DiskRequestValue → List ℕ → List Partition → Reply → Type 0
 OfPartitions list bytes ps reply = reply ≡ on_output 0 (list_lines 1 ps)
 OfPartitions check bytes ps reply = ChecksAll bytes ps reply
 OfPartitions survey bytes ps reply = reply ≡ on_output 0 (list_lines 1 ps)
-OfPartitions (volume w) bytes ps reply = CopiesVolume bytes ps w reply
+OfPartitions (volume w) bytes ps reply = reply ≡ volume_reply bytes (wanted_of ps w)
 OfPartitions build bytes ps reply = ⊥
 
 -- a line, and the lines of the partitions that can be read of a disk of n blocks

@@ -1,5 +1,6 @@
 -- What is done with a disk.
 use Rattle.std.specs.Prelude.{◌≡◌, ◌≤◌, ◌+◌, ◌-◌, ◌*◌, ℕ, Bool, true, false, List, Option, None, Some, Result, Ok, Err, IfOk, IfSome, codes, drop, take}
+use Rattle.std.specs.String.{string_bytes}
 use Rattle.adf_partitions.specs.Disks.{IsDisk}
 use Rattle.adf_partitions.specs.FaultTexts.{disk_fault_text, place_fault_text}
 use Rattle.adf_partitions.specs.Places.{end_of}
@@ -10,30 +11,28 @@ use Rattle.adf_partitions.specs.declared.place.PlaceFault.{PlaceFault}
 use Rattle.adf_partitions.specs.declared.tables.Tables.{Tables}
 use Rattle.adf_runs.specs.Commands.{Reply, on_output}
 use Rattle.adf_runs.specs.Streams.{IsPart}
-use Rattle.adf_names.specs.Escapes.{IsSpelling}
 use Rattle.adf_words.specs.DiskLine.{DiskRequestValue, WantedValue, check, list, name, number, survey, volume}
-use Rattle.adf_disk_cmd.specs.Answers.{IsNoName, IsWanted, TellsReadable, fault_line}
+use Rattle.adf_disk_cmd.specs.Answers.{TellsReadable, fault_line, wanted_of}
 use Rattle.adf_disk_cmd.specs.Builds.{refusal}
 use Rattle.adf_disk_cmd.specs.declared.copy_input.TheConstants.{MOST_DISK_BLOCKS}
 use Rattle.adf_disk_cmd.specs.declared.list_input.TheConstants.{TABLES_LEN}
 use Rattle.adf_disk_cmd.specs.declared.work.TheConstants.{MOST_DISK_BYTES}
 use Rattle.adf_disk_cmd.specs.declared.work.Sought.{Sought}
-use Rattle.adf_disk_cmd.specs.declared.work.Sought.TheVariants.{Numbered, Named, Nothing}
+use Rattle.adf_disk_cmd.specs.declared.work.Sought.TheVariants.{Numbered, Named}
 use Rattle.adf_disk_cmd.specs.declared.work.Work.{Work}
 use Rattle.adf_disk_cmd.specs.declared.work.Work.TheVariants.{List as ListAll, Check, Survey, Volume}
 
--- what is sought is what is wanted, with the bytes of the name
-abbrev pub Means : Sought → WantedValue → Type 0
-Means (Numbered n) w = w ≡ number n
-Means (Named bytes) w = (text : List ℕ) × (w ≡ name text) × IsSpelling 31 text bytes
-Means Nothing w = (text : List ℕ) × (w ≡ name text) × IsNoName text
+-- what is wanted, as the work keeps it
+abbrev pub sought_value : Sought → WantedValue
+sought_value (Numbered n) = number n
+sought_value (Named text) = name (string_bytes text)
 
 -- the work is that of a request
 abbrev pub Serves : Work → DiskRequestValue → Type 0
 Serves ListAll r = r ≡ list
 Serves Check r = r ≡ check
 Serves Survey r = r ≡ survey
-Serves (Volume sought) r = (w : WantedValue) × (r ≡ volume w) × Means sought w
+Serves (Volume sought) r = r ≡ volume (sought_value sought)
 
 -- the request to list partitions, or to survey the disk
 abbrev pub listing : Bool → DiskRequestValue
@@ -45,11 +44,11 @@ abbrev pub TellsFault : Bool → List ℕ → ℕ → DiskFault → Reply → Ty
 TellsFault true bytes n f reply = (text : List ℕ) × TellsReadable bytes n (fault_line f) text × (reply ≡ on_output 1 text)
 TellsFault false bytes n f reply = reply ≡ refusal (disk_fault_text f)
 
--- where the volume of the partition that is sought lies, if it has a place on a disk of so many blocks, however many
-abbrev pub IsSoughtPlace : List ℕ → Sought → Place → Type 0
-IsSoughtPlace bytes sought q =
-    (n : ℕ) (t : Tables) (ps : List Partition) (w : WantedValue) (found : Option Partition) → n ≤ MOST_DISK_BLOCKS → IsDisk bytes n t ps → Means sought w
-    → IsWanted ps w found → IfSome found (λ p. IfOk p.place (λ r. q ≡ r))
+-- where the volume of the partition that is wanted lies, if it has a place on a disk of so many blocks, however many
+abbrev pub IsSoughtPlace : List ℕ → WantedValue → Place → Type 0
+IsSoughtPlace bytes w q =
+    (n : ℕ) (t : Tables) (ps : List Partition) → n ≤ MOST_DISK_BLOCKS → IsDisk bytes n t ps
+    → IfSome (wanted_of ps w) (λ p. IfOk p.place (λ r. q ≡ r))
 
 -- what is held of an input: the blocks that may have tables, and behind them the bytes of the volume at q, and how many bytes are there
 abbrev pub HoldsVolume : List ℕ → List ℕ → Place → List ℕ → ℕ → Type 0

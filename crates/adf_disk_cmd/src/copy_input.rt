@@ -2,11 +2,11 @@
 
 ghost use Rattle.std.specs.Prelude.{◌≡◌, ◌+◌, ◌++◌, ◌≤◌, List, ℕ, false, true, IfErr, IfOk, IfSome, OnOk, option_copied};
 ghost use Rattle.adf_disk_cmd.specs.Answers.{DiskAnswer};
-ghost use Rattle.adf_disk_cmd.specs.Work.{HoldsVolume, IsSoughtPlace, Means, held_reply};
+ghost use Rattle.adf_disk_cmd.specs.Work.{HoldsVolume, IsSoughtPlace, held_reply, sought_value};
 ghost use Rattle.adf_partitions.specs.Places.{end_of};
 ghost use Rattle.adf_runs.specs.Outcomes.{EndsBy, LacksInput, is_read_fault, is_write_fault};
 ghost use Rattle.adf_runs.specs.Streams.{TakesAtMost};
-ghost use Rattle.adf_words.specs.DiskLine.{WantedValue, volume};
+ghost use Rattle.adf_words.specs.DiskLine.{volume};
 
 use crate::answering::{refuse, write_parts};
 use crate::list_input::{TABLES_LEN, blocks_of, write_fault};
@@ -28,15 +28,17 @@ const NOWHERE: Place = Place {
 
 // Where the volume that is sought lies, if the disk is long enough; no blocks if there is none.
 fn sought_place(alloc: Global, tables: &[u8], sought: &Sought) -> Result<Place, NoMemory>
-    ensures place { IfOk result (IsSoughtPlace tables.now sought.now) }
+    ensures place { IfOk result (IsSoughtPlace tables.now (sought_value sought.now)) }
     ensures within { IfOk result (λ place. end_of place ≤ MOST_DISK_BLOCKS) }
 {
     match Disk::open(alloc, tables, MOST_DISK_BLOCKS) {
-        Ok(disk) => match partition_sought(&disk, sought) {
-            Some(partition) => Ok(stated_place(tables, partition.block, MOST_DISK_BLOCKS).unwrap_or(
-                NOWHERE,
-            )),
-            None => Ok(NOWHERE),
+        Ok(disk) => match partition_sought(alloc, &disk, sought) {
+            Ok(Some(partition)) => {
+                let stated = stated_place(tables, partition.block, MOST_DISK_BLOCKS);
+                Ok(stated.unwrap_or(NOWHERE))
+            }
+            Ok(None) => Ok(NOWHERE),
+            Err(_) => Err(NoMemory),
         },
         Err(fault) => match fault.cause {
             DiskCause::NoMemory => Err(NoMemory),
@@ -60,7 +62,8 @@ fn read_volume<R: Source>(alloc: Global, input: &mut R, sought: &Sought) -> Resu
     requires { R.has_failed input.old ≡ false }
     ensures held { IfOk result (λ held. IfSome (R.left input.old)
         (λ all. HoldsVolume all held.tables.items held.place held.behind.bytes.items held.behind.len)) }
-    ensures place { IfOk result (λ held. IsSoughtPlace held.tables.items sought.now held.place) }
+    ensures place { IfOk result (λ held.
+        IsSoughtPlace held.tables.items (sought_value sought.now) held.place) }
     ensures within { IfOk result (λ held. end_of held.place ≤ MOST_DISK_BLOCKS) }
     ensures at_most { TakesAtMost (MOST_DISK_BYTES + 1) (R.left input.old) (R.left input.new) }
     ensures works { OnOk result (R.has_failed input.new ≡ false) }
@@ -115,10 +118,10 @@ fn write_held<W: Sink>(
 fn copy_held<W: Sink>(alloc: Global, held: &Held, sought: &Sought, output: &mut W) -> Outcome
     requires works { W.has_failed output.old ≡ false }
     requires within { end_of held.now.place ≤ MOST_DISK_BLOCKS }
-    ensures ends { (all : List ℕ) (w : WantedValue)
+    ensures ends { (all : List ℕ)
         → HoldsVolume all held.now.tables.items held.now.place held.now.behind.bytes.items held.now.behind.len
-        → IsSoughtPlace held.now.tables.items sought.now held.now.place → Means sought.now w
-        → EndsBy (DiskAnswer (volume w) all) result (W.held output.old) (W.held output.new) }
+        → IsSoughtPlace held.now.tables.items (sought_value sought.now) held.now.place
+        → EndsBy (DiskAnswer (volume (sought_value sought.now)) all) result (W.held output.old) (W.held output.new) }
     ensures read { is_read_fault result ≡ false }
     ensures written { W.has_failed output.new ≡ is_write_fault result }
 {
@@ -128,13 +131,10 @@ fn copy_held<W: Sink>(alloc: Global, held: &Held, sought: &Sought, output: &mut 
         Ok(disk) => {
             let front = volume_at(tables, held.place);
             let behind = held.behind.bytes.as_slice();
-            write_held(
-                alloc,
-                front,
-                behind,
-                partition_sought(&disk, sought),
-                output,
-            )
+            match partition_sought(alloc, &disk, sought) {
+                Ok(found) => write_held(alloc, front, behind, found, output),
+                Err(_) => Outcome::NoMemory,
+            }
         }
         Err(fault) => match fault.cause {
             DiskCause::NoMemory => Outcome::NoMemory,
@@ -152,8 +152,8 @@ pub fn copy_input<R: Source, W: Sink>(
 ) -> Outcome
     requires reads { R.has_failed input.old ≡ false }
     requires writes { W.has_failed output.old ≡ false }
-    ensures ends { (w : WantedValue) → Means sought.now w → IfSome (R.left input.old) (λ all.
-        EndsBy (DiskAnswer (volume w) all) result (W.held output.old) (W.held output.new)) }
+    ensures ends { IfSome (R.left input.old) (λ all.
+        EndsBy (DiskAnswer (volume (sought_value sought.now)) all) result (W.held output.old) (W.held output.new)) }
     ensures read { R.has_failed input.new ≡ is_read_fault result }
     ensures written { W.has_failed output.new ≡ is_write_fault result }
     ensures unwritten { is_read_fault result ≡ true → output.new ≡ output.old }

@@ -1,5 +1,6 @@
 // What is done for words, of a disk or of a plan.
 
+ghost use Rattle.std.specs.Prelude.{IfOk};
 ghost use Rattle.adf_disk_cmd.specs.Jobs.{Serves};
 ghost use Rattle.adf_words.specs.DiskLine.{disk_request_value};
 
@@ -10,7 +11,7 @@ use crate::list_input::list_input;
 use crate::work::{MOST_DISK_BYTES, Work, sought_for};
 use adf_runs::{Outcome, Program, Sink, Source, WorkFault, read_input};
 use adf_words::{DISK_USAGE as USAGE, DiskRequest, parse_disk};
-use std::alloc::Global;
+use std::alloc::{AllocError, Global};
 
 /// What is done with an input.
 #[derive(Drop)]
@@ -22,16 +23,16 @@ pub enum Job {
 }
 
 // The job that a request asks for.
-fn job_for(request: DiskRequest<'_>) -> Job
-    ensures { Serves result (disk_request_value request.entry) }
+fn job_for(alloc: Global, request: DiskRequest<'_>) -> Result<Job, AllocError>
+    ensures { IfOk result (λ job. Serves job (disk_request_value request.entry)) }
 {
-    match request {
+    Ok(match request {
         DiskRequest::List => Job::Tell(Work::List),
         DiskRequest::Check => Job::Tell(Work::Check),
         DiskRequest::Survey => Job::Tell(Work::Survey),
-        DiskRequest::Volume(wanted) => Job::Tell(Work::Volume(sought_for(wanted))),
+        DiskRequest::Volume(wanted) => Job::Tell(Work::Volume(sought_for(alloc, wanted)?)),
         DiskRequest::Build => Job::Build,
-    }
+    })
 }
 
 impl Program for Job {
@@ -49,7 +50,7 @@ impl Program for Job {
 
     fn of(alloc: Global, words: &[&str]) -> Result<Job, WorkFault> {
         let request = parse_disk(alloc, words)?;
-        Ok(job_for(request))
+        job_for(alloc, request).map_err(|_| WorkFault::NoMemory)
     }
 
     fn limit(&self) -> usize {

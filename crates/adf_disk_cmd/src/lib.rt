@@ -9,6 +9,7 @@ mod copy_input;
 mod job;
 mod list_input;
 mod listing;
+mod names;
 mod runner;
 mod stretch;
 mod surveying;

@@ -1,21 +1,22 @@
 // What is done with a disk.
 
-ghost use Rattle.std.specs.Prelude.{◌≡◌, false, option_copied};
-ghost use Rattle.adf_disk_cmd.specs.Answers.{IsWanted, OfDisk, OfFault, OfPartitions, volume_reply};
-ghost use Rattle.adf_disk_cmd.specs.Work.{Means, Serves};
+ghost use Rattle.std.specs.Prelude.{◌≡◌, false, IfOk, option_copied};
+ghost use Rattle.adf_disk_cmd.specs.Answers.{OfDisk, OfFault, OfPartitions, volume_reply, wanted_of};
+ghost use Rattle.adf_disk_cmd.specs.Work.{Serves, sought_value};
 ghost use Rattle.adf_runs.specs.Outcomes.{EndsBy, is_read_fault, is_write_fault};
-ghost use Rattle.adf_words.specs.DiskLine.{DiskRequestValue, WantedValue, wanted_value};
+ghost use Rattle.adf_words.specs.DiskLine.{DiskRequestValue, wanted_value};
 
 use crate::answering::{refuse, write_text};
 use crate::checking::write_checks;
 use crate::listing::write_list;
+use crate::names::partition_called;
 use crate::surveying::write_readable;
 use crate::volumes::volume_at;
 use adf_base::BLOCK_LEN;
-use adf_partitions::{Disk, DiskCause, DiskFault, DriveName, Partition};
+use adf_partitions::{Disk, DiskCause, DiskFault, Partition};
 use adf_runs::{Outcome, Sink};
 use adf_words::Wanted;
-use std::alloc::Global;
+use std::alloc::{AllocError, Global};
 
 /// The most bytes of a disk: 2^32 blocks.
 pub const MOST_DISK_BYTES: usize = 1 << 41;
@@ -24,9 +25,8 @@ pub const MOST_DISK_BYTES: usize = 1 << 41;
 #[derive(Drop)]
 pub enum Sought {
     Numbered(u32),
-    Named(DriveName),
-    /// No partition can have the name.
-    Nothing,
+    /// The text of a name.
+    Named(String),
 }
 
 /// What is done with a disk.
@@ -40,26 +40,27 @@ pub enum Work {
 }
 
 /// The partition that is sought, if one is wanted.
-pub fn sought_for(wanted: Wanted<'_>) -> Sought
-    ensures { Means result (wanted_value wanted.entry) }
+pub fn sought_for(alloc: Global, wanted: Wanted<'_>) -> Result<Sought, AllocError>
+    ensures { IfOk result (λ sought. sought_value sought ≡ wanted_value wanted.entry) }
 {
     match wanted {
-        Wanted::Number(number) => Sought::Numbered(number),
-        Wanted::Name(text) => match DriveName::read(text.as_bytes()) {
-            Some(name) => Sought::Named(name),
-            None => Sought::Nothing,
-        },
+        Wanted::Number(number) => Ok(Sought::Numbered(number)),
+        Wanted::Name(text) => Ok(Sought::Named(String::from_str(alloc, text)?)),
     }
 }
 
 /// The partition that is sought, if the disk has it.
-pub fn partition_sought<'a>(disk: &'a Disk, sought: &Sought) -> Option<&'a Partition>
-    ensures { (w : WantedValue) → Means sought.now w → IsWanted disk.now.partitions.items w (option_copied result) }
+pub fn partition_sought<'a>(
+    alloc: Global,
+    disk: &'a Disk,
+    sought: &Sought,
+) -> Result<Option<&'a Partition>, AllocError>
+    ensures { IfOk result (λ found. option_copied found
+        ≡ wanted_of disk.now.partitions.items (sought_value sought.now)) }
 {
     match sought {
-        Sought::Numbered(number) => disk.numbered(*number as usize),
-        Sought::Named(name) => disk.named(name.bytes()),
-        Sought::Nothing => None,
+        Sought::Numbered(number) => Ok(disk.numbered(*number as usize)),
+        Sought::Named(text) => partition_called(alloc, text.as_bytes(), &disk.partitions),
     }
 }
 
@@ -98,12 +99,10 @@ impl Work {
         match self {
             Work::List | Work::Survey => write_list(alloc, &disk.partitions, output),
             Work::Check => write_checks(alloc, bytes, &[], &disk.partitions, output),
-            Work::Volume(sought) => write_volume(
-                alloc,
-                bytes,
-                partition_sought(disk, sought),
-                output,
-            ),
+            Work::Volume(sought) => match partition_sought(alloc, disk, sought) {
+                Ok(found) => write_volume(alloc, bytes, found, output),
+                Err(_) => Outcome::NoMemory,
+            },
         }
     }
 

@@ -11,7 +11,7 @@ use Rattle.adf_partitions.specs.declared.tables.Tables.{Tables}
 use Rattle.adf_partitions.specs.Disks.{IsDisk, IsFound, is_at, part_form, partition_at}
 use Rattle.adf_partitions.specs.Disks.IsFound.{start, step}
 use Rattle.adf_partitions.specs.Faults.{first_failed}
-use Rattle.adf_partitions.specs.Partitions.{is_named, partition_numbered}
+use Rattle.adf_partitions.specs.Partitions.{partition_numbered}
 use Rattle.adf_partitions.specs.Volumes.{AreAlike, FoundAlike, IsStated}
 use Rattle.adf_partitions.proofs.NumberTests.{le_of}
 use Rattle.adf_partitions.proofs.OneAnswer.{one_disk}
@@ -51,12 +51,14 @@ module _ (bytes : List ℕ) (n : ℕ) where
   either_alike true false p q more others e h k = absurd cc
   either_alike false true p q more others e h k = absurd cc
 
-  named_alike : (name : List ℕ) (ps qs : List Partition) → AreAll bytes n ps qs
-      → FoundAlike bytes n (find (is_named name) ps) (find (is_named name) qs)
-  named_alike name [] [] h = tt
-  named_alike name (x ∷ ps) (y ∷ qs) h = grind (arith, common_steps, either_alike, (named_alike name ps qs h.1))
-  named_alike name (x ∷ ps) [] h = absurd h
-  named_alike name [] (y ∷ qs) h = absurd h
+  named_alike : (is : List ℕ → Bool) (ps qs : List Partition) → AreAll bytes n ps qs
+      → FoundAlike bytes n (find (λ (p : Partition). is p.name) ps) (find (λ (p : Partition). is p.name) qs)
+  named_alike is [] [] h = tt
+  named_alike is (x ∷ ps) (y ∷ qs) h =
+      either_alike (is x.name) (is y.name) x y (find (λ (p : Partition). is p.name) ps) (find (λ (p : Partition). is p.name) qs) (ap is h.0.name) h.0
+      (named_alike is ps qs h.1)
+  named_alike is (x ∷ ps) [] h = absurd h
+  named_alike is [] (y ∷ qs) h = absurd h
 
   got_alike : (k : ℕ) (ps qs : List Partition) → AreAll bytes n ps qs → FoundAlike bytes n (slice_get ps k) (slice_get qs k)
   got_alike k [] [] h = tt
@@ -106,11 +108,11 @@ module _ (bytes : List ℕ) (n : ℕ) where
       let (others, disk, all) = other_disk m t ps d in
       subst (AreAll bytes n ps) (one_disk bytes m t u others qs disk e).1 all
 
-  -- and the same number or name finds the same partition block
+  -- and the same number, or what a name is, finds the same partition block
   pub numbered_is : (m : ℕ) (t u : Tables) (ps qs : List Partition) (number : ℕ) → IsDisk bytes n t ps → IsDisk bytes m u qs
       → FoundAlike bytes n (partition_numbered ps number) (partition_numbered qs number)
   numbered_is m t u ps qs number d e = numbered_alike number ps qs (all_alike m t u ps qs d e)
 
-  pub named_is : (m : ℕ) (t u : Tables) (ps qs : List Partition) (name : List ℕ) → IsDisk bytes n t ps → IsDisk bytes m u qs
-      → FoundAlike bytes n (find (is_named name) ps) (find (is_named name) qs)
-  named_is m t u ps qs name d e = named_alike name ps qs (all_alike m t u ps qs d e)
+  pub named_is : (m : ℕ) (t u : Tables) (ps qs : List Partition) (is : List ℕ → Bool) → IsDisk bytes n t ps → IsDisk bytes m u qs
+      → FoundAlike bytes n (find (λ (p : Partition). is p.name) ps) (find (λ (p : Partition). is p.name) qs)
+  named_is m t u ps qs is d e = named_alike is ps qs (all_alike m t u ps qs d e)

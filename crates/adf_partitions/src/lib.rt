@@ -33,6 +33,7 @@ pub use crate::layout::{
     MOST_PARTITIONS, MOST_TABLES, NEXT_PART, NO_BLOCK, NO_MOUNT, PART, RDSK, RDSK_BLOCKS, RESERVED,
     SUMMED_LONGS, SURFACES, TRACK_BLOCKS,
 };
+pub use crate::names::are_same;
 pub use crate::partition::{DriveName, Partition};
 pub use crate::place::{Place, PlaceFault, stated_place};
 pub use crate::plan::{DiskPlan, PartitionPlan, cylinder_blocks};

@@ -7,9 +7,9 @@ ghost use Rattle.adf_partitions.specs.Partitions.{is_named};
 use crate::partition::Partition;
 use adf_base::upper;
 
-// Whether two texts are equal, ignoring the case of `a` to `z`.
+/// Whether two texts are equal, ignoring the case of `a` to `z`.
 #[tactic(auto, using(adf_names::proofs::EqualNames::ascii_yes, adf_names::proofs::EqualNames::ascii_no, adf_names::proofs::EqualNames::ascii_short))]
-fn are_same(a: &[u8], b: &[u8]) -> bool
+pub fn are_same(a: &[u8], b: &[u8]) -> bool
     ensures { result ≡ bytes_eq (uppers a.now) (uppers b.now) }
 {
     if a.len() != b.len() {

@@ -288,12 +288,49 @@ fn long_disks_are_listed(rt: HostRuntime) -> Result<(), Fail> {
     Ok(())
 }
 
+// Words of DH0 for other names: `D/0`, `D:0`, none, and 40 bytes, of which `list` writes 31.
+const SLASH: &[(usize, u32)] = &[(9, 0x0344_2F30)];
+const COLON: &[(usize, u32)] = &[(9, 0x0344_3A30)];
+const UNNAMED: &[(usize, u32)] = &[(9, 0)];
+const FORTY: &[(usize, u32)] = &[
+    (9, 0x2844_4830),
+    (10, 0x4242_4242),
+    (11, 0x4242_4242),
+    (12, 0x4242_4242),
+    (13, 0x4242_4242),
+    (14, 0x4242_4242),
+    (15, 0x4242_4242),
+    (16, 0x4242_4243),
+    (17, 0x4444_4444),
+    (18, 0x4444_4444),
+    (19, 0x4400_0000),
+];
+
+// What finds that partition, and its words.
+const FOUND: &[(&str, &[(usize, u32)])] = &[
+    ("D\\x2f0", SLASH),
+    ("d\\x2F0", SLASH),
+    ("d/0", SLASH),
+    ("D\\x3a0", COLON),
+    ("d\\X3A0", COLON),
+    ("D:0", COLON),
+    ("\\x", UNNAMED),
+    ("\\X", UNNAMED),
+    ("DH0BBBBBBBBBBBBBBBBBBBBBBBBBBBC", FORTY),
+    ("dh0bbbbbbbbbbbbbbbbbbbbbbbbbbbc", FORTY),
+];
+
 // A name, a change, and what errors get.
 const REFUSED: &[(&str, Change<'static>, &str)] = &[
     ("0", NONE, "no such partition\n"),
     ("3", NONE, "no such partition\n"),
     ("DH", NONE, "no such partition\n"),
     ("DH\\x30", NONE, "no such partition\n"),
+    ("\\x", NONE, "no such partition\n"),
+    ("D\\x2f", (2, SLASH), "no such partition\n"),
+    ("D\\x2f0", (2, COLON), "no such partition\n"),
+    ("DH0", (2, FORTY), "no such partition\n"),
+    ("DH0BBBBBBBBBBBBBBBBBBBBBBBBBBBCD", (2, FORTY), "no such partition\n"),
     ("2", OVER, "over partition\n"),
     ("dh1", (0, &[(4, 1024)]), "block 0: bad block size\n"),
 ];
@@ -308,6 +345,10 @@ fn volumes_are_written(rt: HostRuntime) -> Result<(), Fail> {
     for change in [(2, [(32, 0)]), (2, [(36, 2)]), (2, [(38, 1)])] {
         let words = ["adf-disk", "volume", "DH0"];
         assert!(rt; answers(rt.alloc(), &words, (change.0, &change.1), wanted)?);
+    }
+    for (name, words_of) in FOUND {
+        let words = ["adf-disk", "volume", *name];
+        assert!(rt; answers(rt.alloc(), &words, (2, *words_of), wanted)?);
     }
     for (name, change, errors) in REFUSED {
         let words = ["adf-disk", "volume", *name];
