@@ -18,3 +18,4 @@ pub mod PlannedDisk
 pub mod PlannedVolumes
 pub mod SeparatePartitions
 pub mod SomeReadings
+pub mod SomeTexts

@@ -197,3 +197,7 @@ PlansHaveNoFault = (text : List ℕ) (a : PlanValue) (c : List ℕ) (f : TextFau
 -- a text has one fault at most
 abbrev pub TextsHaveOneFault : Type 0
 TextsHaveOneFault = (text : List ℕ) (f g : TextFault) → IsTextFault text f → IsTextFault text g → f ≡ g
+
+-- a text has a plan, with the bytes behind it, or a fault
+abbrev pub HasPlanOrFault : List ℕ → Type 0
+HasPlanOrFault text = ((plan : PlanValue) × (rest : List ℕ) × IsText text plan rest) ⊎ ((f : TextFault) × IsTextFault text f)

@@ -1,10 +1,10 @@
 // The text of a plan.
 
-ghost use Rattle.std.specs.Prelude.{◌≡◌, ◌≢◌, ◌≤◌, ◌^◌, IfErr, IfOk, OnErr, bytes_eq, codes, length, nat_lt};
+ghost use Rattle.std.specs.Prelude.{◌≡◌, ◌≢◌, ◌≤◌, ◌^◌, ℕ, List, IfErr, IfOk, OnErr, bytes_eq, codes, length, nat_lt};
 ghost use Rattle.std.specs.List.{list_all};
 ghost use Rattle.adf_partitions.specs.Plans.{IsPlan, cylinder_blocks, plan_value, planned_blocks};
 ghost use Rattle.adf_partitions.specs.FaultTexts.{text_kind_text};
-ghost use Rattle.adf_partitions.specs.PlanTexts.{AreLines, HasBegun, HasPartition, IsText, IsTextFault};
+ghost use Rattle.adf_partitions.specs.PlanTexts.{AreLines, HasBegun, HasPartition, HasPlanOrFault, IsText, IsTextFault};
 ghost use Rattle.adf_partitions.specs.PlanTexts.{PlansHaveNoFault, Stops, TextsHaveOneFault, TextsHaveOnePlan};
 ghost use Rattle.adf_partitions.specs.PlanTexts.{has_volume, is_end, is_plan};
 ghost use Rattle.adf_partitions.specs.declared.layout.TheConstants.{MOST_PARTITIONS};
@@ -209,6 +209,11 @@ pub fn read_plan(alloc: Global, text: &[u8]) -> Result<(DiskPlan, &[u8]), TextFa
     }
     Ok((plan, rest))
 }
+
+/// Every text has a plan, or a fault.
+pub fn some_text()
+    ensures { (text : List ℕ) → HasPlanOrFault text }
+{}
 
 /// A text has one plan, or one first fault.
 pub fn one_text()
