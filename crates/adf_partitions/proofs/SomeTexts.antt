@@ -1,6 +1,6 @@
 -- Every text has a plan, or a fault. c, d are bytes, k how many are left to try or to read; t is a text, p a partition, ps partitions, e what is
 -- behind their lines.
-use Rattle.std.proofs.Common.{◌≡◌, ◌≢◌, ◌∙◌, ◌<◌, ◌≤◌, ◌+◌, ◌++◌, ◌⊎◌, ℕ, ℤ, zero, suc, Bool, true, false, List, [], ◌∷◌, Option, Some, None, All}
+use Rattle.std.proofs.Common.{◌≡◌, ◌≢◌, ◌∙◌, ◌<◌, ◌≤◌, ◌+◌, ◌++◌, ◌⊎◌, ℕ, ℤ, zero, suc, Bool, true, false, List, [], ◌∷◌, Option, Some, All}
 use Rattle.std.proofs.Common.{ap, arith, codes, inl, inr, length, refl, subst, sym}
 use Rattle.std.specs.Prelude.{FitsSigned}
 use Rattle.std.specs.Int.{int_wrap, w8}
@@ -8,12 +8,12 @@ use Rattle.std.proofs.Math.IntN.{ℤ_discrete}
 use Rattle.std.specs.List.{list_all}
 use Rattle.std.proofs.lemmas.Bool.{cases_Bool}
 use Rattle.std.proofs.lemmas.Int.{SFits-int_wrap, int_wrap_fits}
-use Rattle.std.proofs.lemmas.List.{append_assoc, length-append}
+use Rattle.std.proofs.lemmas.List.{length-append}
 use Rattle.std.proofs.lemmas.List.Elements.{All-cons, All-head, All-tail}
 use Rattle.std.proofs.lemmas.Grind.{common_steps}
 use native.Mathlib.Decide.{dec_le, map_dec, ℕ_discrete}
 use mathlib.Core.Logic.Dec.{and as dec_and}
-use Rattle.adf_names.proofs.Spellings.{one_spelling, only_spelled, spelled_escape, spelled_plain, spelling_some}
+use Rattle.adf_names.proofs.Spellings.{one_spelling, only_spelled, spelled_escape, spelled_plain}
 use Rattle.adf_names.specs.Escapes.{IsSpelling, escape_of, escaped}
 use Rattle.adf_names.specs.Kinds.{kind_named}
 use Rattle.adf_names.specs.Texts.{is_name_byte}
@@ -24,7 +24,7 @@ use Rattle.adf_partitions.specs.declared.plan.PartitionPlan.{PartitionPlan}
 use Rattle.adf_partitions.specs.declared.plan_line.Options.{Options}
 use Rattle.adf_partitions.specs.declared.plan_text.TextKind.TheVariants.{BadLine, NoEnd, TooLarge}
 use Rattle.adf_partitions.specs.Plans.{PlanValue}
-use Rattle.adf_partitions.specs.PlanTexts.{AreLines, HasLines, HasPlanOrFault, IsDiskLine, IsEndFault, IsPartitionLine, IsPartitionText, IsText, Stops}
+use Rattle.adf_partitions.specs.PlanTexts.{AreLines, HasLines, HasPlanOrFault, IsDiskLine, IsPartitionLine, IsPartitionText, Stops}
 use Rattle.adf_partitions.specs.PlanTexts.{behind_line, behind_word, ends_in_space, first_line, first_word, has_word, is_end, is_plan, number_of, options_in}
 use Rattle.adf_partitions.specs.PlanTexts.{options_of}
 

@@ -40,9 +40,13 @@ is_before_end b q = nat_lt b (end_of q)
 abbrev pub do_overlap : Place → Place → Bool
 do_overlap q r = is_before_end q.first r && is_before_end r.first q
 
+-- whether a place has one of the blocks from `lowest` to `highest`, of which there may be none
+abbrev pub has_one_of : ℕ → ℕ → Place → Bool
+has_one_of lowest highest q = nat_le lowest highest && nat_le q.first highest && is_before_end lowest q
+
 -- whether a place has a block that is kept for the tables, or the rigid disk block
 abbrev pub is_over_tables : Place → Tables → Bool
-is_over_tables q t = do_overlap q (blocks_from t.lowest (t.highest + 1 - t.lowest)) || do_overlap q (blocks_from t.rdsk 1)
+is_over_tables q t = has_one_of t.lowest t.highest q || has_one_of t.rdsk t.rdsk q
 
 -- a block of the disk is one of a place
 abbrev pub IsIn : ℕ → Place → Type 0

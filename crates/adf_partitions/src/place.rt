@@ -3,7 +3,7 @@
 ghost use Rattle.std.specs.Prelude.{◌≡◌, ◌≤◌, ◌+◌, SomeIff};
 ghost use Rattle.adf_base.specs.Words.{block, word};
 ghost use Rattle.adf_partitions.specs.FaultTexts.{place_fault_number, place_fault_text};
-ghost use Rattle.adf_partitions.specs.Places.{StatesPlace, cylinder_of, do_overlap, end_of, has_cylinders, is_before_end, is_over_tables, place_of};
+ghost use Rattle.adf_partitions.specs.Places.{StatesPlace, cylinder_of, do_overlap, end_of, has_cylinders, has_one_of, is_before_end, is_over_tables, place_of};
 
 use crate::layout::{HIGH_CYLINDER, LOW_CYLINDER, SURFACES, TRACK_BLOCKS};
 use crate::tables::Tables;
@@ -130,18 +130,18 @@ pub fn do_overlap(one: Place, other: Place) -> bool
     is_before_end(one.first, other) && is_before_end(other.first, one)
 }
 
+// Whether a place has one of the blocks from `lowest` to `highest`, of which there may be none.
+fn has_one_of(lowest: u32, highest: u32, place: Place) -> bool
+    ensures { result ≡ has_one_of lowest highest place }
+{
+    lowest <= highest
+        && place.first <= u64::from(highest)
+        && is_before_end(u64::from(lowest), place)
+}
+
 /// Whether a place has a block that is kept for the tables, or the rigid disk block.
 pub fn is_over_tables(place: Place, tables: Tables) -> bool
     ensures { result ≡ is_over_tables place tables }
 {
-    let lowest = u64::from(tables.lowest);
-    let kept = Place {
-        first: lowest,
-        blocks: (u64::from(tables.highest) + 1).saturating_sub(lowest),
-    };
-    let rdsk = Place {
-        first: u64::from(tables.rdsk),
-        blocks: 1,
-    };
-    do_overlap(place, kept) || do_overlap(place, rdsk)
+    has_one_of(tables.lowest, tables.highest, place) || has_one_of(tables.rdsk, tables.rdsk, place)
 }
