@@ -7,6 +7,8 @@ pub mod Starts
 -- an image has exactly one survey
 pub mod OneSurvey
 pub mod SomeSurvey
+-- every image is that of a volume, or has a first fault
+pub mod FitsOrFault
 -- the blocks of files
 mod FileBlocks
 pub mod SoundFiles

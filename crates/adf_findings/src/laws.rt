@@ -15,6 +15,7 @@ ghost use Rattle.adf_findings.specs.Lookup.{LeadsTo, path_to};
 ghost use Rattle.adf_findings.specs.Remains.{data_found, gaps_of, left_of};
 ghost use Rattle.adf_findings.specs.Survey.{FindingValue, IsSurvey, OnSurvey};
 ghost use Rattle.adf_findings.specs.Sound.{DatasInOrder, FileHolds, HeaderHolds, IsOfItsKind, IsSound};
+ghost use Rattle.adf_findings.specs.Verdict.{FitsOrHasFault};
 
 /// Every image has a survey.
 #[tactic(auto, using(crate::proofs::SomeSurvey::some_survey))]
@@ -46,6 +47,11 @@ pub fn no_finding()
     ensures none { (image : List ℕ) (t : Tree) (l : Layout) (w : List (Role
         × ℕ)) (fs : List FindingValue) → Fits image t l
         → IsSurvey image w fs → fs ≡ [] }
+{}
+
+/// Every image is that of a volume, or has a first fault.
+pub fn fits_or_fault()
+    ensures { (image : List ℕ) → FitsOrHasFault image }
 {}
 
 /// A block in the walk of a survey has one role.

@@ -26,9 +26,9 @@ mod surveyor;
 pub use crate::concern::Concern;
 pub use crate::file::SoundFile;
 pub use crate::laws::{
-    all_sound, directories_first, first_finding, found_as_in_the_tree, found_as_named,
-    left_of_sound, no_finding, one_part, one_survey, paths_of_directories, some_survey,
-    sound_entries,
+    all_sound, directories_first, first_finding, fits_or_fault, found_as_in_the_tree,
+    found_as_named, left_of_sound, no_finding, one_part, one_survey, paths_of_directories,
+    some_survey, sound_entries,
 };
 pub use crate::opening::Opening;
 pub use crate::own_kind::{Tally, retype};
