@@ -7,3 +7,4 @@ pub mod EntryLines
 pub mod AnswerLaws
 pub mod LongInputs
 pub mod OneAnswer
+pub mod SomeAnswer
