@@ -1,7 +1,7 @@
 // The whole command.
 
 ghost use Rattle.std.specs.Prelude.{◌≡◌, false, true};
-ghost use Rattle.adf_disk_cmd.specs.Answers.{DiskRequestsHaveOneAnswer, WordsAskForOneDiskRequest, disk_command};
+ghost use Rattle.adf_disk_cmd.specs.Answers.{DiskRequestsHaveAnAnswer, DiskRequestsHaveOneAnswer, WordsAskForOneDiskRequest, disk_command};
 ghost use Rattle.adf_runs.specs.Commands.{IsUnanswered, RunEnds, TakesEnough};
 ghost use Rattle.adf_words.specs.CommandLine.{texts_of};
 
@@ -44,4 +44,9 @@ pub fn run<R: Source, W: Sink, E: Sink>(
 pub fn one_answer()
     ensures request { WordsAskForOneDiskRequest }
     ensures answer { DiskRequestsHaveOneAnswer }
+{}
+
+/// What is asked of a disk or of a plan has an answer, whatever the bytes.
+pub fn some_answer()
+    ensures { DiskRequestsHaveAnAnswer }
 {}

@@ -1,0 +1,83 @@
+-- What is asked of a disk has an answer. ps are its partitions, p is one of them.
+use Rattle.std.proofs.Common.{◌&&◌, ◌++◌, ◌/◌, ℕ, Bool, true, false, List, [], ◌∷◌, Option, None, Some, Result, Ok, Err, codes, inl, inr, length, refl, take}
+use Rattle.adf_cmd.proofs.SomeAnswer.{checked}
+use Rattle.adf_cmd.specs.Answers.{Answer}
+use Rattle.adf_partitions.proofs.SomeReadings.{some_disk, some_reading}
+use Rattle.adf_partitions.proofs.SomeTexts.{some_text}
+use Rattle.adf_partitions.specs.Disks.{HasListOrFault}
+use Rattle.adf_partitions.specs.FaultTexts.{disk_fault_text, place_fault_text, text_fault_text}
+use Rattle.adf_partitions.specs.PlanTexts.{HasPlanOrFault}
+use Rattle.adf_partitions.specs.declared.fault.DiskFault.{DiskFault}
+use Rattle.adf_partitions.specs.declared.partition.Partition.{Partition}
+use Rattle.adf_partitions.specs.declared.place.Place.{Place}
+use Rattle.adf_partitions.specs.declared.place.PlaceFault.{PlaceFault}
+use Rattle.adf_texts.specs.Lines.{fault_line as volume_fault_line}
+use Rattle.adf_runs.specs.Commands.{Reply, on_output}
+use Rattle.adf_words.specs.CommandLine.{check as check_volume}
+use Rattle.adf_words.specs.DiskLine.{DiskRequestValue, WantedValue, build, check, list, survey, volume}
+use Rattle.adf_disk_cmd.specs.Answers.{DiskAnswer, OfDisk, OfFault, OfPartitions, fault_line, volume_reply, wanted_of}
+use Rattle.adf_disk_cmd.specs.Builds.{BuildsDisk, plan_reply, refusal}
+use Rattle.adf_disk_cmd.specs.Checks.{AreChecked, TellsPlace, TellsVolume, check_status, unchecked_text, why_unchecked}
+use Rattle.adf_disk_cmd.specs.Lines.{list_lines, name_text, volume_at}
+use Rattle.adf_disk_cmd.specs.declared.unchecked.Unchecked.{Unchecked}
+use Rattle.adf_disk_cmd.specs.declared.work.TheConstants.{MOST_DISK_BYTES}
+
+told_by : (image : List ℕ) (reply : Reply) → Answer check_volume image reply → (sound : Bool) × (line : List ℕ) × TellsVolume image None sound line
+told_by image reply (inl (t, l, fits, e)) = (true, _, inl (t, l, fits, refl))
+told_by image reply (inr (f, first, e)) = (false, volume_fault_line f, inr (f, first, refl))
+
+some_volume : (why : Option Unchecked) (image : List ℕ) → (sound : Bool) × (line : List ℕ) × TellsVolume image why sound line
+some_volume None image = let (reply, answer) = checked image in told_by image reply answer
+some_volume (Some why) image = (false, unchecked_text why ++ codes "\n", (refl, refl))
+
+some_place : (bytes : List ℕ) (p : Partition) (place : Result Place PlaceFault) → (sound : Bool) × (line : List ℕ) × TellsPlace bytes p place sound line
+some_place bytes p (Ok q) = some_volume (why_unchecked p q) (volume_at bytes q)
+some_place bytes p (Err f) = (false, place_fault_text f ++ codes "\n", (refl, refl))
+
+some_checks : (bytes : List ℕ) (ps : List Partition) → (sound : Bool) × (text : List ℕ) × AreChecked bytes ps sound text
+unfolding AreChecked
+some_checks bytes [] = (true, [], (refl, refl))
+some_checks bytes (p ∷ ps) =
+    let (one, line, tells) = some_place bytes p p.place in
+    let (others, rest, are) = some_checks bytes ps in
+    (one && others, (name_text p ++ line) ++ rest, (one, others, line, rest, tells, are, refl, refl))
+
+-- what answers partitions and faults answers a disk
+module _ (r : DiskRequestValue) (bytes : List ℕ) (of_list : (ps : List Partition) → (reply : Reply) × OfPartitions r bytes ps reply)
+    (of_fault : (f : DiskFault) → (reply : Reply) × OfFault r bytes f reply) where
+  by_list : HasListOrFault bytes (length bytes / 512) → (reply : Reply) × OfDisk r bytes reply
+  by_list (inl (t, ps, disk)) = let (reply, tells) = of_list ps in (reply, inl (t, ps, disk, tells))
+  by_list (inr (f, first)) = let (reply, tells) = of_fault f in (reply, inr (f, first, tells))
+
+  of_disk : (reply : Reply) × OfDisk r bytes reply
+  of_disk = by_list (some_disk bytes (length bytes / 512))
+
+some_listing : (bytes : List ℕ) → (reply : Reply) × OfDisk list bytes reply
+some_listing bytes = of_disk list bytes (λ ps. (on_output 0 (list_lines 1 ps), refl)) (λ f. (refusal (disk_fault_text f), refl))
+
+some_check : (bytes : List ℕ) → (reply : Reply) × OfDisk check bytes reply
+some_check bytes =
+    of_disk check bytes
+    (λ ps. let (sound, text, are) = some_checks bytes ps in (on_output (check_status sound) text, (sound, text, are, refl)))
+    (λ f. (on_output 1 (fault_line f), refl))
+
+some_survey : (bytes : List ℕ) → (reply : Reply) × OfDisk survey bytes reply
+some_survey bytes =
+    of_disk survey bytes (λ ps. (on_output 0 (list_lines 1 ps), refl))
+    (λ f. let (ps, readable) = some_reading bytes (length bytes / 512) in
+    (on_output 1 (fault_line f ++ list_lines 1 ps), (fault_line f ++ list_lines 1 ps, (ps, readable, refl), refl)))
+
+some_copy : (bytes : List ℕ) (w : WantedValue) → (reply : Reply) × OfDisk (volume w) bytes reply
+some_copy bytes w =
+    of_disk (volume w) bytes (λ ps. (volume_reply bytes (wanted_of ps w), refl)) (λ f. (refusal (disk_fault_text f), refl))
+
+built_by : (text : List ℕ) → HasPlanOrFault text → (reply : Reply) × BuildsDisk text reply
+built_by text (inl (plan, given, is)) = (plan_reply plan given, inl (plan, given, is, refl))
+built_by text (inr (f, is)) = (refusal (text_fault_text f), inr (f, is, refl))
+
+pub some_answer : (r : DiskRequestValue) (input : List ℕ) → (reply : Reply) × DiskAnswer r input reply
+some_answer list input = some_listing (take MOST_DISK_BYTES input)
+some_answer check input = some_check (take MOST_DISK_BYTES input)
+some_answer survey input = some_survey (take MOST_DISK_BYTES input)
+some_answer (volume w) input = some_copy (take MOST_DISK_BYTES input) w
+some_answer build input = built_by (take MOST_DISK_BYTES input) (some_text (take MOST_DISK_BYTES input))
