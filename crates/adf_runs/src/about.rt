@@ -1,8 +1,9 @@
 // What a program tells of itself.
 
-ghost use Rattle.std.specs.Prelude.{◌≡◌, [], codes, false, if◌then◌else◌};
+ghost use Rattle.std.specs.Prelude.{◌≡◌, ◌==◌, ◌++◌, ◌∷◌, ℕ, List, [], All, Some, None, codes, false, if◌then◌else◌};
 ghost use Rattle.adf_words.specs.CommandLine.{texts_of};
-ghost use Rattle.adf_runs.specs.About.{telling_asked, told_text};
+ghost use Rattle.adf_runs.specs.About.{AsksNothing, telling_among, telling_asked, telling_named, told_text};
+ghost use Rattle.adf_runs.specs.declared.about.Telling.{Telling};
 ghost use Rattle.adf_runs.specs.Streams.{Says};
 
 use crate::devices::Sink;
@@ -29,21 +30,71 @@ pub enum Telling {
     Version,
 }
 
-/// What the arguments ask of the program itself: `--help` or `--version` as the first one after its name; `None` for others.
-pub fn telling_asked(args: &[&str]) -> Option<Telling>
-    ensures { result ≡ telling_asked (texts_of args.now) }
+// What a lone argument asks of the program itself.
+fn telling_named(word: &str) -> Option<Telling>
+    ensures { result ≡ telling_named word.now }
 {
-    if args.len() < 2 {
-        return None;
-    }
-    if args[1] == "--help" {
+    if word == "--help" {
         Some(Telling::Help)
-    } else if args[1] == "--version" {
+    } else if word == "--version" {
         Some(Telling::Version)
     } else {
         None
     }
 }
+
+#[tactic(auto, unfolding(crate::specs::About::telling_among))]
+// What arguments ask of it.
+fn telling_among(words: &[&str]) -> Option<Telling>
+    ensures { result ≡ telling_among (texts_of words.now) }
+{
+    for word in words {
+        if *word == "--" {
+            return None;
+        }
+        if let Some(telling) = telling_named(word) {
+            return Some(telling);
+        }
+    }
+    None
+}
+
+/// What the arguments ask of the program itself: the first `--help` or `--version` after its name and before any `--`; `None` if
+/// there is none.
+pub fn telling_asked(args: &[&str]) -> Option<Telling>
+    ensures { result ≡ telling_asked (texts_of args.now) }
+{
+    match args {
+        [_, words @ ..] => telling_among(words),
+        [] => None,
+    }
+}
+
+#[tactic(auto, using(crate::proofs::AskedHelp::behind_others, crate::proofs::AskedHelp::none_asked), unfolding(crate::specs::About::telling_among))]
+/// `--help` and `--version` are answered wherever they stand before `--`, so behind each command of the documentation, and no
+/// other arguments are: behind `--` they are names or paths.
+pub fn help_as_documented()
+    ensures help { (name : List ℕ) (before after : List (List ℕ)) → All AsksNothing before
+        → telling_asked (name ∷ before ++ codes "--help" ∷ after) ≡ Some Telling.Help }
+    ensures version { (name : List ℕ) (before after : List (List ℕ)) → All AsksNothing before
+        → telling_asked (name ∷ before ++ codes "--version" ∷ after) ≡ Some Telling.Version }
+    ensures others { (name : List ℕ) (words : List (List ℕ)) → All AsksNothing words
+        → telling_asked (name ∷ words) ≡ None }
+    ensures operands { (name : List ℕ) (before after : List (List ℕ)) → All AsksNothing before
+        → telling_asked (name ∷ before ++ codes "--" ∷ after) ≡ None }
+    ensures no_dash { (first : ℕ) (rest : List ℕ) → (first == 45) ≡ false → AsksNothing (first ∷ rest) }
+    ensures disk_list { telling_asked (codes "adf-disk" ∷ codes "list" ∷ codes "--help" ∷ []) ≡ Some Telling.Help }
+    ensures disk_volume { telling_asked (codes "adf-disk" ∷ codes "volume" ∷ codes "--help" ∷ [])
+        ≡ Some Telling.Help }
+    ensures survey_blocks { telling_asked (codes "adf-survey" ∷ codes "--blocks" ∷ codes "1760" ∷ codes "rescue"
+        ∷ codes "--help" ∷ []) ≡ Some Telling.Help }
+    ensures survey_cat { telling_asked (codes "adf-survey" ∷ codes "cat" ∷ codes "--damaged" ∷ codes "--help" ∷ [])
+        ≡ Some Telling.Help }
+    ensures shelf_null { telling_asked (codes "adf-shelf" ∷ codes "--null" ∷ codes "--version" ∷ [])
+        ≡ Some Telling.Version }
+    ensures disk_named { telling_asked (codes "adf-disk" ∷ codes "volume" ∷ codes "--" ∷ codes "--help" ∷ [])
+        ≡ None }
+{}
 
 /// Writes what is asked to output, and returns the status: 0, or 3 if output failed, which errors tell.
 pub fn tell<W: Sink, E: Sink>(about: &About, telling: Telling, output: &mut W, errors: &mut E) -> u8

@@ -13,7 +13,7 @@ mod streams;
 mod system;
 mod work_fault;
 
-pub use crate::about::{About, Telling, VERSION_NUMBER, tell, telling_asked};
+pub use crate::about::{About, Telling, VERSION_NUMBER, help_as_documented, tell, telling_asked};
 pub use crate::devices::{Device, Failed, Sink, Source};
 pub use crate::files::{Files, SystemFiles, Unopened};
 pub use crate::inputs::read_input;

@@ -9,13 +9,18 @@ const ABOUT: About = About {
     help: "usage: adf-try\n",
 };
 
-// The first argument asks, and no other.
+// The first argument that asks is answered, before `--`, and no other.
 #[test]
-fn the_first_argument_asks(rt: HostRuntime) -> Result<(), Fail> {
+fn what_comes_first_is_asked(rt: HostRuntime) -> Result<(), Fail> {
     assert!(rt; telling_asked(&["adf-try", "--help"]) == Some(Telling::Help));
     assert!(rt; telling_asked(&["adf-try", "--version", "a"]) == Some(Telling::Version));
     assert!(rt; telling_asked(&["--help"]).is_none());
+    assert!(rt; telling_asked(&["adf-try", "a", "--help"]) == Some(Telling::Help));
+    assert!(rt; telling_asked(&["adf-try", "a", "--version", "--help"]) == Some(Telling::Version));
+    assert!(rt; telling_asked(&["adf-try", "a", "--help", "--"]) == Some(Telling::Help));
     assert!(rt; telling_asked(&["adf-try", "--", "--help"]).is_none());
+    assert!(rt; telling_asked(&["adf-try", "a", "--", "b", "--version"]).is_none());
+    assert!(rt; telling_asked(&["adf-try", "--helps", "help"]).is_none());
     assert!(rt; telling_asked(&["adf-try", "-h"]).is_none());
     assert!(rt; telling_asked(&[]).is_none());
     Ok(())
