@@ -5,3 +5,4 @@ pub mod PendingText
 pub mod Endings
 pub mod WorkFaults
 pub mod CommandRuns
+pub mod FileRuns
