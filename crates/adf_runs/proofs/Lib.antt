@@ -6,3 +6,4 @@ pub mod Endings
 pub mod WorkFaults
 pub mod CommandRuns
 pub mod AskedHelp
+pub mod FileRuns

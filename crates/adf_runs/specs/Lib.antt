@@ -3,6 +3,7 @@ pub mod About
 pub mod Commands
 pub mod Devices
 pub mod Files
+pub mod FileRuns
 pub mod Streams
 pub mod Outcomes
 pub mod WorkFaults

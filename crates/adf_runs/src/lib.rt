@@ -3,6 +3,7 @@
 
 mod about;
 mod devices;
+mod file_programs;
 mod files;
 mod inputs;
 mod named_errors;
@@ -15,6 +16,7 @@ mod work_fault;
 
 pub use crate::about::{About, Telling, VERSION_NUMBER, help_as_documented, tell, telling_asked};
 pub use crate::devices::{Device, Failed, Sink, Source};
+pub use crate::file_programs::{FileProgram, WithoutFiles, run_program_on_files};
 pub use crate::files::{Files, SystemFiles, Unopened};
 pub use crate::inputs::read_input;
 pub use crate::named_errors::NamedErrors;
