@@ -1,9 +1,9 @@
 // The builder.
 
-ghost use Rattle.std.specs.Prelude.{◌≡◌, ◌*◌, IfOk, IfErr, OnOk, vec_len};
+ghost use Rattle.std.specs.Prelude.{◌≡◌, ◌*◌, IfOk, IfErr, OnOk, OnErr, length, replicate, vec_len};
 ghost use Rattle.adf_volume.specs.Fits.{Fits};
-ghost use Rattle.adf_build.specs.Laid.{IsLaid, IsWellFormed, volume};
-ghost use Rattle.adf_build.specs.Plan.{planned};
+ghost use Rattle.adf_build.specs.Laid.{IsLaid, IsWellFormed, node_blocks, volume};
+ghost use Rattle.adf_build.specs.Plan.{entries_blocks, planned};
 ghost use Rattle.adf_build.specs.Building.{IsBuildable, IsBuildFault, build_fault_number};
 
 use crate::counting::count_entries;
@@ -66,13 +66,19 @@ fn fields_fit(tree: &Tree)
     let _count = tree.len();
 }
 
-/// Builds the image of a tree in a volume of `blocks` blocks: the root in the middle, the bitmap pages and bitmap
-/// extension blocks after it, the entries in walk order in the remaining blocks, and 0 in all other bytes.
-pub fn build(alloc: Global, tree: &Tree, blocks: u32) -> Result<Vec<u8>, BuildFault>
-    ensures laid { IfOk result (λ image. IsLaid image.items tree.now) }
-    ensures fits { IfOk result (λ image. Fits image.items tree.now (planned tree.now blocks)) }
-    ensures bytes { IfOk result (λ image. image.items ≡ volume tree.now blocks) }
-    ensures len { IfOk result (λ image. vec_len image ≡ blocks * 512) }
+/// What is known before a volume is written: its plan, the blocks of its nodes, and the number of blocks of its entries.
+#[derive(Drop)]
+struct Prepared {
+    plan: Plan,
+    nodes: Vec<u32>,
+    total: u32,
+}
+
+// Plans the volume of a tree, if it has room.
+fn prepare(alloc: Global, tree: &Tree, blocks: u32) -> Result<Prepared, BuildFault>
+    ensures plan { IfOk result (λ p. p.plan.blocks ≡ blocks) }
+    ensures nodes { IfOk result (λ p. p.nodes.items ≡ node_blocks tree.now blocks) }
+    ensures total { IfOk result (λ p. p.total ≡ entries_blocks tree.now.kind tree.now.entries) }
     ensures room { OnOk result (IsBuildable tree.now blocks) }
     ensures fault { IfErr result (IsBuildFault tree.now blocks) }
 {
@@ -85,13 +91,66 @@ pub fn build(alloc: Global, tree: &Tree, blocks: u32) -> Result<Vec<u8>, BuildFa
     if need > have {
         return Err(BuildFault::Full { need, have });
     }
-    let Ok(nodes) = nodes_of(alloc, tree, plan) else {
-        return Err(BuildFault::NoMemory);
-    };
+    match nodes_of(alloc, tree, plan) {
+        Ok(nodes) => Ok(Prepared {
+            plan,
+            nodes,
+            total: total as u32,
+        }),
+        Err(_) => Err(BuildFault::NoMemory),
+    }
+}
+
+/// Builds the image of a tree in a volume of `blocks` blocks: the root in the middle, the bitmap pages and bitmap
+/// extension blocks after it, the entries in walk order in the remaining blocks, and 0 in all other bytes.
+pub fn build(alloc: Global, tree: &Tree, blocks: u32) -> Result<Vec<u8>, BuildFault>
+    ensures laid { IfOk result (λ image. IsLaid image.items tree.now) }
+    ensures fits { IfOk result (λ image. Fits image.items tree.now (planned tree.now blocks)) }
+    ensures bytes { IfOk result (λ image. image.items ≡ volume tree.now blocks) }
+    ensures len { IfOk result (λ image. vec_len image ≡ blocks * 512) }
+    ensures room { OnOk result (IsBuildable tree.now blocks) }
+    ensures fault { IfErr result (IsBuildFault tree.now blocks) }
+{
+    let prepared = prepare(alloc, tree, blocks)?;
     let Ok(mut image) = vec![in alloc; 0u8; blocks as usize * BLOCK_LEN] else {
         return Err(BuildFault::NoMemory);
     };
-    write_volume(&mut image, plan, tree, &nodes, total as u32);
+    write_volume(
+        &mut image,
+        prepared.plan,
+        tree,
+        &prepared.nodes,
+        prepared.total,
+    );
     fields_fit(tree);
     Ok(image)
+}
+
+// Sets all bytes to 0.
+fn clear(room: &mut [u8])
+    ensures { room.new ≡ replicate (length room.old) 0 }
+{
+    room.fill(0);
+}
+
+/// Builds the image of a tree, as `build` does, in memory of the caller, which has exactly as many bytes. On a fault
+/// nothing is written.
+pub fn build_into(
+    alloc: Global,
+    tree: &Tree,
+    blocks: u32,
+    room: &mut [u8],
+) -> Result<(), BuildFault>
+    requires { length room.old ≡ blocks * 512 }
+    ensures laid { OnOk result (IsLaid room.new tree.now) }
+    ensures fits { OnOk result (Fits room.new tree.now (planned tree.now blocks)) }
+    ensures bytes { OnOk result (room.new ≡ volume tree.now blocks) }
+    ensures fault { IfErr result (IsBuildFault tree.now blocks) }
+    ensures unchanged { OnErr result (room.new ≡ room.old) }
+{
+    let prepared = prepare(alloc, tree, blocks)?;
+    clear(room);
+    write_volume(room, prepared.plan, tree, &prepared.nodes, prepared.total);
+    fields_fit(tree);
+    Ok(())
 }

@@ -1,13 +1,14 @@
 // The blocks that a tree needs.
 
-ghost use Rattle.std.specs.Prelude.{◌≡◌, ◌≤◌, ◌+◌, ◌-◌, ◌^◌, true, min};
+ghost use Rattle.std.specs.Prelude.{◌≡◌, ◌≤◌, ◌↔◌, ◌+◌, ◌-◌, ◌^◌, ℕ, IfNone, IfSome, IsTrue, true, min};
 ghost use Rattle.std.specs.Option.{SomeIff};
 ghost use Rattle.adf_blocks.specs.Sizes.{is_allowed};
 ghost use Rattle.adf_build.specs.Plan.{data_blocks, entries_blocks, entry_blocks, exts_needed, reserved};
-ghost use Rattle.adf_build.specs.Building.{need_of};
+ghost use Rattle.adf_build.specs.Building.{IsBuildable, need_of};
+ghost use Rattle.adf_tree.specs.Tree.{Tree};
 
 use crate::plan::Plan;
-use adf_blocks::{POINTERS, data_count};
+use adf_blocks::{MOST_BLOCKS, POINTERS, data_count};
 use adf_tree::{Body, Entry, Kind, Node, Tree};
 
 /// The number of data blocks of a body.
@@ -59,6 +60,32 @@ pub fn need(tree: &Tree, blocks: u32) -> Option<u64>
 {
     let plan = Plan::new(blocks)?;
     Some(plan.need(count_entries(tree)))
+}
+
+// Whether a volume of `blocks` blocks is allowed and has room for a tree whose entries have so many blocks.
+fn has_room(total: u64, blocks: u32) -> bool
+    ensures { (t : Tree) → total ≡ min (entries_blocks t.kind t.entries) (2 ^ 64 - 1)
+        → IsTrue result ↔ IsBuildable t blocks }
+{
+    match Plan::new(blocks) {
+        Some(plan) => plan.need(total) <= u64::from(blocks - 2),
+        None => false,
+    }
+}
+
+/// The number of blocks of the smallest volume that has room for a tree; `None` if the largest one has none.
+pub fn fewest_blocks(tree: &Tree) -> Option<u32>
+    ensures room { IfSome result (IsBuildable tree.now) }
+    ensures fewest { IfSome result (λ n. (m : ℕ) → IsBuildable tree.now m → n ≤ m) }
+    ensures none { IfNone result ((m : ℕ) → ¬ IsBuildable tree.now m) }
+{
+    let total = count_entries(tree);
+    for blocks in total.min(u64::from(MOST_BLOCKS)) as u32..MOST_BLOCKS + 1 {
+        if has_room(total, blocks) {
+            return Some(blocks);
+        }
+    }
+    None
 }
 
 /// The number of blocks that a volume of `blocks` blocks has for entries: all but the two boot blocks, the root, the
