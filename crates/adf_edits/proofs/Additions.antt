@@ -1,0 +1,115 @@
+-- Additions that all have room, and the additions of a tree. xs are additions, x is the next one, es the entries of a tree.
+use Rattle.std.proofs.Common.{◌≡◌, ◌≢◌, ◌<◌, ◌≤◌, ◌++◌, ◌∷◌, ◌+◌, ◌-◌, ◌==◌, ℕ, List, [], Some, Ok, Err, Option, Result, length, get_or, take, arith, ap, sym, refl, subst, inl, inr, ◌∙◌, IsOk, OnOk, is_ok, if◌then◌else◌, zero, suc}
+use Rattle.std.proofs.Math.Seq.{take-append_seam, get_or-append_seam}
+use Rattle.std.proofs.Math.ListN.{get_or-append}
+use Rattle.std.proofs.lemmas.Bool.{cases_Bool, eqb-true, ne_eqb}
+use Rattle.std.proofs.lemmas.Bool.Decides.{nat_tests}
+use Rattle.std.proofs.lemmas.List.{length-append, take_all, take_more}
+use Rattle.std.proofs.lemmas.List.Sums.{fold_push}
+use Rattle.std.proofs.lemmas.Option.{get_or_from_slice_get, slice_get-get_or}
+use Rattle.std.specs.List.{slice_get}
+use Rattle.std.specs.Option.{IsSome}
+use Rattle.adf_tree.proofs.Lists.{some_in}
+use Rattle.adf_tree.specs.declared.entry.Entry.{Entry}
+use Rattle.adf_tree.specs.declared.tree.AddFault.{AddFault}
+use Rattle.adf_tree.specs.declared.tree.AddFault.TheVariants.{NoMemory}
+use Rattle.adf_tree.specs.declared.tree.RoomFault.{RoomFault}
+use Rattle.adf_tree.specs.Additions.{Addition, AllHaveRoom, entries_of_additions, with_addition}
+use Rattle.adf_tree.specs.Faults.{add_fault}
+use Rattle.adf_tree.specs.Tree.{with_entry as with_entry_in}
+use Rattle.adf_tree.specs.Tree.{entry, room_for, IsAnswer, IsTree, Tree}
+use Rattle.adf_edits.specs.Outline.{IsWithoutRoom, OutlineValue, addition_for, additions_of, tree_of, with_addition_in, with_entry, with_first}
+
+-- the tree of one addition more
+pub tree_more : (xs : List Addition) (x : Addition) → entries_of_additions (xs ++ x ∷ []) ≡ with_addition (entries_of_additions xs) x
+tree_more xs x = fold_push with_addition [] xs x
+
+take_front : (xs ys : List Addition) (i : ℕ) → i ≤ length xs → take i (xs ++ ys) ≡ take i xs
+take_front xs ys zero le = refl
+take_front [] ys (suc i) le = absurd (omega arith)
+take_front (x ∷ xs) ys (suc i) le = ap (λ zs. x ∷ zs) (take_front xs ys i (omega arith))
+
+-- one addition more has room too
+pub room_more : (xs : List Addition) (x : Addition) → AllHaveRoom xs → IsOk (room_for (entries_of_additions xs) x.path)
+    → AllHaveRoom (xs ++ x ∷ [])
+room_more xs x h ok = λ i d lt.
+    elim (cases_Bool (i == length xs)) [
+      | inl t ↦
+          let is : i ≡ length xs = eqb-true i (length xs) t in
+          rw (is, take-append_seam xs (x ∷ []), get_or-append_seam xs x [] d) ok
+      | inr f ↦
+          let long : length (xs ++ x ∷ []) ≡ length xs + 1 = length-append xs (x ∷ []) in
+          let less : i < length xs = grind (arith, nat_tests) in
+          rw (take_front xs (x ∷ []) i (omega (arith, less)), get_or-append xs (x ∷ []) d i less) (h i d less)
+    ]
+
+-- the fault of an addition is that of its room
+room_of : (r : Result ℕ RoomFault) (f : AddFault) → IsAnswer r (Err f) → f ≢ NoMemory → (g : RoomFault) × (r ≡ Err g) × (f ≡ add_fault g)
+room_of (Ok p) f h ne = absurd (ne h)
+room_of (Err g) f h ne = (g, refl, h)
+
+-- an addition that is refused has no room
+pub no_room : (all xs ys : List Addition) (x : Addition) (f : AddFault) → xs ++ x ∷ ys ≡ all
+    → IsAnswer (room_for (entries_of_additions xs) x.path) (Err f) → f ≢ NoMemory → IsWithoutRoom all f
+no_room all xs ys x f e h ne =
+    let room = room_of (room_for (entries_of_additions xs) x.path) f h ne in
+    let long : length (xs ++ x ∷ ys) ≡ length xs + length (x ∷ ys) = length-append xs (x ∷ ys) in
+    subst (λ zs. IsWithoutRoom zs f) e
+    (length xs, room.0, omega (arith, long), λ d. rw (take-append_seam xs (x ∷ ys), get_or-append_seam xs x ys d) room.1, room.2)
+
+-- the tree of an outline, addition by addition
+
+pub grown : (o : OutlineValue) (xs : List Addition) (x : Addition) (t u : Tree) → t ≡ tree_of (with_first o xs) → u ≡ with_addition_in t x
+    → u ≡ tree_of (with_first o (xs ++ x ∷ []))
+grown o xs x t u is new = new ∙ (ap (λ (v : Tree). with_addition_in v x) is
+    ∙ ap (λ es. record { kind = o.kind; label = o.label; stamps = o.stamps; entries = es }) (sym (tree_more xs x)))
+
+pub room_grown : (o : OutlineValue) (xs : List Addition) (x : Addition) (t : Tree) → t ≡ tree_of (with_first o xs) → AllHaveRoom xs
+    → IsOk (room_for t.entries x.path) → AllHaveRoom (xs ++ x ∷ [])
+room_grown o xs x t is room ok = room_more xs x room (subst (λ (v : Tree). IsOk (room_for v.entries x.path)) is ok)
+
+pub refused : (o : OutlineValue) (xs ys : List Addition) (x : Addition) (t : Tree) (f : AddFault) → t ≡ tree_of (with_first o xs)
+    → xs ++ x ∷ ys ≡ o.additions → IsAnswer (room_for t.entries x.path) (Err f) → f ≢ NoMemory → IsWithoutRoom o.additions f
+refused o xs ys x t f is all h ne =
+    no_room o.additions xs ys x f all (subst (λ (v : Tree). IsAnswer (room_for v.entries x.path) (Err f)) is h) ne
+
+pub added_ok : (r : Result (Unit {0}) AddFault) (old new : Tree) (x : Addition)
+    → new ≡ (if is_ok r then with_entry_in old x.path x.meta x.body else old) → OnOk r (new ≡ with_addition_in old x)
+added_ok (Ok u) old new x h = h
+added_ok (Err f) old new x h = tt
+
+-- an entry by its number
+
+entry_is : (es : List Entry) (i : ℕ) → entry es (i + 1) ≡ slice_get es i
+entry_is es i = let back : i + 1 - 1 ≡ i = omega arith in rw (ne_eqb (i + 1) 0 (omega arith), back) refl
+
+at_entry : (es : List Entry) (i : ℕ) (e : Entry) → entry es (i + 1) ≡ Some e → get_or es i e ≡ e
+at_entry es i e is = get_or_from_slice_get es i e e (sym (entry_is es i) ∙ is)
+
+pub some_entry : (es : List Entry) (i : ℕ) (o : Option Entry) → i < length es → o ≡ entry es (i + 1) → IsSome o
+some_entry es i o lt is =
+    let d : Entry = some_in es (omega arith) in
+    let some : o ≡ Some (get_or es i d) = is ∙ (entry_is es i ∙ slice_get-get_or es i d lt) in
+    rw some refl
+
+-- the additions of one entry more
+pub additions_more : (es : List Entry) (i : ℕ) (e : Entry) → i < length es → entry es (i + 1) ≡ Some e
+    → additions_of (take (i + 1) es) ≡ with_entry (additions_of (take i es)) e
+additions_more es i e lt is =
+    ap additions_of (take_more es i e lt ∙ ap (λ x. take i es ++ x ∷ []) (at_entry es i e is)) ∙ fold_push with_entry [] (take i es) e
+
+pub entry_step : (es : List Entry) (i : ℕ) (e : Entry) (xs ys : List Addition) → i < length es → entry es (i + 1) ≡ Some e
+    → xs ≡ additions_of (take i es) → length xs ≡ i → ys ≡ with_entry xs e
+    → record { additions : ys ≡ additions_of (take (i + 1) es); count : length ys ≡ i + 1 }
+entry_step es i e xs ys lt is were count are = record {
+  additions = are ∙ (ap (λ zs. with_entry zs e) were ∙ sym (additions_more es i e lt is));
+  count = ap length are ∙ (length-append xs (addition_for xs e ∷ []) ∙ ap (λ n. n + 1) count);
+}
+
+-- the parent of an entry comes before it
+pub parent_early : (es : List Entry) (i : ℕ) (e : Entry) → IsTree es → i < length es → entry es (i + 1) ≡ Some e → e.parent ≤ i
+parent_early es i e t lt is = subst (λ (x : Entry). x.parent ≤ i) (at_entry es i e is) (t.parents i e lt)
+
+-- the additions of all entries
+pub additions_all : (es : List Entry) (i : ℕ) → length es ≤ i → additions_of (take i es) ≡ additions_of es
+additions_all es i le = ap additions_of (take_all i es le)

@@ -1,0 +1,2 @@
+pub mod SamePaths
+pub mod Additions

@@ -1,0 +1,61 @@
+-- Trees as lists of additions.
+use Rattle.std.specs.Prelude.{◌≡◌, ◌<◌, ◌==◌, ◌-◌, ℕ, List, [], ◌∷◌, ◌++◌, Err, fold, if◌then◌else◌, length, slice_get, take}
+use Rattle.std.specs.Prelude.{Option, Some, None, slice_index_or}
+use Rattle.std.specs.List.{slice_get}
+use Rattle.adf_names.specs.declared.kind.Kind.{Kind}
+use Rattle.adf_names.specs.declared.meta.Stamps.{Stamps}
+use Rattle.adf_tree.specs.declared.entry.Entry.{Entry}
+use Rattle.adf_tree.specs.declared.tree.AddFault.{AddFault}
+use Rattle.adf_tree.specs.declared.tree.RoomFault.{RoomFault}
+use Rattle.adf_tree.specs.Additions.{Addition, entries_of_additions, with_addition}
+use Rattle.adf_tree.specs.Faults.{add_fault}
+use Rattle.adf_tree.specs.Tree.{Tree, room_for}
+
+-- the value of an outline: the kind, label and dates of a tree, and its additions
+pub record OutlineValue : Type 0 where
+  pub kind : Kind
+  pub label : List ℕ
+  pub stamps : Stamps
+  pub additions : List Addition
+
+-- the path of the addition at a place, no names if there is none
+abbrev pub path_in : Option Addition → List (List ℕ)
+path_in None = []
+path_in (Some x) = x.path
+
+-- the path of a node, where these are the additions of the entries before the next
+abbrev pub path_at : List Addition → ℕ → List (List ℕ)
+path_at xs n = if n == 0 then [] else path_in (slice_get xs (n - 1))
+
+-- the addition of the next entry: its name behind the path of its parent
+abbrev pub addition_for : List Addition → Entry → Addition
+addition_for xs e = record { path = path_at xs e.parent ++ e.name ∷ []; meta = e.meta; body = e.body }
+
+-- the additions of one entry more
+abbrev pub with_entry : List Addition → Entry → List Addition
+with_entry xs e = xs ++ addition_for xs e ∷ []
+
+-- the additions of the entries of a tree, in their order
+abbrev pub additions_of : List Entry → List Addition
+additions_of es = fold with_entry [] es
+
+-- the outline of a tree
+abbrev pub outline_of : Tree → OutlineValue
+outline_of t = record { kind = t.kind; label = t.label; stamps = t.stamps; additions = additions_of t.entries }
+
+-- the tree that `add` makes of an outline
+abbrev pub tree_of : OutlineValue → Tree
+tree_of o = record { kind = o.kind; label = o.label; stamps = o.stamps; entries = entries_of_additions o.additions }
+
+-- an outline of these additions alone
+abbrev pub with_first : OutlineValue → List Addition → OutlineValue
+with_first o xs = record o { additions = xs }
+
+-- a tree after `add` of one addition more
+abbrev pub with_addition_in : Tree → Addition → Tree
+with_addition_in t x = record t { entries = with_addition t.entries x }
+
+-- an addition has this fault in the tree of those before it
+abbrev pub IsWithoutRoom : List Addition → AddFault → Type 0
+IsWithoutRoom xs f = (i : ℕ) × (room : RoomFault) × (i < length xs) × ((d : Addition) →
+    room_for (entries_of_additions (take i xs)) (slice_index_or xs i d).path ≡ Err room) × (f ≡ add_fault room)

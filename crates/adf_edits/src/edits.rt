@@ -1,0 +1,434 @@
+// What an edit makes of a tree.
+
+ghost use Rattle.std.specs.Prelude.{◌≡◌, ◌≢◌, ◌≤◌, ◌++◌, ◌∷◌, [], None, Some, Ok, Err, IfOk, IfErr, OnOk, All, length, map, true};
+ghost use Rattle.std.specs.List.{filter};
+ghost use Rattle.adf_tree.specs.Tree.{is_dir_body};
+ghost use Rattle.adf_edits.specs.Edits.{change_fault, changed, changed_at, changed_if, edit_value, edited, edited_additions, edited_label, file_of, new_addition, has_directory, has_path, has_under, is_at, is_directory, is_directory_at, is_file_above, is_within, leads_through_file, move_fault, moved, rebased, remove_fault, removed, room_fault, without};
+
+use crate::outline::{Item, Outline};
+use crate::paths::{is_at_or_under, is_under, push_names, same_path};
+use adf_base::{NO_STAMP, NoMemory, Stamp};
+use adf_names::{Comment, Label, Meta, Name};
+use adf_tree::{Body, Bytes};
+use std::alloc::Global;
+use std::fmt;
+
+/// A change of what an entry has besides its path and its body.
+#[derive(Drop)]
+pub enum Change {
+    Note(Comment),
+    Protect(u32),
+    Date(Stamp),
+}
+
+/// One edit of a tree.
+#[derive(Drop)]
+pub enum Edit {
+    /// Removes a file, or a directory with nothing in it.
+    Remove(Vec<Name>),
+    /// Gives a file, or a directory with all that is in it, another path.
+    Move(Vec<Name>, Vec<Name>),
+    /// Adds a directory.
+    Dir(Vec<Name>),
+    /// Adds a file of so many bytes, which are given.
+    File(Vec<Name>, u32),
+    /// Changes the comment, the protection or the date of an entry.
+    Change(Vec<Name>, Change),
+    /// Changes the label.
+    Label(Label),
+}
+
+/// Why an edit cannot be applied.
+#[derive(Clone, Copy, Debug, PartialEq, Eq)]
+pub enum EditFault {
+    /// Nothing is there under the path.
+    NoSuchPath,
+    /// Something is in the directory.
+    NotEmpty,
+    /// A directory would come into itself.
+    WithinItself,
+    /// The new path has no name.
+    EmptyPath,
+    /// The directory of the new path does not exist.
+    NoParent,
+    /// A name before the last of the new path is that of a file.
+    ParentIsFile,
+    /// An entry has the new path.
+    Exists,
+    /// An allocation failed.
+    NoMemory,
+}
+
+impl fmt::Display for EditFault {
+    ghost use Rattle.std.specs.Prelude.{Some};
+    ghost use Rattle.adf_edits.specs.Edits.{edit_fault_text};
+
+    ghost output = { λ x. Some (edit_fault_text x) };
+
+    fn fmt<W: fmt::Write>(&self, f: &mut fmt::Formatter<W>) -> fmt::Result {
+        f.write_str(match self {
+            EditFault::NoSuchPath => "no such path",
+            EditFault::NotEmpty => "not empty",
+            EditFault::WithinItself => "within itself",
+            EditFault::EmptyPath => "no name",
+            EditFault::NoParent => "no parent",
+            EditFault::ParentIsFile => "parent is file",
+            EditFault::Exists => "exists",
+            EditFault::NoMemory => "no memory",
+        })
+    }
+}
+
+impl From<NoMemory> for EditFault {
+    ghost use Rattle.adf_edits.specs.declared.edits.EditFault.TheVariants.{NoMemory};
+
+    ghost from_gives = { λ _ f. f ≡ NoMemory };
+
+    fn from(_fault: NoMemory) -> EditFault {
+        EditFault::NoMemory
+    }
+}
+
+// Whether the body is that of a directory.
+fn is_dir(body: &Body) -> bool
+    ensures { result ≡ is_dir_body body.now }
+{
+    match body {
+        Body::Dir => true,
+        Body::File(_) => false,
+    }
+}
+
+// Whether an entry has this path.
+fn is_at(path: &[Name], item: &Item) -> bool
+    ensures { result ≡ is_at path.now item.now }
+{
+    same_path(&item.path, path)
+}
+
+// Whether an entry has this path, or is in the directory that has it.
+fn is_within(path: &[Name], item: &Item) -> bool
+    ensures { result ≡ is_within path.now item.now }
+{
+    is_at_or_under(path, &item.path)
+}
+
+// Whether an entry is a directory with this path.
+fn is_directory_at(path: &[Name], item: &Item) -> bool
+    ensures { result ≡ is_directory_at path.now item.now }
+{
+    is_dir(&item.body) && same_path(&item.path, path)
+}
+
+// Whether an entry is a file that the path leads through.
+fn is_file_above(path: &[Name], item: &Item) -> bool
+    ensures { result ≡ is_file_above path.now item.now }
+{
+    !is_dir(&item.body) && is_under(&item.path, path)
+}
+
+// Whether an entry has this path.
+fn has_path(items: &[Item], path: &[Name]) -> bool
+    ensures { result ≡ has_path items.now path.now }
+{
+    items.iter().any(|item| is_at(path, item))
+}
+
+// Whether an entry is in the directory with this path.
+fn has_under(items: &[Item], path: &[Name]) -> bool
+    ensures { result ≡ has_under items.now path.now }
+{
+    items.iter().any(|item| is_under(path, &item.path))
+}
+
+// Whether a path leads through a file.
+fn leads_through_file(items: &[Item], path: &[Name]) -> bool
+    ensures { result ≡ leads_through_file items.now path.now }
+{
+    items.iter().any(|item| is_file_above(path, item))
+}
+
+// Whether a directory has this path.
+fn has_directory(items: &[Item], path: &[Name]) -> bool
+    ensures { result ≡ has_directory items.now path.now }
+{
+    items.iter().any(|item| is_directory_at(path, item))
+}
+
+// Whether a path is that of the root or of a directory.
+fn is_directory(items: &[Item], path: &[Name]) -> bool
+    ensures { result ≡ is_directory items.now path.now }
+{
+    path.is_empty() || has_directory(items, path)
+}
+
+// Why no entry can be added under a path.
+fn room_fault(items: &[Item], path: &[Name]) -> Option<EditFault>
+    ensures { result ≡ room_fault items.now path.now }
+{
+    if path.is_empty() {
+        return Some(EditFault::EmptyPath);
+    }
+    if leads_through_file(items, path) {
+        return Some(EditFault::ParentIsFile);
+    }
+    if !is_directory(items, &path[..path.len() - 1]) {
+        return Some(EditFault::NoParent);
+    }
+    if has_path(items, path) {
+        return Some(EditFault::Exists);
+    }
+    None
+}
+
+// The same entry with the path `to` in the place of its first names, as many as `from` has.
+fn rebased(alloc: Global, item: Item, from: &[Name], to: &[Name]) -> Result<Item, NoMemory>
+    requires { length from.now ≤ length item.path }
+    ensures { IfOk result (λ x. x ≡ rebased from.now to.now item) }
+{
+    let mut path = Vec::new(alloc);
+    push_names(&mut path, to)?;
+    push_names(&mut path, &item.path[from.len()..])?;
+    Ok(Item {
+        path,
+        meta: item.meta,
+        body: item.body,
+    })
+}
+
+// Appends an entry to those that have the path or are in the directory that has it, or else to the rest.
+fn sort_in(
+    rest: &mut Vec<Item>,
+    within: &mut Vec<Item>,
+    item: Item,
+    path: &[Name],
+) -> Result<(), NoMemory>
+    ensures rest { OnOk result (rest.new.items ≡ rest.old.items ++ without path.now (item ∷ [])) }
+    ensures within { OnOk result
+        (within.new.items ≡ within.old.items ++ filter (is_within path.now) (item ∷ [])) }
+{
+    let pushed = if is_within(path, &item) {
+        within.push(item)
+    } else {
+        rest.push(item)
+    };
+    match pushed {
+        Ok(()) => Ok(()),
+        Err(_) => Err(NoMemory),
+    }
+}
+
+// What neither has the path nor is in the directory that has it, and what has it or is there.
+fn split(alloc: Global, items: Vec<Item>, path: &[Name]) -> Result<(Vec<Item>, Vec<Item>), NoMemory>
+    ensures rest { IfOk result (λ r. r.0.items ≡ without path.now items.items) }
+    ensures within { IfOk result (λ r. r.1.items ≡ filter (is_within path.now) items.items) }
+{
+    let mut rest = Vec::new(alloc);
+    let mut within = Vec::new(alloc);
+    for item in items {
+        sort_in(&mut rest, &mut within, item, path)?;
+    }
+    Ok((rest, within))
+}
+
+// Appends what is moved.
+fn push_moved(
+    alloc: Global,
+    items: &mut Vec<Item>,
+    within: Vec<Item>,
+    from: &[Name],
+    to: &[Name],
+) -> Result<(), NoMemory>
+    requires { All (λ x. is_within from.now x ≡ true) within.items }
+    ensures { OnOk result
+        (items.new.items ≡ items.old.items ++ map (rebased from.now to.now) within.items) }
+{
+    for item in within {
+        let moved = rebased(alloc, item, from, to)?;
+        if items.push(moved).is_err() {
+            return Err(NoMemory);
+        }
+    }
+    Ok(())
+}
+
+// Moves what has a path, and what is in the directory that has it.
+fn moved(
+    alloc: Global,
+    items: Vec<Item>,
+    from: &[Name],
+    to: &[Name],
+) -> Result<Vec<Item>, EditFault>
+    ensures ok { IfOk result (λ xs. move_fault items.items from.now to.now ≡ None) }
+    ensures moved { IfOk result (λ xs. xs.items ≡ moved from.now to.now items.items) }
+    ensures fault { IfErr result (λ f. f ≢ EditFault.NoMemory
+        → move_fault items.items from.now to.now ≡ Some f) }
+{
+    if !has_path(&items, from) {
+        return Err(EditFault::NoSuchPath);
+    }
+    if is_under(from, to) {
+        return Err(EditFault::WithinItself);
+    }
+    let (mut rest, within) = split(alloc, items, from)?;
+    if let Some(fault) = room_fault(&rest, to) {
+        return Err(fault);
+    }
+    push_moved(alloc, &mut rest, within, from, to)?;
+    Ok(rest)
+}
+
+// Removes what has a path.
+fn removed(items: Vec<Item>, path: &[Name]) -> Result<Vec<Item>, EditFault>
+    ensures ok { IfOk result (λ xs. remove_fault items.items path.now ≡ None) }
+    ensures removed { IfOk result (λ xs. xs.items ≡ removed path.now items.items) }
+    ensures fault { IfErr result (λ f. remove_fault items.items path.now ≡ Some f) }
+{
+    if !has_path(&items, path) {
+        return Err(EditFault::NoSuchPath);
+    }
+    if has_under(&items, path) {
+        return Err(EditFault::NotEmpty);
+    }
+    let mut items = items;
+    items.retain(|item| !is_at(path, item));
+    Ok(items)
+}
+
+// Adds an entry.
+fn added(items: Vec<Item>, item: Item) -> Result<Vec<Item>, EditFault>
+    ensures ok { IfOk result (λ xs. room_fault items.items item.path ≡ None) }
+    ensures added { IfOk result (λ xs. xs.items ≡ items.items ++ item ∷ []) }
+    ensures fault { IfErr result (λ f. f ≢ EditFault.NoMemory
+        → room_fault items.items item.path ≡ Some f) }
+{
+    if let Some(fault) = room_fault(&items, &item.path) {
+        return Err(fault);
+    }
+    let mut items = items;
+    match items.push(item) {
+        Ok(()) => Ok(items),
+        Err(_) => Err(EditFault::NoMemory),
+    }
+}
+
+impl Change {
+    // Makes the change.
+    fn make(&self, meta: &mut Meta)
+        ensures { meta.new ≡ changed self.now meta.old }
+    {
+        match self {
+            Change::Note(comment) => meta.comment = Comment::new(comment.bytes()).unwrap(),
+            Change::Protect(protect) => meta.protect = *protect,
+            Change::Date(stamp) => meta.stamp = *stamp,
+        }
+    }
+}
+
+// Makes a change of an entry if it has the path.
+fn change_item(item: &mut Item, path: &[Name], change: &Change)
+    ensures { item.new ≡ changed_if path.now change.now item.old }
+{
+    if is_at(path, item) {
+        change.make(&mut item.meta);
+    }
+}
+
+// Makes a change of what has a path.
+fn change_items(items: &mut [Item], path: &[Name], change: &Change)
+    ensures { items.new ≡ changed_at path.now change.now items.old }
+{
+    for item in items.iter_mut() {
+        change_item(item, path, change);
+    }
+}
+
+// Changes what has a path.
+fn changed(items: Vec<Item>, path: &[Name], change: &Change) -> Result<Vec<Item>, EditFault>
+    ensures ok { IfOk result (λ xs. change_fault items.items path.now ≡ None) }
+    ensures changed { IfOk result (λ xs. xs.items ≡ changed_at path.now change.now items.items) }
+    ensures fault { IfErr result (λ f. change_fault items.items path.now ≡ Some f) }
+{
+    if !has_path(&items, path) {
+        return Err(EditFault::NoSuchPath);
+    }
+    let mut items = items;
+    change_items(&mut items, path, change);
+    Ok(items)
+}
+
+// A new entry, with no comment, nothing forbidden and no date.
+fn new_item(path: Vec<Name>, body: Body) -> Item
+    ensures { result ≡ new_addition path.items body }
+{
+    let comment = Comment::new(b"").unwrap();
+    Item {
+        path,
+        meta: Meta::new(comment, 0, NO_STAMP),
+        body,
+    }
+}
+
+// A file of the first of the given bytes.
+fn new_file(alloc: Global, path: Vec<Name>, size: u32, given: &[u8]) -> Result<Item, NoMemory>
+    ensures { IfOk result (λ x. x ≡ new_addition path.items (file_of size given.now)) }
+{
+    let len = given.len().min(size as usize);
+    let mut bytes = Vec::new(alloc);
+    if bytes.extend_from_slice(&given[..len]).is_err() {
+        return Err(NoMemory);
+    }
+    Ok(new_item(path, Body::File(Bytes::new(bytes))))
+}
+
+// The additions after an edit.
+fn edited_items(
+    alloc: Global,
+    items: Vec<Item>,
+    edit: Edit,
+    given: &[u8],
+) -> Result<Vec<Item>, EditFault>
+    ensures ok { IfOk result (λ xs. edited_additions (edit_value edit) given.now items.items ≡ Ok xs.items) }
+    ensures fault { IfErr result (λ f. f ≢ EditFault.NoMemory
+        → edited_additions (edit_value edit) given.now items.items ≡ Err f) }
+{
+    match edit {
+        Edit::Remove(path) => removed(items, &path),
+        Edit::Move(from, to) => moved(alloc, items, &from, &to),
+        Edit::Dir(path) => added(items, new_item(path, Body::Dir)),
+        Edit::File(path, size) => {
+            let item = new_file(alloc, path, size, given)?;
+            added(items, item)
+        }
+        Edit::Change(path, change) => changed(items, &path, &change),
+        Edit::Label(_) => Ok(items),
+    }
+}
+
+// The label after an edit.
+fn edited_label(label: Label, edit: &Edit) -> Label
+    ensures { result ≡ edited_label (edit_value edit.now) label }
+{
+    match edit {
+        Edit::Label(text) => Label::new(text.bytes()).unwrap(),
+        _ => label,
+    }
+}
+
+impl Outline {
+    /// The outline after an edit, or why the edit cannot be applied; `NoMemory` if an allocation fails. The bytes of a file
+    /// are the first of the given ones.
+    pub fn edited(self, alloc: Global, edit: Edit, given: &[u8]) -> Result<Outline, EditFault>
+        ensures ok { IfOk result (λ o. edited (edit_value edit) given.now self ≡ Ok o) }
+        ensures fault { IfErr result (λ f. f ≢ EditFault.NoMemory
+            → edited (edit_value edit) given.now self ≡ Err f) }
+    {
+        let label = edited_label(self.label, &edit);
+        Ok(Outline {
+            kind: self.kind,
+            label,
+            stamps: self.stamps,
+            items: edited_items(alloc, self.items, edit, given)?,
+        })
+    }
+}

@@ -1,0 +1,149 @@
+// Trees as lists of additions.
+
+ghost use Rattle.std.specs.Prelude.{◌≡◌, ◌≢◌, ◌++◌, ◌∷◌, [], ◌≤◌, length, IfOk, IfErr, OnOk};
+ghost use Rattle.adf_tree.specs.Additions.{AllHaveRoom};
+ghost use Rattle.adf_edits.specs.Outline.{IsWithoutRoom, addition_for, additions_of, outline_of, tree_of, with_addition_in, with_entry};
+ghost use Rattle.adf_tree.specs.Tree.{IsAnswer, room_for};
+
+use crate::paths::push_names;
+use adf_base::NoMemory;
+use adf_drafts::Draft;
+use adf_names::{Kind, Label, Meta, Name, Stamps};
+use adf_tree::{AddFault, Body, Bytes, Entry, Node, Tree};
+use std::alloc::Global;
+use std::marker::Model;
+
+/// An entry with its path.
+#[derive(Drop)]
+pub struct Item {
+    pub path: Vec<Name>,
+    pub meta: Meta,
+    pub body: Body,
+}
+
+impl Model for Item {
+    ghost use Rattle.adf_tree.specs.Additions.{Addition};
+
+    ghost Value = { Addition };
+
+    ghost view = { λ x. record { path = x.path.items; meta = x.meta; body = x.body } };
+}
+
+/// A tree as the list of its additions, each directory before what is in it.
+#[derive(Drop)]
+pub struct Outline {
+    pub kind: Kind,
+    pub label: Label,
+    pub stamps: Stamps,
+    pub items: Vec<Item>,
+}
+
+impl Model for Outline {
+    ghost use Rattle.adf_edits.specs.Outline.{OutlineValue};
+
+    ghost Value = { OutlineValue };
+
+    ghost view = { λ o. record { kind = o.kind; label = o.label; stamps = o.stamps; additions = o.items.items } };
+}
+
+// A copy of a body.
+fn copy_body(alloc: Global, body: &Body) -> Result<Body, NoMemory>
+    ensures { IfOk result (λ b. b ≡ body.now) }
+{
+    match body {
+        Body::Dir => Ok(Body::Dir),
+        Body::File(bytes) => {
+            let mut copied = Vec::new(alloc);
+            if copied.extend_from_slice(bytes.bytes()).is_err() {
+                return Err(NoMemory);
+            }
+            Ok(Body::File(Bytes::new(copied)))
+        }
+    }
+}
+
+// The path of an entry, by those of the entries before it.
+fn path_for(alloc: Global, items: &[Item], entry: &Entry) -> Result<Vec<Name>, NoMemory>
+    requires { entry.now.parent ≤ length items.now }
+    ensures { IfOk result (λ path. path.items ≡ (addition_for items.now entry.now).path) }
+{
+    let mut path = Vec::new(alloc);
+    if 0 < entry.parent.0 {
+        let parent = &items[entry.parent.0 - 1];
+        push_names(&mut path, &parent.path)?;
+    }
+    if path.push(entry.name.copy()).is_err() {
+        return Err(NoMemory);
+    }
+    Ok(path)
+}
+
+// Appends an entry to the additions of the entries before it.
+fn push_entry(alloc: Global, items: &mut Vec<Item>, entry: &Entry) -> Result<(), NoMemory>
+    requires { entry.now.parent ≤ length items.old.items }
+    ensures { OnOk result (items.new.items ≡ with_entry items.old.items entry.now) }
+{
+    let path = path_for(alloc, items, entry)?;
+    let body = copy_body(alloc, &entry.body)?;
+    let meta = entry.meta.copy();
+    match items.push(Item { path, meta, body }) {
+        Ok(()) => Ok(()),
+        Err(_) => Err(NoMemory),
+    }
+}
+
+#[tactic(auto, using(crate::proofs::Additions::some_entry, crate::proofs::Additions::entry_step, crate::proofs::Additions::parent_early, crate::proofs::Additions::additions_all))]
+// The additions of the entries of a tree.
+fn items_of(alloc: Global, tree: &Tree) -> Result<Vec<Item>, NoMemory>
+    ensures { IfOk result (λ items. items.items ≡ additions_of tree.now.entries) }
+{
+    let mut items = Vec::new(alloc);
+    for i in 0..tree.len() {
+        let entry = tree.entry(Node(i + 1)).unwrap();
+        push_entry(alloc, &mut items, entry)?;
+    }
+    Ok(items)
+}
+
+#[tactic(auto, using(crate::proofs::Additions::added_ok))]
+// Adds an entry to a draft.
+fn add_item(draft: &mut Draft, item: Item) -> Result<(), AddFault>
+    ensures answer { IsAnswer (room_for draft.old.tree.entries item.path) result }
+    ensures tree { OnOk result (draft.new.tree ≡ with_addition_in draft.old.tree item) }
+{
+    let path = item.path;
+    draft.add(&path, item.meta, item.body)
+}
+
+impl Outline {
+    /// The outline of a tree.
+    pub fn of(alloc: Global, tree: &Tree) -> Result<Outline, NoMemory>
+        ensures { IfOk result (λ o. o ≡ outline_of tree.now) }
+    {
+        Ok(Outline {
+            kind: tree.kind(),
+            label: Label::new(tree.label().bytes()).unwrap(),
+            stamps: tree.stamps(),
+            items: items_of(alloc, tree)?,
+        })
+    }
+
+    /// The tree of the outline. The fault of the first addition that has no room in the tree of those before it; or `NoMemory`.
+    pub fn finish(self, alloc: Global) -> Result<Tree, AddFault>
+        ensures room { OnOk result (AllHaveRoom self.additions) }
+        ensures tree { IfOk result (λ t. t ≡ tree_of self) }
+        ensures fault { IfErr result (λ f. f ≢ AddFault.NoMemory → IsWithoutRoom self.additions f) }
+    {
+        let mut draft = Draft::new(alloc, self.kind, self.label, self.stamps);
+        for item in self.items {
+            match add_item(&mut draft, item) {
+                Ok(()) => {}
+                Err(fault) => return Err(fault),
+            }
+        }
+        match draft.finish(alloc) {
+            Ok(tree) => Ok(tree),
+            Err(NoMemory) => Err(AddFault::NoMemory),
+        }
+    }
+}
