@@ -286,6 +286,68 @@ struct adf_surveyed {
 uint8_t adf_survey_index(const uint8_t *image, size_t length, struct adf_finding *findings, size_t findings_room,
                          struct adf_found *entries, size_t entries_room, struct adf_surveyed *surveyed);
 
+/* Files of a damaged image
+ *
+ * A program that reads what is left of files surveys the image once more by adf_survey_parts, which fills a table of its blocks.
+ * From then on it makes the table of a file by adf_found_blocks, and reads by that from any place on, without a further survey:
+ *
+ *     uint32_t header = entries[node - 1].header;
+ *     size_t count = adf_found_blocks(image, length, parts, length / 512, node, header, blocks, blocks_room);
+ *     for (size_t at = 0, lost = 0, n = 1; n + lost > 0; at += n + lost) {
+ *         n = adf_found_read(image, length, header, blocks, count, at, room, sizeof room, &lost);
+ *         write_at(at, room, n);
+ *     }
+ *
+ * What lies between the parts that are read is lost: `lost` bytes behind each. Zeros are never given in their place.
+ */
+
+/* What a survey has at a block. Block b is at index b of the table. */
+struct adf_part {
+    size_t node;     /* the entry that has the block; 0 for the root, the bitmap, and a block that nothing found has */
+    uint32_t number; /* the number of the data block of a file that it is, from 1; otherwise 0 */
+};
+
+/* The number that stands for no block in the table of a file. */
+#define ADF_NO_BLOCK UINT32_C(0xFFFFFFFF)
+
+/* Surveys an image of this length, and fills a table with a row for each of its length / 512 blocks, as far as there is room. The
+ * entries are those of adf_survey_index. If nothing is found, as without a root, there are no rows. The rest of the room is
+ * unchanged. Returns an adf_cause: 0, or ADF_NO_MEMORY, and then the room is unchanged.
+ */
+uint8_t adf_survey_parts(const uint8_t *image, size_t length, struct adf_part *parts, size_t room);
+
+/* Fills the table of a file that is found, by its number and the block of its header: its data blocks in order, as far as there is
+ * room, with ADF_NO_BLOCK for each that is not found. Returns how many its size asks for, whatever the room: at most
+ * length / 488 + 1, and 0 for a directory, an empty file, and a block that is no file's header. The rest of the room is unchanged.
+ *
+ * With other rows than those of the image's survey it is the same table by these rows: a block is in it only if the image has it,
+ * and its row has the node and the number. It allocates nothing. A budget, by reading the code and not proved: the work is
+ * proportional to the number that is returned.
+ */
+size_t adf_found_blocks(const uint8_t *image, size_t length, const struct adf_part *parts, size_t parts_count, size_t node,
+                        uint32_t header, uint32_t *blocks, size_t blocks_room);
+
+/* Copies the bytes of a file that is found into the room, by the block of its header and by its table: those from byte `offset`
+ * on, up to the first data block that is not found, as many as there are and fit. Returns how many, and sets `lost` to the number
+ * of bytes right behind them that are lost: 0 if the next byte is found, or the file ends there. So with a room of at least one
+ * byte both are 0 only from the end of the file on. The rest of the room is unchanged.
+ *
+ * The size is the one that the header says, but no more than the image has. With any table the same is read: at most these bytes,
+ * of the data areas of the blocks that the table names, where a number that the image does not have stands for a block that is
+ * not found. What is behind a table that is cut is neither read nor lost. On a sound file the bytes are those that adf_read gives.
+ *
+ * It allocates nothing. A budget, by reading the code and not proved: the work is proportional to the bytes that are copied, and
+ * to the data blocks that are lost behind them.
+ */
+size_t adf_found_read(const uint8_t *image, size_t length, uint32_t header, const uint32_t *blocks, size_t blocks_count,
+                      size_t offset, uint8_t *room, size_t room_length, size_t *lost);
+
+/* Writes the escape form of a name to the front of the room, as far as it fits, and returns the length of the whole text, at most
+ * four times that of the name: a byte outside 32 to 126, and the backslash, is \xHH, as in the paths of adf_find. The text has no
+ * zero at the end. A name of 2^61 bytes or more has none: then the call returns 0, and the room is unchanged.
+ */
+size_t adf_escape(const uint8_t *name, size_t name_length, uint8_t *room, size_t room_length);
+
 /* A whole hard disk.
  *
  * Its image begins with tables that say where its volumes lie. adf-disk(1) and FORMAT.md have them. The bytes of a volume that
@@ -338,7 +400,9 @@ struct adf_disk {
 
 /* Reads the partitions of a disk of so many blocks of 512 bytes, and fills a table with them, as far as there is room. The bytes
  * are the first ones of the disk: its first 65,536 blocks, or all of it; bytes behind these blocks change nothing. The number of
- * blocks is below 2^55, so that `first` * 512 fits. Returns an adf_cause: 0 or ADF_NO_MEMORY.
+ * blocks is below 2^55, so that `first` * 512 fits. A disk of fewer than 16 blocks is searched as far as it goes: without a rigid
+ * disk block among its blocks the cause is ADF_DISK_NO_RIGID_DISK, as of one without any bytes. Returns an adf_cause: 0 or
+ * ADF_NO_MEMORY.
  *
  * 0: disk->cause is the first fault of the tables, in disk->block. Without a fault the table has all partitions, in their order;
  *    otherwise those that can still be read, as `adf-disk survey` lists them. disk->partitions is the whole number, whatever the

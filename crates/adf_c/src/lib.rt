@@ -4,6 +4,8 @@
 mod causes;
 mod commands;
 mod disks;
+mod escapes;
+mod found;
 mod images;
 mod surveys;
 mod tables;

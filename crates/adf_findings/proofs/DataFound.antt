@@ -37,7 +37,7 @@ found_named image w fs (unread f) n h file k b has = absurd has
 found_named image w fs (read v d t) n h file k b has = ((data_is image n v h file k b has).0, data_inside image v n (suc k) b has)
 
 -- a block that one role has tells its entry and its number
-first_with : (w : List (Role × ℕ)) (r : Role) (b : ℕ) → Has w r b → ((q : Role) → Has w q b → q ≡ r)
+pub first_with : (w : List (Role × ℕ)) (r : Role) (b : ℕ) → Has w r b → ((q : Role) → Has w q b → q ≡ r)
     → (owner w b ≡ entry_in r) × (number_at w b ≡ data_number r)
 first_with [] r b h one = absurd h
 first_with (x ∷ w) r b h one = elim (eqb_tells x.1 b) [
@@ -62,7 +62,7 @@ role_is (Ext m j) n k e f = absurd (omega (arith, f))
 role_is _ n k e f = cc
 
 -- so is a block
-held_has : (w : List (Role × ℕ)) (b n k : ℕ) → owner w b ≡ Some n → number_at w b ≡ suc k → Has w (Data n (suc k)) b
+pub held_has : (w : List (Role × ℕ)) (b n k : ℕ) → owner w b ≡ Some n → number_at w b ≡ suc k → Has w (Data n (suc k)) b
 held_has [] b n k e f = cc
 held_has (x ∷ w) b n k e f = elim (eqb_tells x.1 b) [
   | inl y ↦

@@ -11,7 +11,7 @@ ghost use Rattle.adf_volume.specs.Walk.{FileAt, Has, heads, node_block};
 ghost use Rattle.adf_volume.specs.Walk.Role.{Head};
 ghost use Rattle.adf_findings.specs.Concerned.{concern_of_nth, owner_of_nth};
 ghost use Rattle.adf_findings.specs.Files.{IsSoundFile, counting, file_in, grave};
-ghost use Rattle.adf_findings.specs.Found.{owner, owns, parent_node};
+ghost use Rattle.adf_findings.specs.Found.{number_at as number_of, owner, owns, parent_node};
 ghost use Rattle.adf_findings.specs.SoundMarks.{AreMarks, mark_in, whole_in};
 ghost use Rattle.adf_findings.specs.Marks.{has_mark};
 ghost use Rattle.adf_findings.specs.Opening.{opening_in};
@@ -154,6 +154,14 @@ impl Survey<'_> {
         ensures { OnSurvey self.now.image (λ w _. result ≡ owner w b) }
     {
         owner_at(&self.owners, b)
+    }
+
+    /// The number of the data block of a file that a block is, from 1; 0 for a block that is none, and past the last block.
+    #[tactic(auto, using(crate::proofs::Keeping::tells_each))]
+    pub fn data_number(&self, b: u32) -> u32
+        ensures { OnSurvey self.now.image (λ w _. result ≡ number_of w b) }
+    {
+        number_at(&self.numbers, b as usize)
     }
 
     /// Whether a block is a part of what is found: the root, a block of the bitmap, or a block of an entry.

@@ -12,5 +12,6 @@ pub mod TableBytes
 pub mod Readings
 pub mod TableNames
 pub mod FoundRows
+pub mod FoundBlocks
 -- what is read of a hard disk
 pub mod DiskReadings

@@ -102,8 +102,8 @@ fn is_within(concern: Option<Concern>) -> u8
     }
 }
 
-// The number of an entry; 0 for none.
-fn owner_number(owner: Option<Node>) -> usize
+/// The number of an entry; 0 for none.
+pub fn owner_number(owner: Option<Node>) -> usize
     ensures { result ≡ owner_number owner }
 {
     match owner {

@@ -16,8 +16,8 @@ use adf_blocks::{DATA_BYTES, DATA_ROOM, chunk_len};
 use adf_tree::Kind;
 use adf_volume::kind_in;
 
-// The kind that the boot block tells, where the image has one.
-fn kind_of(image: &[u8]) -> Kind
+/// The kind that the boot block tells, where the image has one.
+pub fn kind_of(image: &[u8]) -> Kind
     ensures { 512 ≤ length image.now → result ≡ kind_of image.now }
 {
     if image.len() < BLOCK_LEN {
@@ -67,8 +67,8 @@ fn put_part(room: &mut [u8], put: usize, part: &[u8]) -> usize
     put + count
 }
 
-// Fills the room with what these data blocks hold from a place on, and answers how many bytes it put.
-fn put_bytes(image: &[u8], kind: Kind, datas: &[u32], from: usize, room: &mut [u8]) -> usize
+/// Fills the room with what these data blocks hold from a place on, and answers how many bytes it put.
+pub fn put_bytes(image: &[u8], kind: Kind, datas: &[u32], from: usize, room: &mut [u8]) -> usize
     requires { from + length room.old < 2 ^ 64 }
     ensures count { result
         ≡ min (length room.old) (length (bytes_from image.now kind datas.now from)) }

@@ -1,0 +1,16 @@
+use Rattle.std.proofs.Common.{◌∙◌, ap, map}
+use Rattle.std.specs.List.{range_with_len}
+use Rattle.adf_memory.specs.FoundFiles.{named_block, named_blocks}
+use Rattle.adf_memory.specs.Rooms.{filled}
+use Rattle.adf_memory.proofs.FoundBlocks.{named_blocks_are}
+use Rattle.adf_memory.proofs.found_files.put_found_blocks.Goals as goal
+
+pub returns-clause-blocks : goal.returns-clause-blocks
+returns-clause-blocks c = λ w fs survey file parts.
+    let image = c.args.image.now in
+    let n = c.args.node in
+    let h = c.args.header in
+    let all = c.put_named.ensures
+    ∙ ap (λ m. filled (map (named_block image c.args.parts.now n h) (range_with_len 0 m)) c.args.table.now) c.file_blocks-count.ensures.count in
+    all ∙ ap (λ ps. filled (named_blocks image ps n h) c.args.table.now) parts
+    ∙ ap (λ bs. filled bs c.args.table.now) (named_blocks_are image w fs survey n h file)

@@ -1,0 +1,199 @@
+// What is read of the files that a survey finds.
+
+ghost use Rattle.std.specs.Prelude.{◌≡◌, ◌≤◌, ◌<◌, ◌+◌, ◌*◌, ◌^◌, drop, length, map, min};
+ghost use Rattle.std.specs.List.{range_with_len};
+ghost use Rattle.adf_blocks.specs.Sizes.{blocks as blocks_of};
+ghost use Rattle.adf_volume.specs.Image.{word_in};
+ghost use Rattle.adf_volume.specs.Walk.{FileAt};
+ghost use Rattle.adf_findings.specs.Survey.{OnSurvey};
+ghost use Rattle.adf_memory.specs.FoundFiles.{block_if, file_blocks, file_size, found_blocks, found_from, is_data_of, lost_from, missing, named_block, named_blocks, part_table};
+ghost use Rattle.adf_memory.specs.Rooms.{filled};
+
+use crate::found_parts::FoundPart;
+use crate::reading::{kind_of, put_bytes};
+use crate::tables::put;
+use adf_base::{BLOCK_LEN, Block};
+use adf_blocks::{EXTENSION, FIRST_POINTER, POINTERS, SECONDARY_TYPE, SIZE, ST_FILE, chunk_len};
+use adf_volume::count_of;
+
+/// The number that stands for no block in the table of a file.
+pub const NO_BLOCK: u32 = 0xFFFF_FFFF;
+
+// A word of a block; 0 if the image has no such block.
+#[tactic(auto, using(adf_volume::proofs::WordsPast::past_word))]
+fn word_in(image: &[u8], b: u32, i: usize) -> u32
+    requires word { i < 128 }
+    requires whole { length image.now ≡ 512 * blocks_of image.now }
+    ensures { result ≡ word_in image.now b i }
+{
+    match Block::at(image, b) {
+        Some(block) => block.word(i),
+        None => 0,
+    }
+}
+
+// The number of bytes of the file with its header at a block; 0 if it is none.
+fn file_size(image: &[u8], header: u32) -> u32
+    ensures size { result ≡ file_size image.now header }
+    ensures some { 0 < result → 512 ≤ length image.now }
+    ensures whole { 0 < result → length image.now ≡ 512 * blocks_of image.now }
+{
+    if image.len() % BLOCK_LEN != 0 {
+        return 0;
+    }
+    if word_in(image, header, SECONDARY_TYPE) != ST_FILE {
+        return 0;
+    }
+    let size = word_in(image, header, SIZE) as usize;
+    size.min(image.len()) as u32
+}
+
+// How many data blocks the size of a file asks for.
+fn file_blocks(image: &[u8], header: u32) -> u32
+    ensures count { result ≡ file_blocks image.now header }
+    ensures whole { 0 < result → length image.now ≡ 512 * blocks_of image.now }
+{
+    let size = file_size(image, header);
+    if size == 0 {
+        return 0;
+    }
+    count_of(kind_of(image), size)
+}
+
+// Whether a row is that of data block `k` of a file.
+fn is_data_of(node: usize, k: u32, part: Option<FoundPart>) -> bool
+    requires { k + 1 < 2 ^ 32 }
+    ensures { result ≡ is_data_of node k part }
+{
+    match part {
+        Some(part) => part.node == node && part.number == k + 1,
+        None => false,
+    }
+}
+
+// A block, if the image has it and its row is that of data block `k` of a file; else `NO_BLOCK`.
+fn block_if(image: &[u8], parts: &[FoundPart], node: usize, k: u32, b: u32) -> u32
+    requires { k + 1 < 2 ^ 32 }
+    ensures { result ≡ block_if image.now parts.now node k b }
+{
+    let part = parts.get(b as usize).copied();
+    if (b as usize) < image.len() / BLOCK_LEN && is_data_of(node, k, part) {
+        b
+    } else {
+        NO_BLOCK
+    }
+}
+
+// Fills the table of a file of so many data blocks, as far as there is room.
+fn put_named(
+    image: &[u8],
+    parts: &[FoundPart],
+    node: usize,
+    header: u32,
+    count: u32,
+    table: &mut [u32],
+)
+    requires { 0 < count → length image.now ≡ 512 * blocks_of image.now }
+    ensures { table.new ≡ filled (map (named_block image.now parts.now node header) (range_with_len 0 count)) table.old }
+{
+    let mut member = header;
+    for k in 0..count {
+        let b = word_in(image, member, FIRST_POINTER - k as usize % POINTERS);
+        put(table, k as usize, block_if(image, parts, node, k, b));
+        if (k as usize + 1) % POINTERS == 0 {
+            member = word_in(image, member, EXTENSION);
+        }
+    }
+}
+
+/// Fills the table of a file that a survey found, by the node of its entry and the block of its header, as far as it has room:
+/// its data blocks in order, with `NO_BLOCK` for each that is not found. Returns how many its size asks for; 0 for what is no
+/// file. It does not allocate.
+pub fn put_found_blocks(
+    image: &[u8],
+    parts: &[FoundPart],
+    node: usize,
+    header: u32,
+    table: &mut [u32],
+) -> usize
+    // If the rows are those of the image's survey, the table is that of what its walk has of the file.
+    ensures blocks { OnSurvey image.now (λ w _. FileAt image.now w node header → parts.now ≡ part_table image.now w
+        → table.new ≡ filled (found_blocks image.now w node header) table.old) }
+
+    // For any rows it is that of what the header and its extension blocks name.
+    ensures count { result ≡ file_blocks image.now header }
+    ensures any_blocks { table.new ≡ filled (named_blocks image.now parts.now node header) table.old }
+{
+    let count = file_blocks(image, header);
+    put_named(image, parts, node, header, count, table);
+    count as usize
+}
+
+// How many data blocks at the front of a table are not found.
+fn missing(image: &[u8], table: &[u32]) -> usize
+    ensures count { result ≡ missing image.now table.now }
+    ensures few { result < 2 ^ 63 }
+{
+    let blocks = image.len() / BLOCK_LEN;
+    for i in 0..table.len() {
+        if (table[i] as usize) < blocks {
+            return i;
+        }
+    }
+    table.len()
+}
+
+// How many bytes of a file from a place on are in data blocks that are not found.
+fn lost_from(image: &[u8], header: u32, table: &[u32], at: usize) -> usize
+    ensures { result ≡ lost_from image.now header table.now at }
+{
+    let size = file_size(image, header) as usize;
+    if size <= at {
+        return 0;
+    }
+    let chunk = chunk_len(kind_of(image));
+    let first = at / chunk;
+    let behind = table.get(first..).unwrap_or(&[]);
+    let end = chunk.saturating_mul(first + missing(image, behind));
+    size.min(end).saturating_sub(at)
+}
+
+// Puts the bytes of a file from a place on into the room, as many as there are up to a gap and fit. Returns how many.
+fn read_up_to_gap(image: &[u8], header: u32, table: &[u32], offset: usize, room: &mut [u8]) -> usize
+    ensures count { result
+        ≡ min (length room.old) (length (found_from image.now header table.now offset)) }
+    ensures bytes { room.new ≡ filled (found_from image.now header table.now offset) room.old }
+{
+    let size = file_size(image, header) as usize;
+    if size <= offset {
+        return 0;
+    }
+    let count = room.len().min(size - offset);
+    put_bytes(image, kind_of(image), table, offset, &mut room[..count])
+}
+
+/// Reads a file that a survey found through its table, from `offset` on, as many bytes as there are up to one that is lost, and
+/// as fit into `room`. Returns how many, and writes to `lost` how many bytes behind these are lost. It neither checks the
+/// image nor allocates.
+pub fn read_found(
+    image: &[u8],
+    header: u32,
+    table: &[u32],
+    offset: usize,
+    room: &mut [u8],
+    lost: &mut usize,
+) -> usize
+    ensures within { result ≤ length room.new }
+    ensures count { result
+        ≡ min (length room.old) (length (found_from image.now header table.now offset)) }
+    ensures bytes { room.new ≡ filled (found_from image.now header table.now offset) room.old }
+    ensures behind { drop result room.new ≡ drop result room.old }
+    ensures lost { lost.new ≡ lost_from image.now header table.now (offset + result) }
+{
+    let count = read_up_to_gap(image, header, table, offset, room);
+    *lost = match offset.checked_add(count) {
+        Some(at) => lost_from(image, header, table, at),
+        None => 0,
+    };
+    count
+}

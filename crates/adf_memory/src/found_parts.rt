@@ -1,0 +1,66 @@
+// The table of the parts that a survey has at blocks.
+
+ghost use Rattle.std.specs.Prelude.{◌≡◌, ◌≢◌, ◌⊎◌, []};
+ghost use Rattle.adf_findings.specs.Survey.{OnSurvey};
+ghost use Rattle.adf_memory.specs.FoundFiles.{part_at, part_table};
+ghost use Rattle.adf_memory.specs.FoundTables.{owner_number};
+ghost use Rattle.adf_memory.specs.Rooms.{filled};
+ghost use Rattle.adf_memory.specs.Verdicts.{WantsMemory};
+
+use crate::found_tables::owner_number;
+use crate::tables::put;
+use adf_blocks::Cause;
+use adf_findings::{Survey, survey};
+use std::alloc::Global;
+
+/// What a survey has at a block.
+#[repr(C)]
+#[derive(Clone, Copy)]
+pub struct FoundPart {
+    /// The number of the entry that has the block; 0 for a block of the root or the bitmap, and for one that no part has.
+    pub node: usize,
+    /// The number of the data block of a file that it is, from 1; otherwise 0.
+    pub number: u32,
+}
+
+// The row of a block.
+fn part_at(survey: &Survey<'_>, b: u32) -> FoundPart
+    ensures { OnSurvey survey.now.image (λ w _. result ≡ part_at w b) }
+{
+    FoundPart {
+        node: owner_number(survey.entry_at(b)),
+        number: survey.data_number(b),
+    }
+}
+
+// Fills the table as far as there is room.
+fn put_parts(survey: &Survey<'_>, room: &mut [FoundPart])
+    ensures { OnSurvey survey.now.image (λ w _. room.new ≡ filled (part_table survey.now.image w) room.old) }
+{
+    let Some(opening) = survey.opening() else {
+        return;
+    };
+    for b in 0..opening.blocks {
+        put(room, b as usize, part_at(survey, b));
+    }
+}
+
+/// Surveys an image and fills a table with a row for each of its blocks, as far as it has room; with none if nothing of the
+/// image is taken. Returns 0, or the number of `NoMemory` if memory ran out.
+pub fn put_found_parts(alloc: Global, image: &[u8], parts: &mut [FoundPart]) -> u8
+    ensures number { (result ≡ 0) ⊎ WantsMemory result }
+
+    // The table is that of the image's one survey.
+    ensures parts { result ≡ 0 → OnSurvey image.now (λ w _. parts.new ≡ filled (part_table image.now w) parts.old) }
+
+    // If memory ran out, the table is unchanged.
+    ensures unchanged { WantsMemory result → parts.new ≡ parts.old }
+{
+    match survey(alloc, image) {
+        Ok(found) => {
+            put_parts(&found, parts);
+            0
+        }
+        Err(_) => Cause::NoMemory.number(),
+    }
+}
