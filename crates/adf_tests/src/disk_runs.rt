@@ -290,8 +290,11 @@ fn long_disks_are_listed(rt: HostRuntime) -> Result<(), Fail> {
 
 // Words of DH0 for other names: `D/0`, `D:0`, none, and 40 bytes, of which `list` writes 31.
 const SLASH: &[(usize, u32)] = &[(9, 0x0344_2F30)];
+
 const COLON: &[(usize, u32)] = &[(9, 0x0344_3A30)];
+
 const UNNAMED: &[(usize, u32)] = &[(9, 0)];
+
 const FORTY: &[(usize, u32)] = &[
     (9, 0x2844_4830),
     (10, 0x4242_4242),
@@ -330,7 +333,11 @@ const REFUSED: &[(&str, Change<'static>, &str)] = &[
     ("D\\x2f", (2, SLASH), "no such partition\n"),
     ("D\\x2f0", (2, COLON), "no such partition\n"),
     ("DH0", (2, FORTY), "no such partition\n"),
-    ("DH0BBBBBBBBBBBBBBBBBBBBBBBBBBBCD", (2, FORTY), "no such partition\n"),
+    (
+        "DH0BBBBBBBBBBBBBBBBBBBBBBBBBBBCD",
+        (2, FORTY),
+        "no such partition\n",
+    ),
     ("2", OVER, "over partition\n"),
     ("dh1", (0, &[(4, 1024)]), "block 0: bad block size\n"),
 ];

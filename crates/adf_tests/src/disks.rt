@@ -246,6 +246,14 @@ const PLACES: &[(
         Err(PlaceFault::BeyondImage),
     ),
     (2, &[(41, 0)], Err(PlaceFault::OverTables), PLACE_1),
+    (
+        0,
+        &[(32, 20), (33, 20)],
+        Err(PlaceFault::OverTables),
+        PLACE_1,
+    ),
+    (0, &[(32, 20), (33, 19)], PLACE_0, PLACE_1),
+    (0, &[(32, 20), (33, 0)], PLACE_0, PLACE_1),
     (1, &[(41, 4)], PLACE_0, Err(PlaceFault::OverPartition)),
     (2, &[(9, 0x0044_4830)], PLACE_0, PLACE_1),
 ];
