@@ -1,0 +1,5 @@
+-- answers to orders
+pub mod Replies
+-- endings of runs
+pub mod Endings
+pub mod Commands
