@@ -3,3 +3,5 @@ pub mod Replies
 -- endings of runs
 pub mod Endings
 pub mod Commands
+-- the trees of images that are written
+pub mod Trees
