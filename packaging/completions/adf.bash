@@ -38,12 +38,7 @@ _adf_disk() {
 }
 
 _adf_boot() {
-    if ((COMP_CWORD == 1)); then
-        compopt -o default
-        COMPREPLY=($(compgen -W "install copy clear --help --version" -- "$2"))
-    else
-        compopt -o default
-    fi
+    ((COMP_CWORD > 1)) || COMPREPLY=($(compgen -W "install copy clear --help --version" -- "$2"))
 }
 
 _adf_files() {
@@ -64,5 +59,5 @@ _adf_files() {
 complete -F _adf adf
 complete -F _adf_survey adf-survey
 complete -F _adf_disk adf-disk
-complete -F _adf_boot adf-boot
+complete -o default -F _adf_boot adf-boot
 complete -o default -F _adf_files adf-catalogue adf-map adf-mount adf-pack adf-recipe adf-shelf adf-unpack
