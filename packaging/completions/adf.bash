@@ -37,6 +37,10 @@ _adf_disk() {
     fi
 }
 
+_adf_boot() {
+    ((COMP_CWORD > 1)) || COMPREPLY=($(compgen -W "install copy clear --help --version" -- "$2"))
+}
+
 _adf_files() {
     case $1:$2 in
         adf-mount:-*) COMPREPLY=($(compgen -W "--partition -f -o -h --help -V --version" -- "$2")) ;;
@@ -55,4 +59,5 @@ _adf_files() {
 complete -F _adf adf
 complete -F _adf_survey adf-survey
 complete -F _adf_disk adf-disk
+complete -o default -F _adf_boot adf-boot
 complete -o default -F _adf_files adf-catalogue adf-map adf-mount adf-pack adf-recipe adf-shelf adf-unpack

@@ -8,12 +8,12 @@ abbrev pub bit_step : ℕ → ℕ
 bit_step r = cond (r % 2 == 1) (bit_xor (r / 2) 0xEDB88320) (r / 2)
 
 -- the register n bits further
-abbrev pub bit_steps : ℕ → ℕ → ℕ
+unfoldable pub bit_steps : ℕ → ℕ → ℕ
 bit_steps zero r = r
 bit_steps (suc n) r = bit_step (bit_steps n r)
 
 -- the register behind one more byte
-abbrev pub byte_step : ℕ → ℕ → ℕ
+unfoldable pub byte_step : ℕ → ℕ → ℕ
 byte_step r byte = bit_steps 8 (bit_xor r byte)
 
 -- the CRC-32 of bytes

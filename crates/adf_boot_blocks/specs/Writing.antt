@@ -5,7 +5,7 @@ use Rattle.adf_boot_blocks.specs.BootBlocks.{with_sum}
 use Rattle.adf_boot_blocks.specs.declared.boot.TheConstants.{BOOT_LEN, CODE, ROOT}
 
 -- the image without code: zeros behind its type
-abbrev pub cleared : List ℕ → List ℕ
+unfoldable pub cleared : List ℕ → List ℕ
 cleared image = with_bytes image 4 (replicate (BOOT_LEN - 4) 0)
 
 -- the image with the boot blocks of another, and its own type

@@ -15,6 +15,7 @@ fn bit_step(register: u32) -> u32
 }
 
 // The register behind one more byte.
+#[tactic(auto, unfolding(crate::specs::Crc::bit_steps, crate::specs::Crc::byte_step))]
 fn byte_step(register: u32, byte: u8) -> u32
     ensures { result ≡ byte_step register byte }
 {

@@ -21,7 +21,7 @@ fn set_sum(image: &mut [u8])
 }
 
 /// Writes zeros in place of the boot blocks behind the type.
-#[tactic(auto, using(crate::proofs::Writes::other_bytes, crate::proofs::Writes::other_word, crate::proofs::Writes::same_boot, crate::proofs::Writes::bootable))]
+#[tactic(auto, using(crate::proofs::Writes::other_bytes, crate::proofs::Writes::same_boot), unfolding(crate::specs::Writing::cleared))]
 pub fn clear(image: &mut [u8])
     requires { BOOT_LEN ≤ length image.old }
     ensures exact { image.new ≡ cleared image.old }
@@ -31,7 +31,7 @@ pub fn clear(image: &mut [u8])
 }
 
 /// Writes the boot blocks of another image behind the type, with a checksum that is right.
-#[tactic(auto, using(crate::proofs::Writes::other_bytes, crate::proofs::Writes::other_word, crate::proofs::Writes::same_boot, crate::proofs::Writes::bootable))]
+#[tactic(auto, using(crate::proofs::Writes::other_bytes, crate::proofs::Writes::same_boot, crate::proofs::Writes::bootable))]
 pub fn copy(image: &mut [u8], boot: &[u8])
     requires whole { BOOT_LEN ≤ length image.old }
     requires boot { BOOT_LEN ≤ length boot.now }
@@ -44,7 +44,7 @@ pub fn copy(image: &mut [u8], boot: &[u8])
 }
 
 /// Writes code and the number of the root into the boot blocks, with zeros behind it and a checksum that is right.
-#[tactic(auto, using(crate::proofs::Writes::other_bytes, crate::proofs::Writes::other_word, crate::proofs::Writes::same_boot, crate::proofs::Writes::bootable))]
+#[tactic(auto, using(crate::proofs::Writes::other_bytes, crate::proofs::Writes::other_word, crate::proofs::Writes::bootable))]
 pub fn install(image: &mut [u8], root: u32, code: &[u8])
     requires whole { BOOT_LEN ≤ length image.old }
     requires room { CODE + length code.now ≤ BOOT_LEN }

@@ -71,8 +71,8 @@ fn unopened_line(alloc: Global, name: &str, why: Unopened) -> Result<Vec<u8>, Al
     Ok(line)
 }
 
-// Says on errors why a file is not opened, and returns the status.
-fn refuse_file<E: Sink>(alloc: Global, name: &str, why: Unopened, errors: &mut E) -> u8
+/// Says on errors why a file is not opened, and returns the status.
+pub fn refuse_file<E: Sink>(alloc: Global, name: &str, why: Unopened, errors: &mut E) -> u8
     requires { E.has_failed errors.old ≡ false }
     ensures status { result ≡ 3 }
     ensures said { Says (E.has_failed errors.new) (E.held errors.old) (E.held errors.new)

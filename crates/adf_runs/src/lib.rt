@@ -16,7 +16,7 @@ mod work_fault;
 
 pub use crate::about::{About, Telling, VERSION_NUMBER, help_as_documented, tell, telling_asked};
 pub use crate::devices::{Device, Failed, Sink, Source};
-pub use crate::file_programs::{FileProgram, WithoutFiles, run_program_on_files};
+pub use crate::file_programs::{FileProgram, WithoutFiles, refuse_file, run_program_on_files};
 pub use crate::files::{Files, SystemFiles, Unopened};
 pub use crate::inputs::read_input;
 pub use crate::named_errors::NamedErrors;

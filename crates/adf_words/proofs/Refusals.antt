@@ -3,6 +3,7 @@ use Rattle.std.proofs.Common.{◌≡◌, [], ◌∷◌, true, refl}
 use Rattle.clap.specs.Words.{IsAmong, Kinds, is_simple, is_simple_and_free}
 use Rattle.clap.specs.declared.error.kind.ErrorKind.{ErrorKind}
 use Rattle.clap.proofs.OnLiterals.{clap_on_literals}
+use Rattle.adf_words.specs.BootLine.{boot_app}
 use Rattle.adf_words.specs.CommandLine.{adf_app}
 use Rattle.adf_words.specs.DiskLine.{disk_app}
 use Rattle.adf_words.specs.ShelfLine.{shelf_app}
@@ -36,3 +37,7 @@ shelf_free = refl
 pub shelf_simple : is_simple shelf_app ≡ true
 unfolding clap_on_literals
 shelf_simple = refl
+
+pub boot_free : is_simple_and_free boot_app ≡ true
+unfolding clap_on_literals
+boot_free = refl

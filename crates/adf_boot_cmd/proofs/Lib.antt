@@ -1,0 +1,7 @@
+-- answers to orders
+pub mod Replies
+-- endings of runs
+pub mod Endings
+pub mod Commands
+-- the trees of images that are written
+pub mod Trees

@@ -1,0 +1,90 @@
+-- Images that are written have the tree of the image that they are made of.
+use Rattle.std.proofs.Common.{◌≡◌, ◌≢◌, ℕ, List, ◌++◌, ◌+◌, ◌-◌, ◌%◌, ◌≤◌, Bool, true, false, ap, sym, ◌∙◌, refl, arith, drop, take, length, replicate, slice_range, subst, nat_le, length-append, length-drop, length-take}
+use Rattle.std.specs.Prelude.{◌==◌}
+use Rattle.std.proofs.lemmas.Bool.{and_parts, leb-false, leb-true}
+use Rattle.std.proofs.lemmas.List.{drop_at, length-take-le, take-append-le, take-take}
+use Rattle.adf_base.specs.Words.{with_bytes, with_word}
+use Rattle.adf_blocks.specs.Sizes.{blocks, middle}
+use Rattle.adf_tree.specs.Tree.{Tree}
+use Rattle.adf_volume.specs.Fits.{Fits}
+use Rattle.adf_volume.specs.Layout.{Layout}
+use Rattle.adf_boot_blocks.specs.BootBlocks.{IsOtherBoot, begins_with_dos}
+use Rattle.adf_boot_blocks.specs.Writing.{cleared, copied, installed}
+use Rattle.adf_boot_blocks.specs.declared.boot.TheConstants.{BOOT_LEN, CODE, ROOT}
+use Rattle.adf_boot_blocks.specs.declared.standard.TheConstants.{STANDARD_CODE}
+use Rattle.adf_boot_blocks.proofs.OtherBoots.{other_fits}
+use Rattle.adf_boot_blocks.proofs.Writes.{other_bytes, other_next, other_sum, other_word, same_boot}
+use Rattle.adf_runs.specs.Commands.{Reply}
+use Rattle.adf_boot_cmd.proofs.Replies.{is_written, not_dos, not_whole, short_boot, sound_boot, strange_boot}
+use Rattle.adf_boot_cmd.specs.Answers.{Order, changed, clear, copy, install, is_whole, reply_of, tell, written, written_from}
+
+length_copied : (boot : List ℕ) → length (slice_range boot 4 BOOT_LEN) ≤ BOOT_LEN - 4
+length_copied boot = omega (arith, length-take {A = ℕ})
+
+other_cleared : (front : List ℕ) → BOOT_LEN ≤ length front → IsOtherBoot front (cleared front)
+unfolding cleared
+other_cleared front long = other_bytes front front 4 (replicate (BOOT_LEN - 4) 0) (same_boot front) long (omega arith) (omega arith)
+
+other_copied : (front boot : List ℕ) → BOOT_LEN ≤ length front → IsOtherBoot front (copied front boot)
+other_copied front boot long =
+    let bytes : List ℕ = slice_range boot 4 BOOT_LEN in
+    let o : IsOtherBoot front (with_bytes front 4 bytes) =
+    other_bytes front front 4 bytes (same_boot front) long (omega arith) (omega (arith, length_copied boot)) in
+    other_next front (with_bytes front 4 bytes) (copied front boot) o (other_sum (with_bytes front 4 bytes) (omega (arith, o.long)))
+
+other_installed : (front : List ℕ) (root : ℕ) (code : List ℕ) → BOOT_LEN ≤ length front → CODE + length code ≤ BOOT_LEN
+    → IsOtherBoot front (installed front root code)
+other_installed front root code long room =
+    let numbered : List ℕ = with_word (cleared front) ROOT root in
+    let o : IsOtherBoot front numbered = other_word front (cleared front) ROOT root (other_cleared front long) long (omega arith) (omega arith) in
+    let p : IsOtherBoot front (with_bytes numbered CODE code) = other_bytes front numbered CODE code o long (omega arith) room in
+    other_next front (with_bytes numbered CODE code) (installed front root code) p (other_sum (with_bytes numbered CODE code) (omega (arith, p.long)))
+
+-- the boot blocks that an order leaves, and what is behind them
+other_changed : (order : Order) (image : List ℕ) → BOOT_LEN ≤ length image → IsOtherBoot (take BOOT_LEN image) (changed order image)
+other_changed tell image long = same_boot (take BOOT_LEN image)
+other_changed install image long =
+    other_installed (take BOOT_LEN image) (middle (blocks image)) STANDARD_CODE (omega (arith, length-take-le BOOT_LEN image long)) (omega arith)
+other_changed clear image long = other_cleared (take BOOT_LEN image) (omega (arith, length-take-le BOOT_LEN image long))
+other_changed (copy boot) image long = other_copied (take BOOT_LEN image) boot (omega (arith, length-take-le BOOT_LEN image long))
+
+other_image : (image boot : List ℕ) → BOOT_LEN ≤ length image → IsOtherBoot (take BOOT_LEN image) boot → IsOtherBoot image (boot ++ drop BOOT_LEN image)
+other_image image boot long o =
+    let size : length boot ≡ BOOT_LEN = o.long ∙ length-take-le BOOT_LEN image long in
+    record {
+      long = length-append boot (drop BOOT_LEN image) ∙ omega (arith, size, length-drop BOOT_LEN image);
+      begins = take-append-le 4 boot (drop BOOT_LEN image) (omega (arith, size)) ∙ o.begins ∙ take-take 4 BOOT_LEN image (omega arith);
+      behind = drop_at boot (drop BOOT_LEN image) BOOT_LEN size;
+    }
+
+long_enough : (image : List ℕ) → is_whole image ≡ true → BOOT_LEN ≤ length image
+long_enough image w = omega (arith, leb-true 2048 (length image) (and_parts (length image % 512 == 0) (nat_le 2048 (length image)) w).1)
+
+-- what is written at status 0, of an image that begins with `DOS`
+written_fits : (order : Order) (image : List ℕ) (t : Tree) (l : Layout) (whole dos : Bool) → is_whole image ≡ whole → begins_with_dos image ≡ dos
+    → (written order image).status ≡ 0 → Fits image t l → Fits (written order image).output t l
+written_fits order image t l false dos w d s fit = let no : 1 ≡ 0 = rw (not_whole order image w) at s in absurd (omega (arith, no))
+written_fits order image t l true false w d s fit = let no : 1 ≡ 0 = rw (not_dos order image w d) at s in absurd (omega (arith, no))
+written_fits order image t l true true w d s fit =
+    let long : BOOT_LEN ≤ length image = long_enough image w in
+    subst (λ (r : Reply). Fits r.output t l) (sym (is_written order image w d))
+    (other_fits image (changed order image ++ drop BOOT_LEN image) (other_image image (changed order image) long (other_changed order image long)) t l fit)
+
+copied_fits : (boot : List ℕ) (order : Order) (image : List ℕ) (t : Tree) (l : Layout) (has dos : Bool) → nat_le BOOT_LEN (length boot) ≡ has
+    → begins_with_dos boot ≡ dos → (written_from boot order image).status ≡ 0 → Fits image t l → Fits (written_from boot order image).output t l
+copied_fits boot order image t l false dos h d s fit =
+    let no : 1 ≡ 0 = rw (short_boot boot order image (leb-false BOOT_LEN (length boot) h)) at s in absurd (omega (arith, no))
+copied_fits boot order image t l true false h d s fit =
+    let no : 1 ≡ 0 = rw (strange_boot boot order image (leb-true BOOT_LEN (length boot) h) d) at s in absurd (omega (arith, no))
+copied_fits boot order image t l true true h d s fit =
+    let same = sound_boot boot order image (leb-true BOOT_LEN (length boot) h) d in
+    subst (λ (r : Reply). Fits r.output t l) (sym same)
+    (written_fits order image t l (is_whole image) (begins_with_dos image) refl refl (ap (λ (r : Reply). r.status) (sym same) ∙ s) fit)
+
+pub trees_stay : (order : Order) (image : List ℕ) (t : Tree) (l : Layout) → order ≢ tell → (reply_of order image).status ≡ 0
+    → Fits image t l → Fits (reply_of order image).output t l
+trees_stay tell image t l writes s fit = absurd (writes refl)
+trees_stay install image t l writes s fit = written_fits install image t l (is_whole image) (begins_with_dos image) refl refl s fit
+trees_stay clear image t l writes s fit = written_fits clear image t l (is_whole image) (begins_with_dos image) refl refl s fit
+trees_stay (copy boot) image t l writes s fit =
+    copied_fits boot (copy boot) image t l (nat_le BOOT_LEN (length boot)) (begins_with_dos boot) refl refl s fit

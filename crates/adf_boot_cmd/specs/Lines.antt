@@ -1,0 +1,32 @@
+-- The line of the boot blocks of an image, which begins with them.
+use Rattle.std.specs.Prelude.{◌==◌, not, ℕ, List, ◌++◌, codes, if◌then◌else◌, slice_index, take}
+use Rattle.adf_manifest.specs.Texts.{hex_word}
+use Rattle.adf_boot_blocks.specs.BootBlocks.{begins_with_dos, has_no_code, has_right_sum}
+use Rattle.adf_boot_blocks.specs.Crc.{crc_32}
+use Rattle.adf_boot_blocks.specs.declared.boot.TheConstants.{BOOT_LEN}
+
+-- whether an Amiga starts from the boot blocks, or why it does not, in one word
+abbrev pub state_text : List ℕ → List ℕ
+state_text image =
+    if not (begins_with_dos image) then codes "not-dos"
+    else (if has_right_sum image then codes "bootable"
+    else (if has_no_code image then codes "no-code" else codes "bad-sum"))
+
+-- the type of a volume, in one word
+abbrev pub type_text : ℕ → List ℕ
+type_text n =
+    if n == 0 then codes "ofs"
+    else (if n == 1 then codes "ffs"
+    else (if n == 2 then codes "ofs-intl"
+    else (if n == 3 then codes "ffs-intl"
+    else (if n == 4 then codes "ofs-dc"
+    else (if n == 5 then codes "ffs-dc" else codes "other")))))
+
+-- the type of an image, or a dash where it does not begin with `DOS`
+abbrev pub type_of : List ℕ → List ℕ
+type_of image = if begins_with_dos image then type_text (slice_index image 3) else codes "-"
+
+-- the line: the state, the type, and the CRC-32 of the boot blocks
+abbrev pub boot_line : List ℕ → List ℕ
+boot_line image =
+    state_text image ++ (codes " " ++ (type_of image ++ (codes " " ++ (hex_word (crc_32 (take BOOT_LEN image)) ++ codes "\n"))))

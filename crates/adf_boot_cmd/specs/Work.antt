@@ -1,0 +1,26 @@
+-- What is done with the boot blocks of an image.
+use Rattle.std.specs.Prelude.{◌≡◌, ◌≤◌, ℕ, List, length}
+use Rattle.adf_boot_blocks.specs.declared.boot.TheConstants.{BOOT_LEN}
+use Rattle.adf_boot_cmd.specs.Answers.{Order, clear, copy, install, tell}
+use Rattle.adf_boot_cmd.specs.declared.boot_file.BootFault.{BootFault}
+use Rattle.adf_boot_cmd.specs.declared.boot_file.BootFault.TheVariants.{Unopened, Unread, NoMemory}
+use Rattle.adf_boot_cmd.specs.declared.work.Work.{Work}
+use Rattle.adf_boot_cmd.specs.declared.work.Work.TheVariants.{Tell, Install, Clear, Copy}
+
+-- the order that is done
+abbrev pub order_of : Work → Order
+order_of Tell = tell
+order_of Install = install
+order_of Clear = clear
+order_of (Copy boot) = copy boot.items
+
+-- the boot file of an order, if it has one, has boot blocks
+abbrev pub HasBoot : Order → Type 0
+HasBoot (copy boot) = BOOT_LEN ≤ length boot
+HasBoot _ = Unit {0}
+
+-- the fault is one of the boot file of this name
+abbrev pub IsFaultOf : List ℕ → BootFault → Type 0
+IsFaultOf name (Unopened named why) = named.now ≡ name
+IsFaultOf name Unread = Unit {0}
+IsFaultOf name NoMemory = Unit {0}

@@ -1,0 +1,66 @@
+// The line of boot blocks.
+
+ghost use Rattle.std.specs.Prelude.{◌≡◌, ◌≤◌, length, slice_index, IfOk};
+ghost use Rattle.adf_boot_blocks.specs.declared.boot.TheConstants.{BOOT_LEN};
+ghost use Rattle.adf_boot_cmd.specs.Lines.{boot_line, state_text, type_of, type_text};
+
+use adf_boot_blocks::{BOOT_LEN, begins_with_dos, crc_32, has_no_code, has_right_sum};
+use adf_texts::push_hex;
+use std::alloc::{AllocError, Global};
+
+// Whether an Amiga starts from the boot blocks, or why it does not.
+fn state_text(image: &[u8]) -> &'static str
+    requires { BOOT_LEN ≤ length image.now }
+    ensures { result.now ≡ state_text image.now }
+{
+    if !begins_with_dos(image) {
+        "not-dos"
+    } else if has_right_sum(image) {
+        "bootable"
+    } else if has_no_code(image) {
+        "no-code"
+    } else {
+        "bad-sum"
+    }
+}
+
+// The type of a volume.
+fn type_text(number: u8) -> &'static str
+    ensures { result.now ≡ type_text number }
+{
+    match number {
+        0 => "ofs",
+        1 => "ffs",
+        2 => "ofs-intl",
+        3 => "ffs-intl",
+        4 => "ofs-dc",
+        5 => "ffs-dc",
+        _ => "other",
+    }
+}
+
+// The type of an image.
+fn type_of(image: &[u8]) -> &'static str
+    requires { BOOT_LEN ≤ length image.now }
+    ensures { result.now ≡ type_of image.now }
+{
+    if begins_with_dos(image) {
+        type_text(image[3])
+    } else {
+        "-"
+    }
+}
+
+/// The line of the boot blocks of an image: whether an Amiga starts from them or why it does not, their type, and their CRC-32.
+pub fn boot_line(alloc: Global, image: &[u8]) -> Result<Vec<u8>, AllocError>
+    requires { BOOT_LEN ≤ length image.now }
+    ensures { IfOk result (λ line. line.items ≡ boot_line image.now) }
+{
+    let mut line = Vec::new(alloc);
+    line.extend_from_slice(state_text(image).as_bytes())?;
+    line.extend_from_slice(b" ")?;
+    line.extend_from_slice(type_of(image).as_bytes())?;
+    line.extend_from_slice(b" ")?;
+    push_hex(&mut line, crc_32(&image[..BOOT_LEN]), b'\n')?;
+    Ok(line)
+}

@@ -1,0 +1,58 @@
+// The whole command.
+
+ghost use Rattle.std.specs.Prelude.{◌≡◌, ◌⊎◌, List, ℕ, false};
+ghost use Rattle.adf_runs.specs.FileRuns.{RunEndsOnFiles};
+ghost use Rattle.adf_words.specs.BootLine.{AreRefusedByBoot, AsksBoot, boot_file, copy};
+ghost use Rattle.adf_words.specs.CommandLine.{texts_of};
+ghost use Rattle.adf_boot_cmd.specs.Answers.{LacksBoot, boot_command};
+
+use crate::boot_file::work_for;
+use adf_runs::{Files, Sink, Source, WorkFault, refuse_file};
+use adf_words::{BOOT_USAGE as USAGE, parse_boot};
+use std::alloc::Global;
+
+/// Does what the words ask for, on the file that they name or else on the input; the first one is the program's name. Returns the
+/// status:
+///
+/// - 0 if an Amiga starts from the boot blocks that output tells of, or if an image is written;
+/// - 1 if it does not, or if the image or the boot file has no boot blocks or does not begin with `DOS`, which is said on errors;
+/// - 2 if the words are not accepted, which is said on errors; nothing is read, and output is empty;
+/// - 3 if a file, a device or an allocation failed, which is said on errors.
+pub fn run<F: Files, R: Source, W: Sink, E: Sink>(
+    alloc: Global,
+    words: &[&str],
+    files: &F,
+    input: &mut R,
+    output: &mut W,
+    errors: &mut E,
+) -> u8
+    requires reads { R.has_failed input.old ≡ false }
+    requires writes { W.has_failed output.old ≡ false }
+    requires tells { E.has_failed errors.old ≡ false }
+    ensures ends { RunEndsOnFiles (boot_command (F.bytes_of files.now)) boot_file (texts_of words.now)
+        (R.left input.old) (R.has_failed input.new)
+        (F.bytes_of files.now) (F.may_fail files.now) (F.may_open files.now) result
+        (W.has_failed output.new) (W.held output.old) (W.held output.new)
+        (E.has_failed errors.new) (E.held errors.old) (E.held errors.new)
+        ⊎ ((name : List ℕ) × AsksBoot (texts_of words.now) (copy name)
+        × LacksBoot name result (W.held output.old) (W.held output.new)
+        (E.has_failed errors.new) (E.held errors.old) (E.held errors.new)) }
+    ensures untouched { AreRefusedByBoot (texts_of words.now)
+        → (input.new ≡ input.old) × (output.new ≡ output.old) }
+{
+    let asked = match parse_boot(alloc, words) {
+        Ok(asked) => asked,
+        Err(fault) => return WorkFault::from(fault).refuse(USAGE, errors),
+    };
+    let work = match work_for(alloc, files, asked.request) {
+        Ok(work) => work,
+        Err(fault) => return fault.refuse(alloc, errors),
+    };
+    match asked.file {
+        None => work.on_input(alloc, input, output).finish(errors),
+        Some(name) => match files.open(name.as_bytes()) {
+            Ok(mut source) => work.on_input(alloc, &mut source, output).finish(errors),
+            Err(why) => refuse_file(alloc, name, why, errors),
+        },
+    }
+}

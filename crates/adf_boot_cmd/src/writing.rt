@@ -1,0 +1,150 @@
+// Images with other boot blocks.
+
+ghost use Rattle.std.specs.Prelude.{◌≡◌, ◌≤◌, ◌++◌, List, Option, ℕ, codes, false, drop, length};
+ghost use Rattle.adf_boot_blocks.specs.declared.boot.TheConstants.{BOOT_LEN};
+ghost use Rattle.adf_runs.specs.Commands.{on_errors, on_output};
+ghost use Rattle.adf_runs.specs.Outcomes.{EndsBy, is_read_fault, is_write_fault};
+ghost use Rattle.adf_boot_cmd.specs.Answers.{changed, is_whole, line_status, told, written, written_from};
+ghost use Rattle.adf_boot_cmd.specs.Work.{HasBoot, order_of};
+ghost use Rattle.adf_boot_cmd.specs.declared.work.TheConstants.{MOST_BYTES};
+
+use crate::line::boot_line;
+use crate::work::{MOST_BYTES, Work};
+use adf_base::BLOCK_LEN;
+use adf_boot_blocks::{
+    BOOT_LEN, STANDARD_CODE, begins_with_dos, clear, copy, install, is_bootable,
+};
+use adf_runs::{Outcome, Sink, write_all, write_both};
+use std::alloc::Global;
+
+/// Refuses with a text and a line feed on errors; output gets nothing.
+pub fn refuse(alloc: Global, text: &str) -> Outcome
+    ensures ends { (held : Option (List ℕ)) → EndsBy (λ reply. reply ≡ on_errors 1 (text.now ++ codes "\n")) result held held }
+    ensures read { is_read_fault result ≡ false }
+    ensures written { is_write_fault result ≡ false }
+{
+    match format!(in alloc; "{text}\n") {
+        Ok(line) => Outcome::Refused(line),
+        Err(_) => Outcome::NoMemory,
+    }
+}
+
+// Writes a text, at status 0 if an Amiga starts from the boot blocks that it tells of, else at status 1.
+fn write_line<W: Sink>(output: &mut W, line: &[u8], bootable: bool) -> Outcome
+    requires { W.has_failed output.old ≡ false }
+    ensures ends { EndsBy (λ reply. reply ≡ on_output (line_status bootable) line.now) result
+        (W.held output.old) (W.held output.new) }
+    ensures read { is_read_fault result ≡ false }
+    ensures written { W.has_failed output.new ≡ is_write_fault result }
+{
+    match write_all(output, line) {
+        Ok(()) if bootable => Outcome::Done,
+        Ok(()) => Outcome::FaultWritten,
+        Err(_) => Outcome::WriteFault,
+    }
+}
+
+/// Writes the line of the boot blocks of an image.
+pub fn tell<W: Sink>(alloc: Global, image: &[u8], output: &mut W) -> Outcome
+    requires { W.has_failed output.old ≡ false }
+    ensures ends { EndsBy (λ reply. reply ≡ told image.now) result (W.held output.old) (W.held output.new) }
+    ensures read { is_read_fault result ≡ false }
+    ensures written { W.has_failed output.new ≡ is_write_fault result }
+{
+    if image.len() < BOOT_LEN {
+        return refuse(alloc, "bad size");
+    }
+    match boot_line(alloc, image) {
+        Ok(line) => write_line(output, &line, is_bootable(image)),
+        Err(_) => Outcome::NoMemory,
+    }
+}
+
+// Writes boot blocks, and what is behind those of an image.
+fn write_parts<W: Sink>(boot: &[u8], behind: &[u8], output: &mut W) -> Outcome
+    requires { W.has_failed output.old ≡ false }
+    ensures ends { EndsBy (λ reply. reply ≡ on_output 0 (boot.now ++ behind.now)) result
+        (W.held output.old) (W.held output.new) }
+    ensures read { is_read_fault result ≡ false }
+    ensures written { W.has_failed output.new ≡ is_write_fault result }
+{
+    match write_both(output, boot, behind) {
+        Ok(()) => Outcome::Done,
+        Err(_) => Outcome::WriteFault,
+    }
+}
+
+// Whether an image is whole blocks, four or more.
+fn is_whole(image: &[u8]) -> bool
+    ensures { result ≡ is_whole image.now }
+{
+    image.len() % BLOCK_LEN == 0 && image.len() >= 4 * BLOCK_LEN
+}
+
+impl Work {
+    // The boot blocks that an image gets.
+    fn changed(&self, image: &[u8]) -> [u8; BOOT_LEN]
+        requires whole { BOOT_LEN ≤ length image.now }
+        requires few { length image.now ≤ MOST_BYTES }
+        requires boot { HasBoot (order_of self.now) }
+        ensures { result ≡ changed (order_of self.now) image.now }
+    {
+        let mut boot = [0; BOOT_LEN];
+        boot.copy_from_slice(&image[..BOOT_LEN]);
+        match self {
+            Work::Tell => {}
+            Work::Install => {
+                let root = (image.len() / BLOCK_LEN / 2) as u32;
+                install(&mut boot, root, &STANDARD_CODE);
+            }
+            Work::Clear => clear(&mut boot),
+            Work::Copy(from) => copy(&mut boot, from),
+        }
+        boot
+    }
+
+    /// Writes an image with other boot blocks.
+    pub fn write<W: Sink>(&self, alloc: Global, image: &[u8], output: &mut W) -> Outcome
+        requires works { W.has_failed output.old ≡ false }
+        requires few { length image.now ≤ MOST_BYTES }
+        requires boot { HasBoot (order_of self.now) }
+        ensures ends { EndsBy (λ reply. reply ≡ written (order_of self.now) image.now) result
+            (W.held output.old) (W.held output.new) }
+        ensures read { is_read_fault result ≡ false }
+        ensures written { W.has_failed output.new ≡ is_write_fault result }
+    {
+        if !is_whole(image) {
+            return refuse(alloc, "bad size");
+        }
+        if !begins_with_dos(image) {
+            return refuse(alloc, "not dos");
+        }
+        let boot = self.changed(image);
+        write_parts(&boot, &image[BOOT_LEN..], output)
+    }
+
+    /// Writes an image with the boot blocks of a boot file, if it has them.
+    pub fn write_from<W: Sink>(
+        &self,
+        alloc: Global,
+        boot: &[u8],
+        image: &[u8],
+        output: &mut W,
+    ) -> Outcome
+        requires works { W.has_failed output.old ≡ false }
+        requires few { length image.now ≤ MOST_BYTES }
+        requires boot { BOOT_LEN ≤ length boot.now → HasBoot (order_of self.now) }
+        ensures ends { EndsBy (λ reply. reply ≡ written_from boot.now (order_of self.now) image.now) result
+            (W.held output.old) (W.held output.new) }
+        ensures read { is_read_fault result ≡ false }
+        ensures written { W.has_failed output.new ≡ is_write_fault result }
+    {
+        if boot.len() < BOOT_LEN {
+            return refuse(alloc, "boot file: bad size");
+        }
+        if !begins_with_dos(boot) {
+            return refuse(alloc, "boot file: not dos");
+        }
+        self.write(alloc, image, output)
+    }
+}
