@@ -44,6 +44,7 @@ _adf_boot() {
 _adf_files() {
     case $1:$2 in
         adf-mount:-*) COMPREPLY=($(compgen -W "--partition -f -o -h --help -V --version" -- "$2")) ;;
+        adf-edit:-*) COMPREPLY=($(compgen -W "--help --version" -- "$2")) ;;
         adf-shelf:-*) COMPREPLY=($(compgen -W "--null --help --version" -- "$2")) ;;
         adf-catalogue:-*) COMPREPLY=($(compgen -W "--tsv --rescue --fresh --escape --index-text --dat -h --help --version" -- "$2")) ;;
         adf-pack:-*)
@@ -60,4 +61,4 @@ complete -F _adf adf
 complete -F _adf_survey adf-survey
 complete -F _adf_disk adf-disk
 complete -o default -F _adf_boot adf-boot
-complete -o default -F _adf_files adf-catalogue adf-map adf-mount adf-pack adf-recipe adf-shelf adf-unpack
+complete -o default -F _adf_files adf-catalogue adf-edit adf-map adf-mount adf-pack adf-recipe adf-shelf adf-unpack

@@ -1,5 +1,6 @@
 -- Additions that all have room, and the additions of a tree. xs are additions, x is the next one, es the entries of a tree.
-use Rattle.std.proofs.Common.{◌≡◌, ◌≢◌, ◌<◌, ◌≤◌, ◌++◌, ◌∷◌, ◌+◌, ◌-◌, ◌==◌, ℕ, List, [], Some, Ok, Err, Option, Result, length, get_or, take, arith, ap, sym, refl, subst, inl, inr, ◌∙◌, IsOk, OnOk, is_ok, if◌then◌else◌, zero, suc}
+use Rattle.std.proofs.Common.{◌≡◌, ◌≢◌, ◌<◌, ◌≤◌, ◌++◌, ◌∷◌, ◌+◌, ◌-◌, ◌==◌, ℕ, List, [], Some, Ok, Err, Option, Result, length, get_or}
+use Rattle.std.proofs.Common.{take, arith, ap, sym, refl, subst, inl, inr, ◌∙◌, IsOk, OnOk, is_ok, if◌then◌else◌, zero, suc}
 use Rattle.std.proofs.Math.Seq.{take-append_seam, get_or-append_seam}
 use Rattle.std.proofs.Math.ListN.{get_or-append}
 use Rattle.std.proofs.lemmas.Bool.{cases_Bool, eqb-true, ne_eqb}

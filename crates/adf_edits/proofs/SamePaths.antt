@@ -5,7 +5,8 @@ use Rattle.std.proofs.lemmas.Grind.{common_steps}
 use Rattle.adf_names.specs.Texts.{uppers}
 use Rattle.adf_tree.specs.Additions.{same_path}
 
-pub same_all : (a b : List (List ℕ)) → length a ≡ length b → ((k : ℕ) → k < length a → bytes_eq (uppers (get_or a k [])) (uppers (get_or b k [])) ≡ true)
+pub same_all : (a b : List (List ℕ)) → length a ≡ length b
+    → ((k : ℕ) → k < length a → bytes_eq (uppers (get_or a k [])) (uppers (get_or b k [])) ≡ true)
     → same_path a b ≡ true
 same_all [] [] e h = grind (arith, common_steps)
 same_all [] (y ∷ ys) e h = absurd (omega arith)
@@ -26,4 +27,5 @@ pub same_not : (a b : List (List ℕ)) (k : ℕ) → k < length a → k < length
 same_not [] b k la lb h = absurd (omega arith)
 same_not (x ∷ xs) [] k la lb h = absurd (omega arith)
 same_not (x ∷ xs) (y ∷ ys) zero la lb h = grind (arith, common_steps)
-same_not (x ∷ xs) (y ∷ ys) (suc k) la lb h = let rest : same_path xs ys ≡ false = same_not xs ys k (omega arith) (omega arith) h in grind (arith, common_steps)
+same_not (x ∷ xs) (y ∷ ys) (suc k) la lb h =
+    let rest : same_path xs ys ≡ false = same_not xs ys k (omega arith) (omega arith) h in grind (arith, common_steps)

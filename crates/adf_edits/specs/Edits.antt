@@ -1,5 +1,6 @@
 -- What an edit makes of a tree. xs are the additions of the tree, x is one of them.
-use Rattle.std.specs.Prelude.{◌==◌, ◌&&◌, ◌||◌, not, ℕ, Bool, List, [], ◌∷◌, ◌++◌, Option, Some, None, Result, Ok, Err, codes, drop, take, if◌then◌else◌, length, map}
+use Rattle.std.specs.Prelude.{◌==◌, ◌&&◌, ◌||◌, not, ℕ, Bool, List, [], ◌∷◌, ◌++◌, Option, Some, None, Result, Ok, Err, codes, drop, take}
+use Rattle.std.specs.Prelude.{if◌then◌else◌, length, map}
 use Rattle.std.specs.List.{filter, list_any}
 use Rattle.adf_base.specs.declared.dates.TheConstants.{NO_STAMP}
 use Rattle.adf_names.specs.Meta.{new_meta}
@@ -15,7 +16,8 @@ use Rattle.adf_edits.specs.declared.edits.Change.TheVariants.{Note, Protect, Dat
 use Rattle.adf_edits.specs.declared.edits.Edit.{Edit}
 use Rattle.adf_edits.specs.declared.edits.Edit.TheVariants as edit
 use Rattle.adf_edits.specs.declared.edits.EditFault.{EditFault}
-use Rattle.adf_edits.specs.declared.edits.EditFault.TheVariants.{NoSuchPath, NotEmpty, WithinItself, EmptyPath, NoParent, ParentIsFile, Exists, NoMemory}
+use Rattle.adf_edits.specs.declared.edits.EditFault.TheVariants.{NoSuchPath, NotEmpty, WithinItself, EmptyPath, NoParent, ParentIsFile}
+use Rattle.adf_edits.specs.declared.edits.EditFault.TheVariants.{Exists, NoMemory}
 
 -- one edit of a tree
 pub data EditValue : Type 0 where

@@ -6,5 +6,6 @@ use Rattle.adf_edits.proofs.edits.change_items.Goals as goal
 pub loop-item-preserved : goal.loop-item-preserved
 loop-item-preserved c =
     rw (c.change_item.ensures, ← c.item-item.is)
-    (map_over_more (changed_if c.args.path.now c.args.change.now) c.args.items.now c.loop-item.items c.loop-item.item-index c.item-item.result (omega arith)
+    (map_over_more (changed_if c.args.path.now c.args.change.now) c.args.items.now c.loop-item.items
+    c.loop-item.item-index c.item-item.result (omega arith)
     c.loop-item.invariant c.item-item.is)

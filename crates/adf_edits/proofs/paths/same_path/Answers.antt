@@ -6,4 +6,5 @@ use Rattle.adf_edits.proofs.paths.same_path.Goals as goal
 
 pub returns-then-not-same : goal.returns-then-not-same
 returns-then-not-same c =
-    sym (same_not c.args.a.now c.args.b.now c.loop-i.i (omega (arith, c.loop-i-test.true, c.loop-i.auto.i-end)) (grind (arith, nat_tests)) (grind (arith, common_steps)))
+    sym (same_not c.args.a.now c.args.b.now c.loop-i.i (omega (arith, c.loop-i-test.true, c.loop-i.auto.i-end)) (grind (arith, nat_tests))
+    (grind (arith, common_steps)))

@@ -1,0 +1,105 @@
+-- Edits one after the other, and the bytes of their files.
+use Rattle.std.proofs.Common.{◌≡◌, ◌<◌, ◌≤◌, ◌+◌, ℕ, suc, List, [], ◌∷◌, ◌++◌, take, Option, Some, None, Result, Ok, Err, length, map, drop}
+use Rattle.std.proofs.Common.{get_or, nat_lt, true, false, ap, refl, sym, subst, inr, arith, ◌∙◌}
+use Rattle.std.proofs.Math.Seq.{drop-cons, take-append_seam}
+use Rattle.std.proofs.lemmas.List.{drop_all}
+use Rattle.adf_blocks.specs.Sizes.{blocks}
+use Rattle.adf_boot_blocks.proofs.OtherBoots.{other_fits}
+use Rattle.adf_boot_blocks.specs.BootBlocks.{IsOtherBoot}
+use Rattle.adf_build.specs.Building.{IsBuildable}
+use Rattle.adf_build.specs.Laid.{volume}
+use Rattle.adf_build.specs.Plan.{planned}
+use Rattle.adf_edits.specs.Edits.{EditValue, edit_value, edited}
+use Rattle.adf_edits.specs.Outline.{OutlineValue}
+use Rattle.adf_edits.specs.declared.edits.Edit.{Edit}
+use Rattle.adf_edits.specs.declared.edits.EditFault.{EditFault}
+use Rattle.adf_tree.specs.Tree.{Tree}
+use Rattle.adf_volume.specs.Fits.{Fits}
+use Rattle.adf_volume.specs.Layout.{Layout}
+use Rattle.adf_edit_cmd.specs.Edited.{IsLaidOver, StopsOn, StopsTree, after, next_of, with_boot_of}
+use Rattle.adf_edit_cmd.specs.Script.{behind_file, behind_files, size_of}
+use Rattle.adf_edit_cmd.specs.declared.stop.Stop.{Stop}
+use Rattle.adf_edit_cmd.specs.declared.stop.Stop.TheVariants.{Line}
+
+pub after_ok : (n : ℕ) (e : EditValue) (es : List EditValue) (given : List ℕ) (o p : OutlineValue) → edited e given o ≡ Ok p
+    → after n (e ∷ es) given o ≡ after (n + 1) es (behind_file e given) p
+unfolding after
+after_ok n e es given o p is = ap (λ r. next_of n r (after (n + 1) es (behind_file e given))) is
+
+pub after_err : (n : ℕ) (e : EditValue) (es : List EditValue) (given : List ℕ) (o : OutlineValue) (f : EditFault) → edited e given o ≡ Err f
+    → after n (e ∷ es) given o ≡ Err (Line n f)
+unfolding after
+after_err n e es given o f is = ap (λ r. next_of n r (after (n + 1) es (behind_file e given))) is
+
+pub after_all : (n : ℕ) (given : List ℕ) (o : OutlineValue) → after n [] given o ≡ Ok o
+unfolding after
+after_all n given o = refl
+
+pub files_none : (given : List ℕ) → behind_files [] given ≡ Some given
+unfolding behind_files
+files_none given = refl
+
+pub file_fits : (e : EditValue) (es : List EditValue) (given : List ℕ) → nat_lt (length given) (size_of e) ≡ false
+    → behind_files (e ∷ es) given ≡ behind_files es (behind_file e given)
+unfolding behind_files
+file_fits e es given h = rw h refl
+
+pub file_short : (e : EditValue) (es : List EditValue) (given : List ℕ) → nat_lt (length given) (size_of e) ≡ true
+    → behind_files (e ∷ es) given ≡ None
+unfolding behind_files
+file_short e es given h = rw h refl
+
+-- the next edit is applied
+pub edit_next : (n : ℕ) (xs ys : List Edit) (e : Edit) (given rest : List ℕ) (o p : OutlineValue) (r : Result OutlineValue Stop) → xs ≡ e ∷ ys
+    → edited (edit_value e) given o ≡ Ok p → rest ≡ behind_file (edit_value e) given → r ≡ after n (map edit_value xs) given o
+    → r ≡ after (n + 1) (map edit_value ys) rest p
+edit_next n xs ys e given rest o p r front is tail h =
+    h ∙ (ap (λ zs. after n (map edit_value zs) given o) front
+    ∙ (after_ok n (edit_value e) (map edit_value ys) given o p is ∙ ap (λ g. after (n + 1) (map edit_value ys) g p) (sym tail)))
+
+pub edits_over : (n : ℕ) (xs : List Edit) (given : List ℕ) (o : OutlineValue) (r : Result OutlineValue Stop)
+    → xs ≡ [] → r ≡ after n (map edit_value xs) given o
+    → r ≡ Ok o
+edits_over n xs given o r none h = h ∙ (ap (λ zs. after n (map edit_value zs) given o) none ∙ after_all n given o)
+
+-- the bytes of the next edit
+files_from : (es : List Edit) (i : ℕ) (e : Edit) → i < length es → get_or es i e ≡ e
+    → map edit_value (drop i es) ≡ edit_value e ∷ map edit_value (drop (i + 1) es)
+files_from es i e lt is =
+    ap (map edit_value) (drop-cons es i e lt ∙ (ap (λ x. x ∷ drop (suc i) es) is ∙ ap (λ k. e ∷ drop k es) (suc_plus i)))
+  where
+    suc_plus : (k : ℕ) → suc k ≡ k + 1
+    suc_plus k = omega arith
+
+pub file_next : (es : List Edit) (i : ℕ) (e : Edit) (given rest : List ℕ) (r : Option (List ℕ)) → i < length es → get_or es i e ≡ e
+    → nat_lt (length given) (size_of (edit_value e)) ≡ false → rest ≡ behind_file (edit_value e) given
+    → r ≡ behind_files (map edit_value (drop i es)) given → r ≡ behind_files (map edit_value (drop (i + 1) es)) rest
+file_next es i e given rest r lt is fits tail h =
+    h ∙ (ap (λ fs. behind_files fs given) (files_from es i e lt is)
+    ∙ (file_fits (edit_value e) (map edit_value (drop (i + 1) es)) given fits ∙ ap (behind_files (map edit_value (drop (i + 1) es))) (sym tail)))
+
+pub file_last : (es : List Edit) (i : ℕ) (e : Edit) (given : List ℕ) (r : Option (List ℕ)) → i < length es → get_or es i e ≡ e
+    → nat_lt (length given) (size_of (edit_value e)) ≡ true → r ≡ behind_files (map edit_value (drop i es)) given → r ≡ None
+file_last es i e given r lt is short h =
+    h ∙ (ap (λ fs. behind_files fs given) (files_from es i e lt is) ∙ file_short (edit_value e) (map edit_value (drop (i + 1) es)) given short)
+
+pub file_over : (es : List Edit) (i : ℕ) (given : List ℕ) (r : Option (List ℕ)) → length es ≤ i
+    → r ≡ behind_files (map edit_value (drop i es)) given → r ≡ Some given
+file_over es i given r le h = h ∙ (ap (λ fs. behind_files (map edit_value fs) given) (drop_all i es le) ∙ files_none given)
+
+-- what is laid with other boot blocks is a volume of the tree
+pub laid_over : (t : Tree) (n : ℕ) (image old new : List ℕ) → IsBuildable t n → old ≡ volume t n → Fits old t (planned t n) → IsOtherBoot old new
+    → new ≡ with_boot_of image old → IsLaidOver t n image new
+laid_over t n image old new room is fits other put = record {
+  room = room;
+  bytes = put ∙ ap (with_boot_of image) is;
+  fits = other_fits old new other t (planned t n) fits;
+}
+
+pub stops_on : (es : List EditValue) (given image : List ℕ) (t : Tree) (l : Layout) (n : ℕ) (stop : Stop) → Fits image t l → n ≡ blocks image
+    → StopsTree es given t n stop → StopsOn es given image stop
+stops_on es given image t l n stop fits is h = inr (t, l, fits, subst (λ k. StopsTree es given t k stop) is h)
+
+-- a whole block that is written is what stands there
+pub whole_block : (n : ℕ) (xs ys : List ℕ) → n ≡ length xs → take n (xs ++ ys) ≡ xs
+whole_block n xs ys is = ap (λ k. take k (xs ++ ys)) is ∙ take-append_seam xs ys

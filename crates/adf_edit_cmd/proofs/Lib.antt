@@ -1,0 +1,4 @@
+pub mod ScriptLines
+pub mod Scripts
+pub mod EditSteps
+pub mod AnswerLaws

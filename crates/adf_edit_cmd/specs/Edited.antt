@@ -1,0 +1,103 @@
+-- What an image becomes by a script. es are the edits of the script, `given` are the bytes behind it, t is a tree, n a number of blocks.
+use Rattle.std.specs.Prelude.{◌≡◌, ◌<◌, ◌-◌, ◌+◌, ◌⊎◌, ℕ, List, [], ◌∷◌, Some, None, Result, Ok, Err, slice_range}
+use Rattle.adf_base.specs.Words.{with_bytes}
+use Rattle.adf_blocks.specs.Sizes.{blocks}
+use Rattle.adf_build.specs.Building.{IsBuildable, need_of}
+use Rattle.adf_build.specs.Laid.{volume}
+use Rattle.adf_build.specs.Plan.{blocks_needed, planned}
+use Rattle.adf_boot_blocks.specs.declared.boot.TheConstants.{BOOT_LEN}
+use Rattle.adf_edits.specs.Edits.{EditValue, edited}
+use Rattle.adf_edits.specs.Outline.{IsWithoutRoom, OutlineValue, outline_of, tree_of}
+use Rattle.adf_edits.specs.declared.edits.EditFault.{EditFault}
+use Rattle.adf_tree.specs.Additions.{AllHaveRoom}
+use Rattle.adf_tree.specs.Tree.{Tree}
+use Rattle.adf_volume.specs.Fits.{Fits}
+use Rattle.adf_volume.specs.Layout.{Layout}
+use Rattle.adf_volume.specs.Walk.{FirstFault}
+use Rattle.adf_edit_cmd.specs.Script.{IsScript, IsScriptFault, behind_file, behind_files}
+use Rattle.adf_edit_cmd.specs.declared.stop.Stop.{Stop}
+use Rattle.adf_edit_cmd.specs.declared.stop.Stop.TheVariants.{Short, Image, Line, NoRoom, Full, NoMemory}
+
+-- an outline goes on, or the edit of line n cannot be applied
+abbrev pub next_of : ℕ → Result OutlineValue EditFault → (OutlineValue → Result OutlineValue Stop) → Result OutlineValue Stop
+next_of n (Ok o) go = go o
+next_of n (Err fault) go = Err (Line n fault)
+
+-- an outline after edits, the first one that of line n; or the first line that cannot be applied
+unfoldable pub after : ℕ → List EditValue → List ℕ → OutlineValue → Result OutlineValue Stop
+after n [] given o = Ok o
+after n (e ∷ es) given o = next_of n (edited e given o) (after (n + 1) es (behind_file e given))
+
+-- why the edit of line n is not applied
+abbrev pub IsLineStop : EditValue → List ℕ → OutlineValue → ℕ → Stop → Type 0
+IsLineStop e given o n (Line m fault) = (m ≡ n) × (edited e given o ≡ Err fault)
+IsLineStop e given o n NoMemory = Unit {0}
+IsLineStop e given o n _ = ⊥
+
+-- why an image has no tree
+abbrev pub IsImageFault : List ℕ → Stop → Type 0
+IsImageFault image (Image f) = FirstFault image f.block f.cause
+IsImageFault image NoMemory = Unit {0}
+IsImageFault image _ = ⊥
+
+-- the bytes 4 to 1,023 of an image in the place of those of another
+abbrev pub with_boot_of : List ℕ → List ℕ → List ℕ
+with_boot_of image new = with_bytes new 4 (slice_range image 4 BOOT_LEN)
+
+-- the new image is that laid of the tree in n blocks, with the boot blocks of the old one, and a volume of the tree
+pub record IsLaidOver (t : Tree) (n : ℕ) (image new : List ℕ) : Type 0 where
+  pub room : IsBuildable t n
+  pub bytes : new ≡ with_boot_of image (volume t n)
+  pub fits : Fits new t (planned t n)
+
+-- why a tree is not laid
+abbrev pub IsFullStop : Tree → ℕ → Stop → Type 0
+IsFullStop t n (Full need have) = (n - 2 < blocks_needed t n) × (need ≡ need_of t n) × (have ≡ n - 2)
+IsFullStop t n NoMemory = Unit {0}
+IsFullStop t n _ = ⊥
+
+-- why the additions after edits have no tree
+abbrev pub IsRoomStop : OutlineValue → Stop → Type 0
+IsRoomStop o (NoRoom fault) = IsWithoutRoom o.additions fault
+IsRoomStop o NoMemory = Unit {0}
+IsRoomStop o _ = ⊥
+
+-- the new image is laid for the tree after all edits
+abbrev pub IsByTree : List EditValue → List ℕ → Tree → ℕ → List ℕ → List ℕ → Type 0
+IsByTree es given t n image new =
+    (o : OutlineValue) × (after 1 es given (outline_of t) ≡ Ok o) × AllHaveRoom o.additions × IsLaidOver (tree_of o) n image new
+
+-- why there is none: a line, or the tree after all edits
+abbrev pub StopsTree : List EditValue → List ℕ → Tree → ℕ → Stop → Type 0
+StopsTree es given t n stop =
+    (stop ≡ NoMemory) ⊎ ((after 1 es given (outline_of t) ≡ Err stop)
+    ⊎ ((o : OutlineValue) × (after 1 es given (outline_of t) ≡ Ok o)
+    × (IsRoomStop o stop ⊎ (AllHaveRoom o.additions × IsFullStop (tree_of o) n stop))))
+
+-- the new image is laid for the tree of the image after all edits
+abbrev pub IsByEdits : List EditValue → List ℕ → List ℕ → List ℕ → Type 0
+IsByEdits es given image new = (t : Tree) × (l : Layout) × Fits image t l × IsByTree es given t (blocks image) image new
+
+-- why there is none: the image, or its edits
+abbrev pub StopsOn : List EditValue → List ℕ → List ℕ → Stop → Type 0
+StopsOn es given image stop =
+    IsImageFault image stop ⊎ ((t : Tree) × (l : Layout) × Fits image t l × StopsTree es given t (blocks image) stop)
+
+-- an input has these edits, these bytes behind its script, and this image behind those of its files
+pub record IsInput (input : List ℕ) (es : List EditValue) (given image : List ℕ) : Type 0 where
+  pub script : IsScript input es given
+  pub files : behind_files es given ≡ Some image
+
+-- the new image is that of the input's image after the edits of its script
+abbrev pub IsEdited : List ℕ → List ℕ → Type 0
+IsEdited input new = (es : List EditValue) × (given : List ℕ) × (image : List ℕ) × IsInput input es given image × IsByEdits es given image new
+
+-- behind the script there are fewer bytes than its files have
+abbrev pub EndsEarly : List ℕ → Stop → Type 0
+EndsEarly input stop = (es : List EditValue) × (given : List ℕ) × IsScript input es given × (behind_files es given ≡ None) × (stop ≡ Short)
+
+-- why there is none: the script, its files, the image, or the edits
+abbrev pub StopsAt : List ℕ → Stop → Type 0
+StopsAt input stop =
+    IsScriptFault input stop ⊎ (EndsEarly input stop
+    ⊎ ((es : List EditValue) × (given : List ℕ) × (image : List ℕ) × IsInput input es given image × StopsOn es given image stop))

@@ -1,0 +1,6 @@
+-- The promise: what a line of a script says, what a script is, what an image becomes by it, and why it does not.
+pub mod Lines
+pub mod Script
+pub mod Edited
+pub mod Answers
+pub mod Stops

@@ -1,0 +1,69 @@
+-- Scripts. `left` is what is left of a text from a line on, es are edits.
+use Rattle.std.specs.Prelude.{◌≡◌, ◌≤◌, ◌⊎◌, ◌+◌, ℕ, Bool, false, true, List, [], ◌∷◌, ◌++◌, Option, Some, None, Result, Ok, Err, codes}
+use Rattle.std.specs.Prelude.{drop, if◌then◌else◌, length, nat_lt}
+use Rattle.std.specs.Str.{bytes_eq}
+use Rattle.adf_edits.specs.Edits.{EditValue, edit_value, file}
+use Rattle.adf_edits.specs.declared.edits.Edit.{Edit}
+use Rattle.adf_partitions.specs.PlanTexts.{behind_line, first_line}
+use Rattle.adf_edit_cmd.specs.Lines.{SaysEdit}
+use Rattle.adf_edit_cmd.specs.declared.script.TheConstants.{MOST_LINES}
+use Rattle.adf_edit_cmd.specs.declared.stop.Stop.{Stop}
+use Rattle.adf_edit_cmd.specs.declared.stop.Stop.TheVariants.{BadLine, NoMemory}
+
+-- the lines of these edits stand first, and `end` is left behind them
+unfoldable pub AreEdits : List ℕ → List EditValue → List ℕ → Type 0
+AreEdits left [] end = left ≡ end
+AreEdits left (e ∷ es) end = SaysEdit (first_line left) e × AreEdits (behind_line left) es end
+
+-- whether a line is `end`
+abbrev pub is_end : List ℕ → Bool
+is_end line = bytes_eq line (codes "end")
+
+-- the edits of a script, and the bytes behind its line `end`
+pub record IsScript (text : List ℕ) (es : List EditValue) (rest : List ℕ) : Type 0 where
+  pub end : List ℕ
+  pub edits : AreEdits text es end
+  pub few : length es ≤ MOST_LINES
+  pub ends : is_end (first_line end) ≡ true
+  pub behind : rest ≡ behind_line end
+
+-- a line behind so many says no edit, or is one too many
+abbrev pub IsNoEdit : ℕ → List ℕ → Type 0
+IsNoEdit n line = ((e : EditValue) → ¬ SaysEdit line e) ⊎ (n ≡ MOST_LINES)
+
+-- the first line that is wrong has this number
+pub record IsBadLine (text : List ℕ) (n : ℕ) : Type 0 where
+  pub es : List EditValue
+  pub end : List ℕ
+  pub edits : AreEdits text es end
+  pub few : length es ≤ MOST_LINES
+  pub number : n ≡ length es + 1
+  pub goes_on : is_end (first_line end) ≡ false
+  pub wrong : IsNoEdit (length es) (first_line end)
+
+-- what is wrong with a script
+abbrev pub IsScriptFault : List ℕ → Stop → Type 0
+IsScriptFault text (BadLine n) = IsBadLine text n
+IsScriptFault text NoMemory = Unit {0}
+IsScriptFault text _ = ⊥
+
+-- a line more was read as an edit, or why not
+abbrev pub IsNextRead : List Edit → List Edit → List ℕ → Result (Unit {0}) Stop → Type 0
+IsNextRead old new line (Ok _) = (e : Edit) × (new ≡ old ++ e ∷ []) × SaysEdit line (edit_value e) × (length new ≤ MOST_LINES)
+IsNextRead old new line (Err (BadLine n)) = (n ≡ length old + 1) × IsNoEdit (length old) line
+IsNextRead old new line (Err NoMemory) = Unit {0}
+IsNextRead old new line (Err _) = ⊥
+
+-- how many bytes an edit takes of those behind the script
+abbrev pub size_of : EditValue → ℕ
+size_of (file path size) = size
+size_of _ = 0
+
+-- the bytes behind those that an edit takes
+abbrev pub behind_file : EditValue → List ℕ → List ℕ
+behind_file e given = drop (size_of e) given
+
+-- the bytes behind those of all files, if there are enough
+unfoldable pub behind_files : List EditValue → List ℕ → Option (List ℕ)
+behind_files [] given = Some given
+behind_files (e ∷ es) given = if nat_lt (length given) (size_of e) then None else behind_files es (behind_file e given)

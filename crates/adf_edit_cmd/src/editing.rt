@@ -1,0 +1,176 @@
+// An image by a script.
+
+ghost use Rattle.std.specs.Prelude.{◌≡◌, ◌≢◌, ◌≤◌, ◌*◌, IfOk, IfErr, Ok, Err, length, map, true};
+ghost use Rattle.adf_blocks.specs.Sizes.{blocks, is_allowed};
+ghost use Rattle.adf_edits.specs.Edits.{edit_value, edited};
+ghost use Rattle.adf_boot_blocks.specs.BootBlocks.{IsOtherBoot};
+ghost use Rattle.adf_check.specs.Volumes.{StandsFor};
+ghost use Rattle.adf_tree.specs.Tree.{Tree as TreeValue};
+ghost use Rattle.adf_volume.specs.Fits.{Fits};
+ghost use Rattle.adf_volume.specs.Layout.{Layout};
+ghost use Rattle.adf_edit_cmd.specs.Edited.{IsByEdits, IsByTree, IsEdited, IsFullStop, IsImageFault, IsLaidOver, IsLineStop, StopsAt, StopsOn, StopsTree, after, with_boot_of};
+
+use crate::script::{behind_file, behind_files, read_script};
+use crate::stop::Stop;
+use adf_base::put_bytes;
+use adf_blocks::Cause;
+use adf_boot_blocks::BOOT_LEN;
+use adf_build::{BuildFault, build};
+use adf_check::{Checked, check};
+use adf_edits::{Edit, EditFault, Outline};
+use adf_tree::{AddFault, Tree};
+use std::alloc::Global;
+
+// The volume of an image.
+fn volume_of<'a>(alloc: Global, image: &'a [u8]) -> Result<Checked<'a>, Stop>
+    ensures image { IfOk result (λ v. v.image ≡ image.now) }
+    ensures fits { IfOk result (λ v. (t : TreeValue) × (l : Layout) × StandsFor v t l) }
+    ensures refused { IfErr result (IsImageFault image.now) }
+{
+    match check(alloc, image) {
+        Ok(volume) => Ok(volume),
+        Err(fault) => match fault.cause {
+            Cause::NoMemory => Err(Stop::NoMemory),
+            _ => Err(Stop::Image(fault)),
+        },
+    }
+}
+
+// The tree of an image, and the number of its blocks.
+fn tree_in(alloc: Global, image: &[u8]) -> Result<(Tree, u32), Stop>
+    ensures tree { IfOk result (λ r. (l : Layout) × Fits image.now r.0 l) }
+    ensures size { IfOk result (λ r. r.1 ≡ blocks image.now) }
+    ensures refused { IfErr result (IsImageFault image.now) }
+{
+    let volume = volume_of(alloc, image)?;
+    let count = volume.counts().blocks;
+    match volume.to_tree(alloc) {
+        Ok(tree) => Ok((tree, count)),
+        Err(_) => Err(Stop::NoMemory),
+    }
+}
+
+// Applies the edit of a line.
+fn edit_line(
+    alloc: Global,
+    outline: Outline,
+    edit: Edit,
+    given: &[u8],
+    line: usize,
+) -> Result<Outline, Stop>
+    ensures ok { IfOk result (λ o. edited (edit_value edit) given.now outline ≡ Ok o) }
+    ensures fault { IfErr result (IsLineStop (edit_value edit) given.now outline line) }
+{
+    match outline.edited(alloc, edit, given) {
+        Ok(outline) => Ok(outline),
+        Err(EditFault::NoMemory) => Err(Stop::NoMemory),
+        Err(fault) => Err(Stop::Line(line, fault)),
+    }
+}
+
+#[tactic(auto, using(crate::proofs::EditSteps::after_err))]
+// Applies edits, one after the other; the first one is that of line 1.
+fn edit_all(
+    alloc: Global,
+    outline: Outline,
+    edits: Vec<Edit>,
+    given: &[u8],
+) -> Result<Outline, Stop>
+    ensures ok { IfOk result (λ o. after 1 (map edit_value edits.items) given.now outline ≡ Ok o) }
+    ensures fault { IfErr result (λ f. f ≢ Stop.NoMemory
+        → after 1 (map edit_value edits.items) given.now outline ≡ Err f) }
+{
+    let mut outline = outline;
+    let mut given = given;
+    let mut line = 0usize;
+    for edit in edits {
+        line += 1;
+        let rest = behind_file(&edit, given);
+        outline = edit_line(alloc, outline, edit, given, line)?;
+        given = rest;
+    }
+    Ok(outline)
+}
+
+#[tactic(auto, using(adf_boot_blocks::proofs::Writes::other_bytes, adf_boot_blocks::proofs::Writes::same_boot))]
+// Puts the bytes of an image's boot blocks behind the type in the place of those of a new one.
+fn copy_boot(new: &mut [u8], image: &[u8])
+    requires whole { 1024 ≤ length new.old }
+    requires boot { 1024 ≤ length image.now }
+    ensures exact { new.new ≡ with_boot_of image.now new.old }
+    ensures other { IsOtherBoot new.old new.new }
+{
+    put_bytes(new, 4, &image[4..BOOT_LEN]);
+}
+
+// Lays a tree in so many blocks, with the boot blocks of an image behind the type.
+fn lay(alloc: Global, tree: &Tree, blocks: u32, image: &[u8]) -> Result<Vec<u8>, Stop>
+    requires allowed { is_allowed blocks ≡ true }
+    requires boot { 1024 ≤ length image.now }
+    ensures laid { IfOk result (λ new. IsLaidOver tree.now blocks image.now new.items) }
+    ensures full { IfErr result (IsFullStop tree.now blocks) }
+{
+    match build(alloc, tree, blocks) {
+        Ok(mut new) => {
+            copy_boot(&mut new, image);
+            Ok(new)
+        }
+        Err(BuildFault::BadSize) => unreachable!(),
+        Err(BuildFault::Full { need, have }) => Err(Stop::Full { need, have }),
+        Err(BuildFault::NoMemory) => Err(Stop::NoMemory),
+    }
+}
+
+// The image of a tree after edits.
+fn by_tree(
+    alloc: Global,
+    tree: &Tree,
+    edits: Vec<Edit>,
+    given: &[u8],
+    image: &[u8],
+    blocks: u32,
+) -> Result<Vec<u8>, Stop>
+    requires allowed { is_allowed blocks ≡ true }
+    requires boot { 1024 ≤ length image.now }
+    ensures ok { IfOk result (λ new.
+        IsByTree (map edit_value edits.items) given.now tree.now blocks image.now new.items) }
+    ensures stop { IfErr result (StopsTree (map edit_value edits.items) given.now tree.now blocks) }
+{
+    let Ok(outline) = Outline::of(alloc, tree) else {
+        return Err(Stop::NoMemory);
+    };
+    let outline = edit_all(alloc, outline, edits, given)?;
+    match outline.finish(alloc) {
+        Ok(tree) => lay(alloc, &tree, blocks, image),
+        Err(AddFault::NoMemory) => Err(Stop::NoMemory),
+        Err(fault) => Err(Stop::NoRoom(fault)),
+    }
+}
+
+#[tactic(auto, using(crate::proofs::EditSteps::stops_on))]
+// The image after edits.
+fn by_edits(alloc: Global, edits: Vec<Edit>, given: &[u8], image: &[u8]) -> Result<Vec<u8>, Stop>
+    ensures ok { IfOk result (λ new.
+        IsByEdits (map edit_value edits.items) given.now image.now new.items) }
+    ensures stop { IfErr result (StopsOn (map edit_value edits.items) given.now image.now) }
+{
+    let (tree, blocks) = tree_in(alloc, image)?;
+    match by_tree(alloc, &tree, edits, given, image, blocks) {
+        Ok(new) => Ok(new),
+        Err(stop) => Err(stop),
+    }
+}
+
+/// The image that a script makes of another. The input is the script, behind it the bytes of its files in their order, and behind
+/// them the image. Why there is none: the first line that is none; else files that end early; else the first fault of the image;
+/// else the first line that cannot be applied; else a tree that does not fit.
+pub fn new_image(alloc: Global, input: &[u8]) -> Result<Vec<u8>, Stop>
+    ensures image { IfOk result (λ new. IsEdited input.now new.items) }
+    ensures stop { IfErr result (StopsAt input.now) }
+{
+    let (edits, given) = read_script(alloc, input)?;
+    match behind_files(&edits, given) {
+        Some(image) => by_edits(alloc, edits, given, image),
+        None => Err(Stop::Short),
+    }
+}

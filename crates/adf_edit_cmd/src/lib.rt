@@ -1,0 +1,12 @@
+//! The command `adf-edit`: a script changes the tree of an image, which is laid anew.
+#![tactic(auto)]
+
+mod editing;
+mod lines;
+mod program;
+mod script;
+mod stop;
+
+pub use crate::editing::new_image;
+pub use crate::program::{MOST_INPUT_BYTES, Work, run};
+pub use crate::stop::Stop;

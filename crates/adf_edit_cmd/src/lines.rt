@@ -1,0 +1,188 @@
+// Lines of a script: a word, and what it is about. A value stands behind the first `:`, which no name has.
+
+ghost use Rattle.std.specs.Prelude.{◌≡◌, IfOk, IfErr, List, ℕ};
+ghost use Rattle.adf_edits.specs.Edits.{EditValue, edit_value};
+ghost use Rattle.adf_edit_cmd.specs.Lines.{Says, SaysEdit, verb_of};
+
+use adf_edits::{Change, Edit};
+use adf_manifest::{read_number, read_stamp, read_word};
+use adf_names::{Comment, Label, Name, PathFault, read_path};
+use adf_partitions::cut;
+use std::alloc::Global;
+
+/// The first word of a line.
+#[derive(Clone, Copy, Debug, PartialEq, Eq)]
+pub enum Verb {
+    Remove,
+    Move,
+    Dir,
+    File,
+    Note,
+    Protect,
+    Date,
+    Label,
+}
+
+// What the first word of a line asks for.
+fn verb_of(word: &[u8]) -> Option<Verb>
+    ensures { result ≡ verb_of word.now }
+{
+    if word == b"remove".as_slice() {
+        Some(Verb::Remove)
+    } else if word == b"move".as_slice() {
+        Some(Verb::Move)
+    } else if word == b"dir".as_slice() {
+        Some(Verb::Dir)
+    } else if word == b"file".as_slice() {
+        Some(Verb::File)
+    } else if word == b"note".as_slice() {
+        Some(Verb::Note)
+    } else if word == b"protect".as_slice() {
+        Some(Verb::Protect)
+    } else if word == b"date".as_slice() {
+        Some(Verb::Date)
+    } else if word == b"label".as_slice() {
+        Some(Verb::Label)
+    } else {
+        None
+    }
+}
+
+#[tactic(auto, using(crate::proofs::ScriptLines::no_remove))]
+// PATH
+fn read_remove(alloc: Global, text: &[u8]) -> Result<Edit, PathFault>
+    ensures ok { IfOk result (λ e. Says Verb.Remove text.now (edit_value e)) }
+    ensures bad { IfErr result (λ f. f ≡ PathFault.BadText → (e : EditValue)
+        → ¬ Says Verb.Remove text.now e) }
+{
+    let path = read_path(alloc, text)?;
+    Ok(Edit::Remove(path))
+}
+
+#[tactic(auto, using(crate::proofs::ScriptLines::no_dir))]
+// PATH
+fn read_dir(alloc: Global, text: &[u8]) -> Result<Edit, PathFault>
+    ensures ok { IfOk result (λ e. Says Verb.Dir text.now (edit_value e)) }
+    ensures bad { IfErr result (λ f. f ≡ PathFault.BadText → (e : EditValue)
+        → ¬ Says Verb.Dir text.now e) }
+{
+    let path = read_path(alloc, text)?;
+    Ok(Edit::Dir(path))
+}
+
+#[tactic(auto, using(crate::proofs::ScriptLines::no_label))]
+// TEXT
+fn read_label(text: &[u8]) -> Result<Edit, PathFault>
+    ensures ok { IfOk result (λ e. Says Verb.Label text.now (edit_value e)) }
+    ensures bad { IfErr result (λ f. f ≡ PathFault.BadText → (e : EditValue)
+        → ¬ Says Verb.Label text.now e) }
+{
+    match Label::read(text) {
+        Some(label) => Ok(Edit::Label(label)),
+        None => Err(PathFault::BadText),
+    }
+}
+
+#[tactic(auto, using(crate::proofs::ScriptLines::no_origin, crate::proofs::ScriptLines::no_target))]
+// PATH:PATH
+fn read_move(alloc: Global, text: &[u8]) -> Result<Edit, PathFault>
+    ensures ok { IfOk result (λ e. Says Verb.Move text.now (edit_value e)) }
+    ensures bad { IfErr result (λ f. f ≡ PathFault.BadText → (e : EditValue)
+        → ¬ Says Verb.Move text.now e) }
+{
+    let (from, to) = cut(text, b':');
+    let from = read_path(alloc, from)?;
+    let to = read_path(alloc, to)?;
+    Ok(Edit::Move(from, to))
+}
+
+#[tactic(auto, using(crate::proofs::ScriptLines::no_file, crate::proofs::ScriptLines::no_size))]
+// PATH:SIZE
+fn read_file(alloc: Global, text: &[u8]) -> Result<Edit, PathFault>
+    ensures ok { IfOk result (λ e. Says Verb.File text.now (edit_value e)) }
+    ensures bad { IfErr result (λ f. f ≡ PathFault.BadText → (e : EditValue)
+        → ¬ Says Verb.File text.now e) }
+{
+    let (path, size) = cut(text, b':');
+    let Some(size) = read_number(size) else {
+        return Err(PathFault::BadText);
+    };
+    let path = read_path(alloc, path)?;
+    Ok(Edit::File(path, size))
+}
+
+#[tactic(auto, using(crate::proofs::ScriptLines::no_noted, crate::proofs::ScriptLines::no_note))]
+// PATH:TEXT
+fn read_note(alloc: Global, text: &[u8]) -> Result<Edit, PathFault>
+    ensures ok { IfOk result (λ e. Says Verb.Note text.now (edit_value e)) }
+    ensures bad { IfErr result (λ f. f ≡ PathFault.BadText → (e : EditValue)
+        → ¬ Says Verb.Note text.now e) }
+{
+    let (path, note) = cut(text, b':');
+    let Some(note) = Comment::read(note) else {
+        return Err(PathFault::BadText);
+    };
+    let path = read_path(alloc, path)?;
+    Ok(Edit::Change(path, Change::Note(note)))
+}
+
+#[tactic(auto, using(crate::proofs::ScriptLines::no_protected, crate::proofs::ScriptLines::no_word))]
+// PATH:WORD
+fn read_protect(alloc: Global, text: &[u8]) -> Result<Edit, PathFault>
+    ensures ok { IfOk result (λ e. Says Verb.Protect text.now (edit_value e)) }
+    ensures bad { IfErr result (λ f. f ≡ PathFault.BadText → (e : EditValue)
+        → ¬ Says Verb.Protect text.now e) }
+{
+    let (path, word) = cut(text, b':');
+    let Some(word) = read_word(word) else {
+        return Err(PathFault::BadText);
+    };
+    let path = read_path(alloc, path)?;
+    Ok(Edit::Change(path, Change::Protect(word)))
+}
+
+#[tactic(auto, using(crate::proofs::ScriptLines::no_dated, crate::proofs::ScriptLines::no_date))]
+// PATH:DATE
+fn read_date(alloc: Global, text: &[u8]) -> Result<Edit, PathFault>
+    ensures ok { IfOk result (λ e. Says Verb.Date text.now (edit_value e)) }
+    ensures bad { IfErr result (λ f. f ≡ PathFault.BadText → (e : EditValue)
+        → ¬ Says Verb.Date text.now e) }
+{
+    let (path, date) = cut(text, b':');
+    let Some(date) = read_stamp(date) else {
+        return Err(PathFault::BadText);
+    };
+    let path = read_path(alloc, path)?;
+    Ok(Edit::Change(path, Change::Date(date)))
+}
+
+// What a word asks for, with the text behind it.
+fn read_verb(alloc: Global, verb: Verb, text: &[u8]) -> Result<Edit, PathFault>
+    ensures ok { IfOk result (λ e. Says verb text.now (edit_value e)) }
+    ensures bad { IfErr result (λ f. f ≡ PathFault.BadText → (e : EditValue)
+        → ¬ Says verb text.now e) }
+{
+    match verb {
+        Verb::Remove => read_remove(alloc, text),
+        Verb::Move => read_move(alloc, text),
+        Verb::Dir => read_dir(alloc, text),
+        Verb::File => read_file(alloc, text),
+        Verb::Note => read_note(alloc, text),
+        Verb::Protect => read_protect(alloc, text),
+        Verb::Date => read_date(alloc, text),
+        Verb::Label => read_label(text),
+    }
+}
+
+#[tactic(auto, using(crate::proofs::ScriptLines::no_verb, crate::proofs::ScriptLines::no_edit))]
+/// The edit of a line. `BadText` if and only if it has none; `NoMemory` if an allocation fails.
+pub fn read_edit(alloc: Global, line: &[u8]) -> Result<Edit, PathFault>
+    ensures ok { IfOk result (λ e. SaysEdit line.now (edit_value e)) }
+    ensures bad { IfErr result (λ f. f ≡ PathFault.BadText → (e : EditValue) → ¬ SaysEdit line.now e) }
+{
+    let (word, text) = cut(line, b' ');
+    match verb_of(word) {
+        Some(verb) => read_verb(alloc, verb, text),
+        None => Err(PathFault::BadText),
+    }
+}

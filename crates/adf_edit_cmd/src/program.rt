@@ -1,0 +1,154 @@
+// The program: its only word is its name. It reads an input, and writes a new image.
+
+ghost use Rattle.std.specs.Prelude.{◌≡◌, ◌++◌, List, Option, codes, false, ℕ};
+ghost use Rattle.adf_edit_cmd.specs.Answers.{Edits, edit_command};
+ghost use Rattle.adf_edit_cmd.specs.Edited.{StopsAt};
+ghost use Rattle.adf_edit_cmd.specs.Stops.{stop_text};
+ghost use Rattle.adf_runs.specs.Commands.{IsUnanswered, RunEnds, TakesEnough, on_errors, on_output};
+ghost use Rattle.adf_runs.specs.Outcomes.{EndsBy, is_read_fault, is_write_fault};
+ghost use Rattle.adf_words.specs.CommandLine.{texts_of};
+
+use crate::editing::new_image;
+use crate::stop::Stop;
+use adf_runs::{Outcome, Program, Sink, Source, WorkFault, read_input, run_program, write_all};
+use std::alloc::Global;
+
+/// The most bytes of an input: 2^40.
+pub const MOST_INPUT_BYTES: usize = 1 << 40;
+
+/// What is said of words that are refused.
+const USAGE: &str = "usage: adf-edit < INPUT > IMAGE\n\
+    a script, the bytes of its files and an image come on standard input; man adf-edit tells more\n";
+
+// Writes an image.
+fn write_image<W: Sink>(output: &mut W, image: &[u8]) -> Outcome
+    requires { W.has_failed output.old ≡ false }
+    ensures ends { EndsBy (λ reply. reply ≡ on_output 0 image.now) result
+        (W.held output.old) (W.held output.new) }
+    ensures read { is_read_fault result ≡ false }
+    ensures written { W.has_failed output.new ≡ is_write_fault result }
+{
+    match write_all(output, image) {
+        Ok(()) => Outcome::Done,
+        Err(_) => Outcome::WriteFault,
+    }
+}
+
+// Says a reason on errors; output gets nothing.
+fn say_stop(alloc: Global, stop: Stop) -> Outcome
+    ensures ends { (held : Option (List ℕ))
+        → EndsBy (λ reply. reply ≡ on_errors 1 (stop_text stop ++ codes "\n")) result held held }
+    ensures read { is_read_fault result ≡ false }
+    ensures written { is_write_fault result ≡ false }
+{
+    match format!(in alloc; "{stop}\n") {
+        Ok(line) => Outcome::Refused(line),
+        Err(_) => Outcome::NoMemory,
+    }
+}
+
+// Says why no image is written; output gets nothing.
+fn refuse(alloc: Global, stop: Stop) -> Outcome
+    ensures ends { (held : Option (List ℕ)) (input : List ℕ) → StopsAt input stop
+        → EndsBy (Edits input) result held held }
+    ensures read { is_read_fault result ≡ false }
+    ensures written { is_write_fault result ≡ false }
+{
+    match stop {
+        Stop::NoMemory => Outcome::NoMemory,
+        _ => say_stop(alloc, stop),
+    }
+}
+
+// Writes the image that a script makes of another, or says why there is none.
+fn edit_input<W: Sink>(alloc: Global, input: &[u8], output: &mut W) -> Outcome
+    requires { W.has_failed output.old ≡ false }
+    ensures ends { EndsBy (Edits input.now) result (W.held output.old) (W.held output.new) }
+    ensures read { is_read_fault result ≡ false }
+    ensures written { W.has_failed output.new ≡ is_write_fault result }
+{
+    match new_image(alloc, input) {
+        Ok(image) => write_image(output, &image),
+        Err(stop) => refuse(alloc, stop),
+    }
+}
+
+/// The work; there is one.
+#[derive(Drop)]
+pub enum Work {
+    Edit,
+}
+
+impl Program for Work {
+    ghost use Rattle.std.proofs.Common.{rules};
+    ghost use Rattle.adf_edit_cmd.specs.Answers.{edit_command};
+
+    ghost command = { edit_command };
+
+    ghost serves = { λ work r. Unit {0} };
+
+    fn usage() -> &'static str {
+        USAGE
+    }
+
+    fn of(_alloc: Global, words: &[&str]) -> Result<Work, WorkFault> {
+        if 1 < words.len() {
+            return Err(WorkFault::Usage);
+        }
+        Ok(Work::Edit)
+    }
+
+    fn limit(&self) -> usize {
+        MOST_INPUT_BYTES
+    }
+
+    fn on<W: Sink>(&self, alloc: Global, bytes: &[u8], output: &mut W) -> Outcome {
+        let part = &bytes[..bytes.len().min(MOST_INPUT_BYTES)];
+        edit_input(alloc, part, output)
+    }
+
+    fn on_input<R: Source, W: Sink>(
+        &self,
+        alloc: Global,
+        input: &mut R,
+        output: &mut W,
+    ) -> Outcome {
+        match read_input(alloc, input, MOST_INPUT_BYTES) {
+            Ok(bytes) => self.on(alloc, &bytes, output),
+            Err(outcome) => outcome,
+        }
+    }
+
+    ghost consistent = { record {
+      taken = Prim.search rules;
+      unread = λ words none. absurd none;
+    } };
+}
+
+/// Edits an image: the input is a script, the bytes of its files, and the image. Returns the status:
+///
+/// - 0 if the new image is written;
+/// - 1 if there is none, as errors say; output is empty;
+/// - 2 if there are words, which errors say; nothing is read, and output is empty;
+/// - 3 if a device failed or an allocation failed, as errors say.
+pub fn run<R: Source, W: Sink, E: Sink>(
+    alloc: Global,
+    words: &[&str],
+    input: &mut R,
+    output: &mut W,
+    errors: &mut E,
+) -> u8
+    requires reads { R.has_failed input.old ≡ false }
+    requires writes { W.has_failed output.old ≡ false }
+    requires tells { E.has_failed errors.old ≡ false }
+    ensures ends { RunEnds edit_command (texts_of words.now) (R.left input.old)
+        (R.has_failed input.new) result
+        (W.has_failed output.new) (W.held output.old) (W.held output.new)
+        (E.has_failed errors.new) (E.held errors.old) (E.held errors.new) }
+    ensures untouched { IsUnanswered edit_command (texts_of words.now)
+        → (input.new ≡ input.old) × (output.new ≡ output.old) }
+    ensures at_most { TakesEnough edit_command (texts_of words.now)
+        (R.left input.old) (R.left input.new) }
+{
+    run_program::<Work, R, W, E>(alloc, words, input, output, errors)
+}

@@ -1,0 +1,95 @@
+// Scripts: lines that each end in a line feed, and a line `end` behind the last of them.
+
+ghost use Rattle.std.specs.Prelude.{◌≡◌, ◌≤◌, IfOk, IfErr, IfSome, IfNone, None, Some, length, map};
+ghost use Rattle.adf_edits.specs.Edits.{edit_value};
+ghost use Rattle.adf_edit_cmd.specs.Script.{IsNextRead, IsScript, IsScriptFault, behind_file, behind_files, is_end, size_of};
+ghost use Rattle.adf_edit_cmd.specs.declared.script.TheConstants.{MOST_LINES};
+
+use crate::lines::read_edit;
+use crate::stop::Stop;
+use adf_edits::Edit;
+use adf_names::PathFault;
+use adf_partitions::cut_line;
+use std::alloc::Global;
+
+/// The most lines of a script, not counting its line `end`.
+pub const MOST_LINES: usize = 1000;
+
+// Whether a line is `end`.
+fn is_end(line: &[u8]) -> bool
+    ensures { result ≡ is_end line.now }
+{
+    line == b"end".as_slice()
+}
+
+// Reads the next line as an edit, if the lines before it are not too many.
+fn read_next(alloc: Global, edits: &mut Vec<Edit>, line: &[u8]) -> Result<(), Stop>
+    requires { length edits.old.items ≤ MOST_LINES }
+    ensures { IsNextRead edits.old.items edits.new.items line.now result }
+{
+    let number = edits.len() + 1;
+    if MOST_LINES < number {
+        return Err(Stop::BadLine(number));
+    }
+    match read_edit(alloc, line) {
+        Ok(edit) => match edits.push(edit) {
+            Ok(()) => Ok(()),
+            Err(_) => Err(Stop::NoMemory),
+        },
+        Err(PathFault::BadText) => Err(Stop::BadLine(number)),
+        Err(PathFault::NoMemory) => Err(Stop::NoMemory),
+    }
+}
+
+#[tactic(auto, using(crate::proofs::Scripts::none_read, crate::proofs::Scripts::next_read, crate::proofs::Scripts::next_fault, crate::proofs::Scripts::script_read))]
+/// Reads a script: its edits, and the bytes behind its line `end`. `BadLine` names the first line that says no edit, or is one
+/// too many.
+pub fn read_script(alloc: Global, text: &[u8]) -> Result<(Vec<Edit>, &[u8]), Stop>
+    ensures script { IfOk result (λ r. IsScript text.now (map edit_value r.0.items) r.1.now) }
+    ensures fault { IfErr result (IsScriptFault text.now) }
+{
+    let mut edits = Vec::new(alloc);
+    let mut left = text;
+    loop {
+        let (line, rest) = cut_line(left);
+        if is_end(line) {
+            return Ok((edits, rest));
+        }
+        read_next(alloc, &mut edits, line)?;
+        left = rest;
+    }
+}
+
+// How many bytes an edit takes of those behind the script.
+fn size_of(edit: &Edit) -> usize
+    ensures { result ≡ size_of (edit_value edit.now) }
+{
+    match edit {
+        Edit::File(_, size) => *size as usize,
+        _ => 0,
+    }
+}
+
+/// The bytes behind those that an edit takes; none if there are fewer.
+pub fn behind_file<'a>(edit: &Edit, given: &'a [u8]) -> &'a [u8]
+    ensures { result.now ≡ behind_file (edit_value edit.now) given.now }
+{
+    let size = size_of(edit).min(given.len());
+    &given[size..]
+}
+
+#[tactic(auto, using(crate::proofs::EditSteps::file_over))]
+/// The bytes behind those of all files; `None` if there are fewer.
+pub fn behind_files<'a>(edits: &[Edit], given: &'a [u8]) -> Option<&'a [u8]>
+    ensures some { IfSome result (λ rest. behind_files (map edit_value edits.now) given.now ≡ Some rest.now) }
+    ensures none { IfNone result (behind_files (map edit_value edits.now) given.now ≡ None) }
+{
+    let mut rest = given;
+    for edit in edits {
+        if rest.len() < size_of(edit) {
+            return None;
+        }
+        rest = behind_file(edit, rest);
+    }
+    Some(rest)
+}

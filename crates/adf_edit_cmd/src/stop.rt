@@ -1,0 +1,46 @@
+// Why no image is written.
+
+ghost use Rattle.std.specs.Prelude.{◌≡◌};
+
+use adf_edits::EditFault;
+use adf_tree::AddFault;
+use adf_volume::Fault;
+use std::fmt;
+
+/// Why no image is written.
+#[derive(Clone, Copy, Debug, PartialEq, Eq)]
+pub enum Stop {
+    /// The script's line of this number says no edit, or is one too many.
+    BadLine(usize),
+    /// Behind the script there are fewer bytes than its files have.
+    Short,
+    /// The image is refused.
+    Image(Fault),
+    /// The edit of the line of this number cannot be applied.
+    Line(usize, EditFault),
+    /// An addition has no room in the tree of those before it.
+    NoRoom(AddFault),
+    /// The tree needs more blocks than there are.
+    Full { need: u64, have: u64 },
+    /// An allocation failed.
+    NoMemory,
+}
+
+impl fmt::Display for Stop {
+    ghost use Rattle.std.specs.Prelude.{Some};
+    ghost use Rattle.adf_edit_cmd.specs.Stops.{stop_text};
+
+    ghost output = { λ x. Some (stop_text x) };
+
+    fn fmt<W: fmt::Write>(&self, f: &mut fmt::Formatter<W>) -> fmt::Result {
+        match *self {
+            Stop::BadLine(line) => write!(f, "{line}: bad line"),
+            Stop::Short => f.write_str("files end early"),
+            Stop::Image(fault) => write!(f, "{fault}"),
+            Stop::Line(line, fault) => write!(f, "{line}: {fault}"),
+            Stop::NoRoom(fault) => write!(f, "{fault}"),
+            Stop::Full { need, have } => write!(f, "full: need {need}, have {have}"),
+            Stop::NoMemory => f.write_str("no memory"),
+        }
+    }
+}
