@@ -452,12 +452,13 @@ uint8_t adf_run(const uint8_t *words, size_t words_length, const uint8_t *input,
  *
  * 0: there is no finding, and output is empty; for `cat`, output has the bytes of the file, which is sound, or with `--damaged`
  *    has lost none; for `rescue`, it has the new volume, and nothing that is found is left out. Errors are empty.
- * 1: output has the lines of the findings; for `cat`, it is empty, and errors say `no such path`, `not a file` or `damaged`.
+ * 1: output has the lines of the findings; for `cat`, it is empty, and errors say `no such path: PATH`, `not a file` or
+ *    `damaged`.
  *    For `cat --damaged`, output has what is left of the file, and errors a line for each range of bytes that are lost, and zeros.
  *    With `--list` the lines of what is found follow those of the findings, at status 0 too.
  *    For `rescue`, output has the new volume, and errors a line for each entry that it leaves out and for what is lost; or output
  *    is empty, and errors have the line of the first finding, and these lines behind it. If errors_full is set, call again with more room for them.
- * 2, 3: as for adf_run.
+ * 2, 3: as for adf_run. The image is `input`, and no file is opened: arguments that name a file are refused, at status 2.
  *
  * Nothing is said about the bytes of a room after those that `moved` counts.
  */

@@ -1,6 +1,5 @@
 # Completion of adf-disk for fish.
 
-complete -c adf-disk -f
 complete -c adf-disk -n __fish_use_subcommand -a list -d 'list the partitions of a hard disk'
 complete -c adf-disk -n __fish_use_subcommand -a check -d 'tell whether its volumes are sound'
 complete -c adf-disk -n __fish_use_subcommand -a survey -d 'list what can be read of a damaged table'

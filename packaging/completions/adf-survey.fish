@@ -1,7 +1,6 @@
 # Completion of adf-survey for fish.
 
 set -l first 'not __fish_seen_subcommand_from cat rescue; and not __fish_contains_opt list'
-complete -c adf-survey -f
 complete -c adf-survey -n $first -a cat -d 'write a sound file of an image'
 complete -c adf-survey -n '__fish_seen_subcommand_from cat' -l damaged -d 'write what is left of a damaged file'
 complete -c adf-survey -n $first -l list -d 'list what is found, sound or damaged'

@@ -22,10 +22,13 @@ _adf_survey() {
         compopt -o default
     elif ((COMP_CWORD == at)); then
         COMPREPLY=($(compgen -W "$words" -- "$2"))
+        compopt -o default
     elif ((COMP_CWORD < at)); then
         COMPREPLY=($(compgen -W "1760 3520" -- "$2"))
     elif [[ $2 == -* && ${COMP_WORDS[at]} == cat ]]; then
         COMPREPLY=($(compgen -W "--damaged" -- "$2"))
+    elif [[ ${COMP_WORDS[at]} != cat ]] || ((COMP_CWORD > at + 1)); then
+        compopt -o default
     fi
 }
 
@@ -34,6 +37,8 @@ _adf_disk() {
         compopt -o default
     elif ((COMP_CWORD == 1)); then
         COMPREPLY=($(compgen -W "list check survey volume build --help --version" -- "$2"))
+    elif [[ ${COMP_WORDS[1]} != volume ]] || ((COMP_CWORD > 2)); then
+        compopt -o default
     fi
 }
 

@@ -542,7 +542,7 @@ class Survey(_ReadOnly):
         status, output, errors = _run(_calls().adf_survey_run, "adf-survey", words, self.image)
         if status == 3:
             raise NoMemory(errors.decode("ascii").strip())
-        if errors in (b"no such path\n", b"bad path\n"):
+        if errors == b"bad path\n" or errors.startswith(b"no such path: "):
             raise NoSuchPath(path)
         if errors == b"not a file\n":
             raise NotAFile(errno.EISDIR, os.strerror(errno.EISDIR), path)

@@ -331,10 +331,10 @@ fn what_is_left_of_a_file_is_told() {
     image[5 * 512 + 3] = 0;
     let bytes = [vec![0; 488], vec![b'A'; 488], vec![0; 24]].concat();
     assert_eq!(remains("a", &image), Ok(Remains { bytes, lost: vec![0..488, 976..1000] }));
-    for (path, why) in [("nix", "no such path\n"), ("c", "not a file\n"), ("a//b", "bad path\n")] {
+    for (path, why) in [("nix", "no such path: nix\n"), ("c", "not a file\n"), ("a//b", "bad path\n")] {
         assert_eq!(remains(path, &image).unwrap_err().answer.errors, why.as_bytes());
     }
-    assert_eq!(remains("a", b"").unwrap_err().to_string(), "no such path");
+    assert_eq!(remains("a", b"").unwrap_err().to_string(), "no such path: a");
 }
 
 #[test]

@@ -3,11 +3,12 @@
 ghost use Rattle.std.specs.Prelude.{◌≡◌, [], Some, false, take};
 ghost use Rattle.adf_cmd.specs.Answers.{adf_command};
 ghost use Rattle.adf_runs.specs.Commands.{IsUnanswered, IsConsumed, RunEnds};
-ghost use Rattle.adf_survey_cmd.specs.Answers.{survey_command};
+ghost use Rattle.adf_survey_cmd.specs.Answers.{survey_without_files};
 ghost use Rattle.adf_memory.specs.Rooms.{StandIn};
 ghost use Rattle.adf_memory.specs.Words.{in_memory};
 
 use adf_memory::{Moved, run_in_memory};
+use adf_runs::WithoutFiles;
 use std::alloc::Global;
 
 /// Runs the command `adf` on an input in memory. Each word ends with a zero byte, and the first is the program's name. Returns
@@ -44,7 +45,8 @@ pub extern "C" fn adf_run(
 /// - 0 if there are no findings, or the bytes of a sound file are written; of `rescue`, if no entry is left out;
 /// - 1 if findings are written to the output; of `cat`, if the path leads to no sound file, which the errors say; of `rescue`, if
 ///   the errors say which entries are left out, or that nothing can be kept;
-/// - 2 if the words or the path are refused: the errors say which, nothing is read, and the output is empty;
+/// - 2 if the words or the path are refused, or the words name a file: the errors say which, nothing is read, and the output is
+///   empty;
 /// - 3 if the output is too small or memory ran out: the errors say which.
 #[unsafe(no_mangle)]
 pub extern "C" fn adf_survey_run(
@@ -55,14 +57,14 @@ pub extern "C" fn adf_survey_run(
     errors: &mut [u8],
     moved: &mut Moved,
 ) -> u8
-    ensures ends { RunEnds (in_memory survey_command) words.now (Some input.now) false result
+    ensures ends { RunEnds (in_memory survey_without_files) words.now (Some input.now) false result
         moved.new.output_full (Some []) (Some (take moved.new.output output.new))
         moved.new.errors_full (Some []) (Some (take moved.new.errors errors.new)) }
-    ensures untouched { IsUnanswered (in_memory survey_command) words.now
+    ensures untouched { IsUnanswered (in_memory survey_without_files) words.now
         → (moved.new.output ≡ 0) × (output.new ≡ output.old) }
-    ensures consumed { IsConsumed (in_memory survey_command) words.now input.now result moved.new.input }
+    ensures consumed { IsConsumed (in_memory survey_without_files) words.now input.now result moved.new.input }
     ensures output { StandIn moved.new.output moved.new.output_full output.new }
     ensures errors { StandIn moved.new.errors moved.new.errors_full errors.new }
 {
-    run_in_memory::<adf_survey_cmd::Work>(alloc, words, input, output, errors, moved)
+    run_in_memory::<WithoutFiles<adf_survey_cmd::Work>>(alloc, words, input, output, errors, moved)
 }

@@ -1,24 +1,29 @@
 //! The partitions of a whole Amiga hard disk, and their volumes.
 #![tactic(auto)]
 
-use adf_disk_cmd::run;
+use adf_disk_cmd::run_files;
 use adf_runs::{
-    About, Device, NamedErrors, Outcome, command_words, refuse_words, tell, telling_asked,
+    About, AnnouncedInput, Device, NamedErrors, Outcome, SystemFiles, command_words, refuse_words,
+    tell, telling_asked,
 };
 use std::alloc::AllocError;
+use std::io::IsTerminal;
 use std::process::ExitCode;
 
 const ABOUT: About = About {
     name: "adf-disk",
     help: "Lists and checks the partitions of a whole Amiga hard disk, cuts out its volumes, and builds a disk from a plan.\n\n\
-    usage: adf-disk list < DISK           a line for each partition\n\
-    \x20      adf-disk check < DISK          a verdict on each volume\n\
-    \x20      adf-disk survey < DISK         the partitions of a damaged table\n\
-    \x20      adf-disk volume NAME < DISK    the volume of a partition, by its name or its number\n\
-    \x20      adf-disk build < PLAN > DISK   a new disk\n\
+    usage: adf-disk list [FILE]           a line for each partition\n\
+    \x20      adf-disk check [FILE]          a verdict on each volume\n\
+    \x20      adf-disk survey [FILE]         the partitions of a damaged table\n\
+    \x20      adf-disk volume NAME [FILE]    the volume of a partition, by its name or its number\n\
+    \x20      adf-disk build [PLAN] > DISK   a new disk\n\
     \x20      adf-disk --help, adf-disk --version\n\n\
-    man adf-disk tells more.\n",
+    Without a FILE, or with -, the disk or its plan comes on standard input. man adf-disk tells more.\n",
 };
+
+// What is said if nothing is piped in.
+const WAITS: &str = "waiting for standard input; adf-disk --help tells more\n";
 
 fn status(rt: &HostRuntime) -> u8 {
     let mut errors = NamedErrors::new("adf-disk: ", Device::new(rt.stderr()));
@@ -33,11 +38,24 @@ fn status(rt: &HostRuntime) -> u8 {
     let Ok(texts) = texts else {
         return refuse_words(&Outcome::NoMemory, &mut errors);
     };
-    let mut input = Device::new(rt.stdin());
+    let waits = if rt.stdin().is_terminal() {
+        Some(WAITS)
+    } else {
+        None
+    };
+    let waiting = NamedErrors::new("adf-disk: ", Device::new(rt.stderr()));
+    let mut input = AnnouncedInput::new(Device::new(rt.stdin()), waiting, waits);
     let mut output = Device::new(rt.stdout());
     match telling_asked(&texts) {
         Some(telling) => tell(&ABOUT, telling, &mut output, &mut errors),
-        None => run(rt.alloc(), &texts, &mut input, &mut output, &mut errors),
+        None => run_files(
+            rt.alloc(),
+            &texts,
+            &SystemFiles::new(rt),
+            &mut input,
+            &mut output,
+            &mut errors,
+        ),
     }
 }
 

@@ -12,8 +12,9 @@ use Rattle.adf_partitions.specs.declared.partition.Partition.{Partition}
 use Rattle.adf_partitions.specs.declared.place.Place.{Place}
 use Rattle.adf_partitions.specs.declared.place.PlaceFault.{PlaceFault}
 use Rattle.adf_partitions.specs.declared.tables.Tables.{Tables}
-use Rattle.adf_words.specs.DiskLine.{AreRefusedByDisk, AsksDisk, DiskRequestValue, WantedValue, build, check, list, name, number, survey, volume}
+use Rattle.adf_words.specs.DiskLine.{AreRefusedByDisk, AsksDisk, DiskRequestValue, WantedValue, build, check, disk_file, list, name, number, survey, volume}
 use Rattle.adf_runs.specs.Commands.{Command, Reply, on_output}
+use Rattle.adf_runs.specs.FileRuns.{without_files}
 use Rattle.adf_disk_cmd.specs.Builds.{BuildsDisk, refusal}
 use Rattle.adf_disk_cmd.specs.Checks.{AreChecked, check_status}
 use Rattle.adf_disk_cmd.specs.Lines.{list_lines, volume_at}
@@ -97,8 +98,8 @@ DiskRequestsHaveAnAnswer = (r : DiskRequestValue) (input : List ℕ) → (reply 
 -- what errors get where the words are refused
 abbrev pub disk_usage : List ℕ
 disk_usage =
-    codes "usage: adf-disk list < DISK\n       adf-disk check < DISK\n       adf-disk survey < DISK\n       adf-disk volume NAME < DISK\n"
-    ++ codes "       adf-disk build < PLAN > DISK\na disk or the plan of one comes on standard input; man adf-disk tells more\n"
+    codes "usage: adf-disk list [FILE]\n       adf-disk check [FILE]\n       adf-disk survey [FILE]\n       adf-disk volume NAME [FILE]\n"
+    ++ codes "       adf-disk build [PLAN]\nwithout a FILE the disk or its plan comes on standard input; man adf-disk tells more\n"
 
 -- the command `adf-disk`, whose words have no path
 abbrev pub disk_command : Command (List (List ℕ))
@@ -111,3 +112,7 @@ disk_command = record {
   limit = λ r. MOST_DISK_BYTES;
   usage = disk_usage;
 }
+
+-- the same where there are no files
+abbrev pub disk_without_files : Command (List (List ℕ))
+disk_without_files = without_files disk_command disk_file

@@ -9,8 +9,8 @@ use crate::check_input::check_input;
 use crate::copy_input::copy_input;
 use crate::list_input::list_input;
 use crate::work::{MOST_DISK_BYTES, Work, sought_for};
-use adf_runs::{Outcome, Program, Sink, Source, WorkFault, read_input};
-use adf_words::{DISK_USAGE as USAGE, DiskRequest, parse_disk};
+use adf_runs::{FileProgram, Outcome, Program, Sink, Source, WorkFault, read_input};
+use adf_words::{DISK_USAGE as USAGE, DiskRequest, disk_file, parse_disk};
 use std::alloc::{AllocError, Global};
 
 /// What is done with an input.
@@ -87,4 +87,17 @@ impl Program for Job {
       taken = Prim.search rules;
       unread = λ words none. absurd none;
     } };
+}
+
+impl FileProgram for Job {
+    ghost use Rattle.adf_words.specs.DiskLine.{disk_file};
+
+    ghost file_of = { disk_file };
+
+    fn file_named<'a>(alloc: Global, words: &'a [&str]) -> Result<Option<&'a str>, WorkFault> {
+        match disk_file(alloc, words) {
+            Ok(file) => Ok(file),
+            Err(fault) => Err(WorkFault::from(fault)),
+        }
+    }
 }

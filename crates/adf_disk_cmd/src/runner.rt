@@ -1,21 +1,52 @@
 // The whole command.
 
-ghost use Rattle.std.specs.Prelude.{◌≡◌, false, true};
-ghost use Rattle.adf_disk_cmd.specs.Answers.{DiskRequestsHaveAnAnswer, DiskRequestsHaveOneAnswer, WordsAskForOneDiskRequest, disk_command};
+ghost use Rattle.std.specs.Prelude.{◌≡◌, ℕ, List, Some, false, true};
+ghost use Rattle.adf_disk_cmd.specs.Answers.{DiskRequestsHaveAnAnswer, DiskRequestsHaveOneAnswer, WordsAskForOneDiskRequest, disk_command, disk_without_files};
 ghost use Rattle.adf_runs.specs.Commands.{IsUnanswered, RunEnds, TakesEnough};
+ghost use Rattle.adf_runs.specs.FileRuns.{RunEndsOnFiles};
 ghost use Rattle.adf_words.specs.CommandLine.{texts_of};
+ghost use Rattle.adf_words.specs.DiskLine.{disk_file};
 
 use crate::job::Job;
-use adf_runs::{Sink, Source, run_program};
+use adf_runs::{Files, Sink, Source, WithoutFiles, run_program, run_program_on_files};
 use std::alloc::Global;
 
-/// Does what the words ask for; the first one is the program's name. Returns the status:
+/// Does what the words ask for, on the file that they name, or else on the input; the first word is the program's name. Returns
+/// the status:
 ///
 /// - 0 if the partitions are listed, all of them are sound volumes, or the bytes of a volume or a new disk are written;
 /// - 1 if the partitions of the disk cannot be read, or one of them is not a sound volume, which `check` writes to output; or if
 ///   there is no such partition, something is wrong with its place, or no disk can be built, which is said on errors;
 /// - 2 if the words are not accepted, which is said on errors; nothing is read, and output is empty;
-/// - 3 if a device failed or an allocation failed, which is said on errors.
+/// - 3 if the file cannot be opened, a device failed or an allocation failed, which is said on errors.
+pub fn run_files<F: Files, R: Source, W: Sink, E: Sink>(
+    alloc: Global,
+    words: &[&str],
+    files: &F,
+    input: &mut R,
+    output: &mut W,
+    errors: &mut E,
+) -> u8
+    requires reads { R.has_failed input.old ≡ false }
+    requires writes { W.has_failed output.old ≡ false }
+    requires tells { E.has_failed errors.old ≡ false }
+    ensures ends { RunEndsOnFiles disk_command disk_file (texts_of words.now)
+        (R.left input.old) (R.has_failed input.new)
+        (F.bytes_of files.now) (F.may_fail files.now) (F.may_open files.now) result
+        (W.has_failed output.new) (W.held output.old) (W.held output.new)
+        (E.has_failed errors.new) (E.held errors.old) (E.held errors.new) }
+    ensures untouched { IsUnanswered disk_command (texts_of words.now)
+        → (input.new ≡ input.old) × (output.new ≡ output.old) }
+    ensures unread { (name : List ℕ) → disk_file (texts_of words.now) ≡ Some name
+        → input.new ≡ input.old }
+    ensures unwritten { R.has_failed input.new ≡ true → output.new ≡ output.old }
+    ensures at_most { TakesEnough disk_command (texts_of words.now)
+        (R.left input.old) (R.left input.new) }
+{
+    run_program_on_files::<Job, F, R, W, E>(alloc, words, files, input, output, errors)
+}
+
+/// Does what the words ask for on the input, as `run_files` does; words that name a file are not accepted.
 pub fn run<R: Source, W: Sink, E: Sink>(
     alloc: Global,
     words: &[&str],
@@ -26,17 +57,17 @@ pub fn run<R: Source, W: Sink, E: Sink>(
     requires reads { R.has_failed input.old ≡ false }
     requires writes { W.has_failed output.old ≡ false }
     requires tells { E.has_failed errors.old ≡ false }
-    ensures ends { RunEnds disk_command (texts_of words.now) (R.left input.old)
+    ensures ends { RunEnds disk_without_files (texts_of words.now) (R.left input.old)
         (R.has_failed input.new) result
         (W.has_failed output.new) (W.held output.old) (W.held output.new)
         (E.has_failed errors.new) (E.held errors.old) (E.held errors.new) }
-    ensures untouched { IsUnanswered disk_command (texts_of words.now)
+    ensures untouched { IsUnanswered disk_without_files (texts_of words.now)
         → (input.new ≡ input.old) × (output.new ≡ output.old) }
     ensures unwritten { R.has_failed input.new ≡ true → output.new ≡ output.old }
-    ensures at_most { TakesEnough disk_command (texts_of words.now)
+    ensures at_most { TakesEnough disk_without_files (texts_of words.now)
         (R.left input.old) (R.left input.new) }
 {
-    run_program::<Job, R, W, E>(alloc, words, input, output, errors)
+    run_program::<WithoutFiles<Job>, R, W, E>(alloc, words, input, output, errors)
 }
 
 /// Words ask for one thing at most, and what is asked of a disk has one answer at most: one status, one output and one text on errors.

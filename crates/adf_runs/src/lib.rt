@@ -2,6 +2,7 @@
 #![tactic(auto)]
 
 mod about;
+mod announced_input;
 mod devices;
 mod file_programs;
 mod files;
@@ -15,6 +16,7 @@ mod system;
 mod work_fault;
 
 pub use crate::about::{About, Telling, VERSION_NUMBER, help_as_documented, tell, telling_asked};
+pub use crate::announced_input::AnnouncedInput;
 pub use crate::devices::{Device, Failed, Sink, Source};
 pub use crate::file_programs::{FileProgram, WithoutFiles, refuse_file, run_program_on_files};
 pub use crate::files::{Files, SystemFiles, Unopened};

@@ -2,7 +2,7 @@
 -- Letters: s what is surveyed; w the walk of its survey, fs its findings; n an entry's node, h the block of its header; r an inquiry.
 use Rattle.std.specs.Prelude.{◌≡◌, ◌*◌, ◌⊎◌, ◌++◌, ℕ, Bool, true, false, List, [], ◌∷◌, Option, codes}
 use Rattle.adf_blocks.specs.declared.layout.TheConstants.{MOST_BLOCKS}
-use Rattle.adf_names.specs.PathTexts.{IsPathText}
+use Rattle.adf_names.specs.PathTexts.{IsPathText, path_text}
 use Rattle.adf_volume.specs.Walk.{FileAt, Role}
 use Rattle.adf_findings.specs.Files.{IsSoundFile, file_content, file_in}
 use Rattle.adf_findings.specs.Lookup.{LeadsTo}
@@ -12,7 +12,8 @@ use Rattle.adf_base.specs.declared.dates.Stamp.{Stamp}
 use Rattle.adf_texts.specs.VolumeLines.{AreDates}
 use Rattle.adf_cmd.specs.Answers.{IsBadPath, RefusesPath}
 use Rattle.adf_runs.specs.Commands.{Command, Reply, on_errors, on_output}
-use Rattle.adf_words.specs.SurveyLine.{AreRefusedBySurvey, AsksSurvey, InquiryValue, QuestionValue, asked, cat, list, report, rescue}
+use Rattle.adf_runs.specs.FileRuns.{without_files}
+use Rattle.adf_words.specs.SurveyLine.{AreRefusedBySurvey, AsksSurvey, InquiryValue, QuestionValue, asked, cat, list, report, rescue, survey_file}
 use Rattle.adf_survey_cmd.specs.FoundLines.{has_its_data, listing_text}
 use Rattle.adf_survey_cmd.specs.Remains.{WritesRemains}
 use Rattle.adf_survey_cmd.specs.Rescues.{Rescues}
@@ -37,9 +38,13 @@ abbrev pub TellsFound : SubjectValue → List (Role × ℕ) → List FindingValu
 TellsFound s w fs reply = (date : Stamp → List ℕ) × AreDates date × (sound : ℕ → Bool) × AreMarks s.image w fs sound
     × (reply ≡ on_output (told_status s.front fs) (listing_text date sound s w fs))
 
+-- what is said where nothing is under a path
+abbrev pub no_path_line : List (List ℕ) → List ℕ
+no_path_line names = codes "no such path: " ++ (path_text names ++ codes "\n")
+
 -- nothing is found under the names
 abbrev pub FindsNothing : SubjectValue → List (Role × ℕ) → List (List ℕ) → Reply → Type 0
-FindsNothing s w names reply = ((n : ℕ) → LeadsTo s.image w 0 names n → ⊥) × (reply ≡ on_errors 1 (codes "no such path\n"))
+FindsNothing s w names reply = ((n : ℕ) → LeadsTo s.image w 0 names n → ⊥) × (reply ≡ on_errors 1 (no_path_line names))
 
 -- the entry is no file
 abbrev pub FindsNoFile : SubjectValue → List (Role × ℕ) → ℕ → Reply → Type 0
@@ -112,8 +117,8 @@ HasSurveyAnswer r input = (reply : Reply) × SurveyAnswer r input reply
 -- what errors get where the words are refused
 abbrev pub survey_usage : List ℕ
 survey_usage =
-    codes "usage: adf-survey [--blocks N] [--list] < IMAGE\n       adf-survey [--blocks N] cat [--damaged] PATH < IMAGE\n"
-    ++ codes "       adf-survey [--blocks N] rescue < IMAGE\nan image comes on standard input; man adf-survey tells more\n"
+    codes "usage: adf-survey [--blocks N] [--list] [FILE]\n       adf-survey [--blocks N] cat [--damaged] PATH [FILE]\n"
+    ++ codes "       adf-survey [--blocks N] rescue [FILE]\nwithout a FILE the image comes on standard input; man adf-survey tells more\n"
 
 -- a question for the bytes under a path that is not read
 abbrev pub HasBadSurveyPath : QuestionValue → Type 0
@@ -135,3 +140,7 @@ survey_command = record {
   limit = λ r. 512 * MOST_BLOCKS;
   usage = survey_usage;
 }
+
+-- the same where there are no files
+abbrev pub survey_without_files : Command (List (List ℕ))
+survey_without_files = without_files survey_command survey_file

@@ -1,11 +1,11 @@
 // The bytes of sound files, and what is left of those that may be damaged.
 
-ghost use Rattle.std.specs.Prelude.{◌≡◌, ◌++◌, IfOk, OnOk, false, true};
+ghost use Rattle.std.specs.Prelude.{◌≡◌, ◌++◌, ℕ, IfOk, List, OnOk, Option, false, true};
 ghost use Rattle.std.specs.List.{flat_map};
 ghost use Rattle.adf_findings.specs.Files.{file_content};
 ghost use Rattle.adf_findings.specs.Survey.{OnSurvey};
-ghost use Rattle.adf_runs.specs.Commands.{on_output};
-ghost use Rattle.adf_survey_cmd.specs.Answers.{CopiesEntry, CopiesFound};
+ghost use Rattle.adf_runs.specs.Commands.{on_errors, on_output};
+ghost use Rattle.adf_survey_cmd.specs.Answers.{CopiesEntry, CopiesFound, no_path_line};
 ghost use Rattle.adf_survey_cmd.specs.Remains.{gap_line, remains_reply};
 ghost use Rattle.adf_survey_cmd.specs.Subject.{surveyed_as};
 ghost use Rattle.adf_runs.specs.Outcomes.{EndsBy, is_read_fault, is_write_fault};
@@ -16,7 +16,7 @@ use adf_cmd::{ROOM, write_through};
 use adf_findings::{Gap, Remains, SoundFile, Survey};
 use adf_runs::{Outcome, Sink, write_all};
 use adf_texts::push_number;
-use adf_tree::{Name, Node};
+use adf_tree::{Name, Node, write_path};
 use std::alloc::{AllocError, Global};
 
 // Writes the bytes of a file.
@@ -118,6 +118,22 @@ fn copy_remains<W: Sink>(
     }
 }
 
+// Says that nothing is under a path.
+fn no_such_path(alloc: Global, names: &[Name]) -> Outcome
+    ensures ends { (held : Option (List ℕ))
+        → EndsBy (λ reply. reply ≡ on_errors 1 (no_path_line names.now)) result held held }
+    ensures read { is_read_fault result ≡ false }
+    ensures written { is_write_fault result ≡ false }
+{
+    let Ok(path) = write_path(alloc, names) else {
+        return Outcome::NoMemory;
+    };
+    match format!(in alloc; "no such path: {path}\n") {
+        Ok(line) => Outcome::Refused(line),
+        Err(_) => Outcome::NoMemory,
+    }
+}
+
 /// The names of a path, and whether the file may be damaged.
 #[derive(Drop)]
 pub struct Asked<'a> {
@@ -143,6 +159,6 @@ pub fn copy_found<W: Sink>(
     match survey.find(asked.names) {
         Some(n) if asked.damaged => copy_remains(alloc, subject, survey, n, output),
         Some(n) => copy_entry(alloc, subject, survey, n, output),
-        None => Outcome::NoSuchPath,
+        None => no_such_path(alloc, asked.names),
     }
 }

@@ -17,9 +17,9 @@ use crate::rescuing::rescue_image;
 use crate::subject::Subject;
 use adf_cmd::MOST_IMAGE_BYTES;
 use adf_findings::{Survey, some_survey, survey};
-use adf_runs::{Outcome, Program, Sink, Source, WorkFault, read_input};
+use adf_runs::{FileProgram, Outcome, Program, Sink, Source, WorkFault, read_input};
 use adf_tree::{Name, read_path};
-use adf_words::{Question, SURVEY_USAGE as USAGE, parse_survey};
+use adf_words::{Question, SURVEY_USAGE as USAGE, parse_survey, survey_file};
 use std::alloc::Global;
 
 /// What is shown of the survey of an image.
@@ -258,4 +258,17 @@ impl Program for Work {
       taken = Prim.search rules;
       unread = λ words h. (asked h.0 (cat h.1 h.2), h.3, λ input. inl (h.4, refl));
     } };
+}
+
+impl FileProgram for Work {
+    ghost use Rattle.adf_words.specs.SurveyLine.{survey_file};
+
+    ghost file_of = { survey_file };
+
+    fn file_named<'a>(alloc: Global, words: &'a [&str]) -> Result<Option<&'a str>, WorkFault> {
+        match survey_file(alloc, words) {
+            Ok(file) => Ok(file),
+            Err(fault) => Err(WorkFault::from(fault)),
+        }
+    }
 }

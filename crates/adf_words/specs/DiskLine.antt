@@ -3,7 +3,8 @@ use Rattle.std.specs.Prelude.{◌≡◌, ◌⊎◌, ℕ, List, [], Option, Some,
 use Rattle.std.specs.Option.{option_and_then}
 use Rattle.std.specs.Str.{bytes_eq}
 use Rattle.clap.specs.Words.{App, Row, Rule, Text, fault_of, first_of, new_app, new_rule, subcommand_of, with_rule, with_subcommand}
-use Rattle.adf_words.specs.CommandLine.{bare_app, with_plain}
+use Rattle.adf_words.specs.CommandLine.{bare_app}
+use Rattle.adf_words.specs.FileArgument.{file_in, file_rule, with_file}
 use Rattle.adf_words.specs.SurveyLine.{number_named}
 use Rattle.adf_words.specs.declared.command_line.ArgsError.{ArgsError}
 use Rattle.adf_words.specs.declared.command_line.ArgsError.TheVariants.{NoMemory, Usage}
@@ -16,17 +17,17 @@ use Rattle.adf_words.specs.declared.disk_line.Wanted.TheVariants.{Number, Name}
 abbrev pub name_rule : Rule
 name_rule = record (new_rule (codes "name")) { required = true }
 
--- volume NAME
+-- volume NAME [FILE]
 abbrev pub volume_app : App
-volume_app = with_rule (new_app (codes "volume")) name_rule
+volume_app = with_rule (with_rule (new_app (codes "volume")) name_rule) file_rule
 
--- list, check
+-- list [FILE], check [FILE]
 abbrev pub lists_and_checks : App
-lists_and_checks = with_plain (with_plain (bare_app (codes "adf-disk")) (codes "list")) (codes "check")
+lists_and_checks = with_file (with_file (bare_app (codes "adf-disk")) (codes "list")) (codes "check")
 
--- the command line: these, survey, build, and volume NAME
+-- the command line: these, survey [FILE], build [PLAN], and volume NAME [FILE]
 abbrev pub disk_app : App
-disk_app = with_subcommand (with_plain (with_plain lists_and_checks (codes "survey")) (codes "build")) volume_app.top
+disk_app = with_subcommand (with_file (with_file lists_and_checks (codes "survey")) (codes "build")) volume_app.top
 
 -- a partition, by its number or its name
 pub data WantedValue : Type 0 where
@@ -59,9 +60,17 @@ disk_request_named command rows =
 abbrev pub disk_met : Option (Text × List Row) → Option DiskRequestValue
 disk_met = option_and_then (λ p. disk_request_named p.0 p.1)
 
+-- the file that the arguments name, if any
+abbrev pub disk_file : List Text → Option Text
+disk_file args = option_and_then (λ p. file_in p.1) (subcommand_of disk_app args)
+
 -- clap takes the arguments, and its matches name the request
 abbrev pub AsksDisk : List Text → DiskRequestValue → Type 0
 AsksDisk args r = (fault_of disk_app args ≡ []) × (disk_met (subcommand_of disk_app args) ≡ Some r)
+
+-- the arguments name the request, of a file or of standard input
+abbrev pub AsksDiskOf : List Text → DiskRequestValue → Option Text → Type 0
+AsksDiskOf args r file = AsksDisk args r × (disk_file args ≡ file)
 
 -- clap refuses the arguments, or its matches lack the command or its value
 abbrev pub AreRefusedByDisk : List Text → Type 0

@@ -1,5 +1,5 @@
 -- The command line of `adf-survey`, as clap reads it, and what its matches ask for.
-use Rattle.std.specs.Prelude.{◌≡◌, ◌⊎◌, ◌≤◌, ◌&&◌, ℕ, List, [], Bool, Option, Some, None, IfSome, codes, length, nat_le, option_map, true, if◌then◌else◌}
+use Rattle.std.specs.Prelude.{◌≡◌, ◌⊎◌, ◌≤◌, ◌&&◌, ◌||◌, ℕ, List, [], Bool, Option, Some, None, IfSome, codes, is_some, length, nat_le, option_map, true, if◌then◌else◌}
 use Rattle.std.specs.Option.{option_and_then}
 use Rattle.std.specs.Str.{all_ascii_digits, bytes_eq}
 use Rattle.std.specs.Str.Parse.{digits_value}
@@ -8,6 +8,7 @@ use Rattle.clap.specs.Words.{with_subcommand}
 use Rattle.clap.specs.declared.builder.action.ArgAction.TheVariants.{SetTrue}
 use Rattle.adf_blocks.specs.declared.layout.TheConstants.{MOST_BLOCKS}
 use Rattle.adf_words.specs.CommandLine.{cat_app, is_text, list_rule}
+use Rattle.adf_words.specs.FileArgument.{file_in, file_rule, with_file}
 use Rattle.adf_words.specs.declared.command_line.ArgsError.{ArgsError}
 use Rattle.adf_words.specs.declared.command_line.ArgsError.TheVariants.{NoMemory, Usage}
 use Rattle.adf_words.specs.declared.survey_line.Inquiry.{Inquiry}
@@ -27,17 +28,17 @@ blocks_rule = record (new_rule (codes "blocks")) { long = Some (codes "blocks") 
 abbrev pub damaged_rule : Rule
 damaged_rule = record (new_rule (codes "damaged")) { long = Some (codes "damaged"); action = Some SetTrue }
 
--- cat [--damaged] PATH
+-- cat [--damaged] PATH [FILE]
 abbrev pub survey_cat_app : App
-survey_cat_app = with_rule cat_app damaged_rule
+survey_cat_app = with_rule (with_rule cat_app damaged_rule) file_rule
 
--- with the option and the flag
+-- with the option, the flag and the file
 abbrev pub flagged_survey : App
-flagged_survey = with_rule (with_rule bare_survey blocks_rule) list_rule
+flagged_survey = with_rule (with_rule (with_rule bare_survey blocks_rule) list_rule) file_rule
 
--- the command line: [--blocks N], and [--list], cat [--damaged] PATH, or rescue
+-- the command line: [--blocks N], and [--list] [FILE], cat [--damaged] PATH [FILE], or rescue [FILE]
 abbrev pub survey_app : App
-survey_app = with_subcommand (with_subcommand flagged_survey survey_cat_app.top) (new_app (codes "rescue")).top
+survey_app = with_file (with_subcommand flagged_survey survey_cat_app.top) (codes "rescue")
 
 -- what is asked of an image: all findings; these and what is found; the bytes of a file, which is sound or may be damaged; or a new
 -- volume of all that stands
@@ -83,10 +84,14 @@ question_named name rows =
 abbrev pub asks_list : List Row → Bool
 asks_list rows = is_text (codes "true") (first_of (codes "list") rows)
 
--- what the matches ask, by their own rows: with no subcommand the findings; no subcommand goes with the flag
+-- the flag --list or a FILE is among the matches
+abbrev pub excludes_subcommand : List Row → Bool
+excludes_subcommand rows = asks_list rows || is_some (first_of (codes "file") rows)
+
+-- what the matches ask, by their own rows: with no subcommand the findings; no subcommand goes with the flag, or with a file before it
 abbrev pub question_met : List Row → Option (Text × List Row) → Option QuestionValue
 question_met rows None = Some (if asks_list rows then list else report)
-question_met rows (Some p) = if asks_list rows then None else question_named p.0 p.1
+question_met rows (Some p) = if excludes_subcommand rows then None else question_named p.0 p.1
 
 -- what the matches ask for
 abbrev pub inquiry_met : List Row → Option (Text × List Row) → Option InquiryValue
@@ -96,11 +101,24 @@ inquiry_met rows subcommand = option_and_then (λ blocks. option_map (asked bloc
 abbrev pub inquiry_of : List Text → Option InquiryValue
 inquiry_of args = inquiry_met (matches_of survey_app args) (subcommand_of survey_app args)
 
+-- the file that the matches name, if any: those of the subcommand where there is one
+abbrev pub survey_file_met : List Row → Option (Text × List Row) → Option Text
+survey_file_met rows None = file_in rows
+survey_file_met rows (Some p) = file_in p.1
+
+-- the file that the arguments name, if any
+abbrev pub survey_file : List Text → Option Text
+survey_file args = survey_file_met (matches_of survey_app args) (subcommand_of survey_app args)
+
 -- clap takes the arguments, and its matches ask for this
 abbrev pub AsksSurvey : List Text → InquiryValue → Type 0
 AsksSurvey args r = (fault_of survey_app args ≡ []) × (inquiry_of args ≡ Some r)
 
--- clap refuses the arguments, or its matches lack the path, have the flag before a subcommand, or have another text than a number of blocks
+-- the arguments ask for this, of a file or of standard input
+abbrev pub AsksSurveyOf : List Text → InquiryValue → Option Text → Type 0
+AsksSurveyOf args r file = AsksSurvey args r × (survey_file args ≡ file)
+
+-- clap refuses the arguments, or its matches lack the path, have the flag or a file before a subcommand, or have another text than a number of blocks
 abbrev pub AreRefusedBySurvey : List Text → Type 0
 AreRefusedBySurvey args = (¬ (fault_of survey_app args ≡ [])) ⊎ (inquiry_of args ≡ None)
 

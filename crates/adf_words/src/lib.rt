@@ -12,8 +12,10 @@ pub use crate::boot_line::{
     BOOT_USAGE, BootRequest, BootWords, boot_words_as_documented, parse_boot,
 };
 pub use crate::command_line::{ArgsError, Request, USAGE, parse, words_as_documented};
-pub use crate::disk_line::{DISK_USAGE, DiskRequest, Wanted, disk_words_as_documented, parse_disk};
+pub use crate::disk_line::{
+    DISK_USAGE, DiskRequest, Wanted, disk_file, disk_words_as_documented, parse_disk,
+};
 pub use crate::shelf_line::{Order, SHELF_USAGE, parse_shelf, shelf_words_as_documented};
 pub use crate::survey_line::{
-    Inquiry, Question, SURVEY_USAGE, parse_survey, survey_words_as_documented,
+    Inquiry, Question, SURVEY_USAGE, parse_survey, survey_file, survey_words_as_documented,
 };
