@@ -15,6 +15,7 @@
         print(volume.label)
     found = adf.survey(image)                       # of a damaged image: found.findings, found.entries, found.read("c/list")
     left, lost = found.remains("c/list")            # what is left of a damaged file, and the ranges of its bytes that are lost
+    pieces = found.entries[0].pieces()              # the same by number: each run of bytes that is found, with its place in the file
     new, left_out = adf.rescue(image)               # a sound volume of all that stands, and the entries that it leaves out
     disk = adf.Disk(image)                          # of a whole hard disk: disk.partitions, and adf.Volume(disk.volume("DH0"))
 
@@ -48,7 +49,7 @@ BLOCK = 512
 MOST_BYTES = BLOCK * 1_048_576
 NO_MEMORY = 23
 KINDS = ("ofs", "ffs")
-MOST_PARTITIONS, MOST_TABLES, DOS_TYPE = 1024, BLOCK * 65536, 0x444F5300
+MOST_PARTITIONS, MOST_TABLES, DOS_TYPE, NO_BLOCK = 1024, BLOCK * 65536, 0x444F5300, 0xFFFFFFFF
 ROLES = ("free", "boot", "root", "page", "map extension", "header", "extension", "data")
 SONAME = "libadf.so.1"
 LONGEST_NAME, LONGEST_COMMENT, MOST_NUMBER, PART = 30, 79, 2**32 - 1, 1 << 20
@@ -91,6 +92,7 @@ _Surveyed = _struct(
     *(("kind blocks", _WORD), ("findings entries", _SIZE)),
     *(("root altered created", _Date), ("label_length", _BYTE), ("label", _BYTE * 30)),
 )
+_Part = _struct(("node", _SIZE), ("number", _WORD))
 _Partition = _struct(
     *(("first blocks", ctypes.c_uint64), ("block flags", _WORD), ("priority", ctypes.c_int32), ("dos_type", _WORD)),
     *(("fault name_length", _BYTE), ("name", _BYTE * 31)),
@@ -107,6 +109,11 @@ _CALLS = {
     "adf_version": (_WORD,),
     "adf_run": (_BYTE, *(_POINTER, _SIZE) * 4, _POINTER),
     "adf_survey_index": (_BYTE, _POINTER, _SIZE, _POINTER, _SIZE, _POINTER, _SIZE, _POINTER),
+    "adf_survey_parts": (_BYTE, *(_POINTER, _SIZE) * 2),
+    "adf_survey_owners": (_BYTE, *(_POINTER, _SIZE) * 2),
+    "adf_found_blocks": (_SIZE, *(_POINTER, _SIZE) * 2, _SIZE, _WORD, _POINTER, _SIZE),
+    "adf_found_read": (_SIZE, _POINTER, _SIZE, _WORD, _POINTER, _SIZE, _SIZE, _POINTER, _SIZE, _POINTER),
+    "adf_escape": (_SIZE, *(_POINTER, _SIZE) * 2),
     "adf_disk_index": (_BYTE, _POINTER, _SIZE, ctypes.c_uint64, _POINTER, _SIZE, _POINTER),
     "adf_disk_cause_text": (_SIZE, _BYTE, _POINTER, _SIZE),
     "adf_partition_fault_text": (_SIZE, _BYTE, _POINTER, _SIZE),
@@ -426,6 +433,33 @@ class Found(NamedTuple):
         """What is left of a file, as Survey.remains gives it; NotReached if no path leads to this entry."""
         return self.survey.remains(self.survey._path_to(self.number))
 
+    def pieces(self) -> Iterator[tuple[int, bytes]]:
+        """What is left of a file, by its number and without a further survey: each run of bytes that is found, with its place in the
+        file, whether a path leads to this entry or not. What lies between the runs is lost. A directory has none."""
+        return ((offset, piece) for offset, piece, _ in self._pieces() if piece)
+
+    @property
+    def gaps(self) -> list[range]:
+        """The ranges of the bytes of a file that are lost, by its number."""
+        return [range(offset + len(piece), offset + len(piece) + lost) for offset, piece, lost in self._pieces() if lost]
+
+    def _pieces(self) -> Iterator[tuple[int, bytes, int]]:
+        """For each run of bytes that is found its place, its bytes, and how many bytes behind it are lost."""
+        image, parts, lost, offset = self.survey.image, self.survey._parts, _SIZE(), 0
+        place = parts, len(parts), self.number, self.header
+        count = _calls().adf_found_blocks(image, len(image), *place, (_WORD * 1)(), 0)
+        blocks = (_WORD * (count or 1))()
+        _calls().adf_found_blocks(image, len(image), *place, blocks, count)
+        blocks = (_WORD * len(blocks))(*(block if block < self.survey._held // BLOCK else NO_BLOCK for block in blocks))
+        room = ctypes.create_string_buffer(min(self.size, len(image)) or 1)
+        while True:
+            given = image, len(image), self.header, blocks, count, offset, room, len(room), ctypes.byref(lost)
+            read = _calls().adf_found_read(*given)
+            if not read and not lost.value:
+                return
+            yield offset, room.raw[:read], lost.value
+            offset += read + lost.value
+
 
 class _ReadOnly:
     """What is told once, and then only read."""
@@ -453,9 +487,11 @@ class Survey(_ReadOnly):
     raw_label: bytes
     label: str
     _rows: Any
+    _held: int
 
     def __init__(self, image: Image, blocks: int | None = None) -> None:
-        raw, told = _sized(_bytes(image), blocks), _Surveyed()
+        given = _bytes(image)
+        raw, told = _sized(given, blocks), _Surveyed()
         rooms, wanted = (0, 0), (FIRST_ROOM, FIRST_ROOM)
         while rooms != wanted:
             rooms = wanted
@@ -469,6 +505,7 @@ class Survey(_ReadOnly):
             created=_date(told.created), raw_label=label, label=label.decode("latin-1"),
         )
         vars(self)["entries"] = [self._entry(place + 1, tables[2][place]) for place in range(told.entries)]
+        vars(self)["_held"] = min(len(given), len(raw))
         vars(self)["_rows"] = (_Finding * told.findings).from_buffer_copy(tables[0])
 
     def __repr__(self) -> str:
@@ -476,7 +513,7 @@ class Survey(_ReadOnly):
 
     def __reduce__(self) -> Any:
         """Pickled as its image, which is surveyed again."""
-        return Survey, (self.image,)
+        return Survey, (self.image[: self._held], None if self._held == len(self.image) else len(self.image) // BLOCK)
 
     @property
     def findings(self) -> Findings:
@@ -507,6 +544,22 @@ class Survey(_ReadOnly):
         lost, and the ranges of these. NoSuchPath and NotAFile as of `read`."""
         left, lines = self._cat(path, "--damaged")
         return left, [range(int(first), int(last) + 1) for first, last in re.findall(rb"bytes (\d+) to (\d+)", lines)]
+
+    @functools.cached_property
+    def _parts(self) -> Any:
+        """What the survey has at each block."""
+        parts = (_Part * (len(self.image) // BLOCK or 1))()
+        if _calls().adf_survey_parts(self.image, len(self.image), parts, len(parts)) != 0:
+            raise NoMemory
+        return parts
+
+    def owners(self) -> bytes:
+        """The role of each block by what is found there, a byte for each, as a place in ROLES: 0 where nothing is, and everywhere without
+        a root."""
+        roles = ctypes.create_string_buffer(len(self.image) // BLOCK or 1)
+        if _calls().adf_survey_owners(self.image, len(self.image), roles, len(roles)) != 0:
+            raise NoMemory
+        return roles.raw[: len(self.image) // BLOCK]
 
     @functools.cached_property
     def _firsts(self) -> dict[tuple[int, bytes], int]:
