@@ -14,3 +14,6 @@ pub mod TableNames
 pub mod FoundRows
 -- what is read of a hard disk
 pub mod DiskReadings
+-- volumes that are built
+pub mod TableDrafts
+pub mod Refusals

@@ -1,5 +1,7 @@
 -- The promise: the buffers and tables of a caller in memory, and what the calls put there.
 pub mod Areas
+pub mod TableAdditions
+pub mod Building
 pub mod FoundTables
 pub mod DiskTables
 pub mod OwnerNumbers
