@@ -31,10 +31,16 @@ next : {X Y : Type 0} (f : X → Y) (d : Y) (xs : List X) (x : X) (m : ℕ) → 
     → get_or (d ∷ map f (xs ++ x ∷ [])) m d ≡ f x
 next f d xs x m at = rw (map-append f xs (x ∷ [])) (get_or_push (d ∷ map f xs) (f x) d m (omega (arith, length_mapped f xs)))
 
-counted : (bytes : List ℕ) (before : List Addition) (xs : List TableAddition) → length (fold (with_next bytes) before xs) ≡ length before + length xs
+counted : (bytes : List ℕ) (before : List Addition) (xs : List TableAddition)
+    → length (fold (with_next bytes) before xs) ≡ length before + length xs
 counted bytes before [] = omega arith
 counted bytes before (x ∷ xs) =
-    omega (arith, counted bytes (with_next bytes before x) xs, length_push before (record { path = path_in before x; meta = meta_in x; body = body_in bytes x }))
+    omega (
+      arith,
+      counted bytes (with_next bytes before x) xs,
+      length_push before
+          (record { path = path_in before x; meta = meta_in x; body = body_in bytes x }),
+    )
 
 -- there are as many additions with paths as in the table
 pub additions_count : (bytes : List ℕ) (xs : List TableAddition) → length (additions_of bytes xs) ≡ length xs
@@ -89,7 +95,8 @@ pub directory_is : (before : List TableAddition) (x : TableAddition) (p : ℕ) �
     → (p ≡ x.parent) × (p ≤ length before) × (is_file_at before p ≡ false)
 directory_is before x p e = grind (arith, common_steps, nat_tests)
 
-module _ (t : Tree) (bytes : List ℕ) (before : List TableAddition) (x : TableAddition) (p : ℕ) (d : DraftValue) (is : IsNext t bytes before x p d) where
+module _ (t : Tree) (bytes : List ℕ) (before : List TableAddition) (x : TableAddition) (p : ℕ) (d : DraftValue)
+    (is : IsNext t bytes before x p d) where
   at : fault_of bytes before x ≡ fault_in bytes before x (Ok p)
   at = directory_fault bytes before x (Ok p) is.directory
 

@@ -9,7 +9,8 @@ add_next-requires-clause-state c = let s = c.requires in (s.0, c.loop-i.invarian
 
 pub returns-in-Err-clause-fault : goal.returns-in-Err-clause-fault
 returns-in-Err-clause-fault c = rw c.refusal_of.ensures
-    (table_refusal c.args.contents.now c.args.additions.now c.loop-i.i c.in-Err.fault c.loop-i-test.true c.loop-i.invariant.sound c.in-Err.ensures.fault)
+    (table_refusal c.args.contents.now c.args.additions.now c.loop-i.i c.in-Err.fault c.loop-i-test.true c.loop-i.invariant.sound
+    c.in-Err.ensures.fault)
 
 pub loop-i-preserved : goal.loop-i-preserved
 loop-i-preserved c = record {
