@@ -1,11 +1,12 @@
 """Tests of volumes that are built from memory, and of adf-pack --image."""
 
+import argparse
 import os
 import random
 
 import adf
 from adf import building
-from adf_tools import trees
+from adf_tools import pack, packed_image, program, trees
 from tests.shared import Folder, built, image_of, listed, written
 
 DATE = adf.Date(1, 2, 3)
@@ -112,6 +113,20 @@ class Images(Folder):
         written("new.hdf")
         self.refused(3, "new.hdf: File exists", "pack", "--image", "new.hdf", ".")
         self.assertEqual(sorted(os.listdir(".")), ["a", "new.hdf"])
+
+    def test_refuses_what_changes_while_it_is_read(self):
+        os.mkdir("f")
+        for name in "abc":
+            written(f"f/{name}", b"12345")
+        packer = pack.Packer(argparse.Namespace(escape=False, no_uaem=False, blocks=None))
+        plan, found = packed_image.planned(packer, b"f")
+        view = memoryview(bytearray(plan.size))
+        packed_image.read_all(view, packer, b"f", found)
+        self.assertEqual(view, b"12345" * 3)
+        for change in (lambda: written("f/c", b"1234"), lambda: written("f/c", b"123456"), lambda: os.remove("f/c"), lambda: os.mkdir("f/c")):
+            change()
+            with self.assertRaisesRegex(program.Stop, "f/c: changed while it was read"):
+                packed_image.read_all(view, packer, b"f", found)
 
     def test_packs_deep_trees(self):
         names = [f"dir 8035:0:0 00000000 {'ddd/' * level}ddd" for level in range(1200)]
