@@ -114,6 +114,11 @@ class Images(Folder):
         self.refused(3, "new.hdf: File exists", "pack", "--image", "new.hdf", ".")
         self.assertEqual(sorted(os.listdir(".")), ["a", "new.hdf"])
 
+    def test_wants_kind_and_blocks_for_a_manifest(self):
+        for words in (["."], ["ffs", "."], ["--size", "880K", "ffs", "1760", "."]):
+            self.refused(2, "without --image", "pack", *words)
+        self.assertEqual(self.run_tool("pack", "--image", "new.hdf", "--size", "7", ".").returncode, 2)
+
     def test_refuses_what_changes_while_it_is_read(self):
         os.mkdir("f")
         for name in "abc":
