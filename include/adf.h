@@ -230,6 +230,84 @@ uint8_t adf_find(const struct adf_entry *entries, size_t count, const uint8_t *p
 size_t adf_read(const uint8_t *image, size_t length, const struct adf_entry *entries, size_t entries_count, const uint32_t *blocks,
                 size_t blocks_count, size_t node, size_t offset, uint8_t *room, size_t room_length);
 
+/* Building volumes
+ *
+ * A volume is built of a table of what is added to it, in the order of the table, and of the contents of all its files.
+ */
+
+/* A directory or file that is to be built. Addition n is at index n - 1 of the table. */
+struct adf_addition {
+    size_t parent;       /* the number of its directory, which is less than its own, or 0 for the root */
+    size_t begin;        /* the offset of a file's first byte in the contents */
+    size_t size;         /* bytes of a file; of a directory, begin and size do not count */
+    uint32_t protection; /* as in struct adf_entry */
+    struct adf_date date;
+    uint8_t is_file;        /* 0 for a directory, any other number for a file */
+    uint8_t name_length;    /* 1 to 30 */
+    uint8_t name[30];       /* any bytes except `/` and `:`; those after name_length do not count */
+    uint8_t comment_length; /* 0 to 79 */
+    uint8_t comment[79];    /* those after comment_length do not count */
+};
+
+/* A volume that is to be built. */
+struct adf_new_volume {
+    uint32_t kind;        /* an adf_kind */
+    uint32_t blocks;      /* all blocks: even, 4 to 1,048,576; adf_need does not look at it */
+    struct adf_date root; /* the three dates of the root block, as in struct adf_contents */
+    struct adf_date altered;
+    struct adf_date created;
+    uint8_t label_length; /* 0 to 30 */
+    uint8_t label[30];    /* any bytes; those after label_length do not count */
+};
+
+/* What is told beside the number. Fields that do not apply are 0. */
+struct adf_built {
+    size_t addition; /* the number of the addition that has the fault */
+    uint64_t need;   /* ADF_BUILD_FULL: the blocks that the tree needs, and those that there are, without the two boot blocks */
+    uint64_t have;
+    uint32_t blocks; /* at 0, all blocks of the volume */
+};
+
+/* Why no volume is built. They are tested in this order: those of the volume and the room first, then those of each addition in turn,
+ * and last whether the tree fits. */
+enum adf_build_refusal {
+    ADF_BUILD_DONE = 0,
+    ADF_BUILD_BAD_KIND = 1,
+    ADF_BUILD_BAD_LABEL = 2,      /* The label is longer than 30 bytes. */
+    ADF_BUILD_BAD_SIZE = 3,       /* The number of blocks is not allowed. */
+    ADF_BUILD_SMALL_ROOM = 4,     /* The room has fewer than blocks * 512 bytes. */
+    ADF_BUILD_NO_PARENT = 5,      /* The directory of the addition does not stand before it. */
+    ADF_BUILD_PARENT_IS_FILE = 6, /* The directory of the addition is a file. */
+    ADF_BUILD_BAD_NAME = 7,       /* Its name is empty or too long, or has a `/` or `:`. */
+    ADF_BUILD_EXISTS = 8,         /* An earlier one has its directory and its name, ignoring the case of a to z. */
+    ADF_BUILD_BAD_COMMENT = 9,    /* Its comment is longer than 79 bytes. */
+    ADF_BUILD_PAST_CONTENTS = 10, /* Its bytes end past the contents. */
+    ADF_BUILD_FULL = 11,          /* The tree needs more blocks than there are. */
+    ADF_BUILD_NO_MEMORY = 23      /* An allocation failed. */
+};
+
+/* Builds a volume of these additions at the front of the room. Returns an adf_build_refusal.
+ *
+ * 0: the first blocks * 512 bytes of the room are the image of the volume that has these entries and no others, as `adf build` lays
+ *    it: the same table gives the same bytes. adf_check accepts it. The rest of the room is unchanged.
+ * Another number: nothing is written to the room. If it is that of an addition, built->addition is the first one that has a fault,
+ *    and the number is its first fault.
+ *
+ * The contents of all files may stand in any order, and share bytes. Besides the room, the call takes memory for a copy of the
+ * contents, and some 500 bytes for each addition.
+ */
+uint8_t adf_build(const struct adf_new_volume *volume, const struct adf_addition *additions, size_t count, const uint8_t *contents,
+                  size_t contents_length, uint8_t *room, size_t room_length, struct adf_built *built);
+
+/* Finds the smallest volume for these additions. Returns an adf_build_refusal.
+ *
+ * 0: built->blocks is the fewest blocks of a volume in which they have room.
+ * ADF_BUILD_FULL: not even the largest volume, of 1,048,576 blocks, has room for them.
+ * Another number: as for adf_build.
+ */
+uint8_t adf_need(const struct adf_new_volume *volume, const struct adf_addition *additions, size_t count, const uint8_t *contents,
+                 size_t contents_length, struct adf_built *built);
+
 /* Surveys
  *
  * A survey continues past the first fault: it finds everything that is wrong, and every directory and file that can still be

@@ -53,7 +53,7 @@ _adf_files() {
         adf-shelf:-*) COMPREPLY=($(compgen -W "--null --help --version" -- "$2")) ;;
         adf-catalogue:-*) COMPREPLY=($(compgen -W "--tsv --rescue --fresh --escape --index-text --dat -h --help --version" -- "$2")) ;;
         adf-pack:-*)
-            COMPREPLY=($(compgen -W "--label --date --altered --created --no-uaem --escape -h --help --version" -- "$2"))
+            COMPREPLY=($(compgen -W "--image --size --label --date --altered --created --no-uaem --escape -h --help --version" -- "$2"))
             ;;
         adf-unpack:-*) COMPREPLY=($(compgen -W "--uaem --escape -h --help --version" -- "$2")) ;;
         adf-map:-*) COMPREPLY=($(compgen -W "--partition -h --help --version" -- "$2")) ;;

@@ -17,6 +17,7 @@
     left, lost = found.remains("c/list")            # what is left of a damaged file, and the ranges of its bytes that are lost
     pieces = found.entries[0].pieces()              # the same by number: each run of bytes that is found, with its place in the file
     new, left_out = adf.rescue(image)               # a sound volume of all that stands, and the entries that it leaves out
+    image = adf.build("ffs", None, [adf.Addition("c"), adf.Addition("c/list", b"..")], "Work")  # a new volume, here as small as may be
     disk = adf.Disk(image)                          # of a whole hard disk: disk.partitions, and adf.Volume(disk.volume("DH0"))
 
 Texts are in Latin-1, as Amigas have them, so each byte is one character and nothing is lost; where a path is given, bytes do
@@ -73,7 +74,7 @@ def _struct(*fields: tuple[str, Any]) -> Any:
 
 
 _WORD, _BYTE, _BOOL, _SIZE, _POINTER = ctypes.c_uint32, ctypes.c_uint8, ctypes.c_bool, ctypes.c_size_t, ctypes.c_void_p
-_Date = _struct(("days mins ticks", _WORD))
+_Date: Any = _struct(("days mins ticks", _WORD))
 _Verdict = _struct(("kind blocks used free", _WORD), ("dirs files", _SIZE), ("block", _WORD))
 _Entry = _struct(
     *(("parent header size first protection", _WORD), ("date", _Date), ("is_file name_length", _BYTE)),
@@ -118,6 +119,8 @@ _CALLS = {
     "adf_disk_cause_text": (_SIZE, _BYTE, _POINTER, _SIZE),
     "adf_partition_fault_text": (_SIZE, _BYTE, _POINTER, _SIZE),
     "adf_survey_run": (_BYTE, *(_POINTER, _SIZE) * 4, _POINTER),
+    "adf_build": (_BYTE, *(_POINTER,) * 2, _SIZE, *(_POINTER, _SIZE) * 2, _POINTER),
+    "adf_need": (_BYTE, *(_POINTER,) * 2, _SIZE, _POINTER, _SIZE, _POINTER),
 }
 _library: ctypes.CDLL | None = None
 
@@ -975,3 +978,6 @@ class File(io.RawIOBase):
             raise OSError(errno.EINVAL, os.strerror(errno.EINVAL))
         self._at = at
         return at
+
+
+from adf.building import Addition, NotBuilt, build  # noqa: E402,F401: they stand on all that is above

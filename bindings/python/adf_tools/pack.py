@@ -8,7 +8,7 @@ import os
 import re
 import stat
 import sys
-from typing import BinaryIO, Iterable, Iterator
+from typing import BinaryIO, Iterable, Iterator, NamedTuple
 
 import adf
 from adf_tools.names import bytes_of
@@ -16,14 +16,28 @@ from adf_tools.program import REFUSED, add_escape, begin, command_line, host_tex
 from adf_tools.trees import Place
 from adf_tools.uaem import ENDING, Kept, kept_in, name_in
 
+USAGE = 2
 TICKS_TO_1978 = 2922 * 86400 * 50
 NEVER = adf.Date(0, 0, 0)
 LONGEST_SIDECAR, LONGEST_LINE = 4096, 100
+UNITS = {"": 1, "K": 1 << 10, "M": 1 << 20, "G": 1 << 30}
 
 
-def amiga_text(text: bytes, path: str | bytes, is_escaped: bool, is_kept: bool = False) -> str:
-    """The escape form of the bytes that a text of the host stands for, or a name that has a file NAME.uaem; if a volume cannot have
-    them, its path is told."""
+class Item(NamedTuple):
+    """What is found in a folder: how many folders it is in, its name on the host and on the volume, the bytes of a file, and what is
+    kept of it."""
+
+    depth: int
+    name: bytes
+    raw_name: bytes
+    size: int
+    kept: Kept
+    is_file: bool
+
+
+def amiga_name(text: bytes, path: str | bytes, is_escaped: bool, is_kept: bool = False) -> bytes:
+    """The bytes that a text of the host stands for, or a name that has a file NAME.uaem; if a volume cannot have them, its path is
+    told."""
     try:
         raw = name_in(text) if is_kept and not is_escaped else bytes_of(text, is_escaped)
     except UnicodeEncodeError as error:
@@ -35,7 +49,7 @@ def amiga_text(text: bytes, path: str | bytes, is_escaped: bool, is_kept: bool =
             stop(REFUSED, f"{host_text(path)}: no name on an Amiga has a {byte}")
     if len(raw) > adf.LONGEST_NAME:
         stop(REFUSED, f"{host_text(path)}: a name of {len(raw)} bytes, and an Amiga has at most {adf.LONGEST_NAME}")
-    return adf.escape(raw)
+    return raw
 
 
 def stamp_of(nanoseconds: int) -> str:
@@ -75,7 +89,7 @@ class Packer:
 
     def __init__(self, words: argparse.Namespace) -> None:
         self.is_escaped, self.reads_uaem = words.escape, not words.no_uaem
-        self.blocks, self.left = words.blocks, adf.BLOCK * words.blocks
+        self.blocks, self.left = words.blocks, adf.BLOCK * (words.blocks or 0)
 
     def names(self, place: Place) -> Iterator[tuple[bytes, bool]]:
         """The names in a folder, each with whether a file beside it keeps what it has; such a file is not one of them."""
@@ -100,33 +114,50 @@ class Packer:
     def lines(self, folder: bytes) -> Iterator[str]:
         """The lines of all that is in a folder, by names, each folder before what is in it."""
         with Place(folder) as place:
-            waiting, above = [self.names(place)], [""]
-            while waiting:
-                name, is_kept = next(waiting[-1], (b"", False))
-                if not name:
-                    waiting.pop()
-                    above.pop()
-                    if waiting:
-                        place.go_out()
-                    continue
-                path, found = place.path_of(name), place.status(name)
-                text = above[-1] + amiga_text(name, path, self.is_escaped, is_kept)
-                kept = kept_beside(place, name) if is_kept else Kept(0, stamp_of(found.st_mtime_ns), b"")
-                if stat.S_ISDIR(found.st_mode):
-                    yield from entry_lines("dir", text, kept)
-                    place.go_in(name)
-                    waiting.append(self.names(place))
-                    above.append(text + "/")
-                elif stat.S_ISREG(found.st_mode):
-                    yield from entry_lines("file", text, kept)
-                    yield from run_lines(self.parts(place, name))
+            above = [""]
+            for item in self.items(place):
+                del above[item.depth + 1 :]
+                text = above[-1] + adf.escape(item.raw_name)
+                if item.is_file:
+                    yield from entry_lines("file", text, item.kept)
+                    yield from run_lines(self.parts(place, item.name))
                 else:
-                    stop(REFUSED, f"{host_text(path)}: neither a file nor a directory")
+                    yield from entry_lines("dir", text, item.kept)
+                    above.append(text + "/")
+
+    def items(self, place: Place) -> Iterator[Item]:
+        """All that is in a folder, by names, each folder before what is in it; the place is where an item is, as it comes."""
+        waiting = [self.names(place)]
+        while waiting:
+            name, is_kept = next(waiting[-1], (b"", False))
+            if not name:
+                waiting.pop()
+                if waiting:
+                    place.go_out()
+                continue
+            path, found = place.path_of(name), place.status(name)
+            raw = amiga_name(name, path, self.is_escaped, is_kept)
+            kept = kept_beside(place, name) if is_kept else Kept(0, stamp_of(found.st_mtime_ns), b"")
+            is_file = stat.S_ISREG(found.st_mode)
+            if not is_file and not stat.S_ISDIR(found.st_mode):
+                stop(REFUSED, f"{host_text(path)}: neither a file nor a directory")
+            yield Item(len(waiting) - 1, name, raw, found.st_size if is_file else 0, kept, is_file)
+            if not is_file:
+                place.go_in(name)
+                waiting.append(self.names(place))
 
 
 def date(text: str) -> adf.Date:
     """A date as `adf list` writes it, with or without the time, or as a manifest does. ValueError if it is not one."""
     return adf.Date.of(f"{text} 00:00:00.00" if re.fullmatch(r"[0-9-]+", text) else text)
+
+
+def blocks_in(size: str) -> int:
+    """The blocks of a size, as 880K or 100M. ValueError if it is none."""
+    found = re.fullmatch(r"([0-9]{1,12})([KMG]?)", size)
+    if not found or int(found[1]) * UNITS[found[2]] % adf.BLOCK:
+        raise ValueError(f"not a size in blocks of 512 bytes, as 880K or 100M: {size!r}")
+    return int(found[1]) * UNITS[found[2]] // adf.BLOCK
 
 
 def shortened(line: str) -> str:
@@ -149,11 +180,17 @@ def head_of(words: argparse.Namespace) -> Iterator[str]:
     """The lines of the volume."""
     yield f"volume {words.kind} {words.blocks}"
     if words.label:
-        yield "label " + amiga_text(os.fsencode(words.label), words.label, words.escape)
+        yield "label " + adf.escape(amiga_name(os.fsencode(words.label), words.label, words.escape))
     yield f"stamps {words.date.stamp} {words.altered.stamp} {words.created.stamp}"
 
 
 def work(words: argparse.Namespace) -> int:
+    if words.image is not None:
+        from adf_tools.packed_image import write_image
+
+        return write_image(words)
+    if words.kind is None or words.blocks is None or words.size is not None:
+        stop(USAGE, "without --image the words are KIND, BLOCKS and FOLDER, and no --size")
     if not 0 <= words.blocks <= adf.MOST_BYTES // adf.BLOCK:
         tried(head_of(words))
     lines = itertools.chain(head_of(words), Packer(words).lines(os.fsencode(words.folder)))
@@ -162,15 +199,19 @@ def work(words: argparse.Namespace) -> int:
 
 
 def main() -> None:
-    line = command_line("adf-pack", "Writes a manifest of a folder on standard output; adf build makes a volume of it.")
-    line.add_argument("kind", metavar="KIND", choices=adf.KINDS, help="ofs or ffs")
-    line.add_argument("blocks", metavar="BLOCKS", type=int, help="blocks of 512 bytes; a floppy of 880 KB has 1760")
+    line = command_line("adf-pack", "Writes a manifest of a folder on standard output, of which adf build makes a volume, or an image.")
+    line.add_argument("kind", metavar="KIND", nargs="?", choices=adf.KINDS, help="ofs or ffs; with --image it may be left out: ffs")
+    line.add_argument(
+        "blocks", metavar="BLOCKS", nargs="?", type=int, help="blocks of 512 bytes; a floppy of 880 KB has 1760; not with --size")
     line.add_argument("folder", metavar="FOLDER")
+    line.add_argument("--image", metavar="FILE", help="write the image itself, into a new file")
+    line.add_argument("--size", metavar="SIZE", type=blocks_in, help="the size of the image, as 880K or 100M; without it as small as may be")
     line.add_argument("--label", metavar="TEXT", help="the name of the volume")
     for option, what in (("--date", "the root"), ("--altered", "the last change of the volume"), ("--created", "its creation")):
         line.add_argument(option, metavar="DATE", type=date, default=NEVER, help=f"the date of {what}, as 2026-11-25 06:56:04.10")
     line.add_argument("--no-uaem", action="store_true", help="pack files NAME.uaem like other files")
     add_escape(line, "read names and the label")
+    setattr(line, "parse_args", line.parse_intermixed_args)  # options may stand between words that may be left out
     begin(line, work)
 
 

@@ -1,5 +1,6 @@
 #![doc = include_str!("../README.md")]
 
+mod building;
 mod cause;
 mod command;
 mod disk;
@@ -11,6 +12,7 @@ mod role;
 mod survey;
 mod text;
 
+pub use building::{build, Addition, BuildRefusal, Dates, NotBuilt};
 pub use cause::{Cause, NotFound, Refused};
 pub use command::{run, survey, Answer, Failed};
 pub use disk::{Disk, DiskCause, DiskFault, Partition, PartitionFault};

@@ -195,6 +195,17 @@ extern "C" fn adf_disk_index(
 
 #[no_mangle]
 #[allow(clippy::too_many_arguments)]
+extern "C" fn adf_build(_: *const u8, _: *const u8, _: usize, _: *const u8, _: usize, _: *mut u8, _: usize, _: *mut u8) -> u8 {
+    NEW
+}
+
+#[no_mangle]
+extern "C" fn adf_need(_: *const u8, _: *const u8, _: usize, _: *const u8, _: usize, _: *mut u8) -> u8 {
+    NEW
+}
+
+#[no_mangle]
+#[allow(clippy::too_many_arguments)]
 extern "C" fn adf_run(
     _: *const u8,
     _: usize,
@@ -243,6 +254,8 @@ fn an_answer_that_is_new_accepts_no_image() {
     assert_eq!(refused.to_string(), "block 0: unknown cause 24");
     assert_eq!(Cause::from(NEW + 1).to_string(), "new");
     assert_eq!(adf::version(), 20_001);
+    let refused = adf::build(Kind::Ofs, None, &[], b"", adf::Dates::default()).unwrap_err();
+    assert_eq!((refused.refusal, refused.to_string()), (adf::BuildRefusal::Unknown(NEW), "unknown refusal 24".into()));
 }
 
 #[test]

@@ -16,3 +16,6 @@ pub mod FoundBlocks
 pub mod FoundRoles
 -- what is read of a hard disk
 pub mod DiskReadings
+-- volumes that are built
+pub mod TableDrafts
+pub mod Refusals

@@ -2,6 +2,8 @@
 pub mod Areas
 pub mod FoundFiles
 pub mod FoundRoles
+pub mod TableAdditions
+pub mod Building
 pub mod FoundTables
 pub mod DiskTables
 pub mod OwnerNumbers

@@ -1,6 +1,7 @@
 //! Checks, tables, look-up, reading and whole commands over memory that the caller gives.
 #![tactic(auto)]
 
+mod building;
 mod causes;
 mod disk_index;
 mod disk_tables;
@@ -16,10 +17,12 @@ mod owners;
 mod reading;
 mod running;
 mod survey_index;
+mod table_additions;
 mod tables;
 mod verdict;
 mod words;
 
+pub use crate::building::{Built, NewVolume, Refusal, build_volume, need_volume};
 pub use crate::causes::{cause_text, disk_cause_text, partition_fault_text};
 pub use crate::disk_index::put_disk;
 pub use crate::disk_tables::{TableDisk, TablePartition};
@@ -35,5 +38,6 @@ pub use crate::owners::owners_of;
 pub use crate::reading::read_bytes;
 pub use crate::running::run_in_memory;
 pub use crate::survey_index::put_survey;
+pub use crate::table_additions::{AdditionFault, TableAddition};
 pub use crate::tables::{Contents, Date, TableEntry};
 pub use crate::verdict::{Verdict, check_image};

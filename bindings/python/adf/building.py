@@ -1,0 +1,171 @@
+"""Volumes that are built from memory: adf.build, adf.need, adf.Addition and adf.NotBuilt."""
+
+from __future__ import annotations
+
+import ctypes
+from typing import Any, Iterable, NamedTuple, Sequence
+
+import adf
+
+NEVER = adf.Date(0, 0, 0)
+DONE, FULL = 0, 11
+REFUSALS = {
+    1: "no kind of volume", 2: "a label is longer than 30 bytes", 3: "bad size", 4: "the room is too small", 5: "no parent",
+    6: "parent is file", 7: "no name of an Amiga", 8: "exists", 9: "a comment is longer than 79 bytes", 10: "past the contents",
+}
+_WORD, _BYTE, _SIZE = ctypes.c_uint32, ctypes.c_uint8, ctypes.c_size_t
+_Addition = adf._struct(
+    *(("parent begin size", _SIZE), ("protection", _WORD), ("date", adf._Date), ("is_file name_length", _BYTE)),
+    *(("name", _BYTE * 30), ("comment_length", _BYTE), ("comment", _BYTE * 79)),
+)
+_NewVolume = adf._struct(
+    *(("kind blocks", _WORD), ("root altered created", adf._Date), ("label_length", _BYTE), ("label", _BYTE * 30)),
+)
+_Built = adf._struct(("addition", _SIZE), ("need have", ctypes.c_uint64), ("blocks", _WORD))
+
+
+class Addition(NamedTuple):
+    """A directory or file to build: its path, its bytes (None for a directory), comment, protection and date. Texts are in Latin-1."""
+
+    path: str | bytes
+    content: bytes | None = None
+    comment: str | bytes = b""
+    protection: int = 0
+    date: adf.Date = NEVER
+
+    @classmethod
+    def of(cls, entry: adf.Entry) -> Addition:
+        """What an entry of a volume is, to build it again."""
+        content = entry.read() if entry.is_file else None
+        return cls(entry.raw_path, content, entry.raw_comment, entry.protection, entry.date)
+
+
+class NotBuilt(adf.Error, ValueError):
+    """No volume is built: why; the path of the addition that has the fault, and its number from 1 (`entry` is the addition itself);
+    for a tree that does not fit the blocks that it needs and those that there are, without the two boot blocks."""
+
+    def __init__(self, why: str, path: str = "", number: int = 0, need: int = 0, have: int = 0) -> None:
+        super().__init__(why, path, number, need, have)
+        self.why, self.path, self.number, self.need, self.have = why, path, number, need, have
+        self.entry: Addition | None = None
+
+    def __str__(self) -> str:
+        return f"{self.path}: {self.why}" if self.path else self.why
+
+
+def _raw(text: str | bytes) -> bytes:
+    return text if isinstance(text, bytes) else text.encode("latin-1")
+
+
+def _filled(field: Any, raw: bytes) -> int:
+    """Puts bytes into a field; the length that tells how many, or that they are too many."""
+    ctypes.memmove(field, raw, min(len(raw), len(field)))
+    return min(len(raw), 255)
+
+
+class Plan:
+    """The table of what is added, in order, and where the bytes of each file are in the contents, whose size is `size`."""
+
+    def __init__(self) -> None:
+        self.size, self.largest = 0, 0
+        self._rows: list[tuple[int, int, int | None, int, adf.Date, bytes, bytes]] = []
+
+    def __len__(self) -> int:
+        return len(self._rows)
+
+    def put(self, parent: int, name: bytes, size: int | None, comment: bytes, protection: int, date: adf.Date) -> int:
+        """Adds a file of so many bytes, or a directory (None), to addition `parent`, 0 for the root. Where its bytes begin."""
+        begin = self.size
+        self._rows.append((parent, begin, size, protection, date, name, comment))
+        self.size, self.largest = begin + (size or 0), max(self.largest, size or 0)
+        return begin
+
+    def path_of(self, number: int) -> bytes:
+        """The path of an addition."""
+        names = []
+        while 0 < number <= len(self._rows):
+            row = self._rows[number - 1]
+            names.append(row[5])
+            number = row[0] if row[0] < number else 0
+        return b"/".join(reversed(names))
+
+    def table(self, is_shared: bool = False) -> Any:
+        """The table for the library; if it is shared, the bytes of all files begin at the first one of the contents."""
+        table = (_Addition * max(len(self._rows), 1))()
+        for row, (parent, begin, size, protection, date, name, comment) in zip(table, self._rows):
+            row.parent, row.begin, row.size, row.protection = parent, 0 if is_shared else begin, size or 0, protection
+            row.date, row.is_file = adf._Date(*date), size is not None
+            row.name_length, row.comment_length = _filled(row.name, name), _filled(row.comment, comment)
+        return table
+
+
+def new_volume(kind: str, blocks: int, label: str | bytes = b"", dates: Sequence[adf.Date] = (NEVER, NEVER, NEVER)) -> Any:
+    """A volume to build, as the library takes it."""
+    if kind not in adf.KINDS:
+        raise ValueError(f"a kind is one of {', '.join(adf.KINDS)}, and not {kind!r}")
+    if len(dates) != 3:
+        raise ValueError("the dates are three: of the root, of the last change, and of the creation")
+    volume = _NewVolume(adf.KINDS.index(kind), min(max(blocks, 0), adf.MOST_NUMBER), *(adf._Date(*date) for date in dates))
+    volume.label_length = _filled(volume.label, _raw(label))
+    return volume
+
+
+def _done(number: int, told: Any, plan: Plan) -> int:
+    """The number of blocks, or the error that a number means."""
+    if number == adf.NO_MEMORY:
+        raise adf.NoMemory
+    if number == FULL:
+        raise NotBuilt(f"full: need {told.need}, have {told.have}", "", 0, told.need, told.have)
+    if number != DONE:
+        raise NotBuilt(REFUSALS.get(number, str(number)), plan.path_of(told.addition).decode("latin-1"), told.addition)
+    return int(told.blocks)
+
+
+def _place(given: Any) -> tuple[Any, int]:
+    """The bytes of a buffer as the library takes them, and how many."""
+    view = memoryview(given)
+    return (bytes(given) if view.readonly else (ctypes.c_char * len(view)).from_buffer(view)) if len(view) else b"", len(view)
+
+
+def need_of(volume: Any, plan: Plan, contents: Any, is_shared: bool = False) -> int:
+    """The fewest blocks of a volume in which a plan has room."""
+    told = _Built()
+    number = adf._calls().adf_need(
+        ctypes.byref(volume), plan.table(is_shared), len(plan), *_place(contents), ctypes.byref(told))
+    return _done(number, told, plan)
+
+
+def build_into(room: Any, volume: Any, plan: Plan, contents: Any) -> None:
+    """Builds a volume at the front of a room, of a plan and its contents."""
+    told, places = _Built(), (*_place(contents), *_place(room))
+    number = adf._calls().adf_build(ctypes.byref(volume), plan.table(), len(plan), *places, ctypes.byref(told))
+    _done(number, told, plan)
+
+
+def build(
+    kind: str, blocks: int | None, entries: Iterable[Addition], label: str | bytes = b"",
+    dates: Sequence[adf.Date] = (NEVER, NEVER, NEVER),
+) -> bytes:
+    """The image of a volume with these entries, each directory before what is in it: the kind "ofs" or "ffs", the blocks (None for the
+    fewest), the label, and the dates of the root, of the last change and of the creation. NotBuilt if there is none."""
+    given, plan, numbers = [Addition(*entry) for entry in entries], Plan(), {b"": 0}
+    for number, entry in enumerate(given, 1):
+        path = _raw(entry.path)
+        above, _, name = path.rpartition(b"/")
+        parent = numbers.get(above.translate(adf.CAPITALS), number)
+        size = None if entry.content is None else len(entry.content)
+        plan.put(parent, name, size, _raw(entry.comment), entry.protection, entry.date)
+        numbers.setdefault(path.translate(adf.CAPITALS), number)
+    contents = b"".join(entry.content for entry in given if entry.content is not None)
+    volume = new_volume(kind, blocks or 0, label, dates)
+    try:
+        if blocks is None:
+            volume.blocks = need_of(volume, plan, contents)
+        room = bytearray(adf.BLOCK * volume.blocks if volume.blocks <= adf.MOST_BYTES // adf.BLOCK else 0)
+        build_into(room, volume, plan, contents)
+    except NotBuilt as error:
+        if error.number:
+            error.entry = given[error.number - 1]
+            error.path = error.entry.path if isinstance(error.entry.path, str) else error.entry.path.decode("latin-1")
+        raise
+    return bytes(room)

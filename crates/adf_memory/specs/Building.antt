@@ -1,0 +1,138 @@
+-- Volumes that are built from a table of additions.
+-- Letters: v a new volume; xs the table of its additions; bytes the contents of the files; t a tree; n a number of blocks.
+use Rattle.std.specs.Prelude.{◌≡◌, ◌≤◌, ◌<◌, ◌*◌, ◌-◌, ◌==◌, ℕ, true, false, not, nat_lt, if◌then◌else◌, Option, Some, None, List, [], length, take}
+use Rattle.adf_names.specs.declared.kind.Kind.{Kind}
+use Rattle.adf_names.specs.declared.kind.Kind.TheVariants.{Ofs, Ffs}
+use Rattle.adf_tree.specs.Tree.{Tree}
+use Rattle.adf_blocks.specs.Sizes.{is_allowed}
+use Rattle.adf_blocks.specs.declared.layout.TheConstants.{MOST_BLOCKS}
+use Rattle.adf_build.specs.declared.builder.BuildFault.{BuildFault}
+use Rattle.adf_build.specs.declared.builder.BuildFault.TheVariants as build
+use Rattle.adf_build.specs.Building.{IsBuildable, need_of}
+use Rattle.adf_build.specs.Laid.{IsLaid}
+use Rattle.adf_memory.specs.Rooms.{filled}
+use Rattle.adf_memory.specs.TableAdditions.{AreSound, IsFirstFault, addition_fault_number, stamp_of, tree_with}
+use Rattle.adf_memory.specs.declared.building.Built.{Built}
+use Rattle.adf_memory.specs.declared.building.NewVolume.{NewVolume}
+use Rattle.adf_memory.specs.declared.building.Refusal.{Refusal}
+use Rattle.adf_memory.specs.declared.building.Refusal.TheVariants as refusal
+use Rattle.adf_memory.specs.declared.table_additions.NotAdded.{NotAdded}
+use Rattle.adf_memory.specs.declared.table_additions.NotAdded.TheVariants as not_added
+use Rattle.adf_memory.specs.declared.table_additions.TableAddition.{TableAddition}
+
+-- the kind with this number
+abbrev pub kind_by : ℕ → Kind
+kind_by n = if n == 0 then Ofs else Ffs
+
+-- the tree of a new volume, without entries
+abbrev pub new_tree : NewVolume → Tree
+new_tree v = record {
+  kind = kind_by v.kind;
+  label = take v.label_length v.label;
+  stamps = record { root = stamp_of v.root; altered = stamp_of v.altered; created = stamp_of v.created };
+  entries = [];
+}
+
+-- the tree that is built
+abbrev pub tree_of : NewVolume → List ℕ → List TableAddition → Tree
+tree_of v bytes xs = tree_with (new_tree v) bytes xs
+
+-- the volume has a kind and a label, and no addition has a fault
+pub record IsSound (v : NewVolume) (bytes : List ℕ) (xs : List TableAddition) : Type 0 where
+  pub kind : v.kind ≤ 1
+  pub label : v.label_length ≤ 30
+  pub additions : AreSound bytes xs
+
+-- why no volume is begun: its kind, or its label
+abbrev pub IsBadVolume : NewVolume → Refusal → Type 0
+IsBadVolume v refusal.BadKind = 1 < v.kind
+IsBadVolume v refusal.BadLabel = (v.kind ≤ 1) × (30 < v.label_length)
+IsBadVolume v _ = ⊥
+
+-- why the additions of a table are not built: the first fault, or memory is refused
+abbrev pub IsTableRefusal : List ℕ → List TableAddition → Refusal → Type 0
+IsTableRefusal bytes xs (refusal.Addition n fault) = IsFirstFault bytes xs n fault
+IsTableRefusal bytes xs refusal.NoMemory = Unit {0}
+IsTableRefusal bytes xs _ = ⊥
+
+-- not even the largest volume has room for a tree: the blocks that it needs there, and those of the volume
+abbrev pub IsFullAtMost : Tree → Refusal → Type 0
+IsFullAtMost t (refusal.Full need have) = (need ≡ need_of t MOST_BLOCKS) × (have ≡ MOST_BLOCKS - 2) × (have < need)
+IsFullAtMost t _ = ⊥
+
+-- the volume has a kind and a label
+abbrev pub IsBegun : NewVolume → Type 0
+IsBegun v = (v.kind ≤ 1) × (v.label_length ≤ 30)
+
+-- what a refusal means, where it is of the volume or of its additions
+abbrev pub Explains : NewVolume → List ℕ → List TableAddition → Refusal → Type 0
+Explains v bytes xs refusal.BadKind = 1 < v.kind
+Explains v bytes xs refusal.BadLabel = (v.kind ≤ 1) × (30 < v.label_length)
+Explains v bytes xs (refusal.Addition n fault) = IsBegun v × IsFirstFault bytes xs n fault
+Explains v bytes xs refusal.NoMemory = IsBegun v
+Explains v bytes xs _ = ⊥
+
+-- what a refusal to build means, where the image has so many bytes of room
+abbrev pub ExplainsBuild : NewVolume → List ℕ → List TableAddition → ℕ → Refusal → Type 0
+ExplainsBuild v bytes xs room refusal.BadSize = IsBegun v × (is_allowed v.blocks ≡ false)
+ExplainsBuild v bytes xs room refusal.SmallRoom = IsBegun v × (is_allowed v.blocks ≡ true) × (room < v.blocks * 512)
+ExplainsBuild v bytes xs room (refusal.Full need have) =
+    IsSound v bytes xs × (need ≡ need_of (tree_of v bytes xs) v.blocks) × (have ≡ v.blocks - 2) × (have < need)
+ExplainsBuild v bytes xs room fault = Explains v bytes xs fault
+
+-- what a refusal means where the fewest blocks are asked for: not even the largest volume has room
+abbrev pub ExplainsNeed : NewVolume → List ℕ → List TableAddition → Refusal → Type 0
+ExplainsNeed v bytes xs (refusal.Full need have) = IsSound v bytes xs × IsFullAtMost (tree_of v bytes xs) (refusal.Full need have)
+ExplainsNeed v bytes xs fault = Explains v bytes xs fault
+
+-- the refusal of addition n
+abbrev pub refusal_of : ℕ → NotAdded → Refusal
+refusal_of n (not_added.Fault fault) = refusal.Addition n fault
+refusal_of n not_added.NoMemory = refusal.NoMemory
+
+-- the refusal of a tree that cannot be built
+abbrev pub refusal_by : BuildFault → Refusal
+refusal_by build.BadSize = refusal.BadSize
+refusal_by (build.Full need have) = refusal.Full need have
+refusal_by build.NoMemory = refusal.NoMemory
+
+-- the refusal of a number of blocks that is not allowed, or of a room that is too small for so many
+abbrev pub bad_room : ℕ → ℕ → Option Refusal
+bad_room n room =
+    if not (is_allowed n) then Some refusal.BadSize else (if nat_lt room (n * 512) then Some refusal.SmallRoom else None)
+
+-- the number of a refusal
+abbrev pub refusal_number : Refusal → ℕ
+refusal_number refusal.BadKind = 1
+refusal_number refusal.BadLabel = 2
+refusal_number refusal.BadSize = 3
+refusal_number refusal.SmallRoom = 4
+refusal_number (refusal.Addition n fault) = addition_fault_number fault
+refusal_number (refusal.Full need have) = 11
+refusal_number refusal.NoMemory = 23
+
+-- what is told of a refusal beside its number
+abbrev pub told : Refusal → Built
+told (refusal.Addition n fault) = record { addition = n; need = 0; have = 0; blocks = 0 }
+told (refusal.Full need have) = record { addition = 0; need = need; have = have; blocks = 0 }
+told _ = record { addition = 0; need = 0; have = 0; blocks = 0 }
+
+-- what is told of a volume of so many blocks
+abbrev pub built_in : ℕ → Built
+built_in n = record { addition = 0; need = 0; have = 0; blocks = n }
+
+-- a number and what is told are those of a refusal that has this meaning
+abbrev pub Refuses : (Refusal → Type 0) → ℕ → Built → Type 0
+Refuses meaning n b = (r : Refusal) × (n ≡ refusal_number r) × (b ≡ told r) × meaning r
+
+-- the room begins with the image that is laid for a tree in so many blocks, and is otherwise as it was
+pub record HasVolume (t : Tree) (n : ℕ) (old new : List ℕ) : Type 0 where
+  pub image : List ℕ
+  pub laid : IsLaid image t
+  pub size : length image ≡ n * 512
+  pub room : new ≡ filled image old
+
+-- n is the smallest number of blocks of a volume that has room for a tree
+pub record IsFewest (t : Tree) (n : ℕ) : Type 0 where
+  pub room : IsBuildable t n
+  pub fewest : (m : ℕ) → IsBuildable t m → n ≤ m

@@ -1,0 +1,334 @@
+// Volumes that are built from a table of additions.
+
+ghost use Rattle.std.specs.Prelude.{◌≡◌, ◌≤◌, ◌<◌, ◌*◌, ◌↔◌, [], List, ℕ, length, take, IsSome, IfSome, IfOk, IfErr, OnOk, OnErr, true};
+ghost use Rattle.adf_tree.specs.Tree.{Tree as ATree};
+ghost use Rattle.adf_memory.specs.Building.{Explains, ExplainsBuild, ExplainsNeed, HasVolume, IsBadVolume, IsFewest, IsFullAtMost, IsSound, IsTableRefusal, Refuses, bad_room, built_in, kind_by, new_tree, refusal_by, refusal_number, refusal_of, told, tree_of};
+ghost use Rattle.adf_memory.specs.TableAdditions.{AreSound, IsDraftOf, tree_with};
+
+use crate::table_additions::{AdditionFault, NotAdded, TableAddition, add_next, stamp_of, text_in};
+use crate::tables::Date;
+use adf_base::BLOCK_LEN;
+use adf_blocks::{MOST_BLOCKS, is_allowed_size};
+use adf_build::{BuildFault, build_into, fewest_blocks, need};
+use adf_drafts::Draft;
+use adf_tree::{Kind, Label, Stamps, Tree};
+use std::alloc::Global;
+
+/// A volume that is to be built.
+#[repr(C)]
+#[derive(Clone, Copy)]
+pub struct NewVolume {
+    /// 0 for OFS, 1 for FFS.
+    pub kind: u32,
+    /// All blocks, including the two boot blocks.
+    pub blocks: u32,
+    /// The root's own date in the root block.
+    pub root: Date,
+    /// The date of the last change of the volume.
+    pub altered: Date,
+    /// The date on which the volume was created.
+    pub created: Date,
+    pub label_length: u8,
+    pub label: [u8; 30],
+}
+
+/// What is told of a building beside its number. Fields that do not apply are 0.
+#[repr(C)]
+#[derive(Clone, Copy)]
+pub struct Built {
+    /// The number of the addition that has the fault.
+    pub addition: usize,
+    /// The blocks that the tree needs, and those that the volume has, without the two boot blocks.
+    pub need: u64,
+    pub have: u64,
+    /// All blocks of the volume, including the two boot blocks.
+    pub blocks: u32,
+}
+
+/// Why no volume is built.
+#[derive(Clone, Copy, Debug, PartialEq, Eq)]
+pub enum Refusal {
+    /// No kind has this number.
+    BadKind,
+    /// The label is longer than 30 bytes.
+    BadLabel,
+    /// The number of blocks is not allowed.
+    BadSize,
+    /// The room is smaller than the image.
+    SmallRoom,
+    /// The addition with this number is the first that has a fault.
+    Addition(usize, AdditionFault),
+    /// The tree needs more blocks than the volume has, not counting the two boot blocks.
+    Full(u64, u64),
+    /// An allocation failed.
+    NoMemory,
+}
+
+impl Refusal {
+    // The number of the refusal, above 0.
+    fn number(self) -> u8
+        ensures exact { result ≡ refusal_number self }
+        ensures some { 0 < result }
+    {
+        match self {
+            Refusal::BadKind => 1,
+            Refusal::BadLabel => 2,
+            Refusal::BadSize => 3,
+            Refusal::SmallRoom => 4,
+            Refusal::Addition(_, fault) => fault.number(),
+            Refusal::Full(_, _) => 11,
+            Refusal::NoMemory => 23,
+        }
+    }
+
+    // What is told of the refusal.
+    fn told(self) -> Built
+        ensures { result ≡ told self }
+    {
+        let none = built_in(0);
+        match self {
+            Refusal::Addition(addition, _) => Built { addition, ..none },
+            Refusal::Full(need, have) => Built { need, have, ..none },
+            _ => none,
+        }
+    }
+}
+
+// What is told of a volume of so many blocks.
+fn built_in(blocks: u32) -> Built
+    ensures { result ≡ built_in blocks }
+{
+    Built {
+        addition: 0,
+        need: 0,
+        have: 0,
+        blocks,
+    }
+}
+
+// The kind with this number.
+fn kind_by(number: u32) -> Option<Kind>
+    ensures allowed { IsSome result ↔ (number ≤ 1) }
+    ensures kind { IfSome result (λ k. k ≡ kind_by number) }
+{
+    match number {
+        0 => Some(Kind::Ofs),
+        1 => Some(Kind::Ffs),
+        _ => None,
+    }
+}
+
+// The draft of a new volume, without entries.
+fn new_draft(alloc: Global, volume: &NewVolume) -> Result<Draft, Refusal>
+    ensures draft { IfOk result (λ d. (bytes : List ℕ) → IsDraftOf (new_tree volume.now) bytes [] d) }
+    ensures sound { OnOk result ((volume.now.kind ≤ 1) × (volume.now.label_length ≤ 30)) }
+    ensures fault { IfErr result (IsBadVolume volume.now) }
+{
+    let Some(kind) = kind_by(volume.kind) else {
+        return Err(Refusal::BadKind);
+    };
+    let Some(label) = text_in(&volume.label, volume.label_length) else {
+        return Err(Refusal::BadLabel);
+    };
+    let stamps = Stamps {
+        root: stamp_of(volume.root),
+        altered: stamp_of(volume.altered),
+        created: stamp_of(volume.created),
+    };
+    Ok(Draft::new(alloc, kind, Label::new(label).unwrap(), stamps))
+}
+
+// The refusal of the addition with this number.
+fn refusal_of(number: usize, fault: NotAdded) -> Refusal
+    ensures { result ≡ refusal_of number fault }
+{
+    match fault {
+        NotAdded::Fault(fault) => Refusal::Addition(number, fault),
+        NotAdded::NoMemory => Refusal::NoMemory,
+    }
+}
+
+// Adds all additions to a draft without entries.
+fn add_all(
+    alloc: Global,
+    draft: &mut Draft,
+    additions: &[TableAddition],
+    contents: &[u8],
+) -> Result<(), Refusal>
+    requires { (t : ATree) × IsDraftOf t contents.now [] draft.old }
+    ensures draft { OnOk result ((t : ATree) → IsDraftOf t contents.now [] draft.old
+        → IsDraftOf t contents.now additions.now draft.new) }
+    ensures sound { OnOk result (AreSound contents.now additions.now) }
+    ensures fault { IfErr result (IsTableRefusal contents.now additions.now) }
+{
+    for i in 0..additions.len() {
+        match add_next(alloc, draft, additions, i, contents) {
+            Ok(()) => (),
+            Err(fault) => return Err(refusal_of(i + 1, fault)),
+        }
+    }
+    Ok(())
+}
+
+// The tree of the additions to a draft without entries.
+fn tree_of(
+    alloc: Global,
+    draft: Draft,
+    additions: &[TableAddition],
+    contents: &[u8],
+) -> Result<Tree, Refusal>
+    requires { (t : ATree) × IsDraftOf t contents.now [] draft }
+    ensures tree { IfOk result (λ r. (t : ATree) → IsDraftOf t contents.now [] draft
+        → r ≡ tree_with t contents.now additions.now) }
+    ensures sound { OnOk result (AreSound contents.now additions.now) }
+    ensures fault { IfErr result (IsTableRefusal contents.now additions.now) }
+{
+    let mut draft = draft;
+    add_all(alloc, &mut draft, additions, contents)?;
+    match draft.finish(alloc) {
+        Ok(tree) => Ok(tree),
+        Err(_) => Err(Refusal::NoMemory),
+    }
+}
+
+// The refusal of a tree that cannot be built.
+fn refusal_by(fault: BuildFault) -> Refusal
+    ensures { result ≡ refusal_by fault }
+{
+    match fault {
+        BuildFault::BadSize => Refusal::BadSize,
+        BuildFault::Full { need, have } => Refusal::Full(need, have),
+        BuildFault::NoMemory => Refusal::NoMemory,
+    }
+}
+
+// The refusal of a number of blocks that is not allowed, or of a room that is too small for so many.
+fn bad_room(blocks: u32, room: usize) -> Option<Refusal>
+    ensures { result ≡ bad_room blocks room }
+{
+    if !is_allowed_size(blocks) {
+        return Some(Refusal::BadSize);
+    }
+    if room < blocks as usize * BLOCK_LEN {
+        return Some(Refusal::SmallRoom);
+    }
+    None
+}
+
+// Builds a volume at the front of a room.
+fn build_in_room(
+    alloc: Global,
+    volume: &NewVolume,
+    additions: &[TableAddition],
+    contents: &[u8],
+    room: &mut [u8],
+) -> Result<(), Refusal>
+    ensures sound { OnOk result (IsSound volume.now contents.now additions.now) }
+    ensures volume { OnOk result (HasVolume (tree_of volume.now contents.now additions.now)
+        volume.now.blocks room.old room.new) }
+    ensures fault { IfErr result (ExplainsBuild volume.now contents.now additions.now (length room.old)) }
+    ensures unchanged { OnErr result (room.new ≡ room.old) }
+{
+    let draft = new_draft(alloc, volume)?;
+    if let Some(refusal) = bad_room(volume.blocks, room.len()) {
+        return Err(refusal);
+    }
+    let tree = tree_of(alloc, draft, additions, contents)?;
+    let count = volume.blocks as usize * BLOCK_LEN;
+    match build_into(alloc, &tree, volume.blocks, &mut room[..count]) {
+        Ok(()) => Ok(()),
+        Err(fault) => Err(refusal_by(fault)),
+    }
+}
+
+// The fewest blocks of a volume that has room for a tree.
+fn fewest_of(tree: &Tree) -> Result<u32, Refusal>
+    ensures fewest { IfOk result (IsFewest tree.now) }
+    ensures full { IfErr result (IsFullAtMost tree.now) }
+{
+    if let Some(blocks) = fewest_blocks(tree) {
+        return Ok(blocks);
+    }
+    let need = need(tree, MOST_BLOCKS).unwrap();
+    Err(Refusal::Full(need, u64::from(MOST_BLOCKS - 2)))
+}
+
+// The fewest blocks of a volume that has room for the additions.
+fn fewest_for(
+    alloc: Global,
+    volume: &NewVolume,
+    additions: &[TableAddition],
+    contents: &[u8],
+) -> Result<u32, Refusal>
+    ensures sound { OnOk result (IsSound volume.now contents.now additions.now) }
+    ensures fewest { IfOk result (IsFewest (tree_of volume.now contents.now additions.now)) }
+    ensures fault { IfErr result (ExplainsNeed volume.now contents.now additions.now) }
+{
+    let draft = new_draft(alloc, volume)?;
+    let tree = tree_of(alloc, draft, additions, contents)?;
+    fewest_of(&tree)
+}
+
+/// Builds a volume of a table of additions, in which each directory stands before what is in it, and of the contents of all
+/// files, at the front of the room. Returns 0, or the number of a refusal: the first one of the volume, the room, and the
+/// additions in their order; then that of a tree that does not fit.
+pub fn build_volume(
+    alloc: Global,
+    volume: &NewVolume,
+    additions: &[TableAddition],
+    contents: &[u8],
+    room: &mut [u8],
+    built: &mut Built,
+) -> u8
+    // At 0 no addition has a fault, and the room begins with the image that is laid for their tree; the rest is unchanged.
+    ensures sound { result ≡ 0 → IsSound volume.now contents.now additions.now }
+    ensures volume { result ≡ 0 → HasVolume (tree_of volume.now contents.now additions.now)
+        volume.now.blocks room.old room.new }
+    ensures built { result ≡ 0 → built.new ≡ built_in volume.now.blocks }
+
+    // Any other number is that of a refusal, and the room is unchanged.
+    ensures refused { ¬ (result ≡ 0)
+        → Refuses (ExplainsBuild volume.now contents.now additions.now (length room.old)) result built.new }
+    ensures unchanged { ¬ (result ≡ 0) → room.new ≡ room.old }
+{
+    match build_in_room(alloc, volume, additions, contents, room) {
+        Ok(()) => {
+            *built = built_in(volume.blocks);
+            0
+        }
+        Err(refusal) => {
+            *built = refusal.told();
+            refusal.number()
+        }
+    }
+}
+
+/// Finds the fewest blocks of a volume that has room for these additions. Returns 0, or the number of a refusal, as
+/// `build_volume` does; neither the number of blocks of the volume nor a room counts.
+pub fn need_volume(
+    alloc: Global,
+    volume: &NewVolume,
+    additions: &[TableAddition],
+    contents: &[u8],
+    built: &mut Built,
+) -> u8
+    // At 0 no addition has a fault, and their tree has room in so many blocks, and in no fewer.
+    ensures sound { result ≡ 0 → IsSound volume.now contents.now additions.now }
+    ensures fewest { result ≡ 0 → IsFewest (tree_of volume.now contents.now additions.now) built.new.blocks }
+    ensures built { result ≡ 0 → built.new ≡ built_in built.new.blocks }
+
+    // Any other number is that of a refusal.
+    ensures refused { ¬ (result ≡ 0)
+        → Refuses (ExplainsNeed volume.now contents.now additions.now) result built.new }
+{
+    match fewest_for(alloc, volume, additions, contents) {
+        Ok(blocks) => {
+            *built = built_in(blocks);
+            0
+        }
+        Err(refusal) => {
+            *built = refusal.told();
+            refusal.number()
+        }
+    }
+}
