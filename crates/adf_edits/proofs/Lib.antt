@@ -1,2 +1,3 @@
 pub mod SamePaths
 pub mod Additions
+pub mod OutlineTrees

@@ -2,8 +2,10 @@
 #![tactic(auto)]
 
 mod edits;
+mod laws;
 mod outline;
 mod paths;
 
 pub use crate::edits::{Change, Edit, EditFault};
+pub use crate::laws::outlines_have_their_trees;
 pub use crate::outline::{Item, Outline};
