@@ -1,3 +1,6 @@
 pub mod SamePaths
 pub mod Additions
 pub mod OutlineTrees
+pub mod Places
+pub mod PlacedInOrder
+pub mod RoomKept
