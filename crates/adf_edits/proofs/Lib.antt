@@ -4,3 +4,4 @@ pub mod OutlineTrees
 pub mod Places
 pub mod PlacedInOrder
 pub mod RoomKept
+pub mod PathsKept

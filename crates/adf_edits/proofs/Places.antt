@@ -32,7 +32,7 @@ pub record HasPlace (xs : List Addition) (path : List (List ℕ)) : Type 0 where
 pub same_paths : (a b : List (List ℕ)) → (same_path a b ≡ true) ↔ (map uppers a ≡ map uppers b)
 same_paths a b = slice_eq-Decides bytes_eq-Decides (map uppers a) (map uppers b) (same_path a b) refl
 
-some_passes : (p : Addition → Bool) (xs : List Addition) → list_any p xs ≡ true
+pub some_passes : (p : Addition → Bool) (xs : List Addition) → list_any p xs ≡ true
     → (i : ℕ) × (i < length xs) × ((d : Addition) → p (get_or xs i d) ≡ true)
 some_passes p [] h = cc
 some_passes p (x ∷ xs) h = elim (cases_Bool (p x)) [
@@ -114,7 +114,7 @@ module _ (es : List Entry) (xs : List Addition) (t : IsTreeOf es xs) where
       let at = content_from es (content_of y) (find es y.path) (t.there i d lt) in
       (at.0, at.1, sym (find_uppers es 0 y.path dir ((same_paths y.path dir).0 same)) ∙ at.2, at.3, at.4)
 
-  nothing_at : (path : List (List ℕ)) → has_path xs path ≡ false → content_at es path ≡ None
+  pub nothing_at : (path : List (List ℕ)) → has_path xs path ≡ false → content_at es path ≡ None
   nothing_at path none = t.others path (λ i d lt same.
       let there : has_path xs path ≡ true =
       list_any_at (is_at path) xs i d lt ((same_paths (get_or xs i d).path path).1 (sym same)) in cc)

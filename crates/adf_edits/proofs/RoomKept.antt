@@ -23,7 +23,7 @@ use Rattle.adf_edits.proofs.Places.{HasPlace, room_from, same_paths}
 -- no fault
 
 -- what is made is made without a fault
-made_is : (fault : Option EditFault) (xs ys : List Addition) → unless fault xs ≡ Ok ys → (fault ≡ None) × (xs ≡ ys)
+pub made_is : (fault : Option EditFault) (xs ys : List Addition) → unless fault xs ≡ Ok ys → (fault ≡ None) × (xs ≡ ys)
 made_is (Some f) xs ys h = cc
 made_is None xs ys h = (refl, cc)
 

@@ -7,5 +7,5 @@ mod outline;
 mod paths;
 
 pub use crate::edits::{Change, Edit, EditFault};
-pub use crate::laws::{edits_keep_room, outlines_have_their_trees};
+pub use crate::laws::{edits_keep_room, outlines_have_their_trees, removals_keep_other_paths};
 pub use crate::outline::{Item, Outline};
