@@ -9,3 +9,5 @@ pub mod StableOrder
 pub mod NumberedAdditions
 pub mod TakenEntries
 pub mod NodeGroups
+-- the next entry of a tree
+pub mod NextEntries

@@ -1,2 +1,7 @@
 pub mod SamePaths
 pub mod Additions
+pub mod OutlineTrees
+pub mod Places
+pub mod PlacedInOrder
+pub mod RoomKept
+pub mod PathsKept

@@ -14,8 +14,6 @@ pub mod KeptFiles
 pub mod RescueLaws
 -- the blocks of a tree that fits
 pub mod FitBlocks
--- the next entry of a tree
-pub mod NextEntries
 -- the entries of a survey without findings
 pub mod SoundHeaders
 -- the rescue of a volume that a tree fits

@@ -36,7 +36,7 @@ use Rattle.adf_rescue.specs.Rescue.{Ground, Basis, Verdict, additions_of, before
 use Rattle.adf_rescue.specs.Rescue.{path_by, path_for, place_of, rescue_leaves, rescued_tree, tree_of, verdict, verdicts}
 use Rattle.adf_rescue.specs.Rescue.Verdict.{adds}
 use Rattle.adf_rescue.proofs.FitBlocks.{fit_room, front_blocks}
-use Rattle.adf_rescue.proofs.NextEntries.{directory_stays, has_room, new_is, new_leads}
+use Rattle.adf_drafts.proofs.NextEntries.{directory_stays, has_room, new_is, new_leads}
 use Rattle.adf_rescue.proofs.SoundHeaders.{IsToldAs, label_whole, told}
 use Rattle.adf_rescue.proofs.Steps.{additions_more, left_out_more, verdict_at}
 use Rattle.adf_rescue.proofs.RescuedTrees.{or_else}

@@ -1,0 +1,133 @@
+-- Additions that have a place behind those before them: that is to have room, and it stays where a change keeps paths and bodies, and
+-- where what is left out is no directory of what stays.
+-- Letters: xs are additions, front those before them; x, y additions; q the test of what stays.
+use Rattle.std.proofs.Common.{◌≡◌, ℕ, suc, List, [], ◌∷◌, ◌++◌, inl, inr, ◌+◌, ◌==◌, ◌&&◌, ◌||◌, length, map, refl, sym, ap, subst, ◌∙◌, arith}
+use Rattle.std.proofs.Common.{true, false, Bool, IsOk, cond}
+use Rattle.std.specs.List.{All, filter, list_any}
+use Rattle.std.proofs.Math.Seq.{take-append_seam, get_or-append_seam}
+use Rattle.std.proofs.lemmas.Bool.{cases_Bool}
+use Rattle.std.proofs.lemmas.List.{append-nil, append_assoc, length-append, map-append}
+use Rattle.std.proofs.lemmas.List.Elements.{filter-append}
+use Rattle.adf_tree.specs.Additions.{Addition, AllHaveRoom, entries_of_additions, same_path}
+use Rattle.adf_tree.specs.Tree.{is_dir_body, parents_of, room_for}
+use Rattle.adf_tree.proofs.TreeOfAdditions.{all_built}
+use Rattle.adf_edits.specs.declared.edits.Change.{Change}
+use Rattle.adf_edits.specs.Edits.{changed_at, changed_if, is_at, is_directory_at}
+use Rattle.adf_edits.proofs.Additions.{room_more}
+use Rattle.adf_edits.proofs.Places.{HasPlace, place_from, room_from}
+
+-- each addition has a place behind these and those before it
+abbrev pub PlacedAfter : List Addition → List Addition → Type 0
+PlacedAfter front [] = Unit {0}
+PlacedAfter front (x ∷ xs) = HasPlace front x.path × PlacedAfter (front ++ x ∷ []) xs
+
+pub placed : (front xs : List Addition) → AllHaveRoom front → AllHaveRoom (front ++ xs) → PlacedAfter front xs
+placed front [] before room = tt
+placed front (x ∷ xs) before room =
+    let long : length (front ++ x ∷ xs) ≡ length front + length (x ∷ xs) = length-append front (x ∷ xs) in
+    let ok : IsOk (room_for (entries_of_additions front) x.path) =
+    rw (take-append_seam front (x ∷ xs), get_or-append_seam front x xs x) at (room (length front) x (omega (arith, long))) in (
+      place_from (entries_of_additions front) front (all_built front before) x ok,
+      placed (front ++ x ∷ []) xs (room_more front x before ok) (subst AllHaveRoom (sym (append_assoc front (x ∷ []) xs)) room),
+    )
+
+pub roomy : (front xs : List Addition) → AllHaveRoom front → PlacedAfter front xs → AllHaveRoom (front ++ xs)
+roomy front [] before h = subst AllHaveRoom (sym (append-nil front)) before
+roomy front (x ∷ xs) before h =
+    let ok : IsOk (room_for (entries_of_additions front) x.path) =
+    room_from (entries_of_additions front) front (all_built front before) x.path h.0 in
+    subst AllHaveRoom (append_assoc front (x ∷ []) xs) (roomy (front ++ x ∷ []) xs (room_more front x before ok) h.1)
+
+pub nothing_before : AllHaveRoom []
+nothing_before = λ i d lt. absurd (omega arith)
+
+-- a change keeps paths and bodies
+
+any_mapped : (p : Addition → Bool) (f : Addition → Addition) (xs : List Addition) → ((y : Addition) → p (f y) ≡ p y)
+    → list_any p (map f xs) ≡ list_any p xs
+any_mapped p f [] h = refl
+any_mapped p f (x ∷ xs) h = rw (h x, any_mapped p f xs h) refl
+
+module _ (path : List (List ℕ)) (what : Change) where
+  abbrev change : Addition → Addition
+  change = changed_if path what
+
+  same_place : (y : Addition) → (change y).path ≡ y.path
+  same_place y = elim (cases_Bool (is_at path y)) [ inl t ↦ rw t refl | inr f ↦ rw f refl ]
+
+  same_body : (y : Addition) → (change y).body ≡ y.body
+  same_body y = elim (cases_Bool (is_at path y)) [ inl t ↦ rw t refl | inr f ↦ rw f refl ]
+
+  same_directory : (dir : List (List ℕ)) (y : Addition) → is_directory_at dir (change y) ≡ is_directory_at dir y
+  same_directory dir y =
+      ap (λ b. is_dir_body b && same_path (change y).path dir) (same_body y)
+      ∙ ap (λ b. is_dir_body y.body && same_path b dir) (same_place y)
+
+  changed_place : (front : List Addition) (to : List (List ℕ)) → HasPlace front to → HasPlace (changed_at path what front) to
+  changed_place front to h = record {
+    some = h.some;
+    directory = ap (λ b. (length (parents_of to) == 0) || b)
+        (any_mapped (is_directory_at (parents_of to)) change front (same_directory (parents_of to))) ∙ h.directory;
+    free = any_mapped (is_at to) change front (λ y. ap (λ b. same_path b to) (same_place y)) ∙ h.free;
+  }
+
+  pub changed_after : (front xs : List Addition) → PlacedAfter front xs → PlacedAfter (changed_at path what front) (changed_at path what xs)
+  changed_after front [] h = tt
+  changed_after front (x ∷ xs) h = (
+    subst (HasPlace (map change front)) (sym (same_place x)) (changed_place front x.path h.0),
+    subst (λ us. PlacedAfter us (map change xs)) (map-append change front (x ∷ [])) (changed_after (front ++ x ∷ []) xs h.1),
+  )
+
+-- what stays
+
+pub any_kept : (p q : Addition → Bool) (xs : List Addition) → ((y : Addition) → p y ≡ true → q y ≡ true)
+    → list_any p (filter q xs) ≡ list_any p xs
+any_kept p q [] h = refl
+any_kept p q (x ∷ xs) h = elim (cases_Bool (q x)) [
+  | inl t ↦ rw (t, any_kept p q xs h) refl
+  | inr f ↦ elim (cases_Bool (p x)) [
+    | inl g ↦ let clash : true ≡ false = sym (h x g) ∙ f in cc
+    | inr g ↦ rw (f, g) (any_kept p q xs h)
+  ]
+]
+
+pub any_fewer : (p q : Addition → Bool) (xs : List Addition) → list_any p xs ≡ false → list_any p (filter q xs) ≡ false
+any_fewer p q [] h = h
+any_fewer p q (x ∷ xs) h = elim (cases_Bool (p x)) [
+  | inl t ↦ let clash = rw t at h in cc
+  | inr g ↦
+      let rest : list_any p xs ≡ false = rw g at h in
+      elim (cases_Bool (q x)) [ inl t ↦ rw (t, g) (any_fewer p q xs rest) | inr f ↦ rw f (any_fewer p q xs rest) ]
+]
+
+-- if x stays, so does its directory
+abbrev pub KeepsDirectory : (Addition → Bool) → Addition → Type 0
+KeepsDirectory q x = (length x.path == 0) ≡ false → q x ≡ true → (y : Addition) → is_directory_at (parents_of x.path) y ≡ true → q y ≡ true
+
+module _ (q : Addition → Bool) where
+  place_stays : (front : List Addition) (x : Addition) → ((y : Addition) → is_directory_at (parents_of x.path) y ≡ true → q y ≡ true)
+      → HasPlace front x.path → HasPlace (filter q front) x.path
+  place_stays front x keeps h = record {
+    some = h.some;
+    directory = ap (λ b. (length (parents_of x.path) == 0) || b) (any_kept (is_directory_at (parents_of x.path)) q front keeps) ∙ h.directory;
+    free = any_fewer (is_at x.path) q front h.free;
+  }
+
+  pub filtered_after : (front xs : List Addition) → All (KeepsDirectory q) xs → PlacedAfter front xs → PlacedAfter (filter q front) (filter q xs)
+  filtered_after front [] keeps h = tt
+  filtered_after front (x ∷ xs) keeps h =
+      let rest : PlacedAfter (filter q (front ++ x ∷ [])) (filter q xs) =
+      filtered_after (front ++ x ∷ []) xs (λ i d lt. keeps (suc i) d (omega arith)) h.1 in
+      let split = filter-append q front (x ∷ []) in
+      elim (cases_Bool (q x)) [
+        | inl t ↦
+            let more : filter q (front ++ x ∷ []) ≡ filter q front ++ x ∷ [] =
+            split ∙ ap (λ b. filter q front ++ cond b (x ∷ []) []) t in
+            subst (λ b. PlacedAfter (filter q front) (cond b (x ∷ filter q xs) (filter q xs))) (sym t)
+            (place_stays front x (keeps 0 x (omega arith) h.0.some t) h.0, subst (λ us. PlacedAfter us (filter q xs)) more rest)
+        | inr f ↦
+            let less : filter q (front ++ x ∷ []) ≡ filter q front =
+            split ∙ (ap (λ b. filter q front ++ cond b (x ∷ []) []) f ∙ append-nil (filter q front)) in
+            subst (λ b. PlacedAfter (filter q front) (cond b (x ∷ filter q xs) (filter q xs))) (sym f)
+            (subst (λ us. PlacedAfter us (filter q xs)) less rest)
+      ]

@@ -1,0 +1,40 @@
+// Laws of outlines and of edits, for the proofs of callers. None of these functions does anything.
+
+ghost use Rattle.std.specs.Prelude.{◌≡◌, ◌≢◌, ℕ, List, None, Ok, map};
+ghost use Rattle.adf_names.specs.Texts.{uppers};
+ghost use Rattle.adf_tree.specs.Additions.{Addition, AllHaveRoom, entries_of_additions};
+ghost use Rattle.adf_tree.specs.Paths.{content_at};
+ghost use Rattle.adf_tree.specs.Tree.{IsTree, Tree};
+ghost use Rattle.adf_edits.specs.Edits.{edited_additions};
+ghost use Rattle.adf_edits.specs.Edits.EditValue.{change, dir, file, label, remove};
+ghost use Rattle.adf_edits.specs.Outline.{outline_of, tree_of};
+ghost use Rattle.adf_edits.specs.declared.edits.Change.{Change};
+
+/// The outline of a tree has that tree, and each of its additions has room.
+pub fn outlines_have_their_trees()
+    ensures tree { (t : Tree) → IsTree t.entries → tree_of (outline_of t) ≡ t }
+    ensures room { (t : Tree) → IsTree t.entries → AllHaveRoom (outline_of t).additions }
+{}
+
+/// Where each addition has room, so it has after an edit that is applied and that moves nothing.
+pub fn edits_keep_room()
+    ensures label { (text : List ℕ) (given : List ℕ) (xs ys : List Addition) → AllHaveRoom xs
+        → edited_additions (label text) given xs ≡ Ok ys → AllHaveRoom ys }
+    ensures change { (path : List (List ℕ)) (what : Change) (given : List ℕ) (xs ys : List Addition) → AllHaveRoom xs
+        → edited_additions (change path what) given xs ≡ Ok ys → AllHaveRoom ys }
+    ensures dir { (path : List (List ℕ)) (given : List ℕ) (xs ys : List Addition) → AllHaveRoom xs
+        → edited_additions (dir path) given xs ≡ Ok ys → AllHaveRoom ys }
+    ensures file { (path : List (List ℕ)) (size : ℕ) (given : List ℕ) (xs ys : List Addition) → AllHaveRoom xs
+        → edited_additions (file path size) given xs ≡ Ok ys → AllHaveRoom ys }
+    ensures remove { (path : List (List ℕ)) (given : List ℕ) (xs ys : List Addition) → AllHaveRoom xs
+        → edited_additions (remove path) given xs ≡ Ok ys → AllHaveRoom ys }
+{}
+
+/// After a removal each other path leads to what it led to, and the removed one to nothing.
+pub fn removals_keep_other_paths()
+    ensures gone { (path : List (List ℕ)) (given : List ℕ) (xs ys : List Addition) → AllHaveRoom xs
+        → edited_additions (remove path) given xs ≡ Ok ys → content_at (entries_of_additions ys) path ≡ None }
+    ensures others { (path : List (List ℕ)) (given : List ℕ) (xs ys : List Addition) → AllHaveRoom xs
+        → edited_additions (remove path) given xs ≡ Ok ys → (q : List (List ℕ)) → map uppers q ≢ map uppers path
+        → content_at (entries_of_additions ys) q ≡ content_at (entries_of_additions xs) q }
+{}
