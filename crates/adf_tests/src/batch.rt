@@ -12,11 +12,11 @@ const MANIFEST: &[u8] = b"volume ofs 16\nfile 0:0:0 00000000 a\nfill 489 41\n";
 
 const SOUND: &str = "ok ofs blocks 16 used 5 free 9 dirs 0 files 1\n";
 
-// A sound image, no image, one that fails at its second read, and files that cannot be opened: all other
-// names are missing.
+/// A sound image, no image, one that fails at its second read, and files that cannot be opened: all other
+/// names are missing.
 #[derive(Drop)]
-struct Folder<'a> {
-    sound: &'a [u8],
+pub struct Folder<'a> {
+    pub sound: &'a [u8],
 }
 
 impl<'a> Files for Folder<'a> {
@@ -37,6 +37,8 @@ impl<'a> Files for Folder<'a> {
             Ok(Given::new(self.sound, 1))
         } else if name == b"locked".as_slice() {
             Err(Unopened::Forbidden)
+        } else if name == b"folder".as_slice() {
+            Err(Unopened::Directory)
         } else if name == b"\xff".as_slice() {
             Err(Unopened::NotText)
         } else if name == b"odd".as_slice() {
@@ -47,8 +49,8 @@ impl<'a> Files for Folder<'a> {
     }
 }
 
-// An OFS volume of 16 blocks with the file `a` of 489 bytes.
-fn sound_image(alloc: Global) -> Vec<u8> {
+/// An OFS volume of 16 blocks with the file `a` of 489 bytes.
+pub fn sound_image(alloc: Global) -> Vec<u8> {
     let mut image = Kept::new(alloc, usize::MAX, usize::MAX);
     let mut errors = Kept::new(alloc, usize::MAX, usize::MAX);
     let mut manifest = Given::new(MANIFEST, usize::MAX);

@@ -12,10 +12,11 @@ use std::test::Fail;
 /// A volume of 32 blocks.
 pub type Volume = [u8; 16384];
 
-const USAGE: &str =
-    "usage: adf-disk list < DISK\n       adf-disk check < DISK\n       adf-disk survey < DISK\n       \
-    adf-disk volume NAME < DISK\n       adf-disk build < PLAN > DISK\n\
-    a disk or the plan of one comes on standard input; man adf-disk tells more\n";
+/// What errors get where the words are refused.
+pub const USAGE: &str =
+    "usage: adf-disk list [FILE]\n       adf-disk check [FILE]\n       adf-disk survey [FILE]\n       \
+    adf-disk volume NAME [FILE]\n       adf-disk build [PLAN]\n\
+    without a FILE the disk or its plan comes on standard input; man adf-disk tells more\n";
 
 const DH0_LISTED: &str = "1 DH0: ffs first 8 blocks 32 flags 1 priority -5\n";
 

@@ -6,6 +6,7 @@ use adf_memory::{
     TablePartition, Verdict, cause_text, check_image, find_entry, owners_of, put_index, put_survey,
     read_bytes, run_in_memory,
 };
+use adf_runs::WithoutFiles;
 use std::mem::size_of;
 use std::process::Abort;
 
@@ -219,7 +220,7 @@ fn a_survey_fills_its_tables(rt: HostRuntime) {
 fn surveyed(rt: &impl AllocGlobal, words: &[u8], image: &[u8], output: &mut [u8]) -> (u8, Moved) {
     let mut errors = [0; 80];
     let mut moved = MOVED;
-    let status = run_in_memory::<adf_survey_cmd::Work>(
+    let status = run_in_memory::<WithoutFiles<adf_survey_cmd::Work>>(
         rt.alloc(),
         words,
         image,

@@ -22,6 +22,8 @@ mod memory;
 #[cfg(test)]
 mod named_errors;
 #[cfg(test)]
+mod operands;
+#[cfg(test)]
 mod planned_disks;
 #[cfg(test)]
 mod telling;

@@ -1,0 +1,240 @@
+// `adf-survey` and `adf-disk` on files that their words name.
+
+ghost use Rattle.std.specs.Prelude.{◌≡◌, None, false};
+
+use crate::batch::{Folder, sound_image};
+use crate::disk_runs::USAGE as DISK_USAGE;
+use crate::memory::{Given, Kept};
+use adf_runs::{AnnouncedInput, Failed, Sink, read_input};
+use std::alloc::Global;
+use std::cell::Cell;
+
+const SURVEY_USAGE: &str =
+    "usage: adf-survey [--blocks N] [--list] [FILE]\n       adf-survey [--blocks N] cat [--damaged] PATH [FILE]\n\
+    \x20      adf-survey [--blocks N] rescue [FILE]\n\
+    without a FILE the image comes on standard input; man adf-survey tells more\n";
+
+// A disk of two empty volumes of 256 blocks.
+const PLAN: &[u8] = b"disk 32 2\npartition DH0 ffs 4\npartition DH1 ofs 4\nend\n";
+
+const FILE: &[u8] = &[0x41; 489];
+
+// The words, the status, and what output and errors get.
+type Row<'a> = (&'a [&'a str], u8, &'a [u8], &'a str);
+
+// Files beside an input that fails at its first read, so it is not read.
+const NAMED: &[Row<'static>] = &[
+    (&["adf-survey", "sound"], 0, b"", ""),
+    (&["adf-survey", "cat", "a", "sound"], 0, FILE, ""),
+    (
+        &["adf-survey", "cat", "--damaged", "A", "sound"],
+        0,
+        FILE,
+        "",
+    ),
+    (&["adf-survey", "cat", "--", "a", "sound"], 0, FILE, ""),
+    (
+        &["adf-survey", "cat", "a", "gone"],
+        3,
+        b"",
+        "gone: no such file\n",
+    ),
+    (
+        &["adf-survey", "rescue", "locked"],
+        3,
+        b"",
+        "locked: no permission\n",
+    ),
+    (
+        &["adf-survey", "--list", "folder"],
+        3,
+        b"",
+        "folder: a directory\n",
+    ),
+    (
+        &["adf-survey", "--blocks", "16", "odd"],
+        3,
+        b"",
+        "odd: cannot be opened\n",
+    ),
+    (&["adf-survey", "./cat"], 3, b"", "./cat: no such file\n"),
+    (
+        &["adf-survey", "a\nb\\"],
+        3,
+        b"",
+        "a\\x0ab\\x5c: no such file\n",
+    ),
+    (&["adf-survey", ""], 3, b"", ": no such file\n"),
+    (&["adf-survey", "fails"], 3, b"", "read fault\n"),
+    (&["adf-survey", "cat", "a//b", "gone"], 2, b"", "bad path\n"),
+    (&["adf-survey", "sound", "gone"], 2, b"", SURVEY_USAGE),
+    (&["adf-survey", "sound", "cat", "a"], 2, b"", SURVEY_USAGE),
+    (
+        &["adf-disk", "list", "sound"],
+        1,
+        b"",
+        "block 0: no rigid disk\n",
+    ),
+    (
+        &["adf-disk", "check", "sound"],
+        1,
+        b"block 0: no rigid disk\n",
+        "",
+    ),
+    (
+        &["adf-disk", "volume", "DH0", "sound"],
+        1,
+        b"",
+        "block 0: no rigid disk\n",
+    ),
+    (
+        &["adf-disk", "build", "sound"],
+        1,
+        b"",
+        "line 1: bad line\n",
+    ),
+    (
+        &["adf-disk", "volume", "DH0", "gone"],
+        3,
+        b"",
+        "gone: no such file\n",
+    ),
+    (
+        &["adf-disk", "survey", "odd"],
+        3,
+        b"",
+        "odd: cannot be opened\n",
+    ),
+    (&["adf-disk", "list", "fails"], 3, b"", "read fault\n"),
+    (&["adf-disk", "list", "sound", "gone"], 2, b"", DISK_USAGE),
+];
+
+// No file, so the input is read: a sound image.
+const UNNAMED: &[Row<'static>] = &[
+    (&["adf-survey", "cat", "a"], 0, FILE, ""),
+    (&["adf-survey", "cat", "a", "-"], 0, FILE, ""),
+    (&["adf-survey", "-"], 0, b"", ""),
+    (
+        &["adf-disk", "check", "-"],
+        1,
+        b"block 0: no rigid disk\n",
+        "",
+    ),
+];
+
+// Runs the program of the first word, and returns its status.
+fn run_files(
+    alloc: Global,
+    words: &[&str],
+    folder: &Folder<'_>,
+    input: &mut Given<'_>,
+    output: &mut Kept,
+    errors: &mut Kept,
+) -> u8 {
+    if words.is_empty() || words[0] != "adf-disk" {
+        return adf_survey_cmd::run_files(alloc, words, folder, input, output, errors);
+    }
+    adf_disk_cmd::run_files(alloc, words, folder, input, output, errors)
+}
+
+// Whether a run ends as the row says, where the folder has a sound image, and the input has it too, and fails after so many
+// reads.
+fn ends(alloc: Global, row: Row<'_>, reads: usize) -> bool {
+    let image = sound_image(alloc);
+    let folder = Folder { sound: &image };
+    let mut input = Given::new(&image, reads);
+    let mut output = Kept::new(alloc, usize::MAX, usize::MAX);
+    let mut errors = Kept::new(alloc, usize::MAX, usize::MAX);
+    let (words, status, bytes, said) = row;
+    let ended = run_files(alloc, words, &folder, &mut input, &mut output, &mut errors);
+    ended == status
+        && output.bytes.as_slice() == bytes
+        && errors.bytes.as_slice() == said.as_bytes()
+}
+
+#[test]
+fn files_are_read_in_place_of_the_input(rt: HostRuntime) {
+    for row in NAMED {
+        assert!(rt; ends(rt.alloc(), *row, 0));
+    }
+}
+
+#[test]
+fn the_input_is_read_where_no_file_is_named(rt: HostRuntime) {
+    for row in UNNAMED {
+        assert!(rt; ends(rt.alloc(), *row, usize::MAX));
+    }
+}
+
+// A new disk of a plan that is a file, and its list.
+#[test]
+fn plans_and_disks_are_files(rt: HostRuntime) {
+    let alloc = rt.alloc();
+    let mut input = Given::new(b"", 0);
+    let mut disk = Kept::new(alloc, usize::MAX, usize::MAX);
+    let mut lines = Kept::new(alloc, usize::MAX, usize::MAX);
+    let mut errors = Kept::new(alloc, usize::MAX, usize::MAX);
+    let plan = Folder { sound: PLAN };
+    let build = ["adf-disk", "build", "sound"];
+    let built = run_files(alloc, &build, &plan, &mut input, &mut disk, &mut errors);
+    assert_eq!(rt; built, 0);
+    let image = Folder { sound: &disk.bytes };
+    let list = ["adf-disk", "list", "sound"];
+    let listed = run_files(alloc, &list, &image, &mut input, &mut lines, &mut errors);
+    assert_eq!(rt; listed, 0);
+    assert!(rt; lines.bytes.as_slice() == LISTED);
+    assert!(rt; errors.bytes.is_empty());
+}
+
+const LISTED: &[u8] =
+    b"1 DH0: ffs first 64 blocks 256 flags 0 priority 0\n2 DH1: ofs first 320 blocks 256 flags 0 priority 0\n";
+
+// Without files, words that name one are refused.
+#[test]
+fn words_that_name_a_file_are_refused_without_files(rt: HostRuntime) {
+    let alloc = rt.alloc();
+    let words = ["adf-survey", "cat", "a", "sound"];
+    let mut input = Given::new(b"", 0);
+    let mut output = Kept::new(alloc, usize::MAX, usize::MAX);
+    let mut errors = Kept::new(alloc, usize::MAX, usize::MAX);
+    let ended = adf_survey_cmd::run(alloc, &words, &mut input, &mut output, &mut errors);
+    assert_eq!(rt; ended, 2);
+    assert!(rt; output.bytes.is_empty());
+    assert!(rt; errors.bytes.as_slice() == SURVEY_USAGE.as_bytes());
+}
+
+// Counts the bytes that it takes.
+#[derive(Drop)]
+struct Counted<'a> {
+    bytes: &'a Cell<usize>,
+}
+
+impl Sink for Counted<'_> {
+    ghost held = { λ _. None };
+
+    ghost has_failed = { λ _. false };
+
+    fn write(&mut self, bytes: &[u8]) -> Result<usize, Failed> {
+        self.bytes.set(self.bytes.get().wrapping_add(bytes.len()));
+        Ok(bytes.len())
+    }
+
+    fn failed(&self) -> bool {
+        false
+    }
+}
+
+// How many bytes errors get where an input of two reads says this.
+fn announced(alloc: Global, line: Option<&str>) -> usize {
+    let said = Cell::new(0);
+    let errors = Counted { bytes: &said };
+    let mut input = AnnouncedInput::new(Given::new(FILE, usize::MAX), errors, line);
+    let _ = read_input(alloc, &mut input, 1000);
+    said.get()
+}
+
+#[test]
+fn an_input_says_once_what_it_waits_for(rt: HostRuntime) {
+    assert_eq!(rt; announced(rt.alloc(), None), 0);
+    assert_eq!(rt; announced(rt.alloc(), Some("waits\n")), 6);
+}
