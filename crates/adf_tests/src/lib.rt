@@ -22,4 +22,6 @@ mod named_errors;
 #[cfg(test)]
 mod planned_disks;
 #[cfg(test)]
+mod table_builds;
+#[cfg(test)]
 mod telling;
