@@ -26,4 +26,6 @@ mod operands;
 #[cfg(test)]
 mod planned_disks;
 #[cfg(test)]
+mod table_builds;
+#[cfg(test)]
 mod telling;

@@ -1,0 +1,227 @@
+// Volumes that are built from a table: an OFS volume of 16 blocks with the directory `c` and in it the files `long`, 489 bytes
+// 0x41, and `one`, one byte. A row changes one field, and has the number and the addition that come of it.
+
+use adf_memory::{
+    Built, Date, Moved, NewVolume, TableAddition, build_volume, need_volume, run_in_memory,
+};
+use std::process::Abort;
+
+const MANIFEST: &[u8] =
+    b"volume ofs 16\ndir 0:0:0 00000000 c\nfile 0:0:0 0000000f c/long\nnote N\nfill 489 41\nfile 1:2:3 00000000 c/one\ndata 42\n";
+
+const DATE: Date = Date {
+    days: 0,
+    mins: 0,
+    ticks: 0,
+};
+
+const BUILT: Built = Built {
+    addition: 9,
+    need: 9,
+    have: 9,
+    blocks: 9,
+};
+
+const VOLUME: NewVolume = NewVolume {
+    kind: 0,
+    blocks: 16,
+    root: DATE,
+    altered: DATE,
+    created: DATE,
+    label_length: 0,
+    label: [9; 30],
+};
+
+const DIRECTORY: TableAddition = TableAddition {
+    parent: 0,
+    begin: 999,
+    size: 999,
+    protection: 0,
+    date: DATE,
+    is_file: 0,
+    name_length: 1,
+    name: *b"c.............................",
+    comment_length: 0,
+    comment: [9; 79],
+};
+
+const ADDITIONS: [TableAddition; 3] = [
+    DIRECTORY,
+    TableAddition {
+        parent: 1,
+        begin: 1,
+        size: 489,
+        protection: 15,
+        is_file: 1,
+        name_length: 4,
+        name: *b"long..........................",
+        comment_length: 1,
+        comment: [b'N'; 79],
+        ..DIRECTORY
+    },
+    TableAddition {
+        parent: 1,
+        begin: 0,
+        size: 1,
+        date: Date {
+            days: 1,
+            mins: 2,
+            ticks: 3,
+        },
+        is_file: 2,
+        name_length: 3,
+        name: *b"one...........................",
+        ..DIRECTORY
+    },
+];
+
+// The contents: that of `one`, and behind it that of `long`.
+fn contents() -> [u8; 490] {
+    let mut bytes = [0x41; 490];
+    bytes[0] = 0x42;
+    bytes
+}
+
+// The image that the command builds of the same entries.
+fn built(rt: &(impl Abort + AllocGlobal)) -> [u8; 8192] {
+    let mut image = [0; 8192];
+    let mut errors = [0; 80];
+    let mut moved = Moved {
+        input: 0,
+        output: 0,
+        errors: 0,
+        output_full: false,
+        errors_full: false,
+    };
+    let status = run_in_memory::<adf_cmd::Work>(
+        rt.alloc(),
+        b"adf\0build\0",
+        MANIFEST,
+        &mut image,
+        &mut errors,
+        &mut moved,
+    );
+    assert_eq!(rt; (status, moved.output), (0, 8192));
+    image
+}
+
+// A table and a manifest of the same entries give the same image. The room behind it is unchanged.
+#[test]
+fn a_table_builds_what_a_manifest_does(rt: HostRuntime) {
+    let mut room = [9; 8200];
+    let mut told = BUILT;
+    let number = build_volume(
+        rt.alloc(),
+        &VOLUME,
+        &ADDITIONS,
+        &contents(),
+        &mut room,
+        &mut told,
+    );
+    assert_eq!(rt; (number, told.addition, told.blocks), (0, 0, 16));
+    let wanted = built(&rt);
+    assert_eq!(rt; &room[..8192], wanted.as_slice());
+    assert_eq!(rt; &room[8192..], [9; 8].as_slice());
+}
+
+// The root, a page, and 1, 3 and 2 blocks for the entries, and the two boot blocks.
+#[test]
+fn the_smallest_volume_is_found(rt: HostRuntime) {
+    let mut told = BUILT;
+    let number = need_volume(rt.alloc(), &VOLUME, &ADDITIONS, &contents(), &mut told);
+    assert_eq!(rt; (number, told.blocks), (0, 10));
+}
+
+// A field that is changed.
+#[derive(Clone, Copy)]
+enum Change {
+    Kind(u32),
+    Label(u8),
+    Blocks(u32),
+    Parent(usize, usize),
+    NameLength(usize, u8),
+    Name(usize, [u8; 30]),
+    CommentLength(usize, u8),
+    Begin(usize, usize),
+}
+
+// The table and the volume with a change.
+fn changed(change: Change) -> (NewVolume, [TableAddition; 3]) {
+    let mut volume = VOLUME;
+    let mut additions = ADDITIONS;
+    match change {
+        Change::Kind(kind) => volume.kind = kind,
+        Change::Label(count) => volume.label_length = count,
+        Change::Blocks(blocks) => volume.blocks = blocks,
+        Change::Parent(at, parent) => additions[at % 3].parent = parent,
+        Change::NameLength(at, count) => additions[at % 3].name_length = count,
+        Change::Name(at, name) => additions[at % 3].name = name,
+        Change::CommentLength(at, count) => additions[at % 3].comment_length = count,
+        Change::Begin(at, begin) => additions[at % 3].begin = begin,
+    }
+    (volume, additions)
+}
+
+const ROWS: &[(Change, u8, usize)] = &[
+    (Change::Kind(2), 1, 0),
+    (Change::Label(31), 2, 0),
+    (Change::Blocks(15), 3, 0),
+    (Change::Blocks(18), 4, 0),
+    (Change::Parent(1, 2), 5, 2),
+    (Change::Parent(2, 2), 6, 3),
+    (Change::NameLength(2, 0), 7, 3),
+    (Change::NameLength(2, 31), 7, 3),
+    (Change::Name(2, *b"l/n..........................."), 7, 3),
+    (Change::Name(0, *b":............................."), 7, 1),
+    (Change::CommentLength(1, 80), 9, 2),
+    (Change::Begin(1, 2), 10, 2),
+    (Change::Begin(2, 18_446_744_073_709_551_615), 10, 3),
+    (Change::Blocks(8), 11, 0),
+];
+
+// Each fault has its number and its addition, and nothing is written.
+#[test]
+fn each_fault_is_told(rt: HostRuntime) {
+    for (change, wanted, addition) in ROWS {
+        let (volume, additions) = changed(*change);
+        let mut room = [9; 8192];
+        let mut told = BUILT;
+        let number = build_volume(
+            rt.alloc(),
+            &volume,
+            &additions,
+            &contents(),
+            &mut room,
+            &mut told,
+        );
+        assert_eq!(rt; (number, told.addition), (*wanted, *addition));
+        assert_eq!(rt; room, [9; 8192]);
+    }
+}
+
+// A name that differs in case alone exists already.
+#[test]
+fn a_name_stands_once(rt: HostRuntime) {
+    let (volume, mut additions) = changed(Change::Name(2, *b"LONG.........................."));
+    additions[2].name_length = 4;
+    let mut told = BUILT;
+    let number = need_volume(rt.alloc(), &volume, &additions, &contents(), &mut told);
+    assert_eq!(rt; (number, told.addition, told.blocks), (8, 3, 0));
+}
+
+// A tree that does not fit is told with both numbers.
+#[test]
+fn what_does_not_fit_is_told(rt: HostRuntime) {
+    let (volume, additions) = changed(Change::Blocks(8));
+    let mut room = [9; 8192];
+    let mut told = BUILT;
+    let number = build_volume(
+        rt.alloc(),
+        &volume,
+        &additions,
+        &contents(),
+        &mut room,
+        &mut told,
+    );
+    assert_eq!(rt; (number, told.need, told.have), (11, 8, 6));
+}
