@@ -2,8 +2,11 @@
 
     import adf
 
-    volume = adf.open("games.adf")                  # adf.Refused where it is no volume: .filename, .block and .cause, as "bad sum"
+    volume = adf.open("games.adf")                  # of a damaged image what stands of it; adf.Refused if nothing does
     print(volume.label, volume.kind, volume.free, volume.created)
+    for each in volume.left_out:                    # what is not in it: nothing for a sound image, else as `damaged: c/list`
+        print(each)
+    volume = adf.open("games.adf", strict=True)     # or adf.Refused: .filename, .block and .cause, as "bad sum"
     for entry in volume.entries:
         print(entry.path, entry.size, entry.date, entry.comment)
     start = volume["s/startup-sequence"].read()     # bytes; the case of a to z does not count; KeyError where nothing is there
@@ -32,6 +35,7 @@ a MemoryError. A file that cannot be read is an OSError, and a wrong argument a 
 from __future__ import annotations
 
 import bisect
+import collections
 import ctypes
 import datetime
 import errno
@@ -41,7 +45,10 @@ import mmap
 import os
 import re
 import shutil
+import warnings
 from typing import Any, BinaryIO, Iterable, Iterator, NamedTuple, Sequence, Union, overload
+
+from adf._rescues import LeftOut as LeftOut, rescue as rescue
 
 __version__ = "1.0"
 BLOCK = 512
@@ -200,6 +207,10 @@ class Refused(Error):
         return f"{name}block {self.block}: {self.cause}"
 
 
+class DamagedWarning(UserWarning):
+    """`adf.open` was given an image that is refused, and opened what stands of it."""
+
+
 class Verdict(NamedTuple):
     """The numbers of a volume, as `adf check` writes them."""
 
@@ -303,15 +314,15 @@ class Answer(NamedTuple):
     errors: bytes
 
 
-def _run(call: Any, program: str, words: Iterable[str], given: Image) -> Answer:
-    """Runs a program of the library with these words over the input."""
+def _run(call: Any, program: str, words: Iterable[str], given: Image, expected: int = 0) -> Answer:
+    """Runs a program of the library with these words over the input; so many bytes of output are expected."""
     all_words, given = (program, *words), _bytes(given)
     if isinstance(words, (str, bytes)) or not all(isinstance(word, str) for word in all_words):
         raise TypeError('words are a list of str, as ["cat", "c/list"]')
     line = b"".join(word.encode() + b"\0" for word in all_words)
     if line.count(b"\0") != len(all_words):
         raise ValueError("a word has a zero byte")
-    moved, most_output, most_errors = _Moved(), len(given) + FIRST_OUTPUT, FIRST_ERRORS
+    moved, most_output, most_errors = _Moved(), max(len(given), expected) + FIRST_OUTPUT, FIRST_ERRORS
     while True:
         output, errors = ctypes.create_string_buffer(most_output), ctypes.create_string_buffer(most_errors)
         rooms = (output, most_output, errors, most_errors, ctypes.byref(moved))
@@ -339,33 +350,22 @@ def survey(image: Image, blocks: int | None = None) -> Survey:
 
 def _sized(image: bytes, blocks: int | None) -> bytes:
     """The image of so many blocks that begins with these bytes; zeros stand for what is missing."""
+    return image if blocks is None else _cut(image, blocks).ljust(BLOCK * blocks, b"\0")
+
+
+def _cut(image: bytes, blocks: int | None) -> bytes:
+    """What an image has of so many blocks."""
     if blocks is None:
         return image
     if not 0 <= blocks <= MOST_BYTES // BLOCK:
         raise ValueError(f"{blocks} blocks")
-    return image[: BLOCK * blocks].ljust(BLOCK * blocks, b"\0")
+    return image[: BLOCK * blocks]
 
 
-class LeftOut(NamedTuple):
-    """What a rescue leaves out: an entry, with why, `damaged`, `link` or `no room`, and its path; or what is `lost`, with `in c/` or
-    `blocks 44 to 65` for a path."""
-
-    why: str
-    path: str
-
-
-def rescue(image: Image, blocks: int | None = None) -> tuple[bytes, list[LeftOut]]:
-    """A new, sound volume of as many bytes with all that stands in an image, and the entries that are found and left out; with a
-    number of blocks as if the image had so many. Refused where nothing stands."""
-    status, volume, errors = _run(_calls().adf_survey_run, "adf-survey", ["rescue"], _sized(_bytes(image), blocks))
-    if status == 3:
-        raise NoMemory(errors.decode("ascii").strip())
-    if not volume:
-        first = survey(image, blocks).findings[0]
-        number = next(number for number in range(1, NO_MEMORY + 1) if _cause(number) == first.cause)
-        raise Refused(first.cause, first.first, number)
-    lines = (line.partition(": ") for line in errors.decode("ascii").splitlines())
-    return volume, [LeftOut(why, _plain(path)) for why, _, path in lines]
+def _survey_run(words: Sequence[str], image: Image, blocks: int | None) -> Answer:
+    """Runs `adf-survey` with these words over an image, read as if it had so many blocks."""
+    option = [] if blocks is None else ["--blocks", str(blocks)]
+    return _run(_calls().adf_survey_run, "adf-survey", [*option, *words], _cut(_bytes(image), blocks), BLOCK * (blocks or 0))
 
 
 class Finding(NamedTuple):
@@ -419,12 +419,15 @@ class Found(NamedTuple):
         return f"<adf.Found {self.path!r}>"
 
     def read(self) -> bytes:
-        """The bytes of a sound file, as Survey.read gives them; NotReached if no path leads to this entry."""
-        return self.survey.read(self.survey._path_to(self.number))
+        """The bytes of a sound file: those of this entry, also where an earlier one has its path. NotAFile, Damaged; NotReached if
+        they cannot be had."""
+        kept = self.survey._kept(self) if self.is_sound else None
+        return kept.read() if kept else self.survey.read(self.survey._path_to(self.number))
 
     def remains(self) -> tuple[bytes, list[range]]:
-        """What is left of a file, as Survey.remains gives it; NotReached if no path leads to this entry."""
-        return self.survey.remains(self.survey._path_to(self.number))
+        """What is left of a file, as Survey.remains gives it, of this entry. NotReached if that cannot be had."""
+        kept = self.survey._kept(self)
+        return (kept.read(), []) if kept else self.survey.remains(self.survey._path_to(self.number))
 
 
 class _ReadOnly:
@@ -453,6 +456,7 @@ class Survey(_ReadOnly):
     raw_label: bytes
     label: str
     _rows: Any
+    _given: tuple[bytes, int | None]
 
     def __init__(self, image: Image, blocks: int | None = None) -> None:
         raw, told = _sized(_bytes(image), blocks), _Surveyed()
@@ -466,8 +470,9 @@ class Survey(_ReadOnly):
         label = bytes(told.label)[: told.label_length]
         vars(self).update(
             image=raw, kind=KINDS[told.kind] if told.blocks else "", date=_date(told.root), altered=_date(told.altered),
-            created=_date(told.created), raw_label=label, label=label.decode("latin-1"),
+            created=_date(told.created), raw_label=label, label=label.decode("latin-1"), _given=(_cut(_bytes(image), blocks), blocks),
         )
+        self._mark_missing(tables[2])
         vars(self)["entries"] = [self._entry(place + 1, tables[2][place]) for place in range(told.entries)]
         vars(self)["_rows"] = (_Finding * told.findings).from_buffer_copy(tables[0])
 
@@ -476,11 +481,34 @@ class Survey(_ReadOnly):
 
     def __reduce__(self) -> Any:
         """Pickled as its image, which is surveyed again."""
-        return Survey, (self.image,)
+        return Survey, self._given
+
+    def _mark_missing(self, rows: Any) -> None:
+        """Marks files with data in blocks that the image does not have as damaged: the list of the command does, and the table
+        has zeros there for data."""
+        if len(self._given[0]) == len(self.image):
+            return
+        marks = re.findall(rb"^(sound  |damaged) ", _survey_run(["--list"], *self._given).output, re.M)
+        for place, mark in enumerate(marks):
+            rows[place].is_sound = mark == b"sound  "
 
     @property
     def findings(self) -> Findings:
         return Findings(self)
+
+    @functools.cached_property
+    def _volume(self) -> Rescued | None:
+        """The volume of what stands, or None if nothing does."""
+        try:
+            volume = Rescued(self._given[0], blocks=self._given[1])
+        except Refused:
+            return None
+        vars(volume)["survey"] = self
+        return volume
+
+    def _kept(self, found: Found) -> Entry | None:
+        """The file of what stands that is this one, if there is one."""
+        return self._volume.entry_of(found) if self._volume and found.is_file else None
 
     def ranges(self) -> Iterator[range]:
         """The blocks of each finding, without paths, which can be very long."""
@@ -539,7 +567,7 @@ class Survey(_ReadOnly):
             words = ["cat", *flags, "--", escape(path)]
         except UnicodeEncodeError:
             raise NoSuchPath(path) from None
-        status, output, errors = _run(_calls().adf_survey_run, "adf-survey", words, self.image)
+        status, output, errors = _survey_run(words, *self._given)
         if status == 3:
             raise NoMemory(errors.decode("ascii").strip())
         if errors in (b"no such path\n", b"bad path\n"):
@@ -682,10 +710,32 @@ def read_image(file: BinaryIO) -> bytes:
     return room.getvalue()
 
 
-def open(path: Path) -> Volume:
-    """The volume of an image in a file. Refused if it is not a volume, OSError if the file cannot be read."""
+def open(path: Path, *, strict: bool = False, blocks: int | None = None) -> Volume:
+    """The volume of an image in a file: as `open_image` of its bytes. OSError if the file cannot be read."""
     with io.open(path, "rb") as file:
-        return Volume(read_image(file), path)
+        return _opened(read_image(file), path, strict, blocks)
+
+
+def open_image(image: Image, filename: Path | None = None, *, strict: bool = False, blocks: int | None = None) -> Volume:
+    """The volume of an image. If the image is refused, a DamagedWarning says so, and the volume is a Rescued one, that of what stands:
+    `left_out` is what is not in it. Refused if nothing stands, or with `strict` if the image is not a volume. With a number of blocks
+    it is read as if it had so many; those that it does not have are lost."""
+    return _opened(_bytes(image), filename, strict, blocks)
+
+
+def _opened(image: bytes, filename: Path | None, strict: bool, blocks: int | None) -> Volume:
+    """What `open` and `open_image` give; the warning is told of their caller."""
+    given = _cut(image, blocks)
+    if strict or len(given) == BLOCK * (len(given) // BLOCK if blocks is None else blocks):
+        try:
+            return Volume(given, filename)
+        except Refused:
+            if strict:
+                raise
+    volume = Rescued(given, filename, blocks)
+    why = volume.refused or f"{'image' if filename is None else os.fsdecode(filename)}: it has {len(given)} bytes"
+    warnings.warn(f"{why}: {len(volume.left_out)} left out (volume.left_out)", DamagedWarning, stacklevel=3)
+    return volume
 
 
 class Volume(_ReadOnly):
@@ -756,6 +806,16 @@ class Volume(_ReadOnly):
     def entries(self) -> Entries:
         return Entries(self)
 
+    @property
+    def left_out(self) -> list[LeftOut]:
+        """What is on the image and not in this volume: nothing, unless it is a Rescued one."""
+        return []
+
+    @property
+    def findings(self) -> Sequence[Finding]:
+        """What is wrong with the image: nothing, unless it is a Rescued one."""
+        return ()
+
     def __getitem__(self, path: str | bytes) -> Entry:
         """The entry under a path, a text or bytes: names with `/` between them. NoSuchPath if there is none."""
         number = self._find(path)
@@ -814,6 +874,82 @@ class Volume(_ReadOnly):
         if answer == NO_MEMORY:
             raise NoMemory
         return node.value if answer == 0 else None
+
+
+class Rescued(Volume):
+    """The volume of what stands in an image that is refused: its rescue, in memory. `left_out` is what is not in it, and `findings` all
+    that is wrong with the image, by its `survey`; `refused` says why it is refused. Its blocks, and the headers of its entries, are
+    not those of the image. Refused if nothing stands."""
+
+    _given: tuple[bytes, Path | None, int | None]
+    _left_out: list[LeftOut]
+
+    def __init__(self, image: Image, filename: Path | None = None, blocks: int | None = None) -> None:
+        given = _bytes(image)
+        try:
+            new, left_out = rescue(given, blocks)
+        except Refused as refused:
+            raise Refused(refused.cause, refused.block, refused.number, filename) from None
+        super().__init__(new, filename)
+        vars(self).update(_given=(given, filename, blocks), _left_out=left_out)
+
+    def __repr__(self) -> str:
+        return f"{super().__repr__()[:-1].replace('Volume', 'Rescued', 1)}, {len(self.left_out)} left out>"
+
+    def __reduce__(self) -> Any:
+        """Pickled as its image, which is rescued again."""
+        return Rescued, self._given
+
+    def close(self) -> None:
+        super().close()
+        vars(self).update(_given=(b"", *self._given[1:]))
+
+    @property
+    def left_out(self) -> list[LeftOut]:
+        return list(self._left_out)
+
+    @functools.cached_property
+    def survey(self) -> Survey:
+        """The survey of the image, made when it is asked for first."""
+        survey = Survey(self._given[0], self._given[2])
+        vars(survey)["_volume"] = self
+        return survey
+
+    def entry_of(self, found: Found) -> Entry | None:
+        """The entry of this volume that is an entry of `survey`; None if it is left out."""
+        return self._entry(self._places[found.number]) if found.number in self._places else None
+
+    @functools.cached_property
+    def _places(self) -> dict[int, int]:
+        """The numbers of entries, by those of the entries of the survey that they are. An entry whose name is not a name, or is used
+        already, is called lost- and its block."""
+        lost_names = {each.path.rpartition("/")[2].encode("latin-1") for each in self._left_out}
+        counts = collections.Counter((found.parent, self.survey._capitals(found.raw_name)) for found in self.survey.entries)
+        named, places = {(entry.parent, entry.raw_name): entry for entry in self.entries}, {0: 0}
+        for found in self.survey.entries:
+            parent, names = places.get(found.parent, -1), [b"lost-%d" % found.header]
+            is_alone = counts[found.parent, self.survey._capitals(found.raw_name)] == 1
+            if found.is_sound or is_alone and not (found.is_file and found.raw_name in lost_names):
+                names.append(found.raw_name)
+            for kept in (named[parent, name] for name in names if (parent, name) in named):
+                if _fields(kept) == _fields(found):
+                    places[found.number] = kept.number
+                    del named[parent, kept.raw_name]
+                    break
+        return places
+
+    @property
+    def findings(self) -> Findings:
+        return self.survey.findings
+
+    @functools.cached_property
+    def refused(self) -> Refused | None:
+        """Why the image is refused; None if it is sound."""
+        try:
+            check(self._given[0])
+        except Refused as refused:
+            return Refused(refused.cause, refused.block, refused.number, self._given[1])
+        return None
 
 
 class Entries(Sequence["Entry"]):
@@ -895,6 +1031,11 @@ class Entry(NamedTuple):
         """The file as one of Python, buffered, to read and seek."""
         self.read_into(bytearray())
         return io.BufferedReader(File(self))
+
+
+def _fields(entry: Entry | Found) -> tuple[Any, ...]:
+    """What a rescue keeps of an entry as it is."""
+    return entry.is_file, entry.size, entry.protection, entry.date, entry.raw_comment
 
 
 class File(io.RawIOBase):

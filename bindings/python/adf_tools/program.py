@@ -173,11 +173,6 @@ def host_text(name: str | bytes | os.PathLike[str]) -> str:
     return host_letters(os.fsencode(name))
 
 
-def given_volume() -> adf.Volume:
-    """The volume of the image on standard input."""
-    return adf.Volume(adf.read_image(sys.stdin.buffer))
-
-
 def run_lines(parts: Iterable[bytes]) -> Iterator[str]:
     """The lines of a file's bytes, which come in parts: `fill` for 64 or more that are equal, else `data` of at most 32."""
     left, more = b"", 0  # bytes that have no line yet, and how many more there are of the run with which they begin
