@@ -108,30 +108,42 @@ static bool tell(const struct volume *volume, const char *name, const struct tak
     return is_surveyed;
 }
 
-/* Puts what stands of the image in its place. What is left of its damaged files takes the image over. */
+/* Keeps what is left of the damaged files of an image, whose bytes it takes over. It is read as the rescue reads it: as a volume of
+ * the same kind, also where its first bytes say otherwise. False if memory ran out. */
+static bool keep_left(struct volume *volume, uint8_t *image, size_t length, size_t blocks) {
+    if (length > 3 && (memcmp(image, "DOS", 3) != 0 || image[3] % 2 != volume->contents.kind)) {
+        memcpy(image, "DOS", 3);
+        image[3] = (uint8_t)volume->contents.kind;
+    }
+    volume->left = left_of(image, length, blocks);
+    if (volume->left != NULL && damaged_of(volume->left) == 0) {
+        free_left(volume->left);
+        volume->left = NULL;
+        return true;
+    }
+    return volume->left != NULL;
+}
+
+/* Puts what stands of the image in its place. */
 static int take_rescue(struct volume *volume, const char *name, const struct taking *taking, uint8_t cause) {
     static const char *const RESCUE[] = {"rescue", NULL};
-    size_t room = taking->blocks == 0 ? volume->length : taking->blocks * BLOCK;
-    struct answer answer = run_survey(volume->image, volume->length, taking->blocks, RESCUE, room);
+    struct volume given = *volume;
+    size_t room = taking->blocks == 0 ? given.length : taking->blocks * BLOCK;
+    struct answer answer = run_survey(given.image, given.length, taking->blocks, RESCUE, room);
     bool is_run = answer.output != NULL && answer.status <= REFUSED, stands = is_run && answer.output_length != 0;
     if (!stands || !tell(volume, name, taking, answer.errors)) {
         free_answer(&answer);
         return is_run && !stands ? say_refused(volume, name, cause) : say_no_memory(name);
     }
-    bool has_left = !taking->wants_left || (volume->left = left_of(volume->image, volume->length, taking->blocks)) != NULL;
-    if (!taking->wants_left)
-        free(volume->image);
+    *volume = (struct volume){.image = answer.output, .length = answer.output_length};
     free(answer.errors);
-    free(volume->entries);
-    free(volume->blocks);
-    *volume = (struct volume){.image = answer.output, .length = answer.output_length, .left = volume->left};
-    if (!has_left || make_tables(volume) != ADF_ACCEPTED)
-        return say_no_memory(name);
-    if (volume->left != NULL && damaged_of(volume->left) == 0) {
-        free_left(volume->left);
-        volume->left = NULL;
+    bool is_kept = make_tables(volume) == ADF_ACCEPTED;
+    if (is_kept && taking->wants_left) {
+        is_kept = keep_left(volume, given.image, given.length, taking->blocks);
+        given.image = NULL;
     }
-    return SOUND;
+    free_volume(&given);
+    return is_kept ? SOUND : say_no_memory(name);
 }
 
 int take_volume(struct volume *volume, uint8_t *image, size_t length, const char *name, const struct taking *taking) {
