@@ -54,6 +54,7 @@ __version__ = "1.0"
 BLOCK = 512
 MOST_BYTES = BLOCK * 1_048_576
 NO_MEMORY = 23
+NO_BLOCK, LEAST_CHUNK, FILE_TYPE = 2**32 - 1, 488, b"\xff\xff\xff\xfd"
 KINDS = ("ofs", "ffs")
 MOST_PARTITIONS, MOST_TABLES, DOS_TYPE = 1024, BLOCK * 65536, 0x444F5300
 ROLES = ("free", "boot", "root", "page", "map extension", "header", "extension", "data")
@@ -94,6 +95,7 @@ _Found = _struct(
     *(("parent", _SIZE), ("header size protection", _WORD), ("date", _Date), ("is_file is_sound name_length", _BYTE)),
     *(("name", _BYTE * 79), ("comment_length", _BYTE), ("comment", _BYTE * 79)),
 )
+_Part = _struct(("node", _SIZE), ("number", _WORD))
 _Surveyed = _struct(
     *(("kind blocks", _WORD), ("findings entries", _SIZE)),
     *(("root altered created", _Date), ("label_length", _BYTE), ("label", _BYTE * 30)),
@@ -114,6 +116,9 @@ _CALLS = {
     "adf_version": (_WORD,),
     "adf_run": (_BYTE, *(_POINTER, _SIZE) * 4, _POINTER),
     "adf_survey_index": (_BYTE, _POINTER, _SIZE, _POINTER, _SIZE, _POINTER, _SIZE, _POINTER),
+    "adf_survey_parts": (_BYTE, _POINTER, _SIZE, _POINTER, _SIZE),
+    "adf_found_blocks": (_SIZE, *(_POINTER, _SIZE) * 2, _SIZE, _WORD, _POINTER, _SIZE),
+    "adf_found_read": (_SIZE, _POINTER, _SIZE, _WORD, _POINTER, _SIZE, _SIZE, _POINTER, _SIZE, _POINTER),
     "adf_disk_index": (_BYTE, _POINTER, _SIZE, ctypes.c_uint64, _POINTER, _SIZE, _POINTER),
     "adf_disk_cause_text": (_SIZE, _BYTE, _POINTER, _SIZE),
     "adf_partition_fault_text": (_SIZE, _BYTE, _POINTER, _SIZE),
@@ -186,10 +191,6 @@ class NotAFile(Error, IsADirectoryError):
 
 class Damaged(Error, OSError):
     """A file of a survey is damaged, or something is wrong with a partition."""
-
-
-class NotReached(Error, LookupError):
-    """No path leads to an entry of a survey: an earlier one has the same path, or no path can have its name."""
 
 
 class Refused(Error):
@@ -419,15 +420,22 @@ class Found(NamedTuple):
         return f"<adf.Found {self.path!r}>"
 
     def read(self) -> bytes:
-        """The bytes of a sound file: those of this entry, also where an earlier one has its path. NotAFile, Damaged; NotReached if
-        they cannot be had."""
-        kept = self.survey._kept(self) if self.is_sound else None
-        return kept.read() if kept else self.survey.read(self.survey._path_to(self.number))
+        """The bytes of a sound file: those of this entry, also where an earlier one has its path. NotAFile, or Damaged."""
+        if not self.is_sound and self._has_bytes():
+            raise Damaged(errno.EIO, "damaged", self.path)
+        return self.remains()[0]
 
     def remains(self) -> tuple[bytes, list[range]]:
-        """What is left of a file, as Survey.remains gives it, of this entry. NotReached if that cannot be had."""
-        kept = self.survey._kept(self)
-        return (kept.read(), []) if kept else self.survey.remains(self.survey._path_to(self.number))
+        """What is left of a file, sound or damaged: its bytes, with zeros for those that are lost, and the ranges of these. NotAFile if
+        it is a directory or a link."""
+        if not self._has_bytes():
+            raise NotAFile(errno.EISDIR, os.strerror(errno.EISDIR), self.path)
+        return self.survey._remains(self)
+
+    def _has_bytes(self) -> bool:
+        """Whether it is a file, by its header, and no link."""
+        past = BLOCK * (self.header + 1)
+        return self.is_file and self.survey.image[past - 4 : past] == FILE_TYPE
 
 
 class _ReadOnly:
@@ -484,13 +492,11 @@ class Survey(_ReadOnly):
         return Survey, self._given
 
     def _mark_missing(self, rows: Any) -> None:
-        """Marks files with data in blocks that the image does not have as damaged: the list of the command does, and the table
-        has zeros there for data."""
-        if len(self._given[0]) == len(self.image):
-            return
-        marks = re.findall(rb"^(sound  |damaged) ", _survey_run(["--list"], *self._given).output, re.M)
-        for place, mark in enumerate(marks):
-            rows[place].is_sound = mark == b"sound  "
+        """Marks files with data in blocks that the image does not have as damaged: the table has zeros there for data."""
+        if len(self._given[0]) < len(self.image):
+            for part in self._parts[1][len(self._given[0]) // BLOCK :]:
+                if part.node:
+                    rows[part.node - 1].is_sound = 0
 
     @property
     def findings(self) -> Findings:
@@ -506,9 +512,44 @@ class Survey(_ReadOnly):
         vars(volume)["survey"] = self
         return volume
 
-    def _kept(self, found: Found) -> Entry | None:
-        """The file of what stands that is this one, if there is one."""
-        return self._volume.entry_of(found) if self._volume and found.is_file else None
+    @functools.cached_property
+    def _parts(self) -> tuple[bytes, Any]:
+        """The image, and which part of what is found each of its blocks is."""
+        return self._with_parts(self.image)
+
+    @functools.cached_property
+    def _typed_parts(self) -> tuple[bytes, Any]:
+        """The same, of the image with the type that its files say, where they say another."""
+        if self._volume is None or self._volume.kind == self.kind:
+            return self._parts
+        return self._with_parts(self.image[:3] + bytes([self.image[3] & 254]) + self.image[4:])
+
+    @staticmethod
+    def _with_parts(image: bytes) -> tuple[bytes, Any]:
+        rows = (_Part * (len(image) // BLOCK))()
+        if _calls().adf_survey_parts(image, len(image), rows, len(rows)) != 0:
+            raise NoMemory
+        return image, rows
+
+    def _remains(self, found: Found) -> tuple[bytes, list[range]]:
+        """What is left of a file, by its number."""
+        image, parts = self._parts if found.is_sound else self._typed_parts
+        size, held = min(found.size, len(image)), len(self._given[0]) // BLOCK
+        most = size // LEAST_CHUNK + 1
+        blocks, content, gap = (_WORD * most)(), bytearray(size), _SIZE()
+        count = min(_calls().adf_found_blocks(image, len(image), parts, len(parts), found.number, found.header, blocks, most), most)
+        for place in range(count):
+            if blocks[place] >= held:
+                blocks[place] = NO_BLOCK
+        lost, at = [], 0
+        while at < size:
+            room = (ctypes.c_char * (size - at)).from_buffer(content, at)
+            at += _calls().adf_found_read(image, len(image), found.header, blocks, count, at, room, size - at, ctypes.byref(gap))
+            if not gap.value:
+                break
+            lost.append(range(at, at + gap.value))
+            at += gap.value
+        return bytes(content), lost
 
     def ranges(self) -> Iterator[range]:
         """The blocks of each finding, without paths, which can be very long."""
@@ -536,30 +577,9 @@ class Survey(_ReadOnly):
         left, lines = self._cat(path, "--damaged")
         return left, [range(int(first), int(last) + 1) for first, last in re.findall(rb"bytes (\d+) to (\d+)", lines)]
 
-    @functools.cached_property
-    def _firsts(self) -> dict[tuple[int, bytes], int]:
-        """The number of the first entry with a name in a directory, to which a path leads; capital letters stand for all."""
-        firsts: dict[tuple[int, bytes], int] = {}
-        for entry in self.entries:
-            firsts.setdefault((entry.parent, self._capitals(entry.raw_name)), entry.number)
-        return firsts
-
     def _capitals(self, name: bytes) -> bytes:
         """A name in capital letters, by those that the type of the image compares: a to z, or those of Latin-1."""
         return name.translate(LATIN_CAPITALS if self.image[3] > 1 else CAPITALS)
-
-    def _path_to(self, number: int) -> bytes:
-        """The path that leads to an entry. NotReached if none does: the library finds entries by their paths."""
-        names = []
-        while number:
-            entry = self.entries[number - 1]
-            if self._firsts[entry.parent, self._capitals(entry.raw_name)] != number:
-                raise NotReached(f"{entry.path} (block {entry.header}): an earlier entry has the same path")
-            if not 0 < len(entry.raw_name) <= LONGEST_NAME or set(entry.raw_name) & set(b"/:"):
-                raise NotReached(f"{entry.path} (block {entry.header}): no path can have this name")
-            names.append(entry.raw_name)
-            number = entry.parent
-        return b"/".join(reversed(names))
 
     def _cat(self, path: str | bytes, *flags: str) -> tuple[bytes, bytes]:
         """What the command `cat` writes to output and to errors."""

@@ -87,7 +87,7 @@ class Unpacker:
         for found in self.damaged.get(number, ()):
             try:
                 left, lost = found.remains()
-            except (adf.NotAFile, adf.NotReached):  # a link; a file that no path leads to
+            except adf.NotAFile:  # a link
                 continue
             name = self.host(found.raw_name)
             while names & {name + DAMAGED, name + GAPS}:

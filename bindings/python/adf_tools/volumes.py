@@ -2,7 +2,6 @@
 
 from __future__ import annotations
 
-import contextlib
 import hashlib
 import itertools
 import struct
@@ -131,12 +130,7 @@ def volume_record(volume: adf.Volume, columns: Columns, has_texts: bool) -> Reco
 
 def sound_sums(survey: adf.Survey) -> Dict[int, str]:
     """The SHA-256 of the sound files of a refused image, by their numbers."""
-    sums: Dict[int, str] = {}
-    for entry in survey.entries:
-        if entry.is_file and entry.is_sound:
-            with contextlib.suppress(adf.NotReached):
-                sums[entry.number] = hashlib.sha256(entry.read()).hexdigest()
-    return sums
+    return {entry.number: hashlib.sha256(content_of(entry)).hexdigest() for entry in survey.entries if entry.is_file and entry.is_sound}
 
 
 def refused_record(image: bytes, refused: adf.Refused, columns: Columns, has_texts: bool) -> Record:
