@@ -76,7 +76,7 @@ def begin(line: argparse.ArgumentParser, work: Callable[[argparse.Namespace], in
     try:
         for number in heard:
             signal.signal(number, signal.default_int_handler)
-        status = work(line.parse_args())
+        status = work(line.parse_intermixed_args())
         sys.stdout.flush()
     except SystemExit:
         raise

@@ -129,7 +129,7 @@ class Programs(Folder):
         self.ends(1, ["damaged: a"], "unpack", "-", "other", given=DAMAGED)
         self.ends(1, ["damaged: a"], "unpack", "third", given=DAMAGED)
         self.assertEqual((self.files("other"), self.files("third")), ({"b": b"B"}, {"b": b"B"}))
-        self.tool("unpack", "b.adf", "whole")
+        self.tool("unpack", "b.adf", "--escape", "whole")
         self.assertEqual(self.files("whole"), {"a": b"A" * 1200, "b": b"B"})
 
     def test_unpack_copies_what_is_left_of_damaged_files(self):
