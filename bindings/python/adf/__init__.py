@@ -18,6 +18,7 @@
         print(volume.label)
     found = adf.survey(image)                       # of a damaged image: found.findings, found.entries, found.read("c/list")
     left, lost = found.remains("c/list")            # what is left of a damaged file, and the ranges of its bytes that are lost
+    pieces = found.entries[0].pieces()              # the same by number: each run of bytes that is found, with its place in the file
     new, left_out = adf.rescue(image)               # a sound volume of all that stands, and the entries that it leaves out
     disk = adf.Disk(image)                          # of a whole hard disk: disk.partitions, and adf.Volume(disk.volume("DH0"))
 
@@ -100,6 +101,7 @@ _Surveyed = _struct(
     *(("kind blocks", _WORD), ("findings entries", _SIZE)),
     *(("root altered created", _Date), ("label_length", _BYTE), ("label", _BYTE * 30)),
 )
+_Part = _struct(("node", _SIZE), ("number", _WORD))
 _Partition = _struct(
     *(("first blocks", ctypes.c_uint64), ("block flags", _WORD), ("priority", ctypes.c_int32), ("dos_type", _WORD)),
     *(("fault name_length", _BYTE), ("name", _BYTE * 31)),
@@ -116,9 +118,11 @@ _CALLS = {
     "adf_version": (_WORD,),
     "adf_run": (_BYTE, *(_POINTER, _SIZE) * 4, _POINTER),
     "adf_survey_index": (_BYTE, _POINTER, _SIZE, _POINTER, _SIZE, _POINTER, _SIZE, _POINTER),
-    "adf_survey_parts": (_BYTE, _POINTER, _SIZE, _POINTER, _SIZE),
+    "adf_survey_parts": (_BYTE, *(_POINTER, _SIZE) * 2),
+    "adf_survey_owners": (_BYTE, *(_POINTER, _SIZE) * 2),
     "adf_found_blocks": (_SIZE, *(_POINTER, _SIZE) * 2, _SIZE, _WORD, _POINTER, _SIZE),
     "adf_found_read": (_SIZE, _POINTER, _SIZE, _WORD, _POINTER, _SIZE, _SIZE, _POINTER, _SIZE, _POINTER),
+    "adf_escape": (_SIZE, *(_POINTER, _SIZE) * 2),
     "adf_disk_index": (_BYTE, _POINTER, _SIZE, ctypes.c_uint64, _POINTER, _SIZE, _POINTER),
     "adf_disk_cause_text": (_SIZE, _BYTE, _POINTER, _SIZE),
     "adf_partition_fault_text": (_SIZE, _BYTE, _POINTER, _SIZE),
@@ -437,6 +441,21 @@ class Found(NamedTuple):
         past = BLOCK * (self.header + 1)
         return self.is_file and self.survey.image[past - 4 : past] == FILE_TYPE
 
+    def pieces(self) -> Iterator[tuple[int, bytes]]:
+        """What is left of a file: each run of bytes that is found, with its place in the file. What lies between the runs is lost. A
+        directory has none."""
+        left, lost = self.survey._remains(self) if self._has_bytes() else (b"", [])
+        at = 0
+        for gap in (*lost, range(len(left), len(left))):
+            if at < gap.start:
+                yield at, left[at : gap.start]
+            at = gap.stop
+
+    @property
+    def gaps(self) -> list[range]:
+        """The ranges of the bytes of a file that are lost."""
+        return self.survey._remains(self)[1] if self._has_bytes() else []
+
 
 class _ReadOnly:
     """What is told once, and then only read."""
@@ -576,6 +595,14 @@ class Survey(_ReadOnly):
         lost, and the ranges of these. NoSuchPath and NotAFile as of `read`."""
         left, lines = self._cat(path, "--damaged")
         return left, [range(int(first), int(last) + 1) for first, last in re.findall(rb"bytes (\d+) to (\d+)", lines)]
+
+    def owners(self) -> bytes:
+        """The role of each block by what is found there, a byte for each, as a place in ROLES: 0 where nothing is, and everywhere without
+        a root."""
+        roles = ctypes.create_string_buffer(len(self.image) // BLOCK or 1)
+        if _calls().adf_survey_owners(self.image, len(self.image), roles, len(roles)) != 0:
+            raise NoMemory
+        return roles.raw[: len(self.image) // BLOCK]
 
     def _capitals(self, name: bytes) -> bytes:
         """A name in capital letters, by those that the type of the image compares: a to z, or those of Latin-1."""

@@ -305,6 +305,22 @@ class Surveys(unittest.TestCase):
         with self.assertRaises(KeyError):
             damaged.remains("nix")
 
+    def test_reads_what_is_left_by_number(self):
+        # As above: blocks 3 and 5 are lost. Then the name becomes one that no path has, and the image is cut before block 5.
+        sound = built("volume ofs 16\nfile 0:0:0 00000000 a\nfill 1000 41\ndir 0:0:0 00000000 c\n")
+        file, directory = adf.survey(sound).entries
+        self.assertEqual((list(file.pieces()), file.gaps), ([(0, b"A" * 1000)], []))
+        self.assertEqual((list(directory.pieces()), directory.gaps), ([], []))
+        damaged = changed(changed(changed(sound, 3, 3, 8), 5, 3, 8), 2, 433, ord("a") ^ ord("/"))
+        survey = adf.survey(damaged)
+        self.assertEqual(list(survey.entries[0].pieces()), [(488, b"A" * 488)])
+        self.assertEqual(survey.entries[0].gaps, [range(0, 488), range(976, 1000)])
+        self.assertEqual([adf.ROLES[role] for role in survey.owners()[2:6]], ["header", "free", "data", "free"])
+        ffs = built("volume ffs 16\nfile 0:0:0 00000000 a\nfill 1000 41\n")
+        found = pickle.loads(pickle.dumps(adf.survey(ffs[: 9 * 512], 16)))
+        self.assertEqual(found.entries[0].gaps, [])
+        self.assertEqual(adf.survey(b"").owners(), b"")
+
     def test_tells_what_findings_concern(self):
         # The chain of `b`, in slot 7, goes on to the header of `a`, which slot 6 has; byte 499 is the last of the next in the chain.
         sound = built("volume ofs 16\nfile 0:0:0 00000000 a\nfill 9 41\nfile 0:0:0 00000000 b\n")

@@ -21,7 +21,7 @@ file 0:0:0 00000000 none
 file 9000:1:2 00000000 large
 fill 80000 41
 """
-STRUCTS = "date verdict entry contents finding found part surveyed partition disk moved".split()
+STRUCTS = "date verdict entry contents finding found surveyed part partition disk moved".split()
 
 
 def layout():

@@ -141,6 +141,38 @@ extern "C" fn adf_survey_index(
     0
 }
 
+#[no_mangle]
+extern "C" fn adf_survey_parts(_: *const u8, _: usize, _: *mut u8, _: usize) -> u8 {
+    NEW
+}
+
+#[no_mangle]
+extern "C" fn adf_survey_owners(image: *const u8, length: usize, roles: *mut u8, room: usize) -> u8 {
+    adf_owners(image, length, roles, room)
+}
+
+#[no_mangle]
+#[allow(clippy::too_many_arguments)]
+extern "C" fn adf_found_blocks(_: *const u8, _: usize, _: *const u8, _: usize, _: usize, _: u32, _: *mut u32, _: usize) -> usize {
+    0
+}
+
+#[no_mangle]
+#[allow(clippy::too_many_arguments)]
+extern "C" fn adf_found_read(
+    _: *const u8,
+    _: usize,
+    _: u32,
+    _: *const u32,
+    _: usize,
+    _: usize,
+    _: *mut u8,
+    _: usize,
+    _: *mut usize,
+) -> usize {
+    0
+}
+
 /// Refuses an image of no bytes, and has one partition in any other.
 #[no_mangle]
 extern "C" fn adf_disk_index(
@@ -225,6 +257,8 @@ fn what_is_new_is_not_taken_for_what_is_known() {
         (survey.kind(), survey.findings().next().unwrap().cause()),
         (Some(Kind::Unknown(NEW.into())), Cause::Unknown(NEW))
     );
+    assert_eq!(survey.parts().unwrap_err(), Refused { cause: Cause::Unknown(NEW), block: 0 });
+    assert_eq!(survey.owners().unwrap(), [Role::Unknown(NEW), Role::Unknown(NEW)]);
     let disk = Disk::of(&image).unwrap();
     assert_eq!(disk.fault().map(|fault| (fault.cause, fault.block)), Some((DiskCause::Unknown(NEW), 3)));
     assert_eq!(DiskCause::Unknown(NEW).to_string(), "unknown cause 24");

@@ -335,6 +335,16 @@ fn what_is_left_of_a_file_is_told() {
         assert_eq!(remains(path, &image).unwrap_err().answer.errors, why.as_bytes());
     }
     assert_eq!(remains("a", b"").unwrap_err().to_string(), "no such path");
+    // By its number the bytes and the gaps are the same.
+    let survey = Survey::of(&image).unwrap();
+    let parts = survey.parts().unwrap();
+    let files: Vec<_> = survey.entries().map(|found| parts.file(found).unwrap()).collect();
+    let mut room = [0; 700];
+    assert_eq!(files[0].read_at(0, &mut room), (0, 488));
+    assert_eq!(files[0].read_at(488, &mut room), (488, 24));
+    assert_eq!((&room[..488], room[488]), (&[b'A'; 488][..], 0));
+    assert_eq!(files[0].read_at(1000, &mut room), (0, 0));
+    assert_eq!(survey.owners().unwrap()[2..6], [Role::Head, Role::Free, Role::Data, Role::Free]);
 }
 
 #[test]

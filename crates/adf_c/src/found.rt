@@ -1,13 +1,15 @@
-// The parts that a survey has at blocks, and what is read of a file by them.
+// The parts that a survey has at blocks, their roles, and what is read of a file by them.
 
-ghost use Rattle.std.specs.Prelude.{◌≡◌, ◌⊎◌, ◌≤◌, ◌+◌, drop, length, min};
+ghost use Rattle.std.specs.Prelude.{◌≡◌, ◌≢◌, ◌⊎◌, ◌≤◌, ◌<◌, ◌+◌, ℕ, [], drop, length, min, slice_index};
+ghost use Rattle.adf_blocks.specs.Sizes.{blocks};
 ghost use Rattle.adf_findings.specs.Survey.{OnSurvey};
 ghost use Rattle.adf_memory.specs.FoundFiles.{file_blocks, found_blocks, found_from, lost_from, named_blocks, part_table};
+ghost use Rattle.adf_memory.specs.FoundRoles.{IsFoundRole};
 ghost use Rattle.adf_memory.specs.Rooms.{filled};
 ghost use Rattle.adf_memory.specs.Verdicts.{WantsMemory};
 ghost use Rattle.adf_volume.specs.Walk.{FileAt};
 
-use adf_memory::{FoundPart, put_found_blocks, put_found_parts, read_found};
+use adf_memory::{FoundPart, put_found_blocks, put_found_parts, read_found, survey_owners};
 use std::alloc::Global;
 
 /// Surveys an image and fills a table with a row for each of its blocks, as far as it has room; with none if nothing of the
@@ -23,6 +25,25 @@ pub extern "C" fn adf_survey_parts(alloc: Global, image: &[u8], parts: &mut [Fou
     ensures unchanged { WantsMemory result → parts.new ≡ parts.old }
 {
     put_found_parts(alloc, image, parts)
+}
+
+/// Surveys an image and writes the role of each block by the part that has it, one byte for each block, as far as `roles` has
+/// room; nothing if nothing of the image is taken. Returns 0, or the number of `NoMemory` if memory ran out.
+#[unsafe(no_mangle)]
+pub extern "C" fn adf_survey_owners(alloc: Global, image: &[u8], roles: &mut [u8]) -> u8
+    ensures number { (result ≡ 0) ⊎ WantsMemory result }
+
+    // The roles are those of the parts of the image's one survey.
+    ensures roles { result ≡ 0 → OnSurvey image.now (λ w _. w ≢ [] → (b : ℕ) → b < length roles.new
+        → b < blocks image.now → IsFoundRole w b (slice_index roles.new b)) }
+    ensures none { result ≡ 0 → OnSurvey image.now (λ w _. w ≡ [] → roles.new ≡ roles.old) }
+    ensures behind { (b : ℕ) → blocks image.now ≤ b
+        → slice_index roles.new b ≡ slice_index roles.old b }
+
+    // If memory ran out, nothing is written.
+    ensures unchanged { WantsMemory result → roles.new ≡ roles.old }
+{
+    survey_owners(alloc, image, roles)
 }
 
 /// Fills the table of a file that a survey found, by the node of its entry and the block of its header, as far as it has room:

@@ -34,6 +34,7 @@ pub mod MapPlaces
 pub mod Begun
 pub mod BitSteps
 pub mod BitsStated
+pub mod FoundPages
 pub mod SoundMarks
 -- the positions of headers, and the entries that findings concern
 pub mod HeadPlaces

@@ -1,14 +1,37 @@
-// What the bitmap tells of blocks.
+// The pages of the bitmap, and what it tells of blocks.
 
-ghost use Rattle.std.specs.Prelude.{◌↔◌, IfSome, IsSome, IsTrue};
-ghost use Rattle.adf_volume.specs.Walk.{IsFreeIn};
+ghost use Rattle.std.specs.Prelude.{◌≡◌, ◌↔◌, ℕ, IfSome, IsSome, IsTrue, Some};
+ghost use Rattle.std.specs.BTreeMap.{get};
+ghost use Rattle.adf_volume.specs.Walk.{Has, IsFreeIn};
+ghost use Rattle.adf_volume.specs.Walk.Role.{Page};
+ghost use Rattle.adf_findings.specs.Parts.{by_key, key_of};
 ghost use Rattle.adf_findings.specs.Survey.{OnSurvey};
 ghost use Rattle.adf_findings.specs.SurveyResult.{IsBitStated};
 
 use crate::bits::{bit_of, is_validated};
+use crate::part::{Key, Part};
 use crate::start::start;
 use crate::survey_result::Survey;
-use adf_blocks::place_of;
+use adf_blocks::{page_count, place_of};
+use std::collections::BTreeMap;
+
+// The block that is taken as a page of the bitmap.
+fn page_at(taken: &BTreeMap<Key, u32>, i: u32) -> Option<u32>
+    ensures { result ≡ get by_key taken.now (key_of (Page i)) }
+{
+    taken.get(&Part::Page(i).key()).copied()
+}
+
+// Whether it is this block.
+#[tactic(auto, using(std::proofs::lemmas::Bool::Decides::nat_tests))]
+fn is_at(found: Option<u32>, b: u32) -> bool
+    ensures { IsTrue result ↔ (found ≡ Some b) }
+{
+    match found {
+        Some(at) => at == b,
+        None => false,
+    }
+}
 
 impl Survey<'_> {
     /// What the bitmap tells of a block: whether it is free. `None` for a boot block, and unless the bitmap flag of the root
@@ -27,5 +50,20 @@ impl Survey<'_> {
         }
         let (page, bit) = place_of(b);
         bit_of(&started.image, &self.taken, page, bit)
+    }
+
+    /// Whether a block is a page of the bitmap that is found.
+    pub fn is_page(&self, b: u32) -> bool
+        ensures { OnSurvey self.now.image (λ w _. IsTrue result ↔ ((i : ℕ) × Has w (Page i) b)) }
+    {
+        let Ok(started) = start(self.image) else {
+            return false;
+        };
+        for i in 0..page_count(started.image.blocks()) {
+            if is_at(page_at(&self.taken, i), b) {
+                return true;
+            }
+        }
+        false
     }
 }

@@ -13,5 +13,6 @@ pub mod Readings
 pub mod TableNames
 pub mod FoundRows
 pub mod FoundBlocks
+pub mod FoundRoles
 -- what is read of a hard disk
 pub mod DiskReadings

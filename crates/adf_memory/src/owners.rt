@@ -13,8 +13,8 @@ ghost use Rattle.adf_memory.specs.Verdicts.{IsFirstCause, IsVerdictNumber, OnFau
 use adf_check::{Checked, OwnerClass, check};
 use std::alloc::Global;
 
-// The number of a class of owners.
-fn class_number(class: OwnerClass) -> u8
+/// The number of a class of owners.
+pub fn class_number(class: OwnerClass) -> u8
     ensures { result ≡ class_number class }
 {
     match class {

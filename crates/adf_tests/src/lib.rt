@@ -14,6 +14,8 @@ mod disk_runs;
 #[cfg(test)]
 mod disks;
 #[cfg(test)]
+mod found_files;
+#[cfg(test)]
 mod images_in_memory;
 #[cfg(test)]
 mod memory;
