@@ -1,22 +1,24 @@
-/* adf-mount: shows the volume of a disk image as a folder of the host, to read only (docs/adf-mount.1).
+/* adf-mount: shows the volume of a disk image, or those of a hard disk, as a folder of the host, to read only (docs/adf-mount.1).
  *
- * The image is read into memory and checked once, before anything is mounted; then all is answered from the tables of the volume.
- * Only whole tables are used, and nothing changes once it is mounted, so the threads of libfuse share them. include/adf.h says
- * what each call keeps and what is owed to it.
+ * The image is read into memory and checked before anything is mounted; of a damaged one what stands is shown. A volume of a hard disk
+ * is read again when something in its folder is asked for first. Then all is answered from the tables of the volume. Only whole tables
+ * are used, and nothing of a volume changes once it is read, so the threads of libfuse share them. include/adf.h says what each call
+ * keeps and what is owed to it.
  *
  *     kit=$(dirname "$(rt doc)")
- *     cc -o adf-mount mount.c -I../../include ../../crates/adf_c/out/libadf_c.a "$kit/c/liblibc_c.a" \
- *         $(pkg-config --cflags --libs fuse3)
+ *     cc -o adf-mount *.c -I../../include ../../crates/adf_c/out/libadf_c.a "$kit/c/liblibc_c.a" $(pkg-config --cflags --libs fuse3)
  */
 #define _GNU_SOURCE
 #define FUSE_USE_VERSION 31
-#include "adf.h"
+#include "disk.h"
+#include "volume.h"
 
 #include <dirent.h>
 #include <errno.h>
 #include <fcntl.h>
 #include <fuse.h>
 #include <fuse_log.h>
+#include <pthread.h>
 #include <stdarg.h>
 #include <stddef.h>
 #include <stdio.h>
@@ -27,95 +29,115 @@
 #include <sys/statvfs.h>
 #include <unistd.h>
 
-enum { NAME_TEXT = 4 * 30 + 1, DAYS_TO_1978 = 2922, LAST_DAY = 2929974, SECONDS = 86400 };
-enum { SOUND = 0, REFUSED = 1, USAGE = 2, FAILED = 3 };
+enum {
+    DAYS_TO_1978 = 2922,
+    LAST_DAY = 2929974,
+    SECONDS = 86400,
+    PROTECTION_BITS = 8,
+    MOST_TEXT = 4 * 79 + 1,
+    MOST_BLOCKS = 1048576
+};
 
 /* fuse_main answers 1 to 3 for words that it does not take; 3 also for a lack of memory, which it tells. */
 enum { NO_SUCH_OPTION = 3 };
 
-/* One byte more than the largest image, so that a longer one is seen to be longer. */
-static const size_t MOST_BYTES = (size_t)512 * 1048576 + 1;
+/* What is mounted: the file of the image, the volumes in it, and those of them that were read. */
+static struct {
+    int file;
+    struct parts parts;
+    struct taking taking;
+    const char *left_folder; /* the folder of each volume in which what is left of damaged files is, or NULL */
+    struct volume *volumes;
+    bool *is_read;
+    pthread_mutex_t lock;
+} shown = {.lock = PTHREAD_MUTEX_INITIALIZER};
 
-/* The tables of a hard disk lie before this byte. */
-static const size_t MOST_TABLES = (size_t)512 * 65536;
-enum { LONGEST_TEXT = 64 }; /* the bytes of the texts that the library has for numbers */
+/* Volumes */
 
-enum { MOST_PARTITIONS = 1024 };
-
-static struct volume {
-    bool is_escaped;
-    uint8_t *image;
-    size_t length;
-    struct adf_entry *entries;
-    uint32_t *blocks;
-    struct adf_contents contents;
-} volume;
-
-/* Whether a byte of a name stands for itself, as a letter of Latin-1; with the option `escape` only those of ASCII do. */
-static bool has_letter(uint8_t byte) {
-    return byte != '\\' && ((32 <= byte && byte <= 126) || (byte >= 160 && !volume.is_escaped));
-}
-
-/* The name of an entry as the host sees it: letters in UTF-8, all other bytes, and a name of one or two dots, in the escape form. */
-static void show_name(const struct adf_entry *entry, char text[NAME_TEXT]) {
-    size_t length = entry->name_length, dots = 0;
-    while (dots < length && entry->name[dots] == '.')
-        dots++;
-    bool is_special = dots == length && dots <= 2;
-    for (size_t i = 0; i < length; i++) {
-        uint8_t byte = entry->name[i];
-        if (is_special || !has_letter(byte))
-            text += sprintf(text, "\\x%02x", byte);
-        else if (byte < 128)
-            text += sprintf(text, "%c", byte);
-        else
-            text += sprintf(text, "%c%c", 0xc0 | byte >> 6, 0x80 | (byte & 0x3f));
+/* Reads the volume of a part. The name is that of its lines, or NULL for none. SOUND, or the status to end with. */
+static int read_volume(size_t number, const char *name) {
+    const struct part *part = &shown.parts.parts[number];
+    struct volume *volume = &shown.volumes[number];
+    size_t length = 0, node = 0;
+    uint8_t *image = read_part(shown.file, part, &length);
+    if (image == NULL) {
+        if (name != NULL)
+            fprintf(stderr, "adf-mount: %s: %s\n", name, strerror(errno));
+        return FAILED;
     }
-    *text = '\0';
-}
-
-/* A name of the host in the escape form: letters of Latin-1 in UTF-8 are two bytes, of which the first is 0xc2 or 0xc3. What is
- * no letter of Latin-1 stays, and is no name of an Amiga. */
-static char *escape_name(const char *name, size_t length, char *escaped) {
-    for (size_t i = 0; i < length; i++) {
-        uint8_t lead = (uint8_t)name[i], next = i + 1 < length ? (uint8_t)name[i + 1] : 0;
-        if (!volume.is_escaped && (lead == 0xc2 || lead == 0xc3) && 0x80 <= next && next <= 0xbf) {
-            escaped += sprintf(escaped, "\\x%02x", (lead & 3) << 6 | (next & 0x3f));
-            i++;
-        } else {
-            *escaped++ = name[i];
-        }
+    int status = take_volume(volume, image, length, name, &shown.taking);
+    if (status == SOUND && volume->left != NULL && find_entry(volume, shown.left_folder, &node) == 0) {
+        if (name != NULL)
+            fprintf(stderr, "adf-mount: %s: it has an entry called %s: --damaged NAME\n", name, shown.left_folder);
+        status = USAGE;
     }
-    return escaped;
+    if (status != SOUND)
+        free_volume(volume);
+    return status;
 }
 
-/* A path of the host in the escape form, where a name of dots stands for itself. */
-static void escape_path(const char *path, char *escaped) {
-    while (*path != '\0') {
+/* The volume of a part, which is read where it was not yet: 0, or an error. */
+static int volume_of(size_t number, const struct volume **volume) {
+    pthread_mutex_lock(&shown.lock);
+    if (!shown.is_read[number])
+        shown.is_read[number] = read_volume(number, NULL) == SOUND;
+    bool is_read = shown.is_read[number];
+    pthread_mutex_unlock(&shown.lock);
+    *volume = &shown.volumes[number];
+    return is_read ? 0 : -EIO;
+}
+
+/* The part whose folder has a name, else the first that has it but for the case of a to z; as many as there are for none. */
+static size_t part_named(const char *name, size_t length) {
+    size_t count = shown.parts.count, found = count;
+    for (size_t i = count; i-- > 0;)
+        if (strlen(shown.parts.parts[i].name) == length && strncasecmp(shown.parts.parts[i].name, name, length) == 0)
+            found = i;
+    for (size_t i = 0; i < count; i++)
+        if (strlen(shown.parts.parts[i].name) == length && strncmp(shown.parts.parts[i].name, name, length) == 0)
+            return i;
+    return found;
+}
+
+/* Where a path of the host leads: to the folders of a disk's volumes, to an entry of a volume, or to what is left of a damaged file. */
+struct spot {
+    enum { FOLDERS, ENTRY, LEFT } kind;
+    size_t part;
+    const struct volume *volume;
+    size_t node;
+    long place;
+};
+
+/* Finds what a path of a volume leads to: 0, or an error. */
+static int locate_in_volume(const char *path, struct spot *spot) {
+    size_t length = strcspn(path, "/");
+    bool is_left =
+        spot->volume->left != NULL && length == strlen(shown.left_folder) && strncmp(path, shown.left_folder, length) == 0;
+    if (!is_left)
+        return find_entry(spot->volume, path, &spot->node);
+    spot->kind = LEFT;
+    spot->place = find_left(spot->volume->left, path + length);
+    return spot->place < 0 ? -ENOENT : 0;
+}
+
+static int locate(const char *path, struct spot *spot) {
+    *spot = (struct spot){.kind = ENTRY};
+    path++;
+    if (shown.parts.is_disk) {
         size_t length = strcspn(path, "/");
-        if (length == 4 && memcmp(path, "\\x2e", 4) == 0)
-            escaped = stpcpy(escaped, ".");
-        else if (length == 8 && memcmp(path, "\\x2e\\x2e", 8) == 0)
-            escaped = stpcpy(escaped, "..");
-        else
-            escaped = escape_name(path, length, escaped);
-        path += length;
-        if (*path == '/')
-            *escaped++ = *path++;
+        spot->kind = length == 0 ? FOLDERS : ENTRY;
+        if (spot->kind == FOLDERS)
+            return 0;
+        spot->part = part_named(path, length);
+        if (spot->part == shown.parts.count)
+            return -ENOENT;
+        path += path[length] == '/' ? length + 1 : length;
     }
-    *escaped = '\0';
+    int error = volume_of(spot->part, &spot->volume);
+    return error == 0 ? locate_in_volume(path, spot) : error;
 }
 
-/* The entry that a path of the host leads to: 0, or an error. */
-static int find(const char *path, size_t *node) {
-    char *escaped = malloc(2 * strlen(path) + 1);
-    if (escaped == NULL)
-        return -ENOMEM;
-    escape_path(path + 1, escaped);
-    uint8_t answer = adf_find(volume.entries, volume.contents.entries, (const uint8_t *)escaped, strlen(escaped), node);
-    free(escaped);
-    return answer == 0 ? 0 : answer == ADF_NO_MEMORY ? -ENOMEM : -ENOENT;
-}
+/* Attributes */
 
 /* A date read as UTC; 1970-01-01 where it is none of the years up to 9999. */
 static struct timespec time_of(const struct adf_date *date) {
@@ -129,91 +151,250 @@ static struct timespec time_of(const struct adf_date *date) {
 
 /* A directory has one link, by which programs that count them know that its directories are not counted. Its owner may write,
  * so that a copy of it can be removed: the file system is read-only all the same. */
-static void describe(size_t node, struct stat *status) {
-    const struct adf_entry *entry = node == 0 ? NULL : &volume.entries[node - 1];
+static void describe(bool is_file, size_t size, const struct adf_date *date, uint64_t inode, struct stat *status) {
     *status = (struct stat){0};
-    status->st_ino = entry == NULL ? volume.contents.blocks / 2 : entry->header;
-    status->st_mode = entry != NULL && entry->is_file ? S_IFREG | 0444 : S_IFDIR | 0755;
+    status->st_ino = inode;
+    status->st_mode = is_file ? S_IFREG | 0444 : S_IFDIR | 0755;
     status->st_nlink = 1;
     status->st_uid = getuid();
     status->st_gid = getgid();
-    status->st_size = entry == NULL ? 0 : entry->size;
+    status->st_size = (off_t)size;
     status->st_blksize = 512;
     status->st_blocks = (status->st_size + 511) / 512;
-    status->st_mtim = status->st_ctim = status->st_atim = time_of(entry == NULL ? &volume.contents.root : &entry->date);
+    if (date != NULL)
+        status->st_mtim = status->st_ctim = status->st_atim = time_of(date);
+}
+
+/* The inode of a header: that of what is left differs from that of an entry, and those of parts differ. Block 1 is never a header. */
+static uint64_t inode_of(size_t part, bool is_left, uint32_t header) {
+    return (uint64_t)part << 33 | (uint64_t)is_left << 32 | header;
+}
+
+static void describe_entry(const struct spot *spot, size_t node, struct stat *status) {
+    const struct adf_contents *contents = &spot->volume->contents;
+    const struct adf_entry *entry = node == 0 ? NULL : &spot->volume->entries[node - 1];
+    uint32_t header = entry == NULL ? contents->blocks / 2 : entry->header;
+    describe(entry != NULL && entry->is_file, entry == NULL ? 0 : entry->size, entry == NULL ? &contents->root : &entry->date,
+             inode_of(spot->part, false, header), status);
+}
+
+static void describe_left(const struct spot *spot, long place, struct stat *status) {
+    const struct adf_found *found = place == 0 ? NULL : left_entry(spot->volume->left, place);
+    if (found == NULL)
+        describe(false, 0, &spot->volume->contents.root, inode_of(spot->part, true, 1), status);
+    else
+        describe(found->is_file, found->is_file ? left_size(spot->volume->left, place) : 0, &found->date,
+                 inode_of(spot->part, true, found->header), status);
+}
+
+static void describe_spot(const struct spot *spot, struct stat *status) {
+    if (spot->kind == FOLDERS)
+        describe(false, 0, NULL, 1, status);
+    else if (spot->kind == ENTRY)
+        describe_entry(spot, spot->node, status);
+    else
+        describe_left(spot, spot->place, status);
 }
 
 static int get_attributes(const char *path, struct stat *status, struct fuse_file_info *file) {
-    size_t node = 0;
+    struct spot spot;
     (void)file;
-    int error = find(path, &node);
+    int error = locate(path, &spot);
     if (error == 0)
-        describe(node, status);
+        describe_spot(&spot, status);
     return error;
 }
 
-/* The first place whose entry is in this directory or a later one: entries stand in the order of their directories. */
-static size_t first_in(size_t directory) {
-    size_t low = 0, high = volume.contents.entries;
-    while (low < high) {
-        size_t middle = low + (high - low) / 2;
-        if (volume.entries[middle].parent < directory)
-            low = middle + 1;
-        else
-            high = middle;
+/* What an Amiga has of an entry and a host has not: its protection, and its comment as the host sees it. False if it has neither. */
+struct extras {
+    char protection[PROTECTION_BITS + 1];
+    char comment[MOST_TEXT];
+};
+
+static bool extras_of(const struct spot *spot, struct extras *extras) {
+    static const char LETTERS[] = "hsparwed";
+    bool is_entry = spot->kind == ENTRY && spot->node != 0, is_left = spot->kind == LEFT && spot->place != 0;
+    const struct adf_entry *entry = is_entry ? &spot->volume->entries[spot->node - 1] : NULL;
+    const struct adf_found *found = is_left ? left_entry(spot->volume->left, spot->place) : NULL;
+    if (entry == NULL && found == NULL)
+        return false;
+    uint32_t bits = entry != NULL ? entry->protection : found->protection;
+    for (int i = 0; i < PROTECTION_BITS; i++) { /* a set bit of h, s, p and a grants, one of r, w, e and d forbids */
+        bool is_set = bits >> (PROTECTION_BITS - 1 - i) & 1;
+        extras->protection[i] = is_set == (i < PROTECTION_BITS / 2) ? LETTERS[i] : '-';
     }
-    return low;
+    extras->protection[PROTECTION_BITS] = '\0';
+    show_text(entry != NULL ? entry->comment : found->comment, entry != NULL ? entry->comment_length : found->comment_length,
+              extras->comment);
+    return true;
+}
+
+static const char PROTECTION[] = "user.amiga.protection", COMMENT[] = "user.amiga.comment";
+
+/* Gives bytes to a room, of which 0 bytes ask for their number. */
+static int give(const char *bytes, size_t count, char *room, size_t size) {
+    if (size == 0)
+        return (int)count;
+    if (size < count)
+        return -ERANGE;
+    memcpy(room, bytes, count);
+    return (int)count;
+}
+
+static int get_extra(const char *path, const char *name, char *value, size_t size) {
+    struct spot spot;
+    struct extras extras;
+    bool is_protection = strcmp(name, PROTECTION) == 0;
+    if (!is_protection && strcmp(name, COMMENT) != 0)
+        return -ENODATA;
+    int error = locate(path, &spot);
+    if (error != 0)
+        return error;
+    if (!extras_of(&spot, &extras) || (!is_protection && *extras.comment == '\0'))
+        return -ENODATA;
+    const char *text = is_protection ? extras.protection : extras.comment;
+    return give(text, strlen(text), value, size);
+}
+
+static int list_extras(const char *path, char *list, size_t size) {
+    struct spot spot;
+    struct extras extras;
+    char names[sizeof PROTECTION + sizeof COMMENT];
+    int error = locate(path, &spot);
+    if (error != 0 || !extras_of(&spot, &extras))
+        return error;
+    memcpy(names, PROTECTION, sizeof PROTECTION);
+    memcpy(names + sizeof PROTECTION, COMMENT, sizeof COMMENT);
+    return give(names, *extras.comment == '\0' ? sizeof PROTECTION : sizeof names, list, size);
+}
+
+/* Directories */
+
+/* A list of names that is being filled; whether each comes with its attributes. */
+struct listing {
+    void *list;
+    fuse_fill_dir_t fill;
+    enum fuse_fill_dir_flags flags;
+};
+
+static bool add_name(const struct listing *listing, const char *name, const struct stat *status) {
+    return listing->fill(listing->list, name, status, 0, listing->flags) == 0;
+}
+
+static bool list_folders(const struct listing *listing) {
+    bool has_room = true;
+    for (size_t i = 0; has_room && i < shown.parts.count; i++)
+        has_room = listing->fill(listing->list, shown.parts.parts[i].name, NULL, 0, 0) == 0;
+    return has_room;
+}
+
+static bool list_entries(const struct spot *spot, const struct listing *listing) {
+    const struct volume *volume = spot->volume;
+    struct stat status;
+    char name[NAME_TEXT];
+    bool has_room = true;
+    for (size_t i = first_in(volume, spot->node);
+         has_room && i < volume->contents.entries && volume->entries[i].parent == spot->node; i++) {
+        show_name(volume->entries[i].name, volume->entries[i].name_length, name);
+        describe_entry(spot, i + 1, &status);
+        has_room = add_name(listing, name, &status);
+    }
+    if (has_room && spot->node == 0 && volume->left != NULL) {
+        describe_left(spot, 0, &status);
+        has_room = add_name(listing, shown.left_folder, &status);
+    }
+    return has_room;
+}
+
+static bool list_left(const struct spot *spot, const struct listing *listing) {
+    const struct left *left = spot->volume->left;
+    struct stat status;
+    bool has_room = true;
+    for (long i = first_left(left, spot->place); has_room && i < left_end(left, spot->place); i++) {
+        describe_left(spot, i, &status);
+        has_room = add_name(listing, left_name(left, i), &status);
+    }
+    return has_room;
 }
 
 static int read_directory(const char *path, void *list, fuse_fill_dir_t fill, off_t offset, struct fuse_file_info *file,
                           enum fuse_readdir_flags flags) {
-    size_t node = 0;
-    char name[NAME_TEXT];
+    struct listing listing = {list, fill, flags & FUSE_READDIR_PLUS ? FUSE_FILL_DIR_PLUS : 0};
+    struct spot spot;
     struct stat status;
-    enum fuse_fill_dir_flags plus = flags & FUSE_READDIR_PLUS ? FUSE_FILL_DIR_PLUS : 0;
     (void)offset, (void)file;
-    int error = find(path, &node);
+    int error = locate(path, &spot);
     if (error != 0)
         return error;
-    if (node != 0 && volume.entries[node - 1].is_file)
+    describe_spot(&spot, &status);
+    if (S_ISREG(status.st_mode))
         return -ENOTDIR;
     if (fill(list, ".", NULL, 0, 0) || fill(list, "..", NULL, 0, 0))
         return -ENOMEM;
-    for (size_t i = first_in(node); i < volume.contents.entries && volume.entries[i].parent == node; i++) {
-        show_name(&volume.entries[i], name);
-        describe(i + 1, &status);
-        if (fill(list, name, &status, 0, plus))
-            return -ENOMEM;
-    }
-    return 0;
+    bool has_room = spot.kind == FOLDERS ? list_folders(&listing)
+                    : spot.kind == ENTRY ? list_entries(&spot, &listing)
+                                         : list_left(&spot, &listing);
+    return has_room ? 0 : -ENOMEM;
 }
 
+/* Files */
+
+/* An open file: an entry of a volume, or what is left of a damaged file. */
+struct open_file {
+    const struct volume *volume;
+    size_t node;
+    struct remains *remains;
+};
+
+/* What is left of a file is read without the host's cache, which would have zeros in place of what is lost. */
 static int open_file(const char *path, struct fuse_file_info *file) {
-    size_t node = 0;
-    int error = find(path, &node);
+    struct spot spot;
+    int error = locate(path, &spot);
     if (error == 0 && (file->flags & O_ACCMODE) != O_RDONLY)
-        return -EROFS;
-    file->fh = node;
-    file->keep_cache = 1;
+        error = -EROFS;
+    struct open_file *opened = error == 0 ? calloc(1, sizeof *opened) : NULL;
+    if (opened == NULL)
+        return error == 0 ? -ENOMEM : error;
+    *opened = (struct open_file){.volume = spot.volume, .node = spot.node};
+    if (spot.kind == LEFT)
+        error = open_left(spot.volume->left, spot.place, &opened->remains);
+    file->keep_cache = spot.kind == ENTRY;
+    file->direct_io = spot.kind == LEFT;
+    file->fh = (uintptr_t)opened;
+    if (error != 0)
+        free(opened);
     return error;
 }
 
 static int read_file(const char *path, char *room, size_t size, off_t offset, struct fuse_file_info *file) {
+    const struct open_file *opened = (const struct open_file *)(uintptr_t)file->fh;
+    const struct volume *volume = opened->volume;
     (void)path;
-    return (int)adf_read(volume.image, volume.length, volume.entries, volume.contents.entries, volume.blocks,
-                         volume.contents.data_blocks, file->fh, (size_t)offset, (uint8_t *)room, size);
+    if (opened->remains != NULL)
+        return read_remains(opened->remains, room, size, (size_t)offset);
+    return (int)adf_read(volume->image, volume->length, volume->entries, volume->contents.entries, volume->blocks,
+                         volume->contents.data_blocks, opened->node, (size_t)offset, (uint8_t *)room, size);
+}
+
+static int close_file(const char *path, struct fuse_file_info *file) {
+    struct open_file *opened = (struct open_file *)(uintptr_t)file->fh;
+    (void)path;
+    close_left(opened->remains);
+    free(opened);
+    return 0;
 }
 
 static int get_space(const char *path, struct statvfs *space) {
-    const struct adf_contents *contents = &volume.contents;
-    (void)path;
-    *space = (struct statvfs){.f_bsize = 512,
-                              .f_frsize = 512,
-                              .f_blocks = contents->blocks,
-                              .f_bfree = contents->free,
-                              .f_bavail = contents->free,
-                              .f_files = contents->entries,
-                              .f_namemax = NAME_TEXT - 1};
+    struct spot spot;
+    int error = locate(path, &spot);
+    if (error != 0)
+        return error;
+    *space = (struct statvfs){.f_bsize = 512, .f_frsize = 512, .f_namemax = NAME_TEXT - 1};
+    if (spot.kind != FOLDERS) {
+        space->f_blocks = spot.volume->contents.blocks;
+        space->f_bfree = space->f_bavail = spot.volume->contents.free;
+        space->f_files = spot.volume->contents.entries;
+    }
     return 0;
 }
 
@@ -226,153 +407,56 @@ static void *begin(struct fuse_conn_info *connection, struct fuse_config *config
 static const struct fuse_operations OPERATIONS = {
     .init = begin,
     .getattr = get_attributes,
+    .getxattr = get_extra,
+    .listxattr = list_extras,
     .readdir = read_directory,
     .open = open_file,
     .read = read_file,
+    .release = close_file,
     .statfs = get_space,
 };
 
-/* Reads so many bytes of a file, or all that it has. */
-static bool load(FILE *file, size_t most) {
-    size_t room = 1 << 20;
-    bool is_read = (volume.image = malloc(room)) != NULL;
-    while (is_read && !feof(file) && volume.length < most) {
-        if (volume.length == room) {
-            uint8_t *more = realloc(volume.image, room *= 2);
-            is_read = more != NULL;
-            volume.image = is_read ? more : volume.image;
-        } else {
-            size_t next = room < most ? room : most;
-            volume.length += fread(volume.image + volume.length, 1, next - volume.length, file);
-            is_read = !ferror(file);
-        }
+/* The image */
+
+/* Reads each volume once, and says what is wrong with it. Those of a disk are given back, and read again when they are asked for; of a
+ * disk, those that are refused keep no folder. SOUND, or the status to end with. */
+static int try_volumes(const char *name) {
+    struct parts *parts = &shown.parts;
+    size_t kept = 0;
+    int status = SOUND;
+    for (size_t i = 0; i < parts->count; i++) {
+        char *told;
+        if (asprintf(&told, parts->is_disk ? "%s: %s" : "%s", name, parts->parts[i].name) < 0)
+            return FAILED;
+        int tried = read_volume(i, told);
+        free(told);
+        if (tried > REFUSED)
+            return tried;
+        status = tried > status ? tried : status;
+        if (tried == SOUND && parts->is_disk)
+            free_volume(&shown.volumes[i]);
+        if (tried == SOUND)
+            parts->parts[kept++] = parts->parts[i];
     }
-    return is_read;
+    parts->count = kept;
+    shown.is_read[0] = !parts->is_disk && status == SOUND;
+    return kept == 0 || shown.taking.is_strict ? status : SOUND;
 }
 
-/* Whether a partition is the one that is wanted, by its number from 1 or its name; the case of a to z does not count. */
-static bool is_wanted(const struct adf_partition *partition, size_t number, const char *wanted) {
-    char *end;
-    bool is_number = wanted[0] != '\0' && wanted[strspn(wanted, "0123456789")] == '\0';
-    if (is_number)
-        return strtoull(wanted, &end, 10) == number;
-    size_t length = partition->name_length;
-    return strlen(wanted) == length && strncasecmp(wanted, (const char *)partition->name, length) == 0;
-}
-
-/* The partition that is wanted, or the only one, where there is no other. Why there is none stands on standard error. */
-static const struct adf_partition *choose(const char *name, const char *wanted, const struct adf_partition *rows, size_t count) {
-    for (size_t i = 0; wanted != NULL && i < count; i++)
-        if (is_wanted(&rows[i], i + 1, wanted))
-            return &rows[i];
-    if (wanted == NULL && count == 1)
-        return rows;
-    if (wanted == NULL)
-        fprintf(stderr, "adf-mount: %s: a hard disk of %zu partitions: --partition NAME (adf-disk list)\n", name, count);
-    else
-        fprintf(stderr, "adf-mount: %s: no such partition: %s\n", name, wanted);
-    return NULL;
-}
-
-/* Whether a file begins as a volume does: then its volume is that of the whole file, whatever tables of a disk are saved in it. */
-static bool begins_as_volume(FILE *file) {
-    char begin[3];
-    rewind(file);
-    return fread(begin, 1, sizeof begin, file) == sizeof begin && memcmp(begin, "DOS", sizeof begin) == 0;
-}
-
-/* Reads the partitions of a disk of this length from the beginning of its file. */
-static bool read_partitions(FILE *file, off_t length, struct adf_partition *rows, struct adf_disk *disk) {
-    uint8_t *tables = malloc(MOST_TABLES);
-    if (tables == NULL)
-        return false;
-    size_t count = fread(tables, 1, MOST_TABLES, file);
-    uint8_t cause = adf_disk_index(tables, count, (uint64_t)length / 512, rows, MOST_PARTITIONS, disk);
-    free(tables);
-    return cause == ADF_ACCEPTED && !ferror(file);
-}
-
-/* Goes to where the volume begins in the file, and tells its most bytes: SOUND, or the status to end with. If no partition is
- * wanted, a file is the image of a volume if it cannot be sought in, as a pipe, begins as a volume, or has no rigid disk block. */
-static int seek_volume(FILE *file, const char *name, const char *wanted, size_t *most) {
-    static struct adf_partition rows[MOST_PARTITIONS];
-    struct adf_disk disk = {0};
-    off_t length = fseeko(file, 0, SEEK_END) == 0 ? ftello(file) : 0;
-    if (length == 0 && wanted == NULL)
-        return SOUND;
-    bool is_volume = wanted == NULL && begins_as_volume(file);
-    rewind(file);
-    if (is_volume)
-        return SOUND;
-    if (!read_partitions(file, length, rows, &disk))
-        return FAILED;
-    rewind(file);
-    if (wanted == NULL && (disk.cause == ADF_DISK_NO_RIGID_DISK || disk.partitions == 0))
-        return SOUND;
-    const struct adf_partition *partition = choose(name, wanted, rows, disk.partitions);
-    if (partition == NULL)
-        return wanted == NULL ? USAGE : REFUSED;
-    if (partition->blocks == 0) {
-        uint8_t text[LONGEST_TEXT];
-        int text_length = (int)adf_partition_fault_text(partition->fault, text, sizeof text);
-        fprintf(stderr, "adf-mount: %s: %.*s\n", name, text_length, (const char *)text);
-        return REFUSED;
-    }
-    if (partition->blocks <= MOST_BYTES / 512)
-        *most = (size_t)partition->blocks * 512;
-    return fseeko(file, (off_t)partition->first * 512, SEEK_SET) == 0 ? SOUND : FAILED;
-}
-
-/* Reads the image of the volume, or as much of it as tells that it is too long: SOUND, or the status to end with. */
-static int load_volume(const char *name, const char *wanted) {
-    size_t most = MOST_BYTES;
-    FILE *file = fopen(name, "rb");
-    errno = file == NULL ? errno : 0;
-    int status = file == NULL ? FAILED : seek_volume(file, name, wanted, &most);
-    if (status == SOUND && !load(file, most))
-        status = FAILED;
+/* Opens the image and reads its volumes: SOUND, or the status to end with, and why stands on standard error. */
+static int open_image(const char *name, const char *wanted) {
+    shown.file = open(name, O_RDONLY | O_CLOEXEC);
+    errno = shown.file < 0 ? errno : 0;
+    int status = shown.file < 0 ? FAILED : find_parts(shown.file, name, wanted, &shown.parts);
     if (status == FAILED)
         fprintf(stderr, "adf-mount: %s: %s\n", name, strerror(errno == 0 ? ENOMEM : errno));
-    if (file != NULL)
-        fclose(file);
-    return status;
-}
-
-/* A table with no more room than it needs, or as it is where that cannot be had. */
-static void *shrunk(void *table, size_t size) {
-    void *less = realloc(table, size);
-    return less == NULL ? table : less;
-}
-
-/* Checks the image and makes the tables, with the most room that they may take; what is not used is given back. */
-static uint8_t make_tables(void) {
-    size_t most = volume.length / 512 + 1;
-    volume.entries = malloc(most * sizeof *volume.entries);
-    volume.blocks = malloc(most * sizeof *volume.blocks);
-    if (volume.entries == NULL || volume.blocks == NULL)
-        return ADF_NO_MEMORY;
-    uint8_t cause = adf_index(volume.image, volume.length, volume.entries, most, volume.blocks, most, &volume.contents);
-    volume.entries = shrunk(volume.entries, (volume.contents.entries + 1) * sizeof *volume.entries);
-    volume.blocks = shrunk(volume.blocks, (volume.contents.data_blocks + 1) * sizeof *volume.blocks);
-    return cause;
-}
-
-/* Loads and checks the image: SOUND, or the status to end with, and why stands on standard error. */
-static int open_volume(const char *name, const char *wanted) {
-    uint8_t text[LONGEST_TEXT];
-    int status = load_volume(name, wanted);
     if (status != SOUND)
         return status;
-    uint8_t cause = make_tables();
-    if (cause == ADF_ACCEPTED)
-        return SOUND;
-    int length = (int)adf_cause_text(cause, text, sizeof text);
-    if (cause == ADF_NO_MEMORY) {
-        fprintf(stderr, "adf-mount: %s: %.*s\n", name, length, (const char *)text);
+    shown.volumes = calloc(shown.parts.count, sizeof *shown.volumes);
+    shown.is_read = calloc(shown.parts.count, sizeof *shown.is_read);
+    if (shown.volumes == NULL || shown.is_read == NULL)
         return FAILED;
-    }
-    fprintf(stderr, "adf-mount: %s: block %lu: %.*s\n", name, (unsigned long)volume.contents.block, length, (const char *)text);
-    return REFUSED;
+    return shown.taking.is_strict && !shown.parts.is_whole ? REFUSED : try_volumes(name);
 }
 
 /* The words of the command line: the first that is no option is the image, the second the folder, and all others are libfuse's. */
@@ -380,6 +464,9 @@ struct words {
     char *image;
     char *folder;
     char *partition;
+    char *damaged;
+    unsigned long blocks;
+    int strict;
     int nonempty;
     int escape;
     int help;
@@ -393,6 +480,11 @@ static const struct fuse_opt OPTIONS[] = {
     {"--version", offsetof(struct words, version), 1},
     {"--partition %s", offsetof(struct words, partition), 0},
     {"--partition=%s", offsetof(struct words, partition), 0},
+    {"--damaged %s", offsetof(struct words, damaged), 0},
+    {"--damaged=%s", offsetof(struct words, damaged), 0},
+    {"--blocks %lu", offsetof(struct words, blocks), 0},
+    {"--blocks=%lu", offsetof(struct words, blocks), 0},
+    {"--strict", offsetof(struct words, strict), 1},
     {"nonempty", offsetof(struct words, nonempty), 1},
     {"escape", offsetof(struct words, escape), 1},
     FUSE_OPT_END,
@@ -477,21 +569,32 @@ static int mount_volume(const struct words *words, struct fuse_args *arguments) 
     return answer == 0 ? SOUND : answer <= NO_SUCH_OPTION ? USAGE : FAILED;
 }
 
+/* Whether the words make sense together: the folder for what is left has a name, and no image has more blocks. */
+static bool are_possible(const struct words *words) {
+    const char *name = words->damaged;
+    bool is_name =
+        name == NULL || (*name != '\0' && strchr(name, '/') == NULL && strcmp(name, ".") != 0 && strcmp(name, "..") != 0);
+    return words->folder != NULL && is_name && words->blocks <= MOST_BLOCKS && !(words->strict && name != NULL);
+}
+
 /* Does what the words ask for, and answers the status. */
 static int run(const struct words *words, bool is_parsed, struct fuse_args *arguments) {
     if (is_parsed && words->version) {
         printf("adf-mount %s, libfuse %s\n", ADF_VERSION, fuse_pkgversion());
         return SOUND;
     }
-    if (!is_parsed || words->help || words->folder == NULL) {
-        fputs("usage: adf-mount IMAGE FOLDER [--partition NAME] [-f] [-o OPTION,..]    (man adf-mount)\n",
+    if (!is_parsed || words->help || !are_possible(words)) {
+        fputs("usage: adf-mount IMAGE FOLDER [--partition NAME] [--damaged NAME] [--blocks N] [--strict] [-f] [-o OPTION,..]"
+              "    (man adf-mount)\n",
               words->help ? stdout : stderr);
         return words->help ? SOUND : USAGE;
     }
-    volume.is_escaped = words->escape;
+    is_escaped = words->escape;
+    shown.left_folder = words->damaged;
+    shown.taking = (struct taking){.is_strict = words->strict, .blocks = words->blocks, .wants_left = words->damaged != NULL};
     int status = try_folder(words);
     if (status == SOUND)
-        status = open_volume(words->image, words->partition);
+        status = open_image(words->image, words->partition);
     return status == SOUND ? mount_volume(words, arguments) : status;
 }
 
@@ -504,5 +607,6 @@ int main(int count, char **given) {
     free(words.image);
     free(words.folder);
     free(words.partition);
+    free(words.damaged);
     return status;
 }

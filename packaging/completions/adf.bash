@@ -48,15 +48,16 @@ _adf_boot() {
 
 _adf_files() {
     case $1:$2 in
-        adf-mount:-*) COMPREPLY=($(compgen -W "--partition -f -o -h --help -V --version" -- "$2")) ;;
+        adf-mount:-*) COMPREPLY=($(compgen -W "--partition --damaged --blocks --strict -f -o -h --help -V --version" -- "$2")) ;;
         adf-edit:-*) COMPREPLY=($(compgen -W "--help --version" -- "$2")) ;;
         adf-shelf:-*) COMPREPLY=($(compgen -W "--null --help --version" -- "$2")) ;;
         adf-catalogue:-*) COMPREPLY=($(compgen -W "--tsv --rescue --fresh --escape --index-text --dat -h --help --version" -- "$2")) ;;
         adf-pack:-*)
             COMPREPLY=($(compgen -W "--image --size --label --date --altered --created --no-uaem --escape -h --help --version" -- "$2"))
             ;;
-        adf-unpack:-*) COMPREPLY=($(compgen -W "--uaem --escape -h --help --version" -- "$2")) ;;
-        adf-map:-*) COMPREPLY=($(compgen -W "--partition -h --help --version" -- "$2")) ;;
+        adf-unpack:-*) COMPREPLY=($(compgen -W "--blocks --strict --damaged --uaem --escape -h --help --version" -- "$2")) ;;
+        adf-map:-*) COMPREPLY=($(compgen -W "--partition --blocks -h --help --version" -- "$2")) ;;
+        adf-recipe:-*) COMPREPLY=($(compgen -W "--blocks --strict -h --help --version" -- "$2")) ;;
         *:-*) COMPREPLY=($(compgen -W "-h --help --version" -- "$2")) ;;
         adf-pack:*) ((COMP_CWORD > 1)) || COMPREPLY=($(compgen -W "ofs ffs" -- "$2")) ;;
     esac

@@ -2,8 +2,11 @@
 
     import adf
 
-    volume = adf.open("games.adf")                  # adf.Refused where it is no volume: .filename, .block and .cause, as "bad sum"
+    volume = adf.open("games.adf")                  # of a damaged image what stands of it; adf.Refused if nothing does
     print(volume.label, volume.kind, volume.free, volume.created)
+    for each in volume.left_out:                    # what is not in it: nothing for a sound image, else as `damaged: c/list`
+        print(each)
+    volume = adf.open("games.adf", strict=True)     # or adf.Refused: .filename, .block and .cause, as "bad sum"
     for entry in volume.entries:
         print(entry.path, entry.size, entry.date, entry.comment)
     start = volume["s/startup-sequence"].read()     # bytes; the case of a to z does not count; KeyError where nothing is there
@@ -34,6 +37,7 @@ a MemoryError. A file that cannot be read is an OSError, and a wrong argument a 
 from __future__ import annotations
 
 import bisect
+import collections
 import ctypes
 import datetime
 import errno
@@ -43,14 +47,18 @@ import mmap
 import os
 import re
 import shutil
+import warnings
 from typing import Any, BinaryIO, Iterable, Iterator, NamedTuple, Sequence, Union, overload
+
+from adf._rescues import LeftOut as LeftOut, rescue as rescue
 
 __version__ = "1.0"
 BLOCK = 512
 MOST_BYTES = BLOCK * 1_048_576
 NO_MEMORY = 23
+NO_BLOCK, LEAST_CHUNK, FILE_TYPE = 2**32 - 1, 488, b"\xff\xff\xff\xfd"
 KINDS = ("ofs", "ffs")
-MOST_PARTITIONS, MOST_TABLES, DOS_TYPE, NO_BLOCK = 1024, BLOCK * 65536, 0x444F5300, 0xFFFFFFFF
+MOST_PARTITIONS, MOST_TABLES, DOS_TYPE = 1024, BLOCK * 65536, 0x444F5300
 ROLES = ("free", "boot", "root", "page", "map extension", "header", "extension", "data")
 SONAME = "libadf.so.1"
 LONGEST_NAME, LONGEST_COMMENT, MOST_NUMBER, PART = 30, 79, 2**32 - 1, 1 << 20
@@ -89,6 +97,7 @@ _Found = _struct(
     *(("parent", _SIZE), ("header size protection", _WORD), ("date", _Date), ("is_file is_sound name_length", _BYTE)),
     *(("name", _BYTE * 79), ("comment_length", _BYTE), ("comment", _BYTE * 79)),
 )
+_Part = _struct(("node", _SIZE), ("number", _WORD))
 _Surveyed = _struct(
     *(("kind blocks", _WORD), ("findings entries", _SIZE)),
     *(("root altered created", _Date), ("label_length", _BYTE), ("label", _BYTE * 30)),
@@ -191,10 +200,6 @@ class Damaged(Error, OSError):
     """A file of a survey is damaged, or something is wrong with a partition."""
 
 
-class NotReached(Error, LookupError):
-    """No path leads to an entry of a survey: an earlier one has the same path, or no path can have its name."""
-
-
 class Refused(Error):
     """No volume has the image: the cause of the first fault, as `bad sum`, its block and its number, and the file, if it is one.
 
@@ -208,6 +213,10 @@ class Refused(Error):
     def __str__(self) -> str:
         name = "" if self.filename is None else f"{os.fsdecode(self.filename)}: "
         return f"{name}block {self.block}: {self.cause}"
+
+
+class DamagedWarning(UserWarning):
+    """`adf.open` was given an image that is refused, and opened what stands of it."""
 
 
 class Verdict(NamedTuple):
@@ -313,15 +322,15 @@ class Answer(NamedTuple):
     errors: bytes
 
 
-def _run(call: Any, program: str, words: Iterable[str], given: Image) -> Answer:
-    """Runs a program of the library with these words over the input."""
+def _run(call: Any, program: str, words: Iterable[str], given: Image, expected: int = 0) -> Answer:
+    """Runs a program of the library with these words over the input; so many bytes of output are expected."""
     all_words, given = (program, *words), _bytes(given)
     if isinstance(words, (str, bytes)) or not all(isinstance(word, str) for word in all_words):
         raise TypeError('words are a list of str, as ["cat", "c/list"]')
     line = b"".join(word.encode() + b"\0" for word in all_words)
     if line.count(b"\0") != len(all_words):
         raise ValueError("a word has a zero byte")
-    moved, most_output, most_errors = _Moved(), len(given) + FIRST_OUTPUT, FIRST_ERRORS
+    moved, most_output, most_errors = _Moved(), max(len(given), expected) + FIRST_OUTPUT, FIRST_ERRORS
     while True:
         output, errors = ctypes.create_string_buffer(most_output), ctypes.create_string_buffer(most_errors)
         rooms = (output, most_output, errors, most_errors, ctypes.byref(moved))
@@ -349,33 +358,22 @@ def survey(image: Image, blocks: int | None = None) -> Survey:
 
 def _sized(image: bytes, blocks: int | None) -> bytes:
     """The image of so many blocks that begins with these bytes; zeros stand for what is missing."""
+    return image if blocks is None else _cut(image, blocks).ljust(BLOCK * blocks, b"\0")
+
+
+def _cut(image: bytes, blocks: int | None) -> bytes:
+    """What an image has of so many blocks."""
     if blocks is None:
         return image
     if not 0 <= blocks <= MOST_BYTES // BLOCK:
         raise ValueError(f"{blocks} blocks")
-    return image[: BLOCK * blocks].ljust(BLOCK * blocks, b"\0")
+    return image[: BLOCK * blocks]
 
 
-class LeftOut(NamedTuple):
-    """What a rescue leaves out: an entry, with why, `damaged`, `link` or `no room`, and its path; or what is `lost`, with `in c/` or
-    `blocks 44 to 65` for a path."""
-
-    why: str
-    path: str
-
-
-def rescue(image: Image, blocks: int | None = None) -> tuple[bytes, list[LeftOut]]:
-    """A new, sound volume of as many bytes with all that stands in an image, and the entries that are found and left out; with a
-    number of blocks as if the image had so many. Refused where nothing stands."""
-    status, volume, errors = _run(_calls().adf_survey_run, "adf-survey", ["rescue"], _sized(_bytes(image), blocks))
-    if status == 3:
-        raise NoMemory(errors.decode("ascii").strip())
-    if not volume:
-        first = survey(image, blocks).findings[0]
-        number = next(number for number in range(1, NO_MEMORY + 1) if _cause(number) == first.cause)
-        raise Refused(first.cause, first.first, number)
-    lines = (line.partition(": ") for line in errors.decode("ascii").splitlines())
-    return volume, [LeftOut(why, _plain(path)) for why, _, path in lines]
+def _survey_run(words: Sequence[str], image: Image, blocks: int | None) -> Answer:
+    """Runs `adf-survey` with these words over an image, read as if it had so many blocks."""
+    option = [] if blocks is None else ["--blocks", str(blocks)]
+    return _run(_calls().adf_survey_run, "adf-survey", [*option, *words], _cut(_bytes(image), blocks), BLOCK * (blocks or 0))
 
 
 class Finding(NamedTuple):
@@ -429,39 +427,37 @@ class Found(NamedTuple):
         return f"<adf.Found {self.path!r}>"
 
     def read(self) -> bytes:
-        """The bytes of a sound file, as Survey.read gives them; NotReached if no path leads to this entry."""
-        return self.survey.read(self.survey._path_to(self.number))
+        """The bytes of a sound file: those of this entry, also where an earlier one has its path. NotAFile, or Damaged."""
+        if not self.is_sound and self._has_bytes():
+            raise Damaged(errno.EIO, "damaged", self.path)
+        return self.remains()[0]
 
     def remains(self) -> tuple[bytes, list[range]]:
-        """What is left of a file, as Survey.remains gives it; NotReached if no path leads to this entry."""
-        return self.survey.remains(self.survey._path_to(self.number))
+        """What is left of a file, sound or damaged: its bytes, with zeros for those that are lost, and the ranges of these. NotAFile if
+        it is a directory or a link."""
+        if not self._has_bytes():
+            raise NotAFile(errno.EISDIR, os.strerror(errno.EISDIR), self.path)
+        return self.survey._remains(self)
+
+    def _has_bytes(self) -> bool:
+        """Whether it is a file, by its header, and no link."""
+        past = BLOCK * (self.header + 1)
+        return self.is_file and self.survey.image[past - 4 : past] == FILE_TYPE
 
     def pieces(self) -> Iterator[tuple[int, bytes]]:
-        """What is left of a file, by its number and without a further survey: each run of bytes that is found, with its place in the
-        file, whether a path leads to this entry or not. What lies between the runs is lost. A directory has none."""
-        return ((offset, piece) for offset, piece, _ in self._pieces() if piece)
+        """What is left of a file: each run of bytes that is found, with its place in the file. What lies between the runs is lost. A
+        directory has none."""
+        left, lost = self.survey._remains(self) if self._has_bytes() else (b"", [])
+        at = 0
+        for gap in (*lost, range(len(left), len(left))):
+            if at < gap.start:
+                yield at, left[at : gap.start]
+            at = gap.stop
 
     @property
     def gaps(self) -> list[range]:
-        """The ranges of the bytes of a file that are lost, by its number."""
-        return [range(offset + len(piece), offset + len(piece) + lost) for offset, piece, lost in self._pieces() if lost]
-
-    def _pieces(self) -> Iterator[tuple[int, bytes, int]]:
-        """For each run of bytes that is found its place, its bytes, and how many bytes behind it are lost."""
-        image, parts, lost, offset = self.survey.image, self.survey._parts, _SIZE(), 0
-        place = parts, len(parts), self.number, self.header
-        count = _calls().adf_found_blocks(image, len(image), *place, (_WORD * 1)(), 0)
-        blocks = (_WORD * (count or 1))()
-        _calls().adf_found_blocks(image, len(image), *place, blocks, count)
-        blocks = (_WORD * len(blocks))(*(block if block < self.survey._held // BLOCK else NO_BLOCK for block in blocks))
-        room = ctypes.create_string_buffer(min(self.size, len(image)) or 1)
-        while True:
-            given = image, len(image), self.header, blocks, count, offset, room, len(room), ctypes.byref(lost)
-            read = _calls().adf_found_read(*given)
-            if not read and not lost.value:
-                return
-            yield offset, room.raw[:read], lost.value
-            offset += read + lost.value
+        """The ranges of the bytes of a file that are lost."""
+        return self.survey._remains(self)[1] if self._has_bytes() else []
 
 
 class _ReadOnly:
@@ -490,11 +486,10 @@ class Survey(_ReadOnly):
     raw_label: bytes
     label: str
     _rows: Any
-    _held: int
+    _given: tuple[bytes, int | None]
 
     def __init__(self, image: Image, blocks: int | None = None) -> None:
-        given = _bytes(image)
-        raw, told = _sized(given, blocks), _Surveyed()
+        raw, told = _sized(_bytes(image), blocks), _Surveyed()
         rooms, wanted = (0, 0), (FIRST_ROOM, FIRST_ROOM)
         while rooms != wanted:
             rooms = wanted
@@ -505,10 +500,10 @@ class Survey(_ReadOnly):
         label = bytes(told.label)[: told.label_length]
         vars(self).update(
             image=raw, kind=KINDS[told.kind] if told.blocks else "", date=_date(told.root), altered=_date(told.altered),
-            created=_date(told.created), raw_label=label, label=label.decode("latin-1"),
+            created=_date(told.created), raw_label=label, label=label.decode("latin-1"), _given=(_cut(_bytes(image), blocks), blocks),
         )
+        self._mark_missing(tables[2])
         vars(self)["entries"] = [self._entry(place + 1, tables[2][place]) for place in range(told.entries)]
-        vars(self)["_held"] = min(len(given), len(raw))
         vars(self)["_rows"] = (_Finding * told.findings).from_buffer_copy(tables[0])
 
     def __repr__(self) -> str:
@@ -516,11 +511,67 @@ class Survey(_ReadOnly):
 
     def __reduce__(self) -> Any:
         """Pickled as its image, which is surveyed again."""
-        return Survey, (self.image[: self._held], None if self._held == len(self.image) else len(self.image) // BLOCK)
+        return Survey, self._given
+
+    def _mark_missing(self, rows: Any) -> None:
+        """Marks files with data in blocks that the image does not have as damaged: the table has zeros there for data."""
+        if len(self._given[0]) < len(self.image):
+            for part in self._parts[1][len(self._given[0]) // BLOCK :]:
+                if part.node:
+                    rows[part.node - 1].is_sound = 0
 
     @property
     def findings(self) -> Findings:
         return Findings(self)
+
+    @functools.cached_property
+    def _volume(self) -> Rescued | None:
+        """The volume of what stands, or None if nothing does."""
+        try:
+            volume = Rescued(self._given[0], blocks=self._given[1])
+        except Refused:
+            return None
+        vars(volume)["survey"] = self
+        return volume
+
+    @functools.cached_property
+    def _parts(self) -> tuple[bytes, Any]:
+        """The image, and which part of what is found each of its blocks is."""
+        return self._with_parts(self.image)
+
+    @functools.cached_property
+    def _typed_parts(self) -> tuple[bytes, Any]:
+        """The same, of the image with the type that its files say, where they say another."""
+        if self._volume is None or self._volume.kind == self.kind:
+            return self._parts
+        return self._with_parts(self.image[:3] + bytes([self.image[3] & 254]) + self.image[4:])
+
+    @staticmethod
+    def _with_parts(image: bytes) -> tuple[bytes, Any]:
+        rows = (_Part * (len(image) // BLOCK))()
+        if _calls().adf_survey_parts(image, len(image), rows, len(rows)) != 0:
+            raise NoMemory
+        return image, rows
+
+    def _remains(self, found: Found) -> tuple[bytes, list[range]]:
+        """What is left of a file, by its number."""
+        image, parts = self._parts if found.is_sound else self._typed_parts
+        size, held = min(found.size, len(image)), len(self._given[0]) // BLOCK
+        most = size // LEAST_CHUNK + 1
+        blocks, content, gap = (_WORD * most)(), bytearray(size), _SIZE()
+        count = min(_calls().adf_found_blocks(image, len(image), parts, len(parts), found.number, found.header, blocks, most), most)
+        for place in range(count):
+            if blocks[place] >= held:
+                blocks[place] = NO_BLOCK
+        lost, at = [], 0
+        while at < size:
+            room = (ctypes.c_char * (size - at)).from_buffer(content, at)
+            at += _calls().adf_found_read(image, len(image), found.header, blocks, count, at, room, size - at, ctypes.byref(gap))
+            if not gap.value:
+                break
+            lost.append(range(at, at + gap.value))
+            at += gap.value
+        return bytes(content), lost
 
     def ranges(self) -> Iterator[range]:
         """The blocks of each finding, without paths, which can be very long."""
@@ -548,14 +599,6 @@ class Survey(_ReadOnly):
         left, lines = self._cat(path, "--damaged")
         return left, [range(int(first), int(last) + 1) for first, last in re.findall(rb"bytes (\d+) to (\d+)", lines)]
 
-    @functools.cached_property
-    def _parts(self) -> Any:
-        """What the survey has at each block."""
-        parts = (_Part * (len(self.image) // BLOCK or 1))()
-        if _calls().adf_survey_parts(self.image, len(self.image), parts, len(parts)) != 0:
-            raise NoMemory
-        return parts
-
     def owners(self) -> bytes:
         """The role of each block by what is found there, a byte for each, as a place in ROLES: 0 where nothing is, and everywhere without
         a root."""
@@ -564,30 +607,9 @@ class Survey(_ReadOnly):
             raise NoMemory
         return roles.raw[: len(self.image) // BLOCK]
 
-    @functools.cached_property
-    def _firsts(self) -> dict[tuple[int, bytes], int]:
-        """The number of the first entry with a name in a directory, to which a path leads; capital letters stand for all."""
-        firsts: dict[tuple[int, bytes], int] = {}
-        for entry in self.entries:
-            firsts.setdefault((entry.parent, self._capitals(entry.raw_name)), entry.number)
-        return firsts
-
     def _capitals(self, name: bytes) -> bytes:
         """A name in capital letters, by those that the type of the image compares: a to z, or those of Latin-1."""
         return name.translate(LATIN_CAPITALS if self.image[3] > 1 else CAPITALS)
-
-    def _path_to(self, number: int) -> bytes:
-        """The path that leads to an entry. NotReached if none does: the library finds entries by their paths."""
-        names = []
-        while number:
-            entry = self.entries[number - 1]
-            if self._firsts[entry.parent, self._capitals(entry.raw_name)] != number:
-                raise NotReached(f"{entry.path} (block {entry.header}): an earlier entry has the same path")
-            if not 0 < len(entry.raw_name) <= LONGEST_NAME or set(entry.raw_name) & set(b"/:"):
-                raise NotReached(f"{entry.path} (block {entry.header}): no path can have this name")
-            names.append(entry.raw_name)
-            number = entry.parent
-        return b"/".join(reversed(names))
 
     def _cat(self, path: str | bytes, *flags: str) -> tuple[bytes, bytes]:
         """What the command `cat` writes to output and to errors."""
@@ -595,7 +617,7 @@ class Survey(_ReadOnly):
             words = ["cat", *flags, "--", escape(path)]
         except UnicodeEncodeError:
             raise NoSuchPath(path) from None
-        status, output, errors = _run(_calls().adf_survey_run, "adf-survey", words, self.image)
+        status, output, errors = _survey_run(words, *self._given)
         if status == 3:
             raise NoMemory(errors.decode("ascii").strip())
         if errors == b"bad path\n" or errors.startswith(b"no such path: "):
@@ -738,10 +760,32 @@ def read_image(file: BinaryIO) -> bytes:
     return room.getvalue()
 
 
-def open(path: Path) -> Volume:
-    """The volume of an image in a file. Refused if it is not a volume, OSError if the file cannot be read."""
+def open(path: Path, *, strict: bool = False, blocks: int | None = None) -> Volume:
+    """The volume of an image in a file: as `open_image` of its bytes. OSError if the file cannot be read."""
     with io.open(path, "rb") as file:
-        return Volume(read_image(file), path)
+        return _opened(read_image(file), path, strict, blocks)
+
+
+def open_image(image: Image, filename: Path | None = None, *, strict: bool = False, blocks: int | None = None) -> Volume:
+    """The volume of an image. If the image is refused, a DamagedWarning says so, and the volume is a Rescued one, that of what stands:
+    `left_out` is what is not in it. Refused if nothing stands, or with `strict` if the image is not a volume. With a number of blocks
+    it is read as if it had so many; those that it does not have are lost."""
+    return _opened(_bytes(image), filename, strict, blocks)
+
+
+def _opened(image: bytes, filename: Path | None, strict: bool, blocks: int | None) -> Volume:
+    """What `open` and `open_image` give; the warning is told of their caller."""
+    given = _cut(image, blocks)
+    if strict or len(given) == BLOCK * (len(given) // BLOCK if blocks is None else blocks):
+        try:
+            return Volume(given, filename)
+        except Refused:
+            if strict:
+                raise
+    volume = Rescued(given, filename, blocks)
+    why = volume.refused or f"{'image' if filename is None else os.fsdecode(filename)}: it has {len(given)} bytes"
+    warnings.warn(f"{why}: {len(volume.left_out)} left out (volume.left_out)", DamagedWarning, stacklevel=3)
+    return volume
 
 
 class Volume(_ReadOnly):
@@ -812,6 +856,16 @@ class Volume(_ReadOnly):
     def entries(self) -> Entries:
         return Entries(self)
 
+    @property
+    def left_out(self) -> list[LeftOut]:
+        """What is on the image and not in this volume: nothing, unless it is a Rescued one."""
+        return []
+
+    @property
+    def findings(self) -> Sequence[Finding]:
+        """What is wrong with the image: nothing, unless it is a Rescued one."""
+        return ()
+
     def __getitem__(self, path: str | bytes) -> Entry:
         """The entry under a path, a text or bytes: names with `/` between them. NoSuchPath if there is none."""
         number = self._find(path)
@@ -870,6 +924,82 @@ class Volume(_ReadOnly):
         if answer == NO_MEMORY:
             raise NoMemory
         return node.value if answer == 0 else None
+
+
+class Rescued(Volume):
+    """The volume of what stands in an image that is refused: its rescue, in memory. `left_out` is what is not in it, and `findings` all
+    that is wrong with the image, by its `survey`; `refused` says why it is refused. Its blocks, and the headers of its entries, are
+    not those of the image. Refused if nothing stands."""
+
+    _given: tuple[bytes, Path | None, int | None]
+    _left_out: list[LeftOut]
+
+    def __init__(self, image: Image, filename: Path | None = None, blocks: int | None = None) -> None:
+        given = _bytes(image)
+        try:
+            new, left_out = rescue(given, blocks)
+        except Refused as refused:
+            raise Refused(refused.cause, refused.block, refused.number, filename) from None
+        super().__init__(new, filename)
+        vars(self).update(_given=(given, filename, blocks), _left_out=left_out)
+
+    def __repr__(self) -> str:
+        return f"{super().__repr__()[:-1].replace('Volume', 'Rescued', 1)}, {len(self.left_out)} left out>"
+
+    def __reduce__(self) -> Any:
+        """Pickled as its image, which is rescued again."""
+        return Rescued, self._given
+
+    def close(self) -> None:
+        super().close()
+        vars(self).update(_given=(b"", *self._given[1:]))
+
+    @property
+    def left_out(self) -> list[LeftOut]:
+        return list(self._left_out)
+
+    @functools.cached_property
+    def survey(self) -> Survey:
+        """The survey of the image, made when it is asked for first."""
+        survey = Survey(self._given[0], self._given[2])
+        vars(survey)["_volume"] = self
+        return survey
+
+    def entry_of(self, found: Found) -> Entry | None:
+        """The entry of this volume that is an entry of `survey`; None if it is left out."""
+        return self._entry(self._places[found.number]) if found.number in self._places else None
+
+    @functools.cached_property
+    def _places(self) -> dict[int, int]:
+        """The numbers of entries, by those of the entries of the survey that they are. An entry whose name is not a name, or is used
+        already, is called lost- and its block."""
+        lost_names = {each.path.rpartition("/")[2].encode("latin-1") for each in self._left_out}
+        counts = collections.Counter((found.parent, self.survey._capitals(found.raw_name)) for found in self.survey.entries)
+        named, places = {(entry.parent, entry.raw_name): entry for entry in self.entries}, {0: 0}
+        for found in self.survey.entries:
+            parent, names = places.get(found.parent, -1), [b"lost-%d" % found.header]
+            is_alone = counts[found.parent, self.survey._capitals(found.raw_name)] == 1
+            if found.is_sound or is_alone and not (found.is_file and found.raw_name in lost_names):
+                names.append(found.raw_name)
+            for kept in (named[parent, name] for name in names if (parent, name) in named):
+                if _fields(kept) == _fields(found):
+                    places[found.number] = kept.number
+                    del named[parent, kept.raw_name]
+                    break
+        return places
+
+    @property
+    def findings(self) -> Findings:
+        return self.survey.findings
+
+    @functools.cached_property
+    def refused(self) -> Refused | None:
+        """Why the image is refused; None if it is sound."""
+        try:
+            check(self._given[0])
+        except Refused as refused:
+            return Refused(refused.cause, refused.block, refused.number, self._given[1])
+        return None
 
 
 class Entries(Sequence["Entry"]):
@@ -951,6 +1081,11 @@ class Entry(NamedTuple):
         """The file as one of Python, buffered, to read and seek."""
         self.read_into(bytearray())
         return io.BufferedReader(File(self))
+
+
+def _fields(entry: Entry | Found) -> tuple[Any, ...]:
+    """What a rescue keeps of an entry as it is."""
+    return entry.is_file, entry.size, entry.protection, entry.date, entry.raw_comment
 
 
 class File(io.RawIOBase):

@@ -5,7 +5,7 @@ from __future__ import annotations
 import argparse
 import os
 import sys
-from typing import Dict, Iterator, List, NamedTuple, Optional, Tuple
+from typing import Dict, Iterator, List, NamedTuple, Optional
 
 import adf
 from adf_tools.collection import Image, images_in
@@ -74,9 +74,9 @@ def thing_of(entry: adf.Entry | adf.Found, content: str) -> Thing:
     return Thing("file" if entry.is_file else "directory", content, f"{entry.protection:08x}", str(entry.date), letters(entry.comment))
 
 
-def found_sum(entry: adf.Found, sums: Dict[Tuple[int, bytes], str]) -> str:
+def found_sum(entry: adf.Found, sums: Dict[int, str]) -> str:
     """A sum of the bytes of a file of a damaged image; of a damaged file its block, which no sum is equal to."""
-    return sums.get((entry.header, entry.raw_path), f"damaged, block {entry.header}") if entry.is_file else ""
+    return sums.get(entry.number, f"damaged, block {entry.header}") if entry.is_file else ""
 
 
 def side_of(image: bytes) -> Side:
@@ -84,7 +84,8 @@ def side_of(image: bytes) -> Side:
     try:
         volume = adf.Volume(image)
     except adf.Refused as refused:
-        survey, found = adf.survey(image), sound_sums(image)
+        survey = adf.survey(image)
+        found = sound_sums(survey)
         things = {letters(entry.path): thing_of(entry, found_sum(entry, found)) for entry in survey.entries}
         return Side(image, str(refused), letters(survey.label), things)
     sums = ((entry, file_sum(entry) if entry.is_file else "") for entry in volume.entries)

@@ -91,8 +91,12 @@ class ImagePage:
 
     def advice(self) -> str:
         group = ADVICE.get(self.image["advice"])
-        fits = f" At {self.image['fits']} blocks the survey finds a root." if self.image["fits"] else ""
+        fits = f" At {self.image['fits']} blocks the survey finds a root: <code>adf-survey {self.option()}&lt; IMAGE</code>." if self.image["fits"] else ""
         return f"<strong>{shown(group.title)}.</strong> {shown(group.text)}{fits}" if group else ""
+
+    def option(self) -> str:
+        """What adf-survey is told of the length that fits, where the image has another."""
+        return f"--blocks {int(self.image['fits'])} " if self.image["fits"] else ""
 
     def roles(self) -> bytes:
         """The role of each block, of which there are no more than the largest volume has."""
@@ -148,7 +152,8 @@ class ImagePage:
         rows: List[Dict[str, Any]] = [dict(row) for row in self.rows(line)]
         drawn = disk_picture("", image["blocks"] or 0, rows, name=f"Partitions of {image['name']}")
         whole = long_table("Partitions", PARTITION_HEADS, map(partition_row, rows), len(rows), "adf-disk list < IMAGE")
-        return facts("Disk", [*pairs, *self.sum_facts()]) + f'<div class="beside">{drawn}{whole}</div>'
+        cut = "<p><code>adf-disk volume NAME &lt; IMAGE &gt; VOLUME</code> cuts the volume of a partition out.</p>\n"
+        return facts("Disk", [*pairs, *self.sum_facts()]) + cut + f'<div class="beside">{drawn}{whole}</div>'
 
     # Parts
 
@@ -172,13 +177,13 @@ class ImagePage:
         """The entries that are found in a refused image."""
         if not whole:
             return ""
-        rescue = "<p>Of a sound file, <code>adf-survey cat PATH &lt; IMAGE &gt; FILE</code> writes the bytes.</p>\n"
+        rescue = f"<p>Of a sound file, <code>adf-survey {self.option()}cat PATH &lt; IMAGE &gt; FILE</code> writes the bytes.</p>\n"
         rows = map(self.found_row, self.rows(ENTRIES))
-        return f'<div id="found">{rescue}{long_table("Found", FOUND_HEADS, rows, whole, "adf-survey --list < IMAGE")}</div>'
+        return f'<div id="found">{rescue}{long_table("Found", FOUND_HEADS, rows, whole, f"adf-survey {self.option()}--list < IMAGE")}</div>'
 
     def finding_table(self) -> str:
         rows = map(finding_row, self.rows("SELECT * FROM findings WHERE image = :image ORDER BY id"))
-        return long_table("Findings", FINDING_HEADS, rows, self.image["faults"] or 0, "adf-survey < IMAGE")
+        return long_table("Findings", FINDING_HEADS, rows, self.image["faults"] or 0, f"adf-survey {self.option()}< IMAGE")
 
     def rescue_part(self) -> str:
         """The link to the new volume of a refused image, and what it leaves out."""
@@ -187,7 +192,7 @@ class ImagePage:
         rows = [cell(shown(row["why"])) + cell(shown(row["path"]), "text") for row in self.rows("SELECT * FROM left_out WHERE image = :image ORDER BY id")]
         name, counts = os.path.basename(self.image["rescued"]), count_of(len(rows), "entry", "entries")
         told = paragraph(f'<a href="{name}" download>A new, sound volume</a> of all that stands, {counts} left out.')
-        return told + (long_table("Left out", ("Why", "Path"), rows, len(rows), "adf-survey rescue < IMAGE") if rows else "")
+        return told + (long_table("Left out", ("Why", "Path"), rows, len(rows), f"adf-survey {self.option()}rescue < IMAGE") if rows else "")
 
 
 def finding_row(row: Row) -> str:

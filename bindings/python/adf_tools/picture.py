@@ -14,7 +14,7 @@ STEP, SIDE, MARGIN = 10, 9, 12
 LINE, LEGEND = 20, 17
 UNKNOWN, NOTED = len(adf.ROLES), len(adf.ROLES) + 1
 NAMES = (*adf.ROLES, "unknown", "has a finding")
-COLOURS = ("#e8e8e8", "#333333", "#d62728", "#9467bd", "#c5b0d5", "#ff7f0e", "#bcbd22", "#1f77b4", "#bbbbbb", "#d62728")
+COLOURS = ("#e8e8e8", "#333333", "#2ca02c", "#9467bd", "#c5b0d5", "#ff7f0e", "#bcbd22", "#1f77b4", "#bbbbbb", "#d62728")
 FAULT = "#d62728"
 RUN = re.compile(rb"(.)\1*", re.DOTALL)
 MOST_SQUARES, OUTSIDE, TABLES, OWN = 4096, 0, 1, 2  # of a disk; what its squares are: outside of partitions, tables, the first partition
@@ -47,8 +47,8 @@ VOLUME = Roles(NAMES, COLOURS)
 
 
 def roles_of_refused(survey: adf.Survey) -> bytes:
-    """The roles of a refused image, which nobody knows but that a block has a finding."""
-    roles = bytearray([UNKNOWN]) * (len(survey.image) // adf.BLOCK)
+    """The roles of a refused image: what the survey finds at a block, that the block has a finding, or that nobody knows."""
+    roles = bytearray(role or UNKNOWN for role in survey.owners())
     for blocks in survey.ranges():
         inside = range(blocks.start, min(blocks.stop, len(roles)))
         roles[blocks.start : blocks.start + len(inside)] = bytes([NOTED]) * len(inside)

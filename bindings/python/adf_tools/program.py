@@ -76,7 +76,7 @@ def begin(line: argparse.ArgumentParser, work: Callable[[argparse.Namespace], in
     try:
         for number in heard:
             signal.signal(number, signal.default_int_handler)
-        status = work(line.parse_args())
+        status = work(line.parse_intermixed_args())
         sys.stdout.flush()
     except SystemExit:
         raise
@@ -171,11 +171,6 @@ def moved(folder: str, path: str) -> Iterator[None]:
 def host_text(name: str | bytes | os.PathLike[str]) -> str:
     """A name of the host as a text that can be printed."""
     return host_letters(os.fsencode(name))
-
-
-def given_volume() -> adf.Volume:
-    """The volume of the image on standard input."""
-    return adf.Volume(adf.read_image(sys.stdin.buffer))
 
 
 def run_lines(parts: Iterable[bytes]) -> Iterator[str]:

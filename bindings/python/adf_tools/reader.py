@@ -88,7 +88,7 @@ class Reader:
     def rescued(self, image: bytes, found: Record) -> Record:
         """Writes the new volume of what stands in a refused image beside its page, if anything does."""
         try:
-            volume, left_out = adf.rescue(image)
+            volume, left_out = adf.rescue(image, found.columns.get("fits"))
         except adf.Refused:
             return found
         link = found.columns["page"][: -len("html")] + "adf"

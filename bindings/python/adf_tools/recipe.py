@@ -1,4 +1,5 @@
-"""adf-recipe: writes the manifest of an image; `adf build` of it gives the same tree (docs/adf-recipe.1)."""
+"""adf-recipe: writes the manifest of an image; `adf build` of it gives the same tree (docs/adf-recipe.1). Of a damaged image it is that
+of what stands."""
 
 from __future__ import annotations
 
@@ -7,7 +8,8 @@ import sys
 from typing import Iterator
 
 import adf
-from adf_tools.program import begin, command_line, given_volume, manifest_of, run_lines
+from adf_tools.given import add_image, add_strict, given
+from adf_tools.program import begin, command_line, manifest_of, run_lines
 
 
 def parts_of(entry: adf.Entry) -> Iterator[bytes]:
@@ -33,14 +35,18 @@ def lines_of(volume: adf.Volume) -> Iterator[str]:
         yield from entry_lines(entry)
 
 
-def work(_words: argparse.Namespace) -> int:
-    sys.stdout.buffer.write(manifest_of(lines_of(given_volume())))
-    return 0
+def work(words: argparse.Namespace) -> int:
+    image = given(words)
+    volume = image.volume(words.strict)
+    sys.stdout.buffer.write(manifest_of(lines_of(volume)))
+    return image.tell("adf-recipe", volume)
 
 
 def main() -> None:
-    does = "Writes the manifest of the image on standard input; adf build of it gives the same tree."
-    begin(command_line("adf-recipe", does), work)
+    line = command_line("adf-recipe", "Writes the manifest of an image, or of what stands of it; adf build of it gives the same tree.")
+    add_image(line)
+    add_strict(line)
+    begin(line, work)
 
 
 if __name__ == "__main__":

@@ -1,4 +1,5 @@
-"""adf-unpack: copies the directories and files of an image into a new folder, with their dates (docs/adf-unpack.1)."""
+"""adf-unpack: copies the directories and files of an image into a new folder, with their dates (docs/adf-unpack.1). Of a damaged image
+it copies what stands; with --damaged also what is left of its damaged files, under names of their own."""
 
 from __future__ import annotations
 
@@ -6,15 +7,17 @@ import argparse
 import functools
 import itertools
 import os
-from typing import Callable, Iterator
+from typing import Callable, Dict, Iterator, List, Sequence
 
 import adf
 from adf_tools import uaem
+from adf_tools.given import add_image, add_strict, given
 from adf_tools.names import text_of
-from adf_tools.program import add_escape, begin, command_line, given_volume, new_folder
+from adf_tools.program import add_escape, begin, command_line, new_folder
 from adf_tools.trees import Place, named
 
 DAYS_TO_1978 = 2922
+DAMAGED, GAPS = b".damaged", b".gaps"
 
 
 def host_name(name: bytes, is_escaped: bool) -> bytes:
@@ -34,13 +37,17 @@ def set_date(fd: int, date: adf.Date) -> None:
 class Unpacker:
     """Writes the tree of a volume into a folder: by a function for names, and whether files NAME.uaem are written."""
 
-    def __init__(self, volume: adf.Volume, host: Callable[[bytes], bytes], writes_uaem: bool) -> None:
+    def __init__(self, volume: adf.Volume, host: Callable[[bytes], bytes], writes_uaem: bool, damaged: Sequence[adf.Found] = ()) -> None:
         self.host, self.writes_uaem = host, writes_uaem
         self.inside = {number: list(each) for number, each in itertools.groupby(volume.entries, lambda entry: entry.parent)}
+        self.damaged: Dict[int, List[adf.Found]] = {}
+        for found in damaged:
+            self.damaged.setdefault(directory_of(volume, found), []).append(found)
 
     def write(self, folder: str) -> None:
         """Writes all directories and files. A directory gets its date when all that is in it is written."""
         with Place(folder) as place:
+            self.write_damaged(place, 0)
             waiting = [self.entries_in(0)]
             above: list[adf.Entry] = []
             while waiting:
@@ -49,6 +56,7 @@ class Unpacker:
                     self.write_entry(place, entry)
                     if not entry.is_file:
                         place.go_in(self.host(entry.raw_name))
+                        self.write_damaged(place, entry.number)
                         waiting.append(self.entries_in(entry.number))
                         above.append(entry)
                     continue
@@ -73,6 +81,25 @@ class Unpacker:
             with place.create(name + os.fsencode(uaem.ENDING)) as file:
                 file.write(uaem.line_of(entry))
 
+    def write_damaged(self, place: Place, number: int) -> None:
+        """Writes what is left of the damaged files of a directory, with zeros for what is lost, and beside it a line for each gap."""
+        names = {self.host(entry.raw_name) for entry in self.entries_in(number)}
+        for found in self.damaged.get(number, ()):
+            try:
+                left, lost = found.remains()
+            except adf.NotAFile:  # a link
+                continue
+            name = self.host(found.raw_name)
+            while names & {name + DAMAGED, name + GAPS}:
+                name += b"-%d" % found.header
+            names |= {name + DAMAGED, name + GAPS}
+            with place.create(name + DAMAGED) as file:
+                file.write(left)
+                file.flush()
+                set_date(file.fileno(), found.date)
+            with place.create(name + GAPS) as file:
+                file.writelines(b"bytes %d to %d: no data\n" % (gap.start, gap.stop - 1) for gap in lost)
+
     @staticmethod
     def write_file(place: Place, name: bytes, entry: adf.Entry) -> None:
         with place.create(name) as file:
@@ -82,19 +109,40 @@ class Unpacker:
             set_date(file.fileno(), entry.date)
 
 
+def directory_of(volume: adf.Volume, found: adf.Found) -> int:
+    """The number of the directory of a volume that a found entry is in; of the next one above it that the volume has."""
+    while isinstance(volume, adf.Rescued) and found.parent:
+        found = volume.survey.entries[found.parent - 1]
+        kept = volume.entry_of(found)
+        if kept:
+            return kept.number
+    return 0
+
+
+def damaged_files(volume: adf.Volume) -> List[adf.Found]:
+    """The files of an image that are left out of the volume of what stands; links are among them."""
+    if not isinstance(volume, adf.Rescued):
+        return []
+    return [found for found in volume.survey.entries if found.is_file and not volume.entry_of(found)]
+
+
 def work(words: argparse.Namespace) -> int:
-    volume = given_volume()
+    image = given(words)
+    volume = image.volume(words.strict)
     host: Callable[[bytes], bytes] = functools.partial(host_name, is_escaped=words.escape)
     if words.uaem and not words.escape:
         host = uaem.host_name
     with new_folder(words.folder) as folder:
-        Unpacker(volume, host, words.uaem).write(folder)
-    return 0
+        Unpacker(volume, host, words.uaem, damaged_files(volume) if words.damaged else ()).write(folder)
+    return image.tell("adf-unpack", volume)
 
 
 def main() -> None:
-    line = command_line("adf-unpack", "Copies the directories and files of the image on standard input into a new folder.")
+    line = command_line("adf-unpack", "Copies the directories and files of an image into a new folder; of a damaged image, what stands.")
+    add_image(line)
     line.add_argument("folder", metavar="FOLDER", help="the new folder, which must not exist")
+    add_strict(line)
+    line.add_argument("--damaged", action="store_true", help="write what is left of a damaged file as NAME.damaged, and its gaps as NAME.gaps")
     add_escape(line, "write names")
     line.add_argument("--uaem", action="store_true", help="keep protection, date and comment in files NAME.uaem, for FS-UAE and WinUAE")
     begin(line, work)

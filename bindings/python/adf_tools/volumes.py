@@ -4,6 +4,7 @@ from __future__ import annotations
 
 import hashlib
 import itertools
+import struct
 import zlib
 from typing import Any, Dict, Iterable, Iterator, List, NamedTuple, Optional, Sequence, Tuple
 
@@ -17,6 +18,7 @@ from adf_tools.sums import BOOT, boot_facts, sums_of
 DOS = b"DOS"
 MOST_LETTERS, MOST_FINDINGS, LINE = 64 << 20, 100_000, 100  # of the texts of one image; a row has so many letters beside them
 LONGEST_TEXT, MOST_ICONS, INFO = 1 << 16, 32, b".info"
+RESERVED, READ_RESERVED = 4 * 38, 2  # of a partition block: where the number of reserved blocks is, and that of volumes that are read
 CONTROLS = bytes({*range(32), 127} - set(b"\t\n\r\f\x1b"))  # no text has them
 Columns = Dict[str, Any]
 Rows = List[Tuple[Any, ...]]
@@ -70,9 +72,8 @@ def entry_row(entry: adf.Entry | adf.Found, digest: Optional[str], state: str) -
     return kind, path, entry.size, entry.protection, str(entry.date), comment, entry.header, state, digest
 
 
-def found_row(entry: adf.Found, sums: Dict[Tuple[int, bytes], str]) -> Tuple[Any, ...]:
-    digest = sums.get((entry.header, entry.raw_path)) if entry.is_sound and entry.is_file else None
-    return entry_row(entry, digest, "sound" if entry.is_sound else "damaged")
+def found_row(entry: adf.Found, sums: Dict[int, str]) -> Tuple[Any, ...]:
+    return entry_row(entry, sums.get(entry.number), "sound" if entry.is_sound else "damaged")
 
 
 def dates_of(volume: adf.Volume | adf.Survey) -> Columns:
@@ -106,10 +107,10 @@ def content_of(entry: adf.Entry | adf.Found) -> bytes:
         return b""
 
 
-def text_rows(entries: Sequence[adf.Entry]) -> Iterator[Tuple[Any, ...]]:
-    """The text files of a volume, each by its place among the entries."""
+def text_rows(entries: Sequence[adf.Entry | adf.Found]) -> Iterator[Tuple[Any, ...]]:
+    """The text files of a volume, or those that are sound on a refused image, each by its place among the entries."""
     for place, entry in enumerate(entries):
-        content = entry.read() if entry.is_file and 0 < entry.size <= LONGEST_TEXT else b""
+        content = content_of(entry) if entry.is_file and 0 < entry.size <= LONGEST_TEXT else b""
         if content and len(content.translate(None, CONTROLS)) == len(content):
             yield place, content.decode("latin-1")
 
@@ -127,32 +128,28 @@ def volume_record(volume: adf.Volume, columns: Columns, has_texts: bool) -> Reco
     return record({**columns, **numbers, **counts, **dates_of(volume), **told})._replace(entries=rows, icons=drawn, texts=texts)
 
 
-def sound_sums(image: bytes) -> Dict[Tuple[int, bytes], str]:
-    """The SHA-256 of the sound files of a refused image, by their headers and paths: a rescue keeps these with their bytes, in their
-    places."""
-    try:
-        volume = adf.Volume(adf.rescue(image)[0])
-    except adf.Refused:
-        return {}
-    return {(entry.header, entry.raw_path): file_sum(entry) for entry in volume.entries if entry.is_file}
+def sound_sums(survey: adf.Survey) -> Dict[int, str]:
+    """The SHA-256 of the sound files of a refused image, by their numbers."""
+    return {entry.number: hashlib.sha256(content_of(entry)).hexdigest() for entry in survey.entries if entry.is_file and entry.is_sound}
 
 
-def refused_record(image: bytes, refused: adf.Refused, columns: Columns) -> Record:
-    """What is kept of a refused image: its findings, and what is found in it all the same."""
-    survey = adf.survey(image)
-    sums = sound_sums(image) if any(entry.is_file and entry.is_sound for entry in survey.entries) else {}
+def refused_record(image: bytes, refused: adf.Refused, columns: Columns, has_texts: bool) -> Record:
+    """What is kept of a refused image: its findings, and what is found in it all the same; at the length that fits, if it is another."""
+    fits = length_that_fits(image, refused)
+    survey = adf.survey(image, fits)
+    sums = sound_sums(survey)
     rows = limited(found_row(entry, sums) for entry in survey.entries)
     findings = limited(finding_rows(survey))
     sound, lost = (sum(entry.is_sound == is_sound for entry in survey.entries if is_sound or entry.is_file) for is_sound in (True, False))
     files = sum(entry.is_file for entry in survey.entries)
     counts = {"dirs": len(survey.entries) - files, "files": files, "sound": sound, "lost": lost, "unlisted": len(survey.entries) - len(rows)}
-    fits = length_that_fits(image, refused)
     told = {"verdict": str(refused), "block": refused.block, "cause": refused.cause, "label": letters(survey.label), "fits": fits}
     told.update(advice=advice_of(refused, survey, fits), faults=len(survey.findings), roles=zlib.compress(roles_of_refused(survey)))
     if survey.kind:
         told.update(kind=survey.kind, type=image[3], blocks=len(image) // adf.BLOCK, **dates_of(survey))
+    texts = limited(text_rows(survey.entries[: len(rows)])) if has_texts else []
     drawn = list(itertools.islice(icon_rows(survey.entries), MOST_ICONS))
-    return record({**columns, **counts, **told})._replace(entries=rows, findings=findings, icons=drawn)
+    return record({**columns, **counts, **told})._replace(entries=rows, findings=findings, icons=drawn, texts=texts)
 
 
 def finding_rows(survey: adf.Survey) -> Iterator[Tuple[Any, ...]]:
@@ -167,7 +164,7 @@ def image_record(image: bytes, columns: Columns, has_texts: bool) -> Record:
     try:
         volume = adf.Volume(image)
     except adf.Refused as refused:
-        return refused_record(image, refused, columns)
+        return refused_record(image, refused, columns, has_texts)
     return volume_record(volume, columns, has_texts)
 
 
@@ -184,22 +181,34 @@ def disk_of(content: adf.Image) -> Optional[adf.Disk]:
     return disk if disk.partitions or disk.cause != "no rigid disk" else None
 
 
+def is_volume(partition: adf.Partition) -> bool:
+    """Whether the volume of a partition is one of an Amiga, by its type."""
+    return partition.kind.startswith((*adf.KINDS, "DOS"))
+
+
+def fault_of(disk: adf.Disk, partition: adf.Partition) -> str:
+    """What is wrong with a partition, or an empty text; that it reserves other blocks than a volume that is read is a fault too."""
+    (reserved,) = struct.unpack_from(">I", memoryview(disk.image), adf.BLOCK * partition.block + RESERVED)
+    return partition.fault or (f"reserved {reserved}" if is_volume(partition) and reserved != READ_RESERVED else "")
+
+
 def disk_record(disk: adf.Disk, columns: Columns) -> Record:
     """What is kept of a whole hard disk, without its volumes."""
-    faults = sum(bool(partition.fault) for partition in disk.partitions)
+    faults = sum(bool(fault_of(disk, partition)) for partition in disk.partitions)
     told = {"kind": "disk", "verdict": f"block {disk.block}: {disk.cause}" if disk.cause else "ok", "faults": faults + bool(disk.cause)}
     cause = {"block": disk.block, "cause": disk.cause} if disk.cause else {}
     blocks, advice = len(memoryview(disk.image)) // adf.BLOCK, "tables" if told["faults"] else "sound"
     return record({**columns, **told, **cause, "blocks": blocks, "advice": advice})._replace(
         partitions=[
-            (row.number, letters(row.name), row.kind, row.first, row.blocks, row.flags, row.priority, row.block, row.fault) for row in disk.partitions
+            (row.number, letters(row.name), row.kind, row.first, row.blocks, row.flags, row.priority, row.block, fault_of(disk, row))
+            for row in disk.partitions
         ]
     )
 
 
 def volume_of(disk: adf.Disk, partition: adf.Partition) -> Optional[bytes]:
     """The bytes of the volume of a partition, if it has one of an Amiga; of one that is too large one more than the largest has."""
-    if partition.fault or not partition.kind.startswith((*adf.KINDS, "DOS")):
+    if fault_of(disk, partition) or not is_volume(partition):
         return None
     begin = adf.BLOCK * partition.first
     return bytes(memoryview(disk.image)[begin : begin + min(adf.BLOCK * partition.blocks, adf.MOST_BYTES + 1)])

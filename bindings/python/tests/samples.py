@@ -28,7 +28,7 @@ def disk(*volumes, cylinder=16):
     for number, volume in enumerate(volumes):
         past = at + -(-len(volume) // (512 * cylinder))
         words = {0: 0x50415254, 1: 64, 4: number + 2 if number + 1 < len(volumes) else 0xFFFFFFFF, 9: 0x03444830 + number}
-        image += table({**words, 32: 16, 33: 128, 35: 1, 36: 1, 37: cylinder, 41: at, 42: past - 1, 48: 0x444F5300 + volume[3]})
+        image += table({**words, 32: 16, 33: 128, 35: 1, 36: 1, 37: cylinder, 38: 2, 41: at, 42: past - 1, 48: 0x444F5300 + volume[3]})
         at = past
     return b"".join(part.ljust(-(-len(part) // (512 * cylinder)) * 512 * cylinder, b"\0") for part in (image, *volumes))
 

@@ -232,7 +232,7 @@ class Refusals(unittest.TestCase):
     def test_raises_errors_of_its_own(self):
         for kind, python in (
             *((adf.Refused, Exception), (adf.NoLibrary, ImportError), (adf.NoMemory, MemoryError), (adf.Closed, ValueError)),
-            *((adf.NoSuchPath, KeyError), (adf.NotAFile, IsADirectoryError), (adf.Damaged, OSError), (adf.NotReached, LookupError)),
+            *((adf.NoSuchPath, KeyError), (adf.NotAFile, IsADirectoryError), (adf.Damaged, OSError)),
         ):
             self.assertTrue(issubclass(kind, adf.Error) and issubclass(kind, python))
         volume = adf.Volume(image_of())
@@ -343,9 +343,8 @@ class Surveys(unittest.TestCase):
                 first, second = survey.entries
                 self.assertEqual([entry.path.lower() for entry in survey.entries], ["a", "a"])
                 self.assertEqual((first.remains(), survey.remains("a")), ((b"1", []), (b"1", [])))
-                for call in (second.read, second.remains):
-                    with self.assertRaisesRegex(adf.NotReached, rf"^{chr(name)} \(block \d+\): an earlier entry has the same path$"):
-                        call()
+                self.assertEqual((second.is_sound, second.remains()), (False, (b"2", [])))
+                self.assertRaises(adf.Damaged, second.read)
 
     def test_reads_no_file_in_a_directory_of_another_one(self):
         sound = built("volume ofs 32\ndir 0:0:0 00000000 a\nfile 0:0:0 00000000 a/f\ndata 31\ndir 0:0:0 00000000 b\nfile 0:0:0 00000000 b/f\ndata 32\n")
@@ -353,25 +352,20 @@ class Surveys(unittest.TestCase):
         image[place + 433] = ord("a")
         survey = adf.survey(image)
         self.assertEqual([entry.path for entry in survey.entries], ["a", "a", "a/f", "a/f"])
-        self.assertEqual(survey.entries[2].read(), b"1")
-        with self.assertRaises(adf.NotReached):
-            survey.entries[3].read()
+        self.assertEqual([entry.read() for entry in survey.entries[2:]], [b"1", b"2"])
 
     def test_compares_names_by_the_type_of_the_image(self):
         # Of types 0 and 1 the names differ, of types 2 and 3 they are the same.
         sound = built("volume ofs 16\nfile 0:0:0 00000000 \\xe4\ndata 31\nfile 0:0:0 00000000 \\xc4\ndata 32\n")
         self.assertEqual({entry.read() for entry in adf.survey(sound).entries}, {b"1", b"2"})
         first, second = adf.survey(changed(sound, 0, 3, 2)).entries
-        self.assertEqual(first.remains()[0], b"1" if first.raw_name == b"\xe4" else b"2")
-        with self.assertRaises(adf.NotReached):
-            second.remains()
+        self.assertEqual([entry.remains()[0] for entry in (first, second)], [b"1", b"2"] if first.raw_name == b"\xe4" else [b"2", b"1"])
 
-    def test_reads_no_file_that_no_path_leads_to(self):
+    def test_reads_a_file_that_no_path_leads_to(self):
         sound = built("volume ofs 16\nfile 0:0:0 00000000 ab\ndata 31\n")
         for name in b"/:":
             (entry,) = adf.survey(changed(sound, adf.Volume(sound)["ab"].header, 433, name ^ ord("a"))).entries
-            with self.assertRaisesRegex(adf.NotReached, "no path can have this name"):
-                entry.remains()
+            self.assertEqual(entry.remains(), (b"1", []))
 
     def test_has_findings_as_a_list_has(self):
         findings = adf.survey(changed(changed(image_of(), 880, 440, 1), 0, 3, 2)).findings

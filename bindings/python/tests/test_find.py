@@ -65,14 +65,14 @@ class Find(Asked):
 
     def test_finds_texts_where_they_are_kept(self):
         self.catalogue("--index-text", "disks", "out", status=1)
-        startup = [(image, "s/startup-sequence") for image in ("games/copy.adf", "tools.adf")]
+        startup = [(image, "s/startup-sequence") for image in ("games/bad.adf", "games/copy.adf", "tools.adf")]
         self.assertEqual(self.find("--text", "HELLO", "wor", "out"), startup)
         self.assertEqual(self.find("--text", "nothing", "out", status=1), [])
         written("disks/new.adf", volume(("readme", b"gr\xfc\xdfe\n"), ("binary", b"gr\xfc\xdfe\0")))
         os.remove("disks/tools.adf")
         self.catalogue("disks", "out", status=1)
         self.assertEqual(self.find("--text", "gr\xfc\xdfe", "out"), [("new.adf", "readme")])
-        self.assertEqual(self.find("--text", "hello", "out"), [("a.zip/B\xfc.adf", "c/readme"), startup[0]])
+        self.assertEqual(self.find("--text", "hello", "out"), [("a.zip/B\xfc.adf", "c/readme"), *startup[:2]])
 
     def test_leaves_a_database_that_cannot_be_asked(self):
         written("out/collection.sqlite", b"no database" * 99)
@@ -105,7 +105,7 @@ class Queries(Asked):
             "path LIKE": startup,
             "HAVING COUNT(*) > 1": [(same, 2, "games/copy.adf, tools.adf")],
             "COUNT(DISTINCT sha256) > 1": [("free.adf, games/copy.adf, tools.adf",)],
-            "MIN(path)": [(4, "lemmings"), (4, "s/startup-sequence")],
+            "MIN(path)": [(4, "lemmings"), (4, "s/startup-sequence"), (2, "c/readme"), (2, "large")],
             "advice = 'read again'": [("disk.hdf/DH1", "block 32: bad sum", 0), ("games/bad.adf", "block 880: bad sum", 0)],
             "GROUP BY cause": [("bad sum", 2), ("bad type", 1), ("not dos", 1)],
             "fits": [("cut.adf", 870400, 901120)],

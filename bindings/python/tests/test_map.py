@@ -58,4 +58,4 @@ class Maps(Folder):
     def test_says_what_is_too_long(self):
         with open("a.adf", "wb") as file:
             file.truncate(adf.MOST_BYTES + 1)
-        self.assertEqual(self.run_tool("map", "a.adf").stderr, b"adf-map: a.adf: block 0: bad size\n")
+        self.assertEqual(self.run_tool("map", "a.adf").stderr, b"adf-map: a.adf: block 0: bad size; it has 536870913 bytes\n")

@@ -1,5 +1,6 @@
 """Tests of adf-mount's words, and of what it takes for a volume; trials/mount tries what it shows."""
 
+import glob
 import os
 import shlex
 import shutil
@@ -10,9 +11,9 @@ import unittest
 import adf
 from tests.shared import TOP, Folder, built, changed, image_of, written
 
-SOURCE = os.path.join(TOP, "bindings", "fuse", "mount.c")
+SOURCES = glob.glob(os.path.join(TOP, "bindings", "fuse", "*.c"))
 RIGID_DISK = {0: 0x5244534B, 1: 64, 4: 512, 7: 3, 32: 0, 33: 15}
-DRIVE = {0: 0x50415254, 1: 64, 4: 0xFFFFFFFF, 5: 1, 9: 0x03444830, 32: 16, 33: 128, 35: 1, 36: 1, 37: 16, 41: 1, 42: 1, 48: 0x444F5301}
+DRIVE = {0: 0x50415254, 1: 64, 4: 0xFFFFFFFF, 5: 1, 9: 0x03444830, 32: 16, 33: 128, 35: 1, 36: 1, 37: 16, 38: 2, 41: 1, 42: 1, 48: 0x444F5301}
 
 
 def flags():
@@ -20,7 +21,7 @@ def flags():
     if not (shutil.which("pkg-config") and shutil.which("cc") and shutil.which("fusermount3") and os.path.exists("/dev/fuse")):
         return None
     ran = subprocess.run(["pkg-config", "--cflags", "--libs", "fuse3"], stdout=subprocess.PIPE, stderr=subprocess.DEVNULL)
-    return shlex.split(ran.stdout.decode()) if ran.returncode == 0 and os.path.exists(SOURCE) else None
+    return shlex.split(ran.stdout.decode()) if ran.returncode == 0 and SOURCES else None
 
 
 def table(words):
@@ -37,7 +38,7 @@ class Mounts(Folder):
     def setUp(self):
         super().setUp()
         shutil.copy(adf.library_path(), adf.SONAME)
-        line = ["cc", "-std=c11", "-o", "adf-mount", "-I", os.path.join(TOP, "include"), SOURCE, os.path.abspath(adf.SONAME), *flags()]
+        line = ["cc", "-std=c11", "-o", "adf-mount", "-I", os.path.join(TOP, "include"), *SOURCES, os.path.abspath(adf.SONAME), *flags()]
         subprocess.run([*line, f"-Wl,-rpath,{os.getcwd()}"], check=True)
         os.mkdir("seen")
         self.addCleanup(subprocess.run, ["fusermount3", "-u", "-q", os.path.abspath("seen")], stderr=subprocess.DEVNULL)
@@ -69,7 +70,7 @@ class Mounts(Folder):
     def test_names_the_program_in_each_error(self):
         written("bad.adf", changed(image_of(), 880, 440, 1))
         for words, status, told in (
-            *((("bad.adf", "seen"), 1, "bad.adf: block 880: bad sum"), (("nix.adf", "seen"), 3, "nix.adf: No such file or directory")),
+            *((("--strict", "bad.adf", "seen"), 1, "bad.adf: block 880: bad sum"), (("nix.adf", "seen"), 3, "nix.adf: No such file or directory")),
             *((("a.adf", "bad.adf"), 3, "bad.adf: Not a directory"), (("seen", "seen"), 3, "seen: Is a directory")),
         ):
             self.assertEqual(self.mount(*words), (status, "", f"adf-mount: {told}\n"))

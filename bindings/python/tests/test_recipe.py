@@ -13,7 +13,7 @@ class Recipes(Folder):
             self.assertEqual(built(self.tool("recipe", given=image).decode()), adf.run(["convert", kind], image).output)
 
     def test_refuses(self):
-        self.refused(1, "block 880: bad sum", "recipe", given=changed(image_of(), 880, 440, 1))
+        self.refused(1, "block 880: bad sum", "recipe", "--strict", given=changed(image_of(), 880, 440, 1))
 
     def test_refuses_what_is_too_long(self):
         for parts, is_taken in ((240, True), (270, False)):

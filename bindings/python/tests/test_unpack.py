@@ -40,7 +40,7 @@ class Folders(Folder):
         os.mkdir("there")
         self.refused(3, "there: File exists", "unpack", "there", given=image_of())
         self.refused(3, "nix/new: No such file or directory", "unpack", "nix/new", given=image_of())
-        self.refused(1, "block 880: bad sum", "unpack", "new", given=changed(image_of(), 880, 440, 1))
+        self.refused(1, "block 880: bad sum", "unpack", "--strict", "new", given=changed(image_of(), 880, 440, 1))
         self.leaves("there")
 
 

@@ -1,7 +1,7 @@
 //! Small volumes, built by the library itself.
 
 use adf::{
-    remains, rescue, run, survey, Cause, Date, Disk, DiskCause, Kind, LeftOut, NotFound, PartitionFault, Reason, Refused,
+    open, remains, rescue, run, survey, Cause, Date, Disk, DiskCause, Kind, LeftOut, NotFound, PartitionFault, Reason, Refused,
     Remains, Role, Survey, Volume,
 };
 use std::fmt::Debug;
@@ -390,4 +390,23 @@ fn escape_forms_are_read_back() {
     for text in ["\\", "\\x", "\\x0", "\\x0g", "\\y00", "\\x+1", "\u{fc}", "\n"] {
         assert_eq!(adf::unescape(text), None, "{text}");
     }
+}
+
+#[test]
+fn what_stands_is_opened() {
+    let sound = image("ofs");
+    let opened = open(&sound).unwrap();
+    assert_eq!((opened.refused, opened.left_out, opened.volume.image()), (None, vec![], &sound[..]));
+
+    let header = Volume::check(&sound).unwrap().find("large").unwrap().header() as usize;
+    let mut damaged = sound.clone();
+    damaged[512 * header + 323] ^= 1;
+    let opened = open(&damaged).unwrap();
+    assert_eq!(opened.refused, Volume::check(&damaged).err());
+    assert_eq!(opened.volume.find("c/readme").unwrap().read(), b"Hello\n");
+    assert_eq!(opened.volume.find("large").err(), Some(NotFound::Nothing));
+    assert_eq!(opened.left_out, [LeftOut { reason: Reason::Damaged, path: b"large".to_vec() }]);
+
+    assert_eq!(open(&[]).err(), Some(Refused { cause: Cause::BadSize, block: 0 }));
+    assert_eq!(open(&[0; 8192]).err(), Some(Refused { cause: Cause::NotDos, block: 0 }));
 }

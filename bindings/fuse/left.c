@@ -1,0 +1,210 @@
+#define _GNU_SOURCE
+#include "left.h"
+
+#include "names.h"
+#include "survey.h"
+
+#include <errno.h>
+#include <stdio.h>
+#include <stdlib.h>
+#include <string.h>
+
+enum { BLOCK = 512 };
+
+/* A directory or file of the tree: its number among the entries that are found, that of its directory, and its name of the host. */
+struct place {
+    size_t parent;
+    size_t number;
+    char *name;
+};
+
+struct left {
+    uint8_t *image; /* with zeros for the blocks that were not given */
+    size_t blocks;
+    size_t given;
+    struct adf_found *found;
+    struct adf_surveyed surveyed;
+    struct adf_part *parts;
+    struct place *places;
+    size_t count;
+    size_t damaged;
+};
+
+/* An open file: its header, and its data blocks. */
+struct remains {
+    const struct left *left;
+    uint32_t header;
+    size_t count;
+    uint32_t blocks[];
+};
+
+/* Surveys the image, and marks as damaged each file that has a block that was not given. */
+static bool survey(struct left *left) {
+    struct adf_finding finding;
+    size_t length = left->blocks * BLOCK;
+    left->found = malloc((left->blocks + 1) * sizeof *left->found);
+    left->parts = calloc(left->blocks + 1, sizeof *left->parts);
+    if (left->found == NULL || left->parts == NULL ||
+        adf_survey_index(left->image, length, &finding, 1, left->found, left->blocks + 1, &left->surveyed) != ADF_ACCEPTED ||
+        adf_survey_parts(left->image, length, left->parts, left->blocks) != ADF_ACCEPTED)
+        return false;
+    for (size_t b = left->given; b < left->blocks; b++)
+        if (left->parts[b].node != 0)
+            left->found[left->parts[b].node - 1].is_sound = 0;
+    struct adf_found *less = realloc(left->found, (left->surveyed.entries + 1) * sizeof *left->found);
+    left->found = less == NULL ? left->found : less;
+    return true;
+}
+
+static int by_name(const void *one, const void *other) {
+    const struct place *first = one, *second = other;
+    if (first->parent != second->parent)
+        return first->parent < second->parent ? -1 : 1;
+    int difference = strcmp(first->name, second->name);
+    return difference != 0 ? difference : first->number < second->number ? -1 : first->number > second->number;
+}
+
+/* Gives each place but the first with a name the block of its header behind it. */
+static bool tell_apart(struct left *left) {
+    qsort(left->places, left->count, sizeof *left->places, by_name);
+    for (size_t i = left->count; i-- > 1;) {
+        struct place *place = &left->places[i];
+        if (place->parent != place[-1].parent || strcmp(place->name, place[-1].name) != 0)
+            continue;
+        char *name;
+        if (asprintf(&name, "%s.%lu", place->name, (unsigned long)left->found[place->number - 1].header) < 0)
+            return false;
+        free(place->name);
+        place->name = name;
+    }
+    qsort(left->places, left->count, sizeof *left->places, by_name);
+    return true;
+}
+
+/* Makes the places: each damaged file, and each directory that leads to one. */
+static bool make_places(struct left *left) {
+    size_t count = left->surveyed.entries;
+    bool *is_wanted = calloc(count + 1, sizeof *is_wanted);
+    left->places = malloc((count + 1) * sizeof *left->places);
+    if (is_wanted == NULL || left->places == NULL) {
+        free(is_wanted);
+        return false;
+    }
+    for (size_t i = count; i-- > 0;) { /* an entry comes behind its directory */
+        const struct adf_found *found = &left->found[i];
+        bool is_damaged = found->is_file && !found->is_sound;
+        left->damaged += is_damaged;
+        is_wanted[i] |= is_damaged;
+        if (is_wanted[i] && found->parent != 0)
+            is_wanted[found->parent - 1] = true;
+    }
+    bool has_room = true;
+    for (size_t i = 0; has_room && i < count; i++) {
+        char name[NAME_TEXT];
+        if (!is_wanted[i])
+            continue;
+        show_name(left->found[i].name, left->found[i].name_length, name);
+        struct place *place = &left->places[left->count];
+        *place = (struct place){.parent = left->found[i].parent, .number = i + 1, .name = strdup(name)};
+        has_room = place->name != NULL;
+        left->count += has_room;
+    }
+    free(is_wanted);
+    return has_room && tell_apart(left);
+}
+
+struct left *left_of(uint8_t *image, size_t length, size_t blocks) {
+    struct left *left = calloc(1, sizeof *left);
+    uint8_t *whole = blocks * BLOCK <= length ? image : realloc(image, blocks * BLOCK);
+    if (left == NULL || whole == NULL) {
+        free(left);
+        free(whole == NULL ? image : whole);
+        return NULL;
+    }
+    *left = (struct left){.image = whole, .blocks = blocks == 0 ? length / BLOCK : blocks, .given = length / BLOCK};
+    if (blocks * BLOCK > length)
+        memset(whole + length, 0, blocks * BLOCK - length);
+    if (survey(left) && make_places(left))
+        return left;
+    free_left(left);
+    return NULL;
+}
+
+void free_left(struct left *left) {
+    for (size_t i = 0; i < left->count; i++)
+        free(left->places[i].name);
+    free(left->places);
+    free(left->parts);
+    free(left->found);
+    free(left->image);
+    free(left);
+}
+
+size_t damaged_of(const struct left *left) { return left->damaged; }
+
+static size_t number_of(const struct left *left, long place) { return place == 0 ? 0 : left->places[place - 1].number; }
+
+/* The first place, from 0 on, that does not come before a name in a directory. */
+static size_t lower_bound(const struct left *left, size_t parent, const char *name) {
+    size_t low = 0, high = left->count;
+    while (low < high) {
+        size_t middle = low + (high - low) / 2;
+        const struct place *place = &left->places[middle];
+        if (place->parent < parent || (place->parent == parent && strcmp(place->name, name) < 0))
+            low = middle + 1;
+        else
+            high = middle;
+    }
+    return low;
+}
+
+long find_left(const struct left *left, const char *path) {
+    char *names = strdup(path), *rest = names, *name;
+    long place = names == NULL ? -1 : 0;
+    while (place >= 0 && (name = strsep(&rest, "/")) != NULL) {
+        if (*name == '\0')
+            continue;
+        size_t found = lower_bound(left, number_of(left, place), name);
+        bool is_there = found < left->count && left->places[found].parent == number_of(left, place);
+        place = is_there && strcmp(left->places[found].name, name) == 0 ? (long)found + 1 : -1;
+    }
+    free(names);
+    return place;
+}
+
+long first_left(const struct left *left, long place) { return (long)lower_bound(left, number_of(left, place), "") + 1; }
+long left_end(const struct left *left, long place) { return (long)lower_bound(left, number_of(left, place) + 1, "") + 1; }
+
+const char *left_name(const struct left *left, long place) { return left->places[place - 1].name; }
+const struct adf_found *left_entry(const struct left *left, long place) { return &left->found[left->places[place - 1].number - 1]; }
+
+size_t left_size(const struct left *left, long place) {
+    size_t size = left_entry(left, place)->size;
+    return size < left->blocks * BLOCK ? size : left->blocks * BLOCK;
+}
+
+int open_left(const struct left *left, long place, struct remains **opened) {
+    uint32_t header = left_entry(left, place)->header, none = 0;
+    size_t length = left->blocks * BLOCK, number = number_of(left, place);
+    size_t count = adf_found_blocks(left->image, length, left->parts, left->blocks, number, header, &none, 0);
+    struct remains *remains = malloc(sizeof *remains + (count + 1) * sizeof *remains->blocks);
+    if (remains == NULL)
+        return -ENOMEM;
+    *remains = (struct remains){.left = left, .header = header, .count = count};
+    adf_found_blocks(left->image, length, left->parts, left->blocks, number, header, remains->blocks, count);
+    for (size_t i = 0; i < count; i++)
+        if (remains->blocks[i] >= left->given)
+            remains->blocks[i] = ADF_NO_BLOCK;
+    *opened = remains;
+    return 0;
+}
+
+int read_remains(const struct remains *remains, char *room, size_t size, size_t offset) {
+    const struct left *left = remains->left;
+    size_t lost = 0;
+    size_t count = adf_found_read(left->image, left->blocks * BLOCK, remains->header, remains->blocks, remains->count, offset,
+                                  (uint8_t *)room, size, &lost);
+    return count == 0 && lost != 0 ? -EIO : (int)count;
+}
+
+void close_left(struct remains *remains) { free(remains); }

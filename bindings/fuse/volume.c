@@ -1,0 +1,180 @@
+#define _GNU_SOURCE
+#include "volume.h"
+
+#include "names.h"
+#include "survey.h"
+
+#include <errno.h>
+#include <stdio.h>
+#include <stdlib.h>
+#include <string.h>
+
+enum { BLOCK = 512, MOST_BLOCKS = 1048576, FLOPPY = 1760, HIGH_DENSITY = 3520 };
+
+/* A table with no more room than it needs, or as it is where that cannot be had. */
+static void *shrunk(void *table, size_t size) {
+    void *less = realloc(table, size);
+    return less == NULL ? table : less;
+}
+
+/* Checks the image and makes the tables, with the most room that they may take; what is not used is given back. */
+static uint8_t make_tables(struct volume *volume) {
+    size_t most = volume->length / BLOCK + 1;
+    volume->entries = malloc(most * sizeof *volume->entries);
+    volume->blocks = malloc(most * sizeof *volume->blocks);
+    if (volume->entries == NULL || volume->blocks == NULL)
+        return ADF_NO_MEMORY;
+    uint8_t cause = adf_index(volume->image, volume->length, volume->entries, most, volume->blocks, most, &volume->contents);
+    volume->entries = shrunk(volume->entries, (volume->contents.entries + 1) * sizeof *volume->entries);
+    volume->blocks = shrunk(volume->blocks, (volume->contents.data_blocks + 1) * sizeof *volume->blocks);
+    return cause;
+}
+
+void free_volume(struct volume *volume) {
+    free(volume->image);
+    free(volume->entries);
+    free(volume->blocks);
+    if (volume->left != NULL)
+        free_left(volume->left);
+    *volume = (struct volume){0};
+}
+
+static int say_no_memory(const char *name) {
+    if (name != NULL)
+        fprintf(stderr, "adf-mount: %s: no memory\n", name);
+    return FAILED;
+}
+
+/* Whether the survey finds a root where an image is read as if it had so many blocks. */
+static bool has_root(const uint8_t *image, size_t length, size_t blocks) {
+    struct adf_surveyed surveyed = {0};
+    struct adf_found found;
+    return survey_image(image, length, blocks, &found, 1, &surveyed) == ADF_ACCEPTED && surveyed.blocks != 0 &&
+           (surveyed.entries != 0 || surveyed.label_length != 0);
+}
+
+/* The blocks that an image of a wrong length may be meant to have, the nearest first; 0 where no root is found at any. */
+static size_t fitting_blocks(const uint8_t *image, size_t length) {
+    size_t count = length / BLOCK;
+    bool is_low = count < (FLOPPY + HIGH_DENSITY) / 2;
+    size_t tried[] = {is_low ? FLOPPY : HIGH_DENSITY, is_low ? HIGH_DENSITY : FLOPPY, count, count + 1};
+    for (size_t i = 0; i < sizeof tried / sizeof *tried; i++)
+        if (tried[i] * BLOCK != length && tried[i] <= MOST_BLOCKS && has_root(image, length, tried[i]))
+            return tried[i];
+    return 0;
+}
+
+/* Says why an image is refused as a whole, and what helps: REFUSED. */
+static int say_refused(const struct volume *volume, const char *name, uint8_t cause) {
+    uint8_t text[LONGEST_TEXT];
+    int length = (int)adf_cause_text(cause, text, sizeof text);
+    if (name == NULL)
+        return REFUSED;
+    fprintf(stderr, "adf-mount: %s: block %lu: %.*s", name, (unsigned long)volume->contents.block, length, (const char *)text);
+    bool is_odd = cause == ADF_BAD_SIZE || volume->contents.block == volume->length / BLOCK / 2;
+    size_t fits = is_odd ? fitting_blocks(volume->image, volume->length) : 0;
+    if (cause == ADF_BAD_SIZE || fits != 0)
+        fprintf(stderr, "; it has %zu bytes", volume->length);
+    if (fits != 0)
+        fprintf(stderr, ", and %zu would fit: --blocks %zu", fits * BLOCK, fits);
+    fputc('\n', stderr);
+    return REFUSED;
+}
+
+/* Says how much of an image is not in the volume of what stands, by the lines of the rescue. */
+static void say_left_out(const char *name, size_t findings, const char *lines) {
+    size_t files = 0, parts = 0;
+    for (const char *line = lines; *line != '\0'; line = strchr(line, '\n') + 1)
+        if (strncmp(line, "lost: ", 6) == 0)
+            parts++;
+        else
+            files++;
+    fprintf(stderr, "adf-mount: %s: %zu finding%s, %zu file%s left out", name, findings, findings == 1 ? "" : "s", files,
+            files == 1 ? "" : "s");
+    if (parts != 0)
+        fprintf(stderr, ", %zu part%s lost", parts, parts == 1 ? "" : "s");
+    fputs("; man adf-survey\n", stderr);
+}
+
+/* Says how much is left out of what stands of an image, by the lines of its rescue. Surveys the image for the number of its findings:
+ * false if memory ran out. */
+static bool tell(const struct volume *volume, const char *name, const struct taking *taking, const char *lines) {
+    struct adf_surveyed surveyed = {0};
+    struct adf_found found;
+    bool is_surveyed =
+        name == NULL || survey_image(volume->image, volume->length, taking->blocks, &found, 1, &surveyed) == ADF_ACCEPTED;
+    if (name != NULL && is_surveyed)
+        say_left_out(name, surveyed.findings, lines);
+    return is_surveyed;
+}
+
+/* Keeps what is left of the damaged files of an image, whose bytes it takes over. It is read as the rescue reads it: as a volume of
+ * the same kind, also where its first bytes say otherwise. False if memory ran out. */
+static bool keep_left(struct volume *volume, uint8_t *image, size_t length, size_t blocks) {
+    if (length > 3 && (memcmp(image, "DOS", 3) != 0 || image[3] % 2 != volume->contents.kind)) {
+        memcpy(image, "DOS", 3);
+        image[3] = (uint8_t)volume->contents.kind;
+    }
+    volume->left = left_of(image, length, blocks);
+    if (volume->left != NULL && damaged_of(volume->left) == 0) {
+        free_left(volume->left);
+        volume->left = NULL;
+        return true;
+    }
+    return volume->left != NULL;
+}
+
+/* Puts what stands of the image in its place. */
+static int take_rescue(struct volume *volume, const char *name, const struct taking *taking, uint8_t cause) {
+    static const char *const RESCUE[] = {"rescue", NULL};
+    struct volume given = *volume;
+    size_t room = taking->blocks == 0 ? given.length : taking->blocks * BLOCK;
+    struct answer answer = run_survey(given.image, given.length, taking->blocks, RESCUE, room);
+    bool is_run = answer.output != NULL && answer.status <= REFUSED, stands = is_run && answer.output_length != 0;
+    if (!stands || !tell(volume, name, taking, answer.errors)) {
+        free_answer(&answer);
+        return is_run && !stands ? say_refused(volume, name, cause) : say_no_memory(name);
+    }
+    *volume = (struct volume){.image = answer.output, .length = answer.output_length};
+    free(answer.errors);
+    bool is_kept = make_tables(volume) == ADF_ACCEPTED;
+    if (is_kept && taking->wants_left) {
+        is_kept = keep_left(volume, given.image, given.length, taking->blocks);
+        given.image = NULL;
+    }
+    free_volume(&given);
+    return is_kept ? SOUND : say_no_memory(name);
+}
+
+int take_volume(struct volume *volume, uint8_t *image, size_t length, const char *name, const struct taking *taking) {
+    size_t meant = taking->blocks == 0 ? length : taking->blocks * BLOCK;
+    *volume = (struct volume){.image = image, .length = length < meant ? length : meant};
+    uint8_t cause = make_tables(volume);
+    if (cause == ADF_NO_MEMORY)
+        return say_no_memory(name);
+    if (cause == ADF_ACCEPTED && (taking->is_strict || volume->length == meant))
+        return SOUND;
+    return taking->is_strict ? say_refused(volume, name, cause) : take_rescue(volume, name, taking, cause);
+}
+
+int find_entry(const struct volume *volume, const char *path, size_t *node) {
+    char *escaped = malloc(2 * strlen(path) + 1);
+    if (escaped == NULL)
+        return -ENOMEM;
+    escape_path(path, escaped);
+    uint8_t answer = adf_find(volume->entries, volume->contents.entries, (const uint8_t *)escaped, strlen(escaped), node);
+    free(escaped);
+    return answer == 0 ? 0 : answer == ADF_NO_MEMORY ? -ENOMEM : -ENOENT;
+}
+
+size_t first_in(const struct volume *volume, size_t directory) {
+    size_t low = 0, high = volume->contents.entries;
+    while (low < high) {
+        size_t middle = low + (high - low) / 2;
+        if (volume->entries[middle].parent < directory)
+            low = middle + 1;
+        else
+            high = middle;
+    }
+    return low;
+}
