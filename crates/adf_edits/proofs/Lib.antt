@@ -4,4 +4,5 @@ pub mod OutlineTrees
 pub mod Places
 pub mod PlacedInOrder
 pub mod RoomKept
+pub mod MovesKept
 pub mod PathsKept

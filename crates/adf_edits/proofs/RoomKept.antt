@@ -27,7 +27,7 @@ pub made_is : (fault : Option EditFault) (xs ys : List Addition) → unless faul
 made_is (Some f) xs ys h = cc
 made_is None xs ys h = (refl, cc)
 
-place_without_fault : (xs : List Addition) (path : List (List ℕ)) → room_fault xs path ≡ None → HasPlace xs path
+pub place_without_fault : (xs : List Addition) (path : List (List ℕ)) → room_fault xs path ≡ None → HasPlace xs path
 place_without_fault xs path h = elim (cases_Bool (length path == 0)) [
   | inl z ↦ let clash = rw z at h in cc
   | inr some ↦ elim (cases_Bool (leads_through_file xs path)) [

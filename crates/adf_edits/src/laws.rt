@@ -6,7 +6,7 @@ ghost use Rattle.adf_tree.specs.Additions.{Addition, AllHaveRoom, entries_of_add
 ghost use Rattle.adf_tree.specs.Paths.{content_at};
 ghost use Rattle.adf_tree.specs.Tree.{IsTree, Tree};
 ghost use Rattle.adf_edits.specs.Edits.{edited_additions};
-ghost use Rattle.adf_edits.specs.Edits.EditValue.{change, dir, file, label, remove};
+ghost use Rattle.adf_edits.specs.Edits.EditValue.{change, dir, file, label, move, remove};
 ghost use Rattle.adf_edits.specs.Outline.{outline_of, tree_of};
 ghost use Rattle.adf_edits.specs.declared.edits.Change.{Change};
 
@@ -16,7 +16,7 @@ pub fn outlines_have_their_trees()
     ensures room { (t : Tree) → IsTree t.entries → AllHaveRoom (outline_of t).additions }
 {}
 
-/// Where each addition has room, so it has after an edit that is applied and that moves nothing.
+/// Where each addition has room, so it has after an edit that is applied.
 pub fn edits_keep_room()
     ensures label { (text : List ℕ) (given : List ℕ) (xs ys : List Addition) → AllHaveRoom xs
         → edited_additions (label text) given xs ≡ Ok ys → AllHaveRoom ys }
@@ -28,6 +28,8 @@ pub fn edits_keep_room()
         → edited_additions (file path size) given xs ≡ Ok ys → AllHaveRoom ys }
     ensures remove { (path : List (List ℕ)) (given : List ℕ) (xs ys : List Addition) → AllHaveRoom xs
         → edited_additions (remove path) given xs ≡ Ok ys → AllHaveRoom ys }
+    ensures moves { (from to : List (List ℕ)) (given : List ℕ) (xs ys : List Addition) → AllHaveRoom xs
+        → edited_additions (move from to) given xs ≡ Ok ys → AllHaveRoom ys }
 {}
 
 /// After a removal each other path leads to what it led to, and the removed one to nothing.

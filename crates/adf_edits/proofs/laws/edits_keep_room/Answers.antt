@@ -1,5 +1,6 @@
 use Rattle.adf_tree.specs.declared.entry.Body.TheVariants.{Dir}
 use Rattle.adf_edits.specs.Edits.{file_of, new_addition}
+use Rattle.adf_edits.proofs.MovesKept.{move_kept}
 use Rattle.adf_edits.proofs.RoomKept.{change_kept, label_kept, new_kept, remove_kept}
 use Rattle.adf_edits.proofs.laws.edits_keep_room.Goals as goal
 
@@ -17,3 +18,6 @@ returns-clause-change c = λ path what given xs ys. change_kept path what xs ys
 
 pub returns-clause-remove : goal.returns-clause-remove
 returns-clause-remove c = λ path given xs ys. remove_kept path xs ys
+
+pub returns-clause-moves : goal.returns-clause-moves
+returns-clause-moves c = λ from to given xs ys. move_kept from to xs ys
