@@ -5,4 +5,5 @@ pub mod Places
 pub mod PlacedInOrder
 pub mod RoomKept
 pub mod MovesKept
+pub mod EditsKept
 pub mod PathsKept
