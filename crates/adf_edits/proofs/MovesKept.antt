@@ -1,6 +1,7 @@
 -- A move keeps room: what stays keeps its place, and what is moved has one behind it.
 -- Letters: xs are additions, front those before them, rest what stays; x, y additions; a, b, d, p, r paths; n a number of names.
-use Rattle.std.proofs.Common.{◌≡◌, ◌≢◌, ℕ, zero, suc, List, [], ◌∷◌, ◌++◌, inl, inr, ◌-◌, ◌<◌, ◌≤◌, ◌==◌, length, get_or, map, refl, sym, ap, subst, ◌∙◌, arith}
+use Rattle.std.proofs.Common.{◌≡◌, ◌≢◌, ℕ, zero, suc, List, [], ◌∷◌, ◌++◌, inl, inr, ◌-◌, ◌<◌, ◌≤◌, ◌==◌, length}
+use Rattle.std.proofs.Common.{get_or, map, refl, sym, ap, subst, ◌∙◌, arith}
 use Rattle.std.proofs.Common.{true, false, Bool, cond, drop, take, nat_le, not, None, Ok}
 use Rattle.std.specs.List.{filter, list_any, take-map}
 use Rattle.std.proofs.Math.Seq.{take-append_seam}
@@ -16,7 +17,8 @@ use Rattle.adf_tree.specs.Additions.{Addition, AllHaveRoom, same_path}
 use Rattle.adf_tree.specs.Tree.{is_dir_body, last_of, parents_of}
 use Rattle.adf_tree.proofs.AddRoom.{whole_path}
 use Rattle.adf_tree.proofs.Lists.{some_in}
-use Rattle.adf_edits.specs.Edits.{has_directory, has_path, is_at, is_directory, is_directory_at, is_within, move_fault, moved, rebased, room_fault, unless, without}
+use Rattle.adf_edits.specs.Edits.{has_directory, has_path, is_at, is_directory, is_directory_at, is_within, move_fault, moved}
+use Rattle.adf_edits.specs.Edits.{rebased, room_fault, unless, without}
 use Rattle.adf_edits.specs.Paths.{is_at_or_under, is_under}
 use Rattle.adf_edits.proofs.PlacedInOrder.{KeepsDirectory, PlacedAfter, any_kept, filtered_after, nothing_before, placed, roomy}
 use Rattle.adf_edits.proofs.Places.{HasPlace, same_paths, some_passes}

@@ -13,7 +13,8 @@ use Rattle.adf_tree.specs.declared.entry.Body.TheVariants.{Dir}
 use Rattle.adf_tree.specs.declared.entry.Entry.{Entry}
 use Rattle.adf_tree.specs.Additions.{Addition, IsTreeOf, content_of, same_path}
 use Rattle.adf_tree.specs.Paths.{Content, content_at, entry_content}
-use Rattle.adf_tree.specs.Tree.{IsDir, IsTree, child, directory_from, entry, find, find_from, is_dir, is_dir_body, last_of, new_entry, parents_of, room_for}
+use Rattle.adf_tree.specs.Tree.{IsDir, IsTree, child, directory_from, entry, find, find_from, is_dir}
+use Rattle.adf_tree.specs.Tree.{is_dir_body, last_of, new_entry, parents_of, room_for}
 use Rattle.adf_tree.proofs.AddRoom.{directory_is_dir, room_says, whole_path}
 use Rattle.adf_tree.proofs.ChildLookup.{child_says, found_is}
 use Rattle.adf_tree.proofs.Lists.{some_in}

@@ -1,6 +1,7 @@
 -- What an edit makes of additions that all have room, has room.
 -- Letters: xs are additions, ys what the edit makes of them; x, y are additions, front those before them.
-use Rattle.std.proofs.Common.{◌≡◌, ◌≢◌, ℕ, List, [], ◌∷◌, ◌++◌, inl, inr, ◌==◌, length, refl, sym, ap, subst, ◌∙◌, arith, true, false, Bool, Some, None, Ok}
+use Rattle.std.proofs.Common.{◌≡◌, ◌≢◌, ℕ, List, [], ◌∷◌, ◌++◌, inl, inr, ◌==◌, length, refl, sym, ap, subst}
+use Rattle.std.proofs.Common.{◌∙◌, arith, true, false, Bool, Some, None, Ok}
 use Rattle.std.proofs.Common.{Option, Result, not}
 use Rattle.std.proofs.Common.{◌-◌, get_or, map, nat_lt, take}
 use Rattle.std.specs.List.{All, list_any}
