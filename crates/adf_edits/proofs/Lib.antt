@@ -4,4 +4,6 @@ pub mod OutlineTrees
 pub mod Places
 pub mod PlacedInOrder
 pub mod RoomKept
+pub mod MovesKept
+pub mod EditsKept
 pub mod PathsKept

@@ -1,6 +1,7 @@
 -- After a removal each other path leads to what it led to, and the removed one to nothing.
 -- Letters: xs are additions, es their entries, us those of what stays; y an addition; q a path.
-use Rattle.std.proofs.Common.{◌≡◌, ◌≢◌, ℕ, List, [], ◌∷◌, inl, inr, get_or, map, refl, sym, ap, ◌∙◌, arith, true, false, Bool, None, Ok, Some, not, option_map}
+use Rattle.std.proofs.Common.{◌≡◌, ◌≢◌, ℕ, List, [], ◌∷◌, inl, inr, get_or, map, refl, sym, ap, ◌∙◌, arith}
+use Rattle.std.proofs.Common.{true, false, Bool, None, Ok, Some, not, option_map}
 use Rattle.std.specs.List.{All}
 use Rattle.std.proofs.lemmas.Bool.{cases_Bool}
 use Rattle.std.proofs.lemmas.List.Elements.{All-filter}

@@ -13,7 +13,8 @@ use Rattle.adf_tree.specs.declared.entry.Body.TheVariants.{Dir}
 use Rattle.adf_tree.specs.declared.entry.Entry.{Entry}
 use Rattle.adf_tree.specs.Additions.{Addition, IsTreeOf, content_of, same_path}
 use Rattle.adf_tree.specs.Paths.{Content, content_at, entry_content}
-use Rattle.adf_tree.specs.Tree.{IsDir, IsTree, child, directory_from, entry, find, find_from, is_dir, is_dir_body, last_of, new_entry, parents_of, room_for}
+use Rattle.adf_tree.specs.Tree.{IsDir, IsTree, child, directory_from, entry, find, find_from, is_dir}
+use Rattle.adf_tree.specs.Tree.{is_dir_body, last_of, new_entry, parents_of, room_for}
 use Rattle.adf_tree.proofs.AddRoom.{directory_is_dir, room_says, whole_path}
 use Rattle.adf_tree.proofs.ChildLookup.{child_says, found_is}
 use Rattle.adf_tree.proofs.Lists.{some_in}
@@ -99,10 +100,13 @@ content_from : (es : List Entry) (c : Content) (o : Option ℕ) → option_and_t
 content_from es c None h = cc
 content_from es c (Some n) h = let found = entry_from (entry es n) c h in (n, found.0, refl, found.1, found.2)
 
-entry_dir : (es : List Entry) (n : ℕ) (e : Entry) → entry es n ≡ Some e → is_dir es n ≡ is_dir_body e.body
-entry_dir es n e h =
+-- the entry of an addition that is a directory
+entry_dir : (es : List Entry) (n : ℕ) (e : Entry) (y : Addition) → entry es n ≡ Some e → entry_content e ≡ content_of y → is_dir_body y.body ≡ true
+    → is_dir es n ≡ true
+entry_dir es n e y h same dir =
     let says = entry_says es n e h in
-    dir_at es n e says.0 says.1 ∙ ap (λ (d : Entry). is_dir_body d.body) (says.2 e)
+    let body : is_dir_body e.body ≡ true = ap (λ (c : Content). is_dir_body c.body) same ∙ dir in
+    dir_at es n e says.0 says.1 ∙ (ap (λ (d : Entry). is_dir_body d.body) (says.2 e) ∙ body)
 
 -- room, told by the additions
 module _ (es : List Entry) (xs : List Addition) (t : IsTreeOf es xs) where
@@ -128,9 +132,7 @@ module _ (es : List Entry) (xs : List Addition) (t : IsTreeOf es xs) where
         let y : Addition = get_or xs one.0 d in
         let both = and_parts (is_dir_body y.body) (same_path y.path dir) (one.2 d) in
         let at = found_at dir one.0 d one.1 both.1 in
-        let body : is_dir_body at.1.body ≡ true = ap (λ (c : Content). is_dir_body c.body) at.4 ∙ both.0 in
-        let is : is_dir es at.0 ≡ true = entry_dir es at.0 at.1 at.3 ∙ body in
-        (at.0, find_dirs es 0 dir at.0 t.tree at.2 is)
+        (at.0, find_dirs es 0 dir at.0 t.tree at.2 (entry_dir es at.0 at.1 y at.3 at.4 both.0))
   ]
 
   no_child : (q : ℕ) (name : List ℕ) (o : Option ℕ) → child es q name ≡ o

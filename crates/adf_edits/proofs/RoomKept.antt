@@ -1,6 +1,7 @@
 -- What an edit makes of additions that all have room, has room.
 -- Letters: xs are additions, ys what the edit makes of them; x, y are additions, front those before them.
-use Rattle.std.proofs.Common.{◌≡◌, ◌≢◌, ℕ, List, [], ◌∷◌, ◌++◌, inl, inr, ◌==◌, length, refl, sym, ap, subst, ◌∙◌, arith, true, false, Bool, Some, None, Ok}
+use Rattle.std.proofs.Common.{◌≡◌, ◌≢◌, ℕ, List, [], ◌∷◌, ◌++◌, inl, inr, ◌==◌, length, refl, sym, ap, subst}
+use Rattle.std.proofs.Common.{◌∙◌, arith, true, false, Bool, Some, None, Ok}
 use Rattle.std.proofs.Common.{Option, Result, not}
 use Rattle.std.proofs.Common.{◌-◌, get_or, map, nat_lt, take}
 use Rattle.std.specs.List.{All, list_any}
@@ -27,7 +28,7 @@ pub made_is : (fault : Option EditFault) (xs ys : List Addition) → unless faul
 made_is (Some f) xs ys h = cc
 made_is None xs ys h = (refl, cc)
 
-place_without_fault : (xs : List Addition) (path : List (List ℕ)) → room_fault xs path ≡ None → HasPlace xs path
+pub place_without_fault : (xs : List Addition) (path : List (List ℕ)) → room_fault xs path ≡ None → HasPlace xs path
 place_without_fault xs path h = elim (cases_Bool (length path == 0)) [
   | inl z ↦ let clash = rw z at h in cc
   | inr some ↦ elim (cases_Bool (leads_through_file xs path)) [

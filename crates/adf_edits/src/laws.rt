@@ -5,10 +5,10 @@ ghost use Rattle.adf_names.specs.Texts.{uppers};
 ghost use Rattle.adf_tree.specs.Additions.{Addition, AllHaveRoom, entries_of_additions};
 ghost use Rattle.adf_tree.specs.Paths.{content_at};
 ghost use Rattle.adf_tree.specs.Tree.{IsTree, Tree};
-ghost use Rattle.adf_edits.specs.Edits.{edited_additions};
-ghost use Rattle.adf_edits.specs.Edits.EditValue.{change, dir, file, label, remove};
-ghost use Rattle.adf_edits.specs.Outline.{outline_of, tree_of};
-ghost use Rattle.adf_edits.specs.declared.edits.Change.{Change};
+ghost use Rattle.adf_tree.specs.declared.tree.AddFault.{AddFault};
+ghost use Rattle.adf_edits.specs.Edits.{EditValue, edited, edited_additions};
+ghost use Rattle.adf_edits.specs.Edits.EditValue.{remove};
+ghost use Rattle.adf_edits.specs.Outline.{IsWithoutRoom, OutlineValue, outline_of, tree_of};
 
 /// The outline of a tree has that tree, and each of its additions has room.
 pub fn outlines_have_their_trees()
@@ -16,18 +16,13 @@ pub fn outlines_have_their_trees()
     ensures room { (t : Tree) → IsTree t.entries → AllHaveRoom (outline_of t).additions }
 {}
 
-/// Where each addition has room, so it has after an edit that is applied and that moves nothing.
+/// Where each addition has room, so it has after an edit that is applied; and then `finish` has no fault but `NoMemory`.
 pub fn edits_keep_room()
-    ensures label { (text : List ℕ) (given : List ℕ) (xs ys : List Addition) → AllHaveRoom xs
-        → edited_additions (label text) given xs ≡ Ok ys → AllHaveRoom ys }
-    ensures change { (path : List (List ℕ)) (what : Change) (given : List ℕ) (xs ys : List Addition) → AllHaveRoom xs
-        → edited_additions (change path what) given xs ≡ Ok ys → AllHaveRoom ys }
-    ensures dir { (path : List (List ℕ)) (given : List ℕ) (xs ys : List Addition) → AllHaveRoom xs
-        → edited_additions (dir path) given xs ≡ Ok ys → AllHaveRoom ys }
-    ensures file { (path : List (List ℕ)) (size : ℕ) (given : List ℕ) (xs ys : List Addition) → AllHaveRoom xs
-        → edited_additions (file path size) given xs ≡ Ok ys → AllHaveRoom ys }
-    ensures remove { (path : List (List ℕ)) (given : List ℕ) (xs ys : List Addition) → AllHaveRoom xs
-        → edited_additions (remove path) given xs ≡ Ok ys → AllHaveRoom ys }
+    ensures additions { (edit : EditValue) (given : List ℕ) (xs ys : List Addition) → AllHaveRoom xs
+        → edited_additions edit given xs ≡ Ok ys → AllHaveRoom ys }
+    ensures outline { (edit : EditValue) (given : List ℕ) (o p : OutlineValue) → AllHaveRoom o.additions
+        → edited edit given o ≡ Ok p → AllHaveRoom p.additions }
+    ensures fault { (xs : List Addition) (f : AddFault) → AllHaveRoom xs → IsWithoutRoom xs f → ⊥ }
 {}
 
 /// After a removal each other path leads to what it led to, and the removed one to nothing.
