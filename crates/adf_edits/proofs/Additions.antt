@@ -74,6 +74,20 @@ pub refused : (o : OutlineValue) (xs ys : List Addition) (x : Addition) (t : Tre
 refused o xs ys x t f is all h ne =
     no_room o.additions xs ys x f all (subst (λ (v : Tree). IsAnswer (room_for v.entries x.path) (Err f)) is h) ne
 
+room_memory : (r : Result ℕ RoomFault) (f : AddFault) → IsAnswer r (Err f) → IsOk r → f ≡ NoMemory
+room_memory (Ok p) f h ok = h
+room_memory (Err g) f h ok = cc
+
+-- what has room is refused only for want of memory
+pub refused_for_memory : (o : OutlineValue) (xs ys : List Addition) (x : Addition) (t : Tree) (f : AddFault) → t ≡ tree_of (with_first o xs)
+    → xs ++ x ∷ ys ≡ o.additions → IsAnswer (room_for t.entries x.path) (Err f) → AllHaveRoom o.additions → f ≡ NoMemory
+refused_for_memory o xs ys x t f is all h room =
+    let long : length (xs ++ x ∷ ys) ≡ length xs + length (x ∷ ys) = length-append xs (x ∷ ys) in
+    let whole : AllHaveRoom (xs ++ x ∷ ys) = subst AllHaveRoom (sym all) room in
+    let ok : IsOk (room_for (entries_of_additions xs) x.path) =
+    rw (take-append_seam xs (x ∷ ys), get_or-append_seam xs x ys x) at (whole (length xs) x (omega (arith, long))) in
+    room_memory (room_for (entries_of_additions xs) x.path) f (subst (λ (v : Tree). IsAnswer (room_for v.entries x.path) (Err f)) is h) ok
+
 pub added_ok : (r : Result (Unit {0}) AddFault) (old new : Tree) (x : Addition)
     → new ≡ (if is_ok r then with_entry_in old x.path x.meta x.body else old) → OnOk r (new ≡ with_addition_in old x)
 added_ok (Ok u) old new x h = h

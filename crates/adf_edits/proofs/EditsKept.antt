@@ -1,13 +1,11 @@
--- Each edit that is applied keeps room, and where there is room there is no fault.
-use Rattle.std.proofs.Common.{◌≡◌, ℕ, List, Ok, Err, Result, ap, arith}
+-- Each edit that is applied keeps room.
+use Rattle.std.proofs.Common.{◌≡◌, ℕ, List, Ok, Err, Result, ap}
 use Rattle.adf_tree.specs.declared.entry.Body.TheVariants.{Dir}
-use Rattle.adf_tree.specs.declared.tree.AddFault.{AddFault}
 use Rattle.adf_tree.specs.Additions.{Addition, AllHaveRoom}
-use Rattle.adf_tree.proofs.Lists.{some_in}
 use Rattle.adf_edits.specs.declared.edits.EditFault.{EditFault}
 use Rattle.adf_edits.specs.Edits.{EditValue, edited, edited_additions, edited_label, file_of, new_addition, with_additions}
 use Rattle.adf_edits.specs.Edits.EditValue.{change, dir, file, label, move, remove}
-use Rattle.adf_edits.specs.Outline.{IsWithoutRoom, OutlineValue}
+use Rattle.adf_edits.specs.Outline.{OutlineValue}
 use Rattle.adf_edits.proofs.MovesKept.{move_kept}
 use Rattle.adf_edits.proofs.RoomKept.{change_kept, label_kept, new_kept, remove_kept}
 
@@ -31,8 +29,3 @@ pub outline_kept : (edit : EditValue) (given : List ℕ) (o p : OutlineValue) �
 outline_kept edit given o p room h =
     edit_kept edit given o.additions p.additions room
     (additions_made o p (edited_label edit o.label) (edited_additions edit given o.additions) h)
-
-pub no_fault : (xs : List Addition) (f : AddFault) → AllHaveRoom xs → IsWithoutRoom xs f → ⊥
-no_fault xs f room without =
-    let d : Addition = some_in xs (omega (arith, without.2)) in
-    let clash = rw (without.3 d) at (room without.0 d without.2) in cc

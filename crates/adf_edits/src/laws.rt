@@ -5,10 +5,9 @@ ghost use Rattle.adf_names.specs.Texts.{uppers};
 ghost use Rattle.adf_tree.specs.Additions.{Addition, AllHaveRoom, entries_of_additions};
 ghost use Rattle.adf_tree.specs.Paths.{content_at};
 ghost use Rattle.adf_tree.specs.Tree.{IsTree, Tree};
-ghost use Rattle.adf_tree.specs.declared.tree.AddFault.{AddFault};
 ghost use Rattle.adf_edits.specs.Edits.{EditValue, edited, edited_additions};
 ghost use Rattle.adf_edits.specs.Edits.EditValue.{remove};
-ghost use Rattle.adf_edits.specs.Outline.{IsWithoutRoom, OutlineValue, outline_of, tree_of};
+ghost use Rattle.adf_edits.specs.Outline.{OutlineValue, outline_of, tree_of};
 
 /// The outline of a tree has that tree, and each of its additions has room.
 pub fn outlines_have_their_trees()
@@ -16,13 +15,12 @@ pub fn outlines_have_their_trees()
     ensures room { (t : Tree) → IsTree t.entries → AllHaveRoom (outline_of t).additions }
 {}
 
-/// Where each addition has room, so it has after an edit that is applied; and then `finish` has no fault but `NoMemory`.
+/// Where each addition has room, so it has after an edit that is applied.
 pub fn edits_keep_room()
     ensures additions { (edit : EditValue) (given : List ℕ) (xs ys : List Addition) → AllHaveRoom xs
         → edited_additions edit given xs ≡ Ok ys → AllHaveRoom ys }
     ensures outline { (edit : EditValue) (given : List ℕ) (o p : OutlineValue) → AllHaveRoom o.additions
         → edited edit given o ≡ Ok p → AllHaveRoom p.additions }
-    ensures fault { (xs : List Addition) (f : AddFault) → AllHaveRoom xs → IsWithoutRoom xs f → ⊥ }
 {}
 
 /// After a removal each other path leads to what it led to, and the removed one to nothing.

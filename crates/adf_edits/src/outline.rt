@@ -129,10 +129,12 @@ impl Outline {
     }
 
     /// The tree of the outline. The fault of the first addition that has no room in the tree of those before it; or `NoMemory`.
+    /// Where each addition has room, as in the outline of a tree after edits, `NoMemory` is the only fault.
     pub fn finish(self, alloc: Global) -> Result<Tree, AddFault>
         ensures room { OnOk result (AllHaveRoom self.additions) }
         ensures tree { IfOk result (λ t. t ≡ tree_of self) }
         ensures fault { IfErr result (λ f. f ≢ AddFault.NoMemory → IsWithoutRoom self.additions f) }
+        ensures memory { IfErr result (λ f. AllHaveRoom self.additions → f ≡ AddFault.NoMemory) }
     {
         let mut draft = Draft::new(alloc, self.kind, self.label, self.stamps);
         for item in self.items {

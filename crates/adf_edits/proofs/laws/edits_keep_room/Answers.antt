@@ -1,4 +1,4 @@
-use Rattle.adf_edits.proofs.EditsKept.{edit_kept, no_fault, outline_kept}
+use Rattle.adf_edits.proofs.EditsKept.{edit_kept, outline_kept}
 use Rattle.adf_edits.proofs.laws.edits_keep_room.Goals as goal
 
 pub returns-clause-additions : goal.returns-clause-additions
@@ -6,6 +6,3 @@ returns-clause-additions c = edit_kept
 
 pub returns-clause-outline : goal.returns-clause-outline
 returns-clause-outline c = outline_kept
-
-pub returns-clause-fault : goal.returns-clause-fault
-returns-clause-fault c = no_fault

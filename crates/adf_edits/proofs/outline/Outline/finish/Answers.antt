@@ -1,6 +1,6 @@
 use Rattle.std.proofs.Common.{◌≡◌, ◌++◌, ◌∷◌, arith, append_assoc}
 use Rattle.std.proofs.lemmas.Grind.{common_steps}
-use Rattle.adf_edits.proofs.Additions.{grown, room_grown, refused}
+use Rattle.adf_edits.proofs.Additions.{grown, room_grown, refused, refused_for_memory}
 use Rattle.adf_edits.proofs.outline.Outline.finish.Goals as goal
 
 pub returns-in-Err-clause-fault : goal.returns-in-Err-clause-fault
@@ -9,6 +9,13 @@ returns-in-Err-clause-fault c = λ ne.
     grind (arith, common_steps, append_assoc) in
     refused c.args.self c.loop-item.yielded c.next.new.self.rest.items c.in-Some.item c.loop-item.draft.tree c.in-Err.fault c.loop-item.invariant.tree
     all c.in-Err.ensures.answer ne
+
+pub returns-in-Err-clause-memory : goal.returns-in-Err-clause-memory
+returns-in-Err-clause-memory c = λ room.
+    let all : c.loop-item.yielded ++ c.in-Some.item ∷ c.next.new.self.rest.items ≡ c.args.self.additions =
+    grind (arith, common_steps, append_assoc) in
+    refused_for_memory c.args.self c.loop-item.yielded c.next.new.self.rest.items c.in-Some.item c.loop-item.draft.tree c.in-Err.fault
+    c.loop-item.invariant.tree all c.in-Err.ensures.answer room
 
 pub loop-item-preserved : goal.loop-item-preserved
 loop-item-preserved c = record {
