@@ -7,4 +7,3 @@ pub mod EntryLines
 pub mod AnswerLaws
 pub mod LongInputs
 pub mod OneAnswer
-pub mod SomeAnswer

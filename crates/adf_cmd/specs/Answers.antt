@@ -121,10 +121,6 @@ WordsAskForOneRequest = (words : List (List ℕ)) (r r' : RequestValue) → Asks
 abbrev pub RequestsHaveOneAnswer : Type 0
 RequestsHaveOneAnswer = (r : RequestValue) (input : List ℕ) (a b : Reply) → Answer r input a → Answer r input b → a ≡ b
 
--- the request and the input have an answer
-abbrev pub HasAnswer : RequestValue → List ℕ → Type 0
-HasAnswer r input = (reply : Reply) × Answer r input reply
-
 -- the most bytes of the input that belong to an answer: those of the largest image or manifest
 abbrev pub limit_of : RequestValue → ℕ
 limit_of (build lines) = most_bytes

@@ -17,7 +17,7 @@ pub use crate::copying::{ROOM, write_through};
 pub use crate::images::{MOST_IMAGE_BYTES, volume_of};
 pub use crate::listing::write_listing;
 pub use crate::round_trip::build_and_read;
-pub use crate::runner::{one_answer, run, some_answer};
+pub use crate::runner::{one_answer, run};
 pub use crate::work::Work;
 pub use adf_manifest::{ManifestFault, ManifestKind, read_manifest};
 pub use adf_runs::{

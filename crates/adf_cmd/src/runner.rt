@@ -1,9 +1,8 @@
 // The whole command.
 
-ghost use Rattle.std.specs.Prelude.{◌≡◌, ℕ, List, false, true};
-ghost use Rattle.adf_names.specs.PathTexts.{IsPathText};
-ghost use Rattle.adf_cmd.specs.Answers.{HasAnswer, IsBadPath, RequestsHaveOneAnswer, WordsAskForOneRequest, adf_command};
-ghost use Rattle.adf_words.specs.CommandLine.{cat, check, list, texts_of};
+ghost use Rattle.std.specs.Prelude.{◌≡◌, false, true};
+ghost use Rattle.adf_cmd.specs.Answers.{RequestsHaveOneAnswer, WordsAskForOneRequest, adf_command};
+ghost use Rattle.adf_words.specs.CommandLine.{texts_of};
 ghost use Rattle.adf_runs.specs.Commands.{IsUnanswered, RunEnds, TakesEnough};
 
 use crate::work::Work;
@@ -44,13 +43,4 @@ pub fn run<R: Source, W: Sink, E: Sink>(
 pub fn one_answer()
     ensures request { WordsAskForOneRequest }
     ensures answer { RequestsHaveOneAnswer }
-{}
-
-/// Each image has an answer to `check`, to `list`, and to `cat` of a path and of a text that is that of no path.
-pub fn some_answer()
-    ensures check { (image : List ℕ) → HasAnswer check image }
-    ensures list { (image : List ℕ) → HasAnswer list image }
-    ensures cat { (path : List ℕ) (names : List (List ℕ)) (image : List ℕ)
-        → IsPathText path names → HasAnswer (cat path) image }
-    ensures bad_path { (path image : List ℕ) → IsBadPath path → HasAnswer (cat path) image }
 {}

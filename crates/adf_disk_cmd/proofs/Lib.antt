@@ -1,7 +1,6 @@
 pub mod Endings
 pub mod CheckedLines
 pub mod OneAnswer
-pub mod SomeAnswer
 pub mod HeldTables
 pub mod NewVolumes
 pub mod BuiltDisks

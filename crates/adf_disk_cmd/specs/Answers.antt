@@ -91,10 +91,6 @@ WordsAskForOneDiskRequest = (words : List (List ℕ)) (r q : DiskRequestValue) �
 abbrev pub DiskRequestsHaveOneAnswer : Type 0
 DiskRequestsHaveOneAnswer = (r : DiskRequestValue) (input : List ℕ) (a b : Reply) → DiskAnswer r input a → DiskAnswer r input b → a ≡ b
 
--- a request and an input have an answer
-abbrev pub DiskRequestsHaveAnAnswer : Type 0
-DiskRequestsHaveAnAnswer = (r : DiskRequestValue) (input : List ℕ) → (reply : Reply) × DiskAnswer r input reply
-
 -- what errors get where the words are refused
 abbrev pub disk_usage : List ℕ
 disk_usage =

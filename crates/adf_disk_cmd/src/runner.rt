@@ -1,7 +1,7 @@
 // The whole command.
 
 ghost use Rattle.std.specs.Prelude.{◌≡◌, ℕ, List, Some, false, true};
-ghost use Rattle.adf_disk_cmd.specs.Answers.{DiskRequestsHaveAnAnswer, DiskRequestsHaveOneAnswer, WordsAskForOneDiskRequest, disk_command, disk_without_files};
+ghost use Rattle.adf_disk_cmd.specs.Answers.{DiskRequestsHaveOneAnswer, WordsAskForOneDiskRequest, disk_command, disk_without_files};
 ghost use Rattle.adf_runs.specs.Commands.{IsUnanswered, RunEnds, TakesEnough};
 ghost use Rattle.adf_runs.specs.FileRuns.{RunEndsOnFiles};
 ghost use Rattle.adf_words.specs.CommandLine.{texts_of};
@@ -75,9 +75,4 @@ pub fn run<R: Source, W: Sink, E: Sink>(
 pub fn one_answer()
     ensures request { WordsAskForOneDiskRequest }
     ensures answer { DiskRequestsHaveOneAnswer }
-{}
-
-/// What is asked of a disk or of a plan has an answer, whatever the bytes.
-pub fn some_answer()
-    ensures { DiskRequestsHaveAnAnswer }
 {}

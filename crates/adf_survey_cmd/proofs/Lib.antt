@@ -4,7 +4,6 @@ pub mod FindingStatus
 pub mod FoundTexts
 pub mod LongSurveys
 pub mod OneAnswer
-pub mod SomeAnswer
 pub mod RescueAnswers
 pub mod SizedImages
 pub mod Subjects

@@ -110,10 +110,6 @@ WordsAskForOneInquiry = (words : List (List ℕ)) (r q : InquiryValue) → AsksS
 abbrev pub InquiriesHaveOneAnswer : Type 0
 InquiriesHaveOneAnswer = (r : InquiryValue) (input : List ℕ) (a b : Reply) → SurveyAnswer r input a → SurveyAnswer r input b → a ≡ b
 
--- what is asked of the image has an answer
-abbrev pub HasSurveyAnswer : InquiryValue → List ℕ → Type 0
-HasSurveyAnswer r input = (reply : Reply) × SurveyAnswer r input reply
-
 -- what errors get where the words are refused
 abbrev pub survey_usage : List ℕ
 survey_usage =

@@ -12,7 +12,7 @@ mod runs;
 mod subject;
 mod work;
 
-pub use crate::runner::{one_answer, run, run_files, some_answer};
+pub use crate::runner::{one_answer, run, run_files};
 pub use crate::runs::{Run, run_from};
 pub use crate::subject::Subject;
 pub use crate::work::{Task, View, Work};

@@ -1,12 +1,11 @@
 // The whole command.
 
-ghost use Rattle.std.specs.Prelude.{◌≡◌, ℕ, Bool, List, Option, Some, false, true};
+ghost use Rattle.std.specs.Prelude.{◌≡◌, ℕ, List, Some, false, true};
 ghost use Rattle.adf_words.specs.CommandLine.{texts_of};
-ghost use Rattle.adf_words.specs.SurveyLine.{asked, cat, report, survey_file};
-ghost use Rattle.adf_cmd.specs.Answers.{IsBadPath};
+ghost use Rattle.adf_words.specs.SurveyLine.{survey_file};
 ghost use Rattle.adf_runs.specs.Commands.{IsUnanswered, RunEnds, TakesEnough};
 ghost use Rattle.adf_runs.specs.FileRuns.{RunEndsOnFiles};
-ghost use Rattle.adf_survey_cmd.specs.Answers.{HasSurveyAnswer, InquiriesHaveOneAnswer, WordsAskForOneInquiry, survey_command, survey_without_files};
+ghost use Rattle.adf_survey_cmd.specs.Answers.{InquiriesHaveOneAnswer, WordsAskForOneInquiry, survey_command, survey_without_files};
 
 use crate::work::Work;
 use adf_runs::{Files, Sink, Source, WithoutFiles, run_program, run_program_on_files};
@@ -76,11 +75,4 @@ pub fn run<R: Source, W: Sink, E: Sink>(
 pub fn one_answer()
     ensures request { WordsAskForOneInquiry }
     ensures answer { InquiriesHaveOneAnswer }
-{}
-
-/// Each image has an answer to `adf-survey` without a question, and to `cat` of a text that is that of no path.
-pub fn some_answer()
-    ensures report { (blocks : Option ℕ) (input : List ℕ) → HasSurveyAnswer (asked blocks report) input }
-    ensures bad_path { (blocks : Option ℕ) (damaged : Bool) (path input : List ℕ) → IsBadPath path
-        → HasSurveyAnswer (asked blocks (cat damaged path)) input }
 {}

@@ -1,6 +1,6 @@
--- What is asked of a disk has an answer. ps are its partitions, p is one of them.
+-- What is asked of a disk has an answer of `adf-disk`. ps are its partitions, p is one of them.
 use Rattle.std.proofs.Common.{◌&&◌, ◌++◌, ◌/◌, ℕ, Bool, true, false, List, [], ◌∷◌, Option, None, Some, Result, Ok, Err, codes, inl, inr, length, refl, take}
-use Rattle.adf_cmd.proofs.SomeAnswer.{checked}
+use Rattle.adf_answers.proofs.Images.{checked}
 use Rattle.adf_cmd.specs.Answers.{Answer}
 use Rattle.adf_partitions.proofs.SomeReadings.{some_disk, some_reading}
 use Rattle.adf_partitions.proofs.SomeTexts.{some_text}

@@ -1,4 +1,4 @@
--- Each image is answered.
+-- Each image has an answer of `adf`.
 use Rattle.std.proofs.Common.{◌≡◌, ◌⊎◌, ℕ, List, Option, None, Some, codes, inl, inr, refl}
 use Rattle.adf_blocks.specs.Sizes.{blocks}
 use Rattle.adf_blocks.specs.declared.cause.Cause.{Cause}
@@ -13,7 +13,8 @@ use Rattle.adf_texts.specs.Lines.{fault_line, ok_line}
 use Rattle.adf_texts.specs.VolumeLines.{volume_lines}
 use Rattle.adf_runs.specs.Commands.{Reply, bad_path, on_errors, on_output}
 use Rattle.adf_words.specs.CommandLine.{cat, check, list}
-use Rattle.adf_cmd.specs.Answers.{Copies, HasAnswer, IsBadPath, RefusesImage, contents_at}
+use Rattle.adf_cmd.specs.Answers.{Copies, IsBadPath, RefusesImage, contents_at}
+use Rattle.adf_answers.specs.Answered.{HasAnswer}
 use Rattle.adf_cmd.proofs.AnswerLaws.{listed}
 
 abbrev fault_at : ℕ → Cause → Fault

@@ -1,10 +1,11 @@
--- What is asked of an image has an answer. s, t are what is surveyed.
+-- What is asked of an image has an answer of `adf-survey`. s, t are what is surveyed.
 use Rattle.std.proofs.Common.{ℕ, Bool, List, Option, inl, refl}
 use Rattle.adf_findings.proofs.SomeSurvey.{some_survey}
 use Rattle.adf_runs.specs.Commands.{Reply, bad_path, on_output}
 use Rattle.adf_words.specs.SurveyLine.{asked, cat, report}
 use Rattle.adf_cmd.specs.Answers.{IsBadPath}
-use Rattle.adf_survey_cmd.specs.Answers.{HasSurveyAnswer, Surveys, told_status}
+use Rattle.adf_survey_cmd.specs.Answers.{Surveys, told_status}
+use Rattle.adf_answers.specs.Answered.{HasSurveyAnswer}
 use Rattle.adf_survey_cmd.specs.Subject.{IsTyped, OfTyped, SubjectValue, begun_subject, subject, told_text, typed_subject}
 
 some_typed : (s : SubjectValue) → (t : SubjectValue) × IsTyped s t

@@ -1,0 +1,4 @@
+-- each command
+pub mod Images
+pub mod Disks
+pub mod SurveyedImages

@@ -1,0 +1,31 @@
+// The laws of answers. Each is the contract of a function that does nothing at run time. Beside each stands the law `one_answer` of
+// its command: there is one answer at most.
+
+ghost use Rattle.std.specs.Prelude.{ℕ, Bool, List, Option};
+ghost use Rattle.adf_names.specs.PathTexts.{IsPathText};
+ghost use Rattle.adf_cmd.specs.Answers.{IsBadPath};
+ghost use Rattle.adf_words.specs.CommandLine.{cat, check, list};
+ghost use Rattle.adf_words.specs.DiskLine.{DiskRequestValue};
+ghost use Rattle.adf_words.specs.SurveyLine.{asked, report, cat as cat_of_survey};
+ghost use Rattle.adf_answers.specs.Answered.{HasAnswer, HasDiskAnswer, HasSurveyAnswer};
+
+/// Each image has an answer of `adf` to `check`, to `list`, and to `cat` of a path and of a text that is that of no path.
+pub fn some_answer()
+    ensures check { (image : List ℕ) → HasAnswer check image }
+    ensures list { (image : List ℕ) → HasAnswer list image }
+    ensures cat { (path : List ℕ) (names : List (List ℕ)) (image : List ℕ)
+        → IsPathText path names → HasAnswer (cat path) image }
+    ensures bad_path { (path image : List ℕ) → IsBadPath path → HasAnswer (cat path) image }
+{}
+
+/// Whatever is asked of a disk or of a plan has an answer of `adf-disk`.
+pub fn some_disk_answer()
+    ensures { (r : DiskRequestValue) (input : List ℕ) → HasDiskAnswer r input }
+{}
+
+/// Each image has an answer of `adf-survey` without a question, and to `cat` of a text that is that of no path.
+pub fn some_survey_answer()
+    ensures report { (blocks : Option ℕ) (input : List ℕ) → HasSurveyAnswer (asked blocks report) input }
+    ensures bad_path { (blocks : Option ℕ) (damaged : Bool) (path input : List ℕ) → IsBadPath path
+        → HasSurveyAnswer (asked blocks (cat_of_survey damaged path)) input }
+{}
