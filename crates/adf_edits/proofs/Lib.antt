@@ -6,4 +6,5 @@ pub mod PlacedInOrder
 pub mod RoomKept
 pub mod MovesKept
 pub mod EditsKept
+pub mod FirstAt
 pub mod PathsKept

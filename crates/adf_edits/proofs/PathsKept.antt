@@ -1,67 +1,96 @@
--- After a removal each other path leads to what it led to, and the removed one to nothing.
--- Letters: xs are additions, es their entries, us those of what stays; y an addition; q a path.
-use Rattle.std.proofs.Common.{◌≡◌, ◌≢◌, ℕ, List, [], ◌∷◌, inl, inr, get_or, map, refl, sym, ap, ◌∙◌, arith}
-use Rattle.std.proofs.Common.{true, false, Bool, None, Ok, Some, not, option_map}
-use Rattle.std.specs.List.{All}
-use Rattle.std.proofs.lemmas.Bool.{cases_Bool}
-use Rattle.std.proofs.lemmas.List.Elements.{All-filter}
+-- What each path leads to after a removal, an addition, a change or a new label.
+-- Letters: xs are additions, ys what the edit makes of them; x, y additions; q a path.
+use Rattle.std.proofs.Common.{◌≡◌, ◌≢◌, ℕ, List, [], ◌∷◌, ◌++◌, inl, inr, map, refl, sym, ap, ◌∙◌}
+use Rattle.std.proofs.Common.{true, false, Bool, None, Ok, Some, Option, Result, not, option_map}
+use Rattle.std.specs.List.{find}
+use Rattle.std.specs.Option.{option_or}
+use Rattle.std.proofs.lemmas.Bool.{cases_Bool, false_from_ne_true}
+use Rattle.std.proofs.lemmas.Iterator.Adapters.{option_map_id}
+use Rattle.std.proofs.lemmas.List.Folds.{find-append}
 use Rattle.adf_names.specs.Texts.{uppers}
-use Rattle.adf_tree.specs.declared.entry.Entry.{Entry}
-use Rattle.adf_tree.specs.Additions.{Addition, AllHaveRoom, IsTreeOf, content_of, entries_of_additions}
-use Rattle.adf_tree.specs.Paths.{content_at, entry_content}
-use Rattle.adf_tree.specs.Tree.{entry}
-use Rattle.std.specs.Option.{option_and_then}
-use Rattle.adf_tree.proofs.Lists.{some_in}
-use Rattle.adf_tree.proofs.PathContents.{find_uppers}
-use Rattle.adf_tree.proofs.TreeOfAdditions.{all_built}
-use Rattle.adf_edits.specs.Edits.{has_path, is_at, remove_fault, removed, unless}
-use Rattle.adf_edits.proofs.PlacedInOrder.{any_fewer, any_kept}
-use Rattle.adf_edits.proofs.Places.{nothing_at, same_paths, some_passes}
-use Rattle.adf_edits.proofs.RoomKept.{made_is, remove_kept}
+use Rattle.adf_tree.specs.Additions.{Addition, AllHaveRoom, content_of, entries_of_additions, same_path}
+use Rattle.adf_tree.specs.Paths.{Content, content_at}
+use Rattle.adf_edits.specs.declared.edits.Change.{Change}
+use Rattle.adf_edits.specs.declared.edits.EditFault.{EditFault}
+use Rattle.adf_edits.specs.Edits.{change_fault, changed, changed_at, changed_if, is_at, remove_fault, removed, room_fault, unless, with_new}
+use Rattle.adf_edits.proofs.FirstAt.{content_done, first_kept, first_left_out, first_mapped, none_first, or_nothing, told}
+use Rattle.adf_edits.proofs.Places.{same_paths}
+use Rattle.adf_edits.proofs.RoomKept.{change_kept, made_is, new_kept, place_without_fault, remove_kept}
 
-none_left : (path : List (List ℕ)) (xs : List Addition) → has_path (removed path xs) path ≡ false
-none_left path [] = refl
-none_left path (x ∷ xs) = elim (cases_Bool (is_at path x)) [
-  | inl t ↦ rw t (none_left path xs)
-  | inr f ↦ rw (f, f) (none_left path xs)
-]
+-- what has one path does not have another
+pub not_both : (a b : List (List ℕ)) (y : Addition) → map uppers a ≢ map uppers b → is_at a y ≡ true → is_at b y ≡ false
+not_both a b y far at = false_from_ne_true (is_at b y) (λ t. far (sym ((same_paths y.path a).0 at) ∙ (same_paths y.path b).0 t))
 
--- paths that are equal ignoring case have the same content
-content_uppers : (es : List Entry) (a b : List (List ℕ)) → map uppers a ≡ map uppers b → content_at es a ≡ content_at es b
-content_uppers es a b same = ap (option_and_then (λ n. option_map entry_content (entry es n))) (find_uppers es 0 a b same)
-
--- an addition that both lists have is told alike by both trees
-told_alike : (es us : List Entry) (ys : List Addition) (q : List (List ℕ)) → IsTreeOf us ys → All (λ y. content_at es y.path ≡ Some (content_of y)) ys
-    → has_path ys q ≡ true → content_at us q ≡ content_at es q
-told_alike es us ys q t there h =
-    let one = some_passes (is_at q) ys h in
-    let d : Addition = some_in ys (omega (arith, one.1)) in
-    let y : Addition = get_or ys one.0 d in
-    let same : map uppers y.path ≡ map uppers q = (same_paths y.path q).0 (one.2 d) in
-    content_uppers us q y.path (sym same) ∙ (t.there one.0 d one.1 ∙ (sym (there one.0 d one.1) ∙ content_uppers es y.path q same))
+-- removals
 
 module _ (path : List (List ℕ)) (xs ys : List Addition) (room : AllHaveRoom xs)
     (h : unless (remove_fault xs path) (removed path xs) ≡ Ok ys) where
-  left : IsTreeOf (entries_of_additions ys) (removed path xs)
-  left = rw (made_is (remove_fault xs path) (removed path xs) ys h).1 (all_built ys (remove_kept path xs ys room h))
+  left : (q : List (List ℕ)) → content_at (entries_of_additions ys) q ≡ option_map content_of (find (is_at q) (removed path xs))
+  left q =
+      told ys (remove_kept path xs ys room h) q
+      ∙ ap (λ us. option_map content_of (find (is_at q) us)) (sym (made_is (remove_fault xs path) (removed path xs) ys h).1)
 
   pub gone : content_at (entries_of_additions ys) path ≡ None
-  gone = nothing_at (entries_of_additions ys) (removed path xs) left path (none_left path xs)
+  gone = left path ∙ ap (option_map content_of) (first_left_out (is_at path) (is_at path) xs (λ y at. at))
 
   pub others_kept : (q : List (List ℕ)) → map uppers q ≢ map uppers path
       → content_at (entries_of_additions ys) q ≡ content_at (entries_of_additions xs) q
   others_kept q far =
-      let stays : Addition → Bool = λ y. not (is_at path y) in
-      let was : IsTreeOf (entries_of_additions xs) xs = all_built xs room in
-      elim (cases_Bool (has_path xs q)) [
-        | inr none ↦
-            nothing_at (entries_of_additions ys) (removed path xs) left q (any_fewer (is_at q) stays xs none)
-            ∙ sym (nothing_at (entries_of_additions xs) xs was q none)
-        | inl there ↦
-            let kept : has_path (removed path xs) q ≡ true = any_kept (is_at q) stays xs (λ y at. elim (cases_Bool (is_at path y)) [
-              | inr f ↦ rw f refl
-              | inl t ↦ absurd (far (sym ((same_paths y.path q).0 at) ∙ (same_paths y.path path).0 t))
-            ]) ∙ there in
-            told_alike (entries_of_additions xs) (entries_of_additions ys) (removed path xs) q left
-            (All-filter stays (λ y. content_at (entries_of_additions xs) y.path ≡ Some (content_of y)) xs was.there) kept
-      ]
+      left q
+      ∙ (ap (option_map content_of) (first_kept (is_at q) (λ y. not (is_at path y)) xs (λ y at. rw (not_both q path y far at) refl))
+      ∙ sym (told xs room q))
+
+-- additions
+
+module _ (x : Addition) (xs ys : List Addition) (room : AllHaveRoom xs) (h : with_new x xs ≡ Ok ys) where
+  more : (q : List (List ℕ))
+      → content_at (entries_of_additions ys) q ≡ option_map content_of (option_or (find (is_at q) xs) (find (is_at q) (x ∷ [])))
+  more q =
+      told ys (new_kept x xs ys room h) q
+      ∙ ap (option_map content_of) (ap (find (is_at q)) (sym (made_is (room_fault xs x.path) (xs ++ x ∷ []) ys h).1)
+      ∙ find-append (is_at q) xs (x ∷ []))
+
+  pub new_there : content_at (entries_of_additions ys) x.path ≡ Some (content_of x)
+  new_there =
+      let place = place_without_fault xs x.path (made_is (room_fault xs x.path) (xs ++ x ∷ []) ys h).0 in
+      let here : is_at x.path x ≡ true = (same_paths x.path x.path).1 refl in
+      more x.path ∙ rw (none_first (is_at x.path) xs place.free, here) refl
+
+  pub old_kept : (q : List (List ℕ)) → map uppers q ≢ map uppers x.path
+      → content_at (entries_of_additions ys) q ≡ content_at (entries_of_additions xs) q
+  old_kept q far =
+      let off : is_at q x ≡ false = false_from_ne_true (is_at q x) (λ t. far (sym ((same_paths x.path q).0 t))) in
+      more q ∙ (ap (option_map content_of) (or_nothing (find (is_at q) xs) (find (is_at q) (x ∷ [])) (rw off refl)) ∙ sym (told xs room q))
+
+-- changes
+
+module _ (path : List (List ℕ)) (what : Change) (xs ys : List Addition) (room : AllHaveRoom xs)
+    (h : unless (change_fault xs path) (changed_at path what xs) ≡ Ok ys) where
+  same_at : (q : List (List ℕ)) (y : Addition) → is_at q (changed_if path what y) ≡ is_at q y
+  same_at q y = elim (cases_Bool (is_at path y)) [ inl t ↦ rw t refl | inr f ↦ rw f refl ]
+
+  after : (q : List (List ℕ))
+      → content_at (entries_of_additions ys) q ≡ option_map content_of (option_map (changed_if path what) (find (is_at q) xs))
+  after q =
+      told ys (change_kept path what xs ys room h) q
+      ∙ ap (option_map content_of) (ap (find (is_at q)) (sym (made_is (change_fault xs path) (changed_at path what xs) ys h).1)
+      ∙ first_mapped (is_at q) (changed_if path what) xs (same_at q))
+
+  pub change_there : content_at (entries_of_additions ys) path
+      ≡ option_map (λ (c : Content). record c { meta = changed what c.meta }) (content_at (entries_of_additions xs) path)
+  change_there =
+      let g : Content → Content = λ c. record c { meta = changed what c.meta } in
+      after path ∙ (content_done (is_at path) (changed_if path what) g xs (λ y at. rw at refl) ∙ ap (option_map g) (sym (told xs room path)))
+
+  pub unchanged_kept : (q : List (List ℕ)) → map uppers q ≢ map uppers path
+      → content_at (entries_of_additions ys) q ≡ content_at (entries_of_additions xs) q
+  unchanged_kept q far =
+      after q
+      ∙ (content_done (is_at q) (changed_if path what) (λ c. c) xs (λ y at. rw (not_both q path y far at) refl)
+      ∙ (option_map_id (option_map content_of (find (is_at q) xs)) ∙ sym (told xs room q)))
+
+-- labels
+
+pub label_keeps : (xs ys : List Addition) (q : List (List ℕ)) → (let r : Result (List Addition) EditFault = Ok xs in r ≡ Ok ys)
+    → content_at (entries_of_additions ys) q ≡ content_at (entries_of_additions xs) q
+label_keeps xs ys q h = let same : xs ≡ ys = cc in ap (λ us. content_at (entries_of_additions us) q) (sym same)

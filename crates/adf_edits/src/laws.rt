@@ -1,12 +1,14 @@
 // Laws of outlines and of edits, for the proofs of callers. None of these functions does anything.
 
-ghost use Rattle.std.specs.Prelude.{◌≡◌, ◌≢◌, ℕ, List, None, Ok, map};
+ghost use Rattle.std.specs.Prelude.{◌≡◌, ◌≢◌, ℕ, List, None, Ok, Some, map, option_map};
 ghost use Rattle.adf_names.specs.Texts.{uppers};
-ghost use Rattle.adf_tree.specs.Additions.{Addition, AllHaveRoom, entries_of_additions};
-ghost use Rattle.adf_tree.specs.Paths.{content_at};
+ghost use Rattle.adf_tree.specs.declared.entry.Body.TheVariants.{Dir};
+ghost use Rattle.adf_tree.specs.Additions.{Addition, AllHaveRoom, content_of, entries_of_additions};
+ghost use Rattle.adf_tree.specs.Paths.{Content, content_at};
 ghost use Rattle.adf_tree.specs.Tree.{IsTree, Tree};
-ghost use Rattle.adf_edits.specs.Edits.{EditValue, edited, edited_additions};
-ghost use Rattle.adf_edits.specs.Edits.EditValue.{remove};
+ghost use Rattle.adf_edits.specs.declared.edits.Change.{Change};
+ghost use Rattle.adf_edits.specs.Edits.{EditValue, changed, edited, edited_additions, file_of, new_addition};
+ghost use Rattle.adf_edits.specs.Edits.EditValue.{change, dir, file, label, remove};
 ghost use Rattle.adf_edits.specs.Outline.{OutlineValue, outline_of, tree_of};
 
 /// The outline of a tree has that tree, and each of its additions has room.
@@ -30,4 +32,40 @@ pub fn removals_keep_other_paths()
     ensures others { (path : List (List ℕ)) (given : List ℕ) (xs ys : List Addition) → AllHaveRoom xs
         → edited_additions (remove path) given xs ≡ Ok ys → (q : List (List ℕ)) → map uppers q ≢ map uppers path
         → content_at (entries_of_additions ys) q ≡ content_at (entries_of_additions xs) q }
+{}
+
+/// A new directory has its path, and each other path leads to what it led to.
+pub fn directories_keep_other_paths()
+    ensures there { (path : List (List ℕ)) (given : List ℕ) (xs ys : List Addition) → AllHaveRoom xs
+        → edited_additions (dir path) given xs ≡ Ok ys
+        → content_at (entries_of_additions ys) path ≡ Some (content_of (new_addition path Dir)) }
+    ensures others { (path : List (List ℕ)) (given : List ℕ) (xs ys : List Addition) → AllHaveRoom xs
+        → edited_additions (dir path) given xs ≡ Ok ys → (q : List (List ℕ)) → map uppers q ≢ map uppers path
+        → content_at (entries_of_additions ys) q ≡ content_at (entries_of_additions xs) q }
+{}
+
+/// A new file has its path, and each other path leads to what it led to.
+pub fn files_keep_other_paths()
+    ensures there { (path : List (List ℕ)) (size : ℕ) (given : List ℕ) (xs ys : List Addition) → AllHaveRoom xs
+        → edited_additions (file path size) given xs ≡ Ok ys
+        → content_at (entries_of_additions ys) path ≡ Some (content_of (new_addition path (file_of size given))) }
+    ensures others { (path : List (List ℕ)) (size : ℕ) (given : List ℕ) (xs ys : List Addition) → AllHaveRoom xs
+        → edited_additions (file path size) given xs ≡ Ok ys → (q : List (List ℕ)) → map uppers q ≢ map uppers path
+        → content_at (entries_of_additions ys) q ≡ content_at (entries_of_additions xs) q }
+{}
+
+/// After a change its path leads to the same content but for what is changed, and each other path to what it led to.
+pub fn changes_keep_other_paths()
+    ensures there { (path : List (List ℕ)) (what : Change) (given : List ℕ) (xs ys : List Addition) → AllHaveRoom xs
+        → edited_additions (change path what) given xs ≡ Ok ys → content_at (entries_of_additions ys) path
+        ≡ option_map (λ (c : Content). record c { meta = changed what c.meta }) (content_at (entries_of_additions xs) path) }
+    ensures others { (path : List (List ℕ)) (what : Change) (given : List ℕ) (xs ys : List Addition) → AllHaveRoom xs
+        → edited_additions (change path what) given xs ≡ Ok ys → (q : List (List ℕ)) → map uppers q ≢ map uppers path
+        → content_at (entries_of_additions ys) q ≡ content_at (entries_of_additions xs) q }
+{}
+
+/// Under a new label each path leads to what it led to.
+pub fn labels_keep_paths()
+    ensures { (text given : List ℕ) (xs ys : List Addition) → edited_additions (label text) given xs ≡ Ok ys
+        → (q : List (List ℕ)) → content_at (entries_of_additions ys) q ≡ content_at (entries_of_additions xs) q }
 {}

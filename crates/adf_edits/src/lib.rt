@@ -7,5 +7,9 @@ mod outline;
 mod paths;
 
 pub use crate::edits::{Change, Edit, EditFault};
-pub use crate::laws::{edits_keep_room, outlines_have_their_trees, removals_keep_other_paths};
+pub use crate::laws::{
+    changes_keep_other_paths, directories_keep_other_paths, edits_keep_room,
+    files_keep_other_paths, labels_keep_paths, outlines_have_their_trees,
+    removals_keep_other_paths,
+};
 pub use crate::outline::{Item, Outline};
