@@ -8,3 +8,4 @@ pub mod MovesKept
 pub mod EditsKept
 pub mod FirstAt
 pub mod PathsKept
+pub mod MovedPaths

@@ -26,24 +26,24 @@ use Rattle.adf_edits.proofs.RoomKept.{made_is, place_without_fault}
 
 -- paths within a directory
 
-as_long : (a b : List (List ℕ)) → map uppers a ≡ map uppers b → length a ≡ length b
+pub as_long : (a b : List (List ℕ)) → map uppers a ≡ map uppers b → length a ≡ length b
 as_long a b same = sym (length-map a uppers) ∙ (ap length same ∙ length-map b uppers)
 
-fronts : (n : ℕ) (a b : List (List ℕ)) → map uppers a ≡ map uppers b → map uppers (take n a) ≡ map uppers (take n b)
+pub fronts : (n : ℕ) (a b : List (List ℕ)) → map uppers a ≡ map uppers b → map uppers (take n a) ≡ map uppers (take n b)
 fronts n a b same = sym (take-map uppers n a) ∙ (ap (take n) same ∙ take-map uppers n b)
 
-backs : (n : ℕ) (a b : List (List ℕ)) → map uppers a ≡ map uppers b → map uppers (drop n a) ≡ map uppers (drop n b)
+pub backs : (n : ℕ) (a b : List (List ℕ)) → map uppers a ≡ map uppers b → map uppers (drop n a) ≡ map uppers (drop n b)
 backs n a b same = sym (drop-map uppers n a) ∙ (ap (drop n) same ∙ drop-map uppers n b)
 
-no_longer : (d p : List (List ℕ)) → is_at_or_under d p ≡ true → length d ≤ length p
+pub no_longer : (d p : List (List ℕ)) → is_at_or_under d p ≡ true → length d ≤ length p
 no_longer d p h =
     let le = (and_parts (nat_le (length d) (length p)) (same_path (take (length d) p) d) h).0 in grind (arith, nat_tests)
 
-front_is : (d p : List (List ℕ)) → is_at_or_under d p ≡ true → map uppers (take (length d) p) ≡ map uppers d
+pub front_is : (d p : List (List ℕ)) → is_at_or_under d p ≡ true → map uppers (take (length d) p) ≡ map uppers d
 front_is d p h =
     (same_paths (take (length d) p) d).0 (and_parts (nat_le (length d) (length p)) (same_path (take (length d) p) d) h).1
 
-within_from : (d p : List (List ℕ)) → length d ≤ length p → map uppers (take (length d) p) ≡ map uppers d → is_at_or_under d p ≡ true
+pub within_from : (d p : List (List ℕ)) → length d ≤ length p → map uppers (take (length d) p) ≡ map uppers d → is_at_or_under d p ≡ true
 within_from d p le same =
     and_from (nat_le (length d) (length p)) (same_path (take (length d) p) d) (le-leb (length d) (length p) le)
     ((same_paths (take (length d) p) d).1 same)
@@ -67,7 +67,7 @@ parent_within d a p same lt h =
     within_from d a (omega arith)
     (fronts (length d) a (parents_of p) same ∙ (ap (map uppers) (take-take (length d) (length p - 1) p (omega arith)) ∙ front_is d p h))
 
-joined_within : (d r a : List (List ℕ)) → map uppers a ≡ map uppers (d ++ r) → is_at_or_under d a ≡ true
+pub joined_within : (d r a : List (List ℕ)) → map uppers a ≡ map uppers (d ++ r) → is_at_or_under d a ≡ true
 joined_within d r a same =
     let long = as_long a (d ++ r) same in
     let sum = length-append d r in
@@ -148,7 +148,7 @@ module _ (from to : List (List ℕ)) (rest : List Addition) (named : (length fro
   abbrev n : ℕ
   n = length from
 
-  free_rest : (r : List (List ℕ)) → has_path rest (to ++ r) ≡ false
+  pub free_rest : (r : List (List ℕ)) → has_path rest (to ++ r) ≡ false
   free_rest r = false_from_ne_true (has_path rest (to ++ r)) (λ h.
       let one = some_passes (is_at (to ++ r)) rest h in
       let d : Addition = some_in rest (omega (arith, one.1)) in
@@ -156,7 +156,7 @@ module _ (from to : List (List ℕ)) (rest : List Addition) (named : (length fro
       let in_it : is_within to y ≡ true = joined_within to r y.path ((same_paths y.path (to ++ r)).0 (one.2 d)) in
       let there = list_any_at (is_within to) rest one.0 d one.1 in_it in cc)
 
-  rejoined : (a b : List (List ℕ)) → is_at_or_under from a ≡ true → is_at_or_under from b ≡ true
+  pub rejoined : (a b : List (List ℕ)) → is_at_or_under from a ≡ true → is_at_or_under from b ≡ true
       → map uppers (to ++ drop n a) ≡ map uppers (to ++ drop n b) → map uppers a ≡ map uppers b
   rejoined a b wa wb same =
       let ends : map uppers (drop n a) ≡ map uppers (drop n b) =
@@ -295,18 +295,35 @@ no_move_fault from to xs h = elim (cases_Bool (has_path xs from)) [
   | inl t ↦ elim (cases_Bool (is_under from to)) [ inl u ↦ let clash = rw (t, u) at h in cc | inr u ↦ (t, rw (t, u) at h) ]
 ]
 
+-- what is moved has a path with a name, and what stays has room for it
+pub record MayMove (from to : List (List ℕ)) (xs : List Addition) : Type 0 where
+  pub named : (length from == 0) ≡ false
+  pub place : HasPlace (without from xs) to
+  pub none : list_any (is_within to) (without from xs) ≡ false
+
+stay : (from : List (List ℕ)) (xs : List Addition) → PlacedAfter [] xs → PlacedAfter [] (without from xs)
+stay from xs was = filtered_after (λ y. not (is_within from y)) [] xs (λ i d lt. stays_with from (get_or xs i d)) was
+
+pub may_move : (from to : List (List ℕ)) (xs : List Addition) → AllHaveRoom xs → move_fault xs from to ≡ None → MayMove from to xs
+may_move from to xs room free =
+    let says = no_move_fault from to xs free in
+    let was : PlacedAfter [] xs = placed [] xs nothing_before room in
+    let place : HasPlace (without from xs) to = place_without_fault (without from xs) to says.1 in
+    record {
+      named = has_name from [] xs was says.0;
+      place = place;
+      none = none_within to [] (without from xs) place.some (stay from xs was) refl place.free;
+    }
+
 pub move_kept : (from to : List (List ℕ)) (xs ys : List Addition) → AllHaveRoom xs
     → unless (move_fault xs from to) (moved from to xs) ≡ Ok ys → AllHaveRoom ys
 move_kept from to xs ys room h =
     let made = made_is (move_fault xs from to) (moved from to xs) ys h in
-    let says = no_move_fault from to xs made.0 in
+    let may = may_move from to xs room made.0 in
     let rest : List Addition = without from xs in
     let was : PlacedAfter [] xs = placed [] xs nothing_before room in
-    let stay : PlacedAfter [] rest = filtered_after (λ y. not (is_within from y)) [] xs (λ i d lt. stays_with from (get_or xs i d)) was in
-    let place : HasPlace rest to = place_without_fault rest to says.1 in
-    let none = none_within to [] rest place.some stay refl place.free in
     let behind : PlacedAfter (rest ++ []) (map (rebased from to) (filter (is_within from) xs)) =
-    moved_after from to rest (has_name from [] xs was says.0) place none [] xs was in
-    let all = both_placed [] rest (map (rebased from to) (filter (is_within from) xs)) stay
+    moved_after from to rest may.named may.place may.none [] xs was in
+    let all = both_placed [] rest (map (rebased from to) (filter (is_within from) xs)) (stay from xs was)
     (subst (λ us. PlacedAfter us (map (rebased from to) (filter (is_within from) xs))) (append-nil rest) behind) in
     subst AllHaveRoom made.1 (roomy [] (moved from to xs) nothing_before all)

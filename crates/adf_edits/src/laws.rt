@@ -1,15 +1,16 @@
 // Laws of outlines and of edits, for the proofs of callers. None of these functions does anything.
 
-ghost use Rattle.std.specs.Prelude.{◌≡◌, ◌≢◌, ℕ, List, None, Ok, Some, map, option_map};
+ghost use Rattle.std.specs.Prelude.{◌≡◌, ◌≢◌, ◌++◌, ◌∷◌, ℕ, List, None, Ok, Some, false, map, option_map, true};
 ghost use Rattle.adf_names.specs.Texts.{uppers};
 ghost use Rattle.adf_tree.specs.declared.entry.Body.TheVariants.{Dir};
 ghost use Rattle.adf_tree.specs.Additions.{Addition, AllHaveRoom, content_of, entries_of_additions};
 ghost use Rattle.adf_tree.specs.Paths.{Content, content_at};
-ghost use Rattle.adf_tree.specs.Tree.{IsTree, Tree};
+ghost use Rattle.adf_tree.specs.Tree.{IsTree, Tree, last_of};
 ghost use Rattle.adf_edits.specs.declared.edits.Change.{Change};
 ghost use Rattle.adf_edits.specs.Edits.{EditValue, changed, edited, edited_additions, file_of, new_addition};
-ghost use Rattle.adf_edits.specs.Edits.EditValue.{change, dir, file, label, remove};
+ghost use Rattle.adf_edits.specs.Edits.EditValue.{change, dir, file, label, move, remove};
 ghost use Rattle.adf_edits.specs.Outline.{OutlineValue, outline_of, tree_of};
+ghost use Rattle.adf_edits.specs.Paths.{is_at_or_under};
 
 /// The outline of a tree has that tree, and each of its additions has room.
 pub fn outlines_have_their_trees()
@@ -68,4 +69,23 @@ pub fn changes_keep_other_paths()
 pub fn labels_keep_paths()
     ensures { (text given : List ℕ) (xs ys : List Addition) → edited_additions (label text) given xs ≡ Ok ys
         → (q : List (List ℕ)) → content_at (entries_of_additions ys) q ≡ content_at (entries_of_additions xs) q }
+{}
+
+/// After a move the new path leads to what the old one led to, under the last name of the new path, and each path in it to what the
+/// path in the old one led to;
+/// other paths at or in the old one lead to nothing, and paths neither at nor in the old or the new one to what they led to.
+pub fn moves_keep_other_paths()
+    ensures there { (from to : List (List ℕ)) (given : List ℕ) (xs ys : List Addition) → AllHaveRoom xs
+        → edited_additions (move from to) given xs ≡ Ok ys
+        → content_at (entries_of_additions ys) to
+        ≡ option_map (λ (c : Content). record c { name = last_of to }) (content_at (entries_of_additions xs) from) }
+    ensures within { (from to : List (List ℕ)) (given : List ℕ) (xs ys : List Addition) → AllHaveRoom xs
+        → edited_additions (move from to) given xs ≡ Ok ys → (name : List ℕ) (rest : List (List ℕ))
+        → content_at (entries_of_additions ys) (to ++ name ∷ rest) ≡ content_at (entries_of_additions xs) (from ++ name ∷ rest) }
+    ensures gone { (from to : List (List ℕ)) (given : List ℕ) (xs ys : List Addition) → AllHaveRoom xs
+        → edited_additions (move from to) given xs ≡ Ok ys → (q : List (List ℕ)) → is_at_or_under from q ≡ true
+        → is_at_or_under to q ≡ false → content_at (entries_of_additions ys) q ≡ None }
+    ensures others { (from to : List (List ℕ)) (given : List ℕ) (xs ys : List Addition) → AllHaveRoom xs
+        → edited_additions (move from to) given xs ≡ Ok ys → (q : List (List ℕ)) → is_at_or_under from q ≡ false
+        → is_at_or_under to q ≡ false → content_at (entries_of_additions ys) q ≡ content_at (entries_of_additions xs) q }
 {}
