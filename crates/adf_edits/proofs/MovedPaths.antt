@@ -1,13 +1,13 @@
 -- What each path leads to after a move.
 -- Letters: xs are additions, ys what the move makes of them; y an addition; r the names behind a path; q a path.
-use Rattle.std.proofs.Common.{◌≡◌, ◌≢◌, ℕ, List, [], ◌∷◌, ◌++◌, ◌+◌, ◌-◌, ◌<◌, ◌==◌, length, get_or, map, refl, sym, ap, subst, ◌∙◌, arith, inl, inr}
+use Rattle.std.proofs.Common.{◌≡◌, ℕ, List, [], ◌∷◌, ◌++◌, ◌+◌, ◌-◌, ◌<◌, length, get_or, map, refl, sym, ap, ◌∙◌, arith}
 use Rattle.std.proofs.Common.{true, false, Bool, None, Ok, Some, Option, drop, not, option_map}
 use Rattle.std.specs.Cmp.{both_ways}
-use Rattle.std.specs.List.{filter, find, list_any}
+use Rattle.std.specs.List.{filter, find}
 use Rattle.std.specs.Option.{option_or}
 use Rattle.std.proofs.Math.ListN.{drop_of_length-le}
 use Rattle.std.proofs.Math.Seq.{drop-append_seam}
-use Rattle.std.proofs.lemmas.Bool.{cases_Bool, false_from_ne_true}
+use Rattle.std.proofs.lemmas.Bool.{false_from_ne_true}
 use Rattle.std.proofs.lemmas.Iterator.Adapters.{option_map_id}
 use Rattle.std.proofs.lemmas.List.{append-nil, get_or-append-add, get_or-drop, length-append, length-drop, map-append}
 use Rattle.std.proofs.lemmas.List.Folds.{find-append}
@@ -20,7 +20,7 @@ use Rattle.adf_edits.specs.Paths.{is_at_or_under}
 use Rattle.adf_edits.proofs.FirstAt.{content_done, first_kept, first_left_out, first_through, first_unlike, none_first, or_nothing, told}
 use Rattle.adf_edits.proofs.MovesKept.{MayMove, as_long, backs, fronts, front_is, free_rest, joined_within, may_move, move_kept, no_longer, rejoined}
 use Rattle.adf_edits.proofs.MovesKept.{within_from}
-use Rattle.adf_edits.proofs.Places.{HasPlace, same_paths}
+use Rattle.adf_edits.proofs.Places.{same_paths}
 use Rattle.adf_edits.proofs.RoomKept.{made_is}
 
 -- paths

@@ -1,14 +1,14 @@
 -- What each path leads to after a removal, an addition, a change or a new label.
 -- Letters: xs are additions, ys what the edit makes of them; x, y additions; q a path.
 use Rattle.std.proofs.Common.{◌≡◌, ◌≢◌, ℕ, List, [], ◌∷◌, ◌++◌, inl, inr, map, refl, sym, ap, ◌∙◌}
-use Rattle.std.proofs.Common.{true, false, Bool, None, Ok, Some, Option, Result, not, option_map}
+use Rattle.std.proofs.Common.{true, false, None, Ok, Some, Result, not, option_map}
 use Rattle.std.specs.List.{find}
 use Rattle.std.specs.Option.{option_or}
 use Rattle.std.proofs.lemmas.Bool.{cases_Bool, false_from_ne_true}
 use Rattle.std.proofs.lemmas.Iterator.Adapters.{option_map_id}
 use Rattle.std.proofs.lemmas.List.Folds.{find-append}
 use Rattle.adf_names.specs.Texts.{uppers}
-use Rattle.adf_tree.specs.Additions.{Addition, AllHaveRoom, content_of, entries_of_additions, same_path}
+use Rattle.adf_tree.specs.Additions.{Addition, AllHaveRoom, content_of, entries_of_additions}
 use Rattle.adf_tree.specs.Paths.{Content, content_at}
 use Rattle.adf_edits.specs.declared.edits.Change.{Change}
 use Rattle.adf_edits.specs.declared.edits.EditFault.{EditFault}
