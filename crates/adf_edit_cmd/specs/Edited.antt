@@ -1,5 +1,5 @@
 -- What an image becomes by a script. es are the edits of the script, `given` are the bytes behind it, t is a tree, n a number of blocks.
-use Rattle.std.specs.Prelude.{◌≡◌, ◌<◌, ◌-◌, ◌+◌, ◌⊎◌, ℕ, List, [], ◌∷◌, Some, None, Result, Ok, Err, slice_range}
+use Rattle.std.specs.Prelude.{◌≡◌, ◌<◌, ◌-◌, ◌+◌, ◌⊎◌, ℕ, List, [], ◌∷◌, Some, None, Result, Ok, Err, slice_range, false, true}
 use Rattle.adf_base.specs.Words.{with_bytes}
 use Rattle.adf_blocks.specs.Sizes.{blocks}
 use Rattle.adf_build.specs.Building.{IsBuildable, need_of}
@@ -8,6 +8,7 @@ use Rattle.adf_build.specs.Plan.{blocks_needed, planned}
 use Rattle.adf_boot_blocks.specs.declared.boot.TheConstants.{BOOT_LEN}
 use Rattle.adf_edits.specs.Edits.{EditValue, edited}
 use Rattle.adf_edits.specs.Outline.{IsWithoutRoom, OutlineValue, outline_of, tree_of}
+use Rattle.adf_edits.specs.Paths.{has_deep}
 use Rattle.adf_edits.specs.declared.edits.EditFault.{EditFault}
 use Rattle.adf_tree.specs.Additions.{AllHaveRoom}
 use Rattle.adf_tree.specs.Tree.{Tree}
@@ -16,7 +17,7 @@ use Rattle.adf_volume.specs.Layout.{Layout}
 use Rattle.adf_volume.specs.Walk.{FirstFault}
 use Rattle.adf_edit_cmd.specs.Script.{IsScript, IsScriptFault, behind_file, behind_files}
 use Rattle.adf_edit_cmd.specs.declared.stop.Stop.{Stop}
-use Rattle.adf_edit_cmd.specs.declared.stop.Stop.TheVariants.{Short, Image, Line, NoRoom, Full, NoMemory}
+use Rattle.adf_edit_cmd.specs.declared.stop.Stop.TheVariants.{Short, Image, TooDeep, Line, NoRoom, Full, NoMemory}
 
 -- an outline goes on, or the edit of line n cannot be applied
 abbrev pub next_of : ℕ → Result OutlineValue EditFault → (OutlineValue → Result OutlineValue Stop) → Result OutlineValue Stop
@@ -39,6 +40,16 @@ abbrev pub IsImageFault : List ℕ → Stop → Type 0
 IsImageFault image (Image f) = FirstFault image f.block f.cause
 IsImageFault image NoMemory = Unit {0}
 IsImageFault image _ = ⊥
+
+-- no entry of a tree is deeper than an outline may be
+abbrev pub IsShallow : Tree → Type 0
+IsShallow t = has_deep (outline_of t).additions ≡ false
+
+-- why a tree has no outline
+abbrev pub IsDepthStop : Tree → Stop → Type 0
+IsDepthStop t TooDeep = has_deep (outline_of t).additions ≡ true
+IsDepthStop t NoMemory = Unit {0}
+IsDepthStop t _ = ⊥
 
 -- the bytes 4 to 1,023 of an image in the place of those of another
 abbrev pub with_boot_of : List ℕ → List ℕ → List ℕ
@@ -65,14 +76,14 @@ IsRoomStop o _ = ⊥
 -- the new image is laid for the tree after all edits
 abbrev pub IsByTree : List EditValue → List ℕ → Tree → ℕ → List ℕ → List ℕ → Type 0
 IsByTree es given t n image new =
-    (o : OutlineValue) × (after 1 es given (outline_of t) ≡ Ok o) × AllHaveRoom o.additions × IsLaidOver (tree_of o) n image new
+    IsShallow t × (o : OutlineValue) × (after 1 es given (outline_of t) ≡ Ok o) × AllHaveRoom o.additions × IsLaidOver (tree_of o) n image new
 
--- why there is none: a line, or the tree after all edits
+-- why there is none: the depth of the tree, a line, or the tree after all edits
 abbrev pub StopsTree : List EditValue → List ℕ → Tree → ℕ → Stop → Type 0
 StopsTree es given t n stop =
-    (stop ≡ NoMemory) ⊎ ((after 1 es given (outline_of t) ≡ Err stop)
+    IsDepthStop t stop ⊎ (IsShallow t × ((after 1 es given (outline_of t) ≡ Err stop)
     ⊎ ((o : OutlineValue) × (after 1 es given (outline_of t) ≡ Ok o)
-    × (IsRoomStop o stop ⊎ (AllHaveRoom o.additions × IsFullStop (tree_of o) n stop))))
+    × (IsRoomStop o stop ⊎ (AllHaveRoom o.additions × IsFullStop (tree_of o) n stop)))))
 
 -- the new image is laid for the tree of the image after all edits
 abbrev pub IsByEdits : List EditValue → List ℕ → List ℕ → List ℕ → Type 0

@@ -5,13 +5,14 @@ use Rattle.adf_edits.specs.Edits.{edit_fault_text}
 use Rattle.adf_tree.specs.Faults.{add_fault_text}
 use Rattle.adf_volume.specs.Fault.{fault_text}
 use Rattle.adf_edit_cmd.specs.declared.stop.Stop.{Stop}
-use Rattle.adf_edit_cmd.specs.declared.stop.Stop.TheVariants.{BadLine, Short, Image, Line, NoRoom, Full, NoMemory}
+use Rattle.adf_edit_cmd.specs.declared.stop.Stop.TheVariants.{BadLine, Short, Image, TooDeep, Line, NoRoom, Full, NoMemory}
 
 -- why no image is written
 abbrev pub stop_text : Stop → List ℕ
 stop_text (BadLine n) = decimal n ++ codes ": bad line"
 stop_text Short = codes "files end early"
 stop_text (Image fault) = fault_text fault
+stop_text TooDeep = codes "too deep"
 stop_text (Line n fault) = decimal n ++ (codes ": " ++ edit_fault_text fault)
 stop_text (NoRoom fault) = add_fault_text fault
 stop_text (Full need have) = full_text need have

@@ -1,14 +1,16 @@
 // An image by a script.
 
-ghost use Rattle.std.specs.Prelude.{◌≡◌, ◌≢◌, ◌≤◌, ◌*◌, IfOk, IfErr, Ok, Err, length, map, true};
+ghost use Rattle.std.specs.Prelude.{◌≡◌, ◌≢◌, ◌≤◌, ◌*◌, IfOk, IfErr, OnOk, Ok, Err, length, map, true};
 ghost use Rattle.adf_blocks.specs.Sizes.{blocks, is_allowed};
 ghost use Rattle.adf_edits.specs.Edits.{edit_value, edited};
+ghost use Rattle.adf_edits.specs.Outline.{outline_of};
 ghost use Rattle.adf_boot_blocks.specs.BootBlocks.{IsOtherBoot};
 ghost use Rattle.adf_check.specs.Volumes.{StandsFor};
 ghost use Rattle.adf_tree.specs.Tree.{Tree as TreeValue};
 ghost use Rattle.adf_volume.specs.Fits.{Fits};
 ghost use Rattle.adf_volume.specs.Layout.{Layout};
-ghost use Rattle.adf_edit_cmd.specs.Edited.{IsByEdits, IsByTree, IsEdited, IsFullStop, IsImageFault, IsLaidOver, IsLineStop, StopsAt, StopsOn, StopsTree, after, with_boot_of};
+ghost use Rattle.adf_edit_cmd.specs.Edited.{IsByEdits, IsByTree, IsDepthStop, IsEdited, IsFullStop, IsImageFault, IsLaidOver};
+ghost use Rattle.adf_edit_cmd.specs.Edited.{IsLineStop, IsShallow, StopsAt, StopsOn, StopsTree, after, with_boot_of};
 
 use crate::script::{behind_file, behind_files, read_script};
 use crate::stop::Stop;
@@ -17,7 +19,7 @@ use adf_blocks::Cause;
 use adf_boot_blocks::BOOT_LEN;
 use adf_build::{BuildFault, build};
 use adf_check::{Checked, check};
-use adf_edits::{Edit, EditFault, Outline};
+use adf_edits::{Edit, EditFault, Outline, OutlineFault};
 use adf_tree::{AddFault, Tree};
 use std::alloc::Global;
 
@@ -121,6 +123,19 @@ fn lay(alloc: Global, tree: &Tree, blocks: u32, image: &[u8]) -> Result<Vec<u8>,
     }
 }
 
+// The outline of a tree.
+fn outline_of(alloc: Global, tree: &Tree) -> Result<Outline, Stop>
+    ensures outline { IfOk result (λ o. o ≡ outline_of tree.now) }
+    ensures shallow { OnOk result (IsShallow tree.now) }
+    ensures deep { IfErr result (IsDepthStop tree.now) }
+{
+    match Outline::of(alloc, tree) {
+        Ok(outline) => Ok(outline),
+        Err(OutlineFault::TooDeep) => Err(Stop::TooDeep),
+        Err(OutlineFault::NoMemory) => Err(Stop::NoMemory),
+    }
+}
+
 // The image of a tree after edits.
 fn by_tree(
     alloc: Global,
@@ -136,9 +151,7 @@ fn by_tree(
         IsByTree (map edit_value edits.items) given.now tree.now blocks image.now new.items) }
     ensures stop { IfErr result (StopsTree (map edit_value edits.items) given.now tree.now blocks) }
 {
-    let Ok(outline) = Outline::of(alloc, tree) else {
-        return Err(Stop::NoMemory);
-    };
+    let outline = outline_of(alloc, tree)?;
     let outline = edit_all(alloc, outline, edits, given)?;
     match outline.finish(alloc) {
         Ok(tree) => lay(alloc, &tree, blocks, image),
@@ -163,7 +176,7 @@ fn by_edits(alloc: Global, edits: Vec<Edit>, given: &[u8], image: &[u8]) -> Resu
 
 /// The image that a script makes of another. The input is the script, behind it the bytes of its files in their order, and behind
 /// them the image. Why there is none: the first line that is none; else files that end early; else the first fault of the image;
-/// else the first line that cannot be applied; else a tree that does not fit.
+/// else an entry that is too deep; else the first line that cannot be applied; else a tree that does not fit.
 pub fn new_image(alloc: Global, input: &[u8]) -> Result<Vec<u8>, Stop>
     ensures image { IfOk result (λ new. IsEdited input.now new.items) }
     ensures stop { IfErr result (StopsAt input.now) }

@@ -16,6 +16,8 @@ pub enum Stop {
     Short,
     /// The image is refused.
     Image(Fault),
+    /// An entry of the image is deeper than `adf_edits::MOST_DEPTH` names.
+    TooDeep,
     /// The edit of the line of this number cannot be applied.
     Line(usize, EditFault),
     /// An addition has no room in the tree of those before it.
@@ -37,6 +39,7 @@ impl fmt::Display for Stop {
             Stop::BadLine(line) => write!(f, "{line}: bad line"),
             Stop::Short => f.write_str("files end early"),
             Stop::Image(fault) => write!(f, "{fault}"),
+            Stop::TooDeep => f.write_str("too deep"),
             Stop::Line(line, fault) => write!(f, "{line}: {fault}"),
             Stop::NoRoom(fault) => write!(f, "{fault}"),
             Stop::Full { need, have } => write!(f, "full: need {need}, have {have}"),

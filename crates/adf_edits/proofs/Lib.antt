@@ -1,5 +1,6 @@
 pub mod SamePaths
 pub mod Additions
+pub mod Depths
 pub mod OutlineTrees
 pub mod Places
 pub mod PlacedInOrder

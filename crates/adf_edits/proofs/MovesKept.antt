@@ -2,7 +2,7 @@
 -- Letters: xs are additions, front those before them, rest what stays; x, y additions; a, b, d, p, r paths; n a number of names.
 use Rattle.std.proofs.Common.{◌≡◌, ◌≢◌, ℕ, zero, suc, List, [], ◌∷◌, ◌++◌, inl, inr, ◌-◌, ◌<◌, ◌≤◌, ◌==◌, length}
 use Rattle.std.proofs.Common.{get_or, map, refl, sym, ap, subst, ◌∙◌, arith}
-use Rattle.std.proofs.Common.{true, false, Bool, cond, drop, take, nat_le, not, None, Ok}
+use Rattle.std.proofs.Common.{true, false, Bool, cond, drop, take, nat_le, not, None, Ok, Option, Some}
 use Rattle.std.specs.List.{filter, list_any, take-map}
 use Rattle.std.proofs.Math.Seq.{take-append_seam}
 use Rattle.std.proofs.Math.ListN.{drop_of_length-le}
@@ -17,7 +17,9 @@ use Rattle.adf_tree.specs.Additions.{Addition, AllHaveRoom, same_path}
 use Rattle.adf_tree.specs.Tree.{is_dir_body, last_of, parents_of}
 use Rattle.adf_tree.proofs.AddRoom.{whole_path}
 use Rattle.adf_tree.proofs.Lists.{some_in}
-use Rattle.adf_edits.specs.Edits.{has_directory, has_path, is_at, is_directory, is_directory_at, is_within, move_fault, moved}
+use Rattle.std.specs.Option.{option_or}
+use Rattle.adf_edits.specs.declared.edits.EditFault.{EditFault}
+use Rattle.adf_edits.specs.Edits.{depth_fault, has_directory, has_path, is_at, is_directory, is_directory_at, is_within, move_fault, moved}
 use Rattle.adf_edits.specs.Edits.{rebased, room_fault, unless, without}
 use Rattle.adf_edits.specs.Paths.{is_at_or_under, is_under}
 use Rattle.adf_edits.proofs.PlacedInOrder.{KeepsDirectory, PlacedAfter, any_kept, filtered_after, nothing_before, placed, roomy}
@@ -288,11 +290,15 @@ has_name path front (x ∷ xs) h there = elim (cases_Bool (is_at path x)) [
   | inr f ↦ has_name path (front ++ x ∷ []) xs h.1 (rw f at there)
 ]
 
+first_none : (o n : Option EditFault) → option_or o n ≡ None → o ≡ None
+first_none None n h = refl
+first_none (Some f) n h = cc
+
 no_move_fault : (from to : List (List ℕ)) (xs : List Addition) → move_fault xs from to ≡ None
     → (has_path xs from ≡ true) × (room_fault (without from xs) to ≡ None)
 no_move_fault from to xs h = elim (cases_Bool (has_path xs from)) [
   | inr f ↦ let clash = rw f at h in cc
-  | inl t ↦ elim (cases_Bool (is_under from to)) [ inl u ↦ let clash = rw (t, u) at h in cc | inr u ↦ (t, rw (t, u) at h) ]
+  | inl t ↦ elim (cases_Bool (is_under from to)) [ inl u ↦ let clash = rw (t, u) at h in cc | inr u ↦ (t, first_none (room_fault (without from xs) to) (depth_fault xs from to) (rw (t, u) at h)) ]
 ]
 
 -- what is moved has a path with a name, and what stays has room for it

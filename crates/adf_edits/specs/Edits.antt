@@ -2,6 +2,7 @@
 use Rattle.std.specs.Prelude.{◌==◌, ◌&&◌, ◌||◌, not, ℕ, Bool, List, [], ◌∷◌, ◌++◌, Option, Some, None, Result, Ok, Err, codes, drop, take}
 use Rattle.std.specs.Prelude.{if◌then◌else◌, length, map}
 use Rattle.std.specs.List.{filter, list_any}
+use Rattle.std.specs.Option.{option_or}
 use Rattle.adf_base.specs.declared.dates.TheConstants.{NO_STAMP}
 use Rattle.adf_names.specs.Meta.{new_meta}
 use Rattle.adf_names.specs.declared.meta.Meta.{Meta}
@@ -10,14 +11,14 @@ use Rattle.adf_tree.specs.declared.entry.Body.TheVariants.{Dir, File}
 use Rattle.adf_tree.specs.Additions.{Addition, same_path}
 use Rattle.adf_tree.specs.Tree.{is_dir_body, parents_of}
 use Rattle.adf_edits.specs.Outline.{OutlineValue}
-use Rattle.adf_edits.specs.Paths.{is_at_or_under, is_under}
+use Rattle.adf_edits.specs.Paths.{is_at_or_under, is_deep, is_under}
 use Rattle.adf_edits.specs.declared.edits.Change.{Change}
 use Rattle.adf_edits.specs.declared.edits.Change.TheVariants.{Note, Protect, Date}
 use Rattle.adf_edits.specs.declared.edits.Edit.{Edit}
 use Rattle.adf_edits.specs.declared.edits.Edit.TheVariants as edit
 use Rattle.adf_edits.specs.declared.edits.EditFault.{EditFault}
 use Rattle.adf_edits.specs.declared.edits.EditFault.TheVariants.{NoSuchPath, NotEmpty, WithinItself, EmptyPath, NoParent, ParentIsFile}
-use Rattle.adf_edits.specs.declared.edits.EditFault.TheVariants.{Exists, NoMemory}
+use Rattle.adf_edits.specs.declared.edits.EditFault.TheVariants.{Exists, TooDeep, NoMemory}
 
 -- one edit of a tree
 pub data EditValue : Type 0 where
@@ -73,13 +74,14 @@ has_directory xs path = list_any (is_directory_at path) xs
 abbrev pub is_directory : List Addition → List (List ℕ) → Bool
 is_directory xs path = (length path == 0) || has_directory xs path
 
--- why nothing can be added under a path: it has no name, leads through a file or to no directory, or something has it
+-- why nothing can be added under a path: it has no name, leads through a file or to no directory, something has it, or it is too deep
 abbrev pub room_fault : List Addition → List (List ℕ) → Option EditFault
 room_fault xs path =
     if length path == 0 then Some EmptyPath
     else if leads_through_file xs path then Some ParentIsFile
     else if not (is_directory xs (parents_of path)) then Some NoParent
-    else if has_path xs path then Some Exists else None
+    else if has_path xs path then Some Exists
+    else if is_deep path then Some TooDeep else None
 
 -- all but what has this path
 abbrev pub removed : List (List ℕ) → List Addition → List Addition
@@ -92,6 +94,10 @@ without path xs = filter (λ x. not (is_within path x)) xs
 -- x with the path `to` in the place of its first names, as many as `from` has
 abbrev pub rebased : List (List ℕ) → List (List ℕ) → Addition → Addition
 rebased from to x = record x { path = to ++ drop (length from) x.path }
+
+-- whether the path of x gets too deep
+abbrev pub gets_deep : List (List ℕ) → List (List ℕ) → Addition → Bool
+gets_deep from to x = is_deep (rebased from to x).path
 
 -- what has the path `from`, or is in the directory that has it, comes last and gets the path `to` in its place
 abbrev pub moved : List (List ℕ) → List (List ℕ) → List Addition → List Addition
@@ -120,10 +126,15 @@ unless None xs = Ok xs
 abbrev pub remove_fault : List Addition → List (List ℕ) → Option EditFault
 remove_fault xs path = if not (has_path xs path) then Some NoSuchPath else if has_under xs path then Some NotEmpty else None
 
+-- a path that is moved gets too deep
+abbrev pub depth_fault : List Addition → List (List ℕ) → List (List ℕ) → Option EditFault
+depth_fault xs from to = if list_any (gets_deep from to) (filter (is_within from) xs) then Some TooDeep else None
+
 -- why a path cannot be moved to another
 abbrev pub move_fault : List Addition → List (List ℕ) → List (List ℕ) → Option EditFault
 move_fault xs from to =
-    if not (has_path xs from) then Some NoSuchPath else if is_under from to then Some WithinItself else room_fault (without from xs) to
+    if not (has_path xs from) then Some NoSuchPath else if is_under from to then Some WithinItself
+    else option_or (room_fault (without from xs) to) (depth_fault xs from to)
 
 -- why what has this path cannot be changed
 abbrev pub change_fault : List Addition → List (List ℕ) → Option EditFault
@@ -173,4 +184,5 @@ edit_fault_text EmptyPath = codes "no name"
 edit_fault_text NoParent = codes "no parent"
 edit_fault_text ParentIsFile = codes "parent is file"
 edit_fault_text Exists = codes "exists"
+edit_fault_text TooDeep = codes "too deep"
 edit_fault_text NoMemory = codes "no memory"

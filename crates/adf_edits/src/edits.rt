@@ -1,12 +1,12 @@
 // What an edit makes of a tree.
 
 ghost use Rattle.std.specs.Prelude.{◌≡◌, ◌≢◌, ◌≤◌, ◌++◌, ◌∷◌, [], None, Some, Ok, Err, IfOk, IfErr, OnOk, All, length, map, true};
-ghost use Rattle.std.specs.List.{filter};
+ghost use Rattle.std.specs.List.{filter, list_any};
 ghost use Rattle.adf_tree.specs.Tree.{is_dir_body};
-ghost use Rattle.adf_edits.specs.Edits.{change_fault, changed, changed_at, changed_if, edit_value, edited, edited_additions, edited_label, file_of, new_addition, has_directory, has_path, has_under, is_at, is_directory, is_directory_at, is_file_above, is_within, leads_through_file, move_fault, moved, rebased, remove_fault, removed, room_fault, without};
+ghost use Rattle.adf_edits.specs.Edits.{change_fault, changed, changed_at, changed_if, edit_value, edited, edited_additions, edited_label, file_of, gets_deep, new_addition, has_directory, has_path, has_under, is_at, is_directory, is_directory_at, is_file_above, is_within, leads_through_file, move_fault, moved, rebased, remove_fault, removed, room_fault, without};
 
 use crate::outline::{Item, Outline};
-use crate::paths::{is_at_or_under, is_under, push_names, same_path};
+use crate::paths::{MOST_DEPTH, is_at_or_under, is_deep, is_under, push_names, same_path};
 use adf_base::{NO_STAMP, NoMemory, Stamp};
 use adf_names::{Comment, Label, Meta, Name};
 use adf_tree::{Body, Bytes};
@@ -55,6 +55,8 @@ pub enum EditFault {
     ParentIsFile,
     /// An entry has the new path.
     Exists,
+    /// A new path would have more than `MOST_DEPTH` names.
+    TooDeep,
     /// An allocation failed.
     NoMemory,
 }
@@ -74,6 +76,7 @@ impl fmt::Display for EditFault {
             EditFault::NoParent => "no parent",
             EditFault::ParentIsFile => "parent is file",
             EditFault::Exists => "exists",
+            EditFault::TooDeep => "too deep",
             EditFault::NoMemory => "no memory",
         })
     }
@@ -178,6 +181,9 @@ fn room_fault(items: &[Item], path: &[Name]) -> Option<EditFault>
     if has_path(items, path) {
         return Some(EditFault::Exists);
     }
+    if is_deep(path) {
+        return Some(EditFault::TooDeep);
+    }
     None
 }
 
@@ -194,6 +200,22 @@ fn rebased(alloc: Global, item: Item, from: &[Name], to: &[Name]) -> Result<Item
         meta: item.meta,
         body: item.body,
     })
+}
+
+#[tactic(auto, using(crate::proofs::Depths::moved_long))]
+// Whether an entry's path gets too deep where `to` stands for its first names, as many as `from` has.
+fn gets_deep(from: &[Name], to: &[Name], item: &Item) -> bool
+    ensures { result ≡ gets_deep from.now to.now item.now }
+{
+    let behind = item.path.len().saturating_sub(from.len());
+    MOST_DEPTH < to.len().saturating_add(behind)
+}
+
+// Whether a path gets too deep.
+fn get_deep(items: &[Item], from: &[Name], to: &[Name]) -> bool
+    ensures { result ≡ list_any (gets_deep from.now to.now) items.now }
+{
+    items.iter().any(|item| gets_deep(from, to, item))
 }
 
 // Appends an entry to those that have the path or are in the directory that has it, or else to the rest.
@@ -273,6 +295,9 @@ fn moved(
     let (mut rest, within) = split(alloc, items, from)?;
     if let Some(fault) = room_fault(&rest, to) {
         return Err(fault);
+    }
+    if get_deep(&within, from, to) {
+        return Err(EditFault::TooDeep);
     }
     push_moved(alloc, &mut rest, within, from, to)?;
     Ok(rest)

@@ -12,4 +12,5 @@ pub use crate::laws::{
     files_keep_other_paths, labels_keep_paths, moves_keep_other_paths, outlines_have_their_trees,
     removals_keep_other_paths,
 };
-pub use crate::outline::{Item, Outline};
+pub use crate::outline::{Item, Outline, OutlineFault};
+pub use crate::paths::MOST_DEPTH;

@@ -1,11 +1,13 @@
 // Trees as lists of additions.
 
-ghost use Rattle.std.specs.Prelude.{◌≡◌, ◌≢◌, ◌++◌, ◌∷◌, [], ◌≤◌, length, IfOk, IfErr, OnOk};
+ghost use Rattle.std.specs.Prelude.{◌≡◌, ◌≢◌, ◌++◌, ◌∷◌, [], ◌≤◌, length, IfOk, IfErr, OnOk, false, true};
 ghost use Rattle.adf_tree.specs.Additions.{AllHaveRoom};
-ghost use Rattle.adf_edits.specs.Outline.{IsWithoutRoom, addition_for, additions_of, outline_of, tree_of, with_addition_in, with_entry};
+ghost use Rattle.adf_edits.specs.Outline.{IsWithoutRoom, addition_for, additions_of, outline_of, path_at, tree_of};
+ghost use Rattle.adf_edits.specs.Outline.{with_addition_in, with_entry};
+ghost use Rattle.adf_edits.specs.Paths.{has_deep, is_deep};
 ghost use Rattle.adf_tree.specs.Tree.{IsAnswer, room_for};
 
-use crate::paths::push_names;
+use crate::paths::{MOST_DEPTH, push_names};
 use adf_base::NoMemory;
 use adf_drafts::Draft;
 use adf_names::{Kind, Label, Meta, Name, Stamps};
@@ -46,6 +48,25 @@ impl Model for Outline {
     ghost view = { λ o. record { kind = o.kind; label = o.label; stamps = o.stamps; additions = o.items.items } };
 }
 
+/// Why a tree has no outline.
+#[derive(Clone, Copy, Debug, PartialEq, Eq)]
+pub enum OutlineFault {
+    /// An entry is deeper than `MOST_DEPTH` names.
+    TooDeep,
+    /// An allocation failed.
+    NoMemory,
+}
+
+impl From<NoMemory> for OutlineFault {
+    ghost use Rattle.adf_edits.specs.declared.outline.OutlineFault.TheVariants.{NoMemory};
+
+    ghost from_gives = { λ _ f. f ≡ NoMemory };
+
+    fn from(_fault: NoMemory) -> OutlineFault {
+        OutlineFault::NoMemory
+    }
+}
+
 // A copy of a body.
 fn copy_body(alloc: Global, body: &Body) -> Result<Body, NoMemory>
     ensures { IfOk result (λ b. b ≡ body.now) }
@@ -60,6 +81,18 @@ fn copy_body(alloc: Global, body: &Body) -> Result<Body, NoMemory>
             Ok(Body::File(Bytes::new(copied)))
         }
     }
+}
+
+// The number of names in the path of an entry's directory.
+fn parent_depth(items: &[Item], entry: &Entry) -> usize
+    requires { entry.now.parent ≤ length items.now }
+    ensures { result ≡ length (path_at items.now entry.now.parent) }
+{
+    if entry.parent.0 == 0 {
+        return 0;
+    }
+    let parent = &items[entry.parent.0 - 1];
+    parent.path.len()
 }
 
 // The path of an entry, by those of the entries before it.
@@ -78,29 +111,41 @@ fn path_for(alloc: Global, items: &[Item], entry: &Entry) -> Result<Vec<Name>, N
     Ok(path)
 }
 
-// Appends an entry to the additions of the entries before it.
-fn push_entry(alloc: Global, items: &mut Vec<Item>, entry: &Entry) -> Result<(), NoMemory>
+// Appends an entry to the additions of the entries before it, if its path is not too deep.
+fn push_entry(alloc: Global, items: &mut Vec<Item>, entry: &Entry) -> Result<(), OutlineFault>
     requires { entry.now.parent ≤ length items.old.items }
-    ensures { OnOk result (items.new.items ≡ with_entry items.old.items entry.now) }
+    ensures entry { OnOk result (items.new.items ≡ with_entry items.old.items entry.now) }
+    ensures shallow { OnOk result (is_deep (addition_for items.old.items entry.now).path ≡ false) }
+    ensures deep { IfErr result (λ f. f ≢ OutlineFault.NoMemory
+        → is_deep (addition_for items.old.items entry.now).path ≡ true) }
 {
+    if MOST_DEPTH <= parent_depth(items, entry) {
+        return Err(OutlineFault::TooDeep);
+    }
     let path = path_for(alloc, items, entry)?;
     let body = copy_body(alloc, &entry.body)?;
     let meta = entry.meta.copy();
     match items.push(Item { path, meta, body }) {
         Ok(()) => Ok(()),
-        Err(_) => Err(NoMemory),
+        Err(_) => Err(OutlineFault::NoMemory),
     }
 }
 
 #[tactic(auto, using(crate::proofs::Additions::some_entry, crate::proofs::Additions::entry_step, crate::proofs::Additions::parent_early, crate::proofs::Additions::additions_all))]
 // The additions of the entries of a tree.
-fn items_of(alloc: Global, tree: &Tree) -> Result<Vec<Item>, NoMemory>
-    ensures { IfOk result (λ items. items.items ≡ additions_of tree.now.entries) }
+fn items_of(alloc: Global, tree: &Tree) -> Result<Vec<Item>, OutlineFault>
+    ensures entries { IfOk result (λ items. items.items ≡ additions_of tree.now.entries) }
+    ensures shallow { IfOk result (λ items. has_deep items.items ≡ false) }
+    ensures deep { IfErr result (λ f. f ≢ OutlineFault.NoMemory
+        → has_deep (additions_of tree.now.entries) ≡ true) }
 {
     let mut items = Vec::new(alloc);
     for i in 0..tree.len() {
         let entry = tree.entry(Node(i + 1)).unwrap();
-        push_entry(alloc, &mut items, entry)?;
+        match push_entry(alloc, &mut items, entry) {
+            Ok(()) => {}
+            Err(fault) => return Err(fault),
+        }
     }
     Ok(items)
 }
@@ -116,9 +161,13 @@ fn add_item(draft: &mut Draft, item: Item) -> Result<(), AddFault>
 }
 
 impl Outline {
-    /// The outline of a tree.
-    pub fn of(alloc: Global, tree: &Tree) -> Result<Outline, NoMemory>
-        ensures { IfOk result (λ o. o ≡ outline_of tree.now) }
+    /// The outline of a tree; `TooDeep` where an entry is deeper than `MOST_DEPTH` names, and else `NoMemory` if an allocation fails.
+    /// No path is kept that has more names.
+    pub fn of(alloc: Global, tree: &Tree) -> Result<Outline, OutlineFault>
+        ensures outline { IfOk result (λ o. o ≡ outline_of tree.now) }
+        ensures shallow { IfOk result (λ o. has_deep o.additions ≡ false) }
+        ensures deep { IfErr result (λ f. f ≢ OutlineFault.NoMemory
+            → has_deep (outline_of tree.now).additions ≡ true) }
     {
         Ok(Outline {
             kind: tree.kind(),

@@ -2,10 +2,13 @@
 
 ghost use Rattle.std.specs.Prelude.{◌≡◌, ◌++◌, ◌≤◌, drop, length, take, IfOk, OnOk};
 ghost use Rattle.adf_tree.specs.Additions.{same_path};
-ghost use Rattle.adf_edits.specs.Paths.{is_at_or_under, is_under};
+ghost use Rattle.adf_edits.specs.Paths.{is_at_or_under, is_deep, is_under};
 
 use adf_base::NoMemory;
 use adf_names::Name;
+
+/// The most names in a path of an outline: AmigaDOS takes no path of more characters.
+pub const MOST_DEPTH: usize = 255;
 
 #[tactic(auto, using(crate::proofs::SamePaths::same_all, crate::proofs::SamePaths::same_short, crate::proofs::SamePaths::same_not))]
 /// Whether the paths are equal, ignoring the case of `a` to `z`.
@@ -21,6 +24,13 @@ pub fn same_path(a: &[Name], b: &[Name]) -> bool
         }
     }
     true
+}
+
+/// Whether a path has more than `MOST_DEPTH` names.
+pub fn is_deep(path: &[Name]) -> bool
+    ensures { result ≡ is_deep path.now }
+{
+    MOST_DEPTH < path.len()
 }
 
 /// Whether a path is that of the directory, or leads to something in it.
