@@ -1,8 +1,7 @@
 -- Paths that are too deep.
--- Letters: es are entries, e the next of them, i the number of those before; xs their additions, ys those with that of e.
-use Rattle.std.proofs.Common.{◌≡◌, ◌≤◌, ◌<◌, ◌+◌, ◌-◌, ◌++◌, ◌∷◌, ◌||◌, ◌∙◌, ℕ, List, [], Some, length, drop, take, fold, nat_lt, true, false, Bool}
-use Rattle.std.proofs.Common.{ap, arith, refl, sym}
-use Rattle.std.specs.List.{list_any}
+-- Letters: xs are additions, ys what an edit makes of them; es are entries, e the next of them, i the number of those before; xs their additions, ys those with that of e.
+use Rattle.std.proofs.Common.{◌≡◌, ◌<◌, ◌+◌, ◌-◌, ◌++◌, ◌∷◌, ◌||◌, ◌∙◌, ℕ, List, [], Some, length, drop, take, fold, true, false, Bool}
+use Rattle.std.proofs.Common.{ap, refl, sym}
 use Rattle.std.proofs.lemmas.List.{length-append, length-drop, take-append-drop}
 use Rattle.std.proofs.lemmas.List.Folds.{list_any-append}
 use Rattle.adf_tree.specs.declared.entry.Entry.{Entry}

@@ -10,3 +10,4 @@ pub mod EditsKept
 pub mod FirstAt
 pub mod PathsKept
 pub mod MovedPaths
+pub mod DepthsKept

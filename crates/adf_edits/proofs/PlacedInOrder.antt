@@ -43,7 +43,7 @@ nothing_before = λ i d lt. absurd (omega arith)
 
 -- a change keeps paths and bodies
 
-any_mapped : (p : Addition → Bool) (f : Addition → Addition) (xs : List Addition) → ((y : Addition) → p (f y) ≡ p y)
+pub any_mapped : (p : Addition → Bool) (f : Addition → Addition) (xs : List Addition) → ((y : Addition) → p (f y) ≡ p y)
     → list_any p (map f xs) ≡ list_any p xs
 any_mapped p f [] h = refl
 any_mapped p f (x ∷ xs) h = rw (h x, any_mapped p f xs h) refl
@@ -52,7 +52,7 @@ module _ (path : List (List ℕ)) (what : Change) where
   abbrev change : Addition → Addition
   change = changed_if path what
 
-  same_place : (y : Addition) → (change y).path ≡ y.path
+  pub same_place : (y : Addition) → (change y).path ≡ y.path
   same_place y = elim (cases_Bool (is_at path y)) [ inl t ↦ rw t refl | inr f ↦ rw f refl ]
 
   same_body : (y : Addition) → (change y).body ≡ y.body

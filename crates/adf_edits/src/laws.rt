@@ -10,7 +10,7 @@ ghost use Rattle.adf_edits.specs.declared.edits.Change.{Change};
 ghost use Rattle.adf_edits.specs.Edits.{EditValue, changed, edited, edited_additions, file_of, new_addition};
 ghost use Rattle.adf_edits.specs.Edits.EditValue.{change, dir, file, label, move, remove};
 ghost use Rattle.adf_edits.specs.Outline.{OutlineValue, outline_of, tree_of};
-ghost use Rattle.adf_edits.specs.Paths.{is_at_or_under};
+ghost use Rattle.adf_edits.specs.Paths.{has_deep, is_at_or_under};
 
 /// The outline of a tree has that tree, and each of its additions has room.
 pub fn outlines_have_their_trees()
@@ -24,6 +24,12 @@ pub fn edits_keep_room()
         → edited_additions edit given xs ≡ Ok ys → AllHaveRoom ys }
     ensures outline { (edit : EditValue) (given : List ℕ) (o p : OutlineValue) → AllHaveRoom o.additions
         → edited edit given o ≡ Ok p → AllHaveRoom p.additions }
+{}
+
+/// Where no path has more than `MOST_DEPTH` names, none has after an edit that is applied.
+pub fn edits_keep_depth()
+    ensures { (edit : EditValue) (given : List ℕ) (xs ys : List Addition) → has_deep xs ≡ false
+        → edited_additions edit given xs ≡ Ok ys → has_deep ys ≡ false }
 {}
 
 /// After a removal each other path leads to what it led to, and the removed one to nothing.
