@@ -1,5 +1,5 @@
 -- Paths that are too deep.
--- Letters: xs are additions, ys what an edit makes of them; es are entries, e the next of them, i the number of those before; xs their additions, ys those with that of e.
+-- Letters: xs are additions, ys those with the next entry's; es are entries, e the next of them, i the number of those before.
 use Rattle.std.proofs.Common.{◌≡◌, ◌<◌, ◌+◌, ◌-◌, ◌++◌, ◌∷◌, ◌||◌, ◌∙◌, ℕ, List, [], Some, length, drop, take, fold, true, false, Bool}
 use Rattle.std.proofs.Common.{ap, refl, sym}
 use Rattle.std.proofs.lemmas.List.{length-append, length-drop, take-append-drop}

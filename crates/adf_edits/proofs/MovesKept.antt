@@ -298,7 +298,10 @@ no_move_fault : (from to : List (List ℕ)) (xs : List Addition) → move_fault 
     → (has_path xs from ≡ true) × (room_fault (without from xs) to ≡ None)
 no_move_fault from to xs h = elim (cases_Bool (has_path xs from)) [
   | inr f ↦ let clash = rw f at h in cc
-  | inl t ↦ elim (cases_Bool (is_under from to)) [ inl u ↦ let clash = rw (t, u) at h in cc | inr u ↦ (t, first_none (room_fault (without from xs) to) (depth_fault xs from to) (rw (t, u) at h)) ]
+  | inl t ↦ elim (cases_Bool (is_under from to)) [
+    | inl u ↦ let clash = rw (t, u) at h in cc
+    | inr u ↦ (t, first_none (room_fault (without from xs) to) (depth_fault xs from to) (rw (t, u) at h))
+  ]
 ]
 
 -- what is moved has a path with a name, and what stays has room for it

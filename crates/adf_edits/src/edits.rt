@@ -211,8 +211,8 @@ fn gets_deep(from: &[Name], to: &[Name], item: &Item) -> bool
     MOST_DEPTH < to.len().saturating_add(behind)
 }
 
-// Whether a path gets too deep.
-fn get_deep(items: &[Item], from: &[Name], to: &[Name]) -> bool
+// Whether the path of one of the entries gets too deep.
+fn any_gets_deep(items: &[Item], from: &[Name], to: &[Name]) -> bool
     ensures { result ≡ list_any (gets_deep from.now to.now) items.now }
 {
     items.iter().any(|item| gets_deep(from, to, item))
@@ -296,7 +296,7 @@ fn moved(
     if let Some(fault) = room_fault(&rest, to) {
         return Err(fault);
     }
-    if get_deep(&within, from, to) {
+    if any_gets_deep(&within, from, to) {
         return Err(EditFault::TooDeep);
     }
     push_moved(alloc, &mut rest, within, from, to)?;

@@ -77,8 +77,8 @@ pub fn labels_keep_paths()
         → (q : List (List ℕ)) → content_at (entries_of_additions ys) q ≡ content_at (entries_of_additions xs) q }
 {}
 
-/// After a move the new path leads to what the old one led to, under the last name of the new path, and what was in the old path is
-/// in the new one. Other paths at or in the old one lead to nothing, and all other paths to what they led to.
+/// After a move the new path leads to what the old one led to, under the last name of the new path, and what was in the old
+/// path is in the new one. Other paths at or in the old one lead to nothing, and all other paths to what they led to.
 pub fn moves_keep_other_paths()
     ensures there { (from to : List (List ℕ)) (given : List ℕ) (xs ys : List Addition) → AllHaveRoom xs
         → edited_additions (move from to) given xs ≡ Ok ys

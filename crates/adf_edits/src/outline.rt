@@ -161,7 +161,7 @@ fn add_item(draft: &mut Draft, item: Item) -> Result<(), AddFault>
 }
 
 impl Outline {
-    /// The outline of a tree; `TooDeep` where an entry is deeper than `MOST_DEPTH` names, and else `NoMemory` if an allocation fails.
+    /// The outline of a tree; `TooDeep` where an entry is deeper than `MOST_DEPTH` names, and `NoMemory` if an allocation fails.
     /// No path is kept that has more names.
     pub fn of(alloc: Global, tree: &Tree) -> Result<Outline, OutlineFault>
         ensures outline { IfOk result (λ o. o ≡ outline_of tree.now) }
