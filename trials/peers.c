@@ -1,4 +1,4 @@
-/* For an Amiga, where trials/peers runs it: copies all that is in a directory into another, with comments, dates and protection.
+/* For an Amiga, where trials/peers and trials/amiga run it: copies all that is in a directory into another, with comments, dates and protection.
  *
  *     copy FROM TO
  *
