@@ -122,34 +122,41 @@ const UNNAMED: &[Row<'static>] = &[
     ),
 ];
 
-// Runs the program of the first word, and returns its status.
-fn run_files(
-    alloc: Global,
-    words: &[&str],
-    folder: &Folder<'_>,
-    input: &mut Given<'_>,
-    output: &mut Kept,
-    errors: &mut Kept,
-) -> u8 {
-    if words.is_empty() || words[0] != "adf-disk" {
-        return adf_survey_cmd::run_files(alloc, words, folder, input, output, errors);
+// How a run ended.
+#[derive(Drop)]
+struct Came {
+    status: u8,
+    output: Vec<u8>,
+    errors: Vec<u8>,
+}
+
+// Runs the program of the first word, where the folder has a sound image, and the input has these bytes and fails after so many reads.
+fn run_files(alloc: Global, words: &[&str], sound: &[u8], bytes: &[u8], reads: usize) -> Came {
+    let folder = Folder { sound };
+    let mut input = Given::new(bytes, reads);
+    let mut output = Kept::new(alloc, usize::MAX, usize::MAX);
+    let mut errors = Kept::new(alloc, usize::MAX, usize::MAX);
+    let status = if words.is_empty() || words[0] != "adf-disk" {
+        adf_survey_cmd::run_files(alloc, words, &folder, &mut input, &mut output, &mut errors)
+    } else {
+        adf_disk_cmd::run_files(alloc, words, &folder, &mut input, &mut output, &mut errors)
+    };
+    Came {
+        status,
+        output: output.bytes,
+        errors: errors.bytes,
     }
-    adf_disk_cmd::run_files(alloc, words, folder, input, output, errors)
 }
 
 // Whether a run ends as the row says, where the folder has a sound image, and the input has it too, and fails after so many
 // reads.
 fn ends(alloc: Global, row: Row<'_>, reads: usize) -> bool {
     let image = sound_image(alloc);
-    let folder = Folder { sound: &image };
-    let mut input = Given::new(&image, reads);
-    let mut output = Kept::new(alloc, usize::MAX, usize::MAX);
-    let mut errors = Kept::new(alloc, usize::MAX, usize::MAX);
     let (words, status, bytes, said) = row;
-    let ended = run_files(alloc, words, &folder, &mut input, &mut output, &mut errors);
-    ended == status
-        && output.bytes.as_slice() == bytes
-        && errors.bytes.as_slice() == said.as_bytes()
+    let came = run_files(alloc, words, &image, &image, reads);
+    came.status == status
+        && came.output.as_slice() == bytes
+        && came.errors.as_slice() == said.as_bytes()
 }
 
 #[test]
@@ -170,20 +177,12 @@ fn the_input_is_read_where_no_file_is_named(rt: HostRuntime) {
 #[test]
 fn plans_and_disks_are_files(rt: HostRuntime) {
     let alloc = rt.alloc();
-    let mut input = Given::new(b"", 0);
-    let mut disk = Kept::new(alloc, usize::MAX, usize::MAX);
-    let mut lines = Kept::new(alloc, usize::MAX, usize::MAX);
-    let mut errors = Kept::new(alloc, usize::MAX, usize::MAX);
-    let plan = Folder { sound: PLAN };
-    let build = ["adf-disk", "build", "sound"];
-    let built = run_files(alloc, &build, &plan, &mut input, &mut disk, &mut errors);
-    assert_eq!(rt; built, 0);
-    let image = Folder { sound: &disk.bytes };
-    let list = ["adf-disk", "list", "sound"];
-    let listed = run_files(alloc, &list, &image, &mut input, &mut lines, &mut errors);
-    assert_eq!(rt; listed, 0);
-    assert!(rt; lines.bytes.as_slice() == LISTED);
-    assert!(rt; errors.bytes.is_empty());
+    let built = run_files(alloc, &["adf-disk", "build", "sound"], PLAN, b"", 0);
+    assert_eq!(rt; built.status, 0);
+    let listed = run_files(alloc, &["adf-disk", "list", "sound"], &built.output, b"", 0);
+    assert_eq!(rt; listed.status, 0);
+    assert!(rt; listed.output.as_slice() == LISTED);
+    assert!(rt; listed.errors.is_empty());
 }
 
 const LISTED: &[u8] =
