@@ -10,7 +10,8 @@ import time
 HERE = os.path.dirname(os.path.abspath(__file__))
 sys.path.append(os.path.join(HERE, "..", "bindings", "python"))
 os.environ["PYTHONPATH"] = os.pathsep.join(filter(None, sys.path))
-import adf  # noqa: E402
+os.environ["PYTHONDONTWRITEBYTECODE"] = "1"
+import adf
 
 SIZES = (0, 1, 72, 487, 488, 489, 511, 512, 513, 4000, 36864, 36865, 60000)
 NAME_LETTERS = "abcdefghijklmnopqrstuvwxyzABCDEFGHIJKLMNOPQRSTUVWXYZ0123456789 -_+\xe4\xf6\xfc\xdf\xe9\xc5\xf1"
