@@ -102,7 +102,6 @@ _Surveyed = _struct(
     *(("kind blocks", _WORD), ("findings entries", _SIZE)),
     *(("root altered created", _Date), ("label_length", _BYTE), ("label", _BYTE * 30)),
 )
-_Part = _struct(("node", _SIZE), ("number", _WORD))
 _Partition = _struct(
     *(("first blocks", ctypes.c_uint64), ("block flags", _WORD), ("priority", ctypes.c_int32), ("dos_type", _WORD)),
     *(("fault name_length", _BYTE), ("name", _BYTE * 31)),
