@@ -1,5 +1,5 @@
--- The progress of a check: the blocks it may still claim, and the reads that are enough for them.
-use Rattle.std.specs.Prelude.{◌≤◌, ◌-◌, ◌+◌, ◌*◌, ℕ, length}
+-- The progress of a check: how many blocks it may still claim.
+use Rattle.std.specs.Prelude.{◌≤◌, ◌-◌, ◌+◌, ℕ, length}
 use Rattle.adf_check.specs.KeptOwner.{claimed_count}
 use Rattle.adf_check.specs.declared.store.Store.{Store}
 
@@ -14,7 +14,3 @@ left_with_headers s = left s + length s.headers.items
 -- the later store extends the earlier one, by no more blocks and headers than it could claim
 abbrev pub IsFurther : Store → Store → Type 0
 IsFurther s later = (left_with_headers later ≤ left_with_headers s) × (length s.headers.items ≤ length later.headers.items)
-
--- enough reads remain: 5 for each block without owner, 2 for each node not begun, 1 for each block, and `more`
-abbrev pub IsPaid : Store → ℕ → ℕ → Type 0
-IsPaid s reads more = 5 * left s + 2 * (length s.headers.items + 1 - length s.starts.items) + length s.owners + more ≤ reads

@@ -9,12 +9,10 @@ ghost use Rattle.adf_check.specs.KeptOwner.{kept_at};
 ghost use Rattle.adf_check.specs.Store.{store_value};
 ghost use Rattle.adf_check.specs.Pages.{AreListed, IsBitFault};
 
-use crate::block_reads::{BlockReads, read_block};
 use crate::owner_table::OwnerTable;
 use crate::store::Store;
 use adf_blocks::{Cause, PAGE_WORDS, Page, is_set};
 use adf_volume::{Fault, Image, fault_at};
-use std::sync::ledger::Ledger;
 
 // Compares the bit of block `b` with its owner.
 fn check_block(owners: &OwnerTable, b: u32, is_free: bool) -> Result<(), Fault>
@@ -36,24 +34,16 @@ fn check_block(owners: &OwnerTable, b: u32, is_free: bool) -> Result<(), Fault>
 }
 
 // Compares word `i` of the bitmap with the owners of its blocks.
-fn check_word<L: Ledger>(
-    image: &Image<'_>,
-    store: &Store,
-    reads: &mut BlockReads<L>,
-    pages: &[u32],
-    i: u32,
-) -> Result<(), Fault>
-    requires paid { 0 < reads.old }
+fn check_word(image: &Image<'_>, store: &Store, pages: &[u32], i: u32) -> Result<(), Fault>
     requires inside { 2 + 32 * i < blocks image.now }
     requires pages { AreListed image.now pages.now (pages_needed (blocks image.now)) }
     requires state { IsMapped image.now (store_value store.now) (2 + 32 * i) }
-    ensures reads { reads.old ≡ reads.new + 1 }
     ensures state { OnOk result
         (IsMapped image.now (store_value store.now) (min (2 + 32 * (i + 1)) (blocks image.now))) }
     ensures fault { IfErr result (λ f. IsTrueFault image.now f) }
 {
     let blocks = image.blocks();
-    let page = Page::over(read_block(image, pages[i as usize / PAGE_WORDS], reads));
+    let page = Page::over(image.block(pages[i as usize / PAGE_WORDS]));
     let word = page.word(i as usize % PAGE_WORDS);
     let first = 2 + 32 * i;
     let len = (blocks - first).min(32);
@@ -67,13 +57,7 @@ fn check_word<L: Ledger>(
 }
 
 /// Compares the bitmap with the owners, in ascending order of blocks.
-pub fn check_bitmap<L: Ledger>(
-    image: &Image<'_>,
-    store: &Store,
-    reads: &mut BlockReads<L>,
-    pages: &[u32],
-) -> Result<(), Fault>
-    requires paid { blocks image.now ≤ reads.old }
+pub fn check_bitmap(image: &Image<'_>, store: &Store, pages: &[u32]) -> Result<(), Fault>
     requires pages { AreListed image.now pages.now (pages_needed (blocks image.now)) }
     requires state { IsRead image.now (store_value store.now) }
     ensures fits { OnOk result (StoreFits image.now (store_value store.now)) }
@@ -81,7 +65,7 @@ pub fn check_bitmap<L: Ledger>(
 {
     let words = (image.blocks() - 2).div_ceil(32);
     for i in 0..words {
-        check_word(image, store, reads, pages, i)?;
+        check_word(image, store, pages, i)?;
     }
     Ok(())
 }

@@ -7,17 +7,15 @@ ghost use Rattle.adf_blocks.specs.Sizes.{blocks};
 ghost use Rattle.adf_blocks.specs.declared.layout.TheConstants.{FIRST_SLOT, SECONDARY_TYPE, SLOTS, ST_DIR};
 ghost use Rattle.adf_volume.specs.Image.{word_in};
 ghost use Rattle.adf_check.specs.Reading.{IsAtNode, IsAtSlot, IsInChain, sees_of};
-ghost use Rattle.adf_check.specs.Progress.{IsFurther, IsPaid, left};
+ghost use Rattle.adf_check.specs.Progress.{IsFurther, left};
 ghost use Rattle.adf_check.specs.Store.{store_value};
 
-use crate::block_reads::{BlockReads, read_block};
 use crate::claims::claim_named;
 use crate::kept_owner::KeptOwner;
 use crate::store::{KeptHeader, Store};
 use adf_blocks::{Cause, Directory, Head, HeadBody, SLOTS, read_head};
 use adf_tree::{NameSet, Node};
 use adf_volume::{Fault, Image, fault_at, no_memory};
-use std::sync::ledger::Ledger;
 
 /// The chain of a slot of a directory; `up` is the directory's block.
 #[derive(Drop)]
@@ -46,10 +44,9 @@ fn is_directory(head: &Head<'_>) -> bool
 }
 
 // Claims and reads the header at block `b`, which `holder` points to; returns the next one of its chain, or 0.
-fn read_header<L: Ledger>(
+fn read_header(
     image: &Image<'_>,
     store: &mut Store,
-    reads: &mut BlockReads<L>,
     seen: &mut NameSet,
     chain: &Chain,
     holder: u32,
@@ -60,11 +57,9 @@ fn read_header<L: Ledger>(
     requires state { IsInChain image.now
         (store_value store.old) chain.now.parent chain.now.up chain.now.slot
         holder b (sees_of seen.old) }
-    requires paid { IsPaid store.old reads.old 0 }
     ensures state { IfOk result (λ next.
         IsInChain image.now (store_value store.new) chain.now.parent chain.now.up chain.now.slot
         b next (sees_of seen.new)) }
-    ensures paid { OnOk result (IsPaid store.new reads.new 0) }
     ensures fewer { OnOk result (IsFurther store.old store.new) }
     ensures less { OnOk result (left store.new < left store.old) }
     ensures inside { OnOk result (b < blocks image.now) }
@@ -73,7 +68,7 @@ fn read_header<L: Ledger>(
     let kind = image.kind();
     let node = store.headers.len() as u32 + 1;
     claim_named(&mut store.owners, holder, b, KeptOwner::Head(node))?;
-    let head = match read_head(read_block(image, b, reads), kind, b, chain.up, chain.slot) {
+    let head = match read_head(image.block(b), kind, b, chain.up, chain.slot) {
         Ok(head) => head,
         Err(cause) => return Err(fault_at(b, cause)),
     };
@@ -90,10 +85,9 @@ fn read_header<L: Ledger>(
 }
 
 // Reads a chain to its end.
-fn read_chain<L: Ledger>(
+fn read_chain(
     image: &Image<'_>,
     store: &mut Store,
-    reads: &mut BlockReads<L>,
     seen: &mut NameSet,
     chain: &Chain,
     first: u32,
@@ -103,11 +97,9 @@ fn read_chain<L: Ledger>(
     requires state { IsAtSlot image.now
         (store_value store.old) chain.now.parent chain.now.up chain.now.slot }
     requires named { first ≡ word_in image.now chain.now.up (FIRST_SLOT + chain.now.slot) }
-    requires paid { IsPaid store.old reads.old 0 }
     ensures state { OnOk result
         (IsAtSlot image.now (store_value store.new) chain.now.parent chain.now.up
         (chain.now.slot + 1)) }
-    ensures paid { OnOk result (IsPaid store.new reads.new 0) }
     ensures fewer { OnOk result (IsFurther store.old store.new) }
     ensures fault { IfErr result (λ f. IsTrueFault image.now f) }
 {
@@ -115,7 +107,7 @@ fn read_chain<L: Ledger>(
     let mut holder = chain.up;
     let mut b = first;
     while b != 0 {
-        let next = read_header(image, store, reads, seen, chain, holder, b)?;
+        let next = read_header(image, store, seen, chain, holder, b)?;
         holder = b;
         b = next;
     }
@@ -124,36 +116,26 @@ fn read_chain<L: Ledger>(
 
 /// Reads the slots of a directory; `up` is its block.
 #[tactic(auto, using(crate::proofs::ChainSteps::empty_chain))]
-pub fn read_directory<L: Ledger>(
+pub fn read_directory(
     image: &Image<'_>,
     store: &mut Store,
-    reads: &mut BlockReads<L>,
     seen: &mut NameSet,
     parent: Node,
     up: u32,
 ) -> Result<(), Fault>
     requires inside { up < blocks image.now }
     requires state { IsAtSlot image.now (store_value store.old) parent up 0 }
-    requires paid { IsPaid store.old reads.old 1 }
     ensures state { OnOk result (IsAtNode image.now (store_value store.new) (parent + 1)) }
-    ensures paid { OnOk result (IsPaid store.new reads.new 0) }
     ensures fewer { OnOk result (IsFurther store.old store.new) }
     ensures fault { IfErr result (λ f. IsTrueFault image.now f) }
 {
-    let directory = Directory::over(read_block(image, up, reads));
+    let directory = Directory::over(image.block(up));
     for slot in 0..SLOTS as u8 {
         let first = directory.slot(slot);
         if first == 0 {
             continue;
         }
-        read_chain(
-            image,
-            store,
-            reads,
-            seen,
-            &Chain { parent, up, slot },
-            first,
-        )?;
+        read_chain(image, store, seen, &Chain { parent, up, slot }, first)?;
     }
     Ok(())
 }

@@ -1,8 +1,7 @@
 // The whole check.
 
 ghost use Rattle.adf_volume.specs.Fault.{IsTrueFault};
-ghost use Rattle.std.specs.Prelude.{◌≡◌, ◌≢◌, ◌≤◌, ◌*◌, IfOk, IfErr};
-ghost use Rattle.adf_blocks.specs.Sizes.{blocks};
+ghost use Rattle.std.specs.Prelude.{◌≡◌, ◌≢◌, IfOk, IfErr};
 ghost use Rattle.adf_tree.specs.Tree.{Tree};
 ghost use Rattle.adf_volume.specs.Fits.{Fits};
 ghost use Rattle.adf_volume.specs.Layout.{Layout};
@@ -11,17 +10,13 @@ ghost use Rattle.adf_volume.specs.Start.{IsBegun};
 ghost use Rattle.adf_check.specs.Volumes.{StandsFor};
 
 use crate::bitmap::check_bitmap;
-use crate::block_reads::BlockReads;
 use crate::checked::Checked;
 use crate::nodes::read_nodes;
 use crate::pages::read_pages;
 use crate::store::Store;
-use adf_base::BLOCK_LEN;
 use adf_blocks::Cause;
 use adf_volume::{Fault, no_memory, open};
 use std::alloc::Global;
-use std::marker::Brand;
-use std::sync::ledger::{Blank, Ledger};
 
 /// Checks an image. Returns its volume, or the first fault and its block.
 ///
@@ -45,36 +40,12 @@ pub fn check<'a>(alloc: Global, image: &'a [u8]) -> Result<Checked<'a>, Fault>
     ensures memory { IfErr result (λ f. f.cause ≡ Cause.NoMemory → f.block ≡ 0) }
     ensures begun { IfErr result (λ f. f.cause ≡ Cause.NoMemory → IsBegun image.now) }
 {
-    check_all::<Brand>(alloc, image, Blank::new(2))
+    check_all(alloc, image)
 }
 
-// Checks an image, with at most six reads for each of its blocks.
-fn check_all<'a, L: Ledger>(
-    alloc: Global,
-    image: &'a [u8],
-    blank: Blank,
-) -> Result<Checked<'a>, Fault>
-    requires name { blank.name ≡ L.name }
-    requires parts { blank.parts ≡ L.parts }
-    requires two { 2 ≤ blank.parts }
-    ensures image { IfOk result (λ v. v.image ≡ image.now) }
-    ensures fits { IfOk result (λ v. (t : Tree) × (l : Layout) × StandsFor v t l) }
-    ensures fault { IfErr result (λ f. IsTrueFault image.now f) }
-    ensures begun { IfErr result (λ f. f.cause ≡ Cause.NoMemory → IsBegun image.now) }
-{
-    let mut reads: BlockReads<L> = BlockReads::new(blank, 6 * (image.len() / BLOCK_LEN) as u64);
-    check_within(alloc, image, &mut reads)
-}
-
-/// Checks an image as `check` does, with a bound on its reads: each read of a block, except block 0 and the root, uses
-/// one of the reads. Six for each block of the image are enough for any content.
+// Checks an image: any fault is the first one.
 #[tactic(auto, unfolding(adf_volume::specs::Image::name_of, adf_volume::specs::Image::stamps_of))]
-pub fn check_within<'a, L: Ledger>(
-    alloc: Global,
-    image: &'a [u8],
-    reads: &mut BlockReads<L>,
-) -> Result<Checked<'a>, Fault>
-    requires enough { 6 * blocks image.now ≤ reads.old }
+fn check_all<'a>(alloc: Global, image: &'a [u8]) -> Result<Checked<'a>, Fault>
     ensures image { IfOk result (λ v. v.image ≡ image.now) }
     ensures fits { IfOk result (λ v. (t : Tree) × (l : Layout) × StandsFor v t l) }
     ensures fault { IfErr result (λ f. IsTrueFault image.now f) }
@@ -84,9 +55,9 @@ pub fn check_within<'a, L: Ledger>(
     let Ok(mut store) = Store::begin(alloc, &opened.image) else {
         return Err(no_memory());
     };
-    let pages = read_pages(alloc, &opened.image, &opened.root, &mut store, reads)?;
-    read_nodes(alloc, &opened.image, &mut store, reads)?;
-    check_bitmap(&opened.image, &store, reads, &pages)?;
+    let pages = read_pages(alloc, &opened.image, &opened.root, &mut store)?;
+    read_nodes(alloc, &opened.image, &mut store)?;
+    check_bitmap(&opened.image, &store, &pages)?;
     Ok(Checked::new(
         opened.image,
         store,

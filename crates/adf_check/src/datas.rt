@@ -8,19 +8,17 @@ ghost use Rattle.adf_volume.specs.Demands.{AllHold, FirstFails};
 ghost use Rattle.adf_volume.specs.Image.{held, table_word, word_in};
 ghost use Rattle.adf_volume.specs.Walk.{data_count};
 ghost use Rattle.adf_check.specs.Reading.{IsAtNode, IsInDatas};
-ghost use Rattle.adf_check.specs.Progress.{IsFurther, IsPaid};
+ghost use Rattle.adf_check.specs.Progress.{IsFurther};
 ghost use Rattle.adf_check.specs.Store.{store_value};
 ghost use Rattle.adf_check.specs.Datas.{data_asked, next_of};
 ghost use Rattle.adf_volume.specs.Start.{IsBegun};
 
-use crate::block_reads::{BlockReads, read_block};
 use crate::claims::claim_named;
 use crate::kept_owner::KeptOwner;
 use crate::store::Store;
 use adf_blocks::{Cause, POINTERS, Table, chunk_len, read_data};
 use adf_tree::{Kind, Node};
 use adf_volume::{Fault, Image, count_of, fault_at, held_in, no_memory};
-use std::sync::ledger::Ledger;
 
 /// A file whose data blocks are read: its node, its header's block, its size in bytes and its number of data blocks.
 #[derive(Drop)]
@@ -32,35 +30,23 @@ struct File {
 }
 
 // The pointer to data block `k + 1` in the table.
-fn pointer<L: Ledger>(image: &Image<'_>, reads: &mut BlockReads<L>, table: &[u32], k: u32) -> u32
-    requires paid { 0 < reads.old }
+fn pointer(image: &Image<'_>, table: &[u32], k: u32) -> u32
     requires inside { k < POINTERS * length table.now }
     requires blocks { (i : ℕ) → i < length table.now → slice_index table.now i < blocks image.now }
     ensures exact { result
         ≡ word_in image.now (slice_index table.now (k / POINTERS)) (table_word k) }
-    ensures reads { reads.old ≡ reads.new + 1 }
 {
-    Table::over(read_block(image, table[k as usize / POINTERS], reads)).pointer(
-        k as usize % POINTERS,
-    )
+    Table::over(image.block(table[k as usize / POINTERS])).pointer(k as usize % POINTERS)
 }
 
 // The pointer to data block `k + 1` in the table, or 0 past the last.
-fn next_pointer<L: Ledger>(
-    image: &Image<'_>,
-    reads: &mut BlockReads<L>,
-    table: &[u32],
-    count: u32,
-    k: u32,
-) -> u32
-    requires paid { 0 < reads.old }
+fn next_pointer(image: &Image<'_>, table: &[u32], count: u32, k: u32) -> u32
     requires enough { count ≤ POINTERS * length table.now }
     requires blocks { (i : ℕ) → i < length table.now → slice_index table.now i < blocks image.now }
     ensures exact { result ≡ next_of image.now table.now count k }
-    ensures reads { reads.old ≤ reads.new + 1 }
 {
     if k < count {
-        pointer(image, reads, table, k)
+        pointer(image, table, k)
     } else {
         0
     }
@@ -68,20 +54,11 @@ fn next_pointer<L: Ledger>(
 
 // Checks block `b` as data block `k + 1` of the file; an FFS data block is always accepted.
 #[tactic(auto, unfolding(adf_blocks::specs::Sizes::chunk))]
-fn check_data<L: Ledger>(
-    image: &Image<'_>,
-    reads: &mut BlockReads<L>,
-    table: &[u32],
-    file: &File,
-    b: u32,
-    k: u32,
-) -> Result<(), Cause>
-    requires paid { 2 ≤ reads.old }
+fn check_data(image: &Image<'_>, table: &[u32], file: &File, b: u32, k: u32) -> Result<(), Cause>
     requires inside { b < blocks image.now }
     requires count { k < file.now.count }
     requires enough { file.now.count ≤ POINTERS * length table.now }
     requires blocks { (i : ℕ) → i < length table.now → slice_index table.now i < blocks image.now }
-    ensures reads { reads.old ≤ reads.new + 2 }
     ensures ok { OnOk result (AllHold (data_asked image.now file.now table.now b k)) }
     ensures fault { IfErr result (λ c.
         FirstFails (data_asked image.now file.now table.now b k) b c) }
@@ -89,9 +66,9 @@ fn check_data<L: Ledger>(
     match image.kind() {
         Kind::Ffs => Ok(()),
         Kind::Ofs => {
-            let next = next_pointer(image, reads, table, file.count, k + 1);
+            let next = next_pointer(image, table, file.count, k + 1);
             let held = held_in(Kind::Ofs, file.size, k + 1);
-            match read_data(read_block(image, b, reads), file.head, k + 1, held, next) {
+            match read_data(image.block(b), file.head, k + 1, held, next) {
                 Ok(_) => Ok(()),
                 Err(cause) => Err(cause),
             }
@@ -101,10 +78,9 @@ fn check_data<L: Ledger>(
 
 // Claims and checks block `b` as data block `k + 1` of a file; block `holder` of its table points to it. The table is
 // the header and the extension blocks.
-fn read_data_block<L: Ledger>(
+fn read_data_block(
     image: &Image<'_>,
     store: &mut Store,
-    reads: &mut BlockReads<L>,
     table: &[u32],
     file: &File,
     holder: u32,
@@ -119,18 +95,16 @@ fn read_data_block<L: Ledger>(
     requires named { b ≡ word_in image.now (slice_index table.now (k / POINTERS)) (table_word k) }
     requires state { IsInDatas image.now
         (store_value store.old) file.now.node file.now.head table.now k }
-    requires paid { IsPaid store.old reads.old 0 }
     ensures state { OnOk result
         (IsInDatas image.now (store_value store.new) file.now.node file.now.head table.now
         (k + 1)) }
-    ensures paid { OnOk result (IsPaid store.new reads.new 1) }
     ensures fewer { OnOk result (IsFurther store.old store.new) }
     ensures fault { IfErr result (λ f. IsTrueFault image.now f) }
 {
     image.begun();
     let place = store.datas.len() as u32;
     claim_named(&mut store.owners, holder, b, KeptOwner::Data(place))?;
-    if let Err(cause) = check_data(image, reads, table, file, b, k) {
+    if let Err(cause) = check_data(image, table, file, b, k) {
         return Err(fault_at(b, cause));
     }
     match store.datas.push(b) {
@@ -140,10 +114,9 @@ fn read_data_block<L: Ledger>(
 }
 
 // Reads the data blocks that block `m` of the table points to.
-fn read_named<L: Ledger>(
+fn read_named(
     image: &Image<'_>,
     store: &mut Store,
-    reads: &mut BlockReads<L>,
     table: &[u32],
     file: &File,
     m: u32,
@@ -154,33 +127,30 @@ fn read_named<L: Ledger>(
     requires inside { POINTERS * m < file.now.count }
     requires state { IsInDatas image.now
         (store_value store.old) file.now.node file.now.head table.now (POINTERS * m) }
-    requires paid { IsPaid store.old reads.old 1 }
     ensures state { OnOk result
         (IsInDatas image.now (store_value store.new) file.now.node file.now.head table.now
         (min (POINTERS * (m + 1)) file.now.count)) }
-    ensures paid { OnOk result (IsPaid store.new reads.new 1) }
     ensures fewer { OnOk result (IsFurther store.old store.new) }
     ensures fault { IfErr result (λ f. IsTrueFault image.now f) }
 {
     image.begun();
     let count = file.count;
     let holder = table[m as usize];
-    let names = Table::over(read_block(image, holder, reads));
+    let names = Table::over(image.block(holder));
     let first = POINTERS as u32 * m;
     let len = (count - first).min(POINTERS as u32);
     for k in first..first + len {
         let b = names.pointer((k - first) as usize);
-        read_data_block(image, store, reads, table, file, holder, b, k)?;
+        read_data_block(image, store, table, file, holder, b, k)?;
     }
     Ok(())
 }
 
 /// Reads the data blocks of the file `node` of `size` bytes, with its header at block `head`. The table is the header
 /// and the extension blocks.
-pub fn read_datas<L: Ledger>(
+pub fn read_datas(
     image: &Image<'_>,
     store: &mut Store,
-    reads: &mut BlockReads<L>,
     table: &[u32],
     node: Node,
     head: u32,
@@ -188,9 +158,7 @@ pub fn read_datas<L: Ledger>(
 ) -> Result<(), Fault>
     requires size { size ≡ word_in image.now head SIZE }
     requires state { IsInDatas image.now (store_value store.old) node head table.now 0 }
-    requires paid { IsPaid store.old reads.old 1 }
     ensures state { OnOk result (IsAtNode image.now (store_value store.new) (node + 1)) }
-    ensures paid { OnOk result (IsPaid store.new reads.new 1) }
     ensures fewer { OnOk result (IsFurther store.old store.new) }
     ensures fault { IfErr result (λ f. IsTrueFault image.now f) }
 {
@@ -206,7 +174,7 @@ pub fn read_datas<L: Ledger>(
         count,
     };
     for m in 0..tables {
-        read_named(image, store, reads, table, &file, m)?;
+        read_named(image, store, table, &file, m)?;
     }
     Ok(())
 }

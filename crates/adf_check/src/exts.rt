@@ -4,25 +4,22 @@ ghost use Rattle.adf_volume.specs.Fault.{IsTrueFault};
 ghost use Rattle.std.specs.Prelude.{◌≢◌, ◌<◌, OnOk, IfOk, IfErr};
 ghost use Rattle.adf_blocks.specs.Sizes.{blocks};
 ghost use Rattle.adf_check.specs.Reading.{IsInDatas, IsInExts};
-ghost use Rattle.adf_check.specs.Progress.{IsFurther, IsPaid, left};
+ghost use Rattle.adf_check.specs.Progress.{IsFurther, left};
 ghost use Rattle.adf_check.specs.Store.{store_value};
 ghost use Rattle.adf_volume.specs.Start.{IsBegun};
 
-use crate::block_reads::{BlockReads, read_block};
 use crate::claims::claim_named;
 use crate::kept_owner::KeptOwner;
 use crate::store::Store;
 use adf_blocks::read_ext;
 use adf_tree::Node;
 use adf_volume::{Fault, Image, fault_at, no_memory};
-use std::sync::ledger::Ledger;
 
 // Claims and reads the extension block `b`, which `holder` points to, of the file `node` with its header at `head`.
 // Appends it to the table, which has the header and the earlier extension blocks; returns the next one, or 0.
-fn read_ext_block<L: Ledger>(
+fn read_ext_block(
     image: &Image<'_>,
     store: &mut Store,
-    reads: &mut BlockReads<L>,
     table: &mut Vec<u32>,
     node: Node,
     head: u32,
@@ -31,10 +28,8 @@ fn read_ext_block<L: Ledger>(
 ) -> Result<u32, Fault>
     requires some { b ≢ 0 }
     requires state { IsInExts image.now (store_value store.old) node head table.old.items holder b }
-    requires paid { IsPaid store.old reads.old 1 }
     ensures state { IfOk result (λ next.
         IsInExts image.now (store_value store.new) node head table.new.items b next) }
-    ensures paid { OnOk result (IsPaid store.new reads.new 1) }
     ensures fewer { OnOk result (IsFurther store.old store.new) }
     ensures less { OnOk result (left store.new < left store.old) }
     ensures fault { IfErr result (λ f. IsTrueFault image.now f) }
@@ -42,7 +37,7 @@ fn read_ext_block<L: Ledger>(
     image.begun();
     let place = store.exts.len() as u32;
     claim_named(&mut store.owners, holder, b, KeptOwner::Ext(place))?;
-    let ext = match read_ext(read_block(image, b, reads), b, head) {
+    let ext = match read_ext(image.block(b), b, head) {
         Ok(ext) => ext,
         Err(cause) => return Err(fault_at(b, cause)),
     };
@@ -54,10 +49,9 @@ fn read_ext_block<L: Ledger>(
 
 /// Reads the extension blocks of the file `node`, with its header at block `head`, from block `first` on (0 if there
 /// are none), and appends them to the table, which has the header.
-pub fn read_exts<L: Ledger>(
+pub fn read_exts(
     image: &Image<'_>,
     store: &mut Store,
-    reads: &mut BlockReads<L>,
     table: &mut Vec<u32>,
     node: Node,
     head: u32,
@@ -65,10 +59,8 @@ pub fn read_exts<L: Ledger>(
 ) -> Result<(), Fault>
     requires state { IsInExts image.now
         (store_value store.old) node head table.old.items head first }
-    requires paid { IsPaid store.old reads.old 1 }
     ensures state { OnOk result
         (IsInDatas image.now (store_value store.new) node head table.new.items 0) }
-    ensures paid { OnOk result (IsPaid store.new reads.new 1) }
     ensures fewer { OnOk result (IsFurther store.old store.new) }
     ensures fault { IfErr result (λ f. IsTrueFault image.now f) }
 {
@@ -76,7 +68,7 @@ pub fn read_exts<L: Ledger>(
     let mut holder = head;
     let mut b = first;
     while b != 0 {
-        let next = read_ext_block(image, store, reads, table, node, head, holder, b)?;
+        let next = read_ext_block(image, store, table, node, head, holder, b)?;
         holder = b;
         b = next;
     }

@@ -2,7 +2,6 @@
 #![tactic(auto)]
 
 mod bitmap;
-mod block_reads;
 mod chains;
 mod checked;
 mod checker;
@@ -21,9 +20,8 @@ mod places;
 mod rebuild;
 mod store;
 
-pub use crate::block_reads::BlockReads;
 pub use crate::checked::Checked;
-pub use crate::checker::{check, check_within};
+pub use crate::checker::check;
 pub use crate::owner_class::OwnerClass;
 pub use crate::owners::Owners;
 pub use crate::store::stores_stand_for_trees;

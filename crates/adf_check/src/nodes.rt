@@ -7,10 +7,9 @@ ghost use Rattle.adf_volume.specs.Image.{word_in};
 ghost use Rattle.adf_check.specs.Reading.{IsAtNode, IsInExts, IsInNode, IsRead};
 ghost use Rattle.adf_check.specs.Store.{entered, store_value};
 ghost use Rattle.adf_volume.specs.Fault.{IsTrueFault, fault};
-ghost use Rattle.adf_check.specs.Progress.{IsFurther, IsPaid};
+ghost use Rattle.adf_check.specs.Progress.{IsFurther};
 ghost use Rattle.adf_volume.specs.Start.{IsBegun};
 
-use crate::block_reads::{BlockReads, read_block};
 use crate::chains::read_directory;
 use crate::datas::read_datas;
 use crate::exts::read_exts;
@@ -19,16 +18,12 @@ use adf_blocks::{Cause, HeadBody};
 use adf_tree::{NameSet, Node};
 use adf_volume::{Fault, Image, no_memory};
 use std::alloc::Global;
-use std::sync::ledger::Ledger;
 
 // Starts the next node: its blocks follow those already read.
 fn enter(store: &mut Store) -> Result<(), Fault>
     requires exts { length store.old.exts.items < 2 ^ 32 }
     requires datas { length store.old.datas.items < 2 ^ 32 }
     ensures entered { OnOk result (store_value store.new ≡ entered (store_value store.old)) }
-    ensures paid { (reads : ℕ) → IsPaid store.old reads 0
-        → length store.old.starts.items ≤ length store.old.headers.items
-        → OnOk result (IsPaid store.new reads 2) }
     ensures fewer { OnOk result (IsFurther store.old store.new) }
     ensures fault { IfErr result (λ f. f ≡ fault 0 Cause.NoMemory) }
 {
@@ -43,10 +38,9 @@ fn enter(store: &mut Store) -> Result<(), Fault>
 }
 
 // Reads the blocks of the file `node` of `size` bytes; `head` is its header, `ext` its first extension block or 0.
-fn read_file<L: Ledger>(
+fn read_file(
     image: &Image<'_>,
     store: &mut Store,
-    reads: &mut BlockReads<L>,
     table: &mut Vec<u32>,
     node: Node,
     head: u32,
@@ -55,9 +49,7 @@ fn read_file<L: Ledger>(
 ) -> Result<(), Fault>
     requires size { size ≡ word_in image.now head SIZE }
     requires state { IsInExts image.now (store_value store.old) node head (head ∷ []) head ext }
-    requires paid { IsPaid store.old reads.old 1 }
     ensures state { OnOk result (IsAtNode image.now (store_value store.new) (node + 1)) }
-    ensures paid { OnOk result (IsPaid store.new reads.new 0) }
     ensures fewer { OnOk result (IsFurther store.old store.new) }
     ensures fault { IfErr result (λ f. IsTrueFault image.now f) }
 {
@@ -66,52 +58,40 @@ fn read_file<L: Ledger>(
     if table.push(head).is_err() {
         return Err(no_memory());
     }
-    read_exts(image, store, reads, table, node, head, ext)?;
-    read_datas(image, store, reads, table, node, head, size)
+    read_exts(image, store, table, node, head, ext)?;
+    read_datas(image, store, table, node, head, size)
 }
 
 // Reads the chains of a directory, or the blocks of a file.
 #[tactic(auto, using(crate::proofs::NodeSteps::root_begins))]
-fn read_node<L: Ledger>(
+fn read_node(
     image: &Image<'_>,
     store: &mut Store,
-    reads: &mut BlockReads<L>,
     seen: &mut NameSet,
     table: &mut Vec<u32>,
     node: Node,
 ) -> Result<(), Fault>
     requires inside { node ≤ length store.old.headers.items }
     requires state { IsInNode image.now (store_value store.old) node }
-    requires paid { IsPaid store.old reads.old 2 }
     ensures state { OnOk result (IsAtNode image.now (store_value store.new) (node + 1)) }
-    ensures paid { OnOk result (IsPaid store.new reads.new 0) }
     ensures fewer { OnOk result (IsFurther store.old store.new) }
     ensures fault { IfErr result (λ f. IsTrueFault image.now f) }
 {
     let root = image.root();
     if node.0 == 0 {
-        return read_directory(image, store, reads, seen, node, root);
+        return read_directory(image, store, seen, node, root);
     }
     let head = store.headers[node.0 - 1].head;
-    match HeadBody::of(&read_block(image, head, reads)) {
-        HeadBody::Dir => read_directory(image, store, reads, seen, node, head),
-        HeadBody::File { size, ext } => {
-            read_file(image, store, reads, table, node, head, size, ext)
-        }
+    match HeadBody::of(&image.block(head)) {
+        HeadBody::Dir => read_directory(image, store, seen, node, head),
+        HeadBody::File { size, ext } => { read_file(image, store, table, node, head, size, ext) }
     }
 }
 
 /// Reads all nodes. The entries of a directory are numbered after all headers read so far.
-pub fn read_nodes<L: Ledger>(
-    alloc: Global,
-    image: &Image<'_>,
-    store: &mut Store,
-    reads: &mut BlockReads<L>,
-) -> Result<(), Fault>
+pub fn read_nodes(alloc: Global, image: &Image<'_>, store: &mut Store) -> Result<(), Fault>
     requires state { IsAtNode image.now (store_value store.old) 0 }
-    requires paid { IsPaid store.old reads.old 0 }
     ensures state { OnOk result (IsRead image.now (store_value store.new)) }
-    ensures paid { OnOk result (IsPaid store.new reads.new 0) }
     ensures fault { IfErr result (λ f. IsTrueFault image.now f) }
 {
     image.begun();
@@ -120,7 +100,7 @@ pub fn read_nodes<L: Ledger>(
     let mut node = 0usize;
     while node <= store.headers.len() {
         enter(store)?;
-        read_node(image, store, reads, &mut seen, &mut table, Node(node))?;
+        read_node(image, store, &mut seen, &mut table, Node(node))?;
         node += 1;
     }
     Ok(())

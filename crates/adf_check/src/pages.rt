@@ -8,19 +8,16 @@ ghost use Rattle.adf_blocks.specs.Sizes.{blocks, pages_needed};
 ghost use Rattle.adf_volume.specs.Image.{root_of, word_in};
 ghost use Rattle.adf_volume.specs.Positions.{word_of_map_ext, word_of_page};
 ghost use Rattle.adf_check.specs.Reading.{IsAtNode, IsAtPage, IsBeforePage, block_of_page};
-ghost use Rattle.adf_check.specs.Progress.{IsPaid};
 ghost use Rattle.adf_check.specs.Store.{store_value};
 ghost use Rattle.adf_volume.specs.Start.{IsBegun};
 ghost use Rattle.adf_check.specs.Pages.{AreListed};
 
-use crate::block_reads::{BlockReads, read_block};
 use crate::claims::claim_named;
 use crate::kept_owner::KeptOwner;
 use crate::store::Store;
 use adf_blocks::{MAP_EXT_PAGES, ROOT_PAGES, Root, page_count, read_map_ext, read_page};
 use adf_volume::{Fault, Image, fault_at, no_memory};
 use std::alloc::Global;
-use std::sync::ledger::Ledger;
 
 // Whether page `i` is the first one of a bitmap extension block.
 fn is_first_of_map_ext(i: u32) -> bool
@@ -31,57 +28,40 @@ fn is_first_of_map_ext(i: u32) -> bool
 }
 
 // The bitmap extension block that `holder` points to, whose first page is page `i`.
-fn map_ext_named<L: Ledger>(
-    image: &Image<'_>,
-    reads: &mut BlockReads<L>,
-    root: &Root<'_>,
-    holder: u32,
-    i: u32,
-) -> u32
-    requires paid { 0 < reads.old }
+fn map_ext_named(image: &Image<'_>, root: &Root<'_>, holder: u32, i: u32) -> u32
     requires root { root.now ≡ block image.now (root_of image.now) }
     requires inside { holder < blocks image.now }
     requires at_root { i ≡ ROOT_PAGES → holder ≡ root_of image.now }
     ensures exact { result ≡ word_in image.now holder (word_of_map_ext i) }
-    ensures reads { reads.old ≤ reads.new + 1 }
 {
     if i as usize == ROOT_PAGES {
         root.map_ext()
     } else {
-        read_map_ext(read_block(image, holder, reads)).next()
+        read_map_ext(image.block(holder)).next()
     }
 }
 
 // The pointer to page `i` in `holder`.
-fn page_named<L: Ledger>(
-    image: &Image<'_>,
-    reads: &mut BlockReads<L>,
-    root: &Root<'_>,
-    holder: u32,
-    i: u32,
-) -> u32
-    requires paid { 0 < reads.old }
+fn page_named(image: &Image<'_>, root: &Root<'_>, holder: u32, i: u32) -> u32
     requires root { root.now ≡ block image.now (root_of image.now) }
     requires inside { holder < blocks image.now }
     requires at_root { i < ROOT_PAGES → holder ≡ root_of image.now }
     ensures exact { result ≡ word_in image.now holder (word_of_page i) }
-    ensures reads { reads.old ≤ reads.new + 1 }
 {
     let i = i as usize;
     if i < ROOT_PAGES {
         root.page(i)
     } else {
-        read_map_ext(read_block(image, holder, reads)).page((i - ROOT_PAGES) % MAP_EXT_PAGES)
+        read_map_ext(image.block(holder)).page((i - ROOT_PAGES) % MAP_EXT_PAGES)
     }
 }
 
 // Claims the bitmap extension block that `holder` points to, whose first page is page `i`.
 #[tactic(auto, using(crate::proofs::NumberBounds::pages_few))]
-fn claim_map_ext<L: Ledger>(
+fn claim_map_ext(
     image: &Image<'_>,
     root: &Root<'_>,
     store: &mut Store,
-    reads: &mut BlockReads<L>,
     holder: u32,
     i: u32,
 ) -> Result<u32, Fault>
@@ -91,14 +71,12 @@ fn claim_map_ext<L: Ledger>(
     requires first { (i - ROOT_PAGES) % MAP_EXT_PAGES ≡ 0 }
     requires inside { holder < blocks image.now }
     requires state { IsBeforePage image.now (store_value store.old) i holder }
-    requires paid { IsPaid store.old reads.old 1 }
     ensures state { IfOk result (λ b. IsAtPage image.now (store_value store.new) i b) }
     ensures inside { IfOk result (λ b. b < blocks image.now) }
-    ensures paid { OnOk result (IsPaid store.new reads.new 1) }
     ensures fault { IfErr result (λ f. IsTrueFault image.now f) }
 {
     image.begun();
-    let b = map_ext_named(image, reads, root, holder, i);
+    let b = map_ext_named(image, root, holder, i);
     let j = (i - ROOT_PAGES as u32) / MAP_EXT_PAGES as u32;
     claim_named(&mut store.owners, holder, b, KeptOwner::MapExt(j))?;
     Ok(b)
@@ -106,11 +84,10 @@ fn claim_map_ext<L: Ledger>(
 
 // The block that points to page `i`; `holder` points to the page before, or is the root. Claims bitmap extensions.
 #[tactic(auto, using(crate::proofs::PageSteps::same_holder))]
-fn holder_of_page<L: Ledger>(
+fn holder_of_page(
     image: &Image<'_>,
     root: &Root<'_>,
     store: &mut Store,
-    reads: &mut BlockReads<L>,
     holder: u32,
     i: u32,
 ) -> Result<u32, Fault>
@@ -118,15 +95,13 @@ fn holder_of_page<L: Ledger>(
     requires needed { i < pages_needed (blocks image.now) }
     requires inside { holder < blocks image.now }
     requires state { IsBeforePage image.now (store_value store.old) i holder }
-    requires paid { IsPaid store.old reads.old 1 }
     ensures state { IfOk result (λ b. IsAtPage image.now (store_value store.new) i b) }
     ensures inside { IfOk result (λ b. b < blocks image.now) }
-    ensures paid { OnOk result (IsPaid store.new reads.new 1) }
     ensures fault { IfErr result (λ f. IsTrueFault image.now f) }
 {
     image.begun();
     if is_first_of_map_ext(i) {
-        claim_map_ext(image, root, store, reads, holder, i)
+        claim_map_ext(image, root, store, holder, i)
     } else {
         Ok(holder)
     }
@@ -134,11 +109,10 @@ fn holder_of_page<L: Ledger>(
 
 // Claims and reads page `i`, which `holder` points to.
 #[tactic(auto, using(crate::proofs::NumberBounds::pages_few))]
-fn read_page_at<L: Ledger>(
+fn read_page_at(
     image: &Image<'_>,
     root: &Root<'_>,
     store: &mut Store,
-    reads: &mut BlockReads<L>,
     holder: u32,
     i: u32,
 ) -> Result<u32, Fault>
@@ -146,17 +120,15 @@ fn read_page_at<L: Ledger>(
     requires needed { i < pages_needed (blocks image.now) }
     requires inside { holder < blocks image.now }
     requires state { IsAtPage image.now (store_value store.old) i holder }
-    requires paid { IsPaid store.old reads.old 1 }
     ensures state { OnOk result (IsBeforePage image.now (store_value store.new) (i + 1) holder) }
     ensures page { IfOk result (λ b. b ≡ block_of_page image.now i) }
     ensures within { IfOk result (λ b. b < blocks image.now) }
-    ensures paid { OnOk result (IsPaid store.new reads.new 1) }
     ensures fault { IfErr result (λ f. IsTrueFault image.now f) }
 {
     image.begun();
-    let b = page_named(image, reads, root, holder, i);
+    let b = page_named(image, root, holder, i);
     claim_named(&mut store.owners, holder, b, KeptOwner::Page(i))?;
-    match read_page(read_block(image, b, reads)) {
+    match read_page(image.block(b)) {
         Ok(_) => Ok(b),
         Err(cause) => Err(fault_at(b, cause)),
     }
@@ -164,27 +136,24 @@ fn read_page_at<L: Ledger>(
 
 /// Claims and reads the bitmap pages, each bitmap extension block before its pages; returns the blocks of the pages.
 #[tactic(auto, using(crate::proofs::PageSteps::list_done))]
-pub fn read_pages<L: Ledger>(
+pub fn read_pages(
     alloc: Global,
     image: &Image<'_>,
     root: &Root<'_>,
     store: &mut Store,
-    reads: &mut BlockReads<L>,
 ) -> Result<Vec<u32>, Fault>
     requires root { root.now ≡ block image.now (root_of image.now) }
     requires state { IsBeforePage image.now (store_value store.old) 0 (root_of image.now) }
-    requires paid { IsPaid store.old reads.old 1 }
     ensures state { OnOk result (IsAtNode image.now (store_value store.new) 0) }
     ensures pages { IfOk result (λ p.
         AreListed image.now p.items (pages_needed (blocks image.now))) }
-    ensures paid { OnOk result (IsPaid store.new reads.new 1) }
     ensures fault { IfErr result (λ f. IsTrueFault image.now f) }
 {
     let mut pages = Vec::new(alloc);
     let mut holder = image.root();
     for i in 0..page_count(image.blocks()) {
-        holder = holder_of_page(image, root, store, reads, holder, i)?;
-        let page = read_page_at(image, root, store, reads, holder, i)?;
+        holder = holder_of_page(image, root, store, holder, i)?;
+        let page = read_page_at(image, root, store, holder, i)?;
         if pages.push(page).is_err() {
             return Err(no_memory());
         }

@@ -1,11 +1,10 @@
 // The facts that a check keeps of the blocks it has read.
 
-ghost use Rattle.std.specs.Prelude.{ℕ, List, IfOk, ◌*◌};
+ghost use Rattle.std.specs.Prelude.{ℕ, List, IfOk};
 ghost use Rattle.adf_tree.specs.Tree.{Tree};
 ghost use Rattle.adf_blocks.specs.Sizes.{blocks};
 ghost use Rattle.adf_volume.specs.Image.{root_of};
 ghost use Rattle.adf_volume.specs.Layout.{Layout};
-ghost use Rattle.adf_check.specs.Progress.{IsPaid};
 ghost use Rattle.adf_check.specs.Reading.{IsBeforePage, StoreFits};
 ghost use Rattle.adf_check.specs.Store.{StoreValue, store_value};
 ghost use Rattle.adf_check.specs.StoreStands.{StoreStandsFor};
@@ -46,7 +45,6 @@ pub struct Store {
 impl Store {
     // The state before anything but the root is read.
     pub fn begin(alloc: Global, image: &Image<'_>) -> Result<Store, NoMemory>
-        ensures paid { IfOk result (λ s. IsPaid s (6 * blocks image.now) 1) }
         ensures state { IfOk result (λ s.
             IsBeforePage image.now (store_value s) 0 (root_of image.now)) }
     {

@@ -1,11 +1,10 @@
-use Rattle.std.proofs.Common.{◌+◌, ◌*◌, ◌≤◌, min}
+use Rattle.std.proofs.Common.{◌+◌, ◌*◌, min}
 use Rattle.adf_blocks.specs.Sizes.{blocks}
 use Rattle.adf_check.specs.Reading.{IsMapped}
 use Rattle.adf_check.specs.Store.{store_value}
 use Rattle.adf_check.proofs.bitmap.check_bitmap.Given as goal
 
 abbrev pub invariant-loop-i : goal.invariant-loop-i
-invariant-loop-i g l = record {
+invariant-loop-i l = record {
   state : IsMapped l.image (store_value l.store) (min (2 + 32 * l.i) (blocks l.image));
-  paid : blocks l.image ≤ l.reads + l.i;
 }

@@ -4,4 +4,4 @@ use Rattle.adf_check.specs.Store.{store_value}
 use Rattle.adf_check.proofs.bitmap.check_word.Given as goal
 
 abbrev pub invariant-loop-bit : goal.invariant-loop-bit
-invariant-loop-bit g l = IsMapped l.image (store_value l.store) (l.first + l.bit)
+invariant-loop-bit l = IsMapped l.image (store_value l.store) (l.first + l.bit)

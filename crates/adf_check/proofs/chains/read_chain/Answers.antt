@@ -5,7 +5,7 @@ use Rattle.adf_check.proofs.ChainSteps.{chain_ends}
 use Rattle.adf_check.proofs.chains.read_chain.Goals as goal
 
 pub returns-clause-state : goal.returns-clause-state
-returns-clause-state g c =
+returns-clause-state c =
     let image = c.args.image.now in
     let chain = c.args.chain.now in
     let store = store_value c.loop-b.store in

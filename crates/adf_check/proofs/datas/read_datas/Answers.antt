@@ -6,14 +6,14 @@ use Rattle.adf_check.specs.Store.{store_value}
 use Rattle.adf_check.proofs.datas.read_datas.Goals as goal
 
 pub returns-then-tables-table-clause-fault : goal.returns-then-tables-table-clause-fault
-returns-then-tables-table-clause-fault g c =
+returns-then-tables-table-clause-fault c =
     let image = c.args.image.now in
     let e : c.count_of-count.result ≡ data_count image c.args.head = cc (c.count_of-count.ensures, c.kind.ensures.kind, c.requires.size) in
     let short : 72 * length c.args.table.now < data_count image c.args.head = omega arith in
     rw c.fault_at.ensures (too_short c.kind.ensures.begun c.requires.state refl short)
 
 pub returns-clause-state : goal.returns-clause-state
-returns-clause-state g c =
+returns-clause-state c =
     let image = c.args.image.now in
     let e : c.count_of-count.result ≡ data_count image c.args.head = cc (c.count_of-count.ensures, c.kind.ensures.kind, c.requires.size) in
     let one : suc c.args.node ≡ c.args.node + 1 = omega arith in

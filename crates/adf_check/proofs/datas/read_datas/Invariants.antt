@@ -1,12 +1,11 @@
 use Rattle.std.proofs.Common.{◌*◌, min}
 use Rattle.adf_check.specs.Reading.{IsInDatas}
-use Rattle.adf_check.specs.Progress.{IsFurther, IsPaid}
+use Rattle.adf_check.specs.Progress.{IsFurther}
 use Rattle.adf_check.specs.Store.{store_value}
 use Rattle.adf_check.proofs.datas.read_datas.Given as goal
 
 abbrev pub invariant-loop-m : goal.invariant-loop-m
-invariant-loop-m g l = record {
+invariant-loop-m l = record {
   state : IsInDatas l.image (store_value l.store) l.fn.node l.head l.table (min (72 * l.m) l.count);
-  paid : IsPaid l.store l.reads 1;
   fewer : IsFurther l.fn.store l.store;
 }

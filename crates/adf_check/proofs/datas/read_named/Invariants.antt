@@ -1,12 +1,10 @@
-use Rattle.std.proofs.Common.{◌*◌, ◌-◌, min}
 use Rattle.adf_check.specs.Reading.{IsInDatas}
-use Rattle.adf_check.specs.Progress.{IsFurther, IsPaid}
+use Rattle.adf_check.specs.Progress.{IsFurther}
 use Rattle.adf_check.specs.Store.{store_value}
 use Rattle.adf_check.proofs.datas.read_named.Given as goal
 
 abbrev pub invariant-loop-k : goal.invariant-loop-k
-invariant-loop-k g l = record {
+invariant-loop-k l = record {
   state : IsInDatas l.image (store_value l.store) l.file.node l.file.head l.table l.k;
-  paid : IsPaid l.store l.reads (min 1 (l.k - 72 * l.m));
   fewer : IsFurther l.fn.store l.store;
 }

@@ -5,7 +5,7 @@ use Rattle.adf_check.proofs.ExtSteps.{exts_end}
 use Rattle.adf_check.proofs.exts.read_exts.Goals as goal
 
 pub returns-clause-state : goal.returns-clause-state
-returns-clause-state g c =
+returns-clause-state c =
     let image = c.args.image.now in
     let store = store_value c.loop-b.store in
     let table = c.loop-b.table.items in

@@ -6,7 +6,7 @@ use Rattle.adf_check.proofs.PageSteps.{pages_end}
 use Rattle.adf_check.proofs.pages.read_pages.Goals as goal
 
 pub returns-clause-state : goal.returns-clause-state
-returns-clause-state g c =
+returns-clause-state c =
     let image = c.args.image.now in
     let end : c.loop-i.i ≡ pages_needed (blocks image) = omega arith in
     let store = store_value c.loop-i.store in

@@ -1,15 +1,13 @@
 use Rattle.std.proofs.Common.{◌<◌}
 use Rattle.adf_blocks.specs.Sizes.{blocks}
 use Rattle.adf_check.specs.Reading.{IsBeforePage}
-use Rattle.adf_check.specs.Progress.{IsPaid}
 use Rattle.adf_check.specs.Store.{store_value}
 use Rattle.adf_check.specs.Pages.{AreListed}
 use Rattle.adf_check.proofs.pages.read_pages.Given as goal
 
 abbrev pub invariant-loop-i : goal.invariant-loop-i
-invariant-loop-i g l = record {
+invariant-loop-i l = record {
   inside : l.holder < blocks l.image;
   state : IsBeforePage l.image (store_value l.store) l.i l.holder;
-  paid : IsPaid l.store l.reads 1;
   pages : AreListed l.image l.pages.items l.i;
 }

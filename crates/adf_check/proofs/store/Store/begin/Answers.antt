@@ -4,5 +4,5 @@ use Rattle.adf_check.proofs.RootRead.{begun_with_root, root_is_free}
 use Rattle.adf_check.proofs.ClaimSteps.{on_ok}
 use Rattle.adf_check.proofs.store.Store.begin.Goals as goal
 
-pub returns-clause-state : goal.returns-clause-state
-returns-clause-state c = grind (arith, common_steps, root_is_free, set, on_ok, begun_with_root)
+pub returns : goal.returns
+returns c = grind (arith, common_steps, root_is_free, set, on_ok, begun_with_root)
