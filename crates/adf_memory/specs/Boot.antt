@@ -22,17 +22,17 @@ boot_blocks image = record {
 }
 
 -- whole blocks, so many or more, and no more than the largest volume has
-abbrev pub is_whole : ℕ → List ℕ → Bool
-is_whole least bytes = (length bytes % 512 == 0) && nat_le least (blocks bytes) && nat_le (blocks bytes) MOST_BLOCKS
+abbrev pub has_whole_blocks : ℕ → List ℕ → Bool
+has_whole_blocks least bytes = (length bytes % 512 == 0) && nat_le least (blocks bytes) && nat_le (blocks bytes) MOST_BLOCKS
 
 -- why an image gets no other boot blocks, if it gets none
 abbrev pub image_refusal : List ℕ → Option BootRefusal
-image_refusal image = if not (is_whole 4 image) then Some BadSize else (if begins_with_dos image then None else Some NotDos)
+image_refusal image = if not (has_whole_blocks 4 image) then Some BadSize else (if begins_with_dos image then None else Some NotDos)
 
 -- why an image does not get those of a source, if it does not
 abbrev pub copy_refusal : List ℕ → List ℕ → Option BootRefusal
 copy_refusal image source =
-    if not (is_whole 2 source) then Some BadSourceSize
+    if not (has_whole_blocks 2 source) then Some BadSourceSize
     else (if begins_with_dos source then image_refusal image else Some SourceNotDos)
 
 -- the number of a refusal

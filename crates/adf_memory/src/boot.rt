@@ -9,7 +9,7 @@ ghost use Rattle.adf_boot_blocks.specs.BootBlocks.{IsOtherBoot, is_bootable};
 ghost use Rattle.adf_boot_blocks.specs.Writing.{cleared, copied, installed};
 ghost use Rattle.adf_boot_blocks.specs.declared.boot.TheConstants.{BOOT_LEN};
 ghost use Rattle.adf_boot_blocks.specs.declared.standard.TheConstants.{STANDARD_CODE};
-ghost use Rattle.adf_memory.specs.Boot.{answer_number, boot_blocks, boot_refusal_number, copy_refusal, image_refusal, is_whole};
+ghost use Rattle.adf_memory.specs.Boot.{answer_number, boot_blocks, boot_refusal_number, copy_refusal, image_refusal, has_whole_blocks};
 ghost use Rattle.adf_memory.specs.declared.boot.BootRefusal.TheVariants.{BadSize};
 
 use crate::found_tables::mark_number;
@@ -67,8 +67,8 @@ impl BootRefusal {
 }
 
 // Whether bytes are whole blocks, so many or more, and no more than the largest volume has.
-fn is_whole(least: usize, bytes: &[u8]) -> bool
-    ensures { result ≡ is_whole least bytes.now }
+fn has_whole_blocks(least: usize, bytes: &[u8]) -> bool
+    ensures { result ≡ has_whole_blocks least bytes.now }
 {
     let blocks = bytes.len() / BLOCK_LEN;
     bytes.len() % BLOCK_LEN == 0 && least <= blocks && blocks <= MOST_BLOCKS as usize
@@ -78,7 +78,7 @@ fn is_whole(least: usize, bytes: &[u8]) -> bool
 fn image_refusal(image: &[u8]) -> Option<BootRefusal>
     ensures { result ≡ image_refusal image.now }
 {
-    if !is_whole(4, image) {
+    if !has_whole_blocks(4, image) {
         Some(BootRefusal::BadSize)
     } else if begins_with_dos(image) {
         None
@@ -91,7 +91,7 @@ fn image_refusal(image: &[u8]) -> Option<BootRefusal>
 fn copy_refusal(image: &[u8], source: &[u8]) -> Option<BootRefusal>
     ensures { result ≡ copy_refusal image.now source.now }
 {
-    if !is_whole(2, source) {
+    if !has_whole_blocks(2, source) {
         Some(BootRefusal::BadSourceSize)
     } else if begins_with_dos(source) {
         image_refusal(image)
