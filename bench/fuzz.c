@@ -107,6 +107,20 @@ static void use_volume(const uint8_t *data, size_t size, const struct adf_conten
     }
 }
 
+/* With other boot blocks an image starts and has the same verdict, or it is unchanged. */
+static void use_boot(const uint8_t *data, size_t size, uint8_t cause) {
+    struct room image = new_room(size);
+    struct adf_boot_blocks boot = {0};
+    struct adf_verdict verdict = {0};
+    memcpy(image.at, data, size);
+    if (adf_boot_install(image.at, size) == ADF_BOOT_DONE)
+        must(adf_boot(image.at, size, &boot) == ADF_BOOT_DONE && boot.is_bootable);
+    else
+        must(memcmp(image.at, data, size) == 0);
+    must(adf_check(image.at, size, &verdict) == cause);
+    end_room(image);
+}
+
 int LLVMFuzzerTestOneInput(const uint8_t *data, size_t size) {
     struct adf_verdict verdict = {0};
     struct adf_contents contents = {0};
@@ -133,6 +147,7 @@ int LLVMFuzzerTestOneInput(const uint8_t *data, size_t size) {
     end_room(roles);
     end_room(blocks);
     end_room(entries);
+    use_boot(data, size, cause);
 
     must(RUN(false, "adf\0check", 80) == (cause != ADF_ACCEPTED));
     uint8_t status = RUN(true, "adf-survey", 100 * size + 80);

@@ -1,5 +1,5 @@
-/* adf for C: checks images of Amiga disks, lists, looks up and reads their files, finds the volumes of hard disks, and runs the
- * commands `adf` and `adf-survey` over memory.
+/* adf for C: checks images of Amiga disks, lists, looks up and reads their files, writes their boot blocks, finds the volumes of
+ * hard disks, and runs the commands `adf` and `adf-survey` over memory.
  *
  *     struct adf_verdict verdict;
  *     if (adf_check(image, length, &verdict) == ADF_ACCEPTED)
@@ -435,6 +435,55 @@ size_t adf_found_read(const uint8_t *image, size_t length, uint32_t header, cons
  * zero at the end. A name of 2^61 bytes or more has none: then the call returns 0, and the room is unchanged.
  */
 size_t adf_escape(const uint8_t *name, size_t name_length, uint8_t *room, size_t room_length);
+
+/* Boot blocks
+ *
+ * An Amiga starts from a floppy by the code in its first two blocks, the boot blocks, of ADF_BOOT_BYTES bytes. adf-boot(1) and
+ * FORMAT.md have them. They are no part of a volume: a tree neither rests on them nor says what is in them.
+ *
+ *     if (adf_boot_copy(rescued, length, original, original_length) == ADF_BOOT_DONE)
+ *         save(rescued, length);
+ */
+#define ADF_BOOT_BYTES 1024
+
+/* What boot blocks say. A mark is 1 if it is so, otherwise 0. */
+struct adf_boot_blocks {
+    uint32_t crc;            /* the CRC-32 of their 1,024 bytes, as zip has it and adf-boot writes it */
+    uint8_t begins_with_dos; /* they begin with `DOS` */
+    uint8_t volume_type;     /* byte 3: if they begin with `DOS`, the type of the volume, 0 or 1 for one that adf_check accepts */
+    uint8_t has_right_sum;   /* the sum of their words is right */
+    uint8_t is_bootable;     /* an Amiga starts their code: they begin with `DOS`, and their sum is right */
+    uint8_t has_code;        /* there is something but zeros behind the type; it may be no code of a 68000 */
+};
+
+/* Why boot blocks are not told of, or not written. */
+enum adf_boot_refusal {
+    ADF_BOOT_DONE = 0,
+    ADF_BOOT_BAD_SIZE = 1,        /* The image is not whole blocks of 512 bytes, or has fewer than 4, or more than 1,048,576. */
+    ADF_BOOT_NOT_DOS = 2,         /* The image does not begin with `DOS`. */
+    ADF_BOOT_BAD_SOURCE_SIZE = 3, /* The source is not whole blocks, or has fewer than 2, or more than 1,048,576. */
+    ADF_BOOT_SOURCE_NOT_DOS = 4   /* The source does not begin with `DOS`. */
+};
+
+/* Tells of the boot blocks at the front of an image of any length, or of a file of them. Returns an adf_boot_refusal.
+ *
+ * 0: `boot` has what they say.
+ * ADF_BOOT_BAD_SIZE: there are fewer than ADF_BOOT_BYTES bytes, and `boot` is unchanged.
+ */
+uint8_t adf_boot(const uint8_t *image, size_t length, struct adf_boot_blocks *boot);
+
+/* Change the boot blocks of an image of this length, and nothing else: its first four bytes, `DOS` and the type, and all from byte
+ * ADF_BOOT_BYTES on stay as they are. adf_boot_install writes code that starts AmigaDOS, and the number of the root, as
+ * `adf-boot install` does; adf_boot_copy the boot blocks of a source, which is another image, or a file of them; adf_boot_clear zeros.
+ * They return an adf_boot_refusal.
+ *
+ * 0: they are written, by the first two with the checksum that is right for the type, so an Amiga starts them. If adf_check accepts
+ *    the image, it does so now, with the same tree.
+ * Another number: the image is unchanged. That of the source comes before that of the image, and a size before `DOS`.
+ */
+uint8_t adf_boot_install(uint8_t *image, size_t length);
+uint8_t adf_boot_copy(uint8_t *image, size_t length, const uint8_t *source, size_t source_length);
+uint8_t adf_boot_clear(uint8_t *image, size_t length);
 
 /* A whole hard disk.
  *

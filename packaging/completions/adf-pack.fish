@@ -3,6 +3,8 @@
 complete -c adf-pack -n '__fish_is_nth_token 1' -f -a 'ofs ffs'
 complete -c adf-pack -l image -r -d 'write an image into a new file'
 complete -c adf-pack -l size -x -d 'size of the image, as 100M'
+complete -c adf-pack -l bootable -d 'write the standard boot blocks'
+complete -c adf-pack -l boot -r -d 'write the boot blocks of a file'
 complete -c adf-pack -l label -x -d 'name of the volume'
 complete -c adf-pack -l date -x -d 'date of the root'
 complete -c adf-pack -l altered -x -d 'date of the last change'

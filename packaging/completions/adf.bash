@@ -53,9 +53,9 @@ _adf_files() {
         adf-shelf:-*) COMPREPLY=($(compgen -W "--null --help --version" -- "$2")) ;;
         adf-catalogue:-*) COMPREPLY=($(compgen -W "--tsv --rescue --fresh --escape --index-text --dat -h --help --version" -- "$2")) ;;
         adf-pack:-*)
-            COMPREPLY=($(compgen -W "--image --size --label --date --altered --created --no-uaem --escape -h --help --version" -- "$2"))
+            COMPREPLY=($(compgen -W "--image --size --bootable --boot --label --date --altered --created --no-uaem --escape -h --help --version" -- "$2"))
             ;;
-        adf-unpack:-*) COMPREPLY=($(compgen -W "--blocks --strict --damaged --uaem --escape -h --help --version" -- "$2")) ;;
+        adf-unpack:-*) COMPREPLY=($(compgen -W "--blocks --strict --damaged --boot --uaem --escape -h --help --version" -- "$2")) ;;
         adf-map:-*) COMPREPLY=($(compgen -W "--partition --blocks -h --help --version" -- "$2")) ;;
         adf-recipe:-*) COMPREPLY=($(compgen -W "--blocks --strict -h --help --version" -- "$2")) ;;
         *:-*) COMPREPLY=($(compgen -W "-h --help --version" -- "$2")) ;;

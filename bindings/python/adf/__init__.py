@@ -21,6 +21,7 @@
     pieces = found.entries[0].pieces()              # the same by number: each run of bytes that is found, with its place in the file
     new, left_out = adf.rescue(image)               # a sound volume of all that stands, and the entries that it leaves out
     image = adf.build("ffs", None, [adf.Addition("c"), adf.Addition("c/list", b"..")], "Work")  # a new volume, here as small as may be
+    image = adf.with_boot(image, volume.boot)       # with the boot blocks of another: .is_bootable, .has_code, .crc
     disk = adf.Disk(image)                          # of a whole hard disk: disk.partitions, and adf.Volume(disk.volume("DH0"))
 
 Texts are in Latin-1, as Amigas have them, so each byte is one character and nothing is lost; where a path is given, bytes do
@@ -129,6 +130,10 @@ _CALLS = {
     "adf_survey_run": (_BYTE, *(_POINTER, _SIZE) * 4, _POINTER),
     "adf_build": (_BYTE, *(_POINTER,) * 2, _SIZE, *(_POINTER, _SIZE) * 2, _POINTER),
     "adf_need": (_BYTE, *(_POINTER,) * 2, _SIZE, _POINTER, _SIZE, _POINTER),
+    "adf_boot": (_BYTE, _POINTER, _SIZE, _POINTER),
+    "adf_boot_install": (_BYTE, _POINTER, _SIZE),
+    "adf_boot_copy": (_BYTE, *(_POINTER, _SIZE) * 2),
+    "adf_boot_clear": (_BYTE, _POINTER, _SIZE),
 }
 _library: ctypes.CDLL | None = None
 
@@ -856,6 +861,11 @@ class Volume(_ReadOnly):
         return Entries(self)
 
     @property
+    def boot(self) -> Boot:
+        """The boot blocks of its image: of a Rescued one those of the new volume, which have no code."""
+        return Boot.of(self._tables[0][0])
+
+    @property
     def left_out(self) -> list[LeftOut]:
         """What is on the image and not in this volume: nothing, unless it is a Rescued one."""
         return []
@@ -1114,4 +1124,5 @@ class File(io.RawIOBase):
         return at
 
 
-from adf.building import Addition, NotBuilt, build  # noqa: E402,F401: they stand on all that is above
+from adf.boots import BadBoot, Boot, with_boot, with_standard_boot, without_boot  # noqa: E402,F401: they stand on all that is above
+from adf.building import Addition, NotBuilt, build  # noqa: E402,F401: so do these

@@ -97,7 +97,12 @@ CREATE TABLE icons (
     width INTEGER NOT NULL, height INTEGER NOT NULL, palette INTEGER NOT NULL, pixels BLOB NOT NULL);
 CREATE INDEX icons_of_images ON icons (image);
 """
-STEPS = (FIRST, SECOND, THIRD, FOURTH)  # each brings a database to the next version
+FIFTH = """
+ALTER TABLE images ADD COLUMN boot TEXT;
+CREATE INDEX images_by_boot ON images (boot_crc32);
+CREATE TABLE boots (crc32 TEXT PRIMARY KEY, images INTEGER NOT NULL) WITHOUT ROWID;
+"""
+STEPS = (FIRST, SECOND, THIRD, FOURTH, FIFTH)  # each brings a database to the next version
 
 
 @contextlib.contextmanager

@@ -25,6 +25,11 @@ ADVICE = {group.name: group for group in GROUPS}
 ENTRIES = """SELECT entries.*, holders.images FROM entries LEFT JOIN holders ON holders.sha256 = entries.sha256
 WHERE image = :image ORDER BY entries.id"""
 ALSO = 3  # other images that a page links to
+BOOTS = {
+    "bootable": "bootable", "no-code": "not bootable, without code", "bad-sum": "not bootable, their checksum is wrong",
+    "not-dos": "not bootable, they do not begin with DOS",
+}
+MOST_BOOTS = 100  # disks with the same boot blocks that are counted for a page
 Row = sqlite3.Row
 
 
@@ -77,14 +82,22 @@ class ImagePage:
         sums = (("CRC-32", "crc32"), ("MD5", "md5"), ("SHA-1", "sha1"), ("SHA-256", "sha256"))
         pairs += ((head, f"<code>{shown(image[column])}</code>") for head, column in sums if image[column])
         if image["boot_crc32"]:
-            right = "right" if image["boot_is_right"] else "not right"
-            pairs.append(("Boot block", f"CRC-32 <code>{shown(image['boot_crc32'])}</code>; its checksum is {right}"))
+            pairs.append(("Boot blocks", self.boot_text()))
         pairs += ((head, self.same(column)) for head, column in (("The same bytes", "sha256"), ("The same files", "tree")) if self.same(column))
         if image["known"]:
             pairs.append(("Published lists", {"known": "", "differs": "other checksums than "}.get(image["known"], "unknown") + shown(image["known_as"] or "")))
         if image["unlisted"]:
             pairs.append(("Not in the database", f"the last {image['unlisted']} of the entries"))
         return pairs
+
+    def boot_text(self) -> str:
+        """Whether an Amiga starts the boot blocks, their CRC-32, and how many other disks have them."""
+        crc, state = self.image["boot_crc32"], shown(BOOTS.get(self.image["boot"], ""))
+        found = self.connection.execute("SELECT images FROM boots WHERE crc32 = ?", (crc,)).fetchone()
+        count = found[0] - 1 if found else 0
+        many = f"{count} or more" if count + 1 >= MOST_BOOTS else count
+        others_ = f", as on {many} other {'disk' if count == 1 else 'disks'}" if count else ", on no other disk"
+        return f"{state}: CRC-32 <code>{shown(crc)}</code>{others_}"
 
     def date_facts(self) -> List[Tuple[str, object]]:
         return [(head, shown(self.image[column])) for head, column in (("Root", "root"), ("Changed", "altered"), ("Created", "created"))]

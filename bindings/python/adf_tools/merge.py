@@ -20,7 +20,7 @@ from adf_tools.volumes import Record, record
 PART = re.compile("([1-9][0-9]{0,5})/([1-9][0-9]{0,5})")
 IMAGE = tuple(
     """name number member page bytes crc32 md5 sha1 sha256 tree advice verdict block cause kind type blocks used free dirs files label root
-    altered created boot_crc32 boot_is_right faults sound lost unlisted fits roles""".split()
+    altered created boot boot_crc32 boot_is_right faults sound lost unlisted fits roles""".split()
 )
 FILES = 100  # of a transaction
 

@@ -12,11 +12,10 @@ from typing import BinaryIO, Iterable, Iterator, NamedTuple
 
 import adf
 from adf_tools.names import bytes_of
-from adf_tools.program import REFUSED, add_escape, begin, command_line, host_text, manifest_of, run_lines, stop
+from adf_tools.program import REFUSED, USAGE, add_escape, begin, command_line, host_text, manifest_of, run_lines, stop
 from adf_tools.trees import Place
 from adf_tools.uaem import ENDING, Kept, kept_in, name_in
 
-USAGE = 2
 TICKS_TO_1978 = 2922 * 86400 * 50
 NEVER = adf.Date(0, 0, 0)
 LONGEST_SIDECAR, LONGEST_LINE = 4096, 100
@@ -189,6 +188,8 @@ def work(words: argparse.Namespace) -> int:
         from adf_tools.packed_image import write_image
 
         return write_image(words)
+    if words.bootable or words.boot is not None:
+        stop(USAGE, "a manifest has no boot blocks: --bootable and --boot go with --image")
     if words.kind is None or words.blocks is None or words.size is not None:
         stop(USAGE, "without --image the words are KIND, BLOCKS and FOLDER, and no --size")
     if not 0 <= words.blocks <= adf.MOST_BYTES // adf.BLOCK:
@@ -206,6 +207,9 @@ def main() -> None:
     line.add_argument("folder", metavar="FOLDER")
     line.add_argument("--image", metavar="FILE", help="write the image itself, into a new file")
     line.add_argument("--size", metavar="SIZE", type=blocks_in, help="the size of the image, as 880K or 100M; without it as small as may be")
+    boot = line.add_mutually_exclusive_group()
+    boot.add_argument("--bootable", action="store_true", help="with --image: write the standard boot blocks, which start AmigaDOS")
+    boot.add_argument("--boot", metavar="FILE", help="with --image: write the boot blocks of a file, of 1,024 bytes or another disk")
     line.add_argument("--label", metavar="TEXT", help="the name of the volume")
     for option, what in (("--date", "the root"), ("--altered", "the last change of the volume"), ("--created", "its creation")):
         line.add_argument(option, metavar="DATE", type=date, default=NEVER, help=f"the date of {what}, as 2026-11-25 06:56:04.10")

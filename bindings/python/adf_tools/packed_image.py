@@ -3,18 +3,16 @@
 from __future__ import annotations
 
 import argparse
-import contextlib
-import errno
 import mmap
 import os
-from typing import Any, Iterator, NoReturn
+from typing import Any, NoReturn, Optional
 
 import adf
-from adf import building
+from adf import boots, building
 from adf_tools.names import host_letters
 from adf_tools.pack import Item, Packer, amiga_name, opened
-from adf_tools.program import REFUSED, Progress, host_text, moved, stop, working_folder
-from adf_tools.trees import Place, named
+from adf_tools.program import REFUSED, Progress, host_text, new_file, stop
+from adf_tools.trees import Place
 
 
 def changed(place: Place, name: bytes) -> NoReturn:
@@ -73,31 +71,34 @@ def fewest(volume: Any, plan: building.Plan) -> int:
     return building.need_of(volume, plan, mmap.mmap(-1, plan.largest) if plan.largest else b"", is_shared=True)
 
 
-@contextlib.contextmanager
-def new_file(path: str) -> Iterator[int]:
-    """A file that takes this path when all is written in it, and is removed if something fails."""
-    with named(path):
-        if os.path.lexists(path):
-            raise FileExistsError(errno.EEXIST, os.strerror(errno.EEXIST))
-    with working_folder(os.path.dirname(path) or ".", path) as beside:
-        whole = os.path.join(beside, "whole")
-        with moved(whole, path):
-            fd = os.open(whole, os.O_RDWR | os.O_CREAT | os.O_EXCL | os.O_CLOEXEC, 0o666)
-            try:
-                yield fd
-            finally:
-                os.close(fd)
-        with named(path):
-            os.rename(whole, path)
+def boot_in(path: Optional[str]) -> Optional[adf.Boot]:
+    """The boot blocks of a file, if one is named; an empty image gets them, before the folder is read."""
+    if path is None:
+        return None
+    with open(path, "rb") as file:
+        source = adf.read_image(file)
+    try:
+        return adf.Boot.of(adf.with_boot(adf.build("ffs", None, []), source))
+    except adf.BadBoot as error:
+        stop(REFUSED, f"{host_text(path)}: {error}; it has {len(source)} bytes")
 
 
-def filled(fd: int, size: int, volume: Any, plan: building.Plan, packer: Packer, folder: bytes, found: list[Item]) -> None:
-    """Writes the image into a file; the contents stand behind it until it is built."""
+def put_boot(image: memoryview, boot: Optional[adf.Boot], is_bootable: bool) -> None:
+    """Puts boot blocks into an image, if they are wanted."""
+    if boot is not None:
+        boots.copy_into(image, boot)
+    elif is_bootable:
+        boots.install_into(image)
+
+
+def filled(fd: int, size: int, volume: Any, plan: building.Plan, packer: Packer, folder: bytes, found: list[Item]) -> memoryview:
+    """Writes the image into a file, and gives it; the contents stand behind it until it is built."""
     os.posix_fallocate(fd, 0, size + plan.size)
     whole = memoryview(mmap.mmap(fd, size + plan.size))
     read_all(whole[size:], packer, folder, found)
     building.build_into(whole[:size], volume, plan, whole[size:])
     os.ftruncate(fd, size)
+    return whole[:size]
 
 
 def volume_of(words: argparse.Namespace) -> Any:
@@ -107,7 +108,7 @@ def volume_of(words: argparse.Namespace) -> Any:
 
 def write_image(words: argparse.Namespace) -> int:
     """Packs a folder into a new image. What does not fit is told before a file is read."""
-    volume, packer, folder = volume_of(words), Packer(words), os.fsencode(words.folder)
+    volume, packer, folder, boot = volume_of(words), Packer(words), os.fsencode(words.folder), boot_in(words.boot)
     try:
         plan, found = planned(packer, folder)
         least = fewest(volume, plan)
@@ -118,7 +119,7 @@ def write_image(words: argparse.Namespace) -> int:
             stop(REFUSED, f"bad size: {wanted} blocks, and the largest volume has {adf.MOST_BYTES // adf.BLOCK}")
         volume.blocks = wanted
         with new_file(words.image) as fd:
-            filled(fd, adf.BLOCK * wanted, volume, plan, packer, folder, found)
+            put_boot(filled(fd, adf.BLOCK * wanted, volume, plan, packer, folder, found), boot, words.bootable)
     except building.NotBuilt as error:
         path = os.path.join(folder, error.path.encode("latin-1")) if error.path else b""
         stop(REFUSED, f"{host_letters(path)}: {error.why}" if path else error.why)

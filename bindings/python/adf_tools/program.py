@@ -20,7 +20,7 @@ from adf_tools.names import host_letters
 MOST_MANIFEST_BYTES = 16_777_216
 FILL = re.compile(rb"(.)\1{63,}", re.DOTALL)
 FEWEST, DATA = 64, 32  # so many equal bytes are a line `fill`, and so many others at most a line `data`
-REFUSED, NOT_FOUND, FAILED = 1, 1, 3
+REFUSED, NOT_FOUND, USAGE, FAILED = 1, 1, 2, 3
 WORKING = ".adf-"  # the names of folders that are being made begin so
 INTERRUPTS = (signal.SIGINT, signal.SIGTERM)
 
@@ -154,6 +154,24 @@ def new_folder(path: str) -> Iterator[str]:
             yield folder
         with trees.named(path):
             os.rename(folder, path)
+
+
+@contextlib.contextmanager
+def new_file(path: str) -> Iterator[int]:
+    """A file that takes this path when all is written in it, and is removed if something fails."""
+    with trees.named(path):
+        if os.path.lexists(path):
+            raise FileExistsError(errno.EEXIST, os.strerror(errno.EEXIST))
+    with working_folder(os.path.dirname(path) or ".", path) as beside:
+        whole = os.path.join(beside, "whole")
+        with moved(whole, path):
+            fd = os.open(whole, os.O_RDWR | os.O_CREAT | os.O_EXCL | os.O_CLOEXEC, 0o666)
+            try:
+                yield fd
+            finally:
+                os.close(fd)
+        with trees.named(path):
+            os.rename(whole, path)
 
 
 @contextlib.contextmanager

@@ -13,7 +13,7 @@ from typing import Iterator, List, Optional, Sequence, Set
 import adf
 from adf_tools import database, search, tables, twice
 from adf_tools.database import transaction
-from adf_tools.image_pages import ALSO, ImagePage, is_page
+from adf_tools.image_pages import ALSO, MOST_BOOTS, ImagePage, is_page
 from adf_tools.lists import Lists, is_list
 from adf_tools.pages import FAULTS, HERE
 from adf_tools.processes import in_order
@@ -29,6 +29,8 @@ HOLDING = "SELECT image FROM entries WHERE sha256 = ?1 UNION SELECT id FROM imag
 COUNTED = """SELECT touched.sha256, touched.name, holders.images, (SELECT COUNT(*) FROM (
     SELECT image FROM entries WHERE entries.sha256 = touched.sha256 UNION SELECT id FROM images WHERE images.sha256 = touched.sha256
     UNION SELECT id FROM images WHERE tree = touched.sha256 LIMIT 2)) FROM touched LEFT JOIN holders ON holders.sha256 = touched.sha256"""
+BOOTS = """SELECT crc, now.images FROM (SELECT boot_crc32 AS crc, MIN(COUNT(*), ?) AS images FROM images WHERE crc IS NOT NULL GROUP BY crc)
+    AS now LEFT JOIN boots ON boots.crc32 = crc WHERE boots.images IS NOT now.images"""
 FIRSTS = ALSO + 2  # images of a sum that are kept: those that a page links to, itself, and one more
 
 
@@ -82,6 +84,7 @@ class Site:
         os.makedirs(os.path.join(self.out, FOLDER), exist_ok=True)
         self.note_maker()
         self.note_holders()
+        self.note_boots()
         self.note_lost_pages()
         self.write_images()
         self.write_parts()
@@ -123,6 +126,14 @@ class Site:
         """The first images, by name, that hold a sum, and one more than a page links to, as a text."""
         line = f"SELECT name, page FROM images WHERE id IN ({HOLDING}) AND page IS NOT NULL ORDER BY name, number LIMIT {FIRSTS}"
         return json.dumps([[name, page] for name, page in self.connection.execute(line, (digest,))])
+
+    def note_boots(self) -> None:
+        """Brings the table of how many images have the same boot blocks up to date; pages that tell another number are made again."""
+        found = [(row[0], row[1]) for row in self.connection.execute(BOOTS, (MOST_BOOTS,))]
+        with transaction(self.connection):
+            self.connection.executemany("INSERT OR REPLACE INTO boots VALUES (?, ?)", found)
+            self.connection.executemany("UPDATE images SET is_shown = 0 WHERE is_shown AND boot_crc32 = ?", [(crc,) for crc, _ in found])
+            self.connection.execute("DELETE FROM boots WHERE crc32 NOT IN (SELECT boot_crc32 FROM images WHERE boot_crc32 IS NOT NULL)")
 
     def note_lost_pages(self) -> None:
         """Pages that are no longer there are made again."""

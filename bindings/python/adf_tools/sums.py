@@ -3,13 +3,10 @@
 from __future__ import annotations
 
 import hashlib
-import struct
 import zlib
 from typing import NamedTuple
 
 import adf
-
-BOOT, MASK = 2 * adf.BLOCK, 0xFFFFFFFF
 
 
 class Sums(NamedTuple):
@@ -32,19 +29,11 @@ def sums_of(content: adf.Image) -> Sums:
     return Sums(f"{crc:08x}", *(digest.hexdigest() for digest in digests))
 
 
-def boot_sum(boot: bytes) -> int:
-    """What word 1 of a boot block has if its checksum is right: the complement of the sum of all other words, to which each carry is
-    added."""
-    words = struct.unpack(f">{BOOT // 4}I", boot)
-    total = sum(words) - words[1]
-    while total > MASK:
-        total = (total & MASK) + (total >> 32)
-    return total ^ MASK
-
-
 def boot_facts(content: adf.Image) -> dict[str, object]:
-    """The CRC-32 of the boot block of an image, and whether its checksum is right; nothing if the image is shorter."""
-    boot = bytes(memoryview(content)[:BOOT])
-    if len(boot) < BOOT:
+    """Whether an Amiga starts the boot blocks of an image, their CRC-32, and whether their checksum is right; nothing if the image is
+    shorter."""
+    try:
+        boot = adf.Boot.of(content)
+    except adf.BadBoot:
         return {}
-    return {"boot_crc32": f"{zlib.crc32(boot):08x}", "boot_is_right": boot_sum(boot) == int.from_bytes(boot[4:8], "big")}
+    return {"boot": boot.state, "boot_crc32": f"{boot.crc:08x}", "boot_is_right": boot.has_right_sum}

@@ -10,7 +10,8 @@ from adf_tools.names import CONTROL, bytes_of, one_line
 
 IMAGES, ENTRIES = "images.tsv", "entries.tsv"
 IMAGE_QUERY = """SELECT name AS image, bytes, sha256, verdict, kind, blocks, used, free, dirs, files, label, root, altered, created, unlisted,
-advice, lost, fits, rescued, crc32, md5, sha1, boot_crc32, boot_is_right FROM images ORDER BY name, number"""
+advice, lost, fits, rescued, crc32, md5, sha1, boot_crc32, boot_is_right, boot, boot_others FROM images
+LEFT JOIN (SELECT boot_crc32 AS crc, COUNT(*) - 1 AS boot_others FROM images GROUP BY boot_crc32) ON crc = boot_crc32 ORDER BY name, number"""
 ENTRY_QUERY = """SELECT images.name AS image, entries.kind, size, printf('%08x', protection) AS protection, date, header, entries.sha256,
 path, comment, state FROM entries JOIN images ON images.id = image ORDER BY images.name, images.number, entries.id"""
 NAMES, TEXTS = ("image",), ("label", "path", "comment")

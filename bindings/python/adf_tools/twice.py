@@ -1,9 +1,10 @@
-"""The page of what a collection has twice: images with the same bytes, images with the same files, and the files that are on most disks."""
+"""The page of what a collection has twice: images with the same bytes, with the same files, or with the same boot blocks, and the files that
+are on most disks."""
 
 from __future__ import annotations
 
 import sqlite3
-from typing import Iterator
+from typing import Iterator, List
 
 from adf_tools.image_pages import is_page
 from adf_tools.pages import cell, count_of, link, page, paragraph, shown, table
@@ -13,6 +14,8 @@ MOST_GROUPS, MOST_NAMES = 500, 20  # of a table, and the images of a group that 
 BYTES = """SELECT sha256 AS sum, COUNT(*) AS count FROM images WHERE sha256 IS NOT NULL GROUP BY sha256 HAVING count > 1
 ORDER BY count DESC, sum LIMIT ?"""
 FILES = """SELECT tree AS sum, COUNT(*) AS count FROM images WHERE tree IS NOT NULL GROUP BY tree HAVING COUNT(DISTINCT sha256) > 1
+ORDER BY count DESC, sum LIMIT ?"""
+BOOTS = """SELECT boot_crc32 AS sum, boot, COUNT(*) AS count FROM images WHERE boot_crc32 IS NOT NULL GROUP BY boot_crc32 HAVING count > 1
 ORDER BY count DESC, sum LIMIT ?"""
 MANY = """SELECT entries.sha256 AS sum, COUNT(DISTINCT image) AS count, MIN(path) AS path, size FROM holders JOIN entries USING (sha256)
 WHERE size > 0 GROUP BY entries.sha256 HAVING count > 1 ORDER BY count DESC, path, sum LIMIT ?"""
@@ -26,21 +29,34 @@ class Twice:
 
     def html(self) -> str:
         heads = ("Count", "Images")
+        boots = map(self.boot_row, self.connection.execute(BOOTS, (MOST_GROUPS,)).fetchall())
         files = map(file_row, self.connection.execute(MANY, (MOST_GROUPS,)))
         tables = (
             ("Images with the same bytes", heads, list(self.groups(BYTES, "sha256"))),
             ("Images with the same files, which differ in free blocks, dates or places", heads, list(self.groups(FILES, "tree"))),
+            ("Boot blocks that are on the most disks", ("Disks", "CRC-32", "Boot blocks", "Images"), list(boots)),
             ("Files that are on the most disks", ("Disks", "Path", "Size"), list(files)),
         )
         body = "".join(table(name, heads, rows) for name, heads, rows in tables if rows) or paragraph("Nothing.")
         note = paragraph(f"Each table ends after {count_of(MOST_GROUPS, 'line')}.", "note")
         return page("What is there twice", paragraph(link(INDEX, "All images")) + body + note)
 
+    def names(self, column: str, sum_: str) -> List[str]:
+        """The first images that have a sum in this column."""
+        line = f"SELECT name, page FROM images WHERE {column} = ? ORDER BY name, number LIMIT {MOST_NAMES}"
+        return [link(name, text) if is_page(name) else shown(text) for text, name in self.connection.execute(line, (sum_,))]
+
+    def boot_row(self, row: sqlite3.Row) -> str:
+        """The line of boot blocks."""
+        names = self.names("boot_crc32", row["sum"])
+        more = f", and {row['count'] - len(names)} more" if row["count"] > len(names) else ""
+        cells = cell(row["count"], "number") + cell(f"<code>{shown(row['sum'])}</code>") + cell(shown(row["boot"] or ""))
+        return cells + cell(", ".join(names) + more, "text")
+
     def groups(self, query: str, column: str) -> Iterator[str]:
         """The lines of images that share a sum."""
-        line = f"SELECT name, page FROM images WHERE {column} = ? ORDER BY name, number LIMIT {MOST_NAMES}"
         for row in self.connection.execute(query, (MOST_GROUPS,)).fetchall():
-            names = [link(name, text) if is_page(name) else shown(text) for text, name in self.connection.execute(line, (row["sum"],))]
+            names = self.names(column, row["sum"])
             every = link(f"{INDEX}#find={row['sum']}", "all")
             more = f", {every}" if row["count"] > len(names) else ""
             yield cell(row["count"], "number") + cell(", ".join(names) + more, "text")

@@ -4,16 +4,17 @@ it copies what stands; with --damaged also what is left of its damaged files, un
 from __future__ import annotations
 
 import argparse
+import contextlib
 import functools
 import itertools
 import os
-from typing import Callable, Dict, Iterator, List, Sequence
+from typing import Callable, Dict, Iterator, List, Optional, Sequence
 
 import adf
 from adf_tools import uaem
-from adf_tools.given import add_image, add_strict, given
+from adf_tools.given import Given, add_image, add_strict, given
 from adf_tools.names import text_of
-from adf_tools.program import add_escape, begin, command_line, new_folder
+from adf_tools.program import REFUSED, USAGE, add_escape, begin, command_line, host_text, new_file, new_folder, stop
 from adf_tools.trees import Place, named
 
 DAYS_TO_1978 = 2922
@@ -126,13 +127,31 @@ def damaged_files(volume: adf.Volume) -> List[adf.Found]:
     return [found for found in volume.survey.entries if found.is_file and not volume.entry_of(found)]
 
 
+@contextlib.contextmanager
+def boot_file(path: Optional[str], image: Given) -> Iterator[None]:
+    """Writes the boot blocks of an image, damaged or not, into a new file, if one is named. It gets its name after all else is done."""
+    if path is None:
+        yield
+        return
+    try:
+        boot = adf.Boot.of(image.content)
+    except adf.BadBoot as error:
+        stop(REFUSED, image.line(f"{error}: it has no boot blocks"))
+    with new_file(path) as fd:
+        with open(fd, "wb", closefd=False) as file:
+            file.write(boot.raw)
+        yield
+
+
 def work(words: argparse.Namespace) -> int:
     image = given(words)
     volume = image.volume(words.strict)
     host: Callable[[bytes], bytes] = functools.partial(host_name, is_escaped=words.escape)
     if words.uaem and not words.escape:
         host = uaem.host_name
-    with new_folder(words.folder) as folder:
+    if words.boot is not None and os.path.abspath(words.boot) == os.path.abspath(words.folder):
+        stop(USAGE, f"{host_text(words.folder)}: FOLDER and the FILE of --boot are the same")
+    with boot_file(words.boot, image), new_folder(words.folder) as folder:
         Unpacker(volume, host, words.uaem, damaged_files(volume) if words.damaged else ()).write(folder)
     return image.tell("adf-unpack", volume)
 
@@ -143,6 +162,7 @@ def main() -> None:
     line.add_argument("folder", metavar="FOLDER", help="the new folder, which must not exist")
     add_strict(line)
     line.add_argument("--damaged", action="store_true", help="write what is left of a damaged file as NAME.damaged, and its gaps as NAME.gaps")
+    line.add_argument("--boot", metavar="FILE", help="write the boot blocks, 1,024 bytes, into a new file too")
     add_escape(line, "write names")
     line.add_argument("--uaem", action="store_true", help="keep protection, date and comment in files NAME.uaem, for FS-UAE and WinUAE")
     begin(line, work)

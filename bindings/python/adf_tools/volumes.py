@@ -13,7 +13,7 @@ from adf_tools import icons
 from adf_tools.advice import advice_of, length_that_fits
 from adf_tools.names import letters
 from adf_tools.picture import roles_of_refused
-from adf_tools.sums import BOOT, boot_facts, sums_of
+from adf_tools.sums import boot_facts, sums_of
 
 DOS = b"DOS"
 MOST_LETTERS, MOST_FINDINGS, LINE = 64 << 20, 100_000, 100  # of the texts of one image; a row has so many letters beside them
@@ -82,7 +82,7 @@ def dates_of(volume: adf.Volume | adf.Survey) -> Columns:
 
 def tree_sum(volume: adf.Volume, rows: Rows) -> str:
     """A sum of all that a volume is but its dates, its free blocks, and which blocks hold what."""
-    digest = hashlib.sha256(volume.image[:BOOT])
+    digest = hashlib.sha256(volume.boot.raw)
     digest.update(repr((volume.kind, volume.blocks, volume.label)).encode())
     for kind, path, size, protection, _, comment, _, _, content in sorted(rows, key=lambda row: row[1]):
         digest.update(repr((kind, path, size, protection, comment, content)).encode())

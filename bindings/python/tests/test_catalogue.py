@@ -19,7 +19,7 @@ import zipfile
 import zlib
 
 import adf
-from adf_tools import collection, database, processes, sums, trees
+from adf_tools import collection, database, processes, trees
 from tests.shared import Folder, built, changed, image_of, written
 
 OFS, SMALLEST = image_of(), built("volume ofs 4\n")
@@ -530,19 +530,6 @@ class Databases(Catalogues):
         self.assertEqual(self.asked("out", "SELECT COUNT(DISTINCT sha256), COUNT(*) FROM entries WHERE kind = 'file'"), [(3, 9)])
         self.assertEqual(self.asked("out", "PRAGMA user_version"), [(len(database.STEPS),)])
         self.assertEqual(self.asked("out", "PRAGMA integrity_check"), [("ok",)])
-
-    def test_sums_boot_blocks_as_the_format_says(self):
-        def boot(*words):
-            return b"".join(word.to_bytes(4, "big") for word in words).ljust(1024, b"\0")
-
-        for words, right in (
-            ((0x444F5300,), 0xBBB0ACFF), ((0x444F5300, 5), 0xBBB0ACFF), ((0x444F5300, 0, 880), 0xBBB0A98F),
-            ((0xFFFFFFFF, 0, 1), 0xFFFFFFFE), ((0xFFFFFFFF, 0, 0xFFFFFFFF), 0), ((), 0xFFFFFFFF),
-        ):  # fmt: skip
-            self.assertEqual(sums.boot_sum(boot(*words)), right, words)
-            self.assertTrue(sums.boot_facts(boot(*(words[:1] or (0,)), right, *words[2:]))["boot_is_right"])
-            self.assertFalse(sums.boot_facts(boot(*(words[:1] or (0,)), right ^ 1, *words[2:]))["boot_is_right"])
-        self.assertEqual(sums.boot_facts(bytes(1023)), {})
 
     def test_says_that_a_database_is_damaged_and_leaves_it(self):
         self.catalogue("disks", "out", "--tsv", status=1)

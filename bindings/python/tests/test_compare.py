@@ -43,8 +43,8 @@ class Twice(Asked):
             written("disks/free.adf", file.read()[:-512] + b"\1" * 512)
         self.catalogue("disks", "out", status=1)
         page = Page("out/twice.html")
-        same, files, many = (text.count("<tr>") - 1 for text in page.text.split("<caption>")[1:])
-        self.assertEqual((same, files, many), (1, 1, 2))
+        same, files, boots, many = (text.count("<tr>") - 1 for text in page.text.split("<caption>")[1:])
+        self.assertEqual((same, files, boots, many), (1, 1, 1, 2))
         self.assertIn(f"index.html#find={self.sum}", page.links)
         self.assertIn("twice.html", Page("out/index.html").links)
 

@@ -10,6 +10,7 @@ import subprocess
 import unittest
 import zlib
 
+import adf
 from tests.samples import OFS, Asked, dat, disk, volume
 from tests.shared import TOP, changed, written
 
@@ -96,6 +97,8 @@ class Queries(Asked):
         written("disks/free.adf", tools)
         written("disks/cut.adf", OFS[: 512 * 1700])
         written("disks/disk.hdf", disk(volume(blocks=64, label="Work"), changed(volume(blocks=64, label="Bad"), 32, 440, 1)))
+        written("disks/start.adf", adf.with_standard_boot(volume(("x", b""), label="Start")))
+        other = f"{zlib.crc32(b'no volume'.ljust(1024, bytes(1))):08x}"
         written("list.dat", dat(("Tools.adf", OFS)))
         self.catalogue("--dat", "list.dat", "disks", "out", status=1)
         startup = [(image, "s/startup-sequence") for image in ("free.adf", "games/bad.adf", "games/copy.adf", "tools.adf")]
@@ -110,11 +113,12 @@ class Queries(Asked):
             "GROUP BY cause": [("bad sum", 2), ("bad type", 1), ("not dos", 1)],
             "fits": [("cut.adf", 870400, 901120)],
             "known = 'differs'": [("tools.adf", "Tools.adf (list.dat)")],
-            "boot_crc32": [(f"{zlib.crc32(OFS[:1024]):08x}", 0, 8), (f"{zlib.crc32(b'no volume'.ljust(1024, bytes(1))):08x}", 0, 1)],
+            "boot, COUNT": [("b442e953", "no-code", 8), ("01261547", "bootable", 1), (other, "not-dos", 1)],
+            "boot = 'bootable'": [("start.adf", "01261547")],
             "partitions": [("disk.hdf", "DH0", "ofs", "ok"), ("disk.hdf", "DH1", "ofs", "block 32: bad sum")],
         }
         found = queries()
-        self.assertEqual(len(found), 11)
+        self.assertEqual(len(found), 12)
         for word, rows in expected.items():
             (query,) = [query for query in found if word in query]
             self.assertEqual(self.asked("out", query), rows, query)

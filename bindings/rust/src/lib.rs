@@ -1,5 +1,6 @@
 #![doc = include_str!("../README.md")]
 
+mod boot;
 mod building;
 mod cause;
 mod command;
@@ -13,6 +14,7 @@ mod role;
 mod survey;
 mod text;
 
+pub use boot::{with_boot, with_standard_boot, without_boot, Boot, BootRefusal};
 pub use building::{build, Addition, BuildRefusal, Dates, NotBuilt};
 pub use cause::{Cause, NotFound, Refused};
 pub use command::{run, survey, Answer, Failed};

@@ -205,6 +205,26 @@ extern "C" fn adf_need(_: *const u8, _: *const u8, _: usize, _: *const u8, _: us
 }
 
 #[no_mangle]
+extern "C" fn adf_boot(_: *const u8, _: usize, _: *mut u8) -> u8 {
+    NEW
+}
+
+#[no_mangle]
+extern "C" fn adf_boot_install(_: *mut u8, _: usize) -> u8 {
+    NEW
+}
+
+#[no_mangle]
+extern "C" fn adf_boot_copy(_: *mut u8, _: usize, _: *const u8, _: usize) -> u8 {
+    NEW
+}
+
+#[no_mangle]
+extern "C" fn adf_boot_clear(_: *mut u8, _: usize) -> u8 {
+    NEW
+}
+
+#[no_mangle]
 #[allow(clippy::too_many_arguments)]
 extern "C" fn adf_run(
     _: *const u8,
@@ -256,6 +276,8 @@ fn an_answer_that_is_new_accepts_no_image() {
     assert_eq!(adf::version(), 20_001);
     let refused = adf::build(Kind::Ofs, None, &[], b"", adf::Dates::default()).unwrap_err();
     assert_eq!((refused.refusal, refused.to_string()), (adf::BuildRefusal::Unknown(NEW), "unknown refusal 24".into()));
+    assert_eq!(adf::Boot::of(&[0; 2048]).unwrap_err(), adf::BootRefusal::Unknown(NEW));
+    assert_eq!(adf::without_boot(&[0; 2048]).unwrap_err().to_string(), "unknown refusal 24");
 }
 
 #[test]

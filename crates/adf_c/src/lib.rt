@@ -1,6 +1,7 @@
 //! The calls of adf_memory under the names of include/adf.h.
 #![tactic(auto)]
 
+mod boot;
 mod building;
 mod causes;
 mod commands;

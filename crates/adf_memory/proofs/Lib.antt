@@ -19,3 +19,5 @@ pub mod DiskReadings
 -- volumes that are built
 pub mod TableDrafts
 pub mod Refusals
+-- boot blocks that are written
+pub mod BootImages

@@ -65,7 +65,7 @@ abbrev pub body_size : HeadBody → ℕ
 body_size Dir = 0
 body_size (File size ext) = size
 
--- 1 for a sound entry, otherwise 0
+-- 1 for a mark that is set, otherwise 0
 abbrev pub mark_number : Bool → ℕ
 mark_number true = 1
 mark_number false = 0

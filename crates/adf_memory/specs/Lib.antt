@@ -11,5 +11,6 @@ pub mod Rooms
 pub mod Tables
 pub mod Verdicts
 pub mod Words
+pub mod Boot
 -- The states of what looks up a name in a table.
 pub mod TableNames

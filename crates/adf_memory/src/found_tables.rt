@@ -161,11 +161,11 @@ fn body_size(body: HeadBody) -> u32
     }
 }
 
-// 1 for a sound entry, otherwise 0.
-fn mark_number(is_sound: bool) -> u8
-    ensures { result ≡ mark_number is_sound }
+/// 1 for a mark that is set, otherwise 0.
+pub fn mark_number(is_set: bool) -> u8
+    ensures { result ≡ mark_number is_set }
 {
-    if is_sound { 1 } else { 0 }
+    if is_set { 1 } else { 0 }
 }
 
 // The row of an entry, by its directory, the block of its header, its mark, name, body and metadata.

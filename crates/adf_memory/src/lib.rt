@@ -1,6 +1,7 @@
 //! Checks, tables, look-up, reading and whole commands over memory that the caller gives.
 #![tactic(auto)]
 
+mod boot;
 mod building;
 mod causes;
 mod disk_index;
@@ -22,6 +23,7 @@ mod tables;
 mod verdict;
 mod words;
 
+pub use crate::boot::{BootBlocks, BootRefusal, clear_boot, copy_boot, install_boot, tell_boot};
 pub use crate::building::{Built, NewVolume, Refusal, build_volume, need_volume};
 pub use crate::causes::{cause_text, disk_cause_text, partition_fault_text};
 pub use crate::disk_index::put_disk;

@@ -4,6 +4,8 @@
 #[cfg(test)]
 mod batch;
 #[cfg(test)]
+mod boots;
+#[cfg(test)]
 mod devices;
 #[cfg(test)]
 mod disk_builds;

@@ -1,0 +1,102 @@
+"""Boot blocks: adf.Boot, adf.with_boot, adf.with_standard_boot, adf.without_boot and adf.BadBoot."""
+
+from __future__ import annotations
+
+import ctypes
+from typing import Any, NamedTuple, Union
+
+import adf
+
+BYTES = 2 * adf.BLOCK
+REFUSALS = {1: "bad size", 2: "not dos", 3: "boot blocks: bad size", 4: "boot blocks: not dos"}
+_BootBlocks = adf._struct(
+    ("crc", ctypes.c_uint32), ("begins_with_dos volume_type has_right_sum is_bootable has_code", ctypes.c_uint8),
+)
+
+
+class BadBoot(adf.Error, ValueError):
+    """An image has no boot blocks, or gets none: `why` it is so, of the image, or of the `boot blocks` that are to be put into it."""
+
+    def __init__(self, why: str) -> None:
+        super().__init__(why)
+        self.why = why
+
+
+class Boot(NamedTuple):
+    """Boot blocks: their 1,024 bytes and the CRC-32 of these; whether they begin with DOS, and the type behind it; whether the sum of
+    their words is right; whether an Amiga starts them, which takes both; whether anything but zeros is behind the type."""
+
+    raw: bytes
+    crc: int
+    begins_with_dos: bool
+    type: int
+    has_right_sum: bool
+    is_bootable: bool
+    has_code: bool
+
+    @classmethod
+    def of(cls, image: adf.Image) -> Boot:
+        """The boot blocks at the front of an image, or of a file of them. BadBoot if it is shorter."""
+        raw, told = bytes(adf._view(image)[:BYTES]), _BootBlocks()
+        _accept(adf._calls().adf_boot(raw, len(raw), ctypes.byref(told)))
+        marks = bool(told.has_right_sum), bool(told.is_bootable), bool(told.has_code)
+        return cls(raw, told.crc, bool(told.begins_with_dos), told.volume_type, *marks)
+
+    @property
+    def state(self) -> str:
+        """Whether an Amiga starts them, or why not, in the word of `adf-boot`."""
+        if self.is_bootable:
+            return "bootable"
+        return ("bad-sum" if self.has_code else "no-code") if self.begins_with_dos else "not-dos"
+
+    def __bytes__(self) -> bytes:
+        return self.raw
+
+    def __repr__(self) -> str:
+        return f"<adf.Boot {self.crc:08x}: {self.state}>"
+
+
+def _accept(number: int) -> None:
+    if number != 0:
+        raise BadBoot(REFUSALS.get(number, str(number)))
+
+
+def _changed(call: Any, image: adf.Image, *source: Any) -> bytes:
+    """An image of which a call changes a copy."""
+    room = bytearray(adf._view(image))
+    _change(call, room, *source)
+    return bytes(room)
+
+
+def _change(call: Any, room: adf.Buffer, *source: Any) -> None:
+    """Has a call change an image where it is."""
+    view = memoryview(room).cast("B")
+    _accept(call((ctypes.c_char * len(view)).from_buffer(view) if view else b"", len(view), *source))
+
+
+def copy_into(room: adf.Buffer, boot: Union[Boot, adf.Image]) -> None:
+    """Puts boot blocks into an image where it is, as with_boot."""
+    source = boot.raw if isinstance(boot, Boot) else adf._bytes(boot)
+    _change(adf._calls().adf_boot_copy, room, source, len(source))
+
+
+def install_into(room: adf.Buffer) -> None:
+    """Puts standard boot blocks into an image where it is, as with_standard_boot."""
+    _change(adf._calls().adf_boot_install, room)
+
+
+def with_boot(image: adf.Image, boot: Union[Boot, adf.Image]) -> bytes:
+    """The image with other boot blocks: those of a volume (volume.boot), of another image, or the bytes of a file of them. It keeps its
+    type, and gets the checksum with which an Amiga starts it. BadBoot if there are none."""
+    source = boot.raw if isinstance(boot, Boot) else adf._bytes(boot)
+    return _changed(adf._calls().adf_boot_copy, image, source, len(source))
+
+
+def with_standard_boot(image: adf.Image) -> bytes:
+    """The image with boot blocks that start AmigaDOS. BadBoot if it is none that can have them."""
+    return _changed(adf._calls().adf_boot_install, image)
+
+
+def without_boot(image: adf.Image) -> bytes:
+    """The image with zeros behind the type in its boot blocks. BadBoot if it is none that can have them."""
+    return _changed(adf._calls().adf_boot_clear, image)
