@@ -1,27 +1,110 @@
--- What is asked of an image has an answer of `adf-survey`. s, t are what is surveyed.
-use Rattle.std.proofs.Common.{ℕ, Bool, List, Option, inl, refl}
+-- What is asked of an image has an answer of `adf-survey`.
+-- Letters: s, t what is surveyed; w the walk of its survey, fs the findings; n an entry's node.
+use Rattle.std.proofs.Common.{ℕ, Bool, true, false, List, Option, codes, inl, inr, refl}
+use mathlib.Core.Logic.Dec.{and as dec_and}
+use native.Mathlib.Decide.{ℕ_discrete}
+use Rattle.adf_base.proofs.ByteLists.{AreBytes}
+use Rattle.adf_blocks.specs.declared.layout.TheConstants.{SECONDARY_TYPE, ST_FILE}
+use Rattle.adf_fields.proofs.DateTexts.{date_of, date_of_is}
+use Rattle.adf_names.proofs.SomePaths.{path_or_none}
+use Rattle.adf_names.specs.PathTexts.{HasPathOrNone, IsPathText}
+use Rattle.adf_volume.specs.Image.{word_in}
+use Rattle.adf_volume.specs.Walk.{FileAt, Role, node_block}
+use Rattle.adf_findings.specs.Files.{file_content, file_in}
+use Rattle.adf_findings.specs.Remains.{gaps_of, left_of}
+use Rattle.adf_findings.specs.Survey.{FindingValue, IsSurvey}
+use Rattle.adf_findings.proofs.Decidability.{dec_true}
+use Rattle.adf_findings.proofs.SomeLookups.{dec_is_file, leads_or_not}
+use Rattle.adf_findings.proofs.SomeMarks.{dec_sound, some_marks}
 use Rattle.adf_findings.proofs.SomeSurvey.{some_survey}
-use Rattle.adf_runs.specs.Commands.{Reply, bad_path, on_output}
-use Rattle.adf_words.specs.SurveyLine.{asked, cat, report}
-use Rattle.adf_cmd.specs.Answers.{IsBadPath}
-use Rattle.adf_survey_cmd.specs.Answers.{Surveys, told_status}
-use Rattle.adf_answers.specs.Answered.{HasSurveyAnswer}
+use Rattle.adf_runs.specs.Commands.{Reply, bad_path, on_errors, on_output}
+use Rattle.adf_words.specs.SurveyLine.{asked, cat, list, report, rescue}
+use Rattle.adf_survey_cmd.proofs.SomeRescues.{some_rescue as rescue_answered}
+use Rattle.adf_survey_cmd.proofs.SubjectBytes.{subject_bytes, typed_bytes}
+use Rattle.adf_survey_cmd.specs.Answers.{CopiesEntry, CopiesFound, CopiesFromSurvey, IsWholeFile, ListsSurvey, Surveys, no_path_line, told_status}
+use Rattle.adf_survey_cmd.specs.FoundLines.{has_its_data, listing_text}
+use Rattle.adf_survey_cmd.specs.Remains.{remains_reply}
 use Rattle.adf_survey_cmd.specs.Subject.{IsTyped, OfTyped, SubjectValue, begun_subject, subject, told_text, typed_subject}
+use Rattle.adf_answers.specs.Answered.{HasSurveyAnswer}
 
 some_typed : (s : SubjectValue) → (t : SubjectValue) × IsTyped s t
 some_typed s = let (w, fs, survey) = some_survey s.image in (typed_subject s w, (w, fs, survey, refl))
+
+of_typed : (s : SubjectValue) (answers : SubjectValue → Reply → Type 0) → ((t : SubjectValue) → (reply : Reply) × answers t reply)
+    → (reply : Reply) × OfTyped s answers reply
+of_typed s answers some =
+    let (t, typed) = some_typed (begun_subject s) in
+    let (reply, told) = some t in (reply, (t, typed, told))
+
+-- the findings
 
 some_findings : (t : SubjectValue) → (reply : Reply) × Surveys t reply
 some_findings t =
     let (w, fs, survey) = some_survey t.image in (on_output (told_status t.front fs) (told_text t w fs), (w, fs, survey, refl))
 
-of_typed : (s : SubjectValue) → (reply : Reply) × OfTyped s Surveys reply
-of_typed s =
-    let (t, typed) = some_typed (begun_subject s) in
-    let (reply, surveys) = some_findings t in (reply, (t, typed, surveys))
-
 pub some_report : (blocks : Option ℕ) (input : List ℕ) → HasSurveyAnswer (asked blocks report) input
-some_report blocks input = of_typed (subject blocks input)
+some_report blocks input = of_typed (subject blocks input) Surveys some_findings
 
-pub bad_copy : (blocks : Option ℕ) (damaged : Bool) (path input : List ℕ) → IsBadPath path → HasSurveyAnswer (asked blocks (cat damaged path)) input
-bad_copy blocks damaged path input bad = (bad_path, inl (bad, refl))
+-- what is found
+
+some_listing : (t : SubjectValue) → (reply : Reply) × ListsSurvey t reply
+some_listing t =
+    let (w, fs, survey) = some_survey t.image in
+    let (sound, marks) = some_marks t.image w fs survey fs in
+    (on_output (told_status t.front fs) (listing_text date_of sound t w fs), (w, fs, survey, (date_of, date_of_is, sound, marks, refl)))
+
+pub some_list : (blocks : Option ℕ) (input : List ℕ) → HasSurveyAnswer (asked blocks list) input
+some_list blocks input = of_typed (subject blocks input) ListsSurvey some_listing
+
+-- the bytes under a path
+
+module _ (s : SubjectValue) (w : List (Role × ℕ)) (fs : List FindingValue) (survey : IsSurvey s.image w fs) where
+  dec_whole : (n : ℕ) → Dec (IsWholeFile s w fs n)
+  dec_whole n =
+      dec_and (dec_and (dec_sound s.image w fs survey fs n) (ℕ_discrete (word_in s.image (node_block w n) SECONDARY_TYPE) ST_FILE))
+      (dec_true (has_its_data s.end s.image w n))
+
+  copy_of_file : (damaged : Bool) (n : ℕ) → ((h : ℕ) × FileAt s.image w n h) → (reply : Reply) × CopiesEntry damaged s w fs n reply
+  copy_of_file true n file = (remains_reply (left_of s.image w s.end n) (gaps_of s.image w s.end n), inr (file, refl))
+  copy_of_file false n file = elim (dec_whole n) [
+    | yes whole ↦ (on_output 0 (file_content (file_in s.image w n)), inr (inr (whole, refl)))
+    | no damage ↦ (on_errors 1 (codes "damaged\n"), inr (inl (file, damage, refl)))
+  ]
+
+  copy_of_no_file : (damaged : Bool) (n : ℕ) → ((h : ℕ) → FileAt s.image w n h → ⊥) → (reply : Reply) × CopiesEntry damaged s w fs n reply
+  copy_of_no_file true n none = (on_errors 1 (codes "not a file\n"), inl (none, refl))
+  copy_of_no_file false n none = (on_errors 1 (codes "not a file\n"), inl (none, refl))
+
+  copy_of_entry : (damaged : Bool) (n : ℕ) → (reply : Reply) × CopiesEntry damaged s w fs n reply
+  copy_of_entry damaged n = elim (dec_is_file s.image w fs survey n) [
+    | yes file ↦ copy_of_file damaged n file
+    | no none ↦ copy_of_no_file damaged n (λ h at. none (h, at))
+  ]
+
+  copy_of_found : (damaged : Bool) (names : List (List ℕ)) → (reply : Reply) × CopiesFound damaged s w fs names reply
+  copy_of_found damaged names = elim (leads_or_not s.image w fs survey 0 names) [
+    | inl x ↦ let (reply, copies) = copy_of_entry damaged x.0 in (reply, inr (x.0, x.1, copies))
+    | inr none ↦ (on_errors 1 (no_path_line names), inl (none, refl))
+  ]
+
+copied : (damaged : Bool) (path : List ℕ) (names : List (List ℕ)) → IsPathText path names → (t : SubjectValue)
+    → (reply : Reply) × CopiesFromSurvey damaged path t reply
+copied damaged path names text t =
+    let (w, fs, survey) = some_survey t.image in
+    let (reply, copies) = copy_of_found t w fs survey damaged names in (reply, (names, text, w, fs, survey, copies))
+
+copied_by : (blocks : Option ℕ) (damaged : Bool) (path input : List ℕ) → HasPathOrNone path → HasSurveyAnswer (asked blocks (cat damaged path)) input
+copied_by blocks damaged path input (inl (names, text)) =
+    let (reply, answer) = of_typed (subject blocks input) (CopiesFromSurvey damaged path) (copied damaged path names text) in (reply, inr answer)
+copied_by blocks damaged path input (inr bad) = (bad_path, inl (bad, refl))
+
+pub some_copy : (blocks : Option ℕ) (damaged : Bool) (path input : List ℕ) → HasSurveyAnswer (asked blocks (cat damaged path)) input
+some_copy blocks damaged path input = copied_by blocks damaged path input (path_or_none path)
+
+-- a rescue
+
+pub some_rescue : (blocks : Option ℕ) (input : List ℕ) → AreBytes input → HasSurveyAnswer (asked blocks rescue) input
+some_rescue blocks input are =
+    let (t, typed) = some_typed (subject blocks input) in
+    let (reply, told) = rescue_answered t.end t.image (typed_bytes (subject blocks input) t typed (subject_bytes blocks input are)) in
+    (reply, (t, typed, told))

@@ -1,12 +1,13 @@
 // The laws of answers. Each is the contract of a function that does nothing at run time. Beside each stands the law `one_answer` of
 // its command: there is one answer at most.
 
-ghost use Rattle.std.specs.Prelude.{ℕ, Bool, List, Option};
+ghost use Rattle.std.specs.Prelude.{◌≡◌, ◌<◌, ℕ, List};
+ghost use Rattle.std.specs.List.{All};
 ghost use Rattle.adf_names.specs.PathTexts.{IsPathText};
 ghost use Rattle.adf_cmd.specs.Answers.{IsBadPath};
 ghost use Rattle.adf_words.specs.CommandLine.{cat, check, list};
 ghost use Rattle.adf_words.specs.DiskLine.{DiskRequestValue};
-ghost use Rattle.adf_words.specs.SurveyLine.{asked, report, cat as cat_of_survey};
+ghost use Rattle.adf_words.specs.SurveyLine.{InquiryValue, rescue};
 ghost use Rattle.adf_answers.specs.Answered.{HasAnswer, HasDiskAnswer, HasSurveyAnswer};
 
 /// Each image has an answer of `adf` to `check`, to `list`, and to `cat` of a path and of a text that is that of no path.
@@ -23,9 +24,9 @@ pub fn some_disk_answer()
     ensures { (r : DiskRequestValue) (input : List ℕ) → HasDiskAnswer r input }
 {}
 
-/// Each image has an answer of `adf-survey` without a question, and to `cat` of a text that is that of no path.
+/// Whatever is asked of an image has an answer of `adf-survey`. Of a rescue the input must be bytes, numbers below 256, since what
+/// the headers say is written into the new volume.
 pub fn some_survey_answer()
-    ensures report { (blocks : Option ℕ) (input : List ℕ) → HasSurveyAnswer (asked blocks report) input }
-    ensures bad_path { (blocks : Option ℕ) (damaged : Bool) (path input : List ℕ) → IsBadPath path
-        → HasSurveyAnswer (asked blocks (cat_of_survey damaged path)) input }
+    ensures { (r : InquiryValue) (input : List ℕ) → (r.question ≡ rescue → All (λ b. b < 256) input)
+        → HasSurveyAnswer r input }
 {}

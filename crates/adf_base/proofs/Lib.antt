@@ -2,3 +2,5 @@
 pub mod WordLaws
 -- results
 pub mod Results
+-- lists of bytes
+pub mod ByteLists

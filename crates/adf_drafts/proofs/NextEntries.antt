@@ -34,7 +34,7 @@ directory_stays es e p (x ∷ xs) q t h =
     ap (past (es ++ e ∷ []) xs) (child_stays es e p x next.0 t next.1)
     ∙ rw (dir_stays es e next.0 found.0 found.1, next.2) (directory_stays es e next.0 xs q t next.3)
 
-last_is : (names : List (List ℕ)) (x : List ℕ) → last_of (names ++ x ∷ []) ≡ x
+pub last_is : (names : List (List ℕ)) (x : List ℕ) → last_of (names ++ x ∷ []) ≡ x
 last_is names x = grind (arith, common_steps, length_push, get_or_push)
 
 -- the next entry, in the directory that a path leads to

@@ -60,7 +60,7 @@ pub dec_true : (t : Bool) → Dec (t ≡ true)
 dec_true true = yes refl
 dec_true false = no (λ e. cc)
 
-dec_false : (t : Bool) → Dec (t ≡ false)
+pub dec_false : (t : Bool) → Dec (t ≡ false)
 dec_false true = no (λ e. cc)
 dec_false false = yes refl
 
@@ -78,7 +78,7 @@ dec_absent (x ∷ w) b =
 pub dec_all : {P Q R : Type 0} → Dec P → Dec Q → Dec R → Dec (P × Q × R)
 dec_all p q r = map_dec (λ x. (x.0, x.1.0, x.1.1)) (λ x. (x.0, (x.1, x.2))) (dec_and p (dec_and q r))
 
-dec_both : (P Q : Type 0) → Dec P → Dec Q → Dec (P → Q)
+pub dec_both : (P Q : Type 0) → Dec P → Dec Q → Dec (P → Q)
 dec_both P Q p (yes q) = yes (λ x. q)
 dec_both P Q (yes p) (no n) = no (λ f. n (f p))
 dec_both P Q (no m) (no n) = yes (λ x. absurd (m x))

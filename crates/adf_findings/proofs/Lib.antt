@@ -14,6 +14,7 @@ mod FileBlocks
 pub mod SoundFiles
 -- look-up of paths
 pub mod Lookups
+pub mod SomeLookups
 mod EntryPaths
 -- the blocks of sound entries
 pub mod SoundEntries
@@ -38,6 +39,8 @@ pub mod BitSteps
 pub mod BitsStated
 pub mod FoundPages
 pub mod SoundMarks
+-- each survey has marks
+pub mod SomeMarks
 -- the positions of headers, and the entries that findings concern
 pub mod HeadPlaces
 pub mod Concerning

@@ -213,7 +213,7 @@ module _ (image : List ℕ) where
     ]
 
     -- and only such a one
-    not_alone : (n k b : ℕ) → Has s.walk (Data n k) b → owns s.skipped b ≡ true
+    pub not_alone : (n k b : ℕ) → Has s.walk (Data n k) b → owns s.skipped b ≡ true
         → ((q : Role) (a i : ℕ) → Asks image s.walk q a i → word_in image a i ≡ b → Same q (Data n k)) → ⊥
     not_alone n k b d over alone = grind (arith, common_steps, owner_of, skipped_wanted, renumbered, renumbered_same, apart)
 

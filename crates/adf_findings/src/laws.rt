@@ -1,6 +1,6 @@
 // The laws of surveys. Each is the contract of a function that does nothing at run time.
 
-ghost use Rattle.std.specs.Prelude.{◌≡◌, ◌<◌, ◌↔◌, ℕ, List, [], ◌∷◌, ◌++◌, Some};
+ghost use Rattle.std.specs.Prelude.{◌≡◌, ◌<◌, ◌↔◌, ℕ, Bool, List, [], ◌∷◌, ◌++◌, Some};
 ghost use Rattle.adf_tree.specs.declared.entry.Body.TheVariants.{File};
 ghost use Rattle.adf_tree.specs.declared.entry.Entry.{Entry};
 ghost use Rattle.adf_tree.specs.Tree.{Tree, entry, find};
@@ -10,11 +10,12 @@ ghost use Rattle.adf_volume.specs.Layout.{Layout};
 ghost use Rattle.adf_volume.specs.Made.{layout_in, tree_in};
 ghost use Rattle.adf_volume.specs.Walk.{Asks, FileAt, FirstFault, Has, HeadAt, NodeAt, Role};
 ghost use Rattle.adf_volume.specs.Walk.Role.{Data, Head};
-ghost use Rattle.adf_findings.specs.Files.{IsSoundFile, file_content, file_in, named_from};
+ghost use Rattle.adf_findings.specs.Files.{IsSoundFile, file_content, file_in, grave, named_from};
 ghost use Rattle.adf_findings.specs.Lookup.{LeadsTo, path_to};
 ghost use Rattle.adf_findings.specs.Remains.{data_found, gaps_of, left_of};
 ghost use Rattle.adf_findings.specs.Survey.{FindingValue, IsSurvey, OnSurvey};
 ghost use Rattle.adf_findings.specs.Sound.{DatasInOrder, FileHolds, HeaderHolds, IsOfItsKind, IsSound};
+ghost use Rattle.adf_findings.specs.SoundMarks.{AreMarks};
 ghost use Rattle.adf_findings.specs.Verdict.{FitsOrHasFault};
 
 /// Every image has a survey.
@@ -52,6 +53,16 @@ pub fn no_finding()
 /// Every image is that of a volume, or has a first fault.
 pub fn fits_or_fault()
     ensures { (image : List ℕ) → FitsOrHasFault image }
+{}
+
+/// Of each survey it is decided which entries are sound, by all findings and by the grave ones.
+pub fn some_marks()
+    ensures sound { (image : List ℕ) (w : List (Role × ℕ)) (fs : List FindingValue)
+        → IsSurvey image w fs
+        → (sound : ℕ → Bool) × AreMarks image w fs sound }
+    ensures whole { (image : List ℕ) (w : List (Role × ℕ)) (fs : List FindingValue)
+        → IsSurvey image w fs
+        → (whole : ℕ → Bool) × AreMarks image w (grave fs) whole }
 {}
 
 /// A block in the walk of a survey has one role.

@@ -28,7 +28,7 @@ pub use crate::file::SoundFile;
 pub use crate::laws::{
     all_sound, directories_first, first_finding, fits_or_fault, found_as_in_the_tree,
     found_as_named, left_of_sound, no_finding, one_part, one_survey, paths_of_directories,
-    some_survey, sound_entries,
+    some_marks, some_survey, sound_entries,
 };
 pub use crate::opening::Opening;
 pub use crate::own_kind::{Tally, retype};

@@ -28,3 +28,7 @@ pub mod LostHeaders
 pub mod HungImages
 -- what stays in a hung image
 pub mod HungKeeps
+-- what is made of bytes is bytes
+pub mod RescuedBytes
+-- what stands fits in a volume, and is laid there
+pub mod RescuedVolumes

@@ -1,13 +1,13 @@
 // The laws of rescues. Each is the contract of a function that does nothing at run time.
 
-ghost use Rattle.std.specs.Prelude.{◌≡◌, ◌≤◌, ◌++◌, ℕ, Bool, List, [], None, Option, Some, true, false, slice_get};
+ghost use Rattle.std.specs.Prelude.{◌≡◌, ◌≤◌, ◌<◌, ◌++◌, ℕ, Bool, List, [], IfSome, None, Option, Some, true, false, slice_get};
 ghost use Rattle.std.proofs.Common.{suc};
-ghost use Rattle.std.specs.List.{concat};
+ghost use Rattle.std.specs.List.{All, concat};
 ghost use Rattle.adf_base.specs.Words.{block};
 ghost use Rattle.adf_tree.specs.Additions.{Addition, IsTreeOf};
 ghost use Rattle.adf_tree.specs.declared.entry.Body.TheVariants.{File};
 ghost use Rattle.adf_blocks.specs.HeadBlock.{meta_stated};
-ghost use Rattle.adf_blocks.specs.Sizes.{blocks};
+ghost use Rattle.adf_blocks.specs.Sizes.{blocks, is_allowed};
 ghost use Rattle.adf_volume.specs.Image.{name_of};
 ghost use Rattle.adf_findings.specs.Files.{HasItsBlocks, IsSoundFile, file_content, file_in, grave};
 ghost use Rattle.adf_findings.specs.Found.{owner, parent_node};
@@ -20,6 +20,7 @@ ghost use Rattle.adf_volume.specs.Layout.{Layout};
 ghost use Rattle.adf_volume.specs.Made.{datas_in};
 ghost use Rattle.adf_volume.specs.Lists.{At};
 ghost use Rattle.adf_volume.specs.Walk.{FileAt, Role, node_block};
+ghost use Rattle.adf_build.specs.Laid.{IsLaid};
 ghost use Rattle.adf_rescue.specs.Lost.{has_lost};
 ghost use Rattle.adf_rescue.specs.Rescue.{Basis, Verdict, additions_of, at_path, before_first, first_verdicts, path_by, place_of};
 ghost use Rattle.adf_rescue.specs.Rescue.{rescue_leaves, rescued_additions, rescued_tree, second_verdicts, tree_of, verdict};
@@ -30,6 +31,13 @@ ghost use Rattle.adf_rescue.specs.Salvage.{are_held};
 pub fn rescued_additions_have_their_tree()
     ensures { (held : ℕ) (a : Basis) (b : Option Basis)
         → IsTreeOf (rescued_tree held a b).entries (rescued_additions held a b) }
+{}
+
+/// The tree of a rescue of bytes has room in as many blocks as its image has, and is laid there.
+pub fn rescues_are_laid()
+    ensures { (held : ℕ) (a : Basis) (b : Option Basis) → is_allowed (blocks a.image) ≡ true
+        → All (λ c. c < 256) a.image → IfSome b (λ l. All (λ c. c < 256) l.image)
+        → (volume : List ℕ) × IsLaid volume (rescued_tree held a b) × (blocks volume ≡ blocks a.image) }
 {}
 
 /// A sound file is whole, and a whole file of which the input holds each data block stands: the verdict on it is that of its

@@ -7,3 +7,5 @@ pub mod OneAnswer
 pub mod RescueAnswers
 pub mod SizedImages
 pub mod Subjects
+pub mod SubjectBytes
+pub mod SomeRescues

@@ -1,0 +1,140 @@
+-- The images that a rescue makes of bytes are bytes.
+-- Letters: given the image of a survey, w its walk, s whether each directory is settled; b, p, e blocks; i the number of a word;
+-- k a number of blocks.
+use Rattle.std.proofs.Common.{◌<◌, ◌≤◌, ◌*◌, ◌^◌, ◌++◌, ◌&&◌, ℕ, zero, suc, Bool, List, [], ◌∷◌}
+use Rattle.std.proofs.Common.{arith, codes, decimal, drop, length, length-append, replicate}
+use Rattle.std.proofs.lemmas.Bool.{cond_both}
+use Rattle.std.proofs.lemmas.Fmt.{decimal_is_IsNumeral, length-decimal-le}
+use Rattle.std.proofs.lemmas.List.Elements.{All-append, All-cons, All-drop, All-from_get_or, All-from_recursion, All-nil, All-replicate, All-take}
+use Rattle.std.proofs.lemmas.Str.Parse.{digit_at}
+use Rattle.adf_base.specs.Words.{block, sealed, with_bytes, with_word}
+use Rattle.adf_base.proofs.ByteLists.{AreBytes, IsByte, block_bytes, block_written_bytes, range_bytes, sealed_bytes, word_written, written_bytes}
+use Rattle.adf_blocks.specs.declared.layout.TheConstants.{CHECKSUM, FIRST_SLOT, NAME, NEXT_IN_CHAIN, PARENT, SLOTS}
+use Rattle.adf_blocks.specs.Forms.{text_at}
+use Rattle.adf_blocks.specs.HeadBlock.{head_block}
+use Rattle.adf_blocks.specs.RootBlock.{label_stated, root_block}
+use Rattle.adf_blocks.specs.Sizes.{blocks}
+use Rattle.adf_blocks.proofs.ByteBlocks.{head_bytes, root_bytes}
+use Rattle.adf_volume.specs.Image.{root_of, word_in}
+use Rattle.adf_volume.specs.Walk.{Role}
+use Rattle.adf_findings.specs.Found.{owns}
+use Rattle.adf_findings.specs.Start.{has_root_type}
+use Rattle.adf_rescue.specs.Hung.{emptied, end_of, home, hung, hung_at, hung_behind, hung_first, hung_in, hung_loose, is_hung, is_made}
+use Rattle.adf_rescue.specs.Hung.{made_header, put_in, readied, ready_in, sealed_in, slot_word}
+use Rattle.adf_rescue.specs.Lost.{is_inside, is_lost, says_directory}
+use Rattle.adf_rescue.specs.MadeRoot.{has_root, label_in, made_root, middle_block, rooted}
+use Rattle.adf_rescue.specs.Opened.{begins_with_dos, begun, has_data, is_mended, opened, type_byte}
+use Rattle.adf_rescue.specs.Rescue.{lost_name}
+use Rattle.adf_rescue.proofs.MadeRoots.{made_fits}
+
+-- an image that is opened
+
+type_small : (image : List ℕ) → type_byte image < 256
+type_small image = cond_both (has_data image (blocks image)) 0 1 (λ t. t < 256) (λ e. omega arith) (λ e. omega arith)
+
+dos_bytes : AreBytes (codes "DOS")
+dos_bytes = All-from_recursion IsByte (codes "DOS") (omega arith, (omega arith, (omega arith, tt)))
+
+pub begun_bytes : (image : List ℕ) → AreBytes image → AreBytes (begun image)
+begun_bytes image are =
+    cond_both (begins_with_dos image) image (codes "DOS" ++ type_byte image ∷ drop 4 image) AreBytes (λ e. are)
+    (λ e. All-append IsByte (codes "DOS") (type_byte image ∷ drop 4 image) dos_bytes
+    (All-cons IsByte (type_byte image) (drop 4 image) (type_small image) (All-drop IsByte 4 image are)))
+
+stated_bytes : (b : List ℕ) → AreBytes b → AreBytes (label_stated b)
+stated_bytes b are = All-take IsByte 30 (text_at b NAME) (range_bytes b _ _ are)
+
+label_bytes : (b : List ℕ) → AreBytes b → AreBytes (label_in b)
+label_bytes b are = cond_both (has_root_type b) (label_stated b) [] AreBytes (λ e. stated_bytes b are) (λ e. All-nil IsByte)
+
+rooted_bytes : (image : List ℕ) → AreBytes image → AreBytes (rooted image)
+rooted_bytes image are =
+    let fits = made_fits image in
+    let label = label_bytes (middle_block image) (block_bytes image (root_of image) are) in
+    cond_both (has_root image) image _ AreBytes (λ e. are)
+    (λ e. block_written_bytes image (root_of image) (root_block (made_root image)) are
+    (root_bytes (made_root image) (omega (arith, fits.label)) label))
+
+pub opened_bytes : (image : List ℕ) → AreBytes image → AreBytes (opened image)
+opened_bytes image are =
+    cond_both (is_mended image) (rooted (begun image)) image AreBytes (λ e. rooted_bytes (begun image) (begun_bytes image are)) (λ e. are)
+
+-- the header of a directory that is made
+
+digits_bytes : (p : ℕ) → p < 2 ^ 32 → AreBytes (decimal p)
+digits_bytes p small =
+    let numeral = decimal_is_IsNumeral p (omega arith) in
+    All-from_get_or IsByte (decimal p) 0 (λ i lt. let r = digit_at (decimal p) i numeral.0.1 lt in omega (arith, r.1))
+
+lost_bytes : AreBytes (codes "lost-")
+lost_bytes = All-from_recursion IsByte (codes "lost-") (omega arith, (omega arith, (omega arith, (omega arith, (omega arith, tt)))))
+
+name_bytes : (p : ℕ) → p < 2 ^ 32 → AreBytes (lost_name p)
+name_bytes p small = All-append IsByte (codes "lost-") (decimal p) lost_bytes (digits_bytes p small)
+
+name_short : (p : ℕ) → p < 2 ^ 32 → length (lost_name p) ≤ 255
+name_short p small =
+    let len = length-append (codes "lost-") (decimal p) in
+    let short = length-decimal-le 10 p (omega arith) (omega arith) (omega arith) in
+    omega arith
+
+made_bytes : (root p : ℕ) → p < 2 ^ 32 → AreBytes (head_block (made_header root p))
+made_bytes root p small = head_bytes (made_header root p) (name_short p small) (name_bytes p small) (omega arith) (All-nil IsByte)
+
+-- the steps
+
+put_bytes : (image : List ℕ) (b i v : ℕ) → AreBytes image → AreBytes (put_in image b i v)
+put_bytes image b i v are =
+    block_written_bytes image b (with_word (block image b) i v) are (word_written (block image b) i v (block_bytes image b are))
+
+seal_bytes : (image : List ℕ) (b : ℕ) → AreBytes image → AreBytes (sealed_in image b)
+seal_bytes image b are =
+    block_written_bytes image b (sealed CHECKSUM (block image b)) are (sealed_bytes CHECKSUM (block image b) (block_bytes image b are))
+
+hung_at_bytes : (image : List ℕ) (b p e i : ℕ) → AreBytes image → AreBytes (hung_at image b p e i)
+unfolding hung_at
+hung_at_bytes image b p e i are =
+    seal_bytes _ e (put_bytes _ e i b (seal_bytes _ b (put_bytes _ b PARENT p (put_bytes image b NEXT_IN_CHAIN (word_in image e i) are))))
+
+module _ (given : List ℕ) (w : List (Role × ℕ)) (s : ℕ → Bool) where
+  behind_bytes : (image : List ℕ) (b p e : ℕ) → AreBytes image → AreBytes (hung_behind image b p e)
+  behind_bytes image b p e are =
+      cond_both (is_inside image e) (hung_at image b p e NEXT_IN_CHAIN) image AreBytes (λ t. hung_at_bytes image b p e NEXT_IN_CHAIN are) (λ t. are)
+
+  hung_in_bytes : (image : List ℕ) (b p : ℕ) → AreBytes image → AreBytes (hung_in given w image b p)
+  unfolding hung_in
+  hung_in_bytes image b p are =
+      cond_both (owns w (word_in image p (slot_word b))) (hung_behind image b p (end_of given w p)) (hung_at image b p p (slot_word b)) AreBytes
+      (λ t. behind_bytes image b p (end_of given w p) are) (λ t. hung_at_bytes image b p p (slot_word b) are)
+
+  loose_bytes : (image : List ℕ) (b : ℕ) → AreBytes image → AreBytes (hung_loose given w s image b)
+  unfolding hung_loose
+  loose_bytes image b are =
+      cond_both (is_hung given w s b) (hung_in given w image b (home given w s b)) image AreBytes
+      (λ t. hung_in_bytes image b (home given w s b) are) (λ t. are)
+
+  emptied_bytes : (image : List ℕ) (b : ℕ) → AreBytes image → AreBytes (emptied image b)
+  emptied_bytes image b are =
+      block_written_bytes image b (with_bytes (block image b) (4 * FIRST_SLOT) (replicate (4 * SLOTS) 0)) are
+      (written_bytes (block image b) (4 * FIRST_SLOT) (replicate (4 * SLOTS) 0) (block_bytes image b are)
+      (All-replicate IsByte (4 * SLOTS) 0 (omega arith)))
+
+  ready_bytes : (image : List ℕ) (b : ℕ) → b < 2 ^ 32 → AreBytes image → AreBytes (ready_in given w s image b)
+  unfolding ready_in
+  ready_bytes image b small are =
+      cond_both (is_made given w s b) _ _ AreBytes
+      (λ t. block_written_bytes image b (head_block (made_header (root_of given) b)) are (made_bytes (root_of given) b small))
+      (λ t. cond_both (is_lost given w s b && says_directory given b) (emptied image b) image AreBytes (λ u. emptied_bytes image b are) (λ u. are))
+
+  readied_bytes : AreBytes given → (k : ℕ) → k ≤ 2 ^ 32 → AreBytes (readied given w s k)
+  unfolding readied
+  readied_bytes are zero small = are
+  readied_bytes are (suc k) small = ready_bytes (readied given w s k) k (omega arith) (readied_bytes are k (omega arith))
+
+  first_bytes : AreBytes given → blocks given ≤ 2 ^ 32 → (k : ℕ) → AreBytes (hung_first given w s k)
+  unfolding hung_first
+  first_bytes are small zero = readied_bytes are (blocks given) small
+  first_bytes are small (suc k) = loose_bytes (hung_first given w s k) k (first_bytes are small k)
+
+  pub hung_bytes : AreBytes given → blocks given ≤ 2 ^ 32 → AreBytes (hung given w s)
+  hung_bytes are small = first_bytes are small (blocks given)

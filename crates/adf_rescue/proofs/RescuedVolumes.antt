@@ -1,0 +1,243 @@
+-- What stands on a surveyed image of bytes has room in as many blocks, and is laid there.
+-- Letters: g what is taken before a survey, l the survey, vs the verdicts on its entries so far, v one more; n a number of blocks;
+-- k a number of entries; h the block of a header; m metadata; b the body of an entry, or why it is left out; o a path, if there is one;
+-- x, y additions; a the survey of the image, second the second one, if there is one.
+use Rattle.std.proofs.Common.{◌≡◌, ◌<◌, ◌≤◌, ◌+◌, ◌-◌, ◌^◌, ◌++◌, ◌∙◌, ◌==◌, ◌&&◌, ℕ, zero, suc, Bool, true, false}
+use Rattle.std.proofs.Common.{List, [], ◌∷◌, Option, Some, None, Result, Ok, Err, ap, arith, append-nil, cond, length, refl, subst, sym}
+use Rattle.std.specs.Prelude.{IfSome, nat_le}
+use Rattle.std.specs.List.{All}
+use Rattle.std.proofs.lemmas.Bool.{and_parts, cond_both}
+use Rattle.std.proofs.lemmas.Bool.Decides.{nat_tests}
+use Rattle.std.proofs.lemmas.List.{length-take}
+use Rattle.std.proofs.lemmas.List.Elements.{All-append, All-cons, All-nil}
+use Rattle.std.proofs.lemmas.Option.{cond_some}
+use Rattle.std.proofs.lemmas.Grind.{common_steps}
+use Rattle.adf_base.specs.Dates.{IsStamp}
+use Rattle.adf_base.specs.Words.{block}
+use Rattle.adf_base.proofs.ByteLists.{AreBytes, block_bytes, word_small}
+use Rattle.adf_names.specs.Meta.{IsBoundedMeta}
+use Rattle.adf_names.specs.Texts.{is_name}
+use Rattle.adf_names.specs.declared.meta.Meta.{Meta}
+use Rattle.adf_tree.specs.Additions.{Addition}
+use Rattle.adf_tree.specs.Bounds.{IsBounded, IsData}
+use Rattle.adf_tree.specs.Tree.{Tree, last_of, with_entry}
+use Rattle.adf_tree.specs.declared.entry.Body.{Body, TheVariants.Dir, TheVariants.File}
+use Rattle.adf_tree.proofs.BoundedEntries.{IsBoundedAddition, bounded_additions}
+use Rattle.adf_drafts.proofs.NextEntries.{last_is}
+use Rattle.adf_blocks.specs.declared.layout.TheConstants.{ALTERED, COMMENT, CREATED, DATE, NAME, PROTECTION, SECONDARY_TYPE, SIZE, ST_DIR, ST_FILE}
+use Rattle.adf_blocks.specs.Forms.{stamp_at, text_at}
+use Rattle.adf_blocks.specs.HeadBlock.{meta_stated}
+use Rattle.adf_blocks.specs.Sizes.{blocks, is_allowed}
+use Rattle.adf_volume.specs.Image.{content, joined, kind_of, name_of, root_of, word_in}
+use Rattle.adf_volume.specs.Made.{datas_in}
+use Rattle.adf_volume.specs.Walk.{heads, node_block}
+use Rattle.adf_volume.proofs.Sizes.{size_low}
+use Rattle.adf_findings.specs.Files.{file_content, file_in}
+use Rattle.adf_findings.specs.Found.{parent_node}
+use Rattle.adf_build.specs.Laid.{IsLaid, volume}
+use Rattle.adf_build.specs.Plan.{blocks_needed}
+use Rattle.adf_build.proofs.AllocatedBlocks.{reserved_below}
+use Rattle.adf_build.proofs.LaidWrites.{CanHold, volume_blocks}
+use Rattle.adf_build.proofs.WholeVolume.{volume_laid}
+use Rattle.adf_rescue.specs.declared.left_out.Why.{Why, TheVariants.NoRoom}
+use Rattle.adf_rescue.specs.Rescue.{Basis, Ground, Verdict, addition_of, additions_of, as_given, at_path, before_first, before_second}
+use Rattle.adf_rescue.specs.Rescue.{body_of, body_of_type, by_body}
+use Rattle.adf_rescue.specs.Rescue.{entry_at, first_verdicts, lost_name, path_by, path_in, place_of, rescued_additions, rescued_tree, second_verdicts}
+use Rattle.adf_rescue.specs.Rescue.{tree_of, unless_known, verdict, verdict_anew, verdicts}
+use Rattle.adf_rescue.specs.Rescue.Verdict.{adds, knows, leaves}
+use Rattle.adf_rescue.proofs.RescuedTrees.{fitting_is, or_else, tree_of_rescue}
+use Rattle.adf_rescue.proofs.Steps.{additions_more, tree_more}
+
+-- an addition
+
+-- the path has a valid name last
+named_in : (t : Tree) (dir : List (List ℕ)) (name : List ℕ) (path : List (List ℕ)) → path_in t dir name ≡ Some path → is_name (last_of path) ≡ true
+named_in t dir name path h =
+    let x = cond_some _ (dir ++ name ∷ []) path h in
+    let valid : is_name name ≡ true = (and_parts (is_name name) _ x.0).0 in
+    ap is_name (ap last_of (sym x.1) ∙ last_is dir name) ∙ valid
+
+named_either : (o other : Option (List (List ℕ))) (path : List (List ℕ)) → ((p : List (List ℕ)) → o ≡ Some p → is_name (last_of p) ≡ true)
+    → ((p : List (List ℕ)) → other ≡ Some p → is_name (last_of p) ≡ true) → or_else o other ≡ Some path → is_name (last_of path) ≡ true
+named_either (Some p) other path one two h = one path h
+named_either None other path one two h = two path h
+
+named_by : (t : Tree) (dir : Option (List (List ℕ))) (name : List ℕ) (h : ℕ) (path : List (List ℕ)) → path_by t dir name h ≡ Some path
+    → is_name (last_of path) ≡ true
+named_by t None name h path is = absurd cc
+named_by t (Some dir) name h path is =
+    named_either (path_in t dir name) (path_in t dir (lost_name h)) path (named_in t dir name) (named_in t dir (lost_name h)) is
+
+-- the addition of an entry: its path, its metadata and its body are those of the entry, and the tree with it fits in n blocks
+record IsAdded (t : Tree) (n : ℕ) (o : Option (List (List ℕ))) (m : Meta) (b : Result Body Why) (x : Addition) : Type 0 where
+  path : o ≡ Some x.path
+  meta : x.meta ≡ m
+  body : b ≡ Ok x.body
+  fits : blocks_needed (with_entry t x.path x.meta x.body) n ≤ n - 2
+
+fits_so : (b : Bool) (x y : Addition) → (let v : Verdict = cond b (adds x) (leaves NoRoom) in v ≡ adds y) → b ≡ true
+fits_so true x y h = refl
+fits_so false x y h = absurd cc
+
+added_at : (t : Tree) (n : ℕ) (meta : Meta) (body : Body) (o : Option (List (List ℕ))) (x : Addition) → at_path t n meta body o ≡ adds x
+    → IsAdded t n o meta (Ok body) x
+added_at t n meta body None x h = absurd cc
+added_at t n meta body (Some path) x h =
+    let y : Addition = record { path = path; meta = meta; body = body } in
+    let same : y ≡ x = fitting_is (nat_le (blocks_needed (with_entry t path meta body) n) (n - 2)) y x h in
+    let room : nat_le (blocks_needed (with_entry t path meta body) n) (n - 2) ≡ true = fits_so _ y x h in
+    let fits : blocks_needed (with_entry t path meta body) n ≤ n - 2 = grind (arith, nat_tests) in
+    subst (IsAdded t n (Some path) meta (Ok body)) same (record { path = refl; meta = refl; body = refl; fits = fits })
+
+added_by : (image : List ℕ) (n : ℕ) (t : Tree) (dir : Option (List (List ℕ))) (h : ℕ) (b : Result Body Why) (x : Addition)
+    → by_body image n t dir h b ≡ adds x → IsAdded t n (path_by t dir (name_of image h) h) (meta_stated (block image h)) b x
+added_by image n t dir h (Err why) x is = absurd cc
+added_by image n t dir h (Ok body) x is = added_at t n (meta_stated (block image h)) body (path_by t dir (name_of image h) h) x is
+
+anew_unless : (g : Ground) (o : Option ℕ) (v : Verdict) (x : Addition) → unless_known g o v ≡ adds x → v ≡ adds x
+anew_unless g None v x is = is
+anew_unless g (Some m) v x is = absurd cc
+
+module _ (g : Ground) (l : Basis) where
+  abbrev path_of : List Verdict → ℕ → Option (List (List ℕ))
+  path_of vs n =
+      path_by (tree_of g vs) (place_of vs (parent_node l.walk n)) (name_of l.image (node_block l.walk n)) (node_block l.walk n)
+
+  added_so : (vs : List Verdict) (n : ℕ) (x : Addition) → verdict g l vs n ≡ adds x
+      → IsAdded (tree_of g vs) (blocks g.given) (path_of vs n) (meta_stated (block l.image (node_block l.walk n))) (body_of (as_given g l) n) x
+  added_so vs n x is =
+      added_by l.image (blocks g.given) (tree_of g vs) (place_of vs (parent_node l.walk n)) (node_block l.walk n) (body_of (as_given g l) n) x
+      (anew_unless g (entry_at g.walk (node_block l.walk n)) (verdict_anew g l vs n) x is)
+
+-- the bounds of what is added
+
+stamp_bounded : (bs : List ℕ) (i : ℕ) → AreBytes bs → IsStamp (stamp_at bs i)
+stamp_bounded bs i are = record { days = word_small bs i are; mins = word_small bs (i + 1) are; ticks = word_small bs (i + 2) are }
+
+meta_bounded : (bs : List ℕ) → AreBytes bs → IsBoundedMeta (meta_stated bs)
+meta_bounded bs are = record {
+  comment = omega (arith, length-take 79 (text_at bs COMMENT));
+  protect = word_small bs PROTECTION are;
+  stamp = stamp_bounded bs DATE are;
+}
+
+content_bounded : (l : Basis) (n : ℕ) → AreBytes l.image → length (file_content (file_in l.image l.walk n)) < 2 ^ 63
+unfolding content
+content_bounded l n are =
+    let h : ℕ = node_block l.walk n in
+    let size : word_in l.image h SIZE < 2 ^ 32 = word_small (block l.image h) SIZE (block_bytes l.image h are) in
+    let few = length-take (word_in l.image h SIZE) (joined l.image (kind_of l.image) (datas_in l.walk n)) in
+    omega arith
+
+type_data : (secondary : ℕ) (body : Body) → body_of_type secondary ≡ Ok body → IsData body
+type_data secondary body =
+    cond_both (secondary == ST_DIR) (Ok Dir) (Err _) (λ (r : Result Body Why). r ≡ Ok body → IsData body)
+    (λ e is. let one : Dir ≡ body = cc in subst IsData one tt) (λ e is. absurd cc)
+
+body_bounded : (l : Basis) (n : ℕ) (body : Body) → AreBytes l.image → body_of l n ≡ Ok body → IsData body
+body_bounded l n body are =
+    let bytes : List ℕ = file_content (file_in l.image l.walk n) in
+    let secondary : ℕ = word_in l.image (node_block l.walk n) SECONDARY_TYPE in
+    cond_both (l.sound n && (secondary == ST_FILE)) (Ok (File bytes)) (body_of_type secondary) (λ (r : Result Body Why). r ≡ Ok body → IsData body)
+    (λ e is. let one : File bytes ≡ body = cc in subst IsData one (content_bounded l n are)) (λ e is. type_data secondary body is)
+
+added_bounded : (v : Verdict) → ((x : Addition) → v ≡ adds x → IsBoundedAddition x) → All IsBoundedAddition (addition_of v)
+added_bounded (adds x) each = All-cons IsBoundedAddition x [] (each x refl) (All-nil IsBoundedAddition)
+added_bounded (leaves why) each = All-nil IsBoundedAddition
+added_bounded (knows place) each = All-nil IsBoundedAddition
+
+module _ (g : Ground) (l : Basis) (are : AreBytes l.image) where
+  addition_bounded : (vs : List Verdict) (n : ℕ) (x : Addition) → verdict g l vs n ≡ adds x → IsBoundedAddition x
+  addition_bounded vs n x is =
+      let h : ℕ = node_block l.walk n in
+      let added = added_so g l vs n x is in
+      record {
+        name = named_by (tree_of g vs) (place_of vs (parent_node l.walk n)) (name_of l.image h) h x.path added.path;
+        meta = subst IsBoundedMeta (sym added.meta) (meta_bounded (block l.image h) (block_bytes l.image h are));
+        body = body_bounded (as_given g l) n x.body are added.body;
+      }
+
+  verdicts_bounded : (k : ℕ) → All IsBoundedAddition (additions_of (verdicts g l k))
+  verdicts_bounded zero = All-nil IsBoundedAddition
+  verdicts_bounded (suc k) =
+      let vs : List Verdict = verdicts g l k in
+      let v : Verdict = verdict g l vs (suc k) in
+      subst (λ (xs : List Addition). All IsBoundedAddition xs) (sym (additions_more vs v))
+      (All-append IsBoundedAddition (additions_of vs) (addition_of v) (verdicts_bounded k) (added_bounded v (addition_bounded vs (suc k))))
+
+-- the image of the second survey is bytes, if there is one
+abbrev pub AreSecondBytes : Option Basis → Type 0
+AreSecondBytes second = IfSome second (λ b. AreBytes b.image)
+
+second_bounded : (held : ℕ) (a : Basis) (second : Option Basis) → AreSecondBytes second
+    → All IsBoundedAddition (additions_of (second_verdicts held a second))
+second_bounded held a None are = All-nil IsBoundedAddition
+second_bounded held a (Some b) are = verdicts_bounded (before_second held a) b are (heads b.walk)
+
+rescue_bounded : (held : ℕ) (a : Basis) (second : Option Basis) → AreBytes a.image → AreSecondBytes second → IsBounded (rescued_tree held a second)
+rescue_bounded held a second are more =
+    let root : List ℕ = block a.image (root_of a.image) in
+    let bytes = block_bytes a.image (root_of a.image) are in
+    record {
+      label = omega (arith, length-take 30 (text_at root NAME));
+      stamps = record {
+        root = stamp_bounded root DATE bytes;
+        altered = stamp_bounded root ALTERED bytes;
+        created = stamp_bounded root CREATED bytes;
+      };
+      entries = bounded_additions (rescued_additions held a second)
+          (All-append IsBoundedAddition (additions_of (first_verdicts held a)) (additions_of (second_verdicts held a second))
+          (verdicts_bounded (before_first held a.image) a are (heads a.walk)) (second_bounded held a second more));
+    }
+
+-- the room for it
+
+abbrev FitsIn : ℕ → Tree → Type 0
+FitsIn n t = blocks_needed t n ≤ n - 2
+
+nothing_fits : (held : ℕ) (image : List ℕ) → is_allowed (blocks image) ≡ true → FitsIn (blocks image) (tree_of (before_first held image) [])
+nothing_fits held image allowed =
+    let low = size_low (blocks image) allowed in
+    let below = reserved_below (blocks image) low in
+    omega arith
+
+same_tree : (g : Ground) (vs : List Verdict) (v : Verdict) → addition_of v ≡ [] → tree_of g (vs ++ v ∷ []) ≡ tree_of g vs
+same_tree g vs v none = grind (arith, common_steps, additions_more, append-nil)
+
+fits_on : (g : Ground) (vs : List Verdict) (v : Verdict) (n : ℕ) → FitsIn n (tree_of g vs)
+    → ((x : Addition) → v ≡ adds x → FitsIn n (with_entry (tree_of g vs) x.path x.meta x.body)) → FitsIn n (tree_of g (vs ++ v ∷ []))
+fits_on g vs (adds x) n before each = subst (FitsIn n) (sym (tree_more g vs x)) (each x refl)
+fits_on g vs (leaves why) n before each = subst (FitsIn n) (sym (same_tree g vs (leaves why) refl)) before
+fits_on g vs (knows place) n before each = subst (FitsIn n) (sym (same_tree g vs (knows place) refl)) before
+
+verdicts_fit : (g : Ground) (l : Basis) → FitsIn (blocks g.given) (tree_of g []) → (k : ℕ) → FitsIn (blocks g.given) (tree_of g (verdicts g l k))
+verdicts_fit g l begun zero = begun
+verdicts_fit g l begun (suc k) =
+    let vs : List Verdict = verdicts g l k in
+    fits_on g vs (verdict g l vs (suc k)) (blocks g.given) (verdicts_fit g l begun k) (λ x is. (added_so g l vs (suc k) x is).fits)
+
+second_begun : (held : ℕ) (a : Basis) → tree_of (before_first held a.image) (first_verdicts held a) ≡ tree_of (before_second held a) []
+second_begun held a = let same = append-nil (additions_of (first_verdicts held a)) in rw same refl
+
+first_fits : (held : ℕ) (a : Basis) → is_allowed (blocks a.image) ≡ true → FitsIn (blocks a.image) (tree_of (before_second held a) [])
+first_fits held a allowed =
+    subst (FitsIn (blocks a.image)) (second_begun held a)
+    (verdicts_fit (before_first held a.image) a (nothing_fits held a.image allowed) (heads a.walk))
+
+rescue_fits : (held : ℕ) (a : Basis) (second : Option Basis) → is_allowed (blocks a.image) ≡ true
+    → FitsIn (blocks a.image) (rescued_tree held a second)
+rescue_fits held a None allowed = first_fits held a allowed
+rescue_fits held a (Some b) allowed = verdicts_fit (before_second held a) b (first_fits held a allowed) (heads b.walk)
+
+-- so its volume is laid
+pub rescue_laid : (held : ℕ) (a : Basis) (second : Option Basis) → is_allowed (blocks a.image) ≡ true → AreBytes a.image → AreSecondBytes second
+    → (image : List ℕ) × IsLaid image (rescued_tree held a second) × (blocks image ≡ blocks a.image)
+rescue_laid held a second allowed are more =
+    let t : Tree = rescued_tree held a second in
+    let n : ℕ = blocks a.image in
+    let can : CanHold t n = record {
+      sound = record { tree = (tree_of_rescue held a second).tree; bounds = rescue_bounded held a second are more };
+      allowed = allowed;
+      room = rescue_fits held a second allowed;
+    } in
+    (volume t n, volume_laid can, volume_blocks can)

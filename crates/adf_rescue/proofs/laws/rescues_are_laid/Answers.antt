@@ -1,0 +1,5 @@
+use Rattle.adf_rescue.proofs.RescuedVolumes as laws
+use Rattle.adf_rescue.proofs.laws.rescues_are_laid.Goals as goal
+
+pub returns : goal.returns
+returns c = λ held a b allowed bytes more. laws.rescue_laid held a b allowed bytes more
