@@ -1,6 +1,6 @@
 -- What is asked of an image has an answer of `adf-survey`.
 -- Letters: s, t what is surveyed; w the walk of its survey, fs the findings; n an entry's node.
-use Rattle.std.proofs.Common.{ℕ, Bool, true, false, List, Option, codes, inl, inr, refl}
+use Rattle.std.proofs.Common.{◌≡◌, ℕ, Bool, true, false, List, Option, codes, inl, inr, refl}
 use mathlib.Core.Logic.Dec.{and as dec_and}
 use native.Mathlib.Decide.{ℕ_discrete}
 use Rattle.adf_base.proofs.ByteLists.{AreBytes}
@@ -18,7 +18,7 @@ use Rattle.adf_findings.proofs.SomeLookups.{dec_is_file, leads_or_not}
 use Rattle.adf_findings.proofs.SomeMarks.{dec_sound, some_marks}
 use Rattle.adf_findings.proofs.SomeSurvey.{some_survey}
 use Rattle.adf_runs.specs.Commands.{Reply, bad_path, on_errors, on_output}
-use Rattle.adf_words.specs.SurveyLine.{asked, cat, list, report, rescue}
+use Rattle.adf_words.specs.SurveyLine.{QuestionValue, asked, cat, list, report, rescue}
 use Rattle.adf_survey_cmd.proofs.SomeRescues.{some_rescue as rescue_answered}
 use Rattle.adf_survey_cmd.proofs.SubjectBytes.{subject_bytes, typed_bytes}
 use Rattle.adf_survey_cmd.specs.Answers.{CopiesEntry, CopiesFound, CopiesFromSurvey, IsWholeFile, ListsSurvey, Surveys, no_path_line, told_status}
@@ -42,7 +42,7 @@ some_findings : (t : SubjectValue) → (reply : Reply) × Surveys t reply
 some_findings t =
     let (w, fs, survey) = some_survey t.image in (on_output (told_status t.front fs) (told_text t w fs), (w, fs, survey, refl))
 
-pub some_report : (blocks : Option ℕ) (input : List ℕ) → HasSurveyAnswer (asked blocks report) input
+some_report : (blocks : Option ℕ) (input : List ℕ) → HasSurveyAnswer (asked blocks report) input
 some_report blocks input = of_typed (subject blocks input) Surveys some_findings
 
 -- what is found
@@ -53,7 +53,7 @@ some_listing t =
     let (sound, marks) = some_marks t.image w fs survey fs in
     (on_output (told_status t.front fs) (listing_text date_of sound t w fs), (w, fs, survey, (date_of, date_of_is, sound, marks, refl)))
 
-pub some_list : (blocks : Option ℕ) (input : List ℕ) → HasSurveyAnswer (asked blocks list) input
+some_list : (blocks : Option ℕ) (input : List ℕ) → HasSurveyAnswer (asked blocks list) input
 some_list blocks input = of_typed (subject blocks input) ListsSurvey some_listing
 
 -- the bytes under a path
@@ -98,13 +98,21 @@ copied_by blocks damaged path input (inl (names, text)) =
     let (reply, answer) = of_typed (subject blocks input) (CopiesFromSurvey damaged path) (copied damaged path names text) in (reply, inr answer)
 copied_by blocks damaged path input (inr bad) = (bad_path, inl (bad, refl))
 
-pub some_copy : (blocks : Option ℕ) (damaged : Bool) (path input : List ℕ) → HasSurveyAnswer (asked blocks (cat damaged path)) input
+some_copy : (blocks : Option ℕ) (damaged : Bool) (path input : List ℕ) → HasSurveyAnswer (asked blocks (cat damaged path)) input
 some_copy blocks damaged path input = copied_by blocks damaged path input (path_or_none path)
 
 -- a rescue
 
-pub some_rescue : (blocks : Option ℕ) (input : List ℕ) → AreBytes input → HasSurveyAnswer (asked blocks rescue) input
+some_rescue : (blocks : Option ℕ) (input : List ℕ) → AreBytes input → HasSurveyAnswer (asked blocks rescue) input
 some_rescue blocks input are =
     let (t, typed) = some_typed (subject blocks input) in
     let (reply, told) = rescue_answered t.end t.image (typed_bytes (subject blocks input) t typed (subject_bytes blocks input are)) in
     (reply, (t, typed, told))
+
+-- every question
+
+pub some_answer : (blocks : Option ℕ) (q : QuestionValue) (input : List ℕ) → (q ≡ rescue → AreBytes input) → HasSurveyAnswer (asked blocks q) input
+some_answer blocks report input are = some_report blocks input
+some_answer blocks list input are = some_list blocks input
+some_answer blocks (cat damaged path) input are = some_copy blocks damaged path input
+some_answer blocks rescue input are = some_rescue blocks input (are refl)

@@ -1,7 +1,7 @@
 // The laws of answers. Each is the contract of a function that does nothing at run time. Beside each stands the law `one_answer` of
 // its command: there is one answer at most.
 
-ghost use Rattle.std.specs.Prelude.{◌≡◌, ◌<◌, ℕ, List};
+ghost use Rattle.std.specs.Prelude.{◌<◌, ◌≢◌, ℕ, List};
 ghost use Rattle.std.specs.List.{All};
 ghost use Rattle.adf_names.specs.PathTexts.{IsPathText};
 ghost use Rattle.adf_cmd.specs.Answers.{IsBadPath};
@@ -24,9 +24,8 @@ pub fn some_disk_answer()
     ensures { (r : DiskRequestValue) (input : List ℕ) → HasDiskAnswer r input }
 {}
 
-/// Whatever is asked of an image has an answer of `adf-survey`. Of a rescue the input must be bytes, numbers below 256, since what
-/// the headers say is written into the new volume.
+/// Whatever is asked of bytes has an answer of `adf-survey`. Of all questions but `rescue` this holds of any list of numbers.
 pub fn some_survey_answer()
-    ensures { (r : InquiryValue) (input : List ℕ) → (r.question ≡ rescue → All (λ b. b < 256) input)
-        → HasSurveyAnswer r input }
+    ensures every { (r : InquiryValue) (input : List ℕ) → All (λ byte. byte < 256) input → HasSurveyAnswer r input }
+    ensures unrescued { (r : InquiryValue) (input : List ℕ) → r.question ≢ rescue → HasSurveyAnswer r input }
 {}

@@ -23,7 +23,6 @@ use Rattle.adf_findings.specs.Files.{grave}
 use Rattle.adf_findings.specs.Survey.{FindingValue, IsSurvey}
 use Rattle.adf_findings.specs.Survey.IsSurvey.{read, unread}
 use Rattle.adf_findings.specs.Verdict.{FitsOrHasFault}
-use Rattle.adf_build.specs.Laid.{IsLaid}
 use Rattle.adf_rescue.proofs.MadeRoots.{sized}
 use Rattle.adf_rescue.proofs.OpenedImages.{opened_kept, volumes_are_kept}
 use Rattle.adf_rescue.proofs.RescuedBytes.{hung_bytes, opened_bytes}
@@ -32,11 +31,11 @@ use Rattle.adf_rescue.proofs.Steps.{unread_fault}
 use Rattle.adf_rescue.specs.Hung.{hung}
 use Rattle.adf_rescue.specs.Lost.{has_lost, is_settled}
 use Rattle.adf_rescue.specs.Opened.{is_mended, opened}
-use Rattle.adf_rescue.specs.Rescue.{Basis, HasFault, IsSecond, rescued_additions, rescued_tree}
+use Rattle.adf_rescue.specs.Rescue.{Basis, HasFault, IsSecond, rescued_additions}
 use Rattle.adf_cmd.specs.Answers.{RefusesImage}
 use Rattle.adf_runs.specs.Commands.{Reply}
 use Rattle.adf_survey_cmd.proofs.RescueAnswers.{none_fits_it, none_fits_mended}
-use Rattle.adf_survey_cmd.specs.Rescues.{RefusesWith, Rescues, RescuesBy, RescuesFound, RescuesSome, WritesVolume, rescue_text, second_image}
+use Rattle.adf_survey_cmd.specs.Rescues.{RefusesWith, Rescues, RescuesBy, RescuesFound, RescuesSome, rescue_text, second_image}
 
 -- the second survey
 
@@ -98,9 +97,9 @@ dec_fault true fs = yes (inl refl)
 dec_fault false [] = no (λ h. elim h [ inl e ↦ cc | inr some ↦ some refl ])
 dec_fault false (f ∷ fs) = yes (inr (λ e. cc))
 
-dec_none : {X : Type 0} (xs : List X) → Dec (xs ≡ [])
-dec_none [] = yes refl
-dec_none (x ∷ xs) = no (λ e. cc)
+dec_empty : {X : Type 0} (xs : List X) → Dec (xs ≡ [])
+dec_empty [] = yes refl
+dec_empty (x ∷ xs) = no (λ e. cc)
 
 -- the answer
 
@@ -108,24 +107,19 @@ allowed_size : (image : List ℕ) (w : List (Role × ℕ)) (fs : List FindingVal
 allowed_size image w fs (unread f) some = absurd (some refl)
 allowed_size image w fs (read v d t) some = (course_size image v).1
 
-written : (held : ℕ) (a : Basis) (second : Option Basis) (fs : List FindingValue)
-    → ((image : List ℕ) × IsLaid image (rescued_tree held a second) × (blocks image ≡ blocks a.image))
-    → (reply : Reply) × WritesVolume held a second fs reply
-written held a second fs (image, laid, size) = (_, (image, laid, size, refl))
-
 module _ (held : ℕ) (input : List ℕ) (w : List (Role × ℕ)) (fs : List FindingValue) (survey : IsSurvey (opened input) w fs) (sound : ℕ → Bool)
     (are : AreBytes (opened input)) (second : Option Basis) (more : AreSecondBytes second) where
   abbrev first : Basis
   first = record { image = opened input; walk = w; sound = sound }
 
   some_rescued : w ≢ [] → (reply : Reply) × RescuesSome held input first second fs reply
-  some_rescued some = elim (dec_and (dec_fault (is_mended input) fs) (dec_none (rescued_additions held first second))) [
+  some_rescued some = elim (dec_and (dec_fault (is_mended input) fs) (dec_empty (rescued_additions held first second))) [
     | yes nothing ↦
         let (reply, refuses) = fault_with (rescue_text held first second fs) input
         (none_fits_fault input w fs (is_mended input) refl survey nothing.0) (fits_or_fault input) in (reply, inl (nothing, refuses))
     | no stands ↦
-        let (reply, writes) = written held first second fs (rescue_laid held first second (allowed_size (opened input) w fs survey some) are more) in
-        (reply, inr (stands, writes))
+        let (image, laid, size) = rescue_laid held first second (allowed_size (opened input) w fs survey some) are more in
+        (_, inr (stands, (image, laid, size, refl)))
   ]
 
   rescued_by : Dec (w ≡ []) → (reply : Reply) × RescuesBy held input first second fs reply
@@ -139,7 +133,7 @@ rescued_found held input w fs survey are =
     let (sound, marks) = some_marks (opened input) w fs survey (grave fs) in
     let bytes = second_bytes (is_mended input) (opened input) w fs are in
     let (second, is, more) = second_of (second_image (is_mended input) (opened input) w fs) bytes in
-    let (reply, told) = rescued_by held input w fs survey sound are second more (dec_none w) in
+    let (reply, told) = rescued_by held input w fs survey sound are second more (dec_empty w) in
     (reply, (sound, marks, (second, is, told)))
 
 pub some_rescue : (held : ℕ) (input : List ℕ) → AreBytes input → (reply : Reply) × Rescues held input reply
