@@ -95,17 +95,25 @@ fn owners_new_outcome(alloc: Global) -> Option<CallOutcome> {
     let Ok(mut owners) = Owners::new(alloc, 16) else {
         return Some(CallOutcome::NoMemory);
     };
-    let mut is_right = owners.len() == 16;
+    let is_right = are_new(&owners) && claims_once(&mut owners);
+    Some(CallOutcome::Done.only_if(is_right))
+}
+
+fn are_new(owners: &Owners) -> bool {
     for b in 0..16u32 {
         let owner = if b < 2 { Owner::Boot } else { Owner::Free };
-        is_right = is_right && has_owner(&owners, b, owner);
+        if !has_owner(owners, b, owner) {
+            return false;
+        }
     }
-    is_right = is_right
-        && owners.len() > 2
+    owners.len() == 16
+}
+
+fn claims_once(owners: &mut Owners) -> bool {
+    owners.len() > 2
         && owners.claim(2, Owner::Root) == Ok(())
         && owners.claim(2, Owner::Page(0)) == Err(Cause::Taken)
-        && has_owner(&owners, 2, Owner::Root);
-    Some(CallOutcome::Done.only_if(is_right))
+        && has_owner(owners, 2, Owner::Root)
 }
 
 // The bytes of the file of the volume, by its survey.

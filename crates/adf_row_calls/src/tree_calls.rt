@@ -30,15 +30,17 @@ fn meta() -> Option<Meta> {
     Some(Meta::new(Comment::new(b"note")?, 15, NO_STAMP))
 }
 
-// Whether a tree has entries of these names, in this order, and no others.
-fn has_names(tree: &Tree, names: &[&[u8]]) -> bool {
-    for (i, name) in names.iter().enumerate() {
-        match tree.entry(Node(i.saturating_add(1))) {
-            Some(entry) if entry.name.bytes() == *name => {}
+// Whether a tree has entries of these names, joined by spaces, in this order, and no others.
+fn has_names(tree: &Tree, names: &str) -> bool {
+    let mut count = 0usize;
+    for name in names.split(' ') {
+        count = count.saturating_add(1);
+        match tree.entry(Node(count)) {
+            Some(entry) if entry.name.bytes() == name.as_bytes() => {}
             _ => return false,
         }
     }
-    tree.len() == names.len()
+    tree.len() == count
 }
 
 // Adds an entry at a path.
@@ -50,15 +52,13 @@ fn add(alloc: Global, tree: &mut Tree, path: &str, body: Body) -> Option<Result<
 // A tree of a directory `a` with an empty file `b`, and of a directory `3`, whose slot is behind that of `a`.
 fn worked_tree(alloc: Global) -> Option<Tree> {
     let mut tree = Tree::new(alloc, Kind::Ofs, Label::new(b"Work")?, NO_STAMPS);
-    add(alloc, &mut tree, "a", Body::Dir)?.ok()?;
-    add(
-        alloc,
-        &mut tree,
-        "a/b",
-        Body::File(Bytes::new(Vec::new(alloc))),
-    )?
-    .ok()?;
-    add(alloc, &mut tree, "3", Body::Dir)?.ok()?;
+    for path in ["a", "a/b", "3"] {
+        let body = match path {
+            "a/b" => Body::File(Bytes::new(Vec::new(alloc))),
+            _ => Body::Dir,
+        };
+        add(alloc, &mut tree, path, body)?.ok()?;
+    }
     Some(tree)
 }
 
@@ -67,7 +67,7 @@ fn refuses_others(alloc: Global, tree: &mut Tree) -> Option<bool> {
     let mut refuses = true;
     for (path, fault) in REFUSED {
         let res = add(alloc, tree, path, Body::Dir)?;
-        refuses = refuses && res == Err(fault) && has_names(tree, &[b"a", b"3", b"b"]);
+        refuses = refuses && res == Err(fault) && has_names(tree, "a 3 b");
     }
     Some(refuses)
 }
@@ -78,12 +78,11 @@ pub fn tree_add_outcome(alloc: Global) -> Option<CallOutcome> {
     let refuses = refuses_others(alloc, &mut tree)?;
     add(alloc, &mut tree, "BA", Body::Dir)?.ok()?;
     Some(match add(alloc, &mut tree, "AN", Body::Dir)? {
-        Ok(()) => CallOutcome::Done.only_if(
-            refuses && has_names(&tree, &[b"a", b"BA", b"AN", b"3", b"b"]),
-        ),
-        Err(fault) => CallOutcome::NoMemory.only_if(
-            fault == AddFault::NoMemory && has_names(&tree, &[b"a", b"BA", b"3", b"b"]),
-        ),
+        Ok(()) => CallOutcome::Done.only_if(refuses && has_names(&tree, "a BA AN 3 b")),
+        Err(fault) => {
+            let stays = has_names(&tree, "a BA 3 b");
+            CallOutcome::NoMemory.only_if(stays && fault == AddFault::NoMemory)
+        }
     })
 }
 
@@ -95,10 +94,15 @@ pub fn draft_add_outcome(alloc: Global) -> Option<CallOutcome> {
     let res = draft.add(&path, meta()?, Body::Dir);
     let has_room = draft.room(&path).is_ok();
     Some(match res {
-        Err(fault) => { CallOutcome::NoMemory.only_if(has_room && fault == AddFault::NoMemory) }
-        Ok(()) => match draft.finish(alloc) {
-            Ok(tree) => CallOutcome::Done.only_if(!has_room && has_names(&tree, &[b"b", b"c"])),
-            Err(_) => CallOutcome::NoMemory,
-        },
+        Err(fault) => CallOutcome::NoMemory.only_if(has_room && fault == AddFault::NoMemory),
+        Ok(()) => finish_outcome(alloc, draft, has_room),
     })
+}
+
+// A draft of two entries, finished; nothing has room for the second any more.
+fn finish_outcome(alloc: Global, draft: Draft, has_room: bool) -> CallOutcome {
+    match draft.finish(alloc) {
+        Ok(tree) => CallOutcome::Done.only_if(!has_room && has_names(&tree, "b c")),
+        Err(_) => CallOutcome::NoMemory,
+    }
 }

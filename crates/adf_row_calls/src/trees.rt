@@ -1,16 +1,53 @@
 // Trees of images and of manifests.
 
+use adf_build::{BuildFault, build, need};
 use adf_check::check;
 use adf_manifest::read_manifest;
-use adf_row_lines::{RowError, lines_text};
+use adf_row_lines::{RowError, block, first_word, lines_text, number_text};
 use adf_tree::{Body, Entry, Node, Tree};
-use std::alloc::Global;
+use std::alloc::{AllocError, Global};
 
 /// The tree of the lines of a manifest, told with ` | ` between them.
 pub fn tree_of_lines(alloc: Global, lines: &str) -> Result<Tree, RowError> {
     match read_manifest(alloc, &lines_text(alloc, lines)?) {
         Ok((tree, _)) => Ok(tree),
         Err(_) => Err(RowError::Refused),
+    }
+}
+
+// The number of blocks, and the tree of the lines behind it.
+fn blocks_and_tree(alloc: Global, text: &str) -> Result<(u32, Tree), RowError> {
+    let (blocks, lines) = first_word(text);
+    match block(blocks) {
+        Some(blocks) => Ok((blocks, tree_of_lines(alloc, lines)?)),
+        None => Err(RowError::Unread),
+    }
+}
+
+/// How many blocks the tree of lines needs in a volume of so many, `BLOCKS LINES`; `None` if no volume has that size.
+pub fn need_text(alloc: Global, text: &str) -> Result<Option<Vec<u8>>, RowError> {
+    let (blocks, tree) = blocks_and_tree(alloc, text)?;
+    match need(&tree, blocks) {
+        Some(count) => Ok(Some(number_text(alloc, count as usize)?)),
+        None => Ok(None),
+    }
+}
+
+/// Why the tree of lines is not built in so many blocks, `BLOCKS LINES`.
+pub fn unlaid_text(alloc: Global, text: &str) -> Result<Option<Vec<u8>>, RowError> {
+    let (blocks, tree) = blocks_and_tree(alloc, text)?;
+    let outcome = build(alloc, &tree, blocks);
+    Ok(Some(fault_text(alloc, outcome)?.into_bytes()))
+}
+
+fn fault_text(alloc: Global, outcome: Result<Vec<u8>, BuildFault>) -> Result<String, AllocError> {
+    match outcome {
+        Ok(_) => String::from_str(alloc, "an image"),
+        Err(BuildFault::BadSize) => String::from_str(alloc, "bad size"),
+        Err(BuildFault::NoMemory) => String::from_str(alloc, "no memory"),
+        Err(BuildFault::Full { need, have }) => {
+            format!(in alloc; "full: need {need}, have {have}")
+        }
     }
 }
 
@@ -47,9 +84,13 @@ fn is_same(one: &Entry, other: &Entry) -> bool {
         && one.meta.comment.bytes() == other.meta.comment.bytes()
         && one.meta.protect == other.meta.protect
         && one.meta.stamp == other.meta.stamp
-        && match (&one.body, &other.body) {
-            (Body::Dir, Body::Dir) => true,
-            (Body::File(bytes), Body::File(wanted)) => bytes.bytes() == wanted.bytes(),
-            _ => false,
-        }
+        && is_same_body(&one.body, &other.body)
+}
+
+fn is_same_body(one: &Body, other: &Body) -> bool {
+    match (one, other) {
+        (Body::Dir, Body::Dir) => true,
+        (Body::File(bytes), Body::File(wanted)) => bytes.bytes() == wanted.bytes(),
+        _ => false,
+    }
 }

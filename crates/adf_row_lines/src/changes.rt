@@ -3,6 +3,7 @@
 use crate::row_error::RowError;
 use crate::texts::{block, block_range, hex, number};
 use crate::words::{put_word, seal_by};
+use std::alloc::Global;
 
 /// Changes an image as a line tells: `None` if it tells no change.
 pub fn change(image: &mut Vec<u8>, word: &str, rest: &str) -> Option<Result<(), RowError>> {
@@ -44,8 +45,15 @@ pub fn add_bytes(bytes: &mut Vec<u8>, count: &str, byte: u8) -> Result<(), RowEr
     Ok(())
 }
 
-/// Makes the changes that items tell, joined by spaces.
-pub fn put_items(image: &mut [u8], items: &str) -> Result<(), RowError> {
+/// A copy of an image with the changes that items tell.
+pub fn patched(alloc: Global, image: &[u8], items: &str) -> Result<Vec<u8>, RowError> {
+    let mut image = Vec::from_slice(alloc, image)?;
+    put_items(&mut image, items)?;
+    Ok(image)
+}
+
+// Makes the changes that items tell, joined by spaces.
+fn put_items(image: &mut [u8], items: &str) -> Result<(), RowError> {
     for item in items.split(' ') {
         put_item(image, item)?;
     }
@@ -73,19 +81,22 @@ fn put_item(image: &mut [u8], item: &str) -> Result<(), RowError> {
 // Changes a word, `BLOCK:WORD=HEX`, or a byte, `BLOCK@AT=HEX`, and answers the block.
 fn put_value(image: &mut [u8], change: &str) -> Result<u32, RowError> {
     let (place, value) = change.split_once('=').unwrap_or((change, ""));
-    let is_byte = place.contains('@');
-    let (at_block, at) = place
-        .split_once(if is_byte { '@' } else { ':' })
-        .unwrap_or((place, ""));
-    let (Some(block), Some(at), Some(value)) = (block(at_block), number(at), hex(value)) else {
+    let mark = if place.contains('@') { '@' } else { ':' };
+    let Some(((block, at), value)) = place_of(place, mark).zip(hex(value)) else {
         return Err(RowError::Unread);
     };
-    if is_byte {
+    if mark == '@' {
         put_byte(image, (block as usize * 512).saturating_add(at), value)?;
     } else {
         put_word(image, block, at, value)?;
     }
     Ok(block)
+}
+
+// A block, and a place in it.
+fn place_of(text: &str, mark: char) -> Option<(u32, usize)> {
+    let (at_block, at) = text.split_once(mark)?;
+    block(at_block).zip(number(at))
 }
 
 fn put_byte(image: &mut [u8], at: usize, value: u32) -> Result<(), RowError> {

@@ -2,6 +2,7 @@
 
 ghost use Rattle.std.specs.Prelude.{◌≡◌, None, false};
 
+use crate::wants::Answer;
 use adf_runs::{Failed, Sink, Source};
 use std::alloc::Global;
 
@@ -140,7 +141,19 @@ impl<'a> Devices<'a> {
         devices
     }
 
-    pub fn have_failed(&self) -> bool {
-        self.input.has_failed || self.output.has_failed || self.errors.has_failed
+    /// What a run over them answers that ended with this status.
+    pub fn answer(self, status: u8) -> Answer {
+        let Devices {
+            input,
+            output,
+            errors,
+        } = self;
+        Answer {
+            status,
+            taken: input.given,
+            has_failed: input.has_failed || output.has_failed || errors.has_failed,
+            output: output.bytes,
+            errors: errors.bytes,
+        }
     }
 }

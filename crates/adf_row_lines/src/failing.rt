@@ -2,12 +2,13 @@
 
 ghost use Rattle.std.specs.Prelude.{◌≡◌, false};
 
-use crate::bench::Bench;
 use crate::devices::Devices;
 use crate::library::{Library, Program, Programs};
 use crate::row_error::{RowError, at_case};
+use crate::runs::Bench;
 use crate::texts::{first_word, number};
 use crate::wants::{Answer, is_number, is_same};
+use std::alloc::Global;
 
 /// Whose call fails.
 #[derive(Clone, Copy)]
@@ -17,88 +18,128 @@ enum Side {
     Errors,
 }
 
-/// The runs of a command over the image.
-#[derive(Drop)]
-struct Runs<'b, 'a, P, L> {
-    bench: &'b Bench<'a, P, L>,
-    program: Program,
-    words: &'b str,
+/// How one side fails: by an error, or by taking no bytes.
+#[derive(Clone, Copy)]
+struct Fault {
+    side: Side,
+    takes_none: bool,
+}
+
+/// The runs of a command over an image.
+#[derive(Clone, Copy)]
+struct Runs<'a> {
+    alloc: Global,
+    image: &'a [u8],
+    words: &'a str,
     /// The bytes of a read and of a write, at most.
     read: usize,
     write: usize,
-    /// The answer where none fails.
-    whole: Answer,
 }
 
-/// The sides in turn, with whether a call fails by taking no bytes, not by an error.
-const SIDES: [(Side, bool); 5] = [
-    (Side::Input, false),
-    (Side::Output, false),
-    (Side::Errors, false),
-    (Side::Output, true),
-    (Side::Errors, true),
+/// The faults in turn.
+const FAULTS: [Fault; 5] = [
+    Fault {
+        side: Side::Input,
+        takes_none: false,
+    },
+    Fault {
+        side: Side::Output,
+        takes_none: false,
+    },
+    Fault {
+        side: Side::Errors,
+        takes_none: false,
+    },
+    Fault {
+        side: Side::Output,
+        takes_none: true,
+    },
+    Fault {
+        side: Side::Errors,
+        takes_none: true,
+    },
 ];
 
 impl<P: Programs, L: Library> Bench<'_, P, L> {
-    /// Runs a command, `READ WRITE WORDS`, over the image by devices that move at most so many bytes at a call, and lets each
+    /// Runs a command, `READ WRITE WORDS`, over an image by devices that move at most so many bytes at a call, and lets each
     /// call of each device fail in turn.
-    pub fn fail_each_call(&self, program: Program, text: &str) -> Result<(), RowError> {
-        let (read, rest) = first_word(text);
-        let (write, words) = first_word(rest);
-        let (Some(read), Some(write)) = (number(read), number(write)) else {
+    pub fn fail_each_call(
+        &self,
+        program: Program,
+        image: &[u8],
+        text: &str,
+    ) -> Result<(), RowError> {
+        let Some(runs) = runs_of(self.alloc, image, text) else {
             return Err(RowError::Unread);
         };
-        let devices = Devices::new(self.alloc, &self.image, read, write);
-        let runs = Runs {
-            bench: self,
-            program,
-            words,
-            read,
-            write,
-            whole: self.answer_by(program, words, devices)?,
-        };
-        for (side, takes_none) in SIDES {
-            runs.fail_each(side, takes_none)?;
+        let whole = self.answer_by(program, runs.words, runs.devices())?;
+        for fault in FAULTS {
+            self.fail_each(program, &runs, fault, &whole)?;
         }
         Ok(())
     }
-}
 
-impl<P: Programs, L: Library> Runs<'_, '_, P, L> {
     // Lets each call of one side fail in turn, until no call fails: then the answer is the whole one.
-    fn fail_each(&self, side: Side, takes_none: bool) -> Result<(), RowError> {
-        for calls in 0..=self.most_calls() {
-            let devices = self.devices(side, takes_none, calls);
-            let came = self.bench.answer_by(self.program, self.words, devices)?;
-            at_case(self.compare(side, calls, &came), calls)?;
+    fn fail_each(
+        &self,
+        program: Program,
+        runs: &Runs<'_>,
+        fault: Fault,
+        whole: &Answer,
+    ) -> Result<(), RowError> {
+        for calls in 0..=most_calls(runs.image, whole) {
+            let came = self.answer_by(program, runs.words, runs.failing_devices(fault, calls))?;
+            at_case(runs.compare(whole, fault.side, calls, &came), calls)?;
             if !came.has_failed {
                 return Ok(());
             }
         }
         Err(RowError::NoEnd)
     }
+}
 
-    // No run has so many calls of one side.
-    fn most_calls(&self) -> usize {
-        self.bench
-            .image
-            .len()
-            .saturating_add(self.whole.output.len())
-            .saturating_add(self.whole.errors.len())
-            .saturating_add(1)
-    }
+// The runs that a line tells.
+fn runs_of<'a>(alloc: Global, image: &'a [u8], text: &'a str) -> Option<Runs<'a>> {
+    let (read, rest) = first_word(text);
+    let (write, words) = first_word(rest);
+    let (read, write) = number(read).zip(number(write))?;
+    Some(Runs {
+        alloc,
+        image,
+        words,
+        read,
+        write,
+    })
+}
 
-    // Devices of which that of one side fails after so many calls.
-    fn devices(&self, side: Side, takes_none: bool, calls: usize) -> Devices<'_>
+// No run has so many calls of one side.
+fn most_calls(image: &[u8], whole: &Answer) -> usize {
+    image
+        .len()
+        .saturating_add(whole.output.len())
+        .saturating_add(whole.errors.len())
+        .saturating_add(1)
+}
+
+impl<'a> Runs<'a> {
+    fn devices(&self) -> Devices<'a>
         ensures input { result.input.has_failed ≡ false }
         ensures output { result.output.has_failed ≡ false }
         ensures errors { result.errors.has_failed ≡ false }
     {
-        let bench = self.bench;
-        let mut devices = Devices::new(bench.alloc, &bench.image, self.read, self.write);
-        devices.output.takes_none = takes_none;
-        devices.errors.takes_none = takes_none;
-        match side {
+        Devices::new(self.alloc, self.image, self.read, self.write)
+    }
+
+    // Devices of which that of one side fails after so many calls.
+    fn failing_devices(&self, fault: Fault, calls: usize) -> Devices<'a>
+        ensures input { result.input.has_failed ≡ false }
+        ensures output { result.output.has_failed ≡ false }
+        ensures errors { result.errors.has_failed ≡ false }
+    {
+        let mut devices = self.devices();
+        devices.output.takes_none = fault.takes_none;
+        devices.errors.takes_none = fault.takes_none;
+        match fault.side {
             Side::Input => devices.input.calls = calls,
             Side::Output => devices.output.calls = calls,
             Side::Errors => devices.errors.calls = calls,
@@ -106,28 +147,62 @@ impl<P: Programs, L: Library> Runs<'_, '_, P, L> {
         devices
     }
 
-    // Says what in a run is not as wanted, where one side fails after so many calls or none fails. A failure of errors leaves the
-    // status and output as they are.
-    fn compare(&self, side: Side, calls: usize, came: &Answer) -> Result<(), RowError> {
-        let alloc = self.bench.alloc;
-        let written = calls.saturating_mul(self.write);
-        let mut status = self.whole.status;
-        let mut output = self.whole.output.as_slice();
-        let mut errors = self.whole.errors.as_slice();
+    // Says what in a run is not as wanted, where one side fails after so many calls or none fails.
+    fn compare(
+        &self,
+        whole: &Answer,
+        side: Side,
+        calls: usize,
+        came: &Answer,
+    ) -> Result<(), RowError> {
         if came.has_failed {
-            match side {
-                Side::Input => (status, output, errors) = (3, b"", b"read fault\n"),
-                Side::Output => (status, output, errors) = (
-                    3,
-                    front(output, written),
-                    b"write fault\n",
-                ),
-                Side::Errors => errors = front(errors, written),
-            }
+            return self.cut_short(whole, side, calls).compare(self.alloc, came);
         }
-        is_same(alloc, "output", output, &came.output)?;
-        is_same(alloc, "errors", errors, &came.errors)?;
-        is_number(alloc, "status", status as usize, came.status as usize)
+        let expected = Expected {
+            status: whole.status,
+            output: &whole.output,
+            errors: &whole.errors,
+        };
+        expected.compare(self.alloc, came)
+    }
+
+    // What must come where one side fails after so many calls. A failure of errors leaves the status and output as they are.
+    fn cut_short<'b>(&self, whole: &'b Answer, side: Side, calls: usize) -> Expected<'b> {
+        let written = calls.saturating_mul(self.write);
+        match side {
+            Side::Input => Expected {
+                status: 3,
+                output: b"",
+                errors: b"read fault\n",
+            },
+            Side::Output => Expected {
+                status: 3,
+                output: front(&whole.output, written),
+                errors: b"write fault\n",
+            },
+            Side::Errors => Expected {
+                status: whole.status,
+                output: &whole.output,
+                errors: front(&whole.errors, written),
+            },
+        }
+    }
+}
+
+/// What must come of a run.
+#[derive(Clone, Copy)]
+struct Expected<'b> {
+    status: u8,
+    output: &'b [u8],
+    errors: &'b [u8],
+}
+
+impl Expected<'_> {
+    // Says what in a run is not as wanted.
+    fn compare(&self, alloc: Global, came: &Answer) -> Result<(), RowError> {
+        is_same(alloc, "output", self.output, &came.output)?;
+        is_same(alloc, "errors", self.errors, &came.errors)?;
+        is_number(alloc, "status", self.status as usize, came.status as usize)
     }
 }
 

@@ -1,66 +1,49 @@
 // What is asked for by the words of the command line: rows of files, or library calls.
 
-use crate::bench::Bench;
 use crate::library::{Library, Programs};
 use crate::row_error::{Failure, RowError};
-use std::alloc::{AllocError, Global};
+use crate::runs::Bench;
+use crate::state::State;
+use std::alloc::AllocError;
 use std::rt::{Env, Files};
 use std::{fs, io};
 
-// The rows of a text that fail. A text without rows is a failure.
-fn failures<P: Programs, L: Library>(
-    alloc: Global,
-    programs: &P,
-    library: &L,
-    text: &str,
-) -> Result<Vec<Failure>, AllocError> {
-    let mut bench = Bench::new(programs, library, alloc);
-    let mut failures = Vec::new(alloc);
-    for (i, line) in text.lines().enumerate() {
-        if let Err(failure) = bench.step(i.saturating_add(1), line) {
-            failures.push(failure)?;
+impl<P: Programs, L: Library> Bench<'_, P, L> {
+    // The rows of a text that fail. A text without rows is a failure.
+    fn failures(&self, text: &str) -> Result<Vec<Failure>, AllocError> {
+        let mut state = State::new(self.alloc);
+        for line in text.lines() {
+            let number = state.line.saturating_add(1);
+            state.line = number;
+            let outcome = self.step(&mut state, line);
+            state.keep_failure(number, outcome)?;
         }
+        state.failed()
     }
-    if let Err(failure) = bench.finish() {
-        failures.push(failure)?;
-    }
-    if !bench.has_rows {
-        failures.push(Failure {
-            line: 1,
-            error: RowError::NoRow,
-        })?;
-    }
-    Ok(failures)
-}
 
-// Prints what is wrong with the rows of a file, and answers how many failed.
-fn run_file<P: Programs, L: Library>(
-    rt: &(impl Files + Print + AllocGlobal),
-    programs: &P,
-    library: &L,
-    name: &str,
-) -> io::Result<usize> {
-    let text = fs::read_to_string(rt, name)?;
-    let failures = failures(rt.alloc(), programs, library, text.as_str())?;
-    for Failure { line, error } in &failures {
-        println!(rt; "{name}:{line}: {error}")?;
+    // Prints what is wrong with the rows of a file, and answers how many failed.
+    fn run_file(&self, rt: &(impl Files + Print + AllocGlobal), name: &str) -> io::Result<usize> {
+        let text = fs::read_to_string(rt, name)?;
+        let failures = self.failures(text.as_str())?;
+        for Failure { line, error } in &failures {
+            println!(rt; "{name}:{line}: {error}")?;
+        }
+        Ok(failures.len())
     }
-    Ok(failures.len())
-}
 
-// Runs the rows of these files, and answers whether none failed.
-fn run_files<P: Programs, L: Library>(
-    rt: &(impl Files + Print + AllocGlobal),
-    programs: &P,
-    library: &L,
-    names: &[String],
-) -> io::Result<bool> {
-    let mut failed = 0usize;
-    for name in names {
-        failed = failed.saturating_add(run_file(rt, programs, library, name.as_str())?);
+    // Runs the rows of these files, and answers whether none failed.
+    fn run_files(
+        &self,
+        rt: &(impl Files + Print + AllocGlobal),
+        names: &[String],
+    ) -> io::Result<bool> {
+        let mut failed = 0usize;
+        for name in names {
+            failed = failed.saturating_add(self.run_file(rt, name.as_str())?);
+        }
+        println!(rt; "{failed} failed")?;
+        Ok(failed == 0)
     }
-    println!(rt; "{failed} failed")?;
-    Ok(failed == 0)
 }
 
 // Makes a library call, prints how it ended, and answers whether it was done.
@@ -85,10 +68,18 @@ pub fn run<P: Programs, L: Library>(
     programs: &P,
     library: &L,
 ) -> io::Result<bool> {
-    let words: Vec<String> = std::env::args(rt)?.skip(1).collect(rt.alloc())?;
+    let alloc = rt.alloc();
+    let words: Vec<String> = std::env::args(rt)?.skip(1).collect(alloc)?;
     match words.as_slice() {
         [call, name, ..] if call.as_str() == "call" => run_call(rt, programs, name.as_str()),
         [call] if call.as_str() == "call" => run_calls(rt, programs),
-        names => run_files(rt, programs, library, names),
+        names => {
+            let bench = Bench {
+                programs,
+                library,
+                alloc,
+            };
+            bench.run_files(rt, names)
+        }
     }
 }

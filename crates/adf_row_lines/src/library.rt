@@ -12,21 +12,6 @@ pub enum Program {
     Survey,
 }
 
-/// A library call on the volume of an image.
-#[derive(Clone, Copy)]
-pub enum Question<'a> {
-    /// `find PATH`: the node that the path leads to.
-    Find(&'a str),
-    /// `entry NODE`: the name of the node.
-    Entry(usize),
-    /// `owner BLOCK`: whose the block is.
-    Owner(u32),
-    /// `pieces NODE`: the lengths of the pieces of a file.
-    Pieces(usize),
-    /// `read NODE`: how many bytes are read of a file.
-    Read(usize),
-}
-
 /// What has a tree.
 #[derive(Clone, Copy)]
 pub enum TreeOf<'a> {
@@ -52,14 +37,9 @@ pub trait Programs {
 
 /// The library calls that the rows ask. A text is what a call answers; there is none where it answers nothing.
 pub trait Library {
-    /// The answer to a question about the volume of an image.
-    fn answer(&self, question: Question<'_>, image: &[u8]) -> Result<Option<Vec<u8>>, RowError>;
-
-    /// How many blocks the tree of these lines needs in a volume of so many.
-    fn need(&self, blocks: u32, lines: &str) -> Result<Option<Vec<u8>>, RowError>;
-
-    /// Why the tree of these lines is not built in so many blocks.
-    fn unlaid(&self, blocks: u32, lines: &str) -> Result<Vec<u8>, RowError>;
+    /// What the call of a name answers about a text, on the volume of an image or on the tree of the lines that the text tells:
+    /// `Unread` if no call has the name, or it takes another text.
+    fn answer(&self, call: &str, about: &str, image: &[u8]) -> Result<Option<Vec<u8>>, RowError>;
 
     /// The paths of a valid volume in the order of its walk, with `, ` between them.
     fn paths(&self, image: &[u8]) -> Result<Vec<u8>, RowError>;

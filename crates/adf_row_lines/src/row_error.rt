@@ -69,14 +69,6 @@ impl fmt::Display for RowError {
     }
 }
 
-/// The same outcome, with the line of the row.
-pub fn at_line(outcome: Result<(), RowError>, line: usize) -> Result<(), Failure> {
-    match outcome {
-        Ok(()) => Ok(()),
-        Err(error) => Err(Failure { line, error }),
-    }
-}
-
 /// The same outcome, of a place or a length.
 pub fn at_case(outcome: Result<(), RowError>, case: usize) -> Result<(), RowError> {
     match outcome {

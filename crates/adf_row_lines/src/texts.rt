@@ -23,7 +23,7 @@ pub fn first_word(text: &str) -> (&str, &str) {
 /// A number, or two joined by `-`.
 pub fn range(text: &str) -> Option<(usize, usize)> {
     let (from, to) = text.split_once('-').unwrap_or((text, text));
-    Some((number(from)?, number(to)?))
+    number(from).zip(number(to))
 }
 
 /// A range of which the second number is not below the first.
@@ -37,7 +37,7 @@ pub fn rising(text: &str) -> Option<(usize, usize)> {
 /// A range of blocks, of which the second is not below the first.
 pub fn block_range(text: &str) -> Option<(u32, u32)> {
     let (from, to) = rising(text)?;
-    Some((u32::try_from(from).ok()?, u32::try_from(to).ok()?))
+    u32::try_from(from).ok().zip(u32::try_from(to).ok())
 }
 
 /// Appends a line.
@@ -49,11 +49,9 @@ pub fn push_line(text: &mut Vec<u8>, line: &str) -> Result<(), RowError> {
 
 /// Lines, told with ` | ` between them.
 pub fn lines_text(alloc: Global, lines: &str) -> Result<Vec<u8>, RowError> {
-    let mut text = Vec::new(alloc);
-    for line in lines.split(" | ") {
-        push_line(&mut text, line)?;
-    }
-    Ok(text)
+    let mut text = lines.replace(alloc, " | ", "\n")?;
+    text.push('\n')?;
+    Ok(text.into_bytes())
 }
 
 /// Appends what stands between two items, if one stands before.

@@ -2,7 +2,7 @@
 
 use crate::changes::add_bytes;
 use crate::row_error::{Difference, RowError};
-use crate::texts::{first_word, hex, number, push_line};
+use crate::texts::{first_word, hex, lines_text, number, push_line};
 use crate::words::push_words;
 use std::alloc::{AllocError, Global};
 use std::str;
@@ -41,6 +41,24 @@ impl Wanted {
             is_part: false,
             is_usage: false,
         }
+    }
+
+    /// The answer of `check` that is this line.
+    pub fn verdict(alloc: Global, line: &str) -> Result<Wanted, RowError> {
+        let status = if line.starts_with("ok ") { 0 } else { 1 };
+        let mut wanted = Wanted::new(alloc, Some(status));
+        push_line(&mut wanted.output, line)?;
+        Ok(wanted)
+    }
+
+    /// The answer of `adf-survey` with these findings, or with none.
+    pub fn findings(alloc: Global, lines: &str) -> Result<Wanted, RowError> {
+        if lines == "nothing" {
+            return Ok(Wanted::new(alloc, Some(0)));
+        }
+        let mut wanted = Wanted::new(alloc, Some(1));
+        wanted.output = lines_text(alloc, lines)?;
+        Ok(wanted)
     }
 
     /// A status, and a line on errors.
@@ -120,12 +138,8 @@ pub fn is_number(
     if wanted == came {
         return Ok(());
     }
-    Err(RowError::Other(Difference {
-        part,
-        case: 0,
-        wanted: format!(in alloc; "{wanted}")?,
-        came: format!(in alloc; "{came}")?,
-    }))
+    let wanted = format!(in alloc; "{wanted}")?;
+    Err(other(part, wanted, format!(in alloc; "{came}")?))
 }
 
 /// Says that a text is not as wanted, and what stands where they differ.
@@ -138,26 +152,37 @@ pub fn is_same(
     if wanted == came {
         return Ok(());
     }
-    let mut equal = 0usize;
-    for (one, other) in wanted.iter().zip(came) {
-        if one != other {
-            break;
-        }
-        equal = equal.saturating_add(1);
-    }
-    Err(RowError::Other(Difference {
+    let at = equal_count(wanted, came);
+    let wanted = excerpt(alloc, wanted, at)?;
+    Err(other(part, wanted, excerpt(alloc, came, at)?))
+}
+
+fn other(part: &'static str, wanted: String, came: String) -> RowError {
+    RowError::Other(Difference {
         part,
         case: 0,
-        wanted: excerpt(alloc, wanted, equal)?,
-        came: excerpt(alloc, came, equal)?,
-    }))
+        wanted,
+        came,
+    })
+}
+
+// How many bytes of two texts are equal, up to the first that differ.
+fn equal_count(one: &[u8], other: &[u8]) -> usize {
+    let both = one.len().min(other.len());
+    for i in 0..both {
+        if one[i] != other[i] {
+            return i;
+        }
+    }
+    both
 }
 
 // At most 60 bytes of a text from a little before a place on, with `|` for a line feed and `?` for what is no character.
 fn excerpt(alloc: Global, text: &[u8], at: usize) -> Result<String, AllocError> {
-    let from = at.saturating_sub(30);
+    let from = at.saturating_sub(30).min(text.len());
+    let to = from.saturating_add(60).min(text.len());
     let mut shown = String::new(alloc);
-    for byte in text.iter().skip(from).take(60) {
+    for byte in &text[from..to] {
         shown.push(match byte {
             b'\n' => '|',
             32..=126 => char::from(*byte),
@@ -175,16 +200,23 @@ fn has_lines(alloc: Global, wanted: &[u8], came: &[u8]) -> Result<(), RowError> 
     let (Ok(wanted), Ok(came)) = (str::from_utf8(wanted), str::from_utf8(came)) else {
         return Err(RowError::Unread);
     };
-    let mut left = came.lines();
-    for line in wanted.lines() {
-        if !left.any(|other| other == line) {
-            return Err(RowError::Other(Difference {
-                part: "output",
-                case: 0,
-                wanted: String::from_str(alloc, line)?,
-                came: String::new(alloc),
-            }));
+    match missing_line(wanted, came) {
+        None => Ok(()),
+        Some(line) => {
+            let wanted = String::from_str(alloc, line)?;
+            Err(other("output", wanted, String::new(alloc)))
         }
     }
-    Ok(())
+}
+
+// The first of the lines wanted that is not among those that came behind the ones before.
+fn missing_line<'a>(wanted: &'a str, came: &str) -> Option<&'a str> {
+    let mut lines = wanted.lines();
+    let mut next = lines.next();
+    for line in came.lines() {
+        if next == Some(line) {
+            next = lines.next();
+        }
+    }
+    next
 }

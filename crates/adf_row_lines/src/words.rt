@@ -1,7 +1,7 @@
 // Words of blocks.
 
 use crate::row_error::RowError;
-use crate::texts::{block_range, hex, range};
+use crate::texts::{block_range, first_word, hex, range};
 use adf_base::{seal, set_word};
 use std::alloc::Global;
 
@@ -16,20 +16,14 @@ pub struct Word {
 /// The words that a line tells: `BLOCK WORD HEX`, where a block and a word may be a range `FROM-TO`, the words also downwards.
 /// With `+` behind the value each further word has one more.
 pub fn read_words(alloc: Global, text: &str) -> Result<Vec<Word>, RowError> {
-    let mut parts = text.splitn(3, ' ');
-    let (Some(blocks), Some(indexes), Some(value)) = (parts.next(), parts.next(), parts.next())
-    else {
-        return Err(RowError::Unread);
-    };
+    let (blocks, rest) = first_word(text);
+    let (indexes, value) = first_word(rest);
     let (first, step) = match value.strip_suffix('+') {
         Some(first) => (first, 1),
         None => (value, 0),
     };
-    let (Some(blocks), Some(indexes), Some(value)) = (
-        block_range(blocks),
-        range(indexes),
-        hex(first),
-    ) else {
+    let Some(((blocks, indexes), value)) = block_range(blocks).zip(range(indexes)).zip(hex(first))
+    else {
         return Err(RowError::Unread);
     };
     words_of(alloc, blocks, indexes, (value, step))

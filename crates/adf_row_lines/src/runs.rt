@@ -1,14 +1,21 @@
-// What runs of the programs answer.
+// Runs of the programs, and what they answer.
 
 ghost use Rattle.std.specs.Prelude.{◌≡◌, false};
 
-use crate::bench::Bench;
 use crate::devices::Devices;
 use crate::library::{Library, Program, Programs};
 use crate::row_error::RowError;
 use crate::texts::lines_text;
-use crate::wants::{Answer, is_number};
+use crate::wants::{Answer, Wanted, is_number};
 use std::alloc::{AllocError, Global};
+
+/// What the rows try, with the memory that it takes.
+#[derive(Drop)]
+pub struct Bench<'a, P, L> {
+    pub programs: &'a P,
+    pub library: &'a L,
+    pub alloc: Global,
+}
 
 // The words of a command, the program's name in front.
 fn words_of(alloc: Global, program: Program, text: &str) -> Result<Vec<&str>, AllocError> {
@@ -39,25 +46,27 @@ impl<P: Programs, L: Library> Bench<'_, P, L> {
     {
         let words = words_of(self.alloc, program, words)?;
         let status = self.programs.run(program, &words, &mut devices);
-        let has_failed = devices.have_failed();
-        let Devices {
-            input,
-            output,
-            errors,
-        } = devices;
-        Ok(Answer {
-            status,
-            output: output.bytes,
-            errors: errors.bytes,
-            taken: input.given,
-            has_failed,
-        })
+        Ok(devices.answer(status))
     }
 
     /// Runs a program with these words over bytes.
     pub fn answer(&self, program: Program, words: &str, bytes: &[u8]) -> Result<Answer, RowError> {
-        let devices = Devices::new(self.alloc, bytes, usize::MAX, usize::MAX);
-        self.answer_by(program, words, devices)
+        self.answer_by(
+            program,
+            words,
+            Devices::new(self.alloc, bytes, usize::MAX, usize::MAX),
+        )
+    }
+
+    /// A program with these words answers over bytes what is wanted.
+    pub fn meets(
+        &self,
+        program: Program,
+        words: &str,
+        bytes: &[u8],
+        wanted: &Wanted,
+    ) -> Result<(), RowError> {
+        wanted.compare(self.alloc, &self.answer(program, words, bytes)?)
     }
 
     /// What `build` makes of the lines of a manifest that it takes.
