@@ -360,6 +360,10 @@ struct adf_surveyed {
  *    whatever the rooms: if a room is smaller, the table is only its front part, and a second call with rooms of these sizes
  *    gives all. The rest of a room is unchanged.
  * ADF_NO_MEMORY: an allocation failed. All fields are 0, and the tables are unchanged.
+ *
+ * An image whose boot block has the cause ADF_NOT_DOS has that one finding and no entries, even if nothing but the boot block is
+ * overwritten. adf_survey_run surveys such an image as if it had one, with a line that says so. For tables put `DOS` and the byte
+ * of an adf_kind in the place of the first four bytes of a copy.
  */
 uint8_t adf_survey_index(const uint8_t *image, size_t length, struct adf_finding *findings, size_t findings_room,
                          struct adf_found *entries, size_t entries_room, struct adf_surveyed *surveyed);

@@ -44,14 +44,26 @@ uint8_t *read_part(int file, const struct part *part, size_t *length) {
     return bytes;
 }
 
-/* Whether a partition is the one that is wanted; the case of a to z does not count. */
+/* The name of a partition as `adf-disk list` writes it. */
+static void list_name(const struct adf_partition *partition, char text[NAME_TEXT]) {
+    for (size_t i = 0; i < partition->name_length; i++) {
+        uint8_t byte = partition->name[i];
+        bool is_separator = byte == '/' || byte == ':';
+        text += is_separator ? (size_t)sprintf(text, "\\x%02x", byte) : adf_escape(&byte, 1, (uint8_t *)text, 4);
+    }
+    strcpy(text, partition->name_length == 0 ? "\\x" : "");
+}
+
+/* Whether a partition is the one that is wanted, as of `adf-disk volume`: by its number, its name as `adf-disk list` writes it, or the
+ * escape form of that; the case of a to z does not count. */
 static bool is_wanted(const struct adf_partition *partition, size_t number, const char *wanted) {
-    char *end;
+    char *end, listed[NAME_TEXT], escaped[NAME_TEXT];
     bool is_number = wanted[0] != '\0' && wanted[strspn(wanted, "0123456789")] == '\0';
     if (is_number)
         return strtoull(wanted, &end, 10) == number;
-    size_t length = partition->name_length;
-    return strlen(wanted) == length && strncasecmp(wanted, (const char *)partition->name, length) == 0;
+    list_name(partition, listed);
+    escaped[adf_escape(partition->name, partition->name_length, (uint8_t *)escaped, sizeof escaped - 1)] = '\0';
+    return strcasecmp(wanted, listed) == 0 || strcasecmp(wanted, escaped) == 0;
 }
 
 /* The blocks that a partition reserves before those of its file system, by its block. */

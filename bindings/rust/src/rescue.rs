@@ -1,6 +1,10 @@
 use crate::text::{in_capitals, unescape};
-use crate::{command, Failed, Survey};
+use crate::{command, ffi, Failed, Found, Refused, Survey};
+use std::borrow::Cow;
 use std::ops::Range;
+
+/// The last word of a file's header; a link has another one.
+const FILE_TYPE: [u8; 4] = [0xff, 0xff, 0xff, 0xfd];
 
 /// What is left of a file: its bytes, with zeros for those that are lost, and the ranges of these.
 #[derive(Clone, Debug, PartialEq, Eq)]
@@ -10,22 +14,53 @@ pub struct Remains {
 }
 
 /// What is left of a file of an image, sound or damaged, under a path in the escape form, as `adf-survey cat --damaged` writes it.
-/// If several entries have the path, up to the case of letters, the error is `not unique`.
+/// If several entries have the path, up to the case of letters, the error is `not unique`: `Found::remains` tells them apart.
 pub fn remains(path: &str, image: &[u8]) -> Result<Remains, Failed> {
-    remains_of(&Survey::of(image).map_err(|refused| Failed::with(3, &refused.cause.to_string()))?, path)
-}
-
-/// The same with the survey of the image.
-pub(crate) fn remains_of(survey: &Survey, path: &str) -> Result<Remains, Failed> {
+    let survey = Survey::of(image).map_err(failed)?;
     let wanted = unescape(path).map(|path| in_capitals(&path));
     if survey.entries().filter(|found| Some(in_capitals(&found.path_bytes())) == wanted).count() > 1 {
         return Err(Failed::with(1, "not unique"));
     }
-    let answer = command::survey(&["cat", "--damaged", "--", path], survey.image());
+    let answer = command::survey(&["cat", "--damaged", "--", path], image);
     let lost: Option<Vec<_>> = String::from_utf8_lossy(&answer.errors).lines().map(lost_of).collect();
     match lost {
         Some(lost) if answer.status <= 1 => Ok(Remains { bytes: answer.output, lost }),
         _ => Err(Failed { answer }),
+    }
+}
+
+fn failed(refused: Refused) -> Failed {
+    Failed::with(3, &refused.cause.to_string())
+}
+
+/// What is left of an entry, by its number.
+pub(crate) fn remains_of_found(found: &Found) -> Result<Remains, Failed> {
+    let past = (found.header() as usize + 1) * 512;
+    if !found.is_file() || found.image().get(past - 4..past) != Some(&FILE_TYPE[..]) {
+        return Err(Failed::with(1, "not a file"));
+    }
+    let image = if found.is_sound() { Cow::Borrowed(found.image()) } else { with_type_of_files(found.image()) };
+    let rows = ffi::parts(&image).map_err(failed)?;
+    let blocks = ffi::found_blocks(&image, &rows, found.number(), found.header()).map_err(failed)?;
+    let (mut bytes, mut lost, mut at) = (vec![0; image.len().min(found.size() as usize)], Vec::new(), 0);
+    while at < bytes.len() {
+        let (read, gap) = ffi::found_read(&image, found.header(), &blocks, at, &mut bytes[at..]);
+        if gap > 0 {
+            lost.push(at + read..at + read + gap);
+        }
+        if read + gap == 0 {
+            break;
+        }
+        at += read + gap;
+    }
+    Ok(Remains { bytes, lost })
+}
+
+/// The image with the type that its files say, if the volume of what stands has another one than the image.
+fn with_type_of_files(image: &[u8]) -> Cow<'_, [u8]> {
+    match rescue(image) {
+        Ok(rescue) if rescue.image[3] & 1 != image[3] & 1 => Cow::Owned([&image[..3], &[image[3] & 254], &image[4..]].concat()),
+        _ => Cow::Borrowed(image),
     }
 }
 

@@ -1,5 +1,5 @@
 use crate::ffi::{self, Date, SurveyTables};
-use crate::{escape, rescue, text, Cause, Failed, Kind, Refused, Remains, Text};
+use crate::{rescue, text, Cause, Failed, Kind, Refused, Remains, Text};
 use std::fmt;
 
 /// What is found in an image by `adf-survey`: everything that is wrong, and the entries that can still be reached.
@@ -173,10 +173,14 @@ impl<'survey> Found<'survey> {
         names.join(&b'/')
     }
 
-    /// What is left of this file. The image is surveyed again for it. An entry whose path another one has too, up to the case of
-    /// letters, is refused with `not unique`: the library looks files up by their paths, and would read the first.
+    /// What is left of this file, for which the image is surveyed again: that of this entry, also where another one has its path. A
+    /// directory and a link are refused with `not a file`.
     pub fn remains(&self) -> Result<Remains, Failed> {
-        rescue::remains_of(self.survey, &escape(&self.path_bytes()))
+        rescue::remains_of_found(self)
+    }
+
+    pub(crate) fn image(&self) -> &'survey [u8] {
+        self.survey.image
     }
 }
 

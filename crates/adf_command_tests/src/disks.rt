@@ -4,13 +4,11 @@
 ghost use Rattle.std.specs.Prelude.{length};
 
 use adf_base::{Block, seal, set_word};
-use adf_memory::{TableDisk, TablePartition, put_disk};
 use adf_partitions::{
     Disk, DiskCause, DiskFault, FieldFault, Partition, Place, PlaceFault, disk_fault, read_plan,
     write_tables,
 };
 use std::alloc::{AllocError, Global};
-use std::test::Fail;
 
 type Tables = [u8; 2048];
 
@@ -155,11 +153,19 @@ pub fn is_partition(
     }
 }
 
-// The first fault of the disk, if these words of a block are changed.
-fn fault_of(alloc: Global, b: u32, words: &[(usize, u32)]) -> Option<DiskFault> {
-    match Disk::open(alloc, &changed(b, words), 80) {
+// The first fault of a disk of so many blocks.
+fn fault_in(alloc: Global, tables: &[u8], blocks: u64) -> Option<DiskFault> {
+    match Disk::open(alloc, tables, blocks) {
         Ok(_) => None,
         Err(fault) => Some(fault),
+    }
+}
+
+// How many partitions a disk of so many blocks has, if its tables have no fault.
+fn count_in(alloc: Global, tables: &[u8], blocks: u64) -> Option<usize> {
+    match Disk::open(alloc, tables, blocks) {
+        Ok(disk) => Some(disk.partitions.len()),
+        Err(_) => None,
     }
 }
 
@@ -175,30 +181,41 @@ fn places_of(
     Some((one, two))
 }
 
+const NUMBERS_0: (u32, u32, i32, u32) = (2, 1, -5, 0x444F_5301);
+
+const NUMBERS_1: (u32, u32, i32, u32) = (1, 2, 3, 0x5046_5303);
+
+fn has_both_by_number(disk: &Disk) -> bool {
+    is_partition(disk.numbered(1), NUMBERS_0, b"DH0", PLACE_0)
+        && is_partition(disk.numbered(2), NUMBERS_1, b"DH1", PLACE_1)
+        && disk.numbered(0).is_none()
+        && disk.numbered(3).is_none()
+}
+
+fn has_both_by_name(disk: &Disk) -> bool {
+    is_partition(disk.named(b"dh0"), NUMBERS_0, b"DH0", PLACE_0)
+        && is_partition(disk.named(b"DH1"), NUMBERS_1, b"DH1", PLACE_1)
+        && disk.named(b"DH").is_none()
+}
+
+fn has_both(alloc: Global) -> bool {
+    match Disk::open(alloc, &changed(0, &[]), 80) {
+        Ok(disk) => has_both_by_number(&disk) && has_both_by_name(&disk),
+        Err(_) => false,
+    }
+}
+
 #[test]
-fn partitions_are_read(rt: HostRuntime) -> Result<(), Fail> {
-    let disk = Disk::open(rt.alloc(), &changed(0, &[]), 80)?;
-    let one = (2, 1, -5, 0x444F_5301);
-    let two = (1, 2, 3, 0x5046_5303);
-    assert_eq!(rt; disk.partitions.len(), 2);
-    assert!(rt; is_partition(disk.numbered(1), one, b"DH0", PLACE_0));
-    assert!(rt; is_partition(disk.numbered(2), two, b"DH1", PLACE_1));
-    assert!(rt; is_partition(disk.named(b"dh0"), one, b"DH0", PLACE_0));
-    assert!(rt; is_partition(disk.named(b"DH1"), two, b"DH1", PLACE_1));
-    assert!(rt; disk.numbered(0).is_none());
-    assert!(rt; disk.numbered(3).is_none());
-    assert!(rt; disk.named(b"DH").is_none());
-    Ok(())
+fn partitions_are_read(rt: HostRuntime) {
+    assert!(rt; has_both(rt.alloc()));
 }
 
 // Lists are followed wherever they lead, though the rigid disk block keeps no block for tables, or another one.
 #[test]
-fn lists_lead_anywhere(rt: HostRuntime) -> Result<(), Fail> {
+fn lists_lead_anywhere(rt: HostRuntime) {
     for words in [[(32, 0), (33, 0)], [(32, 3), (33, 3)], [(32, 9), (33, 0)]] {
-        let disk = Disk::open(rt.alloc(), &changed(0, &words), 80)?;
-        assert_eq!(rt; disk.partitions.len(), 2);
+        assert!(rt; count_in(rt.alloc(), &changed(0, &words), 80) == Some(2));
     }
-    Ok(())
 }
 
 // A change, and the block and the cause of the first fault.
@@ -222,8 +239,8 @@ const FAULTS: &[(u32, &[(usize, u32)], u32, DiskCause)] = &[
 #[test]
 fn faults_are_named(rt: HostRuntime) {
     for (b, words, block, cause) in FAULTS {
-        let wanted = disk_fault(*block, *cause);
-        assert!(rt; fault_of(rt.alloc(), *b, words) == Some(wanted));
+        let fault = fault_in(rt.alloc(), &changed(*b, words), 80);
+        assert!(rt; fault == Some(disk_fault(*block, *cause)));
     }
 }
 
@@ -277,16 +294,22 @@ const FIELDS: &[(&[(usize, u32)], Option<FieldFault>)] = &[
     (&[(32, 15), (36, 2)], Some(FieldFault::ShortEnvironment)),
 ];
 
+// What is wrong with the other fields of DH0, and its place, if these words of it are changed.
+fn fields_of(
+    alloc: Global,
+    words: &[(usize, u32)],
+) -> Option<(Option<FieldFault>, Result<Place, PlaceFault>)> {
+    let disk = Disk::open(alloc, &changed(2, words), 80).ok()?;
+    let one = disk.numbered(1)?;
+    Some((one.fault, one.place))
+}
+
 // They move no place.
 #[test]
-fn other_fields_are_told(rt: HostRuntime) -> Result<(), Fail> {
+fn other_fields_are_told(rt: HostRuntime) {
     for (words, fault) in FIELDS {
-        let disk = Disk::open(rt.alloc(), &changed(2, words), 80)?;
-        let one = disk.numbered(1).expect(&rt, "DH0");
-        assert!(rt; one.fault == *fault);
-        assert!(rt; one.place == PLACE_0);
+        assert!(rt; fields_of(rt.alloc(), words) == Some((*fault, PLACE_0)));
     }
-    Ok(())
 }
 
 // A block and a word of a planned disk: the lists that have no blocks, and the largest transfer.
@@ -303,41 +326,60 @@ const WRITTEN: &[(u32, usize, u32)] = &[
     (1, 45, 0x0001_FE00),
 ];
 
+// The tables of a planned disk.
+fn planned(alloc: Global) -> Option<Vec<u8>> {
+    let (plan, _rest) = read_plan(alloc, b"disk 4 2\npartition A ofs 1\nend\n").ok()?;
+    write_tables(alloc, &plan).ok()
+}
+
+// A word of a block, if there is one.
+fn word_in(tables: &[u8], b: u32, i: usize) -> Option<u32> {
+    let block = Block::at(tables, b)?;
+    if i < 128 { Some(block.word(i)) } else { None }
+}
+
 #[test]
-fn tables_name_no_other_lists(rt: HostRuntime) -> Result<(), Fail> {
-    let text = b"disk 4 2\npartition A ofs 1\nend\n";
-    let (plan, _rest) = read_plan(rt.alloc(), text).expect(&rt, "a plan");
-    let tables = write_tables(rt.alloc(), &plan)?;
+fn tables_name_no_other_lists(rt: HostRuntime) {
+    let tables = planned(rt.alloc()).expect(&rt, "tables");
     for (b, i, value) in WRITTEN {
-        let block = Block::at(&tables, *b).expect(&rt, "a block");
-        if *i < 128 {
-            assert_eq!(rt; block.word(*i), *value);
-        }
+        assert!(rt; word_in(&tables, *b, *i) == Some(*value));
     }
-    Ok(())
+}
+
+// The tables with word i of DH1 changed, but not its sum.
+fn with_word(i: usize) -> Tables {
+    let mut tables = changed(0, &[]);
+    put(&mut tables, 1, &[(i, 7)]);
+    tables
 }
 
 // The sum is that of the first 64 words alone, and of a block that was changed without a new sum it is not 0.
 #[test]
 fn sums_are_of_the_words_that_are_counted(rt: HostRuntime) {
-    let mut tables = changed(0, &[]);
-    put(&mut tables, 1, &[(64, 7)]);
-    assert!(rt; Disk::open(rt.alloc(), &tables, 80).is_ok());
-    put(&mut tables, 1, &[(63, 7)]);
+    assert!(rt; fault_in(rt.alloc(), &with_word(64), 80).is_none());
     let wanted = disk_fault(1, DiskCause::BadSum);
-    assert!(rt; Disk::open(rt.alloc(), &tables, 80).err() == Some(wanted));
+    assert!(rt; fault_in(rt.alloc(), &with_word(63), 80) == Some(wanted));
 }
 
-// The rigid disk block is the first that is one, and the list may be empty.
-#[test]
-fn other_blocks_may_be_the_rigid_disk_block(rt: HostRuntime) -> Result<(), Fail> {
+// The rigid disk block is block 3, and its list is empty; block 0 has a wrong sum.
+fn with_late_rigid_disk() -> Tables {
     let mut tables = [0; 2048];
     put_summed(&mut tables, 3, RIGID_DISK);
     put_summed(&mut tables, 3, &[(7, NONE)]);
     put(&mut tables, 0, RIGID_DISK);
-    let disk = Disk::open(rt.alloc(), &tables, 80)?;
-    assert_eq!(rt; (disk.tables.rdsk, disk.partitions.len()), (3, 0));
-    Ok(())
+    tables
+}
+
+// The rigid disk block of a disk, and how many partitions it has.
+fn rigid_disk_of(alloc: Global, tables: &[u8]) -> Option<(u32, usize)> {
+    let disk = Disk::open(alloc, tables, 80).ok()?;
+    Some((disk.tables.rdsk, disk.partitions.len()))
+}
+
+// The rigid disk block is the first that is one, and the list may be empty.
+#[test]
+fn other_blocks_may_be_the_rigid_disk_block(rt: HostRuntime) {
+    assert!(rt; rigid_disk_of(rt.alloc(), &with_late_rigid_disk()) == Some((3, 0)));
 }
 
 // A partition block whose sum is that of its first 3 words, and which names the next one.
@@ -350,22 +392,21 @@ fn short_part(next: u32) -> [u8; 512] {
     part
 }
 
+// A rigid disk block whose sum is that of its first 3 words, and whose list begins in block 1.
+fn short_rigid_disk() -> [u8; 512] {
+    let mut rigid_disk = [0; 512];
+    set_word(&mut rigid_disk, 0, 0, 0x5244_534B);
+    set_word(&mut rigid_disk, 0, 1, 3);
+    set_word(&mut rigid_disk, 0, 2, 0xADBB_ACB2);
+    set_word(&mut rigid_disk, 0, 4, 512);
+    set_word(&mut rigid_disk, 0, 7, 1);
+    set_word(&mut rigid_disk, 0, 33, 2048);
+    rigid_disk
+}
+
 // A disk with so many partitions, in the blocks from 1 on.
 fn long_list(alloc: Global, count: u32) -> Result<Vec<u8>, AllocError> {
-    let mut rigid_disk = [0; 512];
-    for (i, value) in [
-        (0, 0x5244_534B),
-        (1, 3),
-        (2, 0xADBB_ACB2),
-        (4, 512),
-        (7, 1),
-        (33, 2048),
-    ] {
-        if i < 128 {
-            set_word(&mut rigid_disk, 0, i, value);
-        }
-    }
-    let mut disk = Vec::from_slice(alloc, &rigid_disk)?;
+    let mut disk = Vec::from_slice(alloc, &short_rigid_disk())?;
     for b in 1..count {
         disk.extend_from_slice(&short_part(b + 1))?;
     }
@@ -374,68 +415,10 @@ fn long_list(alloc: Global, count: u32) -> Result<Vec<u8>, AllocError> {
 }
 
 #[test]
-fn a_list_has_at_most_1024_partitions(rt: HostRuntime) -> Result<(), Fail> {
-    let longest = long_list(rt.alloc(), 1024)?;
-    let disk = Disk::open(rt.alloc(), &longest, 1025)?;
-    assert_eq!(rt; disk.partitions.len(), 1024);
-    let longer = long_list(rt.alloc(), 1025)?;
+fn a_list_has_at_most_1024_partitions(rt: HostRuntime) {
+    let longest = long_list(rt.alloc(), 1024).expect(&rt, "memory");
+    assert!(rt; count_in(rt.alloc(), &longest, 1025) == Some(1024));
+    let longer = long_list(rt.alloc(), 1025).expect(&rt, "memory");
     let wanted = disk_fault(1025, DiskCause::TooMany);
-    assert!(rt; Disk::open(rt.alloc(), &longer, 1026).err() == Some(wanted));
-    Ok(())
-}
-
-const NO_ROW: TablePartition = TablePartition {
-    first: 0,
-    blocks: 0,
-    block: 0,
-    flags: 0,
-    priority: 0,
-    dos_type: 0,
-    fault: 0,
-    name_length: 0,
-    name: [0; 31],
-};
-
-// A table with room for one partition, of a disk of so many blocks with these words of its tables changed.
-fn indexed(
-    rt: &impl AllocGlobal,
-    b: u32,
-    words: &[(usize, u32)],
-    blocks: u64,
-) -> (TablePartition, (usize, u32, u8)) {
-    let mut rows = [NO_ROW; 1];
-    let mut disk = TableDisk {
-        partitions: 9,
-        block: 9,
-        cause: 9,
-    };
-    put_disk(rt.alloc(), &changed(b, words), blocks, &mut rows, &mut disk);
-    (rows[0], (disk.partitions, disk.block, disk.cause))
-}
-
-#[test]
-fn partitions_are_put_in_a_table(rt: HostRuntime) {
-    let (row, disk) = indexed(&rt, 0, &[], 80);
-    assert_eq!(rt; disk, (2, 0, 0));
-    assert_eq!(rt; (row.first, row.blocks, row.block), (8, 32, 2));
-    assert_eq!(rt;
-        (row.flags, row.priority, row.dos_type, row.fault),
-        (1, -5, 0x444F_5301, 0)
-    );
-    assert_eq!(rt; (row.name_length, &row.name[..4]), (3, b"DH0\0".as_slice()));
-
-    // Other fields of DH0 do not move its place.
-    let (row, disk) = indexed(&rt, 2, &[(36, 2)], 80);
-    assert_eq!(rt; disk, (2, 0, 0));
-    assert_eq!(rt; (row.first, row.blocks, row.fault), (8, 32, 2));
-
-    // DH0 ends beyond a disk of 39 blocks.
-    let (row, disk) = indexed(&rt, 0, &[], 39);
-    assert_eq!(rt; disk, (2, 0, 0));
-    assert_eq!(rt; (row.first, row.blocks, row.fault), (0, 0, 4));
-
-    // What is not a partition block is none, and DH1 is found.
-    let (row, disk) = indexed(&rt, 2, &[(0, 0)], 80);
-    assert_eq!(rt; disk, (1, 2, 5));
-    assert_eq!(rt; (row.first, row.blocks, row.block), (40, 40, 1));
+    assert!(rt; fault_in(rt.alloc(), &longer, 1026) == Some(wanted));
 }
