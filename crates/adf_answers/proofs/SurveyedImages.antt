@@ -2,7 +2,7 @@
 use Rattle.std.proofs.Common.{ℕ, Bool, List, Option, inl, refl}
 use Rattle.adf_findings.proofs.SomeSurvey.{some_survey}
 use Rattle.adf_runs.specs.Commands.{Reply, bad_path, on_output}
-use Rattle.adf_words.specs.SurveyLine.{asked, cat, report}
+use Rattle.adf_file_words.specs.SurveyLine.{asked, cat, report}
 use Rattle.adf_cmd.specs.Answers.{IsBadPath}
 use Rattle.adf_survey_cmd.specs.Answers.{Surveys, told_status}
 use Rattle.adf_answers.specs.Answered.{HasSurveyAnswer}

@@ -3,7 +3,8 @@
 ghost use Rattle.std.specs.Prelude.{◌≡◌, None, false, true, ⊤};
 
 use crate::runner::run;
-use adf_runs::{Failed, Files, Sink, Source, Unopened};
+use adf_file_runs::{Files, Unopened};
+use adf_runs::{Failed, Sink, Source};
 use std::alloc::Global;
 use std::test::Fail;
 

@@ -1,12 +1,12 @@
 // The calls over memory, on an OFS volume of 16 blocks with the directory `c` and in it the files `long`, 489 bytes 0x41, and
 // `short`, one byte. Their headers are blocks 2, 3 and 6, their data 4, 5 and 7.
 
+use adf_file_runs::WithoutFiles;
 use adf_memory::{
     Contents, Date, FoundEntry, Moved, Surveyed, TableDisk, TableEntry, TableFinding,
     TablePartition, Verdict, cause_text, check_image, find_entry, owners_of, put_index, put_survey,
     read_bytes, run_in_memory,
 };
-use adf_runs::WithoutFiles;
 use std::mem::size_of;
 use std::process::Abort;
 

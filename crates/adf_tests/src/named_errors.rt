@@ -1,7 +1,8 @@
 // Standard error with the name of a program before each line.
 
 use crate::memory::Kept;
-use adf_runs::{NamedErrors, Sink, say};
+use adf_file_runs::NamedErrors;
+use adf_runs::{Sink, say};
 use std::alloc::Global;
 use std::test::Fail;
 
