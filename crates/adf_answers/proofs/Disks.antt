@@ -14,7 +14,7 @@ use Rattle.adf_partitions.specs.declared.place.PlaceFault.{PlaceFault}
 use Rattle.adf_texts.specs.Lines.{fault_line as volume_fault_line}
 use Rattle.adf_runs.specs.Commands.{Reply, on_output}
 use Rattle.adf_words.specs.CommandLine.{check as check_volume}
-use Rattle.adf_words.specs.DiskLine.{DiskRequestValue, WantedValue, build, check, list, survey, volume}
+use Rattle.adf_file_words.specs.DiskLine.{DiskRequestValue, WantedValue, build, check, list, survey, volume}
 use Rattle.adf_disk_cmd.specs.Answers.{DiskAnswer, OfDisk, OfFault, OfPartitions, fault_line, volume_reply, wanted_of}
 use Rattle.adf_disk_cmd.specs.Builds.{BuildsDisk, plan_reply, refusal}
 use Rattle.adf_disk_cmd.specs.Checks.{AreChecked, TellsPlace, TellsVolume, check_status, unchecked_text, why_unchecked}

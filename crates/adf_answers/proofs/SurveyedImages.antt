@@ -18,7 +18,7 @@ use Rattle.adf_findings.proofs.SomeLookups.{dec_is_file, leads_or_not}
 use Rattle.adf_findings.proofs.SomeMarks.{dec_sound, some_marks}
 use Rattle.adf_findings.proofs.SomeSurvey.{some_survey}
 use Rattle.adf_runs.specs.Commands.{Reply, bad_path, on_errors, on_output}
-use Rattle.adf_words.specs.SurveyLine.{QuestionValue, asked, cat, list, report, rescue}
+use Rattle.adf_file_words.specs.SurveyLine.{QuestionValue, asked, cat, list, report, rescue}
 use Rattle.adf_survey_cmd.proofs.SomeRescues.{some_rescue as rescue_answered}
 use Rattle.adf_survey_cmd.proofs.SubjectBytes.{subject_bytes, typed_bytes}
 use Rattle.adf_survey_cmd.specs.Answers.{CopiesEntry, CopiesFound, CopiesFromSurvey, IsWholeFile, ListsSurvey, Surveys, no_path_line, told_status}

@@ -6,8 +6,8 @@ ghost use Rattle.std.specs.List.{All};
 ghost use Rattle.adf_names.specs.PathTexts.{IsPathText};
 ghost use Rattle.adf_cmd.specs.Answers.{IsBadPath};
 ghost use Rattle.adf_words.specs.CommandLine.{cat, check, list};
-ghost use Rattle.adf_words.specs.DiskLine.{DiskRequestValue};
-ghost use Rattle.adf_words.specs.SurveyLine.{InquiryValue, rescue};
+ghost use Rattle.adf_file_words.specs.DiskLine.{DiskRequestValue};
+ghost use Rattle.adf_file_words.specs.SurveyLine.{InquiryValue, rescue};
 ghost use Rattle.adf_answers.specs.Answered.{HasAnswer, HasDiskAnswer, HasSurveyAnswer};
 
 /// Each image has an answer of `adf` to `check`, to `list`, and to `cat` of a path and of a text that is that of no path.

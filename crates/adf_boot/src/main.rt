@@ -2,10 +2,8 @@
 #![tactic(auto)]
 
 use adf_boot_cmd::run;
-use adf_runs::{
-    About, Device, NamedErrors, Outcome, SystemFiles, command_words, refuse_words, tell,
-    telling_asked,
-};
+use adf_file_runs::{About, NamedErrors, SystemFiles, tell, telling_asked};
+use adf_runs::{Device, Outcome, command_words, refuse_words};
 use std::alloc::AllocError;
 use std::process::ExitCode;
 

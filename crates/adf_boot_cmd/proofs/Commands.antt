@@ -1,6 +1,6 @@
 -- The command `adf-boot` is consistent.
 use Rattle.std.proofs.Common.{◌≡◌, ◌∙◌, ℕ, List, Option, Some, None, inl, inr, sym}
-use Rattle.adf_words.specs.BootLine.{AreRefusedByBoot, AsksBoot, BootRequestValue}
+use Rattle.adf_file_words.specs.BootLine.{AreRefusedByBoot, AsksBoot, BootRequestValue}
 use Rattle.adf_runs.specs.Commands.{IsConsistent, IsUnanswered}
 use Rattle.adf_boot_cmd.specs.Answers.{boot_command}
 

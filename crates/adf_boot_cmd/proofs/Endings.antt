@@ -1,15 +1,15 @@
 -- How runs end in which a work is done, over an input or a file.
 -- Letters: c a command, r what is asked, w the outcome of its work; n the status; o and e what output and errors held before, o' and e' after.
 use Rattle.std.proofs.Common.{◌≡◌, ◌≤◌, ◌∙◌, ℕ, List, Bool, true, Option, None, Some, IfSome, inl, inr, take, refl, sym, subst, arith}
-use Rattle.adf_words.specs.BootLine.{AreRefusedByBoot, ExplainsBootArgs}
+use Rattle.adf_file_words.specs.BootLine.{AreRefusedByBoot, ExplainsBootArgs}
 use Rattle.adf_words.specs.declared.command_line.ArgsError.{ArgsError}
 use Rattle.adf_words.specs.declared.command_line.ArgsError.TheVariants.{Usage, NoMemory as ArgsNoMemory}
 use Rattle.adf_runs.specs.Commands.{Command, GetsAnswer, GetsFront, IsUnanswered, Reply, RunEnds, failure_line}
-use Rattle.adf_runs.specs.FileRuns.{RunEndsOnFiles}
+use Rattle.adf_file_runs.specs.FileRuns.{RunEndsOnFiles}
 use Rattle.adf_runs.specs.Outcomes.{EndsBy, WritesOne, is_read_fault, is_write_fault, outcome_text, status_of}
 use Rattle.adf_runs.specs.Streams.{AreFirst, Says}
 use Rattle.adf_runs.specs.WorkFaults.{IsNoWork, args_refused}
-use Rattle.adf_runs.specs.declared.files.Unopened.{Unopened}
+use Rattle.adf_file_runs.specs.declared.files.Unopened.{Unopened}
 use Rattle.adf_runs.specs.declared.outcome.Outcome.{Outcome, TheVariants.Done, TheVariants.FaultWritten, TheVariants.Refused, TheVariants.LeftOut}
 use Rattle.adf_runs.specs.declared.outcome.Outcome.{TheVariants.NoSuchPath, TheVariants.NotAFile, TheVariants.Damaged}
 use Rattle.adf_runs.specs.declared.outcome.Outcome.{TheVariants.ReadFault, TheVariants.WriteFault, TheVariants.NoMemory}

@@ -6,11 +6,11 @@ use Rattle.adf_boot_blocks.specs.Writing.{cleared, copied, installed}
 use Rattle.adf_boot_blocks.specs.declared.boot.TheConstants.{BOOT_LEN}
 use Rattle.adf_boot_blocks.specs.declared.standard.TheConstants.{STANDARD_CODE}
 use Rattle.std.specs.Io.KnownBytes.{Appends}
-use Rattle.adf_words.specs.BootLine.{AreRefusedByBoot, AsksBoot, BootRequestValue}
-use Rattle.adf_words.specs.BootLine.BootRequestValue.{tell as tells, install as installs, clear as clears, copy as copies}
-use Rattle.adf_runs.specs.FileRuns.{unopened_line}
+use Rattle.adf_file_words.specs.BootLine.{AreRefusedByBoot, AsksBoot, BootRequestValue}
+use Rattle.adf_file_words.specs.BootLine.BootRequestValue.{tell as tells, install as installs, clear as clears, copy as copies}
+use Rattle.adf_file_runs.specs.FileRuns.{unopened_line}
 use Rattle.adf_runs.specs.Streams.{Says}
-use Rattle.adf_runs.specs.declared.files.Unopened.{Unopened}
+use Rattle.adf_file_runs.specs.declared.files.Unopened.{Unopened}
 use Rattle.adf_runs.specs.Commands.{Command, Reply, on_errors, on_output}
 use Rattle.adf_boot_cmd.specs.Lines.{boot_line}
 use Rattle.adf_boot_cmd.specs.declared.work.TheConstants.{MOST_BYTES}

@@ -3,14 +3,15 @@
 ghost use Rattle.std.specs.Prelude.{◌≡◌, ◌⊎◌, List, Option, ℕ, false, take, IfErr, IfOk, IfSome, codes};
 ghost use Rattle.std.specs.Io.KnownBytes.{Appends};
 ghost use Rattle.adf_boot_blocks.specs.declared.boot.TheConstants.{BOOT_LEN};
-ghost use Rattle.adf_words.specs.BootLine.{boot_request_value, copy};
+ghost use Rattle.adf_file_words.specs.BootLine.{boot_request_value, copy};
 ghost use Rattle.adf_boot_cmd.specs.Answers.{IsOrderOf, LacksBoot};
 ghost use Rattle.adf_boot_cmd.specs.Work.{IsFaultOf, order_of};
 
 use crate::work::Work;
 use adf_boot_blocks::BOOT_LEN;
-use adf_runs::{Files, Sink, StreamFault, Unopened, read_first, refuse_file, say};
-use adf_words::BootRequest;
+use adf_file_runs::{Files, Unopened, refuse_file};
+use adf_file_words::BootRequest;
+use adf_runs::{Sink, StreamFault, read_first, say};
 use std::alloc::Global;
 
 /// Why a boot file is not had.

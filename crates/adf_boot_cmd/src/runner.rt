@@ -1,14 +1,15 @@
 // The whole command.
 
 ghost use Rattle.std.specs.Prelude.{◌≡◌, ◌⊎◌, List, ℕ, false};
-ghost use Rattle.adf_runs.specs.FileRuns.{RunEndsOnFiles};
-ghost use Rattle.adf_words.specs.BootLine.{AreRefusedByBoot, AsksBoot, boot_file, copy};
+ghost use Rattle.adf_file_runs.specs.FileRuns.{RunEndsOnFiles};
+ghost use Rattle.adf_file_words.specs.BootLine.{AreRefusedByBoot, AsksBoot, boot_file, copy};
 ghost use Rattle.adf_words.specs.CommandLine.{texts_of};
 ghost use Rattle.adf_boot_cmd.specs.Answers.{LacksBoot, boot_command};
 
 use crate::boot_file::work_for;
-use adf_runs::{Files, Sink, Source, WorkFault, refuse_file};
-use adf_words::{BOOT_USAGE as USAGE, parse_boot};
+use adf_file_runs::{Files, refuse_file};
+use adf_file_words::{BOOT_USAGE as USAGE, parse_boot};
+use adf_runs::{Sink, Source, WorkFault};
 use std::alloc::Global;
 
 /// Does what the words ask for, on the file that they name or else on the input; the first one is the program's name. Returns the

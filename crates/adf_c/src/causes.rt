@@ -9,8 +9,8 @@ ghost use Rattle.adf_partitions.specs.declared.field_fault.FieldFault.{FieldFaul
 ghost use Rattle.adf_partitions.specs.declared.place.PlaceFault.{PlaceFault};
 ghost use Rattle.adf_memory.specs.Rooms.{filled};
 
+use adf_file_runs::VERSION_NUMBER;
 use adf_memory::{cause_text, disk_cause_text, partition_fault_text};
-use adf_runs::VERSION_NUMBER;
 
 /// Returns the version of the library: 10000 for each major version, 100 for each minor one.
 #[unsafe(no_mangle)]

@@ -7,8 +7,8 @@ ghost use Rattle.adf_survey_cmd.specs.Answers.{survey_without_files};
 ghost use Rattle.adf_memory.specs.Rooms.{StandIn};
 ghost use Rattle.adf_memory.specs.Words.{in_memory};
 
+use adf_file_runs::WithoutFiles;
 use adf_memory::{Moved, run_in_memory};
-use adf_runs::WithoutFiles;
 use std::alloc::Global;
 
 /// Runs the command `adf` on an input in memory. Each word ends with a zero byte, and the first is the program's name. Returns

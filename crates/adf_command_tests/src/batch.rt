@@ -3,7 +3,7 @@
 ghost use Rattle.std.specs.Prelude.{None, true, ⊤};
 
 use crate::memory::{Given, Kept};
-use adf_runs::{Files, Unopened};
+use adf_file_runs::{Files, Unopened};
 use adf_shelf_cmd::{TextNames, run};
 use std::alloc::Global;
 

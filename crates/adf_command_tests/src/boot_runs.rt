@@ -4,7 +4,7 @@ ghost use Rattle.std.specs.Prelude.{None, true, ⊤};
 
 use crate::memory::{Came, Given, Kept};
 use adf_boot_cmd::run;
-use adf_runs::{Files, Unopened};
+use adf_file_runs::{Files, Unopened};
 use std::alloc::Global;
 
 // A folder with an image, a boot file, the front of one, and one that fails.

@@ -5,7 +5,8 @@ ghost use Rattle.std.specs.Prelude.{◌≡◌, None, false};
 use crate::batch::{Folder, sound_image};
 use crate::disk_runs::USAGE as DISK_USAGE;
 use crate::memory::{Came, Given, Kept};
-use adf_runs::{AnnouncedInput, Failed, Sink, read_input};
+use adf_file_runs::AnnouncedInput;
+use adf_runs::{Failed, Sink, read_input};
 use std::alloc::Global;
 use std::cell::Cell;
 

@@ -2,10 +2,8 @@
 #![tactic(auto)]
 
 use adf_disk_cmd::run_files;
-use adf_runs::{
-    About, AnnouncedInput, Device, NamedErrors, Outcome, SystemFiles, command_words, refuse_words,
-    tell, telling_asked,
-};
+use adf_file_runs::{About, AnnouncedInput, NamedErrors, SystemFiles, tell, telling_asked};
+use adf_runs::{Device, Outcome, command_words, refuse_words};
 use std::alloc::AllocError;
 use std::io::IsTerminal;
 use std::process::ExitCode;

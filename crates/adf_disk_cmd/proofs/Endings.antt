@@ -18,7 +18,7 @@ use Rattle.adf_runs.specs.Commands.{Reply}
 use Rattle.adf_runs.specs.Outcomes.{EndsBy, after_reading}
 use Rattle.adf_runs.specs.declared.outcome.Outcome.{Outcome}
 use Rattle.adf_runs.specs.declared.streams.StreamFault.{StreamFault, TheVariants.Device, TheVariants.NoMemory}
-use Rattle.adf_words.specs.DiskLine.{DiskRequestValue, build, check, list, survey, volume}
+use Rattle.adf_file_words.specs.DiskLine.{DiskRequestValue, build, check, list, survey, volume}
 use Rattle.adf_runs.proofs.PendingText.{appends_nil}
 
 -- what is answered to the front of an input that is longer than the largest disk is answered to the whole of it

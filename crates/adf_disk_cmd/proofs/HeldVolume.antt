@@ -27,7 +27,7 @@ use Rattle.adf_runs.proofs.KnownBytes.{left_over}
 use Rattle.adf_runs.specs.Outcomes.{EndsBy}
 use Rattle.adf_runs.specs.Streams.{IsPart, TakesFirst}
 use Rattle.adf_runs.specs.declared.outcome.Outcome.{Outcome}
-use Rattle.adf_words.specs.DiskLine.{WantedValue, name, number, volume}
+use Rattle.adf_file_words.specs.DiskLine.{WantedValue, name, number, volume}
 use Rattle.adf_disk_cmd.proofs.Endings.{disk_ends, refused_ends, told_ends}
 use Rattle.adf_disk_cmd.proofs.HeldTables.{disk_held, disk_of, fault_held}
 use Rattle.adf_disk_cmd.specs.Answers.{DiskAnswer, OfPartitions, place_reply, volume_reply, wanted_of}

@@ -22,7 +22,7 @@ use Rattle.adf_partitions.specs.declared.place.PlaceFault.{PlaceFault}
 use Rattle.adf_partitions.specs.declared.plan_text.TextFault.{TextFault}
 use Rattle.adf_runs.specs.Commands.{Reply, on_output}
 use Rattle.adf_words.specs.CommandLine.{check as check_volume}
-use Rattle.adf_words.specs.DiskLine.{AsksDisk, DiskRequestValue, build, check, list, survey, volume}
+use Rattle.adf_file_words.specs.DiskLine.{AsksDisk, DiskRequestValue, build, check, list, survey, volume}
 
 pub one_request : (words : List (List ℕ)) (r q : DiskRequestValue) → AsksDisk words r → AsksDisk words q → r ≡ q
 one_request words r q a b = grind (arith, common_steps)

@@ -12,9 +12,9 @@ use Rattle.adf_partitions.specs.declared.partition.Partition.{Partition}
 use Rattle.adf_partitions.specs.declared.place.Place.{Place}
 use Rattle.adf_partitions.specs.declared.place.PlaceFault.{PlaceFault}
 use Rattle.adf_partitions.specs.declared.tables.Tables.{Tables}
-use Rattle.adf_words.specs.DiskLine.{AreRefusedByDisk, AsksDisk, DiskRequestValue, WantedValue, build, check, disk_file, list, name, number, survey, volume}
+use Rattle.adf_file_words.specs.DiskLine.{AreRefusedByDisk, AsksDisk, DiskRequestValue, WantedValue, build, check, disk_file, list, name, number, survey, volume}
 use Rattle.adf_runs.specs.Commands.{Command, Reply, on_output}
-use Rattle.adf_runs.specs.FileRuns.{without_files}
+use Rattle.adf_file_runs.specs.FileRuns.{without_files}
 use Rattle.adf_disk_cmd.specs.Builds.{BuildsDisk, refusal}
 use Rattle.adf_disk_cmd.specs.Checks.{AreChecked, check_status}
 use Rattle.adf_disk_cmd.specs.Lines.{list_lines, volume_at}

@@ -11,7 +11,7 @@ use Rattle.adf_partitions.specs.declared.place.PlaceFault.{PlaceFault}
 use Rattle.adf_partitions.specs.declared.tables.Tables.{Tables}
 use Rattle.adf_runs.specs.Commands.{Reply, on_output}
 use Rattle.adf_runs.specs.Streams.{IsPart}
-use Rattle.adf_words.specs.DiskLine.{DiskRequestValue, WantedValue, check, list, name, number, survey, volume}
+use Rattle.adf_file_words.specs.DiskLine.{DiskRequestValue, WantedValue, check, list, name, number, survey, volume}
 use Rattle.adf_disk_cmd.specs.Answers.{TellsReadable, fault_line, wanted_of}
 use Rattle.adf_disk_cmd.specs.Builds.{refusal}
 use Rattle.adf_disk_cmd.specs.declared.copy_input.TheConstants.{MOST_DISK_BLOCKS}

@@ -6,7 +6,7 @@ ghost use Rattle.adf_disk_cmd.specs.Work.{HoldsVolume, IsSoughtPlace, held_reply
 ghost use Rattle.adf_partitions.specs.Places.{end_of};
 ghost use Rattle.adf_runs.specs.Outcomes.{EndsBy, LacksInput, is_read_fault, is_write_fault};
 ghost use Rattle.adf_runs.specs.Streams.{TakesAtMost};
-ghost use Rattle.adf_words.specs.DiskLine.{volume};
+ghost use Rattle.adf_file_words.specs.DiskLine.{volume};
 
 use crate::answering::{refuse, write_parts};
 use crate::list_input::{TABLES_LEN, blocks_of, write_fault};

@@ -2,15 +2,16 @@
 
 ghost use Rattle.std.specs.Prelude.{IfOk};
 ghost use Rattle.adf_disk_cmd.specs.Jobs.{Serves};
-ghost use Rattle.adf_words.specs.DiskLine.{disk_request_value};
+ghost use Rattle.adf_file_words.specs.DiskLine.{disk_request_value};
 
 use crate::building::build_disk;
 use crate::check_input::check_input;
 use crate::copy_input::copy_input;
 use crate::list_input::list_input;
 use crate::work::{MOST_DISK_BYTES, Work, sought_for};
-use adf_runs::{FileProgram, Outcome, Program, Sink, Source, WorkFault, read_input};
-use adf_words::{DISK_USAGE as USAGE, DiskRequest, disk_file, parse_disk};
+use adf_file_runs::FileProgram;
+use adf_file_words::{DISK_USAGE as USAGE, DiskRequest, disk_file, parse_disk};
+use adf_runs::{Outcome, Program, Sink, Source, WorkFault, read_input};
 use std::alloc::{AllocError, Global};
 
 /// What is done with an input.
@@ -90,7 +91,7 @@ impl Program for Job {
 }
 
 impl FileProgram for Job {
-    ghost use Rattle.adf_words.specs.DiskLine.{disk_file};
+    ghost use Rattle.adf_file_words.specs.DiskLine.{disk_file};
 
     ghost file_of = { disk_file };
 

@@ -4,7 +4,7 @@ ghost use Rattle.std.specs.Prelude.{◌≡◌, false, IfOk, option_copied};
 ghost use Rattle.adf_disk_cmd.specs.Answers.{OfDisk, OfFault, OfPartitions, volume_reply, wanted_of};
 ghost use Rattle.adf_disk_cmd.specs.Work.{Serves, sought_value};
 ghost use Rattle.adf_runs.specs.Outcomes.{EndsBy, is_read_fault, is_write_fault};
-ghost use Rattle.adf_words.specs.DiskLine.{DiskRequestValue, wanted_value};
+ghost use Rattle.adf_file_words.specs.DiskLine.{DiskRequestValue, wanted_value};
 
 use crate::answering::{refuse, write_text};
 use crate::checking::write_checks;
@@ -13,9 +13,9 @@ use crate::names::partition_called;
 use crate::surveying::write_readable;
 use crate::volumes::volume_at;
 use adf_base::BLOCK_LEN;
+use adf_file_words::Wanted;
 use adf_partitions::{Disk, DiskCause, DiskFault, Partition};
 use adf_runs::{Outcome, Sink};
-use adf_words::Wanted;
 use std::alloc::{AllocError, Global};
 
 /// The most bytes of a disk: 2^32 blocks.

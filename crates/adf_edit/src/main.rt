@@ -2,9 +2,8 @@
 #![tactic(auto)]
 
 use adf_edit_cmd::run;
-use adf_runs::{
-    About, Device, NamedErrors, Outcome, command_words, refuse_words, tell, telling_asked,
-};
+use adf_file_runs::{About, NamedErrors, tell, telling_asked};
+use adf_runs::{Device, Outcome, command_words, refuse_words};
 use std::alloc::AllocError;
 use std::process::ExitCode;
 

@@ -5,5 +5,3 @@ pub mod PendingText
 pub mod Endings
 pub mod WorkFaults
 pub mod CommandRuns
-pub mod AskedHelp
-pub mod FileRuns

@@ -1,9 +1,6 @@
--- All of it is the promise: what a command is, what devices and files tell, how a run ends, and what a program tells of itself.
-pub mod About
+-- All of it is the promise: what a command is, what devices tell, and how a run ends.
 pub mod Commands
 pub mod Devices
-pub mod Files
-pub mod FileRuns
 pub mod Streams
 pub mod Outcomes
 pub mod WorkFaults

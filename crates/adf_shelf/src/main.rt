@@ -8,10 +8,8 @@ mod raw_words;
 
 use crate::closed::{Errors, Output};
 use crate::raw_words::{names_among, raw_words, stand_ins};
-use adf_runs::{
-    About, Device, NamedErrors, Outcome, Sink, SystemFiles, command_words, refuse_words, tell,
-    telling_asked,
-};
+use adf_file_runs::{About, NamedErrors, SystemFiles, tell, telling_asked};
+use adf_runs::{Device, Outcome, Sink, command_words, refuse_words};
 use adf_shelf_cmd::{TextNames, parse, run};
 use std::cell::Cell;
 use std::io::BufReader;

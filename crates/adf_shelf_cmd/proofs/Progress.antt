@@ -7,8 +7,8 @@ use Rattle.std.proofs.lemmas.Grind.{common_steps}
 use Rattle.adf_runs.proofs.KnownBytes.{appends_two}
 use Rattle.adf_runs.proofs.PendingText.{appends_nil, part_behind, part_of_more}
 use Rattle.adf_runs.specs.Streams.{Says}
-use Rattle.adf_runs.specs.declared.files.Unopened.{Unopened}
-use Rattle.adf_runs.specs.Files.{why_line}
+use Rattle.adf_file_runs.specs.declared.files.Unopened.{Unopened}
+use Rattle.adf_file_runs.specs.Files.{why_line}
 use Rattle.adf_shelf_cmd.specs.Lines.{AreBatchLines, BreaksLine, IsOpenedReport, IsRunStatus, Reports, SaysMore, WritesLines, WritesPart, batch_line}
 use Rattle.adf_shelf_cmd.specs.Names.{AreGiven}
 

@@ -8,8 +8,8 @@ use Rattle.adf_cmd.specs.Answers.{Answer}
 use Rattle.adf_runs.specs.Commands.{on_output}
 use Rattle.adf_words.specs.CommandLine.{check}
 use Rattle.adf_runs.specs.Streams.{AppendsPart, Says}
-use Rattle.adf_runs.specs.Files.{why_line}
-use Rattle.adf_runs.specs.declared.files.Unopened.{Unopened}
+use Rattle.adf_file_runs.specs.Files.{why_line}
+use Rattle.adf_file_runs.specs.declared.files.Unopened.{Unopened}
 use Rattle.adf_shelf_cmd.specs.declared.report.Report.{Report}
 use Rattle.adf_shelf_cmd.specs.declared.report.Report.TheVariants.{Checked, NotOpened, ReadFault, NoMemory}
 use Rattle.adf_shelf_cmd.specs.declared.batch.Stop.{Stop}

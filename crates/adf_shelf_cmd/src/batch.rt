@@ -3,13 +3,14 @@
 ghost use Rattle.std.specs.Prelude.{◌≡◌, ℕ, List, Option, false, IfOk, OnErr};
 ghost use Rattle.std.specs.Io.KnownBytes.{Appends};
 ghost use Rattle.adf_runs.specs.Streams.{Says};
-ghost use Rattle.adf_runs.specs.declared.files.Unopened.{Unopened};
-ghost use Rattle.adf_runs.specs.Files.{why_line};
+ghost use Rattle.adf_file_runs.specs.declared.files.Unopened.{Unopened};
+ghost use Rattle.adf_file_runs.specs.Files.{why_line};
 ghost use Rattle.adf_shelf_cmd.specs.Lines.{BreaksLine, IsReportOf, IsRunStatus, SaysMore, WritesAll, WritesPart, is_names_stop, is_write_stop, batch_line, stop_line};
 
 use crate::names::Names;
 use crate::report::{check_file, push_line, push_why};
-use adf_runs::{Files, Sink, StreamFault, say, write_all};
+use adf_file_runs::Files;
+use adf_runs::{Sink, StreamFault, say, write_all};
 use std::alloc::Global;
 
 /// Why the work stopped before the last name.

@@ -2,10 +2,11 @@
 
 ghost use Rattle.std.specs.Prelude.{◌≡◌, ◌++◌, None, false, OnOk};
 ghost use Rattle.adf_shelf_cmd.specs.Lines.{IsOpenedReport, IsReport, IsRunStatus, is_unread, report_status, report_text, report_why, batch_line};
-ghost use Rattle.adf_runs.specs.Files.{why_line};
+ghost use Rattle.adf_file_runs.specs.Files.{why_line};
 
 use adf_cmd::{CheckAnswer, answer_to_input};
-use adf_runs::{Files, Source, StreamFault, Unopened};
+use adf_file_runs::{Files, Unopened};
+use adf_runs::{Source, StreamFault};
 use adf_texts::push_escaped;
 use std::alloc::{AllocError, Global};
 

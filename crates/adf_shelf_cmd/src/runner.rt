@@ -3,14 +3,16 @@
 ghost use Rattle.std.specs.Prelude.{◌≡◌, ◌≢◌, ◌≤◌, Bool, List, ℕ, [], codes, false};
 ghost use Rattle.adf_words.specs.CommandLine.{texts_of};
 ghost use Rattle.adf_runs.specs.Streams.{Says};
-ghost use Rattle.adf_words.specs.ShelfLine.{AsksShelf, AreRefusedByShelf};
+ghost use Rattle.adf_file_words.specs.ShelfLine.{AsksShelf, AreRefusedByShelf};
 ghost use Rattle.adf_shelf_cmd.specs.Lines.{Ends, IsReportOf, IsRunStatus};
 ghost use Rattle.adf_shelf_cmd.specs.Names.{are_unread, names_asked};
 
 use crate::batch::{Stop, say_more, write_verdicts};
 use crate::names::{Names, TextNames, WordNames};
-use adf_runs::{Files, Sink, say};
-use adf_words::{ArgsError, Order, SHELF_USAGE as USAGE, parse_shelf};
+use adf_file_runs::Files;
+use adf_file_words::{Order, SHELF_USAGE as USAGE, parse_shelf};
+use adf_runs::{Sink, say};
+use adf_words::ArgsError;
 use std::alloc::Global;
 use std::io::BufRead;
 

@@ -1,10 +1,8 @@
 //! Tells all that is wrong in an image of an Amiga floppy or hard disk, and reads files that are sound.
 #![tactic(auto)]
 
-use adf_runs::{
-    About, AnnouncedInput, Device, NamedErrors, Outcome, SystemFiles, command_words, refuse_words,
-    tell, telling_asked,
-};
+use adf_file_runs::{About, AnnouncedInput, NamedErrors, SystemFiles, tell, telling_asked};
+use adf_runs::{Device, Outcome, command_words, refuse_words};
 use adf_survey_cmd::run_files;
 use std::alloc::AllocError;
 use std::io::IsTerminal;

@@ -26,7 +26,7 @@ use Rattle.adf_rescue.proofs.MadeRoots.{sized as sized_len}
 use Rattle.adf_cmd.proofs.LongInputs.{long_fault, too_large}
 use Rattle.adf_survey_cmd.specs.Answers.{CopiesFound, CopiesFromSurvey, ListsSurvey, QuestionAnswer, SurveyAnswer, Surveys, TellsFound, told_status}
 use Rattle.adf_survey_cmd.specs.Subject.{IsTyped, OfTyped, SubjectValue, begun_subject, end_of, missing_text, sized, subject, told_text}
-use Rattle.adf_words.specs.SurveyLine.{AreFew, InquiryValue, QuestionValue, cat, list, report, rescue}
+use Rattle.adf_file_words.specs.SurveyLine.{AreFew, InquiryValue, QuestionValue, cat, list, report, rescue}
 use Rattle.adf_survey_cmd.specs.Lines.{findings_text, runs_from}
 use Rattle.adf_survey_cmd.specs.Rescues.{Rescues, RescuesBoth, RescuesFound, second_image}
 use Rattle.adf_survey_cmd.proofs.RescueAnswers.{none_hung}

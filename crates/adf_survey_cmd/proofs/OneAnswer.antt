@@ -19,7 +19,7 @@ use Rattle.adf_cmd.proofs.OneAnswer.{one_dates, refused_once}
 use Rattle.adf_survey_cmd.specs.Answers.{CopiesEntry, CopiesFound, CopiesFromSurvey, IsWholeFile, ListsSurvey, QuestionAnswer, RescuesTyped, SurveyAnswer, Surveys, TellsFound, told_status}
 use Rattle.adf_survey_cmd.specs.Subject.{IsTyped, OfTyped, SubjectValue, begun_subject, subject, typed_subject}
 use Rattle.adf_survey_cmd.specs.Rescues.{Rescues, RescuesBy, RescuesFound, RescuesIn, RescuesSome, rescue_text, second_image}
-use Rattle.adf_words.specs.SurveyLine.{AsksSurvey, InquiryValue, QuestionValue, cat, list, report, rescue}
+use Rattle.adf_file_words.specs.SurveyLine.{AsksSurvey, InquiryValue, QuestionValue, cat, list, report, rescue}
 use Rattle.adf_survey_cmd.specs.FoundLines.{listing_text}
 use Rattle.adf_survey_cmd.proofs.FoundTexts.{same_tests}
 

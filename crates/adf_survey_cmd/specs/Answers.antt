@@ -12,8 +12,8 @@ use Rattle.adf_base.specs.declared.dates.Stamp.{Stamp}
 use Rattle.adf_texts.specs.VolumeLines.{AreDates}
 use Rattle.adf_cmd.specs.Answers.{IsBadPath, RefusesPath}
 use Rattle.adf_runs.specs.Commands.{Command, Reply, on_errors, on_output}
-use Rattle.adf_runs.specs.FileRuns.{without_files}
-use Rattle.adf_words.specs.SurveyLine.{AreRefusedBySurvey, AsksSurvey, InquiryValue, QuestionValue, asked, cat, list, report, rescue, survey_file}
+use Rattle.adf_file_runs.specs.FileRuns.{without_files}
+use Rattle.adf_file_words.specs.SurveyLine.{AreRefusedBySurvey, AsksSurvey, InquiryValue, QuestionValue, asked, cat, list, report, rescue, survey_file}
 use Rattle.adf_survey_cmd.specs.FoundLines.{has_its_data, listing_text}
 use Rattle.adf_survey_cmd.specs.Remains.{WritesRemains}
 use Rattle.adf_survey_cmd.specs.Rescues.{Rescues}

@@ -1,7 +1,7 @@
 -- What is done for words, once they and their path are read.
 use Rattle.std.specs.Prelude.{◌≡◌, ℕ, List}
 use Rattle.adf_names.specs.PathTexts.{IsPathText}
-use Rattle.adf_words.specs.SurveyLine.{AreFew, InquiryValue, QuestionValue, cat, list, report, rescue}
+use Rattle.adf_file_words.specs.SurveyLine.{AreFew, InquiryValue, QuestionValue, cat, list, report, rescue}
 use Rattle.adf_survey_cmd.specs.declared.work.Task.{Task}
 use Rattle.adf_survey_cmd.specs.declared.work.Task.TheVariants.{Show, Rescue}
 use Rattle.adf_survey_cmd.specs.declared.work.View.{View}

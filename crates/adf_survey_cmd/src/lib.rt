@@ -16,4 +16,4 @@ pub use crate::runner::{one_answer, run, run_files};
 pub use crate::runs::{Run, run_from};
 pub use crate::subject::Subject;
 pub use crate::work::{Task, View, Work};
-pub use adf_words::{Inquiry, Question, parse_survey as parse, survey_words_as_documented};
+pub use adf_file_words::{Inquiry, Question, parse_survey as parse, survey_words_as_documented};

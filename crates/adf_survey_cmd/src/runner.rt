@@ -2,13 +2,14 @@
 
 ghost use Rattle.std.specs.Prelude.{◌≡◌, ℕ, List, Some, false, true};
 ghost use Rattle.adf_words.specs.CommandLine.{texts_of};
-ghost use Rattle.adf_words.specs.SurveyLine.{survey_file};
+ghost use Rattle.adf_file_words.specs.SurveyLine.{survey_file};
 ghost use Rattle.adf_runs.specs.Commands.{IsUnanswered, RunEnds, TakesEnough};
-ghost use Rattle.adf_runs.specs.FileRuns.{RunEndsOnFiles};
+ghost use Rattle.adf_file_runs.specs.FileRuns.{RunEndsOnFiles};
 ghost use Rattle.adf_survey_cmd.specs.Answers.{InquiriesHaveOneAnswer, WordsAskForOneInquiry, survey_command, survey_without_files};
 
 use crate::work::Work;
-use adf_runs::{Files, Sink, Source, WithoutFiles, run_program, run_program_on_files};
+use adf_file_runs::{Files, WithoutFiles, run_program_on_files};
+use adf_runs::{Sink, Source, run_program};
 use std::alloc::Global;
 
 /// Does what the words ask for, on the file that they name, or else on the input; the first word is the program's name. Returns

@@ -6,7 +6,7 @@ ghost use Rattle.adf_findings.specs.Survey.{OnSurvey};
 ghost use Rattle.adf_runs.specs.Outcomes.{EndsBy, is_read_fault, is_write_fault};
 ghost use Rattle.adf_runs.specs.WorkFaults.{IsNoWork};
 ghost use Rattle.adf_survey_cmd.specs.Answers.{HasBadSurveyPath, QuestionAnswer, RescuesTyped, SurveyAnswer};
-ghost use Rattle.adf_words.specs.SurveyLine.{InquiryValue, QuestionValue, question_value};
+ghost use Rattle.adf_file_words.specs.SurveyLine.{InquiryValue, QuestionValue, question_value};
 ghost use Rattle.adf_survey_cmd.specs.Subject.{IsTyped, SubjectValue, begun_subject, subject_value};
 ghost use Rattle.adf_survey_cmd.specs.Work.{Answers, Meets, Shows};
 
@@ -16,10 +16,11 @@ use crate::reporting::write_findings;
 use crate::rescuing::rescue_image;
 use crate::subject::Subject;
 use adf_cmd::MOST_IMAGE_BYTES;
+use adf_file_runs::FileProgram;
+use adf_file_words::{Question, SURVEY_USAGE as USAGE, parse_survey, survey_file};
 use adf_findings::{Survey, some_survey, survey};
-use adf_runs::{FileProgram, Outcome, Program, Sink, Source, WorkFault, read_input};
+use adf_runs::{Outcome, Program, Sink, Source, WorkFault, read_input};
 use adf_tree::{Name, read_path};
-use adf_words::{Question, SURVEY_USAGE as USAGE, parse_survey, survey_file};
 use std::alloc::Global;
 
 /// What is shown of the survey of an image.
@@ -212,7 +213,7 @@ impl Work {
 impl Program for Work {
     ghost use Rattle.std.proofs.Common.{inl, refl, rules};
     ghost use Rattle.adf_survey_cmd.specs.Answers.{survey_command};
-    ghost use Rattle.adf_words.specs.SurveyLine.{asked, cat};
+    ghost use Rattle.adf_file_words.specs.SurveyLine.{asked, cat};
 
     ghost command = { survey_command };
 
@@ -261,7 +262,7 @@ impl Program for Work {
 }
 
 impl FileProgram for Work {
-    ghost use Rattle.adf_words.specs.SurveyLine.{survey_file};
+    ghost use Rattle.adf_file_words.specs.SurveyLine.{survey_file};
 
     ghost file_of = { survey_file };
 

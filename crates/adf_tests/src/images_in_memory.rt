@@ -2,12 +2,12 @@
 // `short`, one byte. Their headers are blocks 2, 3 and 6, their data 4, 5 and 7.
 
 use crate::images::{Image, NOT_MOVED, built, with_bytes};
+use adf_file_runs::WithoutFiles;
 use adf_memory::{
     Contents, Date, FoundEntry, Moved, Surveyed, TableDisk, TableEntry, TableFinding,
     TablePartition, Verdict, cause_text, check_image, find_entry, owners_of, put_index, put_survey,
     read_bytes, run_in_memory,
 };
-use adf_runs::WithoutFiles;
 use std::alloc::Global;
 use std::mem::size_of;
 

@@ -1,31 +1,19 @@
 -- The command line of `adf`, as clap reads it, and the request that its matches name.
-use Rattle.std.specs.Prelude.{◌≡◌, ◌⊎◌, ℕ, List, [], Bool, true, false, Option, Some, None, codes, map, option_map, option_and_then, if◌then◌else◌}
+use Rattle.std.specs.Prelude.{◌≡◌, ◌⊎◌, ℕ, List, [], Bool, true, Option, Some, None, codes, map, option_map, option_and_then, if◌then◌else◌}
 use Rattle.std.specs.Borrow.{Bor}
 use Rattle.std.specs.Str.{bytes_eq}
 use Rattle.clap.specs.Words.{App, Row, Rule, Text, fault_of, first_of, new_app, new_rule, subcommand_of, with_rule, with_subcommand}
-use Rattle.clap.specs.declared.builder.action.ArgAction.TheVariants.{SetTrue}
 use Rattle.adf_names.specs.declared.kind.Kind.{Kind}
 use Rattle.adf_names.specs.Kinds.{kind_named}
+use Rattle.adf_words.specs.Arguments.{bare_app, cat_app, is_text, list_rule}
 use Rattle.adf_words.specs.declared.command_line.Request.{Request}
 use Rattle.adf_words.specs.declared.command_line.Request.TheVariants.{Check, List as ListAll, Cat, Build, Convert}
 use Rattle.adf_words.specs.declared.command_line.ArgsError.{ArgsError}
 use Rattle.adf_words.specs.declared.command_line.ArgsError.TheVariants.{NoMemory, Usage}
 
--- the argument PATH
-abbrev pub path_rule : Rule
-path_rule = record (new_rule (codes "path")) { required = true }
-
--- the flag --list
-abbrev pub list_rule : Rule
-list_rule = record (new_rule (codes "list")) { long = Some (codes "list"); action = Some SetTrue }
-
 -- the argument KIND
 abbrev pub kind_rule : Rule
 kind_rule = record (new_rule (codes "kind")) { required = true }
-
--- cat PATH
-abbrev pub cat_app : App
-cat_app = with_rule (new_app (codes "cat")) path_rule
 
 -- build [--list]
 abbrev pub build_app : App
@@ -34,10 +22,6 @@ build_app = with_rule (new_app (codes "build")) list_rule
 -- convert KIND
 abbrev pub convert_app : App
 convert_app = with_rule (new_app (codes "convert")) kind_rule
-
--- a program of this name, with no flag and no subcommand for help
-abbrev pub bare_app : Text → App
-bare_app name = record (new_app name) { top = record (new_app name).top { disable_help_flag = true; disable_help_subcommand = true } }
 
 -- one more subcommand, which has no argument
 abbrev pub with_plain : App → Text → App
@@ -58,11 +42,6 @@ pub data RequestValue : Type 0 where
   cat : Text → RequestValue
   build : Bool → RequestValue
   convert : Kind → RequestValue
-
--- the argument has this value
-abbrev pub is_text : Text → Option Text → Bool
-is_text t None = false
-is_text t (Some s) = bytes_eq s t
 
 -- the request that a subcommand's name and matches are
 abbrev pub request_named : Text → List Row → Option RequestValue

@@ -1,13 +1,14 @@
 // The arguments of `adf`, by clap.
 
 ghost use Rattle.std.specs.Prelude.{◌≡◌, IfOk, IfErr, false, true, ℕ, ◌==◌, List, [], ◌∷◌, codes, option_map};
-ghost use Rattle.clap.specs.Words.{app_of, first_of, found_of, rows_of, rule_of, subcommand_rows_of};
+ghost use Rattle.clap.specs.Words.{app_of, fault_of, found_of, rows_of, subcommand_of, subcommand_rows_of};
 ghost use Rattle.clap.specs.declared.builder.command.Command.TheViews.{out-Command};
-ghost use Rattle.adf_words.specs.CommandLine.{AsksFor, ExplainsArgs, AreRefused, adf_app, bare_app, request_value, build, build_app, cat, cat_app, check, convert, convert_app, is_text, list, list_rule, met, plain_app, request_named, texts_of, with_plain};
+ghost use Rattle.adf_words.specs.CommandLine.{AsksFor, ExplainsArgs, AreRefused, adf_app, request_value, build, build_app, cat, check, convert, convert_app, list, met, plain_app, request_named, texts_of, with_plain};
+ghost use Rattle.adf_words.specs.declared.command_line.ArgsError.TheVariants.{Usage};
 
+use crate::arguments::{bare_command, cat_command, first_text, has_flag, list_flag, matches_of};
 use adf_names::Kind;
-use clap::error::ErrorKind;
-use clap::{Arg, ArgAction, ArgMatches, Command};
+use clap::{Arg, ArgMatches, Command};
 use std::alloc::{AllocError, Global};
 use std::error::Error;
 use std::fmt;
@@ -53,25 +54,7 @@ impl fmt::Display for ArgsError {
 
 impl Error for ArgsError {}
 
-// The command `cat PATH`.
-pub(crate) fn cat_command<'a>(alloc: Global) -> Result<Command<'a>, AllocError>
-    ensures app { IfOk result (λ c. app_of c ≡ cat_app) }
-    ensures local { IfOk result (λ c. (out-Command c).has_globals ≡ false) }
-{
-    let path = Arg::new(alloc, "path").required(true);
-    Command::new(alloc, "cat").arg(path)
-}
-
-// The flag `--list`.
-pub(crate) fn list_flag<'a>(alloc: Global) -> Arg<'a>
-    ensures rule { rule_of result ≡ list_rule }
-    ensures local { result.global ≡ false }
-{
-    Arg::new(alloc, "list")
-        .long("list")
-        .action(ArgAction::SetTrue)
-}
-
+// The command `build [--list]`.
 fn build_command<'a>(alloc: Global) -> Result<Command<'a>, AllocError>
     ensures app { IfOk result (λ c. app_of c ≡ build_app) }
     ensures local { IfOk result (λ c. (out-Command c).has_globals ≡ false) }
@@ -79,6 +62,7 @@ fn build_command<'a>(alloc: Global) -> Result<Command<'a>, AllocError>
     Command::new(alloc, "build").arg(list_flag(alloc))
 }
 
+// The command `convert KIND`.
 fn convert_command<'a>(alloc: Global) -> Result<Command<'a>, AllocError>
     ensures app { IfOk result (λ c. app_of c ≡ convert_app) }
     ensures local { IfOk result (λ c. (out-Command c).has_globals ≡ false) }
@@ -87,17 +71,8 @@ fn convert_command<'a>(alloc: Global) -> Result<Command<'a>, AllocError>
     Command::new(alloc, "convert").arg(kind)
 }
 
-// A program of this name. Arguments for help are refused like others, so that clap lays out no text for them.
-pub(crate) fn bare_command<'a>(alloc: Global, name: &'a str) -> Command<'a>
-    ensures { app_of result ≡ bare_app name.entry.now }
-{
-    Command::new(alloc, name)
-        .disable_help_flag(true)
-        .disable_help_subcommand(true)
-}
-
 // The command line with one more subcommand, which has no argument.
-pub(crate) fn with_plain<'a>(
+fn with_plain<'a>(
     alloc: Global,
     command: Command<'a>,
     name: &'a str,
@@ -123,23 +98,6 @@ fn command<'a>(alloc: Global) -> Result<Command<'a>, AllocError>
         .subcommand(cat_command(alloc)?)?
         .subcommand(build_command(alloc)?)?
         .subcommand(convert_command(alloc)?)
-}
-
-// The first value of an argument.
-pub(crate) fn first_text<'a>(found: &ArgMatches<'a>, id: &str) -> Option<&'a str>
-    ensures { option_map (λ s. s.now) result ≡ first_of id.now (rows_of (found_of found.now)) }
-{
-    found.get_str(id)
-}
-
-// Whether a flag is among the matches.
-pub(crate) fn has_flag(found: &ArgMatches<'_>, id: &str) -> bool
-    ensures { result ≡ is_text (codes "true") (first_of id.now (rows_of (found_of found.now))) }
-{
-    match first_text(found, id) {
-        Some(text) => text == "true",
-        None => false,
-    }
 }
 
 // The request that a subcommand's name and matches are.
@@ -183,6 +141,20 @@ fn request_in<'a>(matches: &ArgMatches<'a>) -> Option<Request<'a>>
     }
 }
 
+// The matches of the arguments.
+fn adf_matches<'a>(alloc: Global, args: &'a [&str]) -> Result<ArgMatches<'a>, ArgsError>
+    ensures taken { IfOk result (λ _. fault_of adf_app (texts_of args.entry.now) ≡ []) }
+    ensures subcommand { IfOk result (λ matches.
+        subcommand_rows_of matches ≡ subcommand_of adf_app (texts_of args.entry.now)) }
+    ensures refused { IfErr result (λ fault. fault ≡ Usage
+        → ¬ (fault_of adf_app (texts_of args.entry.now) ≡ [])) }
+{
+    match command(alloc) {
+        Ok(adf) => matches_of(adf, args),
+        Err(_) => Err(ArgsError::NoMemory),
+    }
+}
+
 /// Reads the arguments; the first one is the program's name. `Usage` if and only if clap refuses them or its matches lack the
 /// command or its value; `NoMemory` if an allocation failed.
 pub fn parse<'a>(alloc: Global, args: &'a [&str]) -> Result<Request<'a>, ArgsError>
@@ -190,19 +162,12 @@ pub fn parse<'a>(alloc: Global, args: &'a [&str]) -> Result<Request<'a>, ArgsErr
         AsksFor (texts_of args.entry.now) (request_value request)) }
     ensures refused { IfErr result (λ fault. ExplainsArgs fault (texts_of args.entry.now)) }
 {
-    let adf = match command(alloc) {
-        Ok(adf) => adf,
-        Err(_) => return Err(ArgsError::NoMemory),
-    };
-    match adf.try_get_matches_from(args) {
+    match adf_matches(alloc, args) {
         Ok(matches) => match request_in(&matches) {
             Some(request) => Ok(request),
             None => Err(ArgsError::Usage),
         },
-        Err(error) => match error.kind() {
-            ErrorKind::OutOfMemory => Err(ArgsError::NoMemory),
-            _ => Err(ArgsError::Usage),
-        },
+        Err(error) => Err(error),
     }
 }
 

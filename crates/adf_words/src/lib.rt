@@ -1,21 +1,10 @@
-//! The arguments of the programs, read by clap.
+//! The arguments of `adf`, read by clap, and what all command lines share.
 #![tactic(auto)]
 
-mod boot_line;
+mod arguments;
 mod command_line;
-mod disk_line;
-mod file_argument;
-mod shelf_line;
-mod survey_line;
 
-pub use crate::boot_line::{
-    BOOT_USAGE, BootRequest, BootWords, boot_words_as_documented, parse_boot,
+pub use crate::arguments::{
+    bare_command, cat_command, first_text, has_flag, list_flag, matches_of,
 };
 pub use crate::command_line::{ArgsError, Request, USAGE, parse, words_as_documented};
-pub use crate::disk_line::{
-    DISK_USAGE, DiskRequest, Wanted, disk_file, disk_words_as_documented, parse_disk,
-};
-pub use crate::shelf_line::{Order, SHELF_USAGE, parse_shelf, shelf_words_as_documented};
-pub use crate::survey_line::{
-    Inquiry, Question, SURVEY_USAGE, parse_survey, survey_file, survey_words_as_documented,
-};

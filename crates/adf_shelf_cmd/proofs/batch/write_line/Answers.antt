@@ -1,5 +1,5 @@
 use Rattle.std.proofs.Common.{◌≡◌, rules, subst, sym}
-use Rattle.adf_runs.specs.Files.{why_line}
+use Rattle.adf_file_runs.specs.Files.{why_line}
 use Rattle.adf_shelf_cmd.specs.Lines.{IsReport, report_status, report_text, report_why, batch_line}
 use Rattle.adf_shelf_cmd.proofs.batch.write_line.Goals as goal
 

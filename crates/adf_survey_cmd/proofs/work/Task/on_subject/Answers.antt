@@ -1,6 +1,6 @@
 use Rattle.std.proofs.Common.{◌≡◌, subst, sym}
 use Rattle.adf_runs.proofs.Endings.{ends_weaker}
-use Rattle.adf_words.specs.SurveyLine.{rescue}
+use Rattle.adf_file_words.specs.SurveyLine.{rescue}
 use Rattle.adf_survey_cmd.specs.Answers.{QuestionAnswer, RescuesTyped}
 use Rattle.adf_survey_cmd.specs.Subject.{subject_value}
 use Rattle.adf_survey_cmd.specs.Work.{Answers}

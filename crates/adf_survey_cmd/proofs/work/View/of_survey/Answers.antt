@@ -1,6 +1,6 @@
 use Rattle.std.proofs.Common.{◌≡◌, inr, subst, sym}
 use Rattle.adf_runs.proofs.Endings.{ends_weaker}
-use Rattle.adf_words.specs.SurveyLine.{list, report}
+use Rattle.adf_file_words.specs.SurveyLine.{list, report}
 use Rattle.adf_survey_cmd.specs.Answers.{CopiesFound, QuestionAnswer, TellsFindings, TellsFound}
 use Rattle.adf_survey_cmd.specs.Subject.{IsTyped, begun_subject, surveyed_as}
 use Rattle.adf_survey_cmd.specs.Work.{Shows}

@@ -1,0 +1,2 @@
+pub mod AskedHelp
+pub mod FileRuns

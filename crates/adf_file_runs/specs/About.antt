@@ -1,0 +1,35 @@
+-- What a program tells of itself.
+use Rattle.std.specs.Prelude.{◌≡◌, ℕ, Bool, false, List, [], ◌∷◌, ◌++◌, Option, None, Some, codes, if◌then◌else◌}
+use Rattle.std.specs.Option.{option_or}
+use Rattle.std.specs.Str.{bytes_eq}
+use Rattle.adf_file_runs.specs.declared.about.About.{About}
+use Rattle.adf_file_runs.specs.declared.about.Telling.{Telling}
+use Rattle.adf_file_runs.specs.declared.about.Telling.TheVariants.{Help, Version}
+
+-- what a lone argument asks of the program itself
+abbrev pub telling_named : List ℕ → Option Telling
+telling_named word =
+    if bytes_eq word (codes "--help") then Some Help else (if bytes_eq word (codes "--version") then Some Version else None)
+
+-- whether an argument ends those that may ask something
+abbrev pub is_last : List ℕ → Bool
+is_last word = bytes_eq word (codes "--")
+
+-- what arguments ask of it: what the first of them asks that asks something, and stands before `--`
+unfoldable pub telling_among : List (List ℕ) → Option Telling
+telling_among [] = None
+telling_among (word ∷ words) = if is_last word then None else option_or (telling_named word) (telling_among words)
+
+-- what arguments ask of it, the first of which is its name
+abbrev pub telling_asked : List (List ℕ) → Option Telling
+telling_asked [] = None
+telling_asked (name ∷ words) = telling_among words
+
+-- an argument asks nothing, and is not `--`
+abbrev pub AsksNothing : List ℕ → Type 0
+AsksNothing word = (telling_named word ≡ None) × (is_last word ≡ false)
+
+-- the text that is told: the help, or the name and the version
+abbrev pub told_text : About → Telling → List ℕ
+told_text about Help = about.help.now
+told_text about Version = about.name.now ++ codes " 1.0\n"

@@ -1,0 +1,180 @@
+// Programs whose words may name a file, and runs of them.
+
+ghost use Rattle.std.specs.Prelude.{◌≡◌, ◌⊎◌, ◌++◌, ℕ, List, OnOk, Option, Some, false, true, IfErr, IfOk, codes, option_map};
+ghost use Rattle.adf_names.specs.Escapes.{escape_of, escaped};
+ghost use Rattle.adf_words.specs.CommandLine.{texts_of};
+ghost use Rattle.adf_runs.specs.Commands.{IsUnanswered, TakesEnough};
+ghost use Rattle.adf_file_runs.specs.FileRuns.{RunEndsOnFiles, refusal_text, unopened_line, without_files};
+ghost use Rattle.adf_runs.specs.Streams.{Says};
+ghost use Rattle.adf_runs.specs.WorkFaults.{IsNoWork};
+
+use crate::files::{Files, Unopened};
+use adf_names::{hex_digit, is_plain};
+use adf_runs::{Outcome, Program, Sink, Source, WorkFault, say};
+use std::alloc::{AllocError, Global};
+
+/// A program whose words may name a file, which is then its input.
+pub trait FileProgram: Program {
+    /// The file that words name; `None` for standard input.
+    ghost file_of: { List (List ℕ) → Option (List ℕ) };
+
+    /// The file that the words name, `None` for standard input; the first word is the program's name.
+    fn file_named<'a>(alloc: Global, words: &'a [&str]) -> Result<Option<&'a str>, WorkFault>
+        ensures ok { IfOk result (λ file.
+            option_map (λ s. s.now) file ≡ file_of (texts_of words.entry.now)) }
+        ensures fault { IfErr result (λ fault.
+            IsNoWork fault (Self.Program.command.refuses (texts_of words.entry.now)) ⊥) };
+}
+
+// What is said behind the name of a file that is not opened.
+fn refusal_text(why: Unopened) -> &'static str
+    ensures { result.now ≡ refusal_text why }
+{
+    match why {
+        Unopened::Other => ": cannot be opened\n",
+        _ => why.text(),
+    }
+}
+
+// Appends the escape form of a byte.
+fn push_escape(line: &mut Vec<u8>, c: u8) -> Result<(), AllocError>
+    ensures { OnOk result (line.new.items ≡ line.old.items ++ escape_of c) }
+{
+    if is_plain(c) {
+        line.push(c)?;
+        return Ok(());
+    }
+    line.extend_from_slice(&[b'\\', b'x', hex_digit(c / 16), hex_digit(c % 16)])
+}
+
+// Appends the escape form of bytes.
+fn push_escaped(line: &mut Vec<u8>, bytes: &[u8]) -> Result<(), AllocError>
+    ensures { OnOk result (line.new.items ≡ line.old.items ++ escaped bytes.now) }
+{
+    for c in bytes {
+        push_escape(line, *c)?;
+    }
+    Ok(())
+}
+
+// The line of a file that is not opened.
+fn unopened_line(alloc: Global, name: &str, why: Unopened) -> Result<Vec<u8>, AllocError>
+    ensures { IfOk result (λ line. line.items ≡ unopened_line name.now why) }
+{
+    let mut line = Vec::new(alloc);
+    push_escaped(&mut line, name.as_bytes())?;
+    line.extend_from_slice(refusal_text(why).as_bytes())?;
+    Ok(line)
+}
+
+/// Says on errors why a file is not opened, and returns the status.
+pub fn refuse_file<E: Sink>(alloc: Global, name: &str, why: Unopened, errors: &mut E) -> u8
+    requires { E.has_failed errors.old ≡ false }
+    ensures status { result ≡ 3 }
+    ensures said { Says (E.has_failed errors.new) (E.held errors.old) (E.held errors.new)
+        (unopened_line name.now why)
+        ⊎ Says (E.has_failed errors.new) (E.held errors.old) (E.held errors.new)
+        (codes "no memory\n") }
+{
+    match unopened_line(alloc, name, why) {
+        Ok(line) => say(errors, &line),
+        Err(_) => say(errors, b"no memory\n"),
+    }
+    3
+}
+
+/// Runs a program on the file that the words name, or else on the input, and returns its status. If the words are refused
+/// nothing is read or written; if they name a file, the input is not read. If the file cannot be opened, the status is 3, and
+/// errors get its name, escaped, and why.
+pub fn run_program_on_files<P: FileProgram, F: Files, R: Source, W: Sink, E: Sink>(
+    alloc: Global,
+    words: &[&str],
+    files: &F,
+    input: &mut R,
+    output: &mut W,
+    errors: &mut E,
+) -> u8
+    requires reads { R.has_failed input.old ≡ false }
+    requires writes { W.has_failed output.old ≡ false }
+    requires tells { E.has_failed errors.old ≡ false }
+    ensures ends { RunEndsOnFiles P.command P.file_of (texts_of words.now)
+        (R.left input.old) (R.has_failed input.new)
+        (F.bytes_of files.now) (F.may_fail files.now) (F.may_open files.now) result
+        (W.has_failed output.new) (W.held output.old) (W.held output.new)
+        (E.has_failed errors.new) (E.held errors.old) (E.held errors.new) }
+    ensures untouched { IsUnanswered P.command (texts_of words.now)
+        → (input.new ≡ input.old) × (output.new ≡ output.old) }
+    ensures unread { (name : List ℕ) → P.file_of (texts_of words.now) ≡ Some name
+        → input.new ≡ input.old }
+    ensures unwritten { R.has_failed input.new ≡ true → output.new ≡ output.old }
+    ensures at_most { TakesEnough P.command (texts_of words.now)
+        (R.left input.old) (R.left input.new) }
+{
+    let work = match P::of(alloc, words) {
+        Ok(work) => work,
+        Err(fault) => return fault.refuse(P::usage(), errors),
+    };
+    match P::file_named(alloc, words) {
+        Ok(None) => work.on_input(alloc, input, output).finish(errors),
+        Ok(Some(name)) => match files.open(name.as_bytes()) {
+            Ok(mut source) => work.on_input(alloc, &mut source, output).finish(errors),
+            Err(why) => refuse_file(alloc, name, why, errors),
+        },
+        Err(fault) => fault.refuse(P::usage(), errors),
+    }
+}
+
+/// A program without files: words that name one are refused.
+#[derive(Drop)]
+pub struct WithoutFiles<P> {
+    work: P,
+}
+
+impl<P: FileProgram> Program for WithoutFiles<P> {
+    ghost use Rattle.std.proofs.Common.{inl, inr};
+
+    ghost command = { without_files P.command P.file_of };
+
+    ghost serves = { λ program r. P.serves program.work r };
+
+    fn usage() -> &'static str {
+        P::usage()
+    }
+
+    fn of(alloc: Global, words: &[&str]) -> Result<WithoutFiles<P>, WorkFault> {
+        match P::file_named(alloc, words) {
+            Ok(None) => match P::of(alloc, words) {
+                Ok(work) => Ok(WithoutFiles { work }),
+                Err(fault) => Err(fault),
+            },
+            Ok(Some(_)) => Err(WorkFault::Usage),
+            Err(fault) => Err(fault),
+        }
+    }
+
+    fn limit(&self) -> usize {
+        self.work.limit()
+    }
+
+    fn on<W: Sink>(&self, alloc: Global, bytes: &[u8], output: &mut W) -> Outcome {
+        self.work.on(alloc, bytes, output)
+    }
+
+    fn on_input<R: Source, W: Sink>(
+        &self,
+        alloc: Global,
+        input: &mut R,
+        output: &mut W,
+    ) -> Outcome {
+        self.work.on_input(alloc, input, output)
+    }
+
+    ghost consistent = { record {
+      taken = λ words r asked refused. elim refused [
+        | inl by_words ↦ P.Program.consistent.taken words r asked.1 by_words
+        | inr named ↦ named asked.0
+      ];
+      unread = λ words bad.
+          let told = P.Program.consistent.unread words bad.1 in (told.0, (bad.0, told.1), told.2);
+    } };
+}

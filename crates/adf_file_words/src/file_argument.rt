@@ -1,0 +1,47 @@
+// The argument FILE, by clap.
+
+ghost use Rattle.std.specs.Prelude.{◌≡◌, IfOk, false, option_map};
+ghost use Rattle.clap.specs.Words.{app_of, found_of, rows_of, rule_of};
+ghost use Rattle.clap.specs.declared.builder.command.Command.TheViews.{out-Command};
+ghost use Rattle.adf_file_words.specs.FileArgument.{file_app, file_in, file_rule, with_file};
+
+use adf_words::first_text;
+use clap::{Arg, ArgMatches, Command};
+use std::alloc::{AllocError, Global};
+
+// The argument FILE.
+pub(crate) fn file_argument<'a>(alloc: Global) -> Arg<'a>
+    ensures rule { rule_of result ≡ file_rule }
+    ensures local { result.global ≡ false }
+{
+    Arg::new(alloc, "file")
+}
+
+// A command of this name, whose argument is FILE.
+pub(crate) fn file_command<'a>(alloc: Global, name: &'a str) -> Result<Command<'a>, AllocError>
+    ensures app { IfOk result (λ c. app_of c ≡ file_app name.entry.now) }
+    ensures local { IfOk result (λ c. (out-Command c).has_globals ≡ false) }
+{
+    Command::new(alloc, name).arg(file_argument(alloc))
+}
+
+// The command line with one more subcommand, whose argument is FILE.
+pub(crate) fn with_file<'a>(
+    alloc: Global,
+    command: Command<'a>,
+    name: &'a str,
+) -> Result<Command<'a>, AllocError>
+    ensures { IfOk result (λ c. app_of c ≡ with_file (app_of command.entry) name.entry.now) }
+{
+    command.subcommand(file_command(alloc, name)?)
+}
+
+// The file that matches name, if any.
+pub(crate) fn file_in<'a>(found: &ArgMatches<'a>) -> Option<&'a str>
+    ensures { option_map (λ s. s.now) result ≡ file_in (rows_of (found_of found.now)) }
+{
+    match first_text(found, "file") {
+        Some(text) if text != "-" => Some(text),
+        _ => None,
+    }
+}

@@ -1,0 +1,126 @@
+// The arguments of `adf-shelf`, by clap.
+
+ghost use Rattle.std.specs.Prelude.{◌≡◌, ◌==◌, IfOk, IfErr, ℕ, List, [], ◌∷◌, codes, false, option_map, true, unwrap_or};
+ghost use Rattle.clap.specs.Words.{all_of, app_of, fault_of, found_of, matches_of, rows_of};
+ghost use Rattle.adf_words.specs.CommandLine.{texts_of};
+ghost use Rattle.adf_words.specs.declared.command_line.ArgsError.TheVariants.{Usage};
+ghost use Rattle.adf_file_words.specs.ShelfLine.{AsksShelf, ExplainsShelfArgs, AreRefusedByShelf, order_in, shelf_app};
+
+use adf_words::{ArgsError, has_flag, matches_of};
+use clap::{Arg, ArgAction, ArgMatches, Command};
+use std::alloc::{AllocError, Global};
+use std::marker::Model;
+
+/// What is said of arguments that are refused.
+pub const SHELF_USAGE: &str = "usage: adf-shelf [--null] [FILE..]\n";
+
+/// What a command line asks for.
+#[derive(Drop)]
+pub struct Order<'a> {
+    /// Whether names that are read end in zero bytes.
+    pub null: bool,
+    /// The names; if there are none, they are read from the input.
+    pub files: Vec<&'a str>,
+}
+
+impl<'a> Model for Order<'a> {
+    ghost use Rattle.std.specs.Prelude.{Bool, List, ℕ};
+    ghost use Rattle.adf_words.specs.CommandLine.{texts_of};
+
+    ghost Value = { Bool × List (List ℕ) };
+
+    ghost view = { λ o. (o.null, texts_of o.files.items) };
+}
+
+// The command line. Arguments for help are refused like others, so that clap lays out no text for them.
+fn command<'a>(alloc: Global) -> Result<Command<'a>, AllocError>
+    ensures { IfOk result (λ c. app_of c ≡ shelf_app) }
+{
+    let null = Arg::new(alloc, "null")
+        .long("null")
+        .action(ArgAction::SetTrue);
+    let files = Arg::new(alloc, "files").action(ArgAction::Append);
+    let bare = Command::new(alloc, "adf-shelf").disable_help_flag(true);
+    bare.arg(null)?.arg(files)
+}
+
+// The values of an argument.
+fn all_texts<'m, 'a>(found: &'m ArgMatches<'a>, id: &str) -> Option<&'m [&'a str]>
+    ensures { option_map (λ s. texts_of s.now) result
+        ≡ all_of id.now (rows_of (found_of found.entry.now)) }
+{
+    found.get_raw(id)
+}
+
+// The names.
+fn names_in<'a>(alloc: Global, found: &ArgMatches<'a>) -> Result<Vec<&'a str>, AllocError>
+    ensures { IfOk result (λ names. texts_of names.items
+        ≡ unwrap_or (all_of (codes "files") (rows_of (found_of found.now))) []) }
+{
+    match all_texts(found, "files") {
+        Some(names) => Vec::from_slice(alloc, names),
+        None => Ok(Vec::new(alloc)),
+    }
+}
+
+// The order that the matches are.
+fn order_in<'a>(alloc: Global, found: &ArgMatches<'a>) -> Result<Order<'a>, AllocError>
+    ensures { IfOk result (λ order. order ≡ order_in (rows_of (found_of found.now))) }
+{
+    let files = names_in(alloc, found)?;
+    let null = has_flag(found, "null");
+    Ok(Order { null, files })
+}
+
+// The matches of the arguments.
+fn shelf_matches<'a>(alloc: Global, args: &'a [&str]) -> Result<ArgMatches<'a>, ArgsError>
+    ensures taken { IfOk result (λ _. fault_of shelf_app (texts_of args.entry.now) ≡ []) }
+    ensures rows { IfOk result (λ matches.
+        rows_of (found_of matches) ≡ matches_of shelf_app (texts_of args.entry.now)) }
+    ensures refused { IfErr result (λ fault. fault ≡ Usage
+        → ¬ (fault_of shelf_app (texts_of args.entry.now) ≡ [])) }
+{
+    match command(alloc) {
+        Ok(shelf) => matches_of(shelf, args),
+        Err(_) => Err(ArgsError::NoMemory),
+    }
+}
+
+/// Reads the arguments; the first one is the program's name. `Usage` if and only if clap refuses them, `NoMemory` if an
+/// allocation failed.
+pub fn parse_shelf<'a>(alloc: Global, args: &'a [&str]) -> Result<Order<'a>, ArgsError>
+    ensures ok { IfOk result (λ order. AsksShelf (texts_of args.entry.now) order) }
+    ensures refused { IfErr result (λ fault. ExplainsShelfArgs fault (texts_of args.entry.now)) }
+{
+    match shelf_matches(alloc, args) {
+        Ok(matches) => match order_in(alloc, &matches) {
+            Ok(order) => Ok(order),
+            Err(_) => Err(ArgsError::NoMemory),
+        },
+        Err(error) => Err(error),
+    }
+}
+
+/// The arguments of the documentation are taken with the order that they are, and other arguments are refused,
+/// calls for help among them.
+#[tactic(auto, unfolding(clap::proofs::OnLiterals::clap_on_literals))]
+pub fn shelf_words_as_documented()
+    ensures none { AsksShelf (codes "adf-shelf" ∷ []) (false, []) }
+    ensures null { AsksShelf (codes "adf-shelf" ∷ codes "--null" ∷ []) (true, []) }
+    ensures file { (first : ℕ) (rest : List ℕ) → (first == 45) ≡ false
+        → AsksShelf (codes "adf-shelf" ∷ (first ∷ rest) ∷ []) (false, (first ∷ rest) ∷ []) }
+    ensures files { (first : ℕ) (rest : List ℕ) → (first == 45) ≡ false
+        → AsksShelf (codes "adf-shelf" ∷ codes "a.adf" ∷ (first ∷ rest) ∷ [])
+        (false, codes "a.adf" ∷ (first ∷ rest) ∷ []) }
+    ensures null_file { AsksShelf (codes "adf-shelf" ∷ codes "--null" ∷ codes "a.adf" ∷ [])
+        (true, codes "a.adf" ∷ []) }
+    ensures any_files { (one two : List ℕ)
+        → AsksShelf (codes "adf-shelf" ∷ codes "--" ∷ one ∷ two ∷ []) (false, one ∷ two ∷ []) }
+    ensures no_args { AsksShelf [] (false, []) }
+    ensures dash { AreRefusedByShelf (codes "adf-shelf" ∷ codes "-x" ∷ []) }
+    ensures null_twice { AreRefusedByShelf
+        (codes "adf-shelf" ∷ codes "--null" ∷ codes "--null" ∷ []) }
+    ensures help { AreRefusedByShelf (codes "adf-shelf" ∷ codes "--help" ∷ []) }
+    ensures help_letter { AreRefusedByShelf (codes "adf-shelf" ∷ codes "-h" ∷ []) }
+    ensures version { AreRefusedByShelf (codes "adf-shelf" ∷ codes "--version" ∷ []) }
+{}

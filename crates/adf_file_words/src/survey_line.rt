@@ -1,0 +1,311 @@
+// The arguments of `adf-survey`, by clap.
+
+ghost use Rattle.std.specs.Prelude.{◌≡◌, ◌==◌, IfOk, IfErr, IfSome, ℕ, List, [], ◌∷◌, Some, None, codes, false, true, option_map};
+ghost use Rattle.clap.specs.Words.{app_of, fault_of, found_of, matches_of, rows_of, subcommand_of, subcommand_rows_of};
+ghost use Rattle.clap.specs.declared.builder.command.Command.TheViews.{out-Command};
+ghost use Rattle.adf_words.specs.CommandLine.{texts_of};
+ghost use Rattle.adf_words.specs.declared.command_line.ArgsError.TheVariants.{Usage};
+ghost use Rattle.adf_file_words.specs.FileArgument.{file_meant};
+ghost use Rattle.adf_file_words.specs.SurveyLine.{AreFew, AsksSurvey, AsksSurveyOf, AreRefusedBySurvey, ExplainsSurveyArgs, blocks_met, number_named, asked, cat, flagged_survey, list, inquiry_met, inquiry_value, question_met, question_named, question_value, report, rescue, survey_app, survey_cat_app, survey_file, survey_file_met};
+
+use crate::file_argument::{file_argument, file_in, with_file};
+use adf_blocks::MOST_BLOCKS;
+use adf_words::{
+    ArgsError, bare_command, cat_command, first_text, has_flag, list_flag, matches_of,
+};
+use clap::{Arg, ArgAction, ArgMatches, Command};
+use std::alloc::{AllocError, Global};
+
+/// What is said of arguments that are refused.
+pub const SURVEY_USAGE: &str =
+    "usage: adf-survey [--blocks N] [--list] [FILE]\n       adf-survey [--blocks N] cat [--damaged] PATH [FILE]\n\
+    \x20      adf-survey [--blocks N] rescue [FILE]\n\
+    without a FILE the image comes on standard input; man adf-survey tells more\n";
+
+/// What is asked of an image.
+#[derive(Clone, Copy, Debug)]
+pub enum Question<'a> {
+    /// All findings.
+    Report,
+    /// All findings, and what is found.
+    List,
+    /// The bytes of a file by the text of its path: of a sound one, or of one that may be damaged.
+    Cat { path: &'a str, damaged: bool },
+    /// A new volume of all that stands.
+    Rescue,
+}
+
+/// What a command line asks for.
+#[derive(Clone, Copy, Debug)]
+pub struct Inquiry<'a> {
+    /// As if the image had so many blocks, at most those of the largest volume; `None`: as it is.
+    pub blocks: Option<u32>,
+    pub question: Question<'a>,
+}
+
+// The command line without its subcommands.
+fn flagged<'a>(alloc: Global) -> Result<Command<'a>, AllocError>
+    ensures { IfOk result (λ c. app_of c ≡ flagged_survey) }
+{
+    let blocks = Arg::new(alloc, "blocks").long("blocks");
+    bare_command(alloc, "adf-survey")
+        .arg(blocks)?
+        .arg(list_flag(alloc))?
+        .arg(file_argument(alloc))
+}
+
+// The command `cat [--damaged] PATH [FILE]`.
+fn survey_cat_command<'a>(alloc: Global) -> Result<Command<'a>, AllocError>
+    ensures app { IfOk result (λ c. app_of c ≡ survey_cat_app) }
+    ensures local { IfOk result (λ c. (out-Command c).has_globals ≡ false) }
+{
+    let damaged = Arg::new(alloc, "damaged")
+        .long("damaged")
+        .action(ArgAction::SetTrue);
+    cat_command(alloc)?.arg(damaged)?.arg(file_argument(alloc))
+}
+
+// The command line.
+fn command<'a>(alloc: Global) -> Result<Command<'a>, AllocError>
+    ensures { IfOk result (λ c. app_of c ≡ survey_app) }
+{
+    let cats = flagged(alloc)?.subcommand(survey_cat_command(alloc)?)?;
+    with_file(alloc, cats, "rescue")
+}
+
+// The number that a text is: decimal digits, up to the blocks of the largest volume.
+pub(crate) fn number_named(text: &str) -> Option<u32>
+    ensures named { result ≡ number_named text.now }
+    ensures few { AreFew result }
+{
+    let bytes = text.as_bytes();
+    if bytes.is_empty() || bytes[0] == b'+' {
+        return None;
+    }
+    match text.parse::<u32>() {
+        Ok(blocks) if blocks <= MOST_BLOCKS => Some(blocks),
+        _ => None,
+    }
+}
+
+// The blocks that the matches name, if any.
+fn blocks_in(matches: &ArgMatches<'_>) -> Option<Option<u32>>
+    ensures met { result ≡ blocks_met (rows_of (found_of matches.now)) }
+    ensures few { IfSome result AreFew }
+{
+    match first_text(matches, "blocks") {
+        Some(text) => match number_named(text) {
+            Some(blocks) => Some(Some(blocks)),
+            None => None,
+        },
+        None => Some(None),
+    }
+}
+
+// What a subcommand's name and matches ask.
+fn question_named<'a>(name: &str, found: &ArgMatches<'a>) -> Option<Question<'a>>
+    ensures { option_map question_value result
+        ≡ question_named name.now (rows_of (found_of found.now)) }
+{
+    if name == "cat" {
+        match first_text(found, "path") {
+            Some(path) => Some(Question::Cat {
+                path,
+                damaged: has_flag(found, "damaged"),
+            }),
+            None => None,
+        }
+    } else if name == "rescue" {
+        Some(Question::Rescue)
+    } else {
+        None
+    }
+}
+
+// What the matches ask.
+fn question_in<'a>(matches: &ArgMatches<'a>) -> Option<Question<'a>>
+    ensures { option_map question_value result
+        ≡ question_met (rows_of (found_of matches.now)) (subcommand_rows_of matches.now) }
+{
+    let list = has_flag(matches, "list");
+    let excludes = list || first_text(matches, "file").is_some();
+    match matches.subcommand() {
+        Some(_) if excludes => None,
+        Some((name, found)) => question_named(name, found),
+        None if list => Some(Question::List),
+        None => Some(Question::Report),
+    }
+}
+
+// What the matches ask for.
+fn inquiry_in<'a>(matches: &ArgMatches<'a>) -> Option<Inquiry<'a>>
+    ensures met { option_map inquiry_value result
+        ≡ inquiry_met (rows_of (found_of matches.now)) (subcommand_rows_of matches.now) }
+    ensures few { IfSome result (λ inquiry. AreFew inquiry.blocks) }
+{
+    match (blocks_in(matches), question_in(matches)) {
+        (Some(blocks), Some(question)) => Some(Inquiry { blocks, question }),
+        _ => None,
+    }
+}
+
+// The file that the matches name, if any.
+fn file_met<'a>(matches: &ArgMatches<'a>) -> Option<&'a str>
+    ensures { option_map (λ s. s.now) result
+        ≡ survey_file_met (rows_of (found_of matches.now)) (subcommand_rows_of matches.now) }
+{
+    match matches.subcommand() {
+        Some((_, found)) => file_in(found),
+        None => file_in(matches),
+    }
+}
+
+// The matches of the arguments.
+fn survey_matches<'a>(alloc: Global, args: &'a [&str]) -> Result<ArgMatches<'a>, ArgsError>
+    ensures taken { IfOk result (λ _. fault_of survey_app (texts_of args.entry.now) ≡ []) }
+    ensures rows { IfOk result (λ matches.
+        rows_of (found_of matches) ≡ matches_of survey_app (texts_of args.entry.now)) }
+    ensures subcommand { IfOk result (λ matches.
+        subcommand_rows_of matches ≡ subcommand_of survey_app (texts_of args.entry.now)) }
+    ensures refused { IfErr result (λ fault. fault ≡ Usage
+        → ¬ (fault_of survey_app (texts_of args.entry.now) ≡ [])) }
+{
+    match command(alloc) {
+        Ok(survey) => matches_of(survey, args),
+        Err(_) => Err(ArgsError::NoMemory),
+    }
+}
+
+/// Reads the arguments; the first one is the program's name. `Usage` if and only if clap refuses them or its matches lack the
+/// path, have `--list` or a file before a command, or have no number of blocks; `NoMemory` if an allocation failed.
+pub fn parse_survey<'a>(alloc: Global, args: &'a [&str]) -> Result<Inquiry<'a>, ArgsError>
+    ensures ok { IfOk result (λ inquiry.
+        AsksSurvey (texts_of args.entry.now) (inquiry_value inquiry)) }
+    ensures few { IfOk result (λ inquiry. AreFew inquiry.blocks) }
+    ensures refused { IfErr result (λ fault. ExplainsSurveyArgs fault (texts_of args.entry.now)) }
+{
+    match survey_matches(alloc, args) {
+        Ok(matches) => match inquiry_in(&matches) {
+            Some(inquiry) => Ok(inquiry),
+            None => Err(ArgsError::Usage),
+        },
+        Err(error) => Err(error),
+    }
+}
+
+/// The file that the arguments name, `None` if they name none or `-`, which is standard input. `Usage` if and only if clap
+/// refuses them, `NoMemory` if an allocation failed.
+pub fn survey_file<'a>(alloc: Global, args: &'a [&str]) -> Result<Option<&'a str>, ArgsError>
+    ensures ok { IfOk result (λ file.
+        option_map (λ s. s.now) file ≡ survey_file (texts_of args.entry.now)) }
+    ensures refused { IfErr result (λ fault. ExplainsSurveyArgs fault (texts_of args.entry.now)) }
+{
+    match survey_matches(alloc, args) {
+        Ok(matches) => Ok(file_met(&matches)),
+        Err(error) => Err(error),
+    }
+}
+
+/// The arguments of the documentation are taken with what they ask for and the file that they name, and other
+/// arguments are refused, calls for help among them.
+#[tactic(auto, unfolding(clap::proofs::OnLiterals::clap_on_literals))]
+pub fn survey_words_as_documented()
+    ensures report { AsksSurveyOf (codes "adf-survey" ∷ []) (asked None report) None }
+    ensures no_args { AsksSurveyOf [] (asked None report) None }
+    ensures list { AsksSurveyOf (codes "adf-survey" ∷ codes "--list" ∷ []) (asked None list) None }
+    ensures cat { (first : ℕ) (rest : List ℕ) → (first == 45) ≡ false
+        → AsksSurveyOf (codes "adf-survey" ∷ codes "cat" ∷ (first ∷ rest) ∷ [])
+        (asked None (cat false (first ∷ rest))) None }
+    ensures cat_any { (path : List ℕ)
+        → AsksSurveyOf (codes "adf-survey" ∷ codes "cat" ∷ codes "--" ∷ path ∷ [])
+        (asked None (cat false path)) None }
+    ensures damaged { (first : ℕ) (rest : List ℕ) → (first == 45) ≡ false
+        → AsksSurveyOf (codes "adf-survey" ∷ codes "cat" ∷ codes "--damaged" ∷ (first ∷ rest) ∷ [])
+        (asked None (cat true (first ∷ rest))) None }
+    ensures damaged_behind { (first : ℕ) (rest : List ℕ) → (first == 45) ≡ false
+        → AsksSurveyOf (codes "adf-survey" ∷ codes "cat" ∷ (first ∷ rest) ∷ codes "--damaged" ∷ [])
+        (asked None (cat true (first ∷ rest))) None }
+    ensures damaged_any { (path : List ℕ) → AsksSurveyOf
+        (codes "adf-survey" ∷ codes "cat" ∷ codes "--damaged" ∷ codes "--" ∷ path ∷ [])
+        (asked None (cat true path)) None }
+    ensures rescue { AsksSurveyOf (codes "adf-survey" ∷ codes "rescue" ∷ []) (asked None rescue) None }
+    ensures blocks { AsksSurveyOf (codes "adf-survey" ∷ codes "--blocks" ∷ codes "1760" ∷ [])
+        (asked (Some 1760) report) None }
+    ensures blocks_list { AsksSurveyOf
+        (codes "adf-survey" ∷ codes "--blocks" ∷ codes "1760" ∷ codes "--list" ∷ [])
+        (asked (Some 1760) list) None }
+    ensures blocks_cat { (path : List ℕ) → AsksSurveyOf
+        (codes "adf-survey" ∷ codes "--blocks" ∷ codes "1760" ∷ codes "cat" ∷ codes "--" ∷ path ∷ [])
+        (asked (Some 1760) (cat false path)) None }
+    ensures blocks_rescue { AsksSurveyOf
+        (codes "adf-survey" ∷ codes "--blocks" ∷ codes "1760" ∷ codes "rescue" ∷ [])
+        (asked (Some 1760) rescue) None }
+    ensures most_blocks { AsksSurveyOf (codes "adf-survey" ∷ codes "--blocks" ∷ codes "1048576" ∷ [])
+        (asked (Some 1048576) report) None }
+    ensures file { AsksSurveyOf (codes "adf-survey" ∷ codes "a.adf" ∷ [])
+        (asked None report) (Some (codes "a.adf")) }
+    ensures input { AsksSurveyOf (codes "adf-survey" ∷ codes "-" ∷ []) (asked None report) None }
+    ensures any_file { (file : List ℕ) → AsksSurveyOf (codes "adf-survey" ∷ codes "--" ∷ file ∷ [])
+        (asked None report) (file_meant file) }
+    ensures file_named_so { AsksSurveyOf (codes "adf-survey" ∷ codes "./cat" ∷ [])
+        (asked None report) (Some (codes "./cat")) }
+    ensures list_file { AsksSurveyOf (codes "adf-survey" ∷ codes "--list" ∷ codes "a.adf" ∷ [])
+        (asked None list) (Some (codes "a.adf")) }
+    ensures blocks_file { AsksSurveyOf
+        (codes "adf-survey" ∷ codes "--blocks" ∷ codes "1760" ∷ codes "a.adf" ∷ [])
+        (asked (Some 1760) report) (Some (codes "a.adf")) }
+    ensures cat_file { (path file : List ℕ) → AsksSurveyOf
+        (codes "adf-survey" ∷ codes "cat" ∷ codes "--" ∷ path ∷ file ∷ [])
+        (asked None (cat false path)) (file_meant file) }
+    ensures cat_plain_file { AsksSurveyOf
+        (codes "adf-survey" ∷ codes "cat" ∷ codes "c/readme" ∷ codes "a.adf" ∷ [])
+        (asked None (cat false (codes "c/readme"))) (Some (codes "a.adf")) }
+    ensures cat_input { AsksSurveyOf
+        (codes "adf-survey" ∷ codes "cat" ∷ codes "c/readme" ∷ codes "-" ∷ [])
+        (asked None (cat false (codes "c/readme"))) None }
+    ensures damaged_file { AsksSurveyOf
+        (codes "adf-survey" ∷ codes "cat" ∷ codes "--damaged" ∷ codes "a" ∷ codes "a.adf" ∷ [])
+        (asked None (cat true (codes "a"))) (Some (codes "a.adf")) }
+    ensures rescue_file { AsksSurveyOf (codes "adf-survey" ∷ codes "rescue" ∷ codes "a.adf" ∷ [])
+        (asked None rescue) (Some (codes "a.adf")) }
+    ensures rescue_any { (file : List ℕ) → AsksSurveyOf
+        (codes "adf-survey" ∷ codes "rescue" ∷ codes "--" ∷ file ∷ [])
+        (asked None rescue) (file_meant file) }
+    ensures too_many { AreRefusedBySurvey
+        (codes "adf-survey" ∷ codes "--blocks" ∷ codes "1048577" ∷ []) }
+    ensures no_number { AreRefusedBySurvey (codes "adf-survey" ∷ codes "--blocks" ∷ []) }
+    ensures bad_number { AreRefusedBySurvey
+        (codes "adf-survey" ∷ codes "--blocks" ∷ codes "+4" ∷ []) }
+    ensures no_path { AreRefusedBySurvey (codes "adf-survey" ∷ codes "cat" ∷ []) }
+    ensures dash { AreRefusedBySurvey (codes "adf-survey" ∷ codes "cat" ∷ codes "-x" ∷ []) }
+    ensures two_files { AreRefusedBySurvey
+        (codes "adf-survey" ∷ codes "cat" ∷ codes "a" ∷ codes "b" ∷ codes "c" ∷ []) }
+    ensures three_files { AreRefusedBySurvey (codes "adf-survey" ∷ codes "a" ∷ codes "b" ∷ []) }
+    ensures file_cat { AreRefusedBySurvey
+        (codes "adf-survey" ∷ codes "a.adf" ∷ codes "cat" ∷ codes "a" ∷ []) }
+    ensures file_rescue { AreRefusedBySurvey
+        (codes "adf-survey" ∷ codes "-" ∷ codes "rescue" ∷ []) }
+    ensures list_twice { AreRefusedBySurvey
+        (codes "adf-survey" ∷ codes "--list" ∷ codes "--list" ∷ []) }
+    ensures list_cat { AreRefusedBySurvey
+        (codes "adf-survey" ∷ codes "--list" ∷ codes "cat" ∷ codes "a" ∷ []) }
+    ensures list_rescue { AreRefusedBySurvey
+        (codes "adf-survey" ∷ codes "--list" ∷ codes "rescue" ∷ []) }
+    ensures rescue_two { AreRefusedBySurvey
+        (codes "adf-survey" ∷ codes "rescue" ∷ codes "a" ∷ codes "b" ∷ []) }
+    ensures cat_list { AreRefusedBySurvey
+        (codes "adf-survey" ∷ codes "cat" ∷ codes "a" ∷ codes "--list" ∷ []) }
+    ensures damaged_cat { AreRefusedBySurvey
+        (codes "adf-survey" ∷ codes "--damaged" ∷ codes "cat" ∷ codes "a" ∷ []) }
+    ensures damaged_alone { AreRefusedBySurvey (codes "adf-survey" ∷ codes "--damaged" ∷ []) }
+    ensures damaged_rescue { AreRefusedBySurvey
+        (codes "adf-survey" ∷ codes "rescue" ∷ codes "--damaged" ∷ []) }
+    ensures damaged_no_path { AreRefusedBySurvey
+        (codes "adf-survey" ∷ codes "cat" ∷ codes "--damaged" ∷ []) }
+    ensures damaged_twice { AreRefusedBySurvey
+        (codes "adf-survey" ∷ codes "cat" ∷ codes "--damaged" ∷ codes "--damaged" ∷ codes "a" ∷ []) }
+    ensures short_list { AreRefusedBySurvey (codes "adf-survey" ∷ codes "-l" ∷ []) }
+    ensures flag { AreRefusedBySurvey (codes "adf-survey" ∷ codes "-x" ∷ []) }
+    ensures help { AreRefusedBySurvey (codes "adf-survey" ∷ codes "--help" ∷ []) }
+    ensures version { AreRefusedBySurvey (codes "adf-survey" ∷ codes "--version" ∷ []) }
+{}

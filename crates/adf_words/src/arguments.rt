@@ -1,0 +1,75 @@
+// What the command lines of the programs share, by clap.
+
+ghost use Rattle.std.specs.Prelude.{◌≡◌, [], IfErr, IfOk, codes, false, option_map, true};
+ghost use Rattle.clap.specs.Words.{HasMatchesOf, app_of, fault_of, first_of, found_of, is_simple_and_free, rows_of, rule_of};
+ghost use Rattle.clap.specs.declared.builder.command.Command.TheViews.{out-Command};
+ghost use Rattle.adf_words.specs.Arguments.{bare_app, cat_app, is_text, list_rule};
+ghost use Rattle.adf_words.specs.CommandLine.{texts_of};
+ghost use Rattle.adf_words.specs.declared.command_line.ArgsError.TheVariants.{Usage};
+
+use crate::command_line::ArgsError;
+use clap::error::ErrorKind;
+use clap::{Arg, ArgAction, ArgMatches, Command};
+use std::alloc::{AllocError, Global};
+
+/// A program of this name. Arguments for help are refused like others, so that clap lays out no text for them.
+pub fn bare_command<'a>(alloc: Global, name: &'a str) -> Command<'a>
+    ensures { app_of result ≡ bare_app name.entry.now }
+{
+    Command::new(alloc, name)
+        .disable_help_flag(true)
+        .disable_help_subcommand(true)
+}
+
+/// The command `cat PATH`. Fails if an allocation failed.
+pub fn cat_command<'a>(alloc: Global) -> Result<Command<'a>, AllocError>
+    ensures app { IfOk result (λ c. app_of c ≡ cat_app) }
+    ensures local { IfOk result (λ c. (out-Command c).has_globals ≡ false) }
+{
+    let path = Arg::new(alloc, "path").required(true);
+    Command::new(alloc, "cat").arg(path)
+}
+
+/// The flag `--list`.
+pub fn list_flag<'a>(alloc: Global) -> Arg<'a>
+    ensures rule { rule_of result ≡ list_rule }
+    ensures local { result.global ≡ false }
+{
+    Arg::new(alloc, "list")
+        .long("list")
+        .action(ArgAction::SetTrue)
+}
+
+/// The matches of the arguments. `Usage` if and only if clap refuses them, `NoMemory` if an allocation failed.
+pub fn matches_of<'a>(command: Command<'a>, args: &'a [&str]) -> Result<ArgMatches<'a>, ArgsError>
+    requires free { is_simple_and_free (app_of command) ≡ true }
+    ensures matches { IfOk result (HasMatchesOf (app_of command.entry) (texts_of args.entry.now)) }
+    ensures taken { IfOk result (λ _. fault_of (app_of command.entry) (texts_of args.entry.now) ≡ []) }
+    ensures refused { IfErr result (λ fault. fault ≡ Usage
+        → ¬ (fault_of (app_of command.entry) (texts_of args.entry.now) ≡ [])) }
+{
+    match command.try_get_matches_from(args) {
+        Ok(matches) => Ok(matches),
+        Err(error) => match error.kind() {
+            ErrorKind::OutOfMemory => Err(ArgsError::NoMemory),
+            _ => Err(ArgsError::Usage),
+        },
+    }
+}
+
+/// The first value of an argument.
+pub fn first_text<'a>(found: &ArgMatches<'a>, id: &str) -> Option<&'a str>
+    ensures { option_map (λ s. s.now) result ≡ first_of id.now (rows_of (found_of found.now)) }
+{
+    found.get_str(id)
+}
+
+/// Whether a flag is among the matches.
+pub fn has_flag(found: &ArgMatches<'_>, id: &str) -> bool
+    ensures { result ≡ is_text (codes "true") (first_of id.now (rows_of (found_of found.now))) }
+{
+    match first_text(found, id) {
+        Some(text) => text == "true",
+        None => false,
+    }
+}
