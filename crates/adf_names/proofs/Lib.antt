@@ -4,3 +4,5 @@ pub mod Positions
 pub mod EqualNames
 pub mod Spellings
 pub mod PathParts
+pub mod SomeSpellings
+pub mod SomePaths

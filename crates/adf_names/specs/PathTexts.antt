@@ -1,5 +1,5 @@
 -- The texts of paths.
-use Rattle.std.specs.Prelude.{◌≡◌, ◌==◌, ℕ, ◌<◌, List, [], ◌∷◌, ◌++◌, Bool, if◌then◌else◌, map, true, All}
+use Rattle.std.specs.Prelude.{◌≡◌, ◌==◌, ℕ, ◌<◌, ◌⊎◌, List, [], ◌∷◌, ◌++◌, Bool, if◌then◌else◌, map, true, All}
 use Rattle.std.specs.List.{join_with_byte, slice_split}
 use Rattle.adf_names.specs.Escapes.{escaped}
 use Rattle.adf_names.specs.Texts.{is_name}
@@ -29,3 +29,7 @@ pub record IsPathText (text : List ℕ) (path : List (List ℕ)) : Type 0 where
 -- a text is that of at most one path
 abbrev pub PathTextsDecide : Type 0
 PathTextsDecide = (text : List ℕ) (path other : List (List ℕ)) → IsPathText text path → IsPathText text other → path ≡ other
+
+-- a text is that of a path, or of none
+abbrev pub HasPathOrNone : List ℕ → Type 0
+HasPathOrNone text = ((path : List (List ℕ)) × IsPathText text path) ⊎ ((path : List (List ℕ)) → ¬ IsPathText text path)

@@ -12,5 +12,5 @@ pub use crate::escapes::{digit_value, hex_digit, is_plain, spellings_decide};
 pub use crate::kind::Kind;
 pub use crate::meta::{Meta, NO_STAMPS, Stamps};
 pub use crate::name::Name;
-pub use crate::path_texts::{PathFault, path_texts_decide, read_path, write_path};
+pub use crate::path_texts::{PathFault, path_or_none, path_texts_decide, read_path, write_path};
 pub use crate::short_text::{Comment, Label, ShortText};

@@ -5,7 +5,7 @@ ghost use Rattle.std.specs.Bool.{OnTrue, OnFalse};
 ghost use Rattle.std.specs.String.{string_bytes};
 ghost use Rattle.adf_names.specs.Escapes.{escaped};
 ghost use Rattle.adf_names.specs.PathFaults.{path_fault_number};
-ghost use Rattle.adf_names.specs.PathTexts.{between_slashes, path_text, with_name, IsName, IsPathText, PathTextsDecide};
+ghost use Rattle.adf_names.specs.PathTexts.{between_slashes, path_text, with_name, HasPathOrNone, IsName, IsPathText, PathTextsDecide};
 
 use crate::escapes::{push_escaped, read_escaped};
 use crate::name::Name;
@@ -177,4 +177,9 @@ pub fn write_path(alloc: Global, path: &[Name]) -> Result<String, NoMemory>
 /// A text is that of at most one path, so `read_path` inverts `write_path`.
 pub fn path_texts_decide()
     ensures { PathTextsDecide }
+{}
+
+/// Each text is that of a path, or of none.
+pub fn path_or_none()
+    ensures { (text : List ℕ) → HasPathOrNone text }
 {}

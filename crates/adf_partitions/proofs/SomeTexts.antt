@@ -1,20 +1,16 @@
--- Every text has a plan, or a fault. c, d are bytes, k how many are left to try or to read; t is a text, p a partition, ps partitions, e what is
--- behind their lines.
-use Rattle.std.proofs.Common.{◌≡◌, ◌≢◌, ◌∙◌, ◌<◌, ◌≤◌, ◌+◌, ◌++◌, ◌⊎◌, ℕ, ℤ, zero, suc, Bool, true, false, List, [], ◌∷◌, Option, Some, All}
-use Rattle.std.proofs.Common.{ap, arith, codes, inl, inr, length, refl, subst, sym}
+-- Every text has a plan, or a fault. k is how many bytes are left at most; t is a text, p a partition, ps partitions, e what is behind their lines.
+use Rattle.std.proofs.Common.{◌≡◌, ◌∙◌, ◌≤◌, ◌+◌, ◌⊎◌, ℕ, ℤ, zero, suc, Bool, true, false, List, [], ◌∷◌, Option, Some}
+use Rattle.std.proofs.Common.{arith, codes, inl, inr, length, refl, subst, sym}
 use Rattle.std.specs.Prelude.{FitsSigned}
 use Rattle.std.specs.Int.{int_wrap, w8}
 use Rattle.std.proofs.Math.IntN.{ℤ_discrete}
 use Rattle.std.specs.List.{list_all}
-use Rattle.std.proofs.lemmas.Bool.{cases_Bool}
 use Rattle.std.proofs.lemmas.Int.{SFits-int_wrap, int_wrap_fits}
-use Rattle.std.proofs.lemmas.List.{length-append}
-use Rattle.std.proofs.lemmas.List.Elements.{All-cons, All-head, All-tail}
-use Rattle.std.proofs.lemmas.Grind.{common_steps}
-use native.Mathlib.Decide.{dec_le, map_dec, ℕ_discrete}
+use native.Mathlib.Decide.{dec_le, map_dec}
 use mathlib.Core.Logic.Dec.{and as dec_and}
-use Rattle.adf_names.proofs.Spellings.{one_spelling, only_spelled, spelled_escape, spelled_plain}
-use Rattle.adf_names.specs.Escapes.{IsSpelling, escape_of, escaped}
+use Rattle.adf_names.proofs.SomeSpellings.{Spells, spelt}
+use Rattle.adf_names.proofs.Spellings.{only_spelled}
+use Rattle.adf_names.specs.Escapes.{IsSpelling}
 use Rattle.adf_names.specs.Kinds.{kind_named}
 use Rattle.adf_names.specs.Texts.{is_name_byte}
 use Rattle.adf_names.specs.declared.kind.Kind.{Kind}
@@ -42,72 +38,12 @@ not_true false h = refl
 one_some : {A : Type 0} (o : Option A) (x y : A) → o ≡ Some x → o ≡ Some y → x ≡ y
 one_some o x y h k = cc
 
--- a text begins with these bytes, or it does not
-begins : (bytes t : List ℕ) → ((after : List ℕ) × (t ≡ bytes ++ after)) ⊎ ((after : List ℕ) → t ≢ bytes ++ after)
-begins [] t = inl (t, refl)
-begins (x ∷ xs) [] = inr (λ after h. absurd cc)
-begins (x ∷ xs) (y ∷ ys) = elim (ℕ_discrete y x) [
-  | yes same ↦ elim (begins xs ys) [
-    | inl found ↦ inl (found.0, let e = found.1 in cc)
-    | inr none ↦ inr (λ after h. none after cc)
-  ]
-  | no other ↦ inr (λ after h. other cc)
-]
-
--- it begins with the escape of a byte below k, or of none
-first_byte : (t : List ℕ) (k : ℕ)
-    → ((c : ℕ) × (c < k) × ((after : List ℕ) × (t ≡ escape_of c ++ after))) ⊎ ((c : ℕ) (after : List ℕ) → c < k → t ≢ escape_of c ++ after)
-first_byte t zero = inr (λ c after lt h. absurd (omega (arith, lt)))
-first_byte t (suc k) = elim (first_byte t k) [
-  | inl found ↦ inl (found.0, omega (arith, found.1), found.2)
-  | inr none ↦ elim (begins (escape_of k) t) [
-    | inl found ↦ inl (k, omega arith, found)
-    | inr never ↦ inr (λ c after lt h. elim (ℕ_discrete c k) [
-      | yes same ↦ never after (subst (λ (j : ℕ). t ≡ escape_of j ++ after) same h)
-      | no other ↦ none c after (omega (arith, other, lt)) h
-    ])
-  ]
-]
-
-some_length : (c : ℕ) → 1 ≤ length (escape_of c)
-some_length c = grind (arith, common_steps, cases_Bool, spelled_plain, spelled_escape)
-
-shorter : (c : ℕ) (t after : List ℕ) (k : ℕ) → t ≡ escape_of c ++ after → length t ≤ suc k → length after ≤ k
-shorter c t after k e le = omega (arith, ap length e, length-append (escape_of c) after, some_length c, le)
-
-abbrev Spells : List ℕ → List ℕ → Type 0
-Spells t bytes = (t ≡ escaped bytes) × All (λ (c : ℕ). c < 256) bytes
-
--- it spells some bytes, or none
-spelt : (k : ℕ) (t : List ℕ) → length t ≤ k → ((bytes : List ℕ) × Spells t bytes) ⊎ ((bytes : List ℕ) → ¬ Spells t bytes)
-spelt k [] le = inl ([], (refl, λ i d lt. absurd (omega (arith, lt))))
-spelt zero (x ∷ xs) le = absurd (omega (arith, le))
-spelt (suc k) (x ∷ xs) le = elim (first_byte (x ∷ xs) 256) [
-  | inl (c, lt, (after, e)) ↦ elim (spelt k after (shorter c (x ∷ xs) after k e le)) [
-    | inl found ↦
-        inl (c ∷ found.0, (e ∙ ap (λ (l : List ℕ). escape_of c ++ l) found.1.0, All-cons (λ (d : ℕ). d < 256) c found.0 lt found.1.1))
-    | inr none ↦ inr (λ bytes spells. other_rest c after bytes lt e none spells)
-  ]
-  | inr none ↦ inr (λ bytes spells. no_first bytes none spells)
-]
-  where
-    other_rest : (c : ℕ) (after bytes : List ℕ) → c < 256 → x ∷ xs ≡ escape_of c ++ after → ((more : List ℕ) → ¬ Spells after more)
-        → Spells (x ∷ xs) bytes → ⊥
-    other_rest c after [] lt e none spells = absurd (let h = spells.0 in cc)
-    other_rest c after (d ∷ ds) lt e none spells =
-        let (same, rest) = one_spelling c d after (escaped ds) lt (All-head (λ (b : ℕ). b < 256) d ds spells.1) (sym e ∙ spells.0) in
-        none ds (rest, All-tail (λ (b : ℕ). b < 256) d ds spells.1)
-
-    no_first : (bytes : List ℕ) → ((c : ℕ) (after : List ℕ) → c < 256 → x ∷ xs ≢ escape_of c ++ after) → Spells (x ∷ xs) bytes → ⊥
-    no_first [] none spells = absurd (let h = spells.0 in cc)
-    no_first (d ∷ ds) none spells = none d (escaped ds) (All-head (λ (b : ℕ). b < 256) d ds spells.1) spells.0
-
 -- what a name is, and whether it is one
 abbrev IsDriveName : List ℕ → List ℕ → Type 0
 IsDriveName t name = IsSpelling 31 t name × (1 ≤ length name) × (list_all is_name_byte name ≡ true)
 
 some_name : (t : List ℕ) → ((name : List ℕ) × IsDriveName t name) ⊎ ((name : List ℕ) → ¬ IsDriveName t name)
-some_name t = elim (spelt (length t) t (omega arith)) [
+some_name t = elim (spelt t) [
   | inr none ↦ inr (λ name is. none name (is.0.spells, is.0.are_bytes))
   | inl found ↦ by_bytes found.0 found.1
 ]
