@@ -1,4 +1,5 @@
 -- words and blocks
 pub mod WordLaws
+pub mod SmallWords
 -- results
 pub mod Results
