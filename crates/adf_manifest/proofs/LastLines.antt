@@ -102,7 +102,7 @@ filled : (l : List ℕ) → 0 < length l → 0 < length (escaped l)
 filled [] h = absurd (omega arith)
 filled (c ∷ cs) h = filled_list (escaped (c ∷ cs)) (spelling_some c (escaped cs))
 
-stamps_behind : (h : Preamble) (stamps : Stamps) → h.stamps ≡ None
+pub stamps_behind : (h : Preamble) (stamps : Stamps) → h.stamps ≡ None
     → preamble_lines (with_stamps h stamps) ≡ preamble_lines h ++ stamps_line stamps ∷ []
 stamps_behind h stamps e = grind (arith, common_steps, append-nil)
 

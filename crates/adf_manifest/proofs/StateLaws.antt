@@ -38,7 +38,7 @@ pub preamble_step : (h h' : Preamble) (text : List ℕ) → IsPreamble h' → pr
     → GoesOn (state.Preamble h') (bare h) text
 preamble_step h h' text g e = (bare h', bare_well h' g, refl, bare_lines h' ∙ e ∙ ap (λ l. l ++ text ∷ []) (sym (bare_lines h)))
 
-filled_list : (xs : List ℕ) → 0 < length (escaped xs) → 0 < length xs
+pub filled_list : (xs : List ℕ) → 0 < length (escaped xs) → 0 < length xs
 filled_list [] h = absurd (omega arith)
 filled_list (x ∷ xs) h = omega arith
 

@@ -1,12 +1,13 @@
 -- Manifests: the lines of their preambles and entries, their content, and the first line with a fault.
-use Rattle.std.specs.Prelude.{◌≡◌, ◌+◌, ◌-◌, ◌<◌, ◌≤◌, ◌^◌, ◌==◌, ◌&&◌, ◌⊎◌, nat_lt, ℕ, true, false, List, [], ◌∷◌, ◌++◌, length, take, slice_index}
+use Rattle.std.specs.Prelude.{◌≡◌, ◌≢◌, ◌+◌, ◌-◌, ◌<◌, ◌≤◌, ◌^◌, ◌==◌, ◌&&◌, ◌⊎◌, nat_lt, ℕ, true, false, List, [], ◌∷◌, ◌++◌, length, take, slice_index}
 use Rattle.std.specs.Prelude.{if◌then◌else◌, map, Option, Some, None, IfSome, All, Err}
 use Rattle.std.specs.List.{slice_split, flat_map}
 use Rattle.std.specs.Option.{unwrap_or}
 use Rattle.adf_names.specs.Escapes.{IsSpelling, escaped}
 use Rattle.adf_names.specs.PathTexts.{IsPathText}
 use Rattle.adf_tree.specs.Additions.{IsTreeOf}
-use Rattle.adf_tree.specs.Tree.{Tree, room_for}
+use Rattle.adf_tree.specs.Bounds.{IsBounded}
+use Rattle.adf_tree.specs.Tree.{IsTree, Tree, room_for}
 use Rattle.adf_names.specs.declared.kind.Kind.{Kind}
 use Rattle.adf_names.specs.declared.meta.Stamps.{Stamps}
 use Rattle.adf_names.specs.declared.meta.TheConstants.{NO_STAMPS}
@@ -241,9 +242,18 @@ ExplainsKind kind number bytes = (length bytes ≤ most_bytes) × HasFault (line
 abbrev pub ExplainsFault : ManifestFault → List ℕ → Type 0
 ExplainsFault f bytes = ExplainsKind f.kind f.line bytes
 
+-- the bytes are a manifest, or they have a fault, which is not that of memory
+abbrev pub IsManifestOrHasFault : List ℕ → Type 0
+IsManifestOrHasFault bytes =
+    ((tree : Tree) × (n : ℕ) × IsManifest bytes tree n) ⊎ ((f : ManifestFault) × ExplainsFault f bytes × (f.kind ≢ NoMemory))
+
 -- a manifest has one tree and one number of blocks
 abbrev pub ManifestsAreOfOneTree : Type 0
 ManifestsAreOfOneTree = (bytes : List ℕ) (tree tree' : Tree) (n n' : ℕ) → IsManifest bytes tree n → IsManifest bytes tree' n' → (tree ≡ tree') × (n ≡ n')
+
+-- the tree of a manifest is a tree whose fields are within their bounds, and its number of blocks is allowed
+abbrev pub ManifestsAreBounded : Type 0
+ManifestsAreBounded = (bytes : List ℕ) (tree : Tree) (n : ℕ) → IsManifest bytes tree n → IsTree tree.entries × IsBounded tree × (is_allowed n ≡ true)
 
 -- adding the entry lines of a manifest one after another gives its tree
 abbrev pub AddingLinesGivesTheTree : Type 0

@@ -5,9 +5,9 @@ use Rattle.std.proofs.lemmas.Bool.{cases_Bool}
 use Rattle.std.proofs.lemmas.List.{length-append}
 use Rattle.std.proofs.lemmas.List.Elements.{All-cons, All-head, All-tail}
 use Rattle.std.proofs.lemmas.Grind.{common_steps}
-use native.Mathlib.Decide.{ℕ_discrete}
-use Rattle.adf_names.specs.Escapes.{escape_of, escaped}
-use Rattle.adf_names.proofs.Spellings.{one_spelling, spelled_escape, spelled_plain}
+use native.Mathlib.Decide.{dec_le, ℕ_discrete}
+use Rattle.adf_names.specs.Escapes.{IsSpelling, escape_of, escaped}
+use Rattle.adf_names.proofs.Spellings.{one_spelling, only_spelled, spelled_escape, spelled_plain}
 
 -- a text begins with these bytes, or it does not
 pub begins : (bytes t : List ℕ) → ((after : List ℕ) × (t ≡ bytes ++ after)) ⊎ ((after : List ℕ) → t ≢ bytes ++ after)
@@ -71,3 +71,15 @@ spelt_within (suc k) (x ∷ xs) le = elim (first_byte (x ∷ xs) 256) [
 -- it spells some bytes, or none
 pub spelt : (t : List ℕ) → ((bytes : List ℕ) × Spells t bytes) ⊎ ((bytes : List ℕ) → ¬ Spells t bytes)
 spelt t = spelt_within (length t) t (omega arith)
+
+-- and so it is with at most so many bytes
+pub dec_spelling : (most : ℕ) (t : List ℕ) → Dec ((bytes : List ℕ) × IsSpelling most t bytes)
+dec_spelling most t = elim (spelt t) [
+  | inr none ↦ no (λ is. none is.0 (is.1.spells, is.1.are_bytes))
+  | inl (bytes, spells) ↦ elim (dec_le (length bytes) most) [
+    | yes short ↦ yes (bytes, record { spells = spells.0; are_bytes = spells.1; short = short })
+    | no long ↦ no (λ is.
+        let same : is.0 ≡ bytes = only_spelled is.0 bytes is.1.are_bytes spells.1 (sym is.1.spells ∙ spells.0) in
+        long (subst (λ (bs : List ℕ). length bs ≤ most) same is.1.short))
+  ]
+]

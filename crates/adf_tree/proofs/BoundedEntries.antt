@@ -1,9 +1,10 @@
 -- The entries of additions that are within their bounds are within theirs.
 -- Letters: e an entry, es entries; x an addition, xs additions; n a number of an entry.
-use Rattle.std.proofs.Common.{◌≡◌, ◌+◌, ℕ, true, List, [], ◌∷◌, drop, fold, map, take}
+use Rattle.std.proofs.Common.{◌≡◌, ◌<◌, ◌-◌, ◌+◌, ℕ, true, List, [], ◌∷◌, arith, drop, fold, length, map, take}
 use Rattle.std.specs.List.{All}
 use Rattle.std.proofs.lemmas.List.Elements.{All-append, All-cons, All-drop, All-head, All-map, All-nil, All-tail, All-take, All-weaker}
 use Rattle.adf_names.specs.Meta.{IsBoundedMeta}
+use Rattle.adf_names.specs.PathTexts.{IsName}
 use Rattle.adf_names.specs.Texts.{is_name}
 use Rattle.adf_tree.specs.Additions.{Addition, entries_of_additions, with_addition}
 use Rattle.adf_tree.specs.Bounds.{IsBoundedEntry, IsData}
@@ -19,7 +20,8 @@ pub record IsBoundedAddition (x : Addition) : Type 0 where
 bounded_renumbered : (n : ℕ) (e : Entry) → IsBoundedEntry e → IsBoundedEntry (renumbered n e)
 bounded_renumbered n e is = record { name = is.name; meta = is.meta; body = is.body }
 
-bounded_added : (es : List Entry) (e : Entry) → All IsBoundedEntry es → IsBoundedEntry e → All IsBoundedEntry (added es e)
+-- and so are those with one more
+pub bounded_added : (es : List Entry) (e : Entry) → All IsBoundedEntry es → IsBoundedEntry e → All IsBoundedEntry (added es e)
 bounded_added es e are is =
     let i : ℕ = place es (rank e) in
     let rest : List Entry = drop i es in
@@ -42,3 +44,7 @@ bounded_grown es (x ∷ xs) are new =
 
 pub bounded_additions : (xs : List Addition) → All IsBoundedAddition xs → All IsBoundedEntry (entries_of_additions xs)
 bounded_additions xs new = bounded_grown [] xs (All-nil IsBoundedEntry) new
+
+-- the last name of a path is a name
+pub last_is_name : (path : List (List ℕ)) → 0 < length path → All IsName path → is_name (last_of path) ≡ true
+last_is_name path some names = (names (length path - 1) [] (omega arith)).allowed

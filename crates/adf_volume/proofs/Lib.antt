@@ -31,6 +31,7 @@ pub mod WalkOwners
 pub mod Walks
 pub mod WholeWalks
 -- the laws
+pub mod BoundedFits
 pub mod FitWalks
 pub mod Memory
 pub mod NoneFits

@@ -1,9 +1,10 @@
 // The laws of walks. Each is the contract of a function that does nothing at run time.
 
 ghost use Rattle.std.specs.Prelude.{◌≡◌, ◌<◌, ℕ, List, ◌*◌, ◌-◌, ◌↔◌, length, map, Some, None};
-ghost use Rattle.std.specs.List.{concat};
+ghost use Rattle.std.specs.List.{All, concat};
 ghost use Rattle.adf_tree.specs.declared.entry.Entry.{Entry};
 ghost use Rattle.adf_names.specs.declared.kind.Kind.{Kind};
+ghost use Rattle.adf_tree.specs.Bounds.{IsBounded};
 ghost use Rattle.adf_tree.specs.Chain.{chain};
 ghost use Rattle.adf_tree.specs.Tree.{Tree, entry};
 ghost use Rattle.adf_blocks.specs.declared.cause.Cause.{Cause};
@@ -64,6 +65,12 @@ pub fn whole_walk()
 pub fn one_fit()
     ensures { (image : List ℕ) (t u : Tree) (l m : Layout) → Fits image t l → Fits image u m
         → (t ≡ u) × (l ≡ m) }
+{}
+
+/// The fields of a tree that fits an image of bytes are within their bounds.
+pub fn fits_are_bounded()
+    ensures { (image : List ℕ) (t : Tree) (l : Layout) → All (λ byte. byte < 256) image
+        → Fits image t l → IsBounded t }
 {}
 
 /// The tree and layout of a whole walk fit the image if its boot block, root and bitmap are sound.

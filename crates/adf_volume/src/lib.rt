@@ -15,8 +15,8 @@ pub use crate::counts::Counts;
 pub use crate::fault::{Fault, fault_at, no_memory};
 pub use crate::image::Image;
 pub use crate::laws::{
-    agreement, chains_of_numbers, completeness, demanded_form, layout_of_walk_fits, none_fits,
-    one_fault, one_fit, pieces_are_content, whole_walk,
+    agreement, chains_of_numbers, completeness, demanded_form, fits_are_bounded,
+    layout_of_walk_fits, none_fits, one_fault, one_fit, pieces_are_content, whole_walk,
 };
 pub use crate::owner::Owner;
 pub use crate::pieces::{Pieces, count_of, held_in, joined};

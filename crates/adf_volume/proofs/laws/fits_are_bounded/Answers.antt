@@ -1,0 +1,5 @@
+use Rattle.adf_volume.proofs.BoundedFits as laws
+use Rattle.adf_volume.proofs.laws.fits_are_bounded.Goals as goal
+
+pub returns : goal.returns
+returns c = λ image t l are fits. laws.fits_bounded image t l are fits
