@@ -1,18 +1,23 @@
 -- Boot blocks that are put back: what stays of them, and that they stay bootable.
 -- Letters: image an image, boot one with other boot blocks; a, b, k bytes; i a word.
 use Rattle.std.proofs.Common.{◌≡◌, ◌∙◌, ℕ, zero, suc, true, false, List, [], ◌∷◌, ◌++◌, ◌+◌, ◌-◌, ◌*◌, ◌<◌, ◌≤◌, length, take, drop}
-use Rattle.std.proofs.Common.{slice_index, slice_range, ap, ap₂, refl, sym, subst, inl, inr, arith, add-one, length-drop}
+use Rattle.std.proofs.Common.{slice_index, slice_range, ap, ap₂, refl, sym, subst, inl, inr, arith, add-one, length-drop, length-take, Bool}
 use Rattle.std.specs.Prelude.{◌==◌, ◌&&◌, not}
-use Rattle.std.proofs.lemmas.Bool.{and_parts, and_cases, cases_Bool, cases_eq, eqb-true, not-false}
+use Rattle.std.proofs.lemmas.Bool.{and_parts, and_cases, cases_Bool, cases_eq, eqb-true, leb-true, not-false}
 use Rattle.std.proofs.lemmas.Grind.{common_steps}
-use Rattle.std.proofs.lemmas.List.{length-take-le}
+use Rattle.std.proofs.lemmas.List.{get_or-take, length-take-le}
 use Rattle.byteorder.specs.Endian.{big_bytes, big_number}
-use Rattle.adf_base.specs.Words.{with_word, word, words}
+use Rattle.adf_base.specs.Words.{block, with_word, word, words}
 use Rattle.adf_base.proofs.WordLaws.{length-big_bytes, no_words, range-with_bytes_above, range-with_bytes_below, range-with_bytes_same}
 use Rattle.adf_blocks.proofs.FieldLaws.{sub_range}
 use Rattle.adf_boot_blocks.specs.BootBlocks.{IsOtherBoot, begins_with_dos, carry_sum, has_right_sum, is_bootable, with_sum}
 use Rattle.adf_boot_blocks.specs.Writing.{HasBootOf, copied, is_of_other_type, restored, with_boot}
 use Rattle.adf_boot_blocks.specs.declared.boot.TheConstants.{BOOT_LEN, BOOT_WORDS, CHECKSUM, RIGHT_SUM}
+use Rattle.adf_tree.specs.Tree.{Tree}
+use Rattle.adf_blocks.specs.Sizes.{blocks}
+use Rattle.adf_volume.specs.Fits.{Fits}
+use Rattle.adf_volume.specs.Layout.{Layout}
+use Rattle.adf_boot_blocks.proofs.OtherBoots.{other_fits}
 use Rattle.adf_boot_blocks.proofs.CarrySums.{AreBytes, AreWords, sum_is_right, word_of_bytes, word_small, words_more}
 use Rattle.adf_boot_blocks.proofs.Writes.{begun_byte, bootable, other_bytes, other_next, other_sum, same_boot}
 
@@ -172,7 +177,8 @@ bootable_restored image boot long whole dos type bytes boots =
           let sound = sum_is_right (with_boot image boot) (put_words image boot long whole dos type bytes) (omega (arith, long, put.long)) in
           subst (λ (bs : List ℕ). is_bootable bs ≡ true) (sym (restored_anew image boot begins other))
           (bootable image (copied image boot)
-          (other_next image (with_boot image boot) (copied image boot) put (other_sum (with_boot image boot) (omega (arith, long, put.long)))) sound dos)
+          (other_next image (with_boot image boot) (copied image boot) put (other_sum (with_boot image boot) (omega (arith, long, put.long))))
+          sound dos)
     ]
 
 -- the type stays
@@ -198,3 +204,77 @@ has_boot image boot long whole dos type bytes begins = record {
       ∙ part_put image boot 4 8 long whole (omega arith) (omega arith) (omega arith);
   bootable = bootable_restored image boot long whole dos type bytes;
 }
+
+-- what is said of boot blocks is said of the first bytes
+
+front_part : (boot : List ℕ) (a b : ℕ) → a ≤ b → b ≤ BOOT_LEN → slice_range (take BOOT_LEN boot) a b ≡ slice_range boot a b
+front_part boot a b up high = sub_range boot 0 BOOT_LEN a b up (omega (arith, high)) ∙ ap₂ (slice_range boot) (omega arith) (omega arith)
+
+front_word : (boot : List ℕ) (i : ℕ) → i < BOOT_WORDS → word (take BOOT_LEN boot) i ≡ word boot i
+unfolding word
+front_word boot i lt = ap (big_number 4) (front_part boot (4 * i) (4 * i + 4) (omega arith) (omega (arith, lt)))
+
+front_words : (boot : List ℕ) → words BOOT_WORDS (take BOOT_LEN boot) ≡ words BOOT_WORDS boot
+front_words boot = same_words (take BOOT_LEN boot) boot BOOT_WORDS (front_word boot)
+
+front_byte : (boot : List ℕ) (i : ℕ) → i < BOOT_LEN → slice_index (take BOOT_LEN boot) i ≡ slice_index boot i
+front_byte boot i lt = get_or-take BOOT_LEN boot i 0 lt
+
+pub front_begins : (boot : List ℕ) → begins_with_dos (take BOOT_LEN boot) ≡ begins_with_dos boot
+front_begins boot =
+    rw (front_byte boot 0 (omega arith), front_byte boot 1 (omega arith), front_byte boot 2 (omega arith)) refl
+
+front_sum : (boot : List ℕ) → has_right_sum (take BOOT_LEN boot) ≡ has_right_sum boot
+front_sum boot = ap (λ ws. carry_sum ws == RIGHT_SUM) (front_words boot)
+
+pub has_front : (boot image : List ℕ) → HasBootOf (take BOOT_LEN boot) image → HasBootOf boot image
+has_front boot image has = record {
+  code = has.code ∙ front_part boot 8 BOOT_LEN (omega arith) (omega arith);
+  sum = λ kept. has.sum (ap₂ (λ (right : Bool) (t : ℕ). right && not (t == slice_index image 3)) (front_sum boot)
+      (front_byte boot 3 (omega arith)) ∙ kept)
+      ∙ front_part boot 4 8 (omega arith) (omega arith);
+  bootable = λ boots. has.bootable (ap₂ (λ (dos right : Bool). dos && right) (front_begins boot) (front_sum boot) ∙ boots);
+}
+
+-- volumes
+
+pub front_are_bytes : (boot : List ℕ) → AreBytes boot → AreBytes (take BOOT_LEN boot)
+front_are_bytes boot bytes k lt =
+    let few : k < BOOT_LEN = omega (arith, lt, length-take BOOT_LEN boot) in
+    let long : k < length boot = omega (arith, lt, length-take BOOT_LEN boot) in
+    omega (arith, front_byte boot k few, bytes k long)
+
+first_byte : (image : List ℕ) (i : ℕ) → i < 4 → slice_index (block image 0) i ≡ slice_index image i
+unfolding block
+first_byte image i lt = get_or-take 512 image i 0 (omega (arith, lt))
+
+-- a volume begins with `DOS` and a type
+begun_dos : (image : List ℕ) (t : Tree) (l : Layout) → Fits image t l → begins_with_dos image ≡ true
+begun_dos image t l fits =
+    let dos = fits.boots.1.0 in
+    let a : slice_index image 0 ≡ 0x44 = grind (arith, common_steps, and_parts, eqb-true, first_byte) in
+    let b : slice_index image 1 ≡ 0x4F = grind (arith, common_steps, and_parts, eqb-true, first_byte) in
+    let c : slice_index image 2 ≡ 0x53 = grind (arith, common_steps, and_parts, eqb-true, first_byte) in
+    rw (a, b, c) refl
+
+begun_type : (image : List ℕ) (t : Tree) (l : Layout) → Fits image t l → slice_index image 3 < 256
+begun_type image t l fits =
+    let dos = fits.boots.1.0 in
+    let type : slice_index image 3 ≤ 5 = grind (arith, common_steps, and_parts, leb-true, first_byte) in
+    omega (arith, type)
+
+pub volume_long : (image : List ℕ) (t : Tree) (l : Layout) → Fits image t l → BOOT_LEN ≤ length image
+volume_long image t l fits =
+    let size = fits.boots.0 in
+    let most : 4 ≤ blocks image = grind (arith, common_steps, and_parts, leb-true, size.1) in
+    omega (arith, size.0, most)
+
+-- a volume with boot blocks that are put back has them, and is one of the same tree
+pub volume_has_boot : (volume boot : List ℕ) (t : Tree) (l : Layout) → Fits volume t l → BOOT_LEN ≤ length boot → AreBytes boot
+    → begins_with_dos boot ≡ true → HasBootOf boot (restored volume boot)
+volume_has_boot volume boot t l fits whole bytes begins =
+    has_boot volume boot (volume_long volume t l fits) whole (begun_dos volume t l fits) (begun_type volume t l fits) bytes begins
+
+pub restored_fits : (volume boot : List ℕ) (t : Tree) (l : Layout) → Fits volume t l → BOOT_LEN ≤ length boot → Fits (restored volume boot) t l
+restored_fits volume boot t l fits whole =
+    other_fits volume (restored volume boot) (other_restored volume boot (volume_long volume t l fits) whole) t l fits
