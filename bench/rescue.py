@@ -4,7 +4,8 @@
     bench/rescue.py [BLOCKS] < IMAGE      the manifest of the new volume; on errors the first finding, if nothing stands, and what is
                                           left out and lost
 
-With BLOCKS the image is filled up with zeros, or cut, to so many blocks. Two surveys: of the image, opened; and, where headers are
+With BLOCKS the image is filled up with zeros, or cut, to so many blocks. The new volume is what is built of the manifest, with the boot
+blocks of the image, if it begins with `DOS` (`Rescue.volume`). Two surveys: of the image, opened; and, where headers are
 lost, of the image with these hung where they say that they belong.
 """
 
@@ -40,7 +41,37 @@ def upper(name):
     return bytes(c - 32 if 97 <= c <= 122 else c for c in name)
 
 
+# The boot blocks
+
+
+def carry_sum(boot):
+    """The sum of the words of boot blocks, each carry added back."""
+    total = sum(unpack_from(">256I", boot))
+    while total >= 2**32:
+        total = total % 2**32 + total // 2**32
+    return total
+
+
+def restored(image, boot):
+    """The image with the boot blocks of another that begins with `DOS`, as they stand behind its own type; but if their checksum was
+    right and their type is another, it is made right."""
+    if boot[:3] != b"DOS":
+        return image
+    new = bytearray(image)
+    new[4:1024] = boot[4:1024]
+    if carry_sum(boot) == 2**32 - 1 and boot[3] != image[3]:
+        pack_into(">I", new, 4, 0)
+        pack_into(">I", new, 4, 2**32 - 1 - carry_sum(new))
+    return bytes(new)
+
+
 # The image as it is opened
+
+
+def typed(image):
+    """The image with the type that its files say."""
+    survey = Survey(image)
+    return image[:3] + bytes([image[3] & 254]) + image[4:] if survey.nodes and survey.is_mistyped() else image
 
 
 def is_root(image, b):
@@ -198,6 +229,7 @@ class Rescue:
         self.held = len(image) // 512  # the blocks that the input holds whole; what is filled up behind them is no data
         if blocks is not None:
             image = (image + bytes(max(0, 512 * blocks - len(image))))[: 512 * blocks]
+        self.boot, image = bytes(image[:1024]), typed(bytes(image))
         self.given, self.mended = opened(image)
         survey = Survey(self.given)
         self.findings, self.refused, self.left_out, self.losses = survey.findings, None, [], []
@@ -337,6 +369,10 @@ class Rescue:
             for at in range(0, len(node.content or b""), 4096):
                 lines.append("data " + node.content[at : at + 4096].hex())
         return "\n".join(lines) + "\n"
+
+    def volume(self, built):
+        """The new volume, from what is built of the manifest."""
+        return restored(built, self.boot)
 
     def lines(self):
         return [*(f"{why}: {spelled(path)}" for why, path in self.left_out), *self.losses]

@@ -13,7 +13,7 @@ use Rattle.adf_boot_blocks.specs.BootBlocks.{carry_sum, has_right_sum, with_carr
 use Rattle.adf_boot_blocks.specs.declared.boot.TheConstants.{BOOT_LEN, BOOT_WORDS, CHECKSUM, RIGHT_SUM}
 
 -- one word more
-words_more : (bs : List ℕ) (i : ℕ) → words (i + 1) bs ≡ words i bs ++ word bs i ∷ []
+pub words_more : (bs : List ℕ) (i : ℕ) → words (i + 1) bs ≡ words i bs ++ word bs i ∷ []
 unfolding words
 words_more bs i = map-range_with_len_more (word bs) 0 i i (omega arith)
 
@@ -55,19 +55,23 @@ carried bs (suc n) small =
 abbrev pub AreBytes : List ℕ → Type 0
 AreBytes bs = (k : ℕ) → k < length bs → slice_index bs k < 256
 
-byte_small : (bs : List ℕ) (a b k : ℕ) → AreBytes bs → a + k < b → b ≤ length bs → slice_index (slice_range bs a b) k < 256
-byte_small bs a b k bytes lt long =
+byte_in : (bs : List ℕ) (a b k : ℕ) → slice_index bs (a + k) < 256 → a + k < b → slice_index (slice_range bs a b) k < 256
+byte_in bs a b k small lt =
     let at : slice_index (slice_range bs a b) k ≡ slice_index bs (a + k) = grind (arith, common_steps, get_or-take, get_or-drop) in
-    omega (arith, at, bytes (a + k) (omega arith))
+    omega (arith, at, small)
 
-word_small : (bs : List ℕ) (i : ℕ) → AreBytes bs → 4 * i + 4 ≤ length bs → word bs i ≤ RIGHT_SUM
+-- a word of four bytes
+pub word_of_bytes : (bs : List ℕ) (i : ℕ) → ((k : ℕ) → k < 4 → slice_index bs (4 * i + k) < 256) → word bs i ≤ RIGHT_SUM
 unfolding word
-word_small bs i bytes long =
-    let h0 = byte_small bs (4 * i) (4 * i + 4) 0 bytes (omega arith) long in
-    let h1 = byte_small bs (4 * i) (4 * i + 4) 1 bytes (omega arith) long in
-    let h2 = byte_small bs (4 * i) (4 * i + 4) 2 bytes (omega arith) long in
-    let h3 = byte_small bs (4 * i) (4 * i + 4) 3 bytes (omega arith) long in
+word_of_bytes bs i small =
+    let h0 = byte_in bs (4 * i) (4 * i + 4) 0 (small 0 (omega arith)) (omega arith) in
+    let h1 = byte_in bs (4 * i) (4 * i + 4) 1 (small 1 (omega arith)) (omega arith) in
+    let h2 = byte_in bs (4 * i) (4 * i + 4) 2 (small 2 (omega arith)) (omega arith) in
+    let h3 = byte_in bs (4 * i) (4 * i + 4) 3 (small 3 (omega arith)) (omega arith) in
     omega (arith, h0, h1, h2, h3)
+
+pub word_small : (bs : List ℕ) (i : ℕ) → AreBytes bs → 4 * i + 4 ≤ length bs → word bs i ≤ RIGHT_SUM
+word_small bs i bytes long = word_of_bytes bs i (λ k lt. bytes (4 * i + k) (omega (arith, lt)))
 
 -- a word that is set twice
 pub set_twice : (bs : List ℕ) (i v w : ℕ) → 4 * i + 4 ≤ length bs → with_word (with_word bs i v) i w ≡ with_word bs i w

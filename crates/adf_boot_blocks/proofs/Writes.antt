@@ -45,7 +45,7 @@ other_sum image long =
     other_word image image CHECKSUM (RIGHT_SUM - carry_sum (words BOOT_WORDS (with_word image CHECKSUM 0))) (same_boot image) long (omega arith) (omega arith)
 
 -- the first bytes of an image and one with other boot blocks
-begun_byte : (image other : List ℕ) → IsOtherBoot image other → (i : ℕ) → i < 4 → slice_index other i ≡ slice_index image i
+pub begun_byte : (image other : List ℕ) → IsOtherBoot image other → (i : ℕ) → i < 4 → slice_index other i ≡ slice_index image i
 begun_byte image other o i lt =
     grind (arith, common_steps, get_or-take 4 other i 0 lt, get_or-take 4 image i 0 lt, o.begins)
 

@@ -11,6 +11,6 @@ pub use crate::boot::{
     BOOT_LEN, BOOT_WORDS, begins_with_dos, has_no_code, has_right_sum, is_bootable,
 };
 pub use crate::crc::crc_32;
-pub use crate::laws::{boot_is_no_part, sums_are_right};
+pub use crate::laws::{boot_is_no_part, boots_stay, sums_are_right};
 pub use crate::standard::STANDARD_CODE;
-pub use crate::writing::{clear, copy, install};
+pub use crate::writing::{clear, copy, install, put_boot, restore};

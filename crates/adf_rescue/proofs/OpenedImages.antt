@@ -19,7 +19,8 @@ use Rattle.adf_findings.specs.Opening.{opening_in}
 use Rattle.adf_findings.specs.Start.{has_root_type}
 use Rattle.adf_names.specs.declared.meta.TheConstants.{NO_STAMPS}
 use Rattle.adf_rescue.specs.MadeRoot.{has_root, made_root, middle_block, rooted}
-use Rattle.adf_rescue.specs.Opened.{begins_with_dos, begun, has_data, is_mended, opened, says_data, type_byte}
+use Rattle.adf_boot_blocks.specs.BootBlocks.{begins_with_dos}
+use Rattle.adf_rescue.specs.Opened.{begun, has_data, is_mended, opened, says_data, type_byte}
 use Rattle.adf_rescue.proofs.MadeRoots.{before_rooted, behind_rooted, front_rooted, length_rooted, made_fits, made_rooted, made_slot}
 use Rattle.adf_rescue.proofs.MadeRoots.{root_is_whole, root_within, sized, undated, unnamed, whole_rooted}
 

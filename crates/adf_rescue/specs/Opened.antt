@@ -1,12 +1,13 @@
 -- An image whose boot block or root was overwritten, as if these were those of a volume.
 -- Letters: b the number of a block; k a number of blocks.
-use Rattle.std.specs.Prelude.{ℕ, ◌==◌, ◌&&◌, ◌||◌, not, nat_lt, Bool, false, cond, List, ◌∷◌, ◌++◌, codes, drop, length, slice_index}
+use Rattle.std.specs.Prelude.{ℕ, ◌==◌, ◌&&◌, ◌||◌, not, nat_lt, Bool, false, cond, List, ◌∷◌, ◌++◌, codes, drop, length}
 use Rattle.std.proofs.Common.{zero, suc}
 use Rattle.adf_base.specs.Words.{block, long_sum}
 use Rattle.adf_blocks.specs.declared.layout.TheConstants.{DATA_HEAD, OWN_KEY, SECONDARY_TYPE, ST_FILE, TYPE, T_DATA, T_SHORT}
 use Rattle.adf_blocks.specs.Sizes.{blocks}
 use Rattle.adf_volume.specs.Image.{word_in}
 use Rattle.adf_volume.specs.Start.{is_image_len}
+use Rattle.adf_boot_blocks.specs.BootBlocks.{begins_with_dos}
 use Rattle.adf_rescue.specs.MadeRoot.{has_root, rooted}
 
 -- block b says that it is a file's header: by its types, its own key and its sum
@@ -33,10 +34,6 @@ has_data image (suc k) = has_data image k || says_data image k
 -- the type that the image is opened with: 0, OFS, if a block says that it is an OFS data block, or else 1, FFS
 abbrev pub type_byte : List ℕ → ℕ
 type_byte image = cond (has_data image (blocks image)) 0 1
-
--- the image begins with `DOS`
-abbrev pub begins_with_dos : List ℕ → Bool
-begins_with_dos image = (slice_index image 0 == 0x44) && (slice_index image 1 == 0x4F) && (slice_index image 2 == 0x53)
 
 -- the image with `DOS` and a type in place of its first four bytes, if it does not begin with `DOS`
 abbrev pub begun : List ℕ → List ℕ

@@ -9,12 +9,14 @@ ghost use Rattle.adf_findings.specs.Opening.{opening_in};
 ghost use Rattle.adf_findings.specs.Start.{has_root_type};
 ghost use Rattle.adf_names.specs.declared.meta.TheConstants.{NO_STAMPS};
 ghost use Rattle.adf_rescue.specs.MadeRoot.{has_root, middle_block};
-ghost use Rattle.adf_rescue.specs.Opened.{begins_with_dos, begun, has_data, is_mended, lacks_boot, opened, says_data, says_file, type_byte};
+ghost use Rattle.adf_boot_blocks.specs.BootBlocks.{begins_with_dos};
+ghost use Rattle.adf_rescue.specs.Opened.{begun, has_data, is_mended, lacks_boot, opened, says_data, says_file, type_byte};
 
 use crate::image::{block_in, is_image_len};
 use crate::made_root::{has_root, make_root};
 use adf_base::{BLOCK_LEN, NoMemory, put_bytes};
 use adf_blocks::{DATA_HEAD, OWN_KEY, SECONDARY_TYPE, ST_FILE, T_DATA, T_SHORT, TYPE};
+use adf_boot_blocks::begins_with_dos;
 use std::alloc::Global;
 
 /// Whether block `b` says that it is a file's header.
@@ -60,13 +62,6 @@ fn type_byte(image: &[u8]) -> u8
     ensures { result ≡ type_byte image.now }
 {
     if has_data(image) { 0 } else { 1 }
-}
-
-// Whether an image begins with `DOS`.
-fn begins_with_dos(image: &[u8]) -> bool
-    ensures { result ≡ begins_with_dos image.now }
-{
-    matches!(image, [b'D', b'O', b'S', ..])
 }
 
 /// Whether an image has the length of a volume and a whole root, but does not begin with `DOS`.

@@ -1,3 +1,4 @@
+pub mod KeptBoots
 pub mod RunLines
 pub mod PendingLines
 pub mod FindingStatus

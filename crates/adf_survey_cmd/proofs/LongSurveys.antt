@@ -69,17 +69,17 @@ none_second : (mended : Bool) (image : List ℕ) (w : List (Role × ℕ)) (fs : 
 none_second mended image w fs long = grind (arith, common_steps, false_from_ne_true, sized_len, none_hung, and_left)
 
 -- nothing stands, and the first fault is told
-same_rescue : (held h : ℕ) (image bytes opened_image opened_bytes : List ℕ) (reply : Reply) → 512 * MOST_BLOCKS < length image
-    → 512 * MOST_BLOCKS < length bytes → 512 * MOST_BLOCKS < length opened_bytes → RescuesFound held image opened_image [] bad_size reply
-    → RescuesFound h bytes opened_bytes [] bad_size reply
-same_rescue held h image bytes opened_image opened_bytes reply a b c (sound, marks, (two, second, inl (none, (f, first, e)))) =
+same_rescue : (held h : ℕ) (image bytes opened_image opened_bytes boot other : List ℕ) (reply : Reply) → 512 * MOST_BLOCKS < length image
+    → 512 * MOST_BLOCKS < length bytes → 512 * MOST_BLOCKS < length opened_bytes → RescuesFound held image opened_image [] bad_size boot reply
+    → RescuesFound h bytes opened_bytes [] bad_size other reply
+same_rescue held h image bytes opened_image opened_bytes boot other reply a b c (sound, marks, (two, second, inl (none, (f, first, e)))) =
     let basis : Basis = record { image = opened_bytes; walk = []; sound = λ n. false } in (
       (λ n. false),
       no_marks opened_bytes (grave bad_size),
-      subst (λ o. RescuesBoth h bytes basis o bad_size reply) (sym (none_second (is_mended bytes) opened_bytes [] bad_size c))
+      subst (λ o. RescuesBoth h bytes basis o bad_size other reply) (sym (none_second (is_mended bytes) opened_bytes [] bad_size c))
           (None, tt, inl (refl, (f, long_fault image bytes f a b first, e))),
     )
-same_rescue held h image bytes opened_image opened_bytes reply a b c (sound, marks, (two, second, inr (some, e))) = absurd (some refl)
+same_rescue held h image bytes opened_image opened_bytes boot other reply a b c (sound, marks, (two, second, inr (some, e))) = absurd (some refl)
 
 -- and nothing is begun
 not_begun : (image : List ℕ) → 512 * MOST_BLOCKS < length image → lacks_boot image ≡ false
@@ -119,14 +119,14 @@ of_typed : (s t : SubjectValue) (answers : SubjectValue → Reply → Type 0) �
     → (reply : Reply) → (answers s reply → answers t reply) → OfTyped s answers reply → OfTyped t answers reply
 of_typed s t answers a b reply same (u, is, x) = (t, long_typed t b, same (subst (λ u. answers u reply) (same_typed s u a is) x))
 
-long_rescue : (s t : SubjectValue) → 512 * MOST_BLOCKS < length s.image → 512 * MOST_BLOCKS < length t.image → (reply : Reply)
-    → Rescues s.end s.image reply → Rescues t.end t.image reply
-long_rescue s t a b reply (w, fs, h, found) = (
+long_rescue : (s t : SubjectValue) (boot other : List ℕ) → 512 * MOST_BLOCKS < length s.image → 512 * MOST_BLOCKS < length t.image
+    → (reply : Reply) → Rescues s.end s.image boot reply → Rescues t.end t.image other reply
+long_rescue s t boot other a b reply (w, fs, h, found) = (
   [],
   bad_size,
   long_survey (opened t.image) (long_opened t.image b),
-  same_rescue s.end t.end s.image t.image (opened s.image) (opened t.image) reply a b (long_opened t.image b)
-      (of_long (opened s.image) w fs (λ u gs. RescuesFound s.end s.image (opened s.image) u gs reply) (long_opened s.image a) h found),
+  same_rescue s.end t.end s.image t.image (opened s.image) (opened t.image) boot other reply a b (long_opened t.image b)
+      (of_long (opened s.image) w fs (λ u gs. RescuesFound s.end s.image (opened s.image) u gs boot reply) (long_opened s.image a) h found),
 )
 
 long_questions : (q : QuestionValue) (s t : SubjectValue) → s.front ≡ t.front → 512 * MOST_BLOCKS < length s.image
@@ -145,8 +145,8 @@ long_questions (cat damaged path) s t front a b reply (inr told) = inr (of_typed
 long_questions rescue s t front a b reply (u, is, told) = (
   t,
   is_typed t b,
-  long_rescue s t a b reply
-      (subst (λ (u : SubjectValue). Rescues u.end u.image reply) (typed_so s u a is) told),
+  long_rescue s t (sized 2 s.image) (sized 2 t.image) a b reply
+      (subst (λ (u : SubjectValue). Rescues u.end u.image (sized 2 s.image) reply) (typed_so s u a is) told),
 )
 
 -- an image of n blocks is made of the front alone

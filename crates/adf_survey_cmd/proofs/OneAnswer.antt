@@ -17,7 +17,7 @@ use Rattle.adf_texts.specs.Lines.{fault_line}
 use Rattle.adf_runs.specs.Commands.{Reply, on_errors, on_output}
 use Rattle.adf_cmd.proofs.OneAnswer.{one_dates, refused_once}
 use Rattle.adf_survey_cmd.specs.Answers.{CopiesEntry, CopiesFound, CopiesFromSurvey, IsWholeFile, ListsSurvey, QuestionAnswer, RescuesTyped, SurveyAnswer, Surveys, TellsFound, told_status}
-use Rattle.adf_survey_cmd.specs.Subject.{IsTyped, OfTyped, SubjectValue, begun_subject, subject, typed_subject}
+use Rattle.adf_survey_cmd.specs.Subject.{IsTyped, OfTyped, SubjectValue, begun_subject, sized, subject, typed_subject}
 use Rattle.adf_survey_cmd.specs.Rescues.{Rescues, RescuesBy, RescuesFound, RescuesIn, RescuesSome, rescue_text, second_image}
 use Rattle.adf_file_words.specs.SurveyLine.{AsksSurvey, InquiryValue, QuestionValue, cat, list, report, rescue}
 use Rattle.adf_survey_cmd.specs.FoundLines.{listing_text}
@@ -97,21 +97,21 @@ typed_once : (s : SubjectValue) (answers : SubjectValue → Reply → Type 0)
 typed_once s answers once a b (t, is, x) (u, also, y) =
     once u a b (subst (λ t. answers t a) (one_typed (begun_subject s) t u is also) x) y
 
-some_once : (held : ℕ) (input : List ℕ) (l : Basis) (m : Option Basis) (fs : List FindingValue) (a b : Reply)
-    → RescuesSome held input l m fs a → RescuesSome held input l m fs b → a ≡ b
-some_once held input l m fs a b (inl (none, (f, first, x))) (inl (also, (g, fault, y))) =
+some_once : (held : ℕ) (input : List ℕ) (l : Basis) (m : Option Basis) (fs : List FindingValue) (boot : List ℕ) (a b : Reply)
+    → RescuesSome held input l m fs boot a → RescuesSome held input l m fs boot b → a ≡ b
+some_once held input l m fs boot a b (inl (none, (f, first, x))) (inl (also, (g, fault, y))) =
     let same = refused_once input (on_errors 1 (fault_line f)) (on_errors 1 (fault_line g)) (f, first, refl) (g, fault, refl) in
     x ∙ ap (λ (r : Reply). on_errors 1 (r.errors ++ rescue_text held l m fs)) same ∙ sym y
-some_once held input l m fs a b (inl (none, x)) (inr (some, y)) = absurd (some none)
-some_once held input l m fs a b (inr (some, x)) (inl (none, y)) = absurd (some none)
-some_once held input l m fs a b (inr (some, (one, laid, size, x))) (inr (also, (other, too, long, y))) = grind (arith, common_steps)
+some_once held input l m fs boot a b (inl (none, x)) (inr (some, y)) = absurd (some none)
+some_once held input l m fs boot a b (inr (some, x)) (inl (none, y)) = absurd (some none)
+some_once held input l m fs boot a b (inr (some, (one, laid, size, x))) (inr (also, (other, too, long, y))) = grind (arith, common_steps)
 
-by_surveys_once : (held : ℕ) (input : List ℕ) (l : Basis) (m : Option Basis) (fs : List FindingValue) (a b : Reply)
-    → RescuesBy held input l m fs a → RescuesBy held input l m fs b → a ≡ b
-by_surveys_once held input l m fs a b (inl (none, x)) (inl (also, y)) = refused_once input a b x y
-by_surveys_once held input l m fs a b (inl (none, x)) (inr (some, y)) = absurd (some none)
-by_surveys_once held input l m fs a b (inr (some, x)) (inl (none, y)) = absurd (some none)
-by_surveys_once held input l m fs a b (inr (some, x)) (inr (also, y)) = some_once held input l m fs a b x y
+by_surveys_once : (held : ℕ) (input : List ℕ) (l : Basis) (m : Option Basis) (fs : List FindingValue) (boot : List ℕ) (a b : Reply)
+    → RescuesBy held input l m fs boot a → RescuesBy held input l m fs boot b → a ≡ b
+by_surveys_once held input l m fs boot a b (inl (none, x)) (inl (also, y)) = refused_once input a b x y
+by_surveys_once held input l m fs boot a b (inl (none, x)) (inr (some, y)) = absurd (some none)
+by_surveys_once held input l m fs boot a b (inr (some, x)) (inl (none, y)) = absurd (some none)
+by_surveys_once held input l m fs boot a b (inr (some, x)) (inr (also, y)) = some_once held input l m fs boot a b x y
 
 one_second : (image : Option (List ℕ)) (l m : Option Basis) → IsSecond image l → IsSecond image m → l ≡ m
 one_second None None None x y = refl
@@ -124,23 +124,25 @@ one_second (Some image) (Some l) (Some m) x y = ap some (one_basis image l m x y
     some : Basis → Option Basis
     some k = Some k
 
-found_rescued_once : (held : ℕ) (input image : List ℕ) (w : List (Role × ℕ)) (fs : List FindingValue) (a b : Reply)
-    → RescuesFound held input image w fs a → RescuesFound held input image w fs b → a ≡ b
-found_rescued_once held input image w fs a b (sound, marks, (l, second, x)) (others, also, (m, twice, y)) =
+found_rescued_once : (held : ℕ) (input image : List ℕ) (w : List (Role × ℕ)) (fs : List FindingValue) (boot : List ℕ) (a b : Reply)
+    → RescuesFound held input image w fs boot a → RescuesFound held input image w fs boot b → a ≡ b
+found_rescued_once held input image w fs boot a b (sound, marks, (l, second, x)) (others, also, (m, twice, y)) =
     let r : (ℕ → Bool) → Basis = λ s. record { image = image; walk = w; sound = s } in
-    by_surveys_once held input (r others) m fs a b
-    (subst (λ o. RescuesBy held input (r others) o fs a) (one_second (second_image (is_mended input) image w fs) l m second twice)
-    (subst (λ s. RescuesBy held input (r s) l fs a) (one_marks image w (grave fs) sound others marks also) x)) y
+    by_surveys_once held input (r others) m fs boot a b
+    (subst (λ o. RescuesBy held input (r others) o fs boot a) (one_second (second_image (is_mended input) image w fs) l m second twice)
+    (subst (λ s. RescuesBy held input (r s) l fs boot a) (one_marks image w (grave fs) sound others marks also) x)) y
 
-rescued_once : (held : ℕ) (input image : List ℕ) (a b : Reply) → RescuesIn held input image a → RescuesIn held input image b → a ≡ b
-rescued_once held input image a b (w, fs, s, x) (u, gs, t, y) =
+rescued_once : (held : ℕ) (input image boot : List ℕ) (a b : Reply) → RescuesIn held input image boot a → RescuesIn held input image boot b
+    → a ≡ b
+rescued_once held input image boot a b (w, fs, s, x) (u, gs, t, y) =
     let same = one_survey image w u fs gs s t in
-    let moved = subst (λ v. RescuesFound held input image v fs a) same.0 x in
-    found_rescued_once held input image u gs a b (subst (λ hs. RescuesFound held input image u hs a) same.1 moved) y
+    let moved = subst (λ v. RescuesFound held input image v fs boot a) same.0 x in
+    found_rescued_once held input image u gs boot a b (subst (λ hs. RescuesFound held input image u hs boot a) same.1 moved) y
 
 typed_rescued_once : (s : SubjectValue) (a b : Reply) → RescuesTyped s a → RescuesTyped s b → a ≡ b
 typed_rescued_once s a b (t, is, x) (u, also, y) =
-    rescued_once u.end u.image (opened u.image) a b (subst (λ (t : SubjectValue). Rescues t.end t.image a) (one_typed s t u is also) x) y
+    rescued_once u.end u.image (opened u.image) (sized 2 s.image) a b
+    (subst (λ (t : SubjectValue). Rescues t.end t.image (sized 2 s.image) a) (one_typed s t u is also) x) y
 
 one_question : (q : QuestionValue) (s : SubjectValue) (a b : Reply) → QuestionAnswer q s a → QuestionAnswer q s b → a ≡ b
 one_question report s a b x y = typed_once s Surveys surveyed_once a b x y

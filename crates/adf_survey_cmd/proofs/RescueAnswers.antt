@@ -19,6 +19,7 @@ use Rattle.adf_rescue.specs.Lost.{has_lost, is_settled}
 use Rattle.adf_rescue.specs.Opened.{is_mended, opened}
 use Rattle.adf_rescue.specs.Rescue.{HasFault, Basis, StandsNothing, rescued_tree}
 use Rattle.adf_blocks.specs.Sizes.{blocks}
+use Rattle.adf_boot_blocks.specs.Writing.{restored}
 use Rattle.adf_build.specs.Building.{IsBuildable}
 use Rattle.adf_build.specs.Laid.{IsLaid}
 use Rattle.adf_rescue.proofs.OpenedImages.{opened_kept, volumes_are_kept}
@@ -40,13 +41,13 @@ if_some o x P e h = subst (λ o. IfSome o P) e h
 
 -- what is answered by the survey of an opened image, and by that of a second one, if there is one
 pub found_answers : (held : ℕ) (input image : List ℕ) (w : List (Role × ℕ)) (fs : List FindingValue) (sound : ℕ → Bool)
-    (second : Option (List ℕ)) (reply : Reply)
+    (second : Option (List ℕ)) (boot : List ℕ) (reply : Reply)
     → image ≡ opened input → IsSurvey image w fs → AreMarks image w (grave fs) sound → second_image (is_mended input) image w fs ≡ second
-    → RescuesBoth held input (record { image = image; walk = w; sound = sound }) second fs reply → Rescues held input reply
-found_answers held input image w fs sound second reply same survey marks is by =
+    → RescuesBoth held input (record { image = image; walk = w; sound = sound }) second fs boot reply → Rescues held input boot reply
+found_answers held input image w fs sound second boot reply same survey marks is by =
     let a : Basis = record { image = image; walk = w; sound = sound } in
-    subst (λ (l : List ℕ). RescuesIn held input l reply) same
-    (w, fs, survey, (sound, marks, subst (λ (o : Option (List ℕ)). RescuesBoth held input a o fs reply) (sym is) by))
+    subst (λ (l : List ℕ). RescuesIn held input l boot reply) same
+    (w, fs, survey, (sound, marks, subst (λ (o : Option (List ℕ)). RescuesBoth held input a o fs boot reply) (sym is) by))
 
 -- the hung image is surveyed where something is lost, and only there
 
@@ -81,39 +82,41 @@ pub volume_prepared : (held : ℕ) (input : List ℕ) (a : Basis) (b : Option Ba
     → Prepares (RescuesBy held input a b fs) (Ok p)
 volume_prepared held input a b fs p room tree size told read some = (
   room,
-  λ reply writes. inr (
+  λ boot reply writes. inr (
     read,
     inr (
       some,
-      (writes.0, subst (λ (t : Tree). IsLaid writes.0 t) tree writes.1, writes.2 ∙ size, writes.3 ∙ ap (rescue_reply writes.0) told),
+      (writes.0, subst (λ (t : Tree). IsLaid writes.0 t) tree writes.1, writes.2 ∙ size, writes.3 ∙ ap (rescue_reply (restored writes.0 boot)) told),
     ),
   ),
 )
 
 -- a rescue that is prepared with some answers is prepared with others that they are
-pub prepares_weaker : (few more : Reply → Type 0) (r : Result Prepared Outcome) → ((reply : Reply) → few reply → more reply)
+pub prepares_weaker : (few more : List ℕ → Reply → Type 0) (r : Result Prepared Outcome)
+    → ((boot : List ℕ) (reply : Reply) → few boot reply → more boot reply)
     → Prepares few r → Prepares more r
-prepares_weaker few more (Ok p) f h = (h.0, λ reply w. f reply (h.1 reply w))
-prepares_weaker few more (Err w) f h = (h.0, h.1, λ o. ends_weaker few more w o o f (h.2 o))
+prepares_weaker few more (Ok p) f h = (h.0, λ boot reply w. f boot reply (h.1 boot reply w))
+prepares_weaker few more (Err w) f h = (h.0, h.1, λ boot o. ends_weaker (few boot) (more boot) w o o (f boot) (h.2 boot o))
 
 -- where memory is refused, nothing is written
-pub none_prepared : (answers : Reply → Type 0) (r : Result Prepared Outcome) → IsErrAnd r (λ w. w ≡ NoMemory) → Prepares answers r
+pub none_prepared : (answers : List ℕ → Reply → Type 0) (r : Result Prepared Outcome) → IsErrAnd r (λ w. w ≡ NoMemory) → Prepares answers r
 none_prepared answers (Ok p) is = absurd is
-none_prepared answers (Err w) is = rw is (refl, refl, λ o. inl (appends_nil o))
+none_prepared answers (Err w) is = rw is (refl, refl, λ boot o. inl (appends_nil o))
 
 -- a refused input is answered so
-pub refusal_prepared : (answers : Reply → Type 0) (input : List ℕ) (w : Outcome) → ((reply : Reply) → RefusesImage input reply → answers reply)
+pub refusal_prepared : (answers : List ℕ → Reply → Type 0) (input : List ℕ) (w : Outcome)
+    → ((boot : List ℕ) (reply : Reply) → RefusesImage input reply → answers boot reply)
     → IsRefusedImage input w → Prepares answers (Err w)
-refusal_prepared answers input (Refused line) f h = (refl, refl, λ o. refused_image_ends (Refused line) input answers o f h)
-refusal_prepared answers input NoMemory f h = (refl, refl, λ o. refused_image_ends NoMemory input answers o f h)
+refusal_prepared answers input (Refused line) f h = (refl, refl, λ boot o. refused_image_ends (Refused line) input (answers boot) o (f boot) h)
+refusal_prepared answers input NoMemory f h = (refl, refl, λ boot o. refused_image_ends NoMemory input (answers boot) o (f boot) h)
 refusal_prepared answers input _ f h = absurd h
 
 -- so is one that is refused with lines
-pub refused_with_prepared : (answers : Reply → Type 0) (text input : List ℕ) (w : Outcome)
-    → ((reply : Reply) → RefusesWith text input reply → answers reply) → IsRefusedWith text input w → Prepares answers (Err w)
+pub refused_with_prepared : (answers : List ℕ → Reply → Type 0) (text input : List ℕ) (w : Outcome)
+    → ((boot : List ℕ) (reply : Reply) → RefusesWith text input reply → answers boot reply) → IsRefusedWith text input w → Prepares answers (Err w)
 refused_with_prepared answers text input (Tells lines) f h =
-    (refl, refl, λ o. ([], f (on_errors 1 lines.items) (h.0, h.1, ap (on_errors 1) h.2), appends_nil o))
-refused_with_prepared answers text input NoMemory f h = (refl, refl, λ o. inl (appends_nil o))
+    (refl, refl, λ boot o. ([], f boot (on_errors 1 lines.items) (h.0, h.1, ap (on_errors 1) h.2), appends_nil o))
+refused_with_prepared answers text input NoMemory f h = (refl, refl, λ boot o. inl (appends_nil o))
 refused_with_prepared answers text input _ f h = absurd h
 
 -- an input is opened as the image that a rescue reads

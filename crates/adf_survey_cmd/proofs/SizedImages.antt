@@ -1,7 +1,7 @@
 -- Images that are taken as if they had so many blocks.
-use Rattle.std.proofs.Common.{◌≡◌, ◌-◌, ◌*◌, ◌++◌, ℕ, List, ap₂, arith, length, replicate, take, min}
+use Rattle.std.proofs.Common.{◌≡◌, ◌-◌, ◌*◌, ◌++◌, ℕ, List, ap₂, arith, length, replicate, take, min, length-append, length-take}
 use Rattle.std.proofs.lemmas.Bool.{cases_lt}
-use Rattle.std.proofs.lemmas.List.{take_all}
+use Rattle.std.proofs.lemmas.List.{length-replicate, take_all}
 use Rattle.std.proofs.lemmas.Grind.{common_steps}
 use Rattle.adf_survey_cmd.specs.Subject.{sized}
 
@@ -9,3 +9,6 @@ use Rattle.adf_survey_cmd.specs.Subject.{sized}
 pub sized_is : (bytes : List ℕ) (n long kept : ℕ) → long ≡ n * 512 → kept ≡ min (length bytes) long
     → take kept bytes ++ replicate (long - kept) 0 ≡ sized n bytes
 sized_is bytes n long kept whole is = grind (arith, common_steps, cases_lt, ap₂, replicate, take_all)
+
+pub length_sized : (n : ℕ) (bytes : List ℕ) → length (sized n bytes) ≡ 512 * n
+length_sized n bytes = grind (arith, common_steps, cases_lt, length-append, length-replicate, length-take)

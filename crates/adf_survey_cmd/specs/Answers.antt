@@ -17,7 +17,7 @@ use Rattle.adf_file_words.specs.SurveyLine.{AreRefusedBySurvey, AsksSurvey, Inqu
 use Rattle.adf_survey_cmd.specs.FoundLines.{has_its_data, listing_text}
 use Rattle.adf_survey_cmd.specs.Remains.{WritesRemains}
 use Rattle.adf_survey_cmd.specs.Rescues.{Rescues}
-use Rattle.adf_survey_cmd.specs.Subject.{IsTyped, OfTyped, SubjectValue, subject, told_text}
+use Rattle.adf_survey_cmd.specs.Subject.{IsTyped, OfTyped, SubjectValue, sized, subject, told_text}
 
 -- the status of findings: 0 where there is none
 abbrev pub findings_status : List FindingValue → ℕ
@@ -87,9 +87,9 @@ CopiesFromSurvey damaged path s reply =
     (names : List (List ℕ)) × IsPathText path names
     × (w : List (Role × ℕ)) × (fs : List FindingValue) × IsSurvey s.image w fs × CopiesFound damaged s w fs names reply
 
--- `rescue` of what is surveyed, once it has the type that its files say
+-- `rescue` of what is surveyed, once it has the type that its files say: with its two boot blocks as they were before
 abbrev pub RescuesTyped : SubjectValue → Reply → Type 0
-RescuesTyped s reply = (t : SubjectValue) × IsTyped s t × Rescues t.end t.image reply
+RescuesTyped s reply = (t : SubjectValue) × IsTyped s t × Rescues t.end t.image (sized 2 s.image) reply
 
 -- the answer to a question of what is surveyed: once it is begun, and has the type that its files say
 abbrev pub QuestionAnswer : QuestionValue → SubjectValue → Reply → Type 0

@@ -1,9 +1,10 @@
 -- Rescues of which only the new volume is to be laid and written.
--- Letters: p a prepared rescue; w how a work ends; o what output has.
+-- Letters: p a prepared rescue; w how a work ends; o what output has; boot the boot blocks of the input.
 use Rattle.std.specs.Prelude.{◌≡◌, ◌++◌, ℕ, true, false, List, Option, None, Some, Result, Ok, Err}
 use Rattle.adf_blocks.specs.Sizes.{blocks}
 use Rattle.adf_volume.specs.declared.fault.Fault.{Fault}
 use Rattle.adf_volume.specs.Walk.{FirstFault}
+use Rattle.adf_boot_blocks.specs.Writing.{restored}
 use Rattle.adf_build.specs.Building.{IsBuildable}
 use Rattle.adf_build.specs.Laid.{IsLaid}
 use Rattle.adf_rescue.specs.Opened.{is_mended, opened}
@@ -16,15 +17,19 @@ use Rattle.adf_runs.specs.declared.outcome.Outcome.TheVariants.{LeftOut, NoMemor
 use Rattle.adf_survey_cmd.specs.Rescues.{rescue_reply}
 use Rattle.adf_survey_cmd.specs.declared.rescuing.Prepared.{Prepared}
 
--- a volume is written that is laid for the tree, in as many blocks, and the lines are told
-abbrev pub WritesPrepared : Prepared → Reply → Type 0
-WritesPrepared p reply =
-    (volume : List ℕ) × IsLaid volume p.draft.tree × (blocks volume ≡ p.blocks) × (reply ≡ rescue_reply volume p.lines.items)
+-- a volume is written that is laid for the tree, in as many blocks, with the boot blocks put back into it, and the lines are told
+abbrev pub WritesPrepared : Prepared → (boot : List ℕ) → Reply → Type 0
+WritesPrepared p boot reply =
+    (volume : List ℕ) × IsLaid volume p.draft.tree × (blocks volume ≡ p.blocks)
+    × (reply ≡ rescue_reply (restored volume boot) p.lines.items)
 
--- a rescue that has these answers is prepared: its tree fits, and each volume that is laid for it answers; or nothing is written
-abbrev pub Prepares : (Reply → Type 0) → Result Prepared Outcome → Type 0
-Prepares answers (Ok p) = IsBuildable p.draft.tree p.blocks × ((reply : Reply) → WritesPrepared p reply → answers reply)
-Prepares answers (Err w) = (is_read_fault w ≡ false) × (is_write_fault w ≡ false) × ((o : Option (List ℕ)) → EndsBy answers w o o)
+-- a rescue that has these answers, by the boot blocks that are put back, is prepared: its tree fits, and each volume that is laid for it
+-- answers; or nothing is written
+abbrev pub Prepares : ((boot : List ℕ) → Reply → Type 0) → Result Prepared Outcome → Type 0
+Prepares answers (Ok p) =
+    IsBuildable p.draft.tree p.blocks × ((boot : List ℕ) (reply : Reply) → WritesPrepared p boot reply → answers boot reply)
+Prepares answers (Err w) =
+    (is_read_fault w ≡ false) × (is_write_fault w ≡ false) × ((boot : List ℕ) (o : Option (List ℕ)) → EndsBy (answers boot) w o o)
 
 -- an input is opened as an image: as it is, or mended, and then it is refused so
 abbrev pub IsOpened : List ℕ → List ℕ → Option Outcome → Type 0

@@ -1,9 +1,10 @@
 -- What a rescue answers.
 -- Letters: a the survey of an image, w its walk, fs its findings; b the second survey, if there is one; x an entry that is left out;
--- p the node of a directory, n a block; held the number of blocks that the input holds whole.
+-- p the node of a directory, n a block; held the number of blocks that the input holds whole; boot the boot blocks of the input.
 use Rattle.std.specs.Prelude.{◌≡◌, ◌≢◌, ◌==◌, ◌⊎◌, ◌+◌, ℕ, Bool, false, List, [], ◌∷◌, ◌++◌, Option, None, Some, codes, cond}
 use Rattle.std.specs.List.{flat_map}
 use Rattle.adf_blocks.specs.Sizes.{blocks}
+use Rattle.adf_boot_blocks.specs.Writing.{restored}
 use Rattle.adf_volume.specs.declared.fault.Fault.{Fault}
 use Rattle.adf_volume.specs.Walk.{FirstFault, Role}
 use Rattle.adf_findings.specs.Files.{grave}
@@ -92,46 +93,47 @@ text_status (c ∷ text) = 1
 abbrev pub rescue_reply : List ℕ → List ℕ → Reply
 rescue_reply volume text = record { status = text_status text; output = volume; errors = text }
 
--- the volume is written that is laid for the tree of all that stands, in as many blocks
-abbrev pub WritesVolume : (held : ℕ) → Basis → Option Basis → List FindingValue → Reply → Type 0
-WritesVolume held a b fs reply =
+-- the volume is written that is laid for the tree of all that stands, in as many blocks, with the boot blocks put back into it
+abbrev pub WritesVolume : (held : ℕ) → Basis → Option Basis → List FindingValue → (boot : List ℕ) → Reply → Type 0
+WritesVolume held a b fs boot reply =
     (volume : List ℕ) × IsLaid volume (rescued_tree held a b) × (blocks volume ≡ blocks a.image)
-    × (reply ≡ rescue_reply volume (rescue_text held a b fs))
+    × (reply ≡ rescue_reply (restored volume boot) (rescue_text held a b fs))
 
 -- nothing is written, and errors get the first fault of the input, and these lines behind it
 abbrev pub RefusesWith : List ℕ → List ℕ → Reply → Type 0
 RefusesWith text input reply = (f : Fault) × FirstFault input f.block f.cause × (reply ≡ on_errors 1 (fault_line f ++ text))
 
 -- the rescue of an input of which something is surveyed: the volume, or where nothing stands the first fault
-abbrev pub RescuesSome : (held : ℕ) → List ℕ → Basis → Option Basis → List FindingValue → Reply → Type 0
-RescuesSome held input a b fs reply =
+abbrev pub RescuesSome : (held : ℕ) → List ℕ → Basis → Option Basis → List FindingValue → (boot : List ℕ) → Reply → Type 0
+RescuesSome held input a b fs boot reply =
     (StandsNothing held a b fs (is_mended input) × RefusesWith (rescue_text held a b fs) input reply)
-    ⊎ ((¬ StandsNothing held a b fs (is_mended input)) × WritesVolume held a b fs reply)
+    ⊎ ((¬ StandsNothing held a b fs (is_mended input)) × WritesVolume held a b fs boot reply)
 
 -- the rescue of an input by the surveys; where nothing is surveyed it is refused
-abbrev pub RescuesBy : (held : ℕ) → List ℕ → Basis → Option Basis → List FindingValue → Reply → Type 0
-RescuesBy held input a b fs reply = ((a.walk ≡ []) × RefusesImage input reply) ⊎ ((a.walk ≢ []) × RescuesSome held input a b fs reply)
+abbrev pub RescuesBy : (held : ℕ) → List ℕ → Basis → Option Basis → List FindingValue → (boot : List ℕ) → Reply → Type 0
+RescuesBy held input a b fs boot reply =
+    ((a.walk ≡ []) × RefusesImage input reply) ⊎ ((a.walk ≢ []) × RescuesSome held input a b fs boot reply)
 
 -- the second image that is surveyed: the hung one, if something is lost; mended tells whether the first one was
 abbrev pub second_image : Bool → List ℕ → List (Role × ℕ) → List FindingValue → Option (List ℕ)
 second_image mended image w fs = cond (has_lost mended image w fs) (Some (hung image w (is_settled mended w fs))) None
 
 -- the rescue of an input by the survey of its image, and by that of a second image, if there is one
-abbrev pub RescuesBoth : (held : ℕ) → List ℕ → Basis → Option (List ℕ) → List FindingValue → Reply → Type 0
-RescuesBoth held input a image fs reply = (b : Option Basis) × IsSecond image b × RescuesBy held input a b fs reply
+abbrev pub RescuesBoth : (held : ℕ) → List ℕ → Basis → Option (List ℕ) → List FindingValue → (boot : List ℕ) → Reply → Type 0
+RescuesBoth held input a image fs boot reply = (b : Option Basis) × IsSecond image b × RescuesBy held input a b fs boot reply
 
 -- the rescue of an input by what is found in an image
-abbrev pub RescuesFound : (held : ℕ) → List ℕ → List ℕ → List (Role × ℕ) → List FindingValue → Reply → Type 0
-RescuesFound held input image w fs reply =
+abbrev pub RescuesFound : (held : ℕ) → List ℕ → List ℕ → List (Role × ℕ) → List FindingValue → (boot : List ℕ) → Reply → Type 0
+RescuesFound held input image w fs boot reply =
     (sound : ℕ → Bool) × AreMarks image w (grave fs) sound
-    × RescuesBoth held input (record { image = image; walk = w; sound = sound }) (second_image (is_mended input) image w fs) fs reply
+    × RescuesBoth held input (record { image = image; walk = w; sound = sound }) (second_image (is_mended input) image w fs) fs boot reply
 
 -- the rescue of an input by the survey of an image
-abbrev pub RescuesIn : (held : ℕ) → List ℕ → List ℕ → Reply → Type 0
-RescuesIn held input image reply =
-    (w : List (Role × ℕ)) × (fs : List FindingValue) × IsSurvey image w fs × RescuesFound held input image w fs reply
+abbrev pub RescuesIn : (held : ℕ) → List ℕ → List ℕ → (boot : List ℕ) → Reply → Type 0
+RescuesIn held input image boot reply =
+    (w : List (Role × ℕ)) × (fs : List FindingValue) × IsSurvey image w fs × RescuesFound held input image w fs boot reply
 
 -- `adf-survey rescue` writes the volume of all that stands in an image, whose boot block and root may be overwritten, and of which the
--- input holds the first `held` blocks
-abbrev pub Rescues : (held : ℕ) → List ℕ → Reply → Type 0
-Rescues held input reply = RescuesIn held input (opened input) reply
+-- input holds the first `held` blocks; and puts these boot blocks into it
+abbrev pub Rescues : (held : ℕ) → List ℕ → (boot : List ℕ) → Reply → Type 0
+Rescues held input boot reply = RescuesIn held input (opened input) boot reply

@@ -3,6 +3,7 @@
 
 mod copying;
 mod found_lines;
+mod laws;
 mod listing;
 mod lost_lines;
 mod reporting;
@@ -12,6 +13,7 @@ mod runs;
 mod subject;
 mod work;
 
+pub use crate::laws::rescued_volumes;
 pub use crate::runner::{one_answer, run, run_files};
 pub use crate::runs::{Run, run_from};
 pub use crate::subject::Subject;

@@ -1,12 +1,15 @@
 // The new volume of all that stands on an image, and the lines of what is not in it.
 
-ghost use Rattle.std.specs.Prelude.{◌≡◌, ◌++◌, ℕ, List, [], false, true};
+ghost use Rattle.std.specs.Prelude.{◌≡◌, ◌≤◌, ◌++◌, ℕ, List, [], false, length, true};
 ghost use Rattle.std.specs.Prelude.{Option, Some, IfOk, OnOk, is_some, option_map};
 ghost use Rattle.adf_tree.specs.Tree.{Tree};
 ghost use Rattle.adf_volume.specs.Fits.{Fits};
 ghost use Rattle.adf_volume.specs.Layout.{Layout};
 ghost use Rattle.adf_findings.specs.Survey.{OnSurvey};
+ghost use Rattle.adf_blocks.specs.Sizes.{blocks as blocks_in};
+ghost use Rattle.adf_boot_blocks.specs.Writing.{restored};
 ghost use Rattle.adf_build.specs.Building.{IsBuildable};
+ghost use Rattle.adf_build.specs.Laid.{IsLaid};
 ghost use Rattle.adf_rescue.specs.Opened.{is_mended};
 ghost use Rattle.adf_rescue.specs.Rescue.{IsSecond, Basis, OnBasis, OnSecond};
 ghost use Rattle.adf_cmd.specs.Refusals.{IsRefusedImage};
@@ -16,6 +19,8 @@ ghost use Rattle.adf_survey_cmd.specs.Rescues.{Rescues, RescuesBoth, RescuesBy, 
 
 use crate::lost_lines::{push_lost_blocks, push_lost_headers};
 use crate::runs::push_path;
+use adf_base::NoMemory;
+use adf_boot_blocks::{BOOT_LEN, restore};
 use adf_cmd::volume_of;
 use adf_drafts::Draft;
 use adf_findings::{Survey, some_survey, survey};
@@ -123,11 +128,30 @@ fn told(lines: Vec<u8>) -> Outcome
     }
 }
 
-// Lays and writes the volume of a prepared rescue, and tells what is not in it.
-fn write_prepared<W: Sink>(alloc: Global, prepared: Prepared, output: &mut W) -> Outcome
+// Lays the volume of a tree that fits in so many blocks, and puts these boot blocks into it.
+#[tactic(auto, using(crate::proofs::KeptBoots::laid_long))]
+fn lay_with(alloc: Global, draft: Draft, blocks: u32, boot: &[u8]) -> Result<Vec<u8>, NoMemory>
+    requires fits { IsBuildable draft.tree blocks }
+    requires boot { BOOT_LEN ≤ length boot.now }
+    ensures { IfOk result (λ image. (volume : List ℕ) × IsLaid volume draft.tree
+        × (blocks_in volume ≡ blocks) × (image.items ≡ restored volume boot.now)) }
+{
+    let mut image = lay(alloc, draft, blocks)?;
+    restore(&mut image, boot);
+    Ok(image)
+}
+
+// Lays and writes the volume of a prepared rescue with these boot blocks, and tells what is not in it.
+fn write_prepared<W: Sink>(
+    alloc: Global,
+    prepared: Prepared,
+    boot: &[u8],
+    output: &mut W,
+) -> Outcome
     requires works { W.has_failed output.old ≡ false }
     requires fits { IsBuildable prepared.draft.tree prepared.blocks }
-    ensures ends { EndsBy (WritesPrepared prepared) result (W.held output.old) (W.held output.new) }
+    requires boot { BOOT_LEN ≤ length boot.now }
+    ensures ends { EndsBy (WritesPrepared prepared boot.now) result (W.held output.old) (W.held output.new) }
     ensures read { is_read_fault result ≡ false }
     ensures written { W.has_failed output.new ≡ is_write_fault result }
 {
@@ -136,10 +160,10 @@ fn write_prepared<W: Sink>(alloc: Global, prepared: Prepared, output: &mut W) ->
         blocks,
         lines,
     } = prepared;
-    let Ok(volume) = lay(alloc, draft, blocks) else {
+    let Ok(image) = lay_with(alloc, draft, blocks, boot) else {
         return Outcome::NoMemory;
     };
-    match write_all(output, &volume) {
+    match write_all(output, &image) {
         Ok(()) => told(lines),
         Err(_) => Outcome::WriteFault,
     }
@@ -279,15 +303,22 @@ fn prepare(alloc: Global, input: Vec<u8>, held: usize) -> Result<Prepared, Outco
 /// Writes the new volume of all that stands on an image, whose boot block and root may be overwritten, and of which the first
 /// `held` blocks were there whole, with what no directory leads to any more; errors get the lines of what is not in it. If
 /// nothing stands, and the input is not a valid volume, errors get the line of its first fault, then these lines.
-/// The input is let go before the new volume is laid.
-pub fn rescue_image<W: Sink>(alloc: Global, input: Vec<u8>, held: usize, output: &mut W) -> Outcome
-    requires { W.has_failed output.old ≡ false }
-    ensures ends { EndsBy (Rescues held input.items) result (W.held output.old) (W.held output.new) }
+/// The new volume gets the boot blocks. The input is let go before it is laid.
+pub fn rescue_image<W: Sink>(
+    alloc: Global,
+    input: Vec<u8>,
+    boot: &[u8],
+    held: usize,
+    output: &mut W,
+) -> Outcome
+    requires works { W.has_failed output.old ≡ false }
+    requires boot { BOOT_LEN ≤ length boot.now }
+    ensures ends { EndsBy (Rescues held input.items boot.now) result (W.held output.old) (W.held output.new) }
     ensures read { is_read_fault result ≡ false }
     ensures written { W.has_failed output.new ≡ is_write_fault result }
 {
     match prepare(alloc, input, held) {
-        Ok(prepared) => write_prepared(alloc, prepared, output),
+        Ok(prepared) => write_prepared(alloc, prepared, boot, output),
         Err(outcome) => outcome,
     }
 }

@@ -1,6 +1,6 @@
 // What is surveyed of an input.
 
-ghost use Rattle.std.specs.Prelude.{◌≡◌, ◌≤◌, ◌++◌, IfOk, OnOk};
+ghost use Rattle.std.specs.Prelude.{◌≡◌, ◌≤◌, ◌++◌, IfOk, OnOk, length};
 ghost use Rattle.adf_blocks.specs.declared.layout.TheConstants.{MOST_BLOCKS};
 ghost use Rattle.adf_findings.specs.OwnKind.{is_mistyped, retyped};
 ghost use Rattle.adf_findings.specs.Survey.{OnSurvey};
@@ -10,6 +10,7 @@ ghost use Rattle.adf_survey_cmd.specs.Subject.{IsTyped, begun_subject, changed, 
 use crate::runs::push_blocks;
 use adf_base::{BLOCK_LEN, NoMemory};
 use adf_blocks::MOST_BLOCKS;
+use adf_boot_blocks::BOOT_LEN;
 use adf_findings::{retype, some_survey, survey};
 use adf_rescue::{begin_image, lacks_boot};
 use adf_tree::Kind;
@@ -137,6 +138,14 @@ impl Subject {
         ensures { IfOk result (λ text. text.items ≡ self.now.front.items) }
     {
         self.front.to_vec(alloc)
+    }
+
+    /// A copy of the boot blocks, with zeros for what is not there.
+    pub fn boot(&self, alloc: Global) -> Result<Vec<u8>, AllocError>
+        ensures boot { IfOk result (λ boot. boot.items ≡ sized 2 self.now.image.items) }
+        ensures long { IfOk result (λ boot. length boot.items ≡ BOOT_LEN) }
+    {
+        sized(alloc, &self.image, 2)
     }
 
     /// Begins the image with `DOS` and a type, if only the boot block is lost, and says so.

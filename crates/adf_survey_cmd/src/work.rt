@@ -164,15 +164,18 @@ impl View {
     }
 }
 
-// Rescues what is surveyed of an input, once its image has the type that its files say.
+// Rescues what is surveyed of an input, once its image has the type that its files say, with the boot blocks that it had before.
 fn rescue_subject<W: Sink>(alloc: Global, mut subject: Subject, output: &mut W) -> Outcome
     requires { W.has_failed output.old ≡ false }
     ensures ends { EndsBy (RescuesTyped (subject_value subject)) result (W.held output.old) (W.held output.new) }
     ensures read { is_read_fault result ≡ false }
     ensures written { W.has_failed output.new ≡ is_write_fault result }
 {
+    let Ok(boot) = subject.boot(alloc) else {
+        return Outcome::NoMemory;
+    };
     match subject.be_typed(alloc) {
-        Ok(()) => rescue_image(alloc, subject.image, subject.end as usize, output),
+        Ok(()) => rescue_image(alloc, subject.image, &boot, subject.end as usize, output),
         Err(_) => Outcome::NoMemory,
     }
 }

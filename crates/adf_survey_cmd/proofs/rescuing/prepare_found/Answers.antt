@@ -29,7 +29,7 @@ pub returns-in_default : goal.returns-in_default
 returns-in_default c = λ input opened w fs sound here marks b second.
     let a : Basis = record { image = c.args.found.now.image; walk = w; sound = sound } in
     let nothing : w ≡ [] = grind (arith, common_steps) in
-    refusal_prepared (RescuesBy c.args.held input a b fs) input c.refuse_opened.result (λ reply refuses. inl (nothing, refuses))
+    refusal_prepared (RescuesBy c.args.held input a b fs) input c.refuse_opened.result (λ boot reply refuses. inl (nothing, refuses))
     (c.refuse_opened.ensures input (subst (λ (i : List ℕ). IsOpened input i c.args.refusal) (sym c.image.ensures) opened))
 
 pub returns-in_err-lines : goal.returns-in_err-lines
@@ -61,7 +61,7 @@ returns-then-rescued c = λ input opened w fs sound here marks b second.
     let nothing = if_some _ _ _ is (kept.nothing w fs sound here marks b second) in
     let stands = subst (StandsNothing c.args.held a b fs) same (nothing.0 c.if-rescued.true) in
     refused_with_prepared (RescuesBy c.args.held input a b fs) (rescue_text c.args.held a b fs) input c.refuse_with.result
-    (λ reply refuses. inr (read, inl (stands, refuses)))
+    (λ boot reply refuses. inr (read, inl (stands, refuses)))
     (subst (λ (text : List ℕ). IsRefusedWith text input c.refuse_with.result) (c.deref.ensures.value ∙ lines)
     (c.refuse_with.ensures input (subst (λ (i : List ℕ). IsOpened input i c.args.refusal) (sym c.image-then-rescued.ensures) opened)))
 

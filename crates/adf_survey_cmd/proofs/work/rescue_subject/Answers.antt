@@ -1,11 +1,14 @@
+use Rattle.std.proofs.Common.{◌∙◌}
 use Rattle.adf_runs.proofs.Endings.{ends_weaker}
 use Rattle.adf_survey_cmd.specs.Answers.{RescuesTyped}
 use Rattle.adf_survey_cmd.specs.Rescues.{Rescues}
-use Rattle.adf_survey_cmd.specs.Subject.{subject_value}
+use Rattle.adf_survey_cmd.specs.Subject.{sized, subject_value}
 use Rattle.adf_survey_cmd.proofs.work.rescue_subject.Goals as goal
 
-pub returns-in-Ok-clause-ends : goal.returns-in-Ok-clause-ends
-returns-in-Ok-clause-ends g c =
+pub returns-in-Ok-be_typed-clause-ends : goal.returns-in-Ok-be_typed-clause-ends
+returns-in-Ok-be_typed-clause-ends g c =
     let t = subject_value c.be_typed.new.self in
-    ends_weaker (Rescues t.end t.image) (RescuesTyped (subject_value c.args.subject)) _ _ _
-    (λ reply told. (t, c.in-Ok.ensures, told)) c.rescue_image.ensures.ends
+    let boot = sized 2 c.args.subject.image.items in
+    let same = c.deref.ensures.value ∙ c.in-Ok.ensures.boot in
+    ends_weaker (Rescues t.end t.image boot) (RescuesTyped (subject_value c.args.subject)) _ _ _
+    (λ reply told. (t, c.in-Ok-be_typed.ensures, told)) (rw same at c.rescue_image.ensures.ends)

@@ -1,0 +1,84 @@
+-- Volumes of rescues, with the boot blocks that are put into them.
+-- Letters: s, t what is surveyed; a the survey of an image, b the second one, if there is one, fs findings; held the blocks that are held.
+use Rattle.std.proofs.Common.{◌≡◌, ◌≢◌, ◌∙◌, ◌++◌, ◌+◌, ◌-◌, ◌*◌, ◌/◌, ◌≤◌, ◌<◌, ℕ, List, [], Option, None, Some, true}
+use Rattle.std.proofs.Common.{inl, inr, ap, refl, subst, sym, length, replicate, take, append-nil, arith, slice_index}
+use Rattle.std.proofs.lemmas.Bool.{and_parts, cond_both, leb-true}
+use Rattle.std.proofs.lemmas.Grind.{common_steps}
+use Rattle.std.proofs.lemmas.List.{length-set}
+use Rattle.adf_tree.specs.Tree.{Tree}
+use Rattle.adf_blocks.specs.Sizes.{blocks, is_allowed}
+use Rattle.adf_volume.specs.Fits.{Fits}
+use Rattle.adf_volume.specs.Layout.{Layout}
+use Rattle.adf_boot_blocks.specs.BootBlocks.{begins_with_dos}
+use Rattle.adf_boot_blocks.specs.Writing.{HasBootOf, restored}
+use Rattle.adf_boot_blocks.specs.declared.boot.TheConstants.{BOOT_LEN}
+use Rattle.adf_boot_blocks.proofs.CarrySums.{AreBytes}
+use Rattle.adf_boot_blocks.proofs.Restored.{front_are_bytes, front_begins, has_front, restored_fits, volume_has_boot}
+use Rattle.adf_build.specs.Laid.{IsLaid}
+use Rattle.adf_build.specs.Plan.{planned}
+use Rattle.adf_build.proofs.LaidFits.{laid_fits}
+use Rattle.adf_findings.specs.Survey.{FindingValue}
+use Rattle.adf_findings.specs.OwnKind.{is_mistyped, retyped}
+use Rattle.adf_rescue.specs.Rescue.{Basis, rescued_tree}
+use Rattle.adf_rescue.proofs.OpenedImages.{length_opened}
+use Rattle.adf_runs.specs.Commands.{Reply}
+use Rattle.adf_survey_cmd.specs.Answers.{RescuesTyped}
+use Rattle.adf_survey_cmd.specs.Rescues.{WritesVolume}
+use Rattle.adf_survey_cmd.specs.Subject.{IsTyped, SubjectValue, changed, sized, type_line}
+use Rattle.adf_survey_cmd.proofs.SizedImages.{length_sized}
+
+-- a volume has four blocks or more
+long_enough : (image : List ℕ) (n : ℕ) → is_allowed (blocks image) ≡ true → blocks image ≡ n / 512 → BOOT_LEN ≤ n
+long_enough image n allowed same =
+    let most : 4 ≤ blocks image = grind (arith, common_steps, and_parts, leb-true) in
+    omega (arith, most, same)
+
+pub laid_long : (image : List ℕ) (t : Tree) → IsLaid image t → BOOT_LEN ≤ length image
+laid_long image t laid = long_enough image (length image) laid.size refl
+
+-- what is written fits the tree of the rescue
+pub written_fits : (held : ℕ) (a : Basis) (b : Option Basis) (fs : List FindingValue) (boot : List ℕ) (reply : Reply) → BOOT_LEN ≤ length boot
+    → WritesVolume held a b fs boot reply → (l : Layout) × Fits reply.output (rescued_tree held a b) l
+written_fits held a b fs boot reply whole (volume, laid, size, e) =
+    let t : Tree = rescued_tree held a b in
+    let l : Layout = planned t (blocks volume) in (
+      l,
+      subst (λ (image : List ℕ). Fits image t l) (sym (ap (λ (r : Reply). r.output) e))
+          (restored_fits volume boot t l (laid_fits volume t laid) whole),
+    )
+
+-- the two boot blocks of an image that has them
+two_blocks : (image : List ℕ) → BOOT_LEN ≤ length image → sized 2 image ≡ take BOOT_LEN image
+two_blocks image long =
+    let none : BOOT_LEN - length image ≡ 0 = omega (arith, long) in
+    ap (λ n. take BOOT_LEN image ++ replicate n 0) none ∙ append-nil (take BOOT_LEN image)
+
+-- what has the type that its files say is as long
+typed_length : (s t : SubjectValue) → IsTyped s t → length t.image ≡ length s.image
+typed_length s t (w, fs, h, e) =
+    ap (λ (u : SubjectValue). length u.image) e
+    ∙ cond_both (is_mistyped s.image w) (changed s (retyped s.image) type_line) s (λ (u : SubjectValue). length u.image ≡ length s.image)
+    (λ mistyped. length-set s.image 3 (slice_index s.image 3 - 1)) (λ typed. refl)
+
+-- a volume that is laid for a rescue, with the boot blocks of what was surveyed
+put_boots : (s : SubjectValue) (volume : List ℕ) (tree : Tree) → IsLaid volume tree → BOOT_LEN ≤ length s.image → AreBytes s.image
+    → begins_with_dos s.image ≡ true → HasBootOf s.image (restored volume (sized 2 s.image))
+put_boots s volume tree laid long bytes begins =
+    let same = two_blocks s.image long in
+    let front : List ℕ = take BOOT_LEN s.image in
+    let size : BOOT_LEN ≤ length front = subst (λ (bs : List ℕ). BOOT_LEN ≤ length bs) same (omega (arith, length_sized 2 s.image)) in
+    let l : Layout = planned tree (blocks volume) in
+    subst (λ (bs : List ℕ). HasBootOf s.image (restored volume bs)) (sym same)
+    (has_front s.image (restored volume front)
+    (volume_has_boot volume front tree l (laid_fits volume tree laid) size (front_are_bytes s.image bytes) (front_begins s.image ∙ begins)))
+
+pub keeps_boot : (s : SubjectValue) (reply : Reply) → RescuesTyped s reply → reply.output ≢ [] → AreBytes s.image
+    → begins_with_dos s.image ≡ true → HasBootOf s.image reply.output
+keeps_boot s reply (t, typed, (w, fs, survey, (sound, marks, (b, second, inl (none, (f, first, e)))))) some bytes begins =
+    absurd (some (ap (λ (r : Reply). r.output) e))
+keeps_boot s reply (t, typed, (w, fs, survey, (sound, marks, (b, second, inr (read, inl (nothing, (f, first, e))))))) some bytes begins =
+    absurd (some (ap (λ (r : Reply). r.output) e))
+keeps_boot s reply (t, typed, (w, fs, survey, (sound, marks, (b, second, inr (read, inr (stands, (volume, laid, size, e))))))) some bytes begins =
+    let long : BOOT_LEN ≤ length s.image =
+    omega (arith, long_enough volume (length s.image) laid.size (size ∙ ap (λ n. n / 512) (length_opened t.image ∙ typed_length s t typed))) in
+    subst (HasBootOf s.image) (sym (ap (λ (r : Reply). r.output) e)) (put_boots s volume _ laid long bytes begins)
