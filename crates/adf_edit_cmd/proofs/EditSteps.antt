@@ -6,6 +6,7 @@ use Rattle.std.proofs.lemmas.List.{drop_all}
 use Rattle.adf_blocks.specs.Sizes.{blocks}
 use Rattle.adf_boot_blocks.proofs.OtherBoots.{other_fits}
 use Rattle.adf_boot_blocks.specs.BootBlocks.{IsOtherBoot}
+use Rattle.adf_boot_blocks.specs.Writing.{with_boot}
 use Rattle.adf_build.specs.Building.{IsBuildable}
 use Rattle.adf_build.specs.Laid.{volume}
 use Rattle.adf_build.specs.Plan.{planned}
@@ -16,7 +17,7 @@ use Rattle.adf_edits.specs.declared.edits.EditFault.{EditFault}
 use Rattle.adf_tree.specs.Tree.{Tree}
 use Rattle.adf_volume.specs.Fits.{Fits}
 use Rattle.adf_volume.specs.Layout.{Layout}
-use Rattle.adf_edit_cmd.specs.Edited.{IsLaidOver, StopsOn, StopsTree, after, next_of, with_boot_of}
+use Rattle.adf_edit_cmd.specs.Edited.{IsLaidOver, StopsOn, StopsTree, after, next_of}
 use Rattle.adf_edit_cmd.specs.Script.{behind_file, behind_files, size_of}
 use Rattle.adf_edit_cmd.specs.declared.stop.Stop.{Stop}
 use Rattle.adf_edit_cmd.specs.declared.stop.Stop.TheVariants.{Line}
@@ -89,10 +90,10 @@ file_over es i given r le h = h ∙ (ap (λ fs. behind_files (map edit_value fs)
 
 -- what is laid with other boot blocks is a volume of the tree
 pub laid_over : (t : Tree) (n : ℕ) (image old new : List ℕ) → IsBuildable t n → old ≡ volume t n → Fits old t (planned t n) → IsOtherBoot old new
-    → new ≡ with_boot_of image old → IsLaidOver t n image new
+    → new ≡ with_boot old image → IsLaidOver t n image new
 laid_over t n image old new room is fits other put = record {
   room = room;
-  bytes = put ∙ ap (with_boot_of image) is;
+  bytes = put ∙ ap (λ (v : List ℕ). with_boot v image) is;
   fits = other_fits old new other t (planned t n) fits;
 }
 

@@ -1,11 +1,10 @@
 -- What an image becomes by a script. es are the edits of the script, `given` are the bytes behind it, t is a tree, n a number of blocks.
-use Rattle.std.specs.Prelude.{◌≡◌, ◌<◌, ◌-◌, ◌+◌, ◌⊎◌, ℕ, List, [], ◌∷◌, Some, None, Result, Ok, Err, slice_range, false, true}
-use Rattle.adf_base.specs.Words.{with_bytes}
+use Rattle.std.specs.Prelude.{◌≡◌, ◌<◌, ◌-◌, ◌+◌, ◌⊎◌, ℕ, List, [], ◌∷◌, Some, None, Result, Ok, Err, false, true}
 use Rattle.adf_blocks.specs.Sizes.{blocks}
 use Rattle.adf_build.specs.Building.{IsBuildable, need_of}
 use Rattle.adf_build.specs.Laid.{volume}
 use Rattle.adf_build.specs.Plan.{blocks_needed, planned}
-use Rattle.adf_boot_blocks.specs.declared.boot.TheConstants.{BOOT_LEN}
+use Rattle.adf_boot_blocks.specs.Writing.{with_boot}
 use Rattle.adf_edits.specs.Edits.{EditValue, edited}
 use Rattle.adf_edits.specs.Outline.{IsWithoutRoom, OutlineValue, outline_of, tree_of}
 use Rattle.adf_edits.specs.Paths.{has_deep}
@@ -51,14 +50,10 @@ IsDepthStop t TooDeep = has_deep (outline_of t).additions ≡ true
 IsDepthStop t NoMemory = Unit {0}
 IsDepthStop t _ = ⊥
 
--- the bytes 4 to 1,023 of an image in the place of those of another
-abbrev pub with_boot_of : List ℕ → List ℕ → List ℕ
-with_boot_of image new = with_bytes new 4 (slice_range image 4 BOOT_LEN)
-
 -- the new image is that laid of the tree in n blocks, with the boot blocks of the old one, and a volume of the tree
 pub record IsLaidOver (t : Tree) (n : ℕ) (image new : List ℕ) : Type 0 where
   pub room : IsBuildable t n
-  pub bytes : new ≡ with_boot_of image (volume t n)
+  pub bytes : new ≡ with_boot (volume t n) image
   pub fits : Fits new t (planned t n)
 
 -- why a tree is not laid

@@ -4,19 +4,17 @@ ghost use Rattle.std.specs.Prelude.{◌≡◌, ◌≢◌, ◌≤◌, ◌*◌, If
 ghost use Rattle.adf_blocks.specs.Sizes.{blocks, is_allowed};
 ghost use Rattle.adf_edits.specs.Edits.{edit_value, edited};
 ghost use Rattle.adf_edits.specs.Outline.{outline_of};
-ghost use Rattle.adf_boot_blocks.specs.BootBlocks.{IsOtherBoot};
 ghost use Rattle.adf_check.specs.Volumes.{StandsFor};
 ghost use Rattle.adf_tree.specs.Tree.{Tree as TreeValue};
 ghost use Rattle.adf_volume.specs.Fits.{Fits};
 ghost use Rattle.adf_volume.specs.Layout.{Layout};
 ghost use Rattle.adf_edit_cmd.specs.Edited.{IsByEdits, IsByTree, IsDepthStop, IsEdited, IsFullStop, IsImageFault, IsLaidOver};
-ghost use Rattle.adf_edit_cmd.specs.Edited.{IsLineStop, IsShallow, StopsAt, StopsOn, StopsTree, after, with_boot_of};
+ghost use Rattle.adf_edit_cmd.specs.Edited.{IsLineStop, IsShallow, StopsAt, StopsOn, StopsTree, after};
 
 use crate::script::{behind_file, behind_files, read_script};
 use crate::stop::Stop;
-use adf_base::put_bytes;
 use adf_blocks::Cause;
-use adf_boot_blocks::BOOT_LEN;
+use adf_boot_blocks::put_boot;
 use adf_build::{BuildFault, build};
 use adf_check::{Checked, check};
 use adf_edits::{Edit, EditFault, Outline, OutlineFault};
@@ -94,17 +92,6 @@ fn edit_all(
     Ok(outline)
 }
 
-#[tactic(auto, using(adf_boot_blocks::proofs::Writes::other_bytes, adf_boot_blocks::proofs::Writes::same_boot))]
-// Puts the bytes of an image's boot blocks behind the type in the place of those of a new one.
-fn copy_boot(new: &mut [u8], image: &[u8])
-    requires whole { 1024 ≤ length new.old }
-    requires boot { 1024 ≤ length image.now }
-    ensures exact { new.new ≡ with_boot_of image.now new.old }
-    ensures other { IsOtherBoot new.old new.new }
-{
-    put_bytes(new, 4, &image[4..BOOT_LEN]);
-}
-
 // Lays a tree in so many blocks, with the boot blocks of an image behind the type.
 fn lay(alloc: Global, tree: &Tree, blocks: u32, image: &[u8]) -> Result<Vec<u8>, Stop>
     requires allowed { is_allowed blocks ≡ true }
@@ -114,7 +101,7 @@ fn lay(alloc: Global, tree: &Tree, blocks: u32, image: &[u8]) -> Result<Vec<u8>,
 {
     match build(alloc, tree, blocks) {
         Ok(mut new) => {
-            copy_boot(&mut new, image);
+            put_boot(&mut new, image);
             Ok(new)
         }
         Err(BuildFault::BadSize) => unreachable!(),
