@@ -24,7 +24,7 @@ use Rattle.adf_survey_cmd.proofs.SubjectBytes.{subject_bytes, typed_bytes}
 use Rattle.adf_survey_cmd.specs.Answers.{CopiesEntry, CopiesFound, CopiesFromSurvey, IsWholeFile, ListsSurvey, Surveys, no_path_line, told_status}
 use Rattle.adf_survey_cmd.specs.FoundLines.{has_its_data, listing_text}
 use Rattle.adf_survey_cmd.specs.Remains.{remains_reply}
-use Rattle.adf_survey_cmd.specs.Subject.{IsTyped, OfTyped, SubjectValue, begun_subject, subject, told_text, typed_subject}
+use Rattle.adf_survey_cmd.specs.Subject.{IsTyped, OfTyped, SubjectValue, begun_subject, sized, subject, told_text, typed_subject}
 use Rattle.adf_answers.specs.Answered.{HasSurveyAnswer}
 
 some_typed : (s : SubjectValue) → (t : SubjectValue) × IsTyped s t
@@ -106,7 +106,7 @@ some_copy blocks damaged path input = copied_by blocks damaged path input (path_
 some_rescue : (blocks : Option ℕ) (input : List ℕ) → AreBytes input → HasSurveyAnswer (asked blocks rescue) input
 some_rescue blocks input are =
     let (t, typed) = some_typed (subject blocks input) in
-    let (reply, told) = rescue_answered t.end t.image (typed_bytes (subject blocks input) t typed (subject_bytes blocks input are)) in
+    let (reply, told) = rescue_answered t.end t.image (sized 2 (subject blocks input).image) (typed_bytes (subject blocks input) t typed (subject_bytes blocks input are)) in
     (reply, (t, typed, told))
 
 -- every question

@@ -23,7 +23,8 @@ use Rattle.adf_rescue.specs.Hung.{emptied, end_of, home, hung, hung_at, hung_beh
 use Rattle.adf_rescue.specs.Hung.{made_header, put_in, readied, ready_in, sealed_in, slot_word}
 use Rattle.adf_rescue.specs.Lost.{is_inside, is_lost, says_directory}
 use Rattle.adf_rescue.specs.MadeRoot.{has_root, label_in, made_root, middle_block, rooted}
-use Rattle.adf_rescue.specs.Opened.{begins_with_dos, begun, has_data, is_mended, opened, type_byte}
+use Rattle.adf_boot_blocks.specs.BootBlocks.{begins_with_dos}
+use Rattle.adf_rescue.specs.Opened.{begun, has_data, is_mended, opened, type_byte}
 use Rattle.adf_rescue.specs.Rescue.{lost_name}
 use Rattle.adf_rescue.proofs.MadeRoots.{made_fits}
 

@@ -108,11 +108,11 @@ allowed_size image w fs (unread f) some = absurd (some refl)
 allowed_size image w fs (read v d t) some = (course_size image v).1
 
 module _ (held : ℕ) (input : List ℕ) (w : List (Role × ℕ)) (fs : List FindingValue) (survey : IsSurvey (opened input) w fs) (sound : ℕ → Bool)
-    (are : AreBytes (opened input)) (second : Option Basis) (more : AreSecondBytes second) where
+    (are : AreBytes (opened input)) (second : Option Basis) (more : AreSecondBytes second) (boot : List ℕ) where
   abbrev first : Basis
   first = record { image = opened input; walk = w; sound = sound }
 
-  some_rescued : w ≢ [] → (reply : Reply) × RescuesSome held input first second fs reply
+  some_rescued : w ≢ [] → (reply : Reply) × RescuesSome held input first second fs boot reply
   some_rescued some = elim (dec_and (dec_fault (is_mended input) fs) (dec_empty (rescued_additions held first second))) [
     | yes nothing ↦
         let (reply, refuses) = fault_with (rescue_text held first second fs) input
@@ -122,22 +122,22 @@ module _ (held : ℕ) (input : List ℕ) (w : List (Role × ℕ)) (fs : List Fin
         (_, inr (stands, (image, laid, size, refl)))
   ]
 
-  rescued_by : Dec (w ≡ []) → (reply : Reply) × RescuesBy held input first second fs reply
+  rescued_by : Dec (w ≡ []) → (reply : Reply) × RescuesBy held input first second fs boot reply
   rescued_by (yes none) =
       let (reply, refuses) = fault_alone input (none_fits_unread input w fs survey none) (fits_or_fault input) in (reply, inl (none, refuses))
   rescued_by (no some) = let (reply, told) = some_rescued some in (reply, inr (some, told))
 
 rescued_found : (held : ℕ) (input : List ℕ) (w : List (Role × ℕ)) (fs : List FindingValue) → IsSurvey (opened input) w fs → AreBytes (opened input)
-    → (reply : Reply) × RescuesFound held input (opened input) w fs reply
-rescued_found held input w fs survey are =
+    → (boot : List ℕ) → (reply : Reply) × RescuesFound held input (opened input) w fs boot reply
+rescued_found held input w fs survey are boot =
     let (sound, marks) = some_marks (opened input) w fs survey (grave fs) in
     let bytes = second_bytes (is_mended input) (opened input) w fs are in
     let (second, is, more) = second_of (second_image (is_mended input) (opened input) w fs) bytes in
-    let (reply, told) = rescued_by held input w fs survey sound are second more (dec_empty w) in
+    let (reply, told) = rescued_by held input w fs survey sound are second more boot (dec_empty w) in
     (reply, (sound, marks, (second, is, told)))
 
-pub some_rescue : (held : ℕ) (input : List ℕ) → AreBytes input → (reply : Reply) × Rescues held input reply
-some_rescue held input are =
+pub some_rescue : (held : ℕ) (input boot : List ℕ) → AreBytes input → (reply : Reply) × Rescues held input boot reply
+some_rescue held input boot are =
     let (w, fs, survey) = some_survey (opened input) in
-    let (reply, told) = rescued_found held input w fs survey (opened_bytes input are) in
+    let (reply, told) = rescued_found held input w fs survey (opened_bytes input are) boot in
     (reply, (w, fs, survey, told))
