@@ -1,11 +1,12 @@
 -- Each image has an answer of `adf`.
-use Rattle.std.proofs.Common.{◌≡◌, ◌⊎◌, ℕ, List, Option, None, Some, codes, inl, inr, refl}
+use Rattle.std.proofs.Common.{ℕ, List, Option, None, Some, codes, inl, inr, refl}
 use Rattle.adf_blocks.specs.Sizes.{blocks}
 use Rattle.adf_blocks.specs.declared.cause.Cause.{Cause}
 use Rattle.adf_fields.proofs.DateTexts.{date_of}
 use Rattle.adf_findings.proofs.FitsOrFault.{fits_or_fault}
 use Rattle.adf_findings.specs.Verdict.{FitsOrHasFault}
 use Rattle.adf_names.specs.PathTexts.{IsPathText}
+use Rattle.adf_names.proofs.SomePaths.{path_or_none}
 use Rattle.adf_check.specs.Volumes.{counts_of}
 use Rattle.adf_volume.specs.Walk.{FirstFault}
 use Rattle.adf_volume.specs.declared.fault.Fault.{Fault}
@@ -13,7 +14,7 @@ use Rattle.adf_texts.specs.Lines.{fault_line, ok_line}
 use Rattle.adf_texts.specs.VolumeLines.{volume_lines}
 use Rattle.adf_runs.specs.Commands.{Reply, bad_path, on_errors, on_output}
 use Rattle.adf_words.specs.CommandLine.{cat, check, list}
-use Rattle.adf_cmd.specs.Answers.{Copies, IsBadPath, RefusesImage, contents_at}
+use Rattle.adf_cmd.specs.Answers.{Copies, RefusesImage, contents_at}
 use Rattle.adf_answers.specs.Answered.{HasAnswer}
 use Rattle.adf_cmd.proofs.AnswerLaws.{listed}
 
@@ -28,7 +29,7 @@ pub checked : (image : List ℕ) → HasAnswer check image
 checked image = checked_by image (fits_or_fault image)
 
 -- the first fault is told on errors
-refused : (image : List ℕ) (b : ℕ) (c : Cause) → FirstFault image b c → (reply : Reply) × RefusesImage image reply
+pub refused : (image : List ℕ) (b : ℕ) (c : Cause) → FirstFault image b c → (reply : Reply) × RefusesImage image reply
 refused image b c first = (on_errors 1 (fault_line (fault_at b c)), (fault_at b c, first, refl))
 
 listed_by : (image : List ℕ) → FitsOrHasFault image → HasAnswer list image
@@ -49,8 +50,8 @@ copied_by path names image text (inl (t, l, fits)) =
 copied_by path names image text (inr (b, c, first)) =
     let (reply, refuses) = refused image b c first in (reply, inr (inr ((names, text), refuses)))
 
-pub some_copy : (path : List ℕ) (names : List (List ℕ)) (image : List ℕ) → IsPathText path names → HasAnswer (cat path) image
-some_copy path names image text = copied_by path names image text (fits_or_fault image)
-
-pub bad_copy : (path image : List ℕ) → IsBadPath path → HasAnswer (cat path) image
-bad_copy path image bad = (bad_path, inl (bad, refl))
+pub some_copy : (path image : List ℕ) → HasAnswer (cat path) image
+some_copy path image = elim (path_or_none path) [
+  | inl (names, text) ↦ copied_by path names image text (fits_or_fault image)
+  | inr bad ↦ (bad_path, inl (bad, refl))
+]

@@ -3,20 +3,17 @@
 
 ghost use Rattle.std.specs.Prelude.{◌<◌, ◌≢◌, ℕ, List};
 ghost use Rattle.std.specs.List.{All};
-ghost use Rattle.adf_names.specs.PathTexts.{IsPathText};
-ghost use Rattle.adf_cmd.specs.Answers.{IsBadPath};
-ghost use Rattle.adf_words.specs.CommandLine.{cat, check, list};
+ghost use Rattle.adf_names.specs.declared.kind.Kind.{Kind};
+ghost use Rattle.adf_words.specs.CommandLine.{RequestValue, convert};
 ghost use Rattle.adf_file_words.specs.DiskLine.{DiskRequestValue};
 ghost use Rattle.adf_file_words.specs.SurveyLine.{InquiryValue, rescue};
 ghost use Rattle.adf_answers.specs.Answered.{HasAnswer, HasDiskAnswer, HasSurveyAnswer};
 
-/// Each image has an answer of `adf` to `check`, to `list`, and to `cat` of a path and of a text that is that of no path.
+/// Whatever is asked of bytes has an answer of `adf`. Of all requests but `convert` this holds of any list of numbers.
 pub fn some_answer()
-    ensures check { (image : List ℕ) → HasAnswer check image }
-    ensures list { (image : List ℕ) → HasAnswer list image }
-    ensures cat { (path : List ℕ) (names : List (List ℕ)) (image : List ℕ)
-        → IsPathText path names → HasAnswer (cat path) image }
-    ensures bad_path { (path image : List ℕ) → IsBadPath path → HasAnswer (cat path) image }
+    ensures every { (r : RequestValue) (input : List ℕ) → All (λ byte. byte < 256) input → HasAnswer r input }
+    ensures unconverted { (r : RequestValue) (input : List ℕ) → ((kind : Kind) → r ≢ convert kind)
+        → HasAnswer r input }
 {}
 
 /// Whatever is asked of a disk or of a plan has an answer of `adf-disk`.

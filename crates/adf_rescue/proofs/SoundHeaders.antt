@@ -21,7 +21,8 @@ use Rattle.adf_volume.specs.Image.{kind_of, meta_of, name_of, root_of, word_in}
 use Rattle.adf_volume.specs.Lists.{At}
 use Rattle.adf_volume.specs.Made.{body_in, datas_in, entries_in, entry_in}
 use Rattle.adf_volume.specs.Walk.{HeadAt, IsWalk, Role, heads, node_block}
-use Rattle.adf_volume.proofs.FormDemands.{demanded, dir_not_file, head_type}
+use Rattle.adf_volume.proofs.BoundedFits.{comment_short, label_short, name_valid}
+use Rattle.adf_volume.proofs.FormDemands.{dir_not_file, head_type}
 use Rattle.adf_volume.proofs.MemberFacts.{kept}
 use Rattle.adf_volume.proofs.Roles.{head_role}
 use Rattle.adf_volume.proofs.WalkMembers.{entry_has}
@@ -40,31 +41,18 @@ use Rattle.adf_rescue.proofs.GivenBlocks.{all_held, first_given_all}
 
 -- texts within their fields are told whole
 
-text_short : (bs : List ℕ) (at n : ℕ) → slice_index bs at ≤ n → length (text_at bs at) ≤ n
-text_short bs at n le = grind (arith, common_steps, length-take)
-
 pub label_whole : (image : List ℕ) → AllHold (root_demands image (root_of image))
     → label_stated (block image (root_of image)) ≡ name_of image (root_of image)
 unfolding name_of
 label_whole image h =
-    let bs : List ℕ = block image (root_of image) in
-    let most : ℕ = slice_index bs NAME in
-    take_all 30 (text_at bs NAME)
-    (text_short bs NAME 30 (leb-true most 30 (demanded (root_of image) (root_form bs) (nat_le most 30) BadName h (search rules))))
+    take_all 30 (text_at (block image (root_of image)) NAME) (label_short image h)
 
 meta_whole : (image : List ℕ) (kind : Kind) (b up s : ℕ) → AllHold (head_demands image kind b up s) → meta_stated (block image b) ≡ meta_of image b
 unfolding meta_of
 meta_whole image kind b up s h =
     let bs : List ℕ = block image b in
-    let most : ℕ = slice_index bs COMMENT in
-    let short : most ≤ 79 = leb-true most 79 (demanded b (head_form kind b up s bs) (nat_le most 79) BadComment h (search rules)) in
-    let same : take 79 (text_at bs COMMENT) ≡ text_at bs COMMENT = take_all 79 (text_at bs COMMENT) (text_short bs COMMENT 79 short) in
+    let same : take 79 (text_at bs COMMENT) ≡ text_at bs COMMENT = take_all 79 (text_at bs COMMENT) (comment_short image kind b up s h) in
     λ i. record { comment = same i; protect = word bs PROTECTION; stamp = stamp_at bs DATE }
-
--- the name in a header is one
-name_valid : (image : List ℕ) (kind : Kind) (b up s : ℕ) → AllHold (head_demands image kind b up s) → is_name (name_of image b) ≡ true
-unfolding name_of
-name_valid image kind b up s h = grind (arith, common_steps, demanded, and_parts)
 
 -- a sound file and a directory stand, with the body that the tree has
 
