@@ -400,9 +400,9 @@ uint8_t adf_survey_parts(const uint8_t *image, size_t length, struct adf_part *p
 
 /* Writes the role of each block of an image of this length by what its survey finds: byte b of the room is the adf_role of block b,
  * as far as there is room. A block has the role of the part of the volume that the survey found there; without one it is
- * ADF_ROLE_BOOT for the blocks 0 and 1, and ADF_ROLE_FREE for others, which may be in use or lost. By tests, not proved: on a sound
- * image these are the roles of adf_owners. If nothing is found, as without a root, the room is unchanged; its bytes after the last
- * block always are.
+ * ADF_ROLE_BOOT for the blocks 0 and 1, and ADF_ROLE_FREE for others, which may be in use or lost. On an image that adf_check
+ * accepts these are the roles of adf_owners. If nothing is found, as without a root, the room is unchanged; its bytes after the
+ * last block always are.
  * Returns an adf_cause: 0, or ADF_NO_MEMORY, and then the room is unchanged.
  */
 uint8_t adf_survey_owners(const uint8_t *image, size_t length, uint8_t *roles, size_t room);
@@ -425,8 +425,8 @@ size_t adf_found_blocks(const uint8_t *image, size_t length, const struct adf_pa
  *
  * The size is the one that the header says, but no more than the image has. With any table the same is read: at most these bytes,
  * of the data areas of the blocks that the table names, where a number that the image does not have stands for a block that is
- * not found. What is behind a table that is cut is neither read nor lost. By tests, not proved: on a sound image the bytes are those
- * that adf_read gives.
+ * not found. What is behind a table that is cut is neither read nor lost. On an image that adf_check accepts the bytes are those
+ * that adf_read gives, and none are lost.
  *
  * It allocates nothing. A budget, by reading the code and not proved: the work is proportional to the bytes that are copied, and
  * to the data blocks that are lost behind them.

@@ -29,7 +29,7 @@ use Rattle.adf_memory.proofs.TableBytes.{front_more, further, place_of}
 use Rattle.adf_memory.proofs.TableLaws.{told_here, told_length}
 
 -- the image has these blocks
-are_in : {image table ds : List ℕ} → AreBlocksOf image table ds → AreIn image ds
+pub are_in : {image table ds : List ℕ} → AreBlocksOf image table ds → AreIn image ds
 are_in {image = image} {ds = ds} is i b at = subst (λ x. x < blocks image) (at_index_or ds i b 0 at) (is.inside i (at_below ds i b at))
 
 -- data areas of blocks that the image has come first, and then those of the blocks behind them
@@ -42,7 +42,7 @@ front_joined image kind (d ∷ ds) bs inside =
     ∙ sym (append_assoc (area kind (block image d)) (joined image kind ds) (joined image kind (front_blocks image bs)))
 
 -- from a place in a file on, the table of its blocks has the bytes of the file
-file_read : (image : List ℕ) (x : TableEntry) (table ds : List ℕ) (at : ℕ) → AreDatasOf image x table ds
+pub file_read : (image : List ℕ) (x : TableEntry) (table ds : List ℕ) (at : ℕ) → AreDatasOf image x table ds
     → file_from image x table at ≡ drop at (bytes_in_blocks image x ds)
 file_read image x table ds at is = elim (cases_lt at x.size) [
   | inl lt ↦
@@ -98,7 +98,7 @@ pub record IsRead (image table : List ℕ) (t : Tree) (l : Layout) (n : ℕ) (x 
   pub bytes : bytes_in_blocks image x (datas_of l n) ≡ bytes_at t n
 
 -- what is told of an entry tells of its bytes
-told_read : (image : List ℕ) (t : Tree) (l : Layout) (i : ℕ) (e : Entry) → Fits image t l → At t.entries i e
+pub told_read : (image : List ℕ) (t : Tree) (l : Layout) (i : ℕ) (e : Entry) → Fits image t l → At t.entries i e
     → IsRead image (block_table l) t l (suc i) (table_entry (head_at l.places i) (length (all_datas (take i l.places))) e)
 told_read image t l i e fits at =
     let below : i < length l.places = omega (arith, at_below t.entries i e at, fits.places) in

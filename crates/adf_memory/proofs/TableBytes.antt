@@ -23,7 +23,7 @@ pub front_more : (image : List ℕ) (b : ℕ) (bs : List ℕ) → b < blocks ima
 front_more image b bs lt = sym (cond_below b (blocks image) (b ∷ front_blocks image bs) [] lt)
 
 -- and one that the image does not have
-front_none : (image : List ℕ) (b : ℕ) (bs : List ℕ) → blocks image ≤ b → front_blocks image (b ∷ bs) ≡ []
+pub front_none : (image : List ℕ) (b : ℕ) (bs : List ℕ) → blocks image ≤ b → front_blocks image (b ∷ bs) ≡ []
 front_none image b bs le = sym (cond_above b (blocks image) (b ∷ front_blocks image bs) [] [] le refl)
 
 -- a data area holds something

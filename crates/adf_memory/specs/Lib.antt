@@ -1,6 +1,7 @@
 -- The promise: the buffers and tables of a caller in memory, and what the calls put there.
 pub mod Areas
 pub mod FoundFiles
+pub mod FoundGaps
 pub mod FoundRoles
 pub mod TableAdditions
 pub mod Building

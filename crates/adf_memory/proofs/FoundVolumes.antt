@@ -1,0 +1,214 @@
+-- Of a volume, a survey finds the blocks and the bytes of each file, and the role of each block.
+-- Letters: t, l the tree and the layout that fit an image; w the walk of its survey; n a file's node, k the number of a data block, from 0; b its
+-- block; ds the data blocks of a file; es entries; at, from a place in the file.
+use Rattle.std.specs.Prelude.{◌==◌, min, Option, Some, None}
+use Rattle.std.specs.List.{range_with_len}
+use Rattle.std.specs.Option.{unwrap_or}
+use Rattle.std.proofs.Common.{◌≡◌, ℕ, zero, suc, List, [], ◌∷◌, ◌+◌, ◌-◌, ◌*◌, ◌/◌, ◌≤◌}
+use Rattle.std.proofs.Common.{◌<◌, length, take, drop, map, refl, sym, ap, subst, ◌∙◌, arith, take_all}
+use Rattle.std.proofs.lemmas.Bool.{cond_above, cond_below, eq-eqb}
+use Rattle.std.proofs.Math.Nat.{min-eq_left}
+use Rattle.adf_blocks.specs.declared.layout.TheConstants.{SECONDARY_TYPE, SIZE, ST_FILE}
+use Rattle.adf_blocks.specs.Sizes.{blocks, chunk, count}
+use Rattle.adf_build.specs.Plan.{data_blocks, entries_blocks}
+use Rattle.adf_build.proofs.FreeBlocks.{size_small}
+use Rattle.adf_check.specs.OwnerClass.{class_of}
+use Rattle.adf_check.specs.declared.owner_class.OwnerClass.TheVariants as class
+use Rattle.adf_findings.specs.Remains.{data_found, size_stated}
+use Rattle.adf_findings.specs.Survey.{FindingValue, IsSurvey}
+use Rattle.adf_findings.proofs.DataFound.{has_data}
+use Rattle.adf_findings.proofs.FirstFindings.{finds_none, shown}
+use Rattle.adf_findings.proofs.Keys.{lacks_at}
+use Rattle.adf_names.specs.declared.kind.Kind.{Kind}
+use Rattle.adf_rescue.proofs.FitBlocks.{fit_room}
+use Rattle.adf_tree.specs.declared.entry.Body.{Body, TheVariants.Dir, TheVariants.File}
+use Rattle.adf_tree.specs.declared.entry.Entry.{Entry}
+use Rattle.adf_tree.specs.Tree.{Tree}
+use Rattle.adf_volume.specs.Fits.{BodyFits, Fits}
+use Rattle.adf_volume.specs.Image.{kind_of, word_in}
+use Rattle.adf_volume.specs.Layout.{EntryAt, Layout, at_node, datas_of, head_at}
+use Rattle.adf_volume.specs.LayoutRoles.{LayoutHas, owner_of}
+use Rattle.adf_volume.specs.Lists.{At}
+use Rattle.adf_volume.specs.Walk.{Role, Has}
+use Rattle.adf_volume.specs.Walk.Role.{Root, Page, MapExt, Head, Ext, Data}
+use Rattle.adf_volume.proofs.LayoutRoles.{owned_part, part_owned, part_range}
+use Rattle.adf_volume.proofs.Lists.{at_index}
+use Rattle.adf_volume.proofs.Roles.{same_refl}
+use Rattle.adf_volume.proofs.WalkAgreement.{agreement}
+use Rattle.adf_volume.proofs.WalkCompleteness.{part_walked}
+use Rattle.adf_memory.specs.declared.found_files.TheConstants.{NO_BLOCK}
+use Rattle.adf_memory.specs.declared.tables.TableEntry.{TableEntry}
+use Rattle.adf_memory.specs.Areas.{AreDatasOf, bytes_from}
+use Rattle.adf_memory.specs.FoundFiles.{file_blocks, file_size, found_blocks, found_from, lost_from, missing}
+use Rattle.adf_memory.specs.FoundRoles.{IsFoundRole, role_class}
+use Rattle.adf_memory.specs.OwnerNumbers.{IsOwnerNumber, class_number, owner_number}
+use Rattle.adf_memory.specs.Tables.{bytes_at, bytes_in, table_entry}
+use Rattle.adf_memory.proofs.Filled.{drop_zero}
+use Rattle.adf_memory.proofs.FoundGaps.{both}
+use Rattle.adf_memory.proofs.FoundReadings.{none_behind}
+use Rattle.adf_memory.proofs.Readings.{are_in, file_read, told_read}
+
+-- a part is of the class of its owner
+class_is : (r : Role) → role_class r ≡ class_of (owner_of r)
+class_is Root = refl
+class_is (Page i) = refl
+class_is (MapExt j) = refl
+class_is (Head n p s j) = refl
+class_is (Ext n k) = refl
+class_is (Data n k) = refl
+
+-- a list by the members at its places
+listed : (ds : List ℕ) (g : ℕ → ℕ) (j : ℕ) → ((i b : ℕ) → At ds i b → g (j + i) ≡ b) → map g (range_with_len j (length ds)) ≡ ds
+listed [] g j h = refl
+listed (d ∷ ds) g j h =
+    let here : g j ≡ d = (let e : j ≡ j + 0 = omega arith in ap g e ∙ h 0 d refl) in
+    let rest = listed ds g (j + 1) (λ i b at. let e : j + 1 + i ≡ j + suc i = omega arith in ap g e ∙ h (suc i) b at) in
+    λ i. here i ∷ rest i
+
+-- the data blocks of an entry are among the blocks of all entries
+datas_few : (kind : Kind) (es : List Entry) (i : ℕ) (e : Entry) → At es i e → data_blocks kind e.body ≤ entries_blocks kind es
+datas_few kind [] i e at = absurd at
+datas_few kind (x ∷ es) zero e at =
+    let here : data_blocks kind x.body ≡ data_blocks kind e.body = ap (λ (e : Entry). data_blocks kind e.body) at in omega arith
+datas_few kind (x ∷ es) (suc i) e at = let rest = datas_few kind es i e at in omega arith
+
+-- where the image has all blocks of a table, none is missing
+none_missing : (image ds : List ℕ) (j : ℕ) → ((i b : ℕ) → At ds i b → b < blocks image) → missing image (drop j ds) ≡ 0
+none_missing image [] zero inside = refl
+none_missing image [] (suc j) inside = refl
+none_missing image (d ∷ ds) zero inside = sym (cond_below d (blocks image) 0 (suc (missing image ds)) (inside 0 d refl))
+none_missing image (d ∷ ds) (suc j) inside = none_missing image ds j (λ i b at. inside (suc i) b at)
+
+module _ (image : List ℕ) (w : List (Role × ℕ)) (fs : List FindingValue) (survey : IsSurvey image w fs) where
+  clean : (t : Tree) (l : Layout) → Fits image t l → IsSurvey image w []
+  clean t l fit = subst (IsSurvey image w) (finds_none image t l w fs fit survey) survey
+
+  -- the walk has the parts of the layout, and no others
+  has_part : (t : Tree) (l : Layout) → Fits image t l → (r : Role) (b : ℕ) → LayoutHas image t l r b → Has w r b
+  has_part t l fit r b h = let s = shown image (clean t l fit) in part_walked image t l fit w s.1 s.2 r b h
+
+  is_part : (t : Tree) (l : Layout) → Fits image t l → (r : Role) (b : ℕ) → Has w r b → LayoutHas image t l r b
+  is_part t l fit r b h = agreement image t l fit w r b (shown image (clean t l fit)).1 h
+
+  -- a data block of the layout is found
+  data_there : (t : Tree) (l : Layout) → Fits image t l → (n k b : ℕ) → At (datas_of l n) k b → data_found w n k ≡ Some b
+  data_there t l fit n k b at = go (data_found w n k) refl
+    where
+      go : (o : Option ℕ) → data_found w n k ≡ o → data_found w n k ≡ Some b
+      go None e = absurd (lacks_at w (Data n (suc k)) e (Data n (suc k)) b (has_part t l fit (Data n (suc k)) b at) (same_refl (Data n (suc k))))
+      go (Some c) e =
+          let other : At (datas_of l n) k c = is_part t l fit (Data n (suc k)) c (has_data w n (suc k) c e) in
+          e ∙ ap Some (sym (at_index (datas_of l n) k c other) ∙ at_index (datas_of l n) k b at)
+
+  module _ (t : Tree) (l : Layout) (fit : Fits image t l) (i : ℕ) (e : Entry) (bytes : List ℕ) (at : At t.entries i e)
+      (body : e.body ≡ File bytes) where
+    abbrev n : ℕ
+    n = suc i
+
+    abbrev head : ℕ
+    head = head_at l.places i
+
+    abbrev ds : List ℕ
+    ds = datas_of l n
+
+    many : length ds ≡ count (kind_of image) (length bytes)
+    many = (fit.files n e bytes at body).datas ∙ ap (λ k. count k (length bytes)) fit.kind
+
+    -- its size is in its header
+    stated : word_in image head SIZE ≡ length bytes
+    stated = sym (is_stated e.body body (fit.entries n e at).body)
+      where
+        is_stated : (b : Body) → b ≡ File bytes → BodyFits image t.kind l n head b → length bytes ≡ word_in image head SIZE
+        is_stated Dir e f = cc
+        is_stated (File xs) e f = let same : xs ≡ bytes = cc in ap length (sym same) ∙ f.2
+
+    type : word_in image head SECONDARY_TYPE ≡ ST_FILE
+    type = is_type e.body body (fit.entries n e at).body
+      where
+        is_type : (b : Body) → b ≡ File bytes → BodyFits image t.kind l n head b → word_in image head SECONDARY_TYPE ≡ ST_FILE
+        is_type Dir e f = cc
+        is_type (File xs) e f = f.0
+
+    size_is : file_size image head ≡ length bytes
+    size_is =
+        let whole : length image ≡ 512 * blocks image = fit.boots.0.0 in
+        let needed : data_blocks t.kind e.body ≡ length ds =
+        ap (data_blocks t.kind) body ∙ sym (fit.files n e bytes at body).datas in
+        let few : length ds ≤ blocks image = omega (arith, needed, datas_few t.kind t.entries i e at, fit_room image t l fit) in
+        let small : length bytes ≤ 512 * length ds = subst (λ m. length bytes ≤ 512 * m) (sym many) (size_small (kind_of image) (length bytes)) in
+        both (length image == 512 * blocks image) (word_in image head SECONDARY_TYPE == ST_FILE) (size_stated image head) 0
+        (eq-eqb (length image) (512 * blocks image) whole) (eq-eqb (word_in image head SECONDARY_TYPE) ST_FILE type)
+        ∙ ap (λ s. min s (length image)) stated ∙ min-eq_left (omega arith)
+
+    -- the table of the file has its data blocks
+    blocks_found : found_blocks image w n head ≡ ds
+    blocks_found =
+        let long : file_blocks image head ≡ length ds = ap (count (kind_of image)) size_is ∙ sym many in
+        ap (λ m. map (λ k. unwrap_or (data_found w n k) NO_BLOCK) (range_with_len 0 m)) long
+        ∙ listed ds (λ k. unwrap_or (data_found w n k) NO_BLOCK) 0
+        (λ k b here. let z : 0 + k ≡ k = omega arith in
+        ap (λ k. unwrap_or (data_found w n k) NO_BLOCK) z ∙ ap (λ o. unwrap_or o NO_BLOCK) (data_there t l fit n k b here))
+
+    abbrev row : TableEntry
+    row = table_entry head 0 e
+
+    length_is : row.size ≡ length bytes
+    length_is = ap (λ b. length (bytes_in b)) body
+
+    -- and so its bytes
+    bytes_found : (from : ℕ) → found_from image head (found_blocks image w n head) from ≡ drop from (bytes_at t n)
+    bytes_found from =
+        let told = told_read image t l i e fit at in
+        let is : AreDatasOf image row ds ds = record {
+          listed = record {
+            whole = told.datas.listed.whole;
+            front = ap (take (length ds)) (drop_zero ds) ∙ take_all (length ds) ds (omega arith);
+            inside = told.datas.listed.inside;
+          };
+          enough = told.datas.enough;
+        } in
+        (λ j. take (size_is j - from) (bytes_from image (kind_of image) (blocks_found j) from))
+        ∙ (λ j. take (sym length_is j - from) (bytes_from image (kind_of image) (sym (drop_zero ds) j) from))
+        ∙ file_read image row ds ds from is ∙ ap (drop from) told.bytes
+
+    -- of which none is lost
+    none_lost : (from : ℕ) → lost_from image head (found_blocks image w n head) from ≡ 0
+    none_lost from =
+        let told = told_read image t l i e fit at in
+        let size : ℕ = chunk (kind_of image) in
+        let none : missing image (drop (from / size) (found_blocks image w n head)) ≡ 0 =
+        ap (λ bs. missing image (drop (from / size) bs)) blocks_found
+        ∙ none_missing image ds (from / size) (are_in told.datas.listed) in
+        ap (λ m. min (file_size image head) (size * (from / size + m)) - from) none
+        ∙ none_behind (kind_of image) (file_size image head) from
+
+  -- the same of an entry by its node
+  pub blocks_as_laid : (t : Tree) (l : Layout) → Fits image t l → (n : ℕ) (e : Entry) (bytes : List ℕ) → EntryAt t n e → e.body ≡ File bytes
+      → found_blocks image w n (at_node image l n) ≡ datas_of l n
+  blocks_as_laid t l fit zero e bytes at body = absurd at
+  blocks_as_laid t l fit (suc i) e bytes at body = blocks_found t l fit i e bytes at body
+
+  pub bytes_as_laid : (t : Tree) (l : Layout) → Fits image t l → (n : ℕ) (e : Entry) (bytes : List ℕ) → EntryAt t n e → e.body ≡ File bytes
+      → (from : ℕ) → found_from image (at_node image l n) (found_blocks image w n (at_node image l n)) from ≡ drop from (bytes_at t n)
+  bytes_as_laid t l fit zero e bytes at body from = absurd at
+  bytes_as_laid t l fit (suc i) e bytes at body from = bytes_found t l fit i e bytes at body from
+
+  pub none_lost_of : (t : Tree) (l : Layout) → Fits image t l → (n : ℕ) (e : Entry) (bytes : List ℕ) → EntryAt t n e → e.body ≡ File bytes
+      → (from : ℕ) → lost_from image (at_node image l n) (found_blocks image w n (at_node image l n)) from ≡ 0
+  none_lost_of t l fit zero e bytes at body from = absurd at
+  none_lost_of t l fit (suc i) e bytes at body from = none_lost t l fit i e bytes at body from
+
+  -- the role of a block is the number of its owner
+  pub role_found : (t : Tree) (l : Layout) → Fits image t l → (b r : ℕ) → IsFoundRole w b r → IsOwnerNumber image b r
+  role_found t l fit b r (c, is, number) = record {
+    part = (λ u m o other h.
+        let q = owned_part image u m other.places o b h in
+        number ∙ ap class_number (is.part q.0 (has_part u m other q.0 b q.1) ∙ class_is q.0) ∙ ap owner_number (sym q.2));
+    boot = (λ low.
+        let none : (q : Role) → Has w q b → ⊥ = (λ q h. let x = part_range image t l fit q b (is_part t l fit q b h) in absurd (omega arith)) in
+        number ∙ ap class_number (is.none none ∙ sym (cond_below b 2 class.Boot class.Free low)));
+    free = (λ u m other high none.
+        let absent : (q : Role) → Has w q b → ⊥ =
+        (λ q h. none (owner_of q) (part_owned image u m other.places q b (is_part u m other q b h))) in
+        number ∙ ap class_number (is.none absent ∙ sym (cond_above b 2 class.Boot class.Free class.Free high refl)));
+  }
