@@ -5,8 +5,6 @@ mod boot;
 mod crc;
 mod laws;
 mod standard;
-#[cfg(test)]
-mod tests;
 mod writing;
 
 pub use crate::boot::{

@@ -5,8 +5,6 @@ mod boot_file;
 mod laws;
 mod line;
 mod runner;
-#[cfg(test)]
-mod tests;
 mod work;
 mod writing;
 

@@ -1,16 +1,6 @@
-//! Tests of what no row and no call in a program shows.
+//! Tests of the calls over slices.
 #![tactic(auto)]
 
-#[cfg(test)]
-mod batch;
-#[cfg(test)]
-mod devices;
-#[cfg(test)]
-mod disk_builds;
-#[cfg(test)]
-mod disk_checks;
-#[cfg(test)]
-mod disk_runs;
 #[cfg(test)]
 mod disks;
 #[cfg(test)]
@@ -18,14 +8,4 @@ mod found_files;
 #[cfg(test)]
 mod images_in_memory;
 #[cfg(test)]
-mod memory;
-#[cfg(test)]
-mod named_errors;
-#[cfg(test)]
-mod operands;
-#[cfg(test)]
-mod planned_disks;
-#[cfg(test)]
 mod table_builds;
-#[cfg(test)]
-mod telling;

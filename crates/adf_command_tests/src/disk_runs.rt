@@ -7,7 +7,6 @@ use crate::memory::{Given, Kept, Long};
 use adf_base::{seal, set_word};
 use adf_disk_cmd::run;
 use std::alloc::{AllocError, Global};
-use std::test::Fail;
 
 /// A volume of 32 blocks.
 pub type Volume = [u8; 16384];
@@ -67,14 +66,16 @@ fn disk(alloc: Global, change: Change<'_>) -> Result<Vec<u8>, AllocError> {
 }
 
 // Whether a run with these words over the disk ends with this status and these bytes on output and on errors.
-fn answers(
-    alloc: Global,
-    words: &[&str],
-    change: Change<'_>,
-    wanted: (u8, &[u8], &str),
-) -> Result<bool, Fail> {
-    let image = disk(alloc, change)?;
-    answers_within(alloc, words, &image, usize::MAX, usize::MAX, wanted)
+fn answers(alloc: Global, words: &[&str], change: Change<'_>, wanted: (u8, &[u8], &str)) -> bool {
+    match disk(alloc, change) {
+        Ok(image) => answers_to(alloc, words, &image, wanted),
+        Err(_) => false,
+    }
+}
+
+/// The same over the bytes of an input.
+pub fn answers_to(alloc: Global, words: &[&str], image: &[u8], wanted: (u8, &[u8], &str)) -> bool {
+    answers_within(alloc, words, image, (usize::MAX, usize::MAX), wanted)
 }
 
 /// The same over an input and an output that fail after so many calls.
@@ -82,17 +83,34 @@ pub fn answers_within(
     alloc: Global,
     words: &[&str],
     image: &[u8],
-    reads: usize,
-    writes: usize,
+    calls: (usize, usize),
     wanted: (u8, &[u8], &str),
-) -> Result<bool, Fail> {
-    let mut input = Given::new(image, reads);
-    let mut output = Kept::new(alloc, usize::MAX, writes);
+) -> bool {
+    let mut input = Given::new(image, calls.0);
+    let mut output = Kept::new(alloc, usize::MAX, calls.1);
     let mut errors = Kept::new(alloc, usize::MAX, usize::MAX);
     let status = run(alloc, words, &mut input, &mut output, &mut errors);
-    let is_output = output.bytes.as_slice() == wanted.1;
-    let is_said = errors.bytes.as_slice() == wanted.2.as_bytes();
-    Ok(status == wanted.0 && is_output && is_said)
+    status == wanted.0
+        && output.bytes.as_slice() == wanted.1
+        && errors.bytes.as_slice() == wanted.2.as_bytes()
+}
+
+/// Whether a run of a command over a disk of so many blocks, which begins with these tables, has zeros behind them and comes in
+/// pieces of 1,000 bytes, ends with this status and these lines on output.
+pub fn answers_long(
+    alloc: Global,
+    command: &str,
+    tables: &[u8],
+    blocks: usize,
+    wanted: (u8, &str),
+) -> bool {
+    let zeros = blocks.saturating_mul(512).saturating_sub(tables.len());
+    let mut input = Long::new(tables, zeros, 1000);
+    let mut output = Kept::new(alloc, usize::MAX, usize::MAX);
+    let mut errors = Kept::new(alloc, usize::MAX, usize::MAX);
+    let words = ["adf-disk", command];
+    let status = run(alloc, &words, &mut input, &mut output, &mut errors);
+    status == wanted.0 && output.bytes.as_slice() == wanted.1.as_bytes()
 }
 
 // The command, a change, the status, and the lines on output and on errors.
@@ -249,12 +267,11 @@ const LINES: &[(&str, Change<'static>, u8, &str, &str)] = &[
 ];
 
 #[test]
-fn disks_are_listed_and_checked(rt: HostRuntime) -> Result<(), Fail> {
+fn disks_are_listed_and_checked(rt: HostRuntime) {
     for (command, change, status, output, errors) in LINES {
         let wanted = (*status, output.as_bytes(), *errors);
-        assert!(rt; answers(rt.alloc(), &["adf-disk", *command], *change, wanted)?);
+        assert!(rt; answers(rt.alloc(), &["adf-disk", command], *change, wanted));
     }
-    Ok(())
 }
 
 // A command, the blocks of a disk whose DH1 has the cylinders 5 to 12,499, the status, and the lines on output.
@@ -273,20 +290,13 @@ const LONG: &[(&str, usize, u8, &str)] = &[
     ),
 ];
 
-// A disk that is longer than its first 65,536 blocks, and comes in pieces of 1,000 bytes.
+// A disk that is longer than its first 65,536 blocks.
 #[test]
-fn long_disks_are_listed(rt: HostRuntime) -> Result<(), Fail> {
+fn long_disks_are_listed(rt: HostRuntime) {
     let tables = changed(1, &[(42, 12_499)]);
     for (command, blocks, status, lines) in LONG {
-        let mut input = Long::new(&tables, (*blocks - 4) * 512, 1000);
-        let mut output = Kept::new(rt.alloc(), usize::MAX, usize::MAX);
-        let mut errors = Kept::new(rt.alloc(), usize::MAX, usize::MAX);
-        let words = ["adf-disk", *command];
-        let ended = run(rt.alloc(), &words, &mut input, &mut output, &mut errors);
-        assert_eq!(rt; ended, *status);
-        assert!(rt; output.bytes.as_slice() == lines.as_bytes());
+        assert!(rt; answers_long(rt.alloc(), command, &tables, *blocks, (*status, lines)));
     }
-    Ok(())
 }
 
 // Words of DH0 for other names: `D/0`, `D:0`, none, and 40 bytes, of which `list` writes 31.
@@ -310,18 +320,24 @@ const FORTY: &[(usize, u32)] = &[
     (19, 0x4400_0000),
 ];
 
-// What finds that partition, and its words.
-const FOUND: &[(&str, &[(usize, u32)])] = &[
-    ("D\\x2f0", SLASH),
-    ("d\\x2F0", SLASH),
-    ("d/0", SLASH),
-    ("D\\x3a0", COLON),
-    ("d\\X3A0", COLON),
-    ("D:0", COLON),
-    ("\\x", UNNAMED),
-    ("\\X", UNNAMED),
-    ("DH0BBBBBBBBBBBBBBBBBBBBBBBBBBBC", FORTY),
-    ("dh0bbbbbbbbbbbbbbbbbbbbbbbbbbbc", FORTY),
+// What finds DH0, and a change.
+const FOUND: &[(&str, Change<'static>)] = &[
+    ("1", NONE),
+    ("DH0", NONE),
+    ("dh0", NONE),
+    ("DH0", (2, &[(32, 0)])),
+    ("DH0", (2, &[(36, 2)])),
+    ("DH0", (2, &[(38, 1)])),
+    ("D\\x2f0", (2, SLASH)),
+    ("d\\x2F0", (2, SLASH)),
+    ("d/0", (2, SLASH)),
+    ("D\\x3a0", (2, COLON)),
+    ("d\\X3A0", (2, COLON)),
+    ("D:0", (2, COLON)),
+    ("\\x", (2, UNNAMED)),
+    ("\\X", (2, UNNAMED)),
+    ("DH0BBBBBBBBBBBBBBBBBBBBBBBBBBBC", (2, FORTY)),
+    ("dh0bbbbbbbbbbbbbbbbbbbbbbbbbbbc", (2, FORTY)),
 ];
 
 // A name, a change, and what errors get.
@@ -344,34 +360,28 @@ const REFUSED: &[(&str, Change<'static>, &str)] = &[
 ];
 
 #[test]
-fn volumes_are_written(rt: HostRuntime) -> Result<(), Fail> {
+fn volumes_are_written(rt: HostRuntime) {
     let empty = volume();
-    let wanted = (0, empty.as_slice(), "");
-    for name in ["1", "DH0", "dh0"] {
-        assert!(rt; answers(rt.alloc(), &["adf-disk", "volume", name], NONE, wanted)?);
+    for (name, change) in FOUND {
+        let words = ["adf-disk", "volume", name];
+        assert!(rt; answers(rt.alloc(), &words, *change, (0, &empty, "")));
     }
-    for change in [(2, [(32, 0)]), (2, [(36, 2)]), (2, [(38, 1)])] {
-        let words = ["adf-disk", "volume", "DH0"];
-        assert!(rt; answers(rt.alloc(), &words, (change.0, &change.1), wanted)?);
-    }
-    for (name, words_of) in FOUND {
-        let words = ["adf-disk", "volume", *name];
-        assert!(rt; answers(rt.alloc(), &words, (2, *words_of), wanted)?);
-    }
-    for (name, change, errors) in REFUSED {
-        let words = ["adf-disk", "volume", *name];
-        assert!(rt; answers(rt.alloc(), &words, *change, (1, b"", *errors))?);
-    }
-    Ok(())
 }
 
 #[test]
-fn failures_are_told(rt: HostRuntime) -> Result<(), Fail> {
-    let image = disk(rt.alloc(), NONE)?;
+fn volumes_are_refused(rt: HostRuntime) {
+    for (name, change, errors) in REFUSED {
+        let words = ["adf-disk", "volume", name];
+        assert!(rt; answers(rt.alloc(), &words, *change, (1, b"", errors)));
+    }
+}
+
+#[test]
+fn failures_are_told(rt: HostRuntime) {
+    let image = disk(rt.alloc(), NONE).expect(&rt, "memory");
     let words = ["adf-disk", "check"];
     let unread = (3, b"".as_slice(), "read fault\n");
-    assert!(rt; answers_within(rt.alloc(), &words, &image, 1, usize::MAX, unread)?);
+    assert!(rt; answers_within(rt.alloc(), &words, &image, (1, usize::MAX), unread));
     let unwritten = (3, b"".as_slice(), "write fault\n");
-    assert!(rt; answers_within(rt.alloc(), &words, &image, usize::MAX, 0, unwritten)?);
-    Ok(())
+    assert!(rt; answers_within(rt.alloc(), &words, &image, (usize::MAX, 0), unwritten));
 }

@@ -1,12 +1,9 @@
 // `adf-disk check` over disks whose volumes lie in any order, overlap, or end beyond the image. A cylinder has 8 blocks, and the
 // tables take the first one.
 
-use crate::disk_runs::{answers_within, empty_volume};
+use crate::disk_runs::{answers_long, answers_to, empty_volume};
 use crate::disks::tables_of;
-use crate::memory::{Kept, Long};
-use adf_disk_cmd::run;
 use std::alloc::{AllocError, Global};
-use std::test::Fail;
 
 const FFS: u32 = 0x444F_5301;
 
@@ -58,16 +55,30 @@ const ROWS: &[(&[(u8, u32, u32, u32)], usize, u8, &str)] = &[
     ),
 ];
 
+// Whether the first blocks of such a disk are checked with this status and these lines.
+fn checks(
+    alloc: Global,
+    partitions: &[(u8, u32, u32, u32)],
+    blocks: usize,
+    wanted: (u8, &str),
+) -> bool {
+    let Ok(image) = disk(alloc, partitions) else {
+        return false;
+    };
+    let part = &image[..blocks.saturating_mul(512).min(image.len())];
+    answers_to(
+        alloc,
+        &["adf-disk", "check"],
+        part,
+        (wanted.0, wanted.1.as_bytes(), ""),
+    )
+}
+
 #[test]
-fn volumes_are_checked_in_any_order(rt: HostRuntime) -> Result<(), Fail> {
+fn volumes_are_checked_in_any_order(rt: HostRuntime) {
     for (partitions, blocks, status, lines) in ROWS {
-        let image = disk(rt.alloc(), partitions)?;
-        let part = &image[..blocks.saturating_mul(512).min(image.len())];
-        let wanted = (*status, lines.as_bytes(), "");
-        let words = ["adf-disk", "check"];
-        assert!(rt; answers_within(rt.alloc(), &words, part, usize::MAX, usize::MAX, wanted)?);
+        assert!(rt; checks(rt.alloc(), partitions, *blocks, (*status, lines)));
     }
-    Ok(())
 }
 
 // The same of disks of zeros behind their tables, with volumes behind block 65,535: cylinder 8,192 begins there.
@@ -98,16 +109,9 @@ const LONG: &[(&[(u8, u32, u32, u32)], usize, &str)] = &[
 ];
 
 #[test]
-fn volumes_behind_the_tables_are_checked(rt: HostRuntime) -> Result<(), Fail> {
+fn volumes_behind_the_tables_are_checked(rt: HostRuntime) {
     for (partitions, blocks, lines) in LONG {
         let tables = tables_of(partitions);
-        let mut input = Long::new(&tables, blocks.saturating_sub(4).saturating_mul(512), 1000);
-        let mut output = Kept::new(rt.alloc(), usize::MAX, usize::MAX);
-        let mut errors = Kept::new(rt.alloc(), usize::MAX, usize::MAX);
-        let words = ["adf-disk", "check"];
-        let status = run(rt.alloc(), &words, &mut input, &mut output, &mut errors);
-        assert_eq!(rt; status, 1);
-        assert!(rt; output.bytes.as_slice() == lines.as_bytes());
+        assert!(rt; answers_long(rt.alloc(), "check", &tables, *blocks, (1, lines)));
     }
-    Ok(())
 }

@@ -4,7 +4,7 @@ ghost use Rattle.std.specs.Prelude.{◌≡◌, None, false};
 
 use crate::batch::{Folder, sound_image};
 use crate::disk_runs::USAGE as DISK_USAGE;
-use crate::memory::{Given, Kept};
+use crate::memory::{Came, Given, Kept};
 use adf_runs::{AnnouncedInput, Failed, Sink, read_input};
 use std::alloc::Global;
 use std::cell::Cell;
@@ -122,14 +122,6 @@ const UNNAMED: &[Row<'static>] = &[
     ),
 ];
 
-// How a run ended.
-#[derive(Drop)]
-struct Came {
-    status: u8,
-    output: Vec<u8>,
-    errors: Vec<u8>,
-}
-
 // Runs the program of the first word, where the folder has a sound image, and the input has these bytes and fails after so many reads.
 fn run_files(alloc: Global, words: &[&str], sound: &[u8], bytes: &[u8], reads: usize) -> Came {
     let folder = Folder { sound };
@@ -173,33 +165,43 @@ fn the_input_is_read_where_no_file_is_named(rt: HostRuntime) {
     }
 }
 
-// A new disk of a plan that is a file, and its list.
+// Whether the disk of a plan that is a file is built and listed.
+fn is_built_and_listed(alloc: Global) -> bool {
+    let built = run_files(alloc, &["adf-disk", "build", "sound"], PLAN, b"", 0);
+    let listed = run_files(alloc, &["adf-disk", "list", "sound"], &built.output, b"", 0);
+    built.status == 0
+        && listed.status == 0
+        && listed.output.as_slice() == LISTED
+        && listed.errors.is_empty()
+}
+
 #[test]
 fn plans_and_disks_are_files(rt: HostRuntime) {
-    let alloc = rt.alloc();
-    let built = run_files(alloc, &["adf-disk", "build", "sound"], PLAN, b"", 0);
-    assert_eq!(rt; built.status, 0);
-    let listed = run_files(alloc, &["adf-disk", "list", "sound"], &built.output, b"", 0);
-    assert_eq!(rt; listed.status, 0);
-    assert!(rt; listed.output.as_slice() == LISTED);
-    assert!(rt; listed.errors.is_empty());
+    assert!(rt; is_built_and_listed(rt.alloc()));
 }
 
 const LISTED: &[u8] =
     b"1 DH0: ffs first 64 blocks 256 flags 0 priority 0\n2 DH1: ofs first 320 blocks 256 flags 0 priority 0\n";
 
-// Without files, words that name one are refused.
-#[test]
-fn words_that_name_a_file_are_refused_without_files(rt: HostRuntime) {
-    let alloc = rt.alloc();
-    let words = ["adf-survey", "cat", "a", "sound"];
+// What comes of a run without files.
+fn run_without_files(alloc: Global, words: &[&str]) -> Came {
     let mut input = Given::new(b"", 0);
     let mut output = Kept::new(alloc, usize::MAX, usize::MAX);
     let mut errors = Kept::new(alloc, usize::MAX, usize::MAX);
-    let ended = adf_survey_cmd::run(alloc, &words, &mut input, &mut output, &mut errors);
-    assert_eq!(rt; ended, 2);
-    assert!(rt; output.bytes.is_empty());
-    assert!(rt; errors.bytes.as_slice() == SURVEY_USAGE.as_bytes());
+    let status = adf_survey_cmd::run(alloc, words, &mut input, &mut output, &mut errors);
+    Came {
+        status,
+        output: output.bytes,
+        errors: errors.bytes,
+    }
+}
+
+// Without files, words that name one are refused.
+#[test]
+fn words_that_name_a_file_are_refused_without_files(rt: HostRuntime) {
+    let came = run_without_files(rt.alloc(), &["adf-survey", "cat", "a", "sound"]);
+    assert!(rt; came.status == 2 && came.output.is_empty());
+    assert!(rt; came.errors.as_slice() == SURVEY_USAGE.as_bytes());
 }
 
 // Counts the bytes that it takes.
@@ -234,6 +236,6 @@ fn announced(alloc: Global, line: Option<&str>) -> usize {
 
 #[test]
 fn an_input_says_once_what_it_waits_for(rt: HostRuntime) {
-    assert_eq!(rt; announced(rt.alloc(), None), 0);
-    assert_eq!(rt; announced(rt.alloc(), Some("waits\n")), 6);
+    assert!(rt; announced(rt.alloc(), None) == 0);
+    assert!(rt; announced(rt.alloc(), Some("waits\n")) == 6);
 }

@@ -5,6 +5,14 @@ ghost use Rattle.std.specs.Prelude.{◌≡◌, None, false};
 use adf_cmd::{Failed, Sink, Source};
 use std::alloc::Global;
 
+/// How a run ended.
+#[derive(Drop)]
+pub struct Came {
+    pub status: u8,
+    pub output: Vec<u8>,
+    pub errors: Vec<u8>,
+}
+
 /// Gives bytes, and fails once so many calls were made.
 #[derive(Drop)]
 pub struct Given<'a> {

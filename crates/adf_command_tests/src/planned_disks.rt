@@ -4,7 +4,6 @@
 use crate::disks::is_partition;
 use adf_partitions::{Disk, Place, TextFault, TextKind, read_plan, write_tables};
 use std::alloc::Global;
-use std::test::Fail;
 
 const TEXT: &[u8] =
     b"disk 2 2\npartition Work ofs 2 bootable priority -5\npartition DH1 ffs 3 given\nend\nrest";
@@ -18,29 +17,40 @@ fn tables_of(alloc: Global, text: &[u8], behind: &[u8]) -> Option<Vec<u8>> {
     write_tables(alloc, &plan).ok()
 }
 
-#[test]
-fn a_planned_disk_is_read(rt: HostRuntime) -> Result<(), Fail> {
-    let tables = tables_of(rt.alloc(), TEXT, b"rest").expect(&rt, "tables");
-    assert_eq!(rt; tables.len(), 2048);
-    let disk = Disk::open(rt.alloc(), &tables, 24)?;
-    assert_eq!(rt;
-        (disk.tables.rdsk, disk.tables.lowest, disk.tables.highest),
-        (0, 0, 3)
-    );
-    assert_eq!(rt; disk.partitions.len(), 2);
+const WORK: Place = Place {
+    first: 4,
+    blocks: 8,
+};
+
+const DH1: Place = Place {
+    first: 12,
+    blocks: 12,
+};
+
+// Whether the disk has the partitions of the text.
+fn has_planned(disk: &Disk) -> bool {
     let one = (1, 1, -5, 0x444F_5300);
     let two = (2, 0, 0, 0x444F_5301);
-    let work = Ok(Place {
-        first: 4,
-        blocks: 8,
-    });
-    let dh1 = Ok(Place {
-        first: 12,
-        blocks: 12,
-    });
-    assert!(rt; is_partition(disk.numbered(1), one, b"Work", work));
-    assert!(rt; is_partition(disk.numbered(2), two, b"DH1", dh1));
-    Ok(())
+    disk.partitions.len() == 2
+        && (disk.tables.rdsk, disk.tables.lowest, disk.tables.highest) == (0, 0, 3)
+        && is_partition(disk.numbered(1), one, b"Work", Ok(WORK))
+        && is_partition(disk.numbered(2), two, b"DH1", Ok(DH1))
+}
+
+// Whether the tables of the text are those of its disk.
+fn is_read(alloc: Global) -> bool {
+    let Some(tables) = tables_of(alloc, TEXT, b"rest") else {
+        return false;
+    };
+    match Disk::open(alloc, &tables, 24) {
+        Ok(disk) => tables.len() == 2048 && has_planned(&disk),
+        Err(_) => false,
+    }
+}
+
+#[test]
+fn a_planned_disk_is_read(rt: HostRuntime) {
+    assert!(rt; is_read(rt.alloc()));
 }
 
 // A text, and the line and the kind of its fault.
@@ -86,6 +96,14 @@ const FAULTS: &[(&[u8], usize, TextKind)] = &[
     ),
 ];
 
+// The fault of a text.
+fn fault_of(alloc: Global, text: &[u8]) -> Option<TextFault> {
+    match read_plan(alloc, text) {
+        Ok(_) => None,
+        Err(fault) => Some(fault),
+    }
+}
+
 #[test]
 fn faults_of_texts_are_named(rt: HostRuntime) {
     for (text, line, kind) in FAULTS {
@@ -93,6 +111,6 @@ fn faults_of_texts_are_named(rt: HostRuntime) {
             line: *line,
             kind: *kind,
         };
-        assert!(rt; read_plan(rt.alloc(), text).err() == Some(wanted));
+        assert!(rt; fault_of(rt.alloc(), text) == Some(wanted));
     }
 }

@@ -1,0 +1,29 @@
+//! Tests of devices, programs and commands: what no row shows.
+#![tactic(auto)]
+
+#[cfg(test)]
+mod batch;
+#[cfg(test)]
+mod boot_blocks;
+#[cfg(test)]
+mod boot_runs;
+#[cfg(test)]
+mod devices;
+#[cfg(test)]
+mod disk_builds;
+#[cfg(test)]
+mod disk_checks;
+#[cfg(test)]
+mod disk_runs;
+#[cfg(test)]
+mod disks;
+#[cfg(test)]
+mod memory;
+#[cfg(test)]
+mod named_errors;
+#[cfg(test)]
+mod operands;
+#[cfg(test)]
+mod planned_disks;
+#[cfg(test)]
+mod telling;
