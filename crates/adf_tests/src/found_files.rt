@@ -1,202 +1,237 @@
 // The files that a survey finds, on an OFS volume of 16 blocks with the file `long`, 977 bytes 0x41 in three data blocks, and the
 // empty file `none`. Their headers are blocks 2 and 6, the data blocks of `long` 3, 4 and 5.
 
+use crate::images::{Image, built};
 use adf_memory::{
-    FoundPart, Moved, NO_BLOCK, escape_text, owners_of, put_found_blocks, put_found_parts,
-    read_found, run_in_memory, survey_owners,
+    FoundPart, NO_BLOCK, escape_text, owners_of, put_found_blocks, put_found_parts, read_found,
+    survey_owners,
 };
+use std::alloc::Global;
 use std::mem::size_of;
-use std::process::Abort;
 
 const MANIFEST: &[u8] =
     b"volume ofs 16\nfile 0:0:0 00000000 long\nfill 977 41\nfile 0:0:0 00000000 none\n";
 
 const PART: FoundPart = FoundPart { node: 9, number: 9 };
 
-// The image, as the command builds it.
-fn built(rt: &(impl Abort + AllocGlobal)) -> [u8; 8192] {
-    let mut image = [0; 8192];
-    let mut errors = [0; 80];
-    let mut moved = Moved {
-        input: 0,
-        output: 0,
-        errors: 0,
-        output_full: false,
-        errors_full: false,
-    };
-    let status = run_in_memory::<adf_cmd::Work>(
-        rt.alloc(),
-        b"adf\0build\0",
-        MANIFEST,
-        &mut image,
-        &mut errors,
-        &mut moved,
-    );
-    assert_eq!(rt; (status, moved.output, moved.errors), (0, 8192, 0));
-    image
-}
-
-// The image without the data blocks at these places: they have no type.
-fn without(rt: &(impl Abort + AllocGlobal), lost: &[usize]) -> [u8; 8192] {
-    let mut image = built(rt);
-    for block in lost {
-        if let Some(byte) = image.get_mut(block.saturating_mul(512).saturating_add(3)) {
-            *byte = 0;
+// The image in which these blocks have no type.
+fn without(image: &Image, blocks: &[usize]) -> Image {
+    let mut image = *image;
+    for block in blocks {
+        if *block < 16 {
+            image[*block * 512 + 3] = 0;
         }
     }
     image
 }
 
-// The table of `long`, by a survey of the image.
-fn table_of_long(rt: &(impl Abort + AllocGlobal), image: &[u8]) -> [u32; 3] {
-    let mut parts = [PART; 16];
-    let mut table = [9; 3];
-    assert_eq!(rt; put_found_parts(rt.alloc(), image, &mut parts), 0);
-    assert_eq!(rt; put_found_blocks(image, &parts, 1, 2, &mut table), 3);
-    table
-}
-
-// How many bytes of `long` are read from a place on, each of which is 0x41, and how many behind them are lost.
-fn read_long(rt: &impl Abort, image: &[u8], table: &[u32], offset: usize) -> (usize, usize) {
-    let mut room = [9; 1000];
-    let mut lost = 9;
-    let count = read_found(image, 2, table, offset, &mut room, &mut lost);
-    assert_eq!(rt; room[..count].iter().all(|c| *c == 0x41), true);
-    assert_eq!(rt; room.get(count).copied(), Some(9));
-    (count, lost)
+// The parts that a survey of the image finds; none but rows of nines if it fails.
+fn parts_of(alloc: Global, image: &[u8]) -> [FoundPart; 17] {
+    let mut parts = [PART; 17];
+    if put_found_parts(alloc, image, &mut parts) == 0 {
+        parts
+    } else {
+        [PART; 17]
+    }
 }
 
 // Each block of a sound image has its row, and the rows behind them are unchanged.
 #[test]
 fn rows_of_blocks(rt: HostRuntime) {
-    let image = built(&rt);
-    let mut parts = [PART; 17];
-    assert_eq!(rt; put_found_parts(rt.alloc(), &image, &mut parts), 0);
+    let parts = parts_of(rt.alloc(), &built(rt.alloc(), MANIFEST));
     let [_, _, head, first, second, third, empty, ..] = parts;
-    assert_eq!(rt;
-        (head.node, head.number, first.node, first.number),
-        (1, 0, 1, 1)
-    );
-    assert_eq!(rt;
-        (second.node, second.number, third.node, third.number),
-        (1, 2, 1, 3)
-    );
-    assert_eq!(rt;
-        (empty.node, empty.number, parts[8].node, parts[16].node),
-        (2, 0, 0, 9)
-    );
+    assert!(rt; (head.node, head.number, first.node, first.number) == (1, 0, 1, 1));
+    assert!(rt; (second.node, second.number, third.node, third.number) == (1, 2, 1, 3));
+    assert!(rt; (empty.node, empty.number, parts[8].node, parts[16].node) == (2, 0, 0, 9));
 }
 
-// A sound file is read whole, and in parts.
+// The table of `long` by rows, as far as there is room, and how many blocks it has.
+fn table_by(image: &[u8], parts: &[FoundPart], node: usize, room: usize) -> (usize, [u32; 4]) {
+    let mut table = [9; 4];
+    let count = put_found_blocks(image, parts, node, 2, &mut table[..room.min(4)]);
+    (count, table)
+}
+
+// The table of `long`, by a survey of the image.
+fn table_of(alloc: Global, image: &[u8]) -> (usize, [u32; 4]) {
+    table_by(image, &parts_of(alloc, image)[..16], 1, 4)
+}
+
+// How many bytes of `long` are read from a place on, and how many behind them are lost; nothing if another byte than 0x41 is
+// read, or one is written behind them.
+fn read_long(image: &[u8], table: &[u32], offset: usize) -> Option<(usize, usize)> {
+    let mut room = [9; 1000];
+    let mut lost = 9;
+    let count = read_found(image, 2, table, offset, &mut room, &mut lost);
+    let is_read = room.iter().take(count).all(|c| *c == 0x41);
+    if is_read && room.get(count).copied() == Some(9) {
+        Some((count, lost))
+    } else {
+        None
+    }
+}
+
+// The blocks without a type, the table of `long`, a place in it, and what is read from there on.
+const READ: &[(&[usize], [u32; 3], usize, (usize, usize))] = &[
+    // A sound file is read whole, and in parts.
+    (&[], [3, 4, 5], 0, (977, 0)),
+    (&[], [3, 4, 5], 487, (490, 0)),
+    (&[], [3, 4, 5], 977, (0, 0)),
+    (&[], [3, 4, 5], usize::MAX, (0, 0)),
+    // What is lost in the middle of a file, and at its end, is told, and never read.
+    (&[4], [3, NO_BLOCK, 5], 0, (488, 488)),
+    (&[4], [3, NO_BLOCK, 5], 500, (0, 476)),
+    (&[4], [3, NO_BLOCK, 5], 976, (1, 0)),
+    (&[5], [3, 4, NO_BLOCK], 0, (976, 1)),
+    (&[3, 4, 5], [NO_BLOCK; 3], 1, (0, 976)),
+];
+
+// Whether the survey of an image has this table, and this is read by it.
+fn is_read(
+    alloc: Global,
+    image: &Image,
+    table: [u32; 3],
+    offset: usize,
+    read: (usize, usize),
+) -> bool {
+    let [one, two, three] = table;
+    table_of(alloc, image) == (3, [one, two, three, 9])
+        && read_long(image, &table, offset) == Some(read)
+}
+
 #[test]
-fn a_sound_file_is_read(rt: HostRuntime) {
-    let image = built(&rt);
-    let table = table_of_long(&rt, &image);
-    assert_eq!(rt; table, [3, 4, 5]);
-    assert_eq!(rt; read_long(&rt, &image, &table, 0), (977, 0));
-    assert_eq!(rt; read_long(&rt, &image, &table, 487), (490, 0));
-    assert_eq!(rt; read_long(&rt, &image, &table, 977), (0, 0));
-    assert_eq!(rt; read_long(&rt, &image, &table, usize::MAX), (0, 0));
+fn files_are_read(rt: HostRuntime) {
+    let sound = built(rt.alloc(), MANIFEST);
+    for (lost, table, offset, read) in READ {
+        let image = without(&sound, lost);
+        assert!(rt; is_read(rt.alloc(), &image, *table, *offset, *read));
+    }
+}
+
+// Two bytes of `long` from a place on, how many are read, and how many are lost.
+fn read_two(image: &[u8], offset: usize) -> (usize, [u8; 2], usize) {
     let mut room = [9; 2];
     let mut lost = 9;
-    assert_eq!(rt; read_found(&image, 2, &table, 975, &mut room, &mut lost), 2);
-    assert_eq!(rt; (room, lost), ([0x41, 0x41], 0));
+    let count = read_found(image, 2, &[3, 4, 5], offset, &mut room, &mut lost);
+    (count, room, lost)
 }
 
-// What is lost in the middle of a file, and at its end, is told, and never read.
 #[test]
-fn gaps_are_told(rt: HostRuntime) {
-    let image = without(&rt, &[4]);
-    let table = table_of_long(&rt, &image);
-    assert_eq!(rt; table, [3, NO_BLOCK, 5]);
-    assert_eq!(rt; read_long(&rt, &image, &table, 0), (488, 488));
-    assert_eq!(rt; read_long(&rt, &image, &table, 500), (0, 476));
-    assert_eq!(rt; read_long(&rt, &image, &table, 976), (1, 0));
-    let image = without(&rt, &[5]);
-    let table = table_of_long(&rt, &image);
-    assert_eq!(rt; read_long(&rt, &image, &table, 0), (976, 1));
-    let image = without(&rt, &[3, 4, 5]);
-    let table = table_of_long(&rt, &image);
-    assert_eq!(rt; read_long(&rt, &image, &table, 1), (0, 976));
+fn the_last_bytes_are_read(rt: HostRuntime) {
+    let image = built(rt.alloc(), MANIFEST);
+    assert!(rt; read_two(&image, 975) == (2, [0x41, 0x41], 0));
+}
+
+// Whether a header has no data blocks and no bytes.
+fn has_nothing(image: &[u8], parts: &[FoundPart], header: u32) -> bool {
+    let mut table = [9; 1];
+    let mut room = [9; 1];
+    let mut lost = 9;
+    let count = put_found_blocks(image, parts, 2, header, &mut table);
+    let read = read_found(image, header, &[3], 0, &mut room, &mut lost);
+    (count, read, lost) == (0, 0, 0) && (table, room) == ([9], [9])
 }
 
 // An empty file, a block that is no file's header, and one that the image does not have, have no data blocks and no bytes.
 #[test]
 fn what_has_no_bytes(rt: HostRuntime) {
-    let image = built(&rt);
-    let mut parts = [PART; 16];
-    assert_eq!(rt; put_found_parts(rt.alloc(), &image, &mut parts), 0);
+    let image = built(rt.alloc(), MANIFEST);
+    let parts = parts_of(rt.alloc(), &image);
     for header in [6, 8, 3, 16, NO_BLOCK] {
-        let mut table = [9; 1];
-        let mut room = [9; 1];
-        let mut lost = 9;
-        assert_eq!(rt; put_found_blocks(&image, &parts, 2, header, &mut table), 0);
-        assert_eq!(rt;
-            read_found(&image, header, &[3], 0, &mut room, &mut lost),
-            0
-        );
-        assert_eq!(rt; (table, room, lost), ([9], [9], 0));
+        assert!(rt; has_nothing(&image, &parts[..16], header));
     }
 }
 
 // Of bytes that are no whole number of blocks nothing is found.
-#[test]
-fn cut_bytes_have_no_files(rt: HostRuntime) {
-    let cut = [0; 8191];
+fn finds_nothing(alloc: Global, cut: &[u8]) -> bool {
     let mut parts = [PART; 16];
-    assert_eq!(rt; put_found_parts(rt.alloc(), &cut, &mut parts), 0);
-    assert_eq!(rt; put_found_blocks(&cut, &parts, 1, 2, &mut []), 0);
+    put_found_parts(alloc, cut, &mut parts) == 0
+        && put_found_blocks(cut, &parts, 1, 2, &mut []) == 0
 }
 
-// Rows and tables that are cut or changed: what they do not have is lost, and what is behind a table is neither read nor told.
+#[test]
+fn cut_bytes_have_no_files(rt: HostRuntime) {
+    assert!(rt; finds_nothing(rt.alloc(), &[0; 8191]));
+}
+
+// Rows that are cut: what they do not have is lost. Those of another file have nothing of it.
+#[test]
+fn other_rows(rt: HostRuntime) {
+    let image = built(rt.alloc(), MANIFEST);
+    let parts = parts_of(rt.alloc(), &image);
+    assert!(rt; table_by(&image, &parts[..5], 1, 4) == (3, [3, 4, NO_BLOCK, 9]));
+    assert!(rt; table_by(&image, &parts[..5], 2, 1) == (3, [NO_BLOCK, 9, 9, 9]));
+}
+
+// A table that is shorter than the file, a place in the file, and what is read from there on; then one with a block that the image
+// does not have, and one behind the file.
+const OTHER_TABLES: &[(&[u32], usize, (usize, usize))] = &[
+    (&[3], 0, (488, 0)),
+    (&[3], 488, (0, 0)),
+    (&[], 0, (0, 0)),
+    (&[3, 16, 5, 4], 0, (488, 488)),
+];
+
+// What is behind a table is neither read nor told.
 #[test]
 fn other_tables(rt: HostRuntime) {
-    let image = built(&rt);
-    let mut parts = [PART; 5];
-    assert_eq!(rt; put_found_parts(rt.alloc(), &image, &mut parts), 0);
-    let mut table = [9; 4];
-    assert_eq!(rt; put_found_blocks(&image, &parts, 1, 2, &mut table), 3);
-    assert_eq!(rt; table, [3, 4, NO_BLOCK, 9]);
-    assert_eq!(rt; put_found_blocks(&image, &parts, 2, 2, &mut table[..1]), 3);
-    assert_eq!(rt; table, [NO_BLOCK, 4, NO_BLOCK, 9]);
-    assert_eq!(rt; read_long(&rt, &image, &[3], 0), (488, 0));
-    assert_eq!(rt; read_long(&rt, &image, &[3], 488), (0, 0));
-    assert_eq!(rt; read_long(&rt, &image, &[3, 16, 5, 4], 0), (488, 488));
-    assert_eq!(rt; read_long(&rt, &image, &[], 0), (0, 0));
+    let image = built(rt.alloc(), MANIFEST);
+    for (table, offset, read) in OTHER_TABLES {
+        assert!(rt; read_long(&image, table, *offset) == Some(*read));
+    }
+}
+
+// The front of the escape form of a name, and the length of the whole.
+fn escaped(name: &[u8]) -> (usize, [u8; 8]) {
+    let mut room = [9; 8];
+    let length = escape_text(name, &mut room);
+    (length, room)
 }
 
 // A name is escaped as far as there is room.
 #[test]
 fn names_are_escaped(rt: HostRuntime) {
-    let mut room = [9; 8];
-    assert_eq!(rt; escape_text(b"a\\\xE4 ", &mut room), 10);
-    assert_eq!(rt; &room, b"a\\x5c\\xe");
-    let mut room = [9; 4];
-    assert_eq!(rt; escape_text(b"ab", &mut room), 2);
-    assert_eq!(rt; room, [b'a', b'b', 9, 9]);
+    assert!(rt; escaped(b"a\\\xE4 ") == (10, *b"a\\x5c\\xe"));
+    assert!(rt; escaped(b"ab") == (2, [b'a', b'b', 9, 9, 9, 9, 9, 9]));
 }
 
-// The roles of a sound image are those of its parts; without a data block that has none, and without the root nothing is written.
+// The roles of the blocks of an image by its check.
+fn checked_roles(alloc: Global, image: &[u8]) -> (u8, [u8; 17]) {
+    let mut roles = [9; 17];
+    let number = owners_of(alloc, image, &mut roles);
+    (number, roles)
+}
+
+// The roles of its blocks by its survey, as far as there is room.
+fn found_roles(alloc: Global, image: &[u8], room: usize) -> (u8, [u8; 17]) {
+    let mut roles = [9; 17];
+    let number = survey_owners(alloc, image, &mut roles[..room.min(17)]);
+    (number, roles)
+}
+
+const ROLES: [u8; 17] = [1, 1, 5, 7, 7, 7, 5, 0, 2, 3, 0, 0, 0, 0, 0, 0, 9];
+
+const FRONT_WITHOUT_4: [u8; 17] = [1, 1, 5, 7, 0, 7, 9, 9, 9, 9, 9, 9, 9, 9, 9, 9, 9];
+
+// The roles of a sound image are those of its parts; without a data block that has none.
 #[test]
 fn roles_of_blocks(rt: HostRuntime) {
-    let mut image = built(&rt);
-    let mut sound = [9; 17];
-    let mut roles = [9; 17];
-    assert_eq!(rt; owners_of(rt.alloc(), &image, &mut sound), 0);
-    assert_eq!(rt; survey_owners(rt.alloc(), &image, &mut roles), 0);
-    assert_eq!(rt; roles, sound);
-    assert_eq!(rt; roles, [1, 1, 5, 7, 7, 7, 5, 0, 2, 3, 0, 0, 0, 0, 0, 0, 9]);
-    image[4 * 512 + 3] = 0;
-    assert_eq!(rt; survey_owners(rt.alloc(), &image, &mut roles[..5]), 0);
-    let [_, _, _, first, lost, last, ..] = roles;
-    assert_eq!(rt; (first, lost, last), (7, 0, 7));
-    image[8 * 512 + 3] = 0;
-    assert_eq!(rt; survey_owners(rt.alloc(), &image, &mut sound), 0);
-    assert_eq!(rt; sound[4], 7);
+    let image = built(rt.alloc(), MANIFEST);
+    assert!(rt; checked_roles(rt.alloc(), &image) == (0, ROLES));
+    assert!(rt; found_roles(rt.alloc(), &image, 17) == (0, ROLES));
+    let image = without(&image, &[4]);
+    assert!(rt; found_roles(rt.alloc(), &image, 6) == (0, FRONT_WITHOUT_4));
+}
+
+// Without the root nothing is written.
+#[test]
+fn without_a_root_no_block_has_a_role(rt: HostRuntime) {
+    let image = without(&built(rt.alloc(), MANIFEST), &[8]);
+    assert!(rt; found_roles(rt.alloc(), &image, 17) == (0, [9; 17]));
 }
 
 // Rows are as long as those of include/adf.h.
 #[test]
 fn rows_are_as_long_as_in_c(rt: HostRuntime) {
-    assert_eq!(rt; size_of::<FoundPart>(), 16);
+    assert!(rt; size_of::<FoundPart>() == 16);
 }

@@ -1,14 +1,15 @@
 // The calls over memory, on an OFS volume of 16 blocks with the directory `c` and in it the files `long`, 489 bytes 0x41, and
 // `short`, one byte. Their headers are blocks 2, 3 and 6, their data 4, 5 and 7.
 
+use crate::images::{Image, NOT_MOVED, built, with_bytes};
 use adf_memory::{
     Contents, Date, FoundEntry, Moved, Surveyed, TableDisk, TableEntry, TableFinding,
     TablePartition, Verdict, cause_text, check_image, find_entry, owners_of, put_index, put_survey,
     read_bytes, run_in_memory,
 };
 use adf_runs::WithoutFiles;
+use std::alloc::Global;
 use std::mem::size_of;
-use std::process::Abort;
 
 const MANIFEST: &[u8] =
     b"volume ofs 16\ndir 0:0:0 00000000 c\nfile 0:0:0 00000000 c/long\nfill 489 41\nfile 0:0:0 00000000 c/short\ndata 42\n";
@@ -93,171 +94,199 @@ const VERDICT: Verdict = Verdict {
     block: 9,
 };
 
-const MOVED: Moved = Moved {
-    input: 0,
-    output: 0,
-    errors: 0,
-    output_full: false,
-    errors_full: false,
-};
+// The tables of an image.
+#[derive(Clone, Copy)]
+struct IndexTables {
+    cause: u8,
+    entries: [TableEntry; 3],
+    blocks: [u32; 3],
+    contents: Contents,
+}
 
-// The image, as the command builds it.
-fn built(rt: &(impl Abort + AllocGlobal)) -> [u8; 8192] {
-    let mut image = [0; 8192];
-    let mut errors = [0; 80];
-    let mut moved = MOVED;
-    let status = run_in_memory::<adf_cmd::Work>(
-        rt.alloc(),
-        b"adf\0build\0",
-        MANIFEST,
-        &mut image,
-        &mut errors,
-        &mut moved,
-    );
-    assert_eq!(rt; (status, moved.output, moved.errors), (0, 8192, 0));
-    image
+fn indexed(alloc: Global, image: &Image) -> IndexTables {
+    let mut entries = [ENTRY; 3];
+    let mut blocks = [9; 3];
+    let mut contents = CONTENTS;
+    let cause = put_index(alloc, image, &mut entries, &mut blocks, &mut contents);
+    IndexTables {
+        cause,
+        entries,
+        blocks,
+        contents,
+    }
+}
+
+// What is told of an image, and its first fault.
+fn checked(alloc: Global, image: &Image) -> (u8, Verdict) {
+    let mut verdict = VERDICT;
+    let cause = check_image(alloc, image, &mut verdict);
+    (cause, verdict)
+}
+
+// The roles of its blocks, and its first fault.
+fn roles(alloc: Global, image: &Image) -> (u8, [u8; 17]) {
+    let mut roles = [9; 17];
+    let cause = owners_of(alloc, image, &mut roles);
+    (cause, roles)
 }
 
 // With memory there, each call that takes some succeeds on a sound image.
 #[test]
-fn calls_succeed_on_a_sound_image(rt: HostRuntime) {
-    let image = built(&rt);
-    let mut entries = [ENTRY; 3];
-    let mut blocks = [9; 3];
-    let mut contents = CONTENTS;
-    let cause = put_index(rt.alloc(), &image, &mut entries, &mut blocks, &mut contents);
-    assert_eq!(rt; (cause, contents.entries, contents.data_blocks), (0, 3, 3));
-    assert_eq!(rt;
-        (entries[1].first, entries[2].first, blocks),
-        (0, 2, [4, 5, 7])
+fn a_sound_image_has_an_index(rt: HostRuntime) {
+    let index = indexed(rt.alloc(), &built(rt.alloc(), MANIFEST));
+    assert!(rt;
+        (
+            index.cause,
+            index.contents.entries,
+            index.contents.data_blocks
+        ) == (0, 3, 3)
     );
+    assert!(rt; (index.entries[1].first, index.entries[2].first) == (0, 2));
+    assert!(rt; index.blocks == [4, 5, 7]);
+}
 
-    let mut verdict = VERDICT;
-    assert_eq!(rt; check_image(rt.alloc(), &image, &mut verdict), 0);
-    assert_eq!(rt; (verdict.used, verdict.dirs, verdict.files), (8, 1, 2));
+#[test]
+fn a_sound_image_is_checked(rt: HostRuntime) {
+    let image = built(rt.alloc(), MANIFEST);
+    let (cause, verdict) = checked(rt.alloc(), &image);
+    assert!(rt; (cause, verdict.used, verdict.dirs, verdict.files) == (0, 8, 1, 2));
+    let (cause, roles) = roles(rt.alloc(), &image);
+    assert!(rt; (cause, roles[0], roles[8], roles[16]) == (0, 1, 2, 9));
+}
 
-    let mut roles = [9; 17];
-    assert_eq!(rt; owners_of(rt.alloc(), &image, &mut roles), 0);
-    assert_eq!(rt; (roles[0], roles[8], roles[16]), (1, 2, 9));
-
+// The node of a path, and four bytes of it from a place on, if it is found.
+fn found(alloc: Global, path: &[u8], offset: usize) -> (u8, usize, usize, [u8; 4]) {
+    let image = built(alloc, MANIFEST);
+    let index = indexed(alloc, &image);
     let mut node = 9;
-    assert_eq!(rt; find_entry(rt.alloc(), &entries, b"c/LONG", &mut node), 0);
+    let number = find_entry(alloc, &index.entries, path, &mut node);
     let mut room = [9; 4];
-    let count = read_bytes(&image, &entries, &blocks, node, 486, &mut room);
-    assert_eq!(rt; (node, count, room), (2, 3, [0x41, 0x41, 0x41, 9]));
+    let count = read_bytes(
+        &image,
+        &index.entries,
+        &index.blocks,
+        node,
+        offset,
+        &mut room,
+    );
+    (number, node, count, room)
+}
+
+#[test]
+fn a_file_is_found_and_read(rt: HostRuntime) {
+    assert!(rt; found(rt.alloc(), b"c/LONG", 486) == (0, 2, 3, [0x41, 0x41, 0x41, 9]));
+}
+
+// The image with a bit of its root changed: 8 * 512 + 300 is in the part of zeros.
+fn damaged(alloc: Global) -> Image {
+    with_bytes(&built(alloc, MANIFEST), &[(8 * 512 + 300, 1)])
 }
 
 // With memory there, each call that checks names the first fault of a refused image, and writes to no table.
 #[test]
-fn calls_name_the_fault_of_a_refused_image(rt: HostRuntime) {
-    let mut image = built(&rt);
-    image[8 * 512 + 300] ^= 1;
-    let mut entries = [ENTRY; 2];
-    let mut blocks = [9; 2];
-    let mut contents = CONTENTS;
-    let cause = put_index(rt.alloc(), &image, &mut entries, &mut blocks, &mut contents);
-    assert_eq!(rt; (cause, contents.block, contents.entries), (7, 8, 0));
-    assert_eq!(rt; (entries[1].size, blocks[1]), (9, 9));
-
-    let mut verdict = VERDICT;
-    assert_eq!(rt; check_image(rt.alloc(), &image, &mut verdict), 7);
-    assert_eq!(rt; (verdict.block, verdict.blocks), (8, 0));
-
-    let mut roles = [9; 16];
-    assert_eq!(rt; owners_of(rt.alloc(), &image, &mut roles), 7);
-    assert_eq!(rt; roles, [9; 16]);
-
-    let mut room = [9; 6];
-    assert_eq!(rt; cause_text(cause, &mut room), 7);
-    assert_eq!(rt; &room, b"bad su");
+fn a_refused_image_has_no_index(rt: HostRuntime) {
+    let index = indexed(rt.alloc(), &damaged(rt.alloc()));
+    assert!(rt; (index.cause, index.contents.block, index.contents.entries) == (7, 8, 0));
+    assert!(rt; (index.entries[1].size, index.blocks[1]) == (9, 9));
 }
 
-// With memory there, a survey of an image with a bit changed in the headers of `c` and of `short` fills its tables.
 #[test]
-fn a_survey_fills_its_tables(rt: HostRuntime) {
-    let mut image = built(&rt);
-    image[2 * 512 + 323] ^= 1;
-    image[6 * 512 + 323] ^= 1;
+fn a_refused_image_is_told(rt: HostRuntime) {
+    let image = damaged(rt.alloc());
+    let (cause, verdict) = checked(rt.alloc(), &image);
+    assert!(rt; (cause, verdict.block, verdict.blocks) == (7, 8, 0));
+    assert!(rt; roles(rt.alloc(), &image) == (7, [9; 17]));
+}
+
+// The front of the text of a cause, and its length.
+fn told(cause: u8) -> (usize, [u8; 6]) {
+    let mut room = [9; 6];
+    let length = cause_text(cause, &mut room);
+    (length, room)
+}
+
+#[test]
+fn causes_have_texts(rt: HostRuntime) {
+    assert!(rt; told(7) == (7, *b"bad su"));
+}
+
+// The headers of `c` and of `short` with a bit changed in the part of zeros.
+const IN_C: (usize, u8) = (2 * 512 + 323, 1);
+
+const IN_SHORT: (usize, u8) = (6 * 512 + 323, 1);
+
+// The tables of a survey.
+#[derive(Clone, Copy)]
+struct SurveyTables {
+    cause: u8,
+    findings: [TableFinding; 3],
+    entries: [FoundEntry; 4],
+    surveyed: Surveyed,
+}
+
+fn surveyed(alloc: Global, image: &Image) -> SurveyTables {
     let mut findings = [FINDING; 3];
     let mut entries = [FOUND; 4];
     let mut surveyed = SURVEYED;
-    let cause = put_survey(
-        rt.alloc(),
-        &image,
-        &mut findings,
-        &mut entries,
-        &mut surveyed,
-    );
-    assert_eq!(rt;
-        (cause, surveyed.findings, surveyed.entries, surveyed.blocks),
-        (0, 2, 3, 16)
-    );
-    let [first, second, third] = findings;
-    assert_eq!(rt;
-        (first.first, first.last, first.node, first.cause),
-        (2, 2, 1, 7)
-    );
-    assert_eq!(rt;
-        (second.first, second.last, second.node, second.cause),
-        (6, 6, 3, 7)
-    );
-    assert_eq!(rt;
-        (
-            third.first,
-            entries[0].is_sound,
-            entries[1].is_sound,
-            entries[2].is_sound
-        ),
-        (9, 0, 1, 0)
-    );
-    assert_eq!(rt;
-        (entries[1].parent, entries[1].size, entries[3].size),
-        (1, 489, 9)
-    );
+    let cause = put_survey(alloc, image, &mut findings, &mut entries, &mut surveyed);
+    SurveyTables {
+        cause,
+        findings,
+        entries,
+        surveyed,
+    }
 }
 
-// What `adf-survey` with these words returns on an image, and how much it moved.
-fn surveyed(rt: &impl AllocGlobal, words: &[u8], image: &[u8], output: &mut [u8]) -> (u8, Moved) {
+// Whether a finding concerns this block alone, and this entry, by a bad sum.
+fn is_bad_sum(finding: &TableFinding, block: u32, node: usize) -> bool {
+    (finding.first, finding.last, finding.node, finding.cause) == (block, block, node, 7)
+}
+
+// With memory there, a survey fills its tables.
+#[test]
+fn a_survey_fills_its_tables(rt: HostRuntime) {
+    let image = with_bytes(&built(rt.alloc(), MANIFEST), &[IN_C, IN_SHORT]);
+    let tables = surveyed(rt.alloc(), &image);
+    let told = tables.surveyed;
+    assert!(rt; (tables.cause, told.findings, told.entries, told.blocks) == (0, 2, 3, 16));
+    let [first, second, third] = tables.findings;
+    assert!(rt; is_bad_sum(&first, 2, 1) && is_bad_sum(&second, 6, 3) && third.first == 9);
+    let [c, long, short, none] = tables.entries;
+    assert!(rt; (c.is_sound, long.is_sound, short.is_sound) == (0, 1, 0));
+    assert!(rt; (long.parent, long.size, none.size) == (1, 489, 9));
+}
+
+// What `adf-survey` with these words returns on an image, how much it moved, and its output.
+fn run_survey(alloc: Global, words: &[u8], image: &Image) -> (u8, Moved, [u8; 20]) {
+    let mut output = [0; 20];
     let mut errors = [0; 80];
-    let mut moved = MOVED;
+    let mut moved = NOT_MOVED;
     let status = run_in_memory::<WithoutFiles<adf_survey_cmd::Work>>(
-        rt.alloc(),
+        alloc,
         words,
         image,
-        output,
+        &mut output,
         &mut errors,
         &mut moved,
     );
-    (status, moved)
+    (status, moved, output)
 }
 
-// An output that has just enough room is not taken for one that has too little.
+// An output that has just enough room is not taken for one that has too little. Words that no zero byte ends are none.
 #[test]
 fn findings_fit_exactly(rt: HostRuntime) {
-    let mut image = built(&rt);
-    // The header of `c` is the first free block, 2.
-    image[2 * 512 + 323] ^= 1;
-    let line = b"block 2: bad sum: c\n";
-    let mut output = [0; 20];
-    let (status, moved) = surveyed(&rt, b"adf-survey\0", &image, &mut output);
-    assert_eq!(rt; (status, moved.output, moved.output_full), (1, 20, false));
-    assert_eq!(rt; &output, line);
-
-    // Words that no zero byte ends are none.
-    let (status, moved) = surveyed(&rt, b"adf-survey", &image, &mut output);
-    assert_eq!(rt; (status, moved.output, moved.errors), (2, 0, 80));
+    let image = with_bytes(&built(rt.alloc(), MANIFEST), &[IN_C]);
+    let (status, moved, output) = run_survey(rt.alloc(), b"adf-survey\0", &image);
+    assert!(rt; (status, moved.output, moved.output_full) == (1, 20, false));
+    assert!(rt; output == *b"block 2: bad sum: c\n");
+    let (status, moved, _) = run_survey(rt.alloc(), b"adf-survey", &image);
+    assert!(rt; (status, moved.output, moved.errors) == (2, 0, 80));
 }
 
 // The structs are as long as those of include/adf.h on a machine of 64 bits.
 #[test]
 fn structs_are_as_long_as_in_c(rt: HostRuntime) {
-    assert_eq!(rt;
-        (size_of::<TableEntry>(), size_of::<Contents>()),
-        (144, 104)
-    );
-    assert_eq!(rt; (size_of::<Verdict>(), size_of::<Moved>()), (40, 32));
-    assert_eq!(rt;
-        (size_of::<TablePartition>(), size_of::<TableDisk>()),
-        (72, 16)
-    );
+    assert!(rt; (size_of::<TableEntry>(), size_of::<Contents>()) == (144, 104));
+    assert!(rt; (size_of::<Verdict>(), size_of::<Moved>()) == (40, 32));
+    assert!(rt; (size_of::<TablePartition>(), size_of::<TableDisk>()) == (72, 16));
 }

@@ -2,9 +2,11 @@
 #![tactic(auto)]
 
 #[cfg(test)]
-mod disks;
+mod disk_tables;
 #[cfg(test)]
 mod found_files;
+#[cfg(test)]
+mod images;
 #[cfg(test)]
 mod images_in_memory;
 #[cfg(test)]

@@ -1,10 +1,9 @@
 // Volumes that are built from a table: an OFS volume of 16 blocks with the directory `c` and in it the files `long`, 489 bytes
 // 0x41, and `one`, one byte. A row changes one field, and has the number and the addition that come of it.
 
-use adf_memory::{
-    Built, Date, Moved, NewVolume, TableAddition, build_volume, need_volume, run_in_memory,
-};
-use std::process::Abort;
+use crate::images::{Image, built as built_by_command};
+use adf_memory::{Built, Date, NewVolume, TableAddition, build_volume, need_volume};
+use std::alloc::Global;
 
 const MANIFEST: &[u8] =
     b"volume ofs 16\ndir 0:0:0 00000000 c\nfile 0:0:0 0000000f c/long\nnote N\nfill 489 41\nfile 1:2:3 00000000 c/one\ndata 42\n";
@@ -82,54 +81,45 @@ fn contents() -> [u8; 490] {
     bytes
 }
 
-// The image that the command builds of the same entries.
-fn built(rt: &(impl Abort + AllocGlobal)) -> [u8; 8192] {
-    let mut image = [0; 8192];
-    let mut errors = [0; 80];
-    let mut moved = Moved {
-        input: 0,
-        output: 0,
-        errors: 0,
-        output_full: false,
-        errors_full: false,
-    };
-    let status = run_in_memory::<adf_cmd::Work>(
-        rt.alloc(),
-        b"adf\0build\0",
-        MANIFEST,
-        &mut image,
-        &mut errors,
-        &mut moved,
-    );
-    assert_eq!(rt; (status, moved.output), (0, 8192));
-    image
+// The number and what is told of a table that is built, and the room, of which all bytes were nines.
+fn built(
+    alloc: Global,
+    volume: &NewVolume,
+    additions: &[TableAddition; 3],
+) -> (u8, Built, [u8; 8200]) {
+    let mut room = [9; 8200];
+    let mut told = BUILT;
+    let number = build_volume(alloc, volume, additions, &contents(), &mut room, &mut told);
+    (number, told, room)
+}
+
+// The number and what is told of how many blocks it needs.
+fn needed(alloc: Global, volume: &NewVolume, additions: &[TableAddition; 3]) -> (u8, Built) {
+    let mut told = BUILT;
+    let number = need_volume(alloc, volume, additions, &contents(), &mut told);
+    (number, told)
+}
+
+// An image, and nines behind it.
+fn in_room(image: &Image) -> [u8; 8200] {
+    let mut room = [9; 8200];
+    room[..8192].copy_from_slice(image);
+    room
 }
 
 // A table and a manifest of the same entries give the same image. The room behind it is unchanged.
 #[test]
 fn a_table_builds_what_a_manifest_does(rt: HostRuntime) {
-    let mut room = [9; 8200];
-    let mut told = BUILT;
-    let number = build_volume(
-        rt.alloc(),
-        &VOLUME,
-        &ADDITIONS,
-        &contents(),
-        &mut room,
-        &mut told,
-    );
-    assert_eq!(rt; (number, told.addition, told.blocks), (0, 0, 16));
-    let mut wanted = [9; 8200];
-    wanted[..8192].copy_from_slice(&built(&rt));
-    assert_eq!(rt; room.as_slice(), wanted.as_slice());
+    let (number, told, room) = built(rt.alloc(), &VOLUME, &ADDITIONS);
+    assert!(rt; (number, told.addition, told.blocks) == (0, 0, 16));
+    assert!(rt; room == in_room(&built_by_command(rt.alloc(), MANIFEST)));
 }
 
 // The root, a page, and 1, 3 and 2 blocks for the entries, and the two boot blocks.
 #[test]
 fn the_smallest_volume_is_found(rt: HostRuntime) {
-    let mut told = BUILT;
-    let number = need_volume(rt.alloc(), &VOLUME, &ADDITIONS, &contents(), &mut told);
-    assert_eq!(rt; (number, told.blocks), (0, 10));
+    let (number, told) = needed(rt.alloc(), &VOLUME, &ADDITIONS);
+    assert!(rt; (number, told.blocks) == (0, 10));
 }
 
 // A field that is changed.
@@ -179,23 +169,17 @@ const ROWS: &[(Change, u8, usize)] = &[
     (Change::Blocks(8), 11, 0),
 ];
 
-// Each fault has its number and its addition, and nothing is written.
+// Whether a change has this number and this addition, and nothing is written.
+fn refuses(alloc: Global, change: Change, number: u8, addition: usize) -> bool {
+    let (volume, additions) = changed(change);
+    let (came, told, room) = built(alloc, &volume, &additions);
+    (came, told.addition) == (number, addition) && room == [9; 8200]
+}
+
 #[test]
 fn each_fault_is_told(rt: HostRuntime) {
-    for (change, wanted, addition) in ROWS {
-        let (volume, additions) = changed(*change);
-        let mut room = [9; 8192];
-        let mut told = BUILT;
-        let number = build_volume(
-            rt.alloc(),
-            &volume,
-            &additions,
-            &contents(),
-            &mut room,
-            &mut told,
-        );
-        assert_eq!(rt; (number, told.addition), (*wanted, *addition));
-        assert_eq!(rt; room, [9; 8192]);
+    for (change, number, addition) in ROWS {
+        assert!(rt; refuses(rt.alloc(), *change, *number, *addition));
     }
 }
 
@@ -204,24 +188,14 @@ fn each_fault_is_told(rt: HostRuntime) {
 fn a_name_stands_once(rt: HostRuntime) {
     let (volume, mut additions) = changed(Change::Name(2, *b"LONG.........................."));
     additions[2].name_length = 4;
-    let mut told = BUILT;
-    let number = need_volume(rt.alloc(), &volume, &additions, &contents(), &mut told);
-    assert_eq!(rt; (number, told.addition, told.blocks), (8, 3, 0));
+    let (number, told) = needed(rt.alloc(), &volume, &additions);
+    assert!(rt; (number, told.addition, told.blocks) == (8, 3, 0));
 }
 
 // A tree that does not fit is told with both numbers.
 #[test]
 fn what_does_not_fit_is_told(rt: HostRuntime) {
     let (volume, additions) = changed(Change::Blocks(8));
-    let mut room = [9; 8192];
-    let mut told = BUILT;
-    let number = build_volume(
-        rt.alloc(),
-        &volume,
-        &additions,
-        &contents(),
-        &mut room,
-        &mut told,
-    );
-    assert_eq!(rt; (number, told.need, told.have), (11, 8, 6));
+    let (number, told, _) = built(rt.alloc(), &volume, &additions);
+    assert!(rt; (number, told.need, told.have) == (11, 8, 6));
 }
