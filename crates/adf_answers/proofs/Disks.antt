@@ -69,7 +69,7 @@ some_survey bytes =
 
 some_copy : (bytes : List ℕ) (w : WantedValue) → (reply : Reply) × OfDisk (volume w) bytes reply
 some_copy bytes w =
-    of_disk (volume w) bytes (λ ps. (volume_reply bytes (wanted_of ps w), refl)) (λ f. (refusal (disk_fault_text f), refl))
+    of_disk (volume w) bytes (λ ps. (volume_reply bytes w (wanted_of ps w), refl)) (λ f. (refusal (disk_fault_text f), refl))
 
 built_by : (text : List ℕ) → HasPlanOrFault text → (reply : Reply) × BuildsDisk text reply
 built_by text (inl (plan, given, is)) = (plan_reply plan given, inl (plan, given, is, refl))

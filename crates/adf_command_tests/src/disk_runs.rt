@@ -342,18 +342,18 @@ const FOUND: &[(&str, Change<'static>)] = &[
 
 // A name, a change, and what errors get.
 const REFUSED: &[(&str, Change<'static>, &str)] = &[
-    ("0", NONE, "no such partition\n"),
-    ("3", NONE, "no such partition\n"),
-    ("DH", NONE, "no such partition\n"),
-    ("DH\\x30", NONE, "no such partition\n"),
-    ("\\x", NONE, "no such partition\n"),
-    ("D\\x2f", (2, SLASH), "no such partition\n"),
-    ("D\\x2f0", (2, COLON), "no such partition\n"),
-    ("DH0", (2, FORTY), "no such partition\n"),
+    ("0", NONE, "no such partition: 0\n"),
+    ("3", NONE, "no such partition: 3\n"),
+    ("DH", NONE, "no such partition: DH\n"),
+    ("DH\\x30", NONE, "no such partition: DH\\x5cx30\n"),
+    ("\\x", NONE, "no such partition: \\x5cx\n"),
+    ("D\\x2f", (2, SLASH), "no such partition: D\\x5cx2f\n"),
+    ("D\\x2f0", (2, COLON), "no such partition: D\\x5cx2f0\n"),
+    ("DH0", (2, FORTY), "no such partition: DH0\n"),
     (
         "DH0BBBBBBBBBBBBBBBBBBBBBBBBBBBCD",
         (2, FORTY),
-        "no such partition\n",
+        "no such partition: DH0BBBBBBBBBBBBBBBBBBBBBBBBBBBCD\n",
     ),
     ("2", OVER, "over partition\n"),
     ("dh1", (0, &[(4, 1024)]), "block 0: bad block size\n"),

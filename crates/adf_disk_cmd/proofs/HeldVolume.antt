@@ -155,10 +155,10 @@ module _ (all tables behind : List ℕ) (q : Place) (len : ℕ) (within : end_of
   place_answer (Ok r) e = grind (arith, common_steps, both_parts, disk_of)
   place_answer (Err f) e = refl
 
-  held_answer : (found : Option Partition) → IfSome found (λ x. IfOk x.place (λ (r : Place). q ≡ r))
-      → held_reply (volume_at tables q ++ behind) found ≡ volume_reply (disk_of all) found
-  held_answer None h = refl
-  held_answer (Some p) h = place_answer p.place h
+  held_answer : (w : WantedValue) (found : Option Partition) → IfSome found (λ x. IfOk x.place (λ (r : Place). q ≡ r))
+      → held_reply (volume_at tables q ++ behind) w found ≡ volume_reply (disk_of all) w found
+  held_answer w None h = refl
+  held_answer w (Some p) h = place_answer p.place h
 
   module _ (w : WantedValue) (s n : ℕ) (is_sum : s ≡ length tables + len) (blocks : n ≡ min s MOST_DISK_BYTES / 512) where
     blocks_are : n ≡ min (length tables + len) MOST_DISK_BYTES / 512
@@ -166,14 +166,14 @@ module _ (all tables behind : List ℕ) (q : Place) (len : ℕ) (within : end_of
 
     pub copied_ends : (t : Tables) (ps : List Partition) (found : Option Partition) (end : Outcome) (o o' : Option (List ℕ))
         → IsSoughtPlace tables w q → IsDisk tables n t ps → found ≡ wanted_of ps w
-        → EndsBy (λ reply. reply ≡ held_reply (volume_at tables q ++ behind) found) end o o' → EndsBy (DiskAnswer (volume w) all) end o o'
+        → EndsBy (λ reply. reply ≡ held_reply (volume_at tables q ++ behind) w found) end o o' → EndsBy (DiskAnswer (volume w) all) end o o'
     copied_ends t ps found end o o' place disk wanted h =
         let held_found = subst (λ (x : Option Partition). IfSome x (λ p. IfOk p.place (λ (r : Place). q ≡ r))) (sym wanted)
         (place n t ps (omega (arith, blocks)) disk) in
-        let answer = held_answer found held_found ∙ ap (volume_reply (disk_of all)) wanted in
+        let answer = held_answer w found held_found ∙ ap (volume_reply (disk_of all) w) wanted in
         disk_ends (volume w) all (disk_of all) end o o' refl
         (told_ends (volume w) (disk_of all) t ps end o o' (disk_held all tables (length tables + len) n tables_part blocks_are disk)
-        (ends_weaker (λ reply. reply ≡ held_reply (volume_at tables q ++ behind) found) (OfPartitions (volume w) (disk_of all) ps) end o o'
+        (ends_weaker (λ reply. reply ≡ held_reply (volume_at tables q ++ behind) w found) (OfPartitions (volume w) (disk_of all) ps) end o o'
         (λ reply e. e ∙ answer) h))
 
     pub no_copy_ends : (f : DiskFault) (end : Outcome) (o o' : Option (List ℕ)) → FirstFault tables n f

@@ -1,5 +1,6 @@
 -- What the command answers to its words and its input. `bytes` are those of a disk, ps its partitions.
 use Rattle.std.specs.Prelude.{◌≡◌, ◌++◌, ◌/◌, ◌⊎◌, ◌||◌, ℕ, Bool, List, [], ◌∷◌, bytes_eq, codes, find, length, take, Option, None, Some, Result, Ok, Err}
+use Rattle.std.specs.Fmt.{decimal}
 use Rattle.adf_names.specs.Escapes.{escaped}
 use Rattle.adf_names.specs.Texts.{uppers}
 use Rattle.adf_texts.specs.Names.{names_text}
@@ -38,17 +39,26 @@ abbrev pub place_reply : List ℕ → Result Place PlaceFault → Reply
 place_reply bytes (Ok q) = on_output 0 (volume_at bytes q)
 place_reply bytes (Err f) = refusal (place_fault_text f)
 
--- the bytes of the volume of a partition, where there is one
-abbrev pub volume_reply : List ℕ → Option Partition → Reply
-volume_reply bytes None = refusal (codes "no such partition")
-volume_reply bytes (Some p) = place_reply bytes p.place
+-- what is wanted, as errors tell it: a number, or the escape form of a name
+abbrev pub wanted_text : WantedValue → List ℕ
+wanted_text (number n) = decimal n
+wanted_text (name text) = escaped text
+
+-- what errors tell where a disk has no such partition
+abbrev pub no_partition_text : WantedValue → List ℕ
+no_partition_text w = codes "no such partition: " ++ wanted_text w
+
+-- the bytes of the volume of the partition that is wanted, where there is one
+abbrev pub volume_reply : List ℕ → WantedValue → Option Partition → Reply
+volume_reply bytes w None = refusal (no_partition_text w)
+volume_reply bytes w (Some p) = place_reply bytes p.place
 
 -- the answer to a request, of a disk with these partitions: `build` reads no disk
 abbrev pub OfPartitions : DiskRequestValue → List ℕ → List Partition → Reply → Type 0
 OfPartitions list bytes ps reply = reply ≡ on_output 0 (list_lines 1 ps)
 OfPartitions check bytes ps reply = ChecksAll bytes ps reply
 OfPartitions survey bytes ps reply = reply ≡ on_output 0 (list_lines 1 ps)
-OfPartitions (volume w) bytes ps reply = reply ≡ volume_reply bytes (wanted_of ps w)
+OfPartitions (volume w) bytes ps reply = reply ≡ volume_reply bytes w (wanted_of ps w)
 OfPartitions build bytes ps reply = ⊥
 
 -- a line, and the lines of the partitions that can be read of a disk of n blocks

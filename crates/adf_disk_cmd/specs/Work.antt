@@ -1,5 +1,5 @@
 -- What is done with a disk.
-use Rattle.std.specs.Prelude.{◌≡◌, ◌≤◌, ◌+◌, ◌-◌, ◌*◌, ℕ, Bool, true, false, List, Option, None, Some, Result, Ok, Err, IfOk, IfSome, codes, drop, take}
+use Rattle.std.specs.Prelude.{◌≡◌, ◌≤◌, ◌+◌, ◌-◌, ◌*◌, ℕ, Bool, true, false, List, Option, None, Some, Result, Ok, Err, IfOk, IfSome, drop, take}
 use Rattle.std.specs.String.{string_bytes}
 use Rattle.adf_partitions.specs.Disks.{IsDisk}
 use Rattle.adf_partitions.specs.FaultTexts.{disk_fault_text, place_fault_text}
@@ -12,7 +12,7 @@ use Rattle.adf_partitions.specs.declared.tables.Tables.{Tables}
 use Rattle.adf_runs.specs.Commands.{Reply, on_output}
 use Rattle.adf_runs.specs.Streams.{IsPart}
 use Rattle.adf_file_words.specs.DiskLine.{DiskRequestValue, WantedValue, check, list, name, number, survey, volume}
-use Rattle.adf_disk_cmd.specs.Answers.{TellsReadable, fault_line, wanted_of}
+use Rattle.adf_disk_cmd.specs.Answers.{TellsReadable, fault_line, no_partition_text, wanted_of}
 use Rattle.adf_disk_cmd.specs.Builds.{refusal}
 use Rattle.adf_disk_cmd.specs.declared.copy_input.TheConstants.{MOST_DISK_BLOCKS}
 use Rattle.adf_disk_cmd.specs.declared.list_input.TheConstants.{TABLES_LEN}
@@ -61,7 +61,7 @@ abbrev pub held_place_reply : List ℕ → Result Place PlaceFault → Reply
 held_place_reply bytes (Ok q) = on_output 0 bytes
 held_place_reply bytes (Err f) = refusal (place_fault_text f)
 
--- these bytes of the volume of a partition, where there is one
-abbrev pub held_reply : List ℕ → Option Partition → Reply
-held_reply bytes None = refusal (codes "no such partition")
-held_reply bytes (Some p) = held_place_reply bytes p.place
+-- these bytes of the volume of the partition that is wanted, where there is one
+abbrev pub held_reply : List ℕ → WantedValue → Option Partition → Reply
+held_reply bytes w None = refusal (no_partition_text w)
+held_reply bytes w (Some p) = held_place_reply bytes p.place

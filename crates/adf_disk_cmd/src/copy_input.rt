@@ -11,7 +11,7 @@ ghost use Rattle.adf_file_words.specs.DiskLine.{volume};
 use crate::answering::{refuse, write_parts};
 use crate::list_input::{TABLES_LEN, blocks_of, write_fault};
 use crate::volumes::volume_at;
-use crate::work::{MOST_DISK_BYTES, Sought, partition_sought};
+use crate::work::{MOST_DISK_BYTES, Sought, partition_sought, refuse_sought};
 use adf_base::NoMemory;
 use adf_partitions::{Disk, DiskCause, Partition, Place, stated_place};
 use adf_runs::{Outcome, Part, Sink, Source, read_first, read_part};
@@ -96,17 +96,19 @@ fn write_held<W: Sink>(
     alloc: Global,
     front: &[u8],
     behind: &[u8],
+    sought: &Sought,
     found: Option<&Partition>,
     output: &mut W,
 ) -> Outcome
     requires { W.has_failed output.old ≡ false }
-    ensures ends { EndsBy (λ reply. reply ≡ held_reply (front.now ++ behind.now) (option_copied found.entry)) result
+    ensures ends { EndsBy (λ reply.
+        reply ≡ held_reply (front.now ++ behind.now) (sought_value sought.now) (option_copied found.entry)) result
         (W.held output.old) (W.held output.new) }
     ensures read { is_read_fault result ≡ false }
     ensures written { W.has_failed output.new ≡ is_write_fault result }
 {
     let Some(partition) = found else {
-        return refuse(alloc, "no such partition");
+        return refuse_sought(alloc, sought);
     };
     match partition.place {
         Ok(_) => write_parts(output, front, behind),
@@ -132,7 +134,7 @@ fn copy_held<W: Sink>(alloc: Global, held: &Held, sought: &Sought, output: &mut 
             let front = volume_at(tables, held.place);
             let behind = held.behind.bytes.as_slice();
             match partition_sought(alloc, &disk, sought) {
-                Ok(found) => write_held(alloc, front, behind, found, output),
+                Ok(found) => write_held(alloc, front, behind, sought, found, output),
                 Err(_) => Outcome::NoMemory,
             }
         }

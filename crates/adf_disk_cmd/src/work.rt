@@ -1,7 +1,8 @@
 // What is done with a disk.
 
-ghost use Rattle.std.specs.Prelude.{◌≡◌, false, IfOk, option_copied};
-ghost use Rattle.adf_disk_cmd.specs.Answers.{OfDisk, OfFault, OfPartitions, volume_reply, wanted_of};
+ghost use Rattle.std.specs.Prelude.{◌≡◌, false, IfOk, List, Option, option_copied, string_bytes, ℕ};
+ghost use Rattle.adf_disk_cmd.specs.Answers.{OfDisk, OfFault, OfPartitions, no_partition_text, volume_reply, wanted_of};
+ghost use Rattle.adf_disk_cmd.specs.Builds.{refusal};
 ghost use Rattle.adf_disk_cmd.specs.Work.{Serves, sought_value};
 ghost use Rattle.adf_runs.specs.Outcomes.{EndsBy, is_read_fault, is_write_fault};
 ghost use Rattle.adf_file_words.specs.DiskLine.{DiskRequestValue, wanted_value};
@@ -16,6 +17,7 @@ use adf_base::BLOCK_LEN;
 use adf_file_words::Wanted;
 use adf_partitions::{Disk, DiskCause, DiskFault, Partition};
 use adf_runs::{Outcome, Sink};
+use adf_texts::push_escaped;
 use std::alloc::{AllocError, Global};
 
 /// The most bytes of a disk: 2^32 blocks.
@@ -64,21 +66,51 @@ pub fn partition_sought<'a>(
     }
 }
 
-// Writes the bytes of the volume of a partition.
+// What is said where a disk has no such partition.
+fn no_partition_text(alloc: Global, sought: &Sought) -> Result<String, AllocError>
+    ensures { IfOk result (λ text. string_bytes text ≡ no_partition_text (sought_value sought.now)) }
+{
+    match sought {
+        Sought::Numbered(number) => format!(in alloc; "no such partition: {number}"),
+        Sought::Named(name) => {
+            let mut text = Vec::from_slice(alloc, b"no such partition: ")?;
+            push_escaped(&mut text, name.as_bytes())?;
+            // An escape form is ASCII.
+            String::from_utf8(text).map_err(|_| AllocError)
+        }
+    }
+}
+
+/// Says on errors that a disk has no such partition; output gets nothing.
+pub fn refuse_sought(alloc: Global, sought: &Sought) -> Outcome
+    ensures ends { (held : Option (List ℕ))
+        → EndsBy (λ reply. reply ≡ refusal (no_partition_text (sought_value sought.now))) result held held }
+    ensures read { is_read_fault result ≡ false }
+    ensures written { is_write_fault result ≡ false }
+{
+    match no_partition_text(alloc, sought) {
+        Ok(text) => refuse(alloc, &text),
+        Err(_) => Outcome::NoMemory,
+    }
+}
+
+// Writes the bytes of the volume of the partition that is sought.
 fn write_volume<W: Sink>(
     alloc: Global,
     bytes: &[u8],
+    sought: &Sought,
     found: Option<&Partition>,
     output: &mut W,
 ) -> Outcome
     requires { W.has_failed output.old ≡ false }
-    ensures ends { EndsBy (λ reply. reply ≡ volume_reply bytes.now (option_copied found.entry)) result
+    ensures ends { EndsBy (λ reply.
+        reply ≡ volume_reply bytes.now (sought_value sought.now) (option_copied found.entry)) result
         (W.held output.old) (W.held output.new) }
     ensures read { is_read_fault result ≡ false }
     ensures written { W.has_failed output.new ≡ is_write_fault result }
 {
     let Some(partition) = found else {
-        return refuse(alloc, "no such partition");
+        return refuse_sought(alloc, sought);
     };
     match partition.place {
         Ok(place) => write_text(output, volume_at(bytes, place), true),
@@ -100,7 +132,7 @@ impl Work {
             Work::List | Work::Survey => write_list(alloc, &disk.partitions, output),
             Work::Check => write_checks(alloc, bytes, &[], &disk.partitions, output),
             Work::Volume(sought) => match partition_sought(alloc, disk, sought) {
-                Ok(found) => write_volume(alloc, bytes, found, output),
+                Ok(found) => write_volume(alloc, bytes, sought, found, output),
                 Err(_) => Outcome::NoMemory,
             },
         }
