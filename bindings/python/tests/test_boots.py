@@ -131,7 +131,9 @@ class Kept(Catalogues):
 
     def boots(self):
         """What the pages say of boot blocks, by image."""
-        return {page.text.split('<h1 class="text">')[1].split("<")[0]: page.text.split('"row">Boot blocks</th>')[1].split("</td>")[0] for page in pages_of("out")}
+        texts = [page.text for page in pages_of("out")]
+        names = [text.split('<h1 class="text">')[1].split("<")[0] for text in texts]
+        return dict(zip(names, [text.split('"row">Boot blocks</th>')[1].split("</td>")[0] for text in texts]))
 
     def test_counts_disks_with_the_same_boot_blocks(self):
         os.mkdir("disks")
