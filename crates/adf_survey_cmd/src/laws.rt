@@ -10,7 +10,7 @@ ghost use Rattle.adf_boot_blocks.specs.declared.boot.TheConstants.{BOOT_LEN};
 ghost use Rattle.adf_findings.specs.Survey.{FindingValue};
 ghost use Rattle.adf_rescue.specs.Rescue.{Basis, rescued_tree};
 ghost use Rattle.adf_runs.specs.Commands.{Reply};
-ghost use Rattle.adf_words.specs.SurveyLine.{asked, rescue};
+ghost use Rattle.adf_file_words.specs.SurveyLine.{asked, rescue};
 ghost use Rattle.adf_survey_cmd.specs.Answers.{SurveyAnswer};
 ghost use Rattle.adf_survey_cmd.specs.Rescues.{WritesVolume};
 ghost use Rattle.adf_survey_cmd.specs.Subject.{meant};
