@@ -1,6 +1,6 @@
 -- The state of a survey has the facts that the demands on a part need.
-use Rattle.std.specs.Prelude.{Bool, true, false, cond, not, nat_le, nat_lt, ◌==◌, ◌||◌, ◌&&◌, Some, slice_index_or}
-use Rattle.std.proofs.Common.{◌≡◌, ◌≢◌, ℕ, zero, suc, List, [], ◌∷◌, inl, inr, ◌*◌, ◌/◌, ◌<◌, refl, sym, subst, ap, ◌∙◌, arith}
+use Rattle.std.specs.Prelude.{Bool, true, false, cond, not, ◌==◌, ◌||◌, ◌&&◌, Some, slice_index_or}
+use Rattle.std.proofs.Common.{◌≡◌, ◌≢◌, ℕ, zero, suc, List, [], ◌∷◌, inl, inr, ◌<◌, refl, sym, subst, ap, ◌∙◌, arith}
 use Rattle.std.specs.Option.{unwrap_or}
 use Rattle.std.specs.Ordering.{is_eq}
 use Rattle.std.specs.Str.{bytes_eq}
@@ -11,15 +11,13 @@ use Rattle.std.proofs.lemmas.Slice.Eq.{bytes_eq-Decides}
 use Rattle.std.proofs.lemmas.Grind.{common_steps}
 use Rattle.adf_tree.specs.NameSet.{HasMore, Names, has}
 use Rattle.adf_names.specs.Texts.{is_name, uppers}
-use Rattle.adf_blocks.specs.declared.layout.TheConstants.{POINTERS}
 use Rattle.adf_blocks.specs.Sizes.{blocks}
-use Rattle.adf_volume.specs.Image.{letters_of, name_of, table_word, word_in}
+use Rattle.adf_volume.specs.Image.{letters_of, name_of}
 use Rattle.adf_volume.specs.Positions.{position_of}
-use Rattle.adf_volume.specs.Walk.{Role, Asks, Enough, FileAt, Has, IsAbsent, data_count, ext_block_in, ext_count, member_block, next_data, node_block}
-use Rattle.adf_volume.specs.Walk.Role.{Head, Ext, Data}
-use Rattle.adf_volume.proofs.Gathered.{IsGathered, head_block}
+use Rattle.adf_volume.specs.Walk.{Role, Enough, Has, IsAbsent, ext_block_in, member_block}
+use Rattle.adf_volume.specs.Walk.Role.{Head, Ext}
 use Rattle.adf_findings.specs.Demands.{NewNameIn, uppers_in}
-use Rattle.adf_findings.specs.declared.part.Part.{Part, TheVariants.Head as HeadPart, TheVariants.Ext as ExtPart, TheVariants.Data as DataPart}
+use Rattle.adf_findings.specs.declared.part.Part.{Part, TheVariants.Head as HeadPart}
 use Rattle.adf_findings.specs.declared.judge.Facts.{Facts}
 use Rattle.adf_findings.specs.declared.found.Found.{Found}
 use Rattle.adf_findings.specs.Survey.{Course}

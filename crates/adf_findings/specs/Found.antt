@@ -1,7 +1,7 @@
 -- The state of a survey, as a course.
 -- Letters: w a walk, s a course; r a role; b, c blocks; k a key; n, p nodes; f a state;
 -- ds data blocks.
-use Rattle.std.specs.Prelude.{◌≡◌, ◌≤◌, ◌<◌, ◌+◌, ◌-◌, ◌*◌, ◌/◌, ◌==◌, ◌&&◌, ◌||◌, ℕ, Bool, true, false, cond, not, nat_le, nat_lt, List, []}
+use Rattle.std.specs.Prelude.{◌≡◌, ◌≤◌, ◌<◌, ◌+◌, ◌-◌, ◌==◌, ◌&&◌, ◌||◌, ℕ, Bool, true, false, cond, not, List, []}
 use Rattle.std.specs.Prelude.{◌∷◌, ◌++◌, length, set, map, slice_index, slice_index_or, Option, Some, None, IsTrue, ◌↔◌}
 use Rattle.std.proofs.Common.{zero, suc}
 use Rattle.std.specs.Option.{unwrap_or}
