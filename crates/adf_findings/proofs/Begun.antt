@@ -1,11 +1,10 @@
 -- The start of a course.
 use Rattle.std.specs.Prelude.{Bool, true, false, cond, Some, None, map, slice_index, slice_index_or, replicate, ◌==◌}
 use Rattle.std.proofs.Common.{◌≡◌, ℕ, zero, suc, List, [], ◌∷◌, ◌++◌, length, set, ◌+◌, ◌<◌, ◌≤◌, refl, sym, subst, ap, ◌∙◌, arith}
-use Rattle.std.specs.Ordering.{is_eq, nat_cmp}
+use Rattle.std.specs.Ordering.{is_eq}
 use Rattle.std.specs.Global.{Vec}
-use Rattle.std.specs.Option.{unwrap_or}
 use Rattle.std.specs.Map.{lookup}
-use Rattle.std.specs.BTreeMap.{BTreeMap, IsEmpty, get, is_at}
+use Rattle.std.specs.BTreeMap.{BTreeMap, IsEmpty, is_at}
 use Rattle.std.proofs.lemmas.Bool.Decides.{eqb_tells}
 use Rattle.std.proofs.lemmas.List.{length-replicate}
 use Rattle.std.proofs.lemmas.Grind.{common_steps}
@@ -41,10 +40,10 @@ one_node b (suc n) = grind (arith, common_steps, eqb_tells)
 -- nothing is found but the root
 pub stands_begun : (image : List ℕ) (f g h : Found) → IsEmpty f.taken → f.owned.items ≡ replicate (blocks image) false
     → f.owners.items ≡ replicate (blocks image) 0 → f.numbers.items ≡ replicate (blocks image) 0 → f.avoided.items ≡ replicate (blocks image) false
-    → f.left ≡ blocks image → f.nodes.items ≡ [] → IsEmpty f.exts → f.findings.items ≡ [] → f.parents.items ≡ 0 ∷ [] → f.places.items ≡ []
+    → f.left ≡ blocks image → f.nodes.items ≡ [] → f.findings.items ≡ [] → f.parents.items ≡ 0 ∷ [] → f.places.items ≡ []
     → f.datas.items ≡ [] → IsOwned RootPart (root_of image) f g → AreSame f g → h ≡ record g { nodes = h.nodes }
     → h.nodes.items ≡ g.nodes.items ++ root_of image ∷ [] → root_of image < blocks image → Stands image h (begun image [])
-stands_begun image f g h taken owned owners numbers avoided left nodes exts findings parents places datas o e same pushed lt =
+stands_begun image f g h taken owned owners numbers avoided left nodes findings parents places datas o e same pushed lt =
     let n : ℕ = blocks image in
     let root : ℕ = root_of image in
     let items : h.nodes.items ≡ root ∷ [] = pushed ∙ ap (λ xs. xs ++ root ∷ []) (ap (λ v. v.items) e.nodes ∙ nodes) in
@@ -71,7 +70,6 @@ stands_begun image f g h taken owned owners numbers avoided left nodes exts find
       node = (λ m. ap (λ xs. slice_index xs m) items ∙ one_node root m);
       count = ap length items;
       few = (let l : length h.nodes.items ≡ 1 = ap length items in omega arith);
-      ext = (λ m. ap (λ x. unwrap_or (get nat_cmp x m) 0) e.exts ∙ ap (λ c. unwrap_or c 0) (empty_get f.exts (is_at (nat_cmp m)) exts));
       findings = ap (λ v. map finding_value v.items) o.findings ∙ ap (map finding_value) findings;
       parent = (λ m. ap (λ v. slice_index v.items m) e.parents ∙ (ap (λ xs. slice_index xs m) parents ∙ none_default 1 0 m));
       parents = ap (λ v. length v.items) e.parents ∙ ap length parents;

@@ -1,8 +1,8 @@
 -- The findings of the bits.
-use Rattle.std.proofs.Common.{Bool, true, false, ◌||◌, not, Some, None, IsTrue, ◌↔◌, ◌≡◌, ℕ, suc, List, [], ◌∷◌, ◌++◌, inl, inr, ◌+◌, ◌-◌, ◌/◌, ◌%◌}
+use Rattle.std.proofs.Common.{Bool, true, false, ◌||◌, not, Option, Some, None, IsTrue, ◌↔◌, ◌≡◌, ℕ, suc, List, [], ◌∷◌, ◌++◌, inl, inr, ◌+◌, ◌-◌, ◌/◌, ◌%◌}
 use Rattle.std.proofs.Common.{◌≤◌, refl, sym, subst, ◌∙◌, arith, add-one}
 use Rattle.std.specs.Ordering.{is_eq}
-use Rattle.std.specs.BTreeMap.{get}
+use Rattle.std.specs.BTreeMap.{BTreeMap, get}
 use Rattle.std.proofs.lemmas.List.{append_assoc, append-nil}
 use Rattle.std.proofs.lemmas.Grind.{common_steps}
 use Rattle.adf_blocks.specs.declared.cause.Cause.{Cause}
@@ -20,16 +20,13 @@ use Rattle.adf_findings.specs.Survey.BitsTell.{agrees, differs, ends}
 use Rattle.adf_findings.specs.declared.part.Finding.{Finding}
 use Rattle.adf_findings.specs.Forms.{Tells}
 use Rattle.adf_findings.specs.Parts.{by_key, key_of}
-use Rattle.adf_findings.specs.Found.{BitTells, IsBitOf, IsCompleted, IsFinished, IsReported, HasReportedOn, TellsOn, Stands, at_key, bit_cause, owns}
+use Rattle.adf_findings.specs.Bits.{IsPageCompared}
+use Rattle.adf_findings.specs.Found.{BitTells, IsCompleted, IsFinished, IsReported, HasReportedOn, TellsOn, Stands, at_key, bit_cause, owns}
 use Rattle.adf_findings.proofs.Keys.{lacks_at, one_key, same_of_key}
 use Rattle.adf_findings.proofs.Known.{tells_absent}
 use Rattle.adf_findings.proofs.Taking.{stands_reported}
 use Rattle.adf_findings.proofs.OneSurvey.{gathered}
 use Rattle.std.proofs.lemmas.Bool.{cases_Bool, cond-true, cond-false}
-
--- where the bitmap is not valid, no bit is compared
-pub not_compared : (image : List ℕ) (s : Course) (b : ℕ) → (IsValidated image → ⊥) → BitTells image s b None
-not_compared image s b n = λ c. absurd (n c.0)
 
 pub at_has : (w : List (Role × ℕ)) (k : Key) (b : ℕ) → at_key w k ≡ Some b → (q : Role) × Has w q b × (key_of q ≡ k)
 at_has [] k b e = cc
@@ -52,7 +49,7 @@ module _ (image : List ℕ) (f : Found) (s : Course) (v : IsCourse image s) (fs 
   page_has at e = has_page s.walk page at (sym (st.taken (Page page) tt) ∙ e)
 
   -- without its page a bit is not compared
-  pub no_page : get by_key f.taken (key_of (Page page)) ≡ None → BitTells image s b None
+  no_page : get by_key f.taken (key_of (Page page)) ≡ None → BitTells image s b None
   no_page e c = absurd (lacks_at s.walk (Page page) (sym (st.taken (Page page) tt) ∙ e) (Page page) c.1.0 c.1.1 (same_refl (Page page)))
 
   tells_free : (at : ℕ) (t : Bool) → Has s.walk (Page page) at → (IsTrue t ↔ IsFreeAt image at ((b - 2) % PAGE_BITS))
@@ -76,13 +73,29 @@ module _ (image : List ℕ) (f : Found) (s : Course) (v : IsCourse image s) (fs 
   tells_bit true _ true at vd h ow av fr = ((vd, (at, h), (λ x. absurd (ow x))), inr ((λ x. fr), inl ((λ k. ow (k fr)), refl, refl)))
   tells_bit true _ false at vd h ow av fr = λ c. ((λ x. absurd (ow x)), ((λ x. absurd (fr x)), tt))
 
+  -- a bit that is not compared tells nothing
+  pub none_tells : IsPageCompared image f.taken b None → BitTells image s b None
+  none_tells none c = no_page (none c.0) c
+
   -- with its page the bit tells by whose the block is
-  pub page_tells : (o p k t : Bool) → o ≡ owns s.walk b → p ≡ owns s.skipped b → k ≡ is_cache image b → IsValidated image
-      → IsBitOf image f.taken page ((b - 2) % PAGE_BITS) (Some t) → BitTells image s b (bit_cause o (p || k) t)
-  page_tells o p k t oe pe ke vd x =
-      let h = page_has x.0 x.1 in
-      tells_bit o (p || k) t x.0 vd h (subst (λ o. Tells (not o) (IsAbsent s.walk b)) (sym oe) (tells_absent s.walk b))
-      (tells_excuse p k (subst (λ p. Tells (not p) (IsAbsent s.skipped b)) (sym pe) (tells_absent s.skipped b)) ke) (tells_free x.0 t h x.2)
+  pub page_tells : (o p k t : Bool) (at : ℕ) → o ≡ owns s.walk b → p ≡ owns s.skipped b → k ≡ is_cache image b
+      → IsPageCompared image f.taken b (Some at) → (IsTrue t ↔ IsFreeAt image at ((b - 2) % PAGE_BITS)) → BitTells image s b (bit_cause o (p || k) t)
+  page_tells o p k t at oe pe ke x free =
+      let h = page_has at x.1 in
+      tells_bit o (p || k) t at x.0 h (subst (λ o. Tells (not o) (IsAbsent s.walk b)) (sym oe) (tells_absent s.walk b))
+      (tells_excuse p k (subst (λ p. Tells (not p) (IsAbsent s.skipped b)) (sym pe) (tells_absent s.skipped b)) ke) (tells_free at t h free)
+
+-- the next bit that begins no page is in the page of the bit before
+pub page_on : (image : List ℕ) (taken : BTreeMap Key ℕ) (b : ℕ) (page : Option ℕ) → 2 ≤ b → IsPageCompared image taken b page
+    → ((b + 1 - 2) % PAGE_BITS ≡ 0 → ⊥) → IsPageCompared image taken (b + 1) page
+page_on image taken b page lo h inner = go page h
+  where
+    same : (b - 2) / PAGE_BITS ≡ (b + 1 - 2) / PAGE_BITS
+    same = omega arith
+
+    go : (page : Option ℕ) → IsPageCompared image taken b page → IsPageCompared image taken (b + 1) page
+    go None h = λ v. subst (λ i. get by_key taken (key_of (Page i)) ≡ None) same (h v)
+    go (Some at) h = (h.0, subst (λ i. get by_key taken (key_of (Page i)) ≡ Some at) same h.1)
 
 pub tells_none : (image : List ℕ) (s : Course) (b : ℕ) (gs : List FindingValue) → 2 ≤ b → BitTells image s b None
     → TellsOn image s b gs → TellsOn image s (b + 1) gs

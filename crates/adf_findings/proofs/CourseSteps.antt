@@ -1,26 +1,29 @@
 -- The steps of a course: the part at its position is taken or skipped, or the position advances without one.
-use Rattle.std.specs.Prelude.{false, not, ◌||◌, slice_index_or, Option, Some, None}
+use Rattle.std.specs.Prelude.{Bool, false, not, ◌||◌, slice_index_or, Option, Some, None}
 use Rattle.std.proofs.Common.{◌≡◌, ℕ, suc, length, List, ◌∷◌, ◌≤◌, refl, sym, subst, ap, ◌∙◌, arith}
 use Rattle.std.proofs.lemmas.Grind.{common_steps}
 use Rattle.adf_tree.specs.NameSet.{has}
 use Rattle.adf_blocks.specs.Sizes.{blocks}
 use Rattle.adf_volume.specs.Image.{word_in}
 use Rattle.adf_volume.specs.Positions.{Position, IsNoLater, IsUpTo, behind, position_of}
-use Rattle.adf_volume.specs.Walk.{Role, Same, Asks, Lacks, first, heads, second}
-use Rattle.adf_volume.specs.Walk.Role.{Root, Head, Ext}
-use Rattle.adf_volume.proofs.Gathered.{IsGathered, ext_counted, next_ext}
+use Rattle.adf_volume.specs.Walk.{Role, Same, Asks, Enough, Lacks, first, heads, second}
+use Rattle.adf_volume.specs.Walk.Role.{Root, Head}
+use Rattle.adf_volume.proofs.Gathered.{IsGathered}
 use Rattle.adf_volume.proofs.PositionSteps.{not_skipped, not_taken, past_skipped, past_taken, same_behind, same_position}
 use Rattle.adf_volume.proofs.Roles.{asks_number, renumbered, renumbered_same}
 use Rattle.adf_findings.specs.declared.part.Part.{Part, TheVariants.Head as HeadPart}
+use Rattle.adf_findings.specs.declared.course.Due.{Due}
 use Rattle.adf_findings.specs.declared.course.Reference.{Reference}
+use Rattle.adf_findings.specs.declared.forms.Context.{Context}
 use Rattle.adf_findings.specs.declared.judge.Facts.{Facts}
 use Rattle.adf_findings.specs.declared.found.Found.{Found}
 use Rattle.adf_findings.specs.Survey.{Course}
-use Rattle.adf_findings.specs.Forms.{Knows}
+use Rattle.adf_findings.specs.Forms.{IsContext, Knows, Tells}
 use Rattle.adf_findings.specs.Parts.{role_of}
 use Rattle.adf_findings.specs.Demands.{uppers_in}
-use Rattle.adf_findings.specs.Found.{AreNamed, IsChain, IsKept, IsTaken, KeepsName, Stands, context_in, enough_in, has_name}
-use Rattle.adf_findings.specs.Courses.{Holds, IsGoneOn, IsNamed, IsNextReference, IsOutcome, IsSkipped, IsToTake, course_on, role_asked}
+use Rattle.adf_findings.specs.Found.{AreNamed, IsChain, IsKept, IsTaken, KeepsName, Stands, has_name}
+use Rattle.adf_findings.specs.Courses.{HasReachedPart, Holds, IsGoneOn, IsNamed, IsNextReference, IsOutcome, IsSkipped, IsToTake}
+use Rattle.adf_findings.specs.Courses.{course_on, due_below, role_asked}
 use Rattle.adf_findings.proofs.Known.{known_names, knows, own_name}
 use Rattle.adf_findings.proofs.OneSurvey.{gathered}
 use Rattle.adf_findings.proofs.Taking.{IsNumbered, stands_taken, unowned_less}
@@ -29,7 +32,6 @@ use Rattle.adf_findings.proofs.Taking.{IsNumbered, stands_taken, unowned_less}
 pub numbered : (image : List ℕ) (w : List (Role × ℕ)) → IsGathered image w → (r : Role) (a i : ℕ) → Asks image w r a i → Lacks w r → IsNumbered w r
 numbered image w v Root a i h l = absurd h
 numbered image w v (Head n p s j) a i h l = asks_number image w n p s j a i h
-numbered image w v (Ext n k) a i h l = next_ext image w v n k a i h l (ext_counted image v n)
 numbered image w v _ a i h l = tt
 
 -- a part with the number of nodes is that which is asked for
@@ -42,7 +44,34 @@ pub moved : {image : List ℕ} {f : Found} {k l : Position} {s : Course} → Hol
     → Holds image f l s
 moved {k = k} h le up_to = grind (arith, common_steps, up_to)
 
-module _ {image : List ℕ} {f : Found} {part : Part} {a i : ℕ} {s : Course} (n : IsNamed image f part a i s) where
+-- what is said of a part is so of it with any number
+renumbered_context : (image : List ℕ) (w : List (Role × ℕ)) (m : ℕ) (r : Role) (x : Context) → IsContext image w r x
+    → IsContext image w (renumbered m r) x
+renumbered_context image w m (Head n p s j) x h = h
+renumbered_context image w m _ x h = h
+
+renumbered_enough : (image : List ℕ) (w : List (Role × ℕ)) (m : ℕ) (r : Role) (t : Bool) → Tells t (Enough image w r)
+    → Tells t (Enough image w (renumbered m r))
+renumbered_enough image w m (Head n p s j) t h = h
+renumbered_enough image w m _ t h = h
+
+-- a part of which no more than a block is said, by an equation
+module _ {image : List ℕ} {f : Found} {y : Due} {part : Part} {up a i : ℕ} {s : Course} (e : y ≡ due_below part up)
+    (n : IsNamed image f (due_below part up) a i s) where
+  pub below_named : IsNamed image f y a i s
+  below_named = subst (λ y. IsNamed image f y a i s) (sym e) n
+
+  pub below_reached : HasReachedPart image f y a i
+  below_reached = (s, below_named)
+
+  pub below_gone : {g : Found} {o : Option ℕ} → ((s : Course) → IsNamed image f y a i s → IsGoneOn image s y.part a i g o)
+      → IsGoneOn image s part a i g o
+  below_gone {g} {o} gone = subst (λ y. IsGoneOn image s y.part a i g o) e (gone s below_named)
+
+module _ {image : List ℕ} {f : Found} {y : Due} {a i : ℕ} {s : Course} (n : IsNamed image f y a i s) where
+  abbrev part : Part
+  part = y.part
+
   abbrev role : Role
   role = role_asked s part
 
@@ -53,7 +82,7 @@ module _ {image : List ℕ} {f : Found} {part : Part} {a i : ℕ} {s : Course} (
   up_to = subst (IsUpTo image s.walk s.skipped) (sym (same_position role (role_of part) same)) n.holds.up_to
 
   -- a part that is named is next
-  pub is_next : IsNextReference image s (record { part = part; holder = a; block = word_in image a i })
+  pub is_next : IsNextReference image s (record { due = y; holder = a; block = word_in image a i })
   is_next = grind (arith, common_steps, not_taken, role, up_to, not_skipped)
 
   v : IsGathered image s.walk
@@ -69,18 +98,24 @@ module _ {image : List ℕ} {f : Found} {part : Part} {a i : ℕ} {s : Course} (
   pub known_chain : (z : Part) → role_of z ≡ role → IsChain s.walk z
   known_chain z is = grind (arith, common_steps, place)
 
-  -- what is found of it tells what its demands ask
-  pub known : {z : Part} {b : ℕ} (x : Facts) → role_of z ≡ role → x.is_enough ≡ enough_in image f z
-      → x.is_absent ≡ not (slice_index_or f.owned.items b false) → x.context ≡ context_in image f z → Knows image s.walk z b x
+  -- what is said of it tells what its demands ask
+  pub known : {z : Part} {b : ℕ} (x : Facts) → role_of z ≡ role → x.is_enough ≡ y.is_enough
+      → x.is_absent ≡ not (slice_index_or f.owned.items b false) → x.context ≡ y.context → Knows image s.walk z b x
   known {z} {b} x is enough absent context =
-      knows image f s n.holds.stands z a i b x v (subst (λ r. Asks image s.walk r a i) (sym is) n.asked) enough absent context
+      let m : ℕ = suc (heads s.walk) in
+      let said = renumbered_context image s.walk m (role_of part) y.context n.said.context in
+      let tells = renumbered_enough image s.walk m (role_of part) y.is_enough n.said.enough in
+      knows image f s n.holds.stands z b x
+      (subst (λ r. IsContext image s.walk r x.context) (sym is) (subst (IsContext image s.walk role) (sym context) said))
+      (subst (λ r. Tells x.is_enough (Enough image s.walk r)) (sym is) (subst (λ t. Tells t (Enough image s.walk role)) (sym enough) tells))
+      absent
 
   -- the names of its chain, for a part with its number
   pub known_named : (z : Part) → role_of z ≡ role → AreNamed image s.walk (position_of (role_of z)) f.names
   known_named z is = subst (λ k. AreNamed image s.walk k f.names) (sym (place z is)) n.holds.names
 
   abbrev reference_at : ℕ → Reference
-  reference_at b = record { part = part; holder = a; block = b }
+  reference_at b = record { due = y; holder = a; block = b }
 
   -- what comes of the part in any course in which it is next
   abbrev AsJudged : ℕ → Found → Option Part → Type 0

@@ -1,7 +1,7 @@
 -- The pages of the bitmap that a survey finds.
 -- Letters: w the walk of a survey, fs its findings; i the number of a page; b, at blocks; a, j the block and the word that point to one.
 use Rattle.std.specs.Prelude.{Option, Some, None}
-use Rattle.std.proofs.Common.{◌≡◌, ℕ, List, ◌<◌, inl, inr, refl, sym, ap, subst, ◌∙◌, arith}
+use Rattle.std.proofs.Common.{◌≡◌, ℕ, List, ◌<◌, inl, inr, refl, sym, ap, subst, ◌∙◌}
 use Rattle.adf_blocks.specs.Sizes.{blocks, pages_needed}
 use Rattle.adf_volume.specs.Walk.{Role, Asks, Has}
 use Rattle.adf_volume.specs.Walk.Role.{Page}

@@ -138,10 +138,10 @@ judged_is r xs None k h i = h
 judged_is r xs (Some x) true h i = (h, i)
 judged_is r xs (Some x) false h i = (h, i)
 
-data_is : (image : List ℕ) (kind : Kind) (b h k n next : ℕ)
-    → data_demands image kind b h k n next ≡ demands_at b (data_clauses kind h k n next (block image b))
-data_is image Ofs b h k n next = refl
-data_is image Ffs b h k n next = refl
+data_is : (image : List ℕ) (kind : Kind) (b h k n next y : ℕ) → (kind ≡ Ofs → next ≡ y)
+    → data_demands image kind b h k n y ≡ demands_at b (data_clauses kind h k n next (block image b))
+data_is image Ofs b h k n next y e = ap (data_demands image Ofs b h k n) (sym (e refl))
+data_is image Ffs b h k n next y e = refl
 
 form_is : (image : List ℕ) (w : List (Role × ℕ)) (part : Part) (b : ℕ) (x : Context) → IsContext image w (role_of part) x
     → form_demands_in image w (role_of part) b ≡ demands_at b (form_of image part b x)

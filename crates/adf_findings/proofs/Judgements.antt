@@ -13,7 +13,7 @@ use Rattle.adf_findings.specs.declared.found.Found.{Found}
 use Rattle.adf_findings.specs.Survey.{Course, Judged, JudgementValue}
 use Rattle.adf_findings.specs.Survey.JudgementValue.{clean, reported}
 use Rattle.adf_findings.specs.Forms.{first_failing, form_of, in_range, itself_by, judged_by, judgement_value, keeps}
-use Rattle.adf_findings.specs.Found.{AreNamed, HasValidName, IsChain, context_in, enough_in, new_in}
+use Rattle.adf_findings.specs.Found.{AreNamed, HasValidName, IsChain, new_in}
 use Rattle.adf_findings.specs.Parts.{role_of}
 use Rattle.adf_findings.specs.Courses.{Holds, IsJudged, IsNamed, IsNextReference, role_asked}
 use Rattle.adf_findings.proofs.CourseSteps.{known, known_chain, known_named}
@@ -25,13 +25,13 @@ module _ (image : List ℕ) (f : Found) (x : Reference) (part : Part) (facts : F
   abbrev by_name : Bool → JudgementValue
   by_name new = judged_by (first_failing image part x.holder x.block facts new) (keeps image part x.block facts)
 
-  module _ (enough : facts.is_enough ≡ enough_in image f part) (absent : facts.is_absent ≡ not (slice_index_or f.owned.items x.block false))
-      (context : facts.context ≡ context_in image f part) where
-    judged_in : (s : Course) → Holds image f (position_of (role_of x.part)) s → IsNextReference image s x → role_of part ≡ role_asked s x.part
+  module _ (enough : facts.is_enough ≡ x.due.is_enough) (absent : facts.is_absent ≡ not (slice_index_or f.owned.items x.block false))
+      (context : facts.context ≡ x.due.context) where
+    judged_in : (s : Course) → Holds image f (position_of (role_of x.due.part)) s → IsNextReference image s x → role_of part ≡ role_asked s x.due.part
         → Judged (role_of part) (demands_in image s.walk (role_of part) x.holder x.block) (by_name (new_in image s.walk part x.block))
     judged_in s h n is =
         judged image s.walk part x.holder x.block facts (new_in image s.walk part x.block)
-        (known (record { holds = h; asked = n.1.asked }) facts is enough absent context) (new_is image f s h.stands part x.block)
+        (known (record { holds = h; asked = n.1.asked; said = n.3 }) facts is enough absent context) (new_is image f s h.stands part x.block)
 
     -- another cause than that of the name
     pub judged_else : (j : Judgement) → judgement_value j ≡ by_name true → (judgement_value j ≡ clean → ⊥) → IsJudged image f x part j
@@ -49,7 +49,7 @@ module _ (image : List ℕ) (f : Found) (x : Reference) (part : Part) (facts : F
         → (j : Judgement) → cond new clean (reported x.block SameName) ≡ judgement_value j → IsJudged image f x part j
     judged_named new e tells j is_j = λ s h n is.
         let form = form_of image part x.block facts.context in
-        let named : IsNamed image f x.part x.holder n.0 s = record { holds = h; asked = n.1.asked } in
+        let named : IsNamed image f x.due x.holder n.0 s = record { holds = h; asked = n.1.asked; said = n.3 } in
         let valid = valid_name image part x.block facts.context
         (no_cause x.holder x.block facts.is_enough (in_range image x.block) facts.is_absent (keeps image part x.block facts)
         (first_cause form) (sym e)) in

@@ -1,6 +1,6 @@
 -- The state of a survey has the facts that the demands on a part need.
-use Rattle.std.specs.Prelude.{Bool, true, false, cond, not, nat_le, nat_lt, ◌==◌, ◌||◌, ◌&&◌, Some, slice_index_or}
-use Rattle.std.proofs.Common.{◌≡◌, ◌≢◌, ℕ, zero, suc, List, [], ◌∷◌, inl, inr, ◌*◌, ◌/◌, ◌<◌, refl, sym, subst, ap, ◌∙◌, arith}
+use Rattle.std.specs.Prelude.{Bool, true, false, cond, not, ◌==◌, ◌||◌, ◌&&◌, Some, slice_index_or}
+use Rattle.std.proofs.Common.{◌≡◌, ◌≢◌, ℕ, zero, suc, List, [], ◌∷◌, inl, inr, ◌<◌, refl, sym, subst, ap, ◌∙◌, arith}
 use Rattle.std.specs.Option.{unwrap_or}
 use Rattle.std.specs.Ordering.{is_eq}
 use Rattle.std.specs.Str.{bytes_eq}
@@ -11,21 +11,19 @@ use Rattle.std.proofs.lemmas.Slice.Eq.{bytes_eq-Decides}
 use Rattle.std.proofs.lemmas.Grind.{common_steps}
 use Rattle.adf_tree.specs.NameSet.{HasMore, Names, has}
 use Rattle.adf_names.specs.Texts.{is_name, uppers}
-use Rattle.adf_blocks.specs.declared.layout.TheConstants.{POINTERS}
 use Rattle.adf_blocks.specs.Sizes.{blocks}
-use Rattle.adf_volume.specs.Image.{letters_of, name_of, table_word, word_in}
+use Rattle.adf_volume.specs.Image.{letters_of, name_of}
 use Rattle.adf_volume.specs.Positions.{position_of}
-use Rattle.adf_volume.specs.Walk.{Role, Asks, Enough, FileAt, Has, IsAbsent, data_count, ext_block_in, ext_count, member_block, next_data, node_block}
-use Rattle.adf_volume.specs.Walk.Role.{Head, Ext, Data}
-use Rattle.adf_volume.proofs.Gathered.{IsGathered, head_block}
+use Rattle.adf_volume.specs.Walk.{Role, Enough, Has, IsAbsent, ext_block_in, member_block}
+use Rattle.adf_volume.specs.Walk.Role.{Head, Ext}
 use Rattle.adf_findings.specs.Demands.{NewNameIn, uppers_in}
-use Rattle.adf_findings.specs.declared.part.Part.{Part, TheVariants.Head as HeadPart, TheVariants.Ext as ExtPart, TheVariants.Data as DataPart}
+use Rattle.adf_findings.specs.declared.part.Part.{Part, TheVariants.Head as HeadPart}
 use Rattle.adf_findings.specs.declared.judge.Facts.{Facts}
 use Rattle.adf_findings.specs.declared.found.Found.{Found}
 use Rattle.adf_findings.specs.Survey.{Course}
 use Rattle.adf_findings.specs.Forms.{IsContext, Knows, Tells, in_range}
 use Rattle.adf_findings.specs.Found.{AreNamed, HasValidName, IsChain, KeepsName, Stands}
-use Rattle.adf_findings.specs.Found.{at_key, context_in, enough_in, has_name, is_named, known_at, member_in, new_in, next_in, owns}
+use Rattle.adf_findings.specs.Found.{at_key, has_name, is_named, known_at, member_in, new_in, owns}
 use Rattle.adf_findings.specs.Parts.{by_key, key_of, role_of}
 use Rattle.adf_findings.proofs.Keys.{equal_keys}
 use Rattle.adf_findings.proofs.Names.{other_name, upper_twice}
@@ -139,38 +137,6 @@ module _ (image : List ℕ) (f : Found) (s : Course) (st : Stands image f s) whe
   member_found n zero = st.node n
   member_found n (suc m) = grind (arith, common_steps, nat_tests, member_key)
 
-  next_is : (n k : ℕ) → next_in image f n k ≡ next_data image s.walk n k
-  next_is n k = λ t. cond (nat_lt k (data_count image (st.node n t))) (word_in image (member_found n (k / POINTERS) t) (table_word k)) 0
-
-  context_is : (part : Part) → IsContext image s.walk (role_of part) (context_in image f part)
-  context_is (HeadPart n p t j) = st.node p
-  context_is (ExtPart n k) = st.node n
-  context_is (DataPart n k) = (st.node n, next_is n k)
-  context_is _ = tt
-
-  enough_tells : (n k h : ℕ) → IsGathered image s.walk → FileAt image s.walk n h → (t : Bool)
-      → nat_le (data_count image (node_block s.walk n)) (POINTERS * suc (ext_count s.walk n)) ≡ t
-      → Tells (not (k == 1) || t) (Enough image s.walk (Data n k))
-  enough_tells n k h v file t e = go (k == 1) refl t e
-    where
-      block_is : (c : ℕ) → FileAt image s.walk n c → node_block s.walk n ≡ c
-      block_is c x = head_block image v x.header
-
-      go : (u : Bool) → (k == 1) ≡ u → (t : Bool) → nat_le (data_count image (node_block s.walk n)) (POINTERS * suc (ext_count s.walk n)) ≡ t
-          → Tells (not u || t) (Enough image s.walk (Data n k))
-      go false e t z = λ one. let y : true ≡ false = sym (eq-eqb k 1 one) ∙ e in cc
-      go true e true z = grind (arith, common_steps, block_is, nat_tests)
-      go true e false z = grind (arith, common_steps, block_is, eqb-true, nat_tests)
-
-  enough_is : (part : Part) (a i : ℕ) → IsGathered image s.walk → Asks image s.walk (role_of part) a i
-      → Tells (enough_in image f part) (Enough image s.walk (role_of part))
-  enough_is (DataPart n zero) a i v h = absurd h
-  enough_is (DataPart n (suc k)) a i v h =
-      subst (λ t. Tells (not (suc k == 1) || t) (Enough image s.walk (Data n (suc k))))
-      (λ t. nat_le (data_count image (sym (st.node n) t)) (POINTERS * suc (sym (st.ext n) t)))
-      (enough_tells n (suc k) h.0.0 v h.0.1 (nat_le (data_count image (node_block s.walk n)) (POINTERS * suc (ext_count s.walk n))) refl)
-  enough_is _ a i v h = tt
-
   pub new_is : (part : Part) (b : ℕ) → Tells (new_in image s.walk part b) (NewNameIn image s.walk (role_of part) b)
   new_is (HeadPart n p t j) b = tells_new image s.walk p t (uppers_in image (name_of image b))
   new_is _ b = tt
@@ -178,11 +144,11 @@ module _ (image : List ℕ) (f : Found) (s : Course) (st : Stands image f s) whe
   below : (b : ℕ) → in_range image b ≡ true → b < blocks image
   below b e = grind (arith, nat_tests)
 
-  -- what is found of a part that is asked for is so
-  pub knows : (part : Part) (a i b : ℕ) (x : Facts) → IsGathered image s.walk → Asks image s.walk (role_of part) a i
-      → x.is_enough ≡ enough_in image f part → x.is_absent ≡ not (slice_index_or f.owned.items b false) → x.context ≡ context_in image f part
+  -- what is said of a part, and whether its block has an owner, is known
+  pub knows : (part : Part) (b : ℕ) (x : Facts) → IsContext image s.walk (role_of part) x.context
+      → Tells x.is_enough (Enough image s.walk (role_of part)) → x.is_absent ≡ not (slice_index_or f.owned.items b false)
       → Knows image s.walk part b x
-  knows part a i b x v h enough absent context = grind (arith, common_steps, enough_is, below, tells_absent, context_is)
+  knows part b x context enough absent = grind (arith, common_steps, below, tells_absent)
 
 -- a block without a part is no member's
 pub no_owner : (w : List (Role × ℕ)) (b : ℕ) → IsAbsent w b → owns w b ≡ false

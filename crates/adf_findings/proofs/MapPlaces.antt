@@ -13,7 +13,7 @@ use Rattle.adf_volume.proofs.PositionSteps.{end_map, map_broken}
 use Rattle.adf_findings.specs.declared.part.Part.TheVariants.{Page as PagePart, MapExt as MapExtPart}
 use Rattle.adf_findings.specs.declared.found.Found.{Found}
 use Rattle.adf_findings.specs.Survey.{Course}
-use Rattle.adf_findings.specs.Courses.{HasReachedPage, Holds, IsGoneOn, IsNamed, IsPageNamed}
+use Rattle.adf_findings.specs.Courses.{HasReachedPage, Holds, IsGoneOn, IsNamed, IsPageNamed, due_below}
 use Rattle.adf_findings.proofs.CourseSteps.{moved}
 
 -- a position that is the same
@@ -24,7 +24,7 @@ module _ (image : List ℕ) (f : Found) (s : Course) (page : ℕ) where
   -- the bitmap extension block before a page is named
   pub map_ext_named : (a : ℕ) → page < pages_needed (blocks image) → ROOT_PAGES ≤ page → (page - ROOT_PAGES) % MAP_EXT_PAGES ≡ 0
       → Holds image f (before_page page) s → IsPageHolder image s.walk page a
-      → IsNamed image f (MapExtPart ((page - ROOT_PAGES) / MAP_EXT_PAGES)) a (word_of_map_ext page) s
+      → IsNamed image f (due_below (MapExtPart ((page - ROOT_PAGES) / MAP_EXT_PAGES)) a) a (word_of_map_ext page) s
   map_ext_named a lt le due h holder = grind (arith, common_steps, same_place, map_ext_next, map_ext_asks)
 
   -- behind a bitmap extension block come the pages that it names, or where it was skipped the nodes
@@ -39,8 +39,10 @@ module _ (image : List ℕ) (f : Found) (s : Course) (page : ℕ) where
   map_ext_on a i g None le due h o = grind (arith, common_steps, moved, end_map, map_broken)
 
   pub page_named : (a i : ℕ) → i ≡ word_of_page page → page < pages_needed (blocks image) → Holds image f (position_of (Page page)) s
-      → NamesPage image s.walk page a (word_of_page page) → IsNamed image f (PagePart page) a i s
-  page_named a i e lt h names = subst (λ i. IsNamed image f (PagePart page) a i s) (sym e) (record { holds = h; asked = (lt, names) })
+      → NamesPage image s.walk page a (word_of_page page) → IsNamed image f (due_below (PagePart page) a) a i s
+  page_named a i e lt h names =
+      subst (λ i. IsNamed image f (due_below (PagePart page) a) a i s) (sym e)
+      (record { holds = h; asked = (lt, names); said = record { context = tt; enough = tt } })
 
   -- behind a page comes the next
   pub page_on : (a i : ℕ) (g : Found) (o : Option ℕ) → NamesPage image s.walk page a i → IsGoneOn image s (PagePart page) a i g o

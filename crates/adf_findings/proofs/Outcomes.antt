@@ -22,11 +22,11 @@ use Rattle.adf_findings.proofs.Known.{no_owner}
 use Rattle.adf_findings.proofs.Taking.{stands_but, stands_reported, stands_skipped}
 
 module _ {image : List ℕ} {f : Found} {s : Course} (x : Reference) (v : IsCourse image s) (st : Stands image f s) (n : IsNextReference image s x)
-    (part : Part) (is : role_of part ≡ role_asked s x.part) (j : Judgement)
+    (part : Part) (is : role_of part ≡ role_asked s x.due.part) (j : Judgement)
     (told : Judged (role_of part) (demands_in image s.walk (role_of part) x.holder x.block) (judgement_value j))
     {g : Found} (rest : g ≡ record f { names = g.names }) (named : KeepsNameBy image part x.block j f.names g.names) where
   abbrev role : Role
-  role = role_asked s x.part
+  role = role_asked s x.due.part
 
   judgement : (k : Judgement) → j ≡ k → Judged role (demands_in image s.walk role x.holder x.block) (judgement_value k)
   judgement k e = grind (arith, common_steps)

@@ -9,7 +9,7 @@ use Rattle.std.proofs.lemmas.Grind.{common_steps}
 use Rattle.adf_tree.proofs.NameKeys.{same_number, then_is}
 use Rattle.adf_blocks.specs.Sizes.{blocks}
 use Rattle.adf_volume.proofs.Lists.{snoc_length}
-use Rattle.adf_volume.specs.Walk.{Role, heads, head_count, node_block, node_block_of, ext_count, ext_count_of}
+use Rattle.adf_volume.specs.Walk.{Role, heads, head_count, node_block, node_block_of}
 use Rattle.adf_volume.specs.Walk.Role.{Root, Page, MapExt, Head, Ext, Data}
 use Rattle.adf_findings.specs.declared.part.Part.{Part, TheVariants.Root as RootPart, TheVariants.Page as PagePart, TheVariants.MapExt as MapExtPart}
 use Rattle.adf_findings.specs.declared.part.Part.{TheVariants.Head as HeadPart, TheVariants.Ext as ExtPart, TheVariants.Data as DataPart}
@@ -21,7 +21,7 @@ use Rattle.adf_findings.specs.Survey.{Course, FindingValue}
 use Rattle.adf_findings.specs.Parts.{by_key, key_of, role_of, finding_value}
 use Rattle.adf_findings.specs.Found.{AreHeld, AreMarked, AreNumbered, AreSame, IsKept, IsLookedUp, IsReported, IsOwned, IsBlockSkipped, IsPut}
 use Rattle.adf_findings.specs.Found.{IsTaken, KeepsParts, Stands}
-use Rattle.adf_findings.specs.Found.{at_key, data_number, entry_number, exts_found, owns, parent_by, parent_node, places_of, unowned, with_place}
+use Rattle.adf_findings.specs.Found.{at_key, data_number, entry_number, owns, parent_by, parent_node, places_of, unowned, with_place}
 use Rattle.std.proofs.lemmas.Bool.{cases_lt}
 
 kept_more : (part : Part) (b : ℕ) (f g h : Found) → IsKept part b f g → AreSame g h → IsKept part b f h
@@ -77,7 +77,6 @@ node_snoc xs b m = grind (arith, common_steps, eqb_tells, cases_lt, get_or_push,
 -- a part that comes next has the next number of its kind
 abbrev pub IsNumbered : List (Role × ℕ) → Role → Type 0
 IsNumbered w (Head n p s j) = n ≡ suc (heads w)
-IsNumbered w (Ext n k) = k ≡ suc (ext_count w n)
 IsNumbered w Root = ⊥
 IsNumbered w _ = Unit {0}
 
@@ -94,23 +93,22 @@ module _ (image : List ℕ) (f g : Found) (s : Course) (b : ℕ) (st : Stands im
     node : (n : ℕ) → slice_index g.nodes.items n ≡ node_block w n
     count : length g.nodes.items ≡ suc (heads w)
     few : length g.nodes.items ≤ suc (length f.nodes.items)
-    ext : (n : ℕ) → exts_found g n ≡ ext_count w n
     parent : (n : ℕ) → slice_index g.parents.items n ≡ parent_node w n
     parents : length g.parents.items ≡ suc (heads w)
     places : g.places.items ≡ places_of w
 
   same_later : (r : Role) → ((m c : ℕ) → node_block_of m r b c ≡ c) → head_count r (heads s.walk) ≡ heads s.walk
-      → ((m c : ℕ) → ext_count_of m r c ≡ c) → ((m c : ℕ) → parent_by m r c ≡ c) → ((cs : List ChainPlace) → with_place r cs ≡ cs) → AreSame f g
+      → ((m c : ℕ) → parent_by m r c ≡ c) → ((cs : List ChainPlace) → with_place r cs ≡ cs) → AreSame f g
       → IsLater ((r, b) ∷ s.walk)
-  same_later r node head ext parent place e = grind (arith, common_steps)
+  same_later r node head parent place e = grind (arith, common_steps)
 
   later : (part : Part) → IsNumbered s.walk (role_of part) → IsKept part b f g → IsLater ((role_of part, b) ∷ s.walk)
   later (HeadPart n p t j) fit k = grind (arith, common_steps, node_snoc, snoc_length)
-  later (ExtPart n i) fit k = grind (arith, common_steps, eqb_tells, nat_tests)
+  later (ExtPart n i) fit k = same_later (Ext n i) (λ m c. refl) refl (λ m c. refl) (λ cs. refl) k
   later RootPart fit k = absurd fit
-  later (PagePart i) fit k = same_later (Page i) (λ m c. refl) refl (λ m c. refl) (λ m c. refl) (λ cs. refl) k
-  later (MapExtPart j) fit k = same_later (MapExt j) (λ m c. refl) refl (λ m c. refl) (λ m c. refl) (λ cs. refl) k
-  later (DataPart n i) fit k = same_later (Data n i) (λ m c. refl) refl (λ m c. refl) (λ m c. refl) (λ cs. refl) k
+  later (PagePart i) fit k = same_later (Page i) (λ m c. refl) refl (λ m c. refl) (λ cs. refl) k
+  later (MapExtPart j) fit k = same_later (MapExt j) (λ m c. refl) refl (λ m c. refl) (λ cs. refl) k
+  later (DataPart n i) fit k = same_later (Data n i) (λ m c. refl) refl (λ m c. refl) (λ cs. refl) k
 
   -- a part is taken
   pub stands_taken : (part : Part) → IsNumbered s.walk (role_of part) → b < blocks image → owns s.walk b ≡ false → IsTaken part b f g

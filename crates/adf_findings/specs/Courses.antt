@@ -1,22 +1,25 @@
 -- The state of a survey along its course.
 -- Letters: s a course, w its walk; f, g states; k a position; a, i the block and the word that point to a part;
--- b a block; n, p nodes; x a reference; j a judgement.
-use Rattle.std.specs.Prelude.{◌≡◌, ◌≤◌, ◌<◌, ℕ, false, List, ◌∷◌, Option, Some, None, IfSome}
+-- b a block; n, p nodes; y a part that is due; x a reference; j a judgement.
+use Rattle.std.specs.Prelude.{◌≡◌, ◌≤◌, ◌<◌, ◌*◌, ◌/◌, ℕ, true, false, List, ◌∷◌, Option, Some, None, IfSome}
 use Rattle.std.proofs.Common.{suc}
+use Rattle.adf_blocks.specs.declared.layout.TheConstants.{POINTERS}
 use Rattle.adf_blocks.specs.Sizes.{blocks}
 use Rattle.adf_volume.specs.Image.{word_in}
 use Rattle.adf_volume.specs.Positions.{Position, IsLink, IsPageHolder, IsUpTo, before_node, before_page, behind, position_of, word_of_page}
-use Rattle.adf_volume.specs.Walk.{Role, Asks, DirAt, FileAt, MemberAt, NamesPage, ext_count, heads}
+use Rattle.adf_volume.specs.Walk.{Role, Asks, DirAt, Enough, FileAt, MemberAt, NamesPage, data_count, ext_count, heads}
 use Rattle.adf_volume.specs.Walk.Role.{Page, Head, Ext, Data}
 use Rattle.adf_volume.proofs.Roles.{renumbered}
 use Rattle.adf_findings.specs.declared.part.Part.{Part}
+use Rattle.adf_findings.specs.declared.course.Due.{Due}
+use Rattle.adf_findings.specs.declared.course.FileTable.{FileTable}
 use Rattle.adf_findings.specs.declared.course.Reference.{Reference}
 use Rattle.adf_findings.specs.declared.found.Found.{Found}
 use Rattle.adf_findings.specs.declared.judge.Judgement.{Judgement}
 use Rattle.adf_findings.specs.declared.judge.Judgement.TheVariants.{Skipped}
 use Rattle.adf_tree.specs.NameSet.{Names}
 use Rattle.adf_findings.specs.Demands.{demands_in}
-use Rattle.adf_findings.specs.Forms.{judgement_value}
+use Rattle.adf_findings.specs.Forms.{IsContext, Tells, judgement_value}
 use Rattle.adf_findings.specs.Survey.{Course, FindingValue, IsCourse, IsNext, Judged}
 use Rattle.adf_findings.specs.Parts.{role_of}
 use Rattle.adf_findings.specs.Found.{AreNamed, KeepsName, Stands, owns}
@@ -37,23 +40,34 @@ HasReached image f k = (s : Course) × Holds image f k s
 abbrev pub role_asked : Course → Part → Role
 role_asked s part = renumbered (suc (heads s.walk)) (role_of part)
 
+-- what is said of a part that is due is so: its context, and whether its file has enough extension blocks
+pub record IsTrueIn (image : List ℕ) (w : List (Role × ℕ)) (y : Due) : Type 0 where
+  pub context : IsContext image w (role_of y.part) y.context
+  pub enough : Tells y.is_enough (Enough image w (role_of y.part))
+
+-- a part with this block as its context, of which nothing more is asked
+abbrev pub due_below : Part → ℕ → Due
+due_below part up = record { part = part; context = record { up = up; next = 0 }; is_enough = true }
+
 -- a course has reached a part that word i of block a points to
-pub record IsNamed (image : List ℕ) (f : Found) (part : Part) (a i : ℕ) (s : Course) : Type 0 where
-  pub holds : Holds image f (position_of (role_of part)) s
-  pub asked : Asks image s.walk (role_asked s part) a i
+pub record IsNamed (image : List ℕ) (f : Found) (y : Due) (a i : ℕ) (s : Course) : Type 0 where
+  pub holds : Holds image f (position_of (role_of y.part)) s
+  pub asked : Asks image s.walk (role_asked s y.part) a i
+  pub said : IsTrueIn image s.walk y
 
 -- a part that word i of block a points to is next
-abbrev pub HasReachedPart : List ℕ → Found → Part → ℕ → ℕ → Type 0
-HasReachedPart image f part a i = (s : Course) × IsNamed image f part a i s
+abbrev pub HasReachedPart : List ℕ → Found → Due → ℕ → ℕ → Type 0
+HasReachedPart image f y a i = (s : Course) × IsNamed image f y a i s
 
 -- the reference is next in the course
 abbrev pub IsNextReference : List ℕ → Course → Reference → Type 0
-IsNextReference image s x = (i : ℕ) × IsNext image s (role_asked s x.part) x.holder i × (word_in image x.holder i ≡ x.block)
+IsNextReference image s x =
+    (i : ℕ) × IsNext image s (role_asked s x.due.part) x.holder i × (word_in image x.holder i ≡ x.block) × IsTrueIn image s.walk x.due
 
 -- the judgement is that of the part, in any course in which it is next
 abbrev pub IsJudged : List ℕ → Found → Reference → Part → Judgement → Type 0
 IsJudged image f x part j =
-    (s : Course) → Holds image f (position_of (role_of x.part)) s → IsNextReference image s x → role_of part ≡ role_asked s x.part
+    (s : Course) → Holds image f (position_of (role_of x.due.part)) s → IsNextReference image s x → role_of part ≡ role_asked s x.due.part
     → Judged (role_of part) (demands_in image s.walk (role_of part) x.holder x.block) (judgement_value j)
 
 -- the name of a part that is not skipped is kept
@@ -64,18 +78,18 @@ KeepsNameBy image part b _ old new = KeepsName image part b old new
 -- the part is skipped
 pub record IsSkipped (image : List ℕ) (s : Course) (x : Reference) (f g : Found) : Type 0 where
   pub findings : List FindingValue
-  pub course : IsCourse image (record { walk = s.walk; skipped = (role_asked s x.part, x.block) ∷ s.skipped; findings = findings })
-  pub stands : Stands image g (record { walk = s.walk; skipped = (role_asked s x.part, x.block) ∷ s.skipped; findings = findings })
+  pub course : IsCourse image (record { walk = s.walk; skipped = (role_asked s x.due.part, x.block) ∷ s.skipped; findings = findings })
+  pub stands : Stands image g (record { walk = s.walk; skipped = (role_asked s x.due.part, x.block) ∷ s.skipped; findings = findings })
   pub left : g.left ≡ f.left
   pub names : g.names ≡ f.names
 
 -- the part is to be taken
 pub record IsToTake (image : List ℕ) (s : Course) (x : Reference) (f g : Found) (part : Part) : Type 0 where
-  pub role : role_of part ≡ role_asked s x.part
+  pub role : role_of part ≡ role_asked s x.due.part
   pub inside : x.block < blocks image
   pub free : owns s.walk x.block ≡ false
   pub findings : List FindingValue
-  pub course : IsCourse image (record { walk = (role_asked s x.part, x.block) ∷ s.walk; skipped = s.skipped; findings = findings })
+  pub course : IsCourse image (record { walk = (role_asked s x.due.part, x.block) ∷ s.walk; skipped = s.skipped; findings = findings })
   pub stands : Stands image g (record { walk = s.walk; skipped = s.skipped; findings = findings })
   pub left : g.left ≡ f.left
   pub names : KeepsName image part x.block f.names g.names
@@ -128,9 +142,19 @@ pub record HasReachedExt (image : List ℕ) (f : Found) (n b m a : ℕ) : Type 0
   pub member : MemberAt image course.walk n m a
   pub count : ext_count course.walk n ≡ m
 
--- a course has reached a data block, after `done` others, of a file with header b and this many extension blocks
-pub record HasReachedData (image : List ℕ) (f : Found) (n b exts done : ℕ) : Type 0 where
+-- a course has reached a data block, after `done` others, of a file with header b and this many extension blocks;
+-- block a of the table points to the last of the others
+pub record HasReachedData (image : List ℕ) (f : Found) (n b exts done a : ℕ) : Type 0 where
   pub course : Course
   pub holds : Holds image f (position_of (Data n (suc done))) course
   pub file : FileAt image course.walk n b
   pub count : ext_count course.walk n ≡ exts
+  pub member : (m : ℕ) → done ≡ suc m → MemberAt image course.walk n (m / POINTERS) a
+
+-- in a course, x is the table of a file
+pub record HasTable (image : List ℕ) (f : Found) (s : Course) (x : FileTable) : Type 0 where
+  pub course : IsCourse image s
+  pub stands : Stands image f s
+  pub file : FileAt image s.walk x.node x.head
+  pub count : x.count ≡ data_count image x.head
+  pub room : x.room ≡ POINTERS * suc (ext_count s.walk x.node)

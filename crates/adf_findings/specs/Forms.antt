@@ -89,11 +89,11 @@ abbrev pub Tells : Bool → Type 0 → Type 0
 Tells true P = P
 Tells false P = P → ⊥
 
--- the context of the role is this one
+-- the context of the role is this one; of what is next only OFS asks
 abbrev pub IsContext : List ℕ → List (Role × ℕ) → Role → Context → Type 0
 IsContext image w (Head n p s j) x = x.up ≡ node_block w p
 IsContext image w (Ext n k) x = x.up ≡ node_block w n
-IsContext image w (Data n k) x = (x.up ≡ node_block w n) × (x.next ≡ next_data image w n k)
+IsContext image w (Data n k) x = (x.up ≡ node_block w n) × (kind_of image ≡ Ofs → x.next ≡ next_data image w n k)
 IsContext image w _ x = Unit {0}
 
 -- the facts about a part are true

@@ -1,11 +1,11 @@
 -- The state of a survey, as a course.
 -- Letters: w a walk, s a course; r a role; b, c blocks; k a key; n, p nodes; f a state;
 -- ds data blocks.
-use Rattle.std.specs.Prelude.{◌≡◌, ◌≤◌, ◌<◌, ◌+◌, ◌-◌, ◌*◌, ◌/◌, ◌==◌, ◌&&◌, ◌||◌, ℕ, Bool, true, false, cond, not, nat_le, nat_lt, List, []}
+use Rattle.std.specs.Prelude.{◌≡◌, ◌≤◌, ◌<◌, ◌+◌, ◌-◌, ◌==◌, ◌&&◌, ◌||◌, ℕ, Bool, true, false, cond, not, List, []}
 use Rattle.std.specs.Prelude.{◌∷◌, ◌++◌, length, set, map, slice_index, slice_index_or, Option, Some, None, IsTrue, ◌↔◌}
 use Rattle.std.proofs.Common.{zero, suc}
 use Rattle.std.specs.Option.{unwrap_or}
-use Rattle.std.specs.Ordering.{is_eq, nat_cmp}
+use Rattle.std.specs.Ordering.{is_eq}
 use Rattle.std.specs.Str.{bytes_eq}
 use Rattle.std.specs.BTreeMap.{BTreeMap, Updates, get}
 use Rattle.adf_tree.specs.NameSet.{Names, has}
@@ -13,18 +13,16 @@ use Rattle.adf_names.specs.Texts.{is_name}
 use Rattle.adf_blocks.specs.declared.cause.Cause.{Cause}
 use Rattle.adf_blocks.specs.declared.cause.Cause.TheVariants.{LostBlock, OwnedFree}
 use Rattle.adf_volume.specs.Demands.{AllHold, FirstFails}
-use Rattle.adf_blocks.specs.declared.layout.TheConstants.{POINTERS}
 use Rattle.adf_blocks.specs.Sizes.{blocks}
-use Rattle.adf_volume.specs.Image.{IsFreeAt, name_of, table_word, word_in}
+use Rattle.adf_volume.specs.Image.{IsFreeAt, name_of}
 use Rattle.adf_volume.specs.Positions.{Position}
-use Rattle.adf_volume.specs.Walk.{Role, Has, bitmap_demands, data_count, ext_count, heads, node_block}
+use Rattle.adf_volume.specs.Walk.{Role, Has, bitmap_demands, heads, node_block}
 use Rattle.adf_volume.specs.Walk.Role.{Page, Head, Ext, Data}
 use Rattle.adf_findings.specs.Demands.{uppers_in}
 use Rattle.adf_findings.specs.declared.part.Part.{Part}
-use Rattle.adf_findings.specs.declared.part.Part.TheVariants.{Head as HeadPart, Ext as ExtPart, Data as DataPart}
+use Rattle.adf_findings.specs.declared.part.Part.TheVariants.{Head as HeadPart, Data as DataPart}
 use Rattle.adf_findings.specs.declared.part.Key.{Key}
 use Rattle.adf_findings.specs.declared.part.Finding.{Finding}
-use Rattle.adf_findings.specs.declared.forms.Context.{Context}
 use Rattle.adf_findings.specs.declared.found.ChainPlace.{ChainPlace}
 use Rattle.adf_findings.specs.declared.found.DataBlock.{DataBlock}
 use Rattle.adf_findings.specs.declared.found.Found.{Found}
@@ -143,30 +141,9 @@ number_at (x ∷ w) b = cond (x.1 == b) (data_number x.0) (number_at w b)
 abbrev pub AreNumbered : ℕ → List ℕ → List (Role × ℕ) → Type 0
 AreNumbered n numbers w = (length numbers ≡ n) × ((b : ℕ) → slice_index_or numbers b 0 ≡ number_at w b)
 
--- the number of extension blocks of a file
-abbrev pub exts_found : Found → ℕ → ℕ
-exts_found f n = unwrap_or (get nat_cmp f.exts n) 0
-
 -- block m of the table of a file
 abbrev pub member_in : Found → ℕ → ℕ → ℕ
 member_in f n m = cond (m == 0) (slice_index f.nodes.items n) (unwrap_or (get by_key f.taken (key_of (Ext n m))) 0)
-
--- the pointer to data block k + 1 in the table of a file; 0 past the last
-abbrev pub next_in : List ℕ → Found → ℕ → ℕ → ℕ
-next_in image f n k =
-    cond (nat_lt k (data_count image (slice_index f.nodes.items n))) (word_in image (member_in f n (k / POINTERS)) (table_word k)) 0
-
--- the context of the part
-abbrev pub context_in : List ℕ → Found → Part → Context
-context_in image f (HeadPart n p s j) = record { up = slice_index f.nodes.items p; next = 0 }
-context_in image f (ExtPart n k) = record { up = slice_index f.nodes.items n; next = 0 }
-context_in image f (DataPart n k) = record { up = slice_index f.nodes.items n; next = next_in image f n k }
-context_in image f _ = record { up = 0; next = 0 }
-
--- whether the file of a first data block has enough extension blocks
-abbrev pub enough_in : List ℕ → Found → Part → Bool
-enough_in image f (DataPart n k) = not (k == 1) || nat_le (data_count image (slice_index f.nodes.items n)) (POINTERS * suc (exts_found f n))
-enough_in image f _ = true
 
 -- the positions of headers, with one more if the role is a header
 abbrev pub with_place : Role → List ChainPlace → List ChainPlace
@@ -195,11 +172,10 @@ pub record IsOwned (part : Part) (b : ℕ) (f g : Found) : Type 0 where
   pub avoided : g.avoided ≡ f.avoided
   pub findings : g.findings ≡ f.findings
 
--- nodes, names, counts of extension blocks, parents and positions are unchanged
+-- nodes, names, parents and positions are unchanged
 pub record AreSame (f g : Found) : Type 0 where
   pub nodes : g.nodes ≡ f.nodes
   pub names : g.names ≡ f.names
-  pub exts : g.exts ≡ f.exts
   pub parents : g.parents ≡ f.parents
   pub places : g.places ≡ f.places
 
@@ -220,27 +196,17 @@ KeepsName image _ b old new = new ≡ old
 pub record KeepsHead (p s j b : ℕ) (f g : Found) : Type 0 where
   pub nodes : g.nodes.items ≡ f.nodes.items ++ b ∷ []
   pub names : g.names ≡ f.names
-  pub exts : g.exts ≡ f.exts
   pub parents : g.parents.items ≡ f.parents.items ++ p ∷ []
   pub places : g.places.items ≡ f.places.items ++ record { slot = s; place = j } ∷ []
-
--- the count of extension blocks of file n is kept
-pub record KeepsExt (n k : ℕ) (f g : Found) : Type 0 where
-  pub nodes : g.nodes ≡ f.nodes
-  pub names : g.names ≡ f.names
-  pub exts : Updates nat_cmp f.exts g.exts n (Some k)
-  pub parents : g.parents ≡ f.parents
-  pub places : g.places ≡ f.places
 
 -- the facts of a part that later parts need are kept
 abbrev pub IsKept : Part → ℕ → Found → Found → Type 0
 IsKept (HeadPart n p s j) b f g = KeepsHead p s j b f g
-IsKept (ExtPart n k) b f g = KeepsExt n k f g
 IsKept _ b f g = AreSame f g
 
 -- marks, keys, names and findings are unchanged
 abbrev pub KeepsParts : Found → Found → Type 0
-KeepsParts f g = g ≡ record f { nodes = g.nodes; exts = g.exts; parents = g.parents; places = g.places }
+KeepsParts f g = g ≡ record f { nodes = g.nodes; parents = g.parents; places = g.places }
 
 -- the part is taken
 pub record IsTaken (part : Part) (b : ℕ) (f g : Found) : Type 0 where
@@ -270,7 +236,6 @@ pub record Stands (image : List ℕ) (f : Found) (s : Course) : Type 0 where
   pub node : (n : ℕ) → slice_index f.nodes.items n ≡ node_block s.walk n
   pub count : length f.nodes.items ≡ suc (heads s.walk)
   pub few : length f.nodes.items + f.left ≤ suc (blocks image)
-  pub ext : (n : ℕ) → exts_found f n ≡ ext_count s.walk n
   pub findings : map finding_value f.findings.items ≡ s.findings
   pub parent : (n : ℕ) → slice_index f.parents.items n ≡ parent_node s.walk n
   pub parents : length f.parents.items ≡ suc (heads s.walk)

@@ -16,5 +16,6 @@ pub mod Verdict
 pub mod Start
 pub mod Forms
 pub mod Found
+pub mod Bits
 pub mod Courses
 pub mod Marks

@@ -1,21 +1,24 @@
 // The course of a survey: the pages of the bitmap, then the nodes in order; for a directory its chains, for a file its
 // extension blocks, then its data blocks.
 
-ghost use Rattle.std.specs.Prelude.{◌≡◌, ◌<◌, ◌≤◌, ◌+◌, ◌^◌, IfOk, IfSome, OnOk, Some, length};
-ghost use Rattle.adf_blocks.specs.declared.layout.TheConstants.{SLOTS};
+ghost use Rattle.std.specs.Prelude.{◌≡◌, ◌<◌, ◌≤◌, ◌+◌, ◌/◌, ◌%◌, ◌==◌, ◌^◌, IfOk, IfSome, OnOk, Some, cond, length, nat_lt};
+ghost use Rattle.adf_names.specs.declared.kind.Kind.TheVariants.{Ofs};
+ghost use Rattle.adf_blocks.specs.declared.layout.TheConstants.{POINTERS, SLOTS};
 ghost use Rattle.adf_blocks.specs.Sizes.{blocks, pages_needed};
-ghost use Rattle.adf_volume.specs.Image.{root_of};
+ghost use Rattle.adf_volume.specs.Image.{kind_of, root_of, table_word, word_in};
 ghost use Rattle.adf_volume.specs.Positions.{before_node, position_of, word_of_map_ext, word_of_page};
+ghost use Rattle.adf_volume.specs.Walk.{MemberAt};
 ghost use Rattle.adf_findings.specs.Survey.{Course};
 ghost use Rattle.adf_findings.specs.Parts.{role_of};
-ghost use Rattle.adf_findings.specs.Found.{IsFinished};
+ghost use Rattle.adf_findings.specs.Found.{IsFinished, member_in};
 ghost use Rattle.adf_findings.specs.Courses.{HasReached, HasReachedData, HasReachedFile, HasReachedPage, HasReachedPart};
 ghost use Rattle.adf_findings.specs.Courses.{HasReachedSlot, Holds, IsGoneOn, IsJudged, IsNamed, IsNextReference};
-ghost use Rattle.adf_findings.specs.Courses.{IsOutcome, IsPageNamed, KeepsNameBy};
+ghost use Rattle.adf_findings.specs.Courses.{HasTable, IsOutcome, IsPageNamed, IsTrueIn, KeepsNameBy, due_below};
 
+use crate::forms::Context;
 use crate::found::Found;
 use crate::image::Image;
-use crate::judge::{Judgement, judge};
+use crate::judge::{Facts, Judgement, judge};
 use crate::part::{Finding, Part};
 use adf_base::NoMemory;
 use adf_blocks::{
@@ -23,13 +26,46 @@ use adf_blocks::{
     MAP_EXT_PAGES, NEXT_IN_CHAIN, POINTERS, ROOT_PAGES, SECONDARY_TYPE, SLOTS, ST_DIR, ST_FILE,
     page_count,
 };
+use adf_tree::Kind;
 
-/// A part that is next, a header with any number; the block that points to it; and its own block.
+/// A part that is due, a header with any number; its context; and whether its file has enough extension blocks, which
+/// is asked with its first data block.
+#[derive(Clone, Copy, PartialEq, Eq, Drop)]
+pub struct Due {
+    pub part: Part,
+    pub context: Context,
+    pub is_enough: bool,
+}
+
+/// A part that is due; the block that points to it; and its own block.
 #[derive(Clone, Copy, PartialEq, Eq, Drop)]
 pub struct Reference {
-    pub part: Part,
+    pub due: Due,
     pub holder: u32,
     pub block: u32,
+}
+
+/// The table of a file: the file's node, its header's block, how many data blocks it has, and for how many there is
+/// room in the header and the extension blocks found.
+#[derive(Clone, Copy, PartialEq, Eq, Drop)]
+pub struct FileTable {
+    pub node: u32,
+    pub head: u32,
+    pub count: u32,
+    pub room: u32,
+}
+
+impl Due {
+    // A part in the directory or the file with its header at block `up`; for the bitmap's parts any block serves.
+    fn below(part: Part, up: u32) -> Due
+        ensures { result ≡ due_below part up }
+    {
+        Due {
+            part,
+            context: Context { up, next: 0 },
+            is_enough: true,
+        }
+    }
 }
 
 // A finding of a part.
@@ -56,7 +92,11 @@ fn judge_named(
     ensures rest { found.new ≡ record found.old { names = found.new.names } }
 {
     let b = reference.block;
-    let facts = found.facts(image, part, b);
+    let facts = Facts {
+        is_enough: reference.due.is_enough,
+        is_absent: found.is_absent(b),
+        context: reference.due.context,
+    };
     match judge(image, part, reference.holder, b, &facts) {
         Judgement::Clean => {
             if found.keep_name(image, part, b)? {
@@ -80,11 +120,11 @@ fn judge_next(
     reference: &Reference,
 ) -> Result<Option<Part>, NoMemory>
     requires { length found.old.nodes.items < 2 ^ 32 }
-    ensures { IfOk result (λ o. (s : Course) → Holds image.now found.old (position_of (role_of reference.now.part)) s
+    ensures { IfOk result (λ o. (s : Course) → Holds image.now found.old (position_of (role_of reference.now.due.part)) s
         → IsNextReference image.now s reference.now
         → IsOutcome image.now s reference.now found.old found.new o) }
 {
-    let part = reference.part.numbered(found.nodes.len() as u32);
+    let part = reference.due.part.numbered(found.nodes.len() as u32);
     match judge_named(image, found, part, reference)? {
         Judgement::Clean => Ok(Some(part)),
         Judgement::Reported(at, cause) => {
@@ -103,18 +143,18 @@ fn judge_next(
 fn go_on(
     image: &Image<'_>,
     found: &mut Found,
-    part: Part,
+    due: Due,
     holder: u32,
     i: usize,
 ) -> Result<Option<u32>, NoMemory>
     requires word { i < 128 }
-    requires due { HasReachedPart image.now found.old part holder i }
-    ensures gone { IfOk result (λ o. (s : Course) → IsNamed image.now found.old part holder i s
-        → IsGoneOn image.now s part holder i found.new o) }
+    requires due { HasReachedPart image.now found.old due holder i }
+    ensures gone { IfOk result (λ o. (s : Course) → IsNamed image.now found.old due holder i s
+        → IsGoneOn image.now s due.part holder i found.new o) }
     ensures left { IfOk result (λ o. IfSome o (λ b. found.new.left < found.old.left)) }
 {
     let reference = Reference {
-        part,
+        due,
         holder,
         block: image.word(holder, i),
     };
@@ -170,8 +210,8 @@ fn holder_of(
     if page < first || (page - first) % pages != 0 {
         return Ok(Some(before));
     }
-    let part = Part::MapExt((page - first) / pages);
-    let holder = go_on(image, found, part, before, map_ext_word(page))?;
+    let due = Due::below(Part::MapExt((page - first) / pages), before);
+    let holder = go_on(image, found, due, before, map_ext_word(page))?;
     Ok(holder)
 }
 
@@ -186,13 +226,13 @@ fn go_through_map(image: &Image<'_>, found: &mut Found) -> Result<(), NoMemory>
             Some(at) => holder = at,
             None => return Ok(()),
         }
-        go_on(image, found, Part::Page(page), holder, page_word(page))?;
+        let due = Due::below(Part::Page(page), holder);
+        go_on(image, found, due, holder, page_word(page))?;
     }
     Ok(())
 }
 
 // Visits the chain of a slot of a directory.
-#[tactic(auto, using(crate::proofs::CoursePlaces::header_named))]
 fn go_through_chain(
     image: &Image<'_>,
     found: &mut Found,
@@ -214,7 +254,7 @@ fn go_through_chain(
             slot,
             place,
         };
-        match go_on(image, found, part, holder, i)? {
+        match go_on(image, found, Due::below(part, b), holder, i)? {
             Some(header) => holder = header,
             None => return Ok(()),
         }
@@ -236,22 +276,64 @@ fn go_through_dir(image: &Image<'_>, found: &mut Found, node: u32, b: u32) -> Re
 }
 
 // Visits the extension blocks of a file, with its header at block `b`; returns how many are taken.
-#[tactic(auto, using(crate::proofs::CoursePlaces::ext_is_named))]
 fn go_through_exts(image: &Image<'_>, found: &mut Found, node: u32, b: u32) -> Result<u32, NoMemory>
     requires { HasReachedFile image.now found.old node b }
-    ensures datas { IfOk result (λ exts. HasReachedData image.now found.new node b exts 0) }
+    ensures datas { IfOk result (λ exts. HasReachedData image.now found.new node b exts 0 b) }
     ensures few { IfOk result (λ exts. exts ≤ 1048576) }
 {
     let mut holder = b;
     let mut exts = 0;
     while image.word(holder, EXTENSION) != 0 {
-        match go_on(image, found, Part::Ext(node, exts + 1), holder, EXTENSION)? {
+        let due = Due::below(Part::Ext(node, exts + 1), b);
+        match go_on(image, found, due, holder, EXTENSION)? {
             Some(ext) => holder = ext,
             None => return Ok(exts),
         }
         exts += 1;
     }
     Ok(exts)
+}
+
+// The block of the table that points to data block `k + 1` of a file, where `before` points to data block `k`.
+fn table_block(found: &Found, node: u32, k: u32, before: u32) -> u32
+    ensures { result ≡ cond (k % POINTERS == 0) (member_in found.now node (k / POINTERS)) before }
+{
+    let pointers = POINTERS as u32;
+    if k % pointers == 0 {
+        found.member_block(node, k / pointers)
+    } else {
+        before
+    }
+}
+
+// The pointer to data block `k + 1` of a file, which OFS data block `k` holds, and 0 past the last; `before` points to
+// data block `k`.
+fn next_data(image: &Image<'_>, found: &Found, table: &FileTable, k: u32, before: u32) -> u32
+    ensures { kind_of image.now ≡ Ofs → result ≡ cond (nat_lt k table.now.count) (word_in image.now
+        (cond (k % POINTERS == 0) (member_in found.now table.now.node (k / POINTERS)) before) (table_word k)) 0 }
+{
+    if image.kind() == Kind::Ffs || k >= table.count {
+        return 0;
+    }
+    let holder = table_block(found, table.node, k, before);
+    image.word(holder, FIRST_POINTER - k as usize % POINTERS)
+}
+
+// Data block `k + 1` of a file, which block `holder` of its table points to.
+fn data_due(image: &Image<'_>, found: &Found, table: &FileTable, k: u32, holder: u32) -> Due
+    requires inside { k < table.now.count }
+    ensures part { result.part ≡ Part.Data table.now.node (k + 1) }
+    ensures said { (s : Course) → HasTable image.now found.now s table.now
+        → MemberAt image.now s.walk table.now.node (k / POINTERS) holder → IsTrueIn image.now s.walk result }
+{
+    Due {
+        part: Part::Data(table.node, k + 1),
+        context: Context {
+            up: table.head,
+            next: next_data(image, found, table, k + 1, holder),
+        },
+        is_enough: k > 0 || table.count <= table.room,
+    }
 }
 
 // Visits the data blocks of a file, with its header at block `b` and this many extension blocks.
@@ -263,14 +345,26 @@ fn go_through_datas(
     exts: u32,
 ) -> Result<(), NoMemory>
     requires few { exts ≤ 1048576 }
-    requires at { HasReachedData image.now found.old node b exts 0 }
+    requires at { HasReachedData image.now found.old node b exts 0 b }
     ensures { OnOk result (HasReached image.now found.new (before_node (node + 1))) }
 {
-    let pointers = POINTERS as u32;
-    for k in 0..found.data_count(image, b).min(pointers * (exts + 1)) {
-        let table = found.member_block(node, k / pointers);
-        let i = FIRST_POINTER - (k % pointers) as usize;
-        go_on(image, found, Part::Data(node, k + 1), table, i)?;
+    let table = FileTable {
+        node,
+        head: b,
+        count: image.data_count(b),
+        room: POINTERS as u32 * (exts + 1),
+    };
+    let mut holder = b;
+    for k in 0..table.count.min(table.room) {
+        holder = table_block(found, node, k, holder);
+        let due = data_due(image, found, &table, k, holder);
+        go_on(
+            image,
+            found,
+            due,
+            holder,
+            FIRST_POINTER - k as usize % POINTERS,
+        )?;
     }
     Ok(())
 }

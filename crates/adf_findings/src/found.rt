@@ -2,28 +2,23 @@
 
 ghost use Rattle.std.specs.Prelude.{◌≡◌, ◌≤◌, ◌<◌, ◌+◌, ℕ, List, [], ◌∷◌, ◌++◌, IfOk, OnOk, Some, None};
 ghost use Rattle.std.specs.Prelude.{length, false, true, not, set, slice_index, slice_index_or, slice_set, map};
-ghost use Rattle.std.specs.Ordering.{nat_cmp};
 ghost use Rattle.std.specs.BTreeMap.{Updates};
 ghost use Rattle.adf_blocks.specs.Sizes.{blocks};
 ghost use Rattle.adf_tree.specs.NameSet.{has};
-ghost use Rattle.adf_volume.specs.Image.{name_of, root_of, word_in};
+ghost use Rattle.adf_volume.specs.Image.{name_of, root_of};
 ghost use Rattle.adf_volume.specs.Positions.{position_of};
-ghost use Rattle.adf_volume.specs.Walk.{Role, data_count};
+ghost use Rattle.adf_volume.specs.Walk.{Role};
 ghost use Rattle.adf_findings.specs.Parts.{by_key, finding_value, role_of};
 ghost use Rattle.adf_findings.specs.Found.{AreNamed, AreSame, Stands, IsChain, IsKept, IsReported, IsOwned, IsBlockSkipped};
-ghost use Rattle.adf_findings.specs.Found.{HasValidName, IsPut, IsTaken, KeepsName, KeepsParts, context_in, data_number};
-ghost use Rattle.adf_findings.specs.Found.{enough_in, entry_number, exts_found, known_at, member_in, new_in, next_in, with_data};
+ghost use Rattle.adf_findings.specs.Found.{HasValidName, IsPut, IsTaken, KeepsName, KeepsParts, data_number};
+ghost use Rattle.adf_findings.specs.Found.{entry_number, known_at, member_in, new_in, with_data};
 ghost use Rattle.adf_findings.specs.Survey.{begun};
 
-use crate::forms::Context;
 use crate::header_name::upper_name;
 use crate::image::Image;
-use crate::judge::Facts;
 use crate::part::{Finding, Key, Part};
 use adf_base::NoMemory;
-use adf_blocks::{FIRST_POINTER, POINTERS, SIZE};
 use adf_tree::NameSet;
-use adf_volume::count_of;
 use std::alloc::Global;
 use std::collections::BTreeMap;
 
@@ -44,9 +39,9 @@ pub struct ChainPlace {
 
 /// The state of a survey: the blocks of the taken parts by key, except headers and data blocks; for each block whether
 /// it is taken, the node of the entry that it belongs to (0 if there is none), the number of the data block that it is
-/// (from 1; 0 if it is none), and whether it was skipped; the number of blocks not taken; the blocks of nodes; the
-/// number of extension blocks of each file; the valid names in the current chain; the findings; the parents of nodes; the
-/// positions of headers, from node 1 on; and the data blocks.
+/// (from 1; 0 if it is none), and whether it was skipped; the number of blocks not taken; the blocks of nodes; the valid
+/// names in the current chain; the findings; the parents of nodes; the positions of headers, from node 1 on; and the data
+/// blocks.
 #[derive(Drop)]
 pub struct Found {
     pub taken: BTreeMap<Key, u32>,
@@ -56,7 +51,6 @@ pub struct Found {
     pub avoided: Vec<bool>,
     pub left: u32,
     pub nodes: Vec<u32>,
-    pub exts: BTreeMap<u32, u32>,
     pub names: NameSet,
     pub findings: Vec<Finding>,
     pub parents: Vec<u32>,
@@ -107,7 +101,6 @@ impl Found {
             avoided,
             left: blocks,
             nodes: Vec::new(alloc),
-            exts: BTreeMap::new(alloc),
             names: NameSet::new(alloc),
             findings: Vec::new(alloc),
             parents,
@@ -128,13 +121,6 @@ impl Found {
         self.nodes.get(node as usize).copied().unwrap_or(0)
     }
 
-    // The number of extension blocks taken for a file.
-    fn ext_count(&self, node: u32) -> u32
-        ensures { result ≡ exts_found self.now node }
-    {
-        self.exts.get(&node).copied().unwrap_or(0)
-    }
-
     // Block `m` of the table of a file, the header (0) or an extension block; 0 if there is none.
     pub fn member_block(&self, node: u32, m: u32) -> u32
         ensures { result ≡ member_in self.now node m }
@@ -146,69 +132,11 @@ impl Found {
         self.taken.get(&key).copied().unwrap_or(0)
     }
 
-    // The number of data blocks of the file at block `head`.
-    pub fn data_count(&self, image: &Image<'_>, head: u32) -> u32
-        ensures { result ≡ data_count image.now head }
+    // Whether block `b` has no owner.
+    pub fn is_absent(&self, b: u32) -> bool
+        ensures { result ≡ not (slice_index_or self.now.owned.items b false) }
     {
-        count_of(image.kind(), image.word(head, SIZE))
-    }
-
-    // The pointer to data block `k + 1` in the table of a file; 0 past the last.
-    fn next_data(&self, image: &Image<'_>, node: u32, k: u32) -> u32
-        ensures { result ≡ next_in image.now self.now node k }
-    {
-        if k >= self.data_count(image, self.node_block(node)) {
-            return 0;
-        }
-        let member = self.member_block(node, k / POINTERS as u32);
-        image.word(member, FIRST_POINTER - k as usize % POINTERS)
-    }
-
-    // The context of a part.
-    pub fn context(&self, image: &Image<'_>, part: Part) -> Context
-        ensures { result ≡ context_in image.now self.now part }
-    {
-        match part {
-            Part::Root | Part::Page(_) | Part::MapExt(_) => Context { up: 0, next: 0 },
-            Part::Head { parent, .. } => Context {
-                up: self.node_block(parent),
-                next: 0,
-            },
-            Part::Ext(node, _) => Context {
-                up: self.node_block(node),
-                next: 0,
-            },
-            Part::Data(node, k) => Context {
-                up: self.node_block(node),
-                next: self.next_data(image, node, k),
-            },
-        }
-    }
-
-    // Whether a file has enough extension blocks, if the part is its first data block.
-    fn is_enough(&self, image: &Image<'_>, part: Part) -> bool
-        ensures { result ≡ enough_in image.now self.now part }
-    {
-        match part {
-            Part::Data(node, 1) => {
-                let count = self.data_count(image, self.node_block(node));
-                u64::from(count) <= POINTERS as u64 * (1 + u64::from(self.ext_count(node)))
-            }
-            _ => true,
-        }
-    }
-
-    /// The facts about a part in block `b`.
-    pub fn facts(&self, image: &Image<'_>, part: Part, b: u32) -> Facts
-        ensures enough { result.is_enough ≡ enough_in image.now self.now part }
-        ensures absent { result.is_absent ≡ not (slice_index_or self.now.owned.items b false) }
-        ensures context { result.context ≡ context_in image.now self.now part }
-    {
-        Facts {
-            is_enough: self.is_enough(image, part),
-            is_absent: !self.owned.get(b as usize).copied().unwrap_or(false),
-            context: self.context(image, part),
-        }
+        !self.owned.get(b as usize).copied().unwrap_or(false)
     }
 
     // Keeps the block of a part by its key; a data block with its file's node, a header with its own node.
@@ -303,31 +231,25 @@ impl Found {
         }
     }
 
-    // Keeps the facts of headers and extension blocks that later parts need.
+    // Keeps the facts of a header that later parts need.
     fn keep(&mut self, part: Part, b: u32) -> Result<(), NoMemory>
         ensures kept { OnOk result (IsKept part b self.old self.new) }
         ensures rest { OnOk result (KeepsParts self.old self.new) }
     {
-        match part {
-            Part::Head {
-                parent,
-                slot,
-                place,
-                ..
-            } => {
-                if self.nodes.push(b).is_err()
-                    || self.parents.push(parent).is_err()
-                    || self.places.push(ChainPlace { slot, place }).is_err()
-                {
-                    return Err(NoMemory);
-                }
-            }
-            Part::Ext(node, k) => {
-                if self.exts.insert(node, k).is_err() {
-                    return Err(NoMemory);
-                }
-            }
-            _ => (),
+        let Part::Head {
+            parent,
+            slot,
+            place,
+            ..
+        } = part
+        else {
+            return Ok(());
+        };
+        if self.nodes.push(b).is_err()
+            || self.parents.push(parent).is_err()
+            || self.places.push(ChainPlace { slot, place }).is_err()
+        {
+            return Err(NoMemory);
         }
         Ok(())
     }

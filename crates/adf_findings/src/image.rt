@@ -5,13 +5,14 @@ ghost use Rattle.adf_base.specs.Words.{block};
 ghost use Rattle.adf_blocks.specs.Sizes.{blocks, is_allowed};
 ghost use Rattle.adf_volume.specs.Demands.{IsSize};
 ghost use Rattle.adf_volume.specs.Image.{kind_of, letters_of, root_of, word_in};
+ghost use Rattle.adf_volume.specs.Walk.{data_count};
 ghost use Rattle.adf_findings.specs.Sound.{says_data_of};
 ghost use Rattle.adf_findings.specs.Start.{IsSized};
 
 use adf_base::{BLOCK_LEN, Block, Letters};
-use adf_blocks::{DATA_HEAD, DATA_NUMBER, T_DATA, TYPE};
+use adf_blocks::{DATA_HEAD, DATA_NUMBER, SIZE, T_DATA, TYPE};
 use adf_tree::Kind;
-use adf_volume::letters_in;
+use adf_volume::{count_of, letters_in};
 use std::marker::Model;
 
 /// An image of whole blocks, their number allowed.
@@ -120,6 +121,13 @@ impl<'a> Image<'a> {
             Some(block) => block.word(i),
             None => 0,
         }
+    }
+
+    /// The number of data blocks of the file with its header at block `head`.
+    pub fn data_count(&self, head: u32) -> u32
+        ensures { result ≡ data_count self.now head }
+    {
+        count_of(self.kind, self.word(head, SIZE))
     }
 
     /// Whether a block says of itself that it is OFS data block `number` of the file with its header at block `head`.

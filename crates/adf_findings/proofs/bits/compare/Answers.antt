@@ -8,4 +8,4 @@ returns c =
     let many = c.blocks-b-end.ensures.many in
     let all : c.loop-b.b ≡ c.blocks-b-end.result = omega (arith, c.loop-b-test.false, c.loop-b.auto.b, c.loop-b.auto.b-end) in
     let size : c.loop-b.b ≡ blocks c.args.image.now = (let e = c.blocks-b-end.ensures.blocks in omega arith) in
-    reported_last c.args.image.now c.loop-b.found c.loop-b.b size c.loop-b.invariant
+    reported_last c.args.image.now c.loop-b.found c.loop-b.b size c.loop-b.invariant.0

@@ -1,5 +1,6 @@
 use Rattle.std.proofs.Common.{◌<◌, arith}
 use Rattle.adf_blocks.specs.Sizes.{blocks, pages_needed}
+use Rattle.adf_findings.proofs.CourseSteps.{below_gone}
 use Rattle.adf_findings.proofs.MapPlaces.{page_named, page_on}
 use Rattle.adf_findings.proofs.course.go_through_map.Goals as goal
 
@@ -15,4 +16,4 @@ loop-page-preserved c =
     omega (arith, c.loop-page-test.true, c.page_count-page-end.ensures.exact, c.blocks-2.ensures.blocks) in
     let n = page_named image f x.0 page a i c.page_word.ensures.named lt x.1 x.2 in
     page_on image f x.0 page a i c.go_on.new.found c.in_ok-go_on.field-0 n.asked.1
-    (c.in_ok-go_on.ensures.gone x.0 n)
+    (below_gone c.below-due.ensures n c.in_ok-go_on.ensures.gone)
