@@ -1,7 +1,7 @@
 -- Whatever is asked of bytes has an answer of `adf`.
 use Rattle.std.proofs.Common.{◌≡◌, ◌-◌, ℕ, Bool, true, false, List, arith, inl, inr, refl}
 use native.Mathlib.Decide.{dec_le}
-use Rattle.adf_base.proofs.SmallWords.{AreBytes}
+use Rattle.adf_base.proofs.ByteLists.{AreBytes}
 use Rattle.adf_blocks.specs.Sizes.{blocks, is_allowed}
 use Rattle.adf_names.specs.declared.kind.Kind.{Kind}
 use Rattle.adf_tree.specs.Bounds.{IsBounded}
