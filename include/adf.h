@@ -434,6 +434,57 @@ size_t adf_found_blocks(const uint8_t *image, size_t length, const struct adf_pa
 size_t adf_found_read(const uint8_t *image, size_t length, uint32_t header, const uint32_t *blocks, size_t blocks_count,
                       size_t offset, uint8_t *room, size_t room_length, size_t *lost);
 
+/* Rescues
+ *
+ * A rescue of an image is a new, sound volume of all that stands on it: whole files, and directories, also such as no directory leads
+ * to any more. adf-survey(1) says what stands.
+ */
+
+/* Why something is not in the volume of a rescue. */
+enum adf_loss_why {
+    ADF_LOSS_DAMAGED = 1, /* An entry is a file that is not whole. */
+    ADF_LOSS_LINK = 2,    /* An entry is a link. */
+    ADF_LOSS_NO_ROOM = 3, /* An entry has no room: its directory is left out, its name is taken, or the blocks do not suffice. */
+    ADF_LOSS_HEADERS = 4, /* Headers are lost in a directory. */
+    ADF_LOSS_BLOCKS = 5   /* Blocks in use are lost. */
+};
+
+/* Something of an image that is not in the volume of its rescue. */
+struct adf_loss {
+    size_t path;        /* where its path begins in the text of all paths */
+    size_t path_length; /* 0 for the root, and for blocks */
+    uint32_t first;     /* the header of the entry or of the directory, 0 for the root; or the first of the blocks */
+    uint32_t last;      /* the same header; or the last of the blocks */
+    uint8_t why;        /* an adf_loss_why */
+};
+
+/* What is told of a rescue beside its number. Fields that do not apply are 0. */
+struct adf_rescue_told {
+    size_t losses;   /* all rows of losses */
+    size_t paths;    /* the bytes of all paths */
+    uint32_t blocks; /* all blocks of the volume, including the two boot blocks */
+    uint32_t block;  /* the block of the first fault of the image */
+};
+
+/* The number of a rescue whose volume is larger than its room. */
+#define ADF_RESCUE_SMALL_ROOM 24
+
+/* Rescues an image of this length, as `adf-survey rescue` does: as it is, or if blocks is not 0, as if it had so many blocks, with
+ * zeros for what is not there. The losses come in the order of the lines of that command, and their paths are spelled as there.
+ * Returns:
+ *
+ * 0: the room begins with the volume, of told->blocks * 512 bytes, which adf_check accepts, and the tables have what is not in it.
+ *    told->losses and told->paths are the whole numbers: a table that is smaller has the front part. The rest of each room is
+ *    unchanged.
+ * An adf_cause: nothing stands. It is the first fault of the image, at told->block.
+ * ADF_RESCUE_SMALL_ROOM: the volume has told->blocks blocks, and the room has fewer bytes.
+ * ADF_NO_MEMORY: an allocation failed. All fields are 0.
+ *
+ * Whatever is returned but 0, the three rooms are unchanged.
+ */
+uint8_t adf_rescue(const uint8_t *image, size_t length, uint32_t blocks, uint8_t *room, size_t room_length, struct adf_loss *losses,
+                   size_t losses_room, uint8_t *paths, size_t paths_room, struct adf_rescue_told *told);
+
 /* Writes the escape form of a name to the front of the room, as far as it fits, and returns the length of the whole text, at most
  * four times that of the name: a byte outside 32 to 126, and the backslash, is \xHH, as in the paths of adf_find. The text has no
  * zero at the end. A name of 2^61 bytes or more has none: then the call returns 0, and the room is unchanged.

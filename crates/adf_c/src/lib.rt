@@ -9,5 +9,6 @@ mod disks;
 mod escapes;
 mod found;
 mod images;
+mod rescues;
 mod surveys;
 mod tables;

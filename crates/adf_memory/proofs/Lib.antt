@@ -25,3 +25,6 @@ pub mod TableDrafts
 pub mod Refusals
 -- boot blocks that are written
 pub mod BootImages
+-- rescues
+pub mod LossTables
+pub mod PreparedRescues

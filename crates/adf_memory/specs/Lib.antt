@@ -13,5 +13,7 @@ pub mod Tables
 pub mod Verdicts
 pub mod Words
 pub mod Boot
+pub mod Losses
+pub mod Rescuing
 -- The states of what looks up a name in a table.
 pub mod TableNames

@@ -1,0 +1,17 @@
+use Rattle.std.proofs.Common.{◌≤◌, arith, length}
+use Rattle.adf_boot_blocks.specs.declared.boot.TheConstants.{BOOT_LEN}
+use Rattle.adf_survey_cmd.specs.Subject.{subject_value}
+use Rattle.adf_memory.proofs.PreparedRescues.{lays_typed, refuses_typed}
+use Rattle.adf_memory.proofs.rescuing.ready_subject.Goals as goal
+
+pub returns-in-Ok : goal.returns-in-Ok
+returns-in-Ok c =
+    let long : BOOT_LEN ≤ length c.in_ok-boot.boot.items = omega (arith, c.in_ok-boot.ensures.long) in (
+      long,
+      lays_typed (subject_value c.args.subject) (subject_value c.be_typed.new.self) c.in-Ok.prepared c.in_ok-boot.boot.items
+          c.in_ok-be_typed.ensures c.in_ok-boot.ensures.boot c.in-Ok.ensures,
+    )
+
+pub returns : goal.returns
+returns c =
+    refuses_typed (subject_value c.args.subject) (subject_value c.be_typed.new.self) c.in-Err.unrescued c.in_ok-be_typed.ensures c.in-Err.ensures

@@ -1,0 +1,280 @@
+// Rescues into the memory of the caller.
+
+ghost use Rattle.std.specs.Prelude.{◌≡◌, ◌≤◌, ◌*◌, ◌<◌, List, ℕ, IfErr, IfOk, OnErr, OnOk, length};
+ghost use Rattle.adf_boot_blocks.specs.declared.boot.TheConstants.{BOOT_LEN};
+ghost use Rattle.adf_survey_cmd.specs.Subject.{subject, subject_value};
+ghost use Rattle.adf_memory.specs.Rescuing.{ExplainsRescue, HasRescue, IsPut, IsRoomRefusal, IsVolumeOf, Readies, RescueOf, asked_blocks, rescue_number, rescue_told, unrescued_refusal};
+ghost use Rattle.adf_memory.specs.Rooms.{filled};
+ghost use Rattle.adf_memory.specs.declared.rescuing.RescueRefusal.{RescueRefusal as ARescueRefusal};
+
+use crate::losses::TableLoss;
+use crate::preparing::{Prepared, Unrescued, prepare};
+use adf_base::{BLOCK_LEN, NoMemory};
+use adf_boot_blocks::restore;
+use adf_build::build_into;
+use adf_drafts::Draft;
+use adf_survey_cmd::Subject;
+use adf_volume::Fault;
+use std::alloc::Global;
+
+/// What is told of a rescue beside its number. Fields that do not apply are 0.
+#[repr(C)]
+#[derive(Clone, Copy)]
+pub struct RescueTold {
+    /// All rows of losses.
+    pub losses: usize,
+    /// The bytes of all paths.
+    pub paths: usize,
+    /// All blocks of the new volume, including the two boot blocks.
+    pub blocks: u32,
+    /// The block of the first fault of the image.
+    pub block: u32,
+}
+
+/// Why no volume is written.
+#[derive(Clone, Copy)]
+pub enum RescueRefusal {
+    /// Nothing stands on the image, which has this first fault.
+    Fault(Fault),
+    /// The room is smaller than the volume, which has so many blocks.
+    SmallRoom(u32),
+    /// An allocation failed.
+    NoMemory,
+}
+
+/// A rescue of which only the new volume is to be laid, and the boot blocks that are put into that.
+#[derive(Drop)]
+pub struct Ready {
+    pub prepared: Prepared,
+    pub boot: Vec<u8>,
+}
+
+impl RescueRefusal {
+    // The number of the refusal, above 0.
+    fn number(self) -> u8
+        ensures exact { result ≡ rescue_number self }
+        ensures some { 0 < result }
+    {
+        match self {
+            RescueRefusal::Fault(fault) => fault.cause.number(),
+            RescueRefusal::SmallRoom(_) => 24,
+            RescueRefusal::NoMemory => 23,
+        }
+    }
+
+    // What is told of the refusal.
+    fn told(self) -> RescueTold
+        ensures { result ≡ rescue_told self }
+    {
+        let (blocks, block) = match self {
+            RescueRefusal::Fault(fault) => (0, fault.block),
+            RescueRefusal::SmallRoom(blocks) => (blocks, 0),
+            RescueRefusal::NoMemory => (0, 0),
+        };
+        RescueTold {
+            losses: 0,
+            paths: 0,
+            blocks,
+            block,
+        }
+    }
+}
+
+// The number of blocks that is meant: 0 for as many as the image has.
+fn asked_blocks(blocks: u32) -> Option<u32>
+    ensures { result ≡ asked_blocks blocks }
+{
+    match blocks {
+        0 => None,
+        _ => Some(blocks),
+    }
+}
+
+// Prepares the rescue of what is surveyed of an input, once its image has the type that its files say.
+fn ready_subject(alloc: Global, mut subject: Subject) -> Result<Ready, Unrescued>
+    ensures { Readies (RescueOf (subject_value subject)) result }
+{
+    let boot = subject.boot(alloc)?;
+    subject.be_typed(alloc)?;
+    match prepare(alloc, subject.image, subject.end as usize) {
+        Ok(prepared) => Ok(Ready { prepared, boot }),
+        Err(unrescued) => Err(unrescued),
+    }
+}
+
+// Prepares the rescue of an image as it is, or as if it had so many blocks.
+fn ready_image(alloc: Global, image: &[u8], blocks: u32) -> Result<Ready, Unrescued>
+    ensures { Readies (RescueOf (subject (asked_blocks blocks) image.now)) result }
+{
+    let subject = Subject::of(alloc, image, asked_blocks(blocks))?;
+    ready_subject(alloc, subject)
+}
+
+// The refusal of a rescue that gives no volume.
+fn refusal_of(unrescued: Unrescued) -> RescueRefusal
+    ensures { result ≡ unrescued_refusal unrescued }
+{
+    match unrescued {
+        Unrescued::Refused(fault) => RescueRefusal::Fault(fault),
+        Unrescued::NoMemory => RescueRefusal::NoMemory,
+    }
+}
+
+// Lays the volume of a tree that fits in so many blocks into a room of as many bytes, with these boot blocks.
+fn lay_in(
+    alloc: Global,
+    draft: Draft,
+    blocks: u32,
+    boot: &[u8],
+    room: &mut [u8],
+) -> Result<(), NoMemory>
+    requires size { length room.old ≡ blocks * 512 }
+    requires boot { BOOT_LEN ≤ length boot.now }
+    ensures volume { OnOk result (IsVolumeOf draft.tree blocks boot.now room.new) }
+    ensures unchanged { OnErr result (room.new ≡ room.old) }
+{
+    let tree = draft.finish(alloc)?;
+    match build_into(alloc, &tree, blocks, room) {
+        Ok(()) => {
+            restore(room, boot);
+            Ok(())
+        }
+        Err(_) => Err(NoMemory),
+    }
+}
+
+// Lays such a volume at the front of a room.
+fn lay_in_front(
+    alloc: Global,
+    draft: Draft,
+    blocks: u32,
+    boot: &[u8],
+    room: &mut [u8],
+) -> Result<(), RescueRefusal>
+    requires boot { BOOT_LEN ≤ length boot.now }
+    ensures volume { OnOk result ((volume : List ℕ) × IsVolumeOf draft.tree blocks boot.now volume
+        × (room.new ≡ filled volume room.old)) }
+    ensures fault { IfErr result (IsRoomRefusal (length room.old)) }
+    ensures unchanged { OnErr result (room.new ≡ room.old) }
+{
+    let count = blocks as usize * BLOCK_LEN;
+    if room.len() < count {
+        return Err(RescueRefusal::SmallRoom(blocks));
+    }
+    match lay_in(alloc, draft, blocks, boot, &mut room[..count]) {
+        Ok(()) => Ok(()),
+        Err(_) => Err(RescueRefusal::NoMemory),
+    }
+}
+
+// Fills a room of rows, as far as there is room.
+fn put_rows(room: &mut [TableLoss], rows: &[TableLoss])
+    ensures { room.new ≡ filled rows.now room.old }
+{
+    let count = rows.len().min(room.len());
+    room[..count].copy_from_slice(&rows[..count]);
+}
+
+// Fills a room of bytes, as far as there is room.
+fn put_bytes(room: &mut [u8], bytes: &[u8])
+    ensures { room.new ≡ filled bytes.now room.old }
+{
+    let count = bytes.len().min(room.len());
+    room[..count].copy_from_slice(&bytes[..count]);
+}
+
+// Lays the volume of a rescue at the front of a room, and then fills the table of what is not in it.
+fn put_rescue(
+    alloc: Global,
+    ready: Ready,
+    room: &mut [u8],
+    losses: &mut [TableLoss],
+    paths: &mut [u8],
+) -> Result<RescueTold, RescueRefusal>
+    requires { BOOT_LEN ≤ length ready.boot.items }
+    ensures volume { IfOk result (IsPut ready room.old room.new losses.old losses.new paths.old paths.new) }
+    ensures fault { IfErr result (IsRoomRefusal (length room.old)) }
+    ensures unchanged { OnErr result
+        ((room.new ≡ room.old) × (losses.new ≡ losses.old) × (paths.new ≡ paths.old)) }
+{
+    let Ready { prepared, boot } = ready;
+    let Prepared {
+        draft,
+        blocks,
+        losses: table,
+    } = prepared;
+    lay_in_front(alloc, draft, blocks, &boot, room)?;
+    put_rows(losses, &table.rows);
+    put_bytes(paths, &table.paths);
+    Ok(RescueTold {
+        losses: table.rows.len(),
+        paths: table.paths.len(),
+        blocks,
+        block: 0,
+    })
+}
+
+// An image that is rescued as it is, or if `blocks` is not 0, as if it had so many blocks.
+#[derive(Clone, Copy)]
+struct RescueInput<'a> {
+    image: &'a [u8],
+    blocks: u32,
+}
+
+// Rescues an image into the rooms.
+fn rescue_into(
+    alloc: Global,
+    input: RescueInput<'_>,
+    room: &mut [u8],
+    losses: &mut [TableLoss],
+    paths: &mut [u8],
+) -> Result<RescueTold, RescueRefusal>
+    ensures volume { IfOk result (HasRescue
+        (RescueOf (subject (asked_blocks input.entry.blocks) input.entry.image.now))
+        room.old room.new losses.old losses.new paths.old paths.new) }
+    ensures fault { IfErr result (ExplainsRescue
+        (RescueOf (subject (asked_blocks input.entry.blocks) input.entry.image.now)) (length room.old)) }
+    ensures unchanged { OnErr result
+        ((room.new ≡ room.old) × (losses.new ≡ losses.old) × (paths.new ≡ paths.old)) }
+{
+    match ready_image(alloc, input.image, input.blocks) {
+        Ok(ready) => put_rescue(alloc, ready, room, losses, paths),
+        Err(unrescued) => Err(refusal_of(unrescued)),
+    }
+}
+
+/// Rescues an image as it is, or if `blocks` is not 0, as if it had so many blocks: writes the new volume
+/// of all that stands on it to the front of the room, and fills a table of what is not in that, and the
+/// text of all paths, as far as there is room. Returns 0; or the number of the first fault of the image, if
+/// nothing stands; or 24 if the volume is larger than its room, or that of `NoMemory` if memory ran out.
+pub fn rescue_volume(
+    alloc: Global,
+    image: &[u8],
+    blocks: u32,
+    room: &mut [u8],
+    losses: &mut [TableLoss],
+    paths: &mut [u8],
+    told: &mut RescueTold,
+) -> u8
+    // At 0 the room begins with the volume that the rescue gives, and the tables have what is not in it.
+    ensures volume { result ≡ 0 → HasRescue (RescueOf (subject (asked_blocks blocks) image.now))
+        room.old room.new losses.old losses.new paths.old paths.new told.new }
+
+    // Any other number is that of a refusal, and nothing is written.
+    ensures refused { ¬ (result ≡ 0)
+        → (r : ARescueRefusal) × (result ≡ rescue_number r) × (told.new ≡ rescue_told r)
+        × ExplainsRescue (RescueOf (subject (asked_blocks blocks) image.now)) (length room.old) r }
+    ensures unchanged { ¬ (result ≡ 0)
+        → (room.new ≡ room.old) × (losses.new ≡ losses.old) × (paths.new ≡ paths.old) }
+{
+    match rescue_into(alloc, RescueInput { image, blocks }, room, losses, paths) {
+        Ok(rescued) => {
+            *told = rescued;
+            0
+        }
+        Err(refusal) => {
+            *told = refusal.told();
+            refusal.number()
+        }
+    }
+}
