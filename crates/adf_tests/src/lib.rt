@@ -12,4 +12,6 @@ mod images;
 #[cfg(test)]
 mod images_in_memory;
 #[cfg(test)]
+mod rescues;
+#[cfg(test)]
 mod table_builds;
