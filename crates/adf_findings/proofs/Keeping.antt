@@ -1,13 +1,17 @@
 -- The result for an image is that of its survey.
-use Rattle.std.specs.Prelude.{Bool, Option, ◌-◌, false, true, map, not, slice_get, slice_index, slice_index_or}
-use Rattle.std.proofs.Common.{◌≡◌, ℕ, List, [], ◌++◌, ◌≤◌, refl, sym, ap, subst, ◌∙◌, arith, ◌*◌, ◌<◌, length, inl, inr}
+use Rattle.std.specs.Prelude.{Bool, ◌&&◌, ◌||◌, nat_lt, Option, ◌-◌, false, true, map, not, slice_get, slice_index, slice_index_or}
+use Rattle.std.proofs.Common.{◌≡◌, ℕ, List, [], ◌∷◌, ◌++◌, ◌≤◌, refl, sym, ap, subst, ◌∙◌, arith, ◌*◌, ◌<◌, length, inl, inr}
 use Rattle.std.proofs.lemmas.Bool.{cases_lt, false_from_ne_true}
 use Rattle.std.proofs.lemmas.Bool.Decides.{nat_tests}
 use Rattle.std.proofs.lemmas.List.{get_or_past}
-use Rattle.std.specs.List.{filter}
+use Rattle.std.specs.List.{AllZip, filter}
 use Rattle.std.specs.Option.{option_flatten}
 use Rattle.std.proofs.lemmas.Grind.{common_steps}
 use Rattle.adf_blocks.specs.Sizes.{blocks}
+use Rattle.adf_names.specs.declared.kind.Kind.{Kind}
+use Rattle.adf_names.specs.declared.kind.Kind.TheVariants.{Ofs, Ffs}
+use Rattle.adf_volume.specs.Image.{kind_of}
+use Rattle.adf_findings.specs.declared.found.DataBlock.{DataBlock}
 use Rattle.adf_volume.proofs.Gathered.{head_block, numbered as has_number, number_of, root_is}
 use Rattle.adf_volume.specs.Walk.{Role, Has, heads, node_block}
 use Rattle.adf_volume.specs.Walk.Role.{Root, Page, Head}
@@ -15,7 +19,7 @@ use Rattle.adf_volume.proofs.Roles.{head_role}
 use Rattle.adf_findings.specs.Found.{AreMarked, IsCompleted, Stands, owns, parent_node}
 use Rattle.adf_findings.specs.declared.found.Found.{Found}
 use Rattle.adf_findings.specs.Files.{counting, grave, is_light}
-use Rattle.adf_findings.specs.Marks.{blamed, has_mark, is_clear}
+use Rattle.adf_findings.specs.Marks.{blamed, doubted, has_mark, is_blamed, is_clear, is_doubted, is_doubtful, is_node, is_undoubted}
 use Rattle.adf_findings.specs.declared.concern.Concern.{Concern}
 use Rattle.adf_findings.specs.Parts.{finding_value, key_of}
 use Rattle.adf_findings.specs.Survey.{Course, FindingValue, IsCourse, IsSurvey, UnreadTells}
@@ -77,6 +81,49 @@ part_is image {s} v marks are b = elim (cases_lt b (blocks image)) [
       get_or_past marks b false (omega (arith, are.0, ge))
       ∙ sym (false_from_ne_true (owns s.walk b) (λ e. let lt = owned_inside image v b e in omega (arith, ge)))
 ]
+
+-- a copy whose marks are each the same has the same marks
+pub copied : (R : Bool → Bool → Type 0) → ((x y : Bool) → R x y → y ≡ x) → (xs ys : List Bool) → AllZip R xs ys → ys ≡ xs
+copied R same [] [] z = refl
+copied R same [] (y ∷ ys) z = absurd z
+copied R same (x ∷ xs) [] z = absurd z
+copied R same (x ∷ xs) (y ∷ ys) z = λ t. same x y z.0 t ∷ copied R same xs ys z.1 t
+
+-- what is doubted does not hang on the findings
+same_doubted : (image : List ℕ) (f g : Found) → g ≡ record f { findings = g.findings } → (ds : List DataBlock) (m : ℕ)
+    → is_doubted image g ds m ≡ is_doubted image f ds m
+same_doubted image f g same [] m = refl
+same_doubted image f g same (d ∷ ds) m = λ t. is_node (doubted image (same t) d) m || same_doubted image f g same ds m t
+
+-- the marks of nodes that are not doubted, with those of what findings concern removed, are those of clear nodes
+pub clear_marks : (image : List ℕ) (f g : Found) (base marks : List Bool) → g ≡ record f { findings = g.findings }
+    → ((m : ℕ) → has_mark base m ≡ is_undoubted image f m)
+    → ((m : ℕ) → has_mark marks m ≡ (has_mark base m && not (is_blamed g g.findings.items m)))
+    → (m : ℕ) → has_mark marks m ≡ is_clear image g m
+clear_marks image f g base marks same undoubted struck m =
+    struck m ∙ go (kind_of image) (undoubted m)
+  where
+    size : length f.nodes.items ≡ length g.nodes.items
+    size = λ t. length (sym same t).nodes.items
+
+    moved : (b c d : Bool) → ((b && c) && d) ≡ (b && (d && c))
+    moved false c d = refl
+    moved true true true = refl
+    moved true true false = refl
+    moved true false true = refl
+    moved true false false = refl
+
+    doubtful : (k : Kind) → is_doubtful k image f m ≡ is_doubtful k image g m
+    doubtful Ofs = refl
+    doubtful Ffs = sym (same_doubted image f g same f.datas.items m) ∙ (λ t. is_doubted image g (sym same t).datas.items m)
+
+    go : (k : Kind) → has_mark base m ≡ (nat_lt m (length f.nodes.items) && not (is_doubtful k image f m))
+        → (has_mark base m && not (is_blamed g g.findings.items m))
+        ≡ (nat_lt m (length g.nodes.items) && (not (is_blamed g g.findings.items m) && not (is_doubtful k image g m)))
+    go k e =
+        (λ t. e t && not (is_blamed g g.findings.items m))
+        ∙ ((λ t. (nat_lt m (size t) && not (doubtful k t)) && not (is_blamed g g.findings.items m))
+        ∙ moved (nat_lt m (length g.nodes.items)) (not (is_doubtful k image g m)) (not (is_blamed g g.findings.items m)))
 
 -- of an image whose course is done, with its bits compared
 pub read_kept : (image : List ℕ) (f g : Found) (concerned : List (Option Concern)) (sound whole : List Bool)

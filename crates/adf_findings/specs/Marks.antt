@@ -63,7 +63,11 @@ is_doubtful Ffs image f m = is_doubted image f f.datas.items m
 abbrev pub has_mark : List Bool → ℕ → Bool
 has_mark marks m = slice_index_or marks m false
 
--- whether the node exists and no finding concerns it
+-- whether the node exists and is not made unsound so
+abbrev pub is_undoubted : List ℕ → Found → ℕ → Bool
+is_undoubted image f m = nat_lt m (length f.nodes.items) && not (is_doubtful (kind_of image) image f m)
+
+-- whether the node exists, is not made unsound so, and no finding concerns it
 abbrev pub is_clear : List ℕ → Found → ℕ → Bool
 is_clear image f m =
     nat_lt m (length f.nodes.items) && (not (is_blamed f f.findings.items m) && not (is_doubtful (kind_of image) image f m))

@@ -80,6 +80,7 @@ fn of_part(part: Part, block: u32, cause: Cause) -> Finding
 }
 
 // Judges the part that is next. The name of a header that is to be taken is kept.
+#[inline(always)]
 fn judge_named(
     image: &Image<'_>,
     found: &mut Found,
@@ -114,6 +115,7 @@ fn judge_named(
 }
 
 // Judges the part that is next and reports its cause. Returns the part if it is to be taken, `None` if skipped.
+#[inline(always)]
 fn judge_next(
     image: &Image<'_>,
     found: &mut Found,
@@ -140,6 +142,7 @@ fn judge_next(
 }
 
 // Judges and takes a part that word `i` of block `holder` points to; returns its block, `None` if it is skipped.
+#[inline(always)]
 fn go_on(
     image: &Image<'_>,
     found: &mut Found,

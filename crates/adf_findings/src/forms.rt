@@ -82,6 +82,7 @@ fn cause_of_head(image: &Image<'_>, slot: u8, b: u32, up: u32) -> Option<Cause>
 }
 
 /// The first cause of block `b` in the form of the part.
+#[inline(always)]
 pub fn first_cause(image: &Image<'_>, part: Part, b: u32, context: Context) -> Option<Cause>
     requires { b < blocks image.now }
     ensures { result ≡ first_cause (form_of image.now part b context) }
@@ -128,6 +129,7 @@ fn is_data_itself(image: &Image<'_>, number: u32, b: u32, context: Context) -> b
 }
 
 /// Whether the fields of block `b` identify it as the part; for a page, whether its form holds.
+#[inline(always)]
 pub fn is_itself(image: &Image<'_>, part: Part, b: u32, context: Context) -> bool
     requires { b < blocks image.now }
     ensures { result ≡ itself_by (role_of part) (form_of image.now part b context) }

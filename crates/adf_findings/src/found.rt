@@ -140,6 +140,7 @@ impl Found {
     }
 
     // Keeps the block of a part by its key; a data block with its file's node, a header with its own node.
+    #[inline(always)]
     fn keep_block(&mut self, part: Part, b: u32) -> Result<(), NoMemory>
         ensures taken { OnOk result (IsPut part b self.old.taken self.new.taken) }
         ensures datas { OnOk result (self.new.datas.items
@@ -165,6 +166,7 @@ impl Found {
     }
 
     // Keeps the entry that a part belongs to as that of block `b`.
+    #[inline(always)]
     fn keep_owner(&mut self, part: Part, b: u32)
         ensures owners { self.new.owners.items
             ≡ set self.old.owners.items b (entry_number (role_of part)) }
@@ -176,6 +178,7 @@ impl Found {
     }
 
     // Keeps the number of the data block that a part is.
+    #[inline(always)]
     fn keep_number(&mut self, part: Part, b: u32)
         ensures numbers { self.new.numbers.items
             ≡ set self.old.numbers.items b (data_number (role_of part)) }
@@ -187,6 +190,7 @@ impl Found {
     }
 
     // Makes a part the owner of block `b`.
+    #[inline(always)]
     fn own(&mut self, part: Part, b: u32) -> Result<(), NoMemory>
         requires inside { b < length self.old.owned.items }
         requires some { 1 ≤ self.old.left }
@@ -211,9 +215,10 @@ impl Found {
         }
     }
 
-    /// Keeps the name of a header that is to be taken, if it is valid. Returns whether it is new in its chain.
+    // Keeps the name of a header.
+    #[inline(never)]
     #[tactic(auto, using(crate::proofs::Known::kept_none, std::proofs::lemmas::Bool::false_from_ne_true))]
-    pub fn keep_name(&mut self, image: &Image<'_>, part: Part, b: u32) -> Result<bool, NoMemory>
+    fn keep_header_name(&mut self, image: &Image<'_>, part: Part, b: u32) -> Result<bool, NoMemory>
         requires { b < blocks image.now }
         ensures new { IfOk result (λ t. (w : List (Role × ℕ))
             → AreNamed image.now w (position_of (role_of part)) self.old.names → IsChain w part
@@ -231,7 +236,24 @@ impl Found {
         }
     }
 
+    /// Keeps the name of a header that is to be taken, if it is valid. Returns whether it is new in its chain.
+    #[inline(always)]
+    pub fn keep_name(&mut self, image: &Image<'_>, part: Part, b: u32) -> Result<bool, NoMemory>
+        requires { b < blocks image.now }
+        ensures new { IfOk result (λ t. (w : List (Role × ℕ))
+            → AreNamed image.now w (position_of (role_of part)) self.old.names → IsChain w part
+            → HasValidName image.now part b → t ≡ new_in image.now w part b) }
+        ensures names { OnOk result (KeepsName image.now part b self.old.names self.new.names) }
+        ensures rest { self.new ≡ record self.old { names = self.new.names } }
+    {
+        match part {
+            Part::Head { .. } => self.keep_header_name(image, part, b),
+            _ => Ok(true),
+        }
+    }
+
     // Keeps the facts of a header that later parts need.
+    #[inline(always)]
     fn keep(&mut self, part: Part, b: u32) -> Result<(), NoMemory>
         ensures kept { OnOk result (IsKept part b self.old self.new) }
         ensures rest { OnOk result (KeepsParts self.old self.new) }
@@ -256,6 +278,7 @@ impl Found {
 
     /// Takes a part, in block `b`.
     #[tactic(auto, using(crate::proofs::Taking::taken_last))]
+    #[inline(always)]
     pub fn take(&mut self, part: Part, b: u32) -> Result<(), NoMemory>
         requires inside { b < length self.old.owned.items }
         requires some { 1 ≤ self.old.left }

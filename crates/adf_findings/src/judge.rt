@@ -26,6 +26,7 @@ pub struct Facts {
 }
 
 // The first cause of a part in block `b`, which `holder` points to, and the block of the cause, if its name is new.
+#[inline(always)]
 fn first_failing(
     image: &Image<'_>,
     part: Part,
@@ -49,6 +50,7 @@ fn first_failing(
 }
 
 // Whether block `b` is in range, has no owner, and identifies itself as the part.
+#[inline(always)]
 fn is_kept(image: &Image<'_>, part: Part, b: u32, facts: &Facts) -> bool
     ensures { result ≡ keeps image.now part b facts.now }
 {
@@ -56,6 +58,7 @@ fn is_kept(image: &Image<'_>, part: Part, b: u32, facts: &Facts) -> bool
 }
 
 /// Judges a part in block `b`, which a word of block `holder` points to, by all but its name.
+#[inline(always)]
 pub fn judge(image: &Image<'_>, part: Part, holder: u32, b: u32, facts: &Facts) -> Judgement
     ensures { judgement_value result
         ≡ judged_by (first_failing image.now part holder b facts.now true)

@@ -4,7 +4,7 @@ ghost use Rattle.std.specs.Prelude.{◌≡◌, ◌==◌, ◌&&◌, ℕ, IfOk, ma
 ghost use Rattle.std.specs.List.{filter};
 ghost use Rattle.adf_findings.specs.Files.{is_harmless, is_light};
 ghost use Rattle.adf_findings.specs.Parts.{finding_value};
-ghost use Rattle.adf_findings.specs.Marks.{blamed, doubted, has_mark, is_blamed, is_clear, is_doubted, is_header};
+ghost use Rattle.adf_findings.specs.Marks.{blamed, doubted, has_mark, is_blamed, is_doubted, is_header, is_undoubted};
 
 use crate::concern::Concern;
 use crate::found::{DataBlock, Found};
@@ -94,8 +94,8 @@ pub fn concerned(alloc: Global, found: &Found) -> Result<Vec<Option<Concern>>, N
     Ok(concerns)
 }
 
-// Removes the marks of entries that findings concern, and of directories within which a header was skipped.
-fn strike_blamed(found: &Found, marks: &mut Vec<bool>)
+/// Removes the marks of entries that findings concern, and of directories within which a header was skipped.
+pub fn strike_blamed(found: &Found, marks: &mut Vec<bool>)
     ensures { (m : ℕ) → has_mark marks.new.items m
         ≡ (has_mark marks.old.items m && not
         (is_blamed found.now found.now.findings.items m)) }
@@ -156,15 +156,18 @@ pub fn grave(alloc: Global, findings: &[Finding]) -> Result<Vec<Finding>, NoMemo
     Ok(graves)
 }
 
-/// The marks of the nodes: true if no finding concerns the node, or what is within it.
-pub fn clear_marks(alloc: Global, image: &Image<'_>, found: &Found) -> Result<Vec<bool>, NoMemory>
+/// The marks of the nodes: true but for FFS files with a data block that was also skipped, or says that it is an OFS one.
+pub fn undoubted_marks(
+    alloc: Global,
+    image: &Image<'_>,
+    found: &Found,
+) -> Result<Vec<bool>, NoMemory>
     ensures { IfOk result (λ v. (m : ℕ)
-        → has_mark v.items m ≡ is_clear image.now found.now m) }
+        → has_mark v.items m ≡ is_undoubted image.now found.now m) }
 {
     let Ok(mut marks) = vec![in alloc; true; found.nodes.len()] else {
         return Err(NoMemory);
     };
-    strike_blamed(found, &mut marks);
     match image.kind() {
         Kind::Ofs => (),
         Kind::Ffs => strike_doubted(image, found, &mut marks),

@@ -10,7 +10,7 @@ ghost use Rattle.adf_findings.specs.Survey.{BootTells, FindingValue, IsSurvey, R
 use crate::bits::compare;
 use crate::course::run;
 use crate::found::Found;
-use crate::marks::{clear_marks, concerned, grave};
+use crate::marks::{concerned, grave, strike_blamed, undoubted_marks};
 use crate::part::{Finding, Part};
 use crate::start::{Started, Unread, start};
 use crate::survey_result::Survey;
@@ -103,10 +103,14 @@ fn go_through<'i>(alloc: Global, started: &Started<'i>) -> Result<Survey<'i>, No
     run(image, &mut found)?;
     compare(image, &mut found)?;
     let concerned = concerned(alloc, &found)?;
-    let sound = clear_marks(alloc, image, &found)?;
+    let mut sound = undoubted_marks(alloc, image, &found)?;
+    let Ok(mut whole) = sound.clone() else {
+        return Err(NoMemory);
+    };
+    strike_blamed(&found, &mut sound);
     let graves = grave(alloc, &found.findings)?;
     let findings = replace(&mut found.findings, graves);
-    let whole = clear_marks(alloc, image, &found)?;
+    strike_blamed(&found, &mut whole);
     Ok(Survey {
         image: image.bytes(),
         findings,

@@ -1,6 +1,6 @@
 use Rattle.std.proofs.lemmas.Result.{IfOk-weaker, on_ok_weaker}
 use Rattle.adf_findings.proofs.Known.{kept_name, name_is_new}
-use Rattle.adf_findings.proofs.found.Found.keep_name.Goals as goal
+use Rattle.adf_findings.proofs.found.Found.keep_header_name.Goals as goal
 
 pub returns-in-Some-clause-new : goal.returns-in-Some-clause-new
 returns-in-Some-clause-new c =
