@@ -4,6 +4,7 @@
 use crate::images::{Image, built, with_bytes};
 use adf_memory::{RescueTold, TableLoss, rescue_volume};
 use std::alloc::Global;
+use std::mem::size_of;
 
 const MANIFEST: &[u8] =
     b"volume ofs 16\nfile 0:0:0 00000000 long\nfill 977 41\nfile 0:0:0 00000000 none\n";
@@ -93,4 +94,10 @@ fn refused_rescues(rt: HostRuntime) {
     let nothing = rescued(rt.alloc(), &[0; 8192], 8192);
     assert!(rt; (nothing.number, nothing.told.blocks, nothing.told.block) == (2, 0, 0));
     assert!(rt; nothing.volume == [9; 8192]);
+}
+
+// The structs are as long as those of include/adf.h on a machine of 64 bits.
+#[test]
+fn structs_are_as_long_as_in_c(rt: HostRuntime) {
+    assert!(rt; (size_of::<TableLoss>(), size_of::<RescueTold>()) == (32, 24));
 }
