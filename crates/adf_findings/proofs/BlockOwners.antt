@@ -5,7 +5,7 @@ use Rattle.std.proofs.Common.{◌≡◌, ℕ, zero, suc, List, [], ◌∷◌, Op
 use Rattle.std.proofs.lemmas.Bool.{cases_Bool}
 use Rattle.std.proofs.lemmas.Bool.Decides.{eqb_tells}
 use Rattle.std.proofs.lemmas.Grind.{common_steps}
-use Rattle.adf_volume.specs.Walk.{Role, Asks}
+use Rattle.adf_volume.specs.Walk.{Role, Asks, Walk}
 use Rattle.adf_volume.specs.Walk.Role.{Head, Ext, Data}
 use Rattle.adf_volume.proofs.Gathered.{IsGathered, asked_file, number_of}
 use Rattle.adf_volume.proofs.Gathered.IsGathered.{start, step}
@@ -24,7 +24,7 @@ from_number (Some (suc n)) h = grind (arith, common_steps, eqb_tells)
 
 module _ (image : List ℕ) where
   -- a part that is asked for is that of an entry with a number from 1
-  asked_number : {w : List (Role × ℕ)} → IsGathered image w → (r : Role) (a i n : ℕ) → Asks image w r a i → entry_in r ≡ Some n → 1 ≤ n
+  asked_number : {w : Walk} → IsGathered image w → (r : Role) (a i n : ℕ) → Asks image w r a i → entry_in r ≡ Some n → 1 ≤ n
   asked_number {w = w} v (Head m p s j) a i n d e = grind (arith, common_steps, asks_number)
   asked_number v (Ext m k) a i n d e =
       let l = number_of image v (asked_file image v m k a i d).1.header in
@@ -36,7 +36,7 @@ module _ (image : List ℕ) where
   asked_number v _ a i n d e = cc
 
   -- an entry that holds a block has a number from 1
-  owner_number : {w : List (Role × ℕ)} → IsGathered image w → (b n : ℕ) → owner w b ≡ Some n → 1 ≤ n
+  owner_number : {w : Walk} → IsGathered image w → (b n : ℕ) → owner w b ≡ Some n → 1 ≤ n
   owner_number (start) b n e = grind (arith, common_steps, start, cases_Bool)
   owner_number (step {w = w} {r = r} a i c v d l) b n e = elim (cases_Bool (c == b)) [
     | inl y ↦ asked_number v r a i n d (ap (λ t. cond t (entry_in r) (owner w b)) (sym y) ∙ e)
@@ -44,12 +44,12 @@ module _ (image : List ℕ) where
   ]
 
   -- the entry kept for a block is the one that holds it
-  pub owner_is : {w : List (Role × ℕ)} → IsGathered image w → (owners : List ℕ) → ((b : ℕ) → slice_index_or owners b 0 ≡ unwrap_or (owner w b) 0)
+  pub owner_is : {w : Walk} → IsGathered image w → (owners : List ℕ) → ((b : ℕ) → slice_index_or owners b 0 ≡ unwrap_or (owner w b) 0)
       → (b : ℕ) → owner_at owners b ≡ owner w b
   owner_is {w = w} v owners h b = ap (λ n. cond (n == 0) None (Some n)) (h b) ∙ from_number (owner w b) (owner_number v b)
 
 -- of each finding that its block is taken the entry is the one that holds the block
-pub owner_nth_is : (w : List (Role × ℕ)) (owners : List ℕ) → ((b : ℕ) → owner_at owners b ≡ owner w b) → (xs : List Finding) (k : ℕ)
+pub owner_nth_is : (w : Walk) (owners : List ℕ) → ((b : ℕ) → owner_at owners b ≡ owner w b) → (xs : List Finding) (k : ℕ)
     → option_and_then (owner_for owners) (slice_get xs k) ≡ option_and_then (owner_of w) (slice_get (map finding_value xs) k)
 owner_nth_is w owners h [] k = refl
 owner_nth_is w owners h (x ∷ xs) zero = ap (λ o. cond (is_taken x.cause) o None) (h x.block)
