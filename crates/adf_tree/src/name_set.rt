@@ -1,14 +1,14 @@
 // Sets of names, ignoring the case of `a` to `z`.
 
 ghost use Rattle.std.specs.Prelude.{◌≡◌, ◌<◌, ◌≤◌, ◌^◌, ◌++◌, [], ◌∷◌, ℕ, List, length, false, not, IfOk, OnErr, OnOk};
-ghost use Rattle.adf_names.specs.Texts.{uppers};
+ghost use Rattle.adf_names.specs.Texts.{uppers, uppers_by};
 ghost use Rattle.adf_tree.specs.NameSet.{has, is_among, HasMore, IsUnion, IsWith, Names};
 ghost use Rattle.adf_tree.specs.declared.name_key.NameKey.{NameKey};
 ghost use Rattle.adf_tree.specs.NameBuckets.{holder_of, first_bucket_in, probe_of, probe_buckets, AreStored};
 ghost use Rattle.adf_tree.specs.declared.name_set.Probe.TheVariants.{Vacant};
 
 use crate::name_key::NameKey;
-use adf_base::NoMemory;
+use adf_base::{Letters, NoMemory};
 use adf_names::Name;
 use std::alloc::Global;
 use std::collections::BTreeSet;
@@ -292,6 +292,17 @@ impl NameSet {
         is_in(&self.stored, &self.buckets, &self.overflow, key)
     }
 
+    #[tactic(auto, using(adf_names::proofs::RaisedNames::raised_stays))]
+    /// Whether the set has the name in upper case by these letters.
+    pub fn has_by(&self, letters: Letters, name: &Name) -> bool
+        ensures { result ≡ has self.now (uppers_by letters name.now) }
+    {
+        match letters {
+            Letters::Ascii => self.has(name),
+            Letters::International => self.has(&name.raised(letters)),
+        }
+    }
+
     #[tactic(auto, using(crate::proofs::NameKeys::has_key, crate::proofs::NameKeys::has_more))]
     /// Adds a name; returns whether it is new. `NoMemory` if an allocation fails.
     pub fn put(&mut self, name: &Name) -> Result<bool, NoMemory>
@@ -301,6 +312,18 @@ impl NameSet {
         make_room(&mut self.stored, &mut self.buckets, &mut self.overflow)?;
         let key = NameKey::of(name);
         place(&mut self.stored, &mut self.buckets, &mut self.overflow, key)
+    }
+
+    #[tactic(auto, using(adf_names::proofs::RaisedNames::raised_stays))]
+    /// Adds a name in upper case by these letters; returns whether it is new. `NoMemory` if an allocation fails.
+    pub fn put_by(&mut self, letters: Letters, name: &Name) -> Result<bool, NoMemory>
+        ensures new { IfOk result (λ is_new. is_new ≡ not (has self.old (uppers_by letters name.now))) }
+        ensures more { OnOk result (HasMore self.old self.new (uppers_by letters name.now)) }
+    {
+        match letters {
+            Letters::Ascii => self.put(name),
+            Letters::International => self.put(&name.raised(letters)),
+        }
     }
 
     #[tactic(auto, unfolding(crate::specs::NameSet::has))]
