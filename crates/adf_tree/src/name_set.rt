@@ -283,47 +283,40 @@ impl NameSet {
         }
     }
 
-    #[tactic(auto, using(crate::proofs::NameKeys::has_key))]
     /// Whether the set has the name, ignoring case.
     pub fn has(&self, name: &Name) -> bool
         ensures { result ≡ has self.now (uppers name.now) }
     {
-        let key = NameKey::of(name);
-        is_in(&self.stored, &self.buckets, &self.overflow, key)
+        self.has_by(Letters::Ascii, name)
     }
 
-    #[tactic(auto, using(adf_names::proofs::RaisedNames::raised_stays))]
-    /// Whether the set has the name in upper case by these letters.
+    #[tactic(auto, using(crate::proofs::NameKeys::has_key))]
+    /// Whether the set has the name, in upper case by these letters.
     pub fn has_by(&self, letters: Letters, name: &Name) -> bool
         ensures { result ≡ has self.now (uppers_by letters name.now) }
     {
-        match letters {
-            Letters::Ascii => self.has(name),
-            Letters::International => self.has(&name.raised(letters)),
-        }
+        let key = NameKey::of_by(letters, name);
+        is_in(&self.stored, &self.buckets, &self.overflow, key)
     }
 
-    #[tactic(auto, using(crate::proofs::NameKeys::has_key, crate::proofs::NameKeys::has_more))]
     /// Adds a name; returns whether it is new. `NoMemory` if an allocation fails.
     pub fn put(&mut self, name: &Name) -> Result<bool, NoMemory>
         ensures new { IfOk result (λ is_new. is_new ≡ not (has self.old (uppers name.now))) }
         ensures more { OnOk result (HasMore self.old self.new (uppers name.now)) }
     {
-        make_room(&mut self.stored, &mut self.buckets, &mut self.overflow)?;
-        let key = NameKey::of(name);
-        place(&mut self.stored, &mut self.buckets, &mut self.overflow, key)
+        self.put_by(Letters::Ascii, name)
     }
 
-    #[tactic(auto, using(adf_names::proofs::RaisedNames::raised_stays))]
-    /// Adds a name in upper case by these letters; returns whether it is new. `NoMemory` if an allocation fails.
+    #[tactic(auto, using(crate::proofs::NameKeys::has_key, crate::proofs::NameKeys::has_more))]
+    /// Adds a name, in upper case by these letters; returns whether it is new. `NoMemory` if an allocation fails.
     pub fn put_by(&mut self, letters: Letters, name: &Name) -> Result<bool, NoMemory>
-        ensures new { IfOk result (λ is_new. is_new ≡ not (has self.old (uppers_by letters name.now))) }
+        ensures new { IfOk result (λ is_new.
+            is_new ≡ not (has self.old (uppers_by letters name.now))) }
         ensures more { OnOk result (HasMore self.old self.new (uppers_by letters name.now)) }
     {
-        match letters {
-            Letters::Ascii => self.put(name),
-            Letters::International => self.put(&name.raised(letters)),
-        }
+        make_room(&mut self.stored, &mut self.buckets, &mut self.overflow)?;
+        let key = NameKey::of_by(letters, name);
+        place(&mut self.stored, &mut self.buckets, &mut self.overflow, key)
     }
 
     #[tactic(auto, unfolding(crate::specs::NameSet::has))]
