@@ -1,6 +1,7 @@
 -- The value of a draft after an entry is put in one of its rooms.
 use Rattle.std.proofs.Common.{◌≡◌, ℕ, ◌≤◌, ◌++◌, List, [], ◌∷◌, length, arith, if◌then◌else◌, Result, is_ok, OnOk}
 use Rattle.std.proofs.lemmas.Grind.{common_steps}
+use Rattle.adf_base.specs.declared.hash.Letters.TheVariants.{Ascii}
 use Rattle.adf_drafts.specs.declared.draft.Room.{Room}
 use Rattle.adf_tree.specs.declared.entry.Body.{Body}
 use Rattle.adf_tree.specs.declared.entry.Entry.{Entry}
@@ -21,25 +22,26 @@ put_in room meta body = record { parent = room.parent; name = room.name; meta = 
 
 -- a draft, and a room of it
 module _ {drafts : List Entry} {numbers : Numbers} {kind : Kind} {label : List ℕ} {stamps : Stamps} {path : List (List ℕ)} {room : Room}
-    (h : IsDraft drafts numbers) (is : IsRoomFor (draft_value kind label stamps (walk drafts)) path room) where
+    (h : IsDraft Ascii drafts numbers) (is : IsRoomFor (draft_value kind label stamps (walk Ascii drafts)) path room) where
   pub room_within : room.parent ≤ length drafts
   room_within = omega (arith, is.within, h.gives.nodes)
 
-  pub room_new : (meta : Meta) (body : Body) → IsNew (walk drafts).entries path meta body (in_tree (walk drafts).nodes (put_in room meta body))
-  room_new meta body = new_in_room (walk drafts).entries path meta body room.name _ is.name is.leads
+  pub room_new : (meta : Meta) (body : Body)
+      → IsNew (walk Ascii drafts).entries path meta body (in_tree (walk Ascii drafts).nodes (put_in room meta body))
+  room_new meta body = new_in_room (walk Ascii drafts).entries path meta body room.name _ is.name is.leads
 
-  pub room_may : (meta : Meta) (body : Body) → MayAdd (walk drafts).entries (in_tree (walk drafts).nodes (put_in room meta body))
+  pub room_may : (meta : Meta) (body : Body) → MayAdd (walk Ascii drafts).entries (in_tree (walk Ascii drafts).nodes (put_in room meta body))
   room_may meta body =
-      room_may_add (walk drafts).entries (in_tree (walk drafts).nodes (put_in room meta body)) (parents_of path) (room_new meta body).room
+      room_may_add (walk Ascii drafts).entries (in_tree (walk Ascii drafts).nodes (put_in room meta body)) (parents_of path) (room_new meta body).room
 
   module _ {E : Type 0} (new : List Entry) (r : Result (Unit {0}) E) (meta : Meta) (body : Body)
       (left : new ≡ (if is_ok r then drafts ++ put_in room meta body ∷ [] else drafts)) where
-    pub put_paths : OnOk r (AddsOne (walk drafts).entries (walk new).entries (new_entry (walk drafts).entries path meta body) path)
+    pub put_paths : OnOk r (AddsOne (walk Ascii drafts).entries (walk Ascii new).entries (new_entry (walk Ascii drafts).entries path meta body) path)
     put_paths =
-        added_paths r (walk drafts).entries (walk new).entries _ path meta body h.gives.tree (room_new meta body)
-        (entries_left drafts new (put_in room meta body) (is_ok r) left)
+        added_paths r (walk Ascii drafts).entries (walk Ascii new).entries _ path meta body h.gives.tree (room_new meta body)
+        (entries_left Ascii drafts new (put_in room meta body) (is_ok r) left)
 
-    pub put_tree : (draft_value kind label stamps (walk new)).tree
-        ≡ (if is_ok r then with_entry (draft_value kind label stamps (walk drafts)).tree path meta body else
-        (draft_value kind label stamps (walk drafts)).tree)
+    pub put_tree : (draft_value kind label stamps (walk Ascii new)).tree
+        ≡ (if is_ok r then with_entry (draft_value kind label stamps (walk Ascii drafts)).tree path meta body else
+        (draft_value kind label stamps (walk Ascii drafts)).tree)
     put_tree = grind (arith, common_steps, tree_left, entries_left, put_in, room_new)

@@ -1,13 +1,15 @@
 -- Trees under construction: entries in order of addition, numbered from 1, with parents by these numbers.
+-- What depends on the letters whose case is ignored takes them first.
 use Rattle.std.specs.Prelude.{◌≡◌, ℕ, ◌+◌, ◌-◌, ◌<◌, ◌≤◌, List, [], ◌∷◌, ◌++◌, Some, Result, Ok, Err, option_map, length, map, fold, slice_index_or}
-use Rattle.adf_names.specs.Texts.{uppers}
+use Rattle.adf_base.specs.declared.hash.Letters.{Letters}
+use Rattle.adf_names.specs.Texts.{uppers_by}
 use Rattle.adf_tree.specs.declared.entry.Entry.{Entry}
 use Rattle.adf_tree.specs.declared.tree.RoomFault.{RoomFault}
 use Rattle.adf_drafts.specs.declared.draft.Room.{Room}
 use Rattle.adf_names.specs.declared.kind.Kind.{Kind}
 use Rattle.adf_names.specs.declared.meta.Stamps.{Stamps}
-use Rattle.adf_tree.specs.Tree.{added, child, directory_from, last_of, moved, place, rank, room_for, IsTree, Tree}
-use Rattle.adf_tree.specs.Chain.{chain}
+use Rattle.adf_tree.specs.Tree.{added_by, child_by, directory_from, last_of, moved, place_by, rank_by, room_for, IsTreeBy, Tree}
+use Rattle.adf_tree.specs.Chain.{chain_by}
 use Rattle.adf_drafts.specs.ChildMap.{number_in, Numbers}
 
 -- the tree of the additions, and the number of each addition in it
@@ -24,24 +26,27 @@ abbrev pub in_tree : List ℕ → Entry → Entry
 in_tree nodes d = record d { parent = node_of nodes d.parent }
 
 -- the number in the tree that one more addition gets
-abbrev pub new_number : NumberedTree → Entry → ℕ
-new_number w d = place w.entries (rank (in_tree w.nodes d)) + 1
+abbrev pub new_number : Letters → NumberedTree → Entry → ℕ
+new_number letters w d = place_by letters w.entries (rank_by letters (in_tree w.nodes d)) + 1
 
 -- the tree with one more addition
-abbrev pub walk_more : NumberedTree → Entry → NumberedTree
-walk_more w d = record { entries = added w.entries (in_tree w.nodes d); nodes = map (moved (new_number w d)) w.nodes ++ new_number w d ∷ [] }
+abbrev pub walk_more : Letters → NumberedTree → Entry → NumberedTree
+walk_more letters w d = record {
+  entries = added_by letters w.entries (in_tree w.nodes d);
+  nodes = map (moved (new_number letters w d)) w.nodes ++ new_number letters w d ∷ [];
+}
 
 -- the tree of entries added one after another, and their numbers in it
-abbrev pub walk : List Entry → NumberedTree
-walk drafts = fold walk_more (record { entries = []; nodes = [] }) drafts
+abbrev pub walk : Letters → List Entry → NumberedTree
+walk letters drafts = fold (walk_more letters) (record { entries = []; nodes = [] }) drafts
 
 -- the parent of each addition is the root or an earlier one
 abbrev pub HasEarlyParents : List Entry → Type 0
 HasEarlyParents drafts = (i : ℕ) (d : Entry) → i < length drafts → (slice_index_or drafts i d).parent ≤ i
 
 -- the invariant of additions and their tree
-pub record IsNumberedTree (drafts : List Entry) (w : NumberedTree) : Type 0 where
-  pub tree : IsTree w.entries
+pub record IsNumberedTree (letters : Letters) (drafts : List Entry) (w : NumberedTree) : Type 0 where
+  pub tree : IsTreeBy letters w.entries
   pub count : length w.entries ≡ length drafts
   pub nodes : length w.nodes ≡ length drafts
   pub within : (m : ℕ) → m ≤ length drafts → node_of w.nodes m ≤ length drafts
@@ -49,18 +54,19 @@ pub record IsNumberedTree (drafts : List Entry) (w : NumberedTree) : Type 0 wher
   pub parents : HasEarlyParents drafts
   pub entries : (m : ℕ) (d : Entry) → 0 < m → m ≤ length drafts
       → slice_index_or w.entries (node_of w.nodes m - 1) d ≡ in_tree w.nodes (slice_index_or drafts (m - 1) d)
-  pub chains : (m s : ℕ) → m ≤ length drafts → chain w.entries (node_of w.nodes m) s ≡ map (in_tree w.nodes) (chain drafts m s)
+  pub chains : (m s : ℕ) → m ≤ length drafts
+      → chain_by letters w.entries (node_of w.nodes m) s ≡ map (in_tree w.nodes) (chain_by letters drafts m s)
 
 -- each addition's number is found by its parent and name
-pub record AreNumbered (drafts : List Entry) (w : NumberedTree) (numbers : Numbers) : Type 0 where
+pub record AreNumbered (letters : Letters) (drafts : List Entry) (w : NumberedTree) (numbers : Numbers) : Type 0 where
   pub within : (m k : ℕ) (name : List ℕ) → number_in numbers m name ≡ Some k → (m ≤ length drafts) × (k ≤ length drafts)
   pub found : (m : ℕ) (name : List ℕ) → m ≤ length drafts
-      → child w.entries (node_of w.nodes m) name ≡ option_map (node_of w.nodes) (number_in numbers m (uppers name))
+      → child_by letters w.entries (node_of w.nodes m) name ≡ option_map (node_of w.nodes) (number_in numbers m (uppers_by letters name))
 
 -- the invariant of a draft
-pub record IsDraft (drafts : List Entry) (numbers : Numbers) : Type 0 where
-  pub gives : IsNumberedTree drafts (walk drafts)
-  pub found : AreNumbered drafts (walk drafts) numbers
+pub record IsDraft (letters : Letters) (drafts : List Entry) (numbers : Numbers) : Type 0 where
+  pub gives : IsNumberedTree letters drafts (walk letters drafts)
+  pub found : AreNumbered letters drafts (walk letters drafts) numbers
 
 -- the value of a draft: the tree so far, and the number in it of each addition
 pub record DraftValue : Type 0 where

@@ -2,11 +2,11 @@
 
 ghost use Rattle.std.specs.Prelude.{◌≡◌, ◌≤◌, ◌<◌, ℕ, List, None, OnOk, OnErr, length, true};
 ghost use Rattle.std.specs.BTreeMap.{get};
-ghost use Rattle.adf_names.specs.Texts.{uppers};
+ghost use Rattle.adf_names.specs.Texts.{uppers_by};
 ghost use Rattle.adf_tree.specs.NameKeys.{is_short};
 ghost use Rattle.adf_drafts.specs.ChildMap.{bucket_of, by_child, child_key, number_in, HasNumber};
 
-use adf_base::NoMemory;
+use adf_base::{Letters, NoMemory};
 use adf_names::Name;
 use adf_tree::{NameKey, Node};
 use std::alloc::Global;
@@ -22,13 +22,13 @@ pub struct ChildKey {
 }
 
 impl ChildKey {
-    /// The key of a parent and a name.
-    fn of(parent: Node, name: &Name) -> ChildKey
-        ensures key { result ≡ child_key parent (uppers name.now) }
-        ensures short { is_short (uppers name.now) ≡ true }
+    /// The key of a parent and a name in upper case by these letters.
+    fn of(letters: Letters, parent: Node, name: &Name) -> ChildKey
+        ensures key { result ≡ child_key parent (uppers_by letters name.now) }
+        ensures short { is_short (uppers_by letters name.now) ≡ true }
     {
         ChildKey {
-            name: NameKey::of(name),
+            name: NameKey::of_by(letters, name),
             parent: parent.0,
         }
     }
@@ -45,7 +45,7 @@ impl ChildKey {
     }
 }
 
-/// A map from parent and name to the number of the entry; the case of `a` to `z` is ignored. The key's hash selects a
+/// A map from parent and name to the number of the entry. Names are kept in upper case. The key's hash selects a
 /// bucket; each bucket is sorted.
 #[derive(Drop)]
 pub struct ChildMap {
@@ -74,11 +74,11 @@ impl ChildMap {
     }
 
     #[tactic(auto, unfolding(crate::specs::ChildMap::number_in))]
-    /// The number of the entry with this parent and this name, ignoring case.
-    pub fn get(&self, parent: Node, name: &Name) -> Option<Node>
-        ensures { result ≡ number_in self.now.buckets.items parent (uppers name.now) }
+    /// The number of the entry with this parent and this name, ignoring the case of these letters.
+    pub fn get(&self, letters: Letters, parent: Node, name: &Name) -> Option<Node>
+        ensures { result ≡ number_in self.now.buckets.items parent (uppers_by letters name.now) }
     {
-        let key = ChildKey::of(parent, name);
+        let key = ChildKey::of(letters, parent, name);
         let bucket = key.bucket();
         if self.buckets.len() <= bucket {
             return None;
@@ -104,15 +104,21 @@ impl ChildMap {
 
     #[tactic(auto, using(crate::proofs::ChildMaps::has_number, crate::proofs::ChildMaps::same_number_in))]
     /// Adds an entry. On `NoMemory` the map is unchanged.
-    pub fn put(&mut self, parent: Node, name: &Name, number: Node) -> Result<(), NoMemory>
+    pub fn put(
+        &mut self,
+        letters: Letters,
+        parent: Node,
+        name: &Name,
+        number: Node,
+    ) -> Result<(), NoMemory>
         ensures more { OnOk result
             (HasNumber self.old.buckets.items self.new.buckets.items parent
-            (uppers name.now) number) }
+            (uppers_by letters name.now) number) }
         ensures same { OnErr result ((p : ℕ) (x : List ℕ)
             → number_in self.new.buckets.items p x ≡ number_in self.old.buckets.items p x) }
     {
         self.make_buckets()?;
-        let key = ChildKey::of(parent, name);
+        let key = ChildKey::of(letters, parent, name);
         match self.buckets[key.bucket()].insert(key, number.0) {
             Ok(_) => Ok(()),
             Err(_) => Err(NoMemory),

@@ -1,15 +1,16 @@
 // Trees under construction.
 
 ghost use Rattle.std.specs.Prelude.{◌≡◌, ◌≤◌, ◌+◌, ◌++◌, ◌∷◌, ℕ, List, [], length, is_ok, if◌then◌else◌, Err, IfOk, IfErr, IfNone, IfSome, OnOk, OnErr};
-ghost use Rattle.adf_tree.specs.Tree.{directory_from, new_entry, room_at, room_for, with_entry, IsAnswer};
+ghost use Rattle.adf_tree.specs.Tree.{directory_from_by, new_entry, room_at_by, room_for, with_entry, IsAnswer};
 ghost use Rattle.adf_tree.specs.Paths.{AddsOne};
-ghost use Rattle.adf_names.specs.Texts.{uppers};
+ghost use Rattle.adf_names.specs.Texts.{uppers_by};
 ghost use Rattle.adf_drafts.specs.ChildMap.{number_in, HasNumber};
 ghost use Rattle.adf_drafts.specs.Draft.{room_in_tree, walk, IsDirectoryOf, IsDraft, IsRoomFor};
 
+use crate::LETTERS;
 use crate::child_map::ChildMap;
 use crate::groups::walked;
-use adf_base::NoMemory;
+use adf_base::{Letters, NoMemory};
 use adf_names::{Kind, Label, Meta, Name, Stamps};
 use adf_tree::{AddFault, Body, Entry, Node, RoomFault, Tree, is_dir};
 use std::alloc::Global;
@@ -27,12 +28,13 @@ pub struct Draft {
 
 impl Model for Draft {
     ghost use Rattle.adf_drafts.specs.Draft.{draft_value, walk, DraftValue, IsDraft};
+    ghost use Rattle.adf_drafts.specs.declared.TheConstants.{LETTERS};
 
     ghost Value = { DraftValue };
 
-    ghost view = { λ d. draft_value d.kind d.label d.stamps (walk d.entries.items) };
+    ghost view = { λ d. draft_value d.kind d.label d.stamps (walk LETTERS d.entries.items) };
 
-    ghost invariant = { λ d. IsDraft d.entries.items d.children.buckets.items };
+    ghost invariant = { λ d. IsDraft LETTERS d.entries.items d.children.buckets.items };
 }
 
 /// The place of a new entry in a draft: its parent, by number of addition, and its name.
@@ -44,15 +46,20 @@ pub struct Room {
 
 #[tactic(auto, using(crate::proofs::DraftLookup::step_none))]
 // The directory that the path leads to, by number of addition.
-fn directory(entries: &[Entry], children: &ChildMap, path: &[Name]) -> Result<Node, RoomFault>
-    requires { IsDraft entries.now children.now.buckets.items }
-    ensures room { directory_from (walk entries.now).entries 0 path.now
-        ≡ room_in_tree (walk entries.now).nodes result }
+fn directory(
+    letters: Letters,
+    entries: &[Entry],
+    children: &ChildMap,
+    path: &[Name],
+) -> Result<Node, RoomFault>
+    requires { IsDraft letters entries.now children.now.buckets.items }
+    ensures room { directory_from_by letters (walk letters entries.now).entries 0 path.now
+        ≡ room_in_tree (walk letters entries.now).nodes result }
     ensures within { IfOk result (λ m. m ≤ length entries.now) }
 {
     let mut node = Node(0);
     for name in path {
-        match children.get(node, name) {
+        match children.get(letters, node, name) {
             None => return Err(RoomFault::NoParent),
             Some(n) => {
                 if !is_dir(entries, n) {
@@ -67,19 +74,20 @@ fn directory(entries: &[Entry], children: &ChildMap, path: &[Name]) -> Result<No
 
 // The directory that the path leads to, if it has no entry of this name.
 fn free_directory(
+    letters: Letters,
     entries: &[Entry],
     children: &ChildMap,
     path: &[Name],
     name: &Name,
 ) -> Result<Node, RoomFault>
-    requires { IsDraft entries.now children.now.buckets.items }
-    ensures room { room_at (walk entries.now).entries name.now
-        (directory_from (walk entries.now).entries 0 path.now)
-        ≡ room_in_tree (walk entries.now).nodes result }
+    requires { IsDraft letters entries.now children.now.buckets.items }
+    ensures room { room_at_by letters (walk letters entries.now).entries name.now
+        (directory_from_by letters (walk letters entries.now).entries 0 path.now)
+        ≡ room_in_tree (walk letters entries.now).nodes result }
     ensures within { IfOk result (λ m. m ≤ length entries.now) }
 {
-    let parent = directory(entries, children, path)?;
-    match children.get(parent, name) {
+    let parent = directory(letters, entries, children, path)?;
+    match children.get(letters, parent, name) {
         None => Ok(parent),
         Some(_) => Err(RoomFault::Exists),
     }
@@ -87,6 +95,7 @@ fn free_directory(
 
 // Adds an entry. On `NoMemory` nothing changes.
 fn add_child(
+    letters: Letters,
     entries: &mut Vec<Entry>,
     children: &mut ChildMap,
     entry: Entry,
@@ -95,7 +104,7 @@ fn add_child(
         ≡ if is_ok result then entries.old.items ++ entry ∷ [] else entries.old.items }
     ensures more { OnOk result
         (HasNumber children.old.buckets.items children.new.buckets.items entry.parent
-        (uppers entry.name) (length entries.old.items + 1)) }
+        (uppers_by letters entry.name) (length entries.old.items + 1)) }
     ensures same { OnErr result ((p : ℕ) (x : List ℕ)
         → number_in children.new.buckets.items p x ≡ number_in children.old.buckets.items p x) }
 {
@@ -105,7 +114,7 @@ fn add_child(
     }
     let number = entries.len();
     let name = &entries[number - 1].name;
-    if children.put(parent, name, Node(number)).is_err() {
+    if children.put(letters, parent, name, Node(number)).is_err() {
         entries.pop();
         return Err(NoMemory);
     }
@@ -144,7 +153,7 @@ impl Draft {
             → IfNone result (room_for self.now.tree.entries (path ++ name.now ∷ [])
             ≡ Err RoomFault.Exists) }
     {
-        match self.children.get(directory, name) {
+        match self.children.get(LETTERS, directory, name) {
             None => Some(Room {
                 parent: directory,
                 name: name.copy(),
@@ -163,7 +172,7 @@ impl Draft {
         }
         let last = path.len() - 1;
         let name = path[last].copy();
-        let parent = free_directory(&self.entries, &self.children, &path[..last], &name)?;
+        let parent = free_directory(LETTERS, &self.entries, &self.children, &path[..last], &name)?;
         Ok(Room { parent, name })
     }
 
@@ -189,6 +198,7 @@ impl Draft {
         let parent = room.parent;
         let name = room.name.copy();
         add_child(
+            LETTERS,
             &mut self.entries,
             &mut self.children,
             Entry {

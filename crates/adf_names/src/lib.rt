@@ -7,6 +7,8 @@ mod meta;
 mod name;
 mod path_texts;
 mod short_text;
+#[cfg(test)]
+mod tests;
 
 pub use crate::escapes::{digit_value, hex_digit, is_plain, spellings_decide};
 pub use crate::kind::Kind;

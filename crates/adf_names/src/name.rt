@@ -77,6 +77,29 @@ impl Name {
         other.matches(self.bytes())
     }
 
+    /// Whether the names are equal, ignoring the case of these letters.
+    pub fn same_by(&self, letters: Letters, other: &Name) -> bool
+        ensures { result ≡ bytes_eq (uppers_by letters self.now) (uppers_by letters other.now) }
+    {
+        match letters {
+            Letters::Ascii => self.same(other),
+            Letters::International => other.matches_by(letters, self.bytes()),
+        }
+    }
+
+    #[tactic(auto, using(crate::proofs::RaisedNames::raised_steps))]
+    /// The name in upper case by these letters.
+    pub fn raised(&self, letters: Letters) -> Name
+        ensures { result ≡ uppers_by letters self.now }
+    {
+        let name = self.bytes();
+        let mut text = ArrayVec::new();
+        for c in name {
+            text.push(upper_by(letters, *c));
+        }
+        Name { text }
+    }
+
     /// Whether the bytes are equal to the name, ignoring the case of `a` to `z`.
     pub fn matches(&self, bytes: &[u8]) -> bool
         ensures { result ≡ bytes_eq (uppers bytes.now) (uppers self.now) }

@@ -1,4 +1,5 @@
 -- Whether a path has room, and what may be added there.
+-- Letters: l the letters whose case is ignored.
 use Rattle.std.proofs.Common.{◌≡◌, ℕ, ◌-◌, ◌<◌, List, [], ◌∷◌, length, get_or, true, false, Bool, Option, Some, None, Result, Ok, Err, arith, ◌==◌}
 use Rattle.std.proofs.Common.{refl, subst, if◌then◌else◌, zero, suc, take, ◌++◌, option_map}
 use Rattle.std.specs.Option.{unwrap_or}
@@ -7,13 +8,15 @@ use Rattle.std.proofs.lemmas.Bool.{cases_Bool, and_from, eq-eqb, eqb-false, ne_e
 use Rattle.std.proofs.lemmas.List.{get_or_default, take_more, take_all}
 use Rattle.std.proofs.lemmas.Slice.Eq.{bytes_eq-Decides}
 use Rattle.std.proofs.lemmas.Grind.{common_steps}
+use Rattle.adf_base.specs.declared.hash.Letters.{Letters, TheVariants.Ascii}
 use Rattle.adf_tree.specs.declared.entry.Entry.{Entry}
 use Rattle.adf_names.specs.declared.meta.Meta.{Meta}
 use Rattle.adf_tree.specs.declared.entry.Body.{Body, TheVariants.Dir, TheVariants.File}
 use Rattle.adf_tree.specs.declared.tree.RoomFault.{RoomFault}
 use Rattle.adf_tree.specs.declared.tree.RoomFault.TheVariants.{EmptyPath, NoParent, ParentIsFile, Exists}
-use Rattle.adf_tree.specs.Tree.{child, is_dir, is_dir_body, directory_from, room_at, free_in, added, IsDir, IsTree, AreApart, MayAdd, Tree}
-use Rattle.adf_tree.specs.Tree.{new_entry, with_entry, last_of, parents_of, room_for}
+use Rattle.adf_tree.specs.Tree.{added, added_by, child, child_by, directory_from, directory_from_by, free_in, is_dir, is_dir_body, last_of}
+use Rattle.adf_tree.specs.Tree.{new_entry, new_entry_by, parents_of, room_at, room_at_by, room_for, room_for_by, with_entry}
+use Rattle.adf_tree.specs.Tree.{AreApartBy, IsDir, IsTreeBy, MayAdd, MayAddBy, Tree}
 use Rattle.adf_tree.proofs.TreeInvariant.{added_tree}
 use Rattle.adf_tree.proofs.ChildLookup.{none_is}
 
@@ -31,37 +34,40 @@ is_dir_says : (es : List Entry) (n : ℕ) → is_dir es n ≡ true → IsDir es 
 is_dir_says es n h some = grind (arith, common_steps, slice_dir, ne_eqb)
 
 -- a path of directories leads to one
-pub next_dir : (es : List Entry) (names : List (List ℕ)) (q : ℕ) (o : Option ℕ)
+pub next_dir_by : (l : Letters) (es : List Entry) (names : List (List ℕ)) (q : ℕ) (o : Option ℕ)
     → (let r : Result ℕ RoomFault =
-    elim o [ None ↦ Err NoParent | Some n ↦ if is_dir es n then directory_from es n names else Err ParentIsFile ] in r ≡ Ok q)
-    → (n : ℕ) × (o ≡ Some n) × (is_dir es n ≡ true) × (directory_from es n names ≡ Ok q)
-next_dir es names q None h = cc
-next_dir es names q (Some n) h = grind (arith, common_steps, cases_Bool)
+    elim o [ None ↦ Err NoParent | Some n ↦ if is_dir es n then directory_from_by l es n names else Err ParentIsFile ] in r ≡ Ok q)
+    → (n : ℕ) × (o ≡ Some n) × (is_dir es n ≡ true) × (directory_from_by l es n names ≡ Ok q)
+next_dir_by l es names q None h = cc
+next_dir_by l es names q (Some n) h = grind (arith, common_steps, cases_Bool)
 
-pub directory_is_dir : (es : List Entry) (p : ℕ) (names : List (List ℕ)) (q : ℕ) → directory_from es p names ≡ Ok q → IsDir es p → IsDir es q
-directory_is_dir es p [] q h dir = let same : q ≡ p = cc in rw same dir
-directory_is_dir es p (name ∷ names) q h dir =
-    let next = next_dir es names q (child es p name) h in
-    directory_is_dir es next.0 names q next.3 (is_dir_says es next.0 next.2)
+pub directory_is_dir_by : (l : Letters) (es : List Entry) (p : ℕ) (names : List (List ℕ)) (q : ℕ) → directory_from_by l es p names ≡ Ok q → IsDir es p
+    → IsDir es q
+directory_is_dir_by l es p [] q h dir = let same : q ≡ p = cc in rw same dir
+directory_is_dir_by l es p (name ∷ names) q h dir =
+    let next = next_dir_by l es names q (child_by l es p name) h in
+    directory_is_dir_by l es next.0 names q next.3 (is_dir_says es next.0 next.2)
 
-pub none_is_fresh : (es : List Entry) (e : Entry) → child es e.parent e.name ≡ None → (k : ℕ) (d : Entry) → k < length es → AreApart (get_or es k d) e
-none_is_fresh es e h k d lt p u = grind (arith, common_steps, both_ways, none_is, and_from, eq-eqb, bytes_eq-Decides)
+pub none_is_fresh : (l : Letters) (es : List Entry) (e : Entry) → child_by l es e.parent e.name ≡ None → (k : ℕ) (d : Entry) → k < length es
+    → AreApartBy l (get_or es k d) e
+none_is_fresh l es e h k d lt p u = grind (arith, common_steps, both_ways, none_is, and_from, eq-eqb, bytes_eq-Decides)
 
 free_says : (p q : ℕ) (o : Option ℕ) → free_in p o ≡ Ok q → (p ≡ q) × (o ≡ None)
 free_says p q None h = (cc, refl)
 free_says p q (Some n) h = cc
 
-pub room_says : (es : List Entry) (e : Entry) (r : Result ℕ RoomFault) → room_at es e.name r ≡ Ok e.parent
-    → (r ≡ Ok e.parent) × (child es e.parent e.name ≡ None)
-room_says es e (Ok p) h = grind (arith, common_steps, free_says)
-room_says es e (Err f) h = cc
+pub room_says_by : (l : Letters) (es : List Entry) (e : Entry) (r : Result ℕ RoomFault) → room_at_by l es e.name r ≡ Ok e.parent
+    → (r ≡ Ok e.parent) × (child_by l es e.parent e.name ≡ None)
+room_says_by l es e (Ok p) h = grind (arith, common_steps, free_says)
+room_says_by l es e (Err f) h = cc
 
-pub room_may_add : (es : List Entry) (e : Entry) (names : List (List ℕ)) → room_at es e.name (directory_from es 0 names) ≡ Ok e.parent → MayAdd es e
-room_may_add es e names h =
-    let both = room_says es e (directory_from es 0 names) h in
+pub room_may_add_by : (l : Letters) (es : List Entry) (e : Entry) (names : List (List ℕ))
+    → room_at_by l es e.name (directory_from_by l es 0 names) ≡ Ok e.parent → MayAddBy l es e
+room_may_add_by l es e names h =
+    let both = room_says_by l es e (directory_from_by l es 0 names) h in
     record {
-      parent = directory_is_dir es 0 names e.parent both.0 (λ some. absurd (omega arith));
-      fresh = none_is_fresh es e both.1;
+      parent = directory_is_dir_by l es 0 names e.parent both.0 (λ some. absurd (omega arith));
+      fresh = none_is_fresh l es e both.1;
     }
 
 pub whole_path : (path : List (List ℕ)) (d : List ℕ) → (length path == 0) ≡ false
@@ -69,34 +75,34 @@ pub whole_path : (path : List (List ℕ)) (d : List ℕ) → (length path == 0) 
 whole_path path d h = grind (arith, common_steps, eqb-false, take_all, take_more)
 
 -- so a tree stays one, whatever `add` answers
-pub room_keeps : (es : List Entry) (e : Entry) (names : List (List ℕ)) (b : Bool) → IsTree es
-    → room_at es e.name (directory_from es 0 names) ≡ Ok e.parent → IsTree (if b then added es e else es)
-room_keeps es e names true t h = added_tree es e t (room_may_add es e names h)
-room_keeps es e names false t h = t
+pub room_keeps : (l : Letters) (es : List Entry) (e : Entry) (names : List (List ℕ)) (b : Bool) → IsTreeBy l es
+    → room_at_by l es e.name (directory_from_by l es 0 names) ≡ Ok e.parent → IsTreeBy l (if b then added_by l es e else es)
+room_keeps l es e names true t h = added_tree es e t (room_may_add_by l es e names h)
+room_keeps l es e names false t h = t
 
 -- an entry is the one that a path with room gets
-pub record IsNew (es : List Entry) (path : List (List ℕ)) (meta : Meta) (body : Body) (e : Entry) : Type 0 where
+pub record IsNewBy (l : Letters) (es : List Entry) (path : List (List ℕ)) (meta : Meta) (body : Body) (e : Entry) : Type 0 where
   pub is : path ≡ parents_of path ++ e.name ∷ []
-  pub room : room_at es e.name (directory_from es 0 (parents_of path)) ≡ Ok e.parent
-  pub entry : e ≡ new_entry es path meta body
+  pub room : room_at_by l es e.name (directory_from_by l es 0 (parents_of path)) ≡ Ok e.parent
+  pub entry : e ≡ new_entry_by l es path meta body
 
 -- the room of a path whose last name is found at its place
-pub room_is : (es : List Entry) (path : List (List ℕ)) (x name : List ℕ) (p : ℕ) → (length path == 0) ≡ false
+pub room_is : (l : Letters) (es : List Entry) (path : List (List ℕ)) (x name : List ℕ) (p : ℕ) → (length path == 0) ≡ false
     → x ≡ get_or path (length path - 1) x → name ≡ x
-    → (let r : Result ℕ RoomFault = Ok p in r ≡ room_at es name (directory_from es 0 (parents_of path)))
-    → (name ≡ last_of path) × (room_for es path ≡ Ok p)
-room_is es path x name p some at same ok = grind (arith, common_steps, eqb-false, get_or_default)
+    → (let r : Result ℕ RoomFault = Ok p in r ≡ room_at_by l es name (directory_from_by l es 0 (parents_of path)))
+    → (name ≡ last_of path) × (room_for_by l es path ≡ Ok p)
+room_is l es path x name p some at same ok = grind (arith, common_steps, eqb-false, get_or_default)
 
 -- what is put in the room of a path is the path's entry
-pub new_in_room : (es : List Entry) (path : List (List ℕ)) (meta : Meta) (body : Body) (name : List ℕ) (p : ℕ) → name ≡ last_of path
-    → room_for es path ≡ Ok p → IsNew es path meta body (record { parent = p; name = name; meta = meta; body = body })
-new_in_room es path meta body name p last room = grind (arith, common_steps, cases_Bool, whole_path)
+pub new_in_room_by : (l : Letters) (es : List Entry) (path : List (List ℕ)) (meta : Meta) (body : Body) (name : List ℕ) (p : ℕ) → name ≡ last_of path
+    → room_for_by l es path ≡ Ok p → IsNewBy l es path meta body (record { parent = p; name = name; meta = meta; body = body })
+new_in_room_by l es path meta body name p last room = grind (arith, common_steps, cases_Bool, whole_path)
 
-pub is_new : (es : List Entry) (path : List (List ℕ)) (meta : Meta) (body : Body) (x name : List ℕ) (p : ℕ) → (length path == 0) ≡ false
+pub is_new : (l : Letters) (es : List Entry) (path : List (List ℕ)) (meta : Meta) (body : Body) (x name : List ℕ) (p : ℕ) → (length path == 0) ≡ false
     → x ≡ get_or path (length path - 1) x → name ≡ x
-    → (let r : Result ℕ RoomFault = Ok p in r ≡ room_at es name (directory_from es 0 (parents_of path)))
-    → IsNew es path meta body (record { parent = p; name = name; meta = meta; body = body })
-is_new es path meta body x name p some at same ok = grind (arith, common_steps, room_is, new_in_room)
+    → (let r : Result ℕ RoomFault = Ok p in r ≡ room_at_by l es name (directory_from_by l es 0 (parents_of path)))
+    → IsNewBy l es path meta body (record { parent = p; name = name; meta = meta; body = body })
+is_new l es path meta body x name p some at same ok = grind (arith, common_steps, room_is, new_in_room_by)
 
 -- the tree that it leaves
 pub tree_left : (t : Tree) (entries : List Entry) (e : Entry) (b : Bool) (path : List (List ℕ)) (meta : Meta) (body : Body)
@@ -110,25 +116,56 @@ abbrev pub SaysNoRoom : RoomFault → Type 0
 SaysNoRoom EmptyPath = ⊥
 SaysNoRoom _ = Unit {0}
 
-next_says : (es : List Entry) (names : List (List ℕ)) (f : RoomFault) (o : Option ℕ)
-    → ((n : ℕ) → directory_from es n names ≡ Err f → SaysNoRoom f)
+next_says : (l : Letters) (es : List Entry) (names : List (List ℕ)) (f : RoomFault) (o : Option ℕ)
+    → ((n : ℕ) → directory_from_by l es n names ≡ Err f → SaysNoRoom f)
     → (let r : Result ℕ RoomFault =
-    elim o [ None ↦ Err NoParent | Some n ↦ if is_dir es n then directory_from es n names else Err ParentIsFile ] in r ≡ Err f) → SaysNoRoom f
-next_says es names f None more h = let same : NoParent ≡ f = cc in subst SaysNoRoom same tt
-next_says es names f (Some n) more h = grind (arith, common_steps, cases_Bool)
+    elim o [ None ↦ Err NoParent | Some n ↦ if is_dir es n then directory_from_by l es n names else Err ParentIsFile ] in r ≡ Err f) → SaysNoRoom f
+next_says l es names f None more h = let same : NoParent ≡ f = cc in subst SaysNoRoom same tt
+next_says l es names f (Some n) more h = grind (arith, common_steps, cases_Bool)
 
-directory_says : (es : List Entry) (names : List (List ℕ)) (f : RoomFault) (p : ℕ) → directory_from es p names ≡ Err f → SaysNoRoom f
-directory_says es [] f p h = cc
-directory_says es (name ∷ names) f p h = next_says es names f (child es p name) (directory_says es names f) h
+directory_says : (l : Letters) (es : List Entry) (names : List (List ℕ)) (f : RoomFault) (p : ℕ) → directory_from_by l es p names ≡ Err f
+    → SaysNoRoom f
+directory_says l es [] f p h = cc
+directory_says l es (name ∷ names) f p h = next_says l es names f (child_by l es p name) (directory_says l es names f) h
 
 taken_says : (p : ℕ) (o : Option ℕ) (f : RoomFault) → free_in p o ≡ Err f → SaysNoRoom f
 taken_says p None f h = cc
 taken_says p (Some n) f h = let same : Exists ≡ f = cc in subst SaysNoRoom same tt
 
-room_says_why : (es : List Entry) (name : List ℕ) (f : RoomFault) (r : Result ℕ RoomFault) → ((g : RoomFault) → r ≡ Err g → SaysNoRoom g)
-    → room_at es name r ≡ Err f → SaysNoRoom f
-room_says_why es name f (Err g) why h = let same : g ≡ f = cc in subst SaysNoRoom same (why g refl)
-room_says_why es name f (Ok p) why h = grind (arith, common_steps, taken_says)
+room_says_why : (l : Letters) (es : List Entry) (name : List ℕ) (f : RoomFault) (r : Result ℕ RoomFault)
+    → ((g : RoomFault) → r ≡ Err g → SaysNoRoom g)
+    → room_at_by l es name r ≡ Err f → SaysNoRoom f
+room_says_why l es name f (Err g) why h = let same : g ≡ f = cc in subst SaysNoRoom same (why g refl)
+room_says_why l es name f (Ok p) why h = grind (arith, common_steps, taken_says)
+
+pub no_room_by : (l : Letters) (es : List Entry) (path : List (List ℕ)) (f : RoomFault) → 0 < length path → room_for_by l es path ≡ Err f
+    → SaysNoRoom f
+no_room_by l es path f some h = grind (arith, common_steps, room_says_why, directory_says, ne_eqb)
+
+-- by ASCII letters
+
+pub next_dir : (es : List Entry) (names : List (List ℕ)) (q : ℕ) (o : Option ℕ)
+    → (let r : Result ℕ RoomFault =
+    elim o [ None ↦ Err NoParent | Some n ↦ if is_dir es n then directory_from es n names else Err ParentIsFile ] in r ≡ Ok q)
+    → (n : ℕ) × (o ≡ Some n) × (is_dir es n ≡ true) × (directory_from es n names ≡ Ok q)
+next_dir = next_dir_by Ascii
+
+pub directory_is_dir : (es : List Entry) (p : ℕ) (names : List (List ℕ)) (q : ℕ) → directory_from es p names ≡ Ok q → IsDir es p → IsDir es q
+directory_is_dir = directory_is_dir_by Ascii
+
+pub room_says : (es : List Entry) (e : Entry) (r : Result ℕ RoomFault) → room_at es e.name r ≡ Ok e.parent
+    → (r ≡ Ok e.parent) × (child es e.parent e.name ≡ None)
+room_says = room_says_by Ascii
+
+pub room_may_add : (es : List Entry) (e : Entry) (names : List (List ℕ)) → room_at es e.name (directory_from es 0 names) ≡ Ok e.parent → MayAdd es e
+room_may_add = room_may_add_by Ascii
+
+abbrev pub IsNew : List Entry → List (List ℕ) → Meta → Body → Entry → Type 0
+IsNew = IsNewBy Ascii
+
+pub new_in_room : (es : List Entry) (path : List (List ℕ)) (meta : Meta) (body : Body) (name : List ℕ) (p : ℕ) → name ≡ last_of path
+    → room_for es path ≡ Ok p → IsNew es path meta body (record { parent = p; name = name; meta = meta; body = body })
+new_in_room = new_in_room_by Ascii
 
 pub no_room : (es : List Entry) (path : List (List ℕ)) (f : RoomFault) → 0 < length path → room_for es path ≡ Err f → SaysNoRoom f
-no_room es path f some h = grind (arith, common_steps, room_says_why, directory_says, ne_eqb)
+no_room = no_room_by Ascii

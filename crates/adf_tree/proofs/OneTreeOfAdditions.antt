@@ -1,4 +1,5 @@
 -- Additions have at most one tree.
+-- Letters: l the letters whose case is ignored.
 use Rattle.std.proofs.Common.{◌≡◌, ℕ, ◌-◌, ◌≤◌, inl, inr, List, [], ◌∷◌, ◌++◌, length, get_or, map, true, false, Bool, cond, arith, sym, refl}
 use Rattle.std.proofs.Common.{◌∙◌, ap, zero, suc}
 use Rattle.std.specs.List.{filter, All}
@@ -6,13 +7,14 @@ use Rattle.std.specs.List.Sorted.{IsNonDecreasingBy}
 use Rattle.std.proofs.lemmas.Bool.{cases_Bool}
 use Rattle.std.proofs.lemmas.List.{append_assoc, append_cancel_left, map-append, get_or_append_left, get_or_at, length-append, drop_at}
 use Rattle.std.proofs.lemmas.List.Elements.{filter-append, filter_passes, All-filter}
+use Rattle.adf_base.specs.declared.hash.Letters.{Letters}
 use Rattle.adf_tree.specs.declared.entry.Entry.{Entry}
-use Rattle.adf_base.specs.Hash.{slot_of}
-use Rattle.adf_tree.specs.Chain.{chain, in_chain}
-use Rattle.adf_tree.specs.Paths.{entry_content, path_in, path_of, Content}
-use Rattle.adf_tree.specs.Tree.{rank, rank_of, IsTree}
-use Rattle.adf_tree.specs.Additions.{Addition, IsTreeOf}
-use Rattle.adf_tree.proofs.TreeInvariant.{slot_small}
+use Rattle.adf_base.specs.Hash.{slot_by}
+use Rattle.adf_tree.specs.Chain.{chain_by, in_chain_by}
+use Rattle.adf_tree.specs.Paths.{entry_content, path_in_by, path_of_by, Content}
+use Rattle.adf_tree.specs.Tree.{rank_by, rank_of, IsTreeBy}
+use Rattle.adf_tree.specs.Additions.{Addition, IsTreeOfBy}
+use Rattle.adf_tree.proofs.TreeInvariant.{slot_small_by}
 use Rattle.adf_tree.proofs.ChainOrder.{chain_rank}
 use Rattle.adf_tree.proofs.ChainMembers.{in_chain_from}
 use Rattle.adf_tree.proofs.EntryPaths.{path_found}
@@ -21,111 +23,115 @@ use Rattle.std.proofs.lemmas.List.Sorted.{IsNonDecreasingBy-drop}
 use Rattle.std.proofs.lemmas.Grind.{common_steps}
 
 -- a path depends on the entries up to its own
-pub path_in_front : (front rest : List Entry) (d : Entry) (f n : ℕ) → IsTree (front ++ rest) → n ≤ length front
-    → path_in (front ++ rest) f n ≡ path_in front f n
-path_in_front front rest d zero n t le = refl
-path_in_front front rest d (suc f) zero t le = refl
-path_in_front front rest d (suc f) (suc m) t le =
+pub path_in_front : (l : Letters) (front rest : List Entry) (d : Entry) (f n : ℕ) → IsTreeBy l (front ++ rest) → n ≤ length front
+    → path_in_by l (front ++ rest) f n ≡ path_in_by l front f n
+path_in_front l front rest d zero n t le = refl
+path_in_front l front rest d (suc f) zero t le = refl
+path_in_front l front rest d (suc f) (suc m) t le =
     let n : ℕ = suc m in
     let long = length-append front rest in
     let same = get_or_append_left front rest d (n - 1) (omega arith) in
     let early = rw same at (t.parents (n - 1) d (omega arith)) in
-    ap (path_past (front ++ rest) f) (entry_at (front ++ rest) n d (omega arith) (omega arith))
-    ∙ (rw (same, path_in_front front rest d f (get_or front (n - 1) d).parent t (omega arith)) refl
-    ∙ sym (ap (path_past front f) (entry_at front n d (omega arith) le)))
+    ap (path_past l (front ++ rest) f) (entry_at (front ++ rest) n d (omega arith) (omega arith))
+    ∙ (rw (same, path_in_front l front rest d f (get_or front (n - 1) d).parent t (omega arith)) refl
+    ∙ sym (ap (path_past l front f) (entry_at front n d (omega arith) le)))
 
 -- an entry is what it has and where
 rebuilt : (e f : Entry) → e.parent ≡ f.parent → entry_content e ≡ entry_content f → e ≡ f
 rebuilt e f p c = grind (arith, common_steps)
 
 -- what is known of the first entry of a list, where a chain's first one is known
-pub record IsFirst (y : Entry) (p s : ℕ) (c : Content) : Type 0 where
-  pub early : rank y ≤ rank_of p s
-  pub same : in_chain p s y ≡ true → entry_content y ≡ c
+pub record IsFirst (l : Letters) (y : Entry) (p s : ℕ) (c : Content) : Type 0 where
+  pub early : rank_by l y ≤ rank_of p s
+  pub same : in_chain_by l p s y ≡ true → entry_content y ≡ c
 
-early_one : (y : Entry) (p s : ℕ) (l : List Entry) (c : Content) (cs : List Content) → All (λ w. rank y ≤ rank w) l
-    → All (λ w. in_chain p s w ≡ true) l → c ∷ cs ≡ map entry_content l → rank y ≤ rank_of p s
-early_one y p s [] c cs later in_it h = cc
-early_one y p s (w ∷ ws) c cs later in_it h = omega (arith, chain_rank p s w (in_it 0 w (omega arith)), later 0 w (omega arith))
+early_one : (l : Letters) (y : Entry) (p s : ℕ) (xs : List Entry) (c : Content) (cs : List Content) → All (λ w. rank_by l y ≤ rank_by l w) xs
+    → All (λ w. in_chain_by l p s w ≡ true) xs → c ∷ cs ≡ map entry_content xs → rank_by l y ≤ rank_of p s
+early_one l y p s [] c cs later in_it h = cc
+early_one l y p s (w ∷ ws) c cs later in_it h = omega (arith, chain_rank l p s w (in_it 0 w (omega arith)), later 0 w (omega arith))
 
-first_in : (y : Entry) (ys : List Entry) (p s : ℕ) (c : Content) (cs : List Content) → IsNonDecreasingBy rank (y ∷ ys)
-    → c ∷ cs ≡ map entry_content (filter (in_chain p s) (y ∷ ys)) → IsFirst y p s c
-first_in y ys p s c cs up h =
-    let q : Entry → Bool = in_chain p s in
-    elim (cases_Bool (in_chain p s y)) [
+first_in : (l : Letters) (y : Entry) (ys : List Entry) (p s : ℕ) (c : Content) (cs : List Content) → IsNonDecreasingBy (rank_by l) (y ∷ ys)
+    → c ∷ cs ≡ map entry_content (filter (in_chain_by l p s) (y ∷ ys)) → IsFirst l y p s c
+first_in l y ys p s c cs up h =
+    let q : Entry → Bool = in_chain_by l p s in
+    elim (cases_Bool (in_chain_by l p s y)) [
       | inl t ↦
           let g = rw t at h in
-          record { early = omega (arith, chain_rank p s y t); same = λ _. cc }
+          record { early = omega (arith, chain_rank l p s y t); same = λ _. cc }
       | inr f ↦
           let g = rw f at h in
-          let later : All (λ w. rank y ≤ rank w) ys = λ k d lt. up 0 (suc k) d (omega arith) (omega arith) in
+          let later : All (λ w. rank_by l y ≤ rank_by l w) ys = λ k d lt. up 0 (suc k) d (omega arith) (omega arith) in
           record {
-            early = early_one y p s (filter q ys) c cs (All-filter q (λ w. rank y ≤ rank w) ys later) (filter_passes q ys) g;
+            early = early_one l y p s (filter q ys) c cs (All-filter q (λ w. rank_by l y ≤ rank_by l w) ys later) (filter_passes q ys) g;
             same = λ t. let clash : true ≡ false = sym t ∙ f in cc;
           }
     ]
 
-back_sorted : (front back : List Entry) → IsNonDecreasingBy rank (front ++ back) → IsNonDecreasingBy rank back
-back_sorted front back up =
-    rw (drop_at front back (length front) refl) at (IsNonDecreasingBy-drop rank (length front) (front ++ back) up)
+back_sorted : (l : Letters) (front back : List Entry) → IsNonDecreasingBy (rank_by l) (front ++ back) → IsNonDecreasingBy (rank_by l) back
+back_sorted l front back up =
+    rw (drop_at front back (length front) refl) at (IsNonDecreasingBy-drop (rank_by l) (length front) (front ++ back) up)
 
 -- the chain of the next entry has the same contents in both trees
-same_chain : (front r other : List Entry) (e : Entry) (a : List Addition) → IsTreeOf (front ++ e ∷ r) a → IsTreeOf (front ++ other) a
-    → entry_content e ∷ map entry_content (filter (in_chain e.parent (slot_of e.name)) r)
-    ≡ map entry_content (filter (in_chain e.parent (slot_of e.name)) other)
-same_chain front r other e a t u =
+same_chain : (l : Letters) (front r other : List Entry) (e : Entry) (a : List Addition) → IsTreeOfBy l (front ++ e ∷ r) a
+    → IsTreeOfBy l (front ++ other) a
+    → entry_content e ∷ map entry_content (filter (in_chain_by l e.parent (slot_by l e.name)) r)
+    ≡ map entry_content (filter (in_chain_by l e.parent (slot_by l e.name)) other)
+same_chain l front r other e a t u =
     let es : List Entry = front ++ e ∷ r in
     let os : List Entry = front ++ other in
     let p : ℕ = e.parent in
-    let s : ℕ = slot_of e.name in
-    let q : Entry → Bool = in_chain p s in
+    let s : ℕ = slot_by l e.name in
+    let q : Entry → Bool = in_chain_by l p s in
     let long = length-append front (e ∷ r) in
     let long_too = length-append front other in
     let early : e.parent ≤ length front = rw (get_or_at front e r e (length front) refl) at (t.tree.parents (length front) e (omega arith)) in
-    let dir : path_of os p ≡ path_of es p = path_in_front front other e p p u.tree early ∙ sym (path_in_front front (e ∷ r) e p p t.tree early) in
-    let leads_too = rw dir at (path_found os p u.tree (omega arith)) in
-    let both : map entry_content (chain es p s) ≡ map entry_content (chain os p s) =
-    t.chains (path_of es p) p s (path_found es p t.tree (omega arith)) ∙ sym (u.chains (path_of es p) p s leads_too) in
-    let split : (back : List Entry) → map entry_content (chain (front ++ back) p s) ≡ map entry_content (filter q front) ++ map entry_content
+    let dir : path_of_by l os p ≡ path_of_by l es p =
+    path_in_front l front other e p p u.tree early ∙ sym (path_in_front l front (e ∷ r) e p p t.tree early) in
+    let leads_too = rw dir at (path_found l os p u.tree (omega arith)) in
+    let both : map entry_content (chain_by l es p s) ≡ map entry_content (chain_by l os p s) =
+    t.chains (path_of_by l es p) p s (path_found l es p t.tree (omega arith)) ∙ sym (u.chains (path_of_by l es p) p s leads_too) in
+    let split : (back : List Entry) → map entry_content (chain_by l (front ++ back) p s) ≡ map entry_content (filter q front) ++ map entry_content
     (filter q back) =
     λ back. ap (map entry_content) (filter-append q front back) ∙ map-append entry_content (filter q front) (filter q back) in
-    let mine : filter q (e ∷ r) ≡ e ∷ filter q r = ap (λ b. cond b (e ∷ filter q r) (filter q r)) (in_chain_from p s e refl refl) in
+    let mine : filter q (e ∷ r) ≡ e ∷ filter q r = ap (λ b. cond b (e ∷ filter q r) (filter q r)) (in_chain_from l p s e refl refl) in
     ap (map entry_content) (sym mine)
     ∙ append_cancel_left (map entry_content (filter q front)) (map entry_content (filter q (e ∷ r))) (map entry_content (filter q other))
     (sym (split (e ∷ r)) ∙ (both ∙ split other))
 
-next_is : (front r ys : List Entry) (e y : Entry) (a : List Addition) → IsTreeOf (front ++ e ∷ r) a → IsTreeOf (front ++ y ∷ ys) a
-    → IsFirst y e.parent (slot_of e.name) (entry_content e)
-next_is front r ys e y a t u =
-    first_in y ys e.parent (slot_of e.name) (entry_content e) (map entry_content (filter (in_chain e.parent (slot_of e.name)) r))
-    (back_sorted front (y ∷ ys) u.tree.order) (same_chain front r (y ∷ ys) e a t u)
+next_is : (l : Letters) (front r ys : List Entry) (e y : Entry) (a : List Addition) → IsTreeOfBy l (front ++ e ∷ r) a
+    → IsTreeOfBy l (front ++ y ∷ ys) a
+    → IsFirst l y e.parent (slot_by l e.name) (entry_content e)
+next_is l front r ys e y a t u =
+    first_in l y ys e.parent (slot_by l e.name) (entry_content e) (map entry_content (filter (in_chain_by l e.parent (slot_by l e.name)) r))
+    (back_sorted l front (y ∷ ys) u.tree.order) (same_chain l front r (y ∷ ys) e a t u)
 
 -- so the next entries are one
-next_same : (front r ys : List Entry) (e y : Entry) (a : List Addition) → IsTreeOf (front ++ e ∷ r) a → IsTreeOf (front ++ y ∷ ys) a → e ≡ y
-next_same front r ys e y a t u =
-    let one = next_is front r ys e y a t u in
-    let two = next_is front ys r y e a u t in
-    let small = slot_small e.name in
-    let small_too = slot_small y.name in
+next_same : (l : Letters) (front r ys : List Entry) (e y : Entry) (a : List Addition) → IsTreeOfBy l (front ++ e ∷ r) a
+    → IsTreeOfBy l (front ++ y ∷ ys) a → e ≡ y
+next_same l front r ys e y a t u =
+    let one = next_is l front r ys e y a t u in
+    let two = next_is l front ys r y e a u t in
+    let small = slot_small_by l e.name in
+    let small_too = slot_small_by l y.name in
     let p : y.parent ≡ e.parent = omega (arith, one.early, two.early) in
-    let s : slot_of y.name ≡ slot_of e.name = omega (arith, one.early, two.early) in
-    rebuilt e y (sym p) (sym (one.same (in_chain_from e.parent (slot_of e.name) y p s)))
+    let s : slot_by l y.name ≡ slot_by l e.name = omega (arith, one.early, two.early) in
+    rebuilt e y (sym p) (sym (one.same (in_chain_from l e.parent (slot_by l e.name) y p s)))
 
-none_left : (front r : List Entry) (e : Entry) (a : List Addition) → IsTreeOf (front ++ e ∷ r) a → IsTreeOf (front ++ []) a → ⊥
-none_left front r e a t u =
-    let h : entry_content e ∷ map entry_content (filter (in_chain e.parent (slot_of e.name)) r) ≡ [] = same_chain front r [] e a t u in
+none_left : (l : Letters) (front r : List Entry) (e : Entry) (a : List Addition) → IsTreeOfBy l (front ++ e ∷ r) a → IsTreeOfBy l (front ++ []) a → ⊥
+none_left l front r e a t u =
+    let h : entry_content e ∷ map entry_content (filter (in_chain_by l e.parent (slot_by l e.name)) r) ≡ [] = same_chain l front r [] e a t u in
     cc
 
-same_rest : (front r s : List Entry) (a : List Addition) → IsTreeOf (front ++ r) a → IsTreeOf (front ++ s) a → r ≡ s
-same_rest front [] [] a t u = refl
-same_rest front [] (y ∷ ys) a t u = absurd (none_left front ys y a u t)
-same_rest front (e ∷ r) [] a t u = absurd (none_left front r e a t u)
-same_rest front (e ∷ r) (y ∷ ys) a t u =
-    let one : e ≡ y = next_same front r ys e y a t u in
+same_rest : (l : Letters) (front r s : List Entry) (a : List Addition) → IsTreeOfBy l (front ++ r) a → IsTreeOfBy l (front ++ s) a → r ≡ s
+same_rest l front [] [] a t u = refl
+same_rest l front [] (y ∷ ys) a t u = absurd (none_left l front ys y a u t)
+same_rest l front (e ∷ r) [] a t u = absurd (none_left l front r e a t u)
+same_rest l front (e ∷ r) (y ∷ ys) a t u =
+    let one : e ≡ y = next_same l front r ys e y a t u in
     let t_on = rw (← append_assoc front (e ∷ []) r) at t in
     let u_on = rw (← one, ← append_assoc front (e ∷ []) ys) at u in
-    ap (λ xs. e ∷ xs) (same_rest (front ++ e ∷ []) r ys a t_on u_on) ∙ ap (λ x. x ∷ ys) one
+    ap (λ xs. e ∷ xs) (same_rest l (front ++ e ∷ []) r ys a t_on u_on) ∙ ap (λ x. x ∷ ys) one
 
 -- two trees of the same additions are one
-pub one_tree : (es others : List Entry) (a : List Addition) → IsTreeOf es a → IsTreeOf others a → es ≡ others
-one_tree es others a t u = same_rest [] es others a t u
+pub one_tree : {l : Letters} (es others : List Entry) (a : List Addition) → IsTreeOfBy l es a → IsTreeOfBy l others a → es ≡ others
+one_tree {l} es others a t u = same_rest l [] es others a t u

@@ -1,22 +1,29 @@
 -- Where an entry is inserted in walk order, and the result of inserting and renumbering.
+-- Letters: l the letters whose case is ignored.
 use Rattle.std.proofs.Common.{◌≡◌, ℕ, ◌≤◌, List, [], ◌∷◌, length, get_or, true, false, arith, nat_lt, nat_le, sym, ◌+◌, ◌++◌, take, drop, map}
 use Rattle.std.specs.List.Sorted.{IsPartitionPoint}
 use Rattle.std.proofs.lemmas.List.Sums.{position_or_len_is}
 use Rattle.std.proofs.lemmas.Bool.{le-ltb, lt-ltb, leb-true, leb-false}
+use Rattle.adf_base.specs.declared.hash.Letters.{Letters, TheVariants.Ascii}
 use Rattle.adf_tree.specs.declared.entry.Entry.{Entry}
-use Rattle.adf_tree.specs.Tree.{place, rank}
+use Rattle.adf_tree.specs.Tree.{place, place_by, rank, rank_by}
 use Rattle.std.specs.List.{insert}
 use Rattle.std.proofs.lemmas.List.{append_assoc, take_at, drop_at, length-take-le, drop_all, append-nil, take_all, length-append}
 use Rattle.std.proofs.lemmas.Grind.{common_steps}
 
+pub place_is_by : (l : Letters) (es : List Entry) (r i : ℕ) → i ≤ length es
+    → IsPartitionPoint (λ e. nat_le (rank_by l e) r ≡ true) (λ e. nat_le (rank_by l e) r ≡ false) es i
+    → i ≡ place_by l es r
+place_is_by l [] r i le h = omega arith
+place_is_by l (e ∷ es) r i le h =
+    sym
+    (position_or_len_is (λ e. nat_lt r (rank_by l e)) (e ∷ es) i e le
+    (λ k lt. le-ltb r (rank_by l (get_or (e ∷ es) k e)) (leb-true (rank_by l (get_or (e ∷ es) k e)) r (h.0 k e (omega arith) lt)))
+    (λ lt. lt-ltb r (rank_by l (get_or (e ∷ es) i e)) (leb-false (rank_by l (get_or (e ∷ es) i e)) r (h.1 i e (omega arith) lt))))
+
 pub place_is : (es : List Entry) (r i : ℕ) → i ≤ length es → IsPartitionPoint (λ e. nat_le (rank e) r ≡ true) (λ e. nat_le (rank e) r ≡ false) es i
     → i ≡ place es r
-place_is [] r i le h = omega arith
-place_is (e ∷ es) r i le h =
-    sym
-    (position_or_len_is (λ e. nat_lt r (rank e)) (e ∷ es) i e le
-    (λ k lt. le-ltb r (rank (get_or (e ∷ es) k e)) (leb-true (rank (get_or (e ∷ es) k e)) r (h.0 k e (omega arith) lt)))
-    (λ lt. lt-ltb r (rank (get_or (e ∷ es) i e)) (leb-false (rank (get_or (e ∷ es) i e)) r (h.1 i e (omega arith) lt))))
+place_is = place_is_by Ascii
 
 -- the entries past the new one are changed, and the others stay
 pub inserted_mapped : {X : Type 0} (f : X → X) (xs : List X) (i : ℕ) (y : X) → i ≤ length xs

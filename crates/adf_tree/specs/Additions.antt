@@ -3,14 +3,15 @@ use Rattle.std.specs.Prelude.{◌≡◌, ◌≢◌, ℕ, ◌==◌, ◌&&◌, ◌
 use Rattle.std.specs.List.{All, filter}
 use Rattle.std.specs.Cmp.Lexicographic.{pointwise}
 use Rattle.std.specs.Str.{bytes_eq}
-use Rattle.adf_base.specs.Hash.{slot_of}
-use Rattle.adf_names.specs.Texts.{uppers}
+use Rattle.adf_base.specs.Hash.{slot_by}
+use Rattle.adf_base.specs.declared.hash.Letters.{Letters, TheVariants.Ascii}
+use Rattle.adf_names.specs.Texts.{uppers_by}
 use Rattle.adf_tree.specs.declared.entry.Entry.{Entry}
 use Rattle.adf_names.specs.declared.meta.Meta.{Meta}
 use Rattle.adf_tree.specs.declared.entry.Body.{Body}
-use Rattle.adf_tree.specs.Tree.{added, find, last_of, new_entry, parents_of, room_for, IsTree}
-use Rattle.adf_tree.specs.Chain.{chain}
-use Rattle.adf_tree.specs.Paths.{entry_content, content_at, Content}
+use Rattle.adf_tree.specs.Tree.{added_by, find_by, last_of, new_entry_by, parents_of, room_for_by, IsTreeBy}
+use Rattle.adf_tree.specs.Chain.{chain_by}
+use Rattle.adf_tree.specs.Paths.{entry_content, content_at_by, Content}
 
 -- a path to add, and its content
 pub record Addition : Type 0 where
@@ -23,29 +24,51 @@ abbrev pub content_of : Addition → Content
 content_of x = record { name = last_of x.path; meta = x.meta; body = x.body }
 
 -- whether two paths are equal, ignoring case
-abbrev pub same_path : List (List ℕ) → List (List ℕ) → Bool
-same_path a b = pointwise bytes_eq (map uppers a) (map uppers b)
+abbrev pub same_path_by : Letters → List (List ℕ) → List (List ℕ) → Bool
+same_path_by letters a b = pointwise bytes_eq (map (uppers_by letters) a) (map (uppers_by letters) b)
 
 -- whether an addition goes into this directory and slot
-abbrev pub comes_into : List (List ℕ) → ℕ → Addition → Bool
-comes_into dir s x = same_path (parents_of x.path) dir && (slot_of (last_of x.path) == s)
+abbrev pub comes_into_by : Letters → List (List ℕ) → ℕ → Addition → Bool
+comes_into_by letters dir s x = same_path_by letters (parents_of x.path) dir && (slot_by letters (last_of x.path) == s)
 
 -- es is the tree of these additions: it has each of them and nothing else, and its chains keep their order
-pub record IsTreeOf (es : List Entry) (additions : List Addition) : Type 0 where
-  pub tree : IsTree es
-  pub there : All (λ x. content_at es x.path ≡ Some (content_of x)) additions
-  pub others : (q : List (List ℕ)) → All (λ x. map uppers q ≢ map uppers x.path) additions → content_at es q ≡ None
-  pub chains : (dir : List (List ℕ)) (p s : ℕ) → find es dir ≡ Some p → map entry_content (chain es p s) ≡ map content_of (filter (comes_into dir s) additions)
+pub record IsTreeOfBy (letters : Letters) (es : List Entry) (additions : List Addition) : Type 0 where
+  pub tree : IsTreeBy letters es
+  pub there : All (λ x. content_at_by letters es x.path ≡ Some (content_of x)) additions
+  pub others : (q : List (List ℕ)) → All (λ x. map (uppers_by letters) q ≢ map (uppers_by letters) x.path) additions
+      → content_at_by letters es q ≡ None
+  pub chains : (dir : List (List ℕ)) (p s : ℕ) → find_by letters es dir ≡ Some p
+      → map entry_content (chain_by letters es p s) ≡ map content_of (filter (comes_into_by letters dir s) additions)
 
 -- the entries after `add` of one more addition
-abbrev pub with_addition : List Entry → Addition → List Entry
-with_addition es x = added es (new_entry es x.path x.meta x.body)
+abbrev pub with_addition_by : Letters → List Entry → Addition → List Entry
+with_addition_by letters es x = added_by letters es (new_entry_by letters es x.path x.meta x.body)
 
 -- the entries after `add` of each addition in turn
-abbrev pub entries_of_additions : List Addition → List Entry
-entries_of_additions additions = fold with_addition [] additions
+abbrev pub entries_of_additions_by : Letters → List Addition → List Entry
+entries_of_additions_by letters additions = fold (with_addition_by letters) [] additions
 
 -- each addition has room in the tree of those before it
+abbrev pub AllHaveRoomBy : Letters → List Addition → Type 0
+AllHaveRoomBy letters additions = (i : ℕ) (d : Addition) → i < length additions
+    → IsOk (room_for_by letters (entries_of_additions_by letters (take i additions)) (slice_index_or additions i d).path)
+
+-- by ASCII letters
+
+abbrev pub same_path : List (List ℕ) → List (List ℕ) → Bool
+same_path = same_path_by Ascii
+
+abbrev pub comes_into : List (List ℕ) → ℕ → Addition → Bool
+comes_into = comes_into_by Ascii
+
+abbrev pub IsTreeOf : List Entry → List Addition → Type 0
+IsTreeOf = IsTreeOfBy Ascii
+
+abbrev pub with_addition : List Entry → Addition → List Entry
+with_addition = with_addition_by Ascii
+
+abbrev pub entries_of_additions : List Addition → List Entry
+entries_of_additions = entries_of_additions_by Ascii
+
 abbrev pub AllHaveRoom : List Addition → Type 0
-AllHaveRoom additions = (i : ℕ) (d : Addition) → i < length additions
-    → IsOk (room_for (entries_of_additions (take i additions)) (slice_index_or additions i d).path)
+AllHaveRoom = AllHaveRoomBy Ascii

@@ -1,10 +1,11 @@
 -- The set of names in the last chain of a tree.
 use Rattle.std.specs.Prelude.{◌≡◌, ℕ, ◌==◌, ◌&&◌, Bool, List, true}
 use Rattle.std.specs.List.{list_any}
-use Rattle.adf_base.specs.Hash.{slot_of}
-use Rattle.adf_names.specs.Texts.{uppers}
+use Rattle.adf_base.specs.Hash.{slot_by}
+use Rattle.adf_base.specs.declared.hash.Letters.{Letters, TheVariants.Ascii}
+use Rattle.adf_names.specs.Texts.{uppers_by}
 use Rattle.adf_tree.specs.NameSet.{has, HasMore}
-use Rattle.adf_tree.specs.Tree.{is_child}
+use Rattle.adf_tree.specs.Tree.{is_child_by}
 use Rattle.adf_tree.specs.declared.entry.Entry.{Entry}
 use Rattle.adf_tree.specs.declared.last_chain.LastChain.{LastChain}
 
@@ -13,8 +14,9 @@ abbrev pub knows : LastChain → ℕ → ℕ → Bool
 knows c parent slot = c.is_known && (c.parent == parent) && (c.slot == slot)
 
 -- the known names are those of the entries there
-pub record IsOf (c : LastChain) (es : List Entry) : Type 0 where
-  pub names : (name : List ℕ) → c.is_known ≡ true → slot_of name ≡ c.slot → has c.names (uppers name) ≡ list_any (is_child c.parent name) es
+pub record IsOfBy (letters : Letters) (c : LastChain) (es : List Entry) : Type 0 where
+  pub names : (name : List ℕ) → c.is_known ≡ true → slot_by letters name ≡ c.slot
+      → has c.names (uppers_by letters name) ≡ list_any (is_child_by letters c.parent name) es
 
 -- the known names are the old ones and one more
 pub record Puts (old new : LastChain) (bytes : List ℕ) : Type 0 where
@@ -22,3 +24,7 @@ pub record Puts (old new : LastChain) (bytes : List ℕ) : Type 0 where
   pub parent : new.parent ≡ old.parent
   pub slot : new.slot ≡ old.slot
   pub names : new.is_known ≡ true → HasMore old.names new.names bytes
+
+-- by ASCII letters
+abbrev pub IsOf : LastChain → List Entry → Type 0
+IsOf = IsOfBy Ascii

@@ -2,16 +2,16 @@
 
 ghost use Rattle.std.specs.Prelude.{◌≡◌, ◌<◌, ◌≤◌, ℕ, List, length, true, false, is_ok, if◌then◌else◌, IfErr};
 ghost use Rattle.std.specs.List.Sorted.{IsNonDecreasingBy};
-ghost use Rattle.adf_names.specs.Texts.{uppers};
-ghost use Rattle.adf_tree.specs.Tree.{added, place, rank, rank_of, IsTree};
+ghost use Rattle.adf_names.specs.Texts.{uppers_by};
+ghost use Rattle.adf_tree.specs.Tree.{added_by, place_by, rank_by, rank_of, IsTreeBy};
 ghost use Rattle.adf_tree.specs.NameSet.{has};
-ghost use Rattle.adf_tree.specs.LastChain.{knows, IsOf, Puts};
+ghost use Rattle.adf_tree.specs.LastChain.{knows, IsOfBy, Puts};
 
 use crate::entry::{Entry, Node};
 use crate::name_set::NameSet;
 use crate::tree::AddFault;
 use crate::walk_order::{insert_entry, place_of, start_of};
-use adf_base::slot;
+use adf_base::{Letters, slot_by};
 use adf_names::Name;
 use std::alloc::Global;
 
@@ -45,10 +45,10 @@ impl LastChain {
     }
 
     /// Whether the known names include this one, ignoring case.
-    pub fn has(&self, name: &Name) -> bool
-        ensures { result ≡ has self.now.names (uppers name.now) }
+    pub fn has(&self, letters: Letters, name: &Name) -> bool
+        ensures { result ≡ has self.now.names (uppers_by letters name.now) }
     {
-        self.names.has(name)
+        self.names.has_by(letters, name)
     }
 
     /// Forgets the names.
@@ -73,29 +73,31 @@ impl LastChain {
 
     #[tactic(auto, using(crate::proofs::LastNames::at_ok))]
     // Adds a name; if memory is refused, forgets all of them.
-    fn put(&mut self, name: &Name)
-        ensures { Puts self.old self.new (uppers name.now) }
+    fn put(&mut self, letters: Letters, name: &Name)
+        ensures { Puts self.old self.new (uppers_by letters name.now) }
     {
-        if self.names.put(name).is_err() {
+        if self.names.put_by(letters, name).is_err() {
             self.is_known = false;
         }
     }
 
     #[tactic(auto, using(crate::proofs::LastNames::begun, crate::proofs::LastNames::place_past))]
     // Prepares for an entry of this parent and slot: keeps names only if they are those of the last chain.
-    fn prepare(&mut self, entries: &[Entry], parent: Node, slot: u8)
+    fn prepare(&mut self, letters: Letters, entries: &[Entry], parent: Node, slot: u8)
         requires slot { slot < 72 }
-        requires order { IsNonDecreasingBy rank entries.now }
-        requires names { IsOf self.old entries.now }
-        ensures names { IsOf self.new entries.now }
+        requires order { IsNonDecreasingBy (rank_by letters) entries.now }
+        requires names { IsOfBy letters self.old entries.now }
+        ensures names { IsOfBy letters self.new entries.now }
         ensures parent { self.new.is_known ≡ true → self.new.parent ≡ parent }
         ensures slot { self.new.is_known ≡ true → self.new.slot ≡ slot }
         ensures last { self.new.is_known ≡ true
-            → place entries.now (rank_of parent slot) ≡ length entries.now }
+            → place_by letters entries.now (rank_of parent slot) ≡ length entries.now }
     {
-        if start_of(entries, parent, slot) == entries.len() {
+        if start_of(letters, entries, parent, slot) == entries.len() {
             self.start(parent, slot);
-        } else if place_of(entries, parent, slot) < entries.len() || !self.knows(parent, slot) {
+        } else if place_of(letters, entries, parent, slot) < entries.len()
+            || !self.knows(parent, slot)
+        {
             self.forget();
         }
     }
@@ -103,20 +105,22 @@ impl LastChain {
 
 /// Adds an entry after all entries of the same or a lower parent and slot.
 pub fn add_entry(
+    letters: Letters,
     entries: &mut Vec<Entry>,
     chain: &mut LastChain,
     entry: Entry,
 ) -> Result<(), AddFault>
-    requires tree { IsTree entries.old.items }
-    requires names { IsOf chain.old entries.old.items }
+    requires tree { IsTreeBy letters entries.old.items }
+    requires names { IsOfBy letters chain.old entries.old.items }
     ensures entries { entries.new.items
-        ≡ if is_ok result then added entries.old.items entry else entries.old.items }
+        ≡ if is_ok result then added_by letters entries.old.items entry else entries.old.items }
     ensures refused { IfErr result (λ f. f ≡ AddFault.NoMemory) }
-    ensures names { IsOf chain.new entries.new.items }
+    ensures names { IsOfBy letters chain.new entries.new.items }
 {
     let name = entry.name.copy();
-    chain.prepare(entries, entry.parent, slot(entry.name.bytes()));
-    insert_entry(entries, entry)?;
-    chain.put(&name);
+    let slot = slot_by(letters, entry.name.bytes());
+    chain.prepare(letters, entries, entry.parent, slot);
+    insert_entry(letters, entries, entry)?;
+    chain.put(letters, &name);
     Ok(())
 }

@@ -7,13 +7,13 @@ pub fn entries_stand_in_one_chain()
     ensures { EntriesStandInOneChain }
 {}
 
-#[tactic(auto, using(crate::proofs::ChildLookup::same_slot))]
+#[tactic(auto, using(crate::proofs::ChildLookup::same_slot_by))]
 /// Names that are equal ignoring case have the same slot.
 pub fn case_keeps_slots()
     ensures { CaseKeepsSlots }
 {}
 
-#[tactic(auto, using(crate::proofs::PathContents::find_uppers))]
+#[tactic(auto, using(crate::proofs::PathContents::find_uppers_by))]
 /// Paths that are equal ignoring case lead to the same node.
 pub fn case_keeps_paths()
     ensures { CaseKeepsPaths }
@@ -36,7 +36,6 @@ pub fn names_are_found()
     ensures { NamesAreFound }
 {}
 
-#[tactic(auto, using(crate::proofs::TreePrefixes::is_next))]
 /// Adding the entries of a tree in their order gives the same tree.
 pub fn trees_grow_in_order()
     ensures { TreesGrowInOrder }

@@ -3,34 +3,34 @@
 ghost use Rattle.std.specs.Prelude.{◌≡◌};
 ghost use Rattle.std.specs.Option.{is_some, option_copied};
 ghost use Rattle.std.specs.List.Sorted.{IsNonDecreasingBy};
-ghost use Rattle.adf_tree.specs.LastChain.{IsOf};
-ghost use Rattle.adf_tree.specs.Tree.{child, directory_from, entry, find, is_child, is_dir, is_dir_body, rank, room_at};
+ghost use Rattle.adf_tree.specs.LastChain.{IsOfBy};
+ghost use Rattle.adf_tree.specs.Tree.{child_by, directory_from_by, entry, find_by, is_child_by, is_dir, is_dir_body, rank_by, room_at_by};
 
 use crate::entry::{Body, Entry, Node};
 use crate::last_chain::LastChain;
 use crate::tree::RoomFault;
 use crate::walk_order::{place_of, start_of};
-use adf_base::slot;
+use adf_base::{Letters, slot_by};
 use adf_names::Name;
 
 // Whether the entry has this parent and this name, ignoring case.
-fn is_child(e: &Entry, parent: Node, name: &Name) -> bool
-    ensures { result ≡ is_child parent name.now e.now }
+fn is_child(letters: Letters, e: &Entry, parent: Node, name: &Name) -> bool
+    ensures { result ≡ is_child_by letters parent name.now e.now }
 {
-    e.parent.0 == parent.0 && e.name.same(name)
+    e.parent.0 == parent.0 && e.name.same_by(letters, name)
 }
 
-#[tactic(auto, using(crate::proofs::ChildLookup::child_found))]
+#[tactic(auto, using(crate::proofs::ChildLookup::child_found_by))]
 // The number of the entry with this parent and this name.
-fn child(entries: &[Entry], parent: Node, name: &Name) -> Option<Node>
-    requires { IsNonDecreasingBy rank entries.now }
-    ensures { result ≡ child entries.now parent name.now }
+fn child(letters: Letters, entries: &[Entry], parent: Node, name: &Name) -> Option<Node>
+    requires { IsNonDecreasingBy (rank_by letters) entries.now }
+    ensures { result ≡ child_by letters entries.now parent name.now }
 {
-    let slot = slot(name.bytes());
-    let start = start_of(entries, parent, slot);
-    let end = place_of(entries, parent, slot);
+    let slot = slot_by(letters, name.bytes());
+    let start = start_of(letters, entries, parent, slot);
+    let end = place_of(letters, entries, parent, slot);
     for i in start..end {
-        if is_child(&entries[i], parent, name) {
+        if is_child(letters, &entries[i], parent, name) {
             return Some(Node(i + 1));
         }
     }
@@ -71,13 +71,13 @@ pub fn is_dir(entries: &[Entry], n: Node) -> bool
 }
 
 /// The node that the path leads to.
-pub fn find(entries: &[Entry], path: &[Name]) -> Option<Node>
-    requires { IsNonDecreasingBy rank entries.now }
-    ensures { result ≡ find entries.now path.now }
+pub fn find(letters: Letters, entries: &[Entry], path: &[Name]) -> Option<Node>
+    requires { IsNonDecreasingBy (rank_by letters) entries.now }
+    ensures { result ≡ find_by letters entries.now path.now }
 {
     let mut node = Node(0);
     for name in path {
-        match child(entries, node, name) {
+        match child(letters, entries, node, name) {
             None => return None,
             Some(n) => node = n,
         }
@@ -86,13 +86,13 @@ pub fn find(entries: &[Entry], path: &[Name]) -> Option<Node>
 }
 
 // The directory that the path leads to.
-fn directory(entries: &[Entry], path: &[Name]) -> Result<Node, RoomFault>
-    requires { IsNonDecreasingBy rank entries.now }
-    ensures { result ≡ directory_from entries.now 0 path.now }
+fn directory(letters: Letters, entries: &[Entry], path: &[Name]) -> Result<Node, RoomFault>
+    requires { IsNonDecreasingBy (rank_by letters) entries.now }
+    ensures { result ≡ directory_from_by letters entries.now 0 path.now }
 {
     let mut node = Node(0);
     for name in path {
-        match child(entries, node, name) {
+        match child(letters, entries, node, name) {
             None => return Err(RoomFault::NoParent),
             Some(n) => {
                 if !is_dir(entries, n) {
@@ -107,30 +107,38 @@ fn directory(entries: &[Entry], path: &[Name]) -> Result<Node, RoomFault>
 
 #[tactic(auto, using(crate::proofs::LastNames::known_child))]
 // Whether an entry has this parent and this name; the last chain needs no scan.
-fn is_taken(entries: &[Entry], chain: &LastChain, parent: Node, name: &Name) -> bool
-    requires order { IsNonDecreasingBy rank entries.now }
-    requires names { IsOf chain.now entries.now }
-    ensures { result ≡ is_some (child entries.now parent name.now) }
+fn is_taken(
+    letters: Letters,
+    entries: &[Entry],
+    chain: &LastChain,
+    parent: Node,
+    name: &Name,
+) -> bool
+    requires order { IsNonDecreasingBy (rank_by letters) entries.now }
+    requires names { IsOfBy letters chain.now entries.now }
+    ensures { result ≡ is_some (child_by letters entries.now parent name.now) }
 {
-    if chain.knows(parent, slot(name.bytes())) {
-        return chain.has(name);
+    if chain.knows(parent, slot_by(letters, name.bytes())) {
+        return chain.has(letters, name);
     }
-    child(entries, parent, name).is_some()
+    child(letters, entries, parent, name).is_some()
 }
 
 /// The directory that the path leads to, if it has no entry of this name.
 pub fn room_for(
+    letters: Letters,
     entries: &[Entry],
     chain: &LastChain,
     path: &[Name],
     name: &Name,
 ) -> Result<Node, RoomFault>
-    requires order { IsNonDecreasingBy rank entries.now }
-    requires names { IsOf chain.now entries.now }
-    ensures { result ≡ room_at entries.now name.now (directory_from entries.now 0 path.now) }
+    requires order { IsNonDecreasingBy (rank_by letters) entries.now }
+    requires names { IsOfBy letters chain.now entries.now }
+    ensures { result
+        ≡ room_at_by letters entries.now name.now (directory_from_by letters entries.now 0 path.now) }
 {
-    let parent = directory(entries, path)?;
-    if is_taken(entries, chain, parent, name) {
+    let parent = directory(letters, entries, path)?;
+    if is_taken(letters, entries, chain, parent, name) {
         return Err(RoomFault::Exists);
     }
     Ok(parent)

@@ -1,10 +1,10 @@
 // Names as four numbers, so that comparing two names compares a few words.
 
 ghost use Rattle.std.specs.Prelude.{◌≡◌, ◌≤◌, ◌+◌, length, true};
-ghost use Rattle.adf_names.specs.Texts.{uppers};
+ghost use Rattle.adf_names.specs.Texts.{uppers, uppers_by};
 ghost use Rattle.adf_tree.specs.NameKeys.{is_short, key_of_name, padded, spread_of, hashed, name_word};
 
-use adf_base::upper;
+use adf_base::{Letters, upper};
 use adf_names::Name;
 
 /// A name in upper case, its length before its bytes, as four numbers.
@@ -63,6 +63,18 @@ impl NameKey {
             second: name_word(&text, 8),
             third: name_word(&text, 16),
             fourth: name_word(&text, 24),
+        }
+    }
+
+    #[tactic(auto, using(adf_names::proofs::RaisedNames::raised_stays))]
+    /// The key of a name, in upper case by these letters.
+    pub fn of_by(letters: Letters, name: &Name) -> NameKey
+        ensures key { result ≡ key_of_name (uppers_by letters name.now) }
+        ensures short { is_short (uppers_by letters name.now) ≡ true }
+    {
+        match letters {
+            Letters::Ascii => NameKey::of(name),
+            Letters::International => NameKey::of(&name.raised(letters)),
         }
     }
 

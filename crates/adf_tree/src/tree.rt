@@ -11,12 +11,15 @@ use crate::bounds::entry_bounds;
 use crate::entry::{Body, Entry, Node};
 use crate::last_chain::{LastChain, add_entry};
 use crate::lookup::{entry, find, room_for};
-use adf_base::NoMemory;
+use adf_base::{Letters, NoMemory};
 use adf_names::{Kind, Label, Meta, Name, Stamps};
 use std::alloc::Global;
 use std::error::Error;
 use std::fmt;
 use std::marker::Model;
+
+/// The letters whose case is ignored in the names of a tree.
+const LETTERS: Letters = Letters::Ascii;
 
 /// A tree of directories and files.
 #[derive(Drop)]
@@ -220,8 +223,10 @@ impl Tree {
         }
         let last = path.len() - 1;
         let name = path[last].copy();
-        let parent = room_for(&self.entries, &self.last_chain, &path[..last], &name)?;
+        let chain = &self.last_chain;
+        let parent = room_for(LETTERS, &self.entries, chain, &path[..last], &name)?;
         add_entry(
+            LETTERS,
             &mut self.entries,
             &mut self.last_chain,
             Entry {
@@ -252,7 +257,7 @@ impl Tree {
         ensures found { result ≡ find self.now.entries path.now }
         ensures tree { IsTree self.now.entries }
     {
-        find(&self.entries, path)
+        find(LETTERS, &self.entries, path)
     }
 
     /// The entry with this number; `None` for the root.

@@ -2,47 +2,47 @@
 
 ghost use Rattle.std.specs.Prelude.{◌≡◌, ◌≤◌, ◌<◌, length, map, take, drop, nat_lt, nat_le, ℕ, ◌+◌, ◌^◌, slice_index_or, if◌then◌else◌, is_ok, IfErr, ◌++◌, true, false};
 ghost use Rattle.std.specs.List.Sorted.{IsNonDecreasingBy, IsPartitionPoint};
-ghost use Rattle.adf_tree.specs.Tree.{added, place, rank, rank_of, renumbered, IsTree};
+ghost use Rattle.adf_tree.specs.Tree.{added_by, place_by, rank_by, rank_of, renumbered, IsTreeBy};
 
 use crate::entry::{Entry, Node};
 use crate::tree::AddFault;
-use adf_base::slot;
+use adf_base::{Letters, slot_by};
 
 // Whether the entry's parent and slot are at most these.
-fn is_at_most(e: &Entry, parent: Node, slot_wanted: u8) -> bool
-    requires { slot_wanted < 72 }
-    ensures { result ≡ nat_le (rank e.now) (rank_of parent slot_wanted) }
+fn is_at_most(letters: Letters, e: &Entry, parent: Node, slot: u8) -> bool
+    requires { slot < 72 }
+    ensures { result ≡ nat_le (rank_by letters e.now) (rank_of parent slot) }
 {
-    e.parent.0 < parent.0 || e.parent.0 == parent.0 && slot(e.name.bytes()) <= slot_wanted
+    e.parent.0 < parent.0 || e.parent.0 == parent.0 && slot_by(letters, e.name.bytes()) <= slot
 }
 
 // Whether the entry's parent and slot are less than these.
-fn is_less(e: &Entry, parent: Node, slot_wanted: u8) -> bool
-    requires { slot_wanted < 72 }
-    ensures { result ≡ nat_lt (rank e.now) (rank_of parent slot_wanted) }
+fn is_less(letters: Letters, e: &Entry, parent: Node, slot: u8) -> bool
+    requires { slot < 72 }
+    ensures { result ≡ nat_lt (rank_by letters e.now) (rank_of parent slot) }
 {
-    e.parent.0 < parent.0 || e.parent.0 == parent.0 && slot(e.name.bytes()) < slot_wanted
+    e.parent.0 < parent.0 || e.parent.0 == parent.0 && slot_by(letters, e.name.bytes()) < slot
 }
 
 /// The number of entries with a lower parent and slot.
-pub fn start_of(entries: &[Entry], parent: Node, slot: u8) -> usize
+pub fn start_of(letters: Letters, entries: &[Entry], parent: Node, slot: u8) -> usize
     requires slot { slot < 72 }
-    requires order { IsNonDecreasingBy rank entries.now }
+    requires order { IsNonDecreasingBy (rank_by letters) entries.now }
     ensures within { result ≤ length entries.now }
-    ensures parted { IsPartitionPoint (λ e. nat_lt (rank e) (rank_of parent slot) ≡ true) (λ e.
-        nat_lt (rank e) (rank_of parent slot) ≡ false) entries.now result }
+    ensures parted { IsPartitionPoint (λ e. nat_lt (rank_by letters e) (rank_of parent slot) ≡ true) (λ e.
+        nat_lt (rank_by letters e) (rank_of parent slot) ≡ false) entries.now result }
 {
-    entries.partition_point(|e| is_less(e, parent, slot))
+    entries.partition_point(|e| is_less(letters, e, parent, slot))
 }
 
 /// The number of entries with at most this parent and slot.
-pub fn place_of(entries: &[Entry], parent: Node, slot: u8) -> usize
+pub fn place_of(letters: Letters, entries: &[Entry], parent: Node, slot: u8) -> usize
     requires slot { slot < 72 }
-    requires order { IsNonDecreasingBy rank entries.now }
-    ensures exact { result ≡ place entries.now (rank_of parent slot) }
+    requires order { IsNonDecreasingBy (rank_by letters) entries.now }
+    ensures exact { result ≡ place_by letters entries.now (rank_of parent slot) }
     ensures within { result ≤ length entries.now }
 {
-    entries.partition_point(|e| is_at_most(e, parent, slot))
+    entries.partition_point(|e| is_at_most(letters, e, parent, slot))
 }
 
 // Adds 1 to the parent if it is at least `from`.
@@ -80,13 +80,18 @@ fn renumber(entries: &mut [Entry], at: usize)
 
 #[tactic(auto, using(crate::proofs::WalkOrder::inserted_mapped, crate::proofs::WalkOrder::written_whole))]
 /// Adds an entry after all entries of the same or a lower parent and slot.
-pub fn insert_entry(entries: &mut Vec<Entry>, entry: Entry) -> Result<(), AddFault>
-    requires tree { IsTree entries.old.items }
+pub fn insert_entry(
+    letters: Letters,
+    entries: &mut Vec<Entry>,
+    entry: Entry,
+) -> Result<(), AddFault>
+    requires tree { IsTreeBy letters entries.old.items }
     ensures entries { entries.new.items
-        ≡ if is_ok result then added entries.old.items entry else entries.old.items }
+        ≡ if is_ok result then added_by letters entries.old.items entry else entries.old.items }
     ensures refused { IfErr result (λ f. f ≡ AddFault.NoMemory) }
 {
-    let at = place_of(entries, entry.parent, slot(entry.name.bytes()));
+    let slot = slot_by(letters, entry.name.bytes());
+    let at = place_of(letters, entries, entry.parent, slot);
     if entries.insert(at, entry).is_err() {
         return Err(AddFault::NoMemory);
     }

@@ -1,5 +1,6 @@
 use Rattle.std.proofs.Common.{sym, ◌∙◌, ℕ, List, rules}
 use Rattle.std.specs.Result.{is_ok}
+use Rattle.adf_base.specs.declared.hash.Letters.TheVariants.{Ascii}
 use Rattle.adf_tree.specs.declared.entry.Entry.{Entry}
 use Rattle.adf_tree.specs.Tree.{parents_of}
 use Rattle.adf_tree.proofs.PathContents.{added_paths}
@@ -13,7 +14,7 @@ pub invariant_of-self : goal.invariant_of-self
 invariant_of-self c =
     let e : Entry = record { parent = c.in_ok-parent.parent; name = c.copy-name.result; meta = c.args.meta; body = c.args.body } in
     let room = rw c.deref.ensures.value at (sym c.in_ok-parent.ensures) in (
-      rw c.add_entry.ensures.entries (room_keeps c.self.inside.entries.items e (parents_of c.args.path.now)
+      rw c.add_entry.ensures.entries (room_keeps Ascii c.self.inside.entries.items e (parents_of c.args.path.now)
           (is_ok c.add_entry.result) c.self.invariant.0 room),
       c.add_entry.ensures.names,
     )
@@ -23,7 +24,7 @@ returns c =
     let es : List Entry = c.self.inside.entries.items in
     let path : List (List ℕ) = c.args.path.now in
     let room = rw c.deref.ensures.value at c.in_ok-parent.ensures in
-    let fresh = is_new es path c.args.meta c.args.body c.index-path-last.result c.copy-name.result c.in_ok-parent.parent
+    let fresh = is_new Ascii es path c.args.meta c.args.body c.index-path-last.result c.copy-name.result c.in_ok-parent.parent
     (sym c.is_empty.ensures ∙ c.if-is_empty.false) c.index-path-last.is c.copy-name.ensures room in
     rw (← c.self.view_is)
     (record {

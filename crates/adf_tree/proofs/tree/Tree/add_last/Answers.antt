@@ -1,5 +1,6 @@
 use Rattle.std.proofs.Common.{sym, subst}
 use Rattle.std.specs.Result.{is_ok}
+use Rattle.adf_base.specs.declared.hash.Letters.TheVariants.{Ascii}
 use Rattle.adf_tree.specs.Tree.{IsLast, MayAdd, Tree}
 use Rattle.adf_tree.proofs.LastNames.{forgotten}
 use Rattle.adf_tree.proofs.TreePrefixes.{last_keeps}
@@ -7,9 +8,9 @@ use Rattle.adf_tree.proofs.tree.Tree.add_last.Goals as goal
 
 pub invariant_of-self : goal.invariant_of-self
 invariant_of-self c = (
-  last_keeps c.self.inside.entries.items c.push.new.self.items c.args.entry (is_ok c.push.result) c.self.invariant.0
+  last_keeps Ascii c.self.inside.entries.items c.push.new.self.items c.args.entry (is_ok c.push.result) c.self.invariant.0
       (subst (λ (t : Tree). MayAdd t.entries c.args.entry) (sym c.self.view_is) c.requires.may)
       (subst (λ (t : Tree). IsLast t.entries c.args.entry) (sym c.self.view_is) c.requires.last)
       c.push.ensures.items,
-  forgotten c.forget.new.self c.push.new.self.items c.forget.ensures,
+  forgotten Ascii c.forget.new.self c.push.new.self.items c.forget.ensures,
 )
