@@ -9,7 +9,7 @@ use Rattle.adf_fields.proofs.DateTexts.{date_of, date_of_is}
 use Rattle.adf_names.proofs.SomePaths.{path_or_none}
 use Rattle.adf_names.specs.PathTexts.{HasPathOrNone, IsPathText}
 use Rattle.adf_volume.specs.Image.{word_in}
-use Rattle.adf_volume.specs.Walk.{FileAt, Role, node_block}
+use Rattle.adf_volume.specs.Walk.{FileAt, node_block, Walk}
 use Rattle.adf_findings.specs.Files.{file_content, file_in}
 use Rattle.adf_findings.specs.Remains.{gaps_of, left_of}
 use Rattle.adf_findings.specs.Survey.{FindingValue, IsSurvey}
@@ -58,7 +58,7 @@ some_list blocks input = of_typed (subject blocks input) ListsSurvey some_listin
 
 -- the bytes under a path
 
-module _ (s : SubjectValue) (w : List (Role × ℕ)) (fs : List FindingValue) (survey : IsSurvey s.image w fs) where
+module _ (s : SubjectValue) (w : Walk) (fs : List FindingValue) (survey : IsSurvey s.image w fs) where
   dec_whole : (n : ℕ) → Dec (IsWholeFile s w fs n)
   dec_whole n =
       dec_and (dec_and (dec_sound s.image w fs survey fs n) (ℕ_discrete (word_in s.image (node_block w n) SECONDARY_TYPE) ST_FILE))

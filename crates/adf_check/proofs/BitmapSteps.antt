@@ -7,7 +7,7 @@ use Rattle.adf_blocks.specs.declared.cause.Cause.{Cause, TheVariants.LostBlock, 
 use Rattle.adf_blocks.specs.Sizes.{blocks, pages_needed}
 use Rattle.adf_volume.specs.Image.{root_of, word_in, IsFreeAt}
 use Rattle.adf_volume.specs.Demands.{AllHold, FirstFails, boot_demands, root_demands}
-use Rattle.adf_volume.specs.Walk.{Role, Has, IsAbsent, IsFreeIn, bitmap_demands, FirstFault}
+use Rattle.adf_volume.specs.Walk.{Has, IsAbsent, IsFreeIn, bitmap_demands, FirstFault, Walk}
 use Rattle.adf_volume.specs.Walk.Role.{Page}
 use Rattle.adf_volume.specs.Walk.FirstFault.{at_bitmap}
 use Rattle.adf_volume.proofs.Gathered.{one_block}
@@ -32,7 +32,7 @@ clash : {t : Bool} → t ≡ true → t ≡ false → ⊥
 clash a b = let e : true ≡ false = sym a ∙ b in cc
 
 -- the demands of n blocks, and then those of the blocks behind them
-bitmap_split : (image : List ℕ) (w : List (Role × ℕ)) (b n m : ℕ)
+bitmap_split : (image : List ℕ) (w : Walk) (b n m : ℕ)
     → bitmap_demands image w b (n + m) ≡ bitmap_demands image w b n ++ bitmap_demands image w (b + n) m
 bitmap_split image w b zero m = grind (arith, common_steps)
 bitmap_split image w b (suc n) m =

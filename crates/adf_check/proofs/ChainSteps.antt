@@ -16,7 +16,7 @@ use Rattle.adf_blocks.specs.Forms.{first_cause, text_at}
 use Rattle.adf_blocks.specs.HeadBlock.{head_form}
 use Rattle.adf_volume.specs.Demands.{Demand, AllHold, FirstFails, head_demands}
 use Rattle.adf_volume.specs.Image.{kind_of, name_of, word_in}
-use Rattle.adf_volume.specs.Walk.{Role, heads, form_demands}
+use Rattle.adf_volume.specs.Walk.{Role, heads, form_demands, Walk}
 use Rattle.adf_volume.specs.Walk.Role.{Head}
 use Rattle.adf_volume.proofs.Gathered.{node_is}
 use Rattle.adf_volume.proofs.FormDemands.{all_demanded, first_demanded}
@@ -32,7 +32,7 @@ use Rattle.adf_check.specs.Store.{StoreValue}
 use Rattle.adf_check.proofs.ClaimSteps.{IsNextAt, IsStored, form_fault, gathered, name_fault, read_one, read_to}
 
 -- the next header, at position j of slot s of directory p
-abbrev pub next_head : List (Role × ℕ) → ℕ → ℕ → ℕ → Role
+abbrev pub next_head : Walk → ℕ → ℕ → ℕ → Role
 next_head w p s j = Head (suc (heads w)) p s j
 
 -- a chain that ends leaves its slot

@@ -7,7 +7,7 @@ use Rattle.adf_blocks.specs.declared.cause.Cause.{Cause, TheVariants.Taken, TheV
 use Rattle.adf_blocks.specs.Sizes.{blocks}
 use Rattle.adf_volume.specs.Demands.{Demand, demand, AllHold, FirstFails}
 use Rattle.adf_volume.specs.Image.{word_in}
-use Rattle.adf_volume.specs.Walk.{Role, first, heads, Asks, IsDue, Enough, NewName, form_demands, demands, FirstFault}
+use Rattle.adf_volume.specs.Walk.{Role, first, heads, Asks, IsDue, Enough, NewName, form_demands, demands, FirstFault, Walk}
 use Rattle.adf_volume.specs.Walk.Role.{Head}
 use Rattle.adf_volume.specs.Walk.FirstFault.{at_due}
 use Rattle.adf_volume.specs.Walk.IsWalk.{step}
@@ -42,16 +42,16 @@ pub first_fault : (image : List ℕ) (b : ℕ) (c : Cause) → FirstFault image 
 first_fault image b c h = record { first = (λ _. h); memory = (λ e. absurd (fault_of_image image b c h e)) }
 
 -- a reader at one position is at another, where its walk has as much up to there
-pub read_to : {image : List ℕ} {store : StoreValue} {w : List (Role × ℕ)} {n : ℕ} {old new : Position} → HasRead image store w n old
+pub read_to : {image : List ℕ} {store : StoreValue} {w : Walk} {n : ℕ} {old new : Position} → HasRead image store w n old
     → IsUpTo image w [] new → HasRead image store w n new
 read_to read up_to = record { tells = read.tells; started = read.started; is_walk = read.is_walk; up_to = up_to }
 
 -- its walk was gathered
-pub gathered : {image : List ℕ} {store : StoreValue} {w : List (Role × ℕ)} {n : ℕ} {at : Position} → HasRead image store w n at → IsGathered image w
+pub gathered : {image : List ℕ} {store : StoreValue} {w : Walk} {n : ℕ} {at : Position} → HasRead image store w n at → IsGathered image w
 gathered {image = image} read = of_walk image read.is_walk
 
 -- the role comes next, and a word of block a names block b for it
-pub record IsNextAt (image : List ℕ) (store : StoreValue) (w : List (Role × ℕ)) (r : Role) (a b : ℕ) : Type 0 where
+pub record IsNextAt (image : List ℕ) (store : StoreValue) (w : Walk) (r : Role) (a b : ℕ) : Type 0 where
   pub begun : IsBegun image
   pub read : HasRead image store w (first r) (position_of r)
   pub index : ℕ
@@ -71,7 +71,7 @@ pub record IsStored (image : List ℕ) (old new : StoreValue) (r : Role) (b : �
 stored_is : (image : List ℕ) (old new : StoreValue) (r : Role) (b : ℕ) → IsStored image old new r b → stored image old r b ≡ new
 stored_is image old new r b s = grind (arith, common_steps)
 
-module _ {image : List ℕ} {store : StoreValue} {w : List (Role × ℕ)} {r : Role} {a b : ℕ} (st : IsNextAt image store w r a b) where
+module _ {image : List ℕ} {store : StoreValue} {w : Walk} {r : Role} {a b : ℕ} (st : IsNextAt image store w r a b) where
   is_due : IsDue image w r a st.index
   is_due = record {
     asked = st.asked;

@@ -10,7 +10,7 @@ use Rattle.adf_blocks.specs.Sizes.{blocks}
 use Rattle.adf_volume.specs.Demands.{Demand, AllHold, FirstFails, data_demands}
 use Rattle.adf_volume.specs.Image.{held, kind_of, table_word, word_in}
 use Rattle.adf_volume.specs.Lists.{At}
-use Rattle.adf_volume.specs.Walk.{Asks, Enough, FileAt, IsWalk, MemberAt, Role, data_count, ext_count, form_demands, member_block, node_block}
+use Rattle.adf_volume.specs.Walk.{Asks, Enough, FileAt, IsWalk, MemberAt, Role, data_count, ext_count, form_demands, member_block, node_block, Walk}
 use Rattle.adf_volume.specs.Walk.Role.{Data, Ext}
 use Rattle.adf_volume.proofs.Lists.{at_some}
 use Rattle.adf_volume.proofs.Roles.{head_role, member_up, typed_up}
@@ -30,7 +30,7 @@ use Rattle.adf_check.proofs.NodeSteps.{at_or}
 use Rattle.adf_check.proofs.NumberBounds.{many_blocks}
 use Rattle.adf_check.proofs.ClaimSteps.{IsNextAt, IsStored, form_fault, gathered, read_one, read_to, short_fault}
 
-member_inside : (image : List ℕ) (w : List (Role × ℕ)) → IsBegun image → IsWalk image w → (n m c : ℕ) → MemberAt image w n m c → c < blocks image
+member_inside : (image : List ℕ) (w : Walk) → IsBegun image → IsWalk image w → (n m c : ℕ) → MemberAt image w n m c → c < blocks image
 member_inside image w begun v n zero c h = (in_range image v (many_blocks image begun) (head_role h.header) c h.header.has).1
 member_inside image w begun v n (suc m) c h = (in_range image v (many_blocks image begun) (Ext n (suc m)) c h).1
 

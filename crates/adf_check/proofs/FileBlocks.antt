@@ -7,7 +7,7 @@ use Rattle.std.proofs.lemmas.List.{append-nil}
 use Rattle.std.proofs.Math.Seq.{drop-append_seam, take-append_seam}
 use Rattle.std.proofs.lemmas.Grind.{common_steps}
 use Rattle.adf_volume.specs.Image.{root_of}
-use Rattle.adf_volume.specs.Walk.{Role, first, Has, IsWalk}
+use Rattle.adf_volume.specs.Walk.{Role, first, Has, IsWalk, Walk}
 use Rattle.adf_volume.specs.Walk.Role.{Root, Ext, Data}
 use Rattle.adf_volume.specs.Walk.IsWalk.{start, step}
 use Rattle.adf_volume.specs.Made.{picked, is_ext_of, exts_in, is_data_of, datas_in}
@@ -16,7 +16,7 @@ use Rattle.adf_volume.proofs.WalkOrder.{rises}
 use Rattle.adf_check.specs.Store.{ext_file, data_file, file_blocks, is_below, blocks_before}
 
 -- a test that passes whatever another one passes picks no fewer blocks
-picked_fewer : (f g : Role → Bool) (w : List (Role × ℕ)) → ((r : Role) → f r ≡ true → g r ≡ true) → length (picked f w) ≤ length (picked g w)
+picked_fewer : (f g : Role → Bool) (w : Walk) → ((r : Role) → f r ≡ true → g r ≡ true) → length (picked f w) ≤ length (picked g w)
 picked_fewer f g [] h = omega arith
 picked_fewer f g (x ∷ w) h = go (f x.0) (g x.0) (h x.0) (picked_fewer f g w h)
   where
@@ -28,17 +28,17 @@ picked_fewer f g (x ∷ w) h = go (f x.0) (g x.0) (h x.0) (picked_fewer f g w h)
     go false false e ih = ih
 
 -- two tests that agree on the members of a walk pick the same blocks
-picked_same : (f g : Role → Bool) (w : List (Role × ℕ)) → ((r : Role) (b : ℕ) → Has w r b → f r ≡ g r) → picked f w ≡ picked g w
+picked_same : (f g : Role → Bool) (w : Walk) → ((r : Role) (b : ℕ) → Has w r b → f r ≡ g r) → picked f w ≡ picked g w
 picked_same f g [] h = refl
 picked_same f g (x ∷ w) h =
     let same = h x.0 x.1 (inl (refl, refl)) in
     let ih = picked_same f g w (λ r b y. h r b (inr y)) in
     λ i. cond (same i) (ih i ++ x.1 ∷ []) (ih i)
 
-picked_none : (f : Role → Bool) (w : List (Role × ℕ)) → ((r : Role) (b : ℕ) → Has w r b → f r ≡ false) → picked f w ≡ []
+picked_none : (f : Role → Bool) (w : Walk) → ((r : Role) (b : ℕ) → Has w r b → f r ≡ false) → picked f w ≡ []
 picked_none f w h = picked_same f (λ _. false) w h ∙ none w
   where
-    none : (w : List (Role × ℕ)) → picked (λ _. false) w ≡ []
+    none : (w : Walk) → picked (λ _. false) w ≡ []
     none [] = refl
     none (x ∷ w) = none w
 
@@ -72,25 +72,25 @@ module _ (image : List ℕ) (file : Role → Option ℕ) (tells : TellsFile file
   not_below m r h = grind (arith, common_steps, le-ltb)
 
   -- where no role is of a later node, all files are below n
-  pub all_before : (w : List (Role × ℕ)) (n : ℕ) → ((r : Role) (b : ℕ) → Has w r b → first r ≤ n)
+  pub all_before : (w : Walk) (n : ℕ) → ((r : Role) (b : ℕ) → Has w r b → first r ≤ n)
       → length (file_blocks file w) ≡ blocks_before file w n
   all_before w n h = grind (arith, common_steps, picked_same, lt-ltb)
 
   -- no file's node is below the root's
-  none_before : (w : List (Role × ℕ)) → blocks_before file w 0 ≡ 0
+  none_before : (w : Walk) → blocks_before file w 0 ≡ 0
   none_before w = grind (arith, common_steps, picked_none, le-ltb)
 
   -- what `all` picks is what is of files below n, and then what `rest` picks, which is of later nodes
   module _ (n : ℕ) (all rest : Role → Bool) (parts : (r : Role) → all r ≡ (is_below n (file r) || rest r))
       (from : (r : Role) → rest r ≡ true → n < first r) where
-    abbrev low : List (Role × ℕ) → List ℕ
+    abbrev low : Walk → List ℕ
     low w = picked (λ r. is_below n (file r)) w
 
-    one_more : (r : Role) (b : ℕ) (w : List (Role × ℕ)) → picked all w ≡ low w ++ picked rest w → (is_below n (file r) ≡ true → picked rest w ≡ [])
+    one_more : (r : Role) (b : ℕ) (w : Walk) → picked all w ≡ low w ++ picked rest w → (is_below n (file r) ≡ true → picked rest w ≡ [])
         → picked all ((r, b) ∷ w) ≡ low ((r, b) ∷ w) ++ picked rest ((r, b) ∷ w)
     one_more r b w ih none = grind (arith, common_steps, none, not_below, low, append-nil, append_assoc)
 
-    split : {w : List (Role × ℕ)} → IsWalk image w → picked all w ≡ low w ++ picked rest w
+    split : {w : Walk} → IsWalk image w → picked all w ≡ low w ++ picked rest w
     split start = one_more Root (root_of image) [] refl (λ _. refl)
     split (step {w = w} {r = r} {b = b} {a = a} {i = i} v d e c) = one_more r b w (split v) (λ y. picked_none rest w (λ q s has.
         false_from_ne_true (rest q) (λ x.
@@ -99,7 +99,7 @@ module _ (image : List ℕ) (file : Role → Option ℕ) (tells : TellsFile file
         cc)))
 
   -- `of` tells the blocks of file n: they stand in the list of all, behind those of the files below
-  module _ (n : ℕ) (of : Role → Bool) (is_of : (r : Role) → of r ≡ is_file n (file r)) {w : List (Role × ℕ)} (v : IsWalk image w) where
+  module _ (n : ℕ) (of : Role → Bool) (is_of : (r : Role) → of r ≡ is_file n (file r)) {w : Walk} (v : IsWalk image w) where
     at_file : (o : Option ℕ) → is_below (suc n) o ≡ (is_below n o || is_file n o)
     at_file None = refl
     at_file (Some m) = grind (arith, nat_tests)
@@ -155,7 +155,7 @@ is_data : (n : ℕ) (r : Role) → is_data_of n r ≡ is_file n (data_file r)
 is_data n (Data m k) = refl
 is_data n _ = refl
 
-module _ (image : List ℕ) (n : ℕ) {w : List (Role × ℕ)} (v : IsWalk image w) where
+module _ (image : List ℕ) (n : ℕ) {w : Walk} (v : IsWalk image w) where
   pub exts_stored : take (length (exts_in w n)) (drop (blocks_before ext_file w n) (file_blocks ext_file w)) ≡ exts_in w n
   exts_stored = file_stored image ext_file ext_tells n (is_ext_of n) (is_ext n) v
 
@@ -169,8 +169,8 @@ module _ (image : List ℕ) (n : ℕ) {w : List (Role × ℕ)} (v : IsWalk image
   datas_apart = file_apart image data_file data_tells n (is_data_of n) (is_data n) v
 
 -- nothing stands before the blocks of the root
-pub no_exts_before : (image : List ℕ) (w : List (Role × ℕ)) → blocks_before ext_file w 0 ≡ 0
+pub no_exts_before : (image : List ℕ) (w : Walk) → blocks_before ext_file w 0 ≡ 0
 no_exts_before image w = none_before image ext_file ext_tells w
 
-pub no_datas_before : (image : List ℕ) (w : List (Role × ℕ)) → blocks_before data_file w 0 ≡ 0
+pub no_datas_before : (image : List ℕ) (w : Walk) → blocks_before data_file w 0 ≡ 0
 no_datas_before image w = none_before image data_file data_tells w

@@ -15,7 +15,7 @@ use Rattle.adf_volume.specs.Layout.{Layout, exts_of, datas_of, owned}
 use Rattle.adf_volume.specs.LayoutRoles.{LayoutHas, owner_of}
 use Rattle.adf_volume.specs.Lists.{At, In, NoBlockTwice}
 use Rattle.adf_volume.specs.Made.{picked}
-use Rattle.adf_volume.specs.Walk.{Role}
+use Rattle.adf_volume.specs.Walk.{Role, Walk}
 use Rattle.adf_volume.specs.Walk.Role.{Ext, Data}
 use Rattle.adf_volume.proofs.LayoutRoles.{owned_part}
 use Rattle.adf_volume.proofs.Lists.{at_below, at_index_or, at_snoc}
@@ -48,7 +48,7 @@ at_whole xs ys s k b part h =
     subst (At xs (s + k)) here (at_or xs (s + k) 0 within)
 
 -- a block that is picked is in the walk
-picked_in : (f : Role → Bool) (w : List (Role × ℕ)) (i b : ℕ) → At (picked f w) i b → (r : Role) × In w (r, b)
+picked_in : (f : Role → Bool) (w : Walk) (i b : ℕ) → At (picked f w) i b → (r : Role) × In w (r, b)
 picked_in f [] i b h = absurd h
 picked_in f (x ∷ w) i b h = go (f x.0) (picked_in f w) h
   where
@@ -61,7 +61,7 @@ picked_in f (x ∷ w) i b h = go (f x.0) (picked_in f w) h
     go false ih k = let z = ih i b k in (z.0, inr z.1)
 
 -- no block stands at two places
-pub one_place : (f : Role → Bool) (w : List (Role × ℕ)) → NoBlockTwice w → (i j b : ℕ) → At (picked f w) i b → At (picked f w) j b → i ≡ j
+pub one_place : (f : Role → Bool) (w : Walk) → NoBlockTwice w → (i j b : ℕ) → At (picked f w) i b → At (picked f w) j b → i ≡ j
 one_place f [] once i j b h k = absurd h
 one_place f (x ∷ w) once i j b h k = go (f x.0) (one_place f w once.1) h k
   where

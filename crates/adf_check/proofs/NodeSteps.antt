@@ -5,7 +5,7 @@ use Rattle.adf_blocks.specs.declared.layout.TheConstants.{EXTENSION, SECONDARY_T
 use Rattle.adf_blocks.specs.Sizes.{blocks}
 use Rattle.adf_volume.specs.Image.{kind_of, root_of, word_in}
 use Rattle.adf_volume.specs.Lists.{At}
-use Rattle.adf_volume.specs.Walk.{Role, Has, heads, HeadAt, DirAt, FileAt, IsWalk}
+use Rattle.adf_volume.specs.Walk.{Has, heads, HeadAt, DirAt, FileAt, IsWalk, Walk}
 use Rattle.adf_volume.specs.Walk.Role.{Root}
 use Rattle.adf_volume.proofs.Gathered.{root_in}
 use Rattle.adf_volume.proofs.FormDemands.{head_type}
@@ -37,7 +37,7 @@ pub enter_node : (image : List ℕ) (store : StoreValue) (n : ℕ) → IsAtNode 
 enter_node image store n st = grind (arith, common_steps, at_snoc, all_before, ext_tells, data_tells, snoc_length, low_first)
 
 -- the node of a row
-module _ (image : List ℕ) (store : StoreValue) (w : List (Role × ℕ)) (t : StoreMatches image store w) (v : IsWalk image w) where
+module _ (image : List ℕ) (store : StoreValue) (w : Walk) (t : StoreMatches image store w) (v : IsWalk image w) where
   pub node_here : (i : ℕ) (r : KeptHeader) → At store.headers i r → HeadAt w (suc i) r.head
   node_here i r h =
       let u : i < length store.headers = at_below store.headers i r h in

@@ -4,7 +4,7 @@ use Rattle.std.proofs.lemmas.List.Sums.{count_by-le-length}
 use Rattle.std.proofs.lemmas.Grind.{common_steps}
 use Rattle.adf_blocks.specs.declared.layout.TheConstants.{MOST_BLOCKS}
 use Rattle.adf_blocks.specs.Sizes.{blocks, pages_needed}
-use Rattle.adf_volume.specs.Walk.{Role, heads}
+use Rattle.adf_volume.specs.Walk.{heads, Walk}
 use Rattle.adf_volume.proofs.Sizes.{size_high, size_low}
 use Rattle.adf_volume.proofs.Gathered.{dir_number}
 use Rattle.adf_volume.proofs.Walks.{of_walk}
@@ -26,15 +26,15 @@ pages_few image begun = omega (arith, size_high (blocks image) begun.0.1)
 
 module _ {image : List ℕ} {store : StoreValue} (begun : IsBegun image) (used : store.used ≡ claimed_count store.owners) where
   -- a walk has no more members than there are blocks
-  walk_short : {w : List (Role × ℕ)} → StoreMatches image store w → length w ≤ MOST_BLOCKS
+  walk_short : {w : Walk} → StoreMatches image store w → length w ≤ MOST_BLOCKS
   walk_short {w = w} tells = grind (arith, common_steps, count_by-le-length, size_high)
 
   -- the lists of all extension blocks and of all data blocks are short
-  pub lists_short : {w : List (Role × ℕ)} {n : ℕ} {at : Position} → HasRead image store w n at
+  pub lists_short : {w : Walk} {n : ℕ} {at : Position} → HasRead image store w n at
       → (length store.exts < 2 ^ 29) × (length store.datas < 2 ^ 29)
   lists_short {w = w} read = grind (arith, common_steps, walk_short, picked_within)
 
-  heads_short : {w : List (Role × ℕ)} → StoreMatches image store w → heads w + 1 < 2 ^ 29
+  heads_short : {w : Walk} → StoreMatches image store w → heads w + 1 < 2 ^ 29
   heads_short {w = w} tells = omega (arith, walk_short tells, heads_within w)
 
   -- the number of a directory is short

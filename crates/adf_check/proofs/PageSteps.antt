@@ -12,7 +12,7 @@ use Rattle.adf_blocks.specs.Sizes.{blocks, pages_needed}
 use Rattle.adf_blocks.specs.declared.layout.TheConstants.{MAP_EXT_PAGES, ROOT_PAGES}
 use Rattle.adf_volume.specs.Demands.{AllHold, page_demands}
 use Rattle.adf_volume.specs.Image.{word_in}
-use Rattle.adf_volume.specs.Walk.{Role, Has, NamesPage, IsWalk}
+use Rattle.adf_volume.specs.Walk.{Has, NamesPage, IsWalk, Walk}
 use Rattle.adf_volume.specs.Walk.Role.{MapExt, Page}
 use Rattle.adf_volume.proofs.FormDemands.{all_demanded, first_demanded}
 use Rattle.adf_volume.proofs.Lists.{at_snoc, snoc_length}
@@ -39,12 +39,12 @@ pub pages_end : (image : List ℕ) (store : StoreValue) (a : ℕ) → IsBeforePa
 pages_end image store a st = grind (arith, common_steps, read_to, end_pages)
 
 -- pages by the words alone
-map_ext_is : (image : List ℕ) (w : List (Role × ℕ)) (j a : ℕ) → IsWalk image w → Has w (MapExt j) a → block_of_map_ext image j ≡ a
+map_ext_is : (image : List ℕ) (w : Walk) (j a : ℕ) → IsWalk image w → Has w (MapExt j) a → block_of_map_ext image j ≡ a
 map_ext_is image w zero a v h = (kept image v (MapExt 0) a h).1
 map_ext_is image w (suc j) a v h =
     let k = (kept image v (MapExt (suc j)) a h).1 in ap (λ a. word_in image a 127) (map_ext_is image w j k.0 v k.1) ∙ k.2
 
-names_is : (image : List ℕ) (w : List (Role × ℕ)) (k b a i : ℕ) → IsWalk image w → NamesPage image w k a i → word_in image a i ≡ b
+names_is : (image : List ℕ) (w : Walk) (k b a i : ℕ) → IsWalk image w → NamesPage image w k a i → word_in image a i ≡ b
     → block_of_page image k ≡ b
 names_is image w k b a i v (inl x) e = grind (arith, common_steps, cond-true, lt-ltb)
 names_is image w k b a i v (inr x) e =
@@ -54,7 +54,7 @@ names_is image w k b a i v (inr x) e =
     ∙ ap (word_in image (block_of_map_ext image ((k - 25) / 127))) ei ∙ ap (λ j. word_in image (block_of_map_ext image j) i) ej
     ∙ ap (λ a. word_in image a i) (map_ext_is image w x.0 a v x.1) ∙ e
 
-pub page_is : (image : List ℕ) (w : List (Role × ℕ)) (k b : ℕ) → IsWalk image w → Has w (Page k) b → block_of_page image k ≡ b
+pub page_is : (image : List ℕ) (w : Walk) (k b : ℕ) → IsWalk image w → Has w (Page k) b → block_of_page image k ≡ b
 page_is image w k b v h = let x = (kept image v (Page k) b h).1 in names_is image w k b x.0 x.1 v x.2 x.3
 
 -- page i comes next, and a word of block a names it as block b

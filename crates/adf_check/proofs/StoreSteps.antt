@@ -9,7 +9,7 @@ use Rattle.adf_blocks.specs.declared.layout.TheConstants.{SECONDARY_TYPE, ST_DIR
 use Rattle.adf_blocks.specs.Sizes.{blocks}
 use Rattle.adf_volume.specs.Image.{word_in}
 use Rattle.adf_volume.specs.Lists.{At}
-use Rattle.adf_volume.specs.Walk.{Role, first, second, Has, head_count, heads, IsAbsent}
+use Rattle.adf_volume.specs.Walk.{Role, first, second, Has, head_count, heads, IsAbsent, Walk}
 use Rattle.adf_volume.specs.Walk.Role.{Head, Ext, Data}
 use Rattle.adf_volume.proofs.Lists.{at_new, at_old, at_below, snoc_length}
 use Rattle.adf_check.specs.declared.store.KeptHeader.{KeptHeader}
@@ -22,22 +22,22 @@ use Rattle.adf_volume.specs.Made.{picked}
 use Rattle.adf_check.proofs.FileBlocks.{TellsFile, data_tells, ext_tells, not_below}
 
 -- no block of a role is kept as free
-kept_not_free : (w : List (Role × ℕ)) (r : Role) (b : ℕ) (o : KeptOwner) → IsKept w r b o → o ≢ kept.Free
+kept_not_free : (w : Walk) (r : Role) (b : ℕ) (o : KeptOwner) → IsKept w r b o → o ≢ kept.Free
 kept_not_free w (Ext n m) b o k e = let is : o ≡ kept.Ext k.0 = k.2 in cc
 kept_not_free w (Data n m) b o k e = let is : o ≡ kept.Data k.0 = k.2 in cc
 kept_not_free w _ b o k e = cc
 
 -- a place in the list of a walk stays where it is
-at_more : (f : Role → Bool) (w : List (Role × ℕ)) (x : Role × ℕ) (i b : ℕ) → At (picked f w) i b → At (picked f (x ∷ w)) i b
+at_more : (f : Role → Bool) (w : Walk) (x : Role × ℕ) (i b : ℕ) → At (picked f w) i b → At (picked f (x ∷ w)) i b
 at_more f w x i b h = grind (arith, common_steps, at_old)
 
-kept_more : (w : List (Role × ℕ)) (x : Role × ℕ) (r : Role) (b : ℕ) (o : KeptOwner) → IsKept w r b o → IsKept (x ∷ w) r b o
+kept_more : (w : Walk) (x : Role × ℕ) (r : Role) (b : ℕ) (o : KeptOwner) → IsKept w r b o → IsKept (x ∷ w) r b o
 kept_more w x (Ext n m) b o k = (k.0, at_more (λ r. is_some (ext_file r)) w x k.0 b k.1, k.2)
 kept_more w x (Data n m) b o k = (k.0, at_more (λ r. is_some (data_file r)) w x k.0 b k.1, k.2)
 kept_more w x _ b o k = k
 
 -- what is kept of the next block
-kept_next : (store : StoreValue) (w : List (Role × ℕ)) → store.exts ≡ file_blocks ext_file w → store.datas ≡ file_blocks data_file w
+kept_next : (store : StoreValue) (w : Walk) → store.exts ≡ file_blocks ext_file w → store.datas ≡ file_blocks data_file w
     → (r : Role) (b : ℕ) → IsKept ((r, b) ∷ w) r b (next_kept store r)
 kept_next store w exts datas (Ext n m) b = (length store.exts, at_new (file_blocks ext_file w) b (length store.exts) (ap length exts), refl)
 kept_next store w exts datas (Data n m) b = (length store.datas, at_new (file_blocks data_file w) b (length store.datas) (ap length datas), refl)
@@ -46,7 +46,7 @@ kept_next store w exts datas _ b = refl
 row_same : (p b q c : ℕ) → p ≡ q → b ≡ c → ◌≡◌ {A = KeptHeader} (record { parent = p; head = b }) (record { parent = q; head = c })
 row_same p b q c x z = λ i. record { parent = x i; head = z i }
 
-module _ (image : List ℕ) (owners : List KeptOwner) (w : List (Role × ℕ)) (t : Owns image owners w) where
+module _ (image : List ℕ) (owners : List KeptOwner) (w : Walk) (t : Owns image owners w) where
   -- a free block is in no role
   pub free_absent : (b : ℕ) → kept_at owners b ≡ kept.Free → IsAbsent w b
   free_absent b h q k = kept_not_free w q b (kept_at owners b) (t.assigned q b k) h
@@ -85,7 +85,7 @@ module _ (image : List ℕ) (owners : List KeptOwner) (w : List (Role × ℕ)) (
       }
 
 -- the rows, one member of a walk more; a header has the next number
-module _ (headers : List KeptHeader) (w : List (Role × ℕ)) (t : KeepsHeaders headers w) where
+module _ (headers : List KeptHeader) (w : Walk) (t : KeepsHeaders headers w) where
   no_header : (r : Role) (b : ℕ) → ((n p s j : ℕ) → second r ≡ second (Head n p s j) → ⊥) → head_count r (heads w) ≡ heads w
       → KeepsHeaders headers ((r, b) ∷ w)
   no_header r b none c = grind (arith, common_steps)
@@ -101,7 +101,7 @@ pub dirs_more : (image : List ℕ) (headers : List KeptHeader) (p b : ℕ) {dirs
 dirs_more image headers p b {dirs = dirs} {one = one} {is_dir = is_dir} before is counts = grind (arith, common_steps, sum_by-append)
 
 -- one member of a walk more
-pub tells_more : (image : List ℕ) (store : StoreValue) (w : List (Role × ℕ)) (r : Role) (b : ℕ)
+pub tells_more : (image : List ℕ) (store : StoreValue) (w : Walk) (r : Role) (b : ℕ)
     → ((n p s j : ℕ) → r ≡ Head n p s j → n ≡ suc (heads w))
     → length store.starts ≤ first r → StoreMatches image store w → 2 ≤ b → b < blocks image → kept_at store.owners b ≡ kept.Free
     → StoreMatches image (stored image store r b) ((r, b) ∷ w)

@@ -4,7 +4,7 @@ use Rattle.adf_volume.specs.Layout.{owned}
 use Rattle.adf_volume.specs.LayoutRoles.{owner_of}
 use Rattle.adf_volume.specs.Lists.{In, NoBlockTwice}
 use Rattle.adf_volume.specs.Made.{layout_in}
-use Rattle.adf_volume.specs.Walk.{Role, Has, head_count, heads, IsWalk, IsWhole}
+use Rattle.adf_volume.specs.Walk.{Role, Has, head_count, heads, IsWalk, IsWhole, Walk}
 use Rattle.adf_volume.specs.Walk.Role.{Head}
 use Rattle.adf_volume.specs.Walk.IsWalk.{start, step}
 use Rattle.adf_volume.proofs.PartDemands.{part_holds}
@@ -29,22 +29,22 @@ no_longer (x ∷ xs) ys once h =
     let ih = no_longer xs r.0 once.1 (λ z b i. let u = h z b (inr i) in (u.0, r.2 (u.0, b) u.1 (λ e. once.0 (z, b) i (sym e)))) in
     omega (arith, r.1)
 
-walk_in : (w : List (Role × ℕ)) (r : Role) (b : ℕ) → Has w r b → In w (r, b)
+walk_in : (w : Walk) (r : Role) (b : ℕ) → Has w r b → In w (r, b)
 walk_in [] r b h = h
 walk_in (x ∷ w) r b (inl e) = inl (λ i. (e.0 i, e.1 i))
 walk_in (x ∷ w) r b (inr h) = inr (walk_in w r b h)
 
-in_walk : (w : List (Role × ℕ)) (r : Role) (b : ℕ) → In w (r, b) → Has w r b
+in_walk : (w : Walk) (r : Role) (b : ℕ) → In w (r, b) → Has w r b
 in_walk [] r b h = h
 in_walk (x ∷ w) r b (inl e) = inl (ap (λ p. p.0) e, ap (λ p. p.1) e)
 in_walk (x ∷ w) r b (inr h) = inr (in_walk w r b h)
 
-pub walked_once : {image : List ℕ} {w : List (Role × ℕ)} → IsWalk image w → NoBlockTwice w
+pub walked_once : {image : List ℕ} {w : Walk} → IsWalk image w → NoBlockTwice w
 walked_once start = (λ y i e. i, tt)
 walked_once {image} (step {w = w} {r = r} {b = b} {a = a} v d e n) =
     let part = part_holds image w r a b n in (λ y i z. part.unowned y.0 (subst (Has w y.0) (sym z) (in_walk w y.0 y.1 i)), walked_once v)
 
-pub walk_length : (image : List ℕ) (w : List (Role × ℕ)) → IsWalk image w → IsWhole image w → length (owned image (layout_in w)) ≡ length w
+pub walk_length : (image : List ℕ) (w : Walk) → IsWalk image w → IsWhole image w → length (owned image (layout_in w)) ≡ length w
 walk_length image w v whole =
     let all = no_longer w (owned image (layout_in w)) (walked_once v) (λ r b i. (owner_of r, is_owned image w v whole r b (in_walk w r b i))) in
     let only = no_longer (owned image (layout_in w)) w (once image w v whole)
@@ -52,7 +52,7 @@ walk_length image w v whole =
     omega arith
 
 -- a walk has no more headers than members
-pub heads_within : (w : List (Role × ℕ)) → heads w ≤ length w
+pub heads_within : (w : Walk) → heads w ≤ length w
 heads_within [] = omega arith
 heads_within (x ∷ w) = omega (arith, heads_within w, one_more x.0 (heads w))
   where

@@ -10,7 +10,7 @@ use Rattle.adf_names.specs.Texts.{uppers}
 use Rattle.adf_volume.specs.Lists.{At}
 use Rattle.adf_volume.specs.Image.{word_in, root_of, name_of}
 use Rattle.adf_volume.specs.Demands.{AllHold}
-use Rattle.adf_volume.specs.Walk.{Role, Has, DirAt, FileAt, MemberAt, NamesPage, ext_count, IsWalk, IsWhole, bitmap_demands}
+use Rattle.adf_volume.specs.Walk.{Has, DirAt, FileAt, MemberAt, NamesPage, ext_count, IsWalk, IsWhole, bitmap_demands, Walk}
 use Rattle.adf_volume.specs.Walk.Role.{Page, Head, Ext, Data}
 use Rattle.adf_volume.specs.Positions.{Position, IsLink, IsPageHolder, IsUpTo, before_node, before_page, position_of, word_of_page}
 use Rattle.adf_volume.specs.Fits.{Fits}
@@ -18,7 +18,7 @@ use Rattle.adf_volume.specs.Made.{tree_in, layout_in}
 use Rattle.adf_check.specs.Store.{StoreValue, StoreMatches}
 
 -- the walk has all parts before the position and none after it; n nodes are begun, and the store matches the walk
-pub record HasRead (image : List ℕ) (store : StoreValue) (w : List (Role × ℕ)) (n : ℕ) (at : Position) : Type 0 where
+pub record HasRead (image : List ℕ) (store : StoreValue) (w : Walk) (n : ℕ) (at : Position) : Type 0 where
   pub tells : StoreMatches image store w
   pub started : length store.starts ≡ n
   pub is_walk : IsWalk image w
@@ -26,7 +26,7 @@ pub record HasRead (image : List ℕ) (store : StoreValue) (w : List (Role × �
 
 -- the check is at a position, with n nodes begun
 pub record IsAt (image : List ℕ) (store : StoreValue) (n : ℕ) (at : Position) : Type 0 where
-  pub walk : List (Role × ℕ)
+  pub walk : Walk
   pub read : HasRead image store walk n at
 
 -- the nodes below n have been read
@@ -39,12 +39,12 @@ IsInNode image store n = IsAt image store (suc n) (before_node n)
 
 -- everything before slot s of directory p, at block up, has been read
 pub record IsAtSlot (image : List ℕ) (store : StoreValue) (p up s : ℕ) : Type 0 where
-  pub walk : List (Role × ℕ)
+  pub walk : Walk
   pub read : HasRead image store walk (suc p) (position_of (Head 0 p s 0))
   pub dir : DirAt image walk p up
 
 -- `seen` holds for the upper-case names of the headers that the walk has in a chain, and for no others
-pub record Sees (image : List ℕ) (w : List (Role × ℕ)) (p s : ℕ) (seen : List ℕ → Type 0) : Type 0 where
+pub record Sees (image : List ℕ) (w : Walk) (p s : ℕ) (seen : List ℕ → Type 0) : Type 0 where
   pub all : (m k c : ℕ) → Has w (Head m p s k) c → seen (uppers (name_of image c))
   pub only : (x : List ℕ) → seen x → (m k c : ℕ) × Has w (Head m p s k) c × (uppers (name_of image c) ≡ x)
 
@@ -54,7 +54,7 @@ sees_of names x = has names x ≡ true
 
 -- in the chain of that slot, the next pointer is a word of block a with the value b
 pub record IsInChain (image : List ℕ) (store : StoreValue) (p up s a b : ℕ) (seen : List ℕ → Type 0) : Type 0 where
-  pub walk : List (Role × ℕ)
+  pub walk : Walk
   pub place : ℕ
   pub read : HasRead image store walk (suc p) (position_of (Head 0 p s place))
   pub dir : DirAt image walk p up
@@ -65,13 +65,13 @@ pub record IsInChain (image : List ℕ) (store : StoreValue) (p up s a b : ℕ) 
 
 -- the pages below k and their bitmap extension blocks have been read; block a points to the last one, or is the root
 pub record IsBeforePage (image : List ℕ) (store : StoreValue) (k a : ℕ) : Type 0 where
-  pub walk : List (Role × ℕ)
+  pub walk : Walk
   pub read : HasRead image store walk 0 (before_page k)
   pub holder : IsPageHolder image walk k a
 
 -- everything before page k has been read, and a word of block a points to it
 pub record IsAtPage (image : List ℕ) (store : StoreValue) (k a : ℕ) : Type 0 where
-  pub walk : List (Role × ℕ)
+  pub walk : Walk
   pub read : HasRead image store walk 0 (position_of (Page k))
   pub named : NamesPage image walk k a (word_of_page k)
 
@@ -92,14 +92,14 @@ pub record IsListed (image : List ℕ) (list : List ℕ) (k : ℕ) : Type 0 wher
   pub pages : (i b : ℕ) → At list i b → block_of_page image i ≡ b
 
 -- the table has the header of file n, at block h, then the extension blocks in the walk
-pub record HasTable (image : List ℕ) (w : List (Role × ℕ)) (n h : ℕ) (table : List ℕ) : Type 0 where
+pub record HasTable (image : List ℕ) (w : Walk) (n h : ℕ) (table : List ℕ) : Type 0 where
   pub file : FileAt image w n h
   pub members : (m c : ℕ) → At table m c → MemberAt image w n m c
   pub counted : length table ≡ suc (ext_count w n)
 
 -- the table has the extension blocks of file n read so far, and the next pointer, a word of block a, is b
 pub record IsInExts (image : List ℕ) (store : StoreValue) (n h : ℕ) (table : List ℕ) (a b : ℕ) : Type 0 where
-  pub walk : List (Role × ℕ)
+  pub walk : Walk
   pub extra : ℕ
   pub read : HasRead image store walk (suc n) (position_of (Ext n (suc extra)))
   pub holds : HasTable image walk n h table
@@ -109,12 +109,12 @@ pub record IsInExts (image : List ℕ) (store : StoreValue) (n h : ℕ) (table :
 
 -- the table has all extension blocks of file n, and k of its data blocks have been read
 pub record IsInDatas (image : List ℕ) (store : StoreValue) (n h : ℕ) (table : List ℕ) (k : ℕ) : Type 0 where
-  pub walk : List (Role × ℕ)
+  pub walk : Walk
   pub read : HasRead image store walk (suc n) (position_of (Data n (suc k)))
   pub holds : HasTable image walk n h table
 
 -- the walk has all that it asks for, and the store matches the walk
-pub record HasReadAll (image : List ℕ) (store : StoreValue) (w : List (Role × ℕ)) : Type 0 where
+pub record HasReadAll (image : List ℕ) (store : StoreValue) (w : Walk) : Type 0 where
   pub tells : StoreMatches image store w
   pub started : length store.starts ≡ suc (length store.headers)
   pub is_walk : IsWalk image w
@@ -122,18 +122,18 @@ pub record HasReadAll (image : List ℕ) (store : StoreValue) (w : List (Role ×
 
 -- everything has been read
 pub record IsRead (image : List ℕ) (store : StoreValue) : Type 0 where
-  pub walk : List (Role × ℕ)
+  pub walk : Walk
   pub read : HasReadAll image store walk
 
 -- everything has been read, and the bitmap agrees with the owners below block b
 pub record IsMapped (image : List ℕ) (store : StoreValue) (b : ℕ) : Type 0 where
-  pub walk : List (Role × ℕ)
+  pub walk : Walk
   pub read : HasReadAll image store walk
   pub low : 2 ≤ b
   pub agrees : AllHold (bitmap_demands image walk 2 (b - 2))
 
 -- the store matches a whole walk whose tree and layout fit
 pub record StoreFits (image : List ℕ) (store : StoreValue) : Type 0 where
-  pub walk : List (Role × ℕ)
+  pub walk : Walk
   pub read : HasReadAll image store walk
   pub fits : Fits image (tree_in image walk) (layout_in walk)

@@ -7,7 +7,7 @@ use Rattle.adf_blocks.specs.declared.layout.TheConstants.{SECONDARY_TYPE, ST_DIR
 use Rattle.adf_blocks.specs.Sizes.{blocks}
 use Rattle.adf_volume.specs.Image.{word_in}
 use Rattle.adf_volume.specs.Lists.{At}
-use Rattle.adf_volume.specs.Walk.{Role, Has, heads}
+use Rattle.adf_volume.specs.Walk.{Role, Has, heads, Walk}
 use Rattle.adf_volume.specs.Walk.Role.{Root, Page, MapExt, Head, Ext, Data}
 use Rattle.adf_volume.specs.Made.{picked}
 use Rattle.adf_check.specs.KeptOwner.{claimed_count, kept_at}
@@ -59,7 +59,7 @@ data_file (Data n k) = Some n
 data_file _ = None
 
 -- the blocks of files in a walk, in order; `ext_file` or `data_file` selects them
-abbrev pub file_blocks : (Role → Option ℕ) → List (Role × ℕ) → List ℕ
+abbrev pub file_blocks : (Role → Option ℕ) → Walk → List ℕ
 file_blocks file w = picked (λ r. is_some (file r)) w
 
 -- the same with one more member of the walk
@@ -72,7 +72,7 @@ is_below m None = false
 is_below m (Some n) = nat_lt n m
 
 -- the number of blocks of files with nodes below m
-abbrev pub blocks_before : (Role → Option ℕ) → List (Role × ℕ) → ℕ → ℕ
+abbrev pub blocks_before : (Role → Option ℕ) → Walk → ℕ → ℕ
 blocks_before file w m = length (picked (λ r. is_below m (file r)) w)
 
 -- the owner that is kept of the next block, which is read in this role
@@ -101,7 +101,7 @@ abbrev pub entered : StoreValue → StoreValue
 entered store = record store { starts = store.starts ++ record { exts = length store.exts; datas = length store.datas } ∷ [] }
 
 -- the kept owner is that of block b in role r: it has the place of an extension block or a data block among those of all files
-abbrev pub IsKept : List (Role × ℕ) → Role → ℕ → KeptOwner → Type 0
+abbrev pub IsKept : Walk → Role → ℕ → KeptOwner → Type 0
 IsKept w Root b o = o ≡ kept.Root
 IsKept w (Page k) b o = o ≡ kept.Page k
 IsKept w (MapExt k) b o = o ≡ kept.MapExt k
@@ -110,19 +110,19 @@ IsKept w (Ext n k) b o = (i : ℕ) × At (file_blocks ext_file w) i b × (o ≡ 
 IsKept w (Data n k) b o = (i : ℕ) × At (file_blocks data_file w) i b × (o ≡ kept.Data i)
 
 -- the table has the owner of each block of the walk, and no others
-pub record Owns (image : List ℕ) (owners : List KeptOwner) (w : List (Role × ℕ)) : Type 0 where
+pub record Owns (image : List ℕ) (owners : List KeptOwner) (w : Walk) : Type 0 where
   pub size : length owners ≡ blocks image
   pub boot : (b : ℕ) → b < 2 → b < blocks image → kept_at owners b ≡ kept.Boot
   pub assigned : (q : Role) (b : ℕ) → Has w q b → IsKept w q b (kept_at owners b)
   pub owned : (b : ℕ) → 2 ≤ b → b < blocks image → kept_at owners b ≢ kept.Free → (q : Role) × Has w q b
 
 -- header i is that of node i + 1
-pub record KeepsHeaders (headers : List KeptHeader) (w : List (Role × ℕ)) : Type 0 where
+pub record KeepsHeaders (headers : List KeptHeader) (w : Walk) : Type 0 where
   pub count : length headers ≡ heads w
   pub header : (i p s j b : ℕ) → Has w (Head (suc i) p s j) b → At headers i (record { parent = p; head = b })
 
 -- the store matches the walk
-pub record StoreMatches (image : List ℕ) (store : StoreValue) (w : List (Role × ℕ)) : Type 0 where
+pub record StoreMatches (image : List ℕ) (store : StoreValue) (w : Walk) : Type 0 where
   pub owns : Owns image store.owners w
   pub headers : KeepsHeaders store.headers w
   pub dirs : store.dirs ≡ count_by (is_dir_at image) store.headers

@@ -1,7 +1,7 @@
 -- Where a survey has no finding, each entry is sound.
 use Rattle.std.proofs.Common.{◌≡◌, ℕ, List, [], ◌∷◌, ◌++◌, inl, refl, sym, ap, subst, ◌∙◌}
 use Rattle.adf_volume.specs.Lists.{In}
-use Rattle.adf_volume.specs.Walk.{Role, Has, HeadAt}
+use Rattle.adf_volume.specs.Walk.{Role, Has, HeadAt, Walk}
 use Rattle.adf_volume.proofs.Gathered.{head_block}
 use Rattle.adf_volume.proofs.Lists.{in_left}
 use Rattle.adf_findings.specs.Found.{owns}
@@ -12,11 +12,11 @@ use Rattle.adf_findings.proofs.OneSurvey.{gathered}
 use Rattle.adf_findings.proofs.SoundEntries.{skipped_reported}
 use Rattle.adf_findings.proofs.SoundMarks.{is_alone}
 
-none_over : (over : List (Role × ℕ)) → ((r : Role) (b : ℕ) → Has over r b → ⊥) → over ≡ []
+none_over : (over : Walk) → ((r : Role) (b : ℕ) → Has over r b → ⊥) → over ≡ []
 none_over [] none = refl
 none_over (x ∷ over) none = absurd (none x.0 x.1 (inl (refl, refl)))
 
-pub all_sound : (image : List ℕ) (w : List (Role × ℕ)) (fs : List FindingValue) (n h : ℕ) → IsSurvey image w fs → fs ≡ [] → IsOfItsKind image w
+pub all_sound : (image : List ℕ) (w : Walk) (fs : List FindingValue) (n h : ℕ) → IsSurvey image w fs → fs ≡ [] → IsOfItsKind image w
     → HeadAt w n h → IsSound image w fs n h
 all_sound image w fs n h (unread f) e own g = absurd g.has
 all_sound image w fs n h (read {s = s} {bits = bits} v d t) e own g =

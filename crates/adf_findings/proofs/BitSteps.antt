@@ -9,7 +9,7 @@ use Rattle.adf_blocks.specs.declared.cause.Cause.{Cause}
 use Rattle.adf_blocks.specs.declared.layout.TheConstants.{PAGE_BITS, PAGE_FIRST, PAGE_WORDS}
 use Rattle.adf_blocks.specs.Sizes.{blocks}
 use Rattle.adf_volume.specs.Image.{IsFreeAt, word_in}
-use Rattle.adf_volume.specs.Walk.{Role, Has, IsAbsent, IsFreeIn}
+use Rattle.adf_volume.specs.Walk.{Role, Has, IsAbsent, IsFreeIn, Walk}
 use Rattle.adf_volume.specs.Walk.Role.{Page}
 use Rattle.adf_volume.proofs.Gathered.{one_block}
 use Rattle.adf_volume.proofs.Roles.{has_role, same_refl}
@@ -28,7 +28,7 @@ use Rattle.adf_findings.proofs.Taking.{stands_reported}
 use Rattle.adf_findings.proofs.OneSurvey.{gathered}
 use Rattle.std.proofs.lemmas.Bool.{cases_Bool, cond-true, cond-false}
 
-pub at_has : (w : List (Role × ℕ)) (k : Key) (b : ℕ) → at_key w k ≡ Some b → (q : Role) × Has w q b × (key_of q ≡ k)
+pub at_has : (w : Walk) (k : Key) (b : ℕ) → at_key w k ≡ Some b → (q : Role) × Has w q b × (key_of q ≡ k)
 at_has [] k b e = cc
 at_has (x ∷ w) k b e = elim (cases_Bool (is_eq (by_key (key_of x.0) k))) [
   | inl t ↦
@@ -37,7 +37,7 @@ at_has (x ∷ w) k b e = elim (cases_Bool (is_eq (by_key (key_of x.0) k))) [
 ]
 
 -- the page with a key is in the walk
-pub has_page : (w : List (Role × ℕ)) (page at : ℕ) → at_key w (key_of (Page page)) ≡ Some at → Has w (Page page) at
+pub has_page : (w : Walk) (page at : ℕ) → at_key w (key_of (Page page)) ≡ Some at → Has w (Page page) at
 has_page w page at e = grind (arith, common_steps, page, at_has, has_role, same_of_key)
 
 module _ (image : List ℕ) (f : Found) (s : Course) (v : IsCourse image s) (fs : List FindingValue)

@@ -4,7 +4,7 @@ use Rattle.std.proofs.Common.{Bool, Option, None, Some, IfSome, IsSome, IsTrue, 
 use Rattle.std.specs.BTreeMap.{BTreeMap, get}
 use Rattle.adf_blocks.specs.declared.layout.TheConstants.{PAGE_BITS}
 use Rattle.adf_volume.specs.Image.{IsFreeAt}
-use Rattle.adf_volume.specs.Walk.{Role, Has, IsFreeIn}
+use Rattle.adf_volume.specs.Walk.{Has, IsFreeIn, Walk}
 use Rattle.adf_volume.specs.Walk.Role.{Page}
 use Rattle.adf_volume.proofs.Gathered.{one_block}
 use Rattle.adf_volume.proofs.Roles.{same_refl}
@@ -19,13 +19,13 @@ use Rattle.adf_findings.proofs.Keys.{lacks_at}
 use Rattle.adf_findings.proofs.OneSurvey.{gathered}
 
 -- the walk of a survey has one block at most for a page
-pub one_page : (image : List ℕ) (w : List (Role × ℕ)) (fs : List FindingValue) → IsSurvey image w fs → (i at b : ℕ) → Has w (Page i) at
+pub one_page : (image : List ℕ) (w : Walk) (fs : List FindingValue) → IsSurvey image w fs → (i at b : ℕ) → Has w (Page i) at
     → Has w (Page i) b → b ≡ at
 one_page image w fs (unread f) i at b h g = absurd h
 one_page image w fs (read v d t) i at b h g = (one_block image (gathered image v) (Page i) (Page i) b at g h (same_refl (Page i))).1
 
 -- the bit of a page that is kept tells of its block
-pub bit_stated : (image : List ℕ) (w : List (Role × ℕ)) (fs : List FindingValue) → IsSurvey image w fs → (taken : BTreeMap Key ℕ)
+pub bit_stated : (image : List ℕ) (w : Walk) (fs : List FindingValue) → IsSurvey image w fs → (taken : BTreeMap Key ℕ)
     → ((i : ℕ) → get by_key taken (key_of (Page i)) ≡ at_key w (key_of (Page i))) → (b : ℕ) → 2 ≤ b → IsValidated image → (t : Option Bool)
     → IsBitOf image taken ((b - 2) / PAGE_BITS) ((b - 2) % PAGE_BITS) t
     → (IsSome t ↔ IsBitStated image w b) × IfSome t (λ t. IsTrue t ↔ IsFreeIn image w b)

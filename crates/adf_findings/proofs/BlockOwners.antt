@@ -5,7 +5,7 @@ use Rattle.std.proofs.Common.{◌≡◌, ℕ, zero, suc, List, [], ◌∷◌, Op
 use Rattle.std.proofs.lemmas.Bool.{cases_Bool}
 use Rattle.std.proofs.lemmas.Bool.Decides.{eqb_tells}
 use Rattle.std.proofs.lemmas.Grind.{common_steps}
-use Rattle.adf_volume.specs.Walk.{Role, Asks, Has}
+use Rattle.adf_volume.specs.Walk.{Role, Asks, Has, Walk}
 use Rattle.adf_volume.specs.Walk.Role.{Head, Ext, Data}
 use Rattle.adf_volume.proofs.Gathered.{IsGathered, asked_file, number_of}
 use Rattle.adf_volume.proofs.Gathered.IsGathered.{start, step}
@@ -24,7 +24,7 @@ from_number (Some (suc n)) h = grind (arith, common_steps, eqb_tells)
 
 module _ (image : List ℕ) where
   -- a part that is asked for is that of an entry with a number from 1
-  asked_number : {w : List (Role × ℕ)} → IsGathered image w → (r : Role) (a i n : ℕ) → Asks image w r a i → entry_in r ≡ Some n → 1 ≤ n
+  asked_number : {w : Walk} → IsGathered image w → (r : Role) (a i n : ℕ) → Asks image w r a i → entry_in r ≡ Some n → 1 ≤ n
   asked_number {w = w} v (Head m p s j) a i n d e = grind (arith, common_steps, asks_number)
   asked_number v (Ext m k) a i n d e =
       let l = number_of image v (asked_file image v m k a i d).1.header in
@@ -36,7 +36,7 @@ module _ (image : List ℕ) where
   asked_number v _ a i n d e = cc
 
   -- an entry that holds a block has a number from 1
-  owner_number : {w : List (Role × ℕ)} → IsGathered image w → (b n : ℕ) → owner w b ≡ Some n → 1 ≤ n
+  owner_number : {w : Walk} → IsGathered image w → (b n : ℕ) → owner w b ≡ Some n → 1 ≤ n
   owner_number (start) b n e = grind (arith, common_steps, start, cases_Bool)
   owner_number (step {w = w} {r = r} a i c v d l) b n e = elim (cases_Bool (c == b)) [
     | inl y ↦ asked_number v r a i n d (ap (λ t. cond t (entry_in r) (owner w b)) (sym y) ∙ e)
@@ -44,19 +44,19 @@ module _ (image : List ℕ) where
   ]
 
   -- the entry kept for a block is the one that holds it
-  pub owner_is : {w : List (Role × ℕ)} → IsGathered image w → (owners : List ℕ) → ((b : ℕ) → slice_index_or owners b 0 ≡ unwrap_or (owner w b) 0)
+  pub owner_is : {w : Walk} → IsGathered image w → (owners : List ℕ) → ((b : ℕ) → slice_index_or owners b 0 ≡ unwrap_or (owner w b) 0)
       → (b : ℕ) → owner_at owners b ≡ owner w b
   owner_is {w = w} v owners h b = ap (λ n. cond (n == 0) None (Some n)) (h b) ∙ from_number (owner w b) (owner_number v b)
 
 -- of each finding that its block is taken the entry is the one that holds the block
-pub owner_nth_is : (w : List (Role × ℕ)) (owners : List ℕ) → ((b : ℕ) → owner_at owners b ≡ owner w b) → (xs : List Finding) (k : ℕ)
+pub owner_nth_is : (w : Walk) (owners : List ℕ) → ((b : ℕ) → owner_at owners b ≡ owner w b) → (xs : List Finding) (k : ℕ)
     → option_and_then (owner_for owners) (slice_get xs k) ≡ option_and_then (owner_of w) (slice_get (map finding_value xs) k)
 owner_nth_is w owners h [] k = refl
 owner_nth_is w owners h (x ∷ xs) zero = ap (λ o. cond (is_taken x.cause) o None) (h x.block)
 owner_nth_is w owners h (x ∷ xs) (suc k) = owner_nth_is w owners h xs k
 
 -- a block that one role has tells its entry and its number
-pub first_with : (w : List (Role × ℕ)) (r : Role) (b : ℕ) → Has w r b → ((q : Role) → Has w q b → q ≡ r)
+pub first_with : (w : Walk) (r : Role) (b : ℕ) → Has w r b → ((q : Role) → Has w q b → q ≡ r)
     → (owner w b ≡ entry_in r) × (number_at w b ≡ data_number r)
 first_with [] r b h one = absurd h
 first_with (x ∷ w) r b h one = elim (eqb_tells x.1 b) [
@@ -79,7 +79,7 @@ of_number (Data n j) k e = (n, ap (Data n) e)
 of_number _ k e = absurd (omega (arith, e))
 
 -- so is what has a block with such a number
-pub held_data : (w : List (Role × ℕ)) (b k : ℕ) → number_at w b ≡ suc k → (n : ℕ) × Has w (Data n (suc k)) b × (owner w b ≡ Some n)
+pub held_data : (w : Walk) (b k : ℕ) → number_at w b ≡ suc k → (n : ℕ) × Has w (Data n (suc k)) b × (owner w b ≡ Some n)
 held_data [] b k e = absurd (omega (arith, e))
 held_data (x ∷ w) b k e = elim (eqb_tells x.1 b) [
   | inl y ↦

@@ -4,7 +4,7 @@ use Rattle.std.specs.Option.{option_and_then, option_flatten}
 use Rattle.std.proofs.Common.{◌≡◌, ℕ, zero, suc, List, [], ◌∷◌, ◌++◌, Option, inl, inr, refl, sym, ap, ◌∙◌, arith}
 use Rattle.std.proofs.lemmas.Grind.{common_steps}
 use Rattle.adf_volume.specs.Lists.{In}
-use Rattle.adf_volume.specs.Walk.{Role, Lacks}
+use Rattle.adf_volume.specs.Walk.{Lacks, Walk}
 use Rattle.adf_volume.specs.Walk.Role.{Head}
 use Rattle.adf_findings.specs.declared.found.Found.{Found}
 use Rattle.adf_findings.specs.declared.concern.Concern.{Concern}
@@ -51,7 +51,7 @@ module _ (image : List ℕ) (f : Found) {s : Course} (v : IsCourse image s) (bit
   concerned_kept k = grind (arith, common_steps, at_places, blamed_is, in_values)
 
 -- findings of no part concern nothing
-pub no_concern_nth : (w : List (Role × ℕ)) (fs : List FindingValue) (k : ℕ) → ((f : FindingValue) → In fs f → f.part ≡ None)
+pub no_concern_nth : (w : Walk) (fs : List FindingValue) (k : ℕ) → ((f : FindingValue) → In fs f → f.part ≡ None)
     → concern_of_nth w fs k ≡ None
 no_concern_nth w [] k h = refl
 no_concern_nth w (f ∷ fs) zero h = ap (option_and_then (concern_with w)) (h f (inl refl))

@@ -8,7 +8,7 @@ use Rattle.std.proofs.lemmas.Grind.{common_steps}
 use Rattle.adf_blocks.specs.declared.layout.TheConstants.{EXTENSION, NEXT_IN_CHAIN, POINTERS, SECONDARY_TYPE, SLOTS, ST_DIR, ST_FILE}
 use Rattle.adf_volume.specs.Image.{kind_of, table_word, word_in}
 use Rattle.adf_volume.specs.Positions.{before_node, position_of}
-use Rattle.adf_volume.specs.Walk.{Role, NodeAt, DirAt, FileAt, MemberAt, Asks, Enough, data_count, ext_count, heads, member_block, next_data, node_block}
+use Rattle.adf_volume.specs.Walk.{NodeAt, DirAt, FileAt, MemberAt, Asks, Enough, data_count, ext_count, heads, member_block, next_data, node_block, Walk}
 use Rattle.adf_volume.specs.Walk.Role.{Head, Ext, Data}
 use Rattle.adf_volume.proofs.Gathered.{IsGathered, ext_below, ext_counted, file_one, head_block, member_is, node_is, node_there}
 use Rattle.adf_volume.proofs.Pointers.{ext_asks, ext_ends, link_asks, link_ends}
@@ -77,7 +77,7 @@ module _ {image : List ℕ} {f : Found} {p slot j a i b : ℕ} (x : HasReachedHe
   pub header_taken : {g : Found} {o : Option ℕ} {c : ℕ} → o ≡ Some c → IsGoneOn image x.course (HeadPart 0 p slot j) a i g o
       → HasReachedHeader image g p slot (j + 1) c NEXT_IN_CHAIN b
   header_taken {g} {o} {c} e gone =
-      let w : List (Role × ℕ) = x.course.walk in
+      let w : Walk = x.course.walk in
       let on = subst (IsGoneOn image x.course (HeadPart 0 p slot j) a i g) e gone in
       rw add-one (record {
         course = _;
@@ -247,7 +247,7 @@ module _ {image : List ℕ} {f : Found} {n b exts k before : ℕ} (x : HasReache
       → HasReachedData image g n b exts (k + 1) a
   data_gone {part} {g} {o} {a} {i} e at gone = go o (subst (λ z. IsGoneOn image x.course z a i g o) e gone)
     where
-      here : (w : List (Role × ℕ)) → MemberAt image w n (k / POINTERS) a → (m : ℕ) → k + 1 ≡ suc m → MemberAt image w n (m / POINTERS) a
+      here : (w : Walk) → MemberAt image w n (k / POINTERS) a → (m : ℕ) → k + 1 ≡ suc m → MemberAt image w n (m / POINTERS) a
       here w h m same = let e : k ≡ m = omega arith in subst (λ k. MemberAt image w n (k / POINTERS) a) e h
 
       go : (o : Option ℕ) → IsGoneOn image x.course (DataPart n (k + 1)) a i g o → HasReachedData image g n b exts (k + 1) a

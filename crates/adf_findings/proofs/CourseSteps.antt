@@ -6,7 +6,7 @@ use Rattle.adf_tree.specs.NameSet.{has}
 use Rattle.adf_blocks.specs.Sizes.{blocks}
 use Rattle.adf_volume.specs.Image.{word_in}
 use Rattle.adf_volume.specs.Positions.{Position, IsNoLater, IsUpTo, behind, position_of}
-use Rattle.adf_volume.specs.Walk.{Role, Same, Asks, Enough, Lacks, first, heads, second}
+use Rattle.adf_volume.specs.Walk.{Role, Same, Asks, Enough, Lacks, first, heads, second, Walk}
 use Rattle.adf_volume.specs.Walk.Role.{Root, Head}
 use Rattle.adf_volume.proofs.Gathered.{IsGathered}
 use Rattle.adf_volume.proofs.PositionSteps.{not_skipped, not_taken, past_skipped, past_taken, same_behind, same_position}
@@ -29,7 +29,7 @@ use Rattle.adf_findings.proofs.OneSurvey.{gathered}
 use Rattle.adf_findings.proofs.Taking.{IsNumbered, stands_taken, unowned_less}
 
 -- a part that comes next has the next number of its kind
-pub numbered : (image : List ℕ) (w : List (Role × ℕ)) → IsGathered image w → (r : Role) (a i : ℕ) → Asks image w r a i → Lacks w r → IsNumbered w r
+pub numbered : (image : List ℕ) (w : Walk) → IsGathered image w → (r : Role) (a i : ℕ) → Asks image w r a i → Lacks w r → IsNumbered w r
 numbered image w v Root a i h l = absurd h
 numbered image w v (Head n p s j) a i h l = asks_number image w n p s j a i h
 numbered image w v _ a i h l = tt
@@ -45,12 +45,12 @@ pub moved : {image : List ℕ} {f : Found} {k l : Position} {s : Course} → Hol
 moved {k = k} h le up_to = grind (arith, common_steps, up_to)
 
 -- what is said of a part is so of it with any number
-renumbered_context : (image : List ℕ) (w : List (Role × ℕ)) (m : ℕ) (r : Role) (x : Context) → IsContext image w r x
+renumbered_context : (image : List ℕ) (w : Walk) (m : ℕ) (r : Role) (x : Context) → IsContext image w r x
     → IsContext image w (renumbered m r) x
 renumbered_context image w m (Head n p s j) x h = h
 renumbered_context image w m _ x h = h
 
-renumbered_enough : (image : List ℕ) (w : List (Role × ℕ)) (m : ℕ) (r : Role) (t : Bool) → Tells t (Enough image w r)
+renumbered_enough : (image : List ℕ) (w : Walk) (m : ℕ) (r : Role) (t : Bool) → Tells t (Enough image w r)
     → Tells t (Enough image w (renumbered m r))
 renumbered_enough image w m (Head n p s j) t h = h
 renumbered_enough image w m _ t h = h

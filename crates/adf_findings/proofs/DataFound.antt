@@ -7,7 +7,7 @@ use Rattle.std.proofs.lemmas.Bool.{eqb-true, eq-eqb}
 use Rattle.std.proofs.lemmas.Bool.Decides.{eqb_tells, nat_tests}
 use Rattle.std.proofs.lemmas.Grind.{common_steps}
 use Rattle.adf_blocks.specs.Sizes.{blocks}
-use Rattle.adf_volume.specs.Walk.{Role, Has, FileAt, node_block}
+use Rattle.adf_volume.specs.Walk.{Has, FileAt, node_block, Walk}
 use Rattle.adf_volume.specs.Walk.Role.{Data}
 use Rattle.adf_volume.proofs.Gathered.{head_block}
 use Rattle.adf_volume.proofs.Roles.{has_role, same_refl}
@@ -28,17 +28,17 @@ use Rattle.adf_findings.proofs.SoundEntries.{one_part}
 use Rattle.adf_findings.proofs.SoundMarks.{data_inside}
 
 -- the data block with a key is in the walk
-pub has_data : (w : List (Role × ℕ)) (n k b : ℕ) → at_key w (key_of (Data n k)) ≡ Some b → Has w (Data n k) b
+pub has_data : (w : Walk) (n k b : ℕ) → at_key w (key_of (Data n k)) ≡ Some b → Has w (Data n k) b
 has_data w n k b e = grind (arith, common_steps, b, at_has, has_role, same_of_key)
 
 -- a file's data block is the one that the table names, and inside of the image
-pub found_named : (image : List ℕ) (w : List (Role × ℕ)) (fs : List FindingValue) → IsSurvey image w fs → (n h : ℕ) → FileAt image w n h → (k b : ℕ)
+pub found_named : (image : List ℕ) (w : Walk) (fs : List FindingValue) → IsSurvey image w fs → (n h : ℕ) → FileAt image w n h → (k b : ℕ)
     → Has w (Data n (suc k)) b → (named_from image h k ≡ b) × (b < blocks image)
 found_named image w fs (unread f) n h file k b has = absurd has
 found_named image w fs (read v d t) n h file k b has = ((data_is image n v h file k b has).0, data_inside image v n (suc k) b has)
 
 -- a block with the entry and the number of a data block is one
-pub held_has : (w : List (Role × ℕ)) (b n k : ℕ) → owner w b ≡ Some n → number_at w b ≡ suc k → Has w (Data n (suc k)) b
+pub held_has : (w : Walk) (b n k : ℕ) → owner w b ≡ Some n → number_at w b ≡ suc k → Has w (Data n (suc k)) b
 held_has w b n k e f =
     let (m, has, own) = held_data w b k f in
     let same : m ≡ n = (let z : Some m ≡ Some n = sym own ∙ e in cc) in subst (λ m. Has w (Data m (suc k)) b) same has
@@ -60,7 +60,7 @@ kept_some (suc m) n e = grind (arith, common_steps, eqb_tells)
 some_kept : (m n : ℕ) → 1 ≤ n → m ≡ n → cond (m == 0) None (Some m) ≡ Some n
 some_kept m n lo e = grind (arith, common_steps, eqb_tells)
 
-module _ {v : SurveyValue} {w : List (Role × ℕ)} {fs : List FindingValue} (t : TellsOf v w fs) (n h : ℕ) (file : FileAt v.image w n h) where
+module _ {v : SurveyValue} {w : Walk} {fs : List FindingValue} (t : TellsOf v w fs) (n h : ℕ) (file : FileAt v.image w n h) where
   -- the block that is named as a data block, if it is taken as that, is the one that is found
   pub named_is : (k : ℕ) → data_named v.image v n h k ≡ data_found w n k
   named_is k = go (data_found w n k) refl
@@ -104,7 +104,7 @@ module _ {v : SurveyValue} {w : List (Role × ℕ)} {fs : List FindingValue} (t 
       )
 
 -- the header of a file that is found
-pub file_at : (image : List ℕ) (w : List (Role × ℕ)) (fs : List FindingValue) → IsSurvey image w fs → (n h : ℕ) → FileAt image w n h
+pub file_at : (image : List ℕ) (w : Walk) (fs : List FindingValue) → IsSurvey image w fs → (n h : ℕ) → FileAt image w n h
     → FileAt image w n (node_block w n)
 file_at image w fs (unread f) n h file = absurd file.header.has
 file_at image w fs (read {s = s} v d t) n h file = subst (FileAt image s.walk n) (sym (head_block image (gathered image v) file.header)) file

@@ -14,7 +14,7 @@ use Rattle.adf_blocks.specs.PageBlock.{page_form}
 use Rattle.adf_base.specs.Words.{block}
 use Rattle.adf_volume.specs.Image.{name_of, kind_of, held, root_of, word_in, IsFreeAt}
 use Rattle.adf_volume.specs.Demands.{Demand, AllHold, FirstFails, demands_at, data_demands}
-use Rattle.adf_volume.specs.Walk.{Role, Has, data_count, ext_count, Enough, IsAbsent, IsFreeIn, bitmap_demands, next_data, node_block}
+use Rattle.adf_volume.specs.Walk.{Role, Has, data_count, ext_count, Enough, IsAbsent, IsFreeIn, bitmap_demands, next_data, node_block, Walk}
 use Rattle.adf_volume.specs.Walk.Role.{Page, Head, Ext, Data}
 use Rattle.adf_findings.specs.Demands.{NewNameIn, demands_in, form_demands_in, head_form_in, uppers_in}
 use Rattle.adf_findings.specs.Survey.{FindingValue, JudgementValue, Judged, IsItself, is_cache, is_kept, Course, IsCompared, IsUnexcused, BitsTell}
@@ -68,7 +68,7 @@ pub decided_form : (b : ℕ) (form : List Clause) → Decided (demands_at b form
 decided_form b [] = tt
 decided_form b (x ∷ xs) = (dec_true x.0, decided_form b xs)
 
-pub dec_absent : (w : List (Role × ℕ)) (b : ℕ) → Dec (IsAbsent w b)
+pub dec_absent : (w : Walk) (b : ℕ) → Dec (IsAbsent w b)
 dec_absent [] b = yes (λ q h. h)
 dec_absent (x ∷ w) b =
     map_dec (λ n q h. elim h [ inl e ↦ n.0 e.1 | inr k ↦ n.1 q k ]) (λ f. ((λ e. f x.0 (inl (refl, e))), (λ q h. f q (inr h))))
@@ -83,7 +83,7 @@ dec_both P Q p (yes q) = yes (λ x. q)
 dec_both P Q (yes p) (no n) = no (λ f. n (f p))
 dec_both P Q (no m) (no n) = yes (λ x. absurd (m x))
 
-module _ (image : List ℕ) (w : List (Role × ℕ)) (v : IsGathered image w) where
+module _ (image : List ℕ) (w : Walk) (v : IsGathered image w) where
   dec_enough : (r : Role) → Dec (Enough image w r)
   dec_enough (Data n k) =
       elim (ℕ_discrete k 1) [
@@ -140,7 +140,7 @@ module _ (image : List ℕ) (w : List (Role × ℕ)) (v : IsGathered image w) wh
       ]
   dec_named p s c name q = inr (λ a b e. cc)
 
-  dec_fresh : (u : List (Role × ℕ)) (p s : ℕ) (name : List ℕ) → Dec ((m k c : ℕ) → Has u (Head m p s k) c → uppers_in image (name_of image c) ≢ name)
+  dec_fresh : (u : Walk) (p s : ℕ) (name : List ℕ) → Dec ((m k c : ℕ) → Has u (Head m p s k) c → uppers_in image (name_of image c) ≢ name)
   dec_fresh [] p s name = yes (λ m k c h. absurd h)
   dec_fresh (x ∷ u) p s name =
       elim (dec_fresh u p s name) [

@@ -1,7 +1,7 @@
 -- The directories of entries, and the paths that lead through them.
 use Rattle.std.proofs.Common.{◌≡◌, ℕ, List, [], ◌∷◌, ◌++◌, ◌<◌, ◌∙◌, arith}
 use Rattle.adf_volume.specs.Image.{name_of}
-use Rattle.adf_volume.specs.Walk.{Role, HeadAt, NodeAt, node_block}
+use Rattle.adf_volume.specs.Walk.{HeadAt, NodeAt, node_block, Walk}
 use Rattle.adf_volume.proofs.Gathered.{head_block, number_of, node_there, parent_below}
 use Rattle.adf_findings.specs.Found.{parent_node}
 use Rattle.adf_findings.specs.Lookup.{path_to}
@@ -12,7 +12,7 @@ use Rattle.adf_findings.proofs.Keeping.{parent_is}
 use Rattle.adf_findings.proofs.OneSurvey.{gathered}
 
 -- the directory of an entry is in the walk, with a smaller number
-pub directory_first : (image : List ℕ) (w : List (Role × ℕ)) (fs : List FindingValue) (n h : ℕ) → IsSurvey image w fs → (g : HeadAt w n h)
+pub directory_first : (image : List ℕ) (w : Walk) (fs : List FindingValue) (n h : ℕ) → IsSurvey image w fs → (g : HeadAt w n h)
     → (g.parent < n) × ((up : ℕ) × NodeAt w g.parent up)
 directory_first image w fs n h (unread f) g = absurd g.has
 directory_first image w fs n h (read {s = s} v d t) g =
@@ -21,7 +21,7 @@ directory_first image w fs n h (read {s = s} v d t) g =
     (lt, (node_block s.walk g.parent, node_there image (gathered image v) g.parent (omega arith)))
 
 -- the path of an entry is that of its directory and its name
-pub path_of_directory : (image : List ℕ) (w : List (Role × ℕ)) (fs : List FindingValue) (n h : ℕ) → IsSurvey image w fs → (g : HeadAt w n h)
+pub path_of_directory : (image : List ℕ) (w : Walk) (fs : List FindingValue) (n h : ℕ) → IsSurvey image w fs → (g : HeadAt w n h)
     → path_to image w n ≡ path_to image w g.parent ++ name_of image h ∷ []
 path_of_directory image w fs n h (unread f) g = absurd g.has
 path_of_directory image w fs n h (read {s = s} {bits = bits} v d t) g =

@@ -6,7 +6,7 @@ use Rattle.std.proofs.lemmas.List.{map-append, reverse-append}
 use Rattle.std.proofs.lemmas.Bool.{and_parts}
 use Rattle.std.proofs.lemmas.Bool.Decides.{nat_tests}
 use Rattle.adf_volume.specs.Image.{name_of}
-use Rattle.adf_volume.specs.Walk.{Role, heads, node_block}
+use Rattle.adf_volume.specs.Walk.{heads, node_block, Walk}
 use Rattle.adf_findings.specs.Found.{parent_node}
 use Rattle.adf_findings.specs.Lookup.{IsNamedChild, path_to, path_up}
 use Rattle.adf_findings.specs.Survey.{FindingValue, IsSurvey}
@@ -14,10 +14,10 @@ use Rattle.adf_findings.proofs.Keeping.{parent_is}
 use Rattle.adf_findings.proofs.Lookups.{child_between, header_at}
 
 -- whether it is the number of an entry
-abbrev is_entry : List (Role × ℕ) → ℕ → Bool
+abbrev is_entry : Walk → ℕ → Bool
 is_entry w n = nat_le 1 n && nat_le n (heads w)
 
-module _ (image : List ℕ) (w : List (Role × ℕ)) (fs : List FindingValue) (h : IsSurvey image w fs) where
+module _ (image : List ℕ) (w : Walk) (fs : List FindingValue) (h : IsSurvey image w fs) where
   -- the directory of an entry has a smaller number
   pub directory_smaller : (n : ℕ) → 1 ≤ n → n ≤ heads w → parent_node w n < n
   directory_smaller n lo hi =

@@ -5,7 +5,7 @@ use Rattle.adf_blocks.specs.declared.layout.TheConstants.{POINTERS}
 use Rattle.adf_volume.specs.Image.{root_of, table_word, word_in}
 use Rattle.adf_volume.specs.Lists.{At}
 use Rattle.adf_volume.specs.Made.{datas_in, is_data_of}
-use Rattle.adf_volume.specs.Walk.{Role, Has, FileAt, Lacks, MemberAt, data_count}
+use Rattle.adf_volume.specs.Walk.{Role, Has, FileAt, Lacks, MemberAt, data_count, Walk}
 use Rattle.adf_volume.specs.Walk.Role.{Head, Ext, Data}
 use Rattle.adf_volume.proofs.Gathered.{IsGathered, ext_below, ext_counted, file_one}
 use Rattle.adf_volume.proofs.Lists.{at_below, at_snoc, at_some, same_list, snoc_length}
@@ -20,7 +20,7 @@ use Rattle.adf_findings.proofs.SoundMarks.{taken_wanted}
 
 module _ (image : List ℕ) where
   -- a file that has a member has those before it
-  member_down : {w : List (Role × ℕ)} → IsGathered image w → (n m k a h : ℕ) → FileAt image w n h → m ≤ k → MemberAt image w n k a
+  member_down : {w : Walk} → IsGathered image w → (n m k a h : ℕ) → FileAt image w n h → m ≤ k → MemberAt image w n k a
       → (b : ℕ) × MemberAt image w n m b
   member_down v n zero k a h file le g = (h, file)
   member_down v n (suc m) zero a h file le g = absurd (omega arith)
@@ -28,7 +28,7 @@ module _ (image : List ℕ) where
 
   module _ (n : ℕ) where
     -- the data blocks that are picked are those of the walk, by their numbers
-    abbrev pub DatasListed : List (Role × ℕ) → Type 0
+    abbrev pub DatasListed : Walk → Type 0
     DatasListed w = Lists (is_data_of n) (λ k. Data n (suc k)) w
 
     no_data_head : (k m p s j : ℕ) → Data n k ≡ Head m p s j → ⊥

@@ -8,7 +8,7 @@ use Rattle.adf_blocks.specs.declared.layout.TheConstants.{PAGE_BITS}
 use Rattle.adf_blocks.specs.Sizes.{blocks, pages_needed}
 use Rattle.adf_volume.specs.Image.{word_in, root_of}
 use Rattle.adf_volume.specs.Demands.{AllHold, FirstFails, boot_demands, root_demands}
-use Rattle.adf_volume.specs.Walk.{Role, Lacks, IsDue, IsAbsent, IsWalk, IsWhole, FirstFault, bitmap_demands, demands}
+use Rattle.adf_volume.specs.Walk.{Role, Lacks, IsDue, IsAbsent, IsWalk, IsWhole, FirstFault, bitmap_demands, demands, Walk}
 use Rattle.adf_volume.specs.Walk.Role.{Page, Root}
 use Rattle.adf_volume.specs.Walk.IsWalk.{start as walk_start, step as walk_step}
 use Rattle.adf_volume.specs.Walk.FirstFault.{at_boot, at_due, at_bitmap}
@@ -37,21 +37,21 @@ use Rattle.adf_findings.specs.Survey.IsSurvey.{unread, read}
 
 module _ (image : List ℕ) where
   -- what is known of a course by its findings: without one it is a walk that left nothing; the first one is the first fault
-  abbrev Known : List (Role × ℕ) → List (Role × ℕ) → List FindingValue → Type 0
+  abbrev Known : Walk → Walk → List FindingValue → Type 0
   Known w over [] = IsBegun image × IsWalk image w × (over ≡ [])
   Known w over (f ∷ fs) = FirstFault image f.block f.cause
 
   -- without findings, what is next is what is due
-  due : (w over : List (Role × ℕ)) (fs : List FindingValue) (r : Role) (a i : ℕ) → over ≡ []
+  due : (w over : Walk) (fs : List FindingValue) (r : Role) (a i : ℕ) → over ≡ []
       → IsNext image (record { walk = w; skipped = over; findings = fs }) r a i → IsDue image w r a i
   due w over fs r a i e n = grind (arith, common_steps)
 
   -- then the letters are those of the model
-  plain : (w : List (Role × ℕ)) (r : Role) (a b : ℕ) (j : JudgementValue) → IsBegun image → Judged r (demands_in image w r a b) j
+  plain : (w : Walk) (r : Role) (a b : ℕ) (j : JudgementValue) → IsBegun image → Judged r (demands_in image w r a b) j
       → Judged r (demands image w r a b) j
   plain w r a b j begun h = grind (arith, common_steps, all_split, plain_letters)
 
-  stepped : (w over : List (Role × ℕ)) (fs : List FindingValue) (r : Role) (a i : ℕ) (j : JudgementValue) → Known w over fs
+  stepped : (w over : Walk) (fs : List FindingValue) (r : Role) (a i : ℕ) (j : JudgementValue) → Known w over fs
       → IsNext image (record { walk = w; skipped = over; findings = fs }) r a i → Judged r (demands_in image w r a (word_in image a i)) j
       → let s : Course = after (record { walk = w; skipped = over; findings = fs }) r (word_in image a i) j in Known s.walk s.skipped s.findings
   stepped w over [] r a i clean k n h = (k.0, walk_step k.1 (due w over [] r a i k.2 n) refl (plain w r a (word_in image a i) clean k.0 h), k.2)
@@ -74,7 +74,7 @@ module _ (image : List ℕ) where
   known (step {s = s} {r = r} {a = a} {i = i} j v n h) = stepped s.walk s.skipped s.findings r a i j (known v) n h
 
   -- without findings, a course that is done is a whole walk
-  whole : (w over : List (Role × ℕ)) (fs : List FindingValue) → over ≡ [] → IsDone image (record { walk = w; skipped = over; findings = fs })
+  whole : (w over : Walk) (fs : List FindingValue) → over ≡ [] → IsDone image (record { walk = w; skipped = over; findings = fs })
       → IsWhole image w
   whole w over fs e d r a i ask lack = d r a i ask lack (subst (λ l. Lacks l r) (sym e) (λ z b h s. h))
 
@@ -83,7 +83,7 @@ module _ (image : List ℕ) where
   no_cache h b = grind (arith, common_steps, plain_type, nat_tests)
 
   -- and all bits are compared, where the root has its form
-  compared : (w over : List (Role × ℕ)) (fs : List FindingValue) → over ≡ [] → IsWhole image w → IsBegun image → IsValidated image → (b : ℕ) → 2 ≤ b
+  compared : (w over : Walk) (fs : List FindingValue) → over ≡ [] → IsWhole image w → IsBegun image → IsValidated image → (b : ℕ) → 2 ≤ b
       → b < blocks image → IsCompared image (record { walk = w; skipped = over; findings = fs }) b
   compared w over fs e wh begun vd b lo hi =
       let k : ℕ = (b - 2) / PAGE_BITS in
@@ -98,15 +98,15 @@ module _ (image : List ℕ) where
       )
 
   -- where all bits are compared, without a finding they agree, and the first one is the first that disagrees
-  abbrev Told : List (Role × ℕ) → ℕ → ℕ → List FindingValue → Type 0
+  abbrev Told : Walk → ℕ → ℕ → List FindingValue → Type 0
   Told w b n [] = AllHold (bitmap_demands image w b n)
   Told w b n (f ∷ fs) = FirstFails (bitmap_demands image w b n) f.block f.cause
 
-  agreed : (w : List (Role × ℕ)) (b n : ℕ) (fs : List FindingValue) → AllHold (bitmap_demands image w b 1) → Told w (suc b) n fs → Told w b (suc n) fs
+  agreed : (w : Walk) (b n : ℕ) (fs : List FindingValue) → AllHold (bitmap_demands image w b 1) → Told w (suc b) n fs → Told w b (suc n) fs
   agreed w b n [] h t = (h.0, (h.1.0, t))
   agreed w b n (f ∷ fs) h t = inr (h.0, inr (h.1.0, t))
 
-  differed : (w : List (Role × ℕ)) (b n at : ℕ) (c : Cause) → FirstFails (bitmap_demands image w b 1) at c
+  differed : (w : Walk) (b n at : ℕ) (c : Cause) → FirstFails (bitmap_demands image w b 1) at c
       → FirstFails (bitmap_demands image w b (suc n)) at c
   differed w b n at c (inl h) = inl h
   differed w b n at c (inr (x, inl h)) = inr (x, inl h)
@@ -120,7 +120,7 @@ module _ (image : List ℕ) where
   told {s = s} (differs {b = b} {n = n} {at = at} {c = c} k f t) all = differed s.walk b n at c f
 
 -- what is known of an image by its walk and findings
-abbrev pub Shows : List ℕ → List (Role × ℕ) → List FindingValue → Type 0
+abbrev pub Shows : List ℕ → Walk → List FindingValue → Type 0
 Shows image w [] = IsBegun image × IsWalk image w × IsWhole image w
     × AllHold (bitmap_demands image w 2 (blocks image - 2))
 Shows image w (f ∷ fs) = FirstFault image f.block f.cause
@@ -129,7 +129,7 @@ Shows image w (f ∷ fs) = FirstFault image f.block f.cause
 validated : (image : List ℕ) → IsBegun image → IsValidated image
 validated image h = grind (arith, common_steps, all_split, eqb-true, demanded)
 
-joined : (image : List ℕ) (w over : List (Role × ℕ)) (fs bits : List FindingValue) → Known image w over fs
+joined : (image : List ℕ) (w over : Walk) (fs bits : List FindingValue) → Known image w over fs
     → IsDone image (record { walk = w; skipped = over; findings = fs })
     → BitsTell image (record { walk = w; skipped = over; findings = fs }) 2 (blocks image - 2) bits → Shows image w (fs ++ bits)
 joined image w over (f ∷ fs) bits k d t = k
@@ -141,7 +141,7 @@ joined image w over [] bits k d t =
     cases [] h = (k.0, k.1, whole image w over [] k.2 d, h)
     cases (f ∷ fs) h = at_bitmap k.0 w k.1 (whole image w over [] k.2 d) h
 
-pub shown : (image : List ℕ) {w : List (Role × ℕ)} {fs : List FindingValue} → IsSurvey image w fs → Shows image w fs
+pub shown : (image : List ℕ) {w : Walk} {fs : List FindingValue} → IsSurvey image w fs → Shows image w fs
 shown image (unread (bad_boot {at = at} {c = c} h e)) = at_boot (fails_left (boot_demands image) (root_demands image (root_of image)) at c h)
 shown image (unread (bad_root {at = at} {c = c} (clean_boot h) g)) = grind (arith, common_steps, fails_right)
 shown image (unread (bad_root (other_type {at = at} {c = c} h e) g)) =
@@ -149,19 +149,19 @@ shown image (unread (bad_root (other_type {at = at} {c = c} h e) g)) =
 shown image (read {s = s} {bits = bits} v d t) = joined image s.walk s.skipped s.findings bits (known image v) d t
 
 -- the first finding is the first fault
-pub first_finding : (image : List ℕ) (w : List (Role × ℕ)) (f : FindingValue) (fs : List FindingValue) → IsSurvey image w (f ∷ fs)
+pub first_finding : (image : List ℕ) (w : Walk) (f : FindingValue) (fs : List FindingValue) → IsSurvey image w (f ∷ fs)
     → FirstFault image f.block f.cause
 first_finding image w f fs v = shown image v
 
 -- what a survey without findings tells, fits
-pub none_found : (image : List ℕ) (w : List (Role × ℕ)) → IsSurvey image w [] → Fits image (tree_in image w) (layout_in w)
+pub none_found : (image : List ℕ) (w : Walk) → IsSurvey image w [] → Fits image (tree_in image w) (layout_in w)
 none_found image w v =
     let k : Shows image w [] = shown image v in
     let b = all_split (boot_demands image) (root_demands image (root_of image)) k.0 in
     fits image w k.1 k.2 b.0 b.1 k.3
 
 -- where a tree and a layout fit, a survey has no finding
-pub finds_none : (image : List ℕ) (t : Tree) (l : Layout) (w : List (Role × ℕ)) (fs : List FindingValue) → Fits image t l
+pub finds_none : (image : List ℕ) (t : Tree) (l : Layout) (w : Walk) (fs : List FindingValue) → Fits image t l
     → IsSurvey image w fs → fs ≡ []
 finds_none image t l w [] fit v = refl
 finds_none image t l w (f ∷ fs) fit v = absurd (none_fits image f.block f.cause t l (first_finding image w f fs v) fit)

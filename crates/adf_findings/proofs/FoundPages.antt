@@ -3,7 +3,7 @@
 use Rattle.std.specs.Prelude.{Option, Some, None}
 use Rattle.std.proofs.Common.{◌≡◌, ℕ, List, ◌<◌, inl, inr, refl, sym, ap, subst, ◌∙◌}
 use Rattle.adf_blocks.specs.Sizes.{blocks, pages_needed}
-use Rattle.adf_volume.specs.Walk.{Role, Asks, Has}
+use Rattle.adf_volume.specs.Walk.{Asks, Has, Walk}
 use Rattle.adf_volume.specs.Walk.Role.{Page}
 use Rattle.adf_volume.proofs.Gathered.{IsGathered}
 use Rattle.adf_volume.proofs.Gathered.IsGathered.{start, step}
@@ -17,7 +17,7 @@ use Rattle.adf_findings.proofs.BitsStated.{one_page}
 use Rattle.adf_findings.proofs.Keys.{lacks_at}
 use Rattle.adf_findings.proofs.OneSurvey.{gathered}
 
-gathered_low : (image : List ℕ) {w : List (Role × ℕ)} → IsGathered image w → (i b : ℕ) → Has w (Page i) b → i < pages_needed (blocks image)
+gathered_low : (image : List ℕ) {w : Walk} → IsGathered image w → (i b : ℕ) → Has w (Page i) b → i < pages_needed (blocks image)
 gathered_low image start i b (inl e) = cc
 gathered_low image start i b (inr f) = absurd f
 gathered_low image (step {w = w} {r = r} a j c v d l) i b (inl e) =
@@ -25,13 +25,13 @@ gathered_low image (step {w = w} {r = r} a j c v d l) i b (inl e) =
 gathered_low image (step a j c v d l) i b (inr h) = gathered_low image v i b h
 
 -- its number is one of those that the image needs
-pub page_low : (image : List ℕ) (w : List (Role × ℕ)) (fs : List FindingValue) → IsSurvey image w fs → (i b : ℕ) → Has w (Page i) b
+pub page_low : (image : List ℕ) (w : Walk) (fs : List FindingValue) → IsSurvey image w fs → (i b : ℕ) → Has w (Page i) b
     → i < pages_needed (blocks image)
 page_low image w fs (unread f) i b h = absurd h
 page_low image w fs (read v d t) i b h = gathered_low image (gathered image v) i b h
 
 -- it is at its key
-pub page_at : (image : List ℕ) (w : List (Role × ℕ)) (fs : List FindingValue) → IsSurvey image w fs → (i b : ℕ) → Has w (Page i) b
+pub page_at : (image : List ℕ) (w : Walk) (fs : List FindingValue) → IsSurvey image w fs → (i b : ℕ) → Has w (Page i) b
     → at_key w (key_of (Page i)) ≡ Some b
 page_at image w fs survey i b h = go (at_key w (key_of (Page i))) refl
   where

@@ -4,7 +4,7 @@ use Rattle.std.proofs.Common.{◌&&◌, Bool, map, not, Some, ◌≡◌, ◌∙�
 use Rattle.std.specs.List.{filter}
 use Rattle.std.proofs.lemmas.Grind.{common_steps}
 use Rattle.adf_volume.specs.Lists.{In}
-use Rattle.adf_volume.specs.Walk.{Role}
+use Rattle.adf_volume.specs.Walk.{Role, Walk}
 use Rattle.adf_volume.specs.Walk.Role.{Data, Ext, Head}
 use Rattle.adf_volume.proofs.Roles.{same_role}
 use Rattle.adf_findings.specs.declared.part.Finding.{Finding}
@@ -52,7 +52,7 @@ data_unreported b fs n k none g q h e same =
 less_unreported : (fs : List FindingValue) (r : Role) → IsUnreported fs r → IsUnreported (grave fs) r
 less_unreported fs r h f q i = h f q (grave_is fs f i)
 
-pub sound_is_whole : (image : List ℕ) (w : List (Role × ℕ)) (fs : List FindingValue) (n : ℕ) → IsSoundFile image w fs n
+pub sound_is_whole : (image : List ℕ) (w : Walk) (fs : List FindingValue) (n : ℕ) → IsSoundFile image w fs n
     → IsSoundFile image w (grave fs) n
 sound_is_whole image w fs n (s, type) = (
   record {

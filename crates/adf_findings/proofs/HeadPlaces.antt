@@ -4,7 +4,7 @@ use Rattle.std.proofs.Common.{◌≡◌, ℕ, zero, suc, List, [], ◌∷◌, �
 use Rattle.std.proofs.lemmas.Bool.{and_parts, eqb-true, eq-eqb}
 use Rattle.std.proofs.lemmas.Bool.Decides.{eqb_tells, nat_tests}
 use Rattle.std.proofs.lemmas.Grind.{common_steps}
-use Rattle.adf_volume.specs.Walk.{Role, Has, Asks, heads}
+use Rattle.adf_volume.specs.Walk.{Role, Has, Asks, heads, Walk}
 use Rattle.adf_volume.specs.Walk.Role.{Root, Head}
 use Rattle.adf_volume.proofs.Gathered.{IsGathered, number_of}
 use Rattle.adf_volume.proofs.Gathered.IsGathered.{start, step}
@@ -18,11 +18,11 @@ use Rattle.adf_findings.specs.Marks.{is_header, is_place}
 use Rattle.adf_tree.proofs.Lists.{get_last}
 
 -- the parent of what comes later is that of no earlier node
-other_parent : (image : List ℕ) (w : List (Role × ℕ)) (n : ℕ) (r : Role) (a i c : ℕ) → Asks image w r a i → n ≤ heads w → parent_by n r c ≡ c
+other_parent : (image : List ℕ) (w : Walk) (n : ℕ) (r : Role) (a i c : ℕ) → Asks image w r a i → n ≤ heads w → parent_by n r c ≡ c
 other_parent image w n (Head m p s j) a i c d u = grind (arith, common_steps, asks_number, eqb_tells)
 other_parent image w n _ a i c d u = refl
 
-pub head_parent : (image : List ℕ) {w : List (Role × ℕ)} → IsGathered image w → (n p s j b : ℕ) → Has w (Head n p s j) b → parent_node w n ≡ p
+pub head_parent : (image : List ℕ) {w : Walk} → IsGathered image w → (n p s j b : ℕ) → Has w (Head n p s j) b → parent_node w n ≡ p
 head_parent image start n p s j b (inl e) = let root = e.0 in cc
 head_parent image start n p s j b (inr f) = absurd f
 head_parent image (step {w = w} {r = r} a i c v d l) n p s j b (inl e) = grind (arith, common_steps, step, eq-eqb)
@@ -37,21 +37,21 @@ get_cases [] x y (suc k) e = cc
 get_cases (z ∷ xs) x y zero e = inl e
 get_cases (z ∷ xs) x y (suc k) e = elim (get_cases xs x y k e) [ inl h ↦ inl h | inr h ↦ inr (ap suc h.0, h.1) ]
 
-places_long : (w : List (Role × ℕ)) → length (places_of w) ≡ heads w
+places_long : (w : Walk) → length (places_of w) ≡ heads w
 places_long [] = refl
 places_long ((Head n p s j, b) ∷ w) = snoc_length (places_of w) (record { slot = s; place = j }) ∙ ap suc (places_long w)
 places_long (_ ∷ w) = places_long w
 
 module _ (image : List ℕ) where
   -- the place of an earlier header stays
-  place_stays : (w : List (Role × ℕ)) (r : Role) (a i k : ℕ) (c : ChainPlace) → Asks image w r a i → k < heads w → slice_get (places_of w) k ≡ Some c
+  place_stays : (w : Walk) (r : Role) (a i k : ℕ) (c : ChainPlace) → Asks image w r a i → k < heads w → slice_get (places_of w) k ≡ Some c
       → slice_get (with_place r (places_of w)) k ≡ Some c
   place_stays w (Head m p s j) a i k c d lt e = grind (arith, common_steps, get_before, places_long)
   place_stays w Root a i k c d lt e = absurd d
   place_stays w _ a i k c d lt e = e
 
   -- each header has its place
-  place_kept : {w : List (Role × ℕ)} → IsGathered image w → (n p s j b : ℕ) → Has w (Head n p s j) b
+  place_kept : {w : Walk} → IsGathered image w → (n p s j b : ℕ) → Has w (Head n p s j) b
       → slice_get (places_of w) (n - 1) ≡ Some (record { slot = s; place = j })
   place_kept start n p s j b (inl e) = let root = e.0 in cc
   place_kept start n p s j b (inr f) = absurd f
@@ -65,7 +65,7 @@ module _ (image : List ℕ) where
       place_stays w r a i (n - 1) (record { slot = s; place = j }) d (omega arith) (place_kept v n p s j b h)
 
   -- each place is a header's
-  place_has : {w : List (Role × ℕ)} → IsGathered image w → (n : ℕ) (c : ChainPlace) → 1 ≤ n → slice_get (places_of w) (n - 1) ≡ Some c
+  place_has : {w : Walk} → IsGathered image w → (n : ℕ) (c : ChainPlace) → 1 ≤ n → slice_get (places_of w) (n - 1) ≡ Some c
       → (p b : ℕ) × Has w (Head n p c.slot c.place) b
   place_has start n c lo e = cc
   place_has (step {w = w} {r = r} a i b v d l) n c lo e = go r refl d e (λ e. place_has v n c lo e)

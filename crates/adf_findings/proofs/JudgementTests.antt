@@ -18,7 +18,7 @@ use Rattle.adf_blocks.specs.ExtBlock.{ext_form}
 use Rattle.adf_volume.specs.Demands.{Demand, demand, demands_at, data_demands, AllHold, FirstFails}
 use Rattle.adf_volume.proofs.FormDemands.{all_demanded, demanded}
 use Rattle.adf_volume.specs.Image.{kind_of, name_of}
-use Rattle.adf_volume.specs.Walk.{Role, Enough, IsAbsent}
+use Rattle.adf_volume.specs.Walk.{Role, Enough, IsAbsent, Walk}
 use Rattle.adf_volume.specs.Walk.Role.{Page, Head, Data}
 use Rattle.adf_findings.specs.Demands.{NewNameIn, demands_in, form_demands_in, head_form_in}
 use Rattle.adf_findings.specs.declared.part.Part.{Part, TheVariants.Root as RootPart, TheVariants.Page as PagePart, TheVariants.MapExt as MapExtPart}
@@ -92,11 +92,11 @@ itself_more r b (c ∷ cs) ys h =
     (itself_clause (is_kept r c.1) c.0) (itself_more r b cs ys h)
 
 -- but for pages, of which it is not asked, short files and equal names are slight
-short_slight : (image : List ℕ) (w : List (Role × ℕ)) (r : Role) → is_kept r ShortFile ≡ false → Enough image w r
+short_slight : (image : List ℕ) (w : Walk) (r : Role) → is_kept r ShortFile ≡ false → Enough image w r
 short_slight image w (Data n k) e = cc
 short_slight image w _ e = tt
 
-same_slight : (image : List ℕ) (w : List (Role × ℕ)) (r : Role) (b : ℕ) → is_kept r SameName ≡ false → NewNameIn image w r b
+same_slight : (image : List ℕ) (w : Walk) (r : Role) (b : ℕ) → is_kept r SameName ≡ false → NewNameIn image w r b
 same_slight image w (Head n p s j) b e = cc
 same_slight image w _ b e = tt
 
@@ -110,11 +110,11 @@ keeps_taken (Page i) = refl
 keeps_taken _ = refl
 
 -- the block of a part that is itself is in the image, and no one else's
-pub record ItselfHolds (image : List ℕ) (w : List (Role × ℕ)) (b : ℕ) : Type 0 where
+pub record ItselfHolds (image : List ℕ) (w : Walk) (b : ℕ) : Type 0 where
   pub inside : b < blocks image
   pub unowned : IsAbsent w b
 
-pub itself_holds : (image : List ℕ) (w : List (Role × ℕ)) (r : Role) (a b : ℕ) → IsItself r (demands_in image w r a b) → ItselfHolds image w b
+pub itself_holds : (image : List ℕ) (w : Walk) (r : Role) (a b : ℕ) → IsItself r (demands_in image w r a b) → ItselfHolds image w b
 itself_holds image w r a b h = record { inside = (h.1.0 (keeps_range r)).1; unowned = h.1.1.0 (keeps_taken r) }
 
 itself_is : (role : Role) (a b : ℕ) (r t : Bool) (form : List Clause) (E R T N : Type 0) → (is_kept role ShortFile ≡ false → E) → Tells r R
@@ -143,7 +143,7 @@ data_is : (image : List ℕ) (kind : Kind) (b h k n next y : ℕ) → (kind ≡ 
 data_is image Ofs b h k n next y e = ap (data_demands image Ofs b h k n) (sym (e refl))
 data_is image Ffs b h k n next y e = refl
 
-form_is : (image : List ℕ) (w : List (Role × ℕ)) (part : Part) (b : ℕ) (x : Context) → IsContext image w (role_of part) x
+form_is : (image : List ℕ) (w : Walk) (part : Part) (b : ℕ) (x : Context) → IsContext image w (role_of part) x
     → form_demands_in image w (role_of part) b ≡ demands_at b (form_of image part b x)
 form_is image w RootPart b x h = refl
 form_is image w (PagePart i) b x h = refl
@@ -153,7 +153,7 @@ form_is image w (ExtPart n k) b x h = ap (λ up. demands_at b (ext_form b up (bl
 form_is image w (DataPart n k) b x h = grind (arith, common_steps, data_is)
 
 -- a part is judged as the tests tell
-pub judged : (image : List ℕ) (w : List (Role × ℕ)) (part : Part) (a b : ℕ) (f : Facts) (new : Bool) → Knows image w part b f
+pub judged : (image : List ℕ) (w : Walk) (part : Part) (a b : ℕ) (f : Facts) (new : Bool) → Knows image w part b f
     → Tells new (NewNameIn image w (role_of part) b)
     → Judged (role_of part) (demands_in image w (role_of part) a b) (judged_by (first_failing image part a b f new) (keeps image part b f))
 judged image w part a b f new k named =

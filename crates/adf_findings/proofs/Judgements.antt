@@ -3,7 +3,7 @@ use Rattle.std.proofs.Common.{Bool, cond, false, not, slice_index_or, true, ◌�
 use Rattle.adf_blocks.specs.declared.cause.Cause.TheVariants.{SameName}
 use Rattle.adf_blocks.specs.Forms.{first_cause}
 use Rattle.adf_volume.specs.Positions.{position_of}
-use Rattle.adf_volume.specs.Walk.{Role}
+use Rattle.adf_volume.specs.Walk.{Walk}
 use Rattle.adf_findings.specs.Demands.{demands_in}
 use Rattle.adf_findings.specs.declared.part.Part.{Part}
 use Rattle.adf_findings.specs.declared.course.Reference.{Reference}
@@ -44,7 +44,7 @@ module _ (image : List ℕ) (f : Found) (x : Reference) (part : Part) (facts : F
 
     -- no other cause
     pub judged_named : (new : Bool) → clean ≡ by_name true
-        → ((w : List (Role × ℕ)) → AreNamed image w (position_of (role_of part)) f.names → IsChain w part → HasValidName image part x.block
+        → ((w : Walk) → AreNamed image w (position_of (role_of part)) f.names → IsChain w part → HasValidName image part x.block
         → new ≡ new_in image w part x.block)
         → (j : Judgement) → cond new clean (reported x.block SameName) ≡ judgement_value j → IsJudged image f x part j
     judged_named new e tells j is_j = λ s h n is.

@@ -12,7 +12,7 @@ use Rattle.adf_names.specs.declared.kind.Kind.{Kind}
 use Rattle.adf_names.specs.declared.kind.Kind.TheVariants.{Ofs, Ffs}
 use Rattle.adf_volume.specs.Image.{kind_of}
 use Rattle.adf_volume.proofs.Gathered.{head_block, numbered as has_number, number_of, root_is}
-use Rattle.adf_volume.specs.Walk.{Role, Has, heads, node_block}
+use Rattle.adf_volume.specs.Walk.{Role, Has, heads, node_block, Walk}
 use Rattle.adf_volume.specs.Walk.Role.{Root, Page, Head}
 use Rattle.adf_volume.proofs.Roles.{head_role}
 use Rattle.adf_findings.specs.Found.{AreMarked, IsCompleted, Stands, owns, parent_node}
@@ -171,28 +171,28 @@ read_kept image f g concerned sound whole (s, bits, told, bits_tell) entries mar
 )
 
 -- an image whose course is done, with its bits compared, has a survey with these findings
-pub read_told : (image : List ℕ) (f : Found) → IsCompleted image f → (w : List (Role × ℕ)) × IsSurvey image w (map finding_value f.findings.items)
+pub read_told : (image : List ℕ) (f : Found) → IsCompleted image f → (w : Walk) × IsSurvey image w (map finding_value f.findings.items)
 read_told image f (s, bits, told, bits_tell) =
     (s.walk, subst (IsSurvey image s.walk) (sym told.stands.findings) (read told.course told.done bits_tell))
 
 -- what is kept of an image tells of each survey of it
-pub tells_each : (v : SurveyValue) → IsOfSurvey v → (w : List (Role × ℕ)) (fs : List FindingValue) → IsSurvey v.image w fs → TellsOf v w fs
+pub tells_each : (v : SurveyValue) → IsOfSurvey v → (w : Walk) (fs : List FindingValue) → IsSurvey v.image w fs → TellsOf v w fs
 tells_each v k w fs h = grind (arith, common_steps, one_survey)
 
 -- the root is no entry
-pub root_no_entry : (image : List ℕ) (w : List (Role × ℕ)) (fs : List FindingValue) (c : Bool) (h : ℕ) → IsSurvey image w fs
+pub root_no_entry : (image : List ℕ) (w : Walk) (fs : List FindingValue) (c : Bool) (h : ℕ) → IsSurvey image w fs
     → IsSound image w (counting c fs) 0 h → ⊥
 root_no_entry image w fs c h (unread f) s = s.header.has
 root_no_entry image w fs c h (read v d t) s = omega (arith, number_of image (gathered image v) s.header)
 
 -- the directory of an entry, as a function
-pub parent_is : (image : List ℕ) (w : List (Role × ℕ)) (fs : List FindingValue) → IsSurvey image w fs → (n p s j b : ℕ) → Has w (Head n p s j) b
+pub parent_is : (image : List ℕ) (w : Walk) (fs : List FindingValue) → IsSurvey image w fs → (n p s j b : ℕ) → Has w (Head n p s j) b
     → parent_node w n ≡ p
 parent_is image w fs (unread f) n p s j b h = absurd h
 parent_is image w fs (read v d t) n p s j b h = head_parent image (gathered image v) n p s j b h
 
 -- the header of an entry is inside of the image
-pub header_inside : (image : List ℕ) (w : List (Role × ℕ)) (fs : List FindingValue) → IsSurvey image w fs → (n : ℕ) → 1 ≤ n → n ≤ heads w
+pub header_inside : (image : List ℕ) (w : Walk) (fs : List FindingValue) → IsSurvey image w fs → (n : ℕ) → 1 ≤ n → n ≤ heads w
     → (length image ≡ 512 * blocks image) × (node_block w n < blocks image)
 header_inside image w fs (unread f) n lo hi = absurd (omega arith)
 header_inside image w fs (read {s = s} v d t) n lo hi =

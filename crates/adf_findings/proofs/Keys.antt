@@ -1,10 +1,10 @@
 -- Equal keys, and facts of a success.
-use Rattle.std.proofs.Common.{Bool, true, false, cond, Some, None, ◌&&◌, ◌==◌, ◌≡◌, ℕ, List, [], ◌∷◌, inl, inr, refl, ap, ◌∙◌, arith}
+use Rattle.std.proofs.Common.{Bool, true, false, cond, Some, None, ◌&&◌, ◌==◌, ◌≡◌, [], ◌∷◌, inl, inr, refl, ap, ◌∙◌, arith}
 use Rattle.std.specs.Ordering.{is_eq}
 use Rattle.std.proofs.lemmas.Bool.{and_parts, cases_Bool, eqb-true, eq-eqb}
 use Rattle.std.proofs.lemmas.Grind.{common_steps}
 use Rattle.adf_tree.proofs.NameKeys.{same_number, then_is}
-use Rattle.adf_volume.specs.Walk.{Role, Has, Lacks, Same}
+use Rattle.adf_volume.specs.Walk.{Role, Has, Lacks, Same, Walk}
 use Rattle.adf_findings.specs.declared.part.Key.{Key}
 use Rattle.adf_findings.specs.Found.{at_key}
 use Rattle.adf_findings.specs.Parts.{by_key, key_of}
@@ -28,14 +28,14 @@ key_same r q e = λ i. record { first = e.0 i; second = e.1 i; third = e.2 i }
 pub same_of_key : (r q : Role) → key_of r ≡ key_of q → Same r q
 same_of_key r q e = (ap (λ k. k.first) e, ap (λ k. k.second) e, ap (λ k. k.third) e)
 
-pub at_lacks : (w : List (Role × ℕ)) (q : Role) → Lacks w q → at_key w (key_of q) ≡ None
+pub at_lacks : (w : Walk) (q : Role) → Lacks w q → at_key w (key_of q) ≡ None
 at_lacks [] q l = refl
 at_lacks (x ∷ w) q l = elim (cases_Bool (is_eq (by_key (key_of x.0) (key_of q)))) [
   | inl t ↦ absurd (l x.0 x.1 (inl (refl, refl)) (same_of_key x.0 q (one_key (key_of x.0) (key_of q) t)))
   | inr f ↦ ap (λ t. cond t (Some x.1) (at_key w (key_of q))) f ∙ at_lacks w q (λ z b h. l z b (inr h))
 ]
 
-pub lacks_at : (w : List (Role × ℕ)) (q : Role) → at_key w (key_of q) ≡ None → Lacks w q
+pub lacks_at : (w : Walk) (q : Role) → at_key w (key_of q) ≡ None → Lacks w q
 lacks_at [] q e z b h s = h
 lacks_at (x ∷ w) q e z b h s = go (is_eq (by_key (key_of x.0) (key_of q))) refl e h (λ e h. lacks_at w q e z b h s)
   where

@@ -14,7 +14,7 @@ use Rattle.adf_names.specs.Texts.{is_name, uppers}
 use Rattle.adf_blocks.specs.Sizes.{blocks}
 use Rattle.adf_volume.specs.Image.{letters_of, name_of}
 use Rattle.adf_volume.specs.Positions.{position_of}
-use Rattle.adf_volume.specs.Walk.{Role, Enough, Has, IsAbsent, ext_block_in, member_block}
+use Rattle.adf_volume.specs.Walk.{Role, Enough, Has, IsAbsent, ext_block_in, member_block, Walk}
 use Rattle.adf_volume.specs.Walk.Role.{Head, Ext}
 use Rattle.adf_findings.specs.Demands.{NewNameIn, uppers_in}
 use Rattle.adf_findings.specs.declared.part.Part.{Part, TheVariants.Head as HeadPart}
@@ -28,7 +28,7 @@ use Rattle.adf_findings.specs.Parts.{by_key, key_of, role_of}
 use Rattle.adf_findings.proofs.Keys.{equal_keys}
 use Rattle.adf_findings.proofs.Names.{other_name, upper_twice}
 
-pub tells_absent : (w : List (Role × ℕ)) (b : ℕ) → Tells (not (owns w b)) (IsAbsent w b)
+pub tells_absent : (w : Walk) (b : ℕ) → Tells (not (owns w b)) (IsAbsent w b)
 tells_absent [] b = λ q h. h
 tells_absent (x ∷ w) b = go (x.1 == b) (owns w b) refl (tells_absent w b)
   where
@@ -59,10 +59,10 @@ tells_named image (Head n q m j) c p s name = go (is_named image (Head n q m j) 
 tells_named image _ c p s name = λ m k e. cc
 
 -- no header of the chain has the name
-abbrev pub Fresh : List ℕ → ℕ → ℕ → List ℕ → List (Role × ℕ) → Type 0
+abbrev pub Fresh : List ℕ → ℕ → ℕ → List ℕ → Walk → Type 0
 Fresh image p s name w = (m k c : ℕ) → Has w (Head m p s k) c → uppers_in image (name_of image c) ≢ name
 
-tells_new : (image : List ℕ) (w : List (Role × ℕ)) (p s : ℕ) (name : List ℕ)
+tells_new : (image : List ℕ) (w : Walk) (p s : ℕ) (name : List ℕ)
     → Tells (not (has_name image w p s name)) ((m k c : ℕ) → Has w (Head m p s k) c → uppers_in image (name_of image c) ≢ name)
 tells_new image [] p s name = λ m k c h. absurd h
 tells_new image (x ∷ w) p s name =
@@ -75,7 +75,7 @@ tells_new image (x ∷ w) p s name =
     go false false h k = grind (arith, common_steps)
 
 -- a chain without headers has no names
-no_name : (image : List ℕ) (w : List (Role × ℕ)) (p s : ℕ) (name : List ℕ) → ((m k c : ℕ) → Has w (Head m p s k) c → ⊥)
+no_name : (image : List ℕ) (w : Walk) (p s : ℕ) (name : List ℕ) → ((m k c : ℕ) → Has w (Head m p s k) c → ⊥)
     → has_name image w p s name ≡ false
 no_name image w p s name none = go (has_name image w p s name) (tells_new image w p s name)
   where
@@ -84,7 +84,7 @@ no_name image w p s name none = go (has_name image w p s name) (tells_new image 
     go true t = absurd (t (λ m k c h. absurd (none m k c h)))
 
 -- the valid names that are known at a position of a chain are those of its headers
-pub known_names : (image : List ℕ) (w : List (Role × ℕ)) (n p s j : ℕ) (names : Names) → AreNamed image w (position_of (Head n p s j)) names
+pub known_names : (image : List ℕ) (w : Walk) (n p s j : ℕ) (names : Names) → AreNamed image w (position_of (Head n p s j)) names
     → IsChain w (HeadPart n p s j) → (name : List ℕ) → is_name name ≡ true
     → known_at j (has names (uppers_in image name)) ≡ has_name image w p s (uppers_in image name)
 known_names image w n p s zero names named none name valid = sym (no_name image w p s (uppers_in image name) none)
@@ -98,7 +98,7 @@ module _ (image : List ℕ) {part : Part} (b : ℕ) {n p s j : ℕ} (old begun :
     own : uppers name ≡ uppers_in image (name_of image b)
     own = ap uppers told ∙ upper_twice (letters_of image) (name_of image b)
 
-    pub name_is_new : (w : List (Role × ℕ)) (t : Bool) → t ≡ not (has begun (uppers name)) → AreNamed image w (position_of (role_of part)) old
+    pub name_is_new : (w : Walk) (t : Bool) → t ≡ not (has begun (uppers name)) → AreNamed image w (position_of (role_of part)) old
         → IsChain w part → HasValidName image part b → t ≡ new_in image w part b
     name_is_new w t e =
         subst (λ part. AreNamed image w (position_of (role_of part)) old → IsChain w part → HasValidName image part b → t ≡ new_in image w part b)
@@ -115,7 +115,7 @@ module _ (image : List ℕ) {part : Part} (b : ℕ) {n p s j : ℕ} (old begun :
   kept_none none = grind (arith, common_steps, other_name)
 
 -- the block of an extension block, by its key
-at_ext : (w : List (Role × ℕ)) (n m : ℕ) → unwrap_or (at_key w (key_of (Ext n m))) 0 ≡ ext_block_in w n m
+at_ext : (w : Walk) (n m : ℕ) → unwrap_or (at_key w (key_of (Ext n m))) 0 ≡ ext_block_in w n m
 at_ext [] n m = refl
 at_ext ((Ext q k, b) ∷ w) n m = go (n == q) (m == k) refl refl (at_ext w n m)
   where
@@ -151,7 +151,7 @@ module _ (image : List ℕ) (f : Found) (s : Course) (st : Stands image f s) whe
   knows part b x context enough absent = grind (arith, common_steps, below, tells_absent)
 
 -- a block without a part is no member's
-pub no_owner : (w : List (Role × ℕ)) (b : ℕ) → IsAbsent w b → owns w b ≡ false
+pub no_owner : (w : Walk) (b : ℕ) → IsAbsent w b → owns w b ≡ false
 no_owner w b h = elim (cases_Bool (owns w b)) [
   | inl t ↦ let n : IsAbsent w b → ⊥ = subst (λ t. Tells (not t) (IsAbsent w b)) t (tells_absent w b) in absurd (n h)
   | inr f ↦ f

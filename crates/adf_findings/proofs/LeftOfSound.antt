@@ -15,7 +15,7 @@ use Rattle.adf_blocks.specs.Sizes.{blocks, chunk, count}
 use Rattle.adf_volume.specs.Image.{kind_of, letters_of, piece, pieces, root_of, word_in}
 use Rattle.adf_volume.specs.Lists.{At}
 use Rattle.adf_volume.specs.Made.{datas_in, is_data_of}
-use Rattle.adf_volume.specs.Walk.{Role, Has, data_count, node_block}
+use Rattle.adf_volume.specs.Walk.{Role, Has, data_count, node_block, Walk}
 use Rattle.adf_volume.specs.Walk.Role.{Root, Data}
 use Rattle.adf_volume.proofs.Gathered.{one_block}
 use Rattle.adf_volume.proofs.Lists.{at_some}
@@ -41,12 +41,12 @@ use Rattle.adf_findings.proofs.Taking.{marked_more, unowned_less}
 use Rattle.adf_volume.proofs.WalkMembers.{picked_within}
 
 -- the blocks of a walk, marked: so many are marked as the walk has members
-record Marked (image : List ℕ) (w : List (Role × ℕ)) : Type 0 where
+record Marked (image : List ℕ) (w : Walk) : Type 0 where
   marks : List Bool
   marked : AreMarked (blocks image) marks w
   many : length w + unowned marks ≡ blocks image
 
-more_marked : (image : List ℕ) (w : List (Role × ℕ)) (r : Role) (b : ℕ) → b < blocks image → ((q : Role) → Has w q b → ⊥) → Marked image w
+more_marked : (image : List ℕ) (w : Walk) (r : Role) (b : ℕ) → b < blocks image → ((q : Role) → Has w q b → ⊥) → Marked image w
     → Marked image ((r, b) ∷ w)
 more_marked image w r b lt free m =
     let less = unowned_less m.marks b (let e = m.marked.0 in omega arith) (m.marked.1 b lt ∙ no_owner w b free) in
@@ -117,7 +117,7 @@ found_below : (end : ℕ) (o : Option ℕ) (b : ℕ) → o ≡ Some b → b < en
 found_below end o b e lt = ap (below end) e ∙ grind (arith, common_steps, nat_tests)
 
 -- what is left of a sound file is its content, and nothing is made up
-pub left_of_sound : (image : List ℕ) (w : List (Role × ℕ)) (fs : List FindingValue) (c : Bool) (n end : ℕ) → IsSurvey image w fs
+pub left_of_sound : (image : List ℕ) (w : Walk) (fs : List FindingValue) (c : Bool) (n end : ℕ) → IsSurvey image w fs
     → IsSoundFile image w (counting c fs) n → ((k b : ℕ) → Has w (Data n k) b → b < end)
     → (left_of image w end n ≡ file_content (file_in image w n)) × (gaps_of image w end n ≡ [])
 left_of_sound image w fs c n end (unread f) sound few = absurd sound.0.header.has

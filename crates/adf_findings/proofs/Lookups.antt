@@ -7,7 +7,7 @@ use Rattle.std.proofs.lemmas.Slice.Eq.{bytes_eq-Decides}
 use Rattle.adf_volume.specs.Image.{name_of, word_in}
 use Rattle.adf_blocks.specs.declared.layout.TheConstants.{SECONDARY_TYPE, ST_FILE}
 use Rattle.std.proofs.lemmas.Grind.{common_steps}
-use Rattle.adf_volume.specs.Walk.{FileAt, Role, Has, HeadAt, heads, node_block}
+use Rattle.adf_volume.specs.Walk.{FileAt, Has, HeadAt, heads, node_block, Walk}
 use Rattle.adf_volume.specs.Walk.Role.{Head}
 use Rattle.adf_volume.proofs.Gathered.{head_block, number_of, parent_below, node_there}
 use Rattle.adf_volume.proofs.Roles.{head_at}
@@ -18,32 +18,32 @@ use Rattle.adf_findings.specs.Survey.IsSurvey.{read, unread}
 use Rattle.adf_findings.proofs.OneSurvey.{gathered}
 
 -- the number of an entry is greater than its directory's, and at most the count
-pub child_between : (image : List ℕ) (w : List (Role × ℕ)) (fs : List FindingValue) → IsSurvey image w fs → (p n : ℕ) (name : List ℕ)
+pub child_between : (image : List ℕ) (w : Walk) (fs : List FindingValue) → IsSurvey image w fs → (p n : ℕ) (name : List ℕ)
     → IsNamedChild image w p name n → (p < n) × (n ≤ heads w)
 child_between image w fs (unread f) p n name (s, j, b, has, same) = absurd has
 child_between image w fs (read v d t) p n name (s, j, b, has, same) =
     let h : HeadAt w n b = head_at n p s j b has in (parent_below image (gathered image v) h, (number_of image (gathered image v) h).1)
 
 -- the header of an entry, by its number
-pub header_at : (image : List ℕ) (w : List (Role × ℕ)) (fs : List FindingValue) → IsSurvey image w fs → (n : ℕ) → 1 ≤ n → n ≤ heads w
+pub header_at : (image : List ℕ) (w : Walk) (fs : List FindingValue) → IsSurvey image w fs → (n : ℕ) → 1 ≤ n → n ≤ heads w
     → HeadAt w n (node_block w n)
 header_at image w fs (unread f) n lo hi = absurd (omega arith)
 header_at image w fs (read v d t) zero lo hi = absurd (omega arith)
 header_at image w fs (read v d t) (suc n) lo hi = node_there image (gathered image v) (suc n) hi
 
-header_one : (image : List ℕ) (w : List (Role × ℕ)) (fs : List FindingValue) → IsSurvey image w fs → (n p s j b : ℕ) → Has w (Head n p s j) b
+header_one : (image : List ℕ) (w : Walk) (fs : List FindingValue) → IsSurvey image w fs → (n p s j b : ℕ) → Has w (Head n p s j) b
     → node_block w n ≡ b
 header_one image w fs (unread f) n p s j b g = absurd g
 header_one image w fs (read v d t) n p s j b g = head_block image (gathered image v) (head_at n p s j b g)
 
 -- the number of an entry that is found
-pub file_between : (image : List ℕ) (w : List (Role × ℕ)) (fs : List FindingValue) → IsSurvey image w fs → (n h : ℕ) → FileAt image w n h
+pub file_between : (image : List ℕ) (w : Walk) (fs : List FindingValue) → IsSurvey image w fs → (n h : ℕ) → FileAt image w n h
     → (1 ≤ n) × (n ≤ heads w)
 file_between image w fs (unread f) n h at = absurd at.header.has
 file_between image w fs (read v d t) n h at = number_of image (gathered image v) at.header
 
 -- an entry is a file where its header says so
-pub file_told : (image : List ℕ) (w : List (Role × ℕ)) (fs : List FindingValue) → IsSurvey image w fs → (n : ℕ) (t : Bool) → 1 ≤ n → n ≤ heads w
+pub file_told : (image : List ℕ) (w : Walk) (fs : List FindingValue) → IsSurvey image w fs → (n : ℕ) (t : Bool) → 1 ≤ n → n ≤ heads w
     → t ≡ (word_in image (node_block w n) SECONDARY_TYPE == ST_FILE) → (t ≡ true) ↔ ((h : ℕ) × FileAt image w n h)
 file_told image w fs survey n t lo hi e =
     let at : (h : ℕ) → HeadAt w n h → word_in image (node_block w n) SECONDARY_TYPE ≡ word_in image h SECONDARY_TYPE =
@@ -53,7 +53,7 @@ file_told image w fs survey n t lo hi e =
     )
 
 -- an entry of the directory is a child by its name
-pub child_told : (image : List ℕ) (w : List (Role × ℕ)) (fs : List FindingValue) → IsSurvey image w fs → (p n : ℕ) (name text : List ℕ)
+pub child_told : (image : List ℕ) (w : Walk) (fs : List FindingValue) → IsSurvey image w fs → (p n : ℕ) (name text : List ℕ)
     (t : Bool) (up : ℕ) → 1 ≤ n → n ≤ heads w → ((q s j b : ℕ) → Has w (Head n q s j) b → up ≡ q) → up ≡ p → text ≡ name_of image (node_block w n)
     → t ≡ bytes_eq (uppers_in image text) (uppers_in image name) → (t ≡ true) ↔ IsNamedChild image w p name n
 child_told image w fs h p n name text t up lo hi parent same is_text is_t =
@@ -65,7 +65,7 @@ child_told image w fs h p n name text t up lo hi parent same is_text is_t =
       (λ k. is_t ∙ decides.1 (ap (uppers_in image) (is_text ∙ ap (name_of image) (header_one image w fs h n p k.0 k.1 k.2 k.3)) ∙ k.4)),
     )
 
-module _ (image : List ℕ) (w : List (Role × ℕ)) where
+module _ (image : List ℕ) (w : Walk) where
   -- there is one first child
   pub one_first : (p : ℕ) (name : List ℕ) (n m : ℕ) → IsFirstChild image w p name n → IsFirstChild image w p name m → n ≡ m
   one_first p name n m x y =

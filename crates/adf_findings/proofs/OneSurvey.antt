@@ -5,7 +5,7 @@ use native.Mathlib.Decide.{dec_lt}
 use Rattle.adf_blocks.specs.Sizes.{blocks}
 use Rattle.adf_volume.specs.Image.{word_in}
 use Rattle.adf_volume.specs.Demands.{Demand}
-use Rattle.adf_volume.specs.Walk.{Role, Same, Asks, bitmap_demands}
+use Rattle.adf_volume.specs.Walk.{Role, Same, Asks, bitmap_demands, Walk}
 use Rattle.adf_volume.proofs.Lists.{fails_not_all}
 use Rattle.adf_volume.proofs.OneFault.{fails_one, neither_before, number_is}
 use Rattle.adf_volume.proofs.Roles.{same_role}
@@ -106,7 +106,7 @@ module _ (image : List ℕ) where
       let y = bits_one s t u in
       λ t. finding None (e.0 t) (e.1 t) ∷ y t
 
-  pub one_survey : (w u : List (Role × ℕ)) (fs gs : List FindingValue) → IsSurvey image w fs → IsSurvey image u gs → (w ≡ u) × (fs ≡ gs)
+  pub one_survey : (w u : Walk) (fs gs : List FindingValue) → IsSurvey image w fs → IsSurvey image u gs → (w ≡ u) × (fs ≡ gs)
   one_survey w u fs gs (unread f) (unread g) = (refl, unread_one image f g)
   one_survey w u fs gs (unread f) (read v d t) = absurd (not_unread image (boot_told image v).1 (root_told image v).1 f)
   one_survey w u fs gs (read v d t) (unread f) = absurd (not_unread image (boot_told image v).1 (root_told image v).1 f)

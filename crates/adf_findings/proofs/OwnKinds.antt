@@ -9,7 +9,7 @@ use Rattle.adf_names.specs.declared.kind.Kind.{Kind}
 use Rattle.adf_names.specs.declared.kind.Kind.TheVariants.{Ofs, Ffs}
 use Rattle.adf_blocks.specs.Sizes.{blocks}
 use Rattle.adf_volume.specs.Image.{kind_of}
-use Rattle.adf_volume.specs.Walk.{Role, Has, heads, node_block}
+use Rattle.adf_volume.specs.Walk.{Has, heads, node_block, Walk}
 use Rattle.adf_volume.specs.Walk.Role.{Data}
 use Rattle.adf_volume.proofs.Gathered.{number_of}
 use Rattle.adf_findings.specs.declared.own_kind.Tally.{Tally}
@@ -29,7 +29,7 @@ kept_owner zero o e = ap (λ o. unwrap_or o 0) (sym e)
 kept_owner (suc m) o e = grind (arith, common_steps, eqb_tells)
 
 -- what is kept of a block is what it says
-pub kept_said : {v : SurveyValue} {w : List (Role × ℕ)} {fs : List FindingValue} → TellsOf v w fs → (image : List ℕ) (b : ℕ)
+pub kept_said : {v : SurveyValue} {w : Walk} {fs : List FindingValue} → TellsOf v w fs → (image : List ℕ) (b : ℕ)
     → said_in image v b ≡ said_at image w b
 kept_said {v = v} {w = w} t image b =
     let number : slice_index v.numbers b ≡ number_at w b = t.number b in
@@ -38,16 +38,16 @@ kept_said {v = v} {w = w} t image b =
     t.node (slice_index v.owners b) ∙ ap (node_block w) (sym own) in
     λ i. cond (number i == 0) None (Some (says_data_of image (head i) (number i) b))
 
-pub tally_none : (image : List ℕ) (w : List (Role × ℕ)) → tally image w 0 ≡ record { says = 0; others = 0 }
+pub tally_none : (image : List ℕ) (w : Walk) → tally image w 0 ≡ record { says = 0; others = 0 }
 unfolding tally
 tally_none image w = refl
 
-pub tally_more : (image : List ℕ) (w : List (Role × ℕ)) (k : ℕ) → tally image w (k + 1) ≡ tallied (tally image w k) (said_at image w k)
+pub tally_more : (image : List ℕ) (w : Walk) (k : ℕ) → tally image w (k + 1) ≡ tallied (tally image w k) (said_at image w k)
 unfolding tally
 tally_more image w k = rw add-one refl
 
 -- one more block is counted
-pub more_tallied : {v : SurveyValue} {w : List (Role × ℕ)} {fs : List FindingValue} → TellsOf v w fs → (image : List ℕ) (k : ℕ) (t u : Tally)
+pub more_tallied : {v : SurveyValue} {w : Walk} {fs : List FindingValue} → TellsOf v w fs → (image : List ℕ) (k : ℕ) (t u : Tally)
     → t ≡ tally image w k → u ≡ tallied t (said_in image v k) → u ≡ tally image w (k + 1)
 more_tallied {v = v} {w = w} told image k t u e f =
     f ∙ ((λ i. tallied (e i) (kept_said told image k i)) ∙ sym (tally_more image w k))
@@ -58,7 +58,7 @@ few_tallied t (Some true) k le = omega arith
 few_tallied t (Some false) k le = omega arith
 
 -- the file of a data block is an entry
-data_entry : (image : List ℕ) (w : List (Role × ℕ)) (fs : List FindingValue) → IsSurvey image w fs → (n k b : ℕ) → Has w (Data n (suc k)) b
+data_entry : (image : List ℕ) (w : Walk) (fs : List FindingValue) → IsSurvey image w fs → (n k b : ℕ) → Has w (Data n (suc k)) b
     → (1 ≤ n) × (n ≤ heads w)
 data_entry image w fs (unread f) n k b h = absurd h
 data_entry image w fs (read v d t) n k b h = elim (taken_wanted image v (Data n (suc k)) b h) [
@@ -67,7 +67,7 @@ data_entry image w fs (read v d t) n k b h = elim (taken_wanted image v (Data n 
 ]
 
 -- no data block of entries that are sound by some findings says that it is an OFS one
-module _ (image : List ℕ) (w : List (Role × ℕ)) (fs gs : List FindingValue) (v : IsSurvey image w fs) (ffs : kind_of image ≡ Ffs)
+module _ (image : List ℕ) (w : Walk) (fs gs : List FindingValue) (v : IsSurvey image w fs) (ffs : kind_of image ≡ Ffs)
     (sound : (n : ℕ) → 1 ≤ n → n ≤ heads w → IsSound image w gs n (node_block w n)) where
   none_said : (b : ℕ) → said_at image w b ≡ Some true → ⊥
   none_said b e = go (number_at w b) refl e
@@ -99,7 +99,7 @@ none_more : (t : Tally) → t.says ≡ 0 → false ≡ is_other_kind Ffs t
 none_more t e = let none : nat_lt t.others t.says ≡ false = grind (arith, nat_tests) in sym none
 
 -- so the type is right
-pub sound_typed : (image : List ℕ) (w : List (Role × ℕ)) (fs gs : List FindingValue) → IsSurvey image w fs
+pub sound_typed : (image : List ℕ) (w : Walk) (fs gs : List FindingValue) → IsSurvey image w fs
     → ((n : ℕ) → 1 ≤ n → n ≤ heads w → IsSound image w gs n (node_block w n)) → false ≡ is_mistyped image w
 sound_typed image w fs gs v sound = go (kind_of image) refl
   where
@@ -113,7 +113,7 @@ unfolding tally
 no_tally image zero = refl
 no_tally image (suc k) = no_tally image k
 
-pub none_mistyped : (image : List ℕ) (w : List (Role × ℕ)) → w ≡ [] → false ≡ is_mistyped image w
+pub none_mistyped : (image : List ℕ) (w : Walk) → w ≡ [] → false ≡ is_mistyped image w
 none_mistyped image w e = go (kind_of image)
   where
     is : tally image w (blocks image) ≡ record { says = 0; others = 0 }

@@ -6,7 +6,7 @@ use Rattle.std.proofs.Common.{◌≡◌, ◌⊎◌, ℕ, zero, suc, List, [], �
 use Rattle.std.proofs.lemmas.Bool.{cases_Bool, cases_lt}
 use native.Mathlib.Decide.{dec_le, ℕ_discrete}
 use Rattle.adf_volume.specs.Image.{name_of}
-use Rattle.adf_volume.specs.Walk.{FileAt, Role, heads, node_block}
+use Rattle.adf_volume.specs.Walk.{FileAt, heads, node_block, Walk}
 use Rattle.adf_volume.proofs.DecidedAsks.{dec_file}
 use Rattle.adf_findings.specs.Demands.{uppers_in}
 use Rattle.adf_findings.specs.Found.{parent_node}
@@ -18,11 +18,11 @@ use Rattle.adf_findings.proofs.Lookups.{child_between, child_told, leads_on}
 use Rattle.adf_findings.proofs.OneSurvey.{gathered}
 
 -- whether an entry is a file
-pub dec_is_file : (image : List ℕ) (w : List (Role × ℕ)) (fs : List FindingValue) → IsSurvey image w fs → (n : ℕ) → Dec ((h : ℕ) × FileAt image w n h)
+pub dec_is_file : (image : List ℕ) (w : Walk) (fs : List FindingValue) → IsSurvey image w fs → (n : ℕ) → Dec ((h : ℕ) × FileAt image w n h)
 dec_is_file image w fs (unread f) n = no (λ y. y.1.header.has)
 dec_is_file image w fs (read {s = s} v d t) n = dec_file image s.walk (gathered image v) n
 
-module _ (image : List ℕ) (w : List (Role × ℕ)) (fs : List FindingValue) (survey : IsSurvey image w fs) where
+module _ (image : List ℕ) (w : Walk) (fs : List FindingValue) (survey : IsSurvey image w fs) where
   -- whether an entry is found in a directory by a name
 
   same_name : (name : List ℕ) (n : ℕ) → Bool

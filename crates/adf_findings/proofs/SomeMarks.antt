@@ -9,7 +9,7 @@ use native.Mathlib.Decide.{dec_le, map_dec, ℕ_discrete}
 use Rattle.adf_names.specs.declared.kind.Kind.{Kind, TheVariants.Ofs, TheVariants.Ffs}
 use Rattle.adf_volume.specs.Image.{kind_of, word_in}
 use Rattle.adf_volume.specs.Lists.{In}
-use Rattle.adf_volume.specs.Walk.{Asks, Has, HeadAt, Role, Same, first, heads, node_block, second, third}
+use Rattle.adf_volume.specs.Walk.{Asks, Has, HeadAt, Role, Same, first, heads, node_block, second, third, Walk}
 use Rattle.adf_volume.specs.Walk.Role.{Data, Ext, Head}
 use Rattle.adf_volume.proofs.Gathered.{number_of, one_head}
 use Rattle.adf_volume.proofs.Roles.{head_role}
@@ -49,7 +49,7 @@ dec_parts P test (x ∷ all) =
     here (Some z) = map_dec (λ p q e. let one : z ≡ q = cc in subst P one p) (λ h. h z refl) (test z)
 
 -- whether each data block of the file passes a test
-dec_datas : (P : ℕ → ℕ → Type 0) → ((k b : ℕ) → Dec (P k b)) → (n : ℕ) (w : List (Role × ℕ)) → Dec ((k b : ℕ) → Has w (Data n k) b → P k b)
+dec_datas : (P : ℕ → ℕ → Type 0) → ((k b : ℕ) → Dec (P k b)) → (n : ℕ) (w : Walk) → Dec ((k b : ℕ) → Has w (Data n k) b → P k b)
 dec_datas P test n [] = yes (λ k b h. absurd h)
 dec_datas P test n (x ∷ w) =
     map_dec (λ y k b h. elim h [ inl e ↦ y.0 k b e.0 e.1 | inr g ↦ y.1 k b g ])
@@ -71,7 +71,7 @@ dec_is_head (Head m t u i) n p s j =
     (dec_and (dec_and (ℕ_discrete m n) (ℕ_discrete t p)) (dec_and (ℕ_discrete u s) (ℕ_discrete i j)))
 dec_is_head _ n p s j = no (λ e. cc)
 
-dec_has_head : (w : List (Role × ℕ)) (n p s j : ℕ) → Dec ((b : ℕ) × Has w (Head n p s j) b)
+dec_has_head : (w : Walk) (n p s j : ℕ) → Dec ((b : ℕ) × Has w (Head n p s j) b)
 dec_has_head [] n p s j = no (λ y. y.1)
 dec_has_head (x ∷ w) n p s j = elim (dec_is_head x.0 n p s j) [
   | yes e ↦ yes (x.1, inl (e, refl))
@@ -109,10 +109,10 @@ dec_unreported_datas : (all : List FindingValue) (n : ℕ) → Dec ((k : ℕ) �
 dec_unreported_datas all n = dec_none n 1 (Data n) (λ k. refl) (λ k. refl) (λ k. refl) all
 
 -- whether each header of the directory that a finding concerns is in the walk
-abbrev IsFollowed : List (Role × ℕ) → ℕ → Role → Type 0
+abbrev IsFollowed : Walk → ℕ → Role → Type 0
 IsFollowed w n q = (m s j : ℕ) → q ≡ Head m n s j → (b : ℕ) × Has w (Head m n s j) b
 
-dec_followed : (w : List (Role × ℕ)) (n : ℕ) (q : Role) → Dec (IsFollowed w n q)
+dec_followed : (w : Walk) (n : ℕ) (q : Role) → Dec (IsFollowed w n q)
 dec_followed w n (Head m p s j) = elim (ℕ_discrete p n) [
   | no d ↦ yes (λ a t i e. absurd (d cc))
   | yes e ↦
@@ -122,10 +122,10 @@ dec_followed w n (Head m p s j) = elim (ℕ_discrete p n) [
 ]
 dec_followed w n _ = yes (λ m s j e. absurd cc)
 
-abbrev ChainsFollowed : List (Role × ℕ) → List FindingValue → ℕ → Type 0
+abbrev ChainsFollowed : Walk → List FindingValue → ℕ → Type 0
 ChainsFollowed w all n = (f : FindingValue) (m s j : ℕ) → In all f → f.part ≡ Some (Head m n s j) → (b : ℕ) × Has w (Head m n s j) b
 
-dec_chains : (w : List (Role × ℕ)) (all : List FindingValue) (n : ℕ) → Dec (ChainsFollowed w all n)
+dec_chains : (w : Walk) (all : List FindingValue) (n : ℕ) → Dec (ChainsFollowed w all n)
 dec_chains w all n =
     map_dec (λ h f m s j i e. h f (Head m n s j) i e m s j refl)
     (λ h f q i e m s j is. h f m s j i (e ∙ ap Some is))
@@ -138,13 +138,13 @@ dec_ffs Ofs = no (λ e. cc)
 dec_ffs Ffs = yes refl
 
 module _ (image : List ℕ) where
-  abbrev AreAlone : List (Role × ℕ) → ℕ → Type 0
+  abbrev AreAlone : Walk → ℕ → Type 0
   AreAlone w n = (k b : ℕ) → Has w (Data n k) b → (q : Role) (a i : ℕ) → Asks image w q a i → word_in image a i ≡ b → Same q (Data n k)
 
-  abbrev AreOwn : List (Role × ℕ) → ℕ → ℕ → Type 0
+  abbrev AreOwn : Walk → ℕ → ℕ → Type 0
   AreOwn w n h = (k b : ℕ) → Has w (Data n k) b → says_data_of image h k b ≡ false
 
-  dec_own : (w : List (Role × ℕ)) (n h : ℕ) → Dec (AreOwn w n h)
+  dec_own : (w : Walk) (n h : ℕ) → Dec (AreOwn w n h)
   dec_own w n h = dec_datas (λ k b. says_data_of image h k b ≡ false) (λ k b. dec_false (says_data_of image h k b)) n w
 
   module _ {s : Course} (v : IsCourse image s) (done : IsDone image s) where
@@ -180,7 +180,7 @@ module _ (image : List ℕ) where
         (dec_both (kind_of image ≡ Ffs) (AreOwn s.walk n h) (dec_ffs (kind_of image)) (dec_own s.walk n h)))))
 
   -- whether an entry of a survey is sound by some findings
-  pub dec_sound : (w : List (Role × ℕ)) (fs : List FindingValue) → IsSurvey image w fs → (all : List FindingValue) (n : ℕ)
+  pub dec_sound : (w : Walk) (fs : List FindingValue) → IsSurvey image w fs → (all : List FindingValue) (n : ℕ)
       → Dec (IsSound image w all n (node_block w n))
   dec_sound w fs (unread f) all n = no (λ x. x.header.has)
   dec_sound w fs (read {s = s} {bits = bits} v d t) all n = elim (dec_le 1 n) [
@@ -191,6 +191,6 @@ module _ (image : List ℕ) where
     ]
   ]
 
-  pub some_marks : (w : List (Role × ℕ)) (fs : List FindingValue) → IsSurvey image w fs → (all : List FindingValue)
+  pub some_marks : (w : Walk) (fs : List FindingValue) → IsSurvey image w fs → (all : List FindingValue)
       → (sound : ℕ → Bool) × AreMarks image w all sound
   some_marks w fs survey all = ((λ n. told (dec_sound w fs survey all n)), (λ n. told_so (dec_sound w fs survey all n)))

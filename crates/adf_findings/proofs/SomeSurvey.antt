@@ -12,7 +12,7 @@ use Rattle.adf_blocks.specs.RootBlock.{root_form}
 use Rattle.adf_volume.specs.Image.{letters_of, word_in, root_of}
 use Rattle.adf_volume.specs.Lists.{In}
 use Rattle.adf_volume.specs.Demands.{FirstFails, IsSize, boot_form, boot_demands, root_demands}
-use Rattle.adf_volume.specs.Walk.{Role, Before, Same, Has, heads, MemberAt, Asks, Lacks, IsAbsent}
+use Rattle.adf_volume.specs.Walk.{Role, Before, Same, Has, heads, MemberAt, Asks, Lacks, IsAbsent, Walk}
 use Rattle.adf_volume.specs.Walk.Role.{Root, Page, MapExt, Head, Ext, Data}
 use Rattle.adf_volume.proofs.DecidedAsks.{Asked, dec_asked}
 use Rattle.adf_volume.proofs.FitWalks.{dec_lacks, lacks_same, least, without}
@@ -55,24 +55,24 @@ asked_by pages (Head n p s j) = Head 0 p s (suc j) ∷ (Ext n 1 ∷ (upto (λ t.
 asked_by pages (Ext n k) = Ext n (suc k) ∷ upto (λ i. Data n (suc (POINTERS * k + i))) POINTERS
 asked_by pages _ = []
 
-abbrev askable : ℕ → List (Role × ℕ) → List Role
+abbrev askable : ℕ → Walk → List Role
 askable pages [] = []
 askable pages (x ∷ w) = asked_by pages x.0 ++ askable pages w
 
-in_askable : (pages : ℕ) (w : List (Role × ℕ)) (q : Role) (b : ℕ) (r : Role) → Has w q b → In (asked_by pages q) r → In (askable pages w) r
+in_askable : (pages : ℕ) (w : Walk) (q : Role) (b : ℕ) (r : Role) → Has w q b → In (asked_by pages q) r → In (askable pages w) r
 in_askable pages [] q b r h i = absurd h
 in_askable pages (x ∷ w) q b r (inl e) i = grind (arith, common_steps, pages, in_left, asked_by, askable)
 in_askable pages (x ∷ w) q b r (inr h) i = in_right (asked_by pages x.0) (askable pages w) r (in_askable pages w q b r h i)
 
 module _ (image : List ℕ) where
   -- a role that is asked for is in the list, but for the number of a header
-  abbrev Listed : List (Role × ℕ) → List Role → Role → Type 0
+  abbrev Listed : Walk → List Role → Role → Type 0
   Listed w cs r = (z : Role) × In cs z × (renumbered (suc (heads w)) z ≡ r)
 
   abbrev pages : ℕ
   pages = pages_needed (blocks image)
 
-  module _ (w : List (Role × ℕ)) (v : IsGathered image w) where
+  module _ (w : Walk) (v : IsGathered image w) where
     -- a member asks for what is listed of it
     listed : (q : Role) (b : ℕ) (z r : Role) → Has w q b → In (asked_by pages q) z → renumbered (suc (heads w)) z ≡ r → Listed w (askable pages w) r
     listed q b z r h i e = (z, in_askable pages w q b z h i, e)
@@ -129,7 +129,7 @@ module _ (image : List ℕ) where
   module _ (free : List ℕ)
       (again : (rest : List ℕ) → length free ≡ suc (length rest) → (s : Course) → IsCourse image s → Frees rest s → Finished) where
     -- a part is taken, and its block is free no more
-    took : (w over : List (Role × ℕ)) (fs : List FindingValue) (r : Role) (b : ℕ)
+    took : (w over : Walk) (fs : List FindingValue) (r : Role) (b : ℕ)
         → IsCourse image (record { walk = (r, b) ∷ w; skipped = over; findings = fs })
         → b < blocks image → IsAbsent w b → ((b : ℕ) → b < blocks image → IsAbsent w b → In free b) → Finished
     took w over fs r b v lt abs fr =
@@ -206,7 +206,7 @@ module _ (image : List ℕ) where
 
   -- where the root is taken, the parts are gone through
   gone_through : {boot root : List FindingValue} → BootTells image boot → RootTells image root
-      → (w : List (Role × ℕ)) × (gs : List FindingValue) × IsSurvey image w gs
+      → (w : Walk) × (gs : List FindingValue) × IsSurvey image w gs
   gone_through {boot = boot} {root = root} b r =
       let free : List ℕ = upto (λ b. b) (blocks image) in
       let t = finish (length free) free refl (begun image (boot ++ root)) (start b r) (λ b lt h. in_upto (λ b. b) (blocks image) b lt) in
@@ -217,22 +217,22 @@ module _ (image : List ℕ) where
   decided_size = grind (arith, common_steps, dec_true)
 
   -- behind a boot block of type 0 to 5 the root is judged
-  behind_boot : {boot : List FindingValue} → BootTells image boot → (w : List (Role × ℕ)) × (fs : List FindingValue) × IsSurvey image w fs
+  behind_boot : {boot : List FindingValue} → BootTells image boot → (w : Walk) × (fs : List FindingValue) × IsSurvey image w fs
   behind_boot {boot = boot} b =
       let y = judged Root (root_demands image (root_of image)) (decided_form (root_of image) (root_form (block image (root_of image)))) in go y.0 y.1
     where
-      go : (j : JudgementValue) → RootJudged image j → (w : List (Role × ℕ)) × (fs : List FindingValue) × IsSurvey image w fs
+      go : (j : JudgementValue) → RootJudged image j → (w : Walk) × (fs : List FindingValue) × IsSurvey image w fs
       go clean h = gone_through b (clean_root h)
       go (reported at c) h = gone_through b (reported_root h)
       go (skipped at c) h = ([], boot ++ finding None at c ∷ [], unread (bad_root b h))
 
   -- a boot block with a cause is of another type, or nothing is taken
   by_cause : (at : ℕ) (c : Cause) → FirstFails (boot_demands image) at c → (t : Bool) → is_other_type c ≡ t
-      → (w : List (Role × ℕ)) × (fs : List FindingValue) × IsSurvey image w fs
+      → (w : Walk) × (fs : List FindingValue) × IsSurvey image w fs
   by_cause at c f true e = behind_boot (other_type f e)
   by_cause at c f false e = ([], finding None at c ∷ [], unread (bad_boot f e))
 
-  pub some_survey : (w : List (Role × ℕ)) × (fs : List FindingValue) × IsSurvey image w fs
+  pub some_survey : (w : Walk) × (fs : List FindingValue) × IsSurvey image w fs
   some_survey = elim (first_failing (boot_demands image) (decided_size, decided_form 0 (boot_form (block image 0)))) [
     | inl h ↦ behind_boot (clean_boot h)
     | inr f ↦ by_cause f.0 f.1 f.2 (is_other_type f.1) refl

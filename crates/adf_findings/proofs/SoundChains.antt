@@ -1,7 +1,7 @@
 -- All that the chains of a sound entry lead to is in the walk of its survey.
 use Rattle.std.proofs.Common.{◌≡◌, ◌∙◌, ℕ, List, inl, inr, Some, refl, ap, subst, sym, arith}
 use Rattle.adf_volume.specs.Image.{word_in}
-use Rattle.adf_volume.specs.Walk.{Asks, Has, Role, Same}
+use Rattle.adf_volume.specs.Walk.{Asks, Has, Role, Same, Walk}
 use Rattle.adf_volume.specs.Walk.Role.{Head}
 use Rattle.adf_volume.proofs.Lists.{in_left}
 use Rattle.adf_volume.proofs.Roles.{same_of}
@@ -21,7 +21,7 @@ same_head (Head k q t i) m p s j h =
     (k, e)
 same_head _ m p s j h = absurd (omega arith)
 
-pub chains_followed : (image : List ℕ) (w : List (Role × ℕ)) (fs : List FindingValue) (n h : ℕ) → IsSurvey image w fs → IsSound image w fs n h
+pub chains_followed : (image : List ℕ) (w : Walk) (fs : List FindingValue) (n h : ℕ) → IsSurvey image w fs → IsSound image w fs n h
     → (m s j a i : ℕ) → Asks image w (Head m n s j) a i → (k : ℕ) × Has w (Head k n s j) (word_in image a i)
 chains_followed image w fs n h (unread f) sound m s j a i ask = absurd sound.header.has
 chains_followed image w fs n h (read {s = c} {bits = bits} v d t) sound m s j a i ask =

@@ -8,7 +8,7 @@ use Rattle.adf_blocks.specs.declared.layout.TheConstants.{POINTERS, SIZE}
 use Rattle.adf_volume.specs.Image.{letters_of, held, kind_of, word_in, table_word}
 use Rattle.adf_volume.specs.Lists.{In}
 use Rattle.adf_volume.specs.Demands.{AllHold, data_demands, ext_demands}
-use Rattle.adf_volume.specs.Walk.{Before, Lacks, NodeAt, member_block, next_data, node_block}
+use Rattle.adf_volume.specs.Walk.{Before, Lacks, NodeAt, member_block, next_data, node_block, Walk}
 use Rattle.adf_volume.specs.Walk.{Role, second, Has, FileAt, MemberAt, data_count, Asks, IsAbsent, ext_count}
 use Rattle.adf_volume.specs.Walk.Role.{Root, Head, Ext, Data}
 use Rattle.adf_volume.proofs.Lists.{in_left, in_right}
@@ -52,8 +52,8 @@ module _ (image : List ℕ) where
   unreported_less fs gs r h f q i = h f q (in_left fs gs f i)
 
   -- how a member came into a walk: nothing that comes before it was left
-  record Came (w : List (Role × ℕ)) (fs : List FindingValue) (r : Role) (b : ℕ) : Type 0 where
-    before : List (Role × ℕ)
+  record Came (w : Walk) (fs : List FindingValue) (r : Role) (b : ℕ) : Type 0 where
+    before : Walk
     came_before : IsGathered image before
     at : ℕ
     index : ℕ
@@ -64,10 +64,10 @@ module _ (image : List ℕ) where
     counted : (n : ℕ) → ext_count before n ≤ ext_count w n
     earlier : (q : Role) (c k : ℕ) → Asks image before q c k → Before q r → Lacks before q → IsUnreported fs q → ⊥
 
-  came_later : (w : List (Role × ℕ)) (fs : List FindingValue) (r : Role) (b : ℕ) (x : Role × ℕ) → Came w fs r b → Came (x ∷ w) fs r b
+  came_later : (w : Walk) (fs : List FindingValue) (r : Role) (b : ℕ) (x : Role × ℕ) → Came w fs r b → Came (x ∷ w) fs r b
   came_later w fs r b x y = grind (arith, common_steps, count_up)
 
-  came_reported : (w : List (Role × ℕ)) (fs gs : List FindingValue) (r : Role) (b : ℕ) → Came w fs r b → Came w (fs ++ gs) r b
+  came_reported : (w : Walk) (fs gs : List FindingValue) (r : Role) (b : ℕ) → Came w fs r b → Came w (fs ++ gs) r b
   came_reported w fs gs r b y = record {
     before = y.before;
     came_before = y.came_before;
@@ -81,7 +81,7 @@ module _ (image : List ℕ) where
     earlier = (λ q c k ask bef lack clear. y.earlier q c k ask bef lack (unreported_less fs gs q clear));
   }
 
-  came_new : (s : Course) (r : Role) (a i : ℕ) (w : List (Role × ℕ)) (fs : List FindingValue) (x : Role × ℕ) → w ≡ x ∷ s.walk → IsCourse image s
+  came_new : (s : Course) (r : Role) (a i : ℕ) (w : Walk) (fs : List FindingValue) (x : Role × ℕ) → w ≡ x ∷ s.walk → IsCourse image s
       → IsNext image s r a i → ((q : Role) → Reported s.findings q → Reported fs q)
       → AllHold (demands_in image s.walk r a (word_in image a i)) ⊎ Reported fs r → Came w fs r (word_in image a i)
   came_new s r a i w fs x e v n more j = record {
@@ -103,7 +103,7 @@ module _ (image : List ℕ) where
   came (start boot root) r b (inl e) = inl e.0
   came (start boot root) r b (inr h) = absurd h
   came (step {s = s} {r = q} {a = a} {i = i} clean v n g) r b (inl e) =
-      let w : List (Role × ℕ) = (q, word_in image a i) ∷ s.walk in
+      let w : Walk = (q, word_in image a i) ∷ s.walk in
       inr (subst (Came w s.findings r) e.1 (subst (λ r. Came w s.findings r (word_in image a i)) e.0
       (came_new s q a i w s.findings (q, word_in image a i) refl v n (λ p h. h) (inl g))))
   came (step {s = s} {r = q} {a = a} {i = i} clean v n g) r b (inr h) =
@@ -112,7 +112,7 @@ module _ (image : List ℕ) where
         | inr y ↦ inr (came_later s.walk s.findings r b (q, word_in image a i) y)
       ]
   came (step {s = s} {r = q} {a = a} {i = i} (reported at c) v n g) r b (inl e) =
-      let w : List (Role × ℕ) = (q, word_in image a i) ∷ s.walk in
+      let w : Walk = (q, word_in image a i) ∷ s.walk in
       let fs : List FindingValue = s.findings ++ finding (Some q) at c ∷ [] in
       inr (subst (Came w fs r) e.1 (subst (λ r. Came w fs r (word_in image a i)) e.0
       (came_new s q a i w fs (q, word_in image a i) refl v n (reported_more s.findings (finding (Some q) at c ∷ []))
@@ -149,7 +149,7 @@ module _ (image : List ℕ) where
         let x = came_clean r b g other clear in
         (x.0, (part_holds_by (letters_of image) image x.0.before r x.0.at b x.1).form)
 
-    node_before : (w : List (Role × ℕ)) (p a : ℕ) → ((q : Role) (c : ℕ) → Has w q c → Has s.walk q c) → NodeAt w p a → NodeAt s.walk p a
+    node_before : (w : Walk) (p a : ℕ) → ((q : Role) (c : ℕ) → Has w q c → Has s.walk q c) → NodeAt w p a → NodeAt s.walk p a
     node_before w zero a older f = older Root a f
     node_before w (suc p) a older f = head_in f (older (head_role f) a f.has)
 
@@ -158,7 +158,7 @@ module _ (image : List ℕ) where
         → AllHold (head_demands_in image (kind_of image) h up t)
     head_formed n p t j h up g clear node =
         let x = came_formed (Head n p t j) h g (λ e. cc) clear in
-        let w : List (Role × ℕ) = x.0.before in
+        let w : Walk = x.0.before in
         let d = asked_dir image x.0.came_before n p t j x.0.at x.0.index x.0.asked in
         let f : NodeAt w p d.0 = dir_is_node image w p d.0 d.1 in
         let e : node_block w p ≡ up =
@@ -166,7 +166,7 @@ module _ (image : List ℕ) where
         subst (λ up. AllHold (head_demands_in image (kind_of image) h up t)) e x.1
 
     -- the file of a part is that of the walk
-    file_was : (w : List (Role × ℕ)) (n a h : ℕ) → IsGathered image w → ((q : Role) (c : ℕ) → Has w q c → Has s.walk q c) → FileAt image w n a
+    file_was : (w : Walk) (n a h : ℕ) → IsGathered image w → ((q : Role) (c : ℕ) → Has w q c → Has s.walk q c) → FileAt image w n a
         → FileAt image s.walk n h → node_block w n ≡ h
     file_was w n a h g older f file =
         head_block image g f.header ∙ file_one image (gathered image v) n a h (typed_in f (older (head_role f.header) a f.header.has)) file
@@ -192,10 +192,10 @@ module _ (image : List ℕ) where
 
     module _ (n h : ℕ) (file : FileAt image s.walk n h) (clear : (k : ℕ) → IsUnreported s.findings (Data n k)) where
       -- a file that was there before has the same header
-      file_before : (w : List (Role × ℕ)) (a : ℕ) → ((q : Role) (c : ℕ) → Has w q c → Has s.walk q c) → FileAt image w n a → FileAt image s.walk n a
+      file_before : (w : Walk) (a : ℕ) → ((q : Role) (c : ℕ) → Has w q c → Has s.walk q c) → FileAt image w n a → FileAt image s.walk n a
       file_before w a older f = typed_in f (older (head_role f.header) a f.header.has)
 
-      member_before : (w : List (Role × ℕ)) (m a : ℕ) → ((q : Role) (c : ℕ) → Has w q c → Has s.walk q c) → MemberAt image w n m a
+      member_before : (w : Walk) (m a : ℕ) → ((q : Role) (c : ℕ) → Has w q c → Has s.walk q c) → MemberAt image w n m a
           → MemberAt image s.walk n m a
       member_before w zero a older f = file_before w a older f
       member_before w (suc m) a older f = older (Ext n (suc m)) a f
@@ -311,7 +311,7 @@ module _ (image : List ℕ) where
               subst (λ h. AllHold (data_demands image (kind_of image) b h (suc k) (held (kind_of image) (word_in image h SIZE) (suc k)) next)) e form,
             )
 
-  absent_new : (w : List (Role × ℕ)) (z r q : Role) (c b : ℕ) → IsAbsent w c → (Has w r b → Has w q b → r ≡ q) → Has ((z, c) ∷ w) r b
+  absent_new : (w : Walk) (z r q : Role) (c b : ℕ) → IsAbsent w c → (Has w r b → Has w q b → r ≡ q) → Has ((z, c) ∷ w) r b
       → Has ((z, c) ∷ w) q b → r ≡ q
   absent_new w z r q c b h k (inl e) (inl f) = sym e.0 ∙ f.0
   absent_new w z r q c b h k (inl e) (inr g) = absurd (h q (subst (λ b. Has w q b) (sym e.1) g))
@@ -330,11 +330,11 @@ module _ (image : List ℕ) where
       absent_new s.walk z r q (word_in image a i) b part.unowned (one_role v r q b) h k
   one_role (step (skipped at c) v n g) r q b h k = one_role v r q b h k
 
-  pub one_part : (w : List (Role × ℕ)) (fs : List FindingValue) → IsSurvey image w fs → (r q : Role) (b : ℕ) → Has w r b → Has w q b → r ≡ q
+  pub one_part : (w : Walk) (fs : List FindingValue) → IsSurvey image w fs → (r q : Role) (b : ℕ) → Has w r b → Has w q b → r ≡ q
   one_part w fs (unread f) r q b h k = absurd h
   one_part w fs (read v d t) r q b h k = one_role v r q b h k
 
-  pub sound_header : (w : List (Role × ℕ)) (fs : List FindingValue) (n h : ℕ) → IsSurvey image w fs → IsSound image w fs n h → HeaderHolds image w n h
+  pub sound_header : (w : Walk) (fs : List FindingValue) (n h : ℕ) → IsSurvey image w fs → IsSound image w fs n h → HeaderHolds image w n h
   sound_header w fs n h (unread f) sound g up node = absurd g.has
   sound_header w fs n h (read {s = s} {bits = bits} v d told) sound g up node =
       let e : head_role sound.header ≡ head_role g = one_role v (head_role sound.header) (head_role g) h sound.header.has g.has in
@@ -343,7 +343,7 @@ module _ (image : List ℕ) where
       head_formed v d n g.parent g.slot g.place h up g.has clear node
 
   -- the findings that count may be the grave ones alone
-  pub whole_file : (w : List (Role × ℕ)) (fs : List FindingValue) (c : Bool) (n h : ℕ) → IsSurvey image w fs → IsSound image w (counting c fs) n h
+  pub whole_file : (w : Walk) (fs : List FindingValue) (c : Bool) (n h : ℕ) → IsSurvey image w fs → IsSound image w (counting c fs) n h
       → FileAt image w n h → FileHolds image w n h
   whole_file w fs c n h (unread f) sound file = absurd file.header.has
   whole_file w fs c n h (read {s = s} {bits = bits} v d told) sound file =
@@ -358,6 +358,6 @@ module _ (image : List ℕ) where
         datas = data_formed v d n h file datas exts;
       }
 
-  pub sound_file : (w : List (Role × ℕ)) (fs : List FindingValue) (n h : ℕ) → IsSurvey image w fs → IsSound image w fs n h → FileAt image w n h
+  pub sound_file : (w : Walk) (fs : List FindingValue) (n h : ℕ) → IsSurvey image w fs → IsSound image w fs n h → FileAt image w n h
       → FileHolds image w n h
   sound_file w fs n h survey sound file = whole_file w fs false n h survey sound file

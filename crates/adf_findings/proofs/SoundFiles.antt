@@ -4,7 +4,7 @@ use Rattle.adf_blocks.specs.declared.layout.TheConstants.{SECONDARY_TYPE, SIZE, 
 use Rattle.adf_volume.proofs.Images.{count_small}
 use Rattle.adf_volume.specs.Image.{kind_of, pieces, word_in}
 use Rattle.adf_volume.specs.Made.{datas_in}
-use Rattle.adf_volume.specs.Walk.{Role, FileAt, data_count, node_block}
+use Rattle.adf_volume.specs.Walk.{FileAt, data_count, node_block, Walk}
 use Rattle.adf_volume.specs.Walk.Role.{Data}
 use Rattle.adf_volume.proofs.Lists.{at_index_or, at_some, in_left}
 use Rattle.adf_blocks.specs.Sizes.{blocks}
@@ -25,19 +25,19 @@ use Rattle.adf_findings.proofs.SoundMarks.{data_inside}
 use Rattle.adf_findings.proofs.Starts.{course_size}
 
 -- the data blocks of a sound entry are in the walk in order; the findings that count may be the grave ones alone
-pub whole_listed : (image : List ℕ) (w : List (Role × ℕ)) (fs : List FindingValue) (c : Bool) (n h : ℕ) → IsSurvey image w fs
+pub whole_listed : (image : List ℕ) (w : Walk) (fs : List FindingValue) (c : Bool) (n h : ℕ) → IsSurvey image w fs
     → IsSound image w (counting c fs) n h → DatasListed image n w
 whole_listed image w fs c n h (unread f) sound = absurd sound.header.has
 whole_listed image w fs c n h (read {s = s} {bits = bits} v d told) sound =
     datas_listed image n v (λ k b g. let y = skipped_reported image v (Data n k) b g in
     data_unreported c (s.findings ++ bits) n k (sound.datas k) y.0 (Data n k) (in_left s.findings bits y.0 y.1) y.2 (same_refl (Data n k)))
 
-pub sound_listed : (image : List ℕ) (w : List (Role × ℕ)) (fs : List FindingValue) (n h : ℕ) → IsSurvey image w fs → IsSound image w fs n h
+pub sound_listed : (image : List ℕ) (w : Walk) (fs : List FindingValue) (n h : ℕ) → IsSurvey image w fs → IsSound image w fs n h
     → DatasListed image n w
 sound_listed image w fs n h survey sound = whole_listed image w fs false n h survey sound
 
 -- the file that the table of a sound file tells is that of the walk, and it has its blocks
-pub file_told : (image : List ℕ) (w : List (Role × ℕ)) (fs : List FindingValue) (c : Bool) (n : ℕ) → IsSurvey image w fs
+pub file_told : (image : List ℕ) (w : Walk) (fs : List FindingValue) (c : Bool) (n : ℕ) → IsSurvey image w fs
     → IsSound image w (counting c fs) n (node_block w n) → word_in image (node_block w n) SECONDARY_TYPE ≡ ST_FILE
     → (file_from image (node_block w n) ≡ file_in image w n) × HasItsBlocks (file_in image w n)
 file_told image w fs c n (unread f) sound type = absurd sound.header.has
@@ -57,7 +57,7 @@ file_told image w fs c n (read {s = s} {bits = bits} v d told) sound type =
     )
 
 -- what is kept of a survey tells of the header of an entry
-module _ (v : SurveyValue) (kept : IsOfSurvey v) (w : List (Role × ℕ)) (fs : List FindingValue) (h : IsSurvey v.image w fs) (n : ℕ)
+module _ (v : SurveyValue) (kept : IsOfSurvey v) (w : Walk) (fs : List FindingValue) (h : IsSurvey v.image w fs) (n : ℕ)
     {head type : ℕ} {image : List ℕ} (is_image : image ≡ v.image) (is_head : head ≡ slice_index v.nodes n)
     (is_type : type ≡ word_in image head SECONDARY_TYPE) where
   head_is : head ≡ node_block w n

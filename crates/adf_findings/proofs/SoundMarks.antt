@@ -9,7 +9,7 @@ use Rattle.adf_names.specs.declared.kind.Kind.{Kind, TheVariants.Ofs, TheVariant
 use Rattle.adf_blocks.specs.Sizes.{blocks}
 use Rattle.adf_volume.specs.Image.{kind_of, root_of, word_in}
 use Rattle.adf_volume.specs.Lists.{In}
-use Rattle.adf_volume.specs.Walk.{Role, Same, Has, Asks, Lacks, IsAbsent, heads, node_block}
+use Rattle.adf_volume.specs.Walk.{Role, Same, Has, Asks, Lacks, IsAbsent, heads, node_block, Walk}
 use Rattle.adf_volume.specs.Walk.Role.{Root, Head, Ext, Data}
 use Rattle.adf_volume.proofs.Gathered.{IsGathered, asks_one, head_block, number_of, numbered as has_number, one_block, one_head}
 use Rattle.adf_volume.proofs.Lists.{in_cases}
@@ -101,7 +101,7 @@ module _ (image : List ℕ) where
   bits_none (differs h k t) f (inl e) = ap (λ f. f.part) (sym e)
   bits_none (differs h k t) f (inr m) = bits_none t f m
 
-  new_apart : (w : List (Role × ℕ)) (z r q : Role) (c : ℕ) → Lacks w z → z ≡ r → Has w q c → Same r q → ⊥
+  new_apart : (w : Walk) (z r q : Role) (c : ℕ) → Lacks w z → z ≡ r → Has w q c → Same r q → ⊥
   new_apart w z r q c l e k same = let t : Same z r = same_of z r e in l q c k (omega arith)
 
   -- what is taken was not skipped
@@ -113,17 +113,17 @@ module _ (image : List ℕ) where
   apart (step _ v n g) r q b c (inr h) k same = apart v r q b c h k same
 
   -- the walk asks for the part, a header with the next number, in block b
-  pub record Wanted (w : List (Role × ℕ)) (r : Role) (b : ℕ) : Type 0 where
+  pub record Wanted (w : Walk) (r : Role) (b : ℕ) : Type 0 where
     pub holder : ℕ
     pub word : ℕ
     pub asked : Asks image w (renumbered (suc (heads w)) r) holder word
     pub named : word_in image holder word ≡ b
 
-  own_number : (w : List (Role × ℕ)) (r : Role) (a i : ℕ) → Asks image w r a i → r ≡ renumbered (suc (heads w)) r
+  own_number : (w : Walk) (r : Role) (a i : ℕ) → Asks image w r a i → r ≡ renumbered (suc (heads w)) r
   own_number w (Head n p s j) a i h = ap (λ n. Head n p s j) (asks_number image w n p s j a i h)
   own_number w _ a i h = refl
 
-  wanted_now : (w : List (Role × ℕ)) (r : Role) (a i : ℕ) → Asks image w r a i → Wanted w r (word_in image a i)
+  wanted_now : (w : Walk) (r : Role) (a i : ℕ) → Asks image w r a i → Wanted w r (word_in image a i)
   wanted_now w r a i h = record { holder = a; word = i; asked = subst (λ r. Asks image w r a i) (own_number w r a i h) h; named = refl }
 
   wanted_later : (s : Course) (z : Role) (a i c : ℕ) → IsCourse image s → IsNext image s z a i → (r : Role) (b : ℕ) → Wanted s.walk r b
@@ -151,22 +151,22 @@ module _ (image : List ℕ) where
   skipped_wanted (step {s = s} {r = z} {a = a} {i = i} _ v n g) r b h = wanted_later s z a i (word_in image a i) v n r b (skipped_wanted v r b h)
 
   -- what is asked for in one place of the order is asked for in one block
-  one_wanted : (w : List (Role × ℕ)) → IsGathered image w → (r q : Role) (a i b : ℕ) → Wanted w r b → Asks image w q a i → Same r q
+  one_wanted : (w : Walk) → IsGathered image w → (r q : Role) (a i b : ℕ) → Wanted w r b → Asks image w q a i → Same r q
       → b ≡ word_in image a i
   one_wanted w v r q a i b x h same = grind (arith, common_steps, renumbered, renumbered_same, same_role, number_is, asks_one)
 
-  no_root : (w : List (Role × ℕ)) (q r : Role) (a i : ℕ) → Asks image w q a i → Root ≡ r → Same r q → ⊥
+  no_root : (w : Walk) (q r : Role) (a i : ℕ) → Asks image w q a i → Root ≡ r → Same r q → ⊥
   no_root w Root r a i h e s = h
   no_root w _ r a i h e s = let t : Same Root r = same_of Root r e in omega arith
 
-  pub owner_of : (w : List (Role × ℕ)) (b : ℕ) → owns w b ≡ true → (q : Role) × Has w q b
+  pub owner_of : (w : Walk) (b : ℕ) → owns w b ≡ true → (q : Role) × Has w q b
   owner_of [] b e = cc
   owner_of (x ∷ w) b e = elim (or_cases (x.1 == b) (owns w b) e) [
     | inl t ↦ (x.0, inl (refl, eqb-true x.1 b t))
     | inr n ↦ let y = owner_of w b n in (y.0, inr y.1)
   ]
 
-  no_owner_has : (w : List (Role × ℕ)) (q : Role) (b : ℕ) → owns w b ≡ false → Has w q b → ⊥
+  no_owner_has : (w : Walk) (q : Role) (b : ℕ) → owns w b ≡ false → Has w q b → ⊥
   no_owner_has w q b e h =
       let none : IsAbsent w b = subst (λ t. Tells (not t) (IsAbsent w b)) e (tells_absent w b) in
       none q h
@@ -334,7 +334,7 @@ ext_of q n k same = same_role q (Ext n k) same (λ a m p s j e f. cc)
 data_of : (q : Role) (n k : ℕ) → Same q (Data n k) → q ≡ Data n k
 data_of q n k same = same_role q (Data n k) same (λ a m p s j e f. cc)
 
-pub taken_at : (image : List ℕ) (w : List (Role × ℕ)) → IsGathered image w → (q : Role) (b : ℕ) → Has w q b → at_key w (key_of q) ≡ Some b
+pub taken_at : (image : List ℕ) (w : Walk) → IsGathered image w → (q : Role) (b : ℕ) → Has w q b → at_key w (key_of q) ≡ Some b
 taken_at image w v q b h = grind (arith, common_steps, lacks_at, same_of, at_has, one_block, same_of_key)
 
 -- a part that a finding of a survey concerns was taken or skipped

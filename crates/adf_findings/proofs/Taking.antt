@@ -9,7 +9,7 @@ use Rattle.std.proofs.lemmas.Grind.{common_steps}
 use Rattle.adf_tree.proofs.NameKeys.{same_number, then_is}
 use Rattle.adf_blocks.specs.Sizes.{blocks}
 use Rattle.adf_volume.proofs.Lists.{snoc_length}
-use Rattle.adf_volume.specs.Walk.{Role, heads, head_count, node_block, node_block_of}
+use Rattle.adf_volume.specs.Walk.{Role, heads, head_count, node_block, node_block_of, Walk}
 use Rattle.adf_volume.specs.Walk.Role.{Root, Page, MapExt, Head, Ext, Data}
 use Rattle.adf_findings.specs.declared.part.Part.{Part, TheVariants.Root as RootPart, TheVariants.Page as PagePart, TheVariants.MapExt as MapExtPart}
 use Rattle.adf_findings.specs.declared.part.Part.{TheVariants.Head as HeadPart, TheVariants.Ext as ExtPart, TheVariants.Data as DataPart}
@@ -31,7 +31,7 @@ kept_more _ b f g h k e = grind (arith, common_steps)
 pub taken_last : (part : Part) (b : ℕ) (f g h : Found) → IsKept part b f g → KeepsParts f g → IsOwned part b g h → AreSame g h → IsTaken part b f h
 taken_last part b f g h k p o e = grind (arith, common_steps, kept_more)
 
-at_more : (m n : BTreeMap Key ℕ) (w : List (Role × ℕ)) (r : Role) (b : ℕ) (k : Key) → Updates by_key m n (key_of r) (Some b)
+at_more : (m n : BTreeMap Key ℕ) (w : Walk) (r : Role) (b : ℕ) (k : Key) → Updates by_key m n (key_of r) (Some b)
     → get by_key m k ≡ at_key w k → get by_key n k ≡ at_key ((r, b) ∷ w) k
 at_more m n w r b k u e = u.0 k ∙ ap (λ o. cond (is_eq (by_key (key_of r) k)) (Some b) o) e
 
@@ -46,21 +46,21 @@ no_data_key n k (Data m j) x = absurd x
 no_data_key n k (Head m p s j) x = absurd x
 no_data_key n k r x = simp (then_is, same_number) (grind (arith, nat_tests))
 
-taken_more : (m n : BTreeMap Key ℕ) (w : List (Role × ℕ)) (part : Part) (b : ℕ) → IsPut part b m n
+taken_more : (m n : BTreeMap Key ℕ) (w : Walk) (part : Part) (b : ℕ) → IsPut part b m n
     → ((r : Role) → IsLookedUp r → get by_key m (key_of r) ≡ at_key w (key_of r))
     → (r : Role) → IsLookedUp r → get by_key n (key_of r) ≡ at_key ((role_of part, b) ∷ w) (key_of r)
 taken_more m n w (HeadPart i p s j) b u h r x = grind (arith, common_steps, no_head_key)
 taken_more m n w (DataPart i k) b u h r x = grind (arith, common_steps, no_data_key)
 taken_more m n w part b u h r x = at_more m n w (role_of part) b (key_of r) u (h r x)
 
-pub marked_more : (n : ℕ) (xs : List Bool) (w : List (Role × ℕ)) (r : Role) (b : ℕ) → AreMarked n xs w → AreMarked n (set xs b true) ((r, b) ∷ w)
+pub marked_more : (n : ℕ) (xs : List Bool) (w : Walk) (r : Role) (b : ℕ) → AreMarked n xs w → AreMarked n (set xs b true) ((r, b) ∷ w)
 marked_more n xs w r b h = grind (arith, common_steps, length-set, eqb_tells, get_or-set_same, get_or-set_other)
 
-pub numbered_more : (n : ℕ) (xs : List ℕ) (w : List (Role × ℕ)) (r : Role) (b : ℕ) → b < n → AreNumbered n xs w
+pub numbered_more : (n : ℕ) (xs : List ℕ) (w : Walk) (r : Role) (b : ℕ) → b < n → AreNumbered n xs w
     → AreNumbered n (set xs b (data_number r)) ((r, b) ∷ w)
 numbered_more n xs w r b lt h = grind (arith, common_steps, length-set, eqb_tells, get_or-set_same, get_or-set_other)
 
-pub held_more : (n : ℕ) (xs : List ℕ) (w : List (Role × ℕ)) (r : Role) (b : ℕ) → b < n → AreHeld n xs w
+pub held_more : (n : ℕ) (xs : List ℕ) (w : Walk) (r : Role) (b : ℕ) → b < n → AreHeld n xs w
     → AreHeld n (set xs b (entry_number r)) ((r, b) ∷ w)
 held_more n xs w r b lt h = grind (arith, common_steps, length-set, eqb_tells, get_or-set_same, get_or-set_other)
 
@@ -75,13 +75,13 @@ node_snoc : (xs : List ℕ) (b m : ℕ) → slice_index (xs ++ b ∷ []) m ≡ c
 node_snoc xs b m = grind (arith, common_steps, eqb_tells, cases_lt, get_or_push, get_or_append_left, get_or_past, length_push)
 
 -- a part that comes next has the next number of its kind
-abbrev pub IsNumbered : List (Role × ℕ) → Role → Type 0
+abbrev pub IsNumbered : Walk → Role → Type 0
 IsNumbered w (Head n p s j) = n ≡ suc (heads w)
 IsNumbered w Root = ⊥
 IsNumbered w _ = Unit {0}
 
 -- what is taken stays so, whatever is skipped and reported and whatever names are kept
-pub stands_but : (image : List ℕ) (f g : Found) (s : Course) (over : List (Role × ℕ)) (fs : List FindingValue)
+pub stands_but : (image : List ℕ) (f g : Found) (s : Course) (over : Walk) (fs : List FindingValue)
     → g ≡ record f { avoided = g.avoided; findings = g.findings; names = g.names } → Stands image f s
     → AreMarked (blocks image) g.avoided.items over → map finding_value g.findings.items ≡ fs
     → Stands image g (record { walk = s.walk; skipped = over; findings = fs })
@@ -89,7 +89,7 @@ stands_but image f g s over fs rest st avoided findings = grind (arith, common_s
 
 module _ (image : List ℕ) (f g : Found) (s : Course) (b : ℕ) (st : Stands image f s) where
   -- what of the walk is kept for later
-  record IsLater (w : List (Role × ℕ)) : Type 0 where
+  record IsLater (w : Walk) : Type 0 where
     node : (n : ℕ) → slice_index g.nodes.items n ≡ node_block w n
     count : length g.nodes.items ≡ suc (heads w)
     few : length g.nodes.items ≤ suc (length f.nodes.items)
@@ -116,7 +116,7 @@ module _ (image : List ℕ) (f g : Found) (s : Course) (b : ℕ) (st : Stands im
   stands_taken part fit lt free t = grind (arith, common_steps, later, unowned_less, set, taken_more, marked_more, held_more, numbered_more)
 
   -- what is taken stays so, whatever is skipped and reported
-  stands_else : (over : List (Role × ℕ)) (fs : List FindingValue) → g ≡ record f { avoided = g.avoided; findings = g.findings }
+  stands_else : (over : Walk) (fs : List FindingValue) → g ≡ record f { avoided = g.avoided; findings = g.findings }
       → AreMarked (blocks image) g.avoided.items over → map finding_value g.findings.items ≡ fs
       → Stands image g (record { walk = s.walk; skipped = over; findings = fs })
   stands_else over fs rest avoided findings = grind (arith, common_steps, stands_but)

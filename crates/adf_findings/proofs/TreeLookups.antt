@@ -13,7 +13,7 @@ use Rattle.adf_volume.specs.Image.{content, kind_of, letters_of, name_of, root_o
 use Rattle.adf_volume.specs.Layout.{Layout}
 use Rattle.adf_volume.specs.Lists.{At}
 use Rattle.adf_volume.specs.Made.{datas_in, entries_in, entry_in, layout_in, tree_in}
-use Rattle.adf_volume.specs.Walk.{Role, Has, HeadAt, IsWalk, IsWhole, heads, node_block}
+use Rattle.adf_volume.specs.Walk.{Has, HeadAt, IsWalk, IsWhole, heads, node_block, Walk}
 use Rattle.adf_volume.specs.Walk.Role.{Head}
 use Rattle.adf_volume.proofs.Chains.{entry_is_at}
 use Rattle.adf_volume.proofs.FitWalks.{one_fit}
@@ -31,7 +31,7 @@ use Rattle.adf_findings.specs.Survey.{FindingValue, IsSurvey}
 use Rattle.adf_findings.proofs.AllSound.{all_sound}
 use Rattle.adf_findings.proofs.FirstFindings.{finds_none, none_found, shown}
 
-module _ (image : List ℕ) (w : List (Role × ℕ)) (v : IsWalk image w) (tree : IsTree (entries_in image w w)) (plain : letters_of image ≡ Ascii) where
+module _ (image : List ℕ) (w : Walk) (v : IsWalk image w) (tree : IsTree (entries_in image w w)) (plain : letters_of image ≡ Ascii) where
   abbrev entries : List Entry
   entries = entries_in image w w
 
@@ -116,7 +116,7 @@ module _ (image : List ℕ) (w : List (Role × ℕ)) (v : IsWalk image w) (tree 
         ap (λ h. content image (kind_of image) h (datas_in w n)) here ∙ sym x.2,
       )
 
-module _ (image : List ℕ) (t : Tree) (l : Layout) (w : List (Role × ℕ)) (fs : List FindingValue) (fit : Fits image t l)
+module _ (image : List ℕ) (t : Tree) (l : Layout) (w : Walk) (fs : List FindingValue) (fit : Fits image t l)
     (survey : IsSurvey image w fs) where
   none : fs ≡ []
   none = finds_none image t l w fs fit survey

@@ -5,7 +5,7 @@ use Rattle.std.specs.Prelude.{ℕ, Bool, true, false, cond, List, Option, Some, 
 use Rattle.std.specs.Option.{option_and_then}
 use Rattle.adf_blocks.specs.declared.cause.Cause.{Cause}
 use Rattle.adf_blocks.specs.declared.cause.Cause.TheVariants.{Taken}
-use Rattle.adf_volume.specs.Walk.{Role}
+use Rattle.adf_volume.specs.Walk.{Role, Walk}
 use Rattle.adf_volume.specs.Walk.Role.{Head, Ext, Data}
 use Rattle.adf_findings.specs.declared.concern.Concern.{Concern}
 use Rattle.adf_findings.specs.declared.concern.Concern.TheVariants.{Entry, Within}
@@ -19,18 +19,18 @@ node_of (Entry n) = n
 node_of (Within p) = p
 
 -- of a header in the walk the entry, of one that was skipped its directory; of an extension or data block the file
-abbrev pub concern_with : List (Role × ℕ) → Role → Option Concern
+abbrev pub concern_with : Walk → Role → Option Concern
 concern_with w (Head n p s j) = Some (cond (is_some (at_key w (key_of (Head n p s j)))) (Entry n) (Within p))
 concern_with w (Ext n k) = Some (Entry n)
 concern_with w (Data n k) = Some (Entry n)
 concern_with w _ = None
 
 -- what the finding concerns
-abbrev pub concern_of : List (Role × ℕ) → FindingValue → Option Concern
+abbrev pub concern_of : Walk → FindingValue → Option Concern
 concern_of w f = option_and_then (concern_with w) f.part
 
 -- what the finding at an index concerns, nothing past the last
-abbrev pub concern_of_nth : List (Role × ℕ) → List FindingValue → ℕ → Option Concern
+abbrev pub concern_of_nth : Walk → List FindingValue → ℕ → Option Concern
 concern_of_nth w fs k = option_and_then (concern_of w) (slice_get fs k)
 
 -- whether the cause is that another part has the block
@@ -39,9 +39,9 @@ is_taken Taken = true
 is_taken _ = false
 
 -- the entry that holds the block of a finding that it is taken
-abbrev pub owner_of : List (Role × ℕ) → FindingValue → Option ℕ
+abbrev pub owner_of : Walk → FindingValue → Option ℕ
 owner_of w f = cond (is_taken f.cause) (owner w f.block) None
 
 -- the entry that holds the block of the finding at an index, nothing past the last
-abbrev pub owner_of_nth : List (Role × ℕ) → List FindingValue → ℕ → Option ℕ
+abbrev pub owner_of_nth : Walk → List FindingValue → ℕ → Option ℕ
 owner_of_nth w fs k = option_and_then (owner_of w) (slice_get fs k)

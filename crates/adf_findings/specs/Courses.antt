@@ -7,7 +7,7 @@ use Rattle.adf_blocks.specs.declared.layout.TheConstants.{POINTERS}
 use Rattle.adf_blocks.specs.Sizes.{blocks}
 use Rattle.adf_volume.specs.Image.{word_in}
 use Rattle.adf_volume.specs.Positions.{Position, IsLink, IsPageHolder, IsUpTo, before_node, before_page, behind, position_of, word_of_page}
-use Rattle.adf_volume.specs.Walk.{Role, Asks, DirAt, Enough, FileAt, MemberAt, NamesPage, data_count, ext_count, heads}
+use Rattle.adf_volume.specs.Walk.{Role, Asks, DirAt, Enough, FileAt, MemberAt, NamesPage, data_count, ext_count, heads, Walk}
 use Rattle.adf_volume.specs.Walk.Role.{Page, Head, Ext, Data}
 use Rattle.adf_volume.proofs.Roles.{renumbered}
 use Rattle.adf_findings.specs.declared.part.Part.{Part}
@@ -41,7 +41,7 @@ abbrev pub role_asked : Course → Part → Role
 role_asked s part = renumbered (suc (heads s.walk)) (role_of part)
 
 -- what is said of a part that is due is so: its context, and whether its file has enough extension blocks
-pub record IsTrueIn (image : List ℕ) (w : List (Role × ℕ)) (y : Due) : Type 0 where
+pub record IsTrueIn (image : List ℕ) (w : Walk) (y : Due) : Type 0 where
   pub context : IsContext image w (role_of y.part) y.context
   pub enough : Tells y.is_enough (Enough image w (role_of y.part))
 

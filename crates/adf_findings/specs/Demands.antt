@@ -7,7 +7,7 @@ use Rattle.adf_blocks.specs.Forms.{Clause}
 use Rattle.adf_blocks.specs.HeadBlock.{head_form_by}
 use Rattle.adf_volume.specs.Demands.{Demand, head_demands_by}
 use Rattle.adf_volume.specs.Image.{letters_of}
-use Rattle.adf_volume.specs.Walk.{NewNameBy, Role, demands_by, form_demands_by}
+use Rattle.adf_volume.specs.Walk.{NewNameBy, Role, demands_by, form_demands_by, Walk}
 
 -- a name in upper case
 abbrev pub uppers_in : List ℕ → List ℕ → List ℕ
@@ -22,13 +22,13 @@ abbrev pub head_demands_in : List ℕ → Kind → ℕ → ℕ → ℕ → List 
 head_demands_in image = head_demands_by (letters_of image) image
 
 -- the form of block b in a role, as demands
-abbrev pub form_demands_in : List ℕ → List (Role × ℕ) → Role → ℕ → List Demand
+abbrev pub form_demands_in : List ℕ → Walk → Role → ℕ → List Demand
 form_demands_in image = form_demands_by (letters_of image) image
 
 -- no earlier header of the chain has the same name
-abbrev pub NewNameIn : List ℕ → List (Role × ℕ) → Role → ℕ → Type 0
+abbrev pub NewNameIn : List ℕ → Walk → Role → ℕ → Type 0
 NewNameIn image = NewNameBy (letters_of image) image
 
 -- the demands on a role at block b, which a word of block a points to
-abbrev pub demands_in : List ℕ → List (Role × ℕ) → Role → ℕ → ℕ → List Demand
+abbrev pub demands_in : List ℕ → Walk → Role → ℕ → ℕ → List Demand
 demands_in image = demands_by (letters_of image) image

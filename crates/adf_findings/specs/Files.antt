@@ -11,7 +11,7 @@ use Rattle.adf_blocks.specs.Sizes.{blocks}
 use Rattle.adf_volume.specs.Image.{content, kind_of, table_word, word_in}
 use Rattle.adf_volume.specs.Lists.{At}
 use Rattle.adf_volume.specs.Made.{datas_in}
-use Rattle.adf_volume.specs.Walk.{Role, data_count, node_block}
+use Rattle.adf_volume.specs.Walk.{Role, data_count, node_block, Walk}
 use Rattle.adf_volume.specs.Walk.Role.{Head}
 use Rattle.adf_findings.specs.Sound.{IsSound}
 use Rattle.adf_findings.specs.Survey.{FindingValue}
@@ -33,7 +33,7 @@ abbrev pub file_content : FileValue → List ℕ
 file_content f = content f.image (kind_of f.image) f.head f.blocks
 
 -- entry n is sound, and its header is a file's
-abbrev pub IsSoundFile : List ℕ → List (Role × ℕ) → List FindingValue → ℕ → Type 0
+abbrev pub IsSoundFile : List ℕ → Walk → List FindingValue → ℕ → Type 0
 IsSoundFile image w fs n =
     IsSound image w fs n (node_block w n) × (word_in image (node_block w n) SECONDARY_TYPE ≡ ST_FILE)
 
@@ -65,7 +65,7 @@ counting true fs = grave fs
 counting false fs = fs
 
 -- file n of a walk
-abbrev pub file_in : List ℕ → List (Role × ℕ) → ℕ → FileValue
+abbrev pub file_in : List ℕ → Walk → ℕ → FileValue
 file_in image w n = record { image = image; head = node_block w n; blocks = datas_in w n }
 
 -- block m of a table: a header, then its extension blocks, each with a pointer to the next

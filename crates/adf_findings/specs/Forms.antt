@@ -14,7 +14,7 @@ use Rattle.adf_blocks.specs.DataBlock.{data_form}
 use Rattle.adf_blocks.specs.ExtBlock.{ext_form}
 use Rattle.adf_blocks.specs.PageBlock.{page_form}
 use Rattle.adf_volume.specs.Image.{held, kind_of, word_in}
-use Rattle.adf_volume.specs.Walk.{Role, Enough, IsAbsent, next_data, node_block}
+use Rattle.adf_volume.specs.Walk.{Role, Enough, IsAbsent, next_data, node_block, Walk}
 use Rattle.adf_volume.specs.Walk.Role.{Head, Ext, Data}
 use Rattle.adf_findings.specs.Demands.{head_form_in}
 use Rattle.adf_findings.specs.declared.part.Part.{Part}
@@ -90,14 +90,14 @@ Tells true P = P
 Tells false P = P → ⊥
 
 -- the context of the role is this one; of what is next only OFS asks
-abbrev pub IsContext : List ℕ → List (Role × ℕ) → Role → Context → Type 0
+abbrev pub IsContext : List ℕ → Walk → Role → Context → Type 0
 IsContext image w (Head n p s j) x = x.up ≡ node_block w p
 IsContext image w (Ext n k) x = x.up ≡ node_block w n
 IsContext image w (Data n k) x = (x.up ≡ node_block w n) × (kind_of image ≡ Ofs → x.next ≡ next_data image w n k)
 IsContext image w _ x = Unit {0}
 
 -- the facts about a part are true
-pub record Knows (image : List ℕ) (w : List (Role × ℕ)) (part : Part) (b : ℕ) (f : Facts) : Type 0 where
+pub record Knows (image : List ℕ) (w : Walk) (part : Part) (b : ℕ) (f : Facts) : Type 0 where
   pub enough : Tells f.is_enough (Enough image w (role_of part))
   pub absent : in_range image b ≡ true → Tells f.is_absent (IsAbsent w b)
   pub context : IsContext image w (role_of part) f.context

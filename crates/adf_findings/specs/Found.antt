@@ -15,7 +15,7 @@ use Rattle.adf_volume.specs.Demands.{AllHold, FirstFails}
 use Rattle.adf_blocks.specs.Sizes.{blocks}
 use Rattle.adf_volume.specs.Image.{IsFreeAt, name_of}
 use Rattle.adf_volume.specs.Positions.{Position}
-use Rattle.adf_volume.specs.Walk.{Role, Has, bitmap_demands, heads, node_block}
+use Rattle.adf_volume.specs.Walk.{Role, Has, bitmap_demands, heads, node_block, Walk}
 use Rattle.adf_volume.specs.Walk.Role.{Page, Head, Ext, Data}
 use Rattle.adf_findings.specs.Demands.{uppers_in}
 use Rattle.adf_findings.specs.declared.part.Part.{Part}
@@ -28,7 +28,7 @@ use Rattle.adf_findings.specs.Survey.{BitsTell, Course, FindingValue, IsCompared
 use Rattle.adf_findings.specs.Parts.{by_key, key_of, role_of, finding_value}
 
 -- the block of the member of the walk with this key
-abbrev pub at_key : List (Role × ℕ) → Key → Option ℕ
+abbrev pub at_key : Walk → Key → Option ℕ
 at_key [] k = None
 at_key (x ∷ w) k = cond (is_eq (by_key (key_of x.0) k)) (Some x.1) (at_key w k)
 
@@ -39,7 +39,7 @@ IsLookedUp (Data n k) = ⊥
 IsLookedUp _ = Unit {0}
 
 -- whether a member of the walk has this block
-abbrev pub owns : List (Role × ℕ) → ℕ → Bool
+abbrev pub owns : Walk → ℕ → Bool
 owns [] b = false
 owns (x ∷ w) b = (x.1 == b) || owns w b
 
@@ -51,7 +51,7 @@ entry_in (Data n k) = Some n
 entry_in _ = None
 
 -- the entry that has the block
-abbrev pub owner : List (Role × ℕ) → ℕ → Option ℕ
+abbrev pub owner : Walk → ℕ → Option ℕ
 owner [] b = None
 owner (x ∷ w) b = cond (x.1 == b) (entry_in x.0) (owner w b)
 
@@ -61,24 +61,24 @@ is_named image (Head n p s j) c parent slot name = (p == parent) && ((s == slot)
 is_named image _ c parent slot name = false
 
 -- whether a header of the chain has this name
-abbrev pub has_name : List ℕ → List (Role × ℕ) → ℕ → ℕ → List ℕ → Bool
+abbrev pub has_name : List ℕ → Walk → ℕ → ℕ → List ℕ → Bool
 has_name image [] parent slot name = false
 has_name image (x ∷ w) parent slot name = is_named image x.0 x.1 parent slot name || has_name image w parent slot name
 
 -- the set has the valid names of the walk's headers in the chain at a position, if there are any
-abbrev pub AreNamed : List ℕ → List (Role × ℕ) → Position → Names → Type 0
+abbrev pub AreNamed : List ℕ → Walk → Position → Names → Type 0
 AreNamed image w k names =
     (name : List ℕ) (m p s j b : ℕ) → is_name name ≡ true → suc p ≡ k.first → suc (suc s) ≡ k.second → Has w (Head m p s j) b
     → has names (uppers_in image name) ≡ has_name image w p s (uppers_in image name)
 
 -- the walk has headers of the part's chain, unless the part is the first of them
-abbrev pub IsChain : List (Role × ℕ) → Part → Type 0
+abbrev pub IsChain : Walk → Part → Type 0
 IsChain w (HeadPart n p s zero) = (m j b : ℕ) → Has w (Head m p s j) b → ⊥
 IsChain w (HeadPart n p s (suc j)) = (m b : ℕ) × Has w (Head m p s j) b
 IsChain w _ = Unit {0}
 
 -- whether the name of the part is new, if it is a header
-abbrev pub new_in : List ℕ → List (Role × ℕ) → Part → ℕ → Bool
+abbrev pub new_in : List ℕ → Walk → Part → ℕ → Bool
 new_in image w (HeadPart n p s j) b = not (has_name image w p s (uppers_in image (name_of image b)))
 new_in image w _ b = true
 
@@ -93,7 +93,7 @@ parent_by n (Head m p s j) c = cond (n == m) p c
 parent_by n _ c = c
 
 -- the parent of node n; 0 if the walk has no such header
-abbrev pub parent_node : List (Role × ℕ) → ℕ → ℕ
+abbrev pub parent_node : Walk → ℕ → ℕ
 parent_node [] n = 0
 parent_node (x ∷ w) n = parent_by n x.0 (parent_node w n)
 
@@ -104,7 +104,7 @@ unowned (true ∷ xs) = unowned xs
 unowned (false ∷ xs) = suc (unowned xs)
 
 -- the marks of n blocks are true for the blocks of members
-abbrev pub AreMarked : ℕ → List Bool → List (Role × ℕ) → Type 0
+abbrev pub AreMarked : ℕ → List Bool → Walk → Type 0
 AreMarked n marks w = (length marks ≡ n) × ((b : ℕ) → b < n → slice_index_or marks b false ≡ owns w b)
 
 -- the number of the entry that a role is a part of; 0 of the root and the bitmap
@@ -112,7 +112,7 @@ abbrev pub entry_number : Role → ℕ
 entry_number r = unwrap_or (entry_in r) 0
 
 -- the numbers of n blocks are those of the entries that have them; 0 where none has
-abbrev pub AreHeld : ℕ → List ℕ → List (Role × ℕ) → Type 0
+abbrev pub AreHeld : ℕ → List ℕ → Walk → Type 0
 AreHeld n numbers w = (length numbers ≡ n) × ((b : ℕ) → slice_index_or numbers b 0 ≡ unwrap_or (owner w b) 0)
 
 -- the number of the data block that a role is, from 1; 0 of other roles
@@ -121,12 +121,12 @@ data_number (Data n k) = k
 data_number _ = 0
 
 -- the number of the data block that a block is, from 1; 0 if it is none
-abbrev pub number_at : List (Role × ℕ) → ℕ → ℕ
+abbrev pub number_at : Walk → ℕ → ℕ
 number_at [] b = 0
 number_at (x ∷ w) b = cond (x.1 == b) (data_number x.0) (number_at w b)
 
 -- the numbers of n blocks are those of the data blocks that they are
-abbrev pub AreNumbered : ℕ → List ℕ → List (Role × ℕ) → Type 0
+abbrev pub AreNumbered : ℕ → List ℕ → Walk → Type 0
 AreNumbered n numbers w = (length numbers ≡ n) × ((b : ℕ) → slice_index_or numbers b 0 ≡ number_at w b)
 
 -- block m of the table of a file
@@ -139,7 +139,7 @@ with_place (Head n p s j) cs = cs ++ record { slot = s; place = j } ∷ []
 with_place _ cs = cs
 
 -- the positions of the walk's headers, by their numbers from 1 on
-abbrev pub places_of : List (Role × ℕ) → List ChainPlace
+abbrev pub places_of : Walk → List ChainPlace
 places_of [] = []
 places_of (x ∷ w) = with_place x.0 (places_of w)
 

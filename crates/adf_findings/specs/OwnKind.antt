@@ -7,14 +7,14 @@ use Rattle.adf_names.specs.declared.kind.Kind.{Kind}
 use Rattle.adf_names.specs.declared.kind.Kind.TheVariants.{Ofs, Ffs}
 use Rattle.adf_blocks.specs.Sizes.{blocks}
 use Rattle.adf_volume.specs.Image.{kind_of}
-use Rattle.adf_volume.specs.Walk.{Role, node_block}
+use Rattle.adf_volume.specs.Walk.{node_block, Walk}
 use Rattle.adf_findings.specs.declared.own_kind.Tally.{Tally}
 use Rattle.adf_findings.specs.Found.{number_at, owner}
 use Rattle.adf_findings.specs.Sound.{says_data_of}
 use Rattle.adf_findings.specs.SurveyResult.{SurveyValue}
 
 -- whether the data block of the walk at block b says that it is an OFS one of its file; nothing of other blocks
-abbrev pub said_at : List ℕ → List (Role × ℕ) → ℕ → Option Bool
+abbrev pub said_at : List ℕ → Walk → ℕ → Option Bool
 said_at image w b =
     cond (number_at w b == 0) None (Some (says_data_of image (node_block w (unwrap_or (owner w b) 0)) (number_at w b) b))
 
@@ -31,7 +31,7 @@ tallied t (Some true) = record { says = t.says + 1; others = t.others }
 tallied t (Some false) = record { says = t.says; others = t.others + 1 }
 
 -- how many of the data blocks at the first k blocks say so, and how many do not
-unfoldable pub tally : List ℕ → List (Role × ℕ) → ℕ → Tally
+unfoldable pub tally : List ℕ → Walk → ℕ → Tally
 tally image w zero = record { says = 0; others = 0 }
 tally image w (suc k) = tallied (tally image w k) (said_at image w k)
 
@@ -41,7 +41,7 @@ is_other_kind Ofs t = false
 is_other_kind Ffs t = nat_lt t.others t.says
 
 -- the type is one of FFS, but more data blocks of the walk say that they are OFS ones than do not
-abbrev pub is_mistyped : List ℕ → List (Role × ℕ) → Bool
+abbrev pub is_mistyped : List ℕ → Walk → Bool
 is_mistyped image w = is_other_kind (kind_of image) (tally image w (blocks image))
 
 -- the image with the type that is one less: of OFS, where it was one of FFS

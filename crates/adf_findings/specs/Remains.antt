@@ -7,7 +7,7 @@ use Rattle.adf_base.specs.Words.{block}
 use Rattle.adf_blocks.specs.declared.layout.TheConstants.{SIZE}
 use Rattle.adf_blocks.specs.Sizes.{blocks, chunk, count}
 use Rattle.adf_volume.specs.Image.{held, kind_of, piece, word_in}
-use Rattle.adf_volume.specs.Walk.{Role, node_block}
+use Rattle.adf_volume.specs.Walk.{node_block, Walk}
 use Rattle.adf_volume.specs.Walk.Role.{Data}
 use Rattle.adf_findings.specs.declared.remains.Gap.{Gap}
 use Rattle.adf_findings.specs.Found.{at_key}
@@ -16,7 +16,7 @@ use Rattle.adf_findings.specs.Parts.{key_of}
 use Rattle.adf_findings.specs.SurveyResult.{SurveyValue}
 
 -- the block that is taken as data block k of file n
-abbrev pub data_found : List (Role × ℕ) → ℕ → ℕ → Option ℕ
+abbrev pub data_found : Walk → ℕ → ℕ → Option ℕ
 data_found w n k = at_key w (key_of (Data n (suc k)))
 
 -- how many bytes are stated: as many as the header says, but no more than the image has
@@ -68,15 +68,15 @@ below end None = None
 below end (Some b) = cond (nat_lt b end) (Some b) None
 
 -- the block that is taken as data block k of file n, if it is before block `end`
-abbrev pub data_below : ℕ → List (Role × ℕ) → ℕ → ℕ → Option ℕ
+abbrev pub data_below : ℕ → Walk → ℕ → ℕ → Option ℕ
 data_below end w n k = below end (data_found w n k)
 
 -- the bytes of file n: those of the data blocks that are found before block `end`, and zeros for the others
-abbrev pub left_of : List ℕ → List (Role × ℕ) → ℕ → ℕ → List ℕ
+abbrev pub left_of : List ℕ → Walk → ℕ → ℕ → List ℕ
 left_of image w end n = let h = node_block w n in bytes_left image (size_stated image h) (data_below end w n) (blocks_stated image h)
 
 -- the runs of these zeros
-abbrev pub gaps_of : List ℕ → List (Role × ℕ) → ℕ → ℕ → List Gap
+abbrev pub gaps_of : List ℕ → Walk → ℕ → ℕ → List Gap
 gaps_of image w end n = let h = node_block w n in gaps_left image (size_stated image h) (data_below end w n) (blocks_stated image h)
 
 -- block b, if it is taken as data block k of entry n by the entries and the numbers kept of blocks

@@ -10,7 +10,7 @@ use Rattle.adf_names.specs.declared.kind.Kind.TheVariants.{Ffs}
 use Rattle.adf_volume.specs.Lists.{At, In}
 use Rattle.adf_volume.specs.Made.{datas_in}
 use Rattle.adf_volume.specs.Image.{held, kind_of, table_word, word_in}
-use Rattle.adf_volume.specs.Walk.{Role, Same, Has, HeadAt, NodeAt, MemberAt, data_count, Asks, node_block}
+use Rattle.adf_volume.specs.Walk.{Role, Same, Has, HeadAt, NodeAt, MemberAt, data_count, Asks, node_block, Walk}
 use Rattle.adf_volume.specs.Walk.Role.{Head, Ext, Data}
 use Rattle.adf_findings.specs.Demands.{head_demands_in}
 use Rattle.adf_findings.specs.Survey.{FindingValue}
@@ -28,13 +28,13 @@ says_data_of image h k b =
     && (long_sum (block image b) == 0)
 
 -- no data block of an FFS volume says that it is an OFS one of its file
-abbrev pub IsOfItsKind : List ℕ → List (Role × ℕ) → Type 0
+abbrev pub IsOfItsKind : List ℕ → Walk → Type 0
 IsOfItsKind image w = kind_of image ≡ Ffs → (n k b : ℕ) → Has w (Data n k) b → says_data_of image (node_block w n) k b ≡ false
 
 -- The header of the entry is in the walk, and no finding concerns it or an extension or data block of the entry. Of a directory, each
 -- header that a finding concerns was taken, so that no chain of it is broken.
 -- An FFS data block does not identify its file, so no other part may ask for its block, nor may it say that it is an OFS one.
-pub record IsSound (image : List ℕ) (w : List (Role × ℕ)) (fs : List FindingValue) (n h : ℕ) : Type 0 where
+pub record IsSound (image : List ℕ) (w : Walk) (fs : List FindingValue) (n h : ℕ) : Type 0 where
   pub header : HeadAt w n h
   pub unreported : IsUnreported fs (Head n header.parent header.slot header.place)
   pub exts : (k : ℕ) → IsUnreported fs (Ext n k)
@@ -44,17 +44,17 @@ pub record IsSound (image : List ℕ) (w : List (Role × ℕ)) (fs : List Findin
   pub own : kind_of image ≡ Ffs → (k b : ℕ) → Has w (Data n k) b → says_data_of image h k b ≡ false
 
 -- the header of the entry, at block h, has its form in its chain
-abbrev pub HeaderHolds : List ℕ → List (Role × ℕ) → ℕ → ℕ → Type 0
+abbrev pub HeaderHolds : List ℕ → Walk → ℕ → ℕ → Type 0
 HeaderHolds image w n h = (g : HeadAt w n h) (up : ℕ) → NodeAt w g.parent up → AllHold (head_demands_in image (kind_of image) h up g.slot)
 
 -- the block that data block k of the file names as the next one: that of data block k + 1 if the size asks for one more, else 0
-pub record IsNextData (image : List ℕ) (w : List (Role × ℕ)) (n h k next : ℕ) : Type 0 where
+pub record IsNextData (image : List ℕ) (w : Walk) (n h k next : ℕ) : Type 0 where
   pub inner : k < data_count image h → Has w (Data n (suc k)) next
   pub last : data_count image h ≤ k → next ≡ 0
 
 -- Each data block, by the size of the file, is in the walk, at the block in the table;
 -- its extension blocks and data blocks have their forms, the latter with the next data block.
-pub record FileHolds (image : List ℕ) (w : List (Role × ℕ)) (n h : ℕ) : Type 0 where
+pub record FileHolds (image : List ℕ) (w : Walk) (n h : ℕ) : Type 0 where
   pub named : (k : ℕ) → k < data_count image h
       → (a b : ℕ) × MemberAt image w n (k / POINTERS) a × (word_in image a (table_word k) ≡ b) × Has w (Data n (suc k)) b
   pub exts : (k b : ℕ) → Has w (Ext n k) b → AllHold (ext_demands image b h)
@@ -63,5 +63,5 @@ pub record FileHolds (image : List ℕ) (w : List (Role × ℕ)) (n h : ℕ) : T
       × AllHold (data_demands image (kind_of image) b h (suc k) (held (kind_of image) (word_in image h SIZE) (suc k)) next)
 
 -- data block k + 1 of the file, counted from 1, is at index k of those in the walk
-abbrev pub DatasInOrder : List (Role × ℕ) → ℕ → Type 0
+abbrev pub DatasInOrder : Walk → ℕ → Type 0
 DatasInOrder w n = (k b : ℕ) → At (datas_in w n) k b ↔ Has w (Data n (suc k)) b

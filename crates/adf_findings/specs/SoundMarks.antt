@@ -1,14 +1,14 @@
 -- The marks of the sound entries.
 -- Letters: w the walk of a survey, fs its findings; n an entry's node; v a result.
 use Rattle.std.specs.Prelude.{◌≡◌, ◌↔◌, ◌&&◌, ℕ, Bool, true, List, nat_le}
-use Rattle.adf_volume.specs.Walk.{Role, node_block}
+use Rattle.adf_volume.specs.Walk.{node_block, Walk}
 use Rattle.adf_findings.specs.Marks.{has_mark}
 use Rattle.adf_findings.specs.Sound.{IsSound}
 use Rattle.adf_findings.specs.Survey.{FindingValue}
 use Rattle.adf_findings.specs.SurveyResult.{SurveyValue}
 
 -- an entry is marked if and only if it is sound
-abbrev pub AreMarks : List ℕ → List (Role × ℕ) → List FindingValue → (ℕ → Bool) → Type 0
+abbrev pub AreMarks : List ℕ → Walk → List FindingValue → (ℕ → Bool) → Type 0
 AreMarks image w fs sound = (n : ℕ) → (sound n ≡ true) ↔ IsSound image w fs n (node_block w n)
 
 -- the marks of the entries that are sound but for harmless findings of headers, in a result

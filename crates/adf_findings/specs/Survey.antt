@@ -12,7 +12,7 @@ use Rattle.adf_blocks.specs.declared.layout.TheConstants.{BITMAP_FLAG, OWN_KEY, 
 use Rattle.adf_blocks.specs.Sizes.{blocks}
 use Rattle.adf_volume.specs.Image.{word_in, root_of}
 use Rattle.adf_volume.specs.Demands.{Demand, AllHold, FirstFails, boot_demands, root_demands}
-use Rattle.adf_volume.specs.Walk.{Role, Before, Has, Asks, Lacks, IsAbsent, bitmap_demands}
+use Rattle.adf_volume.specs.Walk.{Role, Before, Has, Asks, Lacks, IsAbsent, bitmap_demands, Walk}
 use Rattle.adf_volume.specs.Walk.Role.{Root, Page}
 use Rattle.adf_findings.specs.Demands.{demands_in}
 
@@ -65,8 +65,8 @@ Judged r xs (skipped at c) = FirstFails xs at c × (IsItself r xs → ⊥)
 
 -- The progress of a survey: its walk and the parts skipped, with their blocks, newest first; the findings.
 pub record Course : Type 0 where
-  pub walk : List (Role × ℕ)
-  pub skipped : List (Role × ℕ)
+  pub walk : Walk
+  pub skipped : Walk
   pub findings : List FindingValue
 
 -- the course after the part that was next, at block b, is taken or skipped, and its cause reported
@@ -150,11 +150,11 @@ pub data BitsTell (image : List ℕ) (s : Course) : ℕ → ℕ → List Finding
 
 -- The walk and the findings of an image. Of some images nothing is taken;
 -- of the others parts are judged until none is next, then the bits are compared.
-pub data IsSurvey (image : List ℕ) : List (Role × ℕ) → List FindingValue → Type 0 where
+pub data IsSurvey (image : List ℕ) : Walk → List FindingValue → Type 0 where
   unread : {fs : List FindingValue} → UnreadTells image fs → IsSurvey image [] fs
   read : {s : Course} {bits : List FindingValue} → IsCourse image s → IsDone image s
       → BitsTell image s 2 (blocks image - 2) bits → IsSurvey image s.walk (s.findings ++ bits)
 
 -- what holds of the walk and the findings of the survey of an image
-abbrev pub OnSurvey : List ℕ → (List (Role × ℕ) → List FindingValue → Type 0) → Type 0
-OnSurvey image holds = (w : List (Role × ℕ)) (fs : List FindingValue) → IsSurvey image w fs → holds w fs
+abbrev pub OnSurvey : List ℕ → (Walk → List FindingValue → Type 0) → Type 0
+OnSurvey image holds = (w : Walk) (fs : List FindingValue) → IsSurvey image w fs → holds w fs

@@ -5,7 +5,7 @@ use Rattle.std.specs.BTreeMap.{is_at}
 use Rattle.std.specs.Map.{lookup}
 use Rattle.std.specs.Option.{option_flatten}
 use Rattle.adf_blocks.specs.declared.layout.TheConstants.{PAGE_BITS}
-use Rattle.adf_volume.specs.Walk.{Role, Has, heads, node_block}
+use Rattle.adf_volume.specs.Walk.{Has, heads, node_block, Walk}
 use Rattle.adf_volume.specs.Walk.Role.{Page}
 use Rattle.adf_findings.specs.declared.concern.Concern.{Concern}
 use Rattle.adf_findings.specs.declared.part.Finding.{Finding}
@@ -46,7 +46,7 @@ abbrev pub owner_for : List ℕ → Finding → Option ℕ
 owner_for owners f = cond (is_taken f.cause) (owner_at owners f.block) None
 
 -- the result is that of this walk and these findings
-pub record TellsOf (v : SurveyValue) (w : List (Role × ℕ)) (fs : List FindingValue) : Type 0 where
+pub record TellsOf (v : SurveyValue) (w : Walk) (fs : List FindingValue) : Type 0 where
   pub survey : IsSurvey v.image w fs
   pub findings : map finding_value v.findings ≡ fs
   pub concerned : (k : ℕ) → option_flatten (slice_get v.concerned k) ≡ concern_of_nth w fs k
@@ -62,8 +62,8 @@ pub record TellsOf (v : SurveyValue) (w : List (Role × ℕ)) (fs : List Finding
 
 -- the result is that of a survey
 abbrev pub IsOfSurvey : SurveyValue → Type 0
-IsOfSurvey v = (w : List (Role × ℕ)) × (fs : List FindingValue) × TellsOf v w fs
+IsOfSurvey v = (w : Walk) × (fs : List FindingValue) × TellsOf v w fs
 
 -- the bitmap tells of block b whether it is free: its flag is that of a valid bitmap, and the walk has the page of b
-abbrev pub IsBitStated : List ℕ → List (Role × ℕ) → ℕ → Type 0
+abbrev pub IsBitStated : List ℕ → Walk → ℕ → Type 0
 IsBitStated image w b = (2 ≤ b) × IsValidated image × ((page : ℕ) × Has w (Page ((b - 2) / PAGE_BITS)) page)

@@ -7,7 +7,7 @@ ghost use Rattle.adf_blocks.specs.Sizes.{blocks};
 ghost use Rattle.adf_tree.specs.NameSet.{has};
 ghost use Rattle.adf_volume.specs.Image.{name_of, root_of};
 ghost use Rattle.adf_volume.specs.Positions.{position_of};
-ghost use Rattle.adf_volume.specs.Walk.{Role};
+ghost use Rattle.adf_volume.specs.Walk.{Walk};
 ghost use Rattle.adf_findings.specs.Parts.{by_key, finding_value, role_of};
 ghost use Rattle.adf_findings.specs.Found.{AreNamed, AreSame, Stands, IsChain, IsKept, IsReported, IsOwned, IsBlockSkipped};
 ghost use Rattle.adf_findings.specs.Found.{HasValidName, IsPut, IsTaken, KeepsName, KeepsParts, data_number};
@@ -195,7 +195,7 @@ impl Found {
     #[tactic(auto, using(crate::proofs::Known::kept_none, std::proofs::lemmas::Bool::false_from_ne_true))]
     fn keep_header_name(&mut self, image: &Image<'_>, part: Part, b: u32) -> Result<bool, NoMemory>
         requires { b < blocks image.now }
-        ensures new { IfOk result (λ t. (w : List (Role × ℕ))
+        ensures new { IfOk result (λ t. (w : Walk)
             → AreNamed image.now w (position_of (role_of part)) self.old.names → IsChain w part
             → HasValidName image.now part b → t ≡ new_in image.now w part b) }
         ensures names { OnOk result (KeepsName image.now part b self.old.names self.new.names) }
@@ -215,7 +215,7 @@ impl Found {
     #[inline(always)]
     pub fn keep_name(&mut self, image: &Image<'_>, part: Part, b: u32) -> Result<bool, NoMemory>
         requires { b < blocks image.now }
-        ensures new { IfOk result (λ t. (w : List (Role × ℕ))
+        ensures new { IfOk result (λ t. (w : Walk)
             → AreNamed image.now w (position_of (role_of part)) self.old.names → IsChain w part
             → HasValidName image.now part b → t ≡ new_in image.now w part b) }
         ensures names { OnOk result (KeepsName image.now part b self.old.names self.new.names) }

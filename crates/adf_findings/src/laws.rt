@@ -8,7 +8,7 @@ ghost use Rattle.adf_volume.specs.Fits.{Fits};
 ghost use Rattle.adf_volume.specs.Image.{name_of, word_in};
 ghost use Rattle.adf_volume.specs.Layout.{Layout};
 ghost use Rattle.adf_volume.specs.Made.{layout_in, tree_in};
-ghost use Rattle.adf_volume.specs.Walk.{Asks, FileAt, FirstFault, Has, HeadAt, NodeAt, Role};
+ghost use Rattle.adf_volume.specs.Walk.{Asks, FileAt, FirstFault, Has, HeadAt, NodeAt, Role, Walk};
 ghost use Rattle.adf_volume.specs.Walk.Role.{Data, Head};
 ghost use Rattle.adf_findings.specs.Files.{IsSoundFile, file_content, file_in, grave, named_from};
 ghost use Rattle.adf_findings.specs.Lookup.{LeadsTo, path_to};
@@ -22,13 +22,13 @@ ghost use Rattle.adf_findings.specs.Verdict.{FitsOrHasFault};
 #[tactic(auto, using(crate::proofs::SomeSurvey::some_survey))]
 pub fn some_survey()
     ensures { (image : List ℕ)
-        → (w : List (Role × ℕ)) × (fs : List FindingValue) × IsSurvey image w fs }
+        → (w : Walk) × (fs : List FindingValue) × IsSurvey image w fs }
 {}
 
 /// An image has at most one survey.
 #[tactic(auto, using(crate::proofs::OneSurvey::one_survey))]
 pub fn one_survey()
-    ensures { (image : List ℕ) (w u : List (Role × ℕ)) (fs gs : List FindingValue)
+    ensures { (image : List ℕ) (w u : Walk) (fs gs : List FindingValue)
         → IsSurvey image w fs
         → IsSurvey image u gs
         → (w ≡ u) × (fs ≡ gs) }
@@ -36,17 +36,16 @@ pub fn one_survey()
 
 /// The first finding of an image is its first fault.
 pub fn first_finding()
-    ensures { (image : List ℕ) (w : List (Role × ℕ)) (f : FindingValue) (fs : List FindingValue)
+    ensures { (image : List ℕ) (w : Walk) (f : FindingValue) (fs : List FindingValue)
         → IsSurvey image w (f ∷ fs)
         → FirstFault image f.block f.cause }
 {}
 
 /// An image without findings is a volume, with the tree and the layout of the walk; and a volume has no findings.
 pub fn no_finding()
-    ensures fits { (image : List ℕ) (w : List (Role × ℕ)) → IsSurvey image w []
+    ensures fits { (image : List ℕ) (w : Walk) → IsSurvey image w []
         → Fits image (tree_in image w) (layout_in w) }
-    ensures none { (image : List ℕ) (t : Tree) (l : Layout) (w : List (Role
-        × ℕ)) (fs : List FindingValue) → Fits image t l
+    ensures none { (image : List ℕ) (t : Tree) (l : Layout) (w : Walk) (fs : List FindingValue) → Fits image t l
         → IsSurvey image w fs → fs ≡ [] }
 {}
 
@@ -57,10 +56,10 @@ pub fn fits_or_fault()
 
 /// Of each survey it is decided which entries are sound, by all findings and by the grave ones.
 pub fn some_marks()
-    ensures sound { (image : List ℕ) (w : List (Role × ℕ)) (fs : List FindingValue)
+    ensures sound { (image : List ℕ) (w : Walk) (fs : List FindingValue)
         → IsSurvey image w fs
         → (sound : ℕ → Bool) × AreMarks image w fs sound }
-    ensures whole { (image : List ℕ) (w : List (Role × ℕ)) (fs : List FindingValue)
+    ensures whole { (image : List ℕ) (w : Walk) (fs : List FindingValue)
         → IsSurvey image w fs
         → (whole : ℕ → Bool) × AreMarks image w (grave fs) whole }
 {}
@@ -76,16 +75,16 @@ pub fn one_part()
 /// block in the file's table. All blocks of the file have their forms, and its data blocks are in the walk in order. Each
 /// header that a chain of a sound directory names is in the walk, at its place in the chain.
 pub fn sound_entries()
-    ensures header { (image : List ℕ) (w : List (Role × ℕ)) (fs : List FindingValue) (n h : ℕ)
+    ensures header { (image : List ℕ) (w : Walk) (fs : List FindingValue) (n h : ℕ)
         → IsSurvey image w fs
         → IsSound image w fs n h → HeaderHolds image w n h }
-    ensures file { (image : List ℕ) (w : List (Role × ℕ)) (fs : List FindingValue) (n h : ℕ)
+    ensures file { (image : List ℕ) (w : Walk) (fs : List FindingValue) (n h : ℕ)
         → IsSurvey image w fs
         → IsSound image w fs n h → FileAt image w n h → FileHolds image w n h }
-    ensures order { (image : List ℕ) (w : List (Role × ℕ)) (fs : List FindingValue) (n h : ℕ)
+    ensures order { (image : List ℕ) (w : Walk) (fs : List FindingValue) (n h : ℕ)
         → IsSurvey image w fs
         → IsSound image w fs n h → DatasInOrder w n }
-    ensures chains { (image : List ℕ) (w : List (Role × ℕ)) (fs : List FindingValue) (n h : ℕ)
+    ensures chains { (image : List ℕ) (w : Walk) (fs : List FindingValue) (n h : ℕ)
         → IsSurvey image w fs
         → IsSound image w fs n h → (m s j a i : ℕ) → Asks image w (Head m n s j) a i
         → (k : ℕ) × Has w (Head k n s j) (word_in image a i) }
@@ -93,7 +92,7 @@ pub fn sound_entries()
 
 /// The directory of an entry is in the walk, and has a smaller number.
 pub fn directories_first()
-    ensures { (image : List ℕ) (w : List (Role × ℕ)) (fs : List FindingValue) (n h : ℕ)
+    ensures { (image : List ℕ) (w : Walk) (fs : List FindingValue) (n h : ℕ)
         → IsSurvey image w fs
         → (g : HeadAt w n h) → (g.parent < n) × ((up : ℕ) × NodeAt w g.parent up) }
 {}
@@ -101,7 +100,7 @@ pub fn directories_first()
 /// The path of an entry is the path of its directory, followed by the name in its header.
 #[tactic(auto, using(crate::proofs::Directories::path_of_directory))]
 pub fn paths_of_directories()
-    ensures { (image : List ℕ) (w : List (Role × ℕ)) (fs : List FindingValue) (n h : ℕ)
+    ensures { (image : List ℕ) (w : Walk) (fs : List FindingValue) (n h : ℕ)
         → IsSurvey image w fs
         → (g : HeadAt w n h)
         → path_to image w n ≡ path_to image w g.parent ++ name_of image h ∷ [] }
@@ -109,7 +108,7 @@ pub fn paths_of_directories()
 
 /// If a survey has no finding, and no data block of an FFS volume says that it is an OFS one, all of its entries are sound.
 pub fn all_sound()
-    ensures { (image : List ℕ) (w : List (Role × ℕ)) (n h : ℕ) → IsSurvey image w []
+    ensures { (image : List ℕ) (w : Walk) (n h : ℕ) → IsSurvey image w []
         → IsOfItsKind image w → HeadAt w n h
         → IsSound image w [] n h }
 {}
@@ -117,18 +116,15 @@ pub fn all_sound()
 /// On a volume, a path leads to the same entry in the survey as in the tree. Where no data block of an FFS volume says that it is
 /// an OFS one, each file of the tree is a sound one with the same bytes; and there are no others.
 pub fn found_as_in_the_tree()
-    ensures paths { (image : List ℕ) (t : Tree) (l : Layout) (w : List (Role
-        × ℕ)) (fs : List FindingValue) → Fits image t l
+    ensures paths { (image : List ℕ) (t : Tree) (l : Layout) (w : Walk) (fs : List FindingValue) → Fits image t l
         → IsSurvey image w fs
         → (path : List (List ℕ)) (n : ℕ) → LeadsTo image w 0 path n ↔ (find t.entries path ≡ Some n) }
-    ensures files { (image : List ℕ) (t : Tree) (l : Layout) (w : List (Role
-        × ℕ)) (fs : List FindingValue) → Fits image t l
+    ensures files { (image : List ℕ) (t : Tree) (l : Layout) (w : Walk) (fs : List FindingValue) → Fits image t l
         → IsSurvey image w fs → IsOfItsKind image w
         → (n : ℕ) (e : Entry) (bytes : List ℕ) → entry t.entries n ≡ Some e
         → e.body ≡ File bytes
         → IsSoundFile image w fs n × (file_content (file_in image w n) ≡ bytes) }
-    ensures entries { (image : List ℕ) (t : Tree) (l : Layout) (w : List (Role
-        × ℕ)) (fs : List FindingValue) → Fits image t l
+    ensures entries { (image : List ℕ) (t : Tree) (l : Layout) (w : Walk) (fs : List FindingValue) → Fits image t l
         → IsSurvey image w fs
         → (n : ℕ) → IsSoundFile image w fs n
         → (e : Entry) × (entry t.entries n ≡ Some e)
@@ -137,14 +133,14 @@ pub fn found_as_in_the_tree()
 
 /// What is left of a sound file before a block that is behind its data blocks is its content, and none of its bytes are made up.
 pub fn left_of_sound()
-    ensures { (image : List ℕ) (w : List (Role × ℕ)) (fs : List FindingValue) (n end : ℕ)
+    ensures { (image : List ℕ) (w : Walk) (fs : List FindingValue) (n end : ℕ)
         → IsSurvey image w fs → IsSoundFile image w fs n → ((k b : ℕ) → Has w (Data n k) b → b < end)
         → (left_of image w end n ≡ file_content (file_in image w n)) × (gaps_of image w end n ≡ []) }
 {}
 
 /// A data block that is found of a file is the one that the table of the file names.
 pub fn found_as_named()
-    ensures { (image : List ℕ) (w : List (Role × ℕ)) (fs : List FindingValue) (n h k b : ℕ)
+    ensures { (image : List ℕ) (w : Walk) (fs : List FindingValue) (n h k b : ℕ)
         → IsSurvey image w fs → FileAt image w n h → data_found w n k ≡ Some b
         → named_from image h k ≡ b }
 {}

@@ -1,7 +1,7 @@
 // The survey of an image.
 
 ghost use Rattle.std.specs.Prelude.{◌≡◌, ◌++◌, ℕ, List, IfOk, OnOk, map};
-ghost use Rattle.adf_volume.specs.Walk.{Role};
+ghost use Rattle.adf_volume.specs.Walk.{Walk};
 ghost use Rattle.adf_findings.specs.Found.{Stands};
 ghost use Rattle.adf_findings.specs.Parts.{finding_value};
 ghost use Rattle.adf_findings.specs.Start.{boot_findings, root_findings, unread_findings};
@@ -44,7 +44,7 @@ fn report_boot(findings: &mut Vec<Finding>, boot: Option<Cause>) -> Result<(), N
 fn only<'i>(alloc: Global, image: &'i [u8], unread: Unread) -> Result<Survey<'i>, NoMemory>
     requires { UnreadTells image.now (unread_findings unread) }
     ensures image { IfOk result (λ v. v.image ≡ image.now) }
-    ensures findings { IfOk result (λ v. (w : List (Role × ℕ))
+    ensures findings { IfOk result (λ v. (w : Walk)
         × IsSurvey image.now w (map finding_value v.findings)) }
 {
     let mut findings = Vec::new(alloc);
@@ -93,7 +93,7 @@ fn go_through<'i>(alloc: Global, started: &Started<'i>) -> Result<Survey<'i>, No
     requires boot { BootTells started.now.image (boot_findings started.now.boot) }
     requires root { RootTells started.now.image (root_findings started.now.root) }
     ensures image { IfOk result (λ v. v.image ≡ started.now.image) }
-    ensures findings { IfOk result (λ v. (w : List (Role × ℕ))
+    ensures findings { IfOk result (λ v. (w : Walk)
         × IsSurvey started.now.image w (map finding_value v.findings)) }
 {
     let image = &started.image;
@@ -130,7 +130,7 @@ fn go_through<'i>(alloc: Global, started: &Started<'i>) -> Result<Survey<'i>, No
 /// if an allocation fails.
 pub fn survey<'i>(alloc: Global, image: &'i [u8]) -> Result<Survey<'i>, NoMemory>
     ensures image { IfOk result (λ v. v.image ≡ image.now) }
-    ensures findings { IfOk result (λ v. (w : List (Role × ℕ))
+    ensures findings { IfOk result (λ v. (w : Walk)
         × IsSurvey image.now w (map finding_value v.findings)) }
 {
     match start(image) {

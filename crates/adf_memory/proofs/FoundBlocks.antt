@@ -9,7 +9,7 @@ use Rattle.std.proofs.lemmas.List.FromFn.{get_or-map-range_with_len, length-map-
 use Rattle.std.proofs.lemmas.Option.{slice_get-get_or}
 use Rattle.adf_names.specs.declared.kind.Kind.{Kind, TheVariants.Ofs, TheVariants.Ffs}
 use Rattle.adf_blocks.specs.Sizes.{blocks, chunk, count}
-use Rattle.adf_volume.specs.Walk.{Role, Has, FileAt}
+use Rattle.adf_volume.specs.Walk.{Role, Has, FileAt, Walk}
 use Rattle.adf_volume.specs.Walk.Role.{Data}
 use Rattle.adf_volume.proofs.Roles.{same_refl}
 use Rattle.adf_findings.specs.Files.{named_from}
@@ -32,7 +32,7 @@ none_needed Ofs size e = omega arith
 none_needed Ffs size e = omega arith
 
 -- the row of a block that the image has
-row_at : (image : List ℕ) (x : Role × ℕ) (w : List (Role × ℕ)) (b : ℕ) → b < blocks image
+row_at : (image : List ℕ) (x : Role × ℕ) (w : Walk) (b : ℕ) → b < blocks image
     → slice_get (part_table image (x ∷ w)) b ≡ Some (part_at (x ∷ w) b)
 row_at image x w b lt =
     let here : b < length (part_table image (x ∷ w)) = omega (arith, lt, length-map-range_with_len (part_at (x ∷ w)) 0 (blocks image)) in
@@ -59,7 +59,7 @@ not_all true true false x y h = refl
 not_all true true true x y h = absurd (h refl refl refl)
 
 -- the test of a block, once its row is known
-by_row : (image : List ℕ) (x : Role × ℕ) (w : List (Role × ℕ)) (n k b : ℕ)
+by_row : (image : List ℕ) (x : Role × ℕ) (w : Walk) (n k b : ℕ)
     → block_if image (part_table image (x ∷ w)) n k b
     ≡ cond (nat_lt b (blocks image) && ((owner_number (owner (x ∷ w) b) == n) && (number_at (x ∷ w) b == k + 1))) b NO_BLOCK
 by_row image x w n k b =
@@ -67,7 +67,7 @@ by_row image x w n k b =
     (λ t. ap (is_data_of n k) (row_at image x w b (ltb-true b (blocks image) t)))
 
 -- the block that is named as a data block, if its row is that of it, is the one that is found
-named_is : (image : List ℕ) (w : List (Role × ℕ)) (fs : List FindingValue) → IsSurvey image w fs → (n h : ℕ) → FileAt image w n h → (k : ℕ)
+named_is : (image : List ℕ) (w : Walk) (fs : List FindingValue) → IsSurvey image w fs → (n h : ℕ) → FileAt image w n h → (k : ℕ)
     → named_block image (part_table image w) n h k ≡ unwrap_or (data_found w n k) NO_BLOCK
 named_is image [] fs survey n h file k = absurd file.header.has
 named_is image (x ∷ w) fs survey n h file k = by_row image x w n k b ∙ go (data_found (x ∷ w) n k) refl
@@ -96,6 +96,6 @@ named_is image (x ∷ w) fs survey n h file k = by_row image x w n k b ∙ go (d
         ∙ named.0
 
 -- so are all of a file
-pub named_blocks_are : (image : List ℕ) (w : List (Role × ℕ)) (fs : List FindingValue) → IsSurvey image w fs → (n h : ℕ) → FileAt image w n h
+pub named_blocks_are : (image : List ℕ) (w : Walk) (fs : List FindingValue) → IsSurvey image w fs → (n h : ℕ) → FileAt image w n h
     → named_blocks image (part_table image w) n h ≡ found_blocks image w n h
 named_blocks_are image w fs survey n h file = λ i. map (λ k. named_is image w fs survey n h file k i) (range_with_len 0 (file_blocks image h))

@@ -8,7 +8,7 @@ use Rattle.adf_blocks.specs.declared.layout.TheConstants.{SECONDARY_TYPE, ST_FIL
 use Rattle.adf_blocks.specs.Sizes.{blocks, count}
 use Rattle.adf_volume.specs.Image.{kind_of, word_in}
 use Rattle.adf_volume.specs.Lists.{In}
-use Rattle.adf_volume.specs.Walk.{Role, FileAt, node_block}
+use Rattle.adf_volume.specs.Walk.{FileAt, node_block, Walk}
 use Rattle.adf_volume.proofs.Gathered.{head_block}
 use Rattle.adf_volume.proofs.Sizes.{size_high}
 use Rattle.adf_findings.specs.declared.remains.Gap.{Gap}
@@ -33,13 +33,13 @@ pub both : {A : Type 0} (p q : Bool) (x y : A) → p ≡ true → q ≡ true →
 both p q x y a b = λ i. cond (a i && b i) x y
 
 -- what a survey tells of a file
-record IsTold (image : List ℕ) (w : List (Role × ℕ)) (n h : ℕ) : Type 0 where
+record IsTold (image : List ℕ) (w : Walk) (n h : ℕ) : Type 0 where
   whole : length image ≡ 512 * blocks image
   few : blocks image ≤ NO_BLOCK
   inside : (k b : ℕ) → data_found w n k ≡ Some b → b < blocks image
   size : size_stated image (node_block w n) ≡ file_size image h
 
-told : (image : List ℕ) (w : List (Role × ℕ)) (fs : List FindingValue) (n h : ℕ) → IsSurvey image w fs → FileAt image w n h → IsTold image w n h
+told : (image : List ℕ) (w : Walk) (fs : List FindingValue) (n h : ℕ) → IsSurvey image w fs → FileAt image w n h → IsTold image w n h
 told image w fs n h (unread f) file = absurd file.header.has
 told image w fs n h (read {s = s} {bits = bits} v d t) file =
     let is = course_size image v in
@@ -53,7 +53,7 @@ told image w fs n h (read {s = s} {bits = bits} v d t) file =
           (eq-eqb (length image) (512 * blocks image) is.0) (eq-eqb (word_in image h SECONDARY_TYPE) ST_FILE file.type));
     }
 
-module _ (image : List ℕ) (w : List (Role × ℕ)) (fs : List FindingValue) (n h : ℕ) (survey : IsSurvey image w fs) (file : FileAt image w n h) where
+module _ (image : List ℕ) (w : Walk) (fs : List FindingValue) (n h : ℕ) (survey : IsSurvey image w fs) (file : FileAt image w n h) where
   is : IsTold image w n h
   is = told image w fs n h survey file
 

@@ -6,7 +6,7 @@ use Rattle.std.proofs.lemmas.Bool.{eq-eqb}
 use Rattle.adf_check.specs.declared.owner_class.OwnerClass.{OwnerClass}
 use Rattle.adf_check.specs.declared.owner_class.OwnerClass.TheVariants as class
 use Rattle.adf_volume.specs.Image.{root_of}
-use Rattle.adf_volume.specs.Walk.{Role, Asks, Has, HeadAt, heads, node_block}
+use Rattle.adf_volume.specs.Walk.{Role, Asks, Has, HeadAt, heads, node_block, Walk}
 use Rattle.adf_volume.specs.Walk.Role.{Root, Page, MapExt, Head, Ext, Data}
 use Rattle.adf_volume.proofs.Gathered.{IsGathered, head_block, number_of, numbered, root_in, root_is}
 use Rattle.adf_volume.proofs.Gathered.IsGathered.{start, step}
@@ -25,48 +25,48 @@ or_true true = refl
 or_true false = refl
 
 -- a block that a part has is marked as owned
-has_owner : (w : List (Role × ℕ)) (r : Role) (b : ℕ) → Has w r b → owns w b ≡ true
+has_owner : (w : Walk) (r : Role) (b : ℕ) → Has w r b → owns w b ≡ true
 has_owner [] r b h = absurd h
 has_owner (x ∷ w) r b (inl e) = ap (λ t. t || owns w b) (eq-eqb x.1 b e.1)
 has_owner (x ∷ w) r b (inr h) = ap (λ t. (x.1 == b) || t) (has_owner w r b h) ∙ or_true (x.1 == b)
 
 -- data blocks are numbered from 1
-no_data : (image : List ℕ) {w : List (Role × ℕ)} → IsGathered image w → (n b : ℕ) → Has w (Data n 0) b → ⊥
+no_data : (image : List ℕ) {w : Walk} → IsGathered image w → (n b : ℕ) → Has w (Data n 0) b → ⊥
 no_data image start n b (inl e) = cc
 no_data image start n b (inr f) = f
 no_data image (step {w = w} {r = r} a i c v d l) n b (inl e) = subst (λ r. Asks image w r a i) e.0 d
 no_data image (step a i c v d l) n b (inr h) = no_data image v n b h
 
 -- the header of an entry that is found
-header_there : (image : List ℕ) (w : List (Role × ℕ)) (fs : List FindingValue) → IsSurvey image w fs → (n : ℕ) → 1 ≤ n → n ≤ heads w
+header_there : (image : List ℕ) (w : Walk) (fs : List FindingValue) → IsSurvey image w fs → (n : ℕ) → 1 ≤ n → n ≤ heads w
     → HeadAt w n (node_block w n)
 header_there image w fs (unread f) n lo hi = absurd (omega arith)
 header_there image w fs (read {s = s} v d t) n lo hi =
     let x = numbered image (gathered image v) n lo hi in subst (HeadAt s.walk n) (sym (head_block image (gathered image v) x.1)) x.1
 
 -- and the entry of a header
-entry_there : (image : List ℕ) (w : List (Role × ℕ)) (fs : List FindingValue) → IsSurvey image w fs → (n p s j b : ℕ) → Has w (Head n p s j) b
+entry_there : (image : List ℕ) (w : Walk) (fs : List FindingValue) → IsSurvey image w fs → (n p s j b : ℕ) → Has w (Head n p s j) b
     → (1 ≤ n) × (n ≤ heads w) × (node_block w n ≡ b)
 entry_there image w fs (unread f) n p s j b h = absurd h
 entry_there image w fs (read {s = c} v d t) n p s j b h =
     let at : HeadAt c.walk n b = record { parent = p; slot = s; place = j; has = h } in
     let number = number_of image (gathered image v) at in (number.0, number.1, head_block image (gathered image v) at)
 
-data_there : (image : List ℕ) (w : List (Role × ℕ)) (fs : List FindingValue) → IsSurvey image w fs → (n b : ℕ) → Has w (Data n 0) b → ⊥
+data_there : (image : List ℕ) (w : Walk) (fs : List FindingValue) → IsSurvey image w fs → (n b : ℕ) → Has w (Data n 0) b → ⊥
 data_there image w fs (unread f) n b h = h
 data_there image w fs (read v d t) n b h = no_data image (gathered image v) n b h
 
 -- the root is in the middle
-pub root_there : (image : List ℕ) (w : List (Role × ℕ)) (fs : List FindingValue) → IsSurvey image w fs → w ≢ [] → (b : ℕ) → root_of image ≡ b
+pub root_there : (image : List ℕ) (w : Walk) (fs : List FindingValue) → IsSurvey image w fs → w ≢ [] → (b : ℕ) → root_of image ≡ b
     → Has w Root b
 root_there image w fs (unread f) some b e = absurd (some refl)
 root_there image w fs (read {s = s} v d t) some b e = subst (Has s.walk Root) e (root_in image (gathered image v))
 
-pub root_middle : (image : List ℕ) (w : List (Role × ℕ)) (fs : List FindingValue) → IsSurvey image w fs → (b : ℕ) → Has w Root b → root_of image ≡ b
+pub root_middle : (image : List ℕ) (w : Walk) (fs : List FindingValue) → IsSurvey image w fs → (b : ℕ) → Has w Root b → root_of image ≡ b
 root_middle image w fs (unread f) b h = absurd h
 root_middle image w fs (read v d t) b h = root_is image (gathered image v) b h
 
-module _ {image : List ℕ} {w : List (Role × ℕ)} {fs : List FindingValue} (survey : IsSurvey image w fs) (b : ℕ) where
+module _ {image : List ℕ} {w : Walk} {fs : List FindingValue} (survey : IsSurvey image w fs) (b : ℕ) where
   told : (r : Role) → Has w r b → (owner w b ≡ entry_in r) × (number_at w b ≡ data_number r)
   told r has = first_with w r b has (λ q g. one_part image w fs survey q r b g has)
 
@@ -115,14 +115,14 @@ module _ {image : List ℕ} {w : List (Role × ℕ)} {fs : List FindingValue} (s
   }
 
 -- and of one that no part has
-pub unowned : (w : List (Role × ℕ)) (b : ℕ) (c : OwnerClass) → owns w b ≡ false → c ≡ cond (nat_lt b 2) class.Boot class.Free → IsFoundClass w b c
+pub unowned : (w : Walk) (b : ℕ) (c : OwnerClass) → owns w b ≡ false → c ≡ cond (nat_lt b 2) class.Boot class.Free → IsFoundClass w b c
 unowned w b c none e = record {
   part = λ r has. let clash : true ≡ false = sym (has_owner w r b has) ∙ none in cc;
   none = λ n. e;
 }
 
 -- what is told of each survey, of a walk that has something
-pub roles_more : (w : List (Role × ℕ)) (xs : List ℕ) (i n : ℕ) → i < length xs → IsFoundRole w i n
+pub roles_more : (w : Walk) (xs : List ℕ) (i n : ℕ) → i < length xs → IsFoundRole w i n
     → ((k : ℕ) → k < i → k < length xs → IsFoundRole w k (get_or xs k 0))
     → (k : ℕ) → k < i + 1 → k < length (set xs i n) → IsFoundRole w k (get_or (set xs i n) k 0)
 roles_more w xs i n inside here before = put_more (IsFoundRole w) xs i n inside here before

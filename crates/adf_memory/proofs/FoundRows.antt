@@ -7,7 +7,7 @@ use Rattle.std.proofs.lemmas.Grind.{common_steps}
 use Rattle.adf_base.specs.Words.{block}
 use Rattle.adf_blocks.specs.declared.layout.TheConstants.{NAME}
 use Rattle.adf_volume.specs.Image.{name_of}
-use Rattle.adf_volume.specs.Walk.{Role}
+use Rattle.adf_volume.specs.Walk.{Walk}
 use Rattle.adf_findings.specs.Survey.{FindingValue}
 use Rattle.adf_survey_cmd.specs.declared.runs.Run.{Run}
 use Rattle.adf_survey_cmd.specs.Lines.{runs}
@@ -17,7 +17,7 @@ use Rattle.adf_memory.specs.Rooms.{filled}
 use Rattle.adf_memory.proofs.Filled.{filled_none}
 
 -- the runs before stand in the table; the findings to come make the others
-pub record ArePut (w : List (Role × ℕ)) (fs rest : List FindingValue) (count : ℕ) (room now : List TableFinding) : Type 0 where
+pub record ArePut (w : Walk) (fs rest : List FindingValue) (count : ℕ) (room now : List TableFinding) : Type 0 where
   pub before : List Run
   pub all : before ++ runs w rest ≡ runs w fs
   pub number : count ≡ length before
@@ -28,7 +28,7 @@ abbrev IsPutBehind : ℕ → TableFinding → List TableFinding → List TableFi
 IsPutBehind count row now next =
     (xs room : List TableFinding) → count ≡ length xs → now ≡ filled xs room → next ≡ filled (xs ++ row ∷ []) room
 
-module _ (w : List (Role × ℕ)) (fs : List FindingValue) (room : List TableFinding) where
+module _ (w : Walk) (fs : List FindingValue) (room : List TableFinding) where
   pub none_put : ArePut w fs fs 0 room room
   none_put = record { before = []; all = refl; number = refl; rows = sym (filled_none room) }
 

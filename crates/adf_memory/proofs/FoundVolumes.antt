@@ -29,7 +29,7 @@ use Rattle.adf_volume.specs.Image.{kind_of, word_in}
 use Rattle.adf_volume.specs.Layout.{EntryAt, Layout, at_node, datas_of, head_at}
 use Rattle.adf_volume.specs.LayoutRoles.{LayoutHas, owner_of}
 use Rattle.adf_volume.specs.Lists.{At}
-use Rattle.adf_volume.specs.Walk.{Role, Has}
+use Rattle.adf_volume.specs.Walk.{Role, Has, Walk}
 use Rattle.adf_volume.specs.Walk.Role.{Root, Page, MapExt, Head, Ext, Data}
 use Rattle.adf_volume.proofs.LayoutRoles.{owned_part, part_owned, part_range}
 use Rattle.adf_volume.proofs.Lists.{at_index}
@@ -79,7 +79,7 @@ none_missing image [] (suc j) inside = refl
 none_missing image (d ∷ ds) zero inside = sym (cond_below d (blocks image) 0 (suc (missing image ds)) (inside 0 d refl))
 none_missing image (d ∷ ds) (suc j) inside = none_missing image ds j (λ i b at. inside (suc i) b at)
 
-module _ (image : List ℕ) (w : List (Role × ℕ)) (fs : List FindingValue) (survey : IsSurvey image w fs) where
+module _ (image : List ℕ) (w : Walk) (fs : List FindingValue) (survey : IsSurvey image w fs) where
   clean : (t : Tree) (l : Layout) → Fits image t l → IsSurvey image w []
   clean t l fit = subst (IsSurvey image w) (finds_none image t l w fs fit survey) survey
 

@@ -2,7 +2,7 @@
 -- Letters: t, u, v, w, x tables; ks, ls, ms, ns losses.
 use Rattle.std.proofs.lemmas.Grind.{common_steps}
 use Rattle.std.proofs.Common.{◌≡◌, arith, ℕ, List, Option, [], ◌∷◌, ◌++◌, refl}
-use Rattle.adf_volume.specs.Walk.{Role}
+use Rattle.adf_volume.specs.Walk.{Walk}
 use Rattle.adf_rescue.specs.Rescue.{Basis}
 use Rattle.adf_rescue.specs.declared.left_out.LeftOut.{LeftOut}
 use Rattle.adf_memory.specs.Losses.{LossTableValue, LossValue, losses_of, table_of_losses, with_loss, with_losses}
@@ -18,6 +18,6 @@ pub all_pushed : (t u v w x : LossTableValue) (ks ls ms ns : List LossValue) →
 all_pushed t u v w x ks ls ms ns d e f g = grind (arith, common_steps, with_both)
 
 -- the table of the same losses is the same
-pub same_losses : (image : List ℕ) (w : List (Role × ℕ)) (b : Option Basis) (xs us ys vs : List LeftOut) (ps qs ns ms : List ℕ)
+pub same_losses : (image : List ℕ) (w : Walk) (b : Option Basis) (xs us ys vs : List LeftOut) (ps qs ns ms : List ℕ)
     → xs ≡ us → ys ≡ vs → ps ≡ qs → ns ≡ ms → table_of_losses (losses_of image w b xs ys ps ns) ≡ table_of_losses (losses_of image w b us vs qs ms)
 same_losses image w b xs us ys vs ps qs ns ms d e f g = λ i. table_of_losses (losses_of image w b (d i) (e i) (f i) (g i))

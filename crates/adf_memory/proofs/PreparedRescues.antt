@@ -6,7 +6,7 @@ use Rattle.std.specs.Prelude.{Result, Ok, Err}
 use Rattle.std.specs.Result.{IsErrAnd}
 use Rattle.adf_tree.specs.Tree.{Tree}
 use Rattle.adf_blocks.specs.Sizes.{blocks}
-use Rattle.adf_volume.specs.Walk.{Role}
+use Rattle.adf_volume.specs.Walk.{Walk}
 use Rattle.adf_volume.specs.declared.fault.Fault.{Fault}
 use Rattle.adf_findings.specs.Files.{grave}
 use Rattle.adf_findings.specs.SoundMarks.{AreMarks}
@@ -31,7 +31,7 @@ use Rattle.adf_memory.specs.declared.rescuing.RescueRefusal.{RescueRefusal}
 use Rattle.adf_memory.specs.declared.rescuing.RescueTold.{RescueTold}
 
 -- what a rescue gives by the survey of an opened image, and by that of a second one, if there is one
-pub found_gives : (held : ℕ) (input image : List ℕ) (w : List (Role × ℕ)) (fs : List FindingValue) (sound : ℕ → Bool)
+pub found_gives : (held : ℕ) (input image : List ℕ) (w : Walk) (fs : List FindingValue) (sound : ℕ → Bool)
     (second : Option (List ℕ)) (boot : List ℕ) (r : RescueValue)
     → image ≡ opened input → IsSurvey image w fs → AreMarks image w (grave fs) sound → second_image (is_mended input) image w fs ≡ second
     → RescueBoth held input (record { image = image; walk = w; sound = sound }) second fs boot r → Rescue held input boot r

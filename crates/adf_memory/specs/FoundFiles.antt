@@ -7,7 +7,7 @@ use Rattle.std.proofs.Common.{suc}
 use Rattle.adf_blocks.specs.declared.layout.TheConstants.{SECONDARY_TYPE, ST_FILE}
 use Rattle.adf_blocks.specs.Sizes.{blocks, chunk, count}
 use Rattle.adf_volume.specs.Image.{kind_of, word_in}
-use Rattle.adf_volume.specs.Walk.{Role}
+use Rattle.adf_volume.specs.Walk.{Walk}
 use Rattle.adf_findings.specs.Files.{named_from}
 use Rattle.adf_findings.specs.Found.{number_at, owner}
 use Rattle.adf_findings.specs.Remains.{data_found, size_stated}
@@ -17,11 +17,11 @@ use Rattle.adf_memory.specs.Areas.{bytes_from}
 use Rattle.adf_memory.specs.FoundTables.{owner_number}
 
 -- the row of block b: the entry that has it, and the number of the data block that it is, each 0 for none
-abbrev pub part_at : List (Role × ℕ) → ℕ → FoundPart
+abbrev pub part_at : Walk → ℕ → FoundPart
 part_at w b = record { node = owner_number (owner w b); number = number_at w b }
 
 -- a row for each block; no rows if nothing is taken
-abbrev pub part_table : List ℕ → List (Role × ℕ) → List FoundPart
+abbrev pub part_table : List ℕ → Walk → List FoundPart
 part_table image [] = []
 part_table image (x ∷ w) = map (part_at (x ∷ w)) (range_with_len 0 (blocks image))
 
@@ -55,7 +55,7 @@ abbrev pub named_blocks : List ℕ → List FoundPart → ℕ → ℕ → List �
 named_blocks image parts n h = map (named_block image parts n h) (range_with_len 0 (file_blocks image h))
 
 -- the table of file n of a survey
-abbrev pub found_blocks : List ℕ → List (Role × ℕ) → ℕ → ℕ → List ℕ
+abbrev pub found_blocks : List ℕ → Walk → ℕ → ℕ → List ℕ
 found_blocks image w n h = map (λ k. unwrap_or (data_found w n k) NO_BLOCK) (range_with_len 0 (file_blocks image h))
 
 -- the bytes of a file from a place on, by its table: up to the first data block that is not found

@@ -3,16 +3,16 @@
 use Rattle.std.specs.Prelude.{◌-◌, ◌≤◌, ℕ, List, [], ◌∷◌, cond, drop, length, nat_le, take}
 use Rattle.adf_blocks.specs.Sizes.{blocks}
 use Rattle.adf_volume.specs.Lists.{In}
-use Rattle.adf_volume.specs.Walk.{Role}
+use Rattle.adf_volume.specs.Walk.{Walk}
 use Rattle.adf_findings.specs.declared.remains.Gap.{Gap}
 use Rattle.adf_findings.specs.Remains.{gaps_of, left_of}
 
 -- what is left of file n by all blocks of the image
-abbrev pub left_in : List ℕ → List (Role × ℕ) → ℕ → List ℕ
+abbrev pub left_in : List ℕ → Walk → ℕ → List ℕ
 left_in image w n = left_of image w (blocks image) n
 
 -- the gaps in it
-abbrev pub gaps_in : List ℕ → List (Role × ℕ) → ℕ → List Gap
+abbrev pub gaps_in : List ℕ → Walk → ℕ → List Gap
 gaps_in image w n = gaps_of image w (blocks image) n
 
 -- a place lies in a gap

@@ -1,9 +1,9 @@
 -- The roles of blocks by what a survey finds: an `adf_role` of include/adf.h for each.
 -- Letters: w the walk of a survey; b a block; r a role.
-use Rattle.std.specs.Prelude.{◌≡◌, ℕ, List, cond, nat_lt}
+use Rattle.std.specs.Prelude.{◌≡◌, ℕ, cond, nat_lt}
 use Rattle.adf_check.specs.declared.owner_class.OwnerClass.{OwnerClass}
 use Rattle.adf_check.specs.declared.owner_class.OwnerClass.TheVariants as class
-use Rattle.adf_volume.specs.Walk.{Role, Has}
+use Rattle.adf_volume.specs.Walk.{Role, Has, Walk}
 use Rattle.adf_volume.specs.Walk.Role.{Root, Page, MapExt, Head, Ext, Data}
 use Rattle.adf_memory.specs.OwnerNumbers.{class_number}
 
@@ -17,10 +17,10 @@ role_class (Ext n k) = class.Ext
 role_class (Data n k) = class.Data
 
 -- c is the class of block b's owner: of the part that has it, else of the boot blocks or of the free ones
-pub record IsFoundClass (w : List (Role × ℕ)) (b : ℕ) (c : OwnerClass) : Type 0 where
+pub record IsFoundClass (w : Walk) (b : ℕ) (c : OwnerClass) : Type 0 where
   pub part : (r : Role) → Has w r b → c ≡ role_class r
   pub none : ((r : Role) → Has w r b → ⊥) → c ≡ cond (nat_lt b 2) class.Boot class.Free
 
 -- n is the number of that class
-abbrev pub IsFoundRole : List (Role × ℕ) → ℕ → ℕ → Type 0
+abbrev pub IsFoundRole : Walk → ℕ → ℕ → Type 0
 IsFoundRole w b n = (c : OwnerClass) × IsFoundClass w b c × (n ≡ class_number c)

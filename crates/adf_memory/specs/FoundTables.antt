@@ -9,7 +9,7 @@ use Rattle.adf_blocks.specs.declared.head.HeadBody.TheVariants.{Dir, File}
 use Rattle.adf_blocks.specs.HeadBlock.{body_at, meta_stated}
 use Rattle.adf_names.specs.declared.meta.Meta.{Meta}
 use Rattle.adf_volume.specs.Image.{name_of}
-use Rattle.adf_volume.specs.Walk.{Role, heads, node_block}
+use Rattle.adf_volume.specs.Walk.{heads, node_block, Walk}
 use Rattle.adf_findings.specs.declared.concern.Concern.{Concern}
 use Rattle.adf_findings.specs.declared.concern.Concern.TheVariants.{Entry, Within}
 use Rattle.adf_findings.specs.declared.opening.Opening.{Opening}
@@ -52,7 +52,7 @@ finding_row r = record {
 }
 
 -- the table of findings
-abbrev pub finding_table : List (Role × ℕ) → List FindingValue → List TableFinding
+abbrev pub finding_table : Walk → List FindingValue → List TableFinding
 finding_table w fs = map finding_row (runs w fs)
 
 -- 1 for a file or a link, 0 for a directory
@@ -87,17 +87,17 @@ entry_row parent header is_sound name body meta = record {
 }
 
 -- the row of entry n, as its header has it
-abbrev pub found_entry : List ℕ → List (Role × ℕ) → (ℕ → Bool) → ℕ → FoundEntry
+abbrev pub found_entry : List ℕ → Walk → (ℕ → Bool) → ℕ → FoundEntry
 found_entry image w sound n =
     let b = node_block w n in
     entry_row (parent_node w n) b (sound n) (name_of image b) (body_at (block image b)) (meta_stated (block image b))
 
 -- the rows of the first k entries
-abbrev pub found_rows : List ℕ → List (Role × ℕ) → (ℕ → Bool) → ℕ → List FoundEntry
+abbrev pub found_rows : List ℕ → Walk → (ℕ → Bool) → ℕ → List FoundEntry
 found_rows image w sound k = map (found_entry image w sound) (range_with_len 1 k)
 
 -- the table of entries
-abbrev pub found_table : List ℕ → List (Role × ℕ) → (ℕ → Bool) → List FoundEntry
+abbrev pub found_table : List ℕ → Walk → (ℕ → Bool) → List FoundEntry
 found_table image w sound = found_rows image w sound (heads w)
 
 -- what a survey of k rows of findings has if the root is not taken
@@ -129,6 +129,6 @@ read o k n = record {
 }
 
 -- what a survey has besides its tables
-abbrev pub surveyed_of : List ℕ → List (Role × ℕ) → List FindingValue → Surveyed
+abbrev pub surveyed_of : List ℕ → Walk → List FindingValue → Surveyed
 surveyed_of image [] fs = unread (length (runs [] fs))
 surveyed_of image (x ∷ w) fs = read (opening_in image) (length (runs (x ∷ w) fs)) (heads (x ∷ w))

@@ -3,7 +3,7 @@
 -- an entry, of a directory; ps nodes of directories; k a block, ks blocks; l a loss, ls losses; t a table; held the number of blocks that the
 -- input holds whole.
 use Rattle.std.specs.Prelude.{◌+◌, ℕ, ◌&&◌, ◌==◌, List, [], ◌∷◌, ◌++◌, Option, None, Some, cond, length, map, nat_le}
-use Rattle.adf_volume.specs.Walk.{Role, heads, node_block}
+use Rattle.adf_volume.specs.Walk.{heads, node_block, Walk}
 use Rattle.adf_findings.specs.Lookup.{path_to}
 use Rattle.adf_findings.specs.Survey.{FindingValue}
 use Rattle.adf_rescue.specs.Losses.{lost_blocks, lost_headers}
@@ -30,19 +30,19 @@ why_number Link = 2
 why_number NoRoom = 3
 
 -- the header of an entry; 0 for the root
-abbrev pub header_of : List (Role × ℕ) → ℕ → ℕ
+abbrev pub header_of : Walk → ℕ → ℕ
 header_of w n = cond (nat_le 1 n && nat_le n (heads w)) (node_block w n) 0
 
 -- the loss of an entry, or of headers in a directory: its header, and its path
-abbrev pub path_loss : List ℕ → List (Role × ℕ) → ℕ → ℕ → LossValue
+abbrev pub path_loss : List ℕ → Walk → ℕ → ℕ → LossValue
 path_loss image w why n = record { why = why; first = header_of w n; last = header_of w n; path = names_text (path_to image w n) }
 
 -- the loss of an entry that is left out
-abbrev pub left_out_loss : List ℕ → List (Role × ℕ) → LeftOut → LossValue
+abbrev pub left_out_loss : List ℕ → Walk → LeftOut → LossValue
 left_out_loss image w x = path_loss image w (why_number x.why) x.entry
 
 -- the losses of the entries that are left out
-abbrev pub left_out_losses : List ℕ → List (Role × ℕ) → List LeftOut → List LossValue
+abbrev pub left_out_losses : List ℕ → Walk → List LeftOut → List LossValue
 left_out_losses image w xs = map (left_out_loss image w) xs
 
 -- those of the entries of the second survey, if there is one
@@ -51,7 +51,7 @@ second_losses None xs = []
 second_losses (Some b) xs = left_out_losses b.image b.walk xs
 
 -- the losses of headers, by the directory of each: one for those that follow on one another in a directory
-abbrev pub header_losses : List ℕ → List (Role × ℕ) → List ℕ → List LossValue
+abbrev pub header_losses : List ℕ → Walk → List ℕ → List LossValue
 header_losses image w [] = []
 header_losses image w (p ∷ ps) = cond (begins_with p ps) (header_losses image w ps) (path_loss image w 4 p ∷ header_losses image w ps)
 
@@ -71,7 +71,7 @@ block_losses (k ∷ ks) = run_losses k k ks
 
 -- the losses of the entries xs of the survey of the image that are left out, and ys of the second one; of headers, by their directories
 -- ps; and of blocks ks
-abbrev pub losses_of : List ℕ → List (Role × ℕ) → Option Basis → List LeftOut → List LeftOut → List ℕ → List ℕ → List LossValue
+abbrev pub losses_of : List ℕ → Walk → Option Basis → List LeftOut → List LeftOut → List ℕ → List ℕ → List LossValue
 losses_of image w b xs ys ps ks = left_out_losses image w xs ++ (second_losses b ys ++ (header_losses image w ps ++ block_losses ks))
 
 -- all that is not in the new volume

@@ -10,7 +10,7 @@ use Rattle.adf_blocks.specs.declared.cause.Cause.TheVariants.{NoMemory as OutOfM
 use Rattle.adf_boot_blocks.specs.Writing.{restored}
 use Rattle.adf_boot_blocks.specs.declared.boot.TheConstants.{BOOT_LEN}
 use Rattle.adf_volume.specs.declared.fault.Fault.{Fault}
-use Rattle.adf_volume.specs.Walk.{FirstFault, Role}
+use Rattle.adf_volume.specs.Walk.{FirstFault, Walk}
 use Rattle.adf_findings.specs.Files.{grave}
 use Rattle.adf_findings.specs.SoundMarks.{AreMarks}
 use Rattle.adf_findings.specs.Survey.{FindingValue, IsSurvey}
@@ -62,7 +62,7 @@ RescueBoth held input a image fs boot r = (b : Option Basis) × IsSecond image b
 -- the rescue of an input by the survey of an image
 abbrev pub RescueIn : (held : ℕ) → List ℕ → List ℕ → (boot : List ℕ) → RescueValue → Type 0
 RescueIn held input image boot r =
-    (w : List (Role × ℕ)) × (fs : List FindingValue) × IsSurvey image w fs
+    (w : Walk) × (fs : List FindingValue) × IsSurvey image w fs
     × (sound : ℕ → Bool) × AreMarks image w (grave fs) sound
     × RescueBoth held input (record { image = image; walk = w; sound = sound }) (second_image (is_mended input) image w fs) fs boot r
 

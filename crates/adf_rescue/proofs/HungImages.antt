@@ -12,7 +12,7 @@ use Rattle.adf_names.specs.Texts.{is_name, is_name_byte}
 use Rattle.adf_blocks.specs.declared.layout.TheConstants.{NEXT_IN_CHAIN, PARENT}
 use Rattle.adf_blocks.specs.Sizes.{blocks}
 use Rattle.adf_volume.specs.Image.{word_in}
-use Rattle.adf_volume.specs.Walk.{Role, heads}
+use Rattle.adf_volume.specs.Walk.{heads, Walk}
 use Rattle.adf_findings.specs.Marks.{has_mark}
 use Rattle.adf_findings.specs.Found.{owns, parent_node}
 use Rattle.adf_rescue.specs.Hung.{AreEnds, AreMade, end_of, hung_at, hung_in, slot_word, last_open, open_end, hung_first, hung_loose, is_made, is_named, is_vacant, readied, ready_in}
@@ -43,7 +43,7 @@ name_is_valid p small =
     let all : list_all is_name_byte (lost_name p) ≡ true = list_all-append is_name_byte (codes "lost-") (decimal p) ∙ digits in
     and_from _ _ (grind (arith, nat_tests)) all
 
-module _ (given : List ℕ) (w : List (Role × ℕ)) (s : ℕ → Bool) where
+module _ (given : List ℕ) (w : Walk) (s : ℕ → Bool) where
   -- whether something is lost
 
   pub none_lost_first : lost_among given w s 0 ≡ false
@@ -92,12 +92,12 @@ pub ruleset lost_steps = (none_lost_first, none_lost_more, one_lost)
 pub unset : (n : ℕ) (numbers : List ℕ) → numbers ≡ replicate n 0 → (i : ℕ) → slice_index numbers i ≡ 0
 unset n numbers e i = grind (arith, common_steps)
 
-pub ends_first : (given : List ℕ) (w : List (Role × ℕ)) (ends : List ℕ) → length ends ≡ suc (heads w) → ((n : ℕ) → slice_index ends n ≡ 0)
+pub ends_first : (given : List ℕ) (w : Walk) (ends : List ℕ) → length ends ≡ suc (heads w) → ((n : ℕ) → slice_index ends n ≡ 0)
     → AreEnds given w 0 ends
 unfolding last_open
 ends_first given w ends len none = record { length = len; end = λ n le. none n }
 
-module _ {given : List ℕ} {w : List (Role × ℕ)} {k : ℕ} {ends : List ℕ} (are : AreEnds given w k ends) where
+module _ {given : List ℕ} {w : Walk} {k : ℕ} {ends : List ℕ} (are : AreEnds given w k ends) where
   pub ends_more : {more : List ℕ} (e p : ℕ) → p ≡ parent_node w (k + 1) → Some e ≡ open_end given w (k + 1)
       → ((m : ℕ) → m < length ends → slice_index more m ≡ cond (p == m) e (slice_index ends m)) → length more ≡ length ends
       → AreEnds given w (k + 1) more
@@ -108,7 +108,7 @@ module _ {given : List ℕ} {w : List (Role × ℕ)} {k : ℕ} {ends : List ℕ}
   unfolding last_open
   ends_same closed = grind (arith, common_steps, add-one)
 
-module _ (given : List ℕ) (w : List (Role × ℕ)) (p : ℕ) where
+module _ (given : List ℕ) (w : Walk) (p : ℕ) where
   pub end_found : (n : ℕ) (ends : List ℕ) → AreEnds given w (heads w) ends → n ≡ unwrap_or (directory_at given w p) 0
       → slice_index ends n ≡ end_of given w p
   end_found n ends are is = ap (slice_index ends) is ∙ are.end (unwrap_or (directory_at given w p) 0) (number_known given w p)
@@ -125,7 +125,7 @@ module _ (given : List ℕ) (w : List (Role × ℕ)) (p : ℕ) where
 
 -- the marks of directories that are made
 
-pub made_first : (given : List ℕ) (w : List (Role × ℕ)) (s : ℕ → Bool) (marks : List Bool) → length marks ≡ blocks given
+pub made_first : (given : List ℕ) (w : Walk) (s : ℕ → Bool) (marks : List Bool) → length marks ≡ blocks given
     → ((p : ℕ) → has_mark marks p ≡ false) → AreMade given w s 0 marks
 unfolding is_named
 made_first given w s marks len none = record { length = len; made = λ p lt. none p ∙ sym (and-false (is_vacant given w s p)) }
@@ -134,7 +134,7 @@ and_or : (v m t : Bool) → ((v && m) || v && t) ≡ (v && (m || t))
 and_or true m t = refl
 and_or false m t = refl
 
-module _ {given : List ℕ} {w : List (Role × ℕ)} {s : ℕ → Bool} {k : ℕ} {marks : List Bool} (are : AreMade given w s k marks) where
+module _ {given : List ℕ} {w : Walk} {s : ℕ → Bool} {k : ℕ} {marks : List Bool} (are : AreMade given w s k marks) where
   pub made_more : {more : List Bool} → is_lost given w s k ≡ true
       → ((p : ℕ) → p < length marks → has_mark more p ≡ (has_mark marks p || is_vacant given w s p && (word_in given k PARENT == p)))
       → length more ≡ length marks → AreMade given w s (k + 1) more
@@ -151,10 +151,10 @@ module _ {given : List ℕ} {w : List (Role × ℕ)} {s : ℕ → Bool} {k : ℕ
         ∙ rw add-one (λ i. is_vacant given w s p && (is_named given w s p k || sym kept i && (word_in given k PARENT == p))));
   }
 
-vacant_inside : (given : List ℕ) (w : List (Role × ℕ)) (s : ℕ → Bool) (p : ℕ) → blocks given ≤ p → is_vacant given w s p ≡ false
+vacant_inside : (given : List ℕ) (w : Walk) (s : ℕ → Bool) (p : ℕ) → blocks given ≤ p → is_vacant given w s p ≡ false
 unfolding is_vacant
 vacant_inside given w s p out = and_left _ _ (and_left _ _ (and_left (is_inside given p) _ (grind (arith, nat_tests))))
 
-pub made_marked : (given : List ℕ) (w : List (Role × ℕ)) (s : ℕ → Bool) (marks : List Bool) → AreMade given w s (blocks given) marks
+pub made_marked : (given : List ℕ) (w : Walk) (s : ℕ → Bool) (marks : List Bool) → AreMade given w s (blocks given) marks
     → (p : ℕ) → has_mark marks p ≡ is_made given w s p
 made_marked given w s marks are p = grind (arith, common_steps, cases_lt, and_left, vacant_inside)

@@ -20,7 +20,7 @@ use Rattle.adf_blocks.specs.Sizes.{blocks}
 use Rattle.adf_blocks.proofs.HeadLaws.{length_head_block}
 use Rattle.adf_volume.specs.Image.{kind_of, root_of, word_in}
 use Rattle.adf_volume.specs.Start.{is_image_len}
-use Rattle.adf_volume.specs.Walk.{Role, heads, node_block}
+use Rattle.adf_volume.specs.Walk.{heads, node_block, Walk}
 use Rattle.adf_findings.specs.Found.{entry_in, owner, owns}
 use Rattle.adf_rescue.specs.Hung.{end_of, home, hung, hung_at, hung_behind, hung_first, hung_in, hung_loose, is_container, is_hung, is_made, is_vacant}
 use Rattle.adf_rescue.specs.Hung.{last_open, made_header, put_in, readied, ready_in, sealed_in, slot_word}
@@ -109,7 +109,7 @@ made_header_fits : (root p : ℕ) → root < 2 ^ 32 → p < 2 ^ 32 → FitsHead 
 made_header_fits root p r s = record { own = s; parent = r; name = name_is_valid p s; comment = omega arith; body = length-replicate {A = ℕ} SLOTS 0 }
 
 -- the block of an entry is that of a part
-owner_owns : (w : List (Role × ℕ)) (b : ℕ) → is_some (owner w b) ≡ true → owns w b ≡ true
+owner_owns : (w : Walk) (b : ℕ) → is_some (owner w b) ≡ true → owns w b ≡ true
 owner_owns [] b e = cc
 owner_owns (x ∷ w) b e = elim (cases_Bool (x.1 == b)) [
   | inl here ↦ or_left (x.1 == b) (owns w b) here
@@ -121,7 +121,7 @@ slot_small b = omega arith
 
 -- the laws, of an image with the length of a volume
 
-module _ (given : List ℕ) (w : List (Role × ℕ)) (s : ℕ → Bool) (len : is_image_len (length given) ≡ true) where
+module _ (given : List ℕ) (w : Walk) (s : ℕ → Bool) (len : is_image_len (length given) ≡ true) where
   -- what is neither lost nor made
 
   owned_not_lost : (b : ℕ) → owns w b ≡ true → is_lost given w s b ≡ false

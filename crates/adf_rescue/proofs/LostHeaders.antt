@@ -14,7 +14,7 @@ use Rattle.std.proofs.lemmas.Grind.{common_steps}
 use Rattle.adf_blocks.specs.declared.layout.TheConstants.{BITMAP_FLAG, FIRST_POINTER, PAGE_BITS, PARENT, VALID}
 use Rattle.adf_blocks.specs.Sizes.{blocks}
 use Rattle.adf_volume.specs.Image.{root_of, word_in}
-use Rattle.adf_volume.specs.Walk.{Role, Has, IsFreeIn, heads}
+use Rattle.adf_volume.specs.Walk.{Has, IsFreeIn, heads, Walk}
 use Rattle.adf_volume.specs.Walk.Role.{Page}
 use Rattle.adf_volume.proofs.Roles.{same_refl}
 use Rattle.adf_findings.specs.declared.concern.Concern.{Concern}
@@ -43,7 +43,7 @@ not_zero n ne = ap not (ne_eqb n 0 ne)
 is_zero : (n : ℕ) → not (n == 0) ≡ true → n ≢ 0
 is_zero n e z = let clash : not (n == 0) ≡ false = ap not (eq-eqb n 0 z) in cc
 
-told_some : (image : List ℕ) (w : List (Role × ℕ)) (b page : ℕ) (r : Option Bool) → ((a : ℕ) → Has w (Page (page_of b)) a → a ≡ page)
+told_some : (image : List ℕ) (w : Walk) (b page : ℕ) (r : Option Bool) → ((a : ℕ) → Has w (Page (page_of b)) a → a ≡ page)
     → Has w (Page (page_of b)) page → IsSome r → IfSome r (λ t. IsTrue t ↔ IsFreeIn image w b) → r ≡ Some (is_set_in image page ((b - 2) % PAGE_BITS))
 told_some image w b page None one has some free = absurd cc
 told_some image w b page (Some true) one has some free = grind (arith, common_steps, not_zero)
@@ -53,7 +53,7 @@ told_none : (r : Option Bool) → (IsSome r → ⊥) → r ≡ None
 told_none None h = refl
 told_none (Some t) h = absurd (h refl)
 
-pub told_is : (image : List ℕ) (w : List (Role × ℕ)) (fs : List FindingValue) (b : ℕ) (r : Option Bool) → is_inside image b ≡ true
+pub told_is : (image : List ℕ) (w : Walk) (fs : List FindingValue) (b : ℕ) (r : Option Bool) → is_inside image b ≡ true
     → IsSurvey image w fs → (IsSome r ↔ IsBitStated image w b) → IfSome r (λ t. IsTrue t ↔ IsFreeIn image w b) → r ≡ bit_stated image w b
 unfolding bit_stated
 told_is image w fs b r inside survey some free = elim (cases_Bool (is_inside image b && (word_in image (root_of image) BITMAP_FLAG == VALID))) [
@@ -79,13 +79,13 @@ told_is image w fs b r inside survey some free = elim (cases_Bool (is_inside ima
         ∙ ap (option_map (λ page. is_set_in image page ((b - 2) % PAGE_BITS))) (sym e)
 
 -- of a block that is not in range the bitmap tells nothing
-pub none_told : (image : List ℕ) (w : List (Role × ℕ)) (b : ℕ) → is_inside image b ≡ false → bit_stated image w b ≡ None
+pub none_told : (image : List ℕ) (w : Walk) (b : ℕ) → is_inside image b ≡ false → bit_stated image w b ≡ None
 unfolding bit_stated
 none_told image w b out = grind (arith, common_steps, and_left)
 
 -- the data blocks that a table names
 
-module _ (image : List ℕ) (w : List (Role × ℕ)) (h : ℕ) where
+module _ (image : List ℕ) (w : Walk) (h : ℕ) where
   pub none_free_first : has_free_data_among image w h 0 ≡ false
   unfolding has_free_data_among
   none_free_first = refl
@@ -108,7 +108,7 @@ module _ (image : List ℕ) (w : List (Role × ℕ)) (h : ℕ) where
 
 -- the directories of a survey
 
-module _ (image : List ℕ) (w : List (Role × ℕ)) (p : ℕ) where
+module _ (image : List ℕ) (w : Walk) (p : ℕ) where
   pub root_at : p ≡ root_of image → directory_at image w p ≡ Some 0
   unfolding directory_at
   root_at e = cond-true (p == root_of image) (Some 0) _ (eq-eqb p (root_of image) e)
@@ -142,7 +142,7 @@ module _ (image : List ℕ) (w : List (Role × ℕ)) (p : ℕ) where
 
 -- the marks of those that are settled
 
-pub entered_first : (w : List (Role × ℕ)) (marks : List Bool) → length marks ≡ suc (heads w)
+pub entered_first : (w : Walk) (marks : List Bool) → length marks ≡ suc (heads w)
     → ((n : ℕ) → has_mark marks n ≡ false) → AreEntered w 0 marks
 unfolding has_child
 entered_first w marks len none = record { length = len; entry = λ n le. none n }
@@ -152,7 +152,7 @@ or_cond a true = sym (or-true a)
 or_cond true false = refl
 or_cond false false = refl
 
-pub entered_more : {w : List (Role × ℕ)} {k p : ℕ} {marks more : List Bool} → AreEntered w k marks → p ≡ parent_node w (k + 1)
+pub entered_more : {w : Walk} {k p : ℕ} {marks more : List Bool} → AreEntered w k marks → p ≡ parent_node w (k + 1)
     → ((m : ℕ) → m < length marks → has_mark more m ≡ cond (p == m) true (has_mark marks m)) → length more ≡ length marks → AreEntered w (k + 1) more
 unfolding has_child
 entered_more are is put len = grind (arith, common_steps, or_cond, add-one)
@@ -163,11 +163,11 @@ and_more true true o = refl
 and_more true false o = refl
 and_more false f o = refl
 
-pub unblamed_first : (w : List (Role × ℕ)) (fs : List FindingValue) (marks : List Bool) → AreEntered w (heads w) marks → AreUnblamed w fs 0 marks
+pub unblamed_first : (w : Walk) (fs : List FindingValue) (marks : List Bool) → AreEntered w (heads w) marks → AreUnblamed w fs 0 marks
 unfolding has_finding
 unblamed_first w fs marks are = record { length = are.length; unblamed = λ n le. are.entry n le ∙ sym (and-true (has_child w n (heads w))) }
 
-unblamed_by : (w : List (Role × ℕ)) (fs : List FindingValue) (k : ℕ) (marks more : List Bool) (o : Option Concern) → AreUnblamed w fs k marks
+unblamed_by : (w : Walk) (fs : List FindingValue) (k : ℕ) (marks more : List Bool) (o : Option Concern) → AreUnblamed w fs k marks
     → o ≡ concern_of_nth w fs k → ((m : ℕ) → m < length marks → has_mark more m ≡ (has_mark marks m && not (is_of w m o)))
     → length more ≡ length marks → AreUnblamed w fs (k + 1) more
 unfolding has_finding
@@ -179,11 +179,11 @@ unblamed_by w fs k marks more o are is put len = record {
       ∙ rw add-one (and_more (has_child w n (heads w)) (has_finding w fs n k) (is_of w n (concern_of_nth w fs k))));
 }
 
-pub unblamed_none : {w : List (Role × ℕ)} {fs : List FindingValue} {k : ℕ} {marks : List Bool} → AreUnblamed w fs k marks
+pub unblamed_none : {w : Walk} {fs : List FindingValue} {k : ℕ} {marks : List Bool} → AreUnblamed w fs k marks
     → None ≡ concern_of_nth w fs k → AreUnblamed w fs (k + 1) marks
 unblamed_none {w} {fs} {k} {marks} are is = unblamed_by w fs k marks marks None are is (λ m lt. sym (and-true (has_mark marks m))) refl
 
-pub unblamed_some : {w : List (Role × ℕ)} {fs : List FindingValue} {k n : ℕ} {marks more : List Bool} {x : Concern} → AreUnblamed w fs k marks
+pub unblamed_some : {w : Walk} {fs : List FindingValue} {k n : ℕ} {marks more : List Bool} {x : Concern} → AreUnblamed w fs k marks
     → Some x ≡ concern_of_nth w fs k → n ≡ node_of x
     → ((m : ℕ) → m < length marks → has_mark more m ≡ (has_mark marks m && not ((n == m) || (parent_node w n == m)))) → length more ≡ length marks
     → AreUnblamed w fs (k + 1) more
@@ -193,7 +193,7 @@ unblamed_some {w} {fs} {k} {n} {marks} {more} {x} are is node put len =
 
 -- the mark of the root, where it is in doubt
 
-module _ (mended : Bool) (w : List (Role × ℕ)) (fs : List FindingValue) (marks : List Bool) (are : AreUnblamed w fs (length fs) marks) where
+module _ (mended : Bool) (w : Walk) (fs : List FindingValue) (marks : List Bool) (are : AreUnblamed w fs (length fs) marks) where
   pub settled_kept : is_root_doubtful mended fs ≡ false → AreSettled w (is_settled mended w fs) marks
   settled_kept sure = record {
     length = are.length;
@@ -240,7 +240,7 @@ blamed_root mended xs fs is kept = one_of_root xs ∙ (λ i. sym kept i || list_
 pub unmarked : (n : ℕ) (marks : List Bool) → marks ≡ replicate n false → (i : ℕ) → has_mark marks i ≡ false
 unmarked n marks e i = grind (arith, common_steps)
 
-module _ (image : List ℕ) (w : List (Role × ℕ)) (s : ℕ → Bool) where
+module _ (image : List ℕ) (w : Walk) (s : ℕ → Bool) where
   lost_outside : (b : ℕ) → blocks image ≤ b → is_lost image w s b ≡ false
   unfolding is_lost
   lost_outside b out = and_left _ _ (and_left _ _ (and_left (is_inside image b) _ (grind (arith, nat_tests))))

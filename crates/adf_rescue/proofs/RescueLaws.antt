@@ -10,7 +10,7 @@ use Rattle.adf_blocks.specs.HeadBlock.{meta_stated}
 use Rattle.adf_blocks.specs.Sizes.{blocks}
 use Rattle.adf_volume.specs.Image.{name_of}
 use Rattle.adf_volume.specs.Made.{datas_in}
-use Rattle.adf_volume.specs.Walk.{Role, node_block}
+use Rattle.adf_volume.specs.Walk.{node_block, Walk}
 use Rattle.adf_findings.specs.Files.{IsSoundFile, file_content, file_in, grave}
 use Rattle.adf_findings.specs.Found.{parent_node}
 use Rattle.adf_findings.specs.SoundMarks.{AreMarks}
@@ -41,7 +41,7 @@ sound_verdict held a fs n vs survey marks is all =
     ap (by_body a.image (blocks a.image) t (place_of vs (parent_node a.walk n)) (node_block a.walk n)) (sound_stands held a fs n survey marks is all)
 
 -- the marks of a survey are one function, so there is one list of verdicts
-pub same_basis : (image : List ℕ) (w : List (Role × ℕ)) (fs : List FindingValue) (s t : ℕ → Bool) → AreMarks image w fs s → AreMarks image w fs t
+pub same_basis : (image : List ℕ) (w : Walk) (fs : List FindingValue) (s t : ℕ → Bool) → AreMarks image w fs s → AreMarks image w fs t
     → (let r : (ℕ → Bool) → Basis = λ m. record { image = image; walk = w; sound = m } in r s ≡ r t)
 same_basis image w fs s t a b = grind (arith, common_steps)
 
@@ -54,9 +54,9 @@ one_basis image l m x y =
     let image_is : l.image ≡ m.image = x.of ∙ sym y.of in
     let marks = subst (λ i. AreMarks i m.walk (grave y.findings) l.sound) image_is
     (subst (λ gs. AreMarks l.image m.walk (grave gs) l.sound) same.1 (subst (λ w. AreMarks l.image w (grave x.findings) l.sound) same.0 x.marks)) in
-    let step : (i : List ℕ) (w : List (Role × ℕ)) → Basis = λ i w. record { image = i; walk = w; sound = l.sound } in
+    let step : (i : List ℕ) (w : Walk) → Basis = λ i w. record { image = i; walk = w; sound = l.sound } in
     ap (λ i. step i l.walk) image_is ∙ (ap (step m.image) same.0 ∙ same_basis m.image m.walk (grave y.findings) l.sound m.sound marks y.marks)
 
 -- nothing is lost without a finding
-pub nothing_lost : (image : List ℕ) (w : List (Role × ℕ)) (fs : List FindingValue) → fs ≡ [] → (mended : Bool) → has_lost mended image w fs ≡ false
+pub nothing_lost : (image : List ℕ) (w : Walk) (fs : List FindingValue) → fs ≡ [] → (mended : Bool) → has_lost mended image w fs ≡ false
 nothing_lost image w fs none = grind (arith, common_steps, and-false)

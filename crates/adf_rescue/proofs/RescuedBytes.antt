@@ -16,7 +16,7 @@ use Rattle.adf_blocks.specs.RootBlock.{label_stated, root_block}
 use Rattle.adf_blocks.specs.Sizes.{blocks}
 use Rattle.adf_blocks.proofs.ByteBlocks.{head_bytes, root_bytes}
 use Rattle.adf_volume.specs.Image.{root_of, word_in}
-use Rattle.adf_volume.specs.Walk.{Role}
+use Rattle.adf_volume.specs.Walk.{Walk}
 use Rattle.adf_findings.specs.Found.{owns}
 use Rattle.adf_findings.specs.Start.{has_root_type}
 use Rattle.adf_rescue.specs.Hung.{emptied, end_of, home, hung, hung_at, hung_behind, hung_first, hung_in, hung_loose, is_hung, is_made}
@@ -97,7 +97,7 @@ unfolding hung_at
 hung_at_bytes image b p e i are =
     seal_bytes _ e (put_bytes _ e i b (seal_bytes _ b (put_bytes _ b PARENT p (put_bytes image b NEXT_IN_CHAIN (word_in image e i) are))))
 
-module _ (given : List ℕ) (w : List (Role × ℕ)) (s : ℕ → Bool) where
+module _ (given : List ℕ) (w : Walk) (s : ℕ → Bool) where
   behind_bytes : (image : List ℕ) (b p e : ℕ) → AreBytes image → AreBytes (hung_behind image b p e)
   behind_bytes image b p e are =
       cond_both (is_inside image e) (hung_at image b p e NEXT_IN_CHAIN) image AreBytes (λ t. hung_at_bytes image b p e NEXT_IN_CHAIN are) (λ t. are)

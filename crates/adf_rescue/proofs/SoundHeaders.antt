@@ -20,7 +20,7 @@ use Rattle.adf_volume.specs.Demands.{AllHold, head_demands, root_demands}
 use Rattle.adf_volume.specs.Image.{kind_of, meta_of, name_of, root_of, word_in}
 use Rattle.adf_volume.specs.Lists.{At}
 use Rattle.adf_volume.specs.Made.{body_in, datas_in, entries_in, entry_in}
-use Rattle.adf_volume.specs.Walk.{HeadAt, IsWalk, Role, heads, node_block}
+use Rattle.adf_volume.specs.Walk.{HeadAt, IsWalk, heads, node_block, Walk}
 use Rattle.adf_volume.proofs.BoundedFits.{comment_short, label_short, name_valid}
 use Rattle.adf_volume.proofs.FormDemands.{dir_not_file, head_type}
 use Rattle.adf_volume.proofs.MemberFacts.{kept}
@@ -73,7 +73,7 @@ body_stands l n (inl dir) s = grind (arith, common_steps, eq-eqb, ne_eqb, dir_no
 body_stands l n (inr one) s = let is = s one in grind (arith, common_steps, eq-eqb, ne_eqb, dir_not_file, file_or, and_from, dir_or)
 
 -- each data block of a sound file is held, where the image is
-file_given : (held : ℕ) (image : List ℕ) (w : List (Role × ℕ)) (fs : List FindingValue) (n : ℕ) → blocks image ≤ held → IsSurvey image w fs
+file_given : (held : ℕ) (image : List ℕ) (w : Walk) (fs : List FindingValue) (n : ℕ) → blocks image ≤ held → IsSurvey image w fs
     → IsSound image w fs n (node_block w n) → word_in image (node_block w n) SECONDARY_TYPE ≡ ST_FILE
     → are_given (before_first held image) image (datas_in w n) ≡ true
 file_given held image w fs n le survey is type =
@@ -88,7 +88,7 @@ pub record IsToldAs (held : ℕ) (a : Basis) (n : ℕ) (e : Entry) : Type 0 wher
   pub meta : meta_stated (block a.image (node_block a.walk n)) ≡ e.meta
   pub body : body_of (as_given (before_first held a.image) a) n ≡ Ok e.body
 
-pub told : (held : ℕ) (image : List ℕ) (w : List (Role × ℕ)) (fs : List FindingValue) (sound : ℕ → Bool) → blocks image ≤ held
+pub told : (held : ℕ) (image : List ℕ) (w : Walk) (fs : List FindingValue) (sound : ℕ → Bool) → blocks image ≤ held
     → IsSurvey image w fs → fs ≡ [] → IsOfItsKind image w
     → AreMarks image w fs sound → IsWalk image w → (i : ℕ) → i < heads w
     → (e : Entry) × At (entries_in image w w) i e × IsToldAs held (record { image = image; walk = w; sound = sound }) (suc i) e

@@ -23,7 +23,7 @@ use Rattle.adf_findings.specs.Survey.IsSurvey.{read, unread}
 use Rattle.adf_findings.specs.Survey.UnreadTells.{bad_boot, bad_root}
 use Rattle.adf_volume.specs.Image.{name_of}
 use Rattle.adf_volume.proofs.Lists.{get_before}
-use Rattle.adf_volume.specs.Walk.{Role, heads, node_block}
+use Rattle.adf_volume.specs.Walk.{heads, node_block, Walk}
 use Rattle.adf_findings.specs.Found.{parent_node}
 use Rattle.adf_findings.proofs.OneSurvey.{gathered}
 use Rattle.adf_findings.proofs.Openings.{some_part}
@@ -244,7 +244,7 @@ told_unread image fs (bad_boot fails other) e = cc
 told_unread image fs (bad_root {boot = boot} {at = at} {c = c} tells judged) e = grind (arith, common_steps, length_push)
 
 -- of an image of which nothing is surveyed there is a finding
-pub unread_fault : (image : List ℕ) (w : List (Role × ℕ)) (fs : List FindingValue) → IsSurvey image w fs → w ≡ [] → fs ≢ []
+pub unread_fault : (image : List ℕ) (w : Walk) (fs : List FindingValue) → IsSurvey image w fs → w ≡ [] → fs ≢ []
 unread_fault image w fs (unread told) e = told_unread image fs told
 unread_fault image w fs (read course done bits) e = absurd (some_part image _ (gathered image course) e)
 

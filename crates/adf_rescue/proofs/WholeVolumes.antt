@@ -21,7 +21,7 @@ use Rattle.adf_volume.specs.Fits.{Fits}
 use Rattle.adf_volume.specs.Image.{kind_of, name_of, root_of, stamps_of}
 use Rattle.adf_volume.specs.Layout.{Layout}
 use Rattle.adf_volume.specs.Made.{entries_in, layout_in, tree_in}
-use Rattle.adf_volume.specs.Walk.{IsWalk, Role, heads, node_block}
+use Rattle.adf_volume.specs.Walk.{IsWalk, heads, node_block, Walk}
 use Rattle.adf_volume.proofs.FitWalks.{one_fit}
 use Rattle.adf_volume.proofs.Lists.{at_index_or, get_before}
 use Rattle.adf_volume.proofs.WalkMembers.{entries_length}
@@ -144,7 +144,7 @@ module _ (held : ℕ) (a : Basis) (vs : List Verdict) (n : ℕ) (e : Entry) (is 
 
 -- so all entries of a tree that fits are added
 
-module _ (held : ℕ) (image : List ℕ) (w : List (Role × ℕ)) (fs : List FindingValue) (sound : ℕ → Bool) (le : blocks image ≤ held)
+module _ (held : ℕ) (image : List ℕ) (w : Walk) (fs : List FindingValue) (sound : ℕ → Bool) (le : blocks image ≤ held)
     (survey : IsSurvey image w fs) (clean : fs ≡ []) (own : IsOfItsKind image w)
     (marks : AreMarks image w fs sound) (v : IsWalk image w) (fit : Fits image (tree_in image w) (layout_in w)) where
   abbrev all : List Entry
@@ -189,12 +189,12 @@ module _ (held : ℕ) (image : List ℕ) (w : List (Role × ℕ)) (fs : List Fin
   front (suc k) le = next_front k (verdicts (before_first held image) basis k) (omega arith) (front k (omega arith))
 
 -- the tree of the additions is that of the walk
-same_tree : (image : List ℕ) (w : List (Role × ℕ)) (g : Ground) (vs : List Verdict) → g.given ≡ image → AllHold (root_demands image (root_of image))
+same_tree : (image : List ℕ) (w : Walk) (g : Ground) (vs : List Verdict) → g.given ≡ image → AllHold (root_demands image (root_of image))
     → entries_of_additions (additions_of g.verdicts ++ additions_of vs) ≡ entries_in image w w → tree_of g vs ≡ tree_in image w
 unfolding stamps_of
 same_tree image w g vs given root same = grind (arith, common_steps, label_whole)
 
-module _ (held : ℕ) (image : List ℕ) (t : Tree) (l : Layout) (w : List (Role × ℕ)) (fs : List FindingValue) (sound : ℕ → Bool)
+module _ (held : ℕ) (image : List ℕ) (t : Tree) (l : Layout) (w : Walk) (fs : List FindingValue) (sound : ℕ → Bool)
     (le : blocks image ≤ held) (fit : Fits image t l) (survey : IsSurvey image w fs) (own : IsOfItsKind image w)
     (marks : AreMarks image w (grave fs) sound) where
   abbrev whole_basis : Basis

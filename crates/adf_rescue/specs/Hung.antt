@@ -10,7 +10,7 @@ use Rattle.adf_blocks.specs.HeadBlock.{HeadFields, head_block}
 use Rattle.adf_blocks.specs.HeadBlock.BodyFields.{DirFields}
 use Rattle.adf_blocks.specs.Sizes.{blocks}
 use Rattle.adf_volume.specs.Image.{root_of, word_in}
-use Rattle.adf_volume.specs.Walk.{Role, heads, node_block}
+use Rattle.adf_volume.specs.Walk.{heads, node_block, Walk}
 use Rattle.adf_findings.specs.Found.{owns, parent_node}
 use Rattle.adf_findings.specs.Marks.{has_mark}
 use Rattle.adf_rescue.specs.declared.hung.Loose.{Loose}
@@ -20,30 +20,30 @@ use Rattle.adf_rescue.specs.Rescue.{lost_name}
 -- the directories that things are hung in
 
 -- one of the first k blocks is a lost header that names block p as its directory
-unfoldable pub is_named : List ℕ → List (Role × ℕ) → (ℕ → Bool) → ℕ → ℕ → Bool
+unfoldable pub is_named : List ℕ → Walk → (ℕ → Bool) → ℕ → ℕ → Bool
 is_named given w s p zero = false
 is_named given w s p (suc k) = is_named given w s p k || is_lost given w s k && (word_in given k PARENT == p)
 
 -- a directory may be made in block p: it is in range, not the root, no part of the survey, and not lost itself
-unfoldable pub is_vacant : List ℕ → List (Role × ℕ) → (ℕ → Bool) → ℕ → Bool
+unfoldable pub is_vacant : List ℕ → Walk → (ℕ → Bool) → ℕ → Bool
 is_vacant given w s p = is_inside given p && not (p == root_of given) && not (owns w p) && not (is_lost given w s p)
 
 -- a directory is made in block p: a lost header names it
-abbrev pub is_made : List ℕ → List (Role × ℕ) → (ℕ → Bool) → ℕ → Bool
+abbrev pub is_made : List ℕ → Walk → (ℕ → Bool) → ℕ → Bool
 is_made given w s p = is_vacant given w s p && is_named given w s p (blocks given)
 
 -- block p is a directory that things can be hung in: of the survey, lost, or made
-abbrev pub is_container : List ℕ → List (Role × ℕ) → (ℕ → Bool) → ℕ → Bool
+abbrev pub is_container : List ℕ → Walk → (ℕ → Bool) → ℕ → Bool
 is_container given w s p = is_some (directory_at given w p) || is_lost given w s p && says_directory given p || is_made given w s p
 
 -- the home of a block that is hung: of a lost header the directory that it names, if there is one; otherwise the root
-unfoldable pub home : List ℕ → List (Role × ℕ) → (ℕ → Bool) → ℕ → ℕ
+unfoldable pub home : List ℕ → Walk → (ℕ → Bool) → ℕ → ℕ
 home given w s b =
     let p = word_in given b PARENT in
     cond (is_lost given w s b && is_inside given p && is_container given w s p) p (root_of given)
 
 -- block b is to be hung: it is lost, or made
-abbrev pub is_hung : List ℕ → List (Role × ℕ) → (ℕ → Bool) → ℕ → Bool
+abbrev pub is_hung : List ℕ → Walk → (ℕ → Bool) → ℕ → Bool
 is_hung given w s b = is_lost given w s b || is_made given w s b
 
 -- the changes of an image
@@ -66,16 +66,16 @@ hung_at image b p e i =
     let next = word_in image e i in sealed_in (put_in (sealed_in (put_in (put_in image b NEXT_IN_CHAIN next) b PARENT p) b) e i b) e
 
 -- the block of entry n, if its chain leads to no part of the survey behind it
-abbrev pub open_end : List ℕ → List (Role × ℕ) → ℕ → Option ℕ
+abbrev pub open_end : List ℕ → Walk → ℕ → Option ℕ
 open_end given w n = cond (owns w (word_in given (node_block w n) NEXT_IN_CHAIN)) None (Some (node_block w n))
 
 -- the block of the last of the first k entries that is such an end and in directory n; 0 if there is none
-unfoldable pub last_open : List ℕ → List (Role × ℕ) → ℕ → ℕ → ℕ
+unfoldable pub last_open : List ℕ → Walk → ℕ → ℕ → ℕ
 last_open given w n zero = 0
 last_open given w n (suc k) = cond (parent_node w (suc k) == n) (unwrap_or (open_end given w (suc k)) (last_open given w n k)) (last_open given w n k)
 
 -- the same of all entries in the directory in block p
-abbrev pub end_of : List ℕ → List (Role × ℕ) → ℕ → ℕ
+abbrev pub end_of : List ℕ → Walk → ℕ → ℕ
 end_of given w p = last_open given w (unwrap_or (directory_at given w p) 0) (heads w)
 
 -- the image with block b, of directory p, behind the header in block e, if that is in range
@@ -84,7 +84,7 @@ hung_behind image b p e = cond (is_inside image e) (hung_at image b p e NEXT_IN_
 
 -- the image with block b in directory p: the first in its slot, unless that leads to a part of the survey; then behind the last entry there that
 -- leads to none. So no word changes that leads to a part of the survey
-unfoldable pub hung_in : List ℕ → List (Role × ℕ) → List ℕ → ℕ → ℕ → List ℕ
+unfoldable pub hung_in : List ℕ → Walk → List ℕ → ℕ → ℕ → List ℕ
 hung_in given w image b p =
     cond (owns w (word_in image p (slot_word b))) (hung_behind image b p (end_of given w p)) (hung_at image b p p (slot_word b))
 
@@ -101,41 +101,41 @@ abbrev pub emptied : List ℕ → ℕ → List ℕ
 emptied image b = with_block image b (with_bytes (block image b) (4 * FIRST_SLOT) (replicate (4 * SLOTS) 0))
 
 -- the image with block b made ready: a made directory has its header, and a lost one an empty table
-unfoldable pub ready_in : List ℕ → List (Role × ℕ) → (ℕ → Bool) → List ℕ → ℕ → List ℕ
+unfoldable pub ready_in : List ℕ → Walk → (ℕ → Bool) → List ℕ → ℕ → List ℕ
 ready_in given w s image b =
     cond (is_made given w s b) (with_block image b (head_block (made_header (root_of given) b)))
     (cond (is_lost given w s b && says_directory given b) (emptied image b) image)
 
 -- the image with the first k blocks made ready
-unfoldable pub readied : List ℕ → List (Role × ℕ) → (ℕ → Bool) → ℕ → List ℕ
+unfoldable pub readied : List ℕ → Walk → (ℕ → Bool) → ℕ → List ℕ
 readied given w s zero = given
 readied given w s (suc k) = ready_in given w s (readied given w s k) k
 
 -- the image with block b hung in its home, if it is to be
-unfoldable pub hung_loose : List ℕ → List (Role × ℕ) → (ℕ → Bool) → List ℕ → ℕ → List ℕ
+unfoldable pub hung_loose : List ℕ → Walk → (ℕ → Bool) → List ℕ → ℕ → List ℕ
 hung_loose given w s image b = cond (is_hung given w s b) (hung_in given w image b (home given w s b)) image
 
 -- the image with all blocks made ready, and those of the first k blocks hung that are to be
-unfoldable pub hung_first : List ℕ → List (Role × ℕ) → (ℕ → Bool) → ℕ → List ℕ
+unfoldable pub hung_first : List ℕ → Walk → (ℕ → Bool) → ℕ → List ℕ
 hung_first given w s zero = readied given w s (blocks given)
 hung_first given w s (suc k) = hung_loose given w s (hung_first given w s k) k
 
 -- the hung image
-abbrev pub hung : List ℕ → List (Role × ℕ) → (ℕ → Bool) → List ℕ
+abbrev pub hung : List ℕ → Walk → (ℕ → Bool) → List ℕ
 hung given w s = hung_first given w s (blocks given)
 
 -- the marks of the blocks: whether a directory may be made in each, and one of the first k blocks is a lost header that names it
-pub record AreMade (given : List ℕ) (w : List (Role × ℕ)) (s : ℕ → Bool) (k : ℕ) (marks : List Bool) : Type 0 where
+pub record AreMade (given : List ℕ) (w : Walk) (s : ℕ → Bool) (k : ℕ) (marks : List Bool) : Type 0 where
   pub length : length marks ≡ blocks given
   pub made : (p : ℕ) → p < blocks given → has_mark marks p ≡ (is_vacant given w s p && is_named given w s p k)
 
 -- of each node the block behind which things are hung, by the first k entries
-pub record AreEnds (given : List ℕ) (w : List (Role × ℕ)) (k : ℕ) (ends : List ℕ) : Type 0 where
+pub record AreEnds (given : List ℕ) (w : Walk) (k : ℕ) (ends : List ℕ) : Type 0 where
   pub length : length ends ≡ suc (heads w)
   pub end : (n : ℕ) → n ≤ heads w → slice_index ends n ≡ last_open given w n k
 
 -- the marks of the blocks that are hung, and the ends of all directories
-pub record AreLoose (given : List ℕ) (w : List (Role × ℕ)) (s : ℕ → Bool) (x : Loose) : Type 0 where
+pub record AreLoose (given : List ℕ) (w : Walk) (s : ℕ → Bool) (x : Loose) : Type 0 where
   pub lost : AreLost given w s x.lost.items
   pub made : (b : ℕ) → has_mark x.made.items b ≡ is_made given w s b
   pub ends : AreEnds given w (heads w) x.ends.items

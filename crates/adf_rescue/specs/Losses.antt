@@ -4,7 +4,7 @@ use Rattle.std.specs.Prelude.{◌&&◌, ◌||◌, not, ℕ, Bool, true, false, c
 use Rattle.std.specs.List.{filter_map}
 use Rattle.adf_blocks.specs.declared.cause.Cause.{Cause}
 use Rattle.adf_blocks.specs.declared.cause.Cause.TheVariants.{LostBlock, OutOfRange}
-use Rattle.adf_volume.specs.Walk.{Role}
+use Rattle.adf_volume.specs.Walk.{Walk}
 use Rattle.adf_findings.specs.declared.concern.Concern.{Concern}
 use Rattle.adf_findings.specs.declared.concern.Concern.TheVariants.{Within}
 use Rattle.adf_findings.specs.Concerned.{concern_of}
@@ -33,7 +33,7 @@ is_second_block None h = false
 is_second_block (Some b) h = is_some (owner b.walk h)
 
 -- an entry of one of the surveys has its header in the block
-abbrev pub is_header : List (Role × ℕ) → Option Basis → ℕ → Bool
+abbrev pub is_header : Walk → Option Basis → ℕ → Bool
 is_header w b h = is_some (entry_at w h) || is_second_header b h
 
 -- the directory in which a header was skipped, by what its finding concerns, unless the header is found
@@ -42,11 +42,11 @@ unless_found (Some (Within p)) found = cond found None (Some p)
 unless_found _ found = None
 
 -- the directory in which a header is lost, by its finding: it was skipped, and no entry has it
-abbrev pub lost_header : List (Role × ℕ) → Option Basis → FindingValue → Option ℕ
+abbrev pub lost_header : Walk → Option Basis → FindingValue → Option ℕ
 lost_header w b f = unless_found (concern_of w f) (not (is_astray f.cause) && is_header w b f.block)
 
 -- for each header that is lost, its directory
-abbrev pub lost_headers : List (Role × ℕ) → Option Basis → List FindingValue → List ℕ
+abbrev pub lost_headers : Walk → Option Basis → List FindingValue → List ℕ
 lost_headers w b fs = filter_map (lost_header w b) fs
 
 -- the block that is lost, by its finding: it is in use, and no entry has it

@@ -21,7 +21,7 @@ use Rattle.adf_blocks.specs.HeadBlock.{is_link, meta_stated}
 use Rattle.adf_blocks.specs.Sizes.{blocks}
 use Rattle.adf_volume.specs.Image.{name_of, word_in}
 use Rattle.adf_volume.specs.Made.{datas_in}
-use Rattle.adf_volume.specs.Walk.{Role, heads, node_block}
+use Rattle.adf_volume.specs.Walk.{heads, node_block, Walk}
 use Rattle.adf_findings.specs.Files.{file_content, file_in, grave}
 use Rattle.adf_findings.specs.Found.{owner, parent_node}
 use Rattle.adf_findings.specs.Marks.{has_mark}
@@ -37,13 +37,13 @@ use Rattle.adf_rescue.specs.declared.left_out.Why.TheVariants.{Damaged, Link, No
 -- a survey as a rescue takes it: its image and walk, and whether an entry is whole
 pub record Basis : Type 0 where
   pub image : List ℕ
-  pub walk : List (Role × ℕ)
+  pub walk : Walk
   pub sound : ℕ → Bool
 
 -- what holds of the survey of an image and of its findings; whole is what is sound but for harmless findings of headers
 abbrev pub OnBasis : List ℕ → (Basis → List FindingValue → Type 0) → Type 0
 OnBasis image holds =
-    (w : List (Role × ℕ)) (fs : List FindingValue) (sound : ℕ → Bool) → IsSurvey image w fs → AreMarks image w (grave fs) sound
+    (w : Walk) (fs : List FindingValue) (sound : ℕ → Bool) → IsSurvey image w fs → AreMarks image w (grave fs) sound
     → holds (record { image = image; walk = w; sound = sound }) fs
 
 -- it is the survey of this image
@@ -74,7 +74,7 @@ pub data Verdict : Type 0 where
 pub record Ground : Type 0 where
   pub given : List ℕ
   pub held : ℕ
-  pub walk : List (Role × ℕ)
+  pub walk : Walk
   pub verdicts : List Verdict
 
 -- the body of an entry that is no whole file, by its secondary type: only a directory stands
@@ -183,15 +183,15 @@ verdict_anew g l vs n =
     by_body l.image (blocks g.given) (tree_of g vs) (place_of vs (parent_node l.walk n)) (node_block l.walk n) (body_of (as_given g l) n)
 
 -- block b is the header of entry n
-abbrev pub is_header_at : List (Role × ℕ) → ℕ → ℕ → Bool
+abbrev pub is_header_at : Walk → ℕ → ℕ → Bool
 is_header_at w b n = nat_le 1 n && (nat_le n (heads w) && (node_block w n == b))
 
 -- entry n, if it is its header
-abbrev pub entry_by : List (Role × ℕ) → ℕ → ℕ → Option ℕ
+abbrev pub entry_by : Walk → ℕ → ℕ → Option ℕ
 entry_by w b n = cond (is_header_at w b n) (Some n) None
 
 -- the entry that has its header in block b
-abbrev pub entry_at : List (Role × ℕ) → ℕ → Option ℕ
+abbrev pub entry_at : Walk → ℕ → Option ℕ
 entry_at w b = option_and_then (entry_by w b) (owner w b)
 
 -- this verdict, if no entry of the survey before has its header there; else the place of the one that has

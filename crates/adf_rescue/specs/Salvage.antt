@@ -8,7 +8,7 @@ use Rattle.adf_names.specs.declared.kind.Kind.{Kind}
 use Rattle.adf_drafts.specs.Draft.{DraftValue, IsDirectoryOf, IsRoomFor}
 use Rattle.adf_blocks.specs.Sizes.{blocks}
 use Rattle.adf_volume.specs.Image.{kind_of}
-use Rattle.adf_volume.specs.Walk.{Role, heads}
+use Rattle.adf_volume.specs.Walk.{heads, Walk}
 use Rattle.adf_findings.specs.Survey.{FindingValue, IsSurvey}
 use Rattle.adf_build.specs.Plan.{data_blocks, entries_blocks, exts_needed, reserved}
 use Rattle.adf_rescue.specs.declared.salvage.Salvage.{Salvage}
@@ -55,14 +55,14 @@ pub record IsSalvage (g : Ground) (vs : List Verdict) (r : Salvage) : Type 0 whe
   pub left_out : r.left_out.items ≡ left_out_from 1 vs
 
 -- entry n is the next one of the survey, after the verdicts
-pub record IsNext (w : List (Role × ℕ)) (vs : List Verdict) (n : ℕ) : Type 0 where
+pub record IsNext (w : Walk) (vs : List Verdict) (n : ℕ) : Type 0 where
   pub number : n ≡ length vs + 1
   pub within : n ≤ heads w
 
 -- there is a survey and the state of its rescue, of which entry n is the next
 pub record GoesOn (image : List ℕ) (n : ℕ) (r : Salvage) : Type 0 where
   pub ground : Ground
-  pub walk : List (Role × ℕ)
+  pub walk : Walk
   pub findings : List FindingValue
   pub verdicts : List Verdict
   pub survey : IsSurvey image walk findings

@@ -8,7 +8,7 @@ ghost use Rattle.adf_blocks.specs.declared.layout.TheConstants.{CHECKSUM, PARENT
 ghost use Rattle.adf_blocks.specs.Sizes.{blocks};
 ghost use Rattle.adf_volume.specs.Image.{kind_of, word_in};
 ghost use Rattle.adf_volume.specs.Start.{is_image_len};
-ghost use Rattle.adf_volume.specs.Walk.{Role, heads, node_block};
+ghost use Rattle.adf_volume.specs.Walk.{heads, node_block, Walk};
 ghost use Rattle.adf_findings.specs.Found.{owner, owns};
 ghost use Rattle.adf_findings.specs.Marks.{has_mark};
 ghost use Rattle.adf_findings.specs.Survey.{OnSurvey};
@@ -290,7 +290,7 @@ fn ready_all(
 
 // Whether block `b` is hung.
 fn is_hung(loose: &Loose, b: u32) -> bool
-    ensures { (given : List ℕ) (w : List (Role × ℕ)) (s : ℕ → Bool) → AreLoose given w s loose.now
+    ensures { (given : List ℕ) (w : Walk) (s : ℕ → Bool) → AreLoose given w s loose.now
         → result ≡ is_hung given w s b }
 {
     is_marked(&loose.lost, b as usize) || is_marked(&loose.made, b as usize)
@@ -418,22 +418,22 @@ pub fn hung(alloc: Global, survey: &Survey<'_>, mended: bool) -> Result<Option<V
 /// is not hung, nor a home of what is, nor the end there; each block of an entry that is no header; the boot block, with the
 /// kind; and of each block that is not hung, the words but the sum that lead to a part of the survey.
 pub fn hung_keeps()
-    ensures length { (given : List ℕ) (w : List (Role × ℕ)) (s : ℕ → Bool)
+    ensures length { (given : List ℕ) (w : Walk) (s : ℕ → Bool)
         → is_image_len (length given) ≡ true → length (hung given w s) ≡ length given }
-    ensures blocks { (given : List ℕ) (w : List (Role × ℕ)) (s : ℕ → Bool)
+    ensures blocks { (given : List ℕ) (w : Walk) (s : ℕ → Bool)
         → is_image_len (length given) ≡ true → (b : ℕ) → is_hung given w s b ≡ false
         → ((d : ℕ) → is_hung given w s d ≡ true → home given w s d ≢ b)
         → ((d : ℕ) → is_hung given w s d ≡ true → end_of given w (home given w s d) ≢ b)
         → block (hung given w s) b ≡ block given b }
-    ensures entries { (given : List ℕ) (w : List (Role × ℕ)) (s : ℕ → Bool)
+    ensures entries { (given : List ℕ) (w : Walk) (s : ℕ → Bool)
         → is_image_len (length given) ≡ true → (b : ℕ) → is_some (owner w b) ≡ true
         → directory_at given w b ≡ None → ((n : ℕ) → node_block w n ≢ b)
         → block (hung given w s) b ≡ block given b }
-    ensures words { (given : List ℕ) (w : List (Role × ℕ)) (s : ℕ → Bool)
+    ensures words { (given : List ℕ) (w : Walk) (s : ℕ → Bool)
         → is_image_len (length given) ≡ true → (b i : ℕ) → is_hung given w s b ≡ false → i < 128 → i ≢ CHECKSUM
         → owns w (word_in given b i) ≡ true → word_in (hung given w s) b i ≡ word_in given b i }
-    ensures boot { (given : List ℕ) (w : List (Role × ℕ)) (s : ℕ → Bool)
+    ensures boot { (given : List ℕ) (w : Walk) (s : ℕ → Bool)
         → is_image_len (length given) ≡ true → block (hung given w s) 0 ≡ block given 0 }
-    ensures kind { (given : List ℕ) (w : List (Role × ℕ)) (s : ℕ → Bool)
+    ensures kind { (given : List ℕ) (w : Walk) (s : ℕ → Bool)
         → is_image_len (length given) ≡ true → kind_of (hung given w s) ≡ kind_of given }
 {}

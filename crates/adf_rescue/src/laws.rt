@@ -19,7 +19,7 @@ ghost use Rattle.adf_volume.specs.Fits.{Fits};
 ghost use Rattle.adf_volume.specs.Layout.{Layout};
 ghost use Rattle.adf_volume.specs.Made.{datas_in};
 ghost use Rattle.adf_volume.specs.Lists.{At};
-ghost use Rattle.adf_volume.specs.Walk.{FileAt, Role, node_block};
+ghost use Rattle.adf_volume.specs.Walk.{FileAt, node_block, Walk};
 ghost use Rattle.adf_build.specs.Laid.{IsLaid};
 ghost use Rattle.adf_rescue.specs.Lost.{has_lost};
 ghost use Rattle.adf_rescue.specs.Rescue.{Basis, Verdict, additions_of, at_path, before_first, first_verdicts, path_by, place_of};
@@ -44,7 +44,7 @@ pub fn rescues_are_laid()
 /// path, with its content and what its header says of it. So it is kept in the place of its directory, by its name or else by
 /// `lost-` and its block, or has no room. What a second survey adds comes after all that the first one adds.
 pub fn sound_files_stand()
-    ensures whole { (image : List ℕ) (w : List (Role × ℕ)) (fs : List FindingValue) (n : ℕ)
+    ensures whole { (image : List ℕ) (w : Walk) (fs : List FindingValue) (n : ℕ)
         → IsSoundFile image w fs n → IsSoundFile image w (grave fs) n }
     ensures stand { (held : ℕ) (a : Basis) (fs : List FindingValue) (n : ℕ) (vs : List Verdict)
         → IsSurvey a.image a.walk fs → AreMarks a.image a.walk (grave fs) a.sound
@@ -60,13 +60,11 @@ pub fn sound_files_stand()
 
 /// A survey has one list of verdicts.
 pub fn one_rescue()
-    ensures first { (held : ℕ) (image : List ℕ) (w : List (Role
-        × ℕ)) (fs : List FindingValue) (s t : ℕ → Bool)
+    ensures first { (held : ℕ) (image : List ℕ) (w : Walk) (fs : List FindingValue) (s t : ℕ → Bool)
         → AreMarks image w (grave fs) s → AreMarks image w (grave fs) t
         → first_verdicts held (record { image = image; walk = w; sound = s })
         ≡ first_verdicts held (record { image = image; walk = w; sound = t }) }
-    ensures second { (held : ℕ) (a : Basis) (image : List ℕ) (w : List (Role
-        × ℕ)) (fs : List FindingValue) (s t : ℕ → Bool)
+    ensures second { (held : ℕ) (a : Basis) (image : List ℕ) (w : Walk) (fs : List FindingValue) (s t : ℕ → Bool)
         → AreMarks image w (grave fs) s → AreMarks image w (grave fs) t
         → second_verdicts held a (Some (record { image = image; walk = w; sound = s }))
         ≡ second_verdicts held a (Some (record { image = image; walk = w; sound = t })) }
@@ -75,25 +73,22 @@ pub fn one_rescue()
 /// Where a tree and a layout fit an image that is held whole, nothing is lost, so that there is no second survey; and if no data
 /// block of an FFS volume says that it is an OFS one, the rescue has that tree and leaves out nothing.
 pub fn whole_is_kept()
-    ensures tree { (held : ℕ) (image : List ℕ) (t : Tree) (l : Layout) (w : List (Role
-        × ℕ)) (fs : List FindingValue) (sound : ℕ → Bool)
+    ensures tree { (held : ℕ) (image : List ℕ) (t : Tree) (l : Layout) (w : Walk) (fs : List FindingValue) (sound : ℕ → Bool)
         → blocks image ≤ held → Fits image t l → IsSurvey image w fs → IsOfItsKind image w → AreMarks image w (grave fs) sound
         → rescued_tree held (record { image = image; walk = w; sound = sound }) None ≡ t }
-    ensures all { (held : ℕ) (image : List ℕ) (t : Tree) (l : Layout) (w : List (Role
-        × ℕ)) (fs : List FindingValue) (sound : ℕ → Bool)
+    ensures all { (held : ℕ) (image : List ℕ) (t : Tree) (l : Layout) (w : Walk) (fs : List FindingValue) (sound : ℕ → Bool)
         → blocks image ≤ held → Fits image t l → IsSurvey image w fs → IsOfItsKind image w → AreMarks image w (grave fs) sound
         → rescue_leaves held (record { image = image; walk = w; sound = sound }) ≡ [] }
-    ensures lost { (image : List ℕ) (t : Tree) (l : Layout) (w : List (Role
-        × ℕ)) (fs : List FindingValue)
+    ensures lost { (image : List ℕ) (t : Tree) (l : Layout) (w : Walk) (fs : List FindingValue)
         → Fits image t l → IsSurvey image w fs → (mended : Bool) → has_lost mended image w fs ≡ false }
 {}
 
 /// A whole file is there: each data block, by its size, is in the walk, at the block in the file's table, and in the image; and
 /// all blocks of the file have their forms.
 pub fn whole_files()
-    ensures file { (image : List ℕ) (w : List (Role × ℕ)) (fs : List FindingValue) (n h : ℕ)
+    ensures file { (image : List ℕ) (w : Walk) (fs : List FindingValue) (n h : ℕ)
         → IsSurvey image w fs → IsSound image w (grave fs) n h → FileAt image w n h → FileHolds image w n h }
-    ensures blocks { (image : List ℕ) (w : List (Role × ℕ)) (fs : List FindingValue) (n : ℕ)
+    ensures blocks { (image : List ℕ) (w : Walk) (fs : List FindingValue) (n : ℕ)
         → IsSurvey image w fs → IsSoundFile image w (grave fs) n → HasItsBlocks (file_in image w n) }
 {}
 

@@ -5,7 +5,7 @@ ghost use Rattle.adf_tree.specs.declared.entry.Body.{Body as ABody};
 ghost use Rattle.adf_drafts.specs.Draft.{IsRoomFor};
 ghost use Rattle.adf_blocks.specs.Sizes.{blocks};
 ghost use Rattle.adf_tree.specs.Tree.{is_dir_body};
-ghost use Rattle.adf_volume.specs.Walk.{Role, heads, node_block};
+ghost use Rattle.adf_volume.specs.Walk.{heads, node_block, Walk};
 ghost use Rattle.adf_volume.specs.Image.{name_of};
 ghost use Rattle.adf_findings.specs.Found.{parent_node};
 ghost use Rattle.adf_findings.specs.Opening.{opening_in};
@@ -129,7 +129,7 @@ impl Salvage {
 
     /// The state before a second survey, with what is kept of the first one.
     pub fn go_on(self, alloc: Global) -> Result<Salvage, NoMemory>
-        ensures { (held : ℕ) (image : List ℕ) (w : List (Role × ℕ)) (vs : List Verdict)
+        ensures { (held : ℕ) (image : List ℕ) (w : Walk) (vs : List Verdict)
             → IsSalvage (before_first held image) vs self
             → IfOk result (IsSalvage (record { given = image; held = held; walk = w; verdicts = vs }) []) }
     {
@@ -237,7 +237,7 @@ impl Salvage {
         survey: &Survey<'_>,
         n: Node,
     ) -> Result<Option<Room>, NoMemory>
-        ensures { (g : Ground) (w : List (Role × ℕ)) (fs : List FindingValue) (vs : List Verdict)
+        ensures { (g : Ground) (w : Walk) (fs : List FindingValue) (vs : List Verdict)
             → IsSurvey survey.now.image w fs → IsSalvage g vs self.now
             → 1 ≤ n → n ≤ heads w
             → IfOk result (IsRoomOf self.now.draft
@@ -262,7 +262,7 @@ impl Salvage {
         standing: Result<Body, Why>,
     ) -> Result<(), NoMemory>
         requires { GoesOn survey.now.image n self.old }
-        ensures { (g : Ground) (w : List (Role × ℕ)) (fs : List FindingValue) (sound : ℕ → Bool)
+        ensures { (g : Ground) (w : Walk) (fs : List FindingValue) (sound : ℕ → Bool)
             (vs : List Verdict)
             → IsSurvey survey.now.image w fs → IsSalvage g vs self.old → IsNext w vs n
             → entry_at g.walk (node_block w n) ≡ None

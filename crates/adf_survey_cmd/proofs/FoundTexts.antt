@@ -3,7 +3,7 @@
 use Rattle.std.proofs.Common.{◌≡◌, ◌≤◌, ◌+◌, ◌++◌, ◌∙◌, ℕ, List, [], ◌∷◌, Bool, append_assoc, append-nil, arith, ap, refl, sym, true, false}
 use Rattle.std.proofs.lemmas.Grind.{common_steps}
 use Rattle.adf_base.specs.declared.dates.Stamp.{Stamp}
-use Rattle.adf_volume.specs.Walk.{Role, heads}
+use Rattle.adf_volume.specs.Walk.{heads, Walk}
 use Rattle.adf_texts.proofs.Ranges.{flat_map_front, flat_map_next}
 use Rattle.adf_survey_cmd.specs.FoundLines.{found_lines, found_text, lines_of_found, opening_text}
 
@@ -13,7 +13,7 @@ same_tests true b f g = sym (f refl)
 same_tests false true f g = let clash : false ≡ true = g refl in cc
 same_tests false false f g = refl
 
-module _ (date : Stamp → List ℕ) (sound : ℕ → Bool) (image : List ℕ) (w : List (Role × ℕ)) where
+module _ (date : Stamp → List ℕ) (sound : ℕ → Bool) (image : List ℕ) (w : Walk) where
   pub found_none : (text : List ℕ) → text ++ lines_of_found date sound image w 0 ≡ text
   unfolding lines_of_found
   found_none text = append-nil text
@@ -38,7 +38,7 @@ module _ (date : Stamp → List ℕ) (sound : ℕ → Bool) (image : List ℕ) (
       (front.0, ap (λ t. text ++ t) front.1 ∙ sym (append_assoc text (lines_of_found date sound image w k) front.0))
 
 module _ (date : Stamp → List ℕ) (sound : ℕ → Bool) (image : List ℕ) where
-  pub found_begun : (w : List (Role × ℕ)) → (w ≡ [] → ⊥)
+  pub found_begun : (w : Walk) → (w ≡ [] → ⊥)
       → found_text date sound image w ≡ opening_text date image ++ lines_of_found date sound image w (heads w)
   found_begun [] h = absurd (h refl)
   found_begun (x ∷ w) h = refl

@@ -8,7 +8,7 @@ use Rattle.std.proofs.lemmas.List.{take-take}
 use Rattle.std.proofs.lemmas.Grind.{common_steps}
 use Rattle.adf_blocks.specs.declared.layout.TheConstants.{MOST_BLOCKS}
 use Rattle.adf_blocks.specs.declared.cause.Cause.TheVariants.{BadSize}
-use Rattle.adf_volume.specs.Walk.{Role}
+use Rattle.adf_volume.specs.Walk.{Walk}
 use Rattle.adf_findings.specs.Files.{grave}
 use Rattle.adf_findings.specs.Lookup.{LeadsTo}
 use Rattle.adf_findings.specs.SoundMarks.{AreMarks}
@@ -64,7 +64,7 @@ same_found false s t names reply (inr (n, leads, inr (inl (file, damage, e)))) =
 same_found false s t names reply (inr (n, leads, inr (inr (sound, e)))) = absurd sound.0.0.header.has
 
 -- no volume has this length, so nothing is hung
-none_second : (mended : Bool) (image : List ℕ) (w : List (Role × ℕ)) (fs : List FindingValue) → 512 * MOST_BLOCKS < length image
+none_second : (mended : Bool) (image : List ℕ) (w : Walk) (fs : List FindingValue) → 512 * MOST_BLOCKS < length image
     → second_image mended image w fs ≡ None
 none_second mended image w fs long = grind (arith, common_steps, false_from_ne_true, sized_len, none_hung, and_left)
 
@@ -90,11 +90,11 @@ long_opened : (image : List ℕ) → 512 * MOST_BLOCKS < length image → 512 * 
 long_opened image h = omega (arith, h, length_opened image)
 
 -- of an input of a bad size, whatever holds of its walk and its findings holds of these
-of_long : (image : List ℕ) (w : List (Role × ℕ)) (fs : List FindingValue) (holds : List (Role × ℕ) → List FindingValue → Type 0)
+of_long : (image : List ℕ) (w : Walk) (fs : List FindingValue) (holds : Walk → List FindingValue → Type 0)
     → 512 * MOST_BLOCKS < length image → IsSurvey image w fs → holds w fs → holds [] bad_size
 of_long image w fs holds long s h =
     let same = one_survey image w [] fs bad_size s (long_survey image long) in
-    subst (λ (u : List (Role × ℕ)). holds u bad_size) same.0 (subst (λ (gs : List FindingValue). holds w gs) same.1 h)
+    subst (λ (u : Walk). holds u bad_size) same.0 (subst (λ (gs : List FindingValue). holds w gs) same.1 h)
 
 -- it is surveyed as it is
 long_begun : (s : SubjectValue) → 512 * MOST_BLOCKS < length s.image → begun_subject s ≡ s

@@ -3,7 +3,7 @@
 use Rattle.std.proofs.Common.{◌≡◌, ◌∙◌, ◌++◌, inl, inr, ℕ, Bool, true, false, List, [], ◌∷◌, Option, Some, sym, ap, subst, None, refl, arith}
 use Rattle.std.proofs.lemmas.Grind.{common_steps}
 use Rattle.adf_names.proofs.PathParts.{one_path}
-use Rattle.adf_volume.specs.Walk.{FileAt, Role, node_block}
+use Rattle.adf_volume.specs.Walk.{FileAt, node_block, Walk}
 use Rattle.adf_findings.specs.Files.{grave}
 use Rattle.adf_findings.specs.Lookup.{LeadsTo}
 use Rattle.adf_findings.specs.SoundMarks.{AreMarks}
@@ -26,7 +26,7 @@ use Rattle.adf_survey_cmd.proofs.FoundTexts.{same_tests}
 pub one_inquiry : (words : List (List ℕ)) (r q : InquiryValue) → AsksSurvey words r → AsksSurvey words q → r ≡ q
 one_inquiry words r q a b = grind (arith, common_steps)
 
-module _ (s : SubjectValue) (w : List (Role × ℕ)) where
+module _ (s : SubjectValue) (w : Walk) where
   one_lead : (p : ℕ) (names : List (List ℕ)) (n m : ℕ) → LeadsTo s.image w p names n → LeadsTo s.image w p names m → n ≡ m
   one_lead p [] n m x y = sym x ∙ y
   one_lead p (name ∷ names) n m x y =
@@ -62,11 +62,11 @@ module _ (s : SubjectValue) (w : List (Role × ℕ)) where
 surveyed_once : (s : SubjectValue) (a b : Reply) → Surveys s a → Surveys s b → a ≡ b
 surveyed_once s a b (w, fs, h, x) (u, gs, t, y) = grind (arith, common_steps, one_survey)
 
-one_marks : (image : List ℕ) (w : List (Role × ℕ)) (fs : List FindingValue) (sound others : ℕ → Bool) → AreMarks image w fs sound
+one_marks : (image : List ℕ) (w : Walk) (fs : List FindingValue) (sound others : ℕ → Bool) → AreMarks image w fs sound
     → AreMarks image w fs others → sound ≡ others
 one_marks image w fs sound others p q = grind (arith, common_steps, same_tests)
 
-found_told_once : (s : SubjectValue) (w : List (Role × ℕ)) (fs : List FindingValue) (a b : Reply) → TellsFound s w fs a → TellsFound s w fs b
+found_told_once : (s : SubjectValue) (w : Walk) (fs : List FindingValue) (a b : Reply) → TellsFound s w fs a → TellsFound s w fs b
     → a ≡ b
 found_told_once s w fs a b (date, dates, sound, marks, x) (other, others, tests, also, y) =
     x ∙ ap (λ d. on_output (told_status s.front fs) (listing_text d sound s w fs)) (one_dates date other dates others)
@@ -124,7 +124,7 @@ one_second (Some image) (Some l) (Some m) x y = ap some (one_basis image l m x y
     some : Basis → Option Basis
     some k = Some k
 
-found_rescued_once : (held : ℕ) (input image : List ℕ) (w : List (Role × ℕ)) (fs : List FindingValue) (boot : List ℕ) (a b : Reply)
+found_rescued_once : (held : ℕ) (input image : List ℕ) (w : Walk) (fs : List FindingValue) (boot : List ℕ) (a b : Reply)
     → RescuesFound held input image w fs boot a → RescuesFound held input image w fs boot b → a ≡ b
 found_rescued_once held input image w fs boot a b (sound, marks, (l, second, x)) (others, also, (m, twice, y)) =
     let r : (ℕ → Bool) → Basis = λ s. record { image = image; walk = w; sound = s } in

@@ -8,7 +8,7 @@ use Rattle.std.proofs.lemmas.Grind.{common_steps}
 use Rattle.adf_tree.specs.Tree.{Tree}
 use Rattle.adf_volume.specs.Fits.{Fits}
 use Rattle.adf_volume.specs.Layout.{Layout}
-use Rattle.adf_volume.specs.Walk.{Role}
+use Rattle.adf_volume.specs.Walk.{Walk}
 use Rattle.adf_findings.specs.Files.{grave}
 use Rattle.adf_findings.specs.SoundMarks.{AreMarks}
 use Rattle.adf_findings.specs.Survey.{FindingValue, IsSurvey}
@@ -40,7 +40,7 @@ pub if_some : {X : Type 0} (o : Option X) (x : X) (P : X → Type 0) → o ≡ S
 if_some o x P e h = subst (λ o. IfSome o P) e h
 
 -- what is answered by the survey of an opened image, and by that of a second one, if there is one
-pub found_answers : (held : ℕ) (input image : List ℕ) (w : List (Role × ℕ)) (fs : List FindingValue) (sound : ℕ → Bool)
+pub found_answers : (held : ℕ) (input image : List ℕ) (w : Walk) (fs : List FindingValue) (sound : ℕ → Bool)
     (second : Option (List ℕ)) (boot : List ℕ) (reply : Reply)
     → image ≡ opened input → IsSurvey image w fs → AreMarks image w (grave fs) sound → second_image (is_mended input) image w fs ≡ second
     → RescuesBoth held input (record { image = image; walk = w; sound = sound }) second fs boot reply → Rescues held input boot reply
@@ -51,16 +51,16 @@ found_answers held input image w fs sound second boot reply same survey marks is
 
 -- the hung image is surveyed where something is lost, and only there
 
-pub none_hung : (mended : Bool) (image : List ℕ) (w : List (Role × ℕ)) (fs : List FindingValue) → has_lost mended image w fs ≡ false
+pub none_hung : (mended : Bool) (image : List ℕ) (w : Walk) (fs : List FindingValue) → has_lost mended image w fs ≡ false
     → second_image mended image w fs ≡ None
 none_hung mended image w fs none = cond-false (has_lost mended image w fs) (Some (hung image w (is_settled mended w fs))) None none
 
-pub one_hung : (mended : Bool) (image : List ℕ) (w : List (Role × ℕ)) (fs : List FindingValue) (v : List ℕ) → has_lost mended image w fs ≡ true
+pub one_hung : (mended : Bool) (image : List ℕ) (w : Walk) (fs : List FindingValue) (v : List ℕ) → has_lost mended image w fs ≡ true
     → v ≡ hung image w (is_settled mended w fs) → second_image mended image w fs ≡ Some v
 one_hung mended image w fs v some is = grind (arith, common_steps, cond-true)
 
 -- no tree fits an image that has a fault as it is
-pub none_fits_it : (image : List ℕ) (w : List (Role × ℕ)) (fs : List FindingValue) (mended : Bool) → mended ≡ false → IsSurvey image w fs
+pub none_fits_it : (image : List ℕ) (w : Walk) (fs : List FindingValue) (mended : Bool) → mended ≡ false → IsSurvey image w fs
     → HasFault mended fs
     → (t : Tree) (l : Layout) → Fits image t l → ⊥
 none_fits_it image w fs mended kept survey (inl is) t l fits = absurd cc
@@ -71,7 +71,7 @@ pub none_fits_mended : (image : List ℕ) → is_mended image ≡ true → (t : 
 none_fits_mended image mended t l fits = let kept = volumes_are_kept image t l fits in absurd cc
 
 -- the lines of the same are the same
-pub same_lines : (image : List ℕ) (w : List (Role × ℕ)) (b : Option Basis) (xs us ys vs : List LeftOut) (ps qs ns ms : List ℕ)
+pub same_lines : (image : List ℕ) (w : Walk) (b : Option Basis) (xs us ys vs : List LeftOut) (ps qs ns ms : List ℕ)
     → xs ≡ us → ys ≡ vs → ps ≡ qs → ns ≡ ms → lines_text image w b xs ys ps ns ≡ lines_text image w b us vs qs ms
 same_lines image w b xs us ys vs ps qs ns ms d e f g = λ i. lines_text image w b (d i) (e i) (f i) (g i)
 

@@ -4,12 +4,12 @@ use Rattle.std.proofs.Common.{◌≡◌, ◌∙◌, ◌++◌, ◌+◌, ◌≤◌
 use Rattle.std.specs.Prelude.{option_map, slice_get}
 use Rattle.std.specs.List.{flat_map}
 use Rattle.std.proofs.lemmas.List.{drop_all}
-use Rattle.adf_volume.specs.Walk.{Role}
+use Rattle.adf_volume.specs.Walk.{Walk}
 use Rattle.adf_findings.specs.Survey.{FindingValue}
 use Rattle.adf_survey_cmd.specs.Lines.{continues, findings_line, findings_text, run_of, runs, runs_from}
 use Rattle.adf_survey_cmd.specs.declared.runs.Run.{Run}
 
-module _ (w : List (Role × ℕ)) where
+module _ (w : Walk) where
   -- a finding at a place
   there : (fs : List FindingValue) (k : ℕ) (r : Run) → Some r ≡ option_map (run_of w) (slice_get fs k)
       → (f : FindingValue) × (r ≡ run_of w f) × (drop k fs ≡ f ∷ drop (suc k) fs)
@@ -61,7 +61,7 @@ module _ (w : List (Role × ℕ)) where
   unfolding runs_from
   run_last fs k r at = let le = past fs k at in rw drop_all refl
 
-module _ (image : List ℕ) (w : List (Role × ℕ)) where
+module _ (image : List ℕ) (w : Walk) where
   -- the line of a run, and those that are to come
   pub line_first : (r : Run) (rest fs : List FindingValue) (text text' : List ℕ) → r ∷ runs w rest ≡ runs w fs
       → text' ≡ text ++ findings_line image w r

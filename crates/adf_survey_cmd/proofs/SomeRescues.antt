@@ -12,7 +12,7 @@ use Rattle.adf_blocks.specs.declared.cause.Cause.{Cause}
 use Rattle.adf_volume.specs.Fits.{Fits}
 use Rattle.adf_volume.specs.Layout.{Layout}
 use Rattle.adf_volume.specs.Start.{is_image_len}
-use Rattle.adf_volume.specs.Walk.{Role}
+use Rattle.adf_volume.specs.Walk.{Walk}
 use Rattle.adf_volume.specs.declared.fault.Fault.{Fault}
 use Rattle.adf_findings.proofs.FirstFindings.{finds_none}
 use Rattle.adf_findings.proofs.FitsOrFault.{fits_or_fault}
@@ -46,14 +46,14 @@ second_of (Some image) are =
     let (sound, marks) = some_marks image w fs survey (grave fs) in
     (Some (record { image = image; walk = w; sound = sound }), record { of = refl; findings = fs; survey = survey; marks = marks }, are)
 
-lost_len : (mended : Bool) (image : List ℕ) (w : List (Role × ℕ)) (fs : List FindingValue) → has_lost mended image w fs ≡ true
+lost_len : (mended : Bool) (image : List ℕ) (w : Walk) (fs : List FindingValue) → has_lost mended image w fs ≡ true
     → blocks image ≤ 2 ^ 32
 lost_len mended image w fs some =
     let len = (and_parts (is_image_len (length image)) _ some).0 in
     let high = (sized (length image) len).high in
     omega arith
 
-second_bytes : (mended : Bool) (image : List ℕ) (w : List (Role × ℕ)) (fs : List FindingValue) → AreBytes image
+second_bytes : (mended : Bool) (image : List ℕ) (w : Walk) (fs : List FindingValue) → AreBytes image
     → IfSome (second_image mended image w fs) AreBytes
 second_bytes mended image w fs are =
     cond_both (has_lost mended image w fs) (Some (hung image w (is_settled mended w fs))) None (λ o. IfSome o AreBytes)
@@ -77,14 +77,14 @@ fault_alone input none (inl (t, l, fits)) = absurd (none t l fits)
 fault_alone input none (inr (b, c, first)) = (_, (fault_at b c, first, refl))
 
 -- no tree fits an input of which nothing is surveyed once it is opened
-none_fits_unread : (input : List ℕ) (w : List (Role × ℕ)) (fs : List FindingValue) → IsSurvey (opened input) w fs → w ≡ [] → NoneFits input
+none_fits_unread : (input : List ℕ) (w : Walk) (fs : List FindingValue) → IsSurvey (opened input) w fs → w ≡ [] → NoneFits input
 none_fits_unread input w fs survey none t l fits =
     let same : opened input ≡ input = opened_kept input (volumes_are_kept input t l fits) in
     let own : IsSurvey input w fs = subst (λ (image : List ℕ). IsSurvey image w fs) same survey in
     unread_fault input w fs own none (finds_none input t l w fs fits own)
 
 -- nor one that is mended or has a finding
-none_fits_fault : (input : List ℕ) (w : List (Role × ℕ)) (fs : List FindingValue) (mended : Bool) → is_mended input ≡ mended
+none_fits_fault : (input : List ℕ) (w : Walk) (fs : List FindingValue) (mended : Bool) → is_mended input ≡ mended
     → IsSurvey (opened input) w fs → HasFault mended fs → NoneFits input
 none_fits_fault input w fs true is survey fault t l fits = none_fits_mended input is t l fits
 none_fits_fault input w fs false is survey fault t l fits =
@@ -103,11 +103,11 @@ dec_empty (x ∷ xs) = no (λ e. cc)
 
 -- the answer
 
-allowed_size : (image : List ℕ) (w : List (Role × ℕ)) (fs : List FindingValue) → IsSurvey image w fs → w ≢ [] → is_allowed (blocks image) ≡ true
+allowed_size : (image : List ℕ) (w : Walk) (fs : List FindingValue) → IsSurvey image w fs → w ≢ [] → is_allowed (blocks image) ≡ true
 allowed_size image w fs (unread f) some = absurd (some refl)
 allowed_size image w fs (read v d t) some = (course_size image v).1
 
-module _ (held : ℕ) (input : List ℕ) (w : List (Role × ℕ)) (fs : List FindingValue) (survey : IsSurvey (opened input) w fs) (sound : ℕ → Bool)
+module _ (held : ℕ) (input : List ℕ) (w : Walk) (fs : List FindingValue) (survey : IsSurvey (opened input) w fs) (sound : ℕ → Bool)
     (are : AreBytes (opened input)) (second : Option Basis) (more : AreSecondBytes second) (boot : List ℕ) where
   abbrev first : Basis
   first = record { image = opened input; walk = w; sound = sound }
@@ -127,7 +127,7 @@ module _ (held : ℕ) (input : List ℕ) (w : List (Role × ℕ)) (fs : List Fin
       let (reply, refuses) = fault_alone input (none_fits_unread input w fs survey none) (fits_or_fault input) in (reply, inl (none, refuses))
   rescued_by (no some) = let (reply, told) = some_rescued some in (reply, inr (some, told))
 
-rescued_found : (held : ℕ) (input : List ℕ) (w : List (Role × ℕ)) (fs : List FindingValue) → IsSurvey (opened input) w fs → AreBytes (opened input)
+rescued_found : (held : ℕ) (input : List ℕ) (w : Walk) (fs : List FindingValue) → IsSurvey (opened input) w fs → AreBytes (opened input)
     → (boot : List ℕ) → (reply : Reply) × RescuesFound held input (opened input) w fs boot reply
 rescued_found held input w fs survey are boot =
     let (sound, marks) = some_marks (opened input) w fs survey (grave fs) in

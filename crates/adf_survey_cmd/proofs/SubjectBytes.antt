@@ -4,7 +4,7 @@ use Rattle.std.proofs.Common.{◌-◌, ◌*◌, ℕ, List, Option, None, Some, l
 use Rattle.std.proofs.lemmas.Bool.{cond_both}
 use Rattle.std.proofs.lemmas.List.Elements.{All-append, All-replicate, All-set, All-take}
 use Rattle.adf_base.proofs.ByteLists.{AreBytes, IsByte, byte_small}
-use Rattle.adf_volume.specs.Walk.{Role}
+use Rattle.adf_volume.specs.Walk.{Walk}
 use Rattle.adf_findings.specs.OwnKind.{is_mistyped, retyped}
 use Rattle.adf_survey_cmd.specs.Subject.{IsTyped, SubjectValue, changed, sized, subject, type_line, typed_subject}
 
@@ -22,7 +22,7 @@ retyped_bytes image are =
     let small = byte_small image 3 are in
     All-set IsByte image 3 (slice_index image 3 - 1) (omega arith) are
 
-typed_so : (s : SubjectValue) (w : List (Role × ℕ)) → AreBytes s.image → AreBytes (typed_subject s w).image
+typed_so : (s : SubjectValue) (w : Walk) → AreBytes s.image → AreBytes (typed_subject s w).image
 typed_so s w are =
     cond_both (is_mistyped s.image w) (changed s (retyped s.image) type_line) s (λ (t : SubjectValue). AreBytes t.image)
     (λ e. retyped_bytes s.image are) (λ e. are)

@@ -3,7 +3,7 @@
 use Rattle.std.specs.Prelude.{◌≡◌, ◌*◌, ◌⊎◌, ◌++◌, ℕ, Bool, true, false, List, [], ◌∷◌, Option, codes}
 use Rattle.adf_blocks.specs.declared.layout.TheConstants.{MOST_BLOCKS}
 use Rattle.adf_names.specs.PathTexts.{IsPathText, path_text}
-use Rattle.adf_volume.specs.Walk.{FileAt, Role}
+use Rattle.adf_volume.specs.Walk.{FileAt, Walk}
 use Rattle.adf_findings.specs.Files.{IsSoundFile, file_content, file_in}
 use Rattle.adf_findings.specs.Lookup.{LeadsTo}
 use Rattle.adf_findings.specs.SoundMarks.{AreMarks}
@@ -30,11 +30,11 @@ told_status [] fs = findings_status fs
 told_status (c ∷ front) fs = 1
 
 -- the lines of the findings are told
-abbrev pub TellsFindings : SubjectValue → List (Role × ℕ) → List FindingValue → Reply → Type 0
+abbrev pub TellsFindings : SubjectValue → Walk → List FindingValue → Reply → Type 0
 TellsFindings s w fs reply = reply ≡ on_output (told_status s.front fs) (told_text s w fs)
 
 -- the lines of the findings are told, and behind them those of what is found, in which each date has its text and the sound entries are marked
-abbrev pub TellsFound : SubjectValue → List (Role × ℕ) → List FindingValue → Reply → Type 0
+abbrev pub TellsFound : SubjectValue → Walk → List FindingValue → Reply → Type 0
 TellsFound s w fs reply = (date : Stamp → List ℕ) × AreDates date × (sound : ℕ → Bool) × AreMarks s.image w fs sound
     × (reply ≡ on_output (told_status s.front fs) (listing_text date sound s w fs))
 
@@ -43,49 +43,49 @@ abbrev pub no_path_line : List (List ℕ) → List ℕ
 no_path_line names = codes "no such path: " ++ (path_text names ++ codes "\n")
 
 -- nothing is found under the names
-abbrev pub FindsNothing : SubjectValue → List (Role × ℕ) → List (List ℕ) → Reply → Type 0
+abbrev pub FindsNothing : SubjectValue → Walk → List (List ℕ) → Reply → Type 0
 FindsNothing s w names reply = ((n : ℕ) → LeadsTo s.image w 0 names n → ⊥) × (reply ≡ on_errors 1 (no_path_line names))
 
 -- the entry is no file
-abbrev pub FindsNoFile : SubjectValue → List (Role × ℕ) → ℕ → Reply → Type 0
+abbrev pub FindsNoFile : SubjectValue → Walk → ℕ → Reply → Type 0
 FindsNoFile s w n reply = ((h : ℕ) → FileAt s.image w n h → ⊥) × (reply ≡ on_errors 1 (codes "not a file\n"))
 
 -- the entry is a sound file, and the input holds its data
-abbrev pub IsWholeFile : SubjectValue → List (Role × ℕ) → List FindingValue → ℕ → Type 0
+abbrev pub IsWholeFile : SubjectValue → Walk → List FindingValue → ℕ → Type 0
 IsWholeFile s w fs n = IsSoundFile s.image w fs n × (has_its_data s.end s.image w n ≡ true)
 
 -- the entry is another file
-abbrev pub FindsDamage : SubjectValue → List (Role × ℕ) → List FindingValue → ℕ → Reply → Type 0
+abbrev pub FindsDamage : SubjectValue → Walk → List FindingValue → ℕ → Reply → Type 0
 FindsDamage s w fs n reply =
     ((h : ℕ) × FileAt s.image w n h) × (IsWholeFile s w fs n → ⊥) × (reply ≡ on_errors 1 (codes "damaged\n"))
 
 -- the entry is such a file, whose bytes are written
-abbrev pub CopiesSoundFile : SubjectValue → List (Role × ℕ) → List FindingValue → ℕ → Reply → Type 0
+abbrev pub CopiesSoundFile : SubjectValue → Walk → List FindingValue → ℕ → Reply → Type 0
 CopiesSoundFile s w fs n reply = IsWholeFile s w fs n × (reply ≡ on_output 0 (file_content (file_in s.image w n)))
 
 -- `cat` of an entry: of a sound file, or of one that may be damaged
-abbrev pub CopiesEntry : (damaged : Bool) → SubjectValue → List (Role × ℕ) → List FindingValue → ℕ → Reply → Type 0
+abbrev pub CopiesEntry : (damaged : Bool) → SubjectValue → Walk → List FindingValue → ℕ → Reply → Type 0
 CopiesEntry false s w fs n reply = FindsNoFile s w n reply ⊎ (FindsDamage s w fs n reply ⊎ CopiesSoundFile s w fs n reply)
 CopiesEntry true s w fs n reply = FindsNoFile s w n reply ⊎ WritesRemains s w n reply
 
 -- `cat` of what the names lead to
-abbrev pub CopiesFound : (damaged : Bool) → SubjectValue → List (Role × ℕ) → List FindingValue → List (List ℕ) → Reply → Type 0
+abbrev pub CopiesFound : (damaged : Bool) → SubjectValue → Walk → List FindingValue → List (List ℕ) → Reply → Type 0
 CopiesFound damaged s w fs names reply =
     FindsNothing s w names reply ⊎ ((n : ℕ) × LeadsTo s.image w 0 names n × CopiesEntry damaged s w fs n reply)
 
 -- `adf-survey` tells the findings of the survey
 abbrev pub Surveys : SubjectValue → Reply → Type 0
-Surveys s reply = (w : List (Role × ℕ)) × (fs : List FindingValue) × IsSurvey s.image w fs × TellsFindings s w fs reply
+Surveys s reply = (w : Walk) × (fs : List FindingValue) × IsSurvey s.image w fs × TellsFindings s w fs reply
 
 -- `adf-survey --list` tells the findings of the survey and what is found
 abbrev pub ListsSurvey : SubjectValue → Reply → Type 0
-ListsSurvey s reply = (w : List (Role × ℕ)) × (fs : List FindingValue) × IsSurvey s.image w fs × TellsFound s w fs reply
+ListsSurvey s reply = (w : Walk) × (fs : List FindingValue) × IsSurvey s.image w fs × TellsFound s w fs reply
 
 -- `cat` of a path that is read, in what is found
 abbrev pub CopiesFromSurvey : (damaged : Bool) → List ℕ → SubjectValue → Reply → Type 0
 CopiesFromSurvey damaged path s reply =
     (names : List (List ℕ)) × IsPathText path names
-    × (w : List (Role × ℕ)) × (fs : List FindingValue) × IsSurvey s.image w fs × CopiesFound damaged s w fs names reply
+    × (w : Walk) × (fs : List FindingValue) × IsSurvey s.image w fs × CopiesFound damaged s w fs names reply
 
 -- `rescue` of what is surveyed, once it has the type that its files say: with its two boot blocks as they were before
 abbrev pub RescuesTyped : SubjectValue → Reply → Type 0

@@ -3,7 +3,7 @@
 use Rattle.std.specs.Prelude.{◌≡◌, ℕ, List, [], ◌∷◌, ◌++◌, codes}
 use Rattle.std.specs.Fmt.{decimal}
 use Rattle.std.specs.List.{flat_map}
-use Rattle.adf_volume.specs.Walk.{FileAt, Role}
+use Rattle.adf_volume.specs.Walk.{FileAt, Walk}
 use Rattle.adf_findings.specs.Remains.{gaps_of, left_of}
 use Rattle.adf_findings.specs.declared.remains.Gap.{Gap}
 use Rattle.adf_runs.specs.Commands.{Reply}
@@ -23,6 +23,6 @@ abbrev pub remains_reply : List ℕ → List Gap → Reply
 remains_reply bytes gaps = record { status = gaps_status gaps; output = bytes; errors = flat_map gap_line gaps }
 
 -- the entry is a file, of which what is left is written
-abbrev pub WritesRemains : SubjectValue → List (Role × ℕ) → ℕ → Reply → Type 0
+abbrev pub WritesRemains : SubjectValue → Walk → ℕ → Reply → Type 0
 WritesRemains s w n reply =
     ((h : ℕ) × FileAt s.image w n h) × (reply ≡ remains_reply (left_of s.image w s.end n) (gaps_of s.image w s.end n))

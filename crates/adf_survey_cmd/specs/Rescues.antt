@@ -6,7 +6,7 @@ use Rattle.std.specs.List.{flat_map}
 use Rattle.adf_blocks.specs.Sizes.{blocks}
 use Rattle.adf_boot_blocks.specs.Writing.{restored}
 use Rattle.adf_volume.specs.declared.fault.Fault.{Fault}
-use Rattle.adf_volume.specs.Walk.{FirstFault, Role}
+use Rattle.adf_volume.specs.Walk.{FirstFault, Walk}
 use Rattle.adf_findings.specs.Files.{grave}
 use Rattle.adf_findings.specs.Lookup.{path_to}
 use Rattle.adf_findings.specs.SoundMarks.{AreMarks}
@@ -33,11 +33,11 @@ why_text Link = codes "link: "
 why_text NoRoom = codes "no room: "
 
 -- the line of an entry that is left out
-abbrev pub left_out_line : List ℕ → List (Role × ℕ) → LeftOut → List ℕ
+abbrev pub left_out_line : List ℕ → Walk → LeftOut → List ℕ
 left_out_line image w x = why_text x.why ++ (names_text (path_to image w x.entry) ++ codes "\n")
 
 -- the lines of the entries that are left out
-abbrev pub left_out_text : List ℕ → List (Role × ℕ) → List LeftOut → List ℕ
+abbrev pub left_out_text : List ℕ → Walk → List LeftOut → List ℕ
 left_out_text image w xs = flat_map (left_out_line image w) xs
 
 -- the lines of those of the second survey, if there is one
@@ -51,11 +51,11 @@ begins_with p [] = false
 begins_with p (q ∷ ps) = p == q
 
 -- the line of a directory in which headers are lost
-abbrev pub lost_header_line : List ℕ → List (Role × ℕ) → ℕ → List ℕ
+abbrev pub lost_header_line : List ℕ → Walk → ℕ → List ℕ
 lost_header_line image w p = codes "lost: in " ++ (names_text (path_to image w p) ++ codes "/\n")
 
 -- the lines of lost headers, by the directory of each: one for those that follow on one another in a directory
-abbrev pub lost_headers_text : List ℕ → List (Role × ℕ) → List ℕ → List ℕ
+abbrev pub lost_headers_text : List ℕ → Walk → List ℕ → List ℕ
 lost_headers_text image w [] = []
 lost_headers_text image w (p ∷ ps) = cond (begins_with p ps) [] (lost_header_line image w p) ++ lost_headers_text image w ps
 
@@ -75,7 +75,7 @@ lost_blocks_text (n ∷ ns) = lost_run_text n n ns
 
 -- the lines of the entries xs of the survey of the image that are left out, and ys of the second one; of headers that are lost, by
 -- their directories ps; and of blocks ns that are lost
-abbrev pub lines_text : List ℕ → List (Role × ℕ) → Option Basis → List LeftOut → List LeftOut → List ℕ → List ℕ → List ℕ
+abbrev pub lines_text : List ℕ → Walk → Option Basis → List LeftOut → List LeftOut → List ℕ → List ℕ → List ℕ
 lines_text image w b xs ys ps ns =
     left_out_text image w xs ++ (second_text b ys ++ (lost_headers_text image w ps ++ lost_blocks_text ns))
 
@@ -115,7 +115,7 @@ RescuesBy held input a b fs boot reply =
     ((a.walk ≡ []) × RefusesImage input reply) ⊎ ((a.walk ≢ []) × RescuesSome held input a b fs boot reply)
 
 -- the second image that is surveyed: the hung one, if something is lost; mended tells whether the first one was
-abbrev pub second_image : Bool → List ℕ → List (Role × ℕ) → List FindingValue → Option (List ℕ)
+abbrev pub second_image : Bool → List ℕ → Walk → List FindingValue → Option (List ℕ)
 second_image mended image w fs = cond (has_lost mended image w fs) (Some (hung image w (is_settled mended w fs))) None
 
 -- the rescue of an input by the survey of its image, and by that of a second image, if there is one
@@ -123,7 +123,7 @@ abbrev pub RescuesBoth : (held : ℕ) → List ℕ → Basis → Option (List �
 RescuesBoth held input a image fs boot reply = (b : Option Basis) × IsSecond image b × RescuesBy held input a b fs boot reply
 
 -- the rescue of an input by what is found in an image
-abbrev pub RescuesFound : (held : ℕ) → List ℕ → List ℕ → List (Role × ℕ) → List FindingValue → (boot : List ℕ) → Reply → Type 0
+abbrev pub RescuesFound : (held : ℕ) → List ℕ → List ℕ → Walk → List FindingValue → (boot : List ℕ) → Reply → Type 0
 RescuesFound held input image w fs boot reply =
     (sound : ℕ → Bool) × AreMarks image w (grave fs) sound
     × RescuesBoth held input (record { image = image; walk = w; sound = sound }) (second_image (is_mended input) image w fs) fs boot reply
@@ -131,7 +131,7 @@ RescuesFound held input image w fs boot reply =
 -- the rescue of an input by the survey of an image
 abbrev pub RescuesIn : (held : ℕ) → List ℕ → List ℕ → (boot : List ℕ) → Reply → Type 0
 RescuesIn held input image boot reply =
-    (w : List (Role × ℕ)) × (fs : List FindingValue) × IsSurvey image w fs × RescuesFound held input image w fs boot reply
+    (w : Walk) × (fs : List FindingValue) × IsSurvey image w fs × RescuesFound held input image w fs boot reply
 
 -- `adf-survey rescue` writes the volume of all that stands in an image, whose boot block and root may be overwritten, and of which the
 -- input holds the first `held` blocks; and puts these boot blocks into it

@@ -3,7 +3,7 @@
 use Rattle.std.specs.Prelude.{◌≡◌, ◌*◌, ◌-◌, ◌++◌, ℕ, List, [], Option, None, Some, codes, cond, length, min, nat_lt, replicate, take}
 use Rattle.adf_blocks.specs.declared.layout.TheConstants.{MOST_BLOCKS}
 use Rattle.adf_blocks.specs.Sizes.{blocks}
-use Rattle.adf_volume.specs.Walk.{Role}
+use Rattle.adf_volume.specs.Walk.{Walk}
 use Rattle.adf_findings.specs.OwnKind.{is_mistyped, retyped}
 use Rattle.adf_findings.specs.Survey.{FindingValue, IsSurvey}
 use Rattle.adf_rescue.specs.Opened.{begun, lacks_boot}
@@ -48,7 +48,7 @@ subject None input = record { image = input; end = end_of MOST_BLOCKS input; fro
 subject (Some n) input = record { image = sized n input; end = end_of n input; front = missing_text (end_of n input) n }
 
 -- the lines of the findings, with those in front
-abbrev pub told_text : SubjectValue → List (Role × ℕ) → List FindingValue → List ℕ
+abbrev pub told_text : SubjectValue → Walk → List FindingValue → List ℕ
 told_text s w fs = s.front ++ findings_text s.image w fs
 
 -- another image in its place, and one more line
@@ -64,12 +64,12 @@ unfoldable pub type_line : List ℕ
 type_line = codes "block 0: type of ffs, files of ofs\n"
 
 -- with the type of OFS, where the data blocks of its walk say so
-abbrev pub typed_subject : SubjectValue → List (Role × ℕ) → SubjectValue
+abbrev pub typed_subject : SubjectValue → Walk → SubjectValue
 typed_subject s w = cond (is_mistyped s.image w) (changed s (retyped s.image) type_line) s
 
 -- that is t, by the survey of its image
 abbrev pub IsTyped : SubjectValue → SubjectValue → Type 0
-IsTyped s t = (w : List (Role × ℕ)) × (fs : List FindingValue) × IsSurvey s.image w fs × (t ≡ typed_subject s w)
+IsTyped s t = (w : Walk) × (fs : List FindingValue) × IsSurvey s.image w fs × (t ≡ typed_subject s w)
 
 -- the answer is that of what is surveyed in the end, begun and with the type that its files say
 abbrev pub OfTyped : SubjectValue → (SubjectValue → Reply → Type 0) → Reply → Type 0

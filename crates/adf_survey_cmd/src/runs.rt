@@ -1,9 +1,9 @@
 // Runs of findings, and their lines.
 
-ghost use Rattle.std.specs.Prelude.{◌≡◌, ◌++◌, ◌∷◌, ◌<◌, ◌≤◌, ◌^◌, ℕ, List, [], IfNone, IfSome, OnErr, OnOk};
+ghost use Rattle.std.specs.Prelude.{◌≡◌, ◌++◌, ◌∷◌, ◌<◌, ◌≤◌, ◌^◌, [], IfNone, IfSome, OnErr, OnOk};
 ghost use Rattle.std.specs.Prelude.{codes, drop, false, length, option_map, slice_get};
 ghost use Rattle.std.specs.Io.KnownBytes.{Appends};
-ghost use Rattle.adf_volume.specs.Walk.{Role};
+ghost use Rattle.adf_volume.specs.Walk.{Walk};
 ghost use Rattle.adf_findings.specs.Concerned.{concern_of, owner_of};
 ghost use Rattle.adf_findings.specs.Lookup.{path_to};
 ghost use Rattle.adf_findings.specs.Parts.{finding_value};
@@ -56,7 +56,7 @@ fn are_owned_alike(a: Option<Node>, b: Option<Node>) -> bool
 impl Run {
     // A finding by itself, with what it concerns and the entry that holds its block.
     fn of(finding: &Finding, concern: Option<Concern>, owner: Option<Node>) -> Run
-        ensures { (w : List (Role × ℕ)) → concern ≡ concern_of w (finding_value finding.now)
+        ensures { (w : Walk) → concern ≡ concern_of w (finding_value finding.now)
             → owner ≡ owner_of w (finding_value finding.now)
             → result ≡ run_of w (finding_value finding.now) }
     {

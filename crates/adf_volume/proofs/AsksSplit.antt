@@ -3,12 +3,12 @@ use Rattle.std.proofs.Common.{◌≡◌, ◌≢◌, ℕ, zero, suc, List, ◌∷
 use Rattle.adf_blocks.specs.declared.layout.TheConstants.{FIRST_SLOT, POINTERS, SLOTS}
 use Rattle.adf_blocks.specs.Sizes.{blocks, pages_needed}
 use Rattle.adf_volume.specs.Image.{word_in, table_word}
-use Rattle.adf_volume.specs.Walk.{Role, Before, Same, HeadAt, DirAt, FileAt, MemberAt, NamesPage, Asks, data_count, first, heads}
+use Rattle.adf_volume.specs.Walk.{Role, Before, Same, HeadAt, DirAt, FileAt, MemberAt, NamesPage, Asks, data_count, first, heads, Walk}
 use Rattle.adf_volume.specs.Walk.Role.{Root, Page, MapExt, Head, Ext, Data}
 use Rattle.adf_volume.proofs.Gathered.{IsGathered, parent_asked}
 use Rattle.adf_volume.proofs.Roles.{dir_up, head_role, member_up, renumbered, same_refl, typed_cases, typed_up}
 
-module _ (image : List ℕ) (w : List (Role × ℕ)) (r : Role) (b : ℕ) where
+module _ (image : List ℕ) (w : Walk) (r : Role) (b : ℕ) where
   -- what was asked for is asked for still
   pub asks_more : (q : Role) (a i : ℕ) → Asks image w (renumbered (suc (heads w)) q) a i
       → Asks image ((r, b) ∷ w) (renumbered (suc (heads ((r, b) ∷ w))) q) a i
@@ -36,7 +36,7 @@ module _ (image : List ℕ) (w : List (Role × ℕ)) (r : Role) (b : ℕ) where
   new z q a i e bef = inr (subst (λ r. Before r q) (sym e) bef)
 
   module _ (other : r ≡ Root → ⊥) (above : (n p s j : ℕ) → r ≡ Head n p s j → p < n) where
-    new_head : {v : List (Role × ℕ)} {n c : ℕ} (q : Role) (a i : ℕ) (h : HeadAt v n c) → r ≡ head_role h → suc n ≡ first q → Either q a i
+    new_head : {v : Walk} {n c : ℕ} (q : Role) (a i : ℕ) (h : HeadAt v n c) → r ≡ head_role h → suc n ≡ first q → Either q a i
     new_head {n = n} q a i h e f = let lt : h.parent < n = above n h.parent h.slot h.place e in new (head_role h) q a i e (omega arith)
 
     split_page : (k a i : ℕ) → k < pages_needed (blocks image) → NamesPage image ((r, b) ∷ w) k a i → Either (Page k) a i
@@ -88,7 +88,7 @@ module _ (image : List ℕ) (w : List (Role × ℕ)) (r : Role) (b : ℕ) where
     ]
 
 -- the same of a list that was gathered
-pub gathered_split : (image : List ℕ) {w : List (Role × ℕ)} → IsGathered image w → (r : Role) (a i b : ℕ) → Asks image w r a i → (q : Role) (c k : ℕ)
+pub gathered_split : (image : List ℕ) {w : Walk} → IsGathered image w → (r : Role) (a i b : ℕ) → Asks image w r a i → (q : Role) (c k : ℕ)
     → Asks image ((r, b) ∷ w) q c k → ((z : Role) × Asks image w z c k × Same z q) ⊎ Before r q
 gathered_split image {w = w} v r a i b h =
     asks_split image w r b (λ e. subst (λ r. Asks image w r a i) e h)

@@ -6,7 +6,7 @@ use Rattle.adf_blocks.specs.declared.layout.TheConstants.{EXTENSION, FIRST_MAP_E
 use Rattle.adf_blocks.specs.declared.layout.TheConstants.{POINTERS, ROOT_PAGES, SECONDARY_TYPE, SLOTS, ST_DIR, ST_FILE}
 use Rattle.adf_blocks.specs.Sizes.{blocks, pages_needed}
 use Rattle.adf_volume.specs.Image.{root_of, word_in, table_word}
-use Rattle.adf_volume.specs.Walk.{Asks, Role, second, Has, heads, HeadAt, TypedAt, DirAt, FileAt, MemberAt, data_count}
+use Rattle.adf_volume.specs.Walk.{Asks, Role, second, Has, heads, HeadAt, TypedAt, DirAt, FileAt, MemberAt, data_count, Walk}
 use Rattle.adf_volume.specs.Walk.Role.{Root, Page, MapExt, Head, Ext, Data}
 use Rattle.adf_volume.proofs.Roles.{dec_has, has_low, head_key, renumbered, same_refl}
 use Rattle.adf_volume.proofs.Gathered.{IsGathered, root_in, number_of, numbered, one_block, one_head, dir_one, file_one}
@@ -20,10 +20,10 @@ pub dec_not_zero : (x : ℕ) → Dec (x ≢ 0)
 dec_not_zero x = elim (ℕ_discrete x 0) [ yes e ↦ no (λ n. n e) | no n ↦ yes n ]
 
 -- the walk asks for the role by some word, with the next number if it is a header's
-abbrev pub Asked : List ℕ → List (Role × ℕ) → Role → Type 0
+abbrev pub Asked : List ℕ → Walk → Role → Type 0
 Asked image w r = (a i : ℕ) × Asks image w (renumbered (suc (heads w)) r) a i
 
-module _ (image : List ℕ) (w : List (Role × ℕ)) (v : IsGathered image w) where
+module _ (image : List ℕ) (w : Walk) (v : IsGathered image w) where
   -- whether the walk has a role that is no header's
   pub dec_low : (r : Role) → second r < 2 → Dec ((b : ℕ) × Has w r b)
   dec_low r low = elim (has_low w r low) [ inl l ↦ no (λ x. l r x.0 x.1 (same_refl r)) | inr y ↦ yes y ]

@@ -7,7 +7,7 @@ use Rattle.adf_volume.specs.Image.{root_of, word_in}
 use Rattle.adf_volume.specs.Layout.{Layout, owned}
 use Rattle.adf_volume.specs.LayoutRoles.{LayoutHas, owner_of}
 use Rattle.adf_volume.specs.Lists.{In}
-use Rattle.adf_volume.specs.Walk.{Role, third, Before, Same, heads, Asks, Lacks, IsDue, IsWalk, IsWhole}
+use Rattle.adf_volume.specs.Walk.{Role, third, Before, Same, heads, Asks, Lacks, IsDue, IsWalk, IsWhole, Walk}
 use Rattle.adf_volume.specs.Walk.Role.{Root}
 use Rattle.adf_volume.specs.Walk.IsWalk.{start, step}
 use Rattle.adf_volume.specs.declared.owner.Owner.{Owner}
@@ -61,10 +61,10 @@ without (z ∷ rs) r (inr i) =
     let x = without rs r i in
     (z ∷ x.0, ap suc x.1, (λ q j n. elim j [ inl f ↦ inl f | inr k ↦ inr (x.2 q k n) ]))
 
-pub lacks_same : (w : List (Role × ℕ)) (r q : Role) → Same q r → Lacks w r → Lacks w q
+pub lacks_same : (w : Walk) (r q : Role) → Same q r → Lacks w r → Lacks w q
 lacks_same w r q s l y b h k = l y b h (omega arith)
 
-pub dec_lacks : (w : List (Role × ℕ)) (r : Role) → Dec (Lacks w r)
+pub dec_lacks : (w : Walk) (r : Role) → Dec (Lacks w r)
 dec_lacks w r = elim (dec_has w r) [ inl l ↦ yes l | inr y ↦ no (λ l. l y.role y.block y.has y.same) ]
 
 module _ (image : List ℕ) (t : Tree) (l : Layout) (fit : Fits image t l) where
@@ -82,10 +82,10 @@ module _ (image : List ℕ) (t : Tree) (l : Layout) (fit : Fits image t l) where
   in_roles (x ∷ xs) own r b h (inr i) = inr (in_roles xs (λ o b h. own o b (inr h)) r b h i)
 
   -- each part that the walk lacks is in the list
-  abbrev Covers : List (Role × ℕ) → List Role → Type 0
+  abbrev Covers : Walk → List Role → Type 0
   Covers w rs = (q : Role) (b : ℕ) → LayoutHas image t l q b → Lacks w q → In rs q
 
-  module _ (w : List (Role × ℕ)) (v : IsWalk image w) (rs : List Role) (cover : Covers w rs) where
+  module _ (w : Walk) (v : IsWalk image w) (rs : List Role) (cover : Covers w rs) where
     abbrev Wanted : Role → Type 0
     Wanted r = Asked image w r × Lacks w r
 
@@ -132,8 +132,8 @@ module _ (image : List ℕ) (t : Tree) (l : Layout) (fit : Fits image t l) where
         ]
 
   -- a walk grows until it is whole, by one of the list at each step
-  grown : (n : ℕ) (rs : List Role) → length rs ≡ n → (w : List (Role × ℕ)) → IsWalk image w → Covers w rs
-      → (x : List (Role × ℕ)) × IsWalk image x × IsWhole image x
+  grown : (n : ℕ) (rs : List Role) → length rs ≡ n → (w : Walk) → IsWalk image w → Covers w rs
+      → (x : Walk) × IsWalk image x × IsWhole image x
   grown zero rs long w v cover =
       elim (whole_or_due w v rs cover) [
         | inl whole ↦ (w, v, whole)
@@ -153,7 +153,7 @@ module _ (image : List ℕ) (t : Tree) (l : Layout) (fit : Fits image t l) where
       ]
 
   -- where a tree and a layout fit, there is a whole walk
-  pub whole_walk : (w : List (Role × ℕ)) × IsWalk image w × IsWhole image w
+  pub whole_walk : (w : Walk) × IsWalk image w × IsWhole image w
   whole_walk =
       let rs : List Role = roles (owned image l) (λ o b h. h) in
       grown (length rs) rs refl ((Root, root_of image) ∷ []) start

@@ -7,29 +7,29 @@ use Rattle.adf_blocks.specs.declared.layout.TheConstants.{POINTERS}
 use Rattle.adf_volume.specs.Image.{root_of}
 use Rattle.std.proofs.lemmas.Bool.Decides.{eqb_tells}
 use Rattle.std.proofs.lemmas.Grind.{common_steps}
-use Rattle.adf_volume.specs.Walk.{first, ext_block_in, ext_block_of, ext_count, ext_count_of, member_block, node_block, node_block_of}
+use Rattle.adf_volume.specs.Walk.{first, ext_block_in, ext_block_of, ext_count, ext_count_of, member_block, node_block, node_block_of, Walk}
 use Rattle.adf_volume.specs.Walk.{Role, second, Same, Has, head_count, heads, HeadAt, NodeAt, DirAt, FileAt, MemberAt, NamesPage, Asks, Lacks}
 use Rattle.adf_volume.specs.Walk.Role.{Root, Page, MapExt, Head, Ext, Data}
 use Rattle.adf_volume.proofs.Roles.{asks_number, count_own, count_up, dir_is_node, dir_up, head_at, head_in, head_role, heads_up, new_number, no_head}
 use Rattle.adf_volume.proofs.Roles.{same_of, typed_up}
 
-pub data IsGathered (image : List ℕ) : List (Role × ℕ) → Type 0 where
+pub data IsGathered (image : List ℕ) : Walk → Type 0 where
   start : IsGathered image ((Root, root_of image) ∷ [])
-  step : {w : List (Role × ℕ)} {r : Role} (a i b : ℕ) → IsGathered image w → Asks image w r a i → Lacks w r → IsGathered image ((r, b) ∷ w)
+  step : {w : Walk} {r : Role} (a i b : ℕ) → IsGathered image w → Asks image w r a i → Lacks w r → IsGathered image ((r, b) ∷ w)
 
 module _ (image : List ℕ) where
-  pub root_is : {w : List (Role × ℕ)} → IsGathered image w → (b : ℕ) → Has w Root b → root_of image ≡ b
+  pub root_is : {w : Walk} → IsGathered image w → (b : ℕ) → Has w Root b → root_of image ≡ b
   root_is start b (inl e) = e.1
   root_is start b (inr f) = absurd f
   root_is (step {w = w} {r = r} a i b' v d l) b (inl e) = absurd (subst (λ r. Asks image w r a i) e.0 d)
   root_is (step a i b' v d l) b (inr h) = root_is v b h
 
-  pub root_in : {w : List (Role × ℕ)} → IsGathered image w → Has w Root (root_of image)
+  pub root_in : {w : Walk} → IsGathered image w → Has w Root (root_of image)
   root_in start = inl (refl, refl)
   root_in (step a i b v d l) = inr (root_in v)
 
   -- headers are numbered from 1
-  pub number_of : {w : List (Role × ℕ)} {n b : ℕ} → IsGathered image w → HeadAt w n b → (1 ≤ n) × (n ≤ heads w)
+  pub number_of : {w : Walk} {n b : ℕ} → IsGathered image w → HeadAt w n b → (1 ≤ n) × (n ≤ heads w)
   number_of start h = absurd (no_head h)
   number_of {n = n} (step {w = w} {r = r} a i b v d l) h = elim h.has [
     | inl e ↦
@@ -38,7 +38,7 @@ module _ (image : List ℕ) where
   ]
 
   -- each number up to the count is a header's
-  pub numbered : {w : List (Role × ℕ)} → IsGathered image w → (n : ℕ) → 1 ≤ n → n ≤ heads w → (b : ℕ) × HeadAt w n b
+  pub numbered : {w : Walk} → IsGathered image w → (n : ℕ) → 1 ≤ n → n ≤ heads w → (b : ℕ) × HeadAt w n b
   numbered start n l u = absurd (omega arith)
   numbered (step {w = w} {r = r} a i b v d e) n l u = numbered_step r refl (numbered v n l)
     where
@@ -56,7 +56,7 @@ module _ (image : List ℕ) where
       numbered_step _ z ih = older (ih (subst (λ q. n ≤ head_count q (heads w)) z u))
 
   -- a role has one block
-  pub one_block : {w : List (Role × ℕ)} → IsGathered image w → (r q : Role) (b c : ℕ) → Has w r b → Has w q c → Same r q → (r ≡ q) × (b ≡ c)
+  pub one_block : {w : Walk} → IsGathered image w → (r q : Role) (b c : ℕ) → Has w r b → Has w q c → Same r q → (r ≡ q) × (b ≡ c)
   one_block start r q b c (inl e) (inl f) s = (sym e.0 ∙ f.0, sym e.1 ∙ f.1)
   one_block start r q b c (inl e) (inr f) s = absurd f
   one_block start r q b c (inr e) f s = absurd e
@@ -66,15 +66,15 @@ module _ (image : List ℕ) where
   one_block (step a i b' v d l) r q b c (inr e) (inr f) s = one_block v r q b c e f s
 
   -- no header has the next number yet
-  pub none_next : {w : List (Role × ℕ)} {n b : ℕ} → IsGathered image w → HeadAt w n b → n ≢ suc (heads w)
+  pub none_next : {w : Walk} {n b : ℕ} → IsGathered image w → HeadAt w n b → n ≢ suc (heads w)
   none_next v h e = omega (arith, number_of v h)
 
   -- a directory is there before what is in it
-  pub dir_number : {w : List (Role × ℕ)} → IsGathered image w → (p a : ℕ) → DirAt image w p a → p ≤ heads w
+  pub dir_number : {w : Walk} → IsGathered image w → (p a : ℕ) → DirAt image w p a → p ≤ heads w
   dir_number v zero a h = omega arith
   dir_number v (suc i) a h = (number_of v h.header).1
 
-  asked_after : {w : List (Role × ℕ)} → IsGathered image w → ((m b : ℕ) (h : HeadAt w m b) → h.parent < m) → (n p s j a i : ℕ)
+  asked_after : {w : Walk} → IsGathered image w → ((m b : ℕ) (h : HeadAt w m b) → h.parent < m) → (n p s j a i : ℕ)
       → Asks image w (Head n p s j) a i → p < n
   asked_after v older n p s zero a i h = omega (arith, dir_number v p a h.2, h.0)
   asked_after {w = w} v older n p s (suc j) a i h =
@@ -82,18 +82,18 @@ module _ (image : List ℕ) where
       omega (arith, older h.1.0 a k, number_of v k, h.0)
 
   -- a parent has a smaller number
-  pub parent_below : {w : List (Role × ℕ)} {n b : ℕ} → IsGathered image w → (h : HeadAt w n b) → h.parent < n
+  pub parent_below : {w : Walk} {n b : ℕ} → IsGathered image w → (h : HeadAt w n b) → h.parent < n
   parent_below start h = absurd (no_head h)
   parent_below {n = n} (step {w = w} a i c v d l) h = elim h.has [
     | inl e ↦ asked_after v (λ m b k. parent_below v k) n h.parent h.slot h.place a i (subst (λ r. Asks image w r a i) e.0 d)
     | inr k ↦ parent_below v (head_in h k)
   ]
 
-  pub parent_asked : {w : List (Role × ℕ)} → IsGathered image w → (n p s j a i : ℕ) → Asks image w (Head n p s j) a i → p < n
+  pub parent_asked : {w : Walk} → IsGathered image w → (n p s j a i : ℕ) → Asks image w (Head n p s j) a i → p < n
   parent_asked v = asked_after v (λ m b k. parent_below v k)
 
   -- a number has one header
-  pub one_head : {w : List (Role × ℕ)} {n b c : ℕ} → IsGathered image w → (h : HeadAt w n b) (k : HeadAt w n c)
+  pub one_head : {w : Walk} {n b c : ℕ} → IsGathered image w → (h : HeadAt w n b) (k : HeadAt w n c)
       → (head_role h ≡ head_role k) × (b ≡ c)
   one_head start h k = absurd (no_head h)
   one_head (step {w = w} a i x v d l) h k = elim h.has [
@@ -107,7 +107,7 @@ module _ (image : List ℕ) where
     ]
   ]
 
-  module _ {w : List (Role × ℕ)} (v : IsGathered image w) where
+  module _ {w : Walk} (v : IsGathered image w) where
     pub node_one : (p a b : ℕ) → NodeAt w p a → NodeAt w p b → a ≡ b
     node_one zero a b h k = sym (root_is v a h) ∙ root_is v b k
     node_one (suc i) a b h k = (one_head v h k).1
@@ -142,7 +142,7 @@ module _ (image : List ℕ) where
     asks_one (Data n zero) a i b j h k = absurd h
     asks_one (Data n (suc x)) a i b j h k = (member_one n (x / POINTERS) a b h.1 k.1, h.2 ∙ sym k.2)
 
-  pub ext_below : {w : List (Role × ℕ)} → IsGathered image w → (n k b : ℕ) → Has w (Ext n (suc k)) b → k < ext_count w n
+  pub ext_below : {w : Walk} → IsGathered image w → (n k b : ℕ) → Has w (Ext n (suc k)) b → k < ext_count w n
   ext_below start n k b (inl e) = let h : first Root ≡ first (Ext n (suc k)) = ap first e.0 in absurd (omega arith)
   ext_below start n k b (inr f) = absurd f
   ext_below (step {w = w} {r = r} a i c v d l) n zero b (inl h) = grind (arith, common_steps, step, count_own)
@@ -150,7 +150,7 @@ module _ (image : List ℕ) where
   ext_below (step {w = w} {r = r} a i c v d l) n k b (inr h) = search (rules, count_up, ext_below v n k b h)
 
   -- an extension block that comes is the next one
-  pub next_ext : (w : List (Role × ℕ)) → IsGathered image w → (n k a i : ℕ) → Asks image w (Ext n k) a i → Lacks w (Ext n k)
+  pub next_ext : (w : Walk) → IsGathered image w → (n k a i : ℕ) → Asks image w (Ext n k) a i → Lacks w (Ext n k)
       → ((k : ℕ) → k < ext_count w n → (b : ℕ) × Has w (Ext n (suc k)) b) → k ≡ suc (ext_count w n)
   next_ext w v n zero a i d l ih = absurd d
   next_ext w v n (suc zero) a i d l ih =
@@ -161,7 +161,7 @@ module _ (image : List ℕ) where
       let none : suc k < ext_count w n → ⊥ = (λ u. let x = ih (suc k) u in l (Ext n (suc (suc k))) x.0 x.1 (refl, refl, refl)) in
       omega arith
 
-  counted_step : {w : List (Role × ℕ)} (r : Role) (a i b : ℕ) → IsGathered image w → Asks image w r a i → Lacks w r → (n k : ℕ)
+  counted_step : {w : Walk} (r : Role) (a i b : ℕ) → IsGathered image w → Asks image w r a i → Lacks w r → (n k : ℕ)
       → ((k : ℕ) → k < ext_count w n → (b : ℕ) × Has w (Ext n (suc k)) b) → k < ext_count_of n r (ext_count w n)
       → (c : ℕ) × Has ((r, b) ∷ w) (Ext n (suc k)) c
   counted_step {w = w} (Ext m j) a i b v d l n k ih h =
@@ -181,33 +181,33 @@ module _ (image : List ℕ) where
   counted_step r a i b v d l n k ih h = let x = ih k h in (x.0, inr x.1)
 
   -- extension blocks are numbered from 1
-  pub ext_counted : {w : List (Role × ℕ)} → IsGathered image w → (n k : ℕ) → k < ext_count w n → (b : ℕ) × Has w (Ext n (suc k)) b
+  pub ext_counted : {w : Walk} → IsGathered image w → (n k : ℕ) → k < ext_count w n → (b : ℕ) × Has w (Ext n (suc k)) b
   ext_counted start n k h = absurd (omega arith)
   ext_counted (step {r = r} a i b v d l) n k h = counted_step r a i b v d l n k (ext_counted v n) h
 
   -- the block of a node, as a function, is not changed by what is no header of that number
-  other_node : (w : List (Role × ℕ)) (n : ℕ) (r : Role) (a i b c : ℕ) → Asks image w r a i → n ≤ heads w → node_block_of n r b c ≡ c
+  other_node : (w : Walk) (n : ℕ) (r : Role) (a i b c : ℕ) → Asks image w r a i → n ≤ heads w → node_block_of n r b c ≡ c
   other_node w n Root a i b c d u = absurd d
   other_node w n (Head m p s j) a i b c d u = grind (arith, common_steps, asks_number, eqb_tells)
   other_node w n _ a i b c d u = refl
 
-  pub head_block : {w : List (Role × ℕ)} {n b : ℕ} → IsGathered image w → HeadAt w n b → node_block w n ≡ b
+  pub head_block : {w : Walk} {n b : ℕ} → IsGathered image w → HeadAt w n b → node_block w n ≡ b
   head_block start h = absurd (no_head h)
   head_block {n = n} {b = b} (step {w = w} {r = r} a i c v d l) h = elim h.has [
     | inl e ↦ subst (λ r. node_block_of n r c (node_block w n) ≡ b) (sym e.0) (rw (eq-eqb n n refl) e.1)
     | inr k ↦ other_node w n r a i c (node_block w n) d (omega (arith, number_of v (head_in h k))) ∙ head_block v (head_in h k)
   ]
 
-  root_block : {w : List (Role × ℕ)} → IsGathered image w → node_block w 0 ≡ root_of image
+  root_block : {w : Walk} → IsGathered image w → node_block w 0 ≡ root_of image
   root_block start = refl
   root_block (step {w = w} {r = r} a i c v d l) = other_node w 0 r a i c (node_block w 0) d (omega arith) ∙ root_block v
 
-  pub node_is : {w : List (Role × ℕ)} → IsGathered image w → (n b : ℕ) → NodeAt w n b → node_block w n ≡ b
+  pub node_is : {w : Walk} → IsGathered image w → (n b : ℕ) → NodeAt w n b → node_block w n ≡ b
   node_is v zero b h = root_block v ∙ root_is v b h
   node_is v (suc n) b h = head_block v h
 
   -- each number up to the count is that of a node, with its block
-  pub node_there : {w : List (Role × ℕ)} → IsGathered image w → (n : ℕ) → n ≤ heads w → NodeAt w n (node_block w n)
+  pub node_there : {w : Walk} → IsGathered image w → (n : ℕ) → n ≤ heads w → NodeAt w n (node_block w n)
   node_there {w = w} v zero le = subst (Has w Root) (sym (root_block v)) (root_in v)
   node_there {w = w} v (suc n) le = let x = numbered v (suc n) (omega arith) le in subst (HeadAt w (suc n)) (sym (head_block v x.1)) x.1
 
@@ -224,24 +224,24 @@ module _ (image : List ℕ) where
   ext_block_old n k (Ext m i) b c a h z = grind (arith, common_steps, cond_both, eqb-true)
   ext_block_old n k _ b c a h z = z
 
-  ext_is_block : {w : List (Role × ℕ)} → IsGathered image w → (n k b : ℕ) → Has w (Ext n k) b → ext_block_in w n k ≡ b
+  ext_is_block : {w : Walk} → IsGathered image w → (n k b : ℕ) → Has w (Ext n k) b → ext_block_in w n k ≡ b
   ext_is_block start n k b (inl e) = grind (arith, common_steps, start)
   ext_is_block start n k b (inr f) = absurd f
   ext_is_block (step {w = w} {r = r} a i b' v d l) n k b (inl e) = ext_block_new n k r b' (ext_block_in w n k) e.0 ∙ e.1
   ext_is_block (step {w = w} {r = r} a i b' v d l) n k b (inr h) =
       ext_block_old n k r b' (ext_block_in w n k) b (λ e. l (Ext n k) b h (same_of (Ext n k) r (sym e))) (ext_is_block v n k b h)
 
-  pub member_is : {w : List (Role × ℕ)} → IsGathered image w → (n m a : ℕ) → MemberAt image w n m a → member_block w n m ≡ a
+  pub member_is : {w : Walk} → IsGathered image w → (n m a : ℕ) → MemberAt image w n m a → member_block w n m ≡ a
   member_is v n zero a h = head_block v h.header
   member_is v n (suc m) a h = ext_is_block v n (suc m) a h
 
   -- a header stands in a directory that came before
-  head_dir_of : (w : List (Role × ℕ)) (n p s j a i : ℕ) → Asks image w (Head n p s j) a i
+  head_dir_of : (w : Walk) (n p s j a i : ℕ) → Asks image w (Head n p s j) a i
       → ((m k b : ℕ) → Has w (Head m p s k) b → (d : ℕ) × DirAt image w p d) → (d : ℕ) × DirAt image w p d
   head_dir_of w n p s zero a i h f = (a, h.2)
   head_dir_of w n p s (suc j) a i h f = f h.1.0 j a h.1.1
 
-  head_dir : {w : List (Role × ℕ)} → IsGathered image w → (n p s j b : ℕ) → Has w (Head n p s j) b → (d : ℕ) × DirAt image w p d
+  head_dir : {w : Walk} → IsGathered image w → (n p s j b : ℕ) → Has w (Head n p s j) b → (d : ℕ) × DirAt image w p d
   head_dir start n p s j b (inl e) = let h : second Root ≡ second (Head n p s j) = ap second e.0 in absurd (omega arith)
   head_dir start n p s j b (inr f) = absurd f
   head_dir (step {w = w} {r = r} a i c v d l) n p s j b (inl e) =
@@ -249,22 +249,22 @@ module _ (image : List ℕ) where
       (x.0, dir_up image w (r, c) p x.0 x.1)
   head_dir (step {w = w} {r = r} a i c v d l) n p s j b (inr h) = let x = head_dir v n p s j b h in (x.0, dir_up image w (r, c) p x.0 x.1)
 
-  pub asked_dir : {w : List (Role × ℕ)} → IsGathered image w → (n p s j a i : ℕ) → Asks image w (Head n p s j) a i → (d : ℕ) × DirAt image w p d
+  pub asked_dir : {w : Walk} → IsGathered image w → (n p s j a i : ℕ) → Asks image w (Head n p s j) a i → (d : ℕ) × DirAt image w p d
   asked_dir {w = w} v n p s j a i h = head_dir_of w n p s j a i h (λ m k b h. head_dir v m p s k b h)
 
   -- an extension block is one of a file that came before
-  ext_file_of : (w : List (Role × ℕ)) (n k a i : ℕ) → Asks image w (Ext n k) a i → ((j b : ℕ) → Has w (Ext n j) b → (h : ℕ) × FileAt image w n h)
+  ext_file_of : (w : Walk) (n k a i : ℕ) → Asks image w (Ext n k) a i → ((j b : ℕ) → Has w (Ext n j) b → (h : ℕ) × FileAt image w n h)
       → (h : ℕ) × FileAt image w n h
   ext_file_of w n zero a i h f = absurd h
   ext_file_of w n (suc zero) a i h f = (a, h.0)
   ext_file_of w n (suc (suc k)) a i h f = f (suc k) a h.0
 
-  pub ext_file : {w : List (Role × ℕ)} → IsGathered image w → (n k b : ℕ) → Has w (Ext n k) b → (h : ℕ) × FileAt image w n h
+  pub ext_file : {w : Walk} → IsGathered image w → (n k b : ℕ) → Has w (Ext n k) b → (h : ℕ) × FileAt image w n h
   ext_file start n k b (inl e) = let h : first Root ≡ first (Ext n k) = ap first e.0 in absurd (omega arith)
   ext_file start n k b (inr f) = absurd f
   ext_file (step {w = w} {r = r} a i c v d l) n k b (inl e) =
       let x = ext_file_of w n k a i (subst (λ r. Asks image w r a i) e.0 d) (ext_file v n) in (x.0, typed_up (r, c) x.1)
   ext_file (step {w = w} {r = r} a i c v d l) n k b (inr h) = let x = ext_file v n k b h in (x.0, typed_up (r, c) x.1)
 
-  pub asked_file : {w : List (Role × ℕ)} → IsGathered image w → (n k a i : ℕ) → Asks image w (Ext n k) a i → (h : ℕ) × FileAt image w n h
+  pub asked_file : {w : Walk} → IsGathered image w → (n k a i : ℕ) → Asks image w (Ext n k) a i → (h : ℕ) × FileAt image w n h
   asked_file {w = w} v n k a i h = ext_file_of w n k a i h (ext_file v n)

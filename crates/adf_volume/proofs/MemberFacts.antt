@@ -8,7 +8,7 @@ use Rattle.adf_volume.specs.Image.{word_in, root_of, kind_of, held, table_word, 
 use Rattle.adf_blocks.specs.Sizes.{blocks, pages_needed}
 use Rattle.adf_names.specs.Texts.{uppers}
 use Rattle.adf_volume.specs.Demands.{AllHold, page_demands, head_demands, ext_demands, data_demands}
-use Rattle.adf_volume.specs.Walk.{Role, second, Has, DirAt, FileAt, MemberAt, NamesPage, data_count, Asks, IsDue, ext_count, node_block}
+use Rattle.adf_volume.specs.Walk.{Role, second, Has, DirAt, FileAt, MemberAt, NamesPage, data_count, Asks, IsDue, ext_count, node_block, Walk}
 use Rattle.adf_volume.specs.Walk.{member_block, next_data, IsWalk}
 use Rattle.adf_volume.specs.Walk.Role.{Root, Page, MapExt, Head, Ext, Data}
 use Rattle.adf_volume.specs.Walk.IsWalk.{start, step}
@@ -20,20 +20,20 @@ use Rattle.std.proofs.lemmas.Bool.{cond-true, cond-false, le-ltb, lt-ltb}
 use Rattle.std.proofs.lemmas.Grind.{common_steps}
 
 -- the word that names a header
-abbrev pub HeadNamed : List ℕ → List (Role × ℕ) → ℕ → ℕ → ℕ → ℕ → Type 0
+abbrev pub HeadNamed : List ℕ → Walk → ℕ → ℕ → ℕ → ℕ → Type 0
 HeadNamed image w p s zero b = (a : ℕ) × DirAt image w p a × (word_in image a (FIRST_SLOT + s) ≡ b)
 HeadNamed image w p s (suc j) b = (m a : ℕ) × Has w (Head m p s j) a × (word_in image a NEXT_IN_CHAIN ≡ b)
 
-abbrev pub ExtNamed : List ℕ → List (Role × ℕ) → ℕ → ℕ → ℕ → Type 0
+abbrev pub ExtNamed : List ℕ → Walk → ℕ → ℕ → ℕ → Type 0
 ExtNamed image w n zero b = (a : ℕ) × FileAt image w n a × (word_in image a EXTENSION ≡ b)
 ExtNamed image w n (suc k) b = (a : ℕ) × Has w (Ext n (suc k)) a × (word_in image a EXTENSION ≡ b)
 
 -- x is the word that names data block k + 1 of the file with header h, or 0 where it has no such block
-pub record IsNext (image : List ℕ) (w : List (Role × ℕ)) (n k h x : ℕ) : Type 0 where
+pub record IsNext (image : List ℕ) (w : Walk) (n k h x : ℕ) : Type 0 where
   pub inner : k < data_count image h → (c : ℕ) × MemberAt image w n (k / POINTERS) c × (x ≡ word_in image c (table_word k))
   pub last : data_count image h ≤ k → x ≡ 0
 
-abbrev pub Kept : List ℕ → List (Role × ℕ) → Role → ℕ → Type 0
+abbrev pub Kept : List ℕ → Walk → Role → ℕ → Type 0
 Kept image w Root b = Unit {0}
 Kept image w (Page k) b =
     (k < pages_needed (blocks image)) × ((a i : ℕ) × NamesPage image w k a i × (word_in image a i ≡ b)) × AllHold (page_demands image b)
@@ -60,14 +60,14 @@ same_number : (n m p s i j : ℕ) → Head n p s i ≡ Head m p s j → n ≡ m
 same_number n m p s i j h = cc
 
 module _ (image : List ℕ) where
-  pub names_up : (w : List (Role × ℕ)) (x : Role × ℕ) (k a i : ℕ) → NamesPage image w k a i → NamesPage image (x ∷ w) k a i
+  pub names_up : (w : Walk) (x : Role × ℕ) (k a i : ℕ) → NamesPage image w k a i → NamesPage image (x ∷ w) k a i
   names_up w x k a i (inl h) = inl h
   names_up w x k a i (inr h) = inr (h.0, inr h.1, h.2, h.3)
 
-  next_up : (w : List (Role × ℕ)) (x : Role × ℕ) (n k h y : ℕ) → IsNext image w n k h y → IsNext image (x ∷ w) n k h y
+  next_up : (w : Walk) (x : Role × ℕ) (n k h y : ℕ) → IsNext image w n k h y → IsNext image (x ∷ w) n k h y
   next_up w x n k h y z = record { inner = (λ u. let r = z.inner u in (r.0, member_up image w x n (k / POINTERS) r.0 r.1, r.2)); last = z.last }
 
-  kept_up : (w : List (Role × ℕ)) (x : Role × ℕ) (r : Role) (b : ℕ) → Kept image w r b → Kept image (x ∷ w) r b
+  kept_up : (w : Walk) (x : Role × ℕ) (r : Role) (b : ℕ) → Kept image w r b → Kept image (x ∷ w) r b
   kept_up w x Root b h = tt
   kept_up w x (Page k) b h = (h.0, (h.1.0, h.1.1, names_up w x k h.1.0 h.1.1 h.1.2, h.1.3), h.2)
   kept_up w x (MapExt zero) b h = h
@@ -81,12 +81,12 @@ module _ (image : List ℕ) where
   kept_up w x (Data n (suc k)) b h = search (rules, typed_up, count_up, member_up, next_up)
 
   -- a header that is asked for has its directory
-  asks_dir : {w : List (Role × ℕ)} → ((r : Role) (b : ℕ) → Has w r b → Kept image w r b) → (n p s j a i : ℕ) → Asks image w (Head n p s j) a i
+  asks_dir : {w : Walk} → ((r : Role) (b : ℕ) → Has w r b → Kept image w r b) → (n p s j a i : ℕ) → Asks image w (Head n p s j) a i
       → (s < SLOTS) × ((c : ℕ) × DirAt image w p c)
   asks_dir old n p s zero a i h = (h.1, (a, h.2))
   asks_dir old n p s (suc j) a i h = let k = old (Head h.1.0 p s j) a h.1.1 in (k.0, (k.2.0, k.2.1))
 
-  module _ (w : List (Role × ℕ)) (v : IsWalk image w) (old : (r : Role) (b : ℕ) → Has w r b → Kept image w r b) where
+  module _ (w : Walk) (v : IsWalk image w) (old : (r : Role) (b : ℕ) → Has w r b → Kept image w r b) where
     pub there : (n m a : ℕ) → FileAt image w n a → m ≤ ext_count w n → (c : ℕ) × MemberAt image w n m c
     there n zero a f u = (a, f)
     there n (suc m) a f u = ext_counted image (of_walk image v) n m (omega arith)
@@ -161,14 +161,14 @@ module _ (image : List ℕ) where
           form = (next_data image w n (suc k), next_is n (suc k) f.0 f.1 z en, form);
         }
 
-  pub kept : {w : List (Role × ℕ)} → IsWalk image w → (r : Role) (b : ℕ) → Has w r b → Kept image w r b
+  pub kept : {w : Walk} → IsWalk image w → (r : Role) (b : ℕ) → Has w r b → Kept image w r b
   kept start r b (inl e) = subst (λ r. Kept image ((Root, root_of image) ∷ []) r b) e.0 tt
   kept start r b (inr h) = absurd h
   kept (step {w = w} {r = q} {b = c} {a = a} {i = i} v d e g) r b (inl h) = search (rules, kept_new, part_holds, kept_up, kept v)
   kept (step {w = w} {r = q} {b = c} v d e g) r b (inr h) = kept_up w (q, c) r b (kept v r b h)
 
   -- a bitmap extension block has all before it
-  pub map_ext_down : (w : List (Role × ℕ)) → IsWalk image w → (j i b : ℕ) → Has w (MapExt j) b → i ≤ j → (c : ℕ) × Has w (MapExt i) c
+  pub map_ext_down : (w : Walk) → IsWalk image w → (j i b : ℕ) → Has w (MapExt j) b → i ≤ j → (c : ℕ) × Has w (MapExt i) c
   map_ext_down w v zero i b h l = let e : 0 ≡ i = omega arith in (b, subst (λ i. Has w (MapExt i) b) e h)
   map_ext_down w v (suc j) i b h l =
       elim (dec_le i j) [
@@ -176,13 +176,13 @@ module _ (image : List ℕ) where
         | no u ↦ let e : suc j ≡ i = omega arith in (b, subst (λ i. Has w (MapExt i) b) e h)
       ]
 
-  pub map_ext_low : (w : List (Role × ℕ)) (j b : ℕ) → IsWalk image w → Has w (MapExt j) b
+  pub map_ext_low : (w : Walk) (j b : ℕ) → IsWalk image w → Has w (MapExt j) b
       → ROOT_PAGES + MAP_EXT_PAGES * j < pages_needed (blocks image)
   map_ext_low w zero b v h = (kept v (MapExt 0) b h).0
   map_ext_low w (suc j) b v h = (kept v (MapExt (suc j)) b h).0
 
   -- equal names do not stand in one chain
-  pub new_names : {w : List (Role × ℕ)} → IsWalk image w → (n m p s i j b c : ℕ) → Has w (Head n p s i) b → Has w (Head m p s j) c → n ≢ m
+  pub new_names : {w : Walk} → IsWalk image w → (n m p s i j b c : ℕ) → Has w (Head n p s i) b → Has w (Head m p s j) c → n ≢ m
       → uppers (name_of image b) ≢ uppers (name_of image c)
   new_names start n m p s i j b c (inl e) h ne z = let x : second Root ≡ second (Head n p s i) = ap second e.0 in absurd (omega arith)
   new_names start n m p s i j b c (inr e) h ne z = e
@@ -191,7 +191,7 @@ module _ (image : List ℕ) where
   new_names (step {w = w} {r = q} {b = b'} {a = a} v d e g) n m p s i j b c (inr h) (inl k) ne z = grind (arith, common_steps, part_holds)
   new_names (step v d e g) n m p s i j b c (inr h) (inr k) ne z = new_names v n m p s i j b c h k ne z
 
-  pub in_range : {w : List (Role × ℕ)} → IsWalk image w → 4 ≤ blocks image → (r : Role) (b : ℕ) → Has w r b → (2 ≤ b) × (b < blocks image)
+  pub in_range : {w : Walk} → IsWalk image w → 4 ≤ blocks image → (r : Role) (b : ℕ) → Has w r b → (2 ≤ b) × (b < blocks image)
   in_range start four r b (inl e) = let z : root_of image ≡ b = e.1 in omega arith
   in_range start four r b (inr h) = absurd h
   in_range (step {w = w} {r = q} {b = c} {a = a} v d e g) four r b (inl h) = grind (arith, common_steps, part_holds)

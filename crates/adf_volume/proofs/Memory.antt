@@ -6,7 +6,7 @@ use Rattle.adf_names.specs.declared.kind.Kind.{Kind, TheVariants.Ofs, TheVariant
 use Rattle.adf_blocks.specs.declared.cause.Cause.{Cause, TheVariants.NoMemory}
 use Rattle.adf_volume.specs.Demands.{Demand, FirstFails, boot_demands, data_demands, root_demands}
 use Rattle.adf_volume.specs.Image.{root_of}
-use Rattle.adf_volume.specs.Walk.{FirstFault, Role, bitmap_demands, demands, form_demands}
+use Rattle.adf_volume.specs.Walk.{FirstFault, Role, bitmap_demands, demands, form_demands, Walk}
 use Rattle.adf_volume.specs.Walk.Role.{Root, Page, MapExt, Head, Ext, Data}
 use Rattle.adf_volume.specs.Walk.FirstFault.{at_boot, at_due, at_bitmap}
 
@@ -45,7 +45,7 @@ of_data : (image : List ℕ) (kind : Kind) (b h k n next : ℕ) → NoneHas NoMe
 of_data image Ofs b h k n next = none_of (data_demands image Ofs b h k n next) refl
 of_data image Ffs b h k n next = tt
 
-of_form : (image : List ℕ) (w : List (Role × ℕ)) (r : Role) (b : ℕ) → NoneHas NoMemory (form_demands image w r b)
+of_form : (image : List ℕ) (w : Walk) (r : Role) (b : ℕ) → NoneHas NoMemory (form_demands image w r b)
 of_form image w (Data n k) b = of_data image _ b _ k _ _
 of_form image w Root b = tt
 of_form image w (Page i) b = none_of (form_demands image w (Page i) b) refl
@@ -53,10 +53,10 @@ of_form image w (MapExt j) b = tt
 of_form image w (Head n p s j) b = none_of (form_demands image w (Head n p s j) b) refl
 of_form image w (Ext n k) b = none_of (form_demands image w (Ext n k) b) refl
 
-of_role : (image : List ℕ) (w : List (Role × ℕ)) (r : Role) (a b : ℕ) → NoneHas NoMemory (demands image w r a b)
+of_role : (image : List ℕ) (w : Walk) (r : Role) (a b : ℕ) → NoneHas NoMemory (demands image w r a b)
 of_role image w r a b = grind (arith, common_steps, none_append, of_form)
 
-of_bitmap : (image : List ℕ) (w : List (Role × ℕ)) (b n : ℕ) → NoneHas NoMemory (bitmap_demands image w b n)
+of_bitmap : (image : List ℕ) (w : Walk) (b n : ℕ) → NoneHas NoMemory (bitmap_demands image w b n)
 of_bitmap image w b zero = tt
 of_bitmap image w b (suc n) = ((λ e. cc), ((λ e. cc), of_bitmap image w (suc b) n))
 

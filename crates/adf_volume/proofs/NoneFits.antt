@@ -11,7 +11,7 @@ use Rattle.adf_tree.specs.Tree.{Tree}
 use Rattle.adf_volume.specs.Layout.{Layout, owned}
 use Rattle.adf_volume.specs.declared.owner.Owner.{Owner}
 use Rattle.adf_volume.specs.Fits.{Fits, IsFree}
-use Rattle.adf_volume.specs.Walk.{Role, IsAbsent, IsFreeIn, demands, bitmap_demands, IsWalk, IsWhole, FirstFault}
+use Rattle.adf_volume.specs.Walk.{IsAbsent, IsFreeIn, demands, bitmap_demands, IsWalk, IsWhole, FirstFault, Walk}
 use Rattle.adf_volume.specs.Walk.Role.{Page}
 use Rattle.adf_volume.specs.Walk.FirstFault.{at_boot, at_due, at_bitmap}
 use Rattle.adf_volume.specs.LayoutRoles.{owner_of}
@@ -21,7 +21,7 @@ use Rattle.adf_volume.proofs.WalkAgreement.{agreement, due_is_part}
 use Rattle.adf_volume.proofs.WalkCompleteness.{part_walked}
 use Rattle.adf_volume.proofs.Sizes.{size_low}
 
-module _ (image : List ℕ) (t : Tree) (l : Layout) (fit : Fits image t l) (w : List (Role × ℕ)) (v : IsWalk image w) (whole : IsWhole image w) where
+module _ (image : List ℕ) (t : Tree) (l : Layout) (fit : Fits image t l) (w : Walk) (v : IsWalk image w) (whole : IsWhole image w) where
   absent_of : (b : ℕ) → ((o : Owner) → In (owned image l) (o, b) → ⊥) → IsAbsent w b
   absent_of b h q k = h (owner_of q) (part_owned image t l fit.places q b (agreement image t l fit w q b v k))
 

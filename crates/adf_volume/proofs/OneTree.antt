@@ -10,7 +10,7 @@ use Rattle.adf_tree.specs.declared.entry.Entry.{Entry}
 use Rattle.adf_tree.specs.Tree.{Tree}
 use Rattle.adf_volume.specs.Layout.{EntryAt, Place, Layout, at_node, exts_of, datas_of}
 use Rattle.adf_volume.specs.Fits.{Fits, BodyFits}
-use Rattle.adf_volume.specs.Walk.{Role, heads, IsWalk, IsWhole}
+use Rattle.adf_volume.specs.Walk.{Role, heads, IsWalk, IsWhole, Walk}
 use Rattle.adf_volume.specs.Walk.Role.{Page, MapExt, Head, Ext, Data}
 use Rattle.adf_volume.specs.LayoutRoles.{LayoutHas}
 use Rattle.adf_volume.proofs.Lists.{at_below, at_some, same_list}
@@ -25,7 +25,7 @@ same_entry e f a b c d = λ i. record { parent = a i; name = b i; meta = c i; bo
 same_place : (q r : Place) → q.head ≡ r.head → q.exts ≡ r.exts → q.datas ≡ r.datas → q ≡ r
 same_place q r a b c = λ i. record { head = a i; exts = b i; datas = c i }
 
-module _ (image : List ℕ) (w : List (Role × ℕ)) (v : IsWalk image w) (whole : IsWhole image w) (t : Tree) (l : Layout) (fit : Fits image t l)
+module _ (image : List ℕ) (w : Walk) (v : IsWalk image w) (whole : IsWhole image w) (t : Tree) (l : Layout) (fit : Fits image t l)
     (u : Tree) (m : Layout) (fit' : Fits image u m) where
   carry : (r : Role) (b : ℕ) → LayoutHas image t l r b → LayoutHas image u m r b
   carry r b h = agreement image u m fit' w r b v (part_walked image t l fit w v whole r b h)
@@ -95,7 +95,7 @@ same_layout : (l m : Layout) → l.pages ≡ m.pages → l.map_exts ≡ m.map_ex
 same_layout l m a b c = λ i. record { pages = a i; map_exts = b i; places = c i }
 
 -- one image, one tree
-pub one_tree : (image : List ℕ) (w : List (Role × ℕ)) (t u : Tree) (l m : Layout) → IsWalk image w → IsWhole image w → Fits image t l → Fits image u m
+pub one_tree : (image : List ℕ) (w : Walk) (t u : Tree) (l m : Layout) → IsWalk image w → IsWhole image w → Fits image t l → Fits image u m
     → (t ≡ u) × (l ≡ m)
 one_tree image w t u l m v whole f g = (
   same_tree t u (f.kind ∙ sym g.kind) (f.label ∙ sym g.label) (f.stamps ∙ sym g.stamps)

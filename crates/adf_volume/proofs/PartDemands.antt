@@ -4,11 +4,11 @@ use Rattle.std.proofs.lemmas.Grind.{common_steps}
 use Rattle.adf_base.specs.declared.hash.Letters.{Letters, TheVariants.Ascii}
 use Rattle.adf_blocks.specs.Sizes.{blocks}
 use Rattle.adf_volume.specs.Demands.{AllHold}
-use Rattle.adf_volume.specs.Walk.{Role, Enough, IsAbsent, NewNameBy, NoCause, demands_by, form_demands_by}
+use Rattle.adf_volume.specs.Walk.{Role, Enough, IsAbsent, NewNameBy, NoCause, demands_by, form_demands_by, Walk}
 use Rattle.adf_volume.proofs.Lists.{all_split}
 
 -- each demand of the role at block b holds, by these letters
-pub record PartHoldsBy (l : Letters) (image : List ℕ) (w : List (Role × ℕ)) (r : Role) (b : ℕ) : Type 0 where
+pub record PartHoldsBy (l : Letters) (image : List ℕ) (w : Walk) (r : Role) (b : ℕ) : Type 0 where
   pub enough : Enough image w r
   pub past_boot : 2 ≤ b
   pub inside : b < blocks image
@@ -16,13 +16,13 @@ pub record PartHoldsBy (l : Letters) (image : List ℕ) (w : List (Role × ℕ))
   pub form : AllHold (form_demands_by l image w r b)
   pub new_name : NewNameBy l image w r b
 
-pub part_holds_by : (l : Letters) (image : List ℕ) (w : List (Role × ℕ)) (r : Role) (a b : ℕ) → AllHold (demands_by l image w r a b)
+pub part_holds_by : (l : Letters) (image : List ℕ) (w : Walk) (r : Role) (a b : ℕ) → AllHold (demands_by l image w r a b)
     → PartHoldsBy l image w r b
 part_holds_by l image w r a b n = grind (arith, common_steps, all_split)
 
 -- the same on volumes of types 0 and 1
-abbrev pub PartHolds : List ℕ → List (Role × ℕ) → Role → ℕ → Type 0
+abbrev pub PartHolds : List ℕ → Walk → Role → ℕ → Type 0
 PartHolds = PartHoldsBy Ascii
 
-pub part_holds : (image : List ℕ) (w : List (Role × ℕ)) (r : Role) (a b : ℕ) → NoCause image w r a b → PartHolds image w r b
+pub part_holds : (image : List ℕ) (w : Walk) (r : Role) (a b : ℕ) → NoCause image w r a b → PartHolds image w r b
 part_holds = part_holds_by Ascii

@@ -6,12 +6,12 @@ use Rattle.std.proofs.lemmas.Grind.{common_steps}
 use Rattle.adf_blocks.specs.declared.layout.TheConstants.{EXTENSION, MAP_EXT_PAGES, ROOT_PAGES, SLOTS}
 use Rattle.adf_blocks.specs.Sizes.{blocks, pages_needed}
 use Rattle.adf_volume.specs.Image.{word_in}
-use Rattle.adf_volume.specs.Walk.{Role, Has, MemberAt, NamesPage, Asks, heads}
+use Rattle.adf_volume.specs.Walk.{Has, MemberAt, NamesPage, Asks, heads, Walk}
 use Rattle.adf_volume.specs.Walk.Role.{Page, MapExt, Head, Ext}
 use Rattle.adf_volume.specs.Positions.{IsLink, IsPageHolder, before_page, behind, in_map, position_of, word_of_map_ext, word_of_page}
 use Rattle.adf_volume.proofs.Gathered.{IsGathered, dir_one, member_one, one_block}
 
-module _ (image : List ℕ) (w : List (Role × ℕ)) where
+module _ (image : List ℕ) (w : Walk) where
   -- a header that a word names is asked for
   pub link_asks : (p s j a i : ℕ) → s < SLOTS → IsLink image w p s j a i → word_in image a i ≢ 0 → Asks image w (Head (suc (heads w)) p s j) a i
   link_asks p s zero a i lt h ne = (refl, lt, h.0, h.1, ne)

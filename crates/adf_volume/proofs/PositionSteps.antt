@@ -6,7 +6,7 @@ use native.Mathlib.Decide.{ℕ_discrete}
 use Rattle.adf_blocks.specs.declared.layout.TheConstants.{SECONDARY_TYPE, ST_DIR, ST_FILE}
 use Rattle.adf_blocks.specs.Sizes.{blocks, pages_needed}
 use Rattle.adf_volume.specs.Image.{root_of, word_in}
-use Rattle.adf_volume.specs.Walk.{Role, first, second, third, Before, Same, TypedAt, NodeAt, DirAt, FileAt, Asks, Lacks, heads, ext_count}
+use Rattle.adf_volume.specs.Walk.{Role, first, second, third, Before, Same, TypedAt, NodeAt, DirAt, FileAt, Asks, Lacks, heads, ext_count, Walk}
 use Rattle.adf_volume.specs.Walk.Role.{Root, Page, MapExt, Head, Ext, Data}
 use Rattle.adf_volume.specs.Positions.{Position, IsBelow, IsNoLater, IsUpTo, before_node, before_page, behind, in_map, position_of}
 use Rattle.adf_volume.proofs.AsksSplit.{gathered_split}
@@ -32,7 +32,7 @@ low_first q x u d e = grind (arith, common_steps, low_second)
 clash : (r q : Role) → Before r q → IsBelow q (position_of r) → ⊥
 clash r q before below = grind arith
 
-module _ (image : List ℕ) {w : List (Role × ℕ)} (v : IsGathered image w) where
+module _ (image : List ℕ) {w : Walk} (v : IsGathered image w) where
   -- no node is both a directory and a file
   pub dir_or_file : (n a b : ℕ) → DirAt image w n a → FileAt image w n b → ⊥
   dir_or_file zero a b d f = let x = number_of image v f.header in omega arith
@@ -53,7 +53,7 @@ module _ (image : List ℕ) {w : List (Role × ℕ)} (v : IsGathered image w) wh
   asked_low (Ext m k) a i h = let x = asked_file image v m k a i h in let y = number_of image v x.1.header in omega arith
   asked_low (Data m k) a i h = let x = data_file m k a i h in let y = number_of image v x.1.header in omega arith
 
-module _ (image : List ℕ) {w over : List (Role × ℕ)} where
+module _ (image : List ℕ) {w over : Walk} where
   -- the walk has come to a later position, where it asks for nothing between
   moved : {x y : Position} → IsUpTo image w over x → IsNoLater x y → ((q : Role) (a i : ℕ) → Asks image w q a i → IsBelow q y → IsBelow q x)
       → IsUpTo image w over y

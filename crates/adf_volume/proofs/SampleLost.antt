@@ -1,6 +1,6 @@
 -- The first fault of an empty volume with a lost block.
 -- Letters: q a role; a, b, c blocks; i, k words; p a directory's node; s a slot.
-use Rattle.std.proofs.Common.{◌≡◌, ◌≢◌, ℕ, zero, suc, List, [], ◌∷◌, inl, inr, ◌+◌, ◌-◌, ◌/◌, ◌%◌, ◌*◌, ◌<◌, ◌≤◌, refl, sym, ap, subst, ◌∙◌, arith}
+use Rattle.std.proofs.Common.{◌≡◌, ◌≢◌, ℕ, zero, suc, [], ◌∷◌, inl, inr, ◌+◌, ◌-◌, ◌/◌, ◌%◌, ◌*◌, ◌<◌, ◌≤◌, refl, sym, ap, subst, ◌∙◌, arith}
 use Rattle.adf_base.specs.Words.{block, word, words, with_bytes}
 use Rattle.adf_blocks.specs.PageBlock.{page_form}
 use Rattle.adf_blocks.specs.RootBlock.{root_form}
@@ -9,7 +9,7 @@ use Rattle.adf_blocks.specs.Sizes.{blocks, middle, pages_needed}
 use Rattle.adf_volume.specs.Image.{IsFreeAt, root_of, word_in}
 use Rattle.adf_volume.specs.Demands.{AllHold, FirstFails, demand, boot_demands, boot_form, root_demands, page_demands}
 use Rattle.adf_volume.specs.Samples.{one_lost}
-use Rattle.adf_volume.specs.Walk.{Asks, Before, FirstFault, Has, IsAbsent, IsDue, IsFreeIn, IsWalk, IsWhole, Lacks, NoCause, Role, TypedAt, bitmap_demands, second}
+use Rattle.adf_volume.specs.Walk.{Asks, Before, FirstFault, Has, IsAbsent, IsDue, IsFreeIn, IsWalk, IsWhole, Lacks, NoCause, Role, TypedAt, bitmap_demands, second, Walk}
 use Rattle.adf_volume.specs.Walk.Role.{Root, Page, MapExt, Head, Ext, Data}
 use Rattle.adf_volume.specs.Walk.IsWalk.{start, step}
 use Rattle.adf_volume.specs.Walk.FirstFault.{at_bitmap}
@@ -48,10 +48,10 @@ one_page : pages_needed (blocks one_lost) ≡ 1
 one_page = ap pages_needed size
 
 -- the walk: the root, and then the page
-abbrev only_root : List (Role × ℕ)
+abbrev only_root : Walk
 only_root = (Root, 3) ∷ []
 
-abbrev both : List (Role × ℕ)
+abbrev both : Walk
 both = (Page 0, 4) ∷ only_root
 
 lacks_page : Lacks only_root (Page 0)

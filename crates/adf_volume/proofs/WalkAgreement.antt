@@ -15,7 +15,7 @@ use Rattle.adf_volume.specs.Layout.{EntryAt, IsFile, chain_nodes, Layout, at_nod
 use Rattle.adf_volume.proofs.Gathered.{asked_file, ext_below, member_is, node_is, root_in, root_is}
 use Rattle.adf_volume.proofs.TreeOrder.{DirNode, ordered, is_dir}
 use Rattle.adf_volume.specs.Fits.{Fits, FileFits, BodyFits, TableAt}
-use Rattle.adf_volume.specs.Walk.{Role, Before, Has, heads, HeadAt, DirAt, FileAt, MemberAt, NamesPage, data_count, Asks, Lacks, IsDue, ext_count, Enough}
+use Rattle.adf_volume.specs.Walk.{Role, Before, Has, heads, HeadAt, DirAt, FileAt, MemberAt, NamesPage, data_count, Asks, Lacks, IsDue, ext_count, Enough, Walk}
 use Rattle.adf_volume.specs.Walk.{NewName, form_demands, node_block, member_block, next_data, NoCause, IsWalk}
 use Rattle.adf_volume.specs.Walk.Role.{Root, Page, MapExt, Head, Ext, Data}
 use Rattle.adf_volume.specs.Walk.IsWalk.{start, step}
@@ -60,7 +60,7 @@ module _ (image : List ℕ) (t : Tree) (l : Layout) (fit : Fits image t l) where
   fit_file {n = n} f = fit.files n f.entry f.bytes f.at f.body
 
   -- the walk so far goes along the tree
-  module _ (w : List (Role × ℕ)) (v : IsWalk image w) (ag : (r : Role) (b : ℕ) → Has w r b → LayoutHas image t l r b) where
+  module _ (w : Walk) (v : IsWalk image w) (ag : (r : Role) (b : ℕ) → Has w r b → LayoutHas image t l r b) where
     pub dir_agrees : (p a : ℕ) → DirAt image w p a → DirNode t p × (at_node image l p ≡ a)
     dir_agrees zero a h = (tt, root_is image (of_walk image v) a h)
     dir_agrees (suc i) a h =
@@ -391,16 +391,16 @@ module _ (image : List ℕ) (t : Tree) (l : Layout) (fit : Fits image t l) where
         )
 
   -- agreement: each role and block of a walk is a part
-  agrees : {w : List (Role × ℕ)} → IsWalk image w → (r : Role) (b : ℕ) → Has w r b → LayoutHas image t l r b
+  agrees : {w : Walk} → IsWalk image w → (r : Role) (b : ℕ) → Has w r b → LayoutHas image t l r b
   agrees start r b (inl e) = subst (λ r. LayoutHas image t l r b) e.0 e.1
   agrees start r b (inr h) = absurd h
   agrees (step {w = w} {r = q} {a = a} {i = i} v d e c) r b (inl h) =
       subst (λ r. LayoutHas image t l r b) h.0 (subst (LayoutHas image t l q) (e ∙ h.1) (due_part w v (agrees v) q a i d))
   agrees (step v d e c) r b (inr h) = agrees v r b h
 
-  pub agreement : (w : List (Role × ℕ)) (r : Role) (b : ℕ) → IsWalk image w → Has w r b → LayoutHas image t l r b
+  pub agreement : (w : Walk) (r : Role) (b : ℕ) → IsWalk image w → Has w r b → LayoutHas image t l r b
   agreement w r b v h = agrees v r b h
 
-  pub due_is_part : (w : List (Role × ℕ)) (r : Role) (a i : ℕ) → IsWalk image w → IsDue image w r a i
+  pub due_is_part : (w : Walk) (r : Role) (a i : ℕ) → IsWalk image w → IsDue image w r a i
       → LayoutHas image t l r (word_in image a i) × NoCause image w r a (word_in image a i)
   due_is_part w r a i v d = (due_part w v (agrees v) r a i d, due_fine w v (agrees v) r a i d)

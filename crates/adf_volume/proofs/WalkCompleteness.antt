@@ -12,7 +12,7 @@ use Rattle.adf_tree.specs.declared.entry.Entry.{Entry}
 use Rattle.adf_tree.specs.Tree.{Tree}
 use Rattle.adf_volume.specs.Layout.{EntryAt, Layout, at_node, exts_of, datas_of}
 use Rattle.adf_volume.specs.Fits.{Fits, BodyFits}
-use Rattle.adf_volume.specs.Walk.{Role, Has, heads, FileAt, MemberAt, data_count, IsWalk, IsWhole}
+use Rattle.adf_volume.specs.Walk.{Role, Has, heads, FileAt, MemberAt, data_count, IsWalk, IsWhole, Walk}
 use Rattle.adf_volume.specs.Walk.Role.{Root, Page, MapExt, Head, Ext, Data}
 use Rattle.adf_volume.specs.LayoutRoles.{LayoutHas}
 use Rattle.adf_volume.proofs.Gathered.{root_in}
@@ -35,7 +35,7 @@ no_datas : (image : List ℕ) (t : Tree) (l : Layout) (n : ℕ) (e : Entry) (b :
 no_datas image t l n e Dir k x z f a = absurd (subst (λ xs. At xs k x) f.2 a)
 no_datas image t l n e (File bytes) k x z f a = (bytes, sym z)
 
-module _ (image : List ℕ) (t : Tree) (l : Layout) (fit : Fits image t l) (w : List (Role × ℕ)) (v : IsWalk image w) (whole : IsWhole image w) where
+module _ (image : List ℕ) (t : Tree) (l : Layout) (fit : Fits image t l) (w : Walk) (v : IsWalk image w) (whole : IsWhole image w) where
   ag : (r : Role) (b : ℕ) → Has w r b → LayoutHas image t l r b
   ag r b h = agreement image t l fit w r b v h
 

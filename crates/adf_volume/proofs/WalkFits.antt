@@ -7,7 +7,7 @@ use Rattle.adf_blocks.specs.Sizes.{blocks}
 use Rattle.adf_volume.specs.Demands.{AllHold, boot_demands, root_demands}
 use Rattle.adf_volume.proofs.TreeOrder.{dir_node, is_tree_from}
 use Rattle.adf_volume.specs.Fits.{Fits, FileFits}
-use Rattle.adf_volume.specs.Walk.{Role, IsAbsent, IsFreeIn, bitmap_demands, IsWalk, IsWhole}
+use Rattle.adf_volume.specs.Walk.{IsAbsent, IsFreeIn, bitmap_demands, IsWalk, IsWhole, Walk}
 use Rattle.adf_volume.specs.Walk.Role.{Page, MapExt}
 use Rattle.adf_volume.specs.Made.{tree_in, layout_in}
 use Rattle.adf_volume.specs.LayoutRoles.{owner_of}
@@ -18,7 +18,7 @@ use Rattle.adf_volume.proofs.WholeWalks.{map_exts_length, pages_length, root_nam
 use Rattle.adf_volume.proofs.WalkOwners.{is_owned, owned_has, once}
 use Rattle.adf_volume.proofs.Sizes.{size_low}
 
-module _ (image : List ℕ) (w : List (Role × ℕ)) (v : IsWalk image w) (whole : IsWhole image w) (boots : AllHold (boot_demands image)) where
+module _ (image : List ℕ) (w : Walk) (v : IsWalk image w) (whole : IsWhole image w) (boots : AllHold (boot_demands image)) where
   bitmap_at : (b0 n b : ℕ) → AllHold (bitmap_demands image w b0 n) → b0 ≤ b → b < b0 + n
       → (IsAbsent w b → IsFreeIn image w b) × (IsFreeIn image w b → IsAbsent w b)
   bitmap_at b0 zero b h lo hi = absurd (omega arith)

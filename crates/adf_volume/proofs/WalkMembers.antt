@@ -9,7 +9,7 @@ use Rattle.adf_blocks.specs.Sizes.{blocks, pages_needed}
 use Rattle.adf_volume.specs.Image.{kind_of, table_word, name_of, root_of}
 use Rattle.adf_base.specs.Hash.{slot_of}
 use Rattle.adf_volume.specs.Layout.{nodes_from}
-use Rattle.adf_volume.specs.Walk.{Role, second, Has, HeadAt, head_count, heads, data_count, NamesPage, Asks, IsDue, Lacks, ext_count_of}
+use Rattle.adf_volume.specs.Walk.{Role, second, Has, HeadAt, head_count, heads, data_count, NamesPage, Asks, IsDue, Lacks, ext_count_of, Walk}
 use Rattle.adf_volume.specs.Walk.{ext_count, NoCause, IsWalk}
 use Rattle.adf_volume.specs.Walk.Role.{Root, Page, MapExt, Head, Ext, Data}
 use Rattle.adf_volume.specs.Walk.IsWalk.{start, step}
@@ -26,17 +26,17 @@ use Rattle.adf_volume.proofs.PartDemands.{part_holds}
 use Rattle.adf_volume.proofs.Comparisons.{both_equal, equal_both}
 
 -- the blocks that a test picks are those of one kind of role, by their numbers
-pub record Lists (f : Role → Bool) (role : ℕ → Role) (w : List (Role × ℕ)) : Type 0 where
+pub record Lists (f : Role → Bool) (role : ℕ → Role) (w : Walk) : Type 0 where
   pub to : (k b : ℕ) → Has w (role k) b → At (picked f w) k b
   pub from : (k b : ℕ) → At (picked f w) k b → Has w (role k) b
 
 -- a role that is lacked has no place yet
 -- a test picks at most all members
-pub picked_within : (f : Role → Bool) (w : List (Role × ℕ)) → length (picked f w) ≤ length w
+pub picked_within : (f : Role → Bool) (w : Walk) → length (picked f w) ≤ length w
 picked_within f [] = omega arith
 picked_within f (x ∷ w) = grind (arith, common_steps, picked_within f w, snoc_length (picked f w) x.1)
 
-not_yet : {f : Role → Bool} {role : ℕ → Role} {w : List (Role × ℕ)} → Lists f role w → (k : ℕ) → Lacks w (role k) → length (picked f w) ≤ k
+not_yet : {f : Role → Bool} {role : ℕ → Role} {w : Walk} → Lists f role w → (k : ℕ) → Lacks w (role k) → length (picked f w) ≤ k
 not_yet {f = f} {role = role} {w = w} old k lacks =
     let low : k < length (picked f w) → ⊥ = (λ u. let x = at_some (picked f w) k u in lacks (role k) x.0 (old.from k x.0 x.1) (refl, refl, refl)) in
     omega arith
@@ -47,7 +47,7 @@ module _ (f : Role → Bool) (role : ℕ → Role) (own : (k : ℕ) → f (role 
   none_listed c z = search rules
 
   -- one member more, which is the next one where the test picks it
-  pub one_more : (w : List (Role × ℕ)) (q : Role) (c : ℕ) → ((k m : ℕ) → role k ≡ role m → k ≡ m) → Lists f role w
+  pub one_more : (w : Walk) (q : Role) (c : ℕ) → ((k m : ℕ) → role k ≡ role m → k ≡ m) → Lists f role w
       → (f q ≡ true → q ≡ role (length (picked f w))) → Lists f role ((q, c) ∷ w)
   one_more w q c apart old next = grind (arith, common_steps, old, at_old, at_new, at_snoc)
 
@@ -61,11 +61,11 @@ module _ {X : Type 0} (f : ℕ → ℕ → ℕ → X) where
   head_length (Head n p s j) b m xs h = snoc_length xs (f n p b) ∙ ap suc h
   head_length _ b m xs h = h
 
-  heads_length : (w : List (Role × ℕ)) → length (of_heads f w) ≡ heads w
+  heads_length : (w : Walk) → length (of_heads f w) ≡ heads w
   heads_length [] = refl
   heads_length (x ∷ w) = head_length x.0 x.1 (heads w) (of_heads f w) (heads_length w)
 
-  head_has : (image : List ℕ) {w : List (Role × ℕ)} {i b : ℕ} → IsWalk image w → (h : HeadAt w (suc i) b) → At (of_heads f w) i (f (suc i) h.parent b)
+  head_has : (image : List ℕ) {w : Walk} {i b : ℕ} → IsWalk image w → (h : HeadAt w (suc i) b) → At (of_heads f w) i (f (suc i) h.parent b)
   head_has image start h = absurd (no_head h)
   head_has image {i = i} {b = b} (step {w = w} {r = q} {b = c} {a = a} {i = k} v d e g) h =
       let made : X = f (suc i) h.parent b in
@@ -77,18 +77,18 @@ module _ {X : Type 0} (f : ℕ → ℕ → ℕ → X) where
         | inr x ↦ head_up q c (of_heads f w) i made (head_has image v (head_in h x))
       ]
 
-module _ (image : List ℕ) (full : List (Role × ℕ)) where
-  pub entries_length : (w : List (Role × ℕ)) → length (entries_in image full w) ≡ heads w
+module _ (image : List ℕ) (full : Walk) where
+  pub entries_length : (w : Walk) → length (entries_in image full w) ≡ heads w
   entries_length w = heads_length (entry_in image full) w
 
-  pub places_length : (w : List (Role × ℕ)) → length (places_in full w) ≡ heads w
+  pub places_length : (w : Walk) → length (places_in full w) ≡ heads w
   places_length w = heads_length (λ n p b. place_in full n b) w
 
-  pub entry_has : {w : List (Role × ℕ)} {i b : ℕ} → IsWalk image w → (h : HeadAt w (suc i) b)
+  pub entry_has : {w : Walk} {i b : ℕ} → IsWalk image w → (h : HeadAt w (suc i) b)
       → At (entries_in image full w) i (entry_in image full (suc i) h.parent b)
   entry_has v h = head_has (entry_in image full) image v h
 
-  pub place_has : {w : List (Role × ℕ)} {i b : ℕ} → IsWalk image w → HeadAt w (suc i) b → At (places_in full w) i (place_in full (suc i) b)
+  pub place_has : {w : Walk} {i b : ℕ} → IsWalk image w → HeadAt w (suc i) b → At (places_in full w) i (place_in full (suc i) b)
   place_has v h = head_has (λ n p b. place_in full n b) image v h
 
 module _ (image : List ℕ) where
@@ -97,7 +97,7 @@ module _ (image : List ℕ) where
   ext_length n (Ext i k) b m xs h = grind (arith, common_steps, snoc_length)
   ext_length n _ b m xs h = h
 
-  pub exts_length : (w : List (Role × ℕ)) (n : ℕ) → length (exts_in w n) ≡ ext_count w n
+  pub exts_length : (w : Walk) (n : ℕ) → length (exts_in w n) ≡ ext_count w n
   exts_length [] n = refl
   exts_length (x ∷ w) n = ext_length n x.0 x.1 (ext_count w n) (exts_in w n) (exts_length w n)
 
@@ -105,7 +105,7 @@ module _ (image : List ℕ) where
   ext_only n (Ext m k) t = (k, ap (λ m. Ext m k) (sym (eqb-true n m t)))
   ext_only n _ t = cc
 
-  exts : (n : ℕ) {w : List (Role × ℕ)} → IsWalk image w → Lists (is_ext_of n) (λ k. Ext n (suc k)) w
+  exts : (n : ℕ) {w : Walk} → IsWalk image w → Lists (is_ext_of n) (λ k. Ext n (suc k)) w
   exts n start = none_listed (is_ext_of n) (λ k. Ext n (suc k)) (λ k. eq-eqb n n refl) (root_of image) refl
   exts n (step {w = w} {r = q} {b = c} {a = a} {i = i} v d e g) =
       one_more (is_ext_of n) (λ k. Ext n (suc k)) (λ k. eq-eqb n n refl) w q c (λ k m z. cc) (exts n v)
@@ -115,14 +115,14 @@ module _ (image : List ℕ) where
       next_ext image w o n x.0 a i (subst (λ r. Asks image w r a i) x.1 d.asked) (subst (Lacks w) x.1 d.lacks) (ext_counted image o n) in
       x.1 ∙ ap (Ext n) (z ∙ ap suc (sym (exts_length w n))))
 
-  pub ext_has : {w : List (Role × ℕ)} → IsWalk image w → (n k b : ℕ) → Has w (Ext n (suc k)) b → At (exts_in w n) k b
+  pub ext_has : {w : Walk} → IsWalk image w → (n k b : ℕ) → Has w (Ext n (suc k)) b → At (exts_in w n) k b
   ext_has v n k b h = (exts n v).to k b h
 
-  pub has_ext : (w : List (Role × ℕ)) → IsWalk image w → (n k b : ℕ) → At (exts_in w n) k b → Has w (Ext n (suc k)) b
+  pub has_ext : (w : Walk) → IsWalk image w → (n k b : ℕ) → At (exts_in w n) k b → Has w (Ext n (suc k)) b
   has_ext w v n k b h = (exts n v).from k b h
 
   -- the data blocks
-  next_data_block : (w : List (Role × ℕ)) → (n : ℕ) → IsWalk image w → Lists (is_data_of n) (λ k. Data n (suc k)) w → (k a i b : ℕ)
+  next_data_block : (w : Walk) → (n : ℕ) → IsWalk image w → Lists (is_data_of n) (λ k. Data n (suc k)) w → (k a i b : ℕ)
       → IsDue image w (Data n (suc k)) a i → NoCause image w (Data n (suc k)) a b → k ≡ length (datas_in w n)
   next_data_block w n v ih k a i b d g =
       let low = not_yet ih k d.lacks in
@@ -141,7 +141,7 @@ module _ (image : List ℕ) where
   data_only n (Data m k) t = (k, ap (λ m. Data m k) (sym (eqb-true n m t)))
   data_only n _ t = cc
 
-  datas : (n : ℕ) {w : List (Role × ℕ)} → IsWalk image w → Lists (is_data_of n) (λ k. Data n (suc k)) w
+  datas : (n : ℕ) {w : Walk} → IsWalk image w → Lists (is_data_of n) (λ k. Data n (suc k)) w
   datas n start = none_listed (is_data_of n) (λ k. Data n (suc k)) (λ k. eq-eqb n n refl) (root_of image) refl
   datas n (step {w = w} {r = q} {b = c} {a = a} {i = i} v d e g) =
       one_more (is_data_of n) (λ k. Data n (suc k)) (λ k. eq-eqb n n refl) w q c (λ k m z. cc) (datas n v)
@@ -153,19 +153,19 @@ module _ (image : List ℕ) where
       number zero old d g = absurd d.asked
       number (suc k) old d g = ap suc (next_data_block w n v old k a i c d g)
 
-  pub data_has : (w : List (Role × ℕ)) → IsWalk image w → (n k b : ℕ) → Has w (Data n (suc k)) b → At (datas_in w n) k b
+  pub data_has : (w : Walk) → IsWalk image w → (n k b : ℕ) → Has w (Data n (suc k)) b → At (datas_in w n) k b
   data_has w v n k b h = (datas n v).to k b h
 
-  pub has_data : (w : List (Role × ℕ)) → IsWalk image w → (n k b : ℕ) → At (datas_in w n) k b → Has w (Data n (suc k)) b
+  pub has_data : (w : Walk) → IsWalk image w → (n k b : ℕ) → At (datas_in w n) k b → Has w (Data n (suc k)) b
   has_data w v n k b h = (datas n v).from k b h
 
   -- what names a page has the extension blocks of the pages before it
-  earlier_map_ext : (w : List (Role × ℕ)) → IsWalk image w → (k m j a i : ℕ) → m < k → ROOT_PAGES + MAP_EXT_PAGES * j ≤ m → NamesPage image w k a i
+  earlier_map_ext : (w : Walk) → IsWalk image w → (k m j a i : ℕ) → m < k → ROOT_PAGES + MAP_EXT_PAGES * j ≤ m → NamesPage image w k a i
       → (b : ℕ) × Has w (MapExt j) b
   earlier_map_ext w v k m j a i l u (inl x) = absurd (omega arith)
   earlier_map_ext w v k m j a i l u (inr x) = map_ext_down image w v x.0 j a x.1 (omega arith)
 
-  next_page : (w : List (Role × ℕ)) → IsWalk image w → Lists is_page Page w → (k a i : ℕ) → IsDue image w (Page k) a i → k ≡ length (pages_in w)
+  next_page : (w : Walk) → IsWalk image w → Lists is_page Page w → (k a i : ℕ) → IsDue image w (Page k) a i → k ≡ length (pages_in w)
   next_page w v ih k a i d =
       let low = not_yet ih k d.lacks in
       let m : ℕ = length (pages_in w) in
@@ -180,14 +180,14 @@ module _ (image : List ℕ) where
   page_only (Page k) t = (k, refl)
   page_only _ t = cc
 
-  pub pages : {w : List (Role × ℕ)} → IsWalk image w → Lists is_page Page w
+  pub pages : {w : Walk} → IsWalk image w → Lists is_page Page w
   pages start = none_listed is_page Page (λ k. refl) (root_of image) refl
   pages (step {w = w} {r = q} {b = c} {a = a} {i = i} v d e g) =
       one_more is_page Page (λ k. refl) w q c (λ k m z. cc) (pages v)
       (λ t. let x = page_only q t in x.1 ∙ ap Page (next_page w v (pages v) x.0 a i (subst (λ r. IsDue image w r a i) x.1 d)))
 
   -- the bitmap extension blocks
-  next_map_ext : (w : List (Role × ℕ)) → IsWalk image w → Lists is_map_ext MapExt w → (j a i : ℕ) → IsDue image w (MapExt j) a i
+  next_map_ext : (w : Walk) → IsWalk image w → Lists is_map_ext MapExt w → (j a i : ℕ) → IsDue image w (MapExt j) a i
       → j ≡ length (map_exts_in w)
   next_map_ext w v ih zero a i d = let low = not_yet ih 0 d.lacks in omega arith
   next_map_ext w v ih (suc j) a i d = grind (arith, common_steps, not_yet ih (suc j) d.lacks, at_below (map_exts_in w) j a (ih.to j a d.asked.1))
@@ -196,30 +196,30 @@ module _ (image : List ℕ) where
   map_ext_only (MapExt k) t = (k, refl)
   map_ext_only _ t = cc
 
-  pub map_exts : {w : List (Role × ℕ)} → IsWalk image w → Lists is_map_ext MapExt w
+  pub map_exts : {w : Walk} → IsWalk image w → Lists is_map_ext MapExt w
   map_exts start = none_listed is_map_ext MapExt (λ k. refl) (root_of image) refl
   map_exts (step {w = w} {r = q} {b = c} {a = a} {i = i} v d e g) = search (rules, one_more, map_ext_only, next_map_ext, map_exts v)
 
   -- the slot of a header's name
-  pub slot_is : {w : List (Role × ℕ)} {n b : ℕ} → IsWalk image w → (h : HeadAt w n b) → slot_of (name_of image b) ≡ h.slot
+  pub slot_is : {w : Walk} {n b : ℕ} → IsWalk image w → (h : HeadAt w n b) → slot_of (name_of image b) ≡ h.slot
   slot_is {b = b} v h = let k = (kept image v (head_role h) b h.has).2 in head_slot_is image (kind_of image) b k.0 h.slot k.2
 
-  module _ (full : List (Role × ℕ)) where
+  module _ (full : Walk) where
     -- the chains, in order
-    abbrev chain_in : List (Role × ℕ) → ℕ → ℕ → List ℕ
+    abbrev chain_in : Walk → ℕ → ℕ → List ℕ
     chain_in w p s = nodes_from 1 (entries_in image full w) p s
 
-    pub record Chains (w : List (Role × ℕ)) : Type 0 where
+    pub record Chains (w : Walk) : Type 0 where
       pub to : (n p s j b : ℕ) → Has w (Head n p s j) b → At (chain_in w p s) j n
       pub from : (n p s j : ℕ) → At (chain_in w p s) j n → (b : ℕ) × Has w (Head n p s j) b
 
-    none_yet : (w : List (Role × ℕ)) → Chains w → (n p s j : ℕ) → Lacks w (Head n p s j) → length (chain_in w p s) ≤ j
+    none_yet : (w : Walk) → Chains w → (n p s j : ℕ) → Lacks w (Head n p s j) → length (chain_in w p s) ≤ j
     none_yet w ih n p s j lacks =
         let low : j < length (chain_in w p s) → ⊥ = (λ u. let x = at_some (chain_in w p s) j u in let y = ih.from x.0 p s j x.1 in
         lacks (Head x.0 p s j) y.0 y.1 (refl, refl, refl)) in
         omega arith
 
-    next_place : (w : List (Role × ℕ)) → Chains w → (n p s j a i : ℕ) → IsDue image w (Head n p s j) a i → j ≡ length (chain_in w p s)
+    next_place : (w : Walk) → Chains w → (n p s j a i : ℕ) → IsDue image w (Head n p s j) a i → j ≡ length (chain_in w p s)
     next_place w ih n p s zero a i d = let low = none_yet w ih n p s 0 d.lacks in omega arith
     next_place w ih n p s (suc j) a i d =
         let h = d.asked.1 in
@@ -228,19 +228,19 @@ module _ (image : List ℕ) where
         omega arith
 
     -- the chains with one more header
-    chain_head : (w : List (Role × ℕ)) (n p s j c q u : ℕ) → n ≡ suc (heads w) →
+    chain_head : (w : Walk) (n p s j c q u : ℕ) → n ≡ suc (heads w) →
         nodes_from 1 (push_head (entry_in image full) (Head n p s j) c (entries_in image full w)) q u
         ≡ chain_in w q u ++ cond ((p == q) && (slot_of (name_of image c) == u)) (n ∷ []) []
     chain_head w n p s j c q u z = grind (arith, common_steps, entries_length, chain_snoc, chain_in)
 
-    chain_old : (w : List (Role × ℕ)) (r : Role) (c n p s j : ℕ) → ((m q u k : ℕ) → r ≡ Head m q u k → m ≡ suc (heads w)) → At (chain_in w p s) j n
+    chain_old : (w : Walk) (r : Role) (c n p s j : ℕ) → ((m q u k : ℕ) → r ≡ Head m q u k → m ≡ suc (heads w)) → At (chain_in w p s) j n
         → At (nodes_from 1 (push_head (entry_in image full) r c (entries_in image full w)) p s) j n
     chain_old w (Head m q u k) c n p s j num h =
         subst (λ xs. At xs j n) (sym (chain_head w m q u k c p s (num m q u k refl)))
         (at_old (chain_in w p s) (cond ((q == p) && (slot_of (name_of image c) == s)) (m ∷ []) []) j n h)
     chain_old w _ c n p s j num h = h
 
-    chain_split : (w : List (Role × ℕ)) (r : Role) (c n p s j : ℕ)
+    chain_split : (w : Walk) (r : Role) (c n p s j : ℕ)
         → ((m q u k : ℕ) → r ≡ Head m q u k → (m ≡ suc (heads w)) × (slot_of (name_of image c) ≡ u) × (k ≡ length (chain_in w q u))) →
         ((n p s j : ℕ) → At (chain_in w p s) j n → (b : ℕ) × Has w (Head n p s j) b) →
         At (nodes_from 1 (push_head (entry_in image full) r c (entries_in image full w)) p s) j n → (b : ℕ) × Has ((r, c) ∷ w) (Head n p s j) b
@@ -270,7 +270,7 @@ module _ (image : List ℕ) where
         go false z y = old (subst (λ xs. At xs j n) (append-nil (chain_in w p s)) y)
     chain_split w _ c n p s j num ih h = let x = ih n p s j h in (x.0, inr x.1)
 
-    pub chains : {w : List (Role × ℕ)} → IsWalk image w → Chains w
+    pub chains : {w : Walk} → IsWalk image w → Chains w
     chains start = record {
       to = (λ n p s j b h. elim h [ inl e ↦ let x : second Root ≡ second (Head n p s j) = ap second e.0 in absurd (omega arith) | inr f ↦ absurd f ]);
       from = (λ n p s j h. absurd h);

@@ -2,7 +2,7 @@
 use Rattle.std.proofs.Common.{◌≡◌, ℕ, suc, List, [], ◌∷◌, inl, inr, ◌<◌, refl, ap, subst, arith}
 use Rattle.std.proofs.lemmas.Grind.{common_steps}
 use Rattle.adf_volume.specs.Image.{root_of}
-use Rattle.adf_volume.specs.Walk.{Role, Before, Same, Has, head_count, heads, HeadAt, Asks, Lacks, IsDue, IsWalk}
+use Rattle.adf_volume.specs.Walk.{Role, Before, Same, Has, head_count, heads, HeadAt, Asks, Lacks, IsDue, IsWalk, Walk}
 use Rattle.adf_volume.specs.Walk.Role.{Root, Page, MapExt}
 use Rattle.adf_volume.specs.Walk.IsWalk.{start, step}
 use Rattle.adf_volume.proofs.AsksSplit.{gathered_split}
@@ -18,19 +18,19 @@ before_same x y z h s = grind (arith, common_steps)
 pub before_total : (x y : Role) → (Before y x → ⊥) → (Same x y → ⊥) → Before x y
 before_total x y nb ns = grind (arith, common_steps)
 
-last : (w : List (Role × ℕ)) (z : Role) (c : ℕ) (q : Role) (b : ℕ) (r : Role) → Has ((z, c) ∷ w) q b → Before z r → (Has w q b → Before q r)
+last : (w : Walk) (z : Role) (c : ℕ) (q : Role) (b : ℕ) (r : Role) → Has ((z, c) ∷ w) q b → Before z r → (Has w q b → Before q r)
     → Before q r
 last w z c q b r (inl y) n o = subst (λ q. Before q r) y.0 n
 last w z c q b r (inr y) n o = o y
 
 module _ (image : List ℕ) where
-  root_before : (w : List (Role × ℕ)) (r : Role) (a i : ℕ) → Asks image w r a i → Before Root r
+  root_before : (w : Walk) (r : Role) (a i : ℕ) → Asks image w r a i → Before Root r
   root_before w Root a i h = absurd h
   root_before w (Page k) a i h = (omega arith, (λ z. omega arith), (λ z y. absurd (omega arith)))
   root_before w (MapExt k) a i h = (omega arith, (λ z. omega arith), (λ z y. absurd (omega arith)))
   root_before w _ a i h = (omega arith, (λ z. absurd (omega arith)), (λ z y. absurd (omega arith)))
 
-  pub rises : {w : List (Role × ℕ)} → IsWalk image w → (r : Role) (a i : ℕ) → IsDue image w r a i → (q : Role) (b : ℕ) → Has w q b → Before q r
+  pub rises : {w : Walk} → IsWalk image w → (r : Role) (a i : ℕ) → IsDue image w r a i → (q : Role) (b : ℕ) → Has w q b → Before q r
   rises start r a i d q b (inl e) = subst (λ q. Before q r) e.0 (root_before ((Root, root_of image) ∷ []) r a i d.asked)
   rises start r a i d q b (inr f) = absurd f
   rises (step {w = w} {r = z} {b = c} {a = a0} {i = i0} v e g n) r a i d q b h =
@@ -48,7 +48,7 @@ module _ (image : List ℕ) where
           ]
 
   -- headers stand in the order of their numbers
-  pub in_order : {w : List (Role × ℕ)} {n m b c : ℕ} → IsWalk image w → (h : HeadAt w n b) (k : HeadAt w m c) → n < m
+  pub in_order : {w : Walk} {n m b c : ℕ} → IsWalk image w → (h : HeadAt w n b) (k : HeadAt w m c) → n < m
       → Before (head_role h) (head_role k)
   in_order start h k l = absurd (no_head h)
   in_order {n = n} {m = m} {b = b} (step {w = w} {r = r} {a = a} {i = i} v d e g) h k l = elim h.has [

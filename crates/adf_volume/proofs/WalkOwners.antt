@@ -3,7 +3,7 @@ use Rattle.std.proofs.Common.{◌≡◌, ℕ, zero, suc, List, ◌<◌, length, 
 use Rattle.adf_volume.specs.Lists.{At, In, NoBlockTwice}
 use Rattle.adf_volume.specs.Layout.{datas_at, exts_at, owned}
 use Rattle.adf_volume.specs.declared.owner.Owner.{Owner}
-use Rattle.adf_volume.specs.Walk.{Role, Has, IsWalk, IsWhole}
+use Rattle.adf_volume.specs.Walk.{Role, Has, IsWalk, IsWhole, Walk}
 use Rattle.adf_volume.specs.Walk.Role.{Root, Page, MapExt, Head, Ext, Data}
 use Rattle.adf_volume.specs.Made.{datas_in, entries_in, exts_in, layout_in, places_in, tree_in}
 use Rattle.adf_volume.specs.LayoutRoles.{LayoutHas, owner_of}
@@ -17,7 +17,7 @@ use Rattle.adf_volume.proofs.WalkMembers.{chains, entries_length, places_length,
 use Rattle.adf_volume.proofs.WholeWalks.{head_is}
 use Rattle.adf_volume.proofs.Places.{exts_below, datas_below}
 
-module _ (image : List ℕ) (w : List (Role × ℕ)) (v : IsWalk image w) (whole : IsWhole image w) where
+module _ (image : List ℕ) (w : Walk) (v : IsWalk image w) (whole : IsWhole image w) where
   long : length (places_in w w) ≡ length (entries_in image w w)
   long = places_length image w w ∙ sym (entries_length image w w)
 

@@ -5,7 +5,7 @@ use native.Mathlib.Decide.{dec_lt}
 use Rattle.adf_blocks.specs.declared.layout.TheConstants.{FIRST_PAGE, MAP_EXT_PAGES, ROOT_PAGES}
 use Rattle.adf_blocks.specs.Sizes.{blocks, pages_needed}
 use Rattle.adf_volume.specs.Image.{root_of}
-use Rattle.adf_volume.specs.Walk.{Role, second, Has, heads, HeadAt, FileAt, Asks, IsDue, IsWalk, IsWhole, Before, node_block}
+use Rattle.adf_volume.specs.Walk.{Role, second, Has, heads, HeadAt, FileAt, Asks, IsDue, IsWalk, IsWhole, Before, node_block, Walk}
 use Rattle.adf_volume.specs.Walk.Role.{Page, MapExt, Head, Ext}
 use Rattle.adf_volume.specs.Walk.IsWalk.{start, step}
 use Rattle.adf_volume.proofs.Roles.{dec_has, has_low, head_key}
@@ -16,12 +16,12 @@ use Rattle.adf_volume.proofs.Gathered.IsGathered.{start as gathered_start, step 
 
 module _ (image : List ℕ) where
   -- a walk was gathered
-  pub of_walk : {w : List (Role × ℕ)} → IsWalk image w → IsGathered image w
+  pub of_walk : {w : Walk} → IsWalk image w → IsGathered image w
   of_walk start = gathered_start
   of_walk (step {b = b} {a = a} {i = i} v d e n) = gathered_step a i b (of_walk v) d.asked d.lacks
 
   -- a block has one role
-  pub one_role : {w : List (Role × ℕ)} → IsWalk image w → (r q : Role) (b : ℕ) → Has w r b → Has w q b → r ≡ q
+  pub one_role : {w : Walk} → IsWalk image w → (r q : Role) (b : ℕ) → Has w r b → Has w q b → r ≡ q
   one_role start r q b (inl e) (inl f) = sym e.0 ∙ f.0
   one_role start r q b (inl e) (inr f) = absurd f
   one_role start r q b (inr e) f = absurd e
@@ -30,31 +30,31 @@ module _ (image : List ℕ) where
   one_role (step {w = w} {r = z} {b = c} {a = a} v d g n) r q b (inr e) (inl f) = grind (arith, common_steps, part_holds)
   one_role (step v d g n) r q b (inr e) (inr f) = one_role v r q b e f
 
-  pub number_of : {w : List (Role × ℕ)} {n b : ℕ} → IsWalk image w → HeadAt w n b → (1 ≤ n) × (n ≤ heads w)
+  pub number_of : {w : Walk} {n b : ℕ} → IsWalk image w → HeadAt w n b → (1 ≤ n) × (n ≤ heads w)
   number_of v = gathered.number_of image (of_walk v)
 
-  pub numbered : {w : List (Role × ℕ)} → IsWalk image w → (n : ℕ) → 1 ≤ n → n ≤ heads w → (b : ℕ) × HeadAt w n b
+  pub numbered : {w : Walk} → IsWalk image w → (n : ℕ) → 1 ≤ n → n ≤ heads w → (b : ℕ) × HeadAt w n b
   numbered v = gathered.numbered image (of_walk v)
 
-  pub ext_file : {w : List (Role × ℕ)} → IsWalk image w → (n k b : ℕ) → Has w (Ext n k) b → (h : ℕ) × FileAt image w n h
+  pub ext_file : {w : Walk} → IsWalk image w → (n k b : ℕ) → Has w (Ext n k) b → (h : ℕ) × FileAt image w n h
   ext_file v = gathered.ext_file image (of_walk v)
 
-  pub file_is : (w : List (Role × ℕ)) (n a : ℕ) → IsWalk image w → FileAt image w n a → node_block w n ≡ a
+  pub file_is : (w : Walk) (n a : ℕ) → IsWalk image w → FileAt image w n a → node_block w n ≡ a
   file_is w n a v h = gathered.head_block image (of_walk v) h.header
 
 -- what is asked for and comes before what is due is there
-pub is_there : (image : List ℕ) (w : List (Role × ℕ)) (q r : Role) (a i c k : ℕ) → IsDue image w r a i → Asks image w q c k → Before q r
+pub is_there : (image : List ℕ) (w : Walk) (q r : Role) (a i c k : ℕ) → IsDue image w r a i → Asks image w q c k → Before q r
     → second q < 2 → (b : ℕ) × Has w q b
 is_there image w q r a i c k d ask bef low =
     elim (has_low w q low) [ inr y ↦ y | inl y ↦ absurd (d.least q c k ask y bef) ]
 
 -- what a whole walk asks for is there
-pub asked_block : (image : List ℕ) (w : List (Role × ℕ)) → IsWhole image w → (r : Role) (a i : ℕ) → Asks image w r a i → second r < 2
+pub asked_block : (image : List ℕ) (w : Walk) → IsWhole image w → (r : Role) (a i : ℕ) → Asks image w r a i → second r < 2
     → (b : ℕ) × Has w r b
 asked_block image w whole r a i ask low =
     elim (has_low w r low) [ inr y ↦ y | inl y ↦ absurd (whole r a i ask y) ]
 
-pub asked_header : (image : List ℕ) (w : List (Role × ℕ)) → IsWhole image w → (n p s j a i : ℕ) → Asks image w (Head n p s j) a i
+pub asked_header : (image : List ℕ) (w : Walk) → IsWhole image w → (n p s j a i : ℕ) → Asks image w (Head n p s j) a i
     → (m b : ℕ) × Has w (Head m p s j) b
 asked_header image w whole n p s j a i ask =
     elim (dec_has w (Head n p s j)) [
@@ -63,7 +63,7 @@ asked_header image w whole n p s j a i ask =
     ]
 
 -- a page is asked for where the extension blocks up to it are there
-pub page_word : (image : List ℕ) (w : List (Role × ℕ)) (k : ℕ) → k < pages_needed (blocks image)
+pub page_word : (image : List ℕ) (w : Walk) (k : ℕ) → k < pages_needed (blocks image)
     → ((j : ℕ) → ROOT_PAGES + MAP_EXT_PAGES * j ≤ k → (a : ℕ) × Has w (MapExt j) a)
     → (a i : ℕ) × Asks image w (Page k) a i
 page_word image w k lt have =

@@ -16,7 +16,7 @@ use Rattle.adf_volume.specs.Layout.{EntryAt, nodes_from, chain_nodes, at_node, e
 use Rattle.adf_volume.proofs.TreeOrder.{Ordered, DirNode}
 use Rattle.adf_tree.specs.declared.entry.Body.TheVariants.{Dir, File}
 use Rattle.adf_volume.specs.Fits.{EntryFits, FileFits, BodyFits, TableAt}
-use Rattle.adf_volume.specs.Walk.{Role, Before, Has, heads, HeadAt, DirAt, FileAt, MemberAt, NamesPage, data_count, ext_count, IsWalk, IsWhole}
+use Rattle.adf_volume.specs.Walk.{Before, Has, heads, HeadAt, DirAt, FileAt, MemberAt, NamesPage, data_count, ext_count, IsWalk, IsWhole, Walk}
 use Rattle.adf_volume.specs.Walk.Role.{Page, MapExt, Head, Ext, Data}
 use Rattle.adf_volume.specs.Made.{pages_in, map_exts_in, exts_in, datas_in, body_in, entry_in, place_in, entries_in, places_in, tree_in, layout_in}
 use Rattle.adf_volume.proofs.FormDemands.{head_type, dir_not_file}
@@ -35,12 +35,12 @@ use Rattle.std.proofs.lemmas.Grind.{common_steps}
 use Rattle.adf_volume.proofs.Sizes.{size_low}
 use Rattle.adf_tree.proofs.ChildLookup.{same_slot}
 
-body_dir : (image : List ℕ) (w : List (Role × ℕ)) (n b : ℕ) (x : Bool) → cond x Dir (File (content image (kind_of image) b (datas_in w n))) ≡ Dir
+body_dir : (image : List ℕ) (w : Walk) (n b : ℕ) (x : Bool) → cond x Dir (File (content image (kind_of image) b (datas_in w n))) ≡ Dir
     → x ≡ true
 body_dir image w n b true h = refl
 body_dir image w n b false h = cc
 
-body_file : (image : List ℕ) (w : List (Role × ℕ)) (n b : ℕ) (bytes : List ℕ) (x : Bool)
+body_file : (image : List ℕ) (w : Walk) (n b : ℕ) (bytes : List ℕ) (x : Bool)
     → cond x Dir (File (content image (kind_of image) b (datas_in w n))) ≡ File bytes
     → (x ≡ false) × (bytes ≡ content image (kind_of image) b (datas_in w n))
 body_file image w n b bytes true h = cc
@@ -52,7 +52,7 @@ head_kind : (image : List ℕ) (b c s : ℕ) → AllHold (head_demands image (ki
 head_kind image b c s h z = grind (arith, common_steps, head_type, eq-eqb)
 
 -- a whole walk has all bitmap extension blocks
-pub all_map_exts : (image : List ℕ) (w : List (Role × ℕ)) → IsWhole image w → (j : ℕ) → ROOT_PAGES + MAP_EXT_PAGES * j < pages_needed (blocks image)
+pub all_map_exts : (image : List ℕ) (w : Walk) → IsWhole image w → (j : ℕ) → ROOT_PAGES + MAP_EXT_PAGES * j < pages_needed (blocks image)
     → (a : ℕ) × Has w (MapExt j) a
 all_map_exts image w whole zero lt = asked_block image w whole (MapExt 0) (root_of image) FIRST_MAP_EXT (lt, refl, refl) (omega arith)
 all_map_exts image w whole (suc j) lt =
@@ -60,12 +60,12 @@ all_map_exts image w whole (suc j) lt =
     asked_block image w whole (MapExt (suc j)) x.0 MAP_EXT_NEXT (lt, x.1, refl) (omega arith)
 
 -- the header of which entry n is made
-pub record HeadOf (image : List ℕ) (w : List (Role × ℕ)) (n : ℕ) (e : Entry) : Type 0 where
+pub record HeadOf (image : List ℕ) (w : Walk) (n : ℕ) (e : Entry) : Type 0 where
   pub block : ℕ
   pub header : HeadAt w n block
   pub entry : e ≡ entry_in image w n header.parent block
 
-module _ (image : List ℕ) (w : List (Role × ℕ)) (v : IsWalk image w) (whole : IsWhole image w) where
+module _ (image : List ℕ) (w : Walk) (v : IsWalk image w) (whole : IsWhole image w) where
   pub head_is : {n b : ℕ} → HeadAt w n b
       → (at_node image (layout_in w) n ≡ b) × (exts_of (layout_in w) n ≡ exts_in w n) × (datas_of (layout_in w) n ≡ datas_in w n)
   head_is {n = zero} h = let u : (1 ≤ 0) × (0 ≤ heads w) = number_of image v h in absurd (omega arith)

@@ -5,7 +5,7 @@ use Rattle.std.specs.Prelude.{◌≡◌, ℕ, List, ◌+◌, ◌-◌, ◌/◌, �
 use Rattle.std.proofs.Common.{zero, suc}
 use Rattle.adf_blocks.specs.declared.layout.TheConstants.{FIRST_MAP_EXT, FIRST_PAGE, FIRST_SLOT, MAP_EXT_NEXT, MAP_EXT_PAGES, NEXT_IN_CHAIN, ROOT_PAGES}
 use Rattle.adf_volume.specs.Image.{root_of}
-use Rattle.adf_volume.specs.Walk.{Role, first, second, third, Has, DirAt, Asks, Lacks}
+use Rattle.adf_volume.specs.Walk.{Role, first, second, third, Has, DirAt, Asks, Lacks, Walk}
 use Rattle.adf_volume.specs.Walk.Role.{MapExt, Head}
 
 -- three numbers, compared as those of roles are
@@ -43,7 +43,7 @@ abbrev pub IsNoLater : Position → Position → Type 0
 IsNoLater x y = (x.first ≤ y.first) × (x.first ≡ y.first → x.second ≤ y.second) × (x.first ≡ y.first → x.second ≡ y.second → x.third ≤ y.third)
 
 -- a walk has come to a position: its parts and those skipped come before it, and are all that it asks for there
-pub record IsUpTo (image : List ℕ) (w over : List (Role × ℕ)) (x : Position) : Type 0 where
+pub record IsUpTo (image : List ℕ) (w over : Walk) (x : Position) : Type 0 where
   pub taken : (q : Role) (b : ℕ) → Has w q b → IsBelow q x
   pub skipped : (q : Role) (b : ℕ) → Has over q b → IsBelow q x
   pub gone : (q : Role) (a i : ℕ) → Asks image w q a i → Lacks w q → Lacks over q → IsBelow q x → ⊥
@@ -57,11 +57,11 @@ abbrev pub word_of_map_ext : ℕ → ℕ
 word_of_map_ext k = cond (k == ROOT_PAGES) FIRST_MAP_EXT MAP_EXT_NEXT
 
 -- block a points to the page before page k, or is the root if there is none
-pub record IsPageHolder (image : List ℕ) (w : List (Role × ℕ)) (k a : ℕ) : Type 0 where
+pub record IsPageHolder (image : List ℕ) (w : Walk) (k a : ℕ) : Type 0 where
   pub root : k ≤ ROOT_PAGES → a ≡ root_of image
   pub ext : ROOT_PAGES < k → Has w (MapExt ((k - 1 - ROOT_PAGES) / MAP_EXT_PAGES)) a
 
 -- word i of block a is the one for the header at position j of slot s of directory p
-abbrev pub IsLink : List ℕ → List (Role × ℕ) → ℕ → ℕ → ℕ → ℕ → ℕ → Type 0
+abbrev pub IsLink : List ℕ → Walk → ℕ → ℕ → ℕ → ℕ → ℕ → Type 0
 IsLink image w p s zero a i = DirAt image w p a × (i ≡ FIRST_SLOT + s)
 IsLink image w p s (suc j) a i = ((m : ℕ) × Has w (Head m p s j) a) × (i ≡ NEXT_IN_CHAIN)

@@ -24,6 +24,10 @@ pub data Role : Type 0 where
   Ext : (n k : ℕ) → Role
   Data : (n k : ℕ) → Role
 
+-- a walk: blocks with their roles, in the order found
+abbrev pub Walk : Type 0
+Walk = List (Role × ℕ)
+
 -- Roles are ordered by three numbers: pages by number, each bitmap extension block before the pages that it points to
 -- (page ROOT_PAGES + MAP_EXT_PAGES * j + i is 1 + i after extension block j); then by node;
 -- in a directory by slot and position; in a file
@@ -63,7 +67,7 @@ abbrev pub Same : Role → Role → Type 0
 Same r q = (first r ≡ first q) × (second r ≡ second q) × (third r ≡ third q)
 
 -- A walk is a list of roles with blocks, the newest first. It has this role at this block.
-abbrev pub Has : List (Role × ℕ) → Role → ℕ → Type 0
+abbrev pub Has : Walk → Role → ℕ → Type 0
 Has [] r b = ⊥
 Has (x ∷ w) r b = ((x.0 ≡ r) × (x.1 ≡ b)) ⊎ Has w r b
 
@@ -73,38 +77,38 @@ head_count (Head n p s j) m = suc m
 head_count _ m = m
 
 -- the number of headers in a walk
-abbrev pub heads : List (Role × ℕ) → ℕ
+abbrev pub heads : Walk → ℕ
 heads [] = 0
 heads (x ∷ w) = head_count x.0 (heads w)
 
 -- the header of node n is block a, with its directory, slot and position
-pub record HeadAt (w : List (Role × ℕ)) (n a : ℕ) : Type 0 where
+pub record HeadAt (w : Walk) (n a : ℕ) : Type 0 where
   pub parent : ℕ
   pub slot : ℕ
   pub place : ℕ
   pub has : Has w (Head n parent slot place) a
 
 -- the header of node n is block a, with secondary type t
-pub record TypedAt (image : List ℕ) (w : List (Role × ℕ)) (t n a : ℕ) : Type 0 where
+pub record TypedAt (image : List ℕ) (w : Walk) (t n a : ℕ) : Type 0 where
   pub header : HeadAt w n a
   pub type : word_in image a SECONDARY_TYPE ≡ t
 
 -- the block of node n is a
-abbrev pub NodeAt : List (Role × ℕ) → ℕ → ℕ → Type 0
+abbrev pub NodeAt : Walk → ℕ → ℕ → Type 0
 NodeAt w zero a = Has w Root a
 NodeAt w (suc i) a = HeadAt w (suc i) a
 
 -- the block of directory p is a
-abbrev pub DirAt : List ℕ → List (Role × ℕ) → ℕ → ℕ → Type 0
+abbrev pub DirAt : List ℕ → Walk → ℕ → ℕ → Type 0
 DirAt image w zero a = Has w Root a
 DirAt image w (suc i) a = TypedAt image w ST_DIR (suc i) a
 
 -- the header of file n is block a
-abbrev pub FileAt : List ℕ → List (Role × ℕ) → ℕ → ℕ → Type 0
+abbrev pub FileAt : List ℕ → Walk → ℕ → ℕ → Type 0
 FileAt image w n a = TypedAt image w ST_FILE n a
 
 -- block m of the table of n: its header (m = 0), then its extension blocks
-abbrev pub MemberAt : List ℕ → List (Role × ℕ) → ℕ → ℕ → ℕ → Type 0
+abbrev pub MemberAt : List ℕ → Walk → ℕ → ℕ → ℕ → Type 0
 MemberAt image w n zero a = FileAt image w n a
 MemberAt image w n (suc m) a = Has w (Ext n (suc m)) a
 
@@ -113,13 +117,13 @@ abbrev pub data_count : List ℕ → ℕ → ℕ
 data_count image h = count (kind_of image) (word_in image h SIZE)
 
 -- word i of block a points to page k: in the root, or in a bitmap extension block of the walk
-abbrev pub NamesPage : List ℕ → List (Role × ℕ) → ℕ → ℕ → ℕ → Type 0
+abbrev pub NamesPage : List ℕ → Walk → ℕ → ℕ → ℕ → Type 0
 NamesPage image w k a i =
     ((k < ROOT_PAGES) × (a ≡ root_of image) × (i ≡ FIRST_PAGE + k))
     ⊎ ((j : ℕ) × Has w (MapExt j) a × (i < MAP_EXT_PAGES) × (k ≡ ROOT_PAGES + MAP_EXT_PAGES * j + i))
 
 -- word i of block a asks for this role
-abbrev pub Asks : List ℕ → List (Role × ℕ) → Role → ℕ → ℕ → Type 0
+abbrev pub Asks : List ℕ → Walk → Role → ℕ → ℕ → Type 0
 Asks image w Root a i = ⊥
 Asks image w (Page k) a i = (k < pages_needed (blocks image)) × NamesPage image w k a i
 Asks image w (MapExt zero) a i = (ROOT_PAGES < pages_needed (blocks image)) × (a ≡ root_of image) × (i ≡ FIRST_MAP_EXT)
@@ -137,11 +141,11 @@ Asks image w (Data n (suc k)) a i =
     ((h : ℕ) × FileAt image w n h × (k < data_count image h)) × MemberAt image w n (k / POINTERS) a × (i ≡ table_word k)
 
 -- the walk has no role at this place in the order
-abbrev pub Lacks : List (Role × ℕ) → Role → Type 0
+abbrev pub Lacks : Walk → Role → Type 0
 Lacks w r = (q : Role) (b : ℕ) → Has w q b → Same q r → ⊥
 
 -- the first role, in order, that is asked for and that the walk lacks
-pub record IsDue (image : List ℕ) (w : List (Role × ℕ)) (r : Role) (a i : ℕ) : Type 0 where
+pub record IsDue (image : List ℕ) (w : Walk) (r : Role) (a i : ℕ) : Type 0 where
   pub asked : Asks image w r a i
   pub lacks : Lacks w r
   pub least : (q : Role) (c k : ℕ) → Asks image w q c k → Lacks w q → Before q r → ⊥
@@ -152,12 +156,12 @@ ext_count_of n (Ext m k) c = cond (n == m) (suc c) c
 ext_count_of n _ c = c
 
 -- the number of extension blocks of file n in a walk
-abbrev pub ext_count : List (Role × ℕ) → ℕ → ℕ
+abbrev pub ext_count : Walk → ℕ → ℕ
 ext_count [] n = 0
 ext_count (x ∷ w) n = ext_count_of n x.0 (ext_count w n)
 
 -- before the first data block of a file: the file has enough extension blocks for its size; else ShortFile
-abbrev pub Enough : List ℕ → List (Role × ℕ) → Role → Type 0
+abbrev pub Enough : List ℕ → Walk → Role → Type 0
 Enough image w (Data n k) = k ≡ 1 → (h : ℕ) → FileAt image w n h → data_count image h ≤ POINTERS * suc (ext_count w n)
 Enough image w _ = Unit {0}
 
@@ -168,7 +172,7 @@ node_block_of n (Head m p s j) b c = cond (n == m) b c
 node_block_of n _ b c = c
 
 -- the block of node n, as a function
-abbrev pub node_block : List (Role × ℕ) → ℕ → ℕ
+abbrev pub node_block : Walk → ℕ → ℕ
 node_block [] n = 0
 node_block (x ∷ w) n = node_block_of n x.0 x.1 (node_block w n)
 
@@ -178,22 +182,22 @@ ext_block_of n k (Ext m i) b c = cond (n == m) (cond (k == i) b c) c
 ext_block_of n k _ b c = c
 
 -- extension block k of file n
-abbrev pub ext_block_in : List (Role × ℕ) → ℕ → ℕ → ℕ
+abbrev pub ext_block_in : Walk → ℕ → ℕ → ℕ
 ext_block_in [] n k = 0
 ext_block_in (x ∷ w) n k = ext_block_of n k x.0 x.1 (ext_block_in w n k)
 
 -- block m of the table of n: its header (m = 0), then its extension blocks
-abbrev pub member_block : List (Role × ℕ) → ℕ → ℕ → ℕ
+abbrev pub member_block : Walk → ℕ → ℕ → ℕ
 member_block w n zero = node_block w n
 member_block w n (suc m) = ext_block_in w n (suc m)
 
 -- the pointer to data block k + 1 in the table of file n, or 0 past the last
-abbrev pub next_data : List ℕ → List (Role × ℕ) → ℕ → ℕ → ℕ
+abbrev pub next_data : List ℕ → Walk → ℕ → ℕ → ℕ
 next_data image w n k =
     cond (nat_lt k (data_count image (node_block w n))) (word_in image (member_block w n (k / POINTERS)) (table_word k)) 0
 
 -- the form of block b in this role, as demands; names have these letters
-abbrev pub form_demands_by : Letters → List ℕ → List (Role × ℕ) → Role → ℕ → List Demand
+abbrev pub form_demands_by : Letters → List ℕ → Walk → Role → ℕ → List Demand
 form_demands_by letters image w Root b = []
 form_demands_by letters image w (Page i) b = page_demands image b
 form_demands_by letters image w (MapExt j) b = []
@@ -203,17 +207,17 @@ form_demands_by letters image w (Data n k) b =
     data_demands image (kind_of image) b (node_block w n) k (held (kind_of image) (word_in image (node_block w n) SIZE) k) (next_data image w n k)
 
 -- no earlier header of the chain has the same name, by these letters; else SameName
-abbrev pub NewNameBy : Letters → List ℕ → List (Role × ℕ) → Role → ℕ → Type 0
+abbrev pub NewNameBy : Letters → List ℕ → Walk → Role → ℕ → Type 0
 NewNameBy letters image w (Head n p s j) b =
     (m k c : ℕ) → Has w (Head m p s k) c → uppers_by letters (name_of image c) ≢ uppers_by letters (name_of image b)
 NewNameBy letters image w _ b = Unit {0}
 
 -- the walk does not have this block
-abbrev pub IsAbsent : List (Role × ℕ) → ℕ → Type 0
+abbrev pub IsAbsent : Walk → ℕ → Type 0
 IsAbsent w b = (q : Role) → Has w q b → ⊥
 
 -- the demands on a role at block b, which a word of block a points to; names have these letters
-abbrev pub demands_by : Letters → List ℕ → List (Role × ℕ) → Role → ℕ → ℕ → List Demand
+abbrev pub demands_by : Letters → List ℕ → Walk → Role → ℕ → ℕ → List Demand
 demands_by letters image w r a b =
     demand ShortFile a (Enough image w r)
     ∷ demand OutOfRange a ((2 ≤ b) × (b < blocks image))
@@ -221,37 +225,37 @@ demands_by letters image w r a b =
     ∷ form_demands_by letters image w r b ++ demand SameName b (NewNameBy letters image w r b) ∷ []
 
 -- the same on volumes of types 0 and 1
-abbrev pub demands : List ℕ → List (Role × ℕ) → Role → ℕ → ℕ → List Demand
+abbrev pub demands : List ℕ → Walk → Role → ℕ → ℕ → List Demand
 demands = demands_by Ascii
 
 -- the forms on volumes of types 0 and 1
-abbrev pub form_demands : List ℕ → List (Role × ℕ) → Role → ℕ → List Demand
+abbrev pub form_demands : List ℕ → Walk → Role → ℕ → List Demand
 form_demands = form_demands_by Ascii
 
 -- and their new names
-abbrev pub NewName : List ℕ → List (Role × ℕ) → Role → ℕ → Type 0
+abbrev pub NewName : List ℕ → Walk → Role → ℕ → Type 0
 NewName = NewNameBy Ascii
 
 -- each demand of the role holds
-abbrev pub NoCause : List ℕ → List (Role × ℕ) → Role → ℕ → ℕ → Type 0
+abbrev pub NoCause : List ℕ → Walk → Role → ℕ → ℕ → Type 0
 NoCause image w r a b = AllHold (demands image w r a b)
 
 -- a walk starts with the root; each further part was due and has no cause
-pub data IsWalk (image : List ℕ) : List (Role × ℕ) → Type 0 where
+pub data IsWalk (image : List ℕ) : Walk → Type 0 where
   start : IsWalk image ((Root, root_of image) ∷ [])
-  step : {w : List (Role × ℕ)} {r : Role} {b a i : ℕ} → IsWalk image w → IsDue image w r a i → word_in image a i ≡ b → NoCause image w r a b
+  step : {w : Walk} {r : Role} {b a i : ℕ} → IsWalk image w → IsDue image w r a i → word_in image a i ≡ b → NoCause image w r a b
       → IsWalk image ((r, b) ∷ w)
 
 -- the walk has all that it asks for
-abbrev pub IsWhole : List ℕ → List (Role × ℕ) → Type 0
+abbrev pub IsWhole : List ℕ → Walk → Type 0
 IsWhole image w = (r : Role) (a i : ℕ) → Asks image w r a i → Lacks w r → ⊥
 
 -- the walk has the page of block b, and its bit is set
-abbrev pub IsFreeIn : List ℕ → List (Role × ℕ) → ℕ → Type 0
+abbrev pub IsFreeIn : List ℕ → Walk → ℕ → Type 0
 IsFreeIn image w b = (page : ℕ) × Has w (Page ((b - 2) / PAGE_BITS)) page × IsFreeAt image page ((b - 2) % PAGE_BITS)
 
 -- the demands on n blocks of the bitmap, from b on: a block is free if and only if it has no owner
-abbrev pub bitmap_demands : List ℕ → List (Role × ℕ) → ℕ → ℕ → List Demand
+abbrev pub bitmap_demands : List ℕ → Walk → ℕ → ℕ → List Demand
 bitmap_demands image w b zero = []
 bitmap_demands image w b (suc n) =
     demand LostBlock b (IsAbsent w b → IsFreeIn image w b)
@@ -261,7 +265,7 @@ bitmap_demands image w b (suc n) =
 -- The first fault: in size, boot bytes or root; else in a part due after some walk; else in the bitmap.
 pub data FirstFault (image : List ℕ) (b : ℕ) (c : Cause) : Type 0 where
   at_boot : FirstFails (boot_demands image ++ root_demands image (root_of image)) b c → FirstFault image b c
-  at_due : AllHold (boot_demands image ++ root_demands image (root_of image)) → (w : List (Role × ℕ)) (r : Role) (a i : ℕ) → IsWalk image w
+  at_due : AllHold (boot_demands image ++ root_demands image (root_of image)) → (w : Walk) (r : Role) (a i : ℕ) → IsWalk image w
       → IsDue image w r a i → FirstFails (demands image w r a (word_in image a i)) b c → FirstFault image b c
-  at_bitmap : AllHold (boot_demands image ++ root_demands image (root_of image)) → (w : List (Role × ℕ)) → IsWalk image w → IsWhole image w
+  at_bitmap : AllHold (boot_demands image ++ root_demands image (root_of image)) → (w : Walk) → IsWalk image w → IsWhole image w
       → FirstFails (bitmap_demands image w 2 (blocks image - 2)) b c → FirstFault image b c

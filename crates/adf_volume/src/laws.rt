@@ -16,7 +16,7 @@ ghost use Rattle.adf_volume.specs.Image.{content, pieces, root_of, word_in};
 ghost use Rattle.adf_volume.specs.Demands.{AllHold, FirstFails, boot_demands, root_demands, demands_at};
 ghost use Rattle.adf_volume.specs.Layout.{EntryAt, Layout, chain_nodes};
 ghost use Rattle.adf_volume.specs.Fits.{Fits};
-ghost use Rattle.adf_volume.specs.Walk.{FirstFault, Has, IsDue, IsWalk, IsWhole, NoCause, Role, bitmap_demands};
+ghost use Rattle.adf_volume.specs.Walk.{FirstFault, Has, IsDue, IsWalk, IsWhole, NoCause, Role, bitmap_demands, Walk};
 ghost use Rattle.adf_volume.specs.LayoutRoles.{LayoutHas};
 ghost use Rattle.adf_volume.specs.Made.{layout_in, tree_in};
 
@@ -30,10 +30,10 @@ pub fn demanded_form()
 
 /// If a tree and a layout fit, every part in a walk is theirs, and the part due next is theirs and has no cause.
 pub fn agreement()
-    ensures part { (image : List ℕ) (t : Tree) (l : Layout) (w : List (Role × ℕ)) → Fits image t l
+    ensures part { (image : List ℕ) (t : Tree) (l : Layout) (w : Walk) → Fits image t l
         → IsWalk image w
         → (r : Role) (b : ℕ) → Has w r b → LayoutHas image t l r b }
-    ensures due { (image : List ℕ) (t : Tree) (l : Layout) (w : List (Role × ℕ)) → Fits image t l
+    ensures due { (image : List ℕ) (t : Tree) (l : Layout) (w : Walk) → Fits image t l
         → IsWalk image w
         → (r : Role) (a i : ℕ) → IsDue image w r a i
         → LayoutHas image t l r (word_in image a i) × NoCause image w r a (word_in image a i) }
@@ -42,7 +42,7 @@ pub fn agreement()
 /// If, in addition, nothing is due, the walk has every part.
 #[tactic(auto, using(crate::proofs::WalkCompleteness::part_walked))]
 pub fn completeness()
-    ensures { (image : List ℕ) (t : Tree) (l : Layout) (w : List (Role × ℕ)) → Fits image t l
+    ensures { (image : List ℕ) (t : Tree) (l : Layout) (w : Walk) → Fits image t l
         → IsWalk image w → IsWhole image w
         → (r : Role) (b : ℕ) → LayoutHas image t l r b → Has w r b }
 {}
@@ -57,7 +57,7 @@ pub fn none_fits()
 #[tactic(auto, using(crate::proofs::FitWalks::whole_walk))]
 pub fn whole_walk()
     ensures { (image : List ℕ) (t : Tree) (l : Layout) → Fits image t l
-        → (w : List (Role × ℕ)) × IsWalk image w × IsWhole image w }
+        → (w : Walk) × IsWalk image w × IsWhole image w }
 {}
 
 /// Two trees that fit the same image are equal, and so are their layouts.
@@ -75,7 +75,7 @@ pub fn fits_are_bounded()
 
 /// The tree and layout of a whole walk fit the image if its boot block, root and bitmap are sound.
 pub fn layout_of_walk_fits()
-    ensures { (image : List ℕ) (w : List (Role × ℕ)) → AllHold (boot_demands image)
+    ensures { (image : List ℕ) (w : Walk) → AllHold (boot_demands image)
         → AllHold (root_demands image (root_of image))
         → IsWalk image w → IsWhole image w → AllHold (bitmap_demands image w 2 (blocks image - 2))
         → Fits image (tree_in image w) (layout_in w) }

@@ -1,6 +1,6 @@
 use Rattle.std.proofs.Common.{Bool, map, not, ◌≡◌, ◌++◌, ◌∙◌, ℕ, List, ap, refl, sym, subst}
 use Rattle.std.specs.List.{filter}
-use Rattle.adf_volume.specs.Walk.{Role}
+use Rattle.adf_volume.specs.Walk.{Walk}
 use Rattle.adf_findings.specs.declared.found.Found.{Found}
 use Rattle.adf_findings.specs.declared.part.Finding.{Finding}
 use Rattle.adf_findings.specs.Files.{is_light}
@@ -58,5 +58,5 @@ invariant_of-result c =
 pub returns-clause-findings : goal.returns-clause-findings
 returns-clause-findings c =
     let all : c.compare.new.found.findings.items ≡ c.replace-findings.result.items = λ i. (sym c.replace-findings.ensures.value i).items in
-    subst (λ (xs : List Finding). (w : List (Role × ℕ)) × IsSurvey c.args.started.now.image w (map finding_value xs)) all
+    subst (λ (xs : List Finding). (w : Walk) × IsSurvey c.args.started.now.image w (map finding_value xs)) all
     (read_told c.args.started.now.image c.compare.new.found c.in_ok-compare.ensures)
