@@ -41,9 +41,9 @@ one_node b (suc n) = grind (arith, common_steps, eqb_tells)
 pub stands_begun : (image : List ℕ) (f g h : Found) → IsEmpty f.taken → f.owned.items ≡ replicate (blocks image) false
     → f.owners.items ≡ replicate (blocks image) 0 → f.numbers.items ≡ replicate (blocks image) 0 → f.avoided.items ≡ replicate (blocks image) false
     → f.left ≡ blocks image → f.nodes.items ≡ [] → f.findings.items ≡ [] → f.parents.items ≡ 0 ∷ [] → f.places.items ≡ []
-    → f.datas.items ≡ [] → IsOwned RootPart (root_of image) f g → AreSame f g → h ≡ record g { nodes = h.nodes }
+    → IsOwned RootPart (root_of image) f g → AreSame f g → h ≡ record g { nodes = h.nodes }
     → h.nodes.items ≡ g.nodes.items ++ root_of image ∷ [] → root_of image < blocks image → Stands image h (begun image [])
-stands_begun image f g h taken owned owners numbers avoided left nodes findings parents places datas o e same pushed lt =
+stands_begun image f g h taken owned owners numbers avoided left nodes findings parents places o e same pushed lt =
     let n : ℕ = blocks image in
     let root : ℕ = root_of image in
     let items : h.nodes.items ≡ root ∷ [] = pushed ∙ ap (λ xs. xs ++ root ∷ []) (ap (λ v. v.items) e.nodes ∙ nodes) in
@@ -74,7 +74,6 @@ stands_begun image f g h taken owned owners numbers avoided left nodes findings 
       parent = (λ m. ap (λ v. slice_index v.items m) e.parents ∙ (ap (λ xs. slice_index xs m) parents ∙ none_default 1 0 m));
       parents = ap (λ v. length v.items) e.parents ∙ ap length parents;
       places = ap (λ v. v.items) e.places ∙ places;
-      datas = o.datas ∙ datas;
     })
 
 -- the findings of the boot block stand behind none

@@ -1,14 +1,14 @@
 -- The findings of the bits.
 use Rattle.std.proofs.Common.{Bool, true, false, ◌||◌, not, Option, Some, None, IsTrue, ◌↔◌, ◌≡◌, ℕ, suc, List, [], ◌∷◌, ◌++◌, inl, inr, ◌+◌, ◌-◌, ◌/◌, ◌%◌}
-use Rattle.std.proofs.Common.{◌≤◌, refl, sym, subst, ◌∙◌, arith, add-one}
+use Rattle.std.proofs.Common.{zero, slice_index_or, ◌*◌, ◌<◌, ◌≤◌, refl, sym, subst, ◌∙◌, arith, add-one, IsBitSet}
 use Rattle.std.specs.Ordering.{is_eq}
 use Rattle.std.specs.BTreeMap.{BTreeMap, get}
 use Rattle.std.proofs.lemmas.List.{append_assoc, append-nil}
 use Rattle.std.proofs.lemmas.Grind.{common_steps}
 use Rattle.adf_blocks.specs.declared.cause.Cause.{Cause}
-use Rattle.adf_blocks.specs.declared.layout.TheConstants.{PAGE_BITS}
+use Rattle.adf_blocks.specs.declared.layout.TheConstants.{PAGE_BITS, PAGE_FIRST, PAGE_WORDS}
 use Rattle.adf_blocks.specs.Sizes.{blocks}
-use Rattle.adf_volume.specs.Image.{IsFreeAt}
+use Rattle.adf_volume.specs.Image.{IsFreeAt, word_in}
 use Rattle.adf_volume.specs.Walk.{Role, Has, IsAbsent, IsFreeIn, Walk}
 use Rattle.adf_volume.specs.Walk.Role.{Page}
 use Rattle.adf_volume.proofs.Gathered.{one_block}
@@ -20,7 +20,7 @@ use Rattle.adf_findings.specs.Survey.BitsTell.{agrees, differs, ends}
 use Rattle.adf_findings.specs.declared.part.Finding.{Finding}
 use Rattle.adf_findings.specs.Forms.{Tells}
 use Rattle.adf_findings.specs.Parts.{by_key, key_of}
-use Rattle.adf_findings.specs.Bits.{IsPageCompared}
+use Rattle.adf_findings.specs.Bits.{IsBitCompared, IsPageCompared}
 use Rattle.adf_findings.specs.Found.{BitTells, IsCompleted, IsFinished, IsReported, HasReportedOn, TellsOn, Stands, at_key, bit_cause, owns}
 use Rattle.adf_findings.proofs.Keys.{lacks_at, one_key, same_of_key}
 use Rattle.adf_findings.proofs.Known.{tells_absent}
@@ -85,17 +85,58 @@ module _ (image : List ℕ) (f : Found) (s : Course) (v : IsCourse image s) (fs 
       tells_bit o (p || k) t at x.0 h (subst (λ o. Tells (not o) (IsAbsent s.walk b)) (sym oe) (tells_absent s.walk b))
       (tells_excuse p k (subst (λ p. Tells (not p) (IsAbsent s.skipped b)) (sym pe) (tells_absent s.skipped b)) ke) (tells_free at t h free)
 
--- the next bit that begins no page is in the page of the bit before
-pub page_on : (image : List ℕ) (taken : BTreeMap Key ℕ) (b : ℕ) (page : Option ℕ) → 2 ≤ b → IsPageCompared image taken b page
-    → ((b + 1 - 2) % PAGE_BITS ≡ 0 → ⊥) → IsPageCompared image taken (b + 1) page
-page_on image taken b page lo h inner = go page h
+  -- so it does by what is kept of the block
+  pub bit_tells : (t : Bool) → b < blocks image → IsBitCompared image f.taken b t
+      → BitTells image s b (bit_cause (slice_index_or f.owned.items b false) (slice_index_or f.avoided.items b false || is_cache image b) t)
+  bit_tells t lt x = page_tells _ _ _ t x.0 (st.owned.1 b lt) (st.avoided.1 b lt) refl x.1 x.2
+
+  quiet : (o x t : Bool) → t ≡ not o → bit_cause o x t ≡ None
+  quiet true x true e = cc
+  quiet true x false e = refl
+  quiet false true true e = refl
+  quiet false false true e = refl
+  quiet false x false e = cc
+
+  -- nothing where it is set for a block without an owner alone
+  pub agreed_tells : (t : Bool) → b < blocks image → IsBitCompared image f.taken b t → t ≡ not (slice_index_or f.owned.items b false)
+      → BitTells image s b None
+  agreed_tells t lt x e =
+      subst (BitTells image s b) (quiet (slice_index_or f.owned.items b false) (slice_index_or f.avoided.items b false || is_cache image b) t e)
+      (bit_tells t lt x)
+
+-- a bit of the same page is compared as this one
+pub page_on : (image : List ℕ) (taken : BTreeMap Key ℕ) (b c : ℕ) (page : Option ℕ) → (b - 2) / PAGE_BITS ≡ (c - 2) / PAGE_BITS
+    → IsPageCompared image taken b page → IsPageCompared image taken c page
+page_on image taken b c None same h = λ v. subst (λ i. get by_key taken (key_of (Page i)) ≡ None) same (h v)
+page_on image taken b c (Some at) same h = (h.0, subst (λ i. get by_key taken (key_of (Page i)) ≡ Some at) same h.1)
+
+-- the page of a word is that of its first bit
+pub page_is : (image : List ℕ) (taken : BTreeMap Key ℕ) (i : ℕ) (page : Option ℕ) → IsValidated image
+    → page ≡ get by_key taken (key_of (Page (i / PAGE_WORDS))) → IsPageCompared image taken (2 + 32 * i) page
+page_is image taken i page valid e = go page e
   where
-    same : (b - 2) / PAGE_BITS ≡ (b + 1 - 2) / PAGE_BITS
+    same : i / PAGE_WORDS ≡ (2 + 32 * i - 2) / PAGE_BITS
     same = omega arith
 
-    go : (page : Option ℕ) → IsPageCompared image taken b page → IsPageCompared image taken (b + 1) page
-    go None h = λ v. subst (λ i. get by_key taken (key_of (Page i)) ≡ None) same (h v)
-    go (Some at) h = (h.0, subst (λ i. get by_key taken (key_of (Page i)) ≡ Some at) same h.1)
+    go : (page : Option ℕ) → page ≡ get by_key taken (key_of (Page (i / PAGE_WORDS))) → IsPageCompared image taken (2 + 32 * i) page
+    go None e = λ v. subst (λ j. get by_key taken (key_of (Page j)) ≡ None) same (sym e)
+    go (Some at) e = (valid, subst (λ j. get by_key taken (key_of (Page j)) ≡ Some at) same (sym e))
+
+-- the bits of a word are those of its page
+module _ (image : List ℕ) (taken : BTreeMap Key ℕ) (i at word : ℕ) (is : word ≡ word_in image at (PAGE_FIRST + i % PAGE_WORDS)) (b : ℕ)
+    (lo : 2 + 32 * i ≤ b) (hi : b < 2 + 32 * i + 32) where
+  pub same_page : (2 + 32 * i - 2) / PAGE_BITS ≡ (b - 2) / PAGE_BITS
+  same_page = omega arith
+
+  word_at : PAGE_FIRST + (b - 2) % PAGE_BITS / 32 ≡ PAGE_FIRST + i % PAGE_WORDS
+  word_at = omega arith
+
+  bit_at : (b - 2) % PAGE_BITS % 32 ≡ b - (2 + 32 * i)
+  bit_at = omega arith
+
+  pub bit_compared : (t : Bool) → IsPageCompared image taken (2 + 32 * i) (Some at) → (IsTrue t ↔ IsBitSet word (b - (2 + 32 * i)))
+      → IsBitCompared image taken b t
+  bit_compared t page told = (at, page_on image taken (2 + 32 * i) b (Some at) same_page page, rw (word_at, bit_at, sym is) told)
 
 pub tells_none : (image : List ℕ) (s : Course) (b : ℕ) (gs : List FindingValue) → 2 ≤ b → BitTells image s b None
     → TellsOn image s b gs → TellsOn image s (b + 1) gs
@@ -142,6 +183,55 @@ some_on image f g b c x lo is tells reported (s, gs, told, on) =
       },
       tells_some image s b gs c lo (tells s (s.findings ++ gs) told.course told.stands) on,
     )
+
+-- the bits of blocks that tell nothing are compared
+none_up : (image : List ℕ) (f : Found) (n b : ℕ) → 2 ≤ b
+    → ((c : ℕ) → b ≤ c → c < b + n → (s : Course) (fs : List FindingValue) → IsCourse image s
+    → Stands image f (record { walk = s.walk; skipped = s.skipped; findings = fs }) → BitTells image s c None)
+    → HasReportedOn image f b → HasReportedOn image f (b + n)
+none_up image f zero b lo none h = let e : b ≡ b + 0 = omega arith in subst (HasReportedOn image f) e h
+none_up image f (suc n) b lo none h =
+    let e : b + 1 + n ≡ b + suc n = omega arith in
+    subst (HasReportedOn image f) e (none_up image f n (b + 1) (omega arith) (λ c le lt. none c (omega arith) (omega arith))
+    (none_on image f b lo (none b (omega arith) (omega arith)) h))
+
+none_to : (image : List ℕ) (f : Found) (b end : ℕ) → 2 ≤ b → b ≤ end
+    → ((c : ℕ) → b ≤ c → c < end → (s : Course) (fs : List FindingValue) → IsCourse image s
+    → Stands image f (record { walk = s.walk; skipped = s.skipped; findings = fs }) → BitTells image s c None)
+    → HasReportedOn image f b → HasReportedOn image f end
+none_to image f b end lo le none h =
+    let e : b + (end - b) ≡ end = omega arith in
+    subst (HasReportedOn image f) e (none_up image f (end - b) b lo (λ c from to. none c from (omega arith)) h)
+
+flipped : (o : Bool) (P : Type 0) → (P ↔ (o ≡ false)) → IsTrue (not o) ↔ P
+flipped true P h = ((λ t. cc), (λ p. let e : true ≡ false = h.0 p in cc))
+flipped false P h = ((λ t. h.1 refl), (λ p. refl))
+
+-- the bits of a word, up to a block
+module _ (image : List ℕ) (f : Found) (i end : ℕ) (lo : 2 + 32 * i ≤ end) (hi : end ≤ 2 + 32 * i + 32)
+    (reported : HasReportedOn image f (2 + 32 * i)) where
+  -- without their page none is compared
+  pub none_compared : IsPageCompared image f.taken (2 + 32 * i) None → HasReportedOn image f end
+  none_compared page =
+      none_to image f (2 + 32 * i) end (omega arith) lo
+      (λ c from to s fs v st.
+      let same : (2 + 32 * i - 2) / PAGE_BITS ≡ (c - 2) / PAGE_BITS = omega arith in
+      none_tells image f s v fs st c (page_on image f.taken (2 + 32 * i) c None same page))
+      reported
+
+  -- none disagrees where they are set for the blocks without an owner alone
+  pub all_agreed : (at word : ℕ) → word ≡ word_in image at (PAGE_FIRST + i % PAGE_WORDS) → end ≤ blocks image
+      → IsPageCompared image f.taken (2 + 32 * i) (Some at)
+      → ((b : ℕ) → 2 + 32 * i ≤ b → b < end → IsBitSet word (b - (2 + 32 * i)) ↔ (slice_index_or f.owned.items b false ≡ false))
+      → HasReportedOn image f end
+  all_agreed at word is few page agree =
+      none_to image f (2 + 32 * i) end (omega arith) lo
+      (λ c from to s fs v st.
+      let o : Bool = slice_index_or f.owned.items c false in
+      agreed_tells image f s v fs st c (not o) (omega arith)
+      (bit_compared image f.taken i at word is c from (omega arith) (not o) page
+      (flipped o (IsBitSet word (c - (2 + 32 * i))) (agree c from to))) refl)
+      reported
 
 pub reported_first : (image : List ℕ) (f : Found) → IsFinished image f → HasReportedOn image f 2
 reported_first image f (s, course, done, stands) = grind (arith, common_steps, append-nil, none_reported)

@@ -1,18 +1,18 @@
--- The entries kept for blocks are those that own them.
+-- The entries and the numbers kept for blocks are those of the parts that have them.
 use Rattle.std.specs.Prelude.{cond, ◌==◌, Some, None, map, slice_get, slice_index_or}
 use Rattle.std.specs.Option.{option_and_then, unwrap_or}
 use Rattle.std.proofs.Common.{◌≡◌, ℕ, zero, suc, List, [], ◌∷◌, Option, ◌≤◌, inl, inr, refl, sym, ap, ◌∙◌, arith}
 use Rattle.std.proofs.lemmas.Bool.{cases_Bool}
 use Rattle.std.proofs.lemmas.Bool.Decides.{eqb_tells}
 use Rattle.std.proofs.lemmas.Grind.{common_steps}
-use Rattle.adf_volume.specs.Walk.{Role, Asks, Walk}
+use Rattle.adf_volume.specs.Walk.{Role, Asks, Has, Walk}
 use Rattle.adf_volume.specs.Walk.Role.{Head, Ext, Data}
 use Rattle.adf_volume.proofs.Gathered.{IsGathered, asked_file, number_of}
 use Rattle.adf_volume.proofs.Gathered.IsGathered.{start, step}
 use Rattle.adf_volume.proofs.Roles.{asks_number}
 use Rattle.adf_findings.specs.declared.part.Finding.{Finding}
 use Rattle.adf_findings.specs.Concerned.{owner_of, is_taken}
-use Rattle.adf_findings.specs.Found.{entry_in, owner}
+use Rattle.adf_findings.specs.Found.{data_number, entry_in, number_at, owner}
 use Rattle.adf_findings.specs.Parts.{finding_value}
 use Rattle.adf_findings.specs.SurveyResult.{owner_at, owner_for}
 
@@ -54,3 +54,38 @@ pub owner_nth_is : (w : Walk) (owners : List ℕ) → ((b : ℕ) → owner_at ow
 owner_nth_is w owners h [] k = refl
 owner_nth_is w owners h (x ∷ xs) zero = ap (λ o. cond (is_taken x.cause) o None) (h x.block)
 owner_nth_is w owners h (x ∷ xs) (suc k) = owner_nth_is w owners h xs k
+
+-- a block that one role has tells its entry and its number
+pub first_with : (w : Walk) (r : Role) (b : ℕ) → Has w r b → ((q : Role) → Has w q b → q ≡ r)
+    → (owner w b ≡ entry_in r) × (number_at w b ≡ data_number r)
+first_with [] r b h one = absurd h
+first_with (x ∷ w) r b h one = elim (eqb_tells x.1 b) [
+  | inl y ↦
+      let e : x.0 ≡ r = one x.0 (inl (refl, y.1)) in (
+        ap (λ t. cond t (entry_in x.0) (owner w b)) y.0 ∙ ap entry_in e,
+        ap (λ t. cond t (data_number x.0) (number_at w b)) y.0 ∙ ap data_number e,
+      )
+  | inr y ↦
+      let g : Has w r b = elim h [ inl e ↦ absurd (y.1 e.1) | inr g ↦ g ] in
+      let z = first_with w r b g (λ q k. one q (inr k)) in (
+        ap (λ t. cond t (entry_in x.0) (owner w b)) y.0 ∙ z.0,
+        ap (λ t. cond t (data_number x.0) (number_at w b)) y.0 ∙ z.1,
+      )
+]
+
+-- a role with the number of a data block is one
+of_number : (r : Role) (k : ℕ) → data_number r ≡ suc k → (n : ℕ) × (r ≡ Data n (suc k))
+of_number (Data n j) k e = (n, ap (Data n) e)
+of_number _ k e = absurd (omega (arith, e))
+
+-- so is what has a block with such a number
+pub held_data : (w : Walk) (b k : ℕ) → number_at w b ≡ suc k → (n : ℕ) × Has w (Data n (suc k)) b × (owner w b ≡ Some n)
+held_data [] b k e = absurd (omega (arith, e))
+held_data (x ∷ w) b k e = elim (eqb_tells x.1 b) [
+  | inl y ↦
+      let r = of_number x.0 k (ap (λ t. cond t (data_number x.0) (number_at w b)) (sym y.0) ∙ e) in
+      (r.0, inl (r.1, y.1), ap (λ t. cond t (entry_in x.0) (owner w b)) y.0 ∙ ap entry_in r.1)
+  | inr y ↦
+      let z = held_data w b k (ap (λ t. cond t (data_number x.0) (number_at w b)) (sym y.0) ∙ e) in
+      (z.0, inr z.1, ap (λ t. cond t (entry_in x.0) (owner w b)) y.0 ∙ z.2)
+]

@@ -164,6 +164,12 @@ module _ {image : List ℕ} {f : Found} {y : Due} {a i : ℕ} {s : Course} (n : 
     pub taken_marked : length g.owned.items ≡ blocks image
     taken_marked = o.stands.owned.0
 
+    pub taken_owners : length g.owners.items ≡ blocks image
+    taken_owners = o.stands.owners.0
+
+    pub taken_numbers : length g.numbers.items ≡ blocks image
+    taken_numbers = o.stands.numbers.0
+
     pub taken_left : 1 ≤ g.left
     taken_left =
         let marks = taken_marked in

@@ -2,23 +2,24 @@
 -- Letters: w the walk of a survey, fs its findings; v a result; n a file's node, h the block of its header; k the number of a
 -- data block, from 0; b its block; r, q roles.
 use Rattle.std.specs.Prelude.{◌&&◌, Bool, true, false, cond, nat_lt, Option, Some, None, slice_index}
-use Rattle.std.proofs.Common.{◌≡◌, ℕ, suc, zero, List, [], ◌∷◌, ◌==◌, ◌+◌, ◌≤◌, ◌<◌, inl, inr, refl, sym, ap, subst, ◌∙◌, add-one, arith}
+use Rattle.std.proofs.Common.{◌≡◌, ℕ, suc, zero, List, ◌==◌, ◌+◌, ◌≤◌, ◌<◌, refl, sym, ap, subst, ◌∙◌, add-one, arith}
 use Rattle.std.proofs.lemmas.Bool.{eqb-true, eq-eqb}
 use Rattle.std.proofs.lemmas.Bool.Decides.{eqb_tells, nat_tests}
 use Rattle.std.proofs.lemmas.Grind.{common_steps}
 use Rattle.adf_blocks.specs.Sizes.{blocks}
-use Rattle.adf_volume.specs.Walk.{Role, Has, FileAt, node_block, Walk}
-use Rattle.adf_volume.specs.Walk.Role.{Head, Ext, Data}
+use Rattle.adf_volume.specs.Walk.{Has, FileAt, node_block, Walk}
+use Rattle.adf_volume.specs.Walk.Role.{Data}
 use Rattle.adf_volume.proofs.Gathered.{head_block}
 use Rattle.adf_volume.proofs.Roles.{has_role, same_refl}
 use Rattle.adf_findings.specs.Files.{named_from}
-use Rattle.adf_findings.specs.Found.{at_key, data_number, entry_in, number_at, owner}
+use Rattle.adf_findings.specs.Found.{at_key, number_at, owner}
 use Rattle.adf_findings.specs.Parts.{key_of}
 use Rattle.adf_findings.specs.Remains.{below, blocks_stated, bytes_left, data_below, data_found, data_named, gaps_left, named_below, size_stated}
 use Rattle.adf_findings.specs.Survey.{FindingValue, IsSurvey}
 use Rattle.adf_findings.specs.Survey.IsSurvey.{read, unread}
 use Rattle.adf_findings.specs.SurveyResult.{SurveyValue, TellsOf}
 use Rattle.adf_findings.proofs.BitSteps.{at_has}
+use Rattle.adf_findings.proofs.BlockOwners.{first_with, held_data}
 use Rattle.adf_findings.proofs.FileBlocks.{data_is}
 use Rattle.adf_findings.proofs.Lookups.{file_between}
 use Rattle.adf_findings.proofs.Keys.{lacks_at, same_of_key}
@@ -36,42 +37,11 @@ pub found_named : (image : List ℕ) (w : Walk) (fs : List FindingValue) → IsS
 found_named image w fs (unread f) n h file k b has = absurd has
 found_named image w fs (read v d t) n h file k b has = ((data_is image n v h file k b has).0, data_inside image v n (suc k) b has)
 
--- a block that one role has tells its entry and its number
-pub first_with : (w : Walk) (r : Role) (b : ℕ) → Has w r b → ((q : Role) → Has w q b → q ≡ r)
-    → (owner w b ≡ entry_in r) × (number_at w b ≡ data_number r)
-first_with [] r b h one = absurd h
-first_with (x ∷ w) r b h one = elim (eqb_tells x.1 b) [
-  | inl y ↦
-      let e : x.0 ≡ r = one x.0 (inl (refl, y.1)) in (
-        ap (λ t. cond t (entry_in x.0) (owner w b)) y.0 ∙ ap entry_in e,
-        ap (λ t. cond t (data_number x.0) (number_at w b)) y.0 ∙ ap data_number e,
-      )
-  | inr y ↦
-      let g : Has w r b = elim h [ inl e ↦ absurd (y.1 e.1) | inr g ↦ g ] in
-      let z = first_with w r b g (λ q k. one q (inr k)) in (
-        ap (λ t. cond t (entry_in x.0) (owner w b)) y.0 ∙ z.0,
-        ap (λ t. cond t (data_number x.0) (number_at w b)) y.0 ∙ z.1,
-      )
-]
-
--- a role with the entry and the number of a data block is that data block
-role_is : (r : Role) (n k : ℕ) → entry_in r ≡ Some n → data_number r ≡ suc k → r ≡ Data n (suc k)
-role_is (Data m j) n k e f = let same : m ≡ n = cc in (λ t. Data (same t) (f t))
-role_is (Head m p s j) n k e f = absurd (omega (arith, f))
-role_is (Ext m j) n k e f = absurd (omega (arith, f))
-role_is _ n k e f = cc
-
--- so is a block
+-- a block with the entry and the number of a data block is one
 pub held_has : (w : Walk) (b n k : ℕ) → owner w b ≡ Some n → number_at w b ≡ suc k → Has w (Data n (suc k)) b
-held_has [] b n k e f = cc
-held_has (x ∷ w) b n k e f = elim (eqb_tells x.1 b) [
-  | inl y ↦
-      let own = ap (λ t. cond t (entry_in x.0) (owner w b)) (sym y.0) ∙ e in
-      let number = ap (λ t. cond t (data_number x.0) (number_at w b)) (sym y.0) ∙ f in inl (role_is x.0 n k own number, y.1)
-  | inr y ↦
-      let own = ap (λ t. cond t (entry_in x.0) (owner w b)) (sym y.0) ∙ e in
-      let number = ap (λ t. cond t (data_number x.0) (number_at w b)) (sym y.0) ∙ f in inr (held_has w b n k own number)
-]
+held_has w b n k e f =
+    let (m, has, own) = held_data w b k f in
+    let same : m ≡ n = (let z : Some m ≡ Some n = sym own ∙ e in cc) in subst (λ m. Has w (Data m (suc k)) b) same has
 
 all_true : {A : Type 0} (p q r : Bool) (x y : A) → p ≡ true → q ≡ true → r ≡ true → cond (p && (q && r)) x y ≡ x
 all_true p q r x y a b c = λ i. cond (a i && (b i && c i)) x y

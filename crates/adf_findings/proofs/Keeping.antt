@@ -1,6 +1,6 @@
 -- The result for an image is that of its survey.
 use Rattle.std.specs.Prelude.{Bool, ◌&&◌, ◌||◌, nat_lt, Option, ◌-◌, false, true, map, not, slice_get, slice_index, slice_index_or}
-use Rattle.std.proofs.Common.{◌≡◌, ℕ, List, [], ◌∷◌, ◌++◌, ◌≤◌, refl, sym, ap, subst, ◌∙◌, arith, ◌*◌, ◌<◌, length, inl, inr}
+use Rattle.std.proofs.Common.{◌≡◌, ℕ, zero, suc, List, [], ◌∷◌, ◌++◌, ◌≤◌, refl, sym, ap, subst, ◌∙◌, arith, ◌*◌, ◌<◌, length, inl, inr}
 use Rattle.std.proofs.lemmas.Bool.{cases_lt, false_from_ne_true}
 use Rattle.std.proofs.lemmas.Bool.Decides.{nat_tests}
 use Rattle.std.proofs.lemmas.List.{get_or_past}
@@ -11,7 +11,6 @@ use Rattle.adf_blocks.specs.Sizes.{blocks}
 use Rattle.adf_names.specs.declared.kind.Kind.{Kind}
 use Rattle.adf_names.specs.declared.kind.Kind.TheVariants.{Ofs, Ffs}
 use Rattle.adf_volume.specs.Image.{kind_of}
-use Rattle.adf_findings.specs.declared.found.DataBlock.{DataBlock}
 use Rattle.adf_volume.proofs.Gathered.{head_block, numbered as has_number, number_of, root_is}
 use Rattle.adf_volume.specs.Walk.{Role, Has, heads, node_block, Walk}
 use Rattle.adf_volume.specs.Walk.Role.{Root, Page, Head}
@@ -90,10 +89,10 @@ copied R same (x ∷ xs) [] z = absurd z
 copied R same (x ∷ xs) (y ∷ ys) z = λ t. same x y z.0 t ∷ copied R same xs ys z.1 t
 
 -- what is doubted does not hang on the findings
-same_doubted : (image : List ℕ) (f g : Found) → g ≡ record f { findings = g.findings } → (ds : List DataBlock) (m : ℕ)
-    → is_doubted image g ds m ≡ is_doubted image f ds m
-same_doubted image f g same [] m = refl
-same_doubted image f g same (d ∷ ds) m = λ t. is_node (doubted image (same t) d) m || same_doubted image f g same ds m t
+same_doubted : (image : List ℕ) (f g : Found) → g ≡ record f { findings = g.findings } → (k m : ℕ)
+    → is_doubted image g k m ≡ is_doubted image f k m
+same_doubted image f g same zero m = refl
+same_doubted image f g same (suc k) m = λ t. same_doubted image f g same k m t || is_node (doubted image (same t) k) m
 
 -- the marks of nodes that are not doubted, with those of what findings concern removed, are those of clear nodes
 pub clear_marks : (image : List ℕ) (f g : Found) (base marks : List Bool) → g ≡ record f { findings = g.findings }
@@ -115,7 +114,7 @@ clear_marks image f g base marks same undoubted struck m =
 
     doubtful : (k : Kind) → is_doubtful k image f m ≡ is_doubtful k image g m
     doubtful Ofs = refl
-    doubtful Ffs = sym (same_doubted image f g same f.datas.items m) ∙ (λ t. is_doubted image g (sym same t).datas.items m)
+    doubtful Ffs = sym (same_doubted image f g same (blocks image) m)
 
     go : (k : Kind) → has_mark base m ≡ (nat_lt m (length f.nodes.items) && not (is_doubtful k image f m))
         → (has_mark base m && not (is_blamed g g.findings.items m))

@@ -1,21 +1,27 @@
 -- What the data blocks of a survey say of the kind of their volume.
--- Letters: w the walk of a survey; v a result; t, u tallies; k a number of blocks.
-use Rattle.std.specs.Prelude.{Bool, false, true, cond, Option, Some, None, slice_index}
+-- Letters: w the walk of a survey; v a result; t, u tallies; k a number of blocks, or of a data block; r a role.
+use Rattle.std.specs.Prelude.{Bool, false, true, cond, nat_lt, Option, Some, None, slice_index}
 use Rattle.std.specs.Option.{unwrap_or}
-use Rattle.std.proofs.Common.{◌≡◌, ℕ, zero, suc, List, [], ◌==◌, ◌+◌, ◌≤◌, add-one, ap, refl, sym, ◌∙◌, arith}
-use Rattle.std.proofs.lemmas.Bool.Decides.{eqb_tells}
+use Rattle.std.proofs.Common.{◌≡◌, ℕ, zero, suc, List, [], ◌==◌, ◌+◌, ◌≤◌, inl, inr, add-one, ap, refl, sym, ◌∙◌, arith}
+use Rattle.std.proofs.lemmas.Bool.Decides.{eqb_tells, nat_tests}
 use Rattle.std.proofs.lemmas.Grind.{common_steps}
 use Rattle.adf_names.specs.declared.kind.Kind.{Kind}
 use Rattle.adf_names.specs.declared.kind.Kind.TheVariants.{Ofs, Ffs}
 use Rattle.adf_blocks.specs.Sizes.{blocks}
 use Rattle.adf_volume.specs.Image.{kind_of}
-use Rattle.adf_volume.specs.Walk.{node_block, Walk}
+use Rattle.adf_volume.specs.Walk.{Has, heads, node_block, Walk}
+use Rattle.adf_volume.specs.Walk.Role.{Data}
+use Rattle.adf_volume.proofs.Gathered.{number_of}
 use Rattle.adf_findings.specs.declared.own_kind.Tally.{Tally}
 use Rattle.adf_findings.specs.Found.{number_at, owner}
 use Rattle.adf_findings.specs.OwnKind.{is_mistyped, is_other_kind, said_at, said_in, tallied, tally}
-use Rattle.adf_findings.specs.Sound.{says_data_of}
-use Rattle.adf_findings.specs.Survey.{FindingValue}
+use Rattle.adf_findings.specs.Sound.{IsSound, says_data_of}
+use Rattle.adf_findings.specs.Survey.{FindingValue, IsSurvey}
+use Rattle.adf_findings.specs.Survey.IsSurvey.{read, unread}
 use Rattle.adf_findings.specs.SurveyResult.{SurveyValue, TellsOf}
+use Rattle.adf_findings.proofs.BlockOwners.{held_data}
+use Rattle.adf_findings.proofs.OneSurvey.{gathered}
+use Rattle.adf_findings.proofs.SoundMarks.{taken_wanted}
 
 -- the number kept of a block is that of its entry
 pub kept_owner : (m : ℕ) (o : Option ℕ) → cond (m == 0) None (Some m) ≡ o → unwrap_or o 0 ≡ m
@@ -50,6 +56,56 @@ pub few_tallied : (t : Tally) (o : Option Bool) (k : ℕ) → t.says + t.others 
 few_tallied t None k le = omega arith
 few_tallied t (Some true) k le = omega arith
 few_tallied t (Some false) k le = omega arith
+
+-- the file of a data block is an entry
+data_entry : (image : List ℕ) (w : Walk) (fs : List FindingValue) → IsSurvey image w fs → (n k b : ℕ) → Has w (Data n (suc k)) b
+    → (1 ≤ n) × (n ≤ heads w)
+data_entry image w fs (unread f) n k b h = absurd h
+data_entry image w fs (read v d t) n k b h = elim (taken_wanted image v (Data n (suc k)) b h) [
+  | inl e ↦ cc
+  | inr x ↦ number_of image (gathered image v) x.asked.0.1.header
+]
+
+-- no data block of entries that are sound by some findings says that it is an OFS one
+module _ (image : List ℕ) (w : Walk) (fs gs : List FindingValue) (v : IsSurvey image w fs) (ffs : kind_of image ≡ Ffs)
+    (sound : (n : ℕ) → 1 ≤ n → n ≤ heads w → IsSound image w gs n (node_block w n)) where
+  none_said : (b : ℕ) → said_at image w b ≡ Some true → ⊥
+  none_said b e = go (number_at w b) refl e
+    where
+      go : (k : ℕ) → number_at w b ≡ k
+          → cond (k == 0) None (Some (says_data_of image (node_block w (unwrap_or (owner w b) 0)) k b)) ≡ Some true → ⊥
+      go zero is e = cc
+      go (suc k) is e =
+          let some : (suc k == 0) ≡ false = grind (arith, nat_tests) in
+          let (n, has, own) = held_data w b k is in
+          let (lo, hi) = data_entry image w fs v n k b has in
+          let here : unwrap_or (owner w b) 0 ≡ n = ap (λ o. unwrap_or o 0) own in
+          let not_said = ap (λ m. says_data_of image (node_block w m) (suc k) b) here ∙ (sound n lo hi).own ffs (suc k) b has in
+          let said : Some (says_data_of image (node_block w (unwrap_or (owner w b) 0)) (suc k) b) ≡ Some true =
+          ap (λ t. cond t None (Some (says_data_of image (node_block w (unwrap_or (owner w b) 0)) (suc k) b))) (sym some) ∙ e in
+          let clash : Some false ≡ Some true = ap Some (sym not_said) ∙ said in cc
+
+  says_same : (t : Tally) (o : Option Bool) → (o ≡ Some true → ⊥) → (tallied t o).says ≡ t.says
+  says_same t None other = refl
+  says_same t (Some true) other = absurd (other refl)
+  says_same t (Some false) other = refl
+
+  none_say : (k : ℕ) → (tally image w k).says ≡ 0
+  unfolding tally
+  none_say zero = refl
+  none_say (suc k) = says_same (tally image w k) (said_at image w k) (none_said k) ∙ none_say k
+
+none_more : (t : Tally) → t.says ≡ 0 → false ≡ is_other_kind Ffs t
+none_more t e = let none : nat_lt t.others t.says ≡ false = grind (arith, nat_tests) in sym none
+
+-- so the type is right
+pub sound_typed : (image : List ℕ) (w : Walk) (fs gs : List FindingValue) → IsSurvey image w fs
+    → ((n : ℕ) → 1 ≤ n → n ≤ heads w → IsSound image w gs n (node_block w n)) → false ≡ is_mistyped image w
+sound_typed image w fs gs v sound = go (kind_of image) refl
+  where
+    go : (kind : Kind) → kind_of image ≡ kind → false ≡ is_other_kind kind (tally image w (blocks image))
+    go Ofs e = refl
+    go Ffs e = none_more (tally image w (blocks image)) (none_say image w fs gs v e sound (blocks image))
 
 -- where nothing is found nothing is counted
 no_tally : (image : List ℕ) (k : ℕ) → tally image [] k ≡ record { says = 0; others = 0 }

@@ -1,9 +1,9 @@
 -- The marks of a finished course are those of its sound entries.
 use Rattle.std.specs.Prelude.{Bool, true, false, cond, not, ◌==◌, ◌&&◌, ◌||◌, nat_lt, map, Option, Some, None, slice_index, slice_index_or, ◌↔◌}
-use Rattle.std.proofs.Common.{◌≡◌, ℕ, suc, List, [], ◌∷◌, ◌++◌, length, ◌⊎◌, inl, inr, ◌<◌, ◌≤◌, refl, sym, ap, subst, ◌∙◌, arith}
-use Rattle.std.specs.Option.{option_map}
-use Rattle.std.proofs.lemmas.Bool.{and_parts, cases_Bool, eq-eqb, eqb-true, not-true, or_cases, or_parts}
-use Rattle.std.proofs.lemmas.Bool.Decides.{nat_tests}
+use Rattle.std.proofs.Common.{◌≡◌, ℕ, zero, suc, ◌-◌, List, [], ◌∷◌, ◌++◌, length, ◌⊎◌, inl, inr, ◌<◌, ◌≤◌, refl, sym, ap, subst, ◌∙◌, arith}
+use Rattle.std.specs.Option.{option_map, unwrap_or}
+use Rattle.std.proofs.lemmas.Bool.{and_parts, cases_Bool, cases_lt, eq-eqb, eqb-true, not-true, or_cases, or_parts}
+use Rattle.std.proofs.lemmas.Bool.Decides.{eqb_tells, nat_tests}
 use Rattle.std.proofs.lemmas.Grind.{common_steps}
 use Rattle.adf_names.specs.declared.kind.Kind.{Kind, TheVariants.Ofs, TheVariants.Ffs}
 use Rattle.adf_blocks.specs.Sizes.{blocks}
@@ -12,18 +12,17 @@ use Rattle.adf_volume.specs.Lists.{In}
 use Rattle.adf_volume.specs.Walk.{Role, Same, Has, Asks, Lacks, IsAbsent, heads, node_block, Walk}
 use Rattle.adf_volume.specs.Walk.Role.{Root, Head, Ext, Data}
 use Rattle.adf_volume.proofs.Gathered.{IsGathered, asks_one, head_block, number_of, numbered as has_number, one_block, one_head}
-use Rattle.adf_volume.proofs.Lists.{in_cases, in_left, in_right}
+use Rattle.adf_volume.proofs.Lists.{in_cases}
 use Rattle.adf_volume.proofs.OneFault.{number_is}
 use Rattle.adf_volume.proofs.Roles.{asks_number, dec_has, head_at, head_role, renumbered, renumbered_same, same_of, same_refl, same_role}
 use Rattle.adf_findings.specs.declared.part.Part.{Part, TheVariants.Head as HeadPart, TheVariants.Ext as ExtPart, TheVariants.Data as DataPart}
 use Rattle.adf_findings.specs.declared.part.Finding.{Finding}
-use Rattle.adf_findings.specs.declared.found.DataBlock.{DataBlock}
 use Rattle.adf_findings.specs.declared.found.Found.{Found}
 use Rattle.adf_findings.specs.declared.concern.Concern.TheVariants.{Entry, Within}
 use Rattle.adf_findings.specs.Concerned.{node_of}
 use Rattle.adf_findings.specs.Forms.{Tells}
-use Rattle.adf_findings.specs.Found.{Stands, at_key, data_blocks_of, owns, with_data}
-use Rattle.adf_findings.specs.Marks.{blamed, doubted, is_blamed, is_clear, is_doubted, is_doubtful, is_node, is_header}
+use Rattle.adf_findings.specs.Found.{Stands, at_key, owns}
+use Rattle.adf_findings.specs.Marks.{blamed, doubted, is_blamed, is_clear, is_doubted, is_doubtful, is_node, is_header, is_said}
 use Rattle.adf_findings.specs.Parts.{key_of, part_role, finding_value}
 use Rattle.adf_findings.specs.Sound.{IsSound, IsUnreported, says_data_of}
 use Rattle.adf_findings.specs.Survey.{BitsTell, BootTells, Course, FindingValue, IsCourse, IsDone, IsNext, RootTells, UnreadTells, finding}
@@ -36,6 +35,7 @@ use Rattle.adf_findings.specs.Survey.JudgementValue.{clean, reported, skipped}
 use Rattle.adf_findings.proofs.Keys.{lacks_at, same_of_key}
 use Rattle.adf_volume.proofs.AsksSplit.{asks_more}
 use Rattle.adf_findings.proofs.BitSteps.{at_has}
+use Rattle.adf_findings.proofs.BlockOwners.{first_with, held_data}
 use Rattle.adf_findings.proofs.HeadPlaces.{found_header, header_found}
 use Rattle.adf_findings.proofs.Known.{tells_absent}
 use Rattle.adf_findings.proofs.OneSurvey.{gathered}
@@ -181,6 +181,11 @@ module _ (image : List ℕ) where
   inside (step (reported at c) v d g) r b other (inr h) = inside v r b other h
   inside (step (skipped at c) v d g) r b other h = inside v r b other h
 
+  -- data blocks are numbered from 1
+  data_some : {s : Course} → IsCourse image s → (n k b : ℕ) → Has s.walk (Data n k) b → k ≡ 0 → ⊥
+  data_some v n zero b h e = elim (taken_wanted v (Data n zero) b h) [ inl r ↦ cc | inr x ↦ x.asked ]
+  data_some v n (suc k) b h e = omega arith
+
   pub data_inside : {s : Course} → IsCourse image s → (n k b : ℕ) → Has s.walk (Data n k) b → b < blocks image
   data_inside v n k b h = inside v (Data n k) b (λ e. cc) h
 
@@ -242,72 +247,61 @@ not_blamed f [] m x e h b = h
 not_blamed f (y ∷ xs) m x e (inl z) b = grind (arith, common_steps, node_blamed, node_yes)
 not_blamed f (y ∷ xs) m x e (inr h) b = not_blamed f xs m x (or_parts (is_node (node_blamed f y.part) m) (is_blamed f xs m) e).1 h b
 
-doubted_by : (image : List ℕ) (f : Found) (ds : List DataBlock) (m : ℕ) → is_doubted image f ds m ≡ true
-    → (d : DataBlock) × In ds d × (doubted image f d ≡ Some m)
-doubted_by image f [] m e = cc
-doubted_by image f (d ∷ ds) m e = elim (or_cases (is_node (doubted image f d) m) (is_doubted image f ds m) e) [
-  | inl t ↦ (d, inl refl, node_is (doubted image f d) m t)
-  | inr n ↦ let y = doubted_by image f ds m n in (y.0, inr y.1, y.2)
+doubted_by : (image : List ℕ) (f : Found) (k m : ℕ) → is_doubted image f k m ≡ true → (b : ℕ) × (doubted image f b ≡ Some m)
+doubted_by image f zero m e = cc
+doubted_by image f (suc k) m e = elim (or_cases (is_doubted image f k m) (is_node (doubted image f k) m) e) [
+  | inl t ↦ doubted_by image f k m t
+  | inr n ↦ (k, node_is (doubted image f k) m n)
 ]
 
-not_doubted : (image : List ℕ) (f : Found) (ds : List DataBlock) (m : ℕ) (d : DataBlock) → is_doubted image f ds m ≡ false → In ds d
-    → doubted image f d ≡ Some m → ⊥
-not_doubted image f [] m d e h s = h
-not_doubted image f (x ∷ ds) m d e (inl z) s = grind (arith, common_steps, node_yes)
-not_doubted image f (x ∷ ds) m d e (inr h) s =
-    not_doubted image f ds m d (or_parts (is_node (doubted image f x) m) (is_doubted image f ds m) e).1 h s
+not_doubted : (image : List ℕ) (f : Found) (k m b : ℕ) → is_doubted image f k m ≡ false → b < k → doubted image f b ≡ Some m → ⊥
+not_doubted image f zero m b e lt s = omega arith
+not_doubted image f (suc k) m b e lt s =
+    let parts = or_parts (is_doubted image f k m) (is_node (doubted image f k) m) e in
+    elim (cases_lt b k) [
+      | inl l ↦ not_doubted image f k m b parts.0 l s
+      | inr ge ↦
+          let same : b ≡ k = omega arith in
+          let clash : true ≡ false = sym (node_yes (doubted image f b) m s) ∙ (ap (λ b. is_node (doubted image f b) m) same ∙ parts.1) in cc
+    ]
 
--- what makes a file a doubted one
-abbrev said_of : List ℕ → Found → DataBlock → Bool
-said_of image f d = says_data_of image (slice_index f.nodes.items d.node) d.number d.block
+-- what a data block tells
+abbrev told_of : List ℕ → Found → ℕ → Option ℕ
+told_of image f b = cond (slice_index_or f.avoided.items b false || is_said image f b) (Some (slice_index f.owners.items b)) None
 
-doubted_is : (image : List ℕ) (f : Found) (d : DataBlock) (m : ℕ) → doubted image f d ≡ Some m
-    → (d.node ≡ m) × ((slice_index_or f.avoided.items d.block false ≡ true) ⊎ (said_of image f d ≡ true))
-doubted_is image f d m e = go (slice_index_or f.avoided.items d.block false) (said_of image f d) refl refl e
+-- what is doubted is a data block that was also skipped, or says that it is an OFS one
+doubted_is : (image : List ℕ) (f : Found) (b m : ℕ) → doubted image f b ≡ Some m
+    → (slice_index f.numbers.items b ≡ suc (slice_index f.numbers.items b - 1)) × (slice_index f.owners.items b ≡ m)
+    × ((slice_index_or f.avoided.items b false ≡ true) ⊎ (is_said image f b ≡ true))
+doubted_is image f b m e = elim (eqb_tells (slice_index f.numbers.items b) 0) [
+  | inl y ↦ let none : None ≡ Some m = ap (λ t. cond t None (told_of image f b)) (sym y.0) ∙ e in cc
+  | inr y ↦
+      let z =
+      go (slice_index_or f.avoided.items b false) (is_said image f b) refl refl (ap (λ t. cond t None (told_of image f b)) (sym y.0) ∙ e) in
+      (omega (arith, y.1), z.0, z.1)
+]
   where
-    go : (p q : Bool) → slice_index_or f.avoided.items d.block false ≡ p → said_of image f d ≡ q → cond (p || q) (Some d.node) None ≡ Some m
-        → (d.node ≡ m) × ((slice_index_or f.avoided.items d.block false ≡ true) ⊎ (said_of image f d ≡ true))
+    go : (p q : Bool) → slice_index_or f.avoided.items b false ≡ p → is_said image f b ≡ q
+        → cond (p || q) (Some (slice_index f.owners.items b)) None ≡ Some m
+        → (slice_index f.owners.items b ≡ m) × ((slice_index_or f.avoided.items b false ≡ true) ⊎ (is_said image f b ≡ true))
     go true q a b e = (cc, inl a)
     go false true a b e = (cc, inr b)
     go false false a b e = cc
 
--- and each of the two does
-doubted_yes : (image : List ℕ) (f : Found) (d : DataBlock) → (slice_index_or f.avoided.items d.block false ≡ true) ⊎ (said_of image f d ≡ true)
-    → doubted image f d ≡ Some d.node
-doubted_yes image f d (inl e) = ap (λ t. cond (t || said_of image f d) (Some d.node) None) e
-doubted_yes image f d (inr e) = go (slice_index_or f.avoided.items d.block false)
+-- and such a one is
+doubted_yes : (image : List ℕ) (f : Found) (b : ℕ) → (slice_index f.numbers.items b ≡ 0 → ⊥)
+    → (slice_index_or f.avoided.items b false ≡ true) ⊎ (is_said image f b ≡ true) → doubted image f b ≡ Some (slice_index f.owners.items b)
+doubted_yes image f b some doubt = elim (eqb_tells (slice_index f.numbers.items b) 0) [
+  | inl y ↦ absurd (some y.1)
+  | inr y ↦ ap (λ t. cond t None (told_of image f b)) y.0 ∙ go (slice_index_or f.avoided.items b false) (is_said image f b) doubt
+]
   where
-    go : (p : Bool) → cond (p || said_of image f d) (Some d.node) None ≡ Some d.node
-    go true = refl
-    go false = ap (λ t. cond t (Some d.node) None) e
-
-in_with : (r : Role) (b : ℕ) (ds : List DataBlock) (d : DataBlock) → In ds d → In (with_data r b ds) d
-in_with (Data n k) b ds d h = in_left ds (record { node = n; number = k; block = b } ∷ []) d h
-in_with _ b ds d h = h
-
-with_cases : (r : Role) (b : ℕ) (ds : List DataBlock) (d : DataBlock) → In (with_data r b ds) d
-    → In ds d ⊎ ((r ≡ Data d.node d.number) × (b ≡ d.block))
-with_cases (Data n k) b ds d h = elim (in_cases ds (record { node = n; number = k; block = b } ∷ []) d h) [
-  | inl g ↦ inl g
-  | inr g ↦ elim g [
-    | inl e ↦ inr (ap (λ (d : DataBlock). Data d.node d.number) e, ap (λ (d : DataBlock). d.block) e)
-    | inr e ↦ absurd e
-  ]
-]
-with_cases _ b ds d h = inl h
-
--- the data blocks that are kept are those of the walk
-data_has : (w : Walk) (d : DataBlock) → In (data_blocks_of w) d → Has w (Data d.node d.number) d.block
-data_has [] d h = absurd h
-data_has (x ∷ w) d h = elim (with_cases x.0 x.1 (data_blocks_of w) d h) [
-  | inl g ↦ inr (data_has w d g)
-  | inr y ↦ inl y
-]
-
-has_data : (w : Walk) (n k b : ℕ) → Has w (Data n k) b → In (data_blocks_of w) (record { node = n; number = k; block = b })
-has_data [] n k b h = absurd h
-has_data (x ∷ w) n k b (inl e) = grind (arith, common_steps, in_right)
-has_data (x ∷ w) n k b (inr h) = in_with x.0 x.1 (data_blocks_of w) (record { node = n; number = k; block = b }) (has_data w n k b h)
+    go : (p q : Bool) → (p ≡ true) ⊎ (q ≡ true)
+        → cond (p || q) (Some (slice_index f.owners.items b)) None ≡ Some (slice_index f.owners.items b)
+    go true q h = refl
+    go false true h = refl
+    go false false (inl e) = cc
+    go false false (inr e) = cc
 
 pub in_values : (xs : List Finding) (x : Finding) → In xs x → In (map finding_value xs) (finding_value x)
 in_values [] x h = h
@@ -399,22 +393,24 @@ module _ (image : List ℕ) (f : Found) {s : Course} (v : IsCourse image s) (don
   ]
 
   -- no data block of a sound file is doubted
-  undoubted : (m h : ℕ) → kind_of image ≡ Ffs → IsSound image s.walk all m h → is_doubted image f f.datas.items m ≡ false
-  undoubted m h ffs sound = elim (cases_Bool (is_doubted image f f.datas.items m)) [
+  undoubted : (m h : ℕ) → kind_of image ≡ Ffs → IsSound image s.walk all m h → is_doubted image f (blocks image) m ≡ false
+  undoubted m h ffs sound = elim (cases_Bool (is_doubted image f (blocks image) m)) [
     | inl t ↦
-        let x = doubted_by image f f.datas.items m t in
-        let y = doubted_is image f x.0 m x.2 in
-        let k : ℕ = x.0.number in
-        let b : ℕ = x.0.block in
-        let has : Has s.walk (Data m k) b =
-        subst (λ n. Has s.walk (Data n k) b) y.0 (data_has s.walk x.0 (subst (λ ds. In ds x.0) st.datas x.1)) in
-        elim y.1 [
+        let (b, some) = doubted_by image f (blocks image) m t in
+        let (number, own, doubt) = doubted_is image f b m some in
+        let k : ℕ = slice_index f.numbers.items b - 1 in
+        let (n, held, whose) = held_data s.walk b k (sym (st.numbers.1 b) ∙ number) in
+        let same : n ≡ m = sym (ap (λ o. unwrap_or o 0) whose) ∙ (sym (st.owners.1 b) ∙ own) in
+        let has : Has s.walk (Data m (suc k)) b = subst (λ n. Has s.walk (Data n (suc k)) b) same held in
+        elim doubt [
           | inl over ↦
-              absurd (not_alone image v done m k b has (sym (st.avoided.1 b (data_inside image v m k b has)) ∙ over) (sound.alone ffs k b has))
+              absurd (not_alone image v done m (suc k) b has (sym (st.avoided.1 b (data_inside image v m (suc k) b has)) ∙ over)
+              (sound.alone ffs (suc k) b has))
           | inr said ↦
-              let head : slice_index f.nodes.items x.0.node ≡ h =
-              ap (slice_index f.nodes.items) y.0 ∙ (st.node m ∙ head_block image (gathered image v) sound.header) in
-              let clash : false ≡ true = sym (sound.own ffs k b has) ∙ (ap (λ h. says_data_of image h k b) (sym head) ∙ said) in cc
+              let head : slice_index f.nodes.items (slice_index f.owners.items b) ≡ h =
+              ap (slice_index f.nodes.items) own ∙ (st.node m ∙ head_block image (gathered image v) sound.header) in
+              let clash : false ≡ true =
+              sym (sound.own ffs (suc k) b has) ∙ ((λ i. says_data_of image (sym head i) (sym number i) b) ∙ said) in cc
         ]
     | inr e ↦ e
   ]
@@ -456,10 +452,16 @@ module _ (image : List ℕ) (f : Found) {s : Course} (v : IsCourse image s) (don
   data_clear : (m : ℕ) → is_doubtful (kind_of image) image f m ≡ false → kind_of image ≡ Ffs → (k c : ℕ) → Has s.walk (Data m k) c
       → (slice_index_or f.avoided.items c false ≡ true) ⊎ (says_data_of image (slice_index f.nodes.items m) k c ≡ true) → ⊥
   data_clear m e ffs k c has doubt =
-      let none : is_doubted image f f.datas.items m ≡ false = subst (λ k. is_doubtful k image f m ≡ false) ffs e in
-      let d : DataBlock = record { node = m; number = k; block = c } in
-      let i : In f.datas.items d = subst (λ ds. In ds d) (sym st.datas) (has_data s.walk m k c has) in
-      not_doubted image f f.datas.items m d none i (doubted_yes image f d doubt)
+      let none : is_doubted image f (blocks image) m ≡ false = subst (λ k. is_doubtful k image f m ≡ false) ffs e in
+      let (whose, which) = first_with s.walk (Data m k) c has (λ q g. one_role image v q (Data m k) c g has) in
+      let number : slice_index f.numbers.items c ≡ k = st.numbers.1 c ∙ which in
+      let own : slice_index f.owners.items c ≡ m = st.owners.1 c ∙ ap (λ o. unwrap_or o 0) whose in
+      let said : (slice_index_or f.avoided.items c false ≡ true) ⊎ (is_said image f c ≡ true) = elim doubt [
+        | inl t ↦ inl t
+        | inr t ↦ inr ((λ i. says_data_of image (slice_index f.nodes.items (own i)) (number i) c) ∙ t)
+      ] in
+      not_doubted image f (blocks image) m c none (data_inside image v m k c has)
+      (doubted_yes image f c (λ z. data_some image v m k c has (sym number ∙ z)) said ∙ ap Some own)
 
   alone_clear : (m : ℕ) → is_doubtful (kind_of image) image f m ≡ false → kind_of image ≡ Ffs → (k c : ℕ) → Has s.walk (Data m k) c
       → (q : Role) (a i : ℕ) → Asks image s.walk q a i → word_in image a i ≡ c → Same q (Data m k)

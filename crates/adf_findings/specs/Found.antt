@@ -1,6 +1,5 @@
 -- The state of a survey, as a course.
--- Letters: w a walk, s a course; r a role; b, c blocks; k a key; n, p nodes; f a state;
--- ds data blocks.
+-- Letters: w a walk, s a course; r a role; b, c blocks; k a key; n, p nodes; f a state.
 use Rattle.std.specs.Prelude.{◌≡◌, ◌≤◌, ◌<◌, ◌+◌, ◌-◌, ◌==◌, ◌&&◌, ◌||◌, ℕ, Bool, true, false, cond, not, List, []}
 use Rattle.std.specs.Prelude.{◌∷◌, ◌++◌, length, set, map, slice_index, slice_index_or, Option, Some, None, IsTrue, ◌↔◌}
 use Rattle.std.proofs.Common.{zero, suc}
@@ -24,7 +23,6 @@ use Rattle.adf_findings.specs.declared.part.Part.TheVariants.{Head as HeadPart, 
 use Rattle.adf_findings.specs.declared.part.Key.{Key}
 use Rattle.adf_findings.specs.declared.part.Finding.{Finding}
 use Rattle.adf_findings.specs.declared.found.ChainPlace.{ChainPlace}
-use Rattle.adf_findings.specs.declared.found.DataBlock.{DataBlock}
 use Rattle.adf_findings.specs.declared.found.Found.{Found}
 use Rattle.adf_findings.specs.Survey.{BitsTell, Course, FindingValue, IsCompared, IsCourse, IsDone}
 use Rattle.adf_findings.specs.Parts.{by_key, key_of, role_of, finding_value}
@@ -39,16 +37,6 @@ abbrev pub IsLookedUp : Role → Type 0
 IsLookedUp (Head n p s j) = ⊥
 IsLookedUp (Data n k) = ⊥
 IsLookedUp _ = Unit {0}
-
--- the data blocks, with one more if the role is one
-abbrev pub with_data : Role → ℕ → List DataBlock → List DataBlock
-with_data (Data n k) b ds = ds ++ record { node = n; number = k; block = b } ∷ []
-with_data _ b ds = ds
-
--- the data blocks of a walk, in order
-abbrev pub data_blocks_of : Walk → List DataBlock
-data_blocks_of [] = []
-data_blocks_of (x ∷ w) = with_data x.0 x.1 (data_blocks_of w)
 
 -- whether a member of the walk has this block
 abbrev pub owns : Walk → ℕ → Bool
@@ -164,7 +152,6 @@ IsPut part b old new = Updates by_key old new (key_of (role_of part)) (Some b)
 -- the part owns the block
 pub record IsOwned (part : Part) (b : ℕ) (f g : Found) : Type 0 where
   pub taken : IsPut part b f.taken g.taken
-  pub datas : g.datas.items ≡ with_data (role_of part) b f.datas.items
   pub owned : g.owned.items ≡ set f.owned.items b true
   pub owners : g.owners.items ≡ set f.owners.items b (entry_number (role_of part))
   pub numbers : g.numbers.items ≡ set f.numbers.items b (data_number (role_of part))
@@ -240,7 +227,6 @@ pub record Stands (image : List ℕ) (f : Found) (s : Course) : Type 0 where
   pub parent : (n : ℕ) → slice_index f.parents.items n ≡ parent_node s.walk n
   pub parents : length f.parents.items ≡ suc (heads s.walk)
   pub places : f.places.items ≡ places_of s.walk
-  pub datas : f.datas.items ≡ data_blocks_of s.walk
 
 -- the finding of the bit of block b: none if it is not compared or agrees; otherwise the cause
 abbrev pub BitTells : List ℕ → Course → ℕ → Option Cause → Type 0

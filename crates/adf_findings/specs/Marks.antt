@@ -1,17 +1,18 @@
 -- The entries that findings concern, by number.
--- Letters: f a state; avoided whether each block was skipped; d a data block; m, n, p nodes;
+-- Letters: f a state; b a block; k a number of blocks, or of a part; m, n, p nodes;
 -- s, j a slot and a position in its chain.
 use Rattle.std.specs.Prelude.{◌==◌, ◌||◌, ◌&&◌, ◌-◌, ℕ, Bool, false, cond, not, nat_lt, List, [], ◌∷◌, length, slice_get, slice_index, slice_index_or}
 use Rattle.std.specs.Prelude.{Option, Some, None}
 use Rattle.std.specs.Option.{option_map}
+use Rattle.std.proofs.Common.{zero, suc}
 use Rattle.adf_names.specs.declared.kind.Kind.{Kind}
 use Rattle.adf_names.specs.declared.kind.Kind.TheVariants.{Ofs, Ffs}
+use Rattle.adf_blocks.specs.Sizes.{blocks}
 use Rattle.adf_volume.specs.Image.{kind_of}
 use Rattle.adf_findings.specs.declared.part.Part.{Part}
 use Rattle.adf_findings.specs.declared.part.Part.TheVariants.{Head as HeadPart, Ext as ExtPart, Data as DataPart}
 use Rattle.adf_findings.specs.declared.part.Finding.{Finding}
 use Rattle.adf_findings.specs.declared.found.ChainPlace.{ChainPlace}
-use Rattle.adf_findings.specs.declared.found.DataBlock.{DataBlock}
 use Rattle.adf_findings.specs.declared.found.Found.{Found}
 use Rattle.adf_findings.specs.declared.concern.Concern.{Concern}
 use Rattle.adf_findings.specs.declared.concern.Concern.TheVariants.{Entry, Within}
@@ -44,20 +45,25 @@ abbrev pub is_blamed : Found → List Finding → ℕ → Bool
 is_blamed f [] m = false
 is_blamed f (x ∷ xs) m = is_node (option_map node_of (blamed f x.part)) m || is_blamed f xs m
 
--- the file of a data block, if the block was also skipped, or says that it is an OFS one
-abbrev pub doubted : List ℕ → Found → DataBlock → Option ℕ
-doubted image f d =
-    cond (slice_index_or f.avoided.items d.block false || says_data_of image (slice_index f.nodes.items d.node) d.number d.block) (Some d.node) None
+-- whether the data block at block b says that it is an OFS one of its file
+abbrev pub is_said : List ℕ → Found → ℕ → Bool
+is_said image f b = says_data_of image (slice_index f.nodes.items (slice_index f.owners.items b)) (slice_index f.numbers.items b) b
 
--- whether that is so of a data block of the file
-abbrev pub is_doubted : List ℕ → Found → List DataBlock → ℕ → Bool
-is_doubted image f [] m = false
-is_doubted image f (d ∷ ds) m = is_node (doubted image f d) m || is_doubted image f ds m
+-- the file of the data block at block b, if the block was also skipped, or says that it is an OFS one; none of other blocks
+abbrev pub doubted : List ℕ → Found → ℕ → Option ℕ
+doubted image f b =
+    cond (slice_index f.numbers.items b == 0) None
+    (cond (slice_index_or f.avoided.items b false || is_said image f b) (Some (slice_index f.owners.items b)) None)
+
+-- whether that is so of a data block of the file among the first k blocks
+abbrev pub is_doubted : List ℕ → Found → ℕ → ℕ → Bool
+is_doubted image f zero m = false
+is_doubted image f (suc k) m = is_doubted image f k m || is_node (doubted image f k) m
 
 -- whether that makes the file unsound: only FFS, as an OFS data block identifies its file
 abbrev pub is_doubtful : Kind → List ℕ → Found → ℕ → Bool
 is_doubtful Ofs image f m = false
-is_doubtful Ffs image f m = is_doubted image f f.datas.items m
+is_doubtful Ffs image f m = is_doubted image f (blocks image) m
 
 -- whether the node has a mark
 abbrev pub has_mark : List Bool → ℕ → Bool

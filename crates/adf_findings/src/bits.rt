@@ -1,19 +1,23 @@
 // Comparison of the bitmap with the blocks that are owned.
 
-ghost use Rattle.std.specs.Prelude.{◌≡◌, ◌≤◌, ◌<◌, ◌+◌, ◌-◌, ◌/◌, ◌%◌, ◌||◌, ◌↔◌, List, false, length, slice_index_or, IsTrue, OnOk};
-ghost use Rattle.adf_blocks.specs.declared.layout.TheConstants.{PAGE_BITS};
+ghost use Rattle.std.specs.Prelude.{◌≡◌, ◌≤◌, ◌<◌, ◌+◌, ◌-◌, ◌*◌, ◌%◌, ◌||◌, ◌↔◌, ℕ, false};
+ghost use Rattle.std.specs.Prelude.{length, min, slice_index_or, IsBitSet, IsTrue, OnOk};
+ghost use Rattle.adf_blocks.specs.declared.layout.TheConstants.{PAGE_BITS, PAGE_WORDS};
 ghost use Rattle.adf_blocks.specs.Sizes.{blocks};
+ghost use Rattle.std.specs.BTreeMap.{get};
 ghost use Rattle.adf_volume.specs.Image.{IsFreeAt};
-ghost use Rattle.adf_findings.specs.Survey.{Course, FindingValue, IsCourse, IsValidated, is_cache};
-ghost use Rattle.adf_findings.specs.Bits.{IsPageCompared};
-ghost use Rattle.adf_findings.specs.Found.{BitTells, IsBitOf, IsCompleted, IsFinished, HasReportedOn, Stands, bit_cause};
+ghost use Rattle.adf_volume.specs.Walk.Role.{Page};
+ghost use Rattle.adf_findings.specs.Parts.{by_key, key_of};
+ghost use Rattle.adf_findings.specs.Survey.{IsValidated, is_cache};
+ghost use Rattle.adf_findings.specs.Bits.{IsBitCompared, IsPageCompared};
+ghost use Rattle.adf_findings.specs.Found.{IsBitOf, IsCompleted, IsFinished, HasReportedOn, bit_cause};
 
 use crate::found::Found;
 use crate::image::Image;
 use crate::part::{Finding, Key, Part};
 use adf_base::NoMemory;
 use adf_blocks::{
-    BITMAP_FLAG, Cause, OWN_KEY, PAGE_FIRST, T_DIR_CACHE, TYPE, VALID, is_set, place_of,
+    BITMAP_FLAG, Cause, OWN_KEY, PAGE_FIRST, PAGE_WORDS, T_DIR_CACHE, TYPE, VALID, is_set,
 };
 use std::collections::BTreeMap;
 
@@ -33,6 +37,13 @@ fn is_bit_set(image: &Image<'_>, at: u32, bit: u32) -> bool
     is_set(word, bit % 32)
 }
 
+/// The block that is taken as a page of the bitmap.
+pub fn page_at(taken: &BTreeMap<Key, u32>, i: u32) -> Option<u32>
+    ensures { result ≡ get by_key taken.now (key_of (Page i)) }
+{
+    taken.get(&Part::Page(i).key()).copied()
+}
+
 /// A bit of a page; `None` if the page was not taken.
 pub fn bit_of(image: &Image<'_>, taken: &BTreeMap<Key, u32>, page: u32, bit: u32) -> Option<bool>
     requires { bit < PAGE_BITS }
@@ -45,23 +56,21 @@ pub fn bit_of(image: &Image<'_>, taken: &BTreeMap<Key, u32>, page: u32, bit: u32
     }
 }
 
-// The block of the page that has the bit of block `b`, if the bit is compared; that of the block before, if they have
+// The block of the page that has word `i` of the bitmap, if its bits are compared; that of the word before, if they have
 // one page.
-fn page_of(image: &Image<'_>, found: &Found, b: u32, before: Option<u32>) -> Option<u32>
-    requires low { 2 ≤ b }
-    requires before { ((b - 2) % PAGE_BITS ≡ 0 → ⊥)
-        → IsPageCompared image.now found.now.taken b before }
-    ensures { IsPageCompared image.now found.now.taken b result }
+fn page_of(image: &Image<'_>, found: &Found, i: u32, before: Option<u32>) -> Option<u32>
+    requires before { (i % PAGE_WORDS ≡ 0 → ⊥)
+        → IsPageCompared image.now found.now.taken (2 + 32 * i) before }
+    ensures { IsPageCompared image.now found.now.taken (2 + 32 * i) result }
 {
-    let (page, bit) = place_of(b);
-    if bit != 0 {
+    let words = PAGE_WORDS as u32;
+    if i % words != 0 {
         return before;
     }
     if !is_validated(image) {
         return None;
     }
-    let key = Part::Page(page).key();
-    found.taken.get(&key).copied()
+    page_at(&found.taken, i / words)
 }
 
 // Whether a block says that it is a directory cache, on a volume that has them.
@@ -96,42 +105,32 @@ fn bit_cause(
     }
 }
 
-// The cause of the bit of block `b`, whose page is at a block, if it is compared and disagrees.
-fn cause_of_bit(image: &Image<'_>, found: &Found, page: Option<u32>, b: u32) -> Option<Cause>
-    requires low { 2 ≤ b }
-    requires inside { b < blocks image.now }
-    requires owned { length found.now.owned.items ≡ blocks image.now }
-    requires page { IsPageCompared image.now found.now.taken b page }
-    ensures { (s : Course) (fs : List FindingValue) → IsCourse image.now s
-        → Stands image.now found.now
-        (record { walk = s.walk; skipped = s.skipped; findings = fs })
-        → BitTells image.now s b result }
+// Whether the bits of a word are set for the blocks without an owner alone, of those from `first` up to, but not
+// including, `end`.
+fn agree(found: &Found, first: u32, end: u32, word: u32) -> bool
+    requires inside { end ≤ length found.now.owned.items }
+    requires word { end ≤ first + 32 }
+    ensures { IsTrue result → (b : ℕ) → first ≤ b → b < end
+        → IsBitSet word (b - first) ↔ (slice_index_or found.now.owned.items b false ≡ false) }
 {
-    match page {
-        Some(at) => {
-            let is_free = is_bit_set(image, at, place_of(b).1);
-            bit_cause(image, found, b, found.owned[b as usize], is_free)
+    for b in first..end {
+        if found.owned[b as usize] == is_set(word, b - first) {
+            return false;
         }
-        None => None,
     }
+    true
 }
 
-// Compares the bit of block `b`, whose page is at a block, and notes a finding if it disagrees.
-#[tactic(auto, using(crate::proofs::BitSteps::none_on))]
-fn compare_bit(
-    image: &Image<'_>,
-    found: &mut Found,
-    page: Option<u32>,
-    b: u32,
-) -> Result<(), NoMemory>
+// Compares the bit of block `b`, and notes a finding if it disagrees.
+fn compare_bit(image: &Image<'_>, found: &mut Found, b: u32, is_free: bool) -> Result<(), NoMemory>
     requires low { 2 ≤ b }
     requires inside { b < blocks image.now }
-    requires page { IsPageCompared image.now found.old.taken b page }
+    requires bit { IsBitCompared image.now found.old.taken b is_free }
     requires reported { HasReportedOn image.now found.old b }
     ensures reported { OnOk result (HasReportedOn image.now found.new (b + 1)) }
     ensures taken { OnOk result (found.new.taken ≡ found.old.taken) }
 {
-    match cause_of_bit(image, found, page, b) {
+    match bit_cause(image, found, b, found.owned[b as usize], is_free) {
         Some(cause) => found.report(Finding {
             part: None,
             block: b,
@@ -141,17 +140,47 @@ fn compare_bit(
     }
 }
 
+// Compares the bits of word `i` of the bitmap, whose page is at a block, with the owners of its blocks.
+fn compare_word(
+    image: &Image<'_>,
+    found: &mut Found,
+    page: Option<u32>,
+    i: u32,
+) -> Result<(), NoMemory>
+    requires inside { 2 + 32 * i < blocks image.now }
+    requires page { IsPageCompared image.now found.old.taken (2 + 32 * i) page }
+    requires reported { HasReportedOn image.now found.old (2 + 32 * i) }
+    ensures reported { OnOk result (HasReportedOn image.now found.new
+        (min (2 + 32 * (i + 1)) (blocks image.now))) }
+    ensures taken { OnOk result (found.new.taken ≡ found.old.taken) }
+{
+    let Some(at) = page else {
+        return Ok(());
+    };
+    let blocks = image.blocks();
+    let first = 2 + 32 * i;
+    let end = (first + 32).min(blocks);
+    let word = image.word(at, PAGE_FIRST + i as usize % PAGE_WORDS);
+    if agree(found, first, end, word) {
+        return Ok(());
+    }
+    for b in first..end {
+        compare_bit(image, found, b, is_set(word, b - first))?;
+    }
+    Ok(())
+}
+
 /// If the bitmap is valid, compares the bit of each block with its owner. Skips a block if its page was not taken, or
 /// if it has no owner and was skipped or is a directory cache.
-#[tactic(auto, using(crate::proofs::BitSteps::reported_first, crate::proofs::BitSteps::reported_last))]
+#[tactic(auto, using(crate::proofs::BitSteps::reported_first))]
 pub fn compare(image: &Image<'_>, found: &mut Found) -> Result<(), NoMemory>
     requires { IsFinished image.now found.old }
     ensures { OnOk result (IsCompleted image.now found.new) }
 {
     let mut page = None;
-    for b in 2..image.blocks() {
-        page = page_of(image, found, b, page);
-        compare_bit(image, found, page, b)?;
+    for i in 0..(image.blocks() - 2).div_ceil(32) {
+        page = page_of(image, found, i, page);
+        compare_word(image, found, page, i)?;
     }
     Ok(())
 }

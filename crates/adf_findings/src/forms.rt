@@ -87,15 +87,14 @@ pub fn first_cause(image: &Image<'_>, part: Part, b: u32, context: Context) -> O
     requires { b < blocks image.now }
     ensures { result ≡ first_cause (form_of image.now part b context) }
 {
-    let block = image.block(b);
     match part {
         Part::Root | Part::MapExt(_) => None,
-        Part::Page(_) => match read_page(block) {
+        Part::Page(_) => match read_page(image.block(b)) {
             Ok(_) => None,
             Err(cause) => Some(cause),
         },
         Part::Head { slot, .. } => cause_of_head(image, slot, b, context.up),
-        Part::Ext(_, _) => match read_ext(block, b, context.up) {
+        Part::Ext(_, _) => match read_ext(image.block(b), b, context.up) {
             Ok(_) => None,
             Err(cause) => Some(cause),
         },

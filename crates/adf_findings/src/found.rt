@@ -11,7 +11,7 @@ ghost use Rattle.adf_volume.specs.Walk.{Walk};
 ghost use Rattle.adf_findings.specs.Parts.{by_key, finding_value, role_of};
 ghost use Rattle.adf_findings.specs.Found.{AreNamed, AreSame, Stands, IsChain, IsKept, IsReported, IsOwned, IsBlockSkipped};
 ghost use Rattle.adf_findings.specs.Found.{HasValidName, IsPut, IsTaken, KeepsName, KeepsParts, data_number};
-ghost use Rattle.adf_findings.specs.Found.{entry_number, known_at, member_in, new_in, with_data};
+ghost use Rattle.adf_findings.specs.Found.{entry_number, known_at, member_in, new_in};
 ghost use Rattle.adf_findings.specs.Survey.{begun};
 
 use crate::header_name::upper_name;
@@ -21,14 +21,6 @@ use adf_base::NoMemory;
 use adf_tree::NameSet;
 use std::alloc::Global;
 use std::collections::BTreeMap;
-
-/// A data block that is taken: the node of its file, its number in the file, from 1, and its block.
-#[derive(Clone, Copy, PartialEq, Eq, Drop)]
-pub struct DataBlock {
-    pub node: u32,
-    pub number: u32,
-    pub block: u32,
-}
 
 /// The position of a header in its directory: the slot, and the index in the slot's chain.
 #[derive(Clone, Copy, PartialEq, Eq, Drop)]
@@ -40,8 +32,7 @@ pub struct ChainPlace {
 /// The state of a survey: the blocks of the taken parts by key, except headers and data blocks; for each block whether
 /// it is taken, the node of the entry that it belongs to (0 if there is none), the number of the data block that it is
 /// (from 1; 0 if it is none), and whether it was skipped; the number of blocks not taken; the blocks of nodes; the valid
-/// names in the current chain; the findings; the parents of nodes; the positions of headers, from node 1 on; and the data
-/// blocks.
+/// names in the current chain; the findings; the parents of nodes; and the positions of headers, from node 1 on.
 #[derive(Drop)]
 pub struct Found {
     pub taken: BTreeMap<Key, u32>,
@@ -55,7 +46,6 @@ pub struct Found {
     pub findings: Vec<Finding>,
     pub parents: Vec<u32>,
     pub places: Vec<ChainPlace>,
-    pub datas: Vec<DataBlock>,
 }
 
 // Adds an entry to a map.
@@ -105,7 +95,6 @@ impl Found {
             findings: Vec::new(alloc),
             parents,
             places: Vec::new(alloc),
-            datas: Vec::new(alloc),
         };
         found.own(Part::Root, root)?;
         match found.nodes.push(root) {
@@ -139,28 +128,14 @@ impl Found {
         !self.owned.get(b as usize).copied().unwrap_or(false)
     }
 
-    // Keeps the block of a part by its key; a data block with its file's node, a header with its own node.
+    // Keeps the block of a part by its key, unless it is a header or a data block.
     #[inline(always)]
     fn keep_block(&mut self, part: Part, b: u32) -> Result<(), NoMemory>
         ensures taken { OnOk result (IsPut part b self.old.taken self.new.taken) }
-        ensures datas { OnOk result (self.new.datas.items
-            ≡ with_data (role_of part) b self.old.datas.items) }
-        ensures rest { OnOk result (self.new
-            ≡ record self.old { taken = self.new.taken; datas = self.new.datas }) }
+        ensures rest { OnOk result (self.new ≡ record self.old { taken = self.new.taken }) }
     {
         match part {
-            Part::Data(node, number) => {
-                let data_block = DataBlock {
-                    node,
-                    number,
-                    block: b,
-                };
-                if self.datas.push(data_block).is_err() {
-                    return Err(NoMemory);
-                }
-                Ok(())
-            }
-            Part::Head { .. } => Ok(()),
+            Part::Head { .. } | Part::Data(_, _) => Ok(()),
             _ => put(&mut self.taken, part.key(), b),
         }
     }
@@ -168,31 +143,31 @@ impl Found {
     // Keeps the entry that a part belongs to as that of block `b`.
     #[inline(always)]
     fn keep_owner(&mut self, part: Part, b: u32)
+        requires { b < length self.old.owners.items }
         ensures owners { self.new.owners.items
             ≡ set self.old.owners.items b (entry_number (role_of part)) }
         ensures rest { self.new ≡ record self.old { owners = self.new.owners } }
     {
-        if (b as usize) < self.owners.len() {
-            self.owners[b as usize] = part.entry_number();
-        }
+        self.owners[b as usize] = part.entry_number();
     }
 
     // Keeps the number of the data block that a part is.
     #[inline(always)]
     fn keep_number(&mut self, part: Part, b: u32)
+        requires { b < length self.old.numbers.items }
         ensures numbers { self.new.numbers.items
             ≡ set self.old.numbers.items b (data_number (role_of part)) }
         ensures rest { self.new ≡ record self.old { numbers = self.new.numbers } }
     {
-        if (b as usize) < self.numbers.len() {
-            self.numbers[b as usize] = part.data_number();
-        }
+        self.numbers[b as usize] = part.data_number();
     }
 
     // Makes a part the owner of block `b`.
     #[inline(always)]
     fn own(&mut self, part: Part, b: u32) -> Result<(), NoMemory>
-        requires inside { b < length self.old.owned.items }
+        requires owned { b < length self.old.owned.items }
+        requires owners { b < length self.old.owners.items }
+        requires numbers { b < length self.old.numbers.items }
         requires some { 1 ≤ self.old.left }
         ensures owned { OnOk result (IsOwned part b self.old self.new) }
         ensures rest { OnOk result (AreSame self.old self.new) }
@@ -280,7 +255,9 @@ impl Found {
     #[tactic(auto, using(crate::proofs::Taking::taken_last))]
     #[inline(always)]
     pub fn take(&mut self, part: Part, b: u32) -> Result<(), NoMemory>
-        requires inside { b < length self.old.owned.items }
+        requires owned { b < length self.old.owned.items }
+        requires owners { b < length self.old.owners.items }
+        requires numbers { b < length self.old.numbers.items }
         requires some { 1 ≤ self.old.left }
         ensures { OnOk result (IsTaken part b self.old self.new) }
     {

@@ -1,26 +1,15 @@
 // The pages of the bitmap, and what it tells of blocks.
 
 ghost use Rattle.std.specs.Prelude.{◌≡◌, ◌↔◌, ℕ, IfSome, IsSome, IsTrue, Some};
-ghost use Rattle.std.specs.BTreeMap.{get};
 ghost use Rattle.adf_volume.specs.Walk.{Has, IsFreeIn};
 ghost use Rattle.adf_volume.specs.Walk.Role.{Page};
-ghost use Rattle.adf_findings.specs.Parts.{by_key, key_of};
 ghost use Rattle.adf_findings.specs.Survey.{OnSurvey};
 ghost use Rattle.adf_findings.specs.SurveyResult.{IsBitStated};
 
-use crate::bits::{bit_of, is_validated};
-use crate::part::{Key, Part};
+use crate::bits::{bit_of, is_validated, page_at};
 use crate::start::start;
 use crate::survey_result::Survey;
 use adf_blocks::{page_count, place_of};
-use std::collections::BTreeMap;
-
-// The block that is taken as a page of the bitmap.
-fn page_at(taken: &BTreeMap<Key, u32>, i: u32) -> Option<u32>
-    ensures { result ≡ get by_key taken.now (key_of (Page i)) }
-{
-    taken.get(&Part::Page(i).key()).copied()
-}
 
 // Whether it is this block.
 #[tactic(auto, using(std::proofs::lemmas::Bool::Decides::nat_tests))]

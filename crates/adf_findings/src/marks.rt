@@ -2,14 +2,16 @@
 
 ghost use Rattle.std.specs.Prelude.{◌≡◌, ◌==◌, ◌&&◌, ℕ, IfOk, map, not};
 ghost use Rattle.std.specs.List.{filter};
+ghost use Rattle.adf_blocks.specs.Sizes.{blocks};
 ghost use Rattle.adf_findings.specs.Files.{is_harmless, is_light};
 ghost use Rattle.adf_findings.specs.Parts.{finding_value};
-ghost use Rattle.adf_findings.specs.Marks.{blamed, doubted, has_mark, is_blamed, is_doubted, is_header, is_undoubted};
+ghost use Rattle.adf_findings.specs.Marks.{blamed, doubted, has_mark, is_blamed, is_doubted, is_header, is_node, is_undoubted};
 
 use crate::concern::Concern;
-use crate::found::{DataBlock, Found};
+use crate::found::Found;
 use crate::image::Image;
 use crate::part::{Finding, Part};
+use crate::survey_result::number_at;
 use adf_base::NoMemory;
 use adf_blocks::Cause;
 use adf_tree::Kind;
@@ -61,17 +63,18 @@ fn blamed(found: &Found, part: Option<Part>) -> Option<Concern>
     }
 }
 
-// The file of a data block, if the block was also skipped, or says that it is an OFS one.
-fn doubted(image: &Image<'_>, found: &Found, data_block: DataBlock) -> Option<u32>
-    ensures { result ≡ doubted image.now found.now data_block }
+// The file of the data block at block `b`, if the block was also skipped, or says that it is an OFS one; `None` if it is
+// no data block.
+fn doubted(image: &Image<'_>, found: &Found, b: u32) -> Option<u32>
+    ensures { result ≡ doubted image.now found.now b }
 {
-    let DataBlock {
-        node,
-        number,
-        block,
-    } = data_block;
-    let is_avoided = found.avoided.get(block as usize).copied().unwrap_or(false);
-    if is_avoided || image.says_data_of(found.node_block(node), number, block) {
+    let number = number_at(&found.numbers, b as usize);
+    if number == 0 {
+        return None;
+    }
+    let node = number_at(&found.owners, b as usize);
+    let is_avoided = found.avoided.get(b as usize).copied().unwrap_or(false);
+    if is_avoided || image.says_data_of(found.node_block(node), number, b) {
         Some(node)
     } else {
         None
@@ -107,16 +110,24 @@ pub fn strike_blamed(found: &Found, marks: &mut Vec<bool>)
     }
 }
 
+// Removes the mark of the file of the data block at block `b`, if the block was also skipped, or says that it is an OFS one.
+fn strike_doubted_at(image: &Image<'_>, found: &Found, marks: &mut Vec<bool>, b: u32)
+    ensures { (m : ℕ) → has_mark marks.new.items m
+        ≡ (has_mark marks.old.items m && not (is_node (doubted image.now found.now b) m)) }
+{
+    if let Some(node) = doubted(image, found, b) {
+        strike(marks, node);
+    }
+}
+
 // Removes the marks of files with a data block that was also skipped, or says that it is an OFS one.
 fn strike_doubted(image: &Image<'_>, found: &Found, marks: &mut Vec<bool>)
     ensures { (m : ℕ) → has_mark marks.new.items m
         ≡ (has_mark marks.old.items m && not
-        (is_doubted image.now found.now found.now.datas.items m)) }
+        (is_doubted image.now found.now (blocks image.now) m)) }
 {
-    for data_block in &found.datas {
-        if let Some(node) = doubted(image, found, *data_block) {
-            strike(marks, node);
-        }
+    for b in 0..image.blocks() {
+        strike_doubted_at(image, found, marks, b);
     }
 }
 

@@ -1,15 +1,17 @@
 // What the data blocks of a survey say of the kind of their volume.
 
-ghost use Rattle.std.specs.Prelude.{◌≡◌, ◌<◌, ℕ, List};
+ghost use Rattle.std.specs.Prelude.{◌≡◌, ◌≤◌, ◌<◌, ℕ, List, IsTrue};
 ghost use Rattle.adf_blocks.specs.Sizes.{blocks};
-ghost use Rattle.adf_volume.specs.Walk.{Role};
+ghost use Rattle.adf_volume.specs.Walk.{Role, heads, node_block};
+ghost use Rattle.adf_findings.specs.Files.{grave};
+ghost use Rattle.adf_findings.specs.Sound.{IsSound};
 ghost use Rattle.adf_findings.specs.OwnKind.{is_mistyped, is_other_kind, retyped, said_in, tallied, tally};
 ghost use Rattle.adf_findings.specs.Survey.{OnSurvey};
 
 use crate::image::Image;
 use crate::start::start;
 use crate::survey_result::{Survey, number_at};
-use adf_tree::Kind;
+use adf_tree::{Kind, Node};
 
 /// How many data blocks say that they are OFS ones, and how many do not.
 #[derive(Clone, Copy, PartialEq, Eq, Drop)]
@@ -75,12 +77,28 @@ impl Survey<'_> {
         tally
     }
 
+    // Whether each entry is sound by the grave findings.
+    fn are_whole(&self) -> bool
+        ensures { OnSurvey self.now.image (λ w fs. IsTrue result
+            → (n : ℕ) → 1 ≤ n → n ≤ heads w → IsSound self.now.image w (grave fs) n (node_block w n)) }
+    {
+        for n in 0..self.len() {
+            if !self.is_clear(Node(n + 1), true) {
+                return false;
+            }
+        }
+        true
+    }
+
     /// Whether the type is one of FFS, but more of the data blocks that are found say that they are OFS ones of their files than
     /// do not.
     #[tactic(auto, using(crate::proofs::OwnKinds::none_mistyped, crate::proofs::Openings::unbegun_walk))]
     pub fn is_mistyped(&self) -> bool
         ensures { OnSurvey self.now.image (λ w _. result ≡ is_mistyped self.now.image w) }
     {
+        if self.are_whole() {
+            return false;
+        }
         match start(self.image) {
             Ok(started) => self
                 .tally(&started.image)

@@ -297,7 +297,7 @@ impl Survey<'_> {
     }
 
     // Whether an entry is sound; by the grave findings alone, if these count.
-    fn is_clear(&self, n: Node, grave: bool) -> bool
+    pub(crate) fn is_clear(&self, n: Node, grave: bool) -> bool
         ensures { OnSurvey self.now.image (λ w fs.
             IsTrue result ↔ IsSound self.now.image w (counting grave fs) n (node_block w n)) }
     {

@@ -16,7 +16,8 @@ use Rattle.adf_findings.specs.Files.{named_from}
 use Rattle.adf_findings.specs.Found.{number_at, owner}
 use Rattle.adf_findings.specs.Remains.{data_found}
 use Rattle.adf_findings.specs.Survey.{FindingValue, IsSurvey}
-use Rattle.adf_findings.proofs.DataFound.{first_with, found_named, has_data, held_has}
+use Rattle.adf_findings.proofs.BlockOwners.{first_with}
+use Rattle.adf_findings.proofs.DataFound.{found_named, has_data, held_has}
 use Rattle.adf_findings.proofs.Keys.{lacks_at}
 use Rattle.adf_findings.proofs.Lookups.{file_between}
 use Rattle.adf_findings.proofs.SoundEntries.{one_part}

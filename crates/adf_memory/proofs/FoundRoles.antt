@@ -13,7 +13,7 @@ use Rattle.adf_volume.proofs.Gathered.IsGathered.{start, step}
 use Rattle.adf_findings.specs.Found.{data_number, entry_in, number_at, owner, owns}
 use Rattle.adf_findings.specs.Survey.{FindingValue, IsSurvey}
 use Rattle.adf_findings.specs.Survey.IsSurvey.{read, unread}
-use Rattle.adf_findings.proofs.DataFound.{first_with}
+use Rattle.adf_findings.proofs.BlockOwners.{first_with}
 use Rattle.adf_findings.proofs.OneSurvey.{gathered}
 use Rattle.adf_findings.proofs.SoundEntries.{one_part}
 use Rattle.adf_findings.proofs.SoundMarks.{owner_of}

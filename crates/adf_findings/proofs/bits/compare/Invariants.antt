@@ -1,9 +1,12 @@
-use Rattle.std.proofs.Common.{◌≡◌, ◌-◌, ◌%◌}
-use Rattle.adf_blocks.specs.declared.layout.TheConstants.{PAGE_BITS}
+use Rattle.std.proofs.Common.{◌≡◌, ◌+◌, ◌*◌, ◌%◌, min}
+use Rattle.adf_blocks.specs.declared.layout.TheConstants.{PAGE_WORDS}
+use Rattle.adf_blocks.specs.Sizes.{blocks}
 use Rattle.adf_findings.specs.Bits.{IsPageCompared}
 use Rattle.adf_findings.specs.Found.{HasReportedOn}
 use Rattle.adf_findings.proofs.bits.compare.Given as goal
 
-abbrev pub invariant-loop-b : goal.invariant-loop-b
-invariant-loop-b l =
-    HasReportedOn l.image l.found l.b × (((l.b - 2) % PAGE_BITS ≡ 0 → ⊥) → IsPageCompared l.image l.found.taken l.b l.page)
+abbrev pub invariant-loop-i : goal.invariant-loop-i
+invariant-loop-i l = record {
+  reported : HasReportedOn l.image l.found (min (2 + 32 * l.i) (blocks l.image));
+  page : (l.i % PAGE_WORDS ≡ 0 → ⊥) → IsPageCompared l.image l.found.taken (2 + 32 * l.i) l.page;
+}

@@ -20,7 +20,6 @@ returns-in-Ok-push-clause-stands c =
       findings = c.new-4.result;
       parents = c.in-Ok-vec-3.parents;
       places = c.new-5.result;
-      datas = c.new-6.result;
     } in
     let marks : c.in-Ok.owned.items ≡ replicate c.blocks-blocks.result false = c.in-Ok.ensures.items_if_clones_equal (λ y h. h) in
     let held : c.in-Ok-vec.owners.items ≡ replicate c.blocks-blocks.result 0 = c.in-Ok-vec.ensures.items_if_clones_equal (λ y h. h) in
@@ -30,7 +29,7 @@ returns-in-Ok-push-clause-stands c =
     stands_begun c.args.image.now f c.own.new.self (record c.own.new.self { nodes = c.push.new.self }) c.new.ensures.empty (marks ∙ size)
     (held ∙ ap (λ n. replicate n 0) c.blocks-blocks.ensures.blocks) (numbered ∙ ap (λ n. replicate n 0) c.blocks-blocks.ensures.blocks) (free ∙ size)
     c.blocks-blocks.ensures.blocks c.new-2.ensures.items c.new-4.ensures.items
-    (c.in-Ok-vec-3.ensures.items_if_clones_equal (λ y h. h)) c.new-5.ensures.items c.new-6.ensures.items
+    (c.in-Ok-vec-3.ensures.items_if_clones_equal (λ y h. h)) c.new-5.ensures.items
     (subst (λ r. IsOwned RootPart r f c.own.new.self) c.root-root.ensures.root c.in_ok-own.ensures.owned) c.in_ok-own.ensures.rest refl
     (subst (λ r. c.push.new.self.items ≡ c.own.new.self.nodes.items ++ r ∷ []) c.root-root.ensures.root c.in-Ok-push.ensures.items)
     (subst (λ r. r < blocks c.args.image.now) c.root-root.ensures.root c.root-root.ensures.inside)
