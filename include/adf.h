@@ -477,7 +477,8 @@ struct adf_rescue_told {
  *    told->losses and told->paths are the whole numbers: a table that is smaller has the front part. The rest of each room is
  *    unchanged.
  * An adf_cause: nothing stands. It is the first fault of the image, at told->block.
- * ADF_RESCUE_SMALL_ROOM: the volume has told->blocks blocks, and the room has fewer bytes.
+ * ADF_RESCUE_SMALL_ROOM: the volume has told->blocks blocks, and the room has fewer bytes. A volume has as many blocks as the image;
+ *    if blocks is not 0, it has so many.
  * ADF_NO_MEMORY: an allocation failed. All fields are 0.
  *
  * Whatever is returned but 0, the three rooms are unchanged.
@@ -650,6 +651,8 @@ uint8_t adf_run(const uint8_t *words, size_t words_length, const uint8_t *input,
  *    With `--list` the lines of what is found follow those of the findings, at status 0 too.
  *    For `rescue`, output has the new volume, and errors a line for each entry that it leaves out and for what is lost; or output
  *    is empty, and errors have the line of the first finding, and these lines behind it. If errors_full is set, call again with more room for them.
+ *    If the image does not begin with `DOS`, and one of its blocks 0 to 15 begins with `RDSK`, the last line of errors says that it is a
+ *    hard disk, for adf_disk_index.
  * 2, 3: as for adf_run. The image is `input`, and no file is opened: arguments that name a file are refused, at status 2.
  *
  * Nothing is said about the bytes of a room after those that `moved` counts.

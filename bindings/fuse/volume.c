@@ -81,13 +81,15 @@ static int say_refused(const struct volume *volume, const char *name, uint8_t ca
     return REFUSED;
 }
 
+static bool begins_with(const char *line, const char *front) { return strncmp(line, front, strlen(front)) == 0; }
+
 /* Says how much of an image is not in the volume of what stands, by the lines of the rescue. */
 static void say_left_out(const char *name, size_t findings, const char *lines) {
     size_t files = 0, parts = 0;
     for (const char *line = lines; *line != '\0'; line = strchr(line, '\n') + 1)
-        if (strncmp(line, "lost: ", 6) == 0)
+        if (begins_with(line, "lost: "))
             parts++;
-        else
+        else if (begins_with(line, "damaged: ") || begins_with(line, "link: ") || begins_with(line, "no room: "))
             files++;
     fprintf(stderr, "adf-mount: %s: %zu finding%s, %zu file%s left out", name, findings, findings == 1 ? "" : "s", files,
             files == 1 ? "" : "s");

@@ -624,11 +624,12 @@ class Survey(_ReadOnly):
         status, output, errors = _survey_run(words, *self._given)
         if status == 3:
             raise NoMemory(errors.decode("ascii").strip())
-        if errors == b"bad path\n" or errors.startswith(b"no such path: "):
+        said = errors.partition(b"\n")[0]
+        if said == b"bad path" or said.startswith(b"no such path: "):
             raise NoSuchPath(path)
-        if errors == b"not a file\n":
+        if said == b"not a file":
             raise NotAFile(errno.EISDIR, os.strerror(errno.EISDIR), path)
-        if errors == b"damaged\n":
+        if said == b"damaged":
             raise Damaged(errno.EIO, "damaged", path)
         return output, errors
 

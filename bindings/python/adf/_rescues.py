@@ -8,6 +8,7 @@ from typing import NamedTuple
 import adf
 
 BLOCKS = re.compile(r"blocks? (\d+)(?: to (\d+))?")
+WHYS = ("damaged", "link", "no room", "lost")
 
 
 class LeftOut(NamedTuple):
@@ -48,4 +49,4 @@ def rescue(image: adf.Image, blocks: int | None = None) -> tuple[bytes, list[Lef
         place, _, cause = lines[0]
         number = next(number for number in range(1, adf.NO_MEMORY + 1) if adf._cause(number) == cause)
         raise adf.Refused(cause, int(place.split()[1]), number)
-    return volume, [LeftOut(why, adf._plain(path)) for why, _, path in lines]
+    return volume, [LeftOut(why, adf._plain(path)) for why, _, path in lines if why in WHYS]

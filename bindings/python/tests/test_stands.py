@@ -56,6 +56,12 @@ class Stands(Folder):
             warnings.simplefilter("error", adf.DamagedWarning)
             self.assertRaises(adf.DamagedWarning, adf.open, "a.adf")
 
+    def test_takes_no_hint_to_a_hard_disk_for_what_is_left_out(self):
+        image = bytearray(DAMAGED)
+        image[:4], image[12 * 512 : 12 * 512 + 4] = bytes(4), b"RDSK"  # the boot block, and a free block
+        self.assertEqual(opened(bytes(image))[0].left_out, [FAULT])
+        self.assertRaises(adf.Damaged, adf.survey(bytes(image)).read, "a")
+
     def test_can_be_closed_and_pickled(self):
         volume = adf.Rescued(DAMAGED)
         copy = pickle.loads(pickle.dumps(volume))

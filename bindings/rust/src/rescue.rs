@@ -22,7 +22,7 @@ pub fn remains(path: &str, image: &[u8]) -> Result<Remains, Failed> {
         return Err(Failed::with(1, "not unique"));
     }
     let answer = command::survey(&["cat", "--damaged", "--", path], image);
-    let lost: Option<Vec<_>> = String::from_utf8_lossy(&answer.errors).lines().map(lost_of).collect();
+    let lost: Option<Vec<_>> = answer.lines().iter().map(|line| lost_of(line)).collect();
     match lost {
         Some(lost) if answer.status <= 1 => Ok(Remains { bytes: answer.output, lost }),
         _ => Err(Failed { answer }),
@@ -103,7 +103,7 @@ pub enum Reason {
 /// finding.
 pub fn rescue(image: &[u8]) -> Result<Rescue, Failed> {
     let mut answer = command::survey(&["rescue"], image);
-    let left_out: Option<Vec<_>> = String::from_utf8_lossy(&answer.errors).lines().map(left_out_of).collect();
+    let left_out: Option<Vec<_>> = answer.lines().iter().map(|line| left_out_of(line)).collect();
     match left_out {
         Some(left_out) if answer.status <= 1 && !answer.output.is_empty() => {
             Ok(Rescue { image: std::mem::take(&mut answer.output), left_out })

@@ -21,11 +21,16 @@ use Rattle.adf_runs.specs.Commands.{Reply, bad_path, on_errors, on_output}
 use Rattle.adf_file_words.specs.SurveyLine.{QuestionValue, asked, cat, list, report, rescue}
 use Rattle.adf_survey_cmd.proofs.SomeRescues.{some_rescue as rescue_answered}
 use Rattle.adf_survey_cmd.proofs.SubjectBytes.{subject_bytes, typed_bytes}
-use Rattle.adf_survey_cmd.specs.Answers.{CopiesEntry, CopiesFound, CopiesFromSurvey, IsWholeFile, ListsSurvey, Surveys, no_path_line, told_status}
+use Rattle.adf_survey_cmd.specs.Answers.{CopiesEntry, CopiesFound, CopiesFromSurvey, IsWholeFile, ListsSurvey, QuestionAnswer, Surveys, no_path_line, told_status}
 use Rattle.adf_survey_cmd.specs.FoundLines.{has_its_data, listing_text}
+use Rattle.adf_survey_cmd.specs.Hints.{hinted}
 use Rattle.adf_survey_cmd.specs.Remains.{remains_reply}
 use Rattle.adf_survey_cmd.specs.Subject.{IsTyped, OfTyped, SubjectValue, begun_subject, sized, subject, told_text, typed_subject}
 use Rattle.adf_answers.specs.Answered.{HasSurveyAnswer}
+
+-- a question has an answer, to which the hint comes
+abbrev IsAnswered : QuestionValue → SubjectValue → Type 0
+IsAnswered q s = (reply : Reply) × QuestionAnswer q s reply
 
 some_typed : (s : SubjectValue) → (t : SubjectValue) × IsTyped s t
 some_typed s = let (w, fs, survey) = some_survey s.image in (typed_subject s w, (w, fs, survey, refl))
@@ -42,7 +47,7 @@ some_findings : (t : SubjectValue) → (reply : Reply) × Surveys t reply
 some_findings t =
     let (w, fs, survey) = some_survey t.image in (on_output (told_status t.front fs) (told_text t w fs), (w, fs, survey, refl))
 
-some_report : (blocks : Option ℕ) (input : List ℕ) → HasSurveyAnswer (asked blocks report) input
+some_report : (blocks : Option ℕ) (input : List ℕ) → IsAnswered report (subject blocks input)
 some_report blocks input = of_typed (subject blocks input) Surveys some_findings
 
 -- what is found
@@ -53,7 +58,7 @@ some_listing t =
     let (sound, marks) = some_marks t.image w fs survey fs in
     (on_output (told_status t.front fs) (listing_text date_of sound t w fs), (w, fs, survey, (date_of, date_of_is, sound, marks, refl)))
 
-some_list : (blocks : Option ℕ) (input : List ℕ) → HasSurveyAnswer (asked blocks list) input
+some_list : (blocks : Option ℕ) (input : List ℕ) → IsAnswered list (subject blocks input)
 some_list blocks input = of_typed (subject blocks input) ListsSurvey some_listing
 
 -- the bytes under a path
@@ -93,17 +98,17 @@ copied damaged path names text t =
     let (w, fs, survey) = some_survey t.image in
     let (reply, copies) = copy_of_found t w fs survey damaged names in (reply, (names, text, w, fs, survey, copies))
 
-copied_by : (blocks : Option ℕ) (damaged : Bool) (path input : List ℕ) → HasPathOrNone path → HasSurveyAnswer (asked blocks (cat damaged path)) input
+copied_by : (blocks : Option ℕ) (damaged : Bool) (path input : List ℕ) → HasPathOrNone path → IsAnswered (cat damaged path) (subject blocks input)
 copied_by blocks damaged path input (inl (names, text)) =
     let (reply, answer) = of_typed (subject blocks input) (CopiesFromSurvey damaged path) (copied damaged path names text) in (reply, inr answer)
 copied_by blocks damaged path input (inr bad) = (bad_path, inl (bad, refl))
 
-some_copy : (blocks : Option ℕ) (damaged : Bool) (path input : List ℕ) → HasSurveyAnswer (asked blocks (cat damaged path)) input
+some_copy : (blocks : Option ℕ) (damaged : Bool) (path input : List ℕ) → IsAnswered (cat damaged path) (subject blocks input)
 some_copy blocks damaged path input = copied_by blocks damaged path input (path_or_none path)
 
 -- a rescue
 
-some_rescue : (blocks : Option ℕ) (input : List ℕ) → AreBytes input → HasSurveyAnswer (asked blocks rescue) input
+some_rescue : (blocks : Option ℕ) (input : List ℕ) → AreBytes input → IsAnswered rescue (subject blocks input)
 some_rescue blocks input are =
     let (t, typed) = some_typed (subject blocks input) in
     let (reply, told) = rescue_answered t.end t.image (sized 2 (subject blocks input).image) (typed_bytes (subject blocks input) t typed (subject_bytes blocks input are)) in
@@ -111,8 +116,11 @@ some_rescue blocks input are =
 
 -- every question
 
+questioned : (blocks : Option ℕ) (q : QuestionValue) (input : List ℕ) → (q ≡ rescue → AreBytes input) → IsAnswered q (subject blocks input)
+questioned blocks report input are = some_report blocks input
+questioned blocks list input are = some_list blocks input
+questioned blocks (cat damaged path) input are = some_copy blocks damaged path input
+questioned blocks rescue input are = some_rescue blocks input (are refl)
+
 pub some_answer : (blocks : Option ℕ) (q : QuestionValue) (input : List ℕ) → (q ≡ rescue → AreBytes input) → HasSurveyAnswer (asked blocks q) input
-some_answer blocks report input are = some_report blocks input
-some_answer blocks list input are = some_list blocks input
-some_answer blocks (cat damaged path) input are = some_copy blocks damaged path input
-some_answer blocks rescue input are = some_rescue blocks input (are refl)
+some_answer blocks q input are = let (told, answer) = questioned blocks q input are in (hinted input told, (told, answer, refl))

@@ -28,3 +28,4 @@ pub mod BootImages
 -- rescues
 pub mod LossTables
 pub mod PreparedRescues
+pub mod RescueReplies

@@ -54,7 +54,7 @@ two_blocks image long =
     ap (λ n. take BOOT_LEN image ++ replicate n 0) none ∙ append-nil (take BOOT_LEN image)
 
 -- what has the type that its files say is as long
-typed_length : (s t : SubjectValue) → IsTyped s t → length t.image ≡ length s.image
+pub typed_length : (s t : SubjectValue) → IsTyped s t → length t.image ≡ length s.image
 typed_length s t (w, fs, h, e) =
     ap (λ (u : SubjectValue). length u.image) e
     ∙ cond_both (is_mistyped s.image w) (changed s (retyped s.image) type_line) s (λ (u : SubjectValue). length u.image ≡ length s.image)

@@ -1,4 +1,6 @@
 pub mod KeptBoots
+pub mod TableMarks
+pub mod HintedAnswers
 pub mod RunLines
 pub mod PendingLines
 pub mod FindingStatus

@@ -1,7 +1,7 @@
 -- What is answered to the front of an input that is longer than the largest image is answered to the whole of it.
 -- Letters: s, t what is surveyed; w the walk of a survey, fs its findings; n an entry's node.
 use Rattle.std.proofs.Common.{◌≡◌, ◌<◌, ◌≤◌, ◌+◌, ◌-◌, ◌*◌, ◌∙◌, ◌++◌, true, false, inl, inr, ℕ, Bool, List, [], ◌∷◌, Option, None, Some, refl, ap, ap₂, arith, subst, sym}
-use Rattle.std.proofs.Common.{length, replicate, take}
+use Rattle.std.proofs.Common.{◌==◌, ◌&&◌, cond, length, replicate, take}
 use Rattle.std.proofs.lemmas.Bool.{and_left, cond-false, false_from_ne_true}
 use Rattle.std.proofs.Math.Nat.{min-eq_left}
 use Rattle.std.proofs.lemmas.List.{take-take}
@@ -25,10 +25,12 @@ use Rattle.adf_rescue.proofs.OpenedImages.{length_opened}
 use Rattle.adf_rescue.proofs.MadeRoots.{sized as sized_len}
 use Rattle.adf_cmd.proofs.LongInputs.{long_fault, too_large}
 use Rattle.adf_survey_cmd.specs.Answers.{CopiesFound, CopiesFromSurvey, ListsSurvey, QuestionAnswer, SurveyAnswer, Surveys, TellsFound, told_status}
+use Rattle.adf_survey_cmd.specs.Hints.{disk_hint}
 use Rattle.adf_survey_cmd.specs.Subject.{IsTyped, OfTyped, SubjectValue, begun_subject, end_of, missing_text, sized, subject, told_text}
 use Rattle.adf_file_words.specs.SurveyLine.{AreFew, InquiryValue, QuestionValue, cat, list, report, rescue}
 use Rattle.adf_survey_cmd.specs.Lines.{findings_text, runs_from}
 use Rattle.adf_survey_cmd.specs.Rescues.{Rescues, RescuesBoth, RescuesFound, second_image}
+use Rattle.adf_survey_cmd.proofs.HintedAnswers.{same_disk}
 use Rattle.adf_survey_cmd.proofs.RescueAnswers.{none_hung}
 
 -- an input of a bad size has this finding
@@ -175,4 +177,8 @@ long_meant (Some n) q image bytes few e a b reply h =
 
 pub long_answers : (r : InquiryValue) (image bytes : List ℕ) → AreFew r.blocks → image ≡ take (512 * MOST_BLOCKS + 1) bytes
     → 512 * MOST_BLOCKS < length image → 512 * MOST_BLOCKS < length bytes → (reply : Reply) → SurveyAnswer r image reply → SurveyAnswer r bytes reply
-long_answers r image bytes few e a b reply h = long_meant r.blocks r.question image bytes few e a b reply h
+long_answers r image bytes few e a b reply (told, answer, is) = (
+  told,
+  long_meant r.blocks r.question image bytes few e a b told answer,
+  is ∙ ap (λ (d : Bool). cond ((told.status == 1) && d) (record told { errors = told.errors ++ disk_hint }) told) (same_disk image bytes e),
+)

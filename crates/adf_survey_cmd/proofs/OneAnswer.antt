@@ -17,6 +17,7 @@ use Rattle.adf_texts.specs.Lines.{fault_line}
 use Rattle.adf_runs.specs.Commands.{Reply, on_errors, on_output}
 use Rattle.adf_cmd.proofs.OneAnswer.{one_dates, refused_once}
 use Rattle.adf_survey_cmd.specs.Answers.{CopiesEntry, CopiesFound, CopiesFromSurvey, IsWholeFile, ListsSurvey, QuestionAnswer, RescuesTyped, SurveyAnswer, Surveys, TellsFound, told_status}
+use Rattle.adf_survey_cmd.specs.Hints.{hinted}
 use Rattle.adf_survey_cmd.specs.Subject.{IsTyped, OfTyped, SubjectValue, begun_subject, sized, subject, typed_subject}
 use Rattle.adf_survey_cmd.specs.Rescues.{Rescues, RescuesBy, RescuesFound, RescuesIn, RescuesSome, rescue_text, second_image}
 use Rattle.adf_file_words.specs.SurveyLine.{AsksSurvey, InquiryValue, QuestionValue, cat, list, report, rescue}
@@ -154,4 +155,5 @@ one_question (cat damaged path) s a b (inr h) (inr g) = typed_once s (CopiesFrom
 one_question rescue s a b x y = typed_rescued_once s a b x y
 
 pub one_answer : (r : InquiryValue) (input : List ℕ) (a b : Reply) → SurveyAnswer r input a → SurveyAnswer r input b → a ≡ b
-one_answer r input a b x y = one_question r.question (subject r.blocks input) a b x y
+one_answer r input a b (told, x, e) (other, y, f) =
+    e ∙ ap (hinted input) (one_question r.question (subject r.blocks input) told other x y) ∙ sym f

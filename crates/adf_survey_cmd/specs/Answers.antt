@@ -15,6 +15,7 @@ use Rattle.adf_runs.specs.Commands.{Command, Reply, on_errors, on_output}
 use Rattle.adf_file_runs.specs.FileRuns.{without_files}
 use Rattle.adf_file_words.specs.SurveyLine.{AreRefusedBySurvey, AsksSurvey, InquiryValue, QuestionValue, asked, cat, list, report, rescue, survey_file}
 use Rattle.adf_survey_cmd.specs.FoundLines.{has_its_data, listing_text}
+use Rattle.adf_survey_cmd.specs.Hints.{Hinted}
 use Rattle.adf_survey_cmd.specs.Remains.{WritesRemains}
 use Rattle.adf_survey_cmd.specs.Rescues.{Rescues}
 use Rattle.adf_survey_cmd.specs.Subject.{IsTyped, OfTyped, SubjectValue, sized, subject, told_text}
@@ -98,9 +99,9 @@ QuestionAnswer list s reply = OfTyped s ListsSurvey reply
 QuestionAnswer (cat damaged path) s reply = RefusesPath path reply ⊎ OfTyped s (CopiesFromSurvey damaged path) reply
 QuestionAnswer rescue s reply = RescuesTyped s reply
 
--- the answer to an inquiry
+-- the answer to an inquiry: that to its question, with the hint
 abbrev pub SurveyAnswer : InquiryValue → List ℕ → Reply → Type 0
-SurveyAnswer r input reply = QuestionAnswer r.question (subject r.blocks input) reply
+SurveyAnswer r input reply = Hinted input (QuestionAnswer r.question (subject r.blocks input)) reply
 
 -- words ask for one thing at most
 abbrev pub WordsAskForOneInquiry : Type 0

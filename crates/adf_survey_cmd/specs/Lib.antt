@@ -4,6 +4,7 @@ pub mod Subject
 pub mod FoundLines
 pub mod Rescues
 pub mod Remains
+pub mod Hints
 pub mod Answers
 -- The words of the command, as its loop keeps them.
 pub mod Work

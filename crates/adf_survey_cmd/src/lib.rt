@@ -3,6 +3,7 @@
 
 mod copying;
 mod found_lines;
+mod hints;
 mod laws;
 mod listing;
 mod lost_lines;

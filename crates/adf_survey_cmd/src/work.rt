@@ -11,6 +11,7 @@ ghost use Rattle.adf_survey_cmd.specs.Subject.{IsTyped, SubjectValue, begun_subj
 ghost use Rattle.adf_survey_cmd.specs.Work.{Answers, Meets, Shows};
 
 use crate::copying::{Asked, copy_found};
+use crate::hints::{hinted, is_hard_disk};
 use crate::listing::write_list;
 use crate::reporting::write_findings;
 use crate::rescuing::rescue_image;
@@ -21,7 +22,7 @@ use adf_file_words::{Question, SURVEY_USAGE as USAGE, parse_survey, survey_file}
 use adf_findings::{Survey, some_survey, survey};
 use adf_runs::{Outcome, Program, Sink, Source, WorkFault, read_input};
 use adf_tree::{Name, read_path};
-use std::alloc::Global;
+use std::alloc::{AllocError, Global};
 
 /// What is shown of the survey of an image.
 #[derive(Drop)]
@@ -198,6 +199,25 @@ impl Task {
 }
 
 impl Work {
+    // Does the work on what is surveyed of an input, if there was memory for that.
+    fn on_subject<W: Sink>(
+        &self,
+        alloc: Global,
+        subject: Result<Subject, AllocError>,
+        output: &mut W,
+    ) -> Outcome
+        requires { W.has_failed output.old ≡ false }
+        ensures ends { (r : InquiryValue) (s : SubjectValue) → Meets self.now r → IfOk subject (λ x. subject_value x ≡ s)
+            → EndsBy (QuestionAnswer r.question s) result (W.held output.old) (W.held output.new) }
+        ensures read { is_read_fault result ≡ false }
+        ensures written { W.has_failed output.new ≡ is_write_fault result }
+    {
+        match subject {
+            Ok(subject) => self.task.on_subject(alloc, subject, output),
+            Err(_) => Outcome::NoMemory,
+        }
+    }
+
     // Does the work on bytes that were read.
     fn on_read<W: Sink>(&self, alloc: Global, bytes: Vec<u8>, output: &mut W) -> Outcome
         requires { W.has_failed output.old ≡ false }
@@ -206,15 +226,16 @@ impl Work {
         ensures read { is_read_fault result ≡ false }
         ensures written { W.has_failed output.new ≡ is_write_fault result }
     {
-        match Subject::of_read(alloc, bytes, self.blocks) {
-            Ok(subject) => self.task.on_subject(alloc, subject, output),
-            Err(_) => Outcome::NoMemory,
-        }
+        let on_disk = is_hard_disk(&bytes);
+        let subject = Subject::of_read(alloc, bytes, self.blocks);
+        let outcome = self.on_subject(alloc, subject, output);
+        hinted(alloc, outcome, on_disk)
     }
 }
 
 impl Program for Work {
     ghost use Rattle.std.proofs.Common.{inl, refl, rules};
+    ghost use Rattle.adf_runs.specs.Commands.{bad_path};
     ghost use Rattle.adf_survey_cmd.specs.Answers.{survey_command};
     ghost use Rattle.adf_file_words.specs.SurveyLine.{asked, cat};
 
@@ -240,10 +261,9 @@ impl Program for Work {
     }
 
     fn on<W: Sink>(&self, alloc: Global, bytes: &[u8], output: &mut W) -> Outcome {
-        match Subject::of(alloc, bytes, self.blocks) {
-            Ok(subject) => self.task.on_subject(alloc, subject, output),
-            Err(_) => Outcome::NoMemory,
-        }
+        let subject = Subject::of(alloc, bytes, self.blocks);
+        let outcome = self.on_subject(alloc, subject, output);
+        hinted(alloc, outcome, is_hard_disk(bytes))
     }
 
     fn on_input<R: Source, W: Sink>(
@@ -260,7 +280,7 @@ impl Program for Work {
 
     ghost consistent = { record {
       taken = Prim.search rules;
-      unread = λ words h. (asked h.0 (cat h.1 h.2), h.3, λ input. inl (h.4, refl));
+      unread = λ words h. (asked h.0 (cat h.1 h.2), h.3, λ input. (bad_path, inl (h.4, refl), refl));
     } };
 }
 

@@ -1,8 +1,14 @@
-use Rattle.std.proofs.Common.{arith, ◌<◌, ◌*◌, ◌-◌, ℕ, List, Option, None, Some, length, replicate, take}
+use Rattle.std.proofs.Common.{arith, ◌≡◌, ◌≢◌, ◌∙◌, ◌<◌, ◌*◌, ◌-◌, ℕ, List, [], Option, None, Some, ap, length, replicate, subst, sym, take, true}
 use Rattle.std.specs.List.{All}
 use Rattle.std.proofs.lemmas.List.Elements.{All-append, All-get_or, All-replicate, All-take}
 use Rattle.adf_boot_blocks.proofs.CarrySums.{AreBytes}
+use Rattle.adf_boot_blocks.specs.BootBlocks.{begins_with_dos}
+use Rattle.adf_boot_blocks.specs.Writing.{HasBootOf}
+use Rattle.adf_runs.specs.Commands.{Reply}
+use Rattle.adf_file_words.specs.SurveyLine.{asked, rescue}
+use Rattle.adf_survey_cmd.specs.Answers.{SurveyAnswer}
 use Rattle.adf_survey_cmd.specs.Subject.{meant, subject}
+use Rattle.adf_survey_cmd.proofs.HintedAnswers.{hinted_output}
 use Rattle.adf_survey_cmd.proofs.KeptBoots.{keeps_boot, written_fits}
 use Rattle.adf_survey_cmd.proofs.laws.rescued_volumes.Goals as goal
 
@@ -19,8 +25,16 @@ are_bytes bs all k lt = All-get_or (λ byte. byte < 256) bs k 0 lt all
 pub returns-clause-fits : goal.returns-clause-fits
 returns-clause-fits c held a b fs boot reply whole writes = written_fits held a b fs boot reply whole writes
 
+-- the output is the same without the hint
+boot_kept : (blocks : Option ℕ) (input : List ℕ) (reply : Reply) → SurveyAnswer (asked blocks rescue) input reply → reply.output ≢ []
+    → All (λ byte. byte < 256) (subject blocks input).image → begins_with_dos (subject blocks input).image ≡ true
+    → HasBootOf (subject blocks input).image reply.output
+boot_kept blocks input reply (told, answer, is) some all begins =
+    let same : reply.output ≡ told.output = ap (λ (r : Reply). r.output) is ∙ hinted_output input told in
+    let s = subject blocks input in
+    subst (HasBootOf s.image) (sym same) (keeps_boot s told answer (λ none. some (same ∙ none)) (are_bytes s.image all) begins)
+
 pub returns-clause-boot : goal.returns-clause-boot
-returns-clause-boot c None input reply answers some all begins =
-    keeps_boot (subject None input) reply answers some (are_bytes input all) begins
-returns-clause-boot c (Some n) input reply answers some all begins =
-    keeps_boot (subject (Some n) input) reply answers some (are_bytes (meant (Some n) input) (meant_bytes (Some n) input all)) begins
+returns-clause-boot c None input reply answer some all begins = boot_kept None input reply answer some all begins
+returns-clause-boot c (Some n) input reply answer some all begins =
+    boot_kept (Some n) input reply answer some (meant_bytes (Some n) input all) begins
