@@ -3,8 +3,9 @@
 ghost use Rattle.std.specs.Prelude.{◌≡◌, IfOk};
 
 use adf_cmd::{Device, Sink, Source};
+use adf_runs::SeekingDevice;
 use std::io;
-use std::io::{Read, Write};
+use std::io::{Read, Seek, SeekFrom, Write};
 
 /// A reader and writer of std that counts its calls; the first moves nothing, and the others fail.
 #[derive(Drop)]
@@ -62,4 +63,73 @@ fn devices_pass_calls_on_once(rt: HostRuntime) {
         assert!(rt; Sink::failed(&writer));
     }
     assert_eq!(rt; calls, 2);
+}
+
+// The bytes of a long file.
+const LEN: usize = 1 << 41;
+
+/// A file of zeros, of which only the last 16 can be read.
+#[derive(Drop)]
+struct LongFile {
+    at: usize,
+    /// Where it says that it ends; `None`: it cannot seek.
+    end: Option<usize>,
+}
+
+impl Read for LongFile {
+    fn read(&mut self, buf: &mut [u8]) -> io::Result<usize> {
+        if self.at < LEN - 16 {
+            return Err(io::ErrorKind::Other.into());
+        }
+        let count = buf.len().min(LEN.saturating_sub(self.at));
+        buf[..count].fill(0);
+        self.at = self.at.saturating_add(count);
+        Ok(count)
+    }
+}
+
+impl Seek for LongFile {
+    fn seek(&mut self, to: SeekFrom) -> io::Result<u64> {
+        let Some(end) = self.end else {
+            return Err(io::ErrorKind::Other.into());
+        };
+        self.at = match to {
+            SeekFrom::Start(at) => at as usize,
+            SeekFrom::End(_) => end,
+            SeekFrom::Current(_) => self.at,
+        };
+        Ok(self.at as u64)
+    }
+}
+
+// Where the file says that it ends, how many bytes are to be passed over, and how many are; then how many a read gives.
+const PASSED: &[(Option<usize>, usize, usize, usize)] = &[
+    (Some(LEN), LEN - 10, LEN - 10, 10),
+    (Some(LEN), LEN + 1, LEN, 0),
+    // Behind the end that the file tells it is read.
+    (Some(LEN - 16), LEN - 10, LEN - 10, 10),
+    (Some(LEN - 16), LEN + 1, LEN, 0),
+];
+
+// What a device passes over by a seek is not read. Nothing is known of its bytes, so no clause says so.
+#[test]
+fn what_is_passed_over_is_not_read(rt: HostRuntime) {
+    for (end, limit, count, rest) in PASSED {
+        let mut device = SeekingDevice::new(LongFile { at: 0, end: *end });
+        if let Ok(passed) = device.skip(*limit) {
+            assert_eq!(rt; passed, *count);
+            assert!(rt; device.read(&mut [0; 32]) == Ok(*rest));
+        }
+        assert!(rt; !device.failed());
+    }
+}
+
+// A file that cannot seek, or tells no end, is read.
+#[test]
+fn what_cannot_seek_is_read(rt: HostRuntime) {
+    for end in [None, Some(0)] {
+        let mut device = SeekingDevice::new(LongFile { at: 0, end });
+        assert!(rt; device.skip(1).is_err());
+        assert!(rt; device.failed());
+    }
 }

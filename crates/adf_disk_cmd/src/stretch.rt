@@ -10,7 +10,7 @@ ghost use Rattle.adf_runs.specs.Streams.{TakesAtMost, is_device};
 
 use crate::work::MOST_DISK_BYTES;
 use adf_partitions::Place;
-use adf_runs::{Failed, Source, StreamFault, pass_over};
+use adf_runs::{Failed, Source, StreamFault};
 use std::alloc::{AllocError, Global};
 
 /// The most bytes that are held before the volume that is read: so what is held is moved once for as many.
@@ -91,13 +91,7 @@ impl Stretch {
     }
 
     // Lets go what is held, and passes over the input up to a byte of the disk.
-    fn pass_to<R: Source>(
-        &mut self,
-        input: &mut R,
-        first: usize,
-        piece: &mut [u8],
-    ) -> Result<(), Failed>
-        requires room { 0 < length piece.old }
+    fn pass_to<R: Source>(&mut self, input: &mut R, first: usize) -> Result<(), Failed>
         requires works { R.has_failed input.old ≡ false }
         requires behind { self.old.begin + vec_len self.old.bytes ≤ first }
         requires few { first ≤ MOST_DISK_BYTES }
@@ -112,7 +106,7 @@ impl Stretch {
         ensures failed { R.has_failed input.new ≡ is_err result }
     {
         let end = self.end();
-        let passed = pass_over(input, first - end, piece)?;
+        let passed = input.skip(first - end)?;
         self.begin = end + passed;
         self.bytes.clear();
         Ok(())
@@ -130,13 +124,7 @@ impl Stretch {
     }
 
     // Lets go what is before a byte of the disk, or most of it, and passes over the input up to that byte.
-    fn go_to<R: Source>(
-        &mut self,
-        input: &mut R,
-        first: usize,
-        piece: &mut [u8],
-    ) -> Result<(), Failed>
-        requires room { 0 < length piece.old }
+    fn go_to<R: Source>(&mut self, input: &mut R, first: usize) -> Result<(), Failed>
         requires works { R.has_failed input.old ≡ false }
         requires begun { self.old.begin ≤ first }
         requires few { self.old.begin + vec_len self.old.bytes ≤ MOST_DISK_BYTES }
@@ -152,7 +140,7 @@ impl Stretch {
         ensures failed { R.has_failed input.new ≡ is_err result }
     {
         if self.end() <= first {
-            return self.pass_to(input, first, piece);
+            return self.pass_to(input, first);
         }
         if first - self.begin >= MOST_BEFORE {
             self.let_go(first);
@@ -185,7 +173,7 @@ impl Stretch {
         ensures failed { R.has_failed input.new ≡ is_device result }
     {
         let first = place.first as usize * 512;
-        self.go_to(input, first, piece)?;
+        self.go_to(input, first)?;
         let end = first + place.blocks as usize * 512;
         let count = end.saturating_sub(self.end());
         read_behind(input, count, piece, &mut self.bytes)

@@ -50,6 +50,11 @@ impl<R: Source, E: Sink> Source for AnnouncedInput<'_, R, E> {
         self.inner.read(buf)
     }
 
+    fn skip(&mut self, limit: usize) -> Result<usize, Failed> {
+        self.announce();
+        self.inner.skip(limit)
+    }
+
     fn failed(&self) -> bool {
         self.inner.failed()
     }

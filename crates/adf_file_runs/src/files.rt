@@ -5,7 +5,7 @@ ghost use Rattle.adf_file_runs.specs.declared.files.Unopened.{Unopened};
 ghost use Rattle.adf_file_runs.specs.declared.files.Unopened.TheVariants.{NotText};
 ghost use Rattle.adf_file_runs.specs.Files.{SystemOpens, unopened_text};
 
-use adf_runs::{Device, Source};
+use adf_runs::{SeekingDevice, Source};
 use std::fs::File;
 use std::io::{Error, ErrorKind};
 use std::path::Path;
@@ -94,7 +94,7 @@ impl<'a, R: rt::Files> SystemFiles<'a, R> {
 }
 
 impl<R: rt::Files> Files for SystemFiles<'_, R> {
-    type Opened = Device<R::File>;
+    type Opened = SeekingDevice<R::File>;
 
     ghost bytes_of = { λ _ _. None };
 
@@ -102,13 +102,13 @@ impl<R: rt::Files> Files for SystemFiles<'_, R> {
 
     ghost may_open = { λ _ name why. SystemOpens name why };
 
-    fn open(&self, name: &[u8]) -> Result<Device<R::File>, Unopened> {
+    fn open(&self, name: &[u8]) -> Result<SeekingDevice<R::File>, Unopened> {
         let Ok(path) = str::from_utf8(name) else {
             return Err(Unopened::NotText);
         };
         match File::open(self.system, path) {
             Ok(_) if Path::new(path).is_dir(self.system) => Err(Unopened::Directory),
-            Ok(file) => Ok(Device::new(file)),
+            Ok(file) => Ok(SeekingDevice::new(file)),
             Err(error) => Err(reason(&error)),
         }
     }

@@ -1,33 +1,11 @@
 // Reads that hold a part of an input, and pass over the rest.
 
-ghost use Rattle.std.specs.Prelude.{◌≡◌, ◌+◌, ◌<◌, ◌≤◌, ◌^◌, false, is_err, length, vec_len, IfOk, IfSome};
-ghost use Rattle.adf_runs.specs.Streams.{IsPart, PassesOver, TakesAtMost, TakesFirst, is_device};
+ghost use Rattle.std.specs.Prelude.{◌≡◌, ◌+◌, ◌<◌, ◌≤◌, ◌^◌, false, vec_len, IfOk, IfSome};
+ghost use Rattle.adf_runs.specs.Streams.{IsPart, TakesAtMost, TakesFirst, is_device};
 
-use crate::devices::{Failed, Source};
-use crate::streams::{CHUNK, StreamFault, read_all};
+use crate::devices::Source;
+use crate::streams::{StreamFault, read_all};
 use std::alloc::Global;
-
-/// Skips so many bytes of an input, or all if it has fewer, and returns how many; they go through a buffer. `Failed` if the
-/// reader failed.
-pub fn pass_over<R: Source>(input: &mut R, limit: usize, buffer: &mut [u8]) -> Result<usize, Failed>
-    requires room { 0 < length buffer.old }
-    requires works { R.has_failed input.old ≡ false }
-    ensures passed { IfOk result (PassesOver limit (R.left input.old) (R.left input.new)) }
-    ensures within { IfOk result (λ n. n ≤ limit) }
-    ensures at_most { TakesAtMost limit (R.left input.old) (R.left input.new) }
-    ensures failed { R.has_failed input.new ≡ is_err result }
-{
-    let mut passed = 0usize;
-    while passed < limit {
-        let end = buffer.len().min(limit - passed);
-        let count = input.read(&mut buffer[..end])?;
-        if count == 0 {
-            return Ok(passed);
-        }
-        passed += count;
-    }
-    Ok(passed)
-}
 
 /// Reads so many bytes of an input, or all if it has fewer. `Device` if the reader failed, `NoMemory` if an allocation failed.
 pub fn read_first<R: Source>(
@@ -76,10 +54,9 @@ pub fn read_part<R: Source>(
     ensures at_most { TakesAtMost (limit + 1) (R.left input.old) (R.left input.new) }
     ensures failed { R.has_failed input.new ≡ is_device result }
 {
-    let mut buffer = vec![in alloc; 0u8; CHUNK]?;
-    let before = pass_over(input, from, &mut buffer)?;
+    let before = input.skip(from)?;
     let bytes = read_first(alloc, input, to - from)?;
-    let after = pass_over(input, limit + 1 - to, &mut buffer)?;
+    let after = input.skip(limit + 1 - to)?;
     let len = before + bytes.len() + after;
     Ok(Part { bytes, len })
 }
