@@ -174,9 +174,12 @@ class Programs(Folder):
         written("disk.hdf", disk(image_of(), image_of("ffs")))
         fits = f"cut.adf: block 0: bad size; it has {901120 - 100} bytes, and 901120 would fit: --blocks 1760"
         cut_out = "disk.hdf: block 0: not dos; a hard disk: adf-disk volume DH0 < IMAGE > VOLUME cuts a volume out (adf-disk list < IMAGE)"
+        written("short.hdf", disk(image_of(), image_of("ffs"))[: 512 * 64])
+        short = "short.hdf: block 0: not dos; a hard disk without a volume that can be read: adf-disk survey < IMAGE tells why"
         for name, words in (("unpack", ["new"]), ("recipe", [])):
             self.ends(1, [fits], name, "cut.adf", *words)
             self.ends(1, [cut_out], name, "disk.hdf", *words)
+            self.ends(1, [short], name, "short.hdf", *words)
             self.ends(1, ["block 0: bad size; it has 5 bytes"], name, *words, given=b"DOS\0\0")
         self.tool("unpack", "--blocks", "1760", "cut.adf", "new")
         self.assertEqual(self.run_tool("map", "cut.adf").stderr.decode(), f"adf-map: {fits}\n")
