@@ -121,6 +121,28 @@ static void use_boot(const uint8_t *data, size_t size, uint8_t cause) {
     end_room(image);
 }
 
+/* A rescue in rooms that may be too small is a volume that is accepted, without losses if the image is; or the rooms are unchanged, and
+ * the number is that of the verdict, or of a small room. */
+static void use_rescue(const uint8_t *data, size_t size, uint8_t cause, const struct adf_verdict *verdict, size_t lacking) {
+    struct room volume = new_room(size < lacking ? 0 : size - lacking), losses = new_room(lacking * sizeof(struct adf_loss));
+    struct room paths = new_room(PATH * lacking);
+    struct adf_rescue_told told = {0};
+    struct adf_verdict rescued = {0};
+    uint8_t number =
+        adf_rescue(data, size, 0, volume.at, volume.size, (struct adf_loss *)losses.at, lacking, paths.at, paths.size, &told);
+    if (number == 0) {
+        must((size_t)BLOCK * told.blocks == size && adf_check(volume.at, size, &rescued) == ADF_ACCEPTED);
+        must(told.block == 0 && (cause != ADF_ACCEPTED || told.losses == 0) && (told.losses != 0 || told.paths == 0));
+    } else {
+        must(is_marked(volume.at, volume.size) && is_marked(losses.at, losses.size) && is_marked(paths.at, paths.size));
+        must(number == ADF_RESCUE_SMALL_ROOM ? lacking != 0 && (size_t)BLOCK * told.blocks == size
+                                             : number == cause && told.block == verdict->block);
+    }
+    end_room(volume);
+    end_room(losses);
+    end_room(paths);
+}
+
 int LLVMFuzzerTestOneInput(const uint8_t *data, size_t size) {
     struct adf_verdict verdict = {0};
     struct adf_contents contents = {0};
@@ -148,6 +170,8 @@ int LLVMFuzzerTestOneInput(const uint8_t *data, size_t size) {
     end_room(blocks);
     end_room(entries);
     use_boot(data, size, cause);
+    use_rescue(data, size, cause, &verdict, 0);
+    use_rescue(data, size, cause, &verdict, 1);
 
     must(RUN(false, "adf\0check", 80) == (cause != ADF_ACCEPTED));
     uint8_t status = RUN(true, "adf-survey", 100 * size + 80);

@@ -117,6 +117,10 @@ static void add_part(struct parts *parts, const struct adf_partition *partition,
     strcpy(parts->parts[parts->count++].name, name);
 }
 
+void say_no_volume(const char *name) {
+    fprintf(stderr, "adf-mount: %s: a hard disk without a volume that can be read (adf-disk survey)\n", name);
+}
+
 /* All partitions whose volumes can be read; a line for each other one. */
 static int take_all(int file, const char *name, const struct adf_partition *rows, const struct adf_disk *disk,
                     struct parts *parts) {
@@ -141,18 +145,19 @@ static int take_all(int file, const char *name, const struct adf_partition *rows
         parts->is_whole = false;
     }
     if (parts->count == 0)
-        fprintf(stderr, "adf-mount: %s: a hard disk without a volume that can be read (adf-disk survey)\n", name);
+        say_no_volume(name);
     return parts->count == 0 ? REFUSED : SOUND;
 }
 
-static int take_one(int file, const char *name, const char *wanted, const struct adf_partition *rows, size_t count,
+static int take_one(int file, const char *name, const char *wanted, const struct adf_partition *rows, const struct adf_disk *disk,
                     struct parts *parts) {
     char why[LONGEST_TEXT];
     size_t i = 0;
-    while (i < count && !is_wanted(&rows[i], i + 1, wanted))
+    while (i < disk->partitions && !is_wanted(&rows[i], i + 1, wanted))
         i++;
-    if (i == count) {
-        fprintf(stderr, "adf-mount: %s: no such partition: %s\n", name, wanted);
+    if (i == disk->partitions) {
+        bool is_disk = disk->cause != ADF_DISK_NO_RIGID_DISK;
+        fprintf(stderr, "adf-mount: %s: no such partition: %s%s\n", name, wanted, is_disk ? " (adf-disk survey)" : "");
         return REFUSED;
     }
     why_unread(file, &rows[i], true, why);
@@ -193,9 +198,11 @@ int find_parts(int file, const char *name, const char *wanted, struct parts *par
     if (!is_volume && read_rows(file, length, rows, &disk) != SOUND)
         return FAILED;
     if (wanted != NULL)
-        return take_one(file, name, wanted, rows, disk.partitions, parts);
-    if (!is_volume && disk.cause != ADF_DISK_NO_RIGID_DISK && disk.partitions != 0)
+        return take_one(file, name, wanted, rows, &disk, parts);
+    bool has_tables = !is_volume && disk.cause != ADF_DISK_NO_RIGID_DISK;
+    if (has_tables && disk.partitions != 0)
         return take_all(file, name, rows, &disk, parts);
+    parts->has_tables = has_tables;
     parts->parts[parts->count++] = (struct part){.most = MOST_BYTES};
     return SOUND;
 }

@@ -456,7 +456,10 @@ static int open_image(const char *name, const char *wanted) {
     shown.is_read = calloc(shown.parts.count, sizeof *shown.is_read);
     if (shown.volumes == NULL || shown.is_read == NULL)
         return FAILED;
-    return shown.taking.is_strict && !shown.parts.is_whole ? REFUSED : try_volumes(name);
+    status = shown.taking.is_strict && !shown.parts.is_whole ? REFUSED : try_volumes(name);
+    if (status == REFUSED && shown.parts.has_tables)
+        say_no_volume(name);
+    return status;
 }
 
 /* The words of the command line: the first that is no option is the image, the second the folder, and all others are libfuse's. */

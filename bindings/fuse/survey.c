@@ -1,57 +1,44 @@
-#define _GNU_SOURCE
 #include "survey.h"
 
-#include <stdio.h>
 #include <stdlib.h>
 #include <string.h>
 
-enum { FIRST_ERRORS = 1 << 16, NO_MEMORY = 3, BLOCK = 512 };
+enum { FIRST_LOSSES = 1024, BLOCK = 512 };
 
-/* The words of a command line, each with a zero byte behind it, or NULL. */
-static char *line_of(size_t blocks, const char *const words[], size_t *length) {
-    size_t room = sizeof "adf-survey --blocks 18446744073709551615";
-    for (size_t i = 0; words[i] != NULL; i++)
-        room += strlen(words[i]) + 1;
-    char *line = malloc(room), *end = line;
-    if (line == NULL)
-        return NULL;
-    end = stpcpy(end, "adf-survey") + 1;
-    if (blocks != 0) {
-        end = stpcpy(end, "--blocks") + 1;
-        end += sprintf(end, "%zu", blocks) + 1;
+/* Rescues an image into the room of a rescue, and counts what is not in it by a table of `count` losses; `count` becomes the number of
+ * all of them. An adf_cause. */
+static uint8_t rescue_with(const uint8_t *image, size_t length, uint32_t blocks, struct rescue *rescue, size_t *count) {
+    struct adf_loss *losses = malloc(*count * sizeof *losses);
+    struct adf_rescue_told told = {0};
+    uint8_t path;
+    if (losses == NULL)
+        return ADF_NO_MEMORY;
+    uint8_t cause = adf_rescue(image, length, blocks, rescue->volume, rescue->length, losses, *count, &path, 0, &told);
+    for (size_t i = 0; i < told.losses && i < *count; i++) {
+        bool is_lost = losses[i].why == ADF_LOSS_HEADERS || losses[i].why == ADF_LOSS_BLOCKS;
+        *(is_lost ? &rescue->lost : &rescue->left_out) += 1;
     }
-    for (size_t i = 0; words[i] != NULL; i++)
-        end = stpcpy(end, words[i]) + 1;
-    *length = (size_t)(end - line);
-    return line;
+    rescue->block = told.block;
+    *count = told.losses;
+    free(losses);
+    return cause;
 }
 
-struct answer run_survey(const uint8_t *image, size_t length, size_t blocks, const char *const words[], size_t output_room) {
-    struct answer answer = {.status = NO_MEMORY};
-    struct adf_moved moved = {.errors_full = true};
-    size_t line_length = 0;
-    char *line = line_of(blocks, words, &line_length);
-    for (size_t room = FIRST_ERRORS; line != NULL && moved.errors_full; room *= 4) {
-        free_answer(&answer);
-        answer.output = malloc(output_room + 1);
-        answer.errors = malloc(room + 1);
-        if (answer.output == NULL || answer.errors == NULL) {
-            free_answer(&answer);
-            break;
-        }
-        answer.status = adf_survey_run((const uint8_t *)line, line_length, image, length, answer.output, output_room,
-                                       (uint8_t *)answer.errors, room, &moved);
-        answer.output_length = moved.output;
-        answer.errors[moved.errors] = '\0';
+uint8_t rescue_image(const uint8_t *image, size_t length, size_t blocks, struct rescue *rescue) {
+    size_t room = blocks == 0 ? length : blocks * BLOCK, count = FIRST_LOSSES;
+    uint8_t cause = ADF_NO_MEMORY;
+    *rescue = (struct rescue){.volume = malloc(room + 1), .length = room};
+    if (rescue->volume != NULL)
+        cause = rescue_with(image, length, (uint32_t)blocks, rescue, &count);
+    if (cause == ADF_ACCEPTED && count > FIRST_LOSSES) {
+        rescue->left_out = rescue->lost = 0;
+        cause = rescue_with(image, length, (uint32_t)blocks, rescue, &count);
     }
-    free(line);
-    return answer;
-}
-
-void free_answer(struct answer *answer) {
-    free(answer->output);
-    free(answer->errors);
-    *answer = (struct answer){.status = NO_MEMORY};
+    if (cause != ADF_ACCEPTED) {
+        free(rescue->volume);
+        rescue->volume = NULL;
+    }
+    return cause;
 }
 
 uint8_t survey_image(const uint8_t *image, size_t length, size_t blocks, struct adf_found *found, size_t room,

@@ -1,4 +1,4 @@
-/* Surveys over memory, and the command adf-survey. */
+/* Surveys and rescues of images in memory. */
 #ifndef ADF_MOUNT_SURVEY_H
 #define ADF_MOUNT_SURVEY_H
 
@@ -7,18 +7,18 @@
 #include <stddef.h>
 #include <stdint.h>
 
-/* What the command wrote. */
-struct answer {
-    int status;
-    uint8_t *output;
-    size_t output_length;
-    char *errors; /* lines, with a zero byte at the end */
+/* A rescue: the volume of what stands of an image, in memory that the caller frees, and how much is not in it. */
+struct rescue {
+    uint8_t *volume;
+    size_t length;
+    size_t left_out; /* entries */
+    size_t lost;     /* directories in which headers are lost, and runs of blocks */
+    uint32_t block;  /* the block of the first fault, where nothing stands */
 };
 
-/* Runs `adf-survey [--blocks N] WORD..` over an image; 0 for the blocks that it has. The status is 3 if memory ran out. */
-struct answer run_survey(const uint8_t *image, size_t length, size_t blocks, const char *const words[], size_t output_room);
-
-void free_answer(struct answer *answer);
+/* Rescues an image, read as if it had so many blocks (0: as many as it has). An adf_cause: 0, the first fault where nothing stands, or
+ * ADF_NO_MEMORY. */
+uint8_t rescue_image(const uint8_t *image, size_t length, size_t blocks, struct rescue *rescue);
 
 /* Surveys an image, read as if it had so many blocks (0: as many as it has), and fills a table of what is found, as far as it has room.
  * An adf_cause: 0, or ADF_NO_MEMORY. */

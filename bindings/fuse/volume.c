@@ -81,32 +81,23 @@ static int say_refused(const struct volume *volume, const char *name, uint8_t ca
     return REFUSED;
 }
 
-static bool begins_with(const char *line, const char *front) { return strncmp(line, front, strlen(front)) == 0; }
-
-/* Says how much of an image is not in the volume of what stands, by the lines of the rescue. */
-static void say_left_out(const char *name, size_t findings, const char *lines) {
-    size_t files = 0, parts = 0;
-    for (const char *line = lines; *line != '\0'; line = strchr(line, '\n') + 1)
-        if (begins_with(line, "lost: "))
-            parts++;
-        else if (begins_with(line, "damaged: ") || begins_with(line, "link: ") || begins_with(line, "no room: "))
-            files++;
-    fprintf(stderr, "adf-mount: %s: %zu finding%s, %zu file%s left out", name, findings, findings == 1 ? "" : "s", files,
-            files == 1 ? "" : "s");
-    if (parts != 0)
-        fprintf(stderr, ", %zu part%s lost", parts, parts == 1 ? "" : "s");
+/* Says how much of an image is not in the volume of what stands. */
+static void say_left_out(const char *name, size_t findings, const struct rescue *rescue) {
+    fprintf(stderr, "adf-mount: %s: %zu finding%s, %zu file%s left out", name, findings, findings == 1 ? "" : "s", rescue->left_out,
+            rescue->left_out == 1 ? "" : "s");
+    if (rescue->lost != 0)
+        fprintf(stderr, ", %zu part%s lost", rescue->lost, rescue->lost == 1 ? "" : "s");
     fputs("; man adf-survey\n", stderr);
 }
 
-/* Says how much is left out of what stands of an image, by the lines of its rescue. Surveys the image for the number of its findings:
- * false if memory ran out. */
-static bool tell(const struct volume *volume, const char *name, const struct taking *taking, const char *lines) {
+/* Says how much is left out of what stands of an image. Surveys the image for the number of its findings: false if memory ran out. */
+static bool tell(const struct volume *volume, const char *name, const struct taking *taking, const struct rescue *rescue) {
     struct adf_surveyed surveyed = {0};
     struct adf_found found;
     bool is_surveyed =
         name == NULL || survey_image(volume->image, volume->length, taking->blocks, &found, 1, &surveyed) == ADF_ACCEPTED;
     if (name != NULL && is_surveyed)
-        say_left_out(name, surveyed.findings, lines);
+        say_left_out(name, surveyed.findings, rescue);
     return is_surveyed;
 }
 
@@ -127,18 +118,21 @@ static bool keep_left(struct volume *volume, uint8_t *image, size_t length, size
 }
 
 /* Puts what stands of the image in its place. */
-static int take_rescue(struct volume *volume, const char *name, const struct taking *taking, uint8_t cause) {
-    static const char *const RESCUE[] = {"rescue", NULL};
+static int take_rescue(struct volume *volume, const char *name, const struct taking *taking) {
     struct volume given = *volume;
-    size_t room = taking->blocks == 0 ? given.length : taking->blocks * BLOCK;
-    struct answer answer = run_survey(given.image, given.length, taking->blocks, RESCUE, room);
-    bool is_run = answer.output != NULL && answer.status <= REFUSED, stands = is_run && answer.output_length != 0;
-    if (!stands || !tell(volume, name, taking, answer.errors)) {
-        free_answer(&answer);
-        return is_run && !stands ? say_refused(volume, name, cause) : say_no_memory(name);
+    struct rescue rescue;
+    uint8_t cause = rescue_image(given.image, given.length, taking->blocks, &rescue);
+    if (cause == ADF_NO_MEMORY)
+        return say_no_memory(name);
+    if (cause != ADF_ACCEPTED) {
+        volume->contents.block = rescue.block;
+        return say_refused(volume, name, cause);
     }
-    *volume = (struct volume){.image = answer.output, .length = answer.output_length};
-    free(answer.errors);
+    if (!tell(volume, name, taking, &rescue)) {
+        free(rescue.volume);
+        return say_no_memory(name);
+    }
+    *volume = (struct volume){.image = rescue.volume, .length = rescue.length};
     bool is_kept = make_tables(volume) == ADF_ACCEPTED;
     if (is_kept && taking->wants_left) {
         is_kept = keep_left(volume, given.image, given.length, taking->blocks);
@@ -156,7 +150,7 @@ int take_volume(struct volume *volume, uint8_t *image, size_t length, const char
         return say_no_memory(name);
     if (cause == ADF_ACCEPTED && (taking->is_strict || volume->length == meant))
         return SOUND;
-    return taking->is_strict ? say_refused(volume, name, cause) : take_rescue(volume, name, taking, cause);
+    return taking->is_strict ? say_refused(volume, name, cause) : take_rescue(volume, name, taking);
 }
 
 int find_entry(const struct volume *volume, const char *path, size_t *node) {

@@ -38,7 +38,6 @@ a MemoryError. A file that cannot be read is an OSError, and a wrong argument a 
 from __future__ import annotations
 
 import bisect
-import collections
 import ctypes
 import datetime
 import errno
@@ -50,8 +49,6 @@ import re
 import shutil
 import warnings
 from typing import Any, BinaryIO, Iterable, Iterator, NamedTuple, Sequence, Union, overload
-
-from adf._rescues import LeftOut as LeftOut, rescue as rescue
 
 __version__ = "1.0"
 BLOCK = 512
@@ -67,7 +64,6 @@ FIRST_ROOM, FIRST_OUTPUT, FIRST_ERRORS, MOST_OUTPUT, LONGEST_TEXT = 2048, 4096, 
 EPOCH = datetime.datetime(1978, 1, 1)
 LAST_DAY = (datetime.datetime.max - EPOCH).days
 CAPITALS = bytes(byte - 32 if 97 <= byte <= 122 else byte for byte in range(256))
-LATIN_CAPITALS = bytes(byte - 32 if 224 <= byte <= 254 and byte != 247 else CAPITALS[byte] for byte in range(256))
 STAMP = re.compile(":".join([r"(0|[1-9][0-9]*)"] * 3))
 CIVIL = re.compile(r"([0-9]{4}-[0-9]{2}-[0-9]{2} [0-9]{2}:[0-9]{2}:[0-9]{2})\.([0-4][0-9])")
 
@@ -123,6 +119,7 @@ _CALLS = {
     "adf_survey_owners": (_BYTE, *(_POINTER, _SIZE) * 2),
     "adf_found_blocks": (_SIZE, *(_POINTER, _SIZE) * 2, _SIZE, _WORD, _POINTER, _SIZE),
     "adf_found_read": (_SIZE, _POINTER, _SIZE, _WORD, _POINTER, _SIZE, _SIZE, _POINTER, _SIZE, _POINTER),
+    "adf_rescue": (_BYTE, _POINTER, _SIZE, _WORD, *(_POINTER, _SIZE) * 3, _POINTER),
     "adf_escape": (_SIZE, *(_POINTER, _SIZE) * 2),
     "adf_disk_index": (_BYTE, _POINTER, _SIZE, ctypes.c_uint64, _POINTER, _SIZE, _POINTER),
     "adf_disk_cause_text": (_SIZE, _BYTE, _POINTER, _SIZE),
@@ -611,10 +608,6 @@ class Survey(_ReadOnly):
             raise NoMemory
         return roles.raw[: len(self.image) // BLOCK]
 
-    def _capitals(self, name: bytes) -> bytes:
-        """A name in capital letters, by those that the type of the image compares: a to z, or those of Latin-1."""
-        return name.translate(LATIN_CAPITALS if self.image[3] > 1 else CAPITALS)
-
     def _cat(self, path: str | bytes, *flags: str) -> tuple[bytes, bytes]:
         """What the command `cat` writes to output and to errors."""
         try:
@@ -863,7 +856,7 @@ class Volume(_ReadOnly):
 
     @property
     def boot(self) -> Boot:
-        """The boot blocks of its image: of a Rescued one those of the new volume, which have no code."""
+        """The boot blocks of its image: of a Rescued one those of the new volume, which are kept if the image begins with `DOS`."""
         return Boot.of(self._tables[0][0])
 
     @property
@@ -983,19 +976,14 @@ class Rescued(Volume):
     def _places(self) -> dict[int, int]:
         """The numbers of entries, by those of the entries of the survey that they are. An entry whose name is not a name, or is used
         already, is called lost- and its block."""
-        lost_names = {each.path.rpartition("/")[2].encode("latin-1") for each in self._left_out}
-        counts = collections.Counter((found.parent, self.survey._capitals(found.raw_name)) for found in self.survey.entries)
-        named, places = {(entry.parent, entry.raw_name): entry for entry in self.entries}, {0: 0}
+        left_out = {each.first for each in self._left_out if each.is_entry}
+        named, places = {(entry.parent, entry.raw_name): entry.number for entry in self.entries}, {0: 0}
         for found in self.survey.entries:
-            parent, names = places.get(found.parent, -1), [b"lost-%d" % found.header]
-            is_alone = counts[found.parent, self.survey._capitals(found.raw_name)] == 1
-            if found.is_sound or is_alone and not (found.is_file and found.raw_name in lost_names):
-                names.append(found.raw_name)
-            for kept in (named[parent, name] for name in names if (parent, name) in named):
-                if _fields(kept) == _fields(found):
-                    places[found.number] = kept.number
-                    del named[parent, kept.raw_name]
-                    break
+            if found.parent in places and found.header not in left_out:
+                parent = places[found.parent]
+                name = found.raw_name if (parent, found.raw_name) in named else b"lost-%d" % found.header
+                if (parent, name) in named:
+                    places[found.number] = named.pop((parent, name))
         return places
 
     @property
@@ -1093,11 +1081,6 @@ class Entry(NamedTuple):
         return io.BufferedReader(File(self))
 
 
-def _fields(entry: Entry | Found) -> tuple[Any, ...]:
-    """What a rescue keeps of an entry as it is."""
-    return entry.is_file, entry.size, entry.protection, entry.date, entry.raw_comment
-
-
 class File(io.RawIOBase):
     """A file of a volume, unbuffered; Entry.open has it behind a buffer."""
 
@@ -1125,5 +1108,6 @@ class File(io.RawIOBase):
         return at
 
 
-from adf.boots import BadBoot, Boot, with_boot, with_standard_boot, without_boot  # noqa: E402,F401: they stand on all that is above
-from adf.building import Addition, NotBuilt, build  # noqa: E402,F401: so do these
+from adf._rescues import LeftOut, Reason, rescue  # noqa: E402,F401: it stands on all that is above
+from adf.boots import BadBoot, Boot, with_boot, with_standard_boot, without_boot  # noqa: E402,F401: so do these
+from adf.building import Addition, NotBuilt, build  # noqa: E402,F401

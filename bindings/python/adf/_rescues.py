@@ -1,52 +1,92 @@
-"""Rescues: the new volume of what stands of an image, and the list of what is not in it. This module alone asks the library for them."""
+"""Rescues: the new volume of what stands of an image, and what is not in it. This module alone asks the library for them."""
 
 from __future__ import annotations
 
-import re
-from typing import NamedTuple
+import ctypes
+import enum
+from typing import Any, NamedTuple
 
 import adf
 
-BLOCKS = re.compile(r"blocks? (\d+)(?: to (\d+))?")
-WHYS = ("damaged", "link", "no room", "lost")
+FIRST_PATHS = 1 << 16
+_WORD, _BYTE, _SIZE = ctypes.c_uint32, ctypes.c_uint8, ctypes.c_size_t
+_Loss = adf._struct(("path path_length", _SIZE), ("first last", _WORD), ("why", _BYTE))
+_RescueTold = adf._struct(("losses paths", _SIZE), ("blocks block", _WORD))
+
+
+class Reason(enum.IntEnum):
+    """Why something is not in the volume of a rescue, by the numbers of `enum adf_loss_why`: an entry is damaged, is a link, or has no
+    room; headers are lost in a directory, or blocks in use are."""
+
+    DAMAGED = 1
+    LINK = 2
+    NO_ROOM = 3
+    HEADERS = 4
+    BLOCKS = 5
+
+
+WHY = {Reason.DAMAGED: "damaged", Reason.LINK: "link", Reason.NO_ROOM: "no room", Reason.HEADERS: "lost", Reason.BLOCKS: "lost"}
 
 
 class LeftOut(NamedTuple):
-    """What a rescue leaves out: an entry, with why, `damaged`, `link` or `no room`, and its path; or what is `lost`, with `in c/` or
-    `blocks 44 to 65` for a path. As a text it is the line of `adf-survey rescue`."""
+    """What a rescue leaves out: the path of an entry, or of the directory in which headers are lost, and the block of its header twice
+    (0 for the root); or the first and the last of the blocks that are lost. A reason of a newer library is its number. As a text it
+    is the line of `adf-survey rescue`."""
 
-    why: str
-    path: str
+    reason: Reason | int
+    raw_path: bytes
+    first: int
+    last: int
+
+    @property
+    def why(self) -> str:
+        """The reason as a text: `damaged`, `link` or `no room` of an entry, or `lost`."""
+        return next((text for reason, text in WHY.items() if reason == self.reason), f"reason {self.reason}")
+
+    @property
+    def path(self) -> str:
+        """The path of an entry; of what is lost `in c/` or `blocks 44 to 65`."""
+        if self.blocks:
+            return f"block {self.first}" if self.first == self.last else f"blocks {self.first} to {self.last}"
+        return self.raw_path.decode("latin-1") if self.directory is None else f"in {self.directory}/"
 
     @property
     def is_entry(self) -> bool:
         """Whether it is an entry that is found, with its path."""
-        return self.why != "lost"
+        return self.reason not in (Reason.HEADERS, Reason.BLOCKS)
 
     @property
     def blocks(self) -> range:
         """The blocks in use that no entry has, if they are what is lost."""
-        found = None if self.is_entry else BLOCKS.fullmatch(self.path)
-        return range(int(found[1]), int(found[2] or found[1]) + 1) if found else range(0)
+        return range(self.first, self.last + 1) if self.reason == Reason.BLOCKS else range(0)
 
     @property
     def directory(self) -> str | None:
-        """The path of the directory in which a header is lost, empty for the root; None for anything else."""
-        return None if self.is_entry or not self.path.startswith("in ") else self.path[len("in ") :].rstrip("/")
+        """The path of the directory in which headers are lost, empty for the root; None for anything else."""
+        return self.raw_path.decode("latin-1") if self.reason == Reason.HEADERS else None
 
     def __str__(self) -> str:
         return f"{self.why}: {adf.escape(self.path)}"
 
 
+def _left_out(row: Any, paths: bytes) -> LeftOut:
+    """A row of the table of losses, with its path in the text of all paths."""
+    path = adf._plain(paths[row.path : row.path + row.path_length].decode("ascii")).encode("latin-1")
+    return LeftOut(Reason(row.why) if row.why in list(Reason) else row.why, path, row.first, row.last)
+
+
 def rescue(image: adf.Image, blocks: int | None = None) -> tuple[bytes, list[LeftOut]]:
-    """A new, sound volume of as many bytes with all that stands in an image, and the entries that are found and left out; with a
-    number of blocks as if the image had so many. Refused where nothing stands."""
-    status, volume, errors = adf._survey_run(["rescue"], image, blocks)
-    lines = [line.partition(": ") for line in errors.decode("ascii").splitlines()]
-    if status == 3:
-        raise adf.NoMemory(errors.decode("ascii").strip())
-    if not volume:
-        place, _, cause = lines[0]
-        number = next(number for number in range(1, adf.NO_MEMORY + 1) if adf._cause(number) == cause)
-        raise adf.Refused(cause, int(place.split()[1]), number)
-    return volume, [LeftOut(why, adf._plain(path)) for why, _, path in lines if why in WHYS]
+    """A new, sound volume of as many blocks with all that stands in an image, and what is left out; with a number of blocks as if the
+    image had so many. Refused where nothing stands."""
+    raw, told = adf._cut(adf._bytes(image), blocks), _RescueTold()
+    length = adf.BLOCK * blocks if blocks else len(raw)
+    volume = ctypes.create_string_buffer(length or 1)
+    rooms, wanted = (0, 0), (adf.FIRST_ROOM, FIRST_PATHS)
+    while rooms != wanted:
+        rooms = wanted
+        losses, paths = (_Loss * rooms[0])(), ctypes.create_string_buffer(rooms[1])
+        tables = volume, length, losses, rooms[0], paths, rooms[1], ctypes.byref(told)
+        adf._accept(adf._calls().adf_rescue(raw, len(raw), blocks or 0, *tables), told.block)
+        wanted = max(rooms[0], told.losses), max(rooms[1], told.paths)
+    text = ctypes.string_at(paths, told.paths)
+    return ctypes.string_at(volume, adf.BLOCK * told.blocks), [_left_out(row, text) for row in losses[: told.losses]]

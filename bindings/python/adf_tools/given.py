@@ -65,8 +65,10 @@ def help_of(image: bytes, refused: adf.Refused) -> str:
     """What helps with an image that is refused as a whole: it is a hard disk, or has a length that no disk has."""
     disk = disk_of(image)
     if disk is not None:
-        names = (letters(row.name) or str(row.number) for row in disk.partitions if row.blocks)
-        return f"; a hard disk: adf-disk volume {next(names, 'NAME')} < IMAGE > VOLUME cuts a volume out (adf-disk list < IMAGE)"
+        name = next((letters(row.name) or str(row.number) for row in disk.partitions if row.blocks), None)
+        if name is None:
+            return "; a hard disk without a volume that can be read: adf-disk survey < IMAGE tells why"
+        return f"; a hard disk: adf-disk volume {name} < IMAGE > VOLUME cuts a volume out (adf-disk list < IMAGE)"
     fits = length_that_fits(image, refused)
     if fits is not None:
         return f"; it has {len(image)} bytes, and {adf.BLOCK * fits} would fit: --blocks {fits}"

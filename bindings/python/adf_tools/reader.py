@@ -93,7 +93,7 @@ class Reader:
             return found
         link = found.columns["page"][: -len("html")] + "adf"
         self.write(link, volume)
-        return found._replace(columns={**found.columns, "rescued": link}, left_out=limited((why, letters(path)) for why, path in left_out))
+        return found._replace(columns={**found.columns, "rescued": link}, left_out=limited((each.why, letters(each.path)) for each in left_out))
 
     def write(self, link: str, content: bytes) -> None:
         """Writes a file of the catalogue, whole or not at all."""

@@ -392,7 +392,7 @@ class Surveys(unittest.TestCase):
         sound = built("volume ofs 16\nfile 0:0:0 00000000 a\nfill 489 41\ndir 0:0:0 00000000 c\n")
         self.assertEqual(adf.rescue(sound), (sound, []))
         new, left_out = adf.rescue(changed(sound, 3, 40, 1))
-        self.assertEqual(left_out, [adf.LeftOut("damaged", "a")])
+        self.assertEqual(left_out, [adf.LeftOut(adf.Reason.DAMAGED, b"a", 2, 2)])
         self.assertEqual([entry.path for entry in adf.Volume(new).entries], ["c"])
         # Where nothing stands, the first fault is told: a cause has the number that include/adf.h gives it.
         for image, blocks, fault in ((b"", None, ("bad size", 0, 1)), (b"", 16, ("not dos", 0, 2)), (bytes(8192), None, ("not dos", 0, 2))):

@@ -62,9 +62,10 @@ class Boots(Folder):
         self.assertRaises(adf.BadBoot, adf.with_standard_boot, bytes(2048))
         self.assertRaises(adf.Closed, lambda: closed().boot)
 
-    def test_is_new_of_what_stands(self):
+    def test_is_kept_of_what_stands_unless_it_is_lost(self):
         damaged = changed(adf.with_boot(OFS, AMIGA), 880, 440, 1)
-        self.assertEqual((adf.Rescued(damaged).boot.state, adf.Boot.of(damaged).state), ("no-code", "bootable"))
+        self.assertEqual(adf.Rescued(damaged).boot, adf.Boot.of(damaged))
+        self.assertEqual(adf.Rescued(changed(damaged, 0, 0, 1)).boot.state, "no-code")
 
 
 def closed():

@@ -13,7 +13,7 @@ from tests.shared import Folder, built, changed, image_of, written
 SMALL = "volume {} 16\nlabel Kept\nfile 0:0:0 00000000 a\nfill 1200 41\nfile 0:0:0 00000000 b\nnote kept\ndata 42\n".format
 SOUND = built(SMALL("ofs"))
 DAMAGED = changed(SOUND, adf.Volume(SOUND)["a"].header + 2, 3, 8)  # the type of a data block: bytes 488 to 975 of `a` are lost
-FAULT = adf.LeftOut("damaged", "a")
+FAULT = adf.LeftOut(adf.Reason.DAMAGED, b"a", 2, 2)
 
 
 def opened(*words, **more):
@@ -78,23 +78,33 @@ class Stands(Folder):
     def test_tells_what_is_lost(self):
         image = changed(built("volume ofs 64\ndir 0:0:0 00000000 c\nfile 0:0:0 00000000 c/x\nfill 900 41\n"), 3, 3, 8)
         volume = adf.Rescued(image)
+        self.assertEqual(volume.left_out, [adf.LeftOut(adf.Reason.HEADERS, b"c", 2, 2), adf.LeftOut(adf.Reason.BLOCKS, b"", 4, 5)])
         self.assertEqual([str(each) for each in volume.left_out], ["lost: in c/", "lost: blocks 4 to 5"])
         self.assertEqual([(each.is_entry, each.directory, each.blocks) for each in volume.left_out], [(False, "c", range(0)), (False, None, range(4, 6))])
+
+    def test_tells_each_reason_as_a_text(self):
+        for reason, path, first, last, text in (
+            (1, b"c/\xfc", 5, 5, r"damaged: c/\xfc"), (2, b"a", 5, 5, "link: a"), (3, b"a", 5, 5, "no room: a"), (4, b"", 0, 0, "lost: in /"),
+            (4, b"c/d", 7, 7, "lost: in c/d/"), (5, b"", 44, 44, "lost: block 44"), (5, b"", 44, 65, "lost: blocks 44 to 65"), (9, b"a", 5, 5, "reason 9: a"),
+        ):  # fmt: skip
+            self.assertEqual(str(adf.LeftOut(reason, path, first, last)), text)
 
     def test_reads_a_floppy_whose_end_is_missing(self):
         for kind in adf.KINDS:
             manifest = f"volume {kind} 1760\n" + "".join(f"file 0:0:0 00000000 {name}\nfill 300000 {name}1\n" for name in "ab")
-            cut = built(manifest)[: 512 * 900]
+            sound = built(manifest)
+            cut, header = sound[: 512 * 900], adf.Volume(sound)["b"].header
+            damaged = adf.LeftOut(adf.Reason.DAMAGED, b"b", header, header)
             volume, told = opened(cut, "cut.adf", blocks=1760)
             self.assertEqual(len(told), 1)
-            self.assertEqual(([entry.path for entry in volume.entries], volume.left_out), (["a"], [adf.LeftOut("damaged", "b")]))
+            self.assertEqual(([entry.path for entry in volume.entries], volume.left_out), (["a"], [damaged]))
             self.assertEqual(volume["a"].read(), b"\xa1" * 300000)
             survey = adf.survey(cut, 1760)
             self.assertEqual([(found.path, found.is_sound) for found in survey.entries], [("a", True), ("b", False)])
             self.assertRaises(adf.Damaged, survey.read, "b")
             left, lost = survey.entries[1].remains()
             self.assertEqual((len(left), len(lost), left.rstrip(b"\0")), (300000, 1, b"\xb1" * lost[0].start))
-            self.assertEqual(adf.rescue(cut, 1760)[1], [adf.LeftOut("damaged", "b")])
+            self.assertEqual(adf.rescue(cut, 1760)[1], [damaged])
             self.assertRaises(adf.Refused, adf.open_image, cut, blocks=1760, strict=True)
         longer = image_of() + bytes(1024)
         self.assertEqual(opened(longer, blocks=1760)[0].image, image_of())
@@ -170,9 +180,12 @@ class Programs(Folder):
         written("disk.hdf", disk(image_of(), image_of("ffs")))
         fits = f"cut.adf: block 0: bad size; it has {901120 - 100} bytes, and 901120 would fit: --blocks 1760"
         cut_out = "disk.hdf: block 0: not dos; a hard disk: adf-disk volume DH0 < IMAGE > VOLUME cuts a volume out (adf-disk list < IMAGE)"
+        written("short.hdf", disk(image_of(), image_of("ffs"))[: 512 * 64])
+        short = "short.hdf: block 0: not dos; a hard disk without a volume that can be read: adf-disk survey < IMAGE tells why"
         for name, words in (("unpack", ["new"]), ("recipe", [])):
             self.ends(1, [fits], name, "cut.adf", *words)
             self.ends(1, [cut_out], name, "disk.hdf", *words)
+            self.ends(1, [short], name, "short.hdf", *words)
             self.ends(1, ["block 0: bad size; it has 5 bytes"], name, *words, given=b"DOS\0\0")
         self.tool("unpack", "--blocks", "1760", "cut.adf", "new")
         self.assertEqual(self.run_tool("map", "cut.adf").stderr.decode(), f"adf-map: {fits}\n")

@@ -1,5 +1,5 @@
 //! Writes the files of what stands of an image: of each `PATH SIZE` in a line, with the path in the escape form, and its bytes.
-//! The status is 1 if something is left out, 2 if nothing stands.
+//! Standard error gets a line for all that is left out, and the status is then 1; it is 2 if nothing stands.
 
 use std::io::Write;
 use std::process::ExitCode;
@@ -19,6 +19,9 @@ fn main() -> Result<ExitCode, Box<dyn std::error::Error>> {
         let bytes = entry.read();
         writeln!(output, "{} {}", adf::escape(&entry.path_bytes()), bytes.len())?;
         output.write_all(&bytes)?;
+    }
+    for each in &opened.left_out {
+        eprintln!("{each}");
     }
     Ok(ExitCode::from(u8::from(!opened.left_out.is_empty())))
 }

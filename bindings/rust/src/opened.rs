@@ -23,7 +23,7 @@ pub fn open(image: &[u8]) -> Result<Opened<'_>, Refused> {
         Ok(rescued) => {
             Ok(Opened { volume: Volume::check_owned(rescued.image)?, refused: Some(refused), left_out: rescued.left_out })
         }
-        Err(failed) if failed.answer.status == 3 => Err(Refused { cause: Cause::NoMemory, block: 0 }),
+        Err(none) if none.cause == Cause::NoMemory => Err(none),
         Err(_) => Err(refused),
     }
 }

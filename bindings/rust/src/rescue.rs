@@ -1,74 +1,8 @@
-use crate::text::{in_capitals, unescape};
-use crate::{command, ffi, Failed, Found, Refused, Survey};
-use std::borrow::Cow;
-use std::ops::Range;
-
-/// The last word of a file's header; a link has another one.
-const FILE_TYPE: [u8; 4] = [0xff, 0xff, 0xff, 0xfd];
-
-/// What is left of a file: its bytes, with zeros for those that are lost, and the ranges of these.
-#[derive(Clone, Debug, PartialEq, Eq)]
-pub struct Remains {
-    pub bytes: Vec<u8>,
-    pub lost: Vec<Range<usize>>,
-}
-
-/// What is left of a file of an image, sound or damaged, under a path in the escape form, as `adf-survey cat --damaged` writes it.
-/// If several entries have the path, up to the case of letters, the error is `not unique`: `Found::remains` tells them apart.
-pub fn remains(path: &str, image: &[u8]) -> Result<Remains, Failed> {
-    let survey = Survey::of(image).map_err(failed)?;
-    let wanted = unescape(path).map(|path| in_capitals(&path));
-    if survey.entries().filter(|found| Some(in_capitals(&found.path_bytes())) == wanted).count() > 1 {
-        return Err(Failed::with(1, "not unique"));
-    }
-    let answer = command::survey(&["cat", "--damaged", "--", path], image);
-    let lost: Option<Vec<_>> = answer.lines().iter().map(|line| lost_of(line)).collect();
-    match lost {
-        Some(lost) if answer.status <= 1 => Ok(Remains { bytes: answer.output, lost }),
-        _ => Err(Failed { answer }),
-    }
-}
-
-fn failed(refused: Refused) -> Failed {
-    Failed::with(3, &refused.cause.to_string())
-}
-
-/// What is left of an entry, by its number.
-pub(crate) fn remains_of_found(found: &Found) -> Result<Remains, Failed> {
-    let past = (found.header() as usize + 1) * 512;
-    if !found.is_file() || found.image().get(past - 4..past) != Some(&FILE_TYPE[..]) {
-        return Err(Failed::with(1, "not a file"));
-    }
-    let image = if found.is_sound() { Cow::Borrowed(found.image()) } else { with_type_of_files(found.image()) };
-    let rows = ffi::parts(&image).map_err(failed)?;
-    let blocks = ffi::found_blocks(&image, &rows, found.number(), found.header()).map_err(failed)?;
-    let (mut bytes, mut lost, mut at) = (vec![0; image.len().min(found.size() as usize)], Vec::new(), 0);
-    while at < bytes.len() {
-        let (read, gap) = ffi::found_read(&image, found.header(), &blocks, at, &mut bytes[at..]);
-        if gap > 0 {
-            lost.push(at + read..at + read + gap);
-        }
-        if read + gap == 0 {
-            break;
-        }
-        at += read + gap;
-    }
-    Ok(Remains { bytes, lost })
-}
-
-/// The image with the type that its files say, if the volume of what stands has another one than the image.
-fn with_type_of_files(image: &[u8]) -> Cow<'_, [u8]> {
-    match rescue(image) {
-        Ok(rescue) if rescue.image[3] & 1 != image[3] & 1 => Cow::Owned([&image[..3], &[image[3] & 254], &image[4..]].concat()),
-        _ => Cow::Borrowed(image),
-    }
-}
-
-/// The bytes of a line `bytes FIRST to LAST: no data`.
-fn lost_of(line: &str) -> Option<Range<usize>> {
-    let (first, last) = line.strip_prefix("bytes ")?.strip_suffix(": no data")?.split_once(" to ")?;
-    Some(first.parse().ok()?..last.parse::<usize>().ok()? + 1)
-}
+use crate::ffi::{self, LossRecord};
+use crate::numbered::numbered;
+use crate::text::unescape;
+use crate::{escape, Refused};
+use std::fmt;
 
 /// A new, sound volume of all that stands in a damaged image, and what it leaves out.
 #[derive(Clone, Debug, PartialEq, Eq)]
@@ -78,49 +12,58 @@ pub struct Rescue {
     pub left_out: Vec<LeftOut>,
 }
 
-/// An entry that is found and not in the new volume, or what is lost.
+/// Something of an image that is not in the volume of its rescue. Shown as the line of `adf-survey rescue`, such as `damaged: c/list`.
 #[derive(Clone, Debug, PartialEq, Eq)]
 pub struct LeftOut {
     pub reason: Reason,
-    /// The bytes of the path.
+    /// The bytes of the path of an entry, or of the directory in which headers are lost; none for the root and for blocks.
     pub path: Vec<u8>,
+    /// The header of the entry or of the directory, 0 for the root; or the first of the blocks.
+    pub first: u32,
+    /// The same header; or the last of the blocks.
+    pub last: u32,
 }
 
-/// Why an entry is left out.
-#[derive(Clone, Debug, PartialEq, Eq, Hash)]
-#[non_exhaustive]
-pub enum Reason {
-    Damaged,
-    Link,
-    NoRoom,
-    /// What findings tell of and no entry has: the path says where, as `in c/` or `blocks 44 to 65`.
-    Lost,
-    /// The text of a reason that this crate does not know: the library is newer than the crate.
-    Unknown(String),
+numbered! {
+    /// Why something is left out. The numbers are those of `enum adf_loss_why` in include/adf.h.
+    Reason(u8):
+    /// A file that is not whole.
+    Damaged = 1,
+    Link = 2,
+    /// Its directory is left out, its name is taken, or the blocks do not suffice.
+    NoRoom = 3,
+    /// Headers are lost in a directory.
+    Headers = 4,
+    /// Blocks in use are lost.
+    Blocks = 5,
 }
 
-/// Makes a new volume of all that stands in an image, as `adf-survey rescue` does. If nothing stands, the error is the first
-/// finding.
-pub fn rescue(image: &[u8]) -> Result<Rescue, Failed> {
-    let mut answer = command::survey(&["rescue"], image);
-    let left_out: Option<Vec<_>> = answer.lines().iter().map(|line| left_out_of(line)).collect();
-    match left_out {
-        Some(left_out) if answer.status <= 1 && !answer.output.is_empty() => {
-            Ok(Rescue { image: std::mem::take(&mut answer.output), left_out })
+impl fmt::Display for LeftOut {
+    fn fmt(&self, f: &mut fmt::Formatter<'_>) -> fmt::Result {
+        let (path, LeftOut { first, last, .. }) = (escape(&self.path), self);
+        match self.reason {
+            Reason::Damaged => write!(f, "damaged: {path}"),
+            Reason::Link => write!(f, "link: {path}"),
+            Reason::NoRoom => write!(f, "no room: {path}"),
+            Reason::Headers => write!(f, "lost: in {path}/"),
+            Reason::Blocks if first == last => write!(f, "lost: block {first}"),
+            Reason::Blocks => write!(f, "lost: blocks {first} to {last}"),
+            Reason::Unknown(number) => write!(f, "unknown reason {number}: {path}"),
         }
-        _ => Err(Failed { answer }),
     }
 }
 
-/// The entry of a line `REASON: PATH`.
-fn left_out_of(line: &str) -> Option<LeftOut> {
-    let (reason, path) = line.split_once(": ")?;
-    let reason = match reason {
-        "damaged" => Reason::Damaged,
-        "link" => Reason::Link,
-        "no room" => Reason::NoRoom,
-        "lost" => Reason::Lost,
-        _ => Reason::Unknown(reason.to_owned()),
-    };
-    Some(LeftOut { reason, path: unescape(path)? })
+/// Makes a new volume of all that stands in an image, as `adf-survey rescue` does. If nothing stands, the error is the first fault.
+/// `Cause::NoMemory` says nothing about the image.
+pub fn rescue(image: &[u8]) -> Result<Rescue, Refused> {
+    let found = ffi::rescue(image)?;
+    let left_out = found.losses.iter().map(|loss| left_out_of(loss, &found.paths)).collect();
+    Ok(Rescue { image: found.volume, left_out })
+}
+
+/// A row of the table of losses, with its path in the text of all paths.
+fn left_out_of(loss: &LossRecord, paths: &[u8]) -> LeftOut {
+    let path = paths.get(loss.path..).and_then(|rest| rest.get(..loss.path_length)).unwrap_or_default();
+    let path = unescape(&String::from_utf8_lossy(path)).unwrap_or_default();
+    LeftOut { reason: loss.why.into(), path, first: loss.first, last: loss.last }
 }

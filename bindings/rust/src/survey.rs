@@ -1,5 +1,5 @@
 use crate::ffi::{self, Date, SurveyTables};
-use crate::{rescue, text, Cause, Failed, Kind, Refused, Remains, Text};
+use crate::{remains, text, Cause, Failed, Kind, Refused, Remains, Text};
 use std::fmt;
 
 /// What is found in an image by `adf-survey`: everything that is wrong, and the entries that can still be reached.
@@ -176,7 +176,7 @@ impl<'survey> Found<'survey> {
     /// What is left of this file, for which the image is surveyed again: that of this entry, also where another one has its path. A
     /// directory and a link are refused with `not a file`.
     pub fn remains(&self) -> Result<Remains, Failed> {
-        rescue::remains_of_found(self)
+        remains::remains_of_found(self)
     }
 
     pub(crate) fn image(&self) -> &'survey [u8] {

@@ -49,6 +49,21 @@ pub struct DiskNumbers {
     cause: u8,
 }
 
+/// `struct adf_loss`.
+#[repr(C)]
+pub struct Loss {
+    path: [usize; 2],
+    blocks: [u32; 2],
+    why: u8,
+}
+
+/// `struct adf_rescue_told`.
+#[repr(C)]
+pub struct RescueTold {
+    rows: [usize; 2],
+    blocks: [u32; 2],
+}
+
 type Moved = [usize; 4];
 
 /// Refuses an image of no bytes, and accepts any other.
@@ -193,6 +208,34 @@ extern "C" fn adf_disk_index(
     0
 }
 
+/// Refuses an image of no bytes at its block 3, and of any other leaves an entry out for a new reason.
+#[no_mangle]
+#[allow(clippy::too_many_arguments)]
+extern "C" fn adf_rescue(
+    _: *const u8,
+    length: usize,
+    _: u32,
+    room: *mut u8,
+    _: usize,
+    losses: *mut Loss,
+    _: usize,
+    paths: *mut u8,
+    _: usize,
+    told: *mut RescueTold,
+) -> u8 {
+    if length == 0 {
+        unsafe { *told = RescueTold { rows: [0; 2], blocks: [0, 3] } };
+        return NEW + 1;
+    }
+    unsafe {
+        room.write_bytes(b'A', 512);
+        *losses = Loss { path: [0, 3], blocks: [7; 2], why: NEW };
+        paths.copy_from(b"a/b".as_ptr(), 3);
+        *told = RescueTold { rows: [1, 3], blocks: [1, 0] };
+    }
+    0
+}
+
 #[no_mangle]
 #[allow(clippy::too_many_arguments)]
 extern "C" fn adf_build(_: *const u8, _: *const u8, _: usize, _: *const u8, _: usize, _: *mut u8, _: usize, _: *mut u8) -> u8 {
@@ -240,7 +283,6 @@ extern "C" fn adf_run(
     NEW
 }
 
-/// Writes a rescued volume of one byte, and leaves an entry out for a new reason.
 #[no_mangle]
 #[allow(clippy::too_many_arguments)]
 extern "C" fn adf_survey_run(
@@ -248,19 +290,13 @@ extern "C" fn adf_survey_run(
     _: usize,
     _: *const u8,
     _: usize,
-    output: *mut u8,
+    _: *mut u8,
     _: usize,
-    errors: *mut u8,
+    _: *mut u8,
     _: usize,
-    moved: *mut Moved,
+    _: *mut Moved,
 ) -> u8 {
-    let line = b"moonlight: a/b\n";
-    unsafe {
-        *output = b'A';
-        errors.copy_from(line.as_ptr(), line.len());
-        *moved = [0, 1, line.len(), 0];
-    }
-    1
+    NEW
 }
 
 #[test]
@@ -305,10 +341,10 @@ fn what_is_new_is_not_taken_for_what_is_known() {
 }
 
 #[test]
-fn a_reason_that_is_new_keeps_its_text() {
-    let adf::Rescue { image, left_out } = adf::rescue(b"").unwrap();
-    assert_eq!(
-        (image, &left_out[0].reason, &left_out[0].path[..]),
-        (b"A".to_vec(), &adf::Reason::Unknown("moonlight".into()), &b"a/b"[..])
-    );
+fn a_reason_that_is_new_keeps_its_number() {
+    assert_eq!(adf::rescue(b"").unwrap_err(), Refused { cause: Cause::Unknown(NEW + 1), block: 3 });
+    let adf::Rescue { image, left_out } = adf::rescue(&[0; 512]).unwrap();
+    assert_eq!(image, [b'A'; 512]);
+    let unknown = adf::LeftOut { reason: adf::Reason::Unknown(NEW), path: b"a/b".to_vec(), first: 7, last: 7 };
+    assert_eq!((&left_out[..], unknown.to_string()), (&[unknown][..], "unknown reason 24: a/b".to_owned()));
 }

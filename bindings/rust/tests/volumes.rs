@@ -377,10 +377,22 @@ fn a_rescue_tells_what_it_leaves_out() {
     assert_eq!(rescue(&image).unwrap().left_out, []);
     image[3 * 512 + 3] = 0;
     let rescued = rescue(&image).unwrap();
-    assert_eq!(rescued.left_out, [LeftOut { reason: Reason::Damaged, path: b"a".to_vec() }]);
+    assert_eq!(rescued.left_out, [LeftOut { reason: Reason::Damaged, path: b"a".to_vec(), first: 2, last: 2 }]);
     let volume = Volume::check_owned(rescued.image).unwrap();
     assert_eq!(volume.entries().map(|entry| entry.path()).collect::<Vec<_>>(), ["c"]);
-    assert_eq!(rescue(b"").unwrap_err().to_string(), "block 0: bad size");
+    assert_eq!(rescue(b"").unwrap_err(), Refused { cause: Cause::BadSize, block: 0 });
+}
+
+#[test]
+fn a_rescue_tells_what_is_lost() {
+    // The header of `c` is block 2, that of `c/x` block 3, its data 4 and 5.
+    let mut image = built("volume ofs 64\ndir 0:0:0 00000000 c\nfile 0:0:0 00000000 c/x\nfill 900 41\n");
+    image[3 * 512 + 3] = 0;
+    let left_out = rescue(&image).unwrap().left_out;
+    let headers = LeftOut { reason: Reason::Headers, path: b"c".to_vec(), first: 2, last: 2 };
+    let blocks = LeftOut { reason: Reason::Blocks, path: Vec::new(), first: 4, last: 5 };
+    assert_eq!(left_out, [headers, blocks]);
+    assert_eq!(left_out.iter().map(LeftOut::to_string).collect::<Vec<_>>(), ["lost: in c/", "lost: blocks 4 to 5"]);
 }
 
 #[test]
@@ -405,7 +417,8 @@ fn what_stands_is_opened() {
     assert_eq!(opened.refused, Volume::check(&damaged).err());
     assert_eq!(opened.volume.find("c/readme").unwrap().read(), b"Hello\n");
     assert_eq!(opened.volume.find("large").err(), Some(NotFound::Nothing));
-    assert_eq!(opened.left_out, [LeftOut { reason: Reason::Damaged, path: b"large".to_vec() }]);
+    let header = header as u32;
+    assert_eq!(opened.left_out, [LeftOut { reason: Reason::Damaged, path: b"large".to_vec(), first: header, last: header }]);
 
     assert_eq!(open(&[]).err(), Some(Refused { cause: Cause::BadSize, block: 0 }));
     assert_eq!(open(&[0; 8192]).err(), Some(Refused { cause: Cause::NotDos, block: 0 }));

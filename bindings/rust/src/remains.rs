@@ -1,0 +1,71 @@
+use crate::text::{in_capitals, unescape};
+use crate::{command, ffi, rescue, Failed, Found, Refused, Survey};
+use std::borrow::Cow;
+use std::ops::Range;
+
+/// The last word of a file's header; a link has another one.
+const FILE_TYPE: [u8; 4] = [0xff, 0xff, 0xff, 0xfd];
+
+/// What is left of a file: its bytes, with zeros for those that are lost, and the ranges of these.
+#[derive(Clone, Debug, PartialEq, Eq)]
+pub struct Remains {
+    pub bytes: Vec<u8>,
+    pub lost: Vec<Range<usize>>,
+}
+
+/// What is left of a file of an image, sound or damaged, under a path in the escape form, as `adf-survey cat --damaged` writes it.
+/// If several entries have the path, up to the case of letters, the error is `not unique`: `Found::remains` tells them apart.
+pub fn remains(path: &str, image: &[u8]) -> Result<Remains, Failed> {
+    let survey = Survey::of(image).map_err(failed)?;
+    let wanted = unescape(path).map(|path| in_capitals(&path));
+    if survey.entries().filter(|found| Some(in_capitals(&found.path_bytes())) == wanted).count() > 1 {
+        return Err(Failed::with(1, "not unique"));
+    }
+    let answer = command::survey(&["cat", "--damaged", "--", path], image);
+    let lost: Option<Vec<_>> = answer.lines().iter().map(|line| lost_of(line)).collect();
+    match lost {
+        Some(lost) if answer.status <= 1 => Ok(Remains { bytes: answer.output, lost }),
+        _ => Err(Failed { answer }),
+    }
+}
+
+fn failed(refused: Refused) -> Failed {
+    Failed::with(3, &refused.cause.to_string())
+}
+
+/// What is left of an entry, by its number.
+pub(crate) fn remains_of_found(found: &Found) -> Result<Remains, Failed> {
+    let past = (found.header() as usize + 1) * 512;
+    if !found.is_file() || found.image().get(past - 4..past) != Some(&FILE_TYPE[..]) {
+        return Err(Failed::with(1, "not a file"));
+    }
+    let image = if found.is_sound() { Cow::Borrowed(found.image()) } else { with_type_of_files(found.image()) };
+    let rows = ffi::parts(&image).map_err(failed)?;
+    let blocks = ffi::found_blocks(&image, &rows, found.number(), found.header()).map_err(failed)?;
+    let (mut bytes, mut lost, mut at) = (vec![0; image.len().min(found.size() as usize)], Vec::new(), 0);
+    while at < bytes.len() {
+        let (read, gap) = ffi::found_read(&image, found.header(), &blocks, at, &mut bytes[at..]);
+        if gap > 0 {
+            lost.push(at + read..at + read + gap);
+        }
+        if read + gap == 0 {
+            break;
+        }
+        at += read + gap;
+    }
+    Ok(Remains { bytes, lost })
+}
+
+/// The image with the type that its files say, if the volume of what stands has another one than the image.
+fn with_type_of_files(image: &[u8]) -> Cow<'_, [u8]> {
+    match rescue(image) {
+        Ok(rescue) if rescue.image[3] & 1 != image[3] & 1 => Cow::Owned([&image[..3], &[image[3] & 254], &image[4..]].concat()),
+        _ => Cow::Borrowed(image),
+    }
+}
+
+/// The bytes of a line `bytes FIRST to LAST: no data`.
+fn lost_of(line: &str) -> Option<Range<usize>> {
+    let (first, last) = line.strip_prefix("bytes ")?.strip_suffix(": no data")?.split_once(" to ")?;
+    Some(first.parse().ok()?..last.parse::<usize>().ok()? + 1)
+}
