@@ -14,8 +14,8 @@ use Rattle.adf_build.proofs.WholeVolume.{laid_as_planned, volume_laid, well_form
 use Rattle.adf_findings.proofs.FitsOrFault.{fits_or_fault}
 use Rattle.adf_findings.specs.Verdict.{FitsOrHasFault}
 use Rattle.adf_manifest.specs.Manifest.{IsManifestOrHasFault}
-use Rattle.adf_manifest.proofs.BoundedManifests.{manifest_bounded}
-use Rattle.adf_manifest.proofs.SomeVerdicts.{some_verdict}
+use Rattle.adf_answers.proofs.BoundedManifests.{manifest_bounded}
+use Rattle.adf_answers.proofs.SomeVerdicts.{some_verdict}
 use Rattle.adf_texts.specs.Lines.{full_line, manifest_fault_line}
 use Rattle.adf_runs.specs.Commands.{Reply, on_errors, on_output}
 use Rattle.adf_words.specs.CommandLine.{RequestValue, build, cat, check, convert, list}

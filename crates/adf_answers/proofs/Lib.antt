@@ -1,3 +1,7 @@
+-- manifests
+pub mod SomeForms
+pub mod SomeVerdicts
+pub mod BoundedManifests
 -- each command
 pub mod Images
 pub mod Builds

@@ -3,7 +3,6 @@ pub mod DigitLaws
 pub mod TokenLaws
 pub mod LineLaws
 pub mod Forms
-pub mod SomeForms
 -- the lines of a manifest, one after another
 pub mod ManifestLaws
 pub mod Growth
@@ -13,5 +12,3 @@ pub mod LastLines
 pub mod TreesOfLines
 pub mod Verdicts
 pub mod Faults
-pub mod SomeVerdicts
-pub mod BoundedManifests

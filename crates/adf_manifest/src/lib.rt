@@ -8,8 +8,5 @@ mod reader;
 mod tokens;
 
 pub use crate::digits::read_word;
-pub use crate::manifest::{
-    MOST_BYTES, ManifestFault, ManifestKind, manifests_are_bounded, one_verdict, read_manifest,
-    some_verdict,
-};
+pub use crate::manifest::{MOST_BYTES, ManifestFault, ManifestKind, one_verdict, read_manifest};
 pub use crate::tokens::{read_number, read_stamp};

@@ -2,7 +2,7 @@
 
 ghost use Rattle.std.specs.Prelude.{◌≡◌, ◌≤◌, ◌++◌, ◌∷◌, ℕ, List, IfOk, IfErr, length, option_map};
 ghost use Rattle.adf_manifest.specs.Kinds.{manifest_kind_number, manifest_kind_text};
-ghost use Rattle.adf_manifest.specs.Manifest.{AddingLinesGivesTheTree, CanLackMemory, ExplainsFault, IsManifest, IsManifestOrHasFault, IsWell, LinesHaveOneFault, Manifest, ManifestsAreBounded, ManifestsAreFaultless, ManifestsAreOfOneTree, manifest_lines, manifest_tree, most_bytes, between_feeds, lines, lines_behind, without_last_feed};
+ghost use Rattle.adf_manifest.specs.Manifest.{AddingLinesGivesTheTree, CanLackMemory, ExplainsFault, IsManifest, IsWell, LinesHaveOneFault, Manifest, ManifestsAreFaultless, ManifestsAreOfOneTree, manifest_lines, manifest_tree, most_bytes, between_feeds, lines, lines_behind, without_last_feed};
 ghost use Rattle.adf_manifest.specs.Reader.{ExplainsLines, StateMatches, line_of_fault};
 
 use crate::reader::{State, finish, first_state, next_state};
@@ -193,14 +193,4 @@ pub fn one_verdict()
     ensures adding { AddingLinesGivesTheTree }
     ensures faultless { ManifestsAreFaultless }
     ensures one_fault { LinesHaveOneFault }
-{}
-
-/// Bytes have a verdict: they are a manifest, or they are too long or have a first line with a fault.
-pub fn some_verdict()
-    ensures { (bytes : List ℕ) → IsManifestOrHasFault bytes }
-{}
-
-/// The tree of a manifest has its fields within their bounds, and its number of blocks is allowed.
-pub fn manifests_are_bounded()
-    ensures { ManifestsAreBounded }
 {}

@@ -1,7 +1,7 @@
 // The library calls that rows ask.
 
-use crate::questions::volume_text;
-use crate::trees::{first_other, need_text, tree_of_image, tree_of_lines, unlaid_text};
+use crate::questions::push_answer;
+use crate::trees::{first_other, push_fault, push_need, tree_of_image, tree_of_lines};
 use adf_findings::{Survey, survey};
 use adf_row_lines::{Library, RowError, TreeOf, begin_item};
 use adf_texts::push_names;
@@ -15,29 +15,25 @@ pub struct LibraryCalls {
 }
 
 impl Library for LibraryCalls {
-    fn answer(&self, call: &str, about: &str, image: &[u8]) -> Result<Option<Vec<u8>>, RowError> {
+    fn answer(
+        &self,
+        call: &str,
+        about: &str,
+        image: &[u8],
+        text: &mut String,
+    ) -> Result<(), RowError> {
         match call {
-            "need" => need_text(self.alloc, about),
-            "unlaid" => unlaid_text(self.alloc, about),
-            _ => volume_text(self.alloc, call, about, image),
+            "need" => push_need(self.alloc, about, text),
+            "unlaid" => push_fault(self.alloc, about, text),
+            _ => push_answer(self.alloc, call, about, image, text),
         }
     }
 
-    fn paths(&self, image: &[u8]) -> Result<Vec<u8>, RowError> {
-        let volume = match survey(self.alloc, image) {
-            Ok(volume) if volume.findings().is_empty() => volume,
-            _ => return Err(RowError::Refused),
-        };
-        let mut text = Vec::new(self.alloc);
-        for before in 0..volume.len() {
-            push_path(
-                self.alloc,
-                &mut text,
-                &volume,
-                Node(before.saturating_add(1)),
-            )?;
+    fn push_paths(&self, image: &[u8], text: &mut Vec<u8>) -> Result<(), RowError> {
+        match survey(self.alloc, image) {
+            Ok(volume) if volume.findings().is_empty() => push_paths(self.alloc, &volume, text),
+            _ => Err(RowError::Refused),
         }
-        Ok(text)
     }
 
     fn other_entry(&self, wanted: TreeOf<'_>, image: &[u8]) -> Result<Option<usize>, RowError> {
@@ -49,16 +45,14 @@ impl Library for LibraryCalls {
     }
 }
 
-// Appends the path of an entry, and what stands between it and the one before.
-fn push_path(
-    alloc: Global,
-    text: &mut Vec<u8>,
-    volume: &Survey<'_>,
-    n: Node,
-) -> Result<(), RowError> {
-    begin_item(text)?;
-    match volume.path(alloc, n) {
-        Ok(names) => Ok(push_names(text, &names)?),
-        Err(_) => Err(RowError::NoMemory),
+// Appends the paths of the entries, with `, ` between them.
+fn push_paths(alloc: Global, volume: &Survey<'_>, text: &mut Vec<u8>) -> Result<(), RowError> {
+    for before in 0..volume.len() {
+        let Ok(names) = volume.path(alloc, Node(before.saturating_add(1))) else {
+            return Err(RowError::NoMemory);
+        };
+        begin_item(text)?;
+        push_names(text, &names)?;
     }
+    Ok(())
 }

@@ -1,7 +1,7 @@
 // How library calls end.
 
 /// How a call ended.
-#[derive(Drop)]
+#[derive(Clone, Copy)]
 pub enum CallOutcome {
     /// It answered as it should.
     Done,

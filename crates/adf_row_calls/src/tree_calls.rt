@@ -49,10 +49,10 @@ fn add(alloc: Global, tree: &mut Tree, path: &str, body: Body) -> Option<Result<
     Some(tree.add(&names, meta()?, body))
 }
 
-// A tree of a directory `a` with an empty file `b`, and of a directory `3`, whose slot is behind that of `a`.
+// A tree of a directory `a` with an empty file `b`, and of the directories `3` and `BA`, whose slots are behind that of `a`.
 fn worked_tree(alloc: Global) -> Option<Tree> {
     let mut tree = Tree::new(alloc, Kind::Ofs, Label::new(b"Work")?, NO_STAMPS);
-    for path in ["a", "a/b", "3"] {
+    for path in ["a", "a/b", "3", "BA"] {
         let body = match path {
             "a/b" => Body::File(Bytes::new(Vec::new(alloc))),
             _ => Body::Dir,
@@ -67,7 +67,7 @@ fn refuses_others(alloc: Global, tree: &mut Tree) -> Option<bool> {
     let mut refuses = true;
     for (path, fault) in REFUSED {
         let res = add(alloc, tree, path, Body::Dir)?;
-        refuses = refuses && res == Err(fault) && has_names(tree, "a 3 b");
+        refuses = refuses && res == Err(fault) && has_names(tree, "a BA 3 b");
     }
     Some(refuses)
 }
@@ -76,7 +76,6 @@ fn refuses_others(alloc: Global, tree: &mut Tree) -> Option<bool> {
 pub fn tree_add_outcome(alloc: Global) -> Option<CallOutcome> {
     let mut tree = worked_tree(alloc)?;
     let refuses = refuses_others(alloc, &mut tree)?;
-    add(alloc, &mut tree, "BA", Body::Dir)?.ok()?;
     Some(match add(alloc, &mut tree, "AN", Body::Dir)? {
         Ok(()) => CallOutcome::Done.only_if(refuses && has_names(&tree, "a BA AN 3 b")),
         Err(fault) => {
@@ -88,10 +87,11 @@ pub fn tree_add_outcome(alloc: Global) -> Option<CallOutcome> {
 
 /// A second entry in a draft, which is then finished.
 pub fn draft_add_outcome(alloc: Global) -> Option<CallOutcome> {
-    let mut draft = Draft::new(alloc, Kind::Ofs, Label::new(b"Work")?, NO_STAMPS);
-    draft.add(&[Name::new(b"b")?], meta()?, Body::Dir).ok()?;
     let path = [Name::new(b"b")?, Name::new(b"c")?];
-    let res = draft.add(&path, meta()?, Body::Dir);
+    let (first, second) = (meta()?, meta()?);
+    let mut draft = Draft::new(alloc, Kind::Ofs, Label::new(b"Work")?, NO_STAMPS);
+    draft.add(&path[..1], first, Body::Dir).ok()?;
+    let res = draft.add(&path, second, Body::Dir);
     let has_room = draft.room(&path).is_ok();
     Some(match res {
         Err(fault) => CallOutcome::NoMemory.only_if(has_room && fault == AddFault::NoMemory),

@@ -1,11 +1,12 @@
 // Trees of images and of manifests.
 
+use crate::questions::NOTHING;
 use adf_build::{BuildFault, build, need};
 use adf_check::check;
 use adf_manifest::read_manifest;
-use adf_row_lines::{RowError, block, first_word, lines_text, number_text};
+use adf_row_lines::{RowError, block, first_word, lines_text};
 use adf_tree::{Body, Entry, Node, Tree};
-use std::alloc::{AllocError, Global};
+use std::alloc::Global;
 
 /// The tree of the lines of a manifest, told with ` | ` between them.
 pub fn tree_of_lines(alloc: Global, lines: &str) -> Result<Tree, RowError> {
@@ -24,31 +25,22 @@ fn blocks_and_tree(alloc: Global, text: &str) -> Result<(u32, Tree), RowError> {
     }
 }
 
-/// How many blocks the tree of lines needs in a volume of so many, `BLOCKS LINES`; `None` if no volume has that size.
-pub fn need_text(alloc: Global, text: &str) -> Result<Option<Vec<u8>>, RowError> {
-    let (blocks, tree) = blocks_and_tree(alloc, text)?;
-    match need(&tree, blocks) {
-        Some(count) => Ok(Some(number_text(alloc, count as usize)?)),
-        None => Ok(None),
-    }
+/// Appends how many blocks the tree of lines needs in a volume of so many, `BLOCKS LINES`: `nothing` if no volume has that size.
+pub fn push_need(alloc: Global, about: &str, text: &mut String) -> Result<(), RowError> {
+    let (blocks, tree) = blocks_and_tree(alloc, about)?;
+    Ok(match need(&tree, blocks) {
+        Some(count) => write!(text, "{count}"),
+        None => text.push_str(NOTHING),
+    }?)
 }
 
-/// Why the tree of lines is not built in so many blocks, `BLOCKS LINES`.
-pub fn unlaid_text(alloc: Global, text: &str) -> Result<Option<Vec<u8>>, RowError> {
-    let (blocks, tree) = blocks_and_tree(alloc, text)?;
-    let outcome = build(alloc, &tree, blocks);
-    Ok(Some(fault_text(alloc, outcome)?.into_bytes()))
-}
-
-fn fault_text(alloc: Global, outcome: Result<Vec<u8>, BuildFault>) -> Result<String, AllocError> {
-    match outcome {
-        Ok(_) => String::from_str(alloc, "an image"),
-        Err(BuildFault::BadSize) => String::from_str(alloc, "bad size"),
-        Err(BuildFault::NoMemory) => String::from_str(alloc, "no memory"),
-        Err(BuildFault::Full { need, have }) => {
-            format!(in alloc; "full: need {need}, have {have}")
-        }
-    }
+/// Appends why the tree of lines is not built in so many blocks, `BLOCKS LINES`.
+pub fn push_fault(alloc: Global, about: &str, text: &mut String) -> Result<(), RowError> {
+    let (blocks, tree) = blocks_and_tree(alloc, about)?;
+    Ok(match build(alloc, &tree, blocks) {
+        Ok(_) => text.push_str("an image"),
+        Err(fault) => write!(text, "{fault}"),
+    }?)
 }
 
 /// The tree of an image.

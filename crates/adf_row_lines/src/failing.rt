@@ -3,11 +3,12 @@
 ghost use Rattle.std.specs.Prelude.{◌≡◌, false};
 
 use crate::devices::Devices;
-use crate::library::{Library, Program, Programs};
-use crate::row_error::{RowError, at_case};
+use crate::library::{Command, Library, Program, Programs};
+use crate::report::Report;
+use crate::row_error::RowError;
 use crate::runs::Bench;
 use crate::texts::{first_word, number};
-use crate::wants::{Answer, is_number, is_same};
+use crate::wants::{Answer, Wanted};
 use std::alloc::Global;
 
 /// Whose call fails.
@@ -30,7 +31,7 @@ struct Fault {
 struct Runs<'a> {
     alloc: Global,
     image: &'a [u8],
-    words: &'a str,
+    command: Command<'a>,
     /// The bytes of a read and of a write, at most.
     read: usize,
     write: usize,
@@ -68,45 +69,50 @@ impl<P: Programs, L: Library> Bench<'_, P, L> {
         program: Program,
         image: &[u8],
         text: &str,
-    ) -> Result<(), RowError> {
-        let Some(runs) = runs_of(self.alloc, image, text) else {
-            return Err(RowError::Unread);
+        report: &mut Report<'_>,
+    ) {
+        let Some(runs) = runs_of(self.alloc, program, image, text) else {
+            return report.fail(RowError::Unread);
         };
-        let whole = self.answer_by(program, runs.words, runs.devices())?;
-        for fault in FAULTS {
-            self.fail_each(program, &runs, fault, &whole)?;
+        if let Some(whole) = self.answer_by(runs.command, runs.devices(), report) {
+            for fault in &FAULTS {
+                self.fail_each(&runs, *fault, &whole, report);
+            }
         }
-        Ok(())
     }
 
     // Lets each call of one side fail in turn, until no call fails: then the answer is the whole one.
-    fn fail_each(
-        &self,
-        program: Program,
-        runs: &Runs<'_>,
-        fault: Fault,
-        whole: &Answer,
-    ) -> Result<(), RowError> {
+    fn fail_each(&self, runs: &Runs<'_>, fault: Fault, whole: &Answer, report: &mut Report<'_>) {
         for calls in 0..=most_calls(runs.image, whole) {
-            let came = self.answer_by(program, runs.words, runs.failing_devices(fault, calls))?;
-            at_case(runs.compare(whole, fault.side, calls, &came), calls)?;
-            if !came.has_failed {
-                return Ok(());
+            let devices = runs.failing_devices(fault, calls);
+            let Some(came) = self.answer_by(runs.command, devices, report) else {
+                return;
+            };
+            report.case = Some(calls);
+            runs.wanted(whole, fault.side, calls, &came)
+                .compare(&came, report);
+            if report.has_failed || !came.has_failed {
+                return;
             }
         }
-        Err(RowError::NoEnd)
+        report.fail(RowError::NoEnd);
     }
 }
 
 // The runs that a line tells.
-fn runs_of<'a>(alloc: Global, image: &'a [u8], text: &'a str) -> Option<Runs<'a>> {
+fn runs_of<'a>(
+    alloc: Global,
+    program: Program,
+    image: &'a [u8],
+    text: &'a str,
+) -> Option<Runs<'a>> {
     let (read, rest) = first_word(text);
     let (write, words) = first_word(rest);
     let (read, write) = number(read).zip(number(write))?;
     Some(Runs {
         alloc,
         image,
-        words,
+        command: Command { program, words },
         read,
         write,
     })
@@ -147,62 +153,20 @@ impl<'a> Runs<'a> {
         devices
     }
 
-    // Says what in a run is not as wanted, where one side fails after so many calls or none fails.
-    fn compare(
-        &self,
-        whole: &Answer,
-        side: Side,
-        calls: usize,
-        came: &Answer,
-    ) -> Result<(), RowError> {
-        if came.has_failed {
-            return self.cut_short(whole, side, calls).compare(self.alloc, came);
+    // What must come of a run of which one side fails after so many calls, or none. A failure of errors leaves the status and
+    // output as they are.
+    fn wanted<'b>(&self, whole: &'b Answer, side: Side, calls: usize, came: &Answer) -> Wanted<'b> {
+        if !came.has_failed {
+            return whole.wanted();
         }
-        let expected = Expected {
-            status: whole.status,
-            output: &whole.output,
-            errors: &whole.errors,
-        };
-        expected.compare(self.alloc, came)
-    }
-
-    // What must come where one side fails after so many calls. A failure of errors leaves the status and output as they are.
-    fn cut_short<'b>(&self, whole: &'b Answer, side: Side, calls: usize) -> Expected<'b> {
         let written = calls.saturating_mul(self.write);
         match side {
-            Side::Input => Expected {
-                status: 3,
-                output: b"",
-                errors: b"read fault\n",
-            },
-            Side::Output => Expected {
-                status: 3,
-                output: front(&whole.output, written),
-                errors: b"write fault\n",
-            },
-            Side::Errors => Expected {
-                status: whole.status,
-                output: &whole.output,
-                errors: front(&whole.errors, written),
-            },
+            Side::Input => Wanted::texts(3, b"", b"read fault\n"),
+            Side::Output => Wanted::texts(3, front(&whole.output, written), b"write fault\n"),
+            Side::Errors => {
+                Wanted::texts(whole.status, &whole.output, front(&whole.errors, written))
+            }
         }
-    }
-}
-
-/// What must come of a run.
-#[derive(Clone, Copy)]
-struct Expected<'b> {
-    status: u8,
-    output: &'b [u8],
-    errors: &'b [u8],
-}
-
-impl Expected<'_> {
-    // Says what in a run is not as wanted.
-    fn compare(&self, alloc: Global, came: &Answer) -> Result<(), RowError> {
-        is_same(alloc, "output", self.output, &came.output)?;
-        is_same(alloc, "errors", self.errors, &came.errors)?;
-        is_number(alloc, "status", self.status as usize, came.status as usize)
     }
 }
 

@@ -1,34 +1,36 @@
 // What is asked for by the words of the command line: rows of files, or library calls.
 
 use crate::library::{Library, Programs};
-use crate::row_error::{Failure, RowError};
+use crate::report::Report;
+use crate::row_error::RowError;
 use crate::runs::Bench;
 use crate::state::State;
-use std::alloc::AllocError;
 use std::rt::{Env, Files};
 use std::{fs, io};
 
 impl<P: Programs, L: Library> Bench<'_, P, L> {
-    // The rows of a text that fail. A text without rows is a failure.
-    fn failures(&self, text: &str) -> Result<Vec<Failure>, AllocError> {
+    // Reports the rows of a text that fail. A text without rows is a failure.
+    fn try_rows(&self, text: &str, report: &mut Report<'_>) {
         let mut state = State::new(self.alloc);
+        let mut number = 0usize;
         for line in text.lines() {
-            let number = state.line.saturating_add(1);
-            state.line = number;
-            let outcome = self.step(&mut state, line);
-            state.keep_failure(number, outcome)?;
+            number = number.saturating_add(1);
+            self.step(&mut state, number, line, report);
         }
-        state.failed()
+        state.finish(report);
+        if !state.has_rows {
+            report.go_to(1);
+            report.fail(RowError::NoRow);
+        }
     }
 
     // Prints what is wrong with the rows of a file, and answers how many failed.
     fn run_file(&self, rt: &(impl Files + Print + AllocGlobal), name: &str) -> io::Result<usize> {
         let text = fs::read_to_string(rt, name)?;
-        let failures = self.failures(text.as_str())?;
-        for Failure { line, error } in &failures {
-            println!(rt; "{name}:{line}: {error}")?;
-        }
-        Ok(failures.len())
+        let mut report = Report::new(self.alloc, name);
+        self.try_rows(text.as_str(), &mut report);
+        print!(rt; "{}", report.text)?;
+        Ok(report.failed)
     }
 
     // Runs the rows of these files, and answers whether none failed.

@@ -12,6 +12,13 @@ pub enum Program {
     Survey,
 }
 
+/// A program with its words, joined by spaces.
+#[derive(Clone, Copy)]
+pub struct Command<'a> {
+    pub program: Program,
+    pub words: &'a str,
+}
+
 /// What has a tree.
 #[derive(Clone, Copy)]
 pub enum TreeOf<'a> {
@@ -35,14 +42,20 @@ pub trait Programs {
     fn call(&self, name: &str) -> &'static str;
 }
 
-/// The library calls that the rows ask. A text is what a call answers; there is none where it answers nothing.
+/// The library calls that the rows ask.
 pub trait Library {
-    /// What the call of a name answers about a text, on the volume of an image or on the tree of the lines that the text tells:
-    /// `Unread` if no call has the name, or it takes another text.
-    fn answer(&self, call: &str, about: &str, image: &[u8]) -> Result<Option<Vec<u8>>, RowError>;
+    /// Appends what the call of a name answers about a text, on the volume of an image or on the tree of the lines that the text
+    /// tells, `nothing` where it answers nothing: `Unread` if no call has the name, or it takes another text.
+    fn answer(
+        &self,
+        call: &str,
+        about: &str,
+        image: &[u8],
+        text: &mut String,
+    ) -> Result<(), RowError>;
 
-    /// The paths of a valid volume in the order of its walk, with `, ` between them.
-    fn paths(&self, image: &[u8]) -> Result<Vec<u8>, RowError>;
+    /// Appends the paths of a valid volume in the order of its walk, with `, ` between them.
+    fn push_paths(&self, image: &[u8], text: &mut Vec<u8>) -> Result<(), RowError>;
 
     /// The first entry in which an image has not the tree that is wanted: 0 the root, `None` if it has that tree.
     fn other_entry(&self, wanted: TreeOf<'_>, image: &[u8]) -> Result<Option<usize>, RowError>;

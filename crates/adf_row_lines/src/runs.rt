@@ -3,10 +3,11 @@
 ghost use Rattle.std.specs.Prelude.{◌≡◌, false};
 
 use crate::devices::Devices;
-use crate::library::{Library, Program, Programs};
+use crate::library::{Command, Library, Program, Programs};
+use crate::report::Report;
 use crate::row_error::RowError;
 use crate::texts::lines_text;
-use crate::wants::{Answer, Wanted, is_number};
+use crate::wants::{Answer, Wanted};
 use std::alloc::{AllocError, Global};
 
 /// What the rows try, with the memory that it takes.
@@ -18,13 +19,13 @@ pub struct Bench<'a, P, L> {
 }
 
 // The words of a command, the program's name in front.
-fn words_of(alloc: Global, program: Program, text: &str) -> Result<Vec<&str>, AllocError> {
+fn words_of<'a>(alloc: Global, command: Command<'a>) -> Result<Vec<&'a str>, AllocError> {
     let mut words = Vec::new(alloc);
-    words.push(match program {
+    words.push(match command.program {
         Program::Adf => "adf",
         Program::Survey => "adf-survey",
     })?;
-    for word in text.split(' ') {
+    for word in command.words.split(' ') {
         if !word.is_empty() {
             words.push(word)?;
         }
@@ -33,47 +34,70 @@ fn words_of(alloc: Global, program: Program, text: &str) -> Result<Vec<&str>, Al
 }
 
 impl<P: Programs, L: Library> Bench<'_, P, L> {
-    /// Runs a program with these words over these devices.
+    /// Runs a command over these devices.
     pub fn answer_by(
         &self,
-        program: Program,
-        words: &str,
+        command: Command<'_>,
         mut devices: Devices<'_>,
-    ) -> Result<Answer, RowError>
+        report: &mut Report<'_>,
+    ) -> Option<Answer>
         requires input { devices.input.has_failed ≡ false }
         requires output { devices.output.has_failed ≡ false }
         requires errors { devices.errors.has_failed ≡ false }
     {
-        let words = words_of(self.alloc, program, words)?;
-        let status = self.programs.run(program, &words, &mut devices);
-        Ok(devices.answer(status))
+        let Ok(words) = words_of(self.alloc, command) else {
+            report.fail(RowError::NoMemory);
+            return None;
+        };
+        let status = self.programs.run(command.program, &words, &mut devices);
+        Some(devices.answer(status))
     }
 
-    /// Runs a program with these words over bytes.
-    pub fn answer(&self, program: Program, words: &str, bytes: &[u8]) -> Result<Answer, RowError> {
+    /// Runs a command over bytes.
+    pub fn answer(
+        &self,
+        command: Command<'_>,
+        bytes: &[u8],
+        report: &mut Report<'_>,
+    ) -> Option<Answer> {
         self.answer_by(
-            program,
-            words,
+            command,
             Devices::new(self.alloc, bytes, usize::MAX, usize::MAX),
+            report,
         )
     }
 
-    /// A program with these words answers over bytes what is wanted.
+    /// A command answers over bytes what is wanted.
     pub fn meets(
         &self,
-        program: Program,
-        words: &str,
+        command: Command<'_>,
         bytes: &[u8],
-        wanted: &Wanted,
-    ) -> Result<(), RowError> {
-        wanted.compare(self.alloc, &self.answer(program, words, bytes)?)
+        wanted: &Wanted<'_>,
+        report: &mut Report<'_>,
+    ) {
+        if let Some(came) = self.answer(command, bytes, report) {
+            wanted.compare(&came, report);
+        }
     }
 
-    /// What `build` makes of the lines of a manifest that it takes.
-    pub fn built(&self, lines: &str) -> Result<Vec<u8>, RowError> {
-        let text = lines_text(self.alloc, lines)?;
-        let came = self.answer(Program::Adf, "build", &text)?;
-        is_number(self.alloc, "status", 0, came.status as usize)?;
-        Ok(came.output)
+    /// What `build` makes of the lines of a manifest; `None` if it refuses them.
+    pub fn built(&self, lines: &str, report: &mut Report<'_>) -> Option<Vec<u8>> {
+        let Ok(text) = lines_text(self.alloc, lines) else {
+            report.fail(RowError::NoMemory);
+            return None;
+        };
+        let came = self.answer(BUILD, &text, report)?;
+        report.compare_numbers("status", 0, came.status as usize);
+        if came.status == 0 {
+            Some(came.output)
+        } else {
+            None
+        }
     }
 }
+
+/// The command `build`.
+pub const BUILD: Command<'static> = Command {
+    program: Program::Adf,
+    words: "build",
+};

@@ -1,18 +1,18 @@
 // The image and the row at a line of a file.
 
 use crate::changes::change;
-use crate::row_error::{Failure, RowError};
+use crate::report::Report;
+use crate::row_error::RowError;
 use crate::texts::{lines_text, number};
-use crate::wants::{Answer, Wanted};
+use crate::trial::Trial;
+use crate::wants::Answer;
 use crate::words::put_words;
-use std::alloc::{AllocError, Global};
+use std::alloc::Global;
 
 /// What the lines up to one have made.
 #[derive(Drop)]
 pub struct State {
     alloc: Global,
-    /// The line, from 1.
-    pub line: usize,
     pub image: Vec<u8>,
     named: Vec<Image>,
     /// What the last run wrote to output.
@@ -20,7 +20,6 @@ pub struct State {
     row: Option<Trial>,
     /// Whether a row was begun.
     pub has_rows: bool,
-    failures: Vec<Failure>,
 }
 
 /// An image with its name.
@@ -30,46 +29,48 @@ struct Image {
     bytes: Vec<u8>,
 }
 
-/// A row that is not at its end.
-#[derive(Drop)]
-struct Trial {
-    /// Its first line.
-    line: usize,
-    came: Option<Answer>,
-    wanted: Wanted,
-}
-
 impl State {
     pub fn new(alloc: Global) -> State {
         State {
             alloc,
-            line: 0,
             image: Vec::new(alloc),
             named: Vec::new(alloc),
             output: Vec::new(alloc),
             row: None,
             has_rows: false,
-            failures: Vec::new(alloc),
+        }
+    }
+
+    /// Begins a row at a line.
+    pub fn begin(&mut self, line: usize) {
+        self.has_rows = true;
+        self.row = Some(Trial::new(self.alloc, line));
+    }
+
+    /// Ends the row, if one was begun.
+    pub fn finish(&mut self, report: &mut Report<'_>) {
+        let Some(row) = self.row.take() else {
+            return;
+        };
+        row.finish(report);
+        let came = row.came;
+        if let Some(came) = came {
+            self.output = came.output;
         }
     }
 
     /// Does what a line says for which no program or library call is needed; `None` if it says something else.
     pub fn take(&mut self, line: &str, word: &str, rest: &str) -> Option<Result<(), RowError>> {
         match line.as_bytes() {
-            [] => return Some(self.finish()),
             [b'#', ..] => return Some(Ok(())),
             [b'0'..=b'9', ..] => return Some(put_words(self.alloc, &mut self.image, line)),
             _ => {}
         }
         Some(match word {
-            "row" => self.begin(),
             "blocks" => self.set_zeros(rest, 512),
             "zeros" => self.set_zeros(rest, 1),
-            "manifest" => self.set_image(lines_text(self.alloc, rest)),
-            "on" => {
-                let image = self.image_on(rest);
-                self.set_image(image)
-            }
+            "manifest" => self.set_lines(rest),
+            "on" => self.set_image(rest),
             "name" => self.keep(rest),
             _ => {
                 return match change(&mut self.image, word, rest) {
@@ -80,68 +81,15 @@ impl State {
         })
     }
 
-    /// Takes the image that a line makes.
-    pub fn set_image(&mut self, image: Result<Vec<u8>, RowError>) -> Result<(), RowError> {
-        self.image = image?;
-        Ok(())
-    }
-
     /// Takes the answer of the row's run.
-    pub fn set_answer(&mut self, answer: Result<Answer, RowError>) -> Result<(), RowError> {
-        let answer = answer?;
-        let Some(row) = &mut self.row else {
-            return Err(RowError::Unread);
-        };
-        row.came = Some(answer);
-        Ok(())
-    }
-
-    /// Keeps the failure of a row that begins at a line, if it failed.
-    pub fn keep_failure(
-        &mut self,
-        line: usize,
-        outcome: Result<(), RowError>,
-    ) -> Result<(), AllocError> {
-        if let Err(error) = outcome {
-            self.failures.push(Failure { line, error })?;
+    pub fn set_answer(&mut self, answer: Answer) -> Result<(), RowError> {
+        match &mut self.row {
+            Some(row) => {
+                row.came = Some(answer);
+                Ok(())
+            }
+            None => Err(RowError::Unread),
         }
-        Ok(())
-    }
-
-    /// The rows that failed, at the end of the file. A file without rows is a failure.
-    pub fn failed(mut self) -> Result<Vec<Failure>, AllocError> {
-        let line = self.line;
-        let outcome = self.finish();
-        self.keep_failure(line, outcome)?;
-        if !self.has_rows {
-            self.keep_failure(1, Err(RowError::NoRow))?;
-        }
-        Ok(self.failures)
-    }
-
-    // Ends the row, if one was begun.
-    fn finish(&mut self) -> Result<(), RowError> {
-        let Some(Trial { line, came, wanted }) = self.row.take() else {
-            return Ok(());
-        };
-        let Some(came) = came else {
-            return Ok(self.keep_failure(line, Err(RowError::NoRun))?);
-        };
-        let outcome = wanted.compare(self.alloc, &came);
-        self.output = came.output;
-        Ok(self.keep_failure(line, outcome)?)
-    }
-
-    // Begins a row, and ends the one before.
-    fn begin(&mut self) -> Result<(), RowError> {
-        let outcome = self.finish();
-        self.has_rows = true;
-        self.row = Some(Trial {
-            line: self.line,
-            came: None,
-            wanted: Wanted::new(self.alloc, None),
-        });
-        outcome
     }
 
     // Takes so many zeros of so many bytes for the image.
@@ -150,6 +98,12 @@ impl State {
             return Err(RowError::Unread);
         };
         self.image = vec![in self.alloc; 0u8; count.saturating_mul(each)]?;
+        Ok(())
+    }
+
+    // Takes the text of lines for the image.
+    fn set_lines(&mut self, lines: &str) -> Result<(), RowError> {
+        self.image = lines_text(self.alloc, lines)?;
         Ok(())
     }
 
@@ -163,23 +117,28 @@ impl State {
         Ok(Vec::from_slice(self.alloc, image)?)
     }
 
+    // Takes the image of a name.
+    fn set_image(&mut self, name: &str) -> Result<(), RowError> {
+        self.image = self.image_on(name)?;
+        Ok(())
+    }
+
     // Gives the image as it is a name.
     fn keep(&mut self, name: &str) -> Result<(), RowError> {
         let name = String::from_str(self.alloc, name)?;
         let bytes = Vec::from_slice(self.alloc, &self.image)?;
-        self.named.push(Image { name, bytes })?;
-        Ok(())
+        Ok(self.named.push(Image { name, bytes })?)
     }
 
     // Takes what a line tells of what is wanted; `None` if it tells nothing of it.
     fn want(&mut self, word: &str, rest: &str) -> Option<Result<(), RowError>> {
-        let Some(Trial { wanted, .. }) = &mut self.row else {
+        let Some(row) = &mut self.row else {
             return None;
         };
         if word == "image" {
-            return Some(push_image(&mut wanted.output, &self.named, rest));
+            return Some(push_image(&mut row.output, &self.named, rest));
         }
-        wanted.take(self.alloc, word, rest)
+        row.take(self.alloc, word, rest)
     }
 }
 
@@ -195,6 +154,5 @@ fn image_of<'a>(images: &'a [Image], name: &str) -> Result<&'a [u8], RowError> {
 
 // Appends the image of a name.
 fn push_image(output: &mut Vec<u8>, images: &[Image], name: &str) -> Result<(), RowError> {
-    output.extend_from_slice(image_of(images, name)?)?;
-    Ok(())
+    Ok(output.extend_from_slice(image_of(images, name)?)?)
 }

@@ -43,12 +43,16 @@ pub fn block_range(text: &str) -> Option<(u32, u32)> {
 /// Appends a line.
 pub fn push_line(text: &mut Vec<u8>, line: &str) -> Result<(), RowError> {
     text.extend_from_slice(line.as_bytes())?;
-    text.push(b'\n')?;
-    Ok(())
+    Ok(text.extend_from_slice(b"\n")?)
+}
+
+/// The text of one line.
+pub fn line_text(alloc: Global, line: &str) -> Result<Vec<u8>, AllocError> {
+    Ok(format!(in alloc; "{line}\n")?.into_bytes())
 }
 
 /// Lines, told with ` | ` between them.
-pub fn lines_text(alloc: Global, lines: &str) -> Result<Vec<u8>, RowError> {
+pub fn lines_text(alloc: Global, lines: &str) -> Result<Vec<u8>, AllocError> {
     let mut text = lines.replace(alloc, " | ", "\n")?;
     text.push('\n')?;
     Ok(text.into_bytes())
@@ -62,14 +66,11 @@ pub fn begin_item(text: &mut Vec<u8>) -> Result<(), AllocError> {
     text.extend_from_slice(b", ")
 }
 
-/// The text of a number.
-pub fn number_text(alloc: Global, number: usize) -> Result<Vec<u8>, AllocError> {
-    Ok(format!(in alloc; "{number}")?.into_bytes())
-}
-
-/// Lengths, equal ones that follow on one another as `LEN x COUNT`; `no pieces` where there is none.
-pub fn runs_text(alloc: Global, lengths: &[usize]) -> Result<Vec<u8>, AllocError> {
-    let mut text = String::new(alloc);
+/// Appends lengths, equal ones that follow on one another as `LEN x COUNT`; `no pieces` where there is none.
+pub fn push_runs(text: &mut String, lengths: &[usize]) -> Result<(), AllocError> {
+    if lengths.is_empty() {
+        return text.push_str("no pieces");
+    }
     let mut count = 0usize;
     for (i, len) in lengths.iter().enumerate() {
         count = count.saturating_add(1);
@@ -80,8 +81,5 @@ pub fn runs_text(alloc: Global, lengths: &[usize]) -> Result<Vec<u8>, AllocError
         write!(text, "{between}{len} x {count}")?;
         count = 0;
     }
-    if text.is_empty() {
-        text.push_str("no pieces")?;
-    }
-    Ok(text.into_bytes())
+    Ok(())
 }

@@ -6,7 +6,7 @@ use adf_base::{seal, set_word};
 use std::alloc::Global;
 
 /// A word of a block, with its value.
-#[derive(Drop)]
+#[derive(Clone, Copy)]
 pub struct Word {
     block: u32,
     index: usize,

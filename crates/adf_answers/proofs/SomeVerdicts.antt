@@ -37,7 +37,7 @@ use Rattle.adf_manifest.proofs.Growth.{with_new, with_run}
 use Rattle.adf_manifest.proofs.Growth.{with_run_is, with_run_lines}
 use Rattle.adf_manifest.proofs.Forms.{line_same}
 use Rattle.adf_manifest.proofs.LastLines.{stamps_behind, with_label, with_stamps}
-use Rattle.adf_manifest.proofs.SomeForms.{dec_form, dec_volume}
+use Rattle.adf_answers.proofs.SomeForms.{dec_form, dec_volume}
 use Rattle.adf_manifest.proofs.StateLaws.{bare_lines, bare_well, filled_list, path_filled}
 use Rattle.adf_manifest.proofs.TreesOfLines.{adding_lines}
 
