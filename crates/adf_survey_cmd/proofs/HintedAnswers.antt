@@ -7,9 +7,9 @@ use Rattle.std.proofs.lemmas.List.{take-take}
 use Rattle.adf_blocks.specs.declared.layout.TheConstants.{MOST_BLOCKS}
 use Rattle.adf_partitions.specs.declared.layout.TheConstants.{RDSK_BLOCKS}
 use Rattle.adf_runs.specs.Commands.{Reply, WritesFront}
-use Rattle.adf_runs.specs.Outcomes.{EndsBy, WritesOne, is_read_fault, is_write_fault, outcome_text, status_of}
+use Rattle.adf_runs.specs.Outcomes.{EndsBy, WritesOne, outcome_text, status_of}
 use Rattle.adf_runs.specs.Streams.{AppendsPart}
-use Rattle.adf_runs.specs.declared.outcome.Outcome.{Outcome, TheVariants.LeftOut, TheVariants.ReadFault, TheVariants.WriteFault, TheVariants.NoMemory}
+use Rattle.adf_runs.specs.declared.outcome.Outcome.{Outcome, TheVariants.LeftOut, TheVariants.NoMemory}
 use Rattle.adf_survey_cmd.specs.Hints.{GetsHint, HasHint, Hinted, begins_disk, disk_hint, hinted, is_hard_disk}
 
 -- the output is the same
@@ -90,22 +90,3 @@ module _ (input : List ℕ) (answers : Reply → Type 0) (o o' : Option (List �
       let kept : ((status_of w == 1) && is_hard_disk input) ≡ false = ap (λ (d : Bool). (status_of w == 1) && d) (sym disk) ∙ other in
       subst (λ (u : Outcome). EndsBy (Hinted input answers) u o o') (sym same) (unhinted_ends w kept h)
   hinted_ends on_disk w v disk (inr (one, on, hint)) h = has_hint_ends w v one (sym disk ∙ on) hint h
-
--- which device failed stays
-has_no_fault : (w v : Outcome) → HasHint w v → (is_read_fault v ≡ false) × (is_write_fault v ≡ false)
-has_no_fault w (LeftOut text) e = (refl, refl)
-has_no_fault w NoMemory e = (refl, refl)
-has_no_fault w _ e = absurd e
-
-one_no_fault : (w : Outcome) → status_of w ≡ 1 → (is_read_fault w ≡ false) × (is_write_fault w ≡ false)
-one_no_fault ReadFault e = absurd (omega arith)
-one_no_fault WriteFault e = absurd (omega arith)
-one_no_fault w e = (refl, refl)
-
-pub same_read_fault : (on_disk : Bool) (w v : Outcome) → GetsHint on_disk w v → is_read_fault v ≡ is_read_fault w
-same_read_fault on_disk w v (inl (other, same)) = ap is_read_fault same
-same_read_fault on_disk w v (inr (one, on, hint)) = (has_no_fault w v hint).0 ∙ sym (one_no_fault w one).0
-
-pub same_write_fault : (on_disk : Bool) (w v : Outcome) → GetsHint on_disk w v → is_write_fault v ≡ is_write_fault w
-same_write_fault on_disk w v (inl (other, same)) = ap is_write_fault same
-same_write_fault on_disk w v (inr (one, on, hint)) = (has_no_fault w v hint).1 ∙ sym (one_no_fault w one).1
