@@ -6,7 +6,7 @@ use Rattle.adf_base.specs.declared.hash.Letters.TheVariants.{Ascii}
 use Rattle.adf_names.specs.Texts.{uppers_by}
 use Rattle.adf_tree.specs.declared.entry.Body.TheVariants.{Dir, File}
 use Rattle.adf_tree.specs.declared.entry.Entry.{Entry}
-use Rattle.adf_tree.specs.Tree.{IsTree, Tree, child, entry, find, find_from, is_child}
+use Rattle.adf_tree.specs.Tree.{IsTree, Tree, child, entry, find, find_from, find_from_by, is_child}
 use Rattle.adf_tree.proofs.ChildLookup.{child_is, child_says, found_is, is_child_from}
 use Rattle.adf_volume.specs.Fits.{Fits}
 use Rattle.adf_volume.specs.Image.{content, kind_of, letters_of, name_of, root_of, word_in}
@@ -76,7 +76,7 @@ module _ (image : List ℕ) (w : Walk) (v : IsWalk image w) (tree : IsTree (entr
 
   leads_found : (path : List (List ℕ)) (p n : ℕ) → LeadsTo image w p path n → find_from entries p path ≡ Some n
   leads_found [] p n e = ap Some e
-  leads_found (name ∷ names) p n x = rw (child_entry p x.0 name x.1.0, find_from) (leads_found names x.0 n x.2)
+  leads_found (name ∷ names) p n x = rw (child_entry p x.0 name x.1.0, find_from_by) (leads_found names x.0 n x.2)
 
   found_leads : (path : List (List ℕ)) (p n : ℕ) → find_from entries p path ≡ Some n → LeadsTo image w p path n
   found_leads [] p n e = cc
