@@ -9,7 +9,7 @@ use Rattle.adf_partitions.specs.declared.layout.TheConstants.{RDSK_BLOCKS}
 use Rattle.adf_runs.specs.Commands.{Reply, WritesFront}
 use Rattle.adf_runs.specs.Outcomes.{EndsBy, WritesOne, outcome_text, status_of}
 use Rattle.adf_runs.specs.Streams.{AppendsPart}
-use Rattle.adf_runs.specs.declared.outcome.Outcome.{Outcome, TheVariants.LeftOut, TheVariants.NoMemory}
+use Rattle.adf_runs.specs.declared.outcome.Outcome.{Outcome, TheVariants.LeftOut, TheVariants.ReadFault, TheVariants.WriteFault, TheVariants.NoMemory}
 use Rattle.adf_survey_cmd.specs.Hints.{GetsHint, HasHint, Hinted, begins_disk, disk_hint, hinted, is_hard_disk}
 
 -- the output is the same
