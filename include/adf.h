@@ -478,7 +478,7 @@ struct adf_rescue_told {
  *    unchanged.
  * An adf_cause: nothing stands. It is the first fault of the image, at told->block.
  * ADF_RESCUE_SMALL_ROOM: the volume has told->blocks blocks, and the room has fewer bytes. A volume has as many blocks as the image;
- *    if blocks is not 0, it has so many.
+ *    if blocks is not 0, it has so many. A room of as many blocks is not refused so.
  * ADF_NO_MEMORY: an allocation failed. All fields are 0.
  *
  * Whatever is returned but 0, the three rooms are unchanged.

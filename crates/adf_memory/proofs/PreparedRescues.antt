@@ -1,8 +1,8 @@
 -- Rescues that are prepared, and what they give.
 -- Letters: w the walk of a survey, fs its findings; a a survey, b the second one, if there is one; r what a rescue gives; p a prepared rescue;
--- x one that is ready; ls losses.
-use Rattle.std.proofs.Common.{◌≡◌, ◌≢◌, ◌∙◌, ℕ, Bool, List, [], ap, refl, sym, Option, None, Some, IfOk, inl, inr, is_some, subst}
-use Rattle.std.specs.Prelude.{Result, Ok, Err}
+-- x one that is ready; ls losses; t a tree.
+use Rattle.std.proofs.Common.{◌≡◌, ◌≢◌, ◌∙◌, ◌<◌, ◌*◌, ◌/◌, ℕ, Bool, List, [], ap, refl, sym, Option, None, Some, inl, inr, is_some, subst}
+use Rattle.std.specs.Prelude.{IfErr, IfOk, Result, Ok, Err}
 use Rattle.std.specs.Result.{IsErrAnd}
 use Rattle.adf_tree.specs.Tree.{Tree}
 use Rattle.adf_blocks.specs.Sizes.{blocks}
@@ -12,14 +12,19 @@ use Rattle.adf_findings.specs.Files.{grave}
 use Rattle.adf_findings.specs.SoundMarks.{AreMarks}
 use Rattle.adf_findings.specs.Survey.{FindingValue, IsSurvey}
 use Rattle.adf_build.specs.Building.{IsBuildable}
-use Rattle.adf_build.specs.Laid.{IsLaid}
+use Rattle.adf_build.specs.Laid.{IsLaid, volume}
+use Rattle.adf_build.proofs.LaidWrites.{CanHold, volume_blocks}
+use Rattle.adf_build.proofs.WholeVolume.{volume_laid}
+use Rattle.adf_boot_blocks.specs.Writing.{restored}
+use Rattle.adf_boot_blocks.proofs.Restored.{other_restored}
 use Rattle.adf_rescue.proofs.OpenedImages.{opened_kept}
 use Rattle.adf_rescue.specs.Opened.{is_mended, opened}
 use Rattle.adf_rescue.specs.Rescue.{Basis, StandsNothing, rescued_tree}
 use Rattle.adf_survey_cmd.specs.Rescues.{second_image}
+use Rattle.adf_survey_cmd.proofs.KeptBoots.{laid_long}
 use Rattle.adf_memory.specs.Losses.{LossTableValue, loss_table, rescue_losses, table_of_losses}
 use Rattle.adf_memory.specs.Rescuing.{HasRescue, IsHopeless, IsOpened, IsPut, IsRefusal, LaysFor, Prepares, Rescue, RescueBoth, RescueBy, RescueIn}
-use Rattle.adf_memory.specs.Rescuing.{ExplainsRescue, Readies, RefusesFor, RescueOf, RescueValue, RescueValue.written, told_volume, unrescued_refusal}
+use Rattle.adf_memory.specs.Rescuing.{ExplainsRescue, IsRoomRefusal, Readies, RefusesFor, RescueOf, RescueValue, RescueValue.written, told_volume, unrescued_refusal}
 use Rattle.adf_survey_cmd.specs.Subject.{IsTyped, SubjectValue, sized}
 use Rattle.adf_memory.specs.Rooms.{filled}
 use Rattle.adf_memory.specs.declared.losses.TableLoss.{TableLoss}
@@ -28,6 +33,7 @@ use Rattle.adf_memory.specs.declared.preparing.Unrescued.{Unrescued}
 use Rattle.adf_memory.specs.declared.preparing.Unrescued.TheVariants.{NoMemory, Refused}
 use Rattle.adf_memory.specs.declared.rescuing.Ready.{Ready}
 use Rattle.adf_memory.specs.declared.rescuing.RescueRefusal.{RescueRefusal}
+use Rattle.adf_memory.specs.declared.rescuing.RescueRefusal.TheVariants as refusal
 use Rattle.adf_memory.specs.declared.rescuing.RescueTold.{RescueTold}
 
 -- what a rescue gives by the survey of an opened image, and by that of a second one, if there is one
@@ -99,6 +105,28 @@ put_given gives x old new old_rows new_rows old_paths new_paths (Ok told) (room,
       tells = put.tells ∙ (λ i. told_volume (sym long i) (same i));
     }
 put_given gives x old new old_rows new_rows old_paths new_paths (Err refusal) lays put = tt
+
+-- a room that is refused as small is too small for a volume that the rescue gives
+pub room_explained : (gives : RescueValue → Type 0) (x : Ready) (room : ℕ) (result : Result RescueTold RescueRefusal)
+    → Readies gives (Ok x) → IfErr result (IsRoomRefusal x.prepared.draft.tree x.prepared.blocks room)
+    → IfErr result (ExplainsRescue gives room)
+room_explained gives x room (Ok told) ready h = tt
+room_explained gives x room (Err (refusal.Fault f)) ready h = absurd h
+room_explained gives x room (Err (refusal.SmallRoom n)) (whole, (fits, ls, same, lays)) (sound, is, small) =
+    let t : Tree = x.prepared.draft.tree in
+    let image : List ℕ = volume t x.prepared.blocks in
+    let can : CanHold t x.prepared.blocks = record { sound = sound; allowed = fits.allowed; room = fits.room } in
+    let laid = volume_laid can in
+    let long = (other_restored image x.boot.items (laid_long image t laid) whole).long in (
+      (
+        restored image x.boot.items,
+        ls,
+        lays image laid (volume_blocks can),
+        ap (λ (m : ℕ). m / 512) long ∙ volume_blocks can ∙ sym is,
+      ),
+      subst (λ (m : ℕ). room < m * 512) (sym is) small,
+    )
+room_explained gives x room (Err refusal.NoMemory) ready h = tt
 
 -- what is prepared of an image with the type that its files say is that of what is surveyed
 

@@ -1,8 +1,8 @@
 -- What `adf-survey rescue` replies, by what the rescue of a caller gives.
 -- Letters: w the walk of a survey, fs its findings; a a survey, b the second one, if there is one; x an entry that is left out; l a loss, ls losses;
 -- p the node of a directory, ps nodes; k a block, ks blocks; r what a rescue gives; held the number of blocks that the input holds whole.
-use Rattle.std.proofs.Common.{◌≡◌, ◌≢◌, ◌≤◌, ◌∙◌, ◌⊎◌, ◌++◌, ◌+◌, ◌/◌, ◌==◌, ℕ, Bool, true, false, List, [], ◌∷◌, Option, None, Some, ap, ap₂, append-nil, codes, cond}
-use Rattle.std.proofs.Common.{arith, inl, inr, length, refl, subst, sym}
+use Rattle.std.proofs.Common.{◌≡◌, ◌≢◌, ◌≤◌, ◌<◌, ◌∙◌, ◌⊎◌, ◌++◌, ◌+◌, ◌*◌, ◌/◌, ◌==◌, ℕ, Bool, true, false, List, [], ◌∷◌, Option, None, Some}
+use Rattle.std.proofs.Common.{ap, ap₂, append-nil, arith, codes, cond, inl, inr, length, refl, subst, sym}
 use Rattle.std.specs.List.{flat_map}
 use Rattle.std.proofs.lemmas.Grind.{flat_map-append}
 use Rattle.adf_blocks.specs.Sizes.{blocks}
@@ -36,7 +36,8 @@ use Rattle.adf_survey_cmd.proofs.OneAnswer.{one_answer}
 use Rattle.adf_survey_cmd.proofs.SizedImages.{length_sized}
 use Rattle.adf_memory.specs.Losses.{LossValue, block_losses, header_losses, header_of, left_out_losses, path_loss, rescue_losses, run_loss, run_losses, second_losses, why_number}
 use Rattle.adf_memory.specs.RescueReplies.{RepliesRescue, loss_line}
-use Rattle.adf_memory.specs.Rescuing.{IsHopeless, RescueBy, RescueOf, RescueValue, RescueValue.refused, RescueValue.written}
+use Rattle.adf_memory.specs.Rescuing.{ExplainsRescue, IsHopeless, RescueBy, RescueOf, RescueValue, RescueValue.refused, RescueValue.written}
+use Rattle.adf_memory.specs.declared.rescuing.RescueRefusal.TheVariants.{SmallRoom}
 
 -- the lines of all that is not in the volume are those of the losses
 
@@ -166,13 +167,26 @@ length_restored volume image tree laid =
     let whole : BOOT_LEN ≤ length (sized 2 image) = omega (arith, length_sized 2 image) in
     (other_restored volume (sized 2 image) (laid_long volume tree laid) whole).long
 
-pub given_blocks : (s : SubjectValue) (r : RescueValue) → RescueOf s r → IsOfBlocks (blocks s.image) r
+given_blocks : (s : SubjectValue) (r : RescueValue) → RescueOf s r → IsOfBlocks (blocks s.image) r
 given_blocks s r (t, typed, (w, fs, survey, sound, marks, (b, second, inl (hopeless, (f, first, e))))) =
     subst (IsOfBlocks (blocks s.image)) (sym e) tt
 given_blocks s r (t, typed, (w, fs, survey, sound, marks, (b, second, inr (stands, (volume, laid, size, e))))) =
     subst (IsOfBlocks (blocks s.image)) (sym e)
     (ap (λ n. n / 512) (length_restored volume s.image _ laid) ∙ size ∙ ap (λ n. n / 512) (length_opened t.image ∙ typed_length s t typed))
 
-pub meant_image : (n : Option ℕ) (input : List ℕ) → (subject n input).image ≡ meant n input
+meant_image : (n : Option ℕ) (input : List ℕ) → (subject n input).image ≡ meant n input
 meant_image None input = refl
 meant_image (Some n) input = refl
+
+pub meant_blocks : (n : Option ℕ) (input volume : List ℕ) (losses : List LossValue) → RescueOf (subject n input) (written volume losses)
+    → blocks volume ≡ blocks (meant n input)
+meant_blocks n input volume losses given = given_blocks (subject n input) (written volume losses) given ∙ ap blocks (meant_image n input)
+
+-- so many blocks are told of where a room is refused as small
+pub told_blocks : (n : Option ℕ) (input : List ℕ) (room told : ℕ) → ExplainsRescue (RescueOf (subject n input)) room (SmallRoom told)
+    → told ≡ blocks (meant n input)
+told_blocks n input room told ((volume, losses, given, size), small) = sym size ∙ meant_blocks n input volume losses given
+
+-- a room that is too small for so many blocks is smaller than that
+pub too_small : (told n room : ℕ) → told ≡ n → n * 512 ≤ room → room < told * 512 → ⊥
+too_small told n room is enough small = omega arith

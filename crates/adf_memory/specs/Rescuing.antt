@@ -15,7 +15,7 @@ use Rattle.adf_findings.specs.Files.{grave}
 use Rattle.adf_findings.specs.SoundMarks.{AreMarks}
 use Rattle.adf_findings.specs.Survey.{FindingValue, IsSurvey}
 use Rattle.adf_build.specs.Building.{IsBuildable}
-use Rattle.adf_build.specs.Laid.{IsLaid}
+use Rattle.adf_build.specs.Laid.{IsLaid, IsWellFormed}
 use Rattle.adf_rescue.specs.Opened.{is_mended, opened}
 use Rattle.adf_rescue.specs.Rescue.{IsSecond, Basis, StandsNothing, rescued_tree}
 use Rattle.adf_survey_cmd.specs.Rescues.{second_image}
@@ -140,16 +140,21 @@ pub record HasRescue (gives : RescueValue → Type 0) (old new : List ℕ) (old_
   pub paths : new_paths ≡ filled (table_of_losses losses).paths old_paths
   pub tells : told ≡ told_volume (blocks volume) (table_of_losses losses)
 
--- a volume is not laid: its blocks are more than the room has bytes for, or memory is refused
-abbrev pub IsRoomRefusal : ℕ → RescueRefusal → Type 0
-IsRoomRefusal room (refusal.Fault f) = ⊥
-IsRoomRefusal room (refusal.SmallRoom n) = room < n * 512
-IsRoomRefusal room refusal.NoMemory = Unit {0}
+-- the volume of a tree in n blocks is not laid: the fields of the tree fit, and the room is smaller than n blocks; or memory is refused
+abbrev pub IsRoomRefusal : Tree → ℕ → (room : ℕ) → RescueRefusal → Type 0
+IsRoomRefusal t n room (refusal.Fault f) = ⊥
+IsRoomRefusal t n room (refusal.SmallRoom told) = IsWellFormed t × (told ≡ n) × (room < n * 512)
+IsRoomRefusal t n room refusal.NoMemory = Unit {0}
 
--- why no volume is written: the fault that the rescue gives, a small room, or memory is refused
-abbrev pub ExplainsRescue : (RescueValue → Type 0) → ℕ → RescueRefusal → Type 0
+-- a rescue gives a volume of n blocks
+abbrev pub GivesBlocks : (RescueValue → Type 0) → ℕ → Type 0
+GivesBlocks gives n = (volume : List ℕ) × (losses : List LossValue) × gives (written volume losses) × (blocks volume ≡ n)
+
+-- why no volume is written: the fault that the rescue gives; it gives a volume of n blocks, and the room is smaller; or memory is refused
+abbrev pub ExplainsRescue : (RescueValue → Type 0) → (room : ℕ) → RescueRefusal → Type 0
 ExplainsRescue gives room (refusal.Fault f) = gives (refused f)
-ExplainsRescue gives room r = IsRoomRefusal room r
+ExplainsRescue gives room (refusal.SmallRoom n) = GivesBlocks gives n × (room < n * 512)
+ExplainsRescue gives room refusal.NoMemory = Unit {0}
 
 -- the refusal of a rescue that gives no volume
 abbrev pub unrescued_refusal : Unrescued → RescueRefusal

@@ -45,7 +45,7 @@ pub use crate::losses::{LossTable, TableLoss};
 pub use crate::memory::Moved;
 pub use crate::owners::owners_of;
 pub use crate::reading::read_bytes;
-pub use crate::rescue_laws::{rescues_agree, rescues_keep_the_size};
+pub use crate::rescue_laws::{rescues_agree, rescues_keep_the_size, told_rooms_suffice};
 pub use crate::rescuing::{RescueRefusal, RescueTold, rescue_volume};
 pub use crate::running::run_in_memory;
 pub use crate::survey_index::put_survey;

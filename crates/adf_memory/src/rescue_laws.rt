@@ -1,6 +1,6 @@
 // The laws of rescues into the memory of a caller. Each is the contract of a function that does nothing.
 
-ghost use Rattle.std.specs.Prelude.{◌≡◌, ℕ, List, []};
+ghost use Rattle.std.specs.Prelude.{◌≡◌, ◌≤◌, ◌*◌, ℕ, List, []};
 ghost use Rattle.adf_blocks.specs.Sizes.{blocks};
 ghost use Rattle.adf_volume.specs.declared.fault.Fault.{Fault};
 ghost use Rattle.adf_runs.specs.Commands.{Reply};
@@ -13,7 +13,7 @@ ghost use Rattle.adf_memory.specs.RescueReplies.{RepliesRescue};
 ghost use Rattle.adf_memory.specs.Rescuing.{ExplainsRescue, HasRescue, RescueOf, RescueValue, RescueValue.written, asked_blocks};
 ghost use Rattle.adf_memory.specs.Rooms.{filled};
 ghost use Rattle.adf_memory.specs.declared.losses.TableLoss.{TableLoss};
-ghost use Rattle.adf_memory.specs.declared.rescuing.RescueRefusal.TheVariants.{Fault as ForFault};
+ghost use Rattle.adf_memory.specs.declared.rescuing.RescueRefusal.TheVariants.{Fault as ForFault, SmallRoom};
 ghost use Rattle.adf_memory.specs.declared.rescuing.RescueTold.{RescueTold};
 
 /// `adf-survey rescue` replies what `rescue_volume` gives of the same image. Its output is the volume that is written to
@@ -37,4 +37,15 @@ pub fn rescues_keep_the_size()
     ensures { (n : ℕ) (image volume : List ℕ) (losses : List LossValue)
         → RescueOf (subject (asked_blocks n) image) (written volume losses)
         → blocks volume ≡ blocks (meant (asked_blocks n) image) }
+{}
+
+/// A rescue that is refused for a small room tells of as many blocks as the image has, or as are asked for. A room of so many
+/// blocks is not refused as small.
+pub fn told_rooms_suffice()
+    ensures told { (n room told : ℕ) (image : List ℕ)
+        → ExplainsRescue (RescueOf (subject (asked_blocks n) image)) room (SmallRoom told)
+        → told ≡ blocks (meant (asked_blocks n) image) }
+    ensures suffice { (n room told : ℕ) (image : List ℕ)
+        → blocks (meant (asked_blocks n) image) * 512 ≤ room
+        → ¬ ExplainsRescue (RescueOf (subject (asked_blocks n) image)) room (SmallRoom told) }
 {}

@@ -14,6 +14,7 @@ use adf_boot_blocks::restore;
 use adf_build::build_into;
 use adf_drafts::Draft;
 use adf_survey_cmd::Subject;
+use adf_tree::Tree;
 use adf_volume::Fault;
 use std::alloc::Global;
 
@@ -123,24 +124,32 @@ fn refusal_of(unrescued: Unrescued) -> RescueRefusal
 // Lays the volume of a tree that fits in so many blocks into a room of as many bytes, with these boot blocks.
 fn lay_in(
     alloc: Global,
-    draft: Draft,
+    tree: &Tree,
     blocks: u32,
     boot: &[u8],
     room: &mut [u8],
 ) -> Result<(), NoMemory>
     requires size { length room.old ≡ blocks * 512 }
     requires boot { BOOT_LEN ≤ length boot.now }
-    ensures volume { OnOk result (IsVolumeOf draft.tree blocks boot.now room.new) }
+    ensures volume { OnOk result (IsVolumeOf tree.now blocks boot.now room.new) }
     ensures unchanged { OnErr result (room.new ≡ room.old) }
 {
-    let tree = draft.finish(alloc)?;
-    match build_into(alloc, &tree, blocks, room) {
+    match build_into(alloc, tree, blocks, room) {
         Ok(()) => {
             restore(room, boot);
             Ok(())
         }
         Err(_) => Err(NoMemory),
     }
+}
+
+// The refusal of a room that is smaller than the volume of a tree in so many blocks.
+fn small_room(tree: &Tree, blocks: u32) -> RescueRefusal
+    ensures { (room : ℕ) → room < blocks * 512 → IsRoomRefusal tree.now blocks room result }
+{
+    tree.bounds();
+    let _count = tree.len();
+    RescueRefusal::SmallRoom(blocks)
 }
 
 // Lays such a volume at the front of a room.
@@ -154,14 +163,17 @@ fn lay_in_front(
     requires boot { BOOT_LEN ≤ length boot.now }
     ensures volume { OnOk result ((volume : List ℕ) × IsVolumeOf draft.tree blocks boot.now volume
         × (room.new ≡ filled volume room.old)) }
-    ensures fault { IfErr result (IsRoomRefusal (length room.old)) }
+    ensures fault { IfErr result (IsRoomRefusal draft.tree blocks (length room.old)) }
     ensures unchanged { OnErr result (room.new ≡ room.old) }
 {
+    let Ok(tree) = draft.finish(alloc) else {
+        return Err(RescueRefusal::NoMemory);
+    };
     let count = blocks as usize * BLOCK_LEN;
     if room.len() < count {
-        return Err(RescueRefusal::SmallRoom(blocks));
+        return Err(small_room(&tree, blocks));
     }
-    match lay_in(alloc, draft, blocks, boot, &mut room[..count]) {
+    match lay_in(alloc, &tree, blocks, boot, &mut room[..count]) {
         Ok(()) => Ok(()),
         Err(_) => Err(RescueRefusal::NoMemory),
     }
@@ -193,7 +205,8 @@ fn put_rescue(
 ) -> Result<RescueTold, RescueRefusal>
     requires { BOOT_LEN ≤ length ready.boot.items }
     ensures volume { IfOk result (IsPut ready room.old room.new losses.old losses.new paths.old paths.new) }
-    ensures fault { IfErr result (IsRoomRefusal (length room.old)) }
+    ensures fault { IfErr result
+        (IsRoomRefusal ready.prepared.draft.tree ready.prepared.blocks (length room.old)) }
     ensures unchanged { OnErr result
         ((room.new ≡ room.old) × (losses.new ≡ losses.old) × (paths.new ≡ paths.old)) }
 {
