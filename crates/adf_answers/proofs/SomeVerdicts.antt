@@ -37,6 +37,7 @@ use Rattle.adf_manifest.proofs.Growth.{with_new, with_run}
 use Rattle.adf_manifest.proofs.Growth.{with_run_is, with_run_lines}
 use Rattle.adf_manifest.proofs.Forms.{line_same}
 use Rattle.adf_manifest.proofs.LastLines.{stamps_behind, with_label, with_stamps}
+use Rattle.adf_survey_cmd.proofs.SomeRescues.{dec_nil}
 use Rattle.adf_answers.proofs.SomeForms.{dec_form, dec_volume}
 use Rattle.adf_manifest.proofs.StateLaws.{bare_lines, bare_well, filled_list, path_filled}
 use Rattle.adf_manifest.proofs.TreesOfLines.{adding_lines}
@@ -51,10 +52,6 @@ GoesOrFails m text = Goes m text ⊎ ((kind : ManifestKind) × IsLaterFault m te
 dec_none : {A : Type 0} (o : Option A) → Dec (o ≡ None)
 dec_none None = yes refl
 dec_none (Some x) = no (λ e. absurd cc)
-
-dec_nil : {A : Type 0} (xs : List A) → Dec (xs ≡ [])
-dec_nil [] = yes refl
-dec_nil (x ∷ xs) = no (λ e. absurd cc)
 
 dec_file : (sort : Sort) → Dec (sort ≡ File)
 dec_file Dir = no (λ e. absurd cc)

@@ -150,7 +150,7 @@ Apart a b [] = Unit {0}
 Apart a b (f ∷ fs) = ((b ≤ f.0) ⊎ (f.0 + length f.1 ≤ a)) × Apart a b fs
 
 -- what lies above all fields is apart from them
-apart_below : (top a b : ℕ) (fs : List Field) → Descends top fs → top ≤ a → Apart a b fs
+pub apart_below : (top a b : ℕ) (fs : List Field) → Descends top fs → top ≤ a → Apart a b fs
 apart_below top a b [] d le = tt
 apart_below top a b (f ∷ fs) d le = (inr (omega (arith, d.0)), apart_below f.0 a b fs d.1 (omega (arith, d.0)))
 

@@ -26,7 +26,8 @@ use Rattle.adf_findings.specs.Found.{AreNamed, HasValidName, IsChain, KeepsName,
 use Rattle.adf_findings.specs.Found.{at_key, has_name, is_named, known_at, member_in, new_in, owns}
 use Rattle.adf_findings.specs.Parts.{by_key, key_of, role_of}
 use Rattle.adf_findings.proofs.Keys.{equal_keys}
-use Rattle.adf_findings.proofs.Names.{other_name, upper_twice}
+use Rattle.adf_findings.proofs.Names.{other_name}
+use Rattle.adf_names.proofs.RaisedNames.{raised_stays}
 
 pub tells_absent : (w : Walk) (b : ℕ) → Tells (not (owns w b)) (IsAbsent w b)
 tells_absent [] b = λ q h. h
@@ -96,7 +97,7 @@ module _ (image : List ℕ) {part : Part} (b : ℕ) {n p s j : ℕ} (old begun :
   -- the name of the header, if it is valid
   module _ (name : List ℕ) (told : name ≡ uppers_in image (name_of image b)) where
     own : uppers name ≡ uppers_in image (name_of image b)
-    own = ap uppers told ∙ upper_twice (letters_of image) (name_of image b)
+    own = ap uppers told ∙ raised_stays (letters_of image) (name_of image b)
 
     pub name_is_new : (w : Walk) (t : Bool) → t ≡ not (has begun (uppers name)) → AreNamed image w (position_of (role_of part)) old
         → IsChain w part → HasValidName image part b → t ≡ new_in image w part b

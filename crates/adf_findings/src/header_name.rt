@@ -25,7 +25,7 @@ pub fn name_in<'b>(head: &Block<'b>) -> &'b [u8]
 }
 
 // A valid name in upper case.
-#[tactic(auto, using(crate::proofs::Names::valid_upper, std::proofs::lemmas::List::take_all))]
+#[tactic(auto, using(adf_names::proofs::RaisedNames::raised_name, std::proofs::lemmas::List::take_all))]
 fn upper_case(letters: Letters, bytes: &[u8]) -> Name
     requires { is_name bytes.now ≡ true }
     ensures { result ≡ uppers_by letters bytes.now }

@@ -8,12 +8,13 @@ use Rattle.adf_check.specs.declared.owner_class.OwnerClass.TheVariants as class
 use Rattle.adf_volume.specs.Image.{root_of}
 use Rattle.adf_volume.specs.Walk.{Role, Asks, Has, HeadAt, heads, node_block, Walk}
 use Rattle.adf_volume.specs.Walk.Role.{Root, Page, MapExt, Head, Ext, Data}
-use Rattle.adf_volume.proofs.Gathered.{IsGathered, head_block, number_of, numbered, root_in, root_is}
+use Rattle.adf_volume.proofs.Gathered.{IsGathered, head_block, number_of, root_in, root_is}
 use Rattle.adf_volume.proofs.Gathered.IsGathered.{start, step}
 use Rattle.adf_findings.specs.Found.{data_number, entry_in, number_at, owner, owns}
 use Rattle.adf_findings.specs.Survey.{FindingValue, IsSurvey}
 use Rattle.adf_findings.specs.Survey.IsSurvey.{read, unread}
 use Rattle.adf_findings.proofs.BlockOwners.{first_with}
+use Rattle.adf_findings.proofs.Lookups.{header_at}
 use Rattle.adf_findings.proofs.OneSurvey.{gathered}
 use Rattle.adf_findings.proofs.SoundEntries.{one_part}
 use Rattle.adf_findings.proofs.SoundMarks.{owner_of}
@@ -37,14 +38,7 @@ no_data image start n b (inr f) = f
 no_data image (step {w = w} {r = r} a i c v d l) n b (inl e) = subst (λ r. Asks image w r a i) e.0 d
 no_data image (step a i c v d l) n b (inr h) = no_data image v n b h
 
--- the header of an entry that is found
-header_there : (image : List ℕ) (w : Walk) (fs : List FindingValue) → IsSurvey image w fs → (n : ℕ) → 1 ≤ n → n ≤ heads w
-    → HeadAt w n (node_block w n)
-header_there image w fs (unread f) n lo hi = absurd (omega arith)
-header_there image w fs (read {s = s} v d t) n lo hi =
-    let x = numbered image (gathered image v) n lo hi in subst (HeadAt s.walk n) (sym (head_block image (gathered image v) x.1)) x.1
-
--- and the entry of a header
+-- the entry of a header
 entry_there : (image : List ℕ) (w : Walk) (fs : List FindingValue) → IsSurvey image w fs → (n p s j b : ℕ) → Has w (Head n p s j) b
     → (1 ≤ n) × (n ≤ heads w) × (node_block w n ≡ b)
 entry_there image w fs (unread f) n p s j b h = absurd h
@@ -82,7 +76,7 @@ module _ {image : List ℕ} {w : Walk} {fs : List FindingValue} (survey : IsSurv
 
   pub head_class : (r : Role) → Has w r b → (n : ℕ) → 1 ≤ n → n ≤ heads w → node_block w n ≡ b → class.Head ≡ role_class r
   head_class r has n lo hi e =
-      let h = header_there image w fs survey n lo hi in
+      let h = header_at image w fs survey n lo hi in
       same r (Head n h.parent h.slot h.place) has (subst (Has w (Head n h.parent h.slot h.place)) e h.has)
 
   pub ext_class : (r : Role) → Has w r b → (n : ℕ) → entry_in r ≡ Some n → number_at w b ≡ 0

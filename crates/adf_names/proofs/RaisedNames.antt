@@ -15,6 +15,7 @@ upper_stays : (l : Letters) (c : ℕ) → upper_of (upper_by l c) ≡ upper_by l
 upper_stays Ascii c = grind (arith, nat_tests)
 upper_stays International c = grind (arith, nat_tests)
 
+-- a name in upper case is its own
 pub raised_stays : (l : Letters) (xs : List ℕ) → uppers (uppers_by l xs) ≡ uppers_by l xs
 raised_stays l [] = refl
 raised_stays l (c ∷ cs) = rw (upper_stays l c, raised_stays l cs) refl
@@ -28,7 +29,8 @@ raised_bytes : (l : Letters) (xs : List ℕ) → list_all is_name_byte (uppers_b
 raised_bytes l [] = refl
 raised_bytes l (c ∷ cs) = rw (raised_byte l c, raised_bytes l cs) refl
 
-raised_name : (l : Letters) (xs : List ℕ) → is_name (uppers_by l xs) ≡ is_name xs
+-- the upper case of a name is valid if and only if the name is
+pub raised_name : (l : Letters) (xs : List ℕ) → is_name (uppers_by l xs) ≡ is_name xs
 raised_name l xs = rw (length-map xs (upper_by l), raised_bytes l xs) refl
 
 -- there is room for the next byte

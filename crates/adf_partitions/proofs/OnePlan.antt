@@ -1,10 +1,9 @@
 -- A text has one plan, or one fault. p, q are partitions, a, b plans, e, d what stands behind their lines.
-use Rattle.std.proofs.Common.{◌≡◌, ◌∙◌, ℕ, true, false, List, [], ◌∷◌, Option, Some, ap, ap₂, refl, sym, subst, inl, inr, arith}
+use Rattle.std.proofs.Common.{◌≡◌, ◌∙◌, ℕ, true, false, List, [], ◌∷◌, ap, ap₂, refl, sym, subst, inl, inr, arith}
 use Rattle.std.proofs.lemmas.Grind.{common_steps}
 use Rattle.adf_names.proofs.Spellings.{only_spelled}
-use Rattle.adf_names.specs.declared.kind.Kind.{Kind}
+use Rattle.adf_partitions.proofs.SomeTexts.{made, one_some}
 use Rattle.adf_partitions.specs.declared.plan.PartitionPlan.{PartitionPlan}
-use Rattle.adf_partitions.specs.declared.plan_line.Options.{Options}
 use Rattle.adf_partitions.specs.declared.plan_text.TextFault.{TextFault}
 use Rattle.adf_partitions.specs.declared.plan_text.TextKind.{TextKind}
 use Rattle.adf_partitions.specs.declared.plan_text.TextKind.TheVariants.{BadLine, NoEnd, NoMemory, TooLarge}
@@ -12,14 +11,7 @@ use Rattle.adf_partitions.specs.Plans.{PlanValue}
 use Rattle.adf_partitions.specs.PlanTexts.{AreLines, HasLines, IsEndFault, IsPartitionLine, IsPartitionText, IsText, IsTextFault, Stops, before}
 use Rattle.adf_partitions.specs.PlanTexts.{behind_line, first_line, is_end, is_plan, options_in}
 
-one_some : {A : Type 0} (o : Option A) (x y : A) → o ≡ Some x → o ≡ Some y → x ≡ y
-one_some o x y h k = cc
-
-made : List ℕ → Kind → ℕ → Options → PartitionPlan
-made name kind cylinders o = record { name = name; kind = kind; cylinders = cylinders; bootable = o.bootable; priority = o.priority; given = o.given }
-
 one_partition : (text : List ℕ) (p q : PartitionPlan) → IsPartitionText text p → IsPartitionText text q → p ≡ q
-unfolding made
 one_partition text p q h k =
     let name = only_spelled p.name q.name h.name.are_bytes k.name.are_bytes (sym h.name.spells ∙ k.name.spells) in
     let kind = one_some _ p.kind q.kind h.kind k.kind in

@@ -35,7 +35,7 @@ not_true : (b : Bool) → ¬ (b ≡ true) → b ≡ false
 not_true true h = absurd (h refl)
 not_true false h = refl
 
-one_some : {A : Type 0} (o : Option A) (x y : A) → o ≡ Some x → o ≡ Some y → x ≡ y
+pub one_some : {A : Type 0} (o : Option A) (x y : A) → o ≡ Some x → o ≡ Some y → x ≡ y
 one_some o x y h k = cc
 
 -- what a name is, and whether it is one
@@ -63,7 +63,7 @@ dec_fits z =
     map_dec (λ (e : int_wrap w8 z ≡ z). subst (FitsSigned w8) e (SFits-int_wrap w8 z)) (λ (f : FitsSigned w8 z). int_wrap_fits w8 z f)
     (ℤ_discrete (int_wrap w8 z) z)
 
-abbrev made : List ℕ → Kind → ℕ → Options → PartitionPlan
+abbrev pub made : List ℕ → Kind → ℕ → Options → PartitionPlan
 made name kind cylinders o = record { name = name; kind = kind; cylinders = cylinders; bootable = o.bootable; priority = o.priority; given = o.given }
 
 -- the words behind `partition` are those of a partition, or of none

@@ -1,17 +1,13 @@
 -- The words of the blocks of written tables.
-use Rattle.std.proofs.Common.{◌≡◌, ◌≢◌, ◌≤◌, ◌<◌, ◌+◌, ◌*◌, ◌^◌, ◌%◌, ◌∙◌, ℕ, zero, suc, List, [], ◌∷◌, length, ap, refl, sym, arith, inr, true}
+use Rattle.std.proofs.Common.{◌≡◌, ◌≢◌, ◌≤◌, ◌<◌, ◌+◌, ◌*◌, ◌^◌, ◌%◌, ◌∙◌, ℕ, zero, suc, List, [], ◌∷◌, length, ap, refl, sym, arith, true}
 use Rattle.std.specs.Prelude.{slice_index, sum}
 use Rattle.adf_base.specs.Words.{sealed, word, words, checksum}
 use Rattle.adf_base.proofs.WordLaws.{length-with_word, long_sum-sealed, sum_words_more, range-with_bytes_above, length-big_bytes, word-with_word_other}
 use Rattle.adf_blocks.specs.Fields.{Descends, Field, block_of_fields, long, longs, text}
 use Rattle.adf_blocks.specs.Forms.{text_at}
-use Rattle.adf_blocks.proofs.FieldLaws.{Apart, HasField, field_there, fields_between, length-block_of_fields, long_number, numbers_of_field, text_reads}
+use Rattle.adf_blocks.proofs.FieldLaws.{HasField, apart_below, field_there, fields_between, length-block_of_fields, long_number, numbers_of_field, text_reads}
 use Rattle.adf_partitions.specs.declared.layout.TheConstants.{CHECKSUM}
 use Rattle.adf_partitions.specs.Summed.{is_summed, sum_of}
-
-ends_below : (top a b : ℕ) (fs : List Field) → Descends top fs → top ≤ a → Apart a b fs
-ends_below top a b [] d le = tt
-ends_below top a b (f ∷ fs) d le = (inr (omega (arith, d.0)), ends_below f.0 a b fs d.1 (omega (arith, d.0)))
 
 fits_block : (fs : List Field) → Descends 256 fs → Descends 512 fs
 fits_block [] d = tt
@@ -37,7 +33,7 @@ module _ (fs : List Field) (d : Descends 256 fs) where
   zero_behind : (i : ℕ) → 64 ≤ i → i < 128 → word (sealed CHECKSUM (block_of_fields fs)) i ≡ 0
   zero_behind i low lt =
       word-with_word_other (block_of_fields fs) CHECKSUM (checksum CHECKSUM (block_of_fields fs)) i (omega (arith, whole)) (omega arith)
-      ∙ fields_between fs i (fits_block fs d) lt (ends_below 256 (4 * i) (4 * i + 4) fs d (omega arith))
+      ∙ fields_between fs i (fits_block fs d) lt (apart_below 256 (4 * i) (4 * i + 4) fs d (omega arith))
 
   -- the sum of the first 64 words is 0
   pub sum_written : sum_of 64 (sealed CHECKSUM (block_of_fields fs)) ≡ 0

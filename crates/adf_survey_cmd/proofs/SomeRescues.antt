@@ -97,9 +97,9 @@ dec_fault true fs = yes (inl refl)
 dec_fault false [] = no (λ h. elim h [ inl e ↦ cc | inr some ↦ some refl ])
 dec_fault false (f ∷ fs) = yes (inr (λ e. cc))
 
-dec_empty : {X : Type 0} (xs : List X) → Dec (xs ≡ [])
-dec_empty [] = yes refl
-dec_empty (x ∷ xs) = no (λ e. cc)
+pub dec_nil : {X : Type 0} (xs : List X) → Dec (xs ≡ [])
+dec_nil [] = yes refl
+dec_nil (x ∷ xs) = no (λ e. cc)
 
 -- the answer
 
@@ -113,7 +113,7 @@ module _ (held : ℕ) (input : List ℕ) (w : Walk) (fs : List FindingValue) (su
   first = record { image = opened input; walk = w; sound = sound }
 
   some_rescued : w ≢ [] → (reply : Reply) × RescuesSome held input first second fs boot reply
-  some_rescued some = elim (dec_and (dec_fault (is_mended input) fs) (dec_empty (rescued_additions held first second))) [
+  some_rescued some = elim (dec_and (dec_fault (is_mended input) fs) (dec_nil (rescued_additions held first second))) [
     | yes nothing ↦
         let (reply, refuses) = fault_with (rescue_text held first second fs) input
         (none_fits_fault input w fs (is_mended input) refl survey nothing.0) (fits_or_fault input) in (reply, inl (nothing, refuses))
@@ -133,7 +133,7 @@ rescued_found held input w fs survey are boot =
     let (sound, marks) = some_marks (opened input) w fs survey (grave fs) in
     let bytes = second_bytes (is_mended input) (opened input) w fs are in
     let (second, is, more) = second_of (second_image (is_mended input) (opened input) w fs) bytes in
-    let (reply, told) = rescued_by held input w fs survey sound are second more boot (dec_empty w) in
+    let (reply, told) = rescued_by held input w fs survey sound are second more boot (dec_nil w) in
     (reply, (sound, marks, (second, is, told)))
 
 pub some_rescue : (held : ℕ) (input boot : List ℕ) → AreBytes input → (reply : Reply) × Rescues held input boot reply
