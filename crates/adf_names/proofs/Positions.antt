@@ -1,10 +1,8 @@
 -- The first element that passes a test, and a list cut there.
-use Rattle.std.proofs.Common.{◌≡◌, List, [], ◌∷◌, map, true, false, Bool, arith, ◌&&◌, inl, inr, sym, refl, ◌∙◌, ap, Some, None, take, drop, ◌+◌, ◌-◌}
-use Rattle.std.proofs.Common.{nat_lt, ℕ, length, ◌<◌, ◌++◌, position, slice_get}
-use Rattle.std.specs.List.{All, Contains, filter, position_or_len, slice_split}
-use Rattle.std.proofs.Math.Bool.{and_comm}
+use Rattle.std.proofs.Common.{◌≡◌, List, [], ◌∷◌, false, Bool, arith, sym, ◌∙◌, ap, Some, None, take, drop, ◌+◌, ◌-◌}
+use Rattle.std.proofs.Common.{nat_lt, ℕ, length, ◌<◌, position}
+use Rattle.std.specs.List.{All, position_or_len, slice_split}
 use Rattle.std.proofs.lemmas.Bool.{cases_Bool, ltb-false}
-use Rattle.std.proofs.lemmas.List.Elements.{All-head, All-tail, Contains-append_cases, Contains-append_right, Contains-push_cases, filter_agree, All-pop}
 use Rattle.std.proofs.lemmas.List.{take_rest}
 use Rattle.std.proofs.lemmas.List.Quantifiers.{position-Some}
 use Rattle.std.proofs.lemmas.List.Splits.{slice_split_first, slice_split_none}
