@@ -2,6 +2,7 @@
 #![tactic(auto)]
 
 mod calls;
+mod entry_calls;
 mod library_calls;
 mod outcome;
 mod questions;

@@ -26,7 +26,8 @@ pub fn write_path_outcome(alloc: Global) -> Option<CallOutcome> {
     })
 }
 
-fn meta() -> Option<Meta> {
+/// The metadata of entries that are added.
+pub fn meta() -> Option<Meta> {
     Some(Meta::new(Comment::new(b"note")?, 15, NO_STAMP))
 }
 

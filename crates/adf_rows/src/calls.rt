@@ -10,12 +10,13 @@ use adf_runs::run_program_on;
 use std::alloc::Global;
 
 /// The names of all calls.
-pub const CALLS: [&str; 10] = [
+pub const CALLS: [&str; 11] = [
     "stamp_text",
     "label_write",
     "comment_write",
     "write_path",
     "tree_add",
+    "entries_add",
     "draft_add",
     "owners_new",
     "read_sound_file",

@@ -10,13 +10,15 @@ use Rattle.std.proofs.lemmas.Slice.Eq.{bytes_eq-Decides}
 use Rattle.std.proofs.lemmas.Grind.{common_steps}
 use Rattle.adf_base.specs.declared.hash.Letters.{Letters, TheVariants.Ascii}
 use Rattle.adf_tree.specs.declared.entry.Entry.{Entry}
+use Rattle.adf_names.specs.declared.kind.Kind.{Kind}
 use Rattle.adf_names.specs.declared.meta.Meta.{Meta}
+use Rattle.adf_names.specs.declared.meta.Stamps.{Stamps}
 use Rattle.adf_tree.specs.declared.entry.Body.{Body, TheVariants.Dir, TheVariants.File}
 use Rattle.adf_tree.specs.declared.tree.RoomFault.{RoomFault}
 use Rattle.adf_tree.specs.declared.tree.RoomFault.TheVariants.{EmptyPath, NoParent, ParentIsFile, Exists}
 use Rattle.adf_tree.specs.Tree.{added, added_by, child, child_by, directory_from, directory_from_by, free_in, is_dir, is_dir_body, last_of}
-use Rattle.adf_tree.specs.Tree.{new_entry, new_entry_by, parents_of, room_at, room_at_by, room_for, room_for_by, with_entry}
-use Rattle.adf_tree.specs.Tree.{AreApartBy, IsDir, IsTreeBy, MayAdd, MayAddBy, Tree}
+use Rattle.adf_tree.specs.Tree.{new_entry, new_entry_by, parents_of, room_at, room_at_by, room_for, room_for_by, with_entry, with_new}
+use Rattle.adf_tree.specs.Tree.{AreApartBy, IsDir, IsTreeBy, MayAdd, MayAddBy, Tree, TreeEntries}
 use Rattle.adf_tree.proofs.TreeInvariant.{added_tree}
 use Rattle.adf_tree.proofs.ChildLookup.{none_is}
 
@@ -110,6 +112,21 @@ pub tree_left : (t : Tree) (entries : List Entry) (e : Entry) (b : Bool) (path :
     → (let u : Tree = record t { entries = entries } in u ≡ (if b then with_entry t path meta body else t))
 tree_left t entries e true path meta body h same = rw (h, same)
 tree_left t entries e false path meta body h same = rw h
+
+-- and by any letters
+pub entries_left : (t : TreeEntries) (entries : List Entry) (e : Entry) (b : Bool) (path : List (List ℕ)) (meta : Meta) (body : Body)
+    → entries ≡ (if b then added_by t.letters t.entries e else t.entries) → e ≡ new_entry_by t.letters t.entries path meta body
+    → (let u : TreeEntries = record t { entries = entries } in u ≡ (if b then with_new t path meta body else t))
+entries_left t entries e true path meta body h same = rw (h, same)
+entries_left t entries e false path meta body h same = rw h
+
+-- a tree of such entries, by ASCII letters
+pub tree_grown : (kind : Kind) (label : List ℕ) (stamps : Stamps) (old new : TreeEntries) (b : Bool) (path : List (List ℕ)) (meta : Meta) (body : Body)
+    → old.letters ≡ Ascii → new ≡ (if b then with_new old path meta body else old)
+    → (let t : Tree = record { kind = kind; label = label; stamps = stamps; entries = old.entries } in
+    let u : Tree = record t { entries = new.entries } in u ≡ (if b then with_entry t path meta body else t))
+tree_grown kind label stamps old new true path meta body plain h = rw (h, plain)
+tree_grown kind label stamps old new false path meta body plain h = rw h
 
 -- why a path with a name has no room: its parent is none, or it exists
 abbrev pub SaysNoRoom : RoomFault → Type 0

@@ -1,15 +1,10 @@
 -- Lists after filter and map.
-use Rattle.std.proofs.Common.{◌≡◌, List, [], ◌∷◌, map, true, false, Bool, arith, ◌&&◌, inl, inr, sym, refl, ◌∙◌, ap, Some, None, take, drop, ◌+◌, ◌-◌}
-use Rattle.std.proofs.Common.{nat_lt, ℕ, length, ◌<◌, ◌++◌, position, slice_get}
-use Rattle.std.specs.List.{All, Contains, filter, position_or_len, slice_split}
+use Rattle.std.proofs.Common.{◌≡◌, List, [], ◌∷◌, map, true, false, Bool, arith, ◌&&◌, inl, inr, sym, refl, ◌∙◌, ap, Some}
+use Rattle.std.proofs.Common.{length, ◌<◌, ◌++◌, slice_get}
+use Rattle.std.specs.List.{All, Contains, filter}
 use Rattle.std.proofs.Math.Bool.{and_comm}
-use Rattle.std.proofs.lemmas.Bool.{cases_Bool, ltb-false}
+use Rattle.std.proofs.lemmas.Bool.{cases_Bool}
 use Rattle.std.proofs.lemmas.List.Elements.{All-head, All-tail, Contains-append_cases, Contains-append_right, Contains-push_cases, filter_agree, All-pop}
-use Rattle.std.proofs.lemmas.List.{take_rest}
-use Rattle.std.proofs.lemmas.List.Quantifiers.{position-Some}
-use Rattle.std.proofs.lemmas.List.Splits.{slice_split_first, slice_split_none}
-use Rattle.std.proofs.lemmas.List.Sums.{position_or_len_is, fails_before_first}
-use Rattle.std.proofs.lemmas.Grind.{common_steps}
 
 -- an element
 pub some_in : {X : Type 0} → (xs : List X) → 0 < length xs → X

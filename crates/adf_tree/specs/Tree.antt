@@ -27,6 +27,11 @@ pub record Tree : Type 0 where
   pub stamps : Stamps
   pub entries : List Entry
 
+-- the entries of a tree, numbered from 1, and the letters whose case is ignored in their names
+pub record TreeEntries : Type 0 where
+  pub letters : Letters
+  pub entries : List Entry
+
 -- a parent and a slot as one number, in walk order
 abbrev pub rank_of : ℕ → ℕ → ℕ
 rank_of parent slot = 72 * parent + slot
@@ -150,6 +155,14 @@ IsLastBy letters es e = All (λ x. rank_by letters x ≤ rank_by letters e) es
 -- a tree with one more entry at the end
 abbrev pub with_last : Tree → Entry → Tree
 with_last t e = record t { entries = t.entries ++ e ∷ [] }
+
+-- entries with one more at the end
+abbrev pub with_last_entry : TreeEntries → Entry → TreeEntries
+with_last_entry t e = record t { entries = t.entries ++ e ∷ [] }
+
+-- entries with one more, added under a path
+abbrev pub with_new : TreeEntries → List (List ℕ) → Meta → Body → TreeEntries
+with_new t path meta body = record t { entries = added_by t.letters t.entries (new_entry_by t.letters t.entries path meta body) }
 
 -- a tree with this kind
 abbrev pub with_kind : Tree → Kind → Tree

@@ -9,6 +9,7 @@ mod lookup;
 mod name_key;
 mod name_set;
 mod tree;
+mod tree_entries;
 mod walk_order;
 
 pub use crate::entry::{Body, Bytes, Entry, Node};
@@ -21,6 +22,7 @@ pub use crate::lookup::is_dir;
 pub use crate::name_key::NameKey;
 pub use crate::name_set::NameSet;
 pub use crate::tree::{AddFault, RoomFault, Tree};
+pub use crate::tree_entries::TreeEntries;
 pub use adf_base::{Letters, slot, upper};
 pub use adf_names::{
     Comment, Kind, Label, Meta, NO_STAMPS, Name, PathFault, ShortText, Stamps, digit_value,

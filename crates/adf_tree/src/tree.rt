@@ -7,10 +7,8 @@ ghost use Rattle.adf_tree.specs.Faults.{add_fault_number};
 ghost use Rattle.adf_tree.specs.Bounds.{IsBounded};
 ghost use Rattle.adf_tree.specs.Paths.{AddsOne};
 
-use crate::bounds::entry_bounds;
 use crate::entry::{Body, Entry, Node};
-use crate::last_chain::{LastChain, add_entry};
-use crate::lookup::{entry, find, room_for};
+use crate::tree_entries::TreeEntries;
 use adf_base::{Letters, NoMemory};
 use adf_names::{Kind, Label, Meta, Name, Stamps};
 use std::alloc::Global;
@@ -18,29 +16,25 @@ use std::error::Error;
 use std::fmt;
 use std::marker::Model;
 
-/// The letters whose case is ignored in the names of a tree.
-const LETTERS: Letters = Letters::Ascii;
-
-/// A tree of directories and files.
+/// A tree of directories and files; the case of ASCII letters is ignored in its names.
 #[derive(Drop)]
 pub struct Tree {
     kind: Kind,
     label: Label,
     stamps: Stamps,
-    entries: Vec<Entry>,
-    last_chain: LastChain,
+    entries: TreeEntries,
 }
 
 impl Model for Tree {
     ghost use Rattle.adf_tree.specs.Tree as specs;
-    ghost use Rattle.adf_tree.specs.Tree.{IsTree};
-    ghost use Rattle.adf_tree.specs.LastChain.{IsOf};
+    ghost use Rattle.std.specs.Prelude.{◌≡◌};
+    ghost use Rattle.adf_base.specs.declared.hash.Letters.TheVariants.{Ascii};
 
     ghost Value = { specs.Tree };
 
-    ghost view = { λ t. record { kind = t.kind; label = t.label; stamps = t.stamps; entries = t.entries.items } };
+    ghost view = { λ t. record { kind = t.kind; label = t.label; stamps = t.stamps; entries = t.entries.entries } };
 
-    ghost invariant = { λ t. IsTree t.entries.items × IsOf t.last_chain t.entries.items };
+    ghost invariant = { λ t. t.entries.letters ≡ Ascii };
 }
 
 /// Why a path has no room in a tree.
@@ -137,8 +131,7 @@ impl Tree {
             kind,
             label,
             stamps,
-            entries: Vec::new(alloc),
-            last_chain: LastChain::new(alloc),
+            entries: TreeEntries::new(alloc, Letters::Ascii),
         }
     }
 
@@ -153,12 +146,12 @@ impl Tree {
         ensures { IfOk result (λ t.
             t ≡ record { kind = kind; label = label; stamps = stamps; entries = [] }) }
     {
-        let Ok(entries) = Vec::with_capacity(alloc, count) else {
-            return Err(NoMemory);
-        };
-        let mut tree = Tree::new(alloc, kind, label, stamps);
-        tree.entries = entries;
-        Ok(tree)
+        Ok(Tree {
+            kind,
+            label,
+            stamps,
+            entries: TreeEntries::with_capacity(alloc, Letters::Ascii, count)?,
+        })
     }
 
     /// The kind of the volume.
@@ -203,9 +196,7 @@ impl Tree {
     {
         let _label = self.label.bytes();
         self.stamps.bounds();
-        for entry in &self.entries {
-            entry_bounds(entry);
-        }
+        self.entries.bounds();
     }
 
     /// Adds an entry after all entries of its parent and slot. On a fault the tree is unchanged. Of several
@@ -218,24 +209,7 @@ impl Tree {
         ensures tree { self.new
             ≡ if is_ok result then with_entry self.old path.now meta body else self.old }
     {
-        if path.is_empty() {
-            return Err(AddFault::EmptyPath);
-        }
-        let last = path.len() - 1;
-        let name = path[last].copy();
-        let chain = &self.last_chain;
-        let parent = room_for(LETTERS, &self.entries, chain, &path[..last], &name)?;
-        add_entry(
-            LETTERS,
-            &mut self.entries,
-            &mut self.last_chain,
-            Entry {
-                parent,
-                name,
-                meta,
-                body,
-            },
-        )
+        self.entries.add(path, meta, body)
     }
 
     /// Adds an entry that is last in walk order, without a look-up. Its parent must be a directory with no
@@ -245,11 +219,7 @@ impl Tree {
         requires last { IsLast self.old.entries entry }
         ensures { self.new ≡ if is_ok result then with_last self.old entry else self.old }
     {
-        self.last_chain.forget();
-        match self.entries.push(entry) {
-            Ok(()) => Ok(()),
-            Err(_) => Err(NoMemory),
-        }
+        self.entries.add_last(entry)
     }
 
     /// The node that the path leads to; 0 for the empty path.
@@ -257,7 +227,7 @@ impl Tree {
         ensures found { result ≡ find self.now.entries path.now }
         ensures tree { IsTree self.now.entries }
     {
-        find(LETTERS, &self.entries, path)
+        self.entries.find(path)
     }
 
     /// The entry with this number; `None` for the root.
@@ -265,6 +235,6 @@ impl Tree {
         ensures found { option_copied result ≡ entry self.now.entries n }
         ensures tree { IsTree self.now.entries }
     {
-        entry(&self.entries, n)
+        self.entries.entry(n)
     }
 }

@@ -1,36 +1,9 @@
-use Rattle.std.proofs.Common.{sym, ◌∙◌, ℕ, List, rules}
 use Rattle.std.specs.Result.{is_ok}
-use Rattle.adf_base.specs.declared.hash.Letters.TheVariants.{Ascii}
-use Rattle.adf_tree.specs.declared.entry.Entry.{Entry}
-use Rattle.adf_tree.specs.Tree.{parents_of}
-use Rattle.adf_tree.proofs.PathContents.{added_paths}
-use Rattle.adf_tree.proofs.AddRoom.{is_new, room_keeps, tree_left}
+use Rattle.adf_tree.proofs.AddRoom.{tree_grown}
 use Rattle.adf_tree.proofs.tree.Tree.add.Goals as goal
 
-pub room_for-requires-clause-order : goal.room_for-requires-clause-order
-room_for-requires-clause-order c = rw c.deref.ensures.value c.self.invariant.0.order
-
-pub invariant_of-self : goal.invariant_of-self
-invariant_of-self c =
-    let e : Entry = record { parent = c.in_ok-parent.parent; name = c.copy-name.result; meta = c.args.meta; body = c.args.body } in
-    let room = rw c.deref.ensures.value at (sym c.in_ok-parent.ensures) in (
-      rw c.add_entry.ensures.entries (room_keeps Ascii c.self.inside.entries.items e (parents_of c.args.path.now)
-          (is_ok c.add_entry.result) c.self.invariant.0 room),
-      c.add_entry.ensures.names,
-    )
-
-pub returns : goal.returns
-returns c =
-    let es : List Entry = c.self.inside.entries.items in
-    let path : List (List ℕ) = c.args.path.now in
-    let room = rw c.deref.ensures.value at c.in_ok-parent.ensures in
-    let fresh = is_new Ascii es path c.args.meta c.args.body c.index-path-last.result c.copy-name.result c.in_ok-parent.parent
-    (sym c.is_empty.ensures ∙ c.if-is_empty.false) c.index-path-last.is c.copy-name.ensures room in
+pub returns-clause-tree : goal.returns-clause-tree
+returns-clause-tree c =
     rw (← c.self.view_is)
-    (record {
-      answer = search rules;
-      paths = added_paths c.add_entry.result es c.add_entry.new.entries.items _ path c.args.meta c.args.body c.self.invariant.0 fresh
-          c.add_entry.ensures.entries;
-      tree =
-          tree_left _ c.add_entry.new.entries.items _ (is_ok c.add_entry.result) path c.args.meta c.args.body c.add_entry.ensures.entries fresh.entry;
-    })
+    (tree_grown c.self.inside.kind c.self.inside.label c.self.inside.stamps c.self.inside.entries c.add.new.self (is_ok c.add.result) c.args.path.now
+    c.args.meta c.args.body c.self.invariant c.add.ensures.entries)
