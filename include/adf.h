@@ -314,6 +314,40 @@ uint8_t adf_need(const struct adf_new_volume *volume, const struct adf_addition 
  * reached. adf-survey(1) says what each finding means, and what makes an entry sound.
  */
 
+/* What is told of the image that adf-survey surveys. Fields that do not apply are 0. */
+struct adf_subject {
+    size_t length;      /* its bytes */
+    uint32_t held;      /* how many of its first 1,048,576 blocks the given image holds whole: zeros behind them are no data */
+    uint8_t is_begun;   /* 1 if only the boot block is lost, and `DOS` and a type stand in its place, otherwise 0 */
+    uint8_t is_retyped; /* 1 if the files say OFS, and the type says so in place of FFS, otherwise 0 */
+};
+
+/* The number of a subject that is larger than its room. */
+#define ADF_SUBJECT_SMALL_ROOM 24
+
+/* Writes the image that adf-survey surveys, of a given image of this length, for the calls below: as it is, or if blocks is not 0,
+ * as if it had so many blocks, with zeros for what is not there. Where nothing but the boot block is lost, it begins with `DOS` and
+ * a type; and where the type is one of FFS and the files say OFS, it is that of OFS. All but its first four bytes are those of the
+ * image that is meant, and so are these where neither is so.
+ *
+ *     struct adf_subject subject;
+ *     if (adf_survey_subject(image, length, 0, room, length, &subject) == ADF_ACCEPTED)
+ *         adf_survey_index(room, subject.length, findings, findings_room, entries, entries_room, &surveyed);
+ *
+ * Returns:
+ *
+ * 0: the room begins with the image that is surveyed, of subject->length bytes, and the rest of it is unchanged. The tables of its
+ *    survey are what adf-survey tells of the given image, whose lines for the fields of `subject` come first; it marks a file as
+ *    damaged too if one of its data blocks is not below subject->held.
+ * ADF_SUBJECT_SMALL_ROOM: the room has fewer than subject->length bytes: those of the given image, or if blocks is not 0,
+ *    blocks * 512.
+ * ADF_NO_MEMORY: an allocation failed. All fields are 0.
+ *
+ * Whatever is returned but 0, the room is unchanged.
+ */
+uint8_t adf_survey_subject(const uint8_t *image, size_t length, uint32_t blocks, uint8_t *room, size_t room_length,
+                           struct adf_subject *subject);
+
 /* Findings of neighbouring blocks that have one cause and concern the same entry, in the order of the survey. */
 struct adf_finding {
     uint32_t first;    /* the first block */
@@ -362,8 +396,7 @@ struct adf_surveyed {
  * ADF_NO_MEMORY: an allocation failed. All fields are 0, and the tables are unchanged.
  *
  * An image whose boot block has the cause ADF_NOT_DOS has that one finding and no entries, even if nothing but the boot block is
- * overwritten. adf_survey_run surveys such an image as if it had one, with a line that says so. For tables put `DOS` and the byte
- * of an adf_kind in the place of the first four bytes of a copy.
+ * overwritten. adf-survey surveys such an image as if it had one: adf_survey_subject has the image that it surveys.
  */
 uint8_t adf_survey_index(const uint8_t *image, size_t length, struct adf_finding *findings, size_t findings_room,
                          struct adf_found *entries, size_t entries_room, struct adf_surveyed *surveyed);
@@ -406,6 +439,19 @@ uint8_t adf_survey_parts(const uint8_t *image, size_t length, struct adf_part *p
  * Returns an adf_cause: 0, or ADF_NO_MEMORY, and then the room is unchanged.
  */
 uint8_t adf_survey_owners(const uint8_t *image, size_t length, uint8_t *roles, size_t room);
+
+/* Surveys an image of this length, and looks up a path among the entries that are found. The path is written as for adf_find, and names
+ * are compared by the type of the image, as adf-survey does: of several entries of a directory with one name the first is taken.
+ * Returns:
+ *
+ * 0: node is the number of the entry, 0 for the empty path.
+ * 1: nothing has this path. Without a root nothing has one but the empty one.
+ * 2: the text is not a path.
+ * ADF_NO_MEMORY: an allocation failed.
+ *
+ * Whatever is returned but 0, node is unchanged.
+ */
+uint8_t adf_survey_find(const uint8_t *image, size_t length, const uint8_t *path, size_t path_length, size_t *node);
 
 /* Fills the table of a file that is found, by its number and the block of its header: its data blocks in order, as far as there is
  * room, with ADF_NO_BLOCK for each that is not found. Returns how many its size asks for, whatever the room: at most

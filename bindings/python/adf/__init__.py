@@ -53,7 +53,8 @@ from typing import Any, BinaryIO, Iterable, Iterator, NamedTuple, Sequence, Unio
 __version__ = "1.0"
 BLOCK = 512
 MOST_BYTES = BLOCK * 1_048_576
-NO_MEMORY = 23
+NOT_DOS, NO_MEMORY = 2, 23
+OTHER_TYPE = 0  # of the finding that the type is FFS and the files are OFS, for which the library has no number
 NO_BLOCK, LEAST_CHUNK, FILE_TYPE = 2**32 - 1, 488, b"\xff\xff\xff\xfd"
 KINDS = ("ofs", "ffs")
 MOST_PARTITIONS, MOST_TABLES, DOS_TYPE = 1024, BLOCK * 65536, 0x444F5300
@@ -95,6 +96,7 @@ _Found = _struct(
     *(("name", _BYTE * 79), ("comment_length", _BYTE), ("comment", _BYTE * 79)),
 )
 _Part = _struct(("node", _SIZE), ("number", _WORD))
+_Subject = _struct(("length", _SIZE), ("held", _WORD), ("is_begun is_retyped", _BYTE))
 _Surveyed = _struct(
     *(("kind blocks", _WORD), ("findings entries", _SIZE)),
     *(("root altered created", _Date), ("label_length", _BYTE), ("label", _BYTE * 30)),
@@ -114,9 +116,11 @@ _CALLS = {
     "adf_cause_text": (_SIZE, _BYTE, _POINTER, _SIZE),
     "adf_version": (_WORD,),
     "adf_run": (_BYTE, *(_POINTER, _SIZE) * 4, _POINTER),
+    "adf_survey_subject": (_BYTE, _POINTER, _SIZE, _WORD, _POINTER, _SIZE, _POINTER),
     "adf_survey_index": (_BYTE, _POINTER, _SIZE, _POINTER, _SIZE, _POINTER, _SIZE, _POINTER),
     "adf_survey_parts": (_BYTE, *(_POINTER, _SIZE) * 2),
     "adf_survey_owners": (_BYTE, *(_POINTER, _SIZE) * 2),
+    "adf_survey_find": (_BYTE, *(_POINTER, _SIZE) * 2, _POINTER),
     "adf_found_blocks": (_SIZE, *(_POINTER, _SIZE) * 2, _SIZE, _WORD, _POINTER, _SIZE),
     "adf_found_read": (_SIZE, _POINTER, _SIZE, _WORD, _POINTER, _SIZE, _SIZE, _POINTER, _SIZE, _POINTER),
     "adf_rescue": (_BYTE, _POINTER, _SIZE, _WORD, *(_POINTER, _SIZE) * 3, _POINTER),
@@ -362,6 +366,16 @@ def _sized(image: bytes, blocks: int | None) -> bytes:
     return image if blocks is None else _cut(image, blocks).ljust(BLOCK * blocks, b"\0")
 
 
+def _subject(image: bytes, blocks: int | None) -> tuple[bytes, Any]:
+    """The image that `adf-survey` surveys of one that is cut to so many blocks, and what is told of it."""
+    length, told = len(image) if blocks is None else BLOCK * blocks, _Subject()
+    room = ctypes.create_string_buffer(length or 1)
+    if _calls().adf_survey_subject(image, len(image), blocks or 0, room, length, ctypes.byref(told)) != 0:
+        raise NoMemory
+    is_given = length == len(image) and not told.is_begun and not told.is_retyped
+    return image if is_given else ctypes.string_at(room, length), told
+
+
 def _cut(image: bytes, blocks: int | None) -> bytes:
     """What an image has of so many blocks."""
     if blocks is None:
@@ -369,12 +383,6 @@ def _cut(image: bytes, blocks: int | None) -> bytes:
     if not 0 <= blocks <= MOST_BYTES // BLOCK:
         raise ValueError(f"{blocks} blocks")
     return image[: BLOCK * blocks]
-
-
-def _survey_run(words: Sequence[str], image: Image, blocks: int | None) -> Answer:
-    """Runs `adf-survey` with these words over an image, read as if it had so many blocks."""
-    option = [] if blocks is None else ["--blocks", str(blocks)]
-    return _run(_calls().adf_survey_run, "adf-survey", [*option, *words], _cut(_bytes(image), blocks), BLOCK * (blocks or 0))
 
 
 class Finding(NamedTuple):
@@ -475,7 +483,9 @@ class Survey(_ReadOnly):
     """What is found in an image by `adf-survey`: findings and entries, in its order; label, raw_label, kind ("ofs" or "ffs") and
     the three dates, as the root tells them (kind "" and an empty label where there is none); image, its bytes.
 
-    It has no findings exactly where `Volume` takes the image, and the first of them is what `Refused` says.
+    Where nothing but the boot block is lost, and where the type is one of FFS and the files say OFS, the image is surveyed as if it
+    began with the type that its files say: `is_begun`, or `is_retyped`, and then the first finding says so. Otherwise it has no
+    findings exactly where `Volume` takes the image, and the first of them is what `Refused` says.
     """
 
     image: bytes
@@ -486,11 +496,17 @@ class Survey(_ReadOnly):
     created: Date
     raw_label: bytes
     label: str
+    is_begun: bool
+    is_retyped: bool
     _rows: Any
     _given: tuple[bytes, int | None]
+    _opened: bytes
+    _held: int
 
     def __init__(self, image: Image, blocks: int | None = None) -> None:
-        raw, told = _sized(_bytes(image), blocks), _Surveyed()
+        given = _cut(_bytes(image), blocks)
+        raw, subject = _subject(given, blocks)
+        told = _Surveyed()
         rooms, wanted = (0, 0), (FIRST_ROOM, FIRST_ROOM)
         while rooms != wanted:
             rooms = wanted
@@ -500,12 +516,17 @@ class Survey(_ReadOnly):
             wanted = max(rooms[0], told.findings), max(rooms[1], told.entries)
         label = bytes(told.label)[: told.label_length]
         vars(self).update(
-            image=raw, kind=KINDS[told.kind] if told.blocks else "", date=_date(told.root), altered=_date(told.altered),
-            created=_date(told.created), raw_label=label, label=label.decode("latin-1"), _given=(_cut(_bytes(image), blocks), blocks),
+            image=_sized(given, blocks) if subject.is_begun or subject.is_retyped else raw, kind=KINDS[told.kind] if told.blocks else "",
+            date=_date(told.root), altered=_date(told.altered), created=_date(told.created),
+            raw_label=label, label=label.decode("latin-1"), is_begun=bool(subject.is_begun), is_retyped=bool(subject.is_retyped),
+            _given=(given, blocks), _opened=raw, _held=subject.held,
         )
         self._mark_missing(tables[2])
         vars(self)["entries"] = [self._entry(place + 1, tables[2][place]) for place in range(told.entries)]
-        vars(self)["_rows"] = (_Finding * told.findings).from_buffer_copy(tables[0])
+        first = [_Finding(cause=NOT_DOS)] * subject.is_begun + [_Finding(cause=OTHER_TYPE)] * subject.is_retyped
+        rows, row = (_Finding * (len(first) + told.findings))(*first), ctypes.sizeof(_Finding)
+        ctypes.memmove(ctypes.byref(rows, row * len(first)), tables[0], row * told.findings)
+        vars(self)["_rows"] = rows
 
     def __repr__(self) -> str:
         return f"<adf.Survey {self.label!r}: {len(self.findings)} findings, {len(self.entries)} entries>"
@@ -516,8 +537,8 @@ class Survey(_ReadOnly):
 
     def _mark_missing(self, rows: Any) -> None:
         """Marks files with data in blocks that the image does not have as damaged: the table has zeros there for data."""
-        if len(self._given[0]) < len(self.image):
-            for part in self._parts[1][len(self._given[0]) // BLOCK :]:
+        if self._held < len(self._opened) // BLOCK:
+            for part in self._parts[self._held :]:
                 if part.node:
                     rows[part.node - 1].is_sound = 0
 
@@ -526,43 +547,22 @@ class Survey(_ReadOnly):
         return Findings(self)
 
     @functools.cached_property
-    def _volume(self) -> Rescued | None:
-        """The volume of what stands, or None if nothing does."""
-        try:
-            volume = Rescued(self._given[0], blocks=self._given[1])
-        except Refused:
-            return None
-        vars(volume)["survey"] = self
-        return volume
-
-    @functools.cached_property
-    def _parts(self) -> tuple[bytes, Any]:
-        """The image, and which part of what is found each of its blocks is."""
-        return self._with_parts(self.image)
-
-    @functools.cached_property
-    def _typed_parts(self) -> tuple[bytes, Any]:
-        """The same, of the image with the type that its files say, where they say another."""
-        if self._volume is None or self._volume.kind == self.kind:
-            return self._parts
-        return self._with_parts(self.image[:3] + bytes([self.image[3] & 254]) + self.image[4:])
-
-    @staticmethod
-    def _with_parts(image: bytes) -> tuple[bytes, Any]:
-        rows = (_Part * (len(image) // BLOCK))()
-        if _calls().adf_survey_parts(image, len(image), rows, len(rows)) != 0:
+    def _parts(self) -> Any:
+        """Which part of what is found each block is."""
+        rows = (_Part * (len(self._opened) // BLOCK))()
+        if _calls().adf_survey_parts(self._opened, len(self._opened), rows, len(rows)) != 0:
             raise NoMemory
-        return image, rows
+        return rows
 
     def _remains(self, found: Found) -> tuple[bytes, list[range]]:
         """What is left of a file, by its number."""
-        image, parts = self._parts if found.is_sound else self._typed_parts
-        size, held = min(found.size, len(image)), len(self._given[0]) // BLOCK
+        image, parts = self._opened, self._parts
+        size = min(found.size, len(image))
         most = size // LEAST_CHUNK + 1
         blocks, content, gap = (_WORD * most)(), bytearray(size), _SIZE()
         count = min(_calls().adf_found_blocks(image, len(image), parts, len(parts), found.number, found.header, blocks, most), most)
         for place in range(count):
-            if blocks[place] >= held:
+            if blocks[place] >= self._held:
                 blocks[place] = NO_BLOCK
         lost, at = [], 0
         while at < size:
@@ -587,44 +587,45 @@ class Survey(_ReadOnly):
         path = self.entries[row.node - 1].path if row.node else None
         if row.is_within:
             path = f"{path or ''}/"
-        return Finding(row.first, row.last, _cause(row.cause), path, self.entries[row.owner - 1].path if row.owner else None)
+        cause = "type of ffs, files of ofs" if row.cause == OTHER_TYPE else _cause(row.cause)
+        return Finding(row.first, row.last, cause, path, self.entries[row.owner - 1].path if row.owner else None)
 
     def read(self, path: str | bytes) -> bytes:
         """The bytes of a sound file, for which the image is surveyed again; of several with this path those of the first. NoSuchPath
         if nothing has the path, NotAFile if it is not a file, Damaged if it is damaged."""
-        return self._cat(path)[0]
+        found = self._file(path)
+        if not found.is_sound:
+            raise Damaged(errno.EIO, "damaged", path)
+        return self._remains(found)[0]
 
     def remains(self, path: str | bytes) -> tuple[bytes, list[range]]:
         """What is left of a file, sound or damaged, for which the image is surveyed again: its bytes, with zeros for those that are
-        lost, and the ranges of these. NoSuchPath and NotAFile as of `read`."""
-        left, lines = self._cat(path, "--damaged")
-        return left, [range(int(first), int(last) + 1) for first, last in re.findall(rb"bytes (\d+) to (\d+)", lines)]
+        lost, and the ranges of these; of several with this path those of the first. NoSuchPath and NotAFile as of `read`."""
+        return self._remains(self._file(path))
 
     def owners(self) -> bytes:
         """The role of each block by what is found there, a byte for each, as a place in ROLES: 0 where nothing is, and everywhere without
         a root."""
         roles = ctypes.create_string_buffer(len(self.image) // BLOCK or 1)
-        if _calls().adf_survey_owners(self.image, len(self.image), roles, len(roles)) != 0:
+        if _calls().adf_survey_owners(self._opened, len(self._opened), roles, len(roles)) != 0:
             raise NoMemory
         return roles.raw[: len(self.image) // BLOCK]
 
-    def _cat(self, path: str | bytes, *flags: str) -> tuple[bytes, bytes]:
-        """What the command `cat` writes to output and to errors."""
+    def _file(self, path: str | bytes) -> Found:
+        """The file under a path, the first of several."""
         try:
-            words = ["cat", *flags, "--", escape(path)]
+            text = escape(path).encode("ascii")
         except UnicodeEncodeError:
             raise NoSuchPath(path) from None
-        status, output, errors = _survey_run(words, *self._given)
-        if status == 3:
-            raise NoMemory(errors.decode("ascii").strip())
-        said = errors.partition(b"\n")[0]
-        if said == b"bad path" or said.startswith(b"no such path: "):
+        node = _SIZE()
+        answer = _calls().adf_survey_find(self._opened, len(self._opened), text, len(text), ctypes.byref(node))
+        if answer == NO_MEMORY:
+            raise NoMemory
+        if answer != 0:
             raise NoSuchPath(path)
-        if said == b"not a file":
+        if not node.value or not self.entries[node.value - 1]._has_bytes():
             raise NotAFile(errno.EISDIR, os.strerror(errno.EISDIR), path)
-        if said == b"damaged":
-            raise Damaged(errno.EIO, "damaged", path)
-        return output, errors
+        return self.entries[node.value - 1]
 
 
 class Findings(Sequence["Finding"]):
@@ -964,9 +965,7 @@ class Rescued(Volume):
     @functools.cached_property
     def survey(self) -> Survey:
         """The survey of the image, made when it is asked for first."""
-        survey = Survey(self._given[0], self._given[2])
-        vars(survey)["_volume"] = self
-        return survey
+        return Survey(self._given[0], self._given[2])
 
     def entry_of(self, found: Found) -> Entry | None:
         """The entry of this volume that is an entry of `survey`; None if it is left out."""

@@ -146,7 +146,8 @@ def refused_record(image: bytes, refused: adf.Refused, columns: Columns, has_tex
     told = {"verdict": str(refused), "block": refused.block, "cause": refused.cause, "label": letters(survey.label), "fits": fits}
     told.update(advice=advice_of(refused, survey, fits), faults=len(survey.findings), roles=zlib.compress(roles_of_refused(survey)))
     if survey.kind:
-        told.update(kind=survey.kind, type=image[3], blocks=len(image) // adf.BLOCK, **dates_of(survey))
+        volume_type = adf.KINDS.index(survey.kind) if survey.is_begun else image[3]
+        told.update(kind=survey.kind, type=volume_type, blocks=len(image) // adf.BLOCK, **dates_of(survey))
     texts = limited(text_rows(survey.entries[: len(rows)])) if has_texts else []
     drawn = list(itertools.islice(icon_rows(survey.entries), MOST_ICONS))
     return record({**columns, **counts, **told})._replace(entries=rows, findings=findings, icons=drawn, texts=texts)

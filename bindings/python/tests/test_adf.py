@@ -321,6 +321,21 @@ class Surveys(unittest.TestCase):
         self.assertEqual(found.entries[0].gaps, [])
         self.assertEqual(adf.survey(b"").owners(), b"")
 
+    def test_surveys_what_adf_survey_opens(self):
+        # Both boot blocks are lost; then the type is that of FFS, and the files say OFS.
+        sound = built("volume ofs 16\nfile 0:0:0 00000000 a\nfill 1000 41\n")
+        for image, cause in ((bytes(1024) + sound[1024:], "not dos"), (changed(sound, 0, 3, 1), "type of ffs, files of ofs")):
+            survey = pickle.loads(pickle.dumps(adf.survey(image)))
+            self.assertEqual((survey.findings, list(survey.ranges())), ([adf.Finding(0, 0, cause, None, None)], [range(1)]))
+            self.assertEqual((survey.is_begun, survey.is_retyped, survey.kind, survey.image), (cause == "not dos", cause != "not dos", "ofs", image))
+            self.assertEqual((survey.read("A"), survey.remains("a"), survey.entries[0].read()), (b"A" * 1000, (b"A" * 1000, []), b"A" * 1000))
+            self.assertEqual([adf.ROLES[role] for role in survey.owners()[2:6]], ["header", "data", "data", "data"])
+            rescued = adf.Rescued(image)
+            self.assertEqual(rescued.entry_of(rescued.survey.entries[0]).read(), b"A" * 1000)
+        cut = adf.survey((bytes(4) + sound[4:])[: 512 * 9], 16)
+        self.assertEqual((cut.is_begun, len(cut.image), cut.entries[0].is_sound), (True, 8192, True))
+        self.assertEqual(adf.survey((bytes(4) + sound[4:])[: 512 * 4], 16).findings[0].cause, "not dos")
+
     def test_tells_what_findings_concern(self):
         # The chain of `b`, in slot 7, goes on to the header of `a`, which slot 6 has; byte 499 is the last of the next in the chain.
         sound = built("volume ofs 16\nfile 0:0:0 00000000 a\nfill 9 41\nfile 0:0:0 00000000 b\n")

@@ -25,7 +25,7 @@ fill 80000 41
 """
 HEADER = os.path.join(TOP, "include", "adf.h")
 STRUCTS = {
-    **{name: getattr(adf, "_" + name.capitalize()) for name in "date verdict entry contents finding found surveyed part partition disk moved".split()},
+    **{name: getattr(adf, "_" + name.capitalize()) for name in "date verdict entry contents finding found surveyed part subject partition disk moved".split()},
     **{"addition": building._Addition, "new_volume": building._NewVolume, "built": building._Built, "boot_blocks": boots._BootBlocks},
     **{"loss": _rescues._Loss, "rescue_told": _rescues._RescueTold},
 }
@@ -101,6 +101,42 @@ class Words(unittest.TestCase):
             self.assertEqual((roles.raw[:whole], set(roles.raw[whole:-1])), (owners[:room], set(b"?")))
         roles = ctypes.create_string_buffer(b"?" * 9)
         self.assertEqual((self.library.adf_owners(self.image, 7, roles, 9), roles.raw[:9]), (1, b"?" * 9))
+
+
+class Subjects(unittest.TestCase):
+    """What is surveyed of an image, in rooms of any size, and look-ups of any text in it."""
+
+    def setUp(self):
+        self.library, self.image = adf.load(adf.library_path()), built("volume ofs 16\nfile 0:0:0 00000000 a\nfill 1000 41\n")
+
+    def subject(self, image, blocks, room):
+        told, place = adf._Subject(7, 7, 7, 7), ctypes.create_string_buffer(b"?" * (room + 1))
+        number = self.library.adf_survey_subject(image, len(image), blocks, place, room, ctypes.byref(told))
+        self.assertEqual(place.raw[room], ord("?"))
+        return number, (told.length, told.held, told.is_begun, told.is_retyped), place.raw[:room]
+
+    def test_fill_their_rooms(self):
+        lost, sound = bytes(1024) + self.image[1024:], self.image
+        for image, blocks, told, whole in (
+            (sound, 0, (8192, 16, 0, 0), sound),
+            (lost, 0, (8192, 16, 1, 0), b"DOS\0" + lost[4:]),
+            (b"DOS\1" + sound[4:], 0, (8192, 16, 0, 1), sound),
+            (sound[:5000], 16, (8192, 9, 0, 0), sound[:5000] + bytes(3192)),
+            (sound[:5000], 0, (5000, 9, 0, 0), sound[:5000]),
+            (b"", 0, (0, 0, 0, 0), b""),
+        ):
+            for more in (0, 9):
+                self.assertEqual(self.subject(image, blocks, len(whole) + more), (0, told, whole + b"?" * more))
+            for room in {0, len(whole) - 1} if whole else ():
+                self.assertEqual(self.subject(image, blocks, room), (24, (len(whole), 0, 0, 0), b"?" * room))
+        self.assertEqual(self.subject(sound, 2**32 - 1, 9), (24, (512 * (2**32 - 1), 0, 0, 0), b"?" * 9))
+
+    def test_are_searched_for_any_text(self):
+        for text, answer in ((b"A", (0, 1)), (b"", (0, 0)), (b"b", (1, 7)), (b"a/b", (1, 7)), (b"a//b", (2, 7)), (b"\\x4", (2, 7)), (b"\xe4", (2, 7))):
+            node = ctypes.c_size_t(7)
+            number = self.library.adf_survey_find(self.image, len(self.image), text, len(text), ctypes.byref(node))
+            self.assertEqual((number, node.value), answer)
+        self.assertEqual((self.library.adf_survey_find(b"", 0, b"a", 1, ctypes.byref(node)), node.value), (1, 7))
 
 
 class Tables(unittest.TestCase):

@@ -6,9 +6,6 @@ const FIRST_OUTPUT: usize = 1 << 20;
 const FIRST_ERRORS: usize = 1024;
 const MOST_OUTPUT: usize = 1 << 32;
 
-/// The line of `adf-survey` on errors that says that the image is a hard disk begins so.
-const HINT: &str = "a hard disk with a partition table: ";
-
 /// What a command wrote, and its status.
 #[derive(Clone, PartialEq, Eq)]
 pub struct Answer {
@@ -20,11 +17,6 @@ pub struct Answer {
 }
 
 impl Answer {
-    /// The lines of errors, but for the hint that the image is a hard disk.
-    pub(crate) fn lines(&self) -> Vec<String> {
-        String::from_utf8_lossy(&self.errors).lines().filter(|line| !line.starts_with(HINT)).map(str::to_owned).collect()
-    }
-
     /// The output at status 0; the answer as an error at any other.
     pub fn into_output(self) -> Result<Vec<u8>, Failed> {
         match self.status {

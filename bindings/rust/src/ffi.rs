@@ -105,6 +105,16 @@ pub(crate) struct PartRecord {
     pub number: u32,
 }
 
+/// `struct adf_subject`.
+#[repr(C)]
+#[derive(Clone, Copy, Default)]
+pub(crate) struct SubjectTold {
+    pub length: usize,
+    pub held: u32,
+    pub is_begun: u8,
+    pub is_retyped: u8,
+}
+
 /// `struct adf_partition`.
 #[repr(C)]
 #[derive(Clone, Copy)]
@@ -200,6 +210,14 @@ extern "C" {
         errors_room: usize,
         moved: *mut Moved,
     ) -> u8;
+    fn adf_survey_subject(
+        image: *const u8,
+        length: usize,
+        blocks: u32,
+        room: *mut u8,
+        room_length: usize,
+        subject: *mut SubjectTold,
+    ) -> u8;
     fn adf_survey_index(
         image: *const u8,
         length: usize,
@@ -211,6 +229,7 @@ extern "C" {
     ) -> u8;
     fn adf_survey_parts(image: *const u8, length: usize, parts: *mut PartRecord, room: usize) -> u8;
     fn adf_survey_owners(image: *const u8, length: usize, roles: *mut u8, room: usize) -> u8;
+    fn adf_survey_find(image: *const u8, length: usize, path: *const u8, path_length: usize, node: *mut usize) -> u8;
     fn adf_found_blocks(
         image: *const u8,
         length: usize,
@@ -450,6 +469,18 @@ pub(crate) fn index(image: &[u8]) -> Result<Tables, Refused> {
     Ok(Tables { contents, entries, blocks })
 }
 
+/// The image that `adf-survey` surveys of an image, and what is told of it.
+pub(crate) fn subject(image: &[u8]) -> Result<(Vec<u8>, SubjectTold), Refused> {
+    let mut subject = with_room(image.len())?;
+    subject.resize(image.len(), 0);
+    let mut told = SubjectTold::default();
+    // "A pointer to bytes has as many bytes as its length or room says".
+    let answer = unsafe { adf_survey_subject(image.as_ptr(), image.len(), 0, subject.as_mut_ptr(), subject.len(), &mut told) };
+    accepted(answer).map_err(|cause| Refused { cause, block: 0 })?;
+    subject.truncate(told.length);
+    Ok((subject, told))
+}
+
 /// The tables of a survey, as `adf_survey_index` makes them.
 pub(crate) struct SurveyTables {
     pub surveyed: Surveyed,
@@ -620,6 +651,19 @@ pub(crate) fn find(entries: &[Record], path: &[u8]) -> Result<usize, NotFound> {
     let mut node = 0;
     // "A pointer to bytes has as many bytes as its length or room says"; "node is at most count".
     let answer = unsafe { adf_find(entries.as_ptr(), entries.len(), path.as_ptr(), path.len(), &mut node) };
+    looked_up(answer, node)
+}
+
+/// The number of the entry of a survey under a path in escape form, of several the first; 0 for the root.
+pub(crate) fn find_found(image: &[u8], path: &[u8]) -> Result<usize, NotFound> {
+    let mut node = 0;
+    // "A pointer to bytes has as many bytes as its length or room says".
+    let answer = unsafe { adf_survey_find(image.as_ptr(), image.len(), path.as_ptr(), path.len(), &mut node) };
+    looked_up(answer, node)
+}
+
+/// What a look-up answers.
+fn looked_up(answer: u8, node: usize) -> Result<usize, NotFound> {
     match answer {
         0 => Ok(node),
         1 => Err(NotFound::Nothing),
@@ -740,6 +784,7 @@ mod tests {
             comment_length comment));
         all.extend(layout!(Surveyed, "adf_surveyed": kind blocks findings entries root altered created label_length label));
         all.extend(layout!(PartRecord, "adf_part": node number));
+        all.extend(layout!(SubjectTold, "adf_subject": length held is_begun is_retyped));
         all.extend(layout!(PartitionRecord, "adf_partition": first blocks block flags priority dos_type fault name_length name));
         all.extend(layout!(LossRecord, "adf_loss": path path_length first last why));
         all.extend(layout!(RescueTold, "adf_rescue_told": losses paths blocks block));

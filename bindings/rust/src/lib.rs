@@ -12,6 +12,7 @@ mod opened;
 mod remains;
 mod rescue;
 mod role;
+mod subject;
 mod survey;
 mod text;
 

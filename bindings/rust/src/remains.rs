@@ -1,6 +1,5 @@
 use crate::text::{in_capitals, unescape};
-use crate::{command, ffi, rescue, Failed, Found, Refused, Survey};
-use std::borrow::Cow;
+use crate::{escape, ffi, Failed, Found, NotFound, Refused, Survey};
 use std::ops::Range;
 
 /// The last word of a file's header; a link has another one.
@@ -21,11 +20,22 @@ pub fn remains(path: &str, image: &[u8]) -> Result<Remains, Failed> {
     if survey.entries().filter(|found| Some(in_capitals(&found.path_bytes())) == wanted).count() > 1 {
         return Err(Failed::with(1, "not unique"));
     }
-    let answer = command::survey(&["cat", "--damaged", "--", path], image);
-    let lost: Option<Vec<_>> = answer.lines().iter().map(|line| lost_of(line)).collect();
-    match lost {
-        Some(lost) if answer.status <= 1 => Ok(Remains { bytes: answer.output, lost }),
-        _ => Err(Failed { answer }),
+    match survey.find(path) {
+        Ok(Some(found)) => found.remains(),
+        Ok(None) => Err(Failed::with(1, "not a file")),
+        Err(why) => Err(not_found(path, why)),
+    }
+}
+
+/// The answer where a path leads to nothing.
+fn not_found(path: &str, why: NotFound) -> Failed {
+    match why {
+        NotFound::Nothing => {
+            let shown = unescape(path).map_or_else(|| path.to_owned(), |path| escape(&path));
+            Failed::with(1, &format!("no such path: {shown}"))
+        }
+        NotFound::NoPath => Failed::with(2, "bad path"),
+        why => Failed::with(3, &why.to_string()),
     }
 }
 
@@ -36,15 +46,15 @@ fn failed(refused: Refused) -> Failed {
 /// What is left of an entry, by its number.
 pub(crate) fn remains_of_found(found: &Found) -> Result<Remains, Failed> {
     let past = (found.header() as usize + 1) * 512;
-    if !found.is_file() || found.image().get(past - 4..past) != Some(&FILE_TYPE[..]) {
+    if !found.is_file() || found.subject().get(past - 4..past) != Some(&FILE_TYPE[..]) {
         return Err(Failed::with(1, "not a file"));
     }
-    let image = if found.is_sound() { Cow::Borrowed(found.image()) } else { with_type_of_files(found.image()) };
-    let rows = ffi::parts(&image).map_err(failed)?;
-    let blocks = ffi::found_blocks(&image, &rows, found.number(), found.header()).map_err(failed)?;
+    let image = found.subject();
+    let rows = ffi::parts(image).map_err(failed)?;
+    let blocks = ffi::found_blocks(image, &rows, found.number(), found.header()).map_err(failed)?;
     let (mut bytes, mut lost, mut at) = (vec![0; image.len().min(found.size() as usize)], Vec::new(), 0);
     while at < bytes.len() {
-        let (read, gap) = ffi::found_read(&image, found.header(), &blocks, at, &mut bytes[at..]);
+        let (read, gap) = ffi::found_read(image, found.header(), &blocks, at, &mut bytes[at..]);
         if gap > 0 {
             lost.push(at + read..at + read + gap);
         }
@@ -54,18 +64,4 @@ pub(crate) fn remains_of_found(found: &Found) -> Result<Remains, Failed> {
         at += read + gap;
     }
     Ok(Remains { bytes, lost })
-}
-
-/// The image with the type that its files say, if the volume of what stands has another one than the image.
-fn with_type_of_files(image: &[u8]) -> Cow<'_, [u8]> {
-    match rescue(image) {
-        Ok(rescue) if rescue.image[3] & 1 != image[3] & 1 => Cow::Owned([&image[..3], &[image[3] & 254], &image[4..]].concat()),
-        _ => Cow::Borrowed(image),
-    }
-}
-
-/// The bytes of a line `bytes FIRST to LAST: no data`.
-fn lost_of(line: &str) -> Option<Range<usize>> {
-    let (first, last) = line.strip_prefix("bytes ")?.strip_suffix(": no data")?.split_once(" to ")?;
-    Some(first.parse().ok()?..last.parse::<usize>().ok()? + 1)
 }

@@ -1,17 +1,28 @@
-use crate::ffi::{self, Date, SurveyTables};
-use crate::{remains, text, Cause, Failed, Kind, Refused, Remains, Text};
+use crate::ffi::{self, Date, FindingRecord, SubjectTold, SurveyTables};
+use crate::subject::Subject;
+use crate::{remains, text, Cause, Failed, Kind, NotFound, Refused, Remains, Text};
 use std::fmt;
 
-/// What is found in an image by `adf-survey`: everything that is wrong, and the entries that can still be reached.
+/// What is found in an image by `adf-survey`: everything that is wrong, and the entries that can still be reached. Where nothing but the
+/// boot block is lost, and where the type is one of FFS and the files say OFS, the image is surveyed as if it began with the type that
+/// its files say.
 pub struct Survey<'image> {
-    image: &'image [u8],
+    subject: Subject<'image>,
+    told: SubjectTold,
     tables: SurveyTables,
 }
 
 impl<'image> Survey<'image> {
     /// Surveys an image, sound or not. An error is `Cause::NoMemory`.
     pub fn of(image: &'image [u8]) -> Result<Survey<'image>, Refused> {
-        Ok(Survey { image, tables: ffi::survey(image)? })
+        let (subject, told) = Subject::of(image)?;
+        let mut tables = ffi::survey(&subject)?;
+        if told.is_begun == 1 {
+            tables.findings.try_reserve(1).map_err(|_| Refused { cause: Cause::NoMemory, block: 0 })?;
+            let (first, last, node, owner, cause, is_within) = (0, 0, 0, 0, Cause::NotDos.number(), 0);
+            tables.findings.insert(0, FindingRecord { first, last, node, owner, cause, is_within });
+        }
+        Ok(Survey { subject, told, tables })
     }
 
     /// The kind, if the root is found.
@@ -34,7 +45,17 @@ impl<'image> Survey<'image> {
         [surveyed.root, surveyed.altered, surveyed.created]
     }
 
-    /// What is wrong, in the order of the survey: nothing, if and only if `Volume::check` accepts the image.
+    /// Whether nothing but the boot block is lost: then the first finding says so.
+    pub fn is_begun(&self) -> bool {
+        self.told.is_begun == 1
+    }
+
+    /// Whether the type is one of FFS and the files say OFS. There is no finding for it.
+    pub fn is_retyped(&self) -> bool {
+        self.told.is_retyped == 1
+    }
+
+    /// What is wrong, in the order of the survey, unless `is_retyped`: nothing, if and only if `Volume::check` accepts the image.
     pub fn findings(&self) -> impl ExactSizeIterator<Item = Finding<'_>> + DoubleEndedIterator {
         (0..self.tables.findings.len()).map(|place| Finding { survey: self, place })
     }
@@ -44,8 +65,13 @@ impl<'image> Survey<'image> {
         (0..self.tables.entries.len()).map(|place| Found { survey: self, number: place + 1 })
     }
 
-    pub(crate) fn image(&self) -> &'image [u8] {
-        self.image
+    pub(crate) fn subject(&self) -> &Subject<'image> {
+        &self.subject
+    }
+
+    /// The entry under a path in escape form, of several the first; none for the root.
+    pub(crate) fn find(&self, path: &str) -> Result<Option<Found<'_>>, NotFound> {
+        Ok(self.entry(ffi::find_found(&self.subject, path.as_bytes())?))
     }
 
     fn entry(&self, number: usize) -> Option<Found<'_>> {
@@ -179,8 +205,8 @@ impl<'survey> Found<'survey> {
         remains::remains_of_found(self)
     }
 
-    pub(crate) fn image(&self) -> &'survey [u8] {
-        self.survey.image
+    pub(crate) fn subject(&self) -> &'survey [u8] {
+        &self.survey.subject
     }
 }
 

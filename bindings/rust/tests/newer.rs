@@ -32,6 +32,14 @@ pub struct Surveyed {
     findings: usize,
 }
 
+/// `struct adf_subject`.
+#[repr(C)]
+pub struct Subject {
+    length: usize,
+    held: u32,
+    marks: [u8; 2],
+}
+
 /// `struct adf_partition`.
 #[repr(C)]
 pub struct Partition {
@@ -132,6 +140,18 @@ extern "C" fn adf_partition_fault_text(fault: u8, room: *mut u8, length: usize) 
 #[no_mangle]
 extern "C" fn adf_version() -> u32 {
     20_001
+}
+
+/// Answers the image that is given.
+#[no_mangle]
+extern "C" fn adf_survey_subject(_: *const u8, length: usize, _: u32, _: *mut u8, _: usize, subject: *mut Subject) -> u8 {
+    unsafe { *subject = Subject { length, held: 0, marks: [0; 2] } };
+    0
+}
+
+#[no_mangle]
+extern "C" fn adf_survey_find(_: *const u8, _: usize, _: *const u8, _: usize, _: *mut usize) -> u8 {
+    NEW
 }
 
 /// Refuses an image of no bytes, and has one finding in any other.

@@ -348,6 +348,27 @@ fn what_is_left_of_a_file_is_told() {
 }
 
 #[test]
+fn what_adf_survey_opens_is_surveyed() {
+    // Both boot blocks are lost; then the type is that of FFS, and the files say OFS.
+    let sound = built("volume ofs 16\nfile 0:0:0 00000000 a\nfill 1000 41\n");
+    let lost = [vec![0; 1024], sound[1024..].to_vec()].concat();
+    let typed = [&b"DOS\x01"[..], &sound[4..]].concat();
+    for (image, findings) in [(lost, &[(0, Cause::NotDos)][..]), (typed, &[])] {
+        let survey = Survey::of(&image).unwrap();
+        assert_eq!(survey.findings().map(|finding| (finding.first(), finding.cause())).collect::<Vec<_>>(), findings);
+        assert_eq!((survey.is_begun(), survey.is_retyped(), survey.kind()), (image[0] == 0, image[0] != 0, Some(Kind::Ofs)));
+        let found = survey.entries().next().unwrap();
+        let whole = Remains { bytes: vec![b'A'; 1000], lost: vec![] };
+        assert_eq!((found.is_sound(), found.remains(), remains("a", &image)), (true, Ok(whole.clone()), Ok(whole)));
+        let mut room = [0; 1001];
+        let file = survey.parts().unwrap().file(found).unwrap();
+        assert_eq!((file.read_at(0, &mut room), room[999], room[1000]), ((1000, 0), b'A', 0));
+        assert_eq!(survey.owners().unwrap()[2..6], [Role::Head, Role::Data, Role::Data, Role::Data]);
+    }
+    assert!(!Survey::of(&sound).unwrap().is_begun());
+}
+
+#[test]
 fn a_path_that_two_files_have_is_refused() {
     // The header of `a` is block 2, that of `b` block 4, each with one data block behind it. `b` becomes a second `a`, in the slot
     // of `b`, so that it is found, and its slot is wrong.

@@ -1,7 +1,7 @@
 -- The classes of blocks by what a survey tells of them.
 -- Letters: w the walk of a survey, fs its findings; b a block; r, q roles; n an entry; a, i the block and the word that point to a part.
-use Rattle.std.specs.Prelude.{◌≢◌, ◌||◌, Bool, true, false, Option, Some, None, cond, nat_lt}
-use Rattle.std.proofs.Common.{◌≡◌, ℕ, zero, suc, List, [], ◌∷◌, ◌==◌, ◌≤◌, ◌<◌, ◌+◌, ◌/◌, length, get_or, set, inl, inr, refl, sym, ap, subst, ◌∙◌, arith}
+use Rattle.std.specs.Prelude.{◌≢◌, ◌||◌, Bool, true, false, Some, None, cond, nat_lt}
+use Rattle.std.proofs.Common.{◌≡◌, ℕ, zero, suc, List, [], ◌∷◌, ◌==◌, ◌≤◌, ◌<◌, ◌+◌, length, get_or, set, inl, inr, refl, sym, ap, subst, ◌∙◌, arith}
 use Rattle.std.proofs.lemmas.Bool.{eq-eqb}
 use Rattle.adf_check.specs.declared.owner_class.OwnerClass.{OwnerClass}
 use Rattle.adf_check.specs.declared.owner_class.OwnerClass.TheVariants as class

@@ -29,3 +29,5 @@ pub mod BootImages
 pub mod LossTables
 pub mod PreparedRescues
 pub mod RescueReplies
+-- what is surveyed of an image
+pub mod SurveyedImages

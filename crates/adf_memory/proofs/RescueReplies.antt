@@ -174,7 +174,7 @@ given_blocks s r (t, typed, (w, fs, survey, sound, marks, (b, second, inr (stand
     subst (IsOfBlocks (blocks s.image)) (sym e)
     (ap (λ n. n / 512) (length_restored volume s.image _ laid) ∙ size ∙ ap (λ n. n / 512) (length_opened t.image ∙ typed_length s t typed))
 
-meant_image : (n : Option ℕ) (input : List ℕ) → (subject n input).image ≡ meant n input
+pub meant_image : (n : Option ℕ) (input : List ℕ) → (subject n input).image ≡ meant n input
 meant_image None input = refl
 meant_image (Some n) input = refl
 

@@ -81,8 +81,8 @@ impl RescueRefusal {
     }
 }
 
-// The number of blocks that is meant: 0 for as many as the image has.
-fn asked_blocks(blocks: u32) -> Option<u32>
+/// The number of blocks that is meant: 0 for as many as the image has.
+pub fn asked_blocks(blocks: u32) -> Option<u32>
     ensures { result ≡ asked_blocks blocks }
 {
     match blocks {
@@ -187,8 +187,8 @@ fn put_rows(room: &mut [TableLoss], rows: &[TableLoss])
     room[..count].copy_from_slice(&rows[..count]);
 }
 
-// Fills a room of bytes, as far as there is room.
-fn put_bytes(room: &mut [u8], bytes: &[u8])
+/// Fills a room of bytes, as far as there is room.
+pub fn put_bytes(room: &mut [u8], bytes: &[u8])
     ensures { room.new ≡ filled bytes.now room.old }
 {
     let count = bytes.len().min(room.len());

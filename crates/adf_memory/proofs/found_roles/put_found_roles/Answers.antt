@@ -1,5 +1,4 @@
 use Rattle.std.proofs.Common.{◌∙◌, ap, arith}
-use Rattle.adf_blocks.specs.Sizes.{blocks}
 use Rattle.adf_memory.proofs.FoundRoles.{roles_more}
 use Rattle.adf_memory.proofs.Rooms.{put_keeps}
 use Rattle.adf_memory.proofs.found_roles.put_found_roles.Goals as goal

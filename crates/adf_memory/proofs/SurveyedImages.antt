@@ -1,0 +1,212 @@
+-- What is surveyed of an image, in the memory of a caller.
+-- Letters: s, t, u what is surveyed; w, v walks of its survey, fs, gs the findings; n the number of blocks that is asked for, 0 for those that the image has.
+use Rattle.std.proofs.Common.{◌≡◌, ◌≤◌, ◌<◌, ◌∙◌, ◌-◌, ◌==◌, ◌&&◌, ◌++◌, ℕ, Bool, true, false, List, [], None, Some}
+use Rattle.std.proofs.Common.{ap, append-nil, arith, codes, cond, drop, length, nat_lt, not, refl, slice_index, subst, sym, take}
+use Rattle.std.proofs.Math.Seq.{take-append_seam}
+use Rattle.std.proofs.lemmas.Bool.{and_parts, cond_both, cond-false}
+use Rattle.std.proofs.lemmas.Bool.Decides.{nat_tests}
+use Rattle.std.proofs.lemmas.List.{drop-set-lt, length-append, length-set, take_all}
+use Rattle.adf_volume.specs.Start.{is_image_len}
+use Rattle.adf_volume.specs.Walk.{Walk}
+use Rattle.adf_boot_blocks.specs.BootBlocks.{begins_with_dos}
+use Rattle.adf_findings.specs.OwnKind.{is_mistyped, retyped}
+use Rattle.adf_findings.proofs.OneSurvey.{one_survey}
+use Rattle.adf_rescue.specs.MadeRoot.{has_root}
+use Rattle.adf_rescue.specs.Opened.{begun, lacks_boot}
+use Rattle.adf_rescue.proofs.MadeRoots.{sized as sized_as}
+use Rattle.adf_rescue.proofs.OpenedImages.{length_begun}
+use Rattle.adf_runs.specs.Commands.{Reply}
+use Rattle.adf_survey_cmd.specs.Hints.{Hinted}
+use Rattle.adf_survey_cmd.specs.Subject.{IsTyped, OfTyped, SubjectValue, begun_subject, changed, meant, missing_text, subject, type_line, typed_subject}
+use Rattle.adf_memory.specs.FoundTables.{mark_number}
+use Rattle.adf_memory.specs.Rescuing.{asked_blocks}
+use Rattle.adf_memory.specs.Rooms.{filled}
+use Rattle.adf_memory.specs.Subjects.{HasSubject, IsRetyped, front_lines, surveyed_subject, subject_in}
+use Rattle.adf_memory.specs.declared.subjects.SubjectTold.{SubjectTold}
+use Rattle.adf_memory.proofs.RescueReplies.{meant_image}
+
+-- a room whose front is filled begins with what fills it
+front_filled : (xs room : List ℕ) → length xs ≤ length room → take (length xs) (filled xs room) ≡ xs
+front_filled xs room le =
+    ap (λ ys. take (length xs) (ys ++ drop (length xs) room)) (take_all (length room) xs le) ∙ take-append_seam xs (drop (length xs) room)
+
+-- a mark that is 0 is not set
+unset : (is : Bool) → mark_number is ≡ 0 → is ≡ false
+unset true e = absurd (omega (arith, e))
+unset false e = refl
+
+-- what is changed, or stays
+
+changed_front : (is : Bool) (s : SubjectValue) (image line : List ℕ)
+    → (cond is (changed s image line) s).front ≡ s.front ++ cond (mark_number is == 1) line []
+changed_front true s image line = refl
+changed_front false s image line = sym (append-nil s.front)
+
+changed_end : (is : Bool) (s : SubjectValue) (image line : List ℕ) → (cond is (changed s image line) s).end ≡ s.end
+changed_end true s image line = refl
+changed_end false s image line = refl
+
+-- the line of the type is one
+type_line_some : 0 < length type_line
+unfolding type_line
+type_line_some = omega arith
+
+-- so there is one more line if and only if the type is changed
+longer : (is : Bool) (s : SubjectValue) (image : List ℕ)
+    → nat_lt (length s.front) (length (cond is (changed s image type_line) s).front) ≡ is
+longer true s image = grind (arith, nat_tests, length-append s.front type_line, type_line_some)
+longer false s image = grind (arith, nat_tests)
+
+pub retyped_told : (s t : SubjectValue) (is : Bool) → IsTyped s t → is ≡ nat_lt (length s.front) (length t.front) → IsRetyped s t is
+retyped_told s t is (w, fs, survey, e) tells = (
+  w,
+  fs,
+  survey,
+  e,
+  tells ∙ ap (λ (u : SubjectValue). nat_lt (length s.front) (length u.front)) e ∙ longer (is_mistyped s.image w) s (retyped s.image),
+)
+
+-- the image of what is surveyed in the end
+
+lacks_long : (image : List ℕ) → lacks_boot image ≡ true → 4 ≤ length image
+lacks_long image lacks =
+    let size = sized_as (length image) (and_parts _ _ lacks).0 in omega (arith, size.whole, size.low)
+
+begun_length : (s : SubjectValue) → length (begun_subject s).image ≡ length s.image
+begun_length s =
+    cond_both (lacks_boot s.image) (changed s (begun s.image) (codes "block 0: not dos\n")) s
+    (λ (t : SubjectValue). length t.image ≡ length s.image) (λ lacks. length_begun s.image (lacks_long s.image lacks)) (λ e. refl)
+
+begun_rest : (s : SubjectValue) → drop 4 (begun_subject s).image ≡ drop 4 s.image
+begun_rest s =
+    cond_both (lacks_boot s.image) (changed s (begun s.image) (codes "block 0: not dos\n")) s
+    (λ (t : SubjectValue). drop 4 t.image ≡ drop 4 s.image)
+    (λ lacks. cond_both (begins_with_dos s.image) s.image _ (λ (l : List ℕ). drop 4 l ≡ drop 4 s.image) (λ e. refl) (λ e. refl)) (λ e. refl)
+
+typed_either : (s : SubjectValue) (w : Walk) (holds : List ℕ → Type 0) → holds (retyped s.image) → holds s.image → holds (typed_subject s w).image
+typed_either s w holds other same =
+    cond_both (is_mistyped s.image w) (changed s (retyped s.image) type_line) s (λ (t : SubjectValue). holds t.image) (λ e. other) (λ e. same)
+
+pub surveyed_length : (s : SubjectValue) (w : Walk) → length (surveyed_subject s w).image ≡ length s.image
+surveyed_length s w =
+    let image : List ℕ = (begun_subject s).image in
+    typed_either (begun_subject s) w (λ (l : List ℕ). length l ≡ length image) (length-set image 3 (slice_index image 3 - 1)) refl ∙ begun_length s
+
+surveyed_rest : (s : SubjectValue) (w : Walk) → drop 4 (surveyed_subject s w).image ≡ drop 4 s.image
+surveyed_rest s w =
+    let image : List ℕ = (begun_subject s).image in
+    typed_either (begun_subject s) w (λ (l : List ℕ). drop 4 l ≡ drop 4 image)
+    (drop-set-lt 4 image 3 (slice_index image 3 - 1) (omega arith)) refl
+    ∙ begun_rest s
+
+surveyed_same : (s : SubjectValue) (w : Walk) → lacks_boot s.image ≡ false → is_mistyped (begun_subject s).image w ≡ false
+    → (surveyed_subject s w).image ≡ s.image
+surveyed_same s w has typed =
+    ap (λ (t : SubjectValue). t.image) (cond-false (is_mistyped (begun_subject s).image w) _ (begun_subject s) typed
+    ∙ cond-false (lacks_boot s.image) _ s has)
+
+dos_has : (image : List ℕ) → begins_with_dos image ≡ true → lacks_boot image ≡ false
+dos_has image dos = none (is_image_len (length image)) (begins_with_dos image) (has_root image) dos
+  where
+    none : (len begins root : Bool) → begins ≡ true → (len && (not begins && root)) ≡ false
+    none true true root e = refl
+    none false true root e = refl
+    none len false root e = cc
+
+-- its end, and the lines in front
+
+surveyed_end : (s : SubjectValue) (w : Walk) → (surveyed_subject s w).end ≡ s.end
+surveyed_end s w =
+    changed_end (is_mistyped (begun_subject s).image w) (begun_subject s) (retyped (begun_subject s).image) type_line
+    ∙ changed_end (lacks_boot s.image) s (begun s.image) (codes "block 0: not dos\n")
+
+-- the lines of what is told
+abbrev begun_line : Bool → List ℕ
+begun_line is = cond (mark_number is == 1) (codes "block 0: not dos\n") []
+
+abbrev retyped_line : Bool → List ℕ
+retyped_line is = cond (mark_number is == 1) type_line []
+
+surveyed_front : (s : SubjectValue) (w : Walk) → (surveyed_subject s w).front
+    ≡ (s.front ++ begun_line (lacks_boot s.image)) ++ retyped_line (is_mistyped (begun_subject s).image w)
+surveyed_front s w =
+    changed_front (is_mistyped (begun_subject s).image w) (begun_subject s) (retyped (begun_subject s).image) type_line
+    ∙ ap (λ (l : List ℕ). l ++ retyped_line (is_mistyped (begun_subject s).image w))
+    (changed_front (lacks_boot s.image) s (begun s.image) (codes "block 0: not dos\n"))
+
+-- those in front of what is meant
+meant_front : (as_it_is : Bool) (n : ℕ) (input : List ℕ)
+    → (subject (cond as_it_is None (Some n)) input).front ≡ cond as_it_is [] (missing_text (subject (cond as_it_is None (Some n)) input).end n)
+meant_front true n input = refl
+meant_front false n input = refl
+
+-- what a room begins with
+
+module _ (s : SubjectValue) (old new : List ℕ) (told : SubjectTold) (has : HasSubject s old new told) where
+  told_length : told.length ≡ length (surveyed_subject s has.walk).image
+  told_length = ap (λ (x : SubjectTold). x.length) has.tells
+
+  room_image : take told.length new ≡ (surveyed_subject s has.walk).image
+  room_image =
+      let image : List ℕ = (surveyed_subject s has.walk).image in
+      (λ i. take (told_length i) (has.room i)) ∙ front_filled image old (subst (λ (k : ℕ). k ≤ length old) told_length has.fits)
+
+  pub has_length : told.length ≡ length s.image
+  has_length = told_length ∙ surveyed_length s has.walk
+
+  pub has_rest : drop 4 (take told.length new) ≡ drop 4 s.image
+  has_rest = ap (drop 4) room_image ∙ surveyed_rest s has.walk
+
+  pub has_same : told.is_begun ≡ 0 → told.is_retyped ≡ 0 → take told.length new ≡ s.image
+  has_same begun typed =
+      room_image ∙ surveyed_same s has.walk (unset (lacks_boot s.image) (sym (ap (λ (x : SubjectTold). x.is_begun) has.tells) ∙ begun))
+      (unset (is_mistyped (begun_subject s).image has.walk) (sym (ap (λ (x : SubjectTold). x.is_retyped) has.tells) ∙ typed))
+
+  pub has_dos : begins_with_dos s.image ≡ true → told.is_begun ≡ 0
+  has_dos dos = ap (λ (x : SubjectTold). x.is_begun) has.tells ∙ ap mark_number (dos_has s.image dos)
+
+  one_surveyed : (t : SubjectValue) → IsTyped (begun_subject s) t → t ≡ surveyed_subject s has.walk
+  one_surveyed t (v, gs, survey, e) =
+      e ∙ ap (typed_subject (begun_subject s)) (one_survey (begun_subject s).image v has.walk gs has.findings survey has.survey).0
+
+module _ (n : ℕ) (input old new : List ℕ) (told : SubjectTold) (has : HasSubject (subject (asked_blocks n) input) old new told) where
+  told_front : front_lines n told ≡ (surveyed_subject (subject (asked_blocks n) input) has.walk).front
+  told_front =
+      let s : SubjectValue = subject (asked_blocks n) input in
+      let begins = begun_line (lacks_boot s.image) in
+      let types = retyped_line (is_mistyped (begun_subject s).image has.walk) in
+      ap (front_lines n) has.tells
+      ∙ ap (λ (end : ℕ). (cond (n == 0) [] (missing_text end n) ++ begins) ++ types) (surveyed_end s has.walk)
+      ∙ ap (λ (l : List ℕ). (l ++ begins) ++ types) (sym (meant_front (n == 0) n input))
+      ∙ sym (surveyed_front s has.walk)
+
+  subject_is : surveyed_subject (subject (asked_blocks n) input) has.walk ≡ subject_in n new told
+  subject_is =
+      let image = sym (room_image (subject (asked_blocks n) input) old new told has) in
+      let end = sym (ap (λ (x : SubjectTold). x.held) has.tells) in
+      let front = sym told_front in
+      λ i. record { image = image i; end = end i; front = front i }
+
+  -- what is answered is that of the room
+  pub answers_agree : (answers : SubjectValue → Reply → Type 0) (reply : Reply)
+      → Hinted input (OfTyped (subject (asked_blocks n) input) answers) reply → Hinted input (answers (subject_in n new told)) reply
+  answers_agree answers reply (r, (t, typed, answer), e) = (
+    r,
+    subst (λ (u : SubjectValue). answers u r) (one_surveyed (subject (asked_blocks n) input) old new told has t typed ∙ subject_is) answer,
+    e,
+  )
+
+  meant_is : (subject (asked_blocks n) input).image ≡ meant (asked_blocks n) input
+  meant_is = meant_image (asked_blocks n) input
+
+  pub subject_length : told.length ≡ length (meant (asked_blocks n) input)
+  subject_length = has_length (subject (asked_blocks n) input) old new told has ∙ ap length meant_is
+
+  pub subject_rest : drop 4 (take told.length new) ≡ drop 4 (meant (asked_blocks n) input)
+  subject_rest = has_rest (subject (asked_blocks n) input) old new told has ∙ ap (drop 4) meant_is
+
+  pub subject_same : told.is_begun ≡ 0 → told.is_retyped ≡ 0 → take told.length new ≡ meant (asked_blocks n) input
+  subject_same begun typed = has_same (subject (asked_blocks n) input) old new told has begun typed ∙ meant_is
+
+  pub subject_dos : begins_with_dos (meant (asked_blocks n) input) ≡ true → told.is_begun ≡ 0
+  subject_dos dos = has_dos (subject (asked_blocks n) input) old new told has (ap begins_with_dos meant_is ∙ dos)

@@ -1,0 +1,155 @@
+// The image that is surveyed in place of an image, in the memory of the caller.
+
+ghost use Rattle.std.specs.Prelude.{◌≡◌, ◌≤◌, ◌<◌, ◌⊎◌, IfOk, OnErr, OnOk, length};
+ghost use Rattle.adf_rescue.specs.Opened.{lacks_boot};
+ghost use Rattle.adf_survey_cmd.specs.Subject.{begun_subject, meant, subject, subject_value};
+ghost use Rattle.adf_memory.specs.Rescuing.{asked_blocks};
+ghost use Rattle.adf_memory.specs.Subjects.{HasSubject, IsRetyped, meant_len, untold};
+ghost use Rattle.adf_memory.specs.Verdicts.{WantsMemory};
+
+use crate::found_tables::mark_number;
+use crate::rescuing::{asked_blocks, put_bytes};
+use adf_base::{BLOCK_LEN, NoMemory};
+use adf_blocks::Cause;
+use adf_rescue::lacks_boot;
+use adf_survey_cmd::Subject;
+use std::alloc::{AllocError, Global};
+
+/// The number of a room that is smaller than the image that is surveyed.
+const SMALL_ROOM: u8 = 24;
+
+/// What is told of the image that is surveyed. Fields that do not apply are 0.
+#[repr(C)]
+#[derive(Clone, Copy)]
+pub struct SubjectTold {
+    /// The bytes of the image that is surveyed.
+    pub length: usize,
+    /// The first block of it that the given image does not hold whole; its blocks, if that holds all.
+    pub held: u32,
+    /// 1 if only the boot block is lost, and `DOS` and a type stand in its place, otherwise 0.
+    pub is_begun: u8,
+    /// 1 if the type is that of OFS, as the files say, in place of one of FFS, otherwise 0.
+    pub is_retyped: u8,
+}
+
+// What is told beside the length where nothing is surveyed.
+fn untold(length: usize) -> SubjectTold
+    ensures { result ≡ untold length }
+{
+    SubjectTold {
+        length,
+        held: 0,
+        is_begun: 0,
+        is_retyped: 0,
+    }
+}
+
+// The bytes of an image that is meant: as it is, or of so many blocks.
+fn meant_len(image: &[u8], blocks: u32) -> usize
+    ensures { result ≡ meant_len (asked_blocks blocks) image.now }
+{
+    match asked_blocks(blocks) {
+        None => image.len(),
+        Some(blocks) => blocks as usize * BLOCK_LEN,
+    }
+}
+
+// Begins the image with `DOS` and a type, if only its boot block is lost, and says whether it is.
+fn begin(subject: &mut Subject) -> Result<bool, AllocError>
+    ensures subject { OnOk result (subject_value subject.new ≡ begun_subject (subject_value subject.old)) }
+    ensures is { IfOk result (λ is_begun. is_begun ≡ lacks_boot subject.old.image.items) }
+{
+    let is_begun = lacks_boot(&subject.image);
+    subject.begin()?;
+    Ok(is_begun)
+}
+
+// Makes the type of the image what its files say, and says whether it was another: then there is one more line.
+fn retype(alloc: Global, subject: &mut Subject) -> Result<bool, NoMemory>
+    ensures { IfOk result (IsRetyped (subject_value subject.old) (subject_value subject.new)) }
+{
+    let lines = subject.front.len();
+    subject.be_typed(alloc)?;
+    Ok(lines < subject.front.len())
+}
+
+// Writes what is surveyed of an input to the front of a room that has as many bytes, once it is begun and has the type
+// that its files say.
+fn put_surveyed(
+    alloc: Global,
+    mut subject: Subject,
+    room: &mut [u8],
+) -> Result<SubjectTold, NoMemory>
+    requires { length subject.image.items ≤ length room.old }
+    ensures subject { IfOk result (HasSubject (subject_value subject) room.old room.new) }
+    ensures unchanged { OnErr result (room.new ≡ room.old) }
+{
+    let Ok(is_begun) = begin(&mut subject) else {
+        return Err(NoMemory);
+    };
+    let is_retyped = retype(alloc, &mut subject)?;
+    put_bytes(room, &subject.image);
+    Ok(SubjectTold {
+        length: subject.image.len(),
+        held: subject.end,
+        is_begun: mark_number(is_begun),
+        is_retyped: mark_number(is_retyped),
+    })
+}
+
+// Writes what is surveyed of an image to the front of such a room.
+fn put_meant(
+    alloc: Global,
+    image: &[u8],
+    blocks: u32,
+    room: &mut [u8],
+) -> Result<SubjectTold, NoMemory>
+    requires { length (meant (asked_blocks blocks) image.now) ≤ length room.old }
+    ensures subject { IfOk result (HasSubject (subject (asked_blocks blocks) image.now) room.old room.new) }
+    ensures unchanged { OnErr result (room.new ≡ room.old) }
+{
+    let Ok(subject) = Subject::of(alloc, image, asked_blocks(blocks)) else {
+        return Err(NoMemory);
+    };
+    put_surveyed(alloc, subject, room)
+}
+
+/// Writes the image that `adf-survey` surveys in place of an image to the front of the room, and tells what is changed in
+/// it. It is the image as it is, or if `blocks` is not 0, as if it had so many blocks: with `DOS` and a type, if only the
+/// boot block is lost, and with the type that its files say. Returns 0; or 24 if the room is smaller, or the number of
+/// `NoMemory` if memory ran out.
+pub fn put_subject(
+    alloc: Global,
+    image: &[u8],
+    blocks: u32,
+    room: &mut [u8],
+    told: &mut SubjectTold,
+) -> u8
+    ensures number { (result ≡ 0) ⊎ (result ≡ 24) ⊎ WantsMemory result }
+    ensures subject { result ≡ 0 → HasSubject (subject (asked_blocks blocks) image.now) room.old room.new told.new }
+
+    // A room is refused if and only if it is smaller than the image that is meant, whose bytes are told.
+    ensures small { result ≡ 24 → length room.old < length (meant (asked_blocks blocks) image.now) }
+    ensures wide { length room.old < length (meant (asked_blocks blocks) image.now) → result ≡ 24 }
+    ensures bytes { result ≡ 24 → told.new ≡ untold (length (meant (asked_blocks blocks) image.now)) }
+
+    // If it is refused, or memory ran out, nothing is written.
+    ensures memory { WantsMemory result → told.new ≡ untold 0 }
+    ensures unchanged { ¬ (result ≡ 0) → room.new ≡ room.old }
+{
+    let length = meant_len(image, blocks);
+    if room.len() < length {
+        *told = untold(length);
+        return SMALL_ROOM;
+    }
+    match put_meant(alloc, image, blocks, room) {
+        Ok(surveyed) => {
+            *told = surveyed;
+            0
+        }
+        Err(_) => {
+            *told = untold(0);
+            Cause::NoMemory.number()
+        }
+    }
+}
