@@ -1,7 +1,7 @@
 use Rattle.std.proofs.Common.{◌≡◌, ◌+◌, ◌*◌, ◌<◌, ◌≤◌, ◌≢◌, ℕ, min, false, sym, subst, ◌∙◌, arith, rules}
 use Rattle.adf_blocks.specs.Sizes.{blocks}
-use Rattle.adf_check.specs.declared.kept_owner.KeptOwner.TheVariants.{Free}
-use Rattle.adf_check.specs.KeptOwner.{kept_at}
+use Rattle.adf_walk.specs.declared.kept_owner.KeptOwner.TheVariants.{Free}
+use Rattle.adf_walk.specs.KeptOwner.{kept_at}
 use Rattle.adf_check.specs.Reading.{IsMapped}
 use Rattle.adf_check.specs.Store.{store_value}
 use Rattle.adf_check.proofs.BitmapSteps.{bit_agrees, bit_refused, owned_run}
