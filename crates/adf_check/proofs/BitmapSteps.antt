@@ -24,8 +24,8 @@ use Rattle.adf_volume.specs.declared.fault.Fault.{Fault}
 use Rattle.adf_volume.specs.Start.{IsBegun}
 use Rattle.adf_check.specs.Pages.{AreListed, IsBitFault}
 use Rattle.adf_check.specs.Reading.{block_of_page, IsListed, IsMapped, StoreFits}
-use Rattle.adf_check.specs.declared.kept_owner.KeptOwner.TheVariants.{Free}
-use Rattle.adf_check.specs.KeptOwner.{kept_at}
+use Rattle.adf_walk.specs.declared.kept_owner.KeptOwner.TheVariants.{Free}
+use Rattle.adf_walk.specs.KeptOwner.{kept_at}
 use Rattle.adf_check.specs.Store.{StoreValue}
 use Rattle.adf_check.proofs.ClaimSteps.{first_fault}
 use Rattle.adf_check.proofs.NodeSteps.{at_or}

@@ -31,9 +31,9 @@ use Rattle.adf_volume.proofs.Lists.{at_below, at_fun, at_map, at_some, at_unmap,
 use Rattle.adf_volume.proofs.TreeOrder.{DirNode, is_dir, ordered}
 use Rattle.adf_check.specs.Lookup.{headed}
 use Rattle.adf_check.specs.Reading.{StoreFits}
-use Rattle.adf_check.specs.declared.kept_owner.KeptOwner.{KeptOwner}
-use Rattle.adf_check.specs.declared.kept_owner.KeptOwner.TheVariants as kept
-use Rattle.adf_check.specs.KeptOwner.{kept_at}
+use Rattle.adf_walk.specs.declared.kept_owner.KeptOwner.{KeptOwner}
+use Rattle.adf_walk.specs.declared.kept_owner.KeptOwner.TheVariants as kept
+use Rattle.adf_walk.specs.KeptOwner.{kept_at}
 use Rattle.adf_check.specs.Store.{StoreValue}
 use Rattle.adf_check.specs.StoreStands.{StoreStandsFor}
 use Rattle.adf_check.proofs.RowLaws.{head_facts}

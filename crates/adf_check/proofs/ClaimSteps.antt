@@ -22,8 +22,8 @@ use Rattle.adf_volume.specs.declared.fault.Fault.{Fault}
 use Rattle.adf_volume.specs.Fault.{IsTrueFault, fault}
 use Rattle.adf_volume.specs.Start.{IsBegun}
 use Rattle.adf_check.specs.Reading.{HasRead}
-use Rattle.adf_check.specs.declared.kept_owner.KeptOwner.TheVariants.{Free}
-use Rattle.adf_check.specs.KeptOwner.{kept_at}
+use Rattle.adf_walk.specs.declared.kept_owner.KeptOwner.TheVariants.{Free}
+use Rattle.adf_walk.specs.KeptOwner.{kept_at}
 use Rattle.adf_check.specs.Store.{StoreValue, next_kept, push_header, push_block, ext_file, data_file, is_dir_at, stored, StoreMatches}
 use Rattle.adf_check.proofs.StoreSteps.{free_absent, taken_present, tells_more}
 

@@ -21,8 +21,8 @@ use Rattle.adf_volume.proofs.Walks.{file_is}
 use Rattle.adf_volume.specs.Fault.{IsTrueFault, fault}
 use Rattle.adf_volume.specs.Start.{IsBegun}
 use Rattle.adf_check.specs.Reading.{HasTable, IsInDatas, IsInExts, IsInNode}
-use Rattle.adf_check.specs.declared.kept_owner.KeptOwner.TheVariants.{Free}
-use Rattle.adf_check.specs.KeptOwner.{kept_at}
+use Rattle.adf_walk.specs.declared.kept_owner.KeptOwner.TheVariants.{Free}
+use Rattle.adf_walk.specs.KeptOwner.{kept_at}
 use Rattle.adf_check.specs.Store.{StoreValue}
 use Rattle.adf_check.proofs.ClaimSteps.{IsNextAt, IsStored, form_fault, gathered, read_one, read_to}
 

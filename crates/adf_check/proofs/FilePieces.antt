@@ -21,7 +21,7 @@ use Rattle.adf_volume.proofs.Lists.{at_index_or}
 use Rattle.adf_volume.proofs.LayoutRoles.{part_range}
 use Rattle.adf_volume.proofs.PieceBytes.{held_some, piece_at, pieces_joined, pieces_length}
 use Rattle.adf_volume.proofs.Chains.{entry_is_at, entry_some}
-use Rattle.adf_check.specs.declared.store.NodeStart.{NodeStart}
+use Rattle.adf_walk.specs.declared.node_start.NodeStart.{NodeStart}
 use Rattle.adf_check.specs.StoreStands.{StoreStandsFor}
 use Rattle.adf_check.specs.Store.{StoreValue}
 use Rattle.adf_check.proofs.ChainLookups.{body_dir}

@@ -1,16 +1,13 @@
 -- Places in the flat lists of a walk, and the owners that are kept by them.
 -- Letters: f a test of roles; w a walk; b a block; i, j places; n, m nodes.
-use Rattle.std.proofs.Common.{◌≡◌, ℕ, zero, suc, List, [], ◌∷◌, ◌++◌, ◌+◌, ◌-◌, ◌<◌, ◌≤◌, inl, inr, length, take, drop, get_or, cond, Bool, true, false}
-use Rattle.std.proofs.Common.{leb, leb-true, refl, sym, ap, subst, ◌∙◌, arith}
-use Rattle.std.specs.List.Sorted.{IsPartitionPoint}
-use Rattle.std.proofs.lemmas.Bool.{le-leb}
+use Rattle.std.proofs.Common.{◌≡◌, ℕ, zero, suc, List, [], ◌∷◌, ◌++◌, ◌+◌, ◌<◌, ◌≤◌, inl, inr, length, take, drop, get_or, cond, Bool, true, false}
+use Rattle.std.proofs.Common.{sym, ap, subst, ◌∙◌, arith}
 use Rattle.std.proofs.lemmas.List.{get_or-take, get_or-drop, length-take, length-drop}
 use Rattle.std.proofs.lemmas.List.Sorted.{IsNonDecreasingBy-from_default}
 use Rattle.std.proofs.lemmas.Grind.{common_steps}
 use native.Mathlib.Decide.{dec_lt}
 use Rattle.adf_tree.specs.Tree.{Tree}
 use Rattle.adf_volume.specs.declared.owner.Owner.{Owner}
-use Rattle.adf_volume.specs.declared.owner.Owner.TheVariants as owner
 use Rattle.adf_volume.specs.Layout.{Layout, exts_of, datas_of, owned}
 use Rattle.adf_volume.specs.LayoutRoles.{LayoutHas, owner_of}
 use Rattle.adf_volume.specs.Lists.{At, In, NoBlockTwice}
@@ -20,23 +17,11 @@ use Rattle.adf_volume.specs.Walk.Role.{Ext, Data}
 use Rattle.adf_volume.proofs.LayoutRoles.{owned_part}
 use Rattle.adf_volume.proofs.Lists.{at_below, at_index_or, at_snoc}
 use Rattle.adf_volume.proofs.Places.{datas_below, exts_below}
-use Rattle.adf_check.specs.declared.store.NodeStart.{NodeStart}
-use Rattle.adf_check.specs.OwnerClass.{class_kept, class_of}
-use Rattle.adf_check.specs.Places.{AreStarts, IsLastStart, IsNumbered, first_data, first_ext, kept_as, start_of}
+use Rattle.adf_walk.specs.declared.node_start.NodeStart.{NodeStart}
+use Rattle.adf_walk.specs.Places.{AreStarts, IsNumbered, first_data, first_ext, start_of}
 use Rattle.adf_check.specs.Store.{StoreValue}
 use Rattle.adf_check.specs.StoreStands.{StoreStandsFor}
 use Rattle.adf_check.proofs.NodeSteps.{at_or}
-
--- an owner is kept with its class
-pub class_same : (starts : List NodeStart) (o : Owner) → class_kept (kept_as starts o) ≡ class_of o
-class_same starts owner.Free = refl
-class_same starts owner.Boot = refl
-class_same starts owner.Root = refl
-class_same starts (owner.Page k) = refl
-class_same starts (owner.MapExt k) = refl
-class_same starts (owner.Head n) = refl
-class_same starts (owner.Ext n k) = refl
-class_same starts (owner.Data n k) = refl
 
 -- a member of a part of a list, in the whole list
 pub at_whole : (xs ys : List ℕ) (s k b : ℕ) → take (length ys) (drop s xs) ≡ ys → At ys k b → At xs (s + k) b
@@ -141,9 +126,3 @@ module _ {image : List ℕ} {store : StoreValue} {t : Tree} {l : Layout} (st : S
   -- a part is numbered within its file
   pub part_numbered : (o : Owner) (b : ℕ) → In (owned image l) (o, b) → IsNumbered store.starts o
   part_numbered o b h = let q = owned_part image t l st.fits.places o b h in subst (IsNumbered store.starts) (sym q.2) (role_numbered q.0 b q.1)
-
--- the last of those that begin at a place or before it, by their number
-pub last_found : (first : NodeStart → ℕ) (starts : List NodeStart) (place r : ℕ) → AreStarts first starts → r ≤ length starts
-    → IsPartitionPoint (λ x. leb (first x) place ≡ true) (λ x. leb (first x) place ≡ false) starts r
-    → (1 ≤ r) × IsLastStart first starts place (r - 1)
-last_found first starts place r are bound point = grind (arith, common_steps, leb-true, leb, le-leb)

@@ -2,7 +2,6 @@
 pub mod FileBlocks
 pub mod HeaderBodies
 pub mod StoreSteps
-pub mod OwnerTables
 -- the steps from state to state
 pub mod ClaimSteps
 pub mod RootRead

@@ -12,7 +12,7 @@ use Rattle.adf_volume.specs.Positions.{Position}
 use Rattle.adf_check.specs.Reading.{HasRead, IsInChain}
 use Rattle.adf_check.specs.Store.{StoreValue, StoreMatches}
 use Rattle.adf_volume.specs.Start.{IsBegun}
-use Rattle.adf_check.specs.KeptOwner.{claimed_count}
+use Rattle.adf_walk.specs.KeptOwner.{claimed_count}
 use Rattle.adf_volume.proofs.WalkMembers.{picked_within}
 use Rattle.adf_check.proofs.WalkLengths.{heads_within}
 

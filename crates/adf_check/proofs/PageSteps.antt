@@ -24,8 +24,8 @@ use Rattle.adf_volume.specs.Fault.{IsTrueFault, fault}
 use Rattle.adf_volume.specs.Start.{IsBegun}
 use Rattle.adf_check.specs.Pages.{AreListed}
 use Rattle.adf_check.specs.Reading.{HasRead, IsAtNode, IsAtPage, IsBeforePage, block_of_page, block_of_map_ext}
-use Rattle.adf_check.specs.declared.kept_owner.KeptOwner.TheVariants.{Free}
-use Rattle.adf_check.specs.KeptOwner.{kept_at}
+use Rattle.adf_walk.specs.declared.kept_owner.KeptOwner.TheVariants.{Free}
+use Rattle.adf_walk.specs.KeptOwner.{kept_at}
 use Rattle.adf_check.specs.Store.{StoreValue}
 use Rattle.adf_check.proofs.ClaimSteps.{IsNextAt, IsStored, form_fault, read_one, read_to}
 

@@ -8,8 +8,8 @@ use Rattle.adf_volume.specs.Walk.Role.{Root as TheRoot}
 use Rattle.adf_volume.specs.Walk.IsWalk.{start}
 use Rattle.adf_volume.specs.Start.{IsBegun}
 use Rattle.adf_volume.proofs.PositionSteps.{with_root}
-use Rattle.adf_check.specs.declared.kept_owner.KeptOwner.{KeptOwner, TheVariants.Free, TheVariants.Boot, TheVariants.Root}
-use Rattle.adf_check.specs.KeptOwner.{claimed_count, kept_at}
+use Rattle.adf_walk.specs.declared.kept_owner.KeptOwner.{KeptOwner, TheVariants.Free, TheVariants.Boot, TheVariants.Root}
+use Rattle.adf_walk.specs.KeptOwner.{claimed_count, kept_at}
 use Rattle.adf_check.specs.Reading.{IsBeforePage}
 use Rattle.adf_check.specs.Store.{StoreValue, StoreMatches}
 use Rattle.adf_check.proofs.StoreSteps.{tells_more}

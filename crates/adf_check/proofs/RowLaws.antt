@@ -21,7 +21,7 @@ use Rattle.adf_volume.proofs.Roles.{head_role}
 use Rattle.adf_volume.proofs.FormDemands.{demanded}
 use Rattle.adf_volume.proofs.Lists.{all_append, at_below, at_some}
 use Rattle.adf_volume.proofs.Chains.{entry_is_at}
-use Rattle.adf_check.specs.declared.store.KeptHeader.{KeptHeader as Kept}
+use Rattle.adf_walk.specs.declared.kept_header.KeptHeader.{KeptHeader as Kept}
 use Rattle.adf_check.specs.StoreStands.{StoreStandsFor}
 use Rattle.adf_check.specs.Reading.{StoreFits}
 use Rattle.adf_check.specs.Store.{StoreValue}

@@ -14,11 +14,11 @@ use Rattle.adf_volume.proofs.WalkCompleteness.{part_walked}
 use Rattle.adf_volume.proofs.WalkMembers.{entries_length, has_ext, ext_has, has_data, data_has}
 use Rattle.adf_volume.proofs.WholeWalks.{head_is, entry_is}
 use Rattle.adf_volume.proofs.WalkOwners.{owned_has, is_owned}
-use Rattle.adf_check.specs.declared.store.KeptHeader.{KeptHeader}
-use Rattle.adf_check.specs.declared.kept_owner.KeptOwner.{KeptOwner}
-use Rattle.adf_check.specs.declared.kept_owner.KeptOwner.TheVariants as kept
-use Rattle.adf_check.specs.KeptOwner.{kept_at}
-use Rattle.adf_check.specs.Places.{kept_as, start_of}
+use Rattle.adf_walk.specs.declared.kept_header.KeptHeader.{KeptHeader}
+use Rattle.adf_walk.specs.declared.kept_owner.KeptOwner.{KeptOwner}
+use Rattle.adf_walk.specs.declared.kept_owner.KeptOwner.TheVariants as kept
+use Rattle.adf_walk.specs.KeptOwner.{kept_at}
+use Rattle.adf_walk.specs.Places.{kept_as, start_of}
 use Rattle.adf_check.specs.Store.{StoreValue, blocks_before, data_file, ext_file, file_blocks}
 use Rattle.adf_check.specs.Reading.{StoreFits}
 use Rattle.adf_check.specs.StoreStands.{OwnersFit, HeadersFit, StartsFit, StartsRise, StoreStandsFor}

@@ -12,10 +12,10 @@ use Rattle.adf_volume.specs.Lists.{At}
 use Rattle.adf_volume.specs.Walk.{Role, first, second, Has, head_count, heads, IsAbsent, Walk}
 use Rattle.adf_volume.specs.Walk.Role.{Head, Ext, Data}
 use Rattle.adf_volume.proofs.Lists.{at_new, at_old, at_below, snoc_length}
-use Rattle.adf_check.specs.declared.store.KeptHeader.{KeptHeader}
-use Rattle.adf_check.specs.declared.kept_owner.KeptOwner.{KeptOwner}
-use Rattle.adf_check.specs.declared.kept_owner.KeptOwner.TheVariants as kept
-use Rattle.adf_check.specs.KeptOwner.{kept_at}
+use Rattle.adf_walk.specs.declared.kept_header.KeptHeader.{KeptHeader}
+use Rattle.adf_walk.specs.declared.kept_owner.KeptOwner.{KeptOwner}
+use Rattle.adf_walk.specs.declared.kept_owner.KeptOwner.TheVariants as kept
+use Rattle.adf_walk.specs.KeptOwner.{kept_at}
 use Rattle.adf_check.specs.Store.{StoreValue, IsKept, Owns, KeepsHeaders, StoreMatches, file_blocks, next_kept}
 use Rattle.adf_check.specs.Store.{push_header, push_block, ext_file, data_file, is_dir_at, blocks_before, stored}
 use Rattle.adf_volume.specs.Made.{picked}

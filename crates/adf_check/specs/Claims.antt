@@ -1,11 +1,11 @@
 -- Claims of blocks that a word points to.
 use Rattle.std.specs.Prelude.{◌≡◌, ◌≢◌, ◌⊎◌, ◌≤◌, ◌<◌, ℕ, List, length}
 use Rattle.adf_blocks.specs.declared.cause.Cause.TheVariants.{OutOfRange, Taken}
-use Rattle.adf_check.specs.KeptOwner.{kept_at}
+use Rattle.adf_walk.specs.KeptOwner.{kept_at}
 use Rattle.adf_volume.specs.Fault.{fault}
 use Rattle.adf_volume.specs.declared.fault.Fault.{Fault}
-use Rattle.adf_check.specs.declared.kept_owner.KeptOwner.{KeptOwner}
-use Rattle.adf_check.specs.declared.kept_owner.KeptOwner.TheVariants.{Free}
+use Rattle.adf_walk.specs.declared.kept_owner.KeptOwner.{KeptOwner}
+use Rattle.adf_walk.specs.declared.kept_owner.KeptOwner.TheVariants.{Free}
 
 -- block b may belong to a part of a volume of n blocks
 abbrev pub InRange : ℕ → ℕ → Type 0

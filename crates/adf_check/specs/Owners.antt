@@ -1,5 +1,5 @@
 -- The owners of blocks.
-use Rattle.std.specs.Prelude.{◌≡◌, ℕ, Bool, true, false, List, [], ◌∷◌, length, take, count_by, slice_index_or}
+use Rattle.std.specs.Prelude.{ℕ, Bool, true, false, List, count_by, slice_index_or}
 use Rattle.adf_volume.specs.declared.owner.Owner.{Owner}
 use Rattle.adf_volume.specs.declared.owner.Owner.TheVariants.{Free, Boot}
 
@@ -16,9 +16,3 @@ is_part _ = true
 -- the number of blocks that parts of the volume own
 abbrev pub owned_count : List Owner → ℕ
 owned_count owners = count_by is_part owners
-
--- a table of n blocks; parts own m of them, and never the two boot blocks
-pub record IsTable {T : Type 0} (is_part : T → Bool) (at_boot : T) (owners : List T) (n m : ℕ) : Type 0 where
-  pub boot : take 2 owners ≡ at_boot ∷ at_boot ∷ []
-  pub blocks : n ≡ length owners
-  pub used : m ≡ count_by is_part owners

@@ -10,11 +10,11 @@ use Rattle.adf_volume.specs.Lists.{At}
 use Rattle.adf_volume.specs.Walk.{Role, Has, heads, Walk}
 use Rattle.adf_volume.specs.Walk.Role.{Root, Page, MapExt, Head, Ext, Data}
 use Rattle.adf_volume.specs.Made.{picked}
-use Rattle.adf_check.specs.KeptOwner.{claimed_count, kept_at}
-use Rattle.adf_check.specs.declared.kept_owner.KeptOwner.{KeptOwner}
-use Rattle.adf_check.specs.declared.kept_owner.KeptOwner.TheVariants as kept
-use Rattle.adf_check.specs.declared.store.KeptHeader.{KeptHeader}
-use Rattle.adf_check.specs.declared.store.NodeStart.{NodeStart}
+use Rattle.adf_walk.specs.KeptOwner.{claimed_count, kept_at}
+use Rattle.adf_walk.specs.declared.kept_owner.KeptOwner.{KeptOwner}
+use Rattle.adf_walk.specs.declared.kept_owner.KeptOwner.TheVariants as kept
+use Rattle.adf_walk.specs.declared.kept_header.KeptHeader.{KeptHeader}
+use Rattle.adf_walk.specs.declared.node_start.NodeStart.{NodeStart}
 use Rattle.adf_check.specs.declared.store.Store.{Store}
 
 -- the value of a store: headers of nodes 1, 2, ..; how many are of directories; starts of nodes 0, 1, ..; the number of blocks with an owner

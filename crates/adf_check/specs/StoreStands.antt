@@ -8,12 +8,12 @@ use Rattle.adf_volume.specs.declared.owner.Owner.{Owner}
 use Rattle.adf_volume.specs.Lists.{At, In}
 use Rattle.adf_volume.specs.Layout.{Layout, EntryAt, at_node, exts_of, datas_of, owned}
 use Rattle.adf_volume.specs.Fits.{Fits}
-use Rattle.adf_check.specs.declared.store.KeptHeader.{KeptHeader}
-use Rattle.adf_check.specs.declared.store.NodeStart.{NodeStart}
-use Rattle.adf_check.specs.declared.kept_owner.KeptOwner.{KeptOwner}
-use Rattle.adf_check.specs.declared.kept_owner.KeptOwner.TheVariants.{Free, Boot}
-use Rattle.adf_check.specs.KeptOwner.{kept_at}
-use Rattle.adf_check.specs.Places.{kept_as}
+use Rattle.adf_walk.specs.declared.kept_header.KeptHeader.{KeptHeader}
+use Rattle.adf_walk.specs.declared.node_start.NodeStart.{NodeStart}
+use Rattle.adf_walk.specs.declared.kept_owner.KeptOwner.{KeptOwner}
+use Rattle.adf_walk.specs.declared.kept_owner.KeptOwner.TheVariants.{Free, Boot}
+use Rattle.adf_walk.specs.KeptOwner.{kept_at}
+use Rattle.adf_walk.specs.Places.{kept_as}
 use Rattle.adf_check.specs.Store.{StoreValue}
 
 -- the table has the one owner of each block, kept by the starts of the nodes

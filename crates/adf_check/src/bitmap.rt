@@ -4,15 +4,15 @@ ghost use Rattle.adf_volume.specs.Fault.{IsTrueFault};
 ghost use Rattle.std.specs.Prelude.{◌≡◌, ◌<◌, ◌≤◌, ◌+◌, ◌-◌, ◌*◌, ◌↔◌, ℕ, IsBitSet, IsTrue, length, min, OnOk, IfErr};
 ghost use Rattle.adf_blocks.specs.Sizes.{blocks, pages_needed};
 ghost use Rattle.adf_check.specs.Reading.{IsMapped, IsRead, StoreFits};
-ghost use Rattle.adf_check.specs.declared.kept_owner.KeptOwner.TheVariants.{Free};
-ghost use Rattle.adf_check.specs.KeptOwner.{kept_at};
+ghost use Rattle.adf_walk.specs.declared.kept_owner.KeptOwner.TheVariants.{Free};
+ghost use Rattle.adf_walk.specs.KeptOwner.{kept_at};
 ghost use Rattle.adf_check.specs.Store.{store_value};
 ghost use Rattle.adf_check.specs.Pages.{AreListed, IsBitFault};
 
-use crate::owner_table::OwnerTable;
 use crate::store::Store;
 use adf_blocks::{Cause, PAGE_WORDS, Page, is_set};
 use adf_volume::{Fault, Image, fault_at};
+use adf_walk::OwnerTable;
 
 // Compares the bit of block `b` with its owner.
 fn check_block(owners: &OwnerTable, b: u32, is_free: bool) -> Result<(), Fault>

@@ -11,11 +11,11 @@ ghost use Rattle.adf_check.specs.Progress.{IsFurther, left};
 ghost use Rattle.adf_check.specs.Store.{store_value};
 
 use crate::claims::claim_named;
-use crate::kept_owner::KeptOwner;
-use crate::store::{KeptHeader, Store};
+use crate::store::Store;
 use adf_blocks::{Cause, Directory, Head, HeadBody, SLOTS, read_head};
 use adf_tree::{NameSet, Node};
 use adf_volume::{Fault, Image, fault_at, no_memory};
+use adf_walk::{KeptHeader, KeptOwner};
 
 /// The chain of a slot of a directory; `up` is the directory's block.
 #[derive(Drop)]

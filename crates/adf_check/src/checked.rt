@@ -9,21 +9,20 @@ ghost use Rattle.adf_volume.specs.declared.owner.Owner.{Owner};
 ghost use Rattle.adf_volume.specs.Layout.{Layout, at_node, datas_of, owned};
 ghost use Rattle.adf_volume.specs.Lists.{In};
 ghost use Rattle.adf_check.specs.Store.{store_value};
-ghost use Rattle.adf_check.specs.OwnerClass.{class_of};
+ghost use Rattle.adf_walk.specs.OwnerClass.{class_of};
 ghost use Rattle.adf_check.specs.Pieces.{bytes_of, pieces_at};
 ghost use Rattle.adf_volume.specs.Rows.{row_of_entry};
 ghost use Rattle.adf_check.specs.Volumes.{IsChecked, StandsFor, counts_of};
 
 use crate::lookup::{block_of, find};
-use crate::owner_class::OwnerClass;
 use crate::pieces::{blocks_of, pieces_of};
-use crate::places::owner_of;
 use crate::rebuild::tree_of;
 use crate::store::Store;
 use adf_base::NoMemory;
 use adf_blocks::Head;
 use adf_tree::{Kind, Label, Name, Node, Stamps};
 use adf_volume::{Counts, Image, Owner, Pieces, Row, joined, row_of};
+use adf_walk::{OwnerClass, owner_of};
 use std::alloc::Global;
 use std::marker::Model;
 

@@ -2,12 +2,11 @@
 
 ghost use Rattle.adf_check.specs.Claims.{InRange, IsClaimFault};
 ghost use Rattle.std.specs.Prelude.{◌≡◌, ◌+◌, ◌<◌, ◌≤◌, ◌^◌, OnOk, IfErr, length, set, true};
-ghost use Rattle.adf_check.specs.KeptOwner.{claimed_count, is_claimed, kept_at, place_of};
+ghost use Rattle.adf_walk.specs.KeptOwner.{claimed_count, is_claimed, kept_at, place_of};
 
-use crate::kept_owner::KeptOwner;
-use crate::owner_table::OwnerTable;
 use adf_blocks::Cause;
 use adf_volume::{Fault, fault_at};
+use adf_walk::{KeptOwner, OwnerTable};
 
 /// Makes `o` the owner of block `b`, which a word of block `holder` points to.
 pub fn claim_named(owners: &mut OwnerTable, holder: u32, b: u32, o: KeptOwner) -> Result<(), Fault>

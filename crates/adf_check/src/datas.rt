@@ -14,11 +14,11 @@ ghost use Rattle.adf_check.specs.Datas.{data_asked, next_of};
 ghost use Rattle.adf_volume.specs.Start.{IsBegun};
 
 use crate::claims::claim_named;
-use crate::kept_owner::KeptOwner;
 use crate::store::Store;
 use adf_blocks::{Cause, POINTERS, Table, chunk_len, read_data};
 use adf_tree::{Kind, Node};
 use adf_volume::{Fault, Image, count_of, fault_at, held_in, no_memory};
+use adf_walk::KeptOwner;
 
 /// A file whose data blocks are read: its node, its header's block, its size in bytes and its number of data blocks.
 #[derive(Drop)]

@@ -9,11 +9,11 @@ ghost use Rattle.adf_check.specs.Store.{store_value};
 ghost use Rattle.adf_volume.specs.Start.{IsBegun};
 
 use crate::claims::claim_named;
-use crate::kept_owner::KeptOwner;
 use crate::store::Store;
 use adf_blocks::read_ext;
 use adf_tree::Node;
 use adf_volume::{Fault, Image, fault_at, no_memory};
+use adf_walk::KeptOwner;
 
 // Claims and reads the extension block `b`, which `holder` points to, of the file `node` with its header at `head`.
 // Appends it to the table, which has the header and the earlier extension blocks; returns the next one, or 0.

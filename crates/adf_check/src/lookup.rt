@@ -9,17 +9,16 @@ ghost use Rattle.adf_volume.specs.Layout.{Layout, at_node, chain_nodes};
 ghost use Rattle.adf_volume.specs.Lists.{Spelled};
 ghost use Rattle.adf_check.specs.StoreStands.{StoreStandsFor};
 ghost use Rattle.adf_check.specs.Reading.{StoreFits};
-ghost use Rattle.adf_check.specs.KeptOwner.{kept_at};
+ghost use Rattle.adf_walk.specs.KeptOwner.{kept_at};
 ghost use Rattle.adf_check.specs.Store.{store_value};
 ghost use Rattle.adf_check.specs.Lookup.{headed};
 
-use crate::kept_owner::KeptOwner;
-use crate::owner_table::OwnerTable;
 use crate::store::Store;
 use adf_base::slot;
 use adf_blocks::{Head, HeadBody};
 use adf_tree::{Name, Node};
 use adf_volume::Image;
+use adf_walk::{KeptOwner, OwnerTable};
 
 /// The block of a node.
 pub fn block_of(image: &Image<'_>, store: &Store, node: Node) -> u32

@@ -13,10 +13,11 @@ ghost use Rattle.adf_volume.specs.Start.{IsBegun};
 use crate::chains::read_directory;
 use crate::datas::read_datas;
 use crate::exts::read_exts;
-use crate::store::{NodeStart, Store};
+use crate::store::Store;
 use adf_blocks::{Cause, HeadBody};
 use adf_tree::{NameSet, Node};
 use adf_volume::{Fault, Image, no_memory};
+use adf_walk::NodeStart;
 use std::alloc::Global;
 
 // Starts the next node: its blocks follow those already read.

@@ -19,7 +19,8 @@ pub struct Owners {
 
 impl Model for Owners {
     ghost use Rattle.std.specs.Prelude.{List};
-    ghost use Rattle.adf_check.specs.Owners.{IsTable, is_part};
+    ghost use Rattle.adf_check.specs.Owners.{is_part};
+    ghost use Rattle.adf_walk.specs.OwnerTable.{IsTable};
     ghost use Rattle.adf_volume.specs.declared.owner.Owner.{Owner};
     ghost use Rattle.adf_volume.specs.declared.owner.Owner.TheVariants.{Boot};
 

@@ -13,10 +13,10 @@ ghost use Rattle.adf_volume.specs.Start.{IsBegun};
 ghost use Rattle.adf_check.specs.Pages.{AreListed};
 
 use crate::claims::claim_named;
-use crate::kept_owner::KeptOwner;
 use crate::store::Store;
 use adf_blocks::{MAP_EXT_PAGES, ROOT_PAGES, Root, page_count, read_map_ext, read_page};
 use adf_volume::{Fault, Image, fault_at, no_memory};
+use adf_walk::KeptOwner;
 use std::alloc::Global;
 
 // Whether page `i` is the first one of a bitmap extension block.

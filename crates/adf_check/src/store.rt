@@ -9,25 +9,10 @@ ghost use Rattle.adf_check.specs.Reading.{IsBeforePage, StoreFits};
 ghost use Rattle.adf_check.specs.Store.{StoreValue, store_value};
 ghost use Rattle.adf_check.specs.StoreStands.{StoreStandsFor};
 
-use crate::kept_owner::KeptOwner;
-use crate::owner_table::OwnerTable;
 use adf_base::NoMemory;
 use adf_volume::Image;
+use adf_walk::{KeptHeader, KeptOwner, NodeStart, OwnerTable};
 use std::alloc::Global;
-
-/// The record kept of a header: the number of its entry's parent, and its block.
-#[derive(Clone, Copy, Debug, PartialEq, Eq)]
-pub struct KeptHeader {
-    pub parent: u32,
-    pub head: u32,
-}
-
-/// The positions of a node's first blocks in the lists of all extension blocks and of all data blocks.
-#[derive(Clone, Copy, Debug, PartialEq, Eq)]
-pub struct NodeStart {
-    pub exts: u32,
-    pub datas: u32,
-}
 
 /// The state of a check: the owner of each block, the header of each entry, how many of them are of directories, and for
 /// each node, including the root, the positions of its first blocks in the lists of all extension blocks and of all data

@@ -1,6 +1,6 @@
 -- The start of a course.
 use Rattle.std.specs.Prelude.{Bool, true, false, cond, Some, None, map, slice_index, slice_index_or, replicate, ◌==◌}
-use Rattle.std.proofs.Common.{◌≡◌, ℕ, zero, suc, List, [], ◌∷◌, ◌++◌, length, set, ◌+◌, ◌<◌, ◌≤◌, refl, sym, subst, ap, ◌∙◌, arith}
+use Rattle.std.proofs.Common.{◌≡◌, ℕ, zero, suc, List, [], ◌∷◌, ◌++◌, length, set, ◌+◌, ◌<◌, ◌≤◌, refl, sym, subst, ap, ◌∙◌, arith, inl}
 use Rattle.std.specs.Ordering.{is_eq}
 use Rattle.std.specs.Global.{Vec}
 use Rattle.std.specs.Map.{lookup}
@@ -21,13 +21,10 @@ use Rattle.adf_findings.specs.Survey.{FindingValue, IsCourse, begun}
 use Rattle.adf_findings.specs.Parts.{by_key, key_of, finding_value}
 use Rattle.adf_findings.specs.Courses.{HasReachedPage}
 use Rattle.adf_findings.specs.Found.{AreHeld, AreNamed, AreNumbered, AreSame, IsOwned, Stands, owns, unowned}
-use Rattle.adf_findings.proofs.Taking.{held_more, marked_more, numbered_more, stands_but, unowned_less}
+use Rattle.adf_findings.proofs.Taking.{held_more, marked_more, none_default, numbered_more, stands_but, unowned_less}
 
 empty_get : {K X : Type 0} (m : BTreeMap K X) (test : K → Bool) → IsEmpty m → lookup test m.entries ≡ None
 empty_get m test e = ap (lookup test) e
-
-pub none_default : {A : Type 0} (n : ℕ) (x : A) (b : ℕ) → slice_index_or (replicate n x) b x ≡ x
-none_default n x b = grind (arith, common_steps)
 
 pub all_free : (n : ℕ) → unowned (replicate n false) ≡ n
 all_free zero = refl
@@ -39,7 +36,7 @@ one_node b (suc n) = grind (arith, common_steps, eqb_tells)
 
 -- nothing is found but the root
 pub stands_begun : (image : List ℕ) (f g h : Found) → IsEmpty f.taken → f.owned.items ≡ replicate (blocks image) false
-    → f.owners.items ≡ replicate (blocks image) 0 → f.numbers.items ≡ replicate (blocks image) 0 → f.avoided.items ≡ replicate (blocks image) false
+    → f.owners.items ≡ replicate (blocks image) 0 → f.numbers.items ≡ replicate (blocks image) 0 → f.avoided.items ≡ []
     → f.left ≡ blocks image → f.nodes.items ≡ [] → f.findings.items ≡ [] → f.parents.items ≡ 0 ∷ [] → f.places.items ≡ []
     → IsOwned RootPart (root_of image) f g → AreSame f g → h ≡ record g { nodes = h.nodes }
     → h.nodes.items ≡ g.nodes.items ++ root_of image ∷ [] → root_of image < blocks image → Stands image h (begun image [])
@@ -50,7 +47,7 @@ stands_begun image f g h taken owned owners numbers avoided left nodes findings 
     let marks : g.owned.items ≡ set (replicate n false) root true = o.owned ∙ ap (λ xs. set xs root true) owned in
     let held : g.owners.items ≡ set (replicate n 0) root 0 = o.owners ∙ ap (λ xs. set xs root 0) owners in
     let numbered : g.numbers.items ≡ set (replicate n 0) root 0 = o.numbers ∙ ap (λ xs. set xs root 0) numbers in
-    let free : g.avoided.items ≡ replicate n false = ap (λ v. v.items) o.avoided ∙ avoided in
+    let free : g.avoided.items ≡ [] = ap (λ v. v.items) o.avoided ∙ avoided in
     let one : g.left + 1 ≡ n = o.left ∙ left in
     let long : length {A = Bool} (replicate n false) ≡ n = length-replicate n false in
     let less = unowned_less (replicate n false) root (omega arith) (none_default n false root) in
@@ -64,8 +61,7 @@ stands_begun image f g h taken owned owners numbers avoided left nodes findings 
           (held_more n (replicate n 0) [] Root root lt (length-replicate n 0, (λ b. none_default n 0 b)));
       numbers = subst (λ xs. AreNumbered n xs ((Root, root) ∷ [])) (sym numbered)
           (numbered_more n (replicate n 0) [] Root root lt (length-replicate n 0, (λ b. none_default n 0 b)));
-      avoided = subst (λ xs. (length xs ≡ n) × ((b : ℕ) → b < n → slice_index_or xs b false ≡ false)) (sym free)
-          (length-replicate n false, (λ b l. none_default n false b));
+      avoided = record { size = inl free; marked = (λ b l. ap (λ xs. slice_index_or xs b false) free) };
       left = (let z : g.left ≡ unowned (set (replicate n false) root true) = omega arith in z ∙ ap unowned (sym marks));
       node = (λ m. ap (λ xs. slice_index xs m) items ∙ one_node root m);
       count = ap length items;

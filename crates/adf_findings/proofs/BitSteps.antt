@@ -88,7 +88,7 @@ module _ (image : List ℕ) (f : Found) (s : Course) (v : IsCourse image s) (fs 
   -- so it does by what is kept of the block
   pub bit_tells : (t : Bool) → b < blocks image → IsBitCompared image f.taken b t
       → BitTells image s b (bit_cause (slice_index_or f.owned.items b false) (slice_index_or f.avoided.items b false || is_cache image b) t)
-  bit_tells t lt x = page_tells _ _ _ t x.0 (st.owned.1 b lt) (st.avoided.1 b lt) refl x.1 x.2
+  bit_tells t lt x = page_tells _ _ _ t x.0 (st.owned.1 b lt) (st.avoided.marked b lt) refl x.1 x.2
 
   quiet : (o x t : Bool) → t ≡ not o → bit_cause o x t ≡ None
   quiet true x true e = cc

@@ -29,7 +29,7 @@ use Rattle.adf_findings.specs.Survey.{Course, FindingValue, IsCourse, IsSurvey}
 use Rattle.adf_findings.specs.Survey.IsCourse.{start, step}
 use Rattle.adf_findings.specs.Survey.IsSurvey.{read, unread}
 use Rattle.adf_findings.specs.Survey.JudgementValue.{clean, reported, skipped}
-use Rattle.adf_findings.proofs.Begun.{all_free, none_default}
+use Rattle.adf_findings.proofs.Begun.{all_free}
 use Rattle.adf_findings.proofs.DataFound.{has_data}
 use Rattle.adf_findings.proofs.JudgementTests.{itself_holds}
 use Rattle.adf_findings.proofs.Keys.{lacks_at}
@@ -37,7 +37,7 @@ use Rattle.adf_findings.proofs.Known.{no_owner}
 use Rattle.adf_findings.proofs.OneSurvey.{gathered}
 use Rattle.adf_findings.proofs.SoundFiles.{file_told, joined_content, whole_listed}
 use Rattle.adf_findings.proofs.Starts.{course_size}
-use Rattle.adf_findings.proofs.Taking.{marked_more, unowned_less}
+use Rattle.adf_findings.proofs.Taking.{marked_more, none_default, unowned_less}
 use Rattle.adf_volume.proofs.WalkMembers.{picked_within}
 
 -- the blocks of a walk, marked: so many are marked as the walk has members

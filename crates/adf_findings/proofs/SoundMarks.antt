@@ -404,7 +404,7 @@ module _ (image : List ℕ) (f : Found) {s : Course} (v : IsCourse image s) (don
         let has : Has s.walk (Data m (suc k)) b = subst (λ n. Has s.walk (Data n (suc k)) b) same held in
         elim doubt [
           | inl over ↦
-              absurd (not_alone image v done m (suc k) b has (sym (st.avoided.1 b (data_inside image v m (suc k) b has)) ∙ over)
+              absurd (not_alone image v done m (suc k) b has (sym (st.avoided.marked b (data_inside image v m (suc k) b has)) ∙ over)
               (sound.alone ffs (suc k) b has))
           | inr said ↦
               let head : slice_index f.nodes.items (slice_index f.owners.items b) ≡ h =
@@ -467,7 +467,7 @@ module _ (image : List ℕ) (f : Found) {s : Course} (v : IsCourse image s) (don
       → (q : Role) (a i : ℕ) → Asks image s.walk q a i → word_in image a i ≡ c → Same q (Data m k)
   alone_clear m e ffs k c has =
       let free : owns s.skipped c ≡ false = elim (cases_Bool (owns s.skipped c)) [
-        | inl t ↦ absurd (data_clear m e ffs k c has (inl (st.avoided.1 c (data_inside image v m k c has) ∙ t)))
+        | inl t ↦ absurd (data_clear m e ffs k c has (inl (st.avoided.marked c (data_inside image v m k c has) ∙ t)))
         | inr t ↦ t
       ] in
       is_alone image v done m k c has free

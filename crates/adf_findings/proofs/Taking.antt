@@ -1,10 +1,10 @@
 -- The state of a survey when parts are taken and skipped.
 use Rattle.std.proofs.Common.{Bool, true, false, cond, ◌==◌, Some, map, slice_index, slice_index_or, ◌≡◌, ℕ, zero, suc, List, [], ◌∷◌, ◌++◌, length}
-use Rattle.std.proofs.Common.{set, ◌<◌, ◌≤◌, refl, ap, ◌∙◌, arith, length-set, get_or-set_same, get_or-set_other}
+use Rattle.std.proofs.Common.{inl, inr, replicate, set, ◌<◌, ◌≤◌, refl, ap, ◌∙◌, arith, length-set, get_or-set_same, get_or-set_other}
 use Rattle.std.specs.Ordering.{is_eq}
 use Rattle.std.specs.BTreeMap.{BTreeMap, Updates, get}
 use Rattle.std.proofs.lemmas.Bool.Decides.{eqb_tells, nat_tests}
-use Rattle.std.proofs.lemmas.List.{map-append, get_or_push, get_or_append_left, get_or_past, length_push}
+use Rattle.std.proofs.lemmas.List.{length-replicate, map-append, get_or_push, get_or_append_left, get_or_past, length_push}
 use Rattle.std.proofs.lemmas.Grind.{common_steps}
 use Rattle.adf_tree.proofs.NameKeys.{same_number, then_is}
 use Rattle.adf_blocks.specs.Sizes.{blocks}
@@ -19,9 +19,9 @@ use Rattle.adf_findings.specs.declared.found.ChainPlace.{ChainPlace}
 use Rattle.adf_findings.specs.declared.found.Found.{Found}
 use Rattle.adf_findings.specs.Survey.{Course, FindingValue}
 use Rattle.adf_findings.specs.Parts.{by_key, key_of, role_of, finding_value}
-use Rattle.adf_findings.specs.Found.{AreHeld, AreMarked, AreNumbered, AreSame, IsKept, IsLookedUp, IsReported, IsOwned, IsBlockSkipped, IsPut}
+use Rattle.adf_findings.specs.Found.{AreAvoided, AreHeld, AreMarked, AreNumbered, AreSame, IsKept, IsLookedUp, IsReported, IsOwned, IsBlockSkipped, IsPut}
 use Rattle.adf_findings.specs.Found.{IsTaken, KeepsParts, Stands}
-use Rattle.adf_findings.specs.Found.{at_key, data_number, entry_number, owns, parent_by, parent_node, places_of, unowned, with_place}
+use Rattle.adf_findings.specs.Found.{at_key, data_number, entry_number, owns, parent_by, parent_node, places_of, unowned, with_mark, with_place}
 use Rattle.std.proofs.lemmas.Bool.{cases_lt}
 
 kept_more : (part : Part) (b : ℕ) (f g h : Found) → IsKept part b f g → AreSame g h → IsKept part b f h
@@ -56,6 +56,18 @@ taken_more m n w part b u h r x = at_more m n w (role_of part) b (key_of r) u (h
 pub marked_more : (n : ℕ) (xs : List Bool) (w : Walk) (r : Role) (b : ℕ) → AreMarked n xs w → AreMarked n (set xs b true) ((r, b) ∷ w)
 marked_more n xs w r b h = grind (arith, common_steps, length-set, eqb_tells, get_or-set_same, get_or-set_other)
 
+pub none_default : {A : Type 0} (n : ℕ) (x : A) (b : ℕ) → slice_index_or (replicate n x) b x ≡ x
+none_default n x b = grind (arith, common_steps)
+
+-- a block is skipped
+pub avoided_more : (n : ℕ) (xs : List Bool) (w : Walk) (r : Role) (b : ℕ) → AreAvoided n xs w → AreAvoided n (with_mark n b xs) ((r, b) ∷ w)
+avoided_more n [] w r b h =
+    let m = marked_more n (replicate n false) w r b (length-replicate n false, (λ c lt. none_default n false c ∙ h.marked c lt)) in
+    record { size = inr m.0; marked = m.1 }
+avoided_more n (x ∷ xs) w r b h =
+    let m = marked_more n (x ∷ xs) w r b (elim h.size [ inl e ↦ cc | inr e ↦ e ], h.marked) in
+    record { size = inr m.0; marked = m.1 }
+
 pub numbered_more : (n : ℕ) (xs : List ℕ) (w : Walk) (r : Role) (b : ℕ) → b < n → AreNumbered n xs w
     → AreNumbered n (set xs b (data_number r)) ((r, b) ∷ w)
 numbered_more n xs w r b lt h = grind (arith, common_steps, length-set, eqb_tells, get_or-set_same, get_or-set_other)
@@ -83,7 +95,7 @@ IsNumbered w _ = Unit {0}
 -- what is taken stays so, whatever is skipped and reported and whatever names are kept
 pub stands_but : (image : List ℕ) (f g : Found) (s : Course) (over : Walk) (fs : List FindingValue)
     → g ≡ record f { avoided = g.avoided; findings = g.findings; names = g.names } → Stands image f s
-    → AreMarked (blocks image) g.avoided.items over → map finding_value g.findings.items ≡ fs
+    → AreAvoided (blocks image) g.avoided.items over → map finding_value g.findings.items ≡ fs
     → Stands image g (record { walk = s.walk; skipped = over; findings = fs })
 stands_but image f g s over fs rest st avoided findings = grind (arith, common_steps)
 
@@ -117,14 +129,14 @@ module _ (image : List ℕ) (f g : Found) (s : Course) (b : ℕ) (st : Stands im
 
   -- what is taken stays so, whatever is skipped and reported
   stands_else : (over : Walk) (fs : List FindingValue) → g ≡ record f { avoided = g.avoided; findings = g.findings }
-      → AreMarked (blocks image) g.avoided.items over → map finding_value g.findings.items ≡ fs
+      → AreAvoided (blocks image) g.avoided.items over → map finding_value g.findings.items ≡ fs
       → Stands image g (record { walk = s.walk; skipped = over; findings = fs })
   stands_else over fs rest avoided findings = grind (arith, common_steps, stands_but)
 
   -- a part is skipped
   pub stands_skipped : (r : Role) → IsBlockSkipped b f g
       → Stands image g (record { walk = s.walk; skipped = (r, b) ∷ s.skipped; findings = s.findings })
-  stands_skipped r t = grind (arith, common_steps, stands_else, marked_more)
+  stands_skipped r t = grind (arith, common_steps, stands_else, avoided_more)
 
   -- a finding is reported
   pub stands_reported : (x : Finding) → IsReported x f g

@@ -1,7 +1,7 @@
 -- The state of a survey, as a course.
 -- Letters: w a walk, s a course; r a role; b, c blocks; k a key; n, p nodes; f a state.
 use Rattle.std.specs.Prelude.{◌≡◌, ◌≤◌, ◌<◌, ◌+◌, ◌-◌, ◌==◌, ◌&&◌, ◌||◌, ℕ, Bool, true, false, cond, not, List, []}
-use Rattle.std.specs.Prelude.{◌∷◌, ◌++◌, length, set, map, slice_index, slice_index_or, Option, Some, None, IsTrue, ◌↔◌}
+use Rattle.std.specs.Prelude.{◌∷◌, ◌++◌, ◌⊎◌, length, replicate, set, map, slice_index, slice_index_or, Option, Some, None, IsTrue, ◌↔◌}
 use Rattle.std.proofs.Common.{zero, suc}
 use Rattle.std.specs.Option.{unwrap_or}
 use Rattle.std.specs.Ordering.{is_eq}
@@ -107,6 +107,20 @@ unowned (false ∷ xs) = suc (unowned xs)
 abbrev pub AreMarked : ℕ → List Bool → Walk → Type 0
 AreMarked n marks w = (length marks ≡ n) × ((b : ℕ) → b < n → slice_index_or marks b false ≡ owns w b)
 
+-- the marks of n blocks, begun with none
+abbrev pub begun_marks : ℕ → List Bool → List Bool
+begun_marks n [] = replicate n false
+begun_marks n (x ∷ marks) = x ∷ marks
+
+-- the marks of n blocks, with that of block b
+abbrev pub with_mark : ℕ → ℕ → List Bool → List Bool
+with_mark n b marks = set (begun_marks n marks) b true
+
+-- the marks of n blocks are true for the blocks of members; while none is, there may be no marks
+pub record AreAvoided (n : ℕ) (marks : List Bool) (w : Walk) : Type 0 where
+  pub size : (marks ≡ []) ⊎ (length marks ≡ n)
+  pub marked : (b : ℕ) → b < n → slice_index_or marks b false ≡ owns w b
+
 -- the number of the entry that a role is a part of; 0 of the root and the bitmap
 abbrev pub entry_number : Role → ℕ
 entry_number r = unwrap_or (entry_in r) 0
@@ -202,7 +216,7 @@ pub record IsTaken (part : Part) (b : ℕ) (f g : Found) : Type 0 where
 
 -- the block is skipped
 pub record IsBlockSkipped (b : ℕ) (f g : Found) : Type 0 where
-  pub avoided : g.avoided.items ≡ set f.avoided.items b true
+  pub avoided : g.avoided.items ≡ with_mark (length f.owned.items) b f.avoided.items
   pub findings : g.findings ≡ f.findings
   pub rest : g ≡ record f { avoided = g.avoided; findings = g.findings }
 
@@ -218,7 +232,7 @@ pub record Stands (image : List ℕ) (f : Found) (s : Course) : Type 0 where
   pub owned : AreMarked (blocks image) f.owned.items s.walk
   pub owners : AreHeld (blocks image) f.owners.items s.walk
   pub numbers : AreNumbered (blocks image) f.numbers.items s.walk
-  pub avoided : AreMarked (blocks image) f.avoided.items s.skipped
+  pub avoided : AreAvoided (blocks image) f.avoided.items s.skipped
   pub left : f.left ≡ unowned f.owned.items
   pub node : (n : ℕ) → slice_index f.nodes.items n ≡ node_block s.walk n
   pub count : length f.nodes.items ≡ suc (heads s.walk)

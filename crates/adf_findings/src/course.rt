@@ -135,7 +135,7 @@ fn judge_next(
         }
         Judgement::Skipped(at, cause) => {
             found.report(of_part(part, at, cause))?;
-            found.skip(reference.block);
+            found.skip(reference.block)?;
             Ok(None)
         }
     }

@@ -11,7 +11,7 @@ ghost use Rattle.adf_volume.specs.Walk.{Walk};
 ghost use Rattle.adf_findings.specs.Parts.{by_key, finding_value, role_of};
 ghost use Rattle.adf_findings.specs.Found.{AreNamed, AreSame, Stands, IsChain, IsKept, IsReported, IsOwned, IsBlockSkipped};
 ghost use Rattle.adf_findings.specs.Found.{HasValidName, IsPut, IsTaken, KeepsName, KeepsParts, data_number};
-ghost use Rattle.adf_findings.specs.Found.{entry_number, known_at, member_in, new_in};
+ghost use Rattle.adf_findings.specs.Found.{begun_marks, entry_number, known_at, member_in, new_in};
 ghost use Rattle.adf_findings.specs.Survey.{begun};
 
 use crate::header_name::upper_name;
@@ -31,8 +31,9 @@ pub struct ChainPlace {
 
 /// The state of a survey: the blocks of the taken parts by key, except headers and data blocks; for each block whether
 /// it is taken, the node of the entry that it belongs to (0 if there is none), the number of the data block that it is
-/// (from 1; 0 if it is none), and whether it was skipped; the number of blocks not taken; the blocks of nodes; the valid
-/// names in the current chain; the findings; the parents of nodes; and the positions of headers, from node 1 on.
+/// (from 1; 0 if it is none), and, once any was skipped, whether it was; the number of blocks not taken; the blocks of
+/// nodes; the valid names in the current chain; the findings; the parents of nodes; and the positions of headers, from
+/// node 1 on.
 #[derive(Drop)]
 pub struct Found {
     pub taken: BTreeMap<Key, u32>,
@@ -58,6 +59,19 @@ fn put(map: &mut BTreeMap<Key, u32>, key: Key, block: u32) -> Result<(), NoMemor
     }
 }
 
+// Begins the marks of so many blocks, if there are none yet.
+fn begin_marks(marks: &mut Vec<bool>, count: usize) -> Result<(), NoMemory>
+    ensures { OnOk result (marks.new.items ≡ begun_marks count marks.old.items) }
+{
+    if !marks.is_empty() {
+        return Ok(());
+    }
+    match marks.resize(count, false) {
+        Ok(()) => Ok(()),
+        Err(_) => Err(NoMemory),
+    }
+}
+
 impl Found {
     /// The state with nothing but the root.
     #[tactic(auto, using(crate::proofs::Begun::stands_begun))]
@@ -74,9 +88,6 @@ impl Found {
         let Ok(owners) = vec![in alloc; 0u32; blocks as usize] else {
             return Err(NoMemory);
         };
-        let Ok(avoided) = vec![in alloc; false; blocks as usize] else {
-            return Err(NoMemory);
-        };
         let Ok(parents) = vec![in alloc; 0u32; 1] else {
             return Err(NoMemory);
         };
@@ -88,7 +99,7 @@ impl Found {
             owned,
             owners,
             numbers,
-            avoided,
+            avoided: Vec::new(alloc),
             left: blocks,
             nodes: Vec::new(alloc),
             names: NameSet::new(alloc),
@@ -266,12 +277,14 @@ impl Found {
     }
 
     /// Marks block `b` as skipped.
-    pub fn skip(&mut self, b: u32)
-        ensures { IsBlockSkipped b self.old self.new }
+    pub fn skip(&mut self, b: u32) -> Result<(), NoMemory>
+        ensures { OnOk result (IsBlockSkipped b self.old self.new) }
     {
+        begin_marks(&mut self.avoided, self.owned.len())?;
         if (b as usize) < self.avoided.len() {
             self.avoided[b as usize] = true;
         }
+        Ok(())
     }
 
     /// Reports a finding.

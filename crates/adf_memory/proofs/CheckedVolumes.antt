@@ -8,8 +8,8 @@ use Rattle.adf_volume.specs.Fits.{Fits}
 use Rattle.adf_volume.specs.Layout.{Layout, owned}
 use Rattle.adf_volume.specs.Lists.{In}
 use Rattle.adf_volume.proofs.FitWalks.{one_fit}
-use Rattle.adf_check.specs.OwnerClass.{class_of}
-use Rattle.adf_check.specs.declared.owner_class.OwnerClass.{OwnerClass, TheVariants.Free, TheVariants.Boot}
+use Rattle.adf_walk.specs.OwnerClass.{class_of}
+use Rattle.adf_walk.specs.declared.owner_class.OwnerClass.{OwnerClass, TheVariants.Free, TheVariants.Boot}
 use Rattle.adf_check.specs.Volumes.{StandsFor, Volume}
 use Rattle.adf_memory.specs.OwnerNumbers.{IsOwnerNumber, class_number}
 

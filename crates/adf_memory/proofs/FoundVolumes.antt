@@ -12,8 +12,8 @@ use Rattle.adf_blocks.specs.declared.layout.TheConstants.{SECONDARY_TYPE, SIZE, 
 use Rattle.adf_blocks.specs.Sizes.{blocks, chunk, count}
 use Rattle.adf_build.specs.Plan.{data_blocks, entries_blocks}
 use Rattle.adf_build.proofs.FreeBlocks.{size_small}
-use Rattle.adf_check.specs.OwnerClass.{class_of}
-use Rattle.adf_check.specs.declared.owner_class.OwnerClass.TheVariants as class
+use Rattle.adf_walk.specs.OwnerClass.{class_of}
+use Rattle.adf_walk.specs.declared.owner_class.OwnerClass.TheVariants as class
 use Rattle.adf_findings.specs.Remains.{data_found, size_stated}
 use Rattle.adf_findings.specs.Survey.{FindingValue, IsSurvey}
 use Rattle.adf_findings.proofs.DataFound.{has_data}

@@ -6,9 +6,9 @@ use Rattle.adf_volume.specs.declared.owner.Owner.TheVariants as owner
 use Rattle.adf_volume.specs.Fits.{Fits}
 use Rattle.adf_volume.specs.Layout.{Layout, owned}
 use Rattle.adf_volume.specs.Lists.{In}
-use Rattle.adf_check.specs.OwnerClass.{class_of}
-use Rattle.adf_check.specs.declared.owner_class.OwnerClass.{OwnerClass}
-use Rattle.adf_check.specs.declared.owner_class.OwnerClass.TheVariants.{Free, Boot, Root, Page, MapExt, Head, Ext, Data}
+use Rattle.adf_walk.specs.OwnerClass.{class_of}
+use Rattle.adf_walk.specs.declared.owner_class.OwnerClass.{OwnerClass}
+use Rattle.adf_walk.specs.declared.owner_class.OwnerClass.TheVariants.{Free, Boot, Root, Page, MapExt, Head, Ext, Data}
 
 -- the number of a class of owners
 abbrev pub class_number : OwnerClass → ℕ

@@ -4,7 +4,7 @@ use Rattle.adf_blocks.specs.Sizes.{blocks}
 use Rattle.adf_volume.specs.declared.owner.Owner.{Owner, TheVariants.Boot, TheVariants.Free}
 use Rattle.adf_volume.specs.Layout.{Layout, owned}
 use Rattle.adf_volume.specs.Lists.{In}
-use Rattle.adf_check.specs.Places.{kept_as}
+use Rattle.adf_walk.specs.Places.{kept_as}
 use Rattle.adf_check.specs.Store.{store_value}
 use Rattle.adf_check.specs.Volumes.{StandsFor, Volume}
 use Rattle.adf_check.proofs.KeptPlaces.{datas_are, exts_are, part_numbered}

@@ -3,10 +3,10 @@ use Rattle.adf_tree.specs.Tree.{Tree}
 use Rattle.adf_volume.specs.declared.owner.Owner.{Owner}
 use Rattle.adf_volume.specs.Layout.{Layout, owned}
 use Rattle.adf_volume.specs.Lists.{In}
-use Rattle.adf_check.specs.OwnerClass.{class_kept, class_of}
+use Rattle.adf_walk.specs.OwnerClass.{class_kept, class_of}
 use Rattle.adf_check.specs.Store.{store_value}
 use Rattle.adf_check.specs.Volumes.{StandsFor, Volume}
-use Rattle.adf_check.proofs.KeptPlaces.{class_same}
+use Rattle.adf_walk.proofs.KeptPlaces.{class_same}
 use Rattle.adf_check.proofs.checked.Checked.owner_class.Goals as goal
 
 pub returns-then-b-blocks-clause-part : goal.returns-then-b-blocks-clause-part

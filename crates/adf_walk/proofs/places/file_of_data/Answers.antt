@@ -1,10 +1,10 @@
 use Rattle.std.proofs.Common.{◌≤◌, ◌-◌, leb, rules}
 use Rattle.std.proofs.lemmas.List.Sorted.{IsPartitionPoint-from_clause, IsPartitionedBy-leb}
-use Rattle.adf_check.specs.declared.store.NodeStart.{NodeStart}
-use Rattle.adf_check.specs.Places.{IsLastStart, first_data}
-use Rattle.adf_check.proofs.KeptPlaces.{last_found}
-use Rattle.adf_check.proofs.places.file_of_data.Goals.{After-partition_point}
-use Rattle.adf_check.proofs.places.file_of_data.Goals as goal
+use Rattle.adf_walk.specs.declared.node_start.NodeStart.{NodeStart}
+use Rattle.adf_walk.specs.Places.{IsLastStart, first_data}
+use Rattle.adf_walk.proofs.KeptPlaces.{last_found}
+use Rattle.adf_walk.proofs.places.file_of_data.Goals.{After-partition_point}
+use Rattle.adf_walk.proofs.places.file_of_data.Goals as goal
 
 found : (c : After-partition_point)
     → (1 ≤ c.partition_point.result) × IsLastStart first_data c.args.starts.now c.args.place (c.partition_point.result - 1)

@@ -1,7 +1,7 @@
 use Rattle.std.proofs.Common.{◌≡◌, ◌≤◌, ◌<◌, ◌↔◌, ℕ, IsTrue}
-use Rattle.adf_check.specs.declared.kept_owner.KeptOwner.TheVariants.{Free}
-use Rattle.adf_check.specs.KeptOwner.{kept_at}
-use Rattle.adf_check.proofs.owner_table.OwnerTable.are_all.Given as goal
+use Rattle.adf_walk.specs.declared.kept_owner.KeptOwner.TheVariants.{Free}
+use Rattle.adf_walk.specs.KeptOwner.{kept_at}
+use Rattle.adf_walk.proofs.owner_table.OwnerTable.are_all.Given as goal
 
 abbrev pub invariant-loop-b : goal.invariant-loop-b
 invariant-loop-b l = record {

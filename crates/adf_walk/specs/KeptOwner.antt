@@ -1,8 +1,8 @@
 -- Owners as a check keeps them.
 use Rattle.std.specs.Prelude.{◌==◌, ◌/◌, ◌%◌, ℕ, Bool, true, false, List, count_by, cond, slice_index_or}
-use Rattle.adf_check.specs.declared.kept_owner.KeptOwner.{KeptOwner}
-use Rattle.adf_check.specs.declared.kept_owner.KeptOwner.TheVariants.{Free, Boot, Root, Page, MapExt, Head, Ext, Data}
-use Rattle.adf_check.specs.declared.kept_owner.PackedOwner.{PackedOwner}
+use Rattle.adf_walk.specs.declared.kept_owner.KeptOwner.{KeptOwner}
+use Rattle.adf_walk.specs.declared.kept_owner.KeptOwner.TheVariants.{Free, Boot, Root, Page, MapExt, Head, Ext, Data}
+use Rattle.adf_walk.specs.declared.kept_owner.PackedOwner.{PackedOwner}
 
 -- the place in the list of the owner's class
 abbrev pub place_of : KeptOwner → ℕ

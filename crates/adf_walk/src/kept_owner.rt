@@ -1,8 +1,8 @@
 // The owner of a block as a check keeps it.
 
 ghost use Rattle.std.specs.Prelude.{◌≡◌, ◌<◌, ◌^◌, ◌↔◌, IsTrue};
-ghost use Rattle.adf_check.specs.KeptOwner.{place_of, unpacked};
-ghost use Rattle.adf_check.specs.OwnerClass.{class_kept};
+ghost use Rattle.adf_walk.specs.KeptOwner.{place_of, unpacked};
+ghost use Rattle.adf_walk.specs.OwnerClass.{class_kept};
 
 use crate::owner_class::OwnerClass;
 

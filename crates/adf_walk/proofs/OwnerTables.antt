@@ -2,10 +2,10 @@
 use Rattle.std.proofs.Common.{◌≡◌, ℕ, suc, List, ◌∷◌, ◌+◌, ◌-◌, ◌<◌, ◌≤◌, length, get_or, replicate, map, set, true, refl, ap, ◌∙◌, zero, arith}
 use Rattle.std.proofs.lemmas.List.{get_or-map, length-map, map-set}
 use Rattle.std.proofs.lemmas.Grind.{common_steps}
-use Rattle.adf_check.specs.declared.kept_owner.KeptOwner.{KeptOwner, TheVariants.Free, TheVariants.Boot}
-use Rattle.adf_check.specs.declared.kept_owner.PackedOwner.{PackedOwner}
-use Rattle.adf_check.specs.KeptOwner.{claimed_count, is_claimed, kept_at, unpacked}
-use Rattle.adf_check.specs.Owners.{IsTable}
+use Rattle.adf_walk.specs.declared.kept_owner.KeptOwner.{KeptOwner, TheVariants.Free, TheVariants.Boot}
+use Rattle.adf_walk.specs.declared.kept_owner.PackedOwner.{PackedOwner}
+use Rattle.adf_walk.specs.KeptOwner.{claimed_count, is_claimed, kept_at, unpacked}
+use Rattle.adf_walk.specs.OwnerTable.{IsTable}
 
 -- a table is one still when a free block is claimed
 claimed : (t : List KeptOwner) (n m b : ℕ) (o : KeptOwner) → IsTable is_claimed Boot t n m → 2 ≤ b → b < length t → is_claimed o ≡ true

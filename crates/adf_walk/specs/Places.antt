@@ -4,9 +4,9 @@ use Rattle.std.specs.Prelude.{◌≡◌, ℕ, List, ◌+◌, ◌-◌, ◌<◌, �
 use Rattle.std.specs.List.Sorted.{IsNonDecreasingBy}
 use Rattle.adf_volume.specs.declared.owner.Owner.{Owner}
 use Rattle.adf_volume.specs.declared.owner.Owner.TheVariants as owner
-use Rattle.adf_check.specs.declared.kept_owner.KeptOwner.{KeptOwner}
-use Rattle.adf_check.specs.declared.kept_owner.KeptOwner.TheVariants.{Free, Boot, Root, Page, MapExt, Head, Ext, Data}
-use Rattle.adf_check.specs.declared.store.NodeStart.{NodeStart}
+use Rattle.adf_walk.specs.declared.kept_owner.KeptOwner.{KeptOwner}
+use Rattle.adf_walk.specs.declared.kept_owner.KeptOwner.TheVariants.{Free, Boot, Root, Page, MapExt, Head, Ext, Data}
+use Rattle.adf_walk.specs.declared.node_start.NodeStart.{NodeStart}
 
 -- where a node's extension blocks begin
 abbrev pub first_ext : NodeStart → ℕ

@@ -1,10 +1,10 @@
 -- The classes of owners.
 use Rattle.adf_volume.specs.declared.owner.Owner.{Owner}
 use Rattle.adf_volume.specs.declared.owner.Owner.TheVariants as owner
-use Rattle.adf_check.specs.declared.kept_owner.KeptOwner.{KeptOwner}
-use Rattle.adf_check.specs.declared.kept_owner.KeptOwner.TheVariants as kept
-use Rattle.adf_check.specs.declared.owner_class.OwnerClass.{OwnerClass}
-use Rattle.adf_check.specs.declared.owner_class.OwnerClass.TheVariants.{Free, Boot, Root, Page, MapExt, Head, Ext, Data}
+use Rattle.adf_walk.specs.declared.kept_owner.KeptOwner.{KeptOwner}
+use Rattle.adf_walk.specs.declared.kept_owner.KeptOwner.TheVariants as kept
+use Rattle.adf_walk.specs.declared.owner_class.OwnerClass.{OwnerClass}
+use Rattle.adf_walk.specs.declared.owner_class.OwnerClass.TheVariants.{Free, Boot, Root, Page, MapExt, Head, Ext, Data}
 
 -- the class of an owner
 abbrev pub class_of : Owner → OwnerClass

@@ -1,7 +1,7 @@
 use Rattle.std.proofs.Common.{◌≡◌, true, arith, rules}
 use Rattle.std.proofs.lemmas.Grind.{common_steps}
-use Rattle.adf_check.proofs.OwnerTables.{claim_kept}
-use Rattle.adf_check.proofs.owner_table.OwnerTable.claim.Goals as goal
+use Rattle.adf_walk.proofs.OwnerTables.{claim_kept}
+use Rattle.adf_walk.proofs.owner_table.OwnerTable.claim.Goals as goal
 
 pub invariant_of-self : goal.invariant_of-self
 invariant_of-self c =

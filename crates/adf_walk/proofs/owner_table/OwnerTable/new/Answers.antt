@@ -1,7 +1,7 @@
 use Rattle.std.proofs.Common.{arith, replicate}
 use Rattle.std.proofs.lemmas.Grind.{common_steps}
-use Rattle.adf_check.proofs.OwnerTables.{new_is, new_table}
-use Rattle.adf_check.proofs.owner_table.OwnerTable.new.Goals as goal
+use Rattle.adf_walk.proofs.OwnerTables.{new_is, new_table}
+use Rattle.adf_walk.proofs.owner_table.OwnerTable.new.Goals as goal
 
 pub invariant_of-result : goal.invariant_of-result
 invariant_of-result c = grind (arith, common_steps, replicate, common_steps, new_is, new_table)

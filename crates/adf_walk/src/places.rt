@@ -2,11 +2,11 @@
 
 ghost use Rattle.std.specs.Prelude.{◌≡◌, ◌<◌, ◌^◌};
 ghost use Rattle.adf_volume.specs.declared.owner.Owner.{Owner};
-ghost use Rattle.adf_check.specs.KeptOwner.{place_of};
-ghost use Rattle.adf_check.specs.Places.{AreStarts, IsLastStart, IsNumbered, first_data, first_ext, kept_as};
+ghost use Rattle.adf_walk.specs.KeptOwner.{place_of};
+ghost use Rattle.adf_walk.specs.Places.{AreStarts, IsLastStart, IsNumbered, first_data, first_ext, kept_as};
 
 use crate::kept_owner::KeptOwner;
-use crate::store::NodeStart;
+use crate::node_start::NodeStart;
 use adf_tree::Node;
 use adf_volume::Owner;
 

@@ -1,5 +1,5 @@
 use Rattle.std.proofs.Common.{arith}
-use Rattle.adf_check.proofs.owner_table.OwnerTable.are_all.Goals as goal
+use Rattle.adf_walk.proofs.owner_table.OwnerTable.are_all.Goals as goal
 
 pub returns : goal.returns
 returns c = (

@@ -2,7 +2,7 @@
 
 ghost use Rattle.std.specs.Prelude.{◌≡◌, ◌≢◌, ◌≤◌, ◌<◌, ◌+◌, ◌-◌, ◌^◌, ◌∷◌, ◌↔◌, length};
 ghost use Rattle.std.specs.Prelude.{replicate, ℕ, true, false, IsTrue, IsOk, IfOk, IfErr, OnOk, OnErr, slice_set};
-ghost use Rattle.adf_check.specs.KeptOwner.{claimed_count, is_claimed, kept_at, place_of};
+ghost use Rattle.adf_walk.specs.KeptOwner.{claimed_count, is_claimed, kept_at, place_of};
 
 use crate::kept_owner::{KeptOwner, PackedOwner};
 use adf_base::NoMemory;
@@ -20,10 +20,10 @@ pub struct OwnerTable {
 
 impl Model for OwnerTable {
     ghost use Rattle.std.specs.Prelude.{List, map};
-    ghost use Rattle.adf_check.specs.KeptOwner.{is_claimed, unpacked};
-    ghost use Rattle.adf_check.specs.Owners.{IsTable};
-    ghost use Rattle.adf_check.specs.declared.kept_owner.KeptOwner.{KeptOwner};
-    ghost use Rattle.adf_check.specs.declared.kept_owner.KeptOwner.TheVariants.{Boot};
+    ghost use Rattle.adf_walk.specs.KeptOwner.{is_claimed, unpacked};
+    ghost use Rattle.adf_walk.specs.OwnerTable.{IsTable};
+    ghost use Rattle.adf_walk.specs.declared.kept_owner.KeptOwner.{KeptOwner};
+    ghost use Rattle.adf_walk.specs.declared.kept_owner.KeptOwner.TheVariants.{Boot};
 
     ghost Value = { List KeptOwner };
 

@@ -1,0 +1,2 @@
+pub mod OwnerTables
+pub mod KeptPlaces

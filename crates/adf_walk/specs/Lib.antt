@@ -1,0 +1,4 @@
+pub mod KeptOwner
+pub mod OwnerClass
+pub mod OwnerTable
+pub mod Places
