@@ -22,6 +22,7 @@ pub mod SoundChains
 -- the findings that leave a file its blocks, and the others
 pub mod GraveFindings
 pub mod JudgementTests
+pub mod CleanParts
 pub mod Names
 -- the form of a header by the letters of a volume
 pub mod HeadSlots

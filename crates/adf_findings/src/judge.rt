@@ -1,7 +1,9 @@
 // The judgement of a part that is next.
 
-ghost use Rattle.std.specs.Prelude.{◌≡◌, true};
-ghost use Rattle.adf_findings.specs.Forms.{first_failing, judged_by, keeps, judgement_value};
+ghost use Rattle.std.specs.Prelude.{◌≡◌, ◌&&◌, true};
+ghost use Rattle.std.specs.Option.{is_none};
+ghost use Rattle.adf_blocks.specs.Forms.{first_cause};
+ghost use Rattle.adf_findings.specs.Forms.{first_failing, form_of, in_range, judged_by, keeps, judgement_value};
 
 use crate::forms::{Context, first_cause, is_itself};
 use crate::image::Image;
@@ -26,7 +28,6 @@ pub struct Facts {
 }
 
 // The first cause of a part in block `b`, which `holder` points to, and the block of the cause, if its name is new.
-#[inline(always)]
 fn first_failing(
     image: &Image<'_>,
     part: Part,
@@ -50,16 +51,28 @@ fn first_failing(
 }
 
 // Whether block `b` is in range, has no owner, and identifies itself as the part.
-#[inline(always)]
 fn is_kept(image: &Image<'_>, part: Part, b: u32, facts: &Facts) -> bool
     ensures { result ≡ keeps image.now part b facts.now }
 {
     b >= 2 && b < image.blocks() && facts.is_absent && is_itself(image, part, b, facts.context)
 }
 
-/// Judges a part in block `b`, which a word of block `holder` points to, by all but its name.
+// Whether a part in block `b` has no cause, if its name is new.
 #[inline(always)]
-pub fn judge(image: &Image<'_>, part: Part, holder: u32, b: u32, facts: &Facts) -> Judgement
+fn is_clean(image: &Image<'_>, part: Part, b: u32, facts: &Facts) -> bool
+    ensures { result ≡ (facts.now.is_enough && (in_range image.now b && (facts.now.is_absent
+        && is_none (first_cause (form_of image.now part b facts.now.context))))) }
+{
+    facts.is_enough
+        && b >= 2
+        && b < image.blocks()
+        && facts.is_absent
+        && first_cause(image, part, b, facts.context).is_none()
+}
+
+// Judges a part by its demands, one by one.
+#[inline(never)]
+fn judge_by_demands(image: &Image<'_>, part: Part, holder: u32, b: u32, facts: &Facts) -> Judgement
     ensures { judgement_value result
         ≡ judged_by (first_failing image.now part holder b facts.now true)
         (keeps image.now part b facts.now) }
@@ -73,5 +86,21 @@ pub fn judge(image: &Image<'_>, part: Part, holder: u32, b: u32, facts: &Facts) 
                 Judgement::Skipped(at, cause)
             }
         }
+    }
+}
+
+/// Judges a part in block `b`, which a word of block `holder` points to, by all but its name. Only a part that is not
+/// clean is judged by its demands.
+#[tactic(auto, using(crate::proofs::CleanParts::clean_judged))]
+#[inline(always)]
+pub fn judge(image: &Image<'_>, part: Part, holder: u32, b: u32, facts: &Facts) -> Judgement
+    ensures { judgement_value result
+        ≡ judged_by (first_failing image.now part holder b facts.now true)
+        (keeps image.now part b facts.now) }
+{
+    if is_clean(image, part, b, facts) {
+        Judgement::Clean
+    } else {
+        judge_by_demands(image, part, holder, b, facts)
     }
 }
