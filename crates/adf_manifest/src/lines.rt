@@ -17,7 +17,7 @@ use adf_tree::Stamps;
 pub const MOST_FILL: u32 = 536_870_912;
 
 /// The first word of an entry line.
-#[derive(Clone, Copy, Debug, PartialEq, Eq)]
+#[derive(Clone, Copy)]
 pub enum Sort {
     Dir,
     File,

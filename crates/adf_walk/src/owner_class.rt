@@ -1,7 +1,7 @@
 // The classes of owners.
 
 /// What owns a block, without its number and without its file.
-#[derive(Clone, Copy, Debug, PartialEq, Eq)]
+#[derive(Clone, Copy)]
 pub enum OwnerClass {
     /// No part: the block is free.
     Free,
