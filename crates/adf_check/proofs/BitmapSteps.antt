@@ -1,7 +1,11 @@
 -- The steps along the bitmap, and the facts known at its end.
 use Rattle.adf_volume.specs.Fault.{IsTrueFault}
 use Rattle.std.proofs.Common.{◌≡◌, ◌≢◌, inl, inr, ℕ, zero, suc, List, ◌++◌, ◌+◌, ◌-◌, ◌*◌, ◌/◌, ◌%◌, ◌<◌, ◌≤◌, refl, sym, ap, subst, ◌∙◌, arith, Bool}
-use Rattle.std.proofs.Common.{true, false, IfErr, Result, Ok, Err, slice_index, IsTrue, ◌↔◌, IsBitSet}
+use Rattle.std.proofs.Common.{true, false, not, IfErr, Result, Ok, Err, slice_index, IsTrue, ◌↔◌, ◌==◌, ◌^◌, IsBitSet}
+use Rattle.std.specs.Int.Bits.{bit_and}
+use Rattle.std.proofs.lemmas.Bool.Decides.{nat_tests}
+use Rattle.std.proofs.lemmas.Nat.{and_comm, and_mask, pow_below, pow_pos}
+use Rattle.std.proofs.Math.Nat.{mod-eq_of_lt}
 use Rattle.std.proofs.lemmas.Grind.{common_steps}
 use Rattle.adf_blocks.specs.declared.cause.Cause.{Cause, TheVariants.LostBlock, TheVariants.OwnedFree}
 use Rattle.adf_blocks.specs.Sizes.{blocks, pages_needed}
@@ -119,58 +123,63 @@ fits_alone image store b begun e st =
       fits = fits image st.walk st.read.is_walk st.read.whole s.0 s.1 (subst (λ n. AllHold (bitmap_demands image st.walk 2 (n - 2))) e st.agrees);
     }
 
--- where bit `bit` of word i stands
-page_at : (i bit : ℕ) → bit < 32 → (2 + 32 * i + bit - 2) / 4064 ≡ i / 127
-page_at i bit h = omega arith
+-- where the bit of block b stands in word i
+module _ (i b : ℕ) (lo : 2 + 32 * i ≤ b) (within : b < 2 + 32 * i + 32) where
+  page_at : (b - 2) / 4064 ≡ i / 127
+  page_at = omega arith
 
-word_at : (i bit : ℕ) → bit < 32 → 1 + (2 + 32 * i + bit - 2) % 4064 / 32 ≡ 1 + i % 127
-word_at i bit h = omega arith
+  word_at : 1 + (b - 2) % 4064 / 32 ≡ 1 + i % 127
+  word_at = omega arith
 
-bit_at : (i bit : ℕ) → bit < 32 → (2 + 32 * i + bit - 2) % 4064 % 32 ≡ bit
-bit_at i bit h = omega arith
+  bit_at : (b - 2) % 4064 % 32 ≡ b - (2 + 32 * i)
+  bit_at = omega arith
 
--- bit `bit` of word i, in a volume whose bitmap agrees below its block
-abbrev block_of_bit : ℕ → ℕ → ℕ
-block_of_bit i bit = 2 + 32 * i + bit
+-- the bit of block b in word i, in a volume whose bitmap agrees below the block
+module _ (i b : ℕ) {image : List ℕ} {store : StoreValue} {pages : List ℕ} (lo : 2 + 32 * i ≤ b) (within : b < 2 + 32 * i + 32)
+    (hi : b < blocks image) (begun : IsBegun image) (listed : AreListed image pages (pages_needed (blocks image)))
+    (st : IsMapped image store b) {word : ℕ} {free : Bool}
+    (word_is : word ≡ word_in image (slice_index pages (i / 127)) (1 + i % 127)) (told : IsTrue free ↔ IsBitSet word (b - (2 + 32 * i))) where
+  here : IsTrue free ↔ IsFreeAt image (slice_index pages ((b - 2) / 4064)) ((b - 2) % 4064)
+  here = rw (page_at i b lo within, word_at i b lo within, bit_at i b lo within, sym word_is) told
 
-module _ (i bit : ℕ) {image : List ℕ} {store : StoreValue} {pages : List ℕ} (within : bit < 32) (begun : IsBegun image)
-    (hi : 2 + 32 * i + bit < blocks image)
-    (listed : AreListed image pages (pages_needed (blocks image))) (st : IsMapped image store (2 + 32 * i + bit)) {word : ℕ} {free : Bool}
-    (word_is : word ≡ word_in image (slice_index pages (i / 127)) (1 + i % 127)) (told : IsTrue free ↔ IsBitSet word bit) where
-  here : IsTrue free ↔ IsFreeAt image (slice_index pages ((block_of_bit i bit - 2) / 4064)) ((block_of_bit i bit - 2) % 4064)
-  here = rw (page_at i bit within, word_at i bit within, bit_at i bit within, sym word_is) told
-
-  bit_fault : (f : Fault) → IsBitFault store.owners (block_of_bit i bit) free f → IsTrueFault image f
-  bit_fault f (inl y) = subst (IsTrueFault image) (sym y.2)
-      (first_fault image (block_of_bit i bit) LostBlock (lost free hi listed.listed refl here st begun y.0 y.1))
-  bit_fault f (inr y) = subst (IsTrueFault image) (sym y.2)
-      (first_fault image (block_of_bit i bit) OwnedFree (owned_free free hi listed.listed refl here st begun y.0 y.1))
+  bit_fault : (f : Fault) → IsBitFault store.owners b free f → IsTrueFault image f
+  bit_fault f (inl y) = subst (IsTrueFault image) (sym y.2) (first_fault image b LostBlock (lost free hi listed.listed refl here st begun y.0 y.1))
+  bit_fault f (inr y) =
+      subst (IsTrueFault image) (sym y.2) (first_fault image b OwnedFree (owned_free free hi listed.listed refl here st begun y.0 y.1))
 
   -- what the bit tells is not what the owner does
-  pub bit_refused : {T : Type 0} (x : Result T Fault) → IfErr x (IsBitFault store.owners (block_of_bit i bit) free) → IfErr x (IsTrueFault image)
+  pub bit_refused : {T : Type 0} (x : Result T Fault) → IfErr x (IsBitFault store.owners b free) → IfErr x (IsTrueFault image)
   bit_refused (Ok y) h = tt
   bit_refused (Err f) h = bit_fault f h
 
   -- or it is
-  pub bit_agrees : IsTrue free ↔ (kept_at store.owners (block_of_bit i bit) ≡ Free) → IsMapped image store (2 + 32 * i + (bit + 1))
-  bit_agrees h =
-      let next : suc (block_of_bit i bit) ≡ 2 + 32 * i + (bit + 1) = omega arith in
-      subst (IsMapped image store) next (agrees free hi listed.listed refl here st h)
+  pub bit_agrees : IsTrue free ↔ (kept_at store.owners b ≡ Free) → IsMapped image store (b + 1)
+  bit_agrees h = let next : suc b ≡ b + 1 = omega arith in subst (IsMapped image store) next (agrees free hi listed.listed refl here st h)
 
--- no bit of 0 is set
-no_bit : (bit : ℕ) → IsTrue false ↔ IsBitSet 0 bit
-no_bit bit = ((λ h. absurd (let x : false ≡ true = h in cc)), (λ h. absurd (h refl)))
+-- each bit of a word of ones is set
+pub all_set : (bit : ℕ) → bit < 32 → IsBitSet 4294967295 bit
+all_set bit h e =
+    let some : 0 < 2 ^ bit = pow_pos bit in
+    let kept : 2 ^ bit % 2 ^ 32 ≡ 2 ^ bit = mod-eq_of_lt (pow_below bit 32 h) in
+    let none : 2 ^ bit ≡ 0 = sym kept ∙ (sym (and_mask (2 ^ bit) 32) ∙ (and_comm (2 ^ bit) 4294967295 ∙ e)) in
+    absurd (omega arith)
 
--- where a word is 0 and its first blocks are owned, the bitmap agrees on them
-pub owned_run : (i n : ℕ) {image : List ℕ} {store : StoreValue} {pages : List ℕ} → n ≤ 32 → 2 + 32 * i + n ≤ blocks image → IsBegun image
-    → AreListed image pages (pages_needed (blocks image)) → 0 ≡ word_in image (slice_index pages (i / 127)) (1 + i % 127)
-    → ((b : ℕ) → 2 + 32 * i ≤ b → b < 2 + 32 * i + n → kept_at store.owners b ≢ Free) → IsMapped image store (2 + 32 * i)
-    → IsMapped image store (2 + 32 * i + n)
-owned_run i zero {image = image} {store = store} few hi begun listed none owned st = grind (arith, common_steps)
-owned_run i (suc n) {image = image} {store = store} few hi begun listed none owned st =
-    let before = owned_run i n (omega arith) (omega arith) begun listed none (λ c lo lt. owned c lo (omega arith)) st in
-    let here : kept_at store.owners (2 + 32 * i + n) ≢ Free = owned (2 + 32 * i + n) (omega arith) (omega arith) in
-    let e : n + 1 ≡ suc n = omega arith in
-    subst (λ n. IsMapped image store (2 + 32 * i + n)) e
-    (bit_agrees i n (omega arith) begun (omega arith) listed before none (no_bit n)
-    ((λ h. absurd (let x : false ≡ true = h in cc)), (λ h. absurd (here h))))
+-- whether a bit is set
+bit_told : (word bit : ℕ) → (free : Bool) × (IsTrue free ↔ IsBitSet word bit)
+bit_told word bit = (not (bit_and word (2 ^ bit) == 0), grind (arith, nat_tests))
+
+-- where the bits of a word are set for the blocks without an owner alone, the bitmap agrees on these blocks
+pub word_agrees : (i n : ℕ) {image : List ℕ} {store : StoreValue} {pages : List ℕ} {word : ℕ} → n ≤ 32 → 2 + 32 * i + n ≤ blocks image
+    → IsBegun image → AreListed image pages (pages_needed (blocks image)) → word ≡ word_in image (slice_index pages (i / 127)) (1 + i % 127)
+    → ((b : ℕ) → 2 + 32 * i ≤ b → b < 2 + 32 * i + n → IsBitSet word (b - (2 + 32 * i)) ↔ (kept_at store.owners b ≡ Free))
+    → IsMapped image store (2 + 32 * i) → IsMapped image store (2 + 32 * i + n)
+word_agrees i zero {image = image} {store = store} few hi begun listed is agree st = grind (arith, common_steps)
+word_agrees i (suc n) {image = image} {store = store} {word = word} few hi begun listed is agree st =
+    let b : ℕ = 2 + 32 * i + n in
+    let before : IsMapped image store b = word_agrees i n (omega arith) (omega arith) begun listed is (λ c lo lt. agree c lo (omega arith)) st in
+    let told = bit_told word (b - (2 + 32 * i)) in
+    let here : IsBitSet word (b - (2 + 32 * i)) ↔ (kept_at store.owners b ≡ Free) = agree b (omega arith) (omega arith) in
+    let next : 2 + 32 * i + n + 1 ≡ 2 + 32 * i + suc n = omega arith in
+    subst (IsMapped image store) next
+    (bit_agrees i b (omega arith) (omega arith) (omega arith) begun listed before is told.1
+    ((λ t. here.0 (told.1.0 t)), (λ h. told.1.1 (here.1 h))))

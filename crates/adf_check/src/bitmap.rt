@@ -1,7 +1,7 @@
 // Comparison of the bitmap with the owners.
 
 ghost use Rattle.adf_volume.specs.Fault.{IsTrueFault};
-ghost use Rattle.std.specs.Prelude.{◌≡◌, ◌<◌, ◌≤◌, ◌+◌, ◌*◌, ◌↔◌, IsTrue, length, min, OnOk, IfErr};
+ghost use Rattle.std.specs.Prelude.{◌≡◌, ◌<◌, ◌≤◌, ◌+◌, ◌-◌, ◌*◌, ◌↔◌, ℕ, IsBitSet, IsTrue, length, min, OnOk, IfErr};
 ghost use Rattle.adf_blocks.specs.Sizes.{blocks, pages_needed};
 ghost use Rattle.adf_check.specs.Reading.{IsMapped, IsRead, StoreFits};
 ghost use Rattle.adf_check.specs.declared.kept_owner.KeptOwner.TheVariants.{Free};
@@ -33,6 +33,23 @@ fn check_block(owners: &OwnerTable, b: u32, is_free: bool) -> Result<(), Fault>
     }
 }
 
+// Whether a word is all zeros or all ones, and its bits are set for the blocks without an owner alone, of those from
+// `first` up to, but not including, `end`.
+fn agree(owners: &OwnerTable, first: u32, end: u32, word: u32) -> bool
+    requires inside { end ≤ length owners.now }
+    requires word { end ≤ first + 32 }
+    ensures { IsTrue result → (b : ℕ) → first ≤ b → b < end
+        → IsBitSet word (b - first) ↔ (kept_at owners.now b ≡ Free) }
+{
+    if word == 0 {
+        owners.are_all(first, end, false)
+    } else if word == u32::MAX {
+        owners.are_all(first, end, true)
+    } else {
+        false
+    }
+}
+
 // Compares word `i` of the bitmap with the owners of its blocks.
 fn check_word(image: &Image<'_>, store: &Store, pages: &[u32], i: u32) -> Result<(), Fault>
     requires inside { 2 + 32 * i < blocks image.now }
@@ -46,12 +63,12 @@ fn check_word(image: &Image<'_>, store: &Store, pages: &[u32], i: u32) -> Result
     let page = Page::over(image.block(pages[i as usize / PAGE_WORDS]));
     let word = page.word(i as usize % PAGE_WORDS);
     let first = 2 + 32 * i;
-    let len = (blocks - first).min(32);
-    if word == 0 && !store.owners.has_free(first, first + len) {
+    let end = (first + 32).min(blocks);
+    if agree(&store.owners, first, end, word) {
         return Ok(());
     }
-    for bit in 0..len {
-        check_block(&store.owners, first + bit, is_set(word, bit))?;
+    for b in first..end {
+        check_block(&store.owners, b, is_set(word, b - first))?;
     }
     Ok(())
 }

@@ -98,20 +98,17 @@ impl OwnerTable {
         self.owners[b as usize].is_free()
     }
 
-    // Whether a block from `first` up to, but not including, `end` has no owner.
-    pub fn has_free(&self, first: u32, end: u32) -> bool
+    // Whether the blocks from `first` up to, but not including, `end` all have no owner, or all have one.
+    pub fn are_all(&self, first: u32, end: u32, is_free: bool) -> bool
         requires { end ≤ length self.now }
-        ensures none { result ≡ false → (b : ℕ) → first ≤ b → b < end
-            → kept_at self.now b ≢ KeptOwner.Free }
-        ensures some { result ≡ true
-            → (b : ℕ) × ((first ≤ b) × (b < end) × (kept_at self.now b ≡ KeptOwner.Free)) }
+        ensures { IsTrue result ↔ ((b : ℕ) → first ≤ b → b < end
+            → IsTrue is_free ↔ (kept_at self.now b ≡ KeptOwner.Free)) }
     {
+        let mut all = true;
         for b in first..end {
-            if self.is_free(b) {
-                return true;
-            }
+            all &= self.is_free(b) == is_free;
         }
-        false
+        all
     }
 
     // The owner of a block.

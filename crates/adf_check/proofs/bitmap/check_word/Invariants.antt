@@ -1,7 +1,6 @@
-use Rattle.std.proofs.Common.{◌+◌}
 use Rattle.adf_check.specs.Reading.{IsMapped}
 use Rattle.adf_check.specs.Store.{store_value}
 use Rattle.adf_check.proofs.bitmap.check_word.Given as goal
 
-abbrev pub invariant-loop-bit : goal.invariant-loop-bit
-invariant-loop-bit l = IsMapped l.image (store_value l.store) (l.first + l.bit)
+abbrev pub invariant-loop-b : goal.invariant-loop-b
+invariant-loop-b l = IsMapped l.image (store_value l.store) l.b

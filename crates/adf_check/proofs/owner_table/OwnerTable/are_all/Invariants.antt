@@ -1,0 +1,10 @@
+use Rattle.std.proofs.Common.{◌≡◌, ◌≤◌, ◌<◌, ◌↔◌, ℕ, IsTrue}
+use Rattle.adf_check.specs.declared.kept_owner.KeptOwner.TheVariants.{Free}
+use Rattle.adf_check.specs.KeptOwner.{kept_at}
+use Rattle.adf_check.proofs.owner_table.OwnerTable.are_all.Given as goal
+
+abbrev pub invariant-loop-b : goal.invariant-loop-b
+invariant-loop-b l = record {
+  all : IsTrue l.all ↔ ((k : ℕ) → l.first ≤ k → k < l.b → IsTrue l.is_free ↔ (kept_at l.self k ≡ Free));
+  inside : l.first < l.b → l.b ≤ l.end;
+}
