@@ -33,8 +33,8 @@ fn check_block(owners: &OwnerTable, b: u32, is_free: bool) -> Result<(), Fault>
     }
 }
 
-// Whether the bits of a word of ones or of zeros are set for the blocks without an owner alone, of those from `first` up
-// to, but not including, `end`.
+// Whether a word is all zeros or all ones, and its bits are set for the blocks without an owner alone, of those from
+// `first` up to, but not including, `end`.
 fn agree(owners: &OwnerTable, first: u32, end: u32, word: u32) -> bool
     requires inside { end ≤ length owners.now }
     requires word { end ≤ first + 32 }
