@@ -1,11 +1,11 @@
 -- The positions of a course: by chain in a directory, extension blocks before data blocks in a file, node by node.
 use Rattle.std.specs.Prelude.{Bool, true, false, cond, nat_le, nat_lt, ◌==◌, ◌||◌, ◌%◌, Option, Some, None, slice_index}
-use Rattle.std.proofs.Common.{◌≡◌, ◌≢◌, ℕ, zero, suc, length, List, ◌∷◌, ◌⊎◌, inl, ◌+◌, ◌*◌, ◌/◌, ◌<◌, ◌≤◌, refl, sym, subst, ap, ◌∙◌, add-one, arith}
+use Rattle.std.proofs.Common.{◌≡◌, ◌≢◌, ℕ, zero, suc, length, List, ◌⊎◌, inl, ◌+◌, ◌-◌, ◌*◌, ◌/◌, ◌<◌, ◌≤◌, refl, sym, subst, ap, ◌∙◌, add-one, arith}
 use Rattle.std.proofs.lemmas.Bool.{eq-eqb}
 use Rattle.std.proofs.lemmas.Bool.Decides.{nat_tests}
 use Rattle.adf_names.specs.declared.kind.Kind.TheVariants.{Ofs}
 use Rattle.std.proofs.lemmas.Grind.{common_steps}
-use Rattle.adf_blocks.specs.declared.layout.TheConstants.{EXTENSION, NEXT_IN_CHAIN, POINTERS, SECONDARY_TYPE, SLOTS, ST_DIR, ST_FILE}
+use Rattle.adf_blocks.specs.declared.layout.TheConstants.{EXTENSION, FIRST_POINTER, FIRST_SLOT, NEXT_IN_CHAIN, POINTERS, SECONDARY_TYPE, SLOTS, ST_DIR, ST_FILE}
 use Rattle.adf_volume.specs.Image.{kind_of, table_word, word_in}
 use Rattle.adf_volume.specs.Positions.{before_node, position_of}
 use Rattle.adf_volume.specs.Walk.{NodeAt, DirAt, FileAt, MemberAt, Asks, Enough, data_count, ext_count, heads, member_block, next_data, node_block, Walk}
@@ -15,17 +15,15 @@ use Rattle.adf_volume.proofs.Pointers.{ext_asks, ext_ends, link_asks, link_ends}
 use Rattle.adf_volume.proofs.PositionSteps.{chain_broken, end_chain, end_datas, end_exts, end_node, end_nodes, enter_dir, enter_file}
 use Rattle.adf_volume.proofs.PositionSteps.{exts_broken, no_exts}
 use Rattle.adf_volume.proofs.Roles.{count_own, dir_is_node, dir_up, member_up, typed_up}
-use Rattle.adf_findings.specs.declared.part.Part.{Part}
 use Rattle.adf_findings.specs.declared.part.Part.TheVariants.{Head as HeadPart, Ext as ExtPart, Data as DataPart}
 use Rattle.adf_findings.specs.declared.course.Due.{Due}
 use Rattle.adf_findings.specs.declared.course.FileTable.{FileTable}
 use Rattle.adf_findings.specs.declared.found.Found.{Found}
 use Rattle.adf_findings.specs.Survey.{Course}
 use Rattle.adf_findings.specs.Found.{IsFinished, member_in}
-use Rattle.adf_findings.specs.Courses.{HasReached, HasReachedData, HasReachedExt, HasReachedHeader, HasReachedSlot, HasTable, Holds, IsGoneOn, IsNamed}
-use Rattle.adf_findings.specs.Courses.{IsTrueIn, due_below, role_asked}
+use Rattle.adf_findings.specs.Courses.{HasReached, HasReachedData, HasReachedExt, HasReachedHeader, HasReachedNamed, HasReachedSlot, HasReachedTable}
+use Rattle.adf_findings.specs.Courses.{HasTable, Holds, IsGoneOn, IsNamed, IsTrueIn, due_below, due_in, end_in}
 use Rattle.adf_findings.specs.Forms.{Tells}
-use Rattle.adf_findings.specs.Parts.{role_of}
 use Rattle.adf_findings.proofs.CourseSteps.{moved}
 use Rattle.adf_findings.proofs.Known.{member_found}
 use Rattle.adf_findings.proofs.OneSurvey.{gathered}
@@ -99,6 +97,11 @@ module _ {image : List ℕ} {f : Found} {p slot j a i b : ℕ} (x : HasReachedHe
       let end = link_ends image x.course.walk (gathered image x.holds.course) p slot j a i x.link e in
       rw add-one (_, moved x.holds (omega arith) (end_chain image p slot j x.holds.up_to end), x.dir)
 
+-- a slot that names no block has no chain
+pub slot_empty : {image : List ℕ} {f : Found} (p slot b : ℕ) → HasReachedSlot image f p slot b → word_in image b (FIRST_SLOT + slot) ≡ 0
+    → HasReachedSlot image f p (slot + 1) b
+slot_empty p slot b x e = chain_done (record { course = x.0; holds = x.1; dir = x.2; link = (x.2, refl) }) e
+
 -- the extension blocks of a file that are gone through
 module _ {image : List ℕ} {f : Found} {n b m a : ℕ} (x : HasReachedExt image f n b m a) where
   one_more : suc m ≡ m + 1
@@ -129,18 +132,17 @@ module _ {image : List ℕ} {f : Found} {n b m a : ℕ} (x : HasReachedExt image
 
   -- behind an extension block that was skipped come the data blocks
   pub ext_skipped : {g : Found} {o : Option ℕ} → o ≡ None → IsGoneOn image x.course (ExtPart n (m + 1)) a EXTENSION g o
-      → HasReachedData image g n b m 0 b
+      → HasReachedData image g n b m
   ext_skipped {g} {o} e gone = grind (arith, common_steps, gone_on, moved, end_exts, exts_broken)
 
   -- and behind the last one
-  pub exts_done : word_in image a EXTENSION ≡ 0 → HasReachedData image f n b m 0 b
+  pub exts_done : word_in image a EXTENSION ≡ 0 → HasReachedData image f n b m
   exts_done e = record {
     course = x.course;
     holds = moved x.holds (omega arith)
         (end_exts image n m x.holds.up_to (ext_ends image x.course.walk (gathered image x.holds.course) n m a x.member e));
     file = x.file;
     count = x.count;
-    member = (λ m e. absurd (omega arith));
   }
 
 -- what is said of a data block
@@ -188,88 +190,106 @@ module _ {image : List ℕ} {f : Found} {s : Course} {x : FileTable} (h : HasTab
       enough = subst (λ t. Tells t (Enough image s.walk (Data x.node (k + 1)))) (sym is) (enough_is k);
     }
 
--- the data blocks of a file that are gone through; `before` points to the last of them
-module _ {image : List ℕ} {f : Found} {n b exts k before : ℕ} (x : HasReachedData image f n b exts k before) where
-  v : IsGathered image x.course.walk
-  v = gathered image x.holds.course
+-- the data blocks of a file begin with the first of its table
+pub datas_begin : {image : List ℕ} {f : Found} {n b exts count : ℕ} → HasReachedData image f n b exts → count ≡ data_count image b
+    → HasReachedTable image f (record { node = n; head = b; count = count; room = POINTERS * (exts + 1) }) 0
+datas_begin x e = (
+  x.course,
+  x.holds,
+  record { course = x.holds.course; stands = x.holds.stands; file = x.file; count = e; room = (let c = x.count in omega arith) },
+)
 
-  there : (m : ℕ) → m ≤ exts → (a : ℕ) × MemberAt image x.course.walk n m a
-  there zero le = (b, x.file)
-  there (suc m) le = let count = x.count in ext_counted image v n m (omega arith)
+-- the data blocks of a file that are gone through
+module _ {image : List ℕ} {f : Found} {x : FileTable} {k : ℕ} (at : HasReachedTable image f x k) where
+  v : IsGathered image at.0.walk
+  v = gathered image at.1.course
+
+  there : (m : ℕ) → POINTERS * m < x.room → (a : ℕ) × MemberAt image at.0.walk x.node m a
+  there zero lt = (x.head, at.2.file)
+  there (suc m) lt = let room = at.2.room in ext_counted image v x.node m (omega arith)
 
   -- a block of the table that is found is that of the walk
-  found_there : {a : ℕ} → (m : ℕ) → m ≤ exts → a ≡ member_in f n m → MemberAt image x.course.walk n m a
-  found_there {a} m le e =
-      let c = there m le in
-      let is : c.0 ≡ a = sym (e ∙ member_found image f x.course x.holds.stands n m ∙ member_is image v n m c.0 c.1) in
-      subst (MemberAt image x.course.walk n m) is c.1
+  pub named_begins : {m a : ℕ} → POINTERS * m < x.room → a ≡ member_in f x.node m → HasReachedNamed image f x m a k
+  named_begins {m} {a} lt e =
+      let c = there m lt in
+      let is : c.0 ≡ a = sym (e ∙ member_found image f at.0 at.1.stands x.node m ∙ member_is image v x.node m c.0 c.1) in
+      record { course = at.0; holds = at.1; table = at.2; member = subst (MemberAt image at.0.walk x.node m) is c.1 }
 
-  -- the block of the table that points to the next data block
-  pub table_there : {a : ℕ} → a ≡ cond (k % POINTERS == 0) (member_in f n (k / POINTERS)) before → k < POINTERS * (exts + 1)
-      → MemberAt image x.course.walk n (k / POINTERS) a
-  table_there {a} e few = go k refl (k % POINTERS == 0) refl e
+  -- behind the last data block comes the next node
+  pub datas_done : ((j : ℕ) → j < x.count → j < x.room → j < k) → HasReached image f (before_node (x.node + 1))
+  datas_done all = rw add-one (at.0, moved at.1 (omega arith) (end_datas image v x.node k x.head at.2.file asked at.1.up_to))
     where
-      same : (m : ℕ) → k ≡ suc m → (k % POINTERS ≡ 0 → ⊥) → m / POINTERS ≡ k / POINTERS
-      same m e ne = omega arith
+      few : (j m a : ℕ) → j / POINTERS ≡ m → MemberAt image at.0.walk x.node m a → j < x.room
+      few j zero a e member = let room = at.2.room in omega arith
+      few j (suc m) a e member = let room = at.2.room in let y = ext_below image v x.node m a member in omega arith
 
-      go : (j : ℕ) → k ≡ j → (t : Bool) → (k % POINTERS == 0) ≡ t → a ≡ cond t (member_in f n (k / POINTERS)) before
-          → MemberAt image x.course.walk n (k / POINTERS) a
-      go j at true is e = found_there (k / POINTERS) (omega arith) e
-      go zero at false is e = let z = eq-eqb (k % POINTERS) 0 (ap (λ k. k % POINTERS) at) in absurd (let y : true ≡ false = sym z ∙ is in cc)
-      go (suc m) at false is e =
-          let ne : k % POINTERS ≡ 0 → ⊥ = λ z. let y : true ≡ false = sym (eq-eqb (k % POINTERS) 0 z) ∙ is in cc in
-          subst (λ q. MemberAt image x.course.walk n q a) (same m at ne) (subst (MemberAt image x.course.walk n (m / POINTERS)) (sym e) (x.member m at))
+      asked : (j a i : ℕ) → Asks image at.0.walk (Data x.node (suc j)) a i → j < k
+      asked j a i h =
+          let y : h.0.0 ≡ x.head = file_one image v x.node h.0.0 x.head h.0.1 at.2.file in
+          let lt : j < x.count = subst (λ c. j < c) (sym at.2.count) (subst (λ h. j < data_count image h) y h.0.2) in
+          all j lt (few j (j / POINTERS) a refl h.1)
 
-  -- the table of the file in the course
-  pub has_table : {count : ℕ} → count ≡ data_count image b
-      → HasTable image f x.course (record { node = n; head = b; count = count; room = POINTERS * (exts + 1) })
-  has_table e = record {
-    course = x.holds.course;
-    stands = x.holds.stands;
-    file = x.file;
-    count = e;
-    room = (let c = x.count in omega arith);
-  }
+-- the data blocks that one block of a table points to
+module _ {image : List ℕ} {f : Found} {x : FileTable} {m a k : ℕ} (y : HasReachedNamed image f x m a k) where
+  pub named_ends : HasReachedTable image f x k
+  named_ends = (y.course, y.holds, y.table)
 
-  pub data_is_named : {y : Due} {a : ℕ} → y.part ≡ DataPart n (k + 1) → IsTrueIn image x.course.walk y
-      → MemberAt image x.course.walk n (k / POINTERS) a → k < data_count image b → IsNamed image f y a (table_word k) x.course
-  data_is_named {y} {a} e said at lt =
-      let next : k + 1 ≡ suc k = omega arith in
-      let part : y.part ≡ DataPart n (suc k) = e ∙ ap (λ k. DataPart n k) next in
-      record {
-        holds = subst (λ z. Holds image f (position_of (role_of z)) x.course) (sym part) x.holds;
-        asked = subst (λ z. Asks image x.course.walk (role_asked x.course z) a (table_word k)) (sym part) ((b, x.file, lt), at, refl);
-        said = said;
+  module _ {due : Due} {next : ℕ} (from : POINTERS * m ≤ k) (to : k < end_in x (m + 1)) (is : due ≡ due_in x k next)
+      (told : kind_of image ≡ Ofs → next ≡ cond (nat_lt (k + 1) x.count) (word_in image (cond ((k + 1) % POINTERS == 0)
+      (member_in f x.node ((k + 1) / POINTERS)) a) (table_word (k + 1))) 0) where
+    number : m ≡ k / POINTERS
+    number = omega arith
+
+    word : table_word k ≡ FIRST_POINTER - (k - POINTERS * m)
+    word = omega arith
+
+    one : suc k ≡ k + 1
+    one = omega arith
+
+    inside : k < data_count image x.head
+    inside = let count = y.table.count in omega arith
+
+    here : MemberAt image y.course.walk x.node (k / POINTERS) a
+    here = subst (λ m. MemberAt image y.course.walk x.node m a) number y.member
+
+    pub due_named : IsNamed image f (due_in x k next) a (table_word k) y.course
+    due_named = record {
+      holds = subst (λ j. Holds image f (position_of (Data x.node j)) y.course) one y.holds;
+      asked = subst (λ j. Asks image y.course.walk (Data x.node j) a (table_word k)) one ((x.head, y.table.file, inside), here, refl);
+      said = data_said y.table k a here next (nat_lt 0 k || nat_le x.count x.room) told refl;
+    }
+
+    pub data_is_named : IsNamed image f due a (FIRST_POINTER - (k - POINTERS * m)) y.course
+    data_is_named =
+        subst (λ due. IsNamed image f due a (FIRST_POINTER - (k - POINTERS * m)) y.course) (sym is)
+        (subst (λ i. IsNamed image f (due_in x k next) a i y.course) word due_named)
+
+  pub data_gone : {due : Due} {g : Found} {o : Option ℕ} {i next : ℕ} → due ≡ due_in x k next → IsGoneOn image y.course due.part a i g o
+      → HasReachedNamed image g x m a (k + 1)
+  data_gone {due} {g} {o} {i} {next} e gone = go o (subst (λ due. IsGoneOn image y.course due.part a i g o) e gone)
+    where
+      go : (o : Option ℕ) → IsGoneOn image y.course (DataPart x.node (k + 1)) a i g o → HasReachedNamed image g x m a (k + 1)
+      go None gone = record {
+        course = _;
+        holds = gone.holds;
+        table = record {
+          course = gone.holds.course;
+          stands = gone.holds.stands;
+          file = y.table.file;
+          count = y.table.count;
+          room = y.table.room;
+        };
+        member = y.member;
       }
-
-  pub data_gone : {part : Part} {g : Found} {o : Option ℕ} {a i : ℕ} → part ≡ DataPart n (k + 1)
-      → MemberAt image x.course.walk n (k / POINTERS) a → IsGoneOn image x.course part a i g o
-      → HasReachedData image g n b exts (k + 1) a
-  data_gone {part} {g} {o} {a} {i} e at gone = go o (subst (λ z. IsGoneOn image x.course z a i g o) e gone)
-    where
-      here : (w : Walk) → MemberAt image w n (k / POINTERS) a → (m : ℕ) → k + 1 ≡ suc m → MemberAt image w n (m / POINTERS) a
-      here w h m same = let e : k ≡ m = omega arith in subst (λ k. MemberAt image w n (k / POINTERS) a) e h
-
-      go : (o : Option ℕ) → IsGoneOn image x.course (DataPart n (k + 1)) a i g o → HasReachedData image g n b exts (k + 1) a
-      go None gone = record { course = _; holds = gone.holds; file = x.file; count = x.count; member = here x.course.walk at }
       go (Some c) gone = record {
         course = _;
         holds = gone.holds;
-        file = typed_up (Data n (k + 1), word_in image a i) x.file;
-        count = x.count;
-        member = here ((Data n (k + 1), word_in image a i) ∷ x.course.walk)
-            (member_up image x.course.walk (Data n (k + 1), word_in image a i) n (k / POINTERS) a at);
+        table = record {
+          course = gone.holds.course;
+          stands = gone.holds.stands;
+          file = typed_up (Data x.node (k + 1), word_in image a i) y.table.file;
+          count = y.table.count;
+          room = y.table.room;
+        };
+        member = member_up image y.course.walk (Data x.node (k + 1), word_in image a i) x.node m a y.member;
       }
-
-  -- behind the last data block comes the next node
-  pub datas_done : ((j : ℕ) → j < data_count image b → j < POINTERS * (exts + 1) → j < k) → HasReached image f (before_node (n + 1))
-  datas_done all = rw add-one (x.course, moved x.holds (omega arith) (end_datas image v n k b x.file asked x.holds.up_to))
-    where
-      few : (j m a : ℕ) → j / POINTERS ≡ m → MemberAt image x.course.walk n m a → j < POINTERS * (exts + 1)
-      few j zero a e member = omega arith
-      few j (suc m) a e member = let count = x.count in let y = ext_below image v n m a member in omega arith
-
-      asked : (j a i : ℕ) → Asks image x.course.walk (Data n (suc j)) a i → j < k
-      asked j a i h =
-          let y : h.0.0 ≡ b = file_one image v n h.0.0 b h.0.1 x.file in
-          all j (subst (λ h. j < data_count image h) y h.0.2) (few j (j / POINTERS) a refl h.1)

@@ -34,6 +34,7 @@ pub mod CourseSteps
 pub mod Judgements
 -- the positions of a course, in turn
 pub mod CoursePlaces
+pub mod DataTaking
 pub mod MapPlaces
 pub mod Begun
 pub mod BitSteps

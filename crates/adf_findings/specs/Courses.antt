@@ -1,7 +1,7 @@
 -- The state of a survey along its course.
 -- Letters: s a course, w its walk; f, g states; k a position; a, i the block and the word that point to a part;
 -- b a block; n, p nodes; y a part that is due; x a reference; j a judgement.
-use Rattle.std.specs.Prelude.{◌≡◌, ◌≤◌, ◌<◌, ◌*◌, ◌/◌, ℕ, true, false, List, ◌∷◌, Option, Some, None, IfSome}
+use Rattle.std.specs.Prelude.{◌≡◌, ◌≤◌, ◌<◌, ◌+◌, ◌*◌, ◌||◌, ℕ, true, false, nat_le, nat_lt, min, List, ◌∷◌, Option, Some, None, IfSome}
 use Rattle.std.proofs.Common.{suc}
 use Rattle.adf_blocks.specs.declared.layout.TheConstants.{POINTERS}
 use Rattle.adf_blocks.specs.Sizes.{blocks}
@@ -11,6 +11,7 @@ use Rattle.adf_volume.specs.Walk.{Role, Asks, DirAt, Enough, FileAt, MemberAt, N
 use Rattle.adf_volume.specs.Walk.Role.{Page, Head, Ext, Data}
 use Rattle.adf_volume.proofs.Roles.{renumbered}
 use Rattle.adf_findings.specs.declared.part.Part.{Part}
+use Rattle.adf_findings.specs.declared.part.Part.TheVariants.{Data as DataPart}
 use Rattle.adf_findings.specs.declared.course.Due.{Due}
 use Rattle.adf_findings.specs.declared.course.FileTable.{FileTable}
 use Rattle.adf_findings.specs.declared.course.Reference.{Reference}
@@ -142,14 +143,12 @@ pub record HasReachedExt (image : List ℕ) (f : Found) (n b m a : ℕ) : Type 0
   pub member : MemberAt image course.walk n m a
   pub count : ext_count course.walk n ≡ m
 
--- a course has reached a data block, after `done` others, of a file with header b and this many extension blocks;
--- block a of the table points to the last of the others
-pub record HasReachedData (image : List ℕ) (f : Found) (n b exts done a : ℕ) : Type 0 where
+-- a course has reached the data blocks of a file with header b and this many extension blocks
+pub record HasReachedData (image : List ℕ) (f : Found) (n b exts : ℕ) : Type 0 where
   pub course : Course
-  pub holds : Holds image f (position_of (Data n (suc done))) course
+  pub holds : Holds image f (position_of (Data n 1)) course
   pub file : FileAt image course.walk n b
   pub count : ext_count course.walk n ≡ exts
-  pub member : (m : ℕ) → done ≡ suc m → MemberAt image course.walk n (m / POINTERS) a
 
 -- in a course, x is the table of a file
 pub record HasTable (image : List ℕ) (f : Found) (s : Course) (x : FileTable) : Type 0 where
@@ -158,3 +157,26 @@ pub record HasTable (image : List ℕ) (f : Found) (s : Course) (x : FileTable) 
   pub file : FileAt image s.walk x.node x.head
   pub count : x.count ≡ data_count image x.head
   pub room : x.room ≡ POINTERS * suc (ext_count s.walk x.node)
+
+-- how many data blocks the first m blocks of a table point to
+abbrev pub end_in : FileTable → ℕ → ℕ
+end_in x m = min (min x.count x.room) (POINTERS * m)
+
+-- data block k + 1 of a file, with the block that comes next
+abbrev pub due_in : FileTable → ℕ → ℕ → Due
+due_in x k next = record {
+  part = DataPart x.node (k + 1);
+  context = record { up = x.head; next = next };
+  is_enough = nat_lt 0 k || nat_le x.count x.room;
+}
+
+-- a course has reached a data block, after `done` others, of a file with this table
+abbrev pub HasReachedTable : List ℕ → Found → FileTable → ℕ → Type 0
+HasReachedTable image f x done = (s : Course) × Holds image f (position_of (Data x.node (suc done))) s × HasTable image f s x
+
+-- and block a, of number m in the table, is one of the table
+pub record HasReachedNamed (image : List ℕ) (f : Found) (x : FileTable) (m a done : ℕ) : Type 0 where
+  pub course : Course
+  pub holds : Holds image f (position_of (Data x.node (suc done))) course
+  pub table : HasTable image f course x
+  pub member : MemberAt image course.walk x.node m a

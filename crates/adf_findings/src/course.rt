@@ -1,19 +1,20 @@
 // The course of a survey: the pages of the bitmap, then the nodes in order; for a directory its chains, for a file its
 // extension blocks, then its data blocks.
 
-ghost use Rattle.std.specs.Prelude.{◌≡◌, ◌<◌, ◌≤◌, ◌+◌, ◌/◌, ◌%◌, ◌==◌, ◌^◌, IfOk, IfSome, OnOk, Some, cond, length, nat_lt};
-ghost use Rattle.adf_names.specs.declared.kind.Kind.TheVariants.{Ofs};
+ghost use Rattle.std.specs.Prelude.{◌≡◌, ◌<◌, ◌≤◌, ◌+◌, ◌*◌, ◌/◌, ◌%◌, ◌==◌, ◌^◌, IfOk, IfSome, OnOk, Some, cond, length, nat_le, nat_lt};
+ghost use Rattle.std.specs.Prelude.{◌||◌, ◌&&◌, false, not, slice_index_or};
+ghost use Rattle.adf_names.specs.declared.kind.Kind.TheVariants.{Ffs};
 ghost use Rattle.adf_blocks.specs.declared.layout.TheConstants.{POINTERS, SLOTS};
 ghost use Rattle.adf_blocks.specs.Sizes.{blocks, pages_needed};
 ghost use Rattle.adf_volume.specs.Image.{kind_of, root_of, table_word, word_in};
 ghost use Rattle.adf_volume.specs.Positions.{before_node, position_of, word_of_map_ext, word_of_page};
-ghost use Rattle.adf_volume.specs.Walk.{MemberAt};
 ghost use Rattle.adf_findings.specs.Survey.{Course};
+ghost use Rattle.adf_findings.specs.Forms.{in_range};
 ghost use Rattle.adf_findings.specs.Parts.{role_of};
 ghost use Rattle.adf_findings.specs.Found.{IsFinished, member_in};
 ghost use Rattle.adf_findings.specs.Courses.{HasReached, HasReachedData, HasReachedFile, HasReachedPage, HasReachedPart};
 ghost use Rattle.adf_findings.specs.Courses.{HasReachedSlot, Holds, IsGoneOn, IsJudged, IsNamed, IsNextReference};
-ghost use Rattle.adf_findings.specs.Courses.{HasTable, IsOutcome, IsPageNamed, IsTrueIn, KeepsNameBy, due_below};
+ghost use Rattle.adf_findings.specs.Courses.{HasReachedTable, IsOutcome, IsPageNamed, KeepsNameBy, due_below, due_in, end_in};
 
 use crate::forms::Context;
 use crate::found::Found;
@@ -268,12 +269,15 @@ fn go_through_chain(
 }
 
 // Visits the chains of the directory at block `b`.
+#[tactic(auto, using(crate::proofs::CoursePlaces::slot_empty))]
 fn go_through_dir(image: &Image<'_>, found: &mut Found, node: u32, b: u32) -> Result<(), NoMemory>
     requires { HasReachedSlot image.now found.old node 0 b }
     ensures { OnOk result (HasReached image.now found.new (before_node (node + 1))) }
 {
     for slot in 0..SLOTS as u8 {
-        go_through_chain(image, found, node, slot, b)?;
+        if image.word(b, FIRST_SLOT + slot as usize) != 0 {
+            go_through_chain(image, found, node, slot, b)?;
+        }
     }
     Ok(())
 }
@@ -281,7 +285,7 @@ fn go_through_dir(image: &Image<'_>, found: &mut Found, node: u32, b: u32) -> Re
 // Visits the extension blocks of a file, with its header at block `b`; returns how many are taken.
 fn go_through_exts(image: &Image<'_>, found: &mut Found, node: u32, b: u32) -> Result<u32, NoMemory>
     requires { HasReachedFile image.now found.old node b }
-    ensures datas { IfOk result (λ exts. HasReachedData image.now found.new node b exts 0 b) }
+    ensures datas { IfOk result (λ exts. HasReachedData image.now found.new node b exts) }
     ensures few { IfOk result (λ exts. exts ≤ 1048576) }
 {
     let mut holder = b;
@@ -309,33 +313,145 @@ fn table_block(found: &Found, node: u32, k: u32, before: u32) -> u32
     }
 }
 
-// The pointer to data block `k + 1` of a file, which OFS data block `k` holds, and 0 past the last; `before` points to
-// data block `k`.
+// The pointer to data block `k + 1` of a file, and 0 past the last; `before` points to data block `k`.
 fn next_data(image: &Image<'_>, found: &Found, table: &FileTable, k: u32, before: u32) -> u32
-    ensures { kind_of image.now ≡ Ofs → result ≡ cond (nat_lt k table.now.count) (word_in image.now
+    ensures { result ≡ cond (nat_lt k table.now.count) (word_in image.now
         (cond (k % POINTERS == 0) (member_in found.now table.now.node (k / POINTERS)) before) (table_word k)) 0 }
 {
-    if image.kind() == Kind::Ffs || k >= table.count {
+    if k >= table.count {
         return 0;
     }
     let holder = table_block(found, table.node, k, before);
     image.word(holder, FIRST_POINTER - k as usize % POINTERS)
 }
 
-// Data block `k + 1` of a file, which block `holder` of its table points to.
-fn data_due(image: &Image<'_>, found: &Found, table: &FileTable, k: u32, holder: u32) -> Due
-    requires inside { k < table.now.count }
-    ensures part { result.part ≡ Part.Data table.now.node (k + 1) }
-    ensures said { (s : Course) → HasTable image.now found.now s table.now
-        → MemberAt image.now s.walk table.now.node (k / POINTERS) holder → IsTrueIn image.now s.walk result }
+// Data block `k + 1` of a file, with the block that comes next.
+fn data_due(table: &FileTable, k: u32, next: u32) -> Due
+    requires { k < table.now.count }
+    ensures { result ≡ due_in table.now k next }
 {
     Due {
         part: Part::Data(table.node, k + 1),
         context: Context {
             up: table.head,
-            next: next_data(image, found, table, k + 1, holder),
+            next,
         },
         is_enough: k > 0 || table.count <= table.room,
+    }
+}
+
+// How many data blocks of a file are visited with block `m` of its table.
+fn table_end(table: &FileTable, m: u32) -> u32
+    requires { m ≤ 1048576 }
+    ensures { result ≡ end_in table.now (m + 1) }
+{
+    table.count.min(table.room).min(POINTERS as u32 * (m + 1))
+}
+
+// Whether block `b` is data block `k + 1` of an FFS file without a cause.
+#[inline(always)]
+fn is_ffs_data(image: &Image<'_>, found: &Found, table: &FileTable, k: u32, b: u32) -> bool
+    ensures { result ≡ ((nat_lt 0 k || nat_le table.now.count table.now.room)
+        && (in_range image.now b && not (slice_index_or found.now.owned.items b false))) }
+{
+    (k > 0 || table.count <= table.room) && b >= 2 && b < image.blocks() && found.is_absent(b)
+}
+
+// Judges data block `k + 1` of an FFS file, which block `holder` points to, and takes it or not.
+#[inline(never)]
+fn go_on_ffs(
+    image: &Image<'_>,
+    found: &mut Found,
+    table: &FileTable,
+    k: u32,
+    holder: u32,
+) -> Result<Option<u32>, NoMemory>
+    requires inside { k < table.now.count }
+    requires due { HasReachedPart image.now found.old (due_in table.now k 0) holder (table_word k) }
+    ensures { IfOk result (λ o. (s : Course)
+        → IsNamed image.now found.old (due_in table.now k 0) holder (table_word k) s
+        → IsGoneOn image.now s (Part.Data table.now.node (k + 1)) holder (table_word k) found.new o) }
+{
+    let due = data_due(table, k, 0);
+    let gone = go_on(
+        image,
+        found,
+        due,
+        holder,
+        FIRST_POINTER - k as usize % POINTERS,
+    )?;
+    Ok(gone)
+}
+
+// Visits the data blocks of an FFS file that block `m` of its table points to.
+fn go_through_ffs_table(
+    image: &Image<'_>,
+    found: &mut Found,
+    table: &FileTable,
+    m: u32,
+) -> Result<(), NoMemory>
+    requires kind { kind_of image.now ≡ Ffs }
+    requires few { m ≤ 1048576 }
+    requires some { POINTERS * m < end_in table.now (m + 1) }
+    requires at { HasReachedTable image.now found.old table.now (POINTERS * m) }
+    ensures { OnOk result (HasReachedTable image.now found.new table.now (end_in table.now (m + 1))) }
+{
+    let holder = found.member_block(table.node, m);
+    let first = POINTERS as u32 * m;
+    for k in first..table_end(table, m) {
+        let b = image.word(holder, FIRST_POINTER - (k - first) as usize);
+        if is_ffs_data(image, found, table, k, b) {
+            found.take(Part::Data(table.node, k + 1), b)?;
+        } else {
+            go_on_ffs(image, found, table, k, holder)?;
+        }
+    }
+    Ok(())
+}
+
+// Visits the data blocks of an OFS file that block `m` of its table points to.
+fn go_through_ofs_table(
+    image: &Image<'_>,
+    found: &mut Found,
+    table: &FileTable,
+    m: u32,
+) -> Result<(), NoMemory>
+    requires few { m ≤ 1048576 }
+    requires some { POINTERS * m < end_in table.now (m + 1) }
+    requires at { HasReachedTable image.now found.old table.now (POINTERS * m) }
+    ensures { OnOk result (HasReachedTable image.now found.new table.now (end_in table.now (m + 1))) }
+{
+    let holder = found.member_block(table.node, m);
+    let first = POINTERS as u32 * m;
+    for k in first..table_end(table, m) {
+        let next = next_data(image, found, table, k + 1, holder);
+        let due = data_due(table, k, next);
+        go_on(
+            image,
+            found,
+            due,
+            holder,
+            FIRST_POINTER - (k - first) as usize,
+        )?;
+    }
+    Ok(())
+}
+
+// Visits the data blocks of a file that block `m` of its table points to.
+fn go_through_table(
+    image: &Image<'_>,
+    found: &mut Found,
+    table: &FileTable,
+    m: u32,
+) -> Result<(), NoMemory>
+    requires few { m ≤ 1048576 }
+    requires some { POINTERS * m < end_in table.now (m + 1) }
+    requires at { HasReachedTable image.now found.old table.now (POINTERS * m) }
+    ensures { OnOk result (HasReachedTable image.now found.new table.now (end_in table.now (m + 1))) }
+{
+    match image.kind() {
+        Kind::Ffs => go_through_ffs_table(image, found, table, m),
+        Kind::Ofs => go_through_ofs_table(image, found, table, m),
     }
 }
 
@@ -348,7 +464,7 @@ fn go_through_datas(
     exts: u32,
 ) -> Result<(), NoMemory>
     requires few { exts ≤ 1048576 }
-    requires at { HasReachedData image.now found.old node b exts 0 b }
+    requires at { HasReachedData image.now found.old node b exts }
     ensures { OnOk result (HasReached image.now found.new (before_node (node + 1))) }
 {
     let table = FileTable {
@@ -357,17 +473,9 @@ fn go_through_datas(
         count: image.data_count(b),
         room: POINTERS as u32 * (exts + 1),
     };
-    let mut holder = b;
-    for k in 0..table.count.min(table.room) {
-        holder = table_block(found, node, k, holder);
-        let due = data_due(image, found, &table, k, holder);
-        go_on(
-            image,
-            found,
-            due,
-            holder,
-            FIRST_POINTER - k as usize % POINTERS,
-        )?;
+    let end = table.count.min(table.room);
+    for m in 0..end.div_ceil(POINTERS as u32) {
+        go_through_table(image, found, &table, m)?;
     }
     Ok(())
 }

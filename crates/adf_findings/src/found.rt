@@ -288,6 +288,7 @@ impl Found {
     }
 
     /// Reports a finding.
+    #[inline(never)]
     pub fn report(&mut self, finding: Finding) -> Result<(), NoMemory>
         ensures { OnOk result (IsReported finding self.old self.new) }
     {

@@ -13,7 +13,7 @@ use crate::image::Image;
 use crate::part::{Finding, Part};
 use crate::survey_result::number_at;
 use adf_base::NoMemory;
-use adf_blocks::Cause;
+use adf_blocks::{Cause, T_DATA, TYPE};
 use adf_tree::Kind;
 use std::alloc::Global;
 
@@ -68,12 +68,15 @@ fn blamed(found: &Found, part: Option<Part>) -> Option<Concern>
 fn doubted(image: &Image<'_>, found: &Found, b: u32) -> Option<u32>
     ensures { result ≡ doubted image.now found.now b }
 {
+    let is_avoided = found.avoided.get(b as usize).copied().unwrap_or(false);
+    if !is_avoided && image.word(b, TYPE) != T_DATA {
+        return None;
+    }
     let number = number_at(&found.numbers, b as usize);
     if number == 0 {
         return None;
     }
     let node = number_at(&found.owners, b as usize);
-    let is_avoided = found.avoided.get(b as usize).copied().unwrap_or(false);
     if is_avoided || image.says_data_of(found.node_block(node), number, b) {
         Some(node)
     } else {

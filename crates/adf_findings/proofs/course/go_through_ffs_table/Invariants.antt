@@ -1,0 +1,5 @@
+use Rattle.adf_findings.specs.Courses.{HasReachedNamed}
+use Rattle.adf_findings.proofs.course.go_through_ffs_table.Given as goal
+
+abbrev pub invariant-loop-k : goal.invariant-loop-k
+invariant-loop-k l = HasReachedNamed l.image l.found l.table l.m l.holder l.k
