@@ -121,9 +121,21 @@ static void use_boot(const uint8_t *data, size_t size, uint8_t cause) {
     end_room(image);
 }
 
+/* The first fault of an image, once it has the type that its files say. */
+static uint8_t typed_fault(const uint8_t *data, size_t size, struct adf_verdict *verdict) {
+    struct room image = new_room(size);
+    struct adf_subject subject = {0};
+    must(adf_survey_subject(data, size, 0, image.at, size, &subject) == ADF_ACCEPTED);
+    uint8_t cause = adf_check(subject.is_retyped ? image.at : data, size, verdict);
+    end_room(image);
+    return cause;
+}
+
 /* A rescue in rooms that may be too small is a volume that is accepted, without losses if the image is; or the rooms are unchanged, and
- * the number is that of the verdict, or of a small room. */
-static void use_rescue(const uint8_t *data, size_t size, uint8_t cause, const struct adf_verdict *verdict, size_t lacking) {
+ * the number is that of the first fault, or of a small room. */
+static void use_rescue(const uint8_t *data, size_t size, size_t lacking) {
+    struct adf_verdict typed = {0};
+    uint8_t cause = typed_fault(data, size, &typed);
     struct room volume = new_room(size < lacking ? 0 : size - lacking), losses = new_room(lacking * sizeof(struct adf_loss));
     struct room paths = new_room(PATH * lacking);
     struct adf_rescue_told told = {0};
@@ -136,11 +148,36 @@ static void use_rescue(const uint8_t *data, size_t size, uint8_t cause, const st
     } else {
         must(is_marked(volume.at, volume.size) && is_marked(losses.at, losses.size) && is_marked(paths.at, paths.size));
         must(number == ADF_RESCUE_SMALL_ROOM ? lacking != 0 && (size_t)BLOCK * told.blocks == size
-                                             : number == cause && told.block == verdict->block);
+                                             : number == cause && told.block == typed.block);
     }
     end_room(volume);
     end_room(losses);
     end_room(paths);
+}
+
+/* What adf-survey surveys of an image, in a room that may be too small: the image but for its first four bytes, with a finding if and
+ * only if the command tells of one, and look-ups of any text in it; or the room is unchanged. */
+static void use_subject(const uint8_t *data, size_t size, size_t lacking) {
+    struct room image = new_room(size < lacking ? 0 : size - lacking);
+    struct adf_subject subject = {0};
+    uint8_t number = adf_survey_subject(data, size, 0, image.at, image.size, &subject);
+    must(subject.length == size && number == (image.size < size ? ADF_SUBJECT_SMALL_ROOM : ADF_ACCEPTED));
+    if (number == ADF_ACCEPTED) {
+        struct adf_finding finding;
+        struct adf_found found;
+        struct adf_surveyed surveyed = {0};
+        must(adf_survey_index(image.at, size, &finding, 1, &found, 1, &surveyed) == ADF_ACCEPTED);
+        bool is_clean = surveyed.findings == 0 && !subject.is_begun && !subject.is_retyped;
+        must((RUN(true, "adf-survey", size) == 0) == is_clean);
+        size_t same = subject.is_begun || subject.is_retyped ? 4 : 0;
+        must(memcmp(image.at + same, data + same, size - same) == 0);
+        size_t node = surveyed.entries + 1, length = size < PATH ? size : PATH;
+        uint8_t answer = adf_survey_find(image.at, size, data + size - length, length, &node);
+        must(answer == 0 ? node <= surveyed.entries : answer <= 2 && node == surveyed.entries + 1);
+    } else {
+        must(is_marked(image.at, image.size));
+    }
+    end_room(image);
 }
 
 int LLVMFuzzerTestOneInput(const uint8_t *data, size_t size) {
@@ -170,12 +207,14 @@ int LLVMFuzzerTestOneInput(const uint8_t *data, size_t size) {
     end_room(blocks);
     end_room(entries);
     use_boot(data, size, cause);
-    use_rescue(data, size, cause, &verdict, 0);
-    use_rescue(data, size, cause, &verdict, 1);
+    use_rescue(data, size, 0);
+    use_rescue(data, size, 1);
+    use_subject(data, size, 0);
+    use_subject(data, size, 1);
 
     must(RUN(false, "adf\0check", 80) == (cause != ADF_ACCEPTED));
     uint8_t status = RUN(true, "adf-survey", 100 * size + 80);
-    must(status == (cause != ADF_ACCEPTED) || status == 3);
+    must(status == 1 || status == 3 || cause == ADF_ACCEPTED);
     RUN(true, "adf-survey\0--list", size);
     RUN(true, "adf-survey\0cat\0c/readme", size);
     RUN(false, "adf\0list", size);

@@ -128,7 +128,6 @@ _CALLS = {
     "adf_disk_index": (_BYTE, _POINTER, _SIZE, ctypes.c_uint64, _POINTER, _SIZE, _POINTER),
     "adf_disk_cause_text": (_SIZE, _BYTE, _POINTER, _SIZE),
     "adf_partition_fault_text": (_SIZE, _BYTE, _POINTER, _SIZE),
-    "adf_survey_run": (_BYTE, *(_POINTER, _SIZE) * 4, _POINTER),
     "adf_build": (_BYTE, *(_POINTER,) * 2, _SIZE, *(_POINTER, _SIZE) * 2, _POINTER),
     "adf_need": (_BYTE, *(_POINTER,) * 2, _SIZE, _POINTER, _SIZE, _POINTER),
     "adf_boot": (_BYTE, _POINTER, _SIZE, _POINTER),
@@ -327,19 +326,20 @@ class Answer(NamedTuple):
     errors: bytes
 
 
-def _run(call: Any, program: str, words: Iterable[str], given: Image, expected: int = 0) -> Answer:
-    """Runs a program of the library with these words over the input; so many bytes of output are expected."""
-    all_words, given = (program, *words), _bytes(given)
+def run(words: Iterable[str], given: Image = b"") -> Answer:
+    """Runs the command `adf` with these words over the input. An output of more than 4 GiB is cut there, with status 3 and
+    `write fault` on errors."""
+    all_words, given = ("adf", *words), _bytes(given)
     if isinstance(words, (str, bytes)) or not all(isinstance(word, str) for word in all_words):
         raise TypeError('words are a list of str, as ["cat", "c/list"]')
     line = b"".join(word.encode() + b"\0" for word in all_words)
     if line.count(b"\0") != len(all_words):
         raise ValueError("a word has a zero byte")
-    moved, most_output, most_errors = _Moved(), max(len(given), expected) + FIRST_OUTPUT, FIRST_ERRORS
+    moved, most_output, most_errors = _Moved(), len(given) + FIRST_OUTPUT, FIRST_ERRORS
     while True:
         output, errors = ctypes.create_string_buffer(most_output), ctypes.create_string_buffer(most_errors)
         rooms = (output, most_output, errors, most_errors, ctypes.byref(moved))
-        status = call(line, len(line), given, len(given), *rooms)
+        status = _calls().adf_run(line, len(line), given, len(given), *rooms)
         more_output = moved.output_full and most_output < MOST_OUTPUT
         more_errors = moved.errors_full and most_errors < MOST_OUTPUT
         if not more_output and not more_errors:
@@ -348,12 +348,6 @@ def _run(call: Any, program: str, words: Iterable[str], given: Image, expected: 
             most_output = min(4 * most_output, MOST_OUTPUT)
         if more_errors:
             most_errors = min(4 * most_errors, MOST_OUTPUT)
-
-
-def run(words: Iterable[str], given: Image = b"") -> Answer:
-    """Runs the command `adf` with these words over the input. An output of more than 4 GiB is cut there, with status 3 and
-    `write fault` on errors."""
-    return _run(_calls().adf_run, "adf", words, given)
 
 
 def survey(image: Image, blocks: int | None = None) -> Survey:
