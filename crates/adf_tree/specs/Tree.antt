@@ -161,8 +161,8 @@ abbrev pub with_last_entry : TreeEntries → Entry → TreeEntries
 with_last_entry t e = record t { entries = t.entries ++ e ∷ [] }
 
 -- entries with one more, added under a path
-abbrev pub with_new : TreeEntries → List (List ℕ) → Meta → Body → TreeEntries
-with_new t path meta body = record t { entries = added_by t.letters t.entries (new_entry_by t.letters t.entries path meta body) }
+abbrev pub with_added : TreeEntries → List (List ℕ) → Meta → Body → TreeEntries
+with_added t path meta body = record t { entries = added_by t.letters t.entries (new_entry_by t.letters t.entries path meta body) }
 
 -- a tree with this kind
 abbrev pub with_kind : Tree → Kind → Tree

@@ -3,7 +3,7 @@
 ghost use Rattle.std.specs.Prelude.{◌≡◌, [], length, is_ok, if◌then◌else◌, IfOk, OnOk};
 ghost use Rattle.std.specs.Option.{option_copied};
 ghost use Rattle.std.specs.List.{All};
-ghost use Rattle.adf_tree.specs.Tree.{entry, find_by, new_entry_by, room_for_by, with_new, with_last_entry, IsAnswer, IsLastBy, IsTreeBy, MayAddBy};
+ghost use Rattle.adf_tree.specs.Tree.{entry, find_by, new_entry_by, room_for_by, with_added, with_last_entry, IsAnswer, IsLastBy, IsTreeBy, MayAddBy};
 ghost use Rattle.adf_tree.specs.Bounds.{IsBoundedEntry};
 ghost use Rattle.adf_tree.specs.Paths.{AddsOneBy};
 
@@ -97,7 +97,7 @@ impl TreeEntries {
             (AddsOneBy self.old.letters self.old.entries self.new.entries
             (new_entry_by self.old.letters self.old.entries path.now meta body) path.now) }
         ensures entries { self.new
-            ≡ if is_ok result then with_new self.old path.now meta body else self.old }
+            ≡ if is_ok result then with_added self.old path.now meta body else self.old }
     {
         if path.is_empty() {
             return Err(AddFault::EmptyPath);
