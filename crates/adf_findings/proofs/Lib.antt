@@ -25,6 +25,7 @@ pub mod JudgementTests
 pub mod Names
 -- the form of a header by the letters of a volume
 pub mod HeadSlots
+pub mod WalkOwners
 pub mod Taking
 pub mod Keys
 pub mod Known
