@@ -2,7 +2,6 @@
 pub mod Store
 pub mod StoreStands
 pub mod Volumes
-pub mod Owners
 pub mod Pieces
 -- The states of the checker: its position, what is read up to it, and its steps.
 pub mod Reading

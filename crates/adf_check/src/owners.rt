@@ -1,7 +1,7 @@
 // The owners of the blocks of a volume.
 
 ghost use Rattle.std.specs.Prelude.{◌≡◌, ◌≢◌, ◌≤◌, ◌<◌, ◌+◌, ◌-◌, ◌∷◌, ◌++◌, ◌↔◌, [], length, replicate, true, false, IsOk, IfOk, IfErr, OnOk, OnErr, slice_set};
-ghost use Rattle.adf_check.specs.Owners.{is_part, owned_count, owner_at};
+ghost use Rattle.adf_walk.specs.Owners.{is_part, owned_count, owner_at};
 
 use adf_base::NoMemory;
 use adf_blocks::Cause;
@@ -19,7 +19,7 @@ pub struct Owners {
 
 impl Model for Owners {
     ghost use Rattle.std.specs.Prelude.{List};
-    ghost use Rattle.adf_check.specs.Owners.{is_part};
+    ghost use Rattle.adf_walk.specs.Owners.{is_part};
     ghost use Rattle.adf_walk.specs.OwnerTable.{IsTable};
     ghost use Rattle.adf_volume.specs.declared.owner.Owner.{Owner};
     ghost use Rattle.adf_volume.specs.declared.owner.Owner.TheVariants.{Boot};

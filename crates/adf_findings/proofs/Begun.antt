@@ -1,10 +1,11 @@
 -- The start of a course.
-use Rattle.std.specs.Prelude.{Bool, true, false, cond, Some, None, map, slice_index, slice_index_or, replicate, ◌==◌}
-use Rattle.std.proofs.Common.{◌≡◌, ℕ, zero, suc, List, [], ◌∷◌, ◌++◌, length, set, ◌+◌, ◌<◌, ◌≤◌, refl, sym, subst, ap, ◌∙◌, arith, inl}
+use Rattle.std.specs.Prelude.{Bool, false, cond, Some, None, map, slice_index, slice_index_or, nat_lt, replicate, ◌==◌, ◌-◌}
+use Rattle.std.proofs.Common.{◌≡◌, ℕ, zero, suc, List, [], ◌∷◌, ◌++◌, length, ◌<◌, ◌≤◌, refl, sym, subst, ap, ◌∙◌, arith, inl}
 use Rattle.std.specs.Ordering.{is_eq}
 use Rattle.std.specs.Global.{Vec}
 use Rattle.std.specs.Map.{lookup}
 use Rattle.std.specs.BTreeMap.{BTreeMap, IsEmpty, is_at}
+use Rattle.std.proofs.lemmas.Bool.{le-ltb}
 use Rattle.std.proofs.lemmas.Bool.Decides.{eqb_tells}
 use Rattle.std.proofs.lemmas.List.{length-replicate}
 use Rattle.std.proofs.lemmas.Grind.{common_steps}
@@ -20,8 +21,13 @@ use Rattle.adf_findings.specs.declared.part.Finding.{Finding}
 use Rattle.adf_findings.specs.Survey.{FindingValue, IsCourse, begun}
 use Rattle.adf_findings.specs.Parts.{by_key, key_of, finding_value}
 use Rattle.adf_findings.specs.Courses.{HasReachedPage}
-use Rattle.adf_findings.specs.Found.{AreHeld, AreNamed, AreNumbered, AreSame, IsOwned, Stands, owns, unowned}
-use Rattle.adf_findings.proofs.Taking.{held_more, marked_more, none_default, numbered_more, stands_but, unowned_less}
+use Rattle.adf_volume.specs.declared.owner.Owner.{Owner}
+use Rattle.adf_volume.specs.declared.owner.Owner.TheVariants.{Free, Boot, Root as TheRoot}
+use Rattle.adf_walk.specs.Owners.{owned_count, owner_at}
+use Rattle.adf_walk.specs.WalkOwners.{OwnersValue}
+use Rattle.adf_findings.specs.Found.{AreNamed, AreOwned, AreSame, IsNextPart, IsOwned, Stands, owner_by, unowned}
+use Rattle.adf_findings.proofs.Taking.{none_default, stands_but}
+use Rattle.adf_findings.proofs.WalkOwners.{count_more, owned_more}
 
 empty_get : {K X : Type 0} (m : BTreeMap K X) (test : K → Bool) → IsEmpty m → lookup test m.entries ≡ None
 empty_get m test e = ap (lookup test) e
@@ -34,38 +40,77 @@ one_node : (b n : ℕ) → slice_index (b ∷ []) n ≡ cond (n == 0) b 0
 one_node b zero = refl
 one_node b (suc n) = grind (arith, common_steps, eqb_tells)
 
+-- of new owners of n blocks none is that of a part
+module _ (n : ℕ) (lo : 2 ≤ n) (owners : OwnersValue) (new : owners.owners ≡ Boot ∷ Boot ∷ replicate (n - 2) Free) where
+  new_owner : (b : ℕ) → owner_at owners.owners b ≡ owner_by [] b
+  new_owner b = ap (λ os. owner_at os b) new ∙ go b
+    where
+      go : (b : ℕ) → owner_at (Boot ∷ Boot ∷ replicate (n - 2) Free) b ≡ cond (nat_lt b 2) Boot Free
+      go zero = refl
+      go (suc zero) = refl
+      go (suc (suc b)) =
+          none_default (n - 2) Free b ∙ ap (λ t. cond t Boot Free) (sym (le-ltb (suc (suc b)) 2 (omega arith)))
+
+  pub new_owned : owners.node ≡ 0 → AreOwned n owners []
+  new_owned node = record {
+    size = ap length new ∙ (let e = length-replicate {A = Owner} (n - 2) Free in omega (arith, e, lo));
+    owner = new_owner;
+    node = node;
+  }
+
+  new_count : owned_count owners.owners ≡ 0
+  new_count = ap owned_count new ∙ go (n - 2)
+    where
+      go : (k : ℕ) → owned_count (replicate k Free) ≡ 0
+      go zero = refl
+      go (suc k) = go k
+
+  new_free : (b : ℕ) → 2 ≤ b → owner_at owners.owners b ≡ Free
+  new_free b past = new_owner b ∙ ap (λ t. cond t Boot Free) (le-ltb b 2 past)
+
+-- the root may be taken first
+pub root_next : (image : List ℕ) (f : Found) (root : ℕ) → 4 ≤ blocks image → root ≡ root_of image
+    → f.owners.owners ≡ Boot ∷ Boot ∷ replicate (blocks image - 2) Free → f.owners.node ≡ 0 → f.left ≡ blocks image
+    → IsNextPart RootPart root f
+root_next image f root many is new node left =
+    let lo : 2 ≤ blocks image = omega (arith, many) in
+    let past : 2 ≤ root = omega (arith, many, is) in
+    let size = (new_owned (blocks image) lo f.owners new node).size in
+    record {
+      from = past;
+      below = omega (arith, many, is, size);
+      free = new_free (blocks image) lo f.owners new root past;
+      number = tt;
+      order = omega arith;
+      some = omega (arith, left, many);
+    }
+
 -- nothing is found but the root
-pub stands_begun : (image : List ℕ) (f g h : Found) → IsEmpty f.taken → f.owned.items ≡ replicate (blocks image) false
-    → f.owners.items ≡ replicate (blocks image) 0 → f.numbers.items ≡ replicate (blocks image) 0 → f.avoided.items ≡ []
+pub stands_begun : (image : List ℕ) (f g h : Found) → 4 ≤ blocks image → IsEmpty f.taken
+    → f.owners.owners ≡ Boot ∷ Boot ∷ replicate (blocks image - 2) Free → f.owners.node ≡ 0 → f.avoided.items ≡ []
     → f.left ≡ blocks image → f.nodes.items ≡ [] → f.findings.items ≡ [] → f.parents.items ≡ 0 ∷ [] → f.places.items ≡ []
     → IsOwned RootPart (root_of image) f g → AreSame f g → h ≡ record g { nodes = h.nodes }
     → h.nodes.items ≡ g.nodes.items ++ root_of image ∷ [] → root_of image < blocks image → Stands image h (begun image [])
-stands_begun image f g h taken owned owners numbers avoided left nodes findings parents places o e same pushed lt =
+stands_begun image f g h many taken new node avoided left nodes findings parents places o e same pushed lt =
     let n : ℕ = blocks image in
     let root : ℕ = root_of image in
+    let lo : 2 ≤ n = omega (arith, many) in
     let items : h.nodes.items ≡ root ∷ [] = pushed ∙ ap (λ xs. xs ++ root ∷ []) (ap (λ v. v.items) e.nodes ∙ nodes) in
-    let marks : g.owned.items ≡ set (replicate n false) root true = o.owned ∙ ap (λ xs. set xs root true) owned in
-    let held : g.owners.items ≡ set (replicate n 0) root 0 = o.owners ∙ ap (λ xs. set xs root 0) owners in
-    let numbered : g.numbers.items ≡ set (replicate n 0) root 0 = o.numbers ∙ ap (λ xs. set xs root 0) numbers in
-    let free : g.avoided.items ≡ [] = ap (λ v. v.items) o.avoided ∙ avoided in
-    let one : g.left + 1 ≡ n = o.left ∙ left in
-    let long : length {A = Bool} (replicate n false) ≡ n = length-replicate n false in
-    let less = unowned_less (replicate n false) root (omega arith) (none_default n false root) in
-    let all = all_free n in
+    let owned = new_owned n lo f.owners new node in
+    let none = new_count n lo f.owners new in
+    let free = new_free n lo f.owners new root (omega (arith, many)) in
+    let count = count_more f.owners.owners root TheRoot (omega (arith, lt, owned.size)) refl free in
+    let more = ap owned_count o.owners in
+    let marks : g.avoided.items ≡ [] = ap (λ v. v.items) o.avoided ∙ avoided in
     subst (λ h. Stands image h (begun image [])) (sym same) (record {
       taken = (λ r x. o.taken.0 (key_of r)
           ∙ ap (λ c. cond (is_eq (by_key (key_of Root) (key_of r))) (Some root) c) (empty_get f.taken (is_at (by_key (key_of r))) taken));
-      owned = subst (λ xs. (length xs ≡ n) × ((b : ℕ) → b < n → slice_index_or xs b false ≡ owns ((Root, root) ∷ []) b)) (sym marks)
-          (marked_more n (replicate n false) [] Root root (length-replicate n false, (λ b l. none_default n false b)));
-      owners = subst (λ xs. AreHeld n xs ((Root, root) ∷ [])) (sym held)
-          (held_more n (replicate n 0) [] Root root lt (length-replicate n 0, (λ b. none_default n 0 b)));
-      numbers = subst (λ xs. AreNumbered n xs ((Root, root) ∷ [])) (sym numbered)
-          (numbered_more n (replicate n 0) [] Root root lt (length-replicate n 0, (λ b. none_default n 0 b)));
-      avoided = record { size = inl free; marked = (λ b l. ap (λ xs. slice_index_or xs b false) free) };
-      left = (let z : g.left ≡ unowned (set (replicate n false) root true) = omega arith in z ∙ ap unowned (sym marks));
+      owners = owned_more n f.owners g.owners [] Root root lt o.owners o.node owned;
+      avoided = record { size = inl marks; marked = (λ b l. ap (λ xs. slice_index_or xs b false) marks) };
+      left = omega (arith, none, count, more, o.left, left);
       node = (λ m. ap (λ xs. slice_index xs m) items ∙ one_node root m);
       count = ap length items;
-      few = (let l : length h.nodes.items ≡ 1 = ap length items in omega arith);
+      few = (let l : length h.nodes.items ≡ 1 = ap length items in omega (arith, l, o.left, left));
       findings = ap (λ v. map finding_value v.items) o.findings ∙ ap (map finding_value) findings;
       parent = (λ m. ap (λ v. slice_index v.items m) e.parents ∙ (ap (λ xs. slice_index xs m) parents ∙ none_default 1 0 m));
       parents = ap (λ v. length v.items) e.parents ∙ ap length parents;

@@ -21,7 +21,8 @@ use Rattle.adf_findings.specs.declared.part.Finding.{Finding}
 use Rattle.adf_findings.specs.Forms.{Tells}
 use Rattle.adf_findings.specs.Parts.{by_key, key_of}
 use Rattle.adf_findings.specs.Bits.{IsBitCompared, IsPageCompared}
-use Rattle.adf_findings.specs.Found.{BitTells, IsCompleted, IsFinished, IsReported, HasReportedOn, TellsOn, Stands, at_key, bit_cause, owns}
+use Rattle.adf_findings.specs.Found.{BitTells, IsCompleted, IsFinished, IsReported, HasReportedOn, TellsOn, Stands, at_key, bit_cause, is_owned, owns}
+use Rattle.adf_findings.proofs.WalkOwners.{owned_is}
 use Rattle.adf_findings.proofs.Keys.{lacks_at, one_key, same_of_key}
 use Rattle.adf_findings.proofs.Known.{tells_absent}
 use Rattle.adf_findings.proofs.Taking.{stands_reported}
@@ -87,8 +88,8 @@ module _ (image : List ℕ) (f : Found) (s : Course) (v : IsCourse image s) (fs 
 
   -- so it does by what is kept of the block
   pub bit_tells : (t : Bool) → b < blocks image → IsBitCompared image f.taken b t
-      → BitTells image s b (bit_cause (slice_index_or f.owned.items b false) (slice_index_or f.avoided.items b false || is_cache image b) t)
-  bit_tells t lt x = page_tells _ _ _ t x.0 (st.owned.1 b lt) (st.avoided.marked b lt) refl x.1 x.2
+      → BitTells image s b (bit_cause (is_owned f b) (slice_index_or f.avoided.items b false || is_cache image b) t)
+  bit_tells t lt x = page_tells _ _ _ t x.0 (owned_is st.owners b) (st.avoided.marked b lt) refl x.1 x.2
 
   quiet : (o x t : Bool) → t ≡ not o → bit_cause o x t ≡ None
   quiet true x true e = cc
@@ -98,10 +99,10 @@ module _ (image : List ℕ) (f : Found) (s : Course) (v : IsCourse image s) (fs 
   quiet false x false e = cc
 
   -- nothing where it is set for a block without an owner alone
-  pub agreed_tells : (t : Bool) → b < blocks image → IsBitCompared image f.taken b t → t ≡ not (slice_index_or f.owned.items b false)
+  pub agreed_tells : (t : Bool) → b < blocks image → IsBitCompared image f.taken b t → t ≡ not (is_owned f b)
       → BitTells image s b None
   agreed_tells t lt x e =
-      subst (BitTells image s b) (quiet (slice_index_or f.owned.items b false) (slice_index_or f.avoided.items b false || is_cache image b) t e)
+      subst (BitTells image s b) (quiet (is_owned f b) (slice_index_or f.avoided.items b false || is_cache image b) t e)
       (bit_tells t lt x)
 
 -- a bit of the same page is compared as this one
@@ -222,12 +223,12 @@ module _ (image : List ℕ) (f : Found) (i end : ℕ) (lo : 2 + 32 * i ≤ end) 
   -- none disagrees where they are set for the blocks without an owner alone
   pub all_agreed : (at word : ℕ) → word ≡ word_in image at (PAGE_FIRST + i % PAGE_WORDS) → end ≤ blocks image
       → IsPageCompared image f.taken (2 + 32 * i) (Some at)
-      → ((b : ℕ) → 2 + 32 * i ≤ b → b < end → IsBitSet word (b - (2 + 32 * i)) ↔ (slice_index_or f.owned.items b false ≡ false))
+      → ((b : ℕ) → 2 + 32 * i ≤ b → b < end → IsBitSet word (b - (2 + 32 * i)) ↔ (is_owned f b ≡ false))
       → HasReportedOn image f end
   all_agreed at word is few page agree =
       none_to image f (2 + 32 * i) end (omega arith) lo
       (λ c from to s fs v st.
-      let o : Bool = slice_index_or f.owned.items c false in
+      let o : Bool = is_owned f c in
       agreed_tells image f s v fs st c (not o) (omega arith)
       (bit_compared image f.taken i at word is c from (omega arith) (not o) page
       (flipped o (IsBitSet word (c - (2 + 32 * i))) (agree c from to))) refl)

@@ -1,10 +1,13 @@
 -- The entries and the numbers kept for blocks are those of the parts that have them.
-use Rattle.std.specs.Prelude.{cond, ◌==◌, Some, None, map, slice_get, slice_index_or}
+use Rattle.std.specs.Prelude.{cond, ◌==◌, Some, None, map, slice_get}
 use Rattle.std.specs.Option.{option_and_then, unwrap_or}
 use Rattle.std.proofs.Common.{◌≡◌, ℕ, zero, suc, List, [], ◌∷◌, Option, ◌≤◌, inl, inr, refl, sym, ap, ◌∙◌, arith}
 use Rattle.std.proofs.lemmas.Bool.{cases_Bool}
 use Rattle.std.proofs.lemmas.Bool.Decides.{eqb_tells}
 use Rattle.std.proofs.lemmas.Grind.{common_steps}
+use Rattle.adf_volume.specs.declared.owner.Owner.{Owner}
+use Rattle.adf_walk.specs.Owners.{owner_at}
+use Rattle.adf_walk.specs.WalkOwners.{entry_of}
 use Rattle.adf_volume.specs.Walk.{Role, Asks, Has, Walk}
 use Rattle.adf_volume.specs.Walk.Role.{Head, Ext, Data}
 use Rattle.adf_volume.proofs.Gathered.{IsGathered, asked_file, number_of}
@@ -14,7 +17,7 @@ use Rattle.adf_findings.specs.declared.part.Finding.{Finding}
 use Rattle.adf_findings.specs.Concerned.{owner_of, is_taken}
 use Rattle.adf_findings.specs.Found.{data_number, entry_in, number_at, owner}
 use Rattle.adf_findings.specs.Parts.{finding_value}
-use Rattle.adf_findings.specs.SurveyResult.{owner_at, owner_for}
+use Rattle.adf_findings.specs.SurveyResult.{entry_at, owner_for}
 
 -- the number of an entry, which is not 0
 from_number : (o : Option ℕ) → ((n : ℕ) → o ≡ Some n → 1 ≤ n) → cond (unwrap_or o 0 == 0) None (Some (unwrap_or o 0)) ≡ o
@@ -44,12 +47,12 @@ module _ (image : List ℕ) where
   ]
 
   -- the entry kept for a block is the one that holds it
-  pub owner_is : {w : Walk} → IsGathered image w → (owners : List ℕ) → ((b : ℕ) → slice_index_or owners b 0 ≡ unwrap_or (owner w b) 0)
-      → (b : ℕ) → owner_at owners b ≡ owner w b
+  pub owner_is : {w : Walk} → IsGathered image w → (owners : List Owner) → ((b : ℕ) → entry_of (owner_at owners b) ≡ unwrap_or (owner w b) 0)
+      → (b : ℕ) → entry_at owners b ≡ owner w b
   owner_is {w = w} v owners h b = ap (λ n. cond (n == 0) None (Some n)) (h b) ∙ from_number (owner w b) (owner_number v b)
 
 -- of each finding that its block is taken the entry is the one that holds the block
-pub owner_nth_is : (w : Walk) (owners : List ℕ) → ((b : ℕ) → owner_at owners b ≡ owner w b) → (xs : List Finding) (k : ℕ)
+pub owner_nth_is : (w : Walk) (owners : List Owner) → ((b : ℕ) → entry_at owners b ≡ owner w b) → (xs : List Finding) (k : ℕ)
     → option_and_then (owner_for owners) (slice_get xs k) ≡ option_and_then (owner_of w) (slice_get (map finding_value xs) k)
 owner_nth_is w owners h [] k = refl
 owner_nth_is w owners h (x ∷ xs) zero = ap (λ o. cond (is_taken x.cause) o None) (h x.block)

@@ -1,13 +1,17 @@
 -- The steps of a course: the part at its position is taken or skipped, or the position advances without one.
-use Rattle.std.specs.Prelude.{Bool, false, not, ◌||◌, slice_index_or, Option, Some, None}
-use Rattle.std.proofs.Common.{◌≡◌, ℕ, suc, length, List, ◌∷◌, ◌≤◌, refl, sym, subst, ap, ◌∙◌, arith}
+use Rattle.std.specs.Prelude.{Bool, not, ◌||◌, Option, Some, None}
+use Rattle.std.proofs.lemmas.List.{length-set}
+use Rattle.std.proofs.lemmas.List.Sums.{count_by-le-length}
+use Rattle.std.proofs.Common.{◌≡◌, ℕ, zero, suc, length, List, [], ◌∷◌, ◌<◌, ◌≤◌, inl, inr, set, refl, sym, subst, ap, ◌∙◌, arith}
 use Rattle.std.proofs.lemmas.Grind.{common_steps}
 use Rattle.adf_tree.specs.NameSet.{has}
-use Rattle.adf_blocks.specs.Sizes.{blocks}
 use Rattle.adf_volume.specs.Image.{word_in}
 use Rattle.adf_volume.specs.Positions.{Position, IsNoLater, IsUpTo, behind, position_of}
-use Rattle.adf_volume.specs.Walk.{Role, Same, Asks, Enough, Lacks, first, heads, second, Walk}
-use Rattle.adf_volume.specs.Walk.Role.{Root, Head}
+use Rattle.adf_volume.specs.LayoutRoles.{owner_of}
+use Rattle.adf_volume.specs.Walk.{Role, Same, Asks, Enough, Has, Lacks, first, heads, second, Walk}
+use Rattle.adf_volume.specs.Walk.Role.{Root, Head, Ext, Data}
+use Rattle.adf_walk.specs.Owners.{is_part}
+use Rattle.adf_walk.specs.WalkOwners.{HasNumber, node_after}
 use Rattle.adf_volume.proofs.Gathered.{IsGathered}
 use Rattle.adf_volume.proofs.PositionSteps.{not_skipped, not_taken, past_skipped, past_taken, same_behind, same_position}
 use Rattle.adf_volume.proofs.Roles.{asks_number, renumbered, renumbered_same}
@@ -21,18 +25,42 @@ use Rattle.adf_findings.specs.Survey.{Course}
 use Rattle.adf_findings.specs.Forms.{IsContext, Knows, Tells}
 use Rattle.adf_findings.specs.Parts.{role_of}
 use Rattle.adf_findings.specs.Demands.{uppers_in}
-use Rattle.adf_findings.specs.Found.{AreNamed, IsChain, IsKept, IsTaken, KeepsName, Stands, has_name}
+use Rattle.adf_findings.specs.Found.{AreNamed, IsChain, IsKept, IsNextPart, IsTaken, KeepsName, Stands, has_name, is_owned, last_node}
 use Rattle.adf_findings.specs.Courses.{HasReachedPart, Holds, IsGoneOn, IsNamed, IsNextReference, IsOutcome, IsSkipped, IsToTake}
 use Rattle.adf_findings.specs.Courses.{course_on, due_below, role_asked}
 use Rattle.adf_findings.proofs.Known.{known_names, knows, own_name}
 use Rattle.adf_findings.proofs.OneSurvey.{gathered}
-use Rattle.adf_findings.proofs.Taking.{IsNumbered, stands_taken, unowned_less}
+use Rattle.adf_findings.proofs.Taking.{IsNumbered, stands_taken}
+use Rattle.adf_findings.proofs.WalkOwners.{count_more, free_is, part_owns}
 
 -- a part that comes next has the next number of its kind
 pub numbered : (image : List ℕ) (w : Walk) → IsGathered image w → (r : Role) (a i : ℕ) → Asks image w r a i → Lacks w r → IsNumbered w r
 numbered image w v Root a i h l = absurd h
 numbered image w v (Head n p s j) a i h l = asks_number image w n p s j a i h
 numbered image w v _ a i h l = tt
+
+-- an extension block or a data block that is asked for has a number from 1
+asked_number : (image : List ℕ) (w : Walk) (r : Role) (a i : ℕ) → Asks image w r a i → HasNumber (owner_of r)
+asked_number image w (Ext n zero) a i h = absurd h
+asked_number image w (Ext n (suc k)) a i h = omega arith
+asked_number image w (Data n zero) a i h = absurd h
+asked_number image w (Data n (suc k)) a i h = omega arith
+asked_number image w _ a i h = tt
+
+-- no extension block and no data block is that of a later node than all members
+last_low : (w : Walk) (n : ℕ) → ((q : Role) (b : ℕ) → Has w q b → first q ≤ suc n) → last_node w ≤ n
+last_low [] n low = omega arith
+last_low (x ∷ w) n low = go x.0 (low x.0 x.1 (inl (refl, refl))) (last_low w n (λ q b h. low q b (inr h)))
+  where
+    go : (r : Role) → first r ≤ suc n → last_node w ≤ n → node_after (owner_of r) (last_node w) ≤ n
+    go (Ext m k) le rest = omega (arith, le)
+    go (Data m k) le rest = omega (arith, le)
+    go _ le rest = rest
+
+node_in_order : (w : Walk) (r : Role) → ((q : Role) (b : ℕ) → Has w q b → first q ≤ first r) → last_node w ≤ node_after (owner_of r) (last_node w)
+node_in_order w (Ext n k) low = last_low w n low
+node_in_order w (Data n k) low = last_low w n low
+node_in_order w _ low = omega arith
 
 -- a part with the number of nodes is that which is asked for
 pub role_is : {image : List ℕ} {f : Found} {s : Course} (part z : Part) {m : ℕ} → Stands image f s → m ≡ length f.nodes.items
@@ -100,7 +128,7 @@ module _ {image : List ℕ} {f : Found} {y : Due} {a i : ℕ} {s : Course} (n : 
 
   -- what is said of it tells what its demands ask
   pub known : {z : Part} {b : ℕ} (x : Facts) → role_of z ≡ role → x.is_enough ≡ y.is_enough
-      → x.is_absent ≡ not (slice_index_or f.owned.items b false) → x.context ≡ y.context → Knows image s.walk z b x
+      → x.is_absent ≡ not (is_owned f b) → x.context ≡ y.context → Knows image s.walk z b x
   known {z} {b} x is enough absent context =
       let m : ℕ = suc (heads s.walk) in
       let said = renumbered_context image s.walk m (role_of part) y.context n.said.context in
@@ -161,20 +189,23 @@ module _ {image : List ℕ} {f : Found} {y : Due} {a i : ℕ} {s : Course} (n : 
     pub taken_number : IsNumbered s.walk (role_of taken)
     taken_number = subst (IsNumbered s.walk) (sym o.role) next_number
 
-    pub taken_marked : length g.owned.items ≡ blocks image
-    taken_marked = o.stands.owned.0
-
-    pub taken_owners : length g.owners.items ≡ blocks image
-    taken_owners = o.stands.owners.0
-
-    pub taken_numbers : length g.numbers.items ≡ blocks image
-    taken_numbers = o.stands.numbers.0
-
-    pub taken_left : 1 ≤ g.left
-    taken_left =
-        let marks = taken_marked in
-        let less = unowned_less g.owned.items block (let l = o.inside in omega arith) (o.stands.owned.1 block o.inside ∙ o.free) in
-        omega (arith, o.stands.left)
+    pub taken_next : IsNextPart taken block g
+    taken_next =
+        let owners = o.stands.owners in
+        let below : block < length g.owners.owners = omega (arith, o.inside, owners.size) in
+        let free = free_is owners block o.past_boot o.free in
+        let count = count_more g.owners.owners block (owner_of role) below (part_owns role) free in
+        let most = count_by-le-length is_part (set g.owners.owners block (owner_of role)) in
+        let size = length-set g.owners.owners block (owner_of role) in
+        record {
+          from = o.past_boot;
+          below = below;
+          free = free;
+          number = subst (λ r. HasNumber (owner_of r)) (sym o.role) (asked_number image s.walk role a i n.asked);
+          order = subst (λ r. g.owners.node ≤ node_after (owner_of r) g.owners.node) (sym o.role)
+              (subst (λ m. m ≤ node_after (owner_of role) m) (sym owners.node) (node_in_order s.walk role (λ q b h. (up_to.taken q b h).0)));
+          some = omega (arith, count, most, size, o.stands.left, owners.size);
+        }
 
     module _ {h : Found} (t : IsTaken taken block g h) where
       abbrev now : Course
@@ -183,8 +214,8 @@ module _ {image : List ℕ} {f : Found} {y : Due} {a i : ℕ} {s : Course} (n : 
       taken_stands : Stands image h now
       taken_stands =
           subst (λ r. Stands image h (record { walk = (r, block) ∷ s.walk; skipped = s.skipped; findings = o.findings })) o.role
-          (stands_taken image g h (record { walk = s.walk; skipped = s.skipped; findings = o.findings }) block o.stands taken taken_number o.inside
-          o.free t)
+          (stands_taken image g h (record { walk = s.walk; skipped = s.skipped; findings = o.findings }) block o.stands taken taken_number o.past_boot
+          o.inside o.free t)
 
       taken_up_to : IsUpTo image ((role, block) ∷ s.walk) s.skipped (behind (role_of part))
       taken_up_to = grind (arith, common_steps, role, block, same_behind, same, past_taken, up_to, v)

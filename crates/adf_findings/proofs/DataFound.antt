@@ -1,7 +1,7 @@
 -- The data blocks that a table names and that are taken as these are those of the walk.
 -- Letters: w the walk of a survey, fs its findings; v a result; n a file's node, h the block of its header; k the number of a
 -- data block, from 0; b its block; r, q roles.
-use Rattle.std.specs.Prelude.{◌&&◌, Bool, true, false, cond, nat_lt, Option, Some, None, slice_index}
+use Rattle.std.specs.Prelude.{◌&&◌, Bool, true, false, cond, nat_lt, Option, Some, None}
 use Rattle.std.proofs.Common.{◌≡◌, ℕ, suc, zero, List, ◌==◌, ◌+◌, ◌≤◌, ◌<◌, refl, sym, ap, subst, ◌∙◌, add-one, arith}
 use Rattle.std.proofs.lemmas.Bool.{eqb-true, eq-eqb}
 use Rattle.std.proofs.lemmas.Bool.Decides.{eqb_tells, nat_tests}
@@ -17,6 +17,8 @@ use Rattle.adf_findings.specs.Parts.{key_of}
 use Rattle.adf_findings.specs.Remains.{below, blocks_stated, bytes_left, data_below, data_found, data_named, gaps_left, named_below, size_stated}
 use Rattle.adf_findings.specs.Survey.{FindingValue, IsSurvey}
 use Rattle.adf_findings.specs.Survey.IsSurvey.{read, unread}
+use Rattle.adf_walk.specs.Owners.{owner_at}
+use Rattle.adf_walk.specs.WalkOwners.{data_number_of, entry_of}
 use Rattle.adf_findings.specs.SurveyResult.{SurveyValue, TellsOf}
 use Rattle.adf_findings.proofs.BitSteps.{at_has}
 use Rattle.adf_findings.proofs.BlockOwners.{first_with, held_data}
@@ -70,22 +72,23 @@ module _ {v : SurveyValue} {w : Walk} {fs : List FindingValue} (t : TellsOf v w 
 
       go : (o : Option ℕ) → data_found w n k ≡ o → data_named v.image v n h k ≡ o
       go None e =
-          not_all (nat_lt b (blocks v.image)) (slice_index v.owners b == n) (slice_index v.numbers b == k + 1) (Some b) None
+          not_all (nat_lt b (blocks v.image)) (entry_of (owner_at v.owners b) == n) (data_number_of (owner_at v.owners b) == k + 1) (Some b) None
           (λ inside own number.
           let lo = (file_between v.image w fs t.survey n h file).0 in
-          let whose : owner w b ≡ Some n = sym (t.owner b) ∙ some_kept (slice_index v.owners b) n lo (eqb-true _ _ own) in
+          let whose : owner w b ≡ Some n = sym (t.owner b) ∙ some_kept (entry_of (owner_at v.owners b)) n lo (eqb-true _ _ own) in
           let which : number_at w b ≡ suc k = sym (t.number b) ∙ (eqb-true _ _ number ∙ add-one k) in
           lacks_at w (Data n (suc k)) e (Data n (suc k)) b (held_has w b n k whose which) (same_refl (Data n (suc k))))
       go (Some c) e =
           let has : Has w (Data n (suc k)) c = has_data w n (suc k) c e in
           let named = found_named v.image w fs t.survey n h file k c has in
           let at = first_with w (Data n (suc k)) c has (λ q g. one_part v.image w fs t.survey q (Data n (suc k)) c g has) in
-          let own : slice_index v.owners b ≡ n =
-          ap (slice_index v.owners) named.0 ∙ kept_some (slice_index v.owners c) n (t.owner c ∙ at.0) in
-          let number : slice_index v.numbers b ≡ k + 1 = ap (slice_index v.numbers) named.0 ∙ (t.number c ∙ (at.1 ∙ sym (add-one k))) in
+          let own : entry_of (owner_at v.owners b) ≡ n =
+          ap (λ b. entry_of (owner_at v.owners b)) named.0 ∙ kept_some (entry_of (owner_at v.owners c)) n (t.owner c ∙ at.0) in
+          let number : data_number_of (owner_at v.owners b) ≡ k + 1 =
+          ap (λ b. data_number_of (owner_at v.owners b)) named.0 ∙ (t.number c ∙ (at.1 ∙ sym (add-one k))) in
           let lt : b < blocks v.image = subst (λ c. c < blocks v.image) (sym named.0) named.1 in
-          all_true (nat_lt b (blocks v.image)) (slice_index v.owners b == n) (slice_index v.numbers b == k + 1) (Some b) None
-          (grind (arith, nat_tests)) (eq-eqb _ _ own) (eq-eqb _ _ number)
+          all_true (nat_lt b (blocks v.image)) (entry_of (owner_at v.owners b) == n) (data_number_of (owner_at v.owners b) == k + 1) (Some b)
+          None (grind (arith, nat_tests)) (eq-eqb _ _ own) (eq-eqb _ _ number)
           ∙ ap Some named.0
 
   -- what is left by the blocks that are named is what is left by those that are found

@@ -111,11 +111,13 @@ keeps_taken _ = refl
 
 -- the block of a part that is itself is in the image, and no one else's
 pub record ItselfHolds (image : List ℕ) (w : Walk) (b : ℕ) : Type 0 where
+  pub past_boot : 2 ≤ b
   pub inside : b < blocks image
   pub unowned : IsAbsent w b
 
 pub itself_holds : (image : List ℕ) (w : Walk) (r : Role) (a b : ℕ) → IsItself r (demands_in image w r a b) → ItselfHolds image w b
-itself_holds image w r a b h = record { inside = (h.1.0 (keeps_range r)).1; unowned = h.1.1.0 (keeps_taken r) }
+itself_holds image w r a b h =
+    let range = h.1.0 (keeps_range r) in record { past_boot = range.0; inside = range.1; unowned = h.1.1.0 (keeps_taken r) }
 
 itself_is : (role : Role) (a b : ℕ) (r t : Bool) (form : List Clause) (E R T N : Type 0) → (is_kept role ShortFile ≡ false → E) → Tells r R
     → (r ≡ true → Tells t T) → (is_kept role SameName ≡ false → N)

@@ -1,5 +1,5 @@
 -- The judgement of a part that is next, by what is found of it and by its name.
-use Rattle.std.proofs.Common.{Bool, cond, false, not, slice_index_or, true, ◌≡◌, ℕ, List, sym, subst, ap, ◌∙◌}
+use Rattle.std.proofs.Common.{Bool, cond, not, true, ◌≡◌, ℕ, List, sym, subst, ap, ◌∙◌}
 use Rattle.adf_blocks.specs.declared.cause.Cause.TheVariants.{SameName}
 use Rattle.adf_blocks.specs.Forms.{first_cause}
 use Rattle.adf_volume.specs.Positions.{position_of}
@@ -13,7 +13,7 @@ use Rattle.adf_findings.specs.declared.found.Found.{Found}
 use Rattle.adf_findings.specs.Survey.{Course, Judged, JudgementValue}
 use Rattle.adf_findings.specs.Survey.JudgementValue.{clean, reported}
 use Rattle.adf_findings.specs.Forms.{first_failing, form_of, in_range, itself_by, judged_by, judgement_value, keeps}
-use Rattle.adf_findings.specs.Found.{AreNamed, HasValidName, IsChain, new_in}
+use Rattle.adf_findings.specs.Found.{AreNamed, HasValidName, IsChain, is_owned, new_in}
 use Rattle.adf_findings.specs.Parts.{role_of}
 use Rattle.adf_findings.specs.Courses.{Holds, IsJudged, IsNamed, IsNextReference, role_asked}
 use Rattle.adf_findings.proofs.CourseSteps.{known, known_chain, known_named}
@@ -25,7 +25,7 @@ module _ (image : List ℕ) (f : Found) (x : Reference) (part : Part) (facts : F
   abbrev by_name : Bool → JudgementValue
   by_name new = judged_by (first_failing image part x.holder x.block facts new) (keeps image part x.block facts)
 
-  module _ (enough : facts.is_enough ≡ x.due.is_enough) (absent : facts.is_absent ≡ not (slice_index_or f.owned.items x.block false))
+  module _ (enough : facts.is_enough ≡ x.due.is_enough) (absent : facts.is_absent ≡ not (is_owned f x.block))
       (context : facts.context ≡ x.due.context) where
     judged_in : (s : Course) → Holds image f (position_of (role_of x.due.part)) s → IsNextReference image s x → role_of part ≡ role_asked s x.due.part
         → Judged (role_of part) (demands_in image s.walk (role_of part) x.holder x.block) (by_name (new_in image s.walk part x.block))

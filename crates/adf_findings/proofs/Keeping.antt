@@ -1,9 +1,6 @@
 -- The result for an image is that of its survey.
-use Rattle.std.specs.Prelude.{Bool, ◌&&◌, ◌||◌, nat_lt, Option, ◌-◌, false, true, map, not, slice_get, slice_index, slice_index_or}
-use Rattle.std.proofs.Common.{◌≡◌, ℕ, zero, suc, List, [], ◌∷◌, ◌++◌, ◌≤◌, refl, sym, ap, subst, ◌∙◌, arith, ◌*◌, ◌<◌, length, inl, inr}
-use Rattle.std.proofs.lemmas.Bool.{cases_lt, false_from_ne_true}
-use Rattle.std.proofs.lemmas.Bool.Decides.{nat_tests}
-use Rattle.std.proofs.lemmas.List.{get_or_past}
+use Rattle.std.specs.Prelude.{Bool, cond, ◌==◌, Some, None, ◌&&◌, ◌||◌, nat_lt, Option, ◌-◌, false, true, map, not, slice_get, slice_index}
+use Rattle.std.proofs.Common.{◌≡◌, ℕ, zero, suc, List, [], ◌∷◌, ◌++◌, ◌≤◌, refl, sym, ap, subst, ◌∙◌, arith, ◌*◌, ◌<◌, length}
 use Rattle.std.specs.List.{AllZip, filter}
 use Rattle.std.specs.Option.{option_flatten}
 use Rattle.std.proofs.lemmas.Grind.{common_steps}
@@ -11,34 +8,42 @@ use Rattle.adf_blocks.specs.Sizes.{blocks}
 use Rattle.adf_names.specs.declared.kind.Kind.{Kind}
 use Rattle.adf_names.specs.declared.kind.Kind.TheVariants.{Ofs, Ffs}
 use Rattle.adf_volume.specs.Image.{kind_of}
-use Rattle.adf_volume.proofs.Gathered.{head_block, numbered as has_number, number_of, root_is}
-use Rattle.adf_volume.specs.Walk.{Role, Has, heads, node_block, Walk}
-use Rattle.adf_volume.specs.Walk.Role.{Root, Page, Head}
+use Rattle.adf_volume.proofs.Gathered.{head_block, numbered as has_number, number_of}
+use Rattle.adf_volume.specs.Walk.{Has, heads, node_block, Walk}
+use Rattle.adf_volume.specs.Walk.Role.{Page, Head}
 use Rattle.adf_volume.proofs.Roles.{head_role}
-use Rattle.adf_findings.specs.Found.{AreMarked, IsCompleted, Stands, owns, parent_node}
+use Rattle.adf_volume.specs.declared.owner.Owner.{Owner}
+use Rattle.adf_volume.specs.declared.owner.Owner.TheVariants.{Boot}
+use Rattle.adf_findings.proofs.Begun.{new_owned}
+use Rattle.adf_findings.proofs.WalkOwners.{entry_is, number_is, owned_is}
+use Rattle.adf_findings.specs.Found.{AreOwned, IsCompleted, Stands, parent_node}
 use Rattle.adf_findings.specs.declared.found.Found.{Found}
 use Rattle.adf_findings.specs.Files.{counting, grave, is_light}
 use Rattle.adf_findings.specs.Marks.{blamed, doubted, has_mark, is_blamed, is_clear, is_doubted, is_doubtful, is_node, is_undoubted}
 use Rattle.adf_findings.specs.declared.concern.Concern.{Concern}
 use Rattle.adf_findings.specs.Parts.{finding_value, key_of}
-use Rattle.adf_findings.specs.Survey.{Course, FindingValue, IsCourse, IsSurvey, UnreadTells}
+use Rattle.adf_findings.specs.Survey.{Course, FindingValue, IsSurvey, UnreadTells}
 use Rattle.adf_findings.specs.Survey.IsSurvey.{read, unread}
 use Rattle.adf_findings.specs.Sound.{IsSound}
-use Rattle.adf_findings.specs.SurveyResult.{IsOfSurvey, SurveyValue, TellsOf, block_at, owner_at}
+use Rattle.adf_findings.specs.SurveyResult.{IsOfSurvey, SurveyValue, TellsOf, block_at}
 use Rattle.adf_findings.proofs.Concerning.{concerned_kept, no_concern_nth}
 use Rattle.adf_findings.proofs.GraveFindings.{grave_is, grave_kept}
 use Rattle.adf_findings.proofs.HeadPlaces.{head_parent}
 use Rattle.adf_findings.proofs.BlockOwners.{owner_is}
 use Rattle.adf_findings.proofs.OneSurvey.{gathered, one_survey}
-use Rattle.adf_findings.proofs.SoundMarks.{clear_is_sound, inside, owner_of, unread_none}
+use Rattle.adf_findings.proofs.SoundMarks.{clear_is_sound, inside, unread_none}
 use Rattle.adf_findings.proofs.Starts.{course_size}
 use Rattle.adf_findings.proofs.Taking.{stands_but}
 
+-- nothing is taken of an image of which no block has an owner
+none_owned : {owners : List Owner} → owners ≡ Boot ∷ Boot ∷ [] → AreOwned 2 (record { owners = owners; node = 0 }) []
+none_owned {owners = owners} new = new_owned 2 (omega arith) (record { owners = owners; node = 0 }) new refl
+
 -- of an image of which nothing is taken the findings are kept alone
-pub unread_kept : (v : SurveyValue) → UnreadTells v.image (map finding_value v.findings) → v.concerned ≡ [] → v.owners ≡ [] → v.numbers ≡ []
-    → v.owned ≡ [] → v.taken ≡ [] → v.nodes ≡ []
+pub unread_kept : (v : SurveyValue) → UnreadTells v.image (map finding_value v.findings) → v.concerned ≡ [] → v.owners ≡ Boot ∷ Boot ∷ []
+    → v.taken ≡ [] → v.nodes ≡ []
     → v.parents ≡ [] → v.sound ≡ [] → v.whole ≡ [] → IsOfSurvey v
-unread_kept v told concerned owners numbers owned taken nodes parents sound whole = (
+unread_kept v told concerned owners taken nodes parents sound whole = (
   [],
   map finding_value v.findings,
   record {
@@ -46,9 +51,9 @@ unread_kept v told concerned owners numbers owned taken nodes parents sound whol
     findings = refl;
     concerned = (λ k.
         ap (λ os. option_flatten (slice_get os k)) concerned ∙ sym (no_concern_nth [] (map finding_value v.findings) k (unread_none v.image told)));
-    owner = (λ b. ap (λ os. owner_at os b) owners);
-    number = (λ b. ap (λ ns. slice_index_or ns b 0) numbers);
-    part = (λ b. ap (λ ms. has_mark ms b) owned);
+    owner = (λ b. ap (λ n. cond (n == 0) None (Some n)) (entry_is (none_owned owners) b));
+    number = number_is (none_owned owners);
+    part = owned_is (none_owned owners);
     page = (λ i. ap (λ es. block_at es (key_of (Page i))) taken);
     node = (λ n. ap (λ ns. slice_index ns n) nodes);
     parent = (λ n. ap (λ ps. slice_index ps n) parents);
@@ -62,24 +67,6 @@ unread_kept v told concerned owners numbers owned taken nodes parents sound whol
 stands_with : (image : List ℕ) (f g : Found) (s : Course) (gs : List FindingValue) → Stands image f s → g ≡ record f { findings = g.findings }
     → map finding_value g.findings.items ≡ gs → Stands image g (record { walk = s.walk; skipped = s.skipped; findings = gs })
 stands_with image f g s gs st same e = grind (arith, common_steps, stands_but)
-
--- a part is inside of the image
-has_inside : (image : List ℕ) {s : Course} → IsCourse image s → (r : Role) (b : ℕ) → Has s.walk r b → b < blocks image
-has_inside image v Root b h = grind (arith, common_steps, nat_tests, root_is image (gathered image v) b h, (course_size image v).1)
-has_inside image v r b h = inside image v r b (λ e. cc) h
-
-owned_inside : (image : List ℕ) {s : Course} → IsCourse image s → (b : ℕ) → owns s.walk b ≡ true → b < blocks image
-owned_inside image {s} v b e = let y = owner_of image s.walk b e in has_inside image v y.0 b y.1
-
--- the marks kept of blocks are those of the blocks of parts
-part_is : (image : List ℕ) {s : Course} → IsCourse image s → (marks : List Bool) → AreMarked (blocks image) marks s.walk → (b : ℕ)
-    → has_mark marks b ≡ owns s.walk b
-part_is image {s} v marks are b = elim (cases_lt b (blocks image)) [
-  | inl lt ↦ are.1 b lt
-  | inr ge ↦
-      get_or_past marks b false (omega (arith, are.0, ge))
-      ∙ sym (false_from_ne_true (owns s.walk b) (λ e. let lt = owned_inside image v b e in omega (arith, ge)))
-]
 
 -- a copy whose marks are each the same has the same marks
 pub copied : (R : Bool → Bool → Type 0) → ((x y : Bool) → R x y → y ≡ x) → (xs ys : List Bool) → AllZip R xs ys → ys ≡ xs
@@ -133,9 +120,7 @@ pub read_kept : (image : List ℕ) (f g : Found) (concerned : List (Option Conce
       image = image;
       findings = f.findings.items;
       concerned = concerned;
-      owners = f.owners.items;
-      numbers = f.numbers.items;
-      owned = f.owned.items;
+      owners = f.owners.owners;
       taken = f.taken.entries;
       nodes = f.nodes.items;
       parents = f.parents.items;
@@ -150,9 +135,9 @@ read_kept image f g concerned sound whole (s, bits, told, bits_tell) entries mar
     findings = told.stands.findings;
     concerned = (λ k.
         ap (λ os. option_flatten (slice_get os k)) entries ∙ concerned_kept image f told.course bits bits_tell told.stands k);
-    owner = owner_is image (gathered image told.course) f.owners.items told.stands.owners.1;
-    number = told.stands.numbers.1;
-    part = part_is image told.course f.owned.items told.stands.owned;
+    owner = owner_is image (gathered image told.course) f.owners.owners (entry_is told.stands.owners);
+    number = number_is told.stands.owners;
+    part = owned_is told.stands.owners;
     page = (λ i. told.stands.taken (Page i) tt);
     node = told.stands.node;
     parent = told.stands.parent;

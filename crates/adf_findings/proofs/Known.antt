@@ -1,5 +1,5 @@
 -- The state of a survey has the facts that the demands on a part need.
-use Rattle.std.specs.Prelude.{Bool, true, false, cond, not, ◌==◌, ◌||◌, ◌&&◌, Some, slice_index_or}
+use Rattle.std.specs.Prelude.{Bool, true, false, cond, not, ◌==◌, ◌||◌, ◌&&◌, Some}
 use Rattle.std.proofs.Common.{◌≡◌, ◌≢◌, ℕ, zero, suc, List, [], ◌∷◌, inl, inr, ◌<◌, refl, sym, subst, ap, ◌∙◌, arith}
 use Rattle.std.specs.Option.{unwrap_or}
 use Rattle.std.specs.Ordering.{is_eq}
@@ -22,8 +22,10 @@ use Rattle.adf_findings.specs.declared.judge.Facts.{Facts}
 use Rattle.adf_findings.specs.declared.found.Found.{Found}
 use Rattle.adf_findings.specs.Survey.{Course}
 use Rattle.adf_findings.specs.Forms.{IsContext, Knows, Tells, in_range}
-use Rattle.adf_findings.specs.Found.{AreNamed, HasValidName, IsChain, KeepsName, Stands}
-use Rattle.adf_findings.specs.Found.{at_key, has_name, is_named, known_at, member_in, new_in, owns}
+use Rattle.adf_findings.proofs.WalkOwners.{owned_is}
+use Rattle.adf_findings.specs.Found.{is_owned, AreNamed, HasValidName, IsChain, KeepsName, Stands}
+use Rattle.adf_findings.proofs.WalkOwners.{owned_is}
+use Rattle.adf_findings.specs.Found.{is_owned, at_key, has_name, is_named, known_at, member_in, new_in, owns}
 use Rattle.adf_findings.specs.Parts.{by_key, key_of, role_of}
 use Rattle.adf_findings.proofs.Keys.{equal_keys}
 use Rattle.adf_findings.proofs.Names.{other_name}
@@ -147,9 +149,11 @@ module _ (image : List ℕ) (f : Found) (s : Course) (st : Stands image f s) whe
 
   -- what is said of a part, and whether its block has an owner, is known
   pub knows : (part : Part) (b : ℕ) (x : Facts) → IsContext image s.walk (role_of part) x.context
-      → Tells x.is_enough (Enough image s.walk (role_of part)) → x.is_absent ≡ not (slice_index_or f.owned.items b false)
+      → Tells x.is_enough (Enough image s.walk (role_of part)) → x.is_absent ≡ not (is_owned f b)
       → Knows image s.walk part b x
-  knows part b x context enough absent = grind (arith, common_steps, below, tells_absent)
+  knows part b x context enough absent =
+      let owned : is_owned f b ≡ owns s.walk b = owned_is st.owners b in
+      grind (arith, common_steps, below, tells_absent)
 
 -- a block without a part is no member's
 pub no_owner : (w : Walk) (b : ℕ) → IsAbsent w b → owns w b ≡ false

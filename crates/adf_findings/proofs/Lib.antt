@@ -26,6 +26,7 @@ pub mod CleanParts
 pub mod Names
 -- the form of a header by the letters of a volume
 pub mod HeadSlots
+pub mod WalkOwners
 pub mod Taking
 pub mod Keys
 pub mod Known

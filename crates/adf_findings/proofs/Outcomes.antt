@@ -62,6 +62,7 @@ module _ {image : List ℕ} {f : Found} {s : Course} (x : Reference) (v : IsCour
       let holds = itself_holds image s.walk role x.holder x.block d.1 in
       record {
         role = is;
+        past_boot = holds.past_boot;
         inside = holds.inside;
         free = no_owner s.walk x.block holds.unowned;
         findings = s.findings ++ finding (Some role) at c ∷ [];

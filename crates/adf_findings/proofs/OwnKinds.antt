@@ -18,6 +18,8 @@ use Rattle.adf_findings.specs.OwnKind.{is_mistyped, is_other_kind, said_at, said
 use Rattle.adf_findings.specs.Sound.{IsSound, says_data_of}
 use Rattle.adf_findings.specs.Survey.{FindingValue, IsSurvey}
 use Rattle.adf_findings.specs.Survey.IsSurvey.{read, unread}
+use Rattle.adf_walk.specs.Owners.{owner_at}
+use Rattle.adf_walk.specs.WalkOwners.{entry_of, data_number_of}
 use Rattle.adf_findings.specs.SurveyResult.{SurveyValue, TellsOf}
 use Rattle.adf_findings.proofs.BlockOwners.{held_data}
 use Rattle.adf_findings.proofs.OneSurvey.{gathered}
@@ -32,10 +34,10 @@ kept_owner (suc m) o e = grind (arith, common_steps, eqb_tells)
 pub kept_said : {v : SurveyValue} {w : Walk} {fs : List FindingValue} → TellsOf v w fs → (image : List ℕ) (b : ℕ)
     → said_in image v b ≡ said_at image w b
 kept_said {v = v} {w = w} t image b =
-    let number : slice_index v.numbers b ≡ number_at w b = t.number b in
-    let own : unwrap_or (owner w b) 0 ≡ slice_index v.owners b = kept_owner (slice_index v.owners b) (owner w b) (t.owner b) in
-    let head : slice_index v.nodes (slice_index v.owners b) ≡ node_block w (unwrap_or (owner w b) 0) =
-    t.node (slice_index v.owners b) ∙ ap (node_block w) (sym own) in
+    let number : data_number_of (owner_at v.owners b) ≡ number_at w b = t.number b in
+    let own : unwrap_or (owner w b) 0 ≡ entry_of (owner_at v.owners b) = kept_owner (entry_of (owner_at v.owners b)) (owner w b) (t.owner b) in
+    let head : slice_index v.nodes (entry_of (owner_at v.owners b)) ≡ node_block w (unwrap_or (owner w b) 0) =
+    t.node (entry_of (owner_at v.owners b)) ∙ ap (node_block w) (sym own) in
     λ i. cond (number i == 0) None (Some (says_data_of image (head i) (number i) b))
 
 pub tally_none : (image : List ℕ) (w : Walk) → tally image w 0 ≡ record { says = 0; others = 0 }

@@ -22,7 +22,9 @@ use Rattle.adf_findings.specs.declared.concern.Concern.TheVariants.{Entry, Withi
 use Rattle.adf_findings.specs.Concerned.{node_of}
 use Rattle.adf_findings.specs.Forms.{Tells}
 use Rattle.adf_findings.specs.Found.{Stands, at_key, owns}
-use Rattle.adf_findings.specs.Marks.{blamed, doubted, is_blamed, is_clear, is_doubted, is_doubtful, is_node, is_header, is_said}
+use Rattle.adf_findings.proofs.WalkOwners.{entry_is, number_is as data_number_is}
+use Rattle.adf_findings.specs.Marks.{blamed, doubted, entry_in_block, is_blamed, is_clear, is_doubted, is_doubtful, is_node, is_header, is_said}
+use Rattle.adf_findings.specs.Marks.{number_in_block}
 use Rattle.adf_findings.specs.Parts.{key_of, part_role, finding_value}
 use Rattle.adf_findings.specs.Sound.{IsSound, IsUnreported, says_data_of}
 use Rattle.adf_findings.specs.Survey.{BitsTell, BootTells, Course, FindingValue, IsCourse, IsDone, IsNext, RootTells, UnreadTells, finding}
@@ -267,13 +269,13 @@ not_doubted image f (suc k) m b e lt s =
 
 -- what a data block tells
 abbrev told_of : List ℕ → Found → ℕ → Option ℕ
-told_of image f b = cond (slice_index_or f.avoided.items b false || is_said image f b) (Some (slice_index f.owners.items b)) None
+told_of image f b = cond (slice_index_or f.avoided.items b false || is_said image f b) (Some (entry_in_block f b)) None
 
 -- what is doubted is a data block that was also skipped, or says that it is an OFS one
 doubted_is : (image : List ℕ) (f : Found) (b m : ℕ) → doubted image f b ≡ Some m
-    → (slice_index f.numbers.items b ≡ suc (slice_index f.numbers.items b - 1)) × (slice_index f.owners.items b ≡ m)
+    → (number_in_block f b ≡ suc (number_in_block f b - 1)) × (entry_in_block f b ≡ m)
     × ((slice_index_or f.avoided.items b false ≡ true) ⊎ (is_said image f b ≡ true))
-doubted_is image f b m e = elim (eqb_tells (slice_index f.numbers.items b) 0) [
+doubted_is image f b m e = elim (eqb_tells (number_in_block f b) 0) [
   | inl y ↦ let none : None ≡ Some m = ap (λ t. cond t None (told_of image f b)) (sym y.0) ∙ e in cc
   | inr y ↦
       let z =
@@ -282,22 +284,22 @@ doubted_is image f b m e = elim (eqb_tells (slice_index f.numbers.items b) 0) [
 ]
   where
     go : (p q : Bool) → slice_index_or f.avoided.items b false ≡ p → is_said image f b ≡ q
-        → cond (p || q) (Some (slice_index f.owners.items b)) None ≡ Some m
-        → (slice_index f.owners.items b ≡ m) × ((slice_index_or f.avoided.items b false ≡ true) ⊎ (is_said image f b ≡ true))
+        → cond (p || q) (Some (entry_in_block f b)) None ≡ Some m
+        → (entry_in_block f b ≡ m) × ((slice_index_or f.avoided.items b false ≡ true) ⊎ (is_said image f b ≡ true))
     go true q a b e = (cc, inl a)
     go false true a b e = (cc, inr b)
     go false false a b e = cc
 
 -- and such a one is
-doubted_yes : (image : List ℕ) (f : Found) (b : ℕ) → (slice_index f.numbers.items b ≡ 0 → ⊥)
-    → (slice_index_or f.avoided.items b false ≡ true) ⊎ (is_said image f b ≡ true) → doubted image f b ≡ Some (slice_index f.owners.items b)
-doubted_yes image f b some doubt = elim (eqb_tells (slice_index f.numbers.items b) 0) [
+doubted_yes : (image : List ℕ) (f : Found) (b : ℕ) → (number_in_block f b ≡ 0 → ⊥)
+    → (slice_index_or f.avoided.items b false ≡ true) ⊎ (is_said image f b ≡ true) → doubted image f b ≡ Some (entry_in_block f b)
+doubted_yes image f b some doubt = elim (eqb_tells (number_in_block f b) 0) [
   | inl y ↦ absurd (some y.1)
   | inr y ↦ ap (λ t. cond t None (told_of image f b)) y.0 ∙ go (slice_index_or f.avoided.items b false) (is_said image f b) doubt
 ]
   where
     go : (p q : Bool) → (p ≡ true) ⊎ (q ≡ true)
-        → cond (p || q) (Some (slice_index f.owners.items b)) None ≡ Some (slice_index f.owners.items b)
+        → cond (p || q) (Some (entry_in_block f b)) None ≡ Some (entry_in_block f b)
     go true q h = refl
     go false true h = refl
     go false false (inl e) = cc
@@ -398,16 +400,16 @@ module _ (image : List ℕ) (f : Found) {s : Course} (v : IsCourse image s) (don
     | inl t ↦
         let (b, some) = doubted_by image f (blocks image) m t in
         let (number, own, doubt) = doubted_is image f b m some in
-        let k : ℕ = slice_index f.numbers.items b - 1 in
-        let (n, held, whose) = held_data s.walk b k (sym (st.numbers.1 b) ∙ number) in
-        let same : n ≡ m = sym (ap (λ o. unwrap_or o 0) whose) ∙ (sym (st.owners.1 b) ∙ own) in
+        let k : ℕ = number_in_block f b - 1 in
+        let (n, held, whose) = held_data s.walk b k (sym (data_number_is st.owners b) ∙ number) in
+        let same : n ≡ m = sym (ap (λ o. unwrap_or o 0) whose) ∙ (sym (entry_is st.owners b) ∙ own) in
         let has : Has s.walk (Data m (suc k)) b = subst (λ n. Has s.walk (Data n (suc k)) b) same held in
         elim doubt [
           | inl over ↦
               absurd (not_alone image v done m (suc k) b has (sym (st.avoided.marked b (data_inside image v m (suc k) b has)) ∙ over)
               (sound.alone ffs (suc k) b has))
           | inr said ↦
-              let head : slice_index f.nodes.items (slice_index f.owners.items b) ≡ h =
+              let head : slice_index f.nodes.items (entry_in_block f b) ≡ h =
               ap (slice_index f.nodes.items) own ∙ (st.node m ∙ head_block image (gathered image v) sound.header) in
               let clash : false ≡ true =
               sym (sound.own ffs (suc k) b has) ∙ ((λ i. says_data_of image (sym head i) (sym number i) b) ∙ said) in cc
@@ -454,8 +456,8 @@ module _ (image : List ℕ) (f : Found) {s : Course} (v : IsCourse image s) (don
   data_clear m e ffs k c has doubt =
       let none : is_doubted image f (blocks image) m ≡ false = subst (λ k. is_doubtful k image f m ≡ false) ffs e in
       let (whose, which) = first_with s.walk (Data m k) c has (λ q g. one_role image v q (Data m k) c g has) in
-      let number : slice_index f.numbers.items c ≡ k = st.numbers.1 c ∙ which in
-      let own : slice_index f.owners.items c ≡ m = st.owners.1 c ∙ ap (λ o. unwrap_or o 0) whose in
+      let number : number_in_block f c ≡ k = data_number_is st.owners c ∙ which in
+      let own : entry_in_block f c ≡ m = entry_is st.owners c ∙ ap (λ o. unwrap_or o 0) whose in
       let said : (slice_index_or f.avoided.items c false ≡ true) ⊎ (is_said image f c ≡ true) = elim doubt [
         | inl t ↦ inl t
         | inr t ↦ inr ((λ i. says_data_of image (slice_index f.nodes.items (own i)) (number i) c) ∙ t)

@@ -1,6 +1,6 @@
 -- The state of a survey when parts are taken and skipped.
 use Rattle.std.proofs.Common.{Bool, true, false, cond, ◌==◌, Some, map, slice_index, slice_index_or, ◌≡◌, ℕ, zero, suc, List, [], ◌∷◌, ◌++◌, length}
-use Rattle.std.proofs.Common.{inl, inr, replicate, set, ◌<◌, ◌≤◌, refl, ap, ◌∙◌, arith, length-set, get_or-set_same, get_or-set_other}
+use Rattle.std.proofs.Common.{inl, inr, replicate, set, subst, sym, ◌<◌, ◌≤◌, refl, ap, ◌∙◌, arith, length-set, get_or-set_same, get_or-set_other}
 use Rattle.std.specs.Ordering.{is_eq}
 use Rattle.std.specs.BTreeMap.{BTreeMap, Updates, get}
 use Rattle.std.proofs.lemmas.Bool.Decides.{eqb_tells, nat_tests}
@@ -9,6 +9,11 @@ use Rattle.std.proofs.lemmas.Grind.{common_steps}
 use Rattle.adf_tree.proofs.NameKeys.{same_number, then_is}
 use Rattle.adf_blocks.specs.Sizes.{blocks}
 use Rattle.adf_volume.proofs.Lists.{snoc_length}
+use Rattle.std.specs.Global.{Vec}
+use Rattle.adf_volume.specs.declared.owner.Owner.{Owner}
+use Rattle.adf_volume.specs.LayoutRoles.{owner_of}
+use Rattle.adf_walk.specs.Owners.{owned_count}
+use Rattle.adf_findings.proofs.WalkOwners.{count_more, free_is, owned_more, part_owns}
 use Rattle.adf_volume.specs.Walk.{Role, heads, head_count, node_block, node_block_of, Walk}
 use Rattle.adf_volume.specs.Walk.Role.{Root, Page, MapExt, Head, Ext, Data}
 use Rattle.adf_findings.specs.declared.part.Part.{Part, TheVariants.Root as RootPart, TheVariants.Page as PagePart, TheVariants.MapExt as MapExtPart}
@@ -19,9 +24,9 @@ use Rattle.adf_findings.specs.declared.found.ChainPlace.{ChainPlace}
 use Rattle.adf_findings.specs.declared.found.Found.{Found}
 use Rattle.adf_findings.specs.Survey.{Course, FindingValue}
 use Rattle.adf_findings.specs.Parts.{by_key, key_of, role_of, finding_value}
-use Rattle.adf_findings.specs.Found.{AreAvoided, AreHeld, AreMarked, AreNumbered, AreSame, IsKept, IsLookedUp, IsReported, IsOwned, IsBlockSkipped, IsPut}
+use Rattle.adf_findings.specs.Found.{AreAvoided, AreMarked, AreSame, IsKept, IsLookedUp, IsReported, IsOwned, IsBlockSkipped, IsPut}
 use Rattle.adf_findings.specs.Found.{IsTaken, KeepsParts, Stands}
-use Rattle.adf_findings.specs.Found.{at_key, data_number, entry_number, owns, parent_by, parent_node, places_of, unowned, with_mark, with_place}
+use Rattle.adf_findings.specs.Found.{at_key, owns, parent_by, parent_node, places_of, unowned, with_mark, with_place}
 use Rattle.std.proofs.lemmas.Bool.{cases_lt}
 
 kept_more : (part : Part) (b : ℕ) (f g h : Found) → IsKept part b f g → AreSame g h → IsKept part b f h
@@ -67,14 +72,6 @@ avoided_more n [] w r b h =
 avoided_more n (x ∷ xs) w r b h =
     let m = marked_more n (x ∷ xs) w r b (elim h.size [ inl e ↦ cc | inr e ↦ e ], h.marked) in
     record { size = inr m.0; marked = m.1 }
-
-pub numbered_more : (n : ℕ) (xs : List ℕ) (w : Walk) (r : Role) (b : ℕ) → b < n → AreNumbered n xs w
-    → AreNumbered n (set xs b (data_number r)) ((r, b) ∷ w)
-numbered_more n xs w r b lt h = grind (arith, common_steps, length-set, eqb_tells, get_or-set_same, get_or-set_other)
-
-pub held_more : (n : ℕ) (xs : List ℕ) (w : Walk) (r : Role) (b : ℕ) → b < n → AreHeld n xs w
-    → AreHeld n (set xs b (entry_number r)) ((r, b) ∷ w)
-held_more n xs w r b lt h = grind (arith, common_steps, length-set, eqb_tells, get_or-set_same, get_or-set_other)
 
 pub unowned_less : (xs : List Bool) (b : ℕ) → b < length xs → slice_index_or xs b false ≡ false → unowned xs ≡ suc (unowned (set xs b true))
 unowned_less [] b lt e = absurd (omega arith)
@@ -123,9 +120,27 @@ module _ (image : List ℕ) (f g : Found) (s : Course) (b : ℕ) (st : Stands im
   later (DataPart n i) fit k = same_later (Data n i) (λ m c. refl) refl (λ m c. refl) (λ cs. refl) k
 
   -- a part is taken
-  pub stands_taken : (part : Part) → IsNumbered s.walk (role_of part) → b < blocks image → owns s.walk b ≡ false → IsTaken part b f g
+  pub stands_taken : (part : Part) → IsNumbered s.walk (role_of part) → 2 ≤ b → b < blocks image → owns s.walk b ≡ false → IsTaken part b f g
       → Stands image g (record { walk = (role_of part, b) ∷ s.walk; skipped = s.skipped; findings = s.findings })
-  stands_taken part fit lt free t = grind (arith, common_steps, later, unowned_less, set, taken_more, marked_more, held_more, numbered_more)
+  stands_taken part fit lo lt none t =
+      let o : Owner = owner_of (role_of part) in
+      let free = free_is st.owners b lo none in
+      let count = count_more f.owners.owners b o (omega (arith, lt, st.owners.size)) (part_owns (role_of part)) free in
+      let many = ap owned_count t.owned.owners in
+      let l = later part fit t.kept in
+      record {
+        taken = taken_more f.taken g.taken s.walk part b t.owned.taken st.taken;
+        owners = owned_more (blocks image) f.owners g.owners s.walk (role_of part) b lt t.owned.owners t.owned.node st.owners;
+        avoided = subst (λ (v : Vec Bool). AreAvoided (blocks image) v.items s.skipped) (sym t.owned.avoided) st.avoided;
+        left = omega (arith, many, count, t.owned.left, st.left);
+        node = l.node;
+        count = l.count;
+        few = omega (arith, l.few, t.owned.left, st.few);
+        findings = ap (λ (v : Vec Finding). map finding_value v.items) t.owned.findings ∙ st.findings;
+        parent = l.parent;
+        parents = l.parents;
+        places = l.places;
+      }
 
   -- what is taken stays so, whatever is skipped and reported
   stands_else : (over : Walk) (fs : List FindingValue) → g ≡ record f { avoided = g.avoided; findings = g.findings }

@@ -87,6 +87,7 @@ pub record IsSkipped (image : List ℕ) (s : Course) (x : Reference) (f g : Foun
 -- the part is to be taken
 pub record IsToTake (image : List ℕ) (s : Course) (x : Reference) (f g : Found) (part : Part) : Type 0 where
   pub role : role_of part ≡ role_asked s x.due.part
+  pub past_boot : 2 ≤ x.block
   pub inside : x.block < blocks image
   pub free : owns s.walk x.block ≡ false
   pub findings : List FindingValue

@@ -1,7 +1,7 @@
 -- The state of a survey, as a course.
 -- Letters: w a walk, s a course; r a role; b, c blocks; k a key; n, p nodes; f a state.
 use Rattle.std.specs.Prelude.{◌≡◌, ◌≤◌, ◌<◌, ◌+◌, ◌-◌, ◌==◌, ◌&&◌, ◌||◌, ℕ, Bool, true, false, cond, not, List, []}
-use Rattle.std.specs.Prelude.{◌∷◌, ◌++◌, ◌⊎◌, length, replicate, set, map, slice_index, slice_index_or, Option, Some, None, IsTrue, ◌↔◌}
+use Rattle.std.specs.Prelude.{◌∷◌, ◌++◌, ◌⊎◌, length, nat_lt, replicate, set, map, slice_index, slice_index_or, Option, Some, None, IsTrue, ◌↔◌}
 use Rattle.std.proofs.Common.{zero, suc}
 use Rattle.std.specs.Option.{unwrap_or}
 use Rattle.std.specs.Ordering.{is_eq}
@@ -14,9 +14,14 @@ use Rattle.adf_blocks.specs.declared.cause.Cause.TheVariants.{LostBlock, OwnedFr
 use Rattle.adf_volume.specs.Demands.{AllHold, FirstFails}
 use Rattle.adf_blocks.specs.Sizes.{blocks}
 use Rattle.adf_volume.specs.Image.{IsFreeAt, name_of}
+use Rattle.adf_volume.specs.LayoutRoles.{owner_of}
+use Rattle.adf_volume.specs.declared.owner.Owner.{Owner}
+use Rattle.adf_volume.specs.declared.owner.Owner.TheVariants.{Free, Boot}
 use Rattle.adf_volume.specs.Positions.{Position}
 use Rattle.adf_volume.specs.Walk.{Role, Has, bitmap_demands, heads, node_block, Walk}
 use Rattle.adf_volume.specs.Walk.Role.{Page, Head, Ext, Data}
+use Rattle.adf_walk.specs.Owners.{is_part, owned_count, owner_at}
+use Rattle.adf_walk.specs.WalkOwners.{HasNumber, OwnersValue, node_after}
 use Rattle.adf_findings.specs.Demands.{uppers_in}
 use Rattle.adf_findings.specs.declared.part.Part.{Part}
 use Rattle.adf_findings.specs.declared.part.Part.TheVariants.{Head as HeadPart, Data as DataPart}
@@ -121,13 +126,25 @@ pub record AreAvoided (n : ℕ) (marks : List Bool) (w : Walk) : Type 0 where
   pub size : (marks ≡ []) ⊎ (length marks ≡ n)
   pub marked : (b : ℕ) → b < n → slice_index_or marks b false ≡ owns w b
 
--- the number of the entry that a role is a part of; 0 of the root and the bitmap
-abbrev pub entry_number : Role → ℕ
-entry_number r = unwrap_or (entry_in r) 0
+-- the owner of a block by the walk
+abbrev pub owner_by : Walk → ℕ → Owner
+owner_by [] b = cond (nat_lt b 2) Boot Free
+owner_by (x ∷ w) b = cond (x.1 == b) (owner_of x.0) (owner_by w b)
 
--- the numbers of n blocks are those of the entries that have them; 0 where none has
-abbrev pub AreHeld : ℕ → List ℕ → Walk → Type 0
-AreHeld n numbers w = (length numbers ≡ n) × ((b : ℕ) → slice_index_or numbers b 0 ≡ unwrap_or (owner w b) 0)
+-- the node of the newest extension block or data block of the walk; 0 if it has none
+abbrev pub last_node : Walk → ℕ
+last_node [] = 0
+last_node (x ∷ w) = node_after (owner_of x.0) (last_node w)
+
+-- the owners that are kept of n blocks are those by the walk
+pub record AreOwned (n : ℕ) (owners : OwnersValue) (w : Walk) : Type 0 where
+  pub size : length owners.owners ≡ n
+  pub owner : (b : ℕ) → owner_at owners.owners b ≡ owner_by w b
+  pub node : owners.node ≡ last_node w
+
+-- whether a part owns block b
+abbrev pub is_owned : Found → ℕ → Bool
+is_owned f b = is_part (owner_at f.owners.owners b)
 
 -- the number of the data block that a role is, from 1; 0 of other roles
 abbrev pub data_number : Role → ℕ
@@ -138,10 +155,6 @@ data_number _ = 0
 abbrev pub number_at : Walk → ℕ → ℕ
 number_at [] b = 0
 number_at (x ∷ w) b = cond (x.1 == b) (data_number x.0) (number_at w b)
-
--- the numbers of n blocks are those of the data blocks that they are
-abbrev pub AreNumbered : ℕ → List ℕ → Walk → Type 0
-AreNumbered n numbers w = (length numbers ≡ n) × ((b : ℕ) → slice_index_or numbers b 0 ≡ number_at w b)
 
 -- block m of the table of a file
 abbrev pub member_in : Found → ℕ → ℕ → ℕ
@@ -163,12 +176,20 @@ IsPut (HeadPart n p s j) b old new = new ≡ old
 IsPut (DataPart n k) b old new = new ≡ old
 IsPut part b old new = Updates by_key old new (key_of (role_of part)) (Some b)
 
+-- the part may own the block: a block that is free, and a part after those of all nodes before its own
+pub record IsNextPart (part : Part) (b : ℕ) (f : Found) : Type 0 where
+  pub from : 2 ≤ b
+  pub below : b < length f.owners.owners
+  pub free : owner_at f.owners.owners b ≡ Free
+  pub number : HasNumber (owner_of (role_of part))
+  pub order : f.owners.node ≤ node_after (owner_of (role_of part)) f.owners.node
+  pub some : 1 ≤ f.left
+
 -- the part owns the block
 pub record IsOwned (part : Part) (b : ℕ) (f g : Found) : Type 0 where
   pub taken : IsPut part b f.taken g.taken
-  pub owned : g.owned.items ≡ set f.owned.items b true
-  pub owners : g.owners.items ≡ set f.owners.items b (entry_number (role_of part))
-  pub numbers : g.numbers.items ≡ set f.numbers.items b (data_number (role_of part))
+  pub owners : g.owners.owners ≡ set f.owners.owners b (owner_of (role_of part))
+  pub node : g.owners.node ≡ node_after (owner_of (role_of part)) f.owners.node
   pub left : g.left + 1 ≡ f.left
   pub avoided : g.avoided ≡ f.avoided
   pub findings : g.findings ≡ f.findings
@@ -216,7 +237,7 @@ pub record IsTaken (part : Part) (b : ℕ) (f g : Found) : Type 0 where
 
 -- the block is skipped
 pub record IsBlockSkipped (b : ℕ) (f g : Found) : Type 0 where
-  pub avoided : g.avoided.items ≡ with_mark (length f.owned.items) b f.avoided.items
+  pub avoided : g.avoided.items ≡ with_mark (length f.owners.owners) b f.avoided.items
   pub findings : g.findings ≡ f.findings
   pub rest : g ≡ record f { avoided = g.avoided; findings = g.findings }
 
@@ -229,11 +250,9 @@ pub record IsReported (x : Finding) (f g : Found) : Type 0 where
 -- the state is that of a course
 pub record Stands (image : List ℕ) (f : Found) (s : Course) : Type 0 where
   pub taken : (r : Role) → IsLookedUp r → get by_key f.taken (key_of r) ≡ at_key s.walk (key_of r)
-  pub owned : AreMarked (blocks image) f.owned.items s.walk
-  pub owners : AreHeld (blocks image) f.owners.items s.walk
-  pub numbers : AreNumbered (blocks image) f.numbers.items s.walk
+  pub owners : AreOwned (blocks image) f.owners s.walk
   pub avoided : AreAvoided (blocks image) f.avoided.items s.skipped
-  pub left : f.left ≡ unowned f.owned.items
+  pub left : f.left + owned_count f.owners.owners ≡ blocks image
   pub node : (n : ℕ) → slice_index f.nodes.items n ≡ node_block s.walk n
   pub count : length f.nodes.items ≡ suc (heads s.walk)
   pub few : length f.nodes.items + f.left ≤ suc (blocks image)

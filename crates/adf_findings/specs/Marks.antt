@@ -16,6 +16,8 @@ use Rattle.adf_findings.specs.declared.found.ChainPlace.{ChainPlace}
 use Rattle.adf_findings.specs.declared.found.Found.{Found}
 use Rattle.adf_findings.specs.declared.concern.Concern.{Concern}
 use Rattle.adf_findings.specs.declared.concern.Concern.TheVariants.{Entry, Within}
+use Rattle.adf_walk.specs.Owners.{owner_at}
+use Rattle.adf_walk.specs.WalkOwners.{entry_of, data_number_of}
 use Rattle.adf_findings.specs.Concerned.{node_of}
 use Rattle.adf_findings.specs.Sound.{says_data_of}
 
@@ -45,15 +47,22 @@ abbrev pub is_blamed : Found → List Finding → ℕ → Bool
 is_blamed f [] m = false
 is_blamed f (x ∷ xs) m = is_node (option_map node_of (blamed f x.part)) m || is_blamed f xs m
 
+-- the number of the entry that has block b, and that of the data block that it is; 0 if there is none
+abbrev pub entry_in_block : Found → ℕ → ℕ
+entry_in_block f b = entry_of (owner_at f.owners.owners b)
+
+abbrev pub number_in_block : Found → ℕ → ℕ
+number_in_block f b = data_number_of (owner_at f.owners.owners b)
+
 -- whether the data block at block b says that it is an OFS one of its file
 abbrev pub is_said : List ℕ → Found → ℕ → Bool
-is_said image f b = says_data_of image (slice_index f.nodes.items (slice_index f.owners.items b)) (slice_index f.numbers.items b) b
+is_said image f b = says_data_of image (slice_index f.nodes.items (entry_in_block f b)) (number_in_block f b) b
 
 -- the file of the data block at block b, if the block was also skipped, or says that it is an OFS one; none of other blocks
 abbrev pub doubted : List ℕ → Found → ℕ → Option ℕ
 doubted image f b =
-    cond (slice_index f.numbers.items b == 0) None
-    (cond (slice_index_or f.avoided.items b false || is_said image f b) (Some (slice_index f.owners.items b)) None)
+    cond (number_in_block f b == 0) None
+    (cond (slice_index_or f.avoided.items b false || is_said image f b) (Some (entry_in_block f b)) None)
 
 -- whether that is so of a data block of the file among the first k blocks
 abbrev pub is_doubted : List ℕ → Found → ℕ → ℕ → Bool

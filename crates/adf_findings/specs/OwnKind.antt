@@ -8,6 +8,8 @@ use Rattle.adf_names.specs.declared.kind.Kind.TheVariants.{Ofs, Ffs}
 use Rattle.adf_blocks.specs.Sizes.{blocks}
 use Rattle.adf_volume.specs.Image.{kind_of}
 use Rattle.adf_volume.specs.Walk.{node_block, Walk}
+use Rattle.adf_walk.specs.Owners.{owner_at}
+use Rattle.adf_walk.specs.WalkOwners.{entry_of, data_number_of}
 use Rattle.adf_findings.specs.declared.own_kind.Tally.{Tally}
 use Rattle.adf_findings.specs.Found.{number_at, owner}
 use Rattle.adf_findings.specs.Sound.{says_data_of}
@@ -21,8 +23,8 @@ said_at image w b =
 -- the same by what is kept of blocks and nodes
 abbrev pub said_in : List ℕ → SurveyValue → ℕ → Option Bool
 said_in image v b =
-    cond (slice_index v.numbers b == 0) None
-    (Some (says_data_of image (slice_index v.nodes (slice_index v.owners b)) (slice_index v.numbers b) b))
+    cond (data_number_of (owner_at v.owners b) == 0) None
+    (Some (says_data_of image (slice_index v.nodes (entry_of (owner_at v.owners b))) (data_number_of (owner_at v.owners b)) b))
 
 -- a tally with one more block
 abbrev pub tallied : Tally → Option Bool → Tally

@@ -1,7 +1,7 @@
 -- What is left of a file that may be damaged.
 -- Letters: w the walk of a survey; n a file's node, h the block of its header; k the number of a data block, from 0; b its block;
 -- size how many bytes are stated; found the block of each data block, if any; end a block.
-use Rattle.std.specs.Prelude.{ℕ, ◌+◌, ◌-◌, ◌*◌, ◌==◌, ◌&&◌, nat_lt, slice_index, List, [], ◌∷◌, ◌++◌, Option, Some, None, cond, length, min, replicate}
+use Rattle.std.specs.Prelude.{ℕ, ◌+◌, ◌-◌, ◌*◌, ◌==◌, ◌&&◌, nat_lt, List, [], ◌∷◌, ◌++◌, Option, Some, None, cond, length, min, replicate}
 use Rattle.std.proofs.Common.{suc, zero}
 use Rattle.adf_base.specs.Words.{block}
 use Rattle.adf_blocks.specs.declared.layout.TheConstants.{SIZE}
@@ -9,6 +9,8 @@ use Rattle.adf_blocks.specs.Sizes.{blocks, chunk, count}
 use Rattle.adf_volume.specs.Image.{held, kind_of, piece, word_in}
 use Rattle.adf_volume.specs.Walk.{node_block, Walk}
 use Rattle.adf_volume.specs.Walk.Role.{Data}
+use Rattle.adf_walk.specs.Owners.{owner_at}
+use Rattle.adf_walk.specs.WalkOwners.{entry_of, data_number_of}
 use Rattle.adf_findings.specs.declared.remains.Gap.{Gap}
 use Rattle.adf_findings.specs.Found.{at_key}
 use Rattle.adf_findings.specs.Files.{named_from}
@@ -82,7 +84,7 @@ gaps_of image w end n = let h = node_block w n in gaps_left image (size_stated i
 -- block b, if it is taken as data block k of entry n by the entries and the numbers kept of blocks
 abbrev pub data_at : List ℕ → SurveyValue → ℕ → ℕ → ℕ → Option ℕ
 data_at image v n k b =
-    cond (nat_lt b (blocks image) && ((slice_index v.owners b == n) && (slice_index v.numbers b == k + 1))) (Some b) None
+    cond (nat_lt b (blocks image) && ((entry_of (owner_at v.owners b) == n) && (data_number_of (owner_at v.owners b) == k + 1))) (Some b) None
 
 -- the block that the table of a file names as data block k, if it is taken as that
 abbrev pub data_named : List ℕ → SurveyValue → ℕ → ℕ → ℕ → Option ℕ

@@ -1,10 +1,13 @@
 -- The results of a survey.
 -- Letters: v a result; w, fs the walk and the findings of the survey; k the index of a finding; n a node; b a block; i the number of a page.
-use Rattle.std.specs.Prelude.{◌≡◌, ◌≤◌, ◌-◌, ◌/◌, ◌==◌, ◌↔◌, ℕ, Bool, true, cond, List, Option, Some, None, length, map, slice_get, slice_index, slice_index_or}
+use Rattle.std.specs.Prelude.{◌≡◌, ◌≤◌, ◌-◌, ◌/◌, ◌==◌, ◌↔◌, ℕ, Bool, true, cond, List, Option, Some, None, length, map, slice_get, slice_index}
 use Rattle.std.specs.BTreeMap.{is_at}
 use Rattle.std.specs.Map.{lookup}
 use Rattle.std.specs.Option.{option_flatten}
 use Rattle.adf_blocks.specs.declared.layout.TheConstants.{PAGE_BITS}
+use Rattle.adf_volume.specs.declared.owner.Owner.{Owner}
+use Rattle.adf_walk.specs.Owners.{is_part, owner_at}
+use Rattle.adf_walk.specs.WalkOwners.{entry_of, data_number_of}
 use Rattle.adf_volume.specs.Walk.{Has, heads, node_block, Walk}
 use Rattle.adf_volume.specs.Walk.Role.{Page}
 use Rattle.adf_findings.specs.declared.concern.Concern.{Concern}
@@ -18,15 +21,13 @@ use Rattle.adf_findings.specs.Parts.{by_key, finding_value, key_of}
 use Rattle.adf_findings.specs.Sound.{IsSound}
 use Rattle.adf_findings.specs.Survey.{FindingValue, IsSurvey, IsValidated}
 
--- the result: the findings and what they concern; of each block its entry, the number of the data block that it is, and whether a part
--- has it; the blocks of pages, by key; for each node its block, its parent, whether it is sound, and whether it is but for harmless findings of headers
+-- the result: the findings and what they concern; the owner of each block; the blocks of pages, by key;
+-- for each node its block, its parent, whether it is sound, and whether it is but for harmless findings of headers
 pub record SurveyValue : Type 0 where
   pub image : List ℕ
   pub findings : List Finding
   pub concerned : List (Option Concern)
-  pub owners : List ℕ
-  pub numbers : List ℕ
-  pub owned : List Bool
+  pub owners : List Owner
   pub taken : List (Key × ℕ)
   pub nodes : List ℕ
   pub parents : List ℕ
@@ -37,22 +38,22 @@ pub record SurveyValue : Type 0 where
 abbrev pub block_at : List (Key × ℕ) → Key → Option ℕ
 block_at taken k = lookup (is_at (by_key k)) taken
 
--- the entry of a block by the numbers kept of blocks; none for 0
-abbrev pub owner_at : List ℕ → ℕ → Option ℕ
-owner_at owners b = cond (slice_index_or owners b 0 == 0) None (Some (slice_index_or owners b 0))
+-- the entry that has a block by the owners of blocks; none for 0
+abbrev pub entry_at : List Owner → ℕ → Option ℕ
+entry_at owners b = cond (entry_of (owner_at owners b) == 0) None (Some (entry_of (owner_at owners b)))
 
 -- the entry of the block of a finding that it is taken
-abbrev pub owner_for : List ℕ → Finding → Option ℕ
-owner_for owners f = cond (is_taken f.cause) (owner_at owners f.block) None
+abbrev pub owner_for : List Owner → Finding → Option ℕ
+owner_for owners f = cond (is_taken f.cause) (entry_at owners f.block) None
 
 -- the result is that of this walk and these findings
 pub record TellsOf (v : SurveyValue) (w : Walk) (fs : List FindingValue) : Type 0 where
   pub survey : IsSurvey v.image w fs
   pub findings : map finding_value v.findings ≡ fs
   pub concerned : (k : ℕ) → option_flatten (slice_get v.concerned k) ≡ concern_of_nth w fs k
-  pub owner : (b : ℕ) → owner_at v.owners b ≡ owner w b
-  pub number : (b : ℕ) → slice_index_or v.numbers b 0 ≡ number_at w b
-  pub part : (b : ℕ) → has_mark v.owned b ≡ owns w b
+  pub owner : (b : ℕ) → entry_at v.owners b ≡ owner w b
+  pub number : (b : ℕ) → data_number_of (owner_at v.owners b) ≡ number_at w b
+  pub part : (b : ℕ) → is_part (owner_at v.owners b) ≡ owns w b
   pub page : (i : ℕ) → block_at v.taken (key_of (Page i)) ≡ at_key w (key_of (Page i))
   pub node : (n : ℕ) → slice_index v.nodes n ≡ node_block w n
   pub parent : (n : ℕ) → slice_index v.parents n ≡ parent_node w n

@@ -1,7 +1,7 @@
 // Comparison of the bitmap with the blocks that are owned.
 
 ghost use Rattle.std.specs.Prelude.{◌≡◌, ◌≤◌, ◌<◌, ◌+◌, ◌-◌, ◌*◌, ◌%◌, ◌||◌, ◌↔◌, ℕ, false};
-ghost use Rattle.std.specs.Prelude.{length, min, slice_index_or, IsBitSet, IsTrue, OnOk};
+ghost use Rattle.std.specs.Prelude.{min, slice_index_or, IsBitSet, IsTrue, OnOk};
 ghost use Rattle.adf_blocks.specs.declared.layout.TheConstants.{PAGE_BITS, PAGE_WORDS};
 ghost use Rattle.adf_blocks.specs.Sizes.{blocks};
 ghost use Rattle.std.specs.BTreeMap.{get};
@@ -10,7 +10,7 @@ ghost use Rattle.adf_volume.specs.Walk.Role.{Page};
 ghost use Rattle.adf_findings.specs.Parts.{by_key, key_of};
 ghost use Rattle.adf_findings.specs.Survey.{IsValidated, is_cache};
 ghost use Rattle.adf_findings.specs.Bits.{IsBitCompared, IsPageCompared};
-ghost use Rattle.adf_findings.specs.Found.{IsBitOf, IsCompleted, IsFinished, HasReportedOn, bit_cause};
+ghost use Rattle.adf_findings.specs.Found.{IsBitOf, IsCompleted, IsFinished, HasReportedOn, bit_cause, is_owned};
 
 use crate::found::Found;
 use crate::image::Image;
@@ -108,13 +108,12 @@ fn bit_cause(
 // Whether the bits of a word are set for the blocks without an owner alone, of those from `first` up to, but not
 // including, `end`.
 fn agree(found: &Found, first: u32, end: u32, word: u32) -> bool
-    requires inside { end ≤ length found.now.owned.items }
     requires word { end ≤ first + 32 }
     ensures { IsTrue result → (b : ℕ) → first ≤ b → b < end
-        → IsBitSet word (b - first) ↔ (slice_index_or found.now.owned.items b false ≡ false) }
+        → IsBitSet word (b - first) ↔ (is_owned found.now b ≡ false) }
 {
     for b in first..end {
-        if found.owned[b as usize] == is_set(word, b - first) {
+        if found.owners.is_part(b) == is_set(word, b - first) {
             return false;
         }
     }
@@ -130,7 +129,7 @@ fn compare_bit(image: &Image<'_>, found: &mut Found, b: u32, is_free: bool) -> R
     ensures reported { OnOk result (HasReportedOn image.now found.new (b + 1)) }
     ensures taken { OnOk result (found.new.taken ≡ found.old.taken) }
 {
-    match bit_cause(image, found, b, found.owned[b as usize], is_free) {
+    match bit_cause(image, found, b, found.owners.is_part(b), is_free) {
         Some(cause) => found.report(Finding {
             part: None,
             block: b,

@@ -1,7 +1,7 @@
 // The state of a survey.
 
 ghost use Rattle.std.specs.Prelude.{◌≡◌, ◌≤◌, ◌<◌, ◌+◌, ℕ, List, [], ◌∷◌, ◌++◌, IfOk, OnOk, Some, None};
-ghost use Rattle.std.specs.Prelude.{length, false, true, not, set, slice_index, slice_index_or, slice_set, map};
+ghost use Rattle.std.specs.Prelude.{length, false, true, not, set, slice_index, map};
 ghost use Rattle.std.specs.BTreeMap.{Updates};
 ghost use Rattle.adf_blocks.specs.Sizes.{blocks};
 ghost use Rattle.adf_tree.specs.NameSet.{has};
@@ -10,8 +10,8 @@ ghost use Rattle.adf_volume.specs.Positions.{position_of};
 ghost use Rattle.adf_volume.specs.Walk.{Walk};
 ghost use Rattle.adf_findings.specs.Parts.{by_key, finding_value, role_of};
 ghost use Rattle.adf_findings.specs.Found.{AreNamed, AreSame, Stands, IsChain, IsKept, IsReported, IsOwned, IsBlockSkipped};
-ghost use Rattle.adf_findings.specs.Found.{HasValidName, IsPut, IsTaken, KeepsName, KeepsParts, data_number};
-ghost use Rattle.adf_findings.specs.Found.{begun_marks, entry_number, known_at, member_in, new_in};
+ghost use Rattle.adf_findings.specs.Found.{HasValidName, IsPut, IsTaken, IsNextPart, KeepsName, KeepsParts};
+ghost use Rattle.adf_findings.specs.Found.{begun_marks, is_owned, known_at, member_in, new_in};
 ghost use Rattle.adf_findings.specs.Survey.{begun};
 
 use crate::header_name::upper_name;
@@ -19,6 +19,7 @@ use crate::image::Image;
 use crate::part::{Finding, Key, Part};
 use adf_base::NoMemory;
 use adf_tree::NameSet;
+use adf_walk::WalkOwners;
 use std::alloc::Global;
 use std::collections::BTreeMap;
 
@@ -29,17 +30,13 @@ pub struct ChainPlace {
     pub place: u32,
 }
 
-/// The state of a survey: the blocks of the taken parts by key, except headers and data blocks; for each block whether
-/// it is taken, the node of the entry that it belongs to (0 if there is none), the number of the data block that it is
-/// (from 1; 0 if it is none), and, once any was skipped, whether it was; the number of blocks not taken; the blocks of
-/// nodes; the valid names in the current chain; the findings; the parents of nodes; and the positions of headers, from
-/// node 1 on.
+/// The state of a survey: the blocks of the taken parts by key, except headers and data blocks; the owner of each block;
+/// for each block, once any was skipped, whether it was; the number of blocks not taken; the blocks of nodes; the valid
+/// names in the current chain; the findings; the parents of nodes; and the positions of headers, from node 1 on.
 #[derive(Drop)]
 pub struct Found {
     pub taken: BTreeMap<Key, u32>,
-    pub owned: Vec<bool>,
-    pub owners: Vec<u32>,
-    pub numbers: Vec<u32>,
+    pub owners: WalkOwners,
     pub avoided: Vec<bool>,
     pub left: u32,
     pub nodes: Vec<u32>,
@@ -82,23 +79,13 @@ impl Found {
     {
         let root = image.root();
         let blocks = image.blocks();
-        let Ok(owned) = vec![in alloc; false; blocks as usize] else {
-            return Err(NoMemory);
-        };
-        let Ok(owners) = vec![in alloc; 0u32; blocks as usize] else {
-            return Err(NoMemory);
-        };
+        let owners = WalkOwners::new(alloc, blocks)?;
         let Ok(parents) = vec![in alloc; 0u32; 1] else {
-            return Err(NoMemory);
-        };
-        let Ok(numbers) = vec![in alloc; 0u32; blocks as usize] else {
             return Err(NoMemory);
         };
         let mut found = Found {
             taken: BTreeMap::new(alloc),
-            owned,
             owners,
-            numbers,
             avoided: Vec::new(alloc),
             left: blocks,
             nodes: Vec::new(alloc),
@@ -134,9 +121,9 @@ impl Found {
 
     // Whether block `b` has no owner.
     pub fn is_absent(&self, b: u32) -> bool
-        ensures { result ≡ not (slice_index_or self.now.owned.items b false) }
+        ensures { result ≡ not (is_owned self.now b) }
     {
-        !self.owned.get(b as usize).copied().unwrap_or(false)
+        !self.owners.is_part(b)
     }
 
     // Keeps the block of a part by its key, unless it is a header or a data block.
@@ -151,42 +138,15 @@ impl Found {
         }
     }
 
-    // Keeps the entry that a part belongs to as that of block `b`.
-    #[inline(always)]
-    fn keep_owner(&mut self, part: Part, b: u32)
-        requires { b < length self.old.owners.items }
-        ensures owners { self.new.owners.items
-            ≡ set self.old.owners.items b (entry_number (role_of part)) }
-        ensures rest { self.new ≡ record self.old { owners = self.new.owners } }
-    {
-        self.owners[b as usize] = part.entry_number();
-    }
-
-    // Keeps the number of the data block that a part is.
-    #[inline(always)]
-    fn keep_number(&mut self, part: Part, b: u32)
-        requires { b < length self.old.numbers.items }
-        ensures numbers { self.new.numbers.items
-            ≡ set self.old.numbers.items b (data_number (role_of part)) }
-        ensures rest { self.new ≡ record self.old { numbers = self.new.numbers } }
-    {
-        self.numbers[b as usize] = part.data_number();
-    }
-
     // Makes a part the owner of block `b`.
     #[inline(always)]
     fn own(&mut self, part: Part, b: u32) -> Result<(), NoMemory>
-        requires owned { b < length self.old.owned.items }
-        requires owners { b < length self.old.owners.items }
-        requires numbers { b < length self.old.numbers.items }
-        requires some { 1 ≤ self.old.left }
+        requires next { IsNextPart part b self.old }
         ensures owned { OnOk result (IsOwned part b self.old self.new) }
         ensures rest { OnOk result (AreSame self.old self.new) }
     {
         self.keep_block(part, b)?;
-        self.keep_owner(part, b);
-        self.keep_number(part, b);
-        self.owned[b as usize] = true;
+        self.owners.claim(b, part.owner())?;
         self.left -= 1;
         Ok(())
     }
@@ -266,10 +226,7 @@ impl Found {
     #[tactic(auto, using(crate::proofs::Taking::taken_last))]
     #[inline(always)]
     pub fn take(&mut self, part: Part, b: u32) -> Result<(), NoMemory>
-        requires owned { b < length self.old.owned.items }
-        requires owners { b < length self.old.owners.items }
-        requires numbers { b < length self.old.numbers.items }
-        requires some { 1 ≤ self.old.left }
+        requires next { IsNextPart part b self.old }
         ensures { OnOk result (IsTaken part b self.old self.new) }
     {
         self.keep(part, b)?;
@@ -280,7 +237,7 @@ impl Found {
     pub fn skip(&mut self, b: u32) -> Result<(), NoMemory>
         ensures { OnOk result (IsBlockSkipped b self.old self.new) }
     {
-        begin_marks(&mut self.avoided, self.owned.len())?;
+        begin_marks(&mut self.avoided, self.owners.len() as usize)?;
         if (b as usize) < self.avoided.len() {
             self.avoided[b as usize] = true;
         }

@@ -10,6 +10,7 @@ ghost use Rattle.adf_findings.specs.Marks.{blamed, doubted, has_mark, is_blamed,
 use crate::concern::Concern;
 use crate::found::Found;
 use crate::image::Image;
+use crate::owners::{data_number_of, entry_of};
 use crate::part::{Finding, Part};
 use crate::survey_result::number_at;
 use adf_base::NoMemory;
@@ -18,12 +19,12 @@ use adf_tree::Kind;
 use std::alloc::Global;
 
 // Removes the mark of a node.
-fn strike(marks: &mut Vec<bool>, node: u32)
+fn strike(marks: &mut Vec<bool>, node: usize)
     ensures { (m : ℕ)
         → has_mark marks.new.items m ≡ (has_mark marks.old.items m && not (node == m)) }
 {
-    if (node as usize) < marks.len() {
-        marks[node as usize] = false;
+    if node < marks.len() {
+        marks[node] = false;
     }
 }
 
@@ -65,19 +66,20 @@ fn blamed(found: &Found, part: Option<Part>) -> Option<Concern>
 
 // The file of the data block at block `b`, if the block was also skipped, or says that it is an OFS one; `None` if it is
 // no data block.
-fn doubted(image: &Image<'_>, found: &Found, b: u32) -> Option<u32>
+fn doubted(image: &Image<'_>, found: &Found, b: u32) -> Option<usize>
     ensures { result ≡ doubted image.now found.now b }
 {
     let is_avoided = found.avoided.get(b as usize).copied().unwrap_or(false);
     if !is_avoided && image.word(b, TYPE) != T_DATA {
         return None;
     }
-    let number = number_at(&found.numbers, b as usize);
+    let owner = found.owners.at(b);
+    let number = data_number_of(&owner);
     if number == 0 {
         return None;
     }
-    let node = number_at(&found.owners, b as usize);
-    if is_avoided || image.says_data_of(found.node_block(node), number, b) {
+    let node = entry_of(&owner);
+    if is_avoided || image.says_data_of(number_at(&found.nodes, node), number, b) {
         Some(node)
     } else {
         None
@@ -108,7 +110,7 @@ pub fn strike_blamed(found: &Found, marks: &mut Vec<bool>)
 {
     for finding in &found.findings {
         if let Some(concern) = blamed(found, finding.part) {
-            strike(marks, concern.node());
+            strike(marks, concern.node() as usize);
         }
     }
 }

@@ -9,6 +9,7 @@ ghost use Rattle.adf_findings.specs.OwnKind.{is_mistyped, is_other_kind, retyped
 ghost use Rattle.adf_findings.specs.Survey.{OnSurvey};
 
 use crate::image::Image;
+use crate::owners::{data_number_of, entry_of};
 use crate::start::start;
 use crate::survey_result::{Survey, number_at};
 use adf_tree::{Kind, Node};
@@ -56,12 +57,12 @@ impl Survey<'_> {
     fn said_at(&self, image: &Image<'_>, b: u32) -> Option<bool>
         ensures { result ≡ said_in image.now self.now b }
     {
-        let number = number_at(&self.numbers, b as usize);
+        let owner = self.owners.at(b);
+        let number = data_number_of(&owner);
         if number == 0 {
             return None;
         }
-        let entry = number_at(&self.owners, b as usize);
-        let head = number_at(&self.nodes, entry as usize);
+        let head = number_at(&self.nodes, entry_of(&owner));
         Some(image.says_data_of(head, number, b))
     }
 
@@ -69,7 +70,7 @@ impl Survey<'_> {
     fn tally(&self, image: &Image<'_>) -> Tally
         ensures { OnSurvey self.now.image (λ w _. result ≡ tally image.now w (blocks image.now)) }
     {
-        let _numbers = &self.numbers;
+        let _owners = &self.owners;
         let mut tally = Tally { says: 0, others: 0 };
         for b in 0..image.blocks() {
             tally = tally.with(self.said_at(image, b));

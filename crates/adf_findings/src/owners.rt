@@ -1,13 +1,36 @@
-// The entries that hold the blocks of findings.
+// The entries that have blocks, and those that hold the blocks of findings.
 
 ghost use Rattle.std.specs.Prelude.{◌≡◌, slice_get};
 ghost use Rattle.std.specs.Option.{option_and_then};
 ghost use Rattle.adf_findings.specs.Concerned.{is_taken};
-ghost use Rattle.adf_findings.specs.SurveyResult.{owner_at, owner_for};
+ghost use Rattle.adf_findings.specs.SurveyResult.{entry_at, owner_for};
+ghost use Rattle.adf_walk.specs.WalkOwners.{entry_of, data_number_of};
 
 use crate::part::Finding;
 use adf_blocks::Cause;
 use adf_tree::Node;
+use adf_volume::Owner;
+use adf_walk::WalkOwners;
+
+/// The number of the entry that an owner is a part of; 0 of the root and the bitmap, and where there is none.
+pub fn entry_of(owner: &Owner) -> usize
+    ensures { result ≡ entry_of owner.now }
+{
+    match owner {
+        Owner::Head(node) | Owner::Ext(node, _) | Owner::Data(node, _) => node.0,
+        _ => 0,
+    }
+}
+
+/// The number of the data block that an owner is, from 1; 0 of others.
+pub fn data_number_of(owner: &Owner) -> u32
+    ensures { result ≡ data_number_of owner.now }
+{
+    match owner {
+        Owner::Data(_, k) => *k,
+        _ => 0,
+    }
+}
 
 // Whether the cause is that another part has the block.
 fn is_taken(cause: Cause) -> bool
@@ -17,29 +40,29 @@ fn is_taken(cause: Cause) -> bool
 }
 
 /// The entry of a block; `None` if it has none.
-pub fn owner_at(owners: &Vec<u32>, b: u32) -> Option<Node>
-    ensures { result ≡ owner_at owners.now.items b }
+pub fn entry_at(owners: &WalkOwners, b: u32) -> Option<Node>
+    ensures { result ≡ entry_at owners.now.owners b }
 {
-    match owners.get(b as usize).copied().unwrap_or(0) {
+    match entry_of(&owners.at(b)) {
         0 => None,
-        n => Some(Node(n as usize)),
+        n => Some(Node(n)),
     }
 }
 
 // The entry of the block of a finding, if its cause is that another part has the block.
-fn owner_for(owners: &Vec<u32>, finding: &Finding) -> Option<Node>
-    ensures { result ≡ owner_for owners.now.items finding.now }
+fn owner_for(owners: &WalkOwners, finding: &Finding) -> Option<Node>
+    ensures { result ≡ owner_for owners.now.owners finding.now }
 {
     if is_taken(finding.cause) {
-        owner_at(owners, finding.block)
+        entry_at(owners, finding.block)
     } else {
         None
     }
 }
 
 /// The entry of the block of the finding at an index, if its cause is that another part has the block.
-pub fn owner_nth(owners: &Vec<u32>, findings: &Vec<Finding>, k: usize) -> Option<Node>
-    ensures { result ≡ option_and_then (owner_for owners.now.items) (slice_get findings.now.items k) }
+pub fn owner_nth(owners: &WalkOwners, findings: &Vec<Finding>, k: usize) -> Option<Node>
+    ensures { result ≡ option_and_then (owner_for owners.now.owners) (slice_get findings.now.items k) }
 {
     match findings.get(k) {
         Some(finding) => owner_for(owners, finding),

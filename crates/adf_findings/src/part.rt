@@ -1,13 +1,17 @@
 // The parts of a volume, and findings.
 
-ghost use Rattle.std.specs.Prelude.{◌≡◌};
-ghost use Rattle.adf_findings.specs.Found.{data_number, entry_number};
+ghost use Rattle.std.specs.Prelude.{◌≡◌, ◌<◌, ◌^◌, true};
 ghost use Rattle.adf_findings.specs.Parts.{key_of, role_of};
 ghost use Rattle.adf_volume.proofs.Roles.{renumbered};
+ghost use Rattle.adf_volume.specs.LayoutRoles.{owner_of};
 ghost use Rattle.adf_volume.specs.Walk.{third};
 ghost use Rattle.adf_volume.specs.Walk.Role.{Page};
+ghost use Rattle.adf_walk.specs.Owners.{is_part};
+ghost use Rattle.adf_walk.specs.WalkOwners.{entry_of};
 
 use adf_blocks::{Cause, MAP_EXT_PAGES, ROOT_PAGES};
+use adf_tree::Node;
+use adf_volume::Owner;
 
 /// A part of a volume.
 ///
@@ -70,23 +74,19 @@ impl Part {
         }
     }
 
-    // The number of the entry that the part belongs to; 0 for the root and the bitmap.
-    pub(crate) fn entry_number(self) -> u32
-        ensures { result ≡ entry_number (role_of self) }
+    // The part as the owner of a block.
+    pub(crate) fn owner(self) -> Owner
+        ensures owner { result ≡ owner_of (role_of self) }
+        ensures part { is_part result ≡ true }
+        ensures small { entry_of result < 2 ^ 32 }
     {
         match self {
-            Part::Head { node, .. } | Part::Ext(node, _) | Part::Data(node, _) => node,
-            _ => 0,
-        }
-    }
-
-    // The number of the data block that the part is, from 1; 0 of other parts.
-    pub(crate) fn data_number(self) -> u32
-        ensures { result ≡ data_number (role_of self) }
-    {
-        match self {
-            Part::Data(_, k) => k,
-            _ => 0,
+            Part::Root => Owner::Root,
+            Part::Page(i) => Owner::Page(i),
+            Part::MapExt(j) => Owner::MapExt(j),
+            Part::Head { node, .. } => Owner::Head(Node(node as usize)),
+            Part::Ext(node, k) => Owner::Ext(Node(node as usize), k),
+            Part::Data(node, k) => Owner::Data(Node(node as usize), k),
         }
     }
 

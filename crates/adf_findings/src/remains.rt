@@ -10,6 +10,7 @@ ghost use Rattle.adf_findings.specs.Remains.{size_stated, with_gap, with_lost};
 ghost use Rattle.adf_findings.specs.Survey.{OnSurvey};
 
 use crate::image::Image;
+use crate::owners::{data_number_of, entry_of};
 use crate::start::start;
 use crate::survey_result::{Survey, number_at};
 use adf_base::NoMemory;
@@ -163,9 +164,8 @@ impl<'i> Survey<'i> {
         ensures data { result ≡ data_at image.now self.now n k b }
         ensures inside { IfSome result (λ b. b < blocks image.now) }
     {
-        let entry = number_at(&self.owners, b as usize) as usize;
-        let number = number_at(&self.numbers, b as usize);
-        let is_own = entry == n.0 && number == k + 1;
+        let owner = self.owners.at(b);
+        let is_own = entry_of(&owner) == n.0 && data_number_of(&owner) == k + 1;
         if b < image.blocks() && is_own {
             Some(b)
         } else {

@@ -23,13 +23,14 @@ use crate::concern::Concern;
 use crate::file::SoundFile;
 use crate::header_name::name_in;
 use crate::opening::Opening;
-use crate::owners::{owner_at, owner_nth};
+use crate::owners::{data_number_of, entry_at, owner_nth};
 use crate::part::{Finding, Key};
 use crate::start::start;
 use adf_base::{Block, Letters, NoMemory};
 use adf_blocks::{HeadBody, SECONDARY_TYPE, ST_FILE, meta_stated};
 use adf_tree::{Meta, Node};
 use adf_volume::letters_in;
+use adf_walk::WalkOwners;
 use std::alloc::Global;
 use std::collections::BTreeMap;
 use std::marker::Model;
@@ -40,9 +41,7 @@ pub struct Survey<'i> {
     pub(crate) image: &'i [u8],
     pub(crate) findings: Vec<Finding>,
     pub(crate) concerned: Vec<Option<Concern>>,
-    pub(crate) owners: Vec<u32>,
-    pub(crate) numbers: Vec<u32>,
-    pub(crate) owned: Vec<bool>,
+    pub(crate) owners: WalkOwners,
     pub(crate) taken: BTreeMap<Key, u32>,
     pub(crate) nodes: Vec<u32>,
     pub(crate) parents: Vec<u32>,
@@ -59,9 +58,7 @@ impl<'i> Model for Survey<'i> {
       image = v.image.now;
       findings = v.findings.items;
       concerned = v.concerned.items;
-      owners = v.owners.items;
-      numbers = v.numbers.items;
-      owned = v.owned.items;
+      owners = v.owners.owners;
       taken = v.taken.entries;
       nodes = v.nodes.items;
       parents = v.parents.items;
@@ -73,9 +70,7 @@ impl<'i> Model for Survey<'i> {
       image = v.image.now;
       findings = v.findings.items;
       concerned = v.concerned.items;
-      owners = v.owners.items;
-      numbers = v.numbers.items;
-      owned = v.owned.items;
+      owners = v.owners.owners;
       taken = v.taken.entries;
       nodes = v.nodes.items;
       parents = v.parents.items;
@@ -153,7 +148,7 @@ impl Survey<'_> {
     pub fn entry_at(&self, b: u32) -> Option<Node>
         ensures { OnSurvey self.now.image (λ w _. result ≡ owner w b) }
     {
-        owner_at(&self.owners, b)
+        entry_at(&self.owners, b)
     }
 
     /// The number of the data block of a file that a block is, from 1; 0 for a block that is none, and past the last block.
@@ -161,7 +156,7 @@ impl Survey<'_> {
     pub fn data_number(&self, b: u32) -> u32
         ensures { OnSurvey self.now.image (λ w _. result ≡ number_of w b) }
     {
-        number_at(&self.numbers, b as usize)
+        data_number_of(&self.owners.at(b))
     }
 
     /// Whether a block is a part of what is found: the root, a block of the bitmap, or a block of an entry.
@@ -169,7 +164,7 @@ impl Survey<'_> {
     pub fn has_part(&self, b: u32) -> bool
         ensures { OnSurvey self.now.image (λ w _. result ≡ owns w b) }
     {
-        has_mark(&self.owned, b as usize)
+        self.owners.is_part(b)
     }
 
     /// The number of entries found.

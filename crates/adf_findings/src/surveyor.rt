@@ -17,6 +17,7 @@ use crate::survey_result::Survey;
 use adf_base::NoMemory;
 use adf_blocks::Cause;
 use adf_volume::Fault;
+use adf_walk::WalkOwners;
 use std::alloc::Global;
 use std::collections::BTreeMap;
 use std::mem::replace;
@@ -49,6 +50,7 @@ fn only<'i>(alloc: Global, image: &'i [u8], unread: Unread) -> Result<Survey<'i>
 {
     let mut findings = Vec::new(alloc);
     report_boot(&mut findings, unread.boot)?;
+    let owners = WalkOwners::new(alloc, 2)?;
     let finding = Finding {
         part: None,
         block: unread.last.block,
@@ -59,9 +61,7 @@ fn only<'i>(alloc: Global, image: &'i [u8], unread: Unread) -> Result<Survey<'i>
             image,
             findings,
             concerned: Vec::new(alloc),
-            owners: Vec::new(alloc),
-            numbers: Vec::new(alloc),
-            owned: Vec::new(alloc),
+            owners,
             taken: BTreeMap::new(alloc),
             nodes: Vec::new(alloc),
             parents: Vec::new(alloc),
@@ -116,8 +116,6 @@ fn go_through<'i>(alloc: Global, started: &Started<'i>) -> Result<Survey<'i>, No
         findings,
         concerned,
         owners: found.owners,
-        numbers: found.numbers,
-        owned: found.owned,
         taken: found.taken,
         nodes: found.nodes,
         parents: found.parents,

@@ -1,4 +1,6 @@
 pub mod KeptOwner
 pub mod OwnerClass
 pub mod OwnerTable
+pub mod Owners
 pub mod Places
+pub mod WalkOwners

@@ -1,6 +1,6 @@
 -- Places in the list of all extension blocks and in that of all data blocks, and the owners that are kept by them.
 -- Letters: n, m nodes; k a number within a file, from 1.
-use Rattle.std.specs.Prelude.{◌≡◌, ℕ, List, ◌+◌, ◌-◌, ◌<◌, ◌≤◌, length, slice_index_or}
+use Rattle.std.specs.Prelude.{◌≡◌, ℕ, List, ◌+◌, ◌-◌, ◌<◌, ◌≤◌, count_by, length, nat_le, slice_index_or}
 use Rattle.std.specs.List.Sorted.{IsNonDecreasingBy}
 use Rattle.adf_volume.specs.declared.owner.Owner.{Owner}
 use Rattle.adf_volume.specs.declared.owner.Owner.TheVariants as owner
@@ -31,6 +31,21 @@ pub record IsLastStart (first : NodeStart → ℕ) (starts : List NodeStart) (pl
   pub within : n < length starts
   pub begins : first (start_of starts n) ≤ place
   pub last : (m : ℕ) → n < m → m < length starts → place < first (start_of starts m)
+
+-- the last node whose blocks begin at a place or before it, where later ones begin at later places
+abbrev pub last_start : (NodeStart → ℕ) → List NodeStart → ℕ → ℕ
+last_start first starts place = count_by (λ s. nat_le (first s) place) starts - 1
+
+-- the owner that is kept so
+abbrev pub owner_kept : List NodeStart → KeptOwner → Owner
+owner_kept starts Free = owner.Free
+owner_kept starts Boot = owner.Boot
+owner_kept starts Root = owner.Root
+owner_kept starts (Page k) = owner.Page k
+owner_kept starts (MapExt k) = owner.MapExt k
+owner_kept starts (Head n) = owner.Head n
+owner_kept starts (Ext i) = let n = last_start first_ext starts i in owner.Ext n (i - (start_of starts n).exts + 1)
+owner_kept starts (Data i) = let n = last_start first_data starts i in owner.Data n (i - (start_of starts n).datas + 1)
 
 -- what is kept of an owner: of an extension block or a data block, its place among those of all files
 abbrev pub kept_as : List NodeStart → Owner → KeptOwner

@@ -1,7 +1,7 @@
 // The owner of a block as a check keeps it.
 
 ghost use Rattle.std.specs.Prelude.{◌≡◌, ◌<◌, ◌^◌, ◌↔◌, IsTrue};
-ghost use Rattle.adf_walk.specs.KeptOwner.{place_of, unpacked};
+ghost use Rattle.adf_walk.specs.KeptOwner.{is_claimed, place_of, unpacked};
 ghost use Rattle.adf_walk.specs.OwnerClass.{class_kept};
 
 use crate::owner_class::OwnerClass;
@@ -78,7 +78,14 @@ impl PackedOwner {
         }
     }
 
-    // Whether no part of the volume owns the block.
+    // Whether a part of the volume owns the block.
+    pub fn is_claimed(self) -> bool
+        ensures { result ≡ is_claimed (unpacked self) }
+    {
+        self.0 % 8 >= 2
+    }
+
+    // Whether no part of the volume owns the block, and it is no boot block.
     pub fn is_free(self) -> bool
         ensures { IsTrue result ↔ (unpacked self ≡ KeptOwner.Free) }
     {

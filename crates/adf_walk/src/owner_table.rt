@@ -98,6 +98,27 @@ impl OwnerTable {
         self.owners[b as usize].is_free()
     }
 
+    // Whether a part of the volume owns a block; not past the last block.
+    pub fn is_claimed(&self, b: u32) -> bool
+        ensures { result ≡ is_claimed (kept_at self.now b) }
+    {
+        match self.owners.get(b as usize) {
+            Some(owner) => owner.is_claimed(),
+            None => false,
+        }
+    }
+
+    // The owner of a block; `Free` past the last block.
+    pub fn at(&self, b: u32) -> KeptOwner
+        ensures owner { result ≡ kept_at self.now b }
+        ensures place { place_of result < 2 ^ 29 }
+    {
+        match self.owners.get(b as usize) {
+            Some(owner) => owner.unpacked(),
+            None => KeptOwner::Free,
+        }
+    }
+
     // Whether the blocks from `first` up to, but not including, `end` all have no owner, or all have one.
     pub fn are_all(&self, first: u32, end: u32, is_free: bool) -> bool
         requires { end ≤ length self.now }

@@ -4,6 +4,7 @@ ghost use Rattle.std.specs.Prelude.{◌≡◌, ◌<◌, ◌^◌};
 ghost use Rattle.adf_volume.specs.declared.owner.Owner.{Owner};
 ghost use Rattle.adf_walk.specs.KeptOwner.{place_of};
 ghost use Rattle.adf_walk.specs.Places.{AreStarts, IsLastStart, IsNumbered, first_data, first_ext, kept_as};
+ghost use Rattle.adf_walk.specs.Places.{last_start, owner_kept};
 
 use crate::kept_owner::KeptOwner;
 use crate::node_start::NodeStart;
@@ -13,7 +14,8 @@ use adf_volume::Owner;
 // The file of the extension block at a place.
 fn file_of_ext(starts: &[NodeStart], place: u32) -> usize
     requires { AreStarts first_ext starts.now }
-    ensures { IsLastStart first_ext starts.now place result }
+    ensures last { IsLastStart first_ext starts.now place result }
+    ensures node { result ≡ last_start first_ext starts.now place }
 {
     starts.partition_point(|start| start.exts <= place) - 1
 }
@@ -21,7 +23,8 @@ fn file_of_ext(starts: &[NodeStart], place: u32) -> usize
 // The file of the data block at a place.
 fn file_of_data(starts: &[NodeStart], place: u32) -> usize
     requires { AreStarts first_data starts.now }
-    ensures { IsLastStart first_data starts.now place result }
+    ensures last { IsLastStart first_data starts.now place result }
+    ensures node { result ≡ last_start first_data starts.now place }
 {
     starts.partition_point(|start| start.datas <= place) - 1
 }
@@ -31,7 +34,8 @@ pub fn owner_of(starts: &[NodeStart], kept: KeptOwner) -> Owner
     requires exts { AreStarts first_ext starts.now }
     requires datas { AreStarts first_data starts.now }
     requires place { place_of kept < 2 ^ 29 }
-    ensures { (o : Owner) → IsNumbered starts.now o → kept ≡ kept_as starts.now o → result ≡ o }
+    ensures owner { result ≡ owner_kept starts.now kept }
+    ensures part { (o : Owner) → IsNumbered starts.now o → kept ≡ kept_as starts.now o → result ≡ o }
 {
     match kept {
         KeptOwner::Free => Owner::Free,

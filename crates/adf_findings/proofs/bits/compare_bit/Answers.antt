@@ -1,5 +1,4 @@
-use Rattle.std.proofs.Common.{false, refl, sym, subst, ◌∙◌, arith}
-use Rattle.std.proofs.lemmas.List.{get_or_default}
+use Rattle.std.proofs.Common.{refl, sym, subst}
 use Rattle.std.proofs.lemmas.Result.{on_ok_weaker}
 use Rattle.adf_findings.specs.Found.{BitTells}
 use Rattle.adf_findings.proofs.BitSteps.{bit_tells, none_on, some_on}
@@ -13,7 +12,7 @@ returns-in-Some-clause-reported c =
     on_ok_weaker c.report.result
     (λ n. some_on image f c.report.new.self b c.in-Some.cause _ c.requires.low refl
     (λ s fs v st. subst (BitTells image s b) c.in-Some.is (subst (BitTells image s b) (sym c.bit_cause.ensures)
-    (rw (c.index.ensures ∙ get_or_default f.owned.items b _ false (omega (arith, st.owned.0, c.requires.inside)))
+    (rw c.is_part.ensures
     (bit_tells image f s v fs st b c.args.is_free c.requires.inside c.requires.bit))))
     n c.requires.reported)
     c.report.ensures
@@ -25,6 +24,6 @@ returns-in-None-clause-reported c =
     let b = c.args.b in
     none_on image f b c.requires.low
     (λ s fs v st. subst (BitTells image s b) c.in-None.is (subst (BitTells image s b) (sym c.bit_cause.ensures)
-    (rw (c.index.ensures ∙ get_or_default f.owned.items b _ false (omega (arith, st.owned.0, c.requires.inside)))
+    (rw c.is_part.ensures
     (bit_tells image f s v fs st b c.args.is_free c.requires.inside c.requires.bit))))
     c.requires.reported

@@ -1,28 +1,13 @@
-use Rattle.std.proofs.Common.{◌≡◌, ◌+◌, arith}
-use Rattle.adf_findings.proofs.CourseSteps.{skipped_on, taken_left, taken_marked, taken_numbers, taken_on, taken_owners, to_skip, to_take}
+use Rattle.std.proofs.Common.{◌≡◌, ◌+◌, subst, sym, arith}
+use Rattle.adf_findings.specs.Found.{IsNextPart}
+use Rattle.adf_findings.proofs.CourseSteps.{skipped_on, taken_next, taken_on, to_skip, to_take}
 use Rattle.adf_findings.proofs.course.go_on.Goals as goal
 
-pub take-requires-clause-owned : goal.take-requires-clause-owned
-take-requires-clause-owned c =
+pub take-requires : goal.take-requires
+take-requires c =
     let n = c.requires.due.1 in
     let o = to_take n c.word.ensures c.in_ok-part.ensures c.in-Some.part c.in-Some.is in
-    omega (arith, o.inside, c.word.ensures, taken_marked n o)
-
-pub take-requires-clause-owners : goal.take-requires-clause-owners
-take-requires-clause-owners c =
-    let n = c.requires.due.1 in
-    let o = to_take n c.word.ensures c.in_ok-part.ensures c.in-Some.part c.in-Some.is in
-    omega (arith, o.inside, c.word.ensures, taken_owners n o)
-
-pub take-requires-clause-numbers : goal.take-requires-clause-numbers
-take-requires-clause-numbers c =
-    let n = c.requires.due.1 in
-    let o = to_take n c.word.ensures c.in_ok-part.ensures c.in-Some.part c.in-Some.is in
-    omega (arith, o.inside, c.word.ensures, taken_numbers n o)
-
-pub take-requires-clause-some : goal.take-requires-clause-some
-take-requires-clause-some c =
-    let n = c.requires.due.1 in taken_left n (to_take n c.word.ensures c.in_ok-part.ensures c.in-Some.part c.in-Some.is)
+    record { next = subst (λ b. IsNextPart c.in-Some.part b c.judge_next.new.found) (sym c.word.ensures) (taken_next n o) }
 
 pub returns-in_ok-take-in-Some-clause-gone : goal.returns-in_ok-take-in-Some-clause-gone
 returns-in_ok-take-in-Some-clause-gone c = λ s n.

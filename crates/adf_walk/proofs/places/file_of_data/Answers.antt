@@ -2,7 +2,7 @@ use Rattle.std.proofs.Common.{◌≤◌, ◌-◌, leb, rules}
 use Rattle.std.proofs.lemmas.List.Sorted.{IsPartitionPoint-from_clause, IsPartitionedBy-leb}
 use Rattle.adf_walk.specs.declared.node_start.NodeStart.{NodeStart}
 use Rattle.adf_walk.specs.Places.{IsLastStart, first_data}
-use Rattle.adf_walk.proofs.KeptPlaces.{last_found}
+use Rattle.adf_walk.proofs.KeptPlaces.{last_found, last_is}
 use Rattle.adf_walk.proofs.places.file_of_data.Goals.{After-partition_point}
 use Rattle.adf_walk.proofs.places.file_of_data.Goals as goal
 
@@ -18,4 +18,4 @@ pub overflow_sub-result : goal.overflow_sub-result
 overflow_sub-result c = (found c).0
 
 pub returns : goal.returns
-returns c = (found c).1
+returns c = record { last = (found c).1; node = last_is first_data c.args.starts.now c.args.place (c.partition_point.result - 1) c.requires (found c).1 }

@@ -1,0 +1,176 @@
+-- Places that are given: when nodes are begun, what was kept is the same owner still.
+-- Letters: p, q places that are given; xs starts, x a start; c how many; n a node; i a place; k a number of a block, or an owner as it is kept.
+use Rattle.std.specs.Prelude.{count_by}
+use Rattle.std.proofs.Common.{◌≡◌, ℕ, zero, suc, List, [], ◌∷◌, ◌++◌, ◌+◌, ◌-◌, ◌<◌, ◌≤◌, ◌^◌, inl, inr, length, get_or, map, replicate, set}
+use Rattle.std.proofs.Common.{false, nat_le, refl, sym, ap, subst, ◌∙◌, arith}
+use Rattle.std.specs.Global.{Vec}
+use Rattle.std.specs.List.{All}
+use Rattle.std.proofs.lemmas.Bool.{cases_lt, lt-leb}
+use Rattle.std.proofs.lemmas.List.{get_or-append_right, get_or_append_left, length-append, length-replicate, map-set}
+use Rattle.std.proofs.lemmas.List.Sums.{count_by-le-length}
+use Rattle.std.proofs.lemmas.List.Sorted.{IsNonDecreasingBy-from_default}
+use Rattle.std.proofs.lemmas.Grind.{common_steps}
+use Rattle.adf_volume.specs.declared.owner.Owner.{Owner}
+use Rattle.adf_volume.specs.declared.owner.Owner.TheVariants as owner
+use Rattle.adf_walk.specs.declared.given_places.GivenPlaces.{GivenPlaces}
+use Rattle.adf_walk.specs.declared.kept_owner.KeptOwner.{KeptOwner}
+use Rattle.adf_walk.specs.declared.kept_owner.KeptOwner.TheVariants.{Free, Boot, Ext, Data}
+use Rattle.adf_walk.specs.declared.node_start.NodeStart.{NodeStart}
+use Rattle.adf_walk.specs.Places.{AreStarts, first_data, first_ext, last_start, owner_kept, start_of}
+use Rattle.adf_walk.specs.WalkOwners.{AreFit, AreGrown, IsInside, IsKeptBy}
+use Rattle.adf_walk.proofs.KeptPlaces.{last_is}
+
+at_replicate : (c : ℕ) (x : NodeStart) (n : ℕ) (d : NodeStart) → n < c → get_or (replicate c x) n d ≡ x
+at_replicate zero x n d lt = absurd (omega (arith, lt))
+at_replicate (suc c) x zero d lt = refl
+at_replicate (suc c) x (suc n) d lt = at_replicate c x n d (omega (arith, lt))
+
+module _ (xs : List NodeStart) (c : ℕ) (x : NodeStart) where
+  abbrev more : List NodeStart
+  more = xs ++ replicate c x
+
+  many : length more ≡ length xs + c
+  many = omega (arith, length-append xs (replicate c x), length-replicate c x)
+
+  -- the start of a node that was begun, and of one that is begun
+  start_left : (n : ℕ) → n < length xs → start_of more n ≡ start_of xs n
+  start_left n lt = get_or_append_left xs (replicate c x) (record { exts = 0; datas = 0 }) n lt
+
+  start_right : (n : ℕ) → length xs ≤ n → n < length more → start_of more n ≡ x
+  start_right n le lt =
+      get_or-append_right xs (replicate c x) (length xs) n (record { exts = 0; datas = 0 }) refl le
+      ∙ at_replicate c x (n - length xs) (record { exts = 0; datas = 0 }) (omega (arith, le, lt, many))
+
+  -- no node that is begun behind a place is the last one whose blocks begin there
+  none_more : (first : NodeStart → ℕ) (c i : ℕ) → i < first x → count_by (λ s. nat_le (first s) i) (replicate c x) ≡ 0
+  none_more first zero i lt = refl
+  none_more first (suc c) i lt =
+      let no : nat_le (first x) i ≡ false = lt-leb (first x) i lt in
+      let rest = none_more first c i lt in
+      grind (arith, common_steps)
+
+  as_many : (first : NodeStart → ℕ) (ys : List NodeStart) (i : ℕ) → i < first x
+      → count_by (λ s. nat_le (first s) i) (ys ++ replicate c x) ≡ count_by (λ s. nat_le (first s) i) ys
+  as_many first [] i lt = none_more first c i lt
+  as_many first (y ∷ ys) i lt = let rest = as_many first ys i lt in grind (arith, common_steps)
+
+  same_last : (first : NodeStart → ℕ) (i : ℕ) → i < first x → last_start first more i ≡ last_start first xs i
+  same_last first i lt = ap (λ n. n - 1) (as_many first xs i lt)
+
+  -- starts in order, where all come before those that are begun
+  starts_more : (first : NodeStart → ℕ) → AreStarts first xs → ((n : ℕ) → n < length xs → first (start_of xs n) ≤ first x) → AreStarts first more
+  starts_more first are up = record {
+    some = omega (arith, are.some, many);
+    zero = ap first (start_left 0 are.some) ∙ are.zero;
+    rising = IsNonDecreasingBy-from_default first more (record { exts = 0; datas = 0 }) (λ i j le lt. elim (cases_lt j (length xs)) [
+      | inl in' ↦
+          let a = ap first (start_left i (omega (arith, le, in'))) in
+          let b = ap first (start_left j in') in
+          let r = are.rising i j (record { exts = 0; datas = 0 }) le in' in omega (arith, a, b, r)
+      | inr past ↦
+          let b = ap first (start_right j past lt) in
+          elim (cases_lt i (length xs)) [
+            | inl in' ↦ let a = ap first (start_left i in') in omega (arith, a, b, up i in')
+            | inr past ↦ let a = ap first (start_right i past (omega (arith, le, lt))) in omega (arith, a, b)
+          ]
+    ]);
+  }
+
+-- what is so of the starts, of how many places are given, and of an owner that was kept
+module _ (p : GivenPlaces) (fit : AreFit p) (c : ℕ) where
+  abbrev xs : List NodeStart
+  xs = p.starts.items
+
+  abbrev x : NodeStart
+  x = record { exts = p.exts; datas = p.datas }
+
+  abbrev zs : List NodeStart
+  zs = xs ++ replicate c x
+
+  ends_more : (n : ℕ) → n < length zs → ((start_of zs n).exts ≤ p.exts) × ((start_of zs n).datas ≤ p.datas)
+  ends_more n lt = elim (cases_lt n (length xs)) [
+    | inl in' ↦
+        let e = start_left xs c x n in' in
+        let z = fit.ends n in' in
+        (omega (arith, ap first_ext e, z.0), omega (arith, ap first_data e, z.1))
+    | inr past ↦ let e = start_right xs c x n past lt in (omega (arith, ap first_ext e), omega (arith, ap first_data e))
+  ]
+
+  same_kept : (k : KeptOwner) → IsInside p.exts p.datas k → owner_kept zs k ≡ owner_kept xs k
+  same_kept (Ext i) lt =
+      let n : ℕ = last_start first_ext xs i in
+      let in' : n < length xs = omega (arith, count_by-le-length (λ s. nat_le (first_ext s) i) xs, fit.exts.some) in
+      ap (λ n. owner.Ext n (i - (start_of zs n).exts + 1)) (same_last xs c x first_ext i lt)
+      ∙ ap (λ (s : NodeStart). owner.Ext n (i - s.exts + 1)) (start_left xs c x n in')
+  same_kept (Data i) lt =
+      let n : ℕ = last_start first_data xs i in
+      let in' : n < length xs = omega (arith, count_by-le-length (λ s. nat_le (first_data s) i) xs, fit.datas.some) in
+      ap (λ n. owner.Data n (i - (start_of zs n).datas + 1)) (same_last xs c x first_data i lt)
+      ∙ ap (λ (s : NodeStart). owner.Data n (i - s.datas + 1)) (start_left xs c x n in')
+  same_kept k lt = refl
+
+  -- nodes are begun
+  pub begun_grown : (starts : Vec NodeStart) → starts.items ≡ zs → AreGrown p (record { starts = starts; exts = p.exts; datas = p.datas })
+  begun_grown starts e = record {
+    fit = record {
+      exts = subst (AreStarts first_ext) (sym e) (starts_more xs c x first_ext fit.exts (λ n lt. (fit.ends n lt).0));
+      datas = subst (AreStarts first_data) (sym e) (starts_more xs c x first_data fit.datas (λ n lt. (fit.ends n lt).1));
+      ends = (λ n lt.
+          subst (λ zs. ((start_of zs n).exts ≤ p.exts) × ((start_of zs n).datas ≤ p.datas)) (sym e)
+          (ends_more n (omega (arith, lt, ap length e))));
+      short = fit.short;
+    };
+    same = (λ k in'. subst (λ zs. owner_kept zs k ≡ owner_kept xs k) (sym e) (same_kept k in'));
+    more = (omega arith, omega arith);
+  }
+
+-- block k of the last node that is begun is kept by its place
+module _ (p : GivenPlaces) (fit : AreFit p) (n k place : ℕ) (begun : length p.starts.items ≡ n + 1) (number : 1 ≤ k) (short : place < 2 ^ 29) where
+  pub ext_kept : (exts : ℕ) → place ≡ (start_of p.starts.items n).exts + (k - 1) → place < exts
+      → IsKeptBy (record { starts = p.starts; exts = exts; datas = p.datas }) (owner.Ext n k) (Ext place)
+  ext_kept exts is lt =
+      let last =
+      last_is first_ext p.starts.items place n fit.exts
+      (record { within = omega (arith, begun); begins = omega (arith, is); last = (λ m lo hi. absurd (omega (arith, lo, hi, begun))) }) in
+      record {
+        owner = ap (λ m. owner.Ext m (place - (start_of p.starts.items m).exts + 1)) (sym last) ∙ ap (owner.Ext n) (omega (arith, is, number));
+        inside = lt;
+        short = short;
+      }
+
+  pub data_kept : (datas : ℕ) → place ≡ (start_of p.starts.items n).datas + (k - 1) → place < datas
+      → IsKeptBy (record { starts = p.starts; exts = p.exts; datas = datas }) (owner.Data n k) (Data place)
+  data_kept datas is lt =
+      let last =
+      last_is first_data p.starts.items place n fit.datas
+      (record { within = omega (arith, begun); begins = omega (arith, is); last = (λ m lo hi. absurd (omega (arith, lo, hi, begun))) }) in
+      record {
+        owner = ap (λ m. owner.Data m (place - (start_of p.starts.items m).datas + 1)) (sym last) ∙ ap (owner.Data n) (omega (arith, is, number));
+        inside = lt;
+        short = short;
+      }
+
+-- of a new table all blocks but two are free
+pub new_owners : (xs : List NodeStart) (n : ℕ)
+    → map (owner_kept xs) (Boot ∷ Boot ∷ replicate n Free) ≡ owner.Boot ∷ owner.Boot ∷ replicate n owner.Free
+new_owners xs n = ap (λ os. owner.Boot ∷ owner.Boot ∷ os) (free n)
+  where
+    free : (n : ℕ) → map (owner_kept xs) (replicate n Free) ≡ replicate n owner.Free
+    free zero = refl
+    free (suc n) = ap (λ os. owner.Free ∷ os) (free n)
+
+same_owners : (p q : GivenPlaces) → AreGrown p q → (table : List KeptOwner) → All (IsInside p.exts p.datas) table
+    → map (owner_kept q.starts.items) table ≡ map (owner_kept p.starts.items) table
+same_owners p q grown [] in' = refl
+same_owners p q grown (k ∷ table) in' =
+    let first = grown.same k (in' 0 k (omega arith)) in
+    let others = same_owners p q grown table (λ n d lt. in' (suc n) d (omega (arith, lt))) in
+    λ t. first t ∷ others t
+
+-- an owner is kept for a block
+pub owners_claimed : (p q : GivenPlaces) (table : List KeptOwner) (b : ℕ) (o : Owner) (k : KeptOwner) → AreGrown p q
+    → All (IsInside p.exts p.datas) table → IsKeptBy q o k
+    → map (owner_kept q.starts.items) (set table b k) ≡ set (map (owner_kept p.starts.items) table) b o
+owners_claimed p q table b o k grown in' kept =
+    map-set (owner_kept q.starts.items) table b k
+    ∙ (λ t. set (same_owners p q grown table in' t) b (kept.owner t))

@@ -1,0 +1,11 @@
+use Rattle.std.proofs.Common.{arith}
+use Rattle.std.proofs.lemmas.Grind.{common_steps}
+use Rattle.adf_walk.proofs.GrownPlaces.{owners_claimed}
+use Rattle.adf_walk.proofs.walk_owners.WalkOwners.claim.Goals as goal
+
+pub returns-clause-owners : goal.returns-clause-owners
+returns-clause-owners c =
+    let claimed =
+    owners_claimed c.self.inside.places c.kept.new.self c.self.inside.table c.args.b c.args.owner c.in_ok-kept.kept c.in_ok-kept.ensures.grown
+    c.self.invariant.1 c.in_ok-kept.ensures.kept in
+    grind (arith, common_steps)
