@@ -1,7 +1,7 @@
 -- The data blocks of an FFS file that are taken as they are.
 -- Letters: x the table of the file; k the number of the data block, b its block; a, m the block of the table that points to it,
 -- and its number; f, g states.
-use Rattle.std.specs.Prelude.{Bool, true, false, not, nat_le, nat_lt, ◌&&◌, ◌||◌, slice_index_or}
+use Rattle.std.specs.Prelude.{Bool, true, false, not, nat_le, nat_lt, ◌&&◌, ◌||◌}
 use Rattle.std.proofs.Common.{◌≡◌, ℕ, List, ◌+◌, ◌-◌, ◌*◌, ◌<◌, ◌≤◌, refl, sym, subst, ◌∙◌}
 use Rattle.std.proofs.lemmas.Bool.{and_parts}
 use Rattle.adf_names.specs.declared.kind.Kind.{Kind}
@@ -19,9 +19,9 @@ use Rattle.adf_findings.specs.declared.judge.Judgement.TheVariants.{Clean}
 use Rattle.adf_findings.specs.Survey.JudgementValue.{clean}
 use Rattle.adf_findings.specs.Courses.{HasReachedNamed, IsNamed, IsToTake, due_in, end_in}
 use Rattle.adf_findings.specs.Forms.{data_clauses, first_of_five, in_range, judged_by}
-use Rattle.adf_findings.specs.Found.{IsTaken}
+use Rattle.adf_findings.specs.Found.{IsNextPart, IsTaken, is_owned}
 use Rattle.adf_findings.proofs.CoursePlaces.{data_gone, data_is_named}
-use Rattle.adf_findings.proofs.CourseSteps.{is_next, taken_left, taken_on}
+use Rattle.adf_findings.proofs.CourseSteps.{is_next, taken_next, taken_on}
 use Rattle.adf_findings.proofs.Judgements.{judged_named}
 use Rattle.adf_findings.proofs.Outcomes.{clean_outcome}
 
@@ -33,7 +33,7 @@ no_cause a b h k n next bytes kept is enough ranges absent =
 
 module _ {image : List ℕ} {f : Found} {x : FileTable} {m a k b : ℕ} (y : HasReachedNamed image f x m a k) (ffs : kind_of image ≡ Ffs)
     (from : POINTERS * m ≤ k) (to : k < end_in x (m + 1)) (named : b ≡ word_in image a (FIRST_POINTER - (k - POINTERS * m)))
-    (tests : ((nat_lt 0 k || nat_le x.count x.room) && (in_range image b && not (slice_index_or f.owned.items b false))) ≡ true) where
+    (tests : ((nat_lt 0 k || nat_le x.count x.room) && (in_range image b && not (is_owned f b))) ≡ true) where
   abbrev i : ℕ
   i = FIRST_POINTER - (k - POINTERS * m)
 
@@ -49,18 +49,18 @@ module _ {image : List ℕ} {f : Found} {x : FileTable} {m a k b : ℕ} (y : Has
   abbrev facts : Facts
   facts = record {
     is_enough = nat_lt 0 k || nat_le x.count x.room;
-    is_absent = not (slice_index_or f.owned.items c false);
+    is_absent = not (is_owned f c);
     context = record { up = x.head; next = 0 };
   }
 
   abbrev reference : Reference
   reference = record { due = due_in x k 0; holder = a; block = c }
 
-  parts : ((nat_lt 0 k || nat_le x.count x.room) ≡ true) × (in_range image c ≡ true) × (not (slice_index_or f.owned.items c false) ≡ true)
+  parts : ((nat_lt 0 k || nat_le x.count x.room) ≡ true) × (in_range image c ≡ true) × (not (is_owned f c) ≡ true)
   parts =
-      let t = subst (λ b. ((nat_lt 0 k || nat_le x.count x.room) && (in_range image b && not (slice_index_or f.owned.items b false))) ≡ true) named tests in
-      let p = and_parts (nat_lt 0 k || nat_le x.count x.room) (in_range image c && not (slice_index_or f.owned.items c false)) t in
-      let q = and_parts (in_range image c) (not (slice_index_or f.owned.items c false)) p.1 in
+      let t = subst (λ b. ((nat_lt 0 k || nat_le x.count x.room) && (in_range image b && not (is_owned f b))) ≡ true) named tests in
+      let p = and_parts (nat_lt 0 k || nat_le x.count x.room) (in_range image c && not (is_owned f c)) t in
+      let q = and_parts (in_range image c) (not (is_owned f c)) p.1 in
       (p.0, q.0, q.1)
 
   to_take : IsToTake image y.course reference f f part
@@ -70,8 +70,8 @@ module _ {image : List ℕ} {f : Found} {x : FileTable} {m a k b : ℕ} (y : Has
       let next = is_next is_named in
       clean_outcome reference y.holds.course y.holds.stands next part refl Clean (told y.course is_named.holds next refl) refl refl refl
 
-  pub some_left : 1 ≤ f.left
-  some_left = taken_left is_named to_take
+  pub data_next : IsNextPart part b f
+  data_next = subst (λ b. IsNextPart part b f) (sym named) (taken_next is_named to_take)
 
   pub data_taken : {g : Found} → IsTaken part b f g → HasReachedNamed image g x m a (k + 1)
   data_taken {g} t = data_gone y {next = 0} refl (taken_on is_named to_take (subst (λ b. IsTaken part b f g) named t))

@@ -2,7 +2,7 @@
 // extension blocks, then its data blocks.
 
 ghost use Rattle.std.specs.Prelude.{◌≡◌, ◌<◌, ◌≤◌, ◌+◌, ◌*◌, ◌/◌, ◌%◌, ◌==◌, ◌^◌, IfOk, IfSome, OnOk, Some, cond, length, nat_le, nat_lt};
-ghost use Rattle.std.specs.Prelude.{◌||◌, ◌&&◌, false, not, slice_index_or};
+ghost use Rattle.std.specs.Prelude.{◌||◌, ◌&&◌, not};
 ghost use Rattle.adf_names.specs.declared.kind.Kind.TheVariants.{Ffs};
 ghost use Rattle.adf_blocks.specs.declared.layout.TheConstants.{POINTERS, SLOTS};
 ghost use Rattle.adf_blocks.specs.Sizes.{blocks, pages_needed};
@@ -11,7 +11,7 @@ ghost use Rattle.adf_volume.specs.Positions.{before_node, position_of, word_of_m
 ghost use Rattle.adf_findings.specs.Survey.{Course};
 ghost use Rattle.adf_findings.specs.Forms.{in_range};
 ghost use Rattle.adf_findings.specs.Parts.{role_of};
-ghost use Rattle.adf_findings.specs.Found.{IsFinished, member_in};
+ghost use Rattle.adf_findings.specs.Found.{IsFinished, is_owned, member_in};
 ghost use Rattle.adf_findings.specs.Courses.{HasReached, HasReachedData, HasReachedFile, HasReachedPage, HasReachedPart};
 ghost use Rattle.adf_findings.specs.Courses.{HasReachedSlot, Holds, IsGoneOn, IsJudged, IsNamed, IsNextReference};
 ghost use Rattle.adf_findings.specs.Courses.{HasReachedTable, IsOutcome, IsPageNamed, KeepsNameBy, due_below, due_in, end_in};
@@ -352,7 +352,7 @@ fn table_end(table: &FileTable, m: u32) -> u32
 #[inline(always)]
 fn is_ffs_data(image: &Image<'_>, found: &Found, table: &FileTable, k: u32, b: u32) -> bool
     ensures { result ≡ ((nat_lt 0 k || nat_le table.now.count table.now.room)
-        && (in_range image.now b && not (slice_index_or found.now.owned.items b false))) }
+        && (in_range image.now b && not (is_owned found.now b))) }
 {
     (k > 0 || table.count <= table.room) && b >= 2 && b < image.blocks() && found.is_absent(b)
 }

@@ -2,17 +2,17 @@ use Rattle.std.proofs.Common.{◌≡◌, ◌+◌, ◌<◌, refl, sym, subst, ◌
 use Rattle.adf_names.specs.declared.kind.Kind.TheVariants.{Ofs, Ffs}
 use Rattle.adf_findings.specs.Courses.{HasReachedNamed, HasReachedTable, end_in}
 use Rattle.adf_findings.proofs.CoursePlaces.{data_gone, due_named, named_begins, named_ends}
-use Rattle.adf_findings.proofs.DataTaking.{data_taken, some_left}
+use Rattle.adf_findings.proofs.DataTaking.{data_next, data_taken}
 use Rattle.adf_findings.proofs.course.go_through_ffs_table.Goals.{then-is_ffs_data+in_ok-take, else-is_ffs_data+in_ok-go_on_ffs}
 use Rattle.adf_findings.proofs.course.go_through_ffs_table.Goals as goal
 
 pub loop-k-init : goal.loop-k-init
 loop-k-init c = let some = c.requires.some in named_begins c.requires.at (omega arith) c.member_block-holder.ensures
 
-pub take-requires-clause-some : goal.take-requires-clause-some
-take-requires-clause-some c =
+pub take-requires : goal.take-requires
+take-requires c =
     let to : c.loop-k.k < end_in c.args.table.now (c.args.m + 1) = omega (arith, c.loop-k-test.true, c.table_end-k-end.ensures) in
-    some_left c.loop-k.invariant c.requires.kind c.loop-k.auto.k to c.word-b.ensures (sym c.is_ffs_data.ensures ∙ c.if-is_ffs_data.true)
+    record { next = data_next c.loop-k.invariant c.requires.kind c.loop-k.auto.k to c.word-b.ensures (sym c.is_ffs_data.ensures ∙ c.if-is_ffs_data.true) }
 
 pub go_on_ffs-requires-clause-due : goal.go_on_ffs-requires-clause-due
 go_on_ffs-requires-clause-due c =
