@@ -7,6 +7,8 @@ use Rattle.std.proofs.lemmas.Bool.Decides.{eqb_tells, nat_tests}
 use Rattle.std.proofs.lemmas.Grind.{common_steps}
 use Rattle.adf_names.specs.declared.kind.Kind.{Kind, TheVariants.Ofs, TheVariants.Ffs}
 use Rattle.adf_blocks.specs.Sizes.{blocks}
+use Rattle.adf_base.specs.Words.{block, long_sum}
+use Rattle.adf_blocks.specs.declared.layout.TheConstants.{DATA_HEAD, DATA_NUMBER, TYPE, T_DATA}
 use Rattle.adf_volume.specs.Image.{kind_of, root_of, word_in}
 use Rattle.adf_volume.specs.Lists.{In}
 use Rattle.adf_volume.specs.Walk.{Role, Same, Has, Asks, Lacks, IsAbsent, heads, node_block, Walk}
@@ -22,7 +24,7 @@ use Rattle.adf_findings.specs.declared.concern.Concern.TheVariants.{Entry, Withi
 use Rattle.adf_findings.specs.Concerned.{node_of}
 use Rattle.adf_findings.specs.Forms.{Tells}
 use Rattle.adf_findings.specs.Found.{Stands, at_key, owns}
-use Rattle.adf_findings.proofs.WalkOwners.{entry_is, number_is as data_number_is}
+use Rattle.adf_findings.proofs.WalkOwners.{both, entry_is, number_is as data_number_is}
 use Rattle.adf_findings.specs.Marks.{blamed, doubted, entry_in_block, is_blamed, is_clear, is_doubted, is_doubtful, is_node, is_header, is_said}
 use Rattle.adf_findings.specs.Marks.{number_in_block}
 use Rattle.adf_findings.specs.Parts.{key_of, part_role, finding_value}
@@ -270,6 +272,16 @@ not_doubted image f (suc k) m b e lt s =
 -- what a data block tells
 abbrev told_of : List ℕ → Found → ℕ → Option ℕ
 told_of image f b = cond (slice_index_or f.avoided.items b false || is_said image f b) (Some (entry_in_block f b)) None
+
+-- no block is doubted that was not skipped and has another type
+pub none_doubted : (image : List ℕ) (f : Found) (b : ℕ) → (slice_index_or f.avoided.items b false || (word_in image b TYPE == T_DATA)) ≡ false
+    → doubted image f b ≡ None
+none_doubted image f b e =
+    let parts = or_parts (slice_index_or f.avoided.items b false) (word_in image b TYPE == T_DATA) e in
+    let said : is_said image f b ≡ false =
+    ap (λ t. t && (word_in image b DATA_HEAD == slice_index f.nodes.items (entry_in_block f b))
+    && (word_in image b DATA_NUMBER == number_in_block f b) && (long_sum (block image b) == 0)) parts.1 in
+    (λ i. cond (number_in_block f b == 0) None (cond (parts.0 i || said i) (Some (entry_in_block f b)) None)) ∙ both (number_in_block f b == 0) None
 
 -- what is doubted is a data block that was also skipped, or says that it is an OFS one
 doubted_is : (image : List ℕ) (f : Found) (b m : ℕ) → doubted image f b ≡ Some m

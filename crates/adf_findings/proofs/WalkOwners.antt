@@ -20,7 +20,7 @@ through : {X Y : Type 0} (f : X → Y) (t : Bool) (x y : X) → f (cond t x y) �
 through f true x y = refl
 through f false x y = refl
 
-both : {X : Type 0} (t : Bool) (x : X) → cond t x x ≡ x
+pub both : {X : Type 0} (t : Bool) (x : X) → cond t x x ≡ x
 both true x = refl
 both false x = refl
 

@@ -1,8 +1,10 @@
 // The marks of sound entries.
 
-ghost use Rattle.std.specs.Prelude.{◌≡◌, ◌==◌, ◌&&◌, ℕ, IfOk, map, not};
+ghost use Rattle.std.specs.Prelude.{◌≡◌, ◌==◌, ◌&&◌, ◌||◌, ℕ, IfOk, false, map, not, slice_index_or};
 ghost use Rattle.std.specs.List.{filter};
+ghost use Rattle.adf_blocks.specs.declared.layout.TheConstants.{TYPE, T_DATA};
 ghost use Rattle.adf_blocks.specs.Sizes.{blocks};
+ghost use Rattle.adf_volume.specs.Image.{word_in};
 ghost use Rattle.adf_findings.specs.Files.{is_harmless, is_light};
 ghost use Rattle.adf_findings.specs.Parts.{finding_value};
 ghost use Rattle.adf_findings.specs.Marks.{blamed, doubted, has_mark, is_blamed, is_doubted, is_header, is_node, is_undoubted};
@@ -64,13 +66,20 @@ fn blamed(found: &Found, part: Option<Part>) -> Option<Concern>
     }
 }
 
+// Whether a block was skipped, or has the type of an OFS data block.
+fn is_dubious(image: &Image<'_>, found: &Found, b: u32) -> bool
+    ensures { result ≡ (slice_index_or found.now.avoided.items b false || (word_in image.now b TYPE == T_DATA)) }
+{
+    found.avoided.get(b as usize).copied().unwrap_or(false) || image.word(b, TYPE) == T_DATA
+}
+
 // The file of the data block at block `b`, if the block was also skipped, or says that it is an OFS one; `None` if it is
 // no data block.
+#[tactic(auto, using(crate::proofs::SoundMarks::none_doubted))]
 fn doubted(image: &Image<'_>, found: &Found, b: u32) -> Option<usize>
     ensures { result ≡ doubted image.now found.now b }
 {
-    let is_avoided = found.avoided.get(b as usize).copied().unwrap_or(false);
-    if !is_avoided && image.word(b, TYPE) != T_DATA {
+    if !is_dubious(image, found, b) {
         return None;
     }
     let owner = found.owners.at(b);
