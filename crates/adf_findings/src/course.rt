@@ -1,8 +1,8 @@
 // The course of a survey: the pages of the bitmap, then the nodes in order; for a directory its chains, for a file its
 // extension blocks, then its data blocks.
 
-ghost use Rattle.std.specs.Prelude.{◌≡◌, ◌<◌, ◌≤◌, ◌+◌, ◌*◌, ◌/◌, ◌%◌, ◌==◌, ◌^◌, IfOk, IfSome, OnOk, Some, cond, length, nat_le, nat_lt};
-ghost use Rattle.std.specs.Prelude.{◌||◌, ◌&&◌, false, not, slice_index_or};
+ghost use Rattle.std.specs.Prelude.{◌≡◌, ◌<◌, ◌≤◌, ◌+◌, ◌*◌, ◌/◌, ◌%◌, ◌==◌, ◌^◌, IfOk, IfSome, OnOk, Some, cond, length};
+ghost use Rattle.std.specs.Prelude.{◌||◌, ◌&&◌, false, nat_le, nat_lt, not, slice_index_or};
 ghost use Rattle.adf_names.specs.declared.kind.Kind.TheVariants.{Ffs};
 ghost use Rattle.adf_blocks.specs.declared.layout.TheConstants.{POINTERS, SLOTS};
 ghost use Rattle.adf_blocks.specs.Sizes.{blocks, pages_needed};
