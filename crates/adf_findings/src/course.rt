@@ -467,10 +467,14 @@ fn go_through_datas(
     requires at { HasReachedData image.now found.old node b exts }
     ensures { OnOk result (HasReached image.now found.new (before_node (node + 1))) }
 {
+    let count = image.data_count(b);
+    if count == 0 {
+        return Ok(());
+    }
     let table = FileTable {
         node,
         head: b,
-        count: image.data_count(b),
+        count,
         room: POINTERS as u32 * (exts + 1),
     };
     let end = table.count.min(table.room);
