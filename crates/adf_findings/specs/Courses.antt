@@ -1,6 +1,6 @@
 -- The state of a survey along its course.
 -- Letters: s a course, w its walk; f, g states; k a position; a, i the block and the word that point to a part;
--- b a block; n, p nodes; y a part that is due; x a reference; j a judgement.
+-- b a block; n, p nodes; y a part that is due; x a reference, or the table of a file; m the number of a block in it; j a judgement.
 use Rattle.std.specs.Prelude.{◌≡◌, ◌≤◌, ◌<◌, ◌+◌, ◌*◌, ◌||◌, ℕ, true, false, nat_le, nat_lt, min, List, ◌∷◌, Option, Some, None, IfSome}
 use Rattle.std.proofs.Common.{suc}
 use Rattle.adf_blocks.specs.declared.layout.TheConstants.{POINTERS}
@@ -175,7 +175,7 @@ due_in x k next = record {
 abbrev pub HasReachedTable : List ℕ → Found → FileTable → ℕ → Type 0
 HasReachedTable image f x done = (s : Course) × Holds image f (position_of (Data x.node (suc done))) s × HasTable image f s x
 
--- and block a, of number m in the table, is one of the table
+-- a course has reached a data block, after `done` others, of a file with this table; block a is number m of the table
 pub record HasReachedNamed (image : List ℕ) (f : Found) (x : FileTable) (m a done : ℕ) : Type 0 where
   pub course : Course
   pub holds : Holds image f (position_of (Data x.node (suc done))) course

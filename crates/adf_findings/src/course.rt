@@ -1,8 +1,8 @@
 // The course of a survey: the pages of the bitmap, then the nodes in order; for a directory its chains, for a file its
 // extension blocks, then its data blocks.
 
-ghost use Rattle.std.specs.Prelude.{◌≡◌, ◌<◌, ◌≤◌, ◌+◌, ◌*◌, ◌/◌, ◌%◌, ◌==◌, ◌^◌, IfOk, IfSome, OnOk, Some, cond, length, nat_le, nat_lt};
-ghost use Rattle.std.specs.Prelude.{◌||◌, ◌&&◌, not};
+ghost use Rattle.std.specs.Prelude.{◌≡◌, ◌<◌, ◌≤◌, ◌+◌, ◌*◌, ◌/◌, ◌%◌, ◌==◌, ◌^◌, IfOk, IfSome, OnOk, Some, cond, length};
+ghost use Rattle.std.specs.Prelude.{◌||◌, ◌&&◌, nat_le, nat_lt, not};
 ghost use Rattle.adf_names.specs.declared.kind.Kind.TheVariants.{Ffs};
 ghost use Rattle.adf_blocks.specs.declared.layout.TheConstants.{POINTERS, SLOTS};
 ghost use Rattle.adf_blocks.specs.Sizes.{blocks, pages_needed};
@@ -467,10 +467,14 @@ fn go_through_datas(
     requires at { HasReachedData image.now found.old node b exts }
     ensures { OnOk result (HasReached image.now found.new (before_node (node + 1))) }
 {
+    let count = image.data_count(b);
+    if count == 0 {
+        return Ok(());
+    }
     let table = FileTable {
         node,
         head: b,
-        count: image.data_count(b),
+        count,
         room: POINTERS as u32 * (exts + 1),
     };
     let end = table.count.min(table.room);

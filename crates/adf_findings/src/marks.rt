@@ -88,6 +88,7 @@ fn doubted(image: &Image<'_>, found: &Found, b: u32) -> Option<usize>
         return None;
     }
     let node = entry_of(&owner);
+    let is_avoided = found.avoided.get(b as usize).copied().unwrap_or(false);
     if is_avoided || image.says_data_of(number_at(&found.nodes, node), number, b) {
         Some(node)
     } else {

@@ -6,8 +6,8 @@ use Rattle.adf_findings.proofs.course.go_through_datas.Goals as goal
 
 pub loop-m-init : goal.loop-m-init
 loop-m-init c =
-    let none : 0 ≡ min (min c.data_count.result (POINTERS * (c.args.exts + 1))) (POINTERS * 0) = omega arith in
-    subst (HasReachedTable c.args.image.now c.args.found.now _) none (datas_begin c.requires.at c.data_count.ensures)
+    let none : 0 ≡ min (min c.data_count-count.result (POINTERS * (c.args.exts + 1))) (POINTERS * 0) = omega arith in
+    subst (HasReachedTable c.args.image.now c.args.found.now _) none (datas_begin c.requires.at c.data_count-count.ensures)
 
 pub go_through_table-requires-clause-at : goal.go_through_table-requires-clause-at
 go_through_table-requires-clause-at c =
@@ -16,3 +16,7 @@ go_through_table-requires-clause-at c =
 
 pub returns : goal.returns
 returns c = datas_done c.loop-m.invariant (λ j lt few. omega (arith, c.loop-m-test.false, c.min-end.ensures, c.div_ceil-m-end.ensures))
+
+pub returns-then-count-eq0 : goal.returns-then-count-eq0
+returns-then-count-eq0 c =
+    datas_done (datas_begin c.requires.at c.data_count-count.ensures) (λ j lt few. omega (arith, c.if-count-eq0.true, lt))
