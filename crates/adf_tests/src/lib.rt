@@ -14,4 +14,6 @@ mod images_in_memory;
 #[cfg(test)]
 mod rescues;
 #[cfg(test)]
+mod subjects;
+#[cfg(test)]
 mod table_builds;
