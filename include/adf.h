@@ -522,7 +522,8 @@ struct adf_rescue_told {
  * 0: the room begins with the volume, of told->blocks * 512 bytes, which adf_check accepts, and the tables have what is not in it.
  *    told->losses and told->paths are the whole numbers: a table that is smaller has the front part. The rest of each room is
  *    unchanged.
- * An adf_cause: nothing stands. It is the first fault of the image, at told->block.
+ * An adf_cause: nothing stands. It is the first fault of the image, at told->block; where adf_survey_subject would change the type,
+ *    of the image with that type.
  * ADF_RESCUE_SMALL_ROOM: the volume has told->blocks blocks, and the room has fewer bytes. A volume has as many blocks as the image;
  *    if blocks is not 0, it has so many. A room of as many blocks is not refused so.
  * ADF_NO_MEMORY: an allocation failed. All fields are 0.
