@@ -1,8 +1,7 @@
 -- The start of a course.
-use Rattle.std.specs.Prelude.{Bool, false, cond, Some, None, map, slice_index, slice_index_or, nat_lt, replicate, ◌==◌, ◌-◌}
+use Rattle.std.specs.Prelude.{Bool, false, cond, Some, None, slice_index, slice_index_or, nat_lt, replicate, ◌==◌, ◌-◌}
 use Rattle.std.proofs.Common.{◌≡◌, ℕ, zero, suc, List, [], ◌∷◌, ◌++◌, length, ◌<◌, ◌≤◌, refl, sym, subst, ap, ◌∙◌, arith, inl}
 use Rattle.std.specs.Ordering.{is_eq}
-use Rattle.std.specs.Global.{Vec}
 use Rattle.std.specs.Map.{lookup}
 use Rattle.std.specs.BTreeMap.{BTreeMap, IsEmpty, is_at}
 use Rattle.std.proofs.lemmas.Bool.{le-ltb}
@@ -17,9 +16,8 @@ use Rattle.adf_volume.specs.Walk.Role.{Root}
 use Rattle.adf_volume.proofs.PositionSteps.{with_root}
 use Rattle.adf_findings.specs.declared.part.Part.TheVariants.{Root as RootPart}
 use Rattle.adf_findings.specs.declared.found.Found.{Found}
-use Rattle.adf_findings.specs.declared.part.Finding.{Finding}
 use Rattle.adf_findings.specs.Survey.{FindingValue, IsCourse, begun}
-use Rattle.adf_findings.specs.Parts.{by_key, key_of, finding_value}
+use Rattle.adf_findings.specs.Parts.{by_key, key_of}
 use Rattle.adf_findings.specs.Courses.{HasReachedPage}
 use Rattle.adf_volume.specs.declared.owner.Owner.{Owner}
 use Rattle.adf_volume.specs.declared.owner.Owner.TheVariants.{Free, Boot, Root as TheRoot}
@@ -88,10 +86,10 @@ root_next image f root many is new node left =
 -- nothing is found but the root
 pub stands_begun : (image : List ℕ) (f g h : Found) → 4 ≤ blocks image → IsEmpty f.taken
     → f.owners.owners ≡ Boot ∷ Boot ∷ replicate (blocks image - 2) Free → f.owners.node ≡ 0 → f.avoided.items ≡ []
-    → f.left ≡ blocks image → f.nodes.items ≡ [] → f.findings.items ≡ [] → f.parents.items ≡ 0 ∷ [] → f.places.items ≡ []
+    → f.left ≡ blocks image → f.nodes.items ≡ [] → f.parents.items ≡ 0 ∷ [] → f.places.items ≡ []
     → IsOwned RootPart (root_of image) f g → AreSame f g → h ≡ record g { nodes = h.nodes }
     → h.nodes.items ≡ g.nodes.items ++ root_of image ∷ [] → root_of image < blocks image → Stands image h (begun image [])
-stands_begun image f g h many taken new node avoided left nodes findings parents places o e same pushed lt =
+stands_begun image f g h many taken new node avoided left nodes parents places o e same pushed lt =
     let n : ℕ = blocks image in
     let root : ℕ = root_of image in
     let lo : 2 ≤ n = omega (arith, many) in
@@ -111,22 +109,20 @@ stands_begun image f g h many taken new node avoided left nodes findings parents
       node = (λ m. ap (λ xs. slice_index xs m) items ∙ one_node root m);
       count = ap length items;
       few = (let l : length h.nodes.items ≡ 1 = ap length items in omega (arith, l, o.left, left));
-      findings = ap (λ v. map finding_value v.items) o.findings ∙ ap (map finding_value) findings;
       parent = (λ m. ap (λ v. slice_index v.items m) e.parents ∙ (ap (λ xs. slice_index xs m) parents ∙ none_default 1 0 m));
       parents = ap (λ v. length v.items) e.parents ∙ ap length parents;
       places = ap (λ v. v.items) e.places ∙ places;
     })
-
--- the findings of the boot block stand behind none
-pub stands_boot : (image : List ℕ) (f : Found) (reported : Vec Finding) (fs : List FindingValue) → Stands image f (begun image [])
-    → map finding_value reported.items ≡ map finding_value f.findings.items ++ fs → Stands image (record f { findings = reported }) (begun image fs)
-stands_boot image f reported fs st e = grind (arith, common_steps, stands_but)
 
 module _ (image : List ℕ) (fs : List FindingValue) where
   no_names : (names : Names) → AreNamed image (begun image fs).walk (before_page 0) names
   no_names names name m p s j b valid e f h = absurd (omega arith)
 
   -- the course begins at the first page, whose block the root names
-  pub on_begun : (f : Found) → IsCourse image (begun image fs) → Stands image f (begun image fs) → blocks image ≤ 1048576
-      → HasReachedPage image f 0 (root_of image)
-  on_begun f course st small = grind (arith, common_steps, with_root, no_names)
+  begun_at : (f : Found) → IsCourse image (begun image fs) → Stands image f (begun image fs) → blocks image ≤ 1048576
+      → HasReachedPage image f fs 0 (root_of image)
+  begun_at f course st small = grind (arith, common_steps, with_root, no_names)
+
+  pub on_begun : (f : Found) → IsCourse image (begun image fs) → Stands image f (begun image []) → blocks image ≤ 1048576
+      → HasReachedPage image f fs 0 (root_of image)
+  on_begun f course st small = begun_at f course (stands_but image f f (begun image []) [] fs refl st st.avoided) small

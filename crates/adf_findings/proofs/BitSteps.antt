@@ -1,5 +1,6 @@
 -- The findings of the bits.
-use Rattle.std.proofs.Common.{Bool, true, false, ◌||◌, not, Option, Some, None, IsTrue, ◌↔◌, ◌≡◌, ℕ, suc, List, [], ◌∷◌, ◌++◌, inl, inr, ◌+◌, ◌-◌, ◌/◌, ◌%◌}
+use Rattle.std.proofs.Common.{Bool, true, false, ◌||◌, not, Option, Some, None, IsTrue, ◌↔◌, ◌≡◌, ℕ, suc, List, [], ◌∷◌, ◌++◌}
+use Rattle.std.proofs.Common.{inl, inr, Result, Ok, Err, IfErr, ap, ◌+◌, ◌-◌, ◌/◌, ◌%◌}
 use Rattle.std.proofs.Common.{zero, slice_index_or, ◌*◌, ◌<◌, ◌≤◌, refl, sym, subst, ◌∙◌, arith, add-one, IsBitSet}
 use Rattle.std.specs.Ordering.{is_eq}
 use Rattle.std.specs.BTreeMap.{BTreeMap, get}
@@ -18,14 +19,16 @@ use Rattle.adf_findings.specs.declared.found.Found.{Found}
 use Rattle.adf_findings.specs.Survey.{BitsTell, Course, FindingValue, IsCourse, IsUnexcused, IsValidated, finding, is_cache}
 use Rattle.adf_findings.specs.Survey.BitsTell.{agrees, differs, ends}
 use Rattle.adf_findings.specs.declared.part.Finding.{Finding}
+use Rattle.adf_volume.specs.declared.fault.Fault.{Fault}
+use Rattle.adf_findings.specs.Courses.{IsBitStop}
+use Rattle.adf_findings.specs.Parts.{finding_value}
 use Rattle.adf_findings.specs.Forms.{Tells}
 use Rattle.adf_findings.specs.Parts.{by_key, key_of}
 use Rattle.adf_findings.specs.Bits.{IsBitCompared, IsPageCompared}
-use Rattle.adf_findings.specs.Found.{BitTells, IsCompleted, IsFinished, IsReported, HasReportedOn, TellsOn, Stands, at_key, bit_cause, is_owned, owns}
+use Rattle.adf_findings.specs.Found.{BitTells, IsCompleted, IsFinished, HasReportedOn, TellsOn, Stands, at_key, bit_cause, is_owned, owns}
 use Rattle.adf_findings.proofs.WalkOwners.{owned_is}
 use Rattle.adf_findings.proofs.Keys.{lacks_at, one_key, same_of_key}
 use Rattle.adf_findings.proofs.Known.{tells_absent}
-use Rattle.adf_findings.proofs.Taking.{stands_reported}
 use Rattle.adf_findings.proofs.OneSurvey.{gathered}
 use Rattle.std.proofs.lemmas.Bool.{cases_Bool, cond-true, cond-false}
 
@@ -41,8 +44,7 @@ at_has (x ∷ w) k b e = elim (cases_Bool (is_eq (by_key (key_of x.0) k))) [
 pub has_page : (w : Walk) (page at : ℕ) → at_key w (key_of (Page page)) ≡ Some at → Has w (Page page) at
 has_page w page at e = grind (arith, common_steps, page, at_has, has_role, same_of_key)
 
-module _ (image : List ℕ) (f : Found) (s : Course) (v : IsCourse image s) (fs : List FindingValue)
-    (st : Stands image f (record { walk = s.walk; skipped = s.skipped; findings = fs })) (b : ℕ) where
+module _ (image : List ℕ) (f : Found) (s : Course) (v : IsCourse image s) (st : Stands image f s) (b : ℕ) where
   abbrev page : ℕ
   page = (b - 2) / PAGE_BITS
 
@@ -162,80 +164,95 @@ all_reported image s b gs on =
     let e : b - 2 + 0 ≡ b - 2 = omega arith in
     subst (λ n. BitsTell image s 2 n gs) e (subst (BitsTell image s 2 (b - 2 + 0)) (append-nil gs) (on 0 [] ends))
 
-pub none_on : (image : List ℕ) (f : Found) (b : ℕ) → 2 ≤ b
-    → ((s : Course) (fs : List FindingValue) → IsCourse image s → Stands image f (record { walk = s.walk; skipped = s.skipped; findings = fs })
-    → BitTells image s b None) → HasReportedOn image f b → HasReportedOn image f (b + 1)
-none_on image f b lo tells (s, gs, told, on) = (s, gs, told, tells_none image s b gs lo (tells s (s.findings ++ gs) told.course told.stands) on)
+pub none_on : (image : List ℕ) (f : Found) (hs : List FindingValue) (b : ℕ) → 2 ≤ b
+    → ((s : Course) → IsCourse image s → Stands image f s → BitTells image s b None) → HasReportedOn image f hs b → HasReportedOn image f hs (b + 1)
+none_on image f hs b lo tells (s, gs, told, on) = (s, gs, told, tells_none image s b gs lo (tells s told.course told.stands) on)
 
-pub some_on : (image : List ℕ) (f g : Found) (b : ℕ) (c : Cause) (x : Finding) → 2 ≤ b → x ≡ record { part = None; block = b; cause = c }
-    → ((s : Course) (fs : List FindingValue) → IsCourse image s → Stands image f (record { walk = s.walk; skipped = s.skipped; findings = fs })
-    → BitTells image s b (Some c)) → IsReported x f g → HasReportedOn image f b → HasReportedOn image g (b + 1)
-some_on image f g b c x lo is tells reported (s, gs, told, on) =
-    let one : List FindingValue = finding None b c ∷ [] in
-    let n : IsReported (record { part = None; block = b; cause = c }) f g = subst (λ x. IsReported x f g) is reported in
-    let st = stands_reported image f g (record { walk = s.walk; skipped = s.skipped; findings = s.findings ++ gs }) b told.stands
-    (record { part = None; block = b; cause = c }) n in (
-      s,
-      gs ++ one,
-      record {
-        course = told.course;
-        done = told.done;
-        stands = subst (λ fs. Stands image g (record { walk = s.walk; skipped = s.skipped; findings = fs })) (append_assoc s.findings gs one) st;
-      },
-      tells_some image s b gs c lo (tells s (s.findings ++ gs) told.course told.stands) on,
-    )
+-- the finding of a bit
+module _ (image : List ℕ) (f : Found) (hs : List FindingValue) (b : ℕ) (c : Cause) (x : Finding) (lo : 2 ≤ b)
+    (is : x ≡ record { part = None; block = b; cause = c })
+    (tells : (s : Course) → IsCourse image s → Stands image f s → BitTells image s b (Some c)) where
+  more : (s : Course) (gs : List FindingValue) → s.findings ++ gs ≡ hs → s.findings ++ (gs ++ finding None b c ∷ []) ≡ hs ++ finding_value x ∷ []
+  more s gs told =
+      sym (append_assoc s.findings gs (finding None b c ∷ [])) ∙ (ap (λ fs. fs ++ finding None b c ∷ []) told
+      ∙ ap (λ x. hs ++ finding_value x ∷ []) (sym is))
+
+  pub some_on : (js : List FindingValue) → js ≡ hs ++ finding_value x ∷ [] → HasReportedOn image f hs b → HasReportedOn image f js (b + 1)
+  some_on js same (s, gs, told, on) = (
+    s,
+    gs ++ finding None b c ∷ [],
+    record { course = told.course; done = told.done; stands = told.stands; told = more s gs told.told ∙ sym same },
+    tells_some image s b gs c lo (tells s told.course told.stands) on,
+  )
+
+  -- where the comparison ends here, it ends with the bit of this block
+  pub bit_stop : {T : Type 0} (says : List FindingValue → Fault → Type 0) (z : Result T Fault) → b < blocks image → HasReportedOn image f hs b
+      → IfErr z (says (hs ++ finding_value x ∷ [])) → IfErr z (IsBitStop image says)
+  bit_stop says (Ok t) hi h e = tt
+  bit_stop says (Err y) hi (s, gs, told, on) e =
+      let few : b + 1 - 2 ≤ blocks image - 2 = omega arith in
+      inr (
+        s,
+        gs ++ finding None b c ∷ [],
+        b + 1 - 2,
+        told.course,
+        told.done,
+        all_reported image s (b + 1) (gs ++ finding None b c ∷ []) (tells_some image s b gs c lo (tells s told.course told.stands) on),
+        few,
+        subst (λ fs. says fs y) (sym (more s gs told.told)) e,
+      )
 
 -- the bits of blocks that tell nothing are compared
-none_up : (image : List ℕ) (f : Found) (n b : ℕ) → 2 ≤ b
-    → ((c : ℕ) → b ≤ c → c < b + n → (s : Course) (fs : List FindingValue) → IsCourse image s
-    → Stands image f (record { walk = s.walk; skipped = s.skipped; findings = fs }) → BitTells image s c None)
-    → HasReportedOn image f b → HasReportedOn image f (b + n)
-none_up image f zero b lo none h = let e : b ≡ b + 0 = omega arith in subst (HasReportedOn image f) e h
-none_up image f (suc n) b lo none h =
+none_up : (image : List ℕ) (f : Found) (hs : List FindingValue) (n b : ℕ) → 2 ≤ b
+    → ((c : ℕ) → b ≤ c → c < b + n → (s : Course) → IsCourse image s → Stands image f s → BitTells image s c None)
+    → HasReportedOn image f hs b → HasReportedOn image f hs (b + n)
+none_up image f hs zero b lo none h = let e : b ≡ b + 0 = omega arith in subst (HasReportedOn image f hs) e h
+none_up image f hs (suc n) b lo none h =
     let e : b + 1 + n ≡ b + suc n = omega arith in
-    subst (HasReportedOn image f) e (none_up image f n (b + 1) (omega arith) (λ c le lt. none c (omega arith) (omega arith))
-    (none_on image f b lo (none b (omega arith) (omega arith)) h))
+    subst (HasReportedOn image f hs) e (none_up image f hs n (b + 1) (omega arith) (λ c le lt. none c (omega arith) (omega arith))
+    (none_on image f hs b lo (none b (omega arith) (omega arith)) h))
 
-none_to : (image : List ℕ) (f : Found) (b end : ℕ) → 2 ≤ b → b ≤ end
-    → ((c : ℕ) → b ≤ c → c < end → (s : Course) (fs : List FindingValue) → IsCourse image s
-    → Stands image f (record { walk = s.walk; skipped = s.skipped; findings = fs }) → BitTells image s c None)
-    → HasReportedOn image f b → HasReportedOn image f end
-none_to image f b end lo le none h =
+none_to : (image : List ℕ) (f : Found) (hs : List FindingValue) (b end : ℕ) → 2 ≤ b → b ≤ end
+    → ((c : ℕ) → b ≤ c → c < end → (s : Course) → IsCourse image s → Stands image f s → BitTells image s c None)
+    → HasReportedOn image f hs b → HasReportedOn image f hs end
+none_to image f hs b end lo le none h =
     let e : b + (end - b) ≡ end = omega arith in
-    subst (HasReportedOn image f) e (none_up image f (end - b) b lo (λ c from to. none c from (omega arith)) h)
+    subst (HasReportedOn image f hs) e (none_up image f hs (end - b) b lo (λ c from to. none c from (omega arith)) h)
 
 flipped : (o : Bool) (P : Type 0) → (P ↔ (o ≡ false)) → IsTrue (not o) ↔ P
 flipped true P h = ((λ t. cc), (λ p. let e : true ≡ false = h.0 p in cc))
 flipped false P h = ((λ t. h.1 refl), (λ p. refl))
 
 -- the bits of a word, up to a block
-module _ (image : List ℕ) (f : Found) (i end : ℕ) (lo : 2 + 32 * i ≤ end) (hi : end ≤ 2 + 32 * i + 32)
-    (reported : HasReportedOn image f (2 + 32 * i)) where
+module _ (image : List ℕ) (f : Found) (hs : List FindingValue) (i end : ℕ) (lo : 2 + 32 * i ≤ end) (hi : end ≤ 2 + 32 * i + 32)
+    (reported : HasReportedOn image f hs (2 + 32 * i)) where
   -- without their page none is compared
-  pub none_compared : IsPageCompared image f.taken (2 + 32 * i) None → HasReportedOn image f end
+  pub none_compared : IsPageCompared image f.taken (2 + 32 * i) None → HasReportedOn image f hs end
   none_compared page =
-      none_to image f (2 + 32 * i) end (omega arith) lo
-      (λ c from to s fs v st.
+      none_to image f hs (2 + 32 * i) end (omega arith) lo
+      (λ c from to s v st.
       let same : (2 + 32 * i - 2) / PAGE_BITS ≡ (c - 2) / PAGE_BITS = omega arith in
-      none_tells image f s v fs st c (page_on image f.taken (2 + 32 * i) c None same page))
+      none_tells image f s v st c (page_on image f.taken (2 + 32 * i) c None same page))
       reported
 
   -- none disagrees where they are set for the blocks without an owner alone
   pub all_agreed : (at word : ℕ) → word ≡ word_in image at (PAGE_FIRST + i % PAGE_WORDS) → end ≤ blocks image
       → IsPageCompared image f.taken (2 + 32 * i) (Some at)
       → ((b : ℕ) → 2 + 32 * i ≤ b → b < end → IsBitSet word (b - (2 + 32 * i)) ↔ (is_owned f b ≡ false))
-      → HasReportedOn image f end
+      → HasReportedOn image f hs end
   all_agreed at word is few page agree =
-      none_to image f (2 + 32 * i) end (omega arith) lo
-      (λ c from to s fs v st.
+      none_to image f hs (2 + 32 * i) end (omega arith) lo
+      (λ c from to s v st.
       let o : Bool = is_owned f c in
-      agreed_tells image f s v fs st c (not o) (omega arith)
+      agreed_tells image f s v st c (not o) (omega arith)
       (bit_compared image f.taken i at word is c from (omega arith) (not o) page
       (flipped o (IsBitSet word (c - (2 + 32 * i))) (agree c from to))) refl)
       reported
 
-pub reported_first : (image : List ℕ) (f : Found) → IsFinished image f → HasReportedOn image f 2
-reported_first image f (s, course, done, stands) = grind (arith, common_steps, append-nil, none_reported)
+pub reported_first : (image : List ℕ) (f : Found) (hs : List FindingValue) → IsFinished image f hs → HasReportedOn image f hs 2
+reported_first image f hs (s, course, done, stands, told) =
+    (s, [], record { course = course; done = done; stands = stands; told = append-nil s.findings ∙ told }, none_reported image s)
 
-pub reported_last : (image : List ℕ) (f : Found) (b : ℕ) → b ≡ blocks image → HasReportedOn image f b → IsCompleted image f
-reported_last image f b e (s, gs, told, on) = (s, gs, told, subst (λ b. BitsTell image s 2 (b - 2) gs) e (all_reported image s b gs on))
+pub reported_last : (image : List ℕ) (f : Found) (hs : List FindingValue) (b : ℕ) → b ≡ blocks image → HasReportedOn image f hs b
+    → IsCompleted image f hs
+reported_last image f hs b e (s, gs, told, on) = (s, gs, told, subst (λ b. BitsTell image s 2 (b - 2) gs) e (all_reported image s b gs on))

@@ -28,7 +28,7 @@ at_places g h (x ∷ xs) e zero = e x (inl refl)
 at_places g h (x ∷ xs) e (suc k) = at_places g h xs (λ y i. e y (inr i)) k
 
 module _ (image : List ℕ) (f : Found) {s : Course} (v : IsCourse image s) (bits : List FindingValue) {b n : ℕ} (tells : BitsTell image s b n bits)
-    (st : Stands image f (record { walk = s.walk; skipped = s.skipped; findings = s.findings ++ bits })) where
+    (st : Stands image f s) where
   -- a header of a finding is found by its number where the walk has one at its place
   header_is : (g : FindingValue) (n p t j : ℕ) → In (s.findings ++ bits) g → g.part ≡ Some (Head n p t j)
       → is_header f n p t j ≡ is_some (at_key s.walk (key_of (Head n p t j)))
@@ -38,7 +38,7 @@ module _ (image : List ℕ) (f : Found) {s : Course} (v : IsCourse image s) (bit
         ∙ sym (ap is_some (taken_at image s.walk (gathered image v) (Head n p t j) x.0 x.1))
     | inr x ↦
         let lacks : Lacks s.walk (Head n p t j) = (λ q c h same. apart image v q (Head n p t j) c x.0 h x.1 same) in
-        skipped_header image f v (s.findings ++ bits) st n p t j x.0 x.1 ∙ sym (ap is_some (at_lacks s.walk (Head n p t j) lacks))
+        skipped_header image f v st n p t j x.0 x.1 ∙ sym (ap is_some (at_lacks s.walk (Head n p t j) lacks))
   ]
 
   -- what a finding concerns is told of the walk
@@ -46,9 +46,9 @@ module _ (image : List ℕ) (f : Found) {s : Course} (v : IsCourse image s) (bit
   blamed_is x i = grind (arith, common_steps, header_is)
 
   -- of what is found
-  pub concerned_kept : (k : ℕ) → option_flatten (slice_get (map (λ x. blamed f x.part) f.findings.items) k)
-      ≡ concern_of_nth s.walk (s.findings ++ bits) k
-  concerned_kept k = grind (arith, common_steps, at_places, blamed_is, in_values)
+  pub concerned_kept : (xs : List Finding) → map finding_value xs ≡ s.findings ++ bits → (k : ℕ)
+      → option_flatten (slice_get (map (λ x. blamed f x.part) xs) k) ≡ concern_of_nth s.walk (s.findings ++ bits) k
+  concerned_kept xs told k = grind (arith, common_steps, at_places, blamed_is, in_values)
 
 -- findings of no part concern nothing
 pub no_concern_nth : (w : Walk) (fs : List FindingValue) (k : ℕ) → ((f : FindingValue) → In fs f → f.part ≡ None)

@@ -21,12 +21,12 @@ use Rattle.adf_findings.specs.declared.course.Reference.{Reference}
 use Rattle.adf_findings.specs.declared.forms.Context.{Context}
 use Rattle.adf_findings.specs.declared.judge.Facts.{Facts}
 use Rattle.adf_findings.specs.declared.found.Found.{Found}
-use Rattle.adf_findings.specs.Survey.{Course}
+use Rattle.adf_findings.specs.Survey.{Course, FindingValue}
 use Rattle.adf_findings.specs.Forms.{IsContext, Knows, Tells}
 use Rattle.adf_findings.specs.Parts.{role_of}
 use Rattle.adf_findings.specs.Demands.{uppers_in}
 use Rattle.adf_findings.specs.Found.{AreNamed, IsChain, IsKept, IsNextPart, IsTaken, KeepsName, Stands, has_name, is_owned, last_node}
-use Rattle.adf_findings.specs.Courses.{HasReachedPart, Holds, IsGoneOn, IsNamed, IsNextReference, IsOutcome, IsSkipped, IsToTake}
+use Rattle.adf_findings.specs.Courses.{HasReachedPart, HasReachedReference, Holds, IsGoneOn, IsNamed, IsNextReference, IsOutcome, IsSkipped, IsToTake}
 use Rattle.adf_findings.specs.Courses.{course_on, due_below, role_asked}
 use Rattle.adf_findings.proofs.Known.{known_names, knows, own_name}
 use Rattle.adf_findings.proofs.OneSurvey.{gathered}
@@ -68,8 +68,8 @@ pub role_is : {image : List ℕ} {f : Found} {s : Course} (part z : Part) {m : �
 role_is part z st e is = is ∙ ap (λ m. renumbered m (role_of part)) (e ∙ st.count)
 
 -- a course moves on to a later position that its walk has come to
-pub moved : {image : List ℕ} {f : Found} {k l : Position} {s : Course} → Holds image f k s → IsNoLater k l → IsUpTo image s.walk s.skipped l
-    → Holds image f l s
+pub moved : {image : List ℕ} {f : Found} {fs : List FindingValue} {k l : Position} {s : Course} → Holds image f fs k s → IsNoLater k l
+    → IsUpTo image s.walk s.skipped l → Holds image f fs l s
 moved {k = k} h le up_to = grind (arith, common_steps, up_to)
 
 -- what is said of a part is so of it with any number
@@ -84,19 +84,19 @@ renumbered_enough image w m (Head n p s j) t h = h
 renumbered_enough image w m _ t h = h
 
 -- a part of which no more than a block is said, by an equation
-module _ {image : List ℕ} {f : Found} {y : Due} {part : Part} {up a i : ℕ} {s : Course} (e : y ≡ due_below part up)
-    (n : IsNamed image f (due_below part up) a i s) where
-  pub below_named : IsNamed image f y a i s
-  below_named = subst (λ y. IsNamed image f y a i s) (sym e) n
+module _ {image : List ℕ} {f : Found} {fs : List FindingValue} {y : Due} {part : Part} {up a i : ℕ} {s : Course} (e : y ≡ due_below part up)
+    (n : IsNamed image f fs (due_below part up) a i s) where
+  pub below_named : IsNamed image f fs y a i s
+  below_named = subst (λ y. IsNamed image f fs y a i s) (sym e) n
 
-  pub below_reached : HasReachedPart image f y a i
+  pub below_reached : HasReachedPart image f fs y a i
   below_reached = (s, below_named)
 
-  pub below_gone : {g : Found} {o : Option ℕ} → ((s : Course) → IsNamed image f y a i s → IsGoneOn image s y.part a i g o)
-      → IsGoneOn image s part a i g o
-  below_gone {g} {o} gone = subst (λ y. IsGoneOn image s y.part a i g o) e (gone s below_named)
+  pub below_gone : {g : Found} {gs : List FindingValue} {o : Option ℕ} → ((s : Course) → IsNamed image f fs y a i s → IsGoneOn image s y.part a i g gs o)
+      → IsGoneOn image s part a i g gs o
+  below_gone {g} {gs} {o} gone = subst (λ y. IsGoneOn image s y.part a i g gs o) e (gone s below_named)
 
-module _ {image : List ℕ} {f : Found} {y : Due} {a i : ℕ} {s : Course} (n : IsNamed image f y a i s) where
+module _ {image : List ℕ} {f : Found} {fs : List FindingValue} {y : Due} {a i : ℕ} {s : Course} (n : IsNamed image f fs y a i s) where
   abbrev part : Part
   part = y.part
 
@@ -146,31 +146,34 @@ module _ {image : List ℕ} {f : Found} {y : Due} {a i : ℕ} {s : Course} (n : 
   reference_at b = record { due = y; holder = a; block = b }
 
   -- what comes of the part in any course in which it is next
-  abbrev AsJudged : ℕ → Found → Option Part → Type 0
-  AsJudged b g o = (t : Course) → Holds image f (position_of (role_of part)) t → IsNextReference image t (reference_at b)
-      → IsOutcome image t (reference_at b) f g o
+  abbrev AsJudged : ℕ → Found → List FindingValue → Option Part → Type 0
+  AsJudged b g gs o = (t : Course) → Holds image f fs (position_of (role_of part)) t → IsNextReference image t (reference_at b)
+      → IsOutcome image t (reference_at b) f g gs o
 
-  outcome : (b : ℕ) (g : Found) (o : Option Part) → b ≡ word_in image a i → AsJudged b g o
-      → IsOutcome image s (reference_at (word_in image a i)) f g o
-  outcome b g o e judged = grind (arith, common_steps, reference_at, is_next)
+  outcome : (b : ℕ) (g : Found) (gs : List FindingValue) (o : Option Part) → b ≡ word_in image a i → AsJudged b g gs o
+      → IsOutcome image s (reference_at (word_in image a i)) f g gs o
+  outcome b g gs o e judged = grind (arith, common_steps, reference_at, is_next)
 
-  pub to_take : {b : ℕ} {g : Found} {o : Option Part} → b ≡ word_in image a i → AsJudged b g o → (z : Part) → o ≡ Some z
-      → IsToTake image s (reference_at (word_in image a i)) f g z
-  to_take {b} {g} {o} e judged z is = subst (IsOutcome image s (reference_at (word_in image a i)) f g) is (outcome b g o e judged)
+  pub to_take : {b : ℕ} {g : Found} {gs : List FindingValue} {o : Option Part} → b ≡ word_in image a i → AsJudged b g gs o → (z : Part)
+      → o ≡ Some z → IsToTake image s (reference_at (word_in image a i)) f g gs z
+  to_take {b} {g} {gs} {o} e judged z is = subst (IsOutcome image s (reference_at (word_in image a i)) f g gs) is (outcome b g gs o e judged)
 
-  pub to_skip : {b : ℕ} {g : Found} {o : Option Part} → b ≡ word_in image a i → AsJudged b g o → o ≡ None
-      → IsSkipped image s (reference_at (word_in image a i)) f g
-  to_skip {b} {g} {o} e judged is = subst (IsOutcome image s (reference_at (word_in image a i)) f g) is (outcome b g o e judged)
+  pub to_skip : {b : ℕ} {g : Found} {gs : List FindingValue} {o : Option Part} → b ≡ word_in image a i → AsJudged b g gs o → o ≡ None
+      → IsSkipped image s (reference_at (word_in image a i)) f g gs
+  to_skip {b} {g} {gs} {o} e judged is = subst (IsOutcome image s (reference_at (word_in image a i)) f g gs) is (outcome b g gs o e judged)
+
+  pub has_next : {b : ℕ} → b ≡ word_in image a i → HasReachedReference image f fs (reference_at b)
+  has_next {b} e = subst (λ b. HasReachedReference image f fs (reference_at b)) (sym e) (s, n.holds, is_next)
 
   -- the place behind a part that was skipped
-  module _ {g : Found} (o : IsSkipped image s (reference_at (word_in image a i)) f g) where
+  module _ {g : Found} {gs : List FindingValue} (o : IsSkipped image s (reference_at (word_in image a i)) f g gs) where
     skipped_up_to : IsUpTo image s.walk ((role, word_in image a i) ∷ s.skipped) (behind (role_of part))
     skipped_up_to = grind (arith, common_steps, role, same_behind, same, past_skipped, up_to)
 
-    pub skipped_on : IsGoneOn image s part a i g None
+    pub skipped_on : IsGoneOn image s part a i g gs None
     skipped_on = record {
-      findings = o.findings;
       holds = record {
+        told = refl;
         course = o.course;
         stands = o.stands;
         up_to = skipped_up_to;
@@ -182,7 +185,7 @@ module _ {image : List ℕ} {f : Found} {y : Due} {a i : ℕ} {s : Course} (n : 
     }
 
   -- the place behind a part that is taken
-  module _ {g : Found} {taken : Part} (o : IsToTake image s (reference_at (word_in image a i)) f g taken) where
+  module _ {g : Found} {gs : List FindingValue} {taken : Part} (o : IsToTake image s (reference_at (word_in image a i)) f g gs taken) where
     abbrev block : ℕ
     block = word_in image a i
 
@@ -209,12 +212,12 @@ module _ {image : List ℕ} {f : Found} {y : Due} {a i : ℕ} {s : Course} (n : 
 
     module _ {h : Found} (t : IsTaken taken block g h) where
       abbrev now : Course
-      now = course_on s role block (Some block) o.findings
+      now = course_on s role block (Some block) gs
 
       taken_stands : Stands image h now
       taken_stands =
-          subst (λ r. Stands image h (record { walk = (r, block) ∷ s.walk; skipped = s.skipped; findings = o.findings })) o.role
-          (stands_taken image g h (record { walk = s.walk; skipped = s.skipped; findings = o.findings }) block o.stands taken taken_number o.past_boot
+          subst (λ r. Stands image h (record { walk = (r, block) ∷ s.walk; skipped = s.skipped; findings = gs })) o.role
+          (stands_taken image g h (record { walk = s.walk; skipped = s.skipped; findings = gs }) block o.stands taken taken_number o.past_boot
           o.inside o.free t)
 
       taken_up_to : IsUpTo image ((role, block) ∷ s.walk) s.skipped (behind (role_of part))
@@ -241,9 +244,8 @@ module _ {image : List ℕ} {f : Found} {y : Due} {a i : ℕ} {s : Course} (n : 
               here ∙ (λ y. has_name image ((is y, block) ∷ s.walk) (up y) (slot y) upper)
           go _ is named chain kept = λ name c u v k b valid e d here. absurd (let place = same in let x = ap second is in omega arith)
 
-      pub taken_on : IsGoneOn image s part a i h (Some block)
+      pub taken_on : IsGoneOn image s part a i h gs (Some block)
       taken_on = record {
-        findings = o.findings;
-        holds = record { course = o.course; stands = taken_stands; up_to = taken_up_to; names = taken_names; small = n.holds.small };
+        holds = record { told = refl; course = o.course; stands = taken_stands; up_to = taken_up_to; names = taken_names; small = n.holds.small };
         block = refl;
       }

@@ -1,7 +1,7 @@
 -- The data blocks of an FFS file that are taken as they are.
 -- Letters: x the table of the file; k the number of the data block, b its block; a, m the block of the table that points to it,
 -- and its number; f, g states.
-use Rattle.std.specs.Prelude.{Bool, true, false, not, nat_le, nat_lt, ◌&&◌, ◌||◌}
+use Rattle.std.specs.Prelude.{Bool, true, not, nat_le, nat_lt, ◌&&◌, ◌||◌}
 use Rattle.std.proofs.Common.{◌≡◌, ℕ, List, ◌+◌, ◌-◌, ◌*◌, ◌<◌, ◌≤◌, refl, sym, subst, ◌∙◌}
 use Rattle.std.proofs.lemmas.Bool.{and_parts}
 use Rattle.adf_names.specs.declared.kind.Kind.{Kind}
@@ -16,6 +16,7 @@ use Rattle.adf_findings.specs.declared.course.Reference.{Reference}
 use Rattle.adf_findings.specs.declared.found.Found.{Found}
 use Rattle.adf_findings.specs.declared.judge.Facts.{Facts}
 use Rattle.adf_findings.specs.declared.judge.Judgement.TheVariants.{Clean}
+use Rattle.adf_findings.specs.Survey.{FindingValue}
 use Rattle.adf_findings.specs.Survey.JudgementValue.{clean}
 use Rattle.adf_findings.specs.Courses.{HasReachedNamed, IsNamed, IsToTake, due_in, end_in}
 use Rattle.adf_findings.specs.Forms.{data_clauses, first_of_five, in_range, judged_by}
@@ -31,8 +32,8 @@ no_cause : {kind : Kind} {e r t : Bool} (a b h k n next : ℕ) (bytes : List ℕ
 no_cause a b h k n next bytes kept is enough ranges absent =
     sym (λ i. judged_by (first_of_five a b (enough i) (ranges i) (absent i) (first_cause (data_clauses (is i) h k n next bytes)) true) kept)
 
-module _ {image : List ℕ} {f : Found} {x : FileTable} {m a k b : ℕ} (y : HasReachedNamed image f x m a k) (ffs : kind_of image ≡ Ffs)
-    (from : POINTERS * m ≤ k) (to : k < end_in x (m + 1)) (named : b ≡ word_in image a (FIRST_POINTER - (k - POINTERS * m)))
+module _ {image : List ℕ} {f : Found} {fs : List FindingValue} {x : FileTable} {m a k b : ℕ} (y : HasReachedNamed image f fs x m a k)
+    (ffs : kind_of image ≡ Ffs) (from : POINTERS * m ≤ k) (to : k < end_in x (m + 1)) (named : b ≡ word_in image a (FIRST_POINTER - (k - POINTERS * m)))
     (tests : ((nat_lt 0 k || nat_le x.count x.room) && (in_range image b && not (is_owned f b))) ≡ true) where
   abbrev i : ℕ
   i = FIRST_POINTER - (k - POINTERS * m)
@@ -43,7 +44,7 @@ module _ {image : List ℕ} {f : Found} {x : FileTable} {m a k b : ℕ} (y : Has
   abbrev part : Part
   part = DataPart x.node (k + 1)
 
-  is_named : IsNamed image f (due_in x k 0) a i y.course
+  is_named : IsNamed image f fs (due_in x k 0) a i y.course
   is_named = data_is_named y from to refl (λ ofs. absurd (let e : Ffs ≡ Ofs = sym ffs ∙ ofs in cc))
 
   abbrev facts : Facts
@@ -63,15 +64,16 @@ module _ {image : List ℕ} {f : Found} {x : FileTable} {m a k b : ℕ} (y : Has
       let q = and_parts (in_range image c) (not (is_owned f c)) p.1 in
       (p.0, q.0, q.1)
 
-  to_take : IsToTake image y.course reference f f part
+  to_take : IsToTake image y.course reference f f fs part
   to_take =
-      let told = judged_named image f reference part facts refl refl refl true (no_cause _ _ _ _ _ _ _ _ ffs parts.0 parts.1 parts.2)
+      let told = judged_named image f fs reference part facts refl refl refl true (no_cause _ _ _ _ _ _ _ _ ffs parts.0 parts.1 parts.2)
       (λ w names chain valid. refl) Clean refl in
       let next = is_next is_named in
       clean_outcome reference y.holds.course y.holds.stands next part refl Clean (told y.course is_named.holds next refl) refl refl refl
+      fs (sym y.holds.told)
 
   pub data_next : IsNextPart part b f
   data_next = subst (λ b. IsNextPart part b f) (sym named) (taken_next is_named to_take)
 
-  pub data_taken : {g : Found} → IsTaken part b f g → HasReachedNamed image g x m a (k + 1)
+  pub data_taken : {g : Found} → IsTaken part b f g → HasReachedNamed image g fs x m a (k + 1)
   data_taken {g} t = data_gone y {next = 0} refl (taken_on is_named to_take (subst (λ b. IsTaken part b f g) named t))

@@ -1,12 +1,10 @@
 -- The result for an image is that of its survey.
-use Rattle.std.specs.Prelude.{Bool, cond, ◌==◌, Some, None, ◌&&◌, ◌||◌, nat_lt, Option, ◌-◌, false, true, map, not, slice_get, slice_index}
-use Rattle.std.proofs.Common.{◌≡◌, ℕ, zero, suc, List, [], ◌∷◌, ◌++◌, ◌≤◌, refl, sym, ap, subst, ◌∙◌, arith, ◌*◌, ◌<◌, length}
+use Rattle.std.specs.Prelude.{Bool, cond, ◌==◌, Some, None, ◌&&◌, nat_lt, Option, ◌-◌, false, true, map, not, slice_get, slice_index}
+use Rattle.std.proofs.Common.{◌≡◌, ℕ, List, [], ◌∷◌, ◌++◌, ◌≤◌, refl, sym, ap, subst, ◌∙◌, arith, ◌*◌, ◌<◌, length}
 use Rattle.std.specs.List.{AllZip, filter}
 use Rattle.std.specs.Option.{option_flatten}
 use Rattle.std.proofs.lemmas.Grind.{common_steps}
 use Rattle.adf_blocks.specs.Sizes.{blocks}
-use Rattle.adf_names.specs.declared.kind.Kind.{Kind}
-use Rattle.adf_names.specs.declared.kind.Kind.TheVariants.{Ofs, Ffs}
 use Rattle.adf_volume.specs.Image.{kind_of}
 use Rattle.adf_volume.proofs.Gathered.{head_block, numbered as has_number, number_of}
 use Rattle.adf_volume.specs.Walk.{Has, heads, node_block, Walk}
@@ -16,13 +14,14 @@ use Rattle.adf_volume.specs.declared.owner.Owner.{Owner}
 use Rattle.adf_volume.specs.declared.owner.Owner.TheVariants.{Boot}
 use Rattle.adf_findings.proofs.Begun.{new_owned}
 use Rattle.adf_findings.proofs.WalkOwners.{entry_is, number_is, owned_is}
-use Rattle.adf_findings.specs.Found.{AreOwned, IsCompleted, Stands, parent_node}
+use Rattle.adf_findings.specs.Found.{AreOwned, IsCompleted, parent_node}
 use Rattle.adf_findings.specs.declared.found.Found.{Found}
+use Rattle.adf_findings.specs.declared.part.Finding.{Finding}
 use Rattle.adf_findings.specs.Files.{counting, grave, is_light}
-use Rattle.adf_findings.specs.Marks.{blamed, doubted, has_mark, is_blamed, is_clear, is_doubted, is_doubtful, is_node, is_undoubted}
+use Rattle.adf_findings.specs.Marks.{blamed, has_mark, is_blamed, is_clear, is_doubtful, is_undoubted}
 use Rattle.adf_findings.specs.declared.concern.Concern.{Concern}
 use Rattle.adf_findings.specs.Parts.{finding_value, key_of}
-use Rattle.adf_findings.specs.Survey.{Course, FindingValue, IsSurvey, UnreadTells}
+use Rattle.adf_findings.specs.Survey.{FindingValue, IsSurvey, UnreadTells}
 use Rattle.adf_findings.specs.Survey.IsSurvey.{read, unread}
 use Rattle.adf_findings.specs.Sound.{IsSound}
 use Rattle.adf_findings.specs.SurveyResult.{IsOfSurvey, SurveyValue, TellsOf, block_at}
@@ -33,7 +32,6 @@ use Rattle.adf_findings.proofs.BlockOwners.{owner_is}
 use Rattle.adf_findings.proofs.OneSurvey.{gathered, one_survey}
 use Rattle.adf_findings.proofs.SoundMarks.{clear_is_sound, inside, unread_none}
 use Rattle.adf_findings.proofs.Starts.{course_size}
-use Rattle.adf_findings.proofs.Taking.{stands_but}
 
 -- nothing is taken of an image of which no block has an owner
 none_owned : {owners : List Owner} → owners ≡ Boot ∷ Boot ∷ [] → AreOwned 2 (record { owners = owners; node = 0 }) []
@@ -63,11 +61,6 @@ unread_kept v told concerned owners taken nodes parents sound whole = (
   },
 )
 
--- a state with other findings is that of a course with these
-stands_with : (image : List ℕ) (f g : Found) (s : Course) (gs : List FindingValue) → Stands image f s → g ≡ record f { findings = g.findings }
-    → map finding_value g.findings.items ≡ gs → Stands image g (record { walk = s.walk; skipped = s.skipped; findings = gs })
-stands_with image f g s gs st same e = grind (arith, common_steps, stands_but)
-
 -- a copy whose marks are each the same has the same marks
 pub copied : (R : Bool → Bool → Type 0) → ((x y : Bool) → R x y → y ≡ x) → (xs ys : List Bool) → AllZip R xs ys → ys ≡ xs
 copied R same [] [] z = refl
@@ -75,23 +68,14 @@ copied R same [] (y ∷ ys) z = absurd z
 copied R same (x ∷ xs) [] z = absurd z
 copied R same (x ∷ xs) (y ∷ ys) z = λ t. same x y z.0 t ∷ copied R same xs ys z.1 t
 
--- what is doubted does not hang on the findings
-same_doubted : (image : List ℕ) (f g : Found) → g ≡ record f { findings = g.findings } → (k m : ℕ)
-    → is_doubted image g k m ≡ is_doubted image f k m
-same_doubted image f g same zero m = refl
-same_doubted image f g same (suc k) m = λ t. same_doubted image f g same k m t || is_node (doubted image (same t) k) m
-
 -- the marks of nodes that are not doubted, with those of what findings concern removed, are those of clear nodes
-pub clear_marks : (image : List ℕ) (f g : Found) (base marks : List Bool) → g ≡ record f { findings = g.findings }
-    → ((m : ℕ) → has_mark base m ≡ is_undoubted image f m)
-    → ((m : ℕ) → has_mark marks m ≡ (has_mark base m && not (is_blamed g g.findings.items m)))
-    → (m : ℕ) → has_mark marks m ≡ is_clear image g m
-clear_marks image f g base marks same undoubted struck m =
-    struck m ∙ go (kind_of image) (undoubted m)
+pub clear_marks : (image : List ℕ) (f : Found) (xs : List Finding) (base marks : List Bool) → ((m : ℕ) → has_mark base m ≡ is_undoubted image f m)
+    → ((m : ℕ) → has_mark marks m ≡ (has_mark base m && not (is_blamed f xs m))) → (m : ℕ) → has_mark marks m ≡ is_clear image f xs m
+clear_marks image f xs base marks undoubted struck m =
+    let blamed : Bool = is_blamed f xs m in
+    struck m ∙ ap (λ t. t && not blamed) (undoubted m)
+    ∙ moved (nat_lt m (length f.nodes.items)) (not (is_doubtful (kind_of image) image f m)) (not blamed)
   where
-    size : length f.nodes.items ≡ length g.nodes.items
-    size = λ t. length (sym same t).nodes.items
-
     moved : (b c d : Bool) → ((b && c) && d) ≡ (b && (d && c))
     moved false c d = refl
     moved true true true = refl
@@ -99,26 +83,14 @@ clear_marks image f g base marks same undoubted struck m =
     moved true false true = refl
     moved true false false = refl
 
-    doubtful : (k : Kind) → is_doubtful k image f m ≡ is_doubtful k image g m
-    doubtful Ofs = refl
-    doubtful Ffs = sym (same_doubted image f g same (blocks image) m)
-
-    go : (k : Kind) → has_mark base m ≡ (nat_lt m (length f.nodes.items) && not (is_doubtful k image f m))
-        → (has_mark base m && not (is_blamed g g.findings.items m))
-        ≡ (nat_lt m (length g.nodes.items) && (not (is_blamed g g.findings.items m) && not (is_doubtful k image g m)))
-    go k e =
-        (λ t. e t && not (is_blamed g g.findings.items m))
-        ∙ ((λ t. (nat_lt m (size t) && not (doubtful k t)) && not (is_blamed g g.findings.items m))
-        ∙ moved (nat_lt m (length g.nodes.items)) (not (is_doubtful k image g m)) (not (is_blamed g g.findings.items m)))
-
--- of an image whose course is done, with its bits compared
-pub read_kept : (image : List ℕ) (f g : Found) (concerned : List (Option Concern)) (sound whole : List Bool)
-    → IsCompleted image f → concerned ≡ map (λ x. blamed f x.part) f.findings.items → ((m : ℕ) → has_mark sound m ≡ is_clear image f m)
-    → g ≡ record f { findings = g.findings } → g.findings.items ≡ filter (λ x. not (is_light (finding_value x))) f.findings.items
-    → ((m : ℕ) → has_mark whole m ≡ is_clear image g m)
+-- of an image whose course is done, with its bits compared; xs are its findings, and ys those but the light ones
+pub read_kept : (image : List ℕ) (f : Found) (xs ys : List Finding) (concerned : List (Option Concern)) (sound whole : List Bool)
+    → IsCompleted image f (map finding_value xs) → concerned ≡ map (λ x. blamed f x.part) xs
+    → ((m : ℕ) → has_mark sound m ≡ is_clear image f xs m) → ys ≡ filter (λ x. not (is_light (finding_value x))) xs
+    → ((m : ℕ) → has_mark whole m ≡ is_clear image f ys m)
     → IsOfSurvey (record {
       image = image;
-      findings = f.findings.items;
+      findings = xs;
       concerned = concerned;
       owners = f.owners.owners;
       taken = f.taken.entries;
@@ -127,38 +99,37 @@ pub read_kept : (image : List ℕ) (f g : Found) (concerned : List (Option Conce
       sound = sound;
       whole = whole;
     })
-read_kept image f g concerned sound whole (s, bits, told, bits_tell) entries marks same graves whole_marks = (
+read_kept image f xs ys concerned sound whole (s, bits, all, bits_tell) entries marks graves whole_marks = (
   s.walk,
   s.findings ++ bits,
   record {
-    survey = read told.course told.done bits_tell;
-    findings = told.stands.findings;
+    survey = read all.course all.done bits_tell;
+    findings = sym all.told;
     concerned = (λ k.
-        ap (λ os. option_flatten (slice_get os k)) entries ∙ concerned_kept image f told.course bits bits_tell told.stands k);
-    owner = owner_is image (gathered image told.course) f.owners.owners (entry_is told.stands.owners);
-    number = number_is told.stands.owners;
-    part = owned_is told.stands.owners;
-    page = (λ i. told.stands.taken (Page i) tt);
-    node = told.stands.node;
-    parent = told.stands.parent;
-    count = (let e = told.stands.count in omega arith);
+        ap (λ os. option_flatten (slice_get os k)) entries
+        ∙ concerned_kept image f all.course bits bits_tell all.stands xs (sym all.told) k);
+    owner = owner_is image (gathered image all.course) f.owners.owners (entry_is all.stands.owners);
+    number = number_is all.stands.owners;
+    part = owned_is all.stands.owners;
+    page = (λ i. all.stands.taken (Page i) tt);
+    node = all.stands.node;
+    parent = all.stands.parent;
+    count = (let e = all.stands.count in omega arith);
     sound = (λ m lo.
-        let x = clear_is_sound image f told.course told.done bits bits_tell (s.findings ++ bits) (λ g i. i) told.stands m lo in
+        let x = clear_is_sound image f all.course all.done bits bits_tell (s.findings ++ bits) (λ g i. i) xs (sym all.told) all.stands m lo in
         ((λ t. x.0 (sym (marks m) ∙ t)), (λ y. marks m ∙ x.1 y)));
     whole = (λ m lo.
-        let all : List FindingValue = s.findings ++ bits in
-        let kept : map finding_value g.findings.items ≡ grave all =
-        ap (map finding_value) graves ∙ (grave_kept f.findings.items ∙ ap grave told.stands.findings) in
-        let x = clear_is_sound image g told.course told.done bits bits_tell (grave all) (grave_is all)
-        (stands_with image f g (record { walk = s.walk; skipped = s.skipped; findings = all }) (grave all) told.stands same kept) m lo in
+        let told : map finding_value ys ≡ grave (s.findings ++ bits) =
+        ap (map finding_value) graves ∙ (grave_kept xs ∙ ap grave (sym all.told)) in
+        let x = clear_is_sound image f all.course all.done bits bits_tell (grave (s.findings ++ bits)) (grave_is (s.findings ++ bits)) ys told
+        all.stands m lo in
         ((λ t. x.0 (sym (whole_marks m) ∙ t)), (λ y. whole_marks m ∙ x.1 y)));
   },
 )
 
 -- an image whose course is done, with its bits compared, has a survey with these findings
-pub read_told : (image : List ℕ) (f : Found) → IsCompleted image f → (w : Walk) × IsSurvey image w (map finding_value f.findings.items)
-read_told image f (s, bits, told, bits_tell) =
-    (s.walk, subst (IsSurvey image s.walk) (sym told.stands.findings) (read told.course told.done bits_tell))
+pub read_told : (image : List ℕ) (f : Found) (fs : List FindingValue) → IsCompleted image f fs → (w : Walk) × IsSurvey image w fs
+read_told image f fs (s, bits, all, bits_tell) = (s.walk, subst (IsSurvey image s.walk) all.told (read all.course all.done bits_tell))
 
 -- what is kept of an image tells of each survey of it
 pub tells_each : (v : SurveyValue) → IsOfSurvey v → (w : Walk) (fs : List FindingValue) → IsSurvey v.image w fs → TellsOf v w fs

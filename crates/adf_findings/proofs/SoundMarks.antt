@@ -360,10 +360,9 @@ settled image {s = s} v bits tells g q h e = elim (in_cases s.findings bits g h)
 ]
 
 -- a header that was skipped is no node's
-pub skipped_header : (image : List ℕ) (f : Found) {s : Course} → IsCourse image s → (told : List FindingValue)
-    → Stands image f (record { walk = s.walk; skipped = s.skipped; findings = told })
+pub skipped_header : (image : List ℕ) (f : Found) {s : Course} → IsCourse image s → Stands image f s
     → (n p t j b : ℕ) → Has s.skipped (Head n p t j) b → is_header f n p t j ≡ false
-skipped_header image f v told st n p t j b over = elim (cases_Bool (is_header f n p t j)) [
+skipped_header image f v st n p t j b over = elim (cases_Bool (is_header f n p t j)) [
   | inl y ↦
       let h = found_header image f _ (gathered image v) st n p t j y in
       absurd (apart image v (Head n p t j) (Head n p t j) h.0 b h.1 over (same_refl (Head n p t j)))
@@ -372,7 +371,7 @@ skipped_header image f v told st n p t j b over = elim (cases_Bool (is_header f 
 
 module _ (image : List ℕ) (f : Found) {s : Course} (v : IsCourse image s) (done : IsDone image s) (bits : List FindingValue) {b n : ℕ}
     (tells : BitsTell image s b n bits) (all : List FindingValue) (are : (g : FindingValue) → In all g → In (s.findings ++ bits) g)
-    (st : Stands image f (record { walk = s.walk; skipped = s.skipped; findings = all })) where
+    (xs : List Finding) (told : map finding_value xs ≡ all) (st : Stands image f s) where
   -- a finding that speaks against an entry concerns a part of it
   speaks : (m h : ℕ) (g : FindingValue) (o : Option Part) → In all g → g.part ≡ part_role o → node_blamed f o ≡ Some m
       → IsSound image s.walk all m h → ⊥
@@ -397,11 +396,11 @@ module _ (image : List ℕ) (f : Found) {s : Course} (v : IsCourse image s) (don
           sound.unreported g (Head q p t j) i e (sym same.0, sym same.1, sym same.2)
   speaks m h g _ i e z sound = cc
 
-  not_reported : (m h : ℕ) → IsSound image s.walk all m h → is_blamed f f.findings.items m ≡ false
-  not_reported m h sound = elim (cases_Bool (is_blamed f f.findings.items m)) [
+  not_reported : (m h : ℕ) → IsSound image s.walk all m h → is_blamed f xs m ≡ false
+  not_reported m h sound = elim (cases_Bool (is_blamed f xs m)) [
     | inl t ↦
-        let x = blamed_by f f.findings.items m t in
-        let i : In all (finding_value x.0) = subst (λ fs. In fs (finding_value x.0)) st.findings (in_values f.findings.items x.0 x.1) in
+        let x = blamed_by f xs m t in
+        let i : In all (finding_value x.0) = subst (λ fs. In fs (finding_value x.0)) told (in_values xs x.0 x.1) in
         absurd (speaks m h (finding_value x.0) x.0.part i refl x.2 sound)
     | inr e ↦ e
   ]
@@ -437,11 +436,11 @@ module _ (image : List ℕ) (f : Found) {s : Course} (v : IsCourse image s) (don
       go Ffs e = undoubted m h e sound
 
   -- no finding of a part speaks against the entry
-  unspoken : (m : ℕ) → is_blamed f f.findings.items m ≡ false → (g : FindingValue) (q : Role) → In all g → g.part ≡ Some q
+  unspoken : (m : ℕ) → is_blamed f xs m ≡ false → (g : FindingValue) (q : Role) → In all g → g.part ≡ Some q
       → ((o : Option Part) → part_role o ≡ Some q → node_blamed f o ≡ Some m) → ⊥
   unspoken m e g q i is names = grind (arith, common_steps, in_findings, not_blamed)
 
-  head_clear : (m p t j h : ℕ) → Has s.walk (Head m p t j) h → is_blamed f f.findings.items m ≡ false → IsUnreported all (Head m p t j)
+  head_clear : (m p t j h : ℕ) → Has s.walk (Head m p t j) h → is_blamed f xs m ≡ false → IsUnreported all (Head m p t j)
   head_clear m p t j h has e g q i is same = elim (settled image v bits tells g q (are g i) is) [
     | inl y ↦
         let one : q ≡ Head m p t j = (one_block image (gathered image v) q (Head m p t j) y.0 h y.1 has same).0 in
@@ -452,12 +451,12 @@ module _ (image : List ℕ) (f : Found) {s : Course} (v : IsCourse image s) (don
     | inr y ↦ apart image v (Head m p t j) q h y.0 has y.1 (sym same.0, sym same.1, sym same.2)
   ]
 
-  chains_clear : (m : ℕ) → is_blamed f f.findings.items m ≡ false → (g : FindingValue) (q t j : ℕ) → In all g → g.part ≡ Some (Head q m t j)
+  chains_clear : (m : ℕ) → is_blamed f xs m ≡ false → (g : FindingValue) (q t j : ℕ) → In all g → g.part ≡ Some (Head q m t j)
       → (b : ℕ) × Has s.walk (Head q m t j) b
   chains_clear m e g q t j i is = elim (settled image v bits tells g (Head q m t j) (are g i) is) [
     | inl y ↦ y
     | inr y ↦
-        let none : is_header f q m t j ≡ false = skipped_header image f v all st q m t j y.0 y.1 in
+        let none : is_header f q m t j ≡ false = skipped_header image f v st q m t j y.0 y.1 in
         absurd (unspoken m e g (Head q m t j) i is (λ o z.
         ap (node_blamed f) (head_part o q m t j z) ∙ ap (λ t. option_map node_of (Some (cond t (Entry q) (Within m)))) none))
   ]
@@ -493,7 +492,7 @@ module _ (image : List ℕ) (f : Found) {s : Course} (v : IsCourse image s) (don
     | inr t ↦ t
   ]
 
-  clear_sound : (m : ℕ) → 1 ≤ m → m ≤ heads s.walk → is_blamed f f.findings.items m ≡ false → is_doubtful (kind_of image) image f m ≡ false
+  clear_sound : (m : ℕ) → 1 ≤ m → m ≤ heads s.walk → is_blamed f xs m ≡ false → is_doubtful (kind_of image) image f m ≡ false
       → IsSound image s.walk all m (node_block s.walk m)
   clear_sound m lo hi clear free =
       let x = has_number image (gathered image v) m lo hi in
@@ -510,14 +509,14 @@ module _ (image : List ℕ) (f : Found) {s : Course} (v : IsCourse image s) (don
       }
 
   -- the nodes that nothing is said against are the sound entries
-  pub clear_is_sound : (m : ℕ) → 1 ≤ m → (is_clear image f m ≡ true) ↔ IsSound image s.walk all m (node_block s.walk m)
+  pub clear_is_sound : (m : ℕ) → 1 ≤ m → (is_clear image f xs m ≡ true) ↔ IsSound image s.walk all m (node_block s.walk m)
   clear_is_sound m lo = (
     (λ t.
-        let x = and_parts (nat_lt m (length f.nodes.items)) (not (is_blamed f f.findings.items m) && not (is_doubtful (kind_of image) image f m)) t in
-        let y = and_parts (not (is_blamed f f.findings.items m)) (not (is_doubtful (kind_of image) image f m)) x.1 in
+        let x = and_parts (nat_lt m (length f.nodes.items)) (not (is_blamed f xs m) && not (is_doubtful (kind_of image) image f m)) t in
+        let y = and_parts (not (is_blamed f xs m)) (not (is_doubtful (kind_of image) image f m)) x.1 in
         let count : length f.nodes.items ≡ suc (heads s.walk) = st.count in
         let lt : m < length f.nodes.items = (let z = x.0 in grind (arith, nat_tests)) in
-        clear_sound m lo (omega arith) (not-true (is_blamed f f.findings.items m) y.0) (not-true (is_doubtful (kind_of image) image f m) y.1)),
+        clear_sound m lo (omega arith) (not-true (is_blamed f xs m) y.0) (not-true (is_doubtful (kind_of image) image f m) y.1)),
     (λ sound.
         let few = number_of image (gathered image v) sound.header in
         let count : length f.nodes.items ≡ suc (heads s.walk) = st.count in

@@ -1,10 +1,10 @@
 -- The state of a survey when parts are taken and skipped.
-use Rattle.std.proofs.Common.{Bool, true, false, cond, ◌==◌, Some, map, slice_index, slice_index_or, ◌≡◌, ℕ, zero, suc, List, [], ◌∷◌, ◌++◌, length}
+use Rattle.std.proofs.Common.{Bool, true, false, cond, ◌==◌, Some, slice_index, slice_index_or, ◌≡◌, ℕ, zero, suc, List, [], ◌∷◌, ◌++◌, length}
 use Rattle.std.proofs.Common.{inl, inr, replicate, set, subst, sym, ◌<◌, ◌≤◌, refl, ap, ◌∙◌, arith, length-set, get_or-set_same, get_or-set_other}
 use Rattle.std.specs.Ordering.{is_eq}
 use Rattle.std.specs.BTreeMap.{BTreeMap, Updates, get}
 use Rattle.std.proofs.lemmas.Bool.Decides.{eqb_tells, nat_tests}
-use Rattle.std.proofs.lemmas.List.{length-replicate, map-append, get_or_push, get_or_append_left, get_or_past, length_push}
+use Rattle.std.proofs.lemmas.List.{length-replicate, get_or_push, get_or_append_left, get_or_past, length_push}
 use Rattle.std.proofs.lemmas.Grind.{common_steps}
 use Rattle.adf_tree.proofs.NameKeys.{same_number, then_is}
 use Rattle.adf_blocks.specs.Sizes.{blocks}
@@ -18,13 +18,12 @@ use Rattle.adf_volume.specs.Walk.{Role, heads, head_count, node_block, node_bloc
 use Rattle.adf_volume.specs.Walk.Role.{Root, Page, MapExt, Head, Ext, Data}
 use Rattle.adf_findings.specs.declared.part.Part.{Part, TheVariants.Root as RootPart, TheVariants.Page as PagePart, TheVariants.MapExt as MapExtPart}
 use Rattle.adf_findings.specs.declared.part.Part.{TheVariants.Head as HeadPart, TheVariants.Ext as ExtPart, TheVariants.Data as DataPart}
-use Rattle.adf_findings.specs.declared.part.Finding.{Finding}
 use Rattle.adf_findings.specs.declared.part.Key.{Key}
 use Rattle.adf_findings.specs.declared.found.ChainPlace.{ChainPlace}
 use Rattle.adf_findings.specs.declared.found.Found.{Found}
 use Rattle.adf_findings.specs.Survey.{Course, FindingValue}
-use Rattle.adf_findings.specs.Parts.{by_key, key_of, role_of, finding_value}
-use Rattle.adf_findings.specs.Found.{AreAvoided, AreMarked, AreSame, IsKept, IsLookedUp, IsReported, IsOwned, IsBlockSkipped, IsPut}
+use Rattle.adf_findings.specs.Parts.{by_key, key_of, role_of}
+use Rattle.adf_findings.specs.Found.{AreAvoided, AreMarked, AreSame, IsKept, IsLookedUp, IsOwned, IsBlockSkipped, IsPut}
 use Rattle.adf_findings.specs.Found.{IsTaken, KeepsParts, Stands}
 use Rattle.adf_findings.specs.Found.{at_key, owns, parent_by, parent_node, places_of, unowned, with_mark, with_place}
 use Rattle.std.proofs.lemmas.Bool.{cases_lt}
@@ -91,10 +90,10 @@ IsNumbered w _ = Unit {0}
 
 -- what is taken stays so, whatever is skipped and reported and whatever names are kept
 pub stands_but : (image : List ℕ) (f g : Found) (s : Course) (over : Walk) (fs : List FindingValue)
-    → g ≡ record f { avoided = g.avoided; findings = g.findings; names = g.names } → Stands image f s
-    → AreAvoided (blocks image) g.avoided.items over → map finding_value g.findings.items ≡ fs
+    → g ≡ record f { avoided = g.avoided; names = g.names } → Stands image f s
+    → AreAvoided (blocks image) g.avoided.items over
     → Stands image g (record { walk = s.walk; skipped = over; findings = fs })
-stands_but image f g s over fs rest st avoided findings = grind (arith, common_steps)
+stands_but image f g s over fs rest st avoided = grind (arith, common_steps)
 
 module _ (image : List ℕ) (f g : Found) (s : Course) (b : ℕ) (st : Stands image f s) where
   -- what of the walk is kept for later
@@ -136,24 +135,18 @@ module _ (image : List ℕ) (f g : Found) (s : Course) (b : ℕ) (st : Stands im
         node = l.node;
         count = l.count;
         few = omega (arith, l.few, t.owned.left, st.few);
-        findings = ap (λ (v : Vec Finding). map finding_value v.items) t.owned.findings ∙ st.findings;
         parent = l.parent;
         parents = l.parents;
         places = l.places;
       }
 
   -- what is taken stays so, whatever is skipped and reported
-  stands_else : (over : Walk) (fs : List FindingValue) → g ≡ record f { avoided = g.avoided; findings = g.findings }
-      → AreAvoided (blocks image) g.avoided.items over → map finding_value g.findings.items ≡ fs
+  stands_else : (over : Walk) (fs : List FindingValue) → g ≡ record f { avoided = g.avoided }
+      → AreAvoided (blocks image) g.avoided.items over
       → Stands image g (record { walk = s.walk; skipped = over; findings = fs })
-  stands_else over fs rest avoided findings = grind (arith, common_steps, stands_but)
+  stands_else over fs rest avoided = grind (arith, common_steps, stands_but)
 
   -- a part is skipped
   pub stands_skipped : (r : Role) → IsBlockSkipped b f g
       → Stands image g (record { walk = s.walk; skipped = (r, b) ∷ s.skipped; findings = s.findings })
   stands_skipped r t = grind (arith, common_steps, stands_else, avoided_more)
-
-  -- a finding is reported
-  pub stands_reported : (x : Finding) → IsReported x f g
-      → Stands image g (record { walk = s.walk; skipped = s.skipped; findings = s.findings ++ finding_value x ∷ [] })
-  stands_reported x t = grind (arith, common_steps, stands_else, map-append)

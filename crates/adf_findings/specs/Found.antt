@@ -1,7 +1,7 @@
 -- The state of a survey, as a course.
--- Letters: w a walk, s a course; r a role; b, c blocks; k a key; n, p nodes; f a state.
+-- Letters: w a walk, s a course; r a role; b, c blocks; k a key; n, p nodes; f a state; fs, gs, bits findings.
 use Rattle.std.specs.Prelude.{◌≡◌, ◌≤◌, ◌<◌, ◌+◌, ◌-◌, ◌==◌, ◌&&◌, ◌||◌, ℕ, Bool, true, false, cond, not, List, []}
-use Rattle.std.specs.Prelude.{◌∷◌, ◌++◌, ◌⊎◌, length, nat_lt, replicate, set, map, slice_index, slice_index_or, Option, Some, None, IsTrue, ◌↔◌}
+use Rattle.std.specs.Prelude.{◌∷◌, ◌++◌, ◌⊎◌, length, nat_lt, replicate, set, slice_index, slice_index_or, Option, Some, None, IsTrue, ◌↔◌}
 use Rattle.std.proofs.Common.{zero, suc}
 use Rattle.std.specs.Option.{unwrap_or}
 use Rattle.std.specs.Ordering.{is_eq}
@@ -26,11 +26,10 @@ use Rattle.adf_findings.specs.Demands.{uppers_in}
 use Rattle.adf_findings.specs.declared.part.Part.{Part}
 use Rattle.adf_findings.specs.declared.part.Part.TheVariants.{Head as HeadPart, Data as DataPart}
 use Rattle.adf_findings.specs.declared.part.Key.{Key}
-use Rattle.adf_findings.specs.declared.part.Finding.{Finding}
 use Rattle.adf_findings.specs.declared.found.ChainPlace.{ChainPlace}
 use Rattle.adf_findings.specs.declared.found.Found.{Found}
 use Rattle.adf_findings.specs.Survey.{BitsTell, Course, FindingValue, IsCompared, IsCourse, IsDone}
-use Rattle.adf_findings.specs.Parts.{by_key, key_of, role_of, finding_value}
+use Rattle.adf_findings.specs.Parts.{by_key, key_of, role_of}
 
 -- the block of the member of the walk with this key
 abbrev pub at_key : Walk → Key → Option ℕ
@@ -192,7 +191,6 @@ pub record IsOwned (part : Part) (b : ℕ) (f g : Found) : Type 0 where
   pub node : g.owners.node ≡ node_after (owner_of (role_of part)) f.owners.node
   pub left : g.left + 1 ≡ f.left
   pub avoided : g.avoided ≡ f.avoided
-  pub findings : g.findings ≡ f.findings
 
 -- nodes, names, parents and positions are unchanged
 pub record AreSame (f g : Found) : Type 0 where
@@ -226,7 +224,7 @@ abbrev pub IsKept : Part → ℕ → Found → Found → Type 0
 IsKept (HeadPart n p s j) b f g = KeepsHead p s j b f g
 IsKept _ b f g = AreSame f g
 
--- marks, keys, names and findings are unchanged
+-- marks, keys and names are unchanged
 abbrev pub KeepsParts : Found → Found → Type 0
 KeepsParts f g = g ≡ record f { nodes = g.nodes; parents = g.parents; places = g.places }
 
@@ -238,14 +236,7 @@ pub record IsTaken (part : Part) (b : ℕ) (f g : Found) : Type 0 where
 -- the block is skipped
 pub record IsBlockSkipped (b : ℕ) (f g : Found) : Type 0 where
   pub avoided : g.avoided.items ≡ with_mark (length f.owners.owners) b f.avoided.items
-  pub findings : g.findings ≡ f.findings
-  pub rest : g ≡ record f { avoided = g.avoided; findings = g.findings }
-
--- the finding is reported
-pub record IsReported (x : Finding) (f g : Found) : Type 0 where
-  pub findings : g.findings.items ≡ f.findings.items ++ x ∷ []
-  pub avoided : g.avoided ≡ f.avoided
-  pub rest : g ≡ record f { avoided = g.avoided; findings = g.findings }
+  pub rest : g ≡ record f { avoided = g.avoided }
 
 -- the state is that of a course
 pub record Stands (image : List ℕ) (f : Found) (s : Course) : Type 0 where
@@ -256,7 +247,6 @@ pub record Stands (image : List ℕ) (f : Found) (s : Course) : Type 0 where
   pub node : (n : ℕ) → slice_index f.nodes.items n ≡ node_block s.walk n
   pub count : length f.nodes.items ≡ suc (heads s.walk)
   pub few : length f.nodes.items + f.left ≤ suc (blocks image)
-  pub findings : map finding_value f.findings.items ≡ s.findings
   pub parent : (n : ℕ) → slice_index f.parents.items n ≡ parent_node s.walk n
   pub parents : length f.parents.items ≡ suc (heads s.walk)
   pub places : f.places.items ≡ places_of s.walk
@@ -279,24 +269,25 @@ bit_cause false avoided true = None
 bit_cause true avoided true = Some OwnedFree
 bit_cause true avoided false = None
 
--- a course is done
-abbrev pub IsFinished : List ℕ → Found → Type 0
-IsFinished image f = (s : Course) × IsCourse image s × IsDone image s × Stands image f s
+-- a course is done, with these findings
+abbrev pub IsFinished : List ℕ → Found → List FindingValue → Type 0
+IsFinished image f fs = (s : Course) × IsCourse image s × IsDone image s × Stands image f s × (s.findings ≡ fs)
 
--- a course is done, and the findings are its own and those of these bits
-pub record HasReported (image : List ℕ) (f : Found) (s : Course) (bits : List FindingValue) : Type 0 where
+-- a course is done, and these findings are its own and those of these bits
+pub record HasReported (image : List ℕ) (f : Found) (fs : List FindingValue) (s : Course) (bits : List FindingValue) : Type 0 where
   pub course : IsCourse image s
   pub done : IsDone image s
-  pub stands : Stands image f (record { walk = s.walk; skipped = s.skipped; findings = s.findings ++ bits })
+  pub stands : Stands image f s
+  pub told : s.findings ++ bits ≡ fs
 
 -- a course is done, and the bits are compared
-abbrev pub IsCompleted : List ℕ → Found → Type 0
-IsCompleted image f = (s : Course) × (bits : List FindingValue) × HasReported image f s bits × BitsTell image s 2 (blocks image - 2) bits
+abbrev pub IsCompleted : List ℕ → Found → List FindingValue → Type 0
+IsCompleted image f fs = (s : Course) × (bits : List FindingValue) × HasReported image f fs s bits × BitsTell image s 2 (blocks image - 2) bits
 
 -- the findings of the bits up to a block, followed by those from there on
 abbrev pub TellsOn : List ℕ → Course → ℕ → List FindingValue → Type 0
 TellsOn image s b gs = (n : ℕ) (fs : List FindingValue) → BitsTell image s b n fs → BitsTell image s 2 (b - 2 + n) (gs ++ fs)
 
 -- a course is done, and the bits up to a block are compared
-abbrev pub HasReportedOn : List ℕ → Found → ℕ → Type 0
-HasReportedOn image f b = (s : Course) × (gs : List FindingValue) × HasReported image f s gs × TellsOn image s b gs
+abbrev pub HasReportedOn : List ℕ → Found → List FindingValue → ℕ → Type 0
+HasReportedOn image f fs b = (s : Course) × (gs : List FindingValue) × HasReported image f fs s gs × TellsOn image s b gs

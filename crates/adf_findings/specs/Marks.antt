@@ -82,7 +82,7 @@ has_mark marks m = slice_index_or marks m false
 abbrev pub is_undoubted : List ℕ → Found → ℕ → Bool
 is_undoubted image f m = nat_lt m (length f.nodes.items) && not (is_doubtful (kind_of image) image f m)
 
--- whether the node exists, is not made unsound so, and no finding concerns it
-abbrev pub is_clear : List ℕ → Found → ℕ → Bool
-is_clear image f m =
-    nat_lt m (length f.nodes.items) && (not (is_blamed f f.findings.items m) && not (is_doubtful (kind_of image) image f m))
+-- whether the node exists, is not made unsound so, and none of these findings concerns it
+abbrev pub is_clear : List ℕ → Found → List Finding → ℕ → Bool
+is_clear image f xs m =
+    nat_lt m (length f.nodes.items) && (not (is_blamed f xs m) && not (is_doubtful (kind_of image) image f m))

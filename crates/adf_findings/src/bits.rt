@@ -1,7 +1,7 @@
 // Comparison of the bitmap with the blocks that are owned.
 
 ghost use Rattle.std.specs.Prelude.{◌≡◌, ◌≤◌, ◌<◌, ◌+◌, ◌-◌, ◌*◌, ◌%◌, ◌||◌, ◌↔◌, ℕ, false};
-ghost use Rattle.std.specs.Prelude.{min, slice_index_or, IsBitSet, IsTrue, OnOk};
+ghost use Rattle.std.specs.Prelude.{min, slice_index_or, IfErr, IsBitSet, IsTrue, OnOk};
 ghost use Rattle.adf_blocks.specs.declared.layout.TheConstants.{PAGE_BITS, PAGE_WORDS};
 ghost use Rattle.adf_blocks.specs.Sizes.{blocks};
 ghost use Rattle.std.specs.BTreeMap.{get};
@@ -9,16 +9,18 @@ ghost use Rattle.adf_volume.specs.Image.{IsFreeAt};
 ghost use Rattle.adf_volume.specs.Walk.Role.{Page};
 ghost use Rattle.adf_findings.specs.Parts.{by_key, key_of};
 ghost use Rattle.adf_findings.specs.Survey.{IsValidated, is_cache};
+ghost use Rattle.adf_findings.specs.Courses.{IsBitStop};
 ghost use Rattle.adf_findings.specs.Bits.{IsBitCompared, IsPageCompared};
 ghost use Rattle.adf_findings.specs.Found.{IsBitOf, IsCompleted, IsFinished, HasReportedOn, bit_cause, is_owned};
 
 use crate::found::Found;
 use crate::image::Image;
+use crate::listener::Listener;
 use crate::part::{Finding, Key, Part};
-use adf_base::NoMemory;
 use adf_blocks::{
     BITMAP_FLAG, Cause, OWN_KEY, PAGE_FIRST, PAGE_WORDS, T_DIR_CACHE, TYPE, VALID, is_set,
 };
+use adf_volume::Fault;
 use std::collections::BTreeMap;
 
 /// Whether the bitmap flag of the root is that of a valid bitmap.
@@ -120,17 +122,23 @@ fn agree(found: &Found, first: u32, end: u32, word: u32) -> bool
     true
 }
 
-// Compares the bit of block `b`, and notes a finding if it disagrees.
-fn compare_bit(image: &Image<'_>, found: &mut Found, b: u32, is_free: bool) -> Result<(), NoMemory>
+// Compares the bit of block `b`, and tells of it if it disagrees.
+fn compare_bit<L: Listener>(
+    image: &Image<'_>,
+    found: &Found,
+    listener: &mut L,
+    b: u32,
+    is_free: bool,
+) -> Result<(), Fault>
     requires low { 2 ≤ b }
     requires inside { b < blocks image.now }
-    requires bit { IsBitCompared image.now found.old.taken b is_free }
-    requires reported { HasReportedOn image.now found.old b }
-    ensures reported { OnOk result (HasReportedOn image.now found.new (b + 1)) }
-    ensures taken { OnOk result (found.new.taken ≡ found.old.taken) }
+    requires bit { IsBitCompared image.now found.now.taken b is_free }
+    requires reported { HasReportedOn image.now found.now (L.heard listener.old) b }
+    ensures reported { OnOk result (HasReportedOn image.now found.now (L.heard listener.new) (b + 1)) }
+    ensures stopped { IfErr result (IsBitStop image.now L.ends) }
 {
     match bit_cause(image, found, b, found.owners.is_part(b), is_free) {
-        Some(cause) => found.report(Finding {
+        Some(cause) => listener.hear(Finding {
             part: None,
             block: b,
             cause,
@@ -140,18 +148,19 @@ fn compare_bit(image: &Image<'_>, found: &mut Found, b: u32, is_free: bool) -> R
 }
 
 // Compares the bits of word `i` of the bitmap, whose page is at a block, with the owners of its blocks.
-fn compare_word(
+fn compare_word<L: Listener>(
     image: &Image<'_>,
-    found: &mut Found,
+    found: &Found,
+    listener: &mut L,
     page: Option<u32>,
     i: u32,
-) -> Result<(), NoMemory>
+) -> Result<(), Fault>
     requires inside { 2 + 32 * i < blocks image.now }
-    requires page { IsPageCompared image.now found.old.taken (2 + 32 * i) page }
-    requires reported { HasReportedOn image.now found.old (2 + 32 * i) }
-    ensures reported { OnOk result (HasReportedOn image.now found.new
+    requires page { IsPageCompared image.now found.now.taken (2 + 32 * i) page }
+    requires reported { HasReportedOn image.now found.now (L.heard listener.old) (2 + 32 * i) }
+    ensures reported { OnOk result (HasReportedOn image.now found.now (L.heard listener.new)
         (min (2 + 32 * (i + 1)) (blocks image.now))) }
-    ensures taken { OnOk result (found.new.taken ≡ found.old.taken) }
+    ensures stopped { IfErr result (IsBitStop image.now L.ends) }
 {
     let Some(at) = page else {
         return Ok(());
@@ -164,22 +173,22 @@ fn compare_word(
         return Ok(());
     }
     for b in first..end {
-        compare_bit(image, found, b, is_set(word, b - first))?;
+        compare_bit(image, found, listener, b, is_set(word, b - first))?;
     }
     Ok(())
 }
 
 /// If the bitmap is valid, compares the bit of each block with its owner. Skips a block if its page was not taken, or
 /// if it has no owner and was skipped or is a directory cache.
-#[tactic(auto, using(crate::proofs::BitSteps::reported_first))]
-pub fn compare(image: &Image<'_>, found: &mut Found) -> Result<(), NoMemory>
-    requires { IsFinished image.now found.old }
-    ensures { OnOk result (IsCompleted image.now found.new) }
+pub fn compare<L: Listener>(image: &Image<'_>, found: &Found, listener: &mut L) -> Result<(), Fault>
+    requires { IsFinished image.now found.now (L.heard listener.old) }
+    ensures completed { OnOk result (IsCompleted image.now found.now (L.heard listener.new)) }
+    ensures stopped { IfErr result (IsBitStop image.now L.ends) }
 {
     let mut page = None;
     for i in 0..(image.blocks() - 2).div_ceil(32) {
         page = page_of(image, found, i, page);
-        compare_word(image, found, page, i)?;
+        compare_word(image, found, listener, page, i)?;
     }
     Ok(())
 }

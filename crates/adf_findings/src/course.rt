@@ -1,25 +1,27 @@
-// The course of a survey: the pages of the bitmap, then the nodes in order; for a directory its chains, for a file its
+// The course of a walk: the pages of the bitmap, then the nodes in order; for a directory its chains, for a file its
 // extension blocks, then its data blocks.
 
-ghost use Rattle.std.specs.Prelude.{◌≡◌, ◌<◌, ◌≤◌, ◌+◌, ◌*◌, ◌/◌, ◌%◌, ◌==◌, ◌^◌, IfOk, IfSome, OnOk, Some, cond, length};
-ghost use Rattle.std.specs.Prelude.{◌||◌, ◌&&◌, nat_le, nat_lt, not};
+ghost use Rattle.std.specs.Prelude.{◌≡◌, ◌<◌, ◌≤◌, ◌+◌, ◌*◌, ◌/◌, ◌%◌, ◌==◌, ◌^◌, IfErr, IfOk, IfSome, OnOk, Some, cond, length};
+ghost use Rattle.std.specs.Prelude.{◌||◌, ◌&&◌, List, nat_le, nat_lt, not};
 ghost use Rattle.adf_names.specs.declared.kind.Kind.TheVariants.{Ffs};
 ghost use Rattle.adf_blocks.specs.declared.layout.TheConstants.{POINTERS, SLOTS};
 ghost use Rattle.adf_blocks.specs.Sizes.{blocks, pages_needed};
 ghost use Rattle.adf_volume.specs.Image.{kind_of, root_of, table_word, word_in};
 ghost use Rattle.adf_volume.specs.Positions.{before_node, position_of, word_of_map_ext, word_of_page};
-ghost use Rattle.adf_findings.specs.Survey.{Course};
+ghost use Rattle.adf_findings.specs.Survey.{Course, FindingValue};
 ghost use Rattle.adf_findings.specs.Forms.{in_range};
 ghost use Rattle.adf_findings.specs.Parts.{role_of};
 ghost use Rattle.adf_findings.specs.Found.{IsFinished, is_owned, member_in};
 ghost use Rattle.adf_findings.specs.Courses.{HasReached, HasReachedData, HasReachedFile, HasReachedPage, HasReachedPart};
-ghost use Rattle.adf_findings.specs.Courses.{HasReachedSlot, Holds, IsGoneOn, IsJudged, IsNamed, IsNextReference};
-ghost use Rattle.adf_findings.specs.Courses.{HasReachedTable, IsOutcome, IsPageNamed, KeepsNameBy, due_below, due_in, end_in};
+ghost use Rattle.adf_findings.specs.Courses.{HasReachedReference, HasReachedSlot, HasReachedTable, Holds, IsGoneOn, IsJudged};
+ghost use Rattle.adf_findings.specs.Courses.{IsNamed, IsNextReference, IsOutcome, IsPageNamed, IsStop, KeepsNameBy};
+ghost use Rattle.adf_findings.specs.Courses.{due_below, due_in, end_in};
 
 use crate::forms::Context;
 use crate::found::Found;
 use crate::image::Image;
 use crate::judge::{Facts, Judgement, judge};
+use crate::listener::Listener;
 use crate::part::{Finding, Part};
 use adf_base::NoMemory;
 use adf_blocks::{
@@ -28,6 +30,7 @@ use adf_blocks::{
     page_count,
 };
 use adf_tree::Kind;
+use adf_volume::{Fault, no_memory};
 
 /// A part that is due, a header with any number; its context; and whether its file has enough extension blocks, which
 /// is asked with its first data block.
@@ -88,7 +91,7 @@ fn judge_named(
     part: Part,
     reference: &Reference,
 ) -> Result<Judgement, NoMemory>
-    ensures judged { IfOk result (λ j. IsJudged image.now found.old reference.now part j) }
+    ensures judged { IfOk result (λ j. (fs : List FindingValue) → IsJudged image.now found.old fs reference.now part j) }
     ensures names { IfOk result (λ j. KeepsNameBy image.now part
         reference.now.block j found.old.names found.new.names) }
     ensures rest { found.new ≡ record found.old { names = found.new.names } }
@@ -115,58 +118,69 @@ fn judge_named(
     }
 }
 
-// Judges the part that is next and reports its cause. Returns the part if it is to be taken, `None` if skipped.
+// Judges the part that is next and tells its cause. Returns the part if it is to be taken, `None` if skipped.
 #[inline(always)]
-fn judge_next(
+fn judge_next<L: Listener>(
     image: &Image<'_>,
     found: &mut Found,
+    listener: &mut L,
     reference: &Reference,
-) -> Result<Option<Part>, NoMemory>
-    requires { length found.old.nodes.items < 2 ^ 32 }
-    ensures { IfOk result (λ o. (s : Course) → Holds image.now found.old (position_of (role_of reference.now.due.part)) s
+) -> Result<Option<Part>, Fault>
+    requires few { length found.old.nodes.items < 2 ^ 32 }
+    requires next { HasReachedReference image.now found.old (L.heard listener.old) reference.now }
+    ensures outcome { IfOk result (λ o. (s : Course)
+        → Holds image.now found.old (L.heard listener.old) (position_of (role_of reference.now.due.part)) s
         → IsNextReference image.now s reference.now
-        → IsOutcome image.now s reference.now found.old found.new o) }
+        → IsOutcome image.now s reference.now found.old found.new (L.heard listener.new) o) }
+    ensures stopped { IfErr result (IsStop image.now L.ends) }
 {
     let part = reference.due.part.numbered(found.nodes.len() as u32);
-    match judge_named(image, found, part, reference)? {
+    let Ok(judgement) = judge_named(image, found, part, reference) else {
+        return Err(no_memory());
+    };
+    match judgement {
         Judgement::Clean => Ok(Some(part)),
         Judgement::Reported(at, cause) => {
-            found.report(of_part(part, at, cause))?;
+            listener.hear(of_part(part, at, cause))?;
             Ok(Some(part))
         }
         Judgement::Skipped(at, cause) => {
-            found.report(of_part(part, at, cause))?;
-            found.skip(reference.block)?;
-            Ok(None)
+            listener.hear(of_part(part, at, cause))?;
+            match found.skip(reference.block) {
+                Ok(()) => Ok(None),
+                Err(_) => Err(no_memory()),
+            }
         }
     }
 }
 
 // Judges and takes a part that word `i` of block `holder` points to; returns its block, `None` if it is skipped.
 #[inline(always)]
-fn go_on(
+fn go_on<L: Listener>(
     image: &Image<'_>,
     found: &mut Found,
+    listener: &mut L,
     due: Due,
     holder: u32,
     i: usize,
-) -> Result<Option<u32>, NoMemory>
+) -> Result<Option<u32>, Fault>
     requires word { i < 128 }
-    requires due { HasReachedPart image.now found.old due holder i }
-    ensures gone { IfOk result (λ o. (s : Course) → IsNamed image.now found.old due holder i s
-        → IsGoneOn image.now s due.part holder i found.new o) }
+    requires due { HasReachedPart image.now found.old (L.heard listener.old) due holder i }
+    ensures gone { IfOk result (λ o. (s : Course) → IsNamed image.now found.old (L.heard listener.old) due holder i s
+        → IsGoneOn image.now s due.part holder i found.new (L.heard listener.new) o) }
     ensures left { IfOk result (λ o. IfSome o (λ b. found.new.left < found.old.left)) }
+    ensures stopped { IfErr result (IsStop image.now L.ends) }
 {
     let reference = Reference {
         due,
         holder,
         block: image.word(holder, i),
     };
-    match judge_next(image, found, &reference)? {
-        Some(part) => {
-            found.take(part, reference.block)?;
-            Ok(Some(reference.block))
-        }
+    match judge_next(image, found, listener, &reference)? {
+        Some(part) => match found.take(part, reference.block) {
+            Ok(()) => Ok(Some(reference.block)),
+            Err(_) => Err(no_memory()),
+        },
         None => Ok(None),
     }
 }
@@ -199,15 +213,17 @@ fn map_ext_word(page: u32) -> usize
 // The block that points to a page: the one that points to the page before, or the next bitmap extension block; `None`
 // if that is skipped.
 #[tactic(auto, using(crate::proofs::MapPlaces::map_ext_named, crate::proofs::MapPlaces::map_ext_on))]
-fn holder_of(
+fn holder_of<L: Listener>(
     image: &Image<'_>,
     found: &mut Found,
+    listener: &mut L,
     page: u32,
     before: u32,
-) -> Result<Option<u32>, NoMemory>
+) -> Result<Option<u32>, Fault>
     requires some { page < pages_needed (blocks image.now) }
-    requires at { HasReachedPage image.now found.old page before }
-    ensures { IfOk result (λ o. IsPageNamed image.now found.new page o) }
+    requires at { HasReachedPage image.now found.old (L.heard listener.old) page before }
+    ensures gone { IfOk result (λ o. IsPageNamed image.now found.new (L.heard listener.new) page o) }
+    ensures stopped { IfErr result (IsStop image.now L.ends) }
 {
     let first = ROOT_PAGES as u32;
     let pages = MAP_EXT_PAGES as u32;
@@ -215,38 +231,45 @@ fn holder_of(
         return Ok(Some(before));
     }
     let due = Due::below(Part::MapExt((page - first) / pages), before);
-    let holder = go_on(image, found, due, before, map_ext_word(page))?;
+    let holder = go_on(image, found, listener, due, before, map_ext_word(page))?;
     Ok(holder)
 }
 
 // Visits the pages of the bitmap and the bitmap extension blocks.
-fn go_through_map(image: &Image<'_>, found: &mut Found) -> Result<(), NoMemory>
-    requires { HasReachedPage image.now found.old 0 (root_of image.now) }
-    ensures { OnOk result (HasReached image.now found.new (before_node 0)) }
+fn go_through_map<L: Listener>(
+    image: &Image<'_>,
+    found: &mut Found,
+    listener: &mut L,
+) -> Result<(), Fault>
+    requires { HasReachedPage image.now found.old (L.heard listener.old) 0 (root_of image.now) }
+    ensures gone { OnOk result (HasReached image.now found.new (L.heard listener.new) (before_node 0)) }
+    ensures stopped { IfErr result (IsStop image.now L.ends) }
 {
     let mut holder = image.root();
     for page in 0..page_count(image.blocks()) {
-        match holder_of(image, found, page, holder)? {
+        match holder_of(image, found, listener, page, holder)? {
             Some(at) => holder = at,
             None => return Ok(()),
         }
         let due = Due::below(Part::Page(page), holder);
-        go_on(image, found, due, holder, page_word(page))?;
+        go_on(image, found, listener, due, holder, page_word(page))?;
     }
     Ok(())
 }
 
 // Visits the chain of a slot of a directory.
-fn go_through_chain(
+fn go_through_chain<L: Listener>(
     image: &Image<'_>,
     found: &mut Found,
+    listener: &mut L,
     parent: u32,
     slot: u8,
     b: u32,
-) -> Result<(), NoMemory>
+) -> Result<(), Fault>
     requires slot { slot < SLOTS }
-    requires at { HasReachedSlot image.now found.old parent slot b }
-    ensures { OnOk result (HasReachedSlot image.now found.new parent (slot + 1) b) }
+    requires at { HasReachedSlot image.now found.old (L.heard listener.old) parent slot b }
+    ensures gone { OnOk result (HasReachedSlot image.now found.new (L.heard listener.new) parent (slot + 1) b) }
+    ensures stopped { IfErr result (IsStop image.now L.ends) }
 {
     let mut holder = b;
     let mut i = FIRST_SLOT + slot as usize;
@@ -258,7 +281,7 @@ fn go_through_chain(
             slot,
             place,
         };
-        match go_on(image, found, Due::below(part, b), holder, i)? {
+        match go_on(image, found, listener, Due::below(part, b), holder, i)? {
             Some(header) => holder = header,
             None => return Ok(()),
         }
@@ -270,29 +293,43 @@ fn go_through_chain(
 
 // Visits the chains of the directory at block `b`.
 #[tactic(auto, using(crate::proofs::CoursePlaces::slot_empty))]
-fn go_through_dir(image: &Image<'_>, found: &mut Found, node: u32, b: u32) -> Result<(), NoMemory>
-    requires { HasReachedSlot image.now found.old node 0 b }
-    ensures { OnOk result (HasReached image.now found.new (before_node (node + 1))) }
+fn go_through_dir<L: Listener>(
+    image: &Image<'_>,
+    found: &mut Found,
+    listener: &mut L,
+    node: u32,
+    b: u32,
+) -> Result<(), Fault>
+    requires { HasReachedSlot image.now found.old (L.heard listener.old) node 0 b }
+    ensures gone { OnOk result (HasReached image.now found.new (L.heard listener.new) (before_node (node + 1))) }
+    ensures stopped { IfErr result (IsStop image.now L.ends) }
 {
     for slot in 0..SLOTS as u8 {
         if image.word(b, FIRST_SLOT + slot as usize) != 0 {
-            go_through_chain(image, found, node, slot, b)?;
+            go_through_chain(image, found, listener, node, slot, b)?;
         }
     }
     Ok(())
 }
 
 // Visits the extension blocks of a file, with its header at block `b`; returns how many are taken.
-fn go_through_exts(image: &Image<'_>, found: &mut Found, node: u32, b: u32) -> Result<u32, NoMemory>
-    requires { HasReachedFile image.now found.old node b }
-    ensures datas { IfOk result (λ exts. HasReachedData image.now found.new node b exts) }
+fn go_through_exts<L: Listener>(
+    image: &Image<'_>,
+    found: &mut Found,
+    listener: &mut L,
+    node: u32,
+    b: u32,
+) -> Result<u32, Fault>
+    requires { HasReachedFile image.now found.old (L.heard listener.old) node b }
+    ensures datas { IfOk result (λ exts. HasReachedData image.now found.new (L.heard listener.new) node b exts) }
     ensures few { IfOk result (λ exts. exts ≤ 1048576) }
+    ensures stopped { IfErr result (IsStop image.now L.ends) }
 {
     let mut holder = b;
     let mut exts = 0;
     while image.word(holder, EXTENSION) != 0 {
         let due = Due::below(Part::Ext(node, exts + 1), b);
-        match go_on(image, found, due, holder, EXTENSION)? {
+        match go_on(image, found, listener, due, holder, EXTENSION)? {
             Some(ext) => holder = ext,
             None => return Ok(exts),
         }
@@ -359,23 +396,27 @@ fn is_ffs_data(image: &Image<'_>, found: &Found, table: &FileTable, k: u32, b: u
 
 // Judges data block `k + 1` of an FFS file, which block `holder` points to, and takes it or not.
 #[inline(never)]
-fn go_on_ffs(
+fn go_on_ffs<L: Listener>(
     image: &Image<'_>,
     found: &mut Found,
+    listener: &mut L,
     table: &FileTable,
     k: u32,
     holder: u32,
-) -> Result<Option<u32>, NoMemory>
+) -> Result<Option<u32>, Fault>
     requires inside { k < table.now.count }
-    requires due { HasReachedPart image.now found.old (due_in table.now k 0) holder (table_word k) }
-    ensures { IfOk result (λ o. (s : Course)
-        → IsNamed image.now found.old (due_in table.now k 0) holder (table_word k) s
-        → IsGoneOn image.now s (Part.Data table.now.node (k + 1)) holder (table_word k) found.new o) }
+    requires due { HasReachedPart image.now found.old (L.heard listener.old) (due_in table.now k 0) holder (table_word k) }
+    ensures gone { IfOk result (λ o. (s : Course)
+        → IsNamed image.now found.old (L.heard listener.old) (due_in table.now k 0) holder (table_word k) s
+        → IsGoneOn image.now s (Part.Data table.now.node (k + 1)) holder (table_word k)
+        found.new (L.heard listener.new) o) }
+    ensures stopped { IfErr result (IsStop image.now L.ends) }
 {
     let due = data_due(table, k, 0);
     let gone = go_on(
         image,
         found,
+        listener,
         due,
         holder,
         FIRST_POINTER - k as usize % POINTERS,
@@ -384,42 +425,48 @@ fn go_on_ffs(
 }
 
 // Visits the data blocks of an FFS file that block `m` of its table points to.
-fn go_through_ffs_table(
+fn go_through_ffs_table<L: Listener>(
     image: &Image<'_>,
     found: &mut Found,
+    listener: &mut L,
     table: &FileTable,
     m: u32,
-) -> Result<(), NoMemory>
+) -> Result<(), Fault>
     requires kind { kind_of image.now ≡ Ffs }
     requires few { m ≤ 1048576 }
     requires some { POINTERS * m < end_in table.now (m + 1) }
-    requires at { HasReachedTable image.now found.old table.now (POINTERS * m) }
-    ensures { OnOk result (HasReachedTable image.now found.new table.now (end_in table.now (m + 1))) }
+    requires at { HasReachedTable image.now found.old (L.heard listener.old) table.now (POINTERS * m) }
+    ensures gone { OnOk result (HasReachedTable image.now found.new (L.heard listener.new) table.now (end_in table.now (m + 1))) }
+    ensures stopped { IfErr result (IsStop image.now L.ends) }
 {
     let holder = found.member_block(table.node, m);
     let first = POINTERS as u32 * m;
     for k in first..table_end(table, m) {
         let b = image.word(holder, FIRST_POINTER - (k - first) as usize);
         if is_ffs_data(image, found, table, k, b) {
-            found.take(Part::Data(table.node, k + 1), b)?;
+            let Ok(()) = found.take(Part::Data(table.node, k + 1), b) else {
+                return Err(no_memory());
+            };
         } else {
-            go_on_ffs(image, found, table, k, holder)?;
+            go_on_ffs(image, found, listener, table, k, holder)?;
         }
     }
     Ok(())
 }
 
 // Visits the data blocks of an OFS file that block `m` of its table points to.
-fn go_through_ofs_table(
+fn go_through_ofs_table<L: Listener>(
     image: &Image<'_>,
     found: &mut Found,
+    listener: &mut L,
     table: &FileTable,
     m: u32,
-) -> Result<(), NoMemory>
+) -> Result<(), Fault>
     requires few { m ≤ 1048576 }
     requires some { POINTERS * m < end_in table.now (m + 1) }
-    requires at { HasReachedTable image.now found.old table.now (POINTERS * m) }
-    ensures { OnOk result (HasReachedTable image.now found.new table.now (end_in table.now (m + 1))) }
+    requires at { HasReachedTable image.now found.old (L.heard listener.old) table.now (POINTERS * m) }
+    ensures gone { OnOk result (HasReachedTable image.now found.new (L.heard listener.new) table.now (end_in table.now (m + 1))) }
+    ensures stopped { IfErr result (IsStop image.now L.ends) }
 {
     let holder = found.member_block(table.node, m);
     let first = POINTERS as u32 * m;
@@ -429,6 +476,7 @@ fn go_through_ofs_table(
         go_on(
             image,
             found,
+            listener,
             due,
             holder,
             FIRST_POINTER - (k - first) as usize,
@@ -438,34 +486,38 @@ fn go_through_ofs_table(
 }
 
 // Visits the data blocks of a file that block `m` of its table points to.
-fn go_through_table(
+fn go_through_table<L: Listener>(
     image: &Image<'_>,
     found: &mut Found,
+    listener: &mut L,
     table: &FileTable,
     m: u32,
-) -> Result<(), NoMemory>
+) -> Result<(), Fault>
     requires few { m ≤ 1048576 }
     requires some { POINTERS * m < end_in table.now (m + 1) }
-    requires at { HasReachedTable image.now found.old table.now (POINTERS * m) }
-    ensures { OnOk result (HasReachedTable image.now found.new table.now (end_in table.now (m + 1))) }
+    requires at { HasReachedTable image.now found.old (L.heard listener.old) table.now (POINTERS * m) }
+    ensures gone { OnOk result (HasReachedTable image.now found.new (L.heard listener.new) table.now (end_in table.now (m + 1))) }
+    ensures stopped { IfErr result (IsStop image.now L.ends) }
 {
     match image.kind() {
-        Kind::Ffs => go_through_ffs_table(image, found, table, m),
-        Kind::Ofs => go_through_ofs_table(image, found, table, m),
+        Kind::Ffs => go_through_ffs_table(image, found, listener, table, m),
+        Kind::Ofs => go_through_ofs_table(image, found, listener, table, m),
     }
 }
 
 // Visits the data blocks of a file, with its header at block `b` and this many extension blocks.
-fn go_through_datas(
+fn go_through_datas<L: Listener>(
     image: &Image<'_>,
     found: &mut Found,
+    listener: &mut L,
     node: u32,
     b: u32,
     exts: u32,
-) -> Result<(), NoMemory>
+) -> Result<(), Fault>
     requires few { exts ≤ 1048576 }
-    requires at { HasReachedData image.now found.old node b exts }
-    ensures { OnOk result (HasReached image.now found.new (before_node (node + 1))) }
+    requires at { HasReachedData image.now found.old (L.heard listener.old) node b exts }
+    ensures gone { OnOk result (HasReached image.now found.new (L.heard listener.new) (before_node (node + 1))) }
+    ensures stopped { IfErr result (IsStop image.now L.ends) }
 {
     let count = image.data_count(b);
     if count == 0 {
@@ -479,24 +531,30 @@ fn go_through_datas(
     };
     let end = table.count.min(table.room);
     for m in 0..end.div_ceil(POINTERS as u32) {
-        go_through_table(image, found, &table, m)?;
+        go_through_table(image, found, listener, &table, m)?;
     }
     Ok(())
 }
 
 // Visits the parts of a node: the chains of a directory, or the blocks of a file.
-fn go_through_node(image: &Image<'_>, found: &mut Found, node: u32) -> Result<(), NoMemory>
+fn go_through_node<L: Listener>(
+    image: &Image<'_>,
+    found: &mut Found,
+    listener: &mut L,
+    node: u32,
+) -> Result<(), Fault>
     requires some { node < length found.old.nodes.items }
-    requires at { HasReached image.now found.old (before_node node) }
-    ensures { OnOk result (HasReached image.now found.new (before_node (node + 1))) }
+    requires at { HasReached image.now found.old (L.heard listener.old) (before_node node) }
+    ensures gone { OnOk result (HasReached image.now found.new (L.heard listener.new) (before_node (node + 1))) }
+    ensures stopped { IfErr result (IsStop image.now L.ends) }
 {
     let b = found.node_block(node);
     let kind = image.word(b, SECONDARY_TYPE);
     if node == 0 || kind == ST_DIR {
-        go_through_dir(image, found, node, b)
+        go_through_dir(image, found, listener, node, b)
     } else if kind == ST_FILE {
-        let exts = go_through_exts(image, found, node, b)?;
-        go_through_datas(image, found, node, b, exts)
+        let exts = go_through_exts(image, found, listener, node, b)?;
+        go_through_datas(image, found, listener, node, b, exts)
     } else {
         Ok(())
     }
@@ -504,14 +562,15 @@ fn go_through_node(image: &Image<'_>, found: &mut Found, node: u32) -> Result<()
 
 /// Visits the parts of a volume, until none is next.
 #[tactic(auto, using(crate::proofs::CoursePlaces::nodes_end))]
-pub fn run(image: &Image<'_>, found: &mut Found) -> Result<(), NoMemory>
-    requires { HasReachedPage image.now found.old 0 (root_of image.now) }
-    ensures { OnOk result (IsFinished image.now found.new) }
+pub fn run<L: Listener>(image: &Image<'_>, found: &mut Found, listener: &mut L) -> Result<(), Fault>
+    requires { HasReachedPage image.now found.old (L.heard listener.old) 0 (root_of image.now) }
+    ensures gone { OnOk result (IsFinished image.now found.new (L.heard listener.new)) }
+    ensures stopped { IfErr result (IsStop image.now L.ends) }
 {
-    go_through_map(image, found)?;
+    go_through_map(image, found, listener)?;
     let mut node = 0;
     while (node as usize) < found.nodes.len() {
-        go_through_node(image, found, node)?;
+        go_through_node(image, found, listener, node)?;
         node += 1;
     }
     Ok(())

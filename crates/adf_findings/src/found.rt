@@ -1,22 +1,20 @@
 // The state of a survey.
 
-ghost use Rattle.std.specs.Prelude.{◌≡◌, ◌≤◌, ◌<◌, ◌+◌, ℕ, List, [], ◌∷◌, ◌++◌, IfOk, OnOk, Some, None};
-ghost use Rattle.std.specs.Prelude.{length, false, true, not, set, slice_index, map};
+ghost use Rattle.std.specs.Prelude.{◌≡◌, ◌≤◌, ◌<◌, ◌+◌, ℕ, List, [], IfOk, OnOk, Some, not, slice_index};
 ghost use Rattle.std.specs.BTreeMap.{Updates};
 ghost use Rattle.adf_blocks.specs.Sizes.{blocks};
 ghost use Rattle.adf_tree.specs.NameSet.{has};
-ghost use Rattle.adf_volume.specs.Image.{name_of, root_of};
 ghost use Rattle.adf_volume.specs.Positions.{position_of};
 ghost use Rattle.adf_volume.specs.Walk.{Walk};
-ghost use Rattle.adf_findings.specs.Parts.{by_key, finding_value, role_of};
-ghost use Rattle.adf_findings.specs.Found.{AreNamed, AreSame, Stands, IsChain, IsKept, IsReported, IsOwned, IsBlockSkipped};
+ghost use Rattle.adf_findings.specs.Parts.{by_key, role_of};
+ghost use Rattle.adf_findings.specs.Found.{AreNamed, AreSame, Stands, IsChain, IsKept, IsOwned, IsBlockSkipped};
 ghost use Rattle.adf_findings.specs.Found.{HasValidName, IsPut, IsTaken, IsNextPart, KeepsName, KeepsParts};
 ghost use Rattle.adf_findings.specs.Found.{begun_marks, is_owned, known_at, member_in, new_in};
 ghost use Rattle.adf_findings.specs.Survey.{begun};
 
 use crate::header_name::upper_name;
 use crate::image::Image;
-use crate::part::{Finding, Key, Part};
+use crate::part::{Key, Part};
 use adf_base::NoMemory;
 use adf_tree::NameSet;
 use adf_walk::WalkOwners;
@@ -32,7 +30,7 @@ pub struct ChainPlace {
 
 /// The state of a survey: the blocks of the taken parts by key, except headers and data blocks; the owner of each block;
 /// for each block, once any was skipped, whether it was; the number of blocks not taken; the blocks of nodes; the valid
-/// names in the current chain; the findings; the parents of nodes; and the positions of headers, from node 1 on.
+/// names in the current chain; the parents of nodes; and the positions of headers, from node 1 on.
 #[derive(Drop)]
 pub struct Found {
     pub taken: BTreeMap<Key, u32>,
@@ -41,7 +39,6 @@ pub struct Found {
     pub left: u32,
     pub nodes: Vec<u32>,
     pub names: NameSet,
-    pub findings: Vec<Finding>,
     pub parents: Vec<u32>,
     pub places: Vec<ChainPlace>,
 }
@@ -90,7 +87,6 @@ impl Found {
             left: blocks,
             nodes: Vec::new(alloc),
             names: NameSet::new(alloc),
-            findings: Vec::new(alloc),
             parents,
             places: Vec::new(alloc),
         };
@@ -240,17 +236,6 @@ impl Found {
         begin_marks(&mut self.avoided, self.owners.len() as usize)?;
         if (b as usize) < self.avoided.len() {
             self.avoided[b as usize] = true;
-        }
-        Ok(())
-    }
-
-    /// Reports a finding.
-    #[inline(never)]
-    pub fn report(&mut self, finding: Finding) -> Result<(), NoMemory>
-        ensures { OnOk result (IsReported finding self.old self.new) }
-    {
-        if self.findings.push(finding).is_err() {
-            return Err(NoMemory);
         }
         Ok(())
     }

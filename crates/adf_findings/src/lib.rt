@@ -12,6 +12,7 @@ mod header_name;
 mod image;
 mod judge;
 mod laws;
+mod listener;
 mod lookup;
 mod marks;
 mod opening;

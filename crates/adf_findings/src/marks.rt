@@ -97,14 +97,18 @@ fn doubted(image: &Image<'_>, found: &Found, b: u32) -> Option<usize>
 }
 
 /// What the findings concern, in the order of the findings.
-pub fn concerned(alloc: Global, found: &Found) -> Result<Vec<Option<Concern>>, NoMemory>
+pub fn concerned(
+    alloc: Global,
+    found: &Found,
+    findings: &[Finding],
+) -> Result<Vec<Option<Concern>>, NoMemory>
     ensures { IfOk result (λ v. v.items
-        ≡ map (λ x. blamed found.now x.part) found.now.findings.items) }
+        ≡ map (λ x. blamed found.now x.part) findings.now) }
 {
-    let Ok(mut concerns) = Vec::with_capacity(alloc, found.findings.len()) else {
+    let Ok(mut concerns) = Vec::with_capacity(alloc, findings.len()) else {
         return Err(NoMemory);
     };
-    for finding in &found.findings {
+    for finding in findings {
         if concerns.push(blamed(found, finding.part)).is_err() {
             return Err(NoMemory);
         }
@@ -113,12 +117,11 @@ pub fn concerned(alloc: Global, found: &Found) -> Result<Vec<Option<Concern>>, N
 }
 
 /// Removes the marks of entries that findings concern, and of directories within which a header was skipped.
-pub fn strike_blamed(found: &Found, marks: &mut Vec<bool>)
+pub fn strike_blamed(found: &Found, findings: &[Finding], marks: &mut Vec<bool>)
     ensures { (m : ℕ) → has_mark marks.new.items m
-        ≡ (has_mark marks.old.items m && not
-        (is_blamed found.now found.now.findings.items m)) }
+        ≡ (has_mark marks.old.items m && not (is_blamed found.now findings.now m)) }
 {
-    for finding in &found.findings {
+    for finding in findings {
         if let Some(concern) = blamed(found, finding.part) {
             strike(marks, concern.node() as usize);
         }

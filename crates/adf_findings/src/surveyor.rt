@@ -1,15 +1,19 @@
 // The survey of an image.
 
-ghost use Rattle.std.specs.Prelude.{◌≡◌, ◌++◌, ℕ, List, IfOk, OnOk, map};
+ghost use Rattle.std.specs.Prelude.{◌≡◌, ◌++◌, IfOk, OnOk, map};
+ghost use Rattle.adf_volume.specs.Image.{root_of};
 ghost use Rattle.adf_volume.specs.Walk.{Walk};
-ghost use Rattle.adf_findings.specs.Found.{Stands};
+ghost use Rattle.adf_findings.specs.Courses.{HasReachedPage};
+ghost use Rattle.adf_findings.specs.Found.{IsCompleted};
 ghost use Rattle.adf_findings.specs.Parts.{finding_value};
 ghost use Rattle.adf_findings.specs.Start.{boot_findings, root_findings, unread_findings};
-ghost use Rattle.adf_findings.specs.Survey.{BootTells, FindingValue, IsSurvey, RootTells, UnreadTells, begun};
+ghost use Rattle.adf_findings.specs.Survey.{BootTells, IsSurvey, RootTells, UnreadTells};
 
 use crate::bits::compare;
 use crate::course::run;
 use crate::found::Found;
+use crate::image::Image;
+use crate::listener::Noting;
 use crate::marks::{concerned, grave, strike_blamed, undoubted_marks};
 use crate::part::{Finding, Part};
 use crate::start::{Started, Unread, start};
@@ -20,7 +24,6 @@ use adf_volume::Fault;
 use adf_walk::WalkOwners;
 use std::alloc::Global;
 use std::collections::BTreeMap;
-use std::mem::replace;
 
 // Notes the cause of the boot block, if it has one.
 fn report_boot(findings: &mut Vec<Finding>, boot: Option<Cause>) -> Result<(), NoMemory>
@@ -73,18 +76,36 @@ fn only<'i>(alloc: Global, image: &'i [u8], unread: Unread) -> Result<Survey<'i>
 }
 
 // Notes the cause of the root, if it has one.
-fn report_root(found: &mut Found, cause: Option<Fault>) -> Result<(), NoMemory>
-    ensures { OnOk result ((image : List ℕ) (fs : List FindingValue)
-        → Stands image found.old (begun image fs)
-        → Stands image found.new (begun image (fs ++ root_findings cause))) }
+fn report_root(findings: &mut Vec<Finding>, root: Option<Fault>) -> Result<(), NoMemory>
+    ensures { OnOk result (map finding_value findings.new.items
+        ≡ map finding_value findings.old.items ++ root_findings root) }
 {
-    match cause {
-        Some(Fault { block, cause }) => found.report(Finding {
-            part: Some(Part::Root),
-            block,
-            cause,
-        }),
-        None => Ok(()),
+    let Some(fault) = root else {
+        return Ok(());
+    };
+    let finding = Finding {
+        part: Some(Part::Root),
+        block: fault.block,
+        cause: fault.cause,
+    };
+    match findings.push(finding) {
+        Ok(()) => Ok(()),
+        Err(_) => Err(NoMemory),
+    }
+}
+
+// Notes the causes of the parts of a volume, and the bits that disagree.
+fn note(image: &Image<'_>, found: &mut Found, noting: &mut Noting) -> Result<(), NoMemory>
+    requires { HasReachedPage image.now found.old (map finding_value noting.old.findings.items)
+        0 (root_of image.now) }
+    ensures { OnOk result (IsCompleted image.now found.new (map finding_value noting.new.findings.items)) }
+{
+    if run(image, found, noting).is_err() {
+        return Err(NoMemory);
+    }
+    match compare(image, found, noting) {
+        Ok(()) => Ok(()),
+        Err(_) => Err(NoMemory),
     }
 }
 
@@ -98,19 +119,21 @@ fn go_through<'i>(alloc: Global, started: &Started<'i>) -> Result<Survey<'i>, No
 {
     let image = &started.image;
     let mut found = Found::begin(alloc, image)?;
-    report_boot(&mut found.findings, started.boot)?;
-    report_root(&mut found, started.root)?;
-    run(image, &mut found)?;
-    compare(image, &mut found)?;
-    let concerned = concerned(alloc, &found)?;
+    let mut noting = Noting {
+        findings: Vec::new(alloc),
+    };
+    report_boot(&mut noting.findings, started.boot)?;
+    report_root(&mut noting.findings, started.root)?;
+    note(image, &mut found, &mut noting)?;
+    let findings = noting.findings;
+    let concerned = concerned(alloc, &found, &findings)?;
     let mut sound = undoubted_marks(alloc, image, &found)?;
     let Ok(mut whole) = sound.clone() else {
         return Err(NoMemory);
     };
-    strike_blamed(&found, &mut sound);
-    let graves = grave(alloc, &found.findings)?;
-    let findings = replace(&mut found.findings, graves);
-    strike_blamed(&found, &mut whole);
+    strike_blamed(&found, &findings, &mut sound);
+    let graves = grave(alloc, &findings)?;
+    strike_blamed(&found, &graves, &mut whole);
     Ok(Survey {
         image: image.bytes(),
         findings,

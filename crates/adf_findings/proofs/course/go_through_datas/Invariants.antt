@@ -2,4 +2,4 @@ use Rattle.adf_findings.specs.Courses.{HasReachedTable, end_in}
 use Rattle.adf_findings.proofs.course.go_through_datas.Given as goal
 
 abbrev pub invariant-loop-m : goal.invariant-loop-m
-invariant-loop-m l = HasReachedTable l.image l.found l.table (end_in l.table l.m)
+invariant-loop-m g l = HasReachedTable l.image l.found (g.L.Listener.heard l.listener) l.table (end_in l.table l.m)
