@@ -1,5 +1,5 @@
 -- The first finding of a survey, and surveys without one.
-use Rattle.std.proofs.Common.{false, ◌≡◌, ℕ, suc, List, [], ◌∷◌, ◌++◌, inl, inr, ◌+◌, ◌-◌, ◌/◌, ◌<◌, ◌≤◌, refl, sym, subst, arith}
+use Rattle.std.proofs.Common.{false, ◌≡◌, ℕ, zero, suc, List, [], ◌∷◌, ◌++◌, inl, inr, ◌+◌, ◌-◌, ◌/◌, ◌<◌, ◌≤◌, refl, sym, subst, arith}
 use Rattle.std.proofs.lemmas.Bool.Decides.{nat_tests}
 use Rattle.std.proofs.lemmas.Bool.{eqb-true}
 use Rattle.std.proofs.lemmas.Grind.{common_steps}
@@ -37,7 +37,7 @@ use Rattle.adf_findings.specs.Survey.IsSurvey.{unread, read}
 
 module _ (image : List ℕ) where
   -- what is known of a course by its findings: without one it is a walk that left nothing; the first one is the first fault
-  abbrev Known : Walk → Walk → List FindingValue → Type 0
+  abbrev pub Known : Walk → Walk → List FindingValue → Type 0
   Known w over [] = IsBegun image × IsWalk image w × (over ≡ [])
   Known w over (f ∷ fs) = FirstFault image f.block f.cause
 
@@ -69,7 +69,7 @@ module _ (image : List ℕ) where
       at_boot (fails_right (boot_demands image) (root_demands image (root_of image)) at c h g.0)
   started (other_type {at = at} {c = c} h e) t = at_boot (fails_left (boot_demands image) (root_demands image (root_of image)) at c h)
 
-  known : {s : Course} → IsCourse image s → Known s.walk s.skipped s.findings
+  pub known : {s : Course} → IsCourse image s → Known s.walk s.skipped s.findings
   known (start b t) = started b t
   known (step {s = s} {r = r} {a = a} {i = i} j v n h) = stepped s.walk s.skipped s.findings r a i j (known v) n h
 
@@ -140,6 +140,32 @@ joined image w over [] bits k d t =
     cases : (bits : List FindingValue) → Told image w 2 (blocks image - 2) bits → Shows image w bits
     cases [] h = (k.0, k.1, whole image w over [] k.2 d, h)
     cases (f ∷ fs) h = at_bitmap k.0 w k.1 (whole image w over [] k.2 d) h
+
+-- the first of n bits that disagrees is the first of more bits
+of_more : (image : List ℕ) (w : Walk) (b n m at : ℕ) (c : Cause) → n ≤ m → FirstFails (bitmap_demands image w b n) at c
+    → FirstFails (bitmap_demands image w b m) at c
+of_more image w b zero m at c le h = absurd h
+of_more image w b (suc n) zero at c le h = absurd (omega arith)
+of_more image w b (suc n) (suc m) at c le (inl h) = inl h
+of_more image w b (suc n) (suc m) at c le (inr (x, inl h)) = inr (x, inl h)
+of_more image w b (suc n) (suc m) at c le (inr (x, inr (y, h))) = inr (x, inr (y, of_more image w (suc b) n m at c (omega arith) h))
+
+-- the only finding of a course that is done and of the bits of n blocks is the first fault
+first_of_bits : (image : List ℕ) (w over : Walk) (fs bits : List FindingValue) (n : ℕ) (x : FindingValue) → Known image w over fs
+    → IsDone image (record { walk = w; skipped = over; findings = fs })
+    → BitsTell image (record { walk = w; skipped = over; findings = fs }) 2 n bits → n ≤ blocks image - 2 → fs ++ bits ≡ x ∷ []
+    → FirstFault image x.block x.cause
+first_of_bits image w over (f ∷ fs) bits n x k d t few e = let same : f ≡ x = cc in subst (λ y. FirstFault image y.block y.cause) same k
+first_of_bits image w over [] bits n x k d t few e =
+    let wh = whole image w over [] k.2 d in
+    let h : FirstFails (bitmap_demands image w 2 n) x.block x.cause =
+    subst (Told image w 2 n) e
+    (told image t (λ b lo hi. compared image w over [] k.2 wh k.0 (validated image k.0) b lo (omega arith))) in
+    at_bitmap k.0 w k.1 wh (of_more image w 2 n (blocks image - 2) x.block x.cause few h)
+
+pub first_bit : (image : List ℕ) (s : Course) (bits : List FindingValue) (n : ℕ) (x : FindingValue) → IsCourse image s → IsDone image s
+    → BitsTell image s 2 n bits → n ≤ blocks image - 2 → s.findings ++ bits ≡ x ∷ [] → FirstFault image x.block x.cause
+first_bit image s bits n x v d t few e = first_of_bits image s.walk s.skipped s.findings bits n x (known image v) d t few e
 
 pub shown : (image : List ℕ) {w : Walk} {fs : List FindingValue} → IsSurvey image w fs → Shows image w fs
 shown image (unread (bad_boot {at = at} {c = c} h e)) = at_boot (fails_left (boot_demands image) (root_demands image (root_of image)) at c h)

@@ -1,7 +1,7 @@
 -- The state of a survey along its course.
 -- Letters: s a course, w its walk; f, g states; fs findings; k a position; a, i the block and the word that point to a part;
 -- b a block; n, p nodes; y a part that is due; x a reference, or the table of a file; m the number of a block in it; j a judgement.
-use Rattle.std.specs.Prelude.{◌≡◌, ◌≤◌, ◌<◌, ◌+◌, ◌-◌, ◌*◌, ◌||◌, ◌⊎◌, ℕ, true, false, nat_le, nat_lt, min, List, ◌∷◌, ◌++◌}
+use Rattle.std.specs.Prelude.{◌≡◌, ◌≤◌, ◌<◌, ◌+◌, ◌-◌, ◌*◌, ◌||◌, ◌⊎◌, ℕ, true, false, nat_le, nat_lt, min, List, [], ◌∷◌, ◌++◌}
 use Rattle.std.specs.Prelude.{Option, Some, None, IfSome}
 use Rattle.std.proofs.Common.{suc}
 use Rattle.adf_blocks.specs.declared.layout.TheConstants.{POINTERS}
@@ -191,6 +191,10 @@ pub record HasReachedNamed (image : List ℕ) (f : Found) (fs : List FindingValu
 -- a fault that ends a walk: no memory, or what the listener says of the findings of a course up to its end
 abbrev pub IsStop : List ℕ → (List FindingValue → Fault → Type 0) → Fault → Type 0
 IsStop image ends e = (e ≡ fault 0 NoMemory) ⊎ ((s : Course) × IsCourse image s × ends s.findings e)
+
+-- a listener that stops ends a walk at its first finding
+abbrev pub IsFirst : List FindingValue → Fault → Type 0
+IsFirst fs e = (x : FindingValue) × (fs ≡ x ∷ []) × (e ≡ fault x.block x.cause)
 
 -- a fault that ends the comparison of the bits: no memory, or what the listener says of the findings of a course that is done and
 -- of the bits of n blocks up to its end

@@ -23,6 +23,7 @@ mod remains;
 mod start;
 mod survey_result;
 mod surveyor;
+mod walk_check;
 
 pub use crate::concern::Concern;
 pub use crate::file::SoundFile;
@@ -37,3 +38,4 @@ pub use crate::part::{Finding, Part};
 pub use crate::remains::{Gap, Remains};
 pub use crate::survey_result::Survey;
 pub use crate::surveyor::survey;
+pub use crate::walk_check::check_walk;

@@ -6,7 +6,7 @@ ghost use Rattle.adf_findings.specs.Parts.{finding_value};
 ghost use Rattle.adf_findings.specs.Survey.{FindingValue};
 
 use crate::part::Finding;
-use adf_volume::{Fault, no_memory};
+use adf_volume::{Fault, fault_at, no_memory};
 
 /// What hears of each finding of a walk, and lets the walk go on or ends it.
 pub trait Listener {
@@ -44,5 +44,22 @@ impl Listener for Noting {
             Ok(()) => Ok(()),
             Err(_) => Err(no_memory()),
         }
+    }
+}
+
+/// Ends the walk at the first finding.
+#[derive(Clone, Copy, PartialEq, Eq, Drop)]
+pub struct Stopping;
+
+impl Listener for Stopping {
+    ghost use Rattle.std.specs.Prelude.{[]};
+    ghost use Rattle.adf_findings.specs.Courses.{IsFirst};
+
+    ghost heard = { λ _. [] };
+
+    ghost ends = { IsFirst };
+
+    fn hear(&mut self, finding: Finding) -> Result<(), Fault> {
+        Err(fault_at(finding.block, finding.cause))
     }
 }
