@@ -4,8 +4,6 @@ use Rattle.std.proofs.Common.{◌≡◌, ◌≢◌, inl, inr, ℕ, zero, suc, Li
 use Rattle.std.proofs.Common.{true, false, not, IfErr, Result, Ok, Err, slice_index, IsTrue, ◌↔◌, ◌==◌, ◌^◌, IsBitSet}
 use Rattle.std.specs.Int.Bits.{bit_and}
 use Rattle.std.proofs.lemmas.Bool.Decides.{nat_tests}
-use Rattle.std.proofs.lemmas.Nat.{and_comm, and_mask, pow_below, pow_pos}
-use Rattle.std.proofs.Math.Nat.{mod-eq_of_lt}
 use Rattle.std.proofs.lemmas.Grind.{common_steps}
 use Rattle.adf_blocks.specs.declared.cause.Cause.{Cause, TheVariants.LostBlock, TheVariants.OwnedFree}
 use Rattle.adf_blocks.specs.Sizes.{blocks, pages_needed}
@@ -155,14 +153,6 @@ module _ (i b : ℕ) {image : List ℕ} {store : StoreValue} {pages : List ℕ} 
   -- or it is
   pub bit_agrees : IsTrue free ↔ (kept_at store.owners b ≡ Free) → IsMapped image store (b + 1)
   bit_agrees h = let next : suc b ≡ b + 1 = omega arith in subst (IsMapped image store) next (agrees free hi listed.listed refl here st h)
-
--- each bit of a word of ones is set
-pub all_set : (bit : ℕ) → bit < 32 → IsBitSet 4294967295 bit
-all_set bit h e =
-    let some : 0 < 2 ^ bit = pow_pos bit in
-    let kept : 2 ^ bit % 2 ^ 32 ≡ 2 ^ bit = mod-eq_of_lt (pow_below bit 32 h) in
-    let none : 2 ^ bit ≡ 0 = sym kept ∙ (sym (and_mask (2 ^ bit) 32) ∙ (and_comm (2 ^ bit) 4294967295 ∙ e)) in
-    absurd (omega arith)
 
 -- whether a bit is set
 bit_told : (word bit : ℕ) → (free : Bool) × (IsTrue free ↔ IsBitSet word bit)

@@ -108,12 +108,18 @@ fn bit_cause(
 }
 
 // Whether the bits of a word are set for the blocks without an owner alone, of those from `first` up to, but not
-// including, `end`.
+// including, `end`. Words of zeros and of ones are not asked bit by bit.
 fn agree(found: &Found, first: u32, end: u32, word: u32) -> bool
     requires word { end ≤ first + 32 }
     ensures { IsTrue result → (b : ℕ) → first ≤ b → b < end
         → IsBitSet word (b - first) ↔ (is_owned found.now b ≡ false) }
 {
+    if word == 0 {
+        return found.owners.are_parts(first, end, true);
+    }
+    if word == u32::MAX {
+        return found.owners.are_parts(first, end, false);
+    }
     for b in first..end {
         if found.owners.is_part(b) == is_set(word, b - first) {
             return false;

@@ -75,6 +75,7 @@ impl Part {
     }
 
     // The part as the owner of a block.
+    #[inline(always)]
     pub(crate) fn owner(self) -> Owner
         ensures owner { result ≡ owner_of (role_of self) }
         ensures part { is_part result ≡ true }

@@ -1,3 +1,4 @@
 pub mod OwnerTables
 pub mod KeptPlaces
 pub mod GrownPlaces
+pub mod WordBits

@@ -25,6 +25,7 @@ pub struct GivenPlaces {
 }
 
 // A number, if there is room for it beside the class of an owner.
+#[inline(always)]
 fn in_room(number: u64) -> Result<u32, NoMemory>
     ensures number { IfOk result (λ n. n ≡ number) }
     ensures short { IfOk result (λ n. n < 2 ^ 29) }
@@ -36,6 +37,7 @@ fn in_room(number: u64) -> Result<u32, NoMemory>
 }
 
 // The place of block `k` of a node, counted from 1, whose first is at `start`.
+#[inline(always)]
 fn place_of(start: u32, k: u32) -> Result<u32, NoMemory>
     requires { 1 ≤ k }
     ensures place { IfOk result (λ i. i ≡ start + (k - 1)) }
@@ -99,6 +101,7 @@ impl GivenPlaces {
     }
 
     // How data block `k` of a node is kept.
+    #[inline(always)]
     fn data(&mut self, node: usize, k: u32) -> Result<KeptOwner, NoMemory>
         requires fit { AreFit self.old }
         requires small { node < 2 ^ 32 }
@@ -115,6 +118,7 @@ impl GivenPlaces {
     }
 
     // How an owner is kept. `NoMemory` also if its number or its place has no room beside its class.
+    #[inline(always)]
     pub fn kept(&mut self, owner: Owner) -> Result<KeptOwner, NoMemory>
         requires fit { AreFit self.old }
         requires small { entry_of owner < 2 ^ 32 }

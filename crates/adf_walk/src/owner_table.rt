@@ -55,6 +55,7 @@ impl OwnerTable {
     }
 
     // Makes `o` the owner of a free block; `Taken` if the block has an owner, and then nothing changes.
+    #[inline(always)]
     pub fn claim(&mut self, b: u32, o: KeptOwner) -> Result<(), Cause>
         requires from { 2 ≤ b }
         requires below { b < length self.old }
@@ -99,6 +100,7 @@ impl OwnerTable {
     }
 
     // Whether a part of the volume owns a block; not past the last block.
+    #[inline(always)]
     pub fn is_claimed(&self, b: u32) -> bool
         ensures { result ≡ is_claimed (kept_at self.now b) }
     {

@@ -1,6 +1,6 @@
 // The owners of the blocks of a walk.
 
-ghost use Rattle.std.specs.Prelude.{◌≡◌, ◌≤◌, ◌<◌, ◌-◌, ◌^◌, ◌∷◌, IfOk, OnOk, length, replicate, slice_set, true};
+ghost use Rattle.std.specs.Prelude.{◌≡◌, ◌≤◌, ◌<◌, ◌-◌, ◌^◌, ◌∷◌, ℕ, IfOk, IsTrue, OnOk, length, replicate, slice_set, true};
 ghost use Rattle.adf_walk.specs.Owners.{is_part, owner_at};
 ghost use Rattle.adf_walk.specs.WalkOwners.{HasNumber, entry_of, node_after};
 
@@ -50,6 +50,7 @@ impl WalkOwners {
     }
 
     /// Makes `owner` the owner of a free block. `NoMemory` also if its number has no room beside its class, in 29 bits.
+    #[inline(always)]
     pub fn claim(&mut self, b: u32, owner: Owner) -> Result<(), NoMemory>
         requires from { 2 ≤ b }
         requires below { b < length self.old.owners }
@@ -74,10 +75,23 @@ impl WalkOwners {
     }
 
     /// Whether a part of the volume owns a block; not past the last block.
+    #[inline(always)]
     pub fn is_part(&self, b: u32) -> bool
         ensures { result ≡ is_part (owner_at self.now.owners b) }
     {
         self.table.is_claimed(b)
+    }
+
+    /// Whether parts of the volume own all blocks from `first` up to, but not including, `end`, or none of them.
+    pub fn are_parts(&self, first: u32, end: u32, are_owned: bool) -> bool
+        ensures { IsTrue result → (b : ℕ) → first ≤ b → b < end
+            → is_part (owner_at self.now.owners b) ≡ are_owned }
+    {
+        let mut all = true;
+        for b in first..end {
+            all &= self.is_part(b) == are_owned;
+        }
+        all
     }
 
     /// The owner of a block; `Free` past the last block.

@@ -1,7 +1,7 @@
 use Rattle.std.proofs.Common.{◌≡◌, ◌-◌, ◌↔◌, IsBitSet, refl, sym, subst, arith}
 use Rattle.adf_walk.specs.declared.kept_owner.KeptOwner.TheVariants.{Free}
 use Rattle.adf_walk.specs.KeptOwner.{kept_at}
-use Rattle.adf_check.proofs.BitmapSteps.{all_set}
+use Rattle.adf_walk.proofs.WordBits.{all_set}
 use Rattle.adf_check.proofs.bitmap.agree.Goals as goal
 
 pub returns-then-word-eq4294967295 : goal.returns-then-word-eq4294967295
