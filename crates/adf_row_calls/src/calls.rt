@@ -9,7 +9,7 @@ use adf_blocks::Cause;
 use adf_build::build;
 use adf_check::{Owner, Owners};
 use adf_fields::stamp_text;
-use adf_findings::survey;
+use adf_findings::{check_walk, survey};
 use adf_tree::{Comment, Label, Node};
 use std::alloc::Global;
 
@@ -41,6 +41,7 @@ pub fn outcome_of(alloc: Global, name: &str) -> Option<CallOutcome> {
         "draft_add" => draft_add_outcome(alloc),
         "owners_new" => owners_new_outcome(alloc),
         "read_sound_file" => read_sound_file_outcome(alloc),
+        "check_walk" => check_walk_outcome(alloc),
         _ => None,
     }
 }
@@ -126,5 +127,28 @@ fn read_sound_file_outcome(alloc: Global) -> Option<CallOutcome> {
     Some(match file.read(alloc) {
         Ok(bytes) => CallOutcome::Done.only_if(bytes.as_slice() == [0x41u8; 489].as_slice()),
         Err(_) => CallOutcome::NoMemory.only_if(file.size() == 489),
+    })
+}
+
+// Where a check along the walk of an image ends, and why; `None` if it accepts the image.
+fn walk_fault(alloc: Global, image: &[u8]) -> Option<(u32, Cause)> {
+    match check_walk(alloc, image) {
+        Ok(()) => None,
+        Err(fault) => Some((fault.block, fault.cause)),
+    }
+}
+
+// A check along the walk of the volume, and along that of the volume whose last data block, block 4, has another sum.
+fn check_walk_outcome(alloc: Global) -> Option<CallOutcome> {
+    let mut image = file_image(alloc)?;
+    let sound = walk_fault(alloc, &image);
+    *image.get_mut(4 * 512 + 20)? ^= 1;
+    let damaged = walk_fault(alloc, &image);
+    Some(match (sound, damaged) {
+        (None, Some((4, Cause::BadSum))) => CallOutcome::Done,
+        (Some((0, Cause::NoMemory)), _) | (None, Some((0, Cause::NoMemory))) => {
+            CallOutcome::NoMemory
+        }
+        _ => CallOutcome::Failed,
     })
 }

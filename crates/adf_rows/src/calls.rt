@@ -10,7 +10,7 @@ use adf_runs::run_program_on;
 use std::alloc::Global;
 
 /// The names of all calls.
-pub const CALLS: [&str; 11] = [
+pub const CALLS: [&str; 12] = [
     "stamp_text",
     "label_write",
     "comment_write",
@@ -20,6 +20,7 @@ pub const CALLS: [&str; 11] = [
     "draft_add",
     "owners_new",
     "read_sound_file",
+    "check_walk",
     "build_and_read",
     "convert_in_memory",
 ];
