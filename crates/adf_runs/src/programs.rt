@@ -91,7 +91,7 @@ pub fn run_program<P: Program, R: Source, W: Sink, E: Sink>(
 }
 
 /// How a run over bytes in memory ended.
-#[derive(Clone, Copy)]
+#[derive(Clone, Copy, Debug, PartialEq, Eq)]
 pub struct Ran {
     /// The status.
     pub status: u8,

@@ -1,7 +1,7 @@
 // The classes of owners.
 
 /// What owns a block, without its number and without its file.
-#[derive(Clone, Copy)]
+#[derive(Clone, Copy, Debug, PartialEq, Eq)]
 pub enum OwnerClass {
     /// No part: the block is free.
     Free,

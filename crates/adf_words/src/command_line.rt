@@ -19,7 +19,7 @@ pub const USAGE: &str =
     \x20      adf convert ofs|ffs < IMAGE\nan image or a manifest comes on standard input; man adf tells more\n";
 
 /// What a command line asks for.
-#[derive(Clone, Copy)]
+#[derive(Clone, Copy, Debug)]
 pub enum Request<'a> {
     Check,
     List,
