@@ -17,7 +17,7 @@ use Rattle.adf_tree.specs.declared.entry.Body.{Body, TheVariants.Dir, TheVariant
 use Rattle.adf_tree.specs.declared.tree.RoomFault.{RoomFault}
 use Rattle.adf_tree.specs.declared.tree.RoomFault.TheVariants.{EmptyPath, NoParent, ParentIsFile, Exists}
 use Rattle.adf_tree.specs.Tree.{added, added_by, child, child_by, directory_from, directory_from_by, free_in, is_dir, is_dir_body, last_of}
-use Rattle.adf_tree.specs.Tree.{new_entry, new_entry_by, parents_of, room_at, room_at_by, room_for, room_for_by, with_entry, with_added}
+use Rattle.adf_tree.specs.Tree.{new_entry, new_entry_by, parents_of, room_at, room_at_by, room_for, room_for_by, with_entry, with_entry_by, with_added}
 use Rattle.adf_tree.specs.Tree.{AreApartBy, IsDir, IsTreeBy, MayAdd, MayAddBy, Tree, TreeEntries}
 use Rattle.adf_tree.proofs.TreeInvariant.{added_tree}
 use Rattle.adf_tree.proofs.ChildLookup.{none_is}
@@ -120,13 +120,13 @@ pub entries_left : (t : TreeEntries) (entries : List Entry) (e : Entry) (b : Boo
 entries_left t entries e true path meta body h same = rw (h, same)
 entries_left t entries e false path meta body h same = rw h
 
--- a tree of such entries, by ASCII letters
+-- a tree of such entries
 pub tree_grown : (kind : Kind) (label : List ℕ) (stamps : Stamps) (old new : TreeEntries) (b : Bool) (path : List (List ℕ)) (meta : Meta) (body : Body)
-    → old.letters ≡ Ascii → new ≡ (if b then with_added old path meta body else old)
-    → (let t : Tree = record { kind = kind; label = label; stamps = stamps; entries = old.entries } in
-    let u : Tree = record t { entries = new.entries } in u ≡ (if b then with_entry t path meta body else t))
-tree_grown kind label stamps old new true path meta body plain h = rw (h, plain)
-tree_grown kind label stamps old new false path meta body plain h = rw h
+    → new ≡ (if b then with_added old path meta body else old)
+    → (let t : Tree = record { kind = kind; letters = old.letters; label = label; stamps = stamps; entries = old.entries } in
+    let u : Tree = record t { letters = new.letters; entries = new.entries } in u ≡ (if b then with_entry_by old.letters t path meta body else t))
+tree_grown kind label stamps old new true path meta body h = rw h
+tree_grown kind label stamps old new false path meta body h = rw h
 
 -- why a path with a name has no room: its parent is none, or it exists
 abbrev pub SaysNoRoom : RoomFault → Type 0

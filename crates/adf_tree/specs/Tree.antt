@@ -20,9 +20,10 @@ use Rattle.adf_names.specs.declared.meta.Meta.{Meta}
 use Rattle.adf_tree.specs.declared.entry.Body.{Body}
 use Rattle.adf_tree.specs.declared.entry.Body.TheVariants.{Dir, File}
 
--- a tree: its kind, label and dates, and its entries, numbered from 1
+-- a tree: its kind, the letters whose case is ignored in its names, its label and dates, and its entries, numbered from 1
 pub record Tree : Type 0 where
   pub kind : Kind
+  pub letters : Letters
   pub label : List ℕ
   pub stamps : Stamps
   pub entries : List Entry
@@ -168,6 +169,10 @@ with_added t path meta body = record t { entries = added_by t.letters t.entries 
 abbrev pub with_kind : Tree → Kind → Tree
 with_kind t kind = record t { kind = kind }
 
+-- a tree with one more entry, added under a path
+abbrev pub with_entry_by : Letters → Tree → List (List ℕ) → Meta → Body → Tree
+with_entry_by letters t path meta body = record t { entries = added_by letters t.entries (new_entry_by letters t.entries path meta body) }
+
 -- the allowed results of `add`: the fault of the path, or `NoMemory` if it has none
 abbrev pub IsAnswer : Result ℕ RoomFault → Result (Unit {0}) AddFault → Type 0
 IsAnswer room r = MatchResult r (λ _. IsOk room) (λ f. MatchResult room (λ _. f ≡ NoMemory) (λ g. f ≡ add_fault g))
@@ -219,6 +224,5 @@ new_entry = new_entry_by Ascii
 abbrev pub IsLast : List Entry → Entry → Type 0
 IsLast = IsLastBy Ascii
 
--- a tree with one more entry, added under a path
 abbrev pub with_entry : Tree → List (List ℕ) → Meta → Body → Tree
-with_entry t path meta body = record t { entries = added t.entries (new_entry t.entries path meta body) }
+with_entry = with_entry_by Ascii

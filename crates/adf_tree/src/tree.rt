@@ -2,10 +2,11 @@
 
 ghost use Rattle.std.specs.Prelude.{◌≡◌, ◌<◌, [], length, is_ok, if◌then◌else◌, IfOk, OnOk};
 ghost use Rattle.std.specs.Option.{option_copied};
-ghost use Rattle.adf_tree.specs.Tree.{entry, find, new_entry, room_for, with_entry, with_kind, with_last, IsAnswer, IsLast, IsTree, MayAdd};
+ghost use Rattle.adf_base.specs.declared.hash.Letters.TheVariants.{Ascii};
+ghost use Rattle.adf_tree.specs.Tree.{entry, find_by, new_entry_by, room_for_by, with_entry_by, with_kind, with_last, IsAnswer, IsLastBy, IsTree, IsTreeBy, MayAddBy};
 ghost use Rattle.adf_tree.specs.Faults.{add_fault_number};
 ghost use Rattle.adf_tree.specs.Bounds.{IsBounded};
-ghost use Rattle.adf_tree.specs.Paths.{AddsOne};
+ghost use Rattle.adf_tree.specs.Paths.{AddsOneBy};
 
 use crate::entry::{Body, Entry, Node};
 use crate::tree_entries::TreeEntries;
@@ -16,7 +17,7 @@ use std::error::Error;
 use std::fmt;
 use std::marker::Model;
 
-/// A tree of directories and files; the case of ASCII letters is ignored in its names.
+/// A tree of directories and files.
 #[derive(Drop)]
 pub struct Tree {
     kind: Kind,
@@ -27,14 +28,16 @@ pub struct Tree {
 
 impl Model for Tree {
     ghost use Rattle.adf_tree.specs.Tree as specs;
-    ghost use Rattle.std.specs.Prelude.{◌≡◌};
-    ghost use Rattle.adf_base.specs.declared.hash.Letters.TheVariants.{Ascii};
 
     ghost Value = { specs.Tree };
 
-    ghost view = { λ t. record { kind = t.kind; label = t.label; stamps = t.stamps; entries = t.entries.entries } };
-
-    ghost invariant = { λ t. t.entries.letters ≡ Ascii };
+    ghost view = { λ t. record {
+      kind = t.kind;
+      letters = t.entries.letters;
+      label = t.label;
+      stamps = t.stamps;
+      entries = t.entries.entries;
+    } };
 }
 
 /// Why a path has no room in a tree.
@@ -123,19 +126,32 @@ impl fmt::Display for RoomFault {
 impl Error for RoomFault {}
 
 impl Tree {
-    /// A tree with no entries.
+    /// A tree of ASCII letters with no entries.
     pub fn new(alloc: Global, kind: Kind, label: Label, stamps: Stamps) -> Tree
-        ensures { result ≡ record { kind = kind; label = label; stamps = stamps; entries = [] } }
+        ensures { result ≡ record { kind = kind; letters = Ascii; label = label; stamps = stamps; entries = [] } }
+    {
+        Tree::with_letters(alloc, kind, Letters::Ascii, label, stamps)
+    }
+
+    /// A tree with no entries; the case of these letters is ignored in its names.
+    pub fn with_letters(
+        alloc: Global,
+        kind: Kind,
+        letters: Letters,
+        label: Label,
+        stamps: Stamps,
+    ) -> Tree
+        ensures { result ≡ record { kind = kind; letters = letters; label = label; stamps = stamps; entries = [] } }
     {
         Tree {
             kind,
             label,
             stamps,
-            entries: TreeEntries::new(alloc, Letters::Ascii),
+            entries: TreeEntries::new(alloc, letters),
         }
     }
 
-    /// A tree with no entries, and memory for `count` of them.
+    /// A tree of ASCII letters with no entries, and memory for `count` of them.
     pub fn with_capacity(
         alloc: Global,
         kind: Kind,
@@ -144,7 +160,7 @@ impl Tree {
         count: usize,
     ) -> Result<Tree, NoMemory>
         ensures { IfOk result (λ t.
-            t ≡ record { kind = kind; label = label; stamps = stamps; entries = [] }) }
+            t ≡ record { kind = kind; letters = Ascii; label = label; stamps = stamps; entries = [] }) }
     {
         Ok(Tree {
             kind,
@@ -159,6 +175,13 @@ impl Tree {
         ensures { result ≡ self.now.kind }
     {
         self.kind
+    }
+
+    /// The letters whose case is ignored in the names.
+    pub fn letters(&self) -> Letters
+        ensures { result ≡ self.now.letters }
+    {
+        self.entries.letters()
     }
 
     /// The label of the volume.
@@ -185,7 +208,8 @@ impl Tree {
     /// The number of entries, not counting the root.
     pub fn len(&self) -> usize
         ensures count { result ≡ length self.now.entries }
-        ensures tree { IsTree self.now.entries }
+        ensures tree { IsTreeBy self.now.letters self.now.entries }
+        ensures plain { self.now.letters ≡ Ascii → IsTree self.now.entries }
     {
         self.entries.len()
     }
@@ -202,12 +226,12 @@ impl Tree {
     /// Adds an entry after all entries of its parent and slot. On a fault the tree is unchanged. Of several
     /// faults the first is returned: `EmptyPath`, then `NoParent` or `ParentIsFile`, then `Exists`.
     pub fn add(&mut self, path: &[Name], meta: Meta, body: Body) -> Result<(), AddFault>
-        ensures answer { IsAnswer (room_for self.old.entries path.now) result }
+        ensures answer { IsAnswer (room_for_by self.old.letters self.old.entries path.now) result }
         ensures paths { OnOk result
-            (AddsOne self.old.entries self.new.entries
-            (new_entry self.old.entries path.now meta body) path.now) }
-        ensures tree { self.new
-            ≡ if is_ok result then with_entry self.old path.now meta body else self.old }
+            (AddsOneBy self.old.letters self.old.entries self.new.entries
+            (new_entry_by self.old.letters self.old.entries path.now meta body) path.now) }
+        ensures tree { self.new ≡ if is_ok result
+            then with_entry_by self.old.letters self.old path.now meta body else self.old }
     {
         self.entries.add(path, meta, body)
     }
@@ -215,8 +239,8 @@ impl Tree {
     /// Adds an entry that is last in walk order, without a look-up. Its parent must be a directory with no
     /// entry of its name. On `NoMemory` the tree is unchanged.
     pub fn add_last(&mut self, entry: Entry) -> Result<(), NoMemory>
-        requires may { MayAdd self.old.entries entry }
-        requires last { IsLast self.old.entries entry }
+        requires may { MayAddBy self.old.letters self.old.entries entry }
+        requires last { IsLastBy self.old.letters self.old.entries entry }
         ensures { self.new ≡ if is_ok result then with_last self.old entry else self.old }
     {
         self.entries.add_last(entry)
@@ -224,8 +248,8 @@ impl Tree {
 
     /// The node that the path leads to; 0 for the empty path.
     pub fn find(&self, path: &[Name]) -> Option<Node>
-        ensures found { result ≡ find self.now.entries path.now }
-        ensures tree { IsTree self.now.entries }
+        ensures found { result ≡ find_by self.now.letters self.now.entries path.now }
+        ensures tree { IsTreeBy self.now.letters self.now.entries }
     {
         self.entries.find(path)
     }
@@ -233,7 +257,8 @@ impl Tree {
     /// The entry with this number; `None` for the root.
     pub fn entry(&self, n: Node) -> Option<&Entry>
         ensures found { option_copied result ≡ entry self.now.entries n }
-        ensures tree { IsTree self.now.entries }
+        ensures tree { IsTreeBy self.now.letters self.now.entries }
+        ensures plain { self.now.letters ≡ Ascii → IsTree self.now.entries }
     {
         self.entries.entry(n)
     }
