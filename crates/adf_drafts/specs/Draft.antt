@@ -1,6 +1,7 @@
 -- Trees under construction: entries in order of addition, numbered from 1, with parents by these numbers.
 -- What depends on the letters whose case is ignored takes them first.
 use Rattle.std.specs.Prelude.{◌≡◌, ℕ, ◌+◌, ◌-◌, ◌<◌, ◌≤◌, List, [], ◌∷◌, ◌++◌, Some, Result, Ok, Err, option_map, length, map, fold, slice_index_or}
+use Rattle.adf_base.specs.declared.hash.Letters.TheVariants.{Ascii}
 use Rattle.adf_base.specs.declared.hash.Letters.{Letters}
 use Rattle.adf_names.specs.Texts.{uppers_by}
 use Rattle.adf_tree.specs.declared.entry.Entry.{Entry}
@@ -76,7 +77,7 @@ pub record DraftValue : Type 0 where
 -- the value of a draft, from its kind, label, dates and additions
 abbrev pub draft_value : Kind → List ℕ → Stamps → NumberedTree → DraftValue
 draft_value kind label stamps w = record {
-  tree = record { kind = kind; label = label; stamps = stamps; entries = w.entries };
+  tree = record { kind = kind; letters = Ascii; label = label; stamps = stamps; entries = w.entries };
   nodes = w.nodes;
 }
 

@@ -1,6 +1,7 @@
 // Trees under construction.
 
 ghost use Rattle.std.specs.Prelude.{◌≡◌, ◌≤◌, ◌+◌, ◌++◌, ◌∷◌, ℕ, List, [], length, is_ok, if◌then◌else◌, Err, IfOk, IfErr, IfNone, IfSome, OnOk, OnErr};
+ghost use Rattle.adf_base.specs.declared.hash.Letters.TheVariants.{Ascii};
 ghost use Rattle.adf_tree.specs.Tree.{directory_from_by, new_entry, room_at_by, room_for, with_entry, IsAnswer};
 ghost use Rattle.adf_tree.specs.Paths.{AddsOne};
 ghost use Rattle.adf_names.specs.Texts.{uppers_by};
@@ -125,7 +126,7 @@ impl Draft {
     /// A draft with no entries.
     pub fn new(alloc: Global, kind: Kind, label: Label, stamps: Stamps) -> Draft
         ensures tree { result.tree
-            ≡ record { kind = kind; label = label; stamps = stamps; entries = [] } }
+            ≡ record { kind = kind; letters = Ascii; label = label; stamps = stamps; entries = [] } }
         ensures nodes { result.nodes ≡ [] }
     {
         Draft {
@@ -228,7 +229,8 @@ impl Draft {
 
     /// The finished tree.
     pub fn finish(self, alloc: Global) -> Result<Tree, NoMemory>
-        ensures { IfOk result (λ t. t ≡ self.tree) }
+        ensures tree { IfOk result (λ t. t ≡ self.tree) }
+        ensures letters { IfOk result (λ t. t.letters ≡ Ascii) }
     {
         let count = self.entries.len();
         let tree = Tree::with_capacity(alloc, self.kind, self.label, self.stamps, count)?;

@@ -88,8 +88,8 @@ module _ (image : List ℕ) (w : Walk) (v : IsWalk image w) (whole : IsWhole ima
       (sym a.2 ∙ same_datas (suc i) ∙ b.2) in
       subst (At m.places i) (sym same) r.1
 
-same_tree : (t u : Tree) → t.kind ≡ u.kind → t.label ≡ u.label → t.stamps ≡ u.stamps → t.entries ≡ u.entries → t ≡ u
-same_tree t u a b c d = λ i. record { kind = a i; label = b i; stamps = c i; entries = d i }
+same_tree : (t u : Tree) → t.kind ≡ u.kind → t.letters ≡ u.letters → t.label ≡ u.label → t.stamps ≡ u.stamps → t.entries ≡ u.entries → t ≡ u
+same_tree t u a b c d e = λ i. record { kind = a i; letters = b i; label = c i; stamps = d i; entries = e i }
 
 same_layout : (l m : Layout) → l.pages ≡ m.pages → l.map_exts ≡ m.map_exts → l.places ≡ m.places → l ≡ m
 same_layout l m a b c = λ i. record { pages = a i; map_exts = b i; places = c i }
@@ -98,7 +98,7 @@ same_layout l m a b c = λ i. record { pages = a i; map_exts = b i; places = c i
 pub one_tree : (image : List ℕ) (w : Walk) (t u : Tree) (l m : Layout) → IsWalk image w → IsWhole image w → Fits image t l → Fits image u m
     → (t ≡ u) × (l ≡ m)
 one_tree image w t u l m v whole f g = (
-  same_tree t u (f.kind ∙ sym g.kind) (f.label ∙ sym g.label) (f.stamps ∙ sym g.stamps)
+  same_tree t u (f.kind ∙ sym g.kind) (f.letters ∙ sym g.letters) (f.label ∙ sym g.label) (f.stamps ∙ sym g.stamps)
       (same_list t.entries u.entries (λ i e h. entry_carried image w v whole t l f u m g (suc i) e h)
       (λ i e h. entry_carried image w v whole u m g t l f (suc i) e h)),
   same_layout l m (same_pages image w v whole t l f u m g) (same_map_exts image w v whole t l f u m g)

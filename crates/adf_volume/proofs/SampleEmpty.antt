@@ -80,6 +80,7 @@ unfolding tiny tiny_root block word kind_of name_of stamps_of map_exts_needed
 tiny_fits = record {
   boots = tiny_boots;
   kind = refl;
+  letters = refl;
   root = tiny_is_root;
   label = refl;
   stamps = refl;

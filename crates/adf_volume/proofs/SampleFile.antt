@@ -240,6 +240,7 @@ unfolding one_file block word with_bytes kind_of name_of stamps_of map_exts_need
 one_file_fits = record {
   boots = boots;
   kind = refl;
+  letters = refl;
   root = root_holds;
   label = refl;
   stamps = refl;

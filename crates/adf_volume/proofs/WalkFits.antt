@@ -33,6 +33,7 @@ module _ (image : List ℕ) (w : Walk) (v : IsWalk image w) (whole : IsWhole ima
   fits root bits = record {
     boots = boots;
     kind = refl;
+    letters = refl;
     root = root;
     label = refl;
     stamps = refl;

@@ -4,6 +4,7 @@
 -- p a directory's node; s a slot; o an owner.
 use Rattle.std.specs.Prelude.{◌≡◌, ℕ, List, [], ◌+◌, ◌-◌, ◌*◌, ◌/◌, ◌%◌, ◌<◌, ◌≤◌, ◌↔◌, map, length, slice_index}
 use Rattle.std.proofs.Common.{zero, suc}
+use Rattle.adf_base.specs.declared.hash.Letters.TheVariants.{Ascii}
 use Rattle.adf_volume.specs.Lists.{At, In, Spelled, NoBlockTwice}
 use Rattle.adf_names.specs.declared.kind.Kind.{Kind}
 use Rattle.adf_blocks.specs.Sizes.{blocks, count, pages_needed}
@@ -56,6 +57,7 @@ pub record FileFits (image : List ℕ) (t : Tree) (l : Layout) (n h : ℕ) (byte
 pub record Fits (image : List ℕ) (t : Tree) (l : Layout) : Type 0 where
   pub boots : AllHold (boot_demands image)
   pub kind : t.kind ≡ kind_of image
+  pub letters : t.letters ≡ Ascii
   pub root : AllHold (root_demands image (root_of image))
   pub label : t.label ≡ name_of image (root_of image)
   pub stamps : t.stamps ≡ stamps_of image (root_of image)

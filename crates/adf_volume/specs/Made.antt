@@ -1,5 +1,6 @@
 -- The tree and the layout of a whole walk.
 use Rattle.std.specs.Prelude.{Bool, true, false, ℕ, List, [], ◌∷◌, ◌++◌, cond, ◌==◌}
+use Rattle.adf_base.specs.declared.hash.Letters.TheVariants.{Ascii}
 use Rattle.adf_blocks.specs.declared.layout.TheConstants.{SECONDARY_TYPE, ST_DIR}
 use Rattle.adf_volume.specs.Image.{word_in, root_of, kind_of, name_of, meta_of, stamps_of, content}
 use Rattle.adf_tree.specs.declared.entry.Body.{Body}
@@ -93,6 +94,7 @@ places_in full w = of_heads (λ n p b. place_in full n b) w
 abbrev pub tree_in : List ℕ → Walk → Tree
 tree_in image w = record {
   kind = kind_of image;
+  letters = Ascii;
   label = name_of image (root_of image);
   stamps = stamps_of image (root_of image);
   entries =
