@@ -1,6 +1,7 @@
 -- The tree of a manifest's lines: adding the entry lines in order gives it, and there is no other.
 use Rattle.std.proofs.Common.{◌≡◌, ◌++◌, ◌∙◌, List, [], ◌∷◌, refl, sym, ap, subst, map, append_assoc}
 use Rattle.std.proofs.lemmas.List.{append-nil}
+use Rattle.adf_base.specs.declared.hash.Letters.TheVariants.{Ascii}
 use Rattle.adf_tree.specs.Additions.{Addition, IsTreeOf}
 use Rattle.adf_tree.specs.Tree.{Tree}
 use Rattle.adf_tree.proofs.TreeOfAdditions.{grown, nothing_added}
@@ -38,6 +39,9 @@ of_parts t u e g = ap (λ (v : Tree). record v { entries = t.entries }) e ∙ ap
 pub one_tree_of : (m : Manifest) (t u : Tree) → IsTreeOfManifest t m → IsTreeOfManifest u m → t ≡ u
 one_tree_of m t u g h =
     of_parts t u (g.preamble ∙ sym h.preamble) (one_tree t.entries u.entries (map addition_of (items_of m.entries)) g.entries h.entries)
+
+pub manifest_letters : (m : Manifest) (t : Tree) → IsTreeOfManifest t m → t.letters ≡ Ascii
+manifest_letters m t is = ap (λ (u : Tree). u.letters) is.preamble
 
 -- what is read as the tree that adding gives is the tree of the manifest
 pub added_tree : (m : Manifest) (t : Tree) → IsWell m → t ≡ manifest_tree m → IsTreeOfManifest t m

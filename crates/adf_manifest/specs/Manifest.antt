@@ -3,6 +3,7 @@ use Rattle.std.specs.Prelude.{◌≡◌, ◌≢◌, ◌+◌, ◌-◌, ◌<◌, �
 use Rattle.std.specs.Prelude.{if◌then◌else◌, map, Option, Some, None, IfSome, All, Err}
 use Rattle.std.specs.List.{slice_split, flat_map}
 use Rattle.std.specs.Option.{unwrap_or}
+use Rattle.adf_base.specs.declared.hash.Letters.TheVariants.{Ascii}
 use Rattle.adf_names.specs.Escapes.{IsSpelling, escaped}
 use Rattle.adf_names.specs.PathTexts.{IsPathText}
 use Rattle.adf_tree.specs.Additions.{IsTreeOf}
@@ -72,7 +73,8 @@ pub record IsPreamble (h : Preamble) : Type 0 where
 
 -- the tree of a preamble: without a label line the label is empty, without a stamps line all dates are 0
 abbrev pub preamble_tree : Preamble → Tree
-preamble_tree h = record { kind = h.kind; label = unwrap_or h.label []; stamps = unwrap_or h.stamps NO_STAMPS; entries = [] }
+preamble_tree h =
+    record { kind = h.kind; letters = Ascii; label = unwrap_or h.label []; stamps = unwrap_or h.stamps NO_STAMPS; entries = [] }
 
 -- the entries of a manifest that has any: those before the last, and the last
 pub record Entries : Type 0 where

@@ -1,6 +1,7 @@
 // Manifests.
 
 ghost use Rattle.std.specs.Prelude.{◌≡◌, ◌≤◌, ◌++◌, ◌∷◌, ℕ, List, IfOk, IfErr, length, option_map};
+ghost use Rattle.adf_base.specs.declared.hash.Letters.TheVariants.{Ascii};
 ghost use Rattle.adf_manifest.specs.Kinds.{manifest_kind_number, manifest_kind_text};
 ghost use Rattle.adf_manifest.specs.Manifest.{AddingLinesGivesTheTree, CanLackMemory, ExplainsFault, IsManifest, IsWell, LinesHaveOneFault, Manifest, ManifestsAreFaultless, ManifestsAreOfOneTree, manifest_lines, manifest_tree, most_bytes, between_feeds, lines, lines_behind, without_last_feed};
 ghost use Rattle.adf_manifest.specs.Reader.{ExplainsLines, StateMatches, line_of_fault};
@@ -158,12 +159,13 @@ fn without_last_feed(bytes: &[u8]) -> &[u8]
     }
 }
 
-#[tactic(auto, using(crate::proofs::StateLaws::first_fault_explains, crate::proofs::TreesOfLines::added_tree))]
+#[tactic(auto, using(crate::proofs::StateLaws::first_fault_explains, crate::proofs::TreesOfLines::added_tree, crate::proofs::TreesOfLines::manifest_letters))]
 /// Reads a manifest: returns its tree and its number of blocks. `TooLong` if it is longer than `MOST_BYTES`;
 /// `NoMemory` if an allocation fails, which can happen only at an entry, data or fill line that is allowed at its place,
 /// or after the last line; otherwise the first line with a fault, and the first kind there.
 pub fn read_manifest(alloc: Global, bytes: &[u8]) -> Result<(Tree, u32), ManifestFault>
     ensures manifest { IfOk result (λ r. IsManifest bytes.now r.0 r.1) }
+    ensures letters { IfOk result (λ r. r.0.letters ≡ Ascii) }
     ensures fault { IfErr result (λ f. ExplainsFault f bytes.now) }
 
     // `NoMemory` is answered only for a line that may take memory, or after all lines.

@@ -17,7 +17,8 @@ use Rattle.adf_tree.specs.declared.entry.Body.{Body, TheVariants.Dir, TheVariant
 use Rattle.adf_tree.specs.declared.tree.RoomFault.{RoomFault}
 use Rattle.adf_tree.specs.declared.tree.RoomFault.TheVariants.{EmptyPath, NoParent, ParentIsFile, Exists}
 use Rattle.adf_tree.specs.Tree.{added, added_by, child, child_by, directory_from, directory_from_by, free_in, is_dir, is_dir_body, last_of}
-use Rattle.adf_tree.specs.Tree.{new_entry, new_entry_by, parents_of, room_at, room_at_by, room_for, room_for_by, with_entry, with_entry_by, with_added}
+use Rattle.adf_tree.specs.Tree.{new_entry, new_entry_by, parents_of, room_at, room_at_by, room_for, room_for_by, with_added, with_entry}
+use Rattle.adf_tree.specs.Tree.{with_entry_by}
 use Rattle.adf_tree.specs.Tree.{AreApartBy, IsDir, IsTreeBy, MayAdd, MayAddBy, Tree, TreeEntries}
 use Rattle.adf_tree.proofs.TreeInvariant.{added_tree}
 use Rattle.adf_tree.proofs.ChildLookup.{none_is}

@@ -29,7 +29,8 @@ no_stamp = record { days = 0; mins = 0; ticks = 0 }
 
 -- the tree of the smallest volume
 abbrev pub tiny_tree : Tree
-tiny_tree = record { kind = Ffs; letters = Ascii; label = []; stamps = record { root = no_stamp; altered = no_stamp; created = no_stamp }; entries = [] }
+tiny_tree =
+    record { kind = Ffs; letters = Ascii; label = []; stamps = record { root = no_stamp; altered = no_stamp; created = no_stamp }; entries = [] }
 
 -- the blocks of the smallest volume
 abbrev pub tiny_layout : Layout
@@ -59,7 +60,8 @@ file_a = record { parent = 0; name = 0x61 ∷ []; meta = new_meta [] 0 no_stamp;
 
 -- its tree
 abbrev pub one_file_tree : Tree
-one_file_tree = record { kind = Ofs; letters = Ascii; label = []; stamps = record { root = no_stamp; altered = no_stamp; created = no_stamp }; entries = file_a ∷ [] }
+one_file_tree =
+    record { kind = Ofs; letters = Ascii; label = []; stamps = record { root = no_stamp; altered = no_stamp; created = no_stamp }; entries = file_a ∷ [] }
 
 -- its blocks
 abbrev pub one_file_layout : Layout
