@@ -220,6 +220,7 @@ module _ (image other : List ℕ) (o : IsOtherBoot image other) where
         record {
           boots = same_boots fit.boots;
           kind = fit.kind ∙ sym same_kind;
+          letters = fit.letters;
           root =
               subst (λ (b : ℕ). AllHold (root_demands other b)) (sym same_root)
               (subst (λ (x : List ℕ). AllHold (demands_at r (root_form x))) (sym own) fit.root);

@@ -241,6 +241,7 @@ module _ {t : Tree} {n : ℕ} (can : CanHold t n) where
       record {
         boots = boots_laid;
         kind = kind_laid;
+        letters = can.sound.letters;
         root = subst (λ b. AllHold (root_demands (volume t n) b)) s root_at;
         label = subst (λ b. t.label ≡ name_of (volume t n) b) s label_laid;
         stamps = subst (λ b. t.stamps ≡ stamps_of (volume t n) b) s stamps_laid;

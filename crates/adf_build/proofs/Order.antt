@@ -10,9 +10,10 @@ use Rattle.std.proofs.lemmas.List.{drop_all, get_or-replicate}
 use Rattle.std.proofs.lemmas.List.FromFn.{fill_by_all}
 use Rattle.std.proofs.lemmas.Grind.{common_steps}
 use Rattle.adf_base.specs.Hash.{slot_of}
+use Rattle.adf_base.specs.declared.hash.Letters.{Letters}
 use Rattle.adf_tree.specs.declared.entry.Entry.{Entry}
 use Rattle.adf_tree.specs.Chain.{in_chain}
-use Rattle.adf_tree.specs.Tree.{IsTree, rank}
+use Rattle.adf_tree.specs.Tree.{IsTree, IsTreeBy, rank}
 use Rattle.adf_tree.proofs.TreeInvariant.{slot_small}
 use Rattle.adf_volume.specs.Layout.{nodes_from}
 use Rattle.adf_build.specs.Laid.{first_block, slots_of}
@@ -94,8 +95,9 @@ pub next_end : (at : ℕ → ℕ) (n i p s : ℕ) (es : List Entry) → length e
 next_end at n i p s es h = rw (drop_all i es h)
 
 -- the parent of an entry stands before it
-pub parent_below : (es rest : List Entry) (i : ℕ) (e : Entry) → IsTree es → drop i es ≡ e ∷ rest → i < length es → e.parent ≤ i
-parent_below es rest i e t split l = subst (λ (x : Entry). x.parent ≤ i) (place_is es rest i e e split) (t.parents i e l)
+pub parent_below : (letters : Letters) (es rest : List Entry) (i : ℕ) (e : Entry) → IsTreeBy letters es → drop i es ≡ e ∷ rest → i < length es
+    → e.parent ≤ i
+parent_below letters es rest i e t split l = subst (λ (x : Entry). x.parent ≤ i) (place_is es rest i e e split) (t.parents i e l)
 
 -- one child more
 pub mine_step : (es : List Entry) (p from end : ℕ) (e : Entry) → drop end es ≡ e ∷ drop (end + 1) es → e.parent ≡ p

@@ -1,6 +1,7 @@
 -- The built volume of a tree as a whole.
 use Rattle.std.proofs.Common.{◌≡◌, ◌*◌, ℕ, List, refl, sym, subst, arith, replicate}
 use Rattle.std.proofs.lemmas.Grind.{common_steps}
+use Rattle.adf_base.specs.declared.hash.Letters.TheVariants.{Ascii}
 use Rattle.adf_tree.specs.Bounds.{IsBounded}
 use Rattle.adf_tree.specs.Tree.{IsTree, Tree}
 use Rattle.adf_volume.specs.Fits.{Fits}
@@ -14,8 +15,8 @@ pub laid_bytes : (t : Tree) (n : ℕ) → with_blocks (replicate (n * 512) 0) (w
 unfolding volume
 laid_bytes t n = refl
 
-pub well_formed : (t : Tree) → IsBounded t → IsTree t.entries → IsWellFormed t
-well_formed t bounds tree = record { tree = tree; bounds = bounds }
+pub well_formed : (t : Tree) → t.letters ≡ Ascii → IsBounded t → IsTree t.entries → IsWellFormed t
+well_formed t letters bounds tree = record { letters = letters; tree = tree; bounds = bounds }
 
 -- the volume of a tree is laid for it
 pub volume_laid : {t : Tree} {n : ℕ} → CanHold t n → IsLaid (volume t n) t

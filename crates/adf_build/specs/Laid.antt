@@ -4,6 +4,7 @@
 use Rattle.std.specs.Prelude.{◌≡◌, ◌≤◌, ℕ, List, [], ◌∷◌, ◌++◌, ◌+◌, ◌-◌, ◌*◌, nat_lt, cond, length, take, drop, map, replicate, slice_index, min, true}
 use Rattle.std.specs.List.{range_with_len}
 use Rattle.std.proofs.Common.{suc}
+use Rattle.adf_base.specs.declared.hash.Letters.TheVariants.{Ascii}
 use Rattle.adf_base.specs.Hash.{slot_of}
 use Rattle.adf_names.specs.declared.kind.Kind.{Kind}
 use Rattle.adf_names.specs.declared.kind.Kind.TheVariants.{Ofs, Ffs}
@@ -178,8 +179,9 @@ writes t n =
 unfoldable pub volume : Tree → ℕ → List ℕ
 volume t n = with_blocks (replicate (n * 512) 0) (writes t n)
 
--- what holds of every tree: the invariant of its entries, and the bounds of its fields, so that they fit in blocks
+-- what holds of every tree of ASCII letters: the invariant of its entries, and the bounds of its fields, so that they fit in blocks
 pub record IsWellFormed (t : Tree) : Type 0 where
+  pub letters : t.letters ≡ Ascii
   pub tree : IsTree t.entries
   pub bounds : IsBounded t
 

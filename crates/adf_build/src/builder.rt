@@ -1,6 +1,7 @@
 // The builder.
 
 ghost use Rattle.std.specs.Prelude.{◌≡◌, ◌*◌, IfOk, IfErr, OnOk, OnErr, length, replicate, vec_len};
+ghost use Rattle.adf_base.specs.declared.hash.Letters.TheVariants.{Ascii};
 ghost use Rattle.adf_volume.specs.Fits.{Fits};
 ghost use Rattle.adf_build.specs.Laid.{IsLaid, IsWellFormed, node_blocks, volume};
 ghost use Rattle.adf_build.specs.Plan.{entries_blocks, planned};
@@ -10,7 +11,7 @@ use crate::counting::count_entries;
 use crate::nodes::nodes_of;
 use crate::plan::Plan;
 use crate::volume::write_volume;
-use adf_base::BLOCK_LEN;
+use adf_base::{BLOCK_LEN, Letters};
 use adf_tree::Tree;
 use std::alloc::Global;
 use std::error::Error;
@@ -25,10 +26,12 @@ pub enum BuildFault {
     Full { need: u64, have: u64 },
     /// An allocation failed.
     NoMemory,
+    /// The names of the tree are by other letters than ASCII.
+    OtherLetters,
 }
 
 impl BuildFault {
-    /// The number of the fault, 1 to 3.
+    /// The number of the fault, 1 to 4.
     pub fn number(self) -> u8
         ensures { result ≡ build_fault_number self }
     {
@@ -36,6 +39,7 @@ impl BuildFault {
             BuildFault::BadSize => 1,
             BuildFault::Full { .. } => 2,
             BuildFault::NoMemory => 3,
+            BuildFault::OtherLetters => 4,
         }
     }
 }
@@ -51,6 +55,7 @@ impl fmt::Display for BuildFault {
             BuildFault::BadSize => f.write_str("bad size"),
             BuildFault::Full { need, have } => write!(f, "full: need {need}, have {have}"),
             BuildFault::NoMemory => f.write_str("no memory"),
+            BuildFault::OtherLetters => f.write_str("other letters"),
         }
     }
 }
@@ -60,6 +65,7 @@ impl Error for BuildFault {}
 // The fields of a tree fit the fields of blocks.
 #[tactic(auto, using(crate::proofs::WholeVolume::well_formed))]
 fn fields_fit(tree: &Tree)
+    requires { tree.now.letters ≡ Ascii }
     ensures { IsWellFormed tree.now }
 {
     tree.bounds();
@@ -76,6 +82,7 @@ struct Prepared {
 
 // Plans the volume of a tree, if it has room.
 fn prepare(alloc: Global, tree: &Tree, blocks: u32) -> Result<Prepared, BuildFault>
+    ensures letters { OnOk result (tree.now.letters ≡ Ascii) }
     ensures plan { IfOk result (λ p. p.plan.blocks ≡ blocks) }
     ensures nodes { IfOk result (λ p. p.nodes.items ≡ node_blocks tree.now blocks) }
     ensures total { IfOk result (λ p. p.total ≡ entries_blocks tree.now.kind tree.now.entries) }
@@ -84,6 +91,9 @@ fn prepare(alloc: Global, tree: &Tree, blocks: u32) -> Result<Prepared, BuildFau
 {
     let Some(plan) = Plan::new(blocks) else {
         return Err(BuildFault::BadSize);
+    };
+    let Letters::Ascii = tree.letters() else {
+        return Err(BuildFault::OtherLetters);
     };
     let total = count_entries(tree);
     let need = plan.need(total);

@@ -2,6 +2,7 @@
 
 ghost use Rattle.std.specs.Prelude.{◌≡◌, ◌≤◌, ◌<◌, ◌+◌, ◌*◌, ◌∷◌, ◌≢◌, ℕ, length, drop, slice_index};
 ghost use Rattle.std.specs.List.{AllWithin};
+ghost use Rattle.adf_base.specs.declared.hash.Letters.TheVariants.{Ascii};
 ghost use Rattle.adf_base.specs.Hash.{slot_of};
 ghost use Rattle.adf_tree.specs.declared.entry.Entry.{Entry};
 ghost use Rattle.adf_tree.specs.Chain.{in_chain};
@@ -23,7 +24,6 @@ fn are_together(entry: &Entry, after: &Entry) -> bool
 }
 
 /// The block of the parent of entry `i + 1`.
-#[tactic(auto, using(crate::proofs::Order::parent_below))]
 pub fn parent_block(tree: &Tree, nodes: &[u32], i: usize, entry: &Entry) -> u32
     requires here { drop i tree.now.entries ≡ entry.now ∷ drop (i + 1) tree.now.entries }
     requires place { i < length tree.now.entries }
@@ -39,6 +39,7 @@ pub fn parent_block(tree: &Tree, nodes: &[u32], i: usize, entry: &Entry) -> u32
 /// The next header in the chain of entry `i + 1`, or 0: the next entry's header, if that entry is in the same chain.
 #[tactic(auto, using(crate::proofs::Order::next_none, crate::proofs::Order::next_end))]
 pub fn next_of(tree: &Tree, nodes: &[u32], i: usize, entry: &Entry) -> u32
+    requires letters { tree.now.letters ≡ Ascii }
     requires here { drop i tree.now.entries ≡ entry.now ∷ drop (i + 1) tree.now.entries }
     requires place { i < length tree.now.entries }
     requires nodes { length nodes.now ≡ 1 + length tree.now.entries }

@@ -1,6 +1,7 @@
 // The blocks of all entries.
 
 ghost use Rattle.std.specs.Prelude.{◌≡◌, ◌≤◌, ◌+◌, ◌*◌, ℕ, length, drop};
+ghost use Rattle.adf_base.specs.declared.hash.Letters.TheVariants.{Ascii};
 ghost use Rattle.adf_build.specs.Laid.{entries_writes, node_blocks};
 ghost use Rattle.adf_build.specs.Writes.{with_blocks};
 ghost use Rattle.adf_build.specs.Building.{IsBuildable};
@@ -16,6 +17,7 @@ use adf_tree::Tree;
 /// Writes the blocks of all entries; the children of the root have indices below `first`.
 #[tactic(auto, using(crate::proofs::WriteSteps::nodes_length))]
 pub fn write_entries(image: &mut [u8], tree: &Tree, plan: Plan, nodes: &[u32], first: usize)
+    requires letters { tree.now.letters ≡ Ascii }
     requires room { IsBuildable tree.now plan.blocks }
     requires whole { length image.old ≡ plan.blocks * 512 }
     requires nodes { nodes.now ≡ node_blocks tree.now plan.blocks }

@@ -1,6 +1,7 @@
 // The parts of a volume.
 
 ghost use Rattle.std.specs.Prelude.{◌≡◌, ◌*◌, [], ◌∷◌, length, take};
+ghost use Rattle.adf_base.specs.declared.hash.Letters.TheVariants.{Ascii};
 ghost use Rattle.adf_base.specs.Words.{with_block};
 ghost use Rattle.adf_blocks.specs.Fields.{block_of_fields};
 ghost use Rattle.adf_blocks.specs.RootBlock.{root_block};
@@ -54,6 +55,7 @@ fn write_the_root(image: &mut [u8], plan: Plan, tree: &Tree, slots: [u32; SLOTS 
 /// Writes every part of a volume, with its nodes at these blocks and `total` blocks for its entries.
 #[tactic(auto, using(crate::proofs::Order::tree_rises, crate::proofs::WriteSteps::nodes_length))]
 pub fn write_volume(image: &mut [u8], plan: Plan, tree: &Tree, nodes: &[u32], total: u32)
+    requires letters { tree.now.letters ≡ Ascii }
     requires room { IsBuildable tree.now plan.blocks }
     requires whole { length image.old ≡ plan.blocks * 512 }
     requires nodes { nodes.now ≡ node_blocks tree.now plan.blocks }
