@@ -10,6 +10,7 @@ use Rattle.std.proofs.lemmas.List.Sums.{fold_push}
 use Rattle.std.proofs.lemmas.Option.{get_or_from_slice_get, slice_get-get_or}
 use Rattle.std.specs.List.{slice_get}
 use Rattle.std.specs.Option.{IsSome}
+use Rattle.adf_base.specs.declared.hash.Letters.TheVariants.{Ascii}
 use Rattle.adf_tree.proofs.Lists.{some_in}
 use Rattle.adf_tree.specs.declared.entry.Entry.{Entry}
 use Rattle.adf_tree.specs.declared.tree.AddFault.{AddFault}
@@ -63,7 +64,7 @@ no_room all xs ys x f e h ne =
 pub grown : (o : OutlineValue) (xs : List Addition) (x : Addition) (t u : Tree) → t ≡ tree_of (with_first o xs) → u ≡ with_addition_in t x
     → u ≡ tree_of (with_first o (xs ++ x ∷ []))
 grown o xs x t u is new = new ∙ (ap (λ (v : Tree). with_addition_in v x) is
-    ∙ ap (λ es. record { kind = o.kind; label = o.label; stamps = o.stamps; entries = es }) (sym (tree_more xs x)))
+    ∙ ap (λ es. record { kind = o.kind; letters = Ascii; label = o.label; stamps = o.stamps; entries = es }) (sym (tree_more xs x)))
 
 pub room_grown : (o : OutlineValue) (xs : List Addition) (x : Addition) (t : Tree) → t ≡ tree_of (with_first o xs) → AllHaveRoom xs
     → IsOk (room_for t.entries x.path) → AllHaveRoom (xs ++ x ∷ [])

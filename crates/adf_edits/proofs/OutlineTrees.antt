@@ -7,6 +7,7 @@ use Rattle.std.specs.List.{slice_get}
 use Rattle.std.proofs.lemmas.Bool.{cases_lt, ne_eqb}
 use Rattle.std.proofs.lemmas.List.{get_or_default, length_push, length-take-le, take_more}
 use Rattle.std.proofs.lemmas.List.Sums.{fold_push}
+use Rattle.adf_base.specs.declared.hash.Letters.TheVariants.{Ascii}
 use Rattle.adf_tree.specs.declared.entry.Body.TheVariants.{Dir}
 use Rattle.adf_tree.specs.declared.entry.Entry.{Entry}
 use Rattle.adf_tree.specs.Additions.{Addition, AllHaveRoom, entries_of_additions, with_addition}
@@ -126,10 +127,11 @@ front es (suc k) t le =
 all : (es : List Entry) → IsTree es → IsFront es (length es) (additions_of es)
 all es t = subst (λ us. IsFront es (length es) (additions_of us)) (take_all (length es) es (omega arith)) (front es (length es) t (omega arith))
 
-pub outline_tree : (t : Tree) → IsTree t.entries → tree_of (outline_of t) ≡ t
-outline_tree t is =
-    ap (λ es. record { kind = t.kind; label = t.label; stamps = t.stamps; entries = es })
-    ((all t.entries is).entries ∙ take_all (length t.entries) t.entries (omega arith))
+pub outline_tree : (t : Tree) → t.letters ≡ Ascii → IsTree t.entries → tree_of (outline_of t) ≡ t
+outline_tree t letters is =
+    let same : entries_of_additions (additions_of t.entries) ≡ t.entries =
+    (all t.entries is).entries ∙ take_all (length t.entries) t.entries (omega arith) in
+    λ i. record { kind = t.kind; letters = sym letters i; label = t.label; stamps = t.stamps; entries = same i }
 
 pub outline_room : (t : Tree) → IsTree t.entries → AllHaveRoom (outline_of t).additions
 outline_room t is = (all t.entries is).room

@@ -2,6 +2,7 @@
 use Rattle.std.specs.Prelude.{◌≡◌, ◌<◌, ◌==◌, ◌-◌, ℕ, List, [], ◌∷◌, ◌++◌, Err, fold, if◌then◌else◌, length, slice_get, take}
 use Rattle.std.specs.Prelude.{Option, Some, None, slice_index_or}
 use Rattle.std.specs.List.{slice_get}
+use Rattle.adf_base.specs.declared.hash.Letters.TheVariants.{Ascii}
 use Rattle.adf_names.specs.declared.kind.Kind.{Kind}
 use Rattle.adf_names.specs.declared.meta.Stamps.{Stamps}
 use Rattle.adf_tree.specs.declared.entry.Entry.{Entry}
@@ -45,7 +46,7 @@ outline_of t = record { kind = t.kind; label = t.label; stamps = t.stamps; addit
 
 -- the tree that `add` makes of an outline
 abbrev pub tree_of : OutlineValue → Tree
-tree_of o = record { kind = o.kind; label = o.label; stamps = o.stamps; entries = entries_of_additions o.additions }
+tree_of o = record { kind = o.kind; letters = Ascii; label = o.label; stamps = o.stamps; entries = entries_of_additions o.additions }
 
 -- an outline of these additions alone
 abbrev pub with_first : OutlineValue → List Addition → OutlineValue

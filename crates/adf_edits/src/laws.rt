@@ -1,6 +1,7 @@
 // Laws of outlines and of edits, for the proofs of callers. None of these functions does anything.
 
 ghost use Rattle.std.specs.Prelude.{◌≡◌, ◌≢◌, ◌++◌, ◌∷◌, ℕ, List, None, Ok, Some, false, map, option_map, true};
+ghost use Rattle.adf_base.specs.declared.hash.Letters.TheVariants.{Ascii};
 ghost use Rattle.adf_names.specs.Texts.{uppers};
 ghost use Rattle.adf_tree.specs.declared.entry.Body.TheVariants.{Dir};
 ghost use Rattle.adf_tree.specs.Additions.{Addition, AllHaveRoom, content_of, entries_of_additions};
@@ -14,7 +15,7 @@ ghost use Rattle.adf_edits.specs.Paths.{has_deep, is_at_or_under};
 
 /// The outline of a tree has that tree, and each of its additions has room.
 pub fn outlines_have_their_trees()
-    ensures tree { (t : Tree) → IsTree t.entries → tree_of (outline_of t) ≡ t }
+    ensures tree { (t : Tree) → t.letters ≡ Ascii → IsTree t.entries → tree_of (outline_of t) ≡ t }
     ensures room { (t : Tree) → IsTree t.entries → AllHaveRoom (outline_of t).additions }
 {}
 
