@@ -3,10 +3,11 @@ use Rattle.std.proofs.Common.{◌≡◌, ℕ, suc, [], ◌∷◌, ◌++◌, ◌+
 use Rattle.std.specs.Prelude.{IsSome, option_map}
 use Rattle.std.proofs.lemmas.List.{take_more}
 use Rattle.std.proofs.lemmas.Grind.{common_steps}
+use Rattle.adf_base.specs.declared.hash.Letters.{Letters, TheVariants.Ascii}
 use Rattle.adf_tree.specs.declared.entry.Body.{Body, TheVariants.Dir, TheVariants.File}
 use Rattle.adf_tree.specs.declared.entry.Entry.{Entry}
 use Rattle.adf_tree.specs.Laws.{IsNextEntry}
-use Rattle.adf_tree.specs.Tree.{IsTree, Tree, entry, with_last, IsLast, MayAdd}
+use Rattle.adf_tree.specs.Tree.{IsTree, Tree, entry, with_last, IsLastBy, MayAddBy}
 use Rattle.adf_tree.proofs.TreePrefixes.{is_next}
 use Rattle.adf_volume.proofs.Lists.{at_index_or, at_some}
 use Rattle.adf_volume.proofs.Chains.{entry_is_at}
@@ -43,24 +44,26 @@ entry_here t i x e =
     at_index_or t.entries i x x ((entry_is_at t (suc i) x).1 (sym (e ∙ ap (entry t.entries) k)))
 
 -- each entry may be added behind those before it
-pub may_follow : {t u : Tree} {i n : ℕ} {x : Entry} {r : Option Entry} → IsTree t.entries
-    → u ≡ record { kind = t.kind; label = t.label; stamps = t.stamps; entries = take i t.entries } → n ≡ length t.entries → i < n
-    → r ≡ entry t.entries (i + 1) → r ≡ Some x → MayAdd u.entries x × IsLast u.entries x
-may_follow {t = t} {u = u} {i = i} {x = x} tree e count lt here is =
+pub may_follow : {t u : Tree} {i n : ℕ} {x : Entry} {r : Option Entry} → t.letters ≡ Ascii → IsTree t.entries
+    → u ≡ record { kind = t.kind; letters = t.letters; label = t.label; stamps = t.stamps; entries = take i t.entries }
+    → n ≡ length t.entries → i < n
+    → r ≡ entry t.entries (i + 1) → r ≡ Some x → MayAddBy u.letters u.entries x × IsLastBy u.letters u.entries x
+may_follow {t = t} {u = u} {i = i} {x = x} letters tree e count lt here is =
     let next : IsNextEntry t.entries i x =
     subst (IsNextEntry t.entries i) (entry_here t i x (sym is ∙ here)) (is_next t.entries i x tree (omega arith)) in
-    subst (λ (u : Tree). MayAdd u.entries x × IsLast u.entries x) (sym e) (next.may, next.last)
+    subst (λ (u : Tree). MayAddBy u.letters u.entries x × IsLastBy u.letters u.entries x) (sym e)
+    (subst (λ (l : Letters). MayAddBy l (take i t.entries) x × IsLastBy l (take i t.entries) x) (sym letters) (next.may, next.last))
 
 -- the first entries and the next one
 pub tree_more : (t : Tree) (i : ℕ) (x : Entry) → i < length t.entries → Some x ≡ entry t.entries (i + 1)
-    → with_last (record { kind = t.kind; label = t.label; stamps = t.stamps; entries = take i t.entries }) x
-    ≡ record { kind = t.kind; label = t.label; stamps = t.stamps; entries = take (i + 1) t.entries }
+    → with_last (record { kind = t.kind; letters = t.letters; label = t.label; stamps = t.stamps; entries = take i t.entries }) x
+    ≡ record { kind = t.kind; letters = t.letters; label = t.label; stamps = t.stamps; entries = take (i + 1) t.entries }
 tree_more t i x lt e =
     let z : take i t.entries ++ x ∷ [] ≡ take (i + 1) t.entries =
     ap (λ y. take i t.entries ++ y ∷ []) (sym (entry_here t i x e)) ∙ sym (take_more t.entries i x lt) in
-    λ j. record { kind = t.kind; label = t.label; stamps = t.stamps; entries = z j }
+    λ j. record { kind = t.kind; letters = t.letters; label = t.label; stamps = t.stamps; entries = z j }
 
 -- all entries
 pub tree_whole : (t : Tree) (i : ℕ) → length t.entries ≤ i
-    → ◌≡◌ {A = Tree} (record { kind = t.kind; label = t.label; stamps = t.stamps; entries = take i t.entries }) t
+    → ◌≡◌ {A = Tree} (record { kind = t.kind; letters = t.letters; label = t.label; stamps = t.stamps; entries = take i t.entries }) t
 tree_whole t i h = grind (arith, common_steps, take_all)

@@ -13,7 +13,7 @@ unwrap-entry-requires c =
 pub add_last-requires : goal.add_last-requires
 add_last-requires c =
     let s = c.len-i-end.ensures.stands in
-    let follows = may_follow s.2.fits.tree (c.loop-i.invariant s.0 s.1 s.2) (c.len-i-end.ensures.count s.0 s.1 s.2) c.loop-i-test.true
+    let follows = may_follow s.2.fits.letters s.2.fits.tree (c.loop-i.invariant s.0 s.1 s.2) (c.len-i-end.ensures.count s.0 s.1 s.2) c.loop-i-test.true
     (c.in_ok-entry_of.ensures s.0 s.1 s.2) c.unwrap-entry.ensures in
     record { may = follows.0; last = follows.1 }
 

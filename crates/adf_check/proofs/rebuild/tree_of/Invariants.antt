@@ -6,4 +6,4 @@ use Rattle.adf_check.proofs.rebuild.tree_of.Given as goal
 
 abbrev pub invariant-loop-i : goal.invariant-loop-i
 invariant-loop-i l = (t : Tree) (m : Layout) → StandsFor l.volume t m
-    → l.tree ≡ record { kind = t.kind; label = t.label; stamps = t.stamps; entries = take l.i t.entries }
+    → l.tree ≡ record { kind = t.kind; letters = t.letters; label = t.label; stamps = t.stamps; entries = take l.i t.entries }
