@@ -9,6 +9,7 @@ use Rattle.std.specs.List.{flat_map}
 use Rattle.std.specs.Option.{option_and_then, unwrap_or}
 use Rattle.std.specs.Str.{bytes_eq}
 use Rattle.std.proofs.Common.{zero, suc}
+use Rattle.adf_base.specs.declared.hash.Letters.TheVariants.{Ascii}
 use Rattle.adf_base.specs.Words.{block}
 use Rattle.adf_tree.specs.declared.entry.Body.{Body}
 use Rattle.adf_tree.specs.declared.entry.Body.TheVariants.{Dir, File}
@@ -101,7 +102,13 @@ additions_of vs = flat_map addition_of vs
 abbrev pub tree_of : Ground → List Verdict → Tree
 tree_of g vs =
     let o = opening_in g.given in
-    record { kind = o.kind; label = o.label; stamps = o.stamps; entries = entries_of_additions (additions_of g.verdicts ++ additions_of vs) }
+    record {
+      kind = o.kind;
+      letters = Ascii;
+      label = o.label;
+      stamps = o.stamps;
+      entries = entries_of_additions (additions_of g.verdicts ++ additions_of vs);
+    }
 
 -- the path of a directory that is added, or known
 abbrev pub directory_in : Verdict → Option (List (List ℕ))
