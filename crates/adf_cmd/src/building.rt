@@ -2,6 +2,7 @@
 
 ghost use Rattle.std.specs.Prelude.{◌≡◌, ◌<◌, ◌^◌, true, false, length, OnOk, OnErr};
 ghost use Rattle.std.specs.Io.KnownBytes.{Appends};
+ghost use Rattle.adf_base.specs.declared.hash.Letters.TheVariants.{Ascii};
 ghost use Rattle.adf_blocks.specs.Sizes.{is_allowed};
 ghost use Rattle.adf_cmd.specs.Answers.{Answer, BuildsOrIsFull};
 ghost use Rattle.adf_words.specs.CommandLine.{build};
@@ -61,6 +62,7 @@ pub fn build_tree<W: Sink>(
 ) -> Outcome
     requires works { W.has_failed output.old ≡ false }
     requires size { is_allowed blocks ≡ true }
+    requires letters { tree.now.letters ≡ Ascii }
     ensures ends { EndsBy (BuildsOrIsFull lines tree.now blocks) result
         (W.held output.old) (W.held output.new) }
     ensures read { is_read_fault result ≡ false }
@@ -71,7 +73,7 @@ pub fn build_tree<W: Sink>(
             Ok(()) => Outcome::Done,
             Err(fault) => Outcome::after_writing(fault),
         },
-        Err(BuildFault::BadSize) => unreachable!(),
+        Err(BuildFault::BadSize | BuildFault::OtherLetters) => unreachable!(),
         Err(BuildFault::Full { need, have }) => refuse_full(alloc, need, have),
         Err(BuildFault::NoMemory) => Outcome::NoMemory,
     }

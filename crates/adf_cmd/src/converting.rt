@@ -1,6 +1,7 @@
 // The command `convert`.
 
 ghost use Rattle.std.specs.Prelude.{◌≡◌, true, false, IfErr, IfOk};
+ghost use Rattle.adf_base.specs.declared.hash.Letters.TheVariants.{Ascii};
 ghost use Rattle.adf_tree.specs.Tree.{with_kind};
 ghost use Rattle.adf_blocks.specs.Sizes.{blocks, is_allowed};
 ghost use Rattle.adf_volume.specs.Fits.{Fits};
@@ -51,6 +52,7 @@ fn convert_tree<W: Sink>(
 ) -> Outcome
     requires works { W.has_failed output.old ≡ false }
     requires size { is_allowed blocks ≡ true }
+    requires letters { tree.letters ≡ Ascii }
     ensures ends { EndsBy (BuildsOrIsFull false (with_kind tree kind) blocks) result
         (W.held output.old) (W.held output.new) }
     ensures read { is_read_fault result ≡ false }
