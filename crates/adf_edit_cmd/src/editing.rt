@@ -1,6 +1,7 @@
 // An image by a script.
 
 ghost use Rattle.std.specs.Prelude.{◌≡◌, ◌≢◌, ◌≤◌, ◌*◌, IfOk, IfErr, OnOk, Ok, Err, length, map, true};
+ghost use Rattle.adf_base.specs.declared.hash.Letters.TheVariants.{Ascii};
 ghost use Rattle.adf_blocks.specs.Sizes.{blocks, is_allowed};
 ghost use Rattle.adf_edits.specs.Edits.{edit_value, edited};
 ghost use Rattle.adf_edits.specs.Outline.{outline_of};
@@ -95,6 +96,7 @@ fn edit_all(
 // Lays a tree in so many blocks, with the boot blocks of an image behind the type.
 fn lay(alloc: Global, tree: &Tree, blocks: u32, image: &[u8]) -> Result<Vec<u8>, Stop>
     requires allowed { is_allowed blocks ≡ true }
+    requires letters { tree.now.letters ≡ Ascii }
     requires boot { 1024 ≤ length image.now }
     ensures laid { IfOk result (λ new. IsLaidOver tree.now blocks image.now new.items) }
     ensures full { IfErr result (IsFullStop tree.now blocks) }
@@ -104,7 +106,7 @@ fn lay(alloc: Global, tree: &Tree, blocks: u32, image: &[u8]) -> Result<Vec<u8>,
             put_boot(&mut new, image);
             Ok(new)
         }
-        Err(BuildFault::BadSize) => unreachable!(),
+        Err(BuildFault::BadSize | BuildFault::OtherLetters) => unreachable!(),
         Err(BuildFault::Full { need, have }) => Err(Stop::Full { need, have }),
         Err(BuildFault::NoMemory) => Err(Stop::NoMemory),
     }
