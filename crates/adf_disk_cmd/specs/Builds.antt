@@ -2,6 +2,7 @@
 -- the text of a plan, those of the given volumes one behind the other.
 use Rattle.std.specs.Prelude.{◌≡◌, ◌+◌, ◌*◌, ◌/◌, ◌==◌, ◌++◌, ◌⊎◌, ℕ, All, List, [], ◌∷◌, codes, drop, false, if◌then◌else◌, length, take}
 use Rattle.std.specs.Fmt.{decimal}
+use Rattle.adf_base.specs.declared.hash.Letters.TheVariants.{Ascii}
 use Rattle.adf_tree.specs.Tree.{Tree}
 use Rattle.adf_names.specs.declared.meta.TheConstants.{NO_STAMPS}
 use Rattle.adf_volume.specs.Fits.{Fits}
@@ -22,7 +23,7 @@ refusal text = on_errors 1 (text ++ codes "\n")
 
 -- what is on a new volume: nothing, under the drive's name
 abbrev pub new_tree : PartitionPlan → Tree
-new_tree p = record { kind = p.kind; label = p.name; stamps = NO_STAMPS; entries = [] }
+new_tree p = record { kind = p.kind; letters = Ascii; label = p.name; stamps = NO_STAMPS; entries = [] }
 
 -- the volume of a partition: the first of the given bytes, or a new one
 abbrev pub volume_of : ℕ → PartitionPlan → List ℕ → List ℕ
