@@ -1,6 +1,7 @@
 -- Whatever is asked of bytes has an answer of `adf`.
 use Rattle.std.proofs.Common.{◌≡◌, ◌-◌, ℕ, Bool, true, false, List, arith, inl, inr, refl}
 use native.Mathlib.Decide.{dec_le}
+use Rattle.adf_base.specs.declared.hash.Letters.TheVariants.{Ascii}
 use Rattle.adf_base.proofs.ByteLists.{AreBytes}
 use Rattle.adf_blocks.specs.Sizes.{blocks, is_allowed}
 use Rattle.adf_names.specs.declared.kind.Kind.{Kind}
@@ -14,6 +15,7 @@ use Rattle.adf_build.proofs.WholeVolume.{laid_as_planned, volume_laid, well_form
 use Rattle.adf_findings.proofs.FitsOrFault.{fits_or_fault}
 use Rattle.adf_findings.specs.Verdict.{FitsOrHasFault}
 use Rattle.adf_manifest.specs.Manifest.{IsManifestOrHasFault}
+use Rattle.adf_manifest.proofs.TreesOfLines.{manifest_letters}
 use Rattle.adf_answers.proofs.BoundedManifests.{manifest_bounded}
 use Rattle.adf_answers.proofs.SomeVerdicts.{some_verdict}
 use Rattle.adf_texts.specs.Lines.{full_line, manifest_fault_line}
@@ -24,12 +26,12 @@ use Rattle.adf_answers.specs.Answered.{HasAnswer}
 use Rattle.adf_answers.proofs.Images.{checked, refused, some_copy, some_list}
 
 -- a tree is built, or there are too few blocks
-built_or_full : (lines : Bool) (tree : Tree) (n : ℕ) → IsTree tree.entries → IsBounded tree → is_allowed n ≡ true
+built_or_full : (lines : Bool) (tree : Tree) (n : ℕ) → tree.letters ≡ Ascii → IsTree tree.entries → IsBounded tree → is_allowed n ≡ true
     → (reply : Reply) × BuildsOrIsFull lines tree n reply
-built_or_full lines tree n is bounds allowed = elim (dec_le (blocks_needed tree n) (n - 2)) [
+built_or_full lines tree n letters is bounds allowed = elim (dec_le (blocks_needed tree n) (n - 2)) [
   | no full ↦ (on_errors 1 (full_line (need_of tree n) (n - 2)), inr (omega (arith, full), refl))
   | yes room ↦
-      let can : CanHold tree n = record { sound = well_formed tree bounds is; allowed = allowed; room = room } in (
+      let can : CanHold tree n = record { sound = well_formed tree letters bounds is; allowed = allowed; room = room } in (
         on_output 0 (built_output lines tree n),
         inl (
           record {
@@ -46,7 +48,8 @@ built_by : (lines : Bool) (input : List ℕ) → IsManifestOrHasFault input → 
 built_by lines input (inr (f, explains, other)) = (on_errors 1 (manifest_fault_line f), inr (f, explains, other, refl))
 built_by lines input (inl (tree, n, manifest)) =
     let (is, bounds, allowed) = manifest_bounded input tree n manifest in
-    let (reply, builds) = built_or_full lines tree n is bounds allowed in (reply, inl (tree, n, manifest, builds))
+    let (le, (m, w, e, of, size)) = manifest in
+    let (reply, builds) = built_or_full lines tree n (manifest_letters m tree of) is bounds allowed in (reply, inl (tree, n, manifest, builds))
 
 some_build : (lines : Bool) (input : List ℕ) → HasAnswer (build lines) input
 some_build lines input = built_by lines input (some_verdict input)
@@ -58,7 +61,8 @@ converted_by : (kind : Kind) (image : List ℕ) → AreBytes image → FitsOrHas
 converted_by kind image are (inr (b, c, first)) = let (reply, refuses) = refused image b c first in (reply, inr refuses)
 converted_by kind image are (inl (t, l, fits)) =
     let bounds = kind_bounded t kind (fits_bounded image t l are fits) in
-    let (reply, builds) = built_or_full false (with_kind t kind) (blocks image) fits.tree bounds fits.boots.0.1 in (reply, inl (t, l, fits, builds))
+    let (reply, builds) = built_or_full false (with_kind t kind) (blocks image) fits.letters fits.tree bounds fits.boots.0.1 in
+    (reply, inl (t, l, fits, builds))
 
 some_conversion : (kind : Kind) (image : List ℕ) → AreBytes image → HasAnswer (convert kind) image
 some_conversion kind image are = converted_by kind image are (fits_or_fault image)
