@@ -1,6 +1,6 @@
 // Library calls that take memory and that no command makes, each with a name.
 
-use crate::entry_calls::entries_add_outcome;
+use crate::entry_calls::{entries_add_outcome, tree_letters_outcome};
 use crate::outcome::CallOutcome;
 use crate::tree_calls::{draft_add_outcome, tree_add_outcome, write_path_outcome};
 use crate::trees::tree_of_lines;
@@ -38,6 +38,7 @@ pub fn outcome_of(alloc: Global, name: &str) -> Option<CallOutcome> {
         "write_path" => write_path_outcome(alloc),
         "tree_add" => tree_add_outcome(alloc),
         "entries_add" => entries_add_outcome(alloc),
+        "tree_letters" => tree_letters_outcome(alloc),
         "draft_add" => draft_add_outcome(alloc),
         "owners_new" => owners_new_outcome(alloc),
         "read_sound_file" => read_sound_file_outcome(alloc),

@@ -1,8 +1,9 @@
-// Library calls on entries by the letters whose case is ignored.
+// Library calls on entries and trees by the letters whose case is ignored.
 
 use crate::outcome::CallOutcome;
 use crate::tree_calls::meta;
-use adf_tree::{AddFault, Body, Letters, Name, Node, TreeEntries};
+use adf_build::{BuildFault, build};
+use adf_tree::{AddFault, Body, Kind, Label, Letters, NO_STAMPS, Name, Node, Tree, TreeEntries};
 use std::alloc::Global;
 
 /// Names of one byte that are added, in this order: 0xC9 is 0xE9 in upper case by international letters alone, and 0xF7 and
@@ -57,4 +58,22 @@ pub fn entries_add_outcome(alloc: Global) -> Option<CallOutcome> {
         CallOutcome::Done => lettered_outcome(alloc, Letters::Ascii, &BY_ASCII),
         outcome => Some(outcome),
     }
+}
+
+// Adds a directory with a name of one byte.
+fn add_byte(tree: &mut Tree, byte: u8) -> Option<Result<(), AddFault>> {
+    let path = [Name::new(&[byte])?];
+    Some(tree.add(&path, meta()?, Body::Dir))
+}
+
+/// 0xC9 beside 0xE9 in a tree of international letters, by which they are one name; no volume is built of such a tree.
+pub fn tree_letters_outcome(alloc: Global) -> Option<CallOutcome> {
+    let label = Label::new(b"Work")?;
+    let mut tree = Tree::with_letters(alloc, Kind::Ffs, Letters::International, label, NO_STAMPS);
+    if let Err(fault) = add_byte(&mut tree, 0xE9)? {
+        return Some(CallOutcome::NoMemory.only_if(fault == AddFault::NoMemory));
+    }
+    let refuses = add_byte(&mut tree, 0xC9)? == Err(AddFault::Exists) && tree.len() == 1;
+    let built = build(alloc, &tree, 16);
+    Some(CallOutcome::Done.only_if(refuses && built.err() == Some(BuildFault::OtherLetters)))
 }
