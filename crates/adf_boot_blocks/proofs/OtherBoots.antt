@@ -117,7 +117,7 @@ module _ (image other : List ℕ) (o : IsOtherBoot image other) where
 
     same_head : (n : ℕ) (e : Entry) → EntryAt t n e → block other (at_node image l n) ≡ block image (at_node image l n)
     same_head n e at =
-        let q = place_at t n e at in
+        let q = place_at Ascii t n e at in
         same (Head n e.parent (slot_of e.name) q.0) (at_node image l n) (q.1, refl)
 
     -- the table of a file

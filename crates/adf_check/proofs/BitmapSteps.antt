@@ -11,7 +11,7 @@ use Rattle.adf_volume.specs.Image.{root_of, word_in, IsFreeAt}
 use Rattle.adf_volume.specs.Demands.{AllHold, FirstFails, boot_demands, root_demands}
 use Rattle.adf_volume.specs.Walk.{Has, IsAbsent, IsFreeIn, bitmap_demands, FirstFault, Walk}
 use Rattle.adf_volume.specs.Walk.Role.{Page}
-use Rattle.adf_volume.specs.Walk.FirstFault.{at_bitmap}
+use Rattle.adf_volume.specs.Walk.FirstFaultBy.{at_bitmap}
 use Rattle.adf_volume.proofs.Gathered.{one_block}
 use Rattle.adf_volume.proofs.Images.{page_in}
 use Rattle.adf_volume.proofs.Lists.{all_append, all_split, fails_right}

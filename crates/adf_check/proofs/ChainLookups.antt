@@ -9,6 +9,7 @@ use native.Mathlib.Decide.{dec_lt, ℕ_discrete}
 use Rattle.adf_blocks.specs.declared.layout.TheConstants.{FIRST_SLOT, NAME, NEXT_IN_CHAIN, SECONDARY_TYPE, SLOTS, ST_DIR, ST_FILE}
 use Rattle.adf_base.specs.Hash.{slot_of}
 use Rattle.adf_base.specs.Words.{block}
+use Rattle.adf_base.specs.declared.hash.Letters.TheVariants.{Ascii}
 use Rattle.adf_names.specs.Texts.{uppers}
 use Rattle.adf_tree.specs.declared.entry.Body.{Body, TheVariants.Dir, TheVariants.File}
 use Rattle.adf_tree.specs.declared.entry.Entry.{Entry}
@@ -114,7 +115,7 @@ module _ {image : List ℕ} {store : StoreValue} {t : Tree} {l : Layout} (k : St
       elim (dec_lt 0 (length (chain_nodes t p s))) [
         | yes some ↦
             let n = at_some (chain_nodes t p s) 0 some in
-            let x = entry_at t p s 0 n.0 n.1 in
+            let x = entry_at Ascii t p s 0 n.0 n.1 in
             absurd (h (type_of p ne (subst (DirNode t) x.parent ((ordered t k.fits.tree).parents n.0 x.entry x.at).1)))
         | no none ↦
             subst (λ ns. Spelled (next_in image) 0 (map (at_node image l) ns)) (sym (nil_from_length (chain_nodes t p s) (omega arith))) refl
@@ -137,9 +138,9 @@ module _ {image : List ℕ} {store : StoreValue} {t : Tree} {l : Layout} (k : St
     left_at : (j n : ℕ) → At (nodes_named t p name) j n → {b : ℕ} → at_node image l n ≡ b
         → (kept_at store.owners b ≡ kept.Head n) × (chain_left store b ≡ suc (length store.headers) - n) × (n ≤ length store.headers)
     left_at j n a {b = b} is =
-        let x = entry_at t p (slot_of name) j n a in
+        let x = entry_at Ascii t p (slot_of name) j n a in
         let o : kept_at store.owners b ≡ kept.Head n =
-        k.owners.part (AHead n) b (part_owned image t l k.fits.places (Head n p (slot_of name) j) b (a, is)) in
+        k.owners.part (AHead n) b (part_owned Ascii image t l k.fits.places (Head n p (slot_of name) j) b (a, is)) in
         (o, ap (node_left (length store.headers)) o, omega (arith, entry_below t n x.entry x.at, k.headers.count))
 
   module _ {p : ℕ} {name : List ℕ} where
@@ -148,15 +149,15 @@ module _ {image : List ℕ} {store : StoreValue} {t : Tree} {l : Layout} (k : St
 
     -- no header is left
     pub chain_ended : OnChain image t l p name 0 → child t.entries p name ≡ None
-    chain_ended c = chain_no t p name (λ j n e a. c.passed j n e (omega (arith, at_below (nodes_named t p name) j n a, c.ended refl)) a)
+    chain_ended c = chain_no Ascii t p name (λ j n e a. c.passed j n e (omega (arith, at_below (nodes_named t p name) j n a, c.ended refl)) a)
 
     module _ {b : ℕ} (c : OnChain image t l p name b) (ne : b ≢ 0) where
       -- the node of the header
       at : (n : ℕ) × At (nodes_named t p name) c.place n × (at_node image l n ≡ b)
       at = at_unmap (at_node image l) (nodes_named t p name) c.place b (c.here ne)
 
-      node_entry : SlotEntry t p (slot_of name) at.0
-      node_entry = entry_at t p (slot_of name) c.place at.0 at.1
+      node_entry : SlotEntry Ascii t p (slot_of name) at.0
+      node_entry = entry_at Ascii t p (slot_of name) c.place at.0 at.1
 
       entry_fits : (e : Entry) → EntryAt t at.0 e → EntryFits image t l at.0 b e
       entry_fits e v = subst (λ h. EntryFits image t l at.0 h e) at.2 (k.fits.entries at.0 e v)
@@ -174,7 +175,7 @@ module _ {image : List ℕ} {store : StoreValue} {t : Tree} {l : Layout} (k : St
       chain_found u =
           let x = node_entry in
           ap headed (left_at p name c.place at.0 at.1 at.2).0
-          ∙ sym (chain_yes t p (slot_of name) name c.place at.0 x.entry k.fits.tree at.1 x.at (ap uppers (entry_fits x.entry x.at).name ∙ u))
+          ∙ sym (chain_yes Ascii t p (slot_of name) name c.place at.0 x.entry k.fits.tree at.1 x.at (ap uppers (entry_fits x.entry x.at).name ∙ u))
 
       next_here : next_in image b ≢ 0 → At (heads_named image t l p name) (suc c.place) (next_in image b)
       next_here = spelled_next (next_in image) c.first (heads_named image t l p name) c.place b c.spelled (c.here ne)
@@ -207,7 +208,7 @@ module _ {image : List ℕ} {store : StoreValue} {t : Tree} {l : Layout} (k : St
                 omega (arith, left.1, left.2)
             | no more ↦
                 let x = at_unmap (at_node image l) (nodes_named t p name) (suc c.place) (next_in image b) (next_here more) in
-                let up = chain_rises 1 t.entries p (slot_of name) c.place (suc c.place) at.0 x.0 at.1 x.1 (omega arith) in
+                let up = chain_rises Ascii 1 t.entries p (slot_of name) c.place (suc c.place) at.0 x.0 at.1 x.1 (omega arith) in
                 omega (arith, left.1, left.2, (left_at p name (suc c.place) x.0 x.1 x.2).1)
           ]
 

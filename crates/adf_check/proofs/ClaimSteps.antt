@@ -9,8 +9,8 @@ use Rattle.adf_volume.specs.Demands.{Demand, demand, AllHold, FirstFails}
 use Rattle.adf_volume.specs.Image.{word_in}
 use Rattle.adf_volume.specs.Walk.{Role, first, heads, Asks, IsDue, Enough, NewName, form_demands, demands, FirstFault, Walk}
 use Rattle.adf_volume.specs.Walk.Role.{Head}
-use Rattle.adf_volume.specs.Walk.FirstFault.{at_due}
-use Rattle.adf_volume.specs.Walk.IsWalk.{step}
+use Rattle.adf_volume.specs.Walk.FirstFaultBy.{at_due}
+use Rattle.adf_volume.specs.Walk.IsWalkBy.{step}
 use Rattle.adf_volume.proofs.Lists.{fails_left, fails_right, all_append}
 use Rattle.adf_volume.proofs.Memory.{fault_of_image}
 use Rattle.adf_volume.proofs.Gathered.{IsGathered}

@@ -9,7 +9,7 @@ use Rattle.std.proofs.lemmas.Grind.{common_steps}
 use Rattle.adf_volume.specs.Image.{root_of}
 use Rattle.adf_volume.specs.Walk.{Role, first, Has, IsWalk, Walk}
 use Rattle.adf_volume.specs.Walk.Role.{Root, Ext, Data}
-use Rattle.adf_volume.specs.Walk.IsWalk.{start, step}
+use Rattle.adf_volume.specs.Walk.IsWalkBy.{start, step}
 use Rattle.adf_volume.specs.Made.{picked, is_ext_of, exts_in, is_data_of, datas_in}
 use Rattle.adf_volume.proofs.Lists.{snoc_length}
 use Rattle.adf_volume.proofs.WalkOrder.{rises}

@@ -6,6 +6,7 @@ use Rattle.std.proofs.lemmas.List.{get_or-take, get_or-drop, length-take, length
 use Rattle.std.proofs.lemmas.List.Sorted.{IsNonDecreasingBy-from_default}
 use Rattle.std.proofs.lemmas.Grind.{common_steps}
 use native.Mathlib.Decide.{dec_lt}
+use Rattle.adf_base.specs.declared.hash.Letters.TheVariants.{Ascii}
 use Rattle.adf_tree.specs.Tree.{Tree}
 use Rattle.adf_volume.specs.declared.owner.Owner.{Owner}
 use Rattle.adf_volume.specs.Layout.{Layout, exts_of, datas_of, owned}
@@ -125,4 +126,4 @@ module _ {image : List ℕ} {store : StoreValue} {t : Tree} {l : Layout} (st : S
 
   -- a part is numbered within its file
   pub part_numbered : (o : Owner) (b : ℕ) → In (owned image l) (o, b) → IsNumbered store.starts o
-  part_numbered o b h = let q = owned_part image t l st.fits.places o b h in subst (IsNumbered store.starts) (sym q.2) (role_numbered q.0 b q.1)
+  part_numbered o b h = let q = owned_part Ascii image t l st.fits.places o b h in subst (IsNumbered store.starts) (sym q.2) (role_numbered q.0 b q.1)

@@ -1,6 +1,7 @@
 -- The steps along the nodes: each is begun, then the parts that its header points to are read.
 use Rattle.std.proofs.Common.{◌≡◌, ◌≢◌, inl, inr, ℕ, suc, ◌-◌, List, [], ◌∷◌, ◌<◌, ◌≤◌, length, get_or, refl, sym, ap, subst, ◌∙◌, arith}
 use Rattle.std.proofs.lemmas.Grind.{common_steps}
+use Rattle.adf_base.specs.declared.hash.Letters.TheVariants.{Ascii}
 use Rattle.adf_blocks.specs.declared.layout.TheConstants.{EXTENSION, SECONDARY_TYPE, ST_DIR}
 use Rattle.adf_blocks.specs.Sizes.{blocks}
 use Rattle.adf_volume.specs.Image.{kind_of, root_of, word_in}
@@ -51,7 +52,7 @@ module _ (image : List ℕ) (store : StoreValue) (w : Walk) (t : StoreMatches im
   file_here i r h d =
       let x = node_here i r h in
       let k = (kept image v (head_role x) r.head x.has).2 in
-      record { header = x; type = elim (head_type image (kind_of image) r.head k.0 x.slot k.2) [ inl e ↦ absurd (d e) | inr e ↦ e ] }
+      record { header = x; type = elim (head_type Ascii image (kind_of image) r.head k.0 x.slot k.2) [ inl e ↦ absurd (d e) | inr e ↦ e ] }
 
 -- a directory's slots are next
 pub enter_directory : (image : List ℕ) (store : StoreValue) (n a : ℕ) (st : IsInNode image store n) → DirAt image st.walk n a

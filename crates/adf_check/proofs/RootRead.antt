@@ -5,7 +5,7 @@ use Rattle.std.proofs.lemmas.List.{length-replicate}
 use Rattle.adf_blocks.specs.Sizes.{blocks}
 use Rattle.adf_volume.specs.Image.{root_of}
 use Rattle.adf_volume.specs.Walk.Role.{Root as TheRoot}
-use Rattle.adf_volume.specs.Walk.IsWalk.{start}
+use Rattle.adf_volume.specs.Walk.IsWalkBy.{start}
 use Rattle.adf_volume.specs.Start.{IsBegun}
 use Rattle.adf_volume.proofs.PositionSteps.{with_root}
 use Rattle.adf_walk.specs.declared.kept_owner.KeptOwner.{KeptOwner, TheVariants.Free, TheVariants.Boot, TheVariants.Root}

@@ -6,7 +6,7 @@ use Rattle.adf_volume.specs.Lists.{In, NoBlockTwice}
 use Rattle.adf_volume.specs.Made.{layout_in}
 use Rattle.adf_volume.specs.Walk.{Role, Has, head_count, heads, IsWalk, IsWhole, Walk}
 use Rattle.adf_volume.specs.Walk.Role.{Head}
-use Rattle.adf_volume.specs.Walk.IsWalk.{start, step}
+use Rattle.adf_volume.specs.Walk.IsWalkBy.{start, step}
 use Rattle.adf_volume.proofs.PartDemands.{part_holds}
 use Rattle.adf_volume.proofs.WalkOwners.{is_owned, once, owned_has}
 

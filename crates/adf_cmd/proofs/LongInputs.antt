@@ -8,7 +8,7 @@ use Rattle.adf_blocks.specs.declared.layout.TheConstants.{MOST_BLOCKS}
 use Rattle.adf_blocks.specs.declared.cause.Cause.TheVariants.{BadSize}
 use Rattle.adf_volume.specs.Demands.{IsSize}
 use Rattle.adf_volume.specs.Walk.{FirstFault}
-use Rattle.adf_volume.specs.Walk.FirstFault.{at_boot}
+use Rattle.adf_volume.specs.Walk.FirstFaultBy.{at_boot}
 use Rattle.adf_volume.proofs.OneFault.{one_fault}
 use Rattle.adf_volume.proofs.Sizes.{size_high}
 use Rattle.adf_volume.specs.declared.fault.Fault.{Fault}

@@ -1,10 +1,10 @@
 -- A request and an input have one answer.
-use Rattle.std.proofs.Common.{◌≡◌, ◌≢◌, ◌∙◌, ◌⊎◌, inl, inr, ℕ, Bool, List, Option, Some, None, refl, sym, ap, subst, arith}
+use Rattle.std.proofs.Common.{◌≡◌, ◌≢◌, ◌∙◌, ◌⊎◌, inl, inr, ℕ, Bool, false, List, Option, Some, None, refl, sym, ap, subst, arith}
 use Rattle.std.proofs.lemmas.Grind.{common_steps}
 use mathlib.Core.Path.{fun_ext}
 use Rattle.adf_fields.proofs.DateTexts.{one_text}
 use Rattle.adf_base.specs.declared.dates.Stamp.{Stamp}
-use Rattle.adf_tree.specs.Tree.{Tree}
+use Rattle.adf_tree.specs.Tree.{Tree, with_kind}
 use Rattle.adf_names.specs.declared.kind.Kind.{Kind}
 use Rattle.adf_names.proofs.PathParts.{one_path}
 use Rattle.adf_blocks.specs.Sizes.{blocks}
@@ -21,7 +21,8 @@ use Rattle.adf_manifest.specs.declared.manifest.ManifestKind.{ManifestKind, TheV
 use Rattle.adf_manifest.proofs.Faults as manifests
 use Rattle.adf_manifest.proofs.TreesOfLines.{one_tree_of}
 use Rattle.adf_manifest.proofs.Verdicts.{one_told}
-use Rattle.adf_texts.specs.Lines.{fault_line}
+use Rattle.adf_check.specs.Volumes.{counts_of}
+use Rattle.adf_texts.specs.Lines.{fault_line, ok_line}
 use Rattle.adf_texts.specs.VolumeLines.{AreDates, volume_lines}
 use Rattle.adf_cmd.specs.Answers.{Accepts, Answer, BuildsManifest, BuildsOrIsFull, Converts, Copies, CopiesFrom, Lists, RefusesImage, RefusesManifest}
 use Rattle.adf_cmd.specs.Answers.{contents_at}
@@ -46,7 +47,9 @@ pub refused_once : (input : List ℕ) (a b : Reply) → RefusesImage input a →
 refused_once input a b (f, first, x) (g, also, y) = x ∙ ap (on_errors 1) (one_line input f g first also) ∙ sym y
 
 accepted_once : (input : List ℕ) (a b : Reply) → Accepts input a → Accepts input b → a ≡ b
-accepted_once input a b (t, l, fits, x) (u, m, also, y) = grind (arith, common_steps, one_fit)
+accepted_once input a b (t, l, fits, x) (u, m, also, y) =
+    let same = one_fit input t u l m fits also in
+    x ∙ ap (λ v. on_output 0 (ok_line (counts_of input v l))) same.0 ∙ ap (λ k. on_output 0 (ok_line (counts_of input u k))) same.1 ∙ sym y
 
 -- dates have one text each
 pub one_dates : (date other : Stamp → List ℕ) → AreDates date → AreDates other → date ≡ other
@@ -110,7 +113,9 @@ copied_from_once path input a b (names, text, t, l, fits, h) (others, also, u, m
 
 converted_once : (kind : Kind) (input : List ℕ) (a b : Reply) → Converts kind input a → Converts kind input b
     → a ≡ b
-converted_once kind input a b (t, l, fits, h) (u, m, also, g) = grind (arith, common_steps, one_fit, built_once)
+converted_once kind input a b (t, l, fits, h) (u, m, also, g) =
+    let same = one_fit input t u l m fits also in
+    built_once false (with_kind u kind) (blocks input) a b (subst (λ (v : Tree). BuildsOrIsFull false (with_kind v kind) (blocks input) a) same.0 h) g
 
 -- what one command tells of a tree that fits an image, or that the image is refused
 image_once : (input : List ℕ) (a b : Reply) (tells : Reply → Type 0) → ((reply : Reply) → tells reply → (t : Tree) × (l : Layout) × Fits input t l)

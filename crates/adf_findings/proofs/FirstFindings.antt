@@ -10,8 +10,8 @@ use Rattle.adf_volume.specs.Image.{word_in, root_of}
 use Rattle.adf_volume.specs.Demands.{AllHold, FirstFails, boot_demands, root_demands}
 use Rattle.adf_volume.specs.Walk.{Role, Lacks, IsDue, IsAbsent, IsWalk, IsWhole, FirstFault, bitmap_demands, demands, Walk}
 use Rattle.adf_volume.specs.Walk.Role.{Page, Root}
-use Rattle.adf_volume.specs.Walk.IsWalk.{start as walk_start, step as walk_step}
-use Rattle.adf_volume.specs.Walk.FirstFault.{at_boot, at_due, at_bitmap}
+use Rattle.adf_volume.specs.Walk.IsWalkBy.{start as walk_start, step as walk_step}
+use Rattle.adf_volume.specs.Walk.FirstFaultBy.{at_boot, at_due, at_bitmap}
 use Rattle.adf_volume.proofs.Walks.{asked_block, page_word}
 use Rattle.adf_volume.proofs.WholeWalks.{all_map_exts}
 use Rattle.adf_tree.specs.Tree.{Tree}

@@ -1,6 +1,5 @@
 -- What is told of a checked volume is told of every tree and layout that fit its image.
-use Rattle.std.proofs.Common.{◌≡◌, ◌≤◌, ◌<◌, ℕ, Option, Some, ◌∙◌, ap, arith}
-use Rattle.std.proofs.lemmas.Grind.{common_steps}
+use Rattle.std.proofs.Common.{◌≡◌, ◌≤◌, ◌<◌, ℕ, Option, Some, ◌∙◌, ap, subst}
 use Rattle.adf_tree.specs.Tree.{Tree}
 use Rattle.adf_blocks.specs.Sizes.{blocks}
 use Rattle.adf_volume.specs.declared.owner.Owner.{Owner}
@@ -19,7 +18,9 @@ Stands v = (t : Tree) × (l : Layout) × StandsFor v t l
 
 -- it stands for whatever fits its image
 pub stands_for : (v : Volume) → Stands v → (t : Tree) (l : Layout) → Fits v.image t l → StandsFor v t l
-stands_for v (u, m, k) t l fits = grind (arith, common_steps, one_fit)
+stands_for v (u, m, k) t l fits =
+    let same = one_fit v.image u t m l k.fits fits in
+    subst (λ (x : Tree). StandsFor v x l) same.0 (subst (λ (n : Layout). StandsFor v u n) same.1 k)
 
 -- a class that is told is one
 some_same : (got : Option OwnerClass) (q o : OwnerClass) → got ≡ Some q → got ≡ Some o → q ≡ o

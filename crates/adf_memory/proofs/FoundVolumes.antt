@@ -8,6 +8,7 @@ use Rattle.std.proofs.Common.{◌≡◌, ℕ, zero, suc, List, [], ◌∷◌, �
 use Rattle.std.proofs.Common.{◌<◌, length, take, drop, map, refl, sym, ap, subst, ◌∙◌, arith, take_all}
 use Rattle.std.proofs.lemmas.Bool.{cond_above, cond_below, eq-eqb}
 use Rattle.std.proofs.Math.Nat.{min-eq_left}
+use Rattle.adf_base.specs.declared.hash.Letters.TheVariants.{Ascii}
 use Rattle.adf_blocks.specs.declared.layout.TheConstants.{SECONDARY_TYPE, SIZE, ST_FILE}
 use Rattle.adf_blocks.specs.Sizes.{blocks, chunk, count}
 use Rattle.adf_build.specs.Plan.{data_blocks, entries_blocks}
@@ -202,13 +203,13 @@ module _ (image : List ℕ) (w : Walk) (fs : List FindingValue) (survey : IsSurv
   pub role_found : (t : Tree) (l : Layout) → Fits image t l → (b r : ℕ) → IsFoundRole w b r → IsOwnerNumber image b r
   role_found t l fit b r (c, is, number) = record {
     part = (λ u m o other h.
-        let q = owned_part image u m other.places o b h in
+        let q = owned_part Ascii image u m other.places o b h in
         number ∙ ap class_number (is.part q.0 (has_part u m other q.0 b q.1) ∙ class_is q.0) ∙ ap owner_number (sym q.2));
     boot = (λ low.
         let none : (q : Role) → Has w q b → ⊥ = (λ q h. let x = part_range image t l fit q b (is_part t l fit q b h) in absurd (omega arith)) in
         number ∙ ap class_number (is.none none ∙ sym (cond_below b 2 class.Boot class.Free low)));
     free = (λ u m other high none.
         let absent : (q : Role) → Has w q b → ⊥ =
-        (λ q h. none (owner_of q) (part_owned image u m other.places q b (is_part u m other q b h))) in
+        (λ q h. none (owner_of q) (part_owned Ascii image u m other.places q b (is_part u m other q b h))) in
         number ∙ ap class_number (is.none absent ∙ sym (cond_above b 2 class.Boot class.Free class.Free high refl)));
   }

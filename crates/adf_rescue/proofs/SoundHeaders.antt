@@ -6,6 +6,7 @@ use Rattle.std.proofs.lemmas.Bool.{and_from, and_parts, and_right, eq-eqb, leb-t
 use Rattle.std.proofs.lemmas.List.{length-take, take_all}
 use Rattle.std.proofs.lemmas.Grind.{common_steps}
 use Rattle.adf_base.specs.Words.{block, word}
+use Rattle.adf_base.specs.declared.hash.Letters.TheVariants.{Ascii}
 use Rattle.adf_tree.specs.declared.entry.Body.{Body, TheVariants.Dir}
 use Rattle.adf_tree.specs.declared.entry.Entry.{Entry}
 use Rattle.adf_names.specs.declared.kind.Kind.{Kind}
@@ -51,7 +52,7 @@ meta_whole : (image : List ℕ) (kind : Kind) (b up s : ℕ) → AllHold (head_d
 unfolding meta_of
 meta_whole image kind b up s h =
     let bs : List ℕ = block image b in
-    let same : take 79 (text_at bs COMMENT) ≡ text_at bs COMMENT = take_all 79 (text_at bs COMMENT) (comment_short image kind b up s h) in
+    let same : take 79 (text_at bs COMMENT) ≡ text_at bs COMMENT = take_all 79 (text_at bs COMMENT) (comment_short Ascii image kind b up s h) in
     λ i. record { comment = same i; protect = word bs PROTECTION; stamp = stamp_at bs DATE }
 
 -- a sound file and a directory stand, with the body that the tree has
@@ -105,9 +106,9 @@ told held image w fs sound le survey clean own marks v i lt =
       record {
         parent = parent_is image w fs survey (suc i) h.parent h.slot h.place b h.has;
         name = refl;
-        valid = name_valid image (kind_of image) b up.0 h.slot form;
+        valid = name_valid Ascii image (kind_of image) b up.0 h.slot form;
         meta = meta_whole image (kind_of image) b up.0 h.slot form;
-        body = body_stands (as_given (before_first held image) a) (suc i) (head_type image (kind_of image) b up.0 h.slot form)
+        body = body_stands (as_given (before_first held image) a) (suc i) (head_type Ascii image (kind_of image) b up.0 h.slot form)
             (λ type. and_from (sound (suc i)) _ is (file_given held image w fs (suc i) le survey whole type));
       },
     )

@@ -5,6 +5,7 @@ use Rattle.std.proofs.lemmas.Grind.{common_steps}
 use Rattle.std.proofs.lemmas.List.{length-take}
 use Rattle.adf_base.specs.Dates.{IsStamp}
 use Rattle.adf_base.specs.Words.{block}
+use Rattle.adf_base.specs.declared.hash.Letters.{Letters}
 use Rattle.adf_base.proofs.ByteLists.{AreBytes, block_bytes, word_small}
 use Rattle.adf_names.specs.Meta.{AreStamps, IsBoundedMeta}
 use Rattle.adf_names.specs.Texts.{is_name}
@@ -15,12 +16,12 @@ use Rattle.adf_tree.specs.declared.entry.Body.{Body}
 use Rattle.adf_tree.specs.declared.entry.Body.TheVariants.{Dir, File}
 use Rattle.adf_tree.specs.declared.entry.Entry.{Entry}
 use Rattle.adf_blocks.specs.Forms.{stamp_at, text_at}
-use Rattle.adf_blocks.specs.HeadBlock.{head_form}
+use Rattle.adf_blocks.specs.HeadBlock.{head_form_by}
 use Rattle.adf_blocks.specs.RootBlock.{root_form}
 use Rattle.adf_blocks.specs.declared.cause.Cause.TheVariants.{BadComment, BadName}
 use Rattle.adf_blocks.specs.declared.layout.TheConstants.{COMMENT, NAME, SIZE}
-use Rattle.adf_volume.specs.Demands.{AllHold, head_demands, root_demands}
-use Rattle.adf_volume.specs.Fits.{BodyFits, EntryFits, Fits}
+use Rattle.adf_volume.specs.Demands.{AllHold, head_demands_by, root_demands}
+use Rattle.adf_volume.specs.Fits.{BodyFits, EntryFitsBy, FitsBy}
 use Rattle.adf_volume.specs.Image.{meta_of, name_of, root_of, stamps_of}
 use Rattle.adf_volume.specs.Layout.{Layout, at_node}
 use Rattle.adf_volume.proofs.FormDemands.{demanded}
@@ -38,17 +39,18 @@ label_short image h =
     let most : ℕ = slice_index bs NAME in
     text_short bs NAME 30 (leb-true most 30 (demanded (root_of image) (root_form bs) (nat_le most 30) BadName h (search rules)))
 
-pub comment_short : (image : List ℕ) (kind : Kind) (b up s : ℕ) → AllHold (head_demands image kind b up s)
+pub comment_short : (letters : Letters) (image : List ℕ) (kind : Kind) (b up s : ℕ) → AllHold (head_demands_by letters image kind b up s)
     → length (text_at (block image b) COMMENT) ≤ 79
-comment_short image kind b up s h =
+comment_short letters image kind b up s h =
     let bs : List ℕ = block image b in
     let most : ℕ = slice_index bs COMMENT in
-    text_short bs COMMENT 79 (leb-true most 79 (demanded b (head_form kind b up s bs) (nat_le most 79) BadComment h (search rules)))
+    text_short bs COMMENT 79 (leb-true most 79 (demanded b (head_form_by letters kind b up s bs) (nat_le most 79) BadComment h (search rules)))
 
 -- the name in a header is one
-pub name_valid : (image : List ℕ) (kind : Kind) (b up s : ℕ) → AllHold (head_demands image kind b up s) → is_name (name_of image b) ≡ true
+pub name_valid : (letters : Letters) (image : List ℕ) (kind : Kind) (b up s : ℕ) → AllHold (head_demands_by letters image kind b up s)
+    → is_name (name_of image b) ≡ true
 unfolding name_of
-name_valid image kind b up s h = grind (arith, common_steps, demanded, and_parts)
+name_valid letters image kind b up s h = grind (arith, common_steps, demanded, and_parts)
 
 -- dates and metadata
 
@@ -61,26 +63,27 @@ stamps_small image b are =
     let bytes = block_bytes image b are in
     record { root = stamp_small _ _ bytes; altered = stamp_small _ _ bytes; created = stamp_small _ _ bytes }
 
-meta_small : (image : List ℕ) (kind : Kind) (b up s : ℕ) → AreBytes image → AllHold (head_demands image kind b up s)
-    → IsBoundedMeta (meta_of image b)
+meta_small : (letters : Letters) (image : List ℕ) (kind : Kind) (b up s : ℕ) → AreBytes image
+    → AllHold (head_demands_by letters image kind b up s) → IsBoundedMeta (meta_of image b)
 unfolding meta_of
-meta_small image kind b up s are h =
+meta_small letters image kind b up s are h =
     let bytes = block_bytes image b are in
-    record { comment = comment_short image kind b up s h; protect = word_small _ _ bytes; stamp = stamp_small _ _ bytes }
+    record { comment = comment_short letters image kind b up s h; protect = word_small _ _ bytes; stamp = stamp_small _ _ bytes }
 
 body_small : (image : List ℕ) (kind : Kind) (l : Layout) (n b : ℕ) (body : Body) → AreBytes image → BodyFits image kind l n b body → IsData body
 body_small image kind l n b Dir are fits = tt
 body_small image kind l n b (File bytes) are fits = omega (arith, fits.2, word_small (block image b) SIZE (block_bytes image b are))
 
-entry_bounded : (image : List ℕ) (t : Tree) (l : Layout) (n : ℕ) (e : Entry) → AreBytes image → EntryFits image t l n (at_node image l n) e
+entry_bounded : {letters : Letters} (image : List ℕ) (t : Tree) (l : Layout) (n : ℕ) (e : Entry) → AreBytes image
+    → EntryFitsBy letters image t l n (at_node image l n) e
     → IsBoundedEntry e
-entry_bounded image t l n e are fits = record {
-  name = rw fits.name (name_valid image t.kind (at_node image l n) _ _ fits.form);
-  meta = rw fits.meta (meta_small image t.kind (at_node image l n) _ _ are fits.form);
+entry_bounded {letters = letters} image t l n e are fits = record {
+  name = rw fits.name (name_valid letters image t.kind (at_node image l n) _ _ fits.form);
+  meta = rw fits.meta (meta_small letters image t.kind (at_node image l n) _ _ are fits.form);
   body = body_small image t.kind l n (at_node image l n) e.body are fits.body;
 }
 
-pub fits_bounded : (image : List ℕ) (t : Tree) (l : Layout) → AreBytes image → Fits image t l → IsBounded t
+pub fits_bounded : {letters : Letters} (image : List ℕ) (t : Tree) (l : Layout) → AreBytes image → FitsBy letters image t l → IsBounded t
 fits_bounded image t l are fits = record {
   label = rw fits.label (label_short image fits.root);
   stamps = rw fits.stamps (stamps_small image (root_of image) are);

@@ -1,17 +1,19 @@
 -- The whole walk of an image that a tree and a layout fit: each step takes what is due, so fewer roles remain.
 use Rattle.std.proofs.Common.{◌≡◌, ℕ, zero, suc, List, [], ◌∷◌, ◌⊎◌, inl, inr, ◌<◌, length, refl, sym, ap, subst, ◌∙◌, arith, rules}
 use native.Mathlib.Decide.{dec_lt}
+use Rattle.adf_base.specs.declared.hash.Letters.{Letters}
 use Rattle.adf_tree.specs.Tree.{Tree}
-use Rattle.adf_volume.specs.Fits.{Fits}
+use Rattle.adf_volume.specs.Fits.{FitsBy}
 use Rattle.adf_volume.specs.Image.{root_of, word_in}
 use Rattle.adf_volume.specs.Layout.{Layout, owned}
-use Rattle.adf_volume.specs.LayoutRoles.{LayoutHas, owner_of}
+use Rattle.adf_volume.specs.LayoutRoles.{LayoutHasBy, owner_of}
 use Rattle.adf_volume.specs.Lists.{In}
-use Rattle.adf_volume.specs.Walk.{Role, third, Before, Same, heads, Asks, Lacks, IsDue, IsWalk, IsWhole, Walk}
+use Rattle.adf_volume.specs.Walk.{Role, third, Before, Same, heads, Asks, Lacks, IsDue, IsWalkBy, IsWhole, Walk}
 use Rattle.adf_volume.specs.Walk.Role.{Root}
-use Rattle.adf_volume.specs.Walk.IsWalk.{start, step}
+use Rattle.adf_volume.specs.Walk.IsWalkBy.{start, step}
 use Rattle.adf_volume.specs.declared.owner.Owner.{Owner}
 use Rattle.adf_volume.proofs.DecidedAsks.{Asked, dec_asked}
+use Rattle.adf_volume.proofs.ImageStart.{own_letters}
 use Rattle.adf_volume.proofs.Walks.{of_walk}
 use Rattle.adf_volume.proofs.LayoutRoles.{owned_part, part_owned, same_owner}
 use Rattle.adf_volume.proofs.OneTree.{one_tree}
@@ -67,25 +69,25 @@ lacks_same w r q s l y b h k = l y b h (omega arith)
 pub dec_lacks : (w : Walk) (r : Role) → Dec (Lacks w r)
 dec_lacks w r = elim (dec_has w r) [ inl l ↦ yes l | inr y ↦ no (λ l. l y.role y.block y.has y.same) ]
 
-module _ (image : List ℕ) (t : Tree) (l : Layout) (fit : Fits image t l) where
+module _ {letters : Letters} (image : List ℕ) (t : Tree) (l : Layout) (fit : FitsBy letters image t l) where
   -- the roles of what is owned
   abbrev roles : (xs : List (Owner × ℕ)) → ((o : Owner) (b : ℕ) → In xs (o, b) → In (owned image l) (o, b)) → List Role
   roles [] own = []
-  roles (x ∷ xs) own = (owned_part image t l fit.places x.0 x.1 (own x.0 x.1 (inl refl))).0 ∷ roles xs (λ o b h. own o b (inr h))
+  roles (x ∷ xs) own = (owned_part letters image t l fit.places x.0 x.1 (own x.0 x.1 (inl refl))).0 ∷ roles xs (λ o b h. own o b (inr h))
 
   in_roles : (xs : List (Owner × ℕ)) (own : (o : Owner) (b : ℕ) → In xs (o, b) → In (owned image l) (o, b)) (r : Role) (b : ℕ)
-      → LayoutHas image t l r b → In xs (owner_of r, b) → In (roles xs own) r
+      → LayoutHasBy letters image t l r b → In xs (owner_of r, b) → In (roles xs own) r
   in_roles [] own r b h i = absurd i
   in_roles (x ∷ xs) own r b h (inl e) =
-      let y = owned_part image t l fit.places x.0 x.1 (own x.0 x.1 (inl refl)) in
+      let y = owned_part letters image t l fit.places x.0 x.1 (own x.0 x.1 (inl refl)) in
       inl (same_owner image t l fit y.0 r x.1 b (sym y.2 ∙ ap (λ p. p.0) e) y.1 h)
   in_roles (x ∷ xs) own r b h (inr i) = inr (in_roles xs (λ o b h. own o b (inr h)) r b h i)
 
   -- each part that the walk lacks is in the list
   abbrev Covers : Walk → List Role → Type 0
-  Covers w rs = (q : Role) (b : ℕ) → LayoutHas image t l q b → Lacks w q → In rs q
+  Covers w rs = (q : Role) (b : ℕ) → LayoutHasBy letters image t l q b → Lacks w q → In rs q
 
-  module _ (w : Walk) (v : IsWalk image w) (rs : List Role) (cover : Covers w rs) where
+  module _ (w : Walk) (v : IsWalkBy letters image w) (rs : List Role) (cover : Covers w rs) where
     abbrev Wanted : Role → Type 0
     Wanted r = Asked image w r × Lacks w r
 
@@ -132,8 +134,8 @@ module _ (image : List ℕ) (t : Tree) (l : Layout) (fit : Fits image t l) where
         ]
 
   -- a walk grows until it is whole, by one of the list at each step
-  grown : (n : ℕ) (rs : List Role) → length rs ≡ n → (w : Walk) → IsWalk image w → Covers w rs
-      → (x : Walk) × IsWalk image x × IsWhole image x
+  grown : (n : ℕ) (rs : List Role) → length rs ≡ n → (w : Walk) → IsWalkBy letters image w → Covers w rs
+      → (x : Walk) × IsWalkBy letters image x × IsWhole image x
   grown zero rs long w v cover =
       elim (whole_or_due w v rs cover) [
         | inl whole ↦ (w, v, whole)
@@ -153,12 +155,16 @@ module _ (image : List ℕ) (t : Tree) (l : Layout) (fit : Fits image t l) where
       ]
 
   -- where a tree and a layout fit, there is a whole walk
-  pub whole_walk : (w : Walk) × IsWalk image w × IsWhole image w
+  pub whole_walk : (w : Walk) × IsWalkBy letters image w × IsWhole image w
   whole_walk =
       let rs : List Role = roles (owned image l) (λ o b h. h) in
       grown (length rs) rs refl ((Root, root_of image) ∷ []) start
-      (λ q b h lack. in_roles (owned image l) (λ o b h. h) q b h (part_owned image t l fit.places q b h))
+      (λ q b h lack. in_roles (owned image l) (λ o b h. h) q b h (part_owned letters image t l fit.places q b h))
 
 -- one image, one tree and one layout
-pub one_fit : (image : List ℕ) (t u : Tree) (l m : Layout) → Fits image t l → Fits image u m → (t ≡ u) × (l ≡ m)
-one_fit image t u l m f g = let w = whole_walk image t l f in one_tree image w.0 t u l m w.1 w.2 f g
+pub one_fit : {letters others : Letters} (image : List ℕ) (t u : Tree) (l m : Layout) → FitsBy letters image t l → FitsBy others image u m
+    → (t ≡ u) × (l ≡ m)
+one_fit {letters = letters} {others = others} image t u l m f g =
+    let w = whole_walk image t l f in
+    let same : others ≡ letters = sym (own_letters others image g.boots) ∙ own_letters letters image f.boots in
+    one_tree image w.0 t u l m w.1 w.2 f (subst (λ letters. FitsBy letters image u m) same g)

@@ -7,11 +7,12 @@ use Rattle.adf_blocks.specs.declared.layout.TheConstants.{SECONDARY_TYPE, ST_DIR
 use Rattle.adf_names.specs.declared.kind.Kind.{Kind}
 use Rattle.adf_base.specs.Words.{block}
 use Rattle.adf_volume.specs.Image.{word_in, name_of}
-use Rattle.adf_base.specs.Hash.{slot_of}
+use Rattle.adf_base.specs.Hash.{slot_by}
+use Rattle.adf_base.specs.declared.hash.Letters.{Letters}
 use Rattle.adf_volume.specs.Demands.{AllHold, FirstFails, demands_at}
 use Rattle.adf_volume.specs.Lists.{In}
 use Rattle.adf_blocks.specs.Forms.{first_cause}
-use Rattle.adf_blocks.specs.HeadBlock.{head_form}
+use Rattle.adf_blocks.specs.HeadBlock.{head_form_by}
 
 -- where no test fails, each demand holds
 pub all_demanded : (b : ℕ) (form : List (Bool × Cause)) → first_cause form ≡ None → AllHold (demands_at b form)
@@ -55,14 +56,15 @@ which t true e h = inl (eqb-true t ST_DIR e)
 which t false e h = inr (eqb-true t ST_FILE h)
 
 -- a header is a directory's or a file's
-pub head_type : (image : List ℕ) (kind : Kind) (b up s : ℕ) → AllHold (demands_at b (head_form kind b up s (block image b)))
+pub head_type : (letters : Letters) (image : List ℕ) (kind : Kind) (b up s : ℕ)
+    → AllHold (demands_at b (head_form_by letters kind b up s (block image b)))
     → (word_in image b SECONDARY_TYPE ≡ ST_DIR) ⊎ (word_in image b SECONDARY_TYPE ≡ ST_FILE)
-head_type image kind b up s h = grind (arith, common_steps, demanded, not, which, entry, and_parts)
+head_type letters image kind b up s h = grind (arith, common_steps, demanded, not, which, entry, and_parts)
 
-pub head_slot_is : (image : List ℕ) (kind : Kind) (b up s : ℕ) → AllHold (demands_at b (head_form kind b up s (block image b)))
-    → slot_of (name_of image b) ≡ s
+pub head_slot_is : (letters : Letters) (image : List ℕ) (kind : Kind) (b up s : ℕ)
+    → AllHold (demands_at b (head_form_by letters kind b up s (block image b))) → slot_by letters (name_of image b) ≡ s
 unfolding name_of
-head_slot_is image kind b up s h = grind (arith, common_steps, eqb-true, demanded)
+head_slot_is letters image kind b up s h = grind (arith, common_steps, eqb-true, demanded)
 
 -- a directory's header is no file's
 pub dir_not_file : (image : List ℕ) (b : ℕ) → word_in image b SECONDARY_TYPE ≡ ST_DIR → word_in image b SECONDARY_TYPE ≡ ST_FILE → ⊥

@@ -1,18 +1,19 @@
 -- The size, boot bytes and root of an image.
-use Rattle.std.proofs.Common.{Some, None, cond, slice_index, ◌≡◌, ◌<◌, ℕ, List, ◌∷◌, ◌++◌, Bool, true, false, length, refl, ap, arith}
-use Rattle.std.proofs.lemmas.Bool.{lt-ltb}
+use Rattle.std.proofs.Common.{Some, None, cond, slice_index, ◌≡◌, ◌<◌, ◌≤◌, ℕ, List, ◌∷◌, ◌++◌, Bool, true, false, length, refl, ap, arith}
+use Rattle.std.proofs.lemmas.Bool.{le-ltb, lt-ltb}
 use Rattle.std.proofs.lemmas.Bool.Decides.{nat_tests}
 use Rattle.std.proofs.lemmas.Grind.{common_steps}
 use Rattle.adf_base.specs.Words.{block}
+use Rattle.adf_base.specs.declared.hash.Letters.{Letters}
 use Rattle.adf_base.specs.declared.hash.Letters.TheVariants.{Ascii, International}
 use Rattle.adf_blocks.specs.declared.cause.Cause.{Cause, TheVariants.BadSize}
 use Rattle.adf_blocks.specs.Forms.{first_cause}
 use Rattle.adf_blocks.specs.RootBlock.{root_form}
-use Rattle.adf_volume.specs.Demands.{AllHold, FirstFails, IsSize, boot_demands, boot_form, root_demands}
+use Rattle.adf_volume.specs.Demands.{AllHold, FirstFails, IsSize, boot_demands, boot_demands_by, boot_form_by, root_demands}
 use Rattle.adf_volume.specs.Image.{letters_of, root_of}
 use Rattle.adf_volume.proofs.Lists.{all_append, fails_left, fails_right}
 use Rattle.adf_volume.proofs.FormDemands.{all_demanded, first_demanded}
-use Rattle.adf_volume.specs.Start.{IsBegun, is_image_len, start_form}
+use Rattle.adf_volume.specs.Start.{IsBegunBy, is_image_len, start_form_by}
 
 -- a size is whole blocks
 size_is : (image : List ℕ) → is_image_len (length image) ≡ true → IsSize image
@@ -22,31 +23,36 @@ size_not : (image : List ℕ) → is_image_len (length image) ≡ false → IsSi
 size_not image h k = grind (arith, common_steps, nat_tests)
 
 -- the size and the boot bytes are those of a volume
-pub boot_holds : (image : List ℕ) → first_cause (start_form image) ≡ None → AllHold (boot_demands image)
-boot_holds image h = go (is_image_len (length image)) refl h
+pub boot_holds : (letters : Letters) (image : List ℕ) → first_cause (start_form_by letters image) ≡ None → AllHold (boot_demands_by letters image)
+boot_holds letters image h = go (is_image_len (length image)) refl h
   where
-    go : (whole : Bool) → is_image_len (length image) ≡ whole → first_cause ((whole, BadSize) ∷ boot_form (block image 0)) ≡ None
-        → AllHold (boot_demands image)
-    go true w h = (size_is image w, all_demanded 0 (boot_form (block image 0)) h)
+    go : (whole : Bool) → is_image_len (length image) ≡ whole → first_cause ((whole, BadSize) ∷ boot_form_by letters (block image 0)) ≡ None
+        → AllHold (boot_demands_by letters image)
+    go true w h = (size_is image w, all_demanded 0 (boot_form_by letters (block image 0)) h)
     go false w h = cc
 
 -- the image begins as a volume
-pub begins : (image : List ℕ) → first_cause (start_form image) ≡ None → first_cause (root_form (block image (root_of image))) ≡ None → IsBegun image
-begins image h r = all_append (boot_demands image) (root_demands image (root_of image)) (boot_holds image h)
+pub begins : (letters : Letters) (image : List ℕ) → first_cause (start_form_by letters image) ≡ None
+    → first_cause (root_form (block image (root_of image))) ≡ None → IsBegunBy letters image
+begins letters image h r = all_append (boot_demands_by letters image) (root_demands image (root_of image)) (boot_holds letters image h)
     (all_demanded (root_of image) (root_form (block image (root_of image))) r)
 
 -- or not
-pub boot_fails : (image : List ℕ) (c : Cause) → first_cause (start_form image) ≡ Some c → FirstFails (boot_demands image) 0 c
-boot_fails image c h = grind (arith, common_steps, size_is, first_demanded, size_not)
+pub boot_fails : (letters : Letters) (image : List ℕ) (c : Cause) → first_cause (start_form_by letters image) ≡ Some c
+    → FirstFails (boot_demands_by letters image) 0 c
+boot_fails letters image c h = grind (arith, common_steps, size_is, first_demanded, size_not)
 
 -- or the size, the boot bytes or the root are those of no volume
-pub fails_start : (image : List ℕ) (c : Cause) → first_cause (start_form image) ≡ Some c
-    → FirstFails (boot_demands image ++ root_demands image (root_of image)) 0 c
-fails_start image c h = fails_left (boot_demands image) (root_demands image (root_of image)) 0 c (boot_fails image c h)
+pub fails_start : (letters : Letters) (image : List ℕ) (c : Cause) → first_cause (start_form_by letters image) ≡ Some c
+    → FirstFails (boot_demands_by letters image ++ root_demands image (root_of image)) 0 c
+fails_start letters image c h = fails_left (boot_demands_by letters image) (root_demands image (root_of image)) 0 c (boot_fails letters image c h)
 
-pub fails_root : (image : List ℕ) (c : Cause) → first_cause (start_form image) ≡ None → first_cause (root_form (block image (root_of image))) ≡ Some c
-    → FirstFails (boot_demands image ++ root_demands image (root_of image)) (root_of image) c
-fails_root image c h r = grind (arith, common_steps, fails_right, boot_holds, first_demanded)
+pub fails_root : (letters : Letters) (image : List ℕ) (c : Cause) → first_cause (start_form_by letters image) ≡ None
+    → first_cause (root_form (block image (root_of image))) ≡ Some c
+    → FirstFails (boot_demands_by letters image ++ root_demands image (root_of image)) (root_of image) c
+fails_root letters image c h r =
+    fails_right (boot_demands_by letters image) (root_demands image (root_of image)) (root_of image) c (boot_holds letters image h)
+    (first_demanded (root_of image) (root_form (block image (root_of image))) c r)
 
 -- the type is the fourth byte of the image
 pub type_byte : (image : List ℕ) → slice_index (block image 0) 3 ≡ slice_index image 3
@@ -58,7 +64,15 @@ type_byte _ = refl
 pub plain_type : (image : List ℕ) → AllHold (boot_demands image) → slice_index (block image 0) 3 < 2
 plain_type image h = grind (arith, common_steps, nat_tests)
 
--- and the letters are a to z
-pub plain_letters : (image : List ℕ) → AllHold (boot_demands image) → letters_of image ≡ Ascii
+-- where they have none by international letters, it is 2 or 3
+other_type : (image : List ℕ) → AllHold (boot_demands_by International image) → 2 ≤ slice_index (block image 0) 3
+other_type image h = grind (arith, common_steps, nat_tests)
+
+-- the letters by which they have none are those of the image
+pub own_letters : (letters : Letters) (image : List ℕ) → AllHold (boot_demands_by letters image) → letters_of image ≡ letters
 unfolding letters_of
-plain_letters image h = ap (λ low. cond low Ascii International) (lt-ltb (slice_index (block image 0) 3) 2 (plain_type image h))
+own_letters Ascii image h = ap (λ low. cond low Ascii International) (lt-ltb (slice_index (block image 0) 3) 2 (plain_type image h))
+own_letters International image h = ap (λ low. cond low Ascii International) (le-ltb (slice_index (block image 0) 3) 2 (other_type image h))
+
+pub plain_letters : (image : List ℕ) → AllHold (boot_demands image) → letters_of image ≡ Ascii
+plain_letters = own_letters Ascii

@@ -3,15 +3,16 @@ use Rattle.std.proofs.Common.{◌≡◌, ℕ, zero, suc, List, [], ◌∷◌, �
 use Rattle.std.proofs.lemmas.Grind.{common_steps}
 use Rattle.adf_volume.specs.Lists.{At, In, numbered}
 use Rattle.adf_blocks.specs.Sizes.{blocks}
-use Rattle.adf_base.specs.Hash.{slot_of}
+use Rattle.adf_base.specs.Hash.{slot_by}
+use Rattle.adf_base.specs.declared.hash.Letters.{Letters}
 use Rattle.adf_tree.specs.Tree.{Tree}
 use Rattle.adf_volume.specs.Layout.{Place, Layout, head_at, exts_at, datas_at, owned_from, owned}
 use Rattle.adf_volume.specs.declared.owner.Owner.{Owner}
 use Rattle.adf_volume.specs.declared.owner.Owner.TheVariants.{Root as TheRoot, Page as APage, MapExt as AMapExt, Head as AHead, Ext as AnExt, Data as AData}
-use Rattle.adf_volume.specs.Fits.{Fits}
+use Rattle.adf_volume.specs.Fits.{FitsBy}
 use Rattle.adf_volume.specs.Walk.{Role}
 use Rattle.adf_volume.specs.Walk.Role.{Root, Page, MapExt, Head, Ext, Data}
-use Rattle.adf_volume.specs.LayoutRoles.{owner_of, LayoutHas}
+use Rattle.adf_volume.specs.LayoutRoles.{owner_of, LayoutHasBy}
 use Rattle.adf_volume.proofs.Lists.{in_left, in_right, in_numbered, one_member, in_cases, numbered_at}
 use Rattle.adf_volume.proofs.Chains.{entry_at, entry_below, entry_some, place_at, one_place}
 
@@ -71,12 +72,12 @@ owned_stands n (q ∷ qs) o b (inr h) =
       | inr g ↦ later n q qs o b (owned_stands (suc n) qs o b g)
     ]
 
--- each entry has its place
-module _ (image : List ℕ) (t : Tree) (l : Layout) (long : length l.places ≡ length t.entries) where
-  places_owned : (o : Owner) (b : ℕ) → In (owned_from 1 l.places) (o, b) → In (owned image l) (o, b)
-  places_owned o b h = grind (arith, common_steps, in_right)
+places_owned : (image : List ℕ) (l : Layout) (o : Owner) (b : ℕ) → In (owned_from 1 l.places) (o, b) → In (owned image l) (o, b)
+places_owned image l o b h = grind (arith, common_steps, in_right)
 
-  pub part_owned : (r : Role) (b : ℕ) → LayoutHas image t l r b → In (owned image l) (owner_of r, b)
+-- each entry has its place
+module _ (letters : Letters) (image : List ℕ) (t : Tree) (l : Layout) (long : length l.places ≡ length t.entries) where
+  pub part_owned : (r : Role) (b : ℕ) → LayoutHasBy letters image t l r b → In (owned image l) (owner_of r, b)
   part_owned Root b h = inl (λ i. (TheRoot, h i))
   part_owned (Page k) b h =
       let z : 0 + k ≡ k = omega arith in
@@ -87,12 +88,12 @@ module _ (image : List ℕ) (t : Tree) (l : Layout) (long : length l.places ≡ 
       inr (in_right (numbered APage 0 l.pages) (numbered AMapExt 0 l.map_exts ++ owned_from 1 l.places) (AMapExt k, b)
       (in_left (numbered AMapExt 0 l.map_exts) (owned_from 1 l.places) (AMapExt k, b)
       (subst (λ k. In (numbered AMapExt 0 l.map_exts) (AMapExt k, b)) z (in_numbered AMapExt 0 l.map_exts k b h))))
-  part_owned (Head zero p s j) b h = absurd (entry_at t p s j 0 h.0).at
+  part_owned (Head zero p s j) b h = absurd (entry_at letters t p s j 0 h.0).at
   part_owned (Head (suc i) p s j) b h =
-      let e = entry_at t p s j (suc i) h.0 in
+      let e = entry_at letters t p s j (suc i) h.0 in
       let k : suc i ≤ length t.entries = entry_below t (suc i) e.entry e.at in
       let z : 1 + i ≡ suc i = omega arith in
-      places_owned (AHead (suc i)) b (subst (λ b. In (owned_from 1 l.places) (AHead (suc i), b)) h.1
+      places_owned image l (AHead (suc i)) b (subst (λ b. In (owned_from 1 l.places) (AHead (suc i), b)) h.1
       (subst (λ m. In (owned_from 1 l.places) (AHead m, head_at l.places i)) z (owned_head 1 l.places i (omega arith))))
   part_owned (Ext n zero) b h = absurd h
   part_owned (Ext zero (suc k)) b h = absurd h
@@ -102,7 +103,7 @@ module _ (image : List ℕ) (t : Tree) (l : Layout) (long : length l.places ≡ 
   part_owned (Data (suc i) (suc k)) b h = grind (arith, common_steps, owned_data 1 l.places i k b h, places_owned)
 
   -- each member is a part
-  pub owned_part : (o : Owner) (b : ℕ) → In (owned image l) (o, b) → (r : Role) × LayoutHas image t l r b × (o ≡ owner_of r)
+  pub owned_part : (o : Owner) (b : ℕ) → In (owned image l) (o, b) → (r : Role) × LayoutHasBy letters image t l r b × (o ≡ owner_of r)
   owned_part o b (inl e) = (Root, ap (λ p. p.1) e, sym (ap (λ p. p.0) e))
   owned_part o b (inr h) =
       elim (in_cases (numbered APage 0 l.pages) (numbered AMapExt 0 l.map_exts ++ owned_from 1 l.places) (o, b) h) [
@@ -113,28 +114,28 @@ module _ (image : List ℕ) (t : Tree) (l : Layout) (long : length l.places ≡ 
         ]
       ]
     where
-      stands : Stands 1 l.places o b → (r : Role) × LayoutHas image t l r b × (o ≡ owner_of r)
+      stands : Stands 1 l.places o b → (r : Role) × LayoutHasBy letters image t l r b × (o ≡ owner_of r)
       stands (in_head i u e z) =
           let x = entry_some t (suc i) (omega arith) (omega arith) in
-          let q = place_at t (suc i) x.0 x.1 in
+          let q = place_at letters t (suc i) x.0 x.1 in
           let y : 1 + i ≡ suc i = omega arith in
-          (Head (suc i) x.0.parent (slot_of x.0.name) q.0, (q.1, e), z ∙ ap AHead y)
+          (Head (suc i) x.0.parent (slot_by letters x.0.name) q.0, (q.1, e), z ∙ ap AHead y)
       stands (in_ext i k e z) = let y : 1 + i ≡ suc i = omega arith in (Ext (suc i) (suc k), e, z ∙ ap (λ m. AnExt m (suc k)) y)
       stands (in_data i k e z) = let y : 1 + i ≡ suc i = omega arith in (Data (suc i) (suc k), e, z ∙ ap (λ m. AData m (suc k)) y)
 
-module _ (image : List ℕ) (t : Tree) (l : Layout) (fit : Fits image t l) where
-  pub part_range : (r : Role) (b : ℕ) → LayoutHas image t l r b → (2 ≤ b) × (b < blocks image)
-  part_range r b h = fit.range (owner_of r) b (part_owned image t l fit.places r b h)
+module _ {letters : Letters} (image : List ℕ) (t : Tree) (l : Layout) (fit : FitsBy letters image t l) where
+  pub part_range : (r : Role) (b : ℕ) → LayoutHasBy letters image t l r b → (2 ≤ b) × (b < blocks image)
+  part_range r b h = fit.range (owner_of r) b (part_owned letters image t l fit.places r b h)
 
-  pub same_owner : (r q : Role) (b c : ℕ) → owner_of r ≡ owner_of q → LayoutHas image t l r b → LayoutHas image t l q c → r ≡ q
+  pub same_owner : (r q : Role) (b c : ℕ) → owner_of r ≡ owner_of q → LayoutHasBy letters image t l r b → LayoutHasBy letters image t l q c → r ≡ q
   same_owner Root Root b c e h k = refl
   same_owner (Page i) (Page j) b c e h k = cc
   same_owner (MapExt i) (MapExt j) b c e h k = cc
-  same_owner (Head n p s j) (Head m q u i) b c e h k = grind (arith, common_steps, one_place)
+  same_owner (Head n p s j) (Head m q u i) b c e h k = grind (arith, common_steps, one_place letters)
   same_owner (Ext n j) (Ext m i) b c e h k = cc
   same_owner (Data n j) (Data m i) b c e h k = cc
   same_owner _ _ b c e h k = cc
 
   -- a block is one part
-  pub one_part : (r q : Role) (b : ℕ) → LayoutHas image t l r b → LayoutHas image t l q b → r ≡ q
-  one_part r q b h k = grind (arith, common_steps, same_owner, one_member, part_owned)
+  pub one_part : (r q : Role) (b : ℕ) → LayoutHasBy letters image t l r b → LayoutHasBy letters image t l q b → r ≡ q
+  one_part r q b h k = grind (arith, common_steps, same_owner, one_member, part_owned letters)

@@ -2,13 +2,14 @@
 use Rattle.std.proofs.Common.{◌≡◌, ◌≢◌, ℕ, zero, suc, Bool, true, false, not, ◌&&◌, List, [], ◌∷◌, ◌++◌, inl, inr, refl, subst, arith, rules}
 use Rattle.std.proofs.lemmas.Bool.{and_parts}
 use Rattle.std.proofs.lemmas.Grind.{common_steps}
+use Rattle.adf_base.specs.declared.hash.Letters.{Letters}
 use Rattle.adf_names.specs.declared.kind.Kind.{Kind, TheVariants.Ofs, TheVariants.Ffs}
 use Rattle.adf_blocks.specs.declared.cause.Cause.{Cause, TheVariants.NoMemory}
-use Rattle.adf_volume.specs.Demands.{Demand, FirstFails, boot_demands, data_demands, root_demands}
+use Rattle.adf_volume.specs.Demands.{Demand, FirstFails, boot_demands_by, data_demands, root_demands}
 use Rattle.adf_volume.specs.Image.{root_of}
-use Rattle.adf_volume.specs.Walk.{FirstFault, Role, bitmap_demands, demands, form_demands, Walk}
+use Rattle.adf_volume.specs.Walk.{FirstFaultBy, Role, bitmap_demands, demands_by, form_demands_by, Walk}
 use Rattle.adf_volume.specs.Walk.Role.{Root, Page, MapExt, Head, Ext, Data}
-use Rattle.adf_volume.specs.Walk.FirstFault.{at_boot, at_due, at_bitmap}
+use Rattle.adf_volume.specs.Walk.FirstFaultBy.{at_boot, at_due, at_bitmap}
 
 -- no demand has the cause
 abbrev pub NoneHas : Cause → List Demand → Type 0
@@ -45,28 +46,29 @@ of_data : (image : List ℕ) (kind : Kind) (b h k n next : ℕ) → NoneHas NoMe
 of_data image Ofs b h k n next = none_of (data_demands image Ofs b h k n next) refl
 of_data image Ffs b h k n next = tt
 
-of_form : (image : List ℕ) (w : Walk) (r : Role) (b : ℕ) → NoneHas NoMemory (form_demands image w r b)
-of_form image w (Data n k) b = of_data image _ b _ k _ _
-of_form image w Root b = tt
-of_form image w (Page i) b = none_of (form_demands image w (Page i) b) refl
-of_form image w (MapExt j) b = tt
-of_form image w (Head n p s j) b = none_of (form_demands image w (Head n p s j) b) refl
-of_form image w (Ext n k) b = none_of (form_demands image w (Ext n k) b) refl
+of_form : (letters : Letters) (image : List ℕ) (w : Walk) (r : Role) (b : ℕ) → NoneHas NoMemory (form_demands_by letters image w r b)
+of_form letters image w (Data n k) b = of_data image _ b _ k _ _
+of_form letters image w Root b = tt
+of_form letters image w (Page i) b = none_of (form_demands_by letters image w (Page i) b) refl
+of_form letters image w (MapExt j) b = tt
+of_form letters image w (Head n p s j) b = none_of (form_demands_by letters image w (Head n p s j) b) refl
+of_form letters image w (Ext n k) b = none_of (form_demands_by letters image w (Ext n k) b) refl
 
-of_role : (image : List ℕ) (w : Walk) (r : Role) (a b : ℕ) → NoneHas NoMemory (demands image w r a b)
-of_role image w r a b = grind (arith, common_steps, none_append, of_form)
+of_role : (letters : Letters) (image : List ℕ) (w : Walk) (r : Role) (a b : ℕ) → NoneHas NoMemory (demands_by letters image w r a b)
+of_role letters image w r a b = grind (arith, common_steps, none_append, of_form letters)
 
 of_bitmap : (image : List ℕ) (w : Walk) (b n : ℕ) → NoneHas NoMemory (bitmap_demands image w b n)
 of_bitmap image w b zero = tt
 of_bitmap image w b (suc n) = ((λ e. cc), ((λ e. cc), of_bitmap image w (suc b) n))
 
-of_start : (image : List ℕ) → NoneHas NoMemory (boot_demands image ++ root_demands image (root_of image))
-of_start image = none_of (boot_demands image ++ root_demands image (root_of image)) refl
+of_start : (letters : Letters) (image : List ℕ) → NoneHas NoMemory (boot_demands_by letters image ++ root_demands image (root_of image))
+of_start letters image = none_of (boot_demands_by letters image ++ root_demands image (root_of image)) refl
 
-no_memory : (image : List ℕ) (b : ℕ) → FirstFault image b NoMemory → ⊥
-no_memory image b (at_boot h) = none_fails (boot_demands image ++ root_demands image (root_of image)) b NoMemory (of_start image) h
-no_memory image b (at_due _ w r a i v d h) = search (rules, none_fails, of_role)
-no_memory image b (at_bitmap _ w v whole h) = none_fails (bitmap_demands image w 2 _) b NoMemory (of_bitmap image w 2 _) h
+no_memory : {letters : Letters} (image : List ℕ) (b : ℕ) → FirstFaultBy letters image b NoMemory → ⊥
+no_memory {letters = letters} image b (at_boot h) =
+    none_fails (boot_demands_by letters image ++ root_demands image (root_of image)) b NoMemory (of_start letters image) h
+no_memory {letters = letters} image b (at_due _ w r a i v d h) = search (rules, none_fails, of_role letters)
+no_memory {letters = letters} image b (at_bitmap _ w v whole h) = none_fails (bitmap_demands image w 2 _) b NoMemory (of_bitmap image w 2 _) h
 
-pub fault_of_image : (image : List ℕ) (b : ℕ) (c : Cause) → FirstFault image b c → c ≢ NoMemory
-fault_of_image image b c h e = no_memory image b (subst (FirstFault image b) e h)
+pub fault_of_image : {letters : Letters} (image : List ℕ) (b : ℕ) (c : Cause) → FirstFaultBy letters image b c → c ≢ NoMemory
+fault_of_image {letters = letters} image b c h e = no_memory image b (subst (FirstFaultBy letters image b) e h)

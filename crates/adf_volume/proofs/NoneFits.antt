@@ -1,6 +1,7 @@
 -- If there is a first fault, nothing fits.
 use Rattle.std.proofs.Common.{ℕ, zero, suc, List, ◌+◌, ◌-◌, ◌/◌, ◌≤◌, arith}
 use Rattle.std.proofs.lemmas.Grind.{common_steps}
+use Rattle.adf_base.specs.declared.hash.Letters.{Letters}
 use Rattle.adf_blocks.specs.declared.layout.TheConstants.{PAGE_BITS}
 use Rattle.adf_blocks.specs.declared.cause.Cause.{Cause}
 use Rattle.adf_volume.specs.Lists.{In}
@@ -10,10 +11,10 @@ use Rattle.adf_volume.specs.Demands.{AllHold}
 use Rattle.adf_tree.specs.Tree.{Tree}
 use Rattle.adf_volume.specs.Layout.{Layout, owned}
 use Rattle.adf_volume.specs.declared.owner.Owner.{Owner}
-use Rattle.adf_volume.specs.Fits.{Fits, IsFree}
-use Rattle.adf_volume.specs.Walk.{IsAbsent, IsFreeIn, demands, bitmap_demands, IsWalk, IsWhole, FirstFault, Walk}
+use Rattle.adf_volume.specs.Fits.{FitsBy, IsFree}
+use Rattle.adf_volume.specs.Walk.{IsAbsent, IsFreeIn, demands_by, bitmap_demands, IsWalkBy, IsWhole, FirstFaultBy, Walk}
 use Rattle.adf_volume.specs.Walk.Role.{Page}
-use Rattle.adf_volume.specs.Walk.FirstFault.{at_boot, at_due, at_bitmap}
+use Rattle.adf_volume.specs.Walk.FirstFaultBy.{at_boot, at_due, at_bitmap}
 use Rattle.adf_volume.specs.LayoutRoles.{owner_of}
 use Rattle.adf_volume.proofs.Lists.{all_append, fails_not_all}
 use Rattle.adf_volume.proofs.LayoutRoles.{part_owned, owned_part}
@@ -21,12 +22,13 @@ use Rattle.adf_volume.proofs.WalkAgreement.{agreement, due_is_part}
 use Rattle.adf_volume.proofs.WalkCompleteness.{part_walked}
 use Rattle.adf_volume.proofs.Sizes.{size_low}
 
-module _ (image : List ℕ) (t : Tree) (l : Layout) (fit : Fits image t l) (w : Walk) (v : IsWalk image w) (whole : IsWhole image w) where
+module _ {letters : Letters} (image : List ℕ) (t : Tree) (l : Layout) (fit : FitsBy letters image t l) (w : Walk) (v : IsWalkBy letters image w)
+    (whole : IsWhole image w) where
   absent_of : (b : ℕ) → ((o : Owner) → In (owned image l) (o, b) → ⊥) → IsAbsent w b
-  absent_of b h q k = h (owner_of q) (part_owned image t l fit.places q b (agreement image t l fit w q b v k))
+  absent_of b h q k = h (owner_of q) (part_owned letters image t l fit.places q b (agreement image t l fit w q b v k))
 
   unowned_of : (b : ℕ) → IsAbsent w b → (o : Owner) → In (owned image l) (o, b) → ⊥
-  unowned_of b h o k = let r = owned_part image t l fit.places o b k in h r.0 (part_walked image t l fit w v whole r.0 b r.1)
+  unowned_of b h o k = let r = owned_part letters image t l fit.places o b k in h r.0 (part_walked image t l fit w v whole r.0 b r.1)
 
   free_of : (b : ℕ) → IsFree image l.pages b → IsFreeIn image w b
   free_of b h = (h.0, part_walked image t l fit w v whole (Page ((b - 2) / PAGE_BITS)) h.0 h.1, h.2)
@@ -40,8 +42,9 @@ module _ (image : List ℕ) (t : Tree) (l : Layout) (fit : Fits image t l) (w : 
       let f = fit.bitmap b lo (omega arith) in
       ((λ a. free_of b (f.1 (unowned_of b a))), ((λ a. absent_of b (f.0 (free_in_of b a))), bitmap_holds (suc b) n (omega arith) (omega arith)))
 
-pub none_fits : (image : List ℕ) (b : ℕ) (c : Cause) (t : Tree) (l : Layout) → FirstFault image b c → Fits image t l → ⊥
+pub none_fits : {letters : Letters} (image : List ℕ) (b : ℕ) (c : Cause) (t : Tree) (l : Layout) → FirstFaultBy letters image b c
+    → FitsBy letters image t l → ⊥
 none_fits image b c t l (at_boot h) fit = grind (arith, common_steps, fails_not_all, all_append)
-none_fits image b c t l (at_due _ w r a i v d h) fit =
-    fails_not_all (demands image w r a (word_in image a i)) b c h (due_is_part image t l fit w r a i v d).1
+none_fits {letters = letters} image b c t l (at_due _ w r a i v d h) fit =
+    fails_not_all (demands_by letters image w r a (word_in image a i)) b c h (due_is_part image t l fit w r a i v d).1
 none_fits image b c t l (at_bitmap _ w v whole h) fit = grind (arith, common_steps, size_low, fails_not_all, bitmap_holds)

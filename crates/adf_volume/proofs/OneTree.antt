@@ -3,16 +3,17 @@ use Rattle.std.proofs.Common.{◌≡◌, ℕ, suc, List, ◌<◌, length, refl, 
 use Rattle.std.proofs.lemmas.Grind.{common_steps}
 use Rattle.adf_blocks.specs.declared.layout.TheConstants.{SECONDARY_TYPE, ST_DIR, ST_FILE}
 use Rattle.adf_volume.specs.Lists.{At}
-use Rattle.adf_base.specs.Hash.{slot_of}
+use Rattle.adf_base.specs.Hash.{slot_by}
+use Rattle.adf_base.specs.declared.hash.Letters.{Letters}
 use Rattle.adf_volume.specs.Image.{name_of, word_in, meta_of}
 use Rattle.adf_tree.specs.declared.entry.Body.{Body, TheVariants.Dir, TheVariants.File}
 use Rattle.adf_tree.specs.declared.entry.Entry.{Entry}
 use Rattle.adf_tree.specs.Tree.{Tree}
 use Rattle.adf_volume.specs.Layout.{EntryAt, Place, Layout, at_node, exts_of, datas_of}
-use Rattle.adf_volume.specs.Fits.{Fits, BodyFits}
-use Rattle.adf_volume.specs.Walk.{Role, heads, IsWalk, IsWhole, Walk}
+use Rattle.adf_volume.specs.Fits.{FitsBy, BodyFits}
+use Rattle.adf_volume.specs.Walk.{Role, heads, IsWalkBy, IsWhole, Walk}
 use Rattle.adf_volume.specs.Walk.Role.{Page, MapExt, Head, Ext, Data}
-use Rattle.adf_volume.specs.LayoutRoles.{LayoutHas}
+use Rattle.adf_volume.specs.LayoutRoles.{LayoutHasBy}
 use Rattle.adf_volume.proofs.Lists.{at_below, at_some, same_list}
 use Rattle.adf_volume.proofs.Chains.{entry_at, entry_some, place_at}
 use Rattle.adf_volume.proofs.WalkAgreement.{agreement}
@@ -25,12 +26,12 @@ same_entry e f a b c d = λ i. record { parent = a i; name = b i; meta = c i; bo
 same_place : (q r : Place) → q.head ≡ r.head → q.exts ≡ r.exts → q.datas ≡ r.datas → q ≡ r
 same_place q r a b c = λ i. record { head = a i; exts = b i; datas = c i }
 
-module _ (image : List ℕ) (w : Walk) (v : IsWalk image w) (whole : IsWhole image w) (t : Tree) (l : Layout) (fit : Fits image t l)
-    (u : Tree) (m : Layout) (fit' : Fits image u m) where
-  carry : (r : Role) (b : ℕ) → LayoutHas image t l r b → LayoutHas image u m r b
+module _ {letters : Letters} (image : List ℕ) (w : Walk) (v : IsWalkBy letters image w) (whole : IsWhole image w)
+    (t : Tree) (l : Layout) (fit : FitsBy letters image t l) (u : Tree) (m : Layout) (fit' : FitsBy letters image u m) where
+  carry : (r : Role) (b : ℕ) → LayoutHasBy letters image t l r b → LayoutHasBy letters image u m r b
   carry r b h = agreement image u m fit' w r b v (part_walked image t l fit w v whole r b h)
 
-  back : (r : Role) (b : ℕ) → LayoutHas image u m r b → LayoutHas image t l r b
+  back : (r : Role) (b : ℕ) → LayoutHasBy letters image u m r b → LayoutHasBy letters image t l r b
   back r b h = agreement image t l fit w r b v (part_walked image u m fit' w v whole r b h)
 
   same_kind : t.kind ≡ u.kind
@@ -57,14 +58,14 @@ module _ (image : List ℕ) (w : Walk) (v : IsWalk image w) (whole : IsWhole ima
 
   pub same_head_block : (n : ℕ) (e : Entry) → EntryAt t n e → at_node image l n ≡ at_node image m n
   same_head_block n e h =
-      let q = place_at t n e h in
-      sym (carry (Head n e.parent (slot_of e.name) q.0) (at_node image l n) (q.1, refl)).1
+      let q = place_at letters t n e h in
+      sym (carry (Head n e.parent (slot_by letters e.name) q.0) (at_node image l n) (q.1, refl)).1
 
   pub entry_carried : (n : ℕ) (e : Entry) → EntryAt t n e → EntryAt u n e
   entry_carried n e h =
-      let q = place_at t n e h in
-      let pt = carry (Head n e.parent (slot_of e.name) q.0) (at_node image l n) (q.1, refl) in
-      let f = entry_at u e.parent (slot_of e.name) q.0 n pt.0 in
+      let q = place_at letters t n e h in
+      let pt = carry (Head n e.parent (slot_by letters e.name) q.0) (at_node image l n) (q.1, refl) in
+      let f = entry_at letters u e.parent (slot_by letters e.name) q.0 n pt.0 in
       let ef = fit.entries n e h in
       let ff = fit'.entries n f.entry f.at in
       let z : at_node image l n ≡ at_node image m n = sym pt.1 in
@@ -95,8 +96,8 @@ same_layout : (l m : Layout) → l.pages ≡ m.pages → l.map_exts ≡ m.map_ex
 same_layout l m a b c = λ i. record { pages = a i; map_exts = b i; places = c i }
 
 -- one image, one tree
-pub one_tree : (image : List ℕ) (w : Walk) (t u : Tree) (l m : Layout) → IsWalk image w → IsWhole image w → Fits image t l → Fits image u m
-    → (t ≡ u) × (l ≡ m)
+pub one_tree : {letters : Letters} (image : List ℕ) (w : Walk) (t u : Tree) (l m : Layout) → IsWalkBy letters image w → IsWhole image w
+    → FitsBy letters image t l → FitsBy letters image u m → (t ≡ u) × (l ≡ m)
 one_tree image w t u l m v whole f g = (
   same_tree t u (f.kind ∙ sym g.kind) (f.letters ∙ sym g.letters) (f.label ∙ sym g.label) (f.stamps ∙ sym g.stamps)
       (same_list t.entries u.entries (λ i e h. entry_carried image w v whole t l f u m g (suc i) e h)

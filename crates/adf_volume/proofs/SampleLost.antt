@@ -1,6 +1,6 @@
 -- The first fault of an empty volume with a lost block.
 -- Letters: q a role; a, b, c blocks; i, k words; p a directory's node; s a slot.
-use Rattle.std.proofs.Common.{◌≡◌, ◌≢◌, ℕ, zero, suc, [], ◌∷◌, inl, inr, ◌+◌, ◌-◌, ◌/◌, ◌%◌, ◌*◌, ◌<◌, ◌≤◌, refl, sym, ap, subst, ◌∙◌, arith}
+use Rattle.std.proofs.Common.{◌≡◌, ℕ, zero, suc, [], ◌∷◌, inl, inr, ◌+◌, ◌-◌, ◌%◌, ◌<◌, ◌≤◌, refl, sym, ap, subst, ◌∙◌, arith}
 use Rattle.adf_base.specs.Words.{block, word, words, with_bytes}
 use Rattle.adf_blocks.specs.PageBlock.{page_form}
 use Rattle.adf_blocks.specs.RootBlock.{root_form}
@@ -11,8 +11,8 @@ use Rattle.adf_volume.specs.Demands.{AllHold, FirstFails, demand, boot_demands, 
 use Rattle.adf_volume.specs.Samples.{one_lost}
 use Rattle.adf_volume.specs.Walk.{Asks, Before, FirstFault, Has, IsAbsent, IsDue, IsFreeIn, IsWalk, IsWhole, Lacks, NoCause, Role, TypedAt, bitmap_demands, second, Walk}
 use Rattle.adf_volume.specs.Walk.Role.{Root, Page, MapExt, Head, Ext, Data}
-use Rattle.adf_volume.specs.Walk.IsWalk.{start, step}
-use Rattle.adf_volume.specs.Walk.FirstFault.{at_bitmap}
+use Rattle.adf_volume.specs.Walk.IsWalkBy.{start, step}
+use Rattle.adf_volume.specs.Walk.FirstFaultBy.{at_bitmap}
 use Rattle.adf_volume.proofs.FormDemands.{all_demanded}
 use Rattle.adf_volume.proofs.Lists.{all_append}
 use Rattle.adf_volume.proofs.Zeros.{zero_at}

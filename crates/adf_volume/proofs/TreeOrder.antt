@@ -2,14 +2,15 @@
 use Rattle.std.proofs.Common.{◌≡◌, ℕ, zero, suc, ◌+◌, ◌-◌, ◌*◌, ◌<◌, ◌≤◌, ◌≢◌, length, sym, ap, subst, ◌∙◌, arith, slice_index_or}
 use Rattle.std.proofs.lemmas.Grind.{common_steps}
 use native.Mathlib.Decide.{dec_lt, ℕ_discrete}
-use Rattle.adf_base.specs.Hash.{slot_of}
+use Rattle.adf_base.specs.Hash.{slot_by}
+use Rattle.adf_base.specs.declared.hash.Letters.{Letters}
 use Rattle.adf_tree.specs.declared.entry.Entry.{Entry}
 use Rattle.adf_tree.specs.declared.entry.Body.TheVariants.{Dir}
-use Rattle.adf_tree.specs.Tree.{Tree, IsDir, IsTree, AreApart, rank}
+use Rattle.adf_tree.specs.Tree.{Tree, IsDir, IsTreeBy, AreApartBy, rank_by}
 use Rattle.adf_volume.specs.Lists.{At}
 use Rattle.adf_volume.specs.Layout.{EntryAt}
 use Rattle.adf_volume.proofs.Lists.{at_fun, at_below, at_some, at_index_or}
-use Rattle.adf_tree.proofs.TreeInvariant.{slot_small}
+use Rattle.adf_tree.proofs.TreeInvariant.{slot_small_by}
 
 -- node n is the root, or an entry that is a directory
 abbrev pub DirNode : Tree → ℕ → Type 0
@@ -21,19 +22,19 @@ abbrev pub HasParents : Tree → Type 0
 HasParents t = (n : ℕ) (e : Entry) → EntryAt t n e → (e.parent < n) × DirNode t e.parent
 
 -- entries stand in the order of their directories, and in one directory in the order of their slots
-abbrev pub HasOrder : Tree → Type 0
-HasOrder t = (n m : ℕ) (e f : Entry) → EntryAt t n e → EntryAt t m f → n < m
-    → (e.parent ≤ f.parent) × (e.parent ≡ f.parent → slot_of e.name ≤ slot_of f.name)
+abbrev pub HasOrder : Letters → Tree → Type 0
+HasOrder letters t = (n m : ℕ) (e f : Entry) → EntryAt t n e → EntryAt t m f → n < m
+    → (e.parent ≤ f.parent) × (e.parent ≡ f.parent → slot_by letters e.name ≤ slot_by letters f.name)
 
 -- no two entries of a directory have equal names
-abbrev pub HasNames : Tree → Type 0
-HasNames t = (n m : ℕ) (e f : Entry) → EntryAt t n e → EntryAt t m f → n ≢ m → AreApart e f
+abbrev pub HasNames : Letters → Tree → Type 0
+HasNames letters t = (n m : ℕ) (e f : Entry) → EntryAt t n e → EntryAt t m f → n ≢ m → AreApartBy letters e f
 
 -- what holds of the entries of a tree, by their numbers
-pub record Ordered (t : Tree) : Type 0 where
+pub record Ordered (letters : Letters) (t : Tree) : Type 0 where
   pub parents : HasParents t
-  pub order : HasOrder t
-  pub names : HasNames t
+  pub order : HasOrder letters t
+  pub names : HasNames letters t
 
 pub dir_node : (t : Tree) (p : ℕ) → IsDir t.entries p → DirNode t p
 dir_node t zero h = tt
@@ -64,35 +65,39 @@ rank_below p q s u h a b = (omega arith, λ e. omega arith)
 rank_up : (p q s u : ℕ) → p ≤ q → (p ≡ q → s ≤ u) → s < 72 → 72 * p + s ≤ 72 * q + u
 rank_up p q s u h f a = elim (ℕ_discrete p q) [ yes e ↦ let k : s ≤ u = f e in omega arith | no n ↦ omega arith ]
 
-module _ (t : Tree) (v : IsTree t.entries) where
+module _ {letters : Letters} (t : Tree) (v : IsTreeBy letters t.entries) where
   parents_of : HasParents t
   parents_of zero e h = absurd h
-  parents_of (suc i) e h = grind (arith, common_steps, at_below t.entries i e h, at_index_or t.entries i e e h, dir_node)
+  parents_of (suc i) e h =
+      let l : i < length t.entries = at_below t.entries i e h in
+      let z : slice_index_or t.entries i e ≡ e = at_index_or t.entries i e e h in
+      let p : e.parent ≤ i = subst (λ (f : Entry). f.parent ≤ i) z (v.parents i e l) in
+      (omega arith, dir_node t e.parent (subst (λ (f : Entry). IsDir t.entries f.parent) z (v.dirs i e l)))
 
-  order_of : HasOrder t
+  order_of : HasOrder letters t
   order_of zero m e f h k lt = absurd h
   order_of (suc i) zero e f h k lt = absurd k
   order_of (suc i) (suc j) e f h k lt =
       let l : j < length t.entries = at_below t.entries j f k in
-      let x : rank (slice_index_or t.entries i e) ≤ rank (slice_index_or t.entries j e) = v.order i j e (omega arith) l in
-      let y : rank e ≤ rank f =
-      subst (λ (g : Entry). rank e ≤ rank g) (at_index_or t.entries j f e k)
-      (subst (λ (g : Entry). rank g ≤ rank (slice_index_or t.entries j e)) (at_index_or t.entries i e e h) x) in
-      rank_below e.parent f.parent (slot_of e.name) (slot_of f.name) y (slot_small e.name) (slot_small f.name)
+      let x : rank_by letters (slice_index_or t.entries i e) ≤ rank_by letters (slice_index_or t.entries j e) = v.order i j e (omega arith) l in
+      let y : rank_by letters e ≤ rank_by letters f =
+      subst (λ (g : Entry). rank_by letters e ≤ rank_by letters g) (at_index_or t.entries j f e k)
+      (subst (λ (g : Entry). rank_by letters g ≤ rank_by letters (slice_index_or t.entries j e)) (at_index_or t.entries i e e h) x) in
+      rank_below e.parent f.parent (slot_by letters e.name) (slot_by letters f.name) y (slot_small_by letters e.name) (slot_small_by letters f.name)
 
-  apart : (i j : ℕ) (e f : Entry) → At t.entries i e → At t.entries j f → i < j → AreApart e f
+  apart : (i j : ℕ) (e f : Entry) → At t.entries i e → At t.entries j f → i < j → AreApartBy letters e f
   apart i j e f h k lt = grind (arith, common_steps, at_below t.entries j f k, at_index_or t.entries j f e k, at_index_or t.entries i e e h)
 
-  names_of : HasNames t
+  names_of : HasNames letters t
   names_of zero m e f h k ne p = absurd h
   names_of (suc i) zero e f h k ne p = absurd k
   names_of (suc i) (suc j) e f h k ne p = grind (arith, common_steps, apart)
 
-  pub ordered : Ordered t
+  pub ordered : Ordered letters t
   ordered = record { parents = parents_of; order = order_of; names = names_of }
 
-pub is_tree_from : (t : Tree) → Ordered t → IsTree t.entries
-is_tree_from t o = record {
+pub is_tree_from : {letters : Letters} (t : Tree) → Ordered letters t → IsTreeBy letters t.entries
+is_tree_from {letters = letters} t o = record {
   parents = (λ i d l.
       let e = at_some t.entries i l in
       let x : e.0.parent < suc i = (o.parents (suc i) e.0 e.1).0 in
@@ -103,22 +108,24 @@ is_tree_from t o = record {
   order = (λ i j d le l.
       let e = at_some t.entries i (omega arith) in
       let f = at_some t.entries j l in
-      subst (λ (g : Entry). rank g ≤ rank (slice_index_or t.entries j d)) (sym (at_index_or t.entries i e.0 d e.1))
-      (subst (λ (g : Entry). rank e.0 ≤ rank g) (sym (at_index_or t.entries j f.0 d f.1)) (rises i j e.0 f.0 e.1 f.1 le)));
+      subst (λ (g : Entry). rank_by letters g ≤ rank_by letters (slice_index_or t.entries j d)) (sym (at_index_or t.entries i e.0 d e.1))
+      (subst (λ (g : Entry). rank_by letters e.0 ≤ rank_by letters g) (sym (at_index_or t.entries j f.0 d f.1)) (rises i j e.0 f.0 e.1 f.1 le)));
   names = (λ i j d lt l.
       let e = at_some t.entries i (omega arith) in
       let f = at_some t.entries j l in
-      subst (λ (g : Entry). AreApart g (slice_index_or t.entries j d)) (sym (at_index_or t.entries i e.0 d e.1))
-      (subst (λ (g : Entry). AreApart e.0 g) (sym (at_index_or t.entries j f.0 d f.1)) (o.names (suc i) (suc j) e.0 f.0 e.1 f.1 (omega arith))));
+      subst (λ (g : Entry). AreApartBy letters g (slice_index_or t.entries j d)) (sym (at_index_or t.entries i e.0 d e.1))
+      (subst (λ (g : Entry). AreApartBy letters e.0 g) (sym (at_index_or t.entries j f.0 d f.1))
+      (o.names (suc i) (suc j) e.0 f.0 e.1 f.1 (omega arith))));
 }
   where
-    rises : (i j : ℕ) (e f : Entry) → At t.entries i e → At t.entries j f → i ≤ j → rank e ≤ rank f
+    rises : (i j : ℕ) (e f : Entry) → At t.entries i e → At t.entries j f → i ≤ j → rank_by letters e ≤ rank_by letters f
     rises i j e f h k le =
         elim (dec_lt i j) [
           | yes lt ↦
-              let x = o.order (suc i) (suc j) e f h k (omega arith) in rank_up e.parent f.parent (slot_of e.name) (slot_of f.name) x.0 x.1
-              (slot_small e.name)
+              let x = o.order (suc i) (suc j) e f h k (omega arith) in
+              rank_up e.parent f.parent (slot_by letters e.name) (slot_by letters f.name) x.0 x.1
+              (slot_small_by letters e.name)
           | no lt ↦
               let z : e ≡ f = at_fun t.entries i e f h (subst (λ m. At t.entries m f) (omega arith) k) in
-              subst (λ (g : Entry). rank e ≤ rank g) z (omega arith)
+              subst (λ (g : Entry). rank_by letters e ≤ rank_by letters g) z (omega arith)
         ]

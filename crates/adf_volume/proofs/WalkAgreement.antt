@@ -5,21 +5,22 @@ use Rattle.adf_blocks.specs.declared.layout.TheConstants.{EXTENSION, FIRST_SLOT,
 use Rattle.adf_volume.specs.Lists.{At}
 use Rattle.adf_blocks.specs.Sizes.{blocks, count, pages_needed}
 use Rattle.adf_volume.specs.Image.{root_of, name_of, word_in, kind_of, table_word}
-use Rattle.adf_base.specs.Hash.{slot_of}
-use Rattle.adf_names.specs.Texts.{uppers}
+use Rattle.adf_base.specs.Hash.{slot_by}
+use Rattle.adf_base.specs.declared.hash.Letters.{Letters}
+use Rattle.adf_names.specs.Texts.{uppers_by}
 use Rattle.adf_volume.specs.Demands.{AllHold, ext_demands}
 use Rattle.adf_tree.specs.declared.entry.Body.{Body, TheVariants.Dir, TheVariants.File}
 use Rattle.adf_tree.specs.declared.entry.Entry.{Entry}
 use Rattle.adf_tree.specs.Tree.{Tree}
-use Rattle.adf_volume.specs.Layout.{EntryAt, IsFile, chain_nodes, Layout, at_node, exts_of, datas_of}
+use Rattle.adf_volume.specs.Layout.{EntryAt, IsFile, chain_nodes_by, Layout, at_node, exts_of, datas_of}
 use Rattle.adf_volume.proofs.Gathered.{asked_file, ext_below, member_is, node_is, root_in, root_is}
 use Rattle.adf_volume.proofs.TreeOrder.{DirNode, ordered, is_dir}
-use Rattle.adf_volume.specs.Fits.{Fits, FileFits, BodyFits, TableAt}
+use Rattle.adf_volume.specs.Fits.{FitsBy, FileFits, BodyFits, TableAt}
 use Rattle.adf_volume.specs.Walk.{Role, Before, Has, heads, HeadAt, DirAt, FileAt, MemberAt, NamesPage, data_count, Asks, Lacks, IsDue, ext_count, Enough, Walk}
-use Rattle.adf_volume.specs.Walk.{NewName, form_demands, node_block, member_block, next_data, NoCause, IsWalk}
+use Rattle.adf_volume.specs.Walk.{NewNameBy, form_demands_by, node_block, member_block, next_data, NoCauseBy, IsWalkBy}
 use Rattle.adf_volume.specs.Walk.Role.{Root, Page, MapExt, Head, Ext, Data}
-use Rattle.adf_volume.specs.Walk.IsWalk.{start, step}
-use Rattle.adf_volume.specs.LayoutRoles.{LayoutHas}
+use Rattle.adf_volume.specs.Walk.IsWalkBy.{start, step}
+use Rattle.adf_volume.specs.LayoutRoles.{LayoutHasBy}
 use Rattle.adf_volume.proofs.Images.{map_exts_high}
 use Rattle.adf_volume.proofs.Lists.{at_fun, at_below, at_some, at_before, at_map, at_unmap, spelled_first, spelled_next, spelled_word, spelled_link}
 use Rattle.adf_volume.proofs.Lists.{all_append, at_index, index_past}
@@ -31,9 +32,9 @@ use Rattle.std.proofs.lemmas.Bool.{ltb-false, ltb-true}
 use Rattle.std.proofs.lemmas.Grind.{common_steps}
 use Rattle.adf_volume.proofs.Places.{exts_below}
 use Rattle.adf_volume.proofs.FormDemands.{dir_not_file}
-use Rattle.adf_tree.proofs.TreeInvariant.{slot_small}
+use Rattle.adf_tree.proofs.TreeInvariant.{slot_small_by}
 
-module _ (image : List ℕ) (t : Tree) (l : Layout) (fit : Fits image t l) where
+module _ {letters : Letters} (image : List ℕ) (t : Tree) (l : Layout) (fit : FitsBy letters image t l) where
   -- a header whose secondary type says directory is a directory's
   pub dir_of : (n : ℕ) (e : Entry) (b : Body) → b ≡ e.body
       → BodyFits image t.kind l n (at_node image l n) b → word_in image (at_node image l n) SECONDARY_TYPE ≡ ST_DIR → e.body ≡ Dir
@@ -60,12 +61,12 @@ module _ (image : List ℕ) (t : Tree) (l : Layout) (fit : Fits image t l) where
   fit_file {n = n} f = fit.files n f.entry f.bytes f.at f.body
 
   -- the walk so far goes along the tree
-  module _ (w : Walk) (v : IsWalk image w) (ag : (r : Role) (b : ℕ) → Has w r b → LayoutHas image t l r b) where
+  module _ (w : Walk) (v : IsWalkBy letters image w) (ag : (r : Role) (b : ℕ) → Has w r b → LayoutHasBy letters image t l r b) where
     pub dir_agrees : (p a : ℕ) → DirAt image w p a → DirNode t p × (at_node image l p ≡ a)
     dir_agrees zero a h = (tt, root_is image (of_walk image v) a h)
     dir_agrees (suc i) a h =
         let q = ag (head_role h.header) a h.header.has in
-        let e = entry_at t h.header.parent h.header.slot h.header.place (suc i) q.0 in
+        let e = entry_at letters t h.header.parent h.header.slot h.header.place (suc i) q.0 in
         let d : word_in image (at_node image l (suc i)) SECONDARY_TYPE ≡ ST_DIR = ap (λ b. word_in image b SECONDARY_TYPE) q.1 ∙ h.type in
         ((e.entry, e.at, dir_of (suc i) e.entry e.entry.body refl (fit.entries (suc i) e.entry e.at).body d), q.1)
 
@@ -79,7 +80,7 @@ module _ (image : List ℕ) (t : Tree) (l : Layout) (fit : Fits image t l) where
         }
     file_agrees n a h =
         let q = ag (head_role h.header) a h.header.has in
-        let e = entry_at t h.header.parent h.header.slot h.header.place n q.0 in
+        let e = entry_at letters t h.header.parent h.header.slot h.header.place n q.0 in
         let d : word_in image (at_node image l n) SECONDARY_TYPE ≡ ST_FILE = ap (λ b. word_in image b SECONDARY_TYPE) q.1 ∙ h.type in
         let f = file_of n e.entry e.entry.body refl (fit.entries n e.entry e.at).body d in
         let long : length f.0 ≡ word_in image a SIZE = f.2 ∙ ap (λ b. word_in image b SIZE) q.1 in
@@ -91,22 +92,22 @@ module _ (image : List ℕ) (t : Tree) (l : Layout) (fit : Fits image t l) where
         }
 
     -- a node of the tree with a number that the walk has stands in the walk at its place
-    pub has_node : (p s j n : ℕ) → At (chain_nodes t p s) j n → n ≤ heads w → (b : ℕ) × Has w (Head n p s j) b
+    pub has_node : (p s j n : ℕ) → At (chain_nodes_by letters t p s) j n → n ≤ heads w → (b : ℕ) × Has w (Head n p s j) b
     has_node p s j n h u =
-        let e = entry_at t p s j n h in
+        let e = entry_at letters t p s j n h in
         let x = numbered image v n e.low u in
         let k = x.1 in
         let q = ag (head_role k) x.0 k.has in
-        let z = one_place t k.parent k.slot k.place p s j n q.0 h in
+        let z = one_place letters t k.parent k.slot k.place p s j n q.0 h in
         let z0 : k.parent ≡ p = z.0 in let z1 : k.slot ≡ s = z.1 in let z2 : k.place ≡ j = z.2 in
         let y : head_role k ≡ Head n p s j = cc in
         (x.0, subst (λ r. Has w r x.0) y k.has)
 
     pub has_head : (n : ℕ) (e : Entry) → EntryAt t n e → n ≤ heads w → HeadAt w n (at_node image l n)
     has_head n e h u =
-        let q = place_at t n e h in
-        let k = has_node e.parent (slot_of e.name) q.0 n q.1 u in
-        let g : HeadAt w n k.0 = head_at n e.parent (slot_of e.name) q.0 k.0 k.1 in
+        let q = place_at letters t n e h in
+        let k = has_node e.parent (slot_by letters e.name) q.0 n q.1 u in
+        let g : HeadAt w n k.0 = head_at n e.parent (slot_by letters e.name) q.0 k.0 k.1 in
         subst (HeadAt w n) (sym (ag (head_role g) k.0 k.1).1) g
 
     pub has_dir : (p : ℕ) → p ≤ heads w → DirNode t p → DirAt image w p (at_node image l p)
@@ -115,57 +116,57 @@ module _ (image : List ℕ) (t : Tree) (l : Layout) (fit : Fits image t l) where
         record { header = has_head (suc i) d.0 d.1 u; type = dir_word (suc i) d.0 d.0.body refl (fit.entries (suc i) d.0 d.1).body d.2 }
 
     -- the chain in which a node stands is a directory's before it, and its slot is one of the table
-    chain_of : (p s j n : ℕ) → At (chain_nodes t p s) j n → DirNode t p × (p < n) × (s < SLOTS)
+    chain_of : (p s j n : ℕ) → At (chain_nodes_by letters t p s) j n → DirNode t p × (p < n) × (s < SLOTS)
     chain_of p s j n h =
-        let e = entry_at t p s j n h in
+        let e = entry_at letters t p s j n h in
         let up = (ordered t fit.tree).parents n e.entry e.at in
-        (subst (DirNode t) e.parent up.1, subst (λ p. p < n) e.parent up.0, subst (λ s. s < SLOTS) e.slot (slot_small e.entry.name))
+        (subst (DirNode t) e.parent up.1, subst (λ p. p < n) e.parent up.0, subst (λ s. s < SLOTS) e.slot (slot_small_by letters e.entry.name))
 
     -- the next node of the tree is asked for
-    pub asks_next : (p s j n : ℕ) → At (chain_nodes t p s) j n → n ≡ suc (heads w) → (a i : ℕ) × Asks image w (Head n p s j) a i
+    pub asks_next : (p s j n : ℕ) → At (chain_nodes_by letters t p s) j n → n ≡ suc (heads w) → (a i : ℕ) × Asks image w (Head n p s j) a i
     asks_next p s zero n h u =
         let g = chain_of p s 0 n h in
         let u1 : p < n = g.1 in
         let sp = fit.chains p s (is_dir t p g.0) g.2 in
         let named : word_in image (at_node image l p) (FIRST_SLOT + s) ≡ at_node image l n =
         spelled_word (λ b. word_in image b NEXT_IN_CHAIN) (word_in image (at_node image l p) (FIRST_SLOT + s))
-        (map (at_node image l) (chain_nodes t p s)) (at_node image l n)
-        sp (at_map (at_node image l) (chain_nodes t p s) 0 n h) in
+        (map (at_node image l) (chain_nodes_by letters t p s)) (at_node image l n)
+        sp (at_map (at_node image l) (chain_nodes_by letters t p s) 0 n h) in
         let r = part_range image t l fit (Head n p s 0) (at_node image l n) (h, refl) in
         (at_node image l p, 6 + s, (u, g.2, has_dir p (omega arith) g.0, refl, (λ z. omega (arith, r.0, sym named ∙ z))))
     asks_next p s (suc j) n h u =
-        let b = at_before (chain_nodes t p s) j n h in
+        let b = at_before (chain_nodes_by letters t p s) j n h in
         let m : ℕ = b.0 in
         let g = chain_of p s (suc j) n h in
         let sp = fit.chains p s (is_dir t p g.0) g.2 in
-        let less : m < n = chain_rises 1 t.entries p s j (suc j) m n b.1 h (omega arith) in
+        let less : m < n = chain_rises letters 1 t.entries p s j (suc j) m n b.1 h (omega arith) in
         let k = has_node p s j m b.1 (omega arith) in
         let z : at_node image l m ≡ k.0 = (ag (Head m p s j) k.0 k.1).1 in
         let named : word_in image (at_node image l m) NEXT_IN_CHAIN ≡ at_node image l n =
         spelled_link (λ b. word_in image b NEXT_IN_CHAIN) (word_in image (at_node image l p) (FIRST_SLOT + s))
-        (map (at_node image l) (chain_nodes t p s)) j (at_node image l m) (at_node image l n) sp
-        (at_map (at_node image l) (chain_nodes t p s) j m b.1) (at_map (at_node image l) (chain_nodes t p s) (suc j) n h) in
+        (map (at_node image l) (chain_nodes_by letters t p s)) j (at_node image l m) (at_node image l n) sp
+        (at_map (at_node image l) (chain_nodes_by letters t p s) j m b.1) (at_map (at_node image l) (chain_nodes_by letters t p s) (suc j) n h) in
         let r = part_range image t l fit (Head n p s (suc j)) (at_node image l n) (h, refl) in
         (k.0, NEXT_IN_CHAIN, (u, (m, k.1), refl, (λ q. omega (arith, r.0, sym named ∙ (ap (λ b. word_in image b NEXT_IN_CHAIN) z ∙ q)))))
 
     -- and the walk lacks it
-    pub next_lacks : (p s j n : ℕ) → At (chain_nodes t p s) j n → n ≡ suc (heads w) → Lacks w (Head n p s j)
+    pub next_lacks : (p s j n : ℕ) → At (chain_nodes_by letters t p s) j n → n ≡ suc (heads w) → Lacks w (Head n p s j)
     next_lacks p s j n h u r b has same = grind (arith, common_steps, head_key, at_fun, number_of, head_at)
 
     -- what is due in a chain is the tree's next node
-    number_agrees : (p s j n m a i : ℕ) → IsDue image w (Head n p s j) a i → n ≡ suc (heads w) → At (chain_nodes t p s) j m → m ≡ n
+    number_agrees : (p s j n m a i : ℕ) → IsDue image w (Head n p s j) a i → n ≡ suc (heads w) → At (chain_nodes_by letters t p s) j m → m ≡ n
     number_agrees p s j n m a i d u h =
         let above : m ≤ heads w → ⊥ = (λ k. let x = has_node p s j m h k in d.lacks (Head m p s j) x.0 x.1 (refl, refl, refl)) in
         let below : n < m → ⊥ = (λ y.
-        let top = entry_at t p s j m h in
+        let top = entry_at letters t p s j m h in
         let lim : m ≤ length t.entries = entry_below t m top.entry top.at in
         let e = entry_some t n (omega arith) (omega arith) in
-        let q = place_at t n e.0 e.1 in
-        let ask = asks_next e.0.parent (slot_of e.0.name) q.0 n q.1 u in
-        let lack = next_lacks e.0.parent (slot_of e.0.name) q.0 n q.1 u in
-        let bef : Before (Head n e.0.parent (slot_of e.0.name) q.0) (Head n p s j) =
-        sorted_places t (ordered t fit.tree) e.0.parent (slot_of e.0.name) q.0 p s j n m n n q.1 h (omega arith) in
-        d.least (Head n e.0.parent (slot_of e.0.name) q.0) ask.0 ask.1 ask.2 lack bef) in
+        let q = place_at letters t n e.0 e.1 in
+        let ask = asks_next e.0.parent (slot_by letters e.0.name) q.0 n q.1 u in
+        let lack = next_lacks e.0.parent (slot_by letters e.0.name) q.0 n q.1 u in
+        let bef : Before (Head n e.0.parent (slot_by letters e.0.name) q.0) (Head n p s j) =
+        sorted_places letters t (ordered t fit.tree) e.0.parent (slot_by letters e.0.name) q.0 p s j n m n n q.1 h (omega arith) in
+        d.least (Head n e.0.parent (slot_by letters e.0.name) q.0) ask.0 ask.1 ask.2 lack bef) in
         omega arith
 
     -- the members of a file's table agree
@@ -192,7 +193,7 @@ module _ (image : List ℕ) (t : Tree) (l : Layout) (fit : Fits image t l) where
         subst (At l.pages k) (sym z) b.1
 
     -- what is asked for is a part, by its number in the tree
-    pub asked_part : (r : Role) (a i : ℕ) → Asks image w r a i → (m : ℕ) × LayoutHas image t l (renumbered m r) (word_in image a i)
+    pub asked_part : (r : Role) (a i : ℕ) → Asks image w r a i → (m : ℕ) × LayoutHasBy letters image t l (renumbered m r) (word_in image a i)
     asked_part Root a i q = absurd q
     asked_part (Page k) a i q = (0, page_part k a i q.0 q.1)
     asked_part (MapExt zero) a i q =
@@ -208,10 +209,10 @@ module _ (image : List ℕ) (t : Tree) (l : Layout) (fit : Fits image t l) where
         let z : word_in image (at_node image l p) (FIRST_SLOT + s) ≡ word_in image a i =
         ap (λ a. word_in image a (FIRST_SLOT + s)) g.1 ∙ ap (word_in image a) (sym q.3) in
         let sp = fit.chains p s (is_dir t p g.0) q.1 in
-        let x : At (map (at_node image l) (chain_nodes t p s)) 0 (word_in image (at_node image l p) (FIRST_SLOT + s)) =
+        let x : At (map (at_node image l) (chain_nodes_by letters t p s)) 0 (word_in image (at_node image l p) (FIRST_SLOT + s)) =
         spelled_first (λ b. word_in image b NEXT_IN_CHAIN) (word_in image (at_node image l p) (FIRST_SLOT + s))
-        (map (at_node image l) (chain_nodes t p s)) sp (λ y. q.4 (sym z ∙ y)) in
-        let m = at_unmap (at_node image l) (chain_nodes t p s) 0 (word_in image (at_node image l p) (FIRST_SLOT + s)) x in
+        (map (at_node image l) (chain_nodes_by letters t p s)) sp (λ y. q.4 (sym z ∙ y)) in
+        let m = at_unmap (at_node image l) (chain_nodes_by letters t p s) 0 (word_in image (at_node image l p) (FIRST_SLOT + s)) x in
         (m.0, (m.1, m.2 ∙ z))
     asked_part (Head n p s (suc j)) a i q =
         let y = q.1 in
@@ -220,11 +221,11 @@ module _ (image : List ℕ) (t : Tree) (l : Layout) (fit : Fits image t l) where
         let sp = fit.chains p s (is_dir t p g.0) g.2 in
         let z : word_in image (at_node image l y.0) NEXT_IN_CHAIN ≡ word_in image a i =
         ap (λ a. word_in image a NEXT_IN_CHAIN) pt.1 ∙ ap (word_in image a) (sym q.2) in
-        let x : At (map (at_node image l) (chain_nodes t p s)) (suc j) (word_in image (at_node image l y.0) NEXT_IN_CHAIN) =
+        let x : At (map (at_node image l) (chain_nodes_by letters t p s)) (suc j) (word_in image (at_node image l y.0) NEXT_IN_CHAIN) =
         spelled_next (λ b. word_in image b NEXT_IN_CHAIN) (word_in image (at_node image l p) (FIRST_SLOT + s))
-        (map (at_node image l) (chain_nodes t p s)) j (at_node image l y.0) sp
-        (at_map (at_node image l) (chain_nodes t p s) j y.0 pt.0) (λ k. q.3 (sym z ∙ k)) in
-        let m = at_unmap (at_node image l) (chain_nodes t p s) (suc j) (word_in image (at_node image l y.0) NEXT_IN_CHAIN) x in
+        (map (at_node image l) (chain_nodes_by letters t p s)) j (at_node image l y.0) sp
+        (at_map (at_node image l) (chain_nodes_by letters t p s) j y.0 pt.0) (λ k. q.3 (sym z ∙ k)) in
+        let m = at_unmap (at_node image l) (chain_nodes_by letters t p s) (suc j) (word_in image (at_node image l y.0) NEXT_IN_CHAIN) x in
         (m.0, (m.1, m.2 ∙ z))
     asked_part (Ext n zero) a i q = absurd q
     asked_part (Ext n (suc zero)) a i q =
@@ -253,11 +254,11 @@ module _ (image : List ℕ) (t : Tree) (l : Layout) (fit : Fits image t l) where
         (0, subst (At (datas_of l n) k) (sym z) b.1)
 
     -- agreement, one step: what is due is a part
-    due_part : (r : Role) (a i : ℕ) → IsDue image w r a i → LayoutHas image t l r (word_in image a i)
+    due_part : (r : Role) (a i : ℕ) → IsDue image w r a i → LayoutHasBy letters image t l r (word_in image a i)
     due_part (Head n p s j) a i d =
         let x = asked_part (Head n p s j) a i d.asked in
         let e : x.0 ≡ n = number_agrees p s j n x.0 a i d (asks_number image w n p s j a i d.asked) x.1.0 in
-        (subst (At (chain_nodes t p s) j) e x.1.0, ap (at_node image l) (sym e) ∙ x.1.1)
+        (subst (At (chain_nodes_by letters t p s) j) e x.1.0, ap (at_node image l) (sym e) ∙ x.1.1)
     due_part r a i d = (asked_part r a i d.asked).1
 
     pub file_block : (n h a : ℕ) → FileAt image w n h → at_node image l n ≡ h
@@ -318,10 +319,10 @@ module _ (image : List ℕ) (t : Tree) (l : Layout) (fit : Fits image t l) where
         ∙ sym (at_index (datas_of l n) (suc k) e.0 e.1)
     next_agrees n k a i h bytes d f ff c false z u = grind (arith, common_steps, index_past, ltb-false)
 
-    head_form : (n p s j a i b : ℕ) → IsDue image w (Head n p s j) a i → LayoutHas image t l (Head n p s j) b
-        → AllHold (form_demands image w (Head n p s j) b)
+    head_form : (n p s j a i b : ℕ) → IsDue image w (Head n p s j) a i → LayoutHasBy letters image t l (Head n p s j) b
+        → AllHold (form_demands_by letters image w (Head n p s j) b)
     head_form n p s j a i b d h =
-        let e = entry_at t p s j n h.0 in
+        let e = entry_at letters t p s j n h.0 in
         let ef = fit.entries n e.entry e.at in
         let u : n ≡ suc (heads w) = asks_number image w n p s j a i d.asked in
         let up = (ordered t fit.tree).parents n e.entry e.at in
@@ -340,7 +341,8 @@ module _ (image : List ℕ) (t : Tree) (l : Layout) (fit : Fits image t l) where
         let z : at_node image l n ≡ node_block w n = g.block ∙ sym (file_is image w n f.0 v f.1) in
         subst (λ h. AllHold (ext_demands image b h)) z (ff.ext_form k b h)
 
-    data_form : (n k a i b : ℕ) → IsDue image w (Data n (suc k)) a i → At (datas_of l n) k b → AllHold (form_demands image w (Data n (suc k)) b)
+    data_form : (n k a i b : ℕ) → IsDue image w (Data n (suc k)) a i → At (datas_of l n) k b
+        → AllHold (form_demands_by letters image w (Data n (suc k)) b)
     data_form n k a i b d h =
         let f = d.asked.0 in
         let g = file_agrees n f.0 f.1 in
@@ -353,7 +355,7 @@ module _ (image : List ℕ) (t : Tree) (l : Layout) (fit : Fits image t l) where
         next_agrees n k a i f.0 g.file.bytes d f.1 ff c (nat_lt (suc k) (data_count image (node_block w n))) refl (at_below (datas_of l n) k b h) in
         rw (next, ← size, ← fit.kind, ← z) (ff.data_form k b h)
 
-    form_due : (r : Role) (a i b : ℕ) → IsDue image w r a i → LayoutHas image t l r b → AllHold (form_demands image w r b)
+    form_due : (r : Role) (a i b : ℕ) → IsDue image w r a i → LayoutHasBy letters image t l r b → AllHold (form_demands_by letters image w r b)
     form_due (Page k) a i b d h = fit.page_form k b h
     form_due (Head n p s j) a i b d h = head_form n p s j a i b d h
     form_due (Ext n zero) a i b d h = absurd h
@@ -362,21 +364,21 @@ module _ (image : List ℕ) (t : Tree) (l : Layout) (fit : Fits image t l) where
     form_due (Data n (suc k)) a i b d h = data_form n k a i b d h
     form_due _ a i b d h = tt
 
-    new_due : (r : Role) (a i b : ℕ) → IsDue image w r a i → LayoutHas image t l r b → NewName image w r b
+    new_due : (r : Role) (a i b : ℕ) → IsDue image w r a i → LayoutHasBy letters image t l r b → NewNameBy letters image w r b
     new_due (Head n p s j) a i b d h = λ m k c has eq.
         let u : n ≡ suc (heads w) = asks_number image w n p s j a i d.asked in
         let pt = ag (Head m p s k) c has in
         let nb : (1 ≤ m) × (m ≤ heads w) = number_of image v (head_at m p s k c has) in
-        let e = entry_at t p s j n h.0 in
-        let f = entry_at t p s k m pt.0 in
+        let e = entry_at letters t p s j n h.0 in
+        let f = entry_at letters t p s k m pt.0 in
         let ne : n ≢ m = omega arith in
         (ordered t fit.tree).names n m e.entry f.entry e.at f.at ne (e.parent ∙ sym f.parent)
-        (ap uppers ((fit.entries n e.entry e.at).name ∙ ap (name_of image) h.1) ∙ sym eq
-        ∙ sym (ap uppers ((fit.entries m f.entry f.at).name ∙ ap (name_of image) pt.1)))
+        (ap (uppers_by letters) ((fit.entries n e.entry e.at).name ∙ ap (name_of image) h.1) ∙ sym eq
+        ∙ sym (ap (uppers_by letters) ((fit.entries m f.entry f.at).name ∙ ap (name_of image) pt.1)))
     new_due _ a i b d h = tt
 
     -- agreement, one step: what is due has no cause
-    due_fine : (r : Role) (a i : ℕ) → IsDue image w r a i → NoCause image w r a (word_in image a i)
+    due_fine : (r : Role) (a i : ℕ) → IsDue image w r a i → NoCauseBy letters image w r a (word_in image a i)
     due_fine r a i d =
         let b : ℕ = word_in image a i in
         let p = due_part r a i d in (
@@ -385,22 +387,22 @@ module _ (image : List ℕ) (t : Tree) (l : Layout) (fit : Fits image t l) where
             part_range image t l fit r b p,
             (
               (λ q h. let e : q ≡ r = one_part image t l fit q r b (ag q b h) p in d.lacks q b h (same_of q r e)),
-              all_append (form_demands image w r b) _ (form_due r a i b d p) (new_due r a i b d p, tt),
+              all_append (form_demands_by letters image w r b) _ (form_due r a i b d p) (new_due r a i b d p, tt),
             ),
           ),
         )
 
   -- agreement: each role and block of a walk is a part
-  agrees : {w : Walk} → IsWalk image w → (r : Role) (b : ℕ) → Has w r b → LayoutHas image t l r b
-  agrees start r b (inl e) = subst (λ r. LayoutHas image t l r b) e.0 e.1
+  agrees : {w : Walk} → IsWalkBy letters image w → (r : Role) (b : ℕ) → Has w r b → LayoutHasBy letters image t l r b
+  agrees start r b (inl e) = subst (λ r. LayoutHasBy letters image t l r b) e.0 e.1
   agrees start r b (inr h) = absurd h
   agrees (step {w = w} {r = q} {a = a} {i = i} v d e c) r b (inl h) =
-      subst (λ r. LayoutHas image t l r b) h.0 (subst (LayoutHas image t l q) (e ∙ h.1) (due_part w v (agrees v) q a i d))
+      subst (λ r. LayoutHasBy letters image t l r b) h.0 (subst (LayoutHasBy letters image t l q) (e ∙ h.1) (due_part w v (agrees v) q a i d))
   agrees (step v d e c) r b (inr h) = agrees v r b h
 
-  pub agreement : (w : Walk) (r : Role) (b : ℕ) → IsWalk image w → Has w r b → LayoutHas image t l r b
+  pub agreement : (w : Walk) (r : Role) (b : ℕ) → IsWalkBy letters image w → Has w r b → LayoutHasBy letters image t l r b
   agreement w r b v h = agrees v r b h
 
-  pub due_is_part : (w : Walk) (r : Role) (a i : ℕ) → IsWalk image w → IsDue image w r a i
-      → LayoutHas image t l r (word_in image a i) × NoCause image w r a (word_in image a i)
+  pub due_is_part : (w : Walk) (r : Role) (a i : ℕ) → IsWalkBy letters image w → IsDue image w r a i
+      → LayoutHasBy letters image t l r (word_in image a i) × NoCauseBy letters image w r a (word_in image a i)
   due_is_part w r a i v d = (due_part w v (agrees v) r a i d, due_fine w v (agrees v) r a i d)

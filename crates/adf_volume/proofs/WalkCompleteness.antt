@@ -6,15 +6,16 @@ use Rattle.adf_blocks.specs.declared.layout.TheConstants.{ST_FILE}
 use Rattle.adf_volume.specs.Lists.{At}
 use Rattle.adf_blocks.specs.Sizes.{blocks, pages_needed}
 use Rattle.adf_volume.specs.Image.{root_of, word_in, table_word}
-use Rattle.adf_base.specs.Hash.{slot_of}
+use Rattle.adf_base.specs.Hash.{slot_by}
+use Rattle.adf_base.specs.declared.hash.Letters.{Letters}
 use Rattle.adf_tree.specs.declared.entry.Body.{Body, TheVariants.Dir, TheVariants.File}
 use Rattle.adf_tree.specs.declared.entry.Entry.{Entry}
 use Rattle.adf_tree.specs.Tree.{Tree}
 use Rattle.adf_volume.specs.Layout.{EntryAt, Layout, at_node, exts_of, datas_of}
-use Rattle.adf_volume.specs.Fits.{Fits, BodyFits}
-use Rattle.adf_volume.specs.Walk.{Role, Has, heads, FileAt, MemberAt, data_count, IsWalk, IsWhole, Walk}
+use Rattle.adf_volume.specs.Fits.{FitsBy, BodyFits}
+use Rattle.adf_volume.specs.Walk.{Role, Has, heads, FileAt, MemberAt, data_count, IsWalkBy, IsWhole, Walk}
 use Rattle.adf_volume.specs.Walk.Role.{Root, Page, MapExt, Head, Ext, Data}
-use Rattle.adf_volume.specs.LayoutRoles.{LayoutHas}
+use Rattle.adf_volume.specs.LayoutRoles.{LayoutHasBy}
 use Rattle.adf_volume.proofs.Gathered.{root_in}
 use Rattle.adf_volume.proofs.Lists.{at_fun, at_below, at_some, at_before, spelled_word, spelled_link}
 use Rattle.adf_volume.proofs.Chains.{entry_at, entry_below, entry_some, place_at}
@@ -35,8 +36,9 @@ no_datas : (image : List ℕ) (t : Tree) (l : Layout) (n : ℕ) (e : Entry) (b :
 no_datas image t l n e Dir k x z f a = absurd (subst (λ xs. At xs k x) f.2 a)
 no_datas image t l n e (File bytes) k x z f a = (bytes, sym z)
 
-module _ (image : List ℕ) (t : Tree) (l : Layout) (fit : Fits image t l) (w : Walk) (v : IsWalk image w) (whole : IsWhole image w) where
-  ag : (r : Role) (b : ℕ) → Has w r b → LayoutHas image t l r b
+module _ {letters : Letters} (image : List ℕ) (t : Tree) (l : Layout) (fit : FitsBy letters image t l) (w : Walk) (v : IsWalkBy letters image w)
+    (whole : IsWhole image w) where
+  ag : (r : Role) (b : ℕ) → Has w r b → LayoutHasBy letters image t l r b
   ag r b h = agreement image t l fit w r b v h
 
   -- the walk has as many headers as the tree has entries
@@ -45,10 +47,10 @@ module _ (image : List ℕ) (t : Tree) (l : Layout) (fit : Fits image t l) (w : 
       let n : ℕ = suc (heads w) in
       let more : heads w < length t.entries → ⊥ = (λ y.
       let e = entry_some t n (omega arith) (omega arith) in
-      let q = place_at t n e.0 e.1 in
-      let ask = asks_next image t l fit w v ag e.0.parent (slot_of e.0.name) q.0 n q.1 refl in
-      whole (Head n e.0.parent (slot_of e.0.name) q.0) ask.0 ask.1 ask.2
-      (next_lacks image t l fit w v ag e.0.parent (slot_of e.0.name) q.0 n q.1 refl)) in
+      let q = place_at letters t n e.0 e.1 in
+      let ask = asks_next image t l fit w v ag e.0.parent (slot_by letters e.0.name) q.0 n q.1 refl in
+      whole (Head n e.0.parent (slot_by letters e.0.name) q.0) ask.0 ask.1 ask.2
+      (next_lacks image t l fit w v ag e.0.parent (slot_by letters e.0.name) q.0 n q.1 refl)) in
       omega arith
 
   has_file : (n : ℕ) (e : Entry) (bytes : List ℕ) → EntryAt t n e → e.body ≡ File bytes → FileAt image w n (at_node image l n)
@@ -116,7 +118,7 @@ module _ (image : List ℕ) (t : Tree) (l : Layout) (fit : Fits image t l) (w : 
       (b.0, all_map_exts j b.0 b.1)
 
   -- completeness: each part is in the walk
-  pub part_walked : (r : Role) (b : ℕ) → LayoutHas image t l r b → Has w r b
+  pub part_walked : (r : Role) (b : ℕ) → LayoutHasBy letters image t l r b → Has w r b
   part_walked Root b h = subst (Has w Root) h (root_in image (of_walk image v))
   part_walked (Page k) b h =
       let u : k < length l.pages = at_below l.pages k b h in
@@ -126,7 +128,7 @@ module _ (image : List ℕ) (t : Tree) (l : Layout) (fit : Fits image t l) (w : 
       at_its_block (Page k) l.pages k x.0 b x.1 (ag (Page k) x.0 x.1) h
   part_walked (MapExt j) b h = all_map_exts j b h
   part_walked (Head n p s j) b h =
-      let e = entry_at t p s j n h.0 in
+      let e = entry_at letters t p s j n h.0 in
       let u : n ≤ length t.entries = entry_below t n e.entry e.at in
       let a = all_heads in
       let k = has_node image t l fit w v ag p s j n h.0 (omega arith) in
@@ -145,6 +147,6 @@ module _ (image : List ℕ) (t : Tree) (l : Layout) (fit : Fits image t l) (w : 
           let a = all_heads in
           let k = numbered image v (suc m) (omega arith) (omega arith) in
           let pt = ag (head_role k.1) k.0 k.1.has in
-          let e = entry_at t k.1.parent k.1.slot k.1.place (suc m) pt.0 in
+          let e = entry_at letters t k.1.parent k.1.slot k.1.place (suc m) pt.0 in
           let u : suc m ≤ length t.entries = entry_below t (suc m) e.entry e.at in
           omega arith

@@ -1,15 +1,16 @@
 -- The tree and the layout of a whole walk fit.
 use Rattle.std.proofs.Common.{ℕ, zero, suc, List, ◌+◌, ◌-◌, ◌*◌, ◌/◌, ◌<◌, ◌≤◌, length, refl, sym, ap, subst, ◌∙◌, arith}
 use native.Mathlib.Decide.{ℕ_discrete}
+use Rattle.adf_base.specs.declared.hash.Letters.{Letters}
 use Rattle.adf_blocks.specs.declared.layout.TheConstants.{MAP_EXT_PAGES, PAGE_BITS, ROOT_PAGES}
 use Rattle.adf_volume.specs.Image.{root_of}
 use Rattle.adf_blocks.specs.Sizes.{blocks}
-use Rattle.adf_volume.specs.Demands.{AllHold, boot_demands, root_demands}
+use Rattle.adf_volume.specs.Demands.{AllHold, boot_demands_by, root_demands}
 use Rattle.adf_volume.proofs.TreeOrder.{dir_node, is_tree_from}
-use Rattle.adf_volume.specs.Fits.{Fits, FileFits}
-use Rattle.adf_volume.specs.Walk.{IsAbsent, IsFreeIn, bitmap_demands, IsWalk, IsWhole, Walk}
+use Rattle.adf_volume.specs.Fits.{FitsBy, FileFits}
+use Rattle.adf_volume.specs.Walk.{IsAbsent, IsFreeIn, bitmap_demands, IsWalkBy, IsWhole, Walk}
 use Rattle.adf_volume.specs.Walk.Role.{Page, MapExt}
-use Rattle.adf_volume.specs.Made.{tree_in, layout_in}
+use Rattle.adf_volume.specs.Made.{tree_in_by, layout_in}
 use Rattle.adf_volume.specs.LayoutRoles.{owner_of}
 use Rattle.adf_volume.proofs.MemberFacts.{kept, in_range}
 use Rattle.adf_volume.proofs.WalkMembers.{entries_length, places_length, pages, map_exts}
@@ -18,7 +19,8 @@ use Rattle.adf_volume.proofs.WholeWalks.{map_exts_length, pages_length, root_nam
 use Rattle.adf_volume.proofs.WalkOwners.{is_owned, owned_has, once}
 use Rattle.adf_volume.proofs.Sizes.{size_low}
 
-module _ (image : List ℕ) (w : Walk) (v : IsWalk image w) (whole : IsWhole image w) (boots : AllHold (boot_demands image)) where
+module _ {letters : Letters} (image : List ℕ) (w : Walk) (v : IsWalkBy letters image w) (whole : IsWhole image w)
+    (boots : AllHold (boot_demands_by letters image)) where
   bitmap_at : (b0 n b : ℕ) → AllHold (bitmap_demands image w b0 n) → b0 ≤ b → b < b0 + n
       → (IsAbsent w b → IsFreeIn image w b) × (IsFreeIn image w b → IsAbsent w b)
   bitmap_at b0 zero b h lo hi = absurd (omega arith)
@@ -29,7 +31,7 @@ module _ (image : List ℕ) (w : Walk) (v : IsWalk image w) (whole : IsWhole ima
       ]
 
   pub fits : AllHold (root_demands image (root_of image)) → AllHold (bitmap_demands image w 2 (blocks image - 2))
-      → Fits image (tree_in image w) (layout_in w)
+      → FitsBy letters image (tree_in_by letters image w) (layout_in w)
   fits root bits = record {
     boots = boots;
     kind = refl;
@@ -37,7 +39,7 @@ module _ (image : List ℕ) (w : Walk) (v : IsWalk image w) (whole : IsWhole ima
     root = root;
     label = refl;
     stamps = refl;
-    tree = is_tree_from (tree_in image w) (is_tree image w v whole);
+    tree = is_tree_from (tree_in_by letters image w) (is_tree image w v whole);
     places = places_length image w w ∙ sym (entries_length image w w);
     pages = pages_length image w v whole;
     map_exts = map_exts_length image w v whole;
@@ -49,10 +51,10 @@ module _ (image : List ℕ) (w : Walk) (v : IsWalk image w) (whole : IsWhole ima
         (ext_names image w v whole) j i a b x.0 x.1 lt h x.2 x.3);
     page_form = (λ k b h. (kept image v (Page k) b ((pages image v).from k b h)).2);
     entries = entry_fits image w v whole boots;
-    chains = (λ p s d lt. (chains_spelled image w v whole) p s (dir_node (tree_in image w) p d) lt);
+    chains = (λ p s d lt. (chains_spelled image w v whole) p s (dir_node (tree_in_by letters image w) p d) lt);
     files = (λ n e bytes h f.
         let x = file_at image w v whole n e bytes h f in
-        subst (λ h. FileFits image (tree_in image w) (layout_in w) n h bytes) (sym (head_is image w v whole x.1.header).0)
+        subst (λ h. FileFits image (tree_in_by letters image w) (layout_in w) n h bytes) (sym (head_is image w v whole x.1.header).0)
         (file_fits image w v whole n x.0 bytes x.1 (ap length x.2 ∙ (content_long image w v whole boots) n x.0 x.1)));
     once = once image w v whole;
     range = (λ o b h. let r = owned_has image w v whole o b h in in_range image v (size_low (blocks image) boots.0.1) r.0 b r.1);

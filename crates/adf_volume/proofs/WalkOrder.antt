@@ -1,10 +1,11 @@
 -- A walk ascends: what is due comes after everything in it.
 use Rattle.std.proofs.Common.{◌≡◌, ℕ, suc, List, [], ◌∷◌, inl, inr, ◌<◌, refl, ap, subst, arith}
 use Rattle.std.proofs.lemmas.Grind.{common_steps}
+use Rattle.adf_base.specs.declared.hash.Letters.{Letters}
 use Rattle.adf_volume.specs.Image.{root_of}
-use Rattle.adf_volume.specs.Walk.{Role, Before, Same, Has, head_count, heads, HeadAt, Asks, Lacks, IsDue, IsWalk, Walk}
+use Rattle.adf_volume.specs.Walk.{Role, Before, Same, Has, head_count, heads, HeadAt, Asks, Lacks, IsDue, IsWalkBy, Walk}
 use Rattle.adf_volume.specs.Walk.Role.{Root, Page, MapExt}
-use Rattle.adf_volume.specs.Walk.IsWalk.{start, step}
+use Rattle.adf_volume.specs.Walk.IsWalkBy.{start, step}
 use Rattle.adf_volume.proofs.AsksSplit.{gathered_split}
 use Rattle.adf_volume.proofs.Roles.{head_in, head_role, new_number, no_head}
 use Rattle.adf_volume.proofs.Walks.{number_of, of_walk}
@@ -30,7 +31,8 @@ module _ (image : List ℕ) where
   root_before w (MapExt k) a i h = (omega arith, (λ z. omega arith), (λ z y. absurd (omega arith)))
   root_before w _ a i h = (omega arith, (λ z. absurd (omega arith)), (λ z y. absurd (omega arith)))
 
-  pub rises : {w : Walk} → IsWalk image w → (r : Role) (a i : ℕ) → IsDue image w r a i → (q : Role) (b : ℕ) → Has w q b → Before q r
+  pub rises : {letters : Letters} {w : Walk} → IsWalkBy letters image w → (r : Role) (a i : ℕ) → IsDue image w r a i → (q : Role) (b : ℕ)
+      → Has w q b → Before q r
   rises start r a i d q b (inl e) = subst (λ q. Before q r) e.0 (root_before ((Root, root_of image) ∷ []) r a i d.asked)
   rises start r a i d q b (inr f) = absurd f
   rises (step {w = w} {r = z} {b = c} {a = a0} {i = i0} v e g n) r a i d q b h =
@@ -48,7 +50,7 @@ module _ (image : List ℕ) where
           ]
 
   -- headers stand in the order of their numbers
-  pub in_order : {w : Walk} {n m b c : ℕ} → IsWalk image w → (h : HeadAt w n b) (k : HeadAt w m c) → n < m
+  pub in_order : {letters : Letters} {w : Walk} {n m b c : ℕ} → IsWalkBy letters image w → (h : HeadAt w n b) (k : HeadAt w m c) → n < m
       → Before (head_role h) (head_role k)
   in_order start h k l = absurd (no_head h)
   in_order {n = n} {m = m} {b = b} (step {w = w} {r = r} {a = a} {i = i} v d e g) h k l = elim h.has [

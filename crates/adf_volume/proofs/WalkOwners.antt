@@ -1,12 +1,13 @@
 -- The parts of a whole walk are those that its layout owns.
 use Rattle.std.proofs.Common.{◌≡◌, ℕ, zero, suc, List, ◌<◌, length, sym, ap, subst, ◌∙◌, arith}
+use Rattle.adf_base.specs.declared.hash.Letters.{Letters}
 use Rattle.adf_volume.specs.Lists.{At, In, NoBlockTwice}
 use Rattle.adf_volume.specs.Layout.{datas_at, exts_at, owned}
 use Rattle.adf_volume.specs.declared.owner.Owner.{Owner}
-use Rattle.adf_volume.specs.Walk.{Role, Has, IsWalk, IsWhole, Walk}
+use Rattle.adf_volume.specs.Walk.{Role, Has, IsWalkBy, IsWhole, Walk}
 use Rattle.adf_volume.specs.Walk.Role.{Root, Page, MapExt, Head, Ext, Data}
-use Rattle.adf_volume.specs.Made.{datas_in, entries_in, exts_in, layout_in, places_in, tree_in}
-use Rattle.adf_volume.specs.LayoutRoles.{LayoutHas, owner_of}
+use Rattle.adf_volume.specs.Made.{datas_in, entries_in, exts_in, layout_in, places_in, tree_in_by}
+use Rattle.adf_volume.specs.LayoutRoles.{LayoutHasBy, owner_of}
 use Rattle.adf_volume.proofs.Gathered.{root_in, root_is}
 use Rattle.adf_volume.proofs.Roles.{head_at}
 use Rattle.adf_volume.proofs.Walks.{numbered as numbers, one_role, ext_file, of_walk}
@@ -17,16 +18,16 @@ use Rattle.adf_volume.proofs.WalkMembers.{chains, entries_length, places_length,
 use Rattle.adf_volume.proofs.WholeWalks.{head_is}
 use Rattle.adf_volume.proofs.Places.{exts_below, datas_below}
 
-module _ (image : List ℕ) (w : Walk) (v : IsWalk image w) (whole : IsWhole image w) where
+module _ {letters : Letters} (image : List ℕ) (w : Walk) (v : IsWalkBy letters image w) (whole : IsWhole image w) where
   long : length (places_in w w) ≡ length (entries_in image w w)
   long = places_length image w w ∙ sym (entries_length image w w)
 
   -- what the walk has is a part of its tree and layout
-  has_part : (r : Role) (b : ℕ) → Has w r b → LayoutHas image (tree_in image w) (layout_in w) r b
+  has_part : (r : Role) (b : ℕ) → Has w r b → LayoutHasBy letters image (tree_in_by letters image w) (layout_in w) r b
   has_part Root b h = root_is image (of_walk image v) b h
   has_part (Page k) b h = (pages image v).to k b h
   has_part (MapExt k) b h = (map_exts image v).to k b h
-  has_part (Head n p s j) b h = ((chains image w v).to n p s j b h, (head_is image w v whole (head_at n p s j b h)).0)
+  has_part (Head n p s j) b h = ((chains letters image w v).to n p s j b h, (head_is image w v whole (head_at n p s j b h)).0)
   has_part (Ext n zero) b h = kept image v (Ext n zero) b h
   has_part (Ext n (suc k)) b h =
       let f = ext_file image v n (suc k) b h in
@@ -46,12 +47,12 @@ module _ (image : List ℕ) (w : Walk) (v : IsWalk image w) (whole : IsWhole ima
       (y.1, y.2)
 
   -- each part is in the walk
-  part_has : (r : Role) (b : ℕ) → LayoutHas image (tree_in image w) (layout_in w) r b → Has w r b
+  part_has : (r : Role) (b : ℕ) → LayoutHasBy letters image (tree_in_by letters image w) (layout_in w) r b → Has w r b
   part_has Root b h = subst (Has w Root) h (root_in image (of_walk image v))
   part_has (Page k) b h = (pages image v).from k b h
   part_has (MapExt k) b h = (map_exts image v).from k b h
   part_has (Head n p s j) b h =
-      let x = (chains image w v).from n p s j h.0 in
+      let x = (chains letters image w v).from n p s j h.0 in
       subst (Has w (Head n p s j)) (sym (head_is image w v whole (head_at n p s j x.0 x.1)).0 ∙ h.1) x.1
   part_has (Ext n zero) b h = absurd h
   part_has (Ext zero (suc k)) b h = absurd h
@@ -64,10 +65,10 @@ module _ (image : List ℕ) (w : Walk) (v : IsWalk image w) (whole : IsWhole ima
 
   -- each member of the walk is owned, and each owned block is a member
   pub is_owned : (r : Role) (b : ℕ) → Has w r b → In (owned image (layout_in w)) (owner_of r, b)
-  is_owned r b h = part_owned image (tree_in image w) (layout_in w) long r b (has_part r b h)
+  is_owned r b h = part_owned letters image (tree_in_by letters image w) (layout_in w) long r b (has_part r b h)
 
   pub owned_has : (o : Owner) (b : ℕ) → In (owned image (layout_in w)) (o, b) → (r : Role) × Has w r b × (o ≡ owner_of r)
-  owned_has o b h = let r = owned_part image (tree_in image w) (layout_in w) long o b h in (r.0, part_has r.0 b r.1, r.2)
+  owned_has o b h = let r = owned_part letters image (tree_in_by letters image w) (layout_in w) long o b h in (r.0, part_has r.0 b r.1, r.2)
 
   pub once : NoBlockTwice (owned image (layout_in w))
   once = blocks_once (owned image (layout_in w)) (once_owned image (layout_in w))

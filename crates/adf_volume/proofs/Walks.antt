@@ -2,44 +2,45 @@
 use Rattle.std.proofs.Common.{◌≡◌, ℕ, List, inl, inr, ◌+◌, ◌-◌, ◌*◌, ◌/◌, ◌%◌, ◌<◌, ◌≤◌, refl, sym, subst, ◌∙◌, arith}
 use Rattle.std.proofs.lemmas.Grind.{common_steps}
 use native.Mathlib.Decide.{dec_lt}
+use Rattle.adf_base.specs.declared.hash.Letters.{Letters}
 use Rattle.adf_blocks.specs.declared.layout.TheConstants.{FIRST_PAGE, MAP_EXT_PAGES, ROOT_PAGES}
 use Rattle.adf_blocks.specs.Sizes.{blocks, pages_needed}
 use Rattle.adf_volume.specs.Image.{root_of}
-use Rattle.adf_volume.specs.Walk.{Role, second, Has, heads, HeadAt, FileAt, Asks, IsDue, IsWalk, IsWhole, Before, node_block, Walk}
+use Rattle.adf_volume.specs.Walk.{Role, second, Has, heads, HeadAt, FileAt, Asks, IsDue, IsWalkBy, IsWhole, Before, node_block, Walk}
 use Rattle.adf_volume.specs.Walk.Role.{Page, MapExt, Head, Ext}
-use Rattle.adf_volume.specs.Walk.IsWalk.{start, step}
+use Rattle.adf_volume.specs.Walk.IsWalkBy.{start, step}
 use Rattle.adf_volume.proofs.Roles.{dec_has, has_low, head_key}
-use Rattle.adf_volume.proofs.PartDemands.{part_holds}
+use Rattle.adf_volume.proofs.PartDemands.{part_holds_by}
 use Rattle.adf_volume.proofs.Gathered as gathered
 use Rattle.adf_volume.proofs.Gathered.{IsGathered}
 use Rattle.adf_volume.proofs.Gathered.IsGathered.{start as gathered_start, step as gathered_step}
 
-module _ (image : List ℕ) where
+module _ {letters : Letters} (image : List ℕ) where
   -- a walk was gathered
-  pub of_walk : {w : Walk} → IsWalk image w → IsGathered image w
+  pub of_walk : {w : Walk} → IsWalkBy letters image w → IsGathered image w
   of_walk start = gathered_start
   of_walk (step {b = b} {a = a} {i = i} v d e n) = gathered_step a i b (of_walk v) d.asked d.lacks
 
   -- a block has one role
-  pub one_role : {w : Walk} → IsWalk image w → (r q : Role) (b : ℕ) → Has w r b → Has w q b → r ≡ q
+  pub one_role : {w : Walk} → IsWalkBy letters image w → (r q : Role) (b : ℕ) → Has w r b → Has w q b → r ≡ q
   one_role start r q b (inl e) (inl f) = sym e.0 ∙ f.0
   one_role start r q b (inl e) (inr f) = absurd f
   one_role start r q b (inr e) f = absurd e
   one_role (step v d g n) r q b (inl e) (inl f) = sym e.0 ∙ f.0
-  one_role (step {w = w} {r = z} {b = c} {a = a} v d g n) r q b (inl e) (inr f) = grind (arith, common_steps, part_holds)
-  one_role (step {w = w} {r = z} {b = c} {a = a} v d g n) r q b (inr e) (inl f) = grind (arith, common_steps, part_holds)
+  one_role (step {w = w} {r = z} {b = c} {a = a} v d g n) r q b (inl e) (inr f) = grind (arith, common_steps, part_holds_by letters)
+  one_role (step {w = w} {r = z} {b = c} {a = a} v d g n) r q b (inr e) (inl f) = grind (arith, common_steps, part_holds_by letters)
   one_role (step v d g n) r q b (inr e) (inr f) = one_role v r q b e f
 
-  pub number_of : {w : Walk} {n b : ℕ} → IsWalk image w → HeadAt w n b → (1 ≤ n) × (n ≤ heads w)
+  pub number_of : {w : Walk} {n b : ℕ} → IsWalkBy letters image w → HeadAt w n b → (1 ≤ n) × (n ≤ heads w)
   number_of v = gathered.number_of image (of_walk v)
 
-  pub numbered : {w : Walk} → IsWalk image w → (n : ℕ) → 1 ≤ n → n ≤ heads w → (b : ℕ) × HeadAt w n b
+  pub numbered : {w : Walk} → IsWalkBy letters image w → (n : ℕ) → 1 ≤ n → n ≤ heads w → (b : ℕ) × HeadAt w n b
   numbered v = gathered.numbered image (of_walk v)
 
-  pub ext_file : {w : Walk} → IsWalk image w → (n k b : ℕ) → Has w (Ext n k) b → (h : ℕ) × FileAt image w n h
+  pub ext_file : {w : Walk} → IsWalkBy letters image w → (n k b : ℕ) → Has w (Ext n k) b → (h : ℕ) × FileAt image w n h
   ext_file v = gathered.ext_file image (of_walk v)
 
-  pub file_is : (w : Walk) (n a : ℕ) → IsWalk image w → FileAt image w n a → node_block w n ≡ a
+  pub file_is : (w : Walk) (n a : ℕ) → IsWalkBy letters image w → FileAt image w n a → node_block w n ≡ a
   file_is w n a v h = gathered.head_block image (of_walk v) h.header
 
 -- what is asked for and comes before what is due is there

@@ -8,17 +8,18 @@ use Rattle.adf_blocks.specs.declared.layout.TheConstants.{POINTERS, ROOT_PAGES, 
 use Rattle.adf_volume.specs.Lists.{At, Spelled}
 use Rattle.adf_blocks.specs.Sizes.{blocks, count, pages_needed}
 use Rattle.adf_volume.specs.Image.{word_in, root_of, map_exts_needed, kind_of, held, table_word, name_of, content}
-use Rattle.adf_base.specs.Hash.{slot_of}
-use Rattle.adf_names.specs.Texts.{uppers}
-use Rattle.adf_volume.specs.Demands.{AllHold, boot_demands, head_demands, ext_demands, data_demands}
+use Rattle.adf_base.specs.Hash.{slot_by}
+use Rattle.adf_base.specs.declared.hash.Letters.{Letters}
+use Rattle.adf_names.specs.Texts.{uppers_by}
+use Rattle.adf_volume.specs.Demands.{AllHold, boot_demands_by, head_demands_by, ext_demands, data_demands}
 use Rattle.adf_tree.specs.declared.entry.Entry.{Entry}
-use Rattle.adf_volume.specs.Layout.{EntryAt, nodes_from, chain_nodes, at_node, exts_of, datas_of}
+use Rattle.adf_volume.specs.Layout.{EntryAt, nodes_from_by, chain_nodes_by, at_node, exts_of, datas_of}
 use Rattle.adf_volume.proofs.TreeOrder.{Ordered, DirNode}
 use Rattle.adf_tree.specs.declared.entry.Body.TheVariants.{Dir, File}
-use Rattle.adf_volume.specs.Fits.{EntryFits, FileFits, BodyFits, TableAt}
-use Rattle.adf_volume.specs.Walk.{Before, Has, heads, HeadAt, DirAt, FileAt, MemberAt, NamesPage, data_count, ext_count, IsWalk, IsWhole, Walk}
+use Rattle.adf_volume.specs.Fits.{EntryFitsBy, FileFits, BodyFits, TableAt}
+use Rattle.adf_volume.specs.Walk.{Before, Has, heads, HeadAt, DirAt, FileAt, MemberAt, NamesPage, data_count, ext_count, IsWalkBy, IsWhole, Walk}
 use Rattle.adf_volume.specs.Walk.Role.{Page, MapExt, Head, Ext, Data}
-use Rattle.adf_volume.specs.Made.{pages_in, map_exts_in, exts_in, datas_in, body_in, entry_in, place_in, entries_in, places_in, tree_in, layout_in}
+use Rattle.adf_volume.specs.Made.{pages_in, map_exts_in, exts_in, datas_in, body_in, entry_in, place_in, entries_in, places_in, tree_in_by, layout_in}
 use Rattle.adf_volume.proofs.FormDemands.{head_type, dir_not_file}
 use Rattle.adf_volume.proofs.Images.{content_length, map_exts_high, map_exts_low}
 use Rattle.adf_volume.proofs.Lists.{at_fun, at_below, at_some, at_unmap, spelled_from, at_index, index_past}
@@ -33,7 +34,7 @@ use Rattle.adf_volume.proofs.Places.{place_parts}
 use Rattle.std.proofs.lemmas.List.{length-map, nil_from_length}
 use Rattle.std.proofs.lemmas.Grind.{common_steps}
 use Rattle.adf_volume.proofs.Sizes.{size_low}
-use Rattle.adf_tree.proofs.ChildLookup.{same_slot}
+use Rattle.adf_tree.proofs.ChildLookup.{same_slot_by}
 
 body_dir : (image : List ℕ) (w : Walk) (n b : ℕ) (x : Bool) → cond x Dir (File (content image (kind_of image) b (datas_in w n))) ≡ Dir
     → x ≡ true
@@ -47,9 +48,9 @@ body_file image w n b bytes true h = cc
 body_file image w n b bytes false h = let e : bytes ≡ content image (kind_of image) b (datas_in w n) = cc in (refl, e)
 
 -- a header that is no directory is a file
-head_kind : (image : List ℕ) (b c s : ℕ) → AllHold (head_demands image (kind_of image) b c s) → (word_in image b SECONDARY_TYPE == ST_DIR) ≡ false
-    → word_in image b SECONDARY_TYPE ≡ ST_FILE
-head_kind image b c s h z = grind (arith, common_steps, head_type, eq-eqb)
+head_kind : (letters : Letters) (image : List ℕ) (b c s : ℕ) → AllHold (head_demands_by letters image (kind_of image) b c s)
+    → (word_in image b SECONDARY_TYPE == ST_DIR) ≡ false → word_in image b SECONDARY_TYPE ≡ ST_FILE
+head_kind letters image b c s h z = grind (arith, common_steps, head_type letters, eq-eqb)
 
 -- a whole walk has all bitmap extension blocks
 pub all_map_exts : (image : List ℕ) (w : Walk) → IsWhole image w → (j : ℕ) → ROOT_PAGES + MAP_EXT_PAGES * j < pages_needed (blocks image)
@@ -65,7 +66,7 @@ pub record HeadOf (image : List ℕ) (w : Walk) (n : ℕ) (e : Entry) : Type 0 w
   pub header : HeadAt w n block
   pub entry : e ≡ entry_in image w n header.parent block
 
-module _ (image : List ℕ) (w : Walk) (v : IsWalk image w) (whole : IsWhole image w) where
+module _ {letters : Letters} (image : List ℕ) (w : Walk) (v : IsWalkBy letters image w) (whole : IsWhole image w) where
   pub head_is : {n b : ℕ} → HeadAt w n b
       → (at_node image (layout_in w) n ≡ b) × (exts_of (layout_in w) n ≡ exts_in w n) × (datas_of (layout_in w) n ≡ datas_in w n)
   head_is {n = zero} h = let u : (1 ≤ 0) × (0 ≤ heads w) = number_of image v h in absurd (omega arith)
@@ -75,7 +76,7 @@ module _ (image : List ℕ) (w : Walk) (v : IsWalk image w) (whole : IsWhole ima
   dir_at zero a h = root_is image (of_walk image v) a h
   dir_at (suc i) a h = (head_is h.header).0
 
-  pub entry_is : (n : ℕ) (e : Entry) → EntryAt (tree_in image w) n e → HeadOf image w n e
+  pub entry_is : (n : ℕ) (e : Entry) → EntryAt (tree_in_by letters image w) n e → HeadOf image w n e
   entry_is zero e h = absurd h
   entry_is (suc i) e h =
       let lt = at_below (entries_in image w w) i e h in
@@ -84,7 +85,7 @@ module _ (image : List ℕ) (w : Walk) (v : IsWalk image w) (whole : IsWhole ima
       record { block = k.0; header = k.1; entry = same }
 
   -- a directory of the walk is one of the tree
-  dir_is : (p c : ℕ) → DirAt image w p c → DirNode (tree_in image w) p
+  dir_is : (p c : ℕ) → DirAt image w p c → DirNode (tree_in_by letters image w) p
   dir_is zero c h = tt
   dir_is (suc i) c h = (
     entry_in image w (suc i) h.header.parent c,
@@ -92,30 +93,31 @@ module _ (image : List ℕ) (w : Walk) (v : IsWalk image w) (whole : IsWhole ima
     ap (λ x. cond x Dir (File (content image (kind_of image) c (datas_in w (suc i))))) (eq-eqb (word_in image c SECONDARY_TYPE) ST_DIR h.type),
   )
 
-  pub is_tree : Ordered (tree_in image w)
+  pub is_tree : Ordered letters (tree_in_by letters image w)
   is_tree = record {
     parents = (λ n e h.
         let x = entry_is n e h in
         let k = kept image v (head_role x.header) x.block x.header.has in
         let z : x.header.parent ≡ e.parent = ap (λ (y : Entry). y.parent) (sym x.entry) in
-        subst (λ p. (p < n) × DirNode (tree_in image w) p) z (parent_below image (of_walk image v) x.header, dir_is x.header.parent k.2.0 k.2.1));
+        subst (λ p. (p < n) × DirNode (tree_in_by letters image w) p) z
+        (parent_below image (of_walk image v) x.header, dir_is x.header.parent k.2.0 k.2.1));
     order = (λ n m e f h k l.
         let x = entry_is n e h in
         let y = entry_is m f k in
         let o : Before (head_role x.header) (head_role y.header) = in_order image v x.header y.header l in
         let p1 : e.parent ≡ x.header.parent = ap (λ (z : Entry). z.parent) x.entry in
         let p2 : f.parent ≡ y.header.parent = ap (λ (z : Entry). z.parent) y.entry in
-        let s1 : slot_of e.name ≡ x.header.slot = ap (λ (z : Entry). slot_of z.name) x.entry ∙ slot_is image v x.header in
-        let s2 : slot_of f.name ≡ y.header.slot = ap (λ (z : Entry). slot_of z.name) y.entry ∙ slot_is image v y.header in
+        let s1 : slot_by letters e.name ≡ x.header.slot = ap (λ (z : Entry). slot_by letters z.name) x.entry ∙ slot_is image v x.header in
+        let s2 : slot_by letters f.name ≡ y.header.slot = ap (λ (z : Entry). slot_by letters z.name) y.entry ∙ slot_is image v y.header in
         (omega (arith, o.0), (λ z. omega (arith, o.1 (omega (arith, o.0))))));
     names = (λ n m e f h k ne z u.
         let x = entry_is n e h in
         let y = entry_is m f k in
         let p1 : x.header.parent ≡ y.header.parent = sym (ap (λ (z : Entry). z.parent) x.entry) ∙ z ∙ ap (λ (z : Entry). z.parent) y.entry in
-        let nm : uppers (name_of image x.block) ≡ uppers (name_of image y.block) =
-        sym (ap (λ (z : Entry). uppers z.name) x.entry) ∙ u ∙ ap (λ (z : Entry). uppers z.name) y.entry in
+        let nm : uppers_by letters (name_of image x.block) ≡ uppers_by letters (name_of image y.block) =
+        sym (ap (λ (z : Entry). uppers_by letters z.name) x.entry) ∙ u ∙ ap (λ (z : Entry). uppers_by letters z.name) y.entry in
         let s1 : x.header.slot ≡ y.header.slot =
-        sym (slot_is image v x.header) ∙ same_slot (name_of image x.block) (name_of image y.block) nm ∙ slot_is image v y.header in
+        sym (slot_is image v x.header) ∙ same_slot_by letters (name_of image x.block) (name_of image y.block) nm ∙ slot_is image v y.header in
         let has : Has w (Head m x.header.parent x.header.slot y.header.place) y.block = rw (p1, s1) y.header.has in
         new_names image v n m x.header.parent x.header.slot x.header.place y.header.place x.block y.block x.header.has has ne nm);
   }
@@ -158,7 +160,7 @@ module _ (image : List ℕ) (w : Walk) (v : IsWalk image w) (whole : IsWhole ima
   ext_names j i c b a m lt h (inl x) e = absurd (omega arith)
   ext_names j i c b a m lt h (inr x) e = grind (arith, common_steps, at_fun, map_exts)
 
-  is_dir_at : (p : ℕ) → DirNode (tree_in image w) p → DirAt image w p (at_node image (layout_in w) p)
+  is_dir_at : (p : ℕ) → DirNode (tree_in_by letters image w) p → DirAt image w p (at_node image (layout_in w) p)
   is_dir_at zero d = root_in image (of_walk image v)
   is_dir_at (suc i) d =
       let x = entry_is (suc i) d.0 d.1 in
@@ -170,45 +172,45 @@ module _ (image : List ℕ) (w : Walk) (v : IsWalk image w) (whole : IsWhole ima
       subst (DirAt image w (suc i)) e (record { header = x.header; type = y })
 
   -- the chains are spelled
-  pub chains_spelled : (p s : ℕ) → DirNode (tree_in image w) p → s < SLOTS →
+  pub chains_spelled : (p s : ℕ) → DirNode (tree_in_by letters image w) p → s < SLOTS →
       Spelled (λ b. word_in image b NEXT_IN_CHAIN) (word_in image (at_node image (layout_in w) p) (FIRST_SLOT + s))
-      (map (at_node image (layout_in w)) (chain_nodes (tree_in image w) p s))
+      (map (at_node image (layout_in w)) (chain_nodes_by letters (tree_in_by letters image w) p s))
   chains_spelled p s d lt =
       let da = is_dir_at p d in
       let a : ℕ = at_node image (layout_in w) p in
-      let c : List ℕ = nodes_from 1 (entries_in image w w) p s in
+      let c : List ℕ = nodes_from_by letters 1 (entries_in image w w) p s in
       spelled_from (λ b. word_in image b NEXT_IN_CHAIN) (word_in image a (FIRST_SLOT + s)) (map (at_node image (layout_in w)) c)
       (λ b h.
       let u = at_unmap (at_node image (layout_in w)) c 0 b h in
-      let x = (chains image w v).from u.0 p s 0 u.1 in
+      let x = (chains letters image w v).from u.0 p s 0 u.1 in
       let k = (kept image v (Head u.0 p s 0) x.0 x.1).1 in
       ap (λ a. word_in image a (FIRST_SLOT + s)) (dir_at p k.0 k.1) ∙ k.2 ∙ sym (head_is (head_at u.0 p s 0 x.0 x.1)).0 ∙ u.2)
       (λ h.
       let none : 0 < word_in image a (FIRST_SLOT + s) → ⊥ = (λ some.
       let x = asked_header image w whole (suc (heads w)) p s 0 a (FIRST_SLOT + s) (refl, lt, da, refl, (λ z. omega arith)) in
-      omega (arith, at_below c 0 x.0 ((chains image w v).to x.0 p s 0 x.1 x.2), length-map c (at_node image (layout_in w)))) in
+      omega (arith, at_below c 0 x.0 ((chains letters image w v).to x.0 p s 0 x.1 x.2), length-map c (at_node image (layout_in w)))) in
       omega arith)
       (λ j b b2 h h2.
       let u = at_unmap (at_node image (layout_in w)) c j b h in
       let u2 = at_unmap (at_node image (layout_in w)) c (suc j) b2 h2 in
-      let x = (chains image w v).from u.0 p s j u.1 in
-      let x2 = (chains image w v).from u2.0 p s (suc j) u2.1 in
+      let x = (chains letters image w v).from u.0 p s j u.1 in
+      let x2 = (chains letters image w v).from u2.0 p s (suc j) u2.1 in
       let k = (kept image v (Head u2.0 p s (suc j)) x2.0 x2.1).1 in
       let z : k.1 ≡ x.0 = (one_block image (of_walk image v) (Head k.0 p s j) (Head u.0 p s j) k.1 x.0 k.2 x.1 (refl, refl, refl)).1 in
       let y : b ≡ k.1 = sym u.2 ∙ (head_is (head_at u.0 p s j x.0 x.1)).0 ∙ sym z in
       ap (λ b. word_in image b NEXT_IN_CHAIN) y ∙ k.3 ∙ sym (head_is (head_at u2.0 p s (suc j) x2.0 x2.1)).0 ∙ u2.2)
       (λ j b h e.
       let u = at_unmap (at_node image (layout_in w)) c j b h in
-      let x = (chains image w v).from u.0 p s j u.1 in
+      let x = (chains letters image w v).from u.0 p s j u.1 in
       let y : x.0 ≡ b = sym (head_is (head_at u.0 p s j x.0 x.1)).0 ∙ u.2 in
       let none : 0 < word_in image b NEXT_IN_CHAIN → ⊥ = (λ some.
       let x' : Has w (Head u.0 p s j) b = subst (Has w (Head u.0 p s j)) y x.1 in
       let q = asked_header image w whole (suc (heads w)) p s (suc j) b NEXT_IN_CHAIN (refl, (u.0, x'), refl, (λ z. omega arith)) in
-      omega (arith, at_below c (suc j) q.0 ((chains image w v).to q.0 p s (suc j) q.1 q.2), length-map c (at_node image (layout_in w)))) in
+      omega (arith, at_below c (suc j) q.0 ((chains letters image w v).to q.0 p s (suc j) q.1 q.2), length-map c (at_node image (layout_in w)))) in
       omega arith)
 
   -- a file of the tree is one of the walk
-  pub file_at : (n : ℕ) (e : Entry) (bytes : List ℕ) → EntryAt (tree_in image w) n e → e.body ≡ File bytes
+  pub file_at : (n : ℕ) (e : Entry) (bytes : List ℕ) → EntryAt (tree_in_by letters image w) n e → e.body ≡ File bytes
       → (h : ℕ) × FileAt image w n h × (bytes ≡ content image (kind_of image) h (datas_in w n))
   file_at n e bytes h f =
       let x = entry_is n e h in
@@ -216,7 +218,7 @@ module _ (image : List ℕ) (w : Walk) (v : IsWalk image w) (whole : IsWhole ima
       let z : body_in image w n b ≡ File bytes = ap (λ (y : Entry). y.body) (sym x.entry) ∙ f in
       let y = body_file image w n b bytes (word_in image b SECONDARY_TYPE == ST_DIR) z in
       let k = kept image v (head_role x.header) b x.header.has in
-      (b, record { header = x.header; type = head_kind image b k.2.0 x.header.slot k.2.2 y.0 }, y.1)
+      (b, record { header = x.header; type = head_kind letters image b k.2.0 x.header.slot k.2.2 y.0 }, y.1)
 
   enough_now : (n h : ℕ) → FileAt image w n h → data_count image h ≤ POINTERS * suc (ext_count w n)
   enough_now n h f =
@@ -300,7 +302,7 @@ module _ (image : List ℕ) (w : Walk) (v : IsWalk image w) (whole : IsWhole ima
       rw (← e, ← z) y.form.2
 
   pub file_fits : (n h : ℕ) (bytes : List ℕ) → FileAt image w n h → length bytes ≡ word_in image h SIZE
-      → FileFits image (tree_in image w) (layout_in w) n h bytes
+      → FileFits image (tree_in_by letters image w) (layout_in w) n h bytes
   file_fits n h bytes f z =
       let fp = head_is f.header in
       let ex : exts_of (layout_in w) n ≡ exts_in w n = fp.1 in
@@ -312,14 +314,14 @@ module _ (image : List ℕ) (w : Walk) (v : IsWalk image w) (whole : IsWhole ima
             let y = (kept image v (Ext n (suc k)) b (has_ext image w v n k b (subst (λ xs. At xs k b) ex x))).1 in
             subst (λ h. AllHold (ext_demands image b h)) (file_one image (of_walk image v) n y.0 h y.1 f) y.2);
         enough =
-            omega (arith, ct, enough_now n h f, ap length ex ∙ exts_length image w n);
+            omega (arith, ct, enough_now n h f, ap length ex ∙ exts_length w n);
         datas = ap length da ∙ datas_length n h f ∙ sym ct;
         named = (λ k b a x y. data_named n h k b a f (subst (λ xs. At xs k b) da x) y);
         data_form = (λ k b x.
             rw (da, z) (data_formed n h k b f (subst (λ xs. At xs k b) da x)));
       }
 
-  module _ (boots : AllHold (boot_demands image)) where
+  module _ (boots : AllHold (boot_demands_by letters image)) where
     -- what a file holds is as long as its header says
     pub content_long : (n h : ℕ) → FileAt image w n h → length (content image (kind_of image) h (datas_in w n)) ≡ word_in image h SIZE
     content_long n h f =
@@ -327,7 +329,7 @@ module _ (image : List ℕ) (w : Walk) (v : IsWalk image w) (whole : IsWhole ima
         (λ k b x. (in_range image v (size_low (blocks image) boots.0.1) (Data n (suc k)) b (has_data image w v n k b x)).1)
         (datas_length n h f)
 
-    body_fits : (n b c : ℕ) (h : HeadAt w n b) → AllHold (head_demands image (kind_of image) b c h.slot) → (x : Bool)
+    body_fits : (n b c : ℕ) (h : HeadAt w n b) → AllHold (head_demands_by letters image (kind_of image) b c h.slot) → (x : Bool)
         → (word_in image b SECONDARY_TYPE == ST_DIR) ≡ x
         → BodyFits image (kind_of image) (layout_in w) n b (cond x Dir (File (content image (kind_of image) b (datas_in w n))))
     body_fits n b c h k true z =
@@ -345,21 +347,21 @@ module _ (image : List ℕ) (w : Walk) (v : IsWalk image w) (whole : IsWhole ima
               let f = kept image v (Data n 1) x.0 (has_data image w v n 0 x.0 x.1) in no_file f.head f.file) in omega arith),
         )
     body_fits n b c h k false z =
-        let f : FileAt image w n b = record { header = h; type = head_kind image b c h.slot k z } in
+        let f : FileAt image w n b = record { header = h; type = head_kind letters image b c h.slot k z } in
         let hp = head_is h in
         (f.type, ap (content image (kind_of image) b) (sym hp.2), content_long n b f)
 
-    pub entry_fits : (n : ℕ) (e : Entry) → EntryAt (tree_in image w) n e
-        → EntryFits image (tree_in image w) (layout_in w) n (at_node image (layout_in w) n) e
+    pub entry_fits : (n : ℕ) (e : Entry) → EntryAt (tree_in_by letters image w) n e
+        → EntryFitsBy letters image (tree_in_by letters image w) (layout_in w) n (at_node image (layout_in w) n) e
     entry_fits n e h =
         let x = entry_is n e h in
         let b : ℕ = x.block in
         let k = kept image v (head_role x.header) b x.header.has in
         let hb : at_node image (layout_in w) n ≡ b = (head_is x.header).0 in
         let pb : at_node image (layout_in w) x.header.parent ≡ k.2.0 = dir_at x.header.parent k.2.0 k.2.1 in
-        let sl : slot_of (name_of image b) ≡ x.header.slot = slot_is image v x.header in
-        subst (λ e. EntryFits image (tree_in image w) (layout_in w) n (at_node image (layout_in w) n) e) (sym x.entry)
-        (subst (λ h. EntryFits image (tree_in image w) (layout_in w) n h (entry_in image w n x.header.parent b)) (sym hb)
+        let sl : slot_by letters (name_of image b) ≡ x.header.slot = slot_is image v x.header in
+        subst (λ e. EntryFitsBy letters image (tree_in_by letters image w) (layout_in w) n (at_node image (layout_in w) n) e) (sym x.entry)
+        (subst (λ h. EntryFitsBy letters image (tree_in_by letters image w) (layout_in w) n h (entry_in image w n x.header.parent b)) (sym hb)
         (record {
           form = rw (pb, sl) k.2.2;
           name = refl;

@@ -2,7 +2,7 @@
 use Rattle.std.specs.Prelude.{◌≡◌, ℕ, List, [], ◌∷◌, Bool, ◌⊎◌, ◌*◌, length, slice_index, true, not, ◌==◌, ◌&&◌, nat_le}
 use Rattle.adf_base.specs.Words.{block}
 use Rattle.adf_base.specs.declared.hash.Letters.{Letters}
-use Rattle.adf_base.specs.declared.hash.Letters.TheVariants.{Ascii}
+use Rattle.adf_base.specs.declared.hash.Letters.TheVariants.{Ascii, International as InternationalLetters}
 use Rattle.adf_names.specs.declared.kind.Kind.{Kind}
 use Rattle.adf_names.specs.declared.kind.Kind.TheVariants.{Ofs, Ffs}
 use Rattle.adf_blocks.specs.declared.cause.Cause.{Cause}
@@ -48,17 +48,30 @@ IsSize image = (length image ≡ 512 * blocks image) × (is_allowed (blocks imag
 abbrev pub is_dos : List ℕ → Bool
 is_dos b = (slice_index b 0 == 0x44) && (slice_index b 1 == 0x4F) && (slice_index b 2 == 0x53) && nat_le (slice_index b 3) 5
 
--- the form of the first boot block: `DOS` and a type; types 0 and 1 are supported
-abbrev pub boot_form : List ℕ → List Clause
-boot_form b =
+-- whether a type may have these letters: types 0 and 1 have ASCII letters, types 2 and 3 international ones
+abbrev pub has_letters : Letters → ℕ → Bool
+has_letters Ascii type = not (type == 2) && not (type == 3)
+has_letters InternationalLetters type = not (type == 0) && not (type == 1)
+
+-- the form of the first boot block: `DOS` and a type, of these letters and without directory caches
+abbrev pub boot_form_by : Letters → List ℕ → List Clause
+boot_form_by letters b =
     (is_dos b, NotDos)
-    ∷ (not (slice_index b 3 == 2) && not (slice_index b 3 == 3), International)
+    ∷ (has_letters letters (slice_index b 3), International)
     ∷ (not (slice_index b 3 == 4) && not (slice_index b 3 == 5), DirCache)
     ∷ []
 
--- the demands on the size and the boot bytes
+-- the same on volumes of types 0 and 1
+abbrev pub boot_form : List ℕ → List Clause
+boot_form = boot_form_by Ascii
+
+-- the demands on the size and the boot bytes of a volume with these letters
+abbrev pub boot_demands_by : Letters → List ℕ → List Demand
+boot_demands_by letters image = demand BadSize 0 (IsSize image) ∷ demands_at 0 (boot_form_by letters (block image 0))
+
+-- the same on volumes of types 0 and 1
 abbrev pub boot_demands : List ℕ → List Demand
-boot_demands image = demand BadSize 0 (IsSize image) ∷ demands_at 0 (boot_form (block image 0))
+boot_demands = boot_demands_by Ascii
 
 -- the demands on the root at block b
 abbrev pub root_demands : List ℕ → ℕ → List Demand

@@ -1,10 +1,12 @@
 -- The blocks of the parts of a volume.
 use Rattle.std.specs.Prelude.{◌≡◌, ℕ, List, [], ◌∷◌, ◌++◌, cond}
 use Rattle.std.proofs.Common.{zero, suc}
+use Rattle.adf_base.specs.declared.hash.Letters.{Letters}
+use Rattle.adf_base.specs.declared.hash.Letters.TheVariants.{Ascii}
 use Rattle.adf_tree.specs.declared.entry.Entry.{Entry}
 use Rattle.adf_tree.specs.declared.entry.Body.TheVariants.{File}
 use Rattle.adf_tree.specs.Tree.{Tree}
-use Rattle.adf_tree.specs.Chain.{in_chain}
+use Rattle.adf_tree.specs.Chain.{in_chain_by}
 use Rattle.adf_volume.specs.Lists.{At, numbered}
 use Rattle.adf_volume.specs.Image.{root_of}
 use Rattle.adf_volume.specs.declared.owner.Owner.{Owner}
@@ -15,14 +17,23 @@ abbrev pub EntryAt : Tree → ℕ → Entry → Type 0
 EntryAt t zero e = ⊥
 EntryAt t (suc i) e = At t.entries i e
 
--- the numbers of the entries with this parent and slot, in order
-abbrev pub nodes_from : ℕ → List Entry → ℕ → ℕ → List ℕ
-nodes_from n [] p s = []
-nodes_from n (e ∷ es) p s = cond (in_chain p s e) (n ∷ nodes_from (suc n) es p s) (nodes_from (suc n) es p s)
+-- the numbers of the entries with this parent and slot, in order, where names have these letters
+abbrev pub nodes_from_by : Letters → ℕ → List Entry → ℕ → ℕ → List ℕ
+nodes_from_by letters n [] p s = []
+nodes_from_by letters n (e ∷ es) p s =
+    cond (in_chain_by letters p s e) (n ∷ nodes_from_by letters (suc n) es p s) (nodes_from_by letters (suc n) es p s)
 
--- the chain of slot s of directory p, as the numbers of its entries
+-- the same on volumes of types 0 and 1
+abbrev pub nodes_from : ℕ → List Entry → ℕ → ℕ → List ℕ
+nodes_from = nodes_from_by Ascii
+
+-- the chain of slot s of directory p, as the numbers of its entries; names have these letters
+abbrev pub chain_nodes_by : Letters → Tree → ℕ → ℕ → List ℕ
+chain_nodes_by letters t p s = nodes_from_by letters 1 t.entries p s
+
+-- the same on volumes of types 0 and 1
 abbrev pub chain_nodes : Tree → ℕ → ℕ → List ℕ
-chain_nodes t p s = nodes_from 1 t.entries p s
+chain_nodes = chain_nodes_by Ascii
 
 -- entry n is a file
 pub record IsFile (t : Tree) (n : ℕ) : Type 0 where

@@ -1,5 +1,6 @@
 -- The tree and the layout of a whole walk.
 use Rattle.std.specs.Prelude.{Bool, true, false, ℕ, List, [], ◌∷◌, ◌++◌, cond, ◌==◌}
+use Rattle.adf_base.specs.declared.hash.Letters.{Letters}
 use Rattle.adf_base.specs.declared.hash.Letters.TheVariants.{Ascii}
 use Rattle.adf_blocks.specs.declared.layout.TheConstants.{SECONDARY_TYPE, ST_DIR}
 use Rattle.adf_volume.specs.Image.{word_in, root_of, kind_of, name_of, meta_of, stamps_of, content}
@@ -90,16 +91,20 @@ entries_in image full w = of_heads (entry_in image full) w
 abbrev pub places_in : Walk → Walk → List Place
 places_in full w = of_heads (λ n p b. place_in full n b) w
 
--- the tree of a whole walk
-abbrev pub tree_in : List ℕ → Walk → Tree
-tree_in image w = record {
+-- the tree of a whole walk; names have these letters
+abbrev pub tree_in_by : Letters → List ℕ → Walk → Tree
+tree_in_by letters image w = record {
   kind = kind_of image;
-  letters = Ascii;
+  letters = letters;
   label = name_of image (root_of image);
   stamps = stamps_of image (root_of image);
   entries =
       entries_in image w w;
 }
+
+-- the same on volumes of types 0 and 1
+abbrev pub tree_in : List ℕ → Walk → Tree
+tree_in = tree_in_by Ascii
 
 -- the layout of a whole walk
 abbrev pub layout_in : Walk → Layout

@@ -1,11 +1,13 @@
 -- Small images, for trying the definitions.
 use Rattle.std.specs.Prelude.{ℕ, List, [], ◌∷◌, ◌++◌, replicate}
 use Rattle.std.specs.List.{concat}
-use Rattle.adf_base.specs.declared.hash.Letters.TheVariants.{Ascii}
 use Rattle.adf_base.specs.Words.{with_word}
 use Rattle.adf_base.specs.declared.dates.Stamp.{Stamp}
+use Rattle.adf_base.specs.declared.hash.Letters.{Letters}
+use Rattle.adf_base.specs.declared.hash.Letters.TheVariants.{Ascii}
 use Rattle.adf_names.specs.declared.kind.Kind.TheVariants.{Ofs, Ffs}
 use Rattle.adf_names.specs.Meta.{new_meta}
+use Rattle.adf_names.specs.declared.meta.Stamps.{Stamps}
 use Rattle.adf_tree.specs.declared.entry.Body.TheVariants.{File}
 use Rattle.adf_tree.specs.declared.entry.Entry.{Entry}
 use Rattle.adf_tree.specs.Tree.{Tree}
@@ -19,18 +21,21 @@ tiny_root =
     ++ ((0xFF ∷ 0xFF ∷ 0xFF ∷ 0xB3 ∷ []) ++ (replicate 288 0
     ++ ((0xFF ∷ 0xFF ∷ 0xFF ∷ 0xFF ∷ []) ++ ((0 ∷ 0 ∷ 0 ∷ 3 ∷ []) ++ (replicate 188 0 ++ (0 ∷ 0 ∷ 0 ∷ 1 ∷ [])))))))))
 
--- an empty FFS volume of 4 blocks: the boot blocks, the root, and a page without a free block
-unfoldable pub tiny : List ℕ
-tiny = (0x44 ∷ 0x4F ∷ 0x53 ∷ 1 ∷ []) ++ (replicate 1020 0 ++ (tiny_root ++ replicate 512 0))
+-- an empty volume of this type and 4 blocks: the boot blocks, the root, and a page without a free block
+unfoldable pub tiny : ℕ → List ℕ
+tiny type = (0x44 ∷ 0x4F ∷ 0x53 ∷ type ∷ []) ++ (replicate 1020 0 ++ (tiny_root ++ replicate 512 0))
 
 -- the earliest date
 abbrev no_stamp : Stamp
 no_stamp = record { days = 0; mins = 0; ticks = 0 }
 
--- the tree of the smallest volume
-abbrev pub tiny_tree : Tree
-tiny_tree =
-    record { kind = Ffs; letters = Ascii; label = []; stamps = record { root = no_stamp; altered = no_stamp; created = no_stamp }; entries = [] }
+-- the dates of the samples
+abbrev no_stamps : Stamps
+no_stamps = record { root = no_stamp; altered = no_stamp; created = no_stamp }
+
+-- the tree of the smallest FFS volume with these letters
+abbrev pub tiny_tree : Letters → Tree
+tiny_tree letters = record { kind = Ffs; letters = letters; label = []; stamps = no_stamps; entries = [] }
 
 -- the blocks of the smallest volume
 abbrev pub tiny_layout : Layout
@@ -60,8 +65,7 @@ file_a = record { parent = 0; name = 0x61 ∷ []; meta = new_meta [] 0 no_stamp;
 
 -- its tree
 abbrev pub one_file_tree : Tree
-one_file_tree =
-    record { kind = Ofs; letters = Ascii; label = []; stamps = record { root = no_stamp; altered = no_stamp; created = no_stamp }; entries = file_a ∷ [] }
+one_file_tree = record { kind = Ofs; letters = Ascii; label = []; stamps = no_stamps; entries = file_a ∷ [] }
 
 -- its blocks
 abbrev pub one_file_layout : Layout

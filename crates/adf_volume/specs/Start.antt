@@ -1,16 +1,22 @@
 -- Images with a valid size, boot block and root.
 use Rattle.std.specs.Prelude.{◌≡◌, ◌/◌, ◌%◌, ◌==◌, ◌&&◌, Bool, ℕ, List, ◌∷◌, ◌++◌, length}
 use Rattle.adf_base.specs.Words.{block}
+use Rattle.adf_base.specs.declared.hash.Letters.{Letters}
+use Rattle.adf_base.specs.declared.hash.Letters.TheVariants.{Ascii}
 use Rattle.adf_blocks.specs.declared.cause.Cause.TheVariants.{BadSize}
 use Rattle.adf_blocks.specs.Forms.{Clause}
 use Rattle.adf_names.specs.declared.kind.Kind.{Kind}
 use Rattle.adf_blocks.specs.Sizes.{blocks, is_allowed}
-use Rattle.adf_volume.specs.Demands.{AllHold, boot_demands, boot_form, root_demands}
+use Rattle.adf_volume.specs.Demands.{AllHold, boot_demands_by, boot_form_by, root_demands}
 use Rattle.adf_volume.specs.Image.{kind_of, root_of}
 
--- the size, the boot bytes and the root are valid
+-- the size, the boot bytes and the root of a volume with these letters are valid
+abbrev pub IsBegunBy : Letters → List ℕ → Type 0
+IsBegunBy letters image = AllHold (boot_demands_by letters image ++ root_demands image (root_of image))
+
+-- the same of a volume of type 0 or 1
 abbrev pub IsBegun : List ℕ → Type 0
-IsBegun image = AllHold (boot_demands image ++ root_demands image (root_of image))
+IsBegun = IsBegunBy Ascii
 
 -- an image with a valid size, boot block and root, of this kind and number of blocks
 pub record IsImage (image : List ℕ) (read : Kind) (n : ℕ) : Type 0 where
@@ -22,6 +28,10 @@ pub record IsImage (image : List ℕ) (read : Kind) (n : ℕ) : Type 0 where
 abbrev pub is_image_len : ℕ → Bool
 is_image_len size = (size % 512 == 0) && is_allowed (size / 512)
 
--- the form of the size and the boot bytes of an image
+-- the form of the size and the boot bytes of an image with these letters
+abbrev pub start_form_by : Letters → List ℕ → List Clause
+start_form_by letters image = (is_image_len (length image), BadSize) ∷ boot_form_by letters (block image 0)
+
+-- the same of an image of type 0 or 1
 abbrev pub start_form : List ℕ → List Clause
-start_form image = (is_image_len (length image), BadSize) ∷ boot_form (block image 0)
+start_form = start_form_by Ascii

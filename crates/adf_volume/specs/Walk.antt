@@ -13,7 +13,7 @@ use Rattle.adf_blocks.specs.declared.layout.TheConstants.{PAGE_BITS, POINTERS, R
 use Rattle.adf_base.specs.declared.hash.Letters.{Letters}
 use Rattle.adf_base.specs.declared.hash.Letters.TheVariants.{Ascii}
 use Rattle.adf_names.specs.Texts.{uppers_by}
-use Rattle.adf_volume.specs.Demands.{Demand, demand, AllHold, FirstFails, boot_demands, root_demands, page_demands, head_demands_by, ext_demands, data_demands}
+use Rattle.adf_volume.specs.Demands.{Demand, demand, AllHold, FirstFails, boot_demands_by, root_demands, page_demands, head_demands_by, ext_demands, data_demands}
 
 -- Head n p s j is the header of node n, at position j of the chain of slot s of directory p.
 pub data Role : Type 0 where
@@ -236,15 +236,23 @@ form_demands = form_demands_by Ascii
 abbrev pub NewName : List ℕ → Walk → Role → ℕ → Type 0
 NewName = NewNameBy Ascii
 
--- each demand of the role holds
-abbrev pub NoCause : List ℕ → Walk → Role → ℕ → ℕ → Type 0
-NoCause image w r a b = AllHold (demands image w r a b)
+-- each demand of the role holds; names have these letters
+abbrev pub NoCauseBy : Letters → List ℕ → Walk → Role → ℕ → ℕ → Type 0
+NoCauseBy letters image w r a b = AllHold (demands_by letters image w r a b)
 
--- a walk starts with the root; each further part was due and has no cause
-pub data IsWalk (image : List ℕ) : Walk → Type 0 where
-  start : IsWalk image ((Root, root_of image) ∷ [])
-  step : {w : Walk} {r : Role} {b a i : ℕ} → IsWalk image w → IsDue image w r a i → word_in image a i ≡ b → NoCause image w r a b
-      → IsWalk image ((r, b) ∷ w)
+-- the same on volumes of types 0 and 1
+abbrev pub NoCause : List ℕ → Walk → Role → ℕ → ℕ → Type 0
+NoCause = NoCauseBy Ascii
+
+-- a walk starts with the root; each further part was due and has no cause, where names have these letters
+pub data IsWalkBy (letters : Letters) (image : List ℕ) : Walk → Type 0 where
+  start : IsWalkBy letters image ((Root, root_of image) ∷ [])
+  step : {w : Walk} {r : Role} {b a i : ℕ} → IsWalkBy letters image w → IsDue image w r a i → word_in image a i ≡ b
+      → NoCauseBy letters image w r a b → IsWalkBy letters image ((r, b) ∷ w)
+
+-- the walks of volumes of types 0 and 1
+abbrev pub IsWalk : List ℕ → Walk → Type 0
+IsWalk = IsWalkBy Ascii
 
 -- the walk has all that it asks for
 abbrev pub IsWhole : List ℕ → Walk → Type 0
@@ -262,10 +270,15 @@ bitmap_demands image w b (suc n) =
     ∷ demand OwnedFree b (IsFreeIn image w b → IsAbsent w b)
     ∷ bitmap_demands image w (suc b) n
 
--- The first fault: in size, boot bytes or root; else in a part due after some walk; else in the bitmap.
-pub data FirstFault (image : List ℕ) (b : ℕ) (c : Cause) : Type 0 where
-  at_boot : FirstFails (boot_demands image ++ root_demands image (root_of image)) b c → FirstFault image b c
-  at_due : AllHold (boot_demands image ++ root_demands image (root_of image)) → (w : Walk) (r : Role) (a i : ℕ) → IsWalk image w
-      → IsDue image w r a i → FirstFails (demands image w r a (word_in image a i)) b c → FirstFault image b c
-  at_bitmap : AllHold (boot_demands image ++ root_demands image (root_of image)) → (w : Walk) → IsWalk image w → IsWhole image w
-      → FirstFails (bitmap_demands image w 2 (blocks image - 2)) b c → FirstFault image b c
+-- The first fault of a volume with these letters: in size, boot bytes or root; else in a part due after some walk; else in the bitmap.
+pub data FirstFaultBy (letters : Letters) (image : List ℕ) (b : ℕ) (c : Cause) : Type 0 where
+  at_boot : FirstFails (boot_demands_by letters image ++ root_demands image (root_of image)) b c → FirstFaultBy letters image b c
+  at_due : AllHold (boot_demands_by letters image ++ root_demands image (root_of image)) → (w : Walk) (r : Role) (a i : ℕ)
+      → IsWalkBy letters image w → IsDue image w r a i → FirstFails (demands_by letters image w r a (word_in image a i)) b c
+      → FirstFaultBy letters image b c
+  at_bitmap : AllHold (boot_demands_by letters image ++ root_demands image (root_of image)) → (w : Walk) → IsWalkBy letters image w
+      → IsWhole image w → FirstFails (bitmap_demands image w 2 (blocks image - 2)) b c → FirstFaultBy letters image b c
+
+-- the first fault of a volume of type 0 or 1
+abbrev pub FirstFault : List ℕ → ℕ → Cause → Type 0
+FirstFault = FirstFaultBy Ascii

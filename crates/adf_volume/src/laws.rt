@@ -1,24 +1,25 @@
-// The laws of walks. Each is the contract of a function that does nothing at run time.
+// The laws of walks, for names of any letters. Each is the contract of a function that does nothing at run time.
 
 ghost use Rattle.std.specs.Prelude.{◌≡◌, ◌<◌, ℕ, List, ◌*◌, ◌-◌, ◌↔◌, length, map, Some, None};
 ghost use Rattle.std.specs.List.{All, concat};
+ghost use Rattle.adf_base.specs.declared.hash.Letters.{Letters};
 ghost use Rattle.adf_tree.specs.declared.entry.Entry.{Entry};
 ghost use Rattle.adf_names.specs.declared.kind.Kind.{Kind};
 ghost use Rattle.adf_tree.specs.Bounds.{IsBounded};
-ghost use Rattle.adf_tree.specs.Chain.{chain};
+ghost use Rattle.adf_tree.specs.Chain.{chain_by};
 ghost use Rattle.adf_tree.specs.Tree.{Tree, entry};
 ghost use Rattle.adf_blocks.specs.declared.cause.Cause.{Cause};
 ghost use Rattle.adf_blocks.specs.declared.layout.TheConstants.{SIZE};
 ghost use Rattle.adf_blocks.specs.Forms.{Clause, first_cause};
 ghost use Rattle.adf_blocks.specs.Sizes.{blocks};
 ghost use Rattle.adf_volume.specs.Lists.{At};
-ghost use Rattle.adf_volume.specs.Image.{content, pieces, root_of, word_in};
-ghost use Rattle.adf_volume.specs.Demands.{AllHold, FirstFails, boot_demands, root_demands, demands_at};
-ghost use Rattle.adf_volume.specs.Layout.{EntryAt, Layout, chain_nodes};
-ghost use Rattle.adf_volume.specs.Fits.{Fits};
-ghost use Rattle.adf_volume.specs.Walk.{FirstFault, Has, IsDue, IsWalk, IsWhole, NoCause, Role, bitmap_demands, Walk};
-ghost use Rattle.adf_volume.specs.LayoutRoles.{LayoutHas};
-ghost use Rattle.adf_volume.specs.Made.{layout_in, tree_in};
+ghost use Rattle.adf_volume.specs.Image.{content, letters_of, pieces, root_of, word_in};
+ghost use Rattle.adf_volume.specs.Demands.{AllHold, FirstFails, boot_demands_by, root_demands, demands_at};
+ghost use Rattle.adf_volume.specs.Layout.{EntryAt, Layout, chain_nodes_by};
+ghost use Rattle.adf_volume.specs.Fits.{FitsBy};
+ghost use Rattle.adf_volume.specs.Walk.{FirstFaultBy, Has, IsDue, IsWalkBy, IsWhole, NoCauseBy, Role, bitmap_demands, Walk};
+ghost use Rattle.adf_volume.specs.LayoutRoles.{LayoutHasBy};
+ghost use Rattle.adf_volume.specs.Made.{layout_in, tree_in_by};
 
 /// The demands of a form all hold if and only if it has no first cause; the first that fails has its first cause.
 pub fn demanded_form()
@@ -30,68 +31,80 @@ pub fn demanded_form()
 
 /// If a tree and a layout fit, every part in a walk is theirs, and the part due next is theirs and has no cause.
 pub fn agreement()
-    ensures part { (image : List ℕ) (t : Tree) (l : Layout) (w : Walk) → Fits image t l
-        → IsWalk image w
-        → (r : Role) (b : ℕ) → Has w r b → LayoutHas image t l r b }
-    ensures due { (image : List ℕ) (t : Tree) (l : Layout) (w : Walk) → Fits image t l
-        → IsWalk image w
+    ensures part { (letters : Letters) (image : List ℕ) (t : Tree) (l : Layout) (w : Walk)
+        → FitsBy letters image t l → IsWalkBy letters image w
+        → (r : Role) (b : ℕ) → Has w r b → LayoutHasBy letters image t l r b }
+    ensures due { (letters : Letters) (image : List ℕ) (t : Tree) (l : Layout) (w : Walk)
+        → FitsBy letters image t l → IsWalkBy letters image w
         → (r : Role) (a i : ℕ) → IsDue image w r a i
-        → LayoutHas image t l r (word_in image a i) × NoCause image w r a (word_in image a i) }
+        → LayoutHasBy letters image t l r (word_in image a i)
+        × NoCauseBy letters image w r a (word_in image a i) }
 {}
 
 /// If, in addition, nothing is due, the walk has every part.
 #[tactic(auto, using(crate::proofs::WalkCompleteness::part_walked))]
 pub fn completeness()
-    ensures { (image : List ℕ) (t : Tree) (l : Layout) (w : Walk) → Fits image t l
-        → IsWalk image w → IsWhole image w
-        → (r : Role) (b : ℕ) → LayoutHas image t l r b → Has w r b }
+    ensures { (letters : Letters) (image : List ℕ) (t : Tree) (l : Layout) (w : Walk)
+        → FitsBy letters image t l → IsWalkBy letters image w → IsWhole image w
+        → (r : Role) (b : ℕ) → LayoutHasBy letters image t l r b → Has w r b }
 {}
 
 /// If an image has a first fault, no tree fits it.
 pub fn none_fits()
-    ensures { (image : List ℕ) (b : ℕ) (c : Cause) → FirstFault image b c → (t : Tree) (l : Layout)
-        → Fits image t l → ⊥ }
+    ensures { (letters : Letters) (image : List ℕ) (b : ℕ) (c : Cause)
+        → FirstFaultBy letters image b c → (t : Tree) (l : Layout) → FitsBy letters image t l → ⊥ }
 {}
 
 /// If a tree and a layout fit, there is a whole walk.
 #[tactic(auto, using(crate::proofs::FitWalks::whole_walk))]
 pub fn whole_walk()
-    ensures { (image : List ℕ) (t : Tree) (l : Layout) → Fits image t l
-        → (w : Walk) × IsWalk image w × IsWhole image w }
+    ensures { (letters : Letters) (image : List ℕ) (t : Tree) (l : Layout)
+        → FitsBy letters image t l → (w : Walk) × IsWalkBy letters image w × IsWhole image w }
 {}
 
-/// Two trees that fit the same image are equal, and so are their layouts.
+/// Two trees that fit the same image, by whatever letters, are equal, and so are their layouts.
 #[tactic(auto, using(crate::proofs::FitWalks::one_fit))]
 pub fn one_fit()
-    ensures { (image : List ℕ) (t u : Tree) (l m : Layout) → Fits image t l → Fits image u m
-        → (t ≡ u) × (l ≡ m) }
+    ensures { (letters others : Letters) (image : List ℕ) (t u : Tree) (l m : Layout)
+        → FitsBy letters image t l → FitsBy others image u m → (t ≡ u) × (l ≡ m) }
+{}
+
+/// The letters by which a tree fits an image are those of the image, and of the tree.
+#[tactic(auto, using(crate::proofs::ImageStart::own_letters))]
+pub fn fits_by_own_letters()
+    ensures image { (letters : Letters) (image : List ℕ) (t : Tree) (l : Layout)
+        → FitsBy letters image t l → letters ≡ letters_of image }
+    ensures tree { (letters : Letters) (image : List ℕ) (t : Tree) (l : Layout)
+        → FitsBy letters image t l → letters ≡ t.letters }
 {}
 
 /// The fields of a tree that fits an image of bytes are within their bounds.
 pub fn fits_are_bounded()
-    ensures { (image : List ℕ) (t : Tree) (l : Layout) → All (λ byte. byte < 256) image
-        → Fits image t l → IsBounded t }
+    ensures { (letters : Letters) (image : List ℕ) (t : Tree) (l : Layout)
+        → All (λ byte. byte < 256) image → FitsBy letters image t l → IsBounded t }
 {}
 
 /// The tree and layout of a whole walk fit the image if its boot block, root and bitmap are sound.
 pub fn layout_of_walk_fits()
-    ensures { (image : List ℕ) (w : Walk) → AllHold (boot_demands image)
-        → AllHold (root_demands image (root_of image))
-        → IsWalk image w → IsWhole image w → AllHold (bitmap_demands image w 2 (blocks image - 2))
-        → Fits image (tree_in image w) (layout_in w) }
+    ensures { (letters : Letters) (image : List ℕ) (w : Walk)
+        → AllHold (boot_demands_by letters image) → AllHold (root_demands image (root_of image))
+        → IsWalkBy letters image w → IsWhole image w
+        → AllHold (bitmap_demands image w 2 (blocks image - 2))
+        → FitsBy letters image (tree_in_by letters image w) (layout_in w) }
 {}
 
 /// An image has at most one first fault.
 pub fn one_fault()
-    ensures { (image : List ℕ) (b d : ℕ) (c e : Cause) → FirstFault image b c → FirstFault image d e
-        → (b ≡ d) × (c ≡ e) }
+    ensures { (letters : Letters) (image : List ℕ) (b d : ℕ) (c e : Cause)
+        → FirstFaultBy letters image b c → FirstFaultBy letters image d e → (b ≡ d) × (c ≡ e) }
 {}
 
 /// The numbers of a chain are those of its entries.
 #[tactic(auto, using(crate::proofs::Chains::chain_entries, crate::proofs::Chains::entry_is_at))]
 pub fn chains_of_numbers()
-    ensures entries { (t : Tree) (p s : ℕ)
-        → map (λ n. entry t.entries n) (chain_nodes t p s) ≡ map Some (chain t.entries p s) }
+    ensures entries { (letters : Letters) (t : Tree) (p s : ℕ)
+        → map (λ n. entry t.entries n) (chain_nodes_by letters t p s)
+        ≡ map Some (chain_by letters t.entries p s) }
     ensures numbers { (t : Tree) (n : ℕ) (e : Entry)
         → EntryAt t n e ↔ (entry t.entries n ≡ Some e) }
 {}

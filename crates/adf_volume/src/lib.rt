@@ -16,10 +16,13 @@ pub use crate::fault::{Fault, fault_at, no_memory};
 pub use crate::image::Image;
 pub use crate::laws::{
     agreement, chains_of_numbers, completeness, demanded_form, fits_are_bounded,
-    layout_of_walk_fits, none_fits, one_fault, one_fit, pieces_are_content, whole_walk,
+    fits_by_own_letters, layout_of_walk_fits, none_fits, one_fault, one_fit, pieces_are_content,
+    whole_walk,
 };
 pub use crate::owner::Owner;
 pub use crate::pieces::{Pieces, count_of, held_in, joined};
 pub use crate::row::{Row, RowBody, row_of};
-pub use crate::samples::{file_volume_fits, lost_block_is_first_fault, tiny_volume_fits};
+pub use crate::samples::{
+    file_volume_fits, international_volume_fits, lost_block_is_first_fault, tiny_volume_fits,
+};
 pub use crate::start::{Opened, boot_cause, kind_in, letters_in, open};

@@ -6,7 +6,7 @@ use Rattle.adf_check.specs.Store.{store_value}
 use Rattle.adf_check.specs.Volumes.{StandsFor, Volume}
 use Rattle.adf_volume.specs.Demands.{FirstFails, boot_demands, root_demands}
 use Rattle.adf_volume.specs.Image.{root_of}
-use Rattle.adf_volume.specs.Walk.FirstFault.{at_boot}
+use Rattle.adf_volume.specs.Walk.FirstFaultBy.{at_boot}
 use Rattle.adf_volume.specs.Fault.{IsTrueFault}
 use Rattle.adf_check.proofs.ClaimSteps.{first_fault, if_err}
 use Rattle.adf_check.proofs.StoreStands.{keeps}
