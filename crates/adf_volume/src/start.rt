@@ -116,7 +116,6 @@ pub fn boot_cause(image: &[u8]) -> Option<Cause>
 }
 
 /// Reads the size, the first four bytes and the root of an image; if one is invalid, the first cause and its block.
-#[tactic(auto, using(crate::proofs::ImageStart::begins, crate::proofs::ImageStart::fails_start, crate::proofs::ImageStart::fails_root))]
 pub fn open<'a>(bytes: &'a [u8]) -> Result<Opened<'a>, Fault>
     ensures image { IfOk result (λ o. o.image ≡ bytes.now) }
     ensures begun { IfOk result (λ o. IsBegun o.image) }
