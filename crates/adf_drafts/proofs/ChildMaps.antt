@@ -1,6 +1,6 @@
 -- Maps from parent and name to number.
-use Rattle.std.proofs.Common.{◌≡◌, ◌≢◌, ℕ, ◌<◌, inl, inr, List, [], ◌∷◌, ◌++◌, length, set, get_or, Some, None, Option, cond, true, arith, ◌==◌, ◌&&◌, refl}
-use Rattle.std.proofs.Common.{zero, suc, sym, ◌∙◌, ap}
+use Rattle.std.proofs.Common.{◌≡◌, ◌≢◌, ℕ, ◌<◌, ◌≤◌, inl, inr, List, [], ◌∷◌, ◌++◌, length, set, get_or, Some, None, Option, cond, true, arith, ◌==◌, ◌&&◌, refl}
+use Rattle.std.proofs.Common.{zero, suc, sym, subst, ◌∙◌, ap}
 use Rattle.std.specs.List.{slice_get}
 use Rattle.std.specs.Ordering.{is_eq, nat_cmp}
 use Rattle.std.specs.Str.{bytes_eq}
@@ -54,6 +54,33 @@ set_here (b ∷ bs) (suc i) new k lt = set_here bs i new k (omega arith)
 get_here : (numbers : Numbers) (i : ℕ) (old : BTreeMap ChildKey ℕ) (k : ChildKey) → i < length numbers → old ≡ get_or numbers i old
     → number_at (slice_get numbers i) k ≡ get by_child old k
 get_here numbers i old k lt is = rw (slice_get-get_or numbers i old lt, ← is)
+
+-- a key in its bucket
+key_there : (numbers : Numbers) (p : ℕ) (x : List ℕ) (bucket : BTreeMap ChildKey ℕ) → is_short x ≡ true → bucket_of (child_key p x) < length numbers
+    → bucket ≡ get_or numbers (bucket_of (child_key p x)) bucket → get by_child bucket (child_key p x) ≡ number_in numbers p x
+unfolding number_in
+key_there numbers p x bucket short lt at = rw short (sym (get_here numbers (bucket_of (child_key p x)) bucket (child_key p x) lt at))
+
+pub in_bucket : (numbers : Numbers) (p i : ℕ) (x : List ℕ) (k : ChildKey) (bucket : BTreeMap ChildKey ℕ) → k ≡ child_key p x → is_short x ≡ true
+    → i ≡ bucket_of k → i < length numbers → bucket ≡ get_or numbers i bucket → get by_child bucket k ≡ number_in numbers p x
+in_bucket numbers p i x k bucket key short is lt at =
+    let here : i ≡ bucket_of (child_key p x) = is ∙ ap bucket_of key in
+    ap (get by_child bucket) key
+    ∙ key_there numbers p x bucket short (subst (λ j. j < length numbers) here lt) (subst (λ j. bucket ≡ get_or numbers j bucket) here at)
+
+-- a key whose bucket is missing
+past_all : (numbers : Numbers) (i : ℕ) (k : ChildKey) → length numbers ≤ i → number_at (slice_get numbers i) k ≡ None
+past_all [] i k le = refl
+past_all (b ∷ bs) zero k le = absurd (omega arith)
+past_all (b ∷ bs) (suc i) k le = past_all bs i k (omega arith)
+
+key_missing : (numbers : Numbers) (p : ℕ) (x : List ℕ) → is_short x ≡ true → length numbers ≤ bucket_of (child_key p x) → None ≡ number_in numbers p x
+unfolding number_in
+key_missing numbers p x short le = rw short (sym (past_all numbers (bucket_of (child_key p x)) (child_key p x) le))
+
+pub no_bucket : (numbers : Numbers) (p i : ℕ) (x : List ℕ) (k : ChildKey) → k ≡ child_key p x → is_short x ≡ true → i ≡ bucket_of k
+    → length numbers ≤ i → None ≡ number_in numbers p x
+no_bucket numbers p i x k key short is le = key_missing numbers p x short (subst (λ j. length numbers ≤ j) (is ∙ ap bucket_of key) le)
 
 -- what a bucket says after it was written
 written : (numbers : Numbers) (i : ℕ) (old new : BTreeMap ChildKey ℕ) (q : ChildKey) (f : Option ℕ → Option ℕ) → i < length numbers

@@ -73,7 +73,6 @@ impl ChildMap {
         }
     }
 
-    #[tactic(auto, unfolding(crate::specs::ChildMap::number_in))]
     /// The number of the entry with this parent and this name, ignoring the case of these letters.
     pub fn get(&self, letters: Letters, parent: Node, name: &Name) -> Option<Node>
         ensures { result ≡ number_in self.now.buckets.items parent (uppers_by letters name.now) }
@@ -86,7 +85,6 @@ impl ChildMap {
         number_at(&self.buckets[bucket], &key)
     }
 
-    #[tactic(auto, using(crate::proofs::ChildMaps::no_more))]
     // Allocates the buckets that are missing.
     fn make_buckets(&mut self) -> Result<(), NoMemory>
         ensures same { (p : ℕ) (x : List ℕ)
@@ -102,7 +100,6 @@ impl ChildMap {
         Ok(())
     }
 
-    #[tactic(auto, using(crate::proofs::ChildMaps::has_number, crate::proofs::ChildMaps::same_number_in))]
     /// Adds an entry. On `NoMemory` the map is unchanged.
     pub fn put(
         &mut self,

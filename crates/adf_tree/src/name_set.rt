@@ -179,7 +179,6 @@ fn put_in_overflow(overflow: &mut BTreeSet<NameKey>, name: NameKey) -> Result<bo
     }
 }
 
-#[tactic(auto, using(crate::proofs::NameBuckets::stored_among, crate::proofs::NameBuckets::with_same))]
 // Adds a name; returns whether it is new.
 fn place(
     names: &mut Vec<NameKey>,
@@ -307,7 +306,6 @@ impl NameSet {
         self.put_by(Letters::Ascii, name)
     }
 
-    #[tactic(auto, using(crate::proofs::NameKeys::has_key, crate::proofs::NameKeys::has_more))]
     /// Adds a name, in upper case by these letters; returns whether it is new. `NoMemory` if an allocation fails.
     pub fn put_by(&mut self, letters: Letters, name: &Name) -> Result<bool, NoMemory>
         ensures new { IfOk result (λ is_new.

@@ -104,7 +104,6 @@ fn read_start(image: &[u8]) -> Result<Start, Cause>
 }
 
 /// The first cause in the size and the first four bytes of an image, at block 0.
-#[tactic(auto, using(crate::proofs::ImageStart::boot_holds, crate::proofs::ImageStart::boot_fails))]
 pub fn boot_cause(image: &[u8]) -> Option<Cause>
     ensures none { IfNone result (AllHold (boot_demands image.now)) }
     ensures some { IfSome result (λ c. FirstFails (boot_demands image.now) 0 c) }
