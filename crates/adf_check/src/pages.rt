@@ -135,7 +135,6 @@ fn read_page_at(
 }
 
 /// Claims and reads the bitmap pages, each bitmap extension block before its pages; returns the blocks of the pages.
-#[tactic(auto, using(crate::proofs::PageSteps::list_done))]
 pub fn read_pages(
     alloc: Global,
     image: &Image<'_>,
