@@ -63,7 +63,6 @@ impl fmt::Display for BuildFault {
 impl Error for BuildFault {}
 
 // The fields of a tree fit the fields of blocks.
-#[tactic(auto, using(crate::proofs::WholeVolume::well_formed))]
 fn fields_fit(tree: &Tree)
     requires { tree.now.letters ≡ Ascii }
     ensures { IsWellFormed tree.now }

@@ -39,7 +39,6 @@ pub fn run<R: Source, W: Sink, E: Sink>(
 }
 
 /// Words ask for one request, and a request and an input have one answer: one status, one output and one text on errors.
-#[tactic(auto, using(crate::proofs::OneAnswer::one_answer, crate::proofs::OneAnswer::one_request))]
 pub fn one_answer()
     ensures request { WordsAskForOneRequest }
     ensures answer { RequestsHaveOneAnswer }

@@ -144,7 +144,6 @@ fn double_buckets(buckets: &mut Vec<u32>) -> Result<(), NoMemory>
     }
 }
 
-#[tactic(auto, using(crate::proofs::NameBuckets::stored_new))]
 // Puts a new name in its vacant bucket.
 fn fill_bucket(
     names: &mut Vec<NameKey>,

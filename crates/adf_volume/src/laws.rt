@@ -42,7 +42,6 @@ pub fn agreement()
 {}
 
 /// If, in addition, nothing is due, the walk has every part.
-#[tactic(auto, using(crate::proofs::WalkCompleteness::part_walked))]
 pub fn completeness()
     ensures { (letters : Letters) (image : List ℕ) (t : Tree) (l : Layout) (w : Walk)
         → FitsBy letters image t l → IsWalkBy letters image w → IsWhole image w
@@ -100,7 +99,6 @@ pub fn one_fault()
 {}
 
 /// The numbers of a chain are those of its entries.
-#[tactic(auto, using(crate::proofs::Chains::chain_entries, crate::proofs::Chains::entry_is_at))]
 pub fn chains_of_numbers()
     ensures entries { (letters : Letters) (t : Tree) (p s : ℕ)
         → map (λ n. entry t.entries n) (chain_nodes_by letters t p s)
