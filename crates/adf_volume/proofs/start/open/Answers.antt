@@ -1,4 +1,4 @@
-use Rattle.std.proofs.Common.{◌≡◌, ◌++◌, ◌/◌, ℕ, List, None, Some, refl, rules}
+use Rattle.std.proofs.Common.{◌≡◌, ◌++◌, ◌/◌, ℕ, List, None, Some, rules}
 use Rattle.adf_base.specs.Words.{block}
 use Rattle.adf_blocks.specs.Forms.{first_cause}
 use Rattle.adf_blocks.specs.RootBlock.{root_form}

@@ -1,4 +1,4 @@
-use Rattle.std.proofs.Common.{◌≡◌, ◌∙◌, ◌++◌, ◌∷◌, [], Bool, true, false, Result, Ok, Err, is_ok, if◌then◌else◌, ℕ, ap}
+use Rattle.std.proofs.Common.{◌≡◌, ◌∙◌, ◌++◌, ◌∷◌, [], true, false, Result, Ok, Err, is_ok, if◌then◌else◌, ℕ, ap}
 use Rattle.std.specs.Result.{is_err}
 use Rattle.std.specs.BTreeMap.{BTreeMap}
 use Rattle.adf_drafts.specs.declared.child_map.ChildKey.{ChildKey}
