@@ -10,13 +10,14 @@ use adf_runs::run_program_on;
 use std::alloc::Global;
 
 /// The names of all calls.
-pub const CALLS: [&str; 12] = [
+pub const CALLS: [&str; 13] = [
     "stamp_text",
     "label_write",
     "comment_write",
     "write_path",
     "tree_add",
     "entries_add",
+    "tree_letters",
     "draft_add",
     "owners_new",
     "read_sound_file",
