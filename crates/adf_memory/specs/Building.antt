@@ -1,6 +1,7 @@
 -- Volumes that are built from a table of additions.
 -- Letters: v a new volume; xs the table of its additions; bytes the contents of the files; t a tree; n a number of blocks.
 use Rattle.std.specs.Prelude.{◌≡◌, ◌≤◌, ◌<◌, ◌*◌, ◌-◌, ◌==◌, ℕ, true, false, not, nat_lt, if◌then◌else◌, Option, Some, None, List, [], length, take}
+use Rattle.adf_base.specs.declared.hash.Letters.TheVariants.{Ascii}
 use Rattle.adf_names.specs.declared.kind.Kind.{Kind}
 use Rattle.adf_names.specs.declared.kind.Kind.TheVariants.{Ofs, Ffs}
 use Rattle.adf_tree.specs.Tree.{Tree}
@@ -28,6 +29,7 @@ kind_by n = if n == 0 then Ofs else Ffs
 abbrev pub new_tree : NewVolume → Tree
 new_tree v = record {
   kind = kind_by v.kind;
+  letters = Ascii;
   label = take v.label_length v.label;
   stamps = record { root = stamp_of v.root; altered = stamp_of v.altered; created = stamp_of v.created };
   entries = [];
@@ -95,6 +97,7 @@ abbrev pub refusal_by : BuildFault → Refusal
 refusal_by build.BadSize = refusal.BadSize
 refusal_by (build.Full need have) = refusal.Full need have
 refusal_by build.NoMemory = refusal.NoMemory
+refusal_by build.OtherLetters = refusal.BadKind
 
 -- the refusal of a number of blocks that is not allowed, or of a room that is too small for so many
 abbrev pub bad_room : ℕ → ℕ → Option Refusal
