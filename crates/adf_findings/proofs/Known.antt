@@ -10,7 +10,7 @@ use Rattle.std.proofs.lemmas.Bool.Decides.{nat_tests}
 use Rattle.std.proofs.lemmas.Slice.Eq.{bytes_eq-Decides}
 use Rattle.std.proofs.lemmas.Grind.{common_steps}
 use Rattle.adf_tree.specs.NameSet.{HasMore, Names, has}
-use Rattle.adf_names.specs.Texts.{is_name, uppers}
+use Rattle.adf_names.specs.Texts.{is_name}
 use Rattle.adf_blocks.specs.Sizes.{blocks}
 use Rattle.adf_volume.specs.Image.{letters_of, name_of}
 use Rattle.adf_volume.specs.Positions.{position_of}
@@ -29,7 +29,6 @@ use Rattle.adf_findings.specs.Found.{is_owned, at_key, has_name, is_named, known
 use Rattle.adf_findings.specs.Parts.{by_key, key_of, role_of}
 use Rattle.adf_findings.proofs.Keys.{equal_keys}
 use Rattle.adf_findings.proofs.Names.{other_name}
-use Rattle.adf_names.proofs.RaisedNames.{raised_stays}
 
 pub tells_absent : (w : Walk) (b : ℕ) → Tells (not (owns w b)) (IsAbsent w b)
 tells_absent [] b = λ q h. h
@@ -96,12 +95,9 @@ known_names image w n p s (suc j) names named (m, c, h) name valid = named name 
 -- the names kept with that of a header; `begun` has those before it
 module _ (image : List ℕ) {part : Part} (b : ℕ) {n p s j : ℕ} (old begun : Names) (is : part ≡ HeadPart n p s j)
     (begins : (x : List ℕ) → has begun x ≡ known_at j (has old x)) where
-  -- the name of the header, if it is valid
-  module _ (name : List ℕ) (told : name ≡ uppers_in image (name_of image b)) where
-    own : uppers name ≡ uppers_in image (name_of image b)
-    own = ap uppers told ∙ raised_stays (letters_of image) (name_of image b)
-
-    pub name_is_new : (w : Walk) (t : Bool) → t ≡ not (has begun (uppers name)) → AreNamed image w (position_of (role_of part)) old
+  -- the name of the header in upper case, if it is valid
+  module _ (name : List ℕ) (own : name ≡ uppers_in image (name_of image b)) where
+    pub name_is_new : (w : Walk) (t : Bool) → t ≡ not (has begun name) → AreNamed image w (position_of (role_of part)) old
         → IsChain w part → HasValidName image part b → t ≡ new_in image w part b
     name_is_new w t e =
         subst (λ part. AreNamed image w (position_of (role_of part)) old → IsChain w part → HasValidName image part b → t ≡ new_in image w part b)
@@ -110,7 +106,7 @@ module _ (image : List ℕ) {part : Part} (b : ℕ) {n p s j : ℕ} (old begun :
         let known = known_names image w n p s j old named chain (name_of image b) valid in
         e ∙ ap not (ap (has begun) own ∙ (begins (uppers_in image (name_of image b)) ∙ known)))
 
-    pub kept_name : (new : Names) → HasMore begun new (uppers name) → KeepsName image part b old new
+    pub kept_name : (new : Names) → HasMore begun new name → KeepsName image part b old new
     kept_name new more = grind (arith, common_steps, own)
 
   -- a header without one

@@ -60,6 +60,7 @@ pub mod LeftOfSound
 pub mod Openings
 -- the directories of entries
 pub mod Directories
+pub mod Doubts
 -- the entries of images without findings
 pub mod AllSound
 -- look-up in surveys of volumes

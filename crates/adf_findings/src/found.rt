@@ -12,7 +12,7 @@ ghost use Rattle.adf_findings.specs.Found.{HasValidName, IsPut, IsTaken, IsNextP
 ghost use Rattle.adf_findings.specs.Found.{begun_marks, is_owned, known_at, member_in, new_in};
 ghost use Rattle.adf_findings.specs.Survey.{begun};
 
-use crate::header_name::upper_name;
+use crate::header_name::valid_name;
 use crate::image::Image;
 use crate::part::{Key, Part};
 use adf_base::NoMemory;
@@ -172,8 +172,8 @@ impl Found {
             return Ok(true);
         };
         self.begin_names(place);
-        match upper_name(image, b) {
-            Some(name) => self.names.put(&name),
+        match valid_name(image, b) {
+            Some(name) => self.names.put_by(image.letters(), &name),
             None => Ok(true),
         }
     }

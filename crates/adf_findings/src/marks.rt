@@ -1,6 +1,7 @@
 // The marks of sound entries.
 
-ghost use Rattle.std.specs.Prelude.{◌≡◌, ◌==◌, ◌&&◌, ◌||◌, ℕ, IfOk, false, map, not, slice_index_or};
+ghost use Rattle.std.specs.Prelude.{◌≡◌, ◌≤◌, ◌<◌, ◌==◌, ◌&&◌, ◌||◌, ℕ, Bool, IfOk, IsTrue, None, false, map, not};
+ghost use Rattle.std.specs.Prelude.{slice_index_or};
 ghost use Rattle.std.specs.List.{filter};
 ghost use Rattle.adf_blocks.specs.declared.layout.TheConstants.{TYPE, T_DATA};
 ghost use Rattle.adf_blocks.specs.Sizes.{blocks};
@@ -19,6 +20,9 @@ use adf_base::NoMemory;
 use adf_blocks::{Cause, T_DATA, TYPE};
 use adf_tree::Kind;
 use std::alloc::Global;
+
+// How many blocks are asked at once whether a file is in doubt by them.
+const CHUNK: u32 = 256;
 
 // Removes the mark of a node.
 fn strike(marks: &mut Vec<bool>, node: usize)
@@ -138,14 +142,53 @@ fn strike_doubted_at(image: &Image<'_>, found: &Found, marks: &mut Vec<bool>, b:
     }
 }
 
+// Whether no file is in doubt by the blocks from `first` up to, but not including, `end`: parts own none of them, or none
+// is dubious.
+#[tactic(auto, using(crate::proofs::Doubts::unowned_sure, crate::proofs::SoundMarks::none_doubted))]
+fn are_sure(image: &Image<'_>, found: &Found, first: u32, end: u32) -> bool
+    ensures { IsTrue result → (b : ℕ) → first ≤ b → b < end → doubted image.now found.now b ≡ None }
+{
+    if found.owners.are_parts(first, end, false) {
+        return true;
+    }
+    for b in first..end {
+        if is_dubious(image, found, b) {
+            return false;
+        }
+    }
+    true
+}
+
+// Removes the marks of files in doubt by the blocks from `first` up to, but not including, `end`.
+fn strike_doubted_among(
+    image: &Image<'_>,
+    found: &Found,
+    marks: &mut Vec<bool>,
+    first: u32,
+    end: u32,
+)
+    requires { first ≤ end }
+    ensures { (m : ℕ) (t : Bool) → has_mark marks.old.items m ≡ (t && not (is_doubted image.now found.now first m))
+        → has_mark marks.new.items m ≡ (t && not (is_doubted image.now found.now end m)) }
+{
+    if are_sure(image, found, first, end) {
+        return;
+    }
+    for b in first..end {
+        strike_doubted_at(image, found, marks, b);
+    }
+}
+
 // Removes the marks of files with a data block that was also skipped, or says that it is an OFS one.
 fn strike_doubted(image: &Image<'_>, found: &Found, marks: &mut Vec<bool>)
     ensures { (m : ℕ) → has_mark marks.new.items m
         ≡ (has_mark marks.old.items m && not
         (is_doubted image.now found.now (blocks image.now) m)) }
 {
-    for b in 0..image.blocks() {
-        strike_doubted_at(image, found, marks, b);
+    let blocks = image.blocks();
+    for i in 0..blocks.div_ceil(CHUNK) {
+        let first = CHUNK * i;
+        strike_doubted_among(image, found, marks, first, (first + CHUNK).min(blocks));
     }
 }
 

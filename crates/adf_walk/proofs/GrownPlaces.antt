@@ -16,6 +16,8 @@ use Rattle.adf_walk.specs.declared.given_places.GivenPlaces.{GivenPlaces}
 use Rattle.adf_walk.specs.declared.kept_owner.KeptOwner.{KeptOwner}
 use Rattle.adf_walk.specs.declared.kept_owner.KeptOwner.TheVariants.{Free, Boot, Ext, Data}
 use Rattle.adf_walk.specs.declared.node_start.NodeStart.{NodeStart}
+use Rattle.adf_walk.specs.KeptOwner.{is_claimed, kept_at}
+use Rattle.adf_walk.specs.Owners.{is_part, owner_at}
 use Rattle.adf_walk.specs.Places.{AreStarts, first_data, first_ext, last_start, owner_kept, start_of}
 use Rattle.adf_walk.specs.WalkOwners.{AreFit, AreGrown, IsInside, IsKeptBy}
 use Rattle.adf_walk.proofs.KeptPlaces.{last_is}
@@ -174,3 +176,13 @@ pub owners_claimed : (p q : GivenPlaces) (table : List KeptOwner) (b : ℕ) (o :
 owners_claimed p q table b o k grown in' kept =
     map-set (owner_kept q.starts.items) table b k
     ∙ (λ t. set (same_owners p q grown table in' t) b (kept.owner t))
+
+-- a part owns a block if its owner is kept as claimed
+part_of : (starts : List NodeStart) (k : KeptOwner) → is_part (owner_kept starts k) ≡ is_claimed k
+part_of starts k = grind (arith, common_steps)
+
+pub part_kept : (starts : List NodeStart) (table : List KeptOwner) (b : ℕ)
+    → is_part (owner_at (map (owner_kept starts) table) b) ≡ is_claimed (kept_at table b)
+part_kept starts [] b = refl
+part_kept starts (k ∷ table) zero = part_of starts k
+part_kept starts (k ∷ table) (suc b) = part_kept starts table b

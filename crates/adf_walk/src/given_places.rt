@@ -63,7 +63,27 @@ impl GivenPlaces {
         }
     }
 
+    // Begins the nodes up to this one, of which the last ones are not begun.
+    #[inline(never)]
+    fn begin_more(&mut self, node: usize) -> Result<(), NoMemory>
+        requires fit { AreFit self.old }
+        requires small { node < 2 ^ 32 }
+        requires order { length self.old.starts.items ≤ node }
+        ensures grown { AreGrown self.old self.new }
+        ensures len { OnOk result (length self.new.starts.items ≡ node + 1) }
+    {
+        let start = NodeStart {
+            exts: self.exts,
+            datas: self.datas,
+        };
+        match self.starts.resize(node + 1, start) {
+            Ok(()) => Ok(()),
+            Err(_) => Err(NoMemory),
+        }
+    }
+
     // Begins the nodes up to this one.
+    #[inline(always)]
     fn begin(&mut self, node: usize) -> Result<(), NoMemory>
         requires fit { AreFit self.old }
         requires small { node < 2 ^ 32 }
@@ -74,14 +94,7 @@ impl GivenPlaces {
         if node < self.starts.len() {
             return Ok(());
         }
-        let start = NodeStart {
-            exts: self.exts,
-            datas: self.datas,
-        };
-        match self.starts.resize(node + 1, start) {
-            Ok(()) => Ok(()),
-            Err(_) => Err(NoMemory),
-        }
+        self.begin_more(node)
     }
 
     // How extension block `k` of a node is kept.

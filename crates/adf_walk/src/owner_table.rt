@@ -134,6 +134,26 @@ impl OwnerTable {
         all
     }
 
+    // Whether a part of the volume owns a block.
+    fn is_owned(&self, b: u32) -> bool
+        requires { b < length self.now }
+        ensures { result ≡ is_claimed (kept_at self.now b) }
+    {
+        self.owners[b as usize].is_claimed()
+    }
+
+    // Whether parts of the volume own all blocks from `first` up to, but not including, `end`, or none of them.
+    pub fn are_claimed(&self, first: u32, end: u32, are_owned: bool) -> bool
+        requires { end ≤ length self.now }
+        ensures { IsTrue result → (b : ℕ) → first ≤ b → b < end → is_claimed (kept_at self.now b) ≡ are_owned }
+    {
+        let mut all = true;
+        for b in first..end {
+            all &= self.is_owned(b) == are_owned;
+        }
+        all
+    }
+
     // The owner of a block.
     pub fn get(&self, b: u32) -> KeptOwner
         requires { b < length self.now }

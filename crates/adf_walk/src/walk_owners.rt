@@ -87,11 +87,7 @@ impl WalkOwners {
         ensures { IsTrue result → (b : ℕ) → first ≤ b → b < end
             → is_part (owner_at self.now.owners b) ≡ are_owned }
     {
-        let mut all = true;
-        for b in first..end {
-            all &= self.is_part(b) == are_owned;
-        }
-        all
+        end <= self.table.len() && self.table.are_claimed(first, end, are_owned)
     }
 
     /// The owner of a block; `Free` past the last block.

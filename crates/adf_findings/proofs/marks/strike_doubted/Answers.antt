@@ -1,24 +1,33 @@
-use Rattle.std.specs.Prelude.{Bool, true, false, not, ◌&&◌, ◌||◌}
-use Rattle.std.proofs.Common.{◌≡◌, add-one, refl, ◌∙◌}
-use Rattle.adf_findings.specs.Marks.{doubted, has_mark, is_doubted, is_node}
+use Rattle.std.specs.Prelude.{not, ◌&&◌}
+use Rattle.std.proofs.Common.{◌≡◌, ◌+◌, ◌*◌, min, subst, ap, ◌∙◌, arith}
+use Rattle.adf_blocks.specs.Sizes.{blocks}
+use Rattle.adf_findings.specs.Marks.{has_mark, is_doubted}
+use Rattle.adf_findings.proofs.Doubts.{kept}
 use Rattle.adf_findings.proofs.marks.strike_doubted.Goals as goal
 
-kept : (x : Bool) → x ≡ (x && true)
-kept true = refl
-kept false = refl
+pub loop-i-init : goal.loop-i-init
+loop-i-init c = λ m.
+    let x = has_mark c.args.marks.now.items m in
+    let none : 0 ≡ min (256 * 0) (blocks c.args.image.now) = omega arith in
+    kept x ∙ ap (λ k. x && not (is_doubted c.args.image.now c.args.found.now k m)) none
 
-both : (x p q : Bool) → ((x && not p) && not q) ≡ (x && not (p || q))
-both true true q = refl
-both true false q = refl
-both false p q = refl
-
-pub loop-b-init : goal.loop-b-init
-loop-b-init c = λ m. kept (has_mark c.args.marks.now.items m)
-
-pub loop-b-preserved : goal.loop-b-preserved
-loop-b-preserved c = λ m.
+pub loop-i-preserved : goal.loop-i-preserved
+loop-i-preserved c = λ m.
     let image = c.args.image.now in
     let f = c.args.found.now in
-    let b = c.loop-b.b in
-    rw add-one (c.strike_doubted_at.ensures m ∙ ((λ t. c.loop-b.invariant m t && not (is_node (doubted image f b) m))
-    ∙ both (has_mark c.args.marks.now.items m) (is_doubted image f b m) (is_node (doubted image f b) m)))
+    let i = c.loop-i.i in
+    let x = has_mark c.args.marks.now.items m in
+    let first : min (256 * i) (blocks image) ≡ 256 * i =
+    omega (arith, c.loop-i-test.true, c.div_ceil-i-end.ensures, c.blocks-blocks.ensures.blocks) in
+    let end : c.min.result ≡ min (256 * (i + 1)) (blocks image) = omega (arith, c.min.ensures, c.blocks-blocks.ensures.blocks) in
+    subst (λ k. has_mark c.strike_doubted_among.new.marks.items m ≡ (x && not (is_doubted image f k m))) end
+    (c.strike_doubted_among.ensures m x
+    (subst (λ k. has_mark c.loop-i.marks.items m ≡ (x && not (is_doubted image f k m))) first (c.loop-i.invariant m)))
+
+pub returns : goal.returns
+returns c = λ m.
+    let image = c.args.image.now in
+    let x = has_mark c.args.marks.now.items m in
+    let end : min (256 * c.loop-i.i) (blocks image) ≡ blocks image =
+    omega (arith, c.loop-i-test.false, c.div_ceil-i-end.ensures, c.blocks-blocks.ensures.blocks) in
+    subst (λ k. has_mark c.loop-i.marks.items m ≡ (x && not (is_doubted image c.args.found.now k m))) end (c.loop-i.invariant m)
