@@ -1,13 +1,15 @@
 -- The positions of a course: by chain in a directory, extension blocks before data blocks in a file, node by node.
 use Rattle.std.specs.Prelude.{Bool, true, false, cond, nat_le, nat_lt, ◌==◌, ◌||◌, ◌%◌, Option, Some, None, slice_index}
 use Rattle.std.proofs.Common.{◌≡◌, ◌≢◌, ℕ, zero, suc, length, List, ◌⊎◌, inl, ◌+◌, ◌-◌, ◌*◌, ◌/◌, ◌<◌, ◌≤◌, refl, sym, subst, ap, ◌∙◌, add-one, arith}
-use Rattle.std.proofs.lemmas.Bool.{eq-eqb}
+use Rattle.std.proofs.lemmas.Bool.{eq-eqb, eqb-true}
 use Rattle.std.proofs.lemmas.Bool.Decides.{nat_tests}
 use Rattle.adf_names.specs.declared.kind.Kind.TheVariants.{Ofs}
 use Rattle.std.proofs.lemmas.Grind.{common_steps}
 use Rattle.adf_blocks.specs.declared.layout.TheConstants.{EXTENSION, FIRST_POINTER, FIRST_SLOT, NEXT_IN_CHAIN, POINTERS, SECONDARY_TYPE, SLOTS, ST_DIR, ST_FILE}
+use Rattle.adf_blocks.specs.Sizes.{blocks}
 use Rattle.adf_volume.specs.Image.{kind_of, table_word, word_in}
 use Rattle.adf_volume.specs.Positions.{before_node, position_of}
+use Rattle.adf_volume.specs.Walk.{Has}
 use Rattle.adf_volume.specs.Walk.{NodeAt, DirAt, FileAt, MemberAt, Asks, Enough, data_count, ext_count, heads, member_block, next_data, node_block, Walk}
 use Rattle.adf_volume.specs.Walk.Role.{Head, Ext, Data}
 use Rattle.adf_volume.proofs.Gathered.{IsGathered, ext_below, ext_counted, file_one, head_block, member_is, node_is, node_there}
@@ -20,12 +22,13 @@ use Rattle.adf_findings.specs.declared.course.Due.{Due}
 use Rattle.adf_findings.specs.declared.course.FileTable.{FileTable}
 use Rattle.adf_findings.specs.declared.found.Found.{Found}
 use Rattle.adf_findings.specs.Survey.{Course, FindingValue}
-use Rattle.adf_findings.specs.Found.{IsFinished, member_in}
-use Rattle.adf_findings.specs.Courses.{HasReached, HasReachedData, HasReachedExt, HasReachedHeader, HasReachedNamed, HasReachedSlot, HasReachedTable}
-use Rattle.adf_findings.specs.Courses.{HasTable, Holds, IsGoneOn, IsNamed, IsTrueIn, due_below, due_in, end_in}
+use Rattle.adf_findings.specs.Found.{IsFinished}
+use Rattle.adf_findings.specs.Courses.{HasReached, HasReachedData, HasReachedExt, HasReachedHeader, HasReachedSlot, HasReachedTable}
+use Rattle.adf_findings.specs.Courses.{HasReachedMember, HasReachedNamed}
+use Rattle.adf_findings.specs.Courses.{HasTable, Holds, IsGoneOn, IsNamed, IsTrueIn, due_below, due_in, end_in, next_in, table_block_in}
 use Rattle.adf_findings.specs.Forms.{Tells}
 use Rattle.adf_findings.proofs.CourseSteps.{moved}
-use Rattle.adf_findings.proofs.Known.{member_found}
+use Rattle.adf_findings.proofs.Members.{member_inside, member_next, member_none}
 use Rattle.adf_findings.proofs.OneSurvey.{gathered}
 
 module _ {image : List ℕ} where
@@ -167,23 +170,39 @@ module _ {image : List ℕ} {f : Found} {s : Course} {x : FileTable} (h : HasTab
 
   -- that block a of the table points to
   module _ (k a : ℕ) (at : MemberAt image s.walk x.node (k / POINTERS) a) where
-    holder_is : (t : Bool) → ((k + 1) % POINTERS == 0) ≡ t
-        → cond t (member_in f x.node ((k + 1) / POINTERS)) a ≡ member_block s.walk x.node ((k + 1) / POINTERS)
-    holder_is true e = member_found image f s h.stands x.node ((k + 1) / POINTERS)
-    holder_is false e =
-        let ne : (k + 1) % POINTERS ≡ 0 → ⊥ = λ z. let y : true ≡ false = sym (eq-eqb ((k + 1) % POINTERS) 0 z) ∙ e in cc in
-        let same : k / POINTERS ≡ (k + 1) / POINTERS = omega arith in
-        sym (member_is image g x.node (k / POINTERS) a at) ∙ ap (member_block s.walk x.node) same
+    -- the block that points to the next one
+    begins : (u : Bool) → nat_lt (k + 1) x.room ≡ u → (k + 1) % POINTERS ≡ 0
+        → cond u (word_in image a EXTENSION) 0 ≡ member_block s.walk x.node (suc (k / POINTERS))
+    begins true e z =
+        let room = h.room in
+        let lt : k + 1 < x.room = grind (arith, nat_tests) in
+        let c = ext_counted image g x.node (k / POINTERS) (omega (arith, lt, room, z)) in
+        member_next h.course x.node (k / POINTERS) a c.0 at c.1 ∙ sym (member_is image g x.node (suc (k / POINTERS)) c.0 c.1)
+    begins false e z =
+        let room = h.room in
+        let le : x.room ≤ k + 1 = grind (arith, nat_tests) in
+        sym (member_none image g x.node (k / POINTERS) (omega (arith, le, room, z)))
 
-    next_is : (next : ℕ) → next ≡ cond (nat_lt (k + 1) x.count) (word_in image (cond ((k + 1) % POINTERS == 0) (member_in f x.node ((k + 1) / POINTERS)) a)
-        (table_word (k + 1))) 0 → next ≡ next_data image s.walk x.node (k + 1)
+    holder_is : table_block_in image x (k + 1) a ≡ member_block s.walk x.node ((k + 1) / POINTERS)
+    holder_is = go ((k + 1) % POINTERS == 0) refl
+      where
+        go : (t : Bool) → ((k + 1) % POINTERS == 0) ≡ t → cond t (cond (nat_lt (k + 1) x.room) (word_in image a EXTENSION) 0) a
+            ≡ member_block s.walk x.node ((k + 1) / POINTERS)
+        go true e =
+            let z : (k + 1) % POINTERS ≡ 0 = eqb-true ((k + 1) % POINTERS) 0 e in
+            let up : suc (k / POINTERS) ≡ (k + 1) / POINTERS = omega (arith, z) in
+            begins (nat_lt (k + 1) x.room) refl z ∙ ap (member_block s.walk x.node) up
+        go false e =
+            let ne : (k + 1) % POINTERS ≡ 0 → ⊥ = λ z. let y : true ≡ false = sym (eq-eqb ((k + 1) % POINTERS) 0 z) ∙ e in cc in
+            let same : k / POINTERS ≡ (k + 1) / POINTERS = omega arith in
+            sym (member_is image g x.node (k / POINTERS) a at) ∙ ap (member_block s.walk x.node) same
+
+    next_is : (next : ℕ) → next ≡ next_in image x (k + 1) a → next ≡ next_data image s.walk x.node (k + 1)
     next_is next e =
-        e ∙ (λ t. cond (nat_lt (k + 1) ((h.count ∙ ap (data_count image) up_is) t)) (word_in image (holder_is ((k + 1) % POINTERS == 0) refl t)
-        (table_word (k + 1))) 0)
+        e ∙ (λ t. cond (nat_lt (k + 1) ((h.count ∙ ap (data_count image) up_is) t)) (word_in image (holder_is t) (table_word (k + 1))) 0)
 
     pub data_said : (next : ℕ) (t : Bool)
-        → (kind_of image ≡ Ofs → next ≡ cond (nat_lt (k + 1) x.count) (word_in image (cond ((k + 1) % POINTERS == 0)
-        (member_in f x.node ((k + 1) / POINTERS)) a) (table_word (k + 1))) 0) → t ≡ (nat_lt 0 k || nat_le x.count x.room)
+        → (kind_of image ≡ Ofs → next ≡ next_in image x (k + 1) a) → t ≡ (nat_lt 0 k || nat_le x.count x.room)
         → IsTrueIn image s.walk (record { part = DataPart x.node (k + 1); context = record { up = x.head; next = next }; is_enough = t })
     data_said next t e is = record {
       context = (up_is, (λ ofs. next_is next (e ofs)));
@@ -205,17 +224,6 @@ module _ {image : List ℕ} {f : Found} {fs : List FindingValue} {x : FileTable}
   v : IsGathered image at.0.walk
   v = gathered image at.1.course
 
-  there : (m : ℕ) → POINTERS * m < x.room → (a : ℕ) × MemberAt image at.0.walk x.node m a
-  there zero lt = (x.head, at.2.file)
-  there (suc m) lt = let room = at.2.room in ext_counted image v x.node m (omega arith)
-
-  -- a block of the table that is found is that of the walk
-  pub named_begins : {m a : ℕ} → POINTERS * m < x.room → a ≡ member_in f x.node m → HasReachedNamed image f fs x m a k
-  named_begins {m} {a} lt e =
-      let c = there m lt in
-      let is : c.0 ≡ a = sym (e ∙ member_found image f at.0 at.1.stands x.node m ∙ member_is image v x.node m c.0 c.1) in
-      record { course = at.0; holds = at.1; table = at.2; member = subst (MemberAt image at.0.walk x.node m) is c.1 }
-
   -- behind the last data block comes the next node
   pub datas_done : ((j : ℕ) → j < x.count → j < x.room → j < k) → HasReached image f fs (before_node (x.node + 1))
   datas_done all = rw add-one (at.0, moved at.1 (omega arith) (end_datas image v x.node k x.head at.2.file asked at.1.up_to))
@@ -230,14 +238,37 @@ module _ {image : List ℕ} {f : Found} {fs : List FindingValue} {x : FileTable}
           let lt : j < x.count = subst (λ c. j < c) (sym at.2.count) (subst (λ h. j < data_count image h) y h.0.2) in
           all j lt (few j (j / POINTERS) a refl h.1)
 
+-- the blocks of a table that are gone through
+module _ {image : List ℕ} {f : Found} {fs : List FindingValue} {x : FileTable} where
+  pub member_first : HasReachedTable image f fs x 0 → HasReachedMember image f fs x 0 x.head 0
+  member_first at = record { course = at.0; holds = at.1; table = at.2; member = λ lt. at.2.file }
+
+  module _ {m a k : ℕ} (y : HasReachedMember image f fs x m a k) where
+    pub member_named : POINTERS * m < x.room → HasReachedNamed image f fs x m a k
+    member_named lt = record { course = y.course; holds = y.holds; table = y.table; member = y.member lt }
+
+    pub member_table : HasReachedTable image f fs x k
+    member_table = (y.course, y.holds, y.table)
+
 -- the data blocks that one block of a table points to
 module _ {image : List ℕ} {f : Found} {fs : List FindingValue} {x : FileTable} {m a k : ℕ} (y : HasReachedNamed image f fs x m a k) where
-  pub named_ends : HasReachedTable image f fs x k
-  named_ends = (y.course, y.holds, y.table)
+  -- the next block of the table, if it has one more
+  pub member_ends : HasReachedMember image f fs x (suc m) (word_in image a EXTENSION) k
+  member_ends = record {
+    course = y.course;
+    holds = y.holds;
+    table = y.table;
+    member = λ lt.
+        let room = y.table.room in
+        let c = ext_counted image (gathered image y.holds.course) x.node m (omega (arith, lt, room)) in
+        subst (λ c. Has y.course.walk (Ext x.node (suc m)) c) (sym (member_next y.holds.course x.node m a c.0 y.member c.1)) c.1;
+  }
+
+  pub holder_inside : a < blocks image
+  holder_inside = member_inside y.holds.course x.node m a y.member
 
   module _ {due : Due} {next : ℕ} (from : POINTERS * m ≤ k) (to : k < end_in x (m + 1)) (is : due ≡ due_in x k next)
-      (told : kind_of image ≡ Ofs → next ≡ cond (nat_lt (k + 1) x.count) (word_in image (cond ((k + 1) % POINTERS == 0)
-      (member_in f x.node ((k + 1) / POINTERS)) a) (table_word (k + 1))) 0) where
+      (told : kind_of image ≡ Ofs → next ≡ next_in image x (k + 1) a) where
     number : m ≡ k / POINTERS
     number = omega arith
 

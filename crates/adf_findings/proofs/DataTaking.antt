@@ -1,12 +1,16 @@
 -- The data blocks of an FFS file that are taken as they are.
 -- Letters: x the table of the file; k the number of the data block, b its block; a, m the block of the table that points to it,
 -- and its number; f, g states.
-use Rattle.std.specs.Prelude.{Bool, true, not, nat_le, nat_lt, ◌&&◌, ◌||◌}
-use Rattle.std.proofs.Common.{◌≡◌, ℕ, List, ◌+◌, ◌-◌, ◌*◌, ◌<◌, ◌≤◌, refl, sym, subst, ◌∙◌}
-use Rattle.std.proofs.lemmas.Bool.{and_parts}
+use Rattle.std.specs.Prelude.{Bool, true, false, not, nat_le, nat_lt, ◌&&◌, ◌||◌}
+use Rattle.std.proofs.Common.{◌≡◌, ℕ, List, ◌+◌, ◌-◌, ◌*◌, ◌<◌, ◌≤◌, length, refl, sym, subst, ap, ◌∙◌, arith}
+use Rattle.std.proofs.lemmas.Bool.{and_parts, le-leb, lt-ltb}
 use Rattle.adf_names.specs.declared.kind.Kind.{Kind}
 use Rattle.adf_names.specs.declared.kind.Kind.TheVariants.{Ofs, Ffs}
+use Rattle.std.proofs.lemmas.Grind.{common_steps}
 use Rattle.adf_blocks.specs.Forms.{first_cause}
+use Rattle.adf_blocks.specs.Sizes.{blocks}
+use Rattle.adf_volume.specs.declared.owner.Owner.TheVariants.{Free}
+use Rattle.adf_walk.specs.Owners.{is_part, owner_at}
 use Rattle.adf_blocks.specs.declared.layout.TheConstants.{FIRST_POINTER, POINTERS}
 use Rattle.adf_volume.specs.Image.{kind_of, word_in}
 use Rattle.adf_findings.specs.declared.part.Part.{Part}
@@ -34,7 +38,16 @@ no_cause a b h k n next bytes kept is enough ranges absent =
 
 module _ {image : List ℕ} {f : Found} {fs : List FindingValue} {x : FileTable} {m a k b : ℕ} (y : HasReachedNamed image f fs x m a k)
     (ffs : kind_of image ≡ Ffs) (from : POINTERS * m ≤ k) (to : k < end_in x (m + 1)) (named : b ≡ word_in image a (FIRST_POINTER - (k - POINTERS * m)))
-    (tests : ((nat_lt 0 k || nat_le x.count x.room) && (in_range image b && not (is_owned f b))) ≡ true) where
+    (whole : x.count ≤ x.room) (lo : 2 ≤ b) (hi : b < length f.owners.owners) (free : owner_at f.owners.owners b ≡ Free) where
+  tests : ((nat_lt 0 k || nat_le x.count x.room) && (in_range image b && not (is_owned f b))) ≡ true
+  tests =
+      let inside : b < blocks image = subst (λ n. b < n) y.holds.stands.owners.size hi in
+      let absent : is_owned f b ≡ false = ap is_part free in
+      let enough : nat_le x.count x.room ≡ true = le-leb x.count x.room whole in
+      let over : nat_le 2 b ≡ true = le-leb 2 b lo in
+      let below : nat_lt b (blocks image) ≡ true = lt-ltb b (blocks image) inside in
+      grind (arith, common_steps)
+
   abbrev i : ℕ
   i = FIRST_POINTER - (k - POINTERS * m)
 

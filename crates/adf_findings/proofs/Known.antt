@@ -25,7 +25,7 @@ use Rattle.adf_findings.specs.Forms.{IsContext, Knows, Tells, in_range}
 use Rattle.adf_findings.proofs.WalkOwners.{owned_is}
 use Rattle.adf_findings.specs.Found.{is_owned, AreNamed, HasValidName, IsChain, KeepsName, Stands}
 use Rattle.adf_findings.proofs.WalkOwners.{owned_is}
-use Rattle.adf_findings.specs.Found.{is_owned, at_key, has_name, is_named, known_at, member_in, new_in, owns}
+use Rattle.adf_findings.specs.Found.{is_owned, at_key, has_name, is_named, known_at, new_in, owns}
 use Rattle.adf_findings.specs.Parts.{by_key, key_of, role_of}
 use Rattle.adf_findings.proofs.Keys.{equal_keys}
 use Rattle.adf_findings.proofs.Names.{other_name}
@@ -113,29 +113,7 @@ module _ (image : List ℕ) {part : Part} (b : ℕ) {n p s j : ℕ} (old begun :
   pub kept_none : is_name (name_of image b) ≡ false → KeepsName image part b old begun
   kept_none none = grind (arith, common_steps, other_name)
 
--- the block of an extension block, by its key
-at_ext : (w : Walk) (n m : ℕ) → unwrap_or (at_key w (key_of (Ext n m))) 0 ≡ ext_block_in w n m
-at_ext [] n m = refl
-at_ext ((Ext q k, b) ∷ w) n m = go (n == q) (m == k) refl refl (at_ext w n m)
-  where
-    go : (s t : Bool) → (n == q) ≡ s → (m == k) ≡ t → unwrap_or (at_key w (key_of (Ext n m))) 0 ≡ ext_block_in w n m
-        → unwrap_or (cond (is_eq (by_key (key_of (Ext q k)) (key_of (Ext n m)))) (Some b) (at_key w (key_of (Ext n m)))) 0
-        ≡ cond (n == q) (cond (m == k) b (ext_block_in w n m)) (ext_block_in w n m)
-    go true true e f h = grind (arith, common_steps, eqb-true, equal_keys, eq-eqb)
-    go true false e f h = grind (arith, common_steps, nat_tests, equal_keys)
-    go false t e f h = grind (arith, common_steps, nat_tests, equal_keys)
-at_ext ((r, b) ∷ w) n m =
-    let none : is_eq (by_key (key_of r) (key_of (Ext n m))) ≡ false = equal_keys (key_of r) (key_of (Ext n m)) ∙ grind (arith, nat_tests) in
-    rw none (at_ext w n m)
-
 module _ (image : List ℕ) (f : Found) (s : Course) (st : Stands image f s) where
-  member_key : (n m : ℕ) → unwrap_or (get by_key f.taken (key_of (Ext n (suc m)))) 0 ≡ ext_block_in s.walk n (suc m)
-  member_key n m = ap (λ o. unwrap_or o 0) (st.taken (Ext n (suc m)) tt) ∙ at_ext s.walk n (suc m)
-
-  pub member_found : (n m : ℕ) → member_in f n m ≡ member_block s.walk n m
-  member_found n zero = st.node n
-  member_found n (suc m) = grind (arith, common_steps, nat_tests, member_key)
-
   pub new_is : (part : Part) (b : ℕ) → Tells (new_in image s.walk part b) (NewNameIn image s.walk (role_of part) b)
   new_is (HeadPart n p t j) b = tells_new image s.walk p t (uppers_in image (name_of image b))
   new_is _ b = tt

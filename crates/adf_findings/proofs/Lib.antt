@@ -61,6 +61,7 @@ pub mod Openings
 -- the directories of entries
 pub mod Directories
 pub mod Doubts
+pub mod Members
 -- the entries of images without findings
 pub mod AllSound
 -- look-up in surveys of volumes

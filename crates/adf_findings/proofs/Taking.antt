@@ -39,21 +39,30 @@ at_more : (m n : BTreeMap Key ℕ) (w : Walk) (r : Role) (b : ℕ) (k : Key) →
     → get by_key m k ≡ at_key w k → get by_key n k ≡ at_key ((r, b) ∷ w) k
 at_more m n w r b k u e = u.0 k ∙ ap (λ o. cond (is_eq (by_key (key_of r) k)) (Some b) o) e
 
--- the key of a header or a data block is that of no part that is looked up
+-- the key of a part of an entry is that of no part that is looked up
 no_head_key : (n p s j : ℕ) (r : Role) → IsLookedUp r → is_eq (by_key (key_of (Head n p s j)) (key_of r)) ≡ false
 no_head_key n p s j (Data m k) x = absurd x
+no_head_key n p s j (Ext m k) x = absurd x
 no_head_key n p s j (Head m q t k) x = absurd x
 no_head_key n p s j r x = simp (then_is, same_number) (grind (arith, nat_tests))
 
 no_data_key : (n k : ℕ) (r : Role) → IsLookedUp r → is_eq (by_key (key_of (Data n k)) (key_of r)) ≡ false
 no_data_key n k (Data m j) x = absurd x
+no_data_key n k (Ext m j) x = absurd x
 no_data_key n k (Head m p s j) x = absurd x
 no_data_key n k r x = simp (then_is, same_number) (grind (arith, nat_tests))
+
+no_ext_key : (n k : ℕ) (r : Role) → IsLookedUp r → is_eq (by_key (key_of (Ext n k)) (key_of r)) ≡ false
+no_ext_key n k (Data m j) x = absurd x
+no_ext_key n k (Ext m j) x = absurd x
+no_ext_key n k (Head m p s j) x = absurd x
+no_ext_key n k r x = simp (then_is, same_number) (grind (arith, nat_tests))
 
 taken_more : (m n : BTreeMap Key ℕ) (w : Walk) (part : Part) (b : ℕ) → IsPut part b m n
     → ((r : Role) → IsLookedUp r → get by_key m (key_of r) ≡ at_key w (key_of r))
     → (r : Role) → IsLookedUp r → get by_key n (key_of r) ≡ at_key ((role_of part, b) ∷ w) (key_of r)
 taken_more m n w (HeadPart i p s j) b u h r x = grind (arith, common_steps, no_head_key)
+taken_more m n w (ExtPart i k) b u h r x = grind (arith, common_steps, no_ext_key)
 taken_more m n w (DataPart i k) b u h r x = grind (arith, common_steps, no_data_key)
 taken_more m n w part b u h r x = at_more m n w (role_of part) b (key_of r) u (h r x)
 

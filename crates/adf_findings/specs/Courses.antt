@@ -1,12 +1,12 @@
 -- The state of a survey along its course.
 -- Letters: s a course, w its walk; f, g states; fs findings; k a position; a, i the block and the word that point to a part;
 -- b a block; n, p nodes; y a part that is due; x a reference, or the table of a file; m the number of a block in it; j a judgement.
-use Rattle.std.specs.Prelude.{◌≡◌, ◌≤◌, ◌<◌, ◌+◌, ◌-◌, ◌*◌, ◌||◌, ◌⊎◌, ℕ, true, false, nat_le, nat_lt, min, List, [], ◌∷◌, ◌++◌}
+use Rattle.std.specs.Prelude.{◌≡◌, ◌≤◌, ◌<◌, ◌+◌, ◌-◌, ◌*◌, ◌%◌, ◌==◌, ◌||◌, ◌⊎◌, ℕ, true, false, cond, nat_le, nat_lt, min, List, [], ◌∷◌, ◌++◌}
 use Rattle.std.specs.Prelude.{Option, Some, None, IfSome}
 use Rattle.std.proofs.Common.{suc}
-use Rattle.adf_blocks.specs.declared.layout.TheConstants.{POINTERS}
+use Rattle.adf_blocks.specs.declared.layout.TheConstants.{EXTENSION, POINTERS}
 use Rattle.adf_blocks.specs.Sizes.{blocks}
-use Rattle.adf_volume.specs.Image.{word_in}
+use Rattle.adf_volume.specs.Image.{table_word, word_in}
 use Rattle.adf_volume.specs.Positions.{Position, IsLink, IsPageHolder, IsUpTo, before_node, before_page, behind, position_of, word_of_page}
 use Rattle.adf_volume.specs.declared.fault.Fault.{Fault}
 use Rattle.adf_volume.specs.Fault.{fault}
@@ -169,6 +169,14 @@ pub record HasTable (image : List ℕ) (f : Found) (s : Course) (x : FileTable) 
 abbrev pub end_in : FileTable → ℕ → ℕ
 end_in x m = min (min x.count x.room) (POINTERS * m)
 
+-- the block of the table that points to data block k + 1, where block a points to data block k; 0 if there is no such block
+abbrev pub table_block_in : List ℕ → FileTable → ℕ → ℕ → ℕ
+table_block_in image x k a = cond (k % POINTERS == 0) (cond (nat_lt k x.room) (word_in image a EXTENSION) 0) a
+
+-- the pointer to data block k + 1, where block a points to data block k; 0 past the last
+abbrev pub next_in : List ℕ → FileTable → ℕ → ℕ → ℕ
+next_in image x k a = cond (nat_lt k x.count) (word_in image (table_block_in image x k a) (table_word k)) 0
+
 -- data block k + 1 of a file, with the block that comes next
 abbrev pub due_in : FileTable → ℕ → ℕ → Due
 due_in x k next = record {
@@ -187,6 +195,13 @@ pub record HasReachedNamed (image : List ℕ) (f : Found) (fs : List FindingValu
   pub holds : Holds image f fs (position_of (Data x.node (suc done))) course
   pub table : HasTable image f course x
   pub member : MemberAt image course.walk x.node m a
+
+-- a course has reached a data block, after `done` others, of a file with this table; block a is number m of the table, if it has so many
+pub record HasReachedMember (image : List ℕ) (f : Found) (fs : List FindingValue) (x : FileTable) (m a done : ℕ) : Type 0 where
+  pub course : Course
+  pub holds : Holds image f fs (position_of (Data x.node (suc done))) course
+  pub table : HasTable image f course x
+  pub member : POINTERS * m < x.room → MemberAt image course.walk x.node m a
 
 -- a fault that ends a walk: no memory, or what the listener says of the findings of a course up to its end
 abbrev pub IsStop : List ℕ → (List FindingValue → Fault → Type 0) → Fault → Type 0

@@ -3,7 +3,6 @@
 use Rattle.std.specs.Prelude.{◌≡◌, ◌≤◌, ◌<◌, ◌+◌, ◌-◌, ◌==◌, ◌&&◌, ◌||◌, ℕ, Bool, true, false, cond, not, List, []}
 use Rattle.std.specs.Prelude.{◌∷◌, ◌++◌, ◌⊎◌, length, nat_lt, replicate, set, slice_index, slice_index_or, Option, Some, None, IsTrue, ◌↔◌}
 use Rattle.std.proofs.Common.{zero, suc}
-use Rattle.std.specs.Option.{unwrap_or}
 use Rattle.std.specs.Ordering.{is_eq}
 use Rattle.std.specs.Str.{bytes_eq}
 use Rattle.std.specs.BTreeMap.{BTreeMap, Updates, get}
@@ -24,7 +23,7 @@ use Rattle.adf_walk.specs.Owners.{is_part, owned_count, owner_at}
 use Rattle.adf_walk.specs.WalkOwners.{HasNumber, OwnersValue, node_after}
 use Rattle.adf_findings.specs.Demands.{uppers_in}
 use Rattle.adf_findings.specs.declared.part.Part.{Part}
-use Rattle.adf_findings.specs.declared.part.Part.TheVariants.{Head as HeadPart, Data as DataPart}
+use Rattle.adf_findings.specs.declared.part.Part.TheVariants.{Head as HeadPart, Ext as ExtPart, Data as DataPart}
 use Rattle.adf_findings.specs.declared.part.Key.{Key}
 use Rattle.adf_findings.specs.declared.found.ChainPlace.{ChainPlace}
 use Rattle.adf_findings.specs.declared.found.Found.{Found}
@@ -36,9 +35,10 @@ abbrev pub at_key : Walk → Key → Option ℕ
 at_key [] k = None
 at_key (x ∷ w) k = cond (is_eq (by_key (key_of x.0) k)) (Some x.1) (at_key w k)
 
--- the role is one that is looked up by key: neither a header nor a data block
+-- the role is one that is looked up by key: no part of an entry
 abbrev pub IsLookedUp : Role → Type 0
 IsLookedUp (Head n p s j) = ⊥
+IsLookedUp (Ext n k) = ⊥
 IsLookedUp (Data n k) = ⊥
 IsLookedUp _ = Unit {0}
 
@@ -155,10 +155,6 @@ abbrev pub number_at : Walk → ℕ → ℕ
 number_at [] b = 0
 number_at (x ∷ w) b = cond (x.1 == b) (data_number x.0) (number_at w b)
 
--- block m of the table of a file
-abbrev pub member_in : Found → ℕ → ℕ → ℕ
-member_in f n m = cond (m == 0) (slice_index f.nodes.items n) (unwrap_or (get by_key f.taken (key_of (Ext n m))) 0)
-
 -- the positions of headers, with one more if the role is a header
 abbrev pub with_place : Role → List ChainPlace → List ChainPlace
 with_place (Head n p s j) cs = cs ++ record { slot = s; place = j } ∷ []
@@ -169,9 +165,10 @@ abbrev pub places_of : Walk → List ChainPlace
 places_of [] = []
 places_of (x ∷ w) = with_place x.0 (places_of w)
 
--- the map also has the block at the part's key, unless the part is a header or a data block
+-- the map also has the block at the part's key, unless it is a part of an entry
 abbrev pub IsPut : Part → ℕ → BTreeMap Key ℕ → BTreeMap Key ℕ → Type 0
 IsPut (HeadPart n p s j) b old new = new ≡ old
+IsPut (ExtPart n k) b old new = new ≡ old
 IsPut (DataPart n k) b old new = new ≡ old
 IsPut part b old new = Updates by_key old new (key_of (role_of part)) (Some b)
 

@@ -1,21 +1,19 @@
 // The course of a walk: the pages of the bitmap, then the nodes in order; for a directory its chains, for a file its
 // extension blocks, then its data blocks.
 
-ghost use Rattle.std.specs.Prelude.{◌≡◌, ◌<◌, ◌≤◌, ◌+◌, ◌*◌, ◌/◌, ◌%◌, ◌==◌, ◌^◌, IfErr, IfOk, IfSome, OnOk, Some, cond, length};
-ghost use Rattle.std.specs.Prelude.{◌||◌, ◌&&◌, List, nat_le, nat_lt, not};
+ghost use Rattle.std.specs.Prelude.{◌≡◌, ◌<◌, ◌≤◌, ◌+◌, ◌*◌, ◌^◌, List, IfErr, IfOk, IfSome, IsTrue, OnOk, Some, length};
 ghost use Rattle.adf_names.specs.declared.kind.Kind.TheVariants.{Ffs};
 ghost use Rattle.adf_blocks.specs.declared.layout.TheConstants.{POINTERS, SLOTS};
 ghost use Rattle.adf_blocks.specs.Sizes.{blocks, pages_needed};
-ghost use Rattle.adf_volume.specs.Image.{kind_of, root_of, table_word, word_in};
+ghost use Rattle.adf_volume.specs.Image.{kind_of, root_of, table_word};
 ghost use Rattle.adf_volume.specs.Positions.{before_node, position_of, word_of_map_ext, word_of_page};
 ghost use Rattle.adf_findings.specs.Survey.{Course, FindingValue};
-ghost use Rattle.adf_findings.specs.Forms.{in_range};
 ghost use Rattle.adf_findings.specs.Parts.{role_of};
-ghost use Rattle.adf_findings.specs.Found.{IsFinished, is_owned, member_in};
+ghost use Rattle.adf_findings.specs.Found.{IsFinished};
 ghost use Rattle.adf_findings.specs.Courses.{HasReached, HasReachedData, HasReachedFile, HasReachedPage, HasReachedPart};
-ghost use Rattle.adf_findings.specs.Courses.{HasReachedReference, HasReachedSlot, HasReachedTable, Holds, IsGoneOn, IsJudged};
+ghost use Rattle.adf_findings.specs.Courses.{HasReachedNamed, HasReachedReference, HasReachedSlot, Holds, IsGoneOn, IsJudged};
 ghost use Rattle.adf_findings.specs.Courses.{IsNamed, IsNextReference, IsOutcome, IsPageNamed, IsStop, KeepsNameBy};
-ghost use Rattle.adf_findings.specs.Courses.{due_below, due_in, end_in};
+ghost use Rattle.adf_findings.specs.Courses.{due_below, due_in, end_in, next_in, table_block_in};
 
 use crate::forms::Context;
 use crate::found::Found;
@@ -57,6 +55,13 @@ pub struct FileTable {
     pub head: u32,
     pub count: u32,
     pub room: u32,
+}
+
+/// A block of the table of a file: its number in the table, 0 for the header; and the block.
+#[derive(Clone, Copy, PartialEq, Eq, Drop)]
+pub struct Member {
+    pub number: u32,
+    pub block: u32,
 }
 
 impl Due {
@@ -338,27 +343,27 @@ fn go_through_exts<L: Listener>(
     Ok(exts)
 }
 
-// The block of the table that points to data block `k + 1` of a file, where `before` points to data block `k`.
-fn table_block(found: &Found, node: u32, k: u32, before: u32) -> u32
-    ensures { result ≡ cond (k % POINTERS == 0) (member_in found.now node (k / POINTERS)) before }
+// The block of the table that points to data block `k + 1` of a file; `before` points to data block `k`.
+fn table_block(image: &Image<'_>, table: &FileTable, k: u32, before: u32) -> u32
+    ensures { result ≡ table_block_in image.now table.now k before }
 {
-    let pointers = POINTERS as u32;
-    if k % pointers == 0 {
-        found.member_block(node, k / pointers)
-    } else {
+    if k as usize % POINTERS != 0 {
         before
+    } else if k < table.room {
+        image.word(before, EXTENSION)
+    } else {
+        0
     }
 }
 
 // The pointer to data block `k + 1` of a file, and 0 past the last; `before` points to data block `k`.
-fn next_data(image: &Image<'_>, found: &Found, table: &FileTable, k: u32, before: u32) -> u32
-    ensures { result ≡ cond (nat_lt k table.now.count) (word_in image.now
-        (cond (k % POINTERS == 0) (member_in found.now table.now.node (k / POINTERS)) before) (table_word k)) 0 }
+fn next_data(image: &Image<'_>, table: &FileTable, k: u32, before: u32) -> u32
+    ensures { result ≡ next_in image.now table.now k before }
 {
     if k >= table.count {
         return 0;
     }
-    let holder = table_block(found, table.node, k, before);
+    let holder = table_block(image, table, k, before);
     image.word(holder, FIRST_POINTER - k as usize % POINTERS)
 }
 
@@ -383,15 +388,6 @@ fn table_end(table: &FileTable, m: u32) -> u32
     ensures { result ≡ end_in table.now (m + 1) }
 {
     table.count.min(table.room).min(POINTERS as u32 * (m + 1))
-}
-
-// Whether block `b` is data block `k + 1` of an FFS file without a cause.
-#[inline(always)]
-fn is_ffs_data(image: &Image<'_>, found: &Found, table: &FileTable, k: u32, b: u32) -> bool
-    ensures { result ≡ ((nat_lt 0 k || nat_le table.now.count table.now.room)
-        && (in_range image.now b && not (is_owned found.now b))) }
-{
-    (k > 0 || table.count <= table.room) && b >= 2 && b < image.blocks() && found.is_absent(b)
 }
 
 // Judges data block `k + 1` of an FFS file, which block `holder` points to, and takes it or not.
@@ -424,26 +420,30 @@ fn go_on_ffs<L: Listener>(
     Ok(gone)
 }
 
-// Visits the data blocks of an FFS file that block `m` of its table points to.
+// Visits the data blocks of an FFS file with enough extension blocks that a block of its table points to.
 fn go_through_ffs_table<L: Listener>(
     image: &Image<'_>,
     found: &mut Found,
     listener: &mut L,
     table: &FileTable,
-    m: u32,
+    member: &Member,
 ) -> Result<(), Fault>
     requires kind { kind_of image.now ≡ Ffs }
-    requires few { m ≤ 1048576 }
-    requires some { POINTERS * m < end_in table.now (m + 1) }
-    requires at { HasReachedTable image.now found.old (L.heard listener.old) table.now (POINTERS * m) }
-    ensures gone { OnOk result (HasReachedTable image.now found.new (L.heard listener.new) table.now (end_in table.now (m + 1))) }
+    requires whole { table.now.count ≤ table.now.room }
+    requires few { member.now.number ≤ 1048576 }
+    requires some { POINTERS * member.now.number < end_in table.now (member.now.number + 1) }
+    requires at { HasReachedNamed image.now found.old (L.heard listener.old) table.now
+        member.now.number member.now.block (POINTERS * member.now.number) }
+    ensures gone { OnOk result (HasReachedNamed image.now found.new (L.heard listener.new) table.now
+        member.now.number member.now.block (end_in table.now (member.now.number + 1))) }
     ensures stopped { IfErr result (IsStop image.now L.ends) }
 {
-    let holder = found.member_block(table.node, m);
-    let first = POINTERS as u32 * m;
-    for k in first..table_end(table, m) {
-        let b = image.word(holder, FIRST_POINTER - (k - first) as usize);
-        if is_ffs_data(image, found, table, k, b) {
+    let holder = member.block;
+    let pointers = image.block(holder);
+    let first = POINTERS as u32 * member.number;
+    for k in first..table_end(table, member.number) {
+        let b = pointers.word(FIRST_POINTER - (k - first) as usize);
+        if found.owners.is_free(b) {
             let Ok(()) = found.take(Part::Data(table.node, k + 1), b) else {
                 return Err(no_memory());
             };
@@ -454,24 +454,26 @@ fn go_through_ffs_table<L: Listener>(
     Ok(())
 }
 
-// Visits the data blocks of an OFS file that block `m` of its table points to.
-fn go_through_ofs_table<L: Listener>(
+// Visits the data blocks of a file that a block of its table points to.
+fn go_through_any_table<L: Listener>(
     image: &Image<'_>,
     found: &mut Found,
     listener: &mut L,
     table: &FileTable,
-    m: u32,
+    member: &Member,
 ) -> Result<(), Fault>
-    requires few { m ≤ 1048576 }
-    requires some { POINTERS * m < end_in table.now (m + 1) }
-    requires at { HasReachedTable image.now found.old (L.heard listener.old) table.now (POINTERS * m) }
-    ensures gone { OnOk result (HasReachedTable image.now found.new (L.heard listener.new) table.now (end_in table.now (m + 1))) }
+    requires few { member.now.number ≤ 1048576 }
+    requires some { POINTERS * member.now.number < end_in table.now (member.now.number + 1) }
+    requires at { HasReachedNamed image.now found.old (L.heard listener.old) table.now
+        member.now.number member.now.block (POINTERS * member.now.number) }
+    ensures gone { OnOk result (HasReachedNamed image.now found.new (L.heard listener.new) table.now
+        member.now.number member.now.block (end_in table.now (member.now.number + 1))) }
     ensures stopped { IfErr result (IsStop image.now L.ends) }
 {
-    let holder = found.member_block(table.node, m);
-    let first = POINTERS as u32 * m;
-    for k in first..table_end(table, m) {
-        let next = next_data(image, found, table, k + 1, holder);
+    let holder = member.block;
+    let first = POINTERS as u32 * member.number;
+    for k in first..table_end(table, member.number) {
+        let next = next_data(image, table, k + 1, holder);
         let due = data_due(table, k, next);
         go_on(
             image,
@@ -485,23 +487,37 @@ fn go_through_ofs_table<L: Listener>(
     Ok(())
 }
 
-// Visits the data blocks of a file that block `m` of its table points to.
+// Whether the file is one of FFS with enough extension blocks.
+fn is_whole_ffs(image: &Image<'_>, table: &FileTable) -> bool
+    ensures kind { IsTrue result → kind_of image.now ≡ Ffs }
+    ensures whole { IsTrue result → table.now.count ≤ table.now.room }
+{
+    match image.kind() {
+        Kind::Ffs => table.count <= table.room,
+        Kind::Ofs => false,
+    }
+}
+
+// Visits the data blocks of a file that a block of its table points to.
 fn go_through_table<L: Listener>(
     image: &Image<'_>,
     found: &mut Found,
     listener: &mut L,
     table: &FileTable,
-    m: u32,
+    member: &Member,
 ) -> Result<(), Fault>
-    requires few { m ≤ 1048576 }
-    requires some { POINTERS * m < end_in table.now (m + 1) }
-    requires at { HasReachedTable image.now found.old (L.heard listener.old) table.now (POINTERS * m) }
-    ensures gone { OnOk result (HasReachedTable image.now found.new (L.heard listener.new) table.now (end_in table.now (m + 1))) }
+    requires few { member.now.number ≤ 1048576 }
+    requires some { POINTERS * member.now.number < end_in table.now (member.now.number + 1) }
+    requires at { HasReachedNamed image.now found.old (L.heard listener.old) table.now
+        member.now.number member.now.block (POINTERS * member.now.number) }
+    ensures gone { OnOk result (HasReachedNamed image.now found.new (L.heard listener.new) table.now
+        member.now.number member.now.block (end_in table.now (member.now.number + 1))) }
     ensures stopped { IfErr result (IsStop image.now L.ends) }
 {
-    match image.kind() {
-        Kind::Ffs => go_through_ffs_table(image, found, listener, table, m),
-        Kind::Ofs => go_through_ofs_table(image, found, listener, table, m),
+    if is_whole_ffs(image, table) {
+        go_through_ffs_table(image, found, listener, table, member)
+    } else {
+        go_through_any_table(image, found, listener, table, member)
     }
 }
 
@@ -530,8 +546,14 @@ fn go_through_datas<L: Listener>(
         room: POINTERS as u32 * (exts + 1),
     };
     let end = table.count.min(table.room);
+    let mut holder = b;
     for m in 0..end.div_ceil(POINTERS as u32) {
-        go_through_table(image, found, listener, &table, m)?;
+        let member = Member {
+            number: m,
+            block: holder,
+        };
+        go_through_table(image, found, listener, &table, &member)?;
+        holder = image.word(holder, EXTENSION);
     }
     Ok(())
 }

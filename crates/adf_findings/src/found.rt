@@ -9,7 +9,7 @@ ghost use Rattle.adf_volume.specs.Walk.{Walk};
 ghost use Rattle.adf_findings.specs.Parts.{by_key, role_of};
 ghost use Rattle.adf_findings.specs.Found.{AreNamed, AreSame, Stands, IsChain, IsKept, IsOwned, IsBlockSkipped};
 ghost use Rattle.adf_findings.specs.Found.{HasValidName, IsPut, IsTaken, IsNextPart, KeepsName, KeepsParts};
-ghost use Rattle.adf_findings.specs.Found.{begun_marks, is_owned, known_at, member_in, new_in};
+ghost use Rattle.adf_findings.specs.Found.{begun_marks, is_owned, known_at, new_in};
 ghost use Rattle.adf_findings.specs.Survey.{begun};
 
 use crate::header_name::valid_name;
@@ -28,7 +28,7 @@ pub struct ChainPlace {
     pub place: u32,
 }
 
-/// The state of a survey: the blocks of the taken parts by key, except headers and data blocks; the owner of each block;
+/// The state of a survey: the blocks of the root and of the taken parts of the bitmap by key; the owner of each block;
 /// for each block, once any was skipped, whether it was; the number of blocks not taken; the blocks of nodes; the valid
 /// names in the current chain; the parents of nodes; and the positions of headers, from node 1 on.
 #[derive(Drop)]
@@ -104,17 +104,6 @@ impl Found {
         self.nodes.get(node as usize).copied().unwrap_or(0)
     }
 
-    // Block `m` of the table of a file, the header (0) or an extension block; 0 if there is none.
-    pub fn member_block(&self, node: u32, m: u32) -> u32
-        ensures { result ≡ member_in self.now node m }
-    {
-        if m == 0 {
-            return self.node_block(node);
-        }
-        let key = Part::Ext(node, m).key();
-        self.taken.get(&key).copied().unwrap_or(0)
-    }
-
     // Whether block `b` has no owner.
     pub fn is_absent(&self, b: u32) -> bool
         ensures { result ≡ not (is_owned self.now b) }
@@ -122,14 +111,14 @@ impl Found {
         !self.owners.is_part(b)
     }
 
-    // Keeps the block of a part by its key, unless it is a header or a data block.
+    // Keeps the block of a part of the bitmap, or the root, by its key.
     #[inline(always)]
     fn keep_block(&mut self, part: Part, b: u32) -> Result<(), NoMemory>
         ensures taken { OnOk result (IsPut part b self.old.taken self.new.taken) }
         ensures rest { OnOk result (self.new ≡ record self.old { taken = self.new.taken }) }
     {
         match part {
-            Part::Head { .. } | Part::Data(_, _) => Ok(()),
+            Part::Head { .. } | Part::Ext(_, _) | Part::Data(_, _) => Ok(()),
             _ => put(&mut self.taken, part.key(), b),
         }
     }

@@ -74,6 +74,16 @@ impl WalkOwners {
         self.table.len()
     }
 
+    /// Whether a block is free, and neither a boot block nor past the last one.
+    #[inline(always)]
+    pub fn is_free(&self, b: u32) -> bool
+        ensures from { IsTrue result → 2 ≤ b }
+        ensures below { IsTrue result → b < length self.now.owners }
+        ensures free { IsTrue result → owner_at self.now.owners b ≡ Owner.Free }
+    {
+        b >= 2 && b < self.table.len() && self.table.is_free(b)
+    }
+
     /// Whether a part of the volume owns a block; not past the last block.
     #[inline(always)]
     pub fn is_part(&self, b: u32) -> bool
