@@ -7,7 +7,7 @@ use Rattle.adf_findings.proofs.FitsOrFault.{fits_or_fault}
 use Rattle.adf_findings.specs.Verdict.{FitsOrHasFault}
 use Rattle.adf_names.specs.PathTexts.{IsPathText}
 use Rattle.adf_names.proofs.SomePaths.{path_or_none}
-use Rattle.adf_check.specs.Volumes.{counts_of}
+use Rattle.adf_volume.specs.Counts.{counts_of}
 use Rattle.adf_volume.specs.Walk.{FirstFault}
 use Rattle.adf_volume.specs.declared.fault.Fault.{Fault}
 use Rattle.adf_texts.specs.Lines.{fault_line, ok_line}

@@ -6,7 +6,7 @@ ghost use Rattle.adf_blocks.specs.Sizes.{blocks};
 ghost use Rattle.adf_volume.specs.Fits.{Fits};
 ghost use Rattle.adf_volume.specs.Layout.{Layout};
 ghost use Rattle.adf_volume.specs.Start.{IsBegun};
-ghost use Rattle.adf_check.specs.Volumes.{counts_of};
+ghost use Rattle.adf_volume.specs.Counts.{counts_of};
 ghost use Rattle.adf_memory.specs.OwnerNumbers.{IsOwnerNumber};
 ghost use Rattle.adf_memory.specs.Verdicts.{IsFirstCause, IsVerdictNumber, OnFault, WantsMemory, accepted, refused};
 

@@ -12,7 +12,6 @@ pub mod ExtSteps
 pub mod DataSteps
 pub mod BitmapSteps
 -- numbers that fit their types
-pub mod WalkLengths
 pub mod NumberBounds
 -- the facts about a checked volume
 pub mod KeptPlaces

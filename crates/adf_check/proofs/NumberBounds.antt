@@ -14,7 +14,7 @@ use Rattle.adf_check.specs.Store.{StoreValue, StoreMatches}
 use Rattle.adf_volume.specs.Start.{IsBegun}
 use Rattle.adf_walk.specs.KeptOwner.{claimed_count}
 use Rattle.adf_volume.proofs.WalkMembers.{picked_within}
-use Rattle.adf_check.proofs.WalkLengths.{heads_within}
+use Rattle.adf_volume.proofs.WalkLengths.{heads_within}
 
 -- there are at least 4 blocks
 pub many_blocks : (image : List ℕ) → IsBegun image → 4 ≤ blocks image

@@ -23,7 +23,7 @@ use Rattle.adf_check.specs.Store.{StoreValue, blocks_before, data_file, ext_file
 use Rattle.adf_check.specs.Reading.{StoreFits}
 use Rattle.adf_check.specs.StoreStands.{OwnersFit, HeadersFit, StartsFit, StartsRise, StoreStandsFor}
 use Rattle.adf_check.proofs.NodeSteps.{node_here}
-use Rattle.adf_check.proofs.WalkLengths.{walk_length, walked_once}
+use Rattle.adf_volume.proofs.WalkLengths.{walk_length, walked_once}
 use Rattle.adf_check.proofs.FileBlocks.{exts_apart, exts_stored, datas_apart, datas_stored, no_datas_before, no_exts_before}
 use Rattle.adf_check.proofs.KeptPlaces.{at_whole, data_node, ext_node, one_place, start_at}
 

@@ -1,10 +1,7 @@
 -- The counts of a volume are those of its tree and layout.
-use Rattle.std.proofs.Common.{◌≡◌, ℕ, suc, List, [], ◌∷◌, ◌+◌, ◌-◌, ◌<◌, length, count_by, cond, Bool, refl, sym, ap, subst, ◌∙◌, arith, ◌==◌, not}
-use Rattle.std.proofs.lemmas.List.Filters.{length-filter_both}
-use Rattle.std.proofs.lemmas.List.Sums.{length-filter, sum_by-cons}
+use Rattle.std.proofs.Common.{◌≡◌, ℕ, suc, List, ◌-◌, ◌<◌, length, count_by, subst, arith, ◌==◌}
 use Rattle.std.proofs.lemmas.Grind.{common_steps}
 use Rattle.adf_blocks.specs.declared.layout.TheConstants.{SECONDARY_TYPE, ST_DIR}
-use Rattle.adf_tree.specs.declared.entry.Entry.{Entry}
 use Rattle.adf_names.specs.declared.kind.Kind.{Kind}
 use Rattle.adf_tree.specs.Tree.{Tree}
 use Rattle.adf_blocks.specs.Sizes.{blocks}
@@ -13,6 +10,7 @@ use Rattle.adf_volume.specs.Layout.{Layout, at_node}
 use Rattle.adf_volume.specs.Lists.{At}
 use Rattle.adf_volume.proofs.MemberFacts.{in_range}
 use Rattle.adf_volume.proofs.Roles.{head_role}
+use Rattle.adf_volume.proofs.WalkCounts.{others, same_count}
 use Rattle.adf_walk.specs.declared.kept_header.KeptHeader.{KeptHeader}
 use Rattle.adf_check.specs.StoreStands.{StoreStandsFor}
 use Rattle.adf_check.specs.Reading.{StoreFits}
@@ -20,32 +18,13 @@ use Rattle.adf_check.specs.Store.{StoreValue, is_dir_at}
 use Rattle.adf_check.proofs.NodeSteps.{node_here}
 use Rattle.adf_check.proofs.NumberBounds.{many_blocks}
 use Rattle.adf_check.proofs.RowLaws.{tells_begun, type_told}
-use Rattle.adf_check.specs.Volumes.{counts_of, is_directory}
+use Rattle.adf_volume.specs.Counts.{counts_of, is_directory}
 use Rattle.adf_volume.specs.declared.counts.Counts.{Counts}
 
 -- the headers of rows are blocks of the image
 pub header_inside : {image : List ℕ} {store : StoreValue} → StoreFits image store → (i : ℕ) (r : KeptHeader) → At store.headers i r
     → r.head < blocks image
 header_inside {image = image} {store = store} st i r at = grind (arith, common_steps, node_here, in_range, many_blocks, tells_begun, head_role)
-
--- two lists of one length whose members agree have one count
-same_count : {X Y : Type 0} (f : X → Bool) (g : Y → Bool) (xs : List X) (ys : List Y) → length xs ≡ length ys
-    → ((i : ℕ) (x : X) (y : Y) → At xs i x → At ys i y → f x ≡ g y) → count_by f xs ≡ count_by g ys
-same_count f g [] [] e h = refl
-same_count f g [] (y ∷ ys) e h = absurd (omega arith)
-same_count f g (x ∷ xs) [] e h = absurd (omega arith)
-same_count f g (x ∷ xs) (y ∷ ys) e h =
-    sum_by-cons (λ x. cond (f x) 1 0) x xs
-    ∙ ap (λ t. cond t 1 0 + count_by f xs) (h 0 x y refl refl)
-    ∙ ap (λ n. cond (g y) 1 0 + n) (same_count f g xs ys (omega arith) (λ i a b p q. h (suc i) a b p q))
-    ∙ sym (sum_by-cons (λ y. cond (g y) 1 0) y ys)
-
--- those that are directories and those that are not are all
-pub others : (es : List Entry) (all dirs : ℕ) → all ≡ length es → dirs ≡ count_by is_directory es
-    → all - dirs ≡ count_by (λ e. not (is_directory e)) es
-others es all dirs a d =
-    let file : Entry → Bool = λ e. not (is_directory e) in
-    omega (arith, length-filter_both is_directory file (λ _. refl) es, length-filter is_directory es, length-filter file es)
 
 -- the directories of the rows are those of the tree
 pub dirs_are : (image : List ℕ) (store : StoreValue) (t : Tree) (l : Layout) → StoreStandsFor image store t l

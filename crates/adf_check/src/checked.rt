@@ -12,7 +12,8 @@ ghost use Rattle.adf_check.specs.Store.{store_value};
 ghost use Rattle.adf_walk.specs.OwnerClass.{class_of};
 ghost use Rattle.adf_check.specs.Pieces.{bytes_of, pieces_at};
 ghost use Rattle.adf_volume.specs.Rows.{row_of_entry};
-ghost use Rattle.adf_check.specs.Volumes.{IsChecked, StandsFor, counts_of};
+ghost use Rattle.adf_check.specs.Volumes.{IsChecked, StandsFor};
+ghost use Rattle.adf_volume.specs.Counts.{counts_of};
 
 use crate::lookup::{block_of, find};
 use crate::pieces::{blocks_of, pieces_of};

@@ -9,6 +9,7 @@ use Rattle.adf_names.specs.declared.kind.Kind.{Kind}
 use Rattle.adf_names.proofs.PathParts.{one_path}
 use Rattle.adf_blocks.specs.Sizes.{blocks}
 use Rattle.adf_blocks.specs.declared.cause.Cause.{Cause}
+use Rattle.adf_volume.specs.Counts.{counts_of}
 use Rattle.adf_volume.specs.Fits.{Fits}
 use Rattle.adf_volume.specs.Layout.{Layout}
 use Rattle.adf_volume.specs.Walk.{FirstFault}
@@ -21,7 +22,6 @@ use Rattle.adf_manifest.specs.declared.manifest.ManifestKind.{ManifestKind, TheV
 use Rattle.adf_manifest.proofs.Faults as manifests
 use Rattle.adf_manifest.proofs.TreesOfLines.{one_tree_of}
 use Rattle.adf_manifest.proofs.Verdicts.{one_told}
-use Rattle.adf_check.specs.Volumes.{counts_of}
 use Rattle.adf_texts.specs.Lines.{fault_line, ok_line}
 use Rattle.adf_texts.specs.VolumeLines.{AreDates, volume_lines}
 use Rattle.adf_cmd.specs.Answers.{Accepts, Answer, BuildsManifest, BuildsOrIsFull, Converts, Copies, CopiesFrom, Lists, RefusesImage, RefusesManifest}

@@ -13,7 +13,7 @@ use Rattle.adf_build.specs.Laid.{IsLaid, volume}
 use Rattle.adf_build.specs.Plan.{blocks_needed, planned}
 use Rattle.adf_build.specs.Building.{IsBuildable, need_of}
 use Rattle.adf_check.specs.Pieces.{bytes_of}
-use Rattle.adf_check.specs.Volumes.{counts_of}
+use Rattle.adf_volume.specs.Counts.{counts_of}
 use Rattle.adf_volume.specs.declared.fault.Fault.{Fault}
 use Rattle.adf_words.specs.CommandLine.{AsksFor, AreRefused, RequestValue, build, cat, check, convert, list}
 use Rattle.adf_runs.specs.Commands.{Command, Reply, bad_path, on_errors, on_output}

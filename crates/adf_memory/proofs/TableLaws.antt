@@ -13,7 +13,7 @@ use Rattle.adf_volume.specs.Lists.{At, numbered}
 use Rattle.adf_volume.proofs.Chains.{entry_is_at, entry_some}
 use Rattle.adf_volume.proofs.Lists.{at_below, at_index_or, at_some, length_numbered}
 use Rattle.adf_volume.specs.Rows.{row_of_entry}
-use Rattle.adf_check.specs.Volumes.{counts_of}
+use Rattle.adf_volume.specs.Counts.{counts_of}
 use Rattle.adf_volume.specs.declared.counts.Counts.{Counts}
 use Rattle.adf_volume.specs.declared.row.Row.{Row}
 use Rattle.adf_memory.specs.declared.tables.Contents.{Contents}

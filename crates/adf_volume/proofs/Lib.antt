@@ -25,6 +25,7 @@ pub mod PartDemands
 pub mod Pointers
 pub mod PositionSteps
 pub mod Roles
+pub mod WalkLengths
 pub mod WalkMembers
 pub mod WalkOrder
 pub mod WalkOwners
@@ -39,6 +40,7 @@ pub mod OneFault
 pub mod OneTree
 pub mod WalkAgreement
 pub mod WalkCompleteness
+pub mod WalkCounts
 pub mod WalkFits
 -- the samples
 pub mod SampleEmpty

@@ -1,10 +1,12 @@
 -- Faults.
 use Rattle.std.specs.Prelude.{◌≡◌, ◌≢◌, ◌++◌, ℕ, List, codes}
 use Rattle.std.specs.Fmt.{decimal}
+use Rattle.adf_base.specs.declared.hash.Letters.{Letters}
+use Rattle.adf_base.specs.declared.hash.Letters.TheVariants.{Ascii}
 use Rattle.adf_blocks.specs.Causes.{cause_text}
 use Rattle.adf_blocks.specs.declared.cause.Cause.{Cause}
 use Rattle.adf_blocks.specs.declared.cause.Cause.TheVariants.{NoMemory}
-use Rattle.adf_volume.specs.Walk.{FirstFault}
+use Rattle.adf_volume.specs.Walk.{FirstFaultBy}
 use Rattle.adf_volume.specs.declared.fault.Fault.{Fault}
 
 -- a fault at a block
@@ -15,7 +17,11 @@ fault b c = record { block = b; cause = c }
 abbrev pub fault_text : Fault → List ℕ
 fault_text f = codes "block " ++ (decimal f.block ++ (codes ": " ++ cause_text f.cause))
 
--- the fault is the first one of the image, or NoMemory at block 0
-pub record IsTrueFault (image : List ℕ) (f : Fault) : Type 0 where
-  pub first : f.cause ≢ NoMemory → FirstFault image f.block f.cause
+-- the fault is the first one of the image as a volume with these letters, or NoMemory at block 0
+pub record IsTrueFaultBy (letters : Letters) (image : List ℕ) (f : Fault) : Type 0 where
+  pub first : f.cause ≢ NoMemory → FirstFaultBy letters image f.block f.cause
   pub memory : f.cause ≡ NoMemory → f.block ≡ 0
+
+-- the same of a volume of type 0 or 1
+abbrev pub IsTrueFault : List ℕ → Fault → Type 0
+IsTrueFault = IsTrueFaultBy Ascii

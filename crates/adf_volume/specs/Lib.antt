@@ -9,6 +9,8 @@ pub mod Fault
 pub mod Rows
 pub mod LayoutRoles
 pub mod Made
+pub mod Counts
+pub mod Types
 pub mod Samples
 -- The states of what opens an image and reads its files, and the positions of what goes along a walk.
 -- A promise names `IsBegun` of Start and `AreInside` of Pieces.

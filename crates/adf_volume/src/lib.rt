@@ -10,6 +10,7 @@ mod pieces;
 mod row;
 mod samples;
 mod start;
+mod types;
 
 pub use crate::counts::Counts;
 pub use crate::fault::{Fault, fault_at, no_memory};
@@ -26,3 +27,4 @@ pub use crate::samples::{
     file_volume_fits, international_volume_fits, lost_block_is_first_fault, tiny_volume_fits,
 };
 pub use crate::start::{Opened, boot_cause, kind_in, letters_in, open};
+pub use crate::types::Types;

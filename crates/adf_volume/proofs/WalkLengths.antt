@@ -1,13 +1,14 @@
 -- A walk is as long as the list of blocks that its layout owns; no list of its blocks is longer.
 use Rattle.std.proofs.Common.{◌≡◌, ◌≢◌, ℕ, suc, List, [], ◌∷◌, inl, inr, ◌≤◌, length, refl, sym, ap, subst, ◌∙◌, arith}
+use Rattle.adf_base.specs.declared.hash.Letters.{Letters}
 use Rattle.adf_volume.specs.Layout.{owned}
 use Rattle.adf_volume.specs.LayoutRoles.{owner_of}
 use Rattle.adf_volume.specs.Lists.{In, NoBlockTwice}
 use Rattle.adf_volume.specs.Made.{layout_in}
-use Rattle.adf_volume.specs.Walk.{Role, Has, head_count, heads, IsWalk, IsWhole, Walk}
+use Rattle.adf_volume.specs.Walk.{Role, Has, head_count, heads, IsWalkBy, IsWhole, Walk}
 use Rattle.adf_volume.specs.Walk.Role.{Head}
 use Rattle.adf_volume.specs.Walk.IsWalkBy.{start, step}
-use Rattle.adf_volume.proofs.PartDemands.{part_holds}
+use Rattle.adf_volume.proofs.PartDemands.{part_holds_by}
 use Rattle.adf_volume.proofs.WalkOwners.{is_owned, once, owned_has}
 
 -- a member can be taken out, and those with other blocks stay
@@ -39,12 +40,12 @@ in_walk [] r b h = h
 in_walk (x ∷ w) r b (inl e) = inl (ap (λ p. p.0) e, ap (λ p. p.1) e)
 in_walk (x ∷ w) r b (inr h) = inr (in_walk w r b h)
 
-pub walked_once : {image : List ℕ} {w : Walk} → IsWalk image w → NoBlockTwice w
+pub walked_once : {letters : Letters} {image : List ℕ} {w : Walk} → IsWalkBy letters image w → NoBlockTwice w
 walked_once start = (λ y i e. i, tt)
-walked_once {image} (step {w = w} {r = r} {b = b} {a = a} v d e n) =
-    let part = part_holds image w r a b n in (λ y i z. part.unowned y.0 (subst (Has w y.0) (sym z) (in_walk w y.0 y.1 i)), walked_once v)
+walked_once {letters} {image} (step {w = w} {r = r} {b = b} {a = a} v d e n) =
+    let part = part_holds_by letters image w r a b n in (λ y i z. part.unowned y.0 (subst (Has w y.0) (sym z) (in_walk w y.0 y.1 i)), walked_once v)
 
-pub walk_length : (image : List ℕ) (w : Walk) → IsWalk image w → IsWhole image w → length (owned image (layout_in w)) ≡ length w
+pub walk_length : {letters : Letters} (image : List ℕ) (w : Walk) → IsWalkBy letters image w → IsWhole image w → length (owned image (layout_in w)) ≡ length w
 walk_length image w v whole =
     let all = no_longer w (owned image (layout_in w)) (walked_once v) (λ r b i. (owner_of r, is_owned image w v whole r b (in_walk w r b i))) in
     let only = no_longer (owned image (layout_in w)) w (once image w v whole)
