@@ -23,16 +23,12 @@ use Rattle.adf_volume.specs.declared.owner.Owner.{Owner}
 use Rattle.adf_volume.specs.declared.owner.Owner.TheVariants.{Free, Boot, Root as TheRoot}
 use Rattle.adf_walk.specs.Owners.{owned_count, owner_at}
 use Rattle.adf_walk.specs.WalkOwners.{OwnersValue}
-use Rattle.adf_findings.specs.Found.{AreNamed, AreOwned, AreSame, IsNextPart, IsOwned, Stands, owner_by, unowned}
+use Rattle.adf_findings.specs.Found.{AreNamed, AreOwned, AreSame, IsNextPart, IsOwned, Stands, owner_by}
 use Rattle.adf_findings.proofs.Taking.{none_default, stands_but}
 use Rattle.adf_findings.proofs.WalkOwners.{count_more, owned_more}
 
 empty_get : {K X : Type 0} (m : BTreeMap K X) (test : K → Bool) → IsEmpty m → lookup test m.entries ≡ None
 empty_get m test e = ap (lookup test) e
-
-pub all_free : (n : ℕ) → unowned (replicate n false) ≡ n
-all_free zero = refl
-all_free (suc n) = ap suc (all_free n)
 
 one_node : (b n : ℕ) → slice_index (b ∷ []) n ≡ cond (n == 0) b 0
 one_node b zero = refl
@@ -56,7 +52,7 @@ module _ (n : ℕ) (lo : 2 ≤ n) (owners : OwnersValue) (new : owners.owners �
     node = node;
   }
 
-  new_count : owned_count owners.owners ≡ 0
+  pub new_count : owned_count owners.owners ≡ 0
   new_count = ap owned_count new ∙ go (n - 2)
     where
       go : (k : ℕ) → owned_count (replicate k Free) ≡ 0

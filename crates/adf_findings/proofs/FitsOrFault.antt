@@ -1,15 +1,32 @@
 -- Every image is that of a volume, or has a first fault. w is the walk of its survey, fs its findings.
-use Rattle.std.proofs.Common.{ℕ, List, [], ◌∷◌, inl, inr}
-use Rattle.adf_volume.specs.Made.{layout_in, tree_in}
+use Rattle.std.proofs.Common.{ℕ, List, [], ◌∷◌, ◌≡◌, ◌++◌, inl, inr, append-nil, subst, ◌∙◌}
+use Rattle.adf_volume.specs.Made.{layout_in, tree_in_by}
 use Rattle.adf_volume.specs.Walk.{Walk}
-use Rattle.adf_findings.proofs.FirstFindings.{first_finding, none_found}
+use Rattle.adf_findings.proofs.FirstFindings.{first_finding, none_found, shown}
 use Rattle.adf_findings.proofs.SomeSurvey.{some_survey}
+use Rattle.adf_findings.proofs.TypesRead.{types_read}
 use Rattle.adf_findings.specs.Survey.{FindingValue, IsSurvey}
-use Rattle.adf_findings.specs.Verdict.{FitsOrHasFault}
+use Rattle.adf_volume.specs.Types.{letters_for}
+use Rattle.adf_findings.specs.Types.{passed}
+use Rattle.adf_findings.specs.Verdict.{FitsOrHasFault, FitsOrHasFaultBy}
+use Rattle.adf_volume.specs.declared.types.Types.{Types}
+use Rattle.adf_volume.specs.declared.types.Types.TheVariants.{Plain}
 
-by_findings : (image : List ℕ) (w : Walk) (fs : List FindingValue) → IsSurvey image w fs → FitsOrHasFault image
-by_findings image w [] v = inl (tree_in image w, layout_in w, none_found image w v)
-by_findings image w (f ∷ fs) v = inr (f.block, f.cause, first_finding image w f fs v)
+pub fits_or_fault_by : (types : Types) (image : List ℕ) → FitsOrHasFaultBy types image
+fits_or_fault_by types image =
+    let (w, fs, v) = some_survey image in
+    let (rest, is, k) = shown image (letters_for types image) (passed types image) (types_read image types) v in
+    by_findings w rest (subst (IsSurvey image w) is v)
+  where
+    by_findings : (w : Walk) (rest : List FindingValue) → IsSurvey image w (passed types image ++ rest) → FitsOrHasFaultBy types image
+    by_findings w [] v =
+        inl (
+          tree_in_by (letters_for types image) image w,
+          layout_in w,
+          none_found image (letters_for types image) (passed types image) (types_read image types) w (subst (IsSurvey image w) (append-nil (passed types image)) v),
+        )
+    by_findings w (f ∷ fs) v =
+        inr (f.block, f.cause, first_finding image (letters_for types image) (passed types image) (types_read image types) w f fs v)
 
 pub fits_or_fault : (image : List ℕ) → FitsOrHasFault image
-fits_or_fault image = let (w, fs, v) = some_survey image in by_findings image w fs v
+fits_or_fault image = fits_or_fault_by Plain image

@@ -1,10 +1,10 @@
 -- What is left of a sound file is its content.
 -- Letters: w the walk of a survey, fs its findings; c whether the grave findings alone count; n a file's node, h the block of its
 -- header; k, j numbers of data blocks, from 0; b a block, bs blocks; found the block of each data block, if any.
-use Rattle.std.specs.Prelude.{Bool, true, false, Option, Some, None, replicate}
-use Rattle.std.proofs.Common.{◌≡◌, ℕ, suc, zero, List, [], ◌∷◌, ◌++◌, length, ◌+◌, ◌*◌, ◌<◌, ◌≤◌, refl, sym, ap, set, ◌∙◌, arith}
+use Rattle.std.specs.Prelude.{Bool, Option, Some, None}
+use Rattle.std.proofs.Common.{◌≡◌, ℕ, suc, zero, List, [], ◌∷◌, ◌++◌, length, ◌+◌, ◌*◌, ◌<◌, ◌≤◌, refl, sym, ap, ◌∙◌, arith}
 use Rattle.std.specs.List.{concat}
-use Rattle.std.proofs.lemmas.List.{append_assoc, append-nil, length-replicate}
+use Rattle.std.proofs.lemmas.List.{append_assoc, append-nil}
 use Rattle.std.proofs.Math.Nat.{min-eq_left}
 use Rattle.std.proofs.lemmas.Bool.Decides.{nat_tests}
 use Rattle.std.proofs.lemmas.Grind.{common_steps}
@@ -12,63 +12,24 @@ use Rattle.adf_base.specs.Words.{block}
 use Rattle.adf_names.specs.declared.kind.Kind.{Kind, TheVariants.Ofs, TheVariants.Ffs}
 use Rattle.adf_blocks.specs.declared.layout.TheConstants.{SIZE}
 use Rattle.adf_blocks.specs.Sizes.{blocks, chunk, count}
-use Rattle.adf_volume.specs.Image.{kind_of, letters_of, piece, pieces, root_of, word_in}
+use Rattle.adf_volume.specs.Image.{kind_of, piece, pieces, word_in}
 use Rattle.adf_volume.specs.Lists.{At}
 use Rattle.adf_volume.specs.Made.{datas_in, is_data_of}
 use Rattle.adf_volume.specs.Walk.{Role, Has, data_count, node_block, Walk}
-use Rattle.adf_volume.specs.Walk.Role.{Root, Data}
+use Rattle.adf_volume.specs.Walk.Role.{Data}
 use Rattle.adf_volume.proofs.Gathered.{one_block}
 use Rattle.adf_volume.proofs.Lists.{at_some}
-use Rattle.adf_volume.proofs.PartDemands.{part_holds_by}
 use Rattle.adf_volume.proofs.Roles.{same_refl}
-use Rattle.adf_volume.proofs.Sizes.{size_low}
 use Rattle.adf_findings.specs.Files.{IsSoundFile, counting, file_content, file_in}
-use Rattle.adf_findings.specs.Found.{AreMarked, unowned}
 use Rattle.adf_findings.specs.Remains.{below, blocks_stated, bytes_in, bytes_left, data_below, data_found, gaps_left, gaps_of, left_of, size_stated, with_lost}
 use Rattle.adf_findings.specs.Survey.{Course, FindingValue, IsCourse, IsSurvey}
-use Rattle.adf_findings.specs.Survey.IsCourse.{start, step}
 use Rattle.adf_findings.specs.Survey.IsSurvey.{read, unread}
-use Rattle.adf_findings.specs.Survey.JudgementValue.{clean, reported, skipped}
-use Rattle.adf_findings.proofs.Begun.{all_free}
 use Rattle.adf_findings.proofs.DataFound.{has_data}
-use Rattle.adf_findings.proofs.JudgementTests.{itself_holds}
 use Rattle.adf_findings.proofs.Keys.{lacks_at}
-use Rattle.adf_findings.proofs.Known.{no_owner}
 use Rattle.adf_findings.proofs.OneSurvey.{gathered}
+use Rattle.adf_findings.proofs.OwnedWalks.{few_parts}
 use Rattle.adf_findings.proofs.SoundFiles.{file_told, joined_content, whole_listed}
-use Rattle.adf_findings.proofs.Starts.{course_size}
-use Rattle.adf_findings.proofs.Taking.{marked_more, none_default, unowned_less}
 use Rattle.adf_volume.proofs.WalkMembers.{picked_within}
-
--- the blocks of a walk, marked: so many are marked as the walk has members
-record Marked (image : List ℕ) (w : Walk) : Type 0 where
-  marks : List Bool
-  marked : AreMarked (blocks image) marks w
-  many : length w + unowned marks ≡ blocks image
-
-more_marked : (image : List ℕ) (w : Walk) (r : Role) (b : ℕ) → b < blocks image → ((q : Role) → Has w q b → ⊥) → Marked image w
-    → Marked image ((r, b) ∷ w)
-more_marked image w r b lt free m =
-    let less = unowned_less m.marks b (let e = m.marked.0 in omega arith) (m.marked.1 b lt ∙ no_owner w b free) in
-    record { marks = set m.marks b true; marked = marked_more (blocks image) m.marks w r b m.marked; many = (let e = m.many in omega arith) }
-
-walk_marked : (image : List ℕ) {s : Course} → IsCourse image s → Marked image s.walk
-walk_marked image (start boot root) =
-    let n : ℕ = blocks image in
-    let size = course_size image (start boot root) in
-    let none : Marked image [] = record {
-      marks = replicate n false;
-      marked = (length-replicate n false, (λ b l. none_default n false b));
-      many = (let free = all_free n in omega arith);
-    } in
-    more_marked image [] Root (root_of image) (let low = size_low (blocks image) size.1 in omega arith) (λ q h. h) none
-walk_marked image (step {s = s} {r = z} {a = a} {i = i} clean v d g) =
-    let part = part_holds_by (letters_of image) image s.walk z a (word_in image a i) g in
-    more_marked image s.walk z (word_in image a i) part.inside part.unowned (walk_marked image v)
-walk_marked image (step {s = s} {r = z} {a = a} {i = i} (reported at c) v d g) =
-    let part = itself_holds image s.walk z a (word_in image a i) g.1 in
-    more_marked image s.walk z (word_in image a i) part.inside part.unowned (walk_marked image v)
-walk_marked image (step (skipped at c) v d g) = walk_marked image v
 
 -- a file with so many data blocks is no longer than so many blocks
 fits_in : (kind : Kind) (size n : ℕ) → count kind size ≤ n → size ≤ 512 * n
@@ -130,10 +91,10 @@ left_of_sound image w fs c n end (read {s = s} {bits = bits} v d t) sound before
     let listed = whole_listed image s.walk (s.findings ++ bits) c n h survey sound.0 in
     let found : (k b : ℕ) → At datas k b → data_below end s.walk n k ≡ Some b =
     λ k b g. let has = listed.from k b g in found_below end (data_found s.walk n k) b (is_found image v n k b has) (before (suc k) b has) in
-    let marked = walk_marked image v in
+    let parts = few_parts image v in
     let few : data_count image h ≤ blocks image = (
     let a = picked_within (is_data_of n) s.walk in
-    let b = marked.many in
+    let b = parts in
     let e = has.many in
     omega arith
     ) in

@@ -2,6 +2,8 @@
 pub mod Decidability
 -- the first finding, and surveys without one
 pub mod FirstFindings
+pub mod TypesRead
+pub mod PlainFindings
 -- the start of an image
 pub mod Starts
 -- an image has exactly one survey
@@ -55,6 +57,7 @@ pub mod Keeping
 -- what is left of files
 pub mod Gaps
 pub mod DataFound
+pub mod OwnedWalks
 pub mod LeftOfSound
 -- images to survey, and the marks that are kept
 pub mod Openings

@@ -25,7 +25,7 @@ use Rattle.adf_findings.specs.Survey.{Course, FindingValue}
 use Rattle.adf_findings.specs.Parts.{by_key, key_of, role_of}
 use Rattle.adf_findings.specs.Found.{AreAvoided, AreMarked, AreSame, IsKept, IsLookedUp, IsOwned, IsBlockSkipped, IsPut}
 use Rattle.adf_findings.specs.Found.{IsTaken, KeepsParts, Stands}
-use Rattle.adf_findings.specs.Found.{at_key, owns, parent_by, parent_node, places_of, unowned, with_mark, with_place}
+use Rattle.adf_findings.specs.Found.{at_key, owns, parent_by, parent_node, places_of, with_mark, with_place}
 use Rattle.std.proofs.lemmas.Bool.{cases_lt}
 
 kept_more : (part : Part) (b : ℕ) (f g h : Found) → IsKept part b f g → AreSame g h → IsKept part b f h
@@ -80,13 +80,6 @@ avoided_more n [] w r b h =
 avoided_more n (x ∷ xs) w r b h =
     let m = marked_more n (x ∷ xs) w r b (elim h.size [ inl e ↦ cc | inr e ↦ e ], h.marked) in
     record { size = inr m.0; marked = m.1 }
-
-pub unowned_less : (xs : List Bool) (b : ℕ) → b < length xs → slice_index_or xs b false ≡ false → unowned xs ≡ suc (unowned (set xs b true))
-unowned_less [] b lt e = absurd (omega arith)
-unowned_less (true ∷ xs) zero lt e = cc
-unowned_less (false ∷ xs) zero lt e = refl
-unowned_less (true ∷ xs) (suc b) lt e = unowned_less xs b (omega arith) e
-unowned_less (false ∷ xs) (suc b) lt e = ap suc (unowned_less xs b (omega arith) e)
 
 node_snoc : (xs : List ℕ) (b m : ℕ) → slice_index (xs ++ b ∷ []) m ≡ cond (m == length xs) b (slice_index xs m)
 node_snoc xs b m = grind (arith, common_steps, eqb_tells, cases_lt, get_or_push, get_or_append_left, get_or_past, length_push)

@@ -29,7 +29,7 @@ use Rattle.adf_findings.specs.Sound.{IsOfItsKind}
 use Rattle.adf_findings.specs.Lookup.{IsFirstChild, IsNamedChild, LeadsTo}
 use Rattle.adf_findings.specs.Survey.{FindingValue, IsSurvey}
 use Rattle.adf_findings.proofs.AllSound.{all_sound}
-use Rattle.adf_findings.proofs.FirstFindings.{finds_none, none_found, shown}
+use Rattle.adf_findings.proofs.PlainFindings.{finds_none, none_found, shown}
 
 module _ (image : List ℕ) (w : Walk) (v : IsWalk image w) (tree : IsTree (entries_in image w w)) (plain : letters_of image ≡ Ascii) where
   abbrev entries : List Entry

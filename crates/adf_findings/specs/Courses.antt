@@ -207,9 +207,9 @@ pub record HasReachedMember (image : List ℕ) (f : Found) (fs : List FindingVal
 abbrev pub IsStop : List ℕ → (List FindingValue → Fault → Type 0) → Fault → Type 0
 IsStop image ends e = (e ≡ fault 0 NoMemory) ⊎ ((s : Course) × IsCourse image s × ends s.findings e)
 
--- a listener that stops ends a walk at its first finding
-abbrev pub IsFirst : List FindingValue → Fault → Type 0
-IsFirst fs e = (x : FindingValue) × (fs ≡ x ∷ []) × (e ≡ fault x.block x.cause)
+-- a listener that stops ends a walk at the first finding behind these
+abbrev pub IsFirstPast : List FindingValue → List FindingValue → Fault → Type 0
+IsFirstPast past fs e = (x : FindingValue) × (fs ≡ past ++ x ∷ []) × (e ≡ fault x.block x.cause)
 
 -- a fault that ends the comparison of the bits: no memory, or what the listener says of the findings of a course that is done and
 -- of the bits of n blocks up to its end
@@ -217,3 +217,7 @@ abbrev pub IsBitStop : List ℕ → (List FindingValue → Fault → Type 0) →
 IsBitStop image ends e =
     (e ≡ fault 0 NoMemory) ⊎ ((s : Course) × (bits : List FindingValue) × (n : ℕ) × IsCourse image s × IsDone image s × BitsTell image s 2 n bits
     × (n ≤ blocks image - 2) × ends (s.findings ++ bits) e)
+
+-- a fault that ends a walk or the comparison of the bits behind it
+abbrev pub IsEnd : List ℕ → (List FindingValue → Fault → Type 0) → Fault → Type 0
+IsEnd image ends e = IsStop image ends e ⊎ IsBitStop image ends e

@@ -12,6 +12,7 @@ pub mod Opening
 pub mod SoundMarks
 pub mod OwnKind
 pub mod Verdict
+pub mod Types
 -- The states of the surveyor. A promise names `owner` and `parent_node` of Found with what these name, and `has_mark` of Marks.
 pub mod Start
 pub mod Forms

@@ -6,7 +6,6 @@ use Rattle.adf_blocks.specs.declared.layout.TheConstants.{SECONDARY_TYPE, ST_ROO
 use Rattle.adf_blocks.specs.Sizes.{blocks}
 use Rattle.adf_names.specs.declared.kind.Kind.{Kind}
 use Rattle.adf_volume.specs.Demands.{IsSize}
-use Rattle.adf_volume.specs.Fault.{fault}
 use Rattle.adf_volume.specs.Image.{kind_of}
 use Rattle.adf_volume.specs.Walk.Role.{Root}
 use Rattle.adf_volume.specs.declared.fault.Fault.{Fault}
@@ -36,8 +35,3 @@ root_findings (Some u) = finding (Some Root) u.block u.cause ∷ []
 -- the findings of an image of which nothing is taken
 abbrev pub unread_findings : Unread → List FindingValue
 unread_findings u = boot_findings u.boot ++ finding None u.last.block u.last.cause ∷ []
-
--- the fault of the boot block if it has a cause, or else this one
-abbrev pub first_of : Option Cause → Fault → Fault
-first_of None e = e
-first_of (Some c) e = fault 0 c

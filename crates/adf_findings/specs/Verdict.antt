@@ -2,10 +2,19 @@
 use Rattle.std.specs.Prelude.{◌⊎◌, ℕ, List}
 use Rattle.adf_blocks.specs.declared.cause.Cause.{Cause}
 use Rattle.adf_tree.specs.Tree.{Tree}
-use Rattle.adf_volume.specs.Fits.{Fits}
+use Rattle.adf_volume.specs.Fits.{FitsBy}
 use Rattle.adf_volume.specs.Layout.{Layout}
-use Rattle.adf_volume.specs.Walk.{FirstFault}
+use Rattle.adf_volume.specs.Walk.{FirstFaultBy}
+use Rattle.adf_volume.specs.Types.{letters_for}
+use Rattle.adf_volume.specs.declared.types.Types.{Types}
+use Rattle.adf_volume.specs.declared.types.Types.TheVariants.{Plain}
 
--- a tree and a layout fit the image, or it has a first fault
+-- a tree and a layout fit the image, or it has a first fault, where volumes of these types are accepted
+abbrev pub FitsOrHasFaultBy : Types → List ℕ → Type 0
+FitsOrHasFaultBy types image =
+    ((t : Tree) × (l : Layout) × FitsBy (letters_for types image) image t l)
+    ⊎ ((b : ℕ) × (c : Cause) × FirstFaultBy (letters_for types image) image b c)
+
+-- the same where types 0 and 1 alone are accepted
 abbrev pub FitsOrHasFault : List ℕ → Type 0
-FitsOrHasFault image = ((t : Tree) × (l : Layout) × Fits image t l) ⊎ ((b : ℕ) × (c : Cause) × FirstFault image b c)
+FitsOrHasFault = FitsOrHasFaultBy Plain

@@ -4,11 +4,11 @@ ghost use Rattle.std.specs.Prelude.{◌≡◌, ◌<◌, ◌↔◌, ℕ, Bool, Li
 ghost use Rattle.adf_tree.specs.declared.entry.Body.TheVariants.{File};
 ghost use Rattle.adf_tree.specs.declared.entry.Entry.{Entry};
 ghost use Rattle.adf_tree.specs.Tree.{Tree, entry, find};
-ghost use Rattle.adf_volume.specs.Fits.{Fits};
+ghost use Rattle.adf_volume.specs.Fits.{Fits, FitsBy};
 ghost use Rattle.adf_volume.specs.Image.{name_of, word_in};
 ghost use Rattle.adf_volume.specs.Layout.{Layout};
-ghost use Rattle.adf_volume.specs.Made.{layout_in, tree_in};
-ghost use Rattle.adf_volume.specs.Walk.{Asks, FileAt, FirstFault, Has, HeadAt, NodeAt, Role, Walk};
+ghost use Rattle.adf_volume.specs.Made.{layout_in, tree_in, tree_in_by};
+ghost use Rattle.adf_volume.specs.Walk.{Asks, FileAt, FirstFault, FirstFaultBy, Has, HeadAt, NodeAt, Role, Walk};
 ghost use Rattle.adf_volume.specs.Walk.Role.{Data, Head};
 ghost use Rattle.adf_findings.specs.Files.{IsSoundFile, file_content, file_in, grave, named_from};
 ghost use Rattle.adf_findings.specs.Lookup.{LeadsTo, path_to};
@@ -16,7 +16,10 @@ ghost use Rattle.adf_findings.specs.Remains.{data_found, gaps_of, left_of};
 ghost use Rattle.adf_findings.specs.Survey.{FindingValue, IsSurvey, OnSurvey};
 ghost use Rattle.adf_findings.specs.Sound.{DatasInOrder, FileHolds, HeaderHolds, IsOfItsKind, IsSound};
 ghost use Rattle.adf_findings.specs.SoundMarks.{AreMarks};
-ghost use Rattle.adf_findings.specs.Verdict.{FitsOrHasFault};
+ghost use Rattle.adf_volume.specs.Types.{letters_for};
+ghost use Rattle.adf_findings.specs.Types.{passed};
+ghost use Rattle.adf_findings.specs.Verdict.{FitsOrHasFault, FitsOrHasFaultBy};
+ghost use Rattle.adf_volume.specs.declared.types.Types.{Types};
 
 /// Every image has a survey.
 #[tactic(auto, using(crate::proofs::SomeSurvey::some_survey))]
@@ -49,9 +52,22 @@ pub fn no_finding()
         → IsSurvey image w fs → fs ≡ [] }
 {}
 
-/// Every image is that of a volume, or has a first fault.
+/// The same where volumes of these types are accepted. A volume of type 2 or 3 has the finding of its type, and no other.
+pub fn findings_of_types()
+    ensures first { (types : Types) (image : List ℕ) (w : Walk) (f : FindingValue) (fs : List FindingValue)
+        → IsSurvey image w (passed types image ++ f ∷ fs)
+        → FirstFaultBy (letters_for types image) image f.block f.cause }
+    ensures fits { (types : Types) (image : List ℕ) (w : Walk) → IsSurvey image w (passed types image)
+        → FitsBy (letters_for types image) image (tree_in_by (letters_for types image) image w) (layout_in w) }
+    ensures none { (types : Types) (image : List ℕ) (t : Tree) (l : Layout) (w : Walk) (fs : List FindingValue)
+        → FitsBy (letters_for types image) image t l
+        → IsSurvey image w fs → fs ≡ passed types image }
+{}
+
+/// Every image is that of a volume, or has a first fault, where volumes of these types are accepted.
 pub fn fits_or_fault()
-    ensures { (image : List ℕ) → FitsOrHasFault image }
+    ensures plain { (image : List ℕ) → FitsOrHasFault image }
+    ensures types { (types : Types) (image : List ℕ) → FitsOrHasFaultBy types image }
 {}
 
 /// Of each survey it is decided which entries are sound, by all findings and by the grave ones.

@@ -28,9 +28,9 @@ mod walk_check;
 pub use crate::concern::Concern;
 pub use crate::file::SoundFile;
 pub use crate::laws::{
-    all_sound, directories_first, first_finding, fits_or_fault, found_as_in_the_tree,
-    found_as_named, left_of_sound, no_finding, one_part, one_survey, paths_of_directories,
-    some_marks, some_survey, sound_entries,
+    all_sound, directories_first, findings_of_types, first_finding, fits_or_fault,
+    found_as_in_the_tree, found_as_named, left_of_sound, no_finding, one_part, one_survey,
+    paths_of_directories, some_marks, some_survey, sound_entries,
 };
 pub use crate::opening::Opening;
 pub use crate::own_kind::{Tally, retype};
@@ -39,3 +39,4 @@ pub use crate::remains::{Gap, Remains};
 pub use crate::survey_result::Survey;
 pub use crate::surveyor::survey;
 pub use crate::walk_check::check_walk;
+pub use adf_volume::Types;

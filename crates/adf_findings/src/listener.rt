@@ -53,11 +53,30 @@ pub struct Stopping;
 
 impl Listener for Stopping {
     ghost use Rattle.std.specs.Prelude.{[]};
-    ghost use Rattle.adf_findings.specs.Courses.{IsFirst};
+    ghost use Rattle.adf_findings.specs.Courses.{IsFirstPast};
 
     ghost heard = { λ _. [] };
 
-    ghost ends = { IsFirst };
+    ghost ends = { IsFirstPast [] };
+
+    fn hear(&mut self, finding: Finding) -> Result<(), Fault> {
+        Err(fault_at(finding.block, finding.cause))
+    }
+}
+
+/// Ends the walk at the first finding behind that of a boot block of international letters.
+#[derive(Clone, Copy, PartialEq, Eq, Drop)]
+pub struct StoppingPastType;
+
+impl Listener for StoppingPastType {
+    ghost use Rattle.std.specs.Prelude.{Some};
+    ghost use Rattle.adf_findings.specs.Courses.{IsFirstPast};
+    ghost use Rattle.adf_blocks.specs.declared.cause.Cause.TheVariants.{International};
+    ghost use Rattle.adf_findings.specs.Start.{boot_findings};
+
+    ghost heard = { λ _. boot_findings (Some International) };
+
+    ghost ends = { IsFirstPast (boot_findings (Some International)) };
 
     fn hear(&mut self, finding: Finding) -> Result<(), Fault> {
         Err(fault_at(finding.block, finding.cause))

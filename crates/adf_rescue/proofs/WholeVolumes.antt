@@ -30,7 +30,7 @@ use Rattle.adf_findings.specs.Found.{parent_node}
 use Rattle.adf_findings.specs.Sound.{IsOfItsKind}
 use Rattle.adf_findings.specs.SoundMarks.{AreMarks}
 use Rattle.adf_findings.specs.Survey.{FindingValue, IsSurvey}
-use Rattle.adf_findings.proofs.FirstFindings.{finds_none, none_found, shown}
+use Rattle.adf_findings.proofs.PlainFindings.{finds_none, none_found, shown}
 use Rattle.adf_build.specs.Plan.{blocks_needed, entries_blocks, reserved}
 use Rattle.adf_rescue.specs.Rescue.{Ground, Basis, Verdict, additions_of, before_first, before_second, directory_in, first_verdicts, fitting, left_out_from}
 use Rattle.adf_rescue.specs.Rescue.{path_by, path_for, place_of, rescue_leaves, rescued_tree, tree_of, verdict, verdicts}

@@ -12,7 +12,7 @@ use Rattle.adf_volume.specs.Walk.{Walk}
 use Rattle.adf_findings.specs.Files.{grave}
 use Rattle.adf_findings.specs.SoundMarks.{AreMarks}
 use Rattle.adf_findings.specs.Survey.{FindingValue, IsSurvey}
-use Rattle.adf_findings.proofs.FirstFindings.{finds_none}
+use Rattle.adf_findings.proofs.PlainFindings.{finds_none}
 use Rattle.adf_rescue.specs.declared.left_out.LeftOut.{LeftOut}
 use Rattle.adf_rescue.specs.Hung.{hung}
 use Rattle.adf_rescue.specs.Lost.{has_lost, is_settled}

@@ -14,7 +14,7 @@ use Rattle.adf_volume.specs.Layout.{Layout}
 use Rattle.adf_volume.specs.Start.{is_image_len}
 use Rattle.adf_volume.specs.Walk.{Walk}
 use Rattle.adf_volume.specs.declared.fault.Fault.{Fault}
-use Rattle.adf_findings.proofs.FirstFindings.{finds_none}
+use Rattle.adf_findings.proofs.PlainFindings.{finds_none}
 use Rattle.adf_findings.proofs.FitsOrFault.{fits_or_fault}
 use Rattle.adf_findings.proofs.SomeMarks.{some_marks}
 use Rattle.adf_findings.proofs.SomeSurvey.{some_survey}

@@ -1,4 +1,4 @@
-use Rattle.adf_findings.proofs.FirstFindings.{finds_none}
+use Rattle.adf_findings.proofs.PlainFindings.{finds_none}
 use Rattle.adf_rescue.proofs.RescueLaws.{nothing_lost}
 use Rattle.adf_rescue.proofs.WholeVolumes.{none_left, tree_kept}
 use Rattle.adf_rescue.proofs.laws.whole_is_kept.Goals as goal
