@@ -1,7 +1,8 @@
 -- What is asked of a disk has an answer of `adf-disk`. ps are its partitions, p is one of them.
 use Rattle.std.proofs.Common.{◌&&◌, ◌++◌, ◌/◌, ℕ, Bool, true, false, List, [], ◌∷◌, Option, None, Some, Result, Ok, Err, codes, inl, inr, length, refl, take}
-use Rattle.adf_answers.proofs.Images.{checked}
-use Rattle.adf_cmd.specs.Answers.{Answer}
+use Rattle.adf_findings.proofs.FitsOrFault.{fits_or_fault_by}
+use Rattle.adf_findings.specs.Verdict.{FitsOrHasFaultBy}
+use Rattle.adf_volume.specs.declared.types.Types.TheVariants.{WithInternational}
 use Rattle.adf_partitions.proofs.SomeReadings.{some_disk, some_reading}
 use Rattle.adf_partitions.proofs.SomeTexts.{some_text}
 use Rattle.adf_partitions.specs.Disks.{HasListOrFault}
@@ -11,9 +12,7 @@ use Rattle.adf_partitions.specs.declared.fault.DiskFault.{DiskFault}
 use Rattle.adf_partitions.specs.declared.partition.Partition.{Partition}
 use Rattle.adf_partitions.specs.declared.place.Place.{Place}
 use Rattle.adf_partitions.specs.declared.place.PlaceFault.{PlaceFault}
-use Rattle.adf_texts.specs.Lines.{fault_line as volume_fault_line}
 use Rattle.adf_runs.specs.Commands.{Reply, on_output}
-use Rattle.adf_words.specs.CommandLine.{check as check_volume}
 use Rattle.adf_file_words.specs.DiskLine.{DiskRequestValue, WantedValue, build, check, list, survey, volume}
 use Rattle.adf_disk_cmd.specs.Answers.{DiskAnswer, OfDisk, OfFault, OfPartitions, fault_line, volume_reply, wanted_of}
 use Rattle.adf_disk_cmd.specs.Builds.{BuildsDisk, plan_reply, refusal}
@@ -22,12 +21,12 @@ use Rattle.adf_disk_cmd.specs.Lines.{list_lines, name_text, volume_at}
 use Rattle.adf_disk_cmd.specs.declared.unchecked.Unchecked.{Unchecked}
 use Rattle.adf_disk_cmd.specs.declared.work.TheConstants.{MOST_DISK_BYTES}
 
-told_by : (image : List ℕ) (reply : Reply) → Answer check_volume image reply → (sound : Bool) × (line : List ℕ) × TellsVolume image None sound line
-told_by image reply (inl (t, l, fits, e)) = (true, _, inl (t, l, fits, refl))
-told_by image reply (inr (f, first, e)) = (false, volume_fault_line f, inr (f, first, refl))
+told_by : (image : List ℕ) → FitsOrHasFaultBy WithInternational image → (sound : Bool) × (line : List ℕ) × TellsVolume image None sound line
+told_by image (inl (t, l, fits)) = (true, _, inl (t, l, fits, refl))
+told_by image (inr (b, c, first)) = (false, _, inr (record { block = b; cause = c }, first, refl))
 
 some_volume : (why : Option Unchecked) (image : List ℕ) → (sound : Bool) × (line : List ℕ) × TellsVolume image why sound line
-some_volume None image = let (reply, answer) = checked image in told_by image reply answer
+some_volume None image = told_by image (fits_or_fault_by WithInternational image)
 some_volume (Some why) image = (false, unchecked_text why ++ codes "\n", (refl, refl))
 
 some_place : (bytes : List ℕ) (p : Partition) (place : Result Place PlaceFault) → (sound : Bool) × (line : List ℕ) × TellsPlace bytes p place sound line

@@ -4,14 +4,13 @@ use Rattle.std.proofs.Common.{None, Some, append-nil, append_assoc, codes, drop,
 use Rattle.std.proofs.Math.Seq.{drop-cons}
 use Rattle.std.proofs.Math.Bool.{and-true}
 use Rattle.std.proofs.lemmas.Grind.{common_steps}
-use Rattle.adf_cmd.specs.Answers.{Answer}
 use Rattle.adf_disk_cmd.specs.Checks.{AreChecked, Tells, TellsPlace, TellsVolume, check_status, unchecked_text, why_unchecked}
 use Rattle.adf_disk_cmd.specs.Lines.{list_line, list_lines, name_text, volume_at}
+use Rattle.adf_disk_cmd.specs.VolumeAnswers.{VolumeAnswer}
 use Rattle.adf_disk_cmd.specs.declared.unchecked.Unchecked.{Unchecked}
 use Rattle.adf_partitions.specs.declared.partition.Partition.{Partition}
 use Rattle.adf_partitions.specs.declared.place.Place.{Place}
 use Rattle.adf_runs.specs.Commands.{on_output}
-use Rattle.adf_words.specs.CommandLine.{check}
 
 -- what is left from a partition on
 pub split_at : (ps : List Partition) (i : ℕ) (p : Partition) → i < length ps → p ≡ get_or ps i p → drop i ps ≡ p ∷ drop (i + 1) ps
@@ -27,9 +26,9 @@ pub lines_end : (ps : List Partition) (n : ℕ) (text : List ℕ) → text ++ li
 unfolding list_lines
 lines_end ps n text h = sym (append-nil text) ∙ h
 
--- what `adf check` answers to a volume that is checked is told of its partition
+-- what is answered to a volume that is checked is told of its partition
 pub told : (bytes line : List ℕ) (p : Partition) (q : Place) (sound : Bool) → p.place ≡ Ok q → why_unchecked p q ≡ None
-    → Answer check (volume_at bytes q) (on_output (check_status sound) line) → Tells bytes p sound line
+    → VolumeAnswer (volume_at bytes q) (on_output (check_status sound) line) → Tells bytes p sound line
 told bytes line p q sound e why h =
     subst (λ place. TellsPlace bytes p place sound line) (sym e)
     (subst (λ o. TellsVolume (volume_at bytes q) o sound line) (sym why) h)

@@ -9,7 +9,7 @@ use Rattle.std.proofs.lemmas.List.Elements.{All-append, All-cons, All-from_get_o
 use Rattle.std.specs.Io.KnownBytes.{Consumes, IsAtEnd}
 use Rattle.std.specs.List.Sorted.{IsNonDecreasingBy}
 use Rattle.std.proofs.lemmas.Grind.{common_steps}
-use Rattle.adf_cmd.specs.CheckAnswers.{IsCheckAnswer}
+use Rattle.adf_disk_cmd.specs.VolumeAnswers.{IsVolumeAnswer}
 use Rattle.adf_partitions.specs.Places.{end_of}
 use Rattle.adf_partitions.specs.declared.place.Place.{Place}
 use Rattle.adf_runs.proofs.KnownBytes.{consumes_more, two_at_most}
@@ -77,7 +77,7 @@ volume_held all (Some rest) k f n bytes s before end =
 -- so an answer to them is that to the volume at the place
 pub one_answered : (all image bytes : List ℕ) (left : Option (List ℕ)) (k : ℕ) (q : Place) (v : CheckedVolume) → IsStretch (Some all) left k bytes
     → IsFrom k q → IsWithin q → (k + length bytes < end_of q * 512 → IsAtEnd left)
-    → image ≡ take (q.blocks * 512) (drop (q.first * 512 - k) bytes) → v.place ≡ q → IsCheckAnswer image v.answer
+    → image ≡ take (q.blocks * 512) (drop (q.first * 512 - k) bytes) → v.place ≡ q → IsVolumeAnswer image v.answer
     → IsAnswered (take MOST_DISK_BYTES all) v
 unfolding volume_at
 one_answered all image bytes left k q v s from within end e f answer =
@@ -88,7 +88,7 @@ one_answered all image bytes left k q v s from within end e f answer =
     let whole = whole_place f0 b MOST_DISK_BYTES all (omega (arith, within)) in
     let same : image ≡ volume_at (take MOST_DISK_BYTES all) v.place =
     e ∙ held ∙ sym whole ∙ ap (λ (r : Place). volume_at (take MOST_DISK_BYTES all) r) (sym f) in
-    subst (λ (l : List ℕ). IsCheckAnswer l v.answer) same answer
+    subst (λ (l : List ℕ). IsVolumeAnswer l v.answer) same answer
 
 -- the place that comes next, and those behind it
 pub next_from : (k i : ℕ) (places : List Place) (d : Place) → i < length places → All (IsFrom k) (drop i places) → IsFrom k (get_or places i d)
@@ -120,7 +120,7 @@ all_counted all rest bytes k count limit s few left (passed, first, len) = grind
 
 -- a volume that was checked behind those before it
 abbrev pub AddsCheck : List ℕ → Place → List CheckedVolume → List CheckedVolume → Type 0
-AddsCheck image q few more = (v : CheckedVolume) × (v.place ≡ q) × IsCheckAnswer image v.answer × (more ≡ few ++ v ∷ [])
+AddsCheck image q few more = (v : CheckedVolume) × (v.place ≡ q) × IsVolumeAnswer image v.answer × (more ≡ few ++ v ∷ [])
 
 pub answer_added : (all image bytes : List ℕ) (left : Option (List ℕ)) (k : ℕ) (q : Place) (few more : List CheckedVolume)
     → AddsCheck image q few more

@@ -2,8 +2,6 @@
 use Rattle.std.specs.Prelude.{◌≡◌, ℕ, ◌==◌, ◌%◌, ◌&&◌, nat_le, Bool, true, false, List, [], ◌∷◌, ◌++◌, codes, Option, None, Some, Result, Ok, Err, if◌then◌else◌}
 use Rattle.std.specs.Fmt.{decimal}
 use Rattle.adf_blocks.specs.declared.layout.TheConstants.{MOST_BLOCKS}
-use Rattle.adf_cmd.specs.Answers.{Answer}
-use Rattle.adf_words.specs.CommandLine.{check}
 use Rattle.adf_runs.specs.Commands.{on_output}
 use Rattle.adf_partitions.specs.Faults.{first_failed}
 use Rattle.adf_partitions.specs.FaultTexts.{field_fault_text, place_fault_text}
@@ -12,6 +10,7 @@ use Rattle.adf_partitions.specs.declared.partition.Partition.{Partition}
 use Rattle.adf_partitions.specs.declared.place.Place.{Place}
 use Rattle.adf_partitions.specs.declared.place.PlaceFault.{PlaceFault}
 use Rattle.adf_disk_cmd.specs.Lines.{bytes_text, is_checked, name_text, volume_at}
+use Rattle.adf_disk_cmd.specs.VolumeAnswers.{VolumeAnswer}
 use Rattle.adf_disk_cmd.specs.declared.unchecked.Unchecked.{Unchecked}
 use Rattle.adf_disk_cmd.specs.declared.unchecked.Unchecked.TheVariants.{OtherType, Fields, Reserved, OddBlocks, BadSize}
 
@@ -44,9 +43,9 @@ unchecked_text (Reserved n) = codes "reserved " ++ decimal n
 unchecked_text OddBlocks = codes "odd blocks"
 unchecked_text BadSize = codes "block 0: bad size"
 
--- of a volume that is checked its line tells what `adf check` answers, of another one why it is not checked
+-- of a volume that is checked its line tells what is answered to it, of another one why it is not checked
 abbrev pub TellsVolume : List ℕ → Option Unchecked → Bool → List ℕ → Type 0
-TellsVolume volume None sound line = Answer check volume (on_output (check_status sound) line)
+TellsVolume volume None sound line = VolumeAnswer volume (on_output (check_status sound) line)
 TellsVolume volume (Some why) sound line = TellsText (unchecked_text why) sound line
 
 -- of a partition that has a place its line tells of the volume there, and of another one why it has none

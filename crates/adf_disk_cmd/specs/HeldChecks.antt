@@ -5,7 +5,7 @@ use Rattle.std.specs.Prelude.{All, IfOk, length, map, min, take}
 use Rattle.std.specs.List.{Contains}
 use Rattle.std.specs.Io.KnownBytes.{Consumes}
 use Rattle.adf_base.specs.Words.{block}
-use Rattle.adf_cmd.specs.CheckAnswers.{IsCheckAnswer}
+use Rattle.adf_disk_cmd.specs.VolumeAnswers.{IsVolumeAnswer}
 use Rattle.adf_partitions.specs.Disks.{IsDisk}
 use Rattle.adf_partitions.specs.Places.{StatesPlace, end_of, place_of}
 use Rattle.adf_partitions.specs.declared.layout.TheConstants.{MOST_TABLES}
@@ -19,9 +19,9 @@ use Rattle.adf_disk_cmd.specs.declared.copy_input.TheConstants.{MOST_DISK_BLOCKS
 use Rattle.adf_disk_cmd.specs.declared.list_input.TheConstants.{TABLES_LEN}
 use Rattle.adf_disk_cmd.specs.declared.work.TheConstants.{MOST_DISK_BYTES}
 
--- the answer is that of `adf check` to the volume at its place
+-- this is answered to the volume at its place
 abbrev pub IsAnswered : List ℕ → CheckedVolume → Type 0
-IsAnswered all v = IsCheckAnswer (volume_at all v.place) v.answer
+IsAnswered all v = IsVolumeAnswer (volume_at all v.place) v.answer
 
 -- whether a volume lies at this place
 abbrev pub lies_at : Place → CheckedVolume → Bool

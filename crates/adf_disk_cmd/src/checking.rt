@@ -1,18 +1,19 @@
 // The command `check`.
 
 ghost use Rattle.std.specs.Prelude.{◌≡◌, ◌++◌, All, List, ℕ, false, find, option_copied, string_bytes, IfOk, OnOk};
-ghost use Rattle.adf_cmd.specs.CheckAnswers.{IsCheckAnswer};
 ghost use Rattle.adf_disk_cmd.specs.Answers.{ChecksAll};
 ghost use Rattle.adf_disk_cmd.specs.Checks.{AreChecked, Tells};
 ghost use Rattle.adf_disk_cmd.specs.HeldChecks.{IsAnswered, IsKnown, KnowsVolume, KnowsVolumes, lies_at};
 ghost use Rattle.adf_disk_cmd.specs.Lines.{name_text, volume_at};
+ghost use Rattle.adf_disk_cmd.specs.VolumeAnswers.{IsVolumeAnswer};
 ghost use Rattle.adf_runs.specs.Outcomes.{EndsBy, is_read_fault, is_write_fault};
 
 use crate::answering::write_text;
 use crate::listing::push_name;
 use crate::unchecked::{unchecked_text, why_unchecked};
+use crate::volume_check::answer_to_any;
 use crate::volumes::volume_at;
-use adf_cmd::{CheckAnswer, answer_to_image};
+use adf_cmd::CheckAnswer;
 use adf_partitions::{Partition, Place};
 use adf_runs::{Outcome, Sink};
 use std::alloc::{AllocError, Global};
@@ -43,7 +44,7 @@ fn volume_checked(checked: &[CheckedVolume], place: Place) -> Option<&CheckedVol
     None
 }
 
-// What `adf check` answers to the volume at a place, which was checked or is held.
+// What is answered to the volume at a place, which was checked or is held.
 fn answer_to_volume(
     alloc: Global,
     bytes: &[u8],
@@ -51,7 +52,7 @@ fn answer_to_volume(
     place: Place,
 ) -> Result<CheckAnswer, AllocError>
     ensures { (all : List ℕ) → All (IsAnswered all) checked.now → IsKnown all bytes.now checked.now place
-        → IfOk result (IsCheckAnswer (volume_at all place)) }
+        → IfOk result (IsVolumeAnswer (volume_at all place)) }
 {
     match volume_checked(checked, place) {
         Some(volume) => {
@@ -59,11 +60,11 @@ fn answer_to_volume(
             let sound = volume.answer.sound;
             Ok(CheckAnswer { sound, line })
         }
-        None => answer_to_image(alloc, volume_at(bytes, place)),
+        None => answer_to_any(alloc, volume_at(bytes, place)),
     }
 }
 
-// What is told of a partition: of a volume as `adf check` tells it, else why it is not checked, or why it has no place.
+// What is told of a partition: of a volume what is answered to it, else why it is not checked, or why it has no place.
 fn answer_to_partition(
     alloc: Global,
     bytes: &[u8],

@@ -15,6 +15,7 @@ mod stretch;
 mod surveying;
 mod types;
 mod unchecked;
+mod volume_check;
 mod volumes;
 mod work;
 

@@ -2,11 +2,10 @@
 
 ghost use Rattle.std.specs.Prelude.{◌≡◌, ◌<◌, ◌*◌, ◌++◌, List, ℕ, codes, length, string_bytes, IfOk};
 ghost use Rattle.adf_blocks.specs.declared.layout.TheConstants.{MOST_BLOCKS};
-ghost use Rattle.adf_cmd.specs.Answers.{Answer};
 ghost use Rattle.adf_disk_cmd.specs.Checks.{unchecked_text, why_unchecked};
+ghost use Rattle.adf_disk_cmd.specs.VolumeAnswers.{VolumeAnswer};
 ghost use Rattle.adf_disk_cmd.specs.declared.unchecked.Unchecked.{Unchecked};
 ghost use Rattle.adf_runs.specs.Commands.{on_output};
-ghost use Rattle.adf_words.specs.CommandLine.{check};
 
 use crate::types::{bytes_text, is_checked};
 use adf_blocks::MOST_BLOCKS;
@@ -50,7 +49,7 @@ pub fn why_unchecked(partition: &Partition, place: Place) -> Option<Unchecked>
     None
 }
 
-/// The text of the reason. That of `BadSize` is what `adf check` writes (`large_volumes_are_refused`).
+/// The text of the reason. That of `BadSize` is that of the first fault (`large_volumes_are_refused`).
 pub fn unchecked_text(alloc: Global, why: Unchecked) -> Result<String, AllocError>
     ensures { IfOk result (λ text. string_bytes text ≡ unchecked_text why) }
 {
@@ -66,8 +65,8 @@ pub fn unchecked_text(alloc: Global, why: Unchecked) -> Result<String, AllocErro
     }
 }
 
-/// What is written of a volume of more blocks than one that is read is what `adf check` answers to it.
+/// What is written of a volume of more blocks than one that is read is what is answered to it.
 pub fn large_volumes_are_refused()
     ensures { (volume : List ℕ) → 512 * MOST_BLOCKS < length volume
-        → Answer check volume (on_output 1 (unchecked_text Unchecked.BadSize ++ codes "\n")) }
+        → VolumeAnswer volume (on_output 1 (unchecked_text Unchecked.BadSize ++ codes "\n")) }
 {}
