@@ -1,9 +1,13 @@
 -- Blocks that leave no file in doubt.
 -- Letters: f a state; b a block; m a node; k a number of blocks.
 use Rattle.std.specs.Prelude.{Bool, true, false, cond, not, ◌&&◌, ◌||◌, ◌==◌, Option, Some, None, slice_index_or}
-use Rattle.std.proofs.Common.{◌≡◌, ℕ, zero, suc, List, inl, inr, ◌<◌, ◌≤◌, refl, ap, ◌∙◌, arith}
+use Rattle.std.proofs.Common.{◌≡◌, ℕ, zero, suc, List, [], inl, inr, ◌<◌, ◌≤◌, refl, ap, ◌∙◌, arith}
 use Rattle.std.proofs.lemmas.Bool.{cases_lt}
+use Rattle.std.proofs.lemmas.Bool.Decides.{nat_tests}
 use Rattle.std.proofs.lemmas.Grind.{common_steps}
+use Rattle.adf_base.specs.Words.{block, word}
+use Rattle.adf_blocks.specs.declared.layout.TheConstants.{TYPE, T_DATA}
+use Rattle.adf_volume.specs.Image.{word_in}
 use Rattle.adf_volume.specs.declared.owner.Owner.{Owner}
 use Rattle.adf_volume.specs.declared.owner.Owner.TheVariants.{Free, Boot, Root, Page, MapExt, Head, Ext, Data}
 use Rattle.adf_walk.specs.Owners.{is_part, owner_at}
@@ -11,6 +15,7 @@ use Rattle.adf_walk.specs.WalkOwners.{data_number_of}
 use Rattle.adf_findings.specs.declared.found.Found.{Found}
 use Rattle.adf_findings.specs.Found.{is_owned}
 use Rattle.adf_findings.specs.Marks.{doubted, entry_in_block, is_doubted, is_node, is_said, number_in_block}
+use Rattle.adf_findings.proofs.SoundMarks.{none_doubted}
 
 no_number : (o : Owner) → is_part o ≡ false → data_number_of o ≡ 0
 no_number Free e = refl
@@ -27,6 +32,13 @@ pub unowned_sure : (image : List ℕ) (f : Found) (b : ℕ) → is_owned f b ≡
 unowned_sure image f b e =
     let none = no_number (owner_at f.owners.owners b) e in
     ap (λ n. cond (n == 0) None (cond (slice_index_or f.avoided.items b false || is_said image f b) (Some (entry_in_block f b)) None)) none
+
+-- while no block is skipped, one of another type leaves none in doubt
+pub untyped_sure : (image : List ℕ) (f : Found) (b n : ℕ) → f.avoided.items ≡ [] → n ≡ word (block image b) TYPE → (n ≡ T_DATA → ⊥)
+    → doubted image f b ≡ None
+untyped_sure image f b n none is other =
+    let plain : (slice_index_or f.avoided.items b false || (word_in image b TYPE == T_DATA)) ≡ false = grind (arith, common_steps, nat_tests) in
+    none_doubted image f b plain
 
 or_false : (x : Bool) → (x || false) ≡ x
 or_false true = refl

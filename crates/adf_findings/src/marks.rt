@@ -142,17 +142,21 @@ fn strike_doubted_at(image: &Image<'_>, found: &Found, marks: &mut Vec<bool>, b:
     }
 }
 
-// Whether no file is in doubt by the blocks from `first` up to, but not including, `end`: parts own none of them, or none
-// is dubious.
-#[tactic(auto, using(crate::proofs::Doubts::unowned_sure, crate::proofs::SoundMarks::none_doubted))]
+// Whether no file is in doubt by the blocks from `first` up to, but not including, `end`: parts own none of them, or no
+// block was skipped and none has the type of an OFS data block.
+#[tactic(auto, using(crate::proofs::Doubts::unowned_sure, crate::proofs::Doubts::untyped_sure))]
 fn are_sure(image: &Image<'_>, found: &Found, first: u32, end: u32) -> bool
+    requires { end ≤ blocks image.now }
     ensures { IsTrue result → (b : ℕ) → first ≤ b → b < end → doubted image.now found.now b ≡ None }
 {
     if found.owners.are_parts(first, end, false) {
         return true;
     }
+    if !found.avoided.is_empty() {
+        return false;
+    }
     for b in first..end {
-        if is_dubious(image, found, b) {
+        if image.block(b).word(TYPE) == T_DATA {
             return false;
         }
     }
@@ -167,7 +171,8 @@ fn strike_doubted_among(
     first: u32,
     end: u32,
 )
-    requires { first ≤ end }
+    requires order { first ≤ end }
+    requires inside { end ≤ blocks image.now }
     ensures { (m : ℕ) (t : Bool) → has_mark marks.old.items m ≡ (t && not (is_doubted image.now found.now first m))
         → has_mark marks.new.items m ≡ (t && not (is_doubted image.now found.now end m)) }
 {

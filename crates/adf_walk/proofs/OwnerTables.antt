@@ -1,6 +1,6 @@
 -- Tables of owners: a new one, and one after another claim.
-use Rattle.std.proofs.Common.{◌≡◌, ℕ, suc, List, ◌∷◌, ◌+◌, ◌-◌, ◌<◌, ◌≤◌, length, get_or, replicate, map, set, true, refl, ap, ◌∙◌, zero, arith}
-use Rattle.std.proofs.lemmas.List.{get_or-map, length-map, map-set}
+use Rattle.std.proofs.Common.{◌≡◌, ℕ, suc, List, ◌∷◌, ◌+◌, ◌-◌, ◌<◌, ◌≤◌, length, get_or, replicate, map, set, true, refl, sym, ap, ◌∙◌, zero, arith}
+use Rattle.std.proofs.lemmas.List.{get_or-map, get_or_default, length-map, map-set}
 use Rattle.std.proofs.lemmas.Grind.{common_steps}
 use Rattle.adf_walk.specs.declared.kept_owner.KeptOwner.{KeptOwner, TheVariants.Free, TheVariants.Boot}
 use Rattle.adf_walk.specs.declared.kept_owner.PackedOwner.{PackedOwner}
@@ -57,3 +57,16 @@ new_is (suc (suc m)) xs free boot lo e f b =
 
 pub new_table : (n : ℕ) → 2 ≤ n → IsTable is_claimed Boot (Boot ∷ Boot ∷ replicate (n - 2) Free) n 0
 new_table n lo = record { boot = refl; blocks = grind (arith, common_steps); used = grind (arith, common_steps) }
+
+-- the same of a block that the table tells is free
+pub put_kept : (items : List PackedOwner) (kept : PackedOwner) {old : List KeptOwner} {blocks used b : ℕ} {o : KeptOwner}
+    → unpacked kept ≡ o → map unpacked items ≡ old → IsTable is_claimed Boot (map unpacked items) blocks used → 2 ≤ b
+    → b < length old → is_claimed o ≡ true → kept_at old b ≡ Free → IsClaimed old (set items b kept) blocks used b o
+put_kept items kept {old = old} {blocks = blocks} {used = used} {b = b} {o = o} same view table lo hi part free =
+    let many : length (map unpacked items) ≡ length old = ap length view in
+    let same_length : length (map unpacked items) ≡ length items = grind (arith, common_steps, length-map) in
+    let lt : b < length items = omega (arith, same_length, many, hi) in
+    let x : PackedOwner = get_or items b kept in
+    let here : x ≡ get_or items b x = get_or_default items b kept x lt in
+    let is : unpacked x ≡ Free = sym (owner_is items b x (omega (arith, many, hi)) here) ∙ (ap (λ t. kept_at t b) view ∙ free) in
+    claim_kept items kept same view table lo hi part here is

@@ -76,6 +76,20 @@ impl OwnerTable {
         Ok(())
     }
 
+    // Makes `o` the owner of a block that is known to be free.
+    #[inline(always)]
+    pub fn put(&mut self, b: u32, o: KeptOwner)
+        requires from { 2 ≤ b }
+        requires below { b < length self.old }
+        requires free { kept_at self.old b ≡ KeptOwner.Free }
+        requires part { is_claimed o ≡ true }
+        requires place { place_of o < 2 ^ 29 }
+        ensures { self.new ≡ slice_set self.old b o }
+    {
+        self.owners[b as usize] = PackedOwner::of(o);
+        self.used += 1;
+    }
+
     // The number of blocks.
     pub fn len(&self) -> u32
         ensures { result ≡ length self.now }

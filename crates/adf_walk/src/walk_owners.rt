@@ -63,7 +63,7 @@ impl WalkOwners {
         ensures node { OnOk result (self.new.node ≡ node_after owner self.old.node) }
     {
         let kept = self.places.kept(owner)?;
-        self.table.claim(b, kept).unwrap();
+        self.table.put(b, kept);
         Ok(())
     }
 

@@ -7,7 +7,7 @@ use Rattle.adf_findings.proofs.marks.strike_doubted_among.Goals as goal
 pub returns-then-are_sure : goal.returns-then-are_sure
 returns-then-are_sure c = λ m t e.
     let sure = c.are_sure.ensures c.if-are_sure.true in
-    e ∙ ap (λ p. t && not p) (sym (same_doubted c.args.image.now c.args.found.now m c.args.first c.args.end c.requires sure))
+    e ∙ ap (λ p. t && not p) (sym (same_doubted c.args.image.now c.args.found.now m c.args.first c.args.end c.requires.order sure))
 
 pub loop-b-init : goal.loop-b-init
 loop-b-init c = λ m t e. e
@@ -22,6 +22,6 @@ loop-b-preserved c = λ m t e.
 
 pub returns : goal.returns
 returns c = λ m t e.
-    let end : c.loop-b.b ≡ c.args.end = omega (arith, c.requires, c.loop-b-test.false, c.loop-b.auto.b, c.loop-b.auto.b-end) in
+    let end : c.loop-b.b ≡ c.args.end = omega (arith, c.requires.order, c.loop-b-test.false, c.loop-b.auto.b, c.loop-b.auto.b-end) in
     subst (λ k. has_mark c.loop-b.marks.items m ≡ (t && not (is_doubted c.args.image.now c.args.found.now k m))) end
     (c.loop-b.invariant m t e)

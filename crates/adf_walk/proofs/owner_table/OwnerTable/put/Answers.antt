@@ -1,0 +1,12 @@
+use Rattle.adf_walk.proofs.OwnerTables.{put_kept}
+use Rattle.adf_walk.proofs.owner_table.OwnerTable.put.Goals as goal
+
+pub invariant_of-self : goal.invariant_of-self
+invariant_of-self c =
+    (put_kept c.self.inside.owners.items c.of.result c.of.ensures c.self.view_is c.self.invariant c.requires.from c.requires.below
+    c.requires.part c.requires.free).table
+
+pub returns : goal.returns
+returns c =
+    (put_kept c.self.inside.owners.items c.of.result c.of.ensures c.self.view_is c.self.invariant c.requires.from c.requires.below
+    c.requires.part c.requires.free).view
