@@ -99,7 +99,8 @@ size_t adf_cause_text(uint8_t cause, uint8_t *room, size_t room_length);
  */
 uint32_t adf_version(void);
 
-enum adf_kind { ADF_OFS = 0, ADF_FFS = 1 };
+/* The type of a volume. Types 2 and 3 are told by adf_check_types alone. */
+enum adf_kind { ADF_OFS = 0, ADF_FFS = 1, ADF_OFS_INTERNATIONAL = 2, ADF_FFS_INTERNATIONAL = 3 };
 
 struct adf_verdict {
     uint32_t kind;   /* an adf_kind */
@@ -119,6 +120,12 @@ struct adf_verdict {
  *    Nothing else is said about the image, and all fields are 0.
  */
 uint8_t adf_check(const uint8_t *image, size_t length, struct adf_verdict *verdict);
+
+/* The same of an image of type 0 to 3, each by the letters whose case is ignored in its names: on types 2 and 3 these are the bytes
+ * 0xE0 to 0xFE too, except 0xF7. Types 0 and 1 have the verdict of adf_check. Volumes of types 2 and 3 are read by the calls of
+ * surveys below; adf_index refuses them.
+ */
+uint8_t adf_check_types(const uint8_t *image, size_t length, struct adf_verdict *verdict);
 
 /* Which part of the volume owns a block. */
 enum adf_role {

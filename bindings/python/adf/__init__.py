@@ -57,6 +57,7 @@ NOT_DOS, NO_MEMORY = 2, 23
 OTHER_TYPE = 0  # of the finding that the type is FFS and the files are OFS, for which the library has no number
 NO_BLOCK, LEAST_CHUNK, FILE_TYPE = 2**32 - 1, 488, b"\xff\xff\xff\xfd"
 KINDS = ("ofs", "ffs")
+TYPES = (*KINDS, "ofs-international", "ffs-international")
 MOST_PARTITIONS, MOST_TABLES, DOS_TYPE = 1024, BLOCK * 65536, 0x444F5300
 ROLES = ("free", "boot", "root", "page", "map extension", "header", "extension", "data")
 SONAME = "libadf.so.1"
@@ -109,6 +110,7 @@ _Disk = _struct(("partitions", _SIZE), ("block", _WORD), ("cause", _BYTE))
 _Moved = _struct(("input output errors", _SIZE), ("output_full errors_full", _BOOL))
 _CALLS = {
     "adf_check": (_BYTE, _POINTER, _SIZE, _POINTER),
+    "adf_check_types": (_BYTE, _POINTER, _SIZE, _POINTER),
     "adf_owners": (_BYTE, _POINTER, _SIZE, _POINTER, _SIZE),
     "adf_index": (_BYTE, _POINTER, _SIZE, _POINTER, _SIZE, _POINTER, _SIZE, _POINTER),
     "adf_find": (_BYTE, _POINTER, _SIZE, _POINTER, _SIZE, _POINTER),
@@ -311,11 +313,13 @@ def library_version() -> int:
     return int(_calls().adf_version())
 
 
-def check(image: Image) -> Verdict:
-    """The numbers of the volume that has this image; Refused where none has."""
+def check(image: Image, international: bool = False) -> Verdict:
+    """The numbers of the volume that has this image; Refused where none has. If international letters are accepted too (types 2
+    and 3), the kind of a volume with them is one of TYPES, as `ffs-international`."""
     image, verdict = _bytes(image), _Verdict()
-    _accept(_calls().adf_check(image, len(image), ctypes.byref(verdict)), verdict.block)
-    return Verdict(KINDS[verdict.kind], *(getattr(verdict, name) for name in Verdict._fields[1:]))
+    call = _calls().adf_check_types if international else _calls().adf_check
+    _accept(call(image, len(image), ctypes.byref(verdict)), verdict.block)
+    return Verdict(TYPES[verdict.kind], *(getattr(verdict, name) for name in Verdict._fields[1:]))
 
 
 class Answer(NamedTuple):

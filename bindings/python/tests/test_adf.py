@@ -28,6 +28,16 @@ class Volumes(unittest.TestCase):
             self.assertEqual((volume.label, volume.raw_label), ("Bücher", b"B\xfccher"))
             self.assertEqual((volume.date, volume.altered, volume.created), ((1, 2, 3), (4, 5, 6), (4000000, 1, 1)))
 
+    def test_accepts_international_letters_where_they_are_asked_for(self):
+        for kind, other in (("ofs", 2), ("ffs", 3)):
+            image = adf.build(kind, None, [adf.Addition("c"), adf.Addition("c/list", b"..")], "Work")
+            typed = image[:3] + bytes([other]) + image[4:]
+            self.assertEqual(adf.check(image, international=True), adf.check(image))
+            self.assertEqual(adf.check(typed, international=True), (f"{kind}-international", *adf.check(image)[1:]))
+            self.assertRaisesRegex(adf.Refused, "block 0: international", adf.check, typed)
+            with self.assertRaisesRegex(adf.Refused, "block 0: directory cache"):
+                adf.check(image[:3] + bytes([other + 2]) + image[4:], international=True)
+
     def test_tells_the_entries(self):
         volume = adf.Volume(image_of())
         self.assertEqual(set(volume), {"c", "c/readme", "empty", "none", "large"})

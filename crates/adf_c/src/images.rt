@@ -3,14 +3,16 @@
 ghost use Rattle.std.specs.Prelude.{◌≡◌, ◌≤◌, ◌<◌, ℕ, length, slice_index};
 ghost use Rattle.adf_tree.specs.Tree.{Tree};
 ghost use Rattle.adf_blocks.specs.Sizes.{blocks};
-ghost use Rattle.adf_volume.specs.Fits.{Fits};
+ghost use Rattle.adf_volume.specs.Fits.{Fits, FitsBy};
+ghost use Rattle.adf_volume.specs.Image.{letters_of};
 ghost use Rattle.adf_volume.specs.Layout.{Layout};
 ghost use Rattle.adf_volume.specs.Start.{IsBegun};
 ghost use Rattle.adf_volume.specs.Counts.{counts_of};
 ghost use Rattle.adf_memory.specs.OwnerNumbers.{IsOwnerNumber};
-ghost use Rattle.adf_memory.specs.Verdicts.{IsFirstCause, IsVerdictNumber, OnFault, WantsMemory, accepted, refused};
+ghost use Rattle.adf_memory.specs.Verdicts.{IsFirstCause, IsFirstCauseBy, IsVerdictNumber, OnFault, WantsMemory};
+ghost use Rattle.adf_memory.specs.Verdicts.{accepted, accepted_by, refused};
 
-use adf_memory::{Verdict, check_image, owners_of};
+use adf_memory::{Verdict, check_image, check_image_types, owners_of};
 use std::alloc::Global;
 
 /// Checks an image and fills in the verdict. Returns 0 if the image is accepted, otherwise the number of a cause: that of the
@@ -34,6 +36,28 @@ pub extern "C" fn adf_check(alloc: Global, image: &[u8], verdict: &mut Verdict) 
     ensures begun { WantsMemory result → IsBegun image.now }
 {
     check_image(alloc, image, verdict)
+}
+
+/// Checks an image as a volume of type 0 to 3, by the letters of its type, and fills in the verdict. Returns 0 if the image is
+/// accepted, otherwise the number of a cause: that of the first fault, or `NoMemory` if memory ran out.
+#[unsafe(no_mangle)]
+pub extern "C" fn adf_check_types(alloc: Global, image: &[u8], verdict: &mut Verdict) -> u8
+    ensures number { IsVerdictNumber result }
+
+    // A tree and a layout fit an accepted image by its letters, and the counts are theirs.
+    ensures fits { result ≡ 0 → (t : Tree) × (l : Layout) × FitsBy (letters_of image.now) image.now t l }
+    ensures counts { result ≡ 0 → (t : Tree) (l : Layout) → FitsBy (letters_of image.now) image.now t l
+        → verdict.new ≡ accepted_by (letters_of image.now) (counts_of image.now t l) }
+
+    // The fault is the first one by these letters, and nothing fits the image.
+    ensures refused { ¬ (result ≡ 0) → verdict.new ≡ refused verdict.new.block }
+    ensures first { OnFault result (IsFirstCauseBy (letters_of image.now) image.now verdict.new.block result) }
+    ensures none { OnFault result ((t : Tree) (l : Layout) → FitsBy (letters_of image.now) image.now t l → ⊥) }
+
+    // Out of memory names block 0.
+    ensures memory { WantsMemory result → verdict.new.block ≡ 0 }
+{
+    check_image_types(alloc, image, verdict)
 }
 
 /// Checks an image and writes the role of each block's owner, one byte for each block, as far as `roles` has room. Returns 0 if

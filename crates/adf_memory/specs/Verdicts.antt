@@ -1,11 +1,13 @@
 -- The verdict on an image.
-use Rattle.std.specs.Prelude.{◌≡◌, ◌⊎◌, ℕ, List}
+use Rattle.std.specs.Prelude.{◌≡◌, ◌⊎◌, ◌+◌, ℕ, List}
+use Rattle.adf_base.specs.declared.hash.Letters.{Letters}
+use Rattle.adf_base.specs.declared.hash.Letters.TheVariants.{Ascii, International}
 use Rattle.adf_names.specs.declared.kind.Kind.{Kind}
 use Rattle.adf_names.specs.declared.kind.Kind.TheVariants.{Ofs, Ffs}
 use Rattle.adf_blocks.specs.Causes.{cause_number}
 use Rattle.adf_blocks.specs.declared.cause.Cause.{Cause}
 use Rattle.adf_blocks.specs.declared.cause.Cause.TheVariants.{NoMemory}
-use Rattle.adf_volume.specs.Walk.{FirstFault}
+use Rattle.adf_volume.specs.Walk.{FirstFaultBy}
 use Rattle.adf_volume.specs.declared.counts.Counts.{Counts}
 use Rattle.adf_memory.specs.declared.verdict.Verdict.{Verdict}
 
@@ -14,9 +16,26 @@ abbrev pub kind_code : Kind → ℕ
 kind_code Ofs = 0
 kind_code Ffs = 1
 
--- an accepted image: its numbers, and no block of a fault
+-- the same, and 2 more where the letters are international: the type of the volume
+abbrev pub kind_code_by : Letters → Kind → ℕ
+kind_code_by Ascii kind = kind_code kind
+kind_code_by International kind = kind_code kind + 2
+
+-- an accepted image with these letters: its numbers, and no block of a fault
+abbrev pub accepted_by : Letters → Counts → Verdict
+accepted_by letters c = record {
+  kind = kind_code_by letters c.kind;
+  blocks = c.blocks;
+  used = c.used;
+  free = c.free;
+  dirs = c.dirs;
+  files = c.files;
+  block = 0;
+}
+
+-- the same of a volume of type 0 or 1
 abbrev pub accepted : Counts → Verdict
-accepted c = record { kind = kind_code c.kind; blocks = c.blocks; used = c.used; free = c.free; dirs = c.dirs; files = c.files; block = 0 }
+accepted = accepted_by Ascii
 
 -- a refused image: the block of its fault
 abbrev pub refused : ℕ → Verdict
@@ -34,6 +53,10 @@ WantsMemory n = n ≡ cause_number NoMemory
 abbrev pub OnFault : ℕ → Type 0 → Type 0
 OnFault n holds = ¬ (n ≡ 0) → ¬ WantsMemory n → holds
 
--- n is the number of the cause of the image's first fault, which stands at block b
+-- n is the number of the cause of the first fault of the image as a volume with these letters, which stands at block b
+abbrev pub IsFirstCauseBy : Letters → List ℕ → ℕ → ℕ → Type 0
+IsFirstCauseBy letters image b n = (c : Cause) × (cause_number c ≡ n) × FirstFaultBy letters image b c
+
+-- the same as a volume of type 0 or 1
 abbrev pub IsFirstCause : List ℕ → ℕ → ℕ → Type 0
-IsFirstCause image b n = (c : Cause) × (cause_number c ≡ n) × FirstFault image b c
+IsFirstCause = IsFirstCauseBy Ascii

@@ -57,4 +57,4 @@ pub use crate::subjects::{SubjectTold, put_subject};
 pub use crate::survey_index::put_survey;
 pub use crate::table_additions::{AdditionFault, TableAddition};
 pub use crate::tables::{Contents, Date, TableEntry};
-pub use crate::verdict::{Verdict, check_image};
+pub use crate::verdict::{Verdict, check_image, check_image_types};

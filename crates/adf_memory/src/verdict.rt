@@ -2,21 +2,26 @@
 
 ghost use Rattle.std.specs.Prelude.{◌≡◌};
 ghost use Rattle.adf_tree.specs.Tree.{Tree};
-ghost use Rattle.adf_volume.specs.Fits.{Fits};
+ghost use Rattle.adf_volume.specs.Fits.{Fits, FitsBy};
+ghost use Rattle.adf_volume.specs.Image.{letters_of};
 ghost use Rattle.adf_volume.specs.Layout.{Layout};
 ghost use Rattle.adf_volume.specs.Start.{IsBegun};
 ghost use Rattle.adf_volume.specs.Counts.{counts_of};
-ghost use Rattle.adf_memory.specs.Verdicts.{IsFirstCause, IsVerdictNumber, OnFault, WantsMemory, accepted, kind_code, refused};
+ghost use Rattle.adf_memory.specs.Verdicts.{IsFirstCause, IsFirstCauseBy, IsVerdictNumber, OnFault, WantsMemory};
+ghost use Rattle.adf_memory.specs.Verdicts.{accepted, accepted_by, kind_code, kind_code_by, refused};
 
+use adf_base::Letters;
 use adf_check::{Counts, check};
+use adf_findings::{Types, check_walk};
 use adf_tree::Kind;
+use adf_volume::letters_in;
 use std::alloc::Global;
 
 /// The counts of an accepted image, or the block of the first fault. Fields that do not apply are 0.
 #[repr(C)]
 #[derive(Clone, Copy)]
 pub struct Verdict {
-    /// 0 for OFS, 1 for FFS.
+    /// 0 for OFS, 1 for FFS; of `check_image_types` 2 more where the letters are international.
     pub kind: u32,
     /// All blocks, including the two boot blocks.
     pub blocks: u32,
@@ -41,12 +46,22 @@ pub fn kind_code(kind: Kind) -> u32
     }
 }
 
-// The verdict on an accepted image.
-fn accepted(counts: &Counts) -> Verdict
-    ensures { result ≡ accepted counts.now }
+// The type of a volume: the number of its kind, and 2 more where its letters are international.
+fn kind_code_by(letters: Letters, kind: Kind) -> u32
+    ensures { result ≡ kind_code_by letters kind }
+{
+    match letters {
+        Letters::Ascii => kind_code(kind),
+        Letters::International => kind_code(kind) + 2,
+    }
+}
+
+// The verdict on an accepted image with these letters.
+fn accepted_by(letters: Letters, counts: &Counts) -> Verdict
+    ensures { result ≡ accepted_by letters counts.now }
 {
     Verdict {
-        kind: kind_code(counts.kind),
+        kind: kind_code_by(letters, counts.kind),
         blocks: counts.blocks,
         used: counts.used,
         free: counts.free,
@@ -93,7 +108,37 @@ pub fn check_image(alloc: Global, image: &[u8], verdict: &mut Verdict) -> u8
 {
     match check(alloc, image) {
         Ok(volume) => {
-            *verdict = accepted(&volume.counts());
+            *verdict = accepted_by(Letters::Ascii, &volume.counts());
+            0
+        }
+        Err(fault) => {
+            *verdict = refused(fault.block);
+            fault.cause.number()
+        }
+    }
+}
+
+/// Checks an image as a volume of type 0 to 3, by the letters of its type, and fills in the verdict. Returns 0 if the image is
+/// accepted, otherwise the number of a cause: that of the first fault, or `NoMemory` if memory ran out.
+pub fn check_image_types(alloc: Global, image: &[u8], verdict: &mut Verdict) -> u8
+    ensures number { IsVerdictNumber result }
+
+    // A tree and a layout fit an accepted image by its letters, and the counts are theirs.
+    ensures fits { result ≡ 0 → (t : Tree) × (l : Layout) × FitsBy (letters_of image.now) image.now t l }
+    ensures counts { result ≡ 0 → (t : Tree) (l : Layout) → FitsBy (letters_of image.now) image.now t l
+        → verdict.new ≡ accepted_by (letters_of image.now) (counts_of image.now t l) }
+
+    // The fault is the first one by these letters, and nothing fits the image.
+    ensures refused { ¬ (result ≡ 0) → verdict.new ≡ refused verdict.new.block }
+    ensures first { OnFault result (IsFirstCauseBy (letters_of image.now) image.now verdict.new.block result) }
+    ensures none { OnFault result ((t : Tree) (l : Layout) → FitsBy (letters_of image.now) image.now t l → ⊥) }
+
+    // Out of memory names block 0.
+    ensures memory { WantsMemory result → verdict.new.block ≡ 0 }
+{
+    match check_walk(alloc, Types::WithInternational, image) {
+        Ok(counts) => {
+            *verdict = accepted_by(letters_in(image), &counts);
             0
         }
         Err(fault) => {

@@ -5,8 +5,8 @@ use crate::images::{Image, NOT_MOVED, built, with_bytes};
 use adf_file_runs::WithoutFiles;
 use adf_memory::{
     Contents, Date, FoundEntry, Moved, Surveyed, TableDisk, TableEntry, TableFinding,
-    TablePartition, Verdict, cause_text, check_image, find_entry, owners_of, put_index, put_survey,
-    read_bytes, run_in_memory,
+    TablePartition, Verdict, cause_text, check_image, check_image_types, find_entry, owners_of,
+    put_index, put_survey, read_bytes, run_in_memory,
 };
 use std::alloc::Global;
 use std::mem::size_of;
@@ -152,6 +152,24 @@ fn a_sound_image_is_checked(rt: HostRuntime) {
     assert!(rt; (cause, verdict.used, verdict.dirs, verdict.files) == (0, 8, 1, 2));
     let (cause, roles) = roles(rt.alloc(), &image);
     assert!(rt; (cause, roles[0], roles[8], roles[16]) == (0, 1, 2, 9));
+}
+
+// What is told of an image with another type by a check that accepts types 0 to 3: the cause, the type and the files.
+fn typed(alloc: Global, dos_type: u8) -> (u8, u32, usize) {
+    let image = with_bytes(&built(alloc, MANIFEST), &[(3, dos_type)]);
+    let mut verdict = VERDICT;
+    let cause = check_image_types(alloc, &image, &mut verdict);
+    (cause, verdict.kind, verdict.files)
+}
+
+// The names of the image have one slot by all letters. Type 2 is OFS with international letters, type 4 has directory caches, and
+// there is no type 6.
+#[test]
+fn an_image_of_another_type_is_checked(rt: HostRuntime) {
+    assert!(rt; typed(rt.alloc(), 0) == (0, 0, 2));
+    assert!(rt; typed(rt.alloc(), 2) == (0, 2, 2));
+    assert!(rt; typed(rt.alloc(), 4) == (4, 0, 0));
+    assert!(rt; typed(rt.alloc(), 6) == (2, 0, 0));
 }
 
 // The node of a path, and four bytes of it from a place on, if it is found.
