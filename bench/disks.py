@@ -3,14 +3,9 @@
 import random
 from struct import pack_into, unpack_from
 
+from survey import slot
+
 DIR, FILE, SLOTS, POINTERS, PAGE_BITS = 2, 2**32 - 3, 72, 72, 4064
-
-
-def slot(name):
-    h = len(name)
-    for c in name.upper():
-        h = (h * 13 + c) % 2048
-    return h % SLOTS
 
 
 class File:
@@ -19,12 +14,12 @@ class File:
 
 
 class Disk:
-    """An OFS (kind 0) or FFS (1) volume with one or more bitmap pages behind its root."""
+    """An OFS (kind 0) or FFS (1) volume, also one of international letters, with one or more bitmap pages behind its root."""
 
-    def __init__(self, kind, blocks=1760):
-        self.kind, self.blocks, self.root = kind, blocks, blocks // 2
+    def __init__(self, kind, blocks=1760, international=False):
+        self.kind, self.blocks, self.root, self.international = kind, blocks, blocks // 2, international
         self.image = bytearray(512 * blocks)
-        self.image[:4] = b"DOS" + bytes([kind])
+        self.image[:4] = b"DOS" + bytes([kind + 2 * international])
         pages = -(-(blocks - 2) // PAGE_BITS)
         self.pages = list(range(self.root + 1, self.root + 1 + pages))
         self.used = {self.root, *self.pages}
@@ -62,7 +57,7 @@ class Disk:
 
     def link(self, parent, name, b):
         """The header b becomes the last of its chain."""
-        at, i = parent, 6 + slot(name)
+        at, i = parent, 6 + slot(name, self.international)
         while self.word(at, i):
             at, i = self.word(at, i), 124
         self.put(at, i, b)
@@ -118,7 +113,7 @@ class Disk:
     def remove(self, path):
         """The header is taken out of its chain, and its blocks are free; they stay as they are."""
         file = self.files.pop(path)
-        h, at, i = file.blocks[0], self.dirs[path[:-1]], 6 + slot(path[-1])
+        h, at, i = file.blocks[0], self.dirs[path[:-1]], 6 + slot(path[-1], self.international)
         while self.word(at, i) != h:
             at, i = self.word(at, i), 124
         self.put(at, i, self.word(h, 124))
@@ -142,9 +137,10 @@ class Disk:
         return bytes(self.image)
 
 
-def written(kind, blocks=1760, files=50):
-    """A volume with some files two directories deep, of which some were removed and made again."""
-    disk = Disk(kind, blocks)
+def written(kind, blocks=1760, files=50, international=False):
+    """A volume with some files two directories deep, of which some were removed and made again; the names of half of them have a letter
+    above 0xE0 where letters are international."""
+    disk = Disk(kind, blocks, international)
     places = [()]
     for i in range(6):
         disk.make_dir((b"dir%d" % i,))
@@ -158,7 +154,9 @@ def written(kind, blocks=1760, files=50):
         made += 1
         while len(disk.files) >= files or disk.free() < max(sizes) // 480 + 5:
             disk.remove(random.choice(list(disk.files)))
-        path = (*random.choice(places), b"file%d" % (made if random.random() < 0.9 else random.randrange(made)))
+        number = made if random.random() < 0.9 else random.randrange(made)
+        letter = bytes([0xE0 + number % 31]) if international and number % 2 else b""
+        path = (*random.choice(places), b"file%d%s" % (number, letter))
         if path in disk.files:
             disk.remove(path)
         disk.write(path, random.randbytes(random.choice(sizes)))
