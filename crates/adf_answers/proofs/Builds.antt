@@ -1,17 +1,17 @@
 -- Whatever is asked of bytes has an answer of `adf`.
-use Rattle.std.proofs.Common.{◌≡◌, ◌-◌, ℕ, Bool, true, false, List, arith, inl, inr, refl}
+use Rattle.std.proofs.Common.{◌≡◌, ◌-◌, ℕ, Bool, true, false, List, arith, inl, inr, refl, subst, sym}
 use native.Mathlib.Decide.{dec_le}
 use Rattle.adf_base.specs.declared.hash.Letters.TheVariants.{Ascii}
 use Rattle.adf_base.proofs.ByteLists.{AreBytes}
 use Rattle.adf_blocks.specs.Sizes.{blocks, is_allowed}
 use Rattle.adf_names.specs.declared.kind.Kind.{Kind}
 use Rattle.adf_tree.specs.Bounds.{IsBounded}
-use Rattle.adf_tree.specs.Tree.{IsTree, Tree, with_kind}
+use Rattle.adf_tree.specs.Tree.{IsTree, IsTreeBy, Tree, with_kind}
 use Rattle.adf_volume.proofs.BoundedFits.{fits_bounded}
 use Rattle.adf_build.specs.Building.{need_of}
 use Rattle.adf_build.specs.Plan.{blocks_needed}
 use Rattle.adf_build.proofs.LaidWrites.{CanHold}
-use Rattle.adf_build.proofs.WholeVolume.{laid_as_planned, volume_laid, well_formed}
+use Rattle.adf_build.proofs.WholeVolume.{fits_plain, laid_as_planned, volume_laid, well_formed}
 use Rattle.adf_findings.proofs.FitsOrFault.{fits_or_fault}
 use Rattle.adf_findings.specs.Verdict.{FitsOrHasFault}
 use Rattle.adf_manifest.specs.Manifest.{IsManifestOrHasFault}
@@ -31,13 +31,13 @@ built_or_full : (lines : Bool) (tree : Tree) (n : ℕ) → tree.letters ≡ Asci
 built_or_full lines tree n letters is bounds allowed = elim (dec_le (blocks_needed tree n) (n - 2)) [
   | no full ↦ (on_errors 1 (full_line (need_of tree n) (n - 2)), inr (omega (arith, full), refl))
   | yes room ↦
-      let can : CanHold tree n = record { sound = well_formed tree letters bounds is; allowed = allowed; room = room } in (
+      let can : CanHold tree n = record { sound = well_formed tree bounds (subst (λ l. IsTreeBy l tree.entries) (sym letters) is); allowed = allowed; room = room } in (
         on_output 0 (built_output lines tree n),
         inl (
           record {
             room = record { allowed = allowed; room = room };
             laid = volume_laid can;
-            fits = laid_as_planned tree n refl can;
+            fits = fits_plain letters (laid_as_planned tree n refl can);
           },
           refl,
         ),

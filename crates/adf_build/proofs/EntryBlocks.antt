@@ -2,7 +2,7 @@
 use Rattle.std.proofs.Common.{◌≡◌, ℕ, zero, suc, List, [], ◌∷◌, ◌+◌, ◌^◌, ◌<◌, ◌≤◌, map, refl, sym, ap, subst, ◌∙◌, arith, slice_index}
 use Rattle.std.proofs.lemmas.List.FromFn.{get_or-map-range_with_len}
 use Rattle.std.proofs.lemmas.Grind.{common_steps}
-use Rattle.adf_base.specs.Hash.{slot_of}
+use Rattle.adf_base.specs.Hash.{slot_by}
 use Rattle.adf_base.specs.Words.{block, word}
 use Rattle.adf_tree.specs.Bounds.{IsBoundedEntry}
 use Rattle.adf_names.specs.declared.kind.Kind.{Kind}
@@ -17,11 +17,11 @@ use Rattle.adf_blocks.proofs.HeadLaws.{head_block-next, head_block-slot}
 use Rattle.adf_blocks.proofs.RootLaws.{root_block-slot}
 use Rattle.adf_volume.specs.Lists.{At, Spelled}
 use Rattle.adf_volume.specs.Image.{word_in}
-use Rattle.adf_volume.specs.Layout.{Place, nodes_from, chain_nodes, head_at, exts_at, datas_at, at_node}
+use Rattle.adf_volume.specs.Layout.{Place, nodes_from_by, chain_nodes_by, head_at, exts_at, datas_at, at_node}
 use Rattle.adf_build.specs.Plan.{exts_needed, data_blocks, entry_blocks, entries_blocks, nth_free, allocated, places_from, planned}
 use Rattle.adf_build.specs.Writes.{HoldsBlocks}
-use Rattle.adf_build.specs.Laid.{body_writes, entries_writes, first_block, heads_from, node_blocks, planned_body, slots_of, volume}
-use Rattle.adf_build.proofs.ChainLinks.{Links, spelled_chain}
+use Rattle.adf_build.specs.Laid.{body_writes, entries_writes, first_block, heads_from, node_blocks, planned_body, slots_by, volume}
+use Rattle.adf_build.proofs.ChainLinks.{LinksBy, spelled_chain}
 use Rattle.adf_build.proofs.WholeBlocks.{fits_head, entry_head}
 use Rattle.adf_build.proofs.LaidWrites.{CanHold, has_free, near, entry_sound, fits_root, volume_blocks, holds_entries, holds_root}
 use Rattle.adf_build.proofs.WrittenBlocks.{holds_left, holds_right}
@@ -96,14 +96,14 @@ module _ {t : Tree} {n : ℕ} (can : CanHold t n) where
       → HoldsBlocks (volume t n) (entries_writes n t i k es)
       → k + entries_blocks t.kind es ≤ entries_blocks t.kind t.entries
       → ((j : ℕ) (e : Entry) → At es j e → IsBoundedEntry e)
-      → Links (λ b. word_in (volume t n) b NEXT_IN_CHAIN) (slice_index (node_blocks t n)) i es
+      → LinksBy t.letters (λ b. word_in (volume t n) b NEXT_IN_CHAIN) (slice_index (node_blocks t n)) i es
   links i k [] f h l g = tt
   links i k (e ∷ es) f h l g =
       let z : i + 0 ≡ i = omega arith in
       let a : slice_index (node_blocks t n) i ≡ nth_free n k = ap (slice_index (node_blocks t n)) (sym z) ∙ f 0 in
       let b = g 0 e refl in
       let fh = fits_head (has_free can) t i k e es (near can) (omega arith) b.name b.meta.comment in
-      let nx = first_near (slice_index (node_blocks t n)) (nodes_from (suc i) es e.parent (slot_of e.name)) (near can) in (
+      let nx = first_near (slice_index (node_blocks t n)) (nodes_from_by t.letters (suc i) es e.parent (slot_by t.letters e.name)) (near can) in (
         ap (λ b. word_in (volume t n) b NEXT_IN_CHAIN) a
             ∙ (ap (λ bs. word bs NEXT_IN_CHAIN) h.0 ∙ head_block-next (entry_head n t i k e es) fh nx),
         links (suc i) (k + entry_blocks t.kind e) es
@@ -112,38 +112,41 @@ module _ {t : Tree} {n : ℕ} (can : CanHold t n) where
             (omega arith) (λ j d q. g (suc j) d q),
       )
 
-  all_links : Links (λ b. word_in (volume t n) b NEXT_IN_CHAIN) (slice_index (node_blocks t n)) 1 t.entries
+  all_links : LinksBy t.letters (λ b. word_in (volume t n) b NEXT_IN_CHAIN) (slice_index (node_blocks t n)) 1 t.entries
   all_links = links 1 0 t.entries (λ j. let y : 1 + j ≡ suc j = omega arith in ap (slice_index (node_blocks t n)) y)
       (holds_entries can) (omega arith) (entry_sound can)
 
   -- a chain whose first header stands in this word
-  pub chain_laid : (p s w : ℕ) → w ≡ first_block (slice_index (node_blocks t n)) (chain_nodes t p s)
-      → Spelled (λ b. word_in (volume t n) b NEXT_IN_CHAIN) w (map (at_node (volume t n) (planned t n)) (chain_nodes t p s))
+  pub chain_laid : (p s w : ℕ) → w ≡ first_block (slice_index (node_blocks t n)) (chain_nodes_by t.letters t p s)
+      → Spelled (λ b. word_in (volume t n) b NEXT_IN_CHAIN) w (map (at_node (volume t n) (planned t n)) (chain_nodes_by t.letters t p s))
   chain_laid p s w e =
       let same : slice_index (node_blocks t n) ≡ at_node (volume t n) (planned t n) = λ i j. nodes_at j i in
-      subst (λ at. Spelled (λ b. word_in (volume t n) b NEXT_IN_CHAIN) w (map at (chain_nodes t p s))) same
-      (subst (λ w. Spelled (λ b. word_in (volume t n) b NEXT_IN_CHAIN) w (map (slice_index (node_blocks t n)) (chain_nodes t p s))) (sym e)
-      (spelled_chain (λ b. word_in (volume t n) b NEXT_IN_CHAIN) (slice_index (node_blocks t n)) 1 t.entries p s all_links))
+      subst (λ at. Spelled (λ b. word_in (volume t n) b NEXT_IN_CHAIN) w (map at (chain_nodes_by t.letters t p s))) same
+      (subst (λ w. Spelled (λ b. word_in (volume t n) b NEXT_IN_CHAIN) w (map (slice_index (node_blocks t n)) (chain_nodes_by t.letters t p s)))
+      (sym e)
+      (spelled_chain t.letters (λ b. word_in (volume t n) b NEXT_IN_CHAIN) (slice_index (node_blocks t n)) 1 t.entries p s all_links))
 
   slot_is : (p s : ℕ) → s < SLOTS
-      → slice_index (slots_of (node_blocks t n) t.entries p) s ≡ first_block (slice_index (node_blocks t n)) (chain_nodes t p s)
+      → slice_index (slots_by t.letters (node_blocks t n) t.entries p) s ≡ first_block (slice_index (node_blocks t n))
+      (chain_nodes_by t.letters t p s)
   slot_is p s l =
       let z : 0 + s ≡ s = omega arith in
-      get_or-map-range_with_len (λ s. first_block (slice_index (node_blocks t n)) (nodes_from 1 t.entries p s)) 0 SLOTS s s 0 l z
+      get_or-map-range_with_len (λ s. first_block (slice_index (node_blocks t n)) (nodes_from_by t.letters 1 t.entries p s)) 0 SLOTS s s 0 l z
 
   -- the slots of the root and of directories
   pub root_slot : (s : ℕ) → s < SLOTS
-      → word_in (volume t n) (middle n) (FIRST_SLOT + s) ≡ first_block (slice_index (node_blocks t n)) (chain_nodes t 0 s)
+      → word_in (volume t n) (middle n) (FIRST_SLOT + s) ≡ first_block (slice_index (node_blocks t n)) (chain_nodes_by t.letters t 0 s)
   root_slot s l = grind (arith, common_steps, slot_is, first_near, near, holds_root, root_block-slot, fits_root)
 
   pub dir_slot : (i s : ℕ) (e : Entry) (h : At t.entries i e) → e.body ≡ Dir → s < SLOTS
-      → word_in (volume t n) (nth_free n (standing i e h).k) (FIRST_SLOT + s) ≡ first_block (slice_index (node_blocks t n)) (chain_nodes t (suc i) s)
+      → word_in (volume t n) (nth_free n (standing i e h).k) (FIRST_SLOT + s) ≡ first_block (slice_index (node_blocks t n))
+      (chain_nodes_by t.letters t (suc i) s)
   dir_slot i s e h d l =
       let p = standing i e h in
-      let ls : List ℕ = slots_of (node_blocks t n) t.entries (suc i) in
+      let ls : List ℕ = slots_by t.letters (node_blocks t n) t.entries (suc i) in
       let y = slot_is (suc i) s l in
       let small : slice_index ls s < 2 ^ 32 =
-      subst (λ m. m < 2 ^ 32) (sym y) (first_near (slice_index (node_blocks t n)) (chain_nodes t (suc i) s) (near can)) in
+      subst (λ m. m < 2 ^ 32) (sym y) (first_near (slice_index (node_blocks t n)) (chain_nodes_by t.letters t (suc i) s) (near can)) in
       let b : planned_body n p.k t.kind ls e.body ≡ DirFields ls = ap (planned_body n p.k t.kind ls) d in
       ap (λ bs. word bs (FIRST_SLOT + s)) p.head
       ∙ (head_block-slot (entry_head n t (suc i) p.k e p.rest) ls s (head_fits i e h) b l small ∙ y)

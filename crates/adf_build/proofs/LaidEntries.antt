@@ -1,8 +1,10 @@
 -- The entries of a tree fit the built volume.
 use Rattle.std.proofs.Common.{◌≡◌, ℕ, zero, suc, List, ◌+◌, ◌-◌, ◌*◌, ◌/◌, ◌%◌, ◌^◌, ◌<◌, ◌≤◌, length, min, refl, sym, ap, subst, ◌∙◌, arith}
 use Rattle.std.specs.Prelude.{slice_index}
+use Rattle.std.proofs.lemmas.Bool.Decides.{nat_tests}
 use Rattle.std.proofs.lemmas.Grind.{common_steps}
-use Rattle.adf_base.specs.Hash.{slot_of}
+use Rattle.adf_base.specs.Hash.{slot_by, slot_of}
+use Rattle.adf_base.specs.declared.hash.Letters.{Letters}
 use Rattle.adf_base.specs.Words.{block, word}
 use Rattle.adf_names.specs.declared.kind.Kind.{Kind, TheVariants.Ofs, TheVariants.Ffs}
 use Rattle.adf_tree.specs.declared.entry.Body.{Body, TheVariants.Dir, TheVariants.File}
@@ -11,20 +13,20 @@ use Rattle.adf_tree.specs.Tree.{Tree}
 use Rattle.adf_blocks.specs.Sizes.{chunk, count}
 use Rattle.adf_blocks.specs.declared.layout.TheConstants.{EXTENSION, FIRST_POINTER, NAME, POINTERS, SECONDARY_TYPE, SIZE}
 use Rattle.adf_blocks.specs.Forms.{text_at}
-use Rattle.adf_blocks.specs.HeadBlock.{HeadFields, meta_at, secondary_of, ext_of, head_form}
+use Rattle.adf_blocks.specs.HeadBlock.{HeadFields, meta_at, secondary_of, ext_of, head_form, head_form_by}
 use Rattle.adf_blocks.specs.HeadBlock.BodyFields.{FileFields}
 use Rattle.adf_blocks.proofs.HeadLaws.{head_block-form, head_block-name, head_block-meta, head_block-secondary, head_block-size, head_block-ext}
 use Rattle.adf_blocks.proofs.HeadLaws.{head_block-pointer}
 use Rattle.adf_blocks.proofs.FieldLaws.{long_number}
 use Rattle.adf_volume.specs.Lists.{At, Spelled}
 use Rattle.adf_volume.specs.Image.{word_in, held, content, table_word, name_of, meta_of}
-use Rattle.adf_volume.specs.Demands.{AllHold, head_demands, data_demands}
+use Rattle.adf_volume.specs.Demands.{AllHold, demands_at, head_demands_by, data_demands}
 use Rattle.adf_volume.specs.Layout.{at_node, exts_of, datas_of}
-use Rattle.adf_volume.specs.Fits.{EntryFits, FileFits, BodyFits, TableAt}
+use Rattle.adf_volume.specs.Fits.{EntryFitsBy, FileFits, BodyFits, TableAt}
 use Rattle.adf_volume.proofs.FormDemands.{all_demanded}
 use Rattle.adf_build.specs.Plan.{exts_needed, data_blocks, entries_blocks, nth_free, allocated, places_from, planned}
 use Rattle.adf_build.specs.Writes.{HoldsBlocks}
-use Rattle.adf_build.specs.Laid.{body_writes, data_writes, ext_writes, node_blocks, nth_free_or_none, planned_body, slots_of, volume}
+use Rattle.adf_build.specs.Laid.{body_writes, data_writes, ext_writes, node_blocks, nth_free_or_none, planned_body, slots_by, volume}
 use Rattle.adf_build.proofs.AllocatedBlocks.{length_allocated}
 use Rattle.adf_build.proofs.WholeBlocks.{free_small, next_small, entry_head}
 use Rattle.adf_build.proofs.LaidWrites.{CanHold, has_free, small, entry_sound}
@@ -46,6 +48,12 @@ exts_enough : (c : ℕ) → c ≤ POINTERS * suc (exts_needed c)
 unfolding exts_needed
 exts_enough c = omega arith
 
+-- a block that has the form of a header by ASCII letters has it by any others, in the slot of its name by these
+form_by : (letters : Letters) (kind : Kind) (own up s : ℕ) (b name : List ℕ) → text_at b NAME ≡ name
+    → AllHold (demands_at own (head_form kind own up s b))
+    → AllHold (demands_at own (head_form_by letters kind own up (slot_by letters name) b))
+form_by letters kind own up s b name e h = grind (arith, common_steps, nat_tests)
+
 module _ {t : Tree} {n : ℕ} (can : CanHold t n) (i : ℕ) (e : Entry) (h : At t.entries i e) where
   abbrev here : Standing (volume t n) n (entries_blocks t.kind t.entries) t (places_from n t.kind 0 t.entries) i (suc i) e
   here = standing can i e h
@@ -53,11 +61,14 @@ module _ {t : Tree} {n : ℕ} (can : CanHold t n) (i : ℕ) (e : Entry) (h : At 
   abbrev fields : HeadFields
   fields = entry_head n t (suc i) here.k e here.rest
 
-  form_laid : AllHold (head_demands (volume t n) t.kind (nth_free n here.k) (at_node (volume t n) (planned t n) e.parent) (slot_of e.name))
+  form_laid : AllHold (head_demands_by t.letters (volume t n) t.kind (nth_free n here.k) (at_node (volume t n) (planned t n) e.parent)
+      (slot_by t.letters e.name))
   form_laid =
-      all_demanded (nth_free n here.k) (head_form t.kind (nth_free n here.k) (at_node (volume t n) (planned t n) e.parent) (slot_of e.name)
+      form_by t.letters t.kind (nth_free n here.k) (at_node (volume t n) (planned t n) e.parent) (slot_of e.name)
+      (block (volume t n) (nth_free n here.k)) e.name (ap (λ bs. text_at bs NAME) here.head ∙ (head_block-name fields (head_fits can i e h)).1)
+      (all_demanded (nth_free n here.k) (head_form t.kind (nth_free n here.k) (at_node (volume t n) (planned t n) e.parent) (slot_of e.name)
       (block (volume t n) (nth_free n here.k)))
-      (rw (here.head, ← nodes_at can e.parent) (head_block-form t.kind fields (head_fits can i e h)))
+      (rw (here.head, ← nodes_at can e.parent) (head_block-form t.kind fields (head_fits can i e h))))
 
   name_laid : e.name ≡ name_of (volume t n) (nth_free n here.k)
   unfolding name_of
@@ -68,7 +79,7 @@ module _ {t : Tree} {n : ℕ} (can : CanHold t n) (i : ℕ) (e : Entry) (h : At 
   meta_laid = sym (ap meta_at here.head ∙ head_block-meta fields (head_fits can i e h) (entry_sound can i e h).meta)
 
   type_laid : word_in (volume t n) (nth_free n here.k) SECONDARY_TYPE
-      ≡ secondary_of (planned_body n here.k t.kind (slots_of (node_blocks t n) t.entries (suc i)) e.body)
+      ≡ secondary_of (planned_body n here.k t.kind (slots_by t.letters (node_blocks t n) t.entries (suc i)) e.body)
   type_laid = ap (λ bs. word bs SECONDARY_TYPE) here.head ∙ head_block-secondary fields (head_fits can i e h)
 
   -- the blocks that the entry takes
@@ -103,9 +114,9 @@ module _ {t : Tree} {n : ℕ} (can : CanHold t n) (i : ℕ) (e : Entry) (h : At 
     size_word : length bytes < 2 ^ 32
     size_word = omega (arith, size_small t.kind (length bytes), file_blocks, small can)
 
-    body_is : planned_body n here.k t.kind (slots_of (node_blocks t n) t.entries (suc i)) e.body
+    body_is : planned_body n here.k t.kind (slots_by t.letters (node_blocks t n) t.entries (suc i)) e.body
         ≡ FileFields (length bytes) (allocated n (suc here.k + file_exts) (min POINTERS file_datas)) (nth_free_or_none n (suc here.k) file_exts)
-    body_is = ap (planned_body n here.k t.kind (slots_of (node_blocks t n) t.entries (suc i))) is
+    body_is = ap (planned_body n here.k t.kind (slots_by t.letters (node_blocks t n) t.entries (suc i))) is
 
     writes_hold : HoldsBlocks (volume t n) (body_writes n t.kind here.k (File bytes))
     writes_hold = subst (λ b. HoldsBlocks (volume t n) (body_writes n t.kind here.k b)) is here.body
@@ -197,5 +208,5 @@ module _ {t : Tree} {n : ℕ} (can : CanHold t n) (i : ℕ) (e : Entry) (h : At 
   body_laid Dir z = grind (arith, common_steps, type_laid, here, no_exts)
   body_laid (File bytes) z = grind (arith, common_steps, type_laid, here, content_laid, datas_are, size_laid)
 
-  pub entry_laid : EntryFits (volume t n) t (planned t n) (suc i) (at_node (volume t n) (planned t n) (suc i)) e
+  pub entry_laid : EntryFitsBy t.letters (volume t n) t (planned t n) (suc i) (at_node (volume t n) (planned t n) (suc i)) e
   entry_laid = grind (arith, common_steps, here, form_laid, name_laid, meta_laid, body_laid)

@@ -7,6 +7,8 @@ use lib.Bits.{bit_and}
 use Rattle.std.proofs.lemmas.Nat.{bit_set_by_shift, and_mask}
 use Rattle.adf_tree.specs.declared.entry.Body.TheVariants.{File}
 use Rattle.std.proofs.lemmas.List.FromFn.{get_or-map-range_with_len, get_or-range_with_len, length-map-range_with_len, length-range_with_len}
+use Rattle.adf_base.specs.declared.hash.Letters.{Letters}
+use Rattle.adf_base.specs.declared.hash.Letters.TheVariants.{Ascii, International}
 use Rattle.adf_base.specs.Words.{block, word, with_bytes}
 use Rattle.adf_names.specs.declared.kind.Kind.{Kind, TheVariants.Ofs, TheVariants.Ffs}
 use Rattle.adf_tree.specs.declared.entry.Entry.{Entry}
@@ -25,9 +27,9 @@ use Rattle.adf_blocks.proofs.PageLaws.{page_block-form, page_block-bit}
 use Rattle.adf_volume.specs.declared.owner.Owner.{Owner}
 use Rattle.adf_volume.specs.Lists.{At, In, Spelled}
 use Rattle.adf_volume.specs.Image.{word_in, root_of, kind_of, name_of, stamps_of, map_exts_needed}
-use Rattle.adf_volume.specs.Demands.{AllHold, boot_form, boot_demands, root_demands, page_demands}
-use Rattle.adf_volume.specs.Layout.{EntryAt, at_node, chain_nodes, owned}
-use Rattle.adf_volume.specs.Fits.{Fits, EntryFits, FileFits, IsFree}
+use Rattle.adf_volume.specs.Demands.{AllHold, boot_form_by, boot_demands_by, root_demands, page_demands}
+use Rattle.adf_volume.specs.Layout.{EntryAt, at_node, chain_nodes_by, owned}
+use Rattle.adf_volume.specs.Fits.{FitsBy, EntryFitsBy, FileFits, IsFree}
 use Rattle.adf_volume.proofs.FormDemands.{all_demanded}
 use Rattle.adf_volume.proofs.Lists.{at_below, at_index}
 use Rattle.adf_volume.proofs.Images.{page_in}
@@ -35,7 +37,7 @@ use Rattle.adf_volume.proofs.TreeOrder.{dir_node}
 use Rattle.adf_volume.proofs.DistinctBlocks.{block_in, in_block}
 use Rattle.adf_build.specs.Plan.{entry_blocks, entries_blocks, places_from, planned}
 use Rattle.adf_build.specs.Bits.{is_used, is_free_bit, bits_from, page_words}
-use Rattle.adf_build.specs.Laid.{IsLaid, boot_bytes, listed_pages, map_ext_or_none, map_ext_part, page_part, planned_root, volume}
+use Rattle.adf_build.specs.Laid.{IsLaid, boot_bytes_by, listed_pages, map_ext_or_none, map_ext_part, page_part, planned_root, volume}
 use Rattle.adf_build.proofs.AllocatedBlocks.{reserved_below}
 use Rattle.adf_build.proofs.Parts.{part_held}
 use Rattle.adf_build.proofs.Planned.{owned_blocks, planned_once, planned_range}
@@ -47,15 +49,20 @@ use Rattle.adf_build.proofs.LaidEntries.{entry_laid, file_laid}
 use Rattle.std.proofs.lemmas.Bool.{false_from_ne_true, true≢false}
 use Rattle.std.proofs.lemmas.Grind.{common_steps}
 
-boot_holds : (kind : Kind) → first_cause (boot_form (block_of_fields ((0, boot_bytes kind) ∷ []))) ≡ None
+boot_holds : (letters : Letters) (kind : Kind) → first_cause (boot_form_by letters (block_of_fields ((0, boot_bytes_by letters kind) ∷ []))) ≡ None
 unfolding with_bytes
-boot_holds Ofs = refl
-boot_holds Ffs = refl
+boot_holds Ascii Ofs = refl
+boot_holds Ascii Ffs = refl
+boot_holds International Ofs = refl
+boot_holds International Ffs = refl
 
-boot_kind : (kind : Kind) → cond (slice_index (block_of_fields ((0, boot_bytes kind) ∷ [])) 3 % 2 == 0) Ofs Ffs ≡ kind
+boot_kind : (letters : Letters) (kind : Kind)
+    → cond (slice_index (block_of_fields ((0, boot_bytes_by letters kind) ∷ [])) 3 % 2 == 0) Ofs Ffs ≡ kind
 unfolding with_bytes
-boot_kind Ofs = refl
-boot_kind Ffs = refl
+boot_kind Ascii Ofs = refl
+boot_kind Ascii Ffs = refl
+boot_kind International Ofs = refl
+boot_kind International Ffs = refl
 
 -- a member of a range is known by its place
 pub range_at : (b m j c : ℕ) → At (range_with_len b m) j c → (j < m) × (c ≡ b + j)
@@ -118,12 +125,12 @@ module _ {t : Tree} {n : ℕ} (can : CanHold t n) where
   size : blocks (volume t n) ≡ n
   size = volume_blocks can
 
-  boots_laid : AllHold (boot_demands (volume t n))
+  boots_laid : AllHold (boot_demands_by t.letters (volume t n))
   boots_laid = grind (arith, common_steps, volume_long, size, all_demanded, holds_boot, boot_holds)
 
   kind_laid : t.kind ≡ kind_of (volume t n)
   unfolding kind_of
-  kind_laid = sym (ap (λ bs. cond (slice_index bs 3 % 2 == 0) Ofs Ffs) (holds_boot can) ∙ boot_kind t.kind)
+  kind_laid = sym (ap (λ bs. cond (slice_index bs 3 % 2 == 0) Ofs Ffs) (holds_boot can) ∙ boot_kind t.letters t.kind)
 
   root_at : AllHold (root_demands (volume t n) (middle n))
   root_at = all_demanded (middle n) (root_form (block (volume t n) (middle n)))
@@ -156,7 +163,7 @@ module _ {t : Tree} {n : ℕ} (can : CanHold t n) where
 
   chains_laid : (p s : ℕ) → IsDir t.entries p → s < SLOTS
       → Spelled (λ b. word_in (volume t n) b NEXT_IN_CHAIN) (word_in (volume t n) (at_node (volume t n) (planned t n) p) (FIRST_SLOT + s))
-      (map (at_node (volume t n) (planned t n)) (chain_nodes t p s))
+      (map (at_node (volume t n) (planned t n)) (chain_nodes_by t.letters t p s))
   chains_laid zero s d l =
       chain_laid can 0 s (word_in (volume t n) (root_of (volume t n)) (FIRST_SLOT + s))
       (ap (λ b. word_in (volume t n) (middle b) (FIRST_SLOT + s)) size ∙ root_slot can s l)
@@ -226,7 +233,7 @@ module _ {t : Tree} {n : ℕ} (can : CanHold t n) where
   page_listed_laid j i a b l g h =
       grind (arith, common_steps, range_at, map_ext_near, get_or-range_with_len, map_ext_is, map_ext_block-page, listed_few)
 
-  entries_fit : (m : ℕ) (e : Entry) → EntryAt t m e → EntryFits (volume t n) t (planned t n) m (at_node (volume t n) (planned t n) m) e
+  entries_fit : (m : ℕ) (e : Entry) → EntryAt t m e → EntryFitsBy t.letters (volume t n) t (planned t n) m (at_node (volume t n) (planned t n) m) e
   entries_fit zero e h = absurd h
   entries_fit (suc i) e h = entry_laid can i e h
 
@@ -235,13 +242,13 @@ module _ {t : Tree} {n : ℕ} (can : CanHold t n) where
   files_fit zero e bytes h f = absurd h
   files_fit (suc i) e bytes h f = file_laid can i e h bytes f
 
-  pub volume_fits : Fits (volume t n) t (planned t n)
+  pub volume_fits : FitsBy t.letters (volume t n) t (planned t n)
   volume_fits =
       let s : middle n ≡ root_of (volume t n) = ap middle (sym size) in
       record {
         boots = boots_laid;
         kind = kind_laid;
-        letters = can.sound.letters;
+        letters = refl;
         root = subst (λ b. AllHold (root_demands (volume t n) b)) s root_at;
         label = subst (λ b. t.label ≡ name_of (volume t n) b) s label_laid;
         stamps = subst (λ b. t.stamps ≡ stamps_of (volume t n) b) s stamps_laid;
@@ -264,5 +271,5 @@ module _ {t : Tree} {n : ℕ} (can : CanHold t n) where
       }
 
 -- a laid image fits its tree as it was planned
-pub laid_fits : (image : List ℕ) (t : Tree) → IsLaid image t → Fits image t (planned t (blocks image))
-laid_fits image t l = subst (λ v. Fits v t (planned t (blocks image))) (sym l.bytes) (volume_fits (can_hold l))
+pub laid_fits : (image : List ℕ) (t : Tree) → IsLaid image t → FitsBy t.letters image t (planned t (blocks image))
+laid_fits image t l = subst (λ v. FitsBy t.letters v t (planned t (blocks image))) (sym l.bytes) (volume_fits (can_hold l))

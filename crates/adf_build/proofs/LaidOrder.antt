@@ -15,7 +15,7 @@ use Rattle.adf_blocks.specs.declared.layout.TheConstants.{POINTERS}
 use Rattle.adf_blocks.specs.Sizes.{blocks, count, middle, pages_needed}
 use Rattle.adf_volume.specs.declared.owner.Owner.{Owner}
 use Rattle.adf_volume.specs.Lists.{At, In}
-use Rattle.adf_volume.specs.Fits.{Fits}
+use Rattle.adf_volume.specs.Fits.{FitsBy}
 use Rattle.adf_volume.specs.Image.{map_exts_needed}
 use Rattle.adf_volume.specs.Layout.{EntryAt, Layout, exts_at, exts_of, owned}
 use Rattle.adf_volume.proofs.Lists.{in_left, in_right}
@@ -141,5 +141,5 @@ planned_in_order image t laid =
     }
 
 -- a laid image lies in order
-pub in_order : (image : List ℕ) (t : Tree) → IsLaid image t → (l : Layout) × Fits image t l × IsInOrder image t l
+pub in_order : (image : List ℕ) (t : Tree) → IsLaid image t → (l : Layout) × FitsBy t.letters image t l × IsInOrder image t l
 in_order image t laid = (planned t (blocks image), laid_fits image t laid, planned_in_order image t laid)

@@ -5,6 +5,8 @@ use Rattle.std.specs.List.{range_with_len}
 use Rattle.std.proofs.lemmas.List.{length-replicate}
 use Rattle.std.proofs.lemmas.List.FromFn.{length-map-range_with_len, length-range_with_len}
 use Rattle.std.proofs.lemmas.Grind.{common_steps}
+use Rattle.adf_base.specs.declared.hash.Letters.{Letters}
+use Rattle.adf_base.specs.declared.hash.Letters.TheVariants.{Ascii, International}
 use Rattle.adf_base.specs.Words.{block}
 use Rattle.adf_tree.specs.Bounds.{IsBoundedEntry}
 use Rattle.adf_names.specs.declared.kind.Kind.{Kind, TheVariants.Ofs, TheVariants.Ffs}
@@ -26,7 +28,7 @@ use Rattle.adf_volume.proofs.DistinctBlocks.{Distinct, distinct-append}
 use Rattle.adf_build.specs.Plan.{reserved, entry_blocks, entries_blocks, blocks_needed, allocated}
 use Rattle.adf_build.specs.Bits.{bits_from, is_free_bit, page_words}
 use Rattle.adf_build.specs.Writes.{AreBlocks, NoneTwice, HoldsBlocks, numbers_of}
-use Rattle.adf_build.specs.Laid.{IsLaid, IsWellFormed, boot_bytes, entries_writes, heads_from, listed_pages, map_ext_or_none}
+use Rattle.adf_build.specs.Laid.{IsLaid, IsWellFormed, boot_bytes_by, entries_writes, heads_from, listed_pages, map_ext_or_none}
 use Rattle.adf_build.specs.Laid.{map_ext_part, map_ext_writes, node_blocks, page_part, page_writes, planned_root, volume, writes}
 use Rattle.adf_build.proofs.AllocatedBlocks.{free_from, free_below, free_apart, reserved_below, in_allocated, in_range, distinct_allocated, distinct_range}
 use Rattle.adf_build.proofs.AllocatedBlocks.{range_with_len-append}
@@ -40,9 +42,11 @@ pub reserved_parts : (n : ℕ) → pages_needed n + map_exts_needed (pages_neede
 unfolding reserved
 reserved_parts n = refl
 
-boot_short : (kind : Kind) → length (boot_bytes kind) ≡ 4
-boot_short Ofs = refl
-boot_short Ffs = refl
+boot_short : (letters : Letters) (kind : Kind) → length (boot_bytes_by letters kind) ≡ 4
+boot_short Ascii Ofs = refl
+boot_short Ascii Ffs = refl
+boot_short International Ofs = refl
+boot_short International Ffs = refl
 
 -- a bitmap extension block names at most MAP_EXT_PAGES pages
 pub listed_few : (n j : ℕ) → length (listed_pages n j) ≤ MAP_EXT_PAGES
@@ -59,7 +63,7 @@ abbrev pages_of : Tree → ℕ → List (ℕ × List ℕ)
 pages_of t n = page_writes n (entries_blocks t.kind t.entries)
 
 abbrev ends_of : Tree → ℕ → List (ℕ × List ℕ)
-ends_of t n = (middle n, root_block (planned_root t n)) ∷ (0, block_of_fields ((0, boot_bytes t.kind) ∷ [])) ∷ []
+ends_of t n = (middle n, root_block (planned_root t n)) ∷ (0, block_of_fields ((0, boot_bytes_by t.letters t.kind) ∷ [])) ∷ []
 
 abbrev rest_of : Tree → ℕ → List (ℕ × List ℕ)
 rest_of t n = pages_of t n ++ (map_ext_writes n ++ ends_of t n)
@@ -113,8 +117,8 @@ module _ {t : Tree} {n : ℕ} (can : CanHold t n) where
       let least = four in
       let p = reserved_parts n in
       let r = reserved_below n four in
-      let b = boot_short t.kind in
-      let boot = length-block_of_fields 512 ((0, boot_bytes t.kind) ∷ []) (omega arith) (omega arith, tt) in
+      let b = boot_short t.letters t.kind in
+      let boot = length-block_of_fields 512 ((0, boot_bytes_by t.letters t.kind) ∷ []) (omega arith) (omega arith, tt) in
       are-append n (entries_of t n) (rest_of t n)
       (are_entries has_free t 1 0 t.entries near (omega arith) (λ j e h. let b = entry_sound j e h in (b.name, b.meta.comment)))
       (are-append n (pages_of t n) (map_ext_writes n ++ ends_of t n)
@@ -189,5 +193,5 @@ module _ {t : Tree} {n : ℕ} (can : CanHold t n) where
   pub holds_root : block (volume t n) (middle n) ≡ root_block (planned_root t n)
   holds_root = holds_ends.0
 
-  pub holds_boot : block (volume t n) 0 ≡ block_of_fields ((0, boot_bytes t.kind) ∷ [])
+  pub holds_boot : block (volume t n) 0 ≡ block_of_fields ((0, boot_bytes_by t.letters t.kind) ∷ [])
   holds_boot = holds_ends.1.0

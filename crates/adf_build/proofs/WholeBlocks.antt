@@ -22,7 +22,7 @@ use Rattle.adf_volume.specs.Lists.{At}
 use Rattle.adf_build.specs.Plan.{exts_needed, data_blocks, entry_blocks, entries_blocks, nth_free}
 use Rattle.adf_build.specs.Writes.{AreBlocks}
 use Rattle.adf_build.specs.Laid.{body_writes, data_bytes, data_part, data_writes, entries_writes, ext_part, ext_writes, node_blocks}
-use Rattle.adf_build.specs.Laid.{nth_free_or_none, planned_body, planned_data, planned_ext, planned_head, planned_spot, slots_of}
+use Rattle.adf_build.specs.Laid.{nth_free_or_none, planned_body, planned_data, planned_ext, planned_head, planned_spot, slots_by}
 use Rattle.adf_build.proofs.Parts.{are_parts}
 use Rattle.adf_build.proofs.AllocatedBlocks.{free_from, length_allocated}
 
@@ -37,7 +37,8 @@ chunk_ofs = refl
 
 -- the fields of the header of entry i
 abbrev pub entry_head : ℕ → Tree → ℕ → ℕ → Entry → List Entry → HeadFields
-entry_head n t i k e es = planned_head n (planned_spot n t i k e es) (planned_body n k t.kind (slots_of (node_blocks t n) t.entries i) e.body) e
+entry_head n t i k e es = planned_head n (planned_spot n t i k e es)
+    (planned_body n k t.kind (slots_by t.letters (node_blocks t n) t.entries i) e.body) e
 
 pub are-append : (n : ℕ) (ps qs : List (ℕ × List ℕ)) → AreBlocks n ps → AreBlocks n qs → AreBlocks n (ps ++ qs)
 are-append n [] qs a b = b

@@ -3,8 +3,9 @@ use Rattle.std.proofs.Common.{◌≡◌, ◌*◌, ℕ, List, refl, sym, subst, a
 use Rattle.std.proofs.lemmas.Grind.{common_steps}
 use Rattle.adf_base.specs.declared.hash.Letters.TheVariants.{Ascii}
 use Rattle.adf_tree.specs.Bounds.{IsBounded}
-use Rattle.adf_tree.specs.Tree.{IsTree, Tree}
-use Rattle.adf_volume.specs.Fits.{Fits}
+use Rattle.adf_tree.specs.Tree.{IsTreeBy, Tree}
+use Rattle.adf_volume.specs.Fits.{Fits, FitsBy}
+use Rattle.adf_volume.specs.Layout.{Layout}
 use Rattle.adf_build.specs.Laid.{IsLaid, IsWellFormed, writes, volume}
 use Rattle.adf_build.specs.Writes.{with_blocks}
 use Rattle.adf_build.specs.Plan.{planned}
@@ -15,8 +16,8 @@ pub laid_bytes : (t : Tree) (n : ℕ) → with_blocks (replicate (n * 512) 0) (w
 unfolding volume
 laid_bytes t n = refl
 
-pub well_formed : (t : Tree) → t.letters ≡ Ascii → IsBounded t → IsTree t.entries → IsWellFormed t
-well_formed t letters bounds tree = record { letters = letters; tree = tree; bounds = bounds }
+pub well_formed : (t : Tree) → IsBounded t → IsTreeBy t.letters t.entries → IsWellFormed t
+well_formed t bounds tree = record { tree = tree; bounds = bounds }
 
 -- the volume of a tree is laid for it
 pub volume_laid : {t : Tree} {n : ℕ} → CanHold t n → IsLaid (volume t n) t
@@ -26,5 +27,9 @@ pub is_laid : {image : List ℕ} (t : Tree) (n : ℕ) → image ≡ volume t n �
 is_laid t n e can = subst (λ im. IsLaid im t) (sym e) (volume_laid can)
 
 -- what is laid fits the tree, as it was planned
-pub laid_as_planned : {image : List ℕ} (t : Tree) (n : ℕ) → image ≡ volume t n → CanHold t n → Fits image t (planned t n)
-laid_as_planned t n e can = subst (λ im. Fits im t (planned t n)) (sym e) (volume_fits can)
+pub laid_as_planned : {image : List ℕ} (t : Tree) (n : ℕ) → image ≡ volume t n → CanHold t n → FitsBy t.letters image t (planned t n)
+laid_as_planned t n e can = subst (λ im. FitsBy t.letters im t (planned t n)) (sym e) (volume_fits can)
+
+-- what fits a tree of ASCII letters by the letters of the tree fits it
+pub fits_plain : {image : List ℕ} {t : Tree} {l : Layout} → t.letters ≡ Ascii → FitsBy t.letters image t l → Fits image t l
+fits_plain {image} {t} {l} letters fits = subst (λ ls. FitsBy ls image t l) letters fits

@@ -3,7 +3,8 @@ use Rattle.std.proofs.Common.{◌≡◌, ◌<◌, ◌+◌, ◌-◌, ◌*◌, ℕ
 use Rattle.std.specs.List.{range_with_len}
 use Rattle.std.proofs.lemmas.List.{drop-drop, drop_min, take_min}
 use Rattle.std.proofs.lemmas.Grind.{common_steps}
-use Rattle.adf_base.specs.Hash.{slot_of}
+use Rattle.adf_base.specs.Hash.{slot_by}
+use Rattle.adf_base.specs.declared.hash.Letters.{Letters}
 use Rattle.adf_base.specs.Words.{with_block}
 use Rattle.adf_tree.specs.declared.entry.Body.TheVariants.{File}
 use Rattle.adf_tree.specs.declared.entry.Entry.{Entry}
@@ -17,11 +18,11 @@ use Rattle.adf_blocks.specs.Fields.{block_of_fields}
 use Rattle.adf_blocks.specs.HeadBlock.{head_block}
 use Rattle.adf_blocks.specs.HeadBlock.BodyFields.{FileFields}
 use Rattle.adf_blocks.specs.RootBlock.{root_block}
-use Rattle.adf_volume.specs.Layout.{nodes_from}
+use Rattle.adf_volume.specs.Layout.{nodes_from_by}
 use Rattle.adf_build.specs.Writes.{with_blocks}
-use Rattle.adf_build.specs.Laid.{boot_bytes, data_bytes, data_part, data_writes, entries_writes, entry_writes, ext_part, ext_writes, first_block, planned_head}
+use Rattle.adf_build.specs.Laid.{boot_bytes_by, data_bytes, data_part, data_writes, entries_writes, entry_writes, ext_part, ext_writes, first_block, planned_head}
 use Rattle.adf_build.specs.Laid.{heads_from, map_ext_or_none, map_ext_writes, node_blocks, nth_free_or_none, page_writes, planned_root, planned_spot}
-use Rattle.adf_build.specs.Laid.{slots_of, writes}
+use Rattle.adf_build.specs.Laid.{slots_by, writes}
 use Rattle.adf_build.specs.Plan.{allocated, data_blocks, entries_blocks, entry_blocks, exts_needed, nth_free}
 use Rattle.adf_build.specs.declared.heads.Spot.{Spot}
 use Rattle.adf_build.proofs.BlockWrites.{with_blocks-append}
@@ -89,8 +90,8 @@ run_step image old all ps left rest e f inv = let both = with_blocks-append old 
 pub entry_step : (image old all nodes slots : List ℕ) (n : ℕ) (t : Tree) (kind : Kind) (left rest : List Entry) (i k next p : ℕ) (e : Entry)
     (here : Spot) → left ≡ e ∷ rest → kind ≡ t.kind → p ≡ i + 1 → next ≡ k + entry_blocks t.kind e → nodes ≡ node_blocks t n
     → here.k ≡ k → here.parent ≡ slice_index nodes e.parent
-    → here.next ≡ first_block (slice_index nodes) (nodes_from p rest e.parent (slot_of e.name))
-    → slots ≡ slots_of nodes t.entries i
+    → here.next ≡ first_block (slice_index nodes) (nodes_from_by t.letters p rest e.parent (slot_by t.letters e.name))
+    → slots ≡ slots_by t.letters nodes t.entries i
     → with_blocks old (entries_writes n t i k left) ≡ all
     → image ≡ with_blocks old (entry_writes n kind here slots e)
     → with_blocks image (entries_writes n t (i + 1) next rest) ≡ all
@@ -98,13 +99,14 @@ entry_step image old all nodes slots n t kind left rest i k next p e here split 
     let up : i + 1 ≡ suc i = omega arith in
     let spot : here ≡ planned_spot n t i k e rest =
     one_spot here (planned_spot n t i k e rest) at (parent ∙ ap (λ ns. slice_index ns e.parent) known)
-    (follow ∙ ap (λ ns. first_block (slice_index ns) (nodes_from p rest e.parent (slot_of e.name))) known
-    ∙ ap (λ p. first_block (slice_index (node_blocks t n)) (nodes_from p rest e.parent (slot_of e.name))) (place ∙ up)) in
-    let mine : image ≡ with_blocks old (entry_writes n t.kind (planned_spot n t i k e rest) (slots_of (node_blocks t n) t.entries i) e) =
+    (follow ∙ ap (λ ns. first_block (slice_index ns) (nodes_from_by t.letters p rest e.parent (slot_by t.letters e.name))) known
+    ∙ ap (λ p. first_block (slice_index (node_blocks t n)) (nodes_from_by t.letters p rest e.parent (slot_by t.letters e.name))) (place ∙ up)) in
+    let mine : image ≡ with_blocks old (entry_writes n t.kind (planned_spot n t i k e rest) (slots_by t.letters (node_blocks t n) t.entries i) e) =
     written ∙ ap (λ kind. with_blocks old (entry_writes n kind here slots e)) same
     ∙ ap (λ here. with_blocks old (entry_writes n t.kind here slots e)) spot
-    ∙ ap (λ ls. with_blocks old (entry_writes n t.kind (planned_spot n t i k e rest) ls e)) (slot ∙ ap (λ ns. slots_of ns t.entries i) known) in
-    run_step image old all (entry_writes n t.kind (planned_spot n t i k e rest) (slots_of (node_blocks t n) t.entries i) e)
+    ∙ ap (λ ls. with_blocks old (entry_writes n t.kind (planned_spot n t i k e rest) ls e))
+    (slot ∙ ap (λ ns. slots_by t.letters ns t.entries i) known) in
+    run_step image old all (entry_writes n t.kind (planned_spot n t i k e rest) (slots_by t.letters (node_blocks t n) t.entries i) e)
     (entries_writes n t (i + 1) next rest) (entries_writes n t (suc i) (k + entry_blocks t.kind e) rest) mine
     (ap (λ i. entries_writes n t i next rest) up ∙ ap (λ k. entries_writes n t (suc i) k rest) skip) (rw split at inv)
 
@@ -120,7 +122,7 @@ file_step image old head mid bytes slots table n kind here e size c exts m next 
 
 -- the root, with what it names
 pub root_step : (image old slots numbers : List ℕ) (label : List ℕ) (stamps : Stamps) (t : Tree) (n root first few next : ℕ)
-    → root ≡ middle n → first ≡ middle n + 1 → slots ≡ slots_of (node_blocks t n) t.entries 0
+    → root ≡ middle n → first ≡ middle n + 1 → slots ≡ slots_by t.letters (node_blocks t n) t.entries 0
     → few ≡ min ROOT_PAGES (pages_needed n) → take few numbers ≡ range_with_len first few
     → next ≡ map_ext_or_none n 0 → label ≡ t.label → stamps ≡ t.stamps
     → image ≡ with_block old root (root_block (record { slots = slots; pages = take few numbers; map_ext = next; label = label; stamps = stamps }))
@@ -128,12 +130,13 @@ pub root_step : (image old slots numbers : List ℕ) (label : List ℕ) (stamps 
 root_step image old slots numbers label stamps t n root first few next r j a b d f g h i = cc
 
 -- the blocks of a volume: those of the entries, the pages, the bitmap extension blocks, the root and the boot block
-pub volume_step : (image old a b d r boot : List ℕ) (t : Tree) (n total : ℕ) (kind : Kind)
-    → total ≡ entries_blocks t.kind t.entries → kind ≡ t.kind → boot ≡ block_of_fields ((0, boot_bytes kind) ∷ [])
+pub volume_step : (image old a b d r boot : List ℕ) (t : Tree) (n total : ℕ) (letters : Letters) (kind : Kind)
+    → total ≡ entries_blocks t.kind t.entries → letters ≡ t.letters → kind ≡ t.kind
+    → boot ≡ block_of_fields ((0, boot_bytes_by letters kind) ∷ [])
     → a ≡ with_blocks old (entries_writes n t 1 0 t.entries)
     → b ≡ with_blocks a (page_writes n total)
     → d ≡ with_blocks b (map_ext_writes n)
     → r ≡ with_block d (middle n) (root_block (planned_root t n))
     → image ≡ with_block r 0 boot
     → image ≡ with_blocks old (writes t n)
-volume_step image old a b d r boot t n total kind f k o p q x y z = simp with_blocks-append (cc)
+volume_step image old a b d r boot t n total letters kind f l k o p q x y z = simp with_blocks-append (cc)

@@ -1,12 +1,11 @@
 -- The results of building.
-use Rattle.std.specs.Prelude.{◌≡◌, ◌≢◌, ◌≤◌, ◌<◌, ◌-◌, ◌^◌, ◌++◌, ℕ, List, true, false, min, codes}
+use Rattle.std.specs.Prelude.{◌≡◌, ◌≤◌, ◌<◌, ◌-◌, ◌^◌, ◌++◌, ℕ, List, true, false, min, codes}
 use Rattle.std.specs.Fmt.{decimal}
-use Rattle.adf_base.specs.declared.hash.Letters.TheVariants.{Ascii}
 use Rattle.adf_tree.specs.Tree.{Tree}
 use Rattle.adf_blocks.specs.Sizes.{is_allowed}
 use Rattle.adf_build.specs.Plan.{blocks_needed}
 use Rattle.adf_build.specs.declared.builder.BuildFault.{BuildFault}
-use Rattle.adf_build.specs.declared.builder.BuildFault.TheVariants.{BadSize, Full, NoMemory, OtherLetters}
+use Rattle.adf_build.specs.declared.builder.BuildFault.TheVariants.{BadSize, Full, NoMemory}
 
 -- the number of blocks that the tree needs in a volume of n blocks, at most 2^64 - 1
 abbrev pub need_of : Tree → ℕ → ℕ
@@ -17,12 +16,11 @@ pub record IsBuildable (tree : Tree) (n : ℕ) : Type 0 where
   pub allowed : is_allowed n ≡ true
   pub room : blocks_needed tree n ≤ n - 2
 
--- the number of a build fault, 1 to 4
+-- the number of a build fault, 1 to 3
 abbrev pub build_fault_number : BuildFault → ℕ
 build_fault_number BadSize = 1
 build_fault_number (Full need have) = 2
 build_fault_number NoMemory = 3
-build_fault_number OtherLetters = 4
 
 -- the blocks that a tree needs, and those available
 abbrev pub full_text : ℕ → ℕ → List ℕ
@@ -33,12 +31,9 @@ abbrev pub build_fault_text : BuildFault → List ℕ
 build_fault_text BadSize = codes "bad size"
 build_fault_text (Full need have) = full_text need have
 build_fault_text NoMemory = codes "no memory"
-build_fault_text OtherLetters = codes "other letters"
 
--- why the tree cannot be built in n blocks: the size is not allowed; else its letters are not; else no room, with both numbers; else memory
+-- why the tree cannot be built in n blocks: the size is not allowed; else no room, with both numbers; else memory
 abbrev pub IsBuildFault : Tree → ℕ → BuildFault → Type 0
 IsBuildFault tree n BadSize = is_allowed n ≡ false
-IsBuildFault tree n (Full need have) =
-    (is_allowed n ≡ true) × (need ≡ need_of tree n) × (have ≡ n - 2) × (have < need) × (tree.letters ≡ Ascii)
+IsBuildFault tree n (Full need have) = (is_allowed n ≡ true) × (need ≡ need_of tree n) × (have ≡ n - 2) × (have < need)
 IsBuildFault tree n NoMemory = IsBuildable tree n
-IsBuildFault tree n OtherLetters = (is_allowed n ≡ true) × (tree.letters ≢ Ascii)

@@ -4,15 +4,16 @@
 use Rattle.std.specs.Prelude.{◌≡◌, ◌≤◌, ℕ, List, [], ◌∷◌, ◌++◌, ◌+◌, ◌-◌, ◌*◌, nat_lt, cond, length, take, drop, map, replicate, slice_index, min, true}
 use Rattle.std.specs.List.{range_with_len}
 use Rattle.std.proofs.Common.{suc}
-use Rattle.adf_base.specs.declared.hash.Letters.TheVariants.{Ascii}
-use Rattle.adf_base.specs.Hash.{slot_of}
+use Rattle.adf_base.specs.declared.hash.Letters.{Letters}
+use Rattle.adf_base.specs.declared.hash.Letters.TheVariants.{Ascii, International}
+use Rattle.adf_base.specs.Hash.{slot_by}
 use Rattle.adf_names.specs.declared.kind.Kind.{Kind}
 use Rattle.adf_names.specs.declared.kind.Kind.TheVariants.{Ofs, Ffs}
 use Rattle.adf_tree.specs.declared.entry.Body.{Body}
 use Rattle.adf_tree.specs.declared.entry.Body.TheVariants.{Dir, File}
 use Rattle.adf_tree.specs.declared.entry.Entry.{Entry}
 use Rattle.adf_tree.specs.Bounds.{IsBounded}
-use Rattle.adf_tree.specs.Tree.{Tree, IsTree}
+use Rattle.adf_tree.specs.Tree.{Tree, IsTreeBy}
 use Rattle.adf_blocks.specs.Sizes.{blocks, chunk, count, is_allowed, middle, pages_needed}
 use Rattle.adf_blocks.specs.declared.layout.TheConstants.{MAP_EXT_PAGES, POINTERS, ROOT_PAGES, SLOTS}
 use Rattle.adf_blocks.specs.Fields.{block_of_fields}
@@ -24,7 +25,7 @@ use Rattle.adf_blocks.specs.HeadBlock.BodyFields.{DirFields, FileFields}
 use Rattle.adf_blocks.specs.ExtBlock.{ExtFields, ext_block}
 use Rattle.adf_blocks.specs.DataBlock.{DataFields, data_block}
 use Rattle.adf_volume.specs.Image.{map_exts_needed}
-use Rattle.adf_volume.specs.Layout.{nodes_from}
+use Rattle.adf_volume.specs.Layout.{nodes_from_by}
 use Rattle.adf_build.specs.Plan.{exts_needed, entry_blocks, entries_blocks, blocks_needed, nth_free, allocated}
 use Rattle.adf_build.specs.Writes.{with_blocks}
 use Rattle.adf_build.specs.Bits.{page_words}
@@ -80,9 +81,9 @@ ext_part n k c j = (nth_free n (suc k + j), ext_block (planned_ext n k c j))
 abbrev pub ext_writes : ℕ → ℕ → ℕ → List (ℕ × List ℕ)
 ext_writes n k c = map (ext_part n k c) (range_with_len 0 (exts_needed c))
 
--- the slots of node p: the block of the first member of each chain, or 0
-abbrev pub slots_of : List ℕ → List Entry → ℕ → List ℕ
-slots_of nodes es p = map (λ s. first_block (slice_index nodes) (nodes_from 1 es p s)) (range_with_len 0 SLOTS)
+-- the slots of node p, where names have these letters: the block of the first member of each chain, or 0
+abbrev pub slots_by : Letters → List ℕ → List Entry → ℕ → List ℕ
+slots_by letters nodes es p = map (λ s. first_block (slice_index nodes) (nodes_from_by letters 1 es p s)) (range_with_len 0 SLOTS)
 
 -- the fields of a header that depend on its body
 abbrev pub planned_body : ℕ → ℕ → Kind → List ℕ → Body → BodyFields
@@ -118,13 +119,13 @@ node_blocks t n = middle n ∷ heads_from n t.kind 0 t.entries
 abbrev pub planned_spot : ℕ → Tree → ℕ → ℕ → Entry → List Entry → Spot
 planned_spot n t i k e es =
     let at = slice_index (node_blocks t n) in
-    record { k = k; parent = at e.parent; next = first_block at (nodes_from (suc i) es e.parent (slot_of e.name)) }
+    record { k = k; parent = at e.parent; next = first_block at (nodes_from_by t.letters (suc i) es e.parent (slot_by t.letters e.name)) }
 
 -- the blocks of entries, the first with number i
 abbrev pub entries_writes : ℕ → Tree → ℕ → ℕ → List Entry → List (ℕ × List ℕ)
 entries_writes n t i k [] = []
 entries_writes n t i k (e ∷ es) =
-    entry_writes n t.kind (planned_spot n t i k e es) (slots_of (node_blocks t n) t.entries i) e
+    entry_writes n t.kind (planned_spot n t i k e es) (slots_by t.letters (node_blocks t n) t.entries i) e
     ++ entries_writes n t (suc i) (k + entry_blocks t.kind e) es
 
 -- page j; the first `total` free blocks are used
@@ -152,15 +153,17 @@ page_writes n total = map (page_part n total) (range_with_len 0 (pages_needed n)
 abbrev pub map_ext_writes : ℕ → List (ℕ × List ℕ)
 map_ext_writes n = map (map_ext_part n) (range_with_len 0 (map_exts_needed (pages_needed n)))
 
--- the boot block starts with `DOS` and the type
-abbrev pub boot_bytes : Kind → List ℕ
-boot_bytes Ofs = 0x44 ∷ 0x4F ∷ 0x53 ∷ 0 ∷ []
-boot_bytes Ffs = 0x44 ∷ 0x4F ∷ 0x53 ∷ 1 ∷ []
+-- the boot block starts with `DOS` and the type: 0 for OFS, 1 for FFS, and 2 more where names have international letters
+abbrev pub boot_bytes_by : Letters → Kind → List ℕ
+boot_bytes_by Ascii Ofs = 0x44 ∷ 0x4F ∷ 0x53 ∷ 0 ∷ []
+boot_bytes_by Ascii Ffs = 0x44 ∷ 0x4F ∷ 0x53 ∷ 1 ∷ []
+boot_bytes_by International Ofs = 0x44 ∷ 0x4F ∷ 0x53 ∷ 2 ∷ []
+boot_bytes_by International Ffs = 0x44 ∷ 0x4F ∷ 0x53 ∷ 3 ∷ []
 
 -- the fields of the root: it points to its first headers, to ROOT_PAGES pages and to the first bitmap extension block
 abbrev pub planned_root : Tree → ℕ → RootFields
 planned_root t n = record {
-  slots = slots_of (node_blocks t n) t.entries 0;
+  slots = slots_by t.letters (node_blocks t n) t.entries 0;
   pages = range_with_len (middle n + 1) (min ROOT_PAGES (pages_needed n));
   map_ext = map_ext_or_none n 0;
   label = t.label;
@@ -173,16 +176,15 @@ writes t n =
     entries_writes n t 1 0 t.entries
     ++ (page_writes n (entries_blocks t.kind t.entries)
     ++ (map_ext_writes n
-    ++ (middle n, root_block (planned_root t n)) ∷ (0, block_of_fields ((0, boot_bytes t.kind) ∷ [])) ∷ []))
+    ++ (middle n, root_block (planned_root t n)) ∷ (0, block_of_fields ((0, boot_bytes_by t.letters t.kind) ∷ [])) ∷ []))
 
 -- the volume of n blocks that the builder makes for a tree
 unfoldable pub volume : Tree → ℕ → List ℕ
 volume t n = with_blocks (replicate (n * 512) 0) (writes t n)
 
--- what holds of every tree of ASCII letters: the invariant of its entries, and the bounds of its fields, so that they fit in blocks
+-- what holds of every tree: the invariant of its entries by its letters, and the bounds of its fields, so that they fit in blocks
 pub record IsWellFormed (t : Tree) : Type 0 where
-  pub letters : t.letters ≡ Ascii
-  pub tree : IsTree t.entries
+  pub tree : IsTreeBy t.letters t.entries
   pub bounds : IsBounded t
 
 -- the image is what the builder makes for the tree, whose fields fit, in an allowed size with room for it

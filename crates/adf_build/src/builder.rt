@@ -1,8 +1,7 @@
 // The builder.
 
 ghost use Rattle.std.specs.Prelude.{◌≡◌, ◌*◌, IfOk, IfErr, OnOk, OnErr, length, replicate, vec_len};
-ghost use Rattle.adf_base.specs.declared.hash.Letters.TheVariants.{Ascii};
-ghost use Rattle.adf_volume.specs.Fits.{Fits};
+ghost use Rattle.adf_volume.specs.Fits.{FitsBy};
 ghost use Rattle.adf_build.specs.Laid.{IsLaid, IsWellFormed, node_blocks, volume};
 ghost use Rattle.adf_build.specs.Plan.{entries_blocks, planned};
 ghost use Rattle.adf_build.specs.Building.{IsBuildable, IsBuildFault, build_fault_number};
@@ -11,7 +10,7 @@ use crate::counting::count_entries;
 use crate::nodes::nodes_of;
 use crate::plan::Plan;
 use crate::volume::write_volume;
-use adf_base::{BLOCK_LEN, Letters};
+use adf_base::BLOCK_LEN;
 use adf_tree::Tree;
 use std::alloc::Global;
 use std::error::Error;
@@ -26,12 +25,10 @@ pub enum BuildFault {
     Full { need: u64, have: u64 },
     /// An allocation failed.
     NoMemory,
-    /// The names of the tree are by other letters than ASCII.
-    OtherLetters,
 }
 
 impl BuildFault {
-    /// The number of the fault, 1 to 4.
+    /// The number of the fault, 1 to 3.
     pub fn number(self) -> u8
         ensures { result ≡ build_fault_number self }
     {
@@ -39,7 +36,6 @@ impl BuildFault {
             BuildFault::BadSize => 1,
             BuildFault::Full { .. } => 2,
             BuildFault::NoMemory => 3,
-            BuildFault::OtherLetters => 4,
         }
     }
 }
@@ -55,7 +51,6 @@ impl fmt::Display for BuildFault {
             BuildFault::BadSize => f.write_str("bad size"),
             BuildFault::Full { need, have } => write!(f, "full: need {need}, have {have}"),
             BuildFault::NoMemory => f.write_str("no memory"),
-            BuildFault::OtherLetters => f.write_str("other letters"),
         }
     }
 }
@@ -64,7 +59,6 @@ impl Error for BuildFault {}
 
 // The fields of a tree fit the fields of blocks.
 fn fields_fit(tree: &Tree)
-    requires { tree.now.letters ≡ Ascii }
     ensures { IsWellFormed tree.now }
 {
     tree.bounds();
@@ -81,7 +75,6 @@ struct Prepared {
 
 // Plans the volume of a tree, if it has room.
 fn prepare(alloc: Global, tree: &Tree, blocks: u32) -> Result<Prepared, BuildFault>
-    ensures letters { OnOk result (tree.now.letters ≡ Ascii) }
     ensures plan { IfOk result (λ p. p.plan.blocks ≡ blocks) }
     ensures nodes { IfOk result (λ p. p.nodes.items ≡ node_blocks tree.now blocks) }
     ensures total { IfOk result (λ p. p.total ≡ entries_blocks tree.now.kind tree.now.entries) }
@@ -90,9 +83,6 @@ fn prepare(alloc: Global, tree: &Tree, blocks: u32) -> Result<Prepared, BuildFau
 {
     let Some(plan) = Plan::new(blocks) else {
         return Err(BuildFault::BadSize);
-    };
-    let Letters::Ascii = tree.letters() else {
-        return Err(BuildFault::OtherLetters);
     };
     let total = count_entries(tree);
     let need = plan.need(total);
@@ -114,7 +104,7 @@ fn prepare(alloc: Global, tree: &Tree, blocks: u32) -> Result<Prepared, BuildFau
 /// extension blocks after it, the entries in walk order in the remaining blocks, and 0 in all other bytes.
 pub fn build(alloc: Global, tree: &Tree, blocks: u32) -> Result<Vec<u8>, BuildFault>
     ensures laid { IfOk result (λ image. IsLaid image.items tree.now) }
-    ensures fits { IfOk result (λ image. Fits image.items tree.now (planned tree.now blocks)) }
+    ensures fits { IfOk result (λ image. FitsBy tree.now.letters image.items tree.now (planned tree.now blocks)) }
     ensures bytes { IfOk result (λ image. image.items ≡ volume tree.now blocks) }
     ensures len { IfOk result (λ image. vec_len image ≡ blocks * 512) }
     ensures room { OnOk result (IsBuildable tree.now blocks) }
@@ -152,7 +142,7 @@ pub fn build_into(
 ) -> Result<(), BuildFault>
     requires { length room.old ≡ blocks * 512 }
     ensures laid { OnOk result (IsLaid room.new tree.now) }
-    ensures fits { OnOk result (Fits room.new tree.now (planned tree.now blocks)) }
+    ensures fits { OnOk result (FitsBy tree.now.letters room.new tree.now (planned tree.now blocks)) }
     ensures bytes { OnOk result (room.new ≡ volume tree.now blocks) }
     ensures fault { IfErr result (IsBuildFault tree.now blocks) }
     ensures unchanged { OnErr result (room.new ≡ room.old) }

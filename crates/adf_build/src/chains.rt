@@ -2,25 +2,26 @@
 
 ghost use Rattle.std.specs.Prelude.{◌≡◌, ◌≤◌, ◌<◌, ◌+◌, ◌*◌, ◌∷◌, ◌≢◌, ℕ, length, drop, slice_index};
 ghost use Rattle.std.specs.List.{AllWithin};
-ghost use Rattle.adf_base.specs.declared.hash.Letters.TheVariants.{Ascii};
-ghost use Rattle.adf_base.specs.Hash.{slot_of};
+ghost use Rattle.adf_base.specs.Hash.{slot_by};
 ghost use Rattle.adf_tree.specs.declared.entry.Entry.{Entry};
-ghost use Rattle.adf_tree.specs.Chain.{in_chain};
+ghost use Rattle.adf_tree.specs.Chain.{in_chain_by};
 ghost use Rattle.adf_blocks.specs.declared.layout.TheConstants.{SLOTS};
 ghost use Rattle.adf_build.specs.Laid.{first_block};
-ghost use Rattle.adf_build.specs.Order.{RisesFrom};
-ghost use Rattle.adf_volume.specs.Layout.{nodes_from};
+ghost use Rattle.adf_build.specs.Order.{RisesFromBy};
+ghost use Rattle.adf_volume.specs.Layout.{nodes_from_by};
 
 use crate::nodes::{entry_at, parent_of};
-use adf_base::slot;
+use adf_base::{Letters, slot_by};
 use adf_blocks::SLOTS;
 use adf_tree::{Entry, Tree};
 
-// Whether two entries are in the same chain.
-fn are_together(entry: &Entry, after: &Entry) -> bool
-    ensures { result ≡ in_chain entry.now.parent (slot_of entry.now.name) after.now }
+// Whether two entries are in the same chain; their names have these letters.
+fn are_together(letters: Letters, entry: &Entry, after: &Entry) -> bool
+    ensures { result
+        ≡ in_chain_by letters entry.now.parent (slot_by letters entry.now.name) after.now }
 {
-    parent_of(after) == parent_of(entry) && slot(after.name.bytes()) == slot(entry.name.bytes())
+    parent_of(after) == parent_of(entry)
+        && slot_by(letters, after.name.bytes()) == slot_by(letters, entry.name.bytes())
 }
 
 /// The block of the parent of entry `i + 1`.
@@ -39,16 +40,15 @@ pub fn parent_block(tree: &Tree, nodes: &[u32], i: usize, entry: &Entry) -> u32
 /// The next header in the chain of entry `i + 1`, or 0: the next entry's header, if that entry is in the same chain.
 #[tactic(auto, using(crate::proofs::Order::next_none, crate::proofs::Order::next_end))]
 pub fn next_of(tree: &Tree, nodes: &[u32], i: usize, entry: &Entry) -> u32
-    requires letters { tree.now.letters ≡ Ascii }
     requires here { drop i tree.now.entries ≡ entry.now ∷ drop (i + 1) tree.now.entries }
     requires place { i < length tree.now.entries }
     requires nodes { length nodes.now ≡ 1 + length tree.now.entries }
     ensures { result
         ≡ first_block (slice_index nodes.now)
-        (nodes_from (i + 2) (drop (i + 1) tree.now.entries) entry.now.parent
-        (slot_of entry.now.name)) }
+        (nodes_from_by tree.now.letters (i + 2) (drop (i + 1) tree.now.entries) entry.now.parent
+        (slot_by tree.now.letters entry.now.name)) }
 {
-    if i + 1 < tree.len() && are_together(entry, entry_at(tree, i + 1)) {
+    if i + 1 < tree.len() && are_together(tree.letters(), entry, entry_at(tree, i + 1)) {
         nodes[i + 2]
     } else {
         0
@@ -58,14 +58,14 @@ pub fn next_of(tree: &Tree, nodes: &[u32], i: usize, entry: &Entry) -> u32
 /// The index after the children of node `p`, which begin at index `from`.
 pub fn children_end(tree: &Tree, p: usize, from: usize) -> usize
     requires within { from ≤ length tree.now.entries }
-    requires low { RisesFrom (72 * p) (drop from tree.now.entries) }
+    requires low { RisesFromBy tree.now.letters (72 * p) (drop from tree.now.entries) }
     ensures start { from ≤ result }
     ensures within { result ≤ length tree.now.entries }
     ensures mine { AllWithin (λ (e : Entry). e.parent ≡ p) tree.now.entries from result }
-    ensures past { RisesFrom (72 * (p + 1)) (drop result tree.now.entries) }
+    ensures past { RisesFromBy tree.now.letters (72 * (p + 1)) (drop result tree.now.entries) }
     ensures others { (q s : ℕ) → q ≢ p
-        → nodes_from (from + 1) (drop from tree.now.entries) q s
-        ≡ nodes_from (result + 1) (drop result tree.now.entries) q s }
+        → nodes_from_by tree.now.letters (from + 1) (drop from tree.now.entries) q s
+        ≡ nodes_from_by tree.now.letters (result + 1) (drop result tree.now.entries) q s }
 {
     let mut end = from;
     while end < tree.len() && parent_of(entry_at(tree, end)) == p {
@@ -88,18 +88,19 @@ pub fn slots_between(
     requires within { end ≤ length tree.now.entries }
     requires nodes { length nodes.now ≡ 1 + length tree.now.entries }
     requires mine { AllWithin (λ (e : Entry). e.parent ≡ p) tree.now.entries from end }
-    requires past { RisesFrom (72 * (p + 1)) (drop end tree.now.entries) }
+    requires past { RisesFromBy tree.now.letters (72 * (p + 1)) (drop end tree.now.entries) }
     ensures { (s : ℕ) → s < SLOTS
         → slice_index result s
         ≡ first_block (slice_index nodes.now)
-        (nodes_from (from + 1) (drop from tree.now.entries) p s) }
+        (nodes_from_by tree.now.letters (from + 1) (drop from tree.now.entries) p s) }
 {
+    let letters = tree.letters();
     let mut slots = [0u32; SLOTS as usize];
     let mut at = end;
     while at > from {
         at -= 1;
         let entry = entry_at(tree, at);
-        slots[slot(entry.name.bytes()) as usize] = nodes[at + 1];
+        slots[slot_by(letters, entry.name.bytes()) as usize] = nodes[at + 1];
     }
     slots
 }

@@ -1,12 +1,11 @@
 // The blocks of all entries.
 
 ghost use Rattle.std.specs.Prelude.{◌≡◌, ◌≤◌, ◌+◌, ◌*◌, ℕ, length, drop};
-ghost use Rattle.adf_base.specs.declared.hash.Letters.TheVariants.{Ascii};
 ghost use Rattle.adf_build.specs.Laid.{entries_writes, node_blocks};
 ghost use Rattle.adf_build.specs.Writes.{with_blocks};
 ghost use Rattle.adf_build.specs.Building.{IsBuildable};
-ghost use Rattle.adf_build.specs.Order.{RisesFrom};
-ghost use Rattle.adf_volume.specs.Layout.{nodes_from};
+ghost use Rattle.adf_build.specs.Order.{RisesFromBy};
+ghost use Rattle.adf_volume.specs.Layout.{nodes_from_by};
 
 use crate::chains::{children_end, next_of, parent_block, slots_between};
 use crate::heads::{Spot, write_entry};
@@ -17,15 +16,14 @@ use adf_tree::Tree;
 /// Writes the blocks of all entries; the children of the root have indices below `first`.
 #[tactic(auto, using(crate::proofs::WriteSteps::nodes_length))]
 pub fn write_entries(image: &mut [u8], tree: &Tree, plan: Plan, nodes: &[u32], first: usize)
-    requires letters { tree.now.letters ≡ Ascii }
     requires room { IsBuildable tree.now plan.blocks }
     requires whole { length image.old ≡ plan.blocks * 512 }
     requires nodes { nodes.now ≡ node_blocks tree.now plan.blocks }
     requires within { first ≤ length tree.now.entries }
-    requires low { RisesFrom 72 (drop first tree.now.entries) }
+    requires low { RisesFromBy tree.now.letters 72 (drop first tree.now.entries) }
     requires chains { (q s : ℕ) → 1 ≤ q
-        → nodes_from 1 tree.now.entries q s
-        ≡ nodes_from (first + 1) (drop first tree.now.entries) q s }
+        → nodes_from_by tree.now.letters 1 tree.now.entries q s
+        ≡ nodes_from_by tree.now.letters (first + 1) (drop first tree.now.entries) q s }
     ensures { image.new
         ≡ with_blocks image.old (entries_writes plan.blocks tree.now 1 0 tree.now.entries) }
 {

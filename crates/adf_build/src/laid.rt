@@ -8,7 +8,7 @@ ghost use Rattle.adf_blocks.specs.Sizes.{blocks, is_allowed};
 ghost use Rattle.adf_volume.specs.declared.owner.Owner.{Owner};
 ghost use Rattle.adf_volume.specs.Lists.{In, NoBlockTwice};
 ghost use Rattle.adf_volume.specs.Layout.{Layout, owned};
-ghost use Rattle.adf_volume.specs.Fits.{Fits};
+ghost use Rattle.adf_volume.specs.Fits.{FitsBy};
 ghost use Rattle.adf_build.specs.InOrder.{IsInOrder};
 ghost use Rattle.adf_build.specs.Plan.{blocks_needed, exts_needed, planned};
 ghost use Rattle.adf_build.specs.Writes.{numbers_of};
@@ -26,10 +26,10 @@ pub fn planned_blocks()
         → In (owned image (planned t (blocks image))) (o, b) → (2 ≤ b) × (b < blocks image) }
 {}
 
-/// A built image fits its tree, in the planned layout.
+/// A built image fits its tree by the letters of the tree, in the planned layout.
 pub fn laid_fits()
     ensures { (image : List ℕ) (t : Tree) → IsLaid image t
-        → Fits image t (planned t (blocks image)) }
+        → FitsBy t.letters image t (planned t (blocks image)) }
 {}
 
 /// A tree with its fields within their bounds can be built in every allowed size that has room for it.
@@ -78,5 +78,5 @@ pub fn laid_bytes()
 #[tactic(auto, using(crate::proofs::LaidOrder::in_order))]
 pub fn laid_in_order()
     ensures { (image : List ℕ) (t : Tree) → IsLaid image t
-        → (l : Layout) × Fits image t l × IsInOrder image t l }
+        → (l : Layout) × FitsBy t.letters image t l × IsInOrder image t l }
 {}

@@ -1,12 +1,11 @@
 // The parts of a volume.
 
 ghost use Rattle.std.specs.Prelude.{◌≡◌, ◌*◌, [], ◌∷◌, length, take};
-ghost use Rattle.adf_base.specs.declared.hash.Letters.TheVariants.{Ascii};
 ghost use Rattle.adf_base.specs.Words.{with_block};
 ghost use Rattle.adf_blocks.specs.Fields.{block_of_fields};
 ghost use Rattle.adf_blocks.specs.RootBlock.{root_block};
 ghost use Rattle.adf_blocks.specs.Sizes.{middle};
-ghost use Rattle.adf_build.specs.Laid.{boot_bytes, node_blocks, writes, planned_root, slots_of};
+ghost use Rattle.adf_build.specs.Laid.{boot_bytes_by, node_blocks, writes, planned_root, slots_by};
 ghost use Rattle.adf_build.specs.Writes.{with_blocks};
 ghost use Rattle.adf_build.specs.Plan.{entries_blocks};
 ghost use Rattle.adf_build.specs.Building.{IsBuildable};
@@ -16,18 +15,20 @@ use crate::entries::write_entries;
 use crate::map_exts::write_map_exts;
 use crate::pages::write_pages;
 use crate::plan::Plan;
-use adf_base::{put_block, put_bytes};
+use adf_base::{Letters, put_block, put_bytes};
 use adf_blocks::{ROOT_PAGES, RootOut, SLOTS, write_root};
 use adf_tree::{Kind, Tree};
 
 // The 512 bytes of block 0.
-fn boot_block(kind: Kind) -> [u8; 512]
-    ensures { result ≡ block_of_fields ((0, boot_bytes kind) ∷ []) }
+fn boot_block(letters: Letters, kind: Kind) -> [u8; 512]
+    ensures { result ≡ block_of_fields ((0, boot_bytes_by letters kind) ∷ []) }
 {
     let mut block = [0u8; 512];
-    match kind {
-        Kind::Ofs => put_bytes(&mut block, 0, b"DOS\0"),
-        Kind::Ffs => put_bytes(&mut block, 0, b"DOS\x01"),
+    match (letters, kind) {
+        (Letters::Ascii, Kind::Ofs) => put_bytes(&mut block, 0, b"DOS\0"),
+        (Letters::Ascii, Kind::Ffs) => put_bytes(&mut block, 0, b"DOS\x01"),
+        (Letters::International, Kind::Ofs) => put_bytes(&mut block, 0, b"DOS\x02"),
+        (Letters::International, Kind::Ffs) => put_bytes(&mut block, 0, b"DOS\x03"),
     }
     block
 }
@@ -35,7 +36,7 @@ fn boot_block(kind: Kind) -> [u8; 512]
 // Writes the root.
 fn write_the_root(image: &mut [u8], plan: Plan, tree: &Tree, slots: [u32; SLOTS as usize])
     requires whole { length image.old ≡ plan.blocks * 512 }
-    requires slots { slots ≡ slots_of (node_blocks tree.now plan.blocks) tree.now.entries 0 }
+    requires slots { slots ≡ slots_by tree.now.letters (node_blocks tree.now plan.blocks) tree.now.entries 0 }
     ensures { image.new
         ≡ with_block image.old (middle plan.blocks)
         (root_block (planned_root tree.now plan.blocks)) }
@@ -55,7 +56,6 @@ fn write_the_root(image: &mut [u8], plan: Plan, tree: &Tree, slots: [u32; SLOTS 
 /// Writes every part of a volume, with its nodes at these blocks and `total` blocks for its entries.
 #[tactic(auto, using(crate::proofs::Order::tree_rises, crate::proofs::WriteSteps::nodes_length))]
 pub fn write_volume(image: &mut [u8], plan: Plan, tree: &Tree, nodes: &[u32], total: u32)
-    requires letters { tree.now.letters ≡ Ascii }
     requires room { IsBuildable tree.now plan.blocks }
     requires whole { length image.old ≡ plan.blocks * 512 }
     requires nodes { nodes.now ≡ node_blocks tree.now plan.blocks }
@@ -70,5 +70,5 @@ pub fn write_volume(image: &mut [u8], plan: Plan, tree: &Tree, nodes: &[u32], to
     write_pages(image, plan, total);
     write_map_exts(image, plan);
     write_the_root(image, plan, tree, slots);
-    put_block(image, 0, &boot_block(tree.kind()));
+    put_block(image, 0, &boot_block(tree.letters(), tree.kind()));
 }

@@ -1,16 +1,18 @@
 -- From outcomes to answers.
 use Rattle.std.proofs.Common.{◌≡◌, ap, inl, inr, ℕ, Bool, false, List, [], Option, Some, refl, sym, subst, arith, string_bytes}
 use Rattle.std.proofs.lemmas.Grind.{common_steps}
+use Rattle.adf_base.specs.declared.hash.Letters.TheVariants.{Ascii}
 use Rattle.adf_fields.proofs.DateTexts.{date_of, date_of_is}
 use Rattle.adf_names.specs.PathTexts.{IsPathText}
 use Rattle.adf_tree.specs.Tree.{Tree, entry, find, with_kind}
 use Rattle.adf_names.specs.declared.kind.Kind.{Kind}
 use Rattle.adf_blocks.specs.Sizes.{blocks}
-use Rattle.adf_volume.specs.Fits.{Fits}
+use Rattle.adf_volume.specs.Fits.{Fits, FitsBy}
 use Rattle.adf_volume.specs.Layout.{Layout}
 use Rattle.adf_volume.specs.Walk.{FirstFault}
 use Rattle.adf_build.specs.Laid.{IsLaid, volume}
 use Rattle.adf_build.specs.Plan.{planned}
+use Rattle.adf_build.proofs.WholeVolume.{fits_plain}
 use Rattle.adf_build.specs.Building.{IsBuildable}
 use Rattle.adf_check.specs.Pieces.{bytes_of}
 use Rattle.adf_volume.specs.declared.fault.Fault.{Fault}
@@ -52,9 +54,10 @@ fault_ends _ lines input f o why h = absurd h
 
 -- an image that was built of a tree is the one that is laid of it
 pub is_built : (image : List ℕ) (tree : Tree) (n : ℕ) → image ≡ volume tree n → IsBuildable tree n → IsLaid image tree
-    → Fits image tree (planned tree n)
+    → tree.letters ≡ Ascii → FitsBy tree.letters image tree (planned tree n)
     → IsBuilt tree n
-is_built image tree n e room laid fits = grind (arith, common_steps)
+is_built image tree n e room laid letters fits =
+    let plain : Fits image tree (planned tree n) = fits_plain letters fits in grind (arith, common_steps)
 
 -- what builds the tree of a manifest answers its building
 pub build_ends : (w : Outcome) (lines : Bool) (input : List ℕ) (tree : Tree) (n : ℕ) (o o' : Option (List ℕ)) → IsManifest input tree n

@@ -73,7 +73,7 @@ pub fn build_tree<W: Sink>(
             Ok(()) => Outcome::Done,
             Err(fault) => Outcome::after_writing(fault),
         },
-        Err(BuildFault::BadSize | BuildFault::OtherLetters) => unreachable!(),
+        Err(BuildFault::BadSize) => unreachable!(),
         Err(BuildFault::Full { need, have }) => refuse_full(alloc, need, have),
         Err(BuildFault::NoMemory) => Outcome::NoMemory,
     }

@@ -34,7 +34,6 @@ no_date = record { days = omega arith; mins = omega arith; ticks = omega arith }
 can_hold : (n : ℕ) (p : PartitionPlan) → MayBeNew n p → CanHold (new_tree p) n
 can_hold n p may = record {
   sound = record {
-    letters = refl;
     tree = nothing_added.tree;
     bounds = record {
       label = may.label;

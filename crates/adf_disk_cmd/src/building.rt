@@ -45,7 +45,7 @@ fn new_volume(alloc: Global, partition: &PartitionPlan, blocks: u32) -> Result<V
     let tree = Tree::new(alloc, partition.kind, label, NO_STAMPS);
     match build(alloc, &tree, blocks) {
         Ok(bytes) => Ok(bytes),
-        Err(BuildFault::BadSize | BuildFault::OtherLetters) => unreachable!(),
+        Err(BuildFault::BadSize) => unreachable!(),
         Err(BuildFault::Full { .. }) => unreachable!(),
         Err(BuildFault::NoMemory) => Err(AllocError),
     }

@@ -10,12 +10,14 @@ use Rattle.adf_boot_blocks.specs.Writing.{with_boot}
 use Rattle.adf_build.specs.Building.{IsBuildable}
 use Rattle.adf_build.specs.Laid.{volume}
 use Rattle.adf_build.specs.Plan.{planned}
+use Rattle.adf_build.proofs.WholeVolume.{fits_plain}
 use Rattle.adf_edits.specs.Edits.{EditValue, edit_value, edited}
 use Rattle.adf_edits.specs.Outline.{OutlineValue}
 use Rattle.adf_edits.specs.declared.edits.Edit.{Edit}
 use Rattle.adf_edits.specs.declared.edits.EditFault.{EditFault}
+use Rattle.adf_base.specs.declared.hash.Letters.TheVariants.{Ascii}
 use Rattle.adf_tree.specs.Tree.{Tree}
-use Rattle.adf_volume.specs.Fits.{Fits}
+use Rattle.adf_volume.specs.Fits.{Fits, FitsBy}
 use Rattle.adf_volume.specs.Layout.{Layout}
 use Rattle.adf_edit_cmd.specs.Edited.{IsLaidOver, StopsOn, StopsTree, after, next_of}
 use Rattle.adf_edit_cmd.specs.Script.{behind_file, behind_files, size_of}
@@ -89,12 +91,13 @@ pub file_over : (es : List Edit) (i : ℕ) (given : List ℕ) (r : Option (List 
 file_over es i given r le h = h ∙ (ap (λ fs. behind_files (map edit_value fs) given) (drop_all i es le) ∙ files_none given)
 
 -- what is laid with other boot blocks is a volume of the tree
-pub laid_over : (t : Tree) (n : ℕ) (image old new : List ℕ) → IsBuildable t n → old ≡ volume t n → Fits old t (planned t n) → IsOtherBoot old new
+pub laid_over : (t : Tree) (n : ℕ) (image old new : List ℕ) → IsBuildable t n → old ≡ volume t n → t.letters ≡ Ascii
+    → FitsBy t.letters old t (planned t n) → IsOtherBoot old new
     → new ≡ with_boot old image → IsLaidOver t n image new
-laid_over t n image old new room is fits other put = record {
+laid_over t n image old new room is letters fits other put = record {
   room = room;
   bytes = put ∙ ap (λ (v : List ℕ). with_boot v image) is;
-  fits = other_fits old new other t (planned t n) fits;
+  fits = other_fits old new other t (planned t n) (fits_plain letters fits);
 }
 
 pub stops_on : (es : List EditValue) (given image : List ℕ) (t : Tree) (l : Layout) (n : ℕ) (stop : Stop) → Fits image t l → n ≡ blocks image

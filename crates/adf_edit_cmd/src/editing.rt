@@ -106,7 +106,7 @@ fn lay(alloc: Global, tree: &Tree, blocks: u32, image: &[u8]) -> Result<Vec<u8>,
             put_boot(&mut new, image);
             Ok(new)
         }
-        Err(BuildFault::BadSize | BuildFault::OtherLetters) => unreachable!(),
+        Err(BuildFault::BadSize) => unreachable!(),
         Err(BuildFault::Full { need, have }) => Err(Stop::Full { need, have }),
         Err(BuildFault::NoMemory) => Err(Stop::NoMemory),
     }

@@ -2,7 +2,6 @@
 use Rattle.std.proofs.Common.{◌≡◌, ◌≤◌, ◌<◌, ◌+◌, ◌-◌, ◌*◌, ◌++◌, ℕ, List, length, take, drop, get_or, Some, None, Bool, true, false, not, nat_lt, if◌then◌else◌, arith, refl, subst}
 use Rattle.std.proofs.lemmas.Bool.Decides.{nat_tests}
 use Rattle.std.proofs.lemmas.List.{take_all}
-use Rattle.adf_base.specs.declared.hash.Letters.TheVariants.{Ascii}
 use Rattle.adf_blocks.specs.Sizes.{is_allowed}
 use Rattle.adf_tree.specs.Tree.{Tree}
 use Rattle.adf_build.specs.Building.{IsBuildFault}
@@ -32,11 +31,10 @@ table_refusal bytes xs i (Fault why) lt sound is =
 table_refusal bytes xs i NoMemory lt sound is = tt
 
 pub build_refusal : (v : NewVolume) (bytes : List ℕ) (xs : List TableAddition) (room : ℕ) (t : Tree) (f : BuildFault) → t ≡ tree_of v bytes xs
-    → t.letters ≡ Ascii → IsSound v bytes xs → IsBuildFault t v.blocks f → ExplainsBuild v bytes xs room (refusal_by f)
-build_refusal v bytes xs room t build.BadSize at letters sound is = ((sound.kind, sound.label), is)
-build_refusal v bytes xs room t (build.Full need have) at letters sound is = (sound, rw at at is.1, is.2, is.3)
-build_refusal v bytes xs room t build.NoMemory at letters sound is = (sound.kind, sound.label)
-build_refusal v bytes xs room t build.OtherLetters at letters sound is = absurd (is.1 letters)
+    → IsSound v bytes xs → IsBuildFault t v.blocks f → ExplainsBuild v bytes xs room (refusal_by f)
+build_refusal v bytes xs room t build.BadSize at sound is = ((sound.kind, sound.label), is)
+build_refusal v bytes xs room t (build.Full need have) at sound is = (sound, rw at at is.1, is.2, is.3)
+build_refusal v bytes xs room t build.NoMemory at sound is = (sound.kind, sound.label)
 
 pub need_refusal : (v : NewVolume) (bytes : List ℕ) (xs : List TableAddition) (t : Tree) (r : Refusal) → t ≡ tree_of v bytes xs → IsSound v bytes xs
     → IsFullAtMost t r → ExplainsNeed v bytes xs r

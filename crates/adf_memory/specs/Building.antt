@@ -97,7 +97,6 @@ abbrev pub refusal_by : BuildFault → Refusal
 refusal_by build.BadSize = refusal.BadSize
 refusal_by (build.Full need have) = refusal.Full need have
 refusal_by build.NoMemory = refusal.NoMemory
-refusal_by build.OtherLetters = refusal.BadKind
 
 -- the refusal of a number of blocks that is not allowed, or of a room that is too small for so many
 abbrev pub bad_room : ℕ → ℕ → Option Refusal

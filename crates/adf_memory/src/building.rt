@@ -1,7 +1,6 @@
 // Volumes that are built from a table of additions.
 
 ghost use Rattle.std.specs.Prelude.{◌≡◌, ◌≤◌, ◌<◌, ◌*◌, ◌↔◌, [], List, ℕ, length, take, IsSome, IfSome, IfOk, IfErr, OnOk, OnErr, true};
-ghost use Rattle.adf_base.specs.declared.hash.Letters.TheVariants.{Ascii};
 ghost use Rattle.adf_tree.specs.Tree.{Tree as ATree};
 ghost use Rattle.adf_memory.specs.Building.{Explains, ExplainsBuild, ExplainsNeed, HasVolume, IsBadVolume, IsFewest, IsFullAtMost, IsSound, IsTableRefusal, Refuses, bad_room, built_in, kind_by, new_tree, refusal_by, refusal_number, refusal_of, told, tree_of};
 ghost use Rattle.adf_memory.specs.TableAdditions.{AreSound, IsDraftOf, tree_with};
@@ -181,7 +180,6 @@ fn tree_of(
     requires { (t : ATree) × IsDraftOf t contents.now [] draft }
     ensures tree { IfOk result (λ r. (t : ATree) → IsDraftOf t contents.now [] draft
         → r ≡ tree_with t contents.now additions.now) }
-    ensures letters { IfOk result (λ r. r.letters ≡ Ascii) }
     ensures sound { OnOk result (AreSound contents.now additions.now) }
     ensures fault { IfErr result (IsTableRefusal contents.now additions.now) }
 {
@@ -201,7 +199,6 @@ fn refusal_by(fault: BuildFault) -> Refusal
         BuildFault::BadSize => Refusal::BadSize,
         BuildFault::Full { need, have } => Refusal::Full(need, have),
         BuildFault::NoMemory => Refusal::NoMemory,
-        BuildFault::OtherLetters => Refusal::BadKind,
     }
 }
 

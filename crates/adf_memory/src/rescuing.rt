@@ -1,7 +1,6 @@
 // Rescues into the memory of the caller.
 
 ghost use Rattle.std.specs.Prelude.{◌≡◌, ◌≤◌, ◌*◌, ◌<◌, List, ℕ, IfErr, IfOk, OnErr, OnOk, length};
-ghost use Rattle.adf_base.specs.declared.hash.Letters.TheVariants.{Ascii};
 ghost use Rattle.adf_boot_blocks.specs.declared.boot.TheConstants.{BOOT_LEN};
 ghost use Rattle.adf_survey_cmd.specs.Subject.{subject, subject_value};
 ghost use Rattle.adf_memory.specs.Rescuing.{ExplainsRescue, HasRescue, IsPut, IsRoomRefusal, IsVolumeOf, Readies, RescueOf, asked_blocks, rescue_number, rescue_told, unrescued_refusal};
@@ -146,7 +145,6 @@ fn lay_in(
 
 // The refusal of a room that is smaller than the volume of a tree in so many blocks.
 fn small_room(tree: &Tree, blocks: u32) -> RescueRefusal
-    requires { tree.now.letters ≡ Ascii }
     ensures { (room : ℕ) → room < blocks * 512 → IsRoomRefusal tree.now blocks room result }
 {
     tree.bounds();

@@ -236,7 +236,7 @@ rescue_laid held a second allowed are more =
     let t : Tree = rescued_tree held a second in
     let n : ℕ = blocks a.image in
     let can : CanHold t n = record {
-      sound = record { letters = refl; tree = (tree_of_rescue held a second).tree; bounds = rescue_bounded held a second are more };
+      sound = record { tree = (tree_of_rescue held a second).tree; bounds = rescue_bounded held a second are more };
       allowed = allowed;
       room = rescue_fits held a second allowed;
     } in

@@ -2,7 +2,9 @@
 
 use crate::outcome::CallOutcome;
 use crate::tree_calls::meta;
+use adf_blocks::Cause;
 use adf_build::{BuildFault, build};
+use adf_findings::{Types, check_walk};
 use adf_tree::{AddFault, Body, Kind, Label, Letters, NO_STAMPS, Name, Node, Tree, TreeEntries};
 use std::alloc::Global;
 
@@ -66,7 +68,44 @@ fn add_byte(tree: &mut Tree, byte: u8) -> Option<Result<(), AddFault>> {
     Some(tree.add(&path, meta()?, Body::Dir))
 }
 
-/// 0xC9 beside 0xE9 in a tree of international letters, by which they are one name; no volume is built of such a tree.
+// The words of a volume of 16 blocks with a name 0xE9, behind its type: its header, block 2, is in slot (13 + 0xC9) % 72 = 70
+// of the root, and slot (13 + 0xE9) % 72 = 30 is empty. Each has its block, its number in the block, and its value.
+const LAID: [(usize, usize, u32); 3] = [(8, 6 + 70, 2), (8, 6 + 30, 0), (2, 108, 0x01E9_0000)];
+
+/// Kinds, and the first words of their volumes of international letters: `DOS` and 2 or 3.
+const TYPES: [(Kind, u32); 2] = [(Kind::Ofs, 0x444F_5302), (Kind::Ffs, 0x444F_5303)];
+
+// Whether an image has this word in a block.
+fn has_word(image: &[u8], block: usize, number: usize, word: u32) -> bool {
+    let at = block
+        .saturating_mul(512)
+        .saturating_add(number.saturating_mul(4));
+    image.get(at..at.saturating_add(4)) == Some(word.to_be_bytes().as_slice())
+}
+
+// Whether the volume of such a tree has this first word and those behind it.
+fn are_laid(image: &[u8], first: u32) -> bool {
+    for (block, number, word) in LAID {
+        if !has_word(image, block, number, word) {
+            return false;
+        }
+    }
+    has_word(image, 0, 0, first)
+}
+
+// Builds such a tree, and checks its volume, with this first word, along its walk.
+fn laid_outcome(alloc: Global, tree: &Tree, first: u32) -> CallOutcome {
+    let image = match build(alloc, tree, 16) {
+        Ok(image) => image,
+        Err(fault) => return CallOutcome::NoMemory.only_if(fault == BuildFault::NoMemory),
+    };
+    match check_walk(alloc, Types::WithInternational, &image) {
+        Ok(counts) => CallOutcome::Done.only_if(counts.dirs == 1 && are_laid(&image, first)),
+        Err(fault) => CallOutcome::NoMemory.only_if(fault.cause == Cause::NoMemory),
+    }
+}
+
+/// 0xC9 beside 0xE9 in a tree of international letters, by which they are one name; the tree is laid as types 2 and 3.
 pub fn tree_letters_outcome(alloc: Global) -> Option<CallOutcome> {
     let label = Label::new(b"Work")?;
     let mut tree = Tree::with_letters(alloc, Kind::Ffs, Letters::International, label, NO_STAMPS);
@@ -74,6 +113,12 @@ pub fn tree_letters_outcome(alloc: Global) -> Option<CallOutcome> {
         return Some(CallOutcome::NoMemory.only_if(fault == AddFault::NoMemory));
     }
     let refuses = add_byte(&mut tree, 0xC9)? == Err(AddFault::Exists) && tree.len() == 1;
-    let built = build(alloc, &tree, 16);
-    Some(CallOutcome::Done.only_if(refuses && built.err() == Some(BuildFault::OtherLetters)))
+    for (kind, first) in TYPES {
+        tree.set_kind(kind);
+        match laid_outcome(alloc, &tree, first) {
+            CallOutcome::Done => {}
+            outcome => return Some(outcome),
+        }
+    }
+    Some(CallOutcome::Done.only_if(refuses))
 }

@@ -1,5 +1,8 @@
 // Trees of images and of manifests.
 
+ghost use Rattle.std.specs.Prelude.{◌≡◌, IfOk};
+ghost use Rattle.adf_base.specs.declared.hash.Letters.TheVariants.{Ascii};
+
 use crate::questions::NOTHING;
 use adf_build::{BuildFault, build, need};
 use adf_check::check;
@@ -9,7 +12,9 @@ use adf_tree::{Body, Entry, Node, Tree};
 use std::alloc::Global;
 
 /// The tree of the lines of a manifest, told with ` | ` between them.
-pub fn tree_of_lines(alloc: Global, lines: &str) -> Result<Tree, RowError> {
+pub fn tree_of_lines(alloc: Global, lines: &str) -> Result<Tree, RowError>
+    ensures { IfOk result (λ tree. tree.letters ≡ Ascii) }
+{
     match read_manifest(alloc, &lines_text(alloc, lines)?) {
         Ok((tree, _)) => Ok(tree),
         Err(_) => Err(RowError::Refused),

@@ -5,6 +5,7 @@ use Rattle.std.proofs.Common.{inl, inr, ap, refl, subst, sym, length, replicate,
 use Rattle.std.proofs.lemmas.Bool.{and_parts, cond_both, leb-true}
 use Rattle.std.proofs.lemmas.Grind.{common_steps}
 use Rattle.std.proofs.lemmas.List.{length-set}
+use Rattle.adf_base.specs.declared.hash.Letters.TheVariants.{Ascii}
 use Rattle.adf_tree.specs.Tree.{Tree}
 use Rattle.adf_blocks.specs.Sizes.{blocks, is_allowed}
 use Rattle.adf_volume.specs.Fits.{Fits}
@@ -17,6 +18,7 @@ use Rattle.adf_boot_blocks.proofs.Restored.{front_are_bytes, front_begins, has_f
 use Rattle.adf_build.specs.Laid.{IsLaid}
 use Rattle.adf_build.specs.Plan.{planned}
 use Rattle.adf_build.proofs.LaidFits.{laid_fits}
+use Rattle.adf_build.proofs.WholeVolume.{fits_plain}
 use Rattle.adf_findings.specs.Survey.{FindingValue}
 use Rattle.adf_findings.specs.OwnKind.{is_mistyped, retyped}
 use Rattle.adf_rescue.specs.Rescue.{Basis, rescued_tree}
@@ -61,16 +63,17 @@ typed_length s t (w, fs, h, e) =
     (λ mistyped. length-set s.image 3 (slice_index s.image 3 - 1)) (λ typed. refl)
 
 -- a volume that is laid for a rescue, with the boot blocks of what was surveyed
-put_boots : (s : SubjectValue) (volume : List ℕ) (tree : Tree) → IsLaid volume tree → BOOT_LEN ≤ length s.image → AreBytes s.image
-    → begins_with_dos s.image ≡ true → HasBootOf s.image (restored volume (sized 2 s.image))
-put_boots s volume tree laid long bytes begins =
+put_boots : (s : SubjectValue) (volume : List ℕ) (tree : Tree) → IsLaid volume tree → tree.letters ≡ Ascii → BOOT_LEN ≤ length s.image
+    → AreBytes s.image → begins_with_dos s.image ≡ true → HasBootOf s.image (restored volume (sized 2 s.image))
+put_boots s volume tree laid letters long bytes begins =
     let same = two_blocks s.image long in
     let front : List ℕ = take BOOT_LEN s.image in
     let size : BOOT_LEN ≤ length front = subst (λ (bs : List ℕ). BOOT_LEN ≤ length bs) same (omega (arith, length_sized 2 s.image)) in
     let l : Layout = planned tree (blocks volume) in
     subst (λ (bs : List ℕ). HasBootOf s.image (restored volume bs)) (sym same)
     (has_front s.image (restored volume front)
-    (volume_has_boot volume front tree l (laid_fits volume tree laid) size (front_are_bytes s.image bytes) (front_begins s.image ∙ begins)))
+    (volume_has_boot volume front tree l (fits_plain letters (laid_fits volume tree laid)) size (front_are_bytes s.image bytes)
+    (front_begins s.image ∙ begins)))
 
 pub keeps_boot : (s : SubjectValue) (reply : Reply) → RescuesTyped s reply → reply.output ≢ [] → AreBytes s.image
     → begins_with_dos s.image ≡ true → HasBootOf s.image reply.output
@@ -81,4 +84,4 @@ keeps_boot s reply (t, typed, (w, fs, survey, (sound, marks, (b, second, inr (re
 keeps_boot s reply (t, typed, (w, fs, survey, (sound, marks, (b, second, inr (read, inr (stands, (volume, laid, size, e))))))) some bytes begins =
     let long : BOOT_LEN ≤ length s.image =
     omega (arith, long_enough volume (length s.image) laid.size (size ∙ ap (λ n. n / 512) (length_opened t.image ∙ typed_length s t typed))) in
-    subst (HasBootOf s.image) (sym (ap (λ (r : Reply). r.output) e)) (put_boots s volume _ laid long bytes begins)
+    subst (HasBootOf s.image) (sym (ap (λ (r : Reply). r.output) e)) (put_boots s volume _ laid refl long bytes begins)

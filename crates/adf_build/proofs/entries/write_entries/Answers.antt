@@ -16,7 +16,8 @@ loop-i-preserved c =
     let e : Entry = c.entry_at-entry.result.now in
     let split : drop i es ≡ e ∷ drop (i + 1) es = c.entry_at-entry.ensures in
     let skip : c.next_free-k.result ≡ k + entry_blocks kind e = rw c.kind-in-loop-i.ensures at c.next_free-k.ensures in
-    let slots = slots_are c.slots_between-slots.result nodes es (i + 1) (search rules) (λ s h. c.slots_between-slots.ensures s h
+    let slots = slots_are c.args.tree.now.letters c.slots_between-slots.result nodes es (i + 1) (search rules)
+    (λ s h. c.slots_between-slots.ensures s h
     ∙ ap (first_block (slice_index nodes)) (sym (c.loop-i.invariant.chains (i + 1) s (omega arith)))) in
     record {
       work = entry_step c.write_entry.new.image c.loop-i.image _ nodes c.slots_between-slots.result c.args.plan.blocks c.args.tree.now c.kind.result

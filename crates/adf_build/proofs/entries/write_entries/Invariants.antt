@@ -1,9 +1,9 @@
 use Rattle.std.proofs.Common.{◌≡◌, ◌≤◌, ◌+◌, ◌*◌, ℕ, length, drop}
-use Rattle.adf_volume.specs.Layout.{nodes_from}
+use Rattle.adf_volume.specs.Layout.{nodes_from_by}
 use Rattle.adf_build.specs.Laid.{entries_writes}
 use Rattle.adf_build.specs.Writes.{with_blocks}
 use Rattle.adf_build.specs.Plan.{entries_blocks}
-use Rattle.adf_build.specs.Order.{RisesFrom}
+use Rattle.adf_build.specs.Order.{RisesFromBy}
 use Rattle.adf_build.proofs.entries.write_entries.Given as goal
 
 abbrev pub invariant-loop-i : goal.invariant-loop-i
@@ -12,6 +12,7 @@ invariant-loop-i l = record {
       ≡ with_blocks l.initial.image (entries_writes l.plan.blocks l.tree 1 0 l.tree.entries);
   room : l.k + entries_blocks l.tree.kind (drop l.i l.tree.entries) ≡ entries_blocks l.tree.kind l.tree.entries;
   within : l.child ≤ length l.tree.entries;
-  low : RisesFrom (72 * (l.i + 1)) (drop l.child l.tree.entries);
-  chains : (q s : ℕ) → l.i + 1 ≤ q → nodes_from 1 l.tree.entries q s ≡ nodes_from (l.child + 1) (drop l.child l.tree.entries) q s;
+  low : RisesFromBy l.tree.letters (72 * (l.i + 1)) (drop l.child l.tree.entries);
+  chains : (q s : ℕ) → l.i + 1 ≤ q → nodes_from_by l.tree.letters 1 l.tree.entries q s
+      ≡ nodes_from_by l.tree.letters (l.child + 1) (drop l.child l.tree.entries) q s;
 }

@@ -10,6 +10,6 @@ write_the_root-requires-clause-slots c = grind (arith, common_steps, slots_are)
 pub returns : goal.returns
 returns c =
     volume_step c.put_block.new.image c.args.image.now c.write_entries.new.image c.write_pages.new.image c.write_map_exts.new.image
-    c.write_the_root.new.image c.boot_block.result c.args.tree.now c.args.plan.blocks c.args.total c.kind.result
-    c.requires.total c.kind.ensures c.boot_block.ensures c.write_entries.ensures c.write_pages.ensures c.write_map_exts.ensures
+    c.write_the_root.new.image c.boot_block.result c.args.tree.now c.args.plan.blocks c.args.total c.letters.result c.kind.result
+    c.requires.total c.letters.ensures c.kind.ensures c.boot_block.ensures c.write_entries.ensures c.write_pages.ensures c.write_map_exts.ensures
     c.write_the_root.ensures c.put_block.ensures

@@ -8,4 +8,4 @@ pub returns-in-Ok-clause-ends : goal.returns-in-Ok-clause-ends
 returns-in-Ok-clause-ends g c =
     let e = c.in-Ok.ensures in
     front_ends c.in-Err.fault _ (BuildsOrIsFull c.args.lines c.args.tree.now c.args.blocks) _ _ c.after_writing.ensures c.in-Err.ensures.failed
-    (_, inl (is_built _ _ _ e.bytes e.room e.laid e.fits, refl), rw (c.deref.ensures.value, e.bytes) at c.in-Err.ensures.err)
+    (_, inl (is_built _ _ _ e.bytes e.room e.laid c.requires.letters e.fits, refl), rw (c.deref.ensures.value, e.bytes) at c.in-Err.ensures.err)

@@ -9,4 +9,4 @@ returns-in-Ok-clause-laid c =
     let long : c.in-Ok.new.len ≡ length c.put_boot.new.image = omega (arith, other.long, c.deref_mut.ensures.len) in
     rw (whole_block c.in-Ok.new.len c.put_boot.new.image (drop (length c.put_boot.new.image) c.in-Ok.new.items) long)
     (laid_over c.args.tree.now c.args.blocks c.args.image.now c.in-Ok.new.items c.put_boot.new.image c.in-Ok.ensures.room c.in-Ok.ensures.bytes
-    c.in-Ok.ensures.fits other put)
+    c.requires.letters c.in-Ok.ensures.fits other put)

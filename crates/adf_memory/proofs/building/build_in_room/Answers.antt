@@ -30,4 +30,4 @@ returns-clause-fault c =
     rw c.refusal_by.ensures (build_refusal c.args.volume.now c.args.contents.now c.args.additions.now
     (length c.args.room.now) c.in_ok-tree.tree c.in-Err.fault
     (c.in_ok-tree.ensures.tree (new_tree c.args.volume.now) (c.in_ok-draft.ensures.draft c.args.contents.now))
-    c.in_ok-tree.ensures.letters sound c.in-Err.ensures.fault)
+    sound c.in-Err.ensures.fault)
