@@ -9,6 +9,7 @@ mod path_texts;
 mod short_text;
 #[cfg(test)]
 mod tests;
+mod volume_type;
 
 pub use crate::escapes::{digit_value, hex_digit, is_plain, spellings_decide};
 pub use crate::kind::Kind;
@@ -16,3 +17,4 @@ pub use crate::meta::{Meta, NO_STAMPS, Stamps};
 pub use crate::name::Name;
 pub use crate::path_texts::{PathFault, path_or_none, path_texts_decide, read_path, write_path};
 pub use crate::short_text::{Comment, Label, ShortText};
+pub use crate::volume_type::{kind_named_by, kind_text_by, kind_texts_decide};

@@ -8,10 +8,11 @@ use Rattle.std.specs.List.{list_all}
 use Rattle.std.proofs.lemmas.Int.{SFits-int_wrap, int_wrap_fits}
 use native.Mathlib.Decide.{dec_le, map_dec}
 use mathlib.Core.Logic.Dec.{and as dec_and}
+use Rattle.adf_base.specs.declared.hash.Letters.{Letters}
 use Rattle.adf_names.proofs.SomeSpellings.{Spells, spelt}
 use Rattle.adf_names.proofs.Spellings.{only_spelled}
 use Rattle.adf_names.specs.Escapes.{IsSpelling}
-use Rattle.adf_names.specs.Kinds.{kind_named}
+use Rattle.adf_names.specs.VolumeTypes.{kind_named_by}
 use Rattle.adf_names.specs.Texts.{is_name_byte}
 use Rattle.adf_names.specs.declared.kind.Kind.{Kind}
 use Rattle.adf_partitions.proofs.NamedPartitions.{none_or_some}
@@ -21,7 +22,8 @@ use Rattle.adf_partitions.specs.declared.plan_line.Options.{Options}
 use Rattle.adf_partitions.specs.declared.plan_text.TextKind.TheVariants.{BadLine, NoEnd, TooLarge}
 use Rattle.adf_partitions.specs.Plans.{PlanValue}
 use Rattle.adf_partitions.specs.PlanTexts.{AreLines, HasLines, HasPlanOrFault, IsDiskLine, IsPartitionLine, IsPartitionText, Stops}
-use Rattle.adf_partitions.specs.PlanTexts.{behind_line, behind_word, ends_in_space, first_line, first_word, has_word, is_end, is_plan, number_of, options_in}
+use Rattle.adf_partitions.specs.PlanTexts.{behind_line, behind_word, ends_in_space, first_line, first_word, has_word, is_end, is_plan, kind_word, number_of}
+use Rattle.adf_partitions.specs.PlanTexts.{options_in}
 use Rattle.adf_partitions.specs.PlanTexts.{options_of}
 
 -- whether two truth values are equal
@@ -63,14 +65,22 @@ dec_fits z =
     map_dec (λ (e : int_wrap w8 z ≡ z). subst (FitsSigned w8) e (SFits-int_wrap w8 z)) (λ (f : FitsSigned w8 z). int_wrap_fits w8 z f)
     (ℤ_discrete (int_wrap w8 z) z)
 
-abbrev pub made : List ℕ → Kind → ℕ → Options → PartitionPlan
-made name kind cylinders o = record { name = name; kind = kind; cylinders = cylinders; bootable = o.bootable; priority = o.priority; given = o.given }
+abbrev pub made : List ℕ → Kind × Letters → ℕ → Options → PartitionPlan
+made name kind cylinders o = record {
+  name = name;
+  kind = kind.0;
+  letters = kind.1;
+  cylinders = cylinders;
+  bootable = o.bootable;
+  priority = o.priority;
+  given = o.given;
+}
 
 -- the words behind `partition` are those of a partition, or of none
 partition_text : (t : List ℕ) → ((p : PartitionPlan) × IsPartitionText t p) ⊎ ((p : PartitionPlan) → ¬ IsPartitionText t p)
 partition_text t = elim (some_name (first_word t)) [
   | inr none ↦ inr (λ p is. none p.name (is.name, is.some, is.bytes))
-  | inl name ↦ elim (none_or_some (kind_named (first_word (behind_word t)))) [
+  | inl name ↦ elim (none_or_some (kind_named_by (kind_word t))) [
     | inl none ↦ inr (λ p is. let e = is.kind in absurd cc)
     | inr kind ↦ elim (none_or_some (number_of (first_word (behind_word (behind_word t))))) [
       | inl none ↦ inr (λ p is. let e = is.cylinders in absurd cc)
@@ -85,7 +95,7 @@ partition_text t = elim (some_name (first_word t)) [
   ]
 ]
   where
-    of_words : (name : (n : List ℕ) × IsDriveName (first_word t) n) (kind : (x : Kind) × (kind_named (first_word (behind_word t)) ≡ Some x))
+    of_words : (name : (n : List ℕ) × IsDriveName (first_word t) n) (kind : (x : Kind × Letters) × (kind_named_by (kind_word t) ≡ Some x))
         (cylinders : (n : ℕ) × (number_of (first_word (behind_word (behind_word t))) ≡ Some n))
         (options : (o : Options) × (options_of (behind_word (behind_word (behind_word t))) ≡ Some o))
         → (1 ≤ cylinders.0) × FitsSigned w8 options.0.priority → IsPartitionText t (made name.0 kind.0 cylinders.0 options.0)

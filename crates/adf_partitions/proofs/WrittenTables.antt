@@ -9,6 +9,7 @@ use Rattle.std.proofs.lemmas.Grind.{common_steps}
 use Rattle.adf_base.specs.Words.{word}
 use Rattle.adf_blocks.specs.Fields.{Descends}
 use Rattle.adf_blocks.specs.Forms.{text_at}
+use Rattle.adf_base.specs.declared.hash.Letters.{TheVariants.Ascii, TheVariants.International, Letters}
 use Rattle.adf_names.specs.declared.kind.Kind.{TheVariants.Ofs, TheVariants.Ffs, Kind}
 use Rattle.adf_partitions.specs.declared.layout.TheConstants.{BLOCK_BYTES, BLOCK_SECTORS, BOOT_PRIORITY, BOOTABLE, DOS_TYPE, DRIVE_NAME, ENV_BLOCK_WORDS}
 use Rattle.adf_partitions.specs.declared.layout.TheConstants.{ENV_LENGTH, FIRST_PART, FLAGS, HIGH_CYLINDER, HIGHEST_TABLE, LOW_CYLINDER, LOWEST_TABLE, MARK}
@@ -76,9 +77,11 @@ unsigned_fits (negsuc n) f = omega (arith, f.sfits)
 positive : (c : ℕ) → 1 ≤ c → (true && not (c == 0)) ≡ true
 positive c h = grind (arith, nat_tests)
 
-types_fit : (k : Kind) → planned_type k < 2 ^ 32
-types_fit Ofs = omega arith
-types_fit Ffs = omega arith
+types_fit : (letters : Letters) (k : Kind) → planned_type letters k < 2 ^ 32
+types_fit Ascii Ofs = omega arith
+types_fit Ascii Ffs = omega arith
+types_fit International Ofs = omega arith
+types_fit International Ffs = omega arith
 
 flags_fit : (b : Bool) → (if b then BOOTABLE else 0) < 2 ^ 32
 flags_fit true = omega arith
@@ -158,10 +161,10 @@ module _ (plan : PlanValue) (h : IsPlan plan) (b low : ℕ) (p : PartitionPlan) 
   part-high = word_written (part_table plan b low p) part_descends ENV_LENGTH 10 (environment plan low p) (search rules) (omega arith) (omega arith)
       (omega (arith, within, cylinders_fit plan h))
 
-  pub part-type : word (part_block plan b low p) DOS_TYPE ≡ planned_type p.kind
+  pub part-type : word (part_block plan b low p) DOS_TYPE ≡ planned_type p.letters p.kind
   unfolding part_block
   part-type = word_written (part_table plan b low p) part_descends ENV_LENGTH 16 (environment plan low p)
-      (search rules) (omega arith) (omega arith) (types_fit p.kind)
+      (search rules) (omega arith) (omega arith) (types_fit p.letters p.kind)
 
   pub part_priority : cast_signed w32 (word (part_block plan b low p) BOOT_PRIORITY) ≡ p.priority
   unfolding part_block

@@ -8,7 +8,7 @@ use Rattle.std.specs.List.{list_all}
 use Rattle.std.specs.Str.{bytes_eq}
 use Rattle.adf_blocks.specs.Sizes.{is_allowed}
 use Rattle.adf_names.specs.Escapes.{IsSpelling}
-use Rattle.adf_names.specs.Kinds.{kind_named}
+use Rattle.adf_names.specs.VolumeTypes.{kind_named_by}
 use Rattle.adf_names.specs.Texts.{is_name_byte}
 use Rattle.adf_partitions.specs.declared.layout.TheConstants.{MOST_PARTITIONS}
 use Rattle.adf_partitions.specs.declared.plan.PartitionPlan.{PartitionPlan}
@@ -98,10 +98,14 @@ options_of text =
 abbrev pub options_in : PartitionPlan → Options
 options_in p = record { bootable = p.bootable; priority = p.priority; given = p.given }
 
+-- the word for the kind, behind the name
+abbrev pub kind_word : List ℕ → List ℕ
+kind_word text = first_word (behind_word text)
+
 -- NAME KIND CYLINDERS, and options
 pub record IsPartitionText (text : List ℕ) (p : PartitionPlan) : Type 0 where
   pub name : IsSpelling 31 (first_word text) p.name
-  pub kind : kind_named (first_word (behind_word text)) ≡ Some p.kind
+  pub kind : kind_named_by (kind_word text) ≡ Some (p.kind, p.letters)
   pub cylinders : number_of (first_word (behind_word (behind_word text))) ≡ Some p.cylinders
   pub options : options_of (behind_word (behind_word (behind_word text))) ≡ Some (options_in p)
   pub some : 1 ≤ length p.name

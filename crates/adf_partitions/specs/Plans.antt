@@ -2,6 +2,8 @@
 use Rattle.std.specs.Prelude.{◌≡◌, ◌≤◌, ◌<◌, ◌+◌, ◌*◌, ◌/◌, ◌^◌, ℕ, true, List, [], ◌∷◌, All, IfOk, None, Ok, length, slice_range, FitsSigned, if◌then◌else◌}
 use Rattle.std.specs.Int.{w8}
 use Rattle.std.specs.List.{list_all}
+use Rattle.adf_base.specs.declared.hash.Letters.{Letters}
+use Rattle.adf_base.specs.declared.hash.Letters.TheVariants.{Ascii, International}
 use Rattle.adf_names.specs.Texts.{is_name_byte}
 use Rattle.adf_names.specs.declared.kind.Kind.{Kind}
 use Rattle.adf_names.specs.declared.kind.Kind.TheVariants.{Ofs, Ffs}
@@ -21,10 +23,12 @@ pub record PlanValue : Type 0 where
 abbrev pub plan_value : DiskPlan → PlanValue
 plan_value plan = record { sectors = plan.sectors; heads = plan.heads; partitions = plan.partitions.items }
 
--- the type of a file system: `DOS\0` or `DOS\1`
-abbrev pub planned_type : Kind → ℕ
-planned_type Ofs = 0x444F5300
-planned_type Ffs = 0x444F5301
+-- the type of a file system: `DOS\0` or `DOS\1`, and `DOS\2` or `DOS\3` where names have international letters
+abbrev pub planned_type : Letters → Kind → ℕ
+planned_type Ascii Ofs = 0x444F5300
+planned_type Ascii Ffs = 0x444F5301
+planned_type International Ofs = 0x444F5302
+planned_type International Ffs = 0x444F5303
 
 -- the flags of a partition
 abbrev pub planned_flags : PartitionPlan → ℕ
@@ -74,7 +78,7 @@ planned_partition c b low p = record {
   name = p.name;
   flags = planned_flags p;
   priority = p.priority;
-  dos_type = planned_type p.kind;
+  dos_type = planned_type p.letters p.kind;
   reserved = 2;
   place = Ok (blocks_from (low * c) (p.cylinders * c));
   fault = None;

@@ -56,7 +56,7 @@ part_words plan b p = PART ∷ WRITTEN_LONGS ∷ 0 ∷ 7 ∷ block_after (length
 abbrev pub environment : PlanValue → ℕ → PartitionPlan → List ℕ
 environment plan low p =
     16 ∷ 128 ∷ 0 ∷ plan.heads ∷ 1 ∷ plan.sectors ∷ 2 ∷ 0 ∷ 0 ∷ low ∷ (low + p.cylinders - 1) ∷ 30 ∷ 0 ∷ 0x1FE00 ∷ 0xFFFFFFFE
-    ∷ cast_unsigned w32 p.priority ∷ planned_type p.kind ∷ []
+    ∷ cast_unsigned w32 p.priority ∷ planned_type p.letters p.kind ∷ []
 
 -- the fields of a partition block and their offsets, the last first
 abbrev pub part_table : PlanValue → ℕ → ℕ → PartitionPlan → List Field

@@ -37,7 +37,9 @@ pub use crate::names::are_same;
 pub use crate::partition::{DriveName, Partition};
 pub use crate::place::{Place, PlaceFault, stated_place};
 pub use crate::plan::{DiskPlan, PartitionPlan, cylinder_blocks};
-pub use crate::plan_text::{TextFault, TextKind, one_text, read_plan, some_text};
+pub use crate::plan_text::{
+    TextFault, TextKind, kind_words_tell_types, one_text, read_plan, some_text,
+};
 pub use crate::plan_words::{cut, cut_line};
 pub use crate::search::readable_partitions;
 pub use crate::tables::{Tables, read_tables};

@@ -5,6 +5,7 @@ ghost use Rattle.adf_partitions.specs.Plans.{IsPlan, cylinder_blocks, planned_cy
 
 use crate::layout::BOOTABLE;
 use crate::partition::DriveName;
+use adf_base::Letters;
 use adf_names::Kind;
 
 /// A partition to be made.
@@ -12,6 +13,8 @@ use adf_names::Kind;
 pub struct PartitionPlan {
     pub name: DriveName,
     pub kind: Kind,
+    /// The letters of which case is ignored in the names of its volume.
+    pub letters: Letters,
     pub cylinders: u32,
     pub bootable: bool,
     pub priority: i8,
@@ -28,13 +31,15 @@ pub struct DiskPlan {
     pub partitions: Vec<PartitionPlan>,
 }
 
-/// The type of a file system.
-pub fn planned_type(kind: Kind) -> u32
-    ensures { result ≡ planned_type kind }
+/// The type of a file system of this kind whose names have these letters.
+pub fn planned_type(letters: Letters, kind: Kind) -> u32
+    ensures { result ≡ planned_type letters kind }
 {
-    match kind {
-        Kind::Ofs => 0x444F_5300,
-        Kind::Ffs => 0x444F_5301,
+    match (letters, kind) {
+        (Letters::Ascii, Kind::Ofs) => 0x444F_5300,
+        (Letters::Ascii, Kind::Ffs) => 0x444F_5301,
+        (Letters::International, Kind::Ofs) => 0x444F_5302,
+        (Letters::International, Kind::Ffs) => 0x444F_5303,
     }
 }
 

@@ -2,7 +2,6 @@
 
 ghost use Rattle.std.specs.Prelude.{◌≡◌, ◌≤◌, IfNone, IfSome, List, length, true, ℕ};
 ghost use Rattle.adf_names.specs.Escapes.{IsSpelling};
-ghost use Rattle.adf_names.specs.Kinds.{kind_named};
 ghost use Rattle.adf_names.specs.Texts.{is_name_byte};
 ghost use Rattle.std.specs.List.{list_all};
 ghost use Rattle.adf_partitions.specs.Plans.{IsPartitionPlan};
@@ -12,7 +11,7 @@ ghost use Rattle.adf_partitions.specs.declared.plan.PartitionPlan.{PartitionPlan
 use crate::partition::{DriveName, are_name_bytes};
 use crate::plan::PartitionPlan;
 use crate::plan_words::{cut, ends_in_space, read_number, read_priority};
-use adf_names::Kind;
+use adf_names::kind_named_by;
 
 /// What stands behind the cylinders of a partition.
 #[derive(Clone, Copy, Debug)]
@@ -67,19 +66,6 @@ fn read_options(text: &[u8]) -> Option<Options>
     }
 }
 
-// The kind that a word names.
-fn read_kind(word: &[u8]) -> Option<Kind>
-    ensures { result ≡ kind_named word.now }
-{
-    if word == b"ofs".as_slice() {
-        Some(Kind::Ofs)
-    } else if word == b"ffs".as_slice() {
-        Some(Kind::Ffs)
-    } else {
-        None
-    }
-}
-
 #[tactic(auto, using(adf_names::proofs::Spellings::only_spelled))]
 // The name of a drive, 1 to 31 bytes, none of them `/` or `:`.
 fn read_name(word: &[u8]) -> Option<DriveName>
@@ -108,7 +94,7 @@ fn read_words(text: &[u8]) -> Option<PartitionPlan>
     let (kind, rest) = cut(rest, b' ');
     let (cylinders, rest) = cut(rest, b' ');
     let name = read_name(name)?;
-    let kind = read_kind(kind)?;
+    let (kind, letters) = kind_named_by(kind)?;
     let cylinders = read_number(cylinders)?;
     let Options {
         bootable,
@@ -121,6 +107,7 @@ fn read_words(text: &[u8]) -> Option<PartitionPlan>
     Some(PartitionPlan {
         name,
         kind,
+        letters,
         cylinders,
         bootable,
         priority,

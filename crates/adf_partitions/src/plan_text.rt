@@ -2,12 +2,15 @@
 
 ghost use Rattle.std.specs.Prelude.{◌≡◌, ◌≢◌, ◌≤◌, ◌^◌, ℕ, List, IfErr, IfOk, OnErr, bytes_eq, codes, length, nat_lt};
 ghost use Rattle.std.specs.List.{list_all};
-ghost use Rattle.adf_partitions.specs.Plans.{IsPlan, cylinder_blocks, plan_value, planned_blocks};
+ghost use Rattle.adf_names.specs.VolumeTypes.{kind_text_by};
+ghost use Rattle.adf_partitions.specs.Plans.{IsPlan, cylinder_blocks, plan_value, planned_blocks, planned_type};
 ghost use Rattle.adf_partitions.specs.FaultTexts.{text_kind_text};
-ghost use Rattle.adf_partitions.specs.PlanTexts.{AreLines, HasBegun, HasPartition, HasPlanOrFault, IsText, IsTextFault};
+ghost use Rattle.adf_partitions.specs.PlanTexts.{AreLines, HasBegun, HasPartition, HasPlanOrFault, IsPartitionText, IsText};
+ghost use Rattle.adf_partitions.specs.PlanTexts.{IsTextFault};
 ghost use Rattle.adf_partitions.specs.PlanTexts.{PlansHaveNoFault, Stops, TextsHaveOneFault, TextsHaveOnePlan};
-ghost use Rattle.adf_partitions.specs.PlanTexts.{has_volume, is_end, is_plan};
+ghost use Rattle.adf_partitions.specs.PlanTexts.{has_volume, is_end, is_plan, kind_word};
 ghost use Rattle.adf_partitions.specs.declared.layout.TheConstants.{MOST_PARTITIONS};
+ghost use Rattle.adf_partitions.specs.declared.plan.PartitionPlan.{PartitionPlan};
 ghost use Rattle.adf_partitions.specs.declared.plan_text.TextKind.{TextKind};
 
 use crate::layout::MOST_PARTITIONS;
@@ -170,8 +173,8 @@ pub fn is_plan(plan: &DiskPlan) -> bool
 
 /// Reads the text of a plan, whose lines end in a line feed, with one space between their words: a line `disk SECTORS HEADS`,
 /// a line `partition NAME KIND CYLINDERS` for each partition, perhaps with `bootable`, `priority P` and `given` behind it in
-/// this order, and a line `end`. Returns the plan, and the bytes behind the text. A number is at most 1,048,576, P is -128 to
-/// 127.
+/// this order, and a line `end`. Returns the plan, and the bytes behind the text. KIND is `ofs` or `ffs`, or one of these with
+/// `-international` behind it. A number is at most 1,048,576, P is -128 to 127.
 ///
 /// The first line with a fault; `NoMemory`, at line 0, if an allocation fails, which can happen only if a line of a partition
 /// stands behind the first.
@@ -213,6 +216,14 @@ pub fn read_plan(alloc: Global, text: &[u8]) -> Result<(DiskPlan, &[u8]), TextFa
 /// Every text has a plan, or a fault.
 pub fn some_text()
     ensures { (text : List ℕ) → HasPlanOrFault text }
+{}
+
+/// The line of a partition has the word for its kind and letters, and partitions of one type have the same.
+pub fn kind_words_tell_types()
+    ensures word { (text : List ℕ) (p : PartitionPlan) → IsPartitionText text p
+        → kind_word text ≡ kind_text_by p.letters p.kind }
+    ensures types { (p q : PartitionPlan) → planned_type p.letters p.kind ≡ planned_type q.letters q.kind
+        → (p.letters ≡ q.letters) × (p.kind ≡ q.kind) }
 {}
 
 /// A text has one plan, or one first fault.

@@ -103,7 +103,7 @@ fn part_bytes(plan: &DiskPlan, b: u32, low: u32, partition: &PartitionPlan) -> [
     let next = block_after(plan.partitions.len() as u32, b);
     let high = low + (partition.cylinders - 1);
     let priority = i32::from(partition.priority).cast_unsigned();
-    let dos_type = planned_type(partition.kind);
+    let dos_type = planned_type(partition.letters, partition.kind);
     let mut block = [0u8; 512];
     put_words(
         &mut block,

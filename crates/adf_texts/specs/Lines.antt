@@ -2,8 +2,8 @@
 use Rattle.std.specs.Prelude.{ℕ, List, [], ◌∷◌, ◌++◌, codes}
 use Rattle.std.specs.Fmt.{decimal}
 use Rattle.adf_base.specs.declared.hash.Letters.{Letters}
-use Rattle.adf_base.specs.declared.hash.Letters.TheVariants.{Ascii, International}
-use Rattle.adf_names.specs.Kinds.{kind_text}
+use Rattle.adf_base.specs.declared.hash.Letters.TheVariants.{Ascii}
+use Rattle.adf_names.specs.VolumeTypes.{kind_text_by}
 use Rattle.adf_manifest.specs.Kinds.{manifest_fault_text}
 use Rattle.adf_manifest.specs.Texts.{hex_word}
 use Rattle.adf_manifest.specs.declared.manifest.ManifestFault.{ManifestFault}
@@ -12,16 +12,11 @@ use Rattle.adf_build.specs.Building.{full_text}
 use Rattle.adf_volume.specs.Fault.{fault_text}
 use Rattle.adf_volume.specs.declared.fault.Fault.{Fault}
 
--- the letters of a volume, told behind its kind
-abbrev pub letters_text : Letters → List ℕ
-letters_text Ascii = []
-letters_text International = codes "-international"
-
 -- the line of a sound volume with these letters
 abbrev pub ok_line_by : Letters → Counts → List ℕ
-ok_line_by letters c = codes "ok " ++ (kind_text c.kind ++ (letters_text letters ++ (codes " blocks " ++ (decimal
-    c.blocks ++ (codes " used " ++ (decimal c.used ++ (codes " free " ++ (decimal c.free
-    ++ (codes " dirs " ++ (decimal c.dirs ++ (codes " files " ++ (decimal c.files ++ codes "\n"))))))))))))
+ok_line_by letters c = codes "ok " ++ (kind_text_by letters c.kind ++ (codes " blocks " ++ (decimal c.blocks
+    ++ (codes " used " ++ (decimal c.used ++ (codes " free " ++ (decimal c.free
+    ++ (codes " dirs " ++ (decimal c.dirs ++ (codes " files " ++ (decimal c.files ++ codes "\n")))))))))))
 
 -- the line of `check`
 abbrev pub ok_line : Counts → List ℕ

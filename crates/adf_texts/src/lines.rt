@@ -1,25 +1,16 @@
 // The output lines of the commands.
 
 ghost use Rattle.std.specs.Prelude.{◌≡◌, ◌++◌, OnOk, string_bytes};
-ghost use Rattle.adf_texts.specs.Lines.{fault_line, full_line, letters_text, manifest_fault_line, ok_line, ok_line_by, word_line};
+ghost use Rattle.adf_texts.specs.Lines.{fault_line, full_line, manifest_fault_line, ok_line, ok_line_by, word_line};
 
 use crate::digits::{push_hex, push_number};
 use adf_base::Letters;
 use adf_build::BuildFault;
 use adf_manifest::ManifestFault;
+use adf_names::kind_text_by;
 use adf_volume::{Counts, Fault};
 use std::alloc::AllocError;
 use std::fmt;
-
-// What is told of letters behind a kind: nothing of those of ASCII.
-fn letters_text(letters: Letters) -> &'static str
-    ensures { result.now ≡ letters_text letters }
-{
-    match letters {
-        Letters::Ascii => "",
-        Letters::International => "-international",
-    }
-}
 
 /// Appends the line of a sound volume with these letters.
 pub fn push_counts_by(
@@ -29,8 +20,7 @@ pub fn push_counts_by(
 ) -> Result<(), AllocError>
     ensures { OnOk result (string_bytes text.new ≡ string_bytes text.old ++ ok_line_by letters counts.now) }
 {
-    let kind = counts.kind;
-    let letters = letters_text(letters);
+    let kind = kind_text_by(letters, counts.kind);
     let blocks = counts.blocks;
     let used = counts.used;
     let free = counts.free;
@@ -38,7 +28,7 @@ pub fn push_counts_by(
     let files = counts.files;
     write!(
         text,
-        "ok {kind}{letters} blocks {blocks} used {used} free {free} dirs {dirs} files {files}\n"
+        "ok {kind} blocks {blocks} used {used} free {free} dirs {dirs} files {files}\n"
     )
 }
 

@@ -1,0 +1,21 @@
+-- The words for types of volumes: for a kind, and for the letters of which case is ignored in names.
+use Rattle.std.specs.Prelude.{ℕ, List, ◌++◌, codes, Option, Some, None, if◌then◌else◌}
+use Rattle.std.specs.Str.{bytes_eq}
+use Rattle.adf_base.specs.declared.hash.Letters.{Letters}
+use Rattle.adf_base.specs.declared.hash.Letters.TheVariants.{Ascii, International}
+use Rattle.adf_names.specs.Kinds.{kind_text}
+use Rattle.adf_names.specs.declared.kind.Kind.{Kind}
+use Rattle.adf_names.specs.declared.kind.Kind.TheVariants.{Ofs, Ffs}
+
+-- the word for a kind and these letters
+abbrev pub kind_text_by : Letters → Kind → List ℕ
+kind_text_by Ascii kind = kind_text kind
+kind_text_by International kind = kind_text kind ++ codes "-international"
+
+-- the kind and the letters that a word names
+abbrev pub kind_named_by : List ℕ → Option (Kind × Letters)
+kind_named_by t =
+    if bytes_eq t (kind_text_by Ascii Ofs) then Some (Ofs, Ascii)
+    else (if bytes_eq t (kind_text_by Ascii Ffs) then Some (Ffs, Ascii)
+    else (if bytes_eq t (kind_text_by International Ofs) then Some (Ofs, International)
+    else (if bytes_eq t (kind_text_by International Ffs) then Some (Ffs, International) else None)))
