@@ -1,11 +1,12 @@
 // The headers of directories and files: reader.
 
 ghost use Rattle.std.specs.Prelude.{◌≡◌, ◌≤◌, ◌<◌, ◌+◌, ◌-◌, ◌==◌, true, slice_index};
-ghost use Rattle.adf_base.specs.Hash.{slot_of};
+ghost use Rattle.adf_base.specs.Hash.{slot_by};
 ghost use Rattle.adf_base.specs.Words.{word};
 ghost use Rattle.adf_blocks.specs.Forms.{ReadsForm, stamp_at, text_at};
 ghost use Rattle.adf_blocks.specs.declared.layout.TheConstants.{COMMENT};
-ghost use Rattle.adf_blocks.specs.HeadBlock.{body_at, IsHead, has_first, has_type, head_form, is_entry, is_link, is_name_at, meta_at, meta_stated};
+ghost use Rattle.adf_blocks.specs.HeadBlock.{body_at, IsHead, has_first, has_type, head_form, head_form_by, is_entry, is_link};
+ghost use Rattle.adf_blocks.specs.HeadBlock.{is_name_at, meta_at, meta_stated};
 
 use crate::cause::Cause;
 use crate::fields::stamp_in;
@@ -14,7 +15,7 @@ use crate::layout::{
     PARENT, POINTERS, PROTECTION, SECONDARY_TYPE, SIZE, SLOTS, ST_DIR, ST_FILE, ST_LINK_DIR,
     ST_LINK_FILE, ST_SOFT_LINK, T_SHORT, TYPE,
 };
-use adf_base::{Block, slot as slot_of_name};
+use adf_base::{Block, Letters, slot_by};
 use adf_names::{Comment, Kind, Meta, Name};
 use std::marker::Model;
 
@@ -33,6 +34,16 @@ impl<'a> Model for Head<'a> {
     ghost view = { λ h. h.block };
 
     ghost invariant = { λ h. IsHead h.block };
+}
+
+/// Where a header stands: its own block, the block of its directory, and the slot there that its name hashes to by these
+/// letters.
+#[derive(Clone, Copy, Debug, PartialEq, Eq)]
+pub struct HeadPlace {
+    pub own: u32,
+    pub parent: u32,
+    pub letters: Letters,
+    pub slot: u8,
 }
 
 /// The part of a header that depends on its secondary type.
@@ -105,13 +116,13 @@ fn name_holds(b: &Block<'_>) -> bool
     len <= 30 && Name::is_name(b.bytes(NAME + 1, len))
 }
 
-// Whether the name hashes to this slot.
-fn slot_holds(b: &Block<'_>, slot: u8) -> bool
+// Whether the name hashes to this slot by these letters.
+fn slot_holds(b: &Block<'_>, letters: Letters, slot: u8) -> bool
     requires { is_name_at b.now NAME ≡ true }
-    ensures { result ≡ (slot_of (text_at b.now NAME) == slot) }
+    ensures { result ≡ (slot_by letters (text_at b.now NAME) == slot) }
 {
     let len = b.byte(NAME) as usize;
-    slot_of_name(b.bytes(NAME + 1, len)) == slot
+    slot_by(letters, b.bytes(NAME + 1, len)) == slot
 }
 
 // Whether word 4 is the first data block; true if the file is not OFS or is empty.
@@ -128,7 +139,8 @@ fn first_holds(b: &Block<'_>, kind: Kind) -> bool
     }
 }
 
-/// Reads a block as the header `own`, in the chain of slot `slot` of the directory whose block is `parent`.
+/// Reads a block as the header `own`, in the chain of slot `slot` of the directory whose block is `parent`, on a volume
+/// of type 0 or 1.
 ///
 /// The first cause that applies: `BadSum`; `BadType` if word 0 is not 2, or word 127 is not one of 2, -3, 3, 4 and -4;
 /// `Link` if word 127 is 3, 4 or -4; `BadOwnKey` if word 1 is not `own`; `BadParent` if word 125 is not `parent`;
@@ -144,6 +156,21 @@ pub fn read_head<'a>(
 ) -> Result<Head<'a>, Cause>
     ensures { ReadsForm (head_form kind own parent slot b.entry) (λ h. h ≡ b.entry) result }
 {
+    let place = HeadPlace {
+        own,
+        parent,
+        letters: Letters::Ascii,
+        slot,
+    };
+    read_head_at(b, kind, place)
+}
+
+/// Reads a block as the header of this place. The causes are those of `read_head`; the name's hash is that of the
+/// place's letters.
+pub fn read_head_at<'a>(b: Block<'a>, kind: Kind, place: HeadPlace) -> Result<Head<'a>, Cause>
+    ensures { ReadsForm (head_form_by place.letters kind place.own place.parent place.slot b.entry)
+        (λ h. h ≡ b.entry) result }
+{
     if b.long_sum() != 0 {
         return Err(Cause::BadSum);
     }
@@ -153,10 +180,10 @@ pub fn read_head<'a>(
     if tells_link(b.word(SECONDARY_TYPE)) {
         return Err(Cause::Link);
     }
-    if b.word(OWN_KEY) != own {
+    if b.word(OWN_KEY) != place.own {
         return Err(Cause::BadOwnKey);
     }
-    if b.word(PARENT) != parent {
+    if b.word(PARENT) != place.parent {
         return Err(Cause::BadParent);
     }
     if !name_holds(&b) {
@@ -165,7 +192,7 @@ pub fn read_head<'a>(
     if b.byte(COMMENT) > 79 {
         return Err(Cause::BadComment);
     }
-    if !slot_holds(&b, slot) {
+    if !slot_holds(&b, place.letters, place.slot) {
         return Err(Cause::WrongSlot);
     }
     if !first_holds(&b, kind) {

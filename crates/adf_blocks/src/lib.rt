@@ -18,7 +18,9 @@ mod sizes;
 pub use crate::cause::Cause;
 pub use crate::data::{DataOut, has_data_words, read_data, write_data, written_data_are_read};
 pub use crate::ext::{Ext, ExtOut, has_ext_type, read_ext, write_ext, written_exts_are_read};
-pub use crate::head::{Head, HeadBody, has_head_type, meta_stated, read_head};
+pub use crate::head::{
+    Head, HeadBody, HeadPlace, has_head_type, meta_stated, read_head, read_head_at,
+};
 pub use crate::head_out::{HeadOut, HeadOutBody, write_head, written_heads_are_read};
 pub use crate::layout::{
     BITMAP_FLAG, DATA_BYTES, DATA_HEAD, DATA_HELD, DATA_NEXT, DATA_NUMBER, DATA_ROOM, EXTENSION,

@@ -27,7 +27,6 @@ pub mod JudgementTests
 pub mod CleanParts
 pub mod Names
 -- the form of a header by the letters of a volume
-pub mod HeadSlots
 pub mod WalkOwners
 pub mod Taking
 pub mod Keys

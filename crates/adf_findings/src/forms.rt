@@ -1,10 +1,8 @@
 // The forms of parts.
 
 ghost use Rattle.std.specs.Prelude.{◌≡◌, ◌<◌, ◌≤◌, ◌==◌, ◌&&◌, true};
-ghost use Rattle.adf_base.specs.Hash.{slot_by, slot_of};
 ghost use Rattle.adf_base.specs.Words.{block, word};
-ghost use Rattle.adf_blocks.specs.Forms.{first_cause, text_at};
-ghost use Rattle.adf_blocks.specs.HeadBlock.{is_name_at};
+ghost use Rattle.adf_blocks.specs.Forms.{first_cause};
 ghost use Rattle.adf_blocks.specs.Sizes.{blocks, chunk};
 ghost use Rattle.adf_volume.specs.Image.{held, kind_of};
 ghost use Rattle.adf_findings.specs.Demands.{head_form_in};
@@ -13,16 +11,13 @@ ghost use Rattle.adf_findings.specs.Parts.{role_of};
 
 use crate::image::Image;
 use crate::part::Part;
-use adf_base::{Block, Letters, slot as slot_of_name, slot_by};
+use adf_base::Block;
 use adf_blocks::{
-    Cause, NAME, OWN_KEY, PARENT, SIZE, SLOTS, T_DATA, TYPE, chunk_len, has_data_words,
-    has_ext_type, has_head_type, read_data, read_ext, read_head, read_page,
+    Cause, HeadPlace, OWN_KEY, PARENT, SIZE, T_DATA, TYPE, chunk_len, has_data_words, has_ext_type,
+    has_head_type, read_data, read_ext, read_head_at, read_page,
 };
 use adf_tree::Kind;
 use adf_volume::held_in;
-
-// A number that is no slot.
-const NO_SLOT: u8 = SLOTS as u8;
 
 /// The context of a part: the block of its directory or of its file's header, and the next data block.
 #[derive(Clone, Copy, PartialEq, Eq, Drop)]
@@ -49,33 +44,19 @@ fn cause_of_data(image: &Image<'_>, number: u32, b: u32, context: Context) -> Op
     }
 }
 
-// The slot to ask `read_head` for, which hashes names by ASCII letters: that of the name if its slot by these letters
-// is the wanted one, otherwise one that no name has.
-fn slot_asked(letters: Letters, b: &Block<'_>, slot: u8) -> u8
-    ensures { is_name_at b.now NAME ≡ true → (slot_of (text_at b.now NAME) == result)
-        ≡ (slot_by letters (text_at b.now NAME) == slot) }
-{
-    let len = b.byte(NAME) as usize;
-    if letters == Letters::Ascii || len > 30 {
-        return slot;
-    }
-    let name = b.bytes(NAME + 1, len);
-    if slot_by(letters, name) == slot {
-        slot_of_name(name)
-    } else {
-        NO_SLOT
-    }
-}
-
 // The first cause of block `b` in the form of a header in the chain of a slot.
 fn cause_of_head(image: &Image<'_>, slot: u8, b: u32, up: u32) -> Option<Cause>
     requires { b < blocks image.now }
     ensures { result
         ≡ first_cause (head_form_in image.now (kind_of image.now) b up slot (block image.now b)) }
 {
-    let block = image.block(b);
-    let asked = slot_asked(image.letters(), &block, slot);
-    match read_head(block, image.kind(), b, up, asked) {
+    let place = HeadPlace {
+        own: b,
+        parent: up,
+        letters: image.letters(),
+        slot,
+    };
+    match read_head_at(image.block(b), image.kind(), place) {
         Ok(_) => None,
         Err(cause) => Some(cause),
     }

@@ -68,6 +68,7 @@ impl NameKey {
 
     #[tactic(auto, using(adf_names::proofs::RaisedNames::raised_stays))]
     /// The key of a name, in upper case by these letters.
+    #[inline(always)]
     pub fn of_by(letters: Letters, name: &Name) -> NameKey
         ensures key { result ≡ key_of_name (uppers_by letters name.now) }
         ensures short { is_short (uppers_by letters name.now) ≡ true }

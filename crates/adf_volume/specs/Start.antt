@@ -8,7 +8,7 @@ use Rattle.adf_blocks.specs.Forms.{Clause}
 use Rattle.adf_names.specs.declared.kind.Kind.{Kind}
 use Rattle.adf_blocks.specs.Sizes.{blocks, is_allowed}
 use Rattle.adf_volume.specs.Demands.{AllHold, boot_demands_by, boot_form_by, root_demands}
-use Rattle.adf_volume.specs.Image.{kind_of, root_of}
+use Rattle.adf_volume.specs.Image.{kind_of, letters_of, root_of}
 
 -- the size, the boot bytes and the root of a volume with these letters are valid
 abbrev pub IsBegunBy : Letters → List ℕ → Type 0
@@ -18,10 +18,15 @@ IsBegunBy letters image = AllHold (boot_demands_by letters image ++ root_demands
 abbrev pub IsBegun : List ℕ → Type 0
 IsBegun = IsBegunBy Ascii
 
--- an image with a valid size, boot block and root, of this kind and number of blocks
-pub record IsImage (image : List ℕ) (read : Kind) (n : ℕ) : Type 0 where
-  pub begun : IsBegun image
+-- the same of a volume with the letters of its own type
+abbrev pub IsOwnBegun : List ℕ → Type 0
+IsOwnBegun image = IsBegunBy (letters_of image) image
+
+-- an image that begins as a volume with the letters of its own type, of this kind, these letters and this number of blocks
+pub record IsImage (image : List ℕ) (read : Kind) (letters : Letters) (n : ℕ) : Type 0 where
+  pub begun : IsOwnBegun image
   pub kind : read ≡ kind_of image
+  pub own : letters ≡ letters_of image
   pub blocks : n ≡ blocks image
 
 -- the length is whole blocks, and their number is allowed

@@ -1,13 +1,13 @@
-// Images with a valid size, boot block and root.
+// Images with a valid size, boot block and root, by the letters of their own type.
 
 ghost use Rattle.std.specs.Prelude.{◌≡◌, ◌<◌, ◌≤◌};
 ghost use Rattle.adf_base.specs.Words.{block};
 ghost use Rattle.adf_blocks.specs.HeadBlock.{body_at};
 ghost use Rattle.adf_blocks.specs.Sizes.{blocks};
-ghost use Rattle.adf_volume.specs.Image.{kind_of, root_of, word_in};
-ghost use Rattle.adf_volume.specs.Start.{IsBegun, IsImage};
+ghost use Rattle.adf_volume.specs.Image.{kind_of, letters_of, root_of, word_in};
+ghost use Rattle.adf_volume.specs.Start.{IsImage, IsOwnBegun};
 
-use adf_base::Block;
+use adf_base::{Block, Letters};
 use adf_blocks::{Directory, HeadBody};
 use adf_tree::Kind;
 use std::marker::Model;
@@ -17,36 +17,38 @@ use std::marker::Model;
 pub struct Image<'a> {
     bytes: &'a [u8],
     kind: Kind,
+    letters: Letters,
     blocks: u32,
 }
 
 impl<'a> Model for Image<'a> {
     ghost use Rattle.std.specs.Prelude.{◌≡◌, List, ℕ};
-    ghost use Rattle.adf_volume.specs.Start.{IsBegun, IsImage};
+    ghost use Rattle.adf_volume.specs.Start.{IsImage};
 
     ghost Value = { List ℕ };
 
     ghost view = { λ i. i.bytes.now };
 
-    ghost invariant = { λ i. IsImage i.bytes.now i.kind i.blocks };
+    ghost invariant = { λ i. IsImage i.bytes.now i.kind i.letters i.blocks };
 }
 
 impl<'a> Image<'a> {
-    // The image, with its kind and its number of blocks.
-    pub(crate) fn new(bytes: &'a [u8], kind: Kind, blocks: u32) -> Image<'a>
-        requires { IsImage bytes.now kind blocks }
+    // The image, with its kind, its letters and its number of blocks.
+    pub(crate) fn new(bytes: &'a [u8], kind: Kind, letters: Letters, blocks: u32) -> Image<'a>
+        requires { IsImage bytes.now kind letters blocks }
         ensures { result ≡ bytes.now }
     {
         Image {
             bytes,
             kind,
+            letters,
             blocks,
         }
     }
 
     /// States that the image has a valid size, boot block and root; does nothing at run time.
     pub fn begun(&self)
-        ensures { IsBegun self.now }
+        ensures { IsOwnBegun self.now }
     {
         self.blocks();
     }
@@ -54,7 +56,7 @@ impl<'a> Image<'a> {
     /// The bytes of the image.
     pub fn bytes(&self) -> &'a [u8]
         ensures bytes { result.now ≡ self.now }
-        ensures begun { IsBegun self.now }
+        ensures begun { IsOwnBegun self.now }
     {
         self.bytes
     }
@@ -62,15 +64,22 @@ impl<'a> Image<'a> {
     /// The kind of the volume.
     pub fn kind(&self) -> Kind
         ensures kind { result ≡ kind_of self.now }
-        ensures begun { IsBegun self.now }
+        ensures begun { IsOwnBegun self.now }
     {
         self.kind
+    }
+
+    /// The letters of the volume's names.
+    pub fn letters(&self) -> Letters
+        ensures { result ≡ letters_of self.now }
+    {
+        self.letters
     }
 
     /// The number of blocks.
     pub fn blocks(&self) -> u32
         ensures blocks { result ≡ blocks self.now }
-        ensures begun { IsBegun self.now }
+        ensures begun { IsOwnBegun self.now }
         ensures many { 4 ≤ result }
         ensures few { result ≤ 1048576 }
     {
@@ -81,7 +90,7 @@ impl<'a> Image<'a> {
     pub fn root(&self) -> u32
         ensures root { result ≡ root_of self.now }
         ensures inside { result < blocks self.now }
-        ensures begun { IsBegun self.now }
+        ensures begun { IsOwnBegun self.now }
     {
         self.blocks / 2
     }
@@ -90,7 +99,7 @@ impl<'a> Image<'a> {
     pub fn block(&self, b: u32) -> Block<'a>
         requires { b < blocks self.now }
         ensures block { result ≡ block self.now b }
-        ensures begun { IsBegun self.now }
+        ensures begun { IsOwnBegun self.now }
     {
         Block::at(self.bytes, b).unwrap()
     }
@@ -111,7 +120,7 @@ impl<'a> Image<'a> {
     pub fn body(&self, b: u32) -> HeadBody
         requires { b < blocks self.now }
         ensures body { result ≡ body_at (block self.now b) }
-        ensures begun { IsBegun self.now }
+        ensures begun { IsOwnBegun self.now }
     {
         HeadBody::of(&self.block(b))
     }

@@ -1,10 +1,10 @@
 // The size, the boot block and the root of an image.
 
-ghost use Rattle.std.specs.Prelude.{◌≡◌, ◌≤◌, ◌++◌, length, IfErr, IfNone, IfOk, IfSome};
+ghost use Rattle.std.specs.Prelude.{◌≡◌, ◌≤◌, ◌++◌, length, slice_index, IfErr, IfNone, IfOk, IfSome, OnOk};
 ghost use Rattle.adf_base.specs.Words.{block};
-ghost use Rattle.adf_volume.specs.Demands.{AllHold, FirstFails, boot_demands, is_dos, root_demands};
+ghost use Rattle.adf_volume.specs.Demands.{AllHold, FirstFails, boot_demands, boot_demands_by, has_letters, is_dos, root_demands};
 ghost use Rattle.adf_volume.specs.Image.{kind_of, letters_of, root_of};
-ghost use Rattle.adf_volume.specs.Start.{IsBegun, is_image_len, start_form};
+ghost use Rattle.adf_volume.specs.Start.{IsBegunBy, is_image_len, start_form_by};
 ghost use Rattle.adf_blocks.specs.Forms.{ReadsForm};
 ghost use Rattle.adf_blocks.specs.Sizes.{blocks, is_allowed};
 
@@ -78,10 +78,21 @@ pub fn letters_in(image: &[u8]) -> Letters
     }
 }
 
-// The number of blocks and the kind of a volume, from its size and first four bytes; otherwise the first of
-// `BadSize`, `NotDos`, `International` and `DirCache` that applies.
-fn read_start(image: &[u8]) -> Result<Start, Cause>
-    ensures { ReadsForm (start_form image.now) (λ s. (s.blocks ≡ blocks image.now)
+// Whether a type up to 5 has these letters, or directory caches.
+fn has_letters(letters: Letters, boot: &Block<'_>) -> bool
+    ensures { result ≡ has_letters letters (slice_index boot.now 3) }
+{
+    let type_byte = boot.byte(3);
+    match letters {
+        Letters::Ascii => type_byte != 2 && type_byte != 3,
+        Letters::International => type_byte != 0 && type_byte != 1,
+    }
+}
+
+// The number of blocks and the kind of a volume with these letters, from its size and first four bytes; otherwise the
+// first of `BadSize`, `NotDos`, `International` and `DirCache` that applies.
+fn read_start(letters: Letters, image: &[u8]) -> Result<Start, Cause>
+    ensures { ReadsForm (start_form_by letters image.now) (λ s. (s.blocks ≡ blocks image.now)
         × (s.kind ≡ kind_of image.now)) result }
 {
     if !is_image_len(image.len()) {
@@ -91,7 +102,7 @@ fn read_start(image: &[u8]) -> Result<Start, Cause>
     if !is_dos(&boot) {
         return Err(Cause::NotDos);
     }
-    if boot.byte(3) == 2 || boot.byte(3) == 3 {
+    if !has_letters(letters, &boot) {
         return Err(Cause::International);
     }
     if boot.byte(3) == 4 || boot.byte(3) == 5 {
@@ -103,34 +114,36 @@ fn read_start(image: &[u8]) -> Result<Start, Cause>
     })
 }
 
-/// The first cause in the size and the first four bytes of an image, at block 0.
+/// The first cause in the size and the first four bytes of an image of type 0 or 1, at block 0.
 pub fn boot_cause(image: &[u8]) -> Option<Cause>
     ensures none { IfNone result (AllHold (boot_demands image.now)) }
     ensures some { IfSome result (λ c. FirstFails (boot_demands image.now) 0 c) }
 {
-    match read_start(image) {
+    match read_start(Letters::Ascii, image) {
         Ok(_) => None,
         Err(cause) => Some(cause),
     }
 }
 
-/// Reads the size, the first four bytes and the root of an image; if one is invalid, the first cause and its block.
-pub fn open<'a>(bytes: &'a [u8]) -> Result<Opened<'a>, Fault>
+/// Reads the size, the first four bytes and the root of an image of a volume with these letters; if one is invalid, the
+/// first cause and its block.
+pub fn open_by<'a>(letters: Letters, bytes: &'a [u8]) -> Result<Opened<'a>, Fault>
     ensures image { IfOk result (λ o. o.image ≡ bytes.now) }
-    ensures begun { IfOk result (λ o. IsBegun o.image) }
+    ensures begun { OnOk result (IsBegunBy letters bytes.now) }
+    ensures letters { OnOk result (letters_of bytes.now ≡ letters) }
     ensures root { IfOk result (λ o. o.root ≡ block bytes.now (root_of bytes.now)) }
     ensures fails { IfErr result (λ f.
-        FirstFails (boot_demands bytes.now ++ root_demands bytes.now (root_of bytes.now))
+        FirstFails (boot_demands_by letters bytes.now ++ root_demands bytes.now (root_of bytes.now))
         f.block f.cause) }
 {
-    let start = match read_start(bytes) {
+    let start = match read_start(letters, bytes) {
         Ok(start) => start,
         Err(cause) => return Err(fault_at(0, cause)),
     };
     let middle = start.blocks / 2;
     match read_root(Block::at(bytes, middle).unwrap()) {
         Ok(root) => Ok(Opened {
-            image: Image::new(bytes, start.kind, start.blocks),
+            image: Image::new(bytes, start.kind, letters, start.blocks),
             root,
         }),
         Err(cause) => Err(fault_at(middle, cause)),

@@ -1,10 +1,11 @@
-use Rattle.std.proofs.Common.{◌≡◌, ◌∙◌, ◌++◌, ◌||◌, Bool, List, Ok, Err, Result, IfOk, OnOk, ℕ, ap, not, subst, sym, true}
+use Rattle.std.proofs.Common.{◌≡◌, ◌∙◌, ◌++◌, ◌||◌, Bool, List, Ok, Err, Result, IfOk, OnOk, ℕ, ap, arith, not, subst, sym, true}
 use Rattle.std.specs.Ordering.{is_eq}
 use Rattle.adf_base.specs.declared.NoMemory.{NoMemory}
 use Rattle.adf_names.specs.Texts.{uppers_by}
 use Rattle.adf_tree.specs.declared.name_key.NameKey.{NameKey}
 use Rattle.adf_tree.specs.NameKeys.{by_words, is_short, key_of_name}
 use Rattle.adf_tree.specs.NameSet.{has, is_among, HasMore, IsWith, Names}
+use Rattle.adf_tree.proofs.BucketWrites.{stored_back}
 use Rattle.adf_tree.proofs.NameKeys.{has_key, has_more}
 use Rattle.adf_tree.proofs.name_set.NameSet.put_by.Goals as goal
 
@@ -18,6 +19,17 @@ module _ (old now : Names) (x : List ℕ) (k : NameKey) (short : is_short x ≡ 
   is_more_there : (r : Result Bool NoMemory) (new : Names) → OnOk r (IsWith now new k) → OnOk r (HasMore old new x)
   is_more_there (Ok n) new h = λ y. has_more old new x y short (subst (IsWith old new) key (λ q. h q ∙ ap (λ b. is_eq (by_words k q) || b) (same q)))
   is_more_there (Err e) new h = tt
+
+pub invariant_of-self : goal.invariant_of-self
+invariant_of-self c = c.make_room.ensures.stored
+
+pub place-requires-clause-stored : goal.place-requires-clause-stored
+place-requires-clause-stored c = rw c.deref_mut.ensures.value c.make_room.ensures.stored
+
+pub invariant_of-self-2 : goal.invariant_of-self-2
+invariant_of-self-2 c =
+    stored_back _ _ c.make_room.new.buckets.len c.make_room.new.buckets.items c.deref_mut.result.now c.place.new.buckets
+    c.deref_mut.ensures.value c.deref_mut.ensures.len (omega arith) c.place.ensures.stored
 
 pub returns-clause-new : goal.returns-clause-new
 returns-clause-new c =
