@@ -1,5 +1,4 @@
 -- The steps along the bitmap, and the facts known at its end.
-use Rattle.adf_volume.specs.Fault.{IsTrueFault}
 use Rattle.std.proofs.Common.{◌≡◌, ◌≢◌, inl, inr, ℕ, zero, suc, List, ◌++◌, ◌+◌, ◌-◌, ◌*◌, ◌/◌, ◌%◌, ◌<◌, ◌≤◌, refl, sym, ap, subst, ◌∙◌, arith, Bool}
 use Rattle.std.proofs.Common.{true, false, not, IfErr, Result, Ok, Err, slice_index, IsTrue, ◌↔◌, ◌==◌, ◌^◌, IsBitSet}
 use Rattle.std.specs.Int.Bits.{bit_and}
@@ -7,9 +6,9 @@ use Rattle.std.proofs.lemmas.Bool.Decides.{nat_tests}
 use Rattle.std.proofs.lemmas.Grind.{common_steps}
 use Rattle.adf_blocks.specs.declared.cause.Cause.{Cause, TheVariants.LostBlock, TheVariants.OwnedFree}
 use Rattle.adf_blocks.specs.Sizes.{blocks, pages_needed}
-use Rattle.adf_volume.specs.Image.{root_of, word_in, IsFreeAt}
-use Rattle.adf_volume.specs.Demands.{AllHold, FirstFails, boot_demands, root_demands}
-use Rattle.adf_volume.specs.Walk.{Has, IsAbsent, IsFreeIn, bitmap_demands, FirstFault, Walk}
+use Rattle.adf_volume.specs.Image.{root_of, word_in, IsFreeAt, letters_of}
+use Rattle.adf_volume.specs.Demands.{AllHold, FirstFails, root_demands, boot_demands_by}
+use Rattle.adf_volume.specs.Walk.{Has, IsAbsent, IsFreeIn, bitmap_demands, Walk, FirstFaultBy}
 use Rattle.adf_volume.specs.Walk.Role.{Page}
 use Rattle.adf_volume.specs.Walk.FirstFaultBy.{at_bitmap}
 use Rattle.adf_volume.proofs.Gathered.{one_block}
@@ -19,7 +18,7 @@ use Rattle.adf_volume.proofs.WalkFits.{fits}
 use Rattle.adf_volume.proofs.Walks.{asked_block, page_word, of_walk}
 use Rattle.adf_volume.proofs.WholeWalks.{all_map_exts}
 use Rattle.adf_volume.specs.declared.fault.Fault.{Fault}
-use Rattle.adf_volume.specs.Start.{IsBegun}
+use Rattle.adf_volume.specs.Start.{IsOwnBegun}
 use Rattle.adf_check.specs.Pages.{AreListed, IsBitFault}
 use Rattle.adf_check.specs.Reading.{block_of_page, IsListed, IsMapped, StoreFits}
 use Rattle.adf_walk.specs.declared.kept_owner.KeptOwner.TheVariants.{Free}
@@ -29,6 +28,7 @@ use Rattle.adf_check.proofs.ClaimSteps.{first_fault}
 use Rattle.adf_check.proofs.NodeSteps.{at_or}
 use Rattle.adf_check.proofs.PageSteps.{page_is}
 use Rattle.adf_check.proofs.StoreSteps.{free_absent, taken_present}
+use Rattle.adf_check.specs.Own.{IsOwnFault}
 
 clash : {t : Bool} → t ≡ true → t ≡ false → ⊥
 clash a b = let e : true ≡ false = sym a ∙ b in cc
@@ -80,16 +80,17 @@ module _ (free : Bool) {image : List ℕ} {store : StoreValue} {b page : ℕ} {l
   split : (m : ℕ) → bitmap_demands image st.walk 2 (b - 2 + m) ≡ bitmap_demands image st.walk 2 (b - 2) ++ bitmap_demands image st.walk b m
   split m = bitmap_split image st.walk 2 (b - 2) m ∙ ap (λ c. bitmap_demands image st.walk 2 (b - 2) ++ bitmap_demands image st.walk c m) length_of
 
-  fails : IsBegun image → (c : Cause) → FirstFails (bitmap_demands image st.walk b (suc (blocks image - suc b))) b c → FirstFault image b c
+  fails : IsOwnBegun image → (c : Cause) → FirstFails (bitmap_demands image st.walk b (suc (blocks image - suc b))) b c
+      → FirstFaultBy (letters_of image) image b c
   fails sound c f =
       let z : b - 2 + suc (blocks image - suc b) ≡ blocks image - 2 = omega arith in
       at_bitmap sound st.walk st.read.is_walk st.read.whole (subst (λ m. FirstFails (bitmap_demands image st.walk 2 m) b c) z
       (rw (split (suc (blocks image - suc b))) (fails_right (bitmap_demands image st.walk 2 (b - 2)) _ b c st.agrees f)))
 
-  pub lost : IsBegun image → free ≡ false → kept_at store.owners b ≡ Free → FirstFault image b LostBlock
+  pub lost : IsOwnBegun image → free ≡ false → kept_at store.owners b ≡ Free → FirstFaultBy (letters_of image) image b LostBlock
   lost sound f h = fails sound LostBlock (inl ((λ k. clash (then_free (k (absent_then h))) f), refl, refl))
 
-  pub owned_free : IsBegun image → free ≡ true → kept_at store.owners b ≢ Free → FirstFault image b OwnedFree
+  pub owned_free : IsOwnBegun image → free ≡ true → kept_at store.owners b ≢ Free → FirstFaultBy (letters_of image) image b OwnedFree
   owned_free sound f h = fails sound OwnedFree (inr ((λ a. absurd (then_absent a h)), inl ((λ k. then_absent (k (free_then f)) h), refl, refl)))
 
   mapped : (IsAbsent st.walk b → IsFreeIn image st.walk b) → (IsFreeIn image st.walk b → IsAbsent st.walk b) → IsMapped image store (suc b)
@@ -112,9 +113,9 @@ module _ (free : Bool) {image : List ℕ} {store : StoreValue} {b page : ℕ} {l
   pub agrees : IsTrue free ↔ (kept_at store.owners b ≡ Free) → IsMapped image store (suc b)
   agrees h = agrees_by free refl h
 
-pub fits_alone : (image : List ℕ) (store : StoreValue) (b : ℕ) → IsBegun image → b ≡ blocks image → IsMapped image store b → StoreFits image store
+pub fits_alone : (image : List ℕ) (store : StoreValue) (b : ℕ) → IsOwnBegun image → b ≡ blocks image → IsMapped image store b → StoreFits image store
 fits_alone image store b begun e st =
-    let s = all_split (boot_demands image) (root_demands image (root_of image)) begun in
+    let s = all_split (boot_demands_by (letters_of image) image) (root_demands image (root_of image)) begun in
     record {
       walk = st.walk;
       read = st.read;
@@ -134,19 +135,19 @@ module _ (i b : ℕ) (lo : 2 + 32 * i ≤ b) (within : b < 2 + 32 * i + 32) wher
 
 -- the bit of block b in word i, in a volume whose bitmap agrees below the block
 module _ (i b : ℕ) {image : List ℕ} {store : StoreValue} {pages : List ℕ} (lo : 2 + 32 * i ≤ b) (within : b < 2 + 32 * i + 32)
-    (hi : b < blocks image) (begun : IsBegun image) (listed : AreListed image pages (pages_needed (blocks image)))
+    (hi : b < blocks image) (begun : IsOwnBegun image) (listed : AreListed image pages (pages_needed (blocks image)))
     (st : IsMapped image store b) {word : ℕ} {free : Bool}
     (word_is : word ≡ word_in image (slice_index pages (i / 127)) (1 + i % 127)) (told : IsTrue free ↔ IsBitSet word (b - (2 + 32 * i))) where
   here : IsTrue free ↔ IsFreeAt image (slice_index pages ((b - 2) / 4064)) ((b - 2) % 4064)
   here = rw (page_at i b lo within, word_at i b lo within, bit_at i b lo within, sym word_is) told
 
-  bit_fault : (f : Fault) → IsBitFault store.owners b free f → IsTrueFault image f
-  bit_fault f (inl y) = subst (IsTrueFault image) (sym y.2) (first_fault image b LostBlock (lost free hi listed.listed refl here st begun y.0 y.1))
+  bit_fault : (f : Fault) → IsBitFault store.owners b free f → IsOwnFault image f
+  bit_fault f (inl y) = subst (IsOwnFault image) (sym y.2) (first_fault image b LostBlock (lost free hi listed.listed refl here st begun y.0 y.1))
   bit_fault f (inr y) =
-      subst (IsTrueFault image) (sym y.2) (first_fault image b OwnedFree (owned_free free hi listed.listed refl here st begun y.0 y.1))
+      subst (IsOwnFault image) (sym y.2) (first_fault image b OwnedFree (owned_free free hi listed.listed refl here st begun y.0 y.1))
 
   -- what the bit tells is not what the owner does
-  pub bit_refused : {T : Type 0} (x : Result T Fault) → IfErr x (IsBitFault store.owners b free) → IfErr x (IsTrueFault image)
+  pub bit_refused : {T : Type 0} (x : Result T Fault) → IfErr x (IsBitFault store.owners b free) → IfErr x (IsOwnFault image)
   bit_refused (Ok y) h = tt
   bit_refused (Err f) h = bit_fault f h
 
@@ -160,7 +161,7 @@ bit_told word bit = (not (bit_and word (2 ^ bit) == 0), grind (arith, nat_tests)
 
 -- where the bits of a word are set for the blocks without an owner alone, the bitmap agrees on these blocks
 pub word_agrees : (i n : ℕ) {image : List ℕ} {store : StoreValue} {pages : List ℕ} {word : ℕ} → n ≤ 32 → 2 + 32 * i + n ≤ blocks image
-    → IsBegun image → AreListed image pages (pages_needed (blocks image)) → word ≡ word_in image (slice_index pages (i / 127)) (1 + i % 127)
+    → IsOwnBegun image → AreListed image pages (pages_needed (blocks image)) → word ≡ word_in image (slice_index pages (i / 127)) (1 + i % 127)
     → ((b : ℕ) → 2 + 32 * i ≤ b → b < 2 + 32 * i + n → IsBitSet word (b - (2 + 32 * i)) ↔ (kept_at store.owners b ≡ Free))
     → IsMapped image store (2 + 32 * i) → IsMapped image store (2 + 32 * i + n)
 word_agrees i zero {image = image} {store = store} few hi begun listed is agree st = grind (arith, common_steps)

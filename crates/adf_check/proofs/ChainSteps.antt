@@ -8,28 +8,30 @@ use Rattle.std.proofs.lemmas.Slice.Eq.{bytes_eq-Decides}
 use Rattle.std.proofs.lemmas.Grind.{common_steps}
 use Rattle.adf_blocks.specs.declared.layout.TheConstants.{FIRST_SLOT, NAME, NEXT_IN_CHAIN, SLOTS}
 use Rattle.adf_base.specs.Words.{block, word}
-use Rattle.adf_names.specs.Texts.{uppers}
+use Rattle.adf_base.specs.declared.hash.Letters.{Letters}
+use Rattle.adf_names.specs.Texts.{uppers_by}
 use Rattle.adf_tree.specs.NameSet.{has, HasMore, Names}
 use Rattle.adf_names.specs.declared.kind.Kind.{Kind}
 use Rattle.adf_blocks.specs.declared.cause.Cause.{Cause, TheVariants.SameName}
 use Rattle.adf_blocks.specs.Forms.{first_cause, text_at}
-use Rattle.adf_blocks.specs.HeadBlock.{head_form}
-use Rattle.adf_volume.specs.Demands.{Demand, AllHold, FirstFails, head_demands}
-use Rattle.adf_volume.specs.Image.{kind_of, name_of, word_in}
-use Rattle.adf_volume.specs.Walk.{Role, heads, form_demands, Walk}
+use Rattle.adf_blocks.specs.HeadBlock.{head_form_by}
+use Rattle.adf_volume.specs.Demands.{Demand, AllHold, FirstFails, head_demands_by}
+use Rattle.adf_volume.specs.Image.{kind_of, name_of, word_in, letters_of}
+use Rattle.adf_volume.specs.Walk.{Role, heads, Walk, form_demands_by}
 use Rattle.adf_volume.specs.Walk.Role.{Head}
 use Rattle.adf_volume.proofs.Gathered.{node_is}
 use Rattle.adf_volume.proofs.FormDemands.{all_demanded, first_demanded}
 use Rattle.adf_volume.proofs.Pointers.{link_asks, link_ends}
 use Rattle.adf_volume.proofs.PositionSteps.{end_chain}
 use Rattle.adf_volume.proofs.Roles.{dir_is_node, dir_up}
-use Rattle.adf_volume.specs.Fault.{IsTrueFault, fault}
-use Rattle.adf_volume.specs.Start.{IsBegun}
+use Rattle.adf_volume.specs.Fault.{fault}
+use Rattle.adf_volume.specs.Start.{IsOwnBegun}
 use Rattle.adf_check.specs.Reading.{IsAtSlot, IsInChain, Sees, sees_of}
 use Rattle.adf_walk.specs.declared.kept_owner.KeptOwner.TheVariants.{Free}
 use Rattle.adf_walk.specs.KeptOwner.{kept_at}
 use Rattle.adf_check.specs.Store.{StoreValue}
 use Rattle.adf_check.proofs.ClaimSteps.{IsNextAt, IsStored, form_fault, gathered, name_fault, read_one, read_to}
+use Rattle.adf_check.specs.Own.{IsOwnFault}
 
 -- the next header, at position j of slot s of directory p
 abbrev pub next_head : Walk → ℕ → ℕ → ℕ → Role
@@ -64,23 +66,23 @@ seen_more : (old new : Names) (name : List ℕ) → HasMore old new name → (x 
 seen_more old new name h x = rw (h x) (Decides-or (bytes_eq name x) (has old x) (bytes_eq-Decides name x) ((λ s. s), (λ s. s)))
 
 -- a word of block a names block b next in the chain of slot s of directory p
-module _ {image : List ℕ} {store : StoreValue} {p up s a b : ℕ} {seen : List ℕ → Type 0} (lt : s < SLOTS) (begun : IsBegun image)
+module _ {image : List ℕ} {store : StoreValue} {p up s a b : ℕ} {seen : List ℕ → Type 0} (lt : s < SLOTS) (begun : IsOwnBegun image)
     (st : IsInChain image store p up s a b seen) (ne : b ≢ 0) where
   pub head_named : IsNextAt image store st.walk (next_head st.walk p s st.place) a b
   head_named = grind (arith, common_steps, link_asks)
 
-  form_at : (P : List Demand → Type 0) → P (head_demands image (kind_of image) b up s)
-      → P (form_demands image st.walk (next_head st.walk p s st.place) b)
+  form_at : (P : List Demand → Type 0) → P (head_demands_by (letters_of image) image (kind_of image) b up s)
+      → P (form_demands_by (letters_of image) image st.walk (next_head st.walk p s st.place) b)
   form_at P =
-      subst (λ u. P (head_demands image (kind_of image) b u s))
+      subst (λ u. P (head_demands_by (letters_of image) image (kind_of image) b u s))
       (sym (node_is image (gathered st.read) p up (dir_is_node image st.walk p up st.dir)))
 
-  sees_more : (seen' : List ℕ → Type 0) → ((x : List ℕ) → seen' x ↔ ((uppers (name_of image b) ≡ x) ⊎ seen x))
+  sees_more : (seen' : List ℕ → Type 0) → ((x : List ℕ) → seen' x ↔ ((uppers_by (letters_of image) (name_of image b) ≡ x) ⊎ seen x))
       → Sees image ((next_head st.walk p s st.place, b) ∷ st.walk) p s seen'
   sees_more seen' g = record {
     all = (λ m k c h. elim h [
-      | inl y ↦ (g (uppers (name_of image c))).1 (inl (ap (λ b. uppers (name_of image b)) y.1))
-      | inr y ↦ (g (uppers (name_of image c))).1 (inr (st.sees.all m k c y))
+      | inl y ↦ (g (uppers_by (letters_of image) (name_of image c))).1 (inl (ap (λ b. uppers_by (letters_of image) (name_of image b)) y.1))
+      | inr y ↦ (g (uppers_by (letters_of image) (name_of image c))).1 (inr (st.sees.all m k c y))
     ]);
     only = (λ x h. elim ((g x).0 h) [
       | inl y ↦ (suc (heads st.walk), st.place, b, inl (refl, refl), y)
@@ -91,8 +93,9 @@ module _ {image : List ℕ} {store : StoreValue} {p up s a b : ℕ} {seen : List
   -- the block is free
   module _ (range : InRange (length store.owners) b) (free : kept_at store.owners b ≡ Free) where
     -- and holds a header, whose name was not seen
-    pub next_chain : AllHold (head_demands image (kind_of image) b up s) → (seen (uppers (name_of image b)) → ⊥) → (seen' : List ℕ → Type 0)
-        → ((x : List ℕ) → seen' x ↔ ((uppers (name_of image b) ≡ x) ⊎ seen x)) → {new : StoreValue}
+    pub next_chain : AllHold (head_demands_by (letters_of image) image (kind_of image) b up s)
+        → (seen (uppers_by (letters_of image) (name_of image b)) → ⊥) → (seen' : List ℕ → Type 0)
+        → ((x : List ℕ) → seen' x ↔ ((uppers_by (letters_of image) (name_of image b) ≡ x) ⊎ seen x)) → {new : StoreValue}
         → IsStored image store new (next_head st.walk p s st.place) b
         → IsInChain image new p up s b (word_in image b NEXT_IN_CHAIN) seen'
     next_chain form fresh seen' g stored =
@@ -109,35 +112,37 @@ module _ {image : List ℕ} {store : StoreValue} {p up s a b : ℕ} {seen : List
         }
 
 -- what was read of it
-module _ {image : List ℕ} {store : StoreValue} {p up s a b : ℕ} (names : Names) (lt : s < SLOTS) (begun : IsBegun image)
+module _ {image : List ℕ} {store : StoreValue} {p up s a b : ℕ} (names : Names) (lt : s < SLOTS) (begun : IsOwnBegun image)
     (st : IsInChain image store p up s a b (sees_of names)) (ne : b ≢ 0) (range : InRange (length store.owners) b)
     (free : kept_at store.owners b ≡ Free)
-    {kind : Kind} {bytes : List ℕ} (is_kind : kind ≡ kind_of image) (is_block : bytes ≡ block image b) where
-  cause_is : first_cause (head_form kind b up s bytes) ≡ first_cause (head_form (kind_of image) b up s (block image b))
-  cause_is = ap (λ x. first_cause (head_form kind b up s x)) is_block ∙ ap (λ k. first_cause (head_form k b up s (block image b))) is_kind
+    {kind : Kind} {l : Letters} {bytes : List ℕ} (is_kind : kind ≡ kind_of image) (is_letters : l ≡ letters_of image) (is_block : bytes ≡ block image b) where
+  cause_is : first_cause (head_form_by l kind b up s bytes)
+      ≡ first_cause (head_form_by (letters_of image) (kind_of image) b up s (block image b))
+  cause_is = λ i. first_cause (head_form_by (is_letters i) (is_kind i) b up s (is_block i))
 
   -- it is no header
-  pub head_fault : (c : Cause) → first_cause (head_form kind b up s bytes) ≡ Some c → IsTrueFault image (fault b c)
+  pub head_fault : (c : Cause) → first_cause (head_form_by l kind b up s bytes) ≡ Some c → IsOwnFault image (fault b c)
   head_fault c h = form_fault (head_named lt begun st ne) tt range free c (form_at lt begun st ne (λ ds. FirstFails ds b c)
-      (first_demanded b (head_form (kind_of image) b up s (block image b)) c (sym cause_is ∙ h)))
+      (first_demanded b (head_form_by (letters_of image) (kind_of image) b up s (block image b)) c (sym cause_is ∙ h)))
 
   -- it is one, with this name
-  module _ (none : first_cause (head_form kind b up s bytes) ≡ None) {head : List ℕ} (same : head ≡ bytes) {name : List ℕ}
+  module _ (none : first_cause (head_form_by l kind b up s bytes) ≡ None) {head : List ℕ} (same : head ≡ bytes) {name : List ℕ}
       (told : name ≡ text_at head NAME) where
-    form : AllHold (head_demands image (kind_of image) b up s)
-    form = all_demanded b (head_form (kind_of image) b up s (block image b)) (sym cause_is ∙ none)
+    form : AllHold (head_demands_by (letters_of image) image (kind_of image) b up s)
+    form = all_demanded b (head_form_by (letters_of image) (kind_of image) b up s (block image b)) (sym cause_is ∙ none)
 
-    name_is : uppers name ≡ uppers (name_of image b)
+    name_is : uppers_by l name ≡ uppers_by (letters_of image) (name_of image b)
     unfolding name_of
-    name_is = ap uppers (told ∙ ap (λ x. text_at x NAME) (same ∙ is_block))
+    name_is = λ i. uppers_by (is_letters i) ((told ∙ ap (λ x. text_at x NAME) (same ∙ is_block)) i)
 
-    pub twice_fault : has names (uppers name) ≡ true → IsTrueFault image (fault b SameName)
+    pub twice_fault : has names (uppers_by l name) ≡ true → IsOwnFault image (fault b SameName)
     twice_fault h = name_fault (head_named lt begun st ne) tt range free (form_at lt begun st ne AllHold form)
-        (λ k. let x = st.sees.only (uppers (name_of image b)) (ap (has names) (sym name_is) ∙ h) in k x.0 x.1 x.2 x.3 x.4)
+        (λ k. let x = st.sees.only (uppers_by (letters_of image) (name_of image b)) (ap (has names) (sym name_is) ∙ h) in k x.0 x.1 x.2 x.3 x.4)
 
-    pub head_done : has names (uppers name) ≡ false → (more : Names) → HasMore names more (uppers name) → {next : ℕ} → next ≡ word head NEXT_IN_CHAIN
-        → {new : StoreValue} → IsStored image store new (next_head st.walk p s st.place) b → IsInChain image new p up s b next (sees_of more)
+    pub head_done : has names (uppers_by l name) ≡ false → (more : Names) → HasMore names more (uppers_by l name)
+        → {next : ℕ} → next ≡ word head NEXT_IN_CHAIN → {new : StoreValue}
+        → IsStored image store new (next_head st.walk p s st.place) b → IsInChain image new p up s b next (sees_of more)
     head_done fresh more grows next_is {new = new} stored =
         subst (λ n. IsInChain image new p up s b n (sees_of more)) (ap (λ x. word x NEXT_IN_CHAIN) (sym (same ∙ is_block)) ∙ sym next_is)
         (next_chain lt begun st ne range free form (λ h. let e : true ≡ false = sym h ∙ ap (has names) (sym name_is) ∙ fresh in cc) (sees_of more)
-        (seen_more names more (uppers (name_of image b)) (subst (HasMore names more) name_is grows)) stored)
+        (seen_more names more (uppers_by (letters_of image) (name_of image b)) (subst (HasMore names more) name_is grows)) stored)

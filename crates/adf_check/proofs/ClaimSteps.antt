@@ -6,8 +6,8 @@ use Rattle.std.proofs.lemmas.Grind.{common_steps}
 use Rattle.adf_blocks.specs.declared.cause.Cause.{Cause, TheVariants.Taken, TheVariants.SameName, TheVariants.ShortFile}
 use Rattle.adf_blocks.specs.Sizes.{blocks}
 use Rattle.adf_volume.specs.Demands.{Demand, demand, AllHold, FirstFails}
-use Rattle.adf_volume.specs.Image.{word_in}
-use Rattle.adf_volume.specs.Walk.{Role, first, heads, Asks, IsDue, Enough, NewName, form_demands, demands, FirstFault, Walk}
+use Rattle.adf_volume.specs.Image.{word_in, letters_of}
+use Rattle.adf_volume.specs.Walk.{Role, first, heads, Asks, IsDue, Enough, Walk, FirstFaultBy, demands_by, form_demands_by, NewNameBy}
 use Rattle.adf_volume.specs.Walk.Role.{Head}
 use Rattle.adf_volume.specs.Walk.FirstFaultBy.{at_due}
 use Rattle.adf_volume.specs.Walk.IsWalkBy.{step}
@@ -19,13 +19,14 @@ use Rattle.adf_volume.proofs.Roles.{asks_number}
 use Rattle.adf_volume.proofs.Walks.{of_walk}
 use Rattle.adf_volume.specs.Positions.{Position, IsUpTo, behind, position_of}
 use Rattle.adf_volume.specs.declared.fault.Fault.{Fault}
-use Rattle.adf_volume.specs.Fault.{IsTrueFault, fault}
-use Rattle.adf_volume.specs.Start.{IsBegun}
+use Rattle.adf_volume.specs.Fault.{fault}
+use Rattle.adf_volume.specs.Start.{IsOwnBegun}
 use Rattle.adf_check.specs.Reading.{HasRead}
 use Rattle.adf_walk.specs.declared.kept_owner.KeptOwner.TheVariants.{Free}
 use Rattle.adf_walk.specs.KeptOwner.{kept_at}
 use Rattle.adf_check.specs.Store.{StoreValue, next_kept, push_header, push_block, ext_file, data_file, is_dir_at, stored, StoreMatches}
 use Rattle.adf_check.proofs.StoreSteps.{free_absent, taken_present, tells_more}
+use Rattle.adf_check.specs.Own.{IsOwnFault}
 
 -- what is said of an error, said otherwise
 pub if_err : {T : Type 0} (r : Result T Fault) (P Q : Fault → Type 0) → IfErr r P → ((f : Fault) → P f → Q f) → IfErr r Q
@@ -38,7 +39,7 @@ on_ok (Ok x) h p = p
 on_ok (Err y) h p = cc
 
 -- the first fault of the image is a true one: it is not want of memory
-pub first_fault : (image : List ℕ) (b : ℕ) (c : Cause) → FirstFault image b c → IsTrueFault image (fault b c)
+pub first_fault : (image : List ℕ) (b : ℕ) (c : Cause) → FirstFaultBy (letters_of image) image b c → IsOwnFault image (fault b c)
 first_fault image b c h = record { first = (λ _. h); memory = (λ e. absurd (fault_of_image image b c h e)) }
 
 -- a reader at one position is at another, where its walk has as much up to there
@@ -52,7 +53,7 @@ gathered {image = image} read = of_walk image read.is_walk
 
 -- the role comes next, and a word of block a names block b for it
 pub record IsNextAt (image : List ℕ) (store : StoreValue) (w : Walk) (r : Role) (a b : ℕ) : Type 0 where
-  pub begun : IsBegun image
+  pub begun : IsOwnBegun image
   pub read : HasRead image store w (first r) (position_of r)
   pub index : ℕ
   pub asked : Asks image w r a index
@@ -79,53 +80,56 @@ module _ {image : List ℕ} {store : StoreValue} {w : Walk} {r : Role} {a b : �
     least = (λ q c k h l before. st.read.up_to.gone q c k h l (λ z d n. absurd n) before);
   }
 
-  is_fault : (x : ℕ) (c : Cause) → FirstFails (demands image w r a b) x c → IsTrueFault image (fault x c)
+  is_fault : (x : ℕ) (c : Cause) → FirstFails (demands_by (letters_of image) image w r a b) x c → IsOwnFault image (fault x c)
   is_fault x c h =
       first_fault image x c (at_due st.begun w r a st.index st.read.is_walk is_due
-      (subst (λ b. FirstFails (demands image w r a b) x c) (sym st.names) h))
+      (subst (λ b. FirstFails (demands_by (letters_of image) image w r a b) x c) (sym st.names) h))
 
   in_image : InRange (length store.owners) b → InRange (blocks image) b
   in_image h = subst (λ n. InRange n b) st.read.tells.owns.size h
 
   -- the file has too few extension blocks
-  pub short_fault : (Enough image w r → ⊥) → IsTrueFault image (fault a ShortFile)
+  pub short_fault : (Enough image w r → ⊥) → IsOwnFault image (fault a ShortFile)
   short_fault h = is_fault a ShortFile (inl (h, refl, refl))
 
   module _ (enough : Enough image w r) where
     -- the block is not claimed
-    claim_fault : (f : Fault) → IsClaimFault store.owners a b f → IsTrueFault image f
+    claim_fault : (f : Fault) → IsClaimFault store.owners a b f → IsOwnFault image f
     claim_fault f (inl out) = grind (arith, common_steps, is_fault)
     claim_fault f (inr taken) =
         let within = in_image taken.0 in
         let present = taken_present image store.owners w st.read.tells.owns b within.0 within.1 taken.1 in
-        subst (IsTrueFault image) (sym taken.2) (is_fault b Taken (inr (enough, inr (within, inl (present, refl, refl)))))
+        subst (IsOwnFault image) (sym taken.2) (is_fault b Taken (inr (enough, inr (within, inl (present, refl, refl)))))
 
-    pub claim_refused : {T : Type 0} (x : Result T Fault) → IfErr x (IsClaimFault store.owners a b) → IfErr x (IsTrueFault image)
+    pub claim_refused : {T : Type 0} (x : Result T Fault) → IfErr x (IsClaimFault store.owners a b) → IfErr x (IsOwnFault image)
     claim_refused (Ok y) h = tt
     claim_refused (Err f) h = claim_fault f h
 
     module _ (range : InRange (length store.owners) b) (free : kept_at store.owners b ≡ Free) where
       abbrev late_demands : List Demand
-      late_demands = form_demands image w r b ++ demand SameName b (NewName image w r b) ∷ []
+      late_demands = form_demands_by (letters_of image) image w r b ++ demand SameName b (NewNameBy (letters_of image) image w r b) ∷ []
 
-      late_fault : (c : Cause) → FirstFails late_demands b c → IsTrueFault image (fault b c)
+      late_fault : (c : Cause) → FirstFails late_demands b c → IsOwnFault image (fault b c)
       late_fault c h = is_fault b c (inr (enough, inr (in_image range, inr (free_absent image store.owners w st.read.tells.owns b free, h))))
 
       -- it has not the form of the role
-      pub form_fault : (c : Cause) → FirstFails (form_demands image w r b) b c → IsTrueFault image (fault b c)
-      form_fault c h = late_fault c (fails_left (form_demands image w r b) (demand SameName b (NewName image w r b) ∷ []) b c h)
+      pub form_fault : (c : Cause) → FirstFails (form_demands_by (letters_of image) image w r b) b c → IsOwnFault image (fault b c)
+      form_fault c h =
+          late_fault c (fails_left (form_demands_by (letters_of image) image w r b) (demand SameName b (NewNameBy (letters_of image) image w r b) ∷ []) b c h)
 
-      module _ (form : AllHold (form_demands image w r b)) where
+      module _ (form : AllHold (form_demands_by (letters_of image) image w r b)) where
         -- an earlier header of the chain has the name
-        pub name_fault : (NewName image w r b → ⊥) → IsTrueFault image (fault b SameName)
-        name_fault h = late_fault SameName (fails_right (form_demands image w r b) _ b SameName form (inl (h, refl, refl)))
+        pub name_fault : (NewNameBy (letters_of image) image w r b → ⊥) → IsOwnFault image (fault b SameName)
+        name_fault h = late_fault SameName (fails_right (form_demands_by (letters_of image) image w r b) _ b SameName form (inl (h, refl, refl)))
 
         -- it is claimed and kept: the reader has read one role more
-        pub read_one : NewName image w r b → {new : StoreValue} → IsStored image store new r b → HasRead image new ((r, b) ∷ w) (first r) (behind r)
+        pub read_one : NewNameBy (letters_of image) image w r b → {new : StoreValue} → IsStored image store new r b
+            → HasRead image new ((r, b) ∷ w) (first r) (behind r)
         read_one fresh {new = new} s =
             let within = in_image range in
             let begun : length store.starts ≡ first r = st.read.started in
-            let late : AllHold late_demands = all_append (form_demands image w r b) (demand SameName b (NewName image w r b) ∷ []) form (fresh, tt) in
+            let late : AllHold late_demands = all_append (form_demands_by (letters_of image) image w r b)
+            (demand SameName b (NewNameBy (letters_of image) image w r b) ∷ []) form (fresh, tt) in
             let number : (n p s j : ℕ) → r ≡ Head n p s j → n ≡ suc (heads w) =
             λ n p s j z. asks_number image w n p s j a st.index (subst (λ r. Asks image w r a st.index) z st.asked) in
             record {

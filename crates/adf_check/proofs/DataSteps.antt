@@ -8,9 +8,9 @@ use Rattle.adf_blocks.specs.declared.layout.TheConstants.{POINTERS, SIZE}
 use Rattle.adf_blocks.specs.declared.cause.Cause.{Cause, TheVariants.ShortFile}
 use Rattle.adf_blocks.specs.Sizes.{blocks}
 use Rattle.adf_volume.specs.Demands.{Demand, AllHold, FirstFails, data_demands}
-use Rattle.adf_volume.specs.Image.{held, kind_of, table_word, word_in}
+use Rattle.adf_volume.specs.Image.{held, kind_of, table_word, word_in, letters_of}
 use Rattle.adf_volume.specs.Lists.{At}
-use Rattle.adf_volume.specs.Walk.{Asks, Enough, FileAt, IsWalk, MemberAt, Role, data_count, ext_count, form_demands, member_block, node_block, Walk}
+use Rattle.adf_volume.specs.Walk.{Asks, Enough, FileAt, MemberAt, Role, data_count, ext_count, member_block, node_block, Walk, form_demands_by}
 use Rattle.adf_volume.specs.Walk.Role.{Data, Ext}
 use Rattle.adf_volume.proofs.Lists.{at_some}
 use Rattle.adf_volume.proofs.Roles.{head_role, member_up, typed_up}
@@ -19,9 +19,9 @@ use Rattle.adf_volume.proofs.Gathered.{file_one, member_is}
 use Rattle.adf_volume.proofs.PositionSteps.{end_datas}
 use Rattle.adf_volume.proofs.Walks.{file_is}
 use Rattle.adf_volume.specs.Positions.{IsUpTo, behind, position_of}
-use Rattle.adf_volume.specs.Fault.{IsTrueFault, fault}
+use Rattle.adf_volume.specs.Fault.{fault}
 use Rattle.adf_check.specs.Datas.{next_of}
-use Rattle.adf_volume.specs.Start.{IsBegun}
+use Rattle.adf_volume.specs.Start.{IsOwnBegun}
 use Rattle.adf_check.specs.Reading.{HasRead, IsAtNode, IsInDatas}
 use Rattle.adf_walk.specs.declared.kept_owner.KeptOwner.TheVariants.{Free}
 use Rattle.adf_walk.specs.KeptOwner.{kept_at}
@@ -29,13 +29,14 @@ use Rattle.adf_check.specs.Store.{StoreValue}
 use Rattle.adf_check.proofs.NodeSteps.{at_or}
 use Rattle.adf_check.proofs.NumberBounds.{many_blocks}
 use Rattle.adf_check.proofs.ClaimSteps.{IsNextAt, IsStored, form_fault, gathered, read_one, read_to, short_fault}
+use Rattle.adf_check.specs.Own.{IsOwnWalk, IsOwnFault}
 
-member_inside : (image : List ℕ) (w : Walk) → IsBegun image → IsWalk image w → (n m c : ℕ) → MemberAt image w n m c → c < blocks image
+member_inside : (image : List ℕ) (w : Walk) → IsOwnBegun image → IsOwnWalk image w → (n m c : ℕ) → MemberAt image w n m c → c < blocks image
 member_inside image w begun v n zero c h = (in_range image v (many_blocks image begun) (head_role h.header) c h.header.has).1
 member_inside image w begun v n (suc m) c h = (in_range image v (many_blocks image begun) (Ext n (suc m)) c h).1
 
 -- the blocks of the table are those of the image
-pub table_inside : {image : List ℕ} {store : StoreValue} {n h : ℕ} {table : List ℕ} {k : ℕ} → IsBegun image → IsInDatas image store n h table k
+pub table_inside : {image : List ℕ} {store : StoreValue} {n h : ℕ} {table : List ℕ} {k : ℕ} → IsOwnBegun image → IsInDatas image store n h table k
     → (i : ℕ) → i < length table → slice_index table i < blocks image
 table_inside {image = image} {n = n} {table = table} begun st i lt =
     member_inside image st.walk begun st.read.is_walk n i (slice_index table i) (st.holds.members i (slice_index table i) (at_or table i 0 lt))
@@ -54,7 +55,7 @@ datas_end image store n h table k st le = record {
         subst (λ h. j < data_count image h) (file_one image (gathered st.read) n x.0.0 h x.0.1 st.holds.file) x.0.2 in
         omega arith
 
-module _ {image : List ℕ} {store : StoreValue} {n h : ℕ} {table : List ℕ} {k : ℕ} (begun : IsBegun image)
+module _ {image : List ℕ} {store : StoreValue} {n h : ℕ} {table : List ℕ} {k : ℕ} (begun : IsOwnBegun image)
     (st : IsInDatas image store n h table k) where
   one_file : (a : ℕ) → FileAt image st.walk n a → h ≡ a
   one_file a f = file_one image (gathered st.read) n h a st.holds.file f
@@ -64,13 +65,13 @@ module _ {image : List ℕ} {store : StoreValue} {n h : ℕ} {table : List ℕ} 
   named_by lt c b x e = grind (arith, common_steps)
 
   -- the table names too few data blocks
-  pub too_short : k ≡ 0 → POINTERS * length table < data_count image h → IsTrueFault image (fault h ShortFile)
+  pub too_short : k ≡ 0 → POINTERS * length table < data_count image h → IsOwnFault image (fault h ShortFile)
   too_short z lt =
       let e = at_some table 0 (omega arith) in
       let here : At table (k / POINTERS) e.0 = subst (λ k. At table (k / POINTERS) e.0) (sym z) e.1 in
       let lacks : Enough image st.walk (Data n (suc k)) → ⊥ =
       λ en. let x : data_count image h ≤ POINTERS * suc (ext_count st.walk n) = en (ap suc z) h st.holds.file in omega arith in
-      subst (λ a. IsTrueFault image (fault a ShortFile)) (sym (one_file e.0 (st.holds.members 0 e.0 e.1)))
+      subst (λ a. IsOwnFault image (fault a ShortFile)) (sym (one_file e.0 (st.holds.members 0 e.0 e.1)))
       (short_fault (named_by (omega arith) e.0 (word_in image e.0 (table_word k)) here refl) lacks)
 
   -- it names enough, and block b as data block k + 1, by the number of a file's data blocks and its size
@@ -100,14 +101,14 @@ module _ {image : List ℕ} {store : StoreValue} {n h : ℕ} {table : List ℕ} 
       abbrev pub demands_here : List Demand
       demands_here = data_demands image (kind_of image) b h (k + 1) (held (kind_of image) size (k + 1)) (next_of image table count (k + 1))
 
-      form_is : demands_here ≡ form_demands image st.walk (Data n (suc k)) b
+      form_is : demands_here ≡ form_demands_by (letters_of image) image st.walk (Data n (suc k)) b
       form_is =
           let one : k + 1 ≡ suc k = omega arith in
           let head : node_block st.walk n ≡ h = file_is image st.walk n h st.read.is_walk st.holds.file in
           rw (is_count, is_size, one, head, next_here (nat_lt (suc k) (data_count image h)) refl) refl
 
       module _ (range : InRange (length store.owners) b) (free : kept_at store.owners b ≡ Free) where
-        pub data_fault : (c : Cause) → FirstFails demands_here b c → IsTrueFault image (fault b c)
+        pub data_fault : (c : Cause) → FirstFails demands_here b c → IsOwnFault image (fault b c)
         data_fault c f = form_fault data_named data_enough range free c (subst (λ ds. FirstFails ds b c) form_is f)
 
         pub data_done : AllHold demands_here → {new : StoreValue} → IsStored image store new (Data n (k + 1)) b

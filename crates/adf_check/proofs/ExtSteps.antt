@@ -8,9 +8,9 @@ use Rattle.adf_blocks.specs.declared.cause.Cause.{Cause}
 use Rattle.adf_blocks.specs.Forms.{first_cause}
 use Rattle.adf_blocks.specs.ExtBlock.{ext_form}
 use Rattle.adf_volume.specs.Demands.{Demand, AllHold, FirstFails, ext_demands}
-use Rattle.adf_volume.specs.Image.{word_in}
+use Rattle.adf_volume.specs.Image.{word_in, letters_of}
 use Rattle.adf_volume.specs.Lists.{At}
-use Rattle.adf_volume.specs.Walk.{Role, FileAt, MemberAt, form_demands, ext_count}
+use Rattle.adf_volume.specs.Walk.{Role, FileAt, MemberAt, ext_count, form_demands_by}
 use Rattle.adf_volume.specs.Walk.Role.{Ext}
 use Rattle.adf_volume.proofs.FormDemands.{all_demanded, first_demanded}
 use Rattle.adf_volume.proofs.Lists.{at_snoc, snoc_length}
@@ -18,13 +18,14 @@ use Rattle.adf_volume.proofs.Roles.{count_own, member_up, typed_up}
 use Rattle.adf_volume.proofs.Pointers.{ext_asks, ext_ends}
 use Rattle.adf_volume.proofs.PositionSteps.{end_exts, enter_file, no_exts}
 use Rattle.adf_volume.proofs.Walks.{file_is}
-use Rattle.adf_volume.specs.Fault.{IsTrueFault, fault}
-use Rattle.adf_volume.specs.Start.{IsBegun}
+use Rattle.adf_volume.specs.Fault.{fault}
+use Rattle.adf_volume.specs.Start.{IsOwnBegun}
 use Rattle.adf_check.specs.Reading.{HasTable, IsInDatas, IsInExts, IsInNode}
 use Rattle.adf_walk.specs.declared.kept_owner.KeptOwner.TheVariants.{Free}
 use Rattle.adf_walk.specs.KeptOwner.{kept_at}
 use Rattle.adf_check.specs.Store.{StoreValue}
 use Rattle.adf_check.proofs.ClaimSteps.{IsNextAt, IsStored, form_fault, gathered, read_one, read_to}
+use Rattle.adf_check.specs.Own.{IsOwnFault}
 
 -- a file's table begins with its header
 pub enter_exts : (image : List ℕ) (store : StoreValue) (n h : ℕ) (st : IsInNode image store n) → FileAt image st.walk n h
@@ -57,17 +58,17 @@ exts_end image store n h table a st = record {
 }
 
 -- a word of block a names block b next
-module _ {image : List ℕ} {store : StoreValue} {n h : ℕ} {table : List ℕ} {a b : ℕ} (begun : IsBegun image) (st : IsInExts image store n h table a b)
+module _ {image : List ℕ} {store : StoreValue} {n h : ℕ} {table : List ℕ} {a b : ℕ} (begun : IsOwnBegun image) (st : IsInExts image store n h table a b)
     (ne : b ≢ 0) where
   pub ext_named : IsNextAt image store st.walk (Ext n (suc st.extra)) a b
   ext_named = grind (arith, common_steps, ext_asks)
 
-  form_at : (P : List Demand → Type 0) → P (ext_demands image b h) → P (form_demands image st.walk (Ext n (suc st.extra)) b)
+  form_at : (P : List Demand → Type 0) → P (ext_demands image b h) → P (form_demands_by (letters_of image) image st.walk (Ext n (suc st.extra)) b)
   form_at P = subst (λ h. P (ext_demands image b h)) (sym (file_is image st.walk n h st.read.is_walk st.holds.file))
 
   -- what was read of it
   module _ (range : InRange (length store.owners) b) (free : kept_at store.owners b ≡ Free) {bytes : List ℕ} (is_block : bytes ≡ block image b) where
-    pub ext_fault : (c : Cause) → first_cause (ext_form b h bytes) ≡ Some c → IsTrueFault image (fault b c)
+    pub ext_fault : (c : Cause) → first_cause (ext_form b h bytes) ≡ Some c → IsOwnFault image (fault b c)
     ext_fault c f = form_fault ext_named tt range free c (form_at (λ ds. FirstFails ds b c)
         (first_demanded b (ext_form b h (block image b)) c (ap (λ x. first_cause (ext_form b h x)) (sym is_block) ∙ f)))
 

@@ -7,13 +7,14 @@ use Rattle.std.proofs.lemmas.List.{append-nil}
 use Rattle.std.proofs.Math.Seq.{drop-append_seam, take-append_seam}
 use Rattle.std.proofs.lemmas.Grind.{common_steps}
 use Rattle.adf_volume.specs.Image.{root_of}
-use Rattle.adf_volume.specs.Walk.{Role, first, Has, IsWalk, Walk}
+use Rattle.adf_volume.specs.Walk.{Role, first, Has, Walk}
 use Rattle.adf_volume.specs.Walk.Role.{Root, Ext, Data}
 use Rattle.adf_volume.specs.Walk.IsWalkBy.{start, step}
 use Rattle.adf_volume.specs.Made.{picked, is_ext_of, exts_in, is_data_of, datas_in}
 use Rattle.adf_volume.proofs.Lists.{snoc_length}
 use Rattle.adf_volume.proofs.WalkOrder.{rises}
 use Rattle.adf_check.specs.Store.{ext_file, data_file, file_blocks, is_below, blocks_before}
+use Rattle.adf_check.specs.Own.{IsOwnWalk}
 
 -- a test that passes whatever another one passes picks no fewer blocks
 picked_fewer : (f g : Role → Bool) (w : Walk) → ((r : Role) → f r ≡ true → g r ≡ true) → length (picked f w) ≤ length (picked g w)
@@ -90,7 +91,7 @@ module _ (image : List ℕ) (file : Role → Option ℕ) (tells : TellsFile file
         → picked all ((r, b) ∷ w) ≡ low ((r, b) ∷ w) ++ picked rest ((r, b) ∷ w)
     one_more r b w ih none = grind (arith, common_steps, none, not_below, low, append-nil, append_assoc)
 
-    split : {w : Walk} → IsWalk image w → picked all w ≡ low w ++ picked rest w
+    split : {w : Walk} → IsOwnWalk image w → picked all w ≡ low w ++ picked rest w
     split start = one_more Root (root_of image) [] refl (λ _. refl)
     split (step {w = w} {r = r} {b = b} {a = a} {i = i} v d e c) = one_more r b w (split v) (λ y. picked_none rest w (λ q s has.
         false_from_ne_true (rest q) (λ x.
@@ -99,7 +100,7 @@ module _ (image : List ℕ) (file : Role → Option ℕ) (tells : TellsFile file
         cc)))
 
   -- `of` tells the blocks of file n: they stand in the list of all, behind those of the files below
-  module _ (n : ℕ) (of : Role → Bool) (is_of : (r : Role) → of r ≡ is_file n (file r)) {w : Walk} (v : IsWalk image w) where
+  module _ (n : ℕ) (of : Role → Bool) (is_of : (r : Role) → of r ≡ is_file n (file r)) {w : Walk} (v : IsOwnWalk image w) where
     at_file : (o : Option ℕ) → is_below (suc n) o ≡ (is_below n o || is_file n o)
     at_file None = refl
     at_file (Some m) = grind (arith, nat_tests)
@@ -155,7 +156,7 @@ is_data : (n : ℕ) (r : Role) → is_data_of n r ≡ is_file n (data_file r)
 is_data n (Data m k) = refl
 is_data n _ = refl
 
-module _ (image : List ℕ) (n : ℕ) {w : Walk} (v : IsWalk image w) where
+module _ (image : List ℕ) (n : ℕ) {w : Walk} (v : IsOwnWalk image w) where
   pub exts_stored : take (length (exts_in w n)) (drop (blocks_before ext_file w n) (file_blocks ext_file w)) ≡ exts_in w n
   exts_stored = file_stored image ext_file ext_tells n (is_ext_of n) (is_ext n) v
 

@@ -22,13 +22,14 @@ use Rattle.adf_volume.proofs.LayoutRoles.{part_range}
 use Rattle.adf_volume.proofs.PieceBytes.{held_some, piece_at, pieces_joined, pieces_length}
 use Rattle.adf_volume.proofs.Chains.{entry_is_at, entry_some}
 use Rattle.adf_walk.specs.declared.node_start.NodeStart.{NodeStart}
-use Rattle.adf_check.specs.StoreStands.{StoreStandsFor}
+use Rattle.adf_check.specs.StoreStands.{StoreStandsForBy}
 use Rattle.adf_check.specs.Store.{StoreValue}
 use Rattle.adf_check.proofs.ChainLookups.{body_dir}
 use Rattle.adf_check.proofs.NodeSteps.{at_or}
 use Rattle.adf_check.proofs.StoreStands.{keeps}
 use Rattle.adf_check.specs.Reading.{StoreFits}
 use Rattle.adf_check.specs.Pieces.{body_bytes, bytes_of, pieces_at, pieces_in, pieces_of}
+use Rattle.adf_base.specs.declared.hash.Letters.{Letters}
 
 -- pieces of which none is empty are none where they join to nothing
 pub no_pieces : (ps : List (List ℕ)) → All (λ p. 0 < length p) ps → concat ps ≡ [] → ps ≡ []
@@ -40,7 +41,7 @@ body_other : (image : List ℕ) (kind : Kind) (l : Layout) (n h : ℕ) (body : B
 body_other image kind l n h Dir f w = absurd (w f.0)
 body_other image kind l n h (File bytes) f w = (bytes, refl)
 
-module _ {image : List ℕ} {store : StoreValue} {t : Tree} {l : Layout} (k : StoreStandsFor image store t l) where
+module _ {image : List ℕ} {store : StoreValue} {letters : Letters} {t : Tree} {l : Layout} (k : StoreStandsForBy letters image store t l) where
   data_range : (n i b : ℕ) → At (datas_of l n) i b → b < blocks image
   data_range n i b h = (part_range image t l k.fits (Data n (suc i)) b h).1
 
@@ -64,10 +65,11 @@ module _ {image : List ℕ} {store : StoreValue} {t : Tree} {l : Layout} (k : St
 pub record IsEntry (image : List ℕ) (store : StoreValue) (n h : ℕ) : Type 0 where
   pub some : n ≢ 0
   pub within : n ≤ length store.headers
-  pub block : (t : Tree) (l : Layout) → StoreStandsFor image store t l → h ≡ at_node image l n
+  pub block : (letters : Letters) (t : Tree) (l : Layout) → StoreStandsForBy letters image store t l → h ≡ at_node image l n
 
 -- the node is an entry, by its number and the number of rows
-pub is_entry : {image : List ℕ} {store : StoreValue} {n m h : ℕ} → ((t : Tree) (l : Layout) → StoreStandsFor image store t l → h ≡ at_node image l n)
+pub is_entry : {image : List ℕ} {store : StoreValue} {n m h : ℕ}
+    → ((letters : Letters) (t : Tree) (l : Layout) → StoreStandsForBy letters image store t l → h ≡ at_node image l n)
     → m ≡ n → m ≢ 0 → n ≤ length store.headers → IsEntry image store n h
 is_entry block view ne le = record { some = (λ z. ne (view ∙ z)); within = le; block = block }
 
@@ -81,18 +83,18 @@ pub root_datas : (l : Layout) (n m : ℕ) → m ≡ n → m ≡ 0 → ◌≡◌ 
 root_datas l zero m view e = refl
 root_datas l (suc i) m view e = absurd (omega arith)
 
-pub past_datas : {image : List ℕ} {store : StoreValue} {t : Tree} {l : Layout} → StoreStandsFor image store t l → (n : ℕ) → length store.headers < n
-    → ◌≡◌ {A = List ℕ} [] (datas_of l n)
+pub past_datas : {image : List ℕ} {store : StoreValue} {letters : Letters} {t : Tree} {l : Layout} → StoreStandsForBy letters image store t l
+    → (n : ℕ) → length store.headers < n → ◌≡◌ {A = List ℕ} [] (datas_of l n)
 past_datas k zero lt = absurd (omega arith)
 past_datas {l = l} k (suc i) lt = past l.places i (omega (arith, k.headers.count, k.fits.places))
 
 module _ {image : List ℕ} {store : StoreValue} {n h : ℕ} (is : IsEntry image store n h) where
-  module _ (t : Tree) (l : Layout) (k : StoreStandsFor image store t l) where
+  module _ (letters : Letters) (t : Tree) (l : Layout) (k : StoreStandsForBy letters image store t l) where
     here : (x : Entry) × EntryAt t n x
     here = grind (arith, common_steps, entry_some)
 
     body_fits : BodyFits image t.kind l n h here.0.body
-    body_fits = subst (λ b. BodyFits image t.kind l n b here.0.body) (sym (is.block t l k)) (k.fits.entries n here.0 here.1).body
+    body_fits = subst (λ b. BodyFits image t.kind l n b here.0.body) (sym (is.block letters t l k)) (k.fits.entries n here.0 here.1).body
 
     told : bytes_of (entry t.entries n) ≡ body_bytes here.0.body
     told = ap bytes_of ((entry_is_at t n here.0).0 here.1)
@@ -158,26 +160,26 @@ module _ {image : List ℕ} {store : StoreValue} {n h : ℕ} (is : IsEntry image
   -- what is made of the data blocks of a file
   module _ (tells : StoreFits image store) (w : word_in image h SECONDARY_TYPE ≢ ST_DIR) {xs ds : List ℕ} {kind : Kind} {size : ℕ}
       (is_image : xs ≡ image) (is_kind : kind ≡ kind_of image) (is_size : size ≡ word_in image h SIZE)
-      (are : (t : Tree) (l : Layout) → StoreStandsFor image store t l → ds ≡ datas_of l n) where
-    pieces_are : (t : Tree) (l : Layout) → StoreStandsFor image store t l
+      (are : (letters : Letters) (t : Tree) (l : Layout) → StoreStandsForBy letters image store t l → ds ≡ datas_of l n) where
+    pieces_are : (letters : Letters) (t : Tree) (l : Layout) → StoreStandsForBy letters image store t l
         → pieces xs kind size 1 ds ≡ pieces image (kind_of image) (word_in image h SIZE) 1 (datas_of l n)
-    pieces_are t l k = λ i. pieces (is_image i) (is_kind i) (is_size i) 1 (are t l k i)
+    pieces_are letters t l k = λ i. pieces (is_image i) (is_kind i) (is_size i) 1 (are letters t l k i)
 
     pub made_inside : size < 2 ^ 32 → AreInside xs ds 1
     made_inside small =
         let k = keeps image store tells in
-        let inside = file_inside _ _ k w (subst (λ s. s < 2 ^ 32) is_size small) in
-        subst (λ xs. AreInside xs ds 1) (sym is_image) (subst (λ ds. AreInside image ds 1) (sym (are _ _ k)) inside)
+        let inside = file_inside _ _ _ k w (subst (λ s. s < 2 ^ 32) is_size small) in
+        subst (λ xs. AreInside xs ds 1) (sym is_image) (subst (λ ds. AreInside image ds 1) (sym (are _ _ _ k)) inside)
 
-    pub made_exact : (t : Tree) (l : Layout) → StoreStandsFor image store t l → {ps : List (List ℕ)} → ps ≡ pieces xs kind size 1 ds
-        → Some ps ≡ pieces_at image t l n
-    made_exact t l k made = ap Some (made ∙ pieces_are t l k) ∙ file_pieces t l k w
+    pub made_exact : (letters : Letters) (t : Tree) (l : Layout) → StoreStandsForBy letters image store t l
+        → {ps : List (List ℕ)} → ps ≡ pieces xs kind size 1 ds → Some ps ≡ pieces_at image t l n
+    made_exact letters t l k made = ap Some (made ∙ pieces_are letters t l k) ∙ file_pieces letters t l k w
 
-    pub made_joined : (t : Tree) (l : Layout) → StoreStandsFor image store t l → {ps : List (List ℕ)} → ps ≡ pieces xs kind size 1 ds
-        → Some (concat ps) ≡ bytes_of (entry t.entries n)
-    made_joined t l k made = ap (λ ps. Some (concat ps)) (made ∙ pieces_are t l k) ∙ file_bytes t l k w
+    pub made_joined : (letters : Letters) (t : Tree) (l : Layout) → StoreStandsForBy letters image store t l
+        → {ps : List (List ℕ)} → ps ≡ pieces xs kind size 1 ds → Some (concat ps) ≡ bytes_of (entry t.entries n)
+    made_joined letters t l k made = ap (λ ps. Some (concat ps)) (made ∙ pieces_are letters t l k) ∙ file_bytes letters t l k w
 
     pub made_some : {ps : List (List ℕ)} → ps ≡ pieces xs kind size 1 ds → All (λ p. 0 < length p) ps
     made_some made =
         let k = keeps image store tells in
-        subst (All (λ p. 0 < length p)) (sym (made ∙ pieces_are _ _ k)) (file_some _ _ k w)
+        subst (All (λ p. 0 < length p)) (sym (made ∙ pieces_are _ _ _ k)) (file_some _ _ _ k w)

@@ -6,11 +6,10 @@ use Rattle.std.proofs.lemmas.List.{get_or-take, get_or-drop, length-take, length
 use Rattle.std.proofs.lemmas.List.Sorted.{IsNonDecreasingBy-from_default}
 use Rattle.std.proofs.lemmas.Grind.{common_steps}
 use native.Mathlib.Decide.{dec_lt}
-use Rattle.adf_base.specs.declared.hash.Letters.TheVariants.{Ascii}
 use Rattle.adf_tree.specs.Tree.{Tree}
 use Rattle.adf_volume.specs.declared.owner.Owner.{Owner}
 use Rattle.adf_volume.specs.Layout.{Layout, exts_of, datas_of, owned}
-use Rattle.adf_volume.specs.LayoutRoles.{LayoutHas, owner_of}
+use Rattle.adf_volume.specs.LayoutRoles.{LayoutHasBy, owner_of}
 use Rattle.adf_volume.specs.Lists.{At, In, NoBlockTwice}
 use Rattle.adf_volume.specs.Made.{picked}
 use Rattle.adf_volume.specs.Walk.{Role, Walk}
@@ -21,8 +20,9 @@ use Rattle.adf_volume.proofs.Places.{datas_below, exts_below}
 use Rattle.adf_walk.specs.declared.node_start.NodeStart.{NodeStart}
 use Rattle.adf_walk.specs.Places.{AreStarts, IsNumbered, first_data, first_ext, start_of}
 use Rattle.adf_check.specs.Store.{StoreValue}
-use Rattle.adf_check.specs.StoreStands.{StoreStandsFor}
+use Rattle.adf_check.specs.StoreStands.{StoreStandsForBy}
 use Rattle.adf_check.proofs.NodeSteps.{at_or}
+use Rattle.adf_base.specs.declared.hash.Letters.{Letters}
 
 -- a member of a part of a list, in the whole list
 pub at_whole : (xs ys : List ℕ) (s k b : ℕ) → take (length ys) (drop s xs) ≡ ys → At ys k b → At xs (s + k) b
@@ -73,7 +73,7 @@ pub start_at : (starts : List NodeStart) (n : ℕ) → n < length starts → At 
 start_at starts n lt = at_or starts n (record { exts = 0; datas = 0 }) lt
 
 -- the starts of a volume
-module _ {image : List ℕ} {store : StoreValue} {t : Tree} {l : Layout} (st : StoreStandsFor image store t l) where
+module _ {image : List ℕ} {store : StoreValue} {letters : Letters} {t : Tree} {l : Layout} (st : StoreStandsForBy letters image store t l) where
   starts_are : (first : NodeStart → ℕ) → ((x : NodeStart) → At store.starts 0 x → first x ≡ 0)
       → ((n m : ℕ) (x y : NodeStart) → n < m → At store.starts n x → At store.starts m y → first x ≤ first y) → AreStarts first store.starts
   starts_are first begins up =
@@ -103,7 +103,7 @@ module _ {image : List ℕ} {store : StoreValue} {t : Tree} {l : Layout} (st : S
   apart_at n m lt within = st.rising.apart n m (start_of store.starts n) (start_of store.starts m) lt (start_at store.starts n (omega arith))
       (start_at store.starts m within)
 
-  role_numbered : (r : Role) (b : ℕ) → LayoutHas image t l r b → IsNumbered store.starts (owner_of r)
+  role_numbered : (r : Role) (b : ℕ) → LayoutHasBy letters image t l r b → IsNumbered store.starts (owner_of r)
   role_numbered (Ext n zero) b h = absurd h
   role_numbered (Ext n (suc k)) b h = (
     omega arith,
@@ -126,4 +126,4 @@ module _ {image : List ℕ} {store : StoreValue} {t : Tree} {l : Layout} (st : S
 
   -- a part is numbered within its file
   pub part_numbered : (o : Owner) (b : ℕ) → In (owned image l) (o, b) → IsNumbered store.starts o
-  part_numbered o b h = let q = owned_part Ascii image t l st.fits.places o b h in subst (IsNumbered store.starts) (sym q.2) (role_numbered q.0 b q.1)
+  part_numbered o b h = let q = owned_part letters image t l st.fits.places o b h in subst (IsNumbered store.starts) (sym q.2) (role_numbered q.0 b q.1)

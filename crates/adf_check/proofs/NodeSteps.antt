@@ -1,12 +1,11 @@
 -- The steps along the nodes: each is begun, then the parts that its header points to are read.
 use Rattle.std.proofs.Common.{◌≡◌, ◌≢◌, inl, inr, ℕ, suc, ◌-◌, List, [], ◌∷◌, ◌<◌, ◌≤◌, length, get_or, refl, sym, ap, subst, ◌∙◌, arith}
 use Rattle.std.proofs.lemmas.Grind.{common_steps}
-use Rattle.adf_base.specs.declared.hash.Letters.TheVariants.{Ascii}
 use Rattle.adf_blocks.specs.declared.layout.TheConstants.{EXTENSION, SECONDARY_TYPE, ST_DIR}
 use Rattle.adf_blocks.specs.Sizes.{blocks}
-use Rattle.adf_volume.specs.Image.{kind_of, root_of, word_in}
+use Rattle.adf_volume.specs.Image.{letters_of, kind_of, root_of, word_in}
 use Rattle.adf_volume.specs.Lists.{At}
-use Rattle.adf_volume.specs.Walk.{Has, heads, HeadAt, DirAt, FileAt, IsWalk, Walk}
+use Rattle.adf_volume.specs.Walk.{Has, heads, HeadAt, DirAt, FileAt, Walk}
 use Rattle.adf_volume.specs.Walk.Role.{Root}
 use Rattle.adf_volume.proofs.Gathered.{root_in}
 use Rattle.adf_volume.proofs.FormDemands.{head_type}
@@ -16,13 +15,14 @@ use Rattle.adf_volume.proofs.PositionSteps.{end_nodes, enter_dir, low_first}
 use Rattle.adf_volume.proofs.Roles.{head_role}
 use Rattle.adf_volume.proofs.Walks.{numbered}
 use Rattle.adf_walk.specs.declared.kept_header.KeptHeader.{KeptHeader}
-use Rattle.adf_volume.specs.Start.{IsBegun}
+use Rattle.adf_volume.specs.Start.{IsOwnBegun}
 use Rattle.adf_check.specs.Reading.{IsAtNode, IsAtSlot, IsInExts, IsInNode, IsRead}
 use Rattle.adf_check.specs.Store.{StoreValue, StoreMatches, entered}
 use Rattle.adf_check.proofs.NumberBounds.{many_blocks}
 use Rattle.adf_check.proofs.ClaimSteps.{gathered, read_to}
 use Rattle.adf_check.proofs.ExtSteps.{enter_exts}
 use Rattle.adf_check.proofs.FileBlocks.{all_before, data_tells, ext_tells}
+use Rattle.adf_check.specs.Own.{IsOwnWalk}
 
 -- the member at a place
 pub at_or : {X : Type 0} (xs : List X) (i : ℕ) (d : X) → i < length xs → At xs i (get_or xs i d)
@@ -38,7 +38,7 @@ pub enter_node : (image : List ℕ) (store : StoreValue) (n : ℕ) → IsAtNode 
 enter_node image store n st = grind (arith, common_steps, at_snoc, all_before, ext_tells, data_tells, snoc_length, low_first)
 
 -- the node of a row
-module _ (image : List ℕ) (store : StoreValue) (w : Walk) (t : StoreMatches image store w) (v : IsWalk image w) where
+module _ (image : List ℕ) (store : StoreValue) (w : Walk) (t : StoreMatches image store w) (v : IsOwnWalk image w) where
   pub node_here : (i : ℕ) (r : KeptHeader) → At store.headers i r → HeadAt w (suc i) r.head
   node_here i r h =
       let u : i < length store.headers = at_below store.headers i r h in
@@ -52,7 +52,7 @@ module _ (image : List ℕ) (store : StoreValue) (w : Walk) (t : StoreMatches im
   file_here i r h d =
       let x = node_here i r h in
       let k = (kept image v (head_role x) r.head x.has).2 in
-      record { header = x; type = elim (head_type Ascii image (kind_of image) r.head k.0 x.slot k.2) [ inl e ↦ absurd (d e) | inr e ↦ e ] }
+      record { header = x; type = elim (head_type (letters_of image) image (kind_of image) r.head k.0 x.slot k.2) [ inl e ↦ absurd (d e) | inr e ↦ e ] }
 
 -- a directory's slots are next
 pub enter_directory : (image : List ℕ) (store : StoreValue) (n a : ℕ) (st : IsInNode image store n) → DirAt image st.walk n a
@@ -69,7 +69,7 @@ root_begins image store n a z e st =
     (subst (Has st.walk Root) (sym e) (root_in image (gathered st.read))))
 
 -- the next node is n, and its row is known
-module _ {image : List ℕ} {store : StoreValue} {m n : ℕ} {header : KeptHeader} (begun : IsBegun image) (view : m ≡ n) (ne : m ≢ 0)
+module _ {image : List ℕ} {store : StoreValue} {m n : ℕ} {header : KeptHeader} (begun : IsOwnBegun image) (view : m ≡ n) (ne : m ≢ 0)
     (within : n ≤ length store.headers) (header_is : header ≡ get_or store.headers (m - 1) header) (st : IsInNode image store n) where
   here : At store.headers (m - 1) header
   here = header_here store.headers (m - 1) header refl (omega arith) header_is

@@ -11,20 +11,20 @@ use Rattle.adf_volume.proofs.Walks.{of_walk}
 use Rattle.adf_volume.specs.Positions.{Position}
 use Rattle.adf_check.specs.Reading.{HasRead, IsInChain}
 use Rattle.adf_check.specs.Store.{StoreValue, StoreMatches}
-use Rattle.adf_volume.specs.Start.{IsBegun}
+use Rattle.adf_volume.specs.Start.{IsOwnBegun}
 use Rattle.adf_walk.specs.KeptOwner.{claimed_count}
 use Rattle.adf_volume.proofs.WalkMembers.{picked_within}
 use Rattle.adf_volume.proofs.WalkLengths.{heads_within}
 
 -- there are at least 4 blocks
-pub many_blocks : (image : List ℕ) → IsBegun image → 4 ≤ blocks image
+pub many_blocks : (image : List ℕ) → IsOwnBegun image → 4 ≤ blocks image
 many_blocks image begun = size_low (blocks image) begun.0.1
 
 -- there are few pages
-pub pages_few : (image : List ℕ) → IsBegun image → pages_needed (blocks image) < 2 ^ 29
+pub pages_few : (image : List ℕ) → IsOwnBegun image → pages_needed (blocks image) < 2 ^ 29
 pages_few image begun = omega (arith, size_high (blocks image) begun.0.1)
 
-module _ {image : List ℕ} {store : StoreValue} (begun : IsBegun image) (used : store.used ≡ claimed_count store.owners) where
+module _ {image : List ℕ} {store : StoreValue} (begun : IsOwnBegun image) (used : store.used ≡ claimed_count store.owners) where
   -- a walk has no more members than there are blocks
   walk_short : {w : Walk} → StoreMatches image store w → length w ≤ MOST_BLOCKS
   walk_short {w = w} tells = grind (arith, common_steps, count_by-le-length, size_high)

@@ -12,7 +12,7 @@ use Rattle.adf_blocks.specs.Sizes.{blocks, pages_needed}
 use Rattle.adf_blocks.specs.declared.layout.TheConstants.{MAP_EXT_PAGES, ROOT_PAGES}
 use Rattle.adf_volume.specs.Demands.{AllHold, page_demands}
 use Rattle.adf_volume.specs.Image.{word_in}
-use Rattle.adf_volume.specs.Walk.{Has, NamesPage, IsWalk, Walk}
+use Rattle.adf_volume.specs.Walk.{Has, NamesPage, Walk}
 use Rattle.adf_volume.specs.Walk.Role.{MapExt, Page}
 use Rattle.adf_volume.proofs.FormDemands.{all_demanded, first_demanded}
 use Rattle.adf_volume.proofs.Lists.{at_snoc, snoc_length}
@@ -20,14 +20,15 @@ use Rattle.adf_volume.proofs.MemberFacts.{kept, names_up}
 use Rattle.adf_volume.proofs.Pointers.{behind_map_ext, behind_page, map_ext_asks, map_ext_next, names_first, names_page, next_holder, page_next}
 use Rattle.adf_volume.proofs.PositionSteps.{end_pages}
 use Rattle.adf_volume.specs.Positions.{word_of_map_ext, word_of_page}
-use Rattle.adf_volume.specs.Fault.{IsTrueFault, fault}
-use Rattle.adf_volume.specs.Start.{IsBegun}
+use Rattle.adf_volume.specs.Fault.{fault}
+use Rattle.adf_volume.specs.Start.{IsOwnBegun}
 use Rattle.adf_check.specs.Pages.{AreListed}
 use Rattle.adf_check.specs.Reading.{HasRead, IsAtNode, IsAtPage, IsBeforePage, block_of_page, block_of_map_ext}
 use Rattle.adf_walk.specs.declared.kept_owner.KeptOwner.TheVariants.{Free}
 use Rattle.adf_walk.specs.KeptOwner.{kept_at}
 use Rattle.adf_check.specs.Store.{StoreValue}
 use Rattle.adf_check.proofs.ClaimSteps.{IsNextAt, IsStored, form_fault, read_one, read_to}
+use Rattle.adf_check.specs.Own.{IsOwnWalk, IsOwnFault}
 
 -- where no bitmap extension block comes before page k
 pub same_holder : (image : List ℕ) (store : StoreValue) (k a : ℕ) → IsBeforePage image store k a
@@ -39,12 +40,12 @@ pub pages_end : (image : List ℕ) (store : StoreValue) (a : ℕ) → IsBeforePa
 pages_end image store a st = grind (arith, common_steps, read_to, end_pages)
 
 -- pages by the words alone
-map_ext_is : (image : List ℕ) (w : Walk) (j a : ℕ) → IsWalk image w → Has w (MapExt j) a → block_of_map_ext image j ≡ a
+map_ext_is : (image : List ℕ) (w : Walk) (j a : ℕ) → IsOwnWalk image w → Has w (MapExt j) a → block_of_map_ext image j ≡ a
 map_ext_is image w zero a v h = (kept image v (MapExt 0) a h).1
 map_ext_is image w (suc j) a v h =
     let k = (kept image v (MapExt (suc j)) a h).1 in ap (λ a. word_in image a 127) (map_ext_is image w j k.0 v k.1) ∙ k.2
 
-names_is : (image : List ℕ) (w : Walk) (k b a i : ℕ) → IsWalk image w → NamesPage image w k a i → word_in image a i ≡ b
+names_is : (image : List ℕ) (w : Walk) (k b a i : ℕ) → IsOwnWalk image w → NamesPage image w k a i → word_in image a i ≡ b
     → block_of_page image k ≡ b
 names_is image w k b a i v (inl x) e = grind (arith, common_steps, cond-true, lt-ltb)
 names_is image w k b a i v (inr x) e =
@@ -54,11 +55,11 @@ names_is image w k b a i v (inr x) e =
     ∙ ap (word_in image (block_of_map_ext image ((k - 25) / 127))) ei ∙ ap (λ j. word_in image (block_of_map_ext image j) i) ej
     ∙ ap (λ a. word_in image a i) (map_ext_is image w x.0 a v x.1) ∙ e
 
-pub page_is : (image : List ℕ) (w : Walk) (k b : ℕ) → IsWalk image w → Has w (Page k) b → block_of_page image k ≡ b
+pub page_is : (image : List ℕ) (w : Walk) (k b : ℕ) → IsOwnWalk image w → Has w (Page k) b → block_of_page image k ≡ b
 page_is image w k b v h = let x = (kept image v (Page k) b h).1 in names_is image w k b x.0 x.1 v x.2 x.3
 
 -- page i comes next, and a word of block a names it as block b
-module _ {image : List ℕ} {store : StoreValue} {i a b : ℕ} (begun : IsBegun image) (needed : i < pages_needed (blocks image))
+module _ {image : List ℕ} {store : StoreValue} {i a b : ℕ} (begun : IsOwnBegun image) (needed : i < pages_needed (blocks image))
     (st : IsAtPage image store i a) (named : b ≡ word_in image a (word_of_page i)) where
   pub page_named : IsNextAt image store st.walk (Page i) a b
   page_named = grind (arith, common_steps)
@@ -67,7 +68,7 @@ module _ {image : List ℕ} {store : StoreValue} {i a b : ℕ} (begun : IsBegun 
   page_by_number = sym (names_is image st.walk i b a (word_of_page i) st.read.is_walk st.named (sym named))
 
   module _ (range : InRange (length store.owners) b) (free : kept_at store.owners b ≡ Free) {bytes : List ℕ} (is_block : bytes ≡ block image b) where
-    pub page_fault : (c : Cause) → first_cause (page_form bytes) ≡ Some c → IsTrueFault image (fault b c)
+    pub page_fault : (c : Cause) → first_cause (page_form bytes) ≡ Some c → IsOwnFault image (fault b c)
     page_fault c f =
         form_fault page_named tt range free c (first_demanded b (page_form (block image b)) c
         (ap (λ x. first_cause (page_form x)) (sym is_block) ∙ f))
@@ -83,7 +84,7 @@ module _ {image : List ℕ} {store : StoreValue} {i a b : ℕ} (begun : IsBegun 
         }
 
 -- the bitmap extension block whose first page is page i comes next, and a word of block a names it as block b
-module _ {image : List ℕ} {store : StoreValue} {i a b : ℕ} (begun : IsBegun image) (needed : i < pages_needed (blocks image)) (past : 25 ≤ i)
+module _ {image : List ℕ} {store : StoreValue} {i a b : ℕ} (begun : IsOwnBegun image) (needed : i < pages_needed (blocks image)) (past : 25 ≤ i)
     (begins : (i - 25) % 127 ≡ 0) (st : IsBeforePage image store i a) (named : b ≡ word_in image a (word_of_map_ext i)) where
   abbrev pub number : ℕ
   number = (i - 25) / 127

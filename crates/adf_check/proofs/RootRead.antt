@@ -6,7 +6,7 @@ use Rattle.adf_blocks.specs.Sizes.{blocks}
 use Rattle.adf_volume.specs.Image.{root_of}
 use Rattle.adf_volume.specs.Walk.Role.{Root as TheRoot}
 use Rattle.adf_volume.specs.Walk.IsWalkBy.{start}
-use Rattle.adf_volume.specs.Start.{IsBegun}
+use Rattle.adf_volume.specs.Start.{IsOwnBegun}
 use Rattle.adf_volume.proofs.PositionSteps.{with_root}
 use Rattle.adf_walk.specs.declared.kept_owner.KeptOwner.{KeptOwner, TheVariants.Free, TheVariants.Boot, TheVariants.Root}
 use Rattle.adf_walk.specs.KeptOwner.{claimed_count, kept_at}
@@ -60,7 +60,7 @@ none_owned : (m : ℕ) → claimed_count (replicate m Free) ≡ 0
 none_owned zero = refl
 none_owned (suc m) = none_owned m
 
-pub begun_with_root : (image : List ℕ) (n : ℕ) (owners new : List KeptOwner) → IsBegun image → n ≡ blocks image → owners ≡ new_owners (n - 2)
+pub begun_with_root : (image : List ℕ) (n : ℕ) (owners new : List KeptOwner) → IsOwnBegun image → n ≡ blocks image → owners ≡ new_owners (n - 2)
     → new ≡ set owners (root_of image) Root → claimed_count new ≡ claimed_count owners + 1
     → IsBeforePage image (record { owners = new; headers = []; dirs = 0; starts = []; exts = []; datas = []; used = claimed_count new }) 0
     (root_of image)
@@ -73,6 +73,6 @@ begun_with_root image n owners new begun size e f count =
     λ i. record { owners = (sym claimed) i; headers = []; dirs = 0; starts = []; exts = []; datas = []; used = (sym one) i } in
     subst (λ s. IsBeforePage image s 0 (root_of image)) kept (root_read image (n - 2) (root_of image) (omega arith) refl (omega arith) (omega arith))
 
-pub root_is_free : (image : List ℕ) (n : ℕ) (owners : List KeptOwner) → IsBegun image → n ≡ blocks image → owners ≡ new_owners (n - 2)
+pub root_is_free : (image : List ℕ) (n : ℕ) (owners : List KeptOwner) → IsOwnBegun image → n ≡ blocks image → owners ≡ new_owners (n - 2)
     → kept_at owners (root_of image) ≡ Free
 root_is_free image n owners begun size e = grind (arith, common_steps, many_blocks, new_free)

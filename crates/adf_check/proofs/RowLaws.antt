@@ -9,11 +9,11 @@ use Rattle.adf_base.specs.Words.{block}
 use Rattle.adf_tree.specs.declared.entry.Body.{Body, TheVariants.Dir, TheVariants.File}
 use Rattle.adf_names.specs.declared.kind.Kind.{Kind}
 use Rattle.adf_tree.specs.Tree.{Tree, entry, is_dir_body}
-use Rattle.adf_blocks.specs.HeadBlock.{IsHead, body_at, head_form}
+use Rattle.adf_blocks.specs.HeadBlock.{IsHead, body_at, head_form_by}
 use Rattle.adf_blocks.specs.declared.head.HeadBody.TheVariants.{Dir as HeadDir, File as HeadFile}
-use Rattle.adf_volume.specs.Demands.{AllHold, boot_demands, root_demands, demands_at}
-use Rattle.adf_volume.specs.Fits.{BodyFits, EntryFits}
-use Rattle.adf_volume.specs.Image.{kind_of, meta_of, name_of, root_of, word_in}
+use Rattle.adf_volume.specs.Demands.{AllHold, root_demands, demands_at, boot_demands_by}
+use Rattle.adf_volume.specs.Fits.{BodyFits, EntryFitsBy}
+use Rattle.adf_volume.specs.Image.{kind_of, meta_of, name_of, root_of, word_in, letters_of}
 use Rattle.adf_volume.specs.Layout.{Layout, at_node}
 use Rattle.adf_volume.specs.Lists.{At}
 use Rattle.adf_volume.proofs.MemberFacts.{kept}
@@ -22,18 +22,20 @@ use Rattle.adf_volume.proofs.FormDemands.{demanded}
 use Rattle.adf_volume.proofs.Lists.{all_append, at_below, at_some}
 use Rattle.adf_volume.proofs.Chains.{entry_is_at}
 use Rattle.adf_walk.specs.declared.kept_header.KeptHeader.{KeptHeader as Kept}
-use Rattle.adf_check.specs.StoreStands.{StoreStandsFor}
+use Rattle.adf_check.specs.StoreStands.{StoreStandsForBy}
 use Rattle.adf_check.specs.Reading.{StoreFits}
 use Rattle.adf_check.specs.Store.{StoreValue}
 use Rattle.adf_check.proofs.NodeSteps.{node_here}
-use Rattle.adf_volume.specs.Start.{IsBegun}
+use Rattle.adf_volume.specs.Start.{IsOwnBegun}
 use Rattle.adf_volume.specs.Rows.{row_body, row_in, row_of_body, row_of_entry}
 use Rattle.adf_volume.specs.declared.row.Row.{Row}
 use Rattle.adf_volume.specs.declared.row.RowBody.TheVariants.{Dir as DirRow, File as FileRow}
+use Rattle.adf_base.specs.declared.hash.Letters.{Letters}
 
 -- a block with the form of a header is one
-pub head_facts : (kind : Kind) (b own parent slot : ℕ) (bytes : List ℕ) → AllHold (demands_at b (head_form kind own parent slot bytes)) → IsHead bytes
-head_facts kind b own parent slot bytes h = grind (arith, common_steps, and_parts, demanded, nat_tests)
+pub head_facts : (letters : Letters) (kind : Kind) (b own parent slot : ℕ) (bytes : List ℕ)
+    → AllHold (demands_at b (head_form_by letters kind own parent slot bytes)) → IsHead bytes
+head_facts letters kind b own parent slot bytes h = grind (arith, common_steps, and_parts, demanded, nat_tests)
 
 -- the block of a row holds a header
 pub header_is_head : {image : List ℕ} {store : StoreValue} → StoreFits image store → (i : ℕ) (r : Kept) → At store.headers i r
@@ -41,10 +43,10 @@ pub header_is_head : {image : List ℕ} {store : StoreValue} → StoreFits image
 header_is_head {image = image} {store = store} st i r at =
     let x = node_here image store st.walk st.read.tells st.read.is_walk i r at in
     let k = (kept image st.read.is_walk (head_role x) r.head x.has).2 in
-    head_facts (kind_of image) r.head r.head k.0 x.slot (block image r.head) k.2
+    head_facts (letters_of image) (kind_of image) r.head r.head k.0 x.slot (block image r.head) k.2
 
-pub tells_begun : (image : List ℕ) (store : StoreValue) → StoreFits image store → IsBegun image
-tells_begun image store st = all_append (boot_demands image) (root_demands image (root_of image)) st.fits.boots st.fits.root
+pub tells_begun : (image : List ℕ) (store : StoreValue) → StoreFits image store → IsOwnBegun image
+tells_begun image store st = all_append (boot_demands_by (letters_of image) image) (root_demands image (root_of image)) st.fits.boots st.fits.root
 
 row_dir : (t : Bool) (size ext : ℕ) → t ≡ true → row_body (if t then HeadDir else HeadFile size ext) ≡ DirRow
 row_dir true size ext is = refl
@@ -61,16 +63,17 @@ type_told image t l n h Dir f = grind (arith, common_steps, nat_tests, row_dir)
 type_told image t l n h (File bytes) f = grind (arith, common_steps, nat_tests, row_file)
 
 -- what a row's header tells is what the tree has
-pub entry_told : (image : List ℕ) (store : StoreValue) (t : Tree) (l : Layout) → StoreStandsFor image store t l → (n i : ℕ) (r : Kept) (told : Row)
-    → n ≡ suc i → At store.headers i r → told ≡ row_in r.parent (block image r.head)
+pub entry_told : (image : List ℕ) (store : StoreValue) (letters : Letters) (t : Tree) (l : Layout) → StoreStandsForBy letters image store t l
+    → (n i : ℕ) (r : Kept) (told : Row) → n ≡ suc i → At store.headers i r → told ≡ row_in r.parent (block image r.head)
     → Some told ≡ option_map row_of_entry (entry t.entries n)
 unfolding name_of meta_of
-entry_told image store t l k n i r told e at_header is =
+entry_told image store letters t l k n i r told e at_header is =
     let lt : i < length store.headers = at_below store.headers i r at_header in
     let at = at_some t.entries i (omega arith) in
     let entry_is : entry t.entries n ≡ Some at.0 = ap (entry t.entries) e ∙ (entry_is_at t (suc i) at.0).0 at.1 in
     let h : at_node image l (suc i) ≡ r.head = k.headers.head i r at_header in
-    let fits : EntryFits image t l (suc i) r.head at.0 = subst (λ b. EntryFits image t l (suc i) b at.0) h (k.fits.entries (suc i) at.0 at.1) in
+    let fits : EntryFitsBy letters image t l (suc i) r.head at.0 =
+    subst (λ b. EntryFitsBy letters image t l (suc i) b at.0) h (k.fits.entries (suc i) at.0 at.1) in
     let same : row_in r.parent (block image r.head) ≡ row_of_entry at.0 = λ j. record {
       parent = (sym (k.headers.parent i r at.0 at_header at.1)) j;
       name = (sym fits.name) j;

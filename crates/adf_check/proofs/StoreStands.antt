@@ -1,13 +1,16 @@
 -- The store of a whole walk stands for the tree and the layout that fit.
 use Rattle.std.proofs.Common.{◌≡◌, ◌≢◌, ◌⊎◌, ℕ, zero, suc, List, ◌+◌, ◌-◌, ◌≤◌, inl, inr, length, refl, sym, ap, ◌∙◌, take, drop, arith, is_some}
 use Rattle.std.proofs.lemmas.Grind.{common_steps}
+use Rattle.adf_base.specs.declared.hash.Letters.{Letters}
 use Rattle.adf_tree.specs.declared.entry.Entry.{Entry}
-use Rattle.adf_volume.specs.Layout.{exts_of, datas_of}
+use Rattle.adf_tree.specs.Tree.{Tree}
+use Rattle.adf_volume.specs.Layout.{Layout, exts_of, datas_of}
 use Rattle.adf_volume.specs.Lists.{At}
 use Rattle.adf_volume.specs.Walk.{Role, Has}
 use Rattle.adf_volume.specs.Walk.Role.{Ext, Data}
-use Rattle.adf_volume.specs.LayoutRoles.{LayoutHas, owner_of}
-use Rattle.adf_volume.specs.Made.{tree_in, layout_in, exts_in, datas_in}
+use Rattle.adf_volume.specs.LayoutRoles.{LayoutHasBy, owner_of}
+use Rattle.adf_volume.specs.Made.{layout_in, exts_in, datas_in, tree_in_by}
+use Rattle.adf_volume.proofs.ImageStart.{own_letters}
 use Rattle.adf_volume.proofs.Lists.{at_fun, same_list}
 use Rattle.adf_volume.proofs.WalkAgreement.{agreement}
 use Rattle.adf_volume.proofs.WalkCompleteness.{part_walked}
@@ -21,18 +24,19 @@ use Rattle.adf_walk.specs.KeptOwner.{kept_at}
 use Rattle.adf_walk.specs.Places.{kept_as, start_of}
 use Rattle.adf_check.specs.Store.{StoreValue, blocks_before, data_file, ext_file, file_blocks}
 use Rattle.adf_check.specs.Reading.{StoreFits}
-use Rattle.adf_check.specs.StoreStands.{OwnersFit, HeadersFit, StartsFit, StartsRise, StoreStandsFor}
+use Rattle.adf_check.specs.StoreStands.{OwnersFit, HeadersFit, StartsFit, StartsRise, StoreStandsForBy}
 use Rattle.adf_check.proofs.NodeSteps.{node_here}
 use Rattle.adf_volume.proofs.WalkLengths.{walk_length, walked_once}
 use Rattle.adf_check.proofs.FileBlocks.{exts_apart, exts_stored, datas_apart, datas_stored, no_datas_before, no_exts_before}
 use Rattle.adf_check.proofs.KeptPlaces.{at_whole, data_node, ext_node, one_place, start_at}
+use Rattle.adf_volume.specs.Image.{letters_of}
 
 is_free : (o : KeptOwner) → (o ≡ kept.Free) ⊎ (o ≢ kept.Free)
 is_free kept.Free = inl refl
 is_free _ = inr (λ e. cc)
 
 module _ (image : List ℕ) (store : StoreValue) (st : StoreFits image store) where
-  headers_fit : HeadersFit image (tree_in image st.walk) (layout_in st.walk) store.headers
+  headers_fit : HeadersFit image (tree_in_by (letters_of image) image st.walk) (layout_in st.walk) store.headers
   headers_fit = record {
     count = st.read.tells.headers.count ∙ sym (entries_length image st.walk st.walk);
     head = (λ i r h.
@@ -48,11 +52,11 @@ module _ (image : List ℕ) (store : StoreValue) (st : StoreFits image store) wh
   }
 
   -- a part that the layout tells is in the walk, and the other way round
-  walked : (r : Role) (b : ℕ) → LayoutHas image (tree_in image st.walk) (layout_in st.walk) r b → Has st.walk r b
-  walked = part_walked image (tree_in image st.walk) (layout_in st.walk) st.fits st.walk st.read.is_walk st.read.whole
+  walked : (r : Role) (b : ℕ) → LayoutHasBy (letters_of image) image (tree_in_by (letters_of image) image st.walk) (layout_in st.walk) r b → Has st.walk r b
+  walked = part_walked image (tree_in_by (letters_of image) image st.walk) (layout_in st.walk) st.fits st.walk st.read.is_walk st.read.whole
 
-  agreed : (r : Role) (b : ℕ) → Has st.walk r b → LayoutHas image (tree_in image st.walk) (layout_in st.walk) r b
-  agreed r b = agreement image (tree_in image st.walk) (layout_in st.walk) st.fits st.walk r b st.read.is_walk
+  agreed : (r : Role) (b : ℕ) → Has st.walk r b → LayoutHasBy (letters_of image) image (tree_in_by (letters_of image) image st.walk) (layout_in st.walk) r b
+  agreed r b = agreement image (tree_in_by (letters_of image) image st.walk) (layout_in st.walk) st.fits st.walk r b st.read.is_walk
 
   exts_are : (n : ℕ) → exts_of (layout_in st.walk) n ≡ exts_in st.walk n
   exts_are n = same_list (exts_of (layout_in st.walk) n) (exts_in st.walk n)
@@ -137,5 +141,14 @@ module _ (image : List ℕ) (store : StoreValue) (st : StoreFits image store) wh
         ));
   }
 
-  pub keeps : StoreStandsFor image store (tree_in image st.walk) (layout_in st.walk)
+  pub keeps : StoreStandsForBy (letters_of image) image store (tree_in_by (letters_of image) image st.walk) (layout_in st.walk)
   keeps = grind (arith, common_steps, owners_fit, headers_fit, starts_fit, starts_rise, walk_length)
+
+-- the letters by which a tree fits are those of the image, and of the tree
+pub own_are : {letters : Letters} {image : List ℕ} {store : StoreValue} {t : Tree} {l : Layout} → StoreStandsForBy letters image store t l
+    → letters_of image ≡ letters
+own_are {letters = letters} {image = image} k = own_letters letters image k.fits.boots
+
+pub letters_are : {letters : Letters} {image : List ℕ} {store : StoreValue} {t : Tree} {l : Layout} → StoreStandsForBy letters image store t l
+    → letters_of image ≡ t.letters
+letters_are k = own_are k ∙ sym k.fits.letters

@@ -3,11 +3,11 @@ use Rattle.std.proofs.Common.{◌≡◌, ℕ, suc, [], ◌∷◌, ◌++◌, ◌+
 use Rattle.std.specs.Prelude.{IsSome, option_map}
 use Rattle.std.proofs.lemmas.List.{take_more}
 use Rattle.std.proofs.lemmas.Grind.{common_steps}
-use Rattle.adf_base.specs.declared.hash.Letters.{Letters, TheVariants.Ascii}
+use Rattle.adf_base.specs.declared.hash.Letters.{Letters}
 use Rattle.adf_tree.specs.declared.entry.Body.{Body, TheVariants.Dir, TheVariants.File}
 use Rattle.adf_tree.specs.declared.entry.Entry.{Entry}
-use Rattle.adf_tree.specs.Laws.{IsNextEntry}
-use Rattle.adf_tree.specs.Tree.{IsTree, Tree, entry, with_last, IsLastBy, MayAddBy}
+use Rattle.adf_tree.specs.Laws.{IsNextEntryBy}
+use Rattle.adf_tree.specs.Tree.{IsTreeBy, Tree, entry, with_last, IsLastBy, MayAddBy}
 use Rattle.adf_tree.proofs.TreePrefixes.{is_next}
 use Rattle.adf_volume.proofs.Lists.{at_index_or, at_some}
 use Rattle.adf_volume.proofs.Chains.{entry_is_at}
@@ -44,15 +44,15 @@ entry_here t i x e =
     at_index_or t.entries i x x ((entry_is_at t (suc i) x).1 (sym (e ∙ ap (entry t.entries) k)))
 
 -- each entry may be added behind those before it
-pub may_follow : {t u : Tree} {i n : ℕ} {x : Entry} {r : Option Entry} → t.letters ≡ Ascii → IsTree t.entries
+pub may_follow : {letters : Letters} {t u : Tree} {i n : ℕ} {x : Entry} {r : Option Entry} → t.letters ≡ letters → IsTreeBy letters t.entries
     → u ≡ record { kind = t.kind; letters = t.letters; label = t.label; stamps = t.stamps; entries = take i t.entries }
     → n ≡ length t.entries → i < n
     → r ≡ entry t.entries (i + 1) → r ≡ Some x → MayAddBy u.letters u.entries x × IsLastBy u.letters u.entries x
-may_follow {t = t} {u = u} {i = i} {x = x} letters tree e count lt here is =
-    let next : IsNextEntry t.entries i x =
-    subst (IsNextEntry t.entries i) (entry_here t i x (sym is ∙ here)) (is_next t.entries i x tree (omega arith)) in
+may_follow {letters = l} {t = t} {u = u} {i = i} {x = x} is_letters tree e count lt here is =
+    let next : IsNextEntryBy l t.entries i x =
+    subst (IsNextEntryBy l t.entries i) (entry_here t i x (sym is ∙ here)) (is_next t.entries i x tree (omega arith)) in
     subst (λ (u : Tree). MayAddBy u.letters u.entries x × IsLastBy u.letters u.entries x) (sym e)
-    (subst (λ (l : Letters). MayAddBy l (take i t.entries) x × IsLastBy l (take i t.entries) x) (sym letters) (next.may, next.last))
+    (subst (λ (l : Letters). MayAddBy l (take i t.entries) x × IsLastBy l (take i t.entries) x) (sym is_letters) (next.may, next.last))
 
 -- the first entries and the next one
 pub tree_more : (t : Tree) (i : ℕ) (x : Entry) → i < length t.entries → Some x ≡ entry t.entries (i + 1)

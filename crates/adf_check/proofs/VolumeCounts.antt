@@ -12,7 +12,7 @@ use Rattle.adf_volume.proofs.MemberFacts.{in_range}
 use Rattle.adf_volume.proofs.Roles.{head_role}
 use Rattle.adf_volume.proofs.WalkCounts.{others, same_count}
 use Rattle.adf_walk.specs.declared.kept_header.KeptHeader.{KeptHeader}
-use Rattle.adf_check.specs.StoreStands.{StoreStandsFor}
+use Rattle.adf_check.specs.StoreStands.{StoreStandsForBy}
 use Rattle.adf_check.specs.Reading.{StoreFits}
 use Rattle.adf_check.specs.Store.{StoreValue, is_dir_at}
 use Rattle.adf_check.proofs.NodeSteps.{node_here}
@@ -20,6 +20,7 @@ use Rattle.adf_check.proofs.NumberBounds.{many_blocks}
 use Rattle.adf_check.proofs.RowLaws.{tells_begun, type_told}
 use Rattle.adf_volume.specs.Counts.{counts_of, is_directory}
 use Rattle.adf_volume.specs.declared.counts.Counts.{Counts}
+use Rattle.adf_base.specs.declared.hash.Letters.{Letters}
 
 -- the headers of rows are blocks of the image
 pub header_inside : {image : List ℕ} {store : StoreValue} → StoreFits image store → (i : ℕ) (r : KeptHeader) → At store.headers i r
@@ -27,17 +28,17 @@ pub header_inside : {image : List ℕ} {store : StoreValue} → StoreFits image 
 header_inside {image = image} {store = store} st i r at = grind (arith, common_steps, node_here, in_range, many_blocks, tells_begun, head_role)
 
 -- the directories of the rows are those of the tree
-pub dirs_are : (image : List ℕ) (store : StoreValue) (t : Tree) (l : Layout) → StoreStandsFor image store t l
+pub dirs_are : (image : List ℕ) (store : StoreValue) (letters : Letters) (t : Tree) (l : Layout) → StoreStandsForBy letters image store t l
     → count_by (is_dir_at image) store.headers ≡ count_by is_directory t.entries
-dirs_are image store t l k = same_count (is_dir_at image) is_directory store.headers t.entries k.headers.count (λ i r e at_header at_entry.
+dirs_are image store letters t l k = same_count (is_dir_at image) is_directory store.headers t.entries k.headers.count (λ i r e at_header at_entry.
     let h : at_node image l (suc i) ≡ r.head = k.headers.head i r at_header in
     subst (λ b. (word_in image b SECONDARY_TYPE == ST_DIR)
     ≡ is_directory e) h (type_told image t l (suc i) (at_node image l (suc i)) e.body (k.fits.entries (suc i) e at_entry).body).0)
 
 -- the numbers of a volume are those of the tree and the layout that it stands for
-pub counts_are : (image : List ℕ) (store : StoreValue) (t : Tree) (l : Layout) (kind : Kind) (n used dirs all : ℕ) → StoreStandsFor image store t l
-    → kind ≡ kind_of image
+pub counts_are : (image : List ℕ) (store : StoreValue) (letters : Letters) (t : Tree) (l : Layout) (kind : Kind) (n used dirs all : ℕ)
+    → StoreStandsForBy letters image store t l → kind ≡ kind_of image
     → n ≡ blocks image → used ≡ store.used
     → dirs ≡ count_by (is_dir_at image) store.headers → all ≡ length store.headers
     → ◌≡◌ {A = Counts} (record { kind = kind; blocks = n; used = used; free = n - 2 - used; dirs = dirs; files = all - dirs }) (counts_of image t l)
-counts_are image store t l kind n used dirs all k ek en eu ed ea = grind (arith, common_steps, count_by, dirs_are, others)
+counts_are image store letters t l kind n used dirs all k ek en eu ed ea = grind (arith, common_steps, count_by, dirs_are, others)

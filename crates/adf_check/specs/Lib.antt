@@ -3,6 +3,7 @@ pub mod Store
 pub mod StoreStands
 pub mod Volumes
 pub mod Pieces
+pub mod Own
 -- The states of the checker: its position, what is read up to it, and its steps.
 pub mod Reading
 pub mod Progress

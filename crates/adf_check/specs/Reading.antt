@@ -6,22 +6,23 @@ use Rattle.std.specs.Prelude.{◌≡◌, ℕ, List, [], ◌+◌, ◌-◌, ◌/�
 use Rattle.std.proofs.Common.{zero, suc}
 use Rattle.adf_blocks.specs.declared.layout.TheConstants.{EXTENSION, FIRST_MAP_EXT, FIRST_PAGE, MAP_EXT_NEXT, MAP_EXT_PAGES, ROOT_PAGES}
 use Rattle.adf_tree.specs.NameSet.{has, Names}
-use Rattle.adf_names.specs.Texts.{uppers}
+use Rattle.adf_names.specs.Texts.{uppers_by}
 use Rattle.adf_volume.specs.Lists.{At}
-use Rattle.adf_volume.specs.Image.{word_in, root_of, name_of}
+use Rattle.adf_volume.specs.Image.{letters_of, word_in, root_of, name_of}
 use Rattle.adf_volume.specs.Demands.{AllHold}
-use Rattle.adf_volume.specs.Walk.{Has, DirAt, FileAt, MemberAt, NamesPage, ext_count, IsWalk, IsWhole, bitmap_demands, Walk}
+use Rattle.adf_volume.specs.Walk.{Has, DirAt, FileAt, MemberAt, NamesPage, ext_count, IsWhole, bitmap_demands, Walk}
 use Rattle.adf_volume.specs.Walk.Role.{Page, Head, Ext, Data}
 use Rattle.adf_volume.specs.Positions.{Position, IsLink, IsPageHolder, IsUpTo, before_node, before_page, position_of, word_of_page}
-use Rattle.adf_volume.specs.Fits.{Fits}
-use Rattle.adf_volume.specs.Made.{tree_in, layout_in}
+use Rattle.adf_volume.specs.Fits.{FitsBy}
+use Rattle.adf_volume.specs.Made.{tree_in_by, layout_in}
+use Rattle.adf_check.specs.Own.{IsOwnWalk}
 use Rattle.adf_check.specs.Store.{StoreValue, StoreMatches}
 
 -- the walk has all parts before the position and none after it; n nodes are begun, and the store matches the walk
 pub record HasRead (image : List ℕ) (store : StoreValue) (w : Walk) (n : ℕ) (at : Position) : Type 0 where
   pub tells : StoreMatches image store w
   pub started : length store.starts ≡ n
-  pub is_walk : IsWalk image w
+  pub is_walk : IsOwnWalk image w
   pub up_to : IsUpTo image w [] at
 
 -- the check is at a position, with n nodes begun
@@ -43,10 +44,10 @@ pub record IsAtSlot (image : List ℕ) (store : StoreValue) (p up s : ℕ) : Typ
   pub read : HasRead image store walk (suc p) (position_of (Head 0 p s 0))
   pub dir : DirAt image walk p up
 
--- `seen` holds for the upper-case names of the headers that the walk has in a chain, and for no others
+-- `seen` holds for the upper-case names, by the letters of the image, of the headers that the walk has in a chain, and for no others
 pub record Sees (image : List ℕ) (w : Walk) (p s : ℕ) (seen : List ℕ → Type 0) : Type 0 where
-  pub all : (m k c : ℕ) → Has w (Head m p s k) c → seen (uppers (name_of image c))
-  pub only : (x : List ℕ) → seen x → (m k c : ℕ) × Has w (Head m p s k) c × (uppers (name_of image c) ≡ x)
+  pub all : (m k c : ℕ) → Has w (Head m p s k) c → seen (uppers_by (letters_of image) (name_of image c))
+  pub only : (x : List ℕ) → seen x → (m k c : ℕ) × Has w (Head m p s k) c × (uppers_by (letters_of image) (name_of image c) ≡ x)
 
 -- the names in the set
 abbrev pub sees_of : Names → List ℕ → Type 0
@@ -117,7 +118,7 @@ pub record IsInDatas (image : List ℕ) (store : StoreValue) (n h : ℕ) (table 
 pub record HasReadAll (image : List ℕ) (store : StoreValue) (w : Walk) : Type 0 where
   pub tells : StoreMatches image store w
   pub started : length store.starts ≡ suc (length store.headers)
-  pub is_walk : IsWalk image w
+  pub is_walk : IsOwnWalk image w
   pub whole : IsWhole image w
 
 -- everything has been read
@@ -132,8 +133,8 @@ pub record IsMapped (image : List ℕ) (store : StoreValue) (b : ℕ) : Type 0 w
   pub low : 2 ≤ b
   pub agrees : AllHold (bitmap_demands image walk 2 (b - 2))
 
--- the store matches a whole walk whose tree and layout fit
+-- the store matches a whole walk whose tree and layout fit, by the letters of the image
 pub record StoreFits (image : List ℕ) (store : StoreValue) : Type 0 where
   pub walk : Walk
   pub read : HasReadAll image store walk
-  pub fits : Fits image (tree_in image walk) (layout_in walk)
+  pub fits : FitsBy (letters_of image) image (tree_in_by (letters_of image) image walk) (layout_in walk)

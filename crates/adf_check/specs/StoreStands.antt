@@ -1,13 +1,14 @@
 -- The store of a volume that a tree and a layout fit.
 use Rattle.std.specs.Prelude.{◌≡◌, ℕ, List, ◌+◌, ◌<◌, ◌≤◌, length, take, drop}
 use Rattle.std.proofs.Common.{suc}
+use Rattle.adf_base.specs.declared.hash.Letters.{Letters}
 use Rattle.adf_tree.specs.declared.entry.Entry.{Entry}
 use Rattle.adf_tree.specs.Tree.{Tree}
 use Rattle.adf_blocks.specs.Sizes.{blocks}
 use Rattle.adf_volume.specs.declared.owner.Owner.{Owner}
 use Rattle.adf_volume.specs.Lists.{At, In}
 use Rattle.adf_volume.specs.Layout.{Layout, EntryAt, at_node, exts_of, datas_of, owned}
-use Rattle.adf_volume.specs.Fits.{Fits}
+use Rattle.adf_volume.specs.Fits.{FitsBy}
 use Rattle.adf_walk.specs.declared.kept_header.KeptHeader.{KeptHeader}
 use Rattle.adf_walk.specs.declared.node_start.NodeStart.{NodeStart}
 use Rattle.adf_walk.specs.declared.kept_owner.KeptOwner.{KeptOwner}
@@ -41,9 +42,9 @@ pub record StartsRise (l : Layout) (starts : List NodeStart) : Type 0 where
   pub apart : (n m : ℕ) (x y : NodeStart) → n < m → At starts n x → At starts m y
       → (x.exts + length (exts_of l n) ≤ y.exts) × (x.datas + length (datas_of l n) ≤ y.datas)
 
--- the store stands for this tree and layout, which fit the image
-pub record StoreStandsFor (image : List ℕ) (store : StoreValue) (t : Tree) (l : Layout) : Type 0 where
-  pub fits : Fits image t l
+-- the store stands for this tree and layout, which fit the image as a volume with these letters
+pub record StoreStandsForBy (letters : Letters) (image : List ℕ) (store : StoreValue) (t : Tree) (l : Layout) : Type 0 where
+  pub fits : FitsBy letters image t l
   pub owners : OwnersFit image l store.starts store.owners
   pub headers : HeadersFit image t l store.headers
   pub starts : StartsFit l store

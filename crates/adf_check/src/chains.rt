@@ -1,7 +1,7 @@
 // Directories: the headers of each slot's chain.
 
 ghost use Rattle.adf_base.specs.Words.{word};
-ghost use Rattle.adf_volume.specs.Fault.{IsTrueFault};
+ghost use Rattle.adf_check.specs.Own.{IsOwnFault};
 ghost use Rattle.std.specs.Prelude.{◌≡◌, ◌≢◌, ◌==◌, ◌<◌, ◌+◌, ◌^◌, OnOk, IfOk, IfErr};
 ghost use Rattle.adf_blocks.specs.Sizes.{blocks};
 ghost use Rattle.adf_blocks.specs.declared.layout.TheConstants.{FIRST_SLOT, SECONDARY_TYPE, SLOTS, ST_DIR};
@@ -12,7 +12,7 @@ ghost use Rattle.adf_check.specs.Store.{store_value};
 
 use crate::claims::claim_named;
 use crate::store::Store;
-use adf_blocks::{Cause, Directory, Head, HeadBody, SLOTS, read_head};
+use adf_blocks::{Cause, Directory, Head, HeadBody, HeadPlace, SLOTS, read_head_at};
 use adf_tree::{NameSet, Node};
 use adf_volume::{Fault, Image, fault_at, no_memory};
 use adf_walk::{KeptHeader, KeptOwner};
@@ -63,16 +63,23 @@ fn read_header(
     ensures fewer { OnOk result (IsFurther store.old store.new) }
     ensures less { OnOk result (left store.new < left store.old) }
     ensures inside { OnOk result (b < blocks image.now) }
-    ensures fault { IfErr result (λ f. IsTrueFault image.now f) }
+    ensures fault { IfErr result (λ f. IsOwnFault image.now f) }
 {
     let kind = image.kind();
+    let letters = image.letters();
     let node = store.headers.len() as u32 + 1;
     claim_named(&mut store.owners, holder, b, KeptOwner::Head(node))?;
-    let head = match read_head(image.block(b), kind, b, chain.up, chain.slot) {
+    let place = HeadPlace {
+        own: b,
+        parent: chain.up,
+        letters,
+        slot: chain.slot,
+    };
+    let head = match read_head_at(image.block(b), kind, place) {
         Ok(head) => head,
         Err(cause) => return Err(fault_at(b, cause)),
     };
-    match seen.put(&head.name()) {
+    match seen.put_by(letters, &head.name()) {
         Ok(true) => (),
         Ok(false) => return Err(fault_at(b, Cause::SameName)),
         Err(_) => return Err(no_memory()),
@@ -101,7 +108,7 @@ fn read_chain(
         (IsAtSlot image.now (store_value store.new) chain.now.parent chain.now.up
         (chain.now.slot + 1)) }
     ensures fewer { OnOk result (IsFurther store.old store.new) }
-    ensures fault { IfErr result (λ f. IsTrueFault image.now f) }
+    ensures fault { IfErr result (λ f. IsOwnFault image.now f) }
 {
     seen.clear();
     let mut holder = chain.up;
@@ -127,7 +134,7 @@ pub fn read_directory(
     requires state { IsAtSlot image.now (store_value store.old) parent up 0 }
     ensures state { OnOk result (IsAtNode image.now (store_value store.new) (parent + 1)) }
     ensures fewer { OnOk result (IsFurther store.old store.new) }
-    ensures fault { IfErr result (λ f. IsTrueFault image.now f) }
+    ensures fault { IfErr result (λ f. IsOwnFault image.now f) }
 {
     let directory = Directory::over(image.block(up));
     for slot in 0..SLOTS as u8 {

@@ -3,7 +3,8 @@
 ghost use Rattle.std.specs.Prelude.{◌≡◌, ◌+◌, ◌≤◌, ◌<◌, ◌↔◌, ℕ, [], length, IsOk, IsSome, Some, IfOk, IfSome, option_map};
 ghost use Rattle.std.specs.Option.{unwrap_or};
 ghost use Rattle.std.specs.List.{All, concat};
-ghost use Rattle.adf_tree.specs.Tree.{Tree, entry, find};
+ghost use Rattle.adf_base.specs.declared.hash.Letters.{Letters};
+ghost use Rattle.adf_tree.specs.Tree.{Tree, entry, find_by};
 ghost use Rattle.adf_blocks.specs.Sizes.{blocks};
 ghost use Rattle.adf_volume.specs.declared.owner.Owner.{Owner};
 ghost use Rattle.adf_volume.specs.Layout.{Layout, at_node, datas_of, owned};
@@ -12,14 +13,15 @@ ghost use Rattle.adf_check.specs.Store.{store_value};
 ghost use Rattle.adf_walk.specs.OwnerClass.{class_of};
 ghost use Rattle.adf_check.specs.Pieces.{bytes_of, pieces_at};
 ghost use Rattle.adf_volume.specs.Rows.{row_of_entry};
-ghost use Rattle.adf_check.specs.Volumes.{IsChecked, StandsFor};
+ghost use Rattle.adf_check.specs.Volumes.{IsChecked, StandsForBy};
 ghost use Rattle.adf_volume.specs.Counts.{counts_of};
+ghost use Rattle.adf_volume.specs.Image.{letters_of};
 
 use crate::lookup::{block_of, find};
 use crate::pieces::{blocks_of, pieces_of};
 use crate::rebuild::tree_of;
 use crate::store::Store;
-use adf_base::NoMemory;
+use adf_base::{Letters, NoMemory};
 use adf_blocks::Head;
 use adf_tree::{Kind, Label, Name, Node, Stamps};
 use adf_volume::{Counts, Image, Owner, Pieces, Row, joined, row_of};
@@ -67,10 +69,10 @@ impl Checked<'_> {
     /// there is no such block.
     pub fn owner(&self, b: u32) -> Option<Owner>
         ensures some { IsSome result ↔ (b < blocks self.now.image) }
-        ensures part { (t : Tree) (l : Layout) (o : Owner) → StandsFor self.now t l
+        ensures part { (letters : Letters) (t : Tree) (l : Layout) (o : Owner) → StandsForBy letters self.now t l
             → In (owned self.now.image l) (o, b) → result ≡ Some o }
         ensures boot { b < 2 → result ≡ Some Owner.Boot }
-        ensures free { (t : Tree) (l : Layout) → StandsFor self.now t l → 2 ≤ b
+        ensures free { (letters : Letters) (t : Tree) (l : Layout) → StandsForBy letters self.now t l → 2 ≤ b
             → b < blocks self.now.image
             → ((o : Owner) → In (owned self.now.image l) (o, b) → ⊥) → result ≡ Some Owner.Free }
     {
@@ -86,10 +88,10 @@ impl Checked<'_> {
     #[tactic(auto, using(crate::proofs::StoreStands::keeps))]
     pub fn owner_class(&self, b: u32) -> Option<OwnerClass>
         ensures some { IsSome result ↔ (b < blocks self.now.image) }
-        ensures part { (t : Tree) (l : Layout) (o : Owner) → StandsFor self.now t l
+        ensures part { (letters : Letters) (t : Tree) (l : Layout) (o : Owner) → StandsForBy letters self.now t l
             → In (owned self.now.image l) (o, b) → result ≡ Some (class_of o) }
         ensures boot { b < 2 → result ≡ Some OwnerClass.Boot }
-        ensures free { (t : Tree) (l : Layout) → StandsFor self.now t l → 2 ≤ b
+        ensures free { (letters : Letters) (t : Tree) (l : Layout) → StandsForBy letters self.now t l → 2 ≤ b
             → b < blocks self.now.image
             → ((o : Owner) → In (owned self.now.image l) (o, b) → ⊥) → result ≡ Some OwnerClass.Free }
     {
@@ -100,33 +102,44 @@ impl Checked<'_> {
         }
     }
 
+    /// The letters of its names.
+    #[tactic(auto, using(crate::proofs::StoreStands::letters_are))]
+    pub fn letters(&self) -> Letters
+        ensures image { result ≡ letters_of self.now.image }
+        ensures tree { (letters : Letters) (t : Tree) (l : Layout) → StandsForBy letters self.now t l
+            → result ≡ t.letters }
+    {
+        self.image.letters()
+    }
+
     /// The label.
     pub fn label(&self) -> &Label
-        ensures { (t : Tree) (l : Layout) → StandsFor self.now t l → result.now ≡ t.label }
+        ensures { (letters : Letters) (t : Tree) (l : Layout) → StandsForBy letters self.now t l → result.now ≡ t.label }
     {
         &self.label
     }
 
     /// The dates of the root, the last change and the creation.
     pub fn stamps(&self) -> Stamps
-        ensures { (t : Tree) (l : Layout) → StandsFor self.now t l → result ≡ t.stamps }
+        ensures { (letters : Letters) (t : Tree) (l : Layout) → StandsForBy letters self.now t l → result ≡ t.stamps }
     {
         self.stamps
     }
 
     /// The number of entries, not counting the root.
     pub fn len(&self) -> usize
-        ensures count { (t : Tree) (l : Layout) → StandsFor self.now t l
+        ensures count { (letters : Letters) (t : Tree) (l : Layout) → StandsForBy letters self.now t l
             → result ≡ length t.entries }
-        // There are a tree and a layout that the volume stands for.
-        ensures stands { (t : Tree) × (l : Layout) × StandsFor self.now t l }
+        // There are a tree and a layout that the volume stands for, by its letters.
+        ensures stands { (t : Tree) × (l : Layout)
+            × StandsForBy (letters_of self.now.image) self.now t l }
     {
         self.store.headers.len()
     }
 
     /// The row of an entry; `None` for the root and past the last entry.
     pub fn row(&self, n: Node) -> Option<Row>
-        ensures { (t : Tree) (l : Layout) → StandsFor self.now t l
+        ensures { (letters : Letters) (t : Tree) (l : Layout) → StandsForBy letters self.now t l
             → result ≡ option_map row_of_entry (entry t.entries n) }
     {
         if n.0 == 0 {
@@ -137,19 +150,19 @@ impl Checked<'_> {
         Some(row_of(Node(kept.parent as usize), &head))
     }
 
-    /// The node that the path leads to, ignoring case; 0 for the empty path.
+    /// The node that the path leads to, ignoring the case of the volume's letters; 0 for the empty path.
     pub fn find(&self, path: &[Name]) -> Option<Node>
-        ensures { (t : Tree) (l : Layout) → StandsFor self.now t l
-            → result ≡ find t.entries path.now }
+        ensures { (letters : Letters) (t : Tree) (l : Layout) → StandsForBy letters self.now t l
+            → result ≡ find_by letters t.entries path.now }
     {
         find(&self.image, &self.store, path)
     }
 
     /// The block of the root or of an entry's header; `None` past the last entry.
     pub fn block_of(&self, n: Node) -> Option<u32>
-        ensures some { (t : Tree) (l : Layout) → StandsFor self.now t l
+        ensures some { (letters : Letters) (t : Tree) (l : Layout) → StandsForBy letters self.now t l
             → IsSome result ↔ (n ≤ length t.entries) }
-        ensures block { (t : Tree) (l : Layout) → StandsFor self.now t l
+        ensures block { (letters : Letters) (t : Tree) (l : Layout) → StandsForBy letters self.now t l
             → IfSome result (λ b. b ≡ at_node self.now.image l n) }
     {
         if self.store.headers.len() < n.0 {
@@ -160,7 +173,7 @@ impl Checked<'_> {
 
     /// The data blocks of a file, in file order; empty for the root, a directory, and past the last entry.
     pub fn blocks_of(&self, n: Node) -> &[u32]
-        ensures { (t : Tree) (l : Layout) → StandsFor self.now t l → result.now ≡ datas_of l n }
+        ensures { (letters : Letters) (t : Tree) (l : Layout) → StandsForBy letters self.now t l → result.now ≡ datas_of l n }
     {
         blocks_of(&self.image, &self.store, n)
     }
@@ -168,11 +181,11 @@ impl Checked<'_> {
     /// The bytes of a file as slices of the image, one for each data block; `None` for the root, a directory, and past
     /// the last entry.
     pub fn pieces(&self, n: Node) -> Option<Pieces<'_>>
-        ensures exact { (t : Tree) (l : Layout) → StandsFor self.now t l
+        ensures exact { (letters : Letters) (t : Tree) (l : Layout) → StandsForBy letters self.now t l
             → result ≡ pieces_at self.now.image t l n }
-        ensures joined { (t : Tree) (l : Layout) → StandsFor self.now t l
+        ensures joined { (letters : Letters) (t : Tree) (l : Layout) → StandsForBy letters self.now t l
             → option_map concat result ≡ bytes_of (entry t.entries n) }
-        ensures one_each { (t : Tree) (l : Layout) → StandsFor self.now t l
+        ensures one_each { (letters : Letters) (t : Tree) (l : Layout) → StandsForBy letters self.now t l
             → IfSome result (λ ps. length ps ≡ length (datas_of l n)) }
         ensures some { IfSome result (λ ps. All (λ p. 0 < length p) ps) }
     {
@@ -180,11 +193,10 @@ impl Checked<'_> {
     }
 
     /// The bytes of a file; `None` for the root, a directory, and past the last entry. An empty file needs no memory.
-    #[tactic(auto, using(crate::proofs::FilePieces::no_pieces))]
     pub fn read(&self, alloc: Global, n: Node) -> Result<Option<Vec<u8>>, NoMemory>
-        ensures bytes { (t : Tree) (l : Layout) → StandsFor self.now t l
+        ensures bytes { (letters : Letters) (t : Tree) (l : Layout) → StandsForBy letters self.now t l
             → IfOk result (λ r. option_map (λ v. v.items) r ≡ bytes_of (entry t.entries n)) }
-        ensures empty { (t : Tree) (l : Layout) → StandsFor self.now t l
+        ensures empty { (letters : Letters) (t : Tree) (l : Layout) → StandsForBy letters self.now t l
             → unwrap_or (bytes_of (entry t.entries n)) [] ≡ [] → IsOk result }
     {
         match self.pieces(n) {
@@ -195,8 +207,8 @@ impl Checked<'_> {
 
     /// The tree of the volume. A volume with no entries needs no memory.
     pub fn to_tree(&self, alloc: Global) -> Result<adf_tree::Tree, NoMemory>
-        ensures tree { (t : Tree) (l : Layout) → StandsFor self.now t l → IfOk result (λ u. u ≡ t) }
-        ensures empty { (t : Tree) (l : Layout) → StandsFor self.now t l → t.entries ≡ []
+        ensures tree { (letters : Letters) (t : Tree) (l : Layout) → StandsForBy letters self.now t l → IfOk result (λ u. u ≡ t) }
+        ensures empty { (letters : Letters) (t : Tree) (l : Layout) → StandsForBy letters self.now t l → t.entries ≡ []
             → IsOk result }
     {
         tree_of(self, alloc)
@@ -205,7 +217,7 @@ impl Checked<'_> {
     /// The counts of the volume.
     #[tactic(auto, using(crate::proofs::VolumeCounts::counts_are))]
     pub fn counts(&self) -> Counts
-        ensures exact { (t : Tree) (l : Layout) → StandsFor self.now t l
+        ensures exact { (letters : Letters) (t : Tree) (l : Layout) → StandsForBy letters self.now t l
             → result ≡ counts_of self.now.image t l }
         ensures all { result.used + result.free + 2 ≡ result.blocks }
     {

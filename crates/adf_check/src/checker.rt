@@ -1,24 +1,29 @@
 // The whole check.
 
-ghost use Rattle.adf_volume.specs.Fault.{IsTrueFault};
+ghost use Rattle.adf_volume.specs.Fault.{IsTrueFaultBy};
+ghost use Rattle.adf_volume.specs.Image.{letters_of, root_of};
+ghost use Rattle.adf_base.specs.Words.{block};
 ghost use Rattle.std.specs.Prelude.{◌≡◌, ◌≢◌, IfOk, IfErr};
 ghost use Rattle.adf_tree.specs.Tree.{Tree};
-ghost use Rattle.adf_volume.specs.Fits.{Fits};
+ghost use Rattle.adf_volume.specs.Fits.{Fits, FitsBy};
 ghost use Rattle.adf_volume.specs.Layout.{Layout};
-ghost use Rattle.adf_volume.specs.Walk.{FirstFault};
-ghost use Rattle.adf_volume.specs.Start.{IsBegun};
-ghost use Rattle.adf_check.specs.Volumes.{StandsFor};
+ghost use Rattle.adf_volume.specs.Walk.{FirstFault, FirstFaultBy};
+ghost use Rattle.adf_volume.specs.Start.{IsBegun, IsBegunBy, IsOwnBegun};
+ghost use Rattle.adf_volume.specs.Types.{letters_for};
+ghost use Rattle.adf_check.specs.Own.{IsOwnFault};
+ghost use Rattle.adf_check.specs.Volumes.{StandsFor, StandsForBy};
 
 use crate::bitmap::check_bitmap;
 use crate::checked::Checked;
 use crate::nodes::read_nodes;
 use crate::pages::read_pages;
 use crate::store::Store;
+use adf_base::Letters;
 use adf_blocks::Cause;
-use adf_volume::{Fault, no_memory, open};
+use adf_volume::{Fault, Opened, Types, no_memory, open_by};
 use std::alloc::Global;
 
-/// Checks an image. Returns its volume, or the first fault and its block.
+/// Checks an image of type 0 or 1. Returns its volume, or the first fault and its block.
 ///
 /// The order of the checks: the size and the first four bytes; the root; the bitmap pages by number, each bitmap
 /// extension block before its pages; the nodes by number (for a directory the chain of each slot, for a file its
@@ -40,18 +45,47 @@ pub fn check<'a>(alloc: Global, image: &'a [u8]) -> Result<Checked<'a>, Fault>
     ensures memory { IfErr result (λ f. f.cause ≡ Cause.NoMemory → f.block ≡ 0) }
     ensures begun { IfErr result (λ f. f.cause ≡ Cause.NoMemory → IsBegun image.now) }
 {
-    check_all(alloc, image)
+    check_types(alloc, Types::Plain, image)
 }
 
-// Checks an image: any fault is the first one.
-#[tactic(auto, unfolding(adf_volume::specs::Image::name_of, adf_volume::specs::Image::stamps_of))]
-fn check_all<'a>(alloc: Global, image: &'a [u8]) -> Result<Checked<'a>, Fault>
+/// Checks an image of one of the accepted types, in the same order, by the letters of its type. `NoMemory` as in `check`.
+pub fn check_types<'a>(alloc: Global, types: Types, image: &'a [u8]) -> Result<Checked<'a>, Fault>
     ensures image { IfOk result (λ v. v.image ≡ image.now) }
-    ensures fits { IfOk result (λ v. (t : Tree) × (l : Layout) × StandsFor v t l) }
-    ensures fault { IfErr result (λ f. IsTrueFault image.now f) }
-    ensures begun { IfErr result (λ f. f.cause ≡ Cause.NoMemory → IsBegun image.now) }
+    ensures fits { IfOk result (λ v.
+        (t : Tree) × (l : Layout) × StandsForBy (letters_for types image.now) v t l) }
+    ensures first { IfErr result (λ f. f.cause ≢ Cause.NoMemory
+        → FirstFaultBy (letters_for types image.now) image.now f.block f.cause) }
+    ensures none { IfErr result (λ f. f.cause ≢ Cause.NoMemory → (t : Tree) (l : Layout)
+        → FitsBy (letters_for types image.now) image.now t l → ⊥) }
+    ensures memory { IfErr result (λ f. f.cause ≡ Cause.NoMemory → f.block ≡ 0) }
+    ensures begun { IfErr result (λ f. f.cause ≡ Cause.NoMemory
+        → IsBegunBy (letters_for types image.now) image.now) }
 {
-    let opened = open(image)?;
+    check_all(alloc, types.letters_for(image), image)
+}
+
+// Checks an image of a volume with these letters: any fault is the first one.
+fn check_all<'a>(alloc: Global, letters: Letters, image: &'a [u8]) -> Result<Checked<'a>, Fault>
+    ensures image { IfOk result (λ v. v.image ≡ image.now) }
+    ensures fits { IfOk result (λ v. (t : Tree) × (l : Layout) × StandsForBy letters v t l) }
+    ensures fault { IfErr result (IsTrueFaultBy letters image.now) }
+    ensures begun { IfErr result (λ f. f.cause ≡ Cause.NoMemory → IsBegunBy letters image.now) }
+{
+    let opened = open_by(letters, image)?;
+    check_opened(alloc, opened)
+}
+
+// Checks an image behind its root, by its letters: any fault is the first one.
+#[tactic(auto, unfolding(adf_volume::specs::Image::name_of, adf_volume::specs::Image::stamps_of))]
+fn check_opened<'a>(alloc: Global, opened: Opened<'a>) -> Result<Checked<'a>, Fault>
+    requires root { opened.root ≡ block opened.image (root_of opened.image) }
+    ensures image { IfOk result (λ v. v.image ≡ opened.entry.image) }
+    ensures fits { IfOk result (λ v.
+        (t : Tree) × (l : Layout) × StandsForBy (letters_of opened.entry.image) v t l) }
+    ensures fault { IfErr result (IsOwnFault opened.entry.image) }
+    ensures begun { IsOwnBegun opened.entry.image }
+{
+    opened.image.begun();
     let Ok(mut store) = Store::begin(alloc, &opened.image) else {
         return Err(no_memory());
     };

@@ -1,7 +1,7 @@
 // The data blocks of files.
 
 ghost use Rattle.adf_blocks.specs.declared.layout.TheConstants.{POINTERS, SIZE};
-ghost use Rattle.adf_volume.specs.Fault.{IsTrueFault};
+ghost use Rattle.adf_check.specs.Own.{IsOwnFault};
 ghost use Rattle.std.specs.Prelude.{◌≡◌, ◌≤◌, ◌<◌, ◌+◌, ◌*◌, ◌/◌, min, OnOk, IfErr, length, slice_index, ℕ};
 ghost use Rattle.adf_blocks.specs.Sizes.{blocks, chunk};
 ghost use Rattle.adf_volume.specs.Demands.{AllHold, FirstFails};
@@ -99,7 +99,7 @@ fn read_data_block(
         (IsInDatas image.now (store_value store.new) file.now.node file.now.head table.now
         (k + 1)) }
     ensures fewer { OnOk result (IsFurther store.old store.new) }
-    ensures fault { IfErr result (λ f. IsTrueFault image.now f) }
+    ensures fault { IfErr result (λ f. IsOwnFault image.now f) }
 {
     image.begun();
     let place = store.datas.len() as u32;
@@ -131,7 +131,7 @@ fn read_named(
         (IsInDatas image.now (store_value store.new) file.now.node file.now.head table.now
         (min (POINTERS * (m + 1)) file.now.count)) }
     ensures fewer { OnOk result (IsFurther store.old store.new) }
-    ensures fault { IfErr result (λ f. IsTrueFault image.now f) }
+    ensures fault { IfErr result (λ f. IsOwnFault image.now f) }
 {
     image.begun();
     let count = file.count;
@@ -160,7 +160,7 @@ pub fn read_datas(
     requires state { IsInDatas image.now (store_value store.old) node head table.now 0 }
     ensures state { OnOk result (IsAtNode image.now (store_value store.new) (node + 1)) }
     ensures fewer { OnOk result (IsFurther store.old store.new) }
-    ensures fault { IfErr result (λ f. IsTrueFault image.now f) }
+    ensures fault { IfErr result (λ f. IsOwnFault image.now f) }
 {
     let count = count_of(image.kind(), size);
     let tables = count.div_ceil(POINTERS as u32);

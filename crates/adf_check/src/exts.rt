@@ -1,6 +1,6 @@
 // The extension blocks of files.
 
-ghost use Rattle.adf_volume.specs.Fault.{IsTrueFault};
+ghost use Rattle.adf_check.specs.Own.{IsOwnFault};
 ghost use Rattle.std.specs.Prelude.{◌≢◌, ◌<◌, OnOk, IfOk, IfErr};
 ghost use Rattle.adf_blocks.specs.Sizes.{blocks};
 ghost use Rattle.adf_check.specs.Reading.{IsInDatas, IsInExts};
@@ -32,7 +32,7 @@ fn read_ext_block(
         IsInExts image.now (store_value store.new) node head table.new.items b next) }
     ensures fewer { OnOk result (IsFurther store.old store.new) }
     ensures less { OnOk result (left store.new < left store.old) }
-    ensures fault { IfErr result (λ f. IsTrueFault image.now f) }
+    ensures fault { IfErr result (λ f. IsOwnFault image.now f) }
 {
     image.begun();
     let place = store.exts.len() as u32;
@@ -62,7 +62,7 @@ pub fn read_exts(
     ensures state { OnOk result
         (IsInDatas image.now (store_value store.new) node head table.new.items 0) }
     ensures fewer { OnOk result (IsFurther store.old store.new) }
-    ensures fault { IfErr result (λ f. IsTrueFault image.now f) }
+    ensures fault { IfErr result (λ f. IsOwnFault image.now f) }
 {
     image.begun();
     let mut holder = head;

@@ -2,19 +2,20 @@
 
 ghost use Rattle.std.specs.Prelude.{◌≡◌, ◌≢◌, ◌≤◌, ◌<◌, ◌+◌, length, map, IfSome};
 ghost use Rattle.adf_blocks.specs.declared.layout.TheConstants.{NEXT_IN_CHAIN, SLOTS};
-ghost use Rattle.adf_tree.specs.Tree.{Tree, child, find_from};
+ghost use Rattle.adf_base.specs.declared.hash.Letters.{Letters};
+ghost use Rattle.adf_tree.specs.Tree.{Tree, child_by, find_from_by};
 ghost use Rattle.adf_blocks.specs.Sizes.{blocks};
 ghost use Rattle.adf_volume.specs.Image.{word_in};
-ghost use Rattle.adf_volume.specs.Layout.{Layout, at_node, chain_nodes};
+ghost use Rattle.adf_volume.specs.Layout.{Layout, at_node, chain_nodes_by};
 ghost use Rattle.adf_volume.specs.Lists.{Spelled};
-ghost use Rattle.adf_check.specs.StoreStands.{StoreStandsFor};
+ghost use Rattle.adf_check.specs.StoreStands.{StoreStandsForBy};
 ghost use Rattle.adf_check.specs.Reading.{StoreFits};
 ghost use Rattle.adf_walk.specs.KeptOwner.{kept_at};
 ghost use Rattle.adf_check.specs.Store.{store_value};
 ghost use Rattle.adf_check.specs.Lookup.{headed};
 
 use crate::store::Store;
-use adf_base::slot;
+use adf_base::slot_by;
 use adf_blocks::{Head, HeadBody};
 use adf_tree::{Name, Node};
 use adf_volume::Image;
@@ -24,7 +25,7 @@ use adf_walk::{KeptOwner, OwnerTable};
 pub fn block_of(image: &Image<'_>, store: &Store, node: Node) -> u32
     requires tells { StoreFits image.now (store_value store.now) }
     requires node { node ≤ length store.now.headers.items }
-    ensures block { (t : Tree) (l : Layout) → StoreStandsFor image.now (store_value store.now) t l
+    ensures block { (letters : Letters) (t : Tree) (l : Layout) → StoreStandsForBy letters image.now (store_value store.now) t l
         → result ≡ at_node image.now l node }
     ensures inside { result < blocks image.now }
 {
@@ -50,10 +51,10 @@ fn first_of(image: &Image<'_>, store: &Store, parent: Node, slot: u8) -> u32
     requires tells { StoreFits image.now (store_value store.now) }
     requires node { parent ≤ length store.now.headers.items }
     requires slot { slot < SLOTS }
-    ensures { (t : Tree) (l : Layout) → StoreStandsFor image.now (store_value store.now) t l
+    ensures { (letters : Letters) (t : Tree) (l : Layout) → StoreStandsForBy letters image.now (store_value store.now) t l
         → Spelled (λ b.
         word_in image.now b NEXT_IN_CHAIN) result
-        (map (at_node image.now l) (chain_nodes t parent slot)) }
+        (map (at_node image.now l) (chain_nodes_by letters t parent slot)) }
 {
     let up = block_of(image, store, parent);
     match image.body(up) {
@@ -66,14 +67,15 @@ fn first_of(image: &Image<'_>, store: &Store, parent: Node, slot: u8) -> u32
 pub fn child(image: &Image<'_>, store: &Store, parent: Node, name: &Name) -> Option<Node>
     requires tells { StoreFits image.now (store_value store.now) }
     requires node { parent ≤ length store.now.headers.items }
-    ensures found { (t : Tree) (l : Layout) → StoreStandsFor image.now (store_value store.now) t l
-        → result ≡ child t.entries parent name.now }
+    ensures found { (letters : Letters) (t : Tree) (l : Layout) → StoreStandsForBy letters image.now (store_value store.now) t l
+        → result ≡ child_by letters t.entries parent name.now }
     ensures node { IfSome result (λ n. n ≤ length store.now.headers.items) }
 {
-    let mut b = first_of(image, store, parent, slot(name.bytes()));
+    let letters = image.letters();
+    let mut b = first_of(image, store, parent, slot_by(letters, name.bytes()));
     while b != 0 {
         let head = Head::over(image.block(b));
-        if head.name().same(name) {
+        if head.name().same_by(letters, name) {
             return node_at(&store.owners, b);
         }
         b = head.next();
@@ -84,8 +86,8 @@ pub fn child(image: &Image<'_>, store: &Store, parent: Node, name: &Name) -> Opt
 /// The node that the path leads to.
 pub fn find(image: &Image<'_>, store: &Store, path: &[Name]) -> Option<Node>
     requires { StoreFits image.now (store_value store.now) }
-    ensures { (t : Tree) (l : Layout) → StoreStandsFor image.now (store_value store.now) t l
-        → result ≡ find_from t.entries 0 path.now }
+    ensures { (letters : Letters) (t : Tree) (l : Layout) → StoreStandsForBy letters image.now (store_value store.now) t l
+        → result ≡ find_from_by letters t.entries 0 path.now }
 {
     let mut node = Node(0);
     for name in path {

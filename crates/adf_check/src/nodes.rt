@@ -6,7 +6,8 @@ ghost use Rattle.adf_blocks.specs.Sizes.{blocks};
 ghost use Rattle.adf_volume.specs.Image.{word_in};
 ghost use Rattle.adf_check.specs.Reading.{IsAtNode, IsInExts, IsInNode, IsRead};
 ghost use Rattle.adf_check.specs.Store.{entered, store_value};
-ghost use Rattle.adf_volume.specs.Fault.{IsTrueFault, fault};
+ghost use Rattle.adf_check.specs.Own.{IsOwnFault};
+ghost use Rattle.adf_volume.specs.Fault.{fault};
 ghost use Rattle.adf_check.specs.Progress.{IsFurther};
 ghost use Rattle.adf_volume.specs.Start.{IsBegun};
 
@@ -52,7 +53,7 @@ fn read_file(
     requires state { IsInExts image.now (store_value store.old) node head (head ∷ []) head ext }
     ensures state { OnOk result (IsAtNode image.now (store_value store.new) (node + 1)) }
     ensures fewer { OnOk result (IsFurther store.old store.new) }
-    ensures fault { IfErr result (λ f. IsTrueFault image.now f) }
+    ensures fault { IfErr result (λ f. IsOwnFault image.now f) }
 {
     image.begun();
     table.clear();
@@ -76,7 +77,7 @@ fn read_node(
     requires state { IsInNode image.now (store_value store.old) node }
     ensures state { OnOk result (IsAtNode image.now (store_value store.new) (node + 1)) }
     ensures fewer { OnOk result (IsFurther store.old store.new) }
-    ensures fault { IfErr result (λ f. IsTrueFault image.now f) }
+    ensures fault { IfErr result (λ f. IsOwnFault image.now f) }
 {
     let root = image.root();
     if node.0 == 0 {
@@ -93,7 +94,7 @@ fn read_node(
 pub fn read_nodes(alloc: Global, image: &Image<'_>, store: &mut Store) -> Result<(), Fault>
     requires state { IsAtNode image.now (store_value store.old) 0 }
     ensures state { OnOk result (IsRead image.now (store_value store.new)) }
-    ensures fault { IfErr result (λ f. IsTrueFault image.now f) }
+    ensures fault { IfErr result (λ f. IsOwnFault image.now f) }
 {
     image.begun();
     let mut seen = NameSet::new(alloc);

@@ -1,11 +1,12 @@
 // The tree of a checked volume, rebuilt.
 
 ghost use Rattle.std.specs.Prelude.{[], IsOk, ◌≡◌, ◌≢◌, ◌≤◌, ◌<◌, ◌+◌, length, option_map, IfOk, IfSome, IsSome};
+ghost use Rattle.adf_base.specs.declared.hash.Letters.{Letters};
 ghost use Rattle.adf_tree.specs.declared.entry.Body.{Body};
 ghost use Rattle.adf_tree.specs.Tree.{Tree, entry};
 ghost use Rattle.adf_volume.specs.Layout.{Layout};
 ghost use Rattle.adf_check.specs.Rebuild.{body_with};
-ghost use Rattle.adf_check.specs.Volumes.{StandsFor};
+ghost use Rattle.adf_check.specs.Volumes.{StandsForBy};
 
 use crate::checked::Checked;
 use adf_base::NoMemory;
@@ -24,7 +25,7 @@ fn body_with(bytes: Option<Vec<u8>>) -> Body
 
 // An entry with its bytes; `None` for the root and past the last entry.
 fn entry_of(volume: &Checked<'_>, alloc: Global, n: Node) -> Result<Option<Entry>, NoMemory>
-    ensures { (t : Tree) (l : Layout) → StandsFor volume.now t l
+    ensures { (letters : Letters) (t : Tree) (l : Layout) → StandsForBy letters volume.now t l
         → IfOk result (λ e. e ≡ entry t.entries n) }
 {
     let Some(row) = volume.row(n) else {
@@ -48,13 +49,19 @@ fn label_of(label: &Label) -> Label
 
 /// The tree of a volume, entry by entry.
 pub fn tree_of(volume: &Checked<'_>, alloc: Global) -> Result<adf_tree::Tree, NoMemory>
-    ensures tree { (t : Tree) (l : Layout) → StandsFor volume.now t l → IfOk result (λ u. u ≡ t) }
-    ensures empty { (t : Tree) (l : Layout) → StandsFor volume.now t l → t.entries ≡ []
+    ensures tree { (letters : Letters) (t : Tree) (l : Layout) → StandsForBy letters volume.now t l → IfOk result (λ u. u ≡ t) }
+    ensures empty { (letters : Letters) (t : Tree) (l : Layout) → StandsForBy letters volume.now t l → t.entries ≡ []
         → IsOk result }
 {
     let kind = volume.counts().kind;
     let label = label_of(volume.label());
-    let mut tree = adf_tree::Tree::new(alloc, kind, label, volume.stamps());
+    let mut tree = adf_tree::Tree::with_letters(
+        alloc,
+        kind,
+        volume.letters(),
+        label,
+        volume.stamps(),
+    );
     for i in 0..volume.len() {
         let entry = entry_of(volume, alloc, Node(i + 1))?.unwrap();
         tree.add_last(entry)?;

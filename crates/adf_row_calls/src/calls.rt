@@ -4,10 +4,10 @@ use crate::entry_calls::{entries_add_outcome, tree_letters_outcome};
 use crate::outcome::CallOutcome;
 use crate::tree_calls::{draft_add_outcome, tree_add_outcome, write_path_outcome};
 use crate::trees::tree_of_lines;
-use adf_base::{NoMemory, Stamp};
+use adf_base::{Letters, NoMemory, Stamp};
 use adf_blocks::Cause;
 use adf_build::build;
-use adf_check::{Owner, Owners};
+use adf_check::{Owner, Owners, check_types};
 use adf_fields::stamp_text;
 use adf_findings::{Types, check_walk, survey};
 use adf_tree::{Comment, Label, Node};
@@ -43,6 +43,7 @@ pub fn outcome_of(alloc: Global, name: &str) -> Option<CallOutcome> {
         "owners_new" => owners_new_outcome(alloc),
         "read_sound_file" => read_sound_file_outcome(alloc),
         "check_walk" => check_walk_outcome(alloc),
+        "check_types" => check_types_outcome(alloc),
         _ => None,
     }
 }
@@ -171,4 +172,41 @@ fn check_walk_outcome(alloc: Global) -> Option<CallOutcome> {
         return Some(CallOutcome::NoMemory);
     }
     Some(CallOutcome::Done.only_if(started && walked == [Ok(1), Ok(1), Err((4, Cause::BadSum))]))
+}
+
+// Where a check of an image ends, and why, where these types are accepted; the files and the letters if it accepts the image.
+fn types_fault(
+    alloc: Global,
+    types: Types,
+    image: &[u8],
+) -> Result<(usize, Letters), (u32, Cause)> {
+    match check_types(alloc, types, image) {
+        Ok(volume) => Ok((volume.counts().files, volume.letters())),
+        Err(fault) => Err((fault.block, fault.cause)),
+    }
+}
+
+// A check of the volume; and of it as one of other types, of which OFS ones with international letters are accepted.
+fn check_types_outcome(alloc: Global) -> Option<CallOutcome> {
+    let mut image = file_image(alloc)?;
+    let plain = types_fault(alloc, Types::Plain, &image);
+    *image.get_mut(3)? = 2;
+    let international = types_fault(alloc, Types::WithInternational, &image);
+    let refused = types_fault(alloc, Types::Plain, &image);
+    *image.get_mut(3)? = 4;
+    let cached = types_fault(alloc, Types::WithInternational, &image);
+    *image.get_mut(3)? = 6;
+    let unknown = types_fault(alloc, Types::WithInternational, &image);
+    let started = [refused, cached, unknown]
+        == [
+            Err((0, Cause::International)),
+            Err((0, Cause::DirCache)),
+            Err((0, Cause::NotDos)),
+        ];
+    let sound = [plain, international];
+    if sound.contains(&Err((0, Cause::NoMemory))) {
+        return Some(CallOutcome::NoMemory);
+    }
+    let accepted = [Ok((1, Letters::Ascii)), Ok((1, Letters::International))];
+    Some(CallOutcome::Done.only_if(started && sound == accepted))
 }

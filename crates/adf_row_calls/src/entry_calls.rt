@@ -4,7 +4,8 @@ use crate::outcome::CallOutcome;
 use crate::tree_calls::meta;
 use adf_blocks::Cause;
 use adf_build::{BuildFault, build};
-use adf_findings::{Types, check_walk};
+use adf_check::check_types;
+use adf_findings::Types;
 use adf_tree::{AddFault, Body, Kind, Label, Letters, NO_STAMPS, Name, Node, Tree, TreeEntries};
 use std::alloc::Global;
 
@@ -93,14 +94,19 @@ fn are_laid(image: &[u8], first: u32) -> bool {
     has_word(image, 0, 0, first)
 }
 
-// Builds such a tree, and checks its volume, with this first word, along its walk.
+// Builds such a tree, and checks its volume, which has this first word; 0xC9 leads to its directory too.
 fn laid_outcome(alloc: Global, tree: &Tree, first: u32) -> CallOutcome {
     let image = match build(alloc, tree, 16) {
         Ok(image) => image,
         Err(fault) => return CallOutcome::NoMemory.only_if(fault == BuildFault::NoMemory),
     };
-    match check_walk(alloc, Types::WithInternational, &image) {
-        Ok(counts) => CallOutcome::Done.only_if(counts.dirs == 1 && are_laid(&image, first)),
+    let Some(other) = Name::new(&[0xC9]) else {
+        return CallOutcome::Failed;
+    };
+    match check_types(alloc, Types::WithInternational, &image) {
+        Ok(volume) => CallOutcome::Done.only_if(
+            volume.find(&[other]) == Some(Node(1)) && are_laid(&image, first),
+        ),
         Err(fault) => CallOutcome::NoMemory.only_if(fault.cause == Cause::NoMemory),
     }
 }

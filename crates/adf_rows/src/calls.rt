@@ -10,7 +10,7 @@ use adf_runs::run_program_on;
 use std::alloc::Global;
 
 /// The names of all calls.
-pub const CALLS: [&str; 13] = [
+pub const CALLS: [&str; 14] = [
     "stamp_text",
     "label_write",
     "comment_write",
@@ -22,6 +22,7 @@ pub const CALLS: [&str; 13] = [
     "owners_new",
     "read_sound_file",
     "check_walk",
+    "check_types",
     "build_and_read",
     "convert_in_memory",
 ];

@@ -3,7 +3,7 @@ use Rattle.std.proofs.lemmas.Bool.{not-false, not-true}
 use Rattle.adf_blocks.specs.declared.layout.TheConstants.{SECONDARY_TYPE, ST_DIR}
 use Rattle.adf_base.specs.Words.{word}
 use Rattle.adf_tree.specs.NameSet.{has}
-use Rattle.adf_names.specs.Texts.{uppers}
+use Rattle.adf_names.specs.Texts.{uppers_by}
 use Rattle.adf_walk.specs.declared.kept_owner.KeptOwner.TheVariants as kept
 use Rattle.adf_check.specs.Store.{store_value}
 use Rattle.adf_check.proofs.NumberBounds.{entry_short, parent_short}
@@ -20,16 +20,16 @@ pub returns-in-Err-clause-fault : goal.returns-in-Err-clause-fault
 returns-in-Err-clause-fault c =
     let claimed = c.in_ok-claim_named.ensures in
     rw c.fault_at.ensures (head_fault c.args.seen.now c.requires.slot c.kind-kind.ensures.begun c.requires.state c.requires.some claimed.range
-    claimed.free c.kind-kind.ensures.kind c.block.ensures.block c.in-Err.cause c.in-Err.ensures)
+    claimed.free c.kind-kind.ensures.kind c.letters-letters.ensures c.block.ensures.block c.in-Err.cause c.in-Err.ensures)
 
 pub returns-in-Ok-false-clause-fault : goal.returns-in-Ok-false-clause-fault
 returns-in-Ok-false-clause-fault c =
     let claimed = c.in_ok-claim_named.ensures in
-    let twice : has c.args.seen.now (uppers c.name.result) ≡ true =
+    let twice : has c.args.seen.now (uppers_by c.letters-letters.result c.name.result) ≡ true =
     not-false _ (sym c.in-Ok-false.ensures.new ∙ c.in-Ok-false.field-0-test) in
     rw c.fault_at-in-Ok-false.ensures (twice_fault c.args.seen.now c.requires.slot
     c.kind-kind.ensures.begun c.requires.state c.requires.some claimed.range
-    claimed.free c.kind-kind.ensures.kind c.block.ensures.block c.in-Ok.ensures.0 c.in-Ok.ensures.1 c.name.ensures twice)
+    claimed.free c.kind-kind.ensures.kind c.letters-letters.ensures c.block.ensures.block c.in-Ok.ensures.0 c.in-Ok.ensures.1 c.name.ensures twice)
 
 pub kept_header-requires : goal.kept_header-requires
 kept_header-requires c = omega (arith, parent_short c.kind-kind.ensures.begun refl c.requires.state)
@@ -38,14 +38,14 @@ pub returns-in-Ok-push-clause-state : goal.returns-in-Ok-push-clause-state
 returns-in-Ok-push-clause-state c =
     let store = store_value c.args.store.now in
     let claimed = c.in_ok-claim_named.ensures in
-    let fresh : has c.args.seen.now (uppers c.name.result) ≡ false =
+    let fresh : has c.args.seen.now (uppers_by c.letters-letters.result c.name.result) ≡ false =
     not-true _ (sym c.in-Ok-true.ensures.new ∙ c.in-Ok-true.field-0-test) in
     let count : c.len.result ≡ length store.headers = search rules in
     let pushed : c.push.new.self.items ≡ store.headers ++ record { parent = c.args.chain.now.parent; head = c.args.b } ∷ [] = search rules in
     let is_dir = c.is_directory.ensures ∙ ap (λ x. word x SECONDARY_TYPE == ST_DIR) (c.in-Ok.ensures.1 ∙ c.block.ensures.block) in
     head_done c.args.seen.now c.requires.slot c.kind-kind.ensures.begun c.requires.state c.requires.some claimed.range claimed.free
-    c.kind-kind.ensures.kind c.block.ensures.block c.in-Ok.ensures.0 c.in-Ok.ensures.1 c.name.ensures fresh _ c.in-Ok-true.ensures.more
-    c.next.ensures (record {
+    c.kind-kind.ensures.kind c.letters-letters.ensures c.block.ensures.block c.in-Ok.ensures.0 c.in-Ok.ensures.1 c.name.ensures fresh _
+    c.in-Ok-true.ensures.more c.next.ensures (record {
       owners = claimed.ok ∙ ap (λ n. set store.owners c.args.b (kept.Head n)) (number c.requires.state.read.tells.headers.count count);
       headers = pushed;
       dirs = dirs_more c.args.image.now store.headers c.args.chain.now.parent c.args.b c.requires.state.read.tells.dirs is_dir c.from.ensures;

@@ -5,7 +5,7 @@ use Rattle.adf_check.proofs.NodeSteps.{header_here}
 use Rattle.adf_check.proofs.lookup.block_of.Goals as goal
 
 pub returns-clause-block : goal.returns-clause-block
-returns-clause-block c = λ t l k.
+returns-clause-block c = λ letters t l k.
     let node : c.args.node ≡ suc (c.node.inside.0 - 1) = omega (arith, c.node.view_is, c.if-node-eq0.false) in
     let at = header_here c.args.store.now.headers.items (c.node.inside.0 - 1) c.index.result.now refl (omega (arith, c.requires.node))
     c.index.ensures in

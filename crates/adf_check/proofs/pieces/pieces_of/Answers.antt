@@ -7,20 +7,20 @@ use Rattle.adf_check.proofs.FilePieces.{data_count_is, dir_bytes, dir_pieces, is
 use Rattle.adf_check.proofs.pieces.pieces_of.Goals as goal
 
 pub returns-in_default-clause-joined : goal.returns-in_default-clause-joined
-returns-in_default-clause-joined c = λ t l k.
-    dir_bytes (is_entry c.block_of-head.ensures.block c.n.view_is c.if-n-eq0.false (omega (arith, c.n.view_is, c.if-len-n.false, c.len.ensures))) t l
+returns-in_default-clause-joined c = λ letters t l k.
+    dir_bytes (is_entry c.block_of-head.ensures.block c.n.view_is c.if-n-eq0.false (omega (arith, c.n.view_is, c.if-len-n.false, c.len.ensures))) letters t l
     k (dir_type c.args.image.now c.block_of-head.result c.body.ensures.body c.in_default.is)
 
 pub returns-in_default-clause-exact : goal.returns-in_default-clause-exact
-returns-in_default-clause-exact c = λ t l k.
-    dir_pieces (is_entry c.block_of-head.ensures.block c.n.view_is c.if-n-eq0.false (omega (arith, c.n.view_is, c.if-len-n.false, c.len.ensures))) t l
+returns-in_default-clause-exact c = λ letters t l k.
+    dir_pieces (is_entry c.block_of-head.ensures.block c.n.view_is c.if-n-eq0.false (omega (arith, c.n.view_is, c.if-len-n.false, c.len.ensures))) letters t l
     k (dir_type c.args.image.now c.block_of-head.result c.body.ensures.body c.in_default.is)
 
 pub datas_of-datas-requires-clause-size : goal.datas_of-datas-requires-clause-size
-datas_of-datas-requires-clause-size c = λ t l k.
+datas_of-datas-requires-clause-size c = λ letters t l k.
     let file = file_words c.args.image.now c.block_of-head.result c.body.ensures.body c.in-File.is in
     data_count_is (is_entry c.block_of-head.ensures.block c.n.view_is c.if-n-eq0.false (omega (arith, c.n.view_is, c.if-len-n.false, c.len.ensures)))
-    t l k
+    letters t l k
     file.0 ∙ ap (count (kind_of c.args.image.now)) (sym file.1)
 
 pub new-requires : goal.new-requires
@@ -37,11 +37,12 @@ returns c =
     let entry = is_entry c.block_of-head.ensures.block c.n.view_is c.if-n-eq0.false (omega (arith, c.n.view_is, c.if-len-n.false, c.len.ensures)) in
     record {
       exact =
-          (λ t l k. made_exact entry c.requires file.0 c.bytes.ensures.bytes c.kind.ensures.kind file.1 c.datas_of-datas.ensures t l k c.new.ensures);
+          (λ letters t l k. made_exact entry c.requires file.0 c.bytes.ensures.bytes c.kind.ensures.kind file.1
+          c.datas_of-datas.ensures letters t l k c.new.ensures);
       joined =
-          (λ t l k. made_joined entry c.requires file.0 c.bytes.ensures.bytes c.kind.ensures.kind file.1
-          c.datas_of-datas.ensures t l k c.new.ensures);
-      one_each = (λ t l k. ap length c.new.ensures ∙ pieces_length c.bytes.result.now c.kind.result c.in-File.size 1 c.datas_of-datas.result.now
-          ∙ ap length (c.datas_of-datas.ensures t l k));
+          (λ letters t l k. made_joined entry c.requires file.0 c.bytes.ensures.bytes c.kind.ensures.kind file.1
+          c.datas_of-datas.ensures letters t l k c.new.ensures);
+      one_each = (λ letters t l k. ap length c.new.ensures ∙ pieces_length c.bytes.result.now c.kind.result c.in-File.size 1 c.datas_of-datas.result.now
+          ∙ ap length (c.datas_of-datas.ensures letters t l k));
       some = made_some entry c.requires file.0 c.bytes.ensures.bytes c.kind.ensures.kind file.1 c.datas_of-datas.ensures c.new.ensures;
     }

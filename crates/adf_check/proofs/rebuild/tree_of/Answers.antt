@@ -1,5 +1,6 @@
 use Rattle.std.proofs.Common.{◌≡◌, ◌+◌, ◌<◌, ◌≤◌, length, ap, subst, sym, ◌∙◌, arith, rules, Some}
 use Rattle.adf_tree.specs.Tree.{Tree, entry, with_last}
+use Rattle.adf_volume.specs.Image.{letters_of}
 use Rattle.adf_check.proofs.TreeEntries.{may_follow, some_entry, tree_more, tree_whole}
 use Rattle.adf_check.proofs.rebuild.tree_of.Goals as goal
 
@@ -7,25 +8,36 @@ pub unwrap-entry-requires : goal.unwrap-entry-requires
 unwrap-entry-requires c =
     let s = c.len-i-end.ensures.stands in
     let t = s.0 in
-    let lt : c.loop-i.i < length t.entries = subst (λ n. c.loop-i.i < n) (c.len-i-end.ensures.count t s.1 s.2) c.loop-i-test.true in
-    some_entry t (c.loop-i.i + 1) c.loop-i.i c.in_ok-entry_of.field-0 (omega arith) lt (c.in_ok-entry_of.ensures t s.1 s.2)
+    let own = letters_of c.args.volume.now.image in
+    let lt : c.loop-i.i < length t.entries = subst (λ n. c.loop-i.i < n) (c.len-i-end.ensures.count own t s.1 s.2) c.loop-i-test.true in
+    some_entry t (c.loop-i.i + 1) c.loop-i.i c.in_ok-entry_of.field-0 (omega arith) lt (c.in_ok-entry_of.ensures own t s.1 s.2)
 
 pub add_last-requires : goal.add_last-requires
 add_last-requires c =
     let s = c.len-i-end.ensures.stands in
-    let follows = may_follow s.2.fits.letters s.2.fits.tree (c.loop-i.invariant s.0 s.1 s.2) (c.len-i-end.ensures.count s.0 s.1 s.2) c.loop-i-test.true
-    (c.in_ok-entry_of.ensures s.0 s.1 s.2) c.unwrap-entry.ensures in
+    let own = letters_of c.args.volume.now.image in
+    let follows = may_follow s.2.fits.letters s.2.fits.tree (c.loop-i.invariant own s.0 s.1 s.2) (c.len-i-end.ensures.count own s.0 s.1 s.2)
+    c.loop-i-test.true
+    (c.in_ok-entry_of.ensures own s.0 s.1 s.2) c.unwrap-entry.ensures in
     record { may = follows.0; last = follows.1 }
 
 pub loop-i-preserved : goal.loop-i-preserved
-loop-i-preserved c = λ t l st.
-    let lt : c.loop-i.i < length t.entries = subst (λ n. c.loop-i.i < n) (c.len-i-end.ensures.count t l st) c.loop-i-test.true in
+loop-i-preserved c = λ letters t l st.
+    let lt : c.loop-i.i < length t.entries = subst (λ n. c.loop-i.i < n) (c.len-i-end.ensures.count letters t l st) c.loop-i-test.true in
     let x = c.unwrap-entry.result in
-    let is : Some x ≡ entry t.entries (c.loop-i.i + 1) = sym c.unwrap-entry.ensures ∙ c.in_ok-entry_of.ensures t l st in
+    let is : Some x ≡ entry t.entries (c.loop-i.i + 1) = sym c.unwrap-entry.ensures ∙ c.in_ok-entry_of.ensures letters t l st in
     let new : c.add_last.new.self ≡ with_last c.loop-i.tree x = search rules in
-    new ∙ ap (λ (u : Tree). with_last u x) (c.loop-i.invariant t l st) ∙ tree_more t c.loop-i.i x lt is
+    new ∙ ap (λ (u : Tree). with_last u x) (c.loop-i.invariant letters t l st) ∙ tree_more t c.loop-i.i x lt is
 
 pub returns-clause-tree : goal.returns-clause-tree
-returns-clause-tree c = λ t l st.
-    let ge : length t.entries ≤ c.loop-i.i = subst (λ n. n ≤ c.loop-i.i) (c.len-i-end.ensures.count t l st) c.loop-i-test.false in
-    c.loop-i.invariant t l st ∙ tree_whole t c.loop-i.i ge
+returns-clause-tree c = λ letters t l st.
+    let ge : length t.entries ≤ c.loop-i.i = subst (λ n. n ≤ c.loop-i.i) (c.len-i-end.ensures.count letters t l st) c.loop-i-test.false in
+    c.loop-i.invariant letters t l st ∙ tree_whole t c.loop-i.i ge
+
+pub returns-in_err-entry_of-clause-empty : goal.returns-in_err-entry_of-clause-empty
+returns-in_err-entry_of-clause-empty c = λ letters t l st none.
+    let count : c.len-i-end.result ≡ 0 = c.len-i-end.ensures.count letters t l st ∙ ap length none in absurd (omega (arith, count, c.loop-i-test.true))
+
+pub returns-in_err-add_last-clause-empty : goal.returns-in_err-add_last-clause-empty
+returns-in_err-add_last-clause-empty c = λ letters t l st none.
+    let count : c.len-i-end.result ≡ 0 = c.len-i-end.ensures.count letters t l st ∙ ap length none in absurd (omega (arith, count, c.loop-i-test.true))

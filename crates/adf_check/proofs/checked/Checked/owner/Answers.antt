@@ -6,10 +6,11 @@ use Rattle.adf_volume.specs.Layout.{Layout, owned}
 use Rattle.adf_volume.specs.Lists.{In}
 use Rattle.adf_walk.specs.Places.{kept_as}
 use Rattle.adf_check.specs.Store.{store_value}
-use Rattle.adf_check.specs.Volumes.{StandsFor, Volume}
+use Rattle.adf_check.specs.Volumes.{Volume, StandsForBy}
 use Rattle.adf_check.proofs.KeptPlaces.{datas_are, exts_are, part_numbered}
 use Rattle.adf_check.proofs.StoreStands.{keeps}
 use Rattle.adf_check.proofs.checked.Checked.owner.Goals as goal
+use Rattle.adf_base.specs.declared.hash.Letters.{Letters}
 
 pub owner_of-requires-clause-exts : goal.owner_of-requires-clause-exts
 owner_of-requires-clause-exts c =
@@ -21,9 +22,9 @@ owner_of-requires-clause-datas c =
 
 pub returns-then-b-blocks-clause-part : goal.returns-then-b-blocks-clause-part
 returns-then-b-blocks-clause-part c =
-    subst (λ (v : Volume). (t : Tree) (l : Layout) (o : Owner) → StandsFor v t l → In (owned v.image l)
+    subst (λ (v : Volume). (letters : Letters) (t : Tree) (l : Layout) (o : Owner) → StandsForBy letters v t l → In (owned v.image l)
     (o, c.args.b) → Some c.owner_of.result ≡ Some o)
-    c.self.view_is (λ t l o st has.
+    c.self.view_is (λ letters t l o st has.
     ap Some (c.owner_of.ensures.part o (rw c.deref.ensures.value (part_numbered st o c.args.b has))
     (c.get-kept.ensures.owner ∙ st.owners.part o c.args.b has ∙ ap (λ s. kept_as s o) (sym c.deref.ensures.value))))
 
@@ -35,7 +36,7 @@ returns-then-b-blocks-clause-boot c = λ low.
 
 pub returns-then-b-blocks-clause-free : goal.returns-then-b-blocks-clause-free
 returns-then-b-blocks-clause-free c =
-    subst (λ (v : Volume). (t : Tree) (l : Layout) → StandsFor v t l → 2 ≤ c.args.b → c.args.b < blocks v.image
+    subst (λ (v : Volume). (letters : Letters) (t : Tree) (l : Layout) → StandsForBy letters v t l → 2 ≤ c.args.b → c.args.b < blocks v.image
     → ((o : Owner) → In (owned v.image l) (o, c.args.b) → ⊥) → Some c.owner_of.result ≡ Some Free)
-    c.self.view_is (λ t l st from inside none. ap Some
+    c.self.view_is (λ letters t l st from inside none. ap Some
     (c.owner_of.ensures.part Free tt (c.get-kept.ensures.owner ∙ st.owners.free c.args.b from inside none)))
