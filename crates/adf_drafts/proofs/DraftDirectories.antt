@@ -6,7 +6,7 @@ use Rattle.std.proofs.lemmas.Bool.{ne_eqb}
 use Rattle.std.proofs.lemmas.List.{get_or_push, length_push, length-map}
 use Rattle.std.proofs.Math.Seq.{take-append_seam}
 use Rattle.std.proofs.lemmas.Grind.{common_steps}
-use Rattle.adf_base.specs.declared.hash.Letters.{Letters, TheVariants.Ascii}
+use Rattle.adf_base.specs.declared.hash.Letters.{Letters}
 use Rattle.adf_drafts.specs.declared.draft.Room.{Room}
 use Rattle.adf_tree.specs.declared.entry.Body.{Body, TheVariants.Dir}
 use Rattle.adf_tree.specs.declared.entry.Entry.{Entry}
@@ -14,12 +14,12 @@ use Rattle.adf_names.specs.declared.kind.Kind.{Kind}
 use Rattle.adf_names.specs.declared.meta.Meta.{Meta}
 use Rattle.adf_names.specs.declared.meta.Stamps.{Stamps}
 use Rattle.adf_tree.specs.declared.tree.RoomFault.{RoomFault, TheVariants.Exists}
-use Rattle.adf_names.specs.Texts.{uppers, uppers_by}
+use Rattle.adf_names.specs.Texts.{uppers_by}
 use Rattle.adf_drafts.specs.ChildMap.{number_in, Numbers}
 use Rattle.adf_drafts.specs.Draft.{draft_value, in_tree, new_number, node_of, walk, walk_more, IsDirectoryOf, IsDraft, IsRoomFor}
-use Rattle.adf_tree.specs.Tree.{added_by, child_by, directory_from, directory_from_by, free_in, is_dir, moved, parents_of, place_by, rank_by}
-use Rattle.adf_tree.specs.Tree.{room_at_by, room_for, room_for_by, IsTreeBy, MayAdd, MayAddBy}
-use Rattle.adf_tree.proofs.AddRoom.{next_dir_by, room_may_add_by, room_says_by, IsNew}
+use Rattle.adf_tree.specs.Tree.{added_by, child_by, directory_from_by, free_in, is_dir, moved, parents_of, place_by, rank_by}
+use Rattle.adf_tree.specs.Tree.{room_at_by, room_for_by, IsTreeBy, MayAddBy}
+use Rattle.adf_tree.proofs.AddRoom.{next_dir_by, room_may_add_by, room_says_by, IsNewBy}
 use Rattle.adf_tree.proofs.ChildLookup.{child_new, child_other, child_says_by, found_is_by, parent_stays}
 use Rattle.adf_drafts.proofs.DraftInvariant.{node_new, node_old, walked_more}
 use Rattle.adf_drafts.proofs.DraftLookup.{dir_at, past_by}
@@ -92,73 +92,73 @@ pub room_more : (l : Letters) (es : List Entry) (names : List (List ℕ)) (x : L
 room_more l es names x = grind (arith, common_steps, length_push, ne_eqb, get_or_push, take-append_seam)
 
 -- a draft
-module _ {drafts : List Entry} {numbers : Numbers} {kind : Kind} {label : List ℕ} {stamps : Stamps} (h : IsDraft Ascii drafts numbers) where
+module _ {l : Letters} {drafts : List Entry} {numbers : Numbers} {kind : Kind} {label : List ℕ} {stamps : Stamps} (h : IsDraft l drafts numbers) where
   -- a directory has room for a name that none of its entries has, and for no other
   room_in_directory : (path : List (List ℕ)) (m : ℕ) (name : List ℕ) (o : Option ℕ)
-      → IsDirectoryOf (draft_value kind label stamps (walk Ascii drafts)) path m → number_in numbers m (uppers name) ≡ o
-      → room_for (walk Ascii drafts).entries (path ++ name ∷ [])
-      ≡ free_in (node_of (walk Ascii drafts).nodes m) (option_map (node_of (walk Ascii drafts).nodes) o)
+      → IsDirectoryOf (draft_value kind l label stamps (walk l drafts)) path m → number_in numbers m (uppers_by l name) ≡ o
+      → room_for_by l (walk l drafts).entries (path ++ name ∷ [])
+      ≡ free_in (node_of (walk l drafts).nodes m) (option_map (node_of (walk l drafts).nodes) o)
   room_in_directory path m name o is at = grind (arith, common_steps, room_more)
 
-  pub has_room_in : {path : List (List ℕ)} {m : ℕ} (name : List ℕ) → IsDirectoryOf (draft_value kind label stamps (walk Ascii drafts)) path m
-      → number_in numbers m (uppers name) ≡ None
-      → IsRoomFor (draft_value kind label stamps (walk Ascii drafts)) (path ++ name ∷ []) (record { parent = m; name = name })
+  pub has_room_in : {path : List (List ℕ)} {m : ℕ} (name : List ℕ) → IsDirectoryOf (draft_value kind l label stamps (walk l drafts)) path m
+      → number_in numbers m (uppers_by l name) ≡ None
+      → IsRoomFor (draft_value kind l label stamps (walk l drafts)) (path ++ name ∷ []) (record { parent = m; name = name })
   has_room_in name is at = grind (arith, common_steps, length_push, get_or_push, room_in_directory)
 
-  pub has_none_in : {path : List (List ℕ)} {m k : ℕ} (name : List ℕ) → IsDirectoryOf (draft_value kind label stamps (walk Ascii drafts)) path m
-      → number_in numbers m (uppers name) ≡ Some k
-      → (let r : Result ℕ RoomFault = Err Exists in room_for (walk Ascii drafts).entries (path ++ name ∷ []) ≡ r)
+  pub has_none_in : {path : List (List ℕ)} {m k : ℕ} (name : List ℕ) → IsDirectoryOf (draft_value kind l label stamps (walk l drafts)) path m
+      → number_in numbers m (uppers_by l name) ≡ Some k
+      → (let r : Result ℕ RoomFault = Err Exists in room_for_by l (walk l drafts).entries (path ++ name ∷ []) ≡ r)
   has_none_in {path} {m} {k} name is at = room_in_directory path m name (Some k) is at
 
   -- an entry is put in a room
-  module _ {path : List (List ℕ)} {room : Room} (is : IsRoomFor (draft_value kind label stamps (walk Ascii drafts)) path room)
+  module _ {path : List (List ℕ)} {room : Room} (is : IsRoomFor (draft_value kind l label stamps (walk l drafts)) path room)
       (meta : Meta) (body : Body) where
-    may_put : MayAdd (walk Ascii drafts).entries (in_tree (walk Ascii drafts).nodes (put_in room meta body))
+    may_put : MayAddBy l (walk l drafts).entries (in_tree (walk l drafts).nodes (put_in room meta body))
     may_put = room_may h is meta body
 
-    one_more_node : length (walk Ascii (drafts ++ put_in room meta body ∷ [])).nodes ≡ length (walk Ascii drafts).nodes + 1
+    one_more_node : length (walk l (drafts ++ put_in room meta body ∷ [])).nodes ≡ length (walk l drafts).nodes + 1
     one_more_node = grind (arith, common_steps, put_in, walked_more, length_push, length-map)
 
-    stays : (other : List (List ℕ)) (m : ℕ) → IsDirectoryOf (draft_value kind label stamps (walk Ascii drafts)) other m
-        → IsDirectoryOf (draft_value kind label stamps (walk Ascii (drafts ++ put_in room meta body ∷ []))) other m
+    stays : (other : List (List ℕ)) (m : ℕ) → IsDirectoryOf (draft_value kind l label stamps (walk l drafts)) other m
+        → IsDirectoryOf (draft_value kind l label stamps (walk l (drafts ++ put_in room meta body ∷ []))) other m
     stays other m at =
-        let n : ℕ = new_number Ascii (walk Ascii drafts) (put_in room meta body) in
+        let n : ℕ = new_number l (walk l drafts) (put_in room meta body) in
         let more = one_more_node in
         record {
           within = omega (arith, at.within);
-          leads = rw (walked_more Ascii drafts (put_in room meta body), node_old (walk Ascii drafts).nodes n m (omega arith) at.within)
-              (from_root (walk Ascii drafts).entries (in_tree (walk Ascii drafts).nodes (put_in room meta body)) other
-              (node_of (walk Ascii drafts).nodes m) h.gives.tree may_put at.leads);
+          leads = rw (walked_more l drafts (put_in room meta body), node_old (walk l drafts).nodes n m (omega arith) at.within)
+              (from_root (walk l drafts).entries (in_tree (walk l drafts).nodes (put_in room meta body)) other
+              (node_of (walk l drafts).nodes m) h.gives.tree may_put at.leads);
         }
 
     is_new : body ≡ Dir
-        → IsDirectoryOf (draft_value kind label stamps (walk Ascii (drafts ++ put_in room meta body ∷ []))) path
-        (length (walk Ascii drafts).nodes + 1)
+        → IsDirectoryOf (draft_value kind l label stamps (walk l (drafts ++ put_in room meta body ∷ []))) path
+        (length (walk l drafts).nodes + 1)
     is_new dir =
-        let n : ℕ = new_number Ascii (walk Ascii drafts) (put_in room meta body) in
+        let n : ℕ = new_number l (walk l drafts) (put_in room meta body) in
         let more = one_more_node in
-        let fresh : IsNew (walk Ascii drafts).entries path meta body (in_tree (walk Ascii drafts).nodes (put_in room meta body)) =
+        let fresh : IsNewBy l (walk l drafts).entries path meta body (in_tree (walk l drafts).nodes (put_in room meta body)) =
         room_new h is meta body in
         record {
           within = omega arith;
           leads = rw (
-            walked_more Ascii drafts (put_in room meta body),
-            node_new (walk Ascii drafts).nodes n (length (walk Ascii drafts).nodes + 1) refl,
+            walked_more l drafts (put_in room meta body),
+            node_new (walk l drafts).nodes n (length (walk l drafts).nodes + 1) refl,
           )
-              (ap (directory_from (walk_more Ascii (walk Ascii drafts) (put_in room meta body)).entries 0) fresh.is
-              ∙ new_directory (walk Ascii drafts).entries (in_tree (walk Ascii drafts).nodes (put_in room meta body))
+              (ap (directory_from_by l (walk_more l (walk l drafts) (put_in room meta body)).entries 0) fresh.is
+              ∙ new_directory (walk l drafts).entries (in_tree (walk l drafts).nodes (put_in room meta body))
               (parents_of path) h.gives.tree fresh.room dir);
         }
 
     module _ {E : Type 0} (new : List Entry) (r : Result (Unit {0}) E)
         (left : new ≡ (if is_ok r then drafts ++ put_in room meta body ∷ [] else drafts)) where
-      pub put_count : OnOk r (length (walk Ascii new).nodes ≡ length (walk Ascii drafts).nodes + 1)
+      pub put_count : OnOk r (length (walk l new).nodes ≡ length (walk l drafts).nodes + 1)
       put_count = grind (arith, common_steps, one_more_node)
 
-      pub put_directories : (other : List (List ℕ)) (m : ℕ) → IsDirectoryOf (draft_value kind label stamps (walk Ascii drafts)) other m
-          → IsDirectoryOf (draft_value kind label stamps (walk Ascii new)) other m
+      pub put_directories : (other : List (List ℕ)) (m : ℕ) → IsDirectoryOf (draft_value kind l label stamps (walk l drafts)) other m
+          → IsDirectoryOf (draft_value kind l label stamps (walk l new)) other m
       put_directories other m at = grind (arith, common_steps, stays)
 
       pub put_directory : body ≡ Dir
-          → OnOk r (IsDirectoryOf (draft_value kind label stamps (walk Ascii new)) path (length (walk Ascii drafts).nodes + 1))
+          → OnOk r (IsDirectoryOf (draft_value kind l label stamps (walk l new)) path (length (walk l drafts).nodes + 1))
       put_directory dir = grind (arith, common_steps, is_new)

@@ -1,7 +1,6 @@
 -- Trees under construction: entries in order of addition, numbered from 1, with parents by these numbers.
 -- What depends on the letters whose case is ignored takes them first.
 use Rattle.std.specs.Prelude.{◌≡◌, ℕ, ◌+◌, ◌-◌, ◌<◌, ◌≤◌, List, [], ◌∷◌, ◌++◌, Some, Result, Ok, Err, option_map, length, map, fold, slice_index_or}
-use Rattle.adf_base.specs.declared.hash.Letters.TheVariants.{Ascii}
 use Rattle.adf_base.specs.declared.hash.Letters.{Letters}
 use Rattle.adf_names.specs.Texts.{uppers_by}
 use Rattle.adf_tree.specs.declared.entry.Entry.{Entry}
@@ -9,7 +8,7 @@ use Rattle.adf_tree.specs.declared.tree.RoomFault.{RoomFault}
 use Rattle.adf_drafts.specs.declared.draft.Room.{Room}
 use Rattle.adf_names.specs.declared.kind.Kind.{Kind}
 use Rattle.adf_names.specs.declared.meta.Stamps.{Stamps}
-use Rattle.adf_tree.specs.Tree.{added_by, child_by, directory_from, last_of, moved, place_by, rank_by, room_for, IsTreeBy, Tree}
+use Rattle.adf_tree.specs.Tree.{added_by, child_by, directory_from_by, last_of, moved, place_by, rank_by, room_for_by, IsTreeBy, Tree}
 use Rattle.adf_tree.specs.Chain.{chain_by}
 use Rattle.adf_drafts.specs.ChildMap.{number_in, Numbers}
 
@@ -74,10 +73,10 @@ pub record DraftValue : Type 0 where
   pub tree : Tree
   pub nodes : List ℕ
 
--- the value of a draft, from its kind, label, dates and additions
-abbrev pub draft_value : Kind → List ℕ → Stamps → NumberedTree → DraftValue
-draft_value kind label stamps w = record {
-  tree = record { kind = kind; letters = Ascii; label = label; stamps = stamps; entries = w.entries };
+-- the value of a draft, from its kind, letters, label, dates and additions
+abbrev pub draft_value : Kind → Letters → List ℕ → Stamps → NumberedTree → DraftValue
+draft_value kind letters label stamps w = record {
+  tree = record { kind = kind; letters = letters; label = label; stamps = stamps; entries = w.entries };
   nodes = w.nodes;
 }
 
@@ -85,12 +84,12 @@ draft_value kind label stamps w = record {
 pub record IsRoomFor (d : DraftValue) (path : List (List ℕ)) (room : Room) : Type 0 where
   pub within : room.parent ≤ length d.nodes
   pub name : room.name ≡ last_of path
-  pub leads : room_for d.tree.entries path ≡ Ok (node_of d.nodes room.parent)
+  pub leads : room_for_by d.tree.letters d.tree.entries path ≡ Ok (node_of d.nodes room.parent)
 
 -- addition m of a draft is the directory that the path leads to; 0 is the root
 pub record IsDirectoryOf (d : DraftValue) (path : List (List ℕ)) (m : ℕ) : Type 0 where
   pub within : m ≤ length d.nodes
-  pub leads : directory_from d.tree.entries 0 path ≡ Ok (node_of d.nodes m)
+  pub leads : directory_from_by d.tree.letters d.tree.entries 0 path ≡ Ok (node_of d.nodes m)
 
 -- a directory by number of addition, turned into its number in the tree
 abbrev pub room_in_tree : List ℕ → Result ℕ RoomFault → Result ℕ RoomFault

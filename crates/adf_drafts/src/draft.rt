@@ -2,13 +2,12 @@
 
 ghost use Rattle.std.specs.Prelude.{◌≡◌, ◌≤◌, ◌+◌, ◌++◌, ◌∷◌, ℕ, List, [], length, is_ok, if◌then◌else◌, Err, IfOk, IfErr, IfNone, IfSome, OnOk, OnErr};
 ghost use Rattle.adf_base.specs.declared.hash.Letters.TheVariants.{Ascii};
-ghost use Rattle.adf_tree.specs.Tree.{directory_from_by, new_entry, room_at_by, room_for, with_entry, IsAnswer};
-ghost use Rattle.adf_tree.specs.Paths.{AddsOne};
+ghost use Rattle.adf_tree.specs.Tree.{directory_from_by, new_entry_by, room_at_by, room_for_by, with_entry_by, IsAnswer};
+ghost use Rattle.adf_tree.specs.Paths.{AddsOneBy};
 ghost use Rattle.adf_names.specs.Texts.{uppers_by};
 ghost use Rattle.adf_drafts.specs.ChildMap.{number_in, HasNumber};
 ghost use Rattle.adf_drafts.specs.Draft.{room_in_tree, walk, IsDirectoryOf, IsDraft, IsRoomFor};
 
-use crate::LETTERS;
 use crate::child_map::ChildMap;
 use crate::groups::walked;
 use adf_base::{Letters, NoMemory};
@@ -21,6 +20,7 @@ use std::marker::Model;
 #[derive(Drop)]
 pub struct Draft {
     kind: Kind,
+    letters: Letters,
     label: Label,
     stamps: Stamps,
     entries: Vec<Entry>,
@@ -29,13 +29,12 @@ pub struct Draft {
 
 impl Model for Draft {
     ghost use Rattle.adf_drafts.specs.Draft.{draft_value, walk, DraftValue, IsDraft};
-    ghost use Rattle.adf_drafts.specs.declared.TheConstants.{LETTERS};
 
     ghost Value = { DraftValue };
 
-    ghost view = { λ d. draft_value d.kind d.label d.stamps (walk LETTERS d.entries.items) };
+    ghost view = { λ d. draft_value d.kind d.letters d.label d.stamps (walk d.letters d.entries.items) };
 
-    ghost invariant = { λ d. IsDraft LETTERS d.entries.items d.children.buckets.items };
+    ghost invariant = { λ d. IsDraft d.letters d.entries.items d.children.buckets.items };
 }
 
 /// The place of a new entry in a draft: its parent, by number of addition, and its name.
@@ -123,14 +122,30 @@ fn add_child(
 }
 
 impl Draft {
-    /// A draft with no entries.
+    /// A draft of ASCII letters with no entries.
     pub fn new(alloc: Global, kind: Kind, label: Label, stamps: Stamps) -> Draft
         ensures tree { result.tree
             ≡ record { kind = kind; letters = Ascii; label = label; stamps = stamps; entries = [] } }
         ensures nodes { result.nodes ≡ [] }
     {
+        Draft::with_letters(alloc, kind, Letters::Ascii, label, stamps)
+    }
+
+    /// A draft with no entries; the case of these letters is ignored in its names.
+    pub fn with_letters(
+        alloc: Global,
+        kind: Kind,
+        letters: Letters,
+        label: Label,
+        stamps: Stamps,
+    ) -> Draft
+        ensures tree { result.tree
+            ≡ record { kind = kind; letters = letters; label = label; stamps = stamps; entries = [] } }
+        ensures nodes { result.nodes ≡ [] }
+    {
         Draft {
             kind,
+            letters,
             label,
             stamps,
             entries: Vec::new(alloc),
@@ -151,10 +166,10 @@ impl Draft {
         ensures some { (path : List (List ℕ)) → IsDirectoryOf self.now path directory
             → IfSome result (λ r. IsRoomFor self.now (path ++ name.now ∷ []) r) }
         ensures none { (path : List (List ℕ)) → IsDirectoryOf self.now path directory
-            → IfNone result (room_for self.now.tree.entries (path ++ name.now ∷ [])
+            → IfNone result (room_for_by self.now.tree.letters self.now.tree.entries (path ++ name.now ∷ [])
             ≡ Err RoomFault.Exists) }
     {
-        match self.children.get(LETTERS, directory, name) {
+        match self.children.get(self.letters, directory, name) {
             None => Some(Room {
                 parent: directory,
                 name: name.copy(),
@@ -166,27 +181,32 @@ impl Draft {
     /// The room for an entry with this path, or why there is none.
     pub fn room(&self, path: &[Name]) -> Result<Room, RoomFault>
         ensures some { IfOk result (λ r. IsRoomFor self.now path.now r) }
-        ensures fault { IfErr result (λ f. room_for self.now.tree.entries path.now ≡ Err f) }
+        ensures fault { IfErr result (λ f. room_for_by self.now.tree.letters self.now.tree.entries path.now ≡ Err f) }
     {
         if path.is_empty() {
             return Err(RoomFault::EmptyPath);
         }
         let last = path.len() - 1;
         let name = path[last].copy();
-        let parent = free_directory(LETTERS, &self.entries, &self.children, &path[..last], &name)?;
+        let parent = free_directory(
+            self.letters,
+            &self.entries,
+            &self.children,
+            &path[..last],
+            &name,
+        )?;
         Ok(Room { parent, name })
     }
 
-    #[tactic(auto, using(crate::proofs::DraftDirectories::put_count, crate::proofs::DraftDirectories::put_directory))]
     /// Adds an entry in a room of this draft, without another look-up. On `NoMemory` the draft is unchanged.
     pub fn put(&mut self, room: &Room, meta: Meta, body: Body) -> Result<(), NoMemory>
         requires room { (path : List (List ℕ)) × IsRoomFor self.old path room.now }
         ensures paths { (path : List (List ℕ)) → IsRoomFor self.old path room.now → OnOk result
-            (AddsOne self.old.tree.entries self.new.tree.entries
-            (new_entry self.old.tree.entries path meta body) path) }
+            (AddsOneBy self.old.tree.letters self.old.tree.entries self.new.tree.entries
+            (new_entry_by self.old.tree.letters self.old.tree.entries path meta body) path) }
         ensures tree { (path : List (List ℕ)) → IsRoomFor self.old path room.now
             → self.new.tree
-            ≡ if is_ok result then with_entry self.old.tree path meta body else self.old.tree }
+            ≡ if is_ok result then with_entry_by self.old.tree.letters self.old.tree path meta body else self.old.tree }
         ensures count { (path : List (List ℕ)) → IsRoomFor self.old path room.now
             → OnOk result (length self.new.nodes ≡ length self.old.nodes + 1) }
         ensures directories { (path other : List (List ℕ)) (m : ℕ)
@@ -199,7 +219,7 @@ impl Draft {
         let parent = room.parent;
         let name = room.name.copy();
         add_child(
-            LETTERS,
+            self.letters,
             &mut self.entries,
             &mut self.children,
             Entry {
@@ -213,12 +233,12 @@ impl Draft {
 
     /// Adds an entry, as `Tree::add` does.
     pub fn add(&mut self, path: &[Name], meta: Meta, body: Body) -> Result<(), AddFault>
-        ensures answer { IsAnswer (room_for self.old.tree.entries path.now) result }
+        ensures answer { IsAnswer (room_for_by self.old.tree.letters self.old.tree.entries path.now) result }
         ensures paths { OnOk result
-            (AddsOne self.old.tree.entries self.new.tree.entries
-            (new_entry self.old.tree.entries path.now meta body) path.now) }
+            (AddsOneBy self.old.tree.letters self.old.tree.entries self.new.tree.entries
+            (new_entry_by self.old.tree.letters self.old.tree.entries path.now meta body) path.now) }
         ensures tree { self.new.tree
-            ≡ if is_ok result then with_entry self.old.tree path.now meta body else self.old.tree }
+            ≡ if is_ok result then with_entry_by self.old.tree.letters self.old.tree path.now meta body else self.old.tree }
     {
         let room = self.room(path)?;
         match self.put(&room, meta, body) {
@@ -229,11 +249,20 @@ impl Draft {
 
     /// The finished tree.
     pub fn finish(self, alloc: Global) -> Result<Tree, NoMemory>
-        ensures tree { IfOk result (λ t. t ≡ self.tree) }
-        ensures letters { IfOk result (λ t. t.letters ≡ Ascii) }
+        ensures { IfOk result (λ t. t ≡ self.tree) }
     {
-        let count = self.entries.len();
-        let tree = Tree::with_capacity(alloc, self.kind, self.label, self.stamps, count)?;
+        let tree = match self.letters {
+            Letters::Ascii => {
+                Tree::with_capacity(
+                    alloc,
+                    self.kind,
+                    self.label,
+                    self.stamps,
+                    self.entries.len(),
+                )?
+            }
+            letters => Tree::with_letters(alloc, self.kind, letters, self.label, self.stamps),
+        };
         walked(alloc, tree, self.entries)
     }
 }

@@ -6,7 +6,3 @@ mod draft;
 mod groups;
 
 pub use crate::draft::{Draft, Room};
-use adf_base::Letters;
-
-/// The letters whose case is ignored in the names of a draft.
-const LETTERS: Letters = Letters::Ascii;

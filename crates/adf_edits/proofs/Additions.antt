@@ -10,21 +10,26 @@ use Rattle.std.proofs.lemmas.List.Sums.{fold_push}
 use Rattle.std.proofs.lemmas.Option.{get_or_from_slice_get, slice_get-get_or}
 use Rattle.std.specs.List.{slice_get}
 use Rattle.std.specs.Option.{IsSome}
+use Rattle.adf_base.specs.declared.hash.Letters.{Letters}
 use Rattle.adf_base.specs.declared.hash.Letters.TheVariants.{Ascii}
 use Rattle.adf_tree.proofs.Lists.{some_in}
 use Rattle.adf_tree.specs.declared.entry.Entry.{Entry}
 use Rattle.adf_tree.specs.declared.tree.AddFault.{AddFault}
 use Rattle.adf_tree.specs.declared.tree.AddFault.TheVariants.{NoMemory}
 use Rattle.adf_tree.specs.declared.tree.RoomFault.{RoomFault}
-use Rattle.adf_tree.specs.Additions.{Addition, AllHaveRoom, entries_of_additions, with_addition}
+use Rattle.adf_tree.specs.Additions.{Addition, AllHaveRoom, AllHaveRoomBy, entries_of_additions, entries_of_additions_by, with_addition}
+use Rattle.adf_tree.specs.Additions.{with_addition_by}
 use Rattle.adf_tree.specs.Faults.{add_fault}
-use Rattle.adf_tree.specs.Tree.{with_entry as with_entry_in}
-use Rattle.adf_tree.specs.Tree.{entry, room_for, IsAnswer, IsTree, Tree}
-use Rattle.adf_edits.specs.Outline.{IsWithoutRoom, OutlineValue, addition_for, additions_of, tree_of, with_addition_in, with_entry, with_first}
+use Rattle.adf_tree.specs.Tree.{entry, room_for, room_for_by, with_entry_by, IsAnswer, IsTree, Tree}
+use Rattle.adf_edits.specs.Outline.{IsWithoutRoomBy, OutlineValue, addition_for, additions_of, tree_of_by, with_addition_in, with_entry, with_first}
 
 -- the tree of one addition more
+pub tree_more_by : (ls : Letters) (xs : List Addition) (x : Addition)
+    → entries_of_additions_by ls (xs ++ x ∷ []) ≡ with_addition_by ls (entries_of_additions_by ls xs) x
+tree_more_by ls xs x = fold_push (with_addition_by ls) [] xs x
+
 pub tree_more : (xs : List Addition) (x : Addition) → entries_of_additions (xs ++ x ∷ []) ≡ with_addition (entries_of_additions xs) x
-tree_more xs x = fold_push with_addition [] xs x
+tree_more = tree_more_by Ascii
 
 take_front : (xs ys : List Addition) (i : ℕ) → i ≤ length xs → take i (xs ++ ys) ≡ take i xs
 take_front xs ys zero le = refl
@@ -32,9 +37,9 @@ take_front [] ys (suc i) le = absurd (omega arith)
 take_front (x ∷ xs) ys (suc i) le = ap (λ zs. x ∷ zs) (take_front xs ys i (omega arith))
 
 -- one addition more has room too
-pub room_more : (xs : List Addition) (x : Addition) → AllHaveRoom xs → IsOk (room_for (entries_of_additions xs) x.path)
-    → AllHaveRoom (xs ++ x ∷ [])
-room_more xs x h ok = λ i d lt.
+pub room_more_by : (ls : Letters) (xs : List Addition) (x : Addition) → AllHaveRoomBy ls xs
+    → IsOk (room_for_by ls (entries_of_additions_by ls xs) x.path) → AllHaveRoomBy ls (xs ++ x ∷ [])
+room_more_by ls xs x h ok = λ i d lt.
     elim (cases_Bool (i == length xs)) [
       | inl t ↦
           let is : i ≡ length xs = eqb-true i (length xs) t in
@@ -45,52 +50,60 @@ room_more xs x h ok = λ i d lt.
           rw (take_front xs (x ∷ []) i (omega (arith, less)), get_or-append xs (x ∷ []) d i less) (h i d less)
     ]
 
+pub room_more : (xs : List Addition) (x : Addition) → AllHaveRoom xs → IsOk (room_for (entries_of_additions xs) x.path)
+    → AllHaveRoom (xs ++ x ∷ [])
+room_more = room_more_by Ascii
+
 -- the fault of an addition is that of its room
 room_of : (r : Result ℕ RoomFault) (f : AddFault) → IsAnswer r (Err f) → f ≢ NoMemory → (g : RoomFault) × (r ≡ Err g) × (f ≡ add_fault g)
 room_of (Ok p) f h ne = absurd (ne h)
 room_of (Err g) f h ne = (g, refl, h)
 
 -- an addition that is refused has no room
-pub no_room : (all xs ys : List Addition) (x : Addition) (f : AddFault) → xs ++ x ∷ ys ≡ all
-    → IsAnswer (room_for (entries_of_additions xs) x.path) (Err f) → f ≢ NoMemory → IsWithoutRoom all f
-no_room all xs ys x f e h ne =
-    let room = room_of (room_for (entries_of_additions xs) x.path) f h ne in
+pub no_room : (ls : Letters) (all xs ys : List Addition) (x : Addition) (f : AddFault) → xs ++ x ∷ ys ≡ all
+    → IsAnswer (room_for_by ls (entries_of_additions_by ls xs) x.path) (Err f) → f ≢ NoMemory → IsWithoutRoomBy ls all f
+no_room ls all xs ys x f e h ne =
+    let room = room_of (room_for_by ls (entries_of_additions_by ls xs) x.path) f h ne in
     let long : length (xs ++ x ∷ ys) ≡ length xs + length (x ∷ ys) = length-append xs (x ∷ ys) in
-    subst (λ zs. IsWithoutRoom zs f) e
+    subst (λ zs. IsWithoutRoomBy ls zs f) e
     (length xs, room.0, omega (arith, long), λ d. rw (take-append_seam xs (x ∷ ys), get_or-append_seam xs x ys d) room.1, room.2)
 
 -- the tree of an outline, addition by addition
 
-pub grown : (o : OutlineValue) (xs : List Addition) (x : Addition) (t u : Tree) → t ≡ tree_of (with_first o xs) → u ≡ with_addition_in t x
-    → u ≡ tree_of (with_first o (xs ++ x ∷ []))
-grown o xs x t u is new = new ∙ (ap (λ (v : Tree). with_addition_in v x) is
-    ∙ ap (λ es. record { kind = o.kind; letters = Ascii; label = o.label; stamps = o.stamps; entries = es }) (sym (tree_more xs x)))
+pub grown : (ls : Letters) (o : OutlineValue) (xs : List Addition) (x : Addition) (t u : Tree) → t ≡ tree_of_by ls (with_first o xs)
+    → u ≡ with_addition_in t x → u ≡ tree_of_by ls (with_first o (xs ++ x ∷ []))
+grown ls o xs x t u is new = new ∙ (ap (λ (v : Tree). with_addition_in v x) is
+    ∙ ap (λ es. record { kind = o.kind; letters = ls; label = o.label; stamps = o.stamps; entries = es }) (sym (tree_more_by ls xs x)))
 
-pub room_grown : (o : OutlineValue) (xs : List Addition) (x : Addition) (t : Tree) → t ≡ tree_of (with_first o xs) → AllHaveRoom xs
-    → IsOk (room_for t.entries x.path) → AllHaveRoom (xs ++ x ∷ [])
-room_grown o xs x t is room ok = room_more xs x room (subst (λ (v : Tree). IsOk (room_for v.entries x.path)) is ok)
+pub room_grown : (ls : Letters) (o : OutlineValue) (xs : List Addition) (x : Addition) (t : Tree) → t ≡ tree_of_by ls (with_first o xs)
+    → AllHaveRoomBy ls xs → IsOk (room_for_by t.letters t.entries x.path) → AllHaveRoomBy ls (xs ++ x ∷ [])
+room_grown ls o xs x t is room ok =
+    room_more_by ls xs x room (subst (λ (v : Tree). IsOk (room_for_by v.letters v.entries x.path)) is ok)
 
-pub refused : (o : OutlineValue) (xs ys : List Addition) (x : Addition) (t : Tree) (f : AddFault) → t ≡ tree_of (with_first o xs)
-    → xs ++ x ∷ ys ≡ o.additions → IsAnswer (room_for t.entries x.path) (Err f) → f ≢ NoMemory → IsWithoutRoom o.additions f
-refused o xs ys x t f is all h ne =
-    no_room o.additions xs ys x f all (subst (λ (v : Tree). IsAnswer (room_for v.entries x.path) (Err f)) is h) ne
+pub refused : (ls : Letters) (o : OutlineValue) (xs ys : List Addition) (x : Addition) (t : Tree) (f : AddFault)
+    → t ≡ tree_of_by ls (with_first o xs) → xs ++ x ∷ ys ≡ o.additions → IsAnswer (room_for_by t.letters t.entries x.path) (Err f)
+    → f ≢ NoMemory → IsWithoutRoomBy ls o.additions f
+refused ls o xs ys x t f is all h ne =
+    no_room ls o.additions xs ys x f all (subst (λ (v : Tree). IsAnswer (room_for_by v.letters v.entries x.path) (Err f)) is h) ne
 
 room_memory : (r : Result ℕ RoomFault) (f : AddFault) → IsAnswer r (Err f) → IsOk r → f ≡ NoMemory
 room_memory (Ok p) f h ok = h
 room_memory (Err g) f h ok = cc
 
 -- what has room is refused only for want of memory
-pub refused_for_memory : (o : OutlineValue) (xs ys : List Addition) (x : Addition) (t : Tree) (f : AddFault) → t ≡ tree_of (with_first o xs)
-    → xs ++ x ∷ ys ≡ o.additions → IsAnswer (room_for t.entries x.path) (Err f) → AllHaveRoom o.additions → f ≡ NoMemory
-refused_for_memory o xs ys x t f is all h room =
+pub refused_for_memory : (ls : Letters) (o : OutlineValue) (xs ys : List Addition) (x : Addition) (t : Tree) (f : AddFault)
+    → t ≡ tree_of_by ls (with_first o xs) → xs ++ x ∷ ys ≡ o.additions → IsAnswer (room_for_by t.letters t.entries x.path) (Err f)
+    → AllHaveRoomBy ls o.additions → f ≡ NoMemory
+refused_for_memory ls o xs ys x t f is all h room =
     let long : length (xs ++ x ∷ ys) ≡ length xs + length (x ∷ ys) = length-append xs (x ∷ ys) in
-    let whole : AllHaveRoom (xs ++ x ∷ ys) = subst AllHaveRoom (sym all) room in
-    let ok : IsOk (room_for (entries_of_additions xs) x.path) =
+    let whole : AllHaveRoomBy ls (xs ++ x ∷ ys) = subst (AllHaveRoomBy ls) (sym all) room in
+    let ok : IsOk (room_for_by ls (entries_of_additions_by ls xs) x.path) =
     rw (take-append_seam xs (x ∷ ys), get_or-append_seam xs x ys x) at (whole (length xs) x (omega (arith, long))) in
-    room_memory (room_for (entries_of_additions xs) x.path) f (subst (λ (v : Tree). IsAnswer (room_for v.entries x.path) (Err f)) is h) ok
+    room_memory (room_for_by ls (entries_of_additions_by ls xs) x.path) f
+    (subst (λ (v : Tree). IsAnswer (room_for_by v.letters v.entries x.path) (Err f)) is h) ok
 
 pub added_ok : (r : Result (Unit {0}) AddFault) (old new : Tree) (x : Addition)
-    → new ≡ (if is_ok r then with_entry_in old x.path x.meta x.body else old) → OnOk r (new ≡ with_addition_in old x)
+    → new ≡ (if is_ok r then with_entry_by old.letters old x.path x.meta x.body else old) → OnOk r (new ≡ with_addition_in old x)
 added_ok (Ok u) old new x h = h
 added_ok (Err f) old new x h = tt
 

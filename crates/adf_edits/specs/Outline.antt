@@ -2,15 +2,16 @@
 use Rattle.std.specs.Prelude.{◌≡◌, ◌<◌, ◌==◌, ◌-◌, ℕ, List, [], ◌∷◌, ◌++◌, Err, fold, if◌then◌else◌, length, slice_get, take}
 use Rattle.std.specs.Prelude.{Option, Some, None, slice_index_or}
 use Rattle.std.specs.List.{slice_get}
+use Rattle.adf_base.specs.declared.hash.Letters.{Letters}
 use Rattle.adf_base.specs.declared.hash.Letters.TheVariants.{Ascii}
 use Rattle.adf_names.specs.declared.kind.Kind.{Kind}
 use Rattle.adf_names.specs.declared.meta.Stamps.{Stamps}
 use Rattle.adf_tree.specs.declared.entry.Entry.{Entry}
 use Rattle.adf_tree.specs.declared.tree.AddFault.{AddFault}
 use Rattle.adf_tree.specs.declared.tree.RoomFault.{RoomFault}
-use Rattle.adf_tree.specs.Additions.{Addition, entries_of_additions, with_addition}
+use Rattle.adf_tree.specs.Additions.{Addition, entries_of_additions_by, with_addition_by}
 use Rattle.adf_tree.specs.Faults.{add_fault}
-use Rattle.adf_tree.specs.Tree.{Tree, room_for}
+use Rattle.adf_tree.specs.Tree.{Tree, room_for_by}
 
 -- the value of an outline: the kind, label and dates of a tree, and its additions
 pub record OutlineValue : Type 0 where
@@ -44,9 +45,11 @@ additions_of es = fold with_entry [] es
 abbrev pub outline_of : Tree → OutlineValue
 outline_of t = record { kind = t.kind; label = t.label; stamps = t.stamps; additions = additions_of t.entries }
 
--- the tree that `add` makes of an outline
-abbrev pub tree_of : OutlineValue → Tree
-tree_of o = record { kind = o.kind; letters = Ascii; label = o.label; stamps = o.stamps; entries = entries_of_additions o.additions }
+-- the tree that `add` makes of an outline by these letters
+abbrev pub tree_of_by : Letters → OutlineValue → Tree
+tree_of_by letters o =
+    let entries = entries_of_additions_by letters o.additions in
+    record { kind = o.kind; letters = letters; label = o.label; stamps = o.stamps; entries = entries }
 
 -- an outline of these additions alone
 abbrev pub with_first : OutlineValue → List Addition → OutlineValue
@@ -54,9 +57,17 @@ with_first o xs = record o { additions = xs }
 
 -- a tree after `add` of one addition more
 abbrev pub with_addition_in : Tree → Addition → Tree
-with_addition_in t x = record t { entries = with_addition t.entries x }
+with_addition_in t x = record t { entries = with_addition_by t.letters t.entries x }
 
 -- an addition has this fault in the tree of those before it
+abbrev pub IsWithoutRoomBy : Letters → List Addition → AddFault → Type 0
+IsWithoutRoomBy letters xs f = (i : ℕ) × (room : RoomFault) × (i < length xs) × ((d : Addition) →
+    room_for_by letters (entries_of_additions_by letters (take i xs)) (slice_index_or xs i d).path ≡ Err room) × (f ≡ add_fault room)
+
+-- by ASCII letters
+
+abbrev pub tree_of : OutlineValue → Tree
+tree_of = tree_of_by Ascii
+
 abbrev pub IsWithoutRoom : List Addition → AddFault → Type 0
-IsWithoutRoom xs f = (i : ℕ) × (room : RoomFault) × (i < length xs) × ((d : Addition) →
-    room_for (entries_of_additions (take i xs)) (slice_index_or xs i d).path ≡ Err room) × (f ≡ add_fault room)
+IsWithoutRoom = IsWithoutRoomBy Ascii

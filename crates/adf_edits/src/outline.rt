@@ -1,14 +1,15 @@
 // Trees as lists of additions.
 
 ghost use Rattle.std.specs.Prelude.{◌≡◌, ◌≢◌, ◌++◌, ◌∷◌, [], ◌≤◌, length, IfOk, IfErr, OnOk, false, true};
-ghost use Rattle.adf_tree.specs.Additions.{AllHaveRoom};
-ghost use Rattle.adf_edits.specs.Outline.{IsWithoutRoom, addition_for, additions_of, outline_of, path_at, tree_of};
-ghost use Rattle.adf_edits.specs.Outline.{with_addition_in, with_entry};
+ghost use Rattle.adf_tree.specs.Additions.{AllHaveRoom, AllHaveRoomBy};
+ghost use Rattle.adf_edits.specs.Outline.{IsWithoutRoom, IsWithoutRoomBy, addition_for, additions_of, outline_of, path_at};
+ghost use Rattle.adf_edits.specs.Outline.{tree_of};
+ghost use Rattle.adf_edits.specs.Outline.{tree_of_by, with_addition_in, with_entry};
 ghost use Rattle.adf_edits.specs.Paths.{has_deep, is_deep};
-ghost use Rattle.adf_tree.specs.Tree.{IsAnswer, room_for};
+ghost use Rattle.adf_tree.specs.Tree.{IsAnswer, room_for_by};
 
 use crate::paths::{MOST_DEPTH, push_names};
-use adf_base::NoMemory;
+use adf_base::{Letters, NoMemory};
 use adf_drafts::Draft;
 use adf_names::{Kind, Label, Meta, Name, Stamps};
 use adf_tree::{AddFault, Body, Bytes, Entry, Node, Tree};
@@ -153,7 +154,7 @@ fn items_of(alloc: Global, tree: &Tree) -> Result<Vec<Item>, OutlineFault>
 #[tactic(auto, using(crate::proofs::Additions::added_ok))]
 // Adds an entry to a draft.
 fn add_item(draft: &mut Draft, item: Item) -> Result<(), AddFault>
-    ensures answer { IsAnswer (room_for draft.old.tree.entries item.path) result }
+    ensures answer { IsAnswer (room_for_by draft.old.tree.letters draft.old.tree.entries item.path) result }
     ensures tree { OnOk result (draft.new.tree ≡ with_addition_in draft.old.tree item) }
 {
     let path = item.path;
@@ -185,7 +186,18 @@ impl Outline {
         ensures fault { IfErr result (λ f. f ≢ AddFault.NoMemory → IsWithoutRoom self.additions f) }
         ensures memory { IfErr result (λ f. AllHaveRoom self.additions → f ≡ AddFault.NoMemory) }
     {
-        let mut draft = Draft::new(alloc, self.kind, self.label, self.stamps);
+        self.finish_by(alloc, Letters::Ascii)
+    }
+
+    /// The tree of the outline by these letters. The fault of the first addition that has no room in the tree of those before it,
+    /// as where two names of one directory are one by these letters; or `NoMemory`.
+    pub fn finish_by(self, alloc: Global, letters: Letters) -> Result<Tree, AddFault>
+        ensures room { OnOk result (AllHaveRoomBy letters self.additions) }
+        ensures tree { IfOk result (λ t. t ≡ tree_of_by letters self) }
+        ensures fault { IfErr result (λ f. f ≢ AddFault.NoMemory → IsWithoutRoomBy letters self.additions f) }
+        ensures memory { IfErr result (λ f. AllHaveRoomBy letters self.additions → f ≡ AddFault.NoMemory) }
+    {
+        let mut draft = Draft::with_letters(alloc, self.kind, letters, self.label, self.stamps);
         for item in self.items {
             match add_item(&mut draft, item) {
                 Ok(()) => {}

@@ -5,15 +5,16 @@ use Rattle.std.specs.List.{All}
 use Rattle.std.proofs.lemmas.List.{append-nil, length-replicate}
 use Rattle.std.proofs.lemmas.List.Elements.{All-head, All-nil}
 use Rattle.adf_base.specs.declared.dates.Stamp.{Stamp}
+use Rattle.adf_base.specs.declared.hash.Letters.TheVariants.{Ascii}
 use Rattle.adf_names.specs.Escapes.{IsSpelling, escaped}
 use Rattle.adf_names.specs.PathTexts.{IsPathText, path_text}
 use Rattle.std.specs.Option.{unwrap_or}
 use Rattle.adf_drafts.specs.Draft.{DraftValue, IsRoomFor}
 use Rattle.adf_names.specs.Meta.{new_meta}
-use Rattle.adf_tree.specs.Tree.{Tree, room_for, with_entry}
+use Rattle.adf_tree.specs.Tree.{Tree, room_for, with_entry, with_entry_by}
 use Rattle.adf_tree.specs.declared.entry.Body.{Body}
 use Rattle.adf_manifest.specs.Lines.{EntryLine, IsLine, IsRun, RunValue, DataRun, FillRun, entry_line, note_line, run_line, LineValue}
-use Rattle.adf_manifest.specs.Items.{IsItem, Item, body_of_sort, bytes_of_runs, run_bytes, with_item}
+use Rattle.adf_manifest.specs.Items.{IsItem, Item, body_of_sort, bytes_of_runs, items_tree, run_bytes, with_item}
 use Rattle.adf_manifest.specs.Manifest.{Entries, IsPreamble, IsWell, Manifest, MayStand, preamble_lines, preamble_tree, items_of, manifest_lines}
 use Rattle.adf_manifest.specs.Manifest.{manifest_tree, ExplainsKind, lines, most_bytes}
 use Rattle.adf_manifest.specs.Reader.{GoesOn, IsLastEntry, IsReading, Stops, StopsIn, bare, ExplainsLines}
@@ -26,6 +27,19 @@ use Rattle.adf_manifest.specs.declared.manifest.ManifestKind.{ManifestKind, TheV
 use Rattle.adf_manifest.proofs.Growth.{with_run, with_run_is, with_run_lines, last_is, last_lines, last_well, new_item, new_lines, new_well, noted, noted_is}
 use Rattle.adf_manifest.proofs.Growth.{noted_lines, room_none, tree_more, tree_none, with_last, with_new}
 use Rattle.std.proofs.lemmas.Grind.{common_steps}
+
+-- the tree of items has the letters of the tree before them
+items_letters : (t : Tree) (items : List Item) → (items_tree t items).letters ≡ t.letters
+unfolding items_tree
+items_letters t [] = refl
+items_letters t (i ∷ items) = items_letters (with_item t i) items
+
+-- so the tree of a manifest has ASCII letters
+pub manifest_letters : (m : Manifest) → (manifest_tree m).letters ≡ Ascii
+manifest_letters m = items_letters (preamble_tree m.preamble) (items_of m.entries)
+
+pub reading_letters : (r : Reading) (m : Manifest) (e : Entries) → IsReading r m e → r.draft.tree.letters ≡ Ascii
+reading_letters r m e g = ap (λ (t : Tree). t.letters) g.tree ∙ items_letters (preamble_tree m.preamble) e.before
 
 pub bare_well : (h : Preamble) → IsPreamble h → IsWell (bare h)
 bare_well h g = record { preamble = g; items = All-nil IsItem; room = room_none (preamble_tree h) }
@@ -77,7 +91,9 @@ entry_step m blocks draft last sort stamp protect text path w b t l p room e1 e2
       plain = λ d. refl;
     } in
     let same : IsLastEntry last item = record { sort = e1; stamp = e2; protect = e3; note = e4; bytes = e5 } in
-    let some : IsOk (room_for draft.tree.entries path) = rw room.leads refl in
+    let letters : draft.tree.letters ≡ Ascii = ap (λ (u : Tree). u.letters) t ∙ manifest_letters m in
+    let leads = rw letters at room.leads in
+    let some : IsOk (room_for draft.tree.entries path) = rw leads refl in
     let entries : Entries = record { before = items_of m.entries; last = item } in (
       with_new m item,
       new_well m item w is (subst (λ (x : Tree). IsOk (room_for x.entries path)) t some),
@@ -139,11 +155,17 @@ pub is_none : {X : Type 0} (o : Option X) → is_some o ≡ false → o ≡ None
 is_none None h = refl
 is_none (Some x) h = absurd cc
 
--- an entry whose lines are all read is added as its item
-pub closed_is : (t : Tree) (o : LastEntry) (i : Item) (comment : List ℕ) (body : Body) → IsLastEntry o i
+item_is : (t : Tree) (o : LastEntry) (i : Item) (comment : List ℕ) (body : Body) → IsLastEntry o i
     → comment ≡ unwrap_or o.note [] → body ≡ body_of_sort o.sort o.bytes.items
     → with_entry t i.path (new_meta comment o.protect o.stamp) body ≡ with_item t i
-closed_is t o i comment body g e2 e3 = grind (arith, common_steps)
+item_is t o i comment body g e2 e3 = grind (arith, common_steps)
+
+-- an entry whose lines are all read is added as its item
+pub closed_is : (t : Tree) (o : LastEntry) (i : Item) (comment : List ℕ) (body : Body) → t.letters ≡ Ascii → IsLastEntry o i
+    → comment ≡ unwrap_or o.note [] → body ≡ body_of_sort o.sort o.bytes.items
+    → with_entry_by t.letters t i.path (new_meta comment o.protect o.stamp) body ≡ with_item t i
+closed_is t o i comment body letters g e2 e3 =
+    ap (λ l. with_entry_by l t i.path (new_meta comment o.protect o.stamp) body) letters ∙ item_is t o i comment body g e2 e3
 
 pub stopped : {T : Type 0} (r : Result T ManifestKind) (m : Manifest) (line : LineValue) (tree : Tree) → tree ≡ manifest_tree m → MayStand m line
     → IfErr r (λ k. StopsIn tree line k) → IfErr r (λ k. Stops m line k)

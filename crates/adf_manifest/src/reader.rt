@@ -2,6 +2,7 @@
 
 ghost use Rattle.std.specs.Prelude.{◌≡◌, ◌<◌, ◌++◌, ◌∷◌, [], ℕ, List, IfSome, IfNone, IfOk, IfErr, None, length, replicate};
 ghost use Rattle.std.specs.Option.{unwrap_or};
+ghost use Rattle.adf_base.specs.declared.hash.Letters.TheVariants.{Ascii};
 ghost use Rattle.adf_names.specs.PathTexts.{IsPathText};
 ghost use Rattle.adf_drafts.specs.Draft.{IsRoomFor};
 ghost use Rattle.adf_names.specs.Meta.{AreStamps};
@@ -153,9 +154,10 @@ fn tree_of(alloc: Global, preamble: Preamble) -> Draft
     )
 }
 
-// The entry of an entry line, if the tree has room for it.
+// The entry of an entry line, if the tree, of ASCII letters, has room for it.
 fn begin_entry(alloc: Global, draft: &Draft, line: EntryText) -> Result<LastEntry, ManifestKind>
     requires form { IsLine (entry_value line) }
+    requires letters { draft.now.tree.letters ≡ Ascii }
     ensures fields { IfOk result (λ o. (o.sort ≡ line.entry.sort) × (o.stamp ≡ line.entry.stamp)
         × (o.protect ≡ line.entry.protect) × (o.note ≡ None) × (o.bytes.items ≡ [])) }
     ensures room { IfOk result (λ o. (path : List (List ℕ)) × IsPathText line.entry.path.now path
@@ -203,10 +205,10 @@ fn note_or_none(note: Option<Comment>) -> Comment
     }
 }
 
-#[tactic(auto, using(crate::proofs::StateLaws::closed_is))]
-// Adds an entry in its room, after all its lines are read.
+// Adds an entry in its room of a draft of ASCII letters, after all its lines are read.
 fn close(alloc: Global, draft: &mut Draft, last: &mut LastEntry) -> Result<(), ManifestKind>
     requires room { (path : List (List ℕ)) × IsRoomFor draft.old path last.old.room }
+    requires letters { draft.old.tree.letters ≡ Ascii }
     ensures tree { IfOk result (λ _. (i : Item) → IsLastEntry last.old i
         → IsRoomFor draft.old i.path last.old.room
         → draft.new.tree ≡ with_item draft.old.tree i) }

@@ -1,5 +1,5 @@
 use Rattle.adf_drafts.proofs.DraftInvariant.{kept_draft}
-use Rattle.adf_drafts.proofs.DraftDirectories.{put_directories}
+use Rattle.adf_drafts.proofs.DraftDirectories.{put_count, put_directories, put_directory}
 use Rattle.adf_drafts.proofs.DraftRooms.{put_in, put_paths, put_tree, room_may, room_within}
 use Rattle.adf_drafts.proofs.draft.Draft.put.Goals as goal
 
@@ -25,3 +25,13 @@ pub returns-clause-directories : goal.returns-clause-directories
 returns-clause-directories c = rw (← c.self.view_is) (λ path other m is.
     put_directories c.self.invariant is c.args.meta c.args.body c.add_child.new.entries.items c.add_child.result
     (rw c.copy-name.ensures at c.add_child.ensures.entries) other m)
+
+pub returns-clause-count : goal.returns-clause-count
+returns-clause-count c = rw (← c.self.view_is) (λ path is.
+    put_count c.self.invariant is c.args.meta c.args.body c.add_child.new.entries.items c.add_child.result
+    (rw c.copy-name.ensures at c.add_child.ensures.entries))
+
+pub returns-clause-directory : goal.returns-clause-directory
+returns-clause-directory c = rw (← c.self.view_is) (λ path is.
+    put_directory c.self.invariant is c.args.meta c.args.body c.add_child.new.entries.items c.add_child.result
+    (rw c.copy-name.ensures at c.add_child.ensures.entries))
