@@ -21,7 +21,8 @@ use Rattle.adf_runs.specs.Commands.{Reply, bad_path, on_errors, on_output}
 use Rattle.adf_file_words.specs.SurveyLine.{QuestionValue, asked, cat, list, report, rescue}
 use Rattle.adf_survey_cmd.proofs.SomeRescues.{some_rescue as rescue_answered}
 use Rattle.adf_survey_cmd.proofs.SubjectBytes.{subject_bytes, typed_bytes}
-use Rattle.adf_survey_cmd.specs.Answers.{CopiesEntry, CopiesFound, CopiesFromSurvey, IsWholeFile, ListsSurvey, QuestionAnswer, Surveys, no_path_line, told_status}
+use Rattle.adf_survey_cmd.specs.Answers.{CopiesEntry, CopiesFound, CopiesFromSurvey, IsWholeFile, ListsSurvey, QuestionAnswer, Surveys, no_path_line}
+use Rattle.adf_survey_cmd.specs.Answers.{told_status, types_kept}
 use Rattle.adf_survey_cmd.specs.FoundLines.{has_its_data, listing_text}
 use Rattle.adf_survey_cmd.specs.Hints.{hinted}
 use Rattle.adf_survey_cmd.specs.Remains.{remains_reply}
@@ -108,19 +109,22 @@ some_copy blocks damaged path input = copied_by blocks damaged path input (path_
 
 -- a rescue
 
-some_rescue : (blocks : Option ℕ) (input : List ℕ) → AreBytes input → IsAnswered rescue (subject blocks input)
-some_rescue blocks input are =
+some_rescue : (blocks : Option ℕ) (keep_type : Bool) (input : List ℕ) → AreBytes input → IsAnswered (rescue keep_type) (subject blocks input)
+some_rescue blocks keep_type input are =
     let (t, typed) = some_typed (subject blocks input) in
-    let (reply, told) = rescue_answered t.end t.image (sized 2 (subject blocks input).image) (typed_bytes (subject blocks input) t typed (subject_bytes blocks input are)) in
+    let (reply, told) = rescue_answered (types_kept keep_type) t.end t.image (sized 2 (subject blocks input).image)
+    (typed_bytes (subject blocks input) t typed (subject_bytes blocks input are)) in
     (reply, (t, typed, told))
 
 -- every question
 
-questioned : (blocks : Option ℕ) (q : QuestionValue) (input : List ℕ) → (q ≡ rescue → AreBytes input) → IsAnswered q (subject blocks input)
+questioned : (blocks : Option ℕ) (q : QuestionValue) (input : List ℕ) → ((keep_type : Bool) → q ≡ rescue keep_type → AreBytes input)
+    → IsAnswered q (subject blocks input)
 questioned blocks report input are = some_report blocks input
 questioned blocks list input are = some_list blocks input
 questioned blocks (cat damaged path) input are = some_copy blocks damaged path input
-questioned blocks rescue input are = some_rescue blocks input (are refl)
+questioned blocks (rescue keep_type) input are = some_rescue blocks keep_type input (are keep_type refl)
 
-pub some_answer : (blocks : Option ℕ) (q : QuestionValue) (input : List ℕ) → (q ≡ rescue → AreBytes input) → HasSurveyAnswer (asked blocks q) input
+pub some_answer : (blocks : Option ℕ) (q : QuestionValue) (input : List ℕ) → ((keep_type : Bool) → q ≡ rescue keep_type → AreBytes input)
+    → HasSurveyAnswer (asked blocks q) input
 some_answer blocks q input are = let (told, answer) = questioned blocks q input are in (hinted input told, (told, answer, refl))

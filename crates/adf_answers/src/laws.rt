@@ -1,7 +1,7 @@
 // The laws of answers. Each is the contract of a function that does nothing at run time. Beside each stands the law `one_answer` of
 // its command: there is one answer at most.
 
-ghost use Rattle.std.specs.Prelude.{◌<◌, ◌≢◌, ℕ, List};
+ghost use Rattle.std.specs.Prelude.{◌<◌, ◌≢◌, ℕ, Bool, List};
 ghost use Rattle.std.specs.List.{All};
 ghost use Rattle.adf_names.specs.declared.kind.Kind.{Kind};
 ghost use Rattle.adf_words.specs.CommandLine.{RequestValue, convert};
@@ -24,5 +24,6 @@ pub fn some_disk_answer()
 /// Whatever is asked of bytes has an answer of `adf-survey`. Of all questions but `rescue` this holds of any list of numbers.
 pub fn some_survey_answer()
     ensures every { (r : InquiryValue) (input : List ℕ) → All (λ byte. byte < 256) input → HasSurveyAnswer r input }
-    ensures unrescued { (r : InquiryValue) (input : List ℕ) → r.question ≢ rescue → HasSurveyAnswer r input }
+    ensures unrescued { (r : InquiryValue) (input : List ℕ) → ((keep_type : Bool) → r.question ≢ rescue keep_type)
+        → HasSurveyAnswer r input }
 {}

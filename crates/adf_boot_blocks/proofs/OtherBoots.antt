@@ -1,12 +1,13 @@
 -- Volumes with other boot blocks.
--- Letters: image a volume, other one with other boot blocks; t a tree, l its layout; b, a blocks; n a node, h its header; k, j, i, m indices.
+-- Letters: image a volume, other one with other boot blocks; t a tree, l its layout, ls its letters; b, a blocks; n a node, h its header; k, j, i, m indices.
 use Rattle.std.proofs.Common.{◌≡◌, ℕ, zero, suc, List, [], ◌∷◌, ◌++◌, ◌+◌, ◌-◌, ◌*◌, ◌/◌, ◌%◌, ◌<◌, ◌≤◌, ◌↔◌, length, drop, take, slice_index, map}
 use Rattle.std.proofs.Common.{refl, sym, ap, subst, ◌∙◌, arith}
 use Rattle.std.proofs.lemmas.Grind.{common_steps}
 use Rattle.std.proofs.lemmas.List.{drop-drop, get_or-take}
-use Rattle.adf_base.specs.Hash.{slot_of}
+use Rattle.adf_base.specs.Hash.{slot_by}
 use Rattle.adf_base.specs.Words.{block, word}
-use Rattle.adf_base.specs.declared.hash.Letters.TheVariants.{Ascii}
+use Rattle.adf_base.specs.declared.hash.Letters.{Letters}
+use Rattle.adf_base.specs.declared.hash.Letters.TheVariants.{Ascii, International}
 use Rattle.adf_names.specs.declared.kind.Kind.{Kind}
 use Rattle.adf_names.specs.declared.kind.Kind.TheVariants.{Ofs, Ffs}
 use Rattle.adf_blocks.specs.DataBlock.{data_form}
@@ -21,12 +22,12 @@ use Rattle.adf_blocks.specs.declared.layout.TheConstants.{PAGE_BITS, POINTERS, S
 use Rattle.adf_tree.specs.Tree.{IsDir, Tree}
 use Rattle.adf_tree.specs.declared.entry.Body.{Body, TheVariants.Dir, TheVariants.File}
 use Rattle.adf_tree.specs.declared.entry.Entry.{Entry}
-use Rattle.adf_volume.specs.Demands.{AllHold, boot_demands, data_demands, demands_at, root_demands}
-use Rattle.adf_volume.specs.Fits.{BodyFits, EntryFits, FileFits, Fits, IsFree, TableAt}
+use Rattle.adf_volume.specs.Demands.{AllHold, boot_demands_by, data_demands, demands_at, root_demands}
+use Rattle.adf_volume.specs.Fits.{BodyFits, EntryFitsBy, FileFits, Fits, FitsBy, IsFree, TableAt}
 use Rattle.adf_volume.specs.Image.{area, content, held, joined, kind_of, map_exts_needed, meta_of, name_of, root_of, stamps_of, table_word, word_in}
-use Rattle.adf_volume.specs.Layout.{EntryAt, Layout, at_node, chain_nodes, datas_of, exts_of, owned, owned_from}
+use Rattle.adf_volume.specs.Layout.{EntryAt, Layout, at_node, chain_nodes_by, datas_of, exts_of, owned, owned_from}
 use Rattle.adf_volume.specs.Lists.{At, In, NoBlockTwice, Spelled, numbered}
-use Rattle.adf_volume.specs.LayoutRoles.{LayoutHas}
+use Rattle.adf_volume.specs.LayoutRoles.{LayoutHasBy}
 use Rattle.adf_volume.specs.declared.owner.Owner.{Owner}
 use Rattle.adf_volume.specs.declared.owner.Owner.TheVariants.{Root as TheRoot, Page as APage, MapExt as AMapExt}
 use Rattle.adf_volume.specs.Walk.{Role}
@@ -106,19 +107,21 @@ module _ (image other : List ℕ) (o : IsOtherBoot image other) where
   unfolding kind_of
   same_kind = rw (same_front 3 (omega arith)) refl
 
-  same_boots : AllHold (boot_demands image) → AllHold (boot_demands other)
-  same_boots was =
+  same_boots : (ls : Letters) → AllHold (boot_demands_by ls image) → AllHold (boot_demands_by ls other)
+  same_boots Ascii was =
+      rw (same_front 0 (omega arith), same_front 1 (omega arith), same_front 2 (omega arith), same_front 3 (omega arith), o.long) was
+  same_boots International was =
       rw (same_front 0 (omega arith), same_front 1 (omega arith), same_front 2 (omega arith), same_front 3 (omega arith), o.long) was
 
-  module _ (t : Tree) (l : Layout) (fit : Fits image t l) where
+  module _ {ls : Letters} (t : Tree) (l : Layout) (fit : FitsBy ls image t l) where
     -- the blocks of parts
-    same : (r : Role) (b : ℕ) → LayoutHas image t l r b → block other b ≡ block image b
+    same : (r : Role) (b : ℕ) → LayoutHasBy ls image t l r b → block other b ≡ block image b
     same r b h = same_block b (part_range image t l fit r b h).0
 
     same_head : (n : ℕ) (e : Entry) → EntryAt t n e → block other (at_node image l n) ≡ block image (at_node image l n)
     same_head n e at =
-        let q = place_at Ascii t n e at in
-        same (Head n e.parent (slot_of e.name) q.0) (at_node image l n) (q.1, refl)
+        let q = place_at ls t n e at in
+        same (Head n e.parent (slot_by ls e.name) q.0) (at_node image l n) (q.1, refl)
 
     -- the table of a file
     same_table : (n m a : ℕ) (e : Entry) → EntryAt t n e → TableAt other l n m a → TableAt image l n m a × (block other a ≡ block image a)
@@ -141,16 +144,17 @@ module _ (image other : List ℕ) (o : IsOtherBoot image other) where
       was.2 ∙ ap (λ x. word x SIZE) (sym e),
     )
 
-    same_entry : (n : ℕ) (e : Entry) → EntryAt t n e → EntryFits other t l n (at_node other l n) e
+    same_entry : (n : ℕ) (e : Entry) → EntryAt t n e → EntryFitsBy ls other t l n (at_node other l n) e
     unfolding name_of meta_of
     same_entry n e at =
         let h : ℕ = at_node image l n in
-        let was : EntryFits image t l n h e = fit.entries n e at in
+        let was : EntryFitsBy ls image t l n h e = fit.entries n e at in
         let own : block other h ≡ block image h = same_head n e at in
-        subst (λ (b : ℕ). EntryFits other t l n b e) (sym (same_node l n)) (record {
+        subst (λ (b : ℕ). EntryFitsBy ls other t l n b e) (sym (same_node l n)) (record {
           form =
-              subst (λ (x : List ℕ). AllHold (demands_at h (head_form_by Ascii t.kind h (at_node other l e.parent) (slot_of e.name) x))) (sym own)
-              (subst (λ (up : ℕ). AllHold (demands_at h (head_form_by Ascii t.kind h up (slot_of e.name) (block image h)))) (sym (same_node l e.parent)) was.form);
+              subst (λ (x : List ℕ). AllHold (demands_at h (head_form_by ls t.kind h (at_node other l e.parent) (slot_by ls e.name) x))) (sym own)
+              (subst (λ (up : ℕ). AllHold (demands_at h (head_form_by ls t.kind h up (slot_by ls e.name) (block image h))))
+              (sym (same_node l e.parent)) was.form);
           name = was.name ∙ ap (λ x. text_at x NAME) (sym own);
           meta = was.meta ∙ ap meta_at (sym own);
           body = same_body n h e.body own was.body;
@@ -185,15 +189,15 @@ module _ (image other : List ℕ) (o : IsOtherBoot image other) where
         same_head (suc i) x.0 x.1
 
     same_chain : (p s : ℕ) → IsDir t.entries p → s < SLOTS
-        → Spelled (λ b. word_in other b NEXT_IN_CHAIN) (word_in other (at_node other l p) (FIRST_SLOT + s)) (map (at_node other l) (chain_nodes t p s))
+        → Spelled (λ b. word_in other b NEXT_IN_CHAIN) (word_in other (at_node other l p) (FIRST_SLOT + s)) (map (at_node other l) (chain_nodes_by ls t p s))
     same_chain p s dir lt =
-        subst (λ (f : ℕ → ℕ). Spelled (λ b. word_in other b NEXT_IN_CHAIN) (word_in other (f p) (FIRST_SLOT + s)) (map f (chain_nodes t p s)))
+        subst (λ (f : ℕ → ℕ). Spelled (λ b. word_in other b NEXT_IN_CHAIN) (word_in other (f p) (FIRST_SLOT + s)) (map f (chain_nodes_by ls t p s)))
         (sym (same_nodes l))
         (spelled_same (λ b. word_in image b NEXT_IN_CHAIN) (λ b. word_in other b NEXT_IN_CHAIN)
         (word_in image (at_node image l p) (FIRST_SLOT + s)) (word_in other (at_node image l p) (FIRST_SLOT + s))
-        (map (at_node image l) (chain_nodes t p s))
+        (map (at_node image l) (chain_nodes_by ls t p s))
         (ap (λ x. word x (FIRST_SLOT + s)) (sym (same_directory p dir)))
-        (λ k b i. let m = mapped (at_node image l) (chain_nodes t p s) k b i in
+        (λ k b i. let m = mapped (at_node image l) (chain_nodes_by ls t p s) k b i in
         ap (λ x. word x NEXT_IN_CHAIN) (sym (same (Head m.0 p s k) b (m.1, m.2))))
         (fit.chains p s dir lt))
 
@@ -210,15 +214,15 @@ module _ (image other : List ℕ) (o : IsOtherBoot image other) where
           λ none. (same_bit b).1 (was.1 (λ w i. none w (subst (λ (xs : List (Owner × ℕ)). In xs (w, b)) (sym (same_owned l)) i))),
         )
 
-    pub other_fits : Fits other t l
+    pub other_fits_by : FitsBy ls other t l
     unfolding name_of stamps_of
-    other_fits =
+    other_fits_by =
         let r : ℕ = root_of image in
         let own : block other r ≡ block image r = same Root r refl in
         let root_word : (i : ℕ) → word_in other (root_of other) i ≡ word_in image r i =
         λ i. ap (λ b. word_in other b i) same_root ∙ ap (λ x. word x i) own in
         record {
-          boots = same_boots fit.boots;
+          boots = same_boots ls fit.boots;
           kind = fit.kind ∙ sym same_kind;
           letters = fit.letters;
           root =
@@ -244,3 +248,8 @@ module _ (image other : List ℕ) (o : IsOtherBoot image other) where
               (was.0, subst (λ (n : ℕ). b < n) (sym same_blocks) was.1);
           bitmap = same_bitmap;
         }
+
+-- by ASCII letters
+
+pub other_fits : (image other : List ℕ) → IsOtherBoot image other → (t : Tree) (l : Layout) → Fits image t l → Fits other t l
+other_fits image other o t l fit = other_fits_by image other o t l fit

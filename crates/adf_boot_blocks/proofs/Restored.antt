@@ -8,6 +8,7 @@ use Rattle.std.proofs.lemmas.Grind.{common_steps}
 use Rattle.std.proofs.lemmas.List.{get_or-take, length-take-le}
 use Rattle.byteorder.specs.Endian.{big_bytes, big_number}
 use Rattle.adf_base.specs.Words.{block, with_word, word, words}
+use Rattle.adf_base.specs.declared.hash.Letters.{Letters}
 use Rattle.adf_base.proofs.WordLaws.{length-big_bytes, no_words, range-with_bytes_above, range-with_bytes_below, range-with_bytes_same}
 use Rattle.adf_blocks.proofs.FieldLaws.{sub_range}
 use Rattle.adf_boot_blocks.specs.BootBlocks.{IsOtherBoot, begins_with_dos, carry_sum, has_right_sum, is_bootable, with_sum}
@@ -15,9 +16,9 @@ use Rattle.adf_boot_blocks.specs.Writing.{HasBootOf, copied, is_of_other_type, r
 use Rattle.adf_boot_blocks.specs.declared.boot.TheConstants.{BOOT_LEN, BOOT_WORDS, CHECKSUM, RIGHT_SUM}
 use Rattle.adf_tree.specs.Tree.{Tree}
 use Rattle.adf_blocks.specs.Sizes.{blocks}
-use Rattle.adf_volume.specs.Fits.{Fits}
+use Rattle.adf_volume.specs.Fits.{FitsBy}
 use Rattle.adf_volume.specs.Layout.{Layout}
-use Rattle.adf_boot_blocks.proofs.OtherBoots.{other_fits}
+use Rattle.adf_boot_blocks.proofs.OtherBoots.{other_fits_by}
 use Rattle.adf_boot_blocks.proofs.CarrySums.{AreBytes, AreWords, sum_is_right, word_of_bytes, word_small, words_more}
 use Rattle.adf_boot_blocks.proofs.Writes.{begun_byte, bootable, other_bytes, other_next, other_sum, same_boot}
 
@@ -249,7 +250,7 @@ unfolding block
 first_byte image i lt = get_or-take 512 image i 0 (omega (arith, lt))
 
 -- a volume begins with `DOS` and a type
-begun_dos : (image : List ℕ) (t : Tree) (l : Layout) → Fits image t l → begins_with_dos image ≡ true
+begun_dos : {letters : Letters} (image : List ℕ) (t : Tree) (l : Layout) → FitsBy letters image t l → begins_with_dos image ≡ true
 begun_dos image t l fits =
     let dos = fits.boots.1.0 in
     let a : slice_index image 0 ≡ 0x44 = grind (arith, common_steps, and_parts, eqb-true, first_byte) in
@@ -257,24 +258,25 @@ begun_dos image t l fits =
     let c : slice_index image 2 ≡ 0x53 = grind (arith, common_steps, and_parts, eqb-true, first_byte) in
     rw (a, b, c) refl
 
-begun_type : (image : List ℕ) (t : Tree) (l : Layout) → Fits image t l → slice_index image 3 < 256
+begun_type : {letters : Letters} (image : List ℕ) (t : Tree) (l : Layout) → FitsBy letters image t l → slice_index image 3 < 256
 begun_type image t l fits =
     let dos = fits.boots.1.0 in
     let type : slice_index image 3 ≤ 5 = grind (arith, common_steps, and_parts, leb-true, first_byte) in
     omega (arith, type)
 
-pub volume_long : (image : List ℕ) (t : Tree) (l : Layout) → Fits image t l → BOOT_LEN ≤ length image
+pub volume_long : {letters : Letters} (image : List ℕ) (t : Tree) (l : Layout) → FitsBy letters image t l → BOOT_LEN ≤ length image
 volume_long image t l fits =
     let size = fits.boots.0 in
     let most : 4 ≤ blocks image = grind (arith, common_steps, and_parts, leb-true, size.1) in
     omega (arith, size.0, most)
 
 -- a volume with boot blocks that are put back has them, and is one of the same tree
-pub volume_has_boot : (volume boot : List ℕ) (t : Tree) (l : Layout) → Fits volume t l → BOOT_LEN ≤ length boot → AreBytes boot
+pub volume_has_boot : {letters : Letters} (volume boot : List ℕ) (t : Tree) (l : Layout) → FitsBy letters volume t l → BOOT_LEN ≤ length boot → AreBytes boot
     → begins_with_dos boot ≡ true → HasBootOf boot (restored volume boot)
 volume_has_boot volume boot t l fits whole bytes begins =
     has_boot volume boot (volume_long volume t l fits) whole (begun_dos volume t l fits) (begun_type volume t l fits) bytes begins
 
-pub restored_fits : (volume boot : List ℕ) (t : Tree) (l : Layout) → Fits volume t l → BOOT_LEN ≤ length boot → Fits (restored volume boot) t l
+pub restored_fits : {letters : Letters} (volume boot : List ℕ) (t : Tree) (l : Layout) → FitsBy letters volume t l → BOOT_LEN ≤ length boot
+    → FitsBy letters (restored volume boot) t l
 restored_fits volume boot t l fits whole =
-    other_fits volume (restored volume boot) (other_restored volume boot (volume_long volume t l fits) whole) t l fits
+    other_fits_by volume (restored volume boot) (other_restored volume boot (volume_long volume t l fits) whole) t l fits

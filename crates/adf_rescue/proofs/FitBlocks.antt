@@ -4,6 +4,7 @@ use Rattle.std.proofs.Common.{◌≡◌, ℕ, zero, suc, List, [], ◌∷◌, �
 use Rattle.std.specs.List.{range_with_len}
 use Rattle.std.proofs.lemmas.List.FromFn.{length-range_with_len}
 use Rattle.std.proofs.lemmas.Grind.{common_steps}
+use Rattle.adf_base.specs.declared.hash.Letters.{Letters}
 use Rattle.adf_tree.specs.declared.entry.Body.{Body, TheVariants.Dir, TheVariants.File}
 use Rattle.adf_tree.specs.declared.entry.Entry.{Entry}
 use Rattle.adf_names.specs.declared.kind.Kind.{Kind}
@@ -11,7 +12,7 @@ use Rattle.adf_tree.specs.Tree.{Tree}
 use Rattle.adf_blocks.specs.declared.layout.TheConstants.{POINTERS}
 use Rattle.adf_blocks.specs.Sizes.{blocks}
 use Rattle.adf_volume.specs.declared.owner.Owner.TheVariants.{Data, Ext}
-use Rattle.adf_volume.specs.Fits.{BodyFits, FileFits, Fits}
+use Rattle.adf_volume.specs.Fits.{BodyFits, FileFits, FitsBy}
 use Rattle.adf_volume.specs.Layout.{Layout, Place, at_node, datas_at, datas_of, exts_at, exts_of, owned, owned_from}
 use Rattle.adf_volume.specs.Lists.{At, In, NoBlockTwice, numbered}
 use Rattle.adf_volume.proofs.FitWalks.{without}
@@ -58,12 +59,13 @@ owned_parts : (image : List ℕ) (l : Layout)
     → length (owned image l) ≡ 1 + (length l.pages + (length l.map_exts + length (owned_from 1 l.places)))
 owned_parts image l = grind (arith, common_steps, length-append, length_numbered)
 
-reserved_parts : (image : List ℕ) (t : Tree) (l : Layout) → Fits image t l → length l.pages + length l.map_exts ≡ reserved (blocks image)
+reserved_parts : {letters : Letters} (image : List ℕ) (t : Tree) (l : Layout) → FitsBy letters image t l
+    → length l.pages + length l.map_exts ≡ reserved (blocks image)
 unfolding reserved
 reserved_parts image t l fit = λ i. fit.pages i + fit.map_exts i
 
 -- the image has the blocks that its tree needs
-pub fit_room : (image : List ℕ) (t : Tree) (l : Layout) → Fits image t l → blocks_needed t (blocks image) ≤ blocks image - 2
+pub fit_room : {letters : Letters} (image : List ℕ) (t : Tree) (l : Layout) → FitsBy letters image t l → blocks_needed t (blocks image) ≤ blocks image - 2
 fit_room image t l fit =
     let most : ℕ = blocks image - 2 in
     let all : length (owned image l) ≤ length (range_with_len 2 most) =

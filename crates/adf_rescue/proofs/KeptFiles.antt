@@ -7,6 +7,7 @@ use Rattle.std.proofs.Common.{ap, arith, refl, sym}
 use Rattle.std.proofs.lemmas.Bool.{and_parts, cases_lt, eqb-true, not-true}
 use Rattle.std.proofs.lemmas.List.{length_push}
 use Rattle.std.proofs.lemmas.Option.{slice_get_past}
+use Rattle.adf_base.specs.declared.hash.Letters.{Letters}
 use Rattle.adf_tree.specs.Additions.{Addition}
 use Rattle.adf_tree.specs.declared.entry.Body.{Body, TheVariants.Dir, TheVariants.File}
 use Rattle.adf_tree.specs.Tree.{Tree}
@@ -26,8 +27,9 @@ use Rattle.adf_findings.specs.Marks.{has_mark}
 use Rattle.adf_findings.specs.SoundMarks.{AreMarks}
 use Rattle.adf_findings.specs.Survey.{FindingValue}
 use Rattle.adf_rescue.specs.declared.left_out.Why.{Why, TheVariants.Damaged, TheVariants.Link}
-use Rattle.adf_rescue.specs.Rescue.{Basis, Ground, Verdict, added_marks, are_given, as_given, at_path, before_second, body_of, body_of_type}
-use Rattle.adf_rescue.specs.Rescue.{by_body, entry_at, first_verdicts, is_added, is_given, is_kept, is_same_block, place_of, second_verdicts, tree_of, unless_known}
+use Rattle.adf_rescue.specs.Rescue.{Basis, Ground, Verdict, added_marks, are_given, as_given, at_path, before_second_by, body_of, body_of_type}
+use Rattle.adf_rescue.specs.Rescue.{by_body, entry_at, first_verdicts_by, is_added, is_given, is_kept, is_same_block, place_of, second_verdicts_by, tree_of}
+use Rattle.adf_rescue.specs.Rescue.{unless_known}
 use Rattle.adf_rescue.specs.Rescue.{verdict, verdict_anew, verdicts}
 use Rattle.adf_rescue.specs.Rescue.Verdict.{adds}
 use Rattle.adf_rescue.proofs.RescuedTrees.{fitting_is}
@@ -138,13 +140,14 @@ marked [] i x at = absurd cc
 marked (v ∷ vs) zero x at = let is : v ≡ adds x = cc in ap is_added is
 marked (v ∷ vs) (suc i) x at = marked vs i x at
 
-pub kept_apart : (held : ℕ) (a b : Basis) (i j k n : ℕ) (x y : Addition) (bytes : List ℕ) → slice_get (first_verdicts held a) i ≡ Some (adds x)
-    → slice_get (second_verdicts held a (Some b)) j ≡ Some (adds y) → y.body ≡ File bytes → owner a.walk n ≡ Some (suc i)
+pub kept_apart : (letters : Letters) (held : ℕ) (a b : Basis) (i j k n : ℕ) (x y : Addition) (bytes : List ℕ)
+    → slice_get (first_verdicts_by letters held a) i ≡ Some (adds x)
+    → slice_get (second_verdicts_by letters held a (Some b)) j ≡ Some (adds y) → y.body ≡ File bytes → owner a.walk n ≡ Some (suc i)
     → At (datas_in b.walk (suc j)) k n → ⊥
-kept_apart held a b i j k n x y bytes first second file own at =
-    let g : Ground = before_second held a in
+kept_apart letters held a b i j k n x y bytes first second file own at =
+    let g : Ground = before_second_by letters held a in
     let given = given_at g b.image (datas_in b.walk (suc j)) k n (kept_given g b j y bytes second file) at in
     let not = not_kept g b.image n given in
     let is = ap (λ (o : Option ℕ). has_mark (added_marks g.verdicts) (unwrap_or o 0)) own in
-    let mark = marked (first_verdicts held a) i x first in
+    let mark = marked (first_verdicts_by letters held a) i x first in
     let clash : false ≡ true = sym not ∙ (is ∙ mark) in cc

@@ -14,7 +14,9 @@ pub mod KeptFiles
 pub mod RescueLaws
 -- the blocks of a tree that fits
 pub mod FitBlocks
--- the entries of a survey without findings
+-- the finding of a type concerns no entry
+pub mod PassedFindings
+-- the entries of a survey without other findings
 pub mod SoundHeaders
 -- the rescue of a volume that a tree fits
 pub mod WholeVolumes

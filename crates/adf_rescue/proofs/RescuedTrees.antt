@@ -6,35 +6,39 @@ use Rattle.std.proofs.lemmas.Bool.{and_parts}
 use Rattle.std.proofs.lemmas.List.{append-nil, append_assoc}
 use Rattle.std.proofs.lemmas.Option.{cond_some}
 use Rattle.std.proofs.lemmas.Grind.{common_steps}
+use Rattle.adf_base.specs.declared.hash.Letters.{Letters}
 use Rattle.adf_tree.specs.declared.entry.Body.{Body}
 use Rattle.adf_names.specs.declared.meta.Meta.{Meta}
-use Rattle.adf_tree.specs.Additions.{Addition, IsTreeOf, entries_of_additions}
-use Rattle.adf_tree.specs.Tree.{Tree, room_for, with_entry}
-use Rattle.adf_tree.proofs.TreeOfAdditions.{grown, nothing_added}
+use Rattle.adf_tree.specs.Additions.{Addition, IsTreeOfBy, entries_of_additions_by}
+use Rattle.adf_tree.specs.Tree.{Tree, room_for_by, with_entry_by}
+use Rattle.adf_tree.proofs.TreeOfAdditions.{grown, nothing_added_by}
 use Rattle.adf_blocks.specs.Sizes.{blocks}
 use Rattle.adf_volume.specs.Walk.{heads, node_block}
 use Rattle.adf_rescue.specs.declared.left_out.Why.{Why, TheVariants.NoRoom}
-use Rattle.adf_rescue.specs.Rescue.{Ground, Basis, Verdict, addition_of, additions_of, at_path, before_first, before_second, by_body, entry_at, lost_name}
-use Rattle.adf_rescue.specs.Rescue.{path_by, path_in, rescued_additions, rescued_tree, tree_of, unless_known, verdict, verdict_anew, verdicts}
+use Rattle.adf_rescue.specs.Rescue.{Ground, Basis, Verdict, addition_of, additions_of, at_path, before_first_by, before_second_by, by_body, entry_at, lost_name}
+use Rattle.adf_rescue.specs.Rescue.{path_by, path_in, rescued_additions_by, rescued_tree_by, tree_of, unless_known, verdict, verdict_anew, verdicts}
 use Rattle.adf_rescue.specs.Rescue.Verdict.{adds, knows, leaves}
 use Rattle.adf_rescue.proofs.Steps.{additions_more, tree_more}
 
 -- a path that an entry gets has room
 
-room_in : (t : Tree) (dir : List (List ℕ)) (name : List ℕ) (path : List (List ℕ)) → path_in t dir name ≡ Some path → IsOk (room_for t.entries path)
+room_in : (t : Tree) (dir : List (List ℕ)) (name : List ℕ) (path : List (List ℕ)) → path_in t dir name ≡ Some path
+    → IsOk (room_for_by t.letters t.entries path)
 room_in t dir name path h = grind (arith, common_steps, cond_some, and_parts)
 
 -- a path, or else another
 abbrev pub or_else : Option (List (List ℕ)) → Option (List (List ℕ)) → Option (List (List ℕ))
 or_else o other = elim o [ Some path ↦ Some path | None ↦ other ]
 
-room_either : (t : Tree) (o other : Option (List (List ℕ))) (path : List (List ℕ)) → ((p : List (List ℕ)) → o ≡ Some p → IsOk (room_for t.entries p))
-    → ((p : List (List ℕ)) → other ≡ Some p → IsOk (room_for t.entries p)) → or_else o other ≡ Some path → IsOk (room_for t.entries path)
+room_either : (t : Tree) (o other : Option (List (List ℕ))) (path : List (List ℕ))
+    → ((p : List (List ℕ)) → o ≡ Some p → IsOk (room_for_by t.letters t.entries p))
+    → ((p : List (List ℕ)) → other ≡ Some p → IsOk (room_for_by t.letters t.entries p)) → or_else o other ≡ Some path
+    → IsOk (room_for_by t.letters t.entries path)
 room_either t (Some p) other path one two h = one path h
 room_either t None other path one two h = two path h
 
 room_by : (t : Tree) (dir : Option (List (List ℕ))) (name : List ℕ) (h : ℕ) (path : List (List ℕ)) → path_by t dir name h ≡ Some path
-    → IsOk (room_for t.entries path)
+    → IsOk (room_for_by t.letters t.entries path)
 room_by t None name h path is = absurd cc
 room_by t (Some dir) name h path is =
     room_either t (path_in t dir name) (path_in t dir (lost_name h)) path (room_in t dir name) (room_in t dir (lost_name h)) is
@@ -46,22 +50,24 @@ fitting_is true x y h = cc
 fitting_is false x y h = absurd cc
 
 room_at_path : (t : Tree) (n : ℕ) (meta : Meta) (body : Body) (o : Option (List (List ℕ))) (x : Addition)
-    → ((p : List (List ℕ)) → o ≡ Some p → IsOk (room_for t.entries p)) → at_path t n meta body o ≡ adds x → IsOk (room_for t.entries x.path)
+    → ((p : List (List ℕ)) → o ≡ Some p → IsOk (room_for_by t.letters t.entries p)) → at_path t n meta body o ≡ adds x
+    → IsOk (room_for_by t.letters t.entries x.path)
 room_at_path t n meta body None x room h = absurd cc
 room_at_path t n meta body (Some path) x room h = grind (arith, common_steps, fitting_is)
 
 room_of_body : (image : List ℕ) (n : ℕ) (t : Tree) (dir : Option (List (List ℕ))) (h : ℕ) (b : Result Body Why) (x : Addition)
-    → by_body image n t dir h b ≡ adds x → IsOk (room_for t.entries x.path)
+    → by_body image n t dir h b ≡ adds x → IsOk (room_for_by t.letters t.entries x.path)
 room_of_body image n t dir h (Err why) x is = absurd cc
 room_of_body image n t dir h (Ok body) x is = room_at_path t n _ body _ x (room_by t dir _ h) is
 
-room_unless : (g : Ground) (o : Option ℕ) (v : Verdict) (t : Tree) (x : Addition) → ((y : Addition) → v ≡ adds y → IsOk (room_for t.entries y.path))
-    → unless_known g o v ≡ adds x → IsOk (room_for t.entries x.path)
+room_unless : (g : Ground) (o : Option ℕ) (v : Verdict) (t : Tree) (x : Addition)
+    → ((y : Addition) → v ≡ adds y → IsOk (room_for_by t.letters t.entries y.path))
+    → unless_known g o v ≡ adds x → IsOk (room_for_by t.letters t.entries x.path)
 room_unless g None v t x room is = room x is
 room_unless g (Some m) v t x room is = absurd cc
 
 room_of_verdict : (g : Ground) (l : Basis) (vs : List Verdict) (n : ℕ) (x : Addition) → verdict g l vs n ≡ adds x
-    → IsOk (room_for (tree_of g vs).entries x.path)
+    → IsOk (room_for_by g.letters (tree_of g vs).entries x.path)
 room_of_verdict g l vs n x is =
     room_unless g (entry_at g.walk (node_block l.walk n)) (verdict_anew g l vs n) (tree_of g vs) x
     (room_of_body l.image (blocks g.given) (tree_of g vs) _ _ _) is
@@ -69,37 +75,40 @@ room_of_verdict g l vs n x is =
 -- one more verdict
 
 nothing_more : (g : Ground) (vs : List Verdict) (v : Verdict) → addition_of v ≡ []
-    → IsTreeOf (tree_of g vs).entries (additions_of g.verdicts ++ additions_of vs)
-    → IsTreeOf (tree_of g (vs ++ v ∷ [])).entries (additions_of g.verdicts ++ additions_of (vs ++ v ∷ []))
+    → IsTreeOfBy g.letters (tree_of g vs).entries (additions_of g.verdicts ++ additions_of vs)
+    → IsTreeOfBy g.letters (tree_of g (vs ++ v ∷ [])).entries (additions_of g.verdicts ++ additions_of (vs ++ v ∷ []))
 nothing_more g vs v none h = grind (arith, common_steps, additions_more, append-nil)
 
-grown_by : (g : Ground) (vs : List Verdict) (v : Verdict) → IsTreeOf (tree_of g vs).entries (additions_of g.verdicts ++ additions_of vs)
-    → ((x : Addition) → v ≡ adds x → IsOk (room_for (tree_of g vs).entries x.path))
-    → IsTreeOf (tree_of g (vs ++ v ∷ [])).entries (additions_of g.verdicts ++ additions_of (vs ++ v ∷ []))
+grown_by : (g : Ground) (vs : List Verdict) (v : Verdict) → IsTreeOfBy g.letters (tree_of g vs).entries (additions_of g.verdicts ++ additions_of vs)
+    → ((x : Addition) → v ≡ adds x → IsOk (room_for_by g.letters (tree_of g vs).entries x.path))
+    → IsTreeOfBy g.letters (tree_of g (vs ++ v ∷ [])).entries (additions_of g.verdicts ++ additions_of (vs ++ v ∷ []))
 grown_by g vs (leaves why) h room = nothing_more g vs (leaves why) refl h
 grown_by g vs (knows place) h room = nothing_more g vs (knows place) refl h
 grown_by g vs (adds x) h room =
     let v : Verdict = adds x in
-    let behind : Tree = with_entry (tree_of g vs) x.path x.meta x.body in
+    let behind : Tree = with_entry_by g.letters (tree_of g vs) x.path x.meta x.body in
     let all : additions_of g.verdicts ++ additions_of (vs ++ v ∷ []) ≡ (additions_of g.verdicts ++ additions_of vs) ++ x ∷ [] =
     ap (λ xs. additions_of g.verdicts ++ xs) (additions_more vs v) ∙ sym (append_assoc (additions_of g.verdicts) (additions_of vs) (x ∷ [])) in
-    subst (λ (t : Tree). IsTreeOf t.entries (additions_of g.verdicts ++ additions_of (vs ++ v ∷ []))) (sym (tree_more g vs x))
-    (subst (λ (xs : List Addition). IsTreeOf behind.entries xs) (sym all)
+    subst (λ (t : Tree). IsTreeOfBy g.letters t.entries (additions_of g.verdicts ++ additions_of (vs ++ v ∷ []))) (sym (tree_more g vs x))
+    (subst (λ (xs : List Addition). IsTreeOfBy g.letters behind.entries xs) (sym all)
     (grown (tree_of g vs).entries (additions_of g.verdicts ++ additions_of vs) x h (room x refl)))
 
-nothing_yet : (g : Ground) → IsTreeOf (entries_of_additions (additions_of g.verdicts)) (additions_of g.verdicts)
-    → IsTreeOf (tree_of g []).entries (additions_of g.verdicts ++ additions_of [])
+nothing_yet : (g : Ground) → IsTreeOfBy g.letters (entries_of_additions_by g.letters (additions_of g.verdicts)) (additions_of g.verdicts)
+    → IsTreeOfBy g.letters (tree_of g []).entries (additions_of g.verdicts ++ additions_of [])
 nothing_yet g h = let same : additions_of g.verdicts ++ [] ≡ additions_of g.verdicts = append-nil (additions_of g.verdicts) in rw same h
 
-tree_of_verdicts : (g : Ground) (l : Basis) (k : ℕ) → IsTreeOf (entries_of_additions (additions_of g.verdicts)) (additions_of g.verdicts)
-    → IsTreeOf (tree_of g (verdicts g l k)).entries (additions_of g.verdicts ++ additions_of (verdicts g l k))
+tree_of_verdicts : (g : Ground) (l : Basis) (k : ℕ) → IsTreeOfBy g.letters (entries_of_additions_by g.letters (additions_of g.verdicts))
+    (additions_of g.verdicts)
+    → IsTreeOfBy g.letters (tree_of g (verdicts g l k)).entries (additions_of g.verdicts ++ additions_of (verdicts g l k))
 tree_of_verdicts g l zero h = nothing_yet g h
 tree_of_verdicts g l (suc k) h =
     let vs : List Verdict = verdicts g l k in
     grown_by g vs (verdict g l vs (suc k)) (tree_of_verdicts g l k h) (room_of_verdict g l vs (suc k))
 
-pub tree_of_rescue : (held : ℕ) (a : Basis) (b : Option Basis) → IsTreeOf (rescued_tree held a b).entries (rescued_additions held a b)
-tree_of_rescue held a None =
-    nothing_yet (before_second held a) (tree_of_verdicts (before_first held a.image) a (heads a.walk) nothing_added)
-tree_of_rescue held a (Some b) =
-    tree_of_verdicts (before_second held a) b (heads b.walk) (tree_of_verdicts (before_first held a.image) a (heads a.walk) nothing_added)
+pub tree_of_rescue : (letters : Letters) (held : ℕ) (a : Basis) (b : Option Basis)
+    → IsTreeOfBy letters (rescued_tree_by letters held a b).entries (rescued_additions_by letters held a b)
+tree_of_rescue letters held a None =
+    nothing_yet (before_second_by letters held a) (tree_of_verdicts (before_first_by letters held a.image) a (heads a.walk) (nothing_added_by letters))
+tree_of_rescue letters held a (Some b) =
+    tree_of_verdicts (before_second_by letters held a) b (heads b.walk)
+    (tree_of_verdicts (before_first_by letters held a.image) a (heads a.walk) (nothing_added_by letters))

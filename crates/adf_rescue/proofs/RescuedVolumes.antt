@@ -14,15 +14,16 @@ use Rattle.std.proofs.lemmas.Option.{cond_some}
 use Rattle.std.proofs.lemmas.Grind.{common_steps}
 use Rattle.adf_base.specs.Dates.{IsStamp}
 use Rattle.adf_base.specs.Words.{block}
+use Rattle.adf_base.specs.declared.hash.Letters.{Letters}
 use Rattle.adf_base.proofs.ByteLists.{AreBytes, block_bytes, word_small}
 use Rattle.adf_names.specs.Meta.{IsBoundedMeta}
 use Rattle.adf_names.specs.Texts.{is_name}
 use Rattle.adf_names.specs.declared.meta.Meta.{Meta}
 use Rattle.adf_tree.specs.Additions.{Addition}
 use Rattle.adf_tree.specs.Bounds.{IsBounded, IsData}
-use Rattle.adf_tree.specs.Tree.{Tree, last_of, with_entry}
+use Rattle.adf_tree.specs.Tree.{Tree, last_of, with_entry_by}
 use Rattle.adf_tree.specs.declared.entry.Body.{Body, TheVariants.Dir, TheVariants.File}
-use Rattle.adf_tree.proofs.BoundedEntries.{IsBoundedAddition, bounded_additions}
+use Rattle.adf_tree.proofs.BoundedEntries.{IsBoundedAddition, bounded_additions_by}
 use Rattle.adf_drafts.proofs.NextEntries.{last_is}
 use Rattle.adf_blocks.specs.declared.layout.TheConstants.{ALTERED, COMMENT, CREATED, DATE, NAME, PROTECTION, SECONDARY_TYPE, SIZE, ST_DIR, ST_FILE}
 use Rattle.adf_blocks.specs.Forms.{stamp_at, text_at}
@@ -40,9 +41,10 @@ use Rattle.adf_build.proofs.AllocatedBlocks.{reserved_below}
 use Rattle.adf_build.proofs.LaidWrites.{CanHold, volume_blocks}
 use Rattle.adf_build.proofs.WholeVolume.{volume_laid}
 use Rattle.adf_rescue.specs.declared.left_out.Why.{Why, TheVariants.NoRoom}
-use Rattle.adf_rescue.specs.Rescue.{Basis, Ground, Verdict, addition_of, additions_of, as_given, at_path, before_first, before_second}
+use Rattle.adf_rescue.specs.Rescue.{Basis, Ground, Verdict, addition_of, additions_of, as_given, at_path, before_first_by, before_second_by}
 use Rattle.adf_rescue.specs.Rescue.{body_of, body_of_type, by_body}
-use Rattle.adf_rescue.specs.Rescue.{entry_at, first_verdicts, lost_name, path_by, path_in, place_of, rescued_additions, rescued_tree, second_verdicts}
+use Rattle.adf_rescue.specs.Rescue.{entry_at, first_verdicts_by, lost_name, path_by, path_in, place_of, rescued_additions_by, rescued_tree_by}
+use Rattle.adf_rescue.specs.Rescue.{second_verdicts_by}
 use Rattle.adf_rescue.specs.Rescue.{tree_of, unless_known, verdict, verdict_anew, verdicts}
 use Rattle.adf_rescue.specs.Rescue.Verdict.{adds, knows, leaves}
 use Rattle.adf_rescue.proofs.RescuedTrees.{fitting_is, or_else, tree_of_rescue}
@@ -73,7 +75,7 @@ record IsAdded (t : Tree) (n : ℕ) (o : Option (List (List ℕ))) (m : Meta) (b
   path : o ≡ Some x.path
   meta : x.meta ≡ m
   body : b ≡ Ok x.body
-  fits : blocks_needed (with_entry t x.path x.meta x.body) n ≤ n - 2
+  fits : blocks_needed (with_entry_by t.letters t x.path x.meta x.body) n ≤ n - 2
 
 fits_so : (b : Bool) (x y : Addition) → (let v : Verdict = cond b (adds x) (leaves NoRoom) in v ≡ adds y) → b ≡ true
 fits_so true x y h = refl
@@ -84,9 +86,9 @@ added_at : (t : Tree) (n : ℕ) (meta : Meta) (body : Body) (o : Option (List (L
 added_at t n meta body None x h = absurd cc
 added_at t n meta body (Some path) x h =
     let y : Addition = record { path = path; meta = meta; body = body } in
-    let same : y ≡ x = fitting_is (nat_le (blocks_needed (with_entry t path meta body) n) (n - 2)) y x h in
-    let room : nat_le (blocks_needed (with_entry t path meta body) n) (n - 2) ≡ true = fits_so _ y x h in
-    let fits : blocks_needed (with_entry t path meta body) n ≤ n - 2 = grind (arith, nat_tests) in
+    let same : y ≡ x = fitting_is (nat_le (blocks_needed (with_entry_by t.letters t path meta body) n) (n - 2)) y x h in
+    let room : nat_le (blocks_needed (with_entry_by t.letters t path meta body) n) (n - 2) ≡ true = fits_so _ y x h in
+    let fits : blocks_needed (with_entry_by t.letters t path meta body) n ≤ n - 2 = grind (arith, nat_tests) in
     subst (IsAdded t n (Some path) meta (Ok body)) same (record { path = refl; meta = refl; body = refl; fits = fits })
 
 added_by : (image : List ℕ) (n : ℕ) (t : Tree) (dir : Option (List (List ℕ))) (h : ℕ) (b : Result Body Why) (x : Addition)
@@ -169,13 +171,14 @@ module _ (g : Ground) (l : Basis) (are : AreBytes l.image) where
 abbrev pub AreSecondBytes : Option Basis → Type 0
 AreSecondBytes second = IfSome second (λ b. AreBytes b.image)
 
-second_bounded : (held : ℕ) (a : Basis) (second : Option Basis) → AreSecondBytes second
-    → All IsBoundedAddition (additions_of (second_verdicts held a second))
-second_bounded held a None are = All-nil IsBoundedAddition
-second_bounded held a (Some b) are = verdicts_bounded (before_second held a) b are (heads b.walk)
+second_bounded : (letters : Letters) (held : ℕ) (a : Basis) (second : Option Basis) → AreSecondBytes second
+    → All IsBoundedAddition (additions_of (second_verdicts_by letters held a second))
+second_bounded letters held a None are = All-nil IsBoundedAddition
+second_bounded letters held a (Some b) are = verdicts_bounded (before_second_by letters held a) b are (heads b.walk)
 
-rescue_bounded : (held : ℕ) (a : Basis) (second : Option Basis) → AreBytes a.image → AreSecondBytes second → IsBounded (rescued_tree held a second)
-rescue_bounded held a second are more =
+rescue_bounded : (letters : Letters) (held : ℕ) (a : Basis) (second : Option Basis) → AreBytes a.image → AreSecondBytes second
+    → IsBounded (rescued_tree_by letters held a second)
+rescue_bounded letters held a second are more =
     let root : List ℕ = block a.image (root_of a.image) in
     let bytes = block_bytes a.image (root_of a.image) are in
     record {
@@ -185,9 +188,9 @@ rescue_bounded held a second are more =
         altered = stamp_bounded root ALTERED bytes;
         created = stamp_bounded root CREATED bytes;
       };
-      entries = bounded_additions (rescued_additions held a second)
-          (All-append IsBoundedAddition (additions_of (first_verdicts held a)) (additions_of (second_verdicts held a second))
-          (verdicts_bounded (before_first held a.image) a are (heads a.walk)) (second_bounded held a second more));
+      entries = bounded_additions_by letters (rescued_additions_by letters held a second)
+          (All-append IsBoundedAddition (additions_of (first_verdicts_by letters held a)) (additions_of (second_verdicts_by letters held a second))
+          (verdicts_bounded (before_first_by letters held a.image) a are (heads a.walk)) (second_bounded letters held a second more));
     }
 
 -- the room for it
@@ -195,8 +198,9 @@ rescue_bounded held a second are more =
 abbrev FitsIn : ℕ → Tree → Type 0
 FitsIn n t = blocks_needed t n ≤ n - 2
 
-nothing_fits : (held : ℕ) (image : List ℕ) → is_allowed (blocks image) ≡ true → FitsIn (blocks image) (tree_of (before_first held image) [])
-nothing_fits held image allowed =
+nothing_fits : (letters : Letters) (held : ℕ) (image : List ℕ) → is_allowed (blocks image) ≡ true
+    → FitsIn (blocks image) (tree_of (before_first_by letters held image) [])
+nothing_fits letters held image allowed =
     let low = size_low (blocks image) allowed in
     let below = reserved_below (blocks image) low in
     omega arith
@@ -205,7 +209,7 @@ same_tree : (g : Ground) (vs : List Verdict) (v : Verdict) → addition_of v ≡
 same_tree g vs v none = grind (arith, common_steps, additions_more, append-nil)
 
 fits_on : (g : Ground) (vs : List Verdict) (v : Verdict) (n : ℕ) → FitsIn n (tree_of g vs)
-    → ((x : Addition) → v ≡ adds x → FitsIn n (with_entry (tree_of g vs) x.path x.meta x.body)) → FitsIn n (tree_of g (vs ++ v ∷ []))
+    → ((x : Addition) → v ≡ adds x → FitsIn n (with_entry_by g.letters (tree_of g vs) x.path x.meta x.body)) → FitsIn n (tree_of g (vs ++ v ∷ []))
 fits_on g vs (adds x) n before each = subst (FitsIn n) (sym (tree_more g vs x)) (each x refl)
 fits_on g vs (leaves why) n before each = subst (FitsIn n) (sym (same_tree g vs (leaves why) refl)) before
 fits_on g vs (knows place) n before each = subst (FitsIn n) (sym (same_tree g vs (knows place) refl)) before
@@ -216,28 +220,31 @@ verdicts_fit g l begun (suc k) =
     let vs : List Verdict = verdicts g l k in
     fits_on g vs (verdict g l vs (suc k)) (blocks g.given) (verdicts_fit g l begun k) (λ x is. (added_so g l vs (suc k) x is).fits)
 
-second_begun : (held : ℕ) (a : Basis) → tree_of (before_first held a.image) (first_verdicts held a) ≡ tree_of (before_second held a) []
-second_begun held a = let same = append-nil (additions_of (first_verdicts held a)) in rw same refl
+second_begun : (letters : Letters) (held : ℕ) (a : Basis)
+    → tree_of (before_first_by letters held a.image) (first_verdicts_by letters held a) ≡ tree_of (before_second_by letters held a) []
+second_begun letters held a = let same = append-nil (additions_of (first_verdicts_by letters held a)) in rw same refl
 
-first_fits : (held : ℕ) (a : Basis) → is_allowed (blocks a.image) ≡ true → FitsIn (blocks a.image) (tree_of (before_second held a) [])
-first_fits held a allowed =
-    subst (FitsIn (blocks a.image)) (second_begun held a)
-    (verdicts_fit (before_first held a.image) a (nothing_fits held a.image allowed) (heads a.walk))
+first_fits : (letters : Letters) (held : ℕ) (a : Basis) → is_allowed (blocks a.image) ≡ true
+    → FitsIn (blocks a.image) (tree_of (before_second_by letters held a) [])
+first_fits letters held a allowed =
+    subst (FitsIn (blocks a.image)) (second_begun letters held a)
+    (verdicts_fit (before_first_by letters held a.image) a (nothing_fits letters held a.image allowed) (heads a.walk))
 
-rescue_fits : (held : ℕ) (a : Basis) (second : Option Basis) → is_allowed (blocks a.image) ≡ true
-    → FitsIn (blocks a.image) (rescued_tree held a second)
-rescue_fits held a None allowed = first_fits held a allowed
-rescue_fits held a (Some b) allowed = verdicts_fit (before_second held a) b (first_fits held a allowed) (heads b.walk)
+rescue_fits : (letters : Letters) (held : ℕ) (a : Basis) (second : Option Basis) → is_allowed (blocks a.image) ≡ true
+    → FitsIn (blocks a.image) (rescued_tree_by letters held a second)
+rescue_fits letters held a None allowed = first_fits letters held a allowed
+rescue_fits letters held a (Some b) allowed = verdicts_fit (before_second_by letters held a) b (first_fits letters held a allowed) (heads b.walk)
 
 -- so its volume is laid
-pub rescue_laid : (held : ℕ) (a : Basis) (second : Option Basis) → is_allowed (blocks a.image) ≡ true → AreBytes a.image → AreSecondBytes second
-    → (image : List ℕ) × IsLaid image (rescued_tree held a second) × (blocks image ≡ blocks a.image)
-rescue_laid held a second allowed are more =
-    let t : Tree = rescued_tree held a second in
+pub rescue_laid : (letters : Letters) (held : ℕ) (a : Basis) (second : Option Basis) → is_allowed (blocks a.image) ≡ true → AreBytes a.image
+    → AreSecondBytes second
+    → (image : List ℕ) × IsLaid image (rescued_tree_by letters held a second) × (blocks image ≡ blocks a.image)
+rescue_laid letters held a second allowed are more =
+    let t : Tree = rescued_tree_by letters held a second in
     let n : ℕ = blocks a.image in
     let can : CanHold t n = record {
-      sound = record { tree = (tree_of_rescue held a second).tree; bounds = rescue_bounded held a second are more };
+      sound = record { tree = (tree_of_rescue letters held a second).tree; bounds = rescue_bounded letters held a second are more };
       allowed = allowed;
-      room = rescue_fits held a second allowed;
+      room = rescue_fits letters held a second allowed;
     } in
     (volume t n, volume_laid can, volume_blocks can)

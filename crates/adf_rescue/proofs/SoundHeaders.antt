@@ -1,27 +1,27 @@
--- The entries of a survey without findings: what their headers tell is what the tree of the walk has.
+-- The entries of a survey with no finding but that of an accepted type: what their headers tell is what the tree of the walk has.
 -- Letters: w the walk of the survey, fs its findings; sound the marks; n a node, i its index; b the block of its header; bs a block's bytes.
-use Rattle.std.proofs.Common.{◌≡◌, ◌⊎◌, ◌∙◌, ℕ, suc, List, [], inl, inr, ◌<◌, ◌≤◌, length, take, refl, arith, rules, Bool, true, false, cond, Result, Ok, Err}
-use Rattle.std.proofs.Common.{nat_le, slice_index}
-use Rattle.std.proofs.lemmas.Bool.{and_from, and_parts, and_right, eq-eqb, leb-true, ne_eqb}
-use Rattle.std.proofs.lemmas.List.{length-take, take_all}
+use Rattle.std.proofs.Common.{◌≡◌, ◌⊎◌, ◌∙◌, ℕ, suc, List, inl, inr, ◌<◌, ◌≤◌, take, refl, arith, Bool, true, false, cond, Result, Ok, Err}
+use Rattle.std.proofs.lemmas.Bool.{and_from, and_right, eq-eqb, ne_eqb}
+use Rattle.std.proofs.lemmas.List.{take_all}
 use Rattle.std.proofs.lemmas.Grind.{common_steps}
 use Rattle.adf_base.specs.Words.{block, word}
-use Rattle.adf_base.specs.declared.hash.Letters.TheVariants.{Ascii}
+use Rattle.adf_base.specs.declared.hash.Letters.{Letters}
 use Rattle.adf_tree.specs.declared.entry.Body.{Body, TheVariants.Dir}
 use Rattle.adf_tree.specs.declared.entry.Entry.{Entry}
 use Rattle.adf_names.specs.declared.kind.Kind.{Kind}
 use Rattle.adf_names.specs.Texts.{is_name}
-use Rattle.adf_blocks.specs.declared.cause.Cause.TheVariants.{BadComment, BadName}
 use Rattle.adf_blocks.specs.declared.layout.TheConstants.{COMMENT, DATE, NAME, PROTECTION, SECONDARY_TYPE, ST_DIR, ST_FILE}
 use Rattle.adf_blocks.specs.Forms.{stamp_at, text_at}
-use Rattle.adf_blocks.specs.HeadBlock.{head_form, is_link, meta_stated}
-use Rattle.adf_blocks.specs.RootBlock.{label_stated, root_form}
+use Rattle.adf_blocks.specs.HeadBlock.{is_link, meta_stated}
+use Rattle.adf_blocks.specs.RootBlock.{label_stated}
 use Rattle.adf_blocks.specs.Sizes.{blocks}
-use Rattle.adf_volume.specs.Demands.{AllHold, head_demands, root_demands}
+use Rattle.adf_volume.specs.Demands.{AllHold, head_demands_by, root_demands}
 use Rattle.adf_volume.specs.Image.{kind_of, meta_of, name_of, root_of, word_in}
 use Rattle.adf_volume.specs.Lists.{At}
 use Rattle.adf_volume.specs.Made.{body_in, datas_in, entries_in, entry_in}
-use Rattle.adf_volume.specs.Walk.{HeadAt, IsWalk, heads, node_block, Walk}
+use Rattle.adf_volume.specs.Types.{letters_for}
+use Rattle.adf_volume.specs.declared.types.Types.{Types}
+use Rattle.adf_volume.specs.Walk.{HeadAt, IsWalkBy, heads, node_block, Walk}
 use Rattle.adf_volume.proofs.BoundedFits.{comment_short, label_short, name_valid}
 use Rattle.adf_volume.proofs.FormDemands.{dir_not_file, head_type}
 use Rattle.adf_volume.proofs.MemberFacts.{kept}
@@ -32,12 +32,13 @@ use Rattle.adf_findings.specs.Found.{parent_node}
 use Rattle.adf_findings.specs.Sound.{IsOfItsKind, IsSound}
 use Rattle.adf_findings.specs.SoundMarks.{AreMarks}
 use Rattle.adf_findings.specs.Survey.{FindingValue, IsSurvey}
-use Rattle.adf_findings.proofs.AllSound.{all_sound}
+use Rattle.adf_findings.specs.Types.{passed}
 use Rattle.adf_findings.proofs.Keeping.{parent_is}
 use Rattle.adf_findings.proofs.Lookups.{header_at}
 use Rattle.adf_findings.proofs.SoundFiles.{file_told}
 use Rattle.adf_rescue.specs.declared.left_out.Why.{Why, TheVariants.Damaged, TheVariants.Link}
-use Rattle.adf_rescue.specs.Rescue.{Basis, are_given, as_given, before_first, body_of, body_of_type}
+use Rattle.adf_rescue.specs.Rescue.{Basis, are_given, as_given, before_first_by, body_of, body_of_type}
+use Rattle.adf_rescue.proofs.PassedFindings.{typed_sound}
 use Rattle.adf_rescue.proofs.GivenBlocks.{all_held, first_given_all}
 
 -- texts within their fields are told whole
@@ -48,11 +49,12 @@ unfolding name_of
 label_whole image h =
     take_all 30 (text_at (block image (root_of image)) NAME) (label_short image h)
 
-meta_whole : (image : List ℕ) (kind : Kind) (b up s : ℕ) → AllHold (head_demands image kind b up s) → meta_stated (block image b) ≡ meta_of image b
+meta_whole : (letters : Letters) (image : List ℕ) (kind : Kind) (b up s : ℕ) → AllHold (head_demands_by letters image kind b up s)
+    → meta_stated (block image b) ≡ meta_of image b
 unfolding meta_of
-meta_whole image kind b up s h =
+meta_whole letters image kind b up s h =
     let bs : List ℕ = block image b in
-    let same : take 79 (text_at bs COMMENT) ≡ text_at bs COMMENT = take_all 79 (text_at bs COMMENT) (comment_short Ascii image kind b up s h) in
+    let same : take 79 (text_at bs COMMENT) ≡ text_at bs COMMENT = take_all 79 (text_at bs COMMENT) (comment_short letters image kind b up s h) in
     λ i. record { comment = same i; protect = word bs PROTECTION; stamp = stamp_at bs DATE }
 
 -- a sound file and a directory stand, with the body that the tree has
@@ -74,31 +76,33 @@ body_stands l n (inl dir) s = grind (arith, common_steps, eq-eqb, ne_eqb, dir_no
 body_stands l n (inr one) s = let is = s one in grind (arith, common_steps, eq-eqb, ne_eqb, dir_not_file, file_or, and_from, dir_or)
 
 -- each data block of a sound file is held, where the image is
-file_given : (held : ℕ) (image : List ℕ) (w : Walk) (fs : List FindingValue) (n : ℕ) → blocks image ≤ held → IsSurvey image w fs
+file_given : (letters : Letters) (held : ℕ) (image : List ℕ) (w : Walk) (fs : List FindingValue) (n : ℕ) → blocks image ≤ held → IsSurvey image w fs
     → IsSound image w fs n (node_block w n) → word_in image (node_block w n) SECONDARY_TYPE ≡ ST_FILE
-    → are_given (before_first held image) image (datas_in w n) ≡ true
-file_given held image w fs n le survey is type =
+    → are_given (before_first_by letters held image) image (datas_in w n) ≡ true
+file_given letters held image w fs n le survey is type =
     let has = (file_told image w fs false n survey is type).1 in
-    first_given_all held (file_in image w n) has ∙ all_held held (blocks image) (datas_in w n) le has.inside
+    first_given_all letters held (file_in image w n) has ∙ all_held held (blocks image) (datas_in w n) le has.inside
 
 -- what a survey tells of node n is this entry
-pub record IsToldAs (held : ℕ) (a : Basis) (n : ℕ) (e : Entry) : Type 0 where
+pub record IsToldAs (letters : Letters) (held : ℕ) (a : Basis) (n : ℕ) (e : Entry) : Type 0 where
   pub parent : parent_node a.walk n ≡ e.parent
   pub name : name_of a.image (node_block a.walk n) ≡ e.name
   pub valid : is_name e.name ≡ true
   pub meta : meta_stated (block a.image (node_block a.walk n)) ≡ e.meta
-  pub body : body_of (as_given (before_first held a.image) a) n ≡ Ok e.body
+  pub body : body_of (as_given (before_first_by letters held a.image) a) n ≡ Ok e.body
 
-pub told : (held : ℕ) (image : List ℕ) (w : Walk) (fs : List FindingValue) (sound : ℕ → Bool) → blocks image ≤ held
-    → IsSurvey image w fs → fs ≡ [] → IsOfItsKind image w
-    → AreMarks image w fs sound → IsWalk image w → (i : ℕ) → i < heads w
-    → (e : Entry) × At (entries_in image w w) i e × IsToldAs held (record { image = image; walk = w; sound = sound }) (suc i) e
-told held image w fs sound le survey clean own marks v i lt =
+pub told : (types : Types) (held : ℕ) (image : List ℕ) (w : Walk) (fs : List FindingValue) (sound : ℕ → Bool) → blocks image ≤ held
+    → IsSurvey image w fs → fs ≡ passed types image → IsOfItsKind image w
+    → AreMarks image w fs sound → IsWalkBy (letters_for types image) image w → (i : ℕ) → i < heads w
+    → (e : Entry) × At (entries_in image w w) i e
+    × IsToldAs (letters_for types image) held (record { image = image; walk = w; sound = sound }) (suc i) e
+told types held image w fs sound le survey clean own marks v i lt =
+    let letters : Letters = letters_for types image in
     let b : ℕ = node_block w (suc i) in
     let h : HeadAt w (suc i) b = header_at image w fs survey (suc i) (omega arith) (omega arith) in
     let up = (kept image v (head_role h) b h.has).2 in
-    let form : AllHold (head_demands image (kind_of image) b up.0 h.slot) = up.2 in
-    let whole = all_sound image w fs (suc i) b survey clean own h in
+    let form : AllHold (head_demands_by letters image (kind_of image) b up.0 h.slot) = up.2 in
+    let whole = typed_sound types image w fs (suc i) b survey clean own h in
     let is : sound (suc i) ≡ true = (marks (suc i)).1 whole in
     let a : Basis = record { image = image; walk = w; sound = sound } in (
       entry_in image w (suc i) h.parent b,
@@ -106,9 +110,9 @@ told held image w fs sound le survey clean own marks v i lt =
       record {
         parent = parent_is image w fs survey (suc i) h.parent h.slot h.place b h.has;
         name = refl;
-        valid = name_valid Ascii image (kind_of image) b up.0 h.slot form;
-        meta = meta_whole image (kind_of image) b up.0 h.slot form;
-        body = body_stands (as_given (before_first held image) a) (suc i) (head_type Ascii image (kind_of image) b up.0 h.slot form)
-            (λ type. and_from (sound (suc i)) _ is (file_given held image w fs (suc i) le survey whole type));
+        valid = name_valid letters image (kind_of image) b up.0 h.slot form;
+        meta = meta_whole letters image (kind_of image) b up.0 h.slot form;
+        body = body_stands (as_given (before_first_by letters held image) a) (suc i) (head_type letters image (kind_of image) b up.0 h.slot form)
+            (λ type. and_from (sound (suc i)) _ is (file_given letters held image w fs (suc i) le survey whole type));
       },
     )

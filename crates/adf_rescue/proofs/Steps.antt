@@ -6,13 +6,14 @@ use Rattle.std.proofs.lemmas.List.Sums.{fold_push}
 use Rattle.std.proofs.lemmas.Grind.{flat_map-append, common_steps}
 use Rattle.std.proofs.lemmas.List.{map-append, append-nil, append_assoc, get_or_append_left, get_or_past, get_or_push, length_push, nil_from_length}
 use Rattle.std.proofs.lemmas.Option.{slice_get_past}
-use Rattle.adf_tree.specs.Additions.{Addition, with_addition}
+use Rattle.adf_tree.specs.Additions.{Addition, with_addition_by}
 use Rattle.adf_drafts.specs.declared.draft.Room.{Room}
 use Rattle.adf_drafts.specs.Draft.{DraftValue, IsDirectoryOf, IsRoomFor}
 use Rattle.adf_tree.specs.declared.entry.Body.{TheVariants.Dir, TheVariants.File, Body}
-use Rattle.adf_tree.specs.Tree.{Tree, is_dir_body, new_entry, with_entry}
+use Rattle.adf_tree.specs.Tree.{Tree, is_dir_body, new_entry_by, with_entry_by}
 use Rattle.adf_names.specs.declared.meta.Meta.{Meta}
 use Rattle.adf_base.specs.Words.{block}
+use Rattle.adf_base.specs.declared.hash.Letters.{Letters}
 use Rattle.adf_blocks.specs.HeadBlock.{meta_stated}
 use Rattle.adf_blocks.specs.Sizes.{blocks, is_allowed}
 use Rattle.adf_build.specs.Building.{IsBuildable}
@@ -30,8 +31,10 @@ use Rattle.adf_findings.proofs.Openings.{some_part}
 use Rattle.adf_build.specs.Plan.{blocks_needed, entries_blocks, reserved}
 use Rattle.adf_rescue.specs.declared.left_out.Why.{Why, TheVariants.NoRoom}
 use Rattle.adf_rescue.specs.declared.salvage.Salvage.{Salvage}
-use Rattle.adf_rescue.specs.Rescue.{Ground, IsSecond, Basis, OnBasis, Verdict, added_marks, addition_of, additions_of, as_given, at_path, before_second, body_of, by_body, directory_in}
-use Rattle.adf_rescue.specs.Rescue.{entry_at, fitting, is_added, left_out_by, left_out_from, path_by, path_for, place_of, tree_of, unless_known, verdict, verdict_anew, verdicts}
+use Rattle.adf_rescue.specs.Rescue.{Ground, IsSecond, Basis, OnBasis, Verdict, added_marks, addition_of, additions_of, as_given, at_path, before_second_by}
+use Rattle.adf_rescue.specs.Rescue.{body_of, by_body, directory_in}
+use Rattle.adf_rescue.specs.Rescue.{entry_at, fitting, is_added, left_out_by, left_out_from, path_by, path_for, place_of, second_verdicts_by, tree_of}
+use Rattle.adf_rescue.specs.Rescue.{unless_known, verdict, verdict_anew, verdicts}
 use Rattle.adf_rescue.specs.Rescue.Verdict.{adds, leaves}
 use Rattle.adf_rescue.specs.Salvage.{IsNext, IsPlace, IsRoomOf, IsSalvage, entry_cost, free_blocks}
 use Rattle.adf_rescue.proofs.TreeBlocks.{added_blocks}
@@ -138,11 +141,11 @@ none_more g vs r s n v place is at none unmarked new d k hd kn kp l before ps ad
 
 -- an addition
 
-pub tree_more : (g : Ground) (vs : List Verdict) (x : Addition) → tree_of g (vs ++ adds x ∷ []) ≡ with_entry (tree_of g vs) x.path x.meta x.body
+pub tree_more : (g : Ground) (vs : List Verdict) (x : Addition) → tree_of g (vs ++ adds x ∷ []) ≡ with_entry_by g.letters (tree_of g vs) x.path x.meta x.body
 tree_more g vs x =
     let more = additions_more vs (adds x) in
     let joined = append_assoc (additions_of g.verdicts) (additions_of vs) (x ∷ []) in
-    let grown = fold_push with_addition [] (additions_of g.verdicts ++ additions_of vs) x in
+    let grown = fold_push (with_addition_by g.letters) [] (additions_of g.verdicts ++ additions_of vs) x in
     rw (more, ← joined, grown) refl
 
 -- blocks: `left` of `free` are left beside `used`, `real` are asked for, as `cost` tells; `most` and `fixed` are all blocks and those of no entry
@@ -160,13 +163,13 @@ module _ (g : Ground) (vs : List Verdict) (r : Salvage) (x : Addition) (is : IsS
   before = tree_of g vs
 
   abbrev behind : Tree
-  behind = with_entry (tree_of g vs) x.path x.meta x.body
+  behind = with_entry_by g.letters (tree_of g vs) x.path x.meta x.body
 
   used_before : r.left + entries_blocks before.kind before.entries ≡ free_blocks (blocks g.given)
   used_before = subst (λ (t : Tree). r.left + entries_blocks t.kind t.entries ≡ free_blocks (blocks g.given)) is.tree is.left
 
   used_behind : entries_blocks before.kind behind.entries ≡ entries_blocks before.kind before.entries + entry_cost before.kind x.body
-  used_behind = added_blocks before.kind before.entries (new_entry before.entries x.path x.meta x.body)
+  used_behind = added_blocks g.letters before.kind before.entries (new_entry_by g.letters before.entries x.path x.meta x.body)
 
   module _ (cost : ℕ) (at : cost ≡ min (entry_cost r.kind x.body) (2 ^ 64 - 1)) where
     real : cost ≡ min (entry_cost before.kind x.body) (2 ^ 64 - 1)
@@ -184,7 +187,7 @@ module _ (g : Ground) (vs : List Verdict) (r : Salvage) (x : Addition) (is : IsS
 
     -- it is added
     pub added_more : (s : Salvage) (place : Option ℕ) → r.left < 2 ^ 32 → cost ≤ r.left
-        → s.draft.tree ≡ with_entry r.draft.tree x.path x.meta x.body → length s.draft.nodes ≡ length r.draft.nodes + 1
+        → s.draft.tree ≡ with_entry_by r.draft.tree.letters r.draft.tree x.path x.meta x.body → length s.draft.nodes ≡ length r.draft.nodes + 1
         → ((dir : List (List ℕ)) (m : ℕ) → IsDirectoryOf r.draft dir m → IsDirectoryOf s.draft dir m)
         → IsPlace s.draft (directory_in (adds x)) place
         → s.kind ≡ r.kind → s.held ≡ r.held → s.left ≡ r.left - cost → s.places.items ≡ r.places.items ++ place ∷ []
@@ -193,7 +196,7 @@ module _ (g : Ground) (vs : List Verdict) (r : Salvage) (x : Addition) (is : IsS
         → IsSalvage g (vs ++ fitting before (blocks g.given) x ∷ []) s
     added_more s place small le tree nodes dirs new k hd l ps ad out kn kp before_out =
         let v : Verdict = adds x in
-        let grown : s.draft.tree ≡ behind = tree ∙ ap (λ (t : Tree). with_entry t x.path x.meta x.body) is.tree in
+        let grown : s.draft.tree ≡ behind = tree ∙ ap (λ (t : Tree). with_entry_by t.letters t x.path x.meta x.body) is.tree in
         rw (fits small le) (record {
           tree = grown ∙ sym (tree_more g vs x);
           kind = k ∙ is.kind;
@@ -252,9 +255,20 @@ pub none_added : (g : Ground) (vs : List Verdict) (r : Salvage) → IsSalvage g 
     → additions_of g.verdicts ++ additions_of vs ≡ []
 none_added g vs r is none = nil_from_length (additions_of g.verdicts ++ additions_of vs) (sym is.nodes ∙ none)
 
--- the state before a second survey has its number of blocks that are held
-pub own_held : (held : ℕ) (a : Basis) (r : Salvage) → IsSalvage (before_second held a) [] r → IsSalvage (before_second r.held a) [] r
-own_held held a r is = subst (λ h. IsSalvage (before_second h a) [] r) (sym is.held) is
+-- the state before a second survey has its letters, and its number of blocks that are held
+pub own_terms : (letters : Letters) (held : ℕ) (a : Basis) (r : Salvage) → IsSalvage (before_second_by letters held a) [] r
+    → IsSalvage (before_second_by r.draft.tree.letters r.held a) [] r
+own_terms letters held a r is =
+    let own : r.draft.tree.letters ≡ letters = ap (λ (t : Tree). t.letters) is.tree in
+    subst (λ l. IsSalvage (before_second_by l r.held a) [] r) (sym own) (subst (λ h. IsSalvage (before_second_by letters h a) [] r) (sym is.held) is)
+
+-- a state behind a second survey, by letters and a number of blocks that are its own
+pub with_terms : (own letters : Letters) (mine held : ℕ) (a : Basis) (b : Option Basis) (r : Salvage) → own ≡ letters → mine ≡ held
+    → IsSalvage (before_second_by own mine a) (second_verdicts_by own mine a b) r
+    → IsSalvage (before_second_by letters held a) (second_verdicts_by letters held a b) r
+with_terms own letters mine held a b r same all is =
+    subst (λ l. IsSalvage (before_second_by l held a) (second_verdicts_by l held a b) r) same
+    (subst (λ h. IsSalvage (before_second_by own h a) (second_verdicts_by own h a b) r) all is)
 
 -- the tree of the additions fits
 pub buildable : (t : Tree) (left n m : ℕ) → m ≡ n → is_allowed m ≡ true → 1 + reserved m ≤ m - 2

@@ -2,21 +2,23 @@
 -- Then the entries of a second survey, of the image with what was lost hung in it again, are taken in the same way.
 -- Letters: a the survey of the image, b the second one, if there is one, l either; n the node of an entry, h the block of its header;
 -- g what is taken before a survey; vs the verdicts on the entries before, t the tree with their additions; dir the path of a directory in it;
--- held the number of blocks that the input holds whole: data behind these is made up.
+-- held the number of blocks that the input holds whole: data behind these is made up. What depends on the letters of the new tree, whose case
+-- is ignored in its names, takes them first.
 use Rattle.std.specs.Prelude.{◌≡◌, ◌≢◌, ◌==◌, ◌&&◌, ◌⊎◌, ◌-◌, ◌+◌, ◌*◌, ℕ, Bool, true, false, not, nat_le, nat_lt, cond, List, [], ◌∷◌, ◌++◌, codes, decimal}
 use Rattle.std.specs.Prelude.{length, map, slice_get, Option, Some, None, Result, Ok, Err, is_ok}
 use Rattle.std.specs.List.{flat_map}
 use Rattle.std.specs.Option.{option_and_then, unwrap_or}
 use Rattle.std.specs.Str.{bytes_eq}
 use Rattle.std.proofs.Common.{zero, suc}
+use Rattle.adf_base.specs.declared.hash.Letters.{Letters}
 use Rattle.adf_base.specs.declared.hash.Letters.TheVariants.{Ascii}
 use Rattle.adf_base.specs.Words.{block}
 use Rattle.adf_tree.specs.declared.entry.Body.{Body}
 use Rattle.adf_tree.specs.declared.entry.Body.TheVariants.{Dir, File}
 use Rattle.adf_names.specs.declared.meta.Meta.{Meta}
-use Rattle.adf_tree.specs.Additions.{Addition, entries_of_additions}
+use Rattle.adf_tree.specs.Additions.{Addition, entries_of_additions_by}
 use Rattle.adf_names.specs.Texts.{is_name}
-use Rattle.adf_tree.specs.Tree.{Tree, is_dir_body, room_for, with_entry}
+use Rattle.adf_tree.specs.Tree.{Tree, is_dir_body, room_for_by, with_entry_by}
 use Rattle.adf_blocks.specs.declared.layout.TheConstants.{SECONDARY_TYPE, ST_DIR, ST_FILE}
 use Rattle.adf_blocks.specs.HeadBlock.{is_link, meta_stated}
 use Rattle.adf_blocks.specs.Sizes.{blocks}
@@ -70,10 +72,11 @@ pub data Verdict : Type 0 where
   leaves : (why : Why) → Verdict
   knows : (place : Option (List (List ℕ))) → Verdict
 
--- what is taken before a survey: the image that is rescued and how many blocks of it are held, the walk of the survey before, and the
--- verdicts on its entries
+-- what is taken before a survey: the image that is rescued and how many blocks of it are held, the letters of the new tree, the walk of the
+-- survey before, and the verdicts on its entries
 pub record Ground : Type 0 where
   pub given : List ℕ
+  pub letters : Letters
   pub held : ℕ
   pub walk : Walk
   pub verdicts : List Verdict
@@ -98,16 +101,17 @@ addition_of (knows place) = []
 abbrev pub additions_of : List Verdict → List Addition
 additions_of vs = flat_map addition_of vs
 
--- the tree of the additions so far: its kind, label and dates are those in the boot bytes and the root of the image that is rescued
+-- the tree of the additions so far, by its letters: its kind, label and dates are those in the boot bytes and the root of the image that is
+-- rescued
 abbrev pub tree_of : Ground → List Verdict → Tree
 tree_of g vs =
     let o = opening_in g.given in
     record {
       kind = o.kind;
-      letters = Ascii;
+      letters = g.letters;
       label = o.label;
       stamps = o.stamps;
-      entries = entries_of_additions (additions_of g.verdicts ++ additions_of vs);
+      entries = entries_of_additions_by g.letters (additions_of g.verdicts ++ additions_of vs);
     }
 
 -- the path of a directory that is added, or known
@@ -123,7 +127,7 @@ place_of vs (suc i) = option_and_then directory_in (slice_get vs i)
 
 -- the path of this name in a directory, if it is a name and the tree has room for it
 abbrev pub path_in : Tree → List (List ℕ) → List ℕ → Option (List (List ℕ))
-path_in t dir name = cond (is_name name && is_ok (room_for t.entries (dir ++ name ∷ []))) (Some (dir ++ name ∷ [])) None
+path_in t dir name = cond (is_name name && is_ok (room_for_by t.letters t.entries (dir ++ name ∷ []))) (Some (dir ++ name ∷ [])) None
 
 -- the name of an entry that cannot have its own
 abbrev pub lost_name : ℕ → List ℕ
@@ -140,7 +144,7 @@ path_by t (Some dir) name h = path_for t dir name h
 
 -- the addition, if the tree with it fits in n blocks
 abbrev pub fitting : Tree → ℕ → Addition → Verdict
-fitting t n x = cond (nat_le (blocks_needed (with_entry t x.path x.meta x.body) n) (n - 2)) (adds x) (leaves NoRoom)
+fitting t n x = cond (nat_le (blocks_needed (with_entry_by t.letters t x.path x.meta x.body) n) (n - 2)) (adds x) (leaves NoRoom)
 
 -- the verdict on an entry that stands, by its path
 abbrev pub at_path : Tree → ℕ → Meta → Body → Option (List (List ℕ)) → Verdict
@@ -216,29 +220,30 @@ verdicts g l zero = []
 verdicts g l (suc k) = let vs = verdicts g l k in vs ++ verdict g l vs (suc k) ∷ []
 
 -- nothing is taken before the survey of the image
-abbrev pub before_first : (held : ℕ) → List ℕ → Ground
-before_first held image = record { given = image; held = held; walk = []; verdicts = [] }
+abbrev pub before_first_by : Letters → (held : ℕ) → List ℕ → Ground
+before_first_by letters held image = record { given = image; letters = letters; held = held; walk = []; verdicts = [] }
 
 -- the verdicts on its entries
-abbrev pub first_verdicts : (held : ℕ) → Basis → List Verdict
-first_verdicts held a = verdicts (before_first held a.image) a (heads a.walk)
+abbrev pub first_verdicts_by : Letters → (held : ℕ) → Basis → List Verdict
+first_verdicts_by letters held a = verdicts (before_first_by letters held a.image) a (heads a.walk)
 
 -- they are taken before the second survey
-abbrev pub before_second : (held : ℕ) → Basis → Ground
-before_second held a = record { given = a.image; held = held; walk = a.walk; verdicts = first_verdicts held a }
+abbrev pub before_second_by : Letters → (held : ℕ) → Basis → Ground
+before_second_by letters held a =
+    record { given = a.image; letters = letters; held = held; walk = a.walk; verdicts = first_verdicts_by letters held a }
 
 -- the verdicts on the entries of the second survey
-abbrev pub second_verdicts : (held : ℕ) → Basis → Option Basis → List Verdict
-second_verdicts held a None = []
-second_verdicts held a (Some b) = verdicts (before_second held a) b (heads b.walk)
+abbrev pub second_verdicts_by : Letters → (held : ℕ) → Basis → Option Basis → List Verdict
+second_verdicts_by letters held a None = []
+second_verdicts_by letters held a (Some b) = verdicts (before_second_by letters held a) b (heads b.walk)
 
 -- the additions of a rescue
-abbrev pub rescued_additions : (held : ℕ) → Basis → Option Basis → List Addition
-rescued_additions held a b = additions_of (first_verdicts held a) ++ additions_of (second_verdicts held a b)
+abbrev pub rescued_additions_by : Letters → (held : ℕ) → Basis → Option Basis → List Addition
+rescued_additions_by letters held a b = additions_of (first_verdicts_by letters held a) ++ additions_of (second_verdicts_by letters held a b)
 
 -- the tree of the new volume
-abbrev pub rescued_tree : (held : ℕ) → Basis → Option Basis → Tree
-rescued_tree held a b = tree_of (before_second held a) (second_verdicts held a b)
+abbrev pub rescued_tree_by : Letters → (held : ℕ) → Basis → Option Basis → Tree
+rescued_tree_by letters held a b = tree_of (before_second_by letters held a) (second_verdicts_by letters held a b)
 
 -- entry n, if the verdict leaves it out
 abbrev pub left_out_by : ℕ → Verdict → List LeftOut
@@ -252,17 +257,31 @@ left_out_from n [] = []
 left_out_from n (v ∷ vs) = left_out_by n v ++ left_out_from (suc n) vs
 
 -- the entries of the survey of the image that the rescue leaves out
-abbrev pub rescue_leaves : (held : ℕ) → Basis → List LeftOut
-rescue_leaves held a = left_out_from 1 (first_verdicts held a)
+abbrev pub rescue_leaves_by : Letters → (held : ℕ) → Basis → List LeftOut
+rescue_leaves_by letters held a = left_out_from 1 (first_verdicts_by letters held a)
 
 -- the entries of the second survey that it leaves out
-abbrev pub second_leaves : (held : ℕ) → Basis → Option Basis → List LeftOut
-second_leaves held a b = left_out_from 1 (second_verdicts held a b)
+abbrev pub second_leaves_by : Letters → (held : ℕ) → Basis → Option Basis → List LeftOut
+second_leaves_by letters held a b = left_out_from 1 (second_verdicts_by letters held a b)
 
 -- the image was mended, or there is a finding
 abbrev pub HasFault : Bool → List FindingValue → Type 0
 HasFault mended fs = (mended ≡ true) ⊎ (fs ≢ [])
 
 -- there is a fault, and no entry stands
+abbrev pub StandsNothingBy : Letters → (held : ℕ) → Basis → Option Basis → List FindingValue → Bool → Type 0
+StandsNothingBy letters held a b fs mended = HasFault mended fs × (rescued_additions_by letters held a b ≡ [])
+
+-- of a new tree with ASCII letters
+
+abbrev pub rescued_tree : (held : ℕ) → Basis → Option Basis → Tree
+rescued_tree = rescued_tree_by Ascii
+
+abbrev pub rescue_leaves : (held : ℕ) → Basis → List LeftOut
+rescue_leaves = rescue_leaves_by Ascii
+
+abbrev pub second_leaves : (held : ℕ) → Basis → Option Basis → List LeftOut
+second_leaves = second_leaves_by Ascii
+
 abbrev pub StandsNothing : (held : ℕ) → Basis → Option Basis → List FindingValue → Bool → Type 0
-StandsNothing held a b fs mended = HasFault mended fs × (rescued_additions held a b ≡ [])
+StandsNothing = StandsNothingBy Ascii

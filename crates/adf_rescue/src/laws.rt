@@ -4,7 +4,8 @@ ghost use Rattle.std.specs.Prelude.{◌≡◌, ◌≤◌, ◌<◌, ◌++◌, ℕ
 ghost use Rattle.std.proofs.Common.{suc};
 ghost use Rattle.std.specs.List.{All, concat};
 ghost use Rattle.adf_base.specs.Words.{block};
-ghost use Rattle.adf_tree.specs.Additions.{Addition, IsTreeOf};
+ghost use Rattle.adf_base.specs.declared.hash.Letters.{Letters};
+ghost use Rattle.adf_tree.specs.Additions.{Addition, IsTreeOfBy};
 ghost use Rattle.adf_tree.specs.declared.entry.Body.TheVariants.{File};
 ghost use Rattle.adf_blocks.specs.HeadBlock.{meta_stated};
 ghost use Rattle.adf_blocks.specs.Sizes.{blocks, is_allowed};
@@ -15,29 +16,33 @@ ghost use Rattle.adf_findings.specs.Sound.{FileHolds, IsOfItsKind, IsSound};
 ghost use Rattle.adf_findings.specs.SoundMarks.{AreMarks};
 ghost use Rattle.adf_findings.specs.Survey.{FindingValue, IsSurvey};
 ghost use Rattle.adf_tree.specs.Tree.{Tree};
-ghost use Rattle.adf_volume.specs.Fits.{Fits};
+ghost use Rattle.adf_volume.specs.Fits.{Fits, FitsBy};
 ghost use Rattle.adf_volume.specs.Layout.{Layout};
 ghost use Rattle.adf_volume.specs.Made.{datas_in};
 ghost use Rattle.adf_volume.specs.Lists.{At};
+ghost use Rattle.adf_volume.specs.Types.{letters_for};
+ghost use Rattle.adf_volume.specs.declared.types.Types.{Types};
 ghost use Rattle.adf_volume.specs.Walk.{FileAt, node_block, Walk};
 ghost use Rattle.adf_build.specs.Laid.{IsLaid};
 ghost use Rattle.adf_rescue.specs.Lost.{has_lost};
-ghost use Rattle.adf_rescue.specs.Rescue.{Basis, Verdict, additions_of, at_path, before_first, first_verdicts, path_by, place_of};
-ghost use Rattle.adf_rescue.specs.Rescue.{rescue_leaves, rescued_additions, rescued_tree, second_verdicts, tree_of, verdict};
+ghost use Rattle.adf_rescue.specs.Rescue.{Basis, Verdict, additions_of, at_path, before_first_by, first_verdicts_by, path_by};
+ghost use Rattle.adf_rescue.specs.Rescue.{place_of};
+ghost use Rattle.adf_rescue.specs.Rescue.{rescue_leaves_by, rescued_additions_by, rescued_tree_by, second_verdicts_by, tree_of};
+ghost use Rattle.adf_rescue.specs.Rescue.{verdict};
 ghost use Rattle.adf_rescue.specs.Rescue.Verdict.{adds};
 ghost use Rattle.adf_rescue.specs.Salvage.{are_held};
 
 /// The tree of a rescue is that of its additions.
 pub fn rescued_additions_have_their_tree()
-    ensures { (held : ℕ) (a : Basis) (b : Option Basis)
-        → IsTreeOf (rescued_tree held a b).entries (rescued_additions held a b) }
+    ensures { (letters : Letters) (held : ℕ) (a : Basis) (b : Option Basis)
+        → IsTreeOfBy letters (rescued_tree_by letters held a b).entries (rescued_additions_by letters held a b) }
 {}
 
 /// The tree of a rescue of bytes has room in as many blocks as its image has, and is laid there.
 pub fn rescues_are_laid()
-    ensures { (held : ℕ) (a : Basis) (b : Option Basis) → is_allowed (blocks a.image) ≡ true
+    ensures { (letters : Letters) (held : ℕ) (a : Basis) (b : Option Basis) → is_allowed (blocks a.image) ≡ true
         → All (λ c. c < 256) a.image → IfSome b (λ l. All (λ c. c < 256) l.image)
-        → (volume : List ℕ) × IsLaid volume (rescued_tree held a b) × (blocks volume ≡ blocks a.image) }
+        → (volume : List ℕ) × IsLaid volume (rescued_tree_by letters held a b) × (blocks volume ≡ blocks a.image) }
 {}
 
 /// A sound file is whole, and a whole file of which the input holds each data block stands: the verdict on it is that of its
@@ -46,39 +51,43 @@ pub fn rescues_are_laid()
 pub fn sound_files_stand()
     ensures whole { (image : List ℕ) (w : Walk) (fs : List FindingValue) (n : ℕ)
         → IsSoundFile image w fs n → IsSoundFile image w (grave fs) n }
-    ensures stand { (held : ℕ) (a : Basis) (fs : List FindingValue) (n : ℕ) (vs : List Verdict)
+    ensures stand { (letters : Letters) (held : ℕ) (a : Basis) (fs : List FindingValue) (n : ℕ) (vs : List Verdict)
         → IsSurvey a.image a.walk fs → AreMarks a.image a.walk (grave fs) a.sound
         → IsSoundFile a.image a.walk (grave fs) n → are_held held (datas_in a.walk n) ≡ true
-        → verdict (before_first held a.image) a vs n
-        ≡ at_path (tree_of (before_first held a.image) vs) (blocks a.image) (meta_stated (block a.image (node_block a.walk n)))
+        → verdict (before_first_by letters held a.image) a vs n
+        ≡ at_path (tree_of (before_first_by letters held a.image) vs) (blocks a.image)
+        (meta_stated (block a.image (node_block a.walk n)))
         (File (file_content (file_in a.image a.walk n)))
-        (path_by (tree_of (before_first held a.image) vs) (place_of vs (parent_node a.walk n))
+        (path_by (tree_of (before_first_by letters held a.image) vs) (place_of vs (parent_node a.walk n))
         (name_of a.image (node_block a.walk n)) (node_block a.walk n)) }
-    ensures front { (held : ℕ) (a : Basis) (b : Option Basis) → rescued_additions held a b
-        ≡ additions_of (first_verdicts held a) ++ additions_of (second_verdicts held a b) }
+    ensures front { (letters : Letters) (held : ℕ) (a : Basis) (b : Option Basis) → rescued_additions_by letters held a b
+        ≡ additions_of (first_verdicts_by letters held a) ++ additions_of (second_verdicts_by letters held a b) }
 {}
 
 /// A survey has one list of verdicts.
 pub fn one_rescue()
-    ensures first { (held : ℕ) (image : List ℕ) (w : Walk) (fs : List FindingValue) (s t : ℕ → Bool)
+    ensures first { (letters : Letters) (held : ℕ) (image : List ℕ) (w : Walk) (fs : List FindingValue) (s t : ℕ → Bool)
         → AreMarks image w (grave fs) s → AreMarks image w (grave fs) t
-        → first_verdicts held (record { image = image; walk = w; sound = s })
-        ≡ first_verdicts held (record { image = image; walk = w; sound = t }) }
-    ensures second { (held : ℕ) (a : Basis) (image : List ℕ) (w : Walk) (fs : List FindingValue) (s t : ℕ → Bool)
-        → AreMarks image w (grave fs) s → AreMarks image w (grave fs) t
-        → second_verdicts held a (Some (record { image = image; walk = w; sound = s }))
-        ≡ second_verdicts held a (Some (record { image = image; walk = w; sound = t })) }
+        → first_verdicts_by letters held (record { image = image; walk = w; sound = s })
+        ≡ first_verdicts_by letters held (record { image = image; walk = w; sound = t }) }
+    ensures second { (letters : Letters) (held : ℕ) (a : Basis) (image : List ℕ) (w : Walk) (fs : List FindingValue)
+        (s t : ℕ → Bool) → AreMarks image w (grave fs) s → AreMarks image w (grave fs) t
+        → second_verdicts_by letters held a (Some (record { image = image; walk = w; sound = s }))
+        ≡ second_verdicts_by letters held a (Some (record { image = image; walk = w; sound = t })) }
 {}
 
-/// Where a tree and a layout fit an image that is held whole, nothing is lost, so that there is no second survey; and if no data
-/// block of an FFS volume says that it is an OFS one, the rescue has that tree and leaves out nothing.
+/// Where a tree and a layout fit an image that is held whole, by the letters of the types that are accepted, and no data block
+/// of an FFS volume says that it is an OFS one, the rescue by these letters has that tree and leaves out nothing. Of a volume
+/// of type 0 or 1 nothing is lost, so that there is no second survey.
 pub fn whole_is_kept()
-    ensures tree { (held : ℕ) (image : List ℕ) (t : Tree) (l : Layout) (w : Walk) (fs : List FindingValue) (sound : ℕ → Bool)
-        → blocks image ≤ held → Fits image t l → IsSurvey image w fs → IsOfItsKind image w → AreMarks image w (grave fs) sound
-        → rescued_tree held (record { image = image; walk = w; sound = sound }) None ≡ t }
-    ensures all { (held : ℕ) (image : List ℕ) (t : Tree) (l : Layout) (w : Walk) (fs : List FindingValue) (sound : ℕ → Bool)
-        → blocks image ≤ held → Fits image t l → IsSurvey image w fs → IsOfItsKind image w → AreMarks image w (grave fs) sound
-        → rescue_leaves held (record { image = image; walk = w; sound = sound }) ≡ [] }
+    ensures tree { (types : Types) (held : ℕ) (image : List ℕ) (t : Tree) (l : Layout) (w : Walk) (fs : List FindingValue)
+        (sound : ℕ → Bool) → blocks image ≤ held → FitsBy (letters_for types image) image t l → IsSurvey image w fs
+        → IsOfItsKind image w → AreMarks image w (grave fs) sound
+        → rescued_tree_by (letters_for types image) held (record { image = image; walk = w; sound = sound }) None ≡ t }
+    ensures all { (types : Types) (held : ℕ) (image : List ℕ) (t : Tree) (l : Layout) (w : Walk) (fs : List FindingValue)
+        (sound : ℕ → Bool) → blocks image ≤ held → FitsBy (letters_for types image) image t l → IsSurvey image w fs
+        → IsOfItsKind image w → AreMarks image w (grave fs) sound
+        → rescue_leaves_by (letters_for types image) held (record { image = image; walk = w; sound = sound }) ≡ [] }
     ensures lost { (image : List ℕ) (t : Tree) (l : Layout) (w : Walk) (fs : List FindingValue)
         → Fits image t l → IsSurvey image w fs → (mended : Bool) → has_lost mended image w fs ≡ false }
 {}
@@ -94,18 +103,20 @@ pub fn whole_files()
 
 /// Each file that a rescue adds is a whole file of the survey that adds it, with its content.
 pub fn kept_files_are_whole()
-    ensures first { (held : ℕ) (a : Basis) (fs : List FindingValue) (i : ℕ) (x : Addition) (bytes : List ℕ)
-        → AreMarks a.image a.walk (grave fs) a.sound → slice_get (first_verdicts held a) i ≡ Some (adds x) → x.body ≡ File bytes
+    ensures first { (letters : Letters) (held : ℕ) (a : Basis) (fs : List FindingValue) (i : ℕ) (x : Addition) (bytes : List ℕ)
+        → AreMarks a.image a.walk (grave fs) a.sound → slice_get (first_verdicts_by letters held a) i ≡ Some (adds x)
+        → x.body ≡ File bytes
         → IsSoundFile a.image a.walk (grave fs) (suc i) × (bytes ≡ file_content (file_in a.image a.walk (suc i))) }
-    ensures second { (held : ℕ) (a b : Basis) (fs : List FindingValue) (i : ℕ) (x : Addition) (bytes : List ℕ)
-        → AreMarks b.image b.walk (grave fs) b.sound → slice_get (second_verdicts held a (Some b)) i ≡ Some (adds x)
+    ensures second { (letters : Letters) (held : ℕ) (a b : Basis) (fs : List FindingValue) (i : ℕ) (x : Addition) (bytes : List ℕ)
+        → AreMarks b.image b.walk (grave fs) b.sound → slice_get (second_verdicts_by letters held a (Some b)) i ≡ Some (adds x)
         → x.body ≡ File bytes
         → IsSoundFile b.image b.walk (grave fs) (suc i) × (bytes ≡ file_content (file_in b.image b.walk (suc i))) }
 {}
 
 /// No data block of a file that the second survey adds is of an entry that the first one adds.
 pub fn kept_files_lie_apart()
-    ensures { (held : ℕ) (a b : Basis) (i j k n : ℕ) (x y : Addition) (bytes : List ℕ)
-        → slice_get (first_verdicts held a) i ≡ Some (adds x) → slice_get (second_verdicts held a (Some b)) j ≡ Some (adds y)
+    ensures { (letters : Letters) (held : ℕ) (a b : Basis) (i j k n : ℕ) (x y : Addition) (bytes : List ℕ)
+        → slice_get (first_verdicts_by letters held a) i ≡ Some (adds x)
+        → slice_get (second_verdicts_by letters held a (Some b)) j ≡ Some (adds y)
         → y.body ≡ File bytes → owner a.walk n ≡ Some (suc i) → At (datas_in b.walk (suc j)) k n → ⊥ }
 {}

@@ -23,4 +23,4 @@ pub use crate::left_out::{LeftOut, Why};
 pub use crate::opened::{
     begin as begin_image, is_mended, lacks_boot, open as open_image, opened_keeps,
 };
-pub use crate::rescues::{Rescued, lay, rescue};
+pub use crate::rescues::{Rescued, Terms, lay, rescue};

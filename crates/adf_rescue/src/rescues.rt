@@ -2,19 +2,22 @@
 
 ghost use Rattle.std.specs.Prelude.{◌≡◌, ◌≢◌, ◌↔◌, ◌+◌, ℕ, Bool, List, [], IsNone, IsTrue, IfOk, IfSome, OnErr};
 ghost use Rattle.std.specs.Prelude.{OnOk, Option, Some, option_map};
+ghost use Rattle.adf_base.specs.declared.hash.Letters.{Letters};
 ghost use Rattle.adf_blocks.specs.Sizes.{blocks as blocks_in};
 ghost use Rattle.adf_findings.specs.Survey.{OnSurvey};
 ghost use Rattle.adf_build.specs.Laid.{IsLaid};
 ghost use Rattle.adf_build.specs.Building.{IsBuildable};
 ghost use Rattle.adf_build.specs.Plan.{entries_blocks};
 ghost use Rattle.adf_rescue.specs.Losses.{lost_blocks, lost_headers};
-ghost use Rattle.adf_rescue.specs.Rescue.{HasFault, Basis, OnBasis, OnSecond, StandsNothing, before_first, before_second, first_verdicts, rescue_leaves, rescued_tree, second_leaves, second_verdicts};
+ghost use Rattle.adf_rescue.specs.Rescue.{HasFault, Basis, OnBasis, OnSecond, StandsNothingBy, before_first_by, before_second_by};
+ghost use Rattle.adf_rescue.specs.Rescue.{first_verdicts_by, rescue_leaves_by, rescued_tree_by, second_leaves_by};
+ghost use Rattle.adf_rescue.specs.Rescue.{second_verdicts_by};
 ghost use Rattle.adf_rescue.specs.Salvage.{free_blocks as blocks_free, IsSalvage};
 
 use crate::left_out::LeftOut;
 use crate::losses::{lost_blocks, lost_headers};
 use crate::salvage::Salvage;
-use adf_base::NoMemory;
+use adf_base::{Letters, NoMemory};
 use adf_build::{build, free_blocks};
 use adf_drafts::Draft;
 use adf_findings::{Survey, some_survey};
@@ -36,11 +39,21 @@ pub struct Rescued {
     pub lost_blocks: Vec<u32>,
 }
 
+/// The terms of a rescue: the letters whose case is ignored in the names of the new volume, the number of blocks that the
+/// input holds whole, and whether the image was mended.
+#[derive(Clone, Copy)]
+pub struct Terms {
+    pub letters: Letters,
+    pub held: usize,
+    pub mended: bool,
+}
+
 // What is kept of all entries of the survey of the image.
 fn salvaged(alloc: Global, survey: &Survey<'_>, begun: Salvage) -> Result<Salvage, NoMemory>
-    requires { IsSalvage (before_first begun.held survey.now.image) [] begun }
-    ensures { OnBasis survey.now.image (λ a _. IfOk result
-        (IsSalvage (before_first begun.held a.image) (first_verdicts begun.held a))) }
+    requires { IsSalvage (before_first_by begun.draft.tree.letters begun.held survey.now.image) [] begun }
+    ensures { OnBasis survey.now.image (λ a _. IfOk result (IsSalvage
+        (before_first_by begun.draft.tree.letters begun.held a.image)
+        (first_verdicts_by begun.draft.tree.letters begun.held a))) }
 {
     survey.whole_marks();
     some_survey();
@@ -58,9 +71,11 @@ fn take_second(
     second: &Survey<'_>,
     salvage: &mut Salvage,
 ) -> Result<(), NoMemory>
-    requires { OnBasis survey.now.image (λ a _. IsSalvage (before_second salvage.old.held a) [] salvage.old) }
+    requires { OnBasis survey.now.image (λ a _.
+        IsSalvage (before_second_by salvage.old.draft.tree.letters salvage.old.held a) [] salvage.old) }
     ensures { OnBasis survey.now.image (λ a _. OnBasis second.now.image (λ b _.
-        OnOk result (IsSalvage (before_second salvage.old.held a) (second_verdicts salvage.old.held a (Some b)) salvage.new))) }
+        OnOk result (IsSalvage (before_second_by salvage.old.draft.tree.letters salvage.old.held a)
+        (second_verdicts_by salvage.old.draft.tree.letters salvage.old.held a (Some b)) salvage.new))) }
 {
     survey.whole_marks();
     second.whole_marks();
@@ -78,10 +93,10 @@ fn salvaged_both(
     second: Option<&Survey<'_>>,
     begun: Salvage,
 ) -> Result<Salvage, NoMemory>
-    requires { IsSalvage (before_first begun.held survey.now.image) [] begun }
-    ensures state { (held : ℕ) → begun.held ≡ held → OnBasis survey.now.image (λ a _.
-        OnSecond (option_map (λ s. s.now.image) second.entry)
-        (λ b. IfOk result (IsSalvage (before_second held a) (second_verdicts held a b)))) }
+    requires { IsSalvage (before_first_by begun.draft.tree.letters begun.held survey.now.image) [] begun }
+    ensures state { (letters : Letters) (held : ℕ) → begun.draft.tree.letters ≡ letters → begun.held ≡ held
+        → OnBasis survey.now.image (λ a _. OnSecond (option_map (λ s. s.now.image) second.entry)
+        (λ b. IfOk result (IsSalvage (before_second_by letters held a) (second_verdicts_by letters held a b)))) }
     ensures blocks { IfOk result (λ r. r.left + entries_blocks r.draft.tree.kind r.draft.tree.entries
         ≡ blocks_free (blocks_in survey.now.image)) }
 {
@@ -111,9 +126,9 @@ fn has_fault(survey: &Survey<'_>, mended: bool) -> bool
 
 // Whether there is a fault, and no entry stands.
 fn stands_nothing(survey: &Survey<'_>, salvage: &Salvage, mended: bool) -> bool
-    ensures { OnBasis survey.now.image (λ a fs. (held : ℕ) (b : Option Basis)
-        → IsSalvage (before_second held a) (second_verdicts held a b) salvage.now
-        → IsTrue result ↔ StandsNothing held a b fs mended) }
+    ensures { OnBasis survey.now.image (λ a fs. (letters : Letters) (held : ℕ) (b : Option Basis)
+        → IsSalvage (before_second_by letters held a) (second_verdicts_by letters held a b) salvage.now
+        → IsTrue result ↔ StandsNothingBy letters held a b fs mended) }
 {
     if !has_fault(survey, mended) {
         return false;
@@ -121,31 +136,33 @@ fn stands_nothing(survey: &Survey<'_>, salvage: &Salvage, mended: bool) -> bool
     salvage.draft.len() == 0
 }
 
-/// What stands on a surveyed image, of which the input holds the first `held` blocks: its whole files with all data in these, and
-/// its directories, as the draft of a tree that fits in as many blocks; and what stands beside these by a second survey, if there
-/// is one, of the image with what was lost hung in it again: each entry whose header is not that of an entry of the first survey,
-/// but a file only if its data blocks are as they were given, of no entry that is kept, and not free by the bitmap. With it
-/// come the entries that are left out, and what the findings of the first survey report and no entry has. Nothing stands if
-/// there is a finding of the first survey, or the image was mended, and there is no addition. `None` if nothing of the image is
-/// surveyed. `NoMemory` if an allocation fails, which can happen only if something of the image is surveyed.
+/// What stands on a surveyed image, of which the input holds the first `terms.held` blocks: its whole files with all data in
+/// these, and its directories, as the draft of a tree of `terms.letters` that fits in as many blocks; and what stands beside
+/// these by a second survey, if there is one, of the image with what was lost hung in it again: each entry whose header is
+/// not that of an entry of the first survey, but a file only if its data blocks are as they were given, of no entry that is
+/// kept, and not free by the bitmap. With it come the entries that are left out, and what the findings of the first survey
+/// report and no entry has. Nothing stands if there is a finding of the first survey, or the image was mended, and there is
+/// no addition. `None` if nothing of the image is surveyed. `NoMemory` if an allocation fails, which can happen only if
+/// something of the image is surveyed.
 pub fn rescue(
     alloc: Global,
     survey: &Survey<'_>,
     second: Option<&Survey<'_>>,
-    held: usize,
-    mended: bool,
+    terms: Terms,
 ) -> Result<Option<Rescued>, NoMemory>
     ensures none { OnSurvey survey.now.image (λ w _. IfOk result (λ r. IsNone r ↔ (w ≡ []))) }
     ensures nothing { OnBasis survey.now.image (λ a fs. OnSecond (option_map (λ s. s.now.image) second.entry)
-        (λ b. IfOk result (λ r. IfSome r (λ v. IsTrue v.stands_nothing ↔ StandsNothing held a b fs mended)))) }
+        (λ b. IfOk result (λ r. IfSome r (λ v. IsTrue v.stands_nothing ↔
+        StandsNothingBy terms.letters terms.held a b fs terms.mended)))) }
     ensures tree { OnBasis survey.now.image (λ a _. OnSecond (option_map (λ s. s.now.image) second.entry)
-        (λ b. IfOk result (λ r. IfSome r (λ v. v.draft.tree ≡ rescued_tree held a b)))) }
+        (λ b. IfOk result (λ r. IfSome r (λ v. v.draft.tree ≡ rescued_tree_by terms.letters terms.held a b)))) }
     ensures size { IfOk result (λ r. IfSome r (λ v. v.blocks ≡ blocks_in survey.now.image)) }
     ensures fits { IfOk result (λ r. IfSome r (λ v. IsBuildable v.draft.tree v.blocks)) }
     ensures left_out { OnBasis survey.now.image (λ a _. OnSecond (option_map (λ s. s.now.image) second.entry)
-        (λ b. IfOk result (λ r. IfSome r (λ v. v.left_out.items ≡ rescue_leaves held a)))) }
+        (λ b. IfOk result (λ r. IfSome r (λ v. v.left_out.items ≡ rescue_leaves_by terms.letters terms.held a)))) }
     ensures second_left_out { OnBasis survey.now.image (λ a _. OnSecond (option_map (λ s. s.now.image) second.entry)
-        (λ b. IfOk result (λ r. IfSome r (λ v. v.second_left_out.items ≡ second_leaves held a b)))) }
+        (λ b. IfOk result (λ r. IfSome r (λ v. v.second_left_out.items ≡
+        second_leaves_by terms.letters terms.held a b)))) }
     ensures lost_headers { OnSurvey survey.now.image (λ w fs. OnSecond (option_map (λ s. s.now.image) second.entry)
         (λ b. IfOk result (λ r. IfSome r (λ v. v.lost_headers.items ≡ lost_headers w b fs)))) }
     ensures lost_blocks { OnSurvey survey.now.image (λ _ fs. OnSecond (option_map (λ s. s.now.image) second.entry)
@@ -158,10 +175,16 @@ pub fn rescue(
         return Ok(None);
     };
     let blocks = opening.blocks;
-    let begun = Salvage::begin(alloc, opening, free_blocks(blocks), held)?;
+    let begun = Salvage::begin(
+        alloc,
+        opening,
+        terms.letters,
+        free_blocks(blocks),
+        terms.held,
+    )?;
     let salvage = salvaged_both(alloc, survey, second, begun)?;
     Ok(Some(Rescued {
-        stands_nothing: stands_nothing(survey, &salvage, mended),
+        stands_nothing: stands_nothing(survey, &salvage, terms.mended),
         draft: salvage.draft,
         blocks,
         left_out: salvage.left_before,

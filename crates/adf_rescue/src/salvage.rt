@@ -1,6 +1,7 @@
 // The state of a rescue: what is kept so far.
 
 ghost use Rattle.std.specs.Prelude.{◌≡◌, ◌≤◌, ◌+◌, ◌-◌, ◌++◌, ◌∷◌, ◌^◌, ℕ, Bool, false, true, List, [], cond, Some, None, Result, IfOk, OnOk, min, length, slice_index_or};
+ghost use Rattle.adf_base.specs.declared.hash.Letters.{Letters};
 ghost use Rattle.adf_tree.specs.declared.entry.Body.{Body as ABody};
 ghost use Rattle.adf_drafts.specs.Draft.{IsRoomFor};
 ghost use Rattle.adf_blocks.specs.Sizes.{blocks};
@@ -10,14 +11,15 @@ ghost use Rattle.adf_volume.specs.Image.{name_of};
 ghost use Rattle.adf_findings.specs.Found.{parent_node};
 ghost use Rattle.adf_findings.specs.Opening.{opening_in};
 ghost use Rattle.adf_findings.specs.Survey.{FindingValue, IsSurvey, OnSurvey};
-ghost use Rattle.adf_rescue.specs.Rescue.{Ground, Basis, OnBasis, Verdict, added_marks, as_given, before_first, body_of, entry_at, fitting, path_by, place_of, tree_of, verdict};
+ghost use Rattle.adf_rescue.specs.Rescue.{Ground, Basis, OnBasis, Verdict, added_marks, as_given, before_first_by, body_of};
+ghost use Rattle.adf_rescue.specs.Rescue.{entry_at, fitting, path_by, place_of, tree_of, verdict};
 ghost use Rattle.adf_rescue.specs.Rescue.Verdict.{leaves, knows};
 ghost use Rattle.adf_rescue.specs.Salvage.{GoesOn, IsNext, IsRoomOf, IsSalvage, entry_cost, free_blocks};
 
 use crate::left_out::{LeftOut, Why};
 use crate::rooms::room_of;
 use crate::standing::{are_given, body_of, bytes_of, entry_at, other_body};
-use adf_base::NoMemory;
+use adf_base::{Letters, NoMemory};
 use adf_build::{data_blocks, ext_count};
 use adf_drafts::{Draft, Room};
 use adf_findings::{Opening, Survey};
@@ -102,21 +104,24 @@ fn known_as(before: &Survey<'_>, survey: &Survey<'_>, n: Node) -> Option<Node>
 }
 
 impl Salvage {
-    /// The state with no entry, on a volume with this many free blocks, and of an image of which the input holds so many.
+    /// The state with no entry, of these letters, on a volume with this many free blocks, and of an image of which the input
+    /// holds so many.
     pub fn begin(
         alloc: Global,
         opening: Opening,
+        letters: Letters,
         free: u32,
         held: usize,
     ) -> Result<Salvage, NoMemory>
         ensures state { (image : List ℕ) → opening ≡ opening_in image → free ≡ free_blocks (blocks image)
-            → IfOk result (IsSalvage (before_first held image) []) }
+            → IfOk result (IsSalvage (before_first_by letters held image) []) }
         ensures held { IfOk result (λ r. r.held ≡ held) }
+        ensures letters { IfOk result (λ r. r.draft.tree.letters ≡ letters) }
     {
         Ok(Salvage {
             kind: opening.kind,
             held,
-            draft: Draft::new(alloc, opening.kind, opening.label, opening.stamps),
+            draft: Draft::with_letters(alloc, opening.kind, letters, opening.label, opening.stamps),
             known: root_place(alloc)?,
             places: root_place(alloc)?,
             kept: root_mark(alloc)?,
@@ -129,9 +134,9 @@ impl Salvage {
 
     /// The state before a second survey, with what is kept of the first one.
     pub fn go_on(self, alloc: Global) -> Result<Salvage, NoMemory>
-        ensures { (held : ℕ) (image : List ℕ) (w : Walk) (vs : List Verdict)
-            → IsSalvage (before_first held image) vs self
-            → IfOk result (IsSalvage (record { given = image; held = held; walk = w; verdicts = vs }) []) }
+        ensures { (letters : Letters) (held : ℕ) (image : List ℕ) (w : Walk) (vs : List Verdict)
+            → IsSalvage (before_first_by letters held image) vs self
+            → IfOk result (IsSalvage (record { given = image; letters = letters; held = held; walk = w; verdicts = vs }) []) }
     {
         let Salvage {
             kind,
@@ -287,10 +292,10 @@ impl Salvage {
     /// state is of no use.
     pub fn take(&mut self, alloc: Global, survey: &Survey<'_>, n: Node) -> Result<(), NoMemory>
         requires { GoesOn survey.now.image n self.old }
-        ensures { OnBasis survey.now.image (λ a _. (held : ℕ) (vs : List Verdict)
-            → IsSalvage (before_first held a.image) vs self.old → IsNext a.walk vs n
-            → OnOk result (IsSalvage (before_first held a.image)
-            (vs ++ verdict (before_first held a.image) a vs n ∷ []) self.new)) }
+        ensures { OnBasis survey.now.image (λ a _. (letters : Letters) (held : ℕ) (vs : List Verdict)
+            → IsSalvage (before_first_by letters held a.image) vs self.old → IsNext a.walk vs n
+            → OnOk result (IsSalvage (before_first_by letters held a.image)
+            (vs ++ verdict (before_first_by letters held a.image) a vs n ∷ []) self.new)) }
     {
         let standing = body_of(alloc, self.held, survey, n)?;
         self.keep(alloc, survey, n, standing)

@@ -3,13 +3,15 @@
 ghost use Rattle.std.specs.Prelude.{◌≡◌, ◌==◌, ◌&&◌, ◌≤◌, ◌<◌, ◌+◌, ◌*◌, ℕ, Bool, cond, List, IfOk, drop, length, nat_le, not};
 ghost use Rattle.std.specs.Str.{bytes_eq};
 ghost use Rattle.adf_base.specs.Words.{block};
+ghost use Rattle.adf_base.specs.declared.hash.Letters.{Letters};
 ghost use Rattle.adf_tree.specs.declared.entry.Body.TheVariants.{File};
 ghost use Rattle.adf_blocks.specs.HeadBlock.{is_link};
 ghost use Rattle.adf_volume.specs.Image.{word_in};
 ghost use Rattle.adf_volume.specs.Walk.{heads, node_block};
 ghost use Rattle.adf_findings.specs.Files.{file_content};
 ghost use Rattle.adf_findings.specs.Survey.{FindingValue, IsSurvey, OnSurvey};
-ghost use Rattle.adf_rescue.specs.Rescue.{Ground, OnBasis, added_marks, are_given, as_given, before_first, body_of, body_of_type, entry_at, entry_by};
+ghost use Rattle.adf_rescue.specs.Rescue.{Ground, OnBasis, added_marks, are_given, as_given, before_first_by, body_of};
+ghost use Rattle.adf_rescue.specs.Rescue.{body_of_type, entry_at, entry_by};
 ghost use Rattle.adf_rescue.specs.Rescue.{is_given, is_kept, is_same_block};
 ghost use Rattle.adf_rescue.specs.Salvage.{are_held};
 
@@ -143,8 +145,8 @@ pub fn body_of(
     survey: &Survey<'_>,
     n: Node,
 ) -> Result<Result<Body, Why>, NoMemory>
-    ensures { OnBasis survey.now.image (λ a _. 1 ≤ n → n ≤ heads a.walk
-        → IfOk result (λ r. r ≡ body_of (as_given (before_first held a.image) a) n)) }
+    ensures { OnBasis survey.now.image (λ a _. (letters : Letters) → 1 ≤ n → n ≤ heads a.walk
+        → IfOk result (λ r. r ≡ body_of (as_given (before_first_by letters held a.image) a) n)) }
 {
     if let Some(file) = survey.whole_file(alloc, n)? {
         if are_held(held, file.blocks()) {

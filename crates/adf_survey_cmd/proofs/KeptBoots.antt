@@ -1,15 +1,17 @@
 -- Volumes of rescues, with the boot blocks that are put into them.
 -- Letters: s, t what is surveyed; a the survey of an image, b the second one, if there is one, fs findings; held the blocks that are held.
-use Rattle.std.proofs.Common.{◌≡◌, ◌≢◌, ◌∙◌, ◌++◌, ◌+◌, ◌-◌, ◌*◌, ◌/◌, ◌≤◌, ◌<◌, ℕ, List, [], Option, None, Some, true}
+use Rattle.std.proofs.Common.{◌≡◌, ◌≢◌, ◌∙◌, ◌++◌, ◌-◌, ◌/◌, ◌≤◌, ℕ, List, [], Option, true}
 use Rattle.std.proofs.Common.{inl, inr, ap, refl, subst, sym, length, replicate, take, append-nil, arith, slice_index}
 use Rattle.std.proofs.lemmas.Bool.{and_parts, cond_both, leb-true}
 use Rattle.std.proofs.lemmas.Grind.{common_steps}
 use Rattle.std.proofs.lemmas.List.{length-set}
-use Rattle.adf_base.specs.declared.hash.Letters.TheVariants.{Ascii}
+use Rattle.adf_base.specs.declared.hash.Letters.{Letters}
 use Rattle.adf_tree.specs.Tree.{Tree}
 use Rattle.adf_blocks.specs.Sizes.{blocks, is_allowed}
-use Rattle.adf_volume.specs.Fits.{Fits}
+use Rattle.adf_volume.specs.Fits.{FitsBy}
 use Rattle.adf_volume.specs.Layout.{Layout}
+use Rattle.adf_volume.specs.Types.{letters_for}
+use Rattle.adf_volume.specs.declared.types.Types.{Types}
 use Rattle.adf_boot_blocks.specs.BootBlocks.{begins_with_dos}
 use Rattle.adf_boot_blocks.specs.Writing.{HasBootOf, restored}
 use Rattle.adf_boot_blocks.specs.declared.boot.TheConstants.{BOOT_LEN}
@@ -18,10 +20,9 @@ use Rattle.adf_boot_blocks.proofs.Restored.{front_are_bytes, front_begins, has_f
 use Rattle.adf_build.specs.Laid.{IsLaid}
 use Rattle.adf_build.specs.Plan.{planned}
 use Rattle.adf_build.proofs.LaidFits.{laid_fits}
-use Rattle.adf_build.proofs.WholeVolume.{fits_plain}
 use Rattle.adf_findings.specs.Survey.{FindingValue}
 use Rattle.adf_findings.specs.OwnKind.{is_mistyped, retyped}
-use Rattle.adf_rescue.specs.Rescue.{Basis, rescued_tree}
+use Rattle.adf_rescue.specs.Rescue.{Basis, rescued_tree_by}
 use Rattle.adf_rescue.proofs.OpenedImages.{length_opened}
 use Rattle.adf_runs.specs.Commands.{Reply}
 use Rattle.adf_survey_cmd.specs.Answers.{RescuesTyped}
@@ -39,13 +40,15 @@ pub laid_long : (image : List ℕ) (t : Tree) → IsLaid image t → BOOT_LEN �
 laid_long image t laid = long_enough image (length image) laid.size refl
 
 -- what is written fits the tree of the rescue
-pub written_fits : (held : ℕ) (a : Basis) (b : Option Basis) (fs : List FindingValue) (boot : List ℕ) (reply : Reply) → BOOT_LEN ≤ length boot
-    → WritesVolume held a b fs boot reply → (l : Layout) × Fits reply.output (rescued_tree held a b) l
-written_fits held a b fs boot reply whole (volume, laid, size, e) =
-    let t : Tree = rescued_tree held a b in
+pub written_fits : (types : Types) (held : ℕ) (a : Basis) (b : Option Basis) (fs : List FindingValue) (boot : List ℕ) (reply : Reply) → BOOT_LEN ≤ length boot
+    → WritesVolume types held a b fs boot reply → (l : Layout) × FitsBy (letters_for types a.image) reply.output
+    (rescued_tree_by (letters_for types a.image) held a b) l
+written_fits types held a b fs boot reply whole (volume, laid, size, e) =
+    let letters : Letters = letters_for types a.image in
+    let t : Tree = rescued_tree_by letters held a b in
     let l : Layout = planned t (blocks volume) in (
       l,
-      subst (λ (image : List ℕ). Fits image t l) (sym (ap (λ (r : Reply). r.output) e))
+      subst (λ (image : List ℕ). FitsBy letters image t l) (sym (ap (λ (r : Reply). r.output) e))
           (restored_fits volume boot t l (laid_fits volume t laid) whole),
     )
 
@@ -63,25 +66,25 @@ typed_length s t (w, fs, h, e) =
     (λ mistyped. length-set s.image 3 (slice_index s.image 3 - 1)) (λ typed. refl)
 
 -- a volume that is laid for a rescue, with the boot blocks of what was surveyed
-put_boots : (s : SubjectValue) (volume : List ℕ) (tree : Tree) → IsLaid volume tree → tree.letters ≡ Ascii → BOOT_LEN ≤ length s.image
+put_boots : (s : SubjectValue) (volume : List ℕ) (tree : Tree) → IsLaid volume tree → BOOT_LEN ≤ length s.image
     → AreBytes s.image → begins_with_dos s.image ≡ true → HasBootOf s.image (restored volume (sized 2 s.image))
-put_boots s volume tree laid letters long bytes begins =
+put_boots s volume tree laid long bytes begins =
     let same = two_blocks s.image long in
     let front : List ℕ = take BOOT_LEN s.image in
     let size : BOOT_LEN ≤ length front = subst (λ (bs : List ℕ). BOOT_LEN ≤ length bs) same (omega (arith, length_sized 2 s.image)) in
     let l : Layout = planned tree (blocks volume) in
     subst (λ (bs : List ℕ). HasBootOf s.image (restored volume bs)) (sym same)
     (has_front s.image (restored volume front)
-    (volume_has_boot volume front tree l (fits_plain letters (laid_fits volume tree laid)) size (front_are_bytes s.image bytes)
+    (volume_has_boot volume front tree l (laid_fits volume tree laid) size (front_are_bytes s.image bytes)
     (front_begins s.image ∙ begins)))
 
-pub keeps_boot : (s : SubjectValue) (reply : Reply) → RescuesTyped s reply → reply.output ≢ [] → AreBytes s.image
+pub keeps_boot : (types : Types) (s : SubjectValue) (reply : Reply) → RescuesTyped types s reply → reply.output ≢ [] → AreBytes s.image
     → begins_with_dos s.image ≡ true → HasBootOf s.image reply.output
-keeps_boot s reply (t, typed, (w, fs, survey, (sound, marks, (b, second, inl (none, (f, first, e)))))) some bytes begins =
+keeps_boot types s reply (t, typed, (w, fs, survey, (sound, marks, (b, second, inl (none, (f, first, e)))))) some bytes begins =
     absurd (some (ap (λ (r : Reply). r.output) e))
-keeps_boot s reply (t, typed, (w, fs, survey, (sound, marks, (b, second, inr (read, inl (nothing, (f, first, e))))))) some bytes begins =
+keeps_boot types s reply (t, typed, (w, fs, survey, (sound, marks, (b, second, inr (read, inl (nothing, (f, first, e))))))) some bytes begins =
     absurd (some (ap (λ (r : Reply). r.output) e))
-keeps_boot s reply (t, typed, (w, fs, survey, (sound, marks, (b, second, inr (read, inr (stands, (volume, laid, size, e))))))) some bytes begins =
+keeps_boot types s reply (t, typed, (w, fs, survey, (sound, marks, (b, second, inr (read, inr (stands, (volume, laid, size, e))))))) some bytes begins =
     let long : BOOT_LEN ≤ length s.image =
     omega (arith, long_enough volume (length s.image) laid.size (size ∙ ap (λ n. n / 512) (length_opened t.image ∙ typed_length s t typed))) in
-    subst (HasBootOf s.image) (sym (ap (λ (r : Reply). r.output) e)) (put_boots s volume _ laid refl long bytes begins)
+    subst (HasBootOf s.image) (sym (ap (λ (r : Reply). r.output) e)) (put_boots s volume _ laid long bytes begins)

@@ -6,8 +6,10 @@ use Rattle.std.proofs.lemmas.Bool.{and_left, cond-false, false_from_ne_true}
 use Rattle.std.proofs.Math.Nat.{min-eq_left}
 use Rattle.std.proofs.lemmas.List.{take-take}
 use Rattle.std.proofs.lemmas.Grind.{common_steps}
+use Rattle.adf_base.specs.declared.hash.Letters.TheVariants.{Ascii}
 use Rattle.adf_blocks.specs.declared.layout.TheConstants.{MOST_BLOCKS}
 use Rattle.adf_blocks.specs.declared.cause.Cause.TheVariants.{BadSize}
+use Rattle.adf_volume.specs.declared.types.Types.{Types}
 use Rattle.adf_volume.specs.Walk.{Walk}
 use Rattle.adf_findings.specs.Files.{grave}
 use Rattle.adf_findings.specs.Lookup.{LeadsTo}
@@ -24,7 +26,7 @@ use Rattle.adf_rescue.specs.Rescue.{Basis}
 use Rattle.adf_rescue.proofs.OpenedImages.{length_opened}
 use Rattle.adf_rescue.proofs.MadeRoots.{sized as sized_len}
 use Rattle.adf_cmd.proofs.LongInputs.{long_fault, too_large}
-use Rattle.adf_survey_cmd.specs.Answers.{CopiesFound, CopiesFromSurvey, ListsSurvey, QuestionAnswer, SurveyAnswer, Surveys, TellsFound, told_status}
+use Rattle.adf_survey_cmd.specs.Answers.{CopiesFound, CopiesFromSurvey, ListsSurvey, QuestionAnswer, SurveyAnswer, Surveys, TellsFound, told_status, types_kept}
 use Rattle.adf_survey_cmd.specs.Hints.{disk_hint}
 use Rattle.adf_survey_cmd.specs.Subject.{IsTyped, OfTyped, SubjectValue, begun_subject, end_of, missing_text, sized, subject, told_text}
 use Rattle.adf_file_words.specs.SurveyLine.{AreFew, InquiryValue, QuestionValue, cat, list, report, rescue}
@@ -71,17 +73,17 @@ none_second : (mended : Bool) (image : List ℕ) (w : Walk) (fs : List FindingVa
 none_second mended image w fs long = grind (arith, common_steps, false_from_ne_true, sized_len, none_hung, and_left)
 
 -- nothing stands, and the first fault is told
-same_rescue : (held h : ℕ) (image bytes opened_image opened_bytes boot other : List ℕ) (reply : Reply) → 512 * MOST_BLOCKS < length image
-    → 512 * MOST_BLOCKS < length bytes → 512 * MOST_BLOCKS < length opened_bytes → RescuesFound held image opened_image [] bad_size boot reply
-    → RescuesFound h bytes opened_bytes [] bad_size other reply
-same_rescue held h image bytes opened_image opened_bytes boot other reply a b c (sound, marks, (two, second, inl (none, (f, first, e)))) =
+same_rescue : (types : Types) (held h : ℕ) (image bytes opened_image opened_bytes boot other : List ℕ) (reply : Reply) → 512 * MOST_BLOCKS < length image
+    → 512 * MOST_BLOCKS < length bytes → 512 * MOST_BLOCKS < length opened_bytes → RescuesFound types held image opened_image [] bad_size boot reply
+    → RescuesFound types h bytes opened_bytes [] bad_size other reply
+same_rescue types held h image bytes opened_image opened_bytes boot other reply a b c (sound, marks, (two, second, inl (none, (f, first, e)))) =
     let basis : Basis = record { image = opened_bytes; walk = []; sound = λ n. false } in (
       (λ n. false),
       no_marks opened_bytes (grave bad_size),
-      subst (λ o. RescuesBoth h bytes basis o bad_size other reply) (sym (none_second (is_mended bytes) opened_bytes [] bad_size c))
-          (None, tt, inl (refl, (f, long_fault image bytes f a b first, e))),
+      subst (λ o. RescuesBoth types h bytes basis o bad_size other reply) (sym (none_second (is_mended bytes) opened_bytes [] bad_size c))
+          (None, tt, inl (refl, (f, long_fault Ascii Ascii image bytes f a b first, e))),
     )
-same_rescue held h image bytes opened_image opened_bytes boot other reply a b c (sound, marks, (two, second, inr (some, e))) = absurd (some refl)
+same_rescue types held h image bytes opened_image opened_bytes boot other reply a b c (sound, marks, (two, second, inr (some, e))) = absurd (some refl)
 
 -- and nothing is begun
 not_begun : (image : List ℕ) → 512 * MOST_BLOCKS < length image → lacks_boot image ≡ false
@@ -121,14 +123,14 @@ of_typed : (s t : SubjectValue) (answers : SubjectValue → Reply → Type 0) �
     → (reply : Reply) → (answers s reply → answers t reply) → OfTyped s answers reply → OfTyped t answers reply
 of_typed s t answers a b reply same (u, is, x) = (t, long_typed t b, same (subst (λ u. answers u reply) (same_typed s u a is) x))
 
-long_rescue : (s t : SubjectValue) (boot other : List ℕ) → 512 * MOST_BLOCKS < length s.image → 512 * MOST_BLOCKS < length t.image
-    → (reply : Reply) → Rescues s.end s.image boot reply → Rescues t.end t.image other reply
-long_rescue s t boot other a b reply (w, fs, h, found) = (
+long_rescue : (types : Types) (s t : SubjectValue) (boot other : List ℕ) → 512 * MOST_BLOCKS < length s.image → 512 * MOST_BLOCKS < length t.image
+    → (reply : Reply) → Rescues types s.end s.image boot reply → Rescues types t.end t.image other reply
+long_rescue types s t boot other a b reply (w, fs, h, found) = (
   [],
   bad_size,
   long_survey (opened t.image) (long_opened t.image b),
-  same_rescue s.end t.end s.image t.image (opened s.image) (opened t.image) boot other reply a b (long_opened t.image b)
-      (of_long (opened s.image) w fs (λ u gs. RescuesFound s.end s.image (opened s.image) u gs boot reply) (long_opened s.image a) h found),
+  same_rescue types s.end t.end s.image t.image (opened s.image) (opened t.image) boot other reply a b (long_opened t.image b)
+      (of_long (opened s.image) w fs (λ u gs. RescuesFound types s.end s.image (opened s.image) u gs boot reply) (long_opened s.image a) h found),
 )
 
 long_questions : (q : QuestionValue) (s t : SubjectValue) → s.front ≡ t.front → 512 * MOST_BLOCKS < length s.image
@@ -144,11 +146,11 @@ long_questions (cat damaged path) s t front a b reply (inl bad) = inl bad
 long_questions (cat damaged path) s t front a b reply (inr told) = inr (of_typed s t (CopiesFromSurvey damaged path) a b reply (λ x.
     let found = of_long s.image x.2 x.3 (λ u gs. CopiesFound damaged s u gs x.0 reply) a x.4 x.5 in
     (x.0, x.1, [], bad_size, long_survey t.image b, same_found damaged s t x.0 reply found)) told)
-long_questions rescue s t front a b reply (u, is, told) = (
+long_questions (rescue keep_type) s t front a b reply (u, is, told) = (
   t,
   is_typed t b,
-  long_rescue s t (sized 2 s.image) (sized 2 t.image) a b reply
-      (subst (λ (u : SubjectValue). Rescues u.end u.image (sized 2 s.image) reply) (typed_so s u a is) told),
+  long_rescue (types_kept keep_type) s t (sized 2 s.image) (sized 2 t.image) a b reply
+      (subst (λ (u : SubjectValue). Rescues (types_kept keep_type) u.end u.image (sized 2 s.image) reply) (typed_so s u a is) told),
 )
 
 -- an image of n blocks is made of the front alone

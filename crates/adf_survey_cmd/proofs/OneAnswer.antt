@@ -3,6 +3,7 @@
 use Rattle.std.proofs.Common.{◌≡◌, ◌∙◌, ◌++◌, inl, inr, ℕ, Bool, true, false, List, [], ◌∷◌, Option, Some, sym, ap, subst, None, refl, arith}
 use Rattle.std.proofs.lemmas.Grind.{common_steps}
 use Rattle.adf_names.proofs.PathParts.{one_path}
+use Rattle.adf_volume.specs.declared.types.Types.{Types}
 use Rattle.adf_volume.specs.Walk.{FileAt, node_block, Walk}
 use Rattle.adf_findings.specs.Files.{grave}
 use Rattle.adf_findings.specs.Lookup.{LeadsTo}
@@ -16,7 +17,8 @@ use Rattle.adf_findings.proofs.Lookups.{one_first}
 use Rattle.adf_texts.specs.Lines.{fault_line}
 use Rattle.adf_runs.specs.Commands.{Reply, on_errors, on_output}
 use Rattle.adf_cmd.proofs.OneAnswer.{one_dates, refused_once}
-use Rattle.adf_survey_cmd.specs.Answers.{CopiesEntry, CopiesFound, CopiesFromSurvey, IsWholeFile, ListsSurvey, QuestionAnswer, RescuesTyped, SurveyAnswer, Surveys, TellsFound, told_status}
+use Rattle.adf_survey_cmd.specs.Answers.{CopiesEntry, CopiesFound, CopiesFromSurvey, IsWholeFile, ListsSurvey, QuestionAnswer, RescuesTyped, SurveyAnswer}
+use Rattle.adf_survey_cmd.specs.Answers.{Surveys, TellsFound, told_status, types_kept}
 use Rattle.adf_survey_cmd.specs.Hints.{hinted}
 use Rattle.adf_survey_cmd.specs.Subject.{IsTyped, OfTyped, SubjectValue, begun_subject, sized, subject, typed_subject}
 use Rattle.adf_survey_cmd.specs.Rescues.{Rescues, RescuesBy, RescuesFound, RescuesIn, RescuesSome, rescue_text, second_image}
@@ -98,21 +100,21 @@ typed_once : (s : SubjectValue) (answers : SubjectValue → Reply → Type 0)
 typed_once s answers once a b (t, is, x) (u, also, y) =
     once u a b (subst (λ t. answers t a) (one_typed (begun_subject s) t u is also) x) y
 
-some_once : (held : ℕ) (input : List ℕ) (l : Basis) (m : Option Basis) (fs : List FindingValue) (boot : List ℕ) (a b : Reply)
-    → RescuesSome held input l m fs boot a → RescuesSome held input l m fs boot b → a ≡ b
-some_once held input l m fs boot a b (inl (none, (f, first, x))) (inl (also, (g, fault, y))) =
+some_once : (types : Types) (held : ℕ) (input : List ℕ) (l : Basis) (m : Option Basis) (fs : List FindingValue) (boot : List ℕ) (a b : Reply)
+    → RescuesSome types held input l m fs boot a → RescuesSome types held input l m fs boot b → a ≡ b
+some_once types held input l m fs boot a b (inl (none, (f, first, x))) (inl (also, (g, fault, y))) =
     let same = refused_once input (on_errors 1 (fault_line f)) (on_errors 1 (fault_line g)) (f, first, refl) (g, fault, refl) in
-    x ∙ ap (λ (r : Reply). on_errors 1 (r.errors ++ rescue_text held l m fs)) same ∙ sym y
-some_once held input l m fs boot a b (inl (none, x)) (inr (some, y)) = absurd (some none)
-some_once held input l m fs boot a b (inr (some, x)) (inl (none, y)) = absurd (some none)
-some_once held input l m fs boot a b (inr (some, (one, laid, size, x))) (inr (also, (other, too, long, y))) = grind (arith, common_steps)
+    x ∙ ap (λ (r : Reply). on_errors 1 (r.errors ++ rescue_text types held l m fs)) same ∙ sym y
+some_once types held input l m fs boot a b (inl (none, x)) (inr (some, y)) = absurd (some none)
+some_once types held input l m fs boot a b (inr (some, x)) (inl (none, y)) = absurd (some none)
+some_once types held input l m fs boot a b (inr (some, (one, laid, size, x))) (inr (also, (other, too, long, y))) = grind (arith, common_steps)
 
-by_surveys_once : (held : ℕ) (input : List ℕ) (l : Basis) (m : Option Basis) (fs : List FindingValue) (boot : List ℕ) (a b : Reply)
-    → RescuesBy held input l m fs boot a → RescuesBy held input l m fs boot b → a ≡ b
-by_surveys_once held input l m fs boot a b (inl (none, x)) (inl (also, y)) = refused_once input a b x y
-by_surveys_once held input l m fs boot a b (inl (none, x)) (inr (some, y)) = absurd (some none)
-by_surveys_once held input l m fs boot a b (inr (some, x)) (inl (none, y)) = absurd (some none)
-by_surveys_once held input l m fs boot a b (inr (some, x)) (inr (also, y)) = some_once held input l m fs boot a b x y
+by_surveys_once : (types : Types) (held : ℕ) (input : List ℕ) (l : Basis) (m : Option Basis) (fs : List FindingValue) (boot : List ℕ) (a b : Reply)
+    → RescuesBy types held input l m fs boot a → RescuesBy types held input l m fs boot b → a ≡ b
+by_surveys_once types held input l m fs boot a b (inl (none, x)) (inl (also, y)) = refused_once input a b x y
+by_surveys_once types held input l m fs boot a b (inl (none, x)) (inr (some, y)) = absurd (some none)
+by_surveys_once types held input l m fs boot a b (inr (some, x)) (inl (none, y)) = absurd (some none)
+by_surveys_once types held input l m fs boot a b (inr (some, x)) (inr (also, y)) = some_once types held input l m fs boot a b x y
 
 one_second : (image : Option (List ℕ)) (l m : Option Basis) → IsSecond image l → IsSecond image m → l ≡ m
 one_second None None None x y = refl
@@ -125,25 +127,26 @@ one_second (Some image) (Some l) (Some m) x y = ap some (one_basis image l m x y
     some : Basis → Option Basis
     some k = Some k
 
-found_rescued_once : (held : ℕ) (input image : List ℕ) (w : Walk) (fs : List FindingValue) (boot : List ℕ) (a b : Reply)
-    → RescuesFound held input image w fs boot a → RescuesFound held input image w fs boot b → a ≡ b
-found_rescued_once held input image w fs boot a b (sound, marks, (l, second, x)) (others, also, (m, twice, y)) =
+found_rescued_once : (types : Types) (held : ℕ) (input image : List ℕ) (w : Walk) (fs : List FindingValue) (boot : List ℕ) (a b : Reply)
+    → RescuesFound types held input image w fs boot a → RescuesFound types held input image w fs boot b → a ≡ b
+found_rescued_once types held input image w fs boot a b (sound, marks, (l, second, x)) (others, also, (m, twice, y)) =
     let r : (ℕ → Bool) → Basis = λ s. record { image = image; walk = w; sound = s } in
-    by_surveys_once held input (r others) m fs boot a b
-    (subst (λ o. RescuesBy held input (r others) o fs boot a) (one_second (second_image (is_mended input) image w fs) l m second twice)
-    (subst (λ s. RescuesBy held input (r s) l fs boot a) (one_marks image w (grave fs) sound others marks also) x)) y
+    by_surveys_once types held input (r others) m fs boot a b
+    (subst (λ o. RescuesBy types held input (r others) o fs boot a) (one_second (second_image (is_mended input) image w fs) l m second twice)
+    (subst (λ s. RescuesBy types held input (r s) l fs boot a) (one_marks image w (grave fs) sound others marks also) x)) y
 
-rescued_once : (held : ℕ) (input image boot : List ℕ) (a b : Reply) → RescuesIn held input image boot a → RescuesIn held input image boot b
+rescued_once : (types : Types) (held : ℕ) (input image boot : List ℕ) (a b : Reply) → RescuesIn types held input image boot a
+    → RescuesIn types held input image boot b
     → a ≡ b
-rescued_once held input image boot a b (w, fs, s, x) (u, gs, t, y) =
+rescued_once types held input image boot a b (w, fs, s, x) (u, gs, t, y) =
     let same = one_survey image w u fs gs s t in
-    let moved = subst (λ v. RescuesFound held input image v fs boot a) same.0 x in
-    found_rescued_once held input image u gs boot a b (subst (λ hs. RescuesFound held input image u hs boot a) same.1 moved) y
+    let moved = subst (λ v. RescuesFound types held input image v fs boot a) same.0 x in
+    found_rescued_once types held input image u gs boot a b (subst (λ hs. RescuesFound types held input image u hs boot a) same.1 moved) y
 
-typed_rescued_once : (s : SubjectValue) (a b : Reply) → RescuesTyped s a → RescuesTyped s b → a ≡ b
-typed_rescued_once s a b (t, is, x) (u, also, y) =
-    rescued_once u.end u.image (opened u.image) (sized 2 s.image) a b
-    (subst (λ (t : SubjectValue). Rescues t.end t.image (sized 2 s.image) a) (one_typed s t u is also) x) y
+typed_rescued_once : (types : Types) (s : SubjectValue) (a b : Reply) → RescuesTyped types s a → RescuesTyped types s b → a ≡ b
+typed_rescued_once types s a b (t, is, x) (u, also, y) =
+    rescued_once types u.end u.image (opened u.image) (sized 2 s.image) a b
+    (subst (λ (t : SubjectValue). Rescues types t.end t.image (sized 2 s.image) a) (one_typed s t u is also) x) y
 
 one_question : (q : QuestionValue) (s : SubjectValue) (a b : Reply) → QuestionAnswer q s a → QuestionAnswer q s b → a ≡ b
 one_question report s a b x y = typed_once s Surveys surveyed_once a b x y
@@ -152,7 +155,7 @@ one_question (cat damaged path) s a b (inl (bad, x)) (inl (worse, y)) = x ∙ sy
 one_question (cat damaged path) s a b (inl (bad, x)) (inr (t, is, h)) = absurd (bad h.0 h.1)
 one_question (cat damaged path) s a b (inr (t, is, h)) (inl (bad, y)) = absurd (bad h.0 h.1)
 one_question (cat damaged path) s a b (inr h) (inr g) = typed_once s (CopiesFromSurvey damaged path) (copied_once damaged path) a b h g
-one_question rescue s a b x y = typed_rescued_once s a b x y
+one_question (rescue keep_type) s a b x y = typed_rescued_once (types_kept keep_type) s a b x y
 
 pub one_answer : (r : InquiryValue) (input : List ℕ) (a b : Reply) → SurveyAnswer r input a → SurveyAnswer r input b → a ≡ b
 one_answer r input a b (told, x, e) (other, y, f) =

@@ -8,6 +8,8 @@ use Rattle.std.proofs.lemmas.Grind.{common_steps}
 use Rattle.adf_tree.specs.Tree.{Tree}
 use Rattle.adf_volume.specs.Fits.{Fits}
 use Rattle.adf_volume.specs.Layout.{Layout}
+use Rattle.adf_volume.specs.Types.{letters_for}
+use Rattle.adf_volume.specs.declared.types.Types.{Types}
 use Rattle.adf_volume.specs.Walk.{Walk}
 use Rattle.adf_findings.specs.Files.{grave}
 use Rattle.adf_findings.specs.SoundMarks.{AreMarks}
@@ -17,7 +19,7 @@ use Rattle.adf_rescue.specs.declared.left_out.LeftOut.{LeftOut}
 use Rattle.adf_rescue.specs.Hung.{hung}
 use Rattle.adf_rescue.specs.Lost.{has_lost, is_settled}
 use Rattle.adf_rescue.specs.Opened.{is_mended, opened}
-use Rattle.adf_rescue.specs.Rescue.{HasFault, Basis, StandsNothing, rescued_tree}
+use Rattle.adf_rescue.specs.Rescue.{HasFault, Basis, StandsNothingBy, rescued_tree_by}
 use Rattle.adf_blocks.specs.Sizes.{blocks}
 use Rattle.adf_boot_blocks.specs.Writing.{restored}
 use Rattle.adf_build.specs.Building.{IsBuildable}
@@ -40,14 +42,14 @@ pub if_some : {X : Type 0} (o : Option X) (x : X) (P : X → Type 0) → o ≡ S
 if_some o x P e h = subst (λ o. IfSome o P) e h
 
 -- what is answered by the survey of an opened image, and by that of a second one, if there is one
-pub found_answers : (held : ℕ) (input image : List ℕ) (w : Walk) (fs : List FindingValue) (sound : ℕ → Bool)
+pub found_answers : (types : Types) (held : ℕ) (input image : List ℕ) (w : Walk) (fs : List FindingValue) (sound : ℕ → Bool)
     (second : Option (List ℕ)) (boot : List ℕ) (reply : Reply)
     → image ≡ opened input → IsSurvey image w fs → AreMarks image w (grave fs) sound → second_image (is_mended input) image w fs ≡ second
-    → RescuesBoth held input (record { image = image; walk = w; sound = sound }) second fs boot reply → Rescues held input boot reply
-found_answers held input image w fs sound second boot reply same survey marks is by =
+    → RescuesBoth types held input (record { image = image; walk = w; sound = sound }) second fs boot reply → Rescues types held input boot reply
+found_answers types held input image w fs sound second boot reply same survey marks is by =
     let a : Basis = record { image = image; walk = w; sound = sound } in
-    subst (λ (l : List ℕ). RescuesIn held input l boot reply) same
-    (w, fs, survey, (sound, marks, subst (λ (o : Option (List ℕ)). RescuesBoth held input a o fs boot reply) (sym is) by))
+    subst (λ (l : List ℕ). RescuesIn types held input l boot reply) same
+    (w, fs, survey, (sound, marks, subst (λ (o : Option (List ℕ)). RescuesBoth types held input a o fs boot reply) (sym is) by))
 
 -- the hung image is surveyed where something is lost, and only there
 
@@ -76,11 +78,11 @@ pub same_lines : (image : List ℕ) (w : Walk) (b : Option Basis) (xs us ys vs :
 same_lines image w b xs us ys vs ps qs ns ms d e f g = λ i. lines_text image w b (d i) (e i) (f i) (g i)
 
 -- what stands is prepared as a volume
-pub volume_prepared : (held : ℕ) (input : List ℕ) (a : Basis) (b : Option Basis) (fs : List FindingValue) (p : Prepared)
-    → IsBuildable p.draft.tree p.blocks → p.draft.tree ≡ rescued_tree held a b → p.blocks ≡ blocks a.image
-    → p.lines.items ≡ rescue_text held a b fs → a.walk ≢ [] → ¬ StandsNothing held a b fs (is_mended input)
-    → Prepares (RescuesBy held input a b fs) (Ok p)
-volume_prepared held input a b fs p room tree size told read some = (
+pub volume_prepared : (types : Types) (held : ℕ) (input : List ℕ) (a : Basis) (b : Option Basis) (fs : List FindingValue) (p : Prepared)
+    → IsBuildable p.draft.tree p.blocks → p.draft.tree ≡ rescued_tree_by (letters_for types a.image) held a b → p.blocks ≡ blocks a.image
+    → p.lines.items ≡ rescue_text types held a b fs → a.walk ≢ [] → ¬ StandsNothingBy (letters_for types a.image) held a b fs (is_mended input)
+    → Prepares (RescuesBy types held input a b fs) (Ok p)
+volume_prepared types held input a b fs p room tree size told read some = (
   room,
   λ boot reply writes. inr (
     read,

@@ -9,6 +9,8 @@ use Rattle.adf_base.proofs.ByteLists.{AreBytes}
 use Rattle.adf_tree.specs.Tree.{Tree}
 use Rattle.adf_blocks.specs.Sizes.{blocks, is_allowed}
 use Rattle.adf_blocks.specs.declared.cause.Cause.{Cause}
+use Rattle.adf_volume.specs.Types.{letters_for}
+use Rattle.adf_volume.specs.declared.types.Types.{Types}
 use Rattle.adf_volume.specs.Fits.{Fits}
 use Rattle.adf_volume.specs.Layout.{Layout}
 use Rattle.adf_volume.specs.Start.{is_image_len}
@@ -31,7 +33,7 @@ use Rattle.adf_rescue.proofs.Steps.{unread_fault}
 use Rattle.adf_rescue.specs.Hung.{hung}
 use Rattle.adf_rescue.specs.Lost.{has_lost, is_settled}
 use Rattle.adf_rescue.specs.Opened.{is_mended, opened}
-use Rattle.adf_rescue.specs.Rescue.{Basis, HasFault, IsSecond, rescued_additions}
+use Rattle.adf_rescue.specs.Rescue.{Basis, HasFault, IsSecond, rescued_additions_by}
 use Rattle.adf_cmd.specs.Answers.{RefusesImage}
 use Rattle.adf_runs.specs.Commands.{Reply}
 use Rattle.adf_survey_cmd.proofs.RescueAnswers.{none_fits_it, none_fits_mended}
@@ -107,37 +109,37 @@ allowed_size : (image : List ℕ) (w : Walk) (fs : List FindingValue) → IsSurv
 allowed_size image w fs (unread f) some = absurd (some refl)
 allowed_size image w fs (read v d t) some = (course_size image v).1
 
-module _ (held : ℕ) (input : List ℕ) (w : Walk) (fs : List FindingValue) (survey : IsSurvey (opened input) w fs) (sound : ℕ → Bool)
+module _ (types : Types) (held : ℕ) (input : List ℕ) (w : Walk) (fs : List FindingValue) (survey : IsSurvey (opened input) w fs) (sound : ℕ → Bool)
     (are : AreBytes (opened input)) (second : Option Basis) (more : AreSecondBytes second) (boot : List ℕ) where
   abbrev first : Basis
   first = record { image = opened input; walk = w; sound = sound }
 
-  some_rescued : w ≢ [] → (reply : Reply) × RescuesSome held input first second fs boot reply
-  some_rescued some = elim (dec_and (dec_fault (is_mended input) fs) (dec_nil (rescued_additions held first second))) [
+  some_rescued : w ≢ [] → (reply : Reply) × RescuesSome types held input first second fs boot reply
+  some_rescued some = elim (dec_and (dec_fault (is_mended input) fs) (dec_nil (rescued_additions_by (letters_for types (opened input)) held first second))) [
     | yes nothing ↦
-        let (reply, refuses) = fault_with (rescue_text held first second fs) input
+        let (reply, refuses) = fault_with (rescue_text types held first second fs) input
         (none_fits_fault input w fs (is_mended input) refl survey nothing.0) (fits_or_fault input) in (reply, inl (nothing, refuses))
     | no stands ↦
-        let (image, laid, size) = rescue_laid held first second (allowed_size (opened input) w fs survey some) are more in
+        let (image, laid, size) = rescue_laid (letters_for types (opened input)) held first second (allowed_size (opened input) w fs survey some) are more in
         (_, inr (stands, (image, laid, size, refl)))
   ]
 
-  rescued_by : Dec (w ≡ []) → (reply : Reply) × RescuesBy held input first second fs boot reply
+  rescued_by : Dec (w ≡ []) → (reply : Reply) × RescuesBy types held input first second fs boot reply
   rescued_by (yes none) =
       let (reply, refuses) = fault_alone input (none_fits_unread input w fs survey none) (fits_or_fault input) in (reply, inl (none, refuses))
   rescued_by (no some) = let (reply, told) = some_rescued some in (reply, inr (some, told))
 
-rescued_found : (held : ℕ) (input : List ℕ) (w : Walk) (fs : List FindingValue) → IsSurvey (opened input) w fs → AreBytes (opened input)
-    → (boot : List ℕ) → (reply : Reply) × RescuesFound held input (opened input) w fs boot reply
-rescued_found held input w fs survey are boot =
+rescued_found : (types : Types) (held : ℕ) (input : List ℕ) (w : Walk) (fs : List FindingValue) → IsSurvey (opened input) w fs → AreBytes (opened input)
+    → (boot : List ℕ) → (reply : Reply) × RescuesFound types held input (opened input) w fs boot reply
+rescued_found types held input w fs survey are boot =
     let (sound, marks) = some_marks (opened input) w fs survey (grave fs) in
     let bytes = second_bytes (is_mended input) (opened input) w fs are in
     let (second, is, more) = second_of (second_image (is_mended input) (opened input) w fs) bytes in
-    let (reply, told) = rescued_by held input w fs survey sound are second more boot (dec_nil w) in
+    let (reply, told) = rescued_by types held input w fs survey sound are second more boot (dec_nil w) in
     (reply, (sound, marks, (second, is, told)))
 
-pub some_rescue : (held : ℕ) (input boot : List ℕ) → AreBytes input → (reply : Reply) × Rescues held input boot reply
-some_rescue held input boot are =
+pub some_rescue : (types : Types) (held : ℕ) (input boot : List ℕ) → AreBytes input → (reply : Reply) × Rescues types held input boot reply
+some_rescue types held input boot are =
     let (w, fs, survey) = some_survey (opened input) in
-    let (reply, told) = rescued_found held input w fs survey (opened_bytes input are) boot in
+    let (reply, told) = rescued_found types held input w fs survey (opened_bytes input are) boot in
     (reply, (w, fs, survey, told))

@@ -4,6 +4,8 @@ use Rattle.std.specs.Prelude.{◌≡◌, ◌*◌, ◌⊎◌, ◌++◌, ℕ, Bool
 use Rattle.adf_blocks.specs.declared.layout.TheConstants.{MOST_BLOCKS}
 use Rattle.adf_names.specs.PathTexts.{IsPathText, path_text}
 use Rattle.adf_volume.specs.Walk.{FileAt, Walk}
+use Rattle.adf_volume.specs.declared.types.Types.{Types}
+use Rattle.adf_volume.specs.declared.types.Types.TheVariants.{Plain, WithInternational}
 use Rattle.adf_findings.specs.Files.{IsSoundFile, file_content, file_in}
 use Rattle.adf_findings.specs.Lookup.{LeadsTo}
 use Rattle.adf_findings.specs.SoundMarks.{AreMarks}
@@ -88,16 +90,21 @@ CopiesFromSurvey damaged path s reply =
     (names : List (List ℕ)) × IsPathText path names
     × (w : Walk) × (fs : List FindingValue) × IsSurvey s.image w fs × CopiesFound damaged s w fs names reply
 
+-- the types that the volume of a rescue may have: with --keep-type all that are accepted, else those of ASCII letters
+abbrev pub types_kept : (keep_type : Bool) → Types
+types_kept true = WithInternational
+types_kept false = Plain
+
 -- `rescue` of what is surveyed, once it has the type that its files say: with its two boot blocks as they were before
-abbrev pub RescuesTyped : SubjectValue → Reply → Type 0
-RescuesTyped s reply = (t : SubjectValue) × IsTyped s t × Rescues t.end t.image (sized 2 s.image) reply
+abbrev pub RescuesTyped : Types → SubjectValue → Reply → Type 0
+RescuesTyped types s reply = (t : SubjectValue) × IsTyped s t × Rescues types t.end t.image (sized 2 s.image) reply
 
 -- the answer to a question of what is surveyed: once it is begun, and has the type that its files say
 abbrev pub QuestionAnswer : QuestionValue → SubjectValue → Reply → Type 0
 QuestionAnswer report s reply = OfTyped s Surveys reply
 QuestionAnswer list s reply = OfTyped s ListsSurvey reply
 QuestionAnswer (cat damaged path) s reply = RefusesPath path reply ⊎ OfTyped s (CopiesFromSurvey damaged path) reply
-QuestionAnswer rescue s reply = RescuesTyped s reply
+QuestionAnswer (rescue keep_type) s reply = RescuesTyped (types_kept keep_type) s reply
 
 -- the answer to an inquiry: that to its question, with the hint
 abbrev pub SurveyAnswer : InquiryValue → List ℕ → Reply → Type 0
@@ -115,7 +122,7 @@ InquiriesHaveOneAnswer = (r : InquiryValue) (input : List ℕ) (a b : Reply) →
 abbrev pub survey_usage : List ℕ
 survey_usage =
     codes "usage: adf-survey [--blocks N] [--list] [FILE]\n       adf-survey [--blocks N] cat [--damaged] PATH [FILE]\n"
-    ++ codes "       adf-survey [--blocks N] rescue [FILE]\nwithout a FILE the image comes on standard input; man adf-survey tells more\n"
+    ++ codes "       adf-survey [--blocks N] rescue [--keep-type] [FILE]\nwithout a FILE the image comes on standard input; man adf-survey tells more\n"
 
 -- a question for the bytes under a path that is not read
 abbrev pub HasBadSurveyPath : QuestionValue → Type 0

@@ -1,11 +1,14 @@
 -- What a rescue answers.
 -- Letters: a the survey of an image, w its walk, fs its findings; b the second survey, if there is one; x an entry that is left out;
--- p the node of a directory, n a block; held the number of blocks that the input holds whole; boot the boot blocks of the input.
+-- p the node of a directory, n a block; types those that the new volume may have; held the number of blocks that the input holds whole; boot the
+-- boot blocks of the input.
 use Rattle.std.specs.Prelude.{◌≡◌, ◌≢◌, ◌==◌, ◌⊎◌, ◌+◌, ℕ, Bool, false, List, [], ◌∷◌, ◌++◌, Option, None, Some, codes, cond}
 use Rattle.std.specs.List.{flat_map}
 use Rattle.adf_blocks.specs.Sizes.{blocks}
 use Rattle.adf_boot_blocks.specs.Writing.{restored}
+use Rattle.adf_volume.specs.Types.{letters_for}
 use Rattle.adf_volume.specs.declared.fault.Fault.{Fault}
+use Rattle.adf_volume.specs.declared.types.Types.{Types}
 use Rattle.adf_volume.specs.Walk.{FirstFault, Walk}
 use Rattle.adf_findings.specs.Files.{grave}
 use Rattle.adf_findings.specs.Lookup.{path_to}
@@ -16,7 +19,7 @@ use Rattle.adf_rescue.specs.Hung.{hung}
 use Rattle.adf_rescue.specs.Losses.{lost_blocks, lost_headers}
 use Rattle.adf_rescue.specs.Lost.{has_lost, is_settled}
 use Rattle.adf_rescue.specs.Opened.{is_mended, opened}
-use Rattle.adf_rescue.specs.Rescue.{IsSecond, Basis, StandsNothing, rescue_leaves, rescued_tree, second_leaves}
+use Rattle.adf_rescue.specs.Rescue.{IsSecond, Basis, StandsNothingBy, rescue_leaves_by, rescued_tree_by, second_leaves_by}
 use Rattle.adf_rescue.specs.declared.left_out.LeftOut.{LeftOut}
 use Rattle.adf_rescue.specs.declared.left_out.Why.{Why}
 use Rattle.adf_rescue.specs.declared.left_out.Why.TheVariants.{Damaged, Link, NoRoom}
@@ -80,9 +83,10 @@ lines_text image w b xs ys ps ns =
     left_out_text image w xs ++ (second_text b ys ++ (lost_headers_text image w ps ++ lost_blocks_text ns))
 
 -- the lines of all that is not in the new volume
-abbrev pub rescue_text : (held : ℕ) → Basis → Option Basis → List FindingValue → List ℕ
-rescue_text held a b fs =
-    lines_text a.image a.walk b (rescue_leaves held a) (second_leaves held a b) (lost_headers a.walk b fs) (lost_blocks b fs)
+abbrev pub rescue_text : Types → (held : ℕ) → Basis → Option Basis → List FindingValue → List ℕ
+rescue_text types held a b fs =
+    let letters = letters_for types a.image in
+    lines_text a.image a.walk b (rescue_leaves_by letters held a) (second_leaves_by letters held a b) (lost_headers a.walk b fs) (lost_blocks b fs)
 
 -- the status of a rescue: 0 where there is no line
 abbrev pub text_status : List ℕ → ℕ
@@ -94,46 +98,46 @@ abbrev pub rescue_reply : List ℕ → List ℕ → Reply
 rescue_reply volume text = record { status = text_status text; output = volume; errors = text }
 
 -- the volume is written that is laid for the tree of all that stands, in as many blocks, with the boot blocks put back into it
-abbrev pub WritesVolume : (held : ℕ) → Basis → Option Basis → List FindingValue → (boot : List ℕ) → Reply → Type 0
-WritesVolume held a b fs boot reply =
-    (volume : List ℕ) × IsLaid volume (rescued_tree held a b) × (blocks volume ≡ blocks a.image)
-    × (reply ≡ rescue_reply (restored volume boot) (rescue_text held a b fs))
+abbrev pub WritesVolume : Types → (held : ℕ) → Basis → Option Basis → List FindingValue → (boot : List ℕ) → Reply → Type 0
+WritesVolume types held a b fs boot reply =
+    (volume : List ℕ) × IsLaid volume (rescued_tree_by (letters_for types a.image) held a b) × (blocks volume ≡ blocks a.image)
+    × (reply ≡ rescue_reply (restored volume boot) (rescue_text types held a b fs))
 
 -- nothing is written, and errors get the first fault of the input, and these lines behind it
 abbrev pub RefusesWith : List ℕ → List ℕ → Reply → Type 0
 RefusesWith text input reply = (f : Fault) × FirstFault input f.block f.cause × (reply ≡ on_errors 1 (fault_line f ++ text))
 
 -- the rescue of an input of which something is surveyed: the volume, or where nothing stands the first fault
-abbrev pub RescuesSome : (held : ℕ) → List ℕ → Basis → Option Basis → List FindingValue → (boot : List ℕ) → Reply → Type 0
-RescuesSome held input a b fs boot reply =
-    (StandsNothing held a b fs (is_mended input) × RefusesWith (rescue_text held a b fs) input reply)
-    ⊎ ((¬ StandsNothing held a b fs (is_mended input)) × WritesVolume held a b fs boot reply)
+abbrev pub RescuesSome : Types → (held : ℕ) → List ℕ → Basis → Option Basis → List FindingValue → (boot : List ℕ) → Reply → Type 0
+RescuesSome types held input a b fs boot reply =
+    (StandsNothingBy (letters_for types a.image) held a b fs (is_mended input) × RefusesWith (rescue_text types held a b fs) input reply)
+    ⊎ ((¬ StandsNothingBy (letters_for types a.image) held a b fs (is_mended input)) × WritesVolume types held a b fs boot reply)
 
 -- the rescue of an input by the surveys; where nothing is surveyed it is refused
-abbrev pub RescuesBy : (held : ℕ) → List ℕ → Basis → Option Basis → List FindingValue → (boot : List ℕ) → Reply → Type 0
-RescuesBy held input a b fs boot reply =
-    ((a.walk ≡ []) × RefusesImage input reply) ⊎ ((a.walk ≢ []) × RescuesSome held input a b fs boot reply)
+abbrev pub RescuesBy : Types → (held : ℕ) → List ℕ → Basis → Option Basis → List FindingValue → (boot : List ℕ) → Reply → Type 0
+RescuesBy types held input a b fs boot reply =
+    ((a.walk ≡ []) × RefusesImage input reply) ⊎ ((a.walk ≢ []) × RescuesSome types held input a b fs boot reply)
 
 -- the second image that is surveyed: the hung one, if something is lost; mended tells whether the first one was
 abbrev pub second_image : Bool → List ℕ → Walk → List FindingValue → Option (List ℕ)
 second_image mended image w fs = cond (has_lost mended image w fs) (Some (hung image w (is_settled mended w fs))) None
 
 -- the rescue of an input by the survey of its image, and by that of a second image, if there is one
-abbrev pub RescuesBoth : (held : ℕ) → List ℕ → Basis → Option (List ℕ) → List FindingValue → (boot : List ℕ) → Reply → Type 0
-RescuesBoth held input a image fs boot reply = (b : Option Basis) × IsSecond image b × RescuesBy held input a b fs boot reply
+abbrev pub RescuesBoth : Types → (held : ℕ) → List ℕ → Basis → Option (List ℕ) → List FindingValue → (boot : List ℕ) → Reply → Type 0
+RescuesBoth types held input a image fs boot reply = (b : Option Basis) × IsSecond image b × RescuesBy types held input a b fs boot reply
 
 -- the rescue of an input by what is found in an image
-abbrev pub RescuesFound : (held : ℕ) → List ℕ → List ℕ → Walk → List FindingValue → (boot : List ℕ) → Reply → Type 0
-RescuesFound held input image w fs boot reply =
+abbrev pub RescuesFound : Types → (held : ℕ) → List ℕ → List ℕ → Walk → List FindingValue → (boot : List ℕ) → Reply → Type 0
+RescuesFound types held input image w fs boot reply =
     (sound : ℕ → Bool) × AreMarks image w (grave fs) sound
-    × RescuesBoth held input (record { image = image; walk = w; sound = sound }) (second_image (is_mended input) image w fs) fs boot reply
+    × RescuesBoth types held input (record { image = image; walk = w; sound = sound }) (second_image (is_mended input) image w fs) fs boot reply
 
 -- the rescue of an input by the survey of an image
-abbrev pub RescuesIn : (held : ℕ) → List ℕ → List ℕ → (boot : List ℕ) → Reply → Type 0
-RescuesIn held input image boot reply =
-    (w : Walk) × (fs : List FindingValue) × IsSurvey image w fs × RescuesFound held input image w fs boot reply
+abbrev pub RescuesIn : Types → (held : ℕ) → List ℕ → List ℕ → (boot : List ℕ) → Reply → Type 0
+RescuesIn types held input image boot reply =
+    (w : Walk) × (fs : List FindingValue) × IsSurvey image w fs × RescuesFound types held input image w fs boot reply
 
 -- `adf-survey rescue` writes the volume of all that stands in an image, whose boot block and root may be overwritten, and of which the
--- input holds the first `held` blocks; and puts these boot blocks into it
-abbrev pub Rescues : (held : ℕ) → List ℕ → (boot : List ℕ) → Reply → Type 0
-Rescues held input boot reply = RescuesIn held input (opened input) boot reply
+-- input holds the first `held` blocks; and puts these boot blocks into it. Names have the letters of the image as far as these types have them
+abbrev pub Rescues : Types → (held : ℕ) → List ℕ → (boot : List ℕ) → Reply → Type 0
+Rescues types held input boot reply = RescuesIn types held input (opened input) boot reply

@@ -1,7 +1,8 @@
 -- What is done for words, once they and their path are read.
-use Rattle.std.specs.Prelude.{◌≡◌, ℕ, List}
+use Rattle.std.specs.Prelude.{◌≡◌, ℕ, Bool, List}
 use Rattle.adf_names.specs.PathTexts.{IsPathText}
 use Rattle.adf_file_words.specs.SurveyLine.{AreFew, InquiryValue, QuestionValue, cat, list, report, rescue}
+use Rattle.adf_survey_cmd.specs.Answers.{types_kept}
 use Rattle.adf_survey_cmd.specs.declared.work.Task.{Task}
 use Rattle.adf_survey_cmd.specs.declared.work.Task.TheVariants.{Show, Rescue}
 use Rattle.adf_survey_cmd.specs.declared.work.View.{View}
@@ -17,7 +18,7 @@ Shows (Cat names damaged) q = (path : List ℕ) × (q ≡ cat damaged path) × I
 -- the task is what is asked
 abbrev pub Answers : Task → QuestionValue → Type 0
 Answers (Show view) q = Shows view q
-Answers Rescue q = q ≡ rescue
+Answers (Rescue types) q = (keep_type : Bool) × (types ≡ types_kept keep_type) × (q ≡ rescue keep_type)
 
 -- the work is what is asked for, of as many blocks, if any are named
 abbrev pub Meets : Work → InquiryValue → Type 0

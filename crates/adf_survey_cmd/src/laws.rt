@@ -1,28 +1,32 @@
 // The laws of rescues that are written. Each is the contract of a function that does nothing at run time.
 
-ghost use Rattle.std.specs.Prelude.{◌≡◌, ◌≢◌, ◌<◌, ◌≤◌, ℕ, List, [], Option, length, true};
+ghost use Rattle.std.specs.Prelude.{◌≡◌, ◌≢◌, ◌<◌, ◌≤◌, ℕ, Bool, List, [], Option, length, true};
 ghost use Rattle.std.specs.List.{All};
-ghost use Rattle.adf_volume.specs.Fits.{Fits};
+ghost use Rattle.adf_volume.specs.Fits.{FitsBy};
 ghost use Rattle.adf_volume.specs.Layout.{Layout};
+ghost use Rattle.adf_volume.specs.Types.{letters_for};
+ghost use Rattle.adf_volume.specs.declared.types.Types.{Types};
 ghost use Rattle.adf_boot_blocks.specs.BootBlocks.{begins_with_dos};
 ghost use Rattle.adf_boot_blocks.specs.Writing.{HasBootOf};
 ghost use Rattle.adf_boot_blocks.specs.declared.boot.TheConstants.{BOOT_LEN};
 ghost use Rattle.adf_findings.specs.Survey.{FindingValue};
-ghost use Rattle.adf_rescue.specs.Rescue.{Basis, rescued_tree};
+ghost use Rattle.adf_rescue.specs.Rescue.{Basis, rescued_tree_by};
 ghost use Rattle.adf_runs.specs.Commands.{Reply};
 ghost use Rattle.adf_file_words.specs.SurveyLine.{asked, rescue};
 ghost use Rattle.adf_survey_cmd.specs.Answers.{SurveyAnswer};
 ghost use Rattle.adf_survey_cmd.specs.Rescues.{WritesVolume};
 ghost use Rattle.adf_survey_cmd.specs.Subject.{meant};
 
-/// The volume that a rescue writes fits the tree of all that stands. It has the boot blocks of an image that begins with `DOS`: the
-/// bytes behind the checksum, the checksum unless it is right for another type, and it is bootable if the image is.
+/// The volume that a rescue writes fits the tree of all that stands, by its letters. It has the boot blocks of an image that
+/// begins with `DOS`: the bytes behind the checksum, the checksum unless it is right for another type, and it is bootable if
+/// the image is.
 pub fn rescued_volumes()
-    ensures fits { (held : ℕ) (a : Basis) (b : Option Basis) (fs : List FindingValue) (boot : List ℕ) (reply : Reply)
-        → BOOT_LEN ≤ length boot → WritesVolume held a b fs boot reply
-        → (l : Layout) × Fits reply.output (rescued_tree held a b) l }
-    ensures boot { (blocks : Option ℕ) (input : List ℕ) (reply : Reply)
-        → SurveyAnswer (asked blocks rescue) input reply → reply.output ≢ []
+    ensures fits { (types : Types) (held : ℕ) (a : Basis) (b : Option Basis) (fs : List FindingValue) (boot : List ℕ)
+        (reply : Reply) → BOOT_LEN ≤ length boot → WritesVolume types held a b fs boot reply
+        → (l : Layout) × FitsBy (letters_for types a.image) reply.output
+        (rescued_tree_by (letters_for types a.image) held a b) l }
+    ensures boot { (blocks : Option ℕ) (keep_type : Bool) (input : List ℕ) (reply : Reply)
+        → SurveyAnswer (asked blocks (rescue keep_type)) input reply → reply.output ≢ []
         → All (λ byte. byte < 256) input → begins_with_dos (meant blocks input) ≡ true
         → HasBootOf (meant blocks input) reply.output }
 {}

@@ -5,6 +5,7 @@ ghost use Rattle.std.specs.Prelude.{Option, Some, IfOk, OnOk, is_some, option_ma
 ghost use Rattle.adf_tree.specs.Tree.{Tree};
 ghost use Rattle.adf_volume.specs.Fits.{Fits};
 ghost use Rattle.adf_volume.specs.Layout.{Layout};
+ghost use Rattle.adf_volume.specs.Types.{letters_for};
 ghost use Rattle.adf_findings.specs.Survey.{OnSurvey};
 ghost use Rattle.adf_blocks.specs.Sizes.{blocks as blocks_in};
 ghost use Rattle.adf_boot_blocks.specs.Writing.{restored};
@@ -19,13 +20,14 @@ ghost use Rattle.adf_survey_cmd.specs.Rescues.{Rescues, RescuesBoth, RescuesBy, 
 
 use crate::lost_lines::{push_lost_blocks, push_lost_headers};
 use crate::runs::push_path;
-use adf_base::NoMemory;
+use adf_base::{Letters, NoMemory};
 use adf_boot_blocks::{BOOT_LEN, restore};
 use adf_cmd::volume_of;
 use adf_drafts::Draft;
 use adf_findings::{Survey, some_survey, survey};
-use adf_rescue::{LeftOut, Rescued, Why, hung_image, is_mended, lay, open_image, rescue};
+use adf_rescue::{LeftOut, Rescued, Terms, Why, hung_image, is_mended, lay, open_image, rescue};
 use adf_runs::{Outcome, Sink, write_all};
+use adf_volume::{Types, letters_in};
 use std::alloc::{AllocError, Global};
 
 // Appends why an entry is left out.
@@ -216,23 +218,45 @@ fn refuse_with(alloc: Global, image: &[u8], refusal: Option<Outcome>, lines: &[u
     }
 }
 
+/// The types that the new volume of a rescue may have, and the number of blocks that the input holds whole.
+#[derive(Clone, Copy)]
+pub struct Scope {
+    pub types: Types,
+    pub held: usize,
+}
+
+// The letters of the new volume: those of the surveyed image, if its type may stay.
+fn letters_for(types: Types, found: &Survey<'_>) -> Letters
+    ensures { result ≡ letters_for types found.now.image }
+{
+    match types {
+        Types::Plain => Letters::Ascii,
+        Types::WithInternational => letters_in(found.image()),
+    }
+}
+
 // Prepares a rescue by what is found in the image that an input is opened as, and in a second one, if there is one. An input
 // that was mended comes with how it is refused.
 fn prepare_found(
     alloc: Global,
     found: &Survey<'_>,
     second: Option<&Survey<'_>>,
-    held: usize,
+    scope: Scope,
     refusal: Option<Outcome>,
 ) -> Result<Prepared, Outcome>
     requires { (b : Option Basis) × IsSecond (option_map (λ s. s.now.image) second) b }
     ensures { (input : List ℕ) → IsOpened input found.now.image refusal
         → OnBasis found.now.image (λ a fs. OnSecond (option_map (λ s. s.now.image) second.entry) (λ b.
-        Prepares (RescuesBy held input a b fs) result)) }
+        Prepares (RescuesBy scope.types scope.held input a b fs) result)) }
 {
     found.whole_marks();
     some_survey();
-    let Some(rescued) = rescue(alloc, found, second, held, refusal.is_some())? else {
+    let terms = Terms {
+        letters: letters_for(scope.types, found),
+        held: scope.held,
+        mended: refusal.is_some(),
+    };
+    let Some(rescued) = rescue(alloc, found, second, terms)? else {
         return Err(refuse_opened(alloc, found.image(), refusal));
     };
     let lines = rescue_lines(alloc, found, second, &rescued)?;
@@ -251,73 +275,73 @@ fn prepare_hung(
     alloc: Global,
     found: &Survey<'_>,
     hung: &[u8],
-    held: usize,
+    scope: Scope,
     refusal: Option<Outcome>,
 ) -> Result<Prepared, Outcome>
     ensures { (input : List ℕ) → IsOpened input found.now.image refusal
-        → OnBasis found.now.image (λ a fs. Prepares (RescuesBoth held input a (Some hung.now) fs) result) }
+        → OnBasis found.now.image (λ a fs. Prepares (RescuesBoth scope.types scope.held input a (Some hung.now) fs) result) }
 {
     let second = survey(alloc, hung)?;
     second.whole_marks();
-    prepare_found(alloc, found, Some(&second), held, refusal)
+    prepare_found(alloc, found, Some(&second), scope, refusal)
 }
 
 // Prepares a rescue by the image that an input is opened as.
 fn prepare_opened(
     alloc: Global,
     image: &[u8],
-    held: usize,
+    scope: Scope,
     refusal: Option<Outcome>,
 ) -> Result<Prepared, Outcome>
-    ensures { (input : List ℕ) → IsOpened input image.now refusal → Prepares (Rescues held input) result }
+    ensures { (input : List ℕ) → IsOpened input image.now refusal → Prepares (Rescues scope.types scope.held input) result }
 {
     let found = survey(alloc, image)?;
     found.whole_marks();
     match hung_image(alloc, &found, refusal.is_some())? {
-        Some(hung) => prepare_hung(alloc, &found, &hung, held, refusal),
-        None => prepare_found(alloc, &found, None, held, refusal),
+        Some(hung) => prepare_hung(alloc, &found, &hung, scope, refusal),
+        None => prepare_found(alloc, &found, None, scope, refusal),
     }
 }
 
 // Mends an input, and prepares its rescue.
-fn prepare_mended(alloc: Global, image: &mut [u8], held: usize) -> Result<Prepared, Outcome>
+fn prepare_mended(alloc: Global, image: &mut [u8], scope: Scope) -> Result<Prepared, Outcome>
     requires { is_mended image.old ≡ true }
-    ensures { Prepares (Rescues held image.old) result }
+    ensures { Prepares (Rescues scope.types scope.held image.old) result }
 {
     let refusal = refuse(alloc, image);
     open_image(image);
-    prepare_opened(alloc, image, held, Some(refusal))
+    prepare_opened(alloc, image, scope, Some(refusal))
 }
 
 // Prepares the rescue of an input, and lets that go.
-fn prepare(alloc: Global, input: Vec<u8>, held: usize) -> Result<Prepared, Outcome>
-    ensures { Prepares (Rescues held input.items) result }
+fn prepare(alloc: Global, input: Vec<u8>, scope: Scope) -> Result<Prepared, Outcome>
+    ensures { Prepares (Rescues scope.types scope.held input.items) result }
 {
     if !is_mended(&input) {
-        return prepare_opened(alloc, &input, held, None);
+        return prepare_opened(alloc, &input, scope, None);
     }
     let mut image = input;
-    prepare_mended(alloc, &mut image, held)
+    prepare_mended(alloc, &mut image, scope)
 }
 
 /// Writes the new volume of all that stands on an image, whose boot block and root may be overwritten, and of which the first
-/// `held` blocks were there whole, with what no directory leads to any more; errors get the lines of what is not in it. If
+/// `scope.held` blocks were there whole, with what no directory leads to any more; errors get the lines of what is not in it. If
 /// nothing stands, and the input is not a valid volume, errors get the line of its first fault, then these lines.
 /// The new volume gets the boot blocks. The input is let go before it is laid.
 pub fn rescue_image<W: Sink>(
     alloc: Global,
     input: Vec<u8>,
     boot: &[u8],
-    held: usize,
+    scope: Scope,
     output: &mut W,
 ) -> Outcome
     requires works { W.has_failed output.old ≡ false }
     requires boot { BOOT_LEN ≤ length boot.now }
-    ensures ends { EndsBy (Rescues held input.items boot.now) result (W.held output.old) (W.held output.new) }
+    ensures ends { EndsBy (Rescues scope.types scope.held input.items boot.now) result (W.held output.old) (W.held output.new) }
     ensures read { is_read_fault result ≡ false }
     ensures written { W.has_failed output.new ≡ is_write_fault result }
 {
-    match prepare(alloc, input, held) {
+    match prepare(alloc, input, scope) {
         Ok(prepared) => write_prepared(alloc, prepared, boot, output),
         Err(outcome) => outcome,
     }

@@ -5,7 +5,7 @@ ghost use Rattle.adf_findings.specs.OwnKind.{is_mistyped};
 ghost use Rattle.adf_findings.specs.Survey.{OnSurvey};
 ghost use Rattle.adf_runs.specs.Outcomes.{EndsBy, is_read_fault, is_write_fault};
 ghost use Rattle.adf_runs.specs.WorkFaults.{IsNoWork};
-ghost use Rattle.adf_survey_cmd.specs.Answers.{HasBadSurveyPath, QuestionAnswer, RescuesTyped, SurveyAnswer};
+ghost use Rattle.adf_survey_cmd.specs.Answers.{HasBadSurveyPath, QuestionAnswer, RescuesTyped, SurveyAnswer, types_kept};
 ghost use Rattle.adf_file_words.specs.SurveyLine.{InquiryValue, QuestionValue, question_value};
 ghost use Rattle.adf_survey_cmd.specs.Subject.{IsTyped, SubjectValue, begun_subject, subject_value};
 ghost use Rattle.adf_survey_cmd.specs.Work.{Answers, Meets, Shows};
@@ -14,7 +14,7 @@ use crate::copying::{Asked, copy_found};
 use crate::hints::{hinted, is_hard_disk};
 use crate::listing::write_list;
 use crate::reporting::write_findings;
-use crate::rescuing::rescue_image;
+use crate::rescuing::{Scope, rescue_image};
 use crate::subject::Subject;
 use adf_cmd::MOST_IMAGE_BYTES;
 use adf_file_runs::FileProgram;
@@ -22,6 +22,7 @@ use adf_file_words::{Question, SURVEY_USAGE as USAGE, parse_survey, survey_file}
 use adf_findings::{Survey, some_survey, survey};
 use adf_runs::{Outcome, Program, Sink, Source, WorkFault, read_input};
 use adf_tree::{Name, read_path};
+use adf_volume::Types;
 use std::alloc::{AllocError, Global};
 
 /// What is shown of the survey of an image.
@@ -37,7 +38,8 @@ pub enum View {
 #[derive(Drop)]
 pub enum Task {
     Show(View),
-    Rescue,
+    /// The volume may have these types.
+    Rescue(Types),
 }
 
 /// What is done with an image as it is, or as if it had so many blocks.
@@ -45,6 +47,17 @@ pub enum Task {
 pub struct Work {
     pub blocks: Option<u32>,
     pub task: Task,
+}
+
+// The types that the volume of a rescue may have.
+fn types_kept(keep_type: bool) -> Types
+    ensures { result ≡ types_kept keep_type }
+{
+    if keep_type {
+        Types::WithInternational
+    } else {
+        Types::Plain
+    }
 }
 
 // The task that is asked.
@@ -60,7 +73,7 @@ fn task_for(alloc: Global, question: Question<'_>) -> Result<Task, WorkFault>
             let names = read_path(alloc, path.as_bytes())?;
             Ok(Task::Show(View::Cat { names, damaged }))
         }
-        Question::Rescue => Ok(Task::Rescue),
+        Question::Rescue { keep_type } => Ok(Task::Rescue(types_kept(keep_type))),
     }
 }
 
@@ -166,9 +179,14 @@ impl View {
 }
 
 // Rescues what is surveyed of an input, once its image has the type that its files say, with the boot blocks that it had before.
-fn rescue_subject<W: Sink>(alloc: Global, mut subject: Subject, output: &mut W) -> Outcome
+fn rescue_subject<W: Sink>(
+    alloc: Global,
+    mut subject: Subject,
+    types: Types,
+    output: &mut W,
+) -> Outcome
     requires { W.has_failed output.old ≡ false }
-    ensures ends { EndsBy (RescuesTyped (subject_value subject)) result (W.held output.old) (W.held output.new) }
+    ensures ends { EndsBy (RescuesTyped types (subject_value subject)) result (W.held output.old) (W.held output.new) }
     ensures read { is_read_fault result ≡ false }
     ensures written { W.has_failed output.new ≡ is_write_fault result }
 {
@@ -176,7 +194,13 @@ fn rescue_subject<W: Sink>(alloc: Global, mut subject: Subject, output: &mut W) 
         return Outcome::NoMemory;
     };
     match subject.be_typed(alloc) {
-        Ok(()) => rescue_image(alloc, subject.image, &boot, subject.end as usize, output),
+        Ok(()) => {
+            let scope = Scope {
+                types,
+                held: subject.end as usize,
+            };
+            rescue_image(alloc, subject.image, &boot, scope, output)
+        }
         Err(_) => Outcome::NoMemory,
     }
 }
@@ -193,7 +217,7 @@ impl Task {
     {
         match self {
             Task::Show(view) => view.of_subject(alloc, subject, output),
-            Task::Rescue => rescue_subject(alloc, subject, output),
+            Task::Rescue(types) => rescue_subject(alloc, subject, *types, output),
         }
     }
 }

@@ -5,8 +5,9 @@ use crate::images::{Image, NOT_MOVED, built, with_bytes};
 use adf_file_runs::WithoutFiles;
 use adf_memory::{
     Contents, Date, FoundEntry, Moved, Surveyed, TableDisk, TableEntry, TableFinding,
-    TablePartition, Verdict, cause_text, check_image, check_image_types, find_entry, owners_of,
-    put_index, put_survey, read_bytes, run_in_memory,
+    TablePartition, Verdict, cause_text, check_image, check_image_types, find_entry,
+    find_entry_types, owners_of, owners_of_types, put_index, put_index_types, put_survey,
+    read_bytes, run_in_memory,
 };
 use std::alloc::Global;
 use std::mem::size_of;
@@ -193,6 +194,48 @@ fn found(alloc: Global, path: &[u8], offset: usize) -> (u8, usize, usize, [u8; 4
 #[test]
 fn a_file_is_found_and_read(rt: HostRuntime) {
     assert!(rt; found(rt.alloc(), b"c/LONG", 486) == (0, 2, 3, [0x41, 0x41, 0x41, 9]));
+}
+
+// An FFS volume with the file 0xE9, whose header is block 2 and whose data is block 3, as one of this type. The header is in the
+// slot of 0xC9, 70, in place of 30: words of the root count from byte 8 * 512, and the table begins at word 6.
+fn international(alloc: Global, dos_type: u8) -> Image {
+    let image = built(
+        alloc,
+        b"volume ffs 16\nfile 0:0:0 00000000 \\xe9\ndata 42\n",
+    );
+    let slots = 8 * 512 + 4 * 6 + 3;
+    with_bytes(
+        &image,
+        &[(3, dos_type), (slots + 4 * 30, 0), (slots + 4 * 70, 2)],
+    )
+}
+
+// The cause and the kind of such an image, and what 0xC9 leads to in its table by the letters of the kind, and by ASCII letters.
+fn found_raised(alloc: Global, dos_type: u8) -> (u8, u32, [(u8, usize); 2]) {
+    let image = international(alloc, dos_type);
+    let mut entries = [ENTRY; 1];
+    let mut contents = CONTENTS;
+    let cause = put_index_types(alloc, &image, &mut entries, &mut [9; 1], &mut contents);
+    let mut node = 9;
+    let found = find_entry_types(alloc, contents.kind, &entries, b"\\xc9", &mut node);
+    let mut plain = 9;
+    let missed = find_entry(alloc, &entries, b"\\xc9", &mut plain);
+    (cause, contents.kind, [(found, node), (missed, plain)])
+}
+
+// By ASCII letters the header is in a wrong slot, and type 4 has directory caches.
+#[test]
+fn a_name_is_found_by_the_letters_of_the_kind(rt: HostRuntime) {
+    assert!(rt; found_raised(rt.alloc(), 3) == (0, 3, [(0, 1), (1, 9)]));
+    assert!(rt; found_raised(rt.alloc(), 1) == (14, 0, [(1, 9), (1, 9)]));
+    assert!(rt; found_raised(rt.alloc(), 4) == (4, 0, [(1, 9), (1, 9)]));
+}
+
+#[test]
+fn blocks_of_a_volume_of_other_letters_have_owners(rt: HostRuntime) {
+    let mut roles = [9; 17];
+    let cause = owners_of_types(rt.alloc(), &international(rt.alloc(), 3), &mut roles);
+    assert!(rt; (cause, roles[2], roles[3], roles[8], roles[16]) == (0, 5, 7, 2, 9));
 }
 
 // The image with a bit of its root changed: 8 * 512 + 300 is in the part of zeros.

@@ -1,8 +1,9 @@
 // Rescues, of an OFS volume of 16 blocks with the file `long`, 977 bytes 0x41, and the empty file `none`. The header of `long` is
 // block 2, and its data blocks are 3, 4 and 5.
 
-use crate::images::{Image, built, with_bytes};
-use adf_memory::{RescueTold, TableLoss, rescue_volume};
+use crate::images::{Image, NOT_MOVED, built, with_bytes};
+use adf_file_runs::WithoutFiles;
+use adf_memory::{RescueTold, TableLoss, Verdict, check_image_types, rescue_volume, run_in_memory};
 use std::alloc::Global;
 use std::mem::size_of;
 
@@ -94,6 +95,67 @@ fn refused_rescues(rt: HostRuntime) {
     let nothing = rescued(rt.alloc(), &[0; 8192], 8192);
     assert!(rt; (nothing.number, nothing.told.blocks, nothing.told.block) == (2, 0, 0));
     assert!(rt; nothing.volume == [9; 8192]);
+}
+
+// An FFS volume with the empty file `\xe9`. Its slot is 30 by ASCII letters, and 70 by international ones, which hash it as
+// `\xc9`.
+const LETTERED: &[u8] = b"volume ffs 16\nfile 0:0:0 00000000 \\xe9\n";
+
+// What these words of `adf-survey` make of it as a volume of this type, whose name is then in a wrong slot by other letters.
+fn rescued_by(alloc: Global, words: &[u8], dos_type: u8) -> (u8, Image) {
+    let image = with_bytes(&built(alloc, LETTERED), &[(3, dos_type)]);
+    let mut volume = [9; 8192];
+    let mut errors = [0; 80];
+    let mut moved = NOT_MOVED;
+    let status = run_in_memory::<WithoutFiles<adf_survey_cmd::Work>>(
+        alloc,
+        words,
+        &image,
+        &mut volume,
+        &mut errors,
+        &mut moved,
+    );
+    (status, volume)
+}
+
+// The type of a volume, and whether slots 30 and 70 of its root, in block 8, lead to a header.
+fn slots(volume: &Image) -> (u8, bool, bool) {
+    (
+        volume[3],
+        volume[4_096 + 4 * 36 + 3] > 0,
+        volume[4_096 + 4 * 76 + 3] > 0,
+    )
+}
+
+// What a check that accepts types 0 to 3 tells of a volume: the cause, the type and the files.
+fn typed(alloc: Global, volume: &Image) -> (u8, u32, usize) {
+    let mut verdict = Verdict {
+        kind: 9,
+        blocks: 9,
+        used: 9,
+        free: 9,
+        dirs: 9,
+        files: 9,
+        block: 9,
+    };
+    let cause = check_image_types(alloc, volume, &mut verdict);
+    (cause, verdict.kind, verdict.files)
+}
+
+// A rescue of a volume of type 3 or 5 is one of type 1; with `--keep-type` it is one of type 3, with its letters.
+#[test]
+fn letters_are_kept(rt: HostRuntime) {
+    for dos_type in [3, 5] {
+        let (status, plain) = rescued_by(rt.alloc(), b"adf-survey\0rescue\0", dos_type);
+        assert!(rt; (status, slots(&plain)) == (0, (1, true, false)));
+        assert!(rt; typed(rt.alloc(), &plain) == (0, 1, 1));
+        let words = b"adf-survey\0rescue\0--keep-type\0";
+        let (status, kept) = rescued_by(rt.alloc(), words, dos_type);
+        assert!(rt; (status, slots(&kept)) == (0, (3, false, true)));
+        assert!(rt; typed(rt.alloc(), &kept) == (0, 3, 1));
+    }
+    let (status, same) = rescued_by(rt.alloc(), b"adf-survey\0rescue\0--keep-type\0", 1);
+    assert!(rt; (status, slots(&same)) == (0, (1, true, false)));
 }
 
 // The structs are as long as those of include/adf.h on a machine of 64 bits.

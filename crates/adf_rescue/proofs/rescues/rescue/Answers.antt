@@ -12,8 +12,9 @@ returns-clause-fits c = grind (arith, common_steps, buildable)
 
 pub returns-clause-nothing : goal.returns-clause-nothing
 returns-clause-nothing c = λ w fs sound survey marks b is.
-    c.stands_nothing.ensures w fs sound survey marks c.args.held b
-    (c.in_ok-salvage.ensures.state c.args.held c.in_ok-begun.ensures.held w fs sound survey marks b is)
+    c.stands_nothing.ensures w fs sound survey marks c.args.terms.letters c.args.terms.held b
+    (c.in_ok-salvage.ensures.state c.args.terms.letters c.args.terms.held c.in_ok-begun.ensures.letters c.in_ok-begun.ensures.held w fs sound survey
+    marks b is)
 
 pub returns-clause-none : goal.returns-clause-none
 returns-clause-none c = λ w fs survey.
@@ -21,11 +22,13 @@ returns-clause-none c = λ w fs survey.
 
 pub returns-clause-left_out : goal.returns-clause-left_out
 returns-clause-left_out c = λ w fs sound survey marks b is.
-    (c.in_ok-salvage.ensures.state c.args.held c.in_ok-begun.ensures.held w fs sound survey marks b is).left_before
+    (c.in_ok-salvage.ensures.state c.args.terms.letters c.args.terms.held c.in_ok-begun.ensures.letters c.in_ok-begun.ensures.held w fs sound survey
+    marks b is).left_before
 
 pub returns-clause-second_left_out : goal.returns-clause-second_left_out
 returns-clause-second_left_out c = λ w fs sound survey marks b is.
-    (c.in_ok-salvage.ensures.state c.args.held c.in_ok-begun.ensures.held w fs sound survey marks b is).left_out
+    (c.in_ok-salvage.ensures.state c.args.terms.letters c.args.terms.held c.in_ok-begun.ensures.letters c.in_ok-begun.ensures.held w fs sound survey
+    marks b is).left_out
 
 pub returns-in_err-salvage-clause-begun : goal.returns-in_err-salvage-clause-begun
 returns-in_err-salvage-clause-begun c = λ w fs survey.

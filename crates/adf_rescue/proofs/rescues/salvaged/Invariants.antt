@@ -1,7 +1,8 @@
-use Rattle.adf_rescue.specs.Rescue.{OnBasis, before_first, verdicts}
+use Rattle.adf_rescue.specs.Rescue.{Ground, OnBasis, before_first_by, verdicts}
 use Rattle.adf_rescue.specs.Salvage.{IsSalvage}
 use Rattle.adf_rescue.proofs.rescues.salvaged.Given as goal
 
 abbrev pub invariant-loop-before : goal.invariant-loop-before
 invariant-loop-before l = OnBasis l.survey.image (λ a _.
-    IsSalvage (before_first l.fn.begun.held a.image) (verdicts (before_first l.fn.begun.held a.image) a l.before) l.salvage)
+    let g : Ground = before_first_by l.fn.begun.draft.tree.letters l.fn.begun.held a.image in
+    IsSalvage g (verdicts g a l.before) l.salvage)

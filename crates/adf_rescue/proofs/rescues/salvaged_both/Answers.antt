@@ -1,24 +1,29 @@
-use Rattle.std.proofs.Common.{ℕ, Bool, Option, None, Some, subst, ◌∙◌}
+use Rattle.std.proofs.Common.{ℕ, Bool, Option, None, Some, ap, ◌∙◌}
+use Rattle.adf_base.specs.declared.hash.Letters.{Letters}
+use Rattle.adf_tree.specs.Tree.{Tree}
 use Rattle.adf_findings.specs.SoundMarks.{whole_in}
-use Rattle.adf_rescue.specs.Rescue.{IsSecond, Basis, before_second, first_verdicts, second_verdicts}
+use Rattle.adf_rescue.specs.Rescue.{IsSecond, Basis, before_second_by, first_verdicts_by, second_verdicts_by}
 use Rattle.adf_rescue.specs.Salvage.{IsSalvage}
-use Rattle.adf_rescue.proofs.Steps.{own_held, second_some}
+use Rattle.adf_rescue.proofs.Steps.{own_terms, second_some, with_terms}
 use Rattle.adf_rescue.proofs.rescues.salvaged_both.Goals as goal
 
 pub take_second-requires : goal.take_second-requires
 take_second-requires c = λ w fs sound survey marks.
     let a : Basis = record { image = c.args.survey.now.image; walk = w; sound = sound } in
-    own_held c.args.begun.held a c.in_ok-salvage.salvage
-    (c.in_ok-salvage.ensures c.args.begun.held c.args.survey.now.image w (first_verdicts c.args.begun.held a)
+    let letters : Letters = c.args.begun.draft.tree.letters in
+    own_terms letters c.args.begun.held a c.in_ok-salvage.salvage
+    (c.in_ok-salvage.ensures letters c.args.begun.held c.args.survey.now.image w (first_verdicts_by letters c.args.begun.held a)
     (c.in_ok-first.ensures w fs sound survey marks))
 
 pub returns-in-None-clause-state : goal.returns-in-None-clause-state
-returns-in-None-clause-state c = λ held same w fs sound survey marks b is.
+returns-in-None-clause-state c = λ letters held same_letters same w fs sound survey marks b is.
     let a : Basis = record { image = c.args.survey.now.image; walk = w; sound = sound } in
-    subst (λ h. IsSalvage (before_second h a) (second_verdicts h a b) c.in_ok-salvage.salvage) same
+    let own : Letters = c.args.begun.draft.tree.letters in
+    with_terms own letters c.args.begun.held held a b c.in_ok-salvage.salvage same_letters same
     (let none = rw c.in-None.is at is in
-    elim b as (λ b. IsSecond None b → IsSalvage (before_second c.args.begun.held a) (second_verdicts c.args.begun.held a b) c.in_ok-salvage.salvage) [
-      | None ↦ λ x. c.in_ok-salvage.ensures c.args.begun.held c.args.survey.now.image w (first_verdicts c.args.begun.held a)
+    elim b as (λ b. IsSecond None b
+    → IsSalvage (before_second_by own c.args.begun.held a) (second_verdicts_by own c.args.begun.held a b) c.in_ok-salvage.salvage) [
+      | None ↦ λ x. c.in_ok-salvage.ensures own c.args.begun.held c.args.survey.now.image w (first_verdicts_by own c.args.begun.held a)
           (c.in_ok-first.ensures w fs sound survey marks)
       | Some l ↦ λ x. absurd x
     ] none)
@@ -28,18 +33,22 @@ returns-in-None-clause-blocks c =
     let one = c.some_survey.ensures c.args.survey.now.image in
     let sound : ℕ → Bool = whole_in c.args.survey.now in
     let a : Basis = record { image = c.args.survey.now.image; walk = one.0; sound = sound } in
-    (c.in_ok-salvage.ensures c.args.begun.held c.args.survey.now.image one.0 (first_verdicts c.args.begun.held a)
+    let letters : Letters = c.args.begun.draft.tree.letters in
+    (c.in_ok-salvage.ensures letters c.args.begun.held c.args.survey.now.image one.0 (first_verdicts_by letters c.args.begun.held a)
     (c.in_ok-first.ensures one.0 one.1 sound one.2 (c.whole_marks.ensures one.0 one.1 one.2))).left
 
 pub returns-in_ok-take_second-in-Some-clause-state : goal.returns-in_ok-take_second-in-Some-clause-state
-returns-in_ok-take_second-in-Some-clause-state c = λ held same w fs sound survey marks b is.
+returns-in_ok-take_second-in-Some-clause-state c = λ letters held same_letters same w fs sound survey marks b is.
     let a : Basis = record { image = c.args.survey.now.image; walk = w; sound = sound } in
-    let begun = c.in_ok-salvage.ensures c.args.begun.held c.args.survey.now.image w (first_verdicts c.args.begun.held a)
+    let own : Letters = c.args.begun.draft.tree.letters in
+    let before = c.in_ok-salvage.salvage in
+    let begun = c.in_ok-salvage.ensures own c.args.begun.held c.args.survey.now.image w (first_verdicts_by own c.args.begun.held a)
     (c.in_ok-first.ensures w fs sound survey marks) in
-    subst (λ h. IsSalvage (before_second h a) (second_verdicts h a b) c.take_second.new.salvage) (begun.held ∙ same)
+    with_terms before.draft.tree.letters letters before.held held a b c.take_second.new.salvage
+    (ap (λ (t : Tree). t.letters) begun.tree ∙ same_letters) (begun.held ∙ same)
     (second_some c.in-Some.second.now.image
-    (λ (x : Option Basis). let held = c.in_ok-salvage.salvage.held in
-    IsSalvage (before_second held a) (second_verdicts held a x) c.take_second.new.salvage)
+    (λ (x : Option Basis). IsSalvage (before_second_by before.draft.tree.letters before.held a)
+    (second_verdicts_by before.draft.tree.letters before.held a x) c.take_second.new.salvage)
     (c.in_ok-take_second-in-Some.ensures w fs sound survey marks) b (rw c.in-Some.is at is))
 
 pub returns-in_ok-take_second-in-Some-clause-blocks : goal.returns-in_ok-take_second-in-Some-clause-blocks

@@ -1,7 +1,7 @@
 use Rattle.std.proofs.Common.{◌∙◌, ap, length, sym, arith}
 use Rattle.std.proofs.lemmas.Bool.{eq-eqb, eqb-true}
 use Rattle.std.proofs.lemmas.Grind.{common_steps}
-use Rattle.adf_rescue.specs.Rescue.{Basis, before_second, second_verdicts}
+use Rattle.adf_rescue.specs.Rescue.{Basis, before_second_by, second_verdicts_by}
 use Rattle.adf_rescue.proofs.Steps.{none_added}
 use Rattle.adf_rescue.proofs.rescues.stands_nothing.Goals as goal
 
@@ -9,11 +9,12 @@ pub returns-then-not-has_fault : goal.returns-then-not-has_fault
 returns-then-not-has_fault c = grind (arith, common_steps)
 
 pub returns : goal.returns
-returns c = λ w fs sound survey marks held b is.
+returns c = λ w fs sound survey marks letters held b is.
     let a : Basis = record { image = c.args.survey.now.image; walk = w; sound = sound } in (
       (λ t. (
         (c.has_fault.ensures w fs survey).0 c.if-not-has_fault.false,
-        none_added (before_second held a) (second_verdicts held a b) c.args.salvage.now is (sym c.len.ensures ∙ eqb-true c.len.result 0 t),
+        none_added (before_second_by letters held a) (second_verdicts_by letters held a b) c.args.salvage.now is
+            (sym c.len.ensures ∙ eqb-true c.len.result 0 t),
       )),
       (λ s. eq-eqb c.len.result 0 (c.len.ensures ∙ (is.nodes ∙ ap length s.1))),
     )

@@ -1,4 +1,4 @@
-use Rattle.std.proofs.Common.{arith, ◌≡◌, ◌≢◌, ◌∙◌, ◌<◌, ◌*◌, ◌-◌, ℕ, List, [], Option, None, Some, ap, length, replicate, subst, sym, take, true}
+use Rattle.std.proofs.Common.{arith, ◌≡◌, ◌≢◌, ◌∙◌, ◌<◌, ◌*◌, ◌-◌, ℕ, Bool, List, [], Option, None, Some, ap, length, replicate, subst, sym, take, true}
 use Rattle.std.specs.List.{All}
 use Rattle.std.proofs.lemmas.List.Elements.{All-append, All-get_or, All-replicate, All-take}
 use Rattle.adf_boot_blocks.proofs.CarrySums.{AreBytes}
@@ -6,7 +6,7 @@ use Rattle.adf_boot_blocks.specs.BootBlocks.{begins_with_dos}
 use Rattle.adf_boot_blocks.specs.Writing.{HasBootOf}
 use Rattle.adf_runs.specs.Commands.{Reply}
 use Rattle.adf_file_words.specs.SurveyLine.{asked, rescue}
-use Rattle.adf_survey_cmd.specs.Answers.{SurveyAnswer}
+use Rattle.adf_survey_cmd.specs.Answers.{SurveyAnswer, types_kept}
 use Rattle.adf_survey_cmd.specs.Subject.{meant, subject}
 use Rattle.adf_survey_cmd.proofs.HintedAnswers.{hinted_output}
 use Rattle.adf_survey_cmd.proofs.KeptBoots.{keeps_boot, written_fits}
@@ -23,18 +23,19 @@ are_bytes : (bs : List ℕ) → All (λ byte. byte < 256) bs → AreBytes bs
 are_bytes bs all k lt = All-get_or (λ byte. byte < 256) bs k 0 lt all
 
 pub returns-clause-fits : goal.returns-clause-fits
-returns-clause-fits c held a b fs boot reply whole writes = written_fits held a b fs boot reply whole writes
+returns-clause-fits c types held a b fs boot reply whole writes = written_fits types held a b fs boot reply whole writes
 
 -- the output is the same without the hint
-boot_kept : (blocks : Option ℕ) (input : List ℕ) (reply : Reply) → SurveyAnswer (asked blocks rescue) input reply → reply.output ≢ []
+boot_kept : (blocks : Option ℕ) (keep_type : Bool) (input : List ℕ) (reply : Reply) → SurveyAnswer (asked blocks (rescue keep_type)) input reply
+    → reply.output ≢ []
     → All (λ byte. byte < 256) (subject blocks input).image → begins_with_dos (subject blocks input).image ≡ true
     → HasBootOf (subject blocks input).image reply.output
-boot_kept blocks input reply (told, answer, is) some all begins =
+boot_kept blocks keep_type input reply (told, answer, is) some all begins =
     let same : reply.output ≡ told.output = ap (λ (r : Reply). r.output) is ∙ hinted_output input told in
     let s = subject blocks input in
-    subst (HasBootOf s.image) (sym same) (keeps_boot s told answer (λ none. some (same ∙ none)) (are_bytes s.image all) begins)
+    subst (HasBootOf s.image) (sym same) (keeps_boot (types_kept keep_type) s told answer (λ none. some (same ∙ none)) (are_bytes s.image all) begins)
 
 pub returns-clause-boot : goal.returns-clause-boot
-returns-clause-boot c None input reply answer some all begins = boot_kept None input reply answer some all begins
-returns-clause-boot c (Some n) input reply answer some all begins =
-    boot_kept (Some n) input reply answer some (meant_bytes (Some n) input all) begins
+returns-clause-boot c None keep_type input reply answer some all begins = boot_kept None keep_type input reply answer some all begins
+returns-clause-boot c (Some n) keep_type input reply answer some all begins =
+    boot_kept (Some n) keep_type input reply answer some (meant_bytes (Some n) input all) begins

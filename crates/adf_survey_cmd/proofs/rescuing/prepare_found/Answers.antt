@@ -3,9 +3,10 @@ use Rattle.std.proofs.lemmas.Grind.{common_steps}
 use Rattle.adf_tree.specs.Tree.{Tree}
 use Rattle.adf_volume.specs.Fits.{Fits}
 use Rattle.adf_volume.specs.Layout.{Layout}
+use Rattle.adf_volume.specs.Types.{letters_for}
 use Rattle.adf_findings.specs.SoundMarks.{whole_in}
 use Rattle.adf_rescue.specs.Opened.{is_mended}
-use Rattle.adf_rescue.specs.Rescue.{Basis, StandsNothing}
+use Rattle.adf_rescue.specs.Rescue.{Basis, StandsNothingBy}
 use Rattle.adf_rescue.proofs.Steps.{unread_fault}
 use Rattle.adf_survey_cmd.specs.Prepared.{IsOpened, IsRefusedWith}
 use Rattle.adf_survey_cmd.specs.declared.rescuing.Prepared.{Prepared}
@@ -29,7 +30,7 @@ pub returns-in_default : goal.returns-in_default
 returns-in_default c = λ input opened w fs sound here marks b second.
     let a : Basis = record { image = c.args.found.now.image; walk = w; sound = sound } in
     let nothing : w ≡ [] = grind (arith, common_steps) in
-    refusal_prepared (RescuesBy c.args.held input a b fs) input c.refuse_opened.result (λ boot reply refuses. inl (nothing, refuses))
+    refusal_prepared (RescuesBy c.args.scope.types c.args.scope.held input a b fs) input c.refuse_opened.result (λ boot reply refuses. inl (nothing, refuses))
     (c.refuse_opened.ensures input (subst (λ (i : List ℕ). IsOpened input i c.args.refusal) (sym c.image.ensures) opened))
 
 pub returns-in_err-lines : goal.returns-in_err-lines
@@ -55,12 +56,14 @@ returns-then-rescued c = λ input opened w fs sound here marks b second.
     let same = c.is_some.ensures ∙ mended_so input _ _ opened in
     let read : w ≢ [] = λ none. let clash : true ≡ false = ap is_some (sym is) ∙ (kept.none w fs here).1 none in cc in
     let lines = c.in_ok-lines.ensures w fs here b second
-    ∙ same_lines c.args.found.now.image w b _ _ _ _ _ _ _ _ (if_some _ _ _ is (kept.left_out w fs sound here marks b second))
-    (if_some _ _ _ is (kept.second_left_out w fs sound here marks b second)) (if_some _ _ _ is (kept.lost_headers w fs here b second))
+    ∙ same_lines c.args.found.now.image w b _ _ _ _ _ _ _ _ (rw c.letters_for.ensures at (if_some _ _ _ is (kept.left_out w fs sound here marks b second)))
+    (rw c.letters_for.ensures at (if_some _ _ _ is (kept.second_left_out w fs sound here marks b second)))
+    (if_some _ _ _ is (kept.lost_headers w fs here b second))
     (if_some _ _ _ is (kept.lost_blocks w fs here b second)) in
-    let nothing = if_some _ _ _ is (kept.nothing w fs sound here marks b second) in
-    let stands = subst (StandsNothing c.args.held a b fs) same (nothing.0 c.if-rescued.true) in
-    refused_with_prepared (RescuesBy c.args.held input a b fs) (rescue_text c.args.held a b fs) input c.refuse_with.result
+    let nothing = rw c.letters_for.ensures at (if_some _ _ _ is (kept.nothing w fs sound here marks b second)) in
+    let stands = subst (StandsNothingBy (letters_for c.args.scope.types c.args.found.now.image) c.args.scope.held a b fs) same (nothing.0 c.if-rescued.true) in
+    refused_with_prepared (RescuesBy c.args.scope.types c.args.scope.held input a b fs) (rescue_text c.args.scope.types c.args.scope.held a b fs)
+    input c.refuse_with.result
     (λ boot reply refuses. inr (read, inl (stands, refuses)))
     (subst (λ (text : List ℕ). IsRefusedWith text input c.refuse_with.result) (c.deref.ensures.value ∙ lines)
     (c.refuse_with.ensures input (subst (λ (i : List ℕ). IsOpened input i c.args.refusal) (sym c.image-then-rescued.ensures) opened)))
@@ -73,12 +76,15 @@ returns c = λ input opened w fs sound here marks b second.
     let same = c.is_some.ensures ∙ mended_so input _ _ opened in
     let read : w ≢ [] = λ none. let clash : true ≡ false = ap is_some (sym is) ∙ (kept.none w fs here).1 none in cc in
     let lines = c.in_ok-lines.ensures w fs here b second
-    ∙ same_lines c.args.found.now.image w b _ _ _ _ _ _ _ _ (if_some _ _ _ is (kept.left_out w fs sound here marks b second))
-    (if_some _ _ _ is (kept.second_left_out w fs sound here marks b second)) (if_some _ _ _ is (kept.lost_headers w fs here b second))
+    ∙ same_lines c.args.found.now.image w b _ _ _ _ _ _ _ _ (rw c.letters_for.ensures at (if_some _ _ _ is (kept.left_out w fs sound here marks b second)))
+    (rw c.letters_for.ensures at (if_some _ _ _ is (kept.second_left_out w fs sound here marks b second)))
+    (if_some _ _ _ is (kept.lost_headers w fs here b second))
     (if_some _ _ _ is (kept.lost_blocks w fs here b second)) in
-    let nothing = if_some _ _ _ is (kept.nothing w fs sound here marks b second) in
-    let some : ¬ StandsNothing c.args.held a b fs (is_mended input) = λ stands.
-    let told = nothing.1 (subst (StandsNothing c.args.held a b fs) (sym same) stands) in let not = c.if-rescued.false in absurd cc in
+    let nothing = rw c.letters_for.ensures at (if_some _ _ _ is (kept.nothing w fs sound here marks b second)) in
+    let some : ¬ StandsNothingBy (letters_for c.args.scope.types c.args.found.now.image) c.args.scope.held a b fs (is_mended input) = λ stands.
+    let told = nothing.1 (subst (StandsNothingBy (letters_for c.args.scope.types c.args.found.now.image) c.args.scope.held a b fs) (sym same) stands)
+    in let not = c.if-rescued.false in absurd cc in
     let p : Prepared = record { draft = c.in-Some.rescued.draft; blocks = c.in-Some.rescued.blocks; lines = c.in_ok-lines.lines } in
-    volume_prepared c.args.held input a b fs p (if_some _ _ _ is kept.fits) (if_some _ _ _ is (kept.tree w fs sound here marks b second))
+    volume_prepared c.args.scope.types c.args.scope.held input a b fs p (if_some _ _ _ is kept.fits)
+    (rw c.letters_for.ensures at (if_some _ _ _ is (kept.tree w fs sound here marks b second)))
     (if_some _ _ _ is kept.size) lines read some

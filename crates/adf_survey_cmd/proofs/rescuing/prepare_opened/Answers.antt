@@ -35,8 +35,9 @@ returns-in-Some c = λ input opened.
     let second : second_image (is_mended input) v.image w fs ≡ Some c.deref.result.now =
     subst (λ mended. second_image mended v.image w fs ≡ Some c.deref.result.now) so
     (one_hung c.is_some.result v.image w fs c.deref.result.now lost hung) in
-    prepares_weaker (RescuesBoth c.args.held input a (Some c.deref.result.now) fs) (Rescues c.args.held input) _
-    (λ boot reply by. found_answers c.args.held input v.image w fs sound (Some c.deref.result.now) boot reply
+    prepares_weaker (RescuesBoth c.args.scope.types c.args.scope.held input a (Some c.deref.result.now) fs)
+    (Rescues c.args.scope.types c.args.scope.held input) _
+    (λ boot reply by. found_answers c.args.scope.types c.args.scope.held input v.image w fs sound (Some c.deref.result.now) boot reply
     (same ∙ opened_so input _ _ opened) here marks second by)
     (c.prepare_hung.ensures input (subst (λ (image : List ℕ). IsOpened input image c.args.refusal) (sym same) opened) w fs sound here marks)
 
@@ -54,8 +55,9 @@ returns c = λ input opened.
     let none : second_image (is_mended input) v.image w fs ≡ None =
     subst (λ mended. second_image mended v.image w fs ≡ None) so
     (none_hung c.is_some.result v.image w fs ((c.in_ok-hung.ensures.none w fs here).0 (ap is_some c.in-None.is))) in
-    prepares_weaker (RescuesBy c.args.held input a None fs) (Rescues c.args.held input) _
-    (λ boot reply by. found_answers c.args.held input v.image w fs sound None boot reply (same ∙ opened_so input _ _ opened) here marks none (None, tt, by))
+    prepares_weaker (RescuesBy c.args.scope.types c.args.scope.held input a None fs) (Rescues c.args.scope.types c.args.scope.held input) _
+    (λ boot reply by. found_answers c.args.scope.types c.args.scope.held input v.image w fs sound None boot reply (same ∙ opened_so input _ _ opened)
+    here marks none (None, tt, by))
     (c.prepare_found.ensures input (subst (λ (image : List ℕ). IsOpened input image c.args.refusal) (sym same) opened) w fs sound here marks None tt)
 
 pub returns-in_err-found : goal.returns-in_err-found

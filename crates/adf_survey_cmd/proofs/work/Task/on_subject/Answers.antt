@@ -1,6 +1,5 @@
-use Rattle.std.proofs.Common.{◌≡◌, subst, sym}
+use Rattle.std.proofs.Common.{subst, sym}
 use Rattle.adf_runs.proofs.Endings.{ends_weaker}
-use Rattle.adf_file_words.specs.SurveyLine.{rescue}
 use Rattle.adf_survey_cmd.specs.Answers.{QuestionAnswer, RescuesTyped}
 use Rattle.adf_survey_cmd.specs.Subject.{subject_value}
 use Rattle.adf_survey_cmd.specs.Work.{Answers}
@@ -9,6 +8,7 @@ use Rattle.adf_survey_cmd.proofs.work.Task.on_subject.Goals as goal
 pub returns-in-Rescue-clause-ends : goal.returns-in-Rescue-clause-ends
 returns-in-Rescue-clause-ends g c = λ q answers.
     let s = subject_value c.args.subject in
-    let asks : q ≡ rescue = subst (λ task. Answers task q) c.in-Rescue.is answers in
-    ends_weaker (RescuesTyped s) (QuestionAnswer q s) _ _ _
-    (λ reply told. subst (λ q. QuestionAnswer q s reply) (sym asks) told) c.rescue_subject.ensures.ends
+    let (keep_type, same, asks) = subst (λ task. Answers task q) c.in-Rescue.is answers in
+    ends_weaker (RescuesTyped _ s) (QuestionAnswer q s) _ _ _
+    (λ reply told. subst (λ q. QuestionAnswer q s reply) (sym asks) (subst (λ types. RescuesTyped types s reply) same told))
+    c.rescue_subject.ensures.ends

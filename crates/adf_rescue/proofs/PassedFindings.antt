@@ -1,0 +1,78 @@
+-- Surveys with no finding but that of an accepted type, which concerns no part: each entry is sound.
+-- Letters: w the walk of the survey, fs its findings; f a finding; r, q roles; n a node, h the block of its header; c a cause.
+use Rattle.std.proofs.Common.{◌≡◌, ℕ, List, [], ◌∷◌, ◌++◌, inl, inr, refl, sym, ap, subst, ◌∙◌, Bool, true, false, cond, Option, Some, None}
+use Rattle.adf_blocks.specs.declared.cause.Cause.{Cause}
+use Rattle.adf_blocks.specs.Forms.{first_cause}
+use Rattle.adf_volume.specs.Start.{start_form}
+use Rattle.adf_volume.specs.Lists.{In}
+use Rattle.adf_volume.specs.Walk.{Role, Has, HeadAt, Walk}
+use Rattle.adf_volume.specs.declared.types.Types.{Types}
+use Rattle.adf_volume.specs.declared.types.Types.TheVariants.{Plain, WithInternational}
+use Rattle.adf_volume.proofs.Gathered.{head_block}
+use Rattle.adf_volume.proofs.Lists.{in_left}
+use Rattle.adf_findings.specs.Files.{grave}
+use Rattle.adf_findings.specs.Found.{owns}
+use Rattle.adf_findings.specs.Sound.{IsOfItsKind, IsSound, says_data_of}
+use Rattle.adf_findings.specs.Survey.{FindingValue, IsSurvey, finding}
+use Rattle.adf_findings.specs.Survey.IsSurvey.{read, unread}
+use Rattle.adf_findings.specs.Types.{is_passed, passed, passed_of}
+use Rattle.adf_findings.proofs.OneSurvey.{gathered}
+use Rattle.adf_findings.proofs.SoundEntries.{skipped_reported}
+use Rattle.adf_findings.proofs.SoundMarks.{is_alone}
+
+-- the finding of a type concerns no part, and is grave
+
+one_part : (b : Bool) (c : Cause) (f : FindingValue) → In (cond b (finding None 0 c ∷ []) []) f → f.part ≡ None
+one_part true c f (inl e) = ap (λ g. g.part) (sym e)
+one_part true c f (inr none) = absurd none
+one_part false c f none = absurd none
+
+cause_part : (o : Option Cause) (f : FindingValue) → In (passed_of WithInternational o) f → f.part ≡ None
+cause_part None f none = absurd none
+cause_part (Some c) f i = one_part (is_passed WithInternational c) c f i
+
+no_part : (types : Types) (image : List ℕ) (f : FindingValue) → In (passed types image) f → f.part ≡ None
+no_part Plain image f none = absurd none
+no_part WithInternational image f i = cause_part (first_cause (start_form image)) f i
+
+one_grave : (b : Bool) (c : Cause) → (let fs : List FindingValue = cond b (finding None 0 c ∷ []) [] in grave fs ≡ fs)
+one_grave true c = refl
+one_grave false c = refl
+
+cause_grave : (o : Option Cause) → grave (passed_of WithInternational o) ≡ passed_of WithInternational o
+cause_grave None = refl
+cause_grave (Some c) = one_grave (is_passed WithInternational c) c
+
+pub passed_grave : (types : Types) (image : List ℕ) → grave (passed types image) ≡ passed types image
+passed_grave Plain image = refl
+passed_grave WithInternational image = cause_grave (first_cause (start_form image))
+
+-- so it concerns no entry
+
+none_over : (over : Walk) → ((r : Role) (b : ℕ) → Has over r b → ⊥) → over ≡ []
+none_over [] none = refl
+none_over (x ∷ over) none = absurd (none x.0 x.1 (inl (refl, refl)))
+
+none_of : (types : Types) (image : List ℕ) (fs : List FindingValue) (f : FindingValue) (r : Role) → fs ≡ passed types image → In fs f → f.part ≡ Some r
+    → ⊥
+none_of types image fs f r clean i is =
+    let none = no_part types image f (subst (λ gs. In gs f) clean i) in
+    let clash : Some r ≡ None = sym is ∙ none in cc
+
+pub typed_sound : (types : Types) (image : List ℕ) (w : Walk) (fs : List FindingValue) (n h : ℕ) → IsSurvey image w fs → fs ≡ passed types image
+    → IsOfItsKind image w → HeadAt w n h → IsSound image w fs n h
+typed_sound types image w fs n h (unread f) clean own g = absurd g.has
+typed_sound types image w fs n h (read {s = s} {bits = bits} v d t) clean own g =
+    let none : (f : FindingValue) (r : Role) → In (s.findings ++ bits) f → f.part ≡ Some r → ⊥ =
+    (λ f r i is. none_of types image (s.findings ++ bits) f r clean i is) in
+    let over : s.skipped ≡ [] =
+    none_over s.skipped (λ r b k. let x = skipped_reported image v r b k in none x.0 r (in_left s.findings bits x.0 x.1) x.2) in
+    record {
+      header = g;
+      unreported = (λ f q i z same. none f q i z);
+      exts = (λ k f q i z same. none f q i z);
+      datas = (λ k f q i z same. none f q i z);
+      chains = (λ f m t j i z. absurd (none f _ i z));
+      alone = (λ ffs k b has q a i ask named. is_alone image v d n k b has (ap (λ over. owns over b) over) q a i ask named);
+      own = (λ ffs k b has. ap (λ h. says_data_of image h k b) (sym (head_block image (gathered image v) g)) ∙ own ffs n k b has);
+    }
