@@ -1,6 +1,8 @@
 -- From outcomes to answers.
-use Rattle.std.proofs.Common.{◌≡◌, ap, inl, inr, ℕ, Bool, false, List, [], Option, Some, refl, sym, subst, arith, string_bytes}
+use Rattle.std.proofs.Common.{◌≡◌, ◌∙◌, ap, inl, inr, ℕ, Bool, false, List, [], Option, None, Some, refl, sym, subst, arith, string_bytes}
+use Rattle.std.specs.Prelude.{codes, option_map}
 use Rattle.std.proofs.lemmas.Grind.{common_steps}
+use Rattle.adf_base.specs.declared.hash.Letters.{Letters}
 use Rattle.adf_base.specs.declared.hash.Letters.TheVariants.{Ascii}
 use Rattle.adf_fields.proofs.DateTexts.{date_of, date_of_is}
 use Rattle.adf_names.specs.PathTexts.{IsPathText}
@@ -9,30 +11,41 @@ use Rattle.adf_names.specs.declared.kind.Kind.{Kind}
 use Rattle.adf_blocks.specs.Sizes.{blocks}
 use Rattle.adf_volume.specs.Fits.{Fits, FitsBy}
 use Rattle.adf_volume.specs.Layout.{Layout}
-use Rattle.adf_volume.specs.Walk.{FirstFault}
+use Rattle.adf_volume.specs.Walk.{FirstFaultBy}
 use Rattle.adf_build.specs.Laid.{IsLaid, volume}
 use Rattle.adf_build.specs.Plan.{planned}
 use Rattle.adf_build.proofs.WholeVolume.{fits_plain}
 use Rattle.adf_build.specs.Building.{IsBuildable}
 use Rattle.adf_check.specs.Pieces.{bytes_of}
+use Rattle.adf_volume.specs.Counts.{counts_of}
+use Rattle.adf_volume.specs.Types.{letters_for}
+use Rattle.adf_volume.specs.declared.counts.Counts.{Counts}
 use Rattle.adf_volume.specs.declared.fault.Fault.{Fault}
-use Rattle.adf_cmd.specs.Answers.{Answer, BuildsOrIsFull, Copies, IsBuilt, RefusesImage, contents_at}
+use Rattle.adf_volume.specs.declared.types.Types.{Types}
+use Rattle.adf_cmd.specs.Answers.{Answer, BuildsOrIsFull, Checks, Copies, IsBuilt, RefusesImage, contents_at}
 use Rattle.adf_runs.specs.Commands.{Reply, on_errors, on_output}
-use Rattle.adf_words.specs.CommandLine.{build, cat, check, convert, list}
+use Rattle.adf_words.specs.CommandLine.{build, cat, convert, list}
 use Rattle.adf_manifest.specs.Manifest.{ExplainsFault, IsManifest}
 use Rattle.adf_runs.specs.Outcomes.{EndsBy}
 use Rattle.adf_cmd.specs.Refusals.{IsFaultOutcome, IsRefusedImage}
-use Rattle.adf_texts.specs.Lines.{fault_line}
+use Rattle.adf_texts.specs.Lines.{fault_line, ok_line_by}
 use Rattle.adf_texts.specs.VolumeLines.{volume_lines}
 use Rattle.adf_manifest.specs.declared.manifest.ManifestFault.{ManifestFault}
 use Rattle.adf_runs.specs.declared.outcome.Outcome.{Outcome, TheVariants.Refused, TheVariants.NoMemory}
 use Rattle.adf_runs.proofs.Endings.{ends_weaker}
 use Rattle.adf_runs.proofs.PendingText.{appends_nil}
 
--- the line of the first fault of an image answers `check`
-pub refused_answer : (image line : List ℕ) (f : Fault) → FirstFault image f.block f.cause → line ≡ fault_line f
-    → Answer check image (on_output 1 line)
-refused_answer image line f first e = inr (f, first, ap (on_output 1) e)
+-- the line of the first fault of an image answers a check
+pub refused_answer : (types : Types) (image line : List ℕ) (f : Fault) → FirstFaultBy (letters_for types image) image f.block f.cause
+    → line ≡ fault_line f → Checks types image (on_output 1 line)
+refused_answer types image line f first e = inr (f, first, ap (on_output 1) e)
+
+-- so does the line of the numbers of a tree and a layout that fit it
+pub accepted_answer : (types : Types) (image line : List ℕ) (t : Tree) (l : Layout) {letters : Letters} {n : Counts}
+    → FitsBy (letters_for types image) image t l → letters ≡ t.letters → n ≡ counts_of image t l → line ≡ ok_line_by letters n
+    → Checks types image (on_output 0 line)
+accepted_answer types image line t l fits by counted e =
+    inl (t, l, fits, ap (on_output 0) (e ∙ (λ i. ok_line_by ((by ∙ fits.letters) i) (counted i))))
 
 -- what is said of a refused image is one of the answers that refuse it so
 pub refused_image_ends : (w : Outcome) (image : List ℕ) (answers : Reply → Type 0) (o : Option (List ℕ))
@@ -82,6 +95,14 @@ file_at t names node bytes e f = grind (arith, common_steps)
 pub file_copied : (t : Tree) (names : List (List ℕ)) (node : ℕ) (bytes : List ℕ) → Some node ≡ find t.entries names
     → Some bytes ≡ bytes_of (entry t.entries node) → Copies (contents_at t names) (on_output 0 bytes)
 file_copied t names node bytes e f = subst (λ found. Copies found (on_output 0 bytes)) (sym (file_at t names node bytes e f)) refl
+
+-- what its path leads to is no file
+pub not_copied : (t : Tree) (names : List (List ℕ)) (node : ℕ) → Some node ≡ find t.entries names
+    → ◌≡◌ {A = Option (List ℕ)} None (bytes_of (entry t.entries node))
+    → Copies (contents_at t names) (on_errors 1 (codes "not a file\n"))
+not_copied t names node e f =
+    let found : contents_at t names ≡ Some None = ap (option_map (λ n. bytes_of (entry t.entries n))) (sym e) ∙ ap Some (sym f) in
+    subst (λ x. Copies x (on_errors 1 (codes "not a file\n"))) (sym found) refl
 
 -- what copies what a path leads to answers the request for it
 pub copy_ends : (w : Outcome) (path : List ℕ) (names : List (List ℕ)) (image : List ℕ) (t : Tree) (l : Layout) (o o' : Option (List ℕ))

@@ -1,20 +1,25 @@
 -- What is answered to the front of an input that is longer than the limit is answered to the whole of it.
-use Rattle.std.proofs.Common.{◌≡◌, ◌≢◌, ◌<◌, ◌+◌, ◌*◌, ◌∙◌, inl, inr, ℕ, List, Option, Some, None, IfSome, refl, subst, arith}
+use Rattle.std.proofs.Common.{◌≡◌, ◌≢◌, ◌<◌, ◌+◌, ◌*◌, ◌∙◌, inl, inr, ℕ, List, Option, Some, None, IfSome, refl, subst, sym, arith}
 use Rattle.std.proofs.Common.{length, take, length-take}
 use Rattle.std.proofs.lemmas.Bool.{cases_lt}
 use Rattle.std.proofs.lemmas.List.{take_all}
 use Rattle.std.proofs.lemmas.Grind.{common_steps}
+use Rattle.adf_base.specs.declared.hash.Letters.{Letters}
+use Rattle.adf_base.specs.declared.hash.Letters.TheVariants.{Ascii}
 use Rattle.adf_blocks.specs.declared.layout.TheConstants.{MOST_BLOCKS}
 use Rattle.adf_blocks.specs.declared.cause.Cause.TheVariants.{BadSize}
 use Rattle.adf_volume.specs.Demands.{IsSize}
-use Rattle.adf_volume.specs.Walk.{FirstFault}
+use Rattle.adf_volume.specs.Walk.{FirstFaultBy}
 use Rattle.adf_volume.specs.Walk.FirstFaultBy.{at_boot}
 use Rattle.adf_volume.proofs.OneFault.{one_fault}
 use Rattle.adf_volume.proofs.Sizes.{size_high}
+use Rattle.adf_volume.specs.Types.{letters_for}
 use Rattle.adf_volume.specs.declared.fault.Fault.{Fault}
+use Rattle.adf_volume.specs.declared.types.Types.{Types}
+use Rattle.adf_volume.specs.declared.types.Types.TheVariants.{Plain}
 use Rattle.adf_manifest.specs.Manifest.{ExplainsKind}
 use Rattle.adf_manifest.specs.declared.manifest.ManifestKind.{ManifestKind, TheVariants.NoMemory as ManifestNoMemory, TheVariants.TooLong}
-use Rattle.adf_cmd.specs.Answers.{Answer, limit_of}
+use Rattle.adf_cmd.specs.Answers.{Answer, Checks, limit_of}
 use Rattle.adf_runs.specs.Commands.{Reply}
 use Rattle.adf_words.specs.CommandLine.{RequestValue, build, cat, check}
 use Rattle.adf_cmd.specs.declared.checking.CheckAnswer.{CheckAnswer}
@@ -28,13 +33,23 @@ AnswersBoth r image bytes = (reply : Reply) → Answer r image reply → Answer 
 pub too_large : (image : List ℕ) → 512 * MOST_BLOCKS < length image → IsSize image → ⊥
 too_large image h size = grind (arith, common_steps, size_high)
 
-bad_size : (image : List ℕ) → 512 * MOST_BLOCKS < length image → FirstFault image 0 BadSize
-bad_size image h = at_boot (inl (too_large image h, refl, refl))
+bad_size : (letters : Letters) (image : List ℕ) → 512 * MOST_BLOCKS < length image → FirstFaultBy letters image 0 BadSize
+bad_size letters image h = at_boot (inl (too_large image h, refl, refl))
 
--- the first fault of the front of a long image is that of the whole
-pub long_fault : (image bytes : List ℕ) (f : Fault) → 512 * MOST_BLOCKS < length image → 512 * MOST_BLOCKS < length bytes
-    → FirstFault image f.block f.cause → FirstFault bytes f.block f.cause
-long_fault image bytes f front long first = grind (arith, common_steps, one_fault, bad_size)
+-- the first fault of the front of a long image is that of the whole, whatever the letters of either
+pub long_fault : (letters others : Letters) (image bytes : List ℕ) (f : Fault) → 512 * MOST_BLOCKS < length image
+    → 512 * MOST_BLOCKS < length bytes → FirstFaultBy letters image f.block f.cause → FirstFaultBy others bytes f.block f.cause
+long_fault letters others image bytes f front long first =
+    let same = one_fault image f.block f.cause 0 BadSize first (bad_size letters image front) in
+    subst (λ b. FirstFaultBy others bytes b f.cause) (sym same.0)
+    (subst (λ c. FirstFaultBy others bytes 0 c) (sym same.1) (bad_size others bytes long))
+
+-- and so is what a check answers
+long_check : (types : Types) (image bytes : List ℕ) → 512 * MOST_BLOCKS < length image → 512 * MOST_BLOCKS < length bytes → (reply : Reply)
+    → Checks types image reply → Checks types bytes reply
+long_check types image bytes a b reply (inl (t, l, fits, e)) = absurd (too_large image a fits.boots.0)
+long_check types image bytes a b reply (inr (f, first, e)) =
+    inr (f, long_fault (letters_for types image) (letters_for types bytes) image bytes f a b first, e)
 
 -- a fault of the front of a long manifest is one of the whole
 long_kind : (kind : ManifestKind) (line : ℕ) (image bytes : List ℕ) → 16777216 < length image → 16777216 < length bytes
@@ -46,22 +61,23 @@ long_kind _ line image bytes a b ne h = absurd (omega (arith, h.0))
 pub long_answers : (r : RequestValue) (image bytes : List ℕ) → limit_of r < length image → limit_of r < length bytes → AnswersBoth r image bytes
 long_answers (cat path) image bytes a b reply (inl bad) = inl bad
 long_answers (cat path) image bytes a b reply (inr (inl (names, text, t, l, fits, copies))) = absurd (too_large image a fits.boots.0)
-long_answers (cat path) image bytes a b reply (inr (inr (read, h))) = inr (inr (read, (h.0, long_fault image bytes h.0 a b h.1, h.2)))
+long_answers (cat path) image bytes a b reply (inr (inr (read, h))) = inr (inr (read, (h.0, long_fault Ascii Ascii image bytes h.0 a b h.1, h.2)))
+long_answers check image bytes a b reply h = long_check Plain image bytes a b reply h
 long_answers (build lines) image bytes a b reply (inl (tree, n, manifest, builds)) = absurd (omega (arith, manifest.0))
 long_answers (build lines) image bytes a b reply (inr h) = inr (h.0, long_kind h.0.kind h.0.line image bytes a b h.2 h.1, h.2, h.3)
 long_answers _ image bytes a b reply h = grind (arith, common_steps, too_large, long_fault)
 
 -- the answer to the bytes that are read is that to the whole input, where that is known
-pub read_answer : (a : CheckAnswer) (image : List ℕ) (left : Option (List ℕ)) → IfSome left (λ bytes. image ≡ take (limit_of check + 1) bytes)
-    → IsCheckAnswer image a → IsCheckAnswerTo left a
-read_answer a image None e h = (image, tt, h)
-read_answer a image (Some bytes) e h = (
+pub read_answer : (types : Types) (a : CheckAnswer) (image : List ℕ) (left : Option (List ℕ))
+    → IfSome left (λ bytes. image ≡ take (limit_of check + 1) bytes) → IsCheckAnswer types image a → IsCheckAnswerTo types left a
+read_answer types a image None e h = (image, tt, h)
+read_answer types a image (Some bytes) e h = (
   bytes,
   refl,
   elim (cases_lt (limit_of check) (length bytes)) [
-    | inr short ↦ subst (λ l. IsCheckAnswer l a) (e ∙ take_all (limit_of check + 1) bytes (omega arith)) h
+    | inr short ↦ subst (λ l. IsCheckAnswer types l a) (e ∙ take_all (limit_of check + 1) bytes (omega arith)) h
     | inl long ↦
         let cut : limit_of check < length image = rw e (omega (arith, length-take {A = ℕ})) in
-        long_answers check image bytes cut long _ h
+        long_check types image bytes cut long _ h
   ],
 )

@@ -4,6 +4,7 @@ use Rattle.std.proofs.lemmas.Grind.{common_steps}
 use mathlib.Core.Path.{fun_ext}
 use Rattle.adf_fields.proofs.DateTexts.{one_text}
 use Rattle.adf_base.specs.declared.dates.Stamp.{Stamp}
+use Rattle.adf_base.specs.declared.hash.Letters.{Letters}
 use Rattle.adf_tree.specs.Tree.{Tree, with_kind}
 use Rattle.adf_names.specs.declared.kind.Kind.{Kind}
 use Rattle.adf_names.proofs.PathParts.{one_path}
@@ -12,19 +13,22 @@ use Rattle.adf_blocks.specs.declared.cause.Cause.{Cause}
 use Rattle.adf_volume.specs.Counts.{counts_of}
 use Rattle.adf_volume.specs.Fits.{Fits}
 use Rattle.adf_volume.specs.Layout.{Layout}
-use Rattle.adf_volume.specs.Walk.{FirstFault}
+use Rattle.adf_volume.specs.Walk.{FirstFault, FirstFaultBy}
 use Rattle.adf_volume.proofs.FitWalks.{one_fit}
 use Rattle.adf_volume.proofs.NoneFits.{none_fits}
 use Rattle.adf_volume.proofs.OneFault.{one_fault}
+use Rattle.adf_volume.specs.Types.{letters_for}
 use Rattle.adf_volume.specs.declared.fault.Fault.{Fault}
+use Rattle.adf_volume.specs.declared.types.Types.{Types}
+use Rattle.adf_volume.specs.declared.types.Types.TheVariants.{Plain}
 use Rattle.adf_manifest.specs.Manifest.{ExplainsKind, IsManifest, lines}
 use Rattle.adf_manifest.specs.declared.manifest.ManifestKind.{ManifestKind, TheVariants.NoMemory, TheVariants.TooLong}
 use Rattle.adf_manifest.proofs.Faults as manifests
 use Rattle.adf_manifest.proofs.TreesOfLines.{one_tree_of}
 use Rattle.adf_manifest.proofs.Verdicts.{one_told}
-use Rattle.adf_texts.specs.Lines.{fault_line, ok_line}
+use Rattle.adf_texts.specs.Lines.{fault_line, ok_line_by}
 use Rattle.adf_texts.specs.VolumeLines.{AreDates, volume_lines}
-use Rattle.adf_cmd.specs.Answers.{Accepts, Answer, BuildsManifest, BuildsOrIsFull, Converts, Copies, CopiesFrom, Lists, RefusesImage, RefusesManifest}
+use Rattle.adf_cmd.specs.Answers.{Answer, BuildsManifest, BuildsOrIsFull, Checks, Converts, Copies, CopiesFrom, Lists, RefusesImage, RefusesManifest}
 use Rattle.adf_cmd.specs.Answers.{contents_at}
 use Rattle.adf_runs.specs.Commands.{Reply, on_errors, on_output}
 use Rattle.adf_words.specs.CommandLine.{AsksFor, RequestValue, build, cat, check, convert, list}
@@ -33,7 +37,8 @@ pub one_request : (words : List (List ℕ)) (r r' : RequestValue) → AsksFor wo
 one_request words r r' a b = grind (arith, common_steps)
 
 -- the first fault of an image has one line
-one_line : (input : List ℕ) (f g : Fault) → FirstFault input f.block f.cause → FirstFault input g.block g.cause → fault_line f ≡ fault_line g
+one_line : {letters : Letters} (input : List ℕ) (f g : Fault) → FirstFaultBy letters input f.block f.cause
+    → FirstFaultBy letters input g.block g.cause → fault_line f ≡ fault_line g
 one_line input f g p q =
     let by : ℕ → Cause → List ℕ = λ b c. fault_line (record { block = b; cause = c }) in
     let same = one_fault input f.block f.cause g.block g.cause p q in
@@ -46,10 +51,14 @@ not_both input f t l first fits = none_fits input f.block f.cause t l first fits
 pub refused_once : (input : List ℕ) (a b : Reply) → RefusesImage input a → RefusesImage input b → a ≡ b
 refused_once input a b (f, first, x) (g, also, y) = x ∙ ap (on_errors 1) (one_line input f g first also) ∙ sym y
 
-accepted_once : (input : List ℕ) (a b : Reply) → Accepts input a → Accepts input b → a ≡ b
-accepted_once input a b (t, l, fits, x) (u, m, also, y) =
+-- a check has one answer
+pub one_check : (types : Types) (input : List ℕ) (a b : Reply) → Checks types input a → Checks types input b → a ≡ b
+one_check types input a b (inl (t, l, fits, x)) (inl (u, m, also, y)) =
     let same = one_fit input t u l m fits also in
-    x ∙ ap (λ v. on_output 0 (ok_line (counts_of input v l))) same.0 ∙ ap (λ k. on_output 0 (ok_line (counts_of input u k))) same.1 ∙ sym y
+    x ∙ (λ i. on_output 0 (ok_line_by (letters_for types input) (counts_of input (same.0 i) (same.1 i)))) ∙ sym y
+one_check types input a b (inl (t, l, fits, x)) (inr (f, first, y)) = absurd (none_fits input f.block f.cause t l first fits)
+one_check types input a b (inr (f, first, x)) (inl (t, l, fits, y)) = absurd (none_fits input f.block f.cause t l first fits)
+one_check types input a b (inr (f, first, x)) (inr (g, also, y)) = x ∙ ap (on_output 1) (one_line input f g first also) ∙ sym y
 
 -- dates have one text each
 pub one_dates : (date other : Stamp → List ℕ) → AreDates date → AreDates other → date ≡ other
@@ -126,10 +135,7 @@ image_once input a b tells fits once (inr h) (inl g) = let (t, l, fit) = fits b 
 image_once input a b tells fits once (inr h) (inr g) = refused_once input a b h g
 
 pub one_answer : (r : RequestValue) (input : List ℕ) (a b : Reply) → Answer r input a → Answer r input b → a ≡ b
-one_answer check input a b (inl h) (inl g) = accepted_once input a b h g
-one_answer check input a b (inl h) (inr g) = absurd (not_both input g.0 h.0 h.1 g.1 h.2)
-one_answer check input a b (inr h) (inl g) = absurd (not_both input h.0 g.0 g.1 h.1 g.2)
-one_answer check input a b (inr (f, first, x)) (inr (g, also, y)) = x ∙ ap (on_output 1) (one_line input f g first also) ∙ sym y
+one_answer check input a b h g = one_check Plain input a b h g
 one_answer list input a b h g = image_once input a b (Lists input) (λ reply x. (x.0, x.1, x.2)) (listed_once input a b) h g
 one_answer (build written) input a b (inl h) (inl g) = manifest_built_once written input a b h g
 one_answer (build written) input a b (inl h) (inr g) = absurd (no_fault g.0.kind g.0.line input h.0 h.1 g.2 g.1 h.2)

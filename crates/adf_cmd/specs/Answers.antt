@@ -2,35 +2,44 @@
 use Rattle.std.specs.Prelude.{◌≡◌, ◌≢◌, ◌++◌, ◌<◌, ◌-◌, ◌*◌, ◌⊎◌, ℕ, Bool, false, List, codes, Option, None, Some, option_map}
 use Rattle.adf_blocks.specs.declared.layout.TheConstants.{MOST_BLOCKS}
 use Rattle.adf_base.specs.declared.dates.Stamp.{Stamp}
+use Rattle.adf_base.specs.declared.hash.Letters.{Letters}
 use Rattle.adf_names.specs.PathTexts.{IsPathText}
 use Rattle.adf_tree.specs.Tree.{Tree, entry, find, with_kind}
 use Rattle.adf_names.specs.declared.kind.Kind.{Kind}
 use Rattle.adf_blocks.specs.Sizes.{blocks}
-use Rattle.adf_volume.specs.Fits.{Fits}
+use Rattle.adf_volume.specs.Fits.{Fits, FitsBy}
 use Rattle.adf_volume.specs.Layout.{Layout}
-use Rattle.adf_volume.specs.Walk.{FirstFault}
+use Rattle.adf_volume.specs.Walk.{FirstFault, FirstFaultBy}
 use Rattle.adf_build.specs.Laid.{IsLaid, volume}
 use Rattle.adf_build.specs.Plan.{blocks_needed, planned}
 use Rattle.adf_build.specs.Building.{IsBuildable, need_of}
 use Rattle.adf_check.specs.Pieces.{bytes_of}
 use Rattle.adf_volume.specs.Counts.{counts_of}
+use Rattle.adf_volume.specs.Types.{letters_for}
 use Rattle.adf_volume.specs.declared.fault.Fault.{Fault}
+use Rattle.adf_volume.specs.declared.types.Types.{Types}
+use Rattle.adf_volume.specs.declared.types.Types.TheVariants.{Plain}
 use Rattle.adf_words.specs.CommandLine.{AsksFor, AreRefused, RequestValue, build, cat, check, convert, list}
 use Rattle.adf_runs.specs.Commands.{Command, Reply, bad_path, on_errors, on_output}
 use Rattle.adf_cmd.specs.Listing.{image_or_lines}
 use Rattle.adf_manifest.specs.Manifest.{ExplainsFault, IsManifest, most_bytes}
-use Rattle.adf_texts.specs.Lines.{fault_line, full_line, manifest_fault_line, ok_line}
+use Rattle.adf_texts.specs.Lines.{fault_line, full_line, manifest_fault_line, ok_line_by}
 use Rattle.adf_texts.specs.VolumeLines.{AreDates, volume_lines}
 use Rattle.adf_manifest.specs.declared.manifest.ManifestFault.{ManifestFault}
 use Rattle.adf_manifest.specs.declared.manifest.ManifestKind.TheVariants.{NoMemory as ManifestNoMemory}
 
--- `check` at status 0 tells the numbers of the tree and the layout that fit the image, at status 1 its first fault
-abbrev pub Accepts : List ℕ → Reply → Type 0
-Accepts input reply = (t : Tree) × (l : Layout) × Fits input t l × (reply ≡ on_output 0 (ok_line (counts_of input t l)))
+-- `check` at status 0 tells the numbers of the tree and the layout that fit the image by these letters
+abbrev pub AcceptsBy : Letters → List ℕ → Reply → Type 0
+AcceptsBy letters input reply =
+    (t : Tree) × (l : Layout) × FitsBy letters input t l × (reply ≡ on_output 0 (ok_line_by letters (counts_of input t l)))
 
--- the first fault of the image is told on output, with status 1
-abbrev pub Refuses : List ℕ → Reply → Type 0
-Refuses input reply = (f : Fault) × FirstFault input f.block f.cause × (reply ≡ on_output 1 (fault_line f))
+-- the first fault of the image by these letters is told on output, with status 1
+abbrev pub RefusesBy : Letters → List ℕ → Reply → Type 0
+RefusesBy letters input reply = (f : Fault) × FirstFaultBy letters input f.block f.cause × (reply ≡ on_output 1 (fault_line f))
+
+-- what is told of an image where these types are accepted
+abbrev pub Checks : Types → List ℕ → Reply → Type 0
+Checks types input reply = AcceptsBy (letters_for types input) input reply ⊎ RefusesBy (letters_for types input) input reply
 
 -- the image that is laid of a tree in n blocks, or the lines of its words
 abbrev pub built_output : Bool → Tree → ℕ → List ℕ
@@ -106,7 +115,7 @@ Converts kind input reply =
 
 -- the answer to a request
 abbrev pub Answer : RequestValue → List ℕ → Reply → Type 0
-Answer check input reply = Accepts input reply ⊎ Refuses input reply
+Answer check input reply = Checks Plain input reply
 Answer (build lines) input reply = BuildsManifest lines input reply ⊎ RefusesManifest input reply
 Answer list input reply = Lists input reply ⊎ RefusesImage input reply
 Answer (cat path) input reply =

@@ -3,83 +3,90 @@
 ghost use Rattle.std.specs.Prelude.{◌≡◌, ◌+◌, false, IfOk, List, Some, string_bytes, true, ℕ};
 ghost use Rattle.adf_tree.specs.Tree.{Tree};
 ghost use Rattle.adf_volume.specs.Layout.{Layout};
-ghost use Rattle.adf_volume.specs.Walk.{FirstFault};
-ghost use Rattle.adf_check.specs.Volumes.{StandsFor};
+ghost use Rattle.adf_volume.specs.Walk.{FirstFaultBy};
+ghost use Rattle.adf_volume.specs.Types.{letters_for};
+ghost use Rattle.adf_volume.specs.declared.types.Types.{Types};
+ghost use Rattle.adf_check.specs.Volumes.{StandsForBy};
 ghost use Rattle.adf_cmd.specs.Answers.{Answer, limit_of};
 ghost use Rattle.adf_words.specs.CommandLine.{check};
 ghost use Rattle.adf_runs.specs.Outcomes.{EndsBy, is_read_fault, is_write_fault};
 ghost use Rattle.adf_cmd.specs.CheckAnswers.{IsCheckAnswer, IsCheckAnswerTo};
 ghost use Rattle.adf_runs.specs.Streams.{TakesAtMost, is_device};
-ghost use Rattle.adf_texts.specs.Lines.{ok_line};
+ghost use Rattle.adf_texts.specs.Lines.{ok_line_by};
 
 use crate::images::{MOST_IMAGE_BYTES, checked, refused_line};
+use adf_base::Letters;
 use adf_check::{Checked, Counts, Fault};
 use adf_runs::{Outcome, Sink, Source, StreamFault, read_into, write_all};
-use adf_texts::push_counts;
+use adf_texts::push_counts_by;
+use adf_volume::Types;
 use std::alloc::{AllocError, Global};
 
-// The line of an accepted image.
-fn accepted_line(alloc: Global, counts: &Counts) -> Result<String, AllocError>
-    ensures { IfOk result (λ line. string_bytes line ≡ ok_line counts.now) }
+// The line of an accepted image whose names have these letters.
+fn accepted_line(alloc: Global, letters: Letters, counts: &Counts) -> Result<String, AllocError>
+    ensures { IfOk result (λ line. string_bytes line ≡ ok_line_by letters counts.now) }
 {
     let mut line = String::new(alloc);
-    push_counts(&mut line, counts)?;
+    push_counts_by(&mut line, letters, counts)?;
     Ok(line)
 }
 
-/// The answer of `check` to an image.
+/// The answer of a check to an image.
 #[derive(Drop)]
 pub struct CheckAnswer {
     /// Whether the image is accepted.
     pub sound: bool,
-    /// The line that `check` writes, with its line feed.
+    /// The line that is written of it, with its line feed.
     pub line: String,
 }
 
 // The answer to an accepted image.
 fn acceptance(alloc: Global, volume: &Checked<'_>) -> Result<CheckAnswer, AllocError>
-    requires stands { (t : Tree) × (l : Layout) × StandsFor volume.now t l }
-    ensures { IfOk result (IsCheckAnswer volume.now.image) }
+    ensures { (types : Types) (t : Tree) (l : Layout)
+        → StandsForBy (letters_for types volume.now.image) volume.now t l
+        → IfOk result (IsCheckAnswer types volume.now.image) }
 {
-    let line = accepted_line(alloc, &volume.counts())?;
+    let line = accepted_line(alloc, volume.letters(), &volume.counts())?;
     Ok(CheckAnswer { sound: true, line })
 }
 
 // The answer to an image with this first fault.
 fn refusal(alloc: Global, fault: Fault) -> Result<CheckAnswer, AllocError>
-    ensures { (image : List ℕ) → FirstFault image fault.block fault.cause
-        → IfOk result (IsCheckAnswer image) }
+    ensures { (types : Types) (image : List ℕ)
+        → FirstFaultBy (letters_for types image) image fault.block fault.cause
+        → IfOk result (IsCheckAnswer types image) }
 {
     let line = refused_line(alloc, fault)?;
     Ok(CheckAnswer { sound: false, line })
 }
 
-/// Checks an image. `AllocError` if an allocation failed; it says nothing about the image.
-pub fn answer_to_image(alloc: Global, image: &[u8]) -> Result<CheckAnswer, AllocError>
-    ensures { IfOk result (IsCheckAnswer image.now) }
+/// Checks an image of one of these types. `AllocError` if an allocation failed; it says nothing about the image.
+pub fn answer_to_image(alloc: Global, types: Types, image: &[u8]) -> Result<CheckAnswer, AllocError>
+    ensures { IfOk result (IsCheckAnswer types image.now) }
 {
-    match checked(alloc, image)? {
+    match checked(alloc, types, image)? {
         Ok(volume) => acceptance(alloc, &volume),
         Err(fault) => refusal(alloc, fault),
     }
 }
 
-/// Reads an image into a buffer, which may be that of an earlier image, and checks it. `Device` if
+/// Reads an image into a buffer, which may be that of an earlier image, and checks it as one of these types. `Device` if
 /// the reader failed, `NoMemory` if an allocation failed.
 pub fn answer_to_input<R: Source>(
     alloc: Global,
+    types: Types,
     input: &mut R,
     buffer: &mut Vec<u8>,
 ) -> Result<CheckAnswer, StreamFault>
     requires { R.has_failed input.old ≡ false }
-    ensures answer { IfOk result (IsCheckAnswerTo (R.left input.old)) }
+    ensures answer { IfOk result (IsCheckAnswerTo types (R.left input.old)) }
     ensures failed { R.has_failed input.new ≡ is_device result }
     ensures reliable { R.may_fail input.old ≡ false → R.has_failed input.new ≡ false }
     ensures at_most { TakesAtMost (limit_of check + 1)
         (R.left input.old) (R.left input.new) }
 {
     let count = read_into(input, MOST_IMAGE_BYTES, buffer)?;
-    let answer = answer_to_image(alloc, &buffer[..count])?;
+    let answer = answer_to_image(alloc, types, &buffer[..count])?;
     Ok(answer)
 }
 
@@ -91,7 +98,7 @@ pub fn check_image<W: Sink>(alloc: Global, image: &[u8], output: &mut W) -> Outc
     ensures written { W.has_failed output.new ≡ is_write_fault result }
     ensures read { is_read_fault result ≡ false }
 {
-    let Ok(answer) = answer_to_image(alloc, image) else {
+    let Ok(answer) = answer_to_image(alloc, Types::Plain, image) else {
         return Outcome::NoMemory;
     };
     match write_all(output, answer.line.as_bytes()) {

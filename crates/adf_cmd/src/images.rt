@@ -2,19 +2,21 @@
 
 ghost use Rattle.std.specs.Prelude.{◌≡◌, false, IfErr, IfOk, string_bytes};
 ghost use Rattle.adf_tree.specs.Tree.{Tree};
-ghost use Rattle.adf_volume.specs.Fits.{Fits};
+ghost use Rattle.adf_volume.specs.Fits.{FitsBy};
 ghost use Rattle.adf_volume.specs.Layout.{Layout};
-ghost use Rattle.adf_volume.specs.Walk.{FirstFault};
-ghost use Rattle.adf_check.specs.Volumes.{StandsFor};
+ghost use Rattle.adf_volume.specs.Walk.{FirstFaultBy};
+ghost use Rattle.adf_volume.specs.Types.{letters_for};
+ghost use Rattle.adf_check.specs.Volumes.{StandsFor, StandsForBy};
 ghost use Rattle.adf_cmd.specs.Refusals.{IsRefusedImage};
 ghost use Rattle.adf_runs.specs.Outcomes.{is_read_fault, is_write_fault};
 ghost use Rattle.adf_texts.specs.Lines.{fault_line};
 
 use adf_base::BLOCK_LEN;
 use adf_blocks::{Cause, MOST_BLOCKS};
-use adf_check::{Checked, Fault, check};
+use adf_check::{Checked, Fault, check_types};
 use adf_runs::Outcome;
 use adf_texts::push_fault;
+use adf_volume::Types;
 use std::alloc::{AllocError, Global};
 
 /// The most bytes of an image.
@@ -29,15 +31,22 @@ pub fn refused_line(alloc: Global, fault: Fault) -> Result<String, AllocError>
     Ok(line)
 }
 
-/// Checks an image: its volume, or its first fault. `AllocError` if an allocation failed; it says nothing about the image.
-pub fn checked<'a>(alloc: Global, image: &'a [u8]) -> Result<Result<Checked<'a>, Fault>, AllocError>
+/// Checks an image of one of these types: its volume, or its first fault. `AllocError` if an allocation failed; it says
+/// nothing about the image.
+pub fn checked<'a>(
+    alloc: Global,
+    types: Types,
+    image: &'a [u8],
+) -> Result<Result<Checked<'a>, Fault>, AllocError>
     ensures image { IfOk result (λ r. IfOk r (λ v. v.image ≡ image.now)) }
-    ensures fits { IfOk result (λ r. IfOk r (λ v. (t : Tree) × (l : Layout) × StandsFor v t l)) }
-    ensures first { IfOk result (λ r. IfErr r (λ f. FirstFault image.now f.block f.cause)) }
+    ensures fits { IfOk result (λ r. IfOk r (λ v.
+        (t : Tree) × (l : Layout) × StandsForBy (letters_for types image.now) v t l)) }
+    ensures first { IfOk result (λ r. IfErr r (λ f.
+        FirstFaultBy (letters_for types image.now) image.now f.block f.cause)) }
     ensures none { IfOk result (λ r. IfErr r (λ _. (t : Tree) (l : Layout)
-        → Fits image.now t l → ⊥)) }
+        → FitsBy (letters_for types image.now) image.now t l → ⊥)) }
 {
-    match check(alloc, image) {
+    match check_types(alloc, types, image) {
         Ok(volume) => Ok(Ok(volume)),
         Err(fault) => match fault.cause {
             Cause::NoMemory => Err(AllocError),
@@ -54,7 +63,7 @@ pub fn volume_of<'a>(alloc: Global, image: &'a [u8]) -> Result<Checked<'a>, Outc
     ensures read { IfErr result (λ w. is_read_fault w ≡ false) }
     ensures written { IfErr result (λ w. is_write_fault w ≡ false) }
 {
-    match checked(alloc, image)? {
+    match checked(alloc, Types::Plain, image)? {
         Ok(volume) => Ok(volume),
         Err(fault) => Err(Outcome::Refused(refused_line(alloc, fault)?)),
     }

@@ -9,11 +9,12 @@ use std::alloc::Global;
 
 const MANIFEST: &[u8] = b"volume ofs 16\nfile 0:0:0 00000000 a\nfill 489 41\n";
 
-/// A sound image, no image, one that fails at its second read, and files that cannot be opened: all other
-/// names are missing.
+/// A sound image, the same as one of type 2, no image, one that fails at its second read, and files that cannot be opened:
+/// all other names are missing.
 #[derive(Drop)]
 pub struct Folder<'a> {
     pub sound: &'a [u8],
+    pub international: &'a [u8],
 }
 
 impl<'a> Files for Folder<'a> {
@@ -28,6 +29,8 @@ impl<'a> Files for Folder<'a> {
     fn open(&self, name: &[u8]) -> Result<Given<'a>, Unopened> {
         if name == b"sound".as_slice() {
             Ok(Given::new(self.sound, usize::MAX))
+        } else if name == b"other".as_slice() {
+            Ok(Given::new(self.international, usize::MAX))
         } else if name == b"none\xff".as_slice() {
             Ok(Given::new(&self.sound[..self.sound.len().min(1)], usize::MAX))
         } else if name == b"fails".as_slice() {
@@ -56,6 +59,15 @@ pub fn sound_image(alloc: Global) -> Vec<u8> {
     image.bytes
 }
 
+/// The same as one of type 2: its names have no letters above 127.
+pub fn international_image(alloc: Global) -> Vec<u8> {
+    let mut image = sound_image(alloc);
+    if let Some(dos_type) = image.get_mut(3) {
+        *dos_type = 2;
+    }
+    image
+}
+
 // Whether a run over words and an input, with room for so many bytes of output and of errors, ends with this status and these
 // bytes on output and on errors.
 fn answers_within(
@@ -66,7 +78,11 @@ fn answers_within(
     wanted: (u8, &[u8], &[u8]),
 ) -> bool {
     let image = sound_image(alloc);
-    let folder = Folder { sound: &image };
+    let other = international_image(alloc);
+    let folder = Folder {
+        sound: &image,
+        international: &other,
+    };
     let mut output = Kept::new(alloc, 1, rooms.0);
     let mut errors = Kept::new(alloc, 1, rooms.1);
     let mut names = TextNames::new(input, b'\n');
@@ -114,7 +130,22 @@ const WORDS: &[Row<'static>] = &[
         b"sound",
         2,
         b"",
-        b"usage: adf-shelf [--null] [FILE..]\n",
+        b"usage: adf-shelf [--null] [--any-type] [FILE..]\n",
+    ),
+    (
+        &["adf-shelf", "other"],
+        b"",
+        1,
+        b"other\tblock 0: international\n",
+        b"",
+    ),
+    (
+        &["adf-shelf", "--any-type", "sound", "other"],
+        b"",
+        0,
+        b"sound\tok ofs blocks 16 used 5 free 9 dirs 0 files 1\n\
+    other\tok ofs-international blocks 16 used 5 free 9 dirs 0 files 1\n",
+        b"",
     ),
 ];
 

@@ -1,5 +1,5 @@
-// `adf-disk build`. A cylinder has 8 blocks, so the tables, 3 blocks, take the first one. DH0, a new volume, has 32 blocks, and
-// DH1, a given one, has 16.
+// `adf-disk build`. A cylinder has 8 blocks, so the tables take the first one. Of PLAN DH0, a new volume, has 32 blocks, and
+// DH1, a given one, has 16. Of KINDS each volume is a new one of 16 blocks.
 
 ghost use Rattle.std.specs.Prelude.{length};
 
@@ -19,6 +19,29 @@ const LISTED: &[u8] =
 const CHECKED: &[u8] =
     b"DH0: ok ffs blocks 32 used 2 free 28 dirs 0 files 0\nDH1: block 0: not dos\n";
 
+const KINDS: &[u8] = b"disk 4 2\n\
+    partition DH0 ofs 2\n\
+    partition DH1 ffs 2\n\
+    partition DH2 ofs-international 2\n\
+    partition DH3 ffs-international 2\n\
+    end\n";
+
+const KINDS_LISTED: &[u8] = b"1 DH0: ofs first 8 blocks 16 flags 0 priority 0\n\
+    2 DH1: ffs first 24 blocks 16 flags 0 priority 0\n\
+    3 DH2: ofs-international first 40 blocks 16 flags 0 priority 0\n\
+    4 DH3: ffs-international first 56 blocks 16 flags 0 priority 0\n";
+
+const KINDS_CHECKED: &[u8] = b"DH0: ok ofs blocks 16 used 2 free 12 dirs 0 files 0\n\
+    DH1: ok ffs blocks 16 used 2 free 12 dirs 0 files 0\n\
+    DH2: ok ofs-international blocks 16 used 2 free 12 dirs 0 files 0\n\
+    DH3: ok ffs-international blocks 16 used 2 free 12 dirs 0 files 0\n";
+
+// The words, and what output gets of the disk of KINDS.
+const ASKED_OF_KINDS: &[(&[&str], &[u8])] = &[
+    (&["adf-disk", "list"], KINDS_LISTED),
+    (&["adf-disk", "check"], KINDS_CHECKED),
+];
+
 // The label DH0 in word 108 of the root: its length, and its bytes.
 const LABEL: (usize, u32) = (108, 0x0344_4830);
 
@@ -29,20 +52,18 @@ fn input(alloc: Global) -> Result<Vec<u8>, AllocError> {
     Ok(input)
 }
 
-// The disk of the plan; nothing if an allocation fails.
-fn built(alloc: Global) -> Vec<u8> {
+// The disk of a plan and the bytes of its given volumes.
+fn built(alloc: Global, input: &[u8]) -> Vec<u8> {
     let mut output = Kept::new(alloc, usize::MAX, usize::MAX);
     let mut errors = Kept::new(alloc, usize::MAX, usize::MAX);
-    if let Ok(input) = input(alloc) {
-        let mut source = Given::new(&input, usize::MAX);
-        run(
-            alloc,
-            &["adf-disk", "build"],
-            &mut source,
-            &mut output,
-            &mut errors,
-        );
-    }
+    let mut source = Given::new(input, usize::MAX);
+    run(
+        alloc,
+        &["adf-disk", "build"],
+        &mut source,
+        &mut output,
+        &mut errors,
+    );
     output.bytes
 }
 
@@ -55,13 +76,22 @@ const ASKED: &[(&[&str], u8, &[u8])] = &[
 
 #[test]
 fn a_built_disk_is_read(rt: HostRuntime) {
-    let disk = built(rt.alloc());
+    let bytes = input(rt.alloc()).expect(&rt, "memory");
+    let disk = built(rt.alloc(), &bytes);
     assert!(rt; disk.len() == 56 * 512);
     for (words, status, output) in ASKED {
         assert!(rt; answers_to(rt.alloc(), words, &disk, (*status, output, "")));
     }
     let words = ["adf-disk", "volume", "DH0"];
     assert!(rt; answers_to(rt.alloc(), &words, &disk, (0, &empty_volume(LABEL), "")));
+}
+
+#[test]
+fn volumes_of_each_kind_are_built(rt: HostRuntime) {
+    let disk = built(rt.alloc(), KINDS);
+    for (words, output) in ASKED_OF_KINDS {
+        assert!(rt; answers_to(rt.alloc(), words, &disk, (0, *output, "")));
+    }
 }
 
 // An input, and what errors get.

@@ -12,7 +12,7 @@ use std::cell::Cell;
 
 const SURVEY_USAGE: &str =
     "usage: adf-survey [--blocks N] [--list] [FILE]\n       adf-survey [--blocks N] cat [--damaged] PATH [FILE]\n\
-    \x20      adf-survey [--blocks N] rescue [FILE]\n\
+    \x20      adf-survey [--blocks N] rescue [--keep-type] [FILE]\n\
     without a FILE the image comes on standard input; man adf-survey tells more\n";
 
 // A disk of two empty volumes of 256 blocks.
@@ -125,7 +125,10 @@ const UNNAMED: &[Row<'static>] = &[
 
 // Runs the program of the first word, where the folder has a sound image, and the input has these bytes and fails after so many reads.
 fn run_files(alloc: Global, words: &[&str], sound: &[u8], bytes: &[u8], reads: usize) -> Came {
-    let folder = Folder { sound };
+    let folder = Folder {
+        sound,
+        international: sound,
+    };
     let mut input = Given::new(bytes, reads);
     let mut output = Kept::new(alloc, usize::MAX, usize::MAX);
     let mut errors = Kept::new(alloc, usize::MAX, usize::MAX);

@@ -6,7 +6,7 @@ use adf_partitions::{Disk, Place, TextFault, TextKind, read_plan, write_tables};
 use std::alloc::Global;
 
 const TEXT: &[u8] =
-    b"disk 2 2\npartition Work ofs 2 bootable priority -5\npartition DH1 ffs 3 given\nend\nrest";
+    b"disk 2 2\npartition Work ofs 2 bootable priority -5\npartition DH1 ffs-international 3 given\nend\nrest";
 
 // The tables of the text, if it has a plan and these bytes are behind it.
 fn tables_of(alloc: Global, text: &[u8], behind: &[u8]) -> Option<Vec<u8>> {
@@ -30,7 +30,7 @@ const DH1: Place = Place {
 // Whether the disk has the partitions of the text.
 fn has_planned(disk: &Disk) -> bool {
     let one = (1, 1, -5, 0x444F_5300);
-    let two = (2, 0, 0, 0x444F_5301);
+    let two = (2, 0, 0, 0x444F_5303);
     disk.partitions.len() == 2
         && (disk.tables.rdsk, disk.tables.lowest, disk.tables.highest) == (0, 0, 3)
         && is_partition(disk.numbered(1), one, b"Work", Ok(WORK))
@@ -72,6 +72,7 @@ const FAULTS: &[(&[u8], usize, TextKind)] = &[
     (b"disk 2 2\npartition A ofs 0\nend\n", 2, TextKind::BadLine),
     (b"disk 2 2\npartition A: ofs 1\nend\n", 2, TextKind::BadLine),
     (b"disk 2 2\npartition A pfs 1\nend\n", 2, TextKind::BadLine),
+    (b"disk 2 2\npartition A dos3 1\nend\n", 2, TextKind::BadLine),
     (
         b"disk 2 2\npartition A ofs 1 priority 128\nend\n",
         2,

@@ -8,7 +8,7 @@ use Rattle.std.proofs.lemmas.List.Folds.{list_all_at}
 use Rattle.std.specs.List.{flat_map, list_all}
 use Rattle.std.proofs.lemmas.Bool.{and_parts}
 use Rattle.std.proofs.lemmas.Grind.{common_steps}
-use Rattle.adf_disk_cmd.proofs.NewVolumes.{MayBeNew, length_new, may_be_new, new_fits}
+use Rattle.adf_disk_cmd.proofs.NewVolumes.{MayBeNew, length_new, may_be_new, new_volume}
 use Rattle.adf_disk_cmd.specs.Builds.{BuildsDisk, HasPlanned, behind_volume, built_disk, given_bytes, given_cylinders, given_line, given_size}
 use Rattle.adf_disk_cmd.specs.Builds.{plan_reply, volume_of, volumes_of}
 use Rattle.adf_partitions.proofs.PlanSizes.{blocks_fit, cylinders_fit, plans_at}
@@ -145,7 +145,7 @@ has_planned text plan given is enough =
       volumes = volumes_stand plan vs h are;
       sound = λ k d lt new.
           let p = get_or plan.partitions k d in
-          new_fits (p.cylinders * c) p (may_be_new c p (has_volume_at c plan.partitions k d all lt) new);
+          new_volume (p.cylinders * c) p (may_be_new c p (has_volume_at c plan.partitions k d all lt) new);
     }
 
 pub other_bytes : (plan : PlanValue) (given : List ℕ) → length given ≢ given_bytes plan

@@ -6,7 +6,8 @@ use Rattle.std.proofs.Math.Bool.{and-true}
 use Rattle.std.proofs.lemmas.Grind.{common_steps}
 use Rattle.adf_disk_cmd.specs.Checks.{AreChecked, Tells, TellsPlace, TellsVolume, check_status, unchecked_text, why_unchecked}
 use Rattle.adf_disk_cmd.specs.Lines.{list_line, list_lines, name_text, volume_at}
-use Rattle.adf_disk_cmd.specs.VolumeAnswers.{VolumeAnswer}
+use Rattle.adf_cmd.specs.Answers.{Checks}
+use Rattle.adf_volume.specs.declared.types.Types.TheVariants.{WithInternational}
 use Rattle.adf_disk_cmd.specs.declared.unchecked.Unchecked.{Unchecked}
 use Rattle.adf_partitions.specs.declared.partition.Partition.{Partition}
 use Rattle.adf_partitions.specs.declared.place.Place.{Place}
@@ -28,7 +29,7 @@ lines_end ps n text h = sym (append-nil text) ∙ h
 
 -- what is answered to a volume that is checked is told of its partition
 pub told : (bytes line : List ℕ) (p : Partition) (q : Place) (sound : Bool) → p.place ≡ Ok q → why_unchecked p q ≡ None
-    → VolumeAnswer (volume_at bytes q) (on_output (check_status sound) line) → Tells bytes p sound line
+    → Checks WithInternational (volume_at bytes q) (on_output (check_status sound) line) → Tells bytes p sound line
 told bytes line p q sound e why h =
     subst (λ place. TellsPlace bytes p place sound line) (sym e)
     (subst (λ o. TellsVolume (volume_at bytes q) o sound line) (sym why) h)

@@ -6,5 +6,4 @@ pub mod NewVolumes
 pub mod BuiltDisks
 pub mod HeldVolume
 pub mod Stretches
-pub mod VolumeAnswers
 pub mod HeldChecks

@@ -1,23 +1,38 @@
 -- New volumes. p is the plan of a partition, n the number of its blocks, c that of a cylinder.
-use Rattle.std.proofs.Common.{◌≡◌, ◌≤◌, ◌-◌, ◌*◌, ℕ, Bool, true, false, [], length, refl, arith, ◌&&◌, ◌||◌}
+use Rattle.std.proofs.Common.{◌≡◌, ◌≤◌, ◌-◌, ◌*◌, ◌∙◌, ℕ, Bool, true, false, List, [], ◌∷◌, length, ap, inl, refl, subst, sym, arith, ◌&&◌, ◌||◌}
 use Rattle.std.proofs.lemmas.Grind.{common_steps}
 use Rattle.adf_base.specs.Dates.{IsStamp}
+use Rattle.adf_base.specs.Words.{with_bytes, word}
+use Rattle.adf_base.specs.declared.hash.Letters.{Letters}
+use Rattle.adf_base.specs.declared.hash.Letters.TheVariants.{Ascii, International}
+use Rattle.adf_blocks.specs.Fields.{block_of_fields}
 use Rattle.adf_blocks.specs.Sizes.{is_allowed}
 use Rattle.adf_build.proofs.AllocatedBlocks.{reserved_below}
 use Rattle.adf_build.proofs.LaidFits.{volume_fits}
-use Rattle.adf_build.proofs.LaidWrites.{CanHold, volume_long}
+use Rattle.adf_build.proofs.LaidWrites.{CanHold, holds_boot, volume_long}
 use Rattle.adf_build.specs.Building.{IsBuildFault}
-use Rattle.adf_build.specs.Laid.{volume}
+use Rattle.adf_build.specs.Laid.{boot_bytes_by, volume}
 use Rattle.adf_build.specs.Plan.{blocks_needed, planned}
 use Rattle.adf_build.specs.declared.builder.BuildFault.TheVariants.{Full}
-use Rattle.adf_disk_cmd.specs.Builds.{new_tree}
+use Rattle.adf_disk_cmd.specs.Builds.{IsNewVolume, new_tree}
+use Rattle.adf_cmd.specs.Answers.{Checks}
+use Rattle.adf_volume.specs.declared.types.Types.TheVariants.{WithInternational}
+use Rattle.adf_names.specs.declared.kind.Kind.{Kind}
+use Rattle.adf_names.specs.declared.kind.Kind.TheVariants.{Ofs, Ffs}
 use Rattle.adf_partitions.proofs.NumberTests.{le_of}
+use Rattle.adf_partitions.specs.Plans.{planned_type}
 use Rattle.adf_partitions.specs.PlanTexts.{has_volume}
 use Rattle.adf_partitions.specs.declared.plan.PartitionPlan.{PartitionPlan}
-use Rattle.adf_tree.proofs.TreeOfAdditions.{nothing_added}
+use Rattle.adf_tree.proofs.TreeOfAdditions.{nothing_added_by}
 use Rattle.adf_tree.specs.Tree.{Tree}
+use Rattle.adf_runs.specs.Commands.{on_output}
+use Rattle.adf_texts.specs.Lines.{ok_line_by}
+use Rattle.adf_volume.proofs.ImageStart.{own_letters}
 use Rattle.adf_volume.proofs.Sizes.{size_low}
-use Rattle.adf_volume.specs.Fits.{Fits}
+use Rattle.adf_volume.specs.Counts.{counts_of}
+use Rattle.adf_volume.specs.Fits.{FitsBy}
+use Rattle.adf_volume.specs.Image.{letters_of}
+use Rattle.adf_volume.specs.Layout.{Layout}
 
 -- the label fits, and the size is allowed
 pub record MayBeNew (n : ℕ) (p : PartitionPlan) : Type 0 where
@@ -34,7 +49,7 @@ no_date = record { days = omega arith; mins = omega arith; ticks = omega arith }
 can_hold : (n : ℕ) (p : PartitionPlan) → MayBeNew n p → CanHold (new_tree p) n
 can_hold n p may = record {
   sound = record {
-    tree = nothing_added.tree;
+    tree = (nothing_added_by p.letters).tree;
     bounds = record {
       label = may.label;
       stamps = record { root = no_date; altered = no_date; created = no_date };
@@ -45,8 +60,28 @@ can_hold n p may = record {
   room = room (new_tree p) n refl may.size;
 }
 
-pub new_fits : (n : ℕ) (p : PartitionPlan) → MayBeNew n p → Fits (volume (new_tree p) n) (new_tree p) (planned (new_tree p) n)
-new_fits n p may = volume_fits (can_hold n p may)
+boot_type : (letters : Letters) (kind : Kind) → word (block_of_fields ((0, boot_bytes_by letters kind) ∷ [])) 0 ≡ planned_type letters kind
+unfolding with_bytes word
+boot_type Ascii Ofs = refl
+boot_type Ascii Ffs = refl
+boot_type International Ofs = refl
+boot_type International Ffs = refl
+
+-- what `check` answers to an image that fits a tree by these letters
+accepted : (letters : Letters) (image : List ℕ) (t : Tree) (l : Layout) → FitsBy letters image t l
+    → Checks WithInternational image (on_output 0 (ok_line_by letters (counts_of image t l)))
+accepted letters image t l fits =
+    let own : letters_of image ≡ letters = own_letters letters image fits.boots in
+    inl (t, l, subst (λ x. FitsBy x image t l) (sym own) fits, ap (λ x. on_output 0 (ok_line_by x (counts_of image t l))) (sym own))
+
+pub new_volume : (n : ℕ) (p : PartitionPlan) → MayBeNew n p → IsNewVolume n p (volume (new_tree p) n)
+new_volume n p may =
+    let can = can_hold n p may in
+    record {
+      fits = volume_fits can;
+      checked = accepted p.letters (volume (new_tree p) n) (new_tree p) (planned (new_tree p) n) (volume_fits can);
+      type = ap (λ b. word b 0) (holds_boot can) ∙ boot_type p.letters p.kind;
+    }
 
 pub length_new : (n : ℕ) (p : PartitionPlan) → MayBeNew n p → length (volume (new_tree p) n) ≡ n * 512
 length_new n p may = volume_long (can_hold n p may)

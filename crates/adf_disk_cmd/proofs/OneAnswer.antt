@@ -3,15 +3,13 @@
 use Rattle.std.proofs.Common.{◌≡◌, ◌&&◌, ◌++◌, ◌∙◌, ℕ, Bool, true, false, List, [], ◌∷◌, Option, None, Some, Result, Ok, Err, inl, inr, ap, ap₂, refl, sym, subst}
 use Rattle.std.proofs.Common.{length, ◌/◌, take, arith}
 use Rattle.std.proofs.lemmas.Grind.{common_steps}
-use Rattle.adf_volume.proofs.FitWalks.{one_fit}
-use Rattle.adf_volume.proofs.NoneFits.{none_fits}
-use Rattle.adf_volume.proofs.OneFault.{one_fault as one_volume_fault}
 use Rattle.adf_disk_cmd.specs.Answers.{ChecksAll, DiskAnswer, OfBytes}
 use Rattle.adf_disk_cmd.specs.Answers.{OfDisk, OfFault, OfPartitions, TellsReadable, fault_line}
 use Rattle.adf_disk_cmd.specs.Builds.{BuildsDisk, plan_reply, refusal}
 use Rattle.adf_disk_cmd.specs.Checks.{AreChecked, TellsPlace, TellsText, TellsVolume, check_status, unchecked_text, why_unchecked}
 use Rattle.adf_disk_cmd.specs.Lines.{name_text, volume_at}
-use Rattle.adf_disk_cmd.specs.VolumeAnswers.{VolumeAnswer}
+use Rattle.adf_cmd.proofs.OneAnswer.{one_check}
+use Rattle.adf_volume.specs.declared.types.Types.TheVariants.{WithInternational}
 use Rattle.adf_disk_cmd.specs.declared.unchecked.Unchecked.{Unchecked}
 use Rattle.adf_disk_cmd.specs.declared.work.TheConstants.{MOST_DISK_BYTES}
 use Rattle.adf_partitions.proofs.OneAnswer.{no_fault, one_disk, one_fault, one_reading}
@@ -24,9 +22,6 @@ use Rattle.adf_partitions.specs.declared.place.Place.{Place}
 use Rattle.adf_partitions.specs.declared.place.PlaceFault.{PlaceFault}
 use Rattle.adf_partitions.specs.declared.plan_text.TextFault.{TextFault}
 use Rattle.adf_runs.specs.Commands.{Reply, on_output}
-use Rattle.adf_texts.specs.Lines.{fault_line as volume_fault_line, ok_line_by}
-use Rattle.adf_volume.specs.Counts.{counts_of}
-use Rattle.adf_volume.specs.Image.{letters_of}
 use Rattle.adf_blocks.specs.declared.cause.Cause.{Cause}
 use Rattle.adf_file_words.specs.DiskLine.{AsksDisk, DiskRequestValue, build, check, list, survey, volume}
 
@@ -42,22 +37,10 @@ same_sound false false e = refl
 text_once : (text : List ℕ) (s t : Bool) (l m : List ℕ) → TellsText text s l → TellsText text t m → (s ≡ t) × (l ≡ m)
 text_once text s t l m h g = (h.0 ∙ sym g.0, h.1 ∙ sym g.1)
 
--- a volume has one answer
-one_check : (image : List ℕ) (a b : Reply) → VolumeAnswer image a → VolumeAnswer image b → a ≡ b
-one_check image a b (inl (t, l, fits, x)) (inl (u, m, also, y)) =
-    let same = one_fit image t u l m fits also in
-    x ∙ (λ i. on_output 0 (ok_line_by (letters_of image) (counts_of image (same.0 i) (same.1 i)))) ∙ sym y
-one_check image a b (inl (t, l, fits, x)) (inr (f, first, y)) = absurd (none_fits image f.block f.cause t l first fits)
-one_check image a b (inr (f, first, x)) (inl (t, l, fits, y)) = absurd (none_fits image f.block f.cause t l first fits)
-one_check image a b (inr (f, first, x)) (inr (g, also, y)) =
-    let by : ℕ → Cause → List ℕ = λ b c. volume_fault_line (record { block = b; cause = c }) in
-    let same = one_volume_fault image f.block f.cause g.block g.cause first also in
-    x ∙ ap (λ b. on_output 1 (by b f.cause)) same.0 ∙ ap (λ c. on_output 1 (by g.block c)) same.1 ∙ sym y
-
 volume_once : (why : Option Unchecked) (image : List ℕ) (s t : Bool) (l m : List ℕ) → TellsVolume image why s l → TellsVolume image why t m
     → (s ≡ t) × (l ≡ m)
 volume_once None image s t l m h g =
-    let same = one_check image (on_output (check_status s) l) (on_output (check_status t) m) h g in
+    let same = one_check WithInternational image (on_output (check_status s) l) (on_output (check_status t) m) h g in
     (same_sound s t (ap (λ (r : Reply). r.status) same), ap (λ (r : Reply). r.output) same)
 volume_once (Some why) image s t l m h g = text_once (unchecked_text why) s t l m h g
 

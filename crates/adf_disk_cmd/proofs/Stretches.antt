@@ -9,7 +9,7 @@ use Rattle.std.proofs.lemmas.List.Elements.{All-append, All-cons, All-from_get_o
 use Rattle.std.specs.Io.KnownBytes.{Consumes, IsAtEnd}
 use Rattle.std.specs.List.Sorted.{IsNonDecreasingBy}
 use Rattle.std.proofs.lemmas.Grind.{common_steps}
-use Rattle.adf_disk_cmd.specs.VolumeAnswers.{IsVolumeAnswer}
+use Rattle.adf_disk_cmd.specs.Checks.{IsVolumeAnswer}
 use Rattle.adf_partitions.specs.Places.{end_of}
 use Rattle.adf_partitions.specs.declared.place.Place.{Place}
 use Rattle.adf_runs.proofs.KnownBytes.{consumes_more, two_at_most}

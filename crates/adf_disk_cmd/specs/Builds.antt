@@ -2,28 +2,32 @@
 -- the text of a plan, those of the given volumes one behind the other.
 use Rattle.std.specs.Prelude.{◌≡◌, ◌+◌, ◌*◌, ◌/◌, ◌==◌, ◌++◌, ◌⊎◌, ℕ, All, List, [], ◌∷◌, codes, drop, false, if◌then◌else◌, length, take}
 use Rattle.std.specs.Fmt.{decimal}
-use Rattle.adf_base.specs.declared.hash.Letters.TheVariants.{Ascii}
 use Rattle.adf_tree.specs.Tree.{Tree}
 use Rattle.adf_names.specs.declared.meta.TheConstants.{NO_STAMPS}
-use Rattle.adf_volume.specs.Fits.{Fits}
+use Rattle.adf_volume.specs.Counts.{counts_of}
+use Rattle.adf_volume.specs.Fits.{FitsBy}
+use Rattle.adf_volume.specs.Image.{word_in}
 use Rattle.adf_build.specs.Laid.{volume}
 use Rattle.adf_build.specs.Plan.{planned}
 use Rattle.adf_partitions.specs.Disks.{IsDisk}
 use Rattle.adf_partitions.specs.FaultTexts.{text_fault_text}
-use Rattle.adf_partitions.specs.Plans.{PlanValue, StandInPlaces, cylinder_blocks, planned_partitions}
+use Rattle.adf_partitions.specs.Plans.{PlanValue, StandInPlaces, cylinder_blocks, planned_partitions, planned_type}
 use Rattle.adf_partitions.specs.PlanTexts.{IsText, IsTextFault}
 use Rattle.adf_partitions.specs.WrittenTables.{disk_bytes, planned_tables}
 use Rattle.adf_partitions.specs.declared.plan.PartitionPlan.{PartitionPlan}
 use Rattle.adf_partitions.specs.declared.plan_text.TextFault.{TextFault}
 use Rattle.adf_runs.specs.Commands.{Reply, on_errors, on_output}
+use Rattle.adf_texts.specs.Lines.{ok_line_by}
+use Rattle.adf_cmd.specs.Answers.{Checks}
+use Rattle.adf_volume.specs.declared.types.Types.TheVariants.{WithInternational}
 
 -- a text and a line feed on errors, at status 1
 abbrev pub refusal : List ℕ → Reply
 refusal text = on_errors 1 (text ++ codes "\n")
 
--- what is on a new volume: nothing, under the drive's name
+-- what is on a new volume of the planned kind and letters: nothing, under the drive's name
 abbrev pub new_tree : PartitionPlan → Tree
-new_tree p = record { kind = p.kind; letters = Ascii; label = p.name; stamps = NO_STAMPS; entries = [] }
+new_tree p = record { kind = p.kind; letters = p.letters; label = p.name; stamps = NO_STAMPS; entries = [] }
 
 -- the volume of a partition: the first of the given bytes, or a new one
 abbrev pub volume_of : ℕ → PartitionPlan → List ℕ → List ℕ
@@ -76,9 +80,15 @@ RefusesPlan text reply = (f : TextFault) × IsTextFault text f × (reply ≡ ref
 abbrev pub BuildsDisk : List ℕ → Reply → Type 0
 BuildsDisk text reply = BuildsPlan text reply ⊎ RefusesPlan text reply
 
--- a new volume is valid, and empty
+-- these bytes are a new volume of n blocks: valid by the planned letters and empty, so that `check` accepts them, and of the planned type
+pub record IsNewVolume (n : ℕ) (p : PartitionPlan) (bytes : List ℕ) : Type 0 where
+  pub fits : FitsBy p.letters bytes (new_tree p) (planned (new_tree p) n)
+  pub checked : Checks WithInternational bytes (on_output 0 (ok_line_by p.letters (counts_of bytes (new_tree p) (planned (new_tree p) n))))
+  pub type : word_in bytes 0 0 ≡ planned_type p.letters p.kind
+
+-- a volume that is not given is such a new one
 abbrev pub IsSoundIfNew : ℕ → PartitionPlan → Type 0
-IsSoundIfNew c p = p.given ≡ false → Fits (volume (new_tree p) (p.cylinders * c)) (new_tree p) (planned (new_tree p) (p.cylinders * c))
+IsSoundIfNew c p = p.given ≡ false → IsNewVolume (p.cylinders * c) p (volume (new_tree p) (p.cylinders * c))
 
 -- a disk has the planned partitions and no others, and each volume at its partition's place
 pub record HasPlanned (plan : PlanValue) (given disk : List ℕ) : Type 0 where

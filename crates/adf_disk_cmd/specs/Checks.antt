@@ -10,9 +10,16 @@ use Rattle.adf_partitions.specs.declared.partition.Partition.{Partition}
 use Rattle.adf_partitions.specs.declared.place.Place.{Place}
 use Rattle.adf_partitions.specs.declared.place.PlaceFault.{PlaceFault}
 use Rattle.adf_disk_cmd.specs.Lines.{bytes_text, is_checked, name_text, volume_at}
-use Rattle.adf_disk_cmd.specs.VolumeAnswers.{VolumeAnswer}
+use Rattle.adf_cmd.specs.Answers.{Checks}
+use Rattle.adf_cmd.specs.CheckAnswers.{IsCheckAnswer}
+use Rattle.adf_cmd.specs.declared.checking.CheckAnswer.{CheckAnswer}
+use Rattle.adf_volume.specs.declared.types.Types.TheVariants.{WithInternational}
 use Rattle.adf_disk_cmd.specs.declared.unchecked.Unchecked.{Unchecked}
 use Rattle.adf_disk_cmd.specs.declared.unchecked.Unchecked.TheVariants.{OtherType, Fields, Reserved, OddBlocks, BadSize}
+
+-- what a check answers to a volume, one of types 0 to 3
+abbrev pub IsVolumeAnswer : List ℕ → CheckAnswer → Type 0
+IsVolumeAnswer = IsCheckAnswer WithInternational
 
 -- the status of a check: 0 where all is sound
 abbrev pub check_status : Bool → ℕ
@@ -45,7 +52,7 @@ unchecked_text BadSize = codes "block 0: bad size"
 
 -- of a volume that is checked its line tells what is answered to it, of another one why it is not checked
 abbrev pub TellsVolume : List ℕ → Option Unchecked → Bool → List ℕ → Type 0
-TellsVolume volume None sound line = VolumeAnswer volume (on_output (check_status sound) line)
+TellsVolume volume None sound line = Checks WithInternational volume (on_output (check_status sound) line)
 TellsVolume volume (Some why) sound line = TellsText (unchecked_text why) sound line
 
 -- of a partition that has a place its line tells of the volume there, and of another one why it has none

@@ -5,7 +5,7 @@ use Rattle.std.specs.Prelude.{All, IfOk, length, map, min, take}
 use Rattle.std.specs.List.{Contains}
 use Rattle.std.specs.Io.KnownBytes.{Consumes}
 use Rattle.adf_base.specs.Words.{block}
-use Rattle.adf_disk_cmd.specs.VolumeAnswers.{IsVolumeAnswer}
+use Rattle.adf_disk_cmd.specs.Checks.{IsVolumeAnswer}
 use Rattle.adf_partitions.specs.Disks.{IsDisk}
 use Rattle.adf_partitions.specs.Places.{StatesPlace, end_of, place_of}
 use Rattle.adf_partitions.specs.declared.layout.TheConstants.{MOST_TABLES}

@@ -1,6 +1,5 @@
 -- The promise: the lines, and what the command answers.
 pub mod Lines
-pub mod VolumeAnswers
 pub mod Checks
 pub mod Builds
 pub mod Answers

@@ -8,16 +8,23 @@ use Rattle.adf_partitions.specs.declared.partition.Partition.{Partition}
 use Rattle.adf_partitions.specs.declared.place.Place.{Place}
 use Rattle.adf_partitions.specs.declared.place.PlaceFault.{PlaceFault}
 use Rattle.adf_texts.specs.Names.{names_text}
+use Rattle.adf_base.specs.declared.hash.Letters.TheVariants.{Ascii, International}
 use Rattle.adf_names.specs.Escapes.{escaped}
+use Rattle.adf_names.specs.VolumeTypes.{kind_text_by}
+use Rattle.adf_names.specs.declared.kind.Kind.TheVariants.{Ofs, Ffs}
 use Rattle.adf_disk_cmd.specs.declared.types.TheConstants.{DOS}
 
 -- the four bytes of a type, in the escape form
 abbrev pub bytes_text : ℕ → List ℕ
 bytes_text t = escaped (to_be_bytes w32 t)
 
--- a type: `ofs` and `ffs` of `DOS\0` and `DOS\1`, else its four bytes
-abbrev pub type_text : ℕ → List ℕ
-type_text t = if t == DOS then codes "ofs" else (if t == DOS + 1 then codes "ffs" else bytes_text t)
+-- a type: of `DOS\0` to `DOS\3` the word for its kind and letters, else its four bytes
+unfoldable pub type_text : ℕ → List ℕ
+type_text t =
+    if t == DOS then kind_text_by Ascii Ofs
+    else (if t == DOS + 1 then kind_text_by Ascii Ffs
+    else (if t == DOS + 2 then kind_text_by International Ofs
+    else (if t == DOS + 3 then kind_text_by International Ffs else bytes_text t)))
 
 -- whether a volume of this type is checked: of `DOS\0` to `DOS\5`, and of 0, which says nothing of the volume
 abbrev pub is_checked : ℕ → Bool

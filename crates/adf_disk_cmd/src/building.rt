@@ -35,14 +35,14 @@ fn given_bytes(plan: &DiskPlan) -> usize
     cylinders as usize * cylinder_blocks(plan) as usize * BLOCK_LEN
 }
 
-// A new volume of so many blocks, with the drive's name as its label.
+// A new volume of so many blocks, of the planned type, with the drive's name as its label.
 fn new_volume(alloc: Global, partition: &PartitionPlan, blocks: u32) -> Result<Vec<u8>, AllocError>
     requires size { is_allowed blocks ≡ true }
     requires label { length partition.now.name ≤ 30 }
     ensures { IfOk result (λ bytes. bytes.items ≡ volume (new_tree partition.now) blocks) }
 {
     let label = Label::new(partition.name.bytes()).unwrap();
-    let tree = Tree::new(alloc, partition.kind, label, NO_STAMPS);
+    let tree = Tree::with_letters(alloc, partition.kind, partition.letters, label, NO_STAMPS);
     match build(alloc, &tree, blocks) {
         Ok(bytes) => Ok(bytes),
         Err(BuildFault::BadSize) => unreachable!(),
@@ -159,7 +159,7 @@ pub fn build_disk<W: Sink>(alloc: Global, text: &[u8], output: &mut W) -> Outcom
 }
 
 /// A disk that was built has the planned partitions and no others, and each volume at its partition's place: the given ones as
-/// they came, the new ones valid and empty.
+/// they came, the new ones valid, empty, and of the planned types.
 pub fn built_disks()
     ensures { DisksHavePlanned }
 {}

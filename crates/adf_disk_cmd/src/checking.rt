@@ -5,17 +5,17 @@ ghost use Rattle.adf_disk_cmd.specs.Answers.{ChecksAll};
 ghost use Rattle.adf_disk_cmd.specs.Checks.{AreChecked, Tells};
 ghost use Rattle.adf_disk_cmd.specs.HeldChecks.{IsAnswered, IsKnown, KnowsVolume, KnowsVolumes, lies_at};
 ghost use Rattle.adf_disk_cmd.specs.Lines.{name_text, volume_at};
-ghost use Rattle.adf_disk_cmd.specs.VolumeAnswers.{IsVolumeAnswer};
+ghost use Rattle.adf_disk_cmd.specs.Checks.{IsVolumeAnswer};
 ghost use Rattle.adf_runs.specs.Outcomes.{EndsBy, is_read_fault, is_write_fault};
 
 use crate::answering::write_text;
 use crate::listing::push_name;
 use crate::unchecked::{unchecked_text, why_unchecked};
-use crate::volume_check::answer_to_any;
 use crate::volumes::volume_at;
-use adf_cmd::CheckAnswer;
+use adf_cmd::{CheckAnswer, answer_to_image};
 use adf_partitions::{Partition, Place};
 use adf_runs::{Outcome, Sink};
+use adf_volume::Types;
 use std::alloc::{AllocError, Global};
 
 // The lines of partitions, and whether all of them are sound.
@@ -60,7 +60,7 @@ fn answer_to_volume(
             let sound = volume.answer.sound;
             Ok(CheckAnswer { sound, line })
         }
-        None => answer_to_any(alloc, volume_at(bytes, place)),
+        None => answer_to_image(alloc, Types::WithInternational, volume_at(bytes, place)),
     }
 }
 

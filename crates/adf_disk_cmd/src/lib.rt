@@ -15,7 +15,6 @@ mod stretch;
 mod surveying;
 mod types;
 mod unchecked;
-mod volume_check;
 mod volumes;
 mod work;
 

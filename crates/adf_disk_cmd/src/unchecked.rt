@@ -3,7 +3,8 @@
 ghost use Rattle.std.specs.Prelude.{◌≡◌, ◌<◌, ◌*◌, ◌++◌, List, ℕ, codes, length, string_bytes, IfOk};
 ghost use Rattle.adf_blocks.specs.declared.layout.TheConstants.{MOST_BLOCKS};
 ghost use Rattle.adf_disk_cmd.specs.Checks.{unchecked_text, why_unchecked};
-ghost use Rattle.adf_disk_cmd.specs.VolumeAnswers.{VolumeAnswer};
+ghost use Rattle.adf_cmd.specs.Answers.{Checks};
+ghost use Rattle.adf_volume.specs.declared.types.Types.TheVariants.{WithInternational};
 ghost use Rattle.adf_disk_cmd.specs.declared.unchecked.Unchecked.{Unchecked};
 ghost use Rattle.adf_runs.specs.Commands.{on_output};
 
@@ -68,5 +69,5 @@ pub fn unchecked_text(alloc: Global, why: Unchecked) -> Result<String, AllocErro
 /// What is written of a volume of more blocks than one that is read is what is answered to it.
 pub fn large_volumes_are_refused()
     ensures { (volume : List ℕ) → 512 * MOST_BLOCKS < length volume
-        → VolumeAnswer volume (on_output 1 (unchecked_text Unchecked.BadSize ++ codes "\n")) }
+        → Checks WithInternational volume (on_output 1 (unchecked_text Unchecked.BadSize ++ codes "\n")) }
 {}

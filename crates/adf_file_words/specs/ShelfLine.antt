@@ -1,4 +1,4 @@
--- The command line of `adf-shelf`, as clap reads it, and the order that its matches name: whether names end in zero bytes, and the names.
+-- The command line of `adf-shelf`, as clap reads it, and the order that its matches name.
 use Rattle.std.specs.Prelude.{◌≡◌, List, [], Bool, true, Some, codes, unwrap_or}
 use Rattle.clap.specs.Words.{App, Row, Rule, Text, all_of, fault_of, first_of, matches_of, new_app, new_rule, with_rule}
 use Rattle.clap.specs.declared.builder.action.ArgAction.TheVariants.{Append, SetTrue}
@@ -6,9 +6,22 @@ use Rattle.adf_words.specs.Arguments.{is_text}
 use Rattle.adf_words.specs.declared.command_line.ArgsError.{ArgsError}
 use Rattle.adf_words.specs.declared.command_line.ArgsError.TheVariants.{NoMemory, Usage}
 
+-- what a command line asks for: whether names that are read end in zero bytes, whether types 2 and 3 are accepted too, and the names
+pub record ShelfOrder : Type 0 where
+  pub null : Bool
+  pub any_type : Bool
+  pub files : List Text
+
+abbrev pub shelf_order : Bool → Bool → List Text → ShelfOrder
+shelf_order null any_type files = record { null = null; any_type = any_type; files = files }
+
 -- the flag --null
 abbrev pub null_rule : Rule
 null_rule = record (new_rule (codes "null")) { long = Some (codes "null"); action = Some SetTrue }
+
+-- the flag --any-type
+abbrev pub any_type_rule : Rule
+any_type_rule = record (new_rule (codes "any_type")) { long = Some (codes "any-type"); action = Some SetTrue }
 
 -- the arguments FILE ..
 abbrev pub files_rule : Rule
@@ -18,16 +31,20 @@ files_rule = record (new_rule (codes "files")) { action = Some Append }
 abbrev pub bare_shelf : App
 bare_shelf = record (new_app (codes "adf-shelf")) { top = record (new_app (codes "adf-shelf")).top { disable_help_flag = true } }
 
--- the command line: [--null] [FILE..]
+-- the command line: [--null] [--any-type] [FILE..]
 abbrev pub shelf_app : App
-shelf_app = with_rule (with_rule bare_shelf null_rule) files_rule
+shelf_app = with_rule (with_rule (with_rule bare_shelf null_rule) any_type_rule) files_rule
 
 -- the order of the matches
-abbrev pub order_in : List Row → Bool × List Text
-order_in rows = (is_text (codes "true") (first_of (codes "null") rows), unwrap_or (all_of (codes "files") rows) [])
+abbrev pub order_in : List Row → ShelfOrder
+order_in rows = record {
+  null = is_text (codes "true") (first_of (codes "null") rows);
+  any_type = is_text (codes "true") (first_of (codes "any_type") rows);
+  files = unwrap_or (all_of (codes "files") rows) [];
+}
 
 -- clap takes the arguments, and its matches are the order
-abbrev pub AsksShelf : List Text → Bool × List Text → Type 0
+abbrev pub AsksShelf : List Text → ShelfOrder → Type 0
 AsksShelf args order = (fault_of shelf_app args ≡ []) × (order_in (matches_of shelf_app args) ≡ order)
 
 -- clap refuses the arguments

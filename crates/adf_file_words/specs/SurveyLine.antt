@@ -1,14 +1,15 @@
 -- The command line of `adf-survey`, as clap reads it, and what its matches ask for.
-use Rattle.std.specs.Prelude.{◌≡◌, ◌⊎◌, ◌≤◌, ◌&&◌, ◌||◌, ℕ, List, [], Bool, Option, Some, None, IfSome, codes, is_some, length, nat_le, option_map, true, if◌then◌else◌}
+use Rattle.std.specs.Prelude.{◌≡◌, ◌⊎◌, ◌≤◌, ◌&&◌, ◌||◌, ℕ, List, [], Bool, Option, Some, None, IfSome, codes, is_some, length, nat_le, option_map}
+use Rattle.std.specs.Prelude.{if◌then◌else◌}
 use Rattle.std.specs.Option.{option_and_then}
 use Rattle.std.specs.Str.{all_ascii_digits, bytes_eq}
 use Rattle.std.specs.Str.Parse.{digits_value}
-use Rattle.clap.specs.Words.{App, Row, Rule, Text, fault_of, first_of, matches_of, new_rule, subcommand_of, with_rule}
+use Rattle.clap.specs.Words.{App, Row, Rule, Text, fault_of, first_of, matches_of, new_app, new_rule, subcommand_of, with_rule}
 use Rattle.clap.specs.Words.{with_subcommand}
 use Rattle.clap.specs.declared.builder.action.ArgAction.TheVariants.{SetTrue}
 use Rattle.adf_blocks.specs.declared.layout.TheConstants.{MOST_BLOCKS}
 use Rattle.adf_words.specs.Arguments.{bare_app, cat_app, is_text, list_rule}
-use Rattle.adf_file_words.specs.FileArgument.{file_in, file_rule, with_file}
+use Rattle.adf_file_words.specs.FileArgument.{file_in, file_rule}
 use Rattle.adf_words.specs.declared.command_line.ArgsError.{ArgsError}
 use Rattle.adf_words.specs.declared.command_line.ArgsError.TheVariants.{NoMemory, Usage}
 use Rattle.adf_file_words.specs.declared.survey_line.Inquiry.{Inquiry}
@@ -27,21 +28,29 @@ damaged_rule = record (new_rule (codes "damaged")) { long = Some (codes "damaged
 abbrev pub survey_cat_app : App
 survey_cat_app = with_rule (with_rule cat_app damaged_rule) file_rule
 
+-- the flag --keep-type
+abbrev pub keep_type_rule : Rule
+keep_type_rule = record (new_rule (codes "keep_type")) { long = Some (codes "keep-type"); action = Some SetTrue }
+
+-- rescue [--keep-type] [FILE]
+abbrev pub survey_rescue_app : App
+survey_rescue_app = with_rule (with_rule (new_app (codes "rescue")) keep_type_rule) file_rule
+
 -- with the option, the flag and the file
 abbrev pub flagged_survey : App
 flagged_survey = with_rule (with_rule (with_rule (bare_app (codes "adf-survey")) blocks_rule) list_rule) file_rule
 
--- the command line: [--blocks N], and [--list] [FILE], cat [--damaged] PATH [FILE], or rescue [FILE]
+-- the command line: [--blocks N], and [--list] [FILE], cat [--damaged] PATH [FILE], or rescue [--keep-type] [FILE]
 abbrev pub survey_app : App
-survey_app = with_file (with_subcommand flagged_survey survey_cat_app.top) (codes "rescue")
+survey_app = with_subcommand (with_subcommand flagged_survey survey_cat_app.top) survey_rescue_app.top
 
 -- what is asked of an image: all findings; these and what is found; the bytes of a file, which is sound or may be damaged; or a new
--- volume of all that stands
+-- volume of all that stands, which keeps the letters of the image, or has ASCII letters
 pub data QuestionValue : Type 0 where
   report : QuestionValue
   list : QuestionValue
   cat : (damaged : Bool) → Text → QuestionValue
-  rescue : QuestionValue
+  rescue : (keep_type : Bool) → QuestionValue
 
 -- what a command line asks for, of the image as it is or as if it had so many blocks
 pub record InquiryValue : Type 0 where
@@ -69,11 +78,15 @@ blocks_met rows = elim (first_of (codes "blocks") rows) [ None ↦ Some None | S
 abbrev pub asks_damaged : List Row → Bool
 asks_damaged rows = is_text (codes "true") (first_of (codes "damaged") rows)
 
+-- the flag --keep-type is among the matches
+abbrev pub asks_keep_type : List Row → Bool
+asks_keep_type rows = is_text (codes "true") (first_of (codes "keep_type") rows)
+
 -- what a subcommand's name and matches ask
 abbrev pub question_named : Text → List Row → Option QuestionValue
 question_named name rows =
     if bytes_eq name (codes "cat") then option_map (cat (asks_damaged rows)) (first_of (codes "path") rows)
-    else (if bytes_eq name (codes "rescue") then Some rescue else None)
+    else (if bytes_eq name (codes "rescue") then Some (rescue (asks_keep_type rows)) else None)
 
 -- the flag --list is among the matches
 abbrev pub asks_list : List Row → Bool
@@ -122,7 +135,7 @@ abbrev pub question_value : Question → QuestionValue
 question_value Report = report
 question_value ListAll = list
 question_value (Cat path damaged) = cat damaged path.now
-question_value Rescue = rescue
+question_value (Rescue keep_type) = rescue keep_type
 
 -- the value of an inquiry as the code has it
 abbrev pub inquiry_value : Inquiry → InquiryValue

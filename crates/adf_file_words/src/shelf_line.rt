@@ -5,6 +5,7 @@ ghost use Rattle.clap.specs.Words.{all_of, app_of, fault_of, found_of, matches_o
 ghost use Rattle.adf_words.specs.CommandLine.{texts_of};
 ghost use Rattle.adf_words.specs.declared.command_line.ArgsError.TheVariants.{Usage};
 ghost use Rattle.adf_file_words.specs.ShelfLine.{AsksShelf, ExplainsShelfArgs, AreRefusedByShelf, order_in, shelf_app};
+ghost use Rattle.adf_file_words.specs.ShelfLine.{shelf_order};
 
 use adf_words::{ArgsError, has_flag, matches_of};
 use clap::{Arg, ArgAction, ArgMatches, Command};
@@ -12,24 +13,26 @@ use std::alloc::{AllocError, Global};
 use std::marker::Model;
 
 /// What is said of arguments that are refused.
-pub const SHELF_USAGE: &str = "usage: adf-shelf [--null] [FILE..]\n";
+pub const SHELF_USAGE: &str = "usage: adf-shelf [--null] [--any-type] [FILE..]\n";
 
 /// What a command line asks for.
 #[derive(Drop)]
 pub struct Order<'a> {
     /// Whether names that are read end in zero bytes.
     pub null: bool,
+    /// Whether volumes of types 2 and 3 are accepted too.
+    pub any_type: bool,
     /// The names; if there are none, they are read from the input.
     pub files: Vec<&'a str>,
 }
 
 impl<'a> Model for Order<'a> {
-    ghost use Rattle.std.specs.Prelude.{Bool, List, ℕ};
     ghost use Rattle.adf_words.specs.CommandLine.{texts_of};
+    ghost use Rattle.adf_file_words.specs.ShelfLine.{ShelfOrder};
 
-    ghost Value = { Bool × List (List ℕ) };
+    ghost Value = { ShelfOrder };
 
-    ghost view = { λ o. (o.null, texts_of o.files.items) };
+    ghost view = { λ o. record { null = o.null; any_type = o.any_type; files = texts_of o.files.items } };
 }
 
 // The command line. Arguments for help are refused like others, so that clap lays out no text for them.
@@ -39,9 +42,12 @@ fn command<'a>(alloc: Global) -> Result<Command<'a>, AllocError>
     let null = Arg::new(alloc, "null")
         .long("null")
         .action(ArgAction::SetTrue);
+    let any_type = Arg::new(alloc, "any_type")
+        .long("any-type")
+        .action(ArgAction::SetTrue);
     let files = Arg::new(alloc, "files").action(ArgAction::Append);
     let bare = Command::new(alloc, "adf-shelf").disable_help_flag(true);
-    bare.arg(null)?.arg(files)
+    bare.arg(null)?.arg(any_type)?.arg(files)
 }
 
 // The values of an argument.
@@ -69,7 +75,12 @@ fn order_in<'a>(alloc: Global, found: &ArgMatches<'a>) -> Result<Order<'a>, Allo
 {
     let files = names_in(alloc, found)?;
     let null = has_flag(found, "null");
-    Ok(Order { null, files })
+    let any_type = has_flag(found, "any_type");
+    Ok(Order {
+        null,
+        any_type,
+        files,
+    })
 }
 
 // The matches of the arguments.
@@ -105,18 +116,23 @@ pub fn parse_shelf<'a>(alloc: Global, args: &'a [&str]) -> Result<Order<'a>, Arg
 /// calls for help among them.
 #[tactic(auto, unfolding(clap::proofs::OnLiterals::clap_on_literals))]
 pub fn shelf_words_as_documented()
-    ensures none { AsksShelf (codes "adf-shelf" ∷ []) (false, []) }
-    ensures null { AsksShelf (codes "adf-shelf" ∷ codes "--null" ∷ []) (true, []) }
+    ensures none { AsksShelf (codes "adf-shelf" ∷ []) (shelf_order false false []) }
+    ensures null { AsksShelf (codes "adf-shelf" ∷ codes "--null" ∷ []) (shelf_order true false []) }
+    ensures any_type { AsksShelf (codes "adf-shelf" ∷ codes "--any-type" ∷ []) (shelf_order false true []) }
     ensures file { (first : ℕ) (rest : List ℕ) → (first == 45) ≡ false
-        → AsksShelf (codes "adf-shelf" ∷ (first ∷ rest) ∷ []) (false, (first ∷ rest) ∷ []) }
+        → AsksShelf (codes "adf-shelf" ∷ (first ∷ rest) ∷ []) (shelf_order false false ((first ∷ rest) ∷ [])) }
     ensures files { (first : ℕ) (rest : List ℕ) → (first == 45) ≡ false
         → AsksShelf (codes "adf-shelf" ∷ codes "a.adf" ∷ (first ∷ rest) ∷ [])
-        (false, codes "a.adf" ∷ (first ∷ rest) ∷ []) }
+        (shelf_order false false (codes "a.adf" ∷ (first ∷ rest) ∷ [])) }
     ensures null_file { AsksShelf (codes "adf-shelf" ∷ codes "--null" ∷ codes "a.adf" ∷ [])
-        (true, codes "a.adf" ∷ []) }
+        (shelf_order true false (codes "a.adf" ∷ [])) }
+    ensures both_file { AsksShelf
+        (codes "adf-shelf" ∷ codes "--any-type" ∷ codes "--null" ∷ codes "a.adf" ∷ [])
+        (shelf_order true true (codes "a.adf" ∷ [])) }
     ensures any_files { (one two : List ℕ)
-        → AsksShelf (codes "adf-shelf" ∷ codes "--" ∷ one ∷ two ∷ []) (false, one ∷ two ∷ []) }
-    ensures no_args { AsksShelf [] (false, []) }
+        → AsksShelf (codes "adf-shelf" ∷ codes "--" ∷ one ∷ two ∷ [])
+        (shelf_order false false (one ∷ two ∷ [])) }
+    ensures no_args { AsksShelf [] (shelf_order false false []) }
     ensures dash { AreRefusedByShelf (codes "adf-shelf" ∷ codes "-x" ∷ []) }
     ensures null_twice { AreRefusedByShelf
         (codes "adf-shelf" ∷ codes "--null" ∷ codes "--null" ∷ []) }

@@ -6,9 +6,12 @@ ghost use Rattle.clap.specs.declared.builder.command.Command.TheViews.{out-Comma
 ghost use Rattle.adf_words.specs.CommandLine.{texts_of};
 ghost use Rattle.adf_words.specs.declared.command_line.ArgsError.TheVariants.{Usage};
 ghost use Rattle.adf_file_words.specs.FileArgument.{file_meant};
-ghost use Rattle.adf_file_words.specs.SurveyLine.{AreFew, AsksSurvey, AsksSurveyOf, AreRefusedBySurvey, ExplainsSurveyArgs, blocks_met, number_named, asked, cat, flagged_survey, list, inquiry_met, inquiry_value, question_met, question_named, question_value, report, rescue, survey_app, survey_cat_app, survey_file, survey_file_met};
+ghost use Rattle.adf_file_words.specs.SurveyLine.{AreFew, AsksSurvey, AsksSurveyOf, AreRefusedBySurvey, ExplainsSurveyArgs};
+ghost use Rattle.adf_file_words.specs.SurveyLine.{blocks_met, number_named, asked, cat, flagged_survey, list, inquiry_met};
+ghost use Rattle.adf_file_words.specs.SurveyLine.{inquiry_value, question_met, question_named, question_value, report, rescue};
+ghost use Rattle.adf_file_words.specs.SurveyLine.{survey_app, survey_cat_app, survey_rescue_app, survey_file, survey_file_met};
 
-use crate::file_argument::{file_argument, file_in, with_file};
+use crate::file_argument::{file_argument, file_in};
 use adf_blocks::MOST_BLOCKS;
 use adf_words::{
     ArgsError, bare_command, cat_command, first_text, has_flag, list_flag, matches_of,
@@ -19,7 +22,7 @@ use std::alloc::{AllocError, Global};
 /// What is said of arguments that are refused.
 pub const SURVEY_USAGE: &str =
     "usage: adf-survey [--blocks N] [--list] [FILE]\n       adf-survey [--blocks N] cat [--damaged] PATH [FILE]\n\
-    \x20      adf-survey [--blocks N] rescue [FILE]\n\
+    \x20      adf-survey [--blocks N] rescue [--keep-type] [FILE]\n\
     without a FILE the image comes on standard input; man adf-survey tells more\n";
 
 /// What is asked of an image.
@@ -31,8 +34,8 @@ pub enum Question<'a> {
     List,
     /// The bytes of a file by the text of its path: of a sound one, or of one that may be damaged.
     Cat { path: &'a str, damaged: bool },
-    /// A new volume of all that stands.
-    Rescue,
+    /// A new volume of all that stands, and whether it keeps the letters of the image, or has ASCII letters.
+    Rescue { keep_type: bool },
 }
 
 /// What a command line asks for.
@@ -65,12 +68,26 @@ fn survey_cat_command<'a>(alloc: Global) -> Result<Command<'a>, AllocError>
     cat_command(alloc)?.arg(damaged)?.arg(file_argument(alloc))
 }
 
+// The command `rescue [--keep-type] [FILE]`.
+fn survey_rescue_command<'a>(alloc: Global) -> Result<Command<'a>, AllocError>
+    ensures app { IfOk result (λ c. app_of c ≡ survey_rescue_app) }
+    ensures local { IfOk result (λ c. (out-Command c).has_globals ≡ false) }
+{
+    let keep_type = Arg::new(alloc, "keep_type")
+        .long("keep-type")
+        .action(ArgAction::SetTrue);
+    Command::new(alloc, "rescue")
+        .arg(keep_type)?
+        .arg(file_argument(alloc))
+}
+
 // The command line.
 fn command<'a>(alloc: Global) -> Result<Command<'a>, AllocError>
     ensures { IfOk result (λ c. app_of c ≡ survey_app) }
 {
-    let cats = flagged(alloc)?.subcommand(survey_cat_command(alloc)?)?;
-    with_file(alloc, cats, "rescue")
+    flagged(alloc)?
+        .subcommand(survey_cat_command(alloc)?)?
+        .subcommand(survey_rescue_command(alloc)?)
 }
 
 // The number that a text is: decimal digits, up to the blocks of the largest volume.
@@ -116,7 +133,9 @@ fn question_named<'a>(name: &str, found: &ArgMatches<'a>) -> Option<Question<'a>
             None => None,
         }
     } else if name == "rescue" {
-        Some(Question::Rescue)
+        Some(Question::Rescue {
+            keep_type: has_flag(found, "keep_type"),
+        })
     } else {
         None
     }
@@ -228,7 +247,7 @@ pub fn survey_words_as_documented()
     ensures damaged_any { (path : List ℕ) → AsksSurveyOf
         (codes "adf-survey" ∷ codes "cat" ∷ codes "--damaged" ∷ codes "--" ∷ path ∷ [])
         (asked None (cat true path)) None }
-    ensures rescue { AsksSurveyOf (codes "adf-survey" ∷ codes "rescue" ∷ []) (asked None rescue) None }
+    ensures rescue { AsksSurveyOf (codes "adf-survey" ∷ codes "rescue" ∷ []) (asked None (rescue false)) None }
     ensures blocks { AsksSurveyOf (codes "adf-survey" ∷ codes "--blocks" ∷ codes "1760" ∷ [])
         (asked (Some 1760) report) None }
     ensures blocks_list { AsksSurveyOf
@@ -239,7 +258,7 @@ pub fn survey_words_as_documented()
         (asked (Some 1760) (cat false path)) None }
     ensures blocks_rescue { AsksSurveyOf
         (codes "adf-survey" ∷ codes "--blocks" ∷ codes "1760" ∷ codes "rescue" ∷ [])
-        (asked (Some 1760) rescue) None }
+        (asked (Some 1760) (rescue false)) None }
     ensures most_blocks { AsksSurveyOf (codes "adf-survey" ∷ codes "--blocks" ∷ codes "1048576" ∷ [])
         (asked (Some 1048576) report) None }
     ensures file { AsksSurveyOf (codes "adf-survey" ∷ codes "a.adf" ∷ [])
@@ -267,10 +286,21 @@ pub fn survey_words_as_documented()
         (codes "adf-survey" ∷ codes "cat" ∷ codes "--damaged" ∷ codes "a" ∷ codes "a.adf" ∷ [])
         (asked None (cat true (codes "a"))) (Some (codes "a.adf")) }
     ensures rescue_file { AsksSurveyOf (codes "adf-survey" ∷ codes "rescue" ∷ codes "a.adf" ∷ [])
-        (asked None rescue) (Some (codes "a.adf")) }
+        (asked None (rescue false)) (Some (codes "a.adf")) }
     ensures rescue_any { (file : List ℕ) → AsksSurveyOf
         (codes "adf-survey" ∷ codes "rescue" ∷ codes "--" ∷ file ∷ [])
-        (asked None rescue) (file_meant file) }
+        (asked None (rescue false)) (file_meant file) }
+    ensures keep_type { AsksSurveyOf (codes "adf-survey" ∷ codes "rescue" ∷ codes "--keep-type" ∷ [])
+        (asked None (rescue true)) None }
+    ensures keep_type_file { AsksSurveyOf
+        (codes "adf-survey" ∷ codes "rescue" ∷ codes "--keep-type" ∷ codes "a.adf" ∷ [])
+        (asked None (rescue true)) (Some (codes "a.adf")) }
+    ensures keep_type_behind { AsksSurveyOf
+        (codes "adf-survey" ∷ codes "rescue" ∷ codes "a.adf" ∷ codes "--keep-type" ∷ [])
+        (asked None (rescue true)) (Some (codes "a.adf")) }
+    ensures blocks_keep_type { AsksSurveyOf
+        (codes "adf-survey" ∷ codes "--blocks" ∷ codes "1760" ∷ codes "rescue" ∷ codes "--keep-type" ∷ [])
+        (asked (Some 1760) (rescue true)) None }
     ensures too_many { AreRefusedBySurvey
         (codes "adf-survey" ∷ codes "--blocks" ∷ codes "1048577" ∷ []) }
     ensures no_number { AreRefusedBySurvey (codes "adf-survey" ∷ codes "--blocks" ∷ []) }
@@ -304,6 +334,13 @@ pub fn survey_words_as_documented()
         (codes "adf-survey" ∷ codes "cat" ∷ codes "--damaged" ∷ []) }
     ensures damaged_twice { AreRefusedBySurvey
         (codes "adf-survey" ∷ codes "cat" ∷ codes "--damaged" ∷ codes "--damaged" ∷ codes "a" ∷ []) }
+    ensures keep_type_alone { AreRefusedBySurvey (codes "adf-survey" ∷ codes "--keep-type" ∷ []) }
+    ensures keep_type_front { AreRefusedBySurvey
+        (codes "adf-survey" ∷ codes "--keep-type" ∷ codes "rescue" ∷ []) }
+    ensures keep_type_cat { AreRefusedBySurvey
+        (codes "adf-survey" ∷ codes "cat" ∷ codes "--keep-type" ∷ codes "a" ∷ []) }
+    ensures keep_type_twice { AreRefusedBySurvey
+        (codes "adf-survey" ∷ codes "rescue" ∷ codes "--keep-type" ∷ codes "--keep-type" ∷ []) }
     ensures short_list { AreRefusedBySurvey (codes "adf-survey" ∷ codes "-l" ∷ []) }
     ensures flag { AreRefusedBySurvey (codes "adf-survey" ∷ codes "-x" ∷ []) }
     ensures help { AreRefusedBySurvey (codes "adf-survey" ∷ codes "--help" ∷ []) }

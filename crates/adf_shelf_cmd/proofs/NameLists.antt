@@ -4,7 +4,9 @@ use Rattle.std.proofs.Common.{◌∙◌, length, if◌then◌else◌, Option, No
 use Rattle.std.specs.Io.BufRead.{DropsThrough, drop_through, first_piece, strip_last, take_through}
 use Rattle.std.specs.Io.KnownBytes.{IsAtEnd}
 use Rattle.std.proofs.lemmas.Grind.{common_steps}
-use Rattle.adf_shelf_cmd.specs.Names.{AreGiven, first_names, listed_names}
+use Rattle.std.proofs.Common.{Bor}
+use Rattle.adf_words.specs.CommandLine.{texts_of}
+use Rattle.adf_shelf_cmd.specs.Names.{AreGiven, are_unread, end_of, first_names, listed_names, names_from}
 
 short_both : (c : Bool) (xs ys : List ℕ) (n : ℕ) → length xs ≤ n → length ys ≤ n → length (if c then xs else ys) ≤ n
 short_both true xs ys n h i = h
@@ -51,3 +53,27 @@ pub gives_piece : (end : ℕ) (old new : Option (List ℕ)) (text name : List �
 gives_piece end None new text name piece rest some e = tt
 gives_piece end (Some []) new text name piece rest some e = let none : length text ≡ 0 = ap length piece in absurd (omega arith)
 gives_piece end (Some (b ∷ bytes)) new text name piece rest some e = grind (arith, common_steps, one_name, option_map)
+
+-- where words give no names, those in the input are asked for, and their fault is that of all
+pub asked_in_input : (null : Bool) (names : List (List ℕ)) (input : Option (List ℕ)) → names ≡ []
+    → names_from null names input ≡ option_map (listed_names (end_of null)) input
+asked_in_input null [] input e = refl
+asked_in_input null (name ∷ names) input e = cc
+
+pub unread_in_input : (names : List (List ℕ)) (failed : Bool) → names ≡ [] → are_unread names failed ≡ failed
+unread_in_input [] failed e = refl
+unread_in_input (name ∷ names) failed e = cc
+
+-- where they give some, these are
+pub asked_in_words : (null : Bool) (names : List (List ℕ)) (input : Option (List ℕ)) → (names ≡ [] → ⊥) → names_from null names input ≡ Some names
+asked_in_words null [] input ne = absurd (ne refl)
+asked_in_words null (name ∷ names) input ne = refl
+
+pub unread_in_words : (names : List (List ℕ)) (failed : Bool) → (names ≡ [] → ⊥) → are_unread names failed ≡ false
+unread_in_words [] failed ne = absurd (ne refl)
+unread_in_words (name ∷ names) failed ne = refl
+
+-- words that are no texts are none
+pub no_words : (words : List (Bor (List ℕ))) → texts_of words ≡ [] → words ≡ []
+no_words [] e = refl
+no_words (w ∷ ws) e = cc

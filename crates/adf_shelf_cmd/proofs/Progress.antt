@@ -4,6 +4,7 @@ use Rattle.std.proofs.Common.{◌≡◌, ◌∙◌, ℕ, max, Bool, true, false,
 use Rattle.std.proofs.Common.{append-nil, append_assoc, inl, inr, refl, sym, ap, subst, arith}
 use Rattle.std.specs.Io.KnownBytes.{Appends}
 use Rattle.std.proofs.lemmas.Grind.{common_steps}
+use Rattle.adf_volume.specs.declared.types.Types.{Types}
 use Rattle.adf_runs.proofs.KnownBytes.{appends_two}
 use Rattle.adf_runs.proofs.PendingText.{appends_nil, part_behind, part_of_more}
 use Rattle.adf_runs.specs.Streams.{Says}
@@ -111,17 +112,17 @@ broken may (Some x) (Some y) None s broke o o' o'' failed e e' name (names, said
 broken may (Some x) (Some y) (Some z) s broke o o' o'' failed e e' name (names, said, given, written, says) one breaks = grind (arith, common_steps)
 
 -- what is reported of the bytes that a source gives is reported of the known bytes of its file
-pub report_known : (known left : Option (List ℕ)) (m n : Bool) (s : ℕ) (text : List ℕ) → IfSome known (λ bytes. left ≡ Some bytes)
+pub report_known : (types : Types) (known left : Option (List ℕ)) (m n : Bool) (s : ℕ) (text : List ℕ) → IfSome known (λ bytes. left ≡ Some bytes)
     → (m ≡ false → n ≡ false)
-    → IsOpenedReport left n s text → IsOpenedReport known m s text
-report_known None left m n s text e fails (inl h) = inl (h.0, tt, h.2)
-report_known None left true n s text e fails (inr (inl h)) = inr (inl (refl, h.1, h.2))
-report_known None left false n s text e fails (inr (inl h)) = let no = fails refl in absurd (cc)
-report_known None left m n s text e fails (inr (inr h)) = inr (inr h)
-report_known (Some bytes) left m n s text e fails (inl h) = inl (h.0, subst (λ k. IfSome k (λ all. all ≡ h.0)) e h.1, h.2)
-report_known (Some bytes) left true n s text e fails (inr (inl h)) = inr (inl (refl, h.1, h.2))
-report_known (Some bytes) left false n s text e fails (inr (inl h)) = let no = fails refl in absurd (cc)
-report_known (Some bytes) left m n s text e fails (inr (inr h)) = inr (inr h)
+    → IsOpenedReport types left n s text → IsOpenedReport types known m s text
+report_known types None left m n s text e fails (inl h) = inl (h.0, tt, h.2)
+report_known types None left true n s text e fails (inr (inl h)) = inr (inl (refl, h.1, h.2))
+report_known types None left false n s text e fails (inr (inl h)) = let no = fails refl in absurd (cc)
+report_known types None left m n s text e fails (inr (inr h)) = inr (inr h)
+report_known types (Some bytes) left m n s text e fails (inl h) = inl (h.0, subst (λ k. IfSome k (λ all. all ≡ h.0)) e h.1, h.2)
+report_known types (Some bytes) left true n s text e fails (inr (inl h)) = inr (inl (refl, h.1, h.2))
+report_known types (Some bytes) left false n s text e fails (inr (inl h)) = let no = fails refl in absurd (cc)
+report_known types (Some bytes) left m n s text e fails (inr (inr h)) = inr (inr h)
 
 -- the greater of two statuses
 pub max_status : (s t u : ℕ) → u ≡ max s t → IsRunStatus s → IsRunStatus t → IsRunStatus u

@@ -3,10 +3,10 @@
 use Rattle.std.specs.Prelude.{◌≡◌, ◌≢◌, ◌≤◌, ◌⊎◌, ℕ, max, Bool, true, false, List, [], ◌∷◌, ◌++◌, codes}
 use Rattle.std.specs.Prelude.{Option, None, Some, IfSome, Result, Err, if◌then◌else◌, string_bytes}
 use Rattle.std.specs.Io.KnownBytes.{Appends}
+use Rattle.adf_volume.specs.declared.types.Types.{Types}
 use Rattle.adf_names.specs.Escapes.{escaped}
-use Rattle.adf_cmd.specs.Answers.{Answer}
+use Rattle.adf_cmd.specs.Answers.{Checks}
 use Rattle.adf_runs.specs.Commands.{on_output}
-use Rattle.adf_words.specs.CommandLine.{check}
 use Rattle.adf_runs.specs.Streams.{AppendsPart, Says}
 use Rattle.adf_file_runs.specs.Files.{why_line}
 use Rattle.adf_file_runs.specs.declared.files.Unopened.{Unopened}
@@ -19,9 +19,9 @@ use Rattle.adf_shelf_cmd.specs.declared.batch.Stop.TheVariants.{ReadFault as Nam
 abbrev pub batch_line : List ℕ → List ℕ → List ℕ
 batch_line name text = escaped name ++ (9 ∷ text)
 
--- the answer of `check` to bytes, to the known ones where some are
-abbrev pub Checks : Option (List ℕ) → ℕ → List ℕ → Type 0
-Checks known status text = (bytes : List ℕ) × IfSome known (λ all. all ≡ bytes) × Answer check bytes (on_output status text)
+-- the answer of a check for these types to bytes, to the known ones where some are
+abbrev pub ChecksKnown : Types → Option (List ℕ) → ℕ → List ℕ → Type 0
+ChecksKnown types known status text = (bytes : List ℕ) × IfSome known (λ all. all ≡ bytes) × Checks types bytes (on_output status text)
 
 -- a file that may fail was not read
 abbrev pub IsUnreadFile : Bool → ℕ → List ℕ → Type 0
@@ -32,18 +32,18 @@ abbrev pub LacksMemory : ℕ → List ℕ → Type 0
 LacksMemory status text = (status ≡ 3) × (text ≡ codes "no memory\n")
 
 -- what may be reported of a file that was opened
-abbrev pub IsOpenedReport : Option (List ℕ) → Bool → ℕ → List ℕ → Type 0
-IsOpenedReport known may_fail status text = Checks known status text ⊎ (IsUnreadFile may_fail status text ⊎ LacksMemory status text)
+abbrev pub IsOpenedReport : Types → Option (List ℕ) → Bool → ℕ → List ℕ → Type 0
+IsOpenedReport types known may_fail status text = ChecksKnown types known status text ⊎ (IsUnreadFile may_fail status text ⊎ LacksMemory status text)
 
 -- what may be reported of a file, where `may_open` says what may come of opening it: `None` that it is opened, else why not
-abbrev pub IsReport : Option (List ℕ) → Bool → (Option Unopened → Type 0) → ℕ → List ℕ → Option Unopened → Type 0
-IsReport known may_fail may_open status text None = may_open None × IsOpenedReport known may_fail status text
-IsReport known may_fail may_open status text (Some why) = may_open (Some why) × IsUnreadFile may_fail status text
+abbrev pub IsReport : Types → Option (List ℕ) → Bool → (Option Unopened → Type 0) → ℕ → List ℕ → Option Unopened → Type 0
+IsReport types known may_fail may_open status text None = may_open None × IsOpenedReport types known may_fail status text
+IsReport types known may_fail may_open status text (Some why) = may_open (Some why) × IsUnreadFile may_fail status text
 
 -- what may be reported of the file of a name, by the bytes that are known of each file, whether it may fail, and what may come of opening it
-abbrev pub IsReportOf : (List ℕ → Option (List ℕ)) → (List ℕ → Bool) → (List ℕ → Option Unopened → Type 0)
+abbrev pub IsReportOf : Types → (List ℕ → Option (List ℕ)) → (List ℕ → Bool) → (List ℕ → Option Unopened → Type 0)
     → List ℕ → ℕ → List ℕ → Option Unopened → Type 0
-IsReportOf bytes_of may_fail may_open name = IsReport (bytes_of name) (may_fail name) (may_open name)
+IsReportOf types bytes_of may_fail may_open name = IsReport types (bytes_of name) (may_fail name) (may_open name)
 
 -- the status of a run whose words are taken
 abbrev pub IsRunStatus : ℕ → Type 0

@@ -1,5 +1,8 @@
 -- The names of images.
 use Rattle.std.specs.Prelude.{◌≡◌, ℕ, zero, suc, Bool, true, false, List, [], ◌∷◌, ◌++◌, length, Option, None, Some, IfSome, option_map, if◌then◌else◌}
+use Rattle.adf_file_words.specs.ShelfLine.{ShelfOrder}
+use Rattle.adf_volume.specs.declared.types.Types.{Types}
+use Rattle.adf_volume.specs.declared.types.Types.TheVariants.{Plain, WithInternational}
 use Rattle.std.specs.Io.BufRead.{drop_through, first_piece}
 
 -- of the known names, these were given
@@ -13,10 +16,10 @@ abbrev pub GivesName : Bool → Option (List (List ℕ)) → Option (List (List 
 GivesName true old new name = AreGiven old new (name ∷ [])
 GivesName false old new name = IfSome old (λ names. names ≡ [])
 
--- whether the names of an order could not be read, where `failed` says so of those in the input: words are in memory
-abbrev pub are_unread : Bool × List (List ℕ) → Bool → Bool
-are_unread (null, []) failed = failed
-are_unread (null, name ∷ names) failed = false
+-- whether the names that words give, or else the input, could not be read, where `failed` says so of those in the input: words are in memory
+abbrev pub are_unread : List (List ℕ) → Bool → Bool
+are_unread [] failed = failed
+are_unread (name ∷ names) failed = false
 
 -- the first names in bytes, at most so many, each ended by `end` but perhaps the last
 unfoldable pub first_names : ℕ → ℕ → List ℕ → List (List ℕ)
@@ -32,7 +35,15 @@ listed_names end bytes = first_names (length bytes) end bytes
 abbrev pub end_of : Bool → ℕ
 end_of null = if null then 0 else 10
 
--- the names of an order, or where it has none those in the input
-abbrev pub names_asked : Bool × List (List ℕ) → Option (List ℕ) → Option (List (List ℕ))
-names_asked (null, []) input = option_map (listed_names (end_of null)) input
-names_asked (null, name ∷ names) input = Some (name ∷ names)
+-- the names that words give, or where there are none those in the input
+abbrev pub names_from : Bool → List (List ℕ) → Option (List ℕ) → Option (List (List ℕ))
+names_from null [] input = option_map (listed_names (end_of null)) input
+names_from null (name ∷ names) input = Some (name ∷ names)
+
+-- those of an order
+abbrev pub names_asked : ShelfOrder → Option (List ℕ) → Option (List (List ℕ))
+names_asked order input = names_from order.null order.files input
+
+-- the types that an order accepts
+abbrev pub types_asked : ShelfOrder → Types
+types_asked order = if order.any_type then WithInternational else Plain

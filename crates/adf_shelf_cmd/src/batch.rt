@@ -8,10 +8,9 @@ ghost use Rattle.adf_file_runs.specs.Files.{why_line};
 ghost use Rattle.adf_shelf_cmd.specs.Lines.{BreaksLine, IsReportOf, IsRunStatus, SaysMore, WritesAll, WritesPart, is_names_stop, is_write_stop, batch_line, stop_line};
 
 use crate::names::Names;
-use crate::report::{check_file, push_line, push_why};
+use crate::report::{ImageChecks, check_file, push_line, push_why};
 use adf_file_runs::Files;
 use adf_runs::{Sink, StreamFault, say, write_all};
-use std::alloc::Global;
 
 /// Why the work stopped before the last name.
 #[derive(Clone, Copy, Debug, PartialEq, Eq)]
@@ -58,7 +57,7 @@ pub fn say_more<E: Sink>(errors: &mut E, text: &[u8])
 
 // Writes the line of a name, then says on errors why its file could not be opened, and answers its status.
 fn write_line<F: Files, W: Sink, E: Sink>(
-    alloc: Global,
+    checks: ImageChecks,
     files: &F,
     name: &[u8],
     buffers: &mut Buffers,
@@ -67,20 +66,20 @@ fn write_line<F: Files, W: Sink, E: Sink>(
 ) -> Result<u8, Stop>
     requires { W.has_failed output.old ≡ false }
     ensures ok { IfOk result (λ s. (text : List ℕ) × (why : Option Unopened)
-        × IsReportOf (F.bytes_of files.now) (F.may_fail files.now) (F.may_open files.now)
+        × IsReportOf checks.types (F.bytes_of files.now) (F.may_fail files.now) (F.may_open files.now)
         name.now s text why
         × Appends (W.held output.old) (W.held output.new) (batch_line name.now text)
         × SaysMore (E.has_failed errors.old) (E.held errors.old)
         (E.has_failed errors.new) (E.held errors.new) (why_line name.now why)) }
     ensures err { OnErr result
-        (BreaksLine (IsReportOf (F.bytes_of files.now) (F.may_fail files.now) (F.may_open files.now))
+        (BreaksLine (IsReportOf checks.types (F.bytes_of files.now) (F.may_fail files.now) (F.may_open files.now))
         name.now (W.has_failed output.new) (W.held output.old) (W.held output.new)) }
     ensures unsaid { OnErr result (errors.new ≡ errors.old) }
     ensures status { IfOk result IsRunStatus }
     ensures read { is_names_stop result ≡ false }
     ensures failed { W.has_failed output.new ≡ is_write_stop result }
 {
-    let report = check_file(alloc, files, name, &mut buffers.image);
+    let report = check_file(checks, files, name, &mut buffers.image);
     buffers.line.clear();
     if push_line(&mut buffers.line, name, &report).is_err() {
         return Err(Stop::NoMemory);
@@ -104,7 +103,7 @@ fn write_line<F: Files, W: Sink, E: Sink>(
 /// a name or its lines; then the lines before are written, and if output failed a front part of the
 /// next one, but not all. If errors fail, nothing more is said on them.
 pub fn write_verdicts<N: Names, F: Files, W: Sink, E: Sink>(
-    alloc: Global,
+    checks: ImageChecks,
     names: &mut N,
     files: &F,
     output: &mut W,
@@ -113,11 +112,11 @@ pub fn write_verdicts<N: Names, F: Files, W: Sink, E: Sink>(
     requires writes { W.has_failed output.old ≡ false }
     requires tells { E.has_failed errors.old ≡ false }
     ensures all { IfOk result (λ s. (said : List ℕ)
-        × WritesAll (IsReportOf (F.bytes_of files.now) (F.may_fail files.now) (F.may_open files.now))
+        × WritesAll (IsReportOf checks.types (F.bytes_of files.now) (F.may_fail files.now) (F.may_open files.now))
         (N.left names.old) s (W.held output.old) (W.held output.new) said
         × Says (E.has_failed errors.new) (E.held errors.old) (E.held errors.new) said) }
     ensures part { OnErr result ((said : List ℕ)
-        × WritesPart (IsReportOf (F.bytes_of files.now) (F.may_fail files.now) (F.may_open files.now))
+        × WritesPart (IsReportOf checks.types (F.bytes_of files.now) (F.may_fail files.now) (F.may_open files.now))
         (N.left names.old) (W.has_failed output.new) (W.held output.old) (W.held output.new) said
         × Says (E.has_failed errors.new) (E.held errors.old) (E.held errors.new) said) }
     ensures status { IfOk result IsRunStatus }
@@ -125,15 +124,15 @@ pub fn write_verdicts<N: Names, F: Files, W: Sink, E: Sink>(
     ensures failed { W.has_failed output.new ≡ is_write_stop result }
 {
     let mut buffers = Buffers {
-        image: Vec::new(alloc),
-        line: Vec::new(alloc),
-        why: Vec::new(alloc),
+        image: Vec::new(checks.alloc),
+        line: Vec::new(checks.alloc),
+        why: Vec::new(checks.alloc),
     };
-    let mut name = Vec::new(alloc);
+    let mut name = Vec::new(checks.alloc);
     let mut status = 0u8;
     loop {
         match names.next(&mut name) {
-            Ok(true) => match write_line(alloc, files, &name, &mut buffers, output, errors) {
+            Ok(true) => match write_line(checks, files, &name, &mut buffers, output, errors) {
                 Ok(one) => status = status.max(one),
                 Err(stop) => return Err(stop),
             },

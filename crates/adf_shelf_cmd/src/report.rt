@@ -8,6 +8,7 @@ use adf_cmd::{CheckAnswer, answer_to_input};
 use adf_file_runs::{Files, Unopened};
 use adf_runs::{Source, StreamFault};
 use adf_texts::push_escaped;
+use adf_volume::Types;
 use std::alloc::{AllocError, Global};
 
 /// What is reported of a file.
@@ -60,15 +61,22 @@ impl Report {
     }
 }
 
+/// How images are checked: those of the accepted types are sound.
+#[derive(Clone, Copy)]
+pub struct ImageChecks {
+    pub alloc: Global,
+    pub types: Types,
+}
+
 // Reads an image into the buffer and checks it.
-fn check_source<S: Source>(alloc: Global, source: &mut S, buffer: &mut Vec<u8>) -> Report
+fn check_source<S: Source>(checks: ImageChecks, source: &mut S, buffer: &mut Vec<u8>) -> Report
     requires { S.has_failed source.old ≡ false }
-    ensures report { IsOpenedReport (S.left source.old) (S.may_fail source.old)
+    ensures report { IsOpenedReport checks.types (S.left source.old) (S.may_fail source.old)
         (report_status result) (report_text result) }
     ensures opened { report_why result ≡ None }
     ensures failed { S.has_failed source.new ≡ is_unread result }
 {
-    match answer_to_input(alloc, source, buffer) {
+    match answer_to_input(checks.alloc, checks.types, source, buffer) {
         Ok(answer) => Report::Checked(answer),
         Err(StreamFault::Device) => Report::ReadFault,
         Err(StreamFault::NoMemory) => Report::NoMemory,
@@ -78,13 +86,18 @@ fn check_source<S: Source>(alloc: Global, source: &mut S, buffer: &mut Vec<u8>) 
 /// Reads the file of a name into the buffer, which may be that of an earlier file, and checks it:
 /// at most one byte more than the largest image is read of it.
 #[tactic(auto, using(crate::proofs::Progress::report_known))]
-pub fn check_file<F: Files>(alloc: Global, files: &F, name: &[u8], buffer: &mut Vec<u8>) -> Report
-    ensures { IsReport (F.bytes_of files.now name.now) (F.may_fail files.now name.now)
+pub fn check_file<F: Files>(
+    checks: ImageChecks,
+    files: &F,
+    name: &[u8],
+    buffer: &mut Vec<u8>,
+) -> Report
+    ensures { IsReport checks.types (F.bytes_of files.now name.now) (F.may_fail files.now name.now)
         (F.may_open files.now name.now)
         (report_status result) (report_text result) (report_why result) }
 {
     match files.open(name) {
-        Ok(mut source) => check_source(alloc, &mut source, buffer),
+        Ok(mut source) => check_source(checks, &mut source, buffer),
         Err(why) => Report::NotOpened(why),
     }
 }

@@ -1,24 +1,27 @@
 // The whole command.
 
-ghost use Rattle.std.specs.Prelude.{◌≡◌, ◌≢◌, ◌≤◌, Bool, List, ℕ, [], codes, false};
+ghost use Rattle.std.specs.Prelude.{◌≡◌, ◌≢◌, ◌≤◌, Bool, List, ℕ, [], codes, false, if◌then◌else◌};
+ghost use Rattle.adf_volume.specs.declared.types.Types.TheVariants.{Plain, WithInternational};
 ghost use Rattle.adf_words.specs.CommandLine.{texts_of};
 ghost use Rattle.adf_runs.specs.Streams.{Says};
-ghost use Rattle.adf_file_words.specs.ShelfLine.{AsksShelf, AreRefusedByShelf};
+ghost use Rattle.adf_file_words.specs.ShelfLine.{AsksShelf, AreRefusedByShelf, ShelfOrder};
 ghost use Rattle.adf_shelf_cmd.specs.Lines.{Ends, IsReportOf, IsRunStatus};
-ghost use Rattle.adf_shelf_cmd.specs.Names.{are_unread, names_asked};
+ghost use Rattle.adf_shelf_cmd.specs.Names.{are_unread, end_of, names_asked, types_asked};
 
 use crate::batch::{Stop, say_more, write_verdicts};
 use crate::names::{Names, TextNames, WordNames};
+use crate::report::ImageChecks;
 use adf_file_runs::Files;
 use adf_file_words::{Order, SHELF_USAGE as USAGE, parse_shelf};
 use adf_runs::{Sink, say};
+use adf_volume::Types;
 use adf_words::ArgsError;
 use std::alloc::Global;
 use std::io::BufRead;
 
 // Writes the lines of names, says on errors why files could not be opened and why it stopped, and answers the status.
 fn run_names<N: Names, F: Files, W: Sink, E: Sink>(
-    alloc: Global,
+    checks: ImageChecks,
     names: &mut N,
     files: &F,
     output: &mut W,
@@ -26,18 +29,36 @@ fn run_names<N: Names, F: Files, W: Sink, E: Sink>(
 ) -> u8
     requires writes { W.has_failed output.old ≡ false }
     requires tells { E.has_failed errors.old ≡ false }
-    ensures ends { Ends (IsReportOf (F.bytes_of files.now) (F.may_fail files.now) (F.may_open files.now))
+    ensures ends { Ends (IsReportOf checks.types (F.bytes_of files.now) (F.may_fail files.now) (F.may_open files.now))
         (N.left names.old) (N.has_failed names.new) result
         (W.has_failed output.new) (W.held output.old) (W.held output.new)
         (E.has_failed errors.new) (E.held errors.old) (E.held errors.new) }
     ensures status { IsRunStatus result }
 {
-    match write_verdicts(alloc, names, files, output, errors) {
+    match write_verdicts(checks, names, files, output, errors) {
         Ok(status) => status,
         Err(stop) => {
             say_more(errors, stop.line().as_bytes());
             3
         }
+    }
+}
+
+// The byte that ends a name in the input.
+fn end_of(null: bool) -> u8
+    ensures { result ≡ end_of null }
+{
+    if null { 0 } else { b'\n' }
+}
+
+// The types that are accepted.
+fn types_asked(any_type: bool) -> Types
+    ensures { result ≡ (if any_type then WithInternational else Plain) }
+{
+    if any_type {
+        Types::WithInternational
+    } else {
+        Types::Plain
     }
 }
 
@@ -52,19 +73,21 @@ fn run_order<B: BufRead, F: Files, W: Sink, E: Sink>(
 ) -> u8
     requires writes { W.has_failed output.old ≡ false }
     requires tells { E.has_failed errors.old ≡ false }
-    ensures ends { Ends (IsReportOf (F.bytes_of files.now) (F.may_fail files.now) (F.may_open files.now))
-        (names_asked order.now (B.remaining input.old.text)) (are_unread order.now input.new.failed) result
+    ensures ends { Ends (IsReportOf (types_asked order.now) (F.bytes_of files.now) (F.may_fail files.now) (F.may_open files.now))
+        (names_asked order.now (B.remaining input.old.text)) (are_unread order.now.files input.new.failed) result
         (W.has_failed output.new) (W.held output.old) (W.held output.new)
         (E.has_failed errors.new) (E.held errors.old) (E.held errors.new) }
     ensures status { IsRunStatus result }
-    ensures unread { order.now.1 ≢ [] → input.new ≡ input.old }
+    ensures unread { order.now.files ≢ [] → input.new ≡ input.old }
 {
+    let types = types_asked(order.any_type);
+    let checks = ImageChecks { alloc, types };
     if order.files.is_empty() {
-        input.end = if order.null { 0 } else { b'\n' };
-        return run_names(alloc, input, files, output, errors);
+        input.end = end_of(order.null);
+        return run_names(checks, input, files, output, errors);
     }
     let mut named = WordNames::new(&order.files);
-    run_names(alloc, &mut named, files, output, errors)
+    run_names(checks, &mut named, files, output, errors)
 }
 
 /// Writes the verdict on each image that the words name, or else the input, in order; the first word is
@@ -91,16 +114,16 @@ pub fn run<B: BufRead, F: Files, W: Sink, E: Sink>(
 
     // Where the words are taken, output and errors have the lines of the names, or the work stopped: with
     // `read fault` if and only if the names could not be read.
-    ensures ends { (order : Bool × List (List ℕ)) → AsksShelf (texts_of words.now) order
-        → (unread : Bool) × (input.old.failed ≡ false → unread ≡ are_unread order input.new.failed)
-        × Ends (IsReportOf (F.bytes_of files.now) (F.may_fail files.now) (F.may_open files.now))
+    ensures ends { (order : ShelfOrder) → AsksShelf (texts_of words.now) order
+        → (unread : Bool) × (input.old.failed ≡ false → unread ≡ are_unread order.files input.new.failed)
+        × Ends (IsReportOf (types_asked order) (F.bytes_of files.now) (F.may_fail files.now) (F.may_open files.now))
         (names_asked order (B.remaining input.old.text)) unread result
         (W.has_failed output.new) (W.held output.old) (W.held output.new)
         (E.has_failed errors.new) (E.held errors.old) (E.held errors.new) }
 
     // Where the words name images, the input is not read.
-    ensures unread { (order : Bool × List (List ℕ)) → AsksShelf (texts_of words.now) order
-        → order.1 ≢ [] → input.new ≡ input.old }
+    ensures unread { (order : ShelfOrder) → AsksShelf (texts_of words.now) order
+        → order.files ≢ [] → input.new ≡ input.old }
 
     // At status 2 the words are refused; where they are, nothing was read or written.
     ensures usage { result ≡ 2 → AreRefusedByShelf (texts_of words.now) }
@@ -109,7 +132,7 @@ pub fn run<B: BufRead, F: Files, W: Sink, E: Sink>(
         → (input.new ≡ input.old) × (output.new ≡ output.old) }
     ensures said { result ≡ 2
         → Says (E.has_failed errors.new) (E.held errors.old) (E.held errors.new)
-        (codes "usage: adf-shelf [--null] [FILE..]\n") }
+        (codes "usage: adf-shelf [--null] [--any-type] [FILE..]\n") }
     ensures memory { AreRefusedByShelf (texts_of words.now) → result ≡ 3
         → Says (E.has_failed errors.new) (E.held errors.old) (E.held errors.new)
         (codes "no memory\n") }

@@ -7,14 +7,14 @@ pub loop-row-smaller : goal.loop-row-smaller
 loop-row-smaller c =
     let t = c.requires.0 in
     let stands = c.requires.2 in
-    parent_smaller t.entries c.loop-row.node c.in-Some.row stands.fits.tree (c.in-Some.ensures t c.requires.1 stands)
+    parent_smaller t.entries c.loop-row.node c.in-Some.row stands.fits.tree (c.in-Some.ensures _ t c.requires.1 stands)
 
 pub loop-row-preserved : goal.loop-row-preserved
 loop-row-preserved c = λ t l stands.
     let row = c.in-Some.row in
     let es = t.entries in
     let path = c.loop-row.path.items in
-    gathered_more es (names_of es c.args.n) path c.loop-row.node row stands.fits.tree (c.in-Some.ensures t l stands) (c.loop-row.invariant t l stands)
+    gathered_more es (names_of es c.args.n) path c.loop-row.node row stands.fits.tree (c.in-Some.ensures _ t l stands) (c.loop-row.invariant t l stands)
     ∙ ap (λ p. names_of es row.parent ++ reverse p) (sym c.in_ok-push.ensures.items)
 
 pub returns : goal.returns
@@ -22,4 +22,4 @@ returns c = λ t l stands.
     let es = t.entries in
     let gathered = c.loop-row.path.items in
     let names = c.loop-row.invariant t l stands in
-    c.reverse.ensures.items ∙ gathered_all es (names_of es c.args.n) gathered c.loop-row.node (c.in_default.ensures t l stands) names
+    c.reverse.ensures.items ∙ gathered_all es (names_of es c.args.n) gathered c.loop-row.node (c.in_default.ensures _ t l stands) names

@@ -23,9 +23,9 @@ returns c = λ date t l dates stands.
     let named : c.deref.result.now ≡ names_of t.entries c.args.n = c.deref.ensures.value ∙ c.in_ok-path.ensures t l stands in
     of_row (entry t.entries c.args.n) c.in-Some.row
     (λ (lines : List ℕ). OnOk c.push_entry_lines.result (c.push_entry_lines.new.text.items ≡ c.args.text.now.items ++ lines))
-    (entry_lines date (names_of t.entries c.args.n)) (c.in-Some.ensures t l stands)
+    (entry_lines date (names_of t.entries c.args.n)) (c.in-Some.ensures _ t l stands)
     (λ e same. rw named at c.push_entry_lines.ensures date e dates same)
 
 pub returns-in_default : goal.returns-in_default
 returns-in_default c = λ date t l dates stands.
-    no_row (entry t.entries c.args.n) c.args.text.now.items (entry_lines date (names_of t.entries c.args.n)) (c.in_default.ensures t l stands)
+    no_row (entry t.entries c.args.n) c.args.text.now.items (entry_lines date (names_of t.entries c.args.n)) (c.in_default.ensures _ t l stands)

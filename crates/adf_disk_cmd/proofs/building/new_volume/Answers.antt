@@ -4,4 +4,4 @@ use Rattle.adf_disk_cmd.proofs.NewVolumes.{never_full}
 use Rattle.adf_disk_cmd.proofs.building.new_volume.Goals as goal
 
 pub unreachable-requires-in-Err-Full : goal.unreachable-requires-in-Err-Full
-unreachable-requires-in-Err-Full c = grind (arith, common_steps, never_full, c.new-tree.ensures, c.in-Err-Full.ensures.fault)
+unreachable-requires-in-Err-Full c = grind (arith, common_steps, never_full, c.with_letters-tree.ensures, c.in-Err-Full.ensures.fault)

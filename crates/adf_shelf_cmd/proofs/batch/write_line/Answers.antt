@@ -16,7 +16,7 @@ returns-in-Ok-clause-ok g c =
     let known = g.F.Files.bytes_of c.args.files.now c.args.name.now in
     let may_fail = g.F.Files.may_fail c.args.files.now c.args.name.now in
     let may_open = g.F.Files.may_open c.args.files.now c.args.name.now in
-    let is_report = subst (λ s. IsReport known may_fail may_open s (report_text report) (report_why report)) (sym c.status.ensures.value)
+    let is_report = subst (λ s. IsReport c.args.checks.types known may_fail may_open s (report_text report) (report_why report)) (sym c.status.ensures.value)
     c.check_file-report.ensures in
     let text : c.deref.result.now ≡ batch_line c.args.name.now (report_text report) = search rules in
     let why : c.deref-in-Ok.result.now ≡ why_line c.args.name.now (report_why report) = search rules in

@@ -8,13 +8,14 @@ pub loop-name-init : goal.loop-name-init
 loop-name-init g c = record {
   works = c.requires.writes;
   status = (omega arith, omega arith);
-  progress = started (IsReportOf (g.F.Files.bytes_of c.args.files.now) (g.F.Files.may_fail c.args.files.now) (g.F.Files.may_open c.args.files.now))
+  progress = started (IsReportOf c.args.checks.types
+      (g.F.Files.bytes_of c.args.files.now) (g.F.Files.may_fail c.args.files.now) (g.F.Files.may_open c.args.files.now))
       _ _ _ _ c.requires.tells;
 }
 
 pub loop-name-preserved : goal.loop-name-preserved
 loop-name-preserved g c =
-    let may : Reports = IsReportOf (g.F.Files.bytes_of c.args.files.now) (g.F.Files.may_fail c.args.files.now)
+    let may : Reports = IsReportOf c.args.checks.types (g.F.Files.bytes_of c.args.files.now) (g.F.Files.may_fail c.args.files.now)
     (g.F.Files.may_open c.args.files.now) in
     record {
       works = search rules;
@@ -30,7 +31,7 @@ loop-name-preserved g c =
 
 pub returns-in-Err-clause-part : goal.returns-in-Err-clause-part
 returns-in-Err-clause-part g c =
-    let may : Reports = IsReportOf (g.F.Files.bytes_of c.args.files.now) (g.F.Files.may_fail c.args.files.now)
+    let may : Reports = IsReportOf c.args.checks.types (g.F.Files.bytes_of c.args.files.now) (g.F.Files.may_fail c.args.files.now)
     (g.F.Files.may_open c.args.files.now) in
     let given : AreGiven (g.N.Names.left c.loop-name.names) (g.N.Names.left c.next.new.self) (c.next.new.name.items ∷ []) = search rules in
     rw c.in-Err.ensures.unsaid (broken may _ _ _ c.loop-name.status _ _ _ _ _ _ _ c.next.new.name.items c.loop-name.invariant.progress given
