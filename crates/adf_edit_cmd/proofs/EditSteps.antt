@@ -1,28 +1,27 @@
 -- Edits one after the other, and the bytes of their files.
 use Rattle.std.proofs.Common.{◌≡◌, ◌<◌, ◌≤◌, ◌+◌, ℕ, suc, List, [], ◌∷◌, ◌++◌, take, Option, Some, None, Result, Ok, Err, length, map, drop}
-use Rattle.std.proofs.Common.{get_or, nat_lt, true, false, ap, refl, sym, subst, inr, arith, ◌∙◌}
+use Rattle.std.proofs.Common.{get_or, nat_lt, true, false, ap, refl, sym, subst, inl, inr, arith, ◌∙◌}
 use Rattle.std.proofs.Math.Seq.{drop-cons, take-append_seam}
-use Rattle.std.proofs.lemmas.List.{drop_all}
+use Rattle.std.proofs.lemmas.List.{drop_all, length-map}
 use Rattle.adf_blocks.specs.Sizes.{blocks}
-use Rattle.adf_boot_blocks.proofs.OtherBoots.{other_fits}
+use Rattle.adf_boot_blocks.proofs.OtherBoots.{other_fits_by}
 use Rattle.adf_boot_blocks.specs.BootBlocks.{IsOtherBoot}
-use Rattle.adf_boot_blocks.specs.Writing.{with_boot}
 use Rattle.adf_build.specs.Building.{IsBuildable}
 use Rattle.adf_build.specs.Laid.{volume}
 use Rattle.adf_build.specs.Plan.{planned}
-use Rattle.adf_build.proofs.WholeVolume.{fits_plain}
 use Rattle.adf_edits.specs.Edits.{EditValue, edit_value, edited}
-use Rattle.adf_edits.specs.Outline.{OutlineValue}
+use Rattle.adf_edits.specs.Outline.{IsWithoutRoomBy, OutlineValue, outline_of}
 use Rattle.adf_edits.specs.declared.edits.Edit.{Edit}
 use Rattle.adf_edits.specs.declared.edits.EditFault.{EditFault}
-use Rattle.adf_base.specs.declared.hash.Letters.TheVariants.{Ascii}
+use Rattle.adf_base.specs.declared.hash.Letters.{Letters}
 use Rattle.adf_tree.specs.Tree.{Tree}
+use Rattle.adf_tree.specs.declared.tree.AddFault.{AddFault}
 use Rattle.adf_volume.specs.Fits.{Fits, FitsBy}
 use Rattle.adf_volume.specs.Layout.{Layout}
-use Rattle.adf_edit_cmd.specs.Edited.{IsLaidOver, StopsOn, StopsTree, after, next_of}
-use Rattle.adf_edit_cmd.specs.Script.{behind_file, behind_files, size_of}
+use Rattle.adf_edit_cmd.specs.Edited.{IsLaidOver, IsShallow, StopsOn, StopsTree, after, next_of, with_boot_by}
+use Rattle.adf_edit_cmd.specs.Script.{ScriptValue, behind_file, behind_files, size_of}
 use Rattle.adf_edit_cmd.specs.declared.stop.Stop.{Stop}
-use Rattle.adf_edit_cmd.specs.declared.stop.Stop.TheVariants.{Line}
+use Rattle.adf_edit_cmd.specs.declared.stop.Stop.TheVariants.{Line, NoRoom}
 
 pub after_ok : (n : ℕ) (e : EditValue) (es : List EditValue) (given : List ℕ) (o p : OutlineValue) → edited e given o ≡ Ok p
     → after n (e ∷ es) given o ≡ after (n + 1) es (behind_file e given) p
@@ -91,18 +90,26 @@ pub file_over : (es : List Edit) (i : ℕ) (given : List ℕ) (r : Option (List 
 file_over es i given r le h = h ∙ (ap (λ fs. behind_files (map edit_value fs) given) (drop_all i es le) ∙ files_none given)
 
 -- what is laid with other boot blocks is a volume of the tree
-pub laid_over : (t : Tree) (n : ℕ) (image old new : List ℕ) → IsBuildable t n → old ≡ volume t n → t.letters ≡ Ascii
+pub laid_over : (t : Tree) (n : ℕ) (image old new : List ℕ) → IsBuildable t n → old ≡ volume t n
     → FitsBy t.letters old t (planned t n) → IsOtherBoot old new
-    → new ≡ with_boot old image → IsLaidOver t n image new
-laid_over t n image old new room is letters fits other put = record {
+    → new ≡ with_boot_by t.letters old image → IsLaidOver t n image new
+laid_over t n image old new room is fits other put = record {
   room = room;
-  bytes = put ∙ ap (λ (v : List ℕ). with_boot v image) is;
-  fits = other_fits old new other t (planned t n) (fits_plain letters fits);
+  bytes = put ∙ ap (λ (v : List ℕ). with_boot_by t.letters v image) is;
+  fits = other_fits_by old new other t (planned t n) fits;
 }
 
-pub stops_on : (es : List EditValue) (given image : List ℕ) (t : Tree) (l : Layout) (n : ℕ) (stop : Stop) → Fits image t l → n ≡ blocks image
-    → StopsTree es given t n stop → StopsOn es given image stop
-stops_on es given image t l n stop fits is h = inr (t, l, fits, subst (λ k. StopsTree es given t k stop) is h)
+pub stops_on : (s : ScriptValue) (given image : List ℕ) (t : Tree) (l : Layout) (n : ℕ) (stop : Stop) → Fits image t l → n ≡ blocks image
+    → StopsTree s given t n stop → StopsOn s given image stop
+stops_on s given image t l n stop fits is h = inr (t, l, fits, subst (λ k. StopsTree s given t k stop) is h)
+
+-- the tree after all edits has no room by the letters of the script
+pub room_stop : (es : List Edit) (ls : Letters) (given : List ℕ) (t : Tree) (n : ℕ) (o p : OutlineValue) (k : ℕ) (f : AddFault)
+    → IsShallow t → o ≡ outline_of t → after 1 (map edit_value es) given o ≡ Ok p → k ≡ length es → IsWithoutRoomBy ls p.additions f
+    → StopsTree (record { edits = map edit_value es; letters = ls }) given t n (NoRoom (k + 1) f)
+room_stop es ls given t n o p k f shallow is made lines h =
+    let number : k + 1 ≡ length (map edit_value es) + 1 = ap (λ m. m + 1) (lines ∙ sym (length-map es edit_value)) in
+    inr (shallow, inr (p, subst (λ (q : OutlineValue). after 1 (map edit_value es) given q ≡ Ok p) is made, inl (number, h)))
 
 -- a whole block that is written is what stands there
 pub whole_block : (n : ℕ) (xs ys : List ℕ) → n ≡ length xs → take n (xs ++ ys) ≡ xs

@@ -1,13 +1,14 @@
 -- The lines of a script. left is what is left of a text, es are edits.
-use Rattle.std.proofs.Common.{◌≡◌, ◌<◌, ◌≤◌, ℕ, true, false, List, [], ◌∷◌, ◌++◌, Some, None, Ok, Err, length, map, ap, refl, sym, subst}
+use Rattle.std.proofs.Common.{◌≡◌, ◌<◌, ◌≤◌, ℕ, List, [], ◌∷◌, ◌++◌, Some, None, Ok, Err, length, map, ap, refl, sym, subst}
 use Rattle.std.proofs.Common.{arith, append-nil, append_assoc, ◌∙◌}
 use Rattle.std.proofs.lemmas.List.{length-map, map-append}
+use Rattle.adf_base.specs.declared.hash.Letters.{Letters}
 use Rattle.adf_edits.specs.Edits.{EditValue, edit_value}
 use Rattle.adf_edits.specs.declared.edits.Edit.{Edit}
 use Rattle.adf_partitions.specs.PlanTexts.{before, behind_line, first_line}
 use Rattle.adf_partitions.proofs.TextLines.{shorter}
 use Rattle.adf_edit_cmd.specs.Lines.{SaysEdit}
-use Rattle.adf_edit_cmd.specs.Script.{AreEdits, IsNextRead, IsScript, IsScriptFault, is_end}
+use Rattle.adf_edit_cmd.specs.Script.{AreEdits, IsNextRead, IsScript, IsScriptFault, ending}
 use Rattle.adf_edit_cmd.specs.declared.script.TheConstants.{MOST_LINES}
 use Rattle.adf_edit_cmd.specs.declared.stop.Stop.{Stop}
 use Rattle.adf_edit_cmd.specs.declared.stop.Stop.TheVariants.{BadLine, NoMemory}
@@ -55,7 +56,7 @@ next_read text left line old new u all is h =
     }
 
 pub next_fault : (text left line : List ℕ) (old new : List Edit) (f : Stop) → Continues text (map edit_value old) left → line ≡ first_line left
-    → length old ≤ MOST_LINES → is_end line ≡ false → IsNextRead old new line (Err f) → IsScriptFault text f
+    → length old ≤ MOST_LINES → ending left ≡ None → IsNextRead old new line (Err f) → IsScriptFault text f
 next_fault text left line old new (BadLine n) all is few on h =
     let same : length (map edit_value old) ≡ length old = length-map old edit_value in
     record {
@@ -64,20 +65,19 @@ next_fault text left line old new (BadLine n) all is few on h =
       edits = edits_ended text left (map edit_value old) all;
       few = rw same few;
       number = rw same h.0;
-      goes_on = subst (λ l. is_end l ≡ false) is on;
+      goes_on = on;
       wrong = rw (same, ← is) h.1;
     }
 next_fault text left line old new NoMemory all is few on h = tt
 next_fault text left line old new _ all is few on h = absurd h
 
-pub script_read : (text left line rest : List ℕ) (es : List Edit) → Continues text (map edit_value es) left → line ≡ first_line left
-    → rest ≡ behind_line left → length es ≤ MOST_LINES → is_end line ≡ true → IsScript text (map edit_value es) rest
-script_read text left line rest es all is tail few ends =
+pub script_read : (text left rest : List ℕ) (es : List Edit) (letters : Letters) → Continues text (map edit_value es) left
+    → length es ≤ MOST_LINES → ending left ≡ Some (letters, rest) → IsScript text (record { edits = map edit_value es; letters = letters }) rest
+script_read text left rest es letters all few ends =
     let same : length (map edit_value es) ≡ length es = length-map es edit_value in
     record {
       end = left;
       edits = edits_ended text left (map edit_value es) all;
       few = rw same few;
-      ends = subst (λ l. is_end l ≡ true) is ends;
-      behind = tail;
+      ends = ends;
     }

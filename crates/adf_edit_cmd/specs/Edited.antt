@@ -1,20 +1,22 @@
--- What an image becomes by a script. es are the edits of the script, `given` are the bytes behind it, t is a tree, n a number of blocks.
-use Rattle.std.specs.Prelude.{◌≡◌, ◌<◌, ◌-◌, ◌+◌, ◌⊎◌, ℕ, List, [], ◌∷◌, Some, None, Result, Ok, Err, false, true}
+-- What an image becomes by a script. s is the script, es are edits, `given` are the bytes behind it, t is a tree, n a number of blocks.
+use Rattle.std.specs.Prelude.{◌≡◌, ◌<◌, ◌-◌, ◌+◌, ◌⊎◌, ℕ, List, [], ◌∷◌, Some, None, Result, Ok, Err, false, length, true}
 use Rattle.adf_blocks.specs.Sizes.{blocks}
 use Rattle.adf_build.specs.Building.{IsBuildable, need_of}
 use Rattle.adf_build.specs.Laid.{volume}
 use Rattle.adf_build.specs.Plan.{blocks_needed, planned}
-use Rattle.adf_boot_blocks.specs.Writing.{with_boot}
+use Rattle.adf_base.specs.declared.hash.Letters.{Letters}
+use Rattle.adf_base.specs.declared.hash.Letters.TheVariants.{Ascii, International}
+use Rattle.adf_boot_blocks.specs.Writing.{restored, with_boot}
 use Rattle.adf_edits.specs.Edits.{EditValue, edited}
-use Rattle.adf_edits.specs.Outline.{IsWithoutRoom, OutlineValue, outline_of, tree_of}
+use Rattle.adf_edits.specs.Outline.{IsWithoutRoomBy, OutlineValue, outline_of, tree_of_by}
 use Rattle.adf_edits.specs.Paths.{has_deep}
 use Rattle.adf_edits.specs.declared.edits.EditFault.{EditFault}
-use Rattle.adf_tree.specs.Additions.{AllHaveRoom}
+use Rattle.adf_tree.specs.Additions.{AllHaveRoomBy}
 use Rattle.adf_tree.specs.Tree.{Tree}
-use Rattle.adf_volume.specs.Fits.{Fits}
+use Rattle.adf_volume.specs.Fits.{Fits, FitsBy}
 use Rattle.adf_volume.specs.Layout.{Layout}
 use Rattle.adf_volume.specs.Walk.{FirstFault}
-use Rattle.adf_edit_cmd.specs.Script.{IsScript, IsScriptFault, behind_file, behind_files}
+use Rattle.adf_edit_cmd.specs.Script.{IsScript, IsScriptFault, ScriptValue, behind_file, behind_files}
 use Rattle.adf_edit_cmd.specs.declared.stop.Stop.{Stop}
 use Rattle.adf_edit_cmd.specs.declared.stop.Stop.TheVariants.{Short, Image, TooDeep, Line, NoRoom, Full, NoMemory}
 
@@ -50,11 +52,17 @@ IsDepthStop t TooDeep = has_deep (outline_of t).additions ≡ true
 IsDepthStop t NoMemory = Unit {0}
 IsDepthStop t _ = ⊥
 
--- the new image is that laid of the tree in n blocks, with the boot blocks of the old one, and a volume of the tree
+-- a volume of these letters with the boot blocks of one of ASCII letters behind its own type: as they stand, but under international
+-- letters, where the type is another, with a checksum that is right where theirs was
+abbrev pub with_boot_by : Letters → List ℕ → List ℕ → List ℕ
+with_boot_by Ascii = with_boot
+with_boot_by International = restored
+
+-- the new image is that laid of the tree in n blocks, with the boot blocks of the old one, and a volume of the tree by its letters
 pub record IsLaidOver (t : Tree) (n : ℕ) (image new : List ℕ) : Type 0 where
   pub room : IsBuildable t n
-  pub bytes : new ≡ with_boot (volume t n) image
-  pub fits : Fits new t (planned t n)
+  pub bytes : new ≡ with_boot_by t.letters (volume t n) image
+  pub fits : FitsBy t.letters new t (planned t n)
 
 -- why a tree is not laid
 abbrev pub IsFullStop : Tree → ℕ → Stop → Type 0
@@ -62,48 +70,49 @@ IsFullStop t n (Full need have) = (n - 2 < blocks_needed t n) × (need ≡ need_
 IsFullStop t n NoMemory = Unit {0}
 IsFullStop t n _ = ⊥
 
--- why the additions after edits have no tree
-abbrev pub IsRoomStop : OutlineValue → Stop → Type 0
-IsRoomStop o (NoRoom fault) = IsWithoutRoom o.additions fault
-IsRoomStop o NoMemory = Unit {0}
-IsRoomStop o _ = ⊥
+-- why the additions after edits have no tree by the letters of the script, which the line behind the edits asks for
+abbrev pub IsRoomStop : ScriptValue → OutlineValue → Stop → Type 0
+IsRoomStop s o (NoRoom n fault) = (n ≡ length s.edits + 1) × IsWithoutRoomBy s.letters o.additions fault
+IsRoomStop s o NoMemory = Unit {0}
+IsRoomStop s o _ = ⊥
 
--- the new image is laid for the tree after all edits
-abbrev pub IsByTree : List EditValue → List ℕ → Tree → ℕ → List ℕ → List ℕ → Type 0
-IsByTree es given t n image new =
-    IsShallow t × (o : OutlineValue) × (after 1 es given (outline_of t) ≡ Ok o) × AllHaveRoom o.additions × IsLaidOver (tree_of o) n image new
+-- the new image is laid for the tree after all edits, by the letters of the script
+abbrev pub IsByTree : ScriptValue → List ℕ → Tree → ℕ → List ℕ → List ℕ → Type 0
+IsByTree s given t n image new =
+    IsShallow t × (o : OutlineValue) × (after 1 s.edits given (outline_of t) ≡ Ok o) × AllHaveRoomBy s.letters o.additions
+    × IsLaidOver (tree_of_by s.letters o) n image new
 
--- why there is none: the depth of the tree, a line, or the tree after all edits
-abbrev pub StopsTree : List EditValue → List ℕ → Tree → ℕ → Stop → Type 0
-StopsTree es given t n stop =
-    IsDepthStop t stop ⊎ (IsShallow t × ((after 1 es given (outline_of t) ≡ Err stop)
-    ⊎ ((o : OutlineValue) × (after 1 es given (outline_of t) ≡ Ok o)
-    × (IsRoomStop o stop ⊎ (AllHaveRoom o.additions × IsFullStop (tree_of o) n stop)))))
+-- why there is none: the depth of the tree, a line, the letters, or the tree after all edits
+abbrev pub StopsTree : ScriptValue → List ℕ → Tree → ℕ → Stop → Type 0
+StopsTree s given t n stop =
+    IsDepthStop t stop ⊎ (IsShallow t × ((after 1 s.edits given (outline_of t) ≡ Err stop)
+    ⊎ ((o : OutlineValue) × (after 1 s.edits given (outline_of t) ≡ Ok o)
+    × (IsRoomStop s o stop ⊎ (AllHaveRoomBy s.letters o.additions × IsFullStop (tree_of_by s.letters o) n stop)))))
 
--- the new image is laid for the tree of the image after all edits
-abbrev pub IsByEdits : List EditValue → List ℕ → List ℕ → List ℕ → Type 0
-IsByEdits es given image new = (t : Tree) × (l : Layout) × Fits image t l × IsByTree es given t (blocks image) image new
+-- the new image is laid for the tree of the image after all edits, by the letters of the script
+abbrev pub IsByScript : ScriptValue → List ℕ → List ℕ → List ℕ → Type 0
+IsByScript s given image new = (t : Tree) × (l : Layout) × Fits image t l × IsByTree s given t (blocks image) image new
 
--- why there is none: the image, or its edits
-abbrev pub StopsOn : List EditValue → List ℕ → List ℕ → Stop → Type 0
-StopsOn es given image stop =
-    IsImageFault image stop ⊎ ((t : Tree) × (l : Layout) × Fits image t l × StopsTree es given t (blocks image) stop)
+-- why there is none: the image, or what the script makes of it
+abbrev pub StopsOn : ScriptValue → List ℕ → List ℕ → Stop → Type 0
+StopsOn s given image stop =
+    IsImageFault image stop ⊎ ((t : Tree) × (l : Layout) × Fits image t l × StopsTree s given t (blocks image) stop)
 
--- an input has these edits, these bytes behind its script, and this image behind those of its files
-pub record IsInput (input : List ℕ) (es : List EditValue) (given image : List ℕ) : Type 0 where
-  pub script : IsScript input es given
-  pub files : behind_files es given ≡ Some image
+-- an input has this script, these bytes behind it, and this image behind those of its files
+pub record IsInput (input : List ℕ) (s : ScriptValue) (given image : List ℕ) : Type 0 where
+  pub script : IsScript input s given
+  pub files : behind_files s.edits given ≡ Some image
 
--- the new image is that of the input's image after the edits of its script
+-- the new image is that of the input's image after its script
 abbrev pub IsEdited : List ℕ → List ℕ → Type 0
-IsEdited input new = (es : List EditValue) × (given : List ℕ) × (image : List ℕ) × IsInput input es given image × IsByEdits es given image new
+IsEdited input new = (s : ScriptValue) × (given : List ℕ) × (image : List ℕ) × IsInput input s given image × IsByScript s given image new
 
 -- behind the script there are fewer bytes than its files have
 abbrev pub EndsEarly : List ℕ → Stop → Type 0
-EndsEarly input stop = (es : List EditValue) × (given : List ℕ) × IsScript input es given × (behind_files es given ≡ None) × (stop ≡ Short)
+EndsEarly input stop = (s : ScriptValue) × (given : List ℕ) × IsScript input s given × (behind_files s.edits given ≡ None) × (stop ≡ Short)
 
--- why there is none: the script, its files, the image, or the edits
+-- why there is none: the script, its files, the image, or what the script makes of it
 abbrev pub StopsAt : List ℕ → Stop → Type 0
 StopsAt input stop =
     IsScriptFault input stop ⊎ (EndsEarly input stop
-    ⊎ ((es : List EditValue) × (given : List ℕ) × (image : List ℕ) × IsInput input es given image × StopsOn es given image stop))
+    ⊎ ((s : ScriptValue) × (given : List ℕ) × (image : List ℕ) × IsInput input s given image × StopsOn s given image stop))

@@ -1,7 +1,9 @@
 -- Scripts. `left` is what is left of a text from a line on, es are edits.
-use Rattle.std.specs.Prelude.{◌≡◌, ◌≤◌, ◌⊎◌, ◌+◌, ℕ, Bool, false, true, List, [], ◌∷◌, ◌++◌, Option, Some, None, Result, Ok, Err, codes}
-use Rattle.std.specs.Prelude.{drop, if◌then◌else◌, length, nat_lt}
+use Rattle.std.specs.Prelude.{◌≡◌, ◌≤◌, ◌⊎◌, ◌+◌, ℕ, Bool, List, [], ◌∷◌, ◌++◌, Option, Some, None, Result, Ok, Err, codes}
+use Rattle.std.specs.Prelude.{drop, if◌then◌else◌, length, nat_lt, option_map}
 use Rattle.std.specs.Str.{bytes_eq}
+use Rattle.adf_base.specs.declared.hash.Letters.{Letters}
+use Rattle.adf_base.specs.declared.hash.Letters.TheVariants.{Ascii, International}
 use Rattle.adf_edits.specs.Edits.{EditValue, edit_value, file}
 use Rattle.adf_edits.specs.declared.edits.Edit.{Edit}
 use Rattle.adf_partitions.specs.PlanTexts.{behind_line, first_line}
@@ -9,6 +11,11 @@ use Rattle.adf_edit_cmd.specs.Lines.{SaysEdit}
 use Rattle.adf_edit_cmd.specs.declared.script.TheConstants.{MOST_LINES}
 use Rattle.adf_edit_cmd.specs.declared.stop.Stop.{Stop}
 use Rattle.adf_edit_cmd.specs.declared.stop.Stop.TheVariants.{BadLine, NoMemory}
+
+-- a script: its edits, and the letters of the new volume
+pub record ScriptValue : Type 0 where
+  pub edits : List EditValue
+  pub letters : Letters
 
 -- the lines of these edits stand first, and `end` is left behind them
 unfoldable pub AreEdits : List ℕ → List EditValue → List ℕ → Type 0
@@ -19,13 +26,25 @@ AreEdits left (e ∷ es) end = SaysEdit (first_line left) e × AreEdits (behind_
 abbrev pub is_end : List ℕ → Bool
 is_end line = bytes_eq line (codes "end")
 
--- the edits of a script, and the bytes behind its line `end`
-pub record IsScript (text : List ℕ) (es : List EditValue) (rest : List ℕ) : Type 0 where
+-- the letters that a line asks for
+abbrev pub letters_asked : List ℕ → Option Letters
+letters_asked line =
+    if bytes_eq line (codes "letters ascii") then Some Ascii
+    else if bytes_eq line (codes "letters international") then Some International else None
+
+-- what ends a script, where it is left: `end`, or a line that asks for letters and `end` behind it. The letters, and the bytes behind
+abbrev pub ending : List ℕ → Option (Letters × List ℕ)
+ending left =
+    let next = behind_line left in
+    if is_end (first_line left) then Some (Ascii, next) else if is_end (first_line next)
+    then option_map (λ letters. (letters, behind_line next)) (letters_asked (first_line left)) else None
+
+-- a text begins with a script, and these bytes are behind its line `end`
+pub record IsScript (text : List ℕ) (s : ScriptValue) (rest : List ℕ) : Type 0 where
   pub end : List ℕ
-  pub edits : AreEdits text es end
-  pub few : length es ≤ MOST_LINES
-  pub ends : is_end (first_line end) ≡ true
-  pub behind : rest ≡ behind_line end
+  pub edits : AreEdits text s.edits end
+  pub few : length s.edits ≤ MOST_LINES
+  pub ends : ending end ≡ Some (s.letters, rest)
 
 -- a line behind so many says no edit, or is one too many
 abbrev pub IsNoEdit : ℕ → List ℕ → Type 0
@@ -38,7 +57,7 @@ pub record IsBadLine (text : List ℕ) (n : ℕ) : Type 0 where
   pub edits : AreEdits text es end
   pub few : length es ≤ MOST_LINES
   pub number : n ≡ length es + 1
-  pub goes_on : is_end (first_line end) ≡ false
+  pub goes_on : ending end ≡ None
   pub wrong : IsNoEdit (length es) (first_line end)
 
 -- what is wrong with a script

@@ -14,6 +14,6 @@ stop_text Short = codes "files end early"
 stop_text (Image fault) = fault_text fault
 stop_text TooDeep = codes "too deep"
 stop_text (Line n fault) = decimal n ++ (codes ": " ++ edit_fault_text fault)
-stop_text (NoRoom fault) = add_fault_text fault
+stop_text (NoRoom n fault) = decimal n ++ (codes ": " ++ add_fault_text fault)
 stop_text (Full need have) = full_text need have
 stop_text NoMemory = codes "no memory"

@@ -1,7 +1,6 @@
 // An image by a script.
 
 ghost use Rattle.std.specs.Prelude.{◌≡◌, ◌≢◌, ◌≤◌, ◌*◌, IfOk, IfErr, OnOk, Ok, Err, length, map, true};
-ghost use Rattle.adf_base.specs.declared.hash.Letters.TheVariants.{Ascii};
 ghost use Rattle.adf_blocks.specs.Sizes.{blocks, is_allowed};
 ghost use Rattle.adf_edits.specs.Edits.{edit_value, edited};
 ghost use Rattle.adf_edits.specs.Outline.{outline_of};
@@ -9,13 +8,15 @@ ghost use Rattle.adf_check.specs.Volumes.{StandsFor};
 ghost use Rattle.adf_tree.specs.Tree.{Tree as TreeValue};
 ghost use Rattle.adf_volume.specs.Fits.{Fits};
 ghost use Rattle.adf_volume.specs.Layout.{Layout};
-ghost use Rattle.adf_edit_cmd.specs.Edited.{IsByEdits, IsByTree, IsDepthStop, IsEdited, IsFullStop, IsImageFault, IsLaidOver};
-ghost use Rattle.adf_edit_cmd.specs.Edited.{IsLineStop, IsShallow, StopsAt, StopsOn, StopsTree, after};
+ghost use Rattle.adf_edit_cmd.specs.Edited.{IsByScript, IsByTree, IsDepthStop, IsEdited, IsFullStop, IsImageFault, IsLaidOver};
+ghost use Rattle.adf_edit_cmd.specs.Edited.{IsLineStop, IsShallow, StopsAt, StopsOn, StopsTree, after, with_boot_by};
+ghost use Rattle.adf_boot_blocks.specs.BootBlocks.{IsOtherBoot};
 
-use crate::script::{behind_file, behind_files, read_script};
+use crate::script::{Script, behind_file, behind_files, read_script};
 use crate::stop::Stop;
+use adf_base::Letters;
 use adf_blocks::Cause;
-use adf_boot_blocks::put_boot;
+use adf_boot_blocks::{put_boot, restore};
 use adf_build::{BuildFault, build};
 use adf_check::{Checked, check};
 use adf_edits::{Edit, EditFault, Outline, OutlineFault};
@@ -93,17 +94,29 @@ fn edit_all(
     Ok(outline)
 }
 
-// Lays a tree in so many blocks, with the boot blocks of an image behind the type.
+// Writes the boot blocks of an image of ASCII letters behind the type of a new one of these letters.
+fn keep_boot(new: &mut [u8], image: &[u8], letters: Letters)
+    requires whole { 1024 ≤ length new.old }
+    requires boot { 1024 ≤ length image.now }
+    ensures exact { new.new ≡ with_boot_by letters new.old image.now }
+    ensures other { IsOtherBoot new.old new.new }
+{
+    match letters {
+        Letters::Ascii => put_boot(new, image),
+        Letters::International => restore(new, image),
+    }
+}
+
+// Lays a tree in so many blocks, with the boot blocks of an image of ASCII letters behind the type.
 fn lay(alloc: Global, tree: &Tree, blocks: u32, image: &[u8]) -> Result<Vec<u8>, Stop>
     requires allowed { is_allowed blocks ≡ true }
-    requires letters { tree.now.letters ≡ Ascii }
     requires boot { 1024 ≤ length image.now }
     ensures laid { IfOk result (λ new. IsLaidOver tree.now blocks image.now new.items) }
     ensures full { IfErr result (IsFullStop tree.now blocks) }
 {
     match build(alloc, tree, blocks) {
         Ok(mut new) => {
-            put_boot(&mut new, image);
+            keep_boot(&mut new, image, tree.letters());
             Ok(new)
         }
         Err(BuildFault::BadSize) => unreachable!(),
@@ -125,39 +138,38 @@ fn outline_of(alloc: Global, tree: &Tree) -> Result<Outline, Stop>
     }
 }
 
-// The image of a tree after edits.
+// The image of a tree after a script.
 fn by_tree(
     alloc: Global,
     tree: &Tree,
-    edits: Vec<Edit>,
+    script: Script,
     given: &[u8],
     image: &[u8],
     blocks: u32,
 ) -> Result<Vec<u8>, Stop>
     requires allowed { is_allowed blocks ≡ true }
     requires boot { 1024 ≤ length image.now }
-    ensures ok { IfOk result (λ new.
-        IsByTree (map edit_value edits.items) given.now tree.now blocks image.now new.items) }
-    ensures stop { IfErr result (StopsTree (map edit_value edits.items) given.now tree.now blocks) }
+    ensures ok { IfOk result (λ new. IsByTree script given.now tree.now blocks image.now new.items) }
+    ensures stop { IfErr result (StopsTree script given.now tree.now blocks) }
 {
+    let line = script.edits.len() + 1;
     let outline = outline_of(alloc, tree)?;
-    let outline = edit_all(alloc, outline, edits, given)?;
-    match outline.finish(alloc) {
+    let outline = edit_all(alloc, outline, script.edits, given)?;
+    match outline.finish_by(alloc, script.letters) {
         Ok(tree) => lay(alloc, &tree, blocks, image),
         Err(AddFault::NoMemory) => Err(Stop::NoMemory),
-        Err(fault) => Err(Stop::NoRoom(fault)),
+        Err(fault) => Err(Stop::NoRoom(line, fault)),
     }
 }
 
 #[tactic(auto, using(crate::proofs::EditSteps::stops_on))]
-// The image after edits.
-fn by_edits(alloc: Global, edits: Vec<Edit>, given: &[u8], image: &[u8]) -> Result<Vec<u8>, Stop>
-    ensures ok { IfOk result (λ new.
-        IsByEdits (map edit_value edits.items) given.now image.now new.items) }
-    ensures stop { IfErr result (StopsOn (map edit_value edits.items) given.now image.now) }
+// The image after a script.
+fn by_script(alloc: Global, script: Script, given: &[u8], image: &[u8]) -> Result<Vec<u8>, Stop>
+    ensures ok { IfOk result (λ new. IsByScript script given.now image.now new.items) }
+    ensures stop { IfErr result (StopsOn script given.now image.now) }
 {
     let (tree, blocks) = tree_in(alloc, image)?;
-    match by_tree(alloc, &tree, edits, given, image, blocks) {
+    match by_tree(alloc, &tree, script, given, image, blocks) {
         Ok(new) => Ok(new),
         Err(stop) => Err(stop),
     }
@@ -165,14 +177,15 @@ fn by_edits(alloc: Global, edits: Vec<Edit>, given: &[u8], image: &[u8]) -> Resu
 
 /// The image that a script makes of another. The input is the script, behind it the bytes of its files in their order, and behind
 /// them the image. Why there is none: the first line that is none; else files that end early; else the first fault of the image;
-/// else an entry that is too deep; else the first line that cannot be applied; else a tree that does not fit.
+/// else an entry that is too deep; else the first line that cannot be applied, which may be the one that asks for letters, where
+/// names of one directory are one by them; else a tree that does not fit.
 pub fn new_image(alloc: Global, input: &[u8]) -> Result<Vec<u8>, Stop>
     ensures image { IfOk result (λ new. IsEdited input.now new.items) }
     ensures stop { IfErr result (StopsAt input.now) }
 {
-    let (edits, given) = read_script(alloc, input)?;
-    match behind_files(&edits, given) {
-        Some(image) => by_edits(alloc, edits, given, image),
+    let (script, given) = read_script(alloc, input)?;
+    match behind_files(&script.edits, given) {
+        Some(image) => by_script(alloc, script, given, image),
         None => Err(Stop::Short),
     }
 }

@@ -1,25 +1,75 @@
-// Scripts: lines that each end in a line feed, and a line `end` behind the last of them.
+// Scripts: lines of edits, perhaps one that asks for letters, and a line `end`. Each ends in a line feed.
 
 ghost use Rattle.std.specs.Prelude.{◌≡◌, ◌≤◌, IfOk, IfErr, IfSome, IfNone, None, Some, length, map};
 ghost use Rattle.adf_edits.specs.Edits.{edit_value};
-ghost use Rattle.adf_edit_cmd.specs.Script.{IsNextRead, IsScript, IsScriptFault, behind_file, behind_files, is_end, size_of};
+ghost use Rattle.adf_edit_cmd.specs.Script.{IsNextRead, IsScript, IsScriptFault, behind_file, behind_files, ending};
+ghost use Rattle.adf_edit_cmd.specs.Script.{is_end, letters_asked, size_of};
 ghost use Rattle.adf_edit_cmd.specs.declared.script.TheConstants.{MOST_LINES};
 
 use crate::lines::read_edit;
 use crate::stop::Stop;
+use adf_base::Letters;
 use adf_edits::Edit;
 use adf_names::PathFault;
 use adf_partitions::cut_line;
 use std::alloc::Global;
+use std::marker::Model;
 
-/// The most lines of a script, not counting its line `end`.
+/// The most edits of a script, each a line.
 pub const MOST_LINES: usize = 1000;
+
+/// A script: its edits, and the letters of the new volume.
+#[derive(Drop)]
+pub struct Script {
+    pub edits: Vec<Edit>,
+    pub letters: Letters,
+}
+
+impl Model for Script {
+    ghost use Rattle.std.specs.Prelude.{map};
+    ghost use Rattle.adf_edits.specs.Edits.{edit_value};
+    ghost use Rattle.adf_edit_cmd.specs.Script.{ScriptValue};
+
+    ghost Value = { ScriptValue };
+
+    ghost view = { λ s. record { edits = map edit_value s.edits.items; letters = s.letters } };
+}
 
 // Whether a line is `end`.
 fn is_end(line: &[u8]) -> bool
     ensures { result ≡ is_end line.now }
 {
     line == b"end".as_slice()
+}
+
+// The letters that a line asks for.
+fn letters_asked(line: &[u8]) -> Option<Letters>
+    ensures { result ≡ letters_asked line.now }
+{
+    if line == b"letters ascii".as_slice() {
+        Some(Letters::Ascii)
+    } else if line == b"letters international".as_slice() {
+        Some(Letters::International)
+    } else {
+        None
+    }
+}
+
+// The letters that the end of a script asks for, and the bytes behind it; `None` if it is not next.
+fn ending(left: &[u8]) -> Option<(Letters, &[u8])>
+    ensures some { IfSome result (λ r. ending left.now ≡ Some (r.0, r.1.now)) }
+    ensures none { IfNone result (ending left.now ≡ None) }
+{
+    let (line, next) = cut_line(left);
+    if is_end(line) {
+        return Some((Letters::Ascii, next));
+    }
+    let (last, rest) = cut_line(next);
+    if !is_end(last) {
+        return None;
+    }
+    let letters = letters_asked(line)?;
+    Some((letters, rest))
 }
 
 // Reads the next line as an edit, if the lines before it are not too many.
@@ -41,20 +91,20 @@ fn read_next(alloc: Global, edits: &mut Vec<Edit>, line: &[u8]) -> Result<(), St
     }
 }
 
-#[tactic(auto, using(crate::proofs::Scripts::none_read, crate::proofs::Scripts::next_read, crate::proofs::Scripts::next_fault, crate::proofs::Scripts::script_read))]
-/// Reads a script: its edits, and the bytes behind its line `end`. `BadLine` names the first line that says no edit, or is one
-/// too many.
-pub fn read_script(alloc: Global, text: &[u8]) -> Result<(Vec<Edit>, &[u8]), Stop>
-    ensures script { IfOk result (λ r. IsScript text.now (map edit_value r.0.items) r.1.now) }
+#[tactic(auto, using(crate::proofs::Scripts::none_read, crate::proofs::Scripts::next_fault, crate::proofs::Scripts::script_read))]
+/// Reads a script, and the bytes behind its line `end`. `BadLine` names the first line before its end that says no edit, or is
+/// one too many.
+pub fn read_script(alloc: Global, text: &[u8]) -> Result<(Script, &[u8]), Stop>
+    ensures script { IfOk result (λ r. IsScript text.now r.0 r.1.now) }
     ensures fault { IfErr result (IsScriptFault text.now) }
 {
     let mut edits = Vec::new(alloc);
     let mut left = text;
     loop {
-        let (line, rest) = cut_line(left);
-        if is_end(line) {
-            return Ok((edits, rest));
+        if let Some((letters, rest)) = ending(left) {
+            return Ok((Script { edits, letters }, rest));
         }
+        let (line, rest) = cut_line(left);
         read_next(alloc, &mut edits, line)?;
         left = rest;
     }

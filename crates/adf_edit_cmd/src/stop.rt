@@ -20,8 +20,8 @@ pub enum Stop {
     TooDeep,
     /// The edit of the line of this number cannot be applied.
     Line(usize, EditFault),
-    /// An addition has no room in the tree of those before it.
-    NoRoom(AddFault),
+    /// By the letters that the line of this number asks for, an addition has no room in the tree of those before it.
+    NoRoom(usize, AddFault),
     /// The tree needs more blocks than there are.
     Full { need: u64, have: u64 },
     /// An allocation failed.
@@ -41,7 +41,7 @@ impl fmt::Display for Stop {
             Stop::Image(fault) => write!(f, "{fault}"),
             Stop::TooDeep => f.write_str("too deep"),
             Stop::Line(line, fault) => write!(f, "{line}: {fault}"),
-            Stop::NoRoom(fault) => write!(f, "{fault}"),
+            Stop::NoRoom(line, fault) => write!(f, "{line}: {fault}"),
             Stop::Full { need, have } => write!(f, "full: need {need}, have {have}"),
             Stop::NoMemory => f.write_str("no memory"),
         }
