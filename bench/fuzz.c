@@ -102,9 +102,28 @@ static void use_volume(const uint8_t *data, size_t size, const struct adf_conten
         for (size_t i = 0; i < entry->name_length; i++)
             end = escape(end, entry->name[i]);
         size_t node = 0;
-        uint8_t answer = adf_find(entries, contents->entries, path, (size_t)(end - path), &node);
+        uint8_t answer = adf_find_types(contents->kind, entries, contents->entries, path, (size_t)(end - path), &node);
         must(entry->parent != 0 || (answer == 0 && node == n));
     }
+}
+
+/* The calls for types 0 to 3 agree on an image, and with those for types 0 and 1 unless it is international. */
+static void use_types(const uint8_t *data, size_t size, uint8_t plain) {
+    struct adf_verdict verdict = {0};
+    struct adf_contents contents = {0};
+    uint8_t cause = adf_check_types(data, size, &verdict);
+    must(plain == ADF_INTERNATIONAL ? cause != plain : cause == plain);
+    struct room roles = new_room(size / BLOCK), blocks = new_room(size / BLOCK * sizeof(uint32_t));
+    struct room entries = new_room(size / BLOCK * sizeof(struct adf_entry));
+    must(adf_owners_types(data, size, roles.at, roles.size) == cause);
+    must(adf_index_types(data, size, (struct adf_entry *)entries.at, size / BLOCK, (uint32_t *)blocks.at, size / BLOCK,
+                         &contents) == cause);
+    must(contents.kind == verdict.kind && contents.block == verdict.block && contents.used == verdict.used);
+    if (cause == ADF_ACCEPTED)
+        use_volume(data, size, &contents, (struct adf_entry *)entries.at, (uint32_t *)blocks.at);
+    end_room(roles);
+    end_room(blocks);
+    end_room(entries);
 }
 
 /* With other boot blocks an image starts and has the same verdict, or it is unchanged. */
@@ -206,6 +225,7 @@ int LLVMFuzzerTestOneInput(const uint8_t *data, size_t size) {
     end_room(roles);
     end_room(blocks);
     end_room(entries);
+    use_types(data, size, cause);
     use_boot(data, size, cause);
     use_rescue(data, size, 0);
     use_rescue(data, size, 1);

@@ -58,9 +58,9 @@
 extern "C" {
 #endif
 
-/* Why an image is refused: what adf_check, adf_owners and adf_index return. Within one block the causes are tested in this
- * order, except that ADF_SAME_NAME comes after all other causes of a header. FAULTS.md explains them. A later version may have
- * more of them: an image is accepted if and only if the call returns 0. */
+/* Why an image is refused: what adf_check, adf_owners and adf_index return, and those of types 0 to 3. Within one block the causes
+ * are tested in this order, except that ADF_SAME_NAME comes after all other causes of a header. FAULTS.md explains them. A later
+ * version may have more of them: an image is accepted if and only if the call returns 0. */
 enum adf_cause {
     ADF_ACCEPTED = 0,
     ADF_BAD_SIZE = 1,       /* The length is not a multiple of 512, or not an allowed number of blocks. */
@@ -99,7 +99,7 @@ size_t adf_cause_text(uint8_t cause, uint8_t *room, size_t room_length);
  */
 uint32_t adf_version(void);
 
-/* The type of a volume. Types 2 and 3 are told by adf_check_types alone. */
+/* The type of a volume. Types 2 and 3 are accepted by adf_check_types, adf_owners_types and adf_index_types alone. */
 enum adf_kind { ADF_OFS = 0, ADF_FFS = 1, ADF_OFS_INTERNATIONAL = 2, ADF_FFS_INTERNATIONAL = 3 };
 
 struct adf_verdict {
@@ -122,8 +122,7 @@ struct adf_verdict {
 uint8_t adf_check(const uint8_t *image, size_t length, struct adf_verdict *verdict);
 
 /* The same of an image of type 0 to 3, each by the letters whose case is ignored in its names: on types 2 and 3 these are the bytes
- * 0xE0 to 0xFE too, except 0xF7. Types 0 and 1 have the verdict of adf_check. Volumes of types 2 and 3 are read by the calls of
- * surveys below; adf_index refuses them.
+ * 0xE0 to 0xFE too, except 0xF7. Types 0 and 1 have the verdict of adf_check. Their tables are made by adf_index_types.
  */
 uint8_t adf_check_types(const uint8_t *image, size_t length, struct adf_verdict *verdict);
 
@@ -146,6 +145,9 @@ enum adf_role {
  * An adf_cause: as for adf_check, and the room is unchanged.
  */
 uint8_t adf_owners(const uint8_t *image, size_t length, uint8_t *roles, size_t room);
+
+/* The same of an image of type 0 to 3, as adf_check_types checks it. */
+uint8_t adf_owners_types(const uint8_t *image, size_t length, uint8_t *roles, size_t room);
 
 /* Tables of a volume
  *
@@ -209,6 +211,12 @@ struct adf_contents {
 uint8_t adf_index(const uint8_t *image, size_t length, struct adf_entry *entries, size_t entries_room, uint32_t *blocks,
                   size_t blocks_room, struct adf_contents *contents);
 
+/* The same of an image of type 0 to 3, as adf_check_types checks it; types 0 and 1 have the tables and contents of adf_index. In
+ * these tables a path is looked up by adf_find_types with contents->kind, and files are read by adf_read.
+ */
+uint8_t adf_index_types(const uint8_t *image, size_t length, struct adf_entry *entries, size_t entries_room, uint32_t *blocks,
+                        size_t blocks_room, struct adf_contents *contents);
+
 /* Looks up a path in a whole table of entries. The path is written as for `adf cat`: names joined by `/`, in escape form, in
  * which a byte outside 32 to 126, and the backslash, is \xHH. The case of a to z is ignored.
  *
@@ -226,11 +234,18 @@ uint8_t adf_index(const uint8_t *image, size_t length, struct adf_entry *entries
  */
 uint8_t adf_find(const struct adf_entry *entries, size_t count, const uint8_t *path, size_t path_length, size_t *node);
 
+/* The same in a table of adf_index_types; the kind is that of its contents. With ADF_OFS_INTERNATIONAL and ADF_FFS_INTERNATIONAL the
+ * case of the bytes 0xE0 to 0xFE, except 0xF7, is ignored too, and so with any number above 3. With ADF_OFS and ADF_FFS the answer
+ * is that of adf_find.
+ */
+uint8_t adf_find_types(uint32_t kind, const struct adf_entry *entries, size_t count, const uint8_t *path, size_t path_length,
+                       size_t *node);
+
 /* Copies the bytes of file `node` from byte `offset` on into the room, as many as there are and fit, and returns how many: 0
  * for the root, a directory, a node past the last entry, and an offset past the end. The rest of the room is unchanged. The
- * image and the tables are those of one call of adf_index, whole and unchanged. With any others the same is read: at most
- * `size` bytes of the data areas of the blocks that the table names from the entry's `first` on, up to the first block that
- * the image does not have.
+ * image and the tables are those of one call of adf_index or adf_index_types, whole and unchanged. With any others the same is
+ * read: at most `size` bytes of the data areas of the blocks that the table names from the entry's `first` on, up to the first
+ * block that the image does not have.
  *
  * A budget, by reading the code and not proved: the work is proportional to the bytes that are copied.
  */

@@ -24,7 +24,7 @@ static uint8_t make_tables(struct volume *volume) {
     volume->blocks = malloc(most * sizeof *volume->blocks);
     if (volume->entries == NULL || volume->blocks == NULL)
         return ADF_NO_MEMORY;
-    uint8_t cause = adf_index(volume->image, volume->length, volume->entries, most, volume->blocks, most, &volume->contents);
+    uint8_t cause = adf_index_types(volume->image, volume->length, volume->entries, most, volume->blocks, most, &volume->contents);
     volume->entries = shrunk(volume->entries, (volume->contents.entries + 1) * sizeof *volume->entries);
     volume->blocks = shrunk(volume->blocks, (volume->contents.data_blocks + 1) * sizeof *volume->blocks);
     return cause;
@@ -117,13 +117,15 @@ static bool keep_left(struct volume *volume, uint8_t *image, size_t length, size
     return volume->left != NULL;
 }
 
-/* Puts what stands of the image in its place. */
-static int take_rescue(struct volume *volume, const char *name, const struct taking *taking) {
+/* Puts what stands of the image in its place. Where nothing stands on a volume of type 2 or 3, the fault is that of its check. */
+static int take_rescue(struct volume *volume, uint8_t fault, const char *name, const struct taking *taking) {
     struct volume given = *volume;
     struct rescue rescue;
     uint8_t cause = rescue_image(given.image, given.length, taking->blocks, &rescue);
     if (cause == ADF_NO_MEMORY)
         return say_no_memory(name);
+    if (cause == ADF_INTERNATIONAL && fault != ADF_ACCEPTED)
+        return say_refused(volume, name, fault);
     if (cause != ADF_ACCEPTED) {
         volume->contents.block = rescue.block;
         return say_refused(volume, name, cause);
@@ -150,7 +152,7 @@ int take_volume(struct volume *volume, uint8_t *image, size_t length, const char
         return say_no_memory(name);
     if (cause == ADF_ACCEPTED && (taking->is_strict || volume->length == meant))
         return SOUND;
-    return taking->is_strict ? say_refused(volume, name, cause) : take_rescue(volume, name, taking);
+    return taking->is_strict ? say_refused(volume, name, cause) : take_rescue(volume, cause, name, taking);
 }
 
 int find_entry(const struct volume *volume, const char *path, size_t *node) {
@@ -158,7 +160,9 @@ int find_entry(const struct volume *volume, const char *path, size_t *node) {
     if (escaped == NULL)
         return -ENOMEM;
     escape_path(path, escaped);
-    uint8_t answer = adf_find(volume->entries, volume->contents.entries, (const uint8_t *)escaped, strlen(escaped), node);
+    const struct adf_contents *contents = &volume->contents;
+    uint8_t answer =
+        adf_find_types(contents->kind, volume->entries, contents->entries, (const uint8_t *)escaped, strlen(escaped), node);
     free(escaped);
     return answer == 0 ? 0 : answer == ADF_NO_MEMORY ? -ENOMEM : -ENOENT;
 }

@@ -9,7 +9,7 @@
     volume = adf.open("games.adf", strict=True)     # or adf.Refused: .filename, .block and .cause, as "bad sum"
     for entry in volume.entries:
         print(entry.path, entry.size, entry.date, entry.comment)
-    start = volume["s/startup-sequence"].read()     # bytes; the case of a to z does not count; KeyError where nothing is there
+    start = volume["s/startup-sequence"].read()     # bytes; the case of its letters does not count; KeyError where nothing is there
     file = volume["c/list"].open()                  # a file of Python, which seeks
     for path, directories, files in volume.walk():  # as os.walk
         print(path, directories, files)
@@ -53,7 +53,7 @@ from typing import Any, BinaryIO, Iterable, Iterator, NamedTuple, Sequence, Unio
 __version__ = "1.0"
 BLOCK = 512
 MOST_BYTES = BLOCK * 1_048_576
-NOT_DOS, NO_MEMORY = 2, 23
+NOT_DOS, INTERNATIONAL, NO_MEMORY = 2, 3, 23
 OTHER_TYPE = 0  # of the finding that the type is FFS and the files are OFS, for which the library has no number
 NO_BLOCK, LEAST_CHUNK, FILE_TYPE = 2**32 - 1, 488, b"\xff\xff\xff\xfd"
 KINDS = ("ofs", "ffs")
@@ -65,6 +65,7 @@ LONGEST_NAME, LONGEST_COMMENT, MOST_NUMBER, PART = 30, 79, 2**32 - 1, 1 << 20
 FIRST_ROOM, FIRST_OUTPUT, FIRST_ERRORS, MOST_OUTPUT, LONGEST_TEXT = 2048, 4096, 4096, 1 << 32, 64
 EPOCH = datetime.datetime(1978, 1, 1)
 LAST_DAY = (datetime.datetime.max - EPOCH).days
+LETTERS = ("ascii", "international")
 CAPITALS = bytes(byte - 32 if 97 <= byte <= 122 else byte for byte in range(256))
 STAMP = re.compile(":".join([r"(0|[1-9][0-9]*)"] * 3))
 CIVIL = re.compile(r"([0-9]{4}-[0-9]{2}-[0-9]{2} [0-9]{2}:[0-9]{2}:[0-9]{2})\.([0-4][0-9])")
@@ -112,8 +113,11 @@ _CALLS = {
     "adf_check": (_BYTE, _POINTER, _SIZE, _POINTER),
     "adf_check_types": (_BYTE, _POINTER, _SIZE, _POINTER),
     "adf_owners": (_BYTE, _POINTER, _SIZE, _POINTER, _SIZE),
+    "adf_owners_types": (_BYTE, _POINTER, _SIZE, _POINTER, _SIZE),
     "adf_index": (_BYTE, _POINTER, _SIZE, _POINTER, _SIZE, _POINTER, _SIZE, _POINTER),
+    "adf_index_types": (_BYTE, _POINTER, _SIZE, _POINTER, _SIZE, _POINTER, _SIZE, _POINTER),
     "adf_find": (_BYTE, _POINTER, _SIZE, _POINTER, _SIZE, _POINTER),
+    "adf_find_types": (_BYTE, _WORD, _POINTER, _SIZE, _POINTER, _SIZE, _POINTER),
     "adf_read": (_SIZE, *(_POINTER, _SIZE) * 3, _SIZE, _SIZE, _POINTER, _SIZE),
     "adf_cause_text": (_SIZE, _BYTE, _POINTER, _SIZE),
     "adf_version": (_WORD,),
@@ -483,7 +487,7 @@ class Survey(_ReadOnly):
 
     Where nothing but the boot block is lost, and where the type is one of FFS and the files say OFS, the image is surveyed as if it
     began with the type that its files say: `is_begun`, or `is_retyped`, and then the first finding says so. Otherwise it has no
-    findings exactly where `Volume` takes the image, and the first of them is what `Refused` says.
+    findings exactly where `check` takes the image, and the first of them is what `Refused` says.
     """
 
     image: bytes
@@ -653,7 +657,7 @@ class Findings(Sequence["Finding"]):
 
 
 class Partition(NamedTuple):
-    """A partition of a hard disk: its number from 1, the drive's name, the kind ("ofs", "ffs", or the four bytes of another file
+    """A partition of a hard disk: its number from 1, the drive's name, the kind (one of TYPES, or the four bytes of another file
     system in the escape form), the first block of its volume and how many it has (0 and 0 where it has no place), flags, boot
     priority, its partition block, and what is wrong with it, as `over tables`, or an empty text. A volume has a place whatever
     is wrong with the fields of its file system or with its name."""
@@ -702,7 +706,7 @@ class Disk(_ReadOnly):
     @staticmethod
     def _partition(number: int, row: Any) -> Partition:
         kind = row.dos_type - DOS_TYPE
-        text = KINDS[kind] if kind in (0, 1) else escape(row.dos_type.to_bytes(4, "big"))
+        text = TYPES[kind] if 0 <= kind < len(TYPES) else escape(row.dos_type.to_bytes(4, "big"))
         fields = row.first, row.blocks, row.flags, row.priority, row.block, _text(_calls().adf_partition_fault_text, row.fault)
         return Partition(number, bytes(row.name)[: row.name_length], text, *fields)
 
@@ -764,7 +768,7 @@ def open(path: Path, *, strict: bool = False, blocks: int | None = None) -> Volu
 
 
 def open_image(image: Image, filename: Path | None = None, *, strict: bool = False, blocks: int | None = None) -> Volume:
-    """The volume of an image. If the image is refused, a DamagedWarning says so, and the volume is a Rescued one, that of what stands:
+    """The volume of an image of type 0 to 3. If the image is refused, a DamagedWarning says so, and the volume is a Rescued one, that of what stands:
     `left_out` is what is not in it. Refused if nothing stands, or with `strict` if the image is not a volume. With a number of blocks
     it is read as if it had so many; those that it does not have are lost."""
     return _opened(_bytes(image), filename, strict, blocks)
@@ -788,13 +792,15 @@ def _opened(image: bytes, filename: Path | None, strict: bool, blocks: int | Non
 class Volume(_ReadOnly):
     """The volume of an image in memory, which is checked here; Refused where it is that of none.
 
-    label, raw_label, kind ("ofs" or "ffs"), blocks, used, free; date, altered and created, the dates of the root, of the last
-    change and of the creation; image, its bytes; entries, in the order of `adf list`: each directory before what is in it.
+    label, raw_label, kind (one of TYPES, as "ofs" or "ffs-international"), letters ("ascii": the case of a to z is ignored in names;
+    "international": that of all letters of Latin-1), blocks, used, free; date, altered and created, the dates of the root, of the
+    last change and of the creation; image, its bytes; entries, in the order of `adf list`: each directory before what is in it.
     They can only be read. Once it is closed, its image is empty and nothing more is read of it: ValueError.
     """
 
     image: bytes
     kind: str
+    letters: str
     blocks: int
     used: int
     free: int
@@ -811,11 +817,12 @@ class Volume(_ReadOnly):
         while rooms != wanted:
             rooms = wanted
             tables = (_Entry * rooms[0])(), rooms[0], (_WORD * rooms[1])(), rooms[1]
-            _accept(_calls().adf_index(raw, len(raw), *tables, ctypes.byref(contents)), contents.block, filename)
+            _accept(_calls().adf_index_types(raw, len(raw), *tables, ctypes.byref(contents)), contents.block, filename)
             wanted = max(rooms[0], contents.entries), max(rooms[1], contents.data_blocks)
         label = bytes(contents.label)[: contents.label_length]
         vars(self).update(
-            image=raw, kind=KINDS[contents.kind], blocks=contents.blocks, used=contents.used, free=contents.free,
+            image=raw, kind=TYPES[contents.kind], letters=LETTERS[contents.kind // 2],
+            blocks=contents.blocks, used=contents.used, free=contents.free,
             date=_date(contents.root), altered=_date(contents.altered), created=_date(contents.created),
             raw_label=label, label=label.decode("latin-1"),
             _known_tables=((raw, len(raw)), (tables[0], contents.entries), (tables[2], contents.data_blocks)),
@@ -900,7 +907,7 @@ class Volume(_ReadOnly):
     def owners(self) -> bytes:
         """The role of each block, a byte for each, as a place in ROLES."""
         image, roles = self._tables[0], ctypes.create_string_buffer(self.blocks)
-        _accept(_calls().adf_owners(*image, roles, self.blocks), 0)
+        _accept(_calls().adf_owners_types(*image, roles, self.blocks), 0)
         return roles.raw
 
     @functools.cached_property
@@ -922,10 +929,20 @@ class Volume(_ReadOnly):
         except UnicodeEncodeError:
             return None
         node = ctypes.c_size_t()
-        answer = _calls().adf_find(*self._tables[1], text, len(text), ctypes.byref(node))
+        answer = _calls().adf_find_types(TYPES.index(self.kind), *self._tables[1], text, len(text), ctypes.byref(node))
         if answer == NO_MEMORY:
             raise NoMemory
         return node.value if answer == 0 else None
+
+
+def _own_fault(image: bytes, refused: Refused) -> Refused:
+    """The first fault of an image by the letters of its type, if it is refused for these."""
+    if refused.number == INTERNATIONAL:
+        try:
+            check(image, international=True)
+        except Refused as first:
+            return first
+    return refused
 
 
 class Rescued(Volume):
@@ -941,7 +958,8 @@ class Rescued(Volume):
         try:
             new, left_out = rescue(given, blocks)
         except Refused as refused:
-            raise Refused(refused.cause, refused.block, refused.number, filename) from None
+            first = _own_fault(_sized(given, blocks), refused)
+            raise Refused(first.cause, first.block, first.number, filename) from None
         super().__init__(new, filename)
         vars(self).update(_given=(given, filename, blocks), _left_out=left_out)
 
@@ -991,7 +1009,7 @@ class Rescued(Volume):
     def refused(self) -> Refused | None:
         """Why the image is refused; None if it is sound."""
         try:
-            check(self._given[0])
+            check(self._given[0], international=True)
         except Refused as refused:
             return Refused(refused.cause, refused.block, refused.number, self._given[1])
         return None

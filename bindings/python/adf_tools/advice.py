@@ -7,7 +7,7 @@ from typing import Iterator, NamedTuple, Optional
 import adf
 
 FLOPPIES = (1760, 3520)
-OTHER_TYPES, BITMAP = ("international", "directory cache"), {"not validated", "lost block", "owned free"}
+BITMAP = {"not validated", "lost block", "owned free"}
 
 
 class Advice(NamedTuple):
@@ -20,7 +20,7 @@ class Advice(NamedTuple):
 
 GROUPS = (
     Advice("sound", "Sound", "Nothing is to be done."),
-    Advice("other type", "Readable, of another type", "Nothing is wrong: the volume is of a type 2 to 5, which adf check refuses by name."),
+    Advice("other type", "Readable, of another type", "Nothing is wrong: the volume is of type 4 or 5, whose directory caches are not read."),
     Advice("bitmap", "Files whole, bitmap wrong", "All files can be read. The disk was perhaps taken out before its bitmap was written."),
     Advice("read again", "Read again", "A checksum, a block or the end is wrong: read the disk once more, and compare."),
     Advice("wrong length", "Wrong length", "The image is cut, or longer than its disk. Its line says the length that fits, in blocks."),
@@ -52,13 +52,18 @@ def has_root(image: bytes, blocks: int) -> bool:
     return bool(survey.kind and (survey.entries or survey.label))
 
 
+def passed(survey: adf.Survey) -> int:
+    """How many of the first findings are no fault: the one of a volume of type 2 or 3, whose letters are read."""
+    return int(len(survey.findings) > 0 and survey.findings[0].cause == "international")
+
+
 def advice_of(refused: adf.Refused, survey: adf.Survey, fits: Optional[int]) -> str:
     """The group of a refused image."""
-    if refused.cause in OTHER_TYPES and len(survey.findings) == 1:
+    if refused.cause == "directory cache" and len(survey.findings) == 1:
         return "other type"
     if fits is not None or refused.cause == "bad size":
         return "wrong length" if fits is not None or survey.image[:3] == b"DOS" else "no volume"
     if refused.cause == "not dos" and not survey.entries:
         return "no volume"
-    causes = {finding.cause for finding in survey.findings[:1000]}
+    causes = {finding.cause for finding in survey.findings[passed(survey) : 1000]}
     return "bitmap" if causes <= BITMAP and len(survey.findings) <= 1000 else "read again"

@@ -27,7 +27,8 @@ def entry_lines(entry: adf.Entry) -> Iterator[str]:
 
 
 def lines_of(volume: adf.Volume) -> Iterator[str]:
-    yield f"volume {volume.kind} {volume.blocks}"
+    kind, *_letters = volume.kind.split("-")  # a manifest tells none
+    yield f"volume {kind} {volume.blocks}"
     if volume.raw_label:
         yield f"label {adf.escape(volume.raw_label)}"
     yield f"stamps {volume.date.stamp} {volume.altered.stamp} {volume.created.stamp}"

@@ -10,7 +10,7 @@ from typing import Any, Dict, Iterable, Iterator, List, NamedTuple, Optional, Se
 
 import adf
 from adf_tools import icons
-from adf_tools.advice import advice_of, length_that_fits
+from adf_tools.advice import advice_of, length_that_fits, passed
 from adf_tools.names import letters
 from adf_tools.picture import roles_of_refused
 from adf_tools.sums import boot_facts, sums_of
@@ -144,7 +144,7 @@ def refused_record(image: bytes, refused: adf.Refused, columns: Columns, has_tex
     files = sum(entry.is_file for entry in survey.entries)
     counts = {"dirs": len(survey.entries) - files, "files": files, "sound": sound, "lost": lost, "unlisted": len(survey.entries) - len(rows)}
     told = {"verdict": str(refused), "block": refused.block, "cause": refused.cause, "label": letters(survey.label), "fits": fits}
-    told.update(advice=advice_of(refused, survey, fits), faults=len(survey.findings), roles=zlib.compress(roles_of_refused(survey)))
+    told.update(advice=advice_of(refused, survey, fits), faults=len(survey.findings) - passed(survey), roles=zlib.compress(roles_of_refused(survey)))
     if survey.kind:
         volume_type = adf.KINDS.index(survey.kind) if survey.is_begun else image[3]
         told.update(kind=survey.kind, type=volume_type, blocks=len(image) // adf.BLOCK, **dates_of(survey))
@@ -154,7 +154,7 @@ def refused_record(image: bytes, refused: adf.Refused, columns: Columns, has_tex
 
 
 def finding_rows(survey: adf.Survey) -> Iterator[Tuple[Any, ...]]:
-    for place in range(min(len(survey.findings), MOST_FINDINGS)):
+    for place in range(passed(survey), min(len(survey.findings), MOST_FINDINGS)):
         first, last, cause, *paths = survey.findings[place]
         yield first, last, cause, *(None if path is None else letters(path) for path in paths)
 

@@ -42,6 +42,16 @@ def image_of(kind: str = "ofs", blocks: int = 1760) -> bytes:
     return built(MANIFEST(kind=kind, blocks=blocks) + "".join(f"data {LARGE[at : at + 100].hex()}\n" for at in range(0, len(LARGE), 100)))
 
 
+def international(kind: str = "ffs", blocks: int = 1760) -> bytes:
+    """A volume of type 2 or 3 with a directory, and a file whose name is 0xE9. Its slot in the table of the root is that of 0xC9, 70, in
+    place of 30 by ASCII letters."""
+    image = bytearray(built(f"volume {kind} {blocks}\ndir 0:0:0 00000000 c\nfile 0:0:0 00000000 \\xe9\ndata 41\n"))
+    plain, raised = (512 * (blocks // 2) + 4 * (6 + slot) for slot in (30, 70))
+    image[raised : raised + 4], image[plain : plain + 4] = image[plain : plain + 4], bytes(4)
+    image[3] |= 2
+    return bytes(image)
+
+
 @functools.lru_cache(maxsize=None)
 def nested(depth: int, size: int = 1) -> bytes:
     """A volume of directories in directories, with a file of this size in the last."""

@@ -12,7 +12,7 @@ import unittest
 import unittest.mock
 
 import adf
-from tests.shared import LARGE, NAME_BYTES, built, changed, image_of
+from tests.shared import LARGE, NAME_BYTES, built, changed, image_of, international
 
 
 class Volumes(unittest.TestCase):
@@ -37,6 +37,27 @@ class Volumes(unittest.TestCase):
             self.assertRaisesRegex(adf.Refused, "block 0: international", adf.check, typed)
             with self.assertRaisesRegex(adf.Refused, "block 0: directory cache"):
                 adf.check(image[:3] + bytes([other + 2]) + image[4:], international=True)
+
+    def test_reads_international_letters_as_they_come(self):
+        for kind in adf.KINDS:
+            image = international(kind)
+            volume = adf.open_image(image, strict=True)
+            self.assertEqual((volume.kind, volume.letters, volume.image), (f"{kind}-international", "international", image))
+            self.assertEqual([volume[path].read() for path in ("é", "É", b"\xc9")], [b"A"] * 3)
+            self.assertNotIn("÷", volume)
+            self.assertEqual([volume.owners().count(role) for role in (adf.ROLES.index("header"), adf.ROLES.index("data"))], [2, 1])
+            self.assertEqual(pickle.loads(pickle.dumps(volume)).kind, volume.kind)
+            self.assertRaisesRegex(adf.Refused, "block 0: directory cache", adf.Volume, image[:3] + bytes([4]) + image[4:])
+            plain = image[:3] + bytes([adf.KINDS.index(kind)]) + image[4:]
+            self.assertRaisesRegex(adf.Refused, "wrong slot", adf.Volume, plain)
+        self.assertEqual((adf.Volume(image_of()).letters, "B\xfccher" in adf.Volume(image_of())), ("ascii", False))
+
+    def test_says_why_a_damaged_volume_of_other_letters_is_refused(self):
+        block = adf.Volume(international())["é"].header
+        with self.assertWarnsRegex(adf.DamagedWarning, f"block {block}: bad sum"):
+            volume = adf.open_image(changed(international(), block, 500, 1))
+        self.assertEqual((volume.refused.cause, volume.refused.block, list(volume)), ("bad sum", block, ["c"]))
+        self.assertRaisesRegex(adf.Refused, "block 880: bad type", adf.open_image, b"DOS\2" + bytes(1760 * 512 - 4))
 
     def test_tells_the_entries(self):
         volume = adf.Volume(image_of())
@@ -193,7 +214,7 @@ class Refusals(unittest.TestCase):
     def test_refuses_as_the_command_does(self):
         sound = image_of()
         (page,) = struct.unpack_from(">I", sound, 512 * 880 + 4 * 79)
-        images = [b"", bytes(511), bytes(1760 * 512), sound[:-1], changed(sound, 0, 0, 0x50), changed(sound, 0, 3, 2)]
+        images = [b"", bytes(511), bytes(1760 * 512), sound[:-1], changed(sound, 0, 0, 0x50), changed(sound, 0, 3, 4)]
         images += [changed(sound, 880, 440, 1), changed(sound, page, 7, 9), bytes(adf.MOST_BYTES + 512)]
         for image in images:
             status, line, _ = adf.run(["check"], image)

@@ -18,11 +18,13 @@ class Triage(Catalogues):
         os.mkdir("disks")
         sound = volume(("a", b"abc"), ("b", b"x" * 2000))
         header = adf.Volume(sound)["b"].header
-        international = bytearray(sound)
-        international[3] = 2
+        international, cached = bytearray(sound), bytearray(sound)
+        international[3], cached[3] = 2, 4
         images = {
             "sound": sound, "cut": sound[: 512 * 1701], "long": sound + bytes(11264), "odd": sound + b"\0", "sum": changed(sound, header, 323, 1),
-            "other": b"X" * 901120, "text": b"DOS, a text", "type": bytes(international), "bitmap": bitmap_changed(sound),
+            "other": b"X" * 901120, "text": b"DOS, a text", "type": bytes(cached), "bitmap": bitmap_changed(sound),
+            "letters": bytes(international), "letters sum": changed(bytes(international), header, 323, 1),
+            "letters bitmap": bitmap_changed(bytes(international)),
         }  # fmt: skip
         for name, content in images.items():
             written(f"disks/{name}.adf", content)
@@ -33,6 +35,7 @@ class Triage(Catalogues):
             "sound.adf": ("sound", "", "0"), "cut.adf": ("wrong length", "1760", "0"), "long.adf": ("wrong length", "1760", "0"),
             "odd.adf": ("wrong length", "1760", "0"),
             "sum.adf": ("read again", "", "1"), "other.adf": ("no volume", "", "0"), "text.adf": ("wrong length", "", "0"), "type.adf": ("other type", "", "0"),
+            "letters.adf": ("sound", "", "0"), "letters sum.adf": ("read again", "", "1"), "letters bitmap.adf": ("bitmap", "", "0"),
             "bitmap.adf": ("bitmap", "", "0"), "z.zip": ("not read", "", ""),
         })  # fmt: skip
         index = Page("out/index.html")

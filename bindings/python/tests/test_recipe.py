@@ -3,7 +3,7 @@
 import os
 
 import adf
-from tests.shared import Folder, built, changed, image_of
+from tests.shared import Folder, built, changed, image_of, international
 
 
 class Recipes(Folder):
@@ -11,6 +11,9 @@ class Recipes(Folder):
         for kind in adf.KINDS:
             image = image_of(kind)
             self.assertEqual(built(self.tool("recipe", given=image).decode()), adf.run(["convert", kind], image).output)
+
+    def test_tells_no_letters(self):
+        self.assertEqual(self.tool("recipe", given=international()).decode().splitlines()[0], "volume ffs 1760")
 
     def test_refuses(self):
         self.refused(1, "block 880: bad sum", "recipe", "--strict", given=changed(image_of(), 880, 440, 1))

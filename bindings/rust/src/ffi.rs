@@ -172,7 +172,7 @@ pub(crate) struct RescueTold {
 }
 
 extern "C" {
-    fn adf_index(
+    fn adf_index_types(
         image: *const u8,
         length: usize,
         entries: *mut Record,
@@ -181,8 +181,15 @@ extern "C" {
         blocks_room: usize,
         contents: *mut Contents,
     ) -> u8;
-    fn adf_owners(image: *const u8, length: usize, roles: *mut u8, room: usize) -> u8;
-    fn adf_find(entries: *const Record, count: usize, path: *const u8, path_length: usize, node: *mut usize) -> u8;
+    fn adf_owners_types(image: *const u8, length: usize, roles: *mut u8, room: usize) -> u8;
+    fn adf_find_types(
+        kind: u32,
+        entries: *const Record,
+        count: usize,
+        path: *const u8,
+        path_length: usize,
+        node: *mut usize,
+    ) -> u8;
     fn adf_read(
         image: *const u8,
         length: usize,
@@ -415,7 +422,7 @@ pub(crate) fn boot_clear(image: &mut [u8]) -> u8 {
     unsafe { adf_boot_clear(image.as_mut_ptr(), image.len()) }
 }
 
-/// The tables of a volume, as `adf_index` makes them.
+/// The tables of a volume, as `adf_index_types` makes them.
 pub(crate) struct Tables {
     pub contents: Contents,
     pub entries: Vec<Record>,
@@ -447,7 +454,7 @@ pub(crate) fn index(image: &[u8]) -> Result<Tables, Refused> {
     let mut contents = Contents::default();
     // "A pointer to bytes has as many bytes as its length or room says", and "buffers and structs need not be initialised".
     let answer = unsafe {
-        adf_index(
+        adf_index_types(
             image.as_ptr(),
             image.len(),
             entries.as_mut_ptr(),
@@ -641,16 +648,17 @@ pub(crate) fn owners(image: &[u8]) -> Result<Vec<u8>, Refused> {
     let mut roles = with_room(image.len() / 512)?;
     roles.resize(image.len() / 512, 0);
     // "A pointer to bytes has as many bytes as its length or room says".
-    let answer = unsafe { adf_owners(image.as_ptr(), image.len(), roles.as_mut_ptr(), roles.len()) };
+    let answer = unsafe { adf_owners_types(image.as_ptr(), image.len(), roles.as_mut_ptr(), roles.len()) };
     accepted(answer).map_err(|cause| Refused { cause, block: 0 })?;
     Ok(roles)
 }
 
 /// The number of the entry under a path in escape form, 0 for the root.
-pub(crate) fn find(entries: &[Record], path: &[u8]) -> Result<usize, NotFound> {
+pub(crate) fn find(tables: &Tables, path: &[u8]) -> Result<usize, NotFound> {
     let mut node = 0;
     // "A pointer to bytes has as many bytes as its length or room says"; "node is at most count".
-    let answer = unsafe { adf_find(entries.as_ptr(), entries.len(), path.as_ptr(), path.len(), &mut node) };
+    let (kind, entries) = (tables.contents.kind, &tables.entries);
+    let answer = unsafe { adf_find_types(kind, entries.as_ptr(), entries.len(), path.as_ptr(), path.len(), &mut node) };
     looked_up(answer, node)
 }
 

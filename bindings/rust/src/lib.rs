@@ -57,7 +57,7 @@ pub struct Volume<'image> {
 }
 
 impl<'image> Volume<'image> {
-    /// Checks an image. If it is not a volume, the error is its first fault. `Cause::NoMemory` says nothing about the image.
+    /// Checks an image of type 0 to 3. If it is not a volume, the error is its first fault. `Cause::NoMemory` says nothing about the image.
     pub fn check(image: &'image [u8]) -> Result<Volume<'image>, Refused> {
         Ok(Volume { tables: ffi::index(image)?, image: Cow::Borrowed(image) })
     }
@@ -128,15 +128,16 @@ impl<'image> Volume<'image> {
         Ok(roles.into_iter().map(Role::from).collect())
     }
 
-    /// The entry under a path: names with `/` between them, as `Entry::path` has it. The case of a to z is ignored. The empty path is
-    /// the root's. A character that is not in Latin-1 is in no path.
+    /// The entry under a path: names with `/` between them, as `Entry::path` has it. The case of a to z is ignored; with
+    /// international letters, that of all letters of Latin-1. The empty path is the root's. A character that is not in Latin-1 is in no
+    /// path.
     pub fn find(&self, path: impl AsRef<str>) -> Result<Entry<'_>, NotFound> {
         self.find_bytes(&text::to_latin(path.as_ref()).ok_or(NotFound::NoPath)?)
     }
 
     /// The entry under the bytes of a path, as `Entry::path_bytes` has them.
     pub fn find_bytes(&self, path: &[u8]) -> Result<Entry<'_>, NotFound> {
-        let number = ffi::find(&self.tables.entries, escape(path).as_bytes())?;
+        let number = ffi::find(&self.tables, escape(path).as_bytes())?;
         Ok(Entry { volume: self, number })
     }
 }

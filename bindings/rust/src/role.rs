@@ -18,4 +18,8 @@ numbered! {
     Kind(u32):
     Ofs = 0,
     Ffs = 1,
+    /// OFS whose names have international letters.
+    OfsInternational = 2,
+    /// FFS whose names have international letters.
+    FfsInternational = 3,
 }

@@ -76,7 +76,15 @@ type Moved = [usize; 4];
 
 /// Refuses an image of no bytes, and accepts any other.
 #[no_mangle]
-extern "C" fn adf_index(_: *const u8, length: usize, _: *mut u8, _: usize, _: *mut u32, _: usize, contents: *mut Numbers) -> u8 {
+extern "C" fn adf_index_types(
+    _: *const u8,
+    length: usize,
+    _: *mut u8,
+    _: usize,
+    _: *mut u32,
+    _: usize,
+    contents: *mut Numbers,
+) -> u8 {
     unsafe { *contents = Numbers { kind: NEW.into(), blocks: 4 } };
     if length == 0 {
         NEW
@@ -87,7 +95,7 @@ extern "C" fn adf_index(_: *const u8, length: usize, _: *mut u8, _: usize, _: *m
 
 /// Refuses an image of one block, and accepts any other.
 #[no_mangle]
-extern "C" fn adf_owners(_: *const u8, length: usize, roles: *mut u8, room: usize) -> u8 {
+extern "C" fn adf_owners_types(_: *const u8, length: usize, roles: *mut u8, room: usize) -> u8 {
     unsafe { roles.write_bytes(NEW, room) };
     if length == 512 {
         NEW
@@ -97,7 +105,7 @@ extern "C" fn adf_owners(_: *const u8, length: usize, roles: *mut u8, room: usiz
 }
 
 #[no_mangle]
-extern "C" fn adf_find(_: *const u8, _: usize, _: *const u8, _: usize, _: *mut usize) -> u8 {
+extern "C" fn adf_find_types(_: u32, _: *const u8, _: usize, _: *const u8, _: usize, _: *mut usize) -> u8 {
     NEW
 }
 
@@ -183,7 +191,7 @@ extern "C" fn adf_survey_parts(_: *const u8, _: usize, _: *mut u8, _: usize) -> 
 
 #[no_mangle]
 extern "C" fn adf_survey_owners(image: *const u8, length: usize, roles: *mut u8, room: usize) -> u8 {
-    adf_owners(image, length, roles, room)
+    adf_owners_types(image, length, roles, room)
 }
 
 #[no_mangle]

@@ -37,6 +37,17 @@ fn image(kind: &str) -> Vec<u8> {
     built(&MANIFEST.replace("ofs", kind))
 }
 
+/// An FFS volume with international letters and one file, whose name is 0xE9. Its slot in the table of the root is that of 0xC9, 70, in
+/// place of 30 by ASCII letters.
+fn international() -> Vec<u8> {
+    let mut image = built("volume ffs 1760\nfile 0:0:0 00000000 \\xe9\ndata 41\n");
+    let slot = |number: usize| 880 * 512 + 4 * (6 + number);
+    image.copy_within(slot(30)..slot(30) + 4, slot(70));
+    image[slot(30)..slot(30) + 4].fill(0);
+    image[3] = 3;
+    image
+}
+
 /// What stands behind the date in the lines of entries of `adf list`.
 fn listed(image: &[u8]) -> Vec<String> {
     let lines = String::from_utf8(run(&["list"], image).output).unwrap();
@@ -111,6 +122,19 @@ fn files_are_read_from_any_place() {
         assert_eq!(large.read_at(&mut [], 0), 0);
         assert_eq!((volume.find("c").unwrap().read(), volume.root().read()), (vec![], vec![]));
     }
+}
+
+#[test]
+fn a_volume_with_international_letters_is_read() {
+    let image = international();
+    let volume = Volume::check(&image).unwrap();
+    assert_eq!((volume.kind(), volume.entries().len()), (Kind::FfsInternational, 1));
+    for path in ["é", "É"] {
+        assert_eq!(volume.find(path).unwrap().read(), b"A");
+    }
+    let roles = volume.owners().unwrap();
+    assert_eq!((roles[880], roles.iter().filter(|role| **role == Role::Data).count()), (Role::Root, 1));
+    assert!(open(&image).unwrap().refused.is_none());
 }
 
 #[test]

@@ -8,7 +8,7 @@ use Rattle.std.proofs.Common.{◌≡◌, ℕ, zero, suc, List, [], ◌∷◌, �
 use Rattle.std.proofs.Common.{◌<◌, length, take, drop, map, refl, sym, ap, subst, ◌∙◌, arith, take_all}
 use Rattle.std.proofs.lemmas.Bool.{cond_above, cond_below, eq-eqb}
 use Rattle.std.proofs.Math.Nat.{min-eq_left}
-use Rattle.adf_base.specs.declared.hash.Letters.TheVariants.{Ascii}
+use Rattle.adf_base.specs.declared.hash.Letters.{Letters, TheVariants.Ascii}
 use Rattle.adf_blocks.specs.declared.layout.TheConstants.{SECONDARY_TYPE, SIZE, ST_FILE}
 use Rattle.adf_blocks.specs.Sizes.{blocks, chunk, count}
 use Rattle.adf_build.specs.Plan.{data_blocks, entries_blocks}
@@ -25,13 +25,14 @@ use Rattle.adf_rescue.proofs.FitBlocks.{fit_room}
 use Rattle.adf_tree.specs.declared.entry.Body.{Body, TheVariants.Dir, TheVariants.File}
 use Rattle.adf_tree.specs.declared.entry.Entry.{Entry}
 use Rattle.adf_tree.specs.Tree.{Tree}
-use Rattle.adf_volume.specs.Fits.{BodyFits, Fits}
+use Rattle.adf_volume.specs.Fits.{BodyFits, Fits, FitsBy}
 use Rattle.adf_volume.specs.Image.{kind_of, word_in}
 use Rattle.adf_volume.specs.Layout.{EntryAt, Layout, at_node, datas_of, head_at}
 use Rattle.adf_volume.specs.LayoutRoles.{LayoutHas, owner_of}
 use Rattle.adf_volume.specs.Lists.{At}
 use Rattle.adf_volume.specs.Walk.{Role, Has, Walk}
 use Rattle.adf_volume.specs.Walk.Role.{Root, Page, MapExt, Head, Ext, Data}
+use Rattle.adf_volume.proofs.FitWalks.{one_fit}
 use Rattle.adf_volume.proofs.LayoutRoles.{owned_part, part_owned, part_range}
 use Rattle.adf_volume.proofs.Lists.{at_index}
 use Rattle.adf_volume.proofs.Roles.{same_refl}
@@ -199,17 +200,25 @@ module _ (image : List ℕ) (w : Walk) (fs : List FindingValue) (survey : IsSurv
   none_lost_of t l fit zero e bytes at body from = absurd at
   none_lost_of t l fit (suc i) e bytes at body from = none_lost t l fit i e bytes at body from
 
+  -- what fits by other letters fits by these
+  as_plain : (t : Tree) (l : Layout) → Fits image t l → (letters : Letters) (u : Tree) (m : Layout) → FitsBy letters image u m → Fits image u m
+  as_plain t l fit letters u m other =
+      let same = one_fit image t u l m fit other in
+      subst (λ (x : Tree). Fits image x m) same.0 (subst (λ (n : Layout). Fits image t n) same.1 fit)
+
   -- the role of a block is the number of its owner
   pub role_found : (t : Tree) (l : Layout) → Fits image t l → (b r : ℕ) → IsFoundRole w b r → IsOwnerNumber image b r
   role_found t l fit b r (c, is, number) = record {
-    part = (λ u m o other h.
-        let q = owned_part Ascii image u m other.places o b h in
-        number ∙ ap class_number (is.part q.0 (has_part u m other q.0 b q.1) ∙ class_is q.0) ∙ ap owner_number (sym q.2));
+    part = (λ letters u m o other h.
+        let plain = as_plain t l fit letters u m other in
+        let q = owned_part Ascii image u m plain.places o b h in
+        number ∙ ap class_number (is.part q.0 (has_part u m plain q.0 b q.1) ∙ class_is q.0) ∙ ap owner_number (sym q.2));
     boot = (λ low.
         let none : (q : Role) → Has w q b → ⊥ = (λ q h. let x = part_range image t l fit q b (is_part t l fit q b h) in absurd (omega arith)) in
         number ∙ ap class_number (is.none none ∙ sym (cond_below b 2 class.Boot class.Free low)));
-    free = (λ u m other high none.
+    free = (λ letters u m other high none.
+        let plain = as_plain t l fit letters u m other in
         let absent : (q : Role) → Has w q b → ⊥ =
-        (λ q h. none (owner_of q) (part_owned Ascii image u m other.places q b (is_part u m other q b h))) in
+        (λ q h. none (owner_of q) (part_owned Ascii image u m plain.places q b (is_part u m plain q b h))) in
         number ∙ ap class_number (is.none absent ∙ sym (cond_above b 2 class.Boot class.Free class.Free high refl)));
   }

@@ -7,13 +7,14 @@ use Rattle.std.proofs.lemmas.Bool.{cases_lt}
 use Rattle.std.proofs.lemmas.List.{drop-take, take-append-drop, take-append-le}
 use Rattle.std.proofs.lemmas.Option.{slice_get-get_or, slice_get_cases}
 use Rattle.adf_base.specs.Words.{block}
+use Rattle.adf_base.specs.declared.hash.Letters.{Letters}
 use Rattle.adf_tree.specs.declared.entry.Body.{Body, TheVariants.Dir, TheVariants.File}
 use Rattle.adf_tree.specs.declared.entry.Entry.{Entry}
 use Rattle.adf_names.specs.declared.kind.Kind.{Kind}
 use Rattle.adf_tree.specs.Tree.{Tree, entry}
 use Rattle.adf_blocks.specs.Sizes.{blocks, chunk}
 use Rattle.adf_volume.specs.Walk.Role.{Data}
-use Rattle.adf_volume.specs.Fits.{BodyFits, Fits}
+use Rattle.adf_volume.specs.Fits.{BodyFits, FitsBy}
 use Rattle.adf_volume.specs.Image.{area, content, joined, kind_of}
 use Rattle.adf_volume.specs.Layout.{EntryAt, Layout, Place, at_node, datas_at, datas_of, head_at}
 use Rattle.adf_volume.specs.Lists.{At}
@@ -82,8 +83,8 @@ datas_front (q ∷ qs) (suc i) lt =
     ∙ ap (take (length (datas_at qs i))) (drop-append-add q.datas (all_datas qs) (length (all_datas (take i qs)))) ∙ datas_front qs i (omega arith)
 
 -- the data blocks of an entry hold its bytes
-body_read : (image : List ℕ) (t : Tree) (l : Layout) (n : ℕ) (e : Entry) → Fits image t l → EntryAt t n e → (b : Body) → e.body ≡ b
-    → BodyFits image t.kind l n (at_node image l n) b
+body_read : {ls : Letters} (image : List ℕ) (t : Tree) (l : Layout) (n : ℕ) (e : Entry) → FitsBy ls image t l → EntryAt t n e
+    → (b : Body) → e.body ≡ b → BodyFits image t.kind l n (at_node image l n) b
     → (length (bytes_in b) ≤ chunk t.kind * length (datas_of l n)) × (take (length (bytes_in b)) (joined image t.kind (datas_of l n)) ≡ bytes_in b)
 unfolding content
 body_read image t l n e fits at Dir is f = (omega arith, take_zero (joined image t.kind (datas_of l n)))
@@ -98,7 +99,7 @@ pub record IsRead (image table : List ℕ) (t : Tree) (l : Layout) (n : ℕ) (x 
   pub bytes : bytes_in_blocks image x (datas_of l n) ≡ bytes_at t n
 
 -- what is told of an entry tells of its bytes
-pub told_read : (image : List ℕ) (t : Tree) (l : Layout) (i : ℕ) (e : Entry) → Fits image t l → At t.entries i e
+pub told_read : {ls : Letters} (image : List ℕ) (t : Tree) (l : Layout) (i : ℕ) (e : Entry) → FitsBy ls image t l → At t.entries i e
     → IsRead image (block_table l) t l (suc i) (table_entry (head_at l.places i) (length (all_datas (take i l.places))) e)
 told_read image t l i e fits at =
     let below : i < length l.places = omega (arith, at_below t.entries i e at, fits.places) in
@@ -119,8 +120,8 @@ told_read image t l i e fits at =
     }
 
 -- and so does what stands in the table of a volume
-entry_read : (image table : List ℕ) (t : Tree) (l : Layout) (xs : List TableEntry) (n : ℕ) (d : TableEntry) → Fits image t l → xs ≡ entry_table t l
-    → table ≡ block_table l → 0 < n → n ≤ length xs → IsRead image table t l n (get_or xs (n - 1) d)
+entry_read : {ls : Letters} (image table : List ℕ) (t : Tree) (l : Layout) (xs : List TableEntry) (n : ℕ) (d : TableEntry) → FitsBy ls image t l
+    → xs ≡ entry_table t l → table ≡ block_table l → 0 < n → n ≤ length xs → IsRead image table t l n (get_or xs (n - 1) d)
 entry_read image table t l xs zero d fits is tables some le = absurd (omega arith)
 entry_read image table t l xs (suc i) d fits is tables some le =
     let z : suc i - 1 ≡ i = omega arith in
@@ -153,8 +154,8 @@ node_here image table xs (suc i) at d some le =
     ap (λ j. file_from image (get_or xs j d) table at) z ∙ ap (λ o. entry_from image o table at) (sym (slice_get-get_or xs i d (omega arith)))
 
 -- by the tables of a volume, a node has the bytes of its file
-pub node_read : (image table : List ℕ) (t : Tree) (l : Layout) (xs : List TableEntry) (n at : ℕ) → Fits image t l → xs ≡ entry_table t l
-    → table ≡ block_table l → node_from image xs table n at ≡ drop at (bytes_at t n)
+pub node_read : {ls : Letters} (image table : List ℕ) (t : Tree) (l : Layout) (xs : List TableEntry) (n at : ℕ) → FitsBy ls image t l
+    → xs ≡ entry_table t l → table ≡ block_table l → node_from image xs table n at ≡ drop at (bytes_at t n)
 node_read image table t l xs zero at fits is tables = sym (drop-nil at)
 node_read image table t l xs (suc i) at fits is tables = elim (slice_get_cases xs i).1 [
   | inl (x, lt, some, here) ↦

@@ -24,6 +24,7 @@ use Rattle.adf_texts.specs.Names.{names_text}
 use Rattle.adf_tree.specs.Tree.{Tree}
 use Rattle.adf_volume.specs.declared.fault.Fault.{Fault}
 use Rattle.adf_volume.specs.Walk.{FirstFault, Walk}
+use Rattle.adf_volume.specs.declared.types.Types.TheVariants.{Plain}
 use Rattle.adf_runs.specs.Commands.{Reply, on_errors}
 use Rattle.adf_file_words.specs.SurveyLine.{asked, rescue}
 use Rattle.adf_survey_cmd.specs.Answers.{RescuesTyped, SurveyAnswer}
@@ -92,7 +93,7 @@ block_lines (k ∷ ks) = run_lines k k ks
 joined_lines : (s t : List ℕ) (ls ms : List LossValue) → s ≡ loss_lines ls → t ≡ loss_lines ms → s ++ t ≡ loss_lines (ls ++ ms)
 joined_lines s t ls ms e f = ap₂ (λ (x y : List ℕ). x ++ y) e f ∙ sym (flat_map-append loss_line ls ms)
 
-rescue_lines : (held : ℕ) (a : Basis) (b : Option Basis) (fs : List FindingValue) → rescue_text held a b fs ≡ loss_lines (rescue_losses held a b fs)
+rescue_lines : (held : ℕ) (a : Basis) (b : Option Basis) (fs : List FindingValue) → rescue_text Plain held a b fs ≡ loss_lines (rescue_losses held a b fs)
 rescue_lines held a b fs =
     let xs = rescue_leaves held a in
     let ys = second_leaves held a b in
@@ -115,7 +116,7 @@ none_or_some (x ∷ w) = inr (λ e. cc)
 
 module _ (held : ℕ) (input : List ℕ) (a : Basis) (b : Option Basis) (fs : List FindingValue) (boot : List ℕ) where
   abbrev Answered : RescueValue → Type 0
-  Answered r = Replied (RescuesBy held input a b fs boot) r
+  Answered r = Replied (RescuesBy Plain held input a b fs boot) r
 
   fault_alone : (f : Fault) → a.walk ≡ [] → FirstFault input f.block f.cause → Answered (refused f)
   fault_alone f none first =
@@ -125,14 +126,14 @@ module _ (held : ℕ) (input : List ℕ) (a : Basis) (b : Option Basis) (fs : Li
   fault_with f nothing first = elim (none_or_some a.walk) [
     | inl none ↦ fault_alone f none first
     | inr some ↦
-        let lines = rescue_text held a b fs in
+        let lines = rescue_text Plain held a b fs in
         (on_errors 1 (fault_line f ++ lines), inr (some, inl (nothing, (f, first, refl))), (lines, refl))
   ]
 
   volume_with : (volume : List ℕ) → ¬ IsHopeless held input a b fs → IsLaid volume (rescued_tree held a b) → blocks volume ≡ blocks a.image
       → Answered (written (restored volume boot) (rescue_losses held a b fs))
   volume_with volume stands laid size = (
-    rescue_reply (restored volume boot) (rescue_text held a b fs),
+    rescue_reply (restored volume boot) (rescue_text Plain held a b fs),
     inr (λ none. stands (inl none), inr (λ nothing. stands (inr nothing), (volume, laid, size, refl))),
     ap (rescue_reply (restored volume boot)) (rescue_lines held a b fs),
   )
@@ -142,7 +143,7 @@ module _ (held : ℕ) (input : List ℕ) (a : Basis) (b : Option Basis) (fs : Li
   replied_by r (inl (inr nothing, (f, first, e))) = subst Answered (sym e) (fault_with f nothing first)
   replied_by r (inr (stands, (volume, laid, size, e))) = subst Answered (sym e) (volume_with volume stands laid size)
 
-replied : (s : SubjectValue) (r : RescueValue) → RescueOf s r → Replied (RescuesTyped s) r
+replied : (s : SubjectValue) (r : RescueValue) → RescueOf s r → Replied (RescuesTyped Plain s) r
 replied s r (t, typed, (w, fs, survey, sound, marks, (b, second, by))) =
     let a : Basis = record { image = opened t.image; walk = w; sound = sound } in
     let (reply, answer, is) = replied_by t.end t.image a b fs (sized 2 s.image) r by in
@@ -150,11 +151,11 @@ replied s r (t, typed, (w, fs, survey, sound, marks, (b, second, by))) =
 
 -- so each answer to the same is that reply, with the hint
 pub replies_agree : (n : Option ℕ) (image : List ℕ) (r : RescueValue) (reply : Reply) → RescueOf (subject n image) r
-    → SurveyAnswer (asked n rescue) image reply
+    → SurveyAnswer (asked n (rescue false)) image reply
     → Hinted image (RepliesRescue r) reply
 replies_agree n image r reply given answer =
     let (told, rescues, is) = replied (subject n image) r given in
-    (told, is, one_answer (asked n rescue) image reply (hinted image told) answer (told, rescues, refl))
+    (told, is, one_answer (asked n (rescue false)) image reply (hinted image told) answer (told, rescues, refl))
 
 -- the number of blocks of what a rescue gives
 

@@ -5,9 +5,10 @@ use Rattle.std.proofs.lemmas.Bool.Decides.{nat_tests}
 use Rattle.std.proofs.lemmas.List.{map-append, get_or_append_left, get_or_push, length_push, take_more}
 use Rattle.std.proofs.lemmas.List.Sums.{fold_push}
 use Rattle.std.proofs.lemmas.Grind.{common_steps}
+use Rattle.adf_base.specs.declared.hash.Letters.TheVariants.{Ascii}
 use Rattle.adf_tree.specs.declared.entry.Body.TheVariants.{Dir}
 use Rattle.adf_tree.specs.Additions.{Addition, with_addition}
-use Rattle.adf_tree.specs.Tree.{Tree, room_for, with_entry}
+use Rattle.adf_tree.specs.Tree.{Tree, room_for_by, with_entry, with_entry_by}
 use Rattle.adf_tree.specs.declared.tree.RoomFault.TheVariants as room
 use Rattle.adf_drafts.specs.declared.draft.Room.{Room}
 use Rattle.adf_drafts.specs.Draft.{DraftValue, IsDirectoryOf, IsRoomFor}
@@ -59,8 +60,12 @@ tree_more t bytes xs x =
 not_file : (bytes : List ℕ) (x : TableAddition) → nat_lt 0 x.is_file ≡ false → body_in bytes x ≡ Dir
 not_file bytes x e = grind (arith, common_steps, nat_tests)
 
+-- the draft has ASCII letters
+own_letters : (t : Tree) (bytes : List ℕ) (xs : List TableAddition) (d : DraftValue) → IsDraftOf t bytes xs d → d.tree.letters ≡ Ascii
+own_letters t bytes xs d is = ap (λ (s : Tree). s.letters) is.tree ∙ is.letters
+
 pub draft_more : (t : Tree) (bytes : List ℕ) (xs : List TableAddition) (x : TableAddition) (d e : DraftValue) → IsDraftOf t bytes xs d
-    → e.tree ≡ with_entry d.tree (path_in (additions_of bytes xs) x) (meta_in x) (body_in bytes x)
+    → e.tree ≡ with_entry_by d.tree.letters d.tree (path_in (additions_of bytes xs) x) (meta_in x) (body_in bytes x)
     → length e.nodes ≡ length d.nodes + 1
     → ((other : List (List ℕ)) (m : ℕ) → IsDirectoryOf d other m → IsDirectoryOf e other m)
     → (body_in bytes x ≡ Dir → IsDirectoryOf e (path_in (additions_of bytes xs) x) (length d.nodes + 1))
@@ -68,8 +73,10 @@ pub draft_more : (t : Tree) (bytes : List ℕ) (xs : List TableAddition) (x : Ta
 draft_more t bytes xs x d e is tree nodes kept_dirs new =
     let a : Addition = record { path = path_in (additions_of bytes xs) x; meta = meta_in x; body = body_in bytes x } in
     let n = additions_count bytes xs in
+    let plain = tree ∙ ap (λ l. with_entry_by l d.tree a.path a.meta a.body) (own_letters t bytes xs d is) in
     record {
-      tree = tree ∙ (ap (λ (s : Tree). with_entry s a.path a.meta a.body) is.tree ∙ sym (tree_more t bytes xs x));
+      letters = is.letters;
+      tree = plain ∙ (ap (λ (s : Tree). with_entry s a.path a.meta a.body) is.tree ∙ sym (tree_more t bytes xs x));
       count = omega (arith, nodes, is.count, length_push xs x);
       directories = λ m le dir. elim (cases_lt (length xs) m) [
         | inl past ↦
@@ -105,11 +112,12 @@ module _ (t : Tree) (bytes : List ℕ) (before : List TableAddition) (x : TableA
       let said = directory_is before x p is.directory in
       rw (← said.0) (is.draft.directories p said.1 said.2)
 
-  pub room_none : room_for d.tree.entries (path_in (additions_of bytes before) x) ≡ Err room.Exists → has_room bytes before x ≡ false
-  room_none e = grind (arith, common_steps, is.draft.tree)
+  pub room_none : room_for_by d.tree.letters d.tree.entries (path_in (additions_of bytes before) x) ≡ Err room.Exists
+      → has_room bytes before x ≡ false
+  room_none e = let plain = rw (own_letters t bytes before d is.draft) at e in grind (arith, common_steps, is.draft.tree)
 
   pub room_some : (r : Room) → IsRoomFor d (path_in (additions_of bytes before) x) r → has_room bytes before x ≡ true
-  room_some r e = grind (arith, common_steps, is.draft.tree, e.leads)
+  room_some r e = let leads = rw (own_letters t bytes before d is.draft) at e.leads in grind (arith, common_steps, is.draft.tree)
 
   pub bad_name : has_name x ≡ false → fault_of bytes before x ≡ Some BadName
   bad_name e = rw (at, e) refl

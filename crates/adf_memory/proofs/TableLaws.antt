@@ -1,16 +1,21 @@
 -- The tables of a volume: what stands at each place.
+-- Letters: ls the letters whose case is ignored.
 use Rattle.std.specs.Prelude.{◌≡◌, ◌+◌, ◌^◌, ◌≤◌, ◌<◌, ℕ, List, [], ◌∷◌, ◌++◌, Option, Some, None, IsSome, IfSome, length, option_map, take}
 use Rattle.std.proofs.Common.{zero, suc, refl, sym, ap, subst, ◌∙◌, arith, append_assoc, length-append, take_all}
 use Rattle.std.proofs.Math.Seq.{take-nil}
 use Rattle.std.proofs.lemmas.List.{append-nil, length-take-le, take_more}
 use Rattle.std.proofs.lemmas.Grind.{common_steps}
+use Rattle.adf_base.specs.declared.hash.Letters.{Letters, TheVariants.Ascii, TheVariants.International}
+use Rattle.adf_names.specs.declared.kind.Kind.{Kind, TheVariants.Ofs, TheVariants.Ffs}
 use Rattle.adf_tree.specs.declared.entry.Entry.{Entry}
-use Rattle.adf_tree.specs.Tree.{Tree, IsTree, entry}
+use Rattle.adf_tree.specs.Tree.{Tree, IsTreeBy, entry}
 use Rattle.adf_volume.specs.declared.owner.Owner.TheVariants.{Data, Ext}
-use Rattle.adf_volume.specs.Fits.{Fits}
+use Rattle.adf_volume.specs.Fits.{FitsBy}
+use Rattle.adf_volume.specs.Image.{letters_of}
 use Rattle.adf_volume.specs.Layout.{EntryAt, Layout, Place, datas_at, datas_of, head_at, owned, owned_from}
 use Rattle.adf_volume.specs.Lists.{At, numbered}
 use Rattle.adf_volume.proofs.Chains.{entry_is_at, entry_some}
+use Rattle.adf_volume.proofs.ImageStart.{own_letters}
 use Rattle.adf_volume.proofs.Lists.{at_below, at_index_or, at_some, length_numbered}
 use Rattle.adf_volume.specs.Rows.{row_of_entry}
 use Rattle.adf_volume.specs.Counts.{counts_of}
@@ -20,6 +25,7 @@ use Rattle.adf_memory.specs.declared.tables.Contents.{Contents}
 use Rattle.adf_memory.specs.declared.tables.TableEntry.{TableEntry}
 use Rattle.adf_memory.specs.Rooms.{filled}
 use Rattle.adf_memory.specs.Tables.{all_datas, block_table, contents_of, entry_table, table_entry, table_entries}
+use Rattle.adf_memory.specs.Verdicts.{kind_code_by, letters_of_code}
 use Rattle.adf_memory.proofs.Filled.{take_zero}
 
 -- the first i + 1 are the first i and the one at place i
@@ -108,7 +114,7 @@ pub row_matches : (got : Option Row) (r : Row) (x : Option Entry) (e : Entry) �
 row_matches got r x e is at h = let same : Some r ≡ Some (row_of_entry e) = sym is ∙ h ∙ ap (option_map row_of_entry) at in cc
 
 -- its directory has a number below its own
-parent_below : (t : Tree) (n : ℕ) (e : Entry) → IsTree t.entries → EntryAt t n e → e.parent < n
+parent_below : {ls : Letters} (t : Tree) (n : ℕ) (e : Entry) → IsTreeBy ls t.entries → EntryAt t n e → e.parent < n
 parent_below t zero e tree at = absurd at
 parent_below t (suc i) e tree at =
     let le = tree.parents i e (at_below t.entries i e at) in
@@ -116,7 +122,7 @@ parent_below t (suc i) e tree at =
     omega (arith, subst (λ (x : Entry). x.parent ≤ i) same le)
 
 -- and fits a word
-pub parent_small : (got : Option Row) (r : Row) (image : List ℕ) (t : Tree) (l : Layout) (n : ℕ) → got ≡ Some r → Fits image t l
+pub parent_small : {ls : Letters} (got : Option Row) (r : Row) (image : List ℕ) (t : Tree) (l : Layout) (n : ℕ) → got ≡ Some r → FitsBy ls image t l
     → length (owned image l) < 2 ^ 32 → 0 < n → n ≤ length t.entries → got ≡ option_map row_of_entry (entry t.entries n)
     → r.parent < 2 ^ 32
 parent_small got r image t l n is fits few some le h =
@@ -130,7 +136,8 @@ pub block_told : (got : Option ℕ) (b h : ℕ) → got ≡ Some b → IfSome go
 block_told got b h is told_so = subst (λ g. IfSome g (λ c. c ≡ h)) is told_so
 
 -- how many data blocks there are fits a word, also with those of the next file
-pub blocks_small : (image : List ℕ) (t : Tree) (l : Layout) (i first : ℕ) → Fits image t l → length (owned image l) < 2 ^ 32 → i < length t.entries
+pub blocks_small : {ls : Letters} (image : List ℕ) (t : Tree) (l : Layout) (i first : ℕ) → FitsBy ls image t l
+    → length (owned image l) < 2 ^ 32 → i < length t.entries
     → first ≡ length (all_datas (take i l.places)) → first + length (datas_at l.places i) < 2 ^ 32
 blocks_small image t l i first fits few lt is =
     let more = datas_more l.places i (omega (arith, fits.places)) in
@@ -143,7 +150,8 @@ blocks_small image t l i first fits few lt is =
     )
 
 -- also where they are given as a list
-pub next_small : (image : List ℕ) (t : Tree) (l : Layout) (i first : ℕ) (ds : List ℕ) → Fits image t l → length (owned image l) < 2 ^ 32
+pub next_small : {ls : Letters} (image : List ℕ) (t : Tree) (l : Layout) (i first : ℕ) (ds : List ℕ) → FitsBy ls image t l
+    → length (owned image l) < 2 ^ 32
     → i < length t.entries → first ≡ length (all_datas (take i l.places)) → ds ≡ datas_of l (i + 1) → first + length ds < 2 ^ 32
 next_small image t l i first ds fits few lt is next = grind (arith, common_steps, blocks_small)
 
@@ -186,7 +194,20 @@ pub used_small : (image : List ℕ) (t : Tree) (l : Layout) (n : Counts) (x : Co
 used_small image t l n x counts all is = grind (arith, common_steps)
 
 -- there are fewer entries and data blocks than blocks in use
-pub contents_small : (image : List ℕ) (t : Tree) (l : Layout) (x : Contents) → Fits image t l → x ≡ contents_of image t l
+pub contents_small : {ls : Letters} (image : List ℕ) (t : Tree) (l : Layout) (x : Contents) → FitsBy ls image t l → x ≡ contents_of image t l
     → x.entries + x.data_blocks < x.used
 contents_small image t l x fits is =
     subst (λ (y : Contents). y.entries + y.data_blocks < y.used) (sym is) (omega (arith, tables_small image l, fits.places))
+
+-- a type tells its letters
+letters_coded : (letters : Letters) (kind : Kind) → letters_of_code (kind_code_by letters kind) ≡ letters
+letters_coded Ascii Ofs = refl
+letters_coded Ascii Ffs = refl
+letters_coded International Ofs = refl
+letters_coded International Ffs = refl
+
+-- the type that is told of a volume has the letters of its image
+pub letters_told : {ls : Letters} (image : List ℕ) (t : Tree) (l : Layout) (x : Contents) → FitsBy ls image t l → x ≡ contents_of image t l
+    → letters_of_code x.kind ≡ letters_of image
+letters_told {ls} image t l x fits is =
+    ap (λ (y : Contents). letters_of_code y.kind) is ∙ letters_coded t.letters t.kind ∙ fits.letters ∙ sym (own_letters ls image fits.boots)

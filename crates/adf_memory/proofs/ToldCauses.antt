@@ -3,14 +3,7 @@ use Rattle.std.proofs.Common.{◌≡◌, ◌≢◌, ℕ, List, ◌∙◌, ap, sy
 use Rattle.adf_base.specs.declared.hash.Letters.{Letters}
 use Rattle.adf_blocks.specs.Causes.{cause_number}
 use Rattle.adf_blocks.specs.declared.cause.Cause.{Cause, TheVariants.NoMemory}
-use Rattle.adf_tree.specs.Tree.{Tree}
-use Rattle.adf_volume.specs.Counts.{counts_of}
-use Rattle.adf_volume.specs.Fits.{FitsBy}
-use Rattle.adf_volume.specs.Layout.{Layout}
 use Rattle.adf_volume.specs.Walk.{FirstFaultBy}
-use Rattle.adf_volume.specs.declared.counts.Counts.{Counts}
-use Rattle.adf_volume.proofs.FitWalks.{one_fit}
-use Rattle.adf_volume.proofs.NoneFits.{none_fits}
 use Rattle.adf_memory.specs.Verdicts.{IsFirstCauseBy, IsVerdictNumber, OnFault}
 
 -- the number of a cause is one that is told
@@ -23,16 +16,3 @@ pub first_told : {letters : Letters} (image : List ℕ) (cause : Cause) (b block
 first_told {letters} image cause b block n first is same some other =
     let known : cause ≢ NoMemory = λ wants. other (is ∙ ap cause_number wants) in
     (cause, sym is, subst (λ at. FirstFaultBy letters image at cause) same (first known))
-
--- nothing fits an image with a first fault
-pub none_told : {letters : Letters} (image : List ℕ) (cause : Cause) (b n : ℕ) → (cause ≢ NoMemory → FirstFaultBy letters image b cause)
-    → n ≡ cause_number cause → OnFault n ((t : Tree) (l : Layout) → FitsBy letters image t l → ⊥)
-none_told image cause b n first is some other t l fits =
-    none_fits image b cause t l (first (λ wants. other (is ∙ ap cause_number wants))) fits
-
--- the counts of a volume are those of whatever fits its image
-pub counts_told : {letters : Letters} (image : List ℕ) (n : Counts) → ((t : Tree) × (l : Layout) × FitsBy letters image t l × (n ≡ counts_of image t l))
-    → (t : Tree) (l : Layout) → FitsBy letters image t l → n ≡ counts_of image t l
-counts_told image n (u, m, also, is) t l fits =
-    let same = one_fit image u t m l also fits in
-    is ∙ (λ i. counts_of image (same.0 i) (same.1 i))

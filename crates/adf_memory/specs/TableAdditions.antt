@@ -3,6 +3,7 @@
 -- bytes the contents of the files; t a tree without entries; d a draft.
 use Rattle.std.specs.Prelude.{◌≡◌, ◌≤◌, ◌<◌, ◌+◌, ◌-◌, ◌==◌, ◌&&◌, ℕ, Bool, true, false, not, nat_le, nat_lt, if◌then◌else◌, Option, Some, None, Result, Ok, Err, is_ok}
 use Rattle.std.specs.Prelude.{List, [], ◌∷◌, ◌++◌, length, map, take, drop, fold, slice_index_or}
+use Rattle.adf_base.specs.declared.hash.Letters.TheVariants.{Ascii}
 use Rattle.adf_base.specs.declared.dates.Stamp.{Stamp}
 use Rattle.adf_names.specs.declared.meta.Meta.{Meta}
 use Rattle.adf_names.specs.Meta.{new_meta}
@@ -107,8 +108,9 @@ pub record IsFirstFault (bytes : List ℕ) (xs : List TableAddition) (n : ℕ) (
   pub sound : AreSoundBefore bytes xs (n - 1)
   pub fault : (d : TableAddition) → fault_of bytes (take (n - 1) xs) (slice_index_or xs (n - 1) d) ≡ Some why
 
--- a draft is that of the additions of a table
+-- a draft is that of the additions of a table to a tree of ASCII letters
 pub record IsDraftOf (t : Tree) (bytes : List ℕ) (xs : List TableAddition) (d : DraftValue) : Type 0 where
+  pub letters : t.letters ≡ Ascii
   pub tree : d.tree ≡ tree_with t bytes xs
   pub count : length d.nodes ≡ length xs
   pub directories : (m : ℕ) → m ≤ length xs → is_file_at xs m ≡ false → IsDirectoryOf d (path_at (additions_of bytes xs) m) m

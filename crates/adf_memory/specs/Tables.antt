@@ -3,18 +3,20 @@
 -- k a count of data blocks.
 use Rattle.std.specs.Prelude.{◌≡◌, ℕ, List, [], ◌∷◌, ◌++◌, ◌+◌, ◌-◌, Option, Some, None, length, replicate}
 use Rattle.adf_base.specs.declared.dates.Stamp.{Stamp}
+use Rattle.adf_base.specs.declared.hash.Letters.{Letters}
+use Rattle.adf_base.specs.declared.hash.Letters.TheVariants.{Ascii}
 use Rattle.adf_tree.specs.declared.entry.Body.{Body}
 use Rattle.adf_tree.specs.declared.entry.Body.TheVariants.{Dir, File}
 use Rattle.adf_tree.specs.declared.entry.Entry.{Entry}
 use Rattle.adf_tree.specs.Tree.{Tree, entry}
 use Rattle.adf_blocks.specs.Sizes.{blocks}
-use Rattle.adf_volume.specs.Fits.{Fits}
+use Rattle.adf_volume.specs.Fits.{FitsBy}
 use Rattle.adf_volume.specs.Layout.{Layout, Place, owned}
 use Rattle.adf_memory.specs.declared.tables.Contents.{Contents}
 use Rattle.adf_memory.specs.declared.tables.Date.{Date}
 use Rattle.adf_memory.specs.declared.tables.TableEntry.{TableEntry}
 use Rattle.adf_memory.specs.Rooms.{filled}
-use Rattle.adf_memory.specs.Verdicts.{kind_code}
+use Rattle.adf_memory.specs.Verdicts.{kind_code_by}
 
 -- a text in a field of so many bytes, with zeros behind it
 abbrev pub field : ℕ → List ℕ → List ℕ
@@ -60,9 +62,13 @@ table_entries k (e ∷ es) (q ∷ qs) = table_entry q.head k e ∷ table_entries
 abbrev pub entry_table : Tree → Layout → List TableEntry
 entry_table t l = table_entries 0 t.entries l.places
 
--- the table is that of a volume of this tree, wherever its parts lie
+-- the table is that of a volume of this tree, whose names have these letters, wherever its parts lie
+abbrev pub IsTableOfBy : Letters → List TableEntry → Tree → Type 0
+IsTableOfBy letters xs t = (image : List ℕ) × (l : Layout) × FitsBy letters image t l × (xs ≡ entry_table t l)
+
+-- the same of a volume of type 0 or 1
 abbrev pub IsTableOf : List TableEntry → Tree → Type 0
-IsTableOf xs t = (image : List ℕ) × (l : Layout) × Fits image t l × (xs ≡ entry_table t l)
+IsTableOf = IsTableOfBy Ascii
 
 -- the data blocks of files, one file after the other
 abbrev pub all_datas : List Place → List ℕ
@@ -76,7 +82,7 @@ block_table l = all_datas l.places
 -- what is told of an accepted image beside the tables
 abbrev pub contents_of : List ℕ → Tree → Layout → Contents
 contents_of image t l = record {
-  kind = kind_code t.kind;
+  kind = kind_code_by t.letters t.kind;
   blocks = blocks image;
   used = length (owned image l);
   free = blocks image - 2 - length (owned image l);

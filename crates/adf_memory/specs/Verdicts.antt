@@ -1,5 +1,5 @@
 -- The verdict on an image.
-use Rattle.std.specs.Prelude.{◌≡◌, ◌⊎◌, ◌+◌, ℕ, List}
+use Rattle.std.specs.Prelude.{◌≡◌, ◌⊎◌, ◌+◌, ℕ, List, cond, nat_lt}
 use Rattle.adf_base.specs.declared.hash.Letters.{Letters}
 use Rattle.adf_base.specs.declared.hash.Letters.TheVariants.{Ascii, International}
 use Rattle.adf_names.specs.declared.kind.Kind.{Kind}
@@ -20,6 +20,10 @@ kind_code Ffs = 1
 abbrev pub kind_code_by : Letters → Kind → ℕ
 kind_code_by Ascii kind = kind_code kind
 kind_code_by International kind = kind_code kind + 2
+
+-- the letters of the names in a volume of this type: of 0 and 1 ASCII
+abbrev pub letters_of_code : ℕ → Letters
+letters_of_code code = cond (nat_lt code 2) Ascii International
 
 -- an accepted image with these letters: its numbers, and no block of a fault
 abbrev pub accepted_by : Letters → Counts → Verdict

@@ -9,12 +9,12 @@ ghost use Rattle.adf_rescue.specs.Rescue.{IsSecond, Basis, OnBasis, OnSecond};
 ghost use Rattle.adf_memory.specs.Rescuing.{IsFaultOf, IsOpened, IsRefusal, Prepares, Rescue, RescueBoth, RescueBy};
 
 use crate::losses::{LossTable, rescue_losses};
-use adf_base::NoMemory;
+use adf_base::{Letters, NoMemory};
 use adf_blocks::Cause;
 use adf_check::check;
 use adf_drafts::Draft;
 use adf_findings::{Survey, some_survey, survey};
-use adf_rescue::{hung_image, is_mended, open_image, rescue};
+use adf_rescue::{Terms, hung_image, is_mended, open_image, rescue};
 use adf_volume::Fault;
 use std::alloc::{AllocError, Global};
 
@@ -105,7 +105,12 @@ fn prepare_found(
 {
     found.whole_marks();
     some_survey();
-    let Some(rescued) = rescue(alloc, found, second, held, fault.is_some())? else {
+    let terms = Terms {
+        letters: Letters::Ascii,
+        held,
+        mended: fault.is_some(),
+    };
+    let Some(rescued) = rescue(alloc, found, second, terms)? else {
         return Err(refused(fault_of(alloc, found.image(), fault)));
     };
     if rescued.stands_nothing {

@@ -2,8 +2,9 @@
 
 ghost use Rattle.std.specs.Prelude.{◌≡◌, ◌≤◌, ◌<◌, ◌+◌, ◌-◌, ◌^◌, ◌++◌, ℕ, List, [], IfSome, IfNone, length, min, take, drop};
 ghost use Rattle.adf_base.specs.Words.{block};
+ghost use Rattle.adf_base.specs.declared.hash.Letters.{Letters};
 ghost use Rattle.adf_tree.specs.Tree.{Tree};
-ghost use Rattle.adf_volume.specs.Fits.{Fits};
+ghost use Rattle.adf_volume.specs.Fits.{FitsBy};
 ghost use Rattle.adf_volume.specs.Image.{area, kind_of};
 ghost use Rattle.adf_volume.specs.Layout.{Layout};
 ghost use Rattle.adf_memory.specs.Rooms.{filled};
@@ -149,11 +150,11 @@ pub fn read_bytes(
 ) -> usize
     ensures within { result ≤ length room.new }
 
-    // If the tables are those of the image's volume, the bytes are those of the file.
-    ensures count { (t : Tree) (l : Layout) → Fits image.now t l
+    // If the tables are those of the image's volume, by any letters, the bytes are those of the file.
+    ensures count { (letters : Letters) (t : Tree) (l : Layout) → FitsBy letters image.now t l
         → entries.now ≡ entry_table t l → blocks.now ≡ block_table l
         → result ≡ min (length room.old) (length (drop offset (bytes_at t node))) }
-    ensures bytes { (t : Tree) (l : Layout) → Fits image.now t l
+    ensures bytes { (letters : Letters) (t : Tree) (l : Layout) → FitsBy letters image.now t l
         → entries.now ≡ entry_table t l → blocks.now ≡ block_table l
         → room.new ≡ filled (drop offset (bytes_at t node)) room.old }
 

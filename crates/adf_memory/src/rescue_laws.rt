@@ -1,6 +1,6 @@
 // The laws of rescues into the memory of a caller. Each is the contract of a function that does nothing.
 
-ghost use Rattle.std.specs.Prelude.{◌≡◌, ◌≤◌, ◌*◌, ℕ, List, []};
+ghost use Rattle.std.specs.Prelude.{◌≡◌, ◌≤◌, ◌*◌, ℕ, List, [], false};
 ghost use Rattle.adf_blocks.specs.Sizes.{blocks};
 ghost use Rattle.adf_volume.specs.declared.fault.Fault.{Fault};
 ghost use Rattle.adf_runs.specs.Commands.{Reply};
@@ -16,19 +16,19 @@ ghost use Rattle.adf_memory.specs.declared.losses.TableLoss.{TableLoss};
 ghost use Rattle.adf_memory.specs.declared.rescuing.RescueRefusal.TheVariants.{Fault as ForFault, SmallRoom};
 ghost use Rattle.adf_memory.specs.declared.rescuing.RescueTold.{RescueTold};
 
-/// `adf-survey rescue` replies what `rescue_volume` gives of the same image. Its output is the volume that is written to
-/// the room, and its errors are the lines of the table. Where the call is refused for a fault, so is the command, and its
-/// output is empty.
+/// `adf-survey rescue` without `--keep-type` replies what `rescue_volume` gives of the same image. Its output is the volume
+/// that is written to the room, and its errors are the lines of the table. Where the call is refused for a fault, so is the
+/// command, and its output is empty.
 pub fn rescues_agree()
     ensures written { (n : ℕ) (image : List ℕ) (reply : Reply) (old new : List ℕ) (old_rows new_rows : List TableLoss)
         (old_paths new_paths : List ℕ) (told : RescueTold)
         → HasRescue (RescueOf (subject (asked_blocks n) image)) old new old_rows new_rows old_paths new_paths told
-        → SurveyAnswer (asked (asked_blocks n) rescue) image reply → new ≡ filled reply.output old }
+        → SurveyAnswer (asked (asked_blocks n) (rescue false)) image reply → new ≡ filled reply.output old }
     ensures refused { (n room : ℕ) (image : List ℕ) (reply : Reply) (f : Fault)
         → ExplainsRescue (RescueOf (subject (asked_blocks n) image)) room (ForFault f)
-        → SurveyAnswer (asked (asked_blocks n) rescue) image reply → reply.output ≡ [] }
+        → SurveyAnswer (asked (asked_blocks n) (rescue false)) image reply → reply.output ≡ [] }
     ensures lines { (n : ℕ) (image : List ℕ) (reply : Reply) (r : RescueValue)
-        → RescueOf (subject (asked_blocks n) image) r → SurveyAnswer (asked (asked_blocks n) rescue) image reply
+        → RescueOf (subject (asked_blocks n) image) r → SurveyAnswer (asked (asked_blocks n) (rescue false)) image reply
         → Hinted image (RepliesRescue r) reply }
 {}
 

@@ -1,18 +1,20 @@
 // The tables of a volume, and how they are filled.
 
 ghost use Rattle.std.specs.Prelude.{◌≡◌, ◌<◌, ◌≤◌, ◌+◌, ◌++◌, ◌∷◌, [], ◌^◌, ℕ, List, length};
+ghost use Rattle.adf_base.specs.declared.hash.Letters.{Letters};
 ghost use Rattle.adf_tree.specs.declared.entry.Body.{Body};
 ghost use Rattle.adf_tree.specs.declared.entry.Entry.{Entry};
 ghost use Rattle.adf_tree.specs.Tree.{Tree, entry};
+ghost use Rattle.adf_volume.specs.Image.{letters_of};
 ghost use Rattle.adf_volume.specs.Layout.{Layout, at_node, owned};
 ghost use Rattle.adf_volume.specs.Rows.{row_of_body, row_of_entry};
-ghost use Rattle.adf_check.specs.Volumes.{StandsFor};
+ghost use Rattle.adf_check.specs.Volumes.{StandsForBy};
 ghost use Rattle.adf_volume.specs.Counts.{counts_of};
 ghost use Rattle.adf_memory.specs.Rooms.{filled};
 ghost use Rattle.adf_memory.specs.Tables.{block_table, bytes_in, contents_of, date_of, entry_table, field};
 ghost use Rattle.adf_memory.specs.Tables.{file_number, refused_at, table_entry};
 
-use crate::verdict::kind_code;
+use crate::verdict::kind_code_by;
 use adf_base::Stamp;
 use adf_check::{Checked, Counts, Row, RowBody};
 use adf_tree::Node;
@@ -58,7 +60,7 @@ pub struct TableEntry {
 #[repr(C)]
 #[derive(Clone, Copy)]
 pub struct Contents {
-    /// 0 for OFS, 1 for FFS.
+    /// 0 for OFS, 1 for FFS; of `put_index_types` 2 more where the letters are international.
     pub kind: u32,
     /// All blocks, including the two boot blocks.
     pub blocks: u32,
@@ -148,13 +150,14 @@ fn entry_of(row: &Row, header: u32, first: u32) -> TableEntry
 
 // The entry with a number, before whose data blocks there are so many others.
 fn table_entry(volume: &Checked<'_>, node: Node, first: u32) -> TableEntry
-    requires few { (t : Tree) (l : Layout) → StandsFor volume.now t l
+    requires few { (letters : Letters) (t : Tree) (l : Layout) → StandsForBy letters volume.now t l
         → length (owned volume.now.image l) < 2 ^ 32 }
-    requires stands { (t : Tree) × (l : Layout) × StandsFor volume.now t l }
-    requires some { (t : Tree) (l : Layout) → StandsFor volume.now t l
+    requires stands { (t : Tree) × (l : Layout)
+        × StandsForBy (letters_of volume.now.image) volume.now t l }
+    requires some { (letters : Letters) (t : Tree) (l : Layout) → StandsForBy letters volume.now t l
         → (0 < node) × (node ≤ length t.entries) }
-    ensures { (t : Tree) (l : Layout) (e : Entry)
-        → StandsFor volume.now t l → entry t.entries node ≡ Some e
+    ensures { (letters : Letters) (t : Tree) (l : Layout) (e : Entry)
+        → StandsForBy letters volume.now t l → entry t.entries node ≡ Some e
         → result ≡ table_entry (at_node volume.now.image l node) first e }
 {
     let row = volume.row(node).unwrap();
@@ -188,13 +191,13 @@ fn put_blocks(table: &mut [u32], first: usize, datas: &[u32])
 
 /// Fills the tables as far as there is room. Returns the number of data blocks.
 pub fn put_tables(volume: &Checked<'_>, entries: &mut [TableEntry], blocks: &mut [u32]) -> usize
-    requires few { (t : Tree) (l : Layout) → StandsFor volume.now t l
+    requires few { (letters : Letters) (t : Tree) (l : Layout) → StandsForBy letters volume.now t l
         → length (owned volume.now.image l) < 2 ^ 32 }
-    ensures count { (t : Tree) (l : Layout) → StandsFor volume.now t l
+    ensures count { (letters : Letters) (t : Tree) (l : Layout) → StandsForBy letters volume.now t l
         → result ≡ length (block_table l) }
-    ensures entries { (t : Tree) (l : Layout) → StandsFor volume.now t l
+    ensures entries { (letters : Letters) (t : Tree) (l : Layout) → StandsForBy letters volume.now t l
         → entries.new ≡ filled (entry_table t l) entries.old }
-    ensures blocks { (t : Tree) (l : Layout) → StandsFor volume.now t l
+    ensures blocks { (letters : Letters) (t : Tree) (l : Layout) → StandsForBy letters volume.now t l
         → blocks.new ≡ filled (block_table l) blocks.old }
 {
     let mut first = 0;
@@ -210,14 +213,14 @@ pub fn put_tables(volume: &Checked<'_>, entries: &mut [TableEntry], blocks: &mut
 
 /// What an accepted image has besides its tables.
 pub fn contents_of(volume: &Checked<'_>, counts: &Counts, data_blocks: usize) -> Contents
-    ensures { (t : Tree) (l : Layout)
-        → StandsFor volume.now t l → counts.now ≡ counts_of volume.now.image t l
+    ensures { (letters : Letters) (t : Tree) (l : Layout)
+        → StandsForBy letters volume.now t l → counts.now ≡ counts_of volume.now.image t l
         → data_blocks ≡ length (block_table l) → result ≡ contents_of volume.now.image t l }
 {
     let label = volume.label().bytes();
     let stamps = volume.stamps();
     Contents {
-        kind: kind_code(counts.kind),
+        kind: kind_code_by(volume.letters(), counts.kind),
         blocks: counts.blocks,
         used: counts.used,
         free: counts.free,

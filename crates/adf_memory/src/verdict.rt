@@ -5,16 +5,15 @@ ghost use Rattle.adf_tree.specs.Tree.{Tree};
 ghost use Rattle.adf_volume.specs.Fits.{Fits, FitsBy};
 ghost use Rattle.adf_volume.specs.Image.{letters_of};
 ghost use Rattle.adf_volume.specs.Layout.{Layout};
-ghost use Rattle.adf_volume.specs.Start.{IsBegun};
+ghost use Rattle.adf_volume.specs.Start.{IsBegun, IsBegunBy};
 ghost use Rattle.adf_volume.specs.Counts.{counts_of};
 ghost use Rattle.adf_memory.specs.Verdicts.{IsFirstCause, IsFirstCauseBy, IsVerdictNumber, OnFault, WantsMemory};
-ghost use Rattle.adf_memory.specs.Verdicts.{accepted, accepted_by, kind_code, kind_code_by, refused};
+ghost use Rattle.adf_memory.specs.Verdicts.{accepted, accepted_by, kind_code, kind_code_by, letters_of_code, refused};
 
 use adf_base::Letters;
-use adf_check::{Counts, check};
-use adf_findings::{Types, check_walk};
+use adf_check::{Counts, check, check_types};
 use adf_tree::Kind;
-use adf_volume::letters_in;
+use adf_volume::Types;
 use std::alloc::Global;
 
 /// The counts of an accepted image, or the block of the first fault. Fields that do not apply are 0.
@@ -46,13 +45,24 @@ pub fn kind_code(kind: Kind) -> u32
     }
 }
 
-// The type of a volume: the number of its kind, and 2 more where its letters are international.
-fn kind_code_by(letters: Letters, kind: Kind) -> u32
+/// The type of a volume: the number of its kind, and 2 more where its letters are international.
+pub fn kind_code_by(letters: Letters, kind: Kind) -> u32
     ensures { result ≡ kind_code_by letters kind }
 {
     match letters {
         Letters::Ascii => kind_code(kind),
         Letters::International => kind_code(kind) + 2,
+    }
+}
+
+/// The letters of the names in a volume of this type: of 0 and 1 ASCII.
+pub fn letters_of_code(code: u32) -> Letters
+    ensures { result ≡ letters_of_code code }
+{
+    if code < 2 {
+        Letters::Ascii
+    } else {
+        Letters::International
     }
 }
 
@@ -88,7 +98,6 @@ fn refused(block: u32) -> Verdict
 
 /// Checks an image and fills in the verdict. Returns 0 if the image is accepted, otherwise the number of a cause: that of the
 /// first fault, or `NoMemory` if memory ran out.
-#[tactic(auto, using(crate::proofs::CheckedVolumes::stands_for))]
 pub fn check_image(alloc: Global, image: &[u8], verdict: &mut Verdict) -> u8
     ensures number { IsVerdictNumber result }
 
@@ -133,12 +142,13 @@ pub fn check_image_types(alloc: Global, image: &[u8], verdict: &mut Verdict) -> 
     ensures first { OnFault result (IsFirstCauseBy (letters_of image.now) image.now verdict.new.block result) }
     ensures none { OnFault result ((t : Tree) (l : Layout) → FitsBy (letters_of image.now) image.now t l → ⊥) }
 
-    // Out of memory names block 0.
+    // Out of memory names block 0, and is returned only if the size, the boot bytes and the root are sound.
     ensures memory { WantsMemory result → verdict.new.block ≡ 0 }
+    ensures begun { WantsMemory result → IsBegunBy (letters_of image.now) image.now }
 {
-    match check_walk(alloc, Types::WithInternational, image) {
-        Ok(counts) => {
-            *verdict = accepted_by(letters_in(image), &counts);
+    match check_types(alloc, Types::WithInternational, image) {
+        Ok(volume) => {
+            *verdict = accepted_by(volume.letters(), &volume.counts());
             0
         }
         Err(fault) => {

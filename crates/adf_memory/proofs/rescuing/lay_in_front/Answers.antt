@@ -10,6 +10,6 @@ returns-in-Ok-lay_in-clause-volume c =
     let wide : c.args.blocks * 512 ≤ length c.args.room.now = omega arith in
     let size : length c.lay_in.new.room ≡ c.args.blocks * 512 = grind (arith, common_steps, c.lay_in.auto.room) in (
       c.lay_in.new.room,
-      subst (λ (t : Tree). IsVolumeOf t c.args.blocks c.args.boot.now c.lay_in.new.room) c.in-Ok.ensures.tree c.in-Ok-lay_in.ensures.volume,
+      subst (λ (t : Tree). IsVolumeOf t c.args.blocks c.args.boot.now c.lay_in.new.room) c.in-Ok.ensures c.in-Ok-lay_in.ensures.volume,
       in_front c.lay_in.new.room c.args.room.now (c.args.blocks * 512) size wide,
     )
