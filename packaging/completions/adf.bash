@@ -27,6 +27,8 @@ _adf_survey() {
         COMPREPLY=($(compgen -W "1760 3520" -- "$2"))
     elif [[ $2 == -* && ${COMP_WORDS[at]} == cat ]]; then
         COMPREPLY=($(compgen -W "--damaged" -- "$2"))
+    elif [[ $2 == -* && ${COMP_WORDS[at]} == rescue ]]; then
+        COMPREPLY=($(compgen -W "--keep-type" -- "$2"))
     elif [[ ${COMP_WORDS[at]} != cat ]] || ((COMP_CWORD > at + 1)); then
         compopt -o default
     fi
@@ -50,7 +52,7 @@ _adf_files() {
     case $1:$2 in
         adf-mount:-*) COMPREPLY=($(compgen -W "--partition --damaged --blocks --strict -f -o -h --help -V --version" -- "$2")) ;;
         adf-edit:-*) COMPREPLY=($(compgen -W "--help --version" -- "$2")) ;;
-        adf-shelf:-*) COMPREPLY=($(compgen -W "--null --help --version" -- "$2")) ;;
+        adf-shelf:-*) COMPREPLY=($(compgen -W "--null --any-type --help --version" -- "$2")) ;;
         adf-catalogue:-*) COMPREPLY=($(compgen -W "--tsv --rescue --fresh --escape --index-text --dat -h --help --version" -- "$2")) ;;
         adf-pack:-*)
             COMPREPLY=($(compgen -W "--image --size --bootable --boot --label --date --altered --created --no-uaem --escape -h --help --version" -- "$2"))

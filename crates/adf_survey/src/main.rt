@@ -15,8 +15,8 @@ const ABOUT: About = About {
     \x20          each finding; with --list each entry that is found too\n\
     \x20      adf-survey [--blocks N] cat [--damaged] PATH [FILE]\n\
     \x20          a sound file; with --damaged what is left of any file\n\
-    \x20      adf-survey [--blocks N] rescue [FILE] > NEW\n\
-    \x20          a new volume of all that can be kept\n\
+    \x20      adf-survey [--blocks N] rescue [--keep-type] [FILE] > NEW\n\
+    \x20          a new volume of all that can be kept; with --keep-type of the letters of the image\n\
     \x20      adf-survey --help, adf-survey --version\n\n\
     Without a FILE, or with -, the image comes on standard input. --blocks N reads it as if it had N blocks.\n\
     man adf-survey tells more.\n",
