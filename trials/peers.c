@@ -1,6 +1,8 @@
 /* For an Amiga, where trials/peers and trials/amiga run it: copies all that is in a directory into another, with comments, dates and protection.
  *
- *     copy FROM TO
+ *     copy FROM TO [TYPE] [OTHER]
+ *
+ * With a type, TO is a drive, in which a volume of this type is made first. With OTHER each file is read by the other case of its letters.
  *
  * It stands alone, without a library of C, and runs at any address. A number in a call is where exec.library or dos.library has it.
  */
@@ -15,6 +17,7 @@ struct info { /* of an entry, as dos.library has it: FileInfoBlock */
 } __attribute__((aligned(4)));
 struct work {
     void *dos;
+    const u8 *words[4]; /* of the command line */
     u8 from[1024], to[1024], part[8192];
 };
 
@@ -30,7 +33,10 @@ enum {
     SET_PROTECTION = -186,
     DELAY = -198,
     SET_DATE = -396,
+    FORMAT = -714,
+    INHIBIT = -726,
     READ_ARGS = -798,
+    DOS_TYPE = 0x444f5300,
     OLD = 1005,
     NEW = 1006,
     SHARED = -2
@@ -51,7 +57,20 @@ static void append(u8 *path, int end, const u8 *name) {
         ;
 }
 
+/* Changes the case of all letters of a path behind its drive: those of Latin-1 are 0xC0 to 0xDE and 0xE0 to 0xFE, without 0xD7 and 0xF7. */
+static void change_case(u8 *path) {
+    while (*path && *path++ != ':')
+        ;
+    for (; *path; path++) {
+        u8 raised = *path & 0xdf;
+        if ((raised >= 'A' && raised <= 'Z') || (raised >= 0xc0 && raised <= 0xde && raised != 0xd7))
+            *path ^= 32;
+    }
+}
+
 static void copy_file(struct work *work) {
+    if (work->words[3])
+        change_case(work->from);
     i32 from = DOS(OPEN, work->from, OLD, 0), to = DOS(OPEN, work->to, NEW, 0), count = 1;
     while (from && to && count > 0 && (count = DOS(READ, from, work->part, sizeof work->part)) > 0)
         count = DOS(WRITE, to, work->part, count);
@@ -59,6 +78,8 @@ static void copy_file(struct work *work) {
         DOS(CLOSE, from, 0, 0);
     if (to)
         DOS(CLOSE, to, 0, 0);
+    if (work->words[3])
+        change_case(work->from);
 }
 
 static void copy_all(struct work *work) {
@@ -88,14 +109,18 @@ static void copy_all(struct work *work) {
 __attribute__((section(".text.start"))) int start(void) {
     void *exec = *(void *volatile *)4;
     struct work *work = (void *)call(exec, -198, sizeof *work, 0x10001, 0, 0, 0);
-    const u8 *words[2] = {0, 0};
     if (!work || !(work->dos = (void *)call(exec, -552, 36, 0, 0, 0, "dos.library")))
         return 20;
     *(i32 *)(call(exec, -294, 0, 0, 0, 0, 0) + 184) = -1; /* a failure asks nobody */
-    if (!DOS(READ_ARGS, "FROM/A,TO/A", words, 0))
+    if (!DOS(READ_ARGS, "FROM/A,TO/A,TYPE/N,OTHER/S", work->words, 0))
         return 10;
-    append(work->from, 0, words[0]);
-    append(work->to, 0, words[1]);
+    if (work->words[2]) {
+        DOS(INHIBIT, work->words[1], -1, 0);
+        DOS(FORMAT, work->words[1], "Peer", DOS_TYPE + *(const i32 *)work->words[2]);
+        DOS(INHIBIT, work->words[1], 0, 0);
+    }
+    append(work->from, 0, work->words[0]);
+    append(work->to, 0, work->words[1]);
     copy_all(work);
     DOS(DELAY, 500, 0, 0); /* ten seconds, since a file system may write its bitmap late */
     return 0;

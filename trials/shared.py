@@ -14,8 +14,14 @@ os.environ["PYTHONDONTWRITEBYTECODE"] = "1"
 import adf
 
 SIZES = (0, 1, 72, 487, 488, 489, 511, 512, 513, 4000, 36864, 36865, 60000)
-NAME_LETTERS = "abcdefghijklmnopqrstuvwxyzABCDEFGHIJKLMNOPQRSTUVWXYZ0123456789 -_+\xe4\xf6\xfc\xdf\xe9\xc5\xf1"
+PLAIN_LETTERS = "abcdefghijklmnopqrstuvwxyzABCDEFGHIJKLMNOPQRSTUVWXYZ0123456789 -_+"
+NAME_LETTERS = PLAIN_LETTERS + "\xe4\xf6\xfc\xdf\xe9\xc5\xf1"
+HIGH_LETTERS = PLAIN_LETTERS + "".join(map(chr, range(0xA0, 0x100)))
 COMMENT_LETTERS = NAME_LETTERS + "/:.,!"
+HIGH_NAME = ("file 5000:600:0 00000000 \\xe0\\xe9\\xf7\\xff\\xc5\\xd7\\xdf\\xfe", "data 00")  # two bytes of it are no letters
+LOWER = bytes((*range(0x61, 0x7B), *range(0xE0, 0xF7), *range(0xF8, 0xFF)))
+UPPER = bytes(byte - 32 for byte in LOWER)
+OTHER_CASE = bytes.maketrans(LOWER + UPPER, UPPER + LOWER)
 IDLE = "SYS:copy SYS:none SYS:none\n"  # copies nothing, and waits, since AROS writes late
 SCRIPT = "SECTIONS { . = 0; .text : { *(.text.start) *(.text*) *(.rodata*) *(.data*) *(.bss*) } /DISCARD/ : { *(*) } }"
 OPTIONS = "--amiga-model=A1200 --kickstart-file=internal --cpu=68020 --uae-cpu-speed=max --warp-mode=1 --floppy-drive-count=4"
@@ -47,11 +53,11 @@ def of_folder(folder, *options):
     return adf.Volume(adf.run(["build"], tool("pack", *options, "ffs", "40000", folder))[1])
 
 
-def tree(chance):
-    """The lines of a random tree. Its files are readable, since some obey that bit."""
+def tree(chance, letters=NAME_LETTERS):
+    """The lines of a random tree, whose names have these letters. Its files are readable, since some obey that bit."""
     above = [""]
     for number in range(chance.randrange(1, 30)):
-        path = chance.choice(above) + "".join(chance.choices(NAME_LETTERS, k=chance.randrange(27))) + f"{number}x"
+        path = chance.choice(above) + "".join(chance.choices(letters, k=chance.randrange(27))) + f"{number}x"
         kind, stamp = chance.choice(("file", "file", "dir")), f"{chance.randrange(3000, 17000)}:{chance.randrange(1440)}:{chance.randrange(3000)}"
         yield f"{kind} {stamp} {chance.randrange(256) & ~8:08x} {adf.escape(path)}"
         comment = "".join(chance.choices(COMMENT_LETTERS, k=chance.randrange(80))).strip()
@@ -64,10 +70,22 @@ def tree(chance):
 
 
 def built(kind, blocks, lines=()):
-    """The image that adf builds of these lines."""
-    manifest = "".join(f"{line}\n" for line in (f"volume {kind} {blocks}", "label Peer", *lines) if line != "data ")
+    """The image that adf builds of these lines; of international letters, what adf-survey rescues of it with the other type."""
+    plain, *letters = kind.split("-")
+    manifest = "".join(f"{line}\n" for line in (f"volume {plain} {blocks}", "label Peer", *lines) if line != "data ")
     status, image, errors = adf.run(["build"], manifest.encode())
-    return image if status == 0 else sys.exit(errors.decode())
+    if status != 0:
+        sys.exit(errors.decode())
+    return international(image) if letters else image
+
+
+def international(image):
+    """A volume of the tree of this image, of the type with international letters. An empty one differs in its type alone."""
+    given = image[:3] + bytes([image[3] + 2]) + image[4:]
+    if not adf.Volume(image).entries:
+        return given
+    new = said("adf-survey", "rescue", "--keep-type", status=0, input=given)
+    return new if everything(adf.Volume(new)) == everything(adf.Volume(image)) else sys.exit("adf-survey rescues another tree")
 
 
 def contents(volume):
