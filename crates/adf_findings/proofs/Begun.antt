@@ -22,7 +22,7 @@ use Rattle.adf_findings.specs.Courses.{HasReachedPage}
 use Rattle.adf_volume.specs.declared.owner.Owner.{Owner}
 use Rattle.adf_volume.specs.declared.owner.Owner.TheVariants.{Free, Boot, Root as TheRoot}
 use Rattle.adf_walk.specs.Owners.{owned_count, owner_at}
-use Rattle.adf_walk.specs.WalkOwners.{OwnersValue}
+use Rattle.adf_findings.specs.WalkOwners.{OwnersValue}
 use Rattle.adf_findings.specs.Found.{AreNamed, AreOwned, AreSame, IsNextPart, IsOwned, Stands, owner_by}
 use Rattle.adf_findings.proofs.Taking.{none_default, stands_but}
 use Rattle.adf_findings.proofs.WalkOwners.{count_more, owned_more}

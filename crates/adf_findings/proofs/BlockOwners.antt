@@ -7,7 +7,7 @@ use Rattle.std.proofs.lemmas.Bool.Decides.{eqb_tells}
 use Rattle.std.proofs.lemmas.Grind.{common_steps}
 use Rattle.adf_volume.specs.declared.owner.Owner.{Owner}
 use Rattle.adf_walk.specs.Owners.{owner_at}
-use Rattle.adf_walk.specs.WalkOwners.{entry_of}
+use Rattle.adf_findings.specs.WalkOwners.{entry_of}
 use Rattle.adf_volume.specs.Walk.{Role, Asks, Has, Walk}
 use Rattle.adf_volume.specs.Walk.Role.{Head, Ext, Data}
 use Rattle.adf_volume.proofs.Gathered.{IsGathered, asked_file, number_of}

@@ -18,7 +18,7 @@ use Rattle.adf_findings.specs.Remains.{below, blocks_stated, bytes_left, data_be
 use Rattle.adf_findings.specs.Survey.{FindingValue, IsSurvey}
 use Rattle.adf_findings.specs.Survey.IsSurvey.{read, unread}
 use Rattle.adf_walk.specs.Owners.{owner_at}
-use Rattle.adf_walk.specs.WalkOwners.{data_number_of, entry_of}
+use Rattle.adf_findings.specs.WalkOwners.{data_number_of, entry_of}
 use Rattle.adf_findings.specs.SurveyResult.{SurveyValue, TellsOf}
 use Rattle.adf_findings.proofs.BitSteps.{at_has}
 use Rattle.adf_findings.proofs.BlockOwners.{first_with, held_data}

@@ -11,7 +11,7 @@ use Rattle.adf_volume.specs.Image.{word_in}
 use Rattle.adf_volume.specs.declared.owner.Owner.{Owner}
 use Rattle.adf_volume.specs.declared.owner.Owner.TheVariants.{Free, Boot, Root, Page, MapExt, Head, Ext, Data}
 use Rattle.adf_walk.specs.Owners.{is_part, owner_at}
-use Rattle.adf_walk.specs.WalkOwners.{data_number_of}
+use Rattle.adf_findings.specs.WalkOwners.{data_number_of}
 use Rattle.adf_findings.specs.declared.found.Found.{Found}
 use Rattle.adf_findings.specs.Found.{is_owned}
 use Rattle.adf_findings.specs.Marks.{doubted, entry_in_block, is_doubted, is_node, is_said, number_in_block}

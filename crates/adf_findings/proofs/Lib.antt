@@ -26,6 +26,8 @@ pub mod GraveFindings
 pub mod JudgementTests
 pub mod CleanParts
 pub mod Names
+-- the owners of blocks by the places that are given
+mod GrownPlaces
 -- the form of a header by the letters of a volume
 pub mod WalkOwners
 pub mod Taking

@@ -15,7 +15,7 @@ use Rattle.adf_volume.proofs.PartDemands.{part_holds_by}
 use Rattle.adf_volume.proofs.Sizes.{size_low}
 use Rattle.adf_volume.proofs.WalkCounts.{same_count}
 use Rattle.adf_walk.specs.Owners.{is_part, owned_count, owner_at}
-use Rattle.adf_walk.specs.WalkOwners.{OwnersValue, node_after}
+use Rattle.adf_findings.specs.WalkOwners.{OwnersValue, node_after}
 use Rattle.adf_findings.specs.Found.{AreOwned}
 use Rattle.adf_findings.specs.Survey.{Course, IsCourse}
 use Rattle.adf_findings.specs.Survey.IsCourse.{start, step}

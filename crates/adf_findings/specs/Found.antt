@@ -22,7 +22,7 @@ use Rattle.adf_volume.specs.Positions.{Position}
 use Rattle.adf_volume.specs.Walk.{Role, Has, bitmap_demands, heads, node_block, Walk}
 use Rattle.adf_volume.specs.Walk.Role.{Page, Head, Ext, Data}
 use Rattle.adf_walk.specs.Owners.{is_part, owned_count, owner_at}
-use Rattle.adf_walk.specs.WalkOwners.{HasNumber, OwnersValue, node_after}
+use Rattle.adf_findings.specs.WalkOwners.{HasNumber, OwnersValue, node_after}
 use Rattle.adf_findings.specs.Demands.{uppers_in}
 use Rattle.adf_findings.specs.declared.part.Part.{Part}
 use Rattle.adf_findings.specs.declared.part.Part.TheVariants.{Head as HeadPart, Ext as ExtPart, Data as DataPart}

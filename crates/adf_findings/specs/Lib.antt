@@ -17,6 +17,7 @@ pub mod Types
 pub mod Start
 pub mod Forms
 pub mod Found
+pub mod WalkOwners
 pub mod Bits
 pub mod Courses
 pub mod Marks

@@ -17,7 +17,7 @@ use Rattle.adf_findings.specs.declared.found.Found.{Found}
 use Rattle.adf_findings.specs.declared.concern.Concern.{Concern}
 use Rattle.adf_findings.specs.declared.concern.Concern.TheVariants.{Entry, Within}
 use Rattle.adf_walk.specs.Owners.{owner_at}
-use Rattle.adf_walk.specs.WalkOwners.{entry_of, data_number_of}
+use Rattle.adf_findings.specs.WalkOwners.{entry_of, data_number_of}
 use Rattle.adf_findings.specs.Concerned.{node_of}
 use Rattle.adf_findings.specs.Sound.{says_data_of}
 

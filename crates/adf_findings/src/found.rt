@@ -15,11 +15,11 @@ ghost use Rattle.adf_findings.specs.Survey.{begun};
 use crate::header_name::valid_name;
 use crate::image::Image;
 use crate::part::{Key, Part};
+use crate::walk_owners::WalkOwners;
 use adf_base::NoMemory;
 use adf_blocks::{SECONDARY_TYPE, ST_DIR};
 use adf_tree::NameSet;
 use adf_volume::Counts;
-use adf_walk::WalkOwners;
 use std::alloc::Global;
 use std::collections::BTreeMap;
 

@@ -8,6 +8,7 @@ mod file;
 mod forms;
 mod found;
 mod free;
+mod given_places;
 mod header_name;
 mod image;
 mod judge;
@@ -24,6 +25,7 @@ mod start;
 mod survey_result;
 mod surveyor;
 mod walk_check;
+mod walk_owners;
 
 pub use crate::concern::Concern;
 pub use crate::file::SoundFile;

@@ -4,13 +4,13 @@ ghost use Rattle.std.specs.Prelude.{◌≡◌, slice_get};
 ghost use Rattle.std.specs.Option.{option_and_then};
 ghost use Rattle.adf_findings.specs.Concerned.{is_taken};
 ghost use Rattle.adf_findings.specs.SurveyResult.{entry_at, owner_for};
-ghost use Rattle.adf_walk.specs.WalkOwners.{entry_of, data_number_of};
+ghost use Rattle.adf_findings.specs.WalkOwners.{entry_of, data_number_of};
 
 use crate::part::Finding;
+use crate::walk_owners::WalkOwners;
 use adf_blocks::Cause;
 use adf_tree::Node;
 use adf_volume::Owner;
-use adf_walk::WalkOwners;
 
 /// The number of the entry that an owner is a part of; 0 of the root and the bitmap, and where there is none.
 pub fn entry_of(owner: &Owner) -> usize

@@ -7,7 +7,7 @@ ghost use Rattle.adf_volume.specs.LayoutRoles.{owner_of};
 ghost use Rattle.adf_volume.specs.Walk.{third};
 ghost use Rattle.adf_volume.specs.Walk.Role.{Page};
 ghost use Rattle.adf_walk.specs.Owners.{is_part};
-ghost use Rattle.adf_walk.specs.WalkOwners.{entry_of};
+ghost use Rattle.adf_findings.specs.WalkOwners.{entry_of};
 
 use adf_blocks::{Cause, MAP_EXT_PAGES, ROOT_PAGES};
 use adf_tree::Node;

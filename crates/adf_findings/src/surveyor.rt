@@ -18,10 +18,10 @@ use crate::marks::{concerned, grave, strike_blamed, undoubted_marks};
 use crate::part::{Finding, Part};
 use crate::start::{Started, Unread, start};
 use crate::survey_result::Survey;
+use crate::walk_owners::WalkOwners;
 use adf_base::NoMemory;
 use adf_blocks::Cause;
 use adf_volume::Fault;
-use adf_walk::WalkOwners;
 use std::alloc::Global;
 use std::collections::BTreeMap;
 

@@ -1,4 +1,3 @@
 pub mod OwnerTables
 pub mod KeptPlaces
-pub mod GrownPlaces
 pub mod WordBits

@@ -3,4 +3,3 @@ pub mod OwnerClass
 pub mod OwnerTable
 pub mod Owners
 pub mod Places
-pub mod WalkOwners

@@ -1,7 +1,7 @@
 use Rattle.std.proofs.Common.{ap, map, ◌-◌, ◌∙◌}
 use Rattle.adf_walk.specs.Places.{owner_kept}
-use Rattle.adf_walk.proofs.GrownPlaces.{new_owners}
-use Rattle.adf_walk.proofs.walk_owners.WalkOwners.new.Goals as goal
+use Rattle.adf_findings.proofs.GrownPlaces.{new_owners}
+use Rattle.adf_findings.proofs.walk_owners.WalkOwners.new.Goals as goal
 
 pub returns-clause-owners : goal.returns-clause-owners
 returns-clause-owners c =

@@ -3,7 +3,7 @@
 use Rattle.std.specs.Prelude.{◌≡◌, ◌≤◌, ◌<◌, ◌^◌, ℕ, List, length}
 use Rattle.adf_volume.specs.declared.owner.Owner.{Owner}
 use Rattle.adf_volume.specs.declared.owner.Owner.TheVariants as owner
-use Rattle.adf_walk.specs.declared.given_places.GivenPlaces.{GivenPlaces}
+use Rattle.adf_findings.specs.declared.given_places.GivenPlaces.{GivenPlaces}
 use Rattle.adf_walk.specs.declared.kept_owner.KeptOwner.{KeptOwner}
 use Rattle.adf_walk.specs.declared.kept_owner.KeptOwner.TheVariants.{Ext, Data}
 use Rattle.adf_walk.specs.KeptOwner.{place_of}

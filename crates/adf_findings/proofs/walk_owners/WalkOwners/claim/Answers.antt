@@ -1,7 +1,7 @@
 use Rattle.std.proofs.Common.{arith}
 use Rattle.std.proofs.lemmas.Grind.{common_steps}
-use Rattle.adf_walk.proofs.GrownPlaces.{owners_claimed}
-use Rattle.adf_walk.proofs.walk_owners.WalkOwners.claim.Goals as goal
+use Rattle.adf_findings.proofs.GrownPlaces.{owners_claimed}
+use Rattle.adf_findings.proofs.walk_owners.WalkOwners.claim.Goals as goal
 
 pub returns-clause-owners : goal.returns-clause-owners
 returns-clause-owners c =

@@ -3,13 +3,12 @@
 ghost use Rattle.std.specs.Prelude.{◌≡◌, ◌≤◌, ◌<◌, ◌+◌, ◌-◌, ◌^◌, ◌++◌, IfOk, OnOk, length, replicate, true};
 ghost use Rattle.adf_volume.specs.declared.owner.Owner.{Owner};
 ghost use Rattle.adf_walk.specs.Owners.{is_part};
-ghost use Rattle.adf_walk.specs.WalkOwners.{AreFit, AreGrown, HasNumber, IsKeptBy, entry_of, node_after};
+ghost use Rattle.adf_findings.specs.WalkOwners.{AreFit, AreGrown, HasNumber, IsKeptBy, entry_of, node_after};
 
-use crate::kept_owner::KeptOwner;
-use crate::node_start::NodeStart;
 use adf_base::NoMemory;
 use adf_tree::Node;
 use adf_volume::Owner;
+use adf_walk::{KeptOwner, NodeStart};
 use std::alloc::Global;
 
 /// The number of places for which four bytes of an owner have room.

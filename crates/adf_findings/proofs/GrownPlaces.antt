@@ -12,14 +12,14 @@ use Rattle.std.proofs.lemmas.List.Sorted.{IsNonDecreasingBy-from_default}
 use Rattle.std.proofs.lemmas.Grind.{common_steps}
 use Rattle.adf_volume.specs.declared.owner.Owner.{Owner}
 use Rattle.adf_volume.specs.declared.owner.Owner.TheVariants as owner
-use Rattle.adf_walk.specs.declared.given_places.GivenPlaces.{GivenPlaces}
+use Rattle.adf_findings.specs.declared.given_places.GivenPlaces.{GivenPlaces}
 use Rattle.adf_walk.specs.declared.kept_owner.KeptOwner.{KeptOwner}
 use Rattle.adf_walk.specs.declared.kept_owner.KeptOwner.TheVariants.{Free, Boot, Ext, Data}
 use Rattle.adf_walk.specs.declared.node_start.NodeStart.{NodeStart}
 use Rattle.adf_walk.specs.KeptOwner.{is_claimed, kept_at}
 use Rattle.adf_walk.specs.Owners.{is_part, owner_at}
 use Rattle.adf_walk.specs.Places.{AreStarts, first_data, first_ext, last_start, owner_kept, start_of}
-use Rattle.adf_walk.specs.WalkOwners.{AreFit, AreGrown, IsInside, IsKeptBy}
+use Rattle.adf_findings.specs.WalkOwners.{AreFit, AreGrown, IsInside, IsKeptBy}
 use Rattle.adf_walk.proofs.KeptPlaces.{last_is}
 
 at_replicate : (c : ℕ) (x : NodeStart) (n : ℕ) (d : NodeStart) → n < c → get_or (replicate c x) n d ≡ x

@@ -2,13 +2,12 @@
 
 ghost use Rattle.std.specs.Prelude.{◌≡◌, ◌≤◌, ◌<◌, ◌-◌, ◌^◌, ◌∷◌, ℕ, IfOk, IsTrue, OnOk, length, replicate, slice_set, true};
 ghost use Rattle.adf_walk.specs.Owners.{is_part, owner_at};
-ghost use Rattle.adf_walk.specs.WalkOwners.{HasNumber, entry_of, node_after};
+ghost use Rattle.adf_findings.specs.WalkOwners.{HasNumber, entry_of, node_after};
 
 use crate::given_places::GivenPlaces;
-use crate::owner_table::OwnerTable;
-use crate::places::owner_of;
 use adf_base::NoMemory;
 use adf_volume::Owner;
+use adf_walk::{OwnerTable, owner_of};
 use std::alloc::Global;
 use std::marker::Model;
 
@@ -24,7 +23,7 @@ impl Model for WalkOwners {
     ghost use Rattle.std.specs.Prelude.{List, ◌-◌, length, map};
     ghost use Rattle.std.specs.List.{All};
     ghost use Rattle.adf_walk.specs.Places.{owner_kept};
-    ghost use Rattle.adf_walk.specs.WalkOwners.{AreFit, IsInside, OwnersValue};
+    ghost use Rattle.adf_findings.specs.WalkOwners.{AreFit, IsInside, OwnersValue};
 
     ghost Value = { OwnersValue };
 

@@ -1,7 +1,7 @@
 use Rattle.std.proofs.Common.{arith}
 use Rattle.std.proofs.lemmas.Grind.{common_steps}
-use Rattle.adf_walk.proofs.GrownPlaces.{part_kept}
-use Rattle.adf_walk.proofs.walk_owners.WalkOwners.are_parts.Goals as goal
+use Rattle.adf_findings.proofs.GrownPlaces.{part_kept}
+use Rattle.adf_findings.proofs.walk_owners.WalkOwners.are_parts.Goals as goal
 
 pub returns-then-end-len : goal.returns-then-end-len
 returns-then-end-len c = λ t b lo hi.
