@@ -77,7 +77,7 @@ impl Checked<'_> {
             → ((o : Owner) → In (owned self.now.image l) (o, b) → ⊥) → result ≡ Some Owner.Free }
     {
         if b < self.image.blocks() {
-            let kept = self.store.owners.get(b);
+            let kept = self.store.owners.at(b);
             Some(owner_of(&self.store.starts, kept))
         } else {
             None
@@ -96,7 +96,7 @@ impl Checked<'_> {
             → ((o : Owner) → In (owned self.now.image l) (o, b) → ⊥) → result ≡ Some OwnerClass.Free }
     {
         if b < self.image.blocks() {
-            Some(self.store.owners.get(b).class())
+            Some(self.store.owners.at(b).class())
         } else {
             None
         }

@@ -40,7 +40,7 @@ fn node_at(owners: &OwnerTable, b: u32) -> Option<Node>
     requires { b < length owners.now }
     ensures { result ≡ headed (kept_at owners.now b) }
 {
-    match owners.get(b) {
+    match owners.at(b) {
         KeptOwner::Head(node) => Some(Node(node as usize)),
         _ => None,
     }

@@ -167,13 +167,4 @@ impl OwnerTable {
         }
         all
     }
-
-    // The owner of a block.
-    pub fn get(&self, b: u32) -> KeptOwner
-        requires { b < length self.now }
-        ensures owner { result ≡ kept_at self.now b }
-        ensures place { place_of result < 2 ^ 29 }
-    {
-        self.owners[b as usize].unpacked()
-    }
 }

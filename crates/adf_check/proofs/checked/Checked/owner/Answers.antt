@@ -26,12 +26,12 @@ returns-then-b-blocks-clause-part c =
     (o, c.args.b) → Some c.owner_of.result ≡ Some o)
     c.self.view_is (λ letters t l o st has.
     ap Some (c.owner_of.ensures.part o (rw c.deref.ensures.value (part_numbered st o c.args.b has))
-    (c.get-kept.ensures.owner ∙ st.owners.part o c.args.b has ∙ ap (λ s. kept_as s o) (sym c.deref.ensures.value))))
+    (c.at-kept.ensures.owner ∙ st.owners.part o c.args.b has ∙ ap (λ s. kept_as s o) (sym c.deref.ensures.value))))
 
 pub returns-then-b-blocks-clause-boot : goal.returns-then-b-blocks-clause-boot
 returns-then-b-blocks-clause-boot c = λ low.
     let st = keeps c.self.inside.image (store_value c.self.inside.store) c.self.invariant.tells in
-    ap Some (c.owner_of.ensures.part Boot tt (c.get-kept.ensures.owner ∙ st.owners.boot c.args.b low
+    ap Some (c.owner_of.ensures.part Boot tt (c.at-kept.ensures.owner ∙ st.owners.boot c.args.b low
     (omega (arith, c.if-b-blocks.true, c.blocks-2.ensures.blocks))))
 
 pub returns-then-b-blocks-clause-free : goal.returns-then-b-blocks-clause-free
@@ -39,4 +39,4 @@ returns-then-b-blocks-clause-free c =
     subst (λ (v : Volume). (letters : Letters) (t : Tree) (l : Layout) → StandsForBy letters v t l → 2 ≤ c.args.b → c.args.b < blocks v.image
     → ((o : Owner) → In (owned v.image l) (o, c.args.b) → ⊥) → Some c.owner_of.result ≡ Some Free)
     c.self.view_is (λ letters t l st from inside none. ap Some
-    (c.owner_of.ensures.part Free tt (c.get-kept.ensures.owner ∙ st.owners.free c.args.b from inside none)))
+    (c.owner_of.ensures.part Free tt (c.at-kept.ensures.owner ∙ st.owners.free c.args.b from inside none)))

@@ -15,5 +15,5 @@ returns-then-b-blocks-clause-part c =
     subst (λ (v : Volume). (letters : Letters) (t : Tree) (l : Layout) (o : Owner) → StandsForBy letters v t l
     → In (owned v.image l) (o, c.args.b) → Some c.class.result ≡ Some (class_of o))
     c.self.view_is (λ letters t l o st has.
-    ap Some (c.class.ensures ∙ ap class_kept (c.get.ensures.owner ∙ st.owners.part o c.args.b has) ∙ class_same
+    ap Some (c.class.ensures ∙ ap class_kept (c.at.ensures.owner ∙ st.owners.part o c.args.b has) ∙ class_same
     (store_value c.self.inside.store).starts o))
