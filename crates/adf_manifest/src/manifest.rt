@@ -96,7 +96,6 @@ impl fmt::Display for ManifestFault {
 
 impl Error for ManifestFault {}
 
-#[tactic(auto, using(crate::proofs::ManifestLaws::parts_cut, crate::proofs::ManifestLaws::parts_whole))]
 // The first line of a text, and the text after its line feed.
 fn next_line(text: &[u8]) -> (&[u8], Option<&[u8]>)
     ensures { between_feeds text.now
@@ -159,7 +158,6 @@ fn without_last_feed(bytes: &[u8]) -> &[u8]
     }
 }
 
-#[tactic(auto, using(crate::proofs::StateLaws::first_fault_explains, crate::proofs::TreesOfLines::added_tree, crate::proofs::TreesOfLines::manifest_letters))]
 /// Reads a manifest: returns its tree and its number of blocks. `TooLong` if it is longer than `MOST_BYTES`;
 /// `NoMemory` if an allocation fails, which can happen only at an entry, data or fill line that is allowed at its place,
 /// or after the last line; otherwise the first line with a fault, and the first kind there.

@@ -323,7 +323,6 @@ fn take_run(reading: &mut Reading, run: Run) -> Result<(), ManifestKind>
     }
 }
 
-#[tactic(auto, using(crate::proofs::Growth::tree_none, crate::proofs::StateLaws::preamble_step, crate::proofs::StateLaws::stopped))]
 // The state after a line of this form, before any entry line.
 fn line_in_preamble(alloc: Global, preamble: Preamble, line: Line) -> Result<State, ManifestKind>
     requires form { IsLine (line_value line) }

@@ -88,7 +88,6 @@ pub fn read_number(text: &[u8]) -> Option<u32>
     }
 }
 
-#[tactic(auto, using(crate::proofs::TokenLaws::colon_lacks, crate::proofs::TokenLaws::stamp_parts))]
 /// Reads a date: days, minutes and ticks in decimal, joined by `:`.
 pub fn read_stamp(text: &[u8]) -> Option<Stamp>
     ensures some { IfSome result (λ s. text.now ≡ plain_text s) }
@@ -101,7 +100,6 @@ pub fn read_stamp(text: &[u8]) -> Option<Stamp>
     Some(Stamp { days, mins, ticks })
 }
 
-#[tactic(auto, using(crate::proofs::TokenLaws::stamp_lacks, crate::proofs::TokenLaws::stamps_parts))]
 /// Reads three dates, joined by spaces.
 pub fn read_stamps(text: &[u8]) -> Option<Stamps>
     ensures some { IfSome result (λ s. text.now ≡ stamps_text s) }

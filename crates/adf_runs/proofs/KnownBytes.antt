@@ -1,7 +1,7 @@
 -- Laws of known bytes.
 use Rattle.std.proofs.Common.{◌≡◌, ◌≤◌, ◌+◌, ◌-◌, ◌++◌, ap, length-drop, ◌∙◌, ℕ, List, Option, Some, None, IfSome, min, inl, inr, refl, sym, length}
 use Rattle.std.proofs.Common.{take, drop, arith, append_assoc, length-append, length-take, length-take-le}
-use Rattle.std.specs.Io.KnownBytes.{Appends, Consumes}
+use Rattle.std.specs.Io.KnownBytes.{Appends, Consumes, Keeps}
 use Rattle.std.proofs.Math.Seq.{take-add, take-append-add, drop-append_seam}
 use Rattle.std.proofs.lemmas.List.{take_all, take-append-le, nil_from_length}
 use Rattle.std.proofs.lemmas.Bool.{cases_lt}
@@ -41,6 +41,22 @@ more_counted n k a b c part (bs, len, taken) few more = (
   omega (arith, len, length-append bs (take k part), length-take-le k part few),
   consumes_more a b c bs (take k part) _ refl taken more,
 )
+
+-- what was taken, where no more is
+still_taken : (a b c : Option (List ℕ)) (bs : List ℕ) → Consumes a b bs → Keeps b c → Consumes a c bs
+still_taken None b c bs p q = tt
+still_taken (Some x) None c bs p q = absurd p
+still_taken (Some x) (Some y) None bs p q = absurd q
+still_taken (Some x) (Some y) (Some z) bs p q = p ∙ ap (λ (l : List ℕ). bs ++ l) (sym q)
+
+pub still_at_most : (n : ℕ) (a b c : Option (List ℕ)) → TakesAtMost n a b → Keeps b c → TakesAtMost n a c
+still_at_most n a b c (bs, l, x) kept = (bs, l, still_taken a b c bs x kept)
+
+pub counted_at_most : (n k : ℕ) (a b : Option (List ℕ)) → k ≤ n → TakesCount k a b → TakesAtMost n a b
+counted_at_most n k a b few (bs, l, x) = (bs, omega arith, x)
+
+pub front_at_most : (n k : ℕ) (a b : Option (List ℕ)) (bytes : List ℕ) → k ≤ n → Consumes a b (take k bytes) → TakesAtMost n a b
+front_at_most n k a b bytes few x = (take k bytes, omega (arith, length-take k bytes), x)
 
 pub two_at_most : (n m k : ℕ) (a b c : Option (List ℕ)) → n + m ≤ k → TakesAtMost n a b → TakesAtMost m b c → TakesAtMost k a c
 two_at_most n m k a b c few (bs, l, x) (cs, r, y) = (bs ++ cs, omega (arith, length-append bs cs), consumes_more a b c bs cs _ refl x y)

@@ -82,11 +82,6 @@ pub held_some : (kind : Kind) (size k : ℕ) → k < count kind size → (0 < he
 unfolding held
 held_some kind size k h = grind (arith, common_steps, some_left, nat_tests)
 
--- where there are data blocks, there are pieces
-pub some_pieces : (bytes : List ℕ) (kind : Kind) (size k : ℕ) (ds : List ℕ) → pieces bytes kind size k ds ≡ [] → ds ≡ []
-some_pieces bytes kind size k [] e = refl
-some_pieces bytes kind size k (d ∷ ds) e = cc
-
 -- one data block less
 pub inside_next : (image ds others : List ℕ) (x k : ℕ) → ds ≡ x ∷ others → AreInside image ds k → AreInside image others (k + 1)
 inside_next image ds others x k e h =

@@ -104,7 +104,6 @@ impl<'a> Pieces<'a> {
 }
 
 /// The pieces of a file, joined in one allocation; `NoMemory` if it fails.
-#[tactic(auto, using(crate::proofs::PieceBytes::some_pieces))]
 pub fn joined(alloc: Global, pieces: Pieces<'_>) -> Result<Vec<u8>, NoMemory>
     ensures bytes { IfOk result (λ v. v.items ≡ concat pieces.entry) }
     ensures none { pieces.entry ≡ [] → IsOk result }

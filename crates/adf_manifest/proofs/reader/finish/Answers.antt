@@ -1,7 +1,13 @@
 use Rattle.std.proofs.Common.{◌∙◌}
 use Rattle.std.proofs.lemmas.Result.{IfOk-weaker}
-use Rattle.adf_manifest.proofs.StateLaws.{closed_tree, reading_letters}
+use Rattle.adf_manifest.proofs.StateLaws.{bare_tree, closed_tree, reading_letters}
 use Rattle.adf_manifest.proofs.reader.finish.Goals as goal
+
+pub returns-in-Preamble-clause-told : goal.returns-in-Preamble-clause-told
+returns-in-Preamble-clause-told c = λ m w t.
+    let preamble = c.in-Preamble.preamble in
+    rw (rw c.in-Preamble.is at t) (IfOk-weaker c.finished.result _ _ (λ r h. (bare_tree preamble r.0 (h.0 ∙ c.tree_of.ensures), h.1))
+    c.finished.ensures.told)
 
 pub returns-in_ok-close-in-Entries-clause-told : goal.returns-in_ok-close-in-Entries-clause-told
 returns-in_ok-close-in-Entries-clause-told c = λ m w t.

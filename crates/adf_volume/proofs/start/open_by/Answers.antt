@@ -37,6 +37,10 @@ new-requires c =
       blocks = c.in-Ok.ensures.1.0;
     }
 
+pub returns-in-Err-clause-fails : goal.returns-in-Err-clause-fails
+returns-in-Err-clause-fails c =
+    rw c.fault_at.ensures (fails_start c.args.letters c.args.bytes.now c.in-Err.cause c.in-Err.ensures)
+
 pub returns-in-Err-read_root-clause-fails : goal.returns-in-Err-read_root-clause-fails
 returns-in-Err-read_root-clause-fails c =
     rw c.fault_at-in-Err-read_root.ensures

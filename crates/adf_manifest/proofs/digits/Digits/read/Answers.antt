@@ -12,3 +12,8 @@ pub returns-then-are_digits-clause-bytes : goal.returns-then-are_digits-clause-b
 returns-then-are_digits-clause-bytes c =
     let even : length c.args.text.now % 2 ≡ 0 = grind (arith, nat_tests) in
     (pairs_of_digits c.args.text.now even (sym c.are_digits.ensures ∙ c.if-are_digits.true)).are_bytes
+
+pub returns-then-are_digits-clause-some : goal.returns-then-are_digits-clause-some
+returns-then-are_digits-clause-some c =
+    let even : length c.args.text.now % 2 ≡ 0 = grind (arith, nat_tests) in
+    (pairs_of_digits c.args.text.now even (sym c.are_digits.ensures ∙ c.if-are_digits.true)).spells
