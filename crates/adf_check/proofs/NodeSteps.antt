@@ -17,6 +17,8 @@ use Rattle.adf_volume.proofs.Walks.{numbered}
 use Rattle.adf_walk.specs.declared.kept_header.KeptHeader.{KeptHeader}
 use Rattle.adf_volume.specs.Start.{IsOwnBegun}
 use Rattle.adf_check.specs.Reading.{IsAtNode, IsAtSlot, IsInExts, IsInNode, IsRead}
+use Rattle.adf_check.specs.Datas.{first_ext}
+use Rattle.adf_check.specs.declared.file.File.{File}
 use Rattle.adf_check.specs.Store.{StoreValue, StoreMatches, entered}
 use Rattle.adf_check.proofs.NumberBounds.{many_blocks}
 use Rattle.adf_check.proofs.ClaimSteps.{gathered, read_to}
@@ -87,11 +89,13 @@ module _ {image : List ℕ} {store : StoreValue} {m n : ℕ} {header : KeptHeade
       enter_directory image store n header.head st (subst (λ n. DirAt image st.walk n header.head) node
       (record { header = node_here image store st.walk st.read.tells st.read.is_walk (m - 1) header here; type = e }))
 
-  pub file_begins : word_in image header.head SECONDARY_TYPE ≢ ST_DIR
-      → IsInExts image store n header.head (header.head ∷ []) header.head (word_in image header.head EXTENSION)
-  file_begins e =
-      enter_exts image store n header.head st (subst (λ n. FileAt image st.walk n header.head) node
-      (file_here image store st.walk st.read.tells st.read.is_walk (m - 1) header here e))
+  pub file_begins : word_in image header.head SECONDARY_TYPE ≢ ST_DIR → (size ext : ℕ) → ext ≡ word_in image header.head EXTENSION
+      → let file : File = record { node = n; head = header.head; size = size; ext = ext } in
+      IsInExts image store file (header.head ∷ []) (first_ext file)
+  file_begins e size ext is =
+      enter_exts image store (record { node = n; head = header.head; size = size; ext = ext }) st
+      (subst (λ n. FileAt image st.walk n header.head) node
+      (file_here image store st.walk st.read.tells st.read.is_walk (m - 1) header here e)) is
 
 -- behind the last node all is read
 pub all_read : (image : List ℕ) (store : StoreValue) (n : ℕ) → n ≡ suc (length store.headers) → IsAtNode image store n → IsRead image store

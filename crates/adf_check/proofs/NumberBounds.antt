@@ -10,6 +10,8 @@ use Rattle.adf_volume.proofs.Gathered.{dir_number}
 use Rattle.adf_volume.proofs.Walks.{of_walk}
 use Rattle.adf_volume.specs.Positions.{Position}
 use Rattle.adf_check.specs.Reading.{HasRead, IsInChain}
+use Rattle.adf_check.specs.declared.chains.Chain.{Chain}
+use Rattle.adf_check.specs.declared.claims.Link.{Link}
 use Rattle.adf_check.specs.Store.{StoreValue, StoreMatches}
 use Rattle.adf_volume.specs.Start.{IsOwnBegun}
 use Rattle.adf_walk.specs.KeptOwner.{claimed_count}
@@ -38,9 +40,10 @@ module _ {image : List ℕ} {store : StoreValue} (begun : IsOwnBegun image) (use
   heads_short {w = w} tells = omega (arith, walk_short tells, heads_within w)
 
   -- the number of a directory is short
-  pub parent_short : {p up s a b : ℕ} {seen : List ℕ → Type 0} → IsInChain image store p up s a b seen → p < 2 ^ 29
-  parent_short {p = p} {up = up} st = omega (arith, heads_short st.read.tells, dir_number image (of_walk image st.read.is_walk) p up st.dir)
+  pub parent_short : {chain : Chain} {link : Link} {seen : List ℕ → Type 0} → IsInChain image store chain link seen → chain.parent < 2 ^ 29
+  parent_short {chain = chain} st =
+      omega (arith, heads_short st.read.tells, dir_number image (of_walk image st.read.is_walk) chain.parent chain.up st.dir)
 
   -- the number of a header that is due is short
-  pub entry_short : {p up s a b : ℕ} {seen : List ℕ → Type 0} → IsInChain image store p up s a b seen → length store.headers + 1 < 2 ^ 29
+  pub entry_short : {chain : Chain} {link : Link} {seen : List ℕ → Type 0} → IsInChain image store chain link seen → length store.headers + 1 < 2 ^ 29
   entry_short st = omega (arith, heads_short st.read.tells, st.read.tells.headers.count)

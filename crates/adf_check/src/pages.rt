@@ -73,7 +73,7 @@ fn claim_map_ext(
     requires state { IsBeforePage image.now (store_value store.old) i holder }
     ensures state { IfOk result (λ b. IsAtPage image.now (store_value store.new) i b) }
     ensures inside { IfOk result (λ b. b < blocks image.now) }
-    ensures fault { IfErr result (λ f. IsOwnFault image.now f) }
+    ensures fault { IfErr result (IsOwnFault image.now) }
 {
     image.begun();
     let b = map_ext_named(image, root, holder, i);
@@ -97,7 +97,7 @@ fn holder_of_page(
     requires state { IsBeforePage image.now (store_value store.old) i holder }
     ensures state { IfOk result (λ b. IsAtPage image.now (store_value store.new) i b) }
     ensures inside { IfOk result (λ b. b < blocks image.now) }
-    ensures fault { IfErr result (λ f. IsOwnFault image.now f) }
+    ensures fault { IfErr result (IsOwnFault image.now) }
 {
     image.begun();
     if is_first_of_map_ext(i) {
@@ -123,7 +123,7 @@ fn read_page_at(
     ensures state { OnOk result (IsBeforePage image.now (store_value store.new) (i + 1) holder) }
     ensures page { IfOk result (λ b. b ≡ block_of_page image.now i) }
     ensures within { IfOk result (λ b. b < blocks image.now) }
-    ensures fault { IfErr result (λ f. IsOwnFault image.now f) }
+    ensures fault { IfErr result (IsOwnFault image.now) }
 {
     image.begun();
     let b = page_named(image, root, holder, i);
@@ -146,7 +146,7 @@ pub fn read_pages(
     ensures state { OnOk result (IsAtNode image.now (store_value store.new) 0) }
     ensures pages { IfOk result (λ p.
         AreListed image.now p.items (pages_needed (blocks image.now))) }
-    ensures fault { IfErr result (λ f. IsOwnFault image.now f) }
+    ensures fault { IfErr result (IsOwnFault image.now) }
 {
     let mut pages = Vec::new(alloc);
     let mut holder = image.root();

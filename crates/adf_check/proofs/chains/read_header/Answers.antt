@@ -41,14 +41,14 @@ returns-in-Ok-push-clause-state c =
     let fresh : has c.args.seen.now (uppers_by c.letters-letters.result c.name.result) ≡ false =
     not-true _ (sym c.in-Ok-true.ensures.new ∙ c.in-Ok-true.field-0-test) in
     let count : c.len.result ≡ length store.headers = search rules in
-    let pushed : c.push.new.self.items ≡ store.headers ++ record { parent = c.args.chain.now.parent; head = c.args.b } ∷ [] = search rules in
+    let pushed : c.push.new.self.items ≡ store.headers ++ record { parent = c.args.chain.now.parent; head = c.args.link.block } ∷ [] = search rules in
     let is_dir = c.is_directory.ensures ∙ ap (λ x. word x SECONDARY_TYPE == ST_DIR) (c.in-Ok.ensures.1 ∙ c.block.ensures.block) in
     head_done c.args.seen.now c.requires.slot c.kind-kind.ensures.begun c.requires.state c.requires.some claimed.range claimed.free
     c.kind-kind.ensures.kind c.letters-letters.ensures c.block.ensures.block c.in-Ok.ensures.0 c.in-Ok.ensures.1 c.name.ensures fresh _
     c.in-Ok-true.ensures.more c.next.ensures (record {
-      owners = claimed.ok ∙ ap (λ n. set store.owners c.args.b (kept.Head n)) (number c.requires.state.read.tells.headers.count count);
+      owners = claimed.ok ∙ ap (λ n. set store.owners c.args.link.block (kept.Head n)) (number c.requires.state.read.tells.headers.count count);
       headers = pushed;
-      dirs = dirs_more c.args.image.now store.headers c.args.chain.now.parent c.args.b c.requires.state.read.tells.dirs is_dir c.from.ensures;
+      dirs = dirs_more c.args.image.now store.headers c.args.chain.now.parent c.args.link.block c.requires.state.read.tells.dirs is_dir c.from.ensures;
       starts = refl;
       exts = refl;
       datas = refl;

@@ -6,6 +6,6 @@ use Rattle.adf_check.proofs.datas.read_datas.Given as goal
 
 abbrev pub invariant-loop-m : goal.invariant-loop-m
 invariant-loop-m l = record {
-  state : IsInDatas l.image (store_value l.store) l.fn.node l.head l.table (min (72 * l.m) l.count);
+  state : IsInDatas l.image (store_value l.store) l.file l.table (min (72 * l.m) l.count);
   fewer : IsFurther l.fn.store l.store;
 }

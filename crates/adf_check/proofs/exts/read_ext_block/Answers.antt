@@ -19,7 +19,7 @@ returns-in-Err-clause-fault c =
 pub returns-clause-state : goal.returns-clause-state
 returns-clause-state c =
     let store = store_value c.args.store.now in
-    let b = c.args.b in
+    let b = c.args.link.block in
     let claimed = c.in_ok-claim_named.ensures in
     let count : c.len-place.result ≡ length store.exts = search rules in
     let pushed : c.push.new.self.items ≡ c.args.table.now.items ++ b ∷ [] = search rules in
