@@ -36,8 +36,8 @@ pub header_here : (headers : List KeptHeader) (i : ℕ) (r : KeptHeader) {xs : L
 header_here headers i r {xs = xs} e lt is = subst (λ xs. At xs i r) e (subst (At xs i) (sym is) (at_or xs i r lt))
 
 -- the next node is begun
-pub enter_node : (image : List ℕ) (store : StoreValue) (n : ℕ) → IsAtNode image store n → IsInNode image (entered store) n
-enter_node image store n st = grind (arith, common_steps, at_snoc, all_before, ext_tells, data_tells, snoc_length, low_first)
+pub enter_node : (image : List ℕ) (store : StoreValue) (n : ℕ) → n ≤ length store.headers → IsAtNode image store n → IsInNode image (entered store) n
+enter_node image store n le st = grind (arith, common_steps, at_snoc, all_before, ext_tells, data_tells, snoc_length, low_first)
 
 -- the node of a row
 module _ (image : List ℕ) (store : StoreValue) (w : Walk) (t : StoreMatches image store w) (v : IsOwnWalk image w) where
@@ -72,9 +72,9 @@ root_begins image store n a z e st =
 
 -- the next node is n, and its row is known
 module _ {image : List ℕ} {store : StoreValue} {m n : ℕ} {header : KeptHeader} (begun : IsOwnBegun image) (view : m ≡ n) (ne : m ≢ 0)
-    (within : n ≤ length store.headers) (header_is : header ≡ get_or store.headers (m - 1) header) (st : IsInNode image store n) where
+    (header_is : header ≡ get_or store.headers (m - 1) header) (st : IsInNode image store n) where
   here : At store.headers (m - 1) header
-  here = header_here store.headers (m - 1) header refl (omega arith) header_is
+  here = header_here store.headers (m - 1) header refl (omega (arith, st.read.within)) header_is
 
   node : suc (m - 1) ≡ n
   node = omega arith

@@ -26,10 +26,19 @@ many_blocks image begun = size_low (blocks image) begun.0.1
 pub pages_few : (image : List ℕ) → IsOwnBegun image → pages_needed (blocks image) < 2 ^ 29
 pages_few image begun = omega (arith, size_high (blocks image) begun.0.1)
 
+-- a walk has no more members than there are blocks
+walk_within : {image : List ℕ} {store : StoreValue} → store.used ≡ claimed_count store.owners → {w : Walk} → StoreMatches image store w
+    → length w ≤ blocks image
+walk_within {store = store} used {w = w} tells = grind (arith, common_steps, count_by-le-length)
+
+-- nor are there more headers
+pub headers_within : {image : List ℕ} {store : StoreValue} → store.used ≡ claimed_count store.owners → {w : Walk} {n : ℕ} {at : Position}
+    → HasRead image store w n at → length store.headers ≤ blocks image
+headers_within used {w = w} read = omega (arith, walk_within used read.tells, heads_within w, read.tells.headers.count)
+
 module _ {image : List ℕ} {store : StoreValue} (begun : IsOwnBegun image) (used : store.used ≡ claimed_count store.owners) where
-  -- a walk has no more members than there are blocks
   walk_short : {w : Walk} → StoreMatches image store w → length w ≤ MOST_BLOCKS
-  walk_short {w = w} tells = grind (arith, common_steps, count_by-le-length, size_high)
+  walk_short tells = omega (arith, walk_within used tells, size_high (blocks image) begun.0.1)
 
   -- the lists of all extension blocks and of all data blocks are short
   pub lists_short : {w : Walk} {n : ℕ} {at : Position} → HasRead image store w n at

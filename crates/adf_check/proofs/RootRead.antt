@@ -50,6 +50,7 @@ root_read image m root size root_is low high = record {
     tells = subst (λ b. StoreMatches image (first_store (owners_of m root)) ((TheRoot, b) ∷ [])) (sym root_is)
         (tells_more image _ [] TheRoot root (λ n p s j e. cc) (omega arith) (new_tells image m size) low (omega arith) (new_free m root low high));
     started = refl;
+    within = omega arith;
     is_walk = start;
     up_to = with_root image;
   };

@@ -20,10 +20,11 @@ use Rattle.adf_check.specs.declared.chains.Chain.{Chain}
 use Rattle.adf_check.specs.declared.claims.Link.{Link}
 use Rattle.adf_check.specs.declared.file.File.{File}
 
--- the walk has all parts before the position and none after it; n nodes are begun, and the store matches the walk
+-- the walk has all parts before the position and none after it; n nodes are begun, each the root or one with a header; the store matches the walk
 pub record HasRead (image : List ℕ) (store : StoreValue) (w : Walk) (n : ℕ) (at : Position) : Type 0 where
   pub tells : StoreMatches image store w
   pub started : length store.starts ≡ n
+  pub within : n ≤ suc (length store.headers)
   pub is_walk : IsOwnWalk image w
   pub up_to : IsUpTo image w [] at
 

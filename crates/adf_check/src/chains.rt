@@ -7,7 +7,7 @@ ghost use Rattle.adf_blocks.specs.Sizes.{blocks};
 ghost use Rattle.adf_blocks.specs.declared.layout.TheConstants.{FIRST_SLOT, SECONDARY_TYPE, SLOTS, ST_DIR};
 ghost use Rattle.adf_volume.specs.Image.{word_in};
 ghost use Rattle.adf_check.specs.Reading.{IsAtNode, IsAtSlot, IsInChain, sees_of};
-ghost use Rattle.adf_check.specs.Progress.{IsFurther, left};
+ghost use Rattle.adf_check.specs.Progress.{left};
 ghost use Rattle.adf_check.specs.Store.{store_value};
 
 use crate::claims::{Link, claim_named};
@@ -57,7 +57,6 @@ fn read_header(
         (store_value store.old) chain.now link (sees_of seen.old) }
     ensures state { IfOk result (λ next.
         IsInChain image.now (store_value store.new) chain.now next (sees_of seen.new)) }
-    ensures fewer { OnOk result (IsFurther store.old store.new) }
     ensures less { OnOk result (left store.new < left store.old) }
     ensures fault { IfErr result (IsOwnFault image.now) }
 {
@@ -106,7 +105,6 @@ fn read_chain(
     ensures state { OnOk result
         (IsAtSlot image.now (store_value store.new) chain.now.parent chain.now.up
         (chain.now.slot + 1)) }
-    ensures fewer { OnOk result (IsFurther store.old store.new) }
     ensures fault { IfErr result (IsOwnFault image.now) }
 {
     seen.clear();
@@ -132,7 +130,6 @@ pub fn read_directory(
     requires inside { up < blocks image.now }
     requires state { IsAtSlot image.now (store_value store.old) parent up 0 }
     ensures state { OnOk result (IsAtNode image.now (store_value store.new) (parent + 1)) }
-    ensures fewer { OnOk result (IsFurther store.old store.new) }
     ensures fault { IfErr result (IsOwnFault image.now) }
 {
     let directory = Directory::over(image.block(up));

@@ -7,7 +7,6 @@ ghost use Rattle.adf_blocks.specs.Sizes.{blocks, chunk};
 ghost use Rattle.adf_volume.specs.Demands.{AllHold, FirstFails};
 ghost use Rattle.adf_volume.specs.Image.{held, table_word, word_in};
 ghost use Rattle.adf_check.specs.Reading.{IsAtNode, IsInDatas};
-ghost use Rattle.adf_check.specs.Progress.{IsFurther};
 ghost use Rattle.adf_check.specs.Store.{store_value};
 ghost use Rattle.adf_check.specs.Datas.{AreDatas, IsDataLink, data_asked, next_of};
 ghost use Rattle.adf_volume.specs.Start.{IsBegun};
@@ -90,7 +89,6 @@ fn read_data_block(
         (store_value store.old) datas.now.file datas.now.table.now k }
     ensures state { OnOk result
         (IsInDatas image.now (store_value store.new) datas.now.file datas.now.table.now (k + 1)) }
-    ensures fewer { OnOk result (IsFurther store.old store.new) }
     ensures fault { IfErr result (IsOwnFault image.now) }
 {
     image.begun();
@@ -115,7 +113,6 @@ fn read_named(image: &Image<'_>, store: &mut Store, datas: &Datas<'_>, m: u32) -
     ensures state { OnOk result
         (IsInDatas image.now (store_value store.new) datas.now.file datas.now.table.now
         (min (POINTERS * (m + 1)) datas.now.count)) }
-    ensures fewer { OnOk result (IsFurther store.old store.new) }
     ensures fault { IfErr result (IsOwnFault image.now) }
 {
     image.begun();
@@ -141,7 +138,6 @@ pub fn read_datas(
     requires size { file.now.size ≡ word_in image.now file.now.head SIZE }
     requires state { IsInDatas image.now (store_value store.old) file.now table.now 0 }
     ensures state { OnOk result (IsAtNode image.now (store_value store.new) (file.now.node + 1)) }
-    ensures fewer { OnOk result (IsFurther store.old store.new) }
     ensures fault { IfErr result (IsOwnFault image.now) }
 {
     let count = count_of(image.kind(), file.size);

@@ -4,7 +4,7 @@ ghost use Rattle.adf_check.specs.Own.{IsOwnFault};
 ghost use Rattle.std.specs.Prelude.{◌≢◌, ◌<◌, OnOk, IfOk, IfErr};
 ghost use Rattle.adf_blocks.specs.Sizes.{blocks};
 ghost use Rattle.adf_check.specs.Reading.{IsInDatas, IsInExts};
-ghost use Rattle.adf_check.specs.Progress.{IsFurther, left};
+ghost use Rattle.adf_check.specs.Progress.{left};
 ghost use Rattle.adf_check.specs.Datas.{first_ext};
 ghost use Rattle.adf_check.specs.Store.{store_value};
 ghost use Rattle.adf_volume.specs.Start.{IsBegun};
@@ -28,7 +28,6 @@ fn read_ext_block(
     requires some { link.block ≢ 0 }
     requires state { IsInExts image.now (store_value store.old) file.now table.old.items link }
     ensures state { IfOk result (IsInExts image.now (store_value store.new) file.now table.new.items) }
-    ensures fewer { OnOk result (IsFurther store.old store.new) }
     ensures less { OnOk result (left store.new < left store.old) }
     ensures fault { IfErr result (IsOwnFault image.now) }
 {
@@ -60,7 +59,6 @@ pub fn read_exts(
         (store_value store.old) file.now table.old.items (first_ext file.now) }
     ensures state { OnOk result
         (IsInDatas image.now (store_value store.new) file.now table.new.items 0) }
-    ensures fewer { OnOk result (IsFurther store.old store.new) }
     ensures fault { IfErr result (IsOwnFault image.now) }
 {
     image.begun();

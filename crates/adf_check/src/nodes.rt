@@ -8,7 +8,6 @@ ghost use Rattle.adf_check.specs.Reading.{IsAtNode, IsInExts, IsInNode, IsRead};
 ghost use Rattle.adf_check.specs.Store.{entered, store_value};
 ghost use Rattle.adf_check.specs.Own.{IsOwnFault};
 ghost use Rattle.adf_volume.specs.Fault.{fault};
-ghost use Rattle.adf_check.specs.Progress.{IsFurther};
 ghost use Rattle.adf_check.specs.Datas.{first_ext};
 ghost use Rattle.adf_volume.specs.Start.{IsBegun};
 
@@ -28,7 +27,6 @@ fn enter(store: &mut Store) -> Result<(), Fault>
     requires exts { length store.old.exts.items < 2 ^ 32 }
     requires datas { length store.old.datas.items < 2 ^ 32 }
     ensures entered { OnOk result (store_value store.new ≡ entered (store_value store.old)) }
-    ensures fewer { OnOk result (IsFurther store.old store.new) }
     ensures fault { IfErr result (λ f. f ≡ fault 0 Cause.NoMemory) }
 {
     let start = NodeStart {
@@ -52,7 +50,6 @@ fn read_file(
     requires state { IsInExts image.now
         (store_value store.old) file.now (file.now.head ∷ []) (first_ext file.now) }
     ensures state { OnOk result (IsAtNode image.now (store_value store.new) (file.now.node + 1)) }
-    ensures fewer { OnOk result (IsFurther store.old store.new) }
     ensures fault { IfErr result (IsOwnFault image.now) }
 {
     image.begun();
@@ -73,10 +70,8 @@ fn read_node(
     table: &mut Vec<u32>,
     node: Node,
 ) -> Result<(), Fault>
-    requires inside { node ≤ length store.old.headers.items }
     requires state { IsInNode image.now (store_value store.old) node }
     ensures state { OnOk result (IsAtNode image.now (store_value store.new) (node + 1)) }
-    ensures fewer { OnOk result (IsFurther store.old store.new) }
     ensures fault { IfErr result (IsOwnFault image.now) }
 {
     let root = image.root();

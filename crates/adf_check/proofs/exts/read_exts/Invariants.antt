@@ -1,12 +1,11 @@
 use Rattle.adf_check.specs.Reading.{IsInExts}
-use Rattle.adf_check.specs.Progress.{IsFurther, left}
+use Rattle.adf_check.specs.Progress.{left}
 use Rattle.adf_check.specs.Store.{store_value}
 use Rattle.adf_check.proofs.exts.read_exts.Given as goal
 
 abbrev pub invariant-loop-link : goal.invariant-loop-link
 invariant-loop-link l = record {
   state : IsInExts l.image (store_value l.store) l.file l.table.items l.link;
-  fewer : IsFurther l.fn.store l.store;
 }
 
 abbrev pub decreases-loop-link : goal.decreases-loop-link
