@@ -25,7 +25,6 @@ use Rattle.adf_volume.proofs.Pointers.{link_asks, link_ends}
 use Rattle.adf_volume.proofs.PositionSteps.{end_chain}
 use Rattle.adf_volume.proofs.Roles.{dir_is_node, dir_up}
 use Rattle.adf_volume.specs.Fault.{fault}
-use Rattle.adf_volume.specs.Start.{IsOwnBegun}
 use Rattle.adf_check.specs.Reading.{IsAtSlot, IsInChain, Sees, sees_of}
 use Rattle.adf_check.specs.declared.chains.Chain.{Chain}
 use Rattle.adf_check.specs.declared.claims.Link.{Link}
@@ -72,7 +71,7 @@ seen_more old new name h x = rw (h x) (Decides-or (bytes_eq name x) (has old x) 
 
 -- a link of the chain is next
 module _ {image : List ℕ} {store : StoreValue} {chain : Chain} {link : Link} {seen : List ℕ → Type 0} (lt : chain.slot < SLOTS)
-    (begun : IsOwnBegun image) (st : IsInChain image store chain link seen) (ne : link.block ≢ 0) where
+    (st : IsInChain image store chain link seen) (ne : link.block ≢ 0) where
   pub head_named : IsNextAt image store st.walk (next_head st.walk chain st.place) link.holder link.block
   head_named = grind (arith, common_steps, link_asks)
 
@@ -117,7 +116,7 @@ module _ {image : List ℕ} {store : StoreValue} {chain : Chain} {link : Link} {
         }
 
 -- what was read of it
-module _ {image : List ℕ} {store : StoreValue} {chain : Chain} {link : Link} (names : Names) (lt : chain.slot < SLOTS) (begun : IsOwnBegun image)
+module _ {image : List ℕ} {store : StoreValue} {chain : Chain} {link : Link} (names : Names) (lt : chain.slot < SLOTS)
     (st : IsInChain image store chain link (sees_of names)) (ne : link.block ≢ 0) (range : InRange (length store.owners) link.block)
     (free : kept_at store.owners link.block ≡ Free)
     {kind : Kind} {l : Letters} {bytes : List ℕ} (is_kind : kind ≡ kind_of image) (is_letters : l ≡ letters_of image)
@@ -134,8 +133,8 @@ module _ {image : List ℕ} {store : StoreValue} {chain : Chain} {link : Link} (
 
   -- it is no header
   pub head_fault : (c : Cause) → first_cause form_read ≡ Some c → IsOwnFault image (fault link.block c)
-  head_fault c h = form_fault (head_named lt begun st ne) tt range free c
-      (form_at lt begun st ne (λ ds. FirstFails ds link.block c) (first_demanded link.block form_here c (sym cause_is ∙ h)))
+  head_fault c h = form_fault (head_named lt st ne) tt range free c
+      (form_at lt st ne (λ ds. FirstFails ds link.block c) (first_demanded link.block form_here c (sym cause_is ∙ h)))
 
   -- it is one, with this name
   module _ (none : first_cause form_read ≡ None) {head : List ℕ} (same : head ≡ bytes) {name : List ℕ} (told : name ≡ text_at head NAME) where
@@ -147,7 +146,7 @@ module _ {image : List ℕ} {store : StoreValue} {chain : Chain} {link : Link} (
     name_is = λ i. uppers_by (is_letters i) ((told ∙ ap (λ x. text_at x NAME) (same ∙ is_block)) i)
 
     pub twice_fault : has names (uppers_by l name) ≡ true → IsOwnFault image (fault link.block SameName)
-    twice_fault h = name_fault (head_named lt begun st ne) tt range free (form_at lt begun st ne AllHold form)
+    twice_fault h = name_fault (head_named lt st ne) tt range free (form_at lt st ne AllHold form)
         (λ k. let x = st.sees.only (uppers_by (letters_of image) (name_of image link.block)) (ap (has names) (sym name_is) ∙ h) in k x.0 x.1 x.2 x.3 x.4)
 
     pub head_done : has names (uppers_by l name) ≡ false → (more : Names) → HasMore names more (uppers_by l name)
@@ -157,5 +156,5 @@ module _ {image : List ℕ} {store : StoreValue} {chain : Chain} {link : Link} (
     head_done fresh more grows next_is {new = new} stored =
         subst (λ n. IsInChain image new chain (record { holder = link.block; block = n }) (sees_of more))
         (ap (λ x. word x NEXT_IN_CHAIN) (sym (same ∙ is_block)) ∙ sym next_is)
-        (next_chain lt begun st ne range free form (λ h. let e : true ≡ false = sym h ∙ ap (has names) (sym name_is) ∙ fresh in cc) (sees_of more)
+        (next_chain lt st ne range free form (λ h. let e : true ≡ false = sym h ∙ ap (has names) (sym name_is) ∙ fresh in cc) (sees_of more)
         (seen_more names more (uppers_by (letters_of image) (name_of image link.block)) (subst (HasMore names more) name_is grows)) stored)

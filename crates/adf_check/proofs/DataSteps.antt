@@ -39,10 +39,10 @@ member_inside image w begun v n zero c h = (in_range image v (many_blocks image 
 member_inside image w begun v n (suc m) c h = (in_range image v (many_blocks image begun) (Ext n (suc m)) c h).1
 
 -- the blocks of the table are those of the image
-pub table_inside : {image : List ℕ} {store : StoreValue} {file : File} {table : List ℕ} {k : ℕ} → IsOwnBegun image
-    → IsInDatas image store file table k → (i : ℕ) → i < length table → slice_index table i < blocks image
-table_inside {image = image} {file = file} {table = table} begun st i lt =
-    member_inside image st.walk begun st.read.is_walk file.node i (slice_index table i) (st.holds.members i (slice_index table i) (at_or table i 0 lt))
+pub table_inside : {image : List ℕ} {store : StoreValue} {file : File} {table : List ℕ} {k : ℕ} → IsInDatas image store file table k
+    → (i : ℕ) → i < length table → slice_index table i < blocks image
+table_inside {image = image} {file = file} {table = table} st i lt =
+    member_inside image st.walk st.read.begun st.read.is_walk file.node i (slice_index table i) (st.holds.members i (slice_index table i) (at_or table i 0 lt))
 
 -- behind the last data block
 pub datas_end : (image : List ℕ) (store : StoreValue) (file : File) (table : List ℕ) (k : ℕ) → IsInDatas image store file table k
@@ -58,7 +58,7 @@ datas_end image store file table k st le = record {
         subst (λ x. j < data_count image x) (file_one image (gathered st.read) file.node x.0.0 file.head x.0.1 st.holds.file) x.0.2 in
         omega arith
 
-module _ {image : List ℕ} {store : StoreValue} {file : File} {table : List ℕ} {k : ℕ} (begun : IsOwnBegun image)
+module _ {image : List ℕ} {store : StoreValue} {file : File} {table : List ℕ} {k : ℕ}
     (st : IsInDatas image store file table k) where
   one_file : (a : ℕ) → FileAt image st.walk file.node a → file.head ≡ a
   one_file a f = file_one image (gathered st.read) file.node file.head a st.holds.file f
@@ -78,7 +78,7 @@ module _ {image : List ℕ} {store : StoreValue} {file : File} {table : List ℕ
       (short_fault (named_by (omega arith) e.0 (word_in image e.0 (table_word k)) here refl) lacks)
 
 -- the table names enough, and a link of it is next
-module _ {image : List ℕ} {store : StoreValue} {datas : Datas} {k : ℕ} {link : Link} (begun : IsOwnBegun image)
+module _ {image : List ℕ} {store : StoreValue} {datas : Datas} {k : ℕ} {link : Link}
     (st : IsInDatas image store datas.file datas.table.now k) (are : AreDatas image datas) (lt : k < datas.count)
     (named : IsDataLink image datas.table.now k link) where
   pub data_named : IsNextAt image store st.walk (Data datas.file.node (suc k)) link.holder link.block
@@ -87,7 +87,7 @@ module _ {image : List ℕ} {store : StoreValue} {datas : Datas} {k : ℕ} {link
   pub data_enough : Enough image st.walk (Data datas.file.node (suc k))
   data_enough _ a f =
       let x : data_count image a ≤ POINTERS * length datas.table.now =
-      subst (λ a. data_count image a ≤ POINTERS * length datas.table.now) (one_file begun st a f) (omega arith) in
+      subst (λ a. data_count image a ≤ POINTERS * length datas.table.now) (one_file st a f) (omega arith) in
       omega arith
 
   next_here : (t : Bool) → nat_lt (suc k) (data_count image datas.file.head) ≡ t

@@ -19,7 +19,6 @@ use Rattle.adf_volume.proofs.Pointers.{ext_asks, ext_ends}
 use Rattle.adf_volume.proofs.PositionSteps.{end_exts, enter_file, no_exts}
 use Rattle.adf_volume.proofs.Walks.{file_is}
 use Rattle.adf_volume.specs.Fault.{fault}
-use Rattle.adf_volume.specs.Start.{IsOwnBegun}
 use Rattle.adf_check.specs.Reading.{HasTable, IsInDatas, IsInExts, IsInNode}
 use Rattle.adf_check.specs.Datas.{first_ext}
 use Rattle.adf_check.specs.declared.claims.Link.{Link}
@@ -62,7 +61,7 @@ exts_end image store file table link st end = record {
 }
 
 -- a link of the file is next
-module _ {image : List ℕ} {store : StoreValue} {file : File} {table : List ℕ} {link : Link} (begun : IsOwnBegun image)
+module _ {image : List ℕ} {store : StoreValue} {file : File} {table : List ℕ} {link : Link}
     (st : IsInExts image store file table link) (ne : link.block ≢ 0) where
   pub ext_named : IsNextAt image store st.walk (Ext file.node (suc st.extra)) link.holder link.block
   ext_named = grind (arith, common_steps, ext_asks)

@@ -5,7 +5,7 @@ use Rattle.adf_blocks.specs.declared.layout.TheConstants.{EXTENSION, SECONDARY_T
 use Rattle.adf_blocks.specs.Sizes.{blocks}
 use Rattle.adf_volume.specs.Image.{letters_of, kind_of, root_of, word_in}
 use Rattle.adf_volume.specs.Lists.{At}
-use Rattle.adf_volume.specs.Walk.{Has, heads, HeadAt, DirAt, FileAt, Walk}
+use Rattle.adf_volume.specs.Walk.{Has, first, heads, HeadAt, DirAt, FileAt, Role, Walk}
 use Rattle.adf_volume.specs.Walk.Role.{Root}
 use Rattle.adf_volume.proofs.Gathered.{root_in}
 use Rattle.adf_volume.proofs.FormDemands.{head_type}
@@ -13,9 +13,9 @@ use Rattle.adf_volume.proofs.Lists.{at_below, at_fun, at_index_or, at_snoc, at_s
 use Rattle.adf_volume.proofs.MemberFacts.{in_range, kept}
 use Rattle.adf_volume.proofs.PositionSteps.{end_nodes, enter_dir, low_first}
 use Rattle.adf_volume.proofs.Roles.{head_role}
+use Rattle.adf_volume.specs.Positions.{before_node}
 use Rattle.adf_volume.proofs.Walks.{numbered}
 use Rattle.adf_walk.specs.declared.kept_header.KeptHeader.{KeptHeader}
-use Rattle.adf_volume.specs.Start.{IsOwnBegun}
 use Rattle.adf_check.specs.Reading.{IsAtNode, IsAtSlot, IsInExts, IsInNode, IsRead}
 use Rattle.adf_check.specs.Datas.{first_ext}
 use Rattle.adf_check.specs.declared.file.File.{File}
@@ -36,8 +36,23 @@ pub header_here : (headers : List KeptHeader) (i : ℕ) (r : KeptHeader) {xs : L
 header_here headers i r {xs = xs} e lt is = subst (λ xs. At xs i r) e (subst (At xs i) (sym is) (at_or xs i r lt))
 
 -- the next node is begun
+enter_store : (image : List ℕ) (store : StoreValue) (w : Walk) (n : ℕ) → StoreMatches image store w → length store.starts ≡ n
+    → ((r : Role) (b : ℕ) → Has w r b → first r ≤ n) → StoreMatches image (entered store) w
+enter_store image store w n tells started le = grind (arith, common_steps, at_snoc, all_before, ext_tells, data_tells)
+
 pub enter_node : (image : List ℕ) (store : StoreValue) (n : ℕ) → n ≤ length store.headers → IsAtNode image store n → IsInNode image (entered store) n
-enter_node image store n le st = grind (arith, common_steps, at_snoc, all_before, ext_tells, data_tells, snoc_length, low_first)
+enter_node image store n le st = record {
+  walk = st.walk;
+  read = record {
+    begun = st.read.begun;
+    tells = enter_store image store st.walk n st.read.tells st.read.started
+        (λ r b h. omega (arith, low_first r (before_node n) (st.read.up_to.taken r b h) refl refl));
+    started = snoc_length store.starts _ ∙ ap suc st.read.started;
+    within = omega arith;
+    is_walk = st.read.is_walk;
+    up_to = st.read.up_to;
+  };
+}
 
 -- the node of a row
 module _ (image : List ℕ) (store : StoreValue) (w : Walk) (t : StoreMatches image store w) (v : IsOwnWalk image w) where
@@ -71,7 +86,7 @@ root_begins image store n a z e st =
     (subst (Has st.walk Root) (sym e) (root_in image (gathered st.read))))
 
 -- the next node is n, and its row is known
-module _ {image : List ℕ} {store : StoreValue} {m n : ℕ} {header : KeptHeader} (begun : IsOwnBegun image) (view : m ≡ n) (ne : m ≢ 0)
+module _ {image : List ℕ} {store : StoreValue} {m n : ℕ} {header : KeptHeader} (view : m ≡ n) (ne : m ≢ 0)
     (header_is : header ≡ get_or store.headers (m - 1) header) (st : IsInNode image store n) where
   here : At store.headers (m - 1) header
   here = header_here store.headers (m - 1) header refl (omega (arith, st.read.within)) header_is
@@ -82,7 +97,7 @@ module _ {image : List ℕ} {store : StoreValue} {m n : ℕ} {header : KeptHeade
   pub head_inside : header.head < blocks image
   head_inside =
       let x = node_here image store st.walk st.read.tells st.read.is_walk (m - 1) header here in
-      (in_range image st.read.is_walk (many_blocks image begun) (head_role x) header.head x.has).1
+      (in_range image st.read.is_walk (many_blocks image st.read.begun) (head_role x) header.head x.has).1
 
   pub directory_begins : word_in image header.head SECONDARY_TYPE ≡ ST_DIR → IsAtSlot image store n header.head 0
   directory_begins e =

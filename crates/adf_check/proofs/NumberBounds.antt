@@ -36,23 +36,23 @@ pub headers_within : {image : List ℕ} {store : StoreValue} → store.used ≡ 
     → HasRead image store w n at → length store.headers ≤ blocks image
 headers_within used {w = w} read = omega (arith, walk_within used read.tells, heads_within w, read.tells.headers.count)
 
-module _ {image : List ℕ} {store : StoreValue} (begun : IsOwnBegun image) (used : store.used ≡ claimed_count store.owners) where
-  walk_short : {w : Walk} → StoreMatches image store w → length w ≤ MOST_BLOCKS
-  walk_short tells = omega (arith, walk_within used tells, size_high (blocks image) begun.0.1)
+module _ {image : List ℕ} {store : StoreValue} (used : store.used ≡ claimed_count store.owners) where
+  walk_short : {w : Walk} {n : ℕ} {at : Position} → HasRead image store w n at → length w ≤ MOST_BLOCKS
+  walk_short read = omega (arith, walk_within used read.tells, size_high (blocks image) read.begun.0.1)
 
   -- the lists of all extension blocks and of all data blocks are short
   pub lists_short : {w : Walk} {n : ℕ} {at : Position} → HasRead image store w n at
       → (length store.exts < 2 ^ 29) × (length store.datas < 2 ^ 29)
   lists_short {w = w} read = grind (arith, common_steps, walk_short, picked_within)
 
-  heads_short : {w : Walk} → StoreMatches image store w → heads w + 1 < 2 ^ 29
-  heads_short {w = w} tells = omega (arith, walk_short tells, heads_within w)
+  heads_short : {w : Walk} {n : ℕ} {at : Position} → HasRead image store w n at → heads w + 1 < 2 ^ 29
+  heads_short {w = w} read = omega (arith, walk_short read, heads_within w)
 
   -- the number of a directory is short
   pub parent_short : {chain : Chain} {link : Link} {seen : List ℕ → Type 0} → IsInChain image store chain link seen → chain.parent < 2 ^ 29
   parent_short {chain = chain} st =
-      omega (arith, heads_short st.read.tells, dir_number image (of_walk image st.read.is_walk) chain.parent chain.up st.dir)
+      omega (arith, heads_short st.read, dir_number image (of_walk image st.read.is_walk) chain.parent chain.up st.dir)
 
   -- the number of a header that is due is short
   pub entry_short : {chain : Chain} {link : Link} {seen : List ℕ → Type 0} → IsInChain image store chain link seen → length store.headers + 1 < 2 ^ 29
-  entry_short st = omega (arith, heads_short st.read.tells, st.read.tells.headers.count)
+  entry_short st = omega (arith, heads_short st.read, st.read.tells.headers.count)

@@ -13,6 +13,7 @@ use Rattle.adf_volume.specs.Walk.{Has, DirAt, FileAt, MemberAt, NamesPage, ext_c
 use Rattle.adf_volume.specs.Walk.Role.{Page, Head, Ext, Data}
 use Rattle.adf_volume.specs.Positions.{Position, IsLink, IsPageHolder, IsUpTo, before_node, before_page, position_of, word_of_page}
 use Rattle.adf_volume.specs.Fits.{FitsBy}
+use Rattle.adf_volume.specs.Start.{IsOwnBegun}
 use Rattle.adf_volume.specs.Made.{tree_in_by, layout_in}
 use Rattle.adf_check.specs.Own.{IsOwnWalk}
 use Rattle.adf_check.specs.Store.{StoreValue, StoreMatches}
@@ -20,8 +21,9 @@ use Rattle.adf_check.specs.declared.chains.Chain.{Chain}
 use Rattle.adf_check.specs.declared.claims.Link.{Link}
 use Rattle.adf_check.specs.declared.file.File.{File}
 
--- the walk has all parts before the position and none after it; n nodes are begun, each the root or one with a header; the store matches the walk
+-- the image has a valid root; the walk has all parts before the position and none after it; n nodes are begun, each the root or one with a header; the store matches the walk
 pub record HasRead (image : List ℕ) (store : StoreValue) (w : Walk) (n : ℕ) (at : Position) : Type 0 where
+  pub begun : IsOwnBegun image
   pub tells : StoreMatches image store w
   pub started : length store.starts ≡ n
   pub within : n ≤ suc (length store.headers)

@@ -9,12 +9,11 @@ ghost use Rattle.adf_volume.specs.Image.{held, table_word, word_in};
 ghost use Rattle.adf_check.specs.Reading.{IsAtNode, IsInDatas};
 ghost use Rattle.adf_check.specs.Store.{store_value};
 ghost use Rattle.adf_check.specs.Datas.{AreDatas, IsDataLink, data_asked, next_of};
-ghost use Rattle.adf_volume.specs.Start.{IsBegun};
 
 use crate::claims::{Link, claim_named};
 use crate::file::File;
 use crate::store::Store;
-use adf_blocks::{Cause, POINTERS, Table, chunk_len, read_data};
+use adf_blocks::{Cause, POINTERS, Table, read_data};
 use adf_tree::Kind;
 use adf_volume::{Fault, Image, count_of, fault_at, held_in, no_memory};
 use adf_walk::KeptOwner;
@@ -91,7 +90,6 @@ fn read_data_block(
         (IsInDatas image.now (store_value store.new) datas.now.file datas.now.table.now (k + 1)) }
     ensures fault { IfErr result (IsOwnFault image.now) }
 {
-    image.begun();
     let b = link.block;
     let place = store.datas.len() as u32;
     claim_named(&mut store.owners, link.holder, b, KeptOwner::Data(place))?;
@@ -115,7 +113,6 @@ fn read_named(image: &Image<'_>, store: &mut Store, datas: &Datas<'_>, m: u32) -
         (min (POINTERS * (m + 1)) datas.now.count)) }
     ensures fault { IfErr result (IsOwnFault image.now) }
 {
-    image.begun();
     let count = datas.count;
     let holder = datas.table[m as usize];
     let names = Table::over(image.block(holder));

@@ -7,7 +7,6 @@ ghost use Rattle.adf_check.specs.Reading.{IsInDatas, IsInExts};
 ghost use Rattle.adf_check.specs.Progress.{left};
 ghost use Rattle.adf_check.specs.Datas.{first_ext};
 ghost use Rattle.adf_check.specs.Store.{store_value};
-ghost use Rattle.adf_volume.specs.Start.{IsBegun};
 
 use crate::claims::{Link, claim_named};
 use crate::file::File;
@@ -31,7 +30,6 @@ fn read_ext_block(
     ensures less { OnOk result (left store.new < left store.old) }
     ensures fault { IfErr result (IsOwnFault image.now) }
 {
-    image.begun();
     let b = link.block;
     let place = store.exts.len() as u32;
     claim_named(&mut store.owners, link.holder, b, KeptOwner::Ext(place))?;
@@ -61,7 +59,6 @@ pub fn read_exts(
         (IsInDatas image.now (store_value store.new) file.now table.new.items 0) }
     ensures fault { IfErr result (IsOwnFault image.now) }
 {
-    image.begun();
     let mut link = Link {
         holder: file.head,
         block: file.ext,

@@ -1,6 +1,6 @@
 // The nodes of a volume in order: the root, then each entry in the order in which its header is read.
 
-ghost use Rattle.std.specs.Prelude.{◌≡◌, ◌≤◌, ◌<◌, ◌+◌, ◌^◌, [], ◌∷◌, OnOk, IfErr, length, ℕ};
+ghost use Rattle.std.specs.Prelude.{◌≡◌, ◌≤◌, ◌<◌, ◌+◌, ◌^◌, [], ◌∷◌, OnOk, IfErr, length};
 ghost use Rattle.adf_blocks.specs.Sizes.{blocks};
 ghost use Rattle.adf_blocks.specs.declared.layout.TheConstants.{SIZE};
 ghost use Rattle.adf_volume.specs.Image.{word_in};
@@ -9,7 +9,6 @@ ghost use Rattle.adf_check.specs.Store.{entered, store_value};
 ghost use Rattle.adf_check.specs.Own.{IsOwnFault};
 ghost use Rattle.adf_volume.specs.Fault.{fault};
 ghost use Rattle.adf_check.specs.Datas.{first_ext};
-ghost use Rattle.adf_volume.specs.Start.{IsBegun};
 
 use crate::chains::read_directory;
 use crate::datas::read_datas;
@@ -52,7 +51,6 @@ fn read_file(
     ensures state { OnOk result (IsAtNode image.now (store_value store.new) (file.now.node + 1)) }
     ensures fault { IfErr result (IsOwnFault image.now) }
 {
-    image.begun();
     table.clear();
     if table.push(file.head).is_err() {
         return Err(no_memory());
@@ -99,7 +97,6 @@ pub fn read_nodes(alloc: Global, image: &Image<'_>, store: &mut Store) -> Result
     ensures state { OnOk result (IsRead image.now (store_value store.new)) }
     ensures fault { IfErr result (IsOwnFault image.now) }
 {
-    image.begun();
     let mut seen = NameSet::new(alloc);
     let mut table = Vec::new(alloc);
     let mut node = 0usize;

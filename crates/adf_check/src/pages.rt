@@ -9,7 +9,6 @@ ghost use Rattle.adf_volume.specs.Image.{root_of, word_in};
 ghost use Rattle.adf_volume.specs.Positions.{word_of_map_ext, word_of_page};
 ghost use Rattle.adf_check.specs.Reading.{IsAtNode, IsAtPage, IsBeforePage, block_of_page};
 ghost use Rattle.adf_check.specs.Store.{store_value};
-ghost use Rattle.adf_volume.specs.Start.{IsBegun};
 ghost use Rattle.adf_check.specs.Pages.{AreListed};
 
 use crate::claims::claim_named;
@@ -75,7 +74,6 @@ fn claim_map_ext(
     ensures inside { IfOk result (λ b. b < blocks image.now) }
     ensures fault { IfErr result (IsOwnFault image.now) }
 {
-    image.begun();
     let b = map_ext_named(image, root, holder, i);
     let j = (i - ROOT_PAGES as u32) / MAP_EXT_PAGES as u32;
     claim_named(&mut store.owners, holder, b, KeptOwner::MapExt(j))?;
@@ -99,7 +97,6 @@ fn holder_of_page(
     ensures inside { IfOk result (λ b. b < blocks image.now) }
     ensures fault { IfErr result (IsOwnFault image.now) }
 {
-    image.begun();
     if is_first_of_map_ext(i) {
         claim_map_ext(image, root, store, holder, i)
     } else {
@@ -125,7 +122,6 @@ fn read_page_at(
     ensures within { IfOk result (λ b. b < blocks image.now) }
     ensures fault { IfErr result (IsOwnFault image.now) }
 {
-    image.begun();
     let b = page_named(image, root, holder, i);
     claim_named(&mut store.owners, holder, b, KeptOwner::Page(i))?;
     match read_page(image.block(b)) {

@@ -11,7 +11,7 @@ returns-then-tables-table-clause-fault c =
     let head = c.args.file.now.head in
     let e : c.count_of-count.result ≡ data_count image head = cc (c.count_of-count.ensures, c.kind.ensures.kind, c.requires.size) in
     let short : 72 * length c.args.table.now < data_count image head = omega arith in
-    rw c.fault_at.ensures (too_short c.kind.ensures.begun c.requires.state refl short)
+    rw c.fault_at.ensures (too_short c.requires.state refl short)
 
 pub returns-clause-state : goal.returns-clause-state
 returns-clause-state c =

@@ -7,11 +7,11 @@ use Rattle.adf_check.proofs.nodes.read_node.Goals as goal
 
 pub block-requires : goal.block-requires
 block-requires c =
-    head_inside c.root-root.ensures.begun c.node.view_is c.if-node-eq0.false c.index.ensures c.requires.state
+    head_inside c.node.view_is c.if-node-eq0.false c.index.ensures c.requires.state
 
 pub read_directory-requires-in-Dir-clause-inside : goal.read_directory-requires-in-Dir-clause-inside
 read_directory-requires-in-Dir-clause-inside c =
-    head_inside c.root-root.ensures.begun c.node.view_is c.if-node-eq0.false c.index.ensures c.requires.state
+    head_inside c.node.view_is c.if-node-eq0.false c.index.ensures c.requires.state
 
 pub read_directory-requires-in-Dir-clause-state : goal.read_directory-requires-in-Dir-clause-state
 read_directory-requires-in-Dir-clause-state c = grind (arith, common_steps, directory_begins, dir_type)
@@ -21,5 +21,5 @@ read_file-requires-clause-state c =
     let image = c.args.image.now in
     let b = c.index.result.now.head in
     let told = file_words image b (c.of.ensures ∙ ap body_at c.block.ensures.block) c.in-File.is in
-    file_begins c.root-root.ensures.begun c.node.view_is c.if-node-eq0.false c.index.ensures c.requires.state told.0
+    file_begins c.node.view_is c.if-node-eq0.false c.index.ensures c.requires.state told.0
     _ _ told.2

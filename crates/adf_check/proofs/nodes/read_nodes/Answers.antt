@@ -7,7 +7,7 @@ use Rattle.adf_check.proofs.nodes.read_nodes.Goals as goal
 
 pub enter-requires : goal.enter-requires
 enter-requires c =
-    let short = lists_short c.begun.ensures refl c.loop-node.invariant.read in
+    let short = lists_short refl c.loop-node.invariant.read in
     record { exts = omega (arith, short.0); datas = omega (arith, short.1) }
 
 pub read_node-requires : goal.read_node-requires
