@@ -49,19 +49,19 @@ pub datas_end : (image : List ℕ) (store : StoreValue) (file : File) (table : L
     → data_count image file.head ≤ k → IsAtNode image store (suc file.node)
 datas_end image store file table k st le = record {
   walk = st.walk;
-  read = read_to st.read (end_datas image (gathered st.read) file.node k file.head st.holds.file few st.read.up_to);
+  read = read_to st.read (end_datas image (gathered st.read) file.node k file.head st.holds.head few st.read.up_to);
 }
   where
     few : (j a i : ℕ) → Asks image st.walk (Data file.node (suc j)) a i → j < k
     few j a i x =
         let lt : j < data_count image file.head =
-        subst (λ x. j < data_count image x) (file_one image (gathered st.read) file.node x.0.0 file.head x.0.1 st.holds.file) x.0.2 in
+        subst (λ x. j < data_count image x) (file_one image (gathered st.read) file.node x.0.0 file.head x.0.1 st.holds.head) x.0.2 in
         omega arith
 
 module _ {image : List ℕ} {store : StoreValue} {file : File} {table : List ℕ} {k : ℕ}
     (st : IsInDatas image store file table k) where
   one_file : (a : ℕ) → FileAt image st.walk file.node a → file.head ≡ a
-  one_file a f = file_one image (gathered st.read) file.node file.head a st.holds.file f
+  one_file a f = file_one image (gathered st.read) file.node file.head a st.holds.head f
 
   named_by : k < data_count image file.head → (c b : ℕ) → At table (k / POINTERS) c → b ≡ word_in image c (table_word k)
       → IsNextAt image store st.walk (Data file.node (suc k)) c b
@@ -73,7 +73,7 @@ module _ {image : List ℕ} {store : StoreValue} {file : File} {table : List ℕ
       let e = at_some table 0 (omega arith) in
       let here : At table (k / POINTERS) e.0 = subst (λ k. At table (k / POINTERS) e.0) (sym z) e.1 in
       let lacks : Enough image st.walk (Data file.node (suc k)) → ⊥ =
-      λ en. let x : data_count image file.head ≤ POINTERS * suc (ext_count st.walk file.node) = en (ap suc z) file.head st.holds.file in omega arith in
+      λ en. let x : data_count image file.head ≤ POINTERS * suc (ext_count st.walk file.node) = en (ap suc z) file.head st.holds.head in omega arith in
       subst (λ a. IsOwnFault image (fault a ShortFile)) (sym (one_file e.0 (st.holds.members 0 e.0 e.1)))
       (short_fault (named_by (omega arith) e.0 (word_in image e.0 (table_word k)) here refl) lacks)
 
@@ -103,8 +103,8 @@ module _ {image : List ℕ} {store : StoreValue} {datas : Datas} {k : ℕ} {link
   form_is : data_asked image datas link.block k ≡ form_demands_by (letters_of image) image st.walk (Data datas.file.node (suc k)) link.block
   form_is =
       let one : k + 1 ≡ suc k = omega arith in
-      let head : node_block st.walk datas.file.node ≡ datas.file.head = file_is image st.walk datas.file.node datas.file.head st.read.is_walk st.holds.file in
-      rw (are.count, are.size, one, head, next_here (nat_lt (suc k) (data_count image datas.file.head)) refl) refl
+      let head : node_block st.walk datas.file.node ≡ datas.file.head = file_is image st.walk datas.file.node datas.file.head st.read.is_walk st.holds.head in
+      rw (are.count, st.holds.size, one, head, next_here (nat_lt (suc k) (data_count image datas.file.head)) refl) refl
 
   module _ (range : InRange (length store.owners) link.block) (free : kept_at store.owners link.block ≡ Free) where
     pub data_fault : (c : Cause) → FirstFails (data_asked image datas link.block k) link.block c → IsOwnFault image (fault link.block c)
@@ -123,7 +123,8 @@ module _ {image : List ℕ} {store : StoreValue} {datas : Datas} {k : ℕ} {link
           read = read_to read_it
               (subst (λ m. IsUpTo image ((r, link.block) ∷ st.walk) [] (position_of (Data datas.file.node (suc m)))) (sym one) read_it.up_to);
           holds = record {
-            file = typed_up (r, link.block) st.holds.file;
+            head = typed_up (r, link.block) st.holds.head;
+            size = st.holds.size;
             members = (λ m c x. member_up image st.walk (r, link.block) datas.file.node m c (st.holds.members m c x));
             counted = st.holds.counted;
           };

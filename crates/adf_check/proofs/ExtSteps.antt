@@ -2,7 +2,7 @@
 use Rattle.adf_check.specs.Claims.{InRange}
 use Rattle.std.proofs.Common.{◌≡◌, ◌≢◌, inl, inr, ℕ, zero, suc, List, [], ◌∷◌, ◌++◌, length, refl, sym, ap, arith, subst, ◌∙◌, Some, None}
 use Rattle.std.proofs.lemmas.Grind.{common_steps}
-use Rattle.adf_blocks.specs.declared.layout.TheConstants.{EXTENSION}
+use Rattle.adf_blocks.specs.declared.layout.TheConstants.{EXTENSION, SIZE}
 use Rattle.adf_base.specs.Words.{block, word}
 use Rattle.adf_blocks.specs.declared.cause.Cause.{Cause}
 use Rattle.adf_blocks.specs.Forms.{first_cause}
@@ -31,13 +31,14 @@ use Rattle.adf_check.specs.Own.{IsOwnFault}
 
 -- a file's table begins with its header
 pub enter_exts : (image : List ℕ) (store : StoreValue) (file : File) (st : IsInNode image store file.node) → FileAt image st.walk file.node file.head
-    → file.ext ≡ word_in image file.head EXTENSION → IsInExts image store file (file.head ∷ []) (first_ext file)
-enter_exts image store file st is_file ext =
+    → file.size ≡ word_in image file.head SIZE → file.ext ≡ word_in image file.head EXTENSION
+    → IsInExts image store file (file.head ∷ []) (first_ext file)
+enter_exts image store file st is_file size ext =
     record {
       walk = st.walk;
       extra = 0;
       read = read_to st.read (enter_file image file.node st.read.up_to);
-      holds = record { file = is_file; members = member; counted = ap suc (sym none) };
+      holds = record { head = is_file; size = size; members = member; counted = ap suc (sym none) };
       counted = none;
       member = is_file;
       named = sym ext;
@@ -68,7 +69,7 @@ module _ {image : List ℕ} {store : StoreValue} {file : File} {table : List ℕ
 
   form_at : (P : List Demand → Type 0) → P (ext_demands image link.block file.head)
       → P (form_demands_by (letters_of image) image st.walk (Ext file.node (suc st.extra)) link.block)
-  form_at P = subst (λ x. P (ext_demands image link.block x)) (sym (file_is image st.walk file.node file.head st.read.is_walk st.holds.file))
+  form_at P = subst (λ x. P (ext_demands image link.block x)) (sym (file_is image st.walk file.node file.head st.read.is_walk st.holds.head))
 
   -- what was read of it
   module _ (range : InRange (length store.owners) link.block) (free : kept_at store.owners link.block ≡ Free) {bytes : List ℕ}
@@ -94,8 +95,9 @@ module _ {image : List ℕ} {store : StoreValue} {file : File} {table : List ℕ
           walk = (r, link.block) ∷ st.walk;
           extra = suc st.extra;
           read = read_one ext_named tt range free (form_at AllHold form) tt (subst (λ k. IsStored image store new (Ext file.node k) link.block) number stored);
-          holds = subst (HasTable image ((r, link.block) ∷ st.walk) file.node file.head) (sym longer_is) (record {
-            file = typed_up (r, link.block) st.holds.file;
+          holds = subst (HasTable image ((r, link.block) ∷ st.walk) file) (sym longer_is) (record {
+            head = typed_up (r, link.block) st.holds.head;
+            size = st.holds.size;
             members = (λ m c x. elim (at_snoc table link.block m c x) [
               | inl y ↦ member_up image st.walk (r, link.block) file.node m c (st.holds.members m c y)
               | inr y ↦ subst (λ m. MemberAt image ((r, link.block) ∷ st.walk) file.node m c) (sym number ∙ sym y.0) (inl (refl, y.1))

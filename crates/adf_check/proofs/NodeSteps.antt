@@ -1,7 +1,7 @@
 -- The steps along the nodes: each is begun, then the parts that its header points to are read.
 use Rattle.std.proofs.Common.{◌≡◌, ◌≢◌, inl, inr, ℕ, suc, ◌-◌, List, [], ◌∷◌, ◌<◌, ◌≤◌, length, get_or, refl, sym, ap, subst, ◌∙◌, arith}
 use Rattle.std.proofs.lemmas.Grind.{common_steps}
-use Rattle.adf_blocks.specs.declared.layout.TheConstants.{EXTENSION, SECONDARY_TYPE, ST_DIR}
+use Rattle.adf_blocks.specs.declared.layout.TheConstants.{EXTENSION, SECONDARY_TYPE, SIZE, ST_DIR}
 use Rattle.adf_blocks.specs.Sizes.{blocks}
 use Rattle.adf_volume.specs.Image.{letters_of, kind_of, root_of, word_in}
 use Rattle.adf_volume.specs.Lists.{At}
@@ -104,13 +104,14 @@ module _ {image : List ℕ} {store : StoreValue} {m n : ℕ} {header : KeptHeade
       enter_directory image store n header.head st (subst (λ n. DirAt image st.walk n header.head) node
       (record { header = node_here image store st.walk st.read.tells st.read.is_walk (m - 1) header here; type = e }))
 
-  pub file_begins : word_in image header.head SECONDARY_TYPE ≢ ST_DIR → (size ext : ℕ) → ext ≡ word_in image header.head EXTENSION
+  pub file_begins : word_in image header.head SECONDARY_TYPE ≢ ST_DIR → (size ext : ℕ) → size ≡ word_in image header.head SIZE
+      → ext ≡ word_in image header.head EXTENSION
       → let file : File = record { node = n; head = header.head; size = size; ext = ext } in
       IsInExts image store file (header.head ∷ []) (first_ext file)
-  file_begins e size ext is =
+  file_begins e size ext size_is ext_is =
       enter_exts image store (record { node = n; head = header.head; size = size; ext = ext }) st
       (subst (λ n. FileAt image st.walk n header.head) node
-      (file_here image store st.walk st.read.tells st.read.is_walk (m - 1) header here e)) is
+      (file_here image store st.walk st.read.tells st.read.is_walk (m - 1) header here e)) size_is ext_is
 
 -- behind the last node all is read
 pub all_read : (image : List ℕ) (store : StoreValue) (n : ℕ) → n ≡ suc (length store.headers) → IsAtNode image store n → IsRead image store

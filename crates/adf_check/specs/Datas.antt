@@ -1,6 +1,6 @@
 -- The blocks of files.
 use Rattle.std.specs.Prelude.{◌≡◌, ◌≤◌, ℕ, List, ◌+◌, ◌*◌, ◌/◌, cond, length, nat_lt, slice_index}
-use Rattle.adf_blocks.specs.declared.layout.TheConstants.{POINTERS, SIZE}
+use Rattle.adf_blocks.specs.declared.layout.TheConstants.{POINTERS}
 use Rattle.adf_volume.specs.Demands.{Demand, data_demands}
 use Rattle.adf_volume.specs.Image.{held, kind_of, table_word, word_in}
 use Rattle.adf_volume.specs.Walk.{data_count}
@@ -12,9 +12,8 @@ use Rattle.adf_check.specs.declared.file.File.{File}
 abbrev pub first_ext : File → Link
 first_ext file = record { holder = file.head; block = file.ext }
 
--- the size of the file and the number of its data blocks are those of its header, and the table has as many pointers
+-- the number of data blocks is that of the file's header, and the table has as many pointers
 pub record AreDatas (image : List ℕ) (datas : Datas) : Type 0 where
-  pub size : datas.file.size ≡ word_in image datas.file.head SIZE
   pub count : datas.count ≡ data_count image datas.file.head
   pub enough : datas.count ≤ POINTERS * length datas.table.now
 

@@ -3,7 +3,7 @@
 -- s a slot; j a position in a chain, or the number of a bitmap extension block; k the number of a page or of a data block.
 use Rattle.std.specs.Prelude.{◌≡◌, ℕ, List, [], ◌+◌, ◌-◌, ◌/◌, ◌%◌, ◌≤◌, cond, nat_lt, length, true}
 use Rattle.std.proofs.Common.{zero, suc}
-use Rattle.adf_blocks.specs.declared.layout.TheConstants.{EXTENSION, FIRST_MAP_EXT, FIRST_PAGE, MAP_EXT_NEXT, MAP_EXT_PAGES, ROOT_PAGES}
+use Rattle.adf_blocks.specs.declared.layout.TheConstants.{EXTENSION, FIRST_MAP_EXT, FIRST_PAGE, MAP_EXT_NEXT, MAP_EXT_PAGES, ROOT_PAGES, SIZE}
 use Rattle.adf_tree.specs.NameSet.{has, Names}
 use Rattle.adf_names.specs.Texts.{uppers_by}
 use Rattle.adf_volume.specs.Lists.{At}
@@ -21,7 +21,8 @@ use Rattle.adf_check.specs.declared.chains.Chain.{Chain}
 use Rattle.adf_check.specs.declared.claims.Link.{Link}
 use Rattle.adf_check.specs.declared.file.File.{File}
 
--- the image has a valid root; the walk has all parts before the position and none after it; n nodes are begun, each the root or one with a header; the store matches the walk
+-- the image begins as a volume; the walk has all parts before the position and none after it; n nodes are begun, each the root or one
+-- with a header; the store matches the walk
 pub record HasRead (image : List ℕ) (store : StoreValue) (w : Walk) (n : ℕ) (at : Position) : Type 0 where
   pub begun : IsOwnBegun image
   pub tells : StoreMatches image store w
@@ -97,18 +98,19 @@ pub record IsListed (image : List ℕ) (list : List ℕ) (k : ℕ) : Type 0 wher
   pub size : length list ≡ k
   pub pages : (i b : ℕ) → At list i b → block_of_page image i ≡ b
 
--- the table has the header of file n, at block h, then the extension blocks in the walk
-pub record HasTable (image : List ℕ) (w : Walk) (n h : ℕ) (table : List ℕ) : Type 0 where
-  pub file : FileAt image w n h
-  pub members : (m c : ℕ) → At table m c → MemberAt image w n m c
-  pub counted : length table ≡ suc (ext_count w n)
+-- the table has the header of the file, then the extension blocks in the walk
+pub record HasTable (image : List ℕ) (w : Walk) (file : File) (table : List ℕ) : Type 0 where
+  pub head : FileAt image w file.node file.head
+  pub size : file.size ≡ word_in image file.head SIZE
+  pub members : (m c : ℕ) → At table m c → MemberAt image w file.node m c
+  pub counted : length table ≡ suc (ext_count w file.node)
 
 -- the table has the extension blocks of the file read so far, and the next pointer is this link
 pub record IsInExts (image : List ℕ) (store : StoreValue) (file : File) (table : List ℕ) (link : Link) : Type 0 where
   pub walk : Walk
   pub extra : ℕ
   pub read : HasRead image store walk (suc file.node) (position_of (Ext file.node (suc extra)))
-  pub holds : HasTable image walk file.node file.head table
+  pub holds : HasTable image walk file table
   pub counted : ext_count walk file.node ≡ extra
   pub member : MemberAt image walk file.node extra link.holder
   pub named : word_in image link.holder EXTENSION ≡ link.block
@@ -117,7 +119,7 @@ pub record IsInExts (image : List ℕ) (store : StoreValue) (file : File) (table
 pub record IsInDatas (image : List ℕ) (store : StoreValue) (file : File) (table : List ℕ) (k : ℕ) : Type 0 where
   pub walk : Walk
   pub read : HasRead image store walk (suc file.node) (position_of (Data file.node (suc k)))
-  pub holds : HasTable image walk file.node file.head table
+  pub holds : HasTable image walk file table
 
 -- the walk has all that it asks for, and the store matches the walk
 pub record HasReadAll (image : List ℕ) (store : StoreValue) (w : Walk) : Type 0 where

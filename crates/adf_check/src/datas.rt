@@ -1,6 +1,6 @@
 // The data blocks of files.
 
-ghost use Rattle.adf_blocks.specs.declared.layout.TheConstants.{POINTERS, SIZE};
+ghost use Rattle.adf_blocks.specs.declared.layout.TheConstants.{POINTERS};
 ghost use Rattle.adf_check.specs.Own.{IsOwnFault};
 ghost use Rattle.std.specs.Prelude.{◌≡◌, ◌≤◌, ◌<◌, ◌+◌, ◌*◌, ◌/◌, min, OnOk, IfErr, length, slice_index, ℕ};
 ghost use Rattle.adf_blocks.specs.Sizes.{blocks, chunk};
@@ -132,7 +132,6 @@ pub fn read_datas(
     table: &[u32],
     file: &File,
 ) -> Result<(), Fault>
-    requires size { file.now.size ≡ word_in image.now file.now.head SIZE }
     requires state { IsInDatas image.now (store_value store.old) file.now table.now 0 }
     ensures state { OnOk result (IsAtNode image.now (store_value store.new) (file.now.node + 1)) }
     ensures fault { IfErr result (IsOwnFault image.now) }

@@ -2,8 +2,6 @@
 
 ghost use Rattle.std.specs.Prelude.{◌≡◌, ◌≤◌, ◌<◌, ◌+◌, ◌^◌, [], ◌∷◌, OnOk, IfErr, length};
 ghost use Rattle.adf_blocks.specs.Sizes.{blocks};
-ghost use Rattle.adf_blocks.specs.declared.layout.TheConstants.{SIZE};
-ghost use Rattle.adf_volume.specs.Image.{word_in};
 ghost use Rattle.adf_check.specs.Reading.{IsAtNode, IsInExts, IsInNode, IsRead};
 ghost use Rattle.adf_check.specs.Store.{entered, store_value};
 ghost use Rattle.adf_check.specs.Own.{IsOwnFault};
@@ -45,7 +43,6 @@ fn read_file(
     table: &mut Vec<u32>,
     file: &File,
 ) -> Result<(), Fault>
-    requires size { file.now.size ≡ word_in image.now file.now.head SIZE }
     requires state { IsInExts image.now
         (store_value store.old) file.now (file.now.head ∷ []) (first_ext file.now) }
     ensures state { OnOk result (IsAtNode image.now (store_value store.new) (file.now.node + 1)) }

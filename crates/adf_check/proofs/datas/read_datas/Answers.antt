@@ -9,7 +9,7 @@ pub returns-then-tables-table-clause-fault : goal.returns-then-tables-table-clau
 returns-then-tables-table-clause-fault c =
     let image = c.args.image.now in
     let head = c.args.file.now.head in
-    let e : c.count_of-count.result ≡ data_count image head = cc (c.count_of-count.ensures, c.kind.ensures.kind, c.requires.size) in
+    let e : c.count_of-count.result ≡ data_count image head = cc (c.count_of-count.ensures, c.kind.ensures.kind, c.requires.state.holds.size) in
     let short : 72 * length c.args.table.now < data_count image head = omega arith in
     rw c.fault_at.ensures (too_short c.requires.state refl short)
 
@@ -18,7 +18,7 @@ returns-clause-state c =
     let image = c.args.image.now in
     let file = c.args.file.now in
     let store = store_value c.loop-m.store in
-    let e : c.count_of-count.result ≡ data_count image file.head = cc (c.count_of-count.ensures, c.kind.ensures.kind, c.requires.size) in
+    let e : c.count_of-count.result ≡ data_count image file.head = cc (c.count_of-count.ensures, c.kind.ensures.kind, c.requires.state.holds.size) in
     let one : suc file.node ≡ file.node + 1 = omega arith in
     let last : ℕ = min (72 * c.loop-m.m) c.count_of-count.result in
     subst (IsAtNode image store) one (datas_end image store file c.args.table.now last c.loop-m.invariant.state (omega arith))

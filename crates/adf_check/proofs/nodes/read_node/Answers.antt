@@ -16,10 +16,7 @@ read_directory-requires-in-Dir-clause-inside c =
 pub read_directory-requires-in-Dir-clause-state : goal.read_directory-requires-in-Dir-clause-state
 read_directory-requires-in-Dir-clause-state c = grind (arith, common_steps, directory_begins, dir_type)
 
-pub read_file-requires-clause-state : goal.read_file-requires-clause-state
-read_file-requires-clause-state c =
-    let image = c.args.image.now in
-    let b = c.index.result.now.head in
-    let told = file_words image b (c.of.ensures ∙ ap body_at c.block.ensures.block) c.in-File.is in
-    file_begins c.node.view_is c.if-node-eq0.false c.index.ensures c.requires.state told.0
-    _ _ told.2
+pub read_file-requires : goal.read_file-requires
+read_file-requires c =
+    let told = file_words c.args.image.now c.index.result.now.head (c.of.ensures ∙ ap body_at c.block.ensures.block) c.in-File.is in
+    record { state = file_begins c.node.view_is c.if-node-eq0.false c.index.ensures c.requires.state told.0 _ _ told.1 told.2 }
