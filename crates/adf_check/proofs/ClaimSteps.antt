@@ -1,6 +1,6 @@
 -- One step of a check: the next role is claimed and kept, or refused as the first fault.
 use Rattle.adf_check.specs.Claims.{InRange, IsClaimFault}
-use Rattle.std.proofs.Common.{◌≡◌, ℕ, suc, List, [], ◌∷◌, ◌++◌, ◌+◌, length, set, count_by, inl, inr, refl, sym, ap, subst, ◌∙◌, arith, Result, Ok, Err}
+use Rattle.std.proofs.Common.{◌≡◌, ℕ, suc, List, [], ◌∷◌, ◌++◌, ◌+◌, ◌≤◌, length, set, count_by, inl, inr, refl, sym, ap, subst, ◌∙◌, arith, Result, Ok, Err}
 use Rattle.std.specs.Prelude.{IfErr, IsOk, OnOk}
 use Rattle.std.proofs.lemmas.Grind.{common_steps}
 use Rattle.adf_blocks.specs.declared.cause.Cause.{Cause, TheVariants.Taken, TheVariants.SameName, TheVariants.ShortFile}
@@ -11,7 +11,7 @@ use Rattle.adf_volume.specs.Walk.{Role, first, heads, Asks, IsDue, Enough, Walk,
 use Rattle.adf_volume.specs.Walk.Role.{Head}
 use Rattle.adf_volume.specs.Walk.FirstFaultBy.{at_due}
 use Rattle.adf_volume.specs.Walk.IsWalkBy.{step}
-use Rattle.adf_volume.proofs.Lists.{fails_left, fails_right, all_append}
+use Rattle.adf_volume.proofs.Lists.{fails_left, fails_right, all_append, snoc_length}
 use Rattle.adf_volume.proofs.Memory.{fault_of_image}
 use Rattle.adf_volume.proofs.Gathered.{IsGathered}
 use Rattle.adf_volume.proofs.PositionSteps.{not_taken, past_taken}
@@ -20,8 +20,8 @@ use Rattle.adf_volume.proofs.Walks.{of_walk}
 use Rattle.adf_volume.specs.Positions.{Position, IsUpTo, behind, position_of}
 use Rattle.adf_volume.specs.declared.fault.Fault.{Fault}
 use Rattle.adf_volume.specs.Fault.{fault}
-use Rattle.adf_volume.specs.Start.{IsOwnBegun}
 use Rattle.adf_check.specs.Reading.{HasRead}
+use Rattle.adf_walk.specs.declared.kept_header.KeptHeader.{KeptHeader}
 use Rattle.adf_walk.specs.declared.kept_owner.KeptOwner.TheVariants.{Free}
 use Rattle.adf_walk.specs.KeptOwner.{kept_at}
 use Rattle.adf_check.specs.Store.{StoreValue, next_kept, push_header, push_block, ext_file, data_file, is_dir_at, stored, StoreMatches}
@@ -45,7 +45,7 @@ first_fault image b c h = record { first = (λ _. h); memory = (λ e. absurd (fa
 -- a reader at one position is at another, where its walk has as much up to there
 pub read_to : {image : List ℕ} {store : StoreValue} {w : Walk} {n : ℕ} {old new : Position} → HasRead image store w n old
     → IsUpTo image w [] new → HasRead image store w n new
-read_to read up_to = record { tells = read.tells; started = read.started; is_walk = read.is_walk; up_to = up_to }
+read_to read up_to = record { begun = read.begun; tells = read.tells; started = read.started; within = read.within; is_walk = read.is_walk; up_to = up_to }
 
 -- its walk was gathered
 pub gathered : {image : List ℕ} {store : StoreValue} {w : Walk} {n : ℕ} {at : Position} → HasRead image store w n at → IsGathered image w
@@ -53,7 +53,6 @@ gathered {image = image} read = of_walk image read.is_walk
 
 -- the role comes next, and a word of block a names block b for it
 pub record IsNextAt (image : List ℕ) (store : StoreValue) (w : Walk) (r : Role) (a b : ℕ) : Type 0 where
-  pub begun : IsOwnBegun image
   pub read : HasRead image store w (first r) (position_of r)
   pub index : ℕ
   pub asked : Asks image w r a index
@@ -72,6 +71,10 @@ pub record IsStored (image : List ℕ) (old new : StoreValue) (r : Role) (b : �
 stored_is : (image : List ℕ) (old new : StoreValue) (r : Role) (b : ℕ) → IsStored image old new r b → stored image old r b ≡ new
 stored_is image old new r b s = grind (arith, common_steps)
 
+longer_headers : (r : Role) (b : ℕ) (headers : List KeptHeader) → length headers ≤ length (push_header r b headers)
+longer_headers (Head n p s j) b headers = omega (arith, snoc_length headers (record { parent = p; head = b }))
+longer_headers _ b headers = omega arith
+
 module _ {image : List ℕ} {store : StoreValue} {w : Walk} {r : Role} {a b : ℕ} (st : IsNextAt image store w r a b) where
   is_due : IsDue image w r a st.index
   is_due = record {
@@ -82,7 +85,7 @@ module _ {image : List ℕ} {store : StoreValue} {w : Walk} {r : Role} {a b : �
 
   is_fault : (x : ℕ) (c : Cause) → FirstFails (demands_by (letters_of image) image w r a b) x c → IsOwnFault image (fault x c)
   is_fault x c h =
-      first_fault image x c (at_due st.begun w r a st.index st.read.is_walk is_due
+      first_fault image x c (at_due st.read.begun w r a st.index st.read.is_walk is_due
       (subst (λ b. FirstFails (demands_by (letters_of image) image w r a b) x c) (sym st.names) h))
 
   in_image : InRange (length store.owners) b → InRange (blocks image) b
@@ -127,15 +130,17 @@ module _ {image : List ℕ} {store : StoreValue} {w : Walk} {r : Role} {a b : �
             → HasRead image new ((r, b) ∷ w) (first r) (behind r)
         read_one fresh {new = new} s =
             let within = in_image range in
-            let begun : length store.starts ≡ first r = st.read.started in
+            let started : length store.starts ≡ first r = st.read.started in
             let late : AllHold late_demands = all_append (form_demands_by (letters_of image) image w r b)
             (demand SameName b (NewNameBy (letters_of image) image w r b) ∷ []) form (fresh, tt) in
             let number : (n p s j : ℕ) → r ≡ Head n p s j → n ≡ suc (heads w) =
             λ n p s j z. asks_number image w n p s j a st.index (subst (λ r. Asks image w r a st.index) z st.asked) in
             record {
+              begun = st.read.begun;
               tells = subst (λ t. StoreMatches image t ((r, b) ∷ w)) (stored_is image store new r b s)
                   (tells_more image store w r b number (omega arith) st.read.tells within.0 within.1 free);
-              started = ap length s.starts ∙ begun;
+              started = ap length s.starts ∙ started;
+              within = omega (arith, st.read.within, longer_headers r b store.headers, ap length s.headers);
               is_walk = step st.read.is_walk is_due st.names (enough, (within, (free_absent image store.owners w st.read.tells.owns b free, late)));
               up_to = past_taken image r st.read.up_to (gathered st.read) a st.index b st.asked;
             }

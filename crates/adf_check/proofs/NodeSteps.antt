@@ -1,11 +1,11 @@
 -- The steps along the nodes: each is begun, then the parts that its header points to are read.
 use Rattle.std.proofs.Common.{◌≡◌, ◌≢◌, inl, inr, ℕ, suc, ◌-◌, List, [], ◌∷◌, ◌<◌, ◌≤◌, length, get_or, refl, sym, ap, subst, ◌∙◌, arith}
 use Rattle.std.proofs.lemmas.Grind.{common_steps}
-use Rattle.adf_blocks.specs.declared.layout.TheConstants.{EXTENSION, SECONDARY_TYPE, ST_DIR}
+use Rattle.adf_blocks.specs.declared.layout.TheConstants.{EXTENSION, SECONDARY_TYPE, SIZE, ST_DIR}
 use Rattle.adf_blocks.specs.Sizes.{blocks}
 use Rattle.adf_volume.specs.Image.{letters_of, kind_of, root_of, word_in}
 use Rattle.adf_volume.specs.Lists.{At}
-use Rattle.adf_volume.specs.Walk.{Has, heads, HeadAt, DirAt, FileAt, Walk}
+use Rattle.adf_volume.specs.Walk.{Has, first, heads, HeadAt, DirAt, FileAt, Role, Walk}
 use Rattle.adf_volume.specs.Walk.Role.{Root}
 use Rattle.adf_volume.proofs.Gathered.{root_in}
 use Rattle.adf_volume.proofs.FormDemands.{head_type}
@@ -13,10 +13,12 @@ use Rattle.adf_volume.proofs.Lists.{at_below, at_fun, at_index_or, at_snoc, at_s
 use Rattle.adf_volume.proofs.MemberFacts.{in_range, kept}
 use Rattle.adf_volume.proofs.PositionSteps.{end_nodes, enter_dir, low_first}
 use Rattle.adf_volume.proofs.Roles.{head_role}
+use Rattle.adf_volume.specs.Positions.{before_node}
 use Rattle.adf_volume.proofs.Walks.{numbered}
 use Rattle.adf_walk.specs.declared.kept_header.KeptHeader.{KeptHeader}
-use Rattle.adf_volume.specs.Start.{IsOwnBegun}
 use Rattle.adf_check.specs.Reading.{IsAtNode, IsAtSlot, IsInExts, IsInNode, IsRead}
+use Rattle.adf_check.specs.Datas.{first_ext}
+use Rattle.adf_check.specs.declared.file.File.{File}
 use Rattle.adf_check.specs.Store.{StoreValue, StoreMatches, entered}
 use Rattle.adf_check.proofs.NumberBounds.{many_blocks}
 use Rattle.adf_check.proofs.ClaimSteps.{gathered, read_to}
@@ -34,8 +36,23 @@ pub header_here : (headers : List KeptHeader) (i : ℕ) (r : KeptHeader) {xs : L
 header_here headers i r {xs = xs} e lt is = subst (λ xs. At xs i r) e (subst (At xs i) (sym is) (at_or xs i r lt))
 
 -- the next node is begun
-pub enter_node : (image : List ℕ) (store : StoreValue) (n : ℕ) → IsAtNode image store n → IsInNode image (entered store) n
-enter_node image store n st = grind (arith, common_steps, at_snoc, all_before, ext_tells, data_tells, snoc_length, low_first)
+enter_store : (image : List ℕ) (store : StoreValue) (w : Walk) (n : ℕ) → StoreMatches image store w → length store.starts ≡ n
+    → ((r : Role) (b : ℕ) → Has w r b → first r ≤ n) → StoreMatches image (entered store) w
+enter_store image store w n tells started le = grind (arith, common_steps, at_snoc, all_before, ext_tells, data_tells)
+
+pub enter_node : (image : List ℕ) (store : StoreValue) (n : ℕ) → n ≤ length store.headers → IsAtNode image store n → IsInNode image (entered store) n
+enter_node image store n le st = record {
+  walk = st.walk;
+  read = record {
+    begun = st.read.begun;
+    tells = enter_store image store st.walk n st.read.tells st.read.started
+        (λ r b h. omega (arith, low_first r (before_node n) (st.read.up_to.taken r b h) refl refl));
+    started = snoc_length store.starts _ ∙ ap suc st.read.started;
+    within = omega arith;
+    is_walk = st.read.is_walk;
+    up_to = st.read.up_to;
+  };
+}
 
 -- the node of a row
 module _ (image : List ℕ) (store : StoreValue) (w : Walk) (t : StoreMatches image store w) (v : IsOwnWalk image w) where
@@ -69,10 +86,10 @@ root_begins image store n a z e st =
     (subst (Has st.walk Root) (sym e) (root_in image (gathered st.read))))
 
 -- the next node is n, and its row is known
-module _ {image : List ℕ} {store : StoreValue} {m n : ℕ} {header : KeptHeader} (begun : IsOwnBegun image) (view : m ≡ n) (ne : m ≢ 0)
-    (within : n ≤ length store.headers) (header_is : header ≡ get_or store.headers (m - 1) header) (st : IsInNode image store n) where
+module _ {image : List ℕ} {store : StoreValue} {m n : ℕ} {header : KeptHeader} (view : m ≡ n) (ne : m ≢ 0)
+    (header_is : header ≡ get_or store.headers (m - 1) header) (st : IsInNode image store n) where
   here : At store.headers (m - 1) header
-  here = header_here store.headers (m - 1) header refl (omega arith) header_is
+  here = header_here store.headers (m - 1) header refl (omega (arith, st.read.within)) header_is
 
   node : suc (m - 1) ≡ n
   node = omega arith
@@ -80,18 +97,21 @@ module _ {image : List ℕ} {store : StoreValue} {m n : ℕ} {header : KeptHeade
   pub head_inside : header.head < blocks image
   head_inside =
       let x = node_here image store st.walk st.read.tells st.read.is_walk (m - 1) header here in
-      (in_range image st.read.is_walk (many_blocks image begun) (head_role x) header.head x.has).1
+      (in_range image st.read.is_walk (many_blocks image st.read.begun) (head_role x) header.head x.has).1
 
   pub directory_begins : word_in image header.head SECONDARY_TYPE ≡ ST_DIR → IsAtSlot image store n header.head 0
   directory_begins e =
       enter_directory image store n header.head st (subst (λ n. DirAt image st.walk n header.head) node
       (record { header = node_here image store st.walk st.read.tells st.read.is_walk (m - 1) header here; type = e }))
 
-  pub file_begins : word_in image header.head SECONDARY_TYPE ≢ ST_DIR
-      → IsInExts image store n header.head (header.head ∷ []) header.head (word_in image header.head EXTENSION)
-  file_begins e =
-      enter_exts image store n header.head st (subst (λ n. FileAt image st.walk n header.head) node
-      (file_here image store st.walk st.read.tells st.read.is_walk (m - 1) header here e))
+  pub file_begins : word_in image header.head SECONDARY_TYPE ≢ ST_DIR → (size ext : ℕ) → size ≡ word_in image header.head SIZE
+      → ext ≡ word_in image header.head EXTENSION
+      → let file : File = record { node = n; head = header.head; size = size; ext = ext } in
+      IsInExts image store file (header.head ∷ []) (first_ext file)
+  file_begins e size ext size_is ext_is =
+      enter_exts image store (record { node = n; head = header.head; size = size; ext = ext }) st
+      (subst (λ n. FileAt image st.walk n header.head) node
+      (file_here image store st.walk st.read.tells st.read.is_walk (m - 1) header here e)) size_is ext_is
 
 -- behind the last node all is read
 pub all_read : (image : List ℕ) (store : StoreValue) (n : ℕ) → n ≡ suc (length store.headers) → IsAtNode image store n → IsRead image store

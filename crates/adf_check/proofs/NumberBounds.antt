@@ -10,6 +10,8 @@ use Rattle.adf_volume.proofs.Gathered.{dir_number}
 use Rattle.adf_volume.proofs.Walks.{of_walk}
 use Rattle.adf_volume.specs.Positions.{Position}
 use Rattle.adf_check.specs.Reading.{HasRead, IsInChain}
+use Rattle.adf_check.specs.declared.chains.Chain.{Chain}
+use Rattle.adf_check.specs.declared.claims.Link.{Link}
 use Rattle.adf_check.specs.Store.{StoreValue, StoreMatches}
 use Rattle.adf_volume.specs.Start.{IsOwnBegun}
 use Rattle.adf_walk.specs.KeptOwner.{claimed_count}
@@ -24,23 +26,33 @@ many_blocks image begun = size_low (blocks image) begun.0.1
 pub pages_few : (image : List ℕ) → IsOwnBegun image → pages_needed (blocks image) < 2 ^ 29
 pages_few image begun = omega (arith, size_high (blocks image) begun.0.1)
 
-module _ {image : List ℕ} {store : StoreValue} (begun : IsOwnBegun image) (used : store.used ≡ claimed_count store.owners) where
-  -- a walk has no more members than there are blocks
-  walk_short : {w : Walk} → StoreMatches image store w → length w ≤ MOST_BLOCKS
-  walk_short {w = w} tells = grind (arith, common_steps, count_by-le-length, size_high)
+-- a walk has no more members than there are blocks
+walk_within : {image : List ℕ} {store : StoreValue} → store.used ≡ claimed_count store.owners → {w : Walk} → StoreMatches image store w
+    → length w ≤ blocks image
+walk_within {store = store} used {w = w} tells = grind (arith, common_steps, count_by-le-length)
+
+-- nor are there more headers
+pub headers_within : {image : List ℕ} {store : StoreValue} → store.used ≡ claimed_count store.owners → {w : Walk} {n : ℕ} {at : Position}
+    → HasRead image store w n at → length store.headers ≤ blocks image
+headers_within used {w = w} read = omega (arith, walk_within used read.tells, heads_within w, read.tells.headers.count)
+
+module _ {image : List ℕ} {store : StoreValue} (used : store.used ≡ claimed_count store.owners) where
+  walk_short : {w : Walk} {n : ℕ} {at : Position} → HasRead image store w n at → length w ≤ MOST_BLOCKS
+  walk_short read = omega (arith, walk_within used read.tells, size_high (blocks image) read.begun.0.1)
 
   -- the lists of all extension blocks and of all data blocks are short
   pub lists_short : {w : Walk} {n : ℕ} {at : Position} → HasRead image store w n at
       → (length store.exts < 2 ^ 29) × (length store.datas < 2 ^ 29)
   lists_short {w = w} read = grind (arith, common_steps, walk_short, picked_within)
 
-  heads_short : {w : Walk} → StoreMatches image store w → heads w + 1 < 2 ^ 29
-  heads_short {w = w} tells = omega (arith, walk_short tells, heads_within w)
+  heads_short : {w : Walk} {n : ℕ} {at : Position} → HasRead image store w n at → heads w + 1 < 2 ^ 29
+  heads_short {w = w} read = omega (arith, walk_short read, heads_within w)
 
   -- the number of a directory is short
-  pub parent_short : {p up s a b : ℕ} {seen : List ℕ → Type 0} → IsInChain image store p up s a b seen → p < 2 ^ 29
-  parent_short {p = p} {up = up} st = omega (arith, heads_short st.read.tells, dir_number image (of_walk image st.read.is_walk) p up st.dir)
+  pub parent_short : {chain : Chain} {link : Link} {seen : List ℕ → Type 0} → IsInChain image store chain link seen → chain.parent < 2 ^ 29
+  parent_short {chain = chain} st =
+      omega (arith, heads_short st.read, dir_number image (of_walk image st.read.is_walk) chain.parent chain.up st.dir)
 
   -- the number of a header that is due is short
-  pub entry_short : {p up s a b : ℕ} {seen : List ℕ → Type 0} → IsInChain image store p up s a b seen → length store.headers + 1 < 2 ^ 29
-  entry_short st = omega (arith, heads_short st.read.tells, st.read.tells.headers.count)
+  pub entry_short : {chain : Chain} {link : Link} {seen : List ℕ → Type 0} → IsInChain image store chain link seen → length store.headers + 1 < 2 ^ 29
+  entry_short st = omega (arith, heads_short st.read, st.read.tells.headers.count)

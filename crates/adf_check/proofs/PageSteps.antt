@@ -21,7 +21,6 @@ use Rattle.adf_volume.proofs.Pointers.{behind_map_ext, behind_page, map_ext_asks
 use Rattle.adf_volume.proofs.PositionSteps.{end_pages}
 use Rattle.adf_volume.specs.Positions.{word_of_map_ext, word_of_page}
 use Rattle.adf_volume.specs.Fault.{fault}
-use Rattle.adf_volume.specs.Start.{IsOwnBegun}
 use Rattle.adf_check.specs.Pages.{AreListed}
 use Rattle.adf_check.specs.Reading.{HasRead, IsAtNode, IsAtPage, IsBeforePage, block_of_page, block_of_map_ext}
 use Rattle.adf_walk.specs.declared.kept_owner.KeptOwner.TheVariants.{Free}
@@ -59,7 +58,7 @@ pub page_is : (image : List ℕ) (w : Walk) (k b : ℕ) → IsOwnWalk image w �
 page_is image w k b v h = let x = (kept image v (Page k) b h).1 in names_is image w k b x.0 x.1 v x.2 x.3
 
 -- page i comes next, and a word of block a names it as block b
-module _ {image : List ℕ} {store : StoreValue} {i a b : ℕ} (begun : IsOwnBegun image) (needed : i < pages_needed (blocks image))
+module _ {image : List ℕ} {store : StoreValue} {i a b : ℕ} (needed : i < pages_needed (blocks image))
     (st : IsAtPage image store i a) (named : b ≡ word_in image a (word_of_page i)) where
   pub page_named : IsNextAt image store st.walk (Page i) a b
   page_named = grind (arith, common_steps)
@@ -84,7 +83,7 @@ module _ {image : List ℕ} {store : StoreValue} {i a b : ℕ} (begun : IsOwnBeg
         }
 
 -- the bitmap extension block whose first page is page i comes next, and a word of block a names it as block b
-module _ {image : List ℕ} {store : StoreValue} {i a b : ℕ} (begun : IsOwnBegun image) (needed : i < pages_needed (blocks image)) (past : 25 ≤ i)
+module _ {image : List ℕ} {store : StoreValue} {i a b : ℕ} (needed : i < pages_needed (blocks image)) (past : 25 ≤ i)
     (begins : (i - 25) % 127 ≡ 0) (st : IsBeforePage image store i a) (named : b ≡ word_in image a (word_of_map_ext i)) where
   abbrev pub number : ℕ
   number = (i - 25) / 127

@@ -42,14 +42,16 @@ new_tells : (image : List ℕ) (m : ℕ) → blocks image ≡ 2 + m
 new_tells image m size = grind (arith, common_steps, new_length, new_boot, new_free)
 
 -- the root alone is claimed
-pub root_read : (image : List ℕ) (m root : ℕ) → blocks image ≡ 2 + m → root_of image ≡ root → 2 ≤ root → root < 2 + m
+pub root_read : (image : List ℕ) (m root : ℕ) → IsOwnBegun image → blocks image ≡ 2 + m → root_of image ≡ root → 2 ≤ root → root < 2 + m
     → IsBeforePage image (first_store (owners_of m root)) 0 (root_of image)
-root_read image m root size root_is low high = record {
+root_read image m root begun size root_is low high = record {
   walk = (TheRoot, root_of image) ∷ [];
   read = record {
+    begun = begun;
     tells = subst (λ b. StoreMatches image (first_store (owners_of m root)) ((TheRoot, b) ∷ [])) (sym root_is)
         (tells_more image _ [] TheRoot root (λ n p s j e. cc) (omega arith) (new_tells image m size) low (omega arith) (new_free m root low high));
     started = refl;
+    within = omega arith;
     is_walk = start;
     up_to = with_root image;
   };
@@ -71,7 +73,7 @@ begun_with_root image n owners new begun size e f count =
     let kept : first_store (owners_of (n - 2) (root_of image))
     ≡ record { owners = new; headers = []; dirs = 0; starts = []; exts = []; datas = []; used = claimed_count new } =
     λ i. record { owners = (sym claimed) i; headers = []; dirs = 0; starts = []; exts = []; datas = []; used = (sym one) i } in
-    subst (λ s. IsBeforePage image s 0 (root_of image)) kept (root_read image (n - 2) (root_of image) (omega arith) refl (omega arith) (omega arith))
+    subst (λ s. IsBeforePage image s 0 (root_of image)) kept (root_read image (n - 2) (root_of image) begun (omega arith) refl (omega arith) (omega arith))
 
 pub root_is_free : (image : List ℕ) (n : ℕ) (owners : List KeptOwner) → IsOwnBegun image → n ≡ blocks image → owners ≡ new_owners (n - 2)
     → kept_at owners (root_of image) ≡ Free

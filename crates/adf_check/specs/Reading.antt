@@ -1,10 +1,9 @@
 -- The states of a check along the order of roles: the walk so far, and the position in the order.
--- Letters: w a walk; r a role; a a block with a word that points to block b; n a node, h its header;
--- p a directory's node, up its block; s a slot;
--- j a position in a chain, or the number of a bitmap extension block; k the number of a page or of a data block.
+-- Letters: w a walk; r a role; a a block with a word that points to block b; n a node, h its header; p a directory's node, up its block;
+-- s a slot; j a position in a chain, or the number of a bitmap extension block; k the number of a page or of a data block.
 use Rattle.std.specs.Prelude.{◌≡◌, ℕ, List, [], ◌+◌, ◌-◌, ◌/◌, ◌%◌, ◌≤◌, cond, nat_lt, length, true}
 use Rattle.std.proofs.Common.{zero, suc}
-use Rattle.adf_blocks.specs.declared.layout.TheConstants.{EXTENSION, FIRST_MAP_EXT, FIRST_PAGE, MAP_EXT_NEXT, MAP_EXT_PAGES, ROOT_PAGES}
+use Rattle.adf_blocks.specs.declared.layout.TheConstants.{EXTENSION, FIRST_MAP_EXT, FIRST_PAGE, MAP_EXT_NEXT, MAP_EXT_PAGES, ROOT_PAGES, SIZE}
 use Rattle.adf_tree.specs.NameSet.{has, Names}
 use Rattle.adf_names.specs.Texts.{uppers_by}
 use Rattle.adf_volume.specs.Lists.{At}
@@ -14,14 +13,21 @@ use Rattle.adf_volume.specs.Walk.{Has, DirAt, FileAt, MemberAt, NamesPage, ext_c
 use Rattle.adf_volume.specs.Walk.Role.{Page, Head, Ext, Data}
 use Rattle.adf_volume.specs.Positions.{Position, IsLink, IsPageHolder, IsUpTo, before_node, before_page, position_of, word_of_page}
 use Rattle.adf_volume.specs.Fits.{FitsBy}
+use Rattle.adf_volume.specs.Start.{IsOwnBegun}
 use Rattle.adf_volume.specs.Made.{tree_in_by, layout_in}
 use Rattle.adf_check.specs.Own.{IsOwnWalk}
 use Rattle.adf_check.specs.Store.{StoreValue, StoreMatches}
+use Rattle.adf_check.specs.declared.chains.Chain.{Chain}
+use Rattle.adf_check.specs.declared.claims.Link.{Link}
+use Rattle.adf_check.specs.declared.file.File.{File}
 
--- the walk has all parts before the position and none after it; n nodes are begun, and the store matches the walk
+-- the image begins as a volume; the walk has all parts before the position and none after it; n nodes are begun, each the root or one
+-- with a header; the store matches the walk
 pub record HasRead (image : List ℕ) (store : StoreValue) (w : Walk) (n : ℕ) (at : Position) : Type 0 where
+  pub begun : IsOwnBegun image
   pub tells : StoreMatches image store w
   pub started : length store.starts ≡ n
+  pub within : n ≤ suc (length store.headers)
   pub is_walk : IsOwnWalk image w
   pub up_to : IsUpTo image w [] at
 
@@ -53,16 +59,16 @@ pub record Sees (image : List ℕ) (w : Walk) (p s : ℕ) (seen : List ℕ → T
 abbrev pub sees_of : Names → List ℕ → Type 0
 sees_of names x = has names x ≡ true
 
--- in the chain of that slot, the next pointer is a word of block a with the value b
-pub record IsInChain (image : List ℕ) (store : StoreValue) (p up s a b : ℕ) (seen : List ℕ → Type 0) : Type 0 where
+-- in the chain, the next pointer is this link, and `seen` holds for the names read so far
+pub record IsInChain (image : List ℕ) (store : StoreValue) (chain : Chain) (link : Link) (seen : List ℕ → Type 0) : Type 0 where
   pub walk : Walk
   pub place : ℕ
-  pub read : HasRead image store walk (suc p) (position_of (Head 0 p s place))
-  pub dir : DirAt image walk p up
+  pub read : HasRead image store walk (suc chain.parent) (position_of (Head 0 chain.parent chain.slot place))
+  pub dir : DirAt image walk chain.parent chain.up
   pub index : ℕ
-  pub link : IsLink image walk p s place a index
-  pub named : word_in image a index ≡ b
-  pub sees : Sees image walk p s seen
+  pub pointer : IsLink image walk chain.parent chain.slot place link.holder index
+  pub named : word_in image link.holder index ≡ link.block
+  pub sees : Sees image walk chain.parent chain.slot seen
 
 -- the pages below k and their bitmap extension blocks have been read; block a points to the last one, or is the root
 pub record IsBeforePage (image : List ℕ) (store : StoreValue) (k a : ℕ) : Type 0 where
@@ -92,27 +98,28 @@ pub record IsListed (image : List ℕ) (list : List ℕ) (k : ℕ) : Type 0 wher
   pub size : length list ≡ k
   pub pages : (i b : ℕ) → At list i b → block_of_page image i ≡ b
 
--- the table has the header of file n, at block h, then the extension blocks in the walk
-pub record HasTable (image : List ℕ) (w : Walk) (n h : ℕ) (table : List ℕ) : Type 0 where
-  pub file : FileAt image w n h
-  pub members : (m c : ℕ) → At table m c → MemberAt image w n m c
-  pub counted : length table ≡ suc (ext_count w n)
+-- the table has the header of the file, then the extension blocks in the walk
+pub record HasTable (image : List ℕ) (w : Walk) (file : File) (table : List ℕ) : Type 0 where
+  pub head : FileAt image w file.node file.head
+  pub size : file.size ≡ word_in image file.head SIZE
+  pub members : (m c : ℕ) → At table m c → MemberAt image w file.node m c
+  pub counted : length table ≡ suc (ext_count w file.node)
 
--- the table has the extension blocks of file n read so far, and the next pointer, a word of block a, is b
-pub record IsInExts (image : List ℕ) (store : StoreValue) (n h : ℕ) (table : List ℕ) (a b : ℕ) : Type 0 where
+-- the table has the extension blocks of the file read so far, and the next pointer is this link
+pub record IsInExts (image : List ℕ) (store : StoreValue) (file : File) (table : List ℕ) (link : Link) : Type 0 where
   pub walk : Walk
   pub extra : ℕ
-  pub read : HasRead image store walk (suc n) (position_of (Ext n (suc extra)))
-  pub holds : HasTable image walk n h table
-  pub counted : ext_count walk n ≡ extra
-  pub member : MemberAt image walk n extra a
-  pub named : word_in image a EXTENSION ≡ b
+  pub read : HasRead image store walk (suc file.node) (position_of (Ext file.node (suc extra)))
+  pub holds : HasTable image walk file table
+  pub counted : ext_count walk file.node ≡ extra
+  pub member : MemberAt image walk file.node extra link.holder
+  pub named : word_in image link.holder EXTENSION ≡ link.block
 
--- the table has all extension blocks of file n, and k of its data blocks have been read
-pub record IsInDatas (image : List ℕ) (store : StoreValue) (n h : ℕ) (table : List ℕ) (k : ℕ) : Type 0 where
+-- the table has all extension blocks of the file, and k of its data blocks have been read
+pub record IsInDatas (image : List ℕ) (store : StoreValue) (file : File) (table : List ℕ) (k : ℕ) : Type 0 where
   pub walk : Walk
-  pub read : HasRead image store walk (suc n) (position_of (Data n (suc k)))
-  pub holds : HasTable image walk n h table
+  pub read : HasRead image store walk (suc file.node) (position_of (Data file.node (suc k)))
+  pub holds : HasTable image walk file table
 
 -- the walk has all that it asks for, and the store matches the walk
 pub record HasReadAll (image : List ℕ) (store : StoreValue) (w : Walk) : Type 0 where

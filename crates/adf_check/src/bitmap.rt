@@ -57,7 +57,7 @@ fn check_word(image: &Image<'_>, store: &Store, pages: &[u32], i: u32) -> Result
     requires state { IsMapped image.now (store_value store.now) (2 + 32 * i) }
     ensures state { OnOk result
         (IsMapped image.now (store_value store.now) (min (2 + 32 * (i + 1)) (blocks image.now))) }
-    ensures fault { IfErr result (λ f. IsOwnFault image.now f) }
+    ensures fault { IfErr result (IsOwnFault image.now) }
 {
     let blocks = image.blocks();
     let page = Page::over(image.block(pages[i as usize / PAGE_WORDS]));
@@ -78,7 +78,7 @@ pub fn check_bitmap(image: &Image<'_>, store: &Store, pages: &[u32]) -> Result<(
     requires pages { AreListed image.now pages.now (pages_needed (blocks image.now)) }
     requires state { IsRead image.now (store_value store.now) }
     ensures fits { OnOk result (StoreFits image.now (store_value store.now)) }
-    ensures fault { IfErr result (λ f. IsOwnFault image.now f) }
+    ensures fault { IfErr result (IsOwnFault image.now) }
 {
     let words = (image.blocks() - 2).div_ceil(32);
     for i in 0..words {

@@ -7,10 +7,10 @@ ghost use Rattle.adf_blocks.specs.Sizes.{blocks};
 ghost use Rattle.adf_blocks.specs.declared.layout.TheConstants.{FIRST_SLOT, SECONDARY_TYPE, SLOTS, ST_DIR};
 ghost use Rattle.adf_volume.specs.Image.{word_in};
 ghost use Rattle.adf_check.specs.Reading.{IsAtNode, IsAtSlot, IsInChain, sees_of};
-ghost use Rattle.adf_check.specs.Progress.{IsFurther, left};
+ghost use Rattle.adf_check.specs.Progress.{left};
 ghost use Rattle.adf_check.specs.Store.{store_value};
 
-use crate::claims::claim_named;
+use crate::claims::{Link, claim_named};
 use crate::store::Store;
 use adf_blocks::{Cause, Directory, Head, HeadBody, HeadPlace, SLOTS, read_head_at};
 use adf_tree::{NameSet, Node};
@@ -43,32 +43,28 @@ fn is_directory(head: &Head<'_>) -> bool
     head.body() == HeadBody::Dir
 }
 
-// Claims and reads the header at block `b`, which `holder` points to; returns the next one of its chain, or 0.
+// Claims and reads the header that a link of its chain points to; returns the next link, of a block 0 at the end.
 fn read_header(
     image: &Image<'_>,
     store: &mut Store,
     seen: &mut NameSet,
     chain: &Chain,
-    holder: u32,
-    b: u32,
-) -> Result<u32, Fault>
+    link: Link,
+) -> Result<Link, Fault>
     requires slot { chain.now.slot < SLOTS }
-    requires some { b ≢ 0 }
+    requires some { link.block ≢ 0 }
     requires state { IsInChain image.now
-        (store_value store.old) chain.now.parent chain.now.up chain.now.slot
-        holder b (sees_of seen.old) }
+        (store_value store.old) chain.now link (sees_of seen.old) }
     ensures state { IfOk result (λ next.
-        IsInChain image.now (store_value store.new) chain.now.parent chain.now.up chain.now.slot
-        b next (sees_of seen.new)) }
-    ensures fewer { OnOk result (IsFurther store.old store.new) }
+        IsInChain image.now (store_value store.new) chain.now next (sees_of seen.new)) }
     ensures less { OnOk result (left store.new < left store.old) }
-    ensures inside { OnOk result (b < blocks image.now) }
-    ensures fault { IfErr result (λ f. IsOwnFault image.now f) }
+    ensures fault { IfErr result (IsOwnFault image.now) }
 {
     let kind = image.kind();
     let letters = image.letters();
     let node = store.headers.len() as u32 + 1;
-    claim_named(&mut store.owners, holder, b, KeptOwner::Head(node))?;
+    let b = link.block;
+    claim_named(&mut store.owners, link.holder, b, KeptOwner::Head(node))?;
     let place = HeadPlace {
         own: b,
         parent: chain.up,
@@ -86,7 +82,10 @@ fn read_header(
     }
     store.dirs += usize::from(is_directory(&head));
     match store.headers.push(kept_header(chain.parent, b)) {
-        Ok(()) => Ok(head.next()),
+        Ok(()) => Ok(Link {
+            holder: b,
+            block: head.next(),
+        }),
         Err(_) => Err(no_memory()),
     }
 }
@@ -100,23 +99,21 @@ fn read_chain(
     first: u32,
 ) -> Result<(), Fault>
     requires slot { chain.now.slot < SLOTS }
-    requires inside { chain.now.up < blocks image.now }
     requires state { IsAtSlot image.now
         (store_value store.old) chain.now.parent chain.now.up chain.now.slot }
     requires named { first ≡ word_in image.now chain.now.up (FIRST_SLOT + chain.now.slot) }
     ensures state { OnOk result
         (IsAtSlot image.now (store_value store.new) chain.now.parent chain.now.up
         (chain.now.slot + 1)) }
-    ensures fewer { OnOk result (IsFurther store.old store.new) }
-    ensures fault { IfErr result (λ f. IsOwnFault image.now f) }
+    ensures fault { IfErr result (IsOwnFault image.now) }
 {
     seen.clear();
-    let mut holder = chain.up;
-    let mut b = first;
-    while b != 0 {
-        let next = read_header(image, store, seen, chain, holder, b)?;
-        holder = b;
-        b = next;
+    let mut link = Link {
+        holder: chain.up,
+        block: first,
+    };
+    while link.block != 0 {
+        link = read_header(image, store, seen, chain, link)?;
     }
     Ok(())
 }
@@ -133,8 +130,7 @@ pub fn read_directory(
     requires inside { up < blocks image.now }
     requires state { IsAtSlot image.now (store_value store.old) parent up 0 }
     ensures state { OnOk result (IsAtNode image.now (store_value store.new) (parent + 1)) }
-    ensures fewer { OnOk result (IsFurther store.old store.new) }
-    ensures fault { IfErr result (λ f. IsOwnFault image.now f) }
+    ensures fault { IfErr result (IsOwnFault image.now) }
 {
     let directory = Directory::over(image.block(up));
     for slot in 0..SLOTS as u8 {

@@ -8,6 +8,13 @@ use adf_blocks::Cause;
 use adf_volume::{Fault, fault_at};
 use adf_walk::{KeptOwner, OwnerTable};
 
+/// A word of block `holder` that points to `block`.
+#[derive(Drop)]
+pub struct Link {
+    pub holder: u32,
+    pub block: u32,
+}
+
 /// Makes `o` the owner of block `b`, which a word of block `holder` points to.
 pub fn claim_named(owners: &mut OwnerTable, holder: u32, b: u32, o: KeptOwner) -> Result<(), Fault>
     requires part { is_claimed o ≡ true }
@@ -18,7 +25,7 @@ pub fn claim_named(owners: &mut OwnerTable, holder: u32, b: u32, o: KeptOwner) -
     ensures len { length owners.new ≡ length owners.old }
     ensures count { OnOk result (claimed_count owners.new ≡ claimed_count owners.old + 1) }
     ensures bound { OnOk result (claimed_count owners.new + 2 ≤ length owners.new) }
-    ensures fault { IfErr result (λ f. IsClaimFault owners.old holder b f) }
+    ensures fault { IfErr result (IsClaimFault owners.old holder b) }
 {
     if b < 2 || b >= owners.len() {
         return Err(fault_at(holder, Cause::OutOfRange));

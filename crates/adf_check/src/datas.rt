@@ -1,31 +1,28 @@
 // The data blocks of files.
 
-ghost use Rattle.adf_blocks.specs.declared.layout.TheConstants.{POINTERS, SIZE};
+ghost use Rattle.adf_blocks.specs.declared.layout.TheConstants.{POINTERS};
 ghost use Rattle.adf_check.specs.Own.{IsOwnFault};
 ghost use Rattle.std.specs.Prelude.{◌≡◌, ◌≤◌, ◌<◌, ◌+◌, ◌*◌, ◌/◌, min, OnOk, IfErr, length, slice_index, ℕ};
 ghost use Rattle.adf_blocks.specs.Sizes.{blocks, chunk};
 ghost use Rattle.adf_volume.specs.Demands.{AllHold, FirstFails};
 ghost use Rattle.adf_volume.specs.Image.{held, table_word, word_in};
-ghost use Rattle.adf_volume.specs.Walk.{data_count};
 ghost use Rattle.adf_check.specs.Reading.{IsAtNode, IsInDatas};
-ghost use Rattle.adf_check.specs.Progress.{IsFurther};
 ghost use Rattle.adf_check.specs.Store.{store_value};
-ghost use Rattle.adf_check.specs.Datas.{data_asked, next_of};
-ghost use Rattle.adf_volume.specs.Start.{IsBegun};
+ghost use Rattle.adf_check.specs.Datas.{AreDatas, IsDataLink, data_asked, next_of};
 
-use crate::claims::claim_named;
+use crate::claims::{Link, claim_named};
+use crate::file::File;
 use crate::store::Store;
-use adf_blocks::{Cause, POINTERS, Table, chunk_len, read_data};
-use adf_tree::{Kind, Node};
+use adf_blocks::{Cause, POINTERS, Table, read_data};
+use adf_tree::Kind;
 use adf_volume::{Fault, Image, count_of, fault_at, held_in, no_memory};
 use adf_walk::KeptOwner;
 
-/// A file whose data blocks are read: its node, its header's block, its size in bytes and its number of data blocks.
+/// The data blocks of a file: the file, its table, which is its header and its extension blocks, and their number.
 #[derive(Drop)]
-struct File {
-    node: Node,
-    head: u32,
-    size: u32,
+struct Datas<'a> {
+    file: File,
+    table: &'a [u32],
     count: u32,
 }
 
@@ -52,23 +49,23 @@ fn next_pointer(image: &Image<'_>, table: &[u32], count: u32, k: u32) -> u32
     }
 }
 
-// Checks block `b` as data block `k + 1` of the file; an FFS data block is always accepted.
+// Checks block `b` as data block `k + 1` of a file; an FFS data block is always accepted.
 #[tactic(auto, unfolding(adf_blocks::specs::Sizes::chunk))]
-fn check_data(image: &Image<'_>, table: &[u32], file: &File, b: u32, k: u32) -> Result<(), Cause>
+fn check_data(image: &Image<'_>, datas: &Datas<'_>, b: u32, k: u32) -> Result<(), Cause>
     requires inside { b < blocks image.now }
-    requires count { k < file.now.count }
-    requires enough { file.now.count ≤ POINTERS * length table.now }
-    requires blocks { (i : ℕ) → i < length table.now → slice_index table.now i < blocks image.now }
-    ensures ok { OnOk result (AllHold (data_asked image.now file.now table.now b k)) }
-    ensures fault { IfErr result (λ c.
-        FirstFails (data_asked image.now file.now table.now b k) b c) }
+    requires count { k < datas.now.count }
+    requires enough { datas.now.count ≤ POINTERS * length datas.now.table.now }
+    requires blocks { (i : ℕ) → i < length datas.now.table.now
+        → slice_index datas.now.table.now i < blocks image.now }
+    ensures ok { OnOk result (AllHold (data_asked image.now datas.now b k)) }
+    ensures fault { IfErr result (FirstFails (data_asked image.now datas.now b k) b) }
 {
     match image.kind() {
         Kind::Ffs => Ok(()),
         Kind::Ofs => {
-            let next = next_pointer(image, table, file.count, k + 1);
-            let held = held_in(Kind::Ofs, file.size, k + 1);
-            match read_data(image.block(b), file.head, k + 1, held, next) {
+            let next = next_pointer(image, datas.table, datas.count, k + 1);
+            let held = held_in(Kind::Ofs, datas.file.size, k + 1);
+            match read_data(image.block(b), datas.file.head, k + 1, held, next) {
                 Ok(_) => Ok(()),
                 Err(cause) => Err(cause),
             }
@@ -76,35 +73,27 @@ fn check_data(image: &Image<'_>, table: &[u32], file: &File, b: u32, k: u32) -> 
     }
 }
 
-// Claims and checks block `b` as data block `k + 1` of a file; block `holder` of its table points to it. The table is
-// the header and the extension blocks.
+// Claims and checks data block `k + 1` of a file, which a link of its table points to.
 fn read_data_block(
     image: &Image<'_>,
     store: &mut Store,
-    table: &[u32],
-    file: &File,
-    holder: u32,
-    b: u32,
+    datas: &Datas<'_>,
+    link: Link,
     k: u32,
 ) -> Result<(), Fault>
-    requires size { file.now.size ≡ word_in image.now file.now.head SIZE }
-    requires count { file.now.count ≡ data_count image.now file.now.head }
-    requires enough { file.now.count ≤ POINTERS * length table.now }
-    requires inside { k < file.now.count }
-    requires holder { holder ≡ slice_index table.now (k / POINTERS) }
-    requires named { b ≡ word_in image.now (slice_index table.now (k / POINTERS)) (table_word k) }
+    requires datas { AreDatas image.now datas.now }
+    requires inside { k < datas.now.count }
+    requires link { IsDataLink image.now datas.now.table.now k link }
     requires state { IsInDatas image.now
-        (store_value store.old) file.now.node file.now.head table.now k }
+        (store_value store.old) datas.now.file datas.now.table.now k }
     ensures state { OnOk result
-        (IsInDatas image.now (store_value store.new) file.now.node file.now.head table.now
-        (k + 1)) }
-    ensures fewer { OnOk result (IsFurther store.old store.new) }
-    ensures fault { IfErr result (λ f. IsOwnFault image.now f) }
+        (IsInDatas image.now (store_value store.new) datas.now.file datas.now.table.now (k + 1)) }
+    ensures fault { IfErr result (IsOwnFault image.now) }
 {
-    image.begun();
+    let b = link.block;
     let place = store.datas.len() as u32;
-    claim_named(&mut store.owners, holder, b, KeptOwner::Data(place))?;
-    if let Err(cause) = check_data(image, table, file, b, k) {
+    claim_named(&mut store.owners, link.holder, b, KeptOwner::Data(place))?;
+    if let Err(cause) = check_data(image, datas, b, k) {
         return Err(fault_at(b, cause));
     }
     match store.datas.push(b) {
@@ -114,67 +103,51 @@ fn read_data_block(
 }
 
 // Reads the data blocks that block `m` of the table points to.
-fn read_named(
-    image: &Image<'_>,
-    store: &mut Store,
-    table: &[u32],
-    file: &File,
-    m: u32,
-) -> Result<(), Fault>
-    requires size { file.now.size ≡ word_in image.now file.now.head SIZE }
-    requires count { file.now.count ≡ data_count image.now file.now.head }
-    requires enough { file.now.count ≤ POINTERS * length table.now }
-    requires inside { POINTERS * m < file.now.count }
+fn read_named(image: &Image<'_>, store: &mut Store, datas: &Datas<'_>, m: u32) -> Result<(), Fault>
+    requires datas { AreDatas image.now datas.now }
+    requires inside { POINTERS * m < datas.now.count }
     requires state { IsInDatas image.now
-        (store_value store.old) file.now.node file.now.head table.now (POINTERS * m) }
+        (store_value store.old) datas.now.file datas.now.table.now (POINTERS * m) }
     ensures state { OnOk result
-        (IsInDatas image.now (store_value store.new) file.now.node file.now.head table.now
-        (min (POINTERS * (m + 1)) file.now.count)) }
-    ensures fewer { OnOk result (IsFurther store.old store.new) }
-    ensures fault { IfErr result (λ f. IsOwnFault image.now f) }
+        (IsInDatas image.now (store_value store.new) datas.now.file datas.now.table.now
+        (min (POINTERS * (m + 1)) datas.now.count)) }
+    ensures fault { IfErr result (IsOwnFault image.now) }
 {
-    image.begun();
-    let count = file.count;
-    let holder = table[m as usize];
+    let count = datas.count;
+    let holder = datas.table[m as usize];
     let names = Table::over(image.block(holder));
     let first = POINTERS as u32 * m;
     let len = (count - first).min(POINTERS as u32);
     for k in first..first + len {
-        let b = names.pointer((k - first) as usize);
-        read_data_block(image, store, table, file, holder, b, k)?;
+        let block = names.pointer((k - first) as usize);
+        read_data_block(image, store, datas, Link { holder, block }, k)?;
     }
     Ok(())
 }
 
-/// Reads the data blocks of the file `node` of `size` bytes, with its header at block `head`. The table is the header
-/// and the extension blocks.
+/// Reads the data blocks of a file. The table is its header and its extension blocks.
 pub fn read_datas(
     image: &Image<'_>,
     store: &mut Store,
     table: &[u32],
-    node: Node,
-    head: u32,
-    size: u32,
+    file: &File,
 ) -> Result<(), Fault>
-    requires size { size ≡ word_in image.now head SIZE }
-    requires state { IsInDatas image.now (store_value store.old) node head table.now 0 }
-    ensures state { OnOk result (IsAtNode image.now (store_value store.new) (node + 1)) }
-    ensures fewer { OnOk result (IsFurther store.old store.new) }
-    ensures fault { IfErr result (λ f. IsOwnFault image.now f) }
+    requires state { IsInDatas image.now (store_value store.old) file.now table.now 0 }
+    ensures state { OnOk result (IsAtNode image.now (store_value store.new) (file.now.node + 1)) }
+    ensures fault { IfErr result (IsOwnFault image.now) }
 {
-    let count = count_of(image.kind(), size);
+    let count = count_of(image.kind(), file.size);
     let tables = count.div_ceil(POINTERS as u32);
     if tables as usize > table.len() {
-        return Err(fault_at(head, Cause::ShortFile));
+        return Err(fault_at(file.head, Cause::ShortFile));
     }
-    let file = File {
-        node,
-        head,
-        size,
+    let datas = Datas {
+        file: *file,
+        table,
         count,
     };
     for m in 0..tables {
-        read_named(image, store, table, &file, m)?;
+        read_named(image, store, &datas, m)?;
     }
     Ok(())
 }

@@ -4,73 +4,67 @@ ghost use Rattle.adf_check.specs.Own.{IsOwnFault};
 ghost use Rattle.std.specs.Prelude.{◌≢◌, ◌<◌, OnOk, IfOk, IfErr};
 ghost use Rattle.adf_blocks.specs.Sizes.{blocks};
 ghost use Rattle.adf_check.specs.Reading.{IsInDatas, IsInExts};
-ghost use Rattle.adf_check.specs.Progress.{IsFurther, left};
+ghost use Rattle.adf_check.specs.Progress.{left};
+ghost use Rattle.adf_check.specs.Datas.{first_ext};
 ghost use Rattle.adf_check.specs.Store.{store_value};
-ghost use Rattle.adf_volume.specs.Start.{IsBegun};
 
-use crate::claims::claim_named;
+use crate::claims::{Link, claim_named};
+use crate::file::File;
 use crate::store::Store;
 use adf_blocks::read_ext;
-use adf_tree::Node;
 use adf_volume::{Fault, Image, fault_at, no_memory};
 use adf_walk::KeptOwner;
 
-// Claims and reads the extension block `b`, which `holder` points to, of the file `node` with its header at `head`.
-// Appends it to the table, which has the header and the earlier extension blocks; returns the next one, or 0.
+// Claims and reads the extension block that a link of the file points to, and appends it to the table, which has the
+// header and the earlier extension blocks; returns the next link, of a block 0 at the end.
 fn read_ext_block(
     image: &Image<'_>,
     store: &mut Store,
     table: &mut Vec<u32>,
-    node: Node,
-    head: u32,
-    holder: u32,
-    b: u32,
-) -> Result<u32, Fault>
-    requires some { b ≢ 0 }
-    requires state { IsInExts image.now (store_value store.old) node head table.old.items holder b }
-    ensures state { IfOk result (λ next.
-        IsInExts image.now (store_value store.new) node head table.new.items b next) }
-    ensures fewer { OnOk result (IsFurther store.old store.new) }
+    file: &File,
+    link: Link,
+) -> Result<Link, Fault>
+    requires some { link.block ≢ 0 }
+    requires state { IsInExts image.now (store_value store.old) file.now table.old.items link }
+    ensures state { IfOk result (IsInExts image.now (store_value store.new) file.now table.new.items) }
     ensures less { OnOk result (left store.new < left store.old) }
-    ensures fault { IfErr result (λ f. IsOwnFault image.now f) }
+    ensures fault { IfErr result (IsOwnFault image.now) }
 {
-    image.begun();
+    let b = link.block;
     let place = store.exts.len() as u32;
-    claim_named(&mut store.owners, holder, b, KeptOwner::Ext(place))?;
-    let ext = match read_ext(image.block(b), b, head) {
+    claim_named(&mut store.owners, link.holder, b, KeptOwner::Ext(place))?;
+    let ext = match read_ext(image.block(b), b, file.head) {
         Ok(ext) => ext,
         Err(cause) => return Err(fault_at(b, cause)),
     };
     if table.push(b).is_err() || store.exts.push(b).is_err() {
         return Err(no_memory());
     }
-    Ok(ext.next())
+    Ok(Link {
+        holder: b,
+        block: ext.next(),
+    })
 }
 
-/// Reads the extension blocks of the file `node`, with its header at block `head`, from block `first` on (0 if there
-/// are none), and appends them to the table, which has the header.
+/// Reads the extension blocks of a file, and appends them to the table, which has the header.
 pub fn read_exts(
     image: &Image<'_>,
     store: &mut Store,
     table: &mut Vec<u32>,
-    node: Node,
-    head: u32,
-    first: u32,
+    file: &File,
 ) -> Result<(), Fault>
     requires state { IsInExts image.now
-        (store_value store.old) node head table.old.items head first }
+        (store_value store.old) file.now table.old.items (first_ext file.now) }
     ensures state { OnOk result
-        (IsInDatas image.now (store_value store.new) node head table.new.items 0) }
-    ensures fewer { OnOk result (IsFurther store.old store.new) }
-    ensures fault { IfErr result (λ f. IsOwnFault image.now f) }
+        (IsInDatas image.now (store_value store.new) file.now table.new.items 0) }
+    ensures fault { IfErr result (IsOwnFault image.now) }
 {
-    image.begun();
-    let mut holder = head;
-    let mut b = first;
-    while b != 0 {
-        let next = read_ext_block(image, store, table, node, head, holder, b)?;
-        holder = b;
-        b = next;
+    let mut link = Link {
+        holder: file.head,
+        block: file.ext,
+    };
+    while link.block != 0 {
+        link = read_ext_block(image, store, table, file, link)?;
     }
     Ok(())
 }

@@ -8,6 +8,7 @@ mod checker;
 mod claims;
 mod datas;
 mod exts;
+mod file;
 mod lookup;
 mod nodes;
 mod owners;

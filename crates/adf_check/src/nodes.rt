@@ -1,19 +1,17 @@
 // The nodes of a volume in order: the root, then each entry in the order in which its header is read.
 
-ghost use Rattle.std.specs.Prelude.{◌≡◌, ◌≤◌, ◌<◌, ◌+◌, ◌^◌, [], ◌∷◌, OnOk, IfErr, length, ℕ};
-ghost use Rattle.adf_blocks.specs.declared.layout.TheConstants.{SIZE};
+ghost use Rattle.std.specs.Prelude.{◌≡◌, ◌≤◌, ◌<◌, ◌+◌, ◌^◌, [], ◌∷◌, OnOk, IfErr, length};
 ghost use Rattle.adf_blocks.specs.Sizes.{blocks};
-ghost use Rattle.adf_volume.specs.Image.{word_in};
 ghost use Rattle.adf_check.specs.Reading.{IsAtNode, IsInExts, IsInNode, IsRead};
 ghost use Rattle.adf_check.specs.Store.{entered, store_value};
 ghost use Rattle.adf_check.specs.Own.{IsOwnFault};
 ghost use Rattle.adf_volume.specs.Fault.{fault};
-ghost use Rattle.adf_check.specs.Progress.{IsFurther};
-ghost use Rattle.adf_volume.specs.Start.{IsBegun};
+ghost use Rattle.adf_check.specs.Datas.{first_ext};
 
 use crate::chains::read_directory;
 use crate::datas::read_datas;
 use crate::exts::read_exts;
+use crate::file::File;
 use crate::store::Store;
 use adf_blocks::{Cause, HeadBody};
 use adf_tree::{NameSet, Node};
@@ -26,7 +24,6 @@ fn enter(store: &mut Store) -> Result<(), Fault>
     requires exts { length store.old.exts.items < 2 ^ 32 }
     requires datas { length store.old.datas.items < 2 ^ 32 }
     ensures entered { OnOk result (store_value store.new ≡ entered (store_value store.old)) }
-    ensures fewer { OnOk result (IsFurther store.old store.new) }
     ensures fault { IfErr result (λ f. f ≡ fault 0 Cause.NoMemory) }
 {
     let start = NodeStart {
@@ -39,29 +36,24 @@ fn enter(store: &mut Store) -> Result<(), Fault>
     }
 }
 
-// Reads the blocks of the file `node` of `size` bytes; `head` is its header, `ext` its first extension block or 0.
+// Reads the extension blocks and the data blocks of a file.
 fn read_file(
     image: &Image<'_>,
     store: &mut Store,
     table: &mut Vec<u32>,
-    node: Node,
-    head: u32,
-    size: u32,
-    ext: u32,
+    file: &File,
 ) -> Result<(), Fault>
-    requires size { size ≡ word_in image.now head SIZE }
-    requires state { IsInExts image.now (store_value store.old) node head (head ∷ []) head ext }
-    ensures state { OnOk result (IsAtNode image.now (store_value store.new) (node + 1)) }
-    ensures fewer { OnOk result (IsFurther store.old store.new) }
-    ensures fault { IfErr result (λ f. IsOwnFault image.now f) }
+    requires state { IsInExts image.now
+        (store_value store.old) file.now (file.now.head ∷ []) (first_ext file.now) }
+    ensures state { OnOk result (IsAtNode image.now (store_value store.new) (file.now.node + 1)) }
+    ensures fault { IfErr result (IsOwnFault image.now) }
 {
-    image.begun();
     table.clear();
-    if table.push(head).is_err() {
+    if table.push(file.head).is_err() {
         return Err(no_memory());
     }
-    read_exts(image, store, table, node, head, ext)?;
-    read_datas(image, store, table, node, head, size)
+    read_exts(image, store, table, file)?;
+    read_datas(image, store, table, file)
 }
 
 // Reads the chains of a directory, or the blocks of a file.
@@ -73,11 +65,9 @@ fn read_node(
     table: &mut Vec<u32>,
     node: Node,
 ) -> Result<(), Fault>
-    requires inside { node ≤ length store.old.headers.items }
     requires state { IsInNode image.now (store_value store.old) node }
     ensures state { OnOk result (IsAtNode image.now (store_value store.new) (node + 1)) }
-    ensures fewer { OnOk result (IsFurther store.old store.new) }
-    ensures fault { IfErr result (λ f. IsOwnFault image.now f) }
+    ensures fault { IfErr result (IsOwnFault image.now) }
 {
     let root = image.root();
     if node.0 == 0 {
@@ -86,7 +76,15 @@ fn read_node(
     let head = store.headers[node.0 - 1].head;
     match HeadBody::of(&image.block(head)) {
         HeadBody::Dir => read_directory(image, store, seen, node, head),
-        HeadBody::File { size, ext } => { read_file(image, store, table, node, head, size, ext) }
+        HeadBody::File { size, ext } => {
+            let file = File {
+                node,
+                head,
+                size,
+                ext,
+            };
+            read_file(image, store, table, &file)
+        }
     }
 }
 
@@ -94,9 +92,8 @@ fn read_node(
 pub fn read_nodes(alloc: Global, image: &Image<'_>, store: &mut Store) -> Result<(), Fault>
     requires state { IsAtNode image.now (store_value store.old) 0 }
     ensures state { OnOk result (IsRead image.now (store_value store.new)) }
-    ensures fault { IfErr result (λ f. IsOwnFault image.now f) }
+    ensures fault { IfErr result (IsOwnFault image.now) }
 {
-    image.begun();
     let mut seen = NameSet::new(alloc);
     let mut table = Vec::new(alloc);
     let mut node = 0usize;

@@ -9,7 +9,6 @@ ghost use Rattle.adf_volume.specs.Image.{root_of, word_in};
 ghost use Rattle.adf_volume.specs.Positions.{word_of_map_ext, word_of_page};
 ghost use Rattle.adf_check.specs.Reading.{IsAtNode, IsAtPage, IsBeforePage, block_of_page};
 ghost use Rattle.adf_check.specs.Store.{store_value};
-ghost use Rattle.adf_volume.specs.Start.{IsBegun};
 ghost use Rattle.adf_check.specs.Pages.{AreListed};
 
 use crate::claims::claim_named;
@@ -73,9 +72,8 @@ fn claim_map_ext(
     requires state { IsBeforePage image.now (store_value store.old) i holder }
     ensures state { IfOk result (λ b. IsAtPage image.now (store_value store.new) i b) }
     ensures inside { IfOk result (λ b. b < blocks image.now) }
-    ensures fault { IfErr result (λ f. IsOwnFault image.now f) }
+    ensures fault { IfErr result (IsOwnFault image.now) }
 {
-    image.begun();
     let b = map_ext_named(image, root, holder, i);
     let j = (i - ROOT_PAGES as u32) / MAP_EXT_PAGES as u32;
     claim_named(&mut store.owners, holder, b, KeptOwner::MapExt(j))?;
@@ -97,9 +95,8 @@ fn holder_of_page(
     requires state { IsBeforePage image.now (store_value store.old) i holder }
     ensures state { IfOk result (λ b. IsAtPage image.now (store_value store.new) i b) }
     ensures inside { IfOk result (λ b. b < blocks image.now) }
-    ensures fault { IfErr result (λ f. IsOwnFault image.now f) }
+    ensures fault { IfErr result (IsOwnFault image.now) }
 {
-    image.begun();
     if is_first_of_map_ext(i) {
         claim_map_ext(image, root, store, holder, i)
     } else {
@@ -123,9 +120,8 @@ fn read_page_at(
     ensures state { OnOk result (IsBeforePage image.now (store_value store.new) (i + 1) holder) }
     ensures page { IfOk result (λ b. b ≡ block_of_page image.now i) }
     ensures within { IfOk result (λ b. b < blocks image.now) }
-    ensures fault { IfErr result (λ f. IsOwnFault image.now f) }
+    ensures fault { IfErr result (IsOwnFault image.now) }
 {
-    image.begun();
     let b = page_named(image, root, holder, i);
     claim_named(&mut store.owners, holder, b, KeptOwner::Page(i))?;
     match read_page(image.block(b)) {
@@ -146,7 +142,7 @@ pub fn read_pages(
     ensures state { OnOk result (IsAtNode image.now (store_value store.new) 0) }
     ensures pages { IfOk result (λ p.
         AreListed image.now p.items (pages_needed (blocks image.now))) }
-    ensures fault { IfErr result (λ f. IsOwnFault image.now f) }
+    ensures fault { IfErr result (IsOwnFault image.now) }
 {
     let mut pages = Vec::new(alloc);
     let mut holder = image.root();

@@ -14,12 +14,12 @@ use Rattle.adf_check.proofs.chains.read_header.Goals as goal
 
 pub returns-in_err-claim_named-clause-fault : goal.returns-in_err-claim_named-clause-fault
 returns-in_err-claim_named-clause-fault c =
-    claim_refused (head_named c.requires.slot c.kind-kind.ensures.begun c.requires.state c.requires.some) tt c.from_residual.result (search rules)
+    claim_refused (head_named c.requires.slot c.requires.state c.requires.some) tt c.from_residual.result (search rules)
 
 pub returns-in-Err-clause-fault : goal.returns-in-Err-clause-fault
 returns-in-Err-clause-fault c =
     let claimed = c.in_ok-claim_named.ensures in
-    rw c.fault_at.ensures (head_fault c.args.seen.now c.requires.slot c.kind-kind.ensures.begun c.requires.state c.requires.some claimed.range
+    rw c.fault_at.ensures (head_fault c.args.seen.now c.requires.slot c.requires.state c.requires.some claimed.range
     claimed.free c.kind-kind.ensures.kind c.letters-letters.ensures c.block.ensures.block c.in-Err.cause c.in-Err.ensures)
 
 pub returns-in-Ok-false-clause-fault : goal.returns-in-Ok-false-clause-fault
@@ -28,11 +28,11 @@ returns-in-Ok-false-clause-fault c =
     let twice : has c.args.seen.now (uppers_by c.letters-letters.result c.name.result) ≡ true =
     not-false _ (sym c.in-Ok-false.ensures.new ∙ c.in-Ok-false.field-0-test) in
     rw c.fault_at-in-Ok-false.ensures (twice_fault c.args.seen.now c.requires.slot
-    c.kind-kind.ensures.begun c.requires.state c.requires.some claimed.range
+    c.requires.state c.requires.some claimed.range
     claimed.free c.kind-kind.ensures.kind c.letters-letters.ensures c.block.ensures.block c.in-Ok.ensures.0 c.in-Ok.ensures.1 c.name.ensures twice)
 
 pub kept_header-requires : goal.kept_header-requires
-kept_header-requires c = omega (arith, parent_short c.kind-kind.ensures.begun refl c.requires.state)
+kept_header-requires c = omega (arith, parent_short refl c.requires.state)
 
 pub returns-in-Ok-push-clause-state : goal.returns-in-Ok-push-clause-state
 returns-in-Ok-push-clause-state c =
@@ -41,14 +41,14 @@ returns-in-Ok-push-clause-state c =
     let fresh : has c.args.seen.now (uppers_by c.letters-letters.result c.name.result) ≡ false =
     not-true _ (sym c.in-Ok-true.ensures.new ∙ c.in-Ok-true.field-0-test) in
     let count : c.len.result ≡ length store.headers = search rules in
-    let pushed : c.push.new.self.items ≡ store.headers ++ record { parent = c.args.chain.now.parent; head = c.args.b } ∷ [] = search rules in
+    let pushed : c.push.new.self.items ≡ store.headers ++ record { parent = c.args.chain.now.parent; head = c.args.link.block } ∷ [] = search rules in
     let is_dir = c.is_directory.ensures ∙ ap (λ x. word x SECONDARY_TYPE == ST_DIR) (c.in-Ok.ensures.1 ∙ c.block.ensures.block) in
-    head_done c.args.seen.now c.requires.slot c.kind-kind.ensures.begun c.requires.state c.requires.some claimed.range claimed.free
+    head_done c.args.seen.now c.requires.slot c.requires.state c.requires.some claimed.range claimed.free
     c.kind-kind.ensures.kind c.letters-letters.ensures c.block.ensures.block c.in-Ok.ensures.0 c.in-Ok.ensures.1 c.name.ensures fresh _
     c.in-Ok-true.ensures.more c.next.ensures (record {
-      owners = claimed.ok ∙ ap (λ n. set store.owners c.args.b (kept.Head n)) (number c.requires.state.read.tells.headers.count count);
+      owners = claimed.ok ∙ ap (λ n. set store.owners c.args.link.block (kept.Head n)) (number c.requires.state.read.tells.headers.count count);
       headers = pushed;
-      dirs = dirs_more c.args.image.now store.headers c.args.chain.now.parent c.args.b c.requires.state.read.tells.dirs is_dir c.from.ensures;
+      dirs = dirs_more c.args.image.now store.headers c.args.chain.now.parent c.args.link.block c.requires.state.read.tells.dirs is_dir c.from.ensures;
       starts = refl;
       exts = refl;
       datas = refl;
@@ -59,11 +59,11 @@ returns-in-Ok-push-clause-state c =
     number a b = omega arith
 
 pub overflow_cast-node : goal.overflow_cast-node
-overflow_cast-node c = omega (arith, entry_short c.kind-kind.ensures.begun refl c.requires.state, c.len.ensures)
+overflow_cast-node c = omega (arith, entry_short refl c.requires.state, c.len.ensures)
 
 pub overflow_add-node : goal.overflow_add-node
-overflow_add-node c = omega (arith, entry_short c.kind-kind.ensures.begun refl c.requires.state, c.len.ensures)
+overflow_add-node c = omega (arith, entry_short refl c.requires.state, c.len.ensures)
 
 pub claim_named-requires-clause-place : goal.claim_named-requires-clause-place
 claim_named-requires-clause-place c =
-    omega (arith, entry_short c.kind-kind.ensures.begun refl c.requires.state, c.len.ensures)
+    omega (arith, entry_short refl c.requires.state, c.len.ensures)

@@ -8,15 +8,17 @@ use Rattle.adf_check.proofs.datas.read_datas.Goals as goal
 pub returns-then-tables-table-clause-fault : goal.returns-then-tables-table-clause-fault
 returns-then-tables-table-clause-fault c =
     let image = c.args.image.now in
-    let e : c.count_of-count.result ≡ data_count image c.args.head = cc (c.count_of-count.ensures, c.kind.ensures.kind, c.requires.size) in
-    let short : 72 * length c.args.table.now < data_count image c.args.head = omega arith in
-    rw c.fault_at.ensures (too_short c.kind.ensures.begun c.requires.state refl short)
+    let head = c.args.file.now.head in
+    let e : c.count_of-count.result ≡ data_count image head = cc (c.count_of-count.ensures, c.kind.ensures.kind, c.requires.state.holds.size) in
+    let short : 72 * length c.args.table.now < data_count image head = omega arith in
+    rw c.fault_at.ensures (too_short c.requires.state refl short)
 
 pub returns-clause-state : goal.returns-clause-state
 returns-clause-state c =
     let image = c.args.image.now in
-    let e : c.count_of-count.result ≡ data_count image c.args.head = cc (c.count_of-count.ensures, c.kind.ensures.kind, c.requires.size) in
-    let one : suc c.args.node ≡ c.args.node + 1 = omega arith in
+    let file = c.args.file.now in
+    let store = store_value c.loop-m.store in
+    let e : c.count_of-count.result ≡ data_count image file.head = cc (c.count_of-count.ensures, c.kind.ensures.kind, c.requires.state.holds.size) in
+    let one : suc file.node ≡ file.node + 1 = omega arith in
     let last : ℕ = min (72 * c.loop-m.m) c.count_of-count.result in
-    subst (IsAtNode image (store_value c.loop-m.store)) one
-    (datas_end image (store_value c.loop-m.store) c.args.node c.args.head c.args.table.now last c.loop-m.invariant.state (omega arith))
+    subst (IsAtNode image store) one (datas_end image store file c.args.table.now last c.loop-m.invariant.state (omega arith))

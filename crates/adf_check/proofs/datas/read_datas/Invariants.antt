@@ -1,11 +1,9 @@
 use Rattle.std.proofs.Common.{◌*◌, min}
 use Rattle.adf_check.specs.Reading.{IsInDatas}
-use Rattle.adf_check.specs.Progress.{IsFurther}
 use Rattle.adf_check.specs.Store.{store_value}
 use Rattle.adf_check.proofs.datas.read_datas.Given as goal
 
 abbrev pub invariant-loop-m : goal.invariant-loop-m
 invariant-loop-m l = record {
-  state : IsInDatas l.image (store_value l.store) l.fn.node l.head l.table (min (72 * l.m) l.count);
-  fewer : IsFurther l.fn.store l.store;
+  state : IsInDatas l.image (store_value l.store) l.file l.table (min (72 * l.m) l.count);
 }

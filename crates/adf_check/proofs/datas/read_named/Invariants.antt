@@ -1,10 +1,8 @@
 use Rattle.adf_check.specs.Reading.{IsInDatas}
-use Rattle.adf_check.specs.Progress.{IsFurther}
 use Rattle.adf_check.specs.Store.{store_value}
 use Rattle.adf_check.proofs.datas.read_named.Given as goal
 
 abbrev pub invariant-loop-k : goal.invariant-loop-k
 invariant-loop-k l = record {
-  state : IsInDatas l.image (store_value l.store) l.file.node l.file.head l.table l.k;
-  fewer : IsFurther l.fn.store l.store;
+  state : IsInDatas l.image (store_value l.store) l.datas.file l.datas.table.now l.k;
 }

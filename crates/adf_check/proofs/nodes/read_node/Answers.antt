@@ -1,27 +1,22 @@
-use Rattle.std.proofs.Common.{◌∷◌, [], ◌∙◌, ap, arith, subst, sym}
+use Rattle.std.proofs.Common.{◌∙◌, ap, arith}
 use Rattle.std.proofs.lemmas.Grind.{common_steps}
 use Rattle.adf_blocks.specs.HeadBlock.{body_at}
-use Rattle.adf_check.specs.Reading.{IsInExts}
-use Rattle.adf_check.specs.Store.{store_value}
 use Rattle.adf_check.proofs.HeaderBodies.{dir_type, file_words}
 use Rattle.adf_check.proofs.NodeSteps.{directory_begins, file_begins, head_inside}
 use Rattle.adf_check.proofs.nodes.read_node.Goals as goal
 
 pub block-requires : goal.block-requires
 block-requires c =
-    head_inside c.root-root.ensures.begun c.node.view_is c.if-node-eq0.false c.requires.inside c.index.ensures c.requires.state
+    head_inside c.node.view_is c.if-node-eq0.false c.index.ensures c.requires.state
 
 pub read_directory-requires-in-Dir-clause-inside : goal.read_directory-requires-in-Dir-clause-inside
 read_directory-requires-in-Dir-clause-inside c =
-    head_inside c.root-root.ensures.begun c.node.view_is c.if-node-eq0.false c.requires.inside c.index.ensures c.requires.state
+    head_inside c.node.view_is c.if-node-eq0.false c.index.ensures c.requires.state
 
 pub read_directory-requires-in-Dir-clause-state : goal.read_directory-requires-in-Dir-clause-state
 read_directory-requires-in-Dir-clause-state c = grind (arith, common_steps, directory_begins, dir_type)
 
-pub read_file-requires-clause-state : goal.read_file-requires-clause-state
-read_file-requires-clause-state c =
-    let image = c.args.image.now in
-    let b = c.index.result.now.head in
-    let told = file_words image b (c.of.ensures ∙ ap body_at c.block.ensures.block) c.in-File.is in
-    subst (IsInExts image (store_value c.args.store.now) c.args.node b (b ∷ []) b) (sym told.2)
-    (file_begins c.root-root.ensures.begun c.node.view_is c.if-node-eq0.false c.requires.inside c.index.ensures c.requires.state told.0)
+pub read_file-requires : goal.read_file-requires
+read_file-requires c =
+    let told = file_words c.args.image.now c.index.result.now.head (c.of.ensures ∙ ap body_at c.block.ensures.block) c.in-File.is in
+    record { state = file_begins c.node.view_is c.if-node-eq0.false c.index.ensures c.requires.state told.0 _ _ told.1 told.2 }

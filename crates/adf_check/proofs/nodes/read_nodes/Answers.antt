@@ -2,21 +2,25 @@ use Rattle.std.proofs.Common.{◌≡◌, suc, length, subst, sym, refl, arith}
 use Rattle.adf_check.specs.Reading.{IsInNode}
 use Rattle.adf_check.specs.Store.{store_value}
 use Rattle.adf_check.proofs.NodeSteps.{enter_node, all_read}
-use Rattle.adf_check.proofs.NumberBounds.{lists_short}
+use Rattle.adf_check.proofs.NumberBounds.{headers_within, lists_short}
 use Rattle.adf_check.proofs.nodes.read_nodes.Goals as goal
 
 pub enter-requires : goal.enter-requires
 enter-requires c =
-    let short = lists_short c.begun.ensures refl c.loop-node.invariant.state.read in
+    let short = lists_short refl c.loop-node.invariant.read in
     record { exts = omega (arith, short.0); datas = omega (arith, short.1) }
 
-pub read_node-requires-clause-state : goal.read_node-requires-clause-state
-read_node-requires-clause-state c =
-    subst (λ s. IsInNode c.args.image.now s c.loop-node.node) (sym c.in_ok-enter.ensures.entered)
-    (enter_node c.args.image.now (store_value c.loop-node.store) c.loop-node.node c.loop-node.invariant.state)
+pub read_node-requires : goal.read_node-requires
+read_node-requires c = record {
+  state = subst (λ s. IsInNode c.args.image.now s c.loop-node.node) (sym c.in_ok-enter.ensures.entered)
+      (enter_node c.args.image.now (store_value c.loop-node.store) c.loop-node.node (omega arith) c.loop-node.invariant);
+}
 
 pub returns-clause-state : goal.returns-clause-state
 returns-clause-state c =
     let headers = c.loop-node.store.headers.items in
-    let end : c.loop-node.node ≡ suc (length headers) = omega (arith, c.loop-node.invariant.within) in
-    all_read c.args.image.now (store_value c.loop-node.store) c.loop-node.node end c.loop-node.invariant.state
+    let end : c.loop-node.node ≡ suc (length headers) = omega (arith, c.loop-node.invariant.read.within) in
+    all_read c.args.image.now (store_value c.loop-node.store) c.loop-node.node end c.loop-node.invariant
+
+pub loop-node-smaller : goal.loop-node-smaller
+loop-node-smaller c = omega (arith, headers_within refl c.loop-node.invariant.read)

@@ -1,14 +1,11 @@
-use Rattle.std.proofs.Common.{suc, ◌-◌, ◌≤◌, length}
+use Rattle.std.proofs.Common.{suc, ◌-◌}
+use Rattle.adf_blocks.specs.Sizes.{blocks}
 use Rattle.adf_check.specs.Reading.{IsAtNode}
-use Rattle.adf_check.specs.Progress.{left_with_headers}
 use Rattle.adf_check.specs.Store.{store_value}
 use Rattle.adf_check.proofs.nodes.read_nodes.Given as goal
 
 abbrev pub invariant-loop-node : goal.invariant-loop-node
-invariant-loop-node l = record {
-  state : IsAtNode l.image (store_value l.store) l.node;
-  within : l.node ≤ suc (length l.store.headers.items);
-}
+invariant-loop-node l = IsAtNode l.image (store_value l.store) l.node
 
 abbrev pub decreases-loop-node : goal.decreases-loop-node
-decreases-loop-node l = suc (left_with_headers l.store) - l.node
+decreases-loop-node l = suc (blocks l.image) - l.node
