@@ -21,7 +21,6 @@ pub const CALLS: [&str; 14] = [
     "draft_add",
     "owners_new",
     "read_sound_file",
-    "check_walk",
     "check_types",
     "build_and_read",
     "convert_in_memory",
