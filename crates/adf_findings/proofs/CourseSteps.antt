@@ -27,7 +27,7 @@ use Rattle.adf_findings.specs.Forms.{IsContext, Knows, Tells}
 use Rattle.adf_findings.specs.Parts.{role_of}
 use Rattle.adf_findings.specs.Demands.{uppers_in}
 use Rattle.adf_findings.specs.Found.{AreNamed, IsChain, IsKept, IsNextPart, IsTaken, KeepsName, Stands, has_name, is_owned, last_node}
-use Rattle.adf_findings.specs.Courses.{HasReachedPart, HasReachedReference, Holds, IsGoneOn, IsNamed, IsNextReference, IsOutcome, IsSkipped, IsToTake}
+use Rattle.adf_findings.specs.Courses.{HasReachedPart, Holds, IsGoneOn, IsNamed, IsNextReference, IsOutcome, IsSkipped, IsToTake}
 use Rattle.adf_findings.specs.Courses.{course_on, due_below, noted, role_asked}
 use Rattle.adf_findings.proofs.Known.{known_names, knows, own_name}
 use Rattle.adf_findings.proofs.OneSurvey.{gathered}
@@ -162,9 +162,6 @@ module _ {image : List ℕ} {f : Progress} {y : Due} {a i : ℕ} {s : Course} (n
   pub to_skip : {b : ℕ} {g : Progress} {o : Option Part} → b ≡ word_in image a i → AsJudged b g o → o ≡ None
       → IsSkipped image s (reference_at (word_in image a i)) f g
   to_skip {b} {g} {o} e judged is = subst (IsOutcome image s (reference_at (word_in image a i)) f g) is (outcome b g o e judged)
-
-  pub has_next : {b : ℕ} → b ≡ word_in image a i → HasReachedReference image f (reference_at b)
-  has_next {b} e = subst (λ b. HasReachedReference image f (reference_at b)) (sym e) (s, n.holds, is_next)
 
   -- the place behind a part that was skipped
   module _ {g : Progress} (o : IsSkipped image s (reference_at (word_in image a i)) f g) where

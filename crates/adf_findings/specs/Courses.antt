@@ -71,10 +71,6 @@ abbrev pub IsNextReference : List ℕ → Course → Reference → Type 0
 IsNextReference image s x =
     (i : ℕ) × IsNext image s (role_asked s x.due.part) x.holder i × (word_in image x.holder i ≡ x.block) × IsTrueIn image s.walk x.due
 
--- a course has reached a part that is next
-abbrev pub HasReachedReference : List ℕ → Progress → Reference → Type 0
-HasReachedReference image f x = (s : Course) × Holds image f (position_of (role_of x.due.part)) s × IsNextReference image s x
-
 -- the judgement is that of the part, in any course in which it is next
 abbrev pub IsJudged : List ℕ → Progress → Reference → Part → Judgement → Type 0
 IsJudged image f x part j =

@@ -11,7 +11,7 @@ ghost use Rattle.adf_findings.specs.Survey.{Course};
 ghost use Rattle.adf_findings.specs.Parts.{role_of};
 ghost use Rattle.adf_findings.specs.Found.{IsFinished};
 ghost use Rattle.adf_findings.specs.Courses.{HasReached, HasReachedData, HasReachedFile, HasReachedPage, HasReachedPart};
-ghost use Rattle.adf_findings.specs.Courses.{HasReachedNamed, HasReachedReference, HasReachedSlot, Holds, IsGoneOn, IsJudged};
+ghost use Rattle.adf_findings.specs.Courses.{HasReachedNamed, HasReachedSlot, Holds, IsGoneOn, IsJudged};
 ghost use Rattle.adf_findings.specs.Courses.{IsNamed, IsNextReference, IsOutcome, IsPageNamed, KeepsNameBy};
 ghost use Rattle.adf_findings.specs.Courses.{due_below, due_in, end_in, next_in, noted, table_block_in};
 
@@ -130,8 +130,7 @@ fn judge_next(
     progress: &mut Progress,
     reference: &Reference,
 ) -> Result<Option<Part>, NoMemory>
-    requires few { length progress.old.found.nodes.items < 2 ^ 32 }
-    requires next { HasReachedReference image.now progress.old reference.now }
+    requires { length progress.old.found.nodes.items < 2 ^ 32 }
     ensures { IfOk result (λ o. (s : Course)
         → Holds image.now progress.old (position_of (role_of reference.now.due.part)) s
         → IsNextReference image.now s reference.now

@@ -1,10 +1,7 @@
 use Rattle.std.proofs.Common.{◌≡◌, ◌+◌, subst, sym, arith}
 use Rattle.adf_findings.specs.Found.{IsNextPart}
-use Rattle.adf_findings.proofs.CourseSteps.{has_next, skipped_on, taken_next, taken_on, to_skip, to_take}
+use Rattle.adf_findings.proofs.CourseSteps.{skipped_on, taken_next, taken_on, to_skip, to_take}
 use Rattle.adf_findings.proofs.course.go_on.Goals as goal
-
-pub judge_next-requires-clause-next : goal.judge_next-requires-clause-next
-judge_next-requires-clause-next c = has_next c.requires.due.1 c.word.ensures
 
 pub take-requires : goal.take-requires
 take-requires c =
