@@ -111,18 +111,16 @@ fn push_gap(gaps: &mut Vec<Gap>, gap: Gap) -> Result<(), AllocError>
 }
 
 // Appends zeros.
-fn push_zeros(alloc: Global, bytes: &mut Vec<u8>, count: usize) -> Result<(), AllocError>
+fn push_zeros(bytes: &mut Vec<u8>, count: u32) -> Result<(), AllocError>
     ensures { OnOk result (bytes.new.items ≡ bytes.old.items ++ replicate count 0) }
 {
-    let zeros = vec![in alloc; 0u8; count]?;
-    bytes.extend_from_slice(&zeros)
+    bytes.resize(bytes.len() + count as usize, 0)
 }
 
 impl Remains {
     // Appends data block `k`, counted from 0, of a file of `size` bytes: the bytes in its block, or zeros.
     fn add(
         &mut self,
-        alloc: Global,
         image: &Image<'_>,
         size: u32,
         k: u32,
@@ -138,8 +136,7 @@ impl Remains {
         match found {
             Some(b) => self.bytes.extend_from_slice(data_in(image, b, size, k)),
             None => {
-                let held = held_in(image.kind(), size, k + 1);
-                push_zeros(alloc, &mut self.bytes, held as usize)?;
+                push_zeros(&mut self.bytes, held_in(image.kind(), size, k + 1))?;
                 push_gap(&mut self.gaps, gap_at(image, size, k))
             }
         }
@@ -199,7 +196,7 @@ impl<'i> Survey<'i> {
         for k in 0..count_stated(image.kind(), size) {
             let b = image.word(member, FIRST_POINTER - k as usize % POINTERS);
             let found = below(end, self.data_at(image, n, k, b));
-            remains.add(alloc, image, size, k, found)?;
+            remains.add(image, size, k, found)?;
             if (k as usize + 1) % POINTERS == 0 {
                 member = image.word(member, EXTENSION);
             }
