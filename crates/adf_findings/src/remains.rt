@@ -1,6 +1,6 @@
 // What is left of files that may be damaged.
 
-ghost use Rattle.std.specs.Prelude.{◌≡◌, ◌≤◌, ◌<◌, ◌^◌, ◌+◌, ◌++◌, ◌↔◌, ℕ, IfOk, IsOk, IfSome, IsSome, OnOk, replicate};
+ghost use Rattle.std.specs.Prelude.{◌≡◌, ◌≤◌, ◌<◌, ◌^◌, ◌+◌, ◌++◌, ◌↔◌, ℕ, IfOk, IsOk, IfSome, IsSome, OnOk, replicate, slice_index};
 ghost use Rattle.adf_blocks.specs.Sizes.{blocks, count};
 ghost use Rattle.adf_base.specs.Words.{block};
 ghost use Rattle.adf_volume.specs.Image.{kind_of, piece};
@@ -170,23 +170,23 @@ impl<'i> Survey<'i> {
         }
     }
 
-    // What is left of a file with its header at a block, of so many bytes.
+    // What is left of a file, of the data blocks that are found before block `end`.
     fn left_of(
         &self,
         alloc: Global,
         image: &Image<'_>,
         n: Node,
-        head: u32,
         end: u32,
     ) -> Result<Remains, AllocError>
-        ensures bytes { IfOk result (λ r. r.bytes.items
+        ensures bytes { let head = slice_index self.now.nodes n in IfOk result (λ r. r.bytes.items
             ≡ bytes_left image.now (size_stated image.now head) (named_below end image.now self.now n head)
             (blocks_stated image.now head)) }
-        ensures gaps { IfOk result (λ r. r.gaps.items
+        ensures gaps { let head = slice_index self.now.nodes n in IfOk result (λ r. r.gaps.items
             ≡ gaps_left image.now (size_stated image.now head) (named_below end image.now self.now n head)
             (blocks_stated image.now head)) }
-        ensures empty { blocks_stated image.now head ≡ 0 → IsOk result }
+        ensures empty { blocks_stated image.now (slice_index self.now.nodes n) ≡ 0 → IsOk result }
     {
+        let head = number_at(&self.nodes, n.0);
         let mut remains = Remains {
             bytes: Vec::new(alloc),
             gaps: Vec::new(alloc),
@@ -226,8 +226,7 @@ impl<'i> Survey<'i> {
         let Ok(started) = start(self.image) else {
             return Ok(None);
         };
-        let head = number_at(&self.nodes, n.0);
-        match self.left_of(alloc, &started.image, n, head, end) {
+        match self.left_of(alloc, &started.image, n, end) {
             Ok(remains) => Ok(Some(remains)),
             Err(_) => Err(NoMemory),
         }
