@@ -10,7 +10,7 @@ use adf_runs::run_program_on;
 use std::alloc::Global;
 
 /// The names of all calls.
-pub const CALLS: [&str; 14] = [
+pub const CALLS: [&str; 13] = [
     "stamp_text",
     "label_write",
     "comment_write",
