@@ -16,9 +16,10 @@ use Rattle.adf_volume.specs.Walk.Role.{Root}
 use Rattle.adf_volume.proofs.PositionSteps.{with_root}
 use Rattle.adf_findings.specs.declared.part.Part.TheVariants.{Root as RootPart}
 use Rattle.adf_findings.specs.declared.found.Found.{Found}
+use Rattle.adf_findings.specs.declared.progress.Progress.{Progress}
 use Rattle.adf_findings.specs.Survey.{FindingValue, IsCourse, begun}
 use Rattle.adf_findings.specs.Parts.{by_key, key_of}
-use Rattle.adf_findings.specs.Courses.{HasReachedPage}
+use Rattle.adf_findings.specs.Courses.{HasReachedPage, noted}
 use Rattle.adf_volume.specs.declared.owner.Owner.{Owner}
 use Rattle.adf_volume.specs.declared.owner.Owner.TheVariants.{Free, Boot, Root as TheRoot}
 use Rattle.adf_walk.specs.Owners.{owned_count, owner_at}
@@ -115,10 +116,10 @@ module _ (image : List ℕ) (fs : List FindingValue) where
   no_names names name m p s j b valid e f h = absurd (omega arith)
 
   -- the course begins at the first page, whose block the root names
-  begun_at : (f : Found) → IsCourse image (begun image fs) → Stands image f (begun image fs) → blocks image ≤ 1048576
-      → HasReachedPage image f fs 0 (root_of image)
-  begun_at f course st small = grind (arith, common_steps, with_root, no_names)
+  begun_at : (f : Progress) → fs ≡ noted f → IsCourse image (begun image fs) → Stands image f.found (begun image fs) → blocks image ≤ 1048576
+      → HasReachedPage image f 0 (root_of image)
+  begun_at f told course st small = grind (arith, common_steps, with_root, no_names)
 
-  pub on_begun : (f : Found) → IsCourse image (begun image fs) → Stands image f (begun image []) → blocks image ≤ 1048576
-      → HasReachedPage image f fs 0 (root_of image)
-  on_begun f course st small = begun_at f course (stands_but image f f (begun image []) [] fs refl st st.avoided) small
+  pub on_begun : (f : Progress) → fs ≡ noted f → IsCourse image (begun image fs) → Stands image f.found (begun image []) → blocks image ≤ 1048576
+      → HasReachedPage image f 0 (root_of image)
+  on_begun f told course st small = begun_at f told course (stands_but image f.found f.found (begun image []) [] fs refl st st.avoided) small

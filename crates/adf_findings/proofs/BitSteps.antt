@@ -1,6 +1,6 @@
 -- The findings of the bits.
 use Rattle.std.proofs.Common.{Bool, true, false, ◌||◌, not, Option, Some, None, IsTrue, ◌↔◌, ◌≡◌, ℕ, suc, List, [], ◌∷◌, ◌++◌}
-use Rattle.std.proofs.Common.{inl, inr, Result, Ok, Err, IfErr, ap, ◌+◌, ◌-◌, ◌/◌, ◌%◌}
+use Rattle.std.proofs.Common.{inl, inr, ap, ◌+◌, ◌-◌, ◌/◌, ◌%◌}
 use Rattle.std.proofs.Common.{zero, slice_index_or, ◌*◌, ◌<◌, ◌≤◌, refl, sym, subst, ◌∙◌, arith, add-one, IsBitSet}
 use Rattle.std.specs.Ordering.{is_eq}
 use Rattle.std.specs.BTreeMap.{BTreeMap, get}
@@ -19,8 +19,6 @@ use Rattle.adf_findings.specs.declared.found.Found.{Found}
 use Rattle.adf_findings.specs.Survey.{BitsTell, Course, FindingValue, IsCourse, IsUnexcused, IsValidated, finding, is_cache}
 use Rattle.adf_findings.specs.Survey.BitsTell.{agrees, differs, ends}
 use Rattle.adf_findings.specs.declared.part.Finding.{Finding}
-use Rattle.adf_volume.specs.declared.fault.Fault.{Fault}
-use Rattle.adf_findings.specs.Courses.{IsBitStop}
 use Rattle.adf_findings.specs.Parts.{finding_value}
 use Rattle.adf_findings.specs.Forms.{Tells}
 use Rattle.adf_findings.specs.Parts.{by_key, key_of}
@@ -184,23 +182,6 @@ module _ (image : List ℕ) (f : Found) (hs : List FindingValue) (b : ℕ) (c : 
     record { course = told.course; done = told.done; stands = told.stands; told = more s gs told.told ∙ sym same },
     tells_some image s b gs c lo (tells s told.course told.stands) on,
   )
-
-  -- where the comparison ends here, it ends with the bit of this block
-  pub bit_stop : {T : Type 0} (says : List FindingValue → Fault → Type 0) (z : Result T Fault) → b < blocks image → HasReportedOn image f hs b
-      → IfErr z (says (hs ++ finding_value x ∷ [])) → IfErr z (IsBitStop image says)
-  bit_stop says (Ok t) hi h e = tt
-  bit_stop says (Err y) hi (s, gs, told, on) e =
-      let few : b + 1 - 2 ≤ blocks image - 2 = omega arith in
-      inr (
-        s,
-        gs ++ finding None b c ∷ [],
-        b + 1 - 2,
-        told.course,
-        told.done,
-        all_reported image s (b + 1) (gs ++ finding None b c ∷ []) (tells_some image s b gs c lo (tells s told.course told.stands) on),
-        few,
-        subst (λ fs. says fs y) (sym (more s gs told.told)) e,
-      )
 
 -- the bits of blocks that tell nothing are compared
 none_up : (image : List ℕ) (f : Found) (hs : List FindingValue) (n b : ℕ) → 2 ≤ b

@@ -20,28 +20,28 @@ use Rattle.adf_volume.proofs.Roles.{count_own, dir_is_node, dir_up, member_up, t
 use Rattle.adf_findings.specs.declared.part.Part.TheVariants.{Head as HeadPart, Ext as ExtPart, Data as DataPart}
 use Rattle.adf_findings.specs.declared.course.Due.{Due}
 use Rattle.adf_findings.specs.declared.course.FileTable.{FileTable}
-use Rattle.adf_findings.specs.declared.found.Found.{Found}
-use Rattle.adf_findings.specs.Survey.{Course, FindingValue}
+use Rattle.adf_findings.specs.declared.progress.Progress.{Progress}
+use Rattle.adf_findings.specs.Survey.{Course}
 use Rattle.adf_findings.specs.Found.{IsFinished}
 use Rattle.adf_findings.specs.Courses.{HasReached, HasReachedData, HasReachedExt, HasReachedHeader, HasReachedSlot, HasReachedTable}
 use Rattle.adf_findings.specs.Courses.{HasReachedMember, HasReachedNamed}
-use Rattle.adf_findings.specs.Courses.{HasTable, Holds, IsGoneOn, IsNamed, IsTrueIn, due_below, due_in, end_in, next_in, table_block_in}
+use Rattle.adf_findings.specs.Courses.{HasTable, Holds, IsGoneOn, IsNamed, IsTrueIn, due_below, due_in, end_in, next_in, noted, table_block_in}
 use Rattle.adf_findings.specs.Forms.{Tells}
 use Rattle.adf_findings.proofs.CourseSteps.{moved}
 use Rattle.adf_findings.proofs.Members.{member_inside, member_next, member_none}
 use Rattle.adf_findings.proofs.OneSurvey.{gathered}
 
 module _ {image : List ℕ} where
-  module _ {f : Found} {fs : List FindingValue} {s : Course} where
+  module _ {f : Progress} {s : Course} where
     -- what a directory names comes behind the places of a file
-    pub dir_begins : (n b : ℕ) → Holds image f fs (before_node n) s → DirAt image s.walk n b → HasReachedSlot image f fs n 0 b
+    pub dir_begins : (n b : ℕ) → Holds image f (before_node n) s → DirAt image s.walk n b → HasReachedSlot image f n 0 b
     dir_begins n b h d = (s, moved h (omega arith) (enter_dir image (gathered image h.course) n b d h.up_to), d)
 
     -- behind the last node nothing is next
-    pub nodes_end : (n : ℕ) → length f.nodes.items ≤ n → Holds image f fs (before_node n) s → IsFinished image f fs
+    pub nodes_end : (n : ℕ) → length f.found.nodes.items ≤ n → Holds image f (before_node n) s → IsFinished image f.found (noted f)
     nodes_end n le h = (s, h.course, end_nodes image (gathered image h.course) n (let c = h.stands.count in omega arith) h.up_to, h.stands, h.told)
 
-    module _ {n b : ℕ} (h : Holds image f fs (before_node n) s) (lt : n < length f.nodes.items) (at : b ≡ slice_index f.nodes.items n) where
+    module _ {n b : ℕ} (h : Holds image f (before_node n) s) (lt : n < length f.found.nodes.items) (at : b ≡ slice_index f.found.nodes.items n) where
       -- a node that is found has its block
       node_at : NodeAt s.walk n b
       node_at =
@@ -55,16 +55,16 @@ module _ {image : List ℕ} where
       file_there = grind (arith, common_steps, node_at)
 
       pub nothing_there : (n ≡ 0 → ⊥) → word_in image b SECONDARY_TYPE ≢ ST_DIR → word_in image b SECONDARY_TYPE ≢ ST_FILE
-          → HasReached image f fs (before_node (n + 1))
+          → HasReached image f (before_node (n + 1))
       nothing_there other no_dir no_file = rw add-one (grind (arith, common_steps, moved, end_node, gathered, node_at))
 
     -- the extension blocks of a file come first
-    pub exts_begin : (n b : ℕ) → Holds image f fs (before_node n) s → FileAt image s.walk n b → HasReachedExt image f fs n b 0 b
+    pub exts_begin : (n b : ℕ) → Holds image f (before_node n) s → FileAt image s.walk n b → HasReachedExt image f n b 0 b
     exts_begin n b h file = grind (arith, common_steps, moved, enter_file, no_exts, gathered)
 
 -- a chain that is gone through
-module _ {image : List ℕ} {f : Found} {fs : List FindingValue} {p slot j a i b : ℕ} (x : HasReachedHeader image f fs p slot j a i b) where
-  pub header_named : slot < SLOTS → word_in image a i ≢ 0 → IsNamed image f fs (due_below (HeadPart 0 p slot j) b) a i x.course
+module _ {image : List ℕ} {f : Progress} {p slot j a i b : ℕ} (x : HasReachedHeader image f p slot j a i b) where
+  pub header_named : slot < SLOTS → word_in image a i ≢ 0 → IsNamed image f (due_below (HeadPart 0 p slot j) b) a i x.course
   header_named lt ne = record {
     holds = x.holds;
     asked = link_asks image x.course.walk p slot j a i lt x.link ne;
@@ -75,11 +75,11 @@ module _ {image : List ℕ} {f : Found} {fs : List FindingValue} {p slot j a i b
   }
 
   -- behind a header that is taken comes the next of its chain
-  pub header_taken : {g : Found} {gs : List FindingValue} {o : Option ℕ} {c : ℕ} → o ≡ Some c → IsGoneOn image x.course (HeadPart 0 p slot j) a i g gs o
-      → HasReachedHeader image g gs p slot (j + 1) c NEXT_IN_CHAIN b
-  header_taken {g} {gs} {o} {c} e gone =
+  pub header_taken : {g : Progress} {o : Option ℕ} {c : ℕ} → o ≡ Some c → IsGoneOn image x.course (HeadPart 0 p slot j) a i g o
+      → HasReachedHeader image g p slot (j + 1) c NEXT_IN_CHAIN b
+  header_taken {g} {o} {c} e gone =
       let w : Walk = x.course.walk in
-      let on = subst (IsGoneOn image x.course (HeadPart 0 p slot j) a i g gs) e gone in
+      let on = subst (IsGoneOn image x.course (HeadPart 0 p slot j) a i g) e gone in
       rw add-one (record {
         course = _;
         holds = on.holds;
@@ -88,42 +88,42 @@ module _ {image : List ℕ} {f : Found} {fs : List FindingValue} {p slot j a i b
       })
 
   -- behind a header that was skipped its chain ends
-  pub header_skipped : {g : Found} {gs : List FindingValue} {o : Option ℕ} → o ≡ None → IsGoneOn image x.course (HeadPart 0 p slot j) a i g gs o
-      → HasReachedSlot image g gs p (slot + 1) b
-  header_skipped {g} {gs} {o} e gone =
-      let on = subst (IsGoneOn image x.course (HeadPart 0 p slot j) a i g gs) e gone in
+  pub header_skipped : {g : Progress} {o : Option ℕ} → o ≡ None → IsGoneOn image x.course (HeadPart 0 p slot j) a i g o
+      → HasReachedSlot image g p (slot + 1) b
+  header_skipped {g} {o} e gone =
+      let on = subst (IsGoneOn image x.course (HeadPart 0 p slot j) a i g) e gone in
       rw add-one (_, moved on.holds (omega arith) (end_chain image p slot (suc j) on.holds.up_to (chain_broken image x.holds.up_to)), x.dir)
 
   -- a chain ends where its word names no block
-  pub chain_done : word_in image a i ≡ 0 → HasReachedSlot image f fs p (slot + 1) b
+  pub chain_done : word_in image a i ≡ 0 → HasReachedSlot image f p (slot + 1) b
   chain_done e =
       let end = link_ends image x.course.walk (gathered image x.holds.course) p slot j a i x.link e in
       rw add-one (_, moved x.holds (omega arith) (end_chain image p slot j x.holds.up_to end), x.dir)
 
 -- a slot that names no block has no chain
-pub slot_empty : {image : List ℕ} {f : Found} {fs : List FindingValue} (p slot b : ℕ) → HasReachedSlot image f fs p slot b
-    → word_in image b (FIRST_SLOT + slot) ≡ 0 → HasReachedSlot image f fs p (slot + 1) b
+pub slot_empty : {image : List ℕ} {f : Progress} (p slot b : ℕ) → HasReachedSlot image f p slot b
+    → word_in image b (FIRST_SLOT + slot) ≡ 0 → HasReachedSlot image f p (slot + 1) b
 slot_empty p slot b x e = chain_done (record { course = x.0; holds = x.1; dir = x.2; link = (x.2, refl) }) e
 
 -- the extension blocks of a file that are gone through
-module _ {image : List ℕ} {f : Found} {fs : List FindingValue} {n b m a : ℕ} (x : HasReachedExt image f fs n b m a) where
+module _ {image : List ℕ} {f : Progress} {n b m a : ℕ} (x : HasReachedExt image f n b m a) where
   one_more : suc m ≡ m + 1
   one_more = omega arith
 
-  gone_on : {g : Found} {gs : List FindingValue} {o : Option ℕ} (q : Option ℕ) → o ≡ q → IsGoneOn image x.course (ExtPart n (m + 1)) a EXTENSION g gs o
-      → IsGoneOn image x.course (ExtPart n (suc m)) a EXTENSION g gs q
-  gone_on {g} {gs} q e gone = grind (arith, common_steps, one_more)
+  gone_on : {g : Progress} {o : Option ℕ} (q : Option ℕ) → o ≡ q → IsGoneOn image x.course (ExtPart n (m + 1)) a EXTENSION g o
+      → IsGoneOn image x.course (ExtPart n (suc m)) a EXTENSION g q
+  gone_on {g} q e gone = grind (arith, common_steps, one_more)
 
-  pub ext_is_named : word_in image a EXTENSION ≢ 0 → IsNamed image f fs (due_below (ExtPart n (m + 1)) b) a EXTENSION x.course
+  pub ext_is_named : word_in image a EXTENSION ≢ 0 → IsNamed image f (due_below (ExtPart n (m + 1)) b) a EXTENSION x.course
   ext_is_named ne = rw add-one (record {
     holds = x.holds;
     asked = ext_asks image x.course.walk n m a x.member ne;
     said = record { context = sym (head_block image (gathered image x.holds.course) x.file.header); enough = tt };
   })
 
-  pub ext_taken : {g : Found} {gs : List FindingValue} {o : Option ℕ} {c : ℕ} → o ≡ Some c → IsGoneOn image x.course (ExtPart n (m + 1)) a EXTENSION g gs o
-      → HasReachedExt image g gs n b (m + 1) c
-  ext_taken {g} {gs} {o} {c} e gone =
+  pub ext_taken : {g : Progress} {o : Option ℕ} {c : ℕ} → o ≡ Some c → IsGoneOn image x.course (ExtPart n (m + 1)) a EXTENSION g o
+      → HasReachedExt image g n b (m + 1) c
+  ext_taken {g} {o} {c} e gone =
       let on = gone_on (Some c) e gone in
       rw add-one (record {
         course = _;
@@ -134,12 +134,12 @@ module _ {image : List ℕ} {f : Found} {fs : List FindingValue} {n b m a : ℕ}
       })
 
   -- behind an extension block that was skipped come the data blocks
-  pub ext_skipped : {g : Found} {gs : List FindingValue} {o : Option ℕ} → o ≡ None → IsGoneOn image x.course (ExtPart n (m + 1)) a EXTENSION g gs o
-      → HasReachedData image g gs n b m
-  ext_skipped {g} {gs} {o} e gone = grind (arith, common_steps, gone_on, moved, end_exts, exts_broken)
+  pub ext_skipped : {g : Progress} {o : Option ℕ} → o ≡ None → IsGoneOn image x.course (ExtPart n (m + 1)) a EXTENSION g o
+      → HasReachedData image g n b m
+  ext_skipped {g} {o} e gone = grind (arith, common_steps, gone_on, moved, end_exts, exts_broken)
 
   -- and behind the last one
-  pub exts_done : word_in image a EXTENSION ≡ 0 → HasReachedData image f fs n b m
+  pub exts_done : word_in image a EXTENSION ≡ 0 → HasReachedData image f n b m
   exts_done e = record {
     course = x.course;
     holds = moved x.holds (omega arith)
@@ -149,7 +149,7 @@ module _ {image : List ℕ} {f : Found} {fs : List FindingValue} {n b m a : ℕ}
   }
 
 -- what is said of a data block
-module _ {image : List ℕ} {f : Found} {s : Course} {x : FileTable} (h : HasTable image f s x) where
+module _ {image : List ℕ} {f : Progress} {s : Course} {x : FileTable} (h : HasTable image f s x) where
   g : IsGathered image s.walk
   g = gathered image h.course
 
@@ -210,9 +210,9 @@ module _ {image : List ℕ} {f : Found} {s : Course} {x : FileTable} (h : HasTab
     }
 
 -- the data blocks of a file begin with the first of its table
-pub datas_begin : {image : List ℕ} {f : Found} {fs : List FindingValue} {n b exts count : ℕ} → HasReachedData image f fs n b exts
+pub datas_begin : {image : List ℕ} {f : Progress} {n b exts count : ℕ} → HasReachedData image f n b exts
     → count ≡ data_count image b
-    → HasReachedTable image f fs (record { node = n; head = b; count = count; room = POINTERS * (exts + 1) }) 0
+    → HasReachedTable image f (record { node = n; head = b; count = count; room = POINTERS * (exts + 1) }) 0
 datas_begin x e = (
   x.course,
   x.holds,
@@ -220,12 +220,12 @@ datas_begin x e = (
 )
 
 -- the data blocks of a file that are gone through
-module _ {image : List ℕ} {f : Found} {fs : List FindingValue} {x : FileTable} {k : ℕ} (at : HasReachedTable image f fs x k) where
+module _ {image : List ℕ} {f : Progress} {x : FileTable} {k : ℕ} (at : HasReachedTable image f x k) where
   v : IsGathered image at.0.walk
   v = gathered image at.1.course
 
   -- behind the last data block comes the next node
-  pub datas_done : ((j : ℕ) → j < x.count → j < x.room → j < k) → HasReached image f fs (before_node (x.node + 1))
+  pub datas_done : ((j : ℕ) → j < x.count → j < x.room → j < k) → HasReached image f (before_node (x.node + 1))
   datas_done all = rw add-one (at.0, moved at.1 (omega arith) (end_datas image v x.node k x.head at.2.file asked at.1.up_to))
     where
       few : (j m a : ℕ) → j / POINTERS ≡ m → MemberAt image at.0.walk x.node m a → j < x.room
@@ -239,21 +239,21 @@ module _ {image : List ℕ} {f : Found} {fs : List FindingValue} {x : FileTable}
           all j lt (few j (j / POINTERS) a refl h.1)
 
 -- the blocks of a table that are gone through
-module _ {image : List ℕ} {f : Found} {fs : List FindingValue} {x : FileTable} where
-  pub member_first : HasReachedTable image f fs x 0 → HasReachedMember image f fs x 0 x.head 0
+module _ {image : List ℕ} {f : Progress} {x : FileTable} where
+  pub member_first : HasReachedTable image f x 0 → HasReachedMember image f x 0 x.head 0
   member_first at = record { course = at.0; holds = at.1; table = at.2; member = λ lt. at.2.file }
 
-  module _ {m a k : ℕ} (y : HasReachedMember image f fs x m a k) where
-    pub member_named : POINTERS * m < x.room → HasReachedNamed image f fs x m a k
+  module _ {m a k : ℕ} (y : HasReachedMember image f x m a k) where
+    pub member_named : POINTERS * m < x.room → HasReachedNamed image f x m a k
     member_named lt = record { course = y.course; holds = y.holds; table = y.table; member = y.member lt }
 
-    pub member_table : HasReachedTable image f fs x k
+    pub member_table : HasReachedTable image f x k
     member_table = (y.course, y.holds, y.table)
 
 -- the data blocks that one block of a table points to
-module _ {image : List ℕ} {f : Found} {fs : List FindingValue} {x : FileTable} {m a k : ℕ} (y : HasReachedNamed image f fs x m a k) where
+module _ {image : List ℕ} {f : Progress} {x : FileTable} {m a k : ℕ} (y : HasReachedNamed image f x m a k) where
   -- the next block of the table, if it has one more
-  pub member_ends : HasReachedMember image f fs x (suc m) (word_in image a EXTENSION) k
+  pub member_ends : HasReachedMember image f x (suc m) (word_in image a EXTENSION) k
   member_ends = record {
     course = y.course;
     holds = y.holds;
@@ -284,23 +284,23 @@ module _ {image : List ℕ} {f : Found} {fs : List FindingValue} {x : FileTable}
     here : MemberAt image y.course.walk x.node (k / POINTERS) a
     here = subst (λ m. MemberAt image y.course.walk x.node m a) number y.member
 
-    pub due_named : IsNamed image f fs (due_in x k next) a (table_word k) y.course
+    pub due_named : IsNamed image f (due_in x k next) a (table_word k) y.course
     due_named = record {
-      holds = subst (λ j. Holds image f fs (position_of (Data x.node j)) y.course) one y.holds;
+      holds = subst (λ j. Holds image f (position_of (Data x.node j)) y.course) one y.holds;
       asked = subst (λ j. Asks image y.course.walk (Data x.node j) a (table_word k)) one ((x.head, y.table.file, inside), here, refl);
       said = data_said y.table k a here next (nat_lt 0 k || nat_le x.count x.room) told refl;
     }
 
-    pub data_is_named : IsNamed image f fs due a (FIRST_POINTER - (k - POINTERS * m)) y.course
+    pub data_is_named : IsNamed image f due a (FIRST_POINTER - (k - POINTERS * m)) y.course
     data_is_named =
-        subst (λ due. IsNamed image f fs due a (FIRST_POINTER - (k - POINTERS * m)) y.course) (sym is)
-        (subst (λ i. IsNamed image f fs (due_in x k next) a i y.course) word due_named)
+        subst (λ due. IsNamed image f due a (FIRST_POINTER - (k - POINTERS * m)) y.course) (sym is)
+        (subst (λ i. IsNamed image f (due_in x k next) a i y.course) word due_named)
 
-  pub data_gone : {due : Due} {g : Found} {gs : List FindingValue} {o : Option ℕ} {i next : ℕ} → due ≡ due_in x k next
-      → IsGoneOn image y.course due.part a i g gs o → HasReachedNamed image g gs x m a (k + 1)
-  data_gone {due} {g} {gs} {o} {i} {next} e gone = go o (subst (λ due. IsGoneOn image y.course due.part a i g gs o) e gone)
+  pub data_gone : {due : Due} {g : Progress} {o : Option ℕ} {i next : ℕ} → due ≡ due_in x k next
+      → IsGoneOn image y.course due.part a i g o → HasReachedNamed image g x m a (k + 1)
+  data_gone {due} {g} {o} {i} {next} e gone = go o (subst (λ due. IsGoneOn image y.course due.part a i g o) e gone)
     where
-      go : (o : Option ℕ) → IsGoneOn image y.course (DataPart x.node (k + 1)) a i g gs o → HasReachedNamed image g gs x m a (k + 1)
+      go : (o : Option ℕ) → IsGoneOn image y.course (DataPart x.node (k + 1)) a i g o → HasReachedNamed image g x m a (k + 1)
       go None gone = record {
         course = _;
         holds = gone.holds;

@@ -21,13 +21,14 @@ use Rattle.adf_findings.specs.declared.course.Reference.{Reference}
 use Rattle.adf_findings.specs.declared.forms.Context.{Context}
 use Rattle.adf_findings.specs.declared.judge.Facts.{Facts}
 use Rattle.adf_findings.specs.declared.found.Found.{Found}
-use Rattle.adf_findings.specs.Survey.{Course, FindingValue}
+use Rattle.adf_findings.specs.declared.progress.Progress.{Progress}
+use Rattle.adf_findings.specs.Survey.{Course}
 use Rattle.adf_findings.specs.Forms.{IsContext, Knows, Tells}
 use Rattle.adf_findings.specs.Parts.{role_of}
 use Rattle.adf_findings.specs.Demands.{uppers_in}
 use Rattle.adf_findings.specs.Found.{AreNamed, IsChain, IsKept, IsNextPart, IsTaken, KeepsName, Stands, has_name, is_owned, last_node}
-use Rattle.adf_findings.specs.Courses.{HasReachedPart, HasReachedReference, Holds, IsGoneOn, IsNamed, IsNextReference, IsOutcome, IsSkipped, IsToTake}
-use Rattle.adf_findings.specs.Courses.{course_on, due_below, role_asked}
+use Rattle.adf_findings.specs.Courses.{HasReachedPart, Holds, IsGoneOn, IsNamed, IsNextReference, IsOutcome, IsSkipped, IsToTake}
+use Rattle.adf_findings.specs.Courses.{course_on, due_below, noted, role_asked}
 use Rattle.adf_findings.proofs.Known.{known_names, knows, own_name}
 use Rattle.adf_findings.proofs.OneSurvey.{gathered}
 use Rattle.adf_findings.proofs.Taking.{IsNumbered, stands_taken}
@@ -68,8 +69,8 @@ pub role_is : {image : List ℕ} {f : Found} {s : Course} (part z : Part) {m : �
 role_is part z st e is = is ∙ ap (λ m. renumbered m (role_of part)) (e ∙ st.count)
 
 -- a course moves on to a later position that its walk has come to
-pub moved : {image : List ℕ} {f : Found} {fs : List FindingValue} {k l : Position} {s : Course} → Holds image f fs k s → IsNoLater k l
-    → IsUpTo image s.walk s.skipped l → Holds image f fs l s
+pub moved : {image : List ℕ} {f : Progress} {k l : Position} {s : Course} → Holds image f k s → IsNoLater k l
+    → IsUpTo image s.walk s.skipped l → Holds image f l s
 moved {k = k} h le up_to = grind (arith, common_steps, up_to)
 
 -- what is said of a part is so of it with any number
@@ -84,19 +85,19 @@ renumbered_enough image w m (Head n p s j) t h = h
 renumbered_enough image w m _ t h = h
 
 -- a part of which no more than a block is said, by an equation
-module _ {image : List ℕ} {f : Found} {fs : List FindingValue} {y : Due} {part : Part} {up a i : ℕ} {s : Course} (e : y ≡ due_below part up)
-    (n : IsNamed image f fs (due_below part up) a i s) where
-  pub below_named : IsNamed image f fs y a i s
-  below_named = subst (λ y. IsNamed image f fs y a i s) (sym e) n
+module _ {image : List ℕ} {f : Progress} {y : Due} {part : Part} {up a i : ℕ} {s : Course} (e : y ≡ due_below part up)
+    (n : IsNamed image f (due_below part up) a i s) where
+  pub below_named : IsNamed image f y a i s
+  below_named = subst (λ y. IsNamed image f y a i s) (sym e) n
 
-  pub below_reached : HasReachedPart image f fs y a i
+  pub below_reached : HasReachedPart image f y a i
   below_reached = (s, below_named)
 
-  pub below_gone : {g : Found} {gs : List FindingValue} {o : Option ℕ} → ((s : Course) → IsNamed image f fs y a i s → IsGoneOn image s y.part a i g gs o)
-      → IsGoneOn image s part a i g gs o
-  below_gone {g} {gs} {o} gone = subst (λ y. IsGoneOn image s y.part a i g gs o) e (gone s below_named)
+  pub below_gone : {g : Progress} {o : Option ℕ} → ((s : Course) → IsNamed image f y a i s → IsGoneOn image s y.part a i g o)
+      → IsGoneOn image s part a i g o
+  below_gone {g} {o} gone = subst (λ y. IsGoneOn image s y.part a i g o) e (gone s below_named)
 
-module _ {image : List ℕ} {f : Found} {fs : List FindingValue} {y : Due} {a i : ℕ} {s : Course} (n : IsNamed image f fs y a i s) where
+module _ {image : List ℕ} {f : Progress} {y : Due} {a i : ℕ} {s : Course} (n : IsNamed image f y a i s) where
   abbrev part : Part
   part = y.part
 
@@ -128,49 +129,46 @@ module _ {image : List ℕ} {f : Found} {fs : List FindingValue} {y : Due} {a i 
 
   -- what is said of it tells what its demands ask
   pub known : {z : Part} {b : ℕ} (x : Facts) → role_of z ≡ role → x.is_enough ≡ y.is_enough
-      → x.is_absent ≡ not (is_owned f b) → x.context ≡ y.context → Knows image s.walk z b x
+      → x.is_absent ≡ not (is_owned f.found b) → x.context ≡ y.context → Knows image s.walk z b x
   known {z} {b} x is enough absent context =
       let m : ℕ = suc (heads s.walk) in
       let said = renumbered_context image s.walk m (role_of part) y.context n.said.context in
       let tells = renumbered_enough image s.walk m (role_of part) y.is_enough n.said.enough in
-      knows image f s n.holds.stands z b x
+      knows image f.found s n.holds.stands z b x
       (subst (λ r. IsContext image s.walk r x.context) (sym is) (subst (IsContext image s.walk role) (sym context) said))
       (subst (λ r. Tells x.is_enough (Enough image s.walk r)) (sym is) (subst (λ t. Tells t (Enough image s.walk role)) (sym enough) tells))
       absent
 
   -- the names of its chain, for a part with its number
-  pub known_named : (z : Part) → role_of z ≡ role → AreNamed image s.walk (position_of (role_of z)) f.names
-  known_named z is = subst (λ k. AreNamed image s.walk k f.names) (sym (place z is)) n.holds.names
+  pub known_named : (z : Part) → role_of z ≡ role → AreNamed image s.walk (position_of (role_of z)) f.found.names
+  known_named z is = subst (λ k. AreNamed image s.walk k f.found.names) (sym (place z is)) n.holds.names
 
   abbrev reference_at : ℕ → Reference
   reference_at b = record { due = y; holder = a; block = b }
 
   -- what comes of the part in any course in which it is next
-  abbrev AsJudged : ℕ → Found → List FindingValue → Option Part → Type 0
-  AsJudged b g gs o = (t : Course) → Holds image f fs (position_of (role_of part)) t → IsNextReference image t (reference_at b)
-      → IsOutcome image t (reference_at b) f g gs o
+  abbrev AsJudged : ℕ → Progress → Option Part → Type 0
+  AsJudged b g o = (t : Course) → Holds image f (position_of (role_of part)) t → IsNextReference image t (reference_at b)
+      → IsOutcome image t (reference_at b) f g o
 
-  outcome : (b : ℕ) (g : Found) (gs : List FindingValue) (o : Option Part) → b ≡ word_in image a i → AsJudged b g gs o
-      → IsOutcome image s (reference_at (word_in image a i)) f g gs o
-  outcome b g gs o e judged = grind (arith, common_steps, reference_at, is_next)
+  outcome : (b : ℕ) (g : Progress) (o : Option Part) → b ≡ word_in image a i → AsJudged b g o
+      → IsOutcome image s (reference_at (word_in image a i)) f g o
+  outcome b g o e judged = grind (arith, common_steps, reference_at, is_next)
 
-  pub to_take : {b : ℕ} {g : Found} {gs : List FindingValue} {o : Option Part} → b ≡ word_in image a i → AsJudged b g gs o → (z : Part)
-      → o ≡ Some z → IsToTake image s (reference_at (word_in image a i)) f g gs z
-  to_take {b} {g} {gs} {o} e judged z is = subst (IsOutcome image s (reference_at (word_in image a i)) f g gs) is (outcome b g gs o e judged)
+  pub to_take : {b : ℕ} {g : Progress} {o : Option Part} → b ≡ word_in image a i → AsJudged b g o → (z : Part)
+      → o ≡ Some z → IsToTake image s (reference_at (word_in image a i)) f g z
+  to_take {b} {g} {o} e judged z is = subst (IsOutcome image s (reference_at (word_in image a i)) f g) is (outcome b g o e judged)
 
-  pub to_skip : {b : ℕ} {g : Found} {gs : List FindingValue} {o : Option Part} → b ≡ word_in image a i → AsJudged b g gs o → o ≡ None
-      → IsSkipped image s (reference_at (word_in image a i)) f g gs
-  to_skip {b} {g} {gs} {o} e judged is = subst (IsOutcome image s (reference_at (word_in image a i)) f g gs) is (outcome b g gs o e judged)
-
-  pub has_next : {b : ℕ} → b ≡ word_in image a i → HasReachedReference image f fs (reference_at b)
-  has_next {b} e = subst (λ b. HasReachedReference image f fs (reference_at b)) (sym e) (s, n.holds, is_next)
+  pub to_skip : {b : ℕ} {g : Progress} {o : Option Part} → b ≡ word_in image a i → AsJudged b g o → o ≡ None
+      → IsSkipped image s (reference_at (word_in image a i)) f g
+  to_skip {b} {g} {o} e judged is = subst (IsOutcome image s (reference_at (word_in image a i)) f g) is (outcome b g o e judged)
 
   -- the place behind a part that was skipped
-  module _ {g : Found} {gs : List FindingValue} (o : IsSkipped image s (reference_at (word_in image a i)) f g gs) where
+  module _ {g : Progress} (o : IsSkipped image s (reference_at (word_in image a i)) f g) where
     skipped_up_to : IsUpTo image s.walk ((role, word_in image a i) ∷ s.skipped) (behind (role_of part))
     skipped_up_to = grind (arith, common_steps, role, same_behind, same, past_skipped, up_to)
 
-    pub skipped_on : IsGoneOn image s part a i g gs None
+    pub skipped_on : IsGoneOn image s part a i g None
     skipped_on = record {
       holds = record {
         told = refl;
@@ -185,45 +183,48 @@ module _ {image : List ℕ} {f : Found} {fs : List FindingValue} {y : Due} {a i 
     }
 
   -- the place behind a part that is taken
-  module _ {g : Found} {gs : List FindingValue} {taken : Part} (o : IsToTake image s (reference_at (word_in image a i)) f g gs taken) where
+  module _ {g : Progress} {taken : Part} (o : IsToTake image s (reference_at (word_in image a i)) f g taken) where
     abbrev block : ℕ
     block = word_in image a i
 
     pub taken_number : IsNumbered s.walk (role_of taken)
     taken_number = subst (IsNumbered s.walk) (sym o.role) next_number
 
-    pub taken_next : IsNextPart taken block g
+    pub taken_next : IsNextPart taken block g.found
     taken_next =
         let owners = o.stands.owners in
-        let below : block < length g.owners.owners = omega (arith, o.inside, owners.size) in
+        let below : block < length g.found.owners.owners = omega (arith, o.inside, owners.size) in
         let free = free_is owners block o.past_boot o.free in
-        let count = count_more g.owners.owners block (owner_of role) below (part_owns role) free in
-        let most = count_by-le-length is_part (set g.owners.owners block (owner_of role)) in
-        let size = length-set g.owners.owners block (owner_of role) in
+        let count = count_more g.found.owners.owners block (owner_of role) below (part_owns role) free in
+        let most = count_by-le-length is_part (set g.found.owners.owners block (owner_of role)) in
+        let size = length-set g.found.owners.owners block (owner_of role) in
         record {
           from = o.past_boot;
           below = below;
           free = free;
           number = subst (λ r. HasNumber (owner_of r)) (sym o.role) (asked_number image s.walk role a i n.asked);
-          order = subst (λ r. g.owners.node ≤ node_after (owner_of r) g.owners.node) (sym o.role)
+          order = subst (λ r. g.found.owners.node ≤ node_after (owner_of r) g.found.owners.node) (sym o.role)
               (subst (λ m. m ≤ node_after (owner_of role) m) (sym owners.node) (node_in_order s.walk role (λ q b h. (up_to.taken q b h).0)));
           some = omega (arith, count, most, size, o.stands.left, owners.size);
         }
 
-    module _ {h : Found} (t : IsTaken taken block g h) where
+    module _ {h : Found} (t : IsTaken taken block g.found h) where
+      abbrev later : Progress
+      later = record { found = h; findings = g.findings }
+
       abbrev now : Course
-      now = course_on s role block (Some block) gs
+      now = course_on s role block (Some block) later
 
       taken_stands : Stands image h now
       taken_stands =
-          subst (λ r. Stands image h (record { walk = (r, block) ∷ s.walk; skipped = s.skipped; findings = gs })) o.role
-          (stands_taken image g h (record { walk = s.walk; skipped = s.skipped; findings = gs }) block o.stands taken taken_number o.past_boot
+          subst (λ r. Stands image h (record { walk = (r, block) ∷ s.walk; skipped = s.skipped; findings = noted g })) o.role
+          (stands_taken image g.found h (record { walk = s.walk; skipped = s.skipped; findings = noted g }) block o.stands taken taken_number o.past_boot
           o.inside o.free t)
 
       taken_up_to : IsUpTo image ((role, block) ∷ s.walk) s.skipped (behind (role_of part))
       taken_up_to = grind (arith, common_steps, role, block, same_behind, same, past_taken, up_to, v)
 
-      same_names : (taken : Part) → IsKept taken block g h → h.names ≡ g.names
+      same_names : (taken : Part) → IsKept taken block g.found h → h.names ≡ g.found.names
       same_names (HeadPart m p t j) kept = kept.names
       same_names _ kept = kept.names
 
@@ -231,20 +232,20 @@ module _ {image : List ℕ} {f : Found} {fs : List FindingValue} {y : Due} {a i 
       taken_names = subst (AreNamed image now.walk (behind (role_of part))) (sym (same_names taken t.kept))
           (go taken o.role (known_named taken o.role) (known_chain taken o.role) o.names)
         where
-          go : (taken : Part) → role_of taken ≡ role → AreNamed image s.walk (position_of (role_of taken)) f.names → IsChain s.walk taken
-              → KeepsName image taken block f.names g.names → AreNamed image now.walk (behind (role_of part)) g.names
+          go : (taken : Part) → role_of taken ≡ role → AreNamed image s.walk (position_of (role_of taken)) f.found.names → IsChain s.walk taken
+              → KeepsName image taken block f.found.names g.found.names → AreNamed image now.walk (behind (role_of part)) g.found.names
           go (HeadPart m p t j) is named chain kept = λ name c u v k b valid e d here.
               let place = same in
               let up : p ≡ u = (let x : suc p ≡ first role = ap first is in omega arith) in
               let slot : t ≡ v = (let x : suc (suc t) ≡ second role = ap second is in omega arith) in
               let upper = uppers_in image name in
-              let here : has g.names upper ≡ has_name image ((Head m p t j, block) ∷ s.walk) p t upper =
+              let here : has g.found.names upper ≡ has_name image ((Head m p t j, block) ∷ s.walk) p t upper =
               kept name valid
-              ∙ (λ y. sym (own_name image m p t j block upper) y || known_names image s.walk m p t j f.names named chain name valid y) in
+              ∙ (λ y. sym (own_name image m p t j block upper) y || known_names image s.walk m p t j f.found.names named chain name valid y) in
               here ∙ (λ y. has_name image ((is y, block) ∷ s.walk) (up y) (slot y) upper)
           go _ is named chain kept = λ name c u v k b valid e d here. absurd (let place = same in let x = ap second is in omega arith)
 
-      pub taken_on : IsGoneOn image s part a i h gs (Some block)
+      pub taken_on : IsGoneOn image s part a i later (Some block)
       taken_on = record {
         holds = record { told = refl; course = o.course; stands = taken_stands; up_to = taken_up_to; names = taken_names; small = n.holds.small };
         block = refl;

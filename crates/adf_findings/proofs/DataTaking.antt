@@ -1,6 +1,6 @@
 -- The data blocks of an FFS file that are taken as they are.
 -- Letters: x the table of the file; k the number of the data block, b its block; a, m the block of the table that points to it,
--- and its number; f, g states.
+-- and its number; f the progress of a survey.
 use Rattle.std.specs.Prelude.{Bool, true, false, not, nat_le, nat_lt, ◌&&◌, ◌||◌}
 use Rattle.std.proofs.Common.{◌≡◌, ℕ, List, ◌+◌, ◌-◌, ◌*◌, ◌<◌, ◌≤◌, length, refl, sym, subst, ap, ◌∙◌, arith}
 use Rattle.std.proofs.lemmas.Bool.{and_parts, le-leb, lt-ltb}
@@ -18,9 +18,9 @@ use Rattle.adf_findings.specs.declared.part.Part.TheVariants.{Data as DataPart}
 use Rattle.adf_findings.specs.declared.course.FileTable.{FileTable}
 use Rattle.adf_findings.specs.declared.course.Reference.{Reference}
 use Rattle.adf_findings.specs.declared.found.Found.{Found}
+use Rattle.adf_findings.specs.declared.progress.Progress.{Progress}
 use Rattle.adf_findings.specs.declared.judge.Facts.{Facts}
 use Rattle.adf_findings.specs.declared.judge.Judgement.TheVariants.{Clean}
-use Rattle.adf_findings.specs.Survey.{FindingValue}
 use Rattle.adf_findings.specs.Survey.JudgementValue.{clean}
 use Rattle.adf_findings.specs.Courses.{HasReachedNamed, IsNamed, IsToTake, due_in, end_in}
 use Rattle.adf_findings.specs.Forms.{data_clauses, first_of_five, in_range, judged_by}
@@ -36,13 +36,13 @@ no_cause : {kind : Kind} {e r t : Bool} (a b h k n next : ℕ) (bytes : List ℕ
 no_cause a b h k n next bytes kept is enough ranges absent =
     sym (λ i. judged_by (first_of_five a b (enough i) (ranges i) (absent i) (first_cause (data_clauses (is i) h k n next bytes)) true) kept)
 
-module _ {image : List ℕ} {f : Found} {fs : List FindingValue} {x : FileTable} {m a k b : ℕ} (y : HasReachedNamed image f fs x m a k)
+module _ {image : List ℕ} {f : Progress} {x : FileTable} {m a k b : ℕ} (y : HasReachedNamed image f x m a k)
     (ffs : kind_of image ≡ Ffs) (from : POINTERS * m ≤ k) (to : k < end_in x (m + 1)) (named : b ≡ word_in image a (FIRST_POINTER - (k - POINTERS * m)))
-    (whole : x.count ≤ x.room) (lo : 2 ≤ b) (hi : b < length f.owners.owners) (free : owner_at f.owners.owners b ≡ Free) where
-  tests : ((nat_lt 0 k || nat_le x.count x.room) && (in_range image b && not (is_owned f b))) ≡ true
+    (whole : x.count ≤ x.room) (lo : 2 ≤ b) (hi : b < length f.found.owners.owners) (free : owner_at f.found.owners.owners b ≡ Free) where
+  tests : ((nat_lt 0 k || nat_le x.count x.room) && (in_range image b && not (is_owned f.found b))) ≡ true
   tests =
       let inside : b < blocks image = subst (λ n. b < n) y.holds.stands.owners.size hi in
-      let absent : is_owned f b ≡ false = ap is_part free in
+      let absent : is_owned f.found b ≡ false = ap is_part free in
       let enough : nat_le x.count x.room ≡ true = le-leb x.count x.room whole in
       let over : nat_le 2 b ≡ true = le-leb 2 b lo in
       let below : nat_lt b (blocks image) ≡ true = lt-ltb b (blocks image) inside in
@@ -57,36 +57,35 @@ module _ {image : List ℕ} {f : Found} {fs : List FindingValue} {x : FileTable}
   abbrev part : Part
   part = DataPart x.node (k + 1)
 
-  is_named : IsNamed image f fs (due_in x k 0) a i y.course
+  is_named : IsNamed image f (due_in x k 0) a i y.course
   is_named = data_is_named y from to refl (λ ofs. absurd (let e : Ffs ≡ Ofs = sym ffs ∙ ofs in cc))
 
   abbrev facts : Facts
   facts = record {
     is_enough = nat_lt 0 k || nat_le x.count x.room;
-    is_absent = not (is_owned f c);
+    is_absent = not (is_owned f.found c);
     context = record { up = x.head; next = 0 };
   }
 
   abbrev reference : Reference
   reference = record { due = due_in x k 0; holder = a; block = c }
 
-  parts : ((nat_lt 0 k || nat_le x.count x.room) ≡ true) × (in_range image c ≡ true) × (not (is_owned f c) ≡ true)
+  parts : ((nat_lt 0 k || nat_le x.count x.room) ≡ true) × (in_range image c ≡ true) × (not (is_owned f.found c) ≡ true)
   parts =
-      let t = subst (λ b. ((nat_lt 0 k || nat_le x.count x.room) && (in_range image b && not (is_owned f b))) ≡ true) named tests in
-      let p = and_parts (nat_lt 0 k || nat_le x.count x.room) (in_range image c && not (is_owned f c)) t in
-      let q = and_parts (in_range image c) (not (is_owned f c)) p.1 in
+      let t = subst (λ b. ((nat_lt 0 k || nat_le x.count x.room) && (in_range image b && not (is_owned f.found b))) ≡ true) named tests in
+      let p = and_parts (nat_lt 0 k || nat_le x.count x.room) (in_range image c && not (is_owned f.found c)) t in
+      let q = and_parts (in_range image c) (not (is_owned f.found c)) p.1 in
       (p.0, q.0, q.1)
 
-  to_take : IsToTake image y.course reference f f fs part
+  to_take : IsToTake image y.course reference f f part
   to_take =
-      let told = judged_named image f fs reference part facts refl refl refl true (no_cause _ _ _ _ _ _ _ _ ffs parts.0 parts.1 parts.2)
+      let told = judged_named image f reference part facts refl refl refl true (no_cause _ _ _ _ _ _ _ _ ffs parts.0 parts.1 parts.2)
       (λ w names chain valid. refl) Clean refl in
       let next = is_next is_named in
-      clean_outcome reference y.holds.course y.holds.stands next part refl Clean (told y.course is_named.holds next refl) refl refl refl
-      fs (sym y.holds.told)
+      clean_outcome reference y.holds.course y.holds.stands y.holds.told next part refl Clean (told y.course is_named.holds next refl) refl refl refl
 
-  pub data_next : IsNextPart part b f
-  data_next = subst (λ b. IsNextPart part b f) (sym named) (taken_next is_named to_take)
+  pub data_next : IsNextPart part b f.found
+  data_next = subst (λ b. IsNextPart part b f.found) (sym named) (taken_next is_named to_take)
 
-  pub data_taken : {g : Found} → IsTaken part b f g → HasReachedNamed image g fs x m a (k + 1)
-  data_taken {g} t = data_gone y {next = 0} refl (taken_on is_named to_take (subst (λ b. IsTaken part b f g) named t))
+  pub data_taken : {g : Found} → IsTaken part b f.found g → HasReachedNamed image (record { found = g; findings = f.findings }) x m a (k + 1)
+  data_taken {g} t = data_gone y {next = 0} refl (taken_on is_named to_take (subst (λ b. IsTaken part b f.found g) named t))

@@ -1,6 +1,6 @@
 -- The first finding of a survey behind that of its type, and surveys with no other.
 -- Letters: past the findings of the type; over the parts skipped; rest the findings behind them.
-use Rattle.std.proofs.Common.{false, ◌≡◌, ℕ, zero, suc, List, [], ◌∷◌, ◌⊎◌, ◌++◌, inl, inr, ◌+◌, ◌-◌, ◌/◌, ◌<◌, ◌≤◌, refl, sym, subst, ap, ◌∙◌, append-nil, append_assoc, None, Some, arith}
+use Rattle.std.proofs.Common.{false, ◌≡◌, ℕ, suc, List, [], ◌∷◌, ◌⊎◌, ◌++◌, inl, inr, ◌+◌, ◌-◌, ◌/◌, ◌<◌, ◌≤◌, refl, sym, subst, ap, ◌∙◌, append-nil, append_assoc, None, Some, arith}
 use Rattle.std.proofs.lemmas.Bool.Decides.{nat_tests}
 use Rattle.std.proofs.lemmas.Bool.{eqb-true}
 use Rattle.std.proofs.lemmas.List.{append_cancel_left}
@@ -128,29 +128,6 @@ module _ (image : List ℕ) (letters : Letters) where
       cases [] h = (k.0, k.1, whole w over gs k.2 d, h)
       cases (f ∷ fs) h = at_bitmap k.0 w k.1 (whole w over gs k.2 d) h
 
-  -- the first of n bits that disagrees is the first of more bits
-  of_more : (w : Walk) (b n m at : ℕ) (c : Cause) → n ≤ m → FirstFails (bitmap_demands image w b n) at c
-      → FirstFails (bitmap_demands image w b m) at c
-  of_more w b zero m at c le h = absurd h
-  of_more w b (suc n) zero at c le h = absurd (omega arith)
-  of_more w b (suc n) (suc m) at c le (inl h) = inl h
-  of_more w b (suc n) (suc m) at c le (inr (x, inl h)) = inr (x, inl h)
-  of_more w b (suc n) (suc m) at c le (inr (x, inr (y, h))) = inr (x, inr (y, of_more w (suc b) n m at c (omega arith) h))
-
-  -- the only finding of a course that is done and of the bits of n blocks is the first fault
-  first_of_bits : (w over : Walk) (fs gs bits : List FindingValue) (n : ℕ) (x : FindingValue) → Known w over fs
-      → IsDone image (record { walk = w; skipped = over; findings = gs })
-      → BitsTell image (record { walk = w; skipped = over; findings = gs }) 2 n bits → n ≤ blocks image - 2 → fs ++ bits ≡ x ∷ []
-      → FirstFaultBy letters image x.block x.cause
-  first_of_bits w over (f ∷ fs) gs bits n x k d t few e =
-      let same : f ≡ x = cc in subst (λ y. FirstFaultBy letters image y.block y.cause) same k
-  first_of_bits w over [] gs bits n x k d t few e =
-      let wh = whole w over gs k.2 d in
-      let h : FirstFails (bitmap_demands image w 2 n) x.block x.cause =
-      subst (Told w 2 n) e
-      (told t (λ b lo hi. compared w over gs k.2 wh k.0 (validated k.0) b lo (omega arith))) in
-      at_bitmap k.0 w k.1 wh (of_more w 2 n (blocks image - 2) x.block x.cause few h)
-
   module _ (past : List FindingValue) (begins : Reads image letters past) where
     -- then the letters are those of the image
     plain : (w : Walk) (r : Role) (a b : ℕ) (j : JudgementValue) → IsBegunBy letters image → Judged r (demands_in image w r a b) j
@@ -203,7 +180,7 @@ module _ (image : List ℕ) (letters : Letters) where
     more s r b (reported at c) rest e = joins s.findings (finding (Some r) at c) rest e
     more s r b (skipped at c) rest e = joins s.findings (finding (Some r) at c) rest e
 
-    pub known : {s : Course} → IsCourse image s → Past (Known s.walk s.skipped) s.findings
+    known : {s : Course} → IsCourse image s → Past (Known s.walk s.skipped) s.findings
     known (start b t) = started b t
     known (step {s = s} {r = r} {a = a} {i = i} j v n h) =
         let (rest, e, k) = known v in (
@@ -218,13 +195,6 @@ module _ (image : List ℕ) (letters : Letters) where
         same_parts s rest r b clean k = k
         same_parts s rest r b (reported at c) k = k
         same_parts s rest r b (skipped at c) k = k
-
-    pub first_bit : (s : Course) (bits : List FindingValue) (n : ℕ) (x : FindingValue) → IsCourse image s → IsDone image s
-        → BitsTell image s 2 n bits → n ≤ blocks image - 2 → s.findings ++ bits ≡ past ++ x ∷ [] → FirstFaultBy letters image x.block x.cause
-    first_bit s bits n x v d t few e =
-        let (rest, is, k) = known v in
-        let same : past ++ (rest ++ bits) ≡ past ++ x ∷ [] = sym (append_assoc past rest bits) ∙ ap (λ l. l ++ bits) (sym is) ∙ e in
-        first_of_bits s.walk s.skipped rest s.findings bits n x k d t few (append_cancel_left past _ _ same)
 
     pub shown : {w : Walk} {fs : List FindingValue} → IsSurvey image w fs → Past (Shows w) fs
     shown (unread (bad_boot {at = at} {c = c} h e)) =

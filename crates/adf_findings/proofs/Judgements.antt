@@ -9,8 +9,8 @@ use Rattle.adf_findings.specs.declared.part.Part.{Part}
 use Rattle.adf_findings.specs.declared.course.Reference.{Reference}
 use Rattle.adf_findings.specs.declared.judge.Facts.{Facts}
 use Rattle.adf_findings.specs.declared.judge.Judgement.{Judgement}
-use Rattle.adf_findings.specs.declared.found.Found.{Found}
-use Rattle.adf_findings.specs.Survey.{Course, FindingValue, Judged, JudgementValue}
+use Rattle.adf_findings.specs.declared.progress.Progress.{Progress}
+use Rattle.adf_findings.specs.Survey.{Course, Judged, JudgementValue}
 use Rattle.adf_findings.specs.Survey.JudgementValue.{clean, reported}
 use Rattle.adf_findings.specs.Forms.{first_failing, form_of, in_range, itself_by, judged_by, judgement_value, keeps}
 use Rattle.adf_findings.specs.Found.{AreNamed, HasValidName, IsChain, is_owned, new_in}
@@ -20,21 +20,21 @@ use Rattle.adf_findings.proofs.CourseSteps.{known, known_chain, known_named}
 use Rattle.adf_findings.proofs.JudgementTests.{itself_whole, judged, name_cause, no_cause, other_cause, valid_name}
 use Rattle.adf_findings.proofs.Known.{new_is}
 
-module _ (image : List ℕ) (f : Found) (fs : List FindingValue) (x : Reference) (part : Part) (facts : Facts) where
+module _ (image : List ℕ) (f : Progress) (x : Reference) (part : Part) (facts : Facts) where
   -- the judgement by all but the name, and by a name that is new or not
   abbrev by_name : Bool → JudgementValue
   by_name new = judged_by (first_failing image part x.holder x.block facts new) (keeps image part x.block facts)
 
-  module _ (enough : facts.is_enough ≡ x.due.is_enough) (absent : facts.is_absent ≡ not (is_owned f x.block))
+  module _ (enough : facts.is_enough ≡ x.due.is_enough) (absent : facts.is_absent ≡ not (is_owned f.found x.block))
       (context : facts.context ≡ x.due.context) where
-    judged_in : (s : Course) → Holds image f fs (position_of (role_of x.due.part)) s → IsNextReference image s x → role_of part ≡ role_asked s x.due.part
+    judged_in : (s : Course) → Holds image f (position_of (role_of x.due.part)) s → IsNextReference image s x → role_of part ≡ role_asked s x.due.part
         → Judged (role_of part) (demands_in image s.walk (role_of part) x.holder x.block) (by_name (new_in image s.walk part x.block))
     judged_in s h n is =
         judged image s.walk part x.holder x.block facts (new_in image s.walk part x.block)
-        (known (record { holds = h; asked = n.1.asked; said = n.3 }) facts is enough absent context) (new_is image f s h.stands part x.block)
+        (known (record { holds = h; asked = n.1.asked; said = n.3 }) facts is enough absent context) (new_is image f.found s h.stands part x.block)
 
     -- another cause than that of the name
-    pub judged_else : (j : Judgement) → judgement_value j ≡ by_name true → (judgement_value j ≡ clean → ⊥) → IsJudged image f fs x part j
+    pub judged_else : (j : Judgement) → judgement_value j ≡ by_name true → (judgement_value j ≡ clean → ⊥) → IsJudged image f x part j
     judged_else j e some = λ s h n is.
         let form = form_of image part x.block facts.context in
         subst (Judged (role_of part) (demands_in image s.walk (role_of part) x.holder x.block))
@@ -44,12 +44,12 @@ module _ (image : List ℕ) (f : Found) (fs : List FindingValue) (x : Reference)
 
     -- no other cause
     pub judged_named : (new : Bool) → clean ≡ by_name true
-        → ((w : Walk) → AreNamed image w (position_of (role_of part)) f.names → IsChain w part → HasValidName image part x.block
+        → ((w : Walk) → AreNamed image w (position_of (role_of part)) f.found.names → IsChain w part → HasValidName image part x.block
         → new ≡ new_in image w part x.block)
-        → (j : Judgement) → cond new clean (reported x.block SameName) ≡ judgement_value j → IsJudged image f fs x part j
+        → (j : Judgement) → cond new clean (reported x.block SameName) ≡ judgement_value j → IsJudged image f x part j
     judged_named new e tells j is_j = λ s h n is.
         let form = form_of image part x.block facts.context in
-        let named : IsNamed image f fs x.due x.holder n.0 s = record { holds = h; asked = n.1.asked; said = n.3 } in
+        let named : IsNamed image f x.due x.holder n.0 s = record { holds = h; asked = n.1.asked; said = n.3 } in
         let valid = valid_name image part x.block facts.context
         (no_cause x.holder x.block facts.is_enough (in_range image x.block) facts.is_absent (keeps image part x.block facts)
         (first_cause form) (sym e)) in

@@ -44,7 +44,6 @@ pub mod Begun
 pub mod BitSteps
 pub mod BitsStated
 -- what ends a walk at its first finding
-pub mod Stops
 pub mod FoundPages
 pub mod SoundMarks
 -- each survey has marks

@@ -11,26 +11,26 @@ use Rattle.adf_volume.proofs.MemberFacts.{names_up}
 use Rattle.adf_volume.proofs.Pointers.{behind_map_ext, behind_page, map_ext_asks, map_ext_next, names_first, next_holder}
 use Rattle.adf_volume.proofs.PositionSteps.{end_map, map_broken}
 use Rattle.adf_findings.specs.declared.part.Part.TheVariants.{Page as PagePart, MapExt as MapExtPart}
-use Rattle.adf_findings.specs.declared.found.Found.{Found}
-use Rattle.adf_findings.specs.Survey.{Course, FindingValue}
+use Rattle.adf_findings.specs.declared.progress.Progress.{Progress}
+use Rattle.adf_findings.specs.Survey.{Course}
 use Rattle.adf_findings.specs.Courses.{HasReachedPage, Holds, IsGoneOn, IsNamed, IsPageNamed, due_below}
 use Rattle.adf_findings.proofs.CourseSteps.{moved}
 
 -- a position that is the same
-same_place : {image : List ℕ} {f : Found} {fs : List FindingValue} {s : Course} {k l : Position} → k ≡ l → Holds image f fs k s → Holds image f fs l s
-same_place {image} {f} {fs} {s} e h = subst (λ k. Holds image f fs k s) e h
+same_place : {image : List ℕ} {f : Progress} {s : Course} {k l : Position} → k ≡ l → Holds image f k s → Holds image f l s
+same_place {image} {f} {s} e h = subst (λ k. Holds image f k s) e h
 
-module _ (image : List ℕ) (f : Found) {fs : List FindingValue} (s : Course) (page : ℕ) where
+module _ (image : List ℕ) (f : Progress) (s : Course) (page : ℕ) where
   -- the bitmap extension block before a page is named
   pub map_ext_named : (a : ℕ) → page < pages_needed (blocks image) → ROOT_PAGES ≤ page → (page - ROOT_PAGES) % MAP_EXT_PAGES ≡ 0
-      → Holds image f fs (before_page page) s → IsPageHolder image s.walk page a
-      → IsNamed image f fs (due_below (MapExtPart ((page - ROOT_PAGES) / MAP_EXT_PAGES)) a) a (word_of_map_ext page) s
+      → Holds image f (before_page page) s → IsPageHolder image s.walk page a
+      → IsNamed image f (due_below (MapExtPart ((page - ROOT_PAGES) / MAP_EXT_PAGES)) a) a (word_of_map_ext page) s
   map_ext_named a lt le due h holder = grind (arith, common_steps, same_place, map_ext_next, map_ext_asks)
 
   -- behind a bitmap extension block come the pages that it names, or where it was skipped the nodes
-  pub map_ext_on : (a i : ℕ) (g : Found) {gs : List FindingValue} (o : Option ℕ) → ROOT_PAGES ≤ page → (page - ROOT_PAGES) % MAP_EXT_PAGES ≡ 0
-      → Holds image f fs (position_of (MapExt ((page - ROOT_PAGES) / MAP_EXT_PAGES))) s
-      → IsGoneOn image s (MapExtPart ((page - ROOT_PAGES) / MAP_EXT_PAGES)) a i g gs o → IsPageNamed image g gs page o
+  pub map_ext_on : (a i : ℕ) (g : Progress) (o : Option ℕ) → ROOT_PAGES ≤ page → (page - ROOT_PAGES) % MAP_EXT_PAGES ≡ 0
+      → Holds image f (position_of (MapExt ((page - ROOT_PAGES) / MAP_EXT_PAGES))) s
+      → IsGoneOn image s (MapExtPart ((page - ROOT_PAGES) / MAP_EXT_PAGES)) a i g o → IsPageNamed image g page o
   map_ext_on a i g (Some c) le due h o = (
     _,
     same_place (behind_map_ext page le due) o.holds,
@@ -38,15 +38,15 @@ module _ (image : List ℕ) (f : Found) {fs : List FindingValue} (s : Course) (p
   )
   map_ext_on a i g None le due h o = grind (arith, common_steps, moved, end_map, map_broken)
 
-  pub page_named : (a i : ℕ) → i ≡ word_of_page page → page < pages_needed (blocks image) → Holds image f fs (position_of (Page page)) s
-      → NamesPage image s.walk page a (word_of_page page) → IsNamed image f fs (due_below (PagePart page) a) a i s
+  pub page_named : (a i : ℕ) → i ≡ word_of_page page → page < pages_needed (blocks image) → Holds image f (position_of (Page page)) s
+      → NamesPage image s.walk page a (word_of_page page) → IsNamed image f (due_below (PagePart page) a) a i s
   page_named a i e lt h names =
-      subst (λ i. IsNamed image f fs (due_below (PagePart page) a) a i s) (sym e)
+      subst (λ i. IsNamed image f (due_below (PagePart page) a) a i s) (sym e)
       (record { holds = h; asked = (lt, names); said = record { context = tt; enough = tt } })
 
-module _ (image : List ℕ) (f : Found) (s : Course) (page : ℕ) where
+module _ (image : List ℕ) (f : Progress) (s : Course) (page : ℕ) where
   -- behind a page comes the next
-  pub page_on : (a i : ℕ) (g : Found) {gs : List FindingValue} (o : Option ℕ) → NamesPage image s.walk page a i → IsGoneOn image s (PagePart page) a i g gs o
-      → HasReachedPage image g gs (page + 1) a
+  pub page_on : (a i : ℕ) (g : Progress) (o : Option ℕ) → NamesPage image s.walk page a i → IsGoneOn image s (PagePart page) a i g o
+      → HasReachedPage image g (page + 1) a
   page_on a i g None names gone = (_, same_place (behind_page page) gone.holds, next_holder image s.walk page a i names)
   page_on a i g (Some c) names gone = grind (arith, common_steps, same_place, behind_page, next_holder, names_up)

@@ -1,20 +1,16 @@
 -- As many blocks have parts as their owners as the walk of a course has members.
 -- Letters: w a walk; r a role; b its block; o, p owners of blocks.
-use Rattle.std.proofs.Common.{◌≡◌, ℕ, List, [], ◌∷◌, ◌+◌, ◌-◌, ◌<◌, ◌≤◌, length, set, replicate, refl, sym, ap, ◌∙◌, arith}
+use Rattle.std.proofs.Common.{◌≡◌, ℕ, List, [], ◌∷◌, ◌-◌, ◌<◌, ◌≤◌, length, set, replicate, refl, arith}
 use Rattle.std.proofs.lemmas.List.Sums.{count_by-le-length}
 use Rattle.adf_blocks.specs.Sizes.{blocks}
-use Rattle.adf_volume.specs.declared.owner.Owner.{Owner}
 use Rattle.adf_volume.specs.declared.owner.Owner.TheVariants.{Boot, Free}
 use Rattle.adf_volume.specs.Image.{letters_of, root_of, word_in}
 use Rattle.adf_volume.specs.LayoutRoles.{owner_of}
-use Rattle.adf_volume.specs.Lists.{At}
 use Rattle.adf_volume.specs.Walk.{Has, Role, Walk}
 use Rattle.adf_volume.specs.Walk.Role.{Root}
-use Rattle.adf_volume.proofs.Lists.{at_index_or}
 use Rattle.adf_volume.proofs.PartDemands.{part_holds_by}
 use Rattle.adf_volume.proofs.Sizes.{size_low}
-use Rattle.adf_volume.proofs.WalkCounts.{same_count}
-use Rattle.adf_walk.specs.Owners.{is_part, owned_count, owner_at}
+use Rattle.adf_walk.specs.Owners.{is_part, owned_count}
 use Rattle.adf_findings.specs.WalkOwners.{OwnersValue, node_after}
 use Rattle.adf_findings.specs.Found.{AreOwned}
 use Rattle.adf_findings.specs.Survey.{Course, IsCourse}
@@ -63,12 +59,3 @@ walk_owned image (step (skipped at c) v d g) = walk_owned image v
 pub few_parts : (image : List ℕ) {s : Course} → IsCourse image s → length s.walk ≤ blocks image
 few_parts image v =
     let o = walk_owned image v in omega (arith, o.many, o.owned.size, count_by-le-length is_part o.owners.owners)
-
--- the owners that are kept are these
-pub parts_owned : (image : List ℕ) (o : OwnersValue) {s : Course} → IsCourse image s → AreOwned (blocks image) o s.walk
-    → owned_count o.owners ≡ length s.walk
-parts_owned image o {s} v kept =
-    let p = walk_owned image v in
-    same_count is_part is_part o.owners p.owners.owners (kept.size ∙ sym p.owned.size) (λ i x y at bt.
-    ap is_part (sym (at_index_or o.owners i x Free at) ∙ kept.owner i ∙ sym (p.owned.owner i) ∙ at_index_or p.owners.owners i y Free bt))
-    ∙ p.many

@@ -1,6 +1,6 @@
 -- How an image begins for a check that accepts these types.
 -- Letters: at, c the block and the cause of a finding of the boot block; n a type.
-use Rattle.std.proofs.Common.{true, false, not, None, Some, Option, Bool, cond, ◌≡◌, ◌<◌, ◌&&◌, ◌==◌, ℕ, List, [], ◌∷◌, ◌⊎◌, ◌++◌, inl, inr, refl, sym, subst, ap, ◌∙◌, arith, slice_index}
+use Rattle.std.proofs.Common.{true, false, not, None, Some, Option, cond, ◌≡◌, ◌<◌, ◌&&◌, ◌==◌, ℕ, List, [], ◌∷◌, ◌⊎◌, ◌++◌, inl, inr, refl, sym, subst, ap, ◌∙◌, arith, slice_index}
 use Rattle.std.proofs.lemmas.Bool.{le-ltb}
 use Rattle.std.proofs.lemmas.Bool.Decides.{nat_tests}
 use Rattle.std.proofs.lemmas.Grind.{common_steps}
@@ -16,12 +16,10 @@ use Rattle.adf_volume.specs.Start.{start_form}
 use Rattle.adf_volume.proofs.ImageStart.{boot_fails, boot_holds, plain_letters}
 use Rattle.adf_volume.proofs.Lists.{fails_not_all}
 use Rattle.adf_volume.proofs.OneFault.{fails_one}
-use Rattle.adf_findings.specs.Start.{boot_findings}
-use Rattle.adf_findings.specs.Survey.{BootTells, FindingValue, UnreadTells, finding, is_other_type}
+use Rattle.adf_findings.specs.Survey.{BootTells, FindingValue, finding, is_other_type}
 use Rattle.adf_findings.specs.Survey.BootTells.{clean_boot, other_type}
-use Rattle.adf_findings.specs.Survey.UnreadTells.{bad_boot, bad_root}
 use Rattle.adf_volume.specs.Types.{letters_for}
-use Rattle.adf_findings.specs.Types.{is_international, is_passed, passed, passed_of}
+use Rattle.adf_findings.specs.Types.{passed, passed_of}
 use Rattle.adf_volume.specs.declared.types.Types.{Types}
 use Rattle.adf_volume.specs.declared.types.Types.TheVariants.{Plain, WithInternational}
 use Rattle.adf_findings.proofs.FirstFindings.{BootReads, Reads}
@@ -51,11 +49,6 @@ cached_type : (n : ℕ) → (n ≡ 4) ⊎ (n ≡ 5) → (has_letters Internation
 cached_type n (inl e) = rw (e) (refl, (λ lt. omega arith))
 cached_type n (inr e) = rw (e) (refl, (λ lt. omega arith))
 
--- the cause of the first finding, if there is one
-abbrev cause_or : Cause → List FindingValue → Cause
-cause_or c [] = c
-cause_or c (f ∷ fs) = f.cause
-
 module _ (image : List ℕ) where
   abbrev type : ℕ
   type = slice_index (block image 0) 3
@@ -81,21 +74,6 @@ module _ (image : List ℕ) where
       go : (o : Option Cause) → first_cause (start_form image) ≡ o → o ≡ None
       go None e = refl
       go (Some d) e = absurd (fails_not_all (boot_demands image) 0 d (boot_fails Ascii image d e) h)
-
-  -- what the boot block tells is no fault, or none of it is
-  pub boot_past : (types : Types) (boot : Option Cause) → BootTells image (boot_findings boot) → passed types image ≡ passed_of types boot
-  boot_past Plain None b = refl
-  boot_past Plain (Some c) b = refl
-  boot_past WithInternational boot b = ap (passed_of WithInternational) (told boot b)
-    where
-      by_list : {fs : List FindingValue} → BootTells image fs → (boot : Option Cause) → fs ≡ boot_findings boot → first_cause (start_form image) ≡ boot
-      by_list (clean_boot h) None e = none_first h
-      by_list (clean_boot h) (Some c) e = cc
-      by_list (other_type {at = at} {c = d} h k) None e = cc
-      by_list (other_type {at = at} {c = d} h k) (Some c) e = (first_is at d h).0 ∙ ap Some (ap (cause_or d) e)
-
-      told : (boot : Option Cause) → BootTells image (boot_findings boot) → first_cause (start_form image) ≡ boot
-      told boot b = by_list b boot refl
 
   -- a boot block of another type is one of international letters, or of directory caches
   abbrev Other : ℕ → Cause → Type 0
@@ -153,18 +131,3 @@ module _ (image : List ℕ) where
   pub types_read : (types : Types) → Reads image (letters_for types image) (passed types image)
   types_read Plain = plain_reads image
   types_read WithInternational = record { boot = by_letters; bad = by_letters_bad; same = (λ h. refl) }
-
--- a cause that is a fault is not passed
-pub none_past : (types : Types) (c : Cause) → is_passed types c ≡ false → passed_of types (Some c) ≡ []
-none_past types c e = ap (λ t. cond t (finding None 0 c ∷ []) []) e
-
--- of an image of which nothing is taken, what is told before the last cause is told by the boot block
-pub unread_boot : (image : List ℕ) {fs : List FindingValue} → UnreadTells image fs → (f g : FindingValue) → fs ≡ f ∷ g ∷ [] → BootTells image (f ∷ [])
-unread_boot image (bad_boot h e) f g is = cc
-unread_boot image (bad_root {boot = boot} {at = at} {c = c} b h) f g is = go boot b is
-  where
-    go : (boot : List FindingValue) → BootTells image boot → boot ++ finding None at c ∷ [] ≡ f ∷ g ∷ [] → BootTells image (f ∷ [])
-    go [] b is = cc
-    go (x ∷ []) b is = let same : x ≡ f = cc in subst (λ y. BootTells image (y ∷ [])) same b
-    go (x ∷ y ∷ []) b is = cc
-    go (x ∷ y ∷ z ∷ zs) b is = cc

@@ -1,16 +1,13 @@
 -- The state of a survey along its course.
--- Letters: s a course, w its walk; f, g states; fs findings; k a position; a, i the block and the word that point to a part;
+-- Letters: s a course, w its walk; f, g the progress of a survey; k a position; a, i the block and the word that point to a part;
 -- b a block; n, p nodes; y a part that is due; x a reference, or the table of a file; m the number of a block in it; j a judgement.
-use Rattle.std.specs.Prelude.{◌≡◌, ◌≤◌, ◌<◌, ◌+◌, ◌-◌, ◌*◌, ◌%◌, ◌==◌, ◌||◌, ◌⊎◌, ℕ, true, false, cond, nat_le, nat_lt, min, List, [], ◌∷◌, ◌++◌}
+use Rattle.std.specs.Prelude.{◌≡◌, ◌≤◌, ◌<◌, ◌+◌, ◌*◌, ◌%◌, ◌==◌, ◌||◌, ℕ, true, false, cond, nat_le, nat_lt, min, map, List, ◌∷◌}
 use Rattle.std.specs.Prelude.{Option, Some, None, IfSome}
 use Rattle.std.proofs.Common.{suc}
 use Rattle.adf_blocks.specs.declared.layout.TheConstants.{EXTENSION, POINTERS}
 use Rattle.adf_blocks.specs.Sizes.{blocks}
 use Rattle.adf_volume.specs.Image.{table_word, word_in}
 use Rattle.adf_volume.specs.Positions.{Position, IsLink, IsPageHolder, IsUpTo, before_node, before_page, behind, position_of, word_of_page}
-use Rattle.adf_volume.specs.declared.fault.Fault.{Fault}
-use Rattle.adf_volume.specs.Fault.{fault}
-use Rattle.adf_blocks.specs.declared.cause.Cause.TheVariants.{NoMemory}
 use Rattle.adf_volume.specs.Walk.{Role, Asks, DirAt, Enough, FileAt, MemberAt, NamesPage, data_count, ext_count, heads, Walk}
 use Rattle.adf_volume.specs.Walk.Role.{Page, Head, Ext, Data}
 use Rattle.adf_volume.proofs.Roles.{renumbered}
@@ -19,28 +16,32 @@ use Rattle.adf_findings.specs.declared.part.Part.TheVariants.{Data as DataPart}
 use Rattle.adf_findings.specs.declared.course.Due.{Due}
 use Rattle.adf_findings.specs.declared.course.FileTable.{FileTable}
 use Rattle.adf_findings.specs.declared.course.Reference.{Reference}
-use Rattle.adf_findings.specs.declared.found.Found.{Found}
+use Rattle.adf_findings.specs.declared.progress.Progress.{Progress}
 use Rattle.adf_findings.specs.declared.judge.Judgement.{Judgement}
 use Rattle.adf_findings.specs.declared.judge.Judgement.TheVariants.{Skipped}
 use Rattle.adf_tree.specs.NameSet.{Names}
 use Rattle.adf_findings.specs.Demands.{demands_in}
 use Rattle.adf_findings.specs.Forms.{IsContext, Tells, judgement_value}
-use Rattle.adf_findings.specs.Survey.{BitsTell, Course, FindingValue, IsCourse, IsDone, IsNext, Judged}
-use Rattle.adf_findings.specs.Parts.{role_of}
+use Rattle.adf_findings.specs.Survey.{Course, FindingValue, IsCourse, IsNext, Judged}
+use Rattle.adf_findings.specs.Parts.{finding_value, role_of}
 use Rattle.adf_findings.specs.Found.{AreNamed, KeepsName, Stands, owns}
 
--- the state is that of a course that has reached a position, with these findings
-pub record Holds (image : List ℕ) (f : Found) (fs : List FindingValue) (k : Position) (s : Course) : Type 0 where
-  pub told : s.findings ≡ fs
+-- the findings noted
+abbrev pub noted : Progress → List FindingValue
+noted f = map finding_value f.findings.items
+
+-- the progress is that of a course that has reached a position
+pub record Holds (image : List ℕ) (f : Progress) (k : Position) (s : Course) : Type 0 where
+  pub told : s.findings ≡ noted f
   pub course : IsCourse image s
-  pub stands : Stands image f s
+  pub stands : Stands image f.found s
   pub up_to : IsUpTo image s.walk s.skipped k
-  pub names : AreNamed image s.walk k f.names
+  pub names : AreNamed image s.walk k f.found.names
   pub small : blocks image ≤ 1048576
 
 -- some course has reached a position
-abbrev pub HasReached : List ℕ → Found → List FindingValue → Position → Type 0
-HasReached image f fs k = (s : Course) × Holds image f fs k s
+abbrev pub HasReached : List ℕ → Progress → Position → Type 0
+HasReached image f k = (s : Course) × Holds image f k s
 
 -- the role asked for, with its number
 abbrev pub role_asked : Course → Part → Role
@@ -56,28 +57,24 @@ abbrev pub due_below : Part → ℕ → Due
 due_below part up = record { part = part; context = record { up = up; next = 0 }; is_enough = true }
 
 -- a course has reached a part that word i of block a points to
-pub record IsNamed (image : List ℕ) (f : Found) (fs : List FindingValue) (y : Due) (a i : ℕ) (s : Course) : Type 0 where
-  pub holds : Holds image f fs (position_of (role_of y.part)) s
+pub record IsNamed (image : List ℕ) (f : Progress) (y : Due) (a i : ℕ) (s : Course) : Type 0 where
+  pub holds : Holds image f (position_of (role_of y.part)) s
   pub asked : Asks image s.walk (role_asked s y.part) a i
   pub said : IsTrueIn image s.walk y
 
 -- a part that word i of block a points to is next
-abbrev pub HasReachedPart : List ℕ → Found → List FindingValue → Due → ℕ → ℕ → Type 0
-HasReachedPart image f fs y a i = (s : Course) × IsNamed image f fs y a i s
+abbrev pub HasReachedPart : List ℕ → Progress → Due → ℕ → ℕ → Type 0
+HasReachedPart image f y a i = (s : Course) × IsNamed image f y a i s
 
 -- the reference is next in the course
 abbrev pub IsNextReference : List ℕ → Course → Reference → Type 0
 IsNextReference image s x =
     (i : ℕ) × IsNext image s (role_asked s x.due.part) x.holder i × (word_in image x.holder i ≡ x.block) × IsTrueIn image s.walk x.due
 
--- a course has reached a part that is next
-abbrev pub HasReachedReference : List ℕ → Found → List FindingValue → Reference → Type 0
-HasReachedReference image f fs x = (s : Course) × Holds image f fs (position_of (role_of x.due.part)) s × IsNextReference image s x
-
 -- the judgement is that of the part, in any course in which it is next
-abbrev pub IsJudged : List ℕ → Found → List FindingValue → Reference → Part → Judgement → Type 0
-IsJudged image f fs x part j =
-    (s : Course) → Holds image f fs (position_of (role_of x.due.part)) s → IsNextReference image s x → role_of part ≡ role_asked s x.due.part
+abbrev pub IsJudged : List ℕ → Progress → Reference → Part → Judgement → Type 0
+IsJudged image f x part j =
+    (s : Course) → Holds image f (position_of (role_of x.due.part)) s → IsNextReference image s x → role_of part ≡ role_asked s x.due.part
     → Judged (role_of part) (demands_in image s.walk (role_of part) x.holder x.block) (judgement_value j)
 
 -- the name of a part that is not skipped is kept
@@ -85,82 +82,82 @@ abbrev pub KeepsNameBy : List ℕ → Part → ℕ → Judgement → Names → N
 KeepsNameBy image part b (Skipped at c) old new = new ≡ old
 KeepsNameBy image part b _ old new = KeepsName image part b old new
 
+-- the course after a role at block b is taken or skipped, with the findings noted
+abbrev pub course_on : Course → Role → ℕ → Option ℕ → Progress → Course
+course_on s r b None g = record { walk = s.walk; skipped = (r, b) ∷ s.skipped; findings = noted g }
+course_on s r b (Some c) g = record { walk = (r, b) ∷ s.walk; skipped = s.skipped; findings = noted g }
+
 -- the part is skipped
-pub record IsSkipped (image : List ℕ) (s : Course) (x : Reference) (f g : Found) (findings : List FindingValue) : Type 0 where
-  pub course : IsCourse image (record { walk = s.walk; skipped = (role_asked s x.due.part, x.block) ∷ s.skipped; findings = findings })
-  pub stands : Stands image g (record { walk = s.walk; skipped = (role_asked s x.due.part, x.block) ∷ s.skipped; findings = findings })
-  pub left : g.left ≡ f.left
-  pub names : g.names ≡ f.names
+pub record IsSkipped (image : List ℕ) (s : Course) (x : Reference) (f g : Progress) : Type 0 where
+  pub course : IsCourse image (course_on s (role_asked s x.due.part) x.block None g)
+  pub stands : Stands image g.found (course_on s (role_asked s x.due.part) x.block None g)
+  pub left : g.found.left ≡ f.found.left
+  pub names : g.found.names ≡ f.found.names
 
 -- the part is to be taken
-pub record IsToTake (image : List ℕ) (s : Course) (x : Reference) (f g : Found) (findings : List FindingValue) (part : Part) : Type 0 where
+pub record IsToTake (image : List ℕ) (s : Course) (x : Reference) (f g : Progress) (part : Part) : Type 0 where
   pub role : role_of part ≡ role_asked s x.due.part
   pub past_boot : 2 ≤ x.block
   pub inside : x.block < blocks image
   pub free : owns s.walk x.block ≡ false
-  pub course : IsCourse image (record { walk = (role_asked s x.due.part, x.block) ∷ s.walk; skipped = s.skipped; findings = findings })
-  pub stands : Stands image g (record { walk = s.walk; skipped = s.skipped; findings = findings })
-  pub left : g.left ≡ f.left
-  pub names : KeepsName image part x.block f.names g.names
+  pub course : IsCourse image (course_on s (role_asked s x.due.part) x.block (Some x.block) g)
+  pub stands : Stands image g.found (record { walk = s.walk; skipped = s.skipped; findings = noted g })
+  pub left : g.found.left ≡ f.found.left
+  pub names : KeepsName image part x.block f.found.names g.found.names
 
 -- the part is skipped or to be taken
-abbrev pub IsOutcome : List ℕ → Course → Reference → Found → Found → List FindingValue → Option Part → Type 0
-IsOutcome image s x f g fs None = IsSkipped image s x f g fs
-IsOutcome image s x f g fs (Some part) = IsToTake image s x f g fs part
-
--- the course after a role at block b is taken or skipped
-abbrev pub course_on : Course → Role → ℕ → Option ℕ → List FindingValue → Course
-course_on s r b None fs = record { walk = s.walk; skipped = (r, b) ∷ s.skipped; findings = fs }
-course_on s r b (Some c) fs = record { walk = (r, b) ∷ s.walk; skipped = s.skipped; findings = fs }
+abbrev pub IsOutcome : List ℕ → Course → Reference → Progress → Progress → Option Part → Type 0
+IsOutcome image s x f g None = IsSkipped image s x f g
+IsOutcome image s x f g (Some part) = IsToTake image s x f g part
 
 -- a course continues after a part that word i of block a points to
-pub record IsGoneOn (image : List ℕ) (s : Course) (part : Part) (a i : ℕ) (g : Found) (findings : List FindingValue) (o : Option ℕ) : Type 0 where
-  pub holds : Holds image g findings (behind (role_of part)) (course_on s (role_asked s part) (word_in image a i) o findings)
+pub record IsGoneOn (image : List ℕ) (s : Course) (part : Part) (a i : ℕ) (g : Progress) (o : Option ℕ) : Type 0 where
+  pub holds : Holds image g (behind (role_of part)) (course_on s (role_asked s part) (word_in image a i) o g)
   pub block : IfSome o (λ b. b ≡ word_in image a i)
 
 -- a course has reached a page, or the bitmap extension block before it; block a points to the page before
-abbrev pub HasReachedPage : List ℕ → Found → List FindingValue → ℕ → ℕ → Type 0
-HasReachedPage image f fs page a = (s : Course) × Holds image f fs (before_page page) s × IsPageHolder image s.walk page a
+abbrev pub HasReachedPage : List ℕ → Progress → ℕ → ℕ → Type 0
+HasReachedPage image f page a = (s : Course) × Holds image f (before_page page) s × IsPageHolder image s.walk page a
 
 -- a course has reached a page that block a points to, or the nodes if no block does
-abbrev pub IsPageNamed : List ℕ → Found → List FindingValue → ℕ → Option ℕ → Type 0
-IsPageNamed image f fs page None = HasReached image f fs (before_node 0)
-IsPageNamed image f fs page (Some a) = (s : Course) × Holds image f fs (position_of (Page page)) s × NamesPage image s.walk page a (word_of_page page)
+abbrev pub IsPageNamed : List ℕ → Progress → ℕ → Option ℕ → Type 0
+IsPageNamed image f page None = HasReached image f (before_node 0)
+IsPageNamed image f page (Some a) = (s : Course) × Holds image f (position_of (Page page)) s × NamesPage image s.walk page a (word_of_page page)
 
 -- a course has reached a slot of a directory at block b
-abbrev pub HasReachedSlot : List ℕ → Found → List FindingValue → ℕ → ℕ → ℕ → Type 0
-HasReachedSlot image f fs p slot b = (s : Course) × Holds image f fs (position_of (Head 0 p slot 0)) s × DirAt image s.walk p b
+abbrev pub HasReachedSlot : List ℕ → Progress → ℕ → ℕ → ℕ → Type 0
+HasReachedSlot image f p slot b = (s : Course) × Holds image f (position_of (Head 0 p slot 0)) s × DirAt image s.walk p b
 
 -- a course has reached a position of a chain, at word i of block a, in a directory at block b
-pub record HasReachedHeader (image : List ℕ) (f : Found) (fs : List FindingValue) (p slot place a i b : ℕ) : Type 0 where
+pub record HasReachedHeader (image : List ℕ) (f : Progress) (p slot place a i b : ℕ) : Type 0 where
   pub course : Course
-  pub holds : Holds image f fs (position_of (Head 0 p slot place)) course
+  pub holds : Holds image f (position_of (Head 0 p slot place)) course
   pub dir : DirAt image course.walk p b
   pub link : IsLink image course.walk p slot place a i
 
 -- a course has reached a file with its header at block b
-abbrev pub HasReachedFile : List ℕ → Found → List FindingValue → ℕ → ℕ → Type 0
-HasReachedFile image f fs n b = (s : Course) × Holds image f fs (before_node n) s × FileAt image s.walk n b
+abbrev pub HasReachedFile : List ℕ → Progress → ℕ → ℕ → Type 0
+HasReachedFile image f n b = (s : Course) × Holds image f (before_node n) s × FileAt image s.walk n b
 
 -- a course has reached the extension block after block m of the table, at block a, of a file with header b
-pub record HasReachedExt (image : List ℕ) (f : Found) (fs : List FindingValue) (n b m a : ℕ) : Type 0 where
+pub record HasReachedExt (image : List ℕ) (f : Progress) (n b m a : ℕ) : Type 0 where
   pub course : Course
-  pub holds : Holds image f fs (position_of (Ext n (suc m))) course
+  pub holds : Holds image f (position_of (Ext n (suc m))) course
   pub file : FileAt image course.walk n b
   pub member : MemberAt image course.walk n m a
   pub count : ext_count course.walk n ≡ m
 
 -- a course has reached the data blocks of a file with header b and this many extension blocks
-pub record HasReachedData (image : List ℕ) (f : Found) (fs : List FindingValue) (n b exts : ℕ) : Type 0 where
+pub record HasReachedData (image : List ℕ) (f : Progress) (n b exts : ℕ) : Type 0 where
   pub course : Course
-  pub holds : Holds image f fs (position_of (Data n 1)) course
+  pub holds : Holds image f (position_of (Data n 1)) course
   pub file : FileAt image course.walk n b
   pub count : ext_count course.walk n ≡ exts
 
 -- in a course, x is the table of a file
-pub record HasTable (image : List ℕ) (f : Found) (s : Course) (x : FileTable) : Type 0 where
+pub record HasTable (image : List ℕ) (f : Progress) (s : Course) (x : FileTable) : Type 0 where
   pub course : IsCourse image s
-  pub stands : Stands image f s
+  pub stands : Stands image f.found s
   pub file : FileAt image s.walk x.node x.head
   pub count : x.count ≡ data_count image x.head
   pub room : x.room ≡ POINTERS * suc (ext_count s.walk x.node)
@@ -186,38 +183,19 @@ due_in x k next = record {
 }
 
 -- a course has reached a data block, after `done` others, of a file with this table
-abbrev pub HasReachedTable : List ℕ → Found → List FindingValue → FileTable → ℕ → Type 0
-HasReachedTable image f fs x done = (s : Course) × Holds image f fs (position_of (Data x.node (suc done))) s × HasTable image f s x
+abbrev pub HasReachedTable : List ℕ → Progress → FileTable → ℕ → Type 0
+HasReachedTable image f x done = (s : Course) × Holds image f (position_of (Data x.node (suc done))) s × HasTable image f s x
 
 -- a course has reached a data block, after `done` others, of a file with this table; block a is number m of the table
-pub record HasReachedNamed (image : List ℕ) (f : Found) (fs : List FindingValue) (x : FileTable) (m a done : ℕ) : Type 0 where
+pub record HasReachedNamed (image : List ℕ) (f : Progress) (x : FileTable) (m a done : ℕ) : Type 0 where
   pub course : Course
-  pub holds : Holds image f fs (position_of (Data x.node (suc done))) course
+  pub holds : Holds image f (position_of (Data x.node (suc done))) course
   pub table : HasTable image f course x
   pub member : MemberAt image course.walk x.node m a
 
 -- a course has reached a data block, after `done` others, of a file with this table; block a is number m of the table, if it has so many
-pub record HasReachedMember (image : List ℕ) (f : Found) (fs : List FindingValue) (x : FileTable) (m a done : ℕ) : Type 0 where
+pub record HasReachedMember (image : List ℕ) (f : Progress) (x : FileTable) (m a done : ℕ) : Type 0 where
   pub course : Course
-  pub holds : Holds image f fs (position_of (Data x.node (suc done))) course
+  pub holds : Holds image f (position_of (Data x.node (suc done))) course
   pub table : HasTable image f course x
   pub member : POINTERS * m < x.room → MemberAt image course.walk x.node m a
-
--- a fault that ends a walk: no memory, or what the listener says of the findings of a course up to its end
-abbrev pub IsStop : List ℕ → (List FindingValue → Fault → Type 0) → Fault → Type 0
-IsStop image ends e = (e ≡ fault 0 NoMemory) ⊎ ((s : Course) × IsCourse image s × ends s.findings e)
-
--- a listener that stops ends a walk at the first finding behind these
-abbrev pub IsFirstPast : List FindingValue → List FindingValue → Fault → Type 0
-IsFirstPast past fs e = (x : FindingValue) × (fs ≡ past ++ x ∷ []) × (e ≡ fault x.block x.cause)
-
--- a fault that ends the comparison of the bits: no memory, or what the listener says of the findings of a course that is done and
--- of the bits of n blocks up to its end
-abbrev pub IsBitStop : List ℕ → (List FindingValue → Fault → Type 0) → Fault → Type 0
-IsBitStop image ends e =
-    (e ≡ fault 0 NoMemory) ⊎ ((s : Course) × (bits : List FindingValue) × (n : ℕ) × IsCourse image s × IsDone image s × BitsTell image s 2 n bits
-    × (n ≤ blocks image - 2) × ends (s.findings ++ bits) e)
-
--- a fault that ends a walk or the comparison of the bits behind it
-abbrev pub IsEnd : List ℕ → (List FindingValue → Fault → Type 0) → Fault → Type 0
-IsEnd image ends e = IsStop image ends e ⊎ IsBitStop image ends e

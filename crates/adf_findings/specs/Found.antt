@@ -1,7 +1,7 @@
 -- The state of a survey, as a course.
 -- Letters: w a walk, s a course; r a role; b, c blocks; k a key; n, p nodes; f a state; fs, gs, bits findings.
 use Rattle.std.specs.Prelude.{◌≡◌, ◌≤◌, ◌<◌, ◌+◌, ◌-◌, ◌==◌, ◌&&◌, ◌||◌, ℕ, Bool, true, false, cond, not, List, []}
-use Rattle.std.specs.Prelude.{◌∷◌, ◌++◌, ◌⊎◌, count_by, drop, length, nat_lt, replicate, set, slice_index, slice_index_or, Option, Some, None, IsTrue, ◌↔◌}
+use Rattle.std.specs.Prelude.{◌∷◌, ◌++◌, ◌⊎◌, length, nat_lt, replicate, set, slice_index, slice_index_or, Option, Some, None, IsTrue, ◌↔◌}
 use Rattle.std.proofs.Common.{zero, suc}
 use Rattle.std.specs.Ordering.{is_eq}
 use Rattle.std.specs.Str.{bytes_eq}
@@ -11,10 +11,8 @@ use Rattle.adf_names.specs.Texts.{is_name}
 use Rattle.adf_blocks.specs.declared.cause.Cause.{Cause}
 use Rattle.adf_blocks.specs.declared.cause.Cause.TheVariants.{LostBlock, OwnedFree}
 use Rattle.adf_volume.specs.Demands.{AllHold, FirstFails}
-use Rattle.adf_blocks.specs.declared.layout.TheConstants.{SECONDARY_TYPE, ST_DIR}
 use Rattle.adf_blocks.specs.Sizes.{blocks}
-use Rattle.adf_volume.specs.Image.{IsFreeAt, kind_of, name_of, word_in}
-use Rattle.adf_volume.specs.declared.counts.Counts.{Counts}
+use Rattle.adf_volume.specs.Image.{IsFreeAt, name_of}
 use Rattle.adf_volume.specs.LayoutRoles.{owner_of}
 use Rattle.adf_volume.specs.declared.owner.Owner.{Owner}
 use Rattle.adf_volume.specs.declared.owner.Owner.TheVariants.{Free, Boot}
@@ -284,22 +282,3 @@ TellsOn image s b gs = (n : ℕ) (fs : List FindingValue) → BitsTell image s b
 -- a course is done, and the bits up to a block are compared
 abbrev pub HasReportedOn : List ℕ → Found → List FindingValue → ℕ → Type 0
 HasReportedOn image f fs b = (s : Course) × (gs : List FindingValue) × HasReported image f fs s gs × TellsOn image s b gs
-
--- whether the block is the header of a directory
-abbrev pub is_dir_head : List ℕ → ℕ → Bool
-is_dir_head image b = word_in image b SECONDARY_TYPE == ST_DIR
-
--- the directories that are found
-abbrev pub dirs_found : List ℕ → Found → ℕ
-dirs_found image f = count_by (is_dir_head image) (drop 1 f.nodes.items)
-
--- what is found has in all: the blocks that are not left are used; the two boot blocks are left, and are not free
-abbrev pub counts_found : List ℕ → Found → Counts
-counts_found image f = record {
-  kind = kind_of image;
-  blocks = blocks image;
-  used = blocks image - f.left;
-  free = f.left - 2;
-  dirs = dirs_found image f;
-  files = length f.nodes.items - (1 + dirs_found image f);
-}

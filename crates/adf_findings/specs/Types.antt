@@ -1,11 +1,9 @@
 -- Volumes of types 0 to 3: a survey of those of international letters has one finding more, that of their type.
-use Rattle.std.specs.Prelude.{◌≡◌, ℕ, Bool, true, false, List, [], ◌∷◌, Option, Some, None, cond}
+use Rattle.std.specs.Prelude.{ℕ, Bool, true, false, List, [], ◌∷◌, Option, Some, None, cond}
 use Rattle.adf_blocks.specs.declared.cause.Cause.{Cause}
 use Rattle.adf_blocks.specs.declared.cause.Cause.TheVariants.{International}
 use Rattle.adf_blocks.specs.Forms.{first_cause}
-use Rattle.adf_volume.specs.Fault.{fault}
 use Rattle.adf_volume.specs.Start.{start_form}
-use Rattle.adf_volume.specs.declared.fault.Fault.{Fault}
 use Rattle.adf_findings.specs.Survey.{FindingValue, finding}
 use Rattle.adf_volume.specs.declared.types.Types.{Types}
 use Rattle.adf_volume.specs.declared.types.Types.TheVariants.{Plain, WithInternational}
@@ -29,10 +27,3 @@ passed_of types (Some c) = cond (is_passed types c) (finding None 0 c ∷ []) []
 abbrev pub passed : Types → List ℕ → List FindingValue
 passed Plain image = []
 passed WithInternational image = passed_of WithInternational (first_cause (start_form image))
-
--- the fault tells the cause of a boot block, which is a fault where these types are accepted
-pub record IsBootFault (types : Types) (boot : Option Cause) (e : Fault) : Type 0 where
-  pub cause : Cause
-  pub told : boot ≡ Some cause
-  pub failed : is_passed types cause ≡ false
-  pub fault : e ≡ fault 0 cause

@@ -1,26 +1,25 @@
 // Comparison of the bitmap with the blocks that are owned.
 
 ghost use Rattle.std.specs.Prelude.{◌≡◌, ◌≤◌, ◌<◌, ◌+◌, ◌-◌, ◌*◌, ◌%◌, ◌||◌, ◌↔◌, ℕ, false};
-ghost use Rattle.std.specs.Prelude.{min, slice_index_or, IfErr, IsBitSet, IsTrue, OnOk};
+ghost use Rattle.std.specs.Prelude.{map, min, slice_index_or, IsBitSet, IsTrue, OnOk};
 ghost use Rattle.adf_blocks.specs.declared.layout.TheConstants.{PAGE_BITS, PAGE_WORDS};
 ghost use Rattle.adf_blocks.specs.Sizes.{blocks};
 ghost use Rattle.std.specs.BTreeMap.{get};
 ghost use Rattle.adf_volume.specs.Image.{IsFreeAt};
 ghost use Rattle.adf_volume.specs.Walk.Role.{Page};
-ghost use Rattle.adf_findings.specs.Parts.{by_key, key_of};
+ghost use Rattle.adf_findings.specs.Parts.{by_key, finding_value, key_of};
 ghost use Rattle.adf_findings.specs.Survey.{IsValidated, is_cache};
-ghost use Rattle.adf_findings.specs.Courses.{IsBitStop};
 ghost use Rattle.adf_findings.specs.Bits.{IsBitCompared, IsPageCompared};
 ghost use Rattle.adf_findings.specs.Found.{IsBitOf, IsCompleted, IsFinished, HasReportedOn, bit_cause, is_owned};
 
 use crate::found::Found;
 use crate::image::Image;
-use crate::listener::Listener;
 use crate::part::{Finding, Key, Part};
+use crate::progress::note;
+use adf_base::NoMemory;
 use adf_blocks::{
     BITMAP_FLAG, Cause, OWN_KEY, PAGE_FIRST, PAGE_WORDS, T_DIR_CACHE, TYPE, VALID, is_set,
 };
-use adf_volume::Fault;
 use std::collections::BTreeMap;
 
 /// Whether the bitmap flag of the root is that of a valid bitmap.
@@ -129,44 +128,45 @@ fn agree(found: &Found, first: u32, end: u32, word: u32) -> bool
 }
 
 // Compares the bit of block `b`, and tells of it if it disagrees.
-fn compare_bit<L: Listener>(
+fn compare_bit(
     image: &Image<'_>,
     found: &Found,
-    listener: &mut L,
+    findings: &mut Vec<Finding>,
     b: u32,
     is_free: bool,
-) -> Result<(), Fault>
+) -> Result<(), NoMemory>
     requires low { 2 ≤ b }
     requires inside { b < blocks image.now }
     requires bit { IsBitCompared image.now found.now.taken b is_free }
-    requires reported { HasReportedOn image.now found.now (L.heard listener.old) b }
-    ensures reported { OnOk result (HasReportedOn image.now found.now (L.heard listener.new) (b + 1)) }
-    ensures stopped { IfErr result (IsBitStop image.now L.ends) }
+    requires reported { HasReportedOn image.now found.now (map finding_value findings.old.items) b }
+    ensures { OnOk result (HasReportedOn image.now found.now (map finding_value findings.new.items) (b + 1)) }
 {
     match bit_cause(image, found, b, found.owners.is_part(b), is_free) {
-        Some(cause) => listener.hear(Finding {
-            part: None,
-            block: b,
-            cause,
-        }),
+        Some(cause) => note(
+            findings,
+            Finding {
+                part: None,
+                block: b,
+                cause,
+            },
+        ),
         None => Ok(()),
     }
 }
 
 // Compares the bits of word `i` of the bitmap, whose page is at a block, with the owners of its blocks.
-fn compare_word<L: Listener>(
+fn compare_word(
     image: &Image<'_>,
     found: &Found,
-    listener: &mut L,
+    findings: &mut Vec<Finding>,
     page: Option<u32>,
     i: u32,
-) -> Result<(), Fault>
+) -> Result<(), NoMemory>
     requires inside { 2 + 32 * i < blocks image.now }
     requires page { IsPageCompared image.now found.now.taken (2 + 32 * i) page }
-    requires reported { HasReportedOn image.now found.now (L.heard listener.old) (2 + 32 * i) }
-    ensures reported { OnOk result (HasReportedOn image.now found.now (L.heard listener.new)
+    requires reported { HasReportedOn image.now found.now (map finding_value findings.old.items) (2 + 32 * i) }
+    ensures { OnOk result (HasReportedOn image.now found.now (map finding_value findings.new.items)
         (min (2 + 32 * (i + 1)) (blocks image.now))) }
-    ensures stopped { IfErr result (IsBitStop image.now L.ends) }
 {
     let Some(at) = page else {
         return Ok(());
@@ -179,22 +179,25 @@ fn compare_word<L: Listener>(
         return Ok(());
     }
     for b in first..end {
-        compare_bit(image, found, listener, b, is_set(word, b - first))?;
+        compare_bit(image, found, findings, b, is_set(word, b - first))?;
     }
     Ok(())
 }
 
 /// If the bitmap is valid, compares the bit of each block with its owner. Skips a block if its page was not taken, or
 /// if it has no owner and was skipped or is a directory cache.
-pub fn compare<L: Listener>(image: &Image<'_>, found: &Found, listener: &mut L) -> Result<(), Fault>
-    requires { IsFinished image.now found.now (L.heard listener.old) }
-    ensures completed { OnOk result (IsCompleted image.now found.now (L.heard listener.new)) }
-    ensures stopped { IfErr result (IsBitStop image.now L.ends) }
+pub fn compare(
+    image: &Image<'_>,
+    found: &Found,
+    findings: &mut Vec<Finding>,
+) -> Result<(), NoMemory>
+    requires { IsFinished image.now found.now (map finding_value findings.old.items) }
+    ensures { OnOk result (IsCompleted image.now found.now (map finding_value findings.new.items)) }
 {
     let mut page = None;
     for i in 0..(image.blocks() - 2).div_ceil(32) {
         page = page_of(image, found, i, page);
-        compare_word(image, found, listener, page, i)?;
+        compare_word(image, found, findings, page, i)?;
     }
     Ok(())
 }

@@ -1,26 +1,25 @@
 // The course of a walk: the pages of the bitmap, then the nodes in order; for a directory its chains, for a file its
 // extension blocks, then its data blocks.
 
-ghost use Rattle.std.specs.Prelude.{◌≡◌, ◌<◌, ◌≤◌, ◌+◌, ◌*◌, ◌^◌, List, IfErr, IfOk, IfSome, IsTrue, OnOk, Some, length};
+ghost use Rattle.std.specs.Prelude.{◌≡◌, ◌<◌, ◌≤◌, ◌+◌, ◌*◌, ◌^◌, IfOk, IfSome, IsTrue, OnOk, Some, length};
 ghost use Rattle.adf_names.specs.declared.kind.Kind.TheVariants.{Ffs};
 ghost use Rattle.adf_blocks.specs.declared.layout.TheConstants.{POINTERS, SLOTS};
 ghost use Rattle.adf_blocks.specs.Sizes.{blocks, pages_needed};
 ghost use Rattle.adf_volume.specs.Image.{kind_of, root_of, table_word};
 ghost use Rattle.adf_volume.specs.Positions.{before_node, position_of, word_of_map_ext, word_of_page};
-ghost use Rattle.adf_findings.specs.Survey.{Course, FindingValue};
+ghost use Rattle.adf_findings.specs.Survey.{Course};
 ghost use Rattle.adf_findings.specs.Parts.{role_of};
 ghost use Rattle.adf_findings.specs.Found.{IsFinished};
 ghost use Rattle.adf_findings.specs.Courses.{HasReached, HasReachedData, HasReachedFile, HasReachedPage, HasReachedPart};
-ghost use Rattle.adf_findings.specs.Courses.{HasReachedNamed, HasReachedReference, HasReachedSlot, Holds, IsGoneOn, IsJudged};
-ghost use Rattle.adf_findings.specs.Courses.{IsNamed, IsNextReference, IsOutcome, IsPageNamed, IsStop, KeepsNameBy};
-ghost use Rattle.adf_findings.specs.Courses.{due_below, due_in, end_in, next_in, table_block_in};
+ghost use Rattle.adf_findings.specs.Courses.{HasReachedNamed, HasReachedSlot, Holds, IsGoneOn, IsJudged};
+ghost use Rattle.adf_findings.specs.Courses.{IsNamed, IsNextReference, IsOutcome, IsPageNamed, KeepsNameBy};
+ghost use Rattle.adf_findings.specs.Courses.{due_below, due_in, end_in, next_in, noted, table_block_in};
 
 use crate::forms::Context;
-use crate::found::Found;
 use crate::image::Image;
 use crate::judge::{Facts, Judgement, judge};
-use crate::listener::Listener;
 use crate::part::{Finding, Part};
+use crate::progress::{Progress, note};
 use adf_base::NoMemory;
 use adf_blocks::{
     Cause, EXTENSION, FIRST_MAP_EXT, FIRST_PAGE, FIRST_POINTER, FIRST_SLOT, MAP_EXT_NEXT,
@@ -28,7 +27,6 @@ use adf_blocks::{
     page_count,
 };
 use adf_tree::Kind;
-use adf_volume::{Fault, no_memory};
 
 /// A part that is due, a header with any number; its context; and whether its file has enough extension blocks, which
 /// is asked with its first data block.
@@ -92,31 +90,33 @@ fn of_part(part: Part, block: u32, cause: Cause) -> Finding
 #[inline(always)]
 fn judge_named(
     image: &Image<'_>,
-    found: &mut Found,
+    progress: &mut Progress,
     part: Part,
     reference: &Reference,
 ) -> Result<Judgement, NoMemory>
-    ensures judged { IfOk result (λ j. (fs : List FindingValue) → IsJudged image.now found.old fs reference.now part j) }
+    ensures judged { IfOk result (λ j. IsJudged image.now progress.old reference.now part j) }
     ensures names { IfOk result (λ j. KeepsNameBy image.now part
-        reference.now.block j found.old.names found.new.names) }
-    ensures rest { found.new ≡ record found.old { names = found.new.names } }
+        reference.now.block j progress.old.found.names progress.new.found.names) }
+    ensures rest { progress.new ≡ record progress.old {
+      found = record progress.old.found { names = progress.new.found.names };
+    } }
 {
     let b = reference.block;
     let facts = Facts {
         is_enough: reference.due.is_enough,
-        is_absent: found.is_absent(b),
+        is_absent: progress.found.is_absent(b),
         context: reference.due.context,
     };
     match judge(image, part, reference.holder, b, &facts) {
         Judgement::Clean => {
-            if found.keep_name(image, part, b)? {
+            if progress.found.keep_name(image, part, b)? {
                 Ok(Judgement::Clean)
             } else {
                 Ok(Judgement::Reported(b, Cause::SameName))
             }
         }
         Judgement::Reported(at, cause) => {
-            found.keep_name(image, part, b)?;
+            progress.found.keep_name(image, part, b)?;
             Ok(Judgement::Reported(at, cause))
         }
         Judgement::Skipped(at, cause) => Ok(Judgement::Skipped(at, cause)),
@@ -125,67 +125,60 @@ fn judge_named(
 
 // Judges the part that is next and tells its cause. Returns the part if it is to be taken, `None` if skipped.
 #[inline(always)]
-fn judge_next<L: Listener>(
+fn judge_next(
     image: &Image<'_>,
-    found: &mut Found,
-    listener: &mut L,
+    progress: &mut Progress,
     reference: &Reference,
-) -> Result<Option<Part>, Fault>
-    requires few { length found.old.nodes.items < 2 ^ 32 }
-    requires next { HasReachedReference image.now found.old (L.heard listener.old) reference.now }
-    ensures outcome { IfOk result (λ o. (s : Course)
-        → Holds image.now found.old (L.heard listener.old) (position_of (role_of reference.now.due.part)) s
+) -> Result<Option<Part>, NoMemory>
+    requires { length progress.old.found.nodes.items < 2 ^ 32 }
+    ensures { IfOk result (λ o. (s : Course)
+        → Holds image.now progress.old (position_of (role_of reference.now.due.part)) s
         → IsNextReference image.now s reference.now
-        → IsOutcome image.now s reference.now found.old found.new (L.heard listener.new) o) }
-    ensures stopped { IfErr result (IsStop image.now L.ends) }
+        → IsOutcome image.now s reference.now progress.old progress.new o) }
 {
-    let part = reference.due.part.numbered(found.nodes.len() as u32);
-    let Ok(judgement) = judge_named(image, found, part, reference) else {
-        return Err(no_memory());
-    };
-    match judgement {
+    let part = reference
+        .due
+        .part
+        .numbered(progress.found.nodes.len() as u32);
+    match judge_named(image, progress, part, reference)? {
         Judgement::Clean => Ok(Some(part)),
         Judgement::Reported(at, cause) => {
-            listener.hear(of_part(part, at, cause))?;
+            note(&mut progress.findings, of_part(part, at, cause))?;
             Ok(Some(part))
         }
         Judgement::Skipped(at, cause) => {
-            listener.hear(of_part(part, at, cause))?;
-            match found.skip(reference.block) {
-                Ok(()) => Ok(None),
-                Err(_) => Err(no_memory()),
-            }
+            note(&mut progress.findings, of_part(part, at, cause))?;
+            progress.found.skip(reference.block)?;
+            Ok(None)
         }
     }
 }
 
 // Judges and takes a part that word `i` of block `holder` points to; returns its block, `None` if it is skipped.
 #[inline(always)]
-fn go_on<L: Listener>(
+fn go_on(
     image: &Image<'_>,
-    found: &mut Found,
-    listener: &mut L,
+    progress: &mut Progress,
     due: Due,
     holder: u32,
     i: usize,
-) -> Result<Option<u32>, Fault>
+) -> Result<Option<u32>, NoMemory>
     requires word { i < 128 }
-    requires due { HasReachedPart image.now found.old (L.heard listener.old) due holder i }
-    ensures gone { IfOk result (λ o. (s : Course) → IsNamed image.now found.old (L.heard listener.old) due holder i s
-        → IsGoneOn image.now s due.part holder i found.new (L.heard listener.new) o) }
-    ensures left { IfOk result (λ o. IfSome o (λ b. found.new.left < found.old.left)) }
-    ensures stopped { IfErr result (IsStop image.now L.ends) }
+    requires due { HasReachedPart image.now progress.old due holder i }
+    ensures gone { IfOk result (λ o. (s : Course) → IsNamed image.now progress.old due holder i s
+        → IsGoneOn image.now s due.part holder i progress.new o) }
+    ensures left { IfOk result (λ o. IfSome o (λ b. progress.new.found.left < progress.old.found.left)) }
 {
     let reference = Reference {
         due,
         holder,
         block: image.word(holder, i),
     };
-    match judge_next(image, found, listener, &reference)? {
-        Some(part) => match found.take(part, reference.block) {
-            Ok(()) => Ok(Some(reference.block)),
-            Err(_) => Err(no_memory()),
-        },
+    match judge_next(image, progress, &reference)? {
+        Some(part) => {
+            progress.found.take(part, reference.block)?;
+            Ok(Some(reference.block))
+        }
         None => Ok(None),
     }
 }
@@ -218,17 +211,15 @@ fn map_ext_word(page: u32) -> usize
 // The block that points to a page: the one that points to the page before, or the next bitmap extension block; `None`
 // if that is skipped.
 #[tactic(auto, using(crate::proofs::MapPlaces::map_ext_named, crate::proofs::MapPlaces::map_ext_on))]
-fn holder_of<L: Listener>(
+fn holder_of(
     image: &Image<'_>,
-    found: &mut Found,
-    listener: &mut L,
+    progress: &mut Progress,
     page: u32,
     before: u32,
-) -> Result<Option<u32>, Fault>
+) -> Result<Option<u32>, NoMemory>
     requires some { page < pages_needed (blocks image.now) }
-    requires at { HasReachedPage image.now found.old (L.heard listener.old) page before }
-    ensures gone { IfOk result (λ o. IsPageNamed image.now found.new (L.heard listener.new) page o) }
-    ensures stopped { IfErr result (IsStop image.now L.ends) }
+    requires at { HasReachedPage image.now progress.old page before }
+    ensures { IfOk result (λ o. IsPageNamed image.now progress.new page o) }
 {
     let first = ROOT_PAGES as u32;
     let pages = MAP_EXT_PAGES as u32;
@@ -236,45 +227,38 @@ fn holder_of<L: Listener>(
         return Ok(Some(before));
     }
     let due = Due::below(Part::MapExt((page - first) / pages), before);
-    let holder = go_on(image, found, listener, due, before, map_ext_word(page))?;
+    let holder = go_on(image, progress, due, before, map_ext_word(page))?;
     Ok(holder)
 }
 
 // Visits the pages of the bitmap and the bitmap extension blocks.
-fn go_through_map<L: Listener>(
-    image: &Image<'_>,
-    found: &mut Found,
-    listener: &mut L,
-) -> Result<(), Fault>
-    requires { HasReachedPage image.now found.old (L.heard listener.old) 0 (root_of image.now) }
-    ensures gone { OnOk result (HasReached image.now found.new (L.heard listener.new) (before_node 0)) }
-    ensures stopped { IfErr result (IsStop image.now L.ends) }
+fn go_through_map(image: &Image<'_>, progress: &mut Progress) -> Result<(), NoMemory>
+    requires { HasReachedPage image.now progress.old 0 (root_of image.now) }
+    ensures { OnOk result (HasReached image.now progress.new (before_node 0)) }
 {
     let mut holder = image.root();
     for page in 0..page_count(image.blocks()) {
-        match holder_of(image, found, listener, page, holder)? {
+        match holder_of(image, progress, page, holder)? {
             Some(at) => holder = at,
             None => return Ok(()),
         }
         let due = Due::below(Part::Page(page), holder);
-        go_on(image, found, listener, due, holder, page_word(page))?;
+        go_on(image, progress, due, holder, page_word(page))?;
     }
     Ok(())
 }
 
 // Visits the chain of a slot of a directory.
-fn go_through_chain<L: Listener>(
+fn go_through_chain(
     image: &Image<'_>,
-    found: &mut Found,
-    listener: &mut L,
+    progress: &mut Progress,
     parent: u32,
     slot: u8,
     b: u32,
-) -> Result<(), Fault>
+) -> Result<(), NoMemory>
     requires slot { slot < SLOTS }
-    requires at { HasReachedSlot image.now found.old (L.heard listener.old) parent slot b }
-    ensures gone { OnOk result (HasReachedSlot image.now found.new (L.heard listener.new) parent (slot + 1) b) }
-    ensures stopped { IfErr result (IsStop image.now L.ends) }
+    requires at { HasReachedSlot image.now progress.old parent slot b }
+    ensures { OnOk result (HasReachedSlot image.now progress.new parent (slot + 1) b) }
 {
     let mut holder = b;
     let mut i = FIRST_SLOT + slot as usize;
@@ -286,7 +270,7 @@ fn go_through_chain<L: Listener>(
             slot,
             place,
         };
-        match go_on(image, found, listener, Due::below(part, b), holder, i)? {
+        match go_on(image, progress, Due::below(part, b), holder, i)? {
             Some(header) => holder = header,
             None => return Ok(()),
         }
@@ -298,43 +282,39 @@ fn go_through_chain<L: Listener>(
 
 // Visits the chains of the directory at block `b`.
 #[tactic(auto, using(crate::proofs::CoursePlaces::slot_empty))]
-fn go_through_dir<L: Listener>(
+fn go_through_dir(
     image: &Image<'_>,
-    found: &mut Found,
-    listener: &mut L,
+    progress: &mut Progress,
     node: u32,
     b: u32,
-) -> Result<(), Fault>
-    requires { HasReachedSlot image.now found.old (L.heard listener.old) node 0 b }
-    ensures gone { OnOk result (HasReached image.now found.new (L.heard listener.new) (before_node (node + 1))) }
-    ensures stopped { IfErr result (IsStop image.now L.ends) }
+) -> Result<(), NoMemory>
+    requires { HasReachedSlot image.now progress.old node 0 b }
+    ensures { OnOk result (HasReached image.now progress.new (before_node (node + 1))) }
 {
     for slot in 0..SLOTS as u8 {
         if image.word(b, FIRST_SLOT + slot as usize) != 0 {
-            go_through_chain(image, found, listener, node, slot, b)?;
+            go_through_chain(image, progress, node, slot, b)?;
         }
     }
     Ok(())
 }
 
 // Visits the extension blocks of a file, with its header at block `b`; returns how many are taken.
-fn go_through_exts<L: Listener>(
+fn go_through_exts(
     image: &Image<'_>,
-    found: &mut Found,
-    listener: &mut L,
+    progress: &mut Progress,
     node: u32,
     b: u32,
-) -> Result<u32, Fault>
-    requires { HasReachedFile image.now found.old (L.heard listener.old) node b }
-    ensures datas { IfOk result (λ exts. HasReachedData image.now found.new (L.heard listener.new) node b exts) }
+) -> Result<u32, NoMemory>
+    requires { HasReachedFile image.now progress.old node b }
+    ensures datas { IfOk result (λ exts. HasReachedData image.now progress.new node b exts) }
     ensures few { IfOk result (λ exts. exts ≤ 1048576) }
-    ensures stopped { IfErr result (IsStop image.now L.ends) }
 {
     let mut holder = b;
     let mut exts = 0;
     while image.word(holder, EXTENSION) != 0 {
         let due = Due::below(Part::Ext(node, exts + 1), b);
-        match go_on(image, found, listener, due, holder, EXTENSION)? {
+        match go_on(image, progress, due, holder, EXTENSION)? {
             Some(ext) => holder = ext,
             None => return Ok(exts),
         }
@@ -392,27 +372,24 @@ fn table_end(table: &FileTable, m: u32) -> u32
 
 // Judges data block `k + 1` of an FFS file, which block `holder` points to, and takes it or not.
 #[inline(never)]
-fn go_on_ffs<L: Listener>(
+fn go_on_ffs(
     image: &Image<'_>,
-    found: &mut Found,
-    listener: &mut L,
+    progress: &mut Progress,
     table: &FileTable,
     k: u32,
     holder: u32,
-) -> Result<Option<u32>, Fault>
+) -> Result<Option<u32>, NoMemory>
     requires inside { k < table.now.count }
-    requires due { HasReachedPart image.now found.old (L.heard listener.old) (due_in table.now k 0) holder (table_word k) }
-    ensures gone { IfOk result (λ o. (s : Course)
-        → IsNamed image.now found.old (L.heard listener.old) (due_in table.now k 0) holder (table_word k) s
+    requires due { HasReachedPart image.now progress.old (due_in table.now k 0) holder (table_word k) }
+    ensures { IfOk result (λ o. (s : Course)
+        → IsNamed image.now progress.old (due_in table.now k 0) holder (table_word k) s
         → IsGoneOn image.now s (Part.Data table.now.node (k + 1)) holder (table_word k)
-        found.new (L.heard listener.new) o) }
-    ensures stopped { IfErr result (IsStop image.now L.ends) }
+        progress.new o) }
 {
     let due = data_due(table, k, 0);
     let gone = go_on(
         image,
-        found,
-        listener,
+        progress,
         due,
         holder,
         FIRST_POINTER - k as usize % POINTERS,
@@ -421,54 +398,48 @@ fn go_on_ffs<L: Listener>(
 }
 
 // Visits the data blocks of an FFS file with enough extension blocks that a block of its table points to.
-fn go_through_ffs_table<L: Listener>(
+fn go_through_ffs_table(
     image: &Image<'_>,
-    found: &mut Found,
-    listener: &mut L,
+    progress: &mut Progress,
     table: &FileTable,
     member: &Member,
-) -> Result<(), Fault>
+) -> Result<(), NoMemory>
     requires kind { kind_of image.now ≡ Ffs }
     requires whole { table.now.count ≤ table.now.room }
     requires few { member.now.number ≤ 1048576 }
     requires some { POINTERS * member.now.number < end_in table.now (member.now.number + 1) }
-    requires at { HasReachedNamed image.now found.old (L.heard listener.old) table.now
+    requires at { HasReachedNamed image.now progress.old table.now
         member.now.number member.now.block (POINTERS * member.now.number) }
-    ensures gone { OnOk result (HasReachedNamed image.now found.new (L.heard listener.new) table.now
+    ensures { OnOk result (HasReachedNamed image.now progress.new table.now
         member.now.number member.now.block (end_in table.now (member.now.number + 1))) }
-    ensures stopped { IfErr result (IsStop image.now L.ends) }
 {
     let holder = member.block;
     let pointers = image.block(holder);
     let first = POINTERS as u32 * member.number;
     for k in first..table_end(table, member.number) {
         let b = pointers.word(FIRST_POINTER - (k - first) as usize);
-        if found.owners.is_free(b) {
-            let Ok(()) = found.take(Part::Data(table.node, k + 1), b) else {
-                return Err(no_memory());
-            };
+        if progress.found.owners.is_free(b) {
+            progress.found.take(Part::Data(table.node, k + 1), b)?;
         } else {
-            go_on_ffs(image, found, listener, table, k, holder)?;
+            go_on_ffs(image, progress, table, k, holder)?;
         }
     }
     Ok(())
 }
 
 // Visits the data blocks of a file that a block of its table points to.
-fn go_through_any_table<L: Listener>(
+fn go_through_any_table(
     image: &Image<'_>,
-    found: &mut Found,
-    listener: &mut L,
+    progress: &mut Progress,
     table: &FileTable,
     member: &Member,
-) -> Result<(), Fault>
+) -> Result<(), NoMemory>
     requires few { member.now.number ≤ 1048576 }
     requires some { POINTERS * member.now.number < end_in table.now (member.now.number + 1) }
-    requires at { HasReachedNamed image.now found.old (L.heard listener.old) table.now
+    requires at { HasReachedNamed image.now progress.old table.now
         member.now.number member.now.block (POINTERS * member.now.number) }
-    ensures gone { OnOk result (HasReachedNamed image.now found.new (L.heard listener.new) table.now
+    ensures { OnOk result (HasReachedNamed image.now progress.new table.now
         member.now.number member.now.block (end_in table.now (member.now.number + 1))) }
-    ensures stopped { IfErr result (IsStop image.now L.ends) }
 {
     let holder = member.block;
     let first = POINTERS as u32 * member.number;
@@ -477,8 +448,7 @@ fn go_through_any_table<L: Listener>(
         let due = data_due(table, k, next);
         go_on(
             image,
-            found,
-            listener,
+            progress,
             due,
             holder,
             FIRST_POINTER - (k - first) as usize,
@@ -499,41 +469,37 @@ fn is_whole_ffs(image: &Image<'_>, table: &FileTable) -> bool
 }
 
 // Visits the data blocks of a file that a block of its table points to.
-fn go_through_table<L: Listener>(
+fn go_through_table(
     image: &Image<'_>,
-    found: &mut Found,
-    listener: &mut L,
+    progress: &mut Progress,
     table: &FileTable,
     member: &Member,
-) -> Result<(), Fault>
+) -> Result<(), NoMemory>
     requires few { member.now.number ≤ 1048576 }
     requires some { POINTERS * member.now.number < end_in table.now (member.now.number + 1) }
-    requires at { HasReachedNamed image.now found.old (L.heard listener.old) table.now
+    requires at { HasReachedNamed image.now progress.old table.now
         member.now.number member.now.block (POINTERS * member.now.number) }
-    ensures gone { OnOk result (HasReachedNamed image.now found.new (L.heard listener.new) table.now
+    ensures { OnOk result (HasReachedNamed image.now progress.new table.now
         member.now.number member.now.block (end_in table.now (member.now.number + 1))) }
-    ensures stopped { IfErr result (IsStop image.now L.ends) }
 {
     if is_whole_ffs(image, table) {
-        go_through_ffs_table(image, found, listener, table, member)
+        go_through_ffs_table(image, progress, table, member)
     } else {
-        go_through_any_table(image, found, listener, table, member)
+        go_through_any_table(image, progress, table, member)
     }
 }
 
 // Visits the data blocks of a file, with its header at block `b` and this many extension blocks.
-fn go_through_datas<L: Listener>(
+fn go_through_datas(
     image: &Image<'_>,
-    found: &mut Found,
-    listener: &mut L,
+    progress: &mut Progress,
     node: u32,
     b: u32,
     exts: u32,
-) -> Result<(), Fault>
+) -> Result<(), NoMemory>
     requires few { exts ≤ 1048576 }
-    requires at { HasReachedData image.now found.old (L.heard listener.old) node b exts }
-    ensures gone { OnOk result (HasReached image.now found.new (L.heard listener.new) (before_node (node + 1))) }
-    ensures stopped { IfErr result (IsStop image.now L.ends) }
+    requires at { HasReachedData image.now progress.old node b exts }
+    ensures { OnOk result (HasReached image.now progress.new (before_node (node + 1))) }
 {
     let count = image.data_count(b);
     if count == 0 {
@@ -552,31 +518,25 @@ fn go_through_datas<L: Listener>(
             number: m,
             block: holder,
         };
-        go_through_table(image, found, listener, &table, &member)?;
+        go_through_table(image, progress, &table, &member)?;
         holder = image.word(holder, EXTENSION);
     }
     Ok(())
 }
 
 // Visits the parts of a node: the chains of a directory, or the blocks of a file.
-fn go_through_node<L: Listener>(
-    image: &Image<'_>,
-    found: &mut Found,
-    listener: &mut L,
-    node: u32,
-) -> Result<(), Fault>
-    requires some { node < length found.old.nodes.items }
-    requires at { HasReached image.now found.old (L.heard listener.old) (before_node node) }
-    ensures gone { OnOk result (HasReached image.now found.new (L.heard listener.new) (before_node (node + 1))) }
-    ensures stopped { IfErr result (IsStop image.now L.ends) }
+fn go_through_node(image: &Image<'_>, progress: &mut Progress, node: u32) -> Result<(), NoMemory>
+    requires some { node < length progress.old.found.nodes.items }
+    requires at { HasReached image.now progress.old (before_node node) }
+    ensures { OnOk result (HasReached image.now progress.new (before_node (node + 1))) }
 {
-    let b = found.node_block(node);
+    let b = progress.found.node_block(node);
     let kind = image.word(b, SECONDARY_TYPE);
     if node == 0 || kind == ST_DIR {
-        go_through_dir(image, found, listener, node, b)
+        go_through_dir(image, progress, node, b)
     } else if kind == ST_FILE {
-        let exts = go_through_exts(image, found, listener, node, b)?;
-        go_through_datas(image, found, listener, node, b, exts)
+        let exts = go_through_exts(image, progress, node, b)?;
+        go_through_datas(image, progress, node, b, exts)
     } else {
         Ok(())
     }
@@ -584,15 +544,14 @@ fn go_through_node<L: Listener>(
 
 /// Visits the parts of a volume, until none is next.
 #[tactic(auto, using(crate::proofs::CoursePlaces::nodes_end))]
-pub fn run<L: Listener>(image: &Image<'_>, found: &mut Found, listener: &mut L) -> Result<(), Fault>
-    requires { HasReachedPage image.now found.old (L.heard listener.old) 0 (root_of image.now) }
-    ensures gone { OnOk result (IsFinished image.now found.new (L.heard listener.new)) }
-    ensures stopped { IfErr result (IsStop image.now L.ends) }
+pub fn run(image: &Image<'_>, progress: &mut Progress) -> Result<(), NoMemory>
+    requires { HasReachedPage image.now progress.old 0 (root_of image.now) }
+    ensures { OnOk result (IsFinished image.now progress.new.found (noted progress.new)) }
 {
-    go_through_map(image, found, listener)?;
+    go_through_map(image, progress)?;
     let mut node = 0;
-    while (node as usize) < found.nodes.len() {
-        go_through_node(image, found, listener, node)?;
+    while (node as usize) < progress.found.nodes.len() {
+        go_through_node(image, progress, node)?;
         node += 1;
     }
     Ok(())

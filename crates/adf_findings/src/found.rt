@@ -9,7 +9,7 @@ ghost use Rattle.adf_volume.specs.Walk.{Walk};
 ghost use Rattle.adf_findings.specs.Parts.{by_key, role_of};
 ghost use Rattle.adf_findings.specs.Found.{AreNamed, AreSame, Stands, IsChain, IsKept, IsOwned, IsBlockSkipped};
 ghost use Rattle.adf_findings.specs.Found.{HasValidName, IsPut, IsTaken, IsNextPart, KeepsName, KeepsParts};
-ghost use Rattle.adf_findings.specs.Found.{begun_marks, counts_found, is_owned, known_at, new_in};
+ghost use Rattle.adf_findings.specs.Found.{begun_marks, is_owned, known_at, new_in};
 ghost use Rattle.adf_findings.specs.Survey.{begun};
 
 use crate::header_name::valid_name;
@@ -17,9 +17,7 @@ use crate::image::Image;
 use crate::part::{Key, Part};
 use crate::walk_owners::WalkOwners;
 use adf_base::NoMemory;
-use adf_blocks::{SECONDARY_TYPE, ST_DIR};
 use adf_tree::NameSet;
-use adf_volume::Counts;
 use std::alloc::Global;
 use std::collections::BTreeMap;
 
@@ -96,24 +94,6 @@ impl Found {
         match found.nodes.push(root) {
             Ok(()) => Ok(found),
             Err(_) => Err(NoMemory),
-        }
-    }
-
-    /// What is found has in all.
-    pub fn counts(&self, image: &Image<'_>) -> Counts
-        ensures { result ≡ counts_found image.now self.now }
-    {
-        let heads = self.nodes.iter().skip(1);
-        let dirs = heads
-            .filter(|b| image.word(**b, SECONDARY_TYPE) == ST_DIR)
-            .count();
-        Counts {
-            kind: image.kind(),
-            blocks: image.blocks(),
-            used: image.blocks().saturating_sub(self.left),
-            free: self.left.saturating_sub(2),
-            dirs,
-            files: self.nodes.len().saturating_sub(1 + dirs),
         }
     }
 

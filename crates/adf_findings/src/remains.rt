@@ -1,6 +1,6 @@
 // What is left of files that may be damaged.
 
-ghost use Rattle.std.specs.Prelude.{◌≡◌, ◌≤◌, ◌<◌, ◌^◌, ◌+◌, ◌++◌, ◌↔◌, ℕ, IfOk, IsOk, IfSome, IsSome, OnOk, replicate};
+ghost use Rattle.std.specs.Prelude.{◌≡◌, ◌≤◌, ◌<◌, ◌^◌, ◌+◌, ◌++◌, ◌↔◌, ℕ, IfOk, IsOk, IfSome, IsSome, OnOk, replicate, slice_index};
 ghost use Rattle.adf_blocks.specs.Sizes.{blocks, count};
 ghost use Rattle.adf_base.specs.Words.{block};
 ghost use Rattle.adf_volume.specs.Image.{kind_of, piece};
@@ -111,18 +111,16 @@ fn push_gap(gaps: &mut Vec<Gap>, gap: Gap) -> Result<(), AllocError>
 }
 
 // Appends zeros.
-fn push_zeros(alloc: Global, bytes: &mut Vec<u8>, count: usize) -> Result<(), AllocError>
+fn push_zeros(bytes: &mut Vec<u8>, count: u32) -> Result<(), AllocError>
     ensures { OnOk result (bytes.new.items ≡ bytes.old.items ++ replicate count 0) }
 {
-    let zeros = vec![in alloc; 0u8; count]?;
-    bytes.extend_from_slice(&zeros)
+    bytes.resize(bytes.len() + count as usize, 0)
 }
 
 impl Remains {
     // Appends data block `k`, counted from 0, of a file of `size` bytes: the bytes in its block, or zeros.
     fn add(
         &mut self,
-        alloc: Global,
         image: &Image<'_>,
         size: u32,
         k: u32,
@@ -138,8 +136,7 @@ impl Remains {
         match found {
             Some(b) => self.bytes.extend_from_slice(data_in(image, b, size, k)),
             None => {
-                let held = held_in(image.kind(), size, k + 1);
-                push_zeros(alloc, &mut self.bytes, held as usize)?;
+                push_zeros(&mut self.bytes, held_in(image.kind(), size, k + 1))?;
                 push_gap(&mut self.gaps, gap_at(image, size, k))
             }
         }
@@ -173,23 +170,23 @@ impl<'i> Survey<'i> {
         }
     }
 
-    // What is left of a file with its header at a block, of so many bytes.
+    // What is left of a file, of the data blocks that are found before block `end`.
     fn left_of(
         &self,
         alloc: Global,
         image: &Image<'_>,
         n: Node,
-        head: u32,
         end: u32,
     ) -> Result<Remains, AllocError>
-        ensures bytes { IfOk result (λ r. r.bytes.items
+        ensures bytes { let head = slice_index self.now.nodes n in IfOk result (λ r. r.bytes.items
             ≡ bytes_left image.now (size_stated image.now head) (named_below end image.now self.now n head)
             (blocks_stated image.now head)) }
-        ensures gaps { IfOk result (λ r. r.gaps.items
+        ensures gaps { let head = slice_index self.now.nodes n in IfOk result (λ r. r.gaps.items
             ≡ gaps_left image.now (size_stated image.now head) (named_below end image.now self.now n head)
             (blocks_stated image.now head)) }
-        ensures empty { blocks_stated image.now head ≡ 0 → IsOk result }
+        ensures empty { blocks_stated image.now (slice_index self.now.nodes n) ≡ 0 → IsOk result }
     {
+        let head = number_at(&self.nodes, n.0);
         let mut remains = Remains {
             bytes: Vec::new(alloc),
             gaps: Vec::new(alloc),
@@ -199,7 +196,7 @@ impl<'i> Survey<'i> {
         for k in 0..count_stated(image.kind(), size) {
             let b = image.word(member, FIRST_POINTER - k as usize % POINTERS);
             let found = below(end, self.data_at(image, n, k, b));
-            remains.add(alloc, image, size, k, found)?;
+            remains.add(image, size, k, found)?;
             if (k as usize + 1) % POINTERS == 0 {
                 member = image.word(member, EXTENSION);
             }
@@ -229,8 +226,7 @@ impl<'i> Survey<'i> {
         let Ok(started) = start(self.image) else {
             return Ok(None);
         };
-        let head = number_at(&self.nodes, n.0);
-        match self.left_of(alloc, &started.image, n, head, end) {
+        match self.left_of(alloc, &started.image, n, end) {
             Ok(remains) => Ok(Some(remains)),
             Err(_) => Err(NoMemory),
         }

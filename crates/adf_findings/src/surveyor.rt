@@ -1,10 +1,7 @@
 // The survey of an image.
 
 ghost use Rattle.std.specs.Prelude.{◌≡◌, ◌++◌, IfOk, OnOk, map};
-ghost use Rattle.adf_volume.specs.Image.{root_of};
 ghost use Rattle.adf_volume.specs.Walk.{Walk};
-ghost use Rattle.adf_findings.specs.Courses.{HasReachedPage};
-ghost use Rattle.adf_findings.specs.Found.{IsCompleted};
 ghost use Rattle.adf_findings.specs.Parts.{finding_value};
 ghost use Rattle.adf_findings.specs.Start.{boot_findings, root_findings, unread_findings};
 ghost use Rattle.adf_findings.specs.Survey.{BootTells, IsSurvey, RootTells, UnreadTells};
@@ -13,9 +10,9 @@ use crate::bits::compare;
 use crate::course::run;
 use crate::found::Found;
 use crate::image::Image;
-use crate::listener::Noting;
 use crate::marks::{concerned, grave, strike_blamed, undoubted_marks};
 use crate::part::{Finding, Part};
+use crate::progress::{Progress, note};
 use crate::start::{Started, Unread, start};
 use crate::survey_result::Survey;
 use crate::walk_owners::WalkOwners;
@@ -38,10 +35,7 @@ fn report_boot(findings: &mut Vec<Finding>, boot: Option<Cause>) -> Result<(), N
         block: 0,
         cause,
     };
-    match findings.push(finding) {
-        Ok(()) => Ok(()),
-        Err(_) => Err(NoMemory),
-    }
+    note(findings, finding)
 }
 
 // The survey of an image of which nothing is taken.
@@ -59,20 +53,18 @@ fn only<'i>(alloc: Global, image: &'i [u8], unread: Unread) -> Result<Survey<'i>
         block: unread.last.block,
         cause: unread.last.cause,
     };
-    match findings.push(finding) {
-        Ok(()) => Ok(Survey {
-            image,
-            findings,
-            concerned: Vec::new(alloc),
-            owners,
-            taken: BTreeMap::new(alloc),
-            nodes: Vec::new(alloc),
-            parents: Vec::new(alloc),
-            sound: Vec::new(alloc),
-            whole: Vec::new(alloc),
-        }),
-        Err(_) => Err(NoMemory),
-    }
+    note(&mut findings, finding)?;
+    Ok(Survey {
+        image,
+        findings,
+        concerned: Vec::new(alloc),
+        owners,
+        taken: BTreeMap::new(alloc),
+        nodes: Vec::new(alloc),
+        parents: Vec::new(alloc),
+        sound: Vec::new(alloc),
+        whole: Vec::new(alloc),
+    })
 }
 
 // Notes the cause of the root, if it has one.
@@ -88,25 +80,7 @@ fn report_root(findings: &mut Vec<Finding>, root: Option<Fault>) -> Result<(), N
         block: fault.block,
         cause: fault.cause,
     };
-    match findings.push(finding) {
-        Ok(()) => Ok(()),
-        Err(_) => Err(NoMemory),
-    }
-}
-
-// Notes the causes of the parts of a volume, and the bits that disagree.
-fn note(image: &Image<'_>, found: &mut Found, noting: &mut Noting) -> Result<(), NoMemory>
-    requires { HasReachedPage image.now found.old (map finding_value noting.old.findings.items)
-        0 (root_of image.now) }
-    ensures { OnOk result (IsCompleted image.now found.new (map finding_value noting.new.findings.items)) }
-{
-    if run(image, found, noting).is_err() {
-        return Err(NoMemory);
-    }
-    match compare(image, found, noting) {
-        Ok(()) => Ok(()),
-        Err(_) => Err(NoMemory),
-    }
+    note(findings, finding)
 }
 
 // The survey of an image whose root is taken.
@@ -118,14 +92,18 @@ fn go_through<'i>(alloc: Global, started: &Started<'i>) -> Result<Survey<'i>, No
         × IsSurvey started.now.image w (map finding_value v.findings)) }
 {
     let image = &started.image;
-    let mut found = Found::begin(alloc, image)?;
-    let mut noting = Noting {
+    let mut progress = Progress {
+        found: Found::begin(alloc, image)?,
         findings: Vec::new(alloc),
     };
-    report_boot(&mut noting.findings, started.boot)?;
-    report_root(&mut noting.findings, started.root)?;
-    note(image, &mut found, &mut noting)?;
-    let findings = noting.findings;
+    report_boot(&mut progress.findings, started.boot)?;
+    report_root(&mut progress.findings, started.root)?;
+    run(image, &mut progress)?;
+    let Progress {
+        found,
+        mut findings,
+    } = progress;
+    compare(image, &found, &mut findings)?;
     let concerned = concerned(alloc, &found, &findings)?;
     let mut sound = undoubted_marks(alloc, image, &found)?;
     let Ok(mut whole) = sound.clone() else {

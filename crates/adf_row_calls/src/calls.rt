@@ -9,7 +9,7 @@ use adf_blocks::Cause;
 use adf_build::build;
 use adf_check::{Owner, Owners, check_types};
 use adf_fields::stamp_text;
-use adf_findings::{Types, check_walk, survey};
+use adf_findings::{Types, survey};
 use adf_tree::{Comment, Label, Node};
 use std::alloc::Global;
 
@@ -42,7 +42,6 @@ pub fn outcome_of(alloc: Global, name: &str) -> Option<CallOutcome> {
         "draft_add" => draft_add_outcome(alloc),
         "owners_new" => owners_new_outcome(alloc),
         "read_sound_file" => read_sound_file_outcome(alloc),
-        "check_walk" => check_walk_outcome(alloc),
         "check_types" => check_types_outcome(alloc),
         _ => None,
     }
@@ -130,48 +129,6 @@ fn read_sound_file_outcome(alloc: Global) -> Option<CallOutcome> {
         Ok(bytes) => CallOutcome::Done.only_if(bytes.as_slice() == [0x41u8; 489].as_slice()),
         Err(_) => CallOutcome::NoMemory.only_if(file.size() == 489),
     })
-}
-
-// Where a check along the walk of an image ends, and why, where these types are accepted; the files if it accepts the image.
-fn walk_fault(alloc: Global, types: Types, image: &[u8]) -> Result<usize, (u32, Cause)> {
-    match check_walk(alloc, types, image) {
-        Ok(counts) => Ok(counts.files),
-        Err(fault) => Err((fault.block, fault.cause)),
-    }
-}
-
-// The image of the volume with another type, which its name, a letter, may have as well; and a check that accepts all types.
-fn typed_fault(
-    alloc: Global,
-    image: &mut [u8],
-    dos_type: u8,
-) -> Option<Result<usize, (u32, Cause)>> {
-    *image.get_mut(3)? = dos_type;
-    Some(walk_fault(alloc, Types::WithInternational, image))
-}
-
-// A check along the walk of the volume; of it as one of other types, of which OFS ones with international letters are
-// accepted; and along that of the volume whose last data block, block 4, has another sum.
-fn check_walk_outcome(alloc: Global) -> Option<CallOutcome> {
-    let mut image = file_image(alloc)?;
-    let sound = walk_fault(alloc, Types::Plain, &image);
-    let international = typed_fault(alloc, &mut image, 2)?;
-    let refused = walk_fault(alloc, Types::Plain, &image);
-    let cached = typed_fault(alloc, &mut image, 4)?;
-    let unknown = typed_fault(alloc, &mut image, 6)?;
-    *image.get_mut(4 * 512 + 20)? ^= 1;
-    let damaged = typed_fault(alloc, &mut image, 0)?;
-    let started = [refused, cached, unknown]
-        == [
-            Err((0, Cause::International)),
-            Err((0, Cause::DirCache)),
-            Err((0, Cause::NotDos)),
-        ];
-    let walked = [sound, international, damaged];
-    if walked.contains(&Err((0, Cause::NoMemory))) {
-        return Some(CallOutcome::NoMemory);
-    }
-    Some(CallOutcome::Done.only_if(started && walked == [Ok(1), Ok(1), Err((4, Cause::BadSum))]))
 }
 
 // Where a check of an image ends, and why, where these types are accepted; the files and the letters if it accepts the image.

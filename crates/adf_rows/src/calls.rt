@@ -10,7 +10,7 @@ use adf_runs::run_program_on;
 use std::alloc::Global;
 
 /// The names of all calls.
-pub const CALLS: [&str; 14] = [
+pub const CALLS: [&str; 13] = [
     "stamp_text",
     "label_write",
     "comment_write",
@@ -21,7 +21,6 @@ pub const CALLS: [&str; 14] = [
     "draft_add",
     "owners_new",
     "read_sound_file",
-    "check_walk",
     "check_types",
     "build_and_read",
     "convert_in_memory",

@@ -1,27 +1,24 @@
 use Rattle.std.proofs.Common.{◌≡◌, ◌+◌, subst, sym, arith}
 use Rattle.adf_findings.specs.Found.{IsNextPart}
-use Rattle.adf_findings.proofs.CourseSteps.{has_next, skipped_on, taken_next, taken_on, to_skip, to_take}
+use Rattle.adf_findings.proofs.CourseSteps.{skipped_on, taken_next, taken_on, to_skip, to_take}
 use Rattle.adf_findings.proofs.course.go_on.Goals as goal
 
-pub judge_next-requires-clause-next : goal.judge_next-requires-clause-next
-judge_next-requires-clause-next g c = has_next c.requires.due.1 c.word.ensures
-
 pub take-requires : goal.take-requires
-take-requires g c =
+take-requires c =
     let n = c.requires.due.1 in
-    let o = to_take n c.word.ensures c.in_ok-part.ensures.outcome c.in-Some.part c.in-Some.is in
-    record { next = subst (λ b. IsNextPart c.in-Some.part b c.judge_next.new.found) (sym c.word.ensures) (taken_next n o) }
+    let o = to_take n c.word.ensures c.in_ok-part.ensures c.in-Some.part c.in-Some.is in
+    record { next = subst (λ b. IsNextPart c.in-Some.part b c.judge_next.new.progress.found) (sym c.word.ensures) (taken_next n o) }
 
-pub returns-in-Ok-clause-gone : goal.returns-in-Ok-clause-gone
-returns-in-Ok-clause-gone g c = λ s n.
-    rw c.word.ensures (taken_on n (to_take n c.word.ensures c.in_ok-part.ensures.outcome c.in-Some.part c.in-Some.is)
-    (rw c.word.ensures at c.in-Ok.ensures))
+pub returns-in_ok-take-in-Some-clause-gone : goal.returns-in_ok-take-in-Some-clause-gone
+returns-in_ok-take-in-Some-clause-gone c = λ s n.
+    rw c.word.ensures (taken_on n (to_take n c.word.ensures c.in_ok-part.ensures c.in-Some.part c.in-Some.is)
+    (rw c.word.ensures at c.in_ok-take-in-Some.ensures))
 
-pub returns-in-Ok-clause-left : goal.returns-in-Ok-clause-left
-returns-in-Ok-clause-left g c =
-    let o = to_take c.requires.due.1 c.word.ensures c.in_ok-part.ensures.outcome c.in-Some.part c.in-Some.is in
+pub returns-in_ok-take-in-Some-clause-left : goal.returns-in_ok-take-in-Some-clause-left
+returns-in_ok-take-in-Some-clause-left c =
+    let o = to_take c.requires.due.1 c.word.ensures c.in_ok-part.ensures c.in-Some.part c.in-Some.is in
     let left = o.left in
-    let less : c.take.new.self.left + 1 ≡ c.judge_next.new.found.left = c.in-Ok.ensures.owned.left in omega arith
+    let less : c.take.new.self.left + 1 ≡ c.judge_next.new.progress.found.left = c.in_ok-take-in-Some.ensures.owned.left in omega arith
 
 pub returns-in-None-clause-gone : goal.returns-in-None-clause-gone
-returns-in-None-clause-gone g c = λ s n. skipped_on n (to_skip n c.word.ensures c.in_ok-part.ensures.outcome c.in-None.is)
+returns-in-None-clause-gone c = λ s n. skipped_on n (to_skip n c.word.ensures c.in_ok-part.ensures c.in-None.is)

@@ -1,4 +1,4 @@
-use Rattle.std.proofs.Common.{◌≡◌, ◌<◌, ◌+◌, ◌*◌, suc, min, sym, subst, arith}
+use Rattle.std.proofs.Common.{◌≡◌, ◌+◌, ◌*◌, suc, min, sym, subst, arith}
 use Rattle.adf_blocks.specs.declared.layout.TheConstants.{EXTENSION, POINTERS}
 use Rattle.adf_volume.specs.Image.{word_in}
 use Rattle.adf_findings.specs.declared.course.FileTable.{FileTable}
@@ -7,33 +7,32 @@ use Rattle.adf_findings.proofs.CoursePlaces.{datas_begin, datas_done, member_end
 use Rattle.adf_findings.proofs.course.go_through_datas.Goals as goal
 
 pub loop-m-init : goal.loop-m-init
-loop-m-init g c =
+loop-m-init c =
     let none : 0 ≡ min (min c.data_count-count.result (POINTERS * (c.args.exts + 1))) (POINTERS * 0) = omega arith in
-    subst (HasReachedMember c.args.image.now c.args.found.now (g.L.Listener.heard c.args.listener.now) _ 0 c.args.b) none
+    subst (HasReachedMember c.args.image.now c.args.progress.now _ 0 c.args.b) none
     (member_first (datas_begin c.requires.at c.data_count-count.ensures))
 
 pub go_through_table-requires-clause-at : goal.go_through_table-requires-clause-at
-go_through_table-requires-clause-at g c =
-    subst (HasReachedNamed c.args.image.now c.loop-m.found (g.L.Listener.heard c.loop-m.listener) _ c.loop-m.m c.loop-m.holder)
+go_through_table-requires-clause-at c =
+    subst (HasReachedNamed c.args.image.now c.loop-m.progress _ c.loop-m.m c.loop-m.holder)
     (omega (arith, c.loop-m-test.true, c.min-end.ensures, c.div_ceil-m-end.ensures))
     (member_named c.loop-m.invariant (omega (arith, c.loop-m-test.true, c.min-end.ensures, c.div_ceil-m-end.ensures)))
 
 pub loop-m-preserved : goal.loop-m-preserved
-loop-m-preserved g c =
+loop-m-preserved c =
     let image = c.args.image.now in
-    let fs = g.L.Listener.heard c.go_through_table.new.listener in
     let m = c.loop-m.m in
     let x : FileTable = record { node = c.args.node; head = c.args.b; count = c.data_count-count.result; room = POINTERS * (c.args.exts + 1) } in
     let one : suc m ≡ m + 1 = omega arith in
-    subst (λ a. HasReachedMember image c.go_through_table.new.found fs x (m + 1) a (end_in x (m + 1))) (sym c.word-holder.ensures)
-    (subst (λ j. HasReachedMember image c.go_through_table.new.found fs x j (word_in image c.loop-m.holder EXTENSION) (end_in x (m + 1))) one
-    (member_ends c.in_ok-go_through_table.ensures.gone))
+    subst (λ a. HasReachedMember image c.go_through_table.new.progress x (m + 1) a (end_in x (m + 1))) (sym c.word-holder.ensures)
+    (subst (λ j. HasReachedMember image c.go_through_table.new.progress x j (word_in image c.loop-m.holder EXTENSION) (end_in x (m + 1))) one
+    (member_ends c.in_ok-go_through_table.ensures))
 
-pub returns-clause-gone : goal.returns-clause-gone
-returns-clause-gone g c =
+pub returns : goal.returns
+returns c =
     datas_done (member_table c.loop-m.invariant)
     (λ j lt few. omega (arith, c.loop-m-test.false, c.min-end.ensures, c.div_ceil-m-end.ensures))
 
-pub returns-then-count-eq0-clause-gone : goal.returns-then-count-eq0-clause-gone
-returns-then-count-eq0-clause-gone g c =
+pub returns-then-count-eq0 : goal.returns-then-count-eq0
+returns-then-count-eq0 c =
     datas_done (datas_begin c.requires.at c.data_count-count.ensures) (λ j lt few. omega (arith, c.if-count-eq0.true, lt))

@@ -3,19 +3,19 @@ use Rattle.adf_findings.proofs.CoursePlaces.{dir_begins, dir_there, file_there, 
 use Rattle.adf_findings.proofs.course.go_through_node.Goals as goal
 
 pub go_through_dir-requires : goal.go_through_dir-requires
-go_through_dir-requires g c =
+go_through_dir-requires c =
     let h = c.requires.at.1 in
     dir_begins c.args.node c.node_block-b.result h
     (dir_there h c.requires.some c.node_block-b.ensures
     (elim c.if-kind-eq-ST_DIR.either [ inl e ↦ inl e | inr e ↦ inr (sym c.word-kind.ensures ∙ e.1) ]))
 
 pub go_through_exts-requires : goal.go_through_exts-requires
-go_through_exts-requires g c =
+go_through_exts-requires c =
     let h = c.requires.at.1 in
     let type = sym c.word-kind.ensures ∙ c.if-kind.true in
     (c.requires.at.0, h, file_there h c.requires.some c.node_block-b.ensures c.if-kind-eq-ST_DIR.false.0 type)
 
-pub returns-else-kind-clause-gone : goal.returns-else-kind-clause-gone
-returns-else-kind-clause-gone g c =
+pub returns-else-kind : goal.returns-else-kind
+returns-else-kind c =
     nothing_there c.requires.at.1 c.requires.some c.node_block-b.ensures
     c.if-kind-eq-ST_DIR.false.0 (λ e. c.if-kind-eq-ST_DIR.false.1 (c.word-kind.ensures ∙ e)) (λ e. c.if-kind.false (c.word-kind.ensures ∙ e))

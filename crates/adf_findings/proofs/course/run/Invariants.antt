@@ -5,7 +5,7 @@ use Rattle.adf_findings.specs.Courses.{HasReached}
 use Rattle.adf_findings.proofs.course.run.Given as goal
 
 abbrev pub invariant-loop-node : goal.invariant-loop-node
-invariant-loop-node g l = HasReached l.image l.found (g.L.Listener.heard l.listener) (before_node l.node)
+invariant-loop-node l = HasReached l.image l.progress (before_node l.node)
 
 abbrev pub decreases-loop-node : goal.decreases-loop-node
-decreases-loop-node g l = suc (blocks l.image) - l.node
+decreases-loop-node l = suc (blocks l.image) - l.node

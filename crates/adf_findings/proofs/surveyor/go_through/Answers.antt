@@ -1,8 +1,6 @@
 use Rattle.std.proofs.Common.{Bool, map, not, ◌≡◌, ◌&&◌, ◌++◌, ◌∙◌, ℕ, List, ap, sym, subst}
 use Rattle.std.specs.List.{filter}
-use Rattle.adf_volume.specs.Image.{root_of}
 use Rattle.adf_findings.specs.declared.part.Finding.{Finding}
-use Rattle.adf_findings.specs.Courses.{HasReachedPage}
 use Rattle.adf_findings.specs.Files.{is_light}
 use Rattle.adf_findings.specs.Marks.{blamed, has_mark, is_blamed, is_undoubted}
 use Rattle.adf_findings.specs.Parts.{finding_value}
@@ -13,22 +11,21 @@ use Rattle.adf_findings.proofs.Begun.{on_begun}
 use Rattle.adf_findings.proofs.Keeping.{clear_marks, copied, read_kept, read_told}
 use Rattle.adf_findings.proofs.surveyor.go_through.Goals as goal
 
-pub note-requires : goal.note-requires
-note-requires c =
+pub run-requires : goal.run-requires
+run-requires c =
     let image = c.args.started.now.image in
     let bs = boot_findings c.args.started.now.boot in
     let rs = root_findings c.args.started.now.root in
     let told : map finding_value c.report_root.new.findings.items ≡ bs ++ rs =
     c.in_ok-report_root.ensures
     ∙ ap (λ fs. fs ++ rs) (c.in_ok-report_boot.ensures ∙ ap (λ (xs : List Finding). map finding_value xs ++ bs) c.new.ensures.items) in
-    subst (λ fs. HasReachedPage image c.in_ok-found.found fs 0 (root_of image)) (sym told)
-    (on_begun image (bs ++ rs) c.in_ok-found.found (start c.requires.boot c.requires.root) c.in_ok-found.ensures.stands c.begin.ensures.few)
+    on_begun image (bs ++ rs) _ (sym told) (start c.requires.boot c.requires.root) c.in_ok-begin.ensures.stands c.begin.ensures.few
 
 pub invariant_of-result : goal.invariant_of-result
 invariant_of-result c =
     let image = c.args.started.now.image in
-    let f = c.note.new.found in
-    let xs : List Finding = c.note.new.noting.findings.items in
+    let f = c.run.new.progress.found in
+    let xs : List Finding = c.compare.new.findings.items in
     let ys : List Finding = c.in_ok-graves.graves.items in
     let entries = c.in_ok-concerned.concerned.items in
     let base = c.in_ok-sound.sound.items in
@@ -55,7 +52,7 @@ invariant_of-result c =
       whole = whole;
     }))
     (sym c.bytes.ensures)
-    (read_kept image f xs ys entries sound whole c.in_ok-note.ensures
+    (read_kept image f xs ys entries sound whole c.in_ok-compare.ensures
     (c.in_ok-concerned.ensures ∙ ap (map (λ (x : Finding). blamed f x.part)) c.deref.ensures.value)
     (clear_marks image f xs base sound c.in_ok-sound.ensures struck)
     (c.in_ok-graves.ensures ∙ ap (filter (λ (x : Finding). not (is_light (finding_value x)))) c.deref-3.ensures.value)
@@ -63,4 +60,4 @@ invariant_of-result c =
 
 pub returns-clause-findings : goal.returns-clause-findings
 returns-clause-findings c =
-    read_told c.args.started.now.image c.note.new.found (map finding_value c.note.new.noting.findings.items) c.in_ok-note.ensures
+    read_told c.args.started.now.image c.run.new.progress.found (map finding_value c.compare.new.findings.items) c.in_ok-compare.ensures

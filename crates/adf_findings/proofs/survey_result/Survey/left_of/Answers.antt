@@ -9,7 +9,7 @@ use Rattle.adf_findings.proofs.survey_result.Survey.left_of.Goals.{then-k-eq0, e
 pub loop-k-preserved : goal.loop-k-preserved
 loop-k-preserved c =
     let image = c.args.image.now in
-    let head = c.args.head in
+    let head = c.number_at-head.result in
     let size = c.size_stated-size.result in
     let k = c.loop-k.k in
     let end = c.args.end in

@@ -1,4 +1,4 @@
-use Rattle.std.proofs.Common.{slice_index, ap, subst, ◌∙◌}
+use Rattle.std.proofs.Common.{ap, subst, ◌∙◌}
 use Rattle.adf_volume.specs.Walk.{node_block}
 use Rattle.adf_findings.specs.Start.{unread_findings}
 use Rattle.adf_findings.specs.Survey.{UnreadTells}
@@ -19,9 +19,8 @@ returns-in-Ok-left_of-clause-bytes c = λ w fs h.
     let t = tells_each v (subst IsOfSurvey c.self.view_is c.self.invariant) w fs h in
     let file = (c.is_file.ensures w fs h).0 c.if-not-is_file.false in
     let image = c.in-Ok.ensures.image ∙ ap (λ v. v.image) c.self.view_is in
-    let head = c.number_at-head.ensures ∙ ((λ i. slice_index (c.self.view_is i).nodes (c.n.view_is i)) ∙ t.node c.args.n) in
     c.in-Ok-left_of.ensures.bytes
-    ∙ (left_is t c.args.n (node_block w c.args.n) (file_at v.image w fs h c.args.n file.0 file.1) c.args.end image head).0
+    ∙ (left_is t c.args.n (node_block w c.args.n) (file_at v.image w fs h c.args.n file.0 file.1) c.args.end image (t.node c.args.n)).0
 
 pub returns-in-Ok-left_of-clause-gaps : goal.returns-in-Ok-left_of-clause-gaps
 returns-in-Ok-left_of-clause-gaps c = λ w fs h.
@@ -29,6 +28,5 @@ returns-in-Ok-left_of-clause-gaps c = λ w fs h.
     let t = tells_each v (subst IsOfSurvey c.self.view_is c.self.invariant) w fs h in
     let file = (c.is_file.ensures w fs h).0 c.if-not-is_file.false in
     let image = c.in-Ok.ensures.image ∙ ap (λ v. v.image) c.self.view_is in
-    let head = c.number_at-head.ensures ∙ ((λ i. slice_index (c.self.view_is i).nodes (c.n.view_is i)) ∙ t.node c.args.n) in
     c.in-Ok-left_of.ensures.gaps
-    ∙ (left_is t c.args.n (node_block w c.args.n) (file_at v.image w fs h c.args.n file.0 file.1) c.args.end image head).1
+    ∙ (left_is t c.args.n (node_block w c.args.n) (file_at v.image w fs h c.args.n file.0 file.1) c.args.end image (t.node c.args.n)).1
