@@ -2,8 +2,9 @@
 
 ghost use Rattle.std.specs.Prelude.{◌≡◌, IfOk};
 
+use crate::memory::Given;
 use adf_cmd::{Device, Sink, Source};
-use adf_runs::SeekingDevice;
+use adf_runs::{SeekingDevice, read_part};
 use std::io;
 use std::io::{Read, Seek, SeekFrom, Write};
 
@@ -131,5 +132,30 @@ fn what_cannot_seek_is_read(rt: HostRuntime) {
         let mut device = SeekingDevice::new(LongFile { at: 0, end });
         assert!(rt; device.skip(1).is_err());
         assert!(rt; device.failed());
+    }
+}
+
+// Where a part of ten bytes begins and ends, and the limit; then its bytes, and how many are told in all.
+const PARTS: &[(usize, usize, usize, &[u8], usize)] = &[
+    (0, 4, 9, b"0123", 10),
+    (3, 5, 9, b"34", 10),
+    (3, 5, 7, b"34", 8),
+    (8, 12, 20, b"89", 10),
+    (12, 14, 20, b"", 10),
+];
+
+// What is in front of a part and behind it is counted, up to one byte more than the limit.
+#[test]
+fn parts_are_held(rt: HostRuntime) {
+    for (from, to, limit, bytes, len) in PARTS {
+        let mut input = Given::new(b"0123456789", usize::MAX);
+        assert!(rt; from <= to && to <= limit && *limit < 100);
+        match read_part(rt.alloc(), &mut input, *from, *to, *limit) {
+            Ok(part) => {
+                assert!(rt; part.bytes.as_slice() == *bytes);
+                assert_eq!(rt; part.len, *len);
+            }
+            Err(_) => assert!(rt; false),
+        }
     }
 }

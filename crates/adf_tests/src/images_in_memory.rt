@@ -333,15 +333,16 @@ fn run_survey(alloc: Global, words: &[u8], image: &Image) -> (u8, Moved, [u8; 20
     (status, moved, output)
 }
 
-// An output that has just enough room is not taken for one that has too little. Words that no zero byte ends are none.
+// An output that has just enough room is not taken for one that has too little, and an image is consumed whole. Words that no zero
+// byte ends are none, and consume nothing.
 #[test]
 fn findings_fit_exactly(rt: HostRuntime) {
     let image = with_bytes(&built(rt.alloc(), MANIFEST), &[IN_C]);
     let (status, moved, output) = run_survey(rt.alloc(), b"adf-survey\0", &image);
     assert!(rt; (status, moved.output, moved.output_full) == (1, 20, false));
-    assert!(rt; output == *b"block 2: bad sum: c\n");
+    assert!(rt; moved.input == image.len() && output == *b"block 2: bad sum: c\n");
     let (status, moved, _) = run_survey(rt.alloc(), b"adf-survey", &image);
-    assert!(rt; (status, moved.output, moved.errors) == (2, 0, 80));
+    assert!(rt; (status, moved.input, moved.output, moved.errors) == (2, 0, 0, 80));
 }
 
 // The structs are as long as those of include/adf.h on a machine of 64 bits.
