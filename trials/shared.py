@@ -80,10 +80,8 @@ def built(kind, blocks, lines=()):
 
 
 def international(image):
-    """A volume of the tree of this image, of the type with international letters. An empty one differs in its type alone."""
+    """A volume of the tree of this image, of the type with international letters."""
     given = image[:3] + bytes([image[3] + 2]) + image[4:]
-    if not adf.Volume(image).entries:
-        return given
     new = said("adf-survey", "rescue", "--keep-type", status=0, input=given)
     return new if everything(adf.Volume(new)) == everything(adf.Volume(image)) else sys.exit("adf-survey rescues another tree")
 

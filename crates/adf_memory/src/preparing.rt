@@ -9,13 +9,13 @@ ghost use Rattle.adf_rescue.specs.Rescue.{IsSecond, Basis, OnBasis, OnSecond};
 ghost use Rattle.adf_memory.specs.Rescuing.{IsFaultOf, IsOpened, IsRefusal, Prepares, Rescue, RescueBoth, RescueBy};
 
 use crate::losses::{LossTable, rescue_losses};
-use adf_base::{Letters, NoMemory};
+use adf_base::NoMemory;
 use adf_blocks::Cause;
 use adf_check::check;
 use adf_drafts::Draft;
 use adf_findings::{Survey, some_survey, survey};
 use adf_rescue::{Terms, hung_image, is_mended, open_image, rescue};
-use adf_volume::Fault;
+use adf_volume::{Fault, Types};
 use std::alloc::{AllocError, Global};
 
 /// A rescue of which only the new volume is to be laid: the draft of its tree, the number of its blocks,
@@ -106,7 +106,7 @@ fn prepare_found(
     found.whole_marks();
     some_survey();
     let terms = Terms {
-        letters: Letters::Ascii,
+        types: Types::Plain,
         held,
         mended: fault.is_some(),
     };

@@ -7,11 +7,12 @@ use Rattle.std.proofs.lemmas.Bool.{not_from_false, not_from_true, or_from, or_le
 use Rattle.std.proofs.lemmas.List.{drop-drop, get_or-take, length-take, take_all}
 use Rattle.std.proofs.lemmas.Grind.{common_steps}
 use Rattle.adf_base.specs.Words.{block, long_sum, with_bytes, word}
+use Rattle.adf_base.specs.declared.hash.Letters.{Letters}
 use Rattle.adf_tree.specs.Tree.{Tree}
 use Rattle.adf_blocks.specs.declared.layout.TheConstants.{FIRST_SLOT, SLOTS}
 use Rattle.adf_blocks.specs.RootBlock.{label_stated, root_block, stamps_at}
 use Rattle.adf_blocks.specs.Sizes.{middle}
-use Rattle.adf_volume.specs.Fits.{Fits}
+use Rattle.adf_volume.specs.Fits.{FitsBy}
 use Rattle.adf_volume.specs.Image.{root_of, word_in}
 use Rattle.adf_volume.specs.Layout.{Layout}
 use Rattle.adf_volume.specs.Start.{is_image_len}
@@ -239,5 +240,5 @@ first_block : (image : List ℕ) → begins_with_dos (block image 0) ≡ begins_
 unfolding block
 first_block image = first_bytes image 512 (omega arith)
 
-pub volumes_are_kept : (image : List ℕ) (t : Tree) (l : Layout) → Fits image t l → is_mended image ≡ false
-volumes_are_kept image t l fits = grind (arith, common_steps, first_block, front_tests, and_from, and_right, not_from_true)
+pub volumes_are_kept : (letters : Letters) (image : List ℕ) (t : Tree) (l : Layout) → FitsBy letters image t l → is_mended image ≡ false
+volumes_are_kept letters image t l fits = grind (arith, common_steps, first_block, front_tests, and_from, and_right, not_from_true)

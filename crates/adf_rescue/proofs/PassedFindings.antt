@@ -1,11 +1,19 @@
--- Surveys with no finding but that of an accepted type, which concerns no part: each entry is sound.
+-- Surveys with no finding but that of an accepted type, which concerns no part: each entry is sound. And whether there are others.
 -- Letters: w the walk of the survey, fs its findings; f a finding; r, q roles; n a node, h the block of its header; c a cause.
-use Rattle.std.proofs.Common.{◌≡◌, ℕ, List, [], ◌∷◌, ◌++◌, inl, inr, refl, sym, ap, subst, ◌∙◌, Bool, true, false, cond, Option, Some, None}
+use Rattle.std.proofs.Common.{◌≡◌, ◌≢◌, ◌<◌, ◌≤◌, ℕ, List, [], ◌∷◌, ◌++◌, inl, inr, refl, sym, ap, subst, ◌∙◌, Bool, true, false, cond}
+use Rattle.std.proofs.Common.{Option, Some, None, append-nil, arith, length, length-append}
+use Rattle.std.specs.Prelude.{◌↔◌}
+use Rattle.std.proofs.Math.Dec.{ltb}
+use Rattle.std.proofs.lemmas.Bool.{cases_lt, lt-ltb, ltb-true}
+use Rattle.std.proofs.lemmas.List.{nil_from_length}
+use Rattle.adf_base.specs.declared.hash.Letters.{Letters}
 use Rattle.adf_blocks.specs.declared.cause.Cause.{Cause}
 use Rattle.adf_blocks.specs.Forms.{first_cause}
 use Rattle.adf_volume.specs.Start.{start_form}
 use Rattle.adf_volume.specs.Lists.{In}
-use Rattle.adf_volume.specs.Walk.{Role, Has, HeadAt, Walk}
+use Rattle.adf_volume.specs.Types.{letters_for}
+use Rattle.adf_volume.specs.Walk.{IsWalkBy, Role, Has, HeadAt, Walk}
+use Rattle.adf_volume.specs.Walk.IsWalkBy.{start as walk_start, step as walk_step}
 use Rattle.adf_volume.specs.declared.types.Types.{Types}
 use Rattle.adf_volume.specs.declared.types.Types.TheVariants.{Plain, WithInternational}
 use Rattle.adf_volume.proofs.Gathered.{head_block}
@@ -16,9 +24,12 @@ use Rattle.adf_findings.specs.Sound.{IsOfItsKind, IsSound, says_data_of}
 use Rattle.adf_findings.specs.Survey.{FindingValue, IsSurvey, finding}
 use Rattle.adf_findings.specs.Survey.IsSurvey.{read, unread}
 use Rattle.adf_findings.specs.Types.{is_passed, passed, passed_of}
+use Rattle.adf_findings.proofs.FirstFindings.{shown, shows_none}
 use Rattle.adf_findings.proofs.OneSurvey.{gathered}
 use Rattle.adf_findings.proofs.SoundEntries.{skipped_reported}
 use Rattle.adf_findings.proofs.SoundMarks.{is_alone}
+use Rattle.adf_findings.proofs.TypesRead.{types_read}
+use Rattle.adf_rescue.specs.Rescue.{HasFault}
 
 -- the finding of a type concerns no part, and is grave
 
@@ -76,3 +87,37 @@ typed_sound types image w fs n h (read {s = s} {bits = bits} v d t) clean own g 
       alone = (λ ffs k b has q a i ask named. is_alone image v d n k b has (ap (λ over. owns over b) over) q a i ask named);
       own = (λ ffs k b has. ap (λ h. says_data_of image h k b) (sym (head_block image (gathered image v) g)) ∙ own ffs n k b has);
     }
+
+-- whether there are others
+
+-- a walk is not empty
+some_walk : {letters : Letters} {image : List ℕ} (w : Walk) → IsWalkBy letters image w → w ≡ [] → ⊥
+some_walk w walk_start e = cc
+some_walk w (walk_step v d is clean) e = cc
+
+module _ (types : Types) (image : List ℕ) (w : Walk) (fs : List FindingValue) (survey : IsSurvey image w fs) where
+  pub some_fault : length (passed types image) < length fs → fs ≢ passed types image
+  some_fault lt e = absurd (omega (arith, ap length e))
+
+  pub no_fault : length fs ≤ length (passed types image) → fs ≡ passed types image
+  no_fault few =
+      let (rest, is, k) = shown image (letters_for types image) (passed types image) (types_read image types) survey in
+      let none : rest ≡ [] = nil_from_length rest (omega (arith, ap length is, length-append (passed types image) rest)) in
+      is ∙ ap (λ gs. passed types image ++ gs) none ∙ append-nil (passed types image)
+
+  -- there is one where more are found than are passed
+  pub fault_told : (few many : ℕ) (mended : Bool) → few ≡ length (passed types image) → many ≡ length fs → mended ≡ false
+      → (ltb few many ≡ true) ↔ HasFault types image mended fs
+  fault_told few many mended known found kept = elim (cases_lt few many) [
+    | inl more ↦ ((λ t. inr (some_fault (omega arith))), (λ fault. lt-ltb few many more))
+    | inr none ↦ (
+      (λ t. absurd (omega (arith, ltb-true few many t))),
+      (λ fault. elim fault [ inl is ↦ absurd cc | inr some ↦ absurd (some (no_fault (omega arith))) ]),
+    )
+  ]
+
+  -- of an image of which nothing is surveyed there is a finding that is a fault
+  pub unread_fault : w ≡ [] → fs ≢ passed types image
+  unread_fault none is =
+      let alone = subst (IsSurvey image w) is survey in
+      some_walk w (shows_none image (letters_for types image) (passed types image) (types_read image types) w alone).1 none

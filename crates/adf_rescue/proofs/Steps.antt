@@ -1,7 +1,7 @@
 -- The state of a rescue after one more verdict.
-use Rattle.std.proofs.Common.{add-one, ◌≢◌, ◌==◌, map, ◌≡◌, ℕ, ◌+◌, ◌-◌, ◌<◌, ◌≤◌, inl, inr, List, [], ◌∷◌, ◌++◌, Option, Some, None, Result, Ok, Err}
+use Rattle.std.proofs.Common.{add-one, ◌≡◌, ℕ, ◌+◌, ◌-◌, ◌<◌, ◌≤◌, inl, inr, List, [], ◌∷◌, ◌++◌, Option, Some, None, Result, Ok, Err}
 use Rattle.std.proofs.Common.{length, get_or, arith, refl, sym, ◌∙◌, ap, subst, zero, suc, length-append, IfOk, cond, true, false, min, ◌^◌}
-use Rattle.std.proofs.lemmas.Bool.{cases_lt, eqb-true, le-leb, lt-leb}
+use Rattle.std.proofs.lemmas.Bool.{cases_lt, le-leb, lt-leb}
 use Rattle.std.proofs.lemmas.List.Sums.{fold_push}
 use Rattle.std.proofs.lemmas.Grind.{flat_map-append, common_steps}
 use Rattle.std.proofs.lemmas.List.{map-append, append-nil, append_assoc, get_or_append_left, get_or_past, get_or_push, length_push, nil_from_length}
@@ -17,17 +17,10 @@ use Rattle.adf_base.specs.declared.hash.Letters.{Letters}
 use Rattle.adf_blocks.specs.HeadBlock.{meta_stated}
 use Rattle.adf_blocks.specs.Sizes.{blocks, is_allowed}
 use Rattle.adf_build.specs.Building.{IsBuildable}
-use Rattle.adf_findings.specs.declared.part.Finding.{Finding}
-use Rattle.adf_findings.specs.Parts.{finding_value}
-use Rattle.adf_findings.specs.Survey.{FindingValue, IsSurvey, UnreadTells}
-use Rattle.adf_findings.specs.Survey.IsSurvey.{read, unread}
-use Rattle.adf_findings.specs.Survey.UnreadTells.{bad_boot, bad_root}
 use Rattle.adf_volume.specs.Image.{name_of}
 use Rattle.adf_volume.proofs.Lists.{get_before}
-use Rattle.adf_volume.specs.Walk.{heads, node_block, Walk}
+use Rattle.adf_volume.specs.Walk.{heads, node_block}
 use Rattle.adf_findings.specs.Found.{parent_node}
-use Rattle.adf_findings.proofs.OneSurvey.{gathered}
-use Rattle.adf_findings.proofs.Openings.{some_part}
 use Rattle.adf_build.specs.Plan.{blocks_needed, entries_blocks, reserved}
 use Rattle.adf_rescue.specs.declared.left_out.Why.{Why, TheVariants.NoRoom}
 use Rattle.adf_rescue.specs.declared.salvage.Salvage.{Salvage}
@@ -233,23 +226,6 @@ pub next_is : (g : Ground) (l : Basis) (k : ℕ) → k + 1 ≤ heads l.walk → 
 next_is g l k le = record { number = omega (arith, verdicts_count g l k); within = le }
 
 -- whether anything stands
-
-pub some_finding : (fs : List FindingValue) (xs : List Finding) → map finding_value xs ≡ fs → (length xs == 0) ≡ false → fs ≢ []
-some_finding fs [] m some e = cc
-some_finding fs (x ∷ xs) m some e = cc
-
-pub no_finding : (fs : List FindingValue) (xs : List Finding) → map finding_value xs ≡ fs → (length xs == 0) ≡ true → fs ≡ []
-no_finding fs [] m none = sym m
-no_finding fs (x ∷ xs) m none = absurd (omega (arith, eqb-true (length (x ∷ xs)) 0 none))
-
-told_unread : (image : List ℕ) (fs : List FindingValue) → UnreadTells image fs → fs ≢ []
-told_unread image fs (bad_boot fails other) e = cc
-told_unread image fs (bad_root {boot = boot} {at = at} {c = c} tells judged) e = grind (arith, common_steps, length_push)
-
--- of an image of which nothing is surveyed there is a finding
-pub unread_fault : (image : List ℕ) (w : Walk) (fs : List FindingValue) → IsSurvey image w fs → w ≡ [] → fs ≢ []
-unread_fault image w fs (unread told) e = told_unread image fs told
-unread_fault image w fs (read course done bits) e = absurd (some_part image _ (gathered image course) e)
 
 pub none_added : (g : Ground) (vs : List Verdict) (r : Salvage) → IsSalvage g vs r → length r.draft.nodes ≡ 0
     → additions_of g.verdicts ++ additions_of vs ≡ []

@@ -3,7 +3,7 @@
 -- Letters: a the survey of the image, b the second one, if there is one, l either; n the node of an entry, h the block of its header;
 -- g what is taken before a survey; vs the verdicts on the entries before, t the tree with their additions; dir the path of a directory in it;
 -- held the number of blocks that the input holds whole: data behind these is made up. What depends on the letters of the new tree, whose case
--- is ignored in its names, takes them first.
+-- is ignored in its names, takes them first; what depends on the types that the new volume may have takes these first.
 use Rattle.std.specs.Prelude.{◌≡◌, ◌≢◌, ◌==◌, ◌&&◌, ◌⊎◌, ◌-◌, ◌+◌, ◌*◌, ℕ, Bool, true, false, not, nat_le, nat_lt, cond, List, [], ◌∷◌, ◌++◌, codes, decimal}
 use Rattle.std.specs.Prelude.{length, map, slice_get, Option, Some, None, Result, Ok, Err, is_ok}
 use Rattle.std.specs.List.{flat_map}
@@ -24,6 +24,9 @@ use Rattle.adf_blocks.specs.HeadBlock.{is_link, meta_stated}
 use Rattle.adf_blocks.specs.Sizes.{blocks}
 use Rattle.adf_volume.specs.Image.{name_of, word_in}
 use Rattle.adf_volume.specs.Made.{datas_in}
+use Rattle.adf_volume.specs.Types.{letters_for}
+use Rattle.adf_volume.specs.declared.types.Types.{Types}
+use Rattle.adf_volume.specs.declared.types.Types.TheVariants.{Plain}
 use Rattle.adf_volume.specs.Walk.{heads, node_block, Walk}
 use Rattle.adf_findings.specs.Files.{file_content, file_in, grave}
 use Rattle.adf_findings.specs.Found.{owner, parent_node}
@@ -31,6 +34,7 @@ use Rattle.adf_findings.specs.Marks.{has_mark}
 use Rattle.adf_findings.specs.SoundMarks.{AreMarks}
 use Rattle.adf_findings.specs.Opening.{opening_in}
 use Rattle.adf_findings.specs.Survey.{FindingValue, IsSurvey}
+use Rattle.adf_findings.specs.Types.{passed}
 use Rattle.adf_build.specs.Plan.{blocks_needed}
 use Rattle.adf_rescue.specs.Lost.{is_stated_free}
 use Rattle.adf_rescue.specs.declared.left_out.LeftOut.{LeftOut}
@@ -264,15 +268,16 @@ rescue_leaves_by letters held a = left_out_from 1 (first_verdicts_by letters hel
 abbrev pub second_leaves_by : Letters → (held : ℕ) → Basis → Option Basis → List LeftOut
 second_leaves_by letters held a b = left_out_from 1 (second_verdicts_by letters held a b)
 
--- the image was mended, or there is a finding
-abbrev pub HasFault : Bool → List FindingValue → Type 0
-HasFault mended fs = (mended ≡ true) ⊎ (fs ≢ [])
+-- the image was mended, or there is a finding that is a fault where these types are accepted
+abbrev pub HasFault : Types → List ℕ → Bool → List FindingValue → Type 0
+HasFault types image mended fs = (mended ≡ true) ⊎ (fs ≢ passed types image)
 
--- there is a fault, and no entry stands
-abbrev pub StandsNothingBy : Letters → (held : ℕ) → Basis → Option Basis → List FindingValue → Bool → Type 0
-StandsNothingBy letters held a b fs mended = HasFault mended fs × (rescued_additions_by letters held a b ≡ [])
+-- there is a fault, and no entry stands in a new volume of these types
+abbrev pub StandsNothingBy : Types → (held : ℕ) → Basis → Option Basis → List FindingValue → Bool → Type 0
+StandsNothingBy types held a b fs mended =
+    HasFault types a.image mended fs × (rescued_additions_by (letters_for types a.image) held a b ≡ [])
 
--- of a new tree with ASCII letters
+-- of a new tree with ASCII letters, and a new volume of type 0 or 1
 
 abbrev pub rescued_tree : (held : ℕ) → Basis → Option Basis → Tree
 rescued_tree = rescued_tree_by Ascii
@@ -284,4 +289,4 @@ abbrev pub second_leaves : (held : ℕ) → Basis → Option Basis → List Left
 second_leaves = second_leaves_by Ascii
 
 abbrev pub StandsNothing : (held : ℕ) → Basis → Option Basis → List FindingValue → Bool → Type 0
-StandsNothing = StandsNothingBy Ascii
+StandsNothing = StandsNothingBy Plain

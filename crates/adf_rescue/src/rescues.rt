@@ -1,10 +1,12 @@
 // The rescue of an image.
 
 ghost use Rattle.std.specs.Prelude.{◌≡◌, ◌≢◌, ◌↔◌, ◌+◌, ℕ, Bool, List, [], IsNone, IsTrue, IfOk, IfSome, OnErr};
-ghost use Rattle.std.specs.Prelude.{OnOk, Option, Some, option_map};
+ghost use Rattle.std.specs.Prelude.{OnOk, Option, Some, length, option_map};
 ghost use Rattle.adf_base.specs.declared.hash.Letters.{Letters};
 ghost use Rattle.adf_blocks.specs.Sizes.{blocks as blocks_in};
+ghost use Rattle.adf_volume.specs.Types.{letters_for};
 ghost use Rattle.adf_findings.specs.Survey.{OnSurvey};
+ghost use Rattle.adf_findings.specs.Types.{passed};
 ghost use Rattle.adf_build.specs.Laid.{IsLaid};
 ghost use Rattle.adf_build.specs.Building.{IsBuildable};
 ghost use Rattle.adf_build.specs.Plan.{entries_blocks};
@@ -17,11 +19,13 @@ ghost use Rattle.adf_rescue.specs.Salvage.{free_blocks as blocks_free, IsSalvage
 use crate::left_out::LeftOut;
 use crate::losses::{lost_blocks, lost_headers};
 use crate::salvage::Salvage;
-use adf_base::{Letters, NoMemory};
+use adf_base::NoMemory;
+use adf_blocks::Cause;
 use adf_build::{build, free_blocks};
 use adf_drafts::Draft;
 use adf_findings::{Survey, some_survey};
 use adf_tree::Node;
+use adf_volume::{Types, boot_cause};
 use std::alloc::Global;
 
 /// A rescue: whether nothing stands; the draft of the new volume's tree, and the number of its blocks; the entries that are left
@@ -39,11 +43,11 @@ pub struct Rescued {
     pub lost_blocks: Vec<u32>,
 }
 
-/// The terms of a rescue: the letters whose case is ignored in the names of the new volume, the number of blocks that the
-/// input holds whole, and whether the image was mended.
+/// The terms of a rescue: the types that the new volume may have, the number of blocks that the input holds whole, and
+/// whether the image was mended.
 #[derive(Clone, Copy)]
 pub struct Terms {
-    pub letters: Letters,
+    pub types: Types,
     pub held: usize,
     pub mended: bool,
 }
@@ -114,36 +118,51 @@ fn salvaged_both(
     }
 }
 
-// Whether the image was mended, or there is a finding.
-fn has_fault(survey: &Survey<'_>, mended: bool) -> bool
-    ensures { OnSurvey survey.now.image (λ _ fs. IsTrue result ↔ HasFault mended fs) }
+// The number of findings that are no fault where these types are accepted.
+fn count_passed(types: Types, image: &[u8]) -> usize
+    ensures { result ≡ length (passed types image.now) }
+{
+    match types {
+        Types::Plain => 0,
+        Types::WithInternational => match boot_cause(image) {
+            Some(Cause::International) => 1,
+            _ => 0,
+        },
+    }
+}
+
+// Whether the image was mended, or there is a finding that is a fault where these types are accepted.
+fn has_fault(survey: &Survey<'_>, types: Types, mended: bool) -> bool
+    ensures { OnSurvey survey.now.image (λ _ fs. IsTrue result ↔ HasFault types survey.now.image mended fs) }
 {
     if mended {
         return true;
     }
-    !survey.findings().is_empty()
+    survey.findings().len() > count_passed(types, survey.image())
 }
 
 // Whether there is a fault, and no entry stands.
-fn stands_nothing(survey: &Survey<'_>, salvage: &Salvage, mended: bool) -> bool
-    ensures { OnBasis survey.now.image (λ a fs. (letters : Letters) (held : ℕ) (b : Option Basis)
-        → IsSalvage (before_second_by letters held a) (second_verdicts_by letters held a b) salvage.now
-        → IsTrue result ↔ StandsNothingBy letters held a b fs mended) }
+fn stands_nothing(survey: &Survey<'_>, salvage: &Salvage, terms: Terms) -> bool
+    ensures { OnBasis survey.now.image (λ a fs. (b : Option Basis)
+        → IsSalvage (before_second_by (letters_for terms.types a.image) terms.held a)
+        (second_verdicts_by (letters_for terms.types a.image) terms.held a b) salvage.now
+        → IsTrue result ↔ StandsNothingBy terms.types terms.held a b fs terms.mended) }
 {
-    if !has_fault(survey, mended) {
+    if !has_fault(survey, terms.types, terms.mended) {
         return false;
     }
     salvage.draft.len() == 0
 }
 
 /// What stands on a surveyed image, of which the input holds the first `terms.held` blocks: its whole files with all data in
-/// these, and its directories, as the draft of a tree of `terms.letters` that fits in as many blocks; and what stands beside
-/// these by a second survey, if there is one, of the image with what was lost hung in it again: each entry whose header is
-/// not that of an entry of the first survey, but a file only if its data blocks are as they were given, of no entry that is
-/// kept, and not free by the bitmap. With it come the entries that are left out, and what the findings of the first survey
-/// report and no entry has. Nothing stands if there is a finding of the first survey, or the image was mended, and there is
-/// no addition. `None` if nothing of the image is surveyed. `NoMemory` if an allocation fails, which can happen only if
-/// something of the image is surveyed.
+/// these, and its directories, as the draft of a tree that fits in as many blocks, with the letters by which the image is read
+/// where `terms.types` are accepted; and what stands beside these by a second survey, if there is one, of the image with what
+/// was lost hung in it again: each entry whose header is not that of an entry of the first survey, but a file only if its data
+/// blocks are as they were given, of no entry that is kept, and not free by the bitmap. With it come the entries that are
+/// left out, and what the findings of the first survey report and no entry has. Nothing stands if there is a finding of the
+/// first survey that is a fault where these types are accepted, or the image was mended, and there is no addition. `None` if
+/// nothing of the image is surveyed. `NoMemory` if an allocation fails, which can happen only if something of the image is
+/// surveyed.
 pub fn rescue(
     alloc: Global,
     survey: &Survey<'_>,
@@ -153,16 +172,18 @@ pub fn rescue(
     ensures none { OnSurvey survey.now.image (λ w _. IfOk result (λ r. IsNone r ↔ (w ≡ []))) }
     ensures nothing { OnBasis survey.now.image (λ a fs. OnSecond (option_map (λ s. s.now.image) second.entry)
         (λ b. IfOk result (λ r. IfSome r (λ v. IsTrue v.stands_nothing ↔
-        StandsNothingBy terms.letters terms.held a b fs terms.mended)))) }
+        StandsNothingBy terms.types terms.held a b fs terms.mended)))) }
     ensures tree { OnBasis survey.now.image (λ a _. OnSecond (option_map (λ s. s.now.image) second.entry)
-        (λ b. IfOk result (λ r. IfSome r (λ v. v.draft.tree ≡ rescued_tree_by terms.letters terms.held a b)))) }
+        (λ b. IfOk result (λ r. IfSome r (λ v. v.draft.tree ≡
+        rescued_tree_by (letters_for terms.types a.image) terms.held a b)))) }
     ensures size { IfOk result (λ r. IfSome r (λ v. v.blocks ≡ blocks_in survey.now.image)) }
     ensures fits { IfOk result (λ r. IfSome r (λ v. IsBuildable v.draft.tree v.blocks)) }
     ensures left_out { OnBasis survey.now.image (λ a _. OnSecond (option_map (λ s. s.now.image) second.entry)
-        (λ b. IfOk result (λ r. IfSome r (λ v. v.left_out.items ≡ rescue_leaves_by terms.letters terms.held a)))) }
+        (λ b. IfOk result (λ r. IfSome r (λ v. v.left_out.items ≡
+        rescue_leaves_by (letters_for terms.types a.image) terms.held a)))) }
     ensures second_left_out { OnBasis survey.now.image (λ a _. OnSecond (option_map (λ s. s.now.image) second.entry)
         (λ b. IfOk result (λ r. IfSome r (λ v. v.second_left_out.items ≡
-        second_leaves_by terms.letters terms.held a b)))) }
+        second_leaves_by (letters_for terms.types a.image) terms.held a b)))) }
     ensures lost_headers { OnSurvey survey.now.image (λ w fs. OnSecond (option_map (λ s. s.now.image) second.entry)
         (λ b. IfOk result (λ r. IfSome r (λ v. v.lost_headers.items ≡ lost_headers w b fs)))) }
     ensures lost_blocks { OnSurvey survey.now.image (λ _ fs. OnSecond (option_map (λ s. s.now.image) second.entry)
@@ -178,13 +199,13 @@ pub fn rescue(
     let begun = Salvage::begin(
         alloc,
         opening,
-        terms.letters,
+        terms.types.letters_for(survey.image()),
         free_blocks(blocks),
         terms.held,
     )?;
     let salvage = salvaged_both(alloc, survey, second, begun)?;
     Ok(Some(Rescued {
-        stands_nothing: stands_nothing(survey, &salvage, terms.mended),
+        stands_nothing: stands_nothing(survey, &salvage, terms),
         draft: salvage.draft,
         blocks,
         left_out: salvage.left_before,

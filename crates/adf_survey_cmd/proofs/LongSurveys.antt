@@ -6,9 +6,9 @@ use Rattle.std.proofs.lemmas.Bool.{and_left, cond-false, false_from_ne_true}
 use Rattle.std.proofs.Math.Nat.{min-eq_left}
 use Rattle.std.proofs.lemmas.List.{take-take}
 use Rattle.std.proofs.lemmas.Grind.{common_steps}
-use Rattle.adf_base.specs.declared.hash.Letters.TheVariants.{Ascii}
 use Rattle.adf_blocks.specs.declared.layout.TheConstants.{MOST_BLOCKS}
 use Rattle.adf_blocks.specs.declared.cause.Cause.TheVariants.{BadSize}
+use Rattle.adf_volume.specs.Types.{letters_for}
 use Rattle.adf_volume.specs.declared.types.Types.{Types}
 use Rattle.adf_volume.specs.Walk.{Walk}
 use Rattle.adf_findings.specs.Files.{grave}
@@ -81,7 +81,7 @@ same_rescue types held h image bytes opened_image opened_bytes boot other reply 
       (λ n. false),
       no_marks opened_bytes (grave bad_size),
       subst (λ o. RescuesBoth types h bytes basis o bad_size other reply) (sym (none_second (is_mended bytes) opened_bytes [] bad_size c))
-          (None, tt, inl (refl, (f, long_fault Ascii Ascii image bytes f a b first, e))),
+          (None, tt, inl (refl, (f, long_fault (letters_for types image) (letters_for types bytes) image bytes f a b first, e))),
     )
 same_rescue types held h image bytes opened_image opened_bytes boot other reply a b c (sound, marks, (two, second, inr (some, e))) = absurd (some refl)
 

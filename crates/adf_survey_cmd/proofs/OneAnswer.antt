@@ -3,8 +3,10 @@
 use Rattle.std.proofs.Common.{◌≡◌, ◌∙◌, ◌++◌, inl, inr, ℕ, Bool, true, false, List, [], ◌∷◌, Option, Some, sym, ap, subst, None, refl, arith}
 use Rattle.std.proofs.lemmas.Grind.{common_steps}
 use Rattle.adf_names.proofs.PathParts.{one_path}
+use Rattle.adf_volume.specs.Types.{letters_for}
+use Rattle.adf_volume.specs.declared.fault.Fault.{Fault}
 use Rattle.adf_volume.specs.declared.types.Types.{Types}
-use Rattle.adf_volume.specs.Walk.{FileAt, node_block, Walk}
+use Rattle.adf_volume.specs.Walk.{FileAt, FirstFaultBy, node_block, Walk}
 use Rattle.adf_findings.specs.Files.{grave}
 use Rattle.adf_findings.specs.Lookup.{LeadsTo}
 use Rattle.adf_findings.specs.SoundMarks.{AreMarks}
@@ -16,7 +18,7 @@ use Rattle.adf_rescue.proofs.RescueLaws.{one_basis}
 use Rattle.adf_findings.proofs.Lookups.{one_first}
 use Rattle.adf_texts.specs.Lines.{fault_line}
 use Rattle.adf_runs.specs.Commands.{Reply, on_errors, on_output}
-use Rattle.adf_cmd.proofs.OneAnswer.{one_dates, refused_once}
+use Rattle.adf_cmd.proofs.OneAnswer.{one_check, one_dates}
 use Rattle.adf_survey_cmd.specs.Answers.{CopiesEntry, CopiesFound, CopiesFromSurvey, IsWholeFile, ListsSurvey, QuestionAnswer, RescuesTyped, SurveyAnswer}
 use Rattle.adf_survey_cmd.specs.Answers.{Surveys, TellsFound, told_status, types_kept}
 use Rattle.adf_survey_cmd.specs.Hints.{hinted}
@@ -100,18 +102,25 @@ typed_once : (s : SubjectValue) (answers : SubjectValue → Reply → Type 0)
 typed_once s answers once a b (t, is, x) (u, also, y) =
     once u a b (subst (λ t. answers t a) (one_typed (begun_subject s) t u is also) x) y
 
+-- an input has one line of a first fault
+one_fault_line : (types : Types) (input : List ℕ) (f g : Fault) → FirstFaultBy (letters_for types input) input f.block f.cause
+    → FirstFaultBy (letters_for types input) input g.block g.cause → fault_line f ≡ fault_line g
+one_fault_line types input f g first fault =
+    ap (λ (r : Reply). r.output)
+    (one_check types input (on_output 1 (fault_line f)) (on_output 1 (fault_line g)) (inr (f, first, refl)) (inr (g, fault, refl)))
+
 some_once : (types : Types) (held : ℕ) (input : List ℕ) (l : Basis) (m : Option Basis) (fs : List FindingValue) (boot : List ℕ) (a b : Reply)
     → RescuesSome types held input l m fs boot a → RescuesSome types held input l m fs boot b → a ≡ b
 some_once types held input l m fs boot a b (inl (none, (f, first, x))) (inl (also, (g, fault, y))) =
-    let same = refused_once input (on_errors 1 (fault_line f)) (on_errors 1 (fault_line g)) (f, first, refl) (g, fault, refl) in
-    x ∙ ap (λ (r : Reply). on_errors 1 (r.errors ++ rescue_text types held l m fs)) same ∙ sym y
+    x ∙ ap (λ line. on_errors 1 (line ++ rescue_text types held l m fs)) (one_fault_line types input f g first fault) ∙ sym y
 some_once types held input l m fs boot a b (inl (none, x)) (inr (some, y)) = absurd (some none)
 some_once types held input l m fs boot a b (inr (some, x)) (inl (none, y)) = absurd (some none)
 some_once types held input l m fs boot a b (inr (some, (one, laid, size, x))) (inr (also, (other, too, long, y))) = grind (arith, common_steps)
 
 by_surveys_once : (types : Types) (held : ℕ) (input : List ℕ) (l : Basis) (m : Option Basis) (fs : List FindingValue) (boot : List ℕ) (a b : Reply)
     → RescuesBy types held input l m fs boot a → RescuesBy types held input l m fs boot b → a ≡ b
-by_surveys_once types held input l m fs boot a b (inl (none, x)) (inl (also, y)) = refused_once input a b x y
+by_surveys_once types held input l m fs boot a b (inl (none, (f, first, x))) (inl (also, (g, fault, y))) =
+    x ∙ ap (on_errors 1) (one_fault_line types input f g first fault) ∙ sym y
 by_surveys_once types held input l m fs boot a b (inl (none, x)) (inr (some, y)) = absurd (some none)
 by_surveys_once types held input l m fs boot a b (inr (some, x)) (inl (none, y)) = absurd (some none)
 by_surveys_once types held input l m fs boot a b (inr (some, x)) (inr (also, y)) = some_once types held input l m fs boot a b x y

@@ -1,20 +1,21 @@
--- What answers a rescue, and which images a tree fits only as they are.
+-- What answers a rescue, and which images are no volumes.
 -- Letters: w the walk of a survey, fs its findings.
 use Rattle.std.proofs.Common.{◌≡◌, ◌≢◌, ◌∙◌, ℕ, Bool, true, false, List, [], ap, refl, sym, Option, None, Some, IfSome, inl, inr, subst, arith}
-use Rattle.std.specs.Prelude.{Result, Ok, Err, is_some}
+use Rattle.std.specs.Prelude.{Result, Ok, Err, is_some, string_bytes}
 use Rattle.std.specs.Result.{IsErrAnd}
 use Rattle.std.proofs.lemmas.Bool.{cond-false, cond-true}
 use Rattle.std.proofs.lemmas.Grind.{common_steps}
 use Rattle.adf_tree.specs.Tree.{Tree}
-use Rattle.adf_volume.specs.Fits.{Fits}
-use Rattle.adf_volume.specs.Layout.{Layout}
 use Rattle.adf_volume.specs.Types.{letters_for}
+use Rattle.adf_volume.specs.declared.fault.Fault.{Fault}
 use Rattle.adf_volume.specs.declared.types.Types.{Types}
-use Rattle.adf_volume.specs.Walk.{Walk}
+use Rattle.adf_volume.specs.Walk.{FirstFaultBy, Walk}
 use Rattle.adf_findings.specs.Files.{grave}
 use Rattle.adf_findings.specs.SoundMarks.{AreMarks}
 use Rattle.adf_findings.specs.Survey.{FindingValue, IsSurvey}
-use Rattle.adf_findings.proofs.PlainFindings.{finds_none}
+use Rattle.adf_findings.specs.Types.{passed}
+use Rattle.adf_findings.proofs.FirstFindings.{finds_none}
+use Rattle.adf_findings.proofs.TypesRead.{types_read}
 use Rattle.adf_rescue.specs.declared.left_out.LeftOut.{LeftOut}
 use Rattle.adf_rescue.specs.Hung.{hung}
 use Rattle.adf_rescue.specs.Lost.{has_lost, is_settled}
@@ -25,17 +26,16 @@ use Rattle.adf_boot_blocks.specs.Writing.{restored}
 use Rattle.adf_build.specs.Building.{IsBuildable}
 use Rattle.adf_build.specs.Laid.{IsLaid}
 use Rattle.adf_rescue.proofs.OpenedImages.{opened_kept, volumes_are_kept}
-use Rattle.adf_runs.specs.Commands.{Reply, on_errors}
+use Rattle.adf_runs.specs.Commands.{Reply, on_errors, on_output}
 use Rattle.adf_runs.specs.declared.outcome.Outcome.{Outcome, TheVariants.NoMemory, TheVariants.Refused}
 use Rattle.adf_runs.specs.declared.outcome.Outcome.TheVariants.{LeftOut as Tells}
-use Rattle.adf_cmd.specs.Answers.{RefusesImage}
-use Rattle.adf_cmd.specs.Refusals.{IsRefusedImage}
-use Rattle.adf_cmd.proofs.AnswerLaws.{refused_image_ends}
+use Rattle.adf_texts.specs.Lines.{fault_line}
+use Rattle.adf_cmd.specs.Answers.{Checks}
 use Rattle.adf_runs.proofs.Endings.{ends_weaker}
 use Rattle.adf_runs.proofs.PendingText.{appends_nil}
 use Rattle.adf_survey_cmd.specs.declared.rescuing.Prepared.{Prepared}
-use Rattle.adf_survey_cmd.specs.Prepared.{IsOpened, IsRefusedWith, Prepares}
-use Rattle.adf_survey_cmd.specs.Rescues.{RefusesWith, Rescues, RescuesBoth, RescuesBy, RescuesIn, lines_text, rescue_reply, rescue_text, second_image}
+use Rattle.adf_survey_cmd.specs.Prepared.{IsNoVolume, IsOpened, IsRefusedInput, IsRefusedWith, Prepares}
+use Rattle.adf_survey_cmd.specs.Rescues.{RefusesInput, RefusesWith, Rescues, RescuesBoth, RescuesBy, RescuesIn, lines_text, rescue_reply, rescue_text, second_image}
 
 -- what holds if there is a value holds of it
 pub if_some : {X : Type 0} (o : Option X) (x : X) (P : X → Type 0) → o ≡ Some x → IfSome o P → P x
@@ -61,16 +61,22 @@ pub one_hung : (mended : Bool) (image : List ℕ) (w : Walk) (fs : List FindingV
     → v ≡ hung image w (is_settled mended w fs) → second_image mended image w fs ≡ Some v
 one_hung mended image w fs v some is = grind (arith, common_steps, cond-true)
 
--- no tree fits an image that has a fault as it is
-pub none_fits_it : (image : List ℕ) (w : Walk) (fs : List FindingValue) (mended : Bool) → mended ≡ false → IsSurvey image w fs
-    → HasFault mended fs
-    → (t : Tree) (l : Layout) → Fits image t l → ⊥
-none_fits_it image w fs mended kept survey (inl is) t l fits = absurd cc
-none_fits_it image w fs mended kept survey (inr some) t l fits = some (finds_none image t l w fs fits survey)
+-- an image that has a fault as it is, is no volume
+pub none_fits_it : (types : Types) (image : List ℕ) (w : Walk) (fs : List FindingValue) (mended : Bool) → mended ≡ false → IsSurvey image w fs
+    → HasFault types image mended fs → IsNoVolume types image
+none_fits_it types image w fs mended kept survey (inl is) t l fits = absurd cc
+none_fits_it types image w fs mended kept survey (inr some) t l fits =
+    some (finds_none image (letters_for types image) (passed types image) (types_read image types) t l w fs fits survey)
 
--- no tree fits an image that must be mended
-pub none_fits_mended : (image : List ℕ) → is_mended image ≡ true → (t : Tree) (l : Layout) → Fits image t l → ⊥
-none_fits_mended image mended t l fits = let kept = volumes_are_kept image t l fits in absurd cc
+-- nor is one that must be mended
+pub none_fits_mended : (types : Types) (image : List ℕ) → is_mended image ≡ true → IsNoVolume types image
+none_fits_mended types image mended t l fits = let kept = volumes_are_kept (letters_for types image) image t l fits in absurd cc
+
+-- the answer of a check to an image that is no volume is its first fault
+pub checked_fault : (types : Types) (image line : List ℕ) (status : ℕ) → IsNoVolume types image → Checks types image (on_output status line)
+    → (f : Fault) × FirstFaultBy (letters_for types image) image f.block f.cause × (line ≡ fault_line f)
+checked_fault types image line status none (inl (t, l, fits, is)) = absurd (none t l fits)
+checked_fault types image line status none (inr (f, first, is)) = (f, first, ap (λ (r : Reply). r.output) is)
 
 -- the lines of the same are the same
 pub same_lines : (image : List ℕ) (w : Walk) (b : Option Basis) (xs us ys vs : List LeftOut) (ps qs ns ms : List ℕ)
@@ -80,7 +86,7 @@ same_lines image w b xs us ys vs ps qs ns ms d e f g = λ i. lines_text image w 
 -- what stands is prepared as a volume
 pub volume_prepared : (types : Types) (held : ℕ) (input : List ℕ) (a : Basis) (b : Option Basis) (fs : List FindingValue) (p : Prepared)
     → IsBuildable p.draft.tree p.blocks → p.draft.tree ≡ rescued_tree_by (letters_for types a.image) held a b → p.blocks ≡ blocks a.image
-    → p.lines.items ≡ rescue_text types held a b fs → a.walk ≢ [] → ¬ StandsNothingBy (letters_for types a.image) held a b fs (is_mended input)
+    → p.lines.items ≡ rescue_text types held a b fs → a.walk ≢ [] → ¬ StandsNothingBy types held a b fs (is_mended input)
     → Prepares (RescuesBy types held input a b fs) (Ok p)
 volume_prepared types held input a b fs p room tree size told read some = (
   room,
@@ -106,26 +112,28 @@ none_prepared answers (Ok p) is = absurd is
 none_prepared answers (Err w) is = rw is (refl, refl, λ boot o. inl (appends_nil o))
 
 -- a refused input is answered so
-pub refusal_prepared : (answers : List ℕ → Reply → Type 0) (input : List ℕ) (w : Outcome)
-    → ((boot : List ℕ) (reply : Reply) → RefusesImage input reply → answers boot reply)
-    → IsRefusedImage input w → Prepares answers (Err w)
-refusal_prepared answers input (Refused line) f h = (refl, refl, λ boot o. refused_image_ends (Refused line) input (answers boot) o (f boot) h)
-refusal_prepared answers input NoMemory f h = (refl, refl, λ boot o. refused_image_ends NoMemory input (answers boot) o (f boot) h)
-refusal_prepared answers input _ f h = absurd h
+pub refusal_prepared : (answers : List ℕ → Reply → Type 0) (types : Types) (input : List ℕ) (w : Outcome)
+    → ((boot : List ℕ) (reply : Reply) → RefusesInput types input reply → answers boot reply) → IsRefusedInput types input w → Prepares answers (Err w)
+refusal_prepared answers types input (Refused line) f h =
+    (refl, refl, λ boot o. ([], f boot (on_errors 1 (string_bytes line)) (h.0, h.1, ap (on_errors 1) h.2), appends_nil o))
+refusal_prepared answers types input NoMemory f h = (refl, refl, λ boot o. inl (appends_nil o))
+refusal_prepared answers types input _ f h = absurd h
 
 -- so is one that is refused with lines
-pub refused_with_prepared : (answers : List ℕ → Reply → Type 0) (text input : List ℕ) (w : Outcome)
-    → ((boot : List ℕ) (reply : Reply) → RefusesWith text input reply → answers boot reply) → IsRefusedWith text input w → Prepares answers (Err w)
-refused_with_prepared answers text input (Tells lines) f h =
+pub refused_with_prepared : (answers : List ℕ → Reply → Type 0) (text : List ℕ) (types : Types) (input : List ℕ) (w : Outcome)
+    → ((boot : List ℕ) (reply : Reply) → RefusesWith text types input reply → answers boot reply) → IsRefusedWith text types input w
+    → Prepares answers (Err w)
+refused_with_prepared answers text types input (Tells lines) f h =
     (refl, refl, λ boot o. ([], f boot (on_errors 1 lines.items) (h.0, h.1, ap (on_errors 1) h.2), appends_nil o))
-refused_with_prepared answers text input NoMemory f h = (refl, refl, λ boot o. inl (appends_nil o))
-refused_with_prepared answers text input _ f h = absurd h
+refused_with_prepared answers text types input NoMemory f h = (refl, refl, λ boot o. inl (appends_nil o))
+refused_with_prepared answers text types input _ f h = absurd h
 
 -- an input is opened as the image that a rescue reads
-pub opened_so : (input image : List ℕ) (refusal : Option Outcome) → IsOpened input image refusal → image ≡ opened input
-opened_so input image None h = h.1 ∙ sym (opened_kept input h.0)
-opened_so input image (Some w) h = h.1
+pub opened_so : (types : Types) (input image : List ℕ) (refusal : Option Outcome) → IsOpened types input image refusal → image ≡ opened input
+opened_so types input image None h = h.1 ∙ sym (opened_kept input h.0)
+opened_so types input image (Some w) h = h.1
 
-pub mended_so : (input image : List ℕ) (refusal : Option Outcome) → IsOpened input image refusal → is_some refusal ≡ is_mended input
-mended_so input image None h = sym h.0
-mended_so input image (Some w) h = sym h.0
+pub mended_so : (types : Types) (input image : List ℕ) (refusal : Option Outcome) → IsOpened types input image refusal
+    → is_some refusal ≡ is_mended input
+mended_so types input image None h = sym h.0
+mended_so types input image (Some w) h = sym h.0

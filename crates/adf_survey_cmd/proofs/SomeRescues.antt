@@ -3,41 +3,39 @@
 -- that the input holds whole; text the lines behind a first fault.
 use Rattle.std.proofs.Common.{◌≡◌, ◌≢◌, ◌≤◌, ◌^◌, ℕ, Bool, true, false, List, [], ◌∷◌, Option, None, Some, inl, inr, length, refl, subst, arith}
 use Rattle.std.specs.Prelude.{IfSome}
-use Rattle.std.proofs.lemmas.Bool.{and_parts, cond_both}
+use Rattle.std.proofs.lemmas.Bool.{and_parts, cases_lt, cond_both}
 use mathlib.Core.Logic.Dec.{and as dec_and}
 use Rattle.adf_base.proofs.ByteLists.{AreBytes}
-use Rattle.adf_tree.specs.Tree.{Tree}
+use Rattle.adf_base.specs.declared.hash.Letters.{Letters}
 use Rattle.adf_blocks.specs.Sizes.{blocks, is_allowed}
 use Rattle.adf_blocks.specs.declared.cause.Cause.{Cause}
 use Rattle.adf_volume.specs.Types.{letters_for}
 use Rattle.adf_volume.specs.declared.types.Types.{Types}
-use Rattle.adf_volume.specs.Fits.{Fits}
-use Rattle.adf_volume.specs.Layout.{Layout}
 use Rattle.adf_volume.specs.Start.{is_image_len}
 use Rattle.adf_volume.specs.Walk.{Walk}
 use Rattle.adf_volume.specs.declared.fault.Fault.{Fault}
-use Rattle.adf_findings.proofs.PlainFindings.{finds_none}
-use Rattle.adf_findings.proofs.FitsOrFault.{fits_or_fault}
+use Rattle.adf_findings.proofs.FitsOrFault.{fits_or_fault_by}
 use Rattle.adf_findings.proofs.SomeMarks.{some_marks}
 use Rattle.adf_findings.proofs.SomeSurvey.{some_survey}
 use Rattle.adf_findings.proofs.Starts.{course_size}
 use Rattle.adf_findings.specs.Files.{grave}
 use Rattle.adf_findings.specs.Survey.{FindingValue, IsSurvey}
 use Rattle.adf_findings.specs.Survey.IsSurvey.{read, unread}
-use Rattle.adf_findings.specs.Verdict.{FitsOrHasFault}
+use Rattle.adf_findings.specs.Types.{passed}
+use Rattle.adf_findings.specs.Verdict.{FitsOrHasFaultBy}
 use Rattle.adf_rescue.proofs.MadeRoots.{sized}
-use Rattle.adf_rescue.proofs.OpenedImages.{opened_kept, volumes_are_kept}
+use Rattle.adf_rescue.proofs.OpenedImages.{opened_kept}
+use Rattle.adf_rescue.proofs.PassedFindings.{no_fault, some_fault, unread_fault}
 use Rattle.adf_rescue.proofs.RescuedBytes.{hung_bytes, opened_bytes}
 use Rattle.adf_rescue.proofs.RescuedVolumes.{AreSecondBytes, rescue_laid}
-use Rattle.adf_rescue.proofs.Steps.{unread_fault}
 use Rattle.adf_rescue.specs.Hung.{hung}
 use Rattle.adf_rescue.specs.Lost.{has_lost, is_settled}
 use Rattle.adf_rescue.specs.Opened.{is_mended, opened}
 use Rattle.adf_rescue.specs.Rescue.{Basis, HasFault, IsSecond, rescued_additions_by}
-use Rattle.adf_cmd.specs.Answers.{RefusesImage}
 use Rattle.adf_runs.specs.Commands.{Reply}
 use Rattle.adf_survey_cmd.proofs.RescueAnswers.{none_fits_it, none_fits_mended}
-use Rattle.adf_survey_cmd.specs.Rescues.{RefusesWith, Rescues, RescuesBy, RescuesFound, RescuesSome, rescue_text, second_image}
+use Rattle.adf_survey_cmd.specs.Prepared.{IsNoVolume}
+use Rattle.adf_survey_cmd.specs.Rescues.{RefusesInput, RefusesWith, Rescues, RescuesBy, RescuesFound, RescuesSome, rescue_text, second_image}
 
 -- the second survey
 
@@ -66,38 +64,40 @@ second_bytes mended image w fs are =
 abbrev fault_at : ℕ → Cause → Fault
 fault_at b c = record { block = b; cause = c }
 
-abbrev NoneFits : List ℕ → Type 0
-NoneFits input = (t : Tree) (l : Layout) → Fits input t l → ⊥
+-- an image that is no volume has a first fault, with lines behind it
+fault_with : (text : List ℕ) (types : Types) (input : List ℕ) → IsNoVolume types input → FitsOrHasFaultBy types input
+    → (reply : Reply) × RefusesWith text types input reply
+fault_with text types input none (inl (t, l, fits)) = absurd (none t l fits)
+fault_with text types input none (inr (b, c, first)) = (_, (fault_at b c, first, refl))
 
--- an image that no tree fits has a first fault, with lines behind it
-fault_with : (text input : List ℕ) → NoneFits input → FitsOrHasFault input → (reply : Reply) × RefusesWith text input reply
-fault_with text input none (inl (t, l, fits)) = absurd (none t l fits)
-fault_with text input none (inr (b, c, first)) = (_, (fault_at b c, first, refl))
+fault_alone : (types : Types) (input : List ℕ) → IsNoVolume types input → FitsOrHasFaultBy types input → (reply : Reply) × RefusesInput types input reply
+fault_alone types input none (inl (t, l, fits)) = absurd (none t l fits)
+fault_alone types input none (inr (b, c, first)) = (_, (fault_at b c, first, refl))
 
-fault_alone : (input : List ℕ) → NoneFits input → FitsOrHasFault input → (reply : Reply) × RefusesImage input reply
-fault_alone input none (inl (t, l, fits)) = absurd (none t l fits)
-fault_alone input none (inr (b, c, first)) = (_, (fault_at b c, first, refl))
+-- an input that is mended or has a fault is none
+none_fits_fault : (types : Types) (input : List ℕ) (w : Walk) (fs : List FindingValue) (mended : Bool) → is_mended input ≡ mended
+    → IsSurvey (opened input) w fs → HasFault types (opened input) mended fs → IsNoVolume types input
+none_fits_fault types input w fs true is survey fault = none_fits_mended types input is
+none_fits_fault types input w fs false is survey fault =
+    let same : opened input ≡ input = opened_kept input is in
+    none_fits_it types input w fs false refl (subst (λ (image : List ℕ). IsSurvey image w fs) same survey)
+    (subst (λ (image : List ℕ). HasFault types image false fs) same fault)
 
--- no tree fits an input of which nothing is surveyed once it is opened
-none_fits_unread : (input : List ℕ) (w : Walk) (fs : List FindingValue) → IsSurvey (opened input) w fs → w ≡ [] → NoneFits input
-none_fits_unread input w fs survey none t l fits =
-    let same : opened input ≡ input = opened_kept input (volumes_are_kept input t l fits) in
-    let own : IsSurvey input w fs = subst (λ (image : List ℕ). IsSurvey image w fs) same survey in
-    unread_fault input w fs own none (finds_none input t l w fs fits own)
-
--- nor one that is mended or has a finding
-none_fits_fault : (input : List ℕ) (w : Walk) (fs : List FindingValue) (mended : Bool) → is_mended input ≡ mended
-    → IsSurvey (opened input) w fs → HasFault mended fs → NoneFits input
-none_fits_fault input w fs true is survey fault t l fits = none_fits_mended input is t l fits
-none_fits_fault input w fs false is survey fault t l fits =
-    none_fits_it input w fs false refl (subst (λ (image : List ℕ). IsSurvey image w fs) (opened_kept input is) survey) fault t l fits
+-- nor is one of which nothing is surveyed once it is opened
+none_fits_unread : (types : Types) (input : List ℕ) (w : Walk) (fs : List FindingValue) → IsSurvey (opened input) w fs → w ≡ []
+    → IsNoVolume types input
+none_fits_unread types input w fs survey none =
+    none_fits_fault types input w fs (is_mended input) refl survey (inr (unread_fault types (opened input) w fs survey none))
 
 -- whether anything stands
 
-dec_fault : (mended : Bool) (fs : List FindingValue) → Dec (HasFault mended fs)
-dec_fault true fs = yes (inl refl)
-dec_fault false [] = no (λ h. elim h [ inl e ↦ cc | inr some ↦ some refl ])
-dec_fault false (f ∷ fs) = yes (inr (λ e. cc))
+dec_fault : (types : Types) (image : List ℕ) (w : Walk) (fs : List FindingValue) (mended : Bool) → IsSurvey image w fs
+    → Dec (HasFault types image mended fs)
+dec_fault types image w fs true survey = yes (inl refl)
+dec_fault types image w fs false survey = elim (cases_lt (length (passed types image)) (length fs)) [
+  | inl some ↦ yes (inr (some_fault types image w fs survey some))
+  | inr none ↦ no (λ h. elim h [ inl e ↦ cc | inr fault ↦ fault (no_fault types image w fs survey none) ])
+]
 
 pub dec_nil : {X : Type 0} (xs : List X) → Dec (xs ≡ [])
 dec_nil [] = yes refl
@@ -115,18 +115,22 @@ module _ (types : Types) (held : ℕ) (input : List ℕ) (w : Walk) (fs : List F
   first = record { image = opened input; walk = w; sound = sound }
 
   some_rescued : w ≢ [] → (reply : Reply) × RescuesSome types held input first second fs boot reply
-  some_rescued some = elim (dec_and (dec_fault (is_mended input) fs) (dec_nil (rescued_additions_by (letters_for types (opened input)) held first second))) [
-    | yes nothing ↦
-        let (reply, refuses) = fault_with (rescue_text types held first second fs) input
-        (none_fits_fault input w fs (is_mended input) refl survey nothing.0) (fits_or_fault input) in (reply, inl (nothing, refuses))
-    | no stands ↦
-        let (image, laid, size) = rescue_laid (letters_for types (opened input)) held first second (allowed_size (opened input) w fs survey some) are more in
-        (_, inr (stands, (image, laid, size, refl)))
-  ]
+  some_rescued some =
+      let letters : Letters = letters_for types (opened input) in
+      let fault = dec_fault types (opened input) w fs (is_mended input) survey in
+      elim (dec_and fault (dec_nil (rescued_additions_by letters held first second))) [
+        | yes nothing ↦
+            let (reply, refuses) = fault_with (rescue_text types held first second fs) types input
+            (none_fits_fault types input w fs (is_mended input) refl survey nothing.0) (fits_or_fault_by types input) in (reply, inl (nothing, refuses))
+        | no stands ↦
+            let (image, laid, size) = rescue_laid letters held first second (allowed_size (opened input) w fs survey some) are more in
+            (_, inr (stands, (image, laid, size, refl)))
+      ]
 
   rescued_by : Dec (w ≡ []) → (reply : Reply) × RescuesBy types held input first second fs boot reply
   rescued_by (yes none) =
-      let (reply, refuses) = fault_alone input (none_fits_unread input w fs survey none) (fits_or_fault input) in (reply, inl (none, refuses))
+      let (reply, refuses) = fault_alone types input (none_fits_unread types input w fs survey none) (fits_or_fault_by types input) in
+      (reply, inl (none, refuses))
   rescued_by (no some) = let (reply, told) = some_rescued some in (reply, inr (some, told))
 
 rescued_found : (types : Types) (held : ℕ) (input : List ℕ) (w : Walk) (fs : List FindingValue) → IsSurvey (opened input) w fs → AreBytes (opened input)

@@ -1,19 +1,24 @@
 -- Rescues of which only the new volume is to be laid and written.
--- Letters: p a prepared rescue; w how a work ends; o what output has; boot the boot blocks of the input.
-use Rattle.std.specs.Prelude.{◌≡◌, ◌++◌, ℕ, true, false, List, Option, None, Some, Result, Ok, Err}
+-- Letters: p a prepared rescue; w how a work ends; o what output has; boot the boot blocks of the input; types those that the new volume may
+-- have.
+use Rattle.std.specs.Prelude.{◌≡◌, ◌++◌, ℕ, true, false, List, Option, None, Some, Result, Ok, Err, string_bytes}
+use Rattle.adf_tree.specs.Tree.{Tree}
 use Rattle.adf_blocks.specs.Sizes.{blocks}
+use Rattle.adf_volume.specs.Fits.{FitsBy}
+use Rattle.adf_volume.specs.Layout.{Layout}
+use Rattle.adf_volume.specs.Types.{letters_for}
 use Rattle.adf_volume.specs.declared.fault.Fault.{Fault}
-use Rattle.adf_volume.specs.Walk.{FirstFault}
+use Rattle.adf_volume.specs.declared.types.Types.{Types}
+use Rattle.adf_volume.specs.Walk.{FirstFaultBy}
 use Rattle.adf_boot_blocks.specs.Writing.{restored}
 use Rattle.adf_build.specs.Building.{IsBuildable}
 use Rattle.adf_build.specs.Laid.{IsLaid}
 use Rattle.adf_rescue.specs.Opened.{is_mended, opened}
 use Rattle.adf_texts.specs.Lines.{fault_line}
-use Rattle.adf_cmd.specs.Refusals.{IsRefusedImage}
 use Rattle.adf_runs.specs.Commands.{Reply}
 use Rattle.adf_runs.specs.Outcomes.{EndsBy, is_read_fault, is_write_fault}
 use Rattle.adf_runs.specs.declared.outcome.Outcome.{Outcome}
-use Rattle.adf_runs.specs.declared.outcome.Outcome.TheVariants.{LeftOut, NoMemory}
+use Rattle.adf_runs.specs.declared.outcome.Outcome.TheVariants.{LeftOut, NoMemory, Refused}
 use Rattle.adf_survey_cmd.specs.Rescues.{rescue_reply}
 use Rattle.adf_survey_cmd.specs.declared.rescuing.Prepared.{Prepared}
 
@@ -31,13 +36,25 @@ Prepares answers (Ok p) =
 Prepares answers (Err w) =
     (is_read_fault w ≡ false) × (is_write_fault w ≡ false) × ((boot : List ℕ) (o : Option (List ℕ)) → EndsBy (answers boot) w o o)
 
--- an input is opened as an image: as it is, or mended, and then it is refused so
-abbrev pub IsOpened : List ℕ → List ℕ → Option Outcome → Type 0
-IsOpened input image None = (is_mended input ≡ false) × (image ≡ input)
-IsOpened input image (Some w) = (is_mended input ≡ true) × (image ≡ opened input) × IsRefusedImage input w
+-- no tree and layout fit an image where these types are accepted
+abbrev pub IsNoVolume : Types → List ℕ → Type 0
+IsNoVolume types image = (t : Tree) (l : Layout) → FitsBy (letters_for types image) image t l → ⊥
 
--- saying that an input is refused, with lines behind its first fault
-abbrev pub IsRefusedWith : List ℕ → List ℕ → Outcome → Type 0
-IsRefusedWith text input (LeftOut lines) = (f : Fault) × FirstFault input f.block f.cause × (lines.items ≡ fault_line f ++ text)
-IsRefusedWith text input NoMemory = Unit {0}
-IsRefusedWith text input _ = ⊥
+-- saying that an input is refused where these types are accepted: the line of its first fault
+abbrev pub IsRefusedInput : Types → List ℕ → Outcome → Type 0
+IsRefusedInput types input (Refused line) =
+    (f : Fault) × FirstFaultBy (letters_for types input) input f.block f.cause × (string_bytes line ≡ fault_line f)
+IsRefusedInput types input NoMemory = Unit {0}
+IsRefusedInput types input _ = ⊥
+
+-- the same with lines behind it
+abbrev pub IsRefusedWith : List ℕ → Types → List ℕ → Outcome → Type 0
+IsRefusedWith text types input (LeftOut lines) =
+    (f : Fault) × FirstFaultBy (letters_for types input) input f.block f.cause × (lines.items ≡ fault_line f ++ text)
+IsRefusedWith text types input NoMemory = Unit {0}
+IsRefusedWith text types input _ = ⊥
+
+-- an input is opened as an image: as it is, or mended, and then it is refused so
+abbrev pub IsOpened : Types → List ℕ → List ℕ → Option Outcome → Type 0
+IsOpened types input image None = (is_mended input ≡ false) × (image ≡ input)
+IsOpened types input image (Some w) = (is_mended input ≡ true) × (image ≡ opened input) × IsRefusedInput types input w

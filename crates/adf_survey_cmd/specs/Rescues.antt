@@ -9,7 +9,7 @@ use Rattle.adf_boot_blocks.specs.Writing.{restored}
 use Rattle.adf_volume.specs.Types.{letters_for}
 use Rattle.adf_volume.specs.declared.fault.Fault.{Fault}
 use Rattle.adf_volume.specs.declared.types.Types.{Types}
-use Rattle.adf_volume.specs.Walk.{FirstFault, Walk}
+use Rattle.adf_volume.specs.Walk.{FirstFaultBy, Walk}
 use Rattle.adf_findings.specs.Files.{grave}
 use Rattle.adf_findings.specs.Lookup.{path_to}
 use Rattle.adf_findings.specs.SoundMarks.{AreMarks}
@@ -25,7 +25,6 @@ use Rattle.adf_rescue.specs.declared.left_out.Why.{Why}
 use Rattle.adf_rescue.specs.declared.left_out.Why.TheVariants.{Damaged, Link, NoRoom}
 use Rattle.adf_texts.specs.Lines.{fault_line}
 use Rattle.adf_texts.specs.Names.{names_text}
-use Rattle.adf_cmd.specs.Answers.{RefusesImage}
 use Rattle.adf_runs.specs.Commands.{Reply, on_errors}
 use Rattle.adf_survey_cmd.specs.Lines.{blocks_text}
 
@@ -103,20 +102,26 @@ WritesVolume types held a b fs boot reply =
     (volume : List ℕ) × IsLaid volume (rescued_tree_by (letters_for types a.image) held a b) × (blocks volume ≡ blocks a.image)
     × (reply ≡ rescue_reply (restored volume boot) (rescue_text types held a b fs))
 
--- nothing is written, and errors get the first fault of the input, and these lines behind it
-abbrev pub RefusesWith : List ℕ → List ℕ → Reply → Type 0
-RefusesWith text input reply = (f : Fault) × FirstFault input f.block f.cause × (reply ≡ on_errors 1 (fault_line f ++ text))
+-- nothing is written, and errors get the first fault of the input where these types are accepted
+abbrev pub RefusesInput : Types → List ℕ → Reply → Type 0
+RefusesInput types input reply =
+    (f : Fault) × FirstFaultBy (letters_for types input) input f.block f.cause × (reply ≡ on_errors 1 (fault_line f))
+
+-- the same with these lines behind it
+abbrev pub RefusesWith : List ℕ → Types → List ℕ → Reply → Type 0
+RefusesWith text types input reply =
+    (f : Fault) × FirstFaultBy (letters_for types input) input f.block f.cause × (reply ≡ on_errors 1 (fault_line f ++ text))
 
 -- the rescue of an input of which something is surveyed: the volume, or where nothing stands the first fault
 abbrev pub RescuesSome : Types → (held : ℕ) → List ℕ → Basis → Option Basis → List FindingValue → (boot : List ℕ) → Reply → Type 0
 RescuesSome types held input a b fs boot reply =
-    (StandsNothingBy (letters_for types a.image) held a b fs (is_mended input) × RefusesWith (rescue_text types held a b fs) input reply)
-    ⊎ ((¬ StandsNothingBy (letters_for types a.image) held a b fs (is_mended input)) × WritesVolume types held a b fs boot reply)
+    (StandsNothingBy types held a b fs (is_mended input) × RefusesWith (rescue_text types held a b fs) types input reply)
+    ⊎ ((¬ StandsNothingBy types held a b fs (is_mended input)) × WritesVolume types held a b fs boot reply)
 
 -- the rescue of an input by the surveys; where nothing is surveyed it is refused
 abbrev pub RescuesBy : Types → (held : ℕ) → List ℕ → Basis → Option Basis → List FindingValue → (boot : List ℕ) → Reply → Type 0
 RescuesBy types held input a b fs boot reply =
-    ((a.walk ≡ []) × RefusesImage input reply) ⊎ ((a.walk ≢ []) × RescuesSome types held input a b fs boot reply)
+    ((a.walk ≡ []) × RefusesInput types input reply) ⊎ ((a.walk ≢ []) × RescuesSome types held input a b fs boot reply)
 
 -- the second image that is surveyed: the hung one, if something is lost; mended tells whether the first one was
 abbrev pub second_image : Bool → List ℕ → Walk → List FindingValue → Option (List ℕ)

@@ -2,10 +2,6 @@
 
 ghost use Rattle.std.specs.Prelude.{◌≡◌, ◌≤◌, ◌++◌, ℕ, List, [], false, length, true};
 ghost use Rattle.std.specs.Prelude.{Option, Some, IfOk, OnOk, is_some, option_map};
-ghost use Rattle.adf_tree.specs.Tree.{Tree};
-ghost use Rattle.adf_volume.specs.Fits.{Fits};
-ghost use Rattle.adf_volume.specs.Layout.{Layout};
-ghost use Rattle.adf_volume.specs.Types.{letters_for};
 ghost use Rattle.adf_findings.specs.Survey.{OnSurvey};
 ghost use Rattle.adf_blocks.specs.Sizes.{blocks as blocks_in};
 ghost use Rattle.adf_boot_blocks.specs.Writing.{restored};
@@ -13,21 +9,20 @@ ghost use Rattle.adf_build.specs.Building.{IsBuildable};
 ghost use Rattle.adf_build.specs.Laid.{IsLaid};
 ghost use Rattle.adf_rescue.specs.Opened.{is_mended};
 ghost use Rattle.adf_rescue.specs.Rescue.{IsSecond, Basis, OnBasis, OnSecond};
-ghost use Rattle.adf_cmd.specs.Refusals.{IsRefusedImage};
 ghost use Rattle.adf_runs.specs.Outcomes.{EndsBy, is_read_fault, is_write_fault, outcome_text, status_of};
-ghost use Rattle.adf_survey_cmd.specs.Prepared.{IsOpened, IsRefusedWith, Prepares, WritesPrepared};
+ghost use Rattle.adf_survey_cmd.specs.Prepared.{IsNoVolume, IsOpened, IsRefusedInput, IsRefusedWith, Prepares, WritesPrepared};
 ghost use Rattle.adf_survey_cmd.specs.Rescues.{Rescues, RescuesBoth, RescuesBy, left_out_line, left_out_text, lines_text, second_text, text_status, why_text};
 
 use crate::lost_lines::{push_lost_blocks, push_lost_headers};
 use crate::runs::push_path;
-use adf_base::{Letters, NoMemory};
+use adf_base::NoMemory;
 use adf_boot_blocks::{BOOT_LEN, restore};
-use adf_cmd::volume_of;
+use adf_cmd::answer_to_image;
 use adf_drafts::Draft;
 use adf_findings::{Survey, some_survey, survey};
 use adf_rescue::{LeftOut, Rescued, Terms, Why, hung_image, is_mended, lay, open_image, rescue};
 use adf_runs::{Outcome, Sink, write_all};
-use adf_volume::{Types, letters_in};
+use adf_volume::Types;
 use std::alloc::{AllocError, Global};
 
 // Appends why an entry is left out.
@@ -171,27 +166,27 @@ fn write_prepared<W: Sink>(
     }
 }
 
-// Refuses an image that no tree fits, by its first fault.
-fn refuse(alloc: Global, image: &[u8]) -> Outcome
-    requires { (t : Tree) (l : Layout) → Fits image.now t l → ⊥ }
-    ensures refused { IsRefusedImage image.now result }
+// Refuses an image that is no volume of these types, by its first fault.
+fn refuse(alloc: Global, types: Types, image: &[u8]) -> Outcome
+    requires { IsNoVolume types image.now }
+    ensures refused { IsRefusedInput types image.now result }
     ensures read { is_read_fault result ≡ false }
     ensures written { is_write_fault result ≡ false }
 {
-    match volume_of(alloc, image) {
-        Ok(_) => unreachable!(),
-        Err(outcome) => outcome,
+    match answer_to_image(alloc, types, image) {
+        Ok(answer) => Outcome::Refused(answer.line),
+        Err(_) => Outcome::NoMemory,
     }
 }
 
 // Refuses an input of which nothing is surveyed or stands: as it is refused already, if it was mended.
-fn refuse_opened(alloc: Global, image: &[u8], refusal: Option<Outcome>) -> Outcome
-    requires { is_some refusal ≡ false → (t : Tree) (l : Layout) → Fits image.now t l → ⊥ }
-    ensures { (input : List ℕ) → IsOpened input image.now refusal → IsRefusedImage input result }
+fn refuse_opened(alloc: Global, types: Types, image: &[u8], refusal: Option<Outcome>) -> Outcome
+    requires { is_some refusal ≡ false → IsNoVolume types image.now }
+    ensures { (input : List ℕ) → IsOpened types input image.now refusal → IsRefusedInput types input result }
 {
     match refusal {
         Some(outcome) => outcome,
-        None => refuse(alloc, image),
+        None => refuse(alloc, types, image),
     }
 }
 
@@ -205,11 +200,17 @@ fn joined(alloc: Global, line: &str, lines: &[u8]) -> Result<Vec<u8>, AllocError
 }
 
 // Refuses such an input with lines behind its first fault.
-fn refuse_with(alloc: Global, image: &[u8], refusal: Option<Outcome>, lines: &[u8]) -> Outcome
-    requires { is_some refusal ≡ false → (t : Tree) (l : Layout) → Fits image.now t l → ⊥ }
-    ensures { (input : List ℕ) → IsOpened input image.now refusal → IsRefusedWith lines.now input result }
+fn refuse_with(
+    alloc: Global,
+    types: Types,
+    image: &[u8],
+    refusal: Option<Outcome>,
+    lines: &[u8],
+) -> Outcome
+    requires { is_some refusal ≡ false → IsNoVolume types image.now }
+    ensures { (input : List ℕ) → IsOpened types input image.now refusal → IsRefusedWith lines.now types input result }
 {
-    match refuse_opened(alloc, image, refusal) {
+    match refuse_opened(alloc, types, image, refusal) {
         Outcome::Refused(line) => match joined(alloc, &line, lines) {
             Ok(text) => Outcome::LeftOut(text),
             Err(_) => Outcome::NoMemory,
@@ -225,16 +226,6 @@ pub struct Scope {
     pub held: usize,
 }
 
-// The letters of the new volume: those of the surveyed image, if its type may stay.
-fn letters_for(types: Types, found: &Survey<'_>) -> Letters
-    ensures { result ≡ letters_for types found.now.image }
-{
-    match types {
-        Types::Plain => Letters::Ascii,
-        Types::WithInternational => letters_in(found.image()),
-    }
-}
-
 // Prepares a rescue by what is found in the image that an input is opened as, and in a second one, if there is one. An input
 // that was mended comes with how it is refused.
 fn prepare_found(
@@ -245,23 +236,23 @@ fn prepare_found(
     refusal: Option<Outcome>,
 ) -> Result<Prepared, Outcome>
     requires { (b : Option Basis) × IsSecond (option_map (λ s. s.now.image) second) b }
-    ensures { (input : List ℕ) → IsOpened input found.now.image refusal
+    ensures { (input : List ℕ) → IsOpened scope.types input found.now.image refusal
         → OnBasis found.now.image (λ a fs. OnSecond (option_map (λ s. s.now.image) second.entry) (λ b.
         Prepares (RescuesBy scope.types scope.held input a b fs) result)) }
 {
     found.whole_marks();
     some_survey();
     let terms = Terms {
-        letters: letters_for(scope.types, found),
+        types: scope.types,
         held: scope.held,
         mended: refusal.is_some(),
     };
     let Some(rescued) = rescue(alloc, found, second, terms)? else {
-        return Err(refuse_opened(alloc, found.image(), refusal));
+        return Err(refuse_opened(alloc, scope.types, found.image(), refusal));
     };
     let lines = rescue_lines(alloc, found, second, &rescued)?;
     if rescued.stands_nothing {
-        return Err(refuse_with(alloc, found.image(), refusal, &lines));
+        return Err(refuse_with(alloc, scope.types, found.image(), refusal, &lines));
     }
     Ok(Prepared {
         draft: rescued.draft,
@@ -278,7 +269,7 @@ fn prepare_hung(
     scope: Scope,
     refusal: Option<Outcome>,
 ) -> Result<Prepared, Outcome>
-    ensures { (input : List ℕ) → IsOpened input found.now.image refusal
+    ensures { (input : List ℕ) → IsOpened scope.types input found.now.image refusal
         → OnBasis found.now.image (λ a fs. Prepares (RescuesBoth scope.types scope.held input a (Some hung.now) fs) result) }
 {
     let second = survey(alloc, hung)?;
@@ -293,7 +284,8 @@ fn prepare_opened(
     scope: Scope,
     refusal: Option<Outcome>,
 ) -> Result<Prepared, Outcome>
-    ensures { (input : List ℕ) → IsOpened input image.now refusal → Prepares (Rescues scope.types scope.held input) result }
+    ensures { (input : List ℕ) → IsOpened scope.types input image.now refusal
+        → Prepares (Rescues scope.types scope.held input) result }
 {
     let found = survey(alloc, image)?;
     found.whole_marks();
@@ -308,7 +300,7 @@ fn prepare_mended(alloc: Global, image: &mut [u8], scope: Scope) -> Result<Prepa
     requires { is_mended image.old ≡ true }
     ensures { Prepares (Rescues scope.types scope.held image.old) result }
 {
-    let refusal = refuse(alloc, image);
+    let refusal = refuse(alloc, scope.types, image);
     open_image(image);
     prepare_opened(alloc, image, scope, Some(refusal))
 }
@@ -326,7 +318,7 @@ fn prepare(alloc: Global, input: Vec<u8>, scope: Scope) -> Result<Prepared, Outc
 
 /// Writes the new volume of all that stands on an image, whose boot block and root may be overwritten, and of which the first
 /// `scope.held` blocks were there whole, with what no directory leads to any more; errors get the lines of what is not in it. If
-/// nothing stands, and the input is not a valid volume, errors get the line of its first fault, then these lines.
+/// nothing stands, and the input is no valid volume of `scope.types`, errors get the line of its first fault, then these lines.
 /// The new volume gets the boot blocks. The input is let go before it is laid.
 pub fn rescue_image<W: Sink>(
     alloc: Global,

@@ -3,10 +3,11 @@ use Rattle.std.proofs.lemmas.Grind.{common_steps}
 use Rattle.adf_tree.specs.Tree.{Tree}
 use Rattle.adf_volume.specs.Fits.{Fits}
 use Rattle.adf_volume.specs.Layout.{Layout}
+use Rattle.adf_volume.specs.declared.types.Types.TheVariants.{Plain}
 use Rattle.adf_findings.specs.SoundMarks.{whole_in}
 use Rattle.adf_rescue.specs.Opened.{is_mended}
 use Rattle.adf_rescue.specs.Rescue.{Basis, StandsNothing}
-use Rattle.adf_rescue.proofs.Steps.{unread_fault}
+use Rattle.adf_rescue.proofs.PassedFindings.{unread_fault}
 use Rattle.adf_memory.specs.Rescuing.{IsOpened, RescueBy}
 use Rattle.adf_memory.specs.declared.preparing.Prepared.{Prepared}
 use Rattle.adf_survey_cmd.proofs.RescueAnswers.{if_some, none_fits_it}
@@ -25,7 +26,8 @@ fault_of-requires c = λ as_it_is.
     let some = c.some_survey.ensures image in
     let nothing : some.0 ≡ [] = grind (arith, common_steps) in
     subst (λ (i : List ℕ). (t : Tree) (l : Layout) → Fits i t l → ⊥) (sym c.image.ensures)
-    (none_fits_it image some.0 some.1 c.is_some.result (c.is_some.ensures ∙ as_it_is) some.2 (inr (unread_fault image some.0 some.1 some.2 nothing)))
+    (none_fits_it Plain image some.0 some.1 c.is_some.result (c.is_some.ensures ∙ as_it_is) some.2
+    (inr (unread_fault Plain image some.0 some.1 some.2 nothing)))
 
 pub returns-in_default : goal.returns-in_default
 returns-in_default c = λ input opened w fs sound here marks b second.
@@ -44,7 +46,7 @@ fault_of-requires-then-rescued c = λ as_it_is.
     (c.in_ok-rescued.ensures.nothing some.0 some.1 (whole_in c.args.found.now) some.2 marks c.requires.0 c.requires.1) in
     let nothing = told.0 c.if-rescued.true in
     subst (λ (i : List ℕ). (t : Tree) (l : Layout) → Fits i t l → ⊥) (sym c.image-then-rescued.ensures)
-    (none_fits_it image some.0 some.1 c.is_some.result (c.is_some.ensures ∙ as_it_is) some.2 nothing.0)
+    (none_fits_it Plain image some.0 some.1 c.is_some.result (c.is_some.ensures ∙ as_it_is) some.2 nothing.0)
 
 pub returns-then-rescued : goal.returns-then-rescued
 returns-then-rescued c = λ input opened w fs sound here marks b second.

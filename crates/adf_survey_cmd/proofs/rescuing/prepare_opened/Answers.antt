@@ -24,7 +24,7 @@ returns-in-Some c = λ input opened.
     let sound : ℕ → Bool = whole_in v in
     let marks = c.whole_marks.ensures w fs here in
     let a : Basis = record { image = v.image; walk = w; sound = sound } in
-    let so : c.is_some.result ≡ is_mended input = c.is_some.ensures ∙ mended_so input _ _ opened in
+    let so : c.is_some.result ≡ is_mended input = c.is_some.ensures ∙ mended_so c.args.scope.types input _ _ opened in
     let is = c.in-Some.is in
     let told = c.in_ok-hung.ensures.none w fs here in
     let lost : has_lost c.is_some.result v.image w fs ≡ true = elim (cases_Bool (has_lost c.is_some.result v.image w fs)) [
@@ -38,8 +38,8 @@ returns-in-Some c = λ input opened.
     prepares_weaker (RescuesBoth c.args.scope.types c.args.scope.held input a (Some c.deref.result.now) fs)
     (Rescues c.args.scope.types c.args.scope.held input) _
     (λ boot reply by. found_answers c.args.scope.types c.args.scope.held input v.image w fs sound (Some c.deref.result.now) boot reply
-    (same ∙ opened_so input _ _ opened) here marks second by)
-    (c.prepare_hung.ensures input (subst (λ (image : List ℕ). IsOpened input image c.args.refusal) (sym same) opened) w fs sound here marks)
+    (same ∙ opened_so c.args.scope.types input _ _ opened) here marks second by)
+    (c.prepare_hung.ensures input (subst (λ (image : List ℕ). IsOpened c.args.scope.types input image c.args.refusal) (sym same) opened) w fs sound here marks)
 
 pub returns : goal.returns
 returns c = λ input opened.
@@ -51,14 +51,14 @@ returns c = λ input opened.
     let sound : ℕ → Bool = whole_in v in
     let marks = c.whole_marks.ensures w fs here in
     let a : Basis = record { image = v.image; walk = w; sound = sound } in
-    let so : c.is_some.result ≡ is_mended input = c.is_some.ensures ∙ mended_so input _ _ opened in
+    let so : c.is_some.result ≡ is_mended input = c.is_some.ensures ∙ mended_so c.args.scope.types input _ _ opened in
     let none : second_image (is_mended input) v.image w fs ≡ None =
     subst (λ mended. second_image mended v.image w fs ≡ None) so
     (none_hung c.is_some.result v.image w fs ((c.in_ok-hung.ensures.none w fs here).0 (ap is_some c.in-None.is))) in
     prepares_weaker (RescuesBy c.args.scope.types c.args.scope.held input a None fs) (Rescues c.args.scope.types c.args.scope.held input) _
-    (λ boot reply by. found_answers c.args.scope.types c.args.scope.held input v.image w fs sound None boot reply (same ∙ opened_so input _ _ opened)
+    (λ boot reply by. found_answers c.args.scope.types c.args.scope.held input v.image w fs sound None boot reply (same ∙ opened_so c.args.scope.types input _ _ opened)
     here marks none (None, tt, by))
-    (c.prepare_found.ensures input (subst (λ (image : List ℕ). IsOpened input image c.args.refusal) (sym same) opened) w fs sound here marks None tt)
+    (c.prepare_found.ensures input (subst (λ (image : List ℕ). IsOpened c.args.scope.types input image c.args.refusal) (sym same) opened) w fs sound here marks None tt)
 
 pub returns-in_err-found : goal.returns-in_err-found
 returns-in_err-found c = λ input opened. none_prepared _ c.from_residual.result c.from_residual.ensures.1
