@@ -1,7 +1,6 @@
 // The nodes of a volume in order: the root, then each entry in the order in which its header is read.
 
-ghost use Rattle.std.specs.Prelude.{◌≡◌, ◌≤◌, ◌<◌, ◌+◌, ◌^◌, [], ◌∷◌, OnOk, IfErr, length};
-ghost use Rattle.adf_blocks.specs.Sizes.{blocks};
+ghost use Rattle.std.specs.Prelude.{◌≡◌, ◌<◌, ◌+◌, ◌^◌, [], ◌∷◌, OnOk, IfErr, length};
 ghost use Rattle.adf_check.specs.Reading.{IsAtNode, IsInExts, IsInNode, IsRead};
 ghost use Rattle.adf_check.specs.Store.{entered, store_value};
 ghost use Rattle.adf_check.specs.Own.{IsOwnFault};

@@ -1,5 +1,5 @@
 -- New volumes. p is the plan of a partition, n the number of its blocks, c that of a cylinder.
-use Rattle.std.proofs.Common.{◌≡◌, ◌≤◌, ◌-◌, ◌*◌, ◌∙◌, ℕ, Bool, true, false, List, [], ◌∷◌, length, ap, inl, refl, subst, sym, arith, ◌&&◌, ◌||◌}
+use Rattle.std.proofs.Common.{◌≡◌, ◌≤◌, ◌-◌, ◌*◌, ◌∙◌, ℕ, Bool, true, false, List, [], ◌∷◌, length, ap, inl, refl, sym, arith, ◌&&◌, ◌||◌}
 use Rattle.std.proofs.lemmas.Grind.{common_steps}
 use Rattle.adf_base.specs.Dates.{IsStamp}
 use Rattle.adf_base.specs.Words.{with_bytes, word}
@@ -27,6 +27,7 @@ use Rattle.adf_tree.proofs.TreeOfAdditions.{nothing_added_by}
 use Rattle.adf_tree.specs.Tree.{Tree}
 use Rattle.adf_runs.specs.Commands.{on_output}
 use Rattle.adf_texts.specs.Lines.{ok_line_by}
+use Rattle.adf_volume.proofs.FitWalks.{own_fit}
 use Rattle.adf_volume.proofs.ImageStart.{own_letters}
 use Rattle.adf_volume.proofs.Sizes.{size_low}
 use Rattle.adf_volume.specs.Counts.{counts_of}
@@ -72,7 +73,7 @@ accepted : (letters : Letters) (image : List ℕ) (t : Tree) (l : Layout) → Fi
     → Checks WithInternational image (on_output 0 (ok_line_by letters (counts_of image t l)))
 accepted letters image t l fits =
     let own : letters_of image ≡ letters = own_letters letters image fits.boots in
-    inl (t, l, subst (λ x. FitsBy x image t l) (sym own) fits, ap (λ x. on_output 0 (ok_line_by x (counts_of image t l))) (sym own))
+    inl (t, l, own_fit fits, ap (λ x. on_output 0 (ok_line_by x (counts_of image t l))) (sym own))
 
 pub new_volume : (n : ℕ) (p : PartitionPlan) → MayBeNew n p → IsNewVolume n p (volume (new_tree p) n)
 new_volume n p may =

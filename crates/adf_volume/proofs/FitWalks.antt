@@ -4,7 +4,7 @@ use native.Mathlib.Decide.{dec_lt}
 use Rattle.adf_base.specs.declared.hash.Letters.{Letters}
 use Rattle.adf_tree.specs.Tree.{Tree}
 use Rattle.adf_volume.specs.Fits.{FitsBy}
-use Rattle.adf_volume.specs.Image.{root_of, word_in}
+use Rattle.adf_volume.specs.Image.{letters_of, root_of, word_in}
 use Rattle.adf_volume.specs.Layout.{Layout, owned}
 use Rattle.adf_volume.specs.LayoutRoles.{LayoutHasBy, owner_of}
 use Rattle.adf_volume.specs.Lists.{In}
@@ -160,6 +160,10 @@ module _ {letters : Letters} (image : List ℕ) (t : Tree) (l : Layout) (fit : F
       let rs : List Role = roles (owned image l) (λ o b h. h) in
       grown (length rs) rs refl ((Root, root_of image) ∷ []) start
       (λ q b h lack. in_roles (owned image l) (λ o b h. h) q b h (part_owned letters image t l fit.places q b h))
+
+-- what fits by some letters fits by those of the image
+pub own_fit : {letters : Letters} {image : List ℕ} {t : Tree} {l : Layout} → FitsBy letters image t l → FitsBy (letters_of image) image t l
+own_fit {letters = letters} {image = image} {t = t} {l = l} f = subst (λ x. FitsBy x image t l) (sym (own_letters letters image f.boots)) f
 
 -- one image, one tree and one layout
 pub one_fit : {letters others : Letters} (image : List ℕ) (t u : Tree) (l m : Layout) → FitsBy letters image t l → FitsBy others image u m

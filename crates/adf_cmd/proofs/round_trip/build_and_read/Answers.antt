@@ -1,16 +1,11 @@
-use Rattle.std.proofs.Common.{◌≡◌, ◌∙◌, ℕ, List, subst, sym}
+use Rattle.std.proofs.Common.{◌≡◌, ◌∙◌, ℕ, List}
 use Rattle.adf_base.specs.declared.hash.Letters.{Letters}
 use Rattle.adf_tree.specs.Tree.{Tree}
 use Rattle.adf_volume.specs.Fits.{FitsBy}
-use Rattle.adf_volume.specs.Image.{letters_of}
 use Rattle.adf_volume.specs.Layout.{Layout}
-use Rattle.adf_volume.proofs.FitWalks.{one_fit}
-use Rattle.adf_volume.proofs.ImageStart.{own_letters}
+use Rattle.adf_volume.proofs.FitWalks.{one_fit, own_fit}
 use Rattle.adf_build.specs.Plan.{planned}
 use Rattle.adf_cmd.proofs.round_trip.build_and_read.Goals as goal
-
-own_fit : {letters : Letters} {image : List ℕ} {t : Tree} {l : Layout} → FitsBy letters image t l → FitsBy (letters_of image) image t l
-own_fit {letters = letters} {image = image} {t = t} {l = l} f = subst (λ x. FitsBy x image t l) (sym (own_letters letters image f.boots)) f
 
 pub unreachable-requires : goal.unreachable-requires
 unreachable-requires c =
