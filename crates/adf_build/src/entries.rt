@@ -14,7 +14,6 @@ use crate::plan::Plan;
 use adf_tree::Tree;
 
 /// Writes the blocks of all entries; the children of the root have indices below `first`.
-#[tactic(auto, using(crate::proofs::WriteSteps::nodes_length))]
 pub fn write_entries(image: &mut [u8], tree: &Tree, plan: Plan, nodes: &[u32], first: usize)
     requires room { IsBuildable tree.now plan.blocks }
     requires whole { length image.old ≡ plan.blocks * 512 }

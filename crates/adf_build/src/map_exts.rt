@@ -8,7 +8,6 @@ use crate::plan::Plan;
 use adf_blocks::{MAP_EXT_PAGES, ROOT_PAGES, write_map_ext};
 
 /// Writes the bitmap extension blocks of a volume, after its pages: each points to up to 127 pages and the next one.
-#[tactic(auto, using(crate::proofs::MapExts::map_exts_few))]
 pub fn write_map_exts(image: &mut [u8], plan: Plan)
     requires { length image.old ≡ plan.blocks * 512 }
     ensures { image.new ≡ with_blocks image.old (map_ext_writes plan.blocks) }

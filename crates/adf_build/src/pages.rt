@@ -22,7 +22,6 @@ fn is_used_block(plan: Plan, total: u32, b: u32) -> bool
 
 // The bits of the 32 blocks from `2 + q` on, if all are in use or all are free: on each side of the root the blocks in
 // use come first.
-#[tactic(auto, using(crate::proofs::WholeWords::all_free))]
 fn whole_word(plan: Plan, total: u32, q: u32) -> Option<u32>
     requires { q < 2 ^ 30 }
     ensures { IfSome result (λ w. w ≡ bits_from (is_free_bit plan.blocks total) q 32) }

@@ -54,7 +54,6 @@ fn write_the_root(image: &mut [u8], plan: Plan, tree: &Tree, slots: [u32; SLOTS 
 }
 
 /// Writes every part of a volume, with its nodes at these blocks and `total` blocks for its entries.
-#[tactic(auto, using(crate::proofs::Order::tree_rises, crate::proofs::WriteSteps::nodes_length))]
 pub fn write_volume(image: &mut [u8], plan: Plan, tree: &Tree, nodes: &[u32], total: u32)
     requires room { IsBuildable tree.now plan.blocks }
     requires whole { length image.old ≡ plan.blocks * 512 }

@@ -77,12 +77,6 @@ too_many most text done rest h x some full bytes spelling =
     let next = more_spelled most text done rest bytes h x some spelling in
     omega (arith, spelling.short, full, ap length next.2, length-append done (next.0 ∷ next.1))
 
--- all was read
-pub whole_spelling : (most : ℕ) (text done rest : List ℕ) → text ≡ escaped done ++ rest → All (λ c. c < 256) done → length done ≤ most
-    → length rest ≡ 0 → IsSpelling most text done
-whole_spelling most text done [] h x short end = record { spells = h ∙ append-nil (escaped done); are_bytes = x; short = short }
-whole_spelling most text done (c ∷ cs) h x short end = absurd (omega arith)
-
 nothing_more : (more : List ℕ) → escaped more ≡ [] → more ≡ []
 nothing_more [] h = refl
 nothing_more (c ∷ cs) h = absurd (spelling_some c (escaped cs) h)

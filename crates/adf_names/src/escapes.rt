@@ -59,7 +59,6 @@ fn read_byte(text: &[u8]) -> Option<(u8, &[u8])>
     }
 }
 
-#[tactic(auto, using(crate::proofs::Spellings::whole_spelling))]
 /// The bytes, at most `MOST`, whose escape form is `text`.
 pub fn read_escaped<const MOST: usize>(text: &[u8]) -> Option<ArrayVec<u8, MOST>>
     ensures some { IfSome result (λ v. IsSpelling MOST text.now v.items) }

@@ -87,7 +87,6 @@ impl Name {
         }
     }
 
-    #[tactic(auto, using(crate::proofs::RaisedNames::raised_steps))]
     /// The name in upper case by these letters.
     pub fn raised(&self, letters: Letters) -> Name
         ensures { result ≡ uppers_by letters self.now }
@@ -123,7 +122,6 @@ impl Name {
     }
 }
 
-#[tactic(auto, using(crate::proofs::EqualNames::ascii_yes, crate::proofs::EqualNames::ascii_no, crate::proofs::EqualNames::ascii_short))]
 // Whether two texts are equal, ignoring the case of `a` to `z`.
 fn are_same(a: &[u8], b: &[u8]) -> bool
     ensures { result ≡ bytes_eq (uppers a.now) (uppers b.now) }

@@ -100,7 +100,6 @@ fn has_names(text: &[u8]) -> bool
     }
 }
 
-#[tactic(auto, using(crate::proofs::PathParts::name_steps))]
 // The names of the text of a path.
 fn names_of(alloc: Global, text: &[u8]) -> Result<Vec<Name>, PathFault>
     requires { 0 < length text.now }

@@ -3,7 +3,8 @@ use Rattle.adf_tree.specs.declared.entry.Entry.{Entry}
 use Rattle.adf_build.specs.Laid.{first_block}
 use Rattle.adf_build.specs.Plan.{entry_blocks}
 use Rattle.adf_build.proofs.Order.{slots_are}
-use Rattle.adf_build.proofs.WriteSteps.{entry_step, room_step}
+use Rattle.adf_build.proofs.WriteSteps.{entry_step, room_step, nodes_length}
+use Rattle.std.proofs.lemmas.Grind.{common_steps}
 use Rattle.adf_build.proofs.entries.write_entries.Goals as goal
 
 pub loop-i-preserved : goal.loop-i-preserved
@@ -30,3 +31,15 @@ loop-i-preserved c =
       low = c.children_end-end.ensures.past;
       chains = λ q s h. c.loop-i.invariant.chains q s (omega arith) ∙ c.children_end-end.ensures.others q s (λ z. omega arith);
     }
+
+pub slots_between-slots-requires-clause-nodes : goal.slots_between-slots-requires-clause-nodes
+slots_between-slots-requires-clause-nodes c = grind (arith, nodes_length)
+
+pub parent_block-requires-clause-nodes : goal.parent_block-requires-clause-nodes
+parent_block-requires-clause-nodes c = grind (arith, nodes_length)
+
+pub next_of-requires-clause-nodes : goal.next_of-requires-clause-nodes
+next_of-requires-clause-nodes c = grind (arith, nodes_length)
+
+pub returns : goal.returns
+returns c = grind (arith, common_steps)

@@ -31,3 +31,6 @@ returns-in_err-ok-clause-none g c =
 
 pub loop-rest-preserved : goal.loop-rest-preserved
 loop-rest-preserved g c = grind (arith, common_steps, at_ok, read_more, length-append)
+
+pub returns-clause-some : goal.returns-clause-some
+returns-clause-some g c = grind (arith, common_steps)
