@@ -1,6 +1,6 @@
 -- Blocks that leave no file in doubt.
 -- Letters: f a state; b a block; m a node; k a number of blocks.
-use Rattle.std.specs.Prelude.{Bool, true, false, cond, not, ◌&&◌, ◌||◌, ◌==◌, Option, Some, None, slice_index_or}
+use Rattle.std.specs.Prelude.{Bool, true, false, cond, not, ◌&&◌, ◌||◌, ◌==◌, Some, None, slice_index_or}
 use Rattle.std.proofs.Common.{◌≡◌, ℕ, zero, suc, List, [], inl, inr, ◌<◌, ◌≤◌, refl, ap, ◌∙◌, arith}
 use Rattle.std.proofs.lemmas.Bool.{cases_lt}
 use Rattle.std.proofs.lemmas.Bool.Decides.{nat_tests}
@@ -14,7 +14,7 @@ use Rattle.adf_walk.specs.Owners.{is_part, owner_at}
 use Rattle.adf_findings.specs.WalkOwners.{data_number_of}
 use Rattle.adf_findings.specs.declared.found.Found.{Found}
 use Rattle.adf_findings.specs.Found.{is_owned}
-use Rattle.adf_findings.specs.Marks.{doubted, entry_in_block, is_doubted, is_node, is_said, number_in_block}
+use Rattle.adf_findings.specs.Marks.{doubted, entry_in_block, is_doubted, is_node, is_said}
 use Rattle.adf_findings.proofs.SoundMarks.{none_doubted}
 
 no_number : (o : Owner) → is_part o ≡ false → data_number_of o ≡ 0

@@ -27,7 +27,7 @@ use Rattle.adf_volume.proofs.Lists.{all_append, all_split, fails_left, fails_rig
 use Rattle.adf_volume.proofs.NoneFits.{none_fits}
 use Rattle.adf_volume.proofs.WalkFits.{fits}
 use Rattle.adf_findings.specs.Demands.{demands_in}
-use Rattle.adf_findings.specs.Survey.{BootTells, FindingValue, JudgementValue, Judged, RootTells, UnreadTells, finding, is_other_type}
+use Rattle.adf_findings.specs.Survey.{BootTells, FindingValue, JudgementValue, Judged, RootTells, finding, is_other_type}
 use Rattle.adf_findings.specs.Survey.{Course, after, IsNext, IsCourse, IsDone, IsValidated, IsCompared, BitsTell, IsSurvey, is_cache}
 use Rattle.adf_findings.specs.Survey.JudgementValue.{clean, reported, skipped}
 use Rattle.adf_findings.specs.Survey.IsCourse.{start, step}

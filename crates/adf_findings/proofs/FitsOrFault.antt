@@ -1,5 +1,5 @@
 -- Every image is that of a volume, or has a first fault. w is the walk of its survey, fs its findings.
-use Rattle.std.proofs.Common.{ℕ, List, [], ◌∷◌, ◌≡◌, ◌++◌, inl, inr, append-nil, subst, ◌∙◌}
+use Rattle.std.proofs.Common.{ℕ, List, [], ◌∷◌, ◌++◌, inl, inr, append-nil, subst}
 use Rattle.adf_volume.specs.Made.{layout_in, tree_in_by}
 use Rattle.adf_volume.specs.Walk.{Walk}
 use Rattle.adf_findings.proofs.FirstFindings.{first_finding, none_found, shown}

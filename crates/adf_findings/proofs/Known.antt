@@ -1,10 +1,7 @@
 -- The state of a survey has the facts that the demands on a part need.
-use Rattle.std.specs.Prelude.{Bool, true, false, cond, not, ◌==◌, ◌||◌, ◌&&◌, Some}
+use Rattle.std.specs.Prelude.{Bool, true, false, not, ◌==◌, ◌||◌, ◌&&◌}
 use Rattle.std.proofs.Common.{◌≡◌, ◌≢◌, ℕ, zero, suc, List, [], ◌∷◌, inl, inr, ◌<◌, refl, sym, subst, ap, ◌∙◌, arith}
-use Rattle.std.specs.Option.{unwrap_or}
-use Rattle.std.specs.Ordering.{is_eq}
 use Rattle.std.specs.Str.{bytes_eq}
-use Rattle.std.specs.BTreeMap.{get}
 use Rattle.std.proofs.lemmas.Bool.{and_parts, cases_Bool, eqb-true, eq-eqb}
 use Rattle.std.proofs.lemmas.Bool.Decides.{nat_tests}
 use Rattle.std.proofs.lemmas.Slice.Eq.{bytes_eq-Decides}
@@ -12,10 +9,10 @@ use Rattle.std.proofs.lemmas.Grind.{common_steps}
 use Rattle.adf_tree.specs.NameSet.{HasMore, Names, has}
 use Rattle.adf_names.specs.Texts.{is_name}
 use Rattle.adf_blocks.specs.Sizes.{blocks}
-use Rattle.adf_volume.specs.Image.{letters_of, name_of}
+use Rattle.adf_volume.specs.Image.{name_of}
 use Rattle.adf_volume.specs.Positions.{position_of}
-use Rattle.adf_volume.specs.Walk.{Role, Enough, Has, IsAbsent, ext_block_in, member_block, Walk}
-use Rattle.adf_volume.specs.Walk.Role.{Head, Ext}
+use Rattle.adf_volume.specs.Walk.{Role, Enough, Has, IsAbsent, Walk}
+use Rattle.adf_volume.specs.Walk.Role.{Head}
 use Rattle.adf_findings.specs.Demands.{NewNameIn, uppers_in}
 use Rattle.adf_findings.specs.declared.part.Part.{Part, TheVariants.Head as HeadPart}
 use Rattle.adf_findings.specs.declared.judge.Facts.{Facts}
@@ -25,9 +22,8 @@ use Rattle.adf_findings.specs.Forms.{IsContext, Knows, Tells, in_range}
 use Rattle.adf_findings.proofs.WalkOwners.{owned_is}
 use Rattle.adf_findings.specs.Found.{is_owned, AreNamed, HasValidName, IsChain, KeepsName, Stands}
 use Rattle.adf_findings.proofs.WalkOwners.{owned_is}
-use Rattle.adf_findings.specs.Found.{is_owned, at_key, has_name, is_named, known_at, new_in, owns}
-use Rattle.adf_findings.specs.Parts.{by_key, key_of, role_of}
-use Rattle.adf_findings.proofs.Keys.{equal_keys}
+use Rattle.adf_findings.specs.Found.{is_owned, has_name, is_named, known_at, new_in, owns}
+use Rattle.adf_findings.specs.Parts.{role_of}
 use Rattle.adf_findings.proofs.Names.{other_name}
 
 pub tells_absent : (w : Walk) (b : ℕ) → Tells (not (owns w b)) (IsAbsent w b)

@@ -1,6 +1,7 @@
 // What is left of files that may be damaged.
 
-ghost use Rattle.std.specs.Prelude.{◌≡◌, ◌≤◌, ◌<◌, ◌^◌, ◌+◌, ◌++◌, ◌↔◌, ℕ, IfOk, IsOk, IfSome, IsSome, OnOk, replicate, slice_index};
+ghost use Rattle.std.specs.Prelude.{◌≡◌, ◌≤◌, ◌<◌, ◌^◌, ◌+◌, ◌++◌, ◌↔◌, ℕ, IfOk, IsOk, IfSome, IsSome, OnOk};
+ghost use Rattle.std.specs.Prelude.{replicate, slice_index};
 ghost use Rattle.adf_blocks.specs.Sizes.{blocks, count};
 ghost use Rattle.adf_base.specs.Words.{block};
 ghost use Rattle.adf_volume.specs.Image.{kind_of, piece};

@@ -15,6 +15,7 @@ returns c =
     let le : ROOT_PAGES ≤ page = omega arith in
     let due : (page - ROOT_PAGES) % MAP_EXT_PAGES ≡ 0 = omega arith in
     let n = map_ext_named image f s page c.args.before c.requires.some le due c.requires.at.1 c.requires.at.2 in
-    let named = subst (λ i. IsNamed image f (due_below (MapExt ((page - ROOT_PAGES) / MAP_EXT_PAGES)) c.args.before) c.args.before i s) (sym c.map_ext_word.ensures.named) n in
+    let part = MapExt ((page - ROOT_PAGES) / MAP_EXT_PAGES) in
+    let named = subst (λ i. IsNamed image f (due_below part c.args.before) c.args.before i s) (sym c.map_ext_word.ensures.named) n in
     map_ext_on image f s page c.args.before c.map_ext_word.result c.go_on.new.progress c.in_ok-holder.holder le due n.holds
     (below_gone c.below-due.ensures named c.in_ok-holder.ensures.gone)
