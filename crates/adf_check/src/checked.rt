@@ -215,7 +215,6 @@ impl Checked<'_> {
     }
 
     /// The counts of the volume.
-    #[tactic(auto, using(crate::proofs::VolumeCounts::counts_are))]
     pub fn counts(&self) -> Counts
         ensures exact { (letters : Letters) (t : Tree) (l : Layout) → StandsForBy letters self.now t l
             → result ≡ counts_of self.now.image t l }

@@ -9,3 +9,12 @@ returns-clause-owners c =
     owners_claimed c.self.inside.places c.kept.new.self c.self.inside.table c.args.b c.args.owner c.in_ok-kept.kept c.in_ok-kept.ensures.grown
     c.self.invariant.1 c.in_ok-kept.ensures.kept in
     grind (arith, common_steps)
+
+pub put-requires-clause-below : goal.put-requires-clause-below
+put-requires-clause-below c = grind (arith, common_steps)
+
+pub put-requires-clause-free : goal.put-requires-clause-free
+put-requires-clause-free c = grind (arith, common_steps)
+
+pub invariant_of-self-2 : goal.invariant_of-self-2
+invariant_of-self-2 c = grind (arith, common_steps)

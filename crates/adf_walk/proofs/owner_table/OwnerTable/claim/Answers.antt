@@ -22,3 +22,18 @@ returns c =
       count = kept.count;
       bound = kept.bound;
     }
+
+pub index-requires : goal.index-requires
+index-requires c = grind (arith, common_steps)
+
+pub returns-then-not-is_free-clause-free : goal.returns-then-not-is_free-clause-free
+returns-then-not-is_free-clause-free c = grind (arith, common_steps)
+
+pub returns-then-not-is_free-clause-bound : goal.returns-then-not-is_free-clause-bound
+returns-then-not-is_free-clause-bound c = grind (arith, common_steps)
+
+pub index_mut-requires : goal.index_mut-requires
+index_mut-requires c = grind (arith, common_steps)
+
+pub overflow_add-self : goal.overflow_add-self
+overflow_add-self c = grind (arith, common_steps)
