@@ -1,6 +1,7 @@
 -- How an image begins for a check that accepts these types.
 -- Letters: at, c the block and the cause of a finding of the boot block; n a type.
-use Rattle.std.proofs.Common.{true, false, not, None, Some, Option, cond, ◌≡◌, ◌<◌, ◌&&◌, ◌==◌, ℕ, List, [], ◌∷◌, ◌⊎◌, ◌++◌, inl, inr, refl, sym, subst, ap, ◌∙◌, arith, slice_index}
+use Rattle.std.proofs.Common.{true, false, not, None, Some, Option, cond, ◌≡◌, ◌<◌, ◌&&◌, ◌==◌, ℕ, List, [], ◌∷◌, ◌⊎◌, ◌++◌, inl, inr, refl}
+use Rattle.std.proofs.Common.{sym, subst, ap, ◌∙◌, arith, slice_index}
 use Rattle.std.proofs.lemmas.Bool.{le-ltb}
 use Rattle.std.proofs.lemmas.Bool.Decides.{nat_tests}
 use Rattle.std.proofs.lemmas.Grind.{common_steps}

@@ -35,7 +35,8 @@ use Rattle.adf_runs.proofs.Endings.{ends_weaker}
 use Rattle.adf_runs.proofs.PendingText.{appends_nil}
 use Rattle.adf_survey_cmd.specs.declared.rescuing.Prepared.{Prepared}
 use Rattle.adf_survey_cmd.specs.Prepared.{IsNoVolume, IsOpened, IsRefusedInput, IsRefusedWith, Prepares}
-use Rattle.adf_survey_cmd.specs.Rescues.{RefusesInput, RefusesWith, Rescues, RescuesBoth, RescuesBy, RescuesIn, lines_text, rescue_reply, rescue_text, second_image}
+use Rattle.adf_survey_cmd.specs.Rescues.{RefusesInput, RefusesWith, Rescues, RescuesBoth, RescuesBy, RescuesIn}
+use Rattle.adf_survey_cmd.specs.Rescues.{lines_text, rescue_reply, rescue_text, second_image}
 
 -- what holds if there is a value holds of it
 pub if_some : {X : Type 0} (o : Option X) (x : X) (P : X → Type 0) → o ≡ Some x → IfSome o P → P x

@@ -333,8 +333,8 @@ fn run_survey(alloc: Global, words: &[u8], image: &Image) -> (u8, Moved, [u8; 20
     (status, moved, output)
 }
 
-// An output that has just enough room is not taken for one that has too little, and an image is consumed whole. Words that no zero
-// byte ends are none, and consume nothing.
+// An output that has just enough room is not taken for one that has too little, and an image is consumed whole. Words that no
+// zero byte ends are none, and consume nothing.
 #[test]
 fn findings_fit_exactly(rt: HostRuntime) {
     let image = with_bytes(&built(rt.alloc(), MANIFEST), &[IN_C]);

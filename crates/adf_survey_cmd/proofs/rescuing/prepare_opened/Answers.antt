@@ -56,9 +56,10 @@ returns c = λ input opened.
     subst (λ mended. second_image mended v.image w fs ≡ None) so
     (none_hung c.is_some.result v.image w fs ((c.in_ok-hung.ensures.none w fs here).0 (ap is_some c.in-None.is))) in
     prepares_weaker (RescuesBy c.args.scope.types c.args.scope.held input a None fs) (Rescues c.args.scope.types c.args.scope.held input) _
-    (λ boot reply by. found_answers c.args.scope.types c.args.scope.held input v.image w fs sound None boot reply (same ∙ opened_so c.args.scope.types input _ _ opened)
-    here marks none (None, tt, by))
-    (c.prepare_found.ensures input (subst (λ (image : List ℕ). IsOpened c.args.scope.types input image c.args.refusal) (sym same) opened) w fs sound here marks None tt)
+    (λ boot reply by. found_answers c.args.scope.types c.args.scope.held input v.image w fs sound None boot reply
+    (same ∙ opened_so c.args.scope.types input _ _ opened) here marks none (None, tt, by))
+    (c.prepare_found.ensures input (subst (λ (image : List ℕ). IsOpened c.args.scope.types input image c.args.refusal) (sym same) opened)
+    w fs sound here marks None tt)
 
 pub returns-in_err-found : goal.returns-in_err-found
 returns-in_err-found c = λ input opened. none_prepared _ c.from_residual.result c.from_residual.ensures.1
