@@ -1,9 +1,9 @@
 -- The start of a course.
-use Rattle.std.specs.Prelude.{Bool, false, cond, Some, None, slice_index, slice_index_or, nat_lt, replicate, ◌==◌, ◌-◌}
+use Rattle.std.specs.Prelude.{Bool, false, cond, None, slice_index, slice_index_or, nat_lt, replicate, ◌==◌, ◌-◌}
 use Rattle.std.proofs.Common.{◌≡◌, ℕ, zero, suc, List, [], ◌∷◌, ◌++◌, length, ◌<◌, ◌≤◌, refl, sym, subst, ap, ◌∙◌, arith, inl}
-use Rattle.std.specs.Ordering.{is_eq}
+use Rattle.std.specs.Ordering.{nat_cmp}
 use Rattle.std.specs.Map.{lookup}
-use Rattle.std.specs.BTreeMap.{BTreeMap, IsEmpty, is_at}
+use Rattle.std.specs.BTreeMap.{BTreeMap, IsEmpty, get, is_at}
 use Rattle.std.proofs.lemmas.Bool.{le-ltb}
 use Rattle.std.proofs.lemmas.Bool.Decides.{eqb_tells}
 use Rattle.std.proofs.lemmas.List.{length-replicate}
@@ -18,7 +18,6 @@ use Rattle.adf_findings.specs.declared.part.Part.TheVariants.{Root as RootPart}
 use Rattle.adf_findings.specs.declared.found.Found.{Found}
 use Rattle.adf_findings.specs.declared.progress.Progress.{Progress}
 use Rattle.adf_findings.specs.Survey.{FindingValue, IsCourse, begun}
-use Rattle.adf_findings.specs.Parts.{by_key, key_of}
 use Rattle.adf_findings.specs.Courses.{HasReachedPage, noted}
 use Rattle.adf_volume.specs.declared.owner.Owner.{Owner}
 use Rattle.adf_volume.specs.declared.owner.Owner.TheVariants.{Free, Boot, Root as TheRoot}
@@ -81,12 +80,12 @@ root_next image f root many is new node left =
     }
 
 -- nothing is found but the root
-pub stands_begun : (image : List ℕ) (f g h : Found) → 4 ≤ blocks image → IsEmpty f.taken
+pub stands_begun : (image : List ℕ) (f g h : Found) → 4 ≤ blocks image → IsEmpty f.pages
     → f.owners.owners ≡ Boot ∷ Boot ∷ replicate (blocks image - 2) Free → f.owners.node ≡ 0 → f.avoided.items ≡ []
     → f.left ≡ blocks image → f.nodes.items ≡ [] → f.parents.items ≡ 0 ∷ [] → f.places.items ≡ []
     → IsOwned RootPart (root_of image) f g → AreSame f g → h ≡ record g { nodes = h.nodes }
     → h.nodes.items ≡ g.nodes.items ++ root_of image ∷ [] → root_of image < blocks image → Stands image h (begun image [])
-stands_begun image f g h many taken new node avoided left nodes parents places o e same pushed lt =
+stands_begun image f g h many none_yet new node avoided left nodes parents places o e same pushed lt =
     let n : ℕ = blocks image in
     let root : ℕ = root_of image in
     let lo : 2 ≤ n = omega (arith, many) in
@@ -98,8 +97,7 @@ stands_begun image f g h many taken new node avoided left nodes parents places o
     let more = ap owned_count o.owners in
     let marks : g.avoided.items ≡ [] = ap (λ v. v.items) o.avoided ∙ avoided in
     subst (λ h. Stands image h (begun image [])) (sym same) (record {
-      taken = (λ r x. o.taken.0 (key_of r)
-          ∙ ap (λ c. cond (is_eq (by_key (key_of Root) (key_of r))) (Some root) c) (empty_get f.taken (is_at (by_key (key_of r))) taken));
+      pages = (λ i. ap (λ m. get nat_cmp m i) o.pages ∙ empty_get f.pages (is_at (nat_cmp i)) none_yet);
       owners = owned_more n f.owners g.owners [] Root root lt o.owners o.node owned;
       avoided = record { size = inl marks; marked = (λ b l. ap (λ xs. slice_index_or xs b false) marks) };
       left = omega (arith, none, count, more, o.left, left);

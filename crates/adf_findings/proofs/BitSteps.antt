@@ -2,56 +2,44 @@
 use Rattle.std.proofs.Common.{Bool, true, false, ◌||◌, not, Option, Some, None, IsTrue, ◌↔◌, ◌≡◌, ℕ, suc, List, [], ◌∷◌, ◌++◌}
 use Rattle.std.proofs.Common.{inl, inr, ap, ◌+◌, ◌-◌, ◌/◌, ◌%◌}
 use Rattle.std.proofs.Common.{zero, slice_index_or, ◌*◌, ◌<◌, ◌≤◌, refl, sym, subst, ◌∙◌, arith, add-one, IsBitSet}
-use Rattle.std.specs.Ordering.{is_eq}
+use Rattle.std.specs.Ordering.{nat_cmp}
 use Rattle.std.specs.BTreeMap.{BTreeMap, get}
 use Rattle.std.proofs.lemmas.List.{append_assoc, append-nil}
-use Rattle.std.proofs.lemmas.Grind.{common_steps}
 use Rattle.adf_blocks.specs.declared.cause.Cause.{Cause}
 use Rattle.adf_blocks.specs.declared.layout.TheConstants.{PAGE_BITS, PAGE_FIRST, PAGE_WORDS}
 use Rattle.adf_blocks.specs.Sizes.{blocks}
 use Rattle.adf_volume.specs.Image.{IsFreeAt, word_in}
-use Rattle.adf_volume.specs.Walk.{Role, Has, IsAbsent, IsFreeIn, Walk}
+use Rattle.adf_volume.specs.Walk.{Has, IsAbsent, IsFreeIn, Walk}
 use Rattle.adf_volume.specs.Walk.Role.{Page}
 use Rattle.adf_volume.proofs.Gathered.{one_block}
 use Rattle.adf_volume.proofs.Roles.{has_role, same_refl}
-use Rattle.adf_findings.specs.declared.part.Key.{Key}
 use Rattle.adf_findings.specs.declared.found.Found.{Found}
 use Rattle.adf_findings.specs.Survey.{BitsTell, Course, FindingValue, IsCourse, IsUnexcused, IsValidated, finding, is_cache}
 use Rattle.adf_findings.specs.Survey.BitsTell.{agrees, differs, ends}
 use Rattle.adf_findings.specs.declared.part.Finding.{Finding}
 use Rattle.adf_findings.specs.Parts.{finding_value}
 use Rattle.adf_findings.specs.Forms.{Tells}
-use Rattle.adf_findings.specs.Parts.{by_key, key_of}
 use Rattle.adf_findings.specs.Bits.{IsBitCompared, IsPageCompared}
-use Rattle.adf_findings.specs.Found.{BitTells, IsCompleted, IsFinished, HasReportedOn, TellsOn, Stands, at_key, bit_cause, is_owned, owns}
+use Rattle.adf_findings.specs.Found.{BitTells, IsCompleted, IsFinished, HasReportedOn, TellsOn, Stands, at_role, bit_cause, is_owned, owns}
 use Rattle.adf_findings.proofs.WalkOwners.{owned_is}
-use Rattle.adf_findings.proofs.Keys.{lacks_at, one_key, same_of_key}
+use Rattle.adf_findings.proofs.RoleBlocks.{at_has, lacks_at}
 use Rattle.adf_findings.proofs.Known.{tells_absent}
 use Rattle.adf_findings.proofs.OneSurvey.{gathered}
-use Rattle.std.proofs.lemmas.Bool.{cases_Bool, cond-true, cond-false}
 
-pub at_has : (w : Walk) (k : Key) (b : ℕ) → at_key w k ≡ Some b → (q : Role) × Has w q b × (key_of q ≡ k)
-at_has [] k b e = cc
-at_has (x ∷ w) k b e = elim (cases_Bool (is_eq (by_key (key_of x.0) k))) [
-  | inl t ↦
-      let z : x.1 ≡ b = (let some = sym (cond-true _ (Some x.1) (at_key w k) t) ∙ e in cc) in (x.0, inl (refl, z), one_key (key_of x.0) k t)
-  | inr n ↦ let y = at_has w k b (sym (cond-false _ (Some x.1) (at_key w k) n) ∙ e) in (y.0, inr y.1, y.2)
-]
-
--- the page with a key is in the walk
-pub has_page : (w : Walk) (page at : ℕ) → at_key w (key_of (Page page)) ≡ Some at → Has w (Page page) at
-has_page w page at e = grind (arith, common_steps, page, at_has, has_role, same_of_key)
+-- the page at a page's place is in the walk
+pub has_page : (w : Walk) (page at : ℕ) → at_role w (Page page) ≡ Some at → Has w (Page page) at
+has_page w page at e = let y = at_has w (Page page) at e in has_role w (Page page) (λ n p s j h. cc) y.0 at y.1 y.2
 
 module _ (image : List ℕ) (f : Found) (s : Course) (v : IsCourse image s) (st : Stands image f s) (b : ℕ) where
   abbrev page : ℕ
   page = (b - 2) / PAGE_BITS
 
-  page_has : (at : ℕ) → get by_key f.taken (key_of (Page page)) ≡ Some at → Has s.walk (Page page) at
-  page_has at e = has_page s.walk page at (sym (st.taken (Page page) tt) ∙ e)
+  page_has : (at : ℕ) → get nat_cmp f.pages page ≡ Some at → Has s.walk (Page page) at
+  page_has at e = has_page s.walk page at (sym (st.pages page) ∙ e)
 
   -- without its page a bit is not compared
-  no_page : get by_key f.taken (key_of (Page page)) ≡ None → BitTells image s b None
-  no_page e c = absurd (lacks_at s.walk (Page page) (sym (st.taken (Page page) tt) ∙ e) (Page page) c.1.0 c.1.1 (same_refl (Page page)))
+  no_page : get nat_cmp f.pages page ≡ None → BitTells image s b None
+  no_page e c = absurd (lacks_at s.walk (Page page) (sym (st.pages page) ∙ e) (Page page) c.1.0 c.1.1 (same_refl (Page page)))
 
   tells_free : (at : ℕ) (t : Bool) → Has s.walk (Page page) at → (IsTrue t ↔ IsFreeAt image at ((b - 2) % PAGE_BITS))
       → Tells t (IsFreeIn image s.walk b)
@@ -75,19 +63,19 @@ module _ (image : List ℕ) (f : Found) (s : Course) (v : IsCourse image s) (st 
   tells_bit true _ false at vd h ow av fr = λ c. ((λ x. absurd (ow x)), ((λ x. absurd (fr x)), tt))
 
   -- a bit that is not compared tells nothing
-  pub none_tells : IsPageCompared image f.taken b None → BitTells image s b None
+  pub none_tells : IsPageCompared image f.pages b None → BitTells image s b None
   none_tells none c = no_page (none c.0) c
 
   -- with its page the bit tells by whose the block is
   pub page_tells : (o p k t : Bool) (at : ℕ) → o ≡ owns s.walk b → p ≡ owns s.skipped b → k ≡ is_cache image b
-      → IsPageCompared image f.taken b (Some at) → (IsTrue t ↔ IsFreeAt image at ((b - 2) % PAGE_BITS)) → BitTells image s b (bit_cause o (p || k) t)
+      → IsPageCompared image f.pages b (Some at) → (IsTrue t ↔ IsFreeAt image at ((b - 2) % PAGE_BITS)) → BitTells image s b (bit_cause o (p || k) t)
   page_tells o p k t at oe pe ke x free =
       let h = page_has at x.1 in
       tells_bit o (p || k) t at x.0 h (subst (λ o. Tells (not o) (IsAbsent s.walk b)) (sym oe) (tells_absent s.walk b))
       (tells_excuse p k (subst (λ p. Tells (not p) (IsAbsent s.skipped b)) (sym pe) (tells_absent s.skipped b)) ke) (tells_free at t h free)
 
   -- so it does by what is kept of the block
-  pub bit_tells : (t : Bool) → b < blocks image → IsBitCompared image f.taken b t
+  pub bit_tells : (t : Bool) → b < blocks image → IsBitCompared image f.pages b t
       → BitTells image s b (bit_cause (is_owned f b) (slice_index_or f.avoided.items b false || is_cache image b) t)
   bit_tells t lt x = page_tells _ _ _ t x.0 (owned_is st.owners b) (st.avoided.marked b lt) refl x.1 x.2
 
@@ -99,32 +87,32 @@ module _ (image : List ℕ) (f : Found) (s : Course) (v : IsCourse image s) (st 
   quiet false x false e = cc
 
   -- nothing where it is set for a block without an owner alone
-  pub agreed_tells : (t : Bool) → b < blocks image → IsBitCompared image f.taken b t → t ≡ not (is_owned f b)
+  pub agreed_tells : (t : Bool) → b < blocks image → IsBitCompared image f.pages b t → t ≡ not (is_owned f b)
       → BitTells image s b None
   agreed_tells t lt x e =
       subst (BitTells image s b) (quiet (is_owned f b) (slice_index_or f.avoided.items b false || is_cache image b) t e)
       (bit_tells t lt x)
 
 -- a bit of the same page is compared as this one
-pub page_on : (image : List ℕ) (taken : BTreeMap Key ℕ) (b c : ℕ) (page : Option ℕ) → (b - 2) / PAGE_BITS ≡ (c - 2) / PAGE_BITS
-    → IsPageCompared image taken b page → IsPageCompared image taken c page
-page_on image taken b c None same h = λ v. subst (λ i. get by_key taken (key_of (Page i)) ≡ None) same (h v)
-page_on image taken b c (Some at) same h = (h.0, subst (λ i. get by_key taken (key_of (Page i)) ≡ Some at) same h.1)
+pub page_on : (image : List ℕ) (pages : BTreeMap ℕ ℕ) (b c : ℕ) (page : Option ℕ) → (b - 2) / PAGE_BITS ≡ (c - 2) / PAGE_BITS
+    → IsPageCompared image pages b page → IsPageCompared image pages c page
+page_on image pages b c None same h = λ v. subst (λ i. get nat_cmp pages i ≡ None) same (h v)
+page_on image pages b c (Some at) same h = (h.0, subst (λ i. get nat_cmp pages i ≡ Some at) same h.1)
 
 -- the page of a word is that of its first bit
-pub page_is : (image : List ℕ) (taken : BTreeMap Key ℕ) (i : ℕ) (page : Option ℕ) → IsValidated image
-    → page ≡ get by_key taken (key_of (Page (i / PAGE_WORDS))) → IsPageCompared image taken (2 + 32 * i) page
-page_is image taken i page valid e = go page e
+pub page_is : (image : List ℕ) (pages : BTreeMap ℕ ℕ) (i : ℕ) (page : Option ℕ) → IsValidated image
+    → page ≡ get nat_cmp pages (i / PAGE_WORDS) → IsPageCompared image pages (2 + 32 * i) page
+page_is image pages i page valid e = go page e
   where
     same : i / PAGE_WORDS ≡ (2 + 32 * i - 2) / PAGE_BITS
     same = omega arith
 
-    go : (page : Option ℕ) → page ≡ get by_key taken (key_of (Page (i / PAGE_WORDS))) → IsPageCompared image taken (2 + 32 * i) page
-    go None e = λ v. subst (λ j. get by_key taken (key_of (Page j)) ≡ None) same (sym e)
-    go (Some at) e = (valid, subst (λ j. get by_key taken (key_of (Page j)) ≡ Some at) same (sym e))
+    go : (page : Option ℕ) → page ≡ get nat_cmp pages (i / PAGE_WORDS) → IsPageCompared image pages (2 + 32 * i) page
+    go None e = λ v. subst (λ j. get nat_cmp pages j ≡ None) same (sym e)
+    go (Some at) e = (valid, subst (λ j. get nat_cmp pages j ≡ Some at) same (sym e))
 
 -- the bits of a word are those of its page
-module _ (image : List ℕ) (taken : BTreeMap Key ℕ) (i at word : ℕ) (is : word ≡ word_in image at (PAGE_FIRST + i % PAGE_WORDS)) (b : ℕ)
+module _ (image : List ℕ) (pages : BTreeMap ℕ ℕ) (i at word : ℕ) (is : word ≡ word_in image at (PAGE_FIRST + i % PAGE_WORDS)) (b : ℕ)
     (lo : 2 + 32 * i ≤ b) (hi : b < 2 + 32 * i + 32) where
   pub same_page : (2 + 32 * i - 2) / PAGE_BITS ≡ (b - 2) / PAGE_BITS
   same_page = omega arith
@@ -135,9 +123,9 @@ module _ (image : List ℕ) (taken : BTreeMap Key ℕ) (i at word : ℕ) (is : w
   bit_at : (b - 2) % PAGE_BITS % 32 ≡ b - (2 + 32 * i)
   bit_at = omega arith
 
-  pub bit_compared : (t : Bool) → IsPageCompared image taken (2 + 32 * i) (Some at) → (IsTrue t ↔ IsBitSet word (b - (2 + 32 * i)))
-      → IsBitCompared image taken b t
-  bit_compared t page told = (at, page_on image taken (2 + 32 * i) b (Some at) same_page page, rw (word_at, bit_at, sym is) told)
+  pub bit_compared : (t : Bool) → IsPageCompared image pages (2 + 32 * i) (Some at) → (IsTrue t ↔ IsBitSet word (b - (2 + 32 * i)))
+      → IsBitCompared image pages b t
+  bit_compared t page told = (at, page_on image pages (2 + 32 * i) b (Some at) same_page page, rw (word_at, bit_at, sym is) told)
 
 pub tells_none : (image : List ℕ) (s : Course) (b : ℕ) (gs : List FindingValue) → 2 ≤ b → BitTells image s b None
     → TellsOn image s b gs → TellsOn image s (b + 1) gs
@@ -208,17 +196,17 @@ flipped false P h = ((λ t. h.1 refl), (λ p. refl))
 module _ (image : List ℕ) (f : Found) (hs : List FindingValue) (i end : ℕ) (lo : 2 + 32 * i ≤ end) (hi : end ≤ 2 + 32 * i + 32)
     (reported : HasReportedOn image f hs (2 + 32 * i)) where
   -- without their page none is compared
-  pub none_compared : IsPageCompared image f.taken (2 + 32 * i) None → HasReportedOn image f hs end
+  pub none_compared : IsPageCompared image f.pages (2 + 32 * i) None → HasReportedOn image f hs end
   none_compared page =
       none_to image f hs (2 + 32 * i) end (omega arith) lo
       (λ c from to s v st.
       let same : (2 + 32 * i - 2) / PAGE_BITS ≡ (c - 2) / PAGE_BITS = omega arith in
-      none_tells image f s v st c (page_on image f.taken (2 + 32 * i) c None same page))
+      none_tells image f s v st c (page_on image f.pages (2 + 32 * i) c None same page))
       reported
 
   -- none disagrees where they are set for the blocks without an owner alone
   pub all_agreed : (at word : ℕ) → word ≡ word_in image at (PAGE_FIRST + i % PAGE_WORDS) → end ≤ blocks image
-      → IsPageCompared image f.taken (2 + 32 * i) (Some at)
+      → IsPageCompared image f.pages (2 + 32 * i) (Some at)
       → ((b : ℕ) → 2 + 32 * i ≤ b → b < end → IsBitSet word (b - (2 + 32 * i)) ↔ (is_owned f b ≡ false))
       → HasReportedOn image f hs end
   all_agreed at word is few page agree =
@@ -226,7 +214,7 @@ module _ (image : List ℕ) (f : Found) (hs : List FindingValue) (i end : ℕ) (
       (λ c from to s v st.
       let o : Bool = is_owned f c in
       agreed_tells image f s v st c (not o) (omega arith)
-      (bit_compared image f.taken i at word is c from (omega arith) (not o) page
+      (bit_compared image f.pages i at word is c from (omega arith) (not o) page
       (flipped o (IsBitSet word (c - (2 + 32 * i))) (agree c from to))) refl)
       reported
 

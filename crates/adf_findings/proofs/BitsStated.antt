@@ -2,20 +2,19 @@
 -- Letters: w the walk of a survey, fs its findings; b a block; at the block of its page; t the bit.
 use Rattle.std.proofs.Common.{Bool, Option, None, Some, IfSome, IsSome, IsTrue, ◌↔◌, ◌≡◌, ℕ, List, ◌-◌, ◌/◌, ◌%◌, ◌≤◌, refl, sym, subst, ◌∙◌}
 use Rattle.std.specs.BTreeMap.{BTreeMap, get}
+use Rattle.std.specs.Ordering.{nat_cmp}
 use Rattle.adf_blocks.specs.declared.layout.TheConstants.{PAGE_BITS}
 use Rattle.adf_volume.specs.Image.{IsFreeAt}
 use Rattle.adf_volume.specs.Walk.{Has, IsFreeIn, Walk}
 use Rattle.adf_volume.specs.Walk.Role.{Page}
 use Rattle.adf_volume.proofs.Gathered.{one_block}
 use Rattle.adf_volume.proofs.Roles.{same_refl}
-use Rattle.adf_findings.specs.declared.part.Key.{Key}
-use Rattle.adf_findings.specs.Found.{IsBitOf, at_key}
-use Rattle.adf_findings.specs.Parts.{by_key, key_of}
+use Rattle.adf_findings.specs.Found.{IsBitOf, at_role}
 use Rattle.adf_findings.specs.Survey.{FindingValue, IsSurvey, IsValidated}
 use Rattle.adf_findings.specs.Survey.IsSurvey.{read, unread}
 use Rattle.adf_findings.specs.SurveyResult.{IsBitStated}
 use Rattle.adf_findings.proofs.BitSteps.{has_page}
-use Rattle.adf_findings.proofs.Keys.{lacks_at}
+use Rattle.adf_findings.proofs.RoleBlocks.{lacks_at}
 use Rattle.adf_findings.proofs.OneSurvey.{gathered}
 
 -- the walk of a survey has one block at most for a page
@@ -25,21 +24,21 @@ one_page image w fs (unread f) i at b h g = absurd h
 one_page image w fs (read v d t) i at b h g = (one_block image (gathered image v) (Page i) (Page i) b at g h (same_refl (Page i))).1
 
 -- the bit of a page that is kept tells of its block
-pub bit_stated : (image : List ℕ) (w : Walk) (fs : List FindingValue) → IsSurvey image w fs → (taken : BTreeMap Key ℕ)
-    → ((i : ℕ) → get by_key taken (key_of (Page i)) ≡ at_key w (key_of (Page i))) → (b : ℕ) → 2 ≤ b → IsValidated image → (t : Option Bool)
-    → IsBitOf image taken ((b - 2) / PAGE_BITS) ((b - 2) % PAGE_BITS) t
+pub bit_stated : (image : List ℕ) (w : Walk) (fs : List FindingValue) → IsSurvey image w fs → (pages : BTreeMap ℕ ℕ)
+    → ((i : ℕ) → get nat_cmp pages i ≡ at_role w (Page i)) → (b : ℕ) → 2 ≤ b → IsValidated image → (t : Option Bool)
+    → IsBitOf image pages ((b - 2) / PAGE_BITS) ((b - 2) % PAGE_BITS) t
     → (IsSome t ↔ IsBitStated image w b) × IfSome t (λ t. IsTrue t ↔ IsFreeIn image w b)
-bit_stated image w fs h taken pages b lo valid None none = (
+bit_stated image w fs h pages same b lo valid None none = (
   (
     (λ s. cc),
-    (λ y. absurd (lacks_at w (Page ((b - 2) / PAGE_BITS)) (sym (pages ((b - 2) / PAGE_BITS)) ∙ none) (Page ((b - 2) / PAGE_BITS)) y.2.0 y.2.1
+    (λ y. absurd (lacks_at w (Page ((b - 2) / PAGE_BITS)) (sym (same ((b - 2) / PAGE_BITS)) ∙ none) (Page ((b - 2) / PAGE_BITS)) y.2.0 y.2.1
         (same_refl (Page ((b - 2) / PAGE_BITS))))),
   ),
   tt,
 )
-bit_stated image w fs h taken pages b lo valid (Some t) (at, some, free) =
+bit_stated image w fs h pages same b lo valid (Some t) (at, some, free) =
     let page : ℕ = (b - 2) / PAGE_BITS in
-    let has : Has w (Page page) at = has_page w page at (sym (pages page) ∙ some) in (
+    let has : Has w (Page page) at = has_page w page at (sym (same page) ∙ some) in (
       ((λ s. (lo, valid, (at, has))), (λ y. refl)),
       (
         (λ e. (at, has, free.0 e)),

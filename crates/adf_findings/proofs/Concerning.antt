@@ -10,14 +10,14 @@ use Rattle.adf_findings.specs.declared.found.Found.{Found}
 use Rattle.adf_findings.specs.declared.concern.Concern.{Concern}
 use Rattle.adf_findings.specs.declared.part.Finding.{Finding}
 use Rattle.adf_findings.specs.Concerned.{concern_of_nth, concern_with}
-use Rattle.adf_findings.specs.Found.{Stands, at_key}
+use Rattle.adf_findings.specs.Found.{Stands, at_role}
 use Rattle.adf_findings.specs.Marks.{blamed, is_header}
-use Rattle.adf_findings.specs.Parts.{key_of, part_role, finding_value}
+use Rattle.adf_findings.specs.Parts.{part_role, finding_value}
 use Rattle.adf_findings.specs.Survey.{BitsTell, Course, FindingValue, IsCourse}
 use Rattle.adf_findings.proofs.HeadPlaces.{header_found}
-use Rattle.adf_findings.proofs.Keys.{at_lacks}
+use Rattle.adf_findings.proofs.RoleBlocks.{at_lacks, taken_at}
 use Rattle.adf_findings.proofs.OneSurvey.{gathered}
-use Rattle.adf_findings.proofs.SoundMarks.{apart, in_values, skipped_header, settled, taken_at}
+use Rattle.adf_findings.proofs.SoundMarks.{apart, in_values, skipped_header, settled}
 
 -- what holds of each finding holds at each place
 at_places : (g : Finding → Option Concern) (h : FindingValue → Option Concern) (xs : List Finding)
@@ -31,7 +31,7 @@ module _ (image : List ℕ) (f : Found) {s : Course} (v : IsCourse image s) (bit
     (st : Stands image f s) where
   -- a header of a finding is found by its number where the walk has one at its place
   header_is : (g : FindingValue) (n p t j : ℕ) → In (s.findings ++ bits) g → g.part ≡ Some (Head n p t j)
-      → is_header f n p t j ≡ is_some (at_key s.walk (key_of (Head n p t j)))
+      → is_header f n p t j ≡ is_some (at_role s.walk (Head n p t j))
   header_is g n p t j i e = elim (settled image v bits tells g (Head n p t j) i e) [
     | inl x ↦
         header_found image f _ (gathered image v) st n p t j x.0 x.1

@@ -12,26 +12,24 @@ use Rattle.adf_volume.specs.Walk.Role.{Data}
 use Rattle.adf_volume.proofs.Gathered.{head_block}
 use Rattle.adf_volume.proofs.Roles.{has_role, same_refl}
 use Rattle.adf_findings.specs.Files.{named_from}
-use Rattle.adf_findings.specs.Found.{at_key, number_at, owner}
-use Rattle.adf_findings.specs.Parts.{key_of}
+use Rattle.adf_findings.specs.Found.{at_role, number_at, owner}
 use Rattle.adf_findings.specs.Remains.{below, blocks_stated, bytes_left, data_below, data_found, data_named, gaps_left, named_below, size_stated}
 use Rattle.adf_findings.specs.Survey.{FindingValue, IsSurvey}
 use Rattle.adf_findings.specs.Survey.IsSurvey.{read, unread}
 use Rattle.adf_walk.specs.Owners.{owner_at}
 use Rattle.adf_findings.specs.WalkOwners.{data_number_of, entry_of}
 use Rattle.adf_findings.specs.SurveyResult.{SurveyValue, TellsOf}
-use Rattle.adf_findings.proofs.BitSteps.{at_has}
 use Rattle.adf_findings.proofs.BlockOwners.{first_with, held_data}
 use Rattle.adf_findings.proofs.FileBlocks.{data_is}
 use Rattle.adf_findings.proofs.Lookups.{file_between}
-use Rattle.adf_findings.proofs.Keys.{lacks_at, same_of_key}
+use Rattle.adf_findings.proofs.RoleBlocks.{at_has, lacks_at}
 use Rattle.adf_findings.proofs.OneSurvey.{gathered}
 use Rattle.adf_findings.proofs.SoundEntries.{one_part}
 use Rattle.adf_findings.proofs.SoundMarks.{data_inside}
 
--- the data block with a key is in the walk
-pub has_data : (w : Walk) (n k b : ℕ) → at_key w (key_of (Data n k)) ≡ Some b → Has w (Data n k) b
-has_data w n k b e = grind (arith, common_steps, b, at_has, has_role, same_of_key)
+-- the data block at a data block's place is in the walk
+pub has_data : (w : Walk) (n k b : ℕ) → at_role w (Data n k) ≡ Some b → Has w (Data n k) b
+has_data w n k b e = let y = at_has w (Data n k) b e in has_role w (Data n k) (λ m p s j h. cc) y.0 b y.1 y.2
 
 -- a file's data block is the one that the table names, and inside of the image
 pub found_named : (image : List ℕ) (w : Walk) (fs : List FindingValue) → IsSurvey image w fs → (n h : ℕ) → FileAt image w n h → (k b : ℕ)

@@ -1,20 +1,16 @@
 -- The pages of the bitmap that a survey finds.
 -- Letters: w the walk of a survey, fs its findings; i the number of a page; b, at blocks; a, j the block and the word that point to one.
-use Rattle.std.specs.Prelude.{Option, Some, None}
-use Rattle.std.proofs.Common.{◌≡◌, ℕ, List, ◌<◌, inl, inr, refl, sym, ap, subst, ◌∙◌}
+use Rattle.std.specs.Prelude.{Some}
+use Rattle.std.proofs.Common.{◌≡◌, ℕ, List, ◌<◌, inl, inr, subst}
 use Rattle.adf_blocks.specs.Sizes.{blocks, pages_needed}
 use Rattle.adf_volume.specs.Walk.{Asks, Has, Walk}
 use Rattle.adf_volume.specs.Walk.Role.{Page}
 use Rattle.adf_volume.proofs.Gathered.{IsGathered}
 use Rattle.adf_volume.proofs.Gathered.IsGathered.{start, step}
-use Rattle.adf_volume.proofs.Roles.{same_refl}
-use Rattle.adf_findings.specs.Found.{at_key}
-use Rattle.adf_findings.specs.Parts.{key_of}
+use Rattle.adf_findings.specs.Found.{at_role}
 use Rattle.adf_findings.specs.Survey.{FindingValue, IsSurvey}
 use Rattle.adf_findings.specs.Survey.IsSurvey.{read, unread}
-use Rattle.adf_findings.proofs.BitSteps.{has_page}
-use Rattle.adf_findings.proofs.BitsStated.{one_page}
-use Rattle.adf_findings.proofs.Keys.{lacks_at}
+use Rattle.adf_findings.proofs.RoleBlocks.{taken_at}
 use Rattle.adf_findings.proofs.OneSurvey.{gathered}
 
 gathered_low : (image : List ℕ) {w : Walk} → IsGathered image w → (i b : ℕ) → Has w (Page i) b → i < pages_needed (blocks image)
@@ -30,11 +26,8 @@ pub page_low : (image : List ℕ) (w : Walk) (fs : List FindingValue) → IsSurv
 page_low image w fs (unread f) i b h = absurd h
 page_low image w fs (read v d t) i b h = gathered_low image (gathered image v) i b h
 
--- it is at its key
+-- its block is the one at its place
 pub page_at : (image : List ℕ) (w : Walk) (fs : List FindingValue) → IsSurvey image w fs → (i b : ℕ) → Has w (Page i) b
-    → at_key w (key_of (Page i)) ≡ Some b
-page_at image w fs survey i b h = go (at_key w (key_of (Page i))) refl
-  where
-    go : (o : Option ℕ) → at_key w (key_of (Page i)) ≡ o → at_key w (key_of (Page i)) ≡ Some b
-    go None e = absurd (lacks_at w (Page i) e (Page i) b h (same_refl (Page i)))
-    go (Some at) e = e ∙ ap Some (sym (one_page image w fs survey i at b (has_page w i at e) h))
+    → at_role w (Page i) ≡ Some b
+page_at image w fs (unread f) i b h = absurd h
+page_at image w fs (read v d t) i b h = taken_at image w (gathered image v) (Page i) b h

@@ -8,7 +8,7 @@ use Rattle.adf_blocks.specs.Sizes.{blocks}
 use Rattle.adf_volume.specs.Image.{kind_of}
 use Rattle.adf_volume.proofs.Gathered.{head_block, numbered as has_number, number_of}
 use Rattle.adf_volume.specs.Walk.{Has, heads, node_block, Walk}
-use Rattle.adf_volume.specs.Walk.Role.{Page, Head}
+use Rattle.adf_volume.specs.Walk.Role.{Head}
 use Rattle.adf_volume.proofs.Roles.{head_role}
 use Rattle.adf_volume.specs.declared.owner.Owner.{Owner}
 use Rattle.adf_volume.specs.declared.owner.Owner.TheVariants.{Boot}
@@ -20,7 +20,7 @@ use Rattle.adf_findings.specs.declared.part.Finding.{Finding}
 use Rattle.adf_findings.specs.Files.{counting, grave, is_light}
 use Rattle.adf_findings.specs.Marks.{blamed, has_mark, is_blamed, is_clear, is_doubtful, is_undoubted}
 use Rattle.adf_findings.specs.declared.concern.Concern.{Concern}
-use Rattle.adf_findings.specs.Parts.{finding_value, key_of}
+use Rattle.adf_findings.specs.Parts.{finding_value}
 use Rattle.adf_findings.specs.Survey.{FindingValue, IsSurvey, UnreadTells}
 use Rattle.adf_findings.specs.Survey.IsSurvey.{read, unread}
 use Rattle.adf_findings.specs.Sound.{IsSound}
@@ -39,9 +39,9 @@ none_owned {owners = owners} new = new_owned 2 (omega arith) (record { owners = 
 
 -- of an image of which nothing is taken the findings are kept alone
 pub unread_kept : (v : SurveyValue) → UnreadTells v.image (map finding_value v.findings) → v.concerned ≡ [] → v.owners ≡ Boot ∷ Boot ∷ []
-    → v.taken ≡ [] → v.nodes ≡ []
+    → v.pages ≡ [] → v.nodes ≡ []
     → v.parents ≡ [] → v.sound ≡ [] → v.whole ≡ [] → IsOfSurvey v
-unread_kept v told concerned owners taken nodes parents sound whole = (
+unread_kept v told concerned owners pages nodes parents sound whole = (
   [],
   map finding_value v.findings,
   record {
@@ -52,7 +52,7 @@ unread_kept v told concerned owners taken nodes parents sound whole = (
     owner = (λ b. ap (λ n. cond (n == 0) None (Some n)) (entry_is (none_owned owners) b));
     number = number_is (none_owned owners);
     part = owned_is (none_owned owners);
-    page = (λ i. ap (λ es. block_at es (key_of (Page i))) taken);
+    page = (λ i. ap (λ es. block_at es i) pages);
     node = (λ n. ap (λ ns. slice_index ns n) nodes);
     parent = (λ n. ap (λ ps. slice_index ps n) parents);
     count = (ap (λ ns. length ns - 1) nodes);
@@ -93,7 +93,7 @@ pub read_kept : (image : List ℕ) (f : Found) (xs ys : List Finding) (concerned
       findings = xs;
       concerned = concerned;
       owners = f.owners.owners;
-      taken = f.taken.entries;
+      pages = f.pages.entries;
       nodes = f.nodes.items;
       parents = f.parents.items;
       sound = sound;
@@ -111,7 +111,7 @@ read_kept image f xs ys concerned sound whole (s, bits, all, bits_tell) entries 
     owner = owner_is image (gathered image all.course) f.owners.owners (entry_is all.stands.owners);
     number = number_is all.stands.owners;
     part = owned_is all.stands.owners;
-    page = (λ i. all.stands.taken (Page i) tt);
+    page = all.stands.pages;
     node = all.stands.node;
     parent = all.stands.parent;
     count = (let e = all.stands.count in omega arith);

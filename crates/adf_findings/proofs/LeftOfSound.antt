@@ -1,7 +1,7 @@
 -- What is left of a sound file is its content.
 -- Letters: w the walk of a survey, fs its findings; c whether the grave findings alone count; n a file's node, h the block of its
 -- header; k, j numbers of data blocks, from 0; b a block, bs blocks; found the block of each data block, if any.
-use Rattle.std.specs.Prelude.{Bool, Option, Some, None}
+use Rattle.std.specs.Prelude.{Bool, Option, Some}
 use Rattle.std.proofs.Common.{◌≡◌, ℕ, suc, zero, List, [], ◌∷◌, ◌++◌, length, ◌+◌, ◌*◌, ◌<◌, ◌≤◌, refl, sym, ap, ◌∙◌, arith}
 use Rattle.std.specs.List.{concat}
 use Rattle.std.proofs.lemmas.List.{append_assoc, append-nil}
@@ -15,17 +15,14 @@ use Rattle.adf_blocks.specs.Sizes.{blocks, chunk, count}
 use Rattle.adf_volume.specs.Image.{kind_of, piece, pieces, word_in}
 use Rattle.adf_volume.specs.Lists.{At}
 use Rattle.adf_volume.specs.Made.{datas_in, is_data_of}
-use Rattle.adf_volume.specs.Walk.{Role, Has, data_count, node_block, Walk}
+use Rattle.adf_volume.specs.Walk.{Has, data_count, node_block, Walk}
 use Rattle.adf_volume.specs.Walk.Role.{Data}
-use Rattle.adf_volume.proofs.Gathered.{one_block}
 use Rattle.adf_volume.proofs.Lists.{at_some}
-use Rattle.adf_volume.proofs.Roles.{same_refl}
 use Rattle.adf_findings.specs.Files.{IsSoundFile, counting, file_content, file_in}
 use Rattle.adf_findings.specs.Remains.{below, blocks_stated, bytes_in, bytes_left, data_below, data_found, gaps_left, gaps_of, left_of, size_stated, with_lost}
 use Rattle.adf_findings.specs.Survey.{Course, FindingValue, IsCourse, IsSurvey}
 use Rattle.adf_findings.specs.Survey.IsSurvey.{read, unread}
-use Rattle.adf_findings.proofs.DataFound.{has_data}
-use Rattle.adf_findings.proofs.Keys.{lacks_at}
+use Rattle.adf_findings.proofs.RoleBlocks.{taken_at}
 use Rattle.adf_findings.proofs.OneSurvey.{gathered}
 use Rattle.adf_findings.proofs.OwnedWalks.{few_parts}
 use Rattle.adf_findings.proofs.SoundFiles.{file_told, joined_content, whole_listed}
@@ -65,13 +62,7 @@ no_gaps image size found (suc k) h =
 
 -- a data block of the walk is found
 is_found : (image : List ℕ) {s : Course} → IsCourse image s → (n k b : ℕ) → Has s.walk (Data n (suc k)) b → data_found s.walk n k ≡ Some b
-is_found image {s = s} v n k b has = go (data_found s.walk n k) refl
-  where
-    go : (o : Option ℕ) → data_found s.walk n k ≡ o → data_found s.walk n k ≡ Some b
-    go None e = absurd (lacks_at s.walk (Data n (suc k)) e (Data n (suc k)) b has (same_refl (Data n (suc k))))
-    go (Some c) e =
-        let r : Role = Data n (suc k) in
-        e ∙ ap Some (one_block image (gathered image v) r r c b (has_data s.walk n (suc k) c e) has (same_refl r)).1
+is_found image {s = s} v n k b has = taken_at image s.walk (gathered image v) (Data n (suc k)) b has
 
 -- so is one that is before a block
 found_below : (end : ℕ) (o : Option ℕ) (b : ℕ) → o ≡ Some b → b < end → below end o ≡ Some b

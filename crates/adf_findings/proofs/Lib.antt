@@ -30,8 +30,8 @@ pub mod Names
 mod GrownPlaces
 -- the form of a header by the letters of a volume
 pub mod WalkOwners
+pub mod RoleBlocks
 pub mod Taking
-pub mod Keys
 pub mod Known
 pub mod Outcomes
 pub mod CourseSteps

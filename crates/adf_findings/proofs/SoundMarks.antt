@@ -23,11 +23,11 @@ use Rattle.adf_findings.specs.declared.found.Found.{Found}
 use Rattle.adf_findings.specs.declared.concern.Concern.TheVariants.{Entry, Within}
 use Rattle.adf_findings.specs.Concerned.{node_of}
 use Rattle.adf_findings.specs.Forms.{Tells}
-use Rattle.adf_findings.specs.Found.{Stands, at_key, owns}
+use Rattle.adf_findings.specs.Found.{Stands, owns}
 use Rattle.adf_findings.proofs.WalkOwners.{both, entry_is, number_is as data_number_is}
 use Rattle.adf_findings.specs.Marks.{blamed, doubted, entry_in_block, is_blamed, is_clear, is_doubted, is_doubtful, is_node, is_header, is_said}
 use Rattle.adf_findings.specs.Marks.{number_in_block}
-use Rattle.adf_findings.specs.Parts.{key_of, part_role, finding_value}
+use Rattle.adf_findings.specs.Parts.{part_role, finding_value}
 use Rattle.adf_findings.specs.Sound.{IsSound, IsUnreported, says_data_of}
 use Rattle.adf_findings.specs.Survey.{BitsTell, BootTells, Course, FindingValue, IsCourse, IsDone, IsNext, RootTells, UnreadTells, finding}
 use Rattle.adf_findings.specs.Survey.BitsTell.{agrees, differs, ends}
@@ -36,9 +36,7 @@ use Rattle.adf_findings.specs.Survey.BootTells.{clean_boot, other_type}
 use Rattle.adf_findings.specs.Survey.RootTells.{clean_root, reported_root}
 use Rattle.adf_findings.specs.Survey.UnreadTells.{bad_boot, bad_root}
 use Rattle.adf_findings.specs.Survey.JudgementValue.{clean, reported, skipped}
-use Rattle.adf_findings.proofs.Keys.{lacks_at, same_of_key}
 use Rattle.adf_volume.proofs.AsksSplit.{asks_more}
-use Rattle.adf_findings.proofs.BitSteps.{at_has}
 use Rattle.adf_findings.proofs.BlockOwners.{first_with, held_data}
 use Rattle.adf_findings.proofs.HeadPlaces.{found_header, header_found}
 use Rattle.adf_findings.proofs.Known.{tells_absent}
@@ -347,9 +345,6 @@ ext_of q n k same = same_role q (Ext n k) same (λ a m p s j e f. cc)
 
 data_of : (q : Role) (n k : ℕ) → Same q (Data n k) → q ≡ Data n k
 data_of q n k same = same_role q (Data n k) same (λ a m p s j e f. cc)
-
-pub taken_at : (image : List ℕ) (w : Walk) → IsGathered image w → (q : Role) (b : ℕ) → Has w q b → at_key w (key_of q) ≡ Some b
-taken_at image w v q b h = grind (arith, common_steps, lacks_at, same_of, at_has, one_block, same_of_key)
 
 -- a part that a finding of a survey concerns was taken or skipped
 pub settled : (image : List ℕ) {s : Course} → IsCourse image s → (bits : List FindingValue) {b n : ℕ} → BitsTell image s b n bits

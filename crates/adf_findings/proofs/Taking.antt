@@ -1,12 +1,11 @@
 -- The state of a survey when parts are taken and skipped.
 use Rattle.std.proofs.Common.{Bool, true, false, cond, ◌==◌, Some, slice_index, slice_index_or, ◌≡◌, ℕ, suc, List, [], ◌∷◌, ◌++◌, length}
 use Rattle.std.proofs.Common.{inl, inr, replicate, set, subst, sym, ◌<◌, ◌≤◌, refl, ap, ◌∙◌, arith, length-set, get_or-set_same, get_or-set_other}
-use Rattle.std.specs.Ordering.{is_eq}
-use Rattle.std.specs.BTreeMap.{BTreeMap, Updates, get}
-use Rattle.std.proofs.lemmas.Bool.Decides.{eqb_tells, nat_tests}
+use Rattle.std.specs.Ordering.{nat_cmp}
+use Rattle.std.specs.BTreeMap.{BTreeMap, get}
+use Rattle.std.proofs.lemmas.Bool.Decides.{eqb_tells}
 use Rattle.std.proofs.lemmas.List.{length-replicate, get_or_push, get_or_append_left, get_or_past, length_push}
 use Rattle.std.proofs.lemmas.Grind.{common_steps}
-use Rattle.adf_tree.proofs.NameKeys.{same_number, then_is}
 use Rattle.adf_blocks.specs.Sizes.{blocks}
 use Rattle.adf_volume.proofs.Lists.{snoc_length}
 use Rattle.std.specs.Global.{Vec}
@@ -18,15 +17,15 @@ use Rattle.adf_volume.specs.Walk.{Role, heads, head_count, node_block, node_bloc
 use Rattle.adf_volume.specs.Walk.Role.{Root, Page, MapExt, Head, Ext, Data}
 use Rattle.adf_findings.specs.declared.part.Part.{Part, TheVariants.Root as RootPart, TheVariants.Page as PagePart, TheVariants.MapExt as MapExtPart}
 use Rattle.adf_findings.specs.declared.part.Part.{TheVariants.Head as HeadPart, TheVariants.Ext as ExtPart, TheVariants.Data as DataPart}
-use Rattle.adf_findings.specs.declared.part.Key.{Key}
 use Rattle.adf_findings.specs.declared.found.ChainPlace.{ChainPlace}
 use Rattle.adf_findings.specs.declared.found.Found.{Found}
 use Rattle.adf_findings.specs.Survey.{Course, FindingValue}
-use Rattle.adf_findings.specs.Parts.{by_key, key_of, role_of}
-use Rattle.adf_findings.specs.Found.{AreAvoided, AreMarked, AreSame, IsKept, IsLookedUp, IsOwned, IsBlockSkipped, IsPut}
+use Rattle.adf_findings.specs.Parts.{role_of}
+use Rattle.adf_findings.specs.Found.{AreAvoided, AreMarked, AreSame, IsKept, IsOwned, IsBlockSkipped, IsPut}
 use Rattle.adf_findings.specs.Found.{IsTaken, KeepsParts, Stands}
-use Rattle.adf_findings.specs.Found.{at_key, owns, parent_by, parent_node, places_of, with_mark, with_place}
-use Rattle.std.proofs.lemmas.Bool.{cases_lt}
+use Rattle.adf_findings.specs.Found.{at_role, is_same, owns, parent_by, parent_node, places_of, with_mark, with_place}
+use Rattle.adf_findings.proofs.RoleBlocks.{other_place, page_place}
+use Rattle.std.proofs.lemmas.Bool.{cases_lt, cond-false}
 
 kept_more : (part : Part) (b : ℕ) (f g h : Found) → IsKept part b f g → AreSame g h → IsKept part b f h
 kept_more (HeadPart n p s j) b f g h k e = grind (arith, common_steps)
@@ -35,36 +34,13 @@ kept_more _ b f g h k e = grind (arith, common_steps)
 pub taken_last : (part : Part) (b : ℕ) (f g h : Found) → IsKept part b f g → KeepsParts f g → IsOwned part b g h → AreSame g h → IsTaken part b f h
 taken_last part b f g h k p o e = grind (arith, common_steps, kept_more)
 
-at_more : (m n : BTreeMap Key ℕ) (w : Walk) (r : Role) (b : ℕ) (k : Key) → Updates by_key m n (key_of r) (Some b)
-    → get by_key m k ≡ at_key w k → get by_key n k ≡ at_key ((r, b) ∷ w) k
-at_more m n w r b k u e = u.0 k ∙ ap (λ o. cond (is_eq (by_key (key_of r) k)) (Some b) o) e
-
--- the key of a part of an entry is that of no part that is looked up
-no_head_key : (n p s j : ℕ) (r : Role) → IsLookedUp r → is_eq (by_key (key_of (Head n p s j)) (key_of r)) ≡ false
-no_head_key n p s j (Data m k) x = absurd x
-no_head_key n p s j (Ext m k) x = absurd x
-no_head_key n p s j (Head m q t k) x = absurd x
-no_head_key n p s j r x = simp (then_is, same_number) (grind (arith, nat_tests))
-
-no_data_key : (n k : ℕ) (r : Role) → IsLookedUp r → is_eq (by_key (key_of (Data n k)) (key_of r)) ≡ false
-no_data_key n k (Data m j) x = absurd x
-no_data_key n k (Ext m j) x = absurd x
-no_data_key n k (Head m p s j) x = absurd x
-no_data_key n k r x = simp (then_is, same_number) (grind (arith, nat_tests))
-
-no_ext_key : (n k : ℕ) (r : Role) → IsLookedUp r → is_eq (by_key (key_of (Ext n k)) (key_of r)) ≡ false
-no_ext_key n k (Data m j) x = absurd x
-no_ext_key n k (Ext m j) x = absurd x
-no_ext_key n k (Head m p s j) x = absurd x
-no_ext_key n k r x = simp (then_is, same_number) (grind (arith, nat_tests))
-
-taken_more : (m n : BTreeMap Key ℕ) (w : Walk) (part : Part) (b : ℕ) → IsPut part b m n
-    → ((r : Role) → IsLookedUp r → get by_key m (key_of r) ≡ at_key w (key_of r))
-    → (r : Role) → IsLookedUp r → get by_key n (key_of r) ≡ at_key ((role_of part, b) ∷ w) (key_of r)
-taken_more m n w (HeadPart i p s j) b u h r x = grind (arith, common_steps, no_head_key)
-taken_more m n w (ExtPart i k) b u h r x = grind (arith, common_steps, no_ext_key)
-taken_more m n w (DataPart i k) b u h r x = grind (arith, common_steps, no_data_key)
-taken_more m n w part b u h r x = at_more m n w (role_of part) b (key_of r) u (h r x)
+-- the pages with that of a part are those of the walk with it
+pages_more : (m n : BTreeMap ℕ ℕ) (w : Walk) (part : Part) (b : ℕ) → IsPut part b m n
+    → ((i : ℕ) → get nat_cmp m i ≡ at_role w (Page i)) → (i : ℕ) → get nat_cmp n i ≡ at_role ((role_of part, b) ∷ w) (Page i)
+pages_more m n w (PagePart j) b u h i = u.0 i ∙ (λ t. cond (page_place j i t) (Some b) (h i t))
+pages_more m n w part b u h i =
+    ap (λ m. get nat_cmp m i) u
+    ∙ (h i ∙ sym (cond-false (is_same (role_of part) (Page i)) (Some b) (at_role w (Page i)) (other_place (role_of part) i (λ j e. cc))))
 
 pub marked_more : (n : ℕ) (xs : List Bool) (w : Walk) (r : Role) (b : ℕ) → AreMarked n xs w → AreMarked n (set xs b true) ((r, b) ∷ w)
 marked_more n xs w r b h = grind (arith, common_steps, length-set, eqb_tells, get_or-set_same, get_or-set_other)
@@ -130,7 +106,7 @@ module _ (image : List ℕ) (f g : Found) (s : Course) (b : ℕ) (st : Stands im
       let many = ap owned_count t.owned.owners in
       let l = later part fit t.kept in
       record {
-        taken = taken_more f.taken g.taken s.walk part b t.owned.taken st.taken;
+        pages = pages_more f.pages g.pages s.walk part b t.owned.pages st.pages;
         owners = owned_more (blocks image) f.owners g.owners s.walk (role_of part) b lt t.owned.owners t.owned.node st.owners;
         avoided = subst (λ (v : Vec Bool). AreAvoided (blocks image) v.items s.skipped) (sym t.owned.avoided) st.avoided;
         left = omega (arith, many, count, t.owned.left, st.left);

@@ -9,8 +9,7 @@ use Rattle.adf_volume.specs.Walk.{Role, Walk}
 use Rattle.adf_volume.specs.Walk.Role.{Head, Ext, Data}
 use Rattle.adf_findings.specs.declared.concern.Concern.{Concern}
 use Rattle.adf_findings.specs.declared.concern.Concern.TheVariants.{Entry, Within}
-use Rattle.adf_findings.specs.Found.{at_key, owner}
-use Rattle.adf_findings.specs.Parts.{key_of}
+use Rattle.adf_findings.specs.Found.{at_role, owner}
 use Rattle.adf_findings.specs.Survey.{FindingValue}
 
 -- the entry or the directory that is concerned
@@ -20,7 +19,7 @@ node_of (Within p) = p
 
 -- of a header in the walk the entry, of one that was skipped its directory; of an extension or data block the file
 abbrev pub concern_with : Walk → Role → Option Concern
-concern_with w (Head n p s j) = Some (cond (is_some (at_key w (key_of (Head n p s j)))) (Entry n) (Within p))
+concern_with w (Head n p s j) = Some (cond (is_some (at_role w (Head n p s j))) (Entry n) (Within p))
 concern_with w (Ext n k) = Some (Entry n)
 concern_with w (Data n k) = Some (Entry n)
 concern_with w _ = None

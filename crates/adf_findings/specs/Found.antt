@@ -1,9 +1,9 @@
 -- The state of a survey, as a course.
--- Letters: w a walk, s a course; r a role; b, c blocks; k a key; n, p nodes; f a state; fs, gs, bits findings.
+-- Letters: w a walk, s a course; q, r roles; b, c blocks; i the number of a page; n, p nodes; f a state; fs, gs, bits findings.
 use Rattle.std.specs.Prelude.{◌≡◌, ◌≤◌, ◌<◌, ◌+◌, ◌-◌, ◌==◌, ◌&&◌, ◌||◌, ℕ, Bool, true, false, cond, not, List, []}
 use Rattle.std.specs.Prelude.{◌∷◌, ◌++◌, ◌⊎◌, length, nat_lt, replicate, set, slice_index, slice_index_or, Option, Some, None, IsTrue, ◌↔◌}
 use Rattle.std.proofs.Common.{zero, suc}
-use Rattle.std.specs.Ordering.{is_eq}
+use Rattle.std.specs.Ordering.{nat_cmp}
 use Rattle.std.specs.Str.{bytes_eq}
 use Rattle.std.specs.BTreeMap.{BTreeMap, Updates, get}
 use Rattle.adf_tree.specs.NameSet.{Names, has}
@@ -17,30 +17,26 @@ use Rattle.adf_volume.specs.LayoutRoles.{owner_of}
 use Rattle.adf_volume.specs.declared.owner.Owner.{Owner}
 use Rattle.adf_volume.specs.declared.owner.Owner.TheVariants.{Free, Boot}
 use Rattle.adf_volume.specs.Positions.{Position}
-use Rattle.adf_volume.specs.Walk.{Role, Has, bitmap_demands, heads, node_block, Walk}
+use Rattle.adf_volume.specs.Walk.{Role, first, second, third, Has, bitmap_demands, heads, node_block, Walk}
 use Rattle.adf_volume.specs.Walk.Role.{Page, Head, Ext, Data}
 use Rattle.adf_walk.specs.Owners.{is_part, owned_count, owner_at}
 use Rattle.adf_findings.specs.WalkOwners.{HasNumber, OwnersValue, node_after}
 use Rattle.adf_findings.specs.Demands.{uppers_in}
 use Rattle.adf_findings.specs.declared.part.Part.{Part}
-use Rattle.adf_findings.specs.declared.part.Part.TheVariants.{Head as HeadPart, Ext as ExtPart, Data as DataPart}
-use Rattle.adf_findings.specs.declared.part.Key.{Key}
+use Rattle.adf_findings.specs.declared.part.Part.TheVariants.{Page as PagePart, Head as HeadPart}
 use Rattle.adf_findings.specs.declared.found.ChainPlace.{ChainPlace}
 use Rattle.adf_findings.specs.declared.found.Found.{Found}
 use Rattle.adf_findings.specs.Survey.{BitsTell, Course, FindingValue, IsCompared, IsCourse, IsDone}
-use Rattle.adf_findings.specs.Parts.{by_key, key_of, role_of}
+use Rattle.adf_findings.specs.Parts.{role_of}
 
--- the block of the member of the walk with this key
-abbrev pub at_key : Walk → Key → Option ℕ
-at_key [] k = None
-at_key (x ∷ w) k = cond (is_eq (by_key (key_of x.0) k)) (Some x.1) (at_key w k)
+-- whether two roles have the same place in the order of roles
+abbrev pub is_same : Role → Role → Bool
+is_same r q = (first r == first q) && ((second r == second q) && (third r == third q))
 
--- the role is one that is looked up by key: no part of an entry
-abbrev pub IsLookedUp : Role → Type 0
-IsLookedUp (Head n p s j) = ⊥
-IsLookedUp (Ext n k) = ⊥
-IsLookedUp (Data n k) = ⊥
-IsLookedUp _ = Unit {0}
+-- the block of the member of the walk at the place of role q
+abbrev pub at_role : Walk → Role → Option ℕ
+at_role [] q = None
+at_role (x ∷ w) q = cond (is_same x.0 q) (Some x.1) (at_role w q)
 
 -- whether a member of the walk has this block
 abbrev pub owns : Walk → ℕ → Bool
@@ -159,12 +155,10 @@ abbrev pub places_of : Walk → List ChainPlace
 places_of [] = []
 places_of (x ∷ w) = with_place x.0 (places_of w)
 
--- the map also has the block at the part's key, unless it is a part of an entry
-abbrev pub IsPut : Part → ℕ → BTreeMap Key ℕ → BTreeMap Key ℕ → Type 0
-IsPut (HeadPart n p s j) b old new = new ≡ old
-IsPut (ExtPart n k) b old new = new ≡ old
-IsPut (DataPart n k) b old new = new ≡ old
-IsPut part b old new = Updates by_key old new (key_of (role_of part)) (Some b)
+-- the pages also have the block, if the part is one
+abbrev pub IsPut : Part → ℕ → BTreeMap ℕ ℕ → BTreeMap ℕ ℕ → Type 0
+IsPut (PagePart i) b old new = Updates nat_cmp old new i (Some b)
+IsPut _ b old new = new ≡ old
 
 -- the part may own the block: a block that is free, and a part after those of all nodes before its own
 pub record IsNextPart (part : Part) (b : ℕ) (f : Found) : Type 0 where
@@ -177,7 +171,7 @@ pub record IsNextPart (part : Part) (b : ℕ) (f : Found) : Type 0 where
 
 -- the part owns the block
 pub record IsOwned (part : Part) (b : ℕ) (f g : Found) : Type 0 where
-  pub taken : IsPut part b f.taken g.taken
+  pub pages : IsPut part b f.pages g.pages
   pub owners : g.owners.owners ≡ set f.owners.owners b (owner_of (role_of part))
   pub node : g.owners.node ≡ node_after (owner_of (role_of part)) f.owners.node
   pub left : g.left + 1 ≡ f.left
@@ -215,7 +209,7 @@ abbrev pub IsKept : Part → ℕ → Found → Found → Type 0
 IsKept (HeadPart n p s j) b f g = KeepsHead p s j b f g
 IsKept _ b f g = AreSame f g
 
--- marks, keys and names are unchanged
+-- marks, pages and names are unchanged
 abbrev pub KeepsParts : Found → Found → Type 0
 KeepsParts f g = g ≡ record f { nodes = g.nodes; parents = g.parents; places = g.places }
 
@@ -231,7 +225,7 @@ pub record IsBlockSkipped (b : ℕ) (f g : Found) : Type 0 where
 
 -- the state is that of a course
 pub record Stands (image : List ℕ) (f : Found) (s : Course) : Type 0 where
-  pub taken : (r : Role) → IsLookedUp r → get by_key f.taken (key_of r) ≡ at_key s.walk (key_of r)
+  pub pages : (i : ℕ) → get nat_cmp f.pages i ≡ at_role s.walk (Page i)
   pub owners : AreOwned (blocks image) f.owners s.walk
   pub avoided : AreAvoided (blocks image) f.avoided.items s.skipped
   pub left : f.left + owned_count f.owners.owners ≡ blocks image
@@ -248,9 +242,9 @@ BitTells image s b None = IsCompared image s b → AllHold (bitmap_demands image
 BitTells image s b (Some c) = IsCompared image s b × FirstFails (bitmap_demands image s.walk b 1) b c
 
 -- whether the page is taken, and if so whether its bit is set
-abbrev pub IsBitOf : List ℕ → BTreeMap Key ℕ → ℕ → ℕ → Option Bool → Type 0
-IsBitOf image taken page bit None = get by_key taken (key_of (Page page)) ≡ None
-IsBitOf image taken page bit (Some t) = (at : ℕ) × (get by_key taken (key_of (Page page)) ≡ Some at) × (IsTrue t ↔ IsFreeAt image at bit)
+abbrev pub IsBitOf : List ℕ → BTreeMap ℕ ℕ → ℕ → ℕ → Option Bool → Type 0
+IsBitOf image pages page bit None = get nat_cmp pages page ≡ None
+IsBitOf image pages page bit (Some t) = (at : ℕ) × (get nat_cmp pages page ≡ Some at) × (IsTrue t ↔ IsFreeAt image at bit)
 
 -- the cause of a bit: a block in use without an owner and without an excuse, or one owned and free
 abbrev pub bit_cause : Bool → Bool → Bool → Option Cause

@@ -12,14 +12,13 @@ use Rattle.adf_volume.specs.Walk.Role.{Data}
 use Rattle.adf_walk.specs.Owners.{owner_at}
 use Rattle.adf_findings.specs.WalkOwners.{entry_of, data_number_of}
 use Rattle.adf_findings.specs.declared.remains.Gap.{Gap}
-use Rattle.adf_findings.specs.Found.{at_key}
+use Rattle.adf_findings.specs.Found.{at_role}
 use Rattle.adf_findings.specs.Files.{named_from}
-use Rattle.adf_findings.specs.Parts.{key_of}
 use Rattle.adf_findings.specs.SurveyResult.{SurveyValue}
 
 -- the block that is taken as data block k of file n
 abbrev pub data_found : Walk → ℕ → ℕ → Option ℕ
-data_found w n k = at_key w (key_of (Data n (suc k)))
+data_found w n k = at_role w (Data n (suc k))
 
 -- how many bytes are stated: as many as the header says, but no more than the image has
 abbrev pub size_stated : List ℕ → ℕ → ℕ

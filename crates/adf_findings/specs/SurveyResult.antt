@@ -4,6 +4,7 @@ use Rattle.std.specs.Prelude.{◌≡◌, ◌≤◌, ◌-◌, ◌/◌, ◌==◌, 
 use Rattle.std.specs.BTreeMap.{is_at}
 use Rattle.std.specs.Map.{lookup}
 use Rattle.std.specs.Option.{option_flatten}
+use Rattle.std.specs.Ordering.{nat_cmp}
 use Rattle.adf_blocks.specs.declared.layout.TheConstants.{PAGE_BITS}
 use Rattle.adf_volume.specs.declared.owner.Owner.{Owner}
 use Rattle.adf_walk.specs.Owners.{is_part, owner_at}
@@ -12,31 +13,30 @@ use Rattle.adf_volume.specs.Walk.{Has, heads, node_block, Walk}
 use Rattle.adf_volume.specs.Walk.Role.{Page}
 use Rattle.adf_findings.specs.declared.concern.Concern.{Concern}
 use Rattle.adf_findings.specs.declared.part.Finding.{Finding}
-use Rattle.adf_findings.specs.declared.part.Key.{Key}
 use Rattle.adf_findings.specs.Concerned.{concern_of_nth, is_taken}
 use Rattle.adf_findings.specs.Files.{grave}
-use Rattle.adf_findings.specs.Found.{at_key, number_at, owner, owns, parent_node}
+use Rattle.adf_findings.specs.Found.{at_role, number_at, owner, owns, parent_node}
 use Rattle.adf_findings.specs.Marks.{has_mark}
-use Rattle.adf_findings.specs.Parts.{by_key, finding_value, key_of}
+use Rattle.adf_findings.specs.Parts.{finding_value}
 use Rattle.adf_findings.specs.Sound.{IsSound}
 use Rattle.adf_findings.specs.Survey.{FindingValue, IsSurvey, IsValidated}
 
--- the result: the findings and what they concern; the owner of each block; the blocks of pages, by key;
+-- the result: the findings and what they concern; the owner of each block; the blocks of pages, by number;
 -- for each node its block, its parent, whether it is sound, and whether it is but for harmless findings of headers
 pub record SurveyValue : Type 0 where
   pub image : List ℕ
   pub findings : List Finding
   pub concerned : List (Option Concern)
   pub owners : List Owner
-  pub taken : List (Key × ℕ)
+  pub pages : List (ℕ × ℕ)
   pub nodes : List ℕ
   pub parents : List ℕ
   pub sound : List Bool
   pub whole : List Bool
 
--- the block of the part with a key by those kept
-abbrev pub block_at : List (Key × ℕ) → Key → Option ℕ
-block_at taken k = lookup (is_at (by_key k)) taken
+-- the block of page i by those kept
+abbrev pub block_at : List (ℕ × ℕ) → ℕ → Option ℕ
+block_at pages i = lookup (is_at (nat_cmp i)) pages
 
 -- the entry that has a block by the owners of blocks; none for 0
 abbrev pub entry_at : List Owner → ℕ → Option ℕ
@@ -54,7 +54,7 @@ pub record TellsOf (v : SurveyValue) (w : Walk) (fs : List FindingValue) : Type 
   pub owner : (b : ℕ) → entry_at v.owners b ≡ owner w b
   pub number : (b : ℕ) → data_number_of (owner_at v.owners b) ≡ number_at w b
   pub part : (b : ℕ) → is_part (owner_at v.owners b) ≡ owns w b
-  pub page : (i : ℕ) → block_at v.taken (key_of (Page i)) ≡ at_key w (key_of (Page i))
+  pub page : (i : ℕ) → block_at v.pages i ≡ at_role w (Page i)
   pub node : (n : ℕ) → slice_index v.nodes n ≡ node_block w n
   pub parent : (n : ℕ) → slice_index v.parents n ≡ parent_node w n
   pub count : length v.nodes - 1 ≡ heads w

@@ -5,16 +5,16 @@ ghost use Rattle.std.specs.Prelude.{map, min, slice_index_or, IsBitSet, IsTrue, 
 ghost use Rattle.adf_blocks.specs.declared.layout.TheConstants.{PAGE_BITS, PAGE_WORDS};
 ghost use Rattle.adf_blocks.specs.Sizes.{blocks};
 ghost use Rattle.std.specs.BTreeMap.{get};
+ghost use Rattle.std.specs.Ordering.{nat_cmp};
 ghost use Rattle.adf_volume.specs.Image.{IsFreeAt};
-ghost use Rattle.adf_volume.specs.Walk.Role.{Page};
-ghost use Rattle.adf_findings.specs.Parts.{by_key, finding_value, key_of};
+ghost use Rattle.adf_findings.specs.Parts.{finding_value};
 ghost use Rattle.adf_findings.specs.Survey.{IsValidated, is_cache};
 ghost use Rattle.adf_findings.specs.Bits.{IsBitCompared, IsPageCompared};
 ghost use Rattle.adf_findings.specs.Found.{IsBitOf, IsCompleted, IsFinished, HasReportedOn, bit_cause, is_owned};
 
 use crate::found::Found;
 use crate::image::Image;
-use crate::part::{Finding, Key, Part};
+use crate::part::Finding;
 use crate::progress::note;
 use adf_base::NoMemory;
 use adf_blocks::{
@@ -39,19 +39,18 @@ fn is_bit_set(image: &Image<'_>, at: u32, bit: u32) -> bool
 }
 
 /// The block that is taken as a page of the bitmap.
-pub fn page_at(taken: &BTreeMap<Key, u32>, i: u32) -> Option<u32>
-    ensures { result ≡ get by_key taken.now (key_of (Page i)) }
+pub fn page_at(pages: &BTreeMap<u32, u32>, i: u32) -> Option<u32>
+    ensures { result ≡ get nat_cmp pages.now i }
 {
-    taken.get(&Part::Page(i).key()).copied()
+    pages.get(&i).copied()
 }
 
 /// A bit of a page; `None` if the page was not taken.
-pub fn bit_of(image: &Image<'_>, taken: &BTreeMap<Key, u32>, page: u32, bit: u32) -> Option<bool>
+pub fn bit_of(image: &Image<'_>, pages: &BTreeMap<u32, u32>, page: u32, bit: u32) -> Option<bool>
     requires { bit < PAGE_BITS }
-    ensures { IsBitOf image.now taken.now page bit result }
+    ensures { IsBitOf image.now pages.now page bit result }
 {
-    let key = Part::Page(page).key();
-    match taken.get(&key) {
+    match pages.get(&page) {
         Some(at) => Some(is_bit_set(image, *at, bit)),
         None => None,
     }
@@ -61,8 +60,8 @@ pub fn bit_of(image: &Image<'_>, taken: &BTreeMap<Key, u32>, page: u32, bit: u32
 // one page.
 fn page_of(image: &Image<'_>, found: &Found, i: u32, before: Option<u32>) -> Option<u32>
     requires before { (i % PAGE_WORDS ≡ 0 → ⊥)
-        → IsPageCompared image.now found.now.taken (2 + 32 * i) before }
-    ensures { IsPageCompared image.now found.now.taken (2 + 32 * i) result }
+        → IsPageCompared image.now found.now.pages (2 + 32 * i) before }
+    ensures { IsPageCompared image.now found.now.pages (2 + 32 * i) result }
 {
     let words = PAGE_WORDS as u32;
     if i % words != 0 {
@@ -71,7 +70,7 @@ fn page_of(image: &Image<'_>, found: &Found, i: u32, before: Option<u32>) -> Opt
     if !is_validated(image) {
         return None;
     }
-    page_at(&found.taken, i / words)
+    page_at(&found.pages, i / words)
 }
 
 // Whether a block says that it is a directory cache, on a volume that has them.
@@ -137,7 +136,7 @@ fn compare_bit(
 ) -> Result<(), NoMemory>
     requires low { 2 ≤ b }
     requires inside { b < blocks image.now }
-    requires bit { IsBitCompared image.now found.now.taken b is_free }
+    requires bit { IsBitCompared image.now found.now.pages b is_free }
     requires reported { HasReportedOn image.now found.now (map finding_value findings.old.items) b }
     ensures { OnOk result (HasReportedOn image.now found.now (map finding_value findings.new.items) (b + 1)) }
 {
@@ -163,7 +162,7 @@ fn compare_word(
     i: u32,
 ) -> Result<(), NoMemory>
     requires inside { 2 + 32 * i < blocks image.now }
-    requires page { IsPageCompared image.now found.now.taken (2 + 32 * i) page }
+    requires page { IsPageCompared image.now found.now.pages (2 + 32 * i) page }
     requires reported { HasReportedOn image.now found.now (map finding_value findings.old.items) (2 + 32 * i) }
     ensures { OnOk result (HasReportedOn image.now found.now (map finding_value findings.new.items)
         (min (2 + 32 * (i + 1)) (blocks image.now))) }

@@ -2,11 +2,12 @@
 
 ghost use Rattle.std.specs.Prelude.{◌≡◌, ◌≤◌, ◌<◌, ◌+◌, ℕ, List, [], IfOk, OnOk, Some, not, slice_index};
 ghost use Rattle.std.specs.BTreeMap.{Updates};
+ghost use Rattle.std.specs.Ordering.{nat_cmp};
 ghost use Rattle.adf_blocks.specs.Sizes.{blocks};
 ghost use Rattle.adf_tree.specs.NameSet.{has};
 ghost use Rattle.adf_volume.specs.Positions.{position_of};
 ghost use Rattle.adf_volume.specs.Walk.{Walk};
-ghost use Rattle.adf_findings.specs.Parts.{by_key, role_of};
+ghost use Rattle.adf_findings.specs.Parts.{role_of};
 ghost use Rattle.adf_findings.specs.Found.{AreNamed, AreSame, Stands, IsChain, IsKept, IsOwned, IsBlockSkipped};
 ghost use Rattle.adf_findings.specs.Found.{HasValidName, IsPut, IsTaken, IsNextPart, KeepsName, KeepsParts};
 ghost use Rattle.adf_findings.specs.Found.{begun_marks, is_owned, known_at, new_in};
@@ -14,7 +15,7 @@ ghost use Rattle.adf_findings.specs.Survey.{begun};
 
 use crate::header_name::valid_name;
 use crate::image::Image;
-use crate::part::{Key, Part};
+use crate::part::Part;
 use crate::walk_owners::WalkOwners;
 use adf_base::NoMemory;
 use adf_tree::NameSet;
@@ -28,12 +29,12 @@ pub struct ChainPlace {
     pub place: u32,
 }
 
-/// The state of a survey: the blocks of the root and of the taken parts of the bitmap by key; the owner of each block;
-/// for each block, once any was skipped, whether it was; the number of blocks not taken; the blocks of nodes; the valid
-/// names in the current chain; the parents of nodes; and the positions of headers, from node 1 on.
+/// The state of a survey: the blocks of the taken pages of the bitmap, by number; the owner of each block; for each
+/// block, once any was skipped, whether it was; the number of blocks not taken; the blocks of nodes; the valid names in
+/// the current chain; the parents of nodes; and the positions of headers, from node 1 on.
 #[derive(Drop)]
 pub struct Found {
-    pub taken: BTreeMap<Key, u32>,
+    pub pages: BTreeMap<u32, u32>,
     pub owners: WalkOwners,
     pub avoided: Vec<bool>,
     pub left: u32,
@@ -43,11 +44,11 @@ pub struct Found {
     pub places: Vec<ChainPlace>,
 }
 
-// Adds an entry to a map.
-fn put(map: &mut BTreeMap<Key, u32>, key: Key, block: u32) -> Result<(), NoMemory>
-    ensures { OnOk result (Updates by_key map.old map.new key (Some block)) }
+// Adds the block of page `i`.
+fn put(pages: &mut BTreeMap<u32, u32>, i: u32, block: u32) -> Result<(), NoMemory>
+    ensures { OnOk result (Updates nat_cmp pages.old pages.new i (Some block)) }
 {
-    match map.insert(key, block) {
+    match pages.insert(i, block) {
         Ok(_) => Ok(()),
         Err(_) => Err(NoMemory),
     }
@@ -81,7 +82,7 @@ impl Found {
             return Err(NoMemory);
         };
         let mut found = Found {
-            taken: BTreeMap::new(alloc),
+            pages: BTreeMap::new(alloc),
             owners,
             avoided: Vec::new(alloc),
             left: blocks,
@@ -111,15 +112,15 @@ impl Found {
         !self.owners.is_part(b)
     }
 
-    // Keeps the block of a part of the bitmap, or the root, by its key.
+    // Keeps the block of a page of the bitmap.
     #[inline(always)]
-    fn keep_block(&mut self, part: Part, b: u32) -> Result<(), NoMemory>
-        ensures taken { OnOk result (IsPut part b self.old.taken self.new.taken) }
-        ensures rest { OnOk result (self.new ≡ record self.old { taken = self.new.taken }) }
+    fn keep_page(&mut self, part: Part, b: u32) -> Result<(), NoMemory>
+        ensures pages { OnOk result (IsPut part b self.old.pages self.new.pages) }
+        ensures rest { OnOk result (self.new ≡ record self.old { pages = self.new.pages }) }
     {
         match part {
-            Part::Head { .. } | Part::Ext(_, _) | Part::Data(_, _) => Ok(()),
-            _ => put(&mut self.taken, part.key(), b),
+            Part::Page(i) => put(&mut self.pages, i, b),
+            _ => Ok(()),
         }
     }
 
@@ -130,7 +131,7 @@ impl Found {
         ensures owned { OnOk result (IsOwned part b self.old self.new) }
         ensures rest { OnOk result (AreSame self.old self.new) }
     {
-        self.keep_block(part, b)?;
+        self.keep_page(part, b)?;
         self.owners.claim(b, part.owner())?;
         self.left -= 1;
         Ok(())

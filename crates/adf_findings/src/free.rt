@@ -38,7 +38,7 @@ impl Survey<'_> {
             return None;
         }
         let (page, bit) = place_of(b);
-        bit_of(&started.image, &self.taken, page, bit)
+        bit_of(&started.image, &self.pages, page, bit)
     }
 
     /// Whether a block is a page of the bitmap that is found.
@@ -49,7 +49,7 @@ impl Survey<'_> {
             return false;
         };
         for i in 0..page_count(started.image.blocks()) {
-            if is_at(page_at(&self.taken, i), b) {
+            if is_at(page_at(&self.pages, i), b) {
                 return true;
             }
         }

@@ -1,15 +1,13 @@
 // The parts of a volume, and findings.
 
 ghost use Rattle.std.specs.Prelude.{◌≡◌, ◌<◌, ◌^◌, true};
-ghost use Rattle.adf_findings.specs.Parts.{key_of, role_of};
+ghost use Rattle.adf_findings.specs.Parts.{role_of};
 ghost use Rattle.adf_volume.proofs.Roles.{renumbered};
 ghost use Rattle.adf_volume.specs.LayoutRoles.{owner_of};
-ghost use Rattle.adf_volume.specs.Walk.{third};
-ghost use Rattle.adf_volume.specs.Walk.Role.{Page};
 ghost use Rattle.adf_walk.specs.Owners.{is_part};
 ghost use Rattle.adf_findings.specs.WalkOwners.{entry_of};
 
-use adf_blocks::{Cause, MAP_EXT_PAGES, ROOT_PAGES};
+use adf_blocks::Cause;
 use adf_tree::Node;
 use adf_volume::Owner;
 
@@ -43,14 +41,6 @@ pub struct Finding {
     pub part: Option<Part>,
     pub block: u32,
     pub cause: Cause,
-}
-
-/// The numbers that order the parts.
-#[derive(Clone, Copy, PartialEq, Eq, PartialOrd, Ord, Drop)]
-pub struct Key {
-    pub first: u64,
-    pub second: u64,
-    pub third: u64,
 }
 
 impl Part {
@@ -90,40 +80,4 @@ impl Part {
             Part::Data(node, k) => Owner::Data(Node(node as usize), k),
         }
     }
-
-    // The numbers that order the part.
-    pub(crate) fn key(self) -> Key
-        ensures { result ≡ key_of (role_of self) }
-    {
-        let (first, second, third) = match self {
-            Part::Root => (0, 0, 0),
-            Part::Page(i) => (0, 1, place_of_page(i)),
-            Part::MapExt(j) => (
-                0,
-                1,
-                ROOT_PAGES as u64 + (1 + MAP_EXT_PAGES as u64) * u64::from(j),
-            ),
-            Part::Head {
-                parent,
-                slot,
-                place,
-                ..
-            } => (u64::from(parent) + 1, u64::from(slot) + 2, u64::from(place)),
-            Part::Ext(node, k) => (u64::from(node) + 1, 0, u64::from(k)),
-            Part::Data(node, k) => (u64::from(node) + 1, 1, u64::from(k)),
-        };
-        Key {
-            first,
-            second,
-            third,
-        }
-    }
-}
-
-// The position of a page among the pages and the bitmap extension blocks.
-fn place_of_page(i: u32) -> u64
-    ensures { result ≡ third (Page i) }
-{
-    let i = u64::from(i);
-    i + (i + (MAP_EXT_PAGES - ROOT_PAGES) as u64) / MAP_EXT_PAGES as u64
 }

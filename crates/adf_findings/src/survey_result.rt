@@ -24,7 +24,7 @@ use crate::file::SoundFile;
 use crate::header_name::name_in;
 use crate::opening::Opening;
 use crate::owners::{data_number_of, entry_at, owner_nth};
-use crate::part::{Finding, Key};
+use crate::part::Finding;
 use crate::start::start;
 use crate::walk_owners::WalkOwners;
 use adf_base::{Block, Letters, NoMemory};
@@ -42,7 +42,7 @@ pub struct Survey<'i> {
     pub(crate) findings: Vec<Finding>,
     pub(crate) concerned: Vec<Option<Concern>>,
     pub(crate) owners: WalkOwners,
-    pub(crate) taken: BTreeMap<Key, u32>,
+    pub(crate) pages: BTreeMap<u32, u32>,
     pub(crate) nodes: Vec<u32>,
     pub(crate) parents: Vec<u32>,
     pub(crate) sound: Vec<bool>,
@@ -59,7 +59,7 @@ impl<'i> Model for Survey<'i> {
       findings = v.findings.items;
       concerned = v.concerned.items;
       owners = v.owners.owners;
-      taken = v.taken.entries;
+      pages = v.pages.entries;
       nodes = v.nodes.items;
       parents = v.parents.items;
       sound = v.sound.items;
@@ -71,7 +71,7 @@ impl<'i> Model for Survey<'i> {
       findings = v.findings.items;
       concerned = v.concerned.items;
       owners = v.owners.owners;
-      taken = v.taken.entries;
+      pages = v.pages.entries;
       nodes = v.nodes.items;
       parents = v.parents.items;
       sound = v.sound.items;

@@ -1,7 +1,7 @@
 -- Lost headers: what the bitmap tells of a block, the directories of a survey, and the marks of those that are settled.
 -- Letters: w a walk, fs findings; s whether each directory is settled; b, p, h blocks; n, m nodes; k a number of entries, findings or
 -- blocks; i the number of a page; r an answer.
-use Rattle.std.specs.Prelude.{◌==◌, ◌&&◌, ◌||◌, ◌↔◌, not, nat_le, Option, Some, None, IfSome, IsSome, IsTrue, option_and_then, option_map, unwrap_or, cond, map, replicate}
+use Rattle.std.specs.Prelude.{◌==◌, ◌&&◌, ◌||◌, ◌↔◌, not, Option, Some, None, IfSome, IsSome, IsTrue, option_and_then, option_map, unwrap_or, cond, map, replicate}
 use Rattle.std.proofs.Common.{◌≡◌, ◌≢◌, ◌≤◌, ◌<◌, ℕ, suc, ◌+◌, ◌-◌, ◌/◌, ◌%◌, Bool, true, false, List, [], ◌∷◌, ◌++◌, length, add-one}
 use Rattle.std.proofs.Common.{◌∙◌, ap, arith, inl, inr, refl, subst, sym, zero}
 use Rattle.std.specs.List.{list_any, range_with_len}
@@ -20,13 +20,13 @@ use Rattle.adf_volume.proofs.Roles.{same_refl}
 use Rattle.adf_findings.specs.declared.concern.Concern.{Concern}
 use Rattle.adf_findings.specs.declared.part.Finding.{Finding}
 use Rattle.adf_findings.specs.Concerned.{concern_of_nth, node_of}
-use Rattle.adf_findings.specs.Found.{at_key, owner, parent_node}
+use Rattle.adf_findings.specs.Found.{at_role, owner, parent_node}
 use Rattle.adf_findings.specs.Marks.{has_mark}
-use Rattle.adf_findings.specs.Parts.{finding_value, key_of, part_role}
+use Rattle.adf_findings.specs.Parts.{finding_value, part_role}
 use Rattle.adf_findings.specs.Survey.{FindingValue, IsSurvey, IsValidated}
 use Rattle.adf_findings.proofs.BitSteps.{has_page}
 use Rattle.adf_findings.proofs.BitsStated.{one_page}
-use Rattle.adf_findings.proofs.Keys.{lacks_at}
+use Rattle.adf_findings.proofs.RoleBlocks.{lacks_at}
 use Rattle.adf_rescue.specs.Lost.{AreEntered, AreSettled, AreUnblamed, bit_stated, has_free_data_among, is_root_doubtful, is_settled, is_stated_free, directory_at, directory_by, has_child, has_finding, is_denied, is_inside}
 use Rattle.adf_rescue.specs.Lost.{is_lost, is_of, is_root, is_set_in}
 use Rattle.adf_findings.specs.SurveyResult.{IsBitStated}
@@ -61,15 +61,15 @@ told_is image w fs b r inside survey some free = elim (cases_Bool (is_inside ima
       let parts = and_parts (is_inside image b) _ stands in
       let low : 2 ≤ b = grind (arith, nat_tests) in
       let valid : IsValidated image = eqb-true _ _ parts.1 in
-      with_page (at_key w (key_of (Page (page_of b)))) refl low valid ∙ sym (cond-true _ _ None stands)
+      with_page (at_role w (Page (page_of b))) refl low valid ∙ sym (cond-true _ _ None stands)
   | inr fails ↦
       told_none r (λ s. let told = some.0 s in
       let all = and_from (is_inside image b) (word_in image (root_of image) BITMAP_FLAG == VALID) inside (eq-eqb _ _ told.1) in cc)
       ∙ sym (cond-false _ _ None fails)
 ]
   where
-    with_page : (o : Option ℕ) → at_key w (key_of (Page (page_of b))) ≡ o → 2 ≤ b → IsValidated image
-        → r ≡ option_map (λ page. is_set_in image page ((b - 2) % PAGE_BITS)) (at_key w (key_of (Page (page_of b))))
+    with_page : (o : Option ℕ) → at_role w (Page (page_of b)) ≡ o → 2 ≤ b → IsValidated image
+        → r ≡ option_map (λ page. is_set_in image page ((b - 2) % PAGE_BITS)) (at_role w (Page (page_of b)))
     with_page None e low valid =
         told_none r (λ s. let told = some.0 s in lacks_at w (Page (page_of b)) e (Page (page_of b)) told.2.0 told.2.1 (same_refl (Page (page_of b))))
         ∙ ap (option_map (λ page. is_set_in image page ((b - 2) % PAGE_BITS))) (sym e)

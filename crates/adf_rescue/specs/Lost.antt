@@ -2,7 +2,7 @@
 -- Letters: w the walk of the survey, fs its findings, f one of them; b, p blocks, h that of a header; n a node; k a number of nodes, findings
 -- or blocks; mended whether the image was; s whether each directory is settled.
 use Rattle.std.specs.Prelude.{◌≡◌, ◌≤◌, ℕ, ◌+◌, ◌-◌, ◌/◌, ◌%◌, ◌^◌, ◌==◌, ◌&&◌, ◌||◌, not, nat_le, nat_lt, min, bit_and, Bool, true, false, cond, List, [], ◌∷◌, length}
-use Rattle.std.specs.Prelude.{Option, Some, None, is_some, option_and_then, option_map, unwrap_or}
+use Rattle.std.specs.Prelude.{Option, Some, None, option_and_then, option_map, unwrap_or}
 use Rattle.std.specs.List.{list_any}
 use Rattle.std.proofs.Common.{zero, suc}
 use Rattle.adf_blocks.specs.declared.layout.TheConstants.{BITMAP_FLAG, FIRST_POINTER, OWN_KEY, PAGE_BITS, PAGE_FIRST, PARENT, POINTERS, SECONDARY_TYPE}
@@ -14,9 +14,8 @@ use Rattle.adf_volume.specs.Walk.{Role, data_count, heads, node_block, Walk}
 use Rattle.adf_volume.specs.Walk.Role.{Root, Page}
 use Rattle.adf_findings.specs.Concerned.{concern_of_nth, node_of}
 use Rattle.adf_findings.specs.declared.concern.Concern.{Concern}
-use Rattle.adf_findings.specs.Found.{at_key, owner, owns, parent_node}
+use Rattle.adf_findings.specs.Found.{at_role, owner, owns, parent_node}
 use Rattle.adf_findings.specs.Marks.{has_mark}
-use Rattle.adf_findings.specs.Parts.{key_of}
 use Rattle.adf_findings.specs.Survey.{FindingValue}
 use Rattle.adf_rescue.specs.Opened.{says_file}
 
@@ -41,7 +40,7 @@ is_set_in image page bit = not (bit_and (word_in image page (PAGE_FIRST + bit / 
 unfoldable pub bit_stated : List ℕ → Walk → ℕ → Option Bool
 bit_stated image w b =
     cond (is_inside image b && (word_in image (root_of image) BITMAP_FLAG == VALID))
-    (option_map (λ page. is_set_in image page ((b - 2) % PAGE_BITS)) (at_key w (key_of (Page ((b - 2) / PAGE_BITS))))) None
+    (option_map (λ page. is_set_in image page ((b - 2) % PAGE_BITS)) (at_role w (Page ((b - 2) / PAGE_BITS)))) None
 
 -- the bitmap tells that block b is free
 abbrev pub is_stated_free : List ℕ → Walk → ℕ → Bool

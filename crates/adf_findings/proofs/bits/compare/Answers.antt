@@ -29,7 +29,7 @@ loop-i-preserved c = record {
       let image = c.args.image.now in
       let i = c.loop-i.i in
       let same : (2 + 32 * i - 2) / PAGE_BITS ≡ (2 + 32 * (i + 1) - 2) / PAGE_BITS = omega arith in
-      page_on image c.args.found.now.taken (2 + 32 * i) (2 + 32 * (i + 1)) c.page_of-page.result same c.page_of-page.ensures;
+      page_on image c.args.found.now.pages (2 + 32 * i) (2 + 32 * (i + 1)) c.page_of-page.result same c.page_of-page.ensures;
 }
 
 pub returns : goal.returns

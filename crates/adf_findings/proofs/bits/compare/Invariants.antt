@@ -9,5 +9,5 @@ use Rattle.adf_findings.proofs.bits.compare.Given as goal
 abbrev pub invariant-loop-i : goal.invariant-loop-i
 invariant-loop-i l = record {
   reported : HasReportedOn l.image l.found (map finding_value l.findings.items) (min (2 + 32 * l.i) (blocks l.image));
-  page : (l.i % PAGE_WORDS ≡ 0 → ⊥) → IsPageCompared l.image l.found.taken (2 + 32 * l.i) l.page;
+  page : (l.i % PAGE_WORDS ≡ 0 → ⊥) → IsPageCompared l.image l.found.pages (2 + 32 * l.i) l.page;
 }

@@ -10,7 +10,7 @@ use Rattle.adf_findings.proofs.found.Found.begin.Goals as goal
 pub own-requires : goal.own-requires
 own-requires c =
     let f : Found = record {
-      taken = c.new-2.result;
+      pages = c.new-2.result;
       owners = c.in_ok-owners.owners;
       avoided = c.new-3.result;
       left = c.blocks-blocks.result;
@@ -27,7 +27,7 @@ own-requires c =
 pub returns-in-Ok-push-clause-stands : goal.returns-in-Ok-push-clause-stands
 returns-in-Ok-push-clause-stands c =
     let f : Found = record {
-      taken = c.new-2.result;
+      pages = c.new-2.result;
       owners = c.in_ok-owners.owners;
       avoided = c.new-3.result;
       left = c.blocks-blocks.result;

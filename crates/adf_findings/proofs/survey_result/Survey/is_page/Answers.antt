@@ -1,7 +1,5 @@
 use Rattle.std.proofs.Common.{◌≡◌, ◌∙◌, ap, arith, below_more, false, refl, subst, sym, true}
 use Rattle.adf_blocks.specs.Sizes.{blocks, pages_needed}
-use Rattle.adf_volume.specs.Walk.Role.{Page}
-use Rattle.adf_findings.specs.Parts.{key_of}
 use Rattle.adf_findings.specs.SurveyResult.{IsOfSurvey, block_at}
 use Rattle.adf_findings.proofs.BitSteps.{has_page}
 use Rattle.adf_findings.proofs.FoundPages.{page_at, page_low}
@@ -20,7 +18,7 @@ pub returns-then-is_at : goal.returns-then-is_at
 returns-then-is_at c = λ w fs h.
     let t = tells_each c.args.self.now (subst IsOfSurvey c.self.view_is c.self.invariant) w fs h in
     let i = c.loop-i.i in
-    let pages = ap (λ v. block_at v.taken (key_of (Page i))) c.self.view_is ∙ t.page i in
+    let pages = ap (λ v. block_at v.pages i) c.self.view_is ∙ t.page i in
     let some = sym pages ∙ sym c.page_at.ensures ∙ c.is_at.ensures.0 c.if-is_at.true in
     ((λ y. (i, has_page w i c.args.b some)), (λ y. refl))
 
@@ -29,7 +27,7 @@ loop-i-preserved c = record {
   none = λ w fs h.
       let t = tells_each c.args.self.now (subst IsOfSurvey c.self.view_is c.self.invariant) w fs h in
       let i = c.loop-i.i in
-      let pages = ap (λ v. block_at v.taken (key_of (Page i))) c.self.view_is ∙ t.page i in
+      let pages = ap (λ v. block_at v.pages i) c.self.view_is ∙ t.page i in
       below_more _ _ (c.loop-i.invariant.none w fs h)
       (λ has.
       let yes = c.is_at.ensures.1 (c.page_at.ensures ∙ pages ∙ page_at c.args.self.now.image w fs h i c.args.b has) in
