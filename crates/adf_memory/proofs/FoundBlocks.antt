@@ -18,7 +18,7 @@ use Rattle.adf_findings.specs.Remains.{data_found}
 use Rattle.adf_findings.specs.Survey.{FindingValue, IsSurvey}
 use Rattle.adf_findings.proofs.BlockOwners.{first_with}
 use Rattle.adf_findings.proofs.DataFound.{found_named, has_data, held_has}
-use Rattle.adf_findings.proofs.Keys.{lacks_at}
+use Rattle.adf_findings.proofs.RoleBlocks.{lacks_at}
 use Rattle.adf_findings.proofs.Lookups.{file_between}
 use Rattle.adf_findings.proofs.SoundEntries.{one_part}
 use Rattle.adf_memory.specs.declared.found_files.TheConstants.{NO_BLOCK}

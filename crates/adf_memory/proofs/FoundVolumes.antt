@@ -19,7 +19,7 @@ use Rattle.adf_findings.specs.Remains.{data_found, size_stated}
 use Rattle.adf_findings.specs.Survey.{FindingValue, IsSurvey}
 use Rattle.adf_findings.proofs.DataFound.{has_data}
 use Rattle.adf_findings.proofs.PlainFindings.{finds_none, shown}
-use Rattle.adf_findings.proofs.Keys.{lacks_at}
+use Rattle.adf_findings.proofs.RoleBlocks.{lacks_at}
 use Rattle.adf_names.specs.declared.kind.Kind.{Kind}
 use Rattle.adf_rescue.proofs.FitBlocks.{fit_room}
 use Rattle.adf_tree.specs.declared.entry.Body.{Body, TheVariants.Dir, TheVariants.File}
