@@ -242,6 +242,14 @@ const LINES: &[(&str, Change<'static>, u8, &str, &str)] = &[
         "block 0: out of range\n1 DH1: PFS\\x03 first 40 blocks 40 flags 2 priority 3\n2 DH0: ffs first 8 blocks 32 flags 1 priority -5\n",
         "",
     ),
+    // A partition that the list does not come to has no place over a block that the rigid disk block keeps.
+    (
+        "survey",
+        (0, &[(7, 65_536), (32, 20), (33, 20)]),
+        1,
+        "block 0: out of range\n1 DH1: PFS\\x03 first 40 blocks 40 flags 2 priority 3\n2 DH0: ffs over tables flags 1 priority -5\n",
+        "",
+    ),
     (
         "survey",
         (2, &[(0, 0)]),

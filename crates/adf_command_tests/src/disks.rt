@@ -6,7 +6,7 @@ ghost use Rattle.std.specs.Prelude.{length};
 use adf_base::{Block, seal, set_word};
 use adf_partitions::{
     Disk, DiskCause, DiskFault, FieldFault, Partition, Place, PlaceFault, disk_fault, read_plan,
-    write_tables,
+    stated_place, write_tables,
 };
 use std::alloc::{AllocError, Global};
 
@@ -69,10 +69,12 @@ const DH1: &[(usize, u32)] = &[
 ];
 
 // The place of DH0: cylinders of 8 blocks.
-const PLACE_0: Result<Place, PlaceFault> = Ok(Place {
+const DH0_PLACE: Place = Place {
     first: 8,
     blocks: 32,
-});
+};
+
+const PLACE_0: Result<Place, PlaceFault> = Ok(DH0_PLACE);
 
 // The place of DH1.
 const PLACE_1: Result<Place, PlaceFault> = Ok(Place {
@@ -279,6 +281,22 @@ const PLACES: &[(
 fn places_are_told(rt: HostRuntime) {
     for (b, words, one, two) in PLACES {
         assert!(rt; places_of(rt.alloc(), *b, words) == Some((*one, *two)));
+    }
+}
+
+// A change of DH0, the blocks of the disk, and where DH0 says that it lies, whatever else has these blocks.
+const STATED: &[(&[(usize, u32)], u64, Option<Place>)] = &[
+    (&[], 40, Some(DH0_PLACE)),
+    (&[], 39, None),
+    (&[(41, 5)], 80, None),
+    (&[(35, 0)], 80, None),
+    (&[(37, 0)], 80, None),
+];
+
+#[test]
+fn places_are_stated(rt: HostRuntime) {
+    for (words, blocks, place) in STATED {
+        assert!(rt; stated_place(&changed(2, words), 2, *blocks) == *place);
     }
 }
 
