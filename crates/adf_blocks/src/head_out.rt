@@ -114,7 +114,6 @@ fn secondary(body: &HeadOutBody<'_>) -> u32
 }
 
 // The 512 bytes of a header.
-#[tactic(auto, unfolding(crate::specs::HeadBlock::head_block))]
 fn head_bytes(h: &HeadOut<'_, '_, '_>) -> [u8; 512]
     requires { FitsTable (body_fields h.now.body) }
     ensures exact { result ≡ head_block (head_fields h.now) }

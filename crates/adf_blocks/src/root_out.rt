@@ -28,7 +28,6 @@ pub struct RootOut<'p, 'l> {
 }
 
 // The 512 bytes of a root.
-#[tactic(auto, unfolding(crate::specs::RootBlock::root_block))]
 fn root_bytes(r: &RootOut<'_, '_>) -> [u8; 512]
     requires { length r.now.pages.now ≤ ROOT_PAGES }
     ensures exact { result ≡ root_block (root_fields r.now) }

@@ -13,3 +13,6 @@ loop-b-preserved c = grind (arith, common_steps, then-is_lost+in_ok-push, put_lo
 
 pub returns-in_err-push-clause-begun : goal.returns-in_err-push-clause-begun
 returns-in_err-push-clause-begun c = grind (arith, common_steps, on_err, some_lost)
+
+pub returns-clause-all : goal.returns-clause-all
+returns-clause-all c = grind (arith, common_steps)

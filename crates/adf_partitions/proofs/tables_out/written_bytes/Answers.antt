@@ -1,7 +1,7 @@
 use Rattle.std.proofs.Common.{◌≡◌, ◌+◌, ◌++◌, ap, arith, drop, rules, ◌∙◌}
 use Rattle.adf_partitions.specs.Plans.{plan_value}
 use Rattle.adf_partitions.specs.WrittenTables.{part_block, part_blocks, written_bytes}
-use Rattle.adf_partitions.proofs.PlanSizes.{cylinders_at, plans_at}
+use Rattle.adf_partitions.proofs.PlanSizes.{cylinders_at, plans_at, cylinders_fit}
 use Rattle.adf_partitions.proofs.PlannedVolumes.{part_put, parts_end}
 use Rattle.adf_partitions.proofs.tables_out.written_bytes.Goals as goal
 
@@ -25,3 +25,9 @@ pub returns : goal.returns
 returns c =
     let plan = plan_value c.args.plan.now in
     parts_end plan plan.partitions c.loop-i.i c.loop-i.low c.loop-i.bytes.items (written_bytes plan) (search (rules, arith)) c.loop-i.invariant.bytes
+
+pub overflow_add-low : goal.overflow_add-low
+overflow_add-low c = grind (arith, cylinders_at, cylinders_fit)
+
+pub part_bytes-requires-clause-within : goal.part_bytes-requires-clause-within
+part_bytes-requires-clause-within c = grind (arith, cylinders_at, cylinders_fit)
