@@ -18,6 +18,8 @@ mod disk_runs;
 #[cfg(test)]
 mod disks;
 #[cfg(test)]
+mod edited_letters;
+#[cfg(test)]
 mod memory;
 #[cfg(test)]
 mod named_errors;

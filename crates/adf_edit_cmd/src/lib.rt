@@ -6,8 +6,6 @@ mod lines;
 mod program;
 mod script;
 mod stop;
-#[cfg(test)]
-mod tests;
 
 pub use crate::editing::new_image;
 pub use crate::program::{MOST_INPUT_BYTES, Work, run};

@@ -7,8 +7,6 @@ mod meta;
 mod name;
 mod path_texts;
 mod short_text;
-#[cfg(test)]
-mod tests;
 mod volume_type;
 
 pub use crate::escapes::{digit_value, hex_digit, is_plain, spellings_decide};

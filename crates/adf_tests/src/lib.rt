@@ -1,4 +1,4 @@
-//! Tests of the calls over slices.
+//! Tests of names by letters, and of the calls over slices.
 #![tactic(auto)]
 
 #[cfg(test)]
@@ -11,6 +11,8 @@ mod found_files;
 mod images;
 #[cfg(test)]
 mod images_in_memory;
+#[cfg(test)]
+mod names;
 #[cfg(test)]
 mod rescues;
 #[cfg(test)]

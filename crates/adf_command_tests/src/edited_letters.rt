@@ -1,11 +1,10 @@
-// Volumes that get other letters. The slots are those that Python computes: (13 + 0xE9) % 72 and (13 + 0xC9) % 72.
+// Volumes that get other letters by a script of `adf-edit`. The slots are those that Python computes: (13 + 0xE9) % 72 and
+// (13 + 0xC9) % 72.
 
-use crate::editing::new_image;
-use crate::stop::Stop;
 use adf_boot_blocks::{install, is_bootable};
 use adf_build::build;
-use adf_names::{Kind, Label, NO_STAMPS};
-use adf_tree::{AddFault, Tree};
+use adf_edit_cmd::{Stop, new_image};
+use adf_tree::{AddFault, Kind, Label, NO_STAMPS, Tree};
 use std::alloc::Global;
 
 // What a script makes of an empty OFS volume of 16 blocks that an Amiga starts from.

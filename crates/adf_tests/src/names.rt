@@ -1,8 +1,8 @@
 // Names by ASCII and by international letters. The slots are those that Python computes.
 
-use crate::name::Name;
 use adf_base::Letters::{Ascii, International};
 use adf_base::{Letters, slot_by};
+use adf_names::Name;
 use std::process::Abort;
 
 // The slots of two names by these letters, and whether the names are equal.
