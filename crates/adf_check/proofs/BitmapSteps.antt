@@ -21,8 +21,7 @@ use Rattle.adf_volume.specs.declared.fault.Fault.{Fault}
 use Rattle.adf_volume.specs.Start.{IsOwnBegun}
 use Rattle.adf_check.specs.Pages.{AreListed, IsBitFault}
 use Rattle.adf_check.specs.Reading.{block_of_page, IsListed, IsMapped, StoreFits}
-use Rattle.adf_walk.specs.declared.kept_owner.KeptOwner.TheVariants.{Free}
-use Rattle.adf_walk.specs.KeptOwner.{kept_at}
+use Rattle.adf_walk.specs.KeptOwner.{kept_at, no_owner}
 use Rattle.adf_check.specs.Store.{StoreValue}
 use Rattle.adf_check.proofs.ClaimSteps.{first_fault}
 use Rattle.adf_check.proofs.NodeSteps.{at_or}
@@ -67,10 +66,10 @@ module _ (free : Bool) {image : List ℕ} {store : StoreValue} {b page : ℕ} {l
   then_free : IsFreeIn image st.walk b → free ≡ true
   then_free f = free_is.1 (subst (λ p. IsFreeAt image p ((b - 2) % 4064)) (only_page f.0 f.1) f.2)
 
-  absent_then : kept_at store.owners b ≡ Free → IsAbsent st.walk b
+  absent_then : kept_at store.owners b ≡ no_owner → IsAbsent st.walk b
   absent_then h = free_absent image store.owners st.walk st.read.tells.owns b h
 
-  then_absent : IsAbsent st.walk b → kept_at store.owners b ≢ Free → ⊥
+  then_absent : IsAbsent st.walk b → kept_at store.owners b ≢ no_owner → ⊥
   then_absent a h = taken_present image store.owners st.walk st.read.tells.owns b st.low hi h a
 
   length_of : 2 + (b - 2) ≡ b
@@ -87,10 +86,10 @@ module _ (free : Bool) {image : List ℕ} {store : StoreValue} {b page : ℕ} {l
       at_bitmap sound st.walk st.read.is_walk st.read.whole (subst (λ m. FirstFails (bitmap_demands image st.walk 2 m) b c) z
       (rw (split (suc (blocks image - suc b))) (fails_right (bitmap_demands image st.walk 2 (b - 2)) _ b c st.agrees f)))
 
-  pub lost : IsOwnBegun image → free ≡ false → kept_at store.owners b ≡ Free → FirstFaultBy (letters_of image) image b LostBlock
+  pub lost : IsOwnBegun image → free ≡ false → kept_at store.owners b ≡ no_owner → FirstFaultBy (letters_of image) image b LostBlock
   lost sound f h = fails sound LostBlock (inl ((λ k. clash (then_free (k (absent_then h))) f), refl, refl))
 
-  pub owned_free : IsOwnBegun image → free ≡ true → kept_at store.owners b ≢ Free → FirstFaultBy (letters_of image) image b OwnedFree
+  pub owned_free : IsOwnBegun image → free ≡ true → kept_at store.owners b ≢ no_owner → FirstFaultBy (letters_of image) image b OwnedFree
   owned_free sound f h = fails sound OwnedFree (inr ((λ a. absurd (then_absent a h)), inl ((λ k. then_absent (k (free_then f)) h), refl, refl)))
 
   mapped : (IsAbsent st.walk b → IsFreeIn image st.walk b) → (IsFreeIn image st.walk b → IsAbsent st.walk b) → IsMapped image store (suc b)
@@ -104,13 +103,13 @@ module _ (free : Bool) {image : List ℕ} {store : StoreValue} {b page : ℕ} {l
             (rw (split 1) (all_append (bitmap_demands image st.walk 2 (b - 2)) (bitmap_demands image st.walk b 1) st.agrees (f, (g, tt))));
       }
 
-  agrees_by : (t : Bool) → free ≡ t → IsTrue free ↔ (kept_at store.owners b ≡ Free) → IsMapped image store (suc b)
+  agrees_by : (t : Bool) → free ≡ t → IsTrue free ↔ (kept_at store.owners b ≡ no_owner) → IsMapped image store (suc b)
   agrees_by true e h = mapped (λ _. free_then e) (λ _. absent_then (h.0 e))
   agrees_by false e h =
-      let other : kept_at store.owners b ≢ Free = λ o. clash (h.1 o) e in
+      let other : kept_at store.owners b ≢ no_owner = λ o. clash (h.1 o) e in
       mapped (λ a. absurd (then_absent a other)) (λ k. absurd (clash (then_free k) e))
 
-  pub agrees : IsTrue free ↔ (kept_at store.owners b ≡ Free) → IsMapped image store (suc b)
+  pub agrees : IsTrue free ↔ (kept_at store.owners b ≡ no_owner) → IsMapped image store (suc b)
   agrees h = agrees_by free refl h
 
 pub fits_alone : (image : List ℕ) (store : StoreValue) (b : ℕ) → IsOwnBegun image → b ≡ blocks image → IsMapped image store b → StoreFits image store
@@ -152,7 +151,7 @@ module _ (i b : ℕ) {image : List ℕ} {store : StoreValue} {pages : List ℕ} 
   bit_refused (Err f) h = bit_fault f h
 
   -- or it is
-  pub bit_agrees : IsTrue free ↔ (kept_at store.owners b ≡ Free) → IsMapped image store (b + 1)
+  pub bit_agrees : IsTrue free ↔ (kept_at store.owners b ≡ no_owner) → IsMapped image store (b + 1)
   bit_agrees h = let next : suc b ≡ b + 1 = omega arith in subst (IsMapped image store) next (agrees free hi listed.listed refl here st h)
 
 -- whether a bit is set
@@ -162,14 +161,14 @@ bit_told word bit = (not (bit_and word (2 ^ bit) == 0), grind (arith, nat_tests)
 -- where the bits of a word are set for the blocks without an owner alone, the bitmap agrees on these blocks
 pub word_agrees : (i n : ℕ) {image : List ℕ} {store : StoreValue} {pages : List ℕ} {word : ℕ} → n ≤ 32 → 2 + 32 * i + n ≤ blocks image
     → IsOwnBegun image → AreListed image pages (pages_needed (blocks image)) → word ≡ word_in image (slice_index pages (i / 127)) (1 + i % 127)
-    → ((b : ℕ) → 2 + 32 * i ≤ b → b < 2 + 32 * i + n → IsBitSet word (b - (2 + 32 * i)) ↔ (kept_at store.owners b ≡ Free))
+    → ((b : ℕ) → 2 + 32 * i ≤ b → b < 2 + 32 * i + n → IsBitSet word (b - (2 + 32 * i)) ↔ (kept_at store.owners b ≡ no_owner))
     → IsMapped image store (2 + 32 * i) → IsMapped image store (2 + 32 * i + n)
 word_agrees i zero {image = image} {store = store} few hi begun listed is agree st = grind (arith, common_steps)
 word_agrees i (suc n) {image = image} {store = store} {word = word} few hi begun listed is agree st =
     let b : ℕ = 2 + 32 * i + n in
     let before : IsMapped image store b = word_agrees i n (omega arith) (omega arith) begun listed is (λ c lo lt. agree c lo (omega arith)) st in
     let told = bit_told word (b - (2 + 32 * i)) in
-    let here : IsBitSet word (b - (2 + 32 * i)) ↔ (kept_at store.owners b ≡ Free) = agree b (omega arith) (omega arith) in
+    let here : IsBitSet word (b - (2 + 32 * i)) ↔ (kept_at store.owners b ≡ no_owner) = agree b (omega arith) (omega arith) in
     let next : 2 + 32 * i + n + 1 ≡ 2 + 32 * i + suc n = omega arith in
     subst (IsMapped image store) next
     (bit_agrees i b (omega arith) (omega arith) (omega arith) begun listed before is told.1

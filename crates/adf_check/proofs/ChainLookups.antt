@@ -32,8 +32,6 @@ use Rattle.adf_volume.proofs.Lists.{at_below, at_fun, at_map, at_some, at_unmap,
 use Rattle.adf_volume.proofs.TreeOrder.{DirNode, is_dir, ordered}
 use Rattle.adf_check.specs.Lookup.{headed}
 use Rattle.adf_check.specs.Reading.{StoreFits}
-use Rattle.adf_walk.specs.declared.kept_owner.KeptOwner.{KeptOwner}
-use Rattle.adf_walk.specs.declared.kept_owner.KeptOwner.TheVariants as kept
 use Rattle.adf_walk.specs.KeptOwner.{kept_at}
 use Rattle.adf_check.specs.Store.{StoreValue}
 use Rattle.adf_check.specs.StoreStands.{StoreStandsForBy}
@@ -55,12 +53,12 @@ module _ (letters : Letters) (image : List ℕ) (b : ℕ) (name : List ℕ) {tol
   other_name e same = grind (arith, common_steps, bytes_eq-Decides, told_is)
 
 -- the nodes from that of the header at a block on, by its owner
-abbrev node_left : ℕ → KeptOwner → ℕ
-node_left headers (kept.Head n) = suc headers - n
-node_left headers _ = 0
+abbrev node_left : ℕ → Option ℕ → ℕ
+node_left headers (Some n) = suc headers - n
+node_left headers None = 0
 
 abbrev pub chain_left : StoreValue → ℕ → ℕ
-chain_left store b = node_left (length store.headers) (kept_at store.owners b)
+chain_left store b = node_left (length store.headers) (headed (kept_at store.owners b))
 
 -- the block that a header's word names next
 abbrev next_in : List ℕ → ℕ → ℕ
@@ -137,11 +135,11 @@ module _ {image : List ℕ} {store : StoreValue} {letters : Letters} {t : Tree} 
 
     -- the owner of a header, and the nodes from it on
     left_at : (j n : ℕ) → At (nodes_named letters t p name) j n → {b : ℕ} → at_node image l n ≡ b
-        → (kept_at store.owners b ≡ kept.Head n) × (chain_left store b ≡ suc (length store.headers) - n) × (n ≤ length store.headers)
+        → (headed (kept_at store.owners b) ≡ Some n) × (chain_left store b ≡ suc (length store.headers) - n) × (n ≤ length store.headers)
     left_at j n a {b = b} is =
         let x = entry_at letters t p (slot_by letters name) j n a in
-        let o : kept_at store.owners b ≡ kept.Head n =
-        k.owners.part (AHead n) b (part_owned letters image t l k.fits.places (Head n p (slot_by letters name) j) b (a, is)) in
+        let o : headed (kept_at store.owners b) ≡ Some n =
+        ap headed (k.owners.part (AHead n) b (part_owned letters image t l k.fits.places (Head n p (slot_by letters name) j) b (a, is))) in
         (o, ap (node_left (length store.headers)) o, omega (arith, entry_below t n x.entry x.at, k.headers.count))
 
   module _ {p : ℕ} {name : List ℕ} where
@@ -175,7 +173,7 @@ module _ {image : List ℕ} {store : StoreValue} {letters : Letters} {t : Tree} 
       pub chain_found : uppers_by letters (name_of image b) ≡ uppers_by letters name → headed (kept_at store.owners b) ≡ child_by letters t.entries p name
       chain_found u =
           let x = node_entry in
-          ap headed (left_at p name c.place at.0 at.1 at.2).0
+          (left_at p name c.place at.0 at.1 at.2).0
           ∙ sym (chain_yes letters t p (slot_by letters name) name c.place at.0 x.entry k.fits.tree at.1 x.at
           (ap (uppers_by letters) (entry_fits x.entry x.at).name ∙ u))
 
@@ -205,7 +203,7 @@ module _ {image : List ℕ} {store : StoreValue} {letters : Letters} {t : Tree} 
           let left = left_at p name c.place at.0 at.1 at.2 in
           elim (ℕ_discrete (next_in image b) 0) [
             | yes z ↦
-                let boot = ap (kept_at store.owners) z ∙ k.owners.boot 0 (omega arith) (omega (arith, here_inside)) in
+                let boot = ap headed (ap (kept_at store.owners) z ∙ k.owners.boot 0 (omega arith) (omega (arith, here_inside))) in
                 let none : chain_left store (next_in image b) ≡ 0 = ap (node_left (length store.headers)) boot in
                 omega (arith, left.1, left.2)
             | no more ↦

@@ -28,8 +28,7 @@ use Rattle.adf_volume.specs.Fault.{fault}
 use Rattle.adf_check.specs.Reading.{IsAtSlot, IsInChain, Sees, sees_of}
 use Rattle.adf_check.specs.declared.chains.Chain.{Chain}
 use Rattle.adf_check.specs.declared.claims.Link.{Link}
-use Rattle.adf_walk.specs.declared.kept_owner.KeptOwner.TheVariants.{Free}
-use Rattle.adf_walk.specs.KeptOwner.{kept_at}
+use Rattle.adf_walk.specs.KeptOwner.{kept_at, no_owner}
 use Rattle.adf_check.specs.Store.{StoreValue}
 use Rattle.adf_check.proofs.ClaimSteps.{IsNextAt, IsStored, form_fault, gathered, name_fault, read_one, read_to}
 use Rattle.adf_check.specs.Own.{IsOwnFault}
@@ -95,7 +94,7 @@ module _ {image : List ℕ} {store : StoreValue} {chain : Chain} {link : Link} {
   }
 
   -- the block is free
-  module _ (range : InRange (length store.owners) link.block) (free : kept_at store.owners link.block ≡ Free) where
+  module _ (range : InRange (length store.owners) link.block) (free : kept_at store.owners link.block ≡ no_owner) where
     -- and holds a header, whose name was not seen
     pub next_chain : AllHold (head_demands_by (letters_of image) image (kind_of image) link.block chain.up chain.slot)
         → (seen (uppers_by (letters_of image) (name_of image link.block)) → ⊥) → (seen' : List ℕ → Type 0)
@@ -118,7 +117,7 @@ module _ {image : List ℕ} {store : StoreValue} {chain : Chain} {link : Link} {
 -- what was read of it
 module _ {image : List ℕ} {store : StoreValue} {chain : Chain} {link : Link} (names : Names) (lt : chain.slot < SLOTS)
     (st : IsInChain image store chain link (sees_of names)) (ne : link.block ≢ 0) (range : InRange (length store.owners) link.block)
-    (free : kept_at store.owners link.block ≡ Free)
+    (free : kept_at store.owners link.block ≡ no_owner)
     {kind : Kind} {l : Letters} {bytes : List ℕ} (is_kind : kind ≡ kind_of image) (is_letters : l ≡ letters_of image)
     (is_block : bytes ≡ block image link.block) where
   -- the form of the block, as it is read and as the image has it

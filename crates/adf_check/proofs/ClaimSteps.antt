@@ -22,8 +22,7 @@ use Rattle.adf_volume.specs.declared.fault.Fault.{Fault}
 use Rattle.adf_volume.specs.Fault.{fault}
 use Rattle.adf_check.specs.Reading.{HasRead}
 use Rattle.adf_walk.specs.declared.kept_header.KeptHeader.{KeptHeader}
-use Rattle.adf_walk.specs.declared.kept_owner.KeptOwner.TheVariants.{Free}
-use Rattle.adf_walk.specs.KeptOwner.{kept_at}
+use Rattle.adf_walk.specs.KeptOwner.{kept_at, no_owner}
 use Rattle.adf_check.specs.Store.{StoreValue, next_kept, push_header, push_block, ext_file, data_file, is_dir_at, stored, StoreMatches}
 use Rattle.adf_check.proofs.StoreSteps.{free_absent, taken_present, tells_more}
 use Rattle.adf_check.specs.Own.{IsOwnFault}
@@ -108,7 +107,7 @@ module _ {image : List ℕ} {store : StoreValue} {w : Walk} {r : Role} {a b : �
     claim_refused (Ok y) h = tt
     claim_refused (Err f) h = claim_fault f h
 
-    module _ (range : InRange (length store.owners) b) (free : kept_at store.owners b ≡ Free) where
+    module _ (range : InRange (length store.owners) b) (free : kept_at store.owners b ≡ no_owner) where
       abbrev late_demands : List Demand
       late_demands = form_demands_by (letters_of image) image w r b ++ demand SameName b (NewNameBy (letters_of image) image w r b) ∷ []
 

@@ -26,8 +26,7 @@ use Rattle.adf_check.specs.declared.datas.Datas.{Datas}
 use Rattle.adf_check.specs.declared.file.File.{File}
 use Rattle.adf_volume.specs.Start.{IsOwnBegun}
 use Rattle.adf_check.specs.Reading.{HasRead, IsAtNode, IsInDatas}
-use Rattle.adf_walk.specs.declared.kept_owner.KeptOwner.TheVariants.{Free}
-use Rattle.adf_walk.specs.KeptOwner.{kept_at}
+use Rattle.adf_walk.specs.KeptOwner.{kept_at, no_owner}
 use Rattle.adf_check.specs.Store.{StoreValue}
 use Rattle.adf_check.proofs.NodeSteps.{at_or}
 use Rattle.adf_check.proofs.NumberBounds.{many_blocks}
@@ -106,7 +105,7 @@ module _ {image : List ℕ} {store : StoreValue} {datas : Datas} {k : ℕ} {link
       let head : node_block st.walk datas.file.node ≡ datas.file.head = file_is image st.walk datas.file.node datas.file.head st.read.is_walk st.holds.head in
       rw (are.count, st.holds.size, one, head, next_here (nat_lt (suc k) (data_count image datas.file.head)) refl) refl
 
-  module _ (range : InRange (length store.owners) link.block) (free : kept_at store.owners link.block ≡ Free) where
+  module _ (range : InRange (length store.owners) link.block) (free : kept_at store.owners link.block ≡ no_owner) where
     pub data_fault : (c : Cause) → FirstFails (data_asked image datas link.block k) link.block c → IsOwnFault image (fault link.block c)
     data_fault c f = form_fault data_named data_enough range free c (subst (λ ds. FirstFails ds link.block c) form_is f)
 

@@ -23,8 +23,7 @@ use Rattle.adf_check.specs.Reading.{HasTable, IsInDatas, IsInExts, IsInNode}
 use Rattle.adf_check.specs.Datas.{first_ext}
 use Rattle.adf_check.specs.declared.claims.Link.{Link}
 use Rattle.adf_check.specs.declared.file.File.{File}
-use Rattle.adf_walk.specs.declared.kept_owner.KeptOwner.TheVariants.{Free}
-use Rattle.adf_walk.specs.KeptOwner.{kept_at}
+use Rattle.adf_walk.specs.KeptOwner.{kept_at, no_owner}
 use Rattle.adf_check.specs.Store.{StoreValue}
 use Rattle.adf_check.proofs.ClaimSteps.{IsNextAt, IsStored, form_fault, gathered, read_one, read_to}
 use Rattle.adf_check.specs.Own.{IsOwnFault}
@@ -72,7 +71,7 @@ module _ {image : List ℕ} {store : StoreValue} {file : File} {table : List ℕ
   form_at P = subst (λ x. P (ext_demands image link.block x)) (sym (file_is image st.walk file.node file.head st.read.is_walk st.holds.head))
 
   -- what was read of it
-  module _ (range : InRange (length store.owners) link.block) (free : kept_at store.owners link.block ≡ Free) {bytes : List ℕ}
+  module _ (range : InRange (length store.owners) link.block) (free : kept_at store.owners link.block ≡ no_owner) {bytes : List ℕ}
       (is_block : bytes ≡ block image link.block) where
     cause_is : first_cause (ext_form link.block file.head bytes) ≡ first_cause (ext_form link.block file.head (block image link.block))
     cause_is = ap (λ x. first_cause (ext_form link.block file.head x)) is_block

@@ -23,8 +23,7 @@ use Rattle.adf_volume.specs.Positions.{word_of_map_ext, word_of_page}
 use Rattle.adf_volume.specs.Fault.{fault}
 use Rattle.adf_check.specs.Pages.{AreListed}
 use Rattle.adf_check.specs.Reading.{HasRead, IsAtNode, IsAtPage, IsBeforePage, block_of_page, block_of_map_ext}
-use Rattle.adf_walk.specs.declared.kept_owner.KeptOwner.TheVariants.{Free}
-use Rattle.adf_walk.specs.KeptOwner.{kept_at}
+use Rattle.adf_walk.specs.KeptOwner.{kept_at, no_owner}
 use Rattle.adf_check.specs.Store.{StoreValue}
 use Rattle.adf_check.proofs.ClaimSteps.{IsNextAt, IsStored, form_fault, read_one, read_to}
 use Rattle.adf_check.specs.Own.{IsOwnWalk, IsOwnFault}
@@ -66,7 +65,7 @@ module _ {image : List ℕ} {store : StoreValue} {i a b : ℕ} (needed : i < pag
   pub page_by_number : b ≡ block_of_page image i
   page_by_number = sym (names_is image st.walk i b a (word_of_page i) st.read.is_walk st.named (sym named))
 
-  module _ (range : InRange (length store.owners) b) (free : kept_at store.owners b ≡ Free) {bytes : List ℕ} (is_block : bytes ≡ block image b) where
+  module _ (range : InRange (length store.owners) b) (free : kept_at store.owners b ≡ no_owner) {bytes : List ℕ} (is_block : bytes ≡ block image b) where
     pub page_fault : (c : Cause) → first_cause (page_form bytes) ≡ Some c → IsOwnFault image (fault b c)
     page_fault c f =
         form_fault page_named tt range free c (first_demanded b (page_form (block image b)) c
@@ -91,7 +90,7 @@ module _ {image : List ℕ} {store : StoreValue} {i a b : ℕ} (needed : i < pag
   pub map_ext_named : IsNextAt image store st.walk (MapExt number) a b
   map_ext_named = grind (arith, common_steps, read_to, map_ext_next, map_ext_asks)
 
-  pub map_ext_done : InRange (length store.owners) b → kept_at store.owners b ≡ Free → {new : StoreValue} → IsStored image store new (MapExt number) b
+  pub map_ext_done : InRange (length store.owners) b → kept_at store.owners b ≡ no_owner → {new : StoreValue} → IsStored image store new (MapExt number) b
       → IsAtPage image new i b
   map_ext_done range free {new = new} stored = record {
     walk = (MapExt number, b) ∷ st.walk;

@@ -8,32 +8,37 @@ use Rattle.adf_volume.specs.Walk.Role.{Root as TheRoot}
 use Rattle.adf_volume.specs.Walk.IsWalkBy.{start}
 use Rattle.adf_volume.specs.Start.{IsOwnBegun}
 use Rattle.adf_volume.proofs.PositionSteps.{with_root}
-use Rattle.adf_walk.specs.declared.kept_owner.KeptOwner.{KeptOwner, TheVariants.Free, TheVariants.Boot, TheVariants.Root}
-use Rattle.adf_walk.specs.KeptOwner.{claimed_count, kept_at}
+use Rattle.adf_walk.specs.declared.kept_owner.KeptOwner.{KeptOwner}
+use Rattle.adf_walk.specs.declared.owner_class.OwnerClass.TheVariants.{Root}
+use Rattle.adf_walk.specs.KeptOwner.{boot_owner, claimed_count, kept_at, no_owner}
 use Rattle.adf_check.specs.Reading.{IsBeforePage}
 use Rattle.adf_check.specs.Store.{StoreValue, StoreMatches}
 use Rattle.adf_check.proofs.StoreSteps.{tells_more}
 use Rattle.adf_check.proofs.NumberBounds.{many_blocks}
 
+-- what is kept of the root
+abbrev root_owner : KeptOwner
+root_owner = record { class = Root; place = 0 }
+
 -- the owners of 2 + m blocks of which nothing is claimed
 abbrev pub new_owners : ℕ → List KeptOwner
-new_owners m = Boot ∷ Boot ∷ replicate m Free
+new_owners m = boot_owner ∷ boot_owner ∷ replicate m no_owner
 
 -- and of which the root alone is
 abbrev pub owners_of : ℕ → ℕ → List KeptOwner
-owners_of m root = set (new_owners m) root Root
+owners_of m root = set (new_owners m) root root_owner
 
 -- what is kept when the root alone was read
 abbrev pub first_store : List KeptOwner → StoreValue
 first_store owners = record { owners = owners; headers = []; dirs = 0; starts = []; exts = []; datas = []; used = 1 }
 
 new_length : (m : ℕ) → length (new_owners m) ≡ 2 + m
-new_length m = let z : length {A = KeptOwner} (replicate m Free) ≡ m = length-replicate m Free in omega arith
+new_length m = let z : length {A = KeptOwner} (replicate m no_owner) ≡ m = length-replicate m no_owner in omega arith
 
-new_boot : (m b : ℕ) → b < 2 → kept_at (new_owners m) b ≡ Boot
+new_boot : (m b : ℕ) → b < 2 → kept_at (new_owners m) b ≡ boot_owner
 new_boot m b h = grind (arith, common_steps)
 
-new_free : (m b : ℕ) → 2 ≤ b → b < 2 + m → kept_at (new_owners m) b ≡ Free
+new_free : (m b : ℕ) → 2 ≤ b → b < 2 + m → kept_at (new_owners m) b ≡ no_owner
 new_free m b l h = grind (arith, common_steps)
 
 -- nothing is read and nothing is claimed
@@ -58,17 +63,17 @@ root_read image m root begun size root_is low high = record {
   holder = record { root = (λ _. refl); ext = (λ l. absurd (omega arith)) };
 }
 
-none_owned : (m : ℕ) → claimed_count (replicate m Free) ≡ 0
+none_owned : (m : ℕ) → claimed_count (replicate m no_owner) ≡ 0
 none_owned zero = refl
 none_owned (suc m) = none_owned m
 
 pub begun_with_root : (image : List ℕ) (n : ℕ) (owners new : List KeptOwner) → IsOwnBegun image → n ≡ blocks image → owners ≡ new_owners (n - 2)
-    → new ≡ set owners (root_of image) Root → claimed_count new ≡ claimed_count owners + 1
+    → new ≡ set owners (root_of image) root_owner → claimed_count new ≡ claimed_count owners + 1
     → IsBeforePage image (record { owners = new; headers = []; dirs = 0; starts = []; exts = []; datas = []; used = claimed_count new }) 0
     (root_of image)
 begun_with_root image n owners new begun size e f count =
     let many : 4 ≤ blocks image = many_blocks image begun in
-    let claimed : new ≡ owners_of (n - 2) (root_of image) = f ∙ ap (λ os. set os (root_of image) Root) e in
+    let claimed : new ≡ owners_of (n - 2) (root_of image) = f ∙ ap (λ os. set os (root_of image) root_owner) e in
     let one : claimed_count new ≡ 1 = count ∙ ap (λ os. claimed_count os + 1) e ∙ ap (λ m. m + 1) (none_owned (n - 2)) in
     let kept : first_store (owners_of (n - 2) (root_of image))
     ≡ record { owners = new; headers = []; dirs = 0; starts = []; exts = []; datas = []; used = claimed_count new } =
@@ -76,5 +81,5 @@ begun_with_root image n owners new begun size e f count =
     subst (λ s. IsBeforePage image s 0 (root_of image)) kept (root_read image (n - 2) (root_of image) begun (omega arith) refl (omega arith) (omega arith))
 
 pub root_is_free : (image : List ℕ) (n : ℕ) (owners : List KeptOwner) → IsOwnBegun image → n ≡ blocks image → owners ≡ new_owners (n - 2)
-    → kept_at owners (root_of image) ≡ Free
+    → kept_at owners (root_of image) ≡ no_owner
 root_is_free image n owners begun size e = grind (arith, common_steps, many_blocks, new_free)

@@ -19,8 +19,9 @@ use Rattle.adf_volume.proofs.WholeWalks.{head_is, entry_is}
 use Rattle.adf_volume.proofs.WalkOwners.{owned_has, is_owned}
 use Rattle.adf_walk.specs.declared.kept_header.KeptHeader.{KeptHeader}
 use Rattle.adf_walk.specs.declared.kept_owner.KeptOwner.{KeptOwner}
-use Rattle.adf_walk.specs.declared.kept_owner.KeptOwner.TheVariants as kept
-use Rattle.adf_walk.specs.KeptOwner.{kept_at}
+use Rattle.adf_walk.specs.declared.owner_class.OwnerClass.{OwnerClass}
+use Rattle.adf_walk.specs.declared.owner_class.OwnerClass.TheVariants as class
+use Rattle.adf_walk.specs.KeptOwner.{kept_at, no_owner}
 use Rattle.adf_walk.specs.Places.{kept_as, start_of}
 use Rattle.adf_check.specs.Store.{StoreValue, blocks_before, data_file, ext_file, file_blocks}
 use Rattle.adf_check.specs.Reading.{StoreFits}
@@ -31,9 +32,13 @@ use Rattle.adf_check.proofs.FileBlocks.{exts_apart, exts_stored, datas_apart, da
 use Rattle.adf_check.proofs.KeptPlaces.{at_whole, data_node, ext_node, one_place, start_at}
 use Rattle.adf_volume.specs.Image.{letters_of}
 
-is_free : (o : KeptOwner) → (o ≡ kept.Free) ⊎ (o ≢ kept.Free)
-is_free kept.Free = inl refl
-is_free _ = inr (λ e. cc)
+is_free : (o : KeptOwner) → (o ≡ no_owner) ⊎ (o ≢ no_owner)
+is_free o = by o.class o.place
+  where
+    by : (c : OwnerClass) (i : ℕ) → (record { class = c; place = i } ≡ no_owner) ⊎ (record { class = c; place = i } ≢ no_owner)
+    by class.Free zero = inl refl
+    by class.Free (suc i) = inr (λ e. let past : suc i ≡ 0 = ap (λ (o : KeptOwner). o.place) e in omega arith)
+    by c i = inr (λ e. let free : c ≡ class.Free = ap (λ (o : KeptOwner). o.class) e in cc)
 
 module _ (image : List ℕ) (store : StoreValue) (st : StoreFits image store) where
   headers_fit : HeadersFit image (tree_in_by (letters_of image) image st.walk) (layout_in st.walk) store.headers
@@ -87,7 +92,7 @@ module _ (image : List ℕ) (store : StoreValue) (st : StoreFits image store) wh
         one_place (λ r. is_some (ext_file r)) st.walk (walked_once st.read.is_walk) x.0 (blocks_before ext_file st.walk n + k)
             b x.1 at,
       ) in
-      x.2 ∙ ap kept.Ext place
+      x.2 ∙ ap (λ i. record { class = class.Ext; place = i }) place
   kept_fits (Data n zero) b h = absurd (agreed (Data n zero) b h)
   kept_fits (Data n (suc k)) b h =
       let x = st.read.tells.owns.assigned (Data n (suc k)) b h in
@@ -102,7 +107,7 @@ module _ (image : List ℕ) (store : StoreValue) (st : StoreFits image store) wh
         one_place (λ r. is_some (data_file r)) st.walk (walked_once st.read.is_walk) x.0 (blocks_before data_file st.walk n + k)
             b x.1 at,
       ) in
-      x.2 ∙ ap kept.Data place
+      x.2 ∙ ap (λ i. record { class = class.Data; place = i }) place
   kept_fits r b h = st.read.tells.owns.assigned r b h
 
   owners_fit : OwnersFit image (layout_in st.walk) store.starts store.owners

@@ -1,6 +1,6 @@
 -- The store still matches a walk with one more member.
-use Rattle.std.proofs.Common.{◌≡◌, ◌==◌, ℕ, suc, List, [], ◌∷◌, ◌++◌, inl, inr, ◌+◌, ◌<◌, ◌≤◌, ◌≢◌, length, Option, Bool, refl, sym, ap, subst, ◌∙◌}
-use Rattle.std.proofs.Common.{arith, set, is_some, length-set, get_or-set_same, get_or-set_other, count_by}
+use Rattle.std.proofs.Common.{◌≡◌, ◌==◌, ℕ, suc, List, [], ◌∷◌, ◌++◌, inl, inr, ◌+◌, ◌<◌, ◌≤◌, ◌≢◌, length, Option, Bool, true, false, refl, sym, ap, subst}
+use Rattle.std.proofs.Common.{◌∙◌, arith, set, is_some, length-set, get_or-set_same, get_or-set_other, count_by}
 use Rattle.std.specs.Int.{from_bool}
 use Rattle.std.proofs.lemmas.List.Sums.{sum_by-append}
 use Rattle.std.proofs.lemmas.Grind.{common_steps}
@@ -14,18 +14,17 @@ use Rattle.adf_volume.specs.Walk.Role.{Head, Ext, Data}
 use Rattle.adf_volume.proofs.Lists.{at_new, at_old, at_below, snoc_length}
 use Rattle.adf_walk.specs.declared.kept_header.KeptHeader.{KeptHeader}
 use Rattle.adf_walk.specs.declared.kept_owner.KeptOwner.{KeptOwner}
-use Rattle.adf_walk.specs.declared.kept_owner.KeptOwner.TheVariants as kept
-use Rattle.adf_walk.specs.KeptOwner.{kept_at}
+use Rattle.adf_walk.specs.KeptOwner.{is_claimed, kept_at, no_owner}
 use Rattle.adf_check.specs.Store.{StoreValue, IsKept, Owns, KeepsHeaders, StoreMatches, file_blocks, next_kept}
 use Rattle.adf_check.specs.Store.{push_header, push_block, ext_file, data_file, is_dir_at, blocks_before, stored}
 use Rattle.adf_volume.specs.Made.{picked}
 use Rattle.adf_check.proofs.FileBlocks.{TellsFile, data_tells, ext_tells, not_below}
 
 -- no block of a role is kept as free
-kept_not_free : (w : Walk) (r : Role) (b : ℕ) (o : KeptOwner) → IsKept w r b o → o ≢ kept.Free
-kept_not_free w (Ext n m) b o k e = let is : o ≡ kept.Ext k.0 = k.2 in cc
-kept_not_free w (Data n m) b o k e = let is : o ≡ kept.Data k.0 = k.2 in cc
-kept_not_free w _ b o k e = cc
+kept_not_free : (w : Walk) (r : Role) (b : ℕ) (o : KeptOwner) → IsKept w r b o → o ≢ no_owner
+kept_not_free w (Ext n m) b o k e = let claimed : true ≡ false = ap is_claimed (sym k.2 ∙ e) in cc
+kept_not_free w (Data n m) b o k e = let claimed : true ≡ false = ap is_claimed (sym k.2 ∙ e) in cc
+kept_not_free w _ b o k e = let claimed : true ≡ false = ap is_claimed (sym k ∙ e) in cc
 
 -- a place in the list of a walk stays where it is
 at_more : (f : Role → Bool) (w : Walk) (x : Role × ℕ) (i b : ℕ) → At (picked f w) i b → At (picked f (x ∷ w)) i b
@@ -48,22 +47,22 @@ row_same p b q c x z = λ i. record { parent = x i; head = z i }
 
 module _ (image : List ℕ) (owners : List KeptOwner) (w : Walk) (t : Owns image owners w) where
   -- a free block is in no role
-  pub free_absent : (b : ℕ) → kept_at owners b ≡ kept.Free → IsAbsent w b
+  pub free_absent : (b : ℕ) → kept_at owners b ≡ no_owner → IsAbsent w b
   free_absent b h q k = kept_not_free w q b (kept_at owners b) (t.assigned q b k) h
 
   -- and the other way round
-  pub taken_present : (b : ℕ) → 2 ≤ b → b < blocks image → kept_at owners b ≢ kept.Free → IsAbsent w b → ⊥
+  pub taken_present : (b : ℕ) → 2 ≤ b → b < blocks image → kept_at owners b ≢ no_owner → IsAbsent w b → ⊥
   taken_present b lo hi h a = let x = t.owned b lo hi h in a x.0 x.1
 
   other : (o : KeptOwner) (x b : ℕ) → (x ≡ b → ⊥) → kept_at (set owners b o) x ≡ kept_at owners x
   other o x b ne = let ne' : x ≢ b = ne in rw get_or-set_other refl
 
   -- a free block gets an owner
-  owns_more : (r : Role) (b : ℕ) (o : KeptOwner) → IsKept ((r, b) ∷ w) r b o → 2 ≤ b → b < blocks image → kept_at owners b ≡ kept.Free
+  owns_more : (r : Role) (b : ℕ) (o : KeptOwner) → IsKept ((r, b) ∷ w) r b o → 2 ≤ b → b < blocks image → kept_at owners b ≡ no_owner
       → Owns image (set owners b o) ((r, b) ∷ w)
   owns_more r b o is lo hi h =
       let size : length owners ≡ blocks image = t.size in
-      let here : kept_at (set owners b o) b ≡ o = get_or-set_same owners b o kept.Free (omega arith) in
+      let here : kept_at (set owners b o) b ≡ o = get_or-set_same owners b o no_owner (omega arith) in
       record {
         size = length-set owners b o ∙ size;
         boot = (λ x l m. other o x b (λ e. omega arith) ∙ t.boot x l m);
@@ -103,7 +102,7 @@ dirs_more image headers p b {dirs = dirs} {one = one} {is_dir = is_dir} before i
 -- one member of a walk more
 pub tells_more : (image : List ℕ) (store : StoreValue) (w : Walk) (r : Role) (b : ℕ)
     → ((n p s j : ℕ) → r ≡ Head n p s j → n ≡ suc (heads w))
-    → length store.starts ≤ first r → StoreMatches image store w → 2 ≤ b → b < blocks image → kept_at store.owners b ≡ kept.Free
+    → length store.starts ≤ first r → StoreMatches image store w → 2 ≤ b → b < blocks image → kept_at store.owners b ≡ no_owner
     → StoreMatches image (stored image store r b) ((r, b) ∷ w)
 tells_more image store w r b f l t lo hi h = record {
   owns = owns_more image store.owners w t.owns r b (next_kept store r) (kept_next store w t.exts t.datas r b) lo hi h;

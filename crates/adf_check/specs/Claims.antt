@@ -1,11 +1,10 @@
 -- Claims of blocks that a word points to.
 use Rattle.std.specs.Prelude.{◌≡◌, ◌≢◌, ◌⊎◌, ◌≤◌, ◌<◌, ℕ, List, length}
 use Rattle.adf_blocks.specs.declared.cause.Cause.TheVariants.{OutOfRange, Taken}
-use Rattle.adf_walk.specs.KeptOwner.{kept_at}
+use Rattle.adf_walk.specs.KeptOwner.{kept_at, no_owner}
 use Rattle.adf_volume.specs.Fault.{fault}
 use Rattle.adf_volume.specs.declared.fault.Fault.{Fault}
 use Rattle.adf_walk.specs.declared.kept_owner.KeptOwner.{KeptOwner}
-use Rattle.adf_walk.specs.declared.kept_owner.KeptOwner.TheVariants.{Free}
 
 -- block b may belong to a part of a volume of n blocks
 abbrev pub InRange : ℕ → ℕ → Type 0
@@ -15,4 +14,4 @@ InRange n b = (2 ≤ b) × (b < n)
 abbrev pub IsClaimFault : List KeptOwner → ℕ → ℕ → Fault → Type 0
 IsClaimFault owners holder b f =
     ((InRange (length owners) b → ⊥) × (f ≡ fault holder OutOfRange))
-    ⊎ (InRange (length owners) b × (kept_at owners b ≢ Free) × (f ≡ fault b Taken))
+    ⊎ (InRange (length owners) b × (kept_at owners b ≢ no_owner) × (f ≡ fault b Taken))

@@ -3,11 +3,10 @@ use Rattle.std.specs.Prelude.{◌≡◌, ◌≢◌, ◌⊎◌, Bool, true, false
 use Rattle.adf_blocks.specs.Sizes.{blocks}
 use Rattle.adf_blocks.specs.declared.cause.Cause.TheVariants.{LostBlock, OwnedFree}
 use Rattle.adf_check.specs.Reading.{IsListed}
-use Rattle.adf_walk.specs.KeptOwner.{kept_at}
+use Rattle.adf_walk.specs.KeptOwner.{kept_at, no_owner}
 use Rattle.adf_volume.specs.Fault.{fault}
 use Rattle.adf_volume.specs.declared.fault.Fault.{Fault}
 use Rattle.adf_walk.specs.declared.kept_owner.KeptOwner.{KeptOwner}
-use Rattle.adf_walk.specs.declared.kept_owner.KeptOwner.TheVariants.{Free}
 
 -- these are the blocks of the first k pages, and they are inside the image
 pub record AreListed (image : List ℕ) (pages : List ℕ) (k : ℕ) : Type 0 where
@@ -17,4 +16,4 @@ pub record AreListed (image : List ℕ) (pages : List ℕ) (k : ℕ) : Type 0 wh
 -- the bit of block b disagrees with its owner
 abbrev pub IsBitFault : List KeptOwner → ℕ → Bool → Fault → Type 0
 IsBitFault owners b is_free f =
-    ((is_free ≡ false) × (kept_at owners b ≡ Free) × (f ≡ fault b LostBlock)) ⊎ ((is_free ≡ true) × (kept_at owners b ≢ Free) × (f ≡ fault b OwnedFree))
+    ((is_free ≡ false) × (kept_at owners b ≡ no_owner) × (f ≡ fault b LostBlock)) ⊎ ((is_free ≡ true) × (kept_at owners b ≢ no_owner) × (f ≡ fault b OwnedFree))

@@ -8,11 +8,13 @@ use Rattle.adf_blocks.specs.Sizes.{blocks}
 use Rattle.adf_volume.specs.Image.{word_in}
 use Rattle.adf_volume.specs.Lists.{At}
 use Rattle.adf_volume.specs.Walk.{Role, Has, heads, Walk}
-use Rattle.adf_volume.specs.Walk.Role.{Root, Page, MapExt, Head, Ext, Data}
+use Rattle.adf_volume.specs.Walk.Role.{Head, Ext, Data}
+use Rattle.adf_volume.specs.LayoutRoles.{owner_of}
 use Rattle.adf_volume.specs.Made.{picked}
-use Rattle.adf_walk.specs.KeptOwner.{claimed_count, kept_at}
+use Rattle.adf_walk.specs.KeptOwner.{boot_owner, claimed_count, kept_at, no_owner}
 use Rattle.adf_walk.specs.declared.kept_owner.KeptOwner.{KeptOwner}
-use Rattle.adf_walk.specs.declared.kept_owner.KeptOwner.TheVariants as kept
+use Rattle.adf_walk.specs.declared.owner_class.OwnerClass.TheVariants as class
+use Rattle.adf_walk.specs.Places.{kept_by}
 use Rattle.adf_walk.specs.declared.kept_header.KeptHeader.{KeptHeader}
 use Rattle.adf_walk.specs.declared.node_start.NodeStart.{NodeStart}
 use Rattle.adf_check.specs.declared.store.Store.{Store}
@@ -77,12 +79,7 @@ blocks_before file w m = length (picked (λ r. is_below m (file r)) w)
 
 -- the owner that is kept of the next block, which is read in this role
 abbrev pub next_kept : StoreValue → Role → KeptOwner
-next_kept store Root = kept.Root
-next_kept store (Page k) = kept.Page k
-next_kept store (MapExt k) = kept.MapExt k
-next_kept store (Head n p s j) = kept.Head n
-next_kept store (Ext n k) = kept.Ext (length store.exts)
-next_kept store (Data n k) = kept.Data (length store.datas)
+next_kept store r = kept_by (λ n k. length store.exts) (λ n k. length store.datas) (owner_of r)
 
 -- the store after block b is read in this role
 abbrev pub stored : List ℕ → StoreValue → Role → ℕ → StoreValue
@@ -102,19 +99,16 @@ entered store = record store { starts = store.starts ++ record { exts = length s
 
 -- the kept owner is that of block b in role r: it has the place of an extension block or a data block among those of all files
 abbrev pub IsKept : Walk → Role → ℕ → KeptOwner → Type 0
-IsKept w Root b o = o ≡ kept.Root
-IsKept w (Page k) b o = o ≡ kept.Page k
-IsKept w (MapExt k) b o = o ≡ kept.MapExt k
-IsKept w (Head n p s j) b o = o ≡ kept.Head n
-IsKept w (Ext n k) b o = (i : ℕ) × At (file_blocks ext_file w) i b × (o ≡ kept.Ext i)
-IsKept w (Data n k) b o = (i : ℕ) × At (file_blocks data_file w) i b × (o ≡ kept.Data i)
+IsKept w (Ext n k) b o = (i : ℕ) × At (file_blocks ext_file w) i b × (o ≡ record { class = class.Ext; place = i })
+IsKept w (Data n k) b o = (i : ℕ) × At (file_blocks data_file w) i b × (o ≡ record { class = class.Data; place = i })
+IsKept w r b o = o ≡ kept_by (λ n k. 0) (λ n k. 0) (owner_of r)
 
 -- the table has the owner of each block of the walk, and no others
 pub record Owns (image : List ℕ) (owners : List KeptOwner) (w : Walk) : Type 0 where
   pub size : length owners ≡ blocks image
-  pub boot : (b : ℕ) → b < 2 → b < blocks image → kept_at owners b ≡ kept.Boot
+  pub boot : (b : ℕ) → b < 2 → b < blocks image → kept_at owners b ≡ boot_owner
   pub assigned : (q : Role) (b : ℕ) → Has w q b → IsKept w q b (kept_at owners b)
-  pub owned : (b : ℕ) → 2 ≤ b → b < blocks image → kept_at owners b ≢ kept.Free → (q : Role) × Has w q b
+  pub owned : (b : ℕ) → 2 ≤ b → b < blocks image → kept_at owners b ≢ no_owner → (q : Role) × Has w q b
 
 -- header i is that of node i + 1
 pub record KeepsHeaders (headers : List KeptHeader) (w : Walk) : Type 0 where

@@ -12,17 +12,16 @@ use Rattle.adf_volume.specs.Fits.{FitsBy}
 use Rattle.adf_walk.specs.declared.kept_header.KeptHeader.{KeptHeader}
 use Rattle.adf_walk.specs.declared.node_start.NodeStart.{NodeStart}
 use Rattle.adf_walk.specs.declared.kept_owner.KeptOwner.{KeptOwner}
-use Rattle.adf_walk.specs.declared.kept_owner.KeptOwner.TheVariants.{Free, Boot}
-use Rattle.adf_walk.specs.KeptOwner.{kept_at}
+use Rattle.adf_walk.specs.KeptOwner.{boot_owner, kept_at, no_owner}
 use Rattle.adf_walk.specs.Places.{kept_as}
 use Rattle.adf_check.specs.Store.{StoreValue}
 
 -- the table has the one owner of each block, kept by the starts of the nodes
 pub record OwnersFit (image : List ℕ) (l : Layout) (starts : List NodeStart) (owners : List KeptOwner) : Type 0 where
   pub size : length owners ≡ blocks image
-  pub boot : (b : ℕ) → b < 2 → b < blocks image → kept_at owners b ≡ Boot
+  pub boot : (b : ℕ) → b < 2 → b < blocks image → kept_at owners b ≡ boot_owner
   pub part : (o : Owner) (b : ℕ) → In (owned image l) (o, b) → kept_at owners b ≡ kept_as starts o
-  pub free : (b : ℕ) → 2 ≤ b → b < blocks image → ((o : Owner) → In (owned image l) (o, b) → ⊥) → kept_at owners b ≡ Free
+  pub free : (b : ℕ) → 2 ≤ b → b < blocks image → ((o : Owner) → In (owned image l) (o, b) → ⊥) → kept_at owners b ≡ no_owner
 
 -- header i has the parent and the block of entry i + 1's header
 pub record HeadersFit (image : List ℕ) (t : Tree) (l : Layout) (headers : List KeptHeader) : Type 0 where

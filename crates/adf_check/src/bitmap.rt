@@ -4,8 +4,7 @@ ghost use Rattle.adf_check.specs.Own.{IsOwnFault};
 ghost use Rattle.std.specs.Prelude.{◌≡◌, ◌<◌, ◌≤◌, ◌+◌, ◌-◌, ◌*◌, ◌↔◌, ℕ, IsBitSet, IsTrue, length, min, OnOk, IfErr};
 ghost use Rattle.adf_blocks.specs.Sizes.{blocks, pages_needed};
 ghost use Rattle.adf_check.specs.Reading.{IsMapped, IsRead, StoreFits};
-ghost use Rattle.adf_walk.specs.declared.kept_owner.KeptOwner.TheVariants.{Free};
-ghost use Rattle.adf_walk.specs.KeptOwner.{kept_at};
+ghost use Rattle.adf_walk.specs.KeptOwner.{kept_at, no_owner};
 ghost use Rattle.adf_check.specs.Store.{store_value};
 ghost use Rattle.adf_check.specs.Pages.{AreListed, IsBitFault};
 
@@ -17,7 +16,7 @@ use adf_walk::OwnerTable;
 // Compares the bit of block `b` with its owner.
 fn check_block(owners: &OwnerTable, b: u32, is_free: bool) -> Result<(), Fault>
     requires { b < length owners.now }
-    ensures ok { OnOk result (IsTrue is_free ↔ (kept_at owners.now b ≡ Free)) }
+    ensures ok { OnOk result (IsTrue is_free ↔ (kept_at owners.now b ≡ no_owner)) }
     ensures fault { IfErr result (λ f. IsBitFault owners.now b is_free f) }
 {
     if owners.is_free(b) {
@@ -39,7 +38,7 @@ fn agree(owners: &OwnerTable, first: u32, end: u32, word: u32) -> bool
     requires inside { end ≤ length owners.now }
     requires word { end ≤ first + 32 }
     ensures { IsTrue result → (b : ℕ) → first ≤ b → b < end
-        → IsBitSet word (b - first) ↔ (kept_at owners.now b ≡ Free) }
+        → IsBitSet word (b - first) ↔ (kept_at owners.now b ≡ no_owner) }
 {
     if word == 0 {
         owners.are_all(first, end, false)

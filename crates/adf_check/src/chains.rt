@@ -15,7 +15,7 @@ use crate::store::Store;
 use adf_blocks::{Cause, Directory, Head, HeadBody, HeadPlace, SLOTS, read_head_at};
 use adf_tree::{NameSet, Node};
 use adf_volume::{Fault, Image, fault_at, no_memory};
-use adf_walk::{KeptHeader, KeptOwner};
+use adf_walk::{KeptHeader, KeptOwner, OwnerClass};
 
 /// The chain of a slot of a directory; `up` is the directory's block.
 #[derive(Drop)]
@@ -64,7 +64,11 @@ fn read_header(
     let letters = image.letters();
     let node = store.headers.len() as u32 + 1;
     let b = link.block;
-    claim_named(&mut store.owners, link.holder, b, KeptOwner::Head(node))?;
+    let owner = KeptOwner {
+        class: OwnerClass::Head,
+        place: node,
+    };
+    claim_named(&mut store.owners, link.holder, b, owner)?;
     let place = HeadPlace {
         own: b,
         parent: chain.up,

@@ -96,7 +96,7 @@ impl Checked<'_> {
             → ((o : Owner) → In (owned self.now.image l) (o, b) → ⊥) → result ≡ Some OwnerClass.Free }
     {
         if b < self.image.blocks() {
-            Some(self.store.owners.at(b).class())
+            Some(self.store.owners.at(b).class)
         } else {
             None
         }

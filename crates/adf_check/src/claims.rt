@@ -2,7 +2,7 @@
 
 ghost use Rattle.adf_check.specs.Claims.{InRange, IsClaimFault};
 ghost use Rattle.std.specs.Prelude.{◌≡◌, ◌+◌, ◌<◌, ◌≤◌, ◌^◌, OnOk, IfErr, length, set, true};
-ghost use Rattle.adf_walk.specs.KeptOwner.{claimed_count, is_claimed, kept_at, place_of};
+ghost use Rattle.adf_walk.specs.KeptOwner.{claimed_count, is_claimed, kept_at, no_owner};
 
 use adf_blocks::Cause;
 use adf_volume::{Fault, fault_at};
@@ -18,9 +18,9 @@ pub struct Link {
 /// Makes `o` the owner of block `b`, which a word of block `holder` points to.
 pub fn claim_named(owners: &mut OwnerTable, holder: u32, b: u32, o: KeptOwner) -> Result<(), Fault>
     requires part { is_claimed o ≡ true }
-    requires place { place_of o < 2 ^ 29 }
+    requires place { o.place < 2 ^ 29 }
     ensures range { OnOk result (InRange (length owners.old) b) }
-    ensures free { OnOk result (kept_at owners.old b ≡ KeptOwner.Free) }
+    ensures free { OnOk result (kept_at owners.old b ≡ no_owner) }
     ensures ok { OnOk result (owners.new ≡ set owners.old b o) }
     ensures len { length owners.new ≡ length owners.old }
     ensures count { OnOk result (claimed_count owners.new ≡ claimed_count owners.old + 1) }

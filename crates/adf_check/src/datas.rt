@@ -16,7 +16,7 @@ use crate::store::Store;
 use adf_blocks::{Cause, POINTERS, Table, read_data};
 use adf_tree::Kind;
 use adf_volume::{Fault, Image, count_of, fault_at, held_in, no_memory};
-use adf_walk::KeptOwner;
+use adf_walk::{KeptOwner, OwnerClass};
 
 /// The data blocks of a file: the file, its table, which is its header and its extension blocks, and their number.
 #[derive(Drop)]
@@ -92,7 +92,11 @@ fn read_data_block(
 {
     let b = link.block;
     let place = store.datas.len() as u32;
-    claim_named(&mut store.owners, link.holder, b, KeptOwner::Data(place))?;
+    let owner = KeptOwner {
+        class: OwnerClass::Data,
+        place,
+    };
+    claim_named(&mut store.owners, link.holder, b, owner)?;
     if let Err(cause) = check_data(image, datas, b, k) {
         return Err(fault_at(b, cause));
     }

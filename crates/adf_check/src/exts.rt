@@ -12,7 +12,7 @@ use crate::file::File;
 use crate::store::Store;
 use adf_blocks::read_ext;
 use adf_volume::{Fault, Image, fault_at, no_memory};
-use adf_walk::KeptOwner;
+use adf_walk::{KeptOwner, OwnerClass};
 
 // Claims and reads the extension block that a link of the file points to, and appends it to the table, which has the
 // header and the earlier extension blocks; returns the next link, of a block 0 at the end.
@@ -31,7 +31,11 @@ fn read_ext_block(
 {
     let b = link.block;
     let place = store.exts.len() as u32;
-    claim_named(&mut store.owners, link.holder, b, KeptOwner::Ext(place))?;
+    let owner = KeptOwner {
+        class: OwnerClass::Ext,
+        place,
+    };
+    claim_named(&mut store.owners, link.holder, b, owner)?;
     let ext = match read_ext(image.block(b), b, file.head) {
         Ok(ext) => ext,
         Err(cause) => return Err(fault_at(b, cause)),

@@ -19,7 +19,7 @@ use adf_base::slot_by;
 use adf_blocks::{Head, HeadBody};
 use adf_tree::{Name, Node};
 use adf_volume::Image;
-use adf_walk::{KeptOwner, OwnerTable};
+use adf_walk::{OwnerClass, OwnerTable};
 
 /// The block of a node.
 pub fn block_of(image: &Image<'_>, store: &Store, node: Node) -> u32
@@ -40,8 +40,9 @@ fn node_at(owners: &OwnerTable, b: u32) -> Option<Node>
     requires { b < length owners.now }
     ensures { result ≡ headed (kept_at owners.now b) }
 {
-    match owners.at(b) {
-        KeptOwner::Head(node) => Some(Node(node as usize)),
+    let kept = owners.at(b);
+    match kept.class {
+        OwnerClass::Head => Some(Node(kept.place as usize)),
         _ => None,
     }
 }

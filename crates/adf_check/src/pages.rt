@@ -15,7 +15,7 @@ use crate::claims::claim_named;
 use crate::store::Store;
 use adf_blocks::{MAP_EXT_PAGES, ROOT_PAGES, Root, page_count, read_map_ext, read_page};
 use adf_volume::{Fault, Image, fault_at, no_memory};
-use adf_walk::KeptOwner;
+use adf_walk::{KeptOwner, OwnerClass};
 use std::alloc::Global;
 
 // Whether page `i` is the first one of a bitmap extension block.
@@ -76,7 +76,11 @@ fn claim_map_ext(
 {
     let b = map_ext_named(image, root, holder, i);
     let j = (i - ROOT_PAGES as u32) / MAP_EXT_PAGES as u32;
-    claim_named(&mut store.owners, holder, b, KeptOwner::MapExt(j))?;
+    let owner = KeptOwner {
+        class: OwnerClass::MapExt,
+        place: j,
+    };
+    claim_named(&mut store.owners, holder, b, owner)?;
     Ok(b)
 }
 
@@ -123,7 +127,11 @@ fn read_page_at(
     ensures fault { IfErr result (IsOwnFault image.now) }
 {
     let b = page_named(image, root, holder, i);
-    claim_named(&mut store.owners, holder, b, KeptOwner::Page(i))?;
+    let owner = KeptOwner {
+        class: OwnerClass::Page,
+        place: i,
+    };
+    claim_named(&mut store.owners, holder, b, owner)?;
     match read_page(image.block(b)) {
         Ok(_) => Ok(b),
         Err(cause) => Err(fault_at(b, cause)),

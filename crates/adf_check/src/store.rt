@@ -11,7 +11,7 @@ ghost use Rattle.adf_check.specs.StoreStands.{StoreStandsForBy};
 
 use adf_base::NoMemory;
 use adf_volume::Image;
-use adf_walk::{KeptHeader, KeptOwner, NodeStart, OwnerTable};
+use adf_walk::{KeptHeader, KeptOwner, NodeStart, OwnerClass, OwnerTable};
 use std::alloc::Global;
 
 /// The state of a check: the owner of each block, the header of each entry, how many of them are of directories, and for
@@ -34,7 +34,11 @@ impl Store {
             IsBeforePage image.now (store_value s) 0 (root_of image.now)) }
     {
         let mut owners = OwnerTable::new(alloc, image.blocks())?;
-        owners.claim(image.root(), KeptOwner::Root).unwrap();
+        let owner = KeptOwner {
+            class: OwnerClass::Root,
+            place: 0,
+        };
+        owners.claim(image.root(), owner).unwrap();
         Ok(Store {
             owners,
             headers: Vec::new(alloc),

@@ -14,12 +14,14 @@ use Rattle.adf_volume.specs.declared.owner.Owner.{Owner}
 use Rattle.adf_volume.specs.declared.owner.Owner.TheVariants as owner
 use Rattle.adf_findings.specs.declared.given_places.GivenPlaces.{GivenPlaces}
 use Rattle.adf_walk.specs.declared.kept_owner.KeptOwner.{KeptOwner}
-use Rattle.adf_walk.specs.declared.kept_owner.KeptOwner.TheVariants.{Free, Boot, Ext, Data}
+use Rattle.adf_walk.specs.declared.owner_class.OwnerClass.{OwnerClass}
+use Rattle.adf_walk.specs.declared.owner_class.OwnerClass.TheVariants.{Free, Ext, Data}
 use Rattle.adf_walk.specs.declared.node_start.NodeStart.{NodeStart}
-use Rattle.adf_walk.specs.KeptOwner.{is_claimed, kept_at}
+use Rattle.adf_walk.specs.KeptOwner.{boot_owner, is_claimed, kept_at, no_owner}
+use Rattle.adf_walk.specs.OwnerClass.{is_part_class}
 use Rattle.adf_walk.specs.Owners.{is_part, owner_at}
-use Rattle.adf_walk.specs.Places.{AreStarts, first_data, first_ext, last_start, owner_kept, start_of}
-use Rattle.adf_findings.specs.WalkOwners.{AreFit, AreGrown, IsInside, IsKeptBy}
+use Rattle.adf_walk.specs.Places.{AreStarts, first_data, first_ext, last_start, owner_kept, owner_with, start_of}
+use Rattle.adf_findings.specs.WalkOwners.{AreFit, AreGrown, IsGiven, IsInside, IsKeptBy}
 use Rattle.adf_walk.proofs.KeptPlaces.{last_is}
 
 at_replicate : (c : ℕ) (x : NodeStart) (n : ℕ) (d : NodeStart) → n < c → get_or (replicate c x) n d ≡ x
@@ -98,18 +100,18 @@ module _ (p : GivenPlaces) (fit : AreFit p) (c : ℕ) where
     | inr past ↦ let e = start_right xs c x n past lt in (omega (arith, ap first_ext e), omega (arith, ap first_data e))
   ]
 
-  same_kept : (k : KeptOwner) → IsInside p.exts p.datas k → owner_kept zs k ≡ owner_kept xs k
-  same_kept (Ext i) lt =
+  same_kept : (class : OwnerClass) (i : ℕ) → IsGiven p.exts p.datas class i → owner_with zs class i ≡ owner_with xs class i
+  same_kept Ext i lt =
       let n : ℕ = last_start first_ext xs i in
       let in' : n < length xs = omega (arith, count_by-le-length (λ s. nat_le (first_ext s) i) xs, fit.exts.some) in
       ap (λ n. owner.Ext n (i - (start_of zs n).exts + 1)) (same_last xs c x first_ext i lt)
       ∙ ap (λ (s : NodeStart). owner.Ext n (i - s.exts + 1)) (start_left xs c x n in')
-  same_kept (Data i) lt =
+  same_kept Data i lt =
       let n : ℕ = last_start first_data xs i in
       let in' : n < length xs = omega (arith, count_by-le-length (λ s. nat_le (first_data s) i) xs, fit.datas.some) in
       ap (λ n. owner.Data n (i - (start_of zs n).datas + 1)) (same_last xs c x first_data i lt)
       ∙ ap (λ (s : NodeStart). owner.Data n (i - s.datas + 1)) (start_left xs c x n in')
-  same_kept k lt = refl
+  same_kept _ i lt = refl
 
   -- nodes are begun
   pub begun_grown : (starts : Vec NodeStart) → starts.items ≡ zs → AreGrown p (record { starts = starts; exts = p.exts; datas = p.datas })
@@ -122,14 +124,14 @@ module _ (p : GivenPlaces) (fit : AreFit p) (c : ℕ) where
           (ends_more n (omega (arith, lt, ap length e))));
       short = fit.short;
     };
-    same = (λ k in'. subst (λ zs. owner_kept zs k ≡ owner_kept xs k) (sym e) (same_kept k in'));
+    same = (λ k in'. subst (λ zs. owner_kept zs k ≡ owner_kept xs k) (sym e) (same_kept k.class k.place in'));
     more = (omega arith, omega arith);
   }
 
 -- block k of the last node that is begun is kept by its place
 module _ (p : GivenPlaces) (fit : AreFit p) (n k place : ℕ) (begun : length p.starts.items ≡ n + 1) (number : 1 ≤ k) (short : place < 2 ^ 29) where
   pub ext_kept : (exts : ℕ) → place ≡ (start_of p.starts.items n).exts + (k - 1) → place < exts
-      → IsKeptBy (record { starts = p.starts; exts = exts; datas = p.datas }) (owner.Ext n k) (Ext place)
+      → IsKeptBy (record { starts = p.starts; exts = exts; datas = p.datas }) (owner.Ext n k) (record { class = Ext; place = place })
   ext_kept exts is lt =
       let last =
       last_is first_ext p.starts.items place n fit.exts
@@ -141,7 +143,7 @@ module _ (p : GivenPlaces) (fit : AreFit p) (n k place : ℕ) (begun : length p.
       }
 
   pub data_kept : (datas : ℕ) → place ≡ (start_of p.starts.items n).datas + (k - 1) → place < datas
-      → IsKeptBy (record { starts = p.starts; exts = p.exts; datas = datas }) (owner.Data n k) (Data place)
+      → IsKeptBy (record { starts = p.starts; exts = p.exts; datas = datas }) (owner.Data n k) (record { class = Data; place = place })
   data_kept datas is lt =
       let last =
       last_is first_data p.starts.items place n fit.datas
@@ -154,10 +156,10 @@ module _ (p : GivenPlaces) (fit : AreFit p) (n k place : ℕ) (begun : length p.
 
 -- of a new table all blocks but two are free
 pub new_owners : (xs : List NodeStart) (n : ℕ)
-    → map (owner_kept xs) (Boot ∷ Boot ∷ replicate n Free) ≡ owner.Boot ∷ owner.Boot ∷ replicate n owner.Free
+    → map (owner_kept xs) (boot_owner ∷ boot_owner ∷ replicate n no_owner) ≡ owner.Boot ∷ owner.Boot ∷ replicate n owner.Free
 new_owners xs n = ap (λ os. owner.Boot ∷ owner.Boot ∷ os) (free n)
   where
-    free : (n : ℕ) → map (owner_kept xs) (replicate n Free) ≡ replicate n owner.Free
+    free : (n : ℕ) → map (owner_kept xs) (replicate n no_owner) ≡ replicate n owner.Free
     free zero = refl
     free (suc n) = ap (λ os. owner.Free ∷ os) (free n)
 
@@ -178,11 +180,24 @@ owners_claimed p q table b o k grown in' kept =
     ∙ (λ t. set (same_owners p q grown table in' t) b (kept.owner t))
 
 -- a part owns a block if its owner is kept as claimed
-part_of : (starts : List NodeStart) (k : KeptOwner) → is_part (owner_kept starts k) ≡ is_claimed k
-part_of starts k = grind (arith, common_steps)
+part_of : (starts : List NodeStart) (class : OwnerClass) (i : ℕ) → is_part (owner_with starts class i) ≡ is_part_class class
+part_of starts class i = grind (arith, common_steps)
 
 pub part_kept : (starts : List NodeStart) (table : List KeptOwner) (b : ℕ)
     → is_part (owner_at (map (owner_kept starts) table) b) ≡ is_claimed (kept_at table b)
 part_kept starts [] b = refl
-part_kept starts (k ∷ table) zero = part_of starts k
+part_kept starts (k ∷ table) zero = part_of starts k.class k.place
 part_kept starts (k ∷ table) (suc b) = part_kept starts table b
+
+-- a free block is kept as one
+free_with : (starts : List NodeStart) (exts datas : ℕ) (class : OwnerClass) (i : ℕ) → IsGiven exts datas class i
+    → owner_with starts class i ≡ owner.Free → ◌≡◌ {A = KeptOwner} (record { class = class; place = i }) no_owner
+free_with starts exts datas Free i given e = λ t. record { class = Free; place = given t }
+free_with starts exts datas _ i given e = cc
+
+pub free_kept : (starts : List NodeStart) (exts datas : ℕ) (table : List KeptOwner) (b : ℕ) → All (IsInside exts datas) table
+    → owner_at (map (owner_kept starts) table) b ≡ owner.Free → kept_at table b ≡ no_owner
+free_kept starts exts datas [] b inside e = refl
+free_kept starts exts datas (k ∷ table) zero inside e = free_with starts exts datas k.class k.place (inside 0 k (omega arith)) e
+free_kept starts exts datas (k ∷ table) (suc b) inside e =
+    free_kept starts exts datas table b (λ n d lt. inside (suc n) d (omega (arith, lt))) e

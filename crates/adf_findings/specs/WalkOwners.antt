@@ -5,8 +5,8 @@ use Rattle.adf_volume.specs.declared.owner.Owner.{Owner}
 use Rattle.adf_volume.specs.declared.owner.Owner.TheVariants as owner
 use Rattle.adf_findings.specs.declared.given_places.GivenPlaces.{GivenPlaces}
 use Rattle.adf_walk.specs.declared.kept_owner.KeptOwner.{KeptOwner}
-use Rattle.adf_walk.specs.declared.kept_owner.KeptOwner.TheVariants.{Ext, Data}
-use Rattle.adf_walk.specs.KeptOwner.{place_of}
+use Rattle.adf_walk.specs.declared.owner_class.OwnerClass.{OwnerClass}
+use Rattle.adf_walk.specs.declared.owner_class.OwnerClass.TheVariants.{Free, Ext, Data}
 use Rattle.adf_walk.specs.Places.{AreStarts, first_data, first_ext, owner_kept, start_of}
 
 -- the owners of blocks, and the last node of which an extension block or a data block has an owner; 0 if there is none
@@ -38,11 +38,16 @@ HasNumber (owner.Ext n k) = 1 ≤ k
 HasNumber (owner.Data n k) = 1 ≤ k
 HasNumber _ = Unit {0}
 
+-- the place of an extension block or a data block is one of so many, and that of a free block is 0
+abbrev pub IsGiven : ℕ → ℕ → OwnerClass → ℕ → Type 0
+IsGiven exts datas Free i = i ≡ 0
+IsGiven exts datas Ext i = i < exts
+IsGiven exts datas Data i = i < datas
+IsGiven exts datas _ i = Unit {0}
+
 -- the place of a kept owner is one of so many
 abbrev pub IsInside : ℕ → ℕ → KeptOwner → Type 0
-IsInside exts datas (Ext i) = i < exts
-IsInside exts datas (Data i) = i < datas
-IsInside exts datas _ = Unit {0}
+IsInside exts datas k = IsGiven exts datas k.class k.place
 
 -- the blocks of nodes begin in order, at places that are given
 pub record AreFit (p : GivenPlaces) : Type 0 where
@@ -61,4 +66,4 @@ pub record AreGrown (p q : GivenPlaces) : Type 0 where
 pub record IsKeptBy (p : GivenPlaces) (o : Owner) (k : KeptOwner) : Type 0 where
   pub owner : owner_kept p.starts.items k ≡ o
   pub inside : IsInside p.exts p.datas k
-  pub short : place_of k < 2 ^ 29
+  pub short : k.place < 2 ^ 29

@@ -8,7 +8,7 @@ ghost use Rattle.adf_findings.specs.WalkOwners.{AreFit, AreGrown, HasNumber, IsK
 use adf_base::NoMemory;
 use adf_tree::Node;
 use adf_volume::Owner;
-use adf_walk::{KeptOwner, NodeStart};
+use adf_walk::{KeptOwner, NodeStart, OwnerClass};
 use std::alloc::Global;
 
 /// The number of places for which four bytes of an owner have room.
@@ -33,6 +33,18 @@ fn in_room(number: u64) -> Result<u32, NoMemory>
         return Err(NoMemory);
     }
     Ok(number as u32)
+}
+
+// The owner of a class at a place, if there is room for the place beside the class.
+#[inline(always)]
+fn kept_at(class: OwnerClass, place: u64) -> Result<KeptOwner, NoMemory>
+    ensures kept { IfOk result (λ o. o ≡ record { class = class; place = place }) }
+    ensures short { IfOk result (λ o. o.place < 2 ^ 29) }
+{
+    Ok(KeptOwner {
+        class,
+        place: in_room(place)?,
+    })
 }
 
 // The place of block `k` of a node, counted from 1, whose first is at `start`.
@@ -109,7 +121,10 @@ impl GivenPlaces {
         self.begin(node)?;
         let place = place_of(self.starts[node].exts, k)?;
         self.exts = self.exts.max(place + 1);
-        Ok(KeptOwner::Ext(place))
+        Ok(KeptOwner {
+            class: OwnerClass::Ext,
+            place,
+        })
     }
 
     // How data block `k` of a node is kept.
@@ -126,7 +141,10 @@ impl GivenPlaces {
         self.begin(node)?;
         let place = place_of(self.starts[node].datas, k)?;
         self.datas = self.datas.max(place + 1);
-        Ok(KeptOwner::Data(place))
+        Ok(KeptOwner {
+            class: OwnerClass::Data,
+            place,
+        })
     }
 
     // How an owner is kept. `NoMemory` also if its number or its place has no room beside its class.
@@ -142,12 +160,12 @@ impl GivenPlaces {
         ensures kept { IfOk result (λ o. IsKeptBy self.new owner o) }
     {
         match owner {
-            Owner::Free => Ok(KeptOwner::Free),
-            Owner::Boot => Ok(KeptOwner::Boot),
-            Owner::Root => Ok(KeptOwner::Root),
-            Owner::Page(number) => Ok(KeptOwner::Page(in_room(u64::from(number))?)),
-            Owner::MapExt(number) => Ok(KeptOwner::MapExt(in_room(u64::from(number))?)),
-            Owner::Head(Node(node)) => Ok(KeptOwner::Head(in_room(node as u64)?)),
+            Owner::Free => kept_at(OwnerClass::Free, 0),
+            Owner::Boot => kept_at(OwnerClass::Boot, 0),
+            Owner::Root => kept_at(OwnerClass::Root, 0),
+            Owner::Page(number) => kept_at(OwnerClass::Page, u64::from(number)),
+            Owner::MapExt(number) => kept_at(OwnerClass::MapExt, u64::from(number)),
+            Owner::Head(Node(node)) => kept_at(OwnerClass::Head, node as u64),
             Owner::Ext(Node(node), k) => self.ext(node, k),
             Owner::Data(Node(node), k) => self.data(node, k),
         }

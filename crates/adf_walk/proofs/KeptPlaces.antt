@@ -1,26 +1,12 @@
 -- Places in the lists of all extension blocks and of all data blocks, and the owners that are kept by them.
-use Rattle.std.proofs.Common.{◌≡◌, ℕ, zero, suc, Bool, List, [], ◌∷◌, ◌+◌, ◌-◌, ◌<◌, ◌≤◌, length, get_or, true, false, leb, leb-true, nat_le, refl, ap, arith}
+use Rattle.std.proofs.Common.{◌≡◌, ℕ, zero, suc, Bool, List, [], ◌∷◌, ◌+◌, ◌-◌, ◌<◌, ◌≤◌, length, get_or, true, false, leb, leb-true, nat_le, ap, arith}
 use Rattle.std.specs.Prelude.{count_by}
 use Rattle.std.specs.List.Sorted.{IsPartitionPoint}
 use Rattle.std.proofs.lemmas.Bool.{le-leb, lt-leb}
 use Rattle.std.proofs.lemmas.List.{get_or_default}
 use Rattle.std.proofs.lemmas.Grind.{common_steps}
-use Rattle.adf_volume.specs.declared.owner.Owner.{Owner}
-use Rattle.adf_volume.specs.declared.owner.Owner.TheVariants as owner
 use Rattle.adf_walk.specs.declared.node_start.NodeStart.{NodeStart}
-use Rattle.adf_walk.specs.OwnerClass.{class_kept, class_of}
-use Rattle.adf_walk.specs.Places.{AreStarts, IsLastStart, kept_as, last_start}
-
--- an owner is kept with its class
-pub class_same : (starts : List NodeStart) (o : Owner) → class_kept (kept_as starts o) ≡ class_of o
-class_same starts owner.Free = refl
-class_same starts owner.Boot = refl
-class_same starts owner.Root = refl
-class_same starts (owner.Page k) = refl
-class_same starts (owner.MapExt k) = refl
-class_same starts (owner.Head n) = refl
-class_same starts (owner.Ext n k) = refl
-class_same starts (owner.Data n k) = refl
+use Rattle.adf_walk.specs.Places.{AreStarts, IsLastStart, last_start}
 
 -- the last of those that begin at a place or before it, by their number
 pub last_found : (first : NodeStart → ℕ) (starts : List NodeStart) (place r : ℕ) → AreStarts first starts → r ≤ length starts

@@ -1,40 +1,29 @@
 -- Owners as a check keeps them.
-use Rattle.std.specs.Prelude.{◌==◌, ◌/◌, ◌%◌, ℕ, Bool, true, false, List, count_by, cond, slice_index_or}
+use Rattle.std.specs.Prelude.{◌/◌, ◌%◌, ℕ, Bool, List, count_by, slice_index_or}
 use Rattle.adf_walk.specs.declared.kept_owner.KeptOwner.{KeptOwner}
-use Rattle.adf_walk.specs.declared.kept_owner.KeptOwner.TheVariants.{Free, Boot, Root, Page, MapExt, Head, Ext, Data}
 use Rattle.adf_walk.specs.declared.kept_owner.PackedOwner.{PackedOwner}
+use Rattle.adf_walk.specs.declared.owner_class.OwnerClass.TheVariants.{Free, Boot}
+use Rattle.adf_walk.specs.OwnerClass.{class_numbered, is_part_class}
 
--- the place in the list of the owner's class
-abbrev pub place_of : KeptOwner → ℕ
-place_of (Page k) = k
-place_of (MapExt k) = k
-place_of (Head n) = n
-place_of (Ext i) = i
-place_of (Data i) = i
-place_of _ = 0
+-- what is kept of a free block
+abbrev pub no_owner : KeptOwner
+no_owner = record { class = Free; place = 0 }
 
--- the owner of this class with this place
-abbrev pub of_class : ℕ → ℕ → KeptOwner
-of_class class place =
-    cond (class == 0) Free
-    (cond (class == 1) Boot
-    (cond (class == 2) Root
-    (cond (class == 3) (Page place)
-    (cond (class == 4) (MapExt place) (cond (class == 5) (Head place) (cond (class == 6) (Ext place) (Data place)))))))
+-- what is kept of a boot block
+abbrev pub boot_owner : KeptOwner
+boot_owner = record { class = Boot; place = 0 }
 
 -- the owner that is packed in one number
 abbrev pub unpacked : PackedOwner → KeptOwner
-unpacked p = of_class (p.0 % 8) (p.0 / 8)
+unpacked p = record { class = class_numbered (p.0 % 8); place = p.0 / 8 }
 
 -- the kept owner of block b
 abbrev pub kept_at : List KeptOwner → ℕ → KeptOwner
-kept_at owners b = slice_index_or owners b Free
+kept_at owners b = slice_index_or owners b no_owner
 
 -- a part of the volume has claimed the block
 abbrev pub is_claimed : KeptOwner → Bool
-is_claimed Free = false
-is_claimed Boot = false
-is_claimed _ = true
+is_claimed o = is_part_class o.class
 
 -- the number of blocks that parts of the volume have claimed
 abbrev pub claimed_count : List KeptOwner → ℕ

@@ -1,8 +1,7 @@
--- The classes of owners.
+-- The classes of owners, and their numbers.
+use Rattle.std.specs.Prelude.{◌==◌, ℕ, Bool, true, false, cond}
 use Rattle.adf_volume.specs.declared.owner.Owner.{Owner}
 use Rattle.adf_volume.specs.declared.owner.Owner.TheVariants as owner
-use Rattle.adf_walk.specs.declared.kept_owner.KeptOwner.{KeptOwner}
-use Rattle.adf_walk.specs.declared.kept_owner.KeptOwner.TheVariants as kept
 use Rattle.adf_walk.specs.declared.owner_class.OwnerClass.{OwnerClass}
 use Rattle.adf_walk.specs.declared.owner_class.OwnerClass.TheVariants.{Free, Boot, Root, Page, MapExt, Head, Ext, Data}
 
@@ -17,13 +16,26 @@ class_of (owner.Head n) = Head
 class_of (owner.Ext n k) = Ext
 class_of (owner.Data n k) = Data
 
--- the class of an owner that is kept
-abbrev pub class_kept : KeptOwner → OwnerClass
-class_kept kept.Free = Free
-class_kept kept.Boot = Boot
-class_kept kept.Root = Root
-class_kept (kept.Page k) = Page
-class_kept (kept.MapExt k) = MapExt
-class_kept (kept.Head n) = Head
-class_kept (kept.Ext i) = Ext
-class_kept (kept.Data i) = Data
+-- the number of a class
+abbrev pub class_number : OwnerClass → ℕ
+class_number Free = 0
+class_number Boot = 1
+class_number Root = 2
+class_number Page = 3
+class_number MapExt = 4
+class_number Head = 5
+class_number Ext = 6
+class_number Data = 7
+
+-- the class with a number; Data past the last
+abbrev pub class_numbered : ℕ → OwnerClass
+class_numbered n =
+    cond (n == 0) Free
+    (cond (n == 1) Boot
+    (cond (n == 2) Root (cond (n == 3) Page (cond (n == 4) MapExt (cond (n == 5) Head (cond (n == 6) Ext Data))))))
+
+-- whether a class is that of a part of a volume
+abbrev pub is_part_class : OwnerClass → Bool
+is_part_class Free = false
+is_part_class Boot = false
+is_part_class _ = true

@@ -1,7 +1,8 @@
 -- The owners of blocks.
-use Rattle.std.specs.Prelude.{ℕ, Bool, true, false, List, count_by, slice_index_or}
+use Rattle.std.specs.Prelude.{ℕ, Bool, List, count_by, slice_index_or}
 use Rattle.adf_volume.specs.declared.owner.Owner.{Owner}
-use Rattle.adf_volume.specs.declared.owner.Owner.TheVariants.{Free, Boot}
+use Rattle.adf_volume.specs.declared.owner.Owner.TheVariants.{Free}
+use Rattle.adf_walk.specs.OwnerClass.{class_of, is_part_class}
 
 -- the owner of block b
 abbrev pub owner_at : List Owner → ℕ → Owner
@@ -9,9 +10,7 @@ owner_at owners b = slice_index_or owners b Free
 
 -- a part of the volume owns the block
 abbrev pub is_part : Owner → Bool
-is_part Free = false
-is_part Boot = false
-is_part _ = true
+is_part o = is_part_class (class_of o)
 
 -- the number of blocks that parts of the volume own
 abbrev pub owned_count : List Owner → ℕ

@@ -5,8 +5,10 @@ use Rattle.std.specs.List.Sorted.{IsNonDecreasingBy}
 use Rattle.adf_volume.specs.declared.owner.Owner.{Owner}
 use Rattle.adf_volume.specs.declared.owner.Owner.TheVariants as owner
 use Rattle.adf_walk.specs.declared.kept_owner.KeptOwner.{KeptOwner}
-use Rattle.adf_walk.specs.declared.kept_owner.KeptOwner.TheVariants.{Free, Boot, Root, Page, MapExt, Head, Ext, Data}
 use Rattle.adf_walk.specs.declared.node_start.NodeStart.{NodeStart}
+use Rattle.adf_walk.specs.declared.owner_class.OwnerClass.{OwnerClass}
+use Rattle.adf_walk.specs.declared.owner_class.OwnerClass.TheVariants.{Free, Boot, Root, Page, MapExt, Head, Ext, Data}
+use Rattle.adf_walk.specs.OwnerClass.{class_of}
 
 -- where a node's extension blocks begin
 abbrev pub first_ext : NodeStart → ℕ
@@ -36,27 +38,37 @@ pub record IsLastStart (first : NodeStart → ℕ) (starts : List NodeStart) (pl
 abbrev pub last_start : (NodeStart → ℕ) → List NodeStart → ℕ → ℕ
 last_start first starts place = count_by (λ s. nat_le (first s) place) starts - 1
 
+-- the owner of a class at a place
+abbrev pub owner_with : List NodeStart → OwnerClass → ℕ → Owner
+owner_with starts Free i = owner.Free
+owner_with starts Boot i = owner.Boot
+owner_with starts Root i = owner.Root
+owner_with starts Page i = owner.Page i
+owner_with starts MapExt i = owner.MapExt i
+owner_with starts Head i = owner.Head i
+owner_with starts Ext i = let n = last_start first_ext starts i in owner.Ext n (i - (start_of starts n).exts + 1)
+owner_with starts Data i = let n = last_start first_data starts i in owner.Data n (i - (start_of starts n).datas + 1)
+
 -- the owner that is kept so
 abbrev pub owner_kept : List NodeStart → KeptOwner → Owner
-owner_kept starts Free = owner.Free
-owner_kept starts Boot = owner.Boot
-owner_kept starts Root = owner.Root
-owner_kept starts (Page k) = owner.Page k
-owner_kept starts (MapExt k) = owner.MapExt k
-owner_kept starts (Head n) = owner.Head n
-owner_kept starts (Ext i) = let n = last_start first_ext starts i in owner.Ext n (i - (start_of starts n).exts + 1)
-owner_kept starts (Data i) = let n = last_start first_data starts i in owner.Data n (i - (start_of starts n).datas + 1)
+owner_kept starts kept = owner_with starts kept.class kept.place
+
+-- the place of an owner in the list of its class, where those of extension blocks and data blocks are given
+abbrev pub place_by : (ℕ → ℕ → ℕ) → (ℕ → ℕ → ℕ) → Owner → ℕ
+place_by ext_at data_at (owner.Page k) = k
+place_by ext_at data_at (owner.MapExt k) = k
+place_by ext_at data_at (owner.Head n) = n
+place_by ext_at data_at (owner.Ext n k) = ext_at n k
+place_by ext_at data_at (owner.Data n k) = data_at n k
+place_by ext_at data_at _ = 0
+
+-- what is kept of an owner, where the places of extension blocks and data blocks are given
+abbrev pub kept_by : (ℕ → ℕ → ℕ) → (ℕ → ℕ → ℕ) → Owner → KeptOwner
+kept_by ext_at data_at o = record { class = class_of o; place = place_by ext_at data_at o }
 
 -- what is kept of an owner: of an extension block or a data block, its place among those of all files
 abbrev pub kept_as : List NodeStart → Owner → KeptOwner
-kept_as starts owner.Free = Free
-kept_as starts owner.Boot = Boot
-kept_as starts owner.Root = Root
-kept_as starts (owner.Page k) = Page k
-kept_as starts (owner.MapExt k) = MapExt k
-kept_as starts (owner.Head n) = Head n
-kept_as starts (owner.Ext n k) = Ext ((start_of starts n).exts + (k - 1))
-kept_as starts (owner.Data n k) = Data ((start_of starts n).datas + (k - 1))
+kept_as starts = kept_by (λ n k. (start_of starts n).exts + (k - 1)) (λ n k. (start_of starts n).datas + (k - 1))
 
 -- an extension block or a data block has a number from 1, and its place is behind the start of its file and of no later node
 abbrev pub IsNumbered : List NodeStart → Owner → Type 0

@@ -2,9 +2,9 @@
 
 ghost use Rattle.std.specs.Prelude.{◌≡◌, ◌≢◌, ◌≤◌, ◌<◌, ◌+◌, ◌-◌, ◌^◌, ◌∷◌, ◌↔◌, length};
 ghost use Rattle.std.specs.Prelude.{replicate, ℕ, true, false, IsTrue, IsOk, IfOk, IfErr, OnOk, OnErr, slice_set};
-ghost use Rattle.adf_walk.specs.KeptOwner.{claimed_count, is_claimed, kept_at, place_of};
+ghost use Rattle.adf_walk.specs.KeptOwner.{boot_owner, claimed_count, is_claimed, kept_at, no_owner};
 
-use crate::kept_owner::{KeptOwner, PackedOwner};
+use crate::kept_owner::{BOOT_OWNER, KeptOwner, NO_OWNER, PackedOwner};
 use adf_base::NoMemory;
 use adf_blocks::Cause;
 use std::alloc::Global;
@@ -20,16 +20,15 @@ pub struct OwnerTable {
 
 impl Model for OwnerTable {
     ghost use Rattle.std.specs.Prelude.{List, map};
-    ghost use Rattle.adf_walk.specs.KeptOwner.{is_claimed, unpacked};
+    ghost use Rattle.adf_walk.specs.KeptOwner.{boot_owner, is_claimed, unpacked};
     ghost use Rattle.adf_walk.specs.OwnerTable.{IsTable};
     ghost use Rattle.adf_walk.specs.declared.kept_owner.KeptOwner.{KeptOwner};
-    ghost use Rattle.adf_walk.specs.declared.kept_owner.KeptOwner.TheVariants.{Boot};
 
     ghost Value = { List KeptOwner };
 
     ghost view = { λ t. map unpacked t.owners.items };
 
-    ghost invariant = { λ t. IsTable is_claimed Boot (map unpacked t.owners.items) t.blocks t.used };
+    ghost invariant = { λ t. IsTable is_claimed boot_owner (map unpacked t.owners.items) t.blocks t.used };
 }
 
 impl OwnerTable {
@@ -38,10 +37,10 @@ impl OwnerTable {
     pub fn new(alloc: Global, blocks: u32) -> Result<OwnerTable, NoMemory>
         requires { 2 ≤ blocks }
         ensures { IfOk result (λ t.
-            t ≡ KeptOwner.Boot ∷ KeptOwner.Boot ∷ replicate (blocks - 2) KeptOwner.Free) }
+            t ≡ boot_owner ∷ boot_owner ∷ replicate (blocks - 2) no_owner) }
     {
-        let free = PackedOwner::of(KeptOwner::Free);
-        let boot = PackedOwner::of(KeptOwner::Boot);
+        let free = PackedOwner::of(NO_OWNER);
+        let boot = PackedOwner::of(BOOT_OWNER);
         let Ok(mut owners) = vec![in alloc; free; blocks as usize] else {
             return Err(NoMemory);
         };
@@ -60,8 +59,8 @@ impl OwnerTable {
         requires from { 2 ≤ b }
         requires below { b < length self.old }
         requires part { is_claimed o ≡ true }
-        requires place { place_of o < 2 ^ 29 }
-        ensures free { IsOk result ↔ (kept_at self.old b ≡ KeptOwner.Free) }
+        requires place { o.place < 2 ^ 29 }
+        ensures free { IsOk result ↔ (kept_at self.old b ≡ no_owner) }
         ensures ok { OnOk result (self.new ≡ slice_set self.old b o) }
         ensures taken { IfErr result (λ c. c ≡ Cause.Taken) }
         ensures unchanged { OnErr result (self.new ≡ self.old) }
@@ -81,9 +80,9 @@ impl OwnerTable {
     pub fn put(&mut self, b: u32, o: KeptOwner)
         requires from { 2 ≤ b }
         requires below { b < length self.old }
-        requires free { kept_at self.old b ≡ KeptOwner.Free }
+        requires free { kept_at self.old b ≡ no_owner }
         requires part { is_claimed o ≡ true }
-        requires place { place_of o < 2 ^ 29 }
+        requires place { o.place < 2 ^ 29 }
         ensures { self.new ≡ slice_set self.old b o }
     {
         self.owners[b as usize] = PackedOwner::of(o);
@@ -108,7 +107,7 @@ impl OwnerTable {
     // Whether no part of the volume owns a block.
     pub fn is_free(&self, b: u32) -> bool
         requires { b < length self.now }
-        ensures { IsTrue result ↔ (kept_at self.now b ≡ KeptOwner.Free) }
+        ensures { IsTrue result ↔ (kept_at self.now b ≡ no_owner) }
     {
         self.owners[b as usize].is_free()
     }
@@ -127,11 +126,11 @@ impl OwnerTable {
     // The owner of a block; `Free` past the last block.
     pub fn at(&self, b: u32) -> KeptOwner
         ensures owner { result ≡ kept_at self.now b }
-        ensures place { place_of result < 2 ^ 29 }
+        ensures place { result.place < 2 ^ 29 }
     {
         match self.owners.get(b as usize) {
             Some(owner) => owner.unpacked(),
-            None => KeptOwner::Free,
+            None => NO_OWNER,
         }
     }
 
@@ -139,7 +138,7 @@ impl OwnerTable {
     pub fn are_all(&self, first: u32, end: u32, is_free: bool) -> bool
         requires { end ≤ length self.now }
         ensures { IsTrue result ↔ ((b : ℕ) → first ≤ b → b < end
-            → IsTrue is_free ↔ (kept_at self.now b ≡ KeptOwner.Free)) }
+            → IsTrue is_free ↔ (kept_at self.now b ≡ no_owner)) }
     {
         let mut all = true;
         for b in first..end {

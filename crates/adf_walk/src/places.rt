@@ -2,12 +2,12 @@
 
 ghost use Rattle.std.specs.Prelude.{◌≡◌, ◌<◌, ◌^◌};
 ghost use Rattle.adf_volume.specs.declared.owner.Owner.{Owner};
-ghost use Rattle.adf_walk.specs.KeptOwner.{place_of};
 ghost use Rattle.adf_walk.specs.Places.{AreStarts, IsLastStart, IsNumbered, first_data, first_ext, kept_as};
 ghost use Rattle.adf_walk.specs.Places.{last_start, owner_kept};
 
 use crate::kept_owner::KeptOwner;
 use crate::node_start::NodeStart;
+use crate::owner_class::OwnerClass;
 use adf_tree::Node;
 use adf_volume::Owner;
 
@@ -33,22 +33,23 @@ fn file_of_data(starts: &[NodeStart], place: u32) -> usize
 pub fn owner_of(starts: &[NodeStart], kept: KeptOwner) -> Owner
     requires exts { AreStarts first_ext starts.now }
     requires datas { AreStarts first_data starts.now }
-    requires place { place_of kept < 2 ^ 29 }
+    requires place { kept.place < 2 ^ 29 }
     ensures owner { result ≡ owner_kept starts.now kept }
     ensures part { (o : Owner) → IsNumbered starts.now o → kept ≡ kept_as starts.now o → result ≡ o }
 {
-    match kept {
-        KeptOwner::Free => Owner::Free,
-        KeptOwner::Boot => Owner::Boot,
-        KeptOwner::Root => Owner::Root,
-        KeptOwner::Page(number) => Owner::Page(number),
-        KeptOwner::MapExt(number) => Owner::MapExt(number),
-        KeptOwner::Head(node) => Owner::Head(Node(node as usize)),
-        KeptOwner::Ext(place) => {
+    let place = kept.place;
+    match kept.class {
+        OwnerClass::Free => Owner::Free,
+        OwnerClass::Boot => Owner::Boot,
+        OwnerClass::Root => Owner::Root,
+        OwnerClass::Page => Owner::Page(place),
+        OwnerClass::MapExt => Owner::MapExt(place),
+        OwnerClass::Head => Owner::Head(Node(place as usize)),
+        OwnerClass::Ext => {
             let file = file_of_ext(starts, place);
             Owner::Ext(Node(file), place - starts[file].exts + 1)
         }
-        KeptOwner::Data(place) => {
+        OwnerClass::Data => {
             let file = file_of_data(starts, place);
             Owner::Data(Node(file), place - starts[file].datas + 1)
         }

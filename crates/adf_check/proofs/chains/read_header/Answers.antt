@@ -4,7 +4,7 @@ use Rattle.adf_blocks.specs.declared.layout.TheConstants.{SECONDARY_TYPE, ST_DIR
 use Rattle.adf_base.specs.Words.{word}
 use Rattle.adf_tree.specs.NameSet.{has}
 use Rattle.adf_names.specs.Texts.{uppers_by}
-use Rattle.adf_walk.specs.declared.kept_owner.KeptOwner.TheVariants as kept
+use Rattle.adf_walk.specs.declared.owner_class.OwnerClass.TheVariants as class
 use Rattle.adf_check.specs.Store.{store_value}
 use Rattle.adf_check.proofs.NumberBounds.{entry_short, parent_short}
 use Rattle.adf_check.proofs.ChainSteps.{head_named, head_fault, twice_fault, head_done}
@@ -46,7 +46,10 @@ returns-in-Ok-push-clause-state c =
     head_done c.args.seen.now c.requires.slot c.requires.state c.requires.some claimed.range claimed.free
     c.kind-kind.ensures.kind c.letters-letters.ensures c.block.ensures.block c.in-Ok.ensures.0 c.in-Ok.ensures.1 c.name.ensures fresh _
     c.in-Ok-true.ensures.more c.next.ensures (record {
-      owners = claimed.ok ∙ ap (λ n. set store.owners c.args.link.block (kept.Head n)) (number c.requires.state.read.tells.headers.count count);
+      owners =
+          claimed.ok
+          ∙ ap (λ n. set store.owners c.args.link.block (record { class = class.Head; place = n }))
+          (number c.requires.state.read.tells.headers.count count);
       headers = pushed;
       dirs = dirs_more c.args.image.now store.headers c.args.chain.now.parent c.args.link.block c.requires.state.read.tells.dirs is_dir c.from.ensures;
       starts = refl;

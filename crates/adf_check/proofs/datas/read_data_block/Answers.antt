@@ -1,5 +1,5 @@
 use Rattle.std.proofs.Common.{◌≡◌, ◌++◌, ◌∷◌, [], length, set, ap, refl, ◌∙◌, rules, arith}
-use Rattle.adf_walk.specs.declared.kept_owner.KeptOwner.TheVariants as kept
+use Rattle.adf_walk.specs.declared.owner_class.OwnerClass.TheVariants as class
 use Rattle.adf_check.specs.Store.{store_value}
 use Rattle.adf_check.proofs.ClaimSteps.{claim_refused}
 use Rattle.adf_check.proofs.NumberBounds.{lists_short}
@@ -37,7 +37,7 @@ returns-in-Ok-clause-state c =
     let count : c.len-place.result ≡ length store.datas = search rules in
     let longer : c.push.new.self.items ≡ store.datas ++ b ∷ [] = search rules in
     data_done q.state q.datas q.inside q.link claimed.range claimed.free (search rules) (record {
-      owners = claimed.ok ∙ ap (λ i. set store.owners b (kept.Data i)) count;
+      owners = claimed.ok ∙ ap (λ i. set store.owners b (record { class = class.Data; place = i })) count;
       headers = refl;
       dirs = q.state.read.tells.dirs;
       starts = refl;

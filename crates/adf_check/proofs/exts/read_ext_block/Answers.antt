@@ -1,5 +1,5 @@
 use Rattle.std.proofs.Common.{◌≡◌, ◌++◌, ◌∷◌, [], length, set, ap, refl, ◌∙◌, rules, arith}
-use Rattle.adf_walk.specs.declared.kept_owner.KeptOwner.TheVariants as kept
+use Rattle.adf_walk.specs.declared.owner_class.OwnerClass.TheVariants as class
 use Rattle.adf_check.specs.Store.{store_value}
 use Rattle.adf_check.proofs.NumberBounds.{lists_short}
 use Rattle.adf_check.proofs.ClaimSteps.{claim_refused}
@@ -26,7 +26,7 @@ returns-clause-state c =
     let longer : c.push-else-is_err.new.self.items ≡ store.exts ++ b ∷ [] = search rules in
     ext_done c.requires.state c.requires.some claimed.range claimed.free c.block.ensures.block c.in-Ok.ensures.0
     c.in-Ok.ensures.1 c.next.ensures pushed (record {
-      owners = claimed.ok ∙ ap (λ i. set store.owners b (kept.Ext i)) count;
+      owners = claimed.ok ∙ ap (λ i. set store.owners b (record { class = class.Ext; place = i })) count;
       headers = refl;
       dirs = c.requires.state.read.tells.dirs;
       starts = refl;
