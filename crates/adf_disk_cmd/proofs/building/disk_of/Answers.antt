@@ -1,9 +1,13 @@
-use Rattle.std.proofs.Common.{◌+◌, ◌*◌, ℕ, ap, arith, drop, rules}
+use Rattle.std.proofs.Common.{◌≡◌, ◌<◌, ◌+◌, ◌*◌, ℕ, ap, arith, drop, false, get_or, length, rules, true}
+use Rattle.std.specs.List.{list_all}
 use Rattle.std.proofs.lemmas.Grind.{common_steps}
-use Rattle.adf_disk_cmd.proofs.BuiltDisks.{blocks_small, first_enough, stepped, volumes_end}
+use Rattle.adf_disk_cmd.proofs.BuiltDisks.{blocks_small, first_enough, has_volume_at, stepped, volumes_end}
+use Rattle.adf_disk_cmd.proofs.NewVolumes.{MayBeNew, may_be_new}
 use Rattle.adf_disk_cmd.specs.Builds.{built_disk}
 use Rattle.adf_partitions.proofs.PlanSizes.{plans_at}
-use Rattle.adf_partitions.specs.Plans.{cylinder_blocks, plan_value}
+use Rattle.adf_partitions.specs.PlanTexts.{has_volume}
+use Rattle.adf_partitions.specs.Plans.{PlanValue, cylinder_blocks, plan_value}
+use Rattle.adf_partitions.specs.declared.plan.PartitionPlan.{PartitionPlan}
 use Rattle.adf_disk_cmd.proofs.building.disk_of.Goals as goal
 
 pub overflow_mul-blocks : goal.overflow_mul-blocks
@@ -32,3 +36,20 @@ returns c =
     let plan = plan_value c.args.plan.now in
     volumes_end (cylinder_blocks plan) plan.partitions c.loop-partition.partition-index c.loop-partition.disk.items c.loop-partition.left.now
     (built_disk plan c.args.given.now) (search (rules, arith)) c.loop-partition.invariant.bytes
+
+-- the partition has a volume
+planned : (plan : PlanValue) (i : ℕ) (p : PartitionPlan) → list_all (has_volume (cylinder_blocks plan)) plan.partitions ≡ true
+    → i < length plan.partitions → p ≡ get_or plan.partitions i p → p.given ≡ false → MayBeNew (p.cylinders * cylinder_blocks plan) p
+planned plan i p all lt e =
+    may_be_new (cylinder_blocks plan) p (rw (← e) at (has_volume_at (cylinder_blocks plan) plan.partitions i p all lt))
+
+pub push_volume-requires-clause-size : goal.push_volume-requires-clause-size
+push_volume-requires-clause-size c = λ new.
+    rw c.cylinder_blocks-cylinder.ensures
+    (planned (plan_value c.args.plan.now) c.loop-partition.partition-index c.partition-item.result c.requires.volumes (search rules) (search rules)
+    new).size
+
+pub push_volume-requires-clause-label : goal.push_volume-requires-clause-label
+push_volume-requires-clause-label c = λ new.
+    (planned (plan_value c.args.plan.now) c.loop-partition.partition-index c.partition-item.result c.requires.volumes (search rules) (search rules)
+    new).label
