@@ -2,7 +2,7 @@
 use Rattle.std.proofs.Common.{◌≡◌, ◌≢◌, ◌+◌, ◌++◌, ◌∙◌, inl, inr, ℕ, List, Option, ap, arith, codes, length, min, subst, take}
 use Rattle.std.proofs.lemmas.List.{take-take, take_min}
 use Rattle.adf_edit_cmd.specs.Answers.{EditAnswer, Edits}
-use Rattle.adf_edit_cmd.specs.Edited.{IsEdited, StopsAt}
+use Rattle.adf_edit_cmd.specs.Edited.{IsEdited, StopsInput}
 use Rattle.adf_edit_cmd.specs.Stops.{stop_text}
 use Rattle.adf_edit_cmd.specs.declared.program.TheConstants.{MOST_INPUT_BYTES}
 use Rattle.adf_edit_cmd.specs.declared.stop.Stop.{Stop}
@@ -18,7 +18,7 @@ pub written : (input new : List ℕ) (w : Outcome) (o o' : Option (List ℕ)) �
 written input new w o o' is h = ends_weaker (λ reply. reply ≡ on_output 0 new) (Edits input) w o o' (λ reply e. inl (new, is, e)) h
 
 -- so is why there is none
-pub refused : (input : List ℕ) (stop : Stop) (w : Outcome) (o o' : Option (List ℕ)) → StopsAt input stop → stop ≢ NoMemory
+pub refused : (input : List ℕ) (stop : Stop) (w : Outcome) (o o' : Option (List ℕ)) → StopsInput input stop → stop ≢ NoMemory
     → EndsBy (λ reply. reply ≡ on_errors 1 (stop_text stop ++ codes "\n")) w o o' → EndsBy (Edits input) w o o'
 refused input stop w o o' is ne h =
     ends_weaker (λ reply. reply ≡ on_errors 1 (stop_text stop ++ codes "\n")) (Edits input) w o o' (λ reply e. inr (stop, ne, is, e)) h

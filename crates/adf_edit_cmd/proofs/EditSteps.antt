@@ -18,51 +18,51 @@ use Rattle.adf_tree.specs.Tree.{Tree}
 use Rattle.adf_tree.specs.declared.tree.AddFault.{AddFault}
 use Rattle.adf_volume.specs.Fits.{Fits, FitsBy}
 use Rattle.adf_volume.specs.Layout.{Layout}
-use Rattle.adf_edit_cmd.specs.Edited.{IsLaidOver, IsShallow, StopsOn, StopsTree, after, next_of, with_boot_by}
-use Rattle.adf_edit_cmd.specs.Script.{ScriptValue, behind_file, behind_files, size_of}
+use Rattle.adf_edit_cmd.specs.Edited.{IsLaidOver, IsShallow, StopsOn, StopsTree, outline_after, next_outline, with_boot_by}
+use Rattle.adf_edit_cmd.specs.Script.{ScriptValue, behind_file, behind_files, bytes_taken}
 use Rattle.adf_edit_cmd.specs.declared.stop.Stop.{Stop}
 use Rattle.adf_edit_cmd.specs.declared.stop.Stop.TheVariants.{Line, NoRoom}
 
 pub after_ok : (n : ℕ) (e : EditValue) (es : List EditValue) (given : List ℕ) (o p : OutlineValue) → edited e given o ≡ Ok p
-    → after n (e ∷ es) given o ≡ after (n + 1) es (behind_file e given) p
-unfolding after
-after_ok n e es given o p is = ap (λ r. next_of n r (after (n + 1) es (behind_file e given))) is
+    → outline_after n (e ∷ es) given o ≡ outline_after (n + 1) es (behind_file e given) p
+unfolding outline_after
+after_ok n e es given o p is = ap (λ r. next_outline n r (outline_after (n + 1) es (behind_file e given))) is
 
 pub after_err : (n : ℕ) (e : EditValue) (es : List EditValue) (given : List ℕ) (o : OutlineValue) (f : EditFault) → edited e given o ≡ Err f
-    → after n (e ∷ es) given o ≡ Err (Line n f)
-unfolding after
-after_err n e es given o f is = ap (λ r. next_of n r (after (n + 1) es (behind_file e given))) is
+    → outline_after n (e ∷ es) given o ≡ Err (Line n f)
+unfolding outline_after
+after_err n e es given o f is = ap (λ r. next_outline n r (outline_after (n + 1) es (behind_file e given))) is
 
-pub after_all : (n : ℕ) (given : List ℕ) (o : OutlineValue) → after n [] given o ≡ Ok o
-unfolding after
+pub after_all : (n : ℕ) (given : List ℕ) (o : OutlineValue) → outline_after n [] given o ≡ Ok o
+unfolding outline_after
 after_all n given o = refl
 
 pub files_none : (given : List ℕ) → behind_files [] given ≡ Some given
 unfolding behind_files
 files_none given = refl
 
-pub file_fits : (e : EditValue) (es : List EditValue) (given : List ℕ) → nat_lt (length given) (size_of e) ≡ false
+pub file_fits : (e : EditValue) (es : List EditValue) (given : List ℕ) → nat_lt (length given) (bytes_taken e) ≡ false
     → behind_files (e ∷ es) given ≡ behind_files es (behind_file e given)
 unfolding behind_files
 file_fits e es given h = rw h refl
 
-pub file_short : (e : EditValue) (es : List EditValue) (given : List ℕ) → nat_lt (length given) (size_of e) ≡ true
+pub file_short : (e : EditValue) (es : List EditValue) (given : List ℕ) → nat_lt (length given) (bytes_taken e) ≡ true
     → behind_files (e ∷ es) given ≡ None
 unfolding behind_files
 file_short e es given h = rw h refl
 
 -- the next edit is applied
 pub edit_next : (n : ℕ) (xs ys : List Edit) (e : Edit) (given rest : List ℕ) (o p : OutlineValue) (r : Result OutlineValue Stop) → xs ≡ e ∷ ys
-    → edited (edit_value e) given o ≡ Ok p → rest ≡ behind_file (edit_value e) given → r ≡ after n (map edit_value xs) given o
-    → r ≡ after (n + 1) (map edit_value ys) rest p
+    → edited (edit_value e) given o ≡ Ok p → rest ≡ behind_file (edit_value e) given → r ≡ outline_after n (map edit_value xs) given o
+    → r ≡ outline_after (n + 1) (map edit_value ys) rest p
 edit_next n xs ys e given rest o p r front is tail h =
-    h ∙ (ap (λ zs. after n (map edit_value zs) given o) front
-    ∙ (after_ok n (edit_value e) (map edit_value ys) given o p is ∙ ap (λ g. after (n + 1) (map edit_value ys) g p) (sym tail)))
+    h ∙ (ap (λ zs. outline_after n (map edit_value zs) given o) front
+    ∙ (after_ok n (edit_value e) (map edit_value ys) given o p is ∙ ap (λ g. outline_after (n + 1) (map edit_value ys) g p) (sym tail)))
 
 pub edits_over : (n : ℕ) (xs : List Edit) (given : List ℕ) (o : OutlineValue) (r : Result OutlineValue Stop)
-    → xs ≡ [] → r ≡ after n (map edit_value xs) given o
+    → xs ≡ [] → r ≡ outline_after n (map edit_value xs) given o
     → r ≡ Ok o
-edits_over n xs given o r none h = h ∙ (ap (λ zs. after n (map edit_value zs) given o) none ∙ after_all n given o)
+edits_over n xs given o r none h = h ∙ (ap (λ zs. outline_after n (map edit_value zs) given o) none ∙ after_all n given o)
 
 -- the bytes of the next edit
 files_from : (es : List Edit) (i : ℕ) (e : Edit) → i < length es → get_or es i e ≡ e
@@ -74,14 +74,14 @@ files_from es i e lt is =
     suc_plus k = omega arith
 
 pub file_next : (es : List Edit) (i : ℕ) (e : Edit) (given rest : List ℕ) (r : Option (List ℕ)) → i < length es → get_or es i e ≡ e
-    → nat_lt (length given) (size_of (edit_value e)) ≡ false → rest ≡ behind_file (edit_value e) given
+    → nat_lt (length given) (bytes_taken (edit_value e)) ≡ false → rest ≡ behind_file (edit_value e) given
     → r ≡ behind_files (map edit_value (drop i es)) given → r ≡ behind_files (map edit_value (drop (i + 1) es)) rest
 file_next es i e given rest r lt is fits tail h =
     h ∙ (ap (λ fs. behind_files fs given) (files_from es i e lt is)
     ∙ (file_fits (edit_value e) (map edit_value (drop (i + 1) es)) given fits ∙ ap (behind_files (map edit_value (drop (i + 1) es))) (sym tail)))
 
 pub file_last : (es : List Edit) (i : ℕ) (e : Edit) (given : List ℕ) (r : Option (List ℕ)) → i < length es → get_or es i e ≡ e
-    → nat_lt (length given) (size_of (edit_value e)) ≡ true → r ≡ behind_files (map edit_value (drop i es)) given → r ≡ None
+    → nat_lt (length given) (bytes_taken (edit_value e)) ≡ true → r ≡ behind_files (map edit_value (drop i es)) given → r ≡ None
 file_last es i e given r lt is short h =
     h ∙ (ap (λ fs. behind_files fs given) (files_from es i e lt is) ∙ file_short (edit_value e) (map edit_value (drop (i + 1) es)) given short)
 
@@ -105,11 +105,11 @@ stops_on s given image t l n stop fits is h = inr (t, l, fits, subst (λ k. Stop
 
 -- the tree after all edits has no room by the letters of the script
 pub room_stop : (es : List Edit) (ls : Letters) (given : List ℕ) (t : Tree) (n : ℕ) (o p : OutlineValue) (k : ℕ) (f : AddFault)
-    → IsShallow t → o ≡ outline_of t → after 1 (map edit_value es) given o ≡ Ok p → k ≡ length es → IsWithoutRoomBy ls p.additions f
+    → IsShallow t → o ≡ outline_of t → outline_after 1 (map edit_value es) given o ≡ Ok p → k ≡ length es → IsWithoutRoomBy ls p.additions f
     → StopsTree (record { edits = map edit_value es; letters = ls }) given t n (NoRoom (k + 1) f)
 room_stop es ls given t n o p k f shallow is made lines h =
     let number : k + 1 ≡ length (map edit_value es) + 1 = ap (λ m. m + 1) (lines ∙ sym (length-map es edit_value)) in
-    inr (shallow, inr (p, subst (λ (q : OutlineValue). after 1 (map edit_value es) given q ≡ Ok p) is made, inl (number, h)))
+    inr (shallow, inr (p, subst (λ (q : OutlineValue). outline_after 1 (map edit_value es) given q ≡ Ok p) is made, inl (number, h)))
 
 -- a whole block that is written is what stands there
 pub whole_block : (n : ℕ) (xs ys : List ℕ) → n ≡ length xs → take n (xs ++ ys) ≡ xs

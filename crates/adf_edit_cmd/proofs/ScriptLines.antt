@@ -7,7 +7,7 @@ use Rattle.adf_edits.specs.declared.edits.Change.TheVariants as what
 use Rattle.adf_manifest.specs.Texts.{hex_word}
 use Rattle.adf_names.specs.Escapes.{IsSpelling}
 use Rattle.adf_names.specs.PathTexts.{IsPathText}
-use Rattle.adf_edit_cmd.specs.Lines.{Says, SaysEdit, place_in, value_in, verb_of}
+use Rattle.adf_edit_cmd.specs.Lines.{SaysBehindVerb, SaysEdit, before_colon, value_in, verb_of}
 use Rattle.adf_partitions.specs.PlanTexts.{behind_word, first_word}
 use Rattle.adf_edit_cmd.specs.declared.lines.Verb.{Verb}
 use Rattle.adf_edit_cmd.specs.declared.lines.Verb.TheVariants.{Remove, Move, Dir, File, Note, Protect, Date, Label}
@@ -16,64 +16,64 @@ use Rattle.adf_edit_cmd.specs.declared.lines.Verb.TheVariants.{Remove, Move, Dir
 abbrev pub HasNoPath : List ℕ → Type 0
 HasNoPath text = (path : List (List ℕ)) → ¬ IsPathText text path
 
-pub no_remove : (text : List ℕ) → HasNoPath text → (e : EditValue) → ¬ Says Remove text e
+pub no_remove : (text : List ℕ) → HasNoPath text → (e : EditValue) → ¬ SaysBehindVerb Remove text e
 no_remove text h (remove path) s = h path s
 no_remove text h _ s = s
 
-pub no_dir : (text : List ℕ) → HasNoPath text → (e : EditValue) → ¬ Says Dir text e
+pub no_dir : (text : List ℕ) → HasNoPath text → (e : EditValue) → ¬ SaysBehindVerb Dir text e
 no_dir text h (dir path) s = h path s
 no_dir text h _ s = s
 
-pub no_label : (text : List ℕ) → ((bytes : List ℕ) → ¬ IsSpelling 30 text bytes) → (e : EditValue) → ¬ Says Label text e
+pub no_label : (text : List ℕ) → ((bytes : List ℕ) → ¬ IsSpelling 30 text bytes) → (e : EditValue) → ¬ SaysBehindVerb Label text e
 no_label text h (label bytes) s = h bytes s
 no_label text h _ s = s
 
-pub no_origin : (text : List ℕ) → HasNoPath (place_in text) → (e : EditValue) → ¬ Says Move text e
+pub no_origin : (text : List ℕ) → HasNoPath (before_colon text) → (e : EditValue) → ¬ SaysBehindVerb Move text e
 no_origin text h (move from to) s = h from s.0
 no_origin text h _ s = s
 
-pub no_target : (text : List ℕ) → HasNoPath (value_in text) → (e : EditValue) → ¬ Says Move text e
+pub no_target : (text : List ℕ) → HasNoPath (value_in text) → (e : EditValue) → ¬ SaysBehindVerb Move text e
 no_target text h (move from to) s = h to s.1
 no_target text h _ s = s
 
-pub no_file : (text : List ℕ) → HasNoPath (place_in text) → (e : EditValue) → ¬ Says File text e
+pub no_file : (text : List ℕ) → HasNoPath (before_colon text) → (e : EditValue) → ¬ SaysBehindVerb File text e
 no_file text h (file path size) s = h path s.0
 no_file text h _ s = s
 
-pub no_size : (text : List ℕ) → ((n : ℕ) → n < 2 ^ 32 → value_in text ≢ decimal n) → (e : EditValue) → ¬ Says File text e
+pub no_size : (text : List ℕ) → ((n : ℕ) → n < 2 ^ 32 → value_in text ≢ decimal n) → (e : EditValue) → ¬ SaysBehindVerb File text e
 no_size text h (file path size) s = h size s.1 s.2
 no_size text h _ s = s
 
-pub no_noted : (text : List ℕ) → HasNoPath (place_in text) → (e : EditValue) → ¬ Says Note text e
+pub no_noted : (text : List ℕ) → HasNoPath (before_colon text) → (e : EditValue) → ¬ SaysBehindVerb Note text e
 no_noted text h (change path (what.Note note)) s = h path s.0
 no_noted text h _ s = s
 
-pub no_note : (text : List ℕ) → ((bytes : List ℕ) → ¬ IsSpelling 79 (value_in text) bytes) → (e : EditValue) → ¬ Says Note text e
+pub no_note : (text : List ℕ) → ((bytes : List ℕ) → ¬ IsSpelling 79 (value_in text) bytes) → (e : EditValue) → ¬ SaysBehindVerb Note text e
 no_note text h (change path (what.Note note)) s = h note s.1
 no_note text h _ s = s
 
-pub no_protected : (text : List ℕ) → HasNoPath (place_in text) → (e : EditValue) → ¬ Says Protect text e
+pub no_protected : (text : List ℕ) → HasNoPath (before_colon text) → (e : EditValue) → ¬ SaysBehindVerb Protect text e
 no_protected text h (change path (what.Protect word)) s = h path s.0
 no_protected text h _ s = s
 
-pub no_word : (text : List ℕ) → ((w : ℕ) → w < 2 ^ 32 → value_in text ≢ hex_word w) → (e : EditValue) → ¬ Says Protect text e
+pub no_word : (text : List ℕ) → ((w : ℕ) → w < 2 ^ 32 → value_in text ≢ hex_word w) → (e : EditValue) → ¬ SaysBehindVerb Protect text e
 no_word text h (change path (what.Protect word)) s = h word s.1 s.2
 no_word text h _ s = s
 
-pub no_dated : (text : List ℕ) → HasNoPath (place_in text) → (e : EditValue) → ¬ Says Date text e
+pub no_dated : (text : List ℕ) → HasNoPath (before_colon text) → (e : EditValue) → ¬ SaysBehindVerb Date text e
 no_dated text h (change path (what.Date date)) s = h path s.0
 no_dated text h _ s = s
 
-pub no_date : (text : List ℕ) → ((date : Stamp) → IsStamp date → value_in text ≢ plain_text date) → (e : EditValue) → ¬ Says Date text e
+pub no_date : (text : List ℕ) → ((date : Stamp) → IsStamp date → value_in text ≢ plain_text date) → (e : EditValue) → ¬ SaysBehindVerb Date text e
 no_date text h (change path (what.Date date)) s = h date s.1 s.2
 no_date text h _ s = s
 
 some_same : (a b : Verb) → Some a ≡ Some b → a ≡ b
 some_same a b e = cc
 
-pub no_edit : (line : List ℕ) (verb : Verb) → verb_of (first_word line) ≡ Some verb → ((e : EditValue) → ¬ Says verb (behind_word line) e)
+pub no_edit : (line : List ℕ) (verb : Verb) → verb_of (first_word line) ≡ Some verb → ((e : EditValue) → ¬ SaysBehindVerb verb (behind_word line) e)
     → (e : EditValue) → ¬ SaysEdit line e
-no_edit line verb is h e s = h e (subst (λ v. Says v (behind_word line) e) (some_same s.0 verb (sym s.1 ∙ is)) s.2)
+no_edit line verb is h e s = h e (subst (λ v. SaysBehindVerb v (behind_word line) e) (some_same s.0 verb (sym s.1 ∙ is)) s.2)
 
 pub no_verb : (line : List ℕ) → verb_of (first_word line) ≡ None → (e : EditValue) → ¬ SaysEdit line e
 no_verb line is e s = let clash : None ≡ Some s.0 = sym is ∙ s.1 in absurd cc

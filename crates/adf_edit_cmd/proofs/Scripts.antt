@@ -5,7 +5,7 @@ use Rattle.std.proofs.lemmas.List.{length-map, map-append}
 use Rattle.adf_base.specs.declared.hash.Letters.{Letters}
 use Rattle.adf_edits.specs.Edits.{EditValue, edit_value}
 use Rattle.adf_edits.specs.declared.edits.Edit.{Edit}
-use Rattle.adf_partitions.specs.PlanTexts.{before, behind_line, first_line}
+use Rattle.adf_partitions.specs.PlanTexts.{before_byte, behind_line, first_line}
 use Rattle.adf_partitions.proofs.TextLines.{shorter}
 use Rattle.adf_edit_cmd.specs.Lines.{SaysEdit}
 use Rattle.adf_edit_cmd.specs.Script.{AreEdits, IsNextRead, IsScript, IsScriptFault, ending}
@@ -14,7 +14,7 @@ use Rattle.adf_edit_cmd.specs.declared.stop.Stop.{Stop}
 use Rattle.adf_edit_cmd.specs.declared.stop.Stop.TheVariants.{BadLine, NoMemory}
 
 no_empty_line : (e : EditValue) → ¬ SaysEdit (first_line []) e
-unfolding before
+unfolding before_byte
 no_empty_line e h = let is : None ≡ Some h.0 = h.1 in absurd cc
 
 -- a line of an edit takes bytes

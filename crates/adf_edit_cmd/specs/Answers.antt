@@ -1,7 +1,7 @@
 -- What the program answers.
 use Rattle.std.specs.Prelude.{◌≡◌, ◌≢◌, ◌<◌, ◌≤◌, ◌⊎◌, ◌++◌, ℕ, List, codes, length, take}
 use Rattle.adf_runs.specs.Commands.{Command, Reply, on_errors, on_output}
-use Rattle.adf_edit_cmd.specs.Edited.{IsEdited, StopsAt}
+use Rattle.adf_edit_cmd.specs.Edited.{IsEdited, StopsInput}
 use Rattle.adf_edit_cmd.specs.Stops.{stop_text}
 use Rattle.adf_edit_cmd.specs.declared.program.TheConstants.{MOST_INPUT_BYTES}
 use Rattle.adf_edit_cmd.specs.declared.stop.Stop.{Stop}
@@ -11,7 +11,7 @@ use Rattle.adf_edit_cmd.specs.declared.stop.Stop.TheVariants.{NoMemory}
 abbrev pub Edits : List ℕ → Reply → Type 0
 Edits input reply =
     ((new : List ℕ) × IsEdited input new × (reply ≡ on_output 0 new))
-    ⊎ ((stop : Stop) × (stop ≢ NoMemory) × StopsAt input stop × (reply ≡ on_errors 1 (stop_text stop ++ codes "\n")))
+    ⊎ ((stop : Stop) × (stop ≢ NoMemory) × StopsInput input stop × (reply ≡ on_errors 1 (stop_text stop ++ codes "\n")))
 
 -- the answer to an input: what is past the most bytes of one does not count
 abbrev pub EditAnswer : List ℕ → Reply → Type 0

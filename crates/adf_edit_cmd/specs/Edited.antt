@@ -8,7 +8,7 @@ use Rattle.adf_base.specs.declared.hash.Letters.{Letters}
 use Rattle.adf_base.specs.declared.hash.Letters.TheVariants.{Ascii, International}
 use Rattle.adf_boot_blocks.specs.Writing.{restored, with_boot}
 use Rattle.adf_edits.specs.Edits.{EditValue, edited}
-use Rattle.adf_edits.specs.Outline.{IsWithoutRoomBy, OutlineValue, outline_of, tree_of_by}
+use Rattle.adf_edits.specs.Outline.{IsWithoutRoomBy, OutlineValue, outline_of, tree_of_outline_by}
 use Rattle.adf_edits.specs.Paths.{has_deep}
 use Rattle.adf_edits.specs.declared.edits.EditFault.{EditFault}
 use Rattle.adf_tree.specs.Additions.{AllHaveRoomBy}
@@ -21,14 +21,14 @@ use Rattle.adf_edit_cmd.specs.declared.stop.Stop.{Stop}
 use Rattle.adf_edit_cmd.specs.declared.stop.Stop.TheVariants.{Short, Image, TooDeep, Line, NoRoom, Full, NoMemory}
 
 -- an outline goes on, or the edit of line n cannot be applied
-abbrev pub next_of : ℕ → Result OutlineValue EditFault → (OutlineValue → Result OutlineValue Stop) → Result OutlineValue Stop
-next_of n (Ok o) go = go o
-next_of n (Err fault) go = Err (Line n fault)
+abbrev pub next_outline : ℕ → Result OutlineValue EditFault → (OutlineValue → Result OutlineValue Stop) → Result OutlineValue Stop
+next_outline n (Ok o) go = go o
+next_outline n (Err fault) go = Err (Line n fault)
 
 -- an outline after edits, the first one that of line n; or the first line that cannot be applied
-unfoldable pub after : ℕ → List EditValue → List ℕ → OutlineValue → Result OutlineValue Stop
-after n [] given o = Ok o
-after n (e ∷ es) given o = next_of n (edited e given o) (after (n + 1) es (behind_file e given))
+unfoldable pub outline_after : ℕ → List EditValue → List ℕ → OutlineValue → Result OutlineValue Stop
+outline_after n [] given o = Ok o
+outline_after n (e ∷ es) given o = next_outline n (edited e given o) (outline_after (n + 1) es (behind_file e given))
 
 -- why the edit of line n is not applied
 abbrev pub IsLineStop : EditValue → List ℕ → OutlineValue → ℕ → Stop → Type 0
@@ -79,15 +79,15 @@ IsRoomStop s o _ = ⊥
 -- the new image is laid for the tree after all edits, by the letters of the script
 abbrev pub IsByTree : ScriptValue → List ℕ → Tree → ℕ → List ℕ → List ℕ → Type 0
 IsByTree s given t n image new =
-    IsShallow t × (o : OutlineValue) × (after 1 s.edits given (outline_of t) ≡ Ok o) × AllHaveRoomBy s.letters o.additions
-    × IsLaidOver (tree_of_by s.letters o) n image new
+    IsShallow t × (o : OutlineValue) × (outline_after 1 s.edits given (outline_of t) ≡ Ok o) × AllHaveRoomBy s.letters o.additions
+    × IsLaidOver (tree_of_outline_by s.letters o) n image new
 
 -- why there is none: the depth of the tree, a line, the letters, or the tree after all edits
 abbrev pub StopsTree : ScriptValue → List ℕ → Tree → ℕ → Stop → Type 0
 StopsTree s given t n stop =
-    IsDepthStop t stop ⊎ (IsShallow t × ((after 1 s.edits given (outline_of t) ≡ Err stop)
-    ⊎ ((o : OutlineValue) × (after 1 s.edits given (outline_of t) ≡ Ok o)
-    × (IsRoomStop s o stop ⊎ (AllHaveRoomBy s.letters o.additions × IsFullStop (tree_of_by s.letters o) n stop)))))
+    IsDepthStop t stop ⊎ (IsShallow t × ((outline_after 1 s.edits given (outline_of t) ≡ Err stop)
+    ⊎ ((o : OutlineValue) × (outline_after 1 s.edits given (outline_of t) ≡ Ok o)
+    × (IsRoomStop s o stop ⊎ (AllHaveRoomBy s.letters o.additions × IsFullStop (tree_of_outline_by s.letters o) n stop)))))
 
 -- the new image is laid for the tree of the image after all edits, by the letters of the script
 abbrev pub IsByScript : ScriptValue → List ℕ → List ℕ → List ℕ → Type 0
@@ -112,7 +112,7 @@ abbrev pub EndsEarly : List ℕ → Stop → Type 0
 EndsEarly input stop = (s : ScriptValue) × (given : List ℕ) × IsScript input s given × (behind_files s.edits given ≡ None) × (stop ≡ Short)
 
 -- why there is none: the script, its files, the image, or what the script makes of it
-abbrev pub StopsAt : List ℕ → Stop → Type 0
-StopsAt input stop =
+abbrev pub StopsInput : List ℕ → Stop → Type 0
+StopsInput input stop =
     IsScriptFault input stop ⊎ (EndsEarly input stop
     ⊎ ((s : ScriptValue) × (given : List ℕ) × (image : List ℕ) × IsInput input s given image × StopsOn s given image stop))

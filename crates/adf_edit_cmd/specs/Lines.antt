@@ -7,7 +7,7 @@ use Rattle.adf_edits.specs.declared.edits.Change.TheVariants as what
 use Rattle.adf_manifest.specs.Texts.{hex_word}
 use Rattle.adf_names.specs.Escapes.{IsSpelling}
 use Rattle.adf_names.specs.PathTexts.{IsPathText}
-use Rattle.adf_partitions.specs.PlanTexts.{before, behind, behind_word, first_word}
+use Rattle.adf_partitions.specs.PlanTexts.{before_byte, behind_byte, behind_word, first_word}
 use Rattle.adf_edit_cmd.specs.declared.lines.Verb.{Verb}
 use Rattle.adf_edit_cmd.specs.declared.lines.Verb.TheVariants.{Remove, Move, Dir, File, Note, Protect, Date, Label}
 
@@ -20,24 +20,24 @@ verb_of word =
     else if bytes_eq word (codes "date") then Some Date else if bytes_eq word (codes "label") then Some Label else None
 
 -- what stands before the first `:`, and the value behind it
-abbrev pub place_in : List ℕ → List ℕ
-place_in text = before 58 text
+abbrev pub before_colon : List ℕ → List ℕ
+before_colon text = before_byte 58 text
 
 abbrev pub value_in : List ℕ → List ℕ
-value_in text = behind 58 text
+value_in text = behind_byte 58 text
 
 -- the text behind a word says this edit: PATH, PATH:PATH, PATH:SIZE, PATH:TEXT, PATH:WORD, PATH:DATE, or TEXT
-abbrev pub Says : Verb → List ℕ → EditValue → Type 0
-Says Remove text (remove path) = IsPathText text path
-Says Move text (move from to) = IsPathText (place_in text) from × IsPathText (value_in text) to
-Says Dir text (dir path) = IsPathText text path
-Says File text (file path size) = IsPathText (place_in text) path × (size < 2 ^ 32) × (value_in text ≡ decimal size)
-Says Note text (change path (what.Note note)) = IsPathText (place_in text) path × IsSpelling 79 (value_in text) note
-Says Protect text (change path (what.Protect word)) = IsPathText (place_in text) path × (word < 2 ^ 32) × (value_in text ≡ hex_word word)
-Says Date text (change path (what.Date date)) = IsPathText (place_in text) path × IsStamp date × (value_in text ≡ plain_text date)
-Says Label text (label bytes) = IsSpelling 30 text bytes
-Says _ _ _ = ⊥
+abbrev pub SaysBehindVerb : Verb → List ℕ → EditValue → Type 0
+SaysBehindVerb Remove text (remove path) = IsPathText text path
+SaysBehindVerb Move text (move from to) = IsPathText (before_colon text) from × IsPathText (value_in text) to
+SaysBehindVerb Dir text (dir path) = IsPathText text path
+SaysBehindVerb File text (file path size) = IsPathText (before_colon text) path × (size < 2 ^ 32) × (value_in text ≡ decimal size)
+SaysBehindVerb Note text (change path (what.Note note)) = IsPathText (before_colon text) path × IsSpelling 79 (value_in text) note
+SaysBehindVerb Protect text (change path (what.Protect word)) = IsPathText (before_colon text) path × (word < 2 ^ 32) × (value_in text ≡ hex_word word)
+SaysBehindVerb Date text (change path (what.Date date)) = IsPathText (before_colon text) path × IsStamp date × (value_in text ≡ plain_text date)
+SaysBehindVerb Label text (label bytes) = IsSpelling 30 text bytes
+SaysBehindVerb _ _ _ = ⊥
 
 -- a line says an edit
 abbrev pub SaysEdit : List ℕ → EditValue → Type 0
-SaysEdit line e = (verb : Verb) × (verb_of (first_word line) ≡ Some verb) × Says verb (behind_word line) e
+SaysEdit line e = (verb : Verb) × (verb_of (first_word line) ≡ Some verb) × SaysBehindVerb verb (behind_word line) e

@@ -74,15 +74,15 @@ IsNextRead old new line (Err NoMemory) = Unit {0}
 IsNextRead old new line (Err _) = ⊥
 
 -- how many bytes an edit takes of those behind the script
-abbrev pub size_of : EditValue → ℕ
-size_of (file path size) = size
-size_of _ = 0
+abbrev pub bytes_taken : EditValue → ℕ
+bytes_taken (file path size) = size
+bytes_taken _ = 0
 
 -- the bytes behind those that an edit takes
 abbrev pub behind_file : EditValue → List ℕ → List ℕ
-behind_file e given = drop (size_of e) given
+behind_file e given = drop (bytes_taken e) given
 
 -- the bytes behind those of all files, if there are enough
 unfoldable pub behind_files : List EditValue → List ℕ → Option (List ℕ)
 behind_files [] given = Some given
-behind_files (e ∷ es) given = if nat_lt (length given) (size_of e) then None else behind_files es (behind_file e given)
+behind_files (e ∷ es) given = if nat_lt (length given) (bytes_taken e) then None else behind_files es (behind_file e given)

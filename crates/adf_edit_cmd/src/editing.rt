@@ -9,7 +9,7 @@ ghost use Rattle.adf_tree.specs.Tree.{Tree as TreeValue};
 ghost use Rattle.adf_volume.specs.Fits.{Fits};
 ghost use Rattle.adf_volume.specs.Layout.{Layout};
 ghost use Rattle.adf_edit_cmd.specs.Edited.{IsByScript, IsByTree, IsDepthStop, IsEdited, IsFullStop, IsImageFault, IsLaidOver};
-ghost use Rattle.adf_edit_cmd.specs.Edited.{IsLineStop, IsShallow, StopsAt, StopsOn, StopsTree, after, with_boot_by};
+ghost use Rattle.adf_edit_cmd.specs.Edited.{IsLineStop, IsShallow, StopsInput, StopsOn, StopsTree, outline_after, with_boot_by};
 ghost use Rattle.adf_boot_blocks.specs.BootBlocks.{IsOtherBoot};
 
 use crate::script::{Script, behind_file, behind_files, read_script};
@@ -78,9 +78,9 @@ fn edit_all(
     edits: Vec<Edit>,
     given: &[u8],
 ) -> Result<Outline, Stop>
-    ensures ok { IfOk result (λ o. after 1 (map edit_value edits.items) given.now outline ≡ Ok o) }
+    ensures ok { IfOk result (λ o. outline_after 1 (map edit_value edits.items) given.now outline ≡ Ok o) }
     ensures fault { IfErr result (λ f. f ≢ Stop.NoMemory
-        → after 1 (map edit_value edits.items) given.now outline ≡ Err f) }
+        → outline_after 1 (map edit_value edits.items) given.now outline ≡ Err f) }
 {
     let mut outline = outline;
     let mut given = given;
@@ -181,7 +181,7 @@ fn by_script(alloc: Global, script: Script, given: &[u8], image: &[u8]) -> Resul
 /// names of one directory are one by them; else a tree that does not fit.
 pub fn new_image(alloc: Global, input: &[u8]) -> Result<Vec<u8>, Stop>
     ensures image { IfOk result (λ new. IsEdited input.now new.items) }
-    ensures stop { IfErr result (StopsAt input.now) }
+    ensures stop { IfErr result (StopsInput input.now) }
 {
     let (script, given) = read_script(alloc, input)?;
     match behind_files(&script.edits, given) {

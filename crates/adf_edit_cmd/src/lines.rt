@@ -2,7 +2,7 @@
 
 ghost use Rattle.std.specs.Prelude.{◌≡◌, IfOk, IfErr, List, ℕ};
 ghost use Rattle.adf_edits.specs.Edits.{EditValue, edit_value};
-ghost use Rattle.adf_edit_cmd.specs.Lines.{Says, SaysEdit, verb_of};
+ghost use Rattle.adf_edit_cmd.specs.Lines.{SaysBehindVerb, SaysEdit, verb_of};
 
 use adf_edits::{Change, Edit};
 use adf_manifest::{read_number, read_stamp, read_word};
@@ -51,9 +51,9 @@ fn verb_of(word: &[u8]) -> Option<Verb>
 #[tactic(auto, using(crate::proofs::ScriptLines::no_remove))]
 // PATH
 fn read_remove(alloc: Global, text: &[u8]) -> Result<Edit, PathFault>
-    ensures ok { IfOk result (λ e. Says Verb.Remove text.now (edit_value e)) }
+    ensures ok { IfOk result (λ e. SaysBehindVerb Verb.Remove text.now (edit_value e)) }
     ensures bad { IfErr result (λ f. f ≡ PathFault.BadText → (e : EditValue)
-        → ¬ Says Verb.Remove text.now e) }
+        → ¬ SaysBehindVerb Verb.Remove text.now e) }
 {
     let path = read_path(alloc, text)?;
     Ok(Edit::Remove(path))
@@ -62,9 +62,9 @@ fn read_remove(alloc: Global, text: &[u8]) -> Result<Edit, PathFault>
 #[tactic(auto, using(crate::proofs::ScriptLines::no_dir))]
 // PATH
 fn read_dir(alloc: Global, text: &[u8]) -> Result<Edit, PathFault>
-    ensures ok { IfOk result (λ e. Says Verb.Dir text.now (edit_value e)) }
+    ensures ok { IfOk result (λ e. SaysBehindVerb Verb.Dir text.now (edit_value e)) }
     ensures bad { IfErr result (λ f. f ≡ PathFault.BadText → (e : EditValue)
-        → ¬ Says Verb.Dir text.now e) }
+        → ¬ SaysBehindVerb Verb.Dir text.now e) }
 {
     let path = read_path(alloc, text)?;
     Ok(Edit::Dir(path))
@@ -73,9 +73,9 @@ fn read_dir(alloc: Global, text: &[u8]) -> Result<Edit, PathFault>
 #[tactic(auto, using(crate::proofs::ScriptLines::no_label))]
 // TEXT
 fn read_label(text: &[u8]) -> Result<Edit, PathFault>
-    ensures ok { IfOk result (λ e. Says Verb.Label text.now (edit_value e)) }
+    ensures ok { IfOk result (λ e. SaysBehindVerb Verb.Label text.now (edit_value e)) }
     ensures bad { IfErr result (λ f. f ≡ PathFault.BadText → (e : EditValue)
-        → ¬ Says Verb.Label text.now e) }
+        → ¬ SaysBehindVerb Verb.Label text.now e) }
 {
     match Label::read(text) {
         Some(label) => Ok(Edit::Label(label)),
@@ -86,9 +86,9 @@ fn read_label(text: &[u8]) -> Result<Edit, PathFault>
 #[tactic(auto, using(crate::proofs::ScriptLines::no_origin, crate::proofs::ScriptLines::no_target))]
 // PATH:PATH
 fn read_move(alloc: Global, text: &[u8]) -> Result<Edit, PathFault>
-    ensures ok { IfOk result (λ e. Says Verb.Move text.now (edit_value e)) }
+    ensures ok { IfOk result (λ e. SaysBehindVerb Verb.Move text.now (edit_value e)) }
     ensures bad { IfErr result (λ f. f ≡ PathFault.BadText → (e : EditValue)
-        → ¬ Says Verb.Move text.now e) }
+        → ¬ SaysBehindVerb Verb.Move text.now e) }
 {
     let (from, to) = cut(text, b':');
     let from = read_path(alloc, from)?;
@@ -99,9 +99,9 @@ fn read_move(alloc: Global, text: &[u8]) -> Result<Edit, PathFault>
 #[tactic(auto, using(crate::proofs::ScriptLines::no_file, crate::proofs::ScriptLines::no_size))]
 // PATH:SIZE
 fn read_file(alloc: Global, text: &[u8]) -> Result<Edit, PathFault>
-    ensures ok { IfOk result (λ e. Says Verb.File text.now (edit_value e)) }
+    ensures ok { IfOk result (λ e. SaysBehindVerb Verb.File text.now (edit_value e)) }
     ensures bad { IfErr result (λ f. f ≡ PathFault.BadText → (e : EditValue)
-        → ¬ Says Verb.File text.now e) }
+        → ¬ SaysBehindVerb Verb.File text.now e) }
 {
     let (path, size) = cut(text, b':');
     let Some(size) = read_number(size) else {
@@ -114,9 +114,9 @@ fn read_file(alloc: Global, text: &[u8]) -> Result<Edit, PathFault>
 #[tactic(auto, using(crate::proofs::ScriptLines::no_noted, crate::proofs::ScriptLines::no_note))]
 // PATH:TEXT
 fn read_note(alloc: Global, text: &[u8]) -> Result<Edit, PathFault>
-    ensures ok { IfOk result (λ e. Says Verb.Note text.now (edit_value e)) }
+    ensures ok { IfOk result (λ e. SaysBehindVerb Verb.Note text.now (edit_value e)) }
     ensures bad { IfErr result (λ f. f ≡ PathFault.BadText → (e : EditValue)
-        → ¬ Says Verb.Note text.now e) }
+        → ¬ SaysBehindVerb Verb.Note text.now e) }
 {
     let (path, note) = cut(text, b':');
     let Some(note) = Comment::read(note) else {
@@ -129,9 +129,9 @@ fn read_note(alloc: Global, text: &[u8]) -> Result<Edit, PathFault>
 #[tactic(auto, using(crate::proofs::ScriptLines::no_protected, crate::proofs::ScriptLines::no_word))]
 // PATH:WORD
 fn read_protect(alloc: Global, text: &[u8]) -> Result<Edit, PathFault>
-    ensures ok { IfOk result (λ e. Says Verb.Protect text.now (edit_value e)) }
+    ensures ok { IfOk result (λ e. SaysBehindVerb Verb.Protect text.now (edit_value e)) }
     ensures bad { IfErr result (λ f. f ≡ PathFault.BadText → (e : EditValue)
-        → ¬ Says Verb.Protect text.now e) }
+        → ¬ SaysBehindVerb Verb.Protect text.now e) }
 {
     let (path, word) = cut(text, b':');
     let Some(word) = read_word(word) else {
@@ -144,9 +144,9 @@ fn read_protect(alloc: Global, text: &[u8]) -> Result<Edit, PathFault>
 #[tactic(auto, using(crate::proofs::ScriptLines::no_dated, crate::proofs::ScriptLines::no_date))]
 // PATH:DATE
 fn read_date(alloc: Global, text: &[u8]) -> Result<Edit, PathFault>
-    ensures ok { IfOk result (λ e. Says Verb.Date text.now (edit_value e)) }
+    ensures ok { IfOk result (λ e. SaysBehindVerb Verb.Date text.now (edit_value e)) }
     ensures bad { IfErr result (λ f. f ≡ PathFault.BadText → (e : EditValue)
-        → ¬ Says Verb.Date text.now e) }
+        → ¬ SaysBehindVerb Verb.Date text.now e) }
 {
     let (path, date) = cut(text, b':');
     let Some(date) = read_stamp(date) else {
@@ -158,9 +158,9 @@ fn read_date(alloc: Global, text: &[u8]) -> Result<Edit, PathFault>
 
 // What a word asks for, with the text behind it.
 fn read_verb(alloc: Global, verb: Verb, text: &[u8]) -> Result<Edit, PathFault>
-    ensures ok { IfOk result (λ e. Says verb text.now (edit_value e)) }
+    ensures ok { IfOk result (λ e. SaysBehindVerb verb text.now (edit_value e)) }
     ensures bad { IfErr result (λ f. f ≡ PathFault.BadText → (e : EditValue)
-        → ¬ Says verb text.now e) }
+        → ¬ SaysBehindVerb verb text.now e) }
 {
     match verb {
         Verb::Remove => read_remove(alloc, text),

@@ -2,7 +2,7 @@
 
 ghost use Rattle.std.specs.Prelude.{◌≡◌, ◌++◌, List, Option, codes, false, ℕ};
 ghost use Rattle.adf_edit_cmd.specs.Answers.{Edits, edit_command};
-ghost use Rattle.adf_edit_cmd.specs.Edited.{StopsAt};
+ghost use Rattle.adf_edit_cmd.specs.Edited.{StopsInput};
 ghost use Rattle.adf_edit_cmd.specs.Stops.{stop_text};
 ghost use Rattle.adf_runs.specs.Commands.{IsUnanswered, RunEnds, TakesEnough, on_errors, on_output};
 ghost use Rattle.adf_runs.specs.Outcomes.{EndsBy, is_read_fault, is_write_fault};
@@ -49,7 +49,7 @@ fn say_stop(alloc: Global, stop: Stop) -> Outcome
 
 // Says why no image is written; output gets nothing.
 fn refuse(alloc: Global, stop: Stop) -> Outcome
-    ensures ends { (held : Option (List ℕ)) (input : List ℕ) → StopsAt input stop
+    ensures ends { (held : Option (List ℕ)) (input : List ℕ) → StopsInput input stop
         → EndsBy (Edits input) result held held }
     ensures read { is_read_fault result ≡ false }
     ensures written { is_write_fault result ≡ false }

@@ -3,7 +3,7 @@
 ghost use Rattle.std.specs.Prelude.{◌≡◌, ◌≤◌, IfOk, IfErr, IfSome, IfNone, None, Some, length, map};
 ghost use Rattle.adf_edits.specs.Edits.{edit_value};
 ghost use Rattle.adf_edit_cmd.specs.Script.{IsNextRead, IsScript, IsScriptFault, behind_file, behind_files, ending};
-ghost use Rattle.adf_edit_cmd.specs.Script.{is_end, letters_asked, size_of};
+ghost use Rattle.adf_edit_cmd.specs.Script.{is_end, letters_asked, bytes_taken};
 ghost use Rattle.adf_edit_cmd.specs.declared.script.TheConstants.{MOST_LINES};
 
 use crate::lines::read_edit;
@@ -111,8 +111,8 @@ pub fn read_script(alloc: Global, text: &[u8]) -> Result<(Script, &[u8]), Stop>
 }
 
 // How many bytes an edit takes of those behind the script.
-fn size_of(edit: &Edit) -> usize
-    ensures { result ≡ size_of (edit_value edit.now) }
+fn bytes_taken(edit: &Edit) -> usize
+    ensures { result ≡ bytes_taken (edit_value edit.now) }
 {
     match edit {
         Edit::File(_, size) => *size as usize,
@@ -124,7 +124,7 @@ fn size_of(edit: &Edit) -> usize
 pub fn behind_file<'a>(edit: &Edit, given: &'a [u8]) -> &'a [u8]
     ensures { result.now ≡ behind_file (edit_value edit.now) given.now }
 {
-    let size = size_of(edit).min(given.len());
+    let size = bytes_taken(edit).min(given.len());
     &given[size..]
 }
 
@@ -136,7 +136,7 @@ pub fn behind_files<'a>(edits: &[Edit], given: &'a [u8]) -> Option<&'a [u8]>
 {
     let mut rest = given;
     for edit in edits {
-        if rest.len() < size_of(edit) {
+        if rest.len() < bytes_taken(edit) {
             return None;
         }
         rest = behind_file(edit, rest);

@@ -21,7 +21,8 @@ use Rattle.adf_tree.specs.Additions.{Addition, AllHaveRoom, AllHaveRoomBy, entri
 use Rattle.adf_tree.specs.Additions.{with_addition_by}
 use Rattle.adf_tree.specs.Faults.{add_fault}
 use Rattle.adf_tree.specs.Tree.{entry, room_for, room_for_by, with_entry_by, IsAnswer, IsTree, Tree}
-use Rattle.adf_edits.specs.Outline.{IsWithoutRoomBy, OutlineValue, addition_for, additions_of, tree_of_by, with_addition_in, with_entry, with_first}
+use Rattle.adf_edits.specs.Outline.{IsWithoutRoomBy, OutlineValue, addition_for, tree_additions, tree_of_outline_by, with_addition_in}
+use Rattle.adf_edits.specs.Outline.{with_addition_for, with_first}
 
 -- the tree of one addition more
 pub tree_more_by : (ls : Letters) (xs : List Addition) (x : Addition)
@@ -70,18 +71,18 @@ no_room ls all xs ys x f e h ne =
 
 -- the tree of an outline, addition by addition
 
-pub grown : (ls : Letters) (o : OutlineValue) (xs : List Addition) (x : Addition) (t u : Tree) → t ≡ tree_of_by ls (with_first o xs)
-    → u ≡ with_addition_in t x → u ≡ tree_of_by ls (with_first o (xs ++ x ∷ []))
+pub grown : (ls : Letters) (o : OutlineValue) (xs : List Addition) (x : Addition) (t u : Tree) → t ≡ tree_of_outline_by ls (with_first o xs)
+    → u ≡ with_addition_in t x → u ≡ tree_of_outline_by ls (with_first o (xs ++ x ∷ []))
 grown ls o xs x t u is new = new ∙ (ap (λ (v : Tree). with_addition_in v x) is
     ∙ ap (λ es. record { kind = o.kind; letters = ls; label = o.label; stamps = o.stamps; entries = es }) (sym (tree_more_by ls xs x)))
 
-pub room_grown : (ls : Letters) (o : OutlineValue) (xs : List Addition) (x : Addition) (t : Tree) → t ≡ tree_of_by ls (with_first o xs)
+pub room_grown : (ls : Letters) (o : OutlineValue) (xs : List Addition) (x : Addition) (t : Tree) → t ≡ tree_of_outline_by ls (with_first o xs)
     → AllHaveRoomBy ls xs → IsOk (room_for_by t.letters t.entries x.path) → AllHaveRoomBy ls (xs ++ x ∷ [])
 room_grown ls o xs x t is room ok =
     room_more_by ls xs x room (subst (λ (v : Tree). IsOk (room_for_by v.letters v.entries x.path)) is ok)
 
 pub refused : (ls : Letters) (o : OutlineValue) (xs ys : List Addition) (x : Addition) (t : Tree) (f : AddFault)
-    → t ≡ tree_of_by ls (with_first o xs) → xs ++ x ∷ ys ≡ o.additions → IsAnswer (room_for_by t.letters t.entries x.path) (Err f)
+    → t ≡ tree_of_outline_by ls (with_first o xs) → xs ++ x ∷ ys ≡ o.additions → IsAnswer (room_for_by t.letters t.entries x.path) (Err f)
     → f ≢ NoMemory → IsWithoutRoomBy ls o.additions f
 refused ls o xs ys x t f is all h ne =
     no_room ls o.additions xs ys x f all (subst (λ (v : Tree). IsAnswer (room_for_by v.letters v.entries x.path) (Err f)) is h) ne
@@ -92,7 +93,7 @@ room_memory (Err g) f h ok = cc
 
 -- what has room is refused only for want of memory
 pub refused_for_memory : (ls : Letters) (o : OutlineValue) (xs ys : List Addition) (x : Addition) (t : Tree) (f : AddFault)
-    → t ≡ tree_of_by ls (with_first o xs) → xs ++ x ∷ ys ≡ o.additions → IsAnswer (room_for_by t.letters t.entries x.path) (Err f)
+    → t ≡ tree_of_outline_by ls (with_first o xs) → xs ++ x ∷ ys ≡ o.additions → IsAnswer (room_for_by t.letters t.entries x.path) (Err f)
     → AllHaveRoomBy ls o.additions → f ≡ NoMemory
 refused_for_memory ls o xs ys x t f is all h room =
     let long : length (xs ++ x ∷ ys) ≡ length xs + length (x ∷ ys) = length-append xs (x ∷ ys) in
@@ -123,15 +124,15 @@ some_entry es i o lt is =
 
 -- the additions of one entry more
 pub additions_more : (es : List Entry) (i : ℕ) (e : Entry) → i < length es → entry es (i + 1) ≡ Some e
-    → additions_of (take (i + 1) es) ≡ with_entry (additions_of (take i es)) e
+    → tree_additions (take (i + 1) es) ≡ with_addition_for (tree_additions (take i es)) e
 additions_more es i e lt is =
-    ap additions_of (take_more es i e lt ∙ ap (λ x. take i es ++ x ∷ []) (at_entry es i e is)) ∙ fold_push with_entry [] (take i es) e
+    ap tree_additions (take_more es i e lt ∙ ap (λ x. take i es ++ x ∷ []) (at_entry es i e is)) ∙ fold_push with_addition_for [] (take i es) e
 
 pub entry_step : (es : List Entry) (i : ℕ) (e : Entry) (xs ys : List Addition) → i < length es → entry es (i + 1) ≡ Some e
-    → xs ≡ additions_of (take i es) → length xs ≡ i → ys ≡ with_entry xs e
-    → record { additions : ys ≡ additions_of (take (i + 1) es); count : length ys ≡ i + 1 }
+    → xs ≡ tree_additions (take i es) → length xs ≡ i → ys ≡ with_addition_for xs e
+    → record { additions : ys ≡ tree_additions (take (i + 1) es); count : length ys ≡ i + 1 }
 entry_step es i e xs ys lt is were count are = record {
-  additions = are ∙ (ap (λ zs. with_entry zs e) were ∙ sym (additions_more es i e lt is));
+  additions = are ∙ (ap (λ zs. with_addition_for zs e) were ∙ sym (additions_more es i e lt is));
   count = ap length are ∙ (length-append xs (addition_for xs e ∷ []) ∙ ap (λ n. n + 1) count);
 }
 
@@ -140,5 +141,5 @@ pub parent_early : (es : List Entry) (i : ℕ) (e : Entry) → IsTree es → i <
 parent_early es i e t lt is = subst (λ (x : Entry). x.parent ≤ i) (at_entry es i e is) (t.parents i e lt)
 
 -- the additions of all entries
-pub additions_all : (es : List Entry) (i : ℕ) → length es ≤ i → additions_of (take i es) ≡ additions_of es
-additions_all es i le = ap additions_of (take_all i es le)
+pub additions_all : (es : List Entry) (i : ℕ) → length es ≤ i → tree_additions (take i es) ≡ tree_additions es
+additions_all es i le = ap tree_additions (take_all i es le)

@@ -7,7 +7,7 @@ use Rattle.std.proofs.lemmas.List.Folds.{list_any-append}
 use Rattle.adf_tree.specs.declared.entry.Entry.{Entry}
 use Rattle.adf_tree.specs.Additions.{Addition}
 use Rattle.adf_tree.specs.Tree.{entry}
-use Rattle.adf_edits.specs.Outline.{addition_for, additions_of, with_entry}
+use Rattle.adf_edits.specs.Outline.{addition_for, tree_additions, with_addition_for}
 use Rattle.adf_edits.specs.Paths.{has_deep, is_deep}
 use Rattle.adf_edits.proofs.Additions.{additions_more}
 
@@ -16,7 +16,7 @@ pub moved_long : (from to path : List (List ℕ)) → length (to ++ drop (length
 moved_long from to path = length-append to (drop (length from) path) ∙ ap (λ n. length to + n) (length-drop (length from) path)
 
 -- an entry more that is not too deep
-pub shallow_more : (xs ys : List Addition) (e : Entry) → ys ≡ with_entry xs e → has_deep xs ≡ false
+pub shallow_more : (xs ys : List Addition) (e : Entry) → ys ≡ with_addition_for xs e → has_deep xs ≡ false
     → is_deep (addition_for xs e).path ≡ false → has_deep ys ≡ false
 shallow_more xs ys e are none off =
     ap has_deep are ∙ (list_any-append (λ (x : Addition). is_deep x.path) xs (addition_for xs e ∷ []) ∙ rw (none, off) refl)
@@ -25,24 +25,24 @@ shallow_more xs ys e are none off =
 deep_kept : (xs zs : List Addition) → has_deep xs ≡ true → has_deep (xs ++ zs) ≡ true
 deep_kept xs zs h = list_any-append (λ (x : Addition). is_deep x.path) xs zs ∙ rw h refl
 
-deep_on : (es : List Entry) (xs : List Addition) → has_deep xs ≡ true → has_deep (fold with_entry xs es) ≡ true
+deep_on : (es : List Entry) (xs : List Addition) → has_deep xs ≡ true → has_deep (fold with_addition_for xs es) ≡ true
 deep_on [] xs h = h
-deep_on (e ∷ es) xs h = deep_on es (with_entry xs e) (deep_kept xs (addition_for xs e ∷ []) h)
+deep_on (e ∷ es) xs h = deep_on es (with_addition_for xs e) (deep_kept xs (addition_for xs e ∷ []) h)
 
-fold_on : (es us : List Entry) (xs : List Addition) → fold with_entry xs (es ++ us) ≡ fold with_entry (fold with_entry xs es) us
+fold_on : (es us : List Entry) (xs : List Addition) → fold with_addition_for xs (es ++ us) ≡ fold with_addition_for (fold with_addition_for xs es) us
 fold_on [] us xs = refl
-fold_on (e ∷ es) us xs = fold_on es us (with_entry xs e)
+fold_on (e ∷ es) us xs = fold_on es us (with_addition_for xs e)
 
 -- an entry that is too deep is so in the tree
 pub deep_entry : (es : List Entry) (i : ℕ) (e : Entry) (xs : List Addition) → i < length es → entry es (i + 1) ≡ Some e
-    → xs ≡ additions_of (take i es) → is_deep (addition_for xs e).path ≡ true → has_deep (additions_of es) ≡ true
+    → xs ≡ tree_additions (take i es) → is_deep (addition_for xs e).path ≡ true → has_deep (tree_additions es) ≡ true
 deep_entry es i e xs lt is were deep =
-    let now : additions_of (take (i + 1) es) ≡ with_entry xs e = additions_more es i e lt is ∙ ap (λ us. with_entry us e) (sym were) in
-    let here : has_deep (additions_of (take (i + 1) es)) ≡ true =
+    let now : tree_additions (take (i + 1) es) ≡ with_addition_for xs e = additions_more es i e lt is ∙ ap (λ us. with_addition_for us e) (sym were) in
+    let here : has_deep (tree_additions (take (i + 1) es)) ≡ true =
     ap has_deep now ∙ (list_any-append (λ (x : Addition). is_deep x.path) xs (addition_for xs e ∷ [])
     ∙ rw deep (or_true (has_deep xs))) in
-    ap (λ us. has_deep (additions_of us)) (sym (take-append-drop (i + 1) es))
-    ∙ (ap has_deep (fold_on (take (i + 1) es) (drop (i + 1) es) []) ∙ deep_on (drop (i + 1) es) (additions_of (take (i + 1) es)) here)
+    ap (λ us. has_deep (tree_additions us)) (sym (take-append-drop (i + 1) es))
+    ∙ (ap has_deep (fold_on (take (i + 1) es) (drop (i + 1) es) []) ∙ deep_on (drop (i + 1) es) (tree_additions (take (i + 1) es)) here)
   where
     or_true : (b : Bool) → (b || true) ≡ true
     or_true true = refl

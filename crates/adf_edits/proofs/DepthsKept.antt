@@ -12,7 +12,7 @@ use Rattle.adf_tree.specs.Tree.{parents_of}
 use Rattle.adf_edits.specs.declared.edits.Change.{Change}
 use Rattle.adf_edits.specs.declared.edits.EditFault.{EditFault}
 use Rattle.adf_edits.specs.Edits.{EditValue, change_fault, changed_at, changed_if, depth_fault, edited_additions, file_of, gets_deep, has_path}
-use Rattle.adf_edits.specs.Edits.{is_directory, is_within, leads_through_file, move_fault, moved, new_addition, rebased, remove_fault, removed}
+use Rattle.adf_edits.specs.Edits.{leads_to_directory, is_within, leads_through_file, move_fault, moved_additions, new_addition, rebased, remove_fault, removed}
 use Rattle.adf_edits.specs.Edits.{is_at, room_fault, unless, with_new, without}
 use Rattle.adf_edits.specs.Edits.EditValue.{change, dir, file, label, move, remove}
 use Rattle.adf_edits.specs.Paths.{has_deep, is_deep, is_under}
@@ -30,7 +30,7 @@ room_shallow xs path h = elim (cases_Bool (is_deep path)) [
     | inl z ↦ let clash = rw z at h in cc
     | inr some ↦ elim (cases_Bool (leads_through_file xs path)) [
       | inl t ↦ let clash = rw (some, t) at h in cc
-      | inr through ↦ elim (cases_Bool (is_directory xs (parents_of path))) [
+      | inr through ↦ elim (cases_Bool (leads_to_directory xs (parents_of path))) [
         | inr f ↦ let clash = rw (some, through, f) at h in cc
         | inl directory ↦ elim (cases_Bool (has_path xs path)) [
           | inl t ↦ let clash = rw (some, through, directory, t) at h in cc
@@ -87,9 +87,9 @@ any_rebased from to [] = refl
 any_rebased from to (x ∷ xs) = rw (any_rebased from to xs) refl
 
 move_shallow : (from to : List (List ℕ)) (xs ys : List Addition) → has_deep xs ≡ false
-    → unless (move_fault xs from to) (moved from to xs) ≡ Ok ys → has_deep ys ≡ false
+    → unless (move_fault xs from to) (moved_additions from to xs) ≡ Ok ys → has_deep ys ≡ false
 move_shallow from to xs ys none h =
-    let made = made_is (move_fault xs from to) (moved from to xs) ys h in
+    let made = made_is (move_fault xs from to) (moved_additions from to xs) ys h in
     let within : List Addition = filter (is_within from) xs in
     let stays : has_deep (without from xs) ≡ false = any_fewer too_deep (λ y. not (is_within from y)) xs none in
     let goes : has_deep (map (rebased from to) within) ≡ false = any_rebased from to within ∙ none_gets_deep from to xs made.0 in

@@ -15,7 +15,7 @@ use Rattle.adf_names.specs.Texts.{uppers}
 use Rattle.adf_tree.specs.Additions.{Addition, AllHaveRoom, content_of, entries_of_additions}
 use Rattle.adf_tree.specs.Paths.{Content, content_at}
 use Rattle.adf_tree.specs.Tree.{last_of}
-use Rattle.adf_edits.specs.Edits.{is_at, is_within, move_fault, moved, rebased, unless, without}
+use Rattle.adf_edits.specs.Edits.{is_at, is_within, move_fault, moved_additions, rebased, unless, without}
 use Rattle.adf_edits.specs.Paths.{is_at_or_under}
 use Rattle.adf_edits.proofs.FirstAt.{content_done, first_kept, first_left_out, first_through, first_unlike, none_first, or_nothing, told}
 use Rattle.adf_edits.proofs.MovesKept.{MayMove, as_long, backs, fronts, front_is, free_rest, joined_within, may_move, move_kept, no_longer, rejoined}
@@ -50,7 +50,7 @@ last_behind to p n lt =
 -- a move
 
 module _ (from to : List (List ℕ)) (xs ys : List Addition) (room : AllHaveRoom xs)
-    (h : unless (move_fault xs from to) (moved from to xs) ≡ Ok ys) where
+    (h : unless (move_fault xs from to) (moved_additions from to xs) ≡ Ok ys) where
   abbrev w : Addition → Bool
   w = is_within from
 
@@ -64,13 +64,13 @@ module _ (from to : List (List ℕ)) (xs ys : List Addition) (room : AllHaveRoom
   rest = without from xs
 
   may : MayMove from to xs
-  may = may_move from to xs room (made_is (move_fault xs from to) (moved from to xs) ys h).0
+  may = may_move from to xs room (made_is (move_fault xs from to) (moved_additions from to xs) ys h).0
 
   after : (q : List (List ℕ)) → content_at (entries_of_additions ys) q
       ≡ option_map content_of (option_or (find (is_at q) rest) (find (is_at q) (map rb (filter w xs))))
   after q =
       told ys (move_kept from to xs ys room h) q
-      ∙ ap (option_map content_of) (ap (find (is_at q)) (sym (made_is (move_fault xs from to) (moved from to xs) ys h).1)
+      ∙ ap (option_map content_of) (ap (find (is_at q)) (sym (made_is (move_fault xs from to) (moved_additions from to xs) ys h).1)
       ∙ find-append (is_at q) rest (map rb (filter w xs)))
 
   -- what is moved

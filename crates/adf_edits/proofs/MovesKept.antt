@@ -19,7 +19,7 @@ use Rattle.adf_tree.proofs.AddRoom.{whole_path}
 use Rattle.adf_tree.proofs.Lists.{some_in}
 use Rattle.std.specs.Option.{option_or}
 use Rattle.adf_edits.specs.declared.edits.EditFault.{EditFault}
-use Rattle.adf_edits.specs.Edits.{depth_fault, has_directory, has_path, is_at, is_directory, is_directory_at, is_within, move_fault, moved}
+use Rattle.adf_edits.specs.Edits.{depth_fault, has_directory, has_path, is_at, leads_to_directory, is_directory_at, is_within, move_fault, moved_additions}
 use Rattle.adf_edits.specs.Edits.{rebased, room_fault, unless, without}
 use Rattle.adf_edits.specs.Paths.{is_at_or_under, is_under}
 use Rattle.adf_edits.proofs.PlacedInOrder.{KeepsDirectory, PlacedAfter, any_kept, filtered_after, nothing_before, placed, roomy}
@@ -130,7 +130,7 @@ parents_joined q x =
     let long : length (q ++ x ∷ []) - 1 ≡ length q = omega (arith, length-append q (x ∷ [])) in
     ap (λ n. take n (q ++ x ∷ [])) long ∙ take-append_seam q (x ∷ [])
 
-behind_directory : (xs ys : List Addition) (dir : List (List ℕ)) → has_directory ys dir ≡ true → is_directory (xs ++ ys) dir ≡ true
+behind_directory : (xs ys : List Addition) (dir : List (List ℕ)) → has_directory ys dir ≡ true → leads_to_directory (xs ++ ys) dir ≡ true
 behind_directory xs ys dir h =
     let there : has_directory (xs ++ ys) dir ≡ true =
     list_any-append (is_directory_at dir) xs ys
@@ -193,7 +193,7 @@ module _ (from to : List (List ℕ)) (rest : List Addition) (named : (length fro
     | inr f ↦ let more = any_through p q xs h (rw f at t) in elim (cases_Bool (q (rb x))) [ inl g ↦ rw g refl | inr g ↦ rw (g, more) refl ]
   ]
 
-  more_directory : (xs ys : List Addition) (dir : List (List ℕ)) → is_directory xs dir ≡ true → is_directory (xs ++ ys) dir ≡ true
+  more_directory : (xs ys : List Addition) (dir : List (List ℕ)) → leads_to_directory xs dir ≡ true → leads_to_directory (xs ++ ys) dir ≡ true
   more_directory xs ys dir h = elim (cases_Bool (length dir == 0)) [
     | inl z ↦ rw z refl
     | inr f ↦
@@ -213,7 +213,7 @@ module _ (from to : List (List ℕ)) (rest : List Addition) (named : (length fro
       ap parents_of one ∙ parents_joined q (last_of p)
 
   directory_moved : (front : List Addition) (x : Addition) → HasPlace front x.path → w x ≡ true
-      → is_directory (rest ++ map rb (filter w front)) (parents_of (rb x).path) ≡ true
+      → leads_to_directory (rest ++ map rb (filter w front)) (parents_of (rb x).path) ≡ true
   directory_moved front x h wx =
       let le = no_longer from x.path wx in
       let some : n ≢ 0 = eqb-false n 0 named in
@@ -235,12 +235,12 @@ module _ (from to : List (List ℕ)) (rest : List Addition) (named : (length fro
             ∙ (ap (λ us. map uppers to ++ us) (backs n y.path dir (directory_is dir y d)) ∙ sym (map-append uppers to (drop n dir))))) in
             let found : has_directory (map rb (filter w front)) target ≡ true =
             any_through (is_directory_at dir) (is_directory_at target) (filter w front) goes kept in
-            subst (λ us. is_directory (rest ++ map rb (filter w front)) us ≡ true) (sym (parents_moved x.path lt))
+            subst (λ us. leads_to_directory (rest ++ map rb (filter w front)) us ≡ true) (sym (parents_moved x.path lt))
             (behind_directory rest (map rb (filter w front)) target found)
         | inr ge ↦
             let whole : to ++ drop n x.path ≡ to =
             ap (λ us. to ++ us) (drop_of_length-le x.path (omega arith)) ∙ append-nil to in
-            subst (λ us. is_directory (rest ++ map rb (filter w front)) (parents_of us) ≡ true) (sym whole)
+            subst (λ us. leads_to_directory (rest ++ map rb (filter w front)) (parents_of us) ≡ true) (sym whole)
             (more_directory rest (map rb (filter w front)) (parents_of to) place.directory)
       ]
 
@@ -325,9 +325,9 @@ may_move from to xs room free =
     }
 
 pub move_kept : (from to : List (List ℕ)) (xs ys : List Addition) → AllHaveRoom xs
-    → unless (move_fault xs from to) (moved from to xs) ≡ Ok ys → AllHaveRoom ys
+    → unless (move_fault xs from to) (moved_additions from to xs) ≡ Ok ys → AllHaveRoom ys
 move_kept from to xs ys room h =
-    let made = made_is (move_fault xs from to) (moved from to xs) ys h in
+    let made = made_is (move_fault xs from to) (moved_additions from to xs) ys h in
     let may = may_move from to xs room made.0 in
     let rest : List Addition = without from xs in
     let was : PlacedAfter [] xs = placed [] xs nothing_before room in
@@ -335,4 +335,4 @@ move_kept from to xs ys room h =
     moved_after from to rest may.named may.place may.none [] xs was in
     let all = both_placed [] rest (map (rebased from to) (filter (is_within from) xs)) (stay from xs was)
     (subst (λ us. PlacedAfter us (map (rebased from to) (filter (is_within from) xs))) (append-nil rest) behind) in
-    subst AllHaveRoom made.1 (roomy [] (moved from to xs) nothing_before all)
+    subst AllHaveRoom made.1 (roomy [] (moved_additions from to xs) nothing_before all)

@@ -15,7 +15,7 @@ use Rattle.adf_tree.specs.Laws.{IsNextEntry}
 use Rattle.adf_tree.specs.Tree.{IsDir, IsTree, Tree, added, directory_from, room_for}
 use Rattle.adf_tree.proofs.Lists.{get_last, some_in}
 use Rattle.adf_tree.proofs.TreePrefixes.{first_tree, is_next}
-use Rattle.adf_edits.specs.Outline.{addition_for, additions_of, outline_of, path_at, path_in, tree_of, with_entry}
+use Rattle.adf_edits.specs.Outline.{addition_for, tree_additions, outline_of, path_at, path_or_root, tree_of_outline, with_addition_for}
 use Rattle.adf_edits.proofs.Additions.{room_more, tree_more}
 use Rattle.adf_drafts.proofs.NextEntries.{directory_stays, has_room, new_is, new_leads}
 
@@ -26,19 +26,19 @@ get_before [] x i lt = absurd (omega arith)
 get_before (y ∷ ys) x zero lt = refl
 get_before (y ∷ ys) x (suc i) lt = get_before ys x i (omega arith)
 
-at_next : (xs : List Addition) (i : ℕ) → path_at xs (suc i) ≡ path_in (slice_get xs i)
+at_next : (xs : List Addition) (i : ℕ) → path_at xs (suc i) ≡ path_or_root (slice_get xs i)
 at_next xs i = let back : suc i - 1 ≡ i = omega arith in rw (ne_eqb (suc i) 0 (omega arith), back) refl
 
 path_stays : (xs : List Addition) (x : Addition) (p : ℕ) → p ≤ length xs → path_at (xs ++ x ∷ []) p ≡ path_at xs p
 path_stays xs x zero le = refl
-path_stays xs x (suc i) le = at_next (xs ++ x ∷ []) i ∙ (ap path_in (get_before xs x i (omega arith)) ∙ sym (at_next xs i))
+path_stays xs x (suc i) le = at_next (xs ++ x ∷ []) i ∙ (ap path_or_root (get_before xs x i (omega arith)) ∙ sym (at_next xs i))
 
 path_new : (xs : List Addition) (x : Addition) → path_at (xs ++ x ∷ []) (suc (length xs)) ≡ x.path
-path_new xs x = at_next (xs ++ x ∷ []) (length xs) ∙ ap path_in (get_last xs x)
+path_new xs x = at_next (xs ++ x ∷ []) (length xs) ∙ ap path_or_root (get_last xs x)
 
 -- the additions of the first k entries have their tree and have room, and the paths of directories lead to them
 record IsFront (es : List Entry) (k : ℕ) (xs : List Addition) : Type 0 where
-  is : additions_of (take k es) ≡ xs
+  is : tree_additions (take k es) ≡ xs
   count : length xs ≡ k
   entries : entries_of_additions xs ≡ take k es
   room : AllHaveRoom xs
@@ -75,8 +75,8 @@ module _ (es : List Entry) (k : ℕ) (xs : List Addition) (e : Entry) (t : IsTre
   tree : IsTree (take k es ++ e ∷ [])
   tree = subst IsTree (sym behind) (first_tree es (k + 1) t (omega arith))
 
-  is_more : additions_of (take (k + 1) es) ≡ xs ++ x ∷ []
-  is_more = ap additions_of (sym behind) ∙ (fold_push with_entry [] (take k es) e ∙ ap (λ ys. with_entry ys e) f.is)
+  is_more : tree_additions (take (k + 1) es) ≡ xs ++ x ∷ []
+  is_more = ap tree_additions (sym behind) ∙ (fold_push with_addition_for [] (take k es) e ∙ ap (λ ys. with_addition_for ys e) f.is)
 
   entries_more : entries_of_additions (xs ++ x ∷ []) ≡ take (k + 1) es
   entries_more =
@@ -113,23 +113,23 @@ module _ (es : List Entry) (k : ℕ) (xs : List Addition) (e : Entry) (t : IsTre
     places = place_more;
   }
 
-front : (es : List Entry) (k : ℕ) → IsTree es → k ≤ length es → IsFront es k (additions_of (take k es))
+front : (es : List Entry) (k : ℕ) → IsTree es → k ≤ length es → IsFront es k (tree_additions (take k es))
 front es zero t le = nothing_yet es
 front es (suc k) t le =
     let d : Entry = some_in es (omega arith) in
     let e : Entry = get_or es k d in
     let here : get_or es k e ≡ e = get_or_default es k e d (omega arith) in
-    let xs : List Addition = additions_of (take k es) in
+    let xs : List Addition = tree_additions (take k es) in
     let more : IsFront es (k + 1) (xs ++ addition_for xs e ∷ []) = front_more es k xs e t (omega arith) here (front es k t (omega arith)) in
-    let whole : IsFront es (k + 1) (additions_of (take (k + 1) es)) = subst (IsFront es (k + 1)) (sym more.is) more in
-    subst (λ m. IsFront es m (additions_of (take m es))) (add-one k) whole
+    let whole : IsFront es (k + 1) (tree_additions (take (k + 1) es)) = subst (IsFront es (k + 1)) (sym more.is) more in
+    subst (λ m. IsFront es m (tree_additions (take m es))) (add-one k) whole
 
-all : (es : List Entry) → IsTree es → IsFront es (length es) (additions_of es)
-all es t = subst (λ us. IsFront es (length es) (additions_of us)) (take_all (length es) es (omega arith)) (front es (length es) t (omega arith))
+all : (es : List Entry) → IsTree es → IsFront es (length es) (tree_additions es)
+all es t = subst (λ us. IsFront es (length es) (tree_additions us)) (take_all (length es) es (omega arith)) (front es (length es) t (omega arith))
 
-pub outline_tree : (t : Tree) → t.letters ≡ Ascii → IsTree t.entries → tree_of (outline_of t) ≡ t
+pub outline_tree : (t : Tree) → t.letters ≡ Ascii → IsTree t.entries → tree_of_outline (outline_of t) ≡ t
 outline_tree t letters is =
-    let same : entries_of_additions (additions_of t.entries) ≡ t.entries =
+    let same : entries_of_additions (tree_additions t.entries) ≡ t.entries =
     (all t.entries is).entries ∙ take_all (length t.entries) t.entries (omega arith) in
     λ i. record { kind = t.kind; letters = sym letters i; label = t.label; stamps = t.stamps; entries = same i }
 

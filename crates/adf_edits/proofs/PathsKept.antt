@@ -12,7 +12,7 @@ use Rattle.adf_tree.specs.Additions.{Addition, AllHaveRoom, content_of, entries_
 use Rattle.adf_tree.specs.Paths.{Content, content_at}
 use Rattle.adf_edits.specs.declared.edits.Change.{Change}
 use Rattle.adf_edits.specs.declared.edits.EditFault.{EditFault}
-use Rattle.adf_edits.specs.Edits.{change_fault, changed, changed_at, changed_if, is_at, remove_fault, removed, room_fault, unless, with_new}
+use Rattle.adf_edits.specs.Edits.{change_fault, changed_meta, changed_at, changed_if, is_at, remove_fault, removed, room_fault, unless, with_new}
 use Rattle.adf_edits.proofs.FirstAt.{content_done, first_kept, first_left_out, first_mapped, none_first, or_nothing, told}
 use Rattle.adf_edits.proofs.Places.{same_paths}
 use Rattle.adf_edits.proofs.RoomKept.{change_kept, made_is, new_kept, place_without_fault, remove_kept}
@@ -77,9 +77,9 @@ module _ (path : List (List ℕ)) (what : Change) (xs ys : List Addition) (room 
       ∙ first_mapped (is_at q) (changed_if path what) xs (same_at q))
 
   pub change_there : content_at (entries_of_additions ys) path
-      ≡ option_map (λ (c : Content). record c { meta = changed what c.meta }) (content_at (entries_of_additions xs) path)
+      ≡ option_map (λ (c : Content). record c { meta = changed_meta what c.meta }) (content_at (entries_of_additions xs) path)
   change_there =
-      let g : Content → Content = λ c. record c { meta = changed what c.meta } in
+      let g : Content → Content = λ c. record c { meta = changed_meta what c.meta } in
       after path ∙ (content_done (is_at path) (changed_if path what) g xs (λ y at. rw at refl) ∙ ap (option_map g) (sym (told xs room path)))
 
   pub unchanged_kept : (q : List (List ℕ)) → map uppers q ≢ map uppers path

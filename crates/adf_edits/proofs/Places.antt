@@ -22,12 +22,12 @@ use Rattle.adf_tree.proofs.PathContents.{directory_found, entry_at, entry_says, 
 use Rattle.adf_tree.proofs.PathLookup.{then_find}
 use Rattle.adf_tree.proofs.TreeOfAdditions.{has_room}
 use Rattle.adf_drafts.proofs.DraftLookup.{dir_at, past}
-use Rattle.adf_edits.specs.Edits.{has_path, is_at, is_directory, is_directory_at, new_addition}
+use Rattle.adf_edits.specs.Edits.{has_path, is_at, leads_to_directory, is_directory_at, new_addition}
 
 -- a path with a name, whose directory is there, and that nothing has
 pub record HasPlace (xs : List Addition) (path : List (List ℕ)) : Type 0 where
   pub some : (length path == 0) ≡ false
-  pub directory : is_directory xs (parents_of path) ≡ true
+  pub directory : leads_to_directory xs (parents_of path) ≡ true
   pub free : has_path xs path ≡ false
 
 pub same_paths : (a b : List (List ℕ)) → (same_path a b ≡ true) ↔ (map uppers a ≡ map uppers b)
@@ -123,7 +123,7 @@ module _ (es : List Entry) (xs : List Addition) (t : IsTreeOf es xs) where
       let there : has_path xs path ≡ true =
       list_any_at (is_at path) xs i d lt ((same_paths (get_or xs i d).path path).1 (sym same)) in cc)
 
-  to_directory : (dir : List (List ℕ)) → is_directory xs dir ≡ true → (q : ℕ) × (directory_from es 0 dir ≡ Ok q)
+  to_directory : (dir : List (List ℕ)) → leads_to_directory xs dir ≡ true → (q : ℕ) × (directory_from es 0 dir ≡ Ok q)
   to_directory dir h = elim (cases_Bool (length dir == 0)) [
     | inl z ↦ (0, ap (directory_from es 0) (nil_from_length dir (eqb-true (length dir) 0 z)))
     | inr f ↦
@@ -155,7 +155,7 @@ module _ (es : List Entry) (xs : List Addition) (t : IsTreeOf es xs) where
       (ap (option_and_then (λ n. option_map entry_content (entry es n))) (sym leads) ∙ nothing_at path h.free) in
       rw (h.some, to.1, none) refl
 
-  directory_there : (dir : List (List ℕ)) (q : ℕ) → find es dir ≡ Some q → IsDir es q → is_directory xs dir ≡ true
+  directory_there : (dir : List (List ℕ)) (q : ℕ) → find es dir ≡ Some q → IsDir es q → leads_to_directory xs dir ≡ true
   directory_there dir q to is = elim (cases_Bool (length dir == 0)) [
     | inl z ↦ rw z refl
     | inr f ↦

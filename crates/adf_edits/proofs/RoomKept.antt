@@ -14,7 +14,7 @@ use Rattle.adf_tree.specs.Tree.{is_dir_body, parents_of}
 use Rattle.adf_tree.proofs.TreeOfAdditions.{all_built}
 use Rattle.adf_edits.specs.declared.edits.EditFault.{EditFault}
 use Rattle.adf_edits.specs.declared.edits.Change.{Change}
-use Rattle.adf_edits.specs.Edits.{change_fault, changed_at, has_path, has_under, is_at, is_directory, leads_through_file, remove_fault, removed}
+use Rattle.adf_edits.specs.Edits.{change_fault, changed_at, has_path, has_under, is_at, leads_to_directory, leads_through_file, remove_fault, removed}
 use Rattle.adf_edits.specs.Edits.{room_fault, unless, with_new}
 use Rattle.adf_edits.specs.Paths.{is_under}
 use Rattle.adf_edits.proofs.Additions.{room_more}
@@ -33,7 +33,7 @@ place_without_fault xs path h = elim (cases_Bool (length path == 0)) [
   | inl z ↦ let clash = rw z at h in cc
   | inr some ↦ elim (cases_Bool (leads_through_file xs path)) [
     | inl t ↦ let clash = rw (some, t) at h in cc
-    | inr through ↦ elim (cases_Bool (is_directory xs (parents_of path))) [
+    | inr through ↦ elim (cases_Bool (leads_to_directory xs (parents_of path))) [
       | inr f ↦ let clash = rw (some, through, f) at h in cc
       | inl directory ↦ elim (cases_Bool (has_path xs path)) [
         | inl t ↦ let clash = rw (some, through, directory, t) at h in cc

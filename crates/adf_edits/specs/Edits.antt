@@ -71,15 +71,15 @@ abbrev pub has_directory : List Addition → List (List ℕ) → Bool
 has_directory xs path = list_any (is_directory_at path) xs
 
 -- whether a path is that of the root or of a directory
-abbrev pub is_directory : List Addition → List (List ℕ) → Bool
-is_directory xs path = (length path == 0) || has_directory xs path
+abbrev pub leads_to_directory : List Addition → List (List ℕ) → Bool
+leads_to_directory xs path = (length path == 0) || has_directory xs path
 
 -- why nothing can be added under a path: it has no name, leads through a file or to no directory, something has it, or it is too deep
 abbrev pub room_fault : List Addition → List (List ℕ) → Option EditFault
 room_fault xs path =
     if length path == 0 then Some EmptyPath
     else if leads_through_file xs path then Some ParentIsFile
-    else if not (is_directory xs (parents_of path)) then Some NoParent
+    else if not (leads_to_directory xs (parents_of path)) then Some NoParent
     else if has_path xs path then Some Exists
     else if is_deep path then Some TooDeep else None
 
@@ -100,18 +100,18 @@ abbrev pub gets_deep : List (List ℕ) → List (List ℕ) → Addition → Bool
 gets_deep from to x = is_deep (rebased from to x).path
 
 -- what has the path `from`, or is in the directory that has it, comes last and gets the path `to` in its place
-abbrev pub moved : List (List ℕ) → List (List ℕ) → List Addition → List Addition
-moved from to xs = without from xs ++ map (rebased from to) (filter (is_within from) xs)
+abbrev pub moved_additions : List (List ℕ) → List (List ℕ) → List Addition → List Addition
+moved_additions from to xs = without from xs ++ map (rebased from to) (filter (is_within from) xs)
 
 -- what an entry has after a change
-abbrev pub changed : Change → Meta → Meta
-changed (Note comment) meta = record meta { comment = comment }
-changed (Protect protect) meta = record meta { protect = protect }
-changed (Date stamp) meta = record meta { stamp = stamp }
+abbrev pub changed_meta : Change → Meta → Meta
+changed_meta (Note comment) meta = record meta { comment = comment }
+changed_meta (Protect protect) meta = record meta { protect = protect }
+changed_meta (Date stamp) meta = record meta { stamp = stamp }
 
 -- a change of x if it has this path
 abbrev pub changed_if : List (List ℕ) → Change → Addition → Addition
-changed_if path what x = if is_at path x then record x { meta = changed what x.meta } else x
+changed_if path what x = if is_at path x then record x { meta = changed_meta what x.meta } else x
 
 -- a change of what has this path
 abbrev pub changed_at : List (List ℕ) → Change → List Addition → List Addition
@@ -155,7 +155,7 @@ with_new x xs = unless (room_fault xs x.path) (xs ++ x ∷ [])
 -- what an edit makes of additions, where these bytes are given, or why it cannot be applied
 abbrev pub edited_additions : EditValue → List ℕ → List Addition → Result (List Addition) EditFault
 edited_additions (remove path) given xs = unless (remove_fault xs path) (removed path xs)
-edited_additions (move from to) given xs = unless (move_fault xs from to) (moved from to xs)
+edited_additions (move from to) given xs = unless (move_fault xs from to) (moved_additions from to xs)
 edited_additions (dir path) given xs = with_new (new_addition path Dir) xs
 edited_additions (file path size) given xs = with_new (new_addition path (file_of size given)) xs
 edited_additions (change path what) given xs = unless (change_fault xs path) (changed_at path what xs)

@@ -21,33 +21,33 @@ pub record OutlineValue : Type 0 where
   pub additions : List Addition
 
 -- the path of the addition at a place, no names if there is none
-abbrev pub path_in : Option Addition → List (List ℕ)
-path_in None = []
-path_in (Some x) = x.path
+abbrev pub path_or_root : Option Addition → List (List ℕ)
+path_or_root None = []
+path_or_root (Some x) = x.path
 
 -- the path of a node, where these are the additions of the entries before the next
 abbrev pub path_at : List Addition → ℕ → List (List ℕ)
-path_at xs n = if n == 0 then [] else path_in (slice_get xs (n - 1))
+path_at xs n = if n == 0 then [] else path_or_root (slice_get xs (n - 1))
 
 -- the addition of the next entry: its name behind the path of its parent
 abbrev pub addition_for : List Addition → Entry → Addition
 addition_for xs e = record { path = path_at xs e.parent ++ e.name ∷ []; meta = e.meta; body = e.body }
 
 -- the additions of one entry more
-abbrev pub with_entry : List Addition → Entry → List Addition
-with_entry xs e = xs ++ addition_for xs e ∷ []
+abbrev pub with_addition_for : List Addition → Entry → List Addition
+with_addition_for xs e = xs ++ addition_for xs e ∷ []
 
 -- the additions of the entries of a tree, in their order
-abbrev pub additions_of : List Entry → List Addition
-additions_of es = fold with_entry [] es
+abbrev pub tree_additions : List Entry → List Addition
+tree_additions es = fold with_addition_for [] es
 
 -- the outline of a tree
 abbrev pub outline_of : Tree → OutlineValue
-outline_of t = record { kind = t.kind; label = t.label; stamps = t.stamps; additions = additions_of t.entries }
+outline_of t = record { kind = t.kind; label = t.label; stamps = t.stamps; additions = tree_additions t.entries }
 
 -- the tree that `add` makes of an outline by these letters
-abbrev pub tree_of_by : Letters → OutlineValue → Tree
-tree_of_by letters o =
+abbrev pub tree_of_outline_by : Letters → OutlineValue → Tree
+tree_of_outline_by letters o =
     let entries = entries_of_additions_by letters o.additions in
     record { kind = o.kind; letters = letters; label = o.label; stamps = o.stamps; entries = entries }
 
@@ -66,8 +66,8 @@ IsWithoutRoomBy letters xs f = (i : ℕ) × (room : RoomFault) × (i < length xs
 
 -- by ASCII letters
 
-abbrev pub tree_of : OutlineValue → Tree
-tree_of = tree_of_by Ascii
+abbrev pub tree_of_outline : OutlineValue → Tree
+tree_of_outline = tree_of_outline_by Ascii
 
 abbrev pub IsWithoutRoom : List Addition → AddFault → Type 0
 IsWithoutRoom = IsWithoutRoomBy Ascii

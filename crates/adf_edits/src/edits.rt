@@ -3,7 +3,7 @@
 ghost use Rattle.std.specs.Prelude.{◌≡◌, ◌≢◌, ◌≤◌, ◌++◌, ◌∷◌, [], None, Some, Ok, Err, IfOk, IfErr, OnOk, All, length, map, true};
 ghost use Rattle.std.specs.List.{filter, list_any};
 ghost use Rattle.adf_tree.specs.Tree.{is_dir_body};
-ghost use Rattle.adf_edits.specs.Edits.{change_fault, changed, changed_at, changed_if, edit_value, edited, edited_additions, edited_label, file_of, gets_deep, new_addition, has_directory, has_path, has_under, is_at, is_directory, is_directory_at, is_file_above, is_within, leads_through_file, move_fault, moved, rebased, remove_fault, removed, room_fault, without};
+ghost use Rattle.adf_edits.specs.Edits.{change_fault, changed_meta, changed_at, changed_if, edit_value, edited, edited_additions, edited_label, file_of, gets_deep, new_addition, has_directory, has_path, has_under, is_at, leads_to_directory, is_directory_at, is_file_above, is_within, leads_through_file, move_fault, moved_additions, rebased, remove_fault, removed, room_fault, without};
 
 use crate::outline::{Item, Outline};
 use crate::paths::{MOST_DEPTH, is_at_or_under, is_deep, is_under, push_names, same_path};
@@ -159,8 +159,8 @@ fn has_directory(items: &[Item], path: &[Name]) -> bool
 }
 
 // Whether a path is that of the root or of a directory.
-fn is_directory(items: &[Item], path: &[Name]) -> bool
-    ensures { result ≡ is_directory items.now path.now }
+fn leads_to_directory(items: &[Item], path: &[Name]) -> bool
+    ensures { result ≡ leads_to_directory items.now path.now }
 {
     path.is_empty() || has_directory(items, path)
 }
@@ -175,7 +175,7 @@ fn room_fault(items: &[Item], path: &[Name]) -> Option<EditFault>
     if leads_through_file(items, path) {
         return Some(EditFault::ParentIsFile);
     }
-    if !is_directory(items, &path[..path.len() - 1]) {
+    if !leads_to_directory(items, &path[..path.len() - 1]) {
         return Some(EditFault::NoParent);
     }
     if has_path(items, path) {
@@ -282,7 +282,7 @@ fn moved(
     to: &[Name],
 ) -> Result<Vec<Item>, EditFault>
     ensures ok { IfOk result (λ xs. move_fault items.items from.now to.now ≡ None) }
-    ensures moved { IfOk result (λ xs. xs.items ≡ moved from.now to.now items.items) }
+    ensures moved { IfOk result (λ xs. xs.items ≡ moved_additions from.now to.now items.items) }
     ensures fault { IfErr result (λ f. f ≢ EditFault.NoMemory
         → move_fault items.items from.now to.now ≡ Some f) }
 {
@@ -340,7 +340,7 @@ fn added(items: Vec<Item>, item: Item) -> Result<Vec<Item>, EditFault>
 impl Change {
     // Makes the change.
     fn make(&self, meta: &mut Meta)
-        ensures { meta.new ≡ changed self.now meta.old }
+        ensures { meta.new ≡ changed_meta self.now meta.old }
     {
         match self {
             Change::Note(comment) => meta.comment = Comment::new(comment.bytes()).unwrap(),

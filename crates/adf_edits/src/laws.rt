@@ -8,14 +8,14 @@ ghost use Rattle.adf_tree.specs.Additions.{Addition, AllHaveRoom, content_of, en
 ghost use Rattle.adf_tree.specs.Paths.{Content, content_at};
 ghost use Rattle.adf_tree.specs.Tree.{IsTree, Tree, last_of};
 ghost use Rattle.adf_edits.specs.declared.edits.Change.{Change};
-ghost use Rattle.adf_edits.specs.Edits.{EditValue, changed, edited, edited_additions, file_of, new_addition};
+ghost use Rattle.adf_edits.specs.Edits.{EditValue, changed_meta, edited, edited_additions, file_of, new_addition};
 ghost use Rattle.adf_edits.specs.Edits.EditValue.{change, dir, file, label, move, remove};
-ghost use Rattle.adf_edits.specs.Outline.{OutlineValue, outline_of, tree_of};
+ghost use Rattle.adf_edits.specs.Outline.{OutlineValue, outline_of, tree_of_outline};
 ghost use Rattle.adf_edits.specs.Paths.{has_deep, is_at_or_under};
 
 /// The outline of a tree has that tree, and each of its additions has room.
 pub fn outlines_have_their_trees()
-    ensures tree { (t : Tree) → t.letters ≡ Ascii → IsTree t.entries → tree_of (outline_of t) ≡ t }
+    ensures tree { (t : Tree) → t.letters ≡ Ascii → IsTree t.entries → tree_of_outline (outline_of t) ≡ t }
     ensures room { (t : Tree) → IsTree t.entries → AllHaveRoom (outline_of t).additions }
 {}
 
@@ -66,7 +66,7 @@ pub fn files_keep_other_paths()
 pub fn changes_keep_other_paths()
     ensures there { (path : List (List ℕ)) (what : Change) (given : List ℕ) (xs ys : List Addition) → AllHaveRoom xs
         → edited_additions (change path what) given xs ≡ Ok ys → content_at (entries_of_additions ys) path
-        ≡ option_map (λ (c : Content). record c { meta = changed what c.meta }) (content_at (entries_of_additions xs) path) }
+        ≡ option_map (λ (c : Content). record c { meta = changed_meta what c.meta }) (content_at (entries_of_additions xs) path) }
     ensures others { (path : List (List ℕ)) (what : Change) (given : List ℕ) (xs ys : List Addition) → AllHaveRoom xs
         → edited_additions (change path what) given xs ≡ Ok ys → (q : List (List ℕ)) → map uppers q ≢ map uppers path
         → content_at (entries_of_additions ys) q ≡ content_at (entries_of_additions xs) q }

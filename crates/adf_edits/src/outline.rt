@@ -2,9 +2,9 @@
 
 ghost use Rattle.std.specs.Prelude.{◌≡◌, ◌≢◌, ◌++◌, ◌∷◌, [], ◌≤◌, length, IfOk, IfErr, OnOk, false, true};
 ghost use Rattle.adf_tree.specs.Additions.{AllHaveRoom, AllHaveRoomBy};
-ghost use Rattle.adf_edits.specs.Outline.{IsWithoutRoom, IsWithoutRoomBy, addition_for, additions_of, outline_of, path_at};
-ghost use Rattle.adf_edits.specs.Outline.{tree_of};
-ghost use Rattle.adf_edits.specs.Outline.{tree_of_by, with_addition_in, with_entry};
+ghost use Rattle.adf_edits.specs.Outline.{IsWithoutRoom, IsWithoutRoomBy, addition_for, tree_additions, outline_of, path_at};
+ghost use Rattle.adf_edits.specs.Outline.{tree_of_outline};
+ghost use Rattle.adf_edits.specs.Outline.{tree_of_outline_by, with_addition_in, with_addition_for};
 ghost use Rattle.adf_edits.specs.Paths.{has_deep, is_deep};
 ghost use Rattle.adf_tree.specs.Tree.{IsAnswer, room_for_by};
 
@@ -115,7 +115,7 @@ fn path_for(alloc: Global, items: &[Item], entry: &Entry) -> Result<Vec<Name>, N
 // Appends an entry to the additions of the entries before it, if its path is not too deep.
 fn push_entry(alloc: Global, items: &mut Vec<Item>, entry: &Entry) -> Result<(), OutlineFault>
     requires { entry.now.parent ≤ length items.old.items }
-    ensures entry { OnOk result (items.new.items ≡ with_entry items.old.items entry.now) }
+    ensures entry { OnOk result (items.new.items ≡ with_addition_for items.old.items entry.now) }
     ensures shallow { OnOk result (is_deep (addition_for items.old.items entry.now).path ≡ false) }
     ensures deep { IfErr result (λ f. f ≢ OutlineFault.NoMemory
         → is_deep (addition_for items.old.items entry.now).path ≡ true) }
@@ -135,10 +135,10 @@ fn push_entry(alloc: Global, items: &mut Vec<Item>, entry: &Entry) -> Result<(),
 #[tactic(auto, using(crate::proofs::Additions::some_entry, crate::proofs::Additions::entry_step, crate::proofs::Additions::parent_early, crate::proofs::Additions::additions_all))]
 // The additions of the entries of a tree.
 fn items_of(alloc: Global, tree: &Tree) -> Result<Vec<Item>, OutlineFault>
-    ensures entries { IfOk result (λ items. items.items ≡ additions_of tree.now.entries) }
+    ensures entries { IfOk result (λ items. items.items ≡ tree_additions tree.now.entries) }
     ensures shallow { IfOk result (λ items. has_deep items.items ≡ false) }
     ensures deep { IfErr result (λ f. f ≢ OutlineFault.NoMemory
-        → has_deep (additions_of tree.now.entries) ≡ true) }
+        → has_deep (tree_additions tree.now.entries) ≡ true) }
 {
     let mut items = Vec::new(alloc);
     for i in 0..tree.len() {
@@ -182,7 +182,7 @@ impl Outline {
     /// Where each addition has room, as in the outline of a tree after edits, `NoMemory` is the only fault.
     pub fn finish(self, alloc: Global) -> Result<Tree, AddFault>
         ensures room { OnOk result (AllHaveRoom self.additions) }
-        ensures tree { IfOk result (λ t. t ≡ tree_of self) }
+        ensures tree { IfOk result (λ t. t ≡ tree_of_outline self) }
         ensures fault { IfErr result (λ f. f ≢ AddFault.NoMemory → IsWithoutRoom self.additions f) }
         ensures memory { IfErr result (λ f. AllHaveRoom self.additions → f ≡ AddFault.NoMemory) }
     {
@@ -193,7 +193,7 @@ impl Outline {
     /// as where two names of one directory are one by these letters; or `NoMemory`.
     pub fn finish_by(self, alloc: Global, letters: Letters) -> Result<Tree, AddFault>
         ensures room { OnOk result (AllHaveRoomBy letters self.additions) }
-        ensures tree { IfOk result (λ t. t ≡ tree_of_by letters self) }
+        ensures tree { IfOk result (λ t. t ≡ tree_of_outline_by letters self) }
         ensures fault { IfErr result (λ f. f ≢ AddFault.NoMemory → IsWithoutRoomBy letters self.additions f) }
         ensures memory { IfErr result (λ f. AllHaveRoomBy letters self.additions → f ≡ AddFault.NoMemory) }
     {

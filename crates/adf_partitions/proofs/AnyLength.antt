@@ -8,7 +8,7 @@ use Rattle.std.proofs.lemmas.Bool.{and_parts}
 use Rattle.std.proofs.lemmas.Grind.{common_steps}
 use Rattle.adf_partitions.specs.declared.partition.Partition.{Partition}
 use Rattle.adf_partitions.specs.declared.tables.Tables.{Tables}
-use Rattle.adf_partitions.specs.Disks.{IsDisk, IsFound, is_at, part_form, partition_at}
+use Rattle.adf_partitions.specs.Disks.{IsDisk, IsFound, is_block_of, part_form, partition_at}
 use Rattle.adf_partitions.specs.Disks.IsFound.{start, step}
 use Rattle.adf_partitions.specs.Faults.{first_failed}
 use Rattle.adf_partitions.specs.Partitions.{partition_numbered}
@@ -38,7 +38,7 @@ module _ (bytes : List ℕ) (n : ℕ) where
   same_length (x ∷ ps) [] h = absurd h
   same_length [] (y ∷ qs) h = absurd h
 
-  same_at : (b : ℕ) (ps qs : List Partition) → AreAll bytes n ps qs → list_any (is_at b) ps ≡ list_any (is_at b) qs
+  same_at : (b : ℕ) (ps qs : List Partition) → AreAll bytes n ps qs → list_any (is_block_of b) ps ≡ list_any (is_block_of b) qs
   same_at b [] [] h = refl
   same_at b (x ∷ ps) (y ∷ qs) h = let e = h.0.block in let f = same_at b ps qs h.1 in cc
   same_at b (x ∷ ps) [] h = absurd h

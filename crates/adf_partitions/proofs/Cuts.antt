@@ -5,7 +5,7 @@ use Rattle.std.proofs.lemmas.Bool.Decides.{nat_tests}
 use Rattle.std.proofs.lemmas.List.{drop_all, take_all, take_more}
 use Rattle.std.proofs.Math.Seq.{drop-cons}
 use Rattle.std.proofs.lemmas.Grind.{common_steps}
-use Rattle.adf_partitions.specs.PlanTexts.{before, behind, number_from, number_of}
+use Rattle.adf_partitions.specs.PlanTexts.{before_byte, behind_byte, number_from, decimal_number}
 use Rattle.adf_partitions.specs.declared.plan_words.TheConstants.{MOST_NUMBER}
 
 -- what is left from a byte on
@@ -15,51 +15,51 @@ left_at xs i x lt e = grind (arith, common_steps, drop-cons)
 module _ (c : ℕ) (xs : List ℕ) (i : ℕ) where
   -- the cut of a text is that of what is left of it
   pub record IsCutLater : Type 0 where
-    pub front : before c xs ≡ take i xs ++ before c (drop i xs)
-    pub rest : behind c xs ≡ behind c (drop i xs)
+    pub front : before_byte c xs ≡ take i xs ++ before_byte c (drop i xs)
+    pub rest : behind_byte c xs ≡ behind_byte c (drop i xs)
 
-front_other : (c x : ℕ) (xs : List ℕ) → (x == c) ≡ false → (before c (x ∷ xs) ≡ x ∷ before c xs) × (behind c (x ∷ xs) ≡ behind c xs)
-unfolding before behind
-front_other c x xs h = (ap (λ b. if b then [] else x ∷ before c xs) h, ap (λ b. if b then xs else behind c xs) h)
+front_other : (c x : ℕ) (xs : List ℕ) → (x == c) ≡ false → (before_byte c (x ∷ xs) ≡ x ∷ before_byte c xs) × (behind_byte c (x ∷ xs) ≡ behind_byte c xs)
+unfolding before_byte behind_byte
+front_other c x xs h = (ap (λ b. if b then [] else x ∷ before_byte c xs) h, ap (λ b. if b then xs else behind_byte c xs) h)
 
-front_same : (c x : ℕ) (xs : List ℕ) → (x == c) ≡ true → (before c (x ∷ xs) ≡ []) × (behind c (x ∷ xs) ≡ xs)
-unfolding before behind
-front_same c x xs h = (ap (λ b. if b then [] else x ∷ before c xs) h, ap (λ b. if b then xs else behind c xs) h)
+front_same : (c x : ℕ) (xs : List ℕ) → (x == c) ≡ true → (before_byte c (x ∷ xs) ≡ []) × (behind_byte c (x ∷ xs) ≡ xs)
+unfolding before_byte behind_byte
+front_same c x xs h = (ap (λ b. if b then [] else x ∷ before_byte c xs) h, ap (λ b. if b then xs else behind_byte c xs) h)
 
 pub cut_past : (c : ℕ) (xs : List ℕ) (i x : ℕ) → IsCutLater c xs i → i < length xs → x ≡ get_or xs i 0 → x ≢ c → IsCutLater c xs (i + 1)
 cut_past c xs i x h lt e ne = grind (arith, common_steps, nat_tests, left_at, front_other, take_more, append_assoc)
 
 pub cut_there : (c : ℕ) (xs : List ℕ) (i x : ℕ) → IsCutLater c xs i → i < length xs → x ≡ get_or xs i 0 → x ≡ c
-    → (take i xs ≡ before c xs) × (drop (i + 1) xs ≡ behind c xs)
+    → (take i xs ≡ before_byte c xs) × (drop (i + 1) xs ≡ behind_byte c xs)
 cut_there c xs i x h lt e is = grind (arith, common_steps, nat_tests, left_at, front_same, append-nil)
 
-pub cut_nowhere : (c : ℕ) (xs : List ℕ) (i : ℕ) → IsCutLater c xs i → length xs ≤ i → (xs ≡ before c xs) × ([] ≡ behind c xs)
-unfolding before behind
+pub cut_nowhere : (c : ℕ) (xs : List ℕ) (i : ℕ) → IsCutLater c xs i → length xs ≤ i → (xs ≡ before_byte c xs) × ([] ≡ behind_byte c xs)
+unfolding before_byte behind_byte
 cut_nowhere c xs i h le = grind (arith, common_steps, drop_all, append-nil, take_all)
 
 -- the number of a text is that of what is left of it
-module _ (xs : List ℕ) (i n x : ℕ) (h : number_from n (drop i xs) ≡ number_of xs) (lt : i < length xs) (e : x ≡ get_or xs i 0) where
+module _ (xs : List ℕ) (i n x : ℕ) (h : number_from n (drop i xs) ≡ decimal_number xs) (lt : i < length xs) (e : x ≡ get_or xs i 0) where
   number_next : (b : Bool) → (nat_le 48 x && nat_le x 57 && nat_le (10 * n + (x - 48)) MOST_NUMBER) ≡ b
-      → number_of xs ≡ (if b then number_from (10 * n + (x - 48)) (drop (i + 1) xs) else None)
+      → decimal_number xs ≡ (if b then number_from (10 * n + (x - 48)) (drop (i + 1) xs) else None)
   unfolding number_from
   number_next b test = grind (arith, common_steps, left_at)
 
-  pub digit_read : 48 ≤ x → x ≤ 57 → 10 * n + (x - 48) ≤ MOST_NUMBER → number_from (10 * n + (x - 48)) (drop (i + 1) xs) ≡ number_of xs
+  pub digit_read : 48 ≤ x → x ≤ 57 → 10 * n + (x - 48) ≤ MOST_NUMBER → number_from (10 * n + (x - 48)) (drop (i + 1) xs) ≡ decimal_number xs
   digit_read low high small = sym (number_next true (grind (arith, nat_tests)))
 
-  pub no_digit_low : x < 48 → None ≡ number_of xs
+  pub no_digit_low : x < 48 → None ≡ decimal_number xs
   no_digit_low low = sym (number_next false (grind (arith, nat_tests)))
 
-  pub no_digit_high : 57 < x → None ≡ number_of xs
+  pub no_digit_high : 57 < x → None ≡ decimal_number xs
   no_digit_high high = sym (number_next false (grind (arith, nat_tests)))
 
-  pub no_room : MOST_NUMBER < 10 * n + (x - 48) → None ≡ number_of xs
+  pub no_room : MOST_NUMBER < 10 * n + (x - 48) → None ≡ decimal_number xs
   no_room large = sym (number_next false (grind (arith, nat_tests)))
 
-pub number_begun : (xs : List ℕ) → 0 < length xs → number_from 0 xs ≡ number_of xs
+pub number_begun : (xs : List ℕ) → 0 < length xs → number_from 0 xs ≡ decimal_number xs
 number_begun [] lt = absurd (omega arith)
 number_begun (x ∷ xs) lt = refl
 
-pub number_done : (xs : List ℕ) (i n : ℕ) → length xs ≤ i → number_from n (drop i xs) ≡ number_of xs → Some n ≡ number_of xs
+pub number_done : (xs : List ℕ) (i n : ℕ) → length xs ≤ i → number_from n (drop i xs) ≡ decimal_number xs → Some n ≡ decimal_number xs
 unfolding number_from
 number_done xs i n le h = sym (ap (number_from n) (drop_all i xs le)) ∙ h

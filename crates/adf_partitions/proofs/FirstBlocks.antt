@@ -11,10 +11,10 @@ use Rattle.adf_partitions.specs.declared.fault.DiskFault.{DiskFault}
 use Rattle.adf_partitions.specs.declared.layout.TheConstants.{BLOCK_BYTES, MOST_PARTITIONS, MOST_TABLES, RDSK_BLOCKS}
 use Rattle.adf_partitions.specs.declared.partition.Partition.{Partition}
 use Rattle.adf_partitions.specs.declared.tables.Tables.{Tables}
-use Rattle.adf_partitions.specs.Disks.{FirstFault, IsDisk, is_at}
+use Rattle.adf_partitions.specs.Disks.{FirstFault, IsDisk, is_block_of}
 use Rattle.adf_partitions.specs.Disks.FirstFault.{at_list, at_tables}
 use Rattle.adf_partitions.specs.Partitions.{partition_of}
-use Rattle.adf_partitions.specs.Searches.{AreReadable, is_part, no_tables, with_all_lost, with_lost}
+use Rattle.adf_partitions.specs.Searches.{AreReadable, is_partition_block, no_tables, with_all_lost, with_lost_partition}
 use Rattle.adf_partitions.specs.Searches.AreReadable.{whole, cut, bare, other}
 use Rattle.adf_partitions.proofs.TablesEnough.{StartAgrees, TablesAgree, same_cut, same_lack, same_list_fault, same_rdsk}
 use Rattle.adf_partitions.proofs.TablesEnough.{same_tables, same_whole, start_agrees, start_back, tables_agree, tables_back}
@@ -30,7 +30,8 @@ agrees_back g = record { start = start_back g.start; tables = tables_back g.tabl
 -- the partitions, and that of a block with these bytes if it is lost
 abbrev lost_of : ℕ → Tables → List Partition → ℕ → Bool → List ℕ → List Partition
 lost_of n t ps b searched p =
-    if searched && is_part p && not (list_any (is_at b) ps) && nat_lt (length ps) MOST_PARTITIONS then ps ++ partition_of n t ps b p ∷ [] else ps
+    if searched && is_partition_block p && not (list_any (is_block_of b) ps) && nat_lt (length ps) MOST_PARTITIONS
+    then ps ++ partition_of n t ps b p ∷ [] else ps
 
 same_lost_of : (n : ℕ) (t : Tables) (ps : List Partition) (b : ℕ) (searched : Bool) (p q : List ℕ) → (searched ≡ true → p ≡ q)
     → lost_of n t ps b searched p ≡ lost_of n t ps b searched q
@@ -38,7 +39,7 @@ same_lost_of n t ps b true p q h = ap (lost_of n t ps b true) (h refl)
 same_lost_of n t ps b false p q h = refl
 
 module _ {A B : List ℕ} (s : TablesAgree A B) where
-  same_lost : (n : ℕ) (t : Tables) (ps : List Partition) (b : ℕ) → with_lost A n t ps b ≡ with_lost B n t ps b
+  same_lost : (n : ℕ) (t : Tables) (ps : List Partition) (b : ℕ) → with_lost_partition A n t ps b ≡ with_lost_partition B n t ps b
   same_lost n t ps b = grind (arith, common_steps, same_lost_of, lost_of, and_parts)
 
   same_all_lost : (n : ℕ) (t : Tables) (ps : List Partition) (k : ℕ) → with_all_lost A n t ps k ≡ with_all_lost B n t ps k

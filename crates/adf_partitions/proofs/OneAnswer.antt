@@ -10,7 +10,7 @@ use Rattle.adf_partitions.specs.declared.fault.DiskFault.{DiskFault}
 use Rattle.adf_partitions.specs.declared.layout.TheConstants.{BLOCK_BYTES, MOST_TABLES, NEXT_PART, NO_BLOCK}
 use Rattle.adf_partitions.specs.declared.partition.Partition.{Partition}
 use Rattle.adf_partitions.specs.declared.tables.Tables.{Tables}
-use Rattle.adf_partitions.specs.Disks.{FirstFault, IsCut, IsDisk, IsFound, IsListFault, IsWhole, part_form, partition_at}
+use Rattle.adf_partitions.specs.Disks.{FirstFault, IsCut, IsDisk, IsFound, IsListFault, IsWholeList, part_form, partition_at}
 use Rattle.adf_partitions.specs.Disks.FirstFault.{at_tables, at_list}
 use Rattle.adf_partitions.specs.Disks.IsFound.{start, step}
 use Rattle.adf_partitions.specs.Faults.{disk_fault, first_failed}
@@ -89,10 +89,10 @@ module _ (bytes : List ℕ) (n : ℕ) (t : Tables) where
       → Stops (state qs c d) → state ps a b ≡ state qs c d
   one_stop {ps} {qs} h stops k ends = grind (arith, common_steps, cases_lt, no_longer, is_after, found_after)
 
-  one_list : {ps qs : List Partition} → IsWhole bytes n t ps → IsWhole bytes n t qs → ps ≡ qs
+  one_list : {ps qs : List Partition} → IsWholeList bytes n t ps → IsWholeList bytes n t qs → ps ≡ qs
   one_list w v = ap (λ (s : State). s.0) (one_stop w.1 (inl refl) v.1 (inl refl))
 
-  no_list_fault : {ps : List Partition} {f : DiskFault} → IsWhole bytes n t ps → IsListFault bytes n t f → ⊥
+  no_list_fault : {ps : List Partition} {f : DiskFault} → IsWholeList bytes n t ps → IsListFault bytes n t f → ⊥
   no_list_fault {f = f} w (ps, v) = v.some (ap (λ (s : State). s.2) (one_stop v.found (inr (f, v.failed)) w.1 (inl refl)))
 
   one_cut : {ps qs : List Partition} {f g : DiskFault} → IsCut bytes n t ps f → IsCut bytes n t qs g → ps ≡ qs
@@ -104,7 +104,7 @@ module _ (bytes : List ℕ) (n : ℕ) (t : Tables) where
 pub one_disk : (bytes : List ℕ) (n : ℕ) (t u : Tables) (ps qs : List Partition) → IsDisk bytes n t ps → IsDisk bytes n u qs → (t ≡ u) × (ps ≡ qs)
 one_disk bytes n t u ps qs d e =
     let same = one_tables d.tables e.tables in
-    (same, one_list bytes n u (subst (λ t. IsWhole bytes n t ps) same d.whole) e.whole)
+    (same, one_list bytes n u (subst (λ t. IsWholeList bytes n t ps) same d.whole) e.whole)
 
 pub no_fault : (bytes : List ℕ) (n : ℕ) (t : Tables) (ps : List Partition) (f : DiskFault) → FirstFault bytes n f → IsDisk bytes n t ps → ⊥
 no_fault bytes n t ps f (at_tables h) d = some_tables d.tables h

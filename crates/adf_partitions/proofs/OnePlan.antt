@@ -8,8 +8,8 @@ use Rattle.adf_partitions.specs.declared.plan_text.TextFault.{TextFault}
 use Rattle.adf_partitions.specs.declared.plan_text.TextKind.{TextKind}
 use Rattle.adf_partitions.specs.declared.plan_text.TextKind.TheVariants.{BadLine, NoEnd, NoMemory, TooLarge}
 use Rattle.adf_partitions.specs.Plans.{PlanValue}
-use Rattle.adf_partitions.specs.PlanTexts.{AreLines, HasLines, IsEndFault, IsPartitionLine, IsPartitionText, IsText, IsTextFault, Stops, before}
-use Rattle.adf_partitions.specs.PlanTexts.{behind_line, first_line, is_end, is_plan, options_in}
+use Rattle.adf_partitions.specs.PlanTexts.{AreLines, HasLines, IsEndFault, IsPartitionLine, IsPartitionText, IsText, IsTextFault, HasNoPartition, before_byte}
+use Rattle.adf_partitions.specs.PlanTexts.{behind_line, first_line, begins_with_end, is_plan, options_in}
 
 one_partition : (text : List ℕ) (p q : PartitionPlan) → IsPartitionText text p → IsPartitionText text q → p ≡ q
 one_partition text p q h k =
@@ -20,7 +20,7 @@ one_partition text p q h k =
     let same : made p.name (p.kind, p.letters) p.cylinders (options_in p) ≡ made q.name (q.kind, q.letters) q.cylinders (options_in q) = cc in
     same
 
-one_front : (left : List ℕ) (ps qs : List PartitionPlan) (e d : List ℕ) → AreLines left ps e → AreLines left qs d → Stops e → Stops d
+one_front : (left : List ℕ) (ps qs : List PartitionPlan) (e d : List ℕ) → AreLines left ps e → AreLines left qs d → HasNoPartition e → HasNoPartition d
     → (ps ≡ qs) × (e ≡ d)
 unfolding AreLines
 one_front left [] [] e d h k x y = (refl, sym h ∙ k)
@@ -38,13 +38,13 @@ one_end text a b e d h k = grind (arith, common_steps, one_some, one_front, plan
 pub one_plan : (text : List ℕ) (a b : PlanValue) (c d : List ℕ) → IsText text a c → IsText text b d → (a ≡ b) × (c ≡ d)
 one_plan text a b c d h k = grind (arith, common_steps, one_end)
 
-no_end_in_nothing : is_end [] ≡ false
-unfolding before
+no_end_in_nothing : begins_with_end [] ≡ false
+unfolding before_byte
 no_end_in_nothing = refl
 
-no_end_fault : (a : PlanValue) (e : List ℕ) (k : TextKind) → is_end e ≡ true → is_plan a ≡ true → IsEndFault a e k → ⊥
+no_end_fault : (a : PlanValue) (e : List ℕ) (k : TextKind) → begins_with_end e ≡ true → is_plan a ≡ true → IsEndFault a e k → ⊥
 no_end_fault a e BadLine ends good h = let no = h.1 in absurd cc
-no_end_fault a e NoEnd ends good h = let no = ap is_end h ∙ no_end_in_nothing in absurd cc
+no_end_fault a e NoEnd ends good h = let no = ap begins_with_end h ∙ no_end_in_nothing in absurd cc
 no_end_fault a e TooLarge ends good h = let no = h.1 in absurd cc
 no_end_fault a e NoMemory ends good h = absurd h
 
@@ -58,9 +58,9 @@ one_kind a e BadLine NoEnd h g = absurd (h.0 g)
 one_kind a e BadLine TooLarge h g = let x = h.1 in let y = g.0 in absurd cc
 one_kind a e NoEnd BadLine h g = absurd (g.0 h)
 one_kind a e NoEnd NoEnd h g = refl
-one_kind a e NoEnd TooLarge h g = let x = ap is_end h ∙ no_end_in_nothing in let y = g.0 in absurd cc
+one_kind a e NoEnd TooLarge h g = let x = ap begins_with_end h ∙ no_end_in_nothing in let y = g.0 in absurd cc
 one_kind a e TooLarge BadLine h g = let x = h.0 in let y = g.1 in absurd cc
-one_kind a e TooLarge NoEnd h g = let x = ap is_end g ∙ no_end_in_nothing in let y = h.0 in absurd cc
+one_kind a e TooLarge NoEnd h g = let x = ap begins_with_end g ∙ no_end_in_nothing in let y = h.0 in absurd cc
 one_kind a e TooLarge TooLarge h g = refl
 one_kind a e NoMemory j h g = absurd h
 one_kind a e k NoMemory h g = absurd g

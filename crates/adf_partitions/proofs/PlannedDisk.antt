@@ -15,10 +15,10 @@ use Rattle.adf_partitions.specs.declared.place.Place.{Place}
 use Rattle.adf_partitions.specs.declared.place.PlaceFault.{PlaceFault}
 use Rattle.adf_partitions.specs.declared.place.PlaceFault.TheVariants.{BeyondImage, NoCylinders, OverPartition, OverTables}
 use Rattle.adf_partitions.specs.declared.plan.PartitionPlan.{PartitionPlan}
-use Rattle.adf_partitions.specs.Disks.{IsDisk, IsFound, IsWhole, is_at, part_form}
+use Rattle.adf_partitions.specs.Disks.{IsDisk, IsFound, IsWholeList, is_block_of, part_form}
 use Rattle.adf_partitions.specs.Disks.IsFound.{start}
 use Rattle.adf_partitions.specs.Faults.{first_failed}
-use Rattle.adf_partitions.specs.Partitions.{field_form, is_over_earlier, is_over_place, partition_of, place_form, placed}
+use Rattle.adf_partitions.specs.Partitions.{field_form, is_over_earlier, is_over_place, partition_of, place_form, place_or_fault}
 use Rattle.adf_partitions.specs.Places.{blocks_from, end_of, has_cylinders, is_over_tables, place_of}
 use Rattle.adf_partitions.specs.Plans.{PlanValue, IsPartitionPlan, IsPlan, cylinder_blocks, cylinders_of, partitions_from, planned_blocks, planned_cylinders}
 use Rattle.adf_partitions.specs.Plans.{planned_partition, planned_partitions, table_cylinders}
@@ -27,8 +27,10 @@ use Rattle.adf_partitions.specs.WrittenTables.{block_after, part_block, part_blo
 use Rattle.adf_partitions.proofs.FoundSteps.{one_more}
 use Rattle.adf_partitions.proofs.NumberTests.{of_le, of_lt}
 use Rattle.adf_partitions.proofs.PlanSizes.{cylinders_more, tables_hold}
-use Rattle.adf_partitions.proofs.WrittenTables.{length_part, length_rdsk, part-blocks, part-cylinders, part-environment, part-flags, part-has_name, part-mark}
-use Rattle.adf_partitions.proofs.WrittenTables.{part-name, part-next, part-place, part-reserved, part-summed, part-type, part_priority, rdsk-first, rdsk-highest}
+use Rattle.adf_partitions.proofs.WrittenTables.{length_part, length_rdsk, part-blocks, part-cylinders, part-environment, part-flags}
+use Rattle.adf_partitions.proofs.WrittenTables.{part-has_drive_name, part-mark}
+use Rattle.adf_partitions.proofs.WrittenTables.{part-name, part-next, part-place, part-reserved, part-summed, part-type, part_priority, rdsk-first}
+use Rattle.adf_partitions.proofs.WrittenTables.{rdsk-highest}
 use Rattle.adf_partitions.proofs.WrittenTables.{rdsk-lowest, rdsk-size, rdsk-summed, rdsk_mark}
 
 -- partitions in blocks before b, each with its place, if it has one, before block e
@@ -36,7 +38,7 @@ abbrev AreBefore : ℕ → ℕ → List Partition → Type 0
 AreBefore b e [] = Unit {0}
 AreBefore b e (q ∷ qs) = (q.block < b) × IfOk q.place (λ r. end_of r ≤ e) × AreBefore b e qs
 
-not_at : (b e : ℕ) (qs : List Partition) → AreBefore b e qs → list_any (is_at b) qs ≡ false
+not_at : (b e : ℕ) (qs : List Partition) → AreBefore b e qs → list_any (is_block_of b) qs ≡ false
 not_at b e [] h = refl
 not_at b e (q ∷ qs) h = grind (arith, common_steps, (not_at b e qs h.2))
 
@@ -155,10 +157,10 @@ module _ (plan : PlanValue) (h : IsPlan plan) where
         grind (arith, common_steps, tests, part-place, fits, within, part-cylinders, in_disk, beside, apart)
 
     fields_hold : first_failed (field_form b) ≡ None
-    fields_hold = grind (arith, common_steps, fits, within, part-environment, part-blocks, part-has_name)
+    fields_hold = grind (arith, common_steps, fits, within, part-environment, part-blocks, part-has_drive_name)
 
-    placed_there : placed (place_of b) (first_failed (place_form (planned_blocks plan) (planned_tables plan) done b)) ≡ Ok place
-    placed_there = ap (placed (place_of b)) no_fault ∙ ap Ok (part-place plan h (k + 1) low p fits within)
+    placed_there : place_or_fault (place_of b) (first_failed (place_form (planned_blocks plan) (planned_tables plan) done b)) ≡ Ok place
+    placed_there = ap (place_or_fault (place_of b)) no_fault ∙ ap Ok (part-place plan h (k + 1) low p fits within)
 
     is_planned : planned_partition (cylinder_blocks plan) (k + 1) low p ≡ partition_of (planned_blocks plan) (planned_tables plan) done (k + 1) b
     is_planned = grind (arith, common_steps, b, place, placed_there, fields_hold, part-name, fits, within, part-flags, part_priority, part-type, part-reserved)
@@ -178,7 +180,7 @@ module _ (plan : PlanValue) (h : IsPlan plan) where
   found_all : (bytes : List ℕ) (k low a : ℕ) (ps : List PartitionPlan) (done : List Partition) → AreLeft plan k low ps
       → StandThere bytes plan k low ps → AreBefore (k + 1) (low * cylinder_blocks plan) done → length done ≡ k
       → IsFound bytes (planned_blocks plan) (planned_tables plan) done a (block_after (length plan.partitions) k)
-      → IsWhole bytes (planned_blocks plan) (planned_tables plan) (done ++ partitions_from (cylinder_blocks plan) (k + 1) low ps)
+      → IsWholeList bytes (planned_blocks plan) (planned_tables plan) (done ++ partitions_from (cylinder_blocks plan) (k + 1) low ps)
   unfolding partitions_from
   found_all bytes k low a [] done l there before count found =
       let last = no_block k (omega (arith, l.count)) in (
@@ -199,7 +201,7 @@ module _ (plan : PlanValue) (h : IsPlan plan) where
       (sym (part-next plan h (k + 1) low p first inside (omega arith))) in
       let later_blocks = before_push (k + 1) (low * c) (k + 1 + 1) ((low + p.cylinders) * c) done q before (omega arith)
       (mul-le low c (low + p.cylinders) c (omega arith) (omega arith)) (omega arith) (omega arith) in
-      subst (IsWhole bytes (planned_blocks plan) (planned_tables plan))
+      subst (IsWholeList bytes (planned_blocks plan) (planned_tables plan))
       (append_assoc done (q ∷ []) (partitions_from c (k + 1 + 1) (low + p.cylinders) ps))
       (found_all bytes (k + 1) (low + p.cylinders) (k + 1) ps (done ++ q ∷ []) (left_rest plan k low p ps l) there.2 later_blocks
       (omega (arith, length_push done q)) next)

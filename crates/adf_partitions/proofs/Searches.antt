@@ -5,7 +5,7 @@ use Rattle.std.proofs.lemmas.List.{length_push}
 use Rattle.std.specs.Prelude.{if◌then◌else◌}
 use Rattle.std.proofs.lemmas.Grind.{common_steps}
 use Rattle.adf_partitions.specs.Disks.{partition_at}
-use Rattle.adf_partitions.specs.Searches.{is_lost, with_all_lost, with_lost}
+use Rattle.adf_partitions.specs.Searches.{is_lost_partition, with_all_lost, with_lost_partition}
 use Rattle.adf_partitions.specs.declared.partition.Partition.{Partition}
 use Rattle.adf_partitions.specs.declared.tables.Tables.{Tables}
 
@@ -17,17 +17,17 @@ module _ (bytes : List ℕ) (n : ℕ) (t : Tables) (ps : List Partition) where
   unfolding with_all_lost
   none_searched = refl
 
-  one_searched : (k : ℕ) → with_all_lost bytes n t ps (k + 1) ≡ with_lost bytes n t (with_all_lost bytes n t ps k) k
+  one_searched : (k : ℕ) → with_all_lost bytes n t ps (k + 1) ≡ with_lost_partition bytes n t (with_all_lost bytes n t ps k) k
   unfolding with_all_lost
   one_searched k = let next : k + 1 ≡ suc k = omega arith in ap (with_all_lost bytes n t ps) next
 
   -- block k is lost
-  pub put_lost : (k : ℕ) (found : List Partition) → found ≡ with_all_lost bytes n t ps k → is_lost bytes t found k ≡ true
+  pub put_lost : (k : ℕ) (found : List Partition) → found ≡ with_all_lost bytes n t ps k → is_lost_partition bytes t found k ≡ true
       → found ++ partition_at bytes n t found k ∷ [] ≡ with_all_lost bytes n t ps (k + 1)
   put_lost k found h e = grind (arith, common_steps, one_searched)
 
   -- or it is not
-  pub put_none : (k : ℕ) (found : List Partition) → found ≡ with_all_lost bytes n t ps k → is_lost bytes t found k ≡ false
+  pub put_none : (k : ℕ) (found : List Partition) → found ≡ with_all_lost bytes n t ps k → is_lost_partition bytes t found k ≡ false
       → found ≡ with_all_lost bytes n t ps (k + 1)
   put_none k found h e = grind (arith, common_steps, one_searched)
 
@@ -44,7 +44,7 @@ module _ (bytes : List ℕ) (n : ℕ) (t : Tables) (ps : List Partition) where
     | inl lt ↦ let e : k ≡ suc m = omega arith in subst (λ i. with_all_lost bytes n t ps i ≢ []) e some
     | inr ge ↦
         let found = with_all_lost bytes n t ps m in
-        some_kept found m (is_lost bytes t found m) (some_later k m ge some)
+        some_kept found m (is_lost_partition bytes t found m) (some_later k m ge some)
   ]
 
   -- so does what was found before
@@ -52,7 +52,7 @@ module _ (bytes : List ℕ) (n : ℕ) (t : Tables) (ps : List Partition) where
   some_before m some = some_later 0 m (omega arith) (subst (λ (qs : List Partition). qs ≢ []) none_searched some)
 
   -- and a lost block is put
-  pub some_lost : (k m : ℕ) (found : List Partition) → found ≡ with_all_lost bytes n t ps k → is_lost bytes t found k ≡ true → k < m
+  pub some_lost : (k m : ℕ) (found : List Partition) → found ≡ with_all_lost bytes n t ps k → is_lost_partition bytes t found k ≡ true → k < m
       → with_all_lost bytes n t ps m ≢ []
   some_lost k m found h e lt =
       some_later (k + 1) m (omega arith) (subst (λ (qs : List Partition). qs ≢ []) (put_lost k found h e)

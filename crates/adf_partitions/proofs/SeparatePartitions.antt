@@ -14,12 +14,12 @@ use Rattle.adf_base.specs.Words.{block}
 use Rattle.adf_partitions.specs.declared.layout.TheConstants.{MOST_PARTITIONS, MOST_TABLES}
 use Rattle.adf_partitions.specs.declared.partition.Partition.{Partition}
 use Rattle.adf_partitions.specs.declared.tables.Tables.{Tables}
-use Rattle.adf_partitions.specs.Disks.{IsFound, is_at, part_form, partition_at}
+use Rattle.adf_partitions.specs.Disks.{IsFound, is_block_of, part_form, partition_at}
 use Rattle.adf_partitions.specs.Disks.IsFound.{start, step}
 use Rattle.adf_partitions.specs.Faults.{first_failed}
 use Rattle.adf_partitions.specs.Partitions.{place_form}
 use Rattle.adf_partitions.specs.Places.{place_of}
-use Rattle.adf_partitions.specs.Searches.{AreReadable, is_lost, no_tables, with_all_lost}
+use Rattle.adf_partitions.specs.Searches.{AreReadable, is_lost_partition, no_tables, with_all_lost}
 use Rattle.adf_partitions.specs.Searches.AreReadable.{bare, cut, other, whole}
 use Rattle.adf_partitions.specs.Volumes.{AreInOtherBlocks, AreSeparate, LiesWithin, VolumeLiesWithin, VolumesAreApart}
 use Rattle.adf_partitions.proofs.NamedPartitions.{is_few}
@@ -34,18 +34,18 @@ none_separate n = record {
   apart = λ i j d lt in_list. absurd (omega arith);
 }
 
-other_block : (ps : List Partition) (b : ℕ) → list_any (is_at b) ps ≡ false → (k : ℕ) (d : Partition) → k < length ps → (get_or ps k d).block ≢ b
-other_block ps b none k d lt e = let z = list_any_at (is_at b) ps k d lt (same (get_or ps k d) e) in absurd cc
+other_block : (ps : List Partition) (b : ℕ) → list_any (is_block_of b) ps ≡ false → (k : ℕ) (d : Partition) → k < length ps → (get_or ps k d).block ≢ b
+other_block ps b none k d lt e = let z = list_any_at (is_block_of b) ps k d lt (same (get_or ps k d) e) in absurd cc
   where
-    same : (p : Partition) → p.block ≡ b → is_at b p ≡ true
+    same : (p : Partition) → p.block ≡ b → is_block_of b p ≡ true
     same p e = grind (arith, nat_tests)
 
-not_found : (bytes : List ℕ) (ps : List Partition) (a b : ℕ) → first_failed (part_form bytes ps a b) ≡ None → list_any (is_at b) ps ≡ false
+not_found : (bytes : List ℕ) (ps : List Partition) (a b : ℕ) → first_failed (part_form bytes ps a b) ≡ None → list_any (is_block_of b) ps ≡ false
 not_found bytes ps a b sound = grind (arith, common_steps, each_held, not-true)
 
 module _ (bytes : List ℕ) (n : ℕ) (t : Tables) where
   -- one partition more
-  one_separate : (ps : List Partition) (b : ℕ) → AreSeparate n ps → list_any (is_at b) ps ≡ false → length ps < MOST_PARTITIONS
+  one_separate : (ps : List Partition) (b : ℕ) → AreSeparate n ps → list_any (is_block_of b) ps ≡ false → length ps < MOST_PARTITIONS
       → AreSeparate n (ps ++ partition_at bytes n t ps b ∷ [])
   one_separate ps b h none room =
       let p = block bytes b in record {
@@ -66,7 +66,7 @@ module _ (bytes : List ℕ) (n : ℕ) (t : Tables) where
   found_separate (step {ps = ps} {a = a} {b = b} h some sound) =
       one_separate ps b (found_separate h) (not_found bytes ps a b sound) (is_few bytes n t ps a b sound)
 
-  lost_separate : (ps : List Partition) (b : ℕ) (lost : Bool) → is_lost bytes t ps b ≡ lost → AreSeparate n ps
+  lost_separate : (ps : List Partition) (b : ℕ) (lost : Bool) → is_lost_partition bytes t ps b ≡ lost → AreSeparate n ps
       → AreSeparate n (if lost then ps ++ partition_at bytes n t ps b ∷ [] else ps)
   lost_separate ps b true e h = one_separate ps b h (grind (arith, common_steps, and_parts, not-true)) (grind (arith, common_steps, and_parts, lt_of))
   lost_separate ps b false e h = h
@@ -75,7 +75,7 @@ module _ (bytes : List ℕ) (n : ℕ) (t : Tables) where
   unfolding with_all_lost
   all_separate ps zero h = h
   all_separate ps (suc k) h =
-      let found = with_all_lost bytes n t ps k in lost_separate found k (is_lost bytes t found k) refl (all_separate ps k h)
+      let found = with_all_lost bytes n t ps k in lost_separate found k (is_lost_partition bytes t found k) refl (all_separate ps k h)
 
 pub are_separate : (bytes : List ℕ) (n : ℕ) (ps : List Partition) → AreReadable bytes n ps → AreSeparate n ps
 are_separate bytes n ps (whole {t = t} d) = found_separate bytes n t d.whole.1

@@ -21,8 +21,9 @@ use Rattle.adf_partitions.specs.declared.plan.PartitionPlan.{PartitionPlan}
 use Rattle.adf_partitions.specs.declared.plan_line.Options.{Options}
 use Rattle.adf_partitions.specs.declared.plan_text.TextKind.TheVariants.{BadLine, NoEnd, TooLarge}
 use Rattle.adf_partitions.specs.Plans.{PlanValue}
-use Rattle.adf_partitions.specs.PlanTexts.{AreLines, HasLines, HasPlanOrFault, IsDiskLine, IsPartitionLine, IsPartitionText, Stops}
-use Rattle.adf_partitions.specs.PlanTexts.{behind_line, behind_word, ends_in_space, first_line, first_word, has_word, is_end, is_plan, kind_word, number_of}
+use Rattle.adf_partitions.specs.PlanTexts.{AreLines, HasLines, HasPlanOrFault, IsDiskLine, IsPartitionLine, IsPartitionText, HasNoPartition}
+use Rattle.adf_partitions.specs.PlanTexts.{behind_line, behind_word, ends_in_space, first_line, first_word, has_word, begins_with_end, is_plan}
+use Rattle.adf_partitions.specs.PlanTexts.{kind_word, decimal_number}
 use Rattle.adf_partitions.specs.PlanTexts.{options_in}
 use Rattle.adf_partitions.specs.PlanTexts.{options_of}
 
@@ -82,7 +83,7 @@ partition_text t = elim (some_name (first_word t)) [
   | inr none ↦ inr (λ p is. none p.name (is.name, is.some, is.bytes))
   | inl name ↦ elim (none_or_some (kind_named_by (kind_word t))) [
     | inl none ↦ inr (λ p is. let e = is.kind in absurd cc)
-    | inr kind ↦ elim (none_or_some (number_of (first_word (behind_word (behind_word t))))) [
+    | inr kind ↦ elim (none_or_some (decimal_number (first_word (behind_word (behind_word t))))) [
       | inl none ↦ inr (λ p is. let e = is.cylinders in absurd cc)
       | inr cylinders ↦ elim (none_or_some (options_of (behind_word (behind_word (behind_word t))))) [
         | inl none ↦ inr (λ p is. let e = is.options in absurd cc)
@@ -96,7 +97,7 @@ partition_text t = elim (some_name (first_word t)) [
 ]
   where
     of_words : (name : (n : List ℕ) × IsDriveName (first_word t) n) (kind : (x : Kind × Letters) × (kind_named_by (kind_word t) ≡ Some x))
-        (cylinders : (n : ℕ) × (number_of (first_word (behind_word (behind_word t))) ≡ Some n))
+        (cylinders : (n : ℕ) × (decimal_number (first_word (behind_word (behind_word t))) ≡ Some n))
         (options : (o : Options) × (options_of (behind_word (behind_word (behind_word t))) ≡ Some o))
         → (1 ≤ cylinders.0) × FitsSigned w8 options.0.priority → IsPartitionText t (made name.0 kind.0 cylinders.0 options.0)
     of_words name kind cylinders options good = record {
@@ -110,7 +111,7 @@ partition_text t = elim (some_name (first_word t)) [
       priority = good.1;
     }
 
-    same_words : (cylinders : (n : ℕ) × (number_of (first_word (behind_word (behind_word t))) ≡ Some n))
+    same_words : (cylinders : (n : ℕ) × (decimal_number (first_word (behind_word (behind_word t))) ≡ Some n))
         (options : (o : Options) × (options_of (behind_word (behind_word (behind_word t))) ≡ Some o)) (p : PartitionPlan) → IsPartitionText t p
         → (1 ≤ cylinders.0) × FitsSigned w8 options.0.priority
     same_words cylinders options p is =
@@ -129,7 +130,7 @@ partition_line line = elim (dec_and (dec_is (ends_in_space line) false) (dec_is 
 ]
 
 -- the lines of partitions that come first
-some_lines : (k : ℕ) (left : List ℕ) → length left ≤ k → (ps : List PartitionPlan) × (e : List ℕ) × AreLines left ps e × Stops e
+some_lines : (k : ℕ) (left : List ℕ) → length left ≤ k → (ps : List PartitionPlan) × (e : List ℕ) × AreLines left ps e × HasNoPartition e
 unfolding AreLines
 some_lines zero left le = elim (partition_line (first_line left)) [
   | inr none ↦ ([], left, refl, none)
@@ -146,9 +147,9 @@ disk_line : (line : List ℕ)
     → ((sectors heads : ℕ) × IsDiskLine line sectors heads) ⊎ ((sectors heads : ℕ) → ¬ IsDiskLine line sectors heads)
 disk_line line = elim (dec_is (has_word (codes "disk") line) true) [
   | no bad ↦ inr (λ sectors heads is. bad is.word)
-  | yes word ↦ elim (none_or_some (number_of (first_word (behind_word line)))) [
+  | yes word ↦ elim (none_or_some (decimal_number (first_word (behind_word line)))) [
     | inl none ↦ inr (λ sectors heads is. let e = is.text.first in absurd cc)
-    | inr sectors ↦ elim (none_or_some (number_of (behind_word (behind_word line)))) [
+    | inr sectors ↦ elim (none_or_some (decimal_number (behind_word (behind_word line)))) [
       | inl none ↦ inr (λ sectors heads is. let e = is.text.second in absurd cc)
       | inr heads ↦ inl (sectors.0, heads.0, record { word = word; text = record { first = sectors.1; second = heads.1 } })
     ]
@@ -158,8 +159,11 @@ disk_line line = elim (dec_is (has_word (codes "disk") line) true) [
 -- what is behind the lines of a plan ends it, or is a fault
 end_of_lines : (text : List ℕ) (plan : PlanValue) (e : List ℕ) → HasLines text plan e → HasPlanOrFault text
 end_of_lines text plan [] lines = inr (record { line = length plan.partitions + 2; kind = NoEnd }, inr (plan, [], lines, refl, refl))
-end_of_lines text plan (c ∷ cs) lines = elim (dec_is (is_end (c ∷ cs)) true) [
-  | no bad ↦ inr (record { line = length plan.partitions + 2; kind = BadLine }, inr (plan, c ∷ cs, lines, refl, ((λ h. absurd cc), not_true (is_end (c ∷ cs)) bad)))
+end_of_lines text plan (c ∷ cs) lines = elim (dec_is (begins_with_end (c ∷ cs)) true) [
+  | no bad ↦ inr (
+    record { line = length plan.partitions + 2; kind = BadLine },
+    inr (plan, c ∷ cs, lines, refl, ((λ h. absurd cc), not_true (begins_with_end (c ∷ cs)) bad)),
+  )
   | yes ends ↦ elim (dec_is (is_plan plan) true) [
     | yes good ↦ inl (plan, behind_line (c ∷ cs), record { end = c ∷ cs; lines = lines; ends = ends; good = good; behind = refl })
     | no large ↦ inr (record { line = length plan.partitions + 2; kind = TooLarge }, inr (plan, c ∷ cs, lines, refl, (ends, not_true (is_plan plan) large)))

@@ -14,7 +14,7 @@ use Rattle.adf_partitions.specs.declared.layout.TheConstants.{BLOCK_BYTES, FIRST
 use Rattle.adf_partitions.specs.declared.layout.TheConstants.{PART, RDSK_BLOCKS}
 use Rattle.adf_partitions.specs.declared.partition.Partition.{Partition}
 use Rattle.adf_partitions.specs.declared.tables.Tables.{Tables}
-use Rattle.adf_partitions.specs.Disks.{IsCut, IsDisk, IsFound, IsListFault, IsWhole, is_at, part_form}
+use Rattle.adf_partitions.specs.Disks.{IsCut, IsDisk, IsFound, IsListFault, IsWholeList, is_block_of, part_form}
 use Rattle.adf_partitions.specs.Disks.IsFound.{start, step}
 use Rattle.adf_partitions.specs.Faults.{disk_fault, first_failed}
 use Rattle.adf_partitions.specs.Summed.{holds, is_summed}
@@ -57,7 +57,7 @@ module _ {A B : List ℕ} (s : StartAgrees A B) where
 abbrev form_of : List Partition → ℕ → ℕ → Bool → List ℕ → List (Bool × DiskFault)
 form_of ps a b held p =
     (held, disk_fault a OutOfRange)
-    ∷ (not (list_any (is_at b) ps), disk_fault b Repeated)
+    ∷ (not (list_any (is_block_of b) ps), disk_fault b Repeated)
     ∷ (word p MARK == PART, disk_fault b NotPartition)
     ∷ (is_summed p, disk_fault b BadSum)
     ∷ (nat_lt (length ps) MOST_PARTITIONS, disk_fault b TooMany)
@@ -83,7 +83,7 @@ module _ {A B : List ℕ} (s : TablesAgree A B) where
         let e = s.blocks b (is_held ps a b (may_be_table A b) (block A b) sound) in
         one_more (same_found h) some (sym (same_tests ps a b) ∙ sound) e refl refl refl
 
-    pub same_whole : {ps : List Partition} → IsWhole A n t ps → IsWhole B n t ps
+    pub same_whole : {ps : List Partition} → IsWholeList A n t ps → IsWholeList B n t ps
     same_whole w = (w.0, same_found w.1)
 
     pub same_cut : {ps : List Partition} {f : DiskFault} → IsCut A n t ps f → IsCut B n t ps f

@@ -8,22 +8,23 @@ use Rattle.adf_partitions.specs.declared.plan.PartitionPlan.{PartitionPlan}
 use Rattle.adf_partitions.specs.declared.plan_text.TextFault.{TextFault}
 use Rattle.adf_partitions.specs.declared.plan_text.TextKind.{TextKind}
 use Rattle.adf_partitions.specs.Plans.{IsPartitionPlan, IsPlan, PlanValue}
-use Rattle.adf_partitions.specs.PlanTexts.{AreLines, HasPartition, IsDiskLine, IsEndFault, IsTextFault, IsPartitionLine, IsPartitionText, Stops, before, behind}
+use Rattle.adf_partitions.specs.PlanTexts.{AreLines, HasPartition, IsDiskLine, IsEndFault, IsTextFault, IsPartitionLine, IsPartitionText}
+use Rattle.adf_partitions.specs.PlanTexts.{HasNoPartition, before_byte, behind_byte}
 use Rattle.adf_partitions.specs.PlanTexts.{behind_line, first_line, is_plan}
 use Rattle.adf_partitions.proofs.NumberTests.{le_of, lt_of}
 
 -- no line of a partition is empty
 pub no_empty_line : (p : PartitionPlan) → ¬ IsPartitionLine (first_line []) p
-unfolding before
+unfolding before_byte
 no_empty_line p h = let w = h.word in absurd cc
 
-at_most : (c : ℕ) (xs : List ℕ) → length (behind c xs) ≤ length xs
-unfolding behind
+at_most : (c : ℕ) (xs : List ℕ) → length (behind_byte c xs) ≤ length xs
+unfolding behind_byte
 at_most c [] = omega arith
 at_most c (x ∷ xs) = grind (arith, common_steps, (at_most c xs))
 
-pub shorter : (c : ℕ) (xs : List ℕ) → 0 < length xs → length (behind c xs) < length xs
-unfolding behind
+pub shorter : (c : ℕ) (xs : List ℕ) → 0 < length xs → length (behind_byte c xs) < length xs
+unfolding behind_byte
 shorter c [] lt = absurd (omega arith)
 shorter c (x ∷ xs) lt = grind (arith, common_steps, at_most)
 
@@ -69,7 +70,7 @@ is_plan-tells plan left end lines h = grind (arith, common_steps, and_parts, le_
 
 -- a fault behind the lines of a plan
 pub fault_behind : (text rest end : List ℕ) (plan : PlanValue) (f : TextFault) (kind : TextKind) → rest ≡ behind_line text
-    → IsDiskLine (first_line text) plan.sectors plan.heads → AreLines rest plan.partitions end → Stops end → f.line ≡ length plan.partitions + 2
+    → IsDiskLine (first_line text) plan.sectors plan.heads → AreLines rest plan.partitions end → HasNoPartition end → f.line ≡ length plan.partitions + 2
     → f.kind ≡ kind → IsEndFault plan end kind → IsTextFault text f
 fault_behind text rest end plan f kind e disk lines stops line is fault = grind (arith, common_steps)
 

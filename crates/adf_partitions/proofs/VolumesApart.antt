@@ -19,10 +19,10 @@ use Rattle.adf_partitions.specs.declared.tables.Tables.{Tables}
 use Rattle.adf_partitions.specs.Disks.{IsDisk, IsFound, partition_at}
 use Rattle.adf_partitions.specs.Disks.IsFound.{start, step}
 use Rattle.adf_partitions.specs.Faults.{first_failed}
-use Rattle.adf_partitions.specs.Partitions.{is_over, is_over_earlier, is_over_place, place_form, placed}
+use Rattle.adf_partitions.specs.Partitions.{is_over, is_over_earlier, is_over_place, place_form, place_or_fault}
 use Rattle.adf_partitions.specs.Places.{do_overlap, end_of, has_cylinders, is_over_tables, place_of}
 use Rattle.adf_partitions.proofs.NumberTests.{le_of, of_lt}
-use Rattle.adf_partitions.specs.Volumes.{AreApart, LiesWell, VolumeLiesWell, VolumesAreApart}
+use Rattle.adf_partitions.specs.Volumes.{ShareNoBlock, LiesWell, VolumeLiesWell, VolumesAreApart}
 
 -- the first test holds, and the others do
 first_held : {C : Type 0} (a : Bool) (x : C) (rest : List (Bool × C)) → first_failed ((a, x) ∷ rest) ≡ None → (a ≡ true) × (first_failed rest ≡ None)
@@ -57,7 +57,7 @@ passed n t ps p h =
     }
 
 -- two places that do not overlap have no block in common
-no_common : (q r : Place) → do_overlap q r ≡ false → AreApart r q
+no_common : (q r : Place) → do_overlap q r ≡ false → ShareNoBlock r q
 no_common q r h = grind (arith, common_steps, of_lt)
 
 has_blocks : (low high c : ℕ) → nat_le low high ≡ true → not (c == 0) ≡ true → 0 < (high + 1 - low) * c
@@ -67,13 +67,13 @@ pub lies_well : (n : ℕ) (t : Tables) (ps : List Partition) (p : List ℕ) → 
 lies_well n t ps p h = grind (arith, common_steps, and_parts, or_parts, has_blocks, le_of, no_common)
 
 -- what holds of a place that has no fault
-pub if_placed : (q : Place) (o : Option PlaceFault) (P : Place → Type 0) → (o ≡ None → P q) → IfOk (placed q o) P
+pub if_placed : (q : Place) (o : Option PlaceFault) (P : Place → Type 0) → (o ≡ None → P q) → IfOk (place_or_fault q o) P
 if_placed q None P h = h refl
 if_placed q (Some f) P h = tt
 
 pub apart_from : (q : Place) (r : Result Place PlaceFault) (o : Option PlaceFault) → (o ≡ None → is_over_place q r ≡ false)
-    → IfOk r (λ r. IfOk (placed q o) (AreApart r))
-apart_from q (Ok r) o h = if_placed q o (AreApart r) (λ e. no_common q r (h e))
+    → IfOk r (λ r. IfOk (place_or_fault q o) (ShareNoBlock r))
+apart_from q (Ok r) o h = if_placed q o (ShareNoBlock r) (λ e. no_common q r (h e))
 apart_from q (Err f) o h = tt
 
 pub not_over : (q : Place) (ps : List Partition) → is_over_earlier q ps ≡ false → (k : ℕ) (d : Partition) → k < length ps

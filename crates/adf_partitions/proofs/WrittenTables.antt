@@ -15,7 +15,7 @@ use Rattle.adf_partitions.specs.declared.layout.TheConstants.{BLOCK_BYTES, BLOCK
 use Rattle.adf_partitions.specs.declared.layout.TheConstants.{ENV_LENGTH, FIRST_PART, FLAGS, HIGH_CYLINDER, HIGHEST_TABLE, LOW_CYLINDER, LOWEST_TABLE, MARK}
 use Rattle.adf_partitions.specs.declared.layout.TheConstants.{MOST_PARTITIONS, NEXT_PART, PART, RDSK, RESERVED, SUMMED_LONGS, SURFACES, TRACK_BLOCKS}
 use Rattle.adf_partitions.specs.declared.plan.PartitionPlan.{PartitionPlan}
-use Rattle.adf_partitions.specs.Partitions.{has_name, name_at}
+use Rattle.adf_partitions.specs.Partitions.{has_drive_name, name_at}
 use Rattle.adf_partitions.specs.Places.{blocks_from, has_cylinders, place_of}
 use Rattle.adf_partitions.specs.Plans.{PlanValue, IsPartitionPlan, IsPlan, cylinder_blocks, planned_cylinders, planned_flags, planned_type, table_cylinders}
 use Rattle.adf_partitions.specs.Summed.{is_summed}
@@ -181,8 +181,8 @@ module _ (plan : PlanValue) (h : IsPlan plan) (b low : ℕ) (p : PartitionPlan) 
   pub part-name : name_at (part_block plan b low p) ≡ p.name
   part-name = ap (take 31) part-text.1 ∙ take_all 31 p.name (omega (arith, fits.short))
 
-  pub part-has_name : has_name (part_block plan b low p) ≡ true
-  part-has_name = grind (arith, common_steps, of_le, part-name, part-text)
+  pub part-has_drive_name : has_drive_name (part_block plan b low p) ≡ true
+  part-has_drive_name = grind (arith, common_steps, of_le, part-name, part-text)
 
   pub part-environment : nat_le 16 (word (part_block plan b low p) ENV_LENGTH) ≡ true
   part-environment = rw part-length refl

@@ -14,14 +14,14 @@ use Rattle.adf_partitions.specs.Summed.{is_summed}
 use Rattle.adf_partitions.specs.Tables.{HasNoTables, IsTables, may_be_table}
 
 -- whether block b is that of a partition
-abbrev pub is_at : ℕ → Partition → Bool
-is_at b partition = partition.block == b
+abbrev pub is_block_of : ℕ → Partition → Bool
+is_block_of b partition = partition.block == b
 
 -- the tests of block b, which block a names, as the next partition block
 abbrev pub part_form : List ℕ → List Partition → ℕ → ℕ → List (Bool × DiskFault)
 part_form bytes ps a b =
     (may_be_table bytes b, disk_fault a OutOfRange)
-    ∷ (not (list_any (is_at b) ps), disk_fault b Repeated)
+    ∷ (not (list_any (is_block_of b) ps), disk_fault b Repeated)
     ∷ (word (block bytes b) MARK == PART, disk_fault b NotPartition)
     ∷ (is_summed (block bytes b), disk_fault b BadSum)
     ∷ (nat_lt (length ps) MOST_PARTITIONS, disk_fault b TooMany)
@@ -43,13 +43,13 @@ abbrev pub NamesPartition : List ℕ → Tables → Type 0
 NamesPartition bytes t = (t.first ≢ NO_BLOCK) × (first_failed (part_form bytes [] t.rdsk t.first) ≡ None)
 
 -- these are all partitions of the list: its last block names none
-abbrev pub IsWhole : List ℕ → ℕ → Tables → List Partition → Type 0
-IsWhole bytes n t ps = (last : ℕ) × IsFound bytes n t ps last NO_BLOCK
+abbrev pub IsWholeList : List ℕ → ℕ → Tables → List Partition → Type 0
+IsWholeList bytes n t ps = (last : ℕ) × IsFound bytes n t ps last NO_BLOCK
 
 -- these are the tables of a disk and all its partitions
 pub record IsDisk (bytes : List ℕ) (n : ℕ) (t : Tables) (ps : List Partition) : Type 0 where
   pub tables : IsTables bytes t
-  pub whole : IsWhole bytes n t ps
+  pub whole : IsWholeList bytes n t ps
 
 -- these are the partitions before the first fault of a list, that of the block which is named after them
 pub record IsCut (bytes : List ℕ) (n : ℕ) (t : Tables) (ps : List Partition) (f : DiskFault) : Type 0 where
@@ -61,7 +61,7 @@ pub record IsCut (bytes : List ℕ) (n : ℕ) (t : Tables) (ps : List Partition)
 
 -- the partitions of a list, up to its end or its first fault
 abbrev pub IsFollowed : List ℕ → ℕ → Tables → List Partition → Option DiskFault → Type 0
-IsFollowed bytes n t ps None = IsWhole bytes n t ps
+IsFollowed bytes n t ps None = IsWholeList bytes n t ps
 IsFollowed bytes n t ps (Some f) = IsCut bytes n t ps f
 
 -- the first fault of a list, after some partitions

@@ -22,8 +22,8 @@ abbrev pub name_at : List ℕ → List ℕ
 name_at p = take 31 (text_at p DRIVE_NAME)
 
 -- whether it is a name: 1 to 31 bytes, none of them `/` or `:`
-abbrev pub has_name : List ℕ → Bool
-has_name p = nat_le 1 (slice_index p DRIVE_NAME) && nat_le (slice_index p DRIVE_NAME) 31 && list_all is_name_byte (name_at p)
+abbrev pub has_drive_name : List ℕ → Bool
+has_drive_name p = nat_le 1 (slice_index p DRIVE_NAME) && nat_le (slice_index p DRIVE_NAME) 31 && list_all is_name_byte (name_at p)
 
 -- whether a place has a block of another one, if that is one
 abbrev pub is_over_place : Place → Result Place PlaceFault → Bool
@@ -52,13 +52,13 @@ abbrev pub field_form : List ℕ → List (Bool × FieldFault)
 field_form p =
     (nat_le 16 (word p ENV_LENGTH), ShortEnvironment)
     ∷ ((word p ENV_BLOCK_WORDS == 128) && (word p BLOCK_SECTORS == 1), OtherBlocks)
-    ∷ (has_name p, BadName)
+    ∷ (has_drive_name p, BadName)
     ∷ []
 
 -- a place, or what is wrong
-abbrev pub placed : Place → Option PlaceFault → Result Place PlaceFault
-placed q None = Ok q
-placed q (Some f) = Err f
+abbrev pub place_or_fault : Place → Option PlaceFault → Result Place PlaceFault
+place_or_fault q None = Ok q
+place_or_fault q (Some f) = Err f
 
 -- the partition of partition block b, after earlier ones
 abbrev pub partition_of : ℕ → Tables → List Partition → ℕ → List ℕ → Partition
@@ -69,13 +69,13 @@ partition_of n t earlier b p = record {
   priority = cast_signed w32 (word p BOOT_PRIORITY);
   dos_type = word p DOS_TYPE;
   reserved = word p RESERVED;
-  place = placed (place_of p) (first_failed (place_form n t earlier p));
+  place = place_or_fault (place_of p) (first_failed (place_form n t earlier p));
   fault = first_failed (field_form p);
 }
 
 -- whether a partition has this name, ignoring case
-abbrev pub is_named : List ℕ → Partition → Bool
-is_named name partition = bytes_eq (uppers partition.name) (uppers name)
+abbrev pub is_partition_named : List ℕ → Partition → Bool
+is_partition_named name partition = bytes_eq (uppers partition.name) (uppers name)
 
 -- the partition with this number, counted from 1
 abbrev pub partition_numbered : List Partition → ℕ → Option Partition

@@ -20,28 +20,28 @@ use Rattle.adf_partitions.specs.declared.plan_words.TheConstants.{MOST_NUMBER}
 use Rattle.adf_partitions.specs.Plans.{PlanValue, cylinder_blocks, planned_blocks}
 
 -- the bytes before the first byte c, or all
-unfoldable pub before : ℕ → List ℕ → List ℕ
-before c [] = []
-before c (x ∷ xs) = if x == c then [] else x ∷ before c xs
+unfoldable pub before_byte : ℕ → List ℕ → List ℕ
+before_byte c [] = []
+before_byte c (x ∷ xs) = if x == c then [] else x ∷ before_byte c xs
 
 -- the bytes behind the first byte c, if there is one
-unfoldable pub behind : ℕ → List ℕ → List ℕ
-behind c [] = []
-behind c (x ∷ xs) = if x == c then xs else behind c xs
+unfoldable pub behind_byte : ℕ → List ℕ → List ℕ
+behind_byte c [] = []
+behind_byte c (x ∷ xs) = if x == c then xs else behind_byte c xs
 
 -- the first word of a text, and the text behind its space
 abbrev pub first_word : List ℕ → List ℕ
-first_word text = before 32 text
+first_word text = before_byte 32 text
 
 abbrev pub behind_word : List ℕ → List ℕ
-behind_word text = behind 32 text
+behind_word text = behind_byte 32 text
 
 -- the first line of a text, no bytes if no line feed ends it, and the text behind its line feed
 abbrev pub first_line : List ℕ → List ℕ
-first_line text = if nat_lt (length (before 10 text)) (length text) then before 10 text else []
+first_line text = if nat_lt (length (before_byte 10 text)) (length text) then before_byte 10 text else []
 
 abbrev pub behind_line : List ℕ → List ℕ
-behind_line text = behind 10 text
+behind_line text = behind_byte 10 text
 
 -- n and the digits behind it, if the number is at most MOST_NUMBER
 unfoldable pub number_from : ℕ → List ℕ → Option ℕ
@@ -49,9 +49,9 @@ number_from n [] = Some n
 number_from n (c ∷ cs) = if nat_le 48 c && nat_le c 57 && nat_le (10 * n + (c - 48)) MOST_NUMBER then number_from (10 * n + (c - 48)) cs else None
 
 -- the number of decimal digits
-abbrev pub number_of : List ℕ → Option ℕ
-number_of [] = None
-number_of (c ∷ cs) = number_from 0 (c ∷ cs)
+abbrev pub decimal_number : List ℕ → Option ℕ
+decimal_number [] = None
+decimal_number (c ∷ cs) = number_from 0 (c ∷ cs)
 
 -- a boot priority of one byte
 abbrev pub priority_up : Option ℕ → Option ℤ
@@ -65,7 +65,7 @@ priority_down (Some n) = if nat_le n 128 then Some (neg_ℤ (pos n)) else None
 -- the boot priority of a word: a number, perhaps behind `-`
 abbrev pub priority_of : List ℕ → Option ℤ
 priority_of [] = None
-priority_of (c ∷ cs) = if c == 45 then priority_down (number_of cs) else priority_up (number_of (c ∷ cs))
+priority_of (c ∷ cs) = if c == 45 then priority_down (decimal_number cs) else priority_up (decimal_number (c ∷ cs))
 
 -- whether a word comes first, and the text without it
 abbrev pub has_word : List ℕ → List ℕ → Bool
@@ -106,7 +106,7 @@ kind_word text = first_word (behind_word text)
 pub record IsPartitionText (text : List ℕ) (p : PartitionPlan) : Type 0 where
   pub name : IsSpelling 31 (first_word text) p.name
   pub kind : kind_named_by (kind_word text) ≡ Some (p.kind, p.letters)
-  pub cylinders : number_of (first_word (behind_word (behind_word text))) ≡ Some p.cylinders
+  pub cylinders : decimal_number (first_word (behind_word (behind_word text))) ≡ Some p.cylinders
   pub options : options_of (behind_word (behind_word (behind_word text))) ≡ Some (options_in p)
   pub some : 1 ≤ length p.name
   pub bytes : list_all is_name_byte p.name ≡ true
@@ -125,8 +125,8 @@ pub record IsPartitionLine (line : List ℕ) (p : PartitionPlan) : Type 0 where
 
 -- SECTORS HEADS
 pub record IsDiskText (text : List ℕ) (sectors heads : ℕ) : Type 0 where
-  pub first : number_of (first_word text) ≡ Some sectors
-  pub second : number_of (behind_word text) ≡ Some heads
+  pub first : decimal_number (first_word text) ≡ Some sectors
+  pub second : decimal_number (behind_word text) ≡ Some heads
 
 -- disk SECTORS HEADS
 pub record IsDiskLine (line : List ℕ) (sectors heads : ℕ) : Type 0 where
@@ -139,8 +139,8 @@ AreLines left [] end = left ≡ end
 AreLines left (p ∷ ps) end = IsPartitionLine (first_line left) p × AreLines (behind_line left) ps end
 
 -- the next line is none of a partition
-abbrev pub Stops : List ℕ → Type 0
-Stops left = (p : PartitionPlan) → ¬ IsPartitionLine (first_line left) p
+abbrev pub HasNoPartition : List ℕ → Type 0
+HasNoPartition left = (p : PartitionPlan) → ¬ IsPartitionLine (first_line left) p
 
 -- a text begins with a line of a partition
 abbrev pub HasPartition : List ℕ → Type 0
@@ -163,25 +163,25 @@ is_plan plan =
 -- a plan of these lines: `end` is the text from the line after them on
 abbrev pub HasLines : List ℕ → PlanValue → List ℕ → Type 0
 HasLines text plan end =
-    IsDiskLine (first_line text) plan.sectors plan.heads × AreLines (behind_line text) plan.partitions end × Stops end
+    IsDiskLine (first_line text) plan.sectors plan.heads × AreLines (behind_line text) plan.partitions end × HasNoPartition end
 
 -- what stands behind the lines of a plan
-abbrev pub is_end : List ℕ → Bool
-is_end end = bytes_eq (first_line end) (codes "end")
+abbrev pub begins_with_end : List ℕ → Bool
+begins_with_end end = bytes_eq (first_line end) (codes "end")
 
 -- the text of a plan, and the bytes behind its line `end`
 pub record IsText (text : List ℕ) (plan : PlanValue) (rest : List ℕ) : Type 0 where
   pub end : List ℕ
   pub lines : HasLines text plan end
-  pub ends : is_end end ≡ true
+  pub ends : begins_with_end end ≡ true
   pub good : is_plan plan ≡ true
   pub behind : rest ≡ behind_line end
 
 -- what is wrong behind the lines of a plan
 abbrev pub IsEndFault : PlanValue → List ℕ → TextKind → Type 0
 IsEndFault plan end NoEnd = end ≡ []
-IsEndFault plan end BadLine = (end ≢ []) × (is_end end ≡ false)
-IsEndFault plan end TooLarge = (is_end end ≡ true) × (is_plan plan ≡ false)
+IsEndFault plan end BadLine = (end ≢ []) × (begins_with_end end ≡ false)
+IsEndFault plan end TooLarge = (begins_with_end end ≡ true) × (is_plan plan ≡ false)
 IsEndFault plan end NoMemory = ⊥
 
 -- the first line is none of a disk, or there is a fault behind the lines of a plan

@@ -7,30 +7,31 @@ use Rattle.adf_partitions.specs.declared.fault.DiskFault.{DiskFault}
 use Rattle.adf_partitions.specs.declared.layout.TheConstants.{BLOCK_BYTES, MARK, MOST_PARTITIONS, MOST_TABLES, NO_BLOCK, PART, RDSK_BLOCKS}
 use Rattle.adf_partitions.specs.declared.partition.Partition.{Partition}
 use Rattle.adf_partitions.specs.declared.tables.Tables.{Tables}
-use Rattle.adf_partitions.specs.Disks.{IsCut, IsDisk, is_at, partition_at}
+use Rattle.adf_partitions.specs.Disks.{IsCut, IsDisk, is_block_of, partition_at}
 use Rattle.adf_partitions.specs.Summed.{is_summed}
-use Rattle.adf_partitions.specs.Tables.{HasNoRdsk, IsRdsk, IsTables, is_kept, may_be_table}
+use Rattle.adf_partitions.specs.Tables.{HasNoRdsk, IsRdsk, IsTables, is_kept_for_tables, may_be_table}
 
 -- whether a block says that it is a partition block, with a sound sum
-abbrev pub is_part : List ℕ → Bool
-is_part p = (word p MARK == PART) && is_summed p
+abbrev pub is_partition_block : List ℕ → Bool
+is_partition_block p = (word p MARK == PART) && is_summed p
 
 -- whether block b is searched: it is kept for the tables, or is one of those in which tables begin
 abbrev pub is_searched : List ℕ → Tables → ℕ → Bool
-is_searched bytes t b = (nat_lt b RDSK_BLOCKS || is_kept t b) && may_be_table bytes b
+is_searched bytes t b = (nat_lt b RDSK_BLOCKS || is_kept_for_tables t b) && may_be_table bytes b
 
 -- whether block b, which is searched, is a partition block that these partitions do not have
-abbrev pub is_lost : List ℕ → Tables → List Partition → ℕ → Bool
-is_lost bytes t ps b = is_searched bytes t b && is_part (block bytes b) && not (list_any (is_at b) ps) && nat_lt (length ps) MOST_PARTITIONS
+abbrev pub is_lost_partition : List ℕ → Tables → List Partition → ℕ → Bool
+is_lost_partition bytes t ps b =
+    is_searched bytes t b && is_partition_block (block bytes b) && not (list_any (is_block_of b) ps) && nat_lt (length ps) MOST_PARTITIONS
 
 -- the partitions, and that of block b if it is lost
-abbrev pub with_lost : List ℕ → ℕ → Tables → List Partition → ℕ → List Partition
-with_lost bytes n t ps b = if is_lost bytes t ps b then ps ++ partition_at bytes n t ps b ∷ [] else ps
+abbrev pub with_lost_partition : List ℕ → ℕ → Tables → List Partition → ℕ → List Partition
+with_lost_partition bytes n t ps b = if is_lost_partition bytes t ps b then ps ++ partition_at bytes n t ps b ∷ [] else ps
 
 -- the partitions, and those of the first k blocks that are lost, in the order of their blocks
 unfoldable pub with_all_lost : List ℕ → ℕ → Tables → List Partition → ℕ → List Partition
 with_all_lost bytes n t ps zero = ps
-with_all_lost bytes n t ps (suc k) = with_lost bytes n t (with_all_lost bytes n t ps k) k
+with_all_lost bytes n t ps (suc k) = with_lost_partition bytes n t (with_all_lost bytes n t ps k) k
 
 -- no tables: without a rigid disk block, block 0 alone is kept
 abbrev pub no_tables : Tables

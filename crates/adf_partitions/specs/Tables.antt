@@ -53,5 +53,5 @@ abbrev pub may_be_table : List ℕ → ℕ → Bool
 may_be_table bytes b = nat_lt b MOST_TABLES && holds bytes b
 
 -- whether block b is kept for the tables
-abbrev pub is_kept : Tables → ℕ → Bool
-is_kept t b = nat_le t.lowest b && nat_le b t.highest
+abbrev pub is_kept_for_tables : Tables → ℕ → Bool
+is_kept_for_tables t b = nat_le t.lowest b && nat_le b t.highest

@@ -19,12 +19,12 @@ abbrev pub VolumeLiesWell : ℕ → Tables → Partition → Type 0
 VolumeLiesWell n t p = IfOk p.place (LiesWell n t)
 
 -- two places have no block in common
-abbrev pub AreApart : Place → Place → Type 0
-AreApart q r = (b : ℕ) → IsIn b q → IsIn b r → ⊥
+abbrev pub ShareNoBlock : Place → Place → Type 0
+ShareNoBlock q r = (b : ℕ) → IsIn b q → IsIn b r → ⊥
 
 -- the volumes of two partitions have none, if both have a place
 abbrev pub VolumesAreApart : Partition → Partition → Type 0
-VolumesAreApart p other = IfOk p.place (λ q. IfOk other.place (AreApart q))
+VolumesAreApart p other = IfOk p.place (λ q. IfOk other.place (ShareNoBlock q))
 
 -- a place has blocks, all within a disk of n blocks
 pub record LiesWithin (n : ℕ) (q : Place) : Type 0 where

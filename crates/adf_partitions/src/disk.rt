@@ -2,7 +2,7 @@
 
 ghost use Rattle.std.specs.Prelude.{◌≡◌, ◌≢◌, List, IfErr, IfOk, find, option_copied};
 ghost use Rattle.adf_partitions.specs.Disks.{FirstFault, IsDisk, NamesPartition};
-ghost use Rattle.adf_partitions.specs.Partitions.{is_named, partition_numbered};
+ghost use Rattle.adf_partitions.specs.Partitions.{is_partition_named, partition_numbered};
 ghost use Rattle.adf_partitions.specs.Tables.{IsTables};
 ghost use Rattle.adf_partitions.specs.declared.fault.DiskCause.{DiskCause};
 ghost use Rattle.adf_partitions.specs.declared.partition.Partition.{Partition};
@@ -68,7 +68,7 @@ impl Disk {
 
     /// The first partition with this name, ignoring the case of `a` to `z`; `None` if there is none.
     pub fn named(&self, name: &[u8]) -> Option<&Partition>
-        ensures { option_copied result ≡ find (is_named name.now) self.now.partitions.items }
+        ensures { option_copied result ≡ find (is_partition_named name.now) self.now.partitions.items }
     {
         for partition in &self.partitions {
             if is_named(name, partition) {

@@ -2,7 +2,7 @@
 
 ghost use Rattle.std.specs.Prelude.{◌≡◌, ◌≤◌, ◌*◌, ◌++◌, ◌↔◌, ℕ, List, length, find, take, true, All, AllPairs};
 ghost use Rattle.adf_partitions.specs.Disks.{FirstFault, HasListOrFault, IsDisk};
-ghost use Rattle.adf_partitions.specs.Partitions.{is_named, partition_numbered};
+ghost use Rattle.adf_partitions.specs.Partitions.{is_partition_named, partition_numbered};
 ghost use Rattle.adf_partitions.specs.Searches.{AreReadable, is_searched, no_tables};
 ghost use Rattle.adf_partitions.specs.Tables.{HasNoTables, IsTables};
 ghost use Rattle.adf_partitions.specs.Volumes.{AreSeparate, FoundAlike, VolumeLiesWell, VolumesAreApart};
@@ -95,7 +95,7 @@ pub fn length_moves_no_volume()
         → FoundAlike bytes n (partition_numbered ps number) (partition_numbered qs number) }
     ensures named { (bytes : List ℕ) (n m : ℕ) (t u : Tables) (ps qs : List Partition) (name : List ℕ)
         → IsDisk bytes n t ps → IsDisk bytes m u qs
-        → FoundAlike bytes n (find (is_named name) ps) (find (is_named name) qs) }
+        → FoundAlike bytes n (find (is_partition_named name) ps) (find (is_partition_named name) qs) }
 {}
 
 #[tactic(auto, using(crate::proofs::VolumesApart::volumes_lie_well))]

@@ -3,7 +3,7 @@
 ghost use Rattle.std.specs.Prelude.{◌≡◌, Some, None, ◌<◌, length, IfOk, OnErr, OnOk, MatchResult};
 ghost use Rattle.std.specs.List.{list_any};
 ghost use Rattle.adf_base.specs.Words.{block};
-ghost use Rattle.adf_partitions.specs.Disks.{IsFollowed, NamesPartition, is_at, part_form};
+ghost use Rattle.adf_partitions.specs.Disks.{IsFollowed, NamesPartition, is_block_of, part_form};
 ghost use Rattle.adf_partitions.specs.Faults.{first_failed};
 
 use crate::fault::{DiskCause, DiskFault, disk_fault};
@@ -16,7 +16,7 @@ use std::alloc::{AllocError, Global};
 
 /// Whether the list has come to a block.
 pub fn is_found(earlier: &[Partition], b: u32) -> bool
-    ensures { result ≡ list_any (is_at b) earlier.now }
+    ensures { result ≡ list_any (is_block_of b) earlier.now }
 {
     earlier.iter().any(|partition| partition.block == b)
 }

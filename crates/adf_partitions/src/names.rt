@@ -2,7 +2,7 @@
 
 ghost use Rattle.std.specs.Prelude.{◌≡◌, bytes_eq};
 ghost use Rattle.adf_names.specs.Texts.{uppers};
-ghost use Rattle.adf_partitions.specs.Partitions.{is_named};
+ghost use Rattle.adf_partitions.specs.Partitions.{is_partition_named};
 
 use crate::partition::Partition;
 use adf_base::upper;
@@ -25,7 +25,7 @@ pub fn are_same(a: &[u8], b: &[u8]) -> bool
 
 /// Whether a partition has this name, ignoring the case of `a` to `z`.
 pub fn is_named(name: &[u8], partition: &Partition) -> bool
-    ensures { result ≡ is_named name.now partition.now }
+    ensures { result ≡ is_partition_named name.now partition.now }
 {
     are_same(partition.name.bytes(), name)
 }

@@ -4,7 +4,7 @@ ghost use Rattle.std.specs.Prelude.{◌≡◌};
 ghost use Rattle.std.specs.List.{list_all, list_any};
 ghost use Rattle.adf_names.specs.Texts.{is_name_byte};
 ghost use Rattle.adf_partitions.specs.Faults.{first_failed};
-ghost use Rattle.adf_partitions.specs.Partitions.{field_form, has_name, is_over, is_over_earlier, name_at, partition_of, place_form, placed};
+ghost use Rattle.adf_partitions.specs.Partitions.{field_form, has_drive_name, is_over, is_over_earlier, name_at, partition_of, place_form, place_or_fault};
 ghost use Rattle.adf_partitions.specs.Places.{place_of};
 
 use crate::field_fault::FieldFault;
@@ -57,8 +57,8 @@ pub fn are_name_bytes(bytes: &[u8]) -> bool
 }
 
 // Whether the drive's name in a partition block is a name: 1 to 31 bytes, none of them `/` or `:`.
-fn has_name(p: &Block<'_>) -> bool
-    ensures { result ≡ has_name p.now }
+fn has_drive_name(p: &Block<'_>) -> bool
+    ensures { result ≡ has_drive_name p.now }
 {
     let len = p.byte(DRIVE_NAME);
     1 <= len && len <= 31 && are_name_bytes(name_in(p).bytes())
@@ -88,7 +88,7 @@ fn place_in(
     blocks: u64,
     earlier: &[Partition],
 ) -> Result<Place, PlaceFault>
-    ensures { result ≡ placed (place_of p.now)
+    ensures { result ≡ place_or_fault (place_of p.now)
         (first_failed (place_form blocks tables earlier.now p.now)) }
 {
     if !has_cylinders(p) {
@@ -116,7 +116,7 @@ fn field_fault(p: &Block<'_>) -> Option<FieldFault>
     if p.word(ENV_BLOCK_WORDS) != 128 || p.word(BLOCK_SECTORS) != 1 {
         return Some(FieldFault::OtherBlocks);
     }
-    if !has_name(p) {
+    if !has_drive_name(p) {
         return Some(FieldFault::BadName);
     }
     None

@@ -7,8 +7,8 @@ ghost use Rattle.adf_partitions.specs.Plans.{IsPlan, cylinder_blocks, plan_value
 ghost use Rattle.adf_partitions.specs.FaultTexts.{text_kind_text};
 ghost use Rattle.adf_partitions.specs.PlanTexts.{AreLines, HasBegun, HasPartition, HasPlanOrFault, IsPartitionText, IsText};
 ghost use Rattle.adf_partitions.specs.PlanTexts.{IsTextFault};
-ghost use Rattle.adf_partitions.specs.PlanTexts.{PlansHaveNoFault, Stops, TextsHaveOneFault, TextsHaveOnePlan};
-ghost use Rattle.adf_partitions.specs.PlanTexts.{has_volume, is_end, is_plan, kind_word};
+ghost use Rattle.adf_partitions.specs.PlanTexts.{PlansHaveNoFault, HasNoPartition, TextsHaveOneFault, TextsHaveOnePlan};
+ghost use Rattle.adf_partitions.specs.PlanTexts.{has_volume, begins_with_end, is_plan, kind_word};
 ghost use Rattle.adf_partitions.specs.declared.layout.TheConstants.{MOST_PARTITIONS};
 ghost use Rattle.adf_partitions.specs.declared.plan.PartitionPlan.{PartitionPlan};
 ghost use Rattle.adf_partitions.specs.declared.plan_text.TextKind.{TextKind};
@@ -97,7 +97,7 @@ fn is_end(line: &[u8]) -> bool
 // The partitions whose lines stand first, and the text behind them.
 fn read_lines(alloc: Global, text: &[u8]) -> Result<(Vec<PartitionPlan>, &[u8]), AllocError>
     ensures lines { IfOk result (λ r. AreLines text.now r.0.items r.1.now) }
-    ensures stops { IfOk result (λ r. Stops r.1.now) }
+    ensures stops { IfOk result (λ r. HasNoPartition r.1.now) }
     ensures begun { OnErr result (HasPartition text.now) }
 {
     let mut partitions = Vec::new(alloc);

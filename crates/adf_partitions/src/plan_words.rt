@@ -1,7 +1,7 @@
 // The words of a plan's text.
 
 ghost use Rattle.std.specs.Prelude.{◌≡◌, Some};
-ghost use Rattle.adf_partitions.specs.PlanTexts.{before, behind, behind_line, ends_in_space, first_line, number_of, priority_down, priority_of, priority_up};
+ghost use Rattle.adf_partitions.specs.PlanTexts.{before_byte, behind_byte, behind_line, ends_in_space, first_line, decimal_number, priority_down, priority_of, priority_up};
 
 /// The largest number of a text.
 pub const MOST_NUMBER: u32 = 1_048_576;
@@ -9,8 +9,8 @@ pub const MOST_NUMBER: u32 = 1_048_576;
 #[tactic(auto, using(crate::proofs::Cuts::cut_there, crate::proofs::Cuts::cut_nowhere, std::proofs::lemmas::List::take_rest))]
 /// The bytes before and behind the first byte of this value; all bytes and none, if there is none.
 pub fn cut(text: &[u8], byte: u8) -> (&[u8], &[u8])
-    ensures front { result.0.now ≡ before byte text.now }
-    ensures rest { result.1.now ≡ behind byte text.now }
+    ensures front { result.0.now ≡ before_byte byte text.now }
+    ensures rest { result.1.now ≡ behind_byte byte text.now }
 {
     for i in 0..text.len() {
         if text[i] == byte {
@@ -43,7 +43,7 @@ pub fn ends_in_space(line: &[u8]) -> bool
 #[tactic(auto, using(crate::proofs::Cuts::no_room, crate::proofs::Cuts::digit_read, crate::proofs::Cuts::number_done))]
 /// The number of decimal digits, at most `MOST_NUMBER`.
 pub fn read_number(text: &[u8]) -> Option<u32>
-    ensures { result ≡ number_of text.now }
+    ensures { result ≡ decimal_number text.now }
 {
     if text.is_empty() {
         return None;

@@ -1,7 +1,7 @@
 // The partitions that can be read where the tables of a disk have a fault.
 
 ghost use Rattle.std.specs.Prelude.{◌≡◌, ◌≢◌, [], IfOk, OnErr};
-ghost use Rattle.adf_partitions.specs.Searches.{AreReadable, HasReadable, bare_partitions, is_lost, is_part};
+ghost use Rattle.adf_partitions.specs.Searches.{AreReadable, HasReadable, bare_partitions, is_lost_partition, is_partition_block};
 ghost use Rattle.adf_partitions.specs.Searches.{is_searched, with_all_lost};
 ghost use Rattle.adf_partitions.specs.Tables.{IsTables};
 ghost use Rattle.adf_partitions.specs.declared.layout.TheConstants.{MOST_TABLES};
@@ -16,8 +16,8 @@ use adf_base::Block;
 use std::alloc::{AllocError, Global};
 
 // Whether a block says that it is a partition block, with a sound sum.
-fn is_part(part: &Block<'_>) -> bool
-    ensures { result ≡ is_part part.now }
+fn is_partition_block(part: &Block<'_>) -> bool
+    ensures { result ≡ is_partition_block part.now }
 {
     part.word(MARK) == PART && is_summed(part)
 }
@@ -30,11 +30,11 @@ fn is_searched(bytes: &[u8], tables: Tables, b: u32) -> bool
 }
 
 // Whether a block that is searched is a partition block that these partitions do not have.
-fn is_lost(bytes: &[u8], tables: Tables, found: &[Partition], b: u32) -> bool
-    ensures { result ≡ is_lost bytes.now tables found.now b }
+fn is_lost_partition(bytes: &[u8], tables: Tables, found: &[Partition], b: u32) -> bool
+    ensures { result ≡ is_lost_partition bytes.now tables found.now b }
 {
     is_searched(bytes, tables, b)
-        && is_part(&Block::at(bytes, b).unwrap())
+        && is_partition_block(&Block::at(bytes, b).unwrap())
         && !is_found(found, b)
         && found.len() < MOST_PARTITIONS
 }
@@ -53,7 +53,7 @@ fn with_all_lost(
 {
     let mut found = partitions;
     for b in 0..MOST_TABLES {
-        if is_lost(bytes, tables, &found, b) {
+        if is_lost_partition(bytes, tables, &found, b) {
             let part = Block::at(bytes, b).unwrap();
             let partition = partition_of(b, &part, tables, blocks, &found);
             found.push(partition)?;

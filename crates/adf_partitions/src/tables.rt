@@ -2,7 +2,7 @@
 
 ghost use Rattle.std.specs.Prelude.{◌≡◌, ◌≤◌, ◌+◌, ◌*◌, length, IfErr, IfNone, IfOk, IfSome};
 ghost use Rattle.adf_base.specs.Words.{block};
-ghost use Rattle.adf_partitions.specs.Tables.{HasNoRdsk, HasNoTables, IsRdsk, IsTables, is_kept, is_larger, is_rdsk, may_be_table, tables_at};
+ghost use Rattle.adf_partitions.specs.Tables.{HasNoRdsk, HasNoTables, IsRdsk, IsTables, is_kept_for_tables, is_larger, is_rdsk, may_be_table, tables_at};
 
 use crate::fault::{DiskCause, DiskFault, disk_fault};
 use crate::layout::{
@@ -88,7 +88,7 @@ pub fn may_be_table(bytes: &[u8], b: u32) -> bool
 
 /// Whether a block is kept for the tables.
 pub fn is_kept(tables: Tables, b: u32) -> bool
-    ensures { result ≡ is_kept tables b }
+    ensures { result ≡ is_kept_for_tables tables b }
 {
     tables.lowest <= b && b <= tables.highest
 }

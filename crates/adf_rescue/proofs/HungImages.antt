@@ -1,7 +1,8 @@
 -- Hung images: the directories that are made, the steps, and what stays.
 -- Letters: given the image of a survey, w its walk, s whether each directory is settled; b, p blocks; k, n numbers of blocks;
 -- e an end; v, m, l, t answers of tests.
-use Rattle.std.proofs.Common.{◌==◌, ◌&&◌, ◌||◌, slice_index, slice_index_or, cond, replicate, Some, None, codes, decimal, ◌≡◌, ◌≤◌, ◌<◌, ℕ, zero, suc, ◌+◌, ◌^◌, Bool, true, false, List, []}
+use Rattle.std.proofs.Common.{◌==◌, ◌&&◌, ◌||◌, slice_index, slice_index_or, cond, replicate, Some, None, codes, decimal, ◌≡◌, ◌≤◌, ◌<◌, ℕ, zero}
+use Rattle.std.proofs.Common.{suc, ◌+◌, ◌^◌, Bool, true, false, List, []}
 use Rattle.std.proofs.Common.{◌∷◌, length, add-one, ◌∙◌, ap, arith, inl, inr, refl, subst, sym, length-append}
 use Rattle.std.specs.List.{list_all}
 use Rattle.std.proofs.lemmas.Bool.{and_from, and_left, cases_lt, cond-false, cond-true, or_from, or_left, or_right}
@@ -15,7 +16,8 @@ use Rattle.adf_volume.specs.Image.{word_in}
 use Rattle.adf_volume.specs.Walk.{heads, Walk}
 use Rattle.adf_findings.specs.Marks.{has_mark}
 use Rattle.adf_findings.specs.Found.{owns, parent_node}
-use Rattle.adf_rescue.specs.Hung.{AreEnds, AreMade, end_of, hung_at, hung_in, slot_word, last_open, open_end, hung_first, hung_loose, is_made, is_named, is_vacant, readied, ready_in}
+use Rattle.adf_rescue.specs.Hung.{AreEnds, AreMade, directory_end, hung_at, hung_in, slot_word, last_open, open_end, hung_first, hung_loose, is_made}
+use Rattle.adf_rescue.specs.Hung.{has_lost_child, is_vacant, readied, ready_in}
 use Rattle.adf_rescue.specs.Lost.{directory_at, is_inside, is_lost, lost_among}
 use Rattle.adf_rescue.specs.Rescue.{lost_name}
 use Rattle.std.specs.Option.{unwrap_or}
@@ -110,15 +112,15 @@ module _ {given : List ℕ} {w : Walk} {k : ℕ} {ends : List ℕ} (are : AreEnd
 
 module _ (given : List ℕ) (w : Walk) (p : ℕ) where
   pub end_found : (n : ℕ) (ends : List ℕ) → AreEnds given w (heads w) ends → n ≡ unwrap_or (directory_at given w p) 0
-      → slice_index ends n ≡ end_of given w p
+      → slice_index ends n ≡ directory_end given w p
   end_found n ends are is = ap (slice_index ends) is ∙ are.end (unwrap_or (directory_at given w p) 0) (number_known given w p)
 
-  pub hung_at_end : (image : List ℕ) (b e : ℕ) → owns w (word_in image p (slot_word b)) ≡ true → e ≡ end_of given w p → is_inside image e ≡ true
+  pub hung_at_end : (image : List ℕ) (b e : ℕ) → owns w (word_in image p (slot_word b)) ≡ true → e ≡ directory_end given w p → is_inside image e ≡ true
       → hung_at image b p e NEXT_IN_CHAIN ≡ hung_in given w image b p
   unfolding hung_in
   hung_at_end image b e full is inside = grind (arith, common_steps, cond-true)
 
-  pub not_hung : (image : List ℕ) (b e : ℕ) → owns w (word_in image p (slot_word b)) ≡ true → e ≡ end_of given w p → is_inside image e ≡ false
+  pub not_hung : (image : List ℕ) (b e : ℕ) → owns w (word_in image p (slot_word b)) ≡ true → e ≡ directory_end given w p → is_inside image e ≡ false
       → image ≡ hung_in given w image b p
   unfolding hung_in
   not_hung image b e full is out = grind (arith, common_steps, cond-true, cond-false)
@@ -127,7 +129,7 @@ module _ (given : List ℕ) (w : Walk) (p : ℕ) where
 
 pub made_first : (given : List ℕ) (w : Walk) (s : ℕ → Bool) (marks : List Bool) → length marks ≡ blocks given
     → ((p : ℕ) → has_mark marks p ≡ false) → AreMade given w s 0 marks
-unfolding is_named
+unfolding has_lost_child
 made_first given w s marks len none = record { length = len; made = λ p lt. none p ∙ sym (and-false (is_vacant given w s p)) }
 
 and_or : (v m t : Bool) → ((v && m) || v && t) ≡ (v && (m || t))
@@ -138,17 +140,17 @@ module _ {given : List ℕ} {w : Walk} {s : ℕ → Bool} {k : ℕ} {marks : Lis
   pub made_more : {more : List Bool} → is_lost given w s k ≡ true
       → ((p : ℕ) → p < length marks → has_mark more p ≡ (has_mark marks p || is_vacant given w s p && (word_in given k PARENT == p)))
       → length more ≡ length marks → AreMade given w s (k + 1) more
-  unfolding is_named
+  unfolding has_lost_child
   made_more lost put len = grind (arith, common_steps, and_or, add-one)
 
   pub made_same : is_lost given w s k ≡ false → AreMade given w s (k + 1) marks
-  unfolding is_named
+  unfolding has_lost_child
   made_same kept = record {
     length = are.length;
     made = λ p lt.
         are.made p lt
-        ∙ ((λ i. is_vacant given w s p && sym (or-false (is_named given w s p k)) i)
-        ∙ rw add-one (λ i. is_vacant given w s p && (is_named given w s p k || sym kept i && (word_in given k PARENT == p))));
+        ∙ ((λ i. is_vacant given w s p && sym (or-false (has_lost_child given w s p k)) i)
+        ∙ rw add-one (λ i. is_vacant given w s p && (has_lost_child given w s p k || sym kept i && (word_in given k PARENT == p))));
   }
 
 vacant_inside : (given : List ℕ) (w : Walk) (s : ℕ → Bool) (p : ℕ) → blocks given ≤ p → is_vacant given w s p ≡ false

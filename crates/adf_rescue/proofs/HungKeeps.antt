@@ -22,7 +22,7 @@ use Rattle.adf_volume.specs.Image.{kind_of, root_of, word_in}
 use Rattle.adf_volume.specs.Start.{is_image_len}
 use Rattle.adf_volume.specs.Walk.{heads, node_block, Walk}
 use Rattle.adf_findings.specs.Found.{entry_in, owner, owns}
-use Rattle.adf_rescue.specs.Hung.{end_of, home, hung, hung_at, hung_behind, hung_first, hung_in, hung_loose, is_container, is_hung, is_made, is_vacant}
+use Rattle.adf_rescue.specs.Hung.{directory_end, home, hung, hung_at, hung_behind, hung_first, hung_in, hung_loose, is_container, is_hung, is_made, is_vacant}
 use Rattle.adf_rescue.specs.Hung.{last_open, made_header, put_in, readied, ready_in, sealed_in, slot_word}
 use Rattle.adf_rescue.specs.Lost.{directory_at, is_inside, is_lost, says_directory}
 use Rattle.adf_rescue.proofs.HungImages.{name_is_valid}
@@ -190,7 +190,8 @@ module _ (given : List ℕ) (w : Walk) (s : ℕ → Bool) (len : is_image_len (l
   -- block c is neither a home of what is hung nor the end there
   abbrev IsApart : ℕ → Type 0
   IsApart c = ((d : ℕ) → is_hung given w s d ≡ true → home given w s d ≢ c)
-      × ((d : ℕ) → is_hung given w s d ≡ true → is_inside given (end_of given w (home given w s d)) ≡ true → end_of given w (home given w s d) ≢ c)
+      × ((d : ℕ) → is_hung given w s d ≡ true → is_inside given (directory_end given w (home given w s d)) ≡ true
+      → directory_end given w (home given w s d) ≢ c)
 
   -- hanging changes what is hung, the homes and the ends; and no word that leads to a part of the survey
   abbrev IsOwnedWord : ℕ → ℕ → Type 0
@@ -240,7 +241,7 @@ module _ (given : List ℕ) (w : Walk) (s : ℕ → Bool) (len : is_image_len (l
   unfolding hung_loose hung_in
   loose_touches x b same inside =
       let p : ℕ = home given w s b in
-      let e : ℕ = end_of given w p in
+      let e : ℕ = directory_end given w p in
       cond_both (is_hung given w s b) (hung_in given w x b p) x (KeepsMore x)
       (λ is.
       cond_both (owns w (word_in x p (slot_word b))) (hung_behind x b p e) (hung_at x b p p (slot_word b)) (KeepsMore x)
@@ -284,12 +285,13 @@ module _ (given : List ℕ) (w : Walk) (s : ℕ → Bool) (len : is_image_len (l
   length_kept = (first_touches (blocks given) (omega arith)).length
 
   apart_kept : (b : ℕ) → is_hung given w s b ≡ false → ((d : ℕ) → is_hung given w s d ≡ true → home given w s d ≢ b)
-      → ((d : ℕ) → is_hung given w s d ≡ true → is_inside given (end_of given w (home given w s d)) ≡ true → end_of given w (home given w s d) ≢ b)
+      → ((d : ℕ) → is_hung given w s d ≡ true → is_inside given (directory_end given w (home given w s d)) ≡ true
+      → directory_end given w (home given w s d) ≢ b)
       → block (hung given w s) b ≡ block given b
   apart_kept b out no_home no_end = (first_touches (blocks given) (omega arith)).others b out (no_home, no_end)
 
   pub blocks_kept : (b : ℕ) → is_hung given w s b ≡ false → ((d : ℕ) → is_hung given w s d ≡ true → home given w s d ≢ b)
-      → ((d : ℕ) → is_hung given w s d ≡ true → end_of given w (home given w s d) ≢ b) → block (hung given w s) b ≡ block given b
+      → ((d : ℕ) → is_hung given w s d ≡ true → directory_end given w (home given w s d) ≢ b) → block (hung given w s) b ≡ block given b
   blocks_kept b out no_home no_end = apart_kept b out no_home (λ d h inside. no_end d h)
 
   pub words_kept : (b i : ℕ) → is_hung given w s b ≡ false → i < 128 → i ≢ CHECKSUM → owns w (word_in given b i) ≡ true

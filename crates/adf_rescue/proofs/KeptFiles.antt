@@ -28,7 +28,8 @@ use Rattle.adf_findings.specs.SoundMarks.{AreMarks}
 use Rattle.adf_findings.specs.Survey.{FindingValue}
 use Rattle.adf_rescue.specs.declared.left_out.Why.{Why, TheVariants.Damaged, TheVariants.Link}
 use Rattle.adf_rescue.specs.Rescue.{Basis, Ground, Verdict, added_marks, are_given, as_given, at_path, before_second_by, body_of, body_of_type}
-use Rattle.adf_rescue.specs.Rescue.{by_body, entry_at, first_verdicts_by, is_added, is_given, is_kept, is_same_block, place_of, second_verdicts_by, tree_of}
+use Rattle.adf_rescue.specs.Rescue.{by_body, entry_headed, first_verdicts_by, is_added, is_given, is_of_kept_entry, is_same_block, new_path}
+use Rattle.adf_rescue.specs.Rescue.{second_verdicts_by, verdict_tree}
 use Rattle.adf_rescue.specs.Rescue.{unless_known}
 use Rattle.adf_rescue.specs.Rescue.{verdict, verdict_anew, verdicts}
 use Rattle.adf_rescue.specs.Rescue.Verdict.{adds}
@@ -55,8 +56,8 @@ unless_adds g (Some m) v x is = absurd cc
 pub stands_added : (g : Ground) (l : Basis) (vs : List Verdict) (n : ℕ) (x : Addition) → verdict g l vs n ≡ adds x
     → body_of (as_given g l) n ≡ Ok x.body
 stands_added g l vs n x is =
-    body_in_verdict l.image (blocks g.given) (tree_of g vs) (place_of vs (parent_node l.walk n)) (node_block l.walk n) (body_of (as_given g l) n) x
-    (unless_adds g (entry_at g.walk (node_block l.walk n)) (verdict_anew g l vs n) x is)
+    body_in_verdict l.image (blocks g.given) (verdict_tree g vs) (new_path vs (parent_node l.walk n)) (node_block l.walk n) (body_of (as_given g l) n) x
+    (unless_adds g (entry_headed g.walk (node_block l.walk n)) (verdict_anew g l vs n) x is)
 
 -- a file that stands is whole
 
@@ -131,9 +132,10 @@ given_at g image [] k b all at = absurd at
 given_at g image (c ∷ bs) zero b all at = ap (is_given g image) (sym at) ∙ (and_parts (is_given g image c) _ all).0
 given_at g image (c ∷ bs) (suc k) b all at = given_at g image bs k b (and_parts (is_given g image c) _ all).1 at
 
-not_kept : (g : Ground) (image : List ℕ) (b : ℕ) → is_given g image b ≡ true → is_kept g b ≡ false
+not_kept : (g : Ground) (image : List ℕ) (b : ℕ) → is_given g image b ≡ true → is_of_kept_entry g b ≡ false
 not_kept g image b given =
-    not-true (is_kept g b) (and_parts (not (is_kept g b)) _ (and_parts (is_same_block g.given image b) _ (and_parts (nat_lt b g.held) _ given).1).1).0
+    not-true (is_of_kept_entry g b) (and_parts (not (is_of_kept_entry g b)) _
+    (and_parts (is_same_block g.given image b) _ (and_parts (nat_lt b g.held) _ given).1).1).0
 
 marked : (vs : List Verdict) (i : ℕ) (x : Addition) → slice_get vs i ≡ Some (adds x) → slice_index_or (map is_added vs) i false ≡ true
 marked [] i x at = absurd cc

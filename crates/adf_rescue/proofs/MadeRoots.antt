@@ -23,7 +23,7 @@ use Rattle.adf_volume.specs.Image.{root_of}
 use Rattle.adf_volume.specs.Start.{is_image_len}
 use Rattle.adf_findings.specs.Start.{has_root_type}
 use Rattle.adf_names.specs.declared.meta.TheConstants.{NO_STAMPS}
-use Rattle.adf_rescue.specs.MadeRoot.{has_root, label_in, made_root, middle_block, pages_in, rooted, slots_in, stamps_in}
+use Rattle.adf_rescue.specs.MadeRoot.{has_root, label_in, made_root, middle_block, root_pages, rooted, slots_in, stamps_in}
 
 -- an image of an allowed size is whole blocks, at least 4
 pub record IsSizedAs (n : ℕ) : Type 0 where
@@ -110,7 +110,7 @@ whole_rooted image h = cond-true (has_root image) image _ h
 
 -- the root that is made, from its parts
 pub made_anew : (image : List ℕ) (at : ℕ) (root slots pages label : List ℕ) (stamps : Stamps) → has_root image ≡ false → at ≡ root_of image
-    → root ≡ block image at → slots ≡ slots_in root → pages ≡ pages_in image → label ≡ label_in root → stamps ≡ stamps_in root
+    → root ≡ block image at → slots ≡ slots_in root → pages ≡ root_pages image → label ≡ label_in root → stamps ≡ stamps_in root
     → with_block image at (root_block (record { slots = slots; pages = pages; map_ext = 0; label = label; stamps = stamps })) ≡ rooted image
 made_anew image at root slots pages label stamps none place is s p l t =
     let here : root ≡ middle_block image = is ∙ ap (block image) place in

@@ -21,7 +21,7 @@ use Rattle.adf_findings.proofs.SoundFiles.{file_told}
 use Rattle.adf_rescue.specs.Lost.{has_lost}
 use Rattle.adf_rescue.specs.Salvage.{are_held}
 use Rattle.adf_rescue.proofs.GivenBlocks.{first_given_all}
-use Rattle.adf_rescue.specs.Rescue.{IsBasis, Basis, Verdict, as_given, at_path, before_first_by, by_body, body_of, path_by, place_of, tree_of, verdict}
+use Rattle.adf_rescue.specs.Rescue.{IsBasis, Basis, Verdict, as_given, at_path, before_first_by, by_body, body_of, path_by, new_path, verdict_tree, verdict}
 
 -- a sound file stands with its content, if its data is held
 pub sound_stands : (letters : Letters) (held : ℕ) (l : Basis) (fs : List FindingValue) (n : ℕ) → IsSurvey l.image l.walk fs
@@ -35,12 +35,12 @@ sound_stands letters held l fs n survey marks is all =
 -- so the verdict on it is that of its path
 pub sound_verdict : (letters : Letters) (held : ℕ) (a : Basis) (fs : List FindingValue) (n : ℕ) (vs : List Verdict) → IsSurvey a.image a.walk fs
     → AreMarks a.image a.walk (grave fs) a.sound → IsSoundFile a.image a.walk (grave fs) n → are_held held (datas_in a.walk n) ≡ true
-    → (let t = tree_of (before_first_by letters held a.image) vs in verdict (before_first_by letters held a.image) a vs n
+    → (let t = verdict_tree (before_first_by letters held a.image) vs in verdict (before_first_by letters held a.image) a vs n
     ≡ at_path t (blocks a.image) (meta_stated (block a.image (node_block a.walk n))) (File (file_content (file_in a.image a.walk n)))
-    (path_by t (place_of vs (parent_node a.walk n)) (name_of a.image (node_block a.walk n)) (node_block a.walk n)))
+    (path_by t (new_path vs (parent_node a.walk n)) (name_of a.image (node_block a.walk n)) (node_block a.walk n)))
 sound_verdict letters held a fs n vs survey marks is all =
-    let t : Tree = tree_of (before_first_by letters held a.image) vs in
-    ap (by_body a.image (blocks a.image) t (place_of vs (parent_node a.walk n)) (node_block a.walk n)) (sound_stands letters held a fs n survey marks is all)
+    let t : Tree = verdict_tree (before_first_by letters held a.image) vs in
+    ap (by_body a.image (blocks a.image) t (new_path vs (parent_node a.walk n)) (node_block a.walk n)) (sound_stands letters held a fs n survey marks is all)
 
 -- the marks of a survey are one function, so there is one list of verdicts
 pub same_basis : (image : List ℕ) (w : Walk) (fs : List FindingValue) (s t : ℕ → Bool) → AreMarks image w fs s → AreMarks image w fs t

@@ -19,7 +19,7 @@ use Rattle.adf_volume.specs.Image.{root_of, word_in}
 use Rattle.adf_volume.specs.Walk.{Walk}
 use Rattle.adf_findings.specs.Found.{owns}
 use Rattle.adf_findings.specs.Start.{has_root_type}
-use Rattle.adf_rescue.specs.Hung.{emptied, end_of, home, hung, hung_at, hung_behind, hung_first, hung_in, hung_loose, is_hung, is_made}
+use Rattle.adf_rescue.specs.Hung.{emptied, directory_end, home, hung, hung_at, hung_behind, hung_first, hung_in, hung_loose, is_hung, is_made}
 use Rattle.adf_rescue.specs.Hung.{made_header, put_in, readied, ready_in, sealed_in, slot_word}
 use Rattle.adf_rescue.specs.Lost.{is_inside, is_lost, says_directory}
 use Rattle.adf_rescue.specs.MadeRoot.{has_root, label_in, made_root, middle_block, rooted}
@@ -105,8 +105,8 @@ module _ (given : List ℕ) (w : Walk) (s : ℕ → Bool) where
   hung_in_bytes : (image : List ℕ) (b p : ℕ) → AreBytes image → AreBytes (hung_in given w image b p)
   unfolding hung_in
   hung_in_bytes image b p are =
-      cond_both (owns w (word_in image p (slot_word b))) (hung_behind image b p (end_of given w p)) (hung_at image b p p (slot_word b)) AreBytes
-      (λ t. behind_bytes image b p (end_of given w p) are) (λ t. hung_at_bytes image b p p (slot_word b) are)
+      cond_both (owns w (word_in image p (slot_word b))) (hung_behind image b p (directory_end given w p)) (hung_at image b p p (slot_word b)) AreBytes
+      (λ t. behind_bytes image b p (directory_end given w p) are) (λ t. hung_at_bytes image b p p (slot_word b) are)
 
   loose_bytes : (image : List ℕ) (b : ℕ) → AreBytes image → AreBytes (hung_loose given w s image b)
   unfolding hung_loose

@@ -15,14 +15,15 @@ use Rattle.adf_tree.proofs.TreeOfAdditions.{grown, nothing_added_by}
 use Rattle.adf_blocks.specs.Sizes.{blocks}
 use Rattle.adf_volume.specs.Walk.{heads, node_block}
 use Rattle.adf_rescue.specs.declared.left_out.Why.{Why, TheVariants.NoRoom}
-use Rattle.adf_rescue.specs.Rescue.{Ground, Basis, Verdict, addition_of, additions_of, at_path, before_first_by, before_second_by, by_body, entry_at, lost_name}
-use Rattle.adf_rescue.specs.Rescue.{path_by, path_in, rescued_additions_by, rescued_tree_by, tree_of, unless_known, verdict, verdict_anew, verdicts}
+use Rattle.adf_rescue.specs.Rescue.{Ground, Basis, Verdict, verdict_addition, verdict_additions, at_path, before_first_by, before_second_by, by_body}
+use Rattle.adf_rescue.specs.Rescue.{entry_headed, lost_name}
+use Rattle.adf_rescue.specs.Rescue.{path_by, path_with_room, rescued_additions_by, rescued_tree_by, verdict_tree, unless_known, verdict, verdict_anew, verdicts}
 use Rattle.adf_rescue.specs.Rescue.Verdict.{adds, knows, leaves}
 use Rattle.adf_rescue.proofs.Steps.{additions_more, tree_more}
 
 -- a path that an entry gets has room
 
-room_in : (t : Tree) (dir : List (List ℕ)) (name : List ℕ) (path : List (List ℕ)) → path_in t dir name ≡ Some path
+room_in : (t : Tree) (dir : List (List ℕ)) (name : List ℕ) (path : List (List ℕ)) → path_with_room t dir name ≡ Some path
     → IsOk (room_for_by t.letters t.entries path)
 room_in t dir name path h = grind (arith, common_steps, cond_some, and_parts)
 
@@ -41,7 +42,7 @@ room_by : (t : Tree) (dir : Option (List (List ℕ))) (name : List ℕ) (h : ℕ
     → IsOk (room_for_by t.letters t.entries path)
 room_by t None name h path is = absurd cc
 room_by t (Some dir) name h path is =
-    room_either t (path_in t dir name) (path_in t dir (lost_name h)) path (room_in t dir name) (room_in t dir (lost_name h)) is
+    room_either t (path_with_room t dir name) (path_with_room t dir (lost_name h)) path (room_in t dir name) (room_in t dir (lost_name h)) is
 
 -- so has an addition
 
@@ -67,39 +68,40 @@ room_unless g None v t x room is = room x is
 room_unless g (Some m) v t x room is = absurd cc
 
 room_of_verdict : (g : Ground) (l : Basis) (vs : List Verdict) (n : ℕ) (x : Addition) → verdict g l vs n ≡ adds x
-    → IsOk (room_for_by g.letters (tree_of g vs).entries x.path)
+    → IsOk (room_for_by g.letters (verdict_tree g vs).entries x.path)
 room_of_verdict g l vs n x is =
-    room_unless g (entry_at g.walk (node_block l.walk n)) (verdict_anew g l vs n) (tree_of g vs) x
-    (room_of_body l.image (blocks g.given) (tree_of g vs) _ _ _) is
+    room_unless g (entry_headed g.walk (node_block l.walk n)) (verdict_anew g l vs n) (verdict_tree g vs) x
+    (room_of_body l.image (blocks g.given) (verdict_tree g vs) _ _ _) is
 
 -- one more verdict
 
-nothing_more : (g : Ground) (vs : List Verdict) (v : Verdict) → addition_of v ≡ []
-    → IsTreeOfBy g.letters (tree_of g vs).entries (additions_of g.verdicts ++ additions_of vs)
-    → IsTreeOfBy g.letters (tree_of g (vs ++ v ∷ [])).entries (additions_of g.verdicts ++ additions_of (vs ++ v ∷ []))
+nothing_more : (g : Ground) (vs : List Verdict) (v : Verdict) → verdict_addition v ≡ []
+    → IsTreeOfBy g.letters (verdict_tree g vs).entries (verdict_additions g.verdicts ++ verdict_additions vs)
+    → IsTreeOfBy g.letters (verdict_tree g (vs ++ v ∷ [])).entries (verdict_additions g.verdicts ++ verdict_additions (vs ++ v ∷ []))
 nothing_more g vs v none h = grind (arith, common_steps, additions_more, append-nil)
 
-grown_by : (g : Ground) (vs : List Verdict) (v : Verdict) → IsTreeOfBy g.letters (tree_of g vs).entries (additions_of g.verdicts ++ additions_of vs)
-    → ((x : Addition) → v ≡ adds x → IsOk (room_for_by g.letters (tree_of g vs).entries x.path))
-    → IsTreeOfBy g.letters (tree_of g (vs ++ v ∷ [])).entries (additions_of g.verdicts ++ additions_of (vs ++ v ∷ []))
+grown_by : (g : Ground) (vs : List Verdict) (v : Verdict)
+    → IsTreeOfBy g.letters (verdict_tree g vs).entries (verdict_additions g.verdicts ++ verdict_additions vs)
+    → ((x : Addition) → v ≡ adds x → IsOk (room_for_by g.letters (verdict_tree g vs).entries x.path))
+    → IsTreeOfBy g.letters (verdict_tree g (vs ++ v ∷ [])).entries (verdict_additions g.verdicts ++ verdict_additions (vs ++ v ∷ []))
 grown_by g vs (leaves why) h room = nothing_more g vs (leaves why) refl h
 grown_by g vs (knows place) h room = nothing_more g vs (knows place) refl h
 grown_by g vs (adds x) h room =
     let v : Verdict = adds x in
-    let behind : Tree = with_entry_by g.letters (tree_of g vs) x.path x.meta x.body in
-    let all : additions_of g.verdicts ++ additions_of (vs ++ v ∷ []) ≡ (additions_of g.verdicts ++ additions_of vs) ++ x ∷ [] =
-    ap (λ xs. additions_of g.verdicts ++ xs) (additions_more vs v) ∙ sym (append_assoc (additions_of g.verdicts) (additions_of vs) (x ∷ [])) in
-    subst (λ (t : Tree). IsTreeOfBy g.letters t.entries (additions_of g.verdicts ++ additions_of (vs ++ v ∷ []))) (sym (tree_more g vs x))
+    let behind : Tree = with_entry_by g.letters (verdict_tree g vs) x.path x.meta x.body in
+    let all : verdict_additions g.verdicts ++ verdict_additions (vs ++ v ∷ []) ≡ (verdict_additions g.verdicts ++ verdict_additions vs) ++ x ∷ [] =
+    ap (λ xs. verdict_additions g.verdicts ++ xs) (additions_more vs v) ∙ sym (append_assoc (verdict_additions g.verdicts) (verdict_additions vs) (x ∷ [])) in
+    subst (λ (t : Tree). IsTreeOfBy g.letters t.entries (verdict_additions g.verdicts ++ verdict_additions (vs ++ v ∷ []))) (sym (tree_more g vs x))
     (subst (λ (xs : List Addition). IsTreeOfBy g.letters behind.entries xs) (sym all)
-    (grown (tree_of g vs).entries (additions_of g.verdicts ++ additions_of vs) x h (room x refl)))
+    (grown (verdict_tree g vs).entries (verdict_additions g.verdicts ++ verdict_additions vs) x h (room x refl)))
 
-nothing_yet : (g : Ground) → IsTreeOfBy g.letters (entries_of_additions_by g.letters (additions_of g.verdicts)) (additions_of g.verdicts)
-    → IsTreeOfBy g.letters (tree_of g []).entries (additions_of g.verdicts ++ additions_of [])
-nothing_yet g h = let same : additions_of g.verdicts ++ [] ≡ additions_of g.verdicts = append-nil (additions_of g.verdicts) in rw same h
+nothing_yet : (g : Ground) → IsTreeOfBy g.letters (entries_of_additions_by g.letters (verdict_additions g.verdicts)) (verdict_additions g.verdicts)
+    → IsTreeOfBy g.letters (verdict_tree g []).entries (verdict_additions g.verdicts ++ verdict_additions [])
+nothing_yet g h = let same : verdict_additions g.verdicts ++ [] ≡ verdict_additions g.verdicts = append-nil (verdict_additions g.verdicts) in rw same h
 
-tree_of_verdicts : (g : Ground) (l : Basis) (k : ℕ) → IsTreeOfBy g.letters (entries_of_additions_by g.letters (additions_of g.verdicts))
-    (additions_of g.verdicts)
-    → IsTreeOfBy g.letters (tree_of g (verdicts g l k)).entries (additions_of g.verdicts ++ additions_of (verdicts g l k))
+tree_of_verdicts : (g : Ground) (l : Basis) (k : ℕ) → IsTreeOfBy g.letters (entries_of_additions_by g.letters (verdict_additions g.verdicts))
+    (verdict_additions g.verdicts)
+    → IsTreeOfBy g.letters (verdict_tree g (verdicts g l k)).entries (verdict_additions g.verdicts ++ verdict_additions (verdicts g l k))
 tree_of_verdicts g l zero h = nothing_yet g h
 tree_of_verdicts g l (suc k) h =
     let vs : List Verdict = verdicts g l k in

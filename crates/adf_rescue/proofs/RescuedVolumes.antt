@@ -41,11 +41,11 @@ use Rattle.adf_build.proofs.AllocatedBlocks.{reserved_below}
 use Rattle.adf_build.proofs.LaidWrites.{CanHold, volume_blocks}
 use Rattle.adf_build.proofs.WholeVolume.{volume_laid}
 use Rattle.adf_rescue.specs.declared.left_out.Why.{Why, TheVariants.NoRoom}
-use Rattle.adf_rescue.specs.Rescue.{Basis, Ground, Verdict, addition_of, additions_of, as_given, at_path, before_first_by, before_second_by}
+use Rattle.adf_rescue.specs.Rescue.{Basis, Ground, Verdict, verdict_addition, verdict_additions, as_given, at_path, before_first_by, before_second_by}
 use Rattle.adf_rescue.specs.Rescue.{body_of, body_of_type, by_body}
-use Rattle.adf_rescue.specs.Rescue.{entry_at, first_verdicts_by, lost_name, path_by, path_in, place_of, rescued_additions_by, rescued_tree_by}
+use Rattle.adf_rescue.specs.Rescue.{entry_headed, first_verdicts_by, lost_name, path_by, path_with_room, new_path, rescued_additions_by, rescued_tree_by}
 use Rattle.adf_rescue.specs.Rescue.{second_verdicts_by}
-use Rattle.adf_rescue.specs.Rescue.{tree_of, unless_known, verdict, verdict_anew, verdicts}
+use Rattle.adf_rescue.specs.Rescue.{verdict_tree, unless_known, verdict, verdict_anew, verdicts}
 use Rattle.adf_rescue.specs.Rescue.Verdict.{adds, knows, leaves}
 use Rattle.adf_rescue.proofs.RescuedTrees.{fitting_is, or_else, tree_of_rescue}
 use Rattle.adf_rescue.proofs.Steps.{additions_more, tree_more}
@@ -53,7 +53,7 @@ use Rattle.adf_rescue.proofs.Steps.{additions_more, tree_more}
 -- an addition
 
 -- the path has a valid name last
-named_in : (t : Tree) (dir : List (List ℕ)) (name : List ℕ) (path : List (List ℕ)) → path_in t dir name ≡ Some path → is_name (last_of path) ≡ true
+named_in : (t : Tree) (dir : List (List ℕ)) (name : List ℕ) (path : List (List ℕ)) → path_with_room t dir name ≡ Some path → is_name (last_of path) ≡ true
 named_in t dir name path h =
     let x = cond_some _ (dir ++ name ∷ []) path h in
     let valid : is_name name ≡ true = (and_parts (is_name name) _ x.0).0 in
@@ -68,7 +68,7 @@ named_by : (t : Tree) (dir : Option (List (List ℕ))) (name : List ℕ) (h : �
     → is_name (last_of path) ≡ true
 named_by t None name h path is = absurd cc
 named_by t (Some dir) name h path is =
-    named_either (path_in t dir name) (path_in t dir (lost_name h)) path (named_in t dir name) (named_in t dir (lost_name h)) is
+    named_either (path_with_room t dir name) (path_with_room t dir (lost_name h)) path (named_in t dir name) (named_in t dir (lost_name h)) is
 
 -- the addition of an entry: its path, its metadata and its body are those of the entry, and the tree with it fits in n blocks
 record IsAdded (t : Tree) (n : ℕ) (o : Option (List (List ℕ))) (m : Meta) (b : Result Body Why) (x : Addition) : Type 0 where
@@ -103,13 +103,13 @@ anew_unless g (Some m) v x is = absurd cc
 module _ (g : Ground) (l : Basis) where
   abbrev path_of : List Verdict → ℕ → Option (List (List ℕ))
   path_of vs n =
-      path_by (tree_of g vs) (place_of vs (parent_node l.walk n)) (name_of l.image (node_block l.walk n)) (node_block l.walk n)
+      path_by (verdict_tree g vs) (new_path vs (parent_node l.walk n)) (name_of l.image (node_block l.walk n)) (node_block l.walk n)
 
   added_so : (vs : List Verdict) (n : ℕ) (x : Addition) → verdict g l vs n ≡ adds x
-      → IsAdded (tree_of g vs) (blocks g.given) (path_of vs n) (meta_stated (block l.image (node_block l.walk n))) (body_of (as_given g l) n) x
+      → IsAdded (verdict_tree g vs) (blocks g.given) (path_of vs n) (meta_stated (block l.image (node_block l.walk n))) (body_of (as_given g l) n) x
   added_so vs n x is =
-      added_by l.image (blocks g.given) (tree_of g vs) (place_of vs (parent_node l.walk n)) (node_block l.walk n) (body_of (as_given g l) n) x
-      (anew_unless g (entry_at g.walk (node_block l.walk n)) (verdict_anew g l vs n) x is)
+      added_by l.image (blocks g.given) (verdict_tree g vs) (new_path vs (parent_node l.walk n)) (node_block l.walk n) (body_of (as_given g l) n) x
+      (anew_unless g (entry_headed g.walk (node_block l.walk n)) (verdict_anew g l vs n) x is)
 
 -- the bounds of what is added
 
@@ -143,7 +143,7 @@ body_bounded l n body are =
     cond_both (l.sound n && (secondary == ST_FILE)) (Ok (File bytes)) (body_of_type secondary) (λ (r : Result Body Why). r ≡ Ok body → IsData body)
     (λ e is. let one : File bytes ≡ body = cc in subst IsData one (content_bounded l n are)) (λ e is. type_data secondary body is)
 
-added_bounded : (v : Verdict) → ((x : Addition) → v ≡ adds x → IsBoundedAddition x) → All IsBoundedAddition (addition_of v)
+added_bounded : (v : Verdict) → ((x : Addition) → v ≡ adds x → IsBoundedAddition x) → All IsBoundedAddition (verdict_addition v)
 added_bounded (adds x) each = All-cons IsBoundedAddition x [] (each x refl) (All-nil IsBoundedAddition)
 added_bounded (leaves why) each = All-nil IsBoundedAddition
 added_bounded (knows place) each = All-nil IsBoundedAddition
@@ -154,25 +154,25 @@ module _ (g : Ground) (l : Basis) (are : AreBytes l.image) where
       let h : ℕ = node_block l.walk n in
       let added = added_so g l vs n x is in
       record {
-        name = named_by (tree_of g vs) (place_of vs (parent_node l.walk n)) (name_of l.image h) h x.path added.path;
+        name = named_by (verdict_tree g vs) (new_path vs (parent_node l.walk n)) (name_of l.image h) h x.path added.path;
         meta = subst IsBoundedMeta (sym added.meta) (meta_bounded (block l.image h) (block_bytes l.image h are));
         body = body_bounded (as_given g l) n x.body are added.body;
       }
 
-  verdicts_bounded : (k : ℕ) → All IsBoundedAddition (additions_of (verdicts g l k))
+  verdicts_bounded : (k : ℕ) → All IsBoundedAddition (verdict_additions (verdicts g l k))
   verdicts_bounded zero = All-nil IsBoundedAddition
   verdicts_bounded (suc k) =
       let vs : List Verdict = verdicts g l k in
       let v : Verdict = verdict g l vs (suc k) in
       subst (λ (xs : List Addition). All IsBoundedAddition xs) (sym (additions_more vs v))
-      (All-append IsBoundedAddition (additions_of vs) (addition_of v) (verdicts_bounded k) (added_bounded v (addition_bounded vs (suc k))))
+      (All-append IsBoundedAddition (verdict_additions vs) (verdict_addition v) (verdicts_bounded k) (added_bounded v (addition_bounded vs (suc k))))
 
 -- the image of the second survey is bytes, if there is one
 abbrev pub AreSecondBytes : Option Basis → Type 0
 AreSecondBytes second = IfSome second (λ b. AreBytes b.image)
 
 second_bounded : (letters : Letters) (held : ℕ) (a : Basis) (second : Option Basis) → AreSecondBytes second
-    → All IsBoundedAddition (additions_of (second_verdicts_by letters held a second))
+    → All IsBoundedAddition (verdict_additions (second_verdicts_by letters held a second))
 second_bounded letters held a None are = All-nil IsBoundedAddition
 second_bounded letters held a (Some b) are = verdicts_bounded (before_second_by letters held a) b are (heads b.walk)
 
@@ -189,7 +189,7 @@ rescue_bounded letters held a second are more =
         created = stamp_bounded root CREATED bytes;
       };
       entries = bounded_additions_by letters (rescued_additions_by letters held a second)
-          (All-append IsBoundedAddition (additions_of (first_verdicts_by letters held a)) (additions_of (second_verdicts_by letters held a second))
+          (All-append IsBoundedAddition (verdict_additions (first_verdicts_by letters held a)) (verdict_additions (second_verdicts_by letters held a second))
           (verdicts_bounded (before_first_by letters held a.image) a are (heads a.walk)) (second_bounded letters held a second more));
     }
 
@@ -199,33 +199,33 @@ abbrev FitsIn : ℕ → Tree → Type 0
 FitsIn n t = blocks_needed t n ≤ n - 2
 
 nothing_fits : (letters : Letters) (held : ℕ) (image : List ℕ) → is_allowed (blocks image) ≡ true
-    → FitsIn (blocks image) (tree_of (before_first_by letters held image) [])
+    → FitsIn (blocks image) (verdict_tree (before_first_by letters held image) [])
 nothing_fits letters held image allowed =
     let low = size_low (blocks image) allowed in
     let below = reserved_below (blocks image) low in
     omega arith
 
-same_tree : (g : Ground) (vs : List Verdict) (v : Verdict) → addition_of v ≡ [] → tree_of g (vs ++ v ∷ []) ≡ tree_of g vs
+same_tree : (g : Ground) (vs : List Verdict) (v : Verdict) → verdict_addition v ≡ [] → verdict_tree g (vs ++ v ∷ []) ≡ verdict_tree g vs
 same_tree g vs v none = grind (arith, common_steps, additions_more, append-nil)
 
-fits_on : (g : Ground) (vs : List Verdict) (v : Verdict) (n : ℕ) → FitsIn n (tree_of g vs)
-    → ((x : Addition) → v ≡ adds x → FitsIn n (with_entry_by g.letters (tree_of g vs) x.path x.meta x.body)) → FitsIn n (tree_of g (vs ++ v ∷ []))
+fits_on : (g : Ground) (vs : List Verdict) (v : Verdict) (n : ℕ) → FitsIn n (verdict_tree g vs)
+    → ((x : Addition) → v ≡ adds x → FitsIn n (with_entry_by g.letters (verdict_tree g vs) x.path x.meta x.body)) → FitsIn n (verdict_tree g (vs ++ v ∷ []))
 fits_on g vs (adds x) n before each = subst (FitsIn n) (sym (tree_more g vs x)) (each x refl)
 fits_on g vs (leaves why) n before each = subst (FitsIn n) (sym (same_tree g vs (leaves why) refl)) before
 fits_on g vs (knows place) n before each = subst (FitsIn n) (sym (same_tree g vs (knows place) refl)) before
 
-verdicts_fit : (g : Ground) (l : Basis) → FitsIn (blocks g.given) (tree_of g []) → (k : ℕ) → FitsIn (blocks g.given) (tree_of g (verdicts g l k))
+verdicts_fit : (g : Ground) (l : Basis) → FitsIn (blocks g.given) (verdict_tree g []) → (k : ℕ) → FitsIn (blocks g.given) (verdict_tree g (verdicts g l k))
 verdicts_fit g l begun zero = begun
 verdicts_fit g l begun (suc k) =
     let vs : List Verdict = verdicts g l k in
     fits_on g vs (verdict g l vs (suc k)) (blocks g.given) (verdicts_fit g l begun k) (λ x is. (added_so g l vs (suc k) x is).fits)
 
 second_begun : (letters : Letters) (held : ℕ) (a : Basis)
-    → tree_of (before_first_by letters held a.image) (first_verdicts_by letters held a) ≡ tree_of (before_second_by letters held a) []
-second_begun letters held a = let same = append-nil (additions_of (first_verdicts_by letters held a)) in rw same refl
+    → verdict_tree (before_first_by letters held a.image) (first_verdicts_by letters held a) ≡ verdict_tree (before_second_by letters held a) []
+second_begun letters held a = let same = append-nil (verdict_additions (first_verdicts_by letters held a)) in rw same refl
 
 first_fits : (letters : Letters) (held : ℕ) (a : Basis) → is_allowed (blocks a.image) ≡ true
-    → FitsIn (blocks a.image) (tree_of (before_second_by letters held a) [])
+    → FitsIn (blocks a.image) (verdict_tree (before_second_by letters held a) [])
 first_fits letters held a allowed =
     subst (FitsIn (blocks a.image)) (second_begun letters held a)
     (verdicts_fit (before_first_by letters held a.image) a (nothing_fits letters held a.image allowed) (heads a.walk))

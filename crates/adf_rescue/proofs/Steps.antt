@@ -24,9 +24,10 @@ use Rattle.adf_findings.specs.Found.{parent_node}
 use Rattle.adf_build.specs.Plan.{blocks_needed, entries_blocks, reserved}
 use Rattle.adf_rescue.specs.declared.left_out.Why.{Why, TheVariants.NoRoom}
 use Rattle.adf_rescue.specs.declared.salvage.Salvage.{Salvage}
-use Rattle.adf_rescue.specs.Rescue.{Ground, IsSecond, Basis, OnBasis, Verdict, added_marks, addition_of, additions_of, as_given, at_path, before_second_by}
-use Rattle.adf_rescue.specs.Rescue.{body_of, by_body, directory_in}
-use Rattle.adf_rescue.specs.Rescue.{entry_at, fitting, is_added, left_out_by, left_out_from, path_by, path_for, place_of, second_verdicts_by, tree_of}
+use Rattle.adf_rescue.specs.Rescue.{Ground, IsSecond, Basis, OnBasis, Verdict, added_marks, verdict_addition, verdict_additions, as_given, at_path}
+use Rattle.adf_rescue.specs.Rescue.{before_second_by}
+use Rattle.adf_rescue.specs.Rescue.{body_of, by_body, directory_path}
+use Rattle.adf_rescue.specs.Rescue.{entry_headed, fitting, is_added, left_out_by, left_out_from, path_by, path_for, new_path, second_verdicts_by, verdict_tree}
 use Rattle.adf_rescue.specs.Rescue.{unless_known, verdict, verdict_anew, verdicts}
 use Rattle.adf_rescue.specs.Rescue.Verdict.{adds, leaves}
 use Rattle.adf_rescue.specs.Salvage.{IsNext, IsPlace, IsRoomOf, IsSalvage, entry_cost, free_blocks}
@@ -35,7 +36,7 @@ use Rattle.adf_tree.proofs.Lists.{get_last}
 
 -- one more verdict
 
-pub additions_more : (vs : List Verdict) (v : Verdict) → additions_of (vs ++ v ∷ []) ≡ additions_of vs ++ addition_of v
+pub additions_more : (vs : List Verdict) (v : Verdict) → verdict_additions (vs ++ v ∷ []) ≡ verdict_additions vs ++ verdict_addition v
 additions_more vs v = simp (flat_map-append, append-nil)
 
 pub marks_more : (vs : List Verdict) (v : Verdict) → added_marks (vs ++ v ∷ []) ≡ added_marks vs ++ is_added v ∷ []
@@ -49,8 +50,8 @@ left_out_more n (x ∷ xs) v =
 
 -- the places of one more node
 pub places_more : (d : DraftValue) (vs : List Verdict) (v : Verdict) (ps : List (Option ℕ)) (place : Option ℕ) → length ps ≡ length vs + 1
-    → ((p : ℕ) → IsPlace d (place_of vs p) (get_or ps p None)) → IsPlace d (directory_in v) place
-    → (p : ℕ) → IsPlace d (place_of (vs ++ v ∷ []) p) (get_or (ps ++ place ∷ []) p None)
+    → ((p : ℕ) → IsPlace d (new_path vs p) (get_or ps p None)) → IsPlace d (directory_path v) place
+    → (p : ℕ) → IsPlace d (new_path (vs ++ v ∷ []) p) (get_or (ps ++ place ∷ []) p None)
 places_more d vs v ps place long old new zero = rw (get_or_append_left ps (place ∷ []) None 0 (omega arith)) (old 0)
 places_more d vs v ps place long old new (suc i) =
     let both = length_push ps place in
@@ -94,7 +95,7 @@ room_in_place d t None m name own b h r tree place e1 e2 found = absurd place
 room_in_place d t (Some dir) m name own b h r tree place e1 e2 found = rw (← tree, ← e1, ← e2) (found dir place)
 
 -- the verdict on an entry that is not known and stands, by its path
-module _ (g : Ground) (l : Basis) (vs : List Verdict) (n : ℕ) (new : entry_at g.walk (node_block l.walk n) ≡ None) where
+module _ (g : Ground) (l : Basis) (vs : List Verdict) (n : ℕ) (new : entry_headed g.walk (node_block l.walk n) ≡ None) where
   pub anew : verdict g l vs n ≡ verdict_anew g l vs n
   anew = ap (λ o. unless_known g o (verdict_anew g l vs n)) new
 
@@ -103,28 +104,28 @@ module _ (g : Ground) (l : Basis) (vs : List Verdict) (n : ℕ) (new : entry_at 
 
   module _ (body : Body) (stands : body_of (as_given g l) n ≡ Ok body) where
     abbrev path_of_entry : Option (List (List ℕ))
-    path_of_entry = path_by (tree_of g vs) (place_of vs (parent_node l.walk n)) (name_of l.image (node_block l.walk n)) (node_block l.walk n)
+    path_of_entry = path_by (verdict_tree g vs) (new_path vs (parent_node l.walk n)) (name_of l.image (node_block l.walk n)) (node_block l.walk n)
 
-    on_path : verdict g l vs n ≡ at_path (tree_of g vs) (blocks g.given) (meta_stated (block l.image (node_block l.walk n))) body path_of_entry
-    on_path = anew ∙ ap (by_body l.image (blocks g.given) (tree_of g vs) (place_of vs (parent_node l.walk n)) (node_block l.walk n)) stands
+    on_path : verdict g l vs n ≡ at_path (verdict_tree g vs) (blocks g.given) (meta_stated (block l.image (node_block l.walk n))) body path_of_entry
+    on_path = anew ∙ ap (by_body l.image (blocks g.given) (verdict_tree g vs) (new_path vs (parent_node l.walk n)) (node_block l.walk n)) stands
 
     pub verdict_at : (path : List (List ℕ)) (meta : Meta) → path_of_entry ≡ Some path → meta ≡ meta_stated (block l.image (node_block l.walk n))
-        → verdict g l vs n ≡ fitting (tree_of g vs) (blocks g.given) (record { path = path; meta = meta; body = body })
+        → verdict g l vs n ≡ fitting (verdict_tree g vs) (blocks g.given) (record { path = path; meta = meta; body = body })
     verdict_at path meta at same = grind (arith, common_steps, on_path)
 
     pub verdict_none : path_of_entry ≡ None → verdict g l vs n ≡ leaves NoRoom
-    verdict_none at = on_path ∙ ap (at_path (tree_of g vs) (blocks g.given) (meta_stated (block l.image (node_block l.walk n))) body) at
+    verdict_none at = on_path ∙ ap (at_path (verdict_tree g vs) (blocks g.given) (meta_stated (block l.image (node_block l.walk n))) body) at
 
 -- the place of an addition
 pub new_place : (d : DraftValue) (path : List (List ℕ)) (meta : Meta) (body : Body) (m : ℕ) (place : Option ℕ)
     → place ≡ cond (is_dir_body body) (Some m) None → (body ≡ Dir → IsDirectoryOf d path m)
-    → IsPlace d (directory_in (adds (record { path = path; meta = meta; body = body }))) place
+    → IsPlace d (directory_path (adds (record { path = path; meta = meta; body = body }))) place
 new_place d path meta Dir m place is dir = rw is (dir refl)
 new_place d path meta (File bytes) m place is dir = rw is tt
 
 -- an entry adds nothing
 pub none_more : (g : Ground) (vs : List Verdict) (r s : Salvage) (n : ℕ) (v : Verdict) (place : Option ℕ) → IsSalvage g vs r → n ≡ length vs + 1
-    → addition_of v ≡ [] → is_added v ≡ false → IsPlace r.draft (directory_in v) place
+    → verdict_addition v ≡ [] → is_added v ≡ false → IsPlace r.draft (directory_path v) place
     → s.draft ≡ r.draft → s.kind ≡ r.kind → s.held ≡ r.held → s.known ≡ r.known → s.kept ≡ r.kept → s.left ≡ r.left
     → s.left_before ≡ r.left_before → s.places.items ≡ r.places.items ++ place ∷ [] → s.added.items ≡ r.added.items ++ false ∷ []
     → s.left_out.items ≡ r.left_out.items ++ left_out_by n v
@@ -134,11 +135,12 @@ none_more g vs r s n v place is at none unmarked new d k hd kn kp l before ps ad
 
 -- an addition
 
-pub tree_more : (g : Ground) (vs : List Verdict) (x : Addition) → tree_of g (vs ++ adds x ∷ []) ≡ with_entry_by g.letters (tree_of g vs) x.path x.meta x.body
+pub tree_more : (g : Ground) (vs : List Verdict) (x : Addition) → verdict_tree g (vs ++ adds x ∷ [])
+    ≡ with_entry_by g.letters (verdict_tree g vs) x.path x.meta x.body
 tree_more g vs x =
     let more = additions_more vs (adds x) in
-    let joined = append_assoc (additions_of g.verdicts) (additions_of vs) (x ∷ []) in
-    let grown = fold_push (with_addition_by g.letters) [] (additions_of g.verdicts ++ additions_of vs) x in
+    let joined = append_assoc (verdict_additions g.verdicts) (verdict_additions vs) (x ∷ []) in
+    let grown = fold_push (with_addition_by g.letters) [] (verdict_additions g.verdicts ++ verdict_additions vs) x in
     rw (more, ← joined, grown) refl
 
 -- blocks: `left` of `free` are left beside `used`, `real` are asked for, as `cost` tells; `most` and `fixed` are all blocks and those of no entry
@@ -153,10 +155,10 @@ room_short left used free most fixed cost real all is at lt = omega arith
 -- an addition fits where its blocks are left, and only there
 module _ (g : Ground) (vs : List Verdict) (r : Salvage) (x : Addition) (is : IsSalvage g vs r) where
   abbrev before : Tree
-  before = tree_of g vs
+  before = verdict_tree g vs
 
   abbrev behind : Tree
-  behind = with_entry_by g.letters (tree_of g vs) x.path x.meta x.body
+  behind = with_entry_by g.letters (verdict_tree g vs) x.path x.meta x.body
 
   used_before : r.left + entries_blocks before.kind before.entries ≡ free_blocks (blocks g.given)
   used_before = subst (λ (t : Tree). r.left + entries_blocks t.kind t.entries ≡ free_blocks (blocks g.given)) is.tree is.left
@@ -182,7 +184,7 @@ module _ (g : Ground) (vs : List Verdict) (r : Salvage) (x : Addition) (is : IsS
     pub added_more : (s : Salvage) (place : Option ℕ) → r.left < 2 ^ 32 → cost ≤ r.left
         → s.draft.tree ≡ with_entry_by r.draft.tree.letters r.draft.tree x.path x.meta x.body → length s.draft.nodes ≡ length r.draft.nodes + 1
         → ((dir : List (List ℕ)) (m : ℕ) → IsDirectoryOf r.draft dir m → IsDirectoryOf s.draft dir m)
-        → IsPlace s.draft (directory_in (adds x)) place
+        → IsPlace s.draft (directory_path (adds x)) place
         → s.kind ≡ r.kind → s.held ≡ r.held → s.left ≡ r.left - cost → s.places.items ≡ r.places.items ++ place ∷ []
         → s.added.items ≡ r.added.items ++ true ∷ [] → s.left_out.items ≡ r.left_out.items
         → s.known ≡ r.known → s.kept ≡ r.kept → s.left_before ≡ r.left_before
@@ -200,13 +202,13 @@ module _ (g : Ground) (vs : List Verdict) (r : Salvage) (x : Addition) (is : IsS
           nodes = rw (nodes, is.nodes, additions_more vs v)
               (omega (
                 arith,
-                length-append (additions_of g.verdicts) (additions_of vs),
-                length-append (additions_of g.verdicts) (additions_of vs ++ x ∷ []),
-                length_push (additions_of vs) x,
+                length-append (verdict_additions g.verdicts) (verdict_additions vs),
+                length-append (verdict_additions g.verdicts) (verdict_additions vs ++ x ∷ []),
+                length_push (verdict_additions vs) x,
               ));
-          known = rw kn (λ m. kept_place r.draft s.draft dirs (place_of g.verdicts m) (get_or r.known.items m None) (is.known m));
+          known = rw kn (λ m. kept_place r.draft s.draft dirs (new_path g.verdicts m) (get_or r.known.items m None) (is.known m));
           places = rw ps (places_more s.draft vs v r.places.items place is.count
-              (λ p. kept_place r.draft s.draft dirs (place_of vs p) (get_or r.places.items p None) (is.places p)) new);
+              (λ p. kept_place r.draft s.draft dirs (new_path vs p) (get_or r.places.items p None) (is.places p)) new);
           left = rw grown (rw l (numbers small le).1);
           left_before = rw before_out is.left_before;
           left_out = out ∙ (is.left_out ∙ (sym (append-nil (left_out_from 1 vs)) ∙ sym (left_out_more 1 vs v)));
@@ -228,8 +230,8 @@ next_is g l k le = record { number = omega (arith, verdicts_count g l k); within
 -- whether anything stands
 
 pub none_added : (g : Ground) (vs : List Verdict) (r : Salvage) → IsSalvage g vs r → length r.draft.nodes ≡ 0
-    → additions_of g.verdicts ++ additions_of vs ≡ []
-none_added g vs r is none = nil_from_length (additions_of g.verdicts ++ additions_of vs) (sym is.nodes ∙ none)
+    → verdict_additions g.verdicts ++ verdict_additions vs ≡ []
+none_added g vs r is none = nil_from_length (verdict_additions g.verdicts ++ verdict_additions vs) (sym is.nodes ∙ none)
 
 -- the state before a second survey has its letters, and its number of blocks that are held
 pub own_terms : (letters : Letters) (held : ℕ) (a : Basis) (r : Salvage) → IsSalvage (before_second_by letters held a) [] r

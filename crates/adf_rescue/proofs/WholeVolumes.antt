@@ -37,8 +37,8 @@ use Rattle.adf_findings.specs.Types.{passed}
 use Rattle.adf_findings.proofs.FirstFindings.{finds_none, none_found, shows_none}
 use Rattle.adf_findings.proofs.TypesRead.{types_read}
 use Rattle.adf_build.specs.Plan.{blocks_needed, entries_blocks, reserved}
-use Rattle.adf_rescue.specs.Rescue.{Ground, Basis, Verdict, additions_of, before_first_by, before_second_by, directory_in, first_verdicts_by, fitting}
-use Rattle.adf_rescue.specs.Rescue.{left_out_from, path_by, path_for, place_of, rescue_leaves_by, rescued_tree_by, tree_of, verdict, verdicts}
+use Rattle.adf_rescue.specs.Rescue.{Ground, Basis, Verdict, verdict_additions, before_first_by, before_second_by, directory_path, first_verdicts_by, fitting}
+use Rattle.adf_rescue.specs.Rescue.{left_out_from, path_by, path_for, new_path, rescue_leaves_by, rescued_tree_by, verdict_tree, verdict, verdicts}
 use Rattle.adf_rescue.specs.Rescue.Verdict.{adds}
 use Rattle.adf_rescue.proofs.FitBlocks.{fit_room, front_blocks}
 use Rattle.adf_drafts.proofs.NextEntries.{directory_stays, has_room, new_is, new_leads}
@@ -50,19 +50,19 @@ use Rattle.adf_tree.proofs.Lists.{get_last}
 
 -- the place of a directory behind one more verdict
 
-place_stays : (vs : List Verdict) (v : Verdict) (p : ℕ) → p ≤ length vs → place_of (vs ++ v ∷ []) p ≡ place_of vs p
+place_stays : (vs : List Verdict) (v : Verdict) (p : ℕ) → p ≤ length vs → new_path (vs ++ v ∷ []) p ≡ new_path vs p
 place_stays vs v zero le = refl
-place_stays vs v (suc i) le = ap (option_and_then directory_in) (get_before vs v i (omega arith))
+place_stays vs v (suc i) le = ap (option_and_then directory_path) (get_before vs v i (omega arith))
 
-place_new : (vs : List Verdict) (v : Verdict) → place_of (vs ++ v ∷ []) (suc (length vs)) ≡ directory_in v
-place_new vs v = ap (option_and_then directory_in) (get_last vs v)
+place_new : (vs : List Verdict) (v : Verdict) → new_path (vs ++ v ∷ []) (suc (length vs)) ≡ directory_path v
+place_new vs v = ap (option_and_then directory_path) (get_last vs v)
 
 -- the verdicts on the first k entries add them, and leave out none; their directories are where the paths of the new tree lead
 record IsFront (ls : Letters) (es : List Entry) (k : ℕ) (vs : List Verdict) : Type 0 where
   count : length vs ≡ k
-  entries : entries_of_additions_by ls (additions_of vs) ≡ take k es
+  entries : entries_of_additions_by ls (verdict_additions vs) ≡ take k es
   none : left_out_from 1 vs ≡ []
-  places : (p : ℕ) → p ≤ k → IsDir es p → (dir : List (List ℕ)) × (place_of vs p ≡ Some dir) × (directory_from_by ls (take k es) 0 dir ≡ Ok p)
+  places : (p : ℕ) → p ≤ k → IsDir es p → (dir : List (List ℕ)) × (new_path vs p ≡ Some dir) × (directory_from_by ls (take k es) 0 dir ≡ Ok p)
 
 nothing_yet : (ls : Letters) (es : List Entry) → IsFront ls es 0 []
 nothing_yet ls es = grind (arith, common_steps)
@@ -90,14 +90,14 @@ module _ (ls : Letters) (es : List Entry) (k : ℕ) (vs : List Verdict) (e : Ent
   entry_added : with_addition_by ls (take k es) (addition dir e) ≡ take (k + 1) es
   entry_added = ap (added_by ls (take k es)) (new_is (take k es) e dir next.may to) ∙ next.added
 
-  entries_more : entries_of_additions_by ls (additions_of (vs ++ added_verdict ∷ [])) ≡ take (k + 1) es
+  entries_more : entries_of_additions_by ls (verdict_additions (vs ++ added_verdict ∷ [])) ≡ take (k + 1) es
   entries_more =
       ap (entries_of_additions_by ls) (additions_more vs added_verdict)
-      ∙ (fold_push (with_addition_by ls) [] (additions_of vs) (addition dir e)
+      ∙ (fold_push (with_addition_by ls) [] (verdict_additions vs) (addition dir e)
       ∙ (ap (λ (us : List Entry). with_addition_by ls us (addition dir e)) f.entries ∙ entry_added))
 
   place_more : (p : ℕ) → p ≤ k + 1 → IsDir es p
-      → (path : List (List ℕ)) × (place_of (vs ++ added_verdict ∷ []) p ≡ Some path) × (directory_from_by ls (take (k + 1) es) 0 path ≡ Ok p)
+      → (path : List (List ℕ)) × (new_path (vs ++ added_verdict ∷ []) p ≡ Some path) × (directory_from_by ls (take (k + 1) es) 0 path ≡ Ok p)
   place_more p le is = elim (cases_lt k p) [
     | inr old ↦
         let at = f.places p old is in
@@ -113,7 +113,7 @@ module _ (ls : Letters) (es : List Entry) (k : ℕ) (vs : List Verdict) (e : Ent
         let body : e.body ≡ Dir = ap (λ (d : Entry). d.body) (sym (ap (λ i. get_or es i e) index ∙ here)) ∙ (is (omega arith)).1 e in
         let path : List (List ℕ) = dir ++ e.name ∷ [] in (
           path,
-          ap (place_of (vs ++ added_verdict ∷ [])) last
+          ap (new_path (vs ++ added_verdict ∷ [])) last
               ∙ (place_new vs added_verdict ∙ ap (λ b. cond (is_dir_body b) (Some path) None) body),
           subst (λ (us : List Entry). directory_from_by ls us 0 path ≡ Ok p) behind
               (subst (λ m. directory_from_by ls (take k es ++ e ∷ []) 0 path ≡ Ok m) long (new_leads (take k es) e dir next.may to tree body)),
@@ -134,12 +134,12 @@ enough t n x le = grind (arith, common_steps, le-leb)
 
 -- the tree of the first entries
 abbrev tree_so_far : Letters → ℕ → Basis → List Verdict → Tree
-tree_so_far ls held a vs = tree_of (before_first_by ls held a.image) vs
+tree_so_far ls held a vs = verdict_tree (before_first_by ls held a.image) vs
 
 module _ (ls : Letters) (held : ℕ) (a : Basis) (vs : List Verdict) (n : ℕ) (e : Entry) (is : IsToldAs ls held a n e) (dir : List (List ℕ))
-    (at : place_of vs e.parent ≡ Some dir) where
+    (at : new_path vs e.parent ≡ Some dir) where
   entry_path : room_for_by ls (tree_so_far ls held a vs).entries (dir ++ e.name ∷ []) ≡ Ok e.parent
-      → path_by (tree_so_far ls held a vs) (place_of vs (parent_node a.walk n)) (name_of a.image (node_block a.walk n)) (node_block a.walk n)
+      → path_by (tree_so_far ls held a vs) (new_path vs (parent_node a.walk n)) (name_of a.image (node_block a.walk n)) (node_block a.walk n)
       ≡ Some (dir ++ e.name ∷ [])
   entry_path room = grind (arith, common_steps, tree_so_far, own_path)
 
@@ -181,7 +181,7 @@ module _ (types : Types) (held : ℕ) (image : List ℕ) (w : Walk) (fs : List F
       let up : e.parent ≤ k = subst (λ (d : Entry). d.parent ≤ k) here (fit.tree.parents k e within) in
       let place = f.places e.parent up (subst (λ (d : Entry). IsDir all d.parent) here (fit.tree.dirs k e within)) in
       let dir : List (List ℕ) = place.0 in
-      let before : List Entry = entries_of_additions_by ls (additions_of vs) in
+      let before : List Entry = entries_of_additions_by ls (verdict_additions vs) in
       let room : room_for_by ls before (dir ++ e.name ∷ []) ≡ Ok e.parent =
       subst (λ (us : List Entry). room_for_by ls us (dir ++ e.name ∷ []) ≡ Ok e.parent) (sym f.entries)
       (has_room (take k all) e dir (next ls all k vs e fit.tree within here f dir place.2).may place.2) in
@@ -200,8 +200,8 @@ module _ (types : Types) (held : ℕ) (image : List ℕ) (w : Walk) (fs : List F
 
 -- the tree of the additions is that of the walk
 same_tree : (image : List ℕ) (w : Walk) (g : Ground) (vs : List Verdict) → g.given ≡ image → AllHold (root_demands image (root_of image))
-    → entries_of_additions_by g.letters (additions_of g.verdicts ++ additions_of vs) ≡ entries_in image w w
-    → tree_of g vs ≡ tree_in_by g.letters image w
+    → entries_of_additions_by g.letters (verdict_additions g.verdicts ++ verdict_additions vs) ≡ entries_in image w w
+    → verdict_tree g vs ≡ tree_in_by g.letters image w
 unfolding stamps_of
 same_tree image w g vs given root same = grind (arith, common_steps, label_whole)
 
@@ -235,7 +235,7 @@ module _ (types : Types) (held : ℕ) (image : List ℕ) (t : Tree) (l : Layout)
 
   pub tree_kept : rescued_tree_by of_types held whole_basis None ≡ t
   tree_kept =
-      let xs : List Addition = additions_of (first_verdicts_by of_types held whole_basis) in
+      let xs : List Addition = verdict_additions (first_verdicts_by of_types held whole_basis) in
       let all : entries_of_additions_by of_types (xs ++ []) ≡ entries_in image w w =
       ap (entries_of_additions_by of_types) (append-nil xs)
       ∙ (whole.entries ∙ take_all (heads w) (entries_in image w w) (omega (arith, entries_length image w w))) in

@@ -1,7 +1,8 @@
 -- The hung image: each lost header hangs in the directory that it names, or in the root.
 -- Letters: given the image of the survey, w its walk, s whether each of its directories is settled; b, p, e blocks; n a node; i a word; k a number
 -- of blocks or nodes.
-use Rattle.std.specs.Prelude.{◌≡◌, ◌<◌, ◌≤◌, ℕ, ◌==◌, ◌&&◌, ◌||◌, not, ◌+◌, ◌*◌, ◌%◌, Bool, false, cond, List, [], length, replicate, Option, Some, None, is_some, slice_index, unwrap_or}
+use Rattle.std.specs.Prelude.{◌≡◌, ◌<◌, ◌≤◌, ℕ, ◌==◌, ◌&&◌, ◌||◌, not, ◌+◌, ◌*◌, ◌%◌, Bool, false, cond, List, [], length, replicate, Option, Some}
+use Rattle.std.specs.Prelude.{None, is_some, slice_index, unwrap_or}
 use Rattle.std.proofs.Common.{zero, suc}
 use Rattle.adf_base.specs.Words.{block, sealed, with_block, with_bytes, with_word}
 use Rattle.adf_names.specs.declared.meta.Meta.{Meta}
@@ -20,9 +21,9 @@ use Rattle.adf_rescue.specs.Rescue.{lost_name}
 -- the directories that things are hung in
 
 -- one of the first k blocks is a lost header that names block p as its directory
-unfoldable pub is_named : List ℕ → Walk → (ℕ → Bool) → ℕ → ℕ → Bool
-is_named given w s p zero = false
-is_named given w s p (suc k) = is_named given w s p k || is_lost given w s k && (word_in given k PARENT == p)
+unfoldable pub has_lost_child : List ℕ → Walk → (ℕ → Bool) → ℕ → ℕ → Bool
+has_lost_child given w s p zero = false
+has_lost_child given w s p (suc k) = has_lost_child given w s p k || is_lost given w s k && (word_in given k PARENT == p)
 
 -- a directory may be made in block p: it is in range, not the root, no part of the survey, and not lost itself
 unfoldable pub is_vacant : List ℕ → Walk → (ℕ → Bool) → ℕ → Bool
@@ -30,7 +31,7 @@ is_vacant given w s p = is_inside given p && not (p == root_of given) && not (ow
 
 -- a directory is made in block p: a lost header names it
 abbrev pub is_made : List ℕ → Walk → (ℕ → Bool) → ℕ → Bool
-is_made given w s p = is_vacant given w s p && is_named given w s p (blocks given)
+is_made given w s p = is_vacant given w s p && has_lost_child given w s p (blocks given)
 
 -- block p is a directory that things can be hung in: of the survey, lost, or made
 abbrev pub is_container : List ℕ → Walk → (ℕ → Bool) → ℕ → Bool
@@ -75,8 +76,8 @@ last_open given w n zero = 0
 last_open given w n (suc k) = cond (parent_node w (suc k) == n) (unwrap_or (open_end given w (suc k)) (last_open given w n k)) (last_open given w n k)
 
 -- the same of all entries in the directory in block p
-abbrev pub end_of : List ℕ → Walk → ℕ → ℕ
-end_of given w p = last_open given w (unwrap_or (directory_at given w p) 0) (heads w)
+abbrev pub directory_end : List ℕ → Walk → ℕ → ℕ
+directory_end given w p = last_open given w (unwrap_or (directory_at given w p) 0) (heads w)
 
 -- the image with block b, of directory p, behind the header in block e, if that is in range
 abbrev pub hung_behind : List ℕ → ℕ → ℕ → ℕ → List ℕ
@@ -86,7 +87,7 @@ hung_behind image b p e = cond (is_inside image e) (hung_at image b p e NEXT_IN_
 -- leads to none. So no word changes that leads to a part of the survey
 unfoldable pub hung_in : List ℕ → Walk → List ℕ → ℕ → ℕ → List ℕ
 hung_in given w image b p =
-    cond (owns w (word_in image p (slot_word b))) (hung_behind image b p (end_of given w p)) (hung_at image b p p (slot_word b))
+    cond (owns w (word_in image p (slot_word b))) (hung_behind image b p (directory_end given w p)) (hung_at image b p p (slot_word b))
 
 -- no comment, no protection bits, and the date 0
 abbrev pub no_meta : Meta
@@ -127,7 +128,7 @@ hung given w s = hung_first given w s (blocks given)
 -- the marks of the blocks: whether a directory may be made in each, and one of the first k blocks is a lost header that names it
 pub record AreMade (given : List ℕ) (w : Walk) (s : ℕ → Bool) (k : ℕ) (marks : List Bool) : Type 0 where
   pub length : length marks ≡ blocks given
-  pub made : (p : ℕ) → p < blocks given → has_mark marks p ≡ (is_vacant given w s p && is_named given w s p k)
+  pub made : (p : ℕ) → p < blocks given → has_mark marks p ≡ (is_vacant given w s p && has_lost_child given w s p k)
 
 -- of each node the block behind which things are hung, by the first k entries
 pub record AreEnds (given : List ℕ) (w : Walk) (k : ℕ) (ends : List ℕ) : Type 0 where

@@ -10,7 +10,7 @@ use Rattle.adf_findings.specs.declared.concern.Concern.TheVariants.{Within}
 use Rattle.adf_findings.specs.Concerned.{concern_of}
 use Rattle.adf_findings.specs.Found.{owner}
 use Rattle.adf_findings.specs.Survey.{FindingValue}
-use Rattle.adf_rescue.specs.Rescue.{Basis, entry_at}
+use Rattle.adf_rescue.specs.Rescue.{Basis, entry_headed}
 
 -- the cause is that no block has the number of the header: the finding is of the block with that number
 abbrev pub is_astray : Cause → Bool
@@ -25,7 +25,7 @@ is_unowned _ = false
 -- an entry of the second survey has its header in the block
 abbrev pub is_second_header : Option Basis → ℕ → Bool
 is_second_header None h = false
-is_second_header (Some b) h = is_some (entry_at b.walk h)
+is_second_header (Some b) h = is_some (entry_headed b.walk h)
 
 -- an entry of the second survey has the block
 abbrev pub is_second_block : Option Basis → ℕ → Bool
@@ -33,8 +33,8 @@ is_second_block None h = false
 is_second_block (Some b) h = is_some (owner b.walk h)
 
 -- an entry of one of the surveys has its header in the block
-abbrev pub is_header : Walk → Option Basis → ℕ → Bool
-is_header w b h = is_some (entry_at w h) || is_second_header b h
+abbrev pub is_surveyed_header : Walk → Option Basis → ℕ → Bool
+is_surveyed_header w b h = is_some (entry_headed w h) || is_second_header b h
 
 -- the directory in which a header was skipped, by what its finding concerns, unless the header is found
 abbrev pub unless_found : Option Concern → Bool → Option ℕ
@@ -43,7 +43,7 @@ unless_found _ found = None
 
 -- the directory in which a header is lost, by its finding: it was skipped, and no entry has it
 abbrev pub lost_header : Walk → Option Basis → FindingValue → Option ℕ
-lost_header w b f = unless_found (concern_of w f) (not (is_astray f.cause) && is_header w b f.block)
+lost_header w b f = unless_found (concern_of w f) (not (is_astray f.cause) && is_surveyed_header w b f.block)
 
 -- for each header that is lost, its directory
 abbrev pub lost_headers : Walk → Option Basis → List FindingValue → List ℕ

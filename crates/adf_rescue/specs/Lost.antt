@@ -1,7 +1,8 @@
 -- What no directory of a survey leads to any more: lost headers.
 -- Letters: w the walk of the survey, fs its findings, f one of them; b, p blocks, h that of a header; n a node; k a number of nodes, findings
 -- or blocks; mended whether the image was; s whether each directory is settled.
-use Rattle.std.specs.Prelude.{◌≡◌, ◌≤◌, ℕ, ◌+◌, ◌-◌, ◌/◌, ◌%◌, ◌^◌, ◌==◌, ◌&&◌, ◌||◌, not, nat_le, nat_lt, min, bit_and, Bool, true, false, cond, List, [], ◌∷◌, length}
+use Rattle.std.specs.Prelude.{◌≡◌, ◌≤◌, ℕ, ◌+◌, ◌-◌, ◌/◌, ◌%◌, ◌^◌, ◌==◌, ◌&&◌, ◌||◌, not, nat_le, nat_lt, min, bit_and, Bool, true, false, cond}
+use Rattle.std.specs.Prelude.{List, [], ◌∷◌, length}
 use Rattle.std.specs.Prelude.{Option, Some, None, option_and_then, option_map, unwrap_or}
 use Rattle.std.specs.List.{list_any}
 use Rattle.std.proofs.Common.{zero, suc}
@@ -64,13 +65,13 @@ abbrev pub has_free_data : List ℕ → Walk → ℕ → Bool
 has_free_data image w h = not (word_in image h SECONDARY_TYPE == ST_DIR) && has_free_data_among image w h (table_count image h)
 
 -- entry n of the survey is a directory with its header in block p
-abbrev pub is_directory_at : List ℕ → Walk → ℕ → ℕ → Bool
-is_directory_at image w n p =
+abbrev pub is_directory_header : List ℕ → Walk → ℕ → ℕ → Bool
+is_directory_header image w n p =
     nat_le 1 n && nat_le n (heads w) && (node_block w n == p) && (word_in image (node_block w n) SECONDARY_TYPE == ST_DIR)
 
 -- entry n, if it is such a directory
 abbrev pub directory_by : List ℕ → Walk → ℕ → ℕ → Option ℕ
-directory_by image w p n = cond (is_directory_at image w n p) (Some n) None
+directory_by image w p n = cond (is_directory_header image w n p) (Some n) None
 
 -- the directory of the survey whose header is block p; 0 for the root
 unfoldable pub directory_at : List ℕ → Walk → ℕ → Option ℕ

@@ -20,14 +20,14 @@ abbrev pub has_root : List ℕ → Bool
 has_root image = has_root_type (middle_block image) && (long_sum (middle_block image) == 0)
 
 -- a block says that it is a bitmap page: its sum is right, and its first word is not that of another kind of block
-abbrev pub is_page : List ℕ → Bool
-is_page b =
+abbrev pub is_page_block : List ℕ → Bool
+is_page_block b =
     (long_sum b == 0)
     && not ((word b TYPE == 0) || (word b TYPE == T_SHORT) || (word b TYPE == T_DATA) || (word b TYPE == T_LIST))
 
 -- block b of an image, behind the boot blocks, says so
 abbrev pub says_page : List ℕ → ℕ → Bool
-says_page image b = nat_le 2 b && nat_lt b (blocks image) && is_page (block image b)
+says_page image b = nat_le 2 b && nat_lt b (blocks image) && is_page_block (block image b)
 
 -- the block of page i: the one that the middle block names for it, or the one in its place behind the root, if that says
 -- that it is a page; otherwise 0
@@ -42,8 +42,8 @@ abbrev pub slots_in : List ℕ → List ℕ
 slots_in b = map (λ s. word b (FIRST_SLOT + s)) (range_with_len 0 SLOTS)
 
 -- the blocks of the pages that the root names
-abbrev pub pages_in : List ℕ → List ℕ
-pages_in image = map (page_found image) (range_with_len 0 ROOT_PAGES)
+abbrev pub root_pages : List ℕ → List ℕ
+root_pages image = map (page_found image) (range_with_len 0 ROOT_PAGES)
 
 -- the label of a block that says that it is a root; otherwise none
 abbrev pub label_in : List ℕ → List ℕ
@@ -57,7 +57,7 @@ stamps_in b = cond (has_root_type b) (stamps_at b) NO_STAMPS
 abbrev pub made_root : List ℕ → RootFields
 made_root image = record {
   slots = slots_in (middle_block image);
-  pages = pages_in image;
+  pages = root_pages image;
   map_ext = 0;
   label = label_in (middle_block image);
   stamps = stamps_in (middle_block image);

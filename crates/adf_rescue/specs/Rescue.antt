@@ -96,42 +96,42 @@ body_of l n =
     cond (l.sound n && (secondary == ST_FILE)) (Ok (File (file_content (file_in l.image l.walk n)))) (body_of_type secondary)
 
 -- the addition of a verdict
-abbrev pub addition_of : Verdict → List Addition
-addition_of (adds x) = x ∷ []
-addition_of (leaves why) = []
-addition_of (knows place) = []
+abbrev pub verdict_addition : Verdict → List Addition
+verdict_addition (adds x) = x ∷ []
+verdict_addition (leaves why) = []
+verdict_addition (knows place) = []
 
 -- the additions of verdicts
-abbrev pub additions_of : List Verdict → List Addition
-additions_of vs = flat_map addition_of vs
+abbrev pub verdict_additions : List Verdict → List Addition
+verdict_additions vs = flat_map verdict_addition vs
 
 -- the tree of the additions so far, by its letters: its kind, label and dates are those in the boot bytes and the root of the image that is
 -- rescued
-abbrev pub tree_of : Ground → List Verdict → Tree
-tree_of g vs =
+abbrev pub verdict_tree : Ground → List Verdict → Tree
+verdict_tree g vs =
     let o = opening_in g.given in
     record {
       kind = o.kind;
       letters = g.letters;
       label = o.label;
       stamps = o.stamps;
-      entries = entries_of_additions_by g.letters (additions_of g.verdicts ++ additions_of vs);
+      entries = entries_of_additions_by g.letters (verdict_additions g.verdicts ++ verdict_additions vs);
     }
 
 -- the path of a directory that is added, or known
-abbrev pub directory_in : Verdict → Option (List (List ℕ))
-directory_in (adds x) = cond (is_dir_body x.body) (Some x.path) None
-directory_in (leaves why) = None
-directory_in (knows place) = place
+abbrev pub directory_path : Verdict → Option (List (List ℕ))
+directory_path (adds x) = cond (is_dir_body x.body) (Some x.path) None
+directory_path (leaves why) = None
+directory_path (knows place) = place
 
 -- the path of a directory of the survey in the new tree: empty for the root, none if it is left out
-abbrev pub place_of : List Verdict → ℕ → Option (List (List ℕ))
-place_of vs zero = Some []
-place_of vs (suc i) = option_and_then directory_in (slice_get vs i)
+abbrev pub new_path : List Verdict → ℕ → Option (List (List ℕ))
+new_path vs zero = Some []
+new_path vs (suc i) = option_and_then directory_path (slice_get vs i)
 
 -- the path of this name in a directory, if it is a name and the tree has room for it
-abbrev pub path_in : Tree → List (List ℕ) → List ℕ → Option (List (List ℕ))
-path_in t dir name = cond (is_name name && is_ok (room_for_by t.letters t.entries (dir ++ name ∷ []))) (Some (dir ++ name ∷ [])) None
+abbrev pub path_with_room : Tree → List (List ℕ) → List ℕ → Option (List (List ℕ))
+path_with_room t dir name = cond (is_name name && is_ok (room_for_by t.letters t.entries (dir ++ name ∷ []))) (Some (dir ++ name ∷ [])) None
 
 -- the name of an entry that cannot have its own
 abbrev pub lost_name : ℕ → List ℕ
@@ -139,7 +139,7 @@ lost_name h = codes "lost-" ++ decimal h
 
 -- the path of an entry in its directory: by the name in its header, or else by `lost-` and the header's block
 abbrev pub path_for : Tree → List (List ℕ) → List ℕ → ℕ → Option (List (List ℕ))
-path_for t dir name h = elim (path_in t dir name) [ Some path ↦ Some path | None ↦ path_in t dir (lost_name h) ]
+path_for t dir name h = elim (path_with_room t dir name) [ Some path ↦ Some path | None ↦ path_with_room t dir (lost_name h) ]
 
 -- the same by the path of the directory, if it is kept
 abbrev pub path_by : Tree → Option (List (List ℕ)) → List ℕ → ℕ → Option (List (List ℕ))
@@ -175,13 +175,13 @@ abbrev pub added_marks : List Verdict → List Bool
 added_marks vs = false ∷ map is_added vs
 
 -- an entry that is kept from the survey before has block b
-abbrev pub is_kept : Ground → ℕ → Bool
-is_kept g b = has_mark (added_marks g.verdicts) (unwrap_or (owner g.walk b) 0)
+abbrev pub is_of_kept_entry : Ground → ℕ → Bool
+is_of_kept_entry g b = has_mark (added_marks g.verdicts) (unwrap_or (owner g.walk b) 0)
 
 -- data block b of an image was given: it is held, and the same in the image that is rescued; and there neither an entry that is kept
 -- has it, nor does the bitmap tell that it is free
 abbrev pub is_given : Ground → List ℕ → ℕ → Bool
-is_given g image b = nat_lt b g.held && (is_same_block g.given image b && (not (is_kept g b) && not (is_stated_free g.given g.walk b)))
+is_given g image b = nat_lt b g.held && (is_same_block g.given image b && (not (is_of_kept_entry g b) && not (is_stated_free g.given g.walk b)))
 
 -- so were these blocks
 abbrev pub are_given : Ground → List ℕ → List ℕ → Bool
@@ -195,7 +195,7 @@ as_given g l = record l { sound = λ n. l.sound n && are_given g l.image (datas_
 -- the verdict on an entry that is not known
 abbrev pub verdict_anew : Ground → Basis → List Verdict → ℕ → Verdict
 verdict_anew g l vs n =
-    by_body l.image (blocks g.given) (tree_of g vs) (place_of vs (parent_node l.walk n)) (node_block l.walk n) (body_of (as_given g l) n)
+    by_body l.image (blocks g.given) (verdict_tree g vs) (new_path vs (parent_node l.walk n)) (node_block l.walk n) (body_of (as_given g l) n)
 
 -- block b is the header of entry n
 abbrev pub is_header_at : Walk → ℕ → ℕ → Bool
@@ -206,17 +206,17 @@ abbrev pub entry_by : Walk → ℕ → ℕ → Option ℕ
 entry_by w b n = cond (is_header_at w b n) (Some n) None
 
 -- the entry that has its header in block b
-abbrev pub entry_at : Walk → ℕ → Option ℕ
-entry_at w b = option_and_then (entry_by w b) (owner w b)
+abbrev pub entry_headed : Walk → ℕ → Option ℕ
+entry_headed w b = option_and_then (entry_by w b) (owner w b)
 
 -- this verdict, if no entry of the survey before has its header there; else the place of the one that has
 abbrev pub unless_known : Ground → Option ℕ → Verdict → Verdict
 unless_known g None v = v
-unless_known g (Some m) v = knows (place_of g.verdicts m)
+unless_known g (Some m) v = knows (new_path g.verdicts m)
 
 -- the verdict on an entry
 abbrev pub verdict : Ground → Basis → List Verdict → ℕ → Verdict
-verdict g l vs n = unless_known g (entry_at g.walk (node_block l.walk n)) (verdict_anew g l vs n)
+verdict g l vs n = unless_known g (entry_headed g.walk (node_block l.walk n)) (verdict_anew g l vs n)
 
 -- the verdicts on the first k entries: each by those before it
 abbrev pub verdicts : Ground → Basis → ℕ → List Verdict
@@ -243,11 +243,11 @@ second_verdicts_by letters held a (Some b) = verdicts (before_second_by letters 
 
 -- the additions of a rescue
 abbrev pub rescued_additions_by : Letters → (held : ℕ) → Basis → Option Basis → List Addition
-rescued_additions_by letters held a b = additions_of (first_verdicts_by letters held a) ++ additions_of (second_verdicts_by letters held a b)
+rescued_additions_by letters held a b = verdict_additions (first_verdicts_by letters held a) ++ verdict_additions (second_verdicts_by letters held a b)
 
 -- the tree of the new volume
 abbrev pub rescued_tree_by : Letters → (held : ℕ) → Basis → Option Basis → Tree
-rescued_tree_by letters held a b = tree_of (before_second_by letters held a) (second_verdicts_by letters held a b)
+rescued_tree_by letters held a b = verdict_tree (before_second_by letters held a) (second_verdicts_by letters held a b)
 
 -- entry n, if the verdict leaves it out
 abbrev pub left_out_by : ℕ → Verdict → List LeftOut

@@ -12,7 +12,7 @@ use Rattle.adf_volume.specs.Walk.{heads, Walk}
 use Rattle.adf_findings.specs.Survey.{FindingValue, IsSurvey}
 use Rattle.adf_build.specs.Plan.{data_blocks, entries_blocks, exts_needed, reserved}
 use Rattle.adf_rescue.specs.declared.salvage.Salvage.{Salvage}
-use Rattle.adf_rescue.specs.Rescue.{Ground, Verdict, added_marks, additions_of, left_out_from, place_of, tree_of}
+use Rattle.adf_rescue.specs.Rescue.{Ground, Verdict, added_marks, verdict_additions, left_out_from, new_path, verdict_tree}
 
 -- a room is that of a path; there is none without a path
 abbrev pub IsRoomOf : DraftValue → Option (List (List ℕ)) → Option Room → Type 0
@@ -41,13 +41,13 @@ are_held held (b ∷ bs) = nat_lt b held && are_held held bs
 
 -- the state after these verdicts
 pub record IsSalvage (g : Ground) (vs : List Verdict) (r : Salvage) : Type 0 where
-  pub tree : r.draft.tree ≡ tree_of g vs
+  pub tree : r.draft.tree ≡ verdict_tree g vs
   pub kind : r.kind ≡ kind_of g.given
   pub held : r.held ≡ g.held
   pub count : length r.places.items ≡ length vs + 1
-  pub nodes : length r.draft.nodes ≡ length (additions_of g.verdicts ++ additions_of vs)
-  pub known : (m : ℕ) → IsPlace r.draft (place_of g.verdicts m) (slice_index_or r.known.items m None)
-  pub places : (p : ℕ) → IsPlace r.draft (place_of vs p) (slice_index_or r.places.items p None)
+  pub nodes : length r.draft.nodes ≡ length (verdict_additions g.verdicts ++ verdict_additions vs)
+  pub known : (m : ℕ) → IsPlace r.draft (new_path g.verdicts m) (slice_index_or r.known.items m None)
+  pub places : (p : ℕ) → IsPlace r.draft (new_path vs p) (slice_index_or r.places.items p None)
   pub kept : r.kept.items ≡ added_marks g.verdicts
   pub added : r.added.items ≡ added_marks vs
   pub left : r.left + entries_blocks r.draft.tree.kind r.draft.tree.entries ≡ free_blocks (blocks g.given)

@@ -14,7 +14,7 @@ ghost use Rattle.adf_findings.specs.Marks.{has_mark};
 ghost use Rattle.adf_findings.specs.Survey.{OnSurvey};
 ghost use Rattle.adf_rescue.specs.Lost.{AreLost, directory_at, has_findings, has_lost, is_lost, is_settled, lost_among};
 ghost use Rattle.adf_rescue.specs.Rescue.{lost_name};
-ghost use Rattle.adf_rescue.specs.Hung.{AreEnds, AreLoose, emptied, end_of, home, hung, hung_at, hung_in, hung_loose, is_container, is_hung};
+ghost use Rattle.adf_rescue.specs.Hung.{AreEnds, AreLoose, emptied, directory_end, home, hung, hung_at, hung_in, hung_loose, is_container, is_hung};
 ghost use Rattle.adf_rescue.specs.Hung.{is_made, is_vacant, made_header, open_end, ready_in, readied, slot_word};
 
 use crate::image::{block_count, is_image_len, root_of};
@@ -298,10 +298,10 @@ fn is_hung(loose: &Loose, b: u32) -> bool
 
 // The block behind which things are hung in the directory in block `p`; 0 if there is none.
 #[tactic(auto, using(crate::proofs::HungImages::end_found))]
-fn end_of(survey: &Survey<'_>, loose: &Loose, p: u32) -> u32
+fn directory_end(survey: &Survey<'_>, loose: &Loose, p: u32) -> u32
     requires { is_image_len (length survey.now.image) ≡ true }
     ensures { OnSurvey survey.now.image (λ w _. (s : ℕ → Bool) → AreLoose survey.now.image w s loose.now
-        → result ≡ end_of survey.now.image w p) }
+        → result ≡ directory_end survey.now.image w p) }
 {
     let n = directory_at(survey, p).unwrap_or(Node(0));
     loose.ends.get(n.0).copied().unwrap_or(0)
@@ -322,7 +322,7 @@ fn hang_in(survey: &Survey<'_>, loose: &Loose, image: &mut [u8], b: u32, p: u32)
         hang(image, b, p, p, slot);
         return;
     }
-    let end = end_of(survey, loose, p);
+    let end = directory_end(survey, loose, p);
     if is_inside(image, end) {
         hang(image, b, p, end, NEXT_IN_CHAIN);
     }
@@ -423,7 +423,7 @@ pub fn hung_keeps()
     ensures blocks { (given : List ℕ) (w : Walk) (s : ℕ → Bool)
         → is_image_len (length given) ≡ true → (b : ℕ) → is_hung given w s b ≡ false
         → ((d : ℕ) → is_hung given w s d ≡ true → home given w s d ≢ b)
-        → ((d : ℕ) → is_hung given w s d ≡ true → end_of given w (home given w s d) ≢ b)
+        → ((d : ℕ) → is_hung given w s d ≡ true → directory_end given w (home given w s d) ≢ b)
         → block (hung given w s) b ≡ block given b }
     ensures entries { (given : List ℕ) (w : Walk) (s : ℕ → Bool)
         → is_image_len (length given) ≡ true → (b : ℕ) → is_some (owner w b) ≡ true

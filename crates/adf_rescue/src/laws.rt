@@ -25,9 +25,9 @@ ghost use Rattle.adf_volume.specs.declared.types.Types.{Types};
 ghost use Rattle.adf_volume.specs.Walk.{FileAt, node_block, Walk};
 ghost use Rattle.adf_build.specs.Laid.{IsLaid};
 ghost use Rattle.adf_rescue.specs.Lost.{has_lost};
-ghost use Rattle.adf_rescue.specs.Rescue.{Basis, Verdict, additions_of, at_path, before_first_by, first_verdicts_by, path_by};
-ghost use Rattle.adf_rescue.specs.Rescue.{place_of};
-ghost use Rattle.adf_rescue.specs.Rescue.{rescue_leaves_by, rescued_additions_by, rescued_tree_by, second_verdicts_by, tree_of};
+ghost use Rattle.adf_rescue.specs.Rescue.{Basis, Verdict, verdict_additions, at_path, before_first_by, first_verdicts_by, path_by};
+ghost use Rattle.adf_rescue.specs.Rescue.{new_path};
+ghost use Rattle.adf_rescue.specs.Rescue.{rescue_leaves_by, rescued_additions_by, rescued_tree_by, second_verdicts_by, verdict_tree};
 ghost use Rattle.adf_rescue.specs.Rescue.{verdict};
 ghost use Rattle.adf_rescue.specs.Rescue.Verdict.{adds};
 ghost use Rattle.adf_rescue.specs.Salvage.{are_held};
@@ -55,13 +55,13 @@ pub fn sound_files_stand()
         → IsSurvey a.image a.walk fs → AreMarks a.image a.walk (grave fs) a.sound
         → IsSoundFile a.image a.walk (grave fs) n → are_held held (datas_in a.walk n) ≡ true
         → verdict (before_first_by letters held a.image) a vs n
-        ≡ at_path (tree_of (before_first_by letters held a.image) vs) (blocks a.image)
+        ≡ at_path (verdict_tree (before_first_by letters held a.image) vs) (blocks a.image)
         (meta_stated (block a.image (node_block a.walk n)))
         (File (file_content (file_in a.image a.walk n)))
-        (path_by (tree_of (before_first_by letters held a.image) vs) (place_of vs (parent_node a.walk n))
+        (path_by (verdict_tree (before_first_by letters held a.image) vs) (new_path vs (parent_node a.walk n))
         (name_of a.image (node_block a.walk n)) (node_block a.walk n)) }
     ensures front { (letters : Letters) (held : ℕ) (a : Basis) (b : Option Basis) → rescued_additions_by letters held a b
-        ≡ additions_of (first_verdicts_by letters held a) ++ additions_of (second_verdicts_by letters held a b) }
+        ≡ verdict_additions (first_verdicts_by letters held a) ++ verdict_additions (second_verdicts_by letters held a b) }
 {}
 
 /// A survey has one list of verdicts.

@@ -5,7 +5,7 @@ ghost use Rattle.std.specs.Prelude.{◌≡◌, ◌++◌, [], IfOk, OnOk, Option,
 ghost use Rattle.std.specs.Option.{option_and_then};
 ghost use Rattle.adf_findings.specs.Parts.{finding_value};
 ghost use Rattle.adf_findings.specs.Survey.{OnSurvey};
-ghost use Rattle.adf_rescue.specs.Losses.{is_astray, is_header, is_second_block, is_second_header, is_unowned};
+ghost use Rattle.adf_rescue.specs.Losses.{is_astray, is_surveyed_header, is_second_block, is_second_header, is_unowned};
 ghost use Rattle.adf_rescue.specs.Losses.{lost_block, lost_blocks, lost_header, lost_headers, unless_found};
 ghost use Rattle.adf_rescue.specs.Rescue.{OnSecond};
 
@@ -51,9 +51,9 @@ fn is_second_block(second: Option<&Survey<'_>>, block: u32) -> bool
 }
 
 // Whether an entry of one of the surveys has its header in a block.
-fn is_header(survey: &Survey<'_>, second: Option<&Survey<'_>>, block: u32) -> bool
+fn is_surveyed_header(survey: &Survey<'_>, second: Option<&Survey<'_>>, block: u32) -> bool
     ensures { OnSurvey survey.now.image (λ w _. OnSecond (option_map (λ s. s.now.image) second.entry)
-        (λ b. result ≡ is_header w b block)) }
+        (λ b. result ≡ is_surveyed_header w b block)) }
 {
     entry_at(survey, block).is_some() || is_second_header(second, block)
 }
@@ -74,7 +74,7 @@ fn lost_header(survey: &Survey<'_>, second: Option<&Survey<'_>>, k: usize) -> Op
         (λ b. result ≡ option_and_then (lost_header w b) (slice_get fs k))) }
 {
     let finding = survey.findings().get(k)?;
-    let is_found = !is_astray(finding.cause) && is_header(survey, second, finding.block);
+    let is_found = !is_astray(finding.cause) && is_surveyed_header(survey, second, finding.block);
     unless_found(survey.concern_of(k), is_found)
 }
 

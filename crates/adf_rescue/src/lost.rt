@@ -13,7 +13,7 @@ ghost use Rattle.adf_findings.specs.Marks.{has_mark};
 ghost use Rattle.adf_findings.specs.Parts.{part_role};
 ghost use Rattle.adf_findings.specs.Survey.{OnSurvey};
 ghost use Rattle.adf_rescue.specs.Lost.{AreEntered, AreLost, AreSettled, AreUnblamed, bit_stated, directory_at, directory_by, has_free_data};
-ghost use Rattle.adf_rescue.specs.Lost.{is_denied, is_directory_at, is_freed, is_inside, is_lost, is_root, is_root_doubtful, is_settled};
+ghost use Rattle.adf_rescue.specs.Lost.{is_denied, is_directory_header, is_freed, is_inside, is_lost, is_root, is_root_doubtful, is_settled};
 ghost use Rattle.adf_rescue.specs.Lost.{is_stated_free, is_stated_used, is_unfound, says_directory, says_header, table_count};
 
 use crate::image::{block_count, block_in, root_of};
@@ -114,8 +114,8 @@ fn has_free_data(survey: &Survey<'_>, b: u32) -> bool
 }
 
 // Whether an entry is a directory with its header in block `p`.
-fn is_directory_at(survey: &Survey<'_>, n: Node, p: u32) -> bool
-    ensures { OnSurvey survey.now.image (λ w _. result ≡ is_directory_at survey.now.image w n p) }
+fn is_directory_header(survey: &Survey<'_>, n: Node, p: u32) -> bool
+    ensures { OnSurvey survey.now.image (λ w _. result ≡ is_directory_header survey.now.image w n p) }
 {
     let (Some(block), Some(head)) = (survey.block_of(n), survey.header(n)) else {
         return false;
@@ -127,7 +127,7 @@ fn is_directory_at(survey: &Survey<'_>, n: Node, p: u32) -> bool
 fn directory_by(survey: &Survey<'_>, p: u32, n: Node) -> Option<Node>
     ensures { OnSurvey survey.now.image (λ w _. result ≡ directory_by survey.now.image w p n) }
 {
-    if is_directory_at(survey, n, p) {
+    if is_directory_header(survey, n, p) {
         Some(n)
     } else {
         None

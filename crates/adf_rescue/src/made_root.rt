@@ -3,7 +3,7 @@
 ghost use Rattle.std.specs.Prelude.{◌≡◌, ◌<◌, length, true};
 ghost use Rattle.adf_blocks.specs.declared.layout.TheConstants.{ROOT_PAGES};
 ghost use Rattle.adf_volume.specs.Start.{is_image_len};
-ghost use Rattle.adf_rescue.specs.MadeRoot.{has_root, is_page, label_in, page_found, pages_in, rooted, says_page, slots_in, stamps_in};
+ghost use Rattle.adf_rescue.specs.MadeRoot.{has_root, is_page_block, label_in, page_found, root_pages, rooted, says_page, slots_in, stamps_in};
 
 use crate::image::{block_in, root_of};
 use adf_base::{BLOCK_LEN, Block};
@@ -23,8 +23,8 @@ pub fn has_root(image: &[u8]) -> bool
 }
 
 // Whether a block says that it is a bitmap page.
-fn is_page(block: &Block<'_>) -> bool
-    ensures { result ≡ is_page block.now }
+fn is_page_block(block: &Block<'_>) -> bool
+    ensures { result ≡ is_page_block block.now }
 {
     let first = block.word(TYPE);
     block.long_sum() == 0 && !(first == 0 || first == T_SHORT || first == T_DATA || first == T_LIST)
@@ -35,7 +35,7 @@ fn says_page(image: &[u8], b: u32) -> bool
     ensures { result ≡ says_page image.now b }
 {
     let b = b as usize;
-    2 <= b && b < image.len() / BLOCK_LEN && is_page(&block_in(image, b))
+    2 <= b && b < image.len() / BLOCK_LEN && is_page_block(&block_in(image, b))
 }
 
 // The block of page `i`: the one that the middle block names, or the one behind the root in its place; or 0.
@@ -57,9 +57,9 @@ fn page_found(image: &[u8], i: usize) -> u32
 }
 
 // The blocks of the pages that the root names.
-fn pages_in(image: &[u8]) -> [u32; ROOT_PAGES]
+fn root_pages(image: &[u8]) -> [u32; ROOT_PAGES]
     requires { is_image_len (length image.now) ≡ true }
-    ensures { result ≡ pages_in image.now }
+    ensures { result ≡ root_pages image.now }
 {
     let mut pages = [0u32; ROOT_PAGES];
     for i in 0..ROOT_PAGES {
@@ -115,7 +115,7 @@ pub fn make_root(image: &mut [u8])
     let slots = slots_in(&root);
     let label = label_in(&root);
     let stamps = stamps_in(&root);
-    let pages = pages_in(image);
+    let pages = root_pages(image);
     let made = RootOut {
         slots,
         pages: &pages,

@@ -3,7 +3,7 @@
 ghost use Rattle.std.specs.Prelude.{◌≡◌, ℕ, List, IfOk};
 ghost use Rattle.std.specs.String.{string_bytes};
 ghost use Rattle.adf_drafts.specs.Draft.{IsDirectoryOf};
-ghost use Rattle.adf_rescue.specs.Rescue.{lost_name, path_for, path_in};
+ghost use Rattle.adf_rescue.specs.Rescue.{lost_name, path_for, path_with_room};
 ghost use Rattle.adf_rescue.specs.Salvage.{IsRoomOf};
 
 use adf_base::NoMemory;
@@ -14,7 +14,7 @@ use std::alloc::Global;
 // The room of this name in a directory; `None` if it is no name, or an entry of the directory has it.
 fn room_named(draft: &Draft, directory: Node, name: &[u8]) -> Option<Room>
     ensures { (dir : List (List ℕ)) → IsDirectoryOf draft.now dir directory
-        → IsRoomOf draft.now (path_in draft.now.tree dir name.now) result }
+        → IsRoomOf draft.now (path_with_room draft.now.tree dir name.now) result }
 {
     let name = Name::new(name)?;
     draft.room_in(directory, &name)

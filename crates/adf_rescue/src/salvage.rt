@@ -12,7 +12,7 @@ ghost use Rattle.adf_findings.specs.Found.{parent_node};
 ghost use Rattle.adf_findings.specs.Opening.{opening_in};
 ghost use Rattle.adf_findings.specs.Survey.{FindingValue, IsSurvey, OnSurvey};
 ghost use Rattle.adf_rescue.specs.Rescue.{Ground, Basis, OnBasis, Verdict, added_marks, as_given, before_first_by, body_of};
-ghost use Rattle.adf_rescue.specs.Rescue.{entry_at, fitting, path_by, place_of, tree_of, verdict};
+ghost use Rattle.adf_rescue.specs.Rescue.{entry_headed, fitting, path_by, new_path, verdict_tree, verdict};
 ghost use Rattle.adf_rescue.specs.Rescue.Verdict.{leaves, knows};
 ghost use Rattle.adf_rescue.specs.Salvage.{GoesOn, IsNext, IsRoomOf, IsSalvage, entry_cost, free_blocks};
 
@@ -95,7 +95,7 @@ fn root_mark(alloc: Global) -> Result<Vec<bool>, NoMemory>
 // The entry of the survey before with the header of an entry.
 fn known_as(before: &Survey<'_>, survey: &Survey<'_>, n: Node) -> Option<Node>
     ensures { OnSurvey before.now.image (λ v _. OnSurvey survey.now.image (λ w _.
-        1 ≤ n → n ≤ heads w → result ≡ entry_at v (node_block w n))) }
+        1 ≤ n → n ≤ heads w → result ≡ entry_headed v (node_block w n))) }
 {
     match survey.block_of(n) {
         Some(block) => entry_at(before, block),
@@ -195,7 +195,7 @@ impl Salvage {
     // Keeps the place of the next entry, which is known as this one.
     fn keep_known(&mut self, m: Node) -> Result<(), NoMemory>
         ensures { (g : Ground) (vs : List Verdict) → IsSalvage g vs self.old
-            → OnOk result (IsSalvage g (vs ++ knows (place_of g.verdicts m) ∷ []) self.new) }
+            → OnOk result (IsSalvage g (vs ++ knows (new_path g.verdicts m) ∷ []) self.new) }
     {
         let place = self.place_before(m);
         self.keep_place(place, false)
@@ -221,7 +221,8 @@ impl Salvage {
             → IsSalvage g vs self.old → IsRoomFor self.old.draft path room.now
             → n ≡ length vs + 1
             → OnOk result (IsSalvage g
-            (vs ++ fitting (tree_of g vs) (blocks g.given) (record { path = path; meta = meta; body = body }) ∷ []) self.new) }
+            (vs ++ fitting (verdict_tree g vs) (blocks g.given)
+            (record { path = path; meta = meta; body = body }) ∷ []) self.new) }
     {
         let cost = cost_of(self.kind, &body);
         if cost > u64::from(self.left) {
@@ -246,7 +247,7 @@ impl Salvage {
             → IsSurvey survey.now.image w fs → IsSalvage g vs self.now
             → 1 ≤ n → n ≤ heads w
             → IfOk result (IsRoomOf self.now.draft
-            (path_by (tree_of g vs) (place_of vs (parent_node w n))
+            (path_by (verdict_tree g vs) (new_path vs (parent_node w n))
             (name_of survey.now.image (node_block w n)) (node_block w n))) }
     {
         let (Some(name), Some(block)) = (survey.name(n), survey.block_of(n)) else {
@@ -270,7 +271,7 @@ impl Salvage {
         ensures { (g : Ground) (w : Walk) (fs : List FindingValue) (sound : ℕ → Bool)
             (vs : List Verdict)
             → IsSurvey survey.now.image w fs → IsSalvage g vs self.old → IsNext w vs n
-            → entry_at g.walk (node_block w n) ≡ None
+            → entry_headed g.walk (node_block w n) ≡ None
             → standing ≡ body_of (as_given g (record { image = survey.now.image; walk = w; sound = sound })) n
             → OnOk result (IsSalvage g
             (vs ++ verdict g (record { image = survey.now.image; walk = w; sound = sound }) vs n ∷ []) self.new) }

@@ -11,8 +11,8 @@ ghost use Rattle.adf_volume.specs.Walk.{heads, node_block};
 ghost use Rattle.adf_findings.specs.Files.{file_content};
 ghost use Rattle.adf_findings.specs.Survey.{FindingValue, IsSurvey, OnSurvey};
 ghost use Rattle.adf_rescue.specs.Rescue.{Ground, OnBasis, added_marks, are_given, as_given, before_first_by, body_of};
-ghost use Rattle.adf_rescue.specs.Rescue.{body_of_type, entry_at, entry_by};
-ghost use Rattle.adf_rescue.specs.Rescue.{is_given, is_kept, is_same_block};
+ghost use Rattle.adf_rescue.specs.Rescue.{body_of_type, entry_headed, entry_by};
+ghost use Rattle.adf_rescue.specs.Rescue.{is_given, is_of_kept_entry, is_same_block};
 ghost use Rattle.adf_rescue.specs.Salvage.{are_held};
 
 use crate::left_out::Why;
@@ -64,7 +64,7 @@ fn entry_by(survey: &Survey<'_>, b: u32, n: Node) -> Option<Node>
 
 /// The entry that has its header in block `b`.
 pub fn entry_at(survey: &Survey<'_>, b: u32) -> Option<Node>
-    ensures { OnSurvey survey.now.image (λ w _. result ≡ entry_at w b) }
+    ensures { OnSurvey survey.now.image (λ w _. result ≡ entry_headed w b) }
 {
     match survey.entry_at(b) {
         Some(n) => entry_by(survey, b, n),
@@ -83,9 +83,9 @@ fn is_same_block(given: &[u8], image: &[u8], b: u32) -> bool
 }
 
 // Whether an entry that is kept from the survey before has a block, by the marks of its entries.
-fn is_kept(before: &Survey<'_>, kept: &Vec<bool>, b: u32) -> bool
+fn is_of_kept_entry(before: &Survey<'_>, kept: &Vec<bool>, b: u32) -> bool
     ensures { (g : Ground) (fs : List FindingValue) → g.given ≡ before.now.image → IsSurvey g.given g.walk fs
-        → kept.now.items ≡ added_marks g.verdicts → result ≡ is_kept g b }
+        → kept.now.items ≡ added_marks g.verdicts → result ≡ is_of_kept_entry g b }
 {
     match before.entry_at(b) {
         Some(n) => is_marked(kept, n.0),
@@ -100,7 +100,7 @@ fn is_given(before: &Survey<'_>, kept: &Vec<bool>, held: usize, image: &[u8], b:
 {
     (b as usize) < held
         && is_same_block(before.image(), image, b)
-        && !is_kept(before, kept, b)
+        && !is_of_kept_entry(before, kept, b)
         && !is_stated_free(before, b)
 }
 

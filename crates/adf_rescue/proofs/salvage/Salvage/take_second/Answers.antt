@@ -1,14 +1,14 @@
 use Rattle.std.proofs.Common.{◌≡◌, ◌≤◌, ◌∙◌, Some, None, arith, subst, sym}
 use Rattle.adf_volume.specs.Walk.{node_block}
 use Rattle.adf_findings.specs.Survey.{IsSurvey}
-use Rattle.adf_rescue.specs.Rescue.{entry_at}
+use Rattle.adf_rescue.specs.Rescue.{entry_headed}
 use Rattle.adf_rescue.proofs.salvage.Salvage.take_second.Goals as goal
 
 pub returns-in-Some : goal.returns-in-Some
 returns-in-Some c = λ w fs sound survey marks g hs vs given first is next.
     let low : 1 ≤ c.args.n = omega (arith, next.number) in
     let here = subst (λ image. IsSurvey image g.walk hs) given first in
-    let known : entry_at g.walk (node_block w c.args.n) ≡ Some c.in-Some.m =
+    let known : entry_headed g.walk (node_block w c.args.n) ≡ Some c.in-Some.m =
     sym (c.known_as.ensures g.walk hs here w fs survey low next.within) ∙ c.in-Some.is in
     rw known (c.keep_known.ensures g vs is)
 
@@ -16,6 +16,6 @@ pub returns-in_ok-standing-in-None : goal.returns-in_ok-standing-in-None
 returns-in_ok-standing-in-None c = λ w fs sound survey marks g hs vs given first is next.
     let low : 1 ≤ c.args.n = omega (arith, next.number) in
     let here = subst (λ image. IsSurvey image g.walk hs) given first in
-    let new : entry_at g.walk (node_block w c.args.n) ≡ None = sym (c.known_as.ensures g.walk hs here w fs survey low next.within) ∙ c.in-None.is in
+    let new : entry_headed g.walk (node_block w c.args.n) ≡ None = sym (c.known_as.ensures g.walk hs here w fs survey low next.within) ∙ c.in-None.is in
     let standing = c.in_ok-standing-in-None.ensures w fs sound survey marks g hs given first is.held is.kept low next.within in
     c.keep.ensures g w fs sound vs survey is next new standing

@@ -3,7 +3,7 @@ use Rattle.std.proofs.lemmas.List.FromFn.{fill_by_all}
 use Rattle.adf_blocks.specs.declared.layout.TheConstants.{ROOT_PAGES}
 use Rattle.adf_rescue.specs.MadeRoot.{page_found}
 use Rattle.adf_rescue.proofs.MadeRoots.{fill_step}
-use Rattle.adf_rescue.proofs.made_root.pages_in.Goals as goal
+use Rattle.adf_rescue.proofs.made_root.root_pages.Goals as goal
 
 pub loop-i-preserved : goal.loop-i-preserved
 loop-i-preserved c = record {

@@ -1,7 +1,7 @@
 use Rattle.std.proofs.Common.{◌≡◌, ◌<◌, ℕ, get_or, length}
 use Rattle.adf_blocks.specs.declared.layout.TheConstants.{ROOT_PAGES}
 use Rattle.adf_rescue.specs.MadeRoot.{page_found}
-use Rattle.adf_rescue.proofs.made_root.pages_in.Given as goal
+use Rattle.adf_rescue.proofs.made_root.root_pages.Given as goal
 
 abbrev pub invariant-loop-i : goal.invariant-loop-i
 invariant-loop-i l = record {
