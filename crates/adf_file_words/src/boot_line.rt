@@ -8,7 +8,7 @@ ghost use Rattle.adf_words.specs.CommandLine.{texts_of};
 ghost use Rattle.adf_words.specs.declared.command_line.ArgsError.TheVariants.{Usage};
 
 use crate::file_argument::{file_argument, file_in, with_file};
-use adf_words::{ArgsError, bare_command, first_text, matches_of};
+use adf_words::{ArgsError, bare_command, first_text, matches_of, with_argument, with_subcommand};
 use clap::{Arg, ArgMatches, Command};
 use std::alloc::{AllocError, Global};
 
@@ -41,9 +41,8 @@ fn copy_command<'a>(alloc: Global) -> Result<Command<'a>, AllocError>
     ensures local { IfOk result (λ c. (out-Command c).has_globals ≡ false) }
 {
     let boot = Arg::new(alloc, "boot").required(true);
-    Command::new(alloc, "copy")
-        .arg(boot)?
-        .arg(file_argument(alloc))
+    let copies = with_argument(Ok(Command::new(alloc, "copy")), boot);
+    with_argument(copies, file_argument(alloc))
 }
 
 // The command line without its subcommands.
@@ -57,8 +56,9 @@ fn told_command<'a>(alloc: Global) -> Result<Command<'a>, AllocError>
 fn command<'a>(alloc: Global) -> Result<Command<'a>, AllocError>
     ensures { IfOk result (λ c. app_of c ≡ boot_app) }
 {
-    let installs = with_file(alloc, told_command(alloc)?, "install")?;
-    with_file(alloc, installs, "clear")?.subcommand(copy_command(alloc)?)
+    let installs = with_file(alloc, told_command(alloc), "install");
+    let clears = with_file(alloc, installs, "clear");
+    with_subcommand(clears, copy_command(alloc))
 }
 
 // The request that a subcommand's name and matches are.

@@ -11,7 +11,7 @@ ghost use Rattle.adf_file_words.specs.DiskLine.{AreRefusedByDisk, AsksDisk, Asks
 
 use crate::file_argument::{file_argument, file_in, with_file};
 use crate::survey_line::number_named;
-use adf_words::{ArgsError, bare_command, first_text, matches_of};
+use adf_words::{ArgsError, bare_command, first_text, matches_of, with_argument, with_subcommand};
 use clap::{Arg, ArgMatches, Command};
 use std::alloc::{AllocError, Global};
 
@@ -46,16 +46,15 @@ fn volume_command<'a>(alloc: Global) -> Result<Command<'a>, AllocError>
     ensures local { IfOk result (λ c. (out-Command c).has_globals ≡ false) }
 {
     let name = Arg::new(alloc, "name").required(true);
-    Command::new(alloc, "volume")
-        .arg(name)?
-        .arg(file_argument(alloc))
+    let volumes = with_argument(Ok(Command::new(alloc, "volume")), name);
+    with_argument(volumes, file_argument(alloc))
 }
 
 // The subcommands `list` and `check`.
 fn lists_and_checks<'a>(alloc: Global) -> Result<Command<'a>, AllocError>
     ensures { IfOk result (λ c. app_of c ≡ lists_and_checks) }
 {
-    let lists = with_file(alloc, bare_command(alloc, "adf-disk"), "list")?;
+    let lists = with_file(alloc, Ok(bare_command(alloc, "adf-disk")), "list");
     with_file(alloc, lists, "check")
 }
 
@@ -63,8 +62,9 @@ fn lists_and_checks<'a>(alloc: Global) -> Result<Command<'a>, AllocError>
 fn command<'a>(alloc: Global) -> Result<Command<'a>, AllocError>
     ensures { IfOk result (λ c. app_of c ≡ disk_app) }
 {
-    let surveys = with_file(alloc, lists_and_checks(alloc)?, "survey")?;
-    with_file(alloc, surveys, "build")?.subcommand(volume_command(alloc)?)
+    let surveys = with_file(alloc, lists_and_checks(alloc), "survey");
+    let builds = with_file(alloc, surveys, "build");
+    with_subcommand(builds, volume_command(alloc))
 }
 
 // The partition that a text means.

@@ -1,11 +1,11 @@
 // The argument FILE, by clap.
 
 ghost use Rattle.std.specs.Prelude.{◌≡◌, IfOk, false, option_map};
-ghost use Rattle.clap.specs.Words.{app_of, found_of, rows_of, rule_of};
+ghost use Rattle.clap.specs.Words.{App, app_of, found_of, rows_of, rule_of};
 ghost use Rattle.clap.specs.declared.builder.command.Command.TheViews.{out-Command};
 ghost use Rattle.adf_file_words.specs.FileArgument.{file_app, file_in, file_rule, with_file};
 
-use adf_words::first_text;
+use adf_words::{first_text, with_subcommand};
 use clap::{Arg, ArgMatches, Command};
 use std::alloc::{AllocError, Global};
 
@@ -28,12 +28,13 @@ pub(crate) fn file_command<'a>(alloc: Global, name: &'a str) -> Result<Command<'
 // The command line with one more subcommand, whose argument is FILE.
 pub(crate) fn with_file<'a>(
     alloc: Global,
-    command: Command<'a>,
+    command: Result<Command<'a>, AllocError>,
     name: &'a str,
 ) -> Result<Command<'a>, AllocError>
-    ensures { IfOk result (λ c. app_of c ≡ with_file (app_of command.entry) name.entry.now) }
+    ensures { (a : App) → IfOk command.entry (λ c. app_of c ≡ a)
+        → IfOk result (λ c. app_of c ≡ with_file a name.entry.now) }
 {
-    command.subcommand(file_command(alloc, name)?)
+    with_subcommand(command, file_command(alloc, name))
 }
 
 // The file that matches name, if any.

@@ -7,7 +7,7 @@ ghost use Rattle.adf_words.specs.declared.command_line.ArgsError.TheVariants.{Us
 ghost use Rattle.adf_file_words.specs.ShelfLine.{AsksShelf, ExplainsShelfArgs, AreRefusedByShelf, order_in, shelf_app};
 ghost use Rattle.adf_file_words.specs.ShelfLine.{shelf_order};
 
-use adf_words::{ArgsError, has_flag, matches_of};
+use adf_words::{ArgsError, has_flag, matches_of, with_argument};
 use clap::{Arg, ArgAction, ArgMatches, Command};
 use std::alloc::{AllocError, Global};
 use std::marker::Model;
@@ -47,7 +47,9 @@ fn command<'a>(alloc: Global) -> Result<Command<'a>, AllocError>
         .action(ArgAction::SetTrue);
     let files = Arg::new(alloc, "files").action(ArgAction::Append);
     let bare = Command::new(alloc, "adf-shelf").disable_help_flag(true);
-    bare.arg(null)?.arg(any_type)?.arg(files)
+    let nulls = with_argument(Ok(bare), null);
+    let types = with_argument(nulls, any_type);
+    with_argument(types, files)
 }
 
 // The values of an argument.

@@ -15,6 +15,7 @@ use crate::file_argument::{file_argument, file_in};
 use adf_blocks::MOST_BLOCKS;
 use adf_words::{
     ArgsError, bare_command, cat_command, first_text, has_flag, list_flag, matches_of,
+    with_argument, with_subcommand,
 };
 use clap::{Arg, ArgAction, ArgMatches, Command};
 use std::alloc::{AllocError, Global};
@@ -51,10 +52,9 @@ fn flagged<'a>(alloc: Global) -> Result<Command<'a>, AllocError>
     ensures { IfOk result (λ c. app_of c ≡ flagged_survey) }
 {
     let blocks = Arg::new(alloc, "blocks").long("blocks");
-    bare_command(alloc, "adf-survey")
-        .arg(blocks)?
-        .arg(list_flag(alloc))?
-        .arg(file_argument(alloc))
+    let numbered = with_argument(Ok(bare_command(alloc, "adf-survey")), blocks);
+    let listed = with_argument(numbered, list_flag(alloc));
+    with_argument(listed, file_argument(alloc))
 }
 
 // The command `cat [--damaged] PATH [FILE]`.
@@ -65,7 +65,8 @@ fn survey_cat_command<'a>(alloc: Global) -> Result<Command<'a>, AllocError>
     let damaged = Arg::new(alloc, "damaged")
         .long("damaged")
         .action(ArgAction::SetTrue);
-    cat_command(alloc)?.arg(damaged)?.arg(file_argument(alloc))
+    let cats = with_argument(cat_command(alloc), damaged);
+    with_argument(cats, file_argument(alloc))
 }
 
 // The command `rescue [--keep-type] [FILE]`.
@@ -76,18 +77,16 @@ fn survey_rescue_command<'a>(alloc: Global) -> Result<Command<'a>, AllocError>
     let keep_type = Arg::new(alloc, "keep_type")
         .long("keep-type")
         .action(ArgAction::SetTrue);
-    Command::new(alloc, "rescue")
-        .arg(keep_type)?
-        .arg(file_argument(alloc))
+    let rescues = with_argument(Ok(Command::new(alloc, "rescue")), keep_type);
+    with_argument(rescues, file_argument(alloc))
 }
 
 // The command line.
 fn command<'a>(alloc: Global) -> Result<Command<'a>, AllocError>
     ensures { IfOk result (λ c. app_of c ≡ survey_app) }
 {
-    flagged(alloc)?
-        .subcommand(survey_cat_command(alloc)?)?
-        .subcommand(survey_rescue_command(alloc)?)
+    let cats = with_subcommand(flagged(alloc), survey_cat_command(alloc));
+    with_subcommand(cats, survey_rescue_command(alloc))
 }
 
 // The number that a text is: decimal digits, up to the blocks of the largest volume.

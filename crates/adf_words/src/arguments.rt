@@ -1,7 +1,8 @@
 // What the command lines of the programs share, by clap.
 
 ghost use Rattle.std.specs.Prelude.{◌≡◌, [], IfErr, IfOk, codes, false, option_map, true};
-ghost use Rattle.clap.specs.Words.{HasMatchesOf, app_of, fault_of, first_of, found_of, is_simple_and_free, rows_of, rule_of};
+ghost use Rattle.clap.specs.Words.{App, HasMatchesOf, Rule, app_of, fault_of, first_of, found_of};
+ghost use Rattle.clap.specs.Words.{is_simple_and_free, rows_of, rule_of, with_rule, with_subcommand};
 ghost use Rattle.clap.specs.declared.builder.command.Command.TheViews.{out-Command};
 ghost use Rattle.adf_words.specs.Arguments.{bare_app, cat_app, is_text, list_rule};
 ghost use Rattle.adf_words.specs.CommandLine.{texts_of};
@@ -19,6 +20,34 @@ pub fn bare_command<'a>(alloc: Global, name: &'a str) -> Command<'a>
     Command::new(alloc, name)
         .disable_help_flag(true)
         .disable_help_subcommand(true)
+}
+
+/// A command with one more subcommand. Fails if there is no command or no subcommand, or if an allocation failed.
+pub fn with_subcommand<'a>(
+    command: Result<Command<'a>, AllocError>,
+    subcommand: Result<Command<'a>, AllocError>,
+) -> Result<Command<'a>, AllocError>
+    ensures { (a s : App) → IfOk command.entry (λ c. app_of c ≡ a)
+        → IfOk subcommand.entry (λ c. app_of c ≡ s)
+        → IfOk subcommand.entry (λ c. (out-Command c).has_globals ≡ false)
+        → IfOk result (λ c. app_of c ≡ with_subcommand a s.top) }
+{
+    command?.subcommand(subcommand?)
+}
+
+/// A command with one more argument. Fails if there is no command, or if an allocation failed.
+pub fn with_argument<'a>(
+    command: Result<Command<'a>, AllocError>,
+    argument: Arg<'a>,
+) -> Result<Command<'a>, AllocError>
+    ensures app { (a : App) (r : Rule) → IfOk command.entry (λ c. app_of c ≡ a)
+        → rule_of argument.entry ≡ r → argument.entry.global ≡ false
+        → IfOk result (λ c. app_of c ≡ with_rule a r) }
+    ensures local { IfOk command.entry (λ c. (out-Command c).has_globals ≡ false)
+        → argument.entry.global ≡ false
+        → IfOk result (λ c. (out-Command c).has_globals ≡ false) }
+{
+    command?.arg(argument)
 }
 
 /// The command `cat PATH`. Fails if an allocation failed.

@@ -6,7 +6,9 @@ ghost use Rattle.clap.specs.declared.builder.command.Command.TheViews.{out-Comma
 ghost use Rattle.adf_words.specs.CommandLine.{AsksFor, ExplainsArgs, AreRefused, adf_app, request_value, build, build_app, cat, check, convert, convert_app, list, met, plain_app, request_named, texts_of, with_plain};
 ghost use Rattle.adf_words.specs.declared.command_line.ArgsError.TheVariants.{Usage};
 
-use crate::arguments::{bare_command, cat_command, first_text, has_flag, list_flag, matches_of};
+use crate::arguments::{
+    bare_command, cat_command, first_text, has_flag, list_flag, matches_of, with_subcommand,
+};
 use adf_names::Kind;
 use clap::{Arg, ArgMatches, Command};
 use std::alloc::{AllocError, Global};
@@ -94,10 +96,9 @@ fn plain_command<'a>(alloc: Global) -> Result<Command<'a>, AllocError>
 fn command<'a>(alloc: Global) -> Result<Command<'a>, AllocError>
     ensures { IfOk result (λ c. app_of c ≡ adf_app) }
 {
-    plain_command(alloc)?
-        .subcommand(cat_command(alloc)?)?
-        .subcommand(build_command(alloc)?)?
-        .subcommand(convert_command(alloc)?)
+    let cats = with_subcommand(plain_command(alloc), cat_command(alloc));
+    let builds = with_subcommand(cats, build_command(alloc));
+    with_subcommand(builds, convert_command(alloc))
 }
 
 // The request that a subcommand's name and matches are.

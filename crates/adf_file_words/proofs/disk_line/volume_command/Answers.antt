@@ -1,8 +1,7 @@
 use Rattle.std.proofs.Common.{◌≡◌, ◌∙◌, ap, true}
-use Rattle.std.proofs.lemmas.Result.{IfOk-weaker}
 use Rattle.clap.specs.Words.{Rule, rule_of}
 use Rattle.clap.specs.declared.builder.arg.Arg.{Arg}
-use Rattle.adf_words.proofs.CommandLines.{argument_added}
+use Rattle.adf_file_words.specs.FileArgument.{file_rule}
 use Rattle.adf_file_words.specs.DiskLine.{name_rule}
 use Rattle.adf_file_words.proofs.disk_line.volume_command.Goals as goal
 
@@ -11,5 +10,10 @@ returns-clause-app c =
     let needed : Rule → Rule = λ r. record r { required = true } in
     let rule : rule_of c.required-name.result ≡ name_rule = ap rule_of c.required-name.ensures ∙ ap needed c.new.ensures.rule in
     let local = ap (λ (a : Arg). a.global) c.required-name.ensures ∙ c.new.ensures.optional.1 in
-    let one = argument_added _ _ _ _ c.new-2.ensures.app rule local _ c.in_ok-arg.ensures in
-    IfOk-weaker c.arg-2.result _ _ (argument_added _ _ _ _ one c.file_argument.ensures.rule c.file_argument.ensures.local) c.arg-2.ensures
+    let one = c.with_argument-volumes.ensures.app _ name_rule c.new-2.ensures.app rule local in
+    c.with_argument.ensures.app _ file_rule one c.file_argument.ensures.rule c.file_argument.ensures.local
+
+pub returns-clause-local : goal.returns-clause-local
+returns-clause-local c =
+    let local = ap (λ (a : Arg). a.global) c.required-name.ensures ∙ c.new.ensures.optional.1 in
+    c.with_argument.ensures.local (c.with_argument-volumes.ensures.local c.new-2.ensures.local local) c.file_argument.ensures.local

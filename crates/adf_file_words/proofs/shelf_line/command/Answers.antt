@@ -1,10 +1,8 @@
 use Rattle.std.proofs.Common.{◌≡◌, ◌∙◌, Bool, Some, ap, codes, true}
-use Rattle.std.proofs.lemmas.Result.{IfOk-weaker}
 use Rattle.clap.specs.Simple.{app_of_fields}
 use Rattle.clap.specs.Words.{App, Rule, app_of, rule_of}
 use Rattle.clap.specs.declared.builder.action.ArgAction.TheVariants.{Append, SetTrue}
 use Rattle.clap.specs.declared.builder.arg.Arg.{Arg}
-use Rattle.adf_words.proofs.CommandLines.{argument_added}
 use Rattle.adf_file_words.specs.ShelfLine.{any_type_rule, bare_shelf, files_rule, null_rule}
 use Rattle.adf_file_words.proofs.shelf_line.command.Goals as goal
 
@@ -26,6 +24,6 @@ returns c =
     let null_local = ap global c.action-null.ensures ∙ (ap global c.long.ensures ∙ c.new.ensures.optional.1) in
     let any_local = ap global c.action-any_type.ensures ∙ (ap global c.long-2.ensures ∙ c.new-2.ensures.optional.1) in
     let files_local = ap global c.action-files.ensures ∙ c.new-3.ensures.optional.1 in
-    let one = argument_added _ _ _ _ bare null null_local _ c.in_ok-arg.ensures in
-    let two = argument_added _ _ _ _ one any_type any_local _ c.in_ok-arg-2.ensures in
-    IfOk-weaker c.arg-3.result _ _ (argument_added _ _ _ _ two files files_local) c.arg-3.ensures
+    let one = c.with_argument-nulls.ensures.app _ null_rule bare null null_local in
+    let two = c.with_argument-types.ensures.app _ any_type_rule one any_type any_local in
+    c.with_argument.ensures.app _ files_rule two files files_local

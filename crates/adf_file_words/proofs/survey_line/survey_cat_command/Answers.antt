@@ -1,9 +1,8 @@
 use Rattle.std.proofs.Common.{◌≡◌, ◌∙◌, Bool, Some, ap, codes}
-use Rattle.std.proofs.lemmas.Result.{IfOk-weaker}
 use Rattle.clap.specs.Words.{Rule, rule_of}
 use Rattle.clap.specs.declared.builder.action.ArgAction.TheVariants.{SetTrue}
 use Rattle.clap.specs.declared.builder.arg.Arg.{Arg}
-use Rattle.adf_words.proofs.CommandLines.{argument_added}
+use Rattle.adf_file_words.specs.FileArgument.{file_rule}
 use Rattle.adf_file_words.specs.SurveyLine.{damaged_rule}
 use Rattle.adf_file_words.proofs.survey_line.survey_cat_command.Goals as goal
 
@@ -15,5 +14,11 @@ returns-clause-app c =
     ap rule_of c.action-damaged.ensures ∙ ap set (ap rule_of c.long.ensures ∙ ap named c.new.ensures.rule) in
     let global : Arg → Bool = λ a. a.global in
     let local = ap global c.action-damaged.ensures ∙ (ap global c.long.ensures ∙ c.new.ensures.optional.1) in
-    let one = argument_added _ _ _ _ c.in_ok-cat_command.ensures.app rule local _ c.in_ok-arg.ensures in
-    IfOk-weaker c.arg-2.result _ _ (argument_added _ _ _ _ one c.file_argument.ensures.rule c.file_argument.ensures.local) c.arg-2.ensures
+    let one = c.with_argument-cats.ensures.app _ damaged_rule c.cat_command.ensures.app rule local in
+    c.with_argument.ensures.app _ file_rule one c.file_argument.ensures.rule c.file_argument.ensures.local
+
+pub returns-clause-local : goal.returns-clause-local
+returns-clause-local c =
+    let global : Arg → Bool = λ a. a.global in
+    let local = ap global c.action-damaged.ensures ∙ (ap global c.long.ensures ∙ c.new.ensures.optional.1) in
+    c.with_argument.ensures.local (c.with_argument-cats.ensures.local c.cat_command.ensures.local local) c.file_argument.ensures.local
