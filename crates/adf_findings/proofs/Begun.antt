@@ -14,7 +14,7 @@ use Rattle.adf_volume.specs.Image.{root_of}
 use Rattle.adf_volume.specs.Positions.{before_page}
 use Rattle.adf_volume.specs.Walk.Role.{Root}
 use Rattle.adf_volume.proofs.PositionSteps.{with_root}
-use Rattle.adf_findings.specs.declared.part.Part.TheVariants.{Root as RootPart}
+use Rattle.adf_volume.specs.declared.part.Part.TheVariants.{Root as RootPart}
 use Rattle.adf_findings.specs.declared.found.Found.{Found}
 use Rattle.adf_findings.specs.declared.progress.Progress.{Progress}
 use Rattle.adf_findings.specs.Survey.{FindingValue, IsCourse, begun}

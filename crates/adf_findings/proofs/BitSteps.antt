@@ -16,7 +16,7 @@ use Rattle.adf_volume.proofs.Roles.{has_role, same_refl}
 use Rattle.adf_findings.specs.declared.found.Found.{Found}
 use Rattle.adf_findings.specs.Survey.{BitsTell, Course, FindingValue, IsCourse, IsUnexcused, IsValidated, finding, is_cache}
 use Rattle.adf_findings.specs.Survey.BitsTell.{agrees, differs, ends}
-use Rattle.adf_findings.specs.declared.part.Finding.{Finding}
+use Rattle.adf_findings.specs.declared.finding.Finding.{Finding}
 use Rattle.adf_findings.specs.Parts.{finding_value}
 use Rattle.adf_findings.specs.Forms.{Tells}
 use Rattle.adf_findings.specs.Bits.{IsBitCompared, IsPageCompared}

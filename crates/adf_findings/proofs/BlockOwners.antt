@@ -7,13 +7,13 @@ use Rattle.std.proofs.lemmas.Bool.Decides.{eqb_tells}
 use Rattle.std.proofs.lemmas.Grind.{common_steps}
 use Rattle.adf_volume.specs.declared.owner.Owner.{Owner}
 use Rattle.adf_walk.specs.Owners.{owner_at}
-use Rattle.adf_findings.specs.WalkOwners.{entry_of}
+use Rattle.adf_volume.specs.Parts.{entry_of}
 use Rattle.adf_volume.specs.Walk.{Role, Asks, Has, Walk}
 use Rattle.adf_volume.specs.Walk.Role.{Head, Ext, Data}
 use Rattle.adf_volume.proofs.Gathered.{IsGathered, asked_file, number_of}
 use Rattle.adf_volume.proofs.Gathered.IsGathered.{start, step}
 use Rattle.adf_volume.proofs.Roles.{asks_number}
-use Rattle.adf_findings.specs.declared.part.Finding.{Finding}
+use Rattle.adf_findings.specs.declared.finding.Finding.{Finding}
 use Rattle.adf_findings.specs.Concerned.{owner_of, is_taken}
 use Rattle.adf_findings.specs.Found.{data_number, entry_in, number_at, owner}
 use Rattle.adf_findings.specs.Parts.{finding_value}

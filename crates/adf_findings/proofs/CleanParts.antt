@@ -5,7 +5,7 @@ use Rattle.std.proofs.Common.{Bool, true, false, ◌&&◌, Option, Some, None, �
 use Rattle.std.specs.Option.{is_none}
 use Rattle.adf_blocks.specs.declared.cause.Cause.{Cause}
 use Rattle.adf_blocks.specs.Forms.{first_cause}
-use Rattle.adf_findings.specs.declared.part.Part.{Part}
+use Rattle.adf_volume.specs.declared.part.Part.{Part}
 use Rattle.adf_findings.specs.declared.judge.Facts.{Facts}
 use Rattle.adf_findings.specs.Survey.JudgementValue.{clean}
 use Rattle.adf_findings.specs.Forms.{first_failing, first_of_five, form_of, in_range, judged_by, keeps}

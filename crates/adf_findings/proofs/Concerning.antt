@@ -8,7 +8,7 @@ use Rattle.adf_volume.specs.Walk.{Lacks, Walk}
 use Rattle.adf_volume.specs.Walk.Role.{Head}
 use Rattle.adf_findings.specs.declared.found.Found.{Found}
 use Rattle.adf_findings.specs.declared.concern.Concern.{Concern}
-use Rattle.adf_findings.specs.declared.part.Finding.{Finding}
+use Rattle.adf_findings.specs.declared.finding.Finding.{Finding}
 use Rattle.adf_findings.specs.Concerned.{concern_of_nth, concern_with}
 use Rattle.adf_findings.specs.Found.{Stands, at_role}
 use Rattle.adf_findings.specs.Marks.{blamed, is_header}

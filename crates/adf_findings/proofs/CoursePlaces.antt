@@ -17,7 +17,7 @@ use Rattle.adf_volume.proofs.Pointers.{ext_asks, ext_ends, link_asks, link_ends}
 use Rattle.adf_volume.proofs.PositionSteps.{chain_broken, end_chain, end_datas, end_exts, end_node, end_nodes, enter_dir, enter_file}
 use Rattle.adf_volume.proofs.PositionSteps.{exts_broken, no_exts}
 use Rattle.adf_volume.proofs.Roles.{count_own, dir_is_node, dir_up, member_up, typed_up}
-use Rattle.adf_findings.specs.declared.part.Part.TheVariants.{Head as HeadPart, Ext as ExtPart, Data as DataPart}
+use Rattle.adf_volume.specs.declared.part.Part.TheVariants.{Head as HeadPart, Ext as ExtPart, Data as DataPart}
 use Rattle.adf_findings.specs.declared.course.Due.{Due}
 use Rattle.adf_findings.specs.declared.course.FileTable.{FileTable}
 use Rattle.adf_findings.specs.declared.progress.Progress.{Progress}

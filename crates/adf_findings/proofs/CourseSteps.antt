@@ -14,8 +14,9 @@ use Rattle.adf_walk.specs.Owners.{is_part}
 use Rattle.adf_findings.specs.WalkOwners.{HasNumber, node_after}
 use Rattle.adf_volume.proofs.Gathered.{IsGathered}
 use Rattle.adf_volume.proofs.PositionSteps.{not_skipped, not_taken, past_skipped, past_taken, same_behind, same_position}
-use Rattle.adf_volume.proofs.Roles.{asks_number, renumbered, renumbered_same}
-use Rattle.adf_findings.specs.declared.part.Part.{Part, TheVariants.Head as HeadPart}
+use Rattle.adf_volume.proofs.Roles.{asks_number, renumbered_same}
+use Rattle.adf_volume.specs.Parts.{renumbered, role_of}
+use Rattle.adf_volume.specs.declared.part.Part.{Part, TheVariants.Head as HeadPart}
 use Rattle.adf_findings.specs.declared.course.Due.{Due}
 use Rattle.adf_findings.specs.declared.course.Reference.{Reference}
 use Rattle.adf_findings.specs.declared.forms.Context.{Context}
@@ -24,7 +25,6 @@ use Rattle.adf_findings.specs.declared.found.Found.{Found}
 use Rattle.adf_findings.specs.declared.progress.Progress.{Progress}
 use Rattle.adf_findings.specs.Survey.{Course}
 use Rattle.adf_findings.specs.Forms.{IsContext, Knows, Tells}
-use Rattle.adf_findings.specs.Parts.{role_of}
 use Rattle.adf_findings.specs.Demands.{uppers_in}
 use Rattle.adf_findings.specs.Found.{AreNamed, IsChain, IsKept, IsNextPart, IsTaken, KeepsName, Stands, has_name, is_owned, last_node}
 use Rattle.adf_findings.specs.Courses.{HasReachedPart, Holds, IsGoneOn, IsNamed, IsNextReference, IsOutcome, IsSkipped, IsToTake}

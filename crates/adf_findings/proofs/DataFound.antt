@@ -17,7 +17,8 @@ use Rattle.adf_findings.specs.Remains.{below, blocks_stated, bytes_left, data_be
 use Rattle.adf_findings.specs.Survey.{FindingValue, IsSurvey}
 use Rattle.adf_findings.specs.Survey.IsSurvey.{read, unread}
 use Rattle.adf_walk.specs.Owners.{owner_at}
-use Rattle.adf_findings.specs.WalkOwners.{data_number_of, entry_of}
+use Rattle.adf_findings.specs.WalkOwners.{data_number_of}
+use Rattle.adf_volume.specs.Parts.{entry_of}
 use Rattle.adf_findings.specs.SurveyResult.{SurveyValue, TellsOf}
 use Rattle.adf_findings.proofs.BlockOwners.{first_with, held_data}
 use Rattle.adf_findings.proofs.FileBlocks.{data_is}

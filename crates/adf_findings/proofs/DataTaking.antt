@@ -13,8 +13,8 @@ use Rattle.adf_volume.specs.declared.owner.Owner.TheVariants.{Free}
 use Rattle.adf_walk.specs.Owners.{is_part, owner_at}
 use Rattle.adf_blocks.specs.declared.layout.TheConstants.{FIRST_POINTER, POINTERS}
 use Rattle.adf_volume.specs.Image.{kind_of, word_in}
-use Rattle.adf_findings.specs.declared.part.Part.{Part}
-use Rattle.adf_findings.specs.declared.part.Part.TheVariants.{Data as DataPart}
+use Rattle.adf_volume.specs.declared.part.Part.{Part}
+use Rattle.adf_volume.specs.declared.part.Part.TheVariants.{Data as DataPart}
 use Rattle.adf_findings.specs.declared.course.FileTable.{FileTable}
 use Rattle.adf_findings.specs.declared.course.Reference.{Reference}
 use Rattle.adf_findings.specs.declared.found.Found.{Found}

@@ -7,7 +7,7 @@ use Rattle.adf_volume.specs.Lists.{In}
 use Rattle.adf_volume.specs.Walk.{Role, Walk}
 use Rattle.adf_volume.specs.Walk.Role.{Data, Ext, Head}
 use Rattle.adf_volume.proofs.Roles.{same_role}
-use Rattle.adf_findings.specs.declared.part.Finding.{Finding}
+use Rattle.adf_findings.specs.declared.finding.Finding.{Finding}
 use Rattle.adf_findings.specs.Files.{IsSoundFile, counting, grave, is_harmless, is_head, is_light}
 use Rattle.adf_findings.specs.Parts.{finding_value}
 use Rattle.adf_findings.specs.Sound.{IsUnreported}

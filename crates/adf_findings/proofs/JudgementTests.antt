@@ -21,8 +21,8 @@ use Rattle.adf_volume.specs.Image.{kind_of, name_of}
 use Rattle.adf_volume.specs.Walk.{Role, Enough, IsAbsent, Walk}
 use Rattle.adf_volume.specs.Walk.Role.{Page, Head, Data}
 use Rattle.adf_findings.specs.Demands.{NewNameIn, demands_in, form_demands_in, head_form_in}
-use Rattle.adf_findings.specs.declared.part.Part.{Part, TheVariants.Root as RootPart, TheVariants.Page as PagePart, TheVariants.MapExt as MapExtPart}
-use Rattle.adf_findings.specs.declared.part.Part.{TheVariants.Head as HeadPart, TheVariants.Ext as ExtPart, TheVariants.Data as DataPart}
+use Rattle.adf_volume.specs.declared.part.Part.{Part, TheVariants.Root as RootPart, TheVariants.Page as PagePart, TheVariants.MapExt as MapExtPart}
+use Rattle.adf_volume.specs.declared.part.Part.{TheVariants.Head as HeadPart, TheVariants.Ext as ExtPart, TheVariants.Data as DataPart}
 use Rattle.adf_findings.specs.declared.forms.Context.{Context}
 use Rattle.adf_findings.specs.declared.judge.Facts.{Facts}
 use Rattle.adf_findings.specs.Survey.{IsItself, Judged, JudgementValue, is_kept}
@@ -30,7 +30,7 @@ use Rattle.adf_findings.specs.Survey.JudgementValue.{clean, reported}
 use Rattle.adf_findings.specs.Found.{HasValidName}
 use Rattle.adf_findings.specs.Forms.{IsContext, Knows, Tells, data_clauses, first_failing, first_of_five, form_of, in_range, itself_by, judged_by}
 use Rattle.adf_findings.specs.Forms.{keeps, of_form}
-use Rattle.adf_findings.specs.Parts.{role_of}
+use Rattle.adf_volume.specs.Parts.{role_of}
 
 -- what fails first of the demands, or nothing
 abbrev pub FirstIs : List Demand → Option (ℕ × Cause) → Type 0

@@ -5,7 +5,7 @@ use Rattle.adf_blocks.specs.Forms.{first_cause}
 use Rattle.adf_volume.specs.Positions.{position_of}
 use Rattle.adf_volume.specs.Walk.{Walk}
 use Rattle.adf_findings.specs.Demands.{demands_in}
-use Rattle.adf_findings.specs.declared.part.Part.{Part}
+use Rattle.adf_volume.specs.declared.part.Part.{Part}
 use Rattle.adf_findings.specs.declared.course.Reference.{Reference}
 use Rattle.adf_findings.specs.declared.judge.Facts.{Facts}
 use Rattle.adf_findings.specs.declared.judge.Judgement.{Judgement}
@@ -14,7 +14,7 @@ use Rattle.adf_findings.specs.Survey.{Course, Judged, JudgementValue}
 use Rattle.adf_findings.specs.Survey.JudgementValue.{clean, reported}
 use Rattle.adf_findings.specs.Forms.{first_failing, form_of, in_range, itself_by, judged_by, judgement_value, keeps}
 use Rattle.adf_findings.specs.Found.{AreNamed, HasValidName, IsChain, is_owned, new_in}
-use Rattle.adf_findings.specs.Parts.{role_of}
+use Rattle.adf_volume.specs.Parts.{role_of}
 use Rattle.adf_findings.specs.Courses.{Holds, IsJudged, IsNamed, IsNextReference, role_asked}
 use Rattle.adf_findings.proofs.CourseSteps.{known, known_chain, known_named}
 use Rattle.adf_findings.proofs.JudgementTests.{itself_whole, judged, name_cause, no_cause, other_cause, valid_name}

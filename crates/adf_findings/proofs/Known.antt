@@ -14,7 +14,7 @@ use Rattle.adf_volume.specs.Positions.{position_of}
 use Rattle.adf_volume.specs.Walk.{Role, Enough, Has, IsAbsent, Walk}
 use Rattle.adf_volume.specs.Walk.Role.{Head}
 use Rattle.adf_findings.specs.Demands.{NewNameIn, uppers_in}
-use Rattle.adf_findings.specs.declared.part.Part.{Part, TheVariants.Head as HeadPart}
+use Rattle.adf_volume.specs.declared.part.Part.{Part, TheVariants.Head as HeadPart}
 use Rattle.adf_findings.specs.declared.judge.Facts.{Facts}
 use Rattle.adf_findings.specs.declared.found.Found.{Found}
 use Rattle.adf_findings.specs.Survey.{Course}
@@ -23,7 +23,7 @@ use Rattle.adf_findings.proofs.WalkOwners.{owned_is}
 use Rattle.adf_findings.specs.Found.{is_owned, AreNamed, HasValidName, IsChain, KeepsName, Stands}
 use Rattle.adf_findings.proofs.WalkOwners.{owned_is}
 use Rattle.adf_findings.specs.Found.{is_owned, has_name, is_named, known_at, new_in, owns}
-use Rattle.adf_findings.specs.Parts.{role_of}
+use Rattle.adf_volume.specs.Parts.{role_of}
 use Rattle.adf_findings.proofs.Names.{other_name}
 
 pub tells_absent : (w : Walk) (b : ℕ) → Tells (not (owns w b)) (IsAbsent w b)

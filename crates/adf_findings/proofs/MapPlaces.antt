@@ -10,7 +10,7 @@ use Rattle.adf_volume.specs.Walk.Role.{Page, MapExt}
 use Rattle.adf_volume.proofs.MemberFacts.{names_up}
 use Rattle.adf_volume.proofs.Pointers.{behind_map_ext, behind_page, map_ext_asks, map_ext_next, names_first, next_holder}
 use Rattle.adf_volume.proofs.PositionSteps.{end_map, map_broken}
-use Rattle.adf_findings.specs.declared.part.Part.TheVariants.{Page as PagePart, MapExt as MapExtPart}
+use Rattle.adf_volume.specs.declared.part.Part.TheVariants.{Page as PagePart, MapExt as MapExtPart}
 use Rattle.adf_findings.specs.declared.progress.Progress.{Progress}
 use Rattle.adf_findings.specs.Survey.{Course}
 use Rattle.adf_findings.specs.Courses.{HasReachedPage, Holds, IsGoneOn, IsNamed, IsPageNamed, due_below}

@@ -6,8 +6,8 @@ use Rattle.adf_blocks.specs.declared.cause.Cause.{Cause}
 use Rattle.adf_volume.specs.Image.{letters_of}
 use Rattle.adf_volume.specs.Walk.{Role}
 use Rattle.adf_findings.specs.Demands.{demands_in}
-use Rattle.adf_findings.specs.declared.part.Part.{Part}
-use Rattle.adf_findings.specs.declared.part.Finding.{Finding}
+use Rattle.adf_volume.specs.declared.part.Part.{Part}
+use Rattle.adf_findings.specs.declared.finding.Finding.{Finding}
 use Rattle.adf_findings.specs.declared.course.Reference.{Reference}
 use Rattle.adf_findings.specs.declared.judge.Judgement.{Judgement, TheVariants.Clean, TheVariants.Reported, TheVariants.Skipped}
 use Rattle.adf_findings.specs.declared.found.Found.{Found}
@@ -17,7 +17,8 @@ use Rattle.adf_findings.specs.Survey.JudgementValue.{clean, reported, skipped}
 use Rattle.adf_findings.specs.Survey.IsCourse.{step}
 use Rattle.adf_findings.specs.Forms.{judgement_value}
 use Rattle.adf_findings.specs.Found.{IsBlockSkipped, Stands}
-use Rattle.adf_findings.specs.Parts.{role_of, finding_value}
+use Rattle.adf_findings.specs.Parts.{finding_value}
+use Rattle.adf_volume.specs.Parts.{role_of}
 use Rattle.adf_findings.specs.Courses.{IsNextReference, IsOutcome, KeepsNameBy, noted, role_asked}
 use Rattle.adf_volume.proofs.PartDemands.{part_holds_by}
 use Rattle.adf_findings.proofs.JudgementTests.{itself_holds}

@@ -19,7 +19,8 @@ use Rattle.adf_findings.specs.Sound.{IsSound, says_data_of}
 use Rattle.adf_findings.specs.Survey.{FindingValue, IsSurvey}
 use Rattle.adf_findings.specs.Survey.IsSurvey.{read, unread}
 use Rattle.adf_walk.specs.Owners.{owner_at}
-use Rattle.adf_findings.specs.WalkOwners.{entry_of, data_number_of}
+use Rattle.adf_findings.specs.WalkOwners.{data_number_of}
+use Rattle.adf_volume.specs.Parts.{entry_of}
 use Rattle.adf_findings.specs.SurveyResult.{SurveyValue, TellsOf}
 use Rattle.adf_findings.proofs.BlockOwners.{held_data}
 use Rattle.adf_findings.proofs.OneSurvey.{gathered}

@@ -17,7 +17,8 @@ use Rattle.adf_volume.specs.Walk.Role.{Root, Page, MapExt, Head, Ext, Data}
 use Rattle.adf_volume.proofs.DecidedAsks.{Asked, dec_asked}
 use Rattle.adf_volume.proofs.FitWalks.{dec_lacks, lacks_same, least, without}
 use Rattle.adf_volume.proofs.Lists.{in_left, in_right}
-use Rattle.adf_volume.proofs.Roles.{head_role, renumbered, renumbered_same, same_of}
+use Rattle.adf_volume.proofs.Roles.{head_role, renumbered_same, same_of}
+use Rattle.adf_volume.specs.Parts.{renumbered}
 use Rattle.adf_findings.specs.Demands.{demands_in}
 use Rattle.adf_findings.specs.Survey.{FindingValue, finding, JudgementValue, Judged, BootTells, RootJudged, RootTells, begun, is_other_type}
 use Rattle.adf_findings.specs.Survey.{Course, after, IsNext, IsCourse, IsDone, IsSurvey}

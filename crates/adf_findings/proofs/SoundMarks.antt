@@ -16,9 +16,10 @@ use Rattle.adf_volume.specs.Walk.Role.{Root, Head, Ext, Data}
 use Rattle.adf_volume.proofs.Gathered.{IsGathered, asks_one, head_block, number_of, numbered as has_number, one_block, one_head}
 use Rattle.adf_volume.proofs.Lists.{in_cases}
 use Rattle.adf_volume.proofs.OneFault.{number_is}
-use Rattle.adf_volume.proofs.Roles.{asks_number, dec_has, head_at, head_role, renumbered, renumbered_same, same_of, same_refl, same_role}
-use Rattle.adf_findings.specs.declared.part.Part.{Part, TheVariants.Head as HeadPart, TheVariants.Ext as ExtPart, TheVariants.Data as DataPart}
-use Rattle.adf_findings.specs.declared.part.Finding.{Finding}
+use Rattle.adf_volume.proofs.Roles.{asks_number, dec_has, head_at, head_role, renumbered_same, same_of, same_refl, same_role}
+use Rattle.adf_volume.specs.Parts.{renumbered}
+use Rattle.adf_volume.specs.declared.part.Part.{Part, TheVariants.Head as HeadPart, TheVariants.Ext as ExtPart, TheVariants.Data as DataPart}
+use Rattle.adf_findings.specs.declared.finding.Finding.{Finding}
 use Rattle.adf_findings.specs.declared.found.Found.{Found}
 use Rattle.adf_findings.specs.declared.concern.Concern.TheVariants.{Entry, Within}
 use Rattle.adf_findings.specs.Concerned.{node_of}

@@ -15,12 +15,12 @@ use Rattle.adf_walk.specs.Owners.{owned_count}
 use Rattle.adf_findings.proofs.WalkOwners.{count_more, free_is, owned_more, part_owns}
 use Rattle.adf_volume.specs.Walk.{Role, heads, head_count, node_block, node_block_of, Walk}
 use Rattle.adf_volume.specs.Walk.Role.{Root, Page, MapExt, Head, Ext, Data}
-use Rattle.adf_findings.specs.declared.part.Part.{Part, TheVariants.Root as RootPart, TheVariants.Page as PagePart, TheVariants.MapExt as MapExtPart}
-use Rattle.adf_findings.specs.declared.part.Part.{TheVariants.Head as HeadPart, TheVariants.Ext as ExtPart, TheVariants.Data as DataPart}
+use Rattle.adf_volume.specs.declared.part.Part.{Part, TheVariants.Root as RootPart, TheVariants.Page as PagePart, TheVariants.MapExt as MapExtPart}
+use Rattle.adf_volume.specs.declared.part.Part.{TheVariants.Head as HeadPart, TheVariants.Ext as ExtPart, TheVariants.Data as DataPart}
 use Rattle.adf_findings.specs.declared.found.ChainPlace.{ChainPlace}
 use Rattle.adf_findings.specs.declared.found.Found.{Found}
 use Rattle.adf_findings.specs.Survey.{Course, FindingValue}
-use Rattle.adf_findings.specs.Parts.{role_of}
+use Rattle.adf_volume.specs.Parts.{role_of}
 use Rattle.adf_findings.specs.Found.{AreAvoided, AreMarked, AreSame, IsKept, IsOwned, IsBlockSkipped, IsPut}
 use Rattle.adf_findings.specs.Found.{IsTaken, KeepsParts, Stands}
 use Rattle.adf_findings.specs.Found.{at_role, is_same, owns, parent_by, parent_node, places_of, with_mark, with_place}

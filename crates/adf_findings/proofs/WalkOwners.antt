@@ -13,7 +13,8 @@ use Rattle.adf_volume.specs.LayoutRoles.{owner_of}
 use Rattle.adf_volume.specs.Walk.{Role, Walk}
 use Rattle.adf_volume.specs.Walk.Role.{Root, Page, MapExt, Head, Ext, Data}
 use Rattle.adf_walk.specs.Owners.{is_part, owned_count, owner_at}
-use Rattle.adf_findings.specs.WalkOwners.{OwnersValue, data_number_of, entry_of, node_after}
+use Rattle.adf_findings.specs.WalkOwners.{OwnersValue, data_number_of, node_after}
+use Rattle.adf_volume.specs.Parts.{entry_of}
 use Rattle.adf_findings.specs.Found.{AreOwned, data_number, entry_in, number_at, owner, owner_by, owns}
 
 through : {X Y : Type 0} (f : X → Y) (t : Bool) (x y : X) → f (cond t x y) ≡ cond t (f x) (f y)

@@ -10,9 +10,9 @@ use Rattle.adf_volume.specs.Image.{table_word, word_in}
 use Rattle.adf_volume.specs.Positions.{Position, IsLink, IsPageHolder, IsUpTo, before_node, before_page, behind, position_of, word_of_page}
 use Rattle.adf_volume.specs.Walk.{Role, Asks, DirAt, Enough, FileAt, MemberAt, NamesPage, data_count, ext_count, heads, Walk}
 use Rattle.adf_volume.specs.Walk.Role.{Page, Head, Ext, Data}
-use Rattle.adf_volume.proofs.Roles.{renumbered}
-use Rattle.adf_findings.specs.declared.part.Part.{Part}
-use Rattle.adf_findings.specs.declared.part.Part.TheVariants.{Data as DataPart}
+use Rattle.adf_volume.specs.Parts.{renumbered, role_of}
+use Rattle.adf_volume.specs.declared.part.Part.{Part}
+use Rattle.adf_volume.specs.declared.part.Part.TheVariants.{Data as DataPart}
 use Rattle.adf_findings.specs.declared.course.Due.{Due}
 use Rattle.adf_findings.specs.declared.course.FileTable.{FileTable}
 use Rattle.adf_findings.specs.declared.course.Reference.{Reference}
@@ -23,7 +23,7 @@ use Rattle.adf_tree.specs.NameSet.{Names}
 use Rattle.adf_findings.specs.Demands.{demands_in}
 use Rattle.adf_findings.specs.Forms.{IsContext, Tells, judgement_value}
 use Rattle.adf_findings.specs.Survey.{Course, FindingValue, IsCourse, IsNext, Judged}
-use Rattle.adf_findings.specs.Parts.{finding_value, role_of}
+use Rattle.adf_findings.specs.Parts.{finding_value}
 use Rattle.adf_findings.specs.Found.{AreNamed, KeepsName, Stands, owns}
 
 -- the findings noted

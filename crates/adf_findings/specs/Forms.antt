@@ -17,16 +17,16 @@ use Rattle.adf_volume.specs.Image.{held, kind_of, word_in}
 use Rattle.adf_volume.specs.Walk.{Role, Enough, IsAbsent, next_data, node_block, Walk}
 use Rattle.adf_volume.specs.Walk.Role.{Head, Ext, Data}
 use Rattle.adf_findings.specs.Demands.{head_form_in}
-use Rattle.adf_findings.specs.declared.part.Part.{Part}
-use Rattle.adf_findings.specs.declared.part.Part.TheVariants.{Root as RootPart, Page as PagePart, MapExt as MapExtPart, Head as HeadPart}
-use Rattle.adf_findings.specs.declared.part.Part.TheVariants.{Ext as ExtPart, Data as DataPart}
+use Rattle.adf_volume.specs.declared.part.Part.{Part}
+use Rattle.adf_volume.specs.declared.part.Part.TheVariants.{Root as RootPart, Page as PagePart, MapExt as MapExtPart, Head as HeadPart}
+use Rattle.adf_volume.specs.declared.part.Part.TheVariants.{Ext as ExtPart, Data as DataPart}
 use Rattle.adf_findings.specs.declared.forms.Context.{Context}
 use Rattle.adf_findings.specs.declared.judge.Facts.{Facts}
 use Rattle.adf_findings.specs.declared.judge.Judgement.{Judgement}
 use Rattle.adf_findings.specs.declared.judge.Judgement.TheVariants.{Clean, Reported, Skipped}
 use Rattle.adf_findings.specs.Survey.{JudgementValue, is_kept}
 use Rattle.adf_findings.specs.Survey.JudgementValue.{clean, reported, skipped}
-use Rattle.adf_findings.specs.Parts.{role_of}
+use Rattle.adf_volume.specs.Parts.{role_of}
 
 -- the form of a data block; none for FFS
 abbrev pub data_clauses : Kind → ℕ → ℕ → ℕ → ℕ → List ℕ → List Clause

@@ -22,12 +22,12 @@ use Rattle.adf_volume.specs.Walk.Role.{Page, Head, Ext, Data}
 use Rattle.adf_walk.specs.Owners.{is_part, owned_count, owner_at}
 use Rattle.adf_findings.specs.WalkOwners.{HasNumber, OwnersValue, node_after}
 use Rattle.adf_findings.specs.Demands.{uppers_in}
-use Rattle.adf_findings.specs.declared.part.Part.{Part}
-use Rattle.adf_findings.specs.declared.part.Part.TheVariants.{Page as PagePart, Head as HeadPart}
+use Rattle.adf_volume.specs.declared.part.Part.{Part}
+use Rattle.adf_volume.specs.declared.part.Part.TheVariants.{Page as PagePart, Head as HeadPart}
 use Rattle.adf_findings.specs.declared.found.ChainPlace.{ChainPlace}
 use Rattle.adf_findings.specs.declared.found.Found.{Found}
 use Rattle.adf_findings.specs.Survey.{BitsTell, Course, FindingValue, IsCompared, IsCourse, IsDone}
-use Rattle.adf_findings.specs.Parts.{role_of}
+use Rattle.adf_volume.specs.Parts.{role_of}
 
 -- whether two roles have the same place in the order of roles
 abbrev pub is_same : Role → Role → Bool

@@ -9,7 +9,8 @@ use Rattle.adf_blocks.specs.Sizes.{blocks}
 use Rattle.adf_volume.specs.Image.{kind_of}
 use Rattle.adf_volume.specs.Walk.{node_block, Walk}
 use Rattle.adf_walk.specs.Owners.{owner_at}
-use Rattle.adf_findings.specs.WalkOwners.{entry_of, data_number_of}
+use Rattle.adf_findings.specs.WalkOwners.{data_number_of}
+use Rattle.adf_volume.specs.Parts.{entry_of}
 use Rattle.adf_findings.specs.declared.own_kind.Tally.{Tally}
 use Rattle.adf_findings.specs.Found.{number_at, owner}
 use Rattle.adf_findings.specs.Sound.{says_data_of}

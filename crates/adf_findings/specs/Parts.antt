@@ -1,21 +1,10 @@
--- Parts as roles, and findings.
+-- The roles and the values of findings.
 use Rattle.std.specs.Prelude.{Option, Some, None}
 use Rattle.adf_volume.specs.Walk.{Role}
-use Rattle.adf_volume.specs.Walk.Role.{Root, Page, MapExt, Head, Ext, Data}
-use Rattle.adf_findings.specs.declared.part.Part.{Part}
-use Rattle.adf_findings.specs.declared.part.Part.TheVariants.{Root as RootPart, Page as PagePart, MapExt as MapExtPart, Head as HeadPart}
-use Rattle.adf_findings.specs.declared.part.Part.TheVariants.{Ext as ExtPart, Data as DataPart}
-use Rattle.adf_findings.specs.declared.part.Finding.{Finding}
+use Rattle.adf_volume.specs.Parts.{role_of}
+use Rattle.adf_volume.specs.declared.part.Part.{Part}
+use Rattle.adf_findings.specs.declared.finding.Finding.{Finding}
 use Rattle.adf_findings.specs.Survey.{FindingValue}
-
--- the part as a role
-abbrev pub role_of : Part → Role
-role_of RootPart = Root
-role_of (PagePart i) = Page i
-role_of (MapExtPart j) = MapExt j
-role_of (HeadPart n p s j) = Head n p s j
-role_of (ExtPart n k) = Ext n k
-role_of (DataPart n k) = Data n k
 
 -- the role of a part, if there is one
 abbrev pub part_role : Option Part → Option Role

@@ -10,7 +10,8 @@ use Rattle.adf_volume.specs.Image.{held, kind_of, piece, word_in}
 use Rattle.adf_volume.specs.Walk.{node_block, Walk}
 use Rattle.adf_volume.specs.Walk.Role.{Data}
 use Rattle.adf_walk.specs.Owners.{owner_at}
-use Rattle.adf_findings.specs.WalkOwners.{entry_of, data_number_of}
+use Rattle.adf_findings.specs.WalkOwners.{data_number_of}
+use Rattle.adf_volume.specs.Parts.{entry_of}
 use Rattle.adf_findings.specs.declared.remains.Gap.{Gap}
 use Rattle.adf_findings.specs.Found.{at_role}
 use Rattle.adf_findings.specs.Files.{named_from}

@@ -8,11 +8,12 @@ use Rattle.std.specs.Ordering.{nat_cmp}
 use Rattle.adf_blocks.specs.declared.layout.TheConstants.{PAGE_BITS}
 use Rattle.adf_volume.specs.declared.owner.Owner.{Owner}
 use Rattle.adf_walk.specs.Owners.{is_part, owner_at}
-use Rattle.adf_findings.specs.WalkOwners.{entry_of, data_number_of}
+use Rattle.adf_findings.specs.WalkOwners.{data_number_of}
+use Rattle.adf_volume.specs.Parts.{entry_of}
 use Rattle.adf_volume.specs.Walk.{Has, heads, node_block, Walk}
 use Rattle.adf_volume.specs.Walk.Role.{Page}
 use Rattle.adf_findings.specs.declared.concern.Concern.{Concern}
-use Rattle.adf_findings.specs.declared.part.Finding.{Finding}
+use Rattle.adf_findings.specs.declared.finding.Finding.{Finding}
 use Rattle.adf_findings.specs.Concerned.{concern_of_nth, is_taken}
 use Rattle.adf_findings.specs.Files.{grave}
 use Rattle.adf_findings.specs.Found.{at_role, number_at, owner, owns, parent_node}

@@ -14,13 +14,6 @@ pub record OwnersValue : Type 0 where
   pub owners : List Owner
   pub node : ℕ
 
--- the entry that an owner is a part of; 0 of the root and the bitmap, and where there is none
-abbrev pub entry_of : Owner → ℕ
-entry_of (owner.Head n) = n
-entry_of (owner.Ext n k) = n
-entry_of (owner.Data n k) = n
-entry_of _ = 0
-
 -- the number of the data block that an owner is, from 1; 0 of others
 abbrev pub data_number_of : Owner → ℕ
 data_number_of (owner.Data n k) = k

@@ -12,9 +12,9 @@ ghost use Rattle.adf_findings.specs.Survey.{IsValidated, is_cache};
 ghost use Rattle.adf_findings.specs.Bits.{IsBitCompared, IsPageCompared};
 ghost use Rattle.adf_findings.specs.Found.{IsBitOf, IsCompleted, IsFinished, HasReportedOn, bit_cause, is_owned};
 
+use crate::finding::Finding;
 use crate::found::Found;
 use crate::image::Image;
-use crate::part::Finding;
 use crate::progress::note;
 use adf_base::NoMemory;
 use adf_blocks::{

@@ -8,17 +8,17 @@ ghost use Rattle.adf_blocks.specs.Sizes.{blocks, pages_needed};
 ghost use Rattle.adf_volume.specs.Image.{kind_of, root_of, table_word};
 ghost use Rattle.adf_volume.specs.Positions.{before_node, position_of, word_of_map_ext, word_of_page};
 ghost use Rattle.adf_findings.specs.Survey.{Course};
-ghost use Rattle.adf_findings.specs.Parts.{role_of};
+ghost use Rattle.adf_volume.specs.Parts.{role_of};
 ghost use Rattle.adf_findings.specs.Found.{IsFinished};
 ghost use Rattle.adf_findings.specs.Courses.{HasReached, HasReachedData, HasReachedFile, HasReachedPage, HasReachedPart};
 ghost use Rattle.adf_findings.specs.Courses.{HasReachedNamed, HasReachedSlot, Holds, IsGoneOn, IsJudged};
 ghost use Rattle.adf_findings.specs.Courses.{IsNamed, IsNextReference, IsOutcome, IsPageNamed, KeepsNameBy};
 ghost use Rattle.adf_findings.specs.Courses.{due_below, due_in, end_in, next_in, noted, table_block_in};
 
+use crate::finding::Finding;
 use crate::forms::Context;
 use crate::image::Image;
 use crate::judge::{Facts, Judgement, judge};
-use crate::part::{Finding, Part};
 use crate::progress::{Progress, note};
 use adf_base::NoMemory;
 use adf_blocks::{
@@ -27,6 +27,7 @@ use adf_blocks::{
     page_count,
 };
 use adf_tree::Kind;
+use adf_volume::Part;
 
 /// A part that is due, a header with any number; its context; and whether its file has enough extension blocks, which
 /// is asked with its first data block.

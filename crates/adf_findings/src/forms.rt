@@ -7,17 +7,16 @@ ghost use Rattle.adf_blocks.specs.Sizes.{blocks, chunk};
 ghost use Rattle.adf_volume.specs.Image.{held, kind_of};
 ghost use Rattle.adf_findings.specs.Demands.{head_form_in};
 ghost use Rattle.adf_findings.specs.Forms.{form_of, itself_by};
-ghost use Rattle.adf_findings.specs.Parts.{role_of};
+ghost use Rattle.adf_volume.specs.Parts.{role_of};
 
 use crate::image::Image;
-use crate::part::Part;
 use adf_base::Block;
 use adf_blocks::{
     Cause, HeadPlace, OWN_KEY, PARENT, SIZE, T_DATA, TYPE, chunk_len, has_data_words, has_ext_type,
     has_head_type, read_data, read_ext, read_head_at, read_page,
 };
 use adf_tree::Kind;
-use adf_volume::held_in;
+use adf_volume::{Part, held_in};
 
 /// The context of a part: the block of its directory or of its file's header, and the next data block.
 #[derive(Clone, Copy, PartialEq, Eq, Drop)]

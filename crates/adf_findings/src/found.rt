@@ -7,7 +7,7 @@ ghost use Rattle.adf_blocks.specs.Sizes.{blocks};
 ghost use Rattle.adf_tree.specs.NameSet.{has};
 ghost use Rattle.adf_volume.specs.Positions.{position_of};
 ghost use Rattle.adf_volume.specs.Walk.{Walk};
-ghost use Rattle.adf_findings.specs.Parts.{role_of};
+ghost use Rattle.adf_volume.specs.Parts.{role_of};
 ghost use Rattle.adf_findings.specs.Found.{AreNamed, AreSame, Stands, IsChain, IsKept, IsOwned, IsBlockSkipped};
 ghost use Rattle.adf_findings.specs.Found.{HasValidName, IsPut, IsTaken, IsNextPart, KeepsName, KeepsParts};
 ghost use Rattle.adf_findings.specs.Found.{begun_marks, is_owned, known_at, new_in};
@@ -15,10 +15,10 @@ ghost use Rattle.adf_findings.specs.Survey.{begun};
 
 use crate::header_name::valid_name;
 use crate::image::Image;
-use crate::part::Part;
 use crate::walk_owners::WalkOwners;
 use adf_base::NoMemory;
 use adf_tree::NameSet;
+use adf_volume::Part;
 use std::alloc::Global;
 use std::collections::BTreeMap;
 
@@ -125,6 +125,7 @@ impl Found {
     }
 
     // Makes a part the owner of block `b`.
+    #[tactic(auto, using(crate::proofs::WalkOwners::part_owns))]
     #[inline(always)]
     fn own(&mut self, part: Part, b: u32) -> Result<(), NoMemory>
         requires next { IsNextPart part b self.old }

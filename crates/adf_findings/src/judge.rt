@@ -7,8 +7,8 @@ ghost use Rattle.adf_findings.specs.Forms.{first_failing, form_of, in_range, jud
 
 use crate::forms::{Context, first_cause, is_itself};
 use crate::image::Image;
-use crate::part::Part;
 use adf_blocks::Cause;
+use adf_volume::Part;
 
 /// The judgement of a part: no cause; a cause, at a block, and still taken; a cause, and skipped.
 #[derive(Clone, Copy, PartialEq, Eq, Drop)]

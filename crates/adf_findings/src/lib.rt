@@ -5,6 +5,7 @@ mod bits;
 mod concern;
 mod course;
 mod file;
+mod finding;
 mod forms;
 mod found;
 mod free;
@@ -18,7 +19,6 @@ mod marks;
 mod opening;
 mod own_kind;
 mod owners;
-mod part;
 mod progress;
 mod remains;
 mod start;
@@ -28,6 +28,7 @@ mod walk_owners;
 
 pub use crate::concern::Concern;
 pub use crate::file::SoundFile;
+pub use crate::finding::Finding;
 pub use crate::laws::{
     all_sound, directories_first, findings_of_types, first_finding, fits_or_fault,
     found_as_in_the_tree, found_as_named, left_of_sound, no_finding, one_part, one_survey,
@@ -35,8 +36,7 @@ pub use crate::laws::{
 };
 pub use crate::opening::Opening;
 pub use crate::own_kind::{Tally, retype};
-pub use crate::part::{Finding, Part};
 pub use crate::remains::{Gap, Remains};
 pub use crate::survey_result::Survey;
 pub use crate::surveyor::survey;
-pub use adf_volume::Types;
+pub use adf_volume::{Part, Types};

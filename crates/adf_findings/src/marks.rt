@@ -11,14 +11,15 @@ ghost use Rattle.adf_findings.specs.Parts.{finding_value};
 ghost use Rattle.adf_findings.specs.Marks.{blamed, doubted, has_mark, is_blamed, is_doubted, is_header, is_node, is_undoubted};
 
 use crate::concern::Concern;
+use crate::finding::Finding;
 use crate::found::Found;
 use crate::image::Image;
 use crate::owners::{data_number_of, entry_of};
-use crate::part::{Finding, Part};
 use crate::survey_result::number_at;
 use adf_base::NoMemory;
 use adf_blocks::{Cause, T_DATA, TYPE};
 use adf_tree::Kind;
+use adf_volume::Part;
 use std::alloc::Global;
 
 // How many blocks are asked at once whether a file is in doubt by them.

@@ -4,9 +4,10 @@ ghost use Rattle.std.specs.Prelude.{◌≡◌, slice_get};
 ghost use Rattle.std.specs.Option.{option_and_then};
 ghost use Rattle.adf_findings.specs.Concerned.{is_taken};
 ghost use Rattle.adf_findings.specs.SurveyResult.{entry_at, owner_for};
-ghost use Rattle.adf_findings.specs.WalkOwners.{entry_of, data_number_of};
+ghost use Rattle.adf_findings.specs.WalkOwners.{data_number_of};
+ghost use Rattle.adf_volume.specs.Parts.{entry_of};
 
-use crate::part::Finding;
+use crate::finding::Finding;
 use crate::walk_owners::WalkOwners;
 use adf_blocks::Cause;
 use adf_tree::Node;

@@ -3,8 +3,8 @@
 ghost use Rattle.std.specs.Prelude.{◌≡◌, ◌∷◌, ◌++◌, [], OnOk, map};
 ghost use Rattle.adf_findings.specs.Parts.{finding_value};
 
+use crate::finding::Finding;
 use crate::found::Found;
-use crate::part::Finding;
 use adf_base::NoMemory;
 
 /// The progress of a survey: what is found, and the findings noted.

@@ -21,10 +21,10 @@ ghost use Rattle.adf_findings.specs.Survey.{OnSurvey};
 
 use crate::concern::Concern;
 use crate::file::SoundFile;
+use crate::finding::Finding;
 use crate::header_name::name_in;
 use crate::opening::Opening;
 use crate::owners::{data_number_of, entry_at, owner_nth};
-use crate::part::Finding;
 use crate::start::start;
 use crate::walk_owners::WalkOwners;
 use adf_base::{Block, Letters, NoMemory};

@@ -8,17 +8,17 @@ ghost use Rattle.adf_findings.specs.Survey.{BootTells, IsSurvey, RootTells, Unre
 
 use crate::bits::compare;
 use crate::course::run;
+use crate::finding::Finding;
 use crate::found::Found;
 use crate::image::Image;
 use crate::marks::{concerned, grave, strike_blamed, undoubted_marks};
-use crate::part::{Finding, Part};
 use crate::progress::{Progress, note};
 use crate::start::{Started, Unread, start};
 use crate::survey_result::Survey;
 use crate::walk_owners::WalkOwners;
 use adf_base::NoMemory;
 use adf_blocks::Cause;
-use adf_volume::Fault;
+use adf_volume::{Fault, Part};
 use std::alloc::Global;
 use std::collections::BTreeMap;
 

@@ -2,7 +2,8 @@
 
 ghost use Rattle.std.specs.Prelude.{◌≡◌, ◌≤◌, ◌<◌, ◌-◌, ◌^◌, ◌∷◌, ℕ, IfOk, IsTrue, OnOk, length, replicate, slice_set, true};
 ghost use Rattle.adf_walk.specs.Owners.{is_part, owner_at};
-ghost use Rattle.adf_findings.specs.WalkOwners.{HasNumber, entry_of, node_after};
+ghost use Rattle.adf_findings.specs.WalkOwners.{HasNumber, node_after};
+ghost use Rattle.adf_volume.specs.Parts.{entry_of};
 
 use crate::given_places::GivenPlaces;
 use adf_base::NoMemory;

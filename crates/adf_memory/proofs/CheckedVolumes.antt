@@ -10,10 +10,10 @@ use Rattle.adf_volume.specs.Fits.{FitsBy}
 use Rattle.adf_volume.specs.Layout.{Layout, owned}
 use Rattle.adf_volume.specs.Lists.{In}
 use Rattle.adf_volume.proofs.FitWalks.{one_fit}
-use Rattle.adf_walk.specs.OwnerClass.{class_of}
+use Rattle.adf_walk.specs.OwnerClass.{class_number, class_of}
 use Rattle.adf_walk.specs.declared.owner_class.OwnerClass.{OwnerClass, TheVariants.Free, TheVariants.Boot}
 use Rattle.adf_check.specs.Volumes.{StandsForBy, Volume}
-use Rattle.adf_memory.specs.OwnerNumbers.{IsOwnerNumber, class_number}
+use Rattle.adf_memory.specs.OwnerNumbers.{IsOwnerNumber}
 
 -- a checked volume stands for a tree and a layout, by letters ls
 abbrev pub StandsBy : Letters → Volume → Type 0

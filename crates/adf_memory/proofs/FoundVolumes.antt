@@ -13,7 +13,7 @@ use Rattle.adf_blocks.specs.declared.layout.TheConstants.{SECONDARY_TYPE, SIZE, 
 use Rattle.adf_blocks.specs.Sizes.{blocks, chunk, count}
 use Rattle.adf_build.specs.Plan.{data_blocks, entries_blocks}
 use Rattle.adf_build.proofs.FreeBlocks.{size_small}
-use Rattle.adf_walk.specs.OwnerClass.{class_of}
+use Rattle.adf_walk.specs.OwnerClass.{class_number}
 use Rattle.adf_walk.specs.declared.owner_class.OwnerClass.TheVariants as class
 use Rattle.adf_findings.specs.Remains.{data_found, size_stated}
 use Rattle.adf_findings.specs.Survey.{FindingValue, IsSurvey}
@@ -42,22 +42,13 @@ use Rattle.adf_memory.specs.declared.found_files.TheConstants.{NO_BLOCK}
 use Rattle.adf_memory.specs.declared.tables.TableEntry.{TableEntry}
 use Rattle.adf_memory.specs.Areas.{AreDatasOf, bytes_from}
 use Rattle.adf_memory.specs.FoundFiles.{file_blocks, file_size, found_blocks, found_from, lost_from, missing}
-use Rattle.adf_memory.specs.FoundRoles.{IsFoundRole, role_class}
-use Rattle.adf_memory.specs.OwnerNumbers.{IsOwnerNumber, class_number, owner_number}
+use Rattle.adf_memory.specs.FoundRoles.{IsFoundRole}
+use Rattle.adf_memory.specs.OwnerNumbers.{IsOwnerNumber, owner_number}
 use Rattle.adf_memory.specs.Tables.{bytes_at, bytes_in, table_entry}
 use Rattle.adf_memory.proofs.Filled.{drop_zero}
 use Rattle.adf_memory.proofs.FoundGaps.{both}
 use Rattle.adf_memory.proofs.FoundReadings.{none_behind}
 use Rattle.adf_memory.proofs.Readings.{are_in, file_read, told_read}
-
--- a part is of the class of its owner
-class_is : (r : Role) → role_class r ≡ class_of (owner_of r)
-class_is Root = refl
-class_is (Page i) = refl
-class_is (MapExt j) = refl
-class_is (Head n p s j) = refl
-class_is (Ext n k) = refl
-class_is (Data n k) = refl
 
 -- a list by the members at its places
 listed : (ds : List ℕ) (g : ℕ → ℕ) (j : ℕ) → ((i b : ℕ) → At ds i b → g (j + i) ≡ b) → map g (range_with_len j (length ds)) ≡ ds
@@ -212,7 +203,7 @@ module _ (image : List ℕ) (w : Walk) (fs : List FindingValue) (survey : IsSurv
     part = (λ letters u m o other h.
         let plain = as_plain t l fit letters u m other in
         let q = owned_part Ascii image u m plain.places o b h in
-        number ∙ ap class_number (is.part q.0 (has_part u m plain q.0 b q.1) ∙ class_is q.0) ∙ ap owner_number (sym q.2));
+        number ∙ ap class_number (is.part q.0 (has_part u m plain q.0 b q.1)) ∙ ap owner_number (sym q.2));
     boot = (λ low.
         let none : (q : Role) → Has w q b → ⊥ = (λ q h. let x = part_range image t l fit q b (is_part t l fit q b h) in absurd (omega arith)) in
         number ∙ ap class_number (is.none none ∙ sym (cond_below b 2 class.Boot class.Free low)));

@@ -4,17 +4,12 @@ use Rattle.std.specs.Prelude.{◌≡◌, ℕ, cond, nat_lt}
 use Rattle.adf_walk.specs.declared.owner_class.OwnerClass.{OwnerClass}
 use Rattle.adf_walk.specs.declared.owner_class.OwnerClass.TheVariants as class
 use Rattle.adf_volume.specs.Walk.{Role, Has, Walk}
-use Rattle.adf_volume.specs.Walk.Role.{Root, Page, MapExt, Head, Ext, Data}
-use Rattle.adf_memory.specs.OwnerNumbers.{class_number}
+use Rattle.adf_volume.specs.LayoutRoles.{owner_of}
+use Rattle.adf_walk.specs.OwnerClass.{class_number, class_of}
 
 -- the class of the owner that a part is
 abbrev pub role_class : Role → OwnerClass
-role_class Root = class.Root
-role_class (Page i) = class.Page
-role_class (MapExt j) = class.MapExt
-role_class (Head n p s j) = class.Head
-role_class (Ext n k) = class.Ext
-role_class (Data n k) = class.Data
+role_class r = class_of (owner_of r)
 
 -- c is the class of block b's owner: of the part that has it, else of the boot blocks or of the free ones
 pub record IsFoundClass (w : Walk) (b : ℕ) (c : OwnerClass) : Type 0 where

@@ -7,20 +7,7 @@ use Rattle.adf_volume.specs.declared.owner.Owner.TheVariants as owner
 use Rattle.adf_volume.specs.Fits.{FitsBy}
 use Rattle.adf_volume.specs.Layout.{Layout, owned}
 use Rattle.adf_volume.specs.Lists.{In}
-use Rattle.adf_walk.specs.OwnerClass.{class_of}
-use Rattle.adf_walk.specs.declared.owner_class.OwnerClass.{OwnerClass}
-use Rattle.adf_walk.specs.declared.owner_class.OwnerClass.TheVariants.{Free, Boot, Root, Page, MapExt, Head, Ext, Data}
-
--- the number of a class of owners
-abbrev pub class_number : OwnerClass → ℕ
-class_number Free = 0
-class_number Boot = 1
-class_number Root = 2
-class_number Page = 3
-class_number MapExt = 4
-class_number Head = 5
-class_number Ext = 6
-class_number Data = 7
+use Rattle.adf_walk.specs.OwnerClass.{class_number, class_of}
 
 -- the number of an owner
 abbrev pub owner_number : Owner → ℕ

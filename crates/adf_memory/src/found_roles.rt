@@ -10,7 +10,6 @@ ghost use Rattle.adf_findings.specs.Survey.{OnSurvey};
 ghost use Rattle.adf_memory.specs.FoundRoles.{IsFoundClass, IsFoundRole, role_class};
 ghost use Rattle.adf_memory.specs.Verdicts.{WantsMemory};
 
-use crate::owners::class_number;
 use adf_blocks::Cause;
 use adf_check::OwnerClass;
 use adf_findings::{Survey, survey};
@@ -111,7 +110,7 @@ fn put_found_roles(survey: &Survey<'_>, roles: &mut [u8])
         if at >= roles.len() {
             return;
         }
-        roles[at] = class_number(class_at(survey, b));
+        roles[at] = class_at(survey, b).number();
     }
 }
 

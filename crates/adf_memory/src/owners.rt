@@ -9,28 +9,12 @@ ghost use Rattle.adf_volume.specs.Image.{letters_of};
 ghost use Rattle.adf_volume.specs.Layout.{Layout};
 ghost use Rattle.adf_volume.specs.Start.{IsBegun, IsBegunBy};
 ghost use Rattle.adf_check.specs.Volumes.{StandsForBy};
-ghost use Rattle.adf_memory.specs.OwnerNumbers.{IsOwnerNumber, class_number};
+ghost use Rattle.adf_memory.specs.OwnerNumbers.{IsOwnerNumber};
 ghost use Rattle.adf_memory.specs.Verdicts.{IsFirstCause, IsFirstCauseBy, IsVerdictNumber, OnFault, WantsMemory};
 
-use adf_check::{Checked, OwnerClass, check, check_types};
+use adf_check::{Checked, check, check_types};
 use adf_volume::Types;
 use std::alloc::Global;
-
-/// The number of a class of owners.
-pub fn class_number(class: OwnerClass) -> u8
-    ensures { result ≡ class_number class }
-{
-    match class {
-        OwnerClass::Free => 0,
-        OwnerClass::Boot => 1,
-        OwnerClass::Root => 2,
-        OwnerClass::Page => 3,
-        OwnerClass::MapExt => 4,
-        OwnerClass::Head => 5,
-        OwnerClass::Ext => 6,
-        OwnerClass::Data => 7,
-    }
-}
 
 // The role of a block.
 fn role_of(volume: &Checked<'_>, b: u32) -> u8
@@ -39,7 +23,7 @@ fn role_of(volume: &Checked<'_>, b: u32) -> u8
     requires inside { b < blocks volume.now.image }
     ensures { IsOwnerNumber volume.now.image b result }
 {
-    class_number(volume.owner_class(b).unwrap())
+    volume.owner_class(b).unwrap().number()
 }
 
 // Writes the roles of the first blocks, as many as there is room for.

@@ -20,7 +20,7 @@ use Rattle.adf_volume.specs.Walk.{Has, IsFreeIn, heads, Walk}
 use Rattle.adf_volume.specs.Walk.Role.{Page}
 use Rattle.adf_volume.proofs.Roles.{same_refl}
 use Rattle.adf_findings.specs.declared.concern.Concern.{Concern}
-use Rattle.adf_findings.specs.declared.part.Finding.{Finding}
+use Rattle.adf_findings.specs.declared.finding.Finding.{Finding}
 use Rattle.adf_findings.specs.Concerned.{concern_of_nth, node_of}
 use Rattle.adf_findings.specs.Found.{at_role, owner, parent_node}
 use Rattle.adf_findings.specs.Marks.{has_mark}

@@ -6,7 +6,8 @@ use Rattle.adf_volume.specs.Image.{word_in, table_word}
 use Rattle.adf_volume.specs.Walk.{Role, Before, Same, HeadAt, DirAt, FileAt, MemberAt, NamesPage, Asks, data_count, first, heads, Walk}
 use Rattle.adf_volume.specs.Walk.Role.{Root, Page, MapExt, Head, Ext, Data}
 use Rattle.adf_volume.proofs.Gathered.{IsGathered, parent_asked}
-use Rattle.adf_volume.proofs.Roles.{dir_up, head_role, member_up, renumbered, same_refl, typed_cases, typed_up}
+use Rattle.adf_volume.proofs.Roles.{dir_up, head_role, member_up, same_refl, typed_cases, typed_up}
+use Rattle.adf_volume.specs.Parts.{renumbered}
 
 module _ (image : List ℕ) (w : Walk) (r : Role) (b : ℕ) where
   -- what was asked for is asked for still

@@ -19,7 +19,8 @@ use Rattle.adf_volume.proofs.LayoutRoles.{owned_part, part_owned, same_owner}
 use Rattle.adf_volume.proofs.OneTree.{one_tree}
 use Rattle.adf_volume.proofs.WalkAgreement.{agreement, asked_part, due_is_part}
 use Rattle.adf_volume.proofs.WalkOrder.{before_trans}
-use Rattle.adf_volume.proofs.Roles.{asks_next_number, dec_has, renumbered, renumbered_same}
+use Rattle.adf_volume.proofs.Roles.{asks_next_number, dec_has, renumbered_same}
+use Rattle.adf_volume.specs.Parts.{renumbered}
 
 dec_before : (r q : Role) → Dec (Before r q)
 dec_before r q = search (rules, dec_lt)

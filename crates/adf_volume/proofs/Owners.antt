@@ -3,6 +3,7 @@ use Rattle.std.proofs.Common.{◌≡◌, ℕ, suc, List, [], ◌∷◌, ◌++◌
 use Rattle.std.proofs.lemmas.Grind.{common_steps}
 use Rattle.adf_volume.specs.Lists.{In, numbered, NoBlockTwice}
 use Rattle.adf_volume.specs.Layout.{Place, Layout, owned_from, owned}
+use Rattle.adf_volume.specs.Parts.{entry_of}
 use Rattle.adf_volume.specs.declared.owner.Owner.{Owner, TheVariants.Head as AHead, TheVariants.Ext as AnExt, TheVariants.Data as AData}
 use Rattle.adf_volume.proofs.Lists.{in_cases, numbered_at}
 use Rattle.adf_volume.proofs.LayoutRoles.{Stands, owned_stands}
@@ -24,21 +25,14 @@ once_numbered : (f : ℕ → Owner) (k : ℕ) (bs : List ℕ) → ((a b : ℕ) �
 once_numbered f k [] inj = tt
 once_numbered f k (b ∷ bs) inj = search (rules, numbered_at, once_numbered f (suc k) bs inj)
 
--- the number of an owner's node, 0 where it has none
-abbrev owner_node : Owner → ℕ
-owner_node (AHead n) = n
-owner_node (AnExt n k) = n
-owner_node (AData n k) = n
-owner_node _ = 0
-
 -- what stands in the places from number n on is no owner of a lower number
-stands_node : (n : ℕ) (qs : List Place) (y : Owner) (b : ℕ) → Stands n qs y b → n ≤ owner_node y
-stands_node n qs y b (in_head i u e z) = let f = ap owner_node z in omega arith
-stands_node n qs y b (in_ext i k e z) = let f = ap owner_node z in omega arith
-stands_node n qs y b (in_data i k e z) = let f = ap owner_node z in omega arith
+stands_node : (n : ℕ) (qs : List Place) (y : Owner) (b : ℕ) → Stands n qs y b → n ≤ entry_of y
+stands_node n qs y b (in_head i u e z) = let f = ap entry_of z in omega arith
+stands_node n qs y b (in_ext i k e z) = let f = ap entry_of z in omega arith
+stands_node n qs y b (in_data i k e z) = let f = ap entry_of z in omega arith
 
-not_later : (n : ℕ) (qs : List Place) (x y : Owner) (b : ℕ) → Stands n qs y b → owner_node x < n → x ≡ y → ⊥
-not_later n qs x y b s l e = let f = ap owner_node e in let g = stands_node n qs y b s in omega arith
+not_later : (n : ℕ) (qs : List Place) (x y : Owner) (b : ℕ) → Stands n qs y b → entry_of x < n → x ≡ y → ⊥
+not_later n qs x y b s l e = let f = ap entry_of e in let g = stands_node n qs y b s in omega arith
 
 once_places : (n : ℕ) (qs : List Place) → Once (owned_from n qs)
 once_places n [] = tt

@@ -3,6 +3,7 @@ use Rattle.std.proofs.Common.{◌≡◌, ℕ, zero, suc, List, [], ◌∷◌, �
 use Rattle.std.proofs.lemmas.Grind.{common_steps}
 use Rattle.adf_volume.specs.Walk.{Role, first, second, third, Same, Has, head_count, heads, HeadAt, TypedAt, NodeAt, DirAt, MemberAt, Asks, Lacks, Walk}
 use Rattle.adf_volume.specs.Walk.{ext_count_of}
+use Rattle.adf_volume.specs.Parts.{renumbered}
 use Rattle.adf_volume.specs.Walk.Role.{Root, Page, MapExt, Head, Ext, Data}
 
 -- two roles of one key, of which headers have one number, are one role
@@ -26,11 +27,6 @@ same_refl r = (refl, refl, refl)
 
 pub same_of : (r q : Role) → r ≡ q → Same r q
 same_of r q e = (ap first e, ap second e, ap third e)
-
--- the role, with this number if it is a header's
-abbrev pub renumbered : ℕ → Role → Role
-renumbered m (Head n p s j) = Head m p s j
-renumbered m r = r
 
 pub renumbered_same : (m : ℕ) (r : Role) → Same (renumbered m r) r
 renumbered_same m (Head n p s j) = (refl, refl, refl)

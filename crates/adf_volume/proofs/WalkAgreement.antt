@@ -25,7 +25,8 @@ use Rattle.adf_volume.proofs.Images.{map_exts_high}
 use Rattle.adf_volume.proofs.Lists.{at_fun, at_below, at_some, at_before, at_map, at_unmap, spelled_first, spelled_next, spelled_word, spelled_link}
 use Rattle.adf_volume.proofs.Lists.{all_append, at_index, index_past}
 use Rattle.adf_volume.proofs.Chains.{entry_at, entry_below, entry_some, place_at, one_place, sorted_places, chain_rises}
-use Rattle.adf_volume.proofs.Roles.{asks_number, dir_is_node, head_at, head_key, head_role, renumbered, same_of}
+use Rattle.adf_volume.proofs.Roles.{asks_number, dir_is_node, head_at, head_key, head_role, same_of}
+use Rattle.adf_volume.specs.Parts.{renumbered}
 use Rattle.adf_volume.proofs.Walks.{number_of, numbered, file_is, is_there, of_walk}
 use Rattle.adf_volume.proofs.LayoutRoles.{part_range, one_part}
 use Rattle.std.proofs.lemmas.Bool.{ltb-false, ltb-true}

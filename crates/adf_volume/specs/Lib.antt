@@ -8,6 +8,7 @@ pub mod Walk
 pub mod Fault
 pub mod Rows
 pub mod LayoutRoles
+pub mod Parts
 pub mod Made
 pub mod Counts
 pub mod Types

@@ -6,6 +6,7 @@ mod fault;
 mod image;
 mod laws;
 mod owner;
+mod part;
 mod pieces;
 mod row;
 mod samples;
@@ -21,6 +22,7 @@ pub use crate::laws::{
     whole_walk,
 };
 pub use crate::owner::Owner;
+pub use crate::part::Part;
 pub use crate::pieces::{Pieces, count_of, held_in, joined};
 pub use crate::row::{Row, RowBody, row_of};
 pub use crate::samples::{

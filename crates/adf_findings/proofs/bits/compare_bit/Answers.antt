@@ -1,6 +1,6 @@
 use Rattle.std.proofs.Common.{None, refl, sym, subst, map}
 use Rattle.std.proofs.lemmas.Result.{on_ok_weaker}
-use Rattle.adf_findings.specs.declared.part.Finding.{Finding}
+use Rattle.adf_findings.specs.declared.finding.Finding.{Finding}
 use Rattle.adf_findings.specs.Parts.{finding_value}
 use Rattle.adf_findings.specs.Found.{BitTells}
 use Rattle.adf_findings.proofs.BitSteps.{bit_tells, none_on, some_on}

@@ -1,6 +1,6 @@
 use Rattle.std.proofs.Common.{◌≡◌, ◌-◌, ◌/◌, ◌%◌, ◌≤◌, sym, subst, arith}
 use Rattle.adf_blocks.specs.declared.layout.TheConstants.{MAP_EXT_PAGES, ROOT_PAGES}
-use Rattle.adf_findings.specs.declared.part.Part.TheVariants.{MapExt}
+use Rattle.adf_volume.specs.declared.part.Part.TheVariants.{MapExt}
 use Rattle.adf_findings.specs.Courses.{IsNamed, due_below}
 use Rattle.adf_findings.proofs.CourseSteps.{below_gone}
 use Rattle.adf_findings.proofs.MapPlaces.{map_ext_named, map_ext_on}

@@ -1,6 +1,6 @@
 use Rattle.std.proofs.Common.{Bool, map, not, ◌≡◌, ◌&&◌, ◌++◌, ◌∙◌, ℕ, List, ap, sym, subst}
 use Rattle.std.specs.List.{filter}
-use Rattle.adf_findings.specs.declared.part.Finding.{Finding}
+use Rattle.adf_findings.specs.declared.finding.Finding.{Finding}
 use Rattle.adf_findings.specs.Files.{is_light}
 use Rattle.adf_findings.specs.Marks.{blamed, has_mark, is_blamed, is_undoubted}
 use Rattle.adf_findings.specs.Parts.{finding_value}

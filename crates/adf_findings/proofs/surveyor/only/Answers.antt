@@ -1,6 +1,6 @@
 use Rattle.std.proofs.Common.{None, map, ◌≡◌, ℕ, List, [], ◌∷◌, ◌++◌, arith}
 use Rattle.std.proofs.lemmas.Grind.{common_steps}
-use Rattle.adf_findings.specs.declared.part.Finding.{Finding}
+use Rattle.adf_findings.specs.declared.finding.Finding.{Finding}
 use Rattle.adf_findings.specs.Parts.{finding_value}
 use Rattle.adf_findings.specs.Start.{boot_findings, unread_findings}
 use Rattle.adf_findings.specs.declared.start.Unread.{Unread}

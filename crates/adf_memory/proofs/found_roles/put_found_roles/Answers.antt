@@ -6,9 +6,9 @@ use Rattle.adf_memory.proofs.found_roles.put_found_roles.Goals as goal
 pub loop-b-preserved : goal.loop-b-preserved
 loop-b-preserved c = record {
   roles = λ w fs survey.
-      roles_more w c.loop-b.roles c.loop-b.b c.class_number.result (omega (arith, c.if-at-roles.false))
-      (c.class_at.result, c.class_at.ensures w fs survey, c.class_number.ensures) (c.loop-b.invariant.roles w fs survey);
-  behind = λ k far. put_keeps c.loop-b.roles c.loop-b.b c.class_number.result k far ∙ c.loop-b.invariant.behind k (omega arith);
+      roles_more w c.loop-b.roles c.loop-b.b c.number.result (omega (arith, c.if-at-roles.false))
+      (c.class_at.result, c.class_at.ensures w fs survey, c.number.ensures.number) (c.loop-b.invariant.roles w fs survey);
+  behind = λ k far. put_keeps c.loop-b.roles c.loop-b.b c.number.result k far ∙ c.loop-b.invariant.behind k (omega arith);
 }
 
 pub returns-then-at-roles-clause-roles : goal.returns-then-at-roles-clause-roles

@@ -1,15 +1,11 @@
-// The parts of a volume, and findings.
+// The parts of a volume.
 
-ghost use Rattle.std.specs.Prelude.{◌≡◌, ◌<◌, ◌^◌, true};
-ghost use Rattle.adf_findings.specs.Parts.{role_of};
-ghost use Rattle.adf_volume.proofs.Roles.{renumbered};
+ghost use Rattle.std.specs.Prelude.{◌≡◌, ◌<◌, ◌^◌};
 ghost use Rattle.adf_volume.specs.LayoutRoles.{owner_of};
-ghost use Rattle.adf_walk.specs.Owners.{is_part};
-ghost use Rattle.adf_findings.specs.WalkOwners.{entry_of};
+ghost use Rattle.adf_volume.specs.Parts.{entry_of, renumbered, role_of};
 
-use adf_blocks::Cause;
+use crate::owner::Owner;
 use adf_tree::Node;
-use adf_volume::Owner;
 
 /// A part of a volume.
 ///
@@ -35,17 +31,9 @@ pub enum Part {
     Data(u32, u32),
 }
 
-/// A finding: the part that it concerns, if any; the block reported; and the cause.
-#[derive(Clone, Copy, Debug, PartialEq, Eq)]
-pub struct Finding {
-    pub part: Option<Part>,
-    pub block: u32,
-    pub cause: Cause,
-}
-
 impl Part {
-    // The part, with this node number if it is a header.
-    pub(crate) fn numbered(self, number: u32) -> Part
+    /// The part, with this node number if it is a header.
+    pub fn numbered(self, number: u32) -> Part
         ensures { role_of result ≡ renumbered number (role_of self) }
     {
         match self {
@@ -64,11 +52,10 @@ impl Part {
         }
     }
 
-    // The part as the owner of a block.
+    /// The part as the owner of a block.
     #[inline(always)]
-    pub(crate) fn owner(self) -> Owner
+    pub fn owner(self) -> Owner
         ensures owner { result ≡ owner_of (role_of self) }
-        ensures part { is_part result ≡ true }
         ensures small { entry_of result < 2 ^ 32 }
     {
         match self {
