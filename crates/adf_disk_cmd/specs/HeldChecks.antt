@@ -7,7 +7,7 @@ use Rattle.std.specs.Io.KnownBytes.{Consumes}
 use Rattle.adf_base.specs.Words.{block}
 use Rattle.adf_disk_cmd.specs.Checks.{IsVolumeAnswer}
 use Rattle.adf_partitions.specs.Disks.{IsDisk}
-use Rattle.adf_partitions.specs.Places.{StatesPlace, end_of, place_of}
+use Rattle.adf_partitions.specs.Places.{StatesPlace, end_of, partition_place}
 use Rattle.adf_partitions.specs.declared.layout.TheConstants.{MOST_TABLES}
 use Rattle.adf_partitions.specs.declared.partition.Partition.{Partition}
 use Rattle.adf_partitions.specs.declared.place.Place.{Place}
@@ -58,13 +58,13 @@ first_of q = q.first
 
 -- the volume of a partition is checked, its block says where it lies, and it ends behind the blocks that may have tables
 pub record IsBehind (tables : List ℕ) (p : Partition) : Type 0 where
-  pub checked : why_unchecked p (place_of (block tables p.block)) ≡ None
+  pub checked : why_unchecked p (partition_place (block tables p.block)) ≡ None
   pub states : StatesPlace tables MOST_DISK_BLOCKS p.block
-  pub behind : MOST_TABLES < end_of (place_of (block tables p.block))
+  pub behind : MOST_TABLES < end_of (partition_place (block tables p.block))
 
 -- if so, that place is one of these
 abbrev pub IsCovered : List ℕ → List Place → Partition → Type 0
-IsCovered tables places p = IsBehind tables p → Contains places (place_of (block tables p.block))
+IsCovered tables places p = IsBehind tables p → Contains places (partition_place (block tables p.block))
 
 -- the place of a volume that is checked is one of these, if it ends behind the blocks that may have tables
 abbrev pub IsReadAt : List Place → Partition → Type 0
