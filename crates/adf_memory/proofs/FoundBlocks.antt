@@ -22,7 +22,7 @@ use Rattle.adf_findings.proofs.RoleBlocks.{lacks_at}
 use Rattle.adf_findings.proofs.Lookups.{file_between}
 use Rattle.adf_findings.proofs.SoundEntries.{one_part}
 use Rattle.adf_memory.specs.declared.found_files.TheConstants.{NO_BLOCK}
-use Rattle.adf_memory.specs.FoundFiles.{block_if, file_blocks, found_blocks, is_data_of, named_block, named_blocks, part_at, part_table}
+use Rattle.adf_memory.specs.FoundFiles.{block_if, file_block_count, found_blocks, is_data_row, named_block, named_blocks, part_at, found_part_table}
 use Rattle.adf_memory.specs.FoundTables.{owner_number}
 
 -- a file of no bytes needs no blocks
@@ -33,10 +33,10 @@ none_needed Ffs size e = omega arith
 
 -- the row of a block that the image has
 row_at : (image : List ℕ) (x : Role × ℕ) (w : Walk) (b : ℕ) → b < blocks image
-    → slice_get (part_table image (x ∷ w)) b ≡ Some (part_at (x ∷ w) b)
+    → slice_get (found_part_table image (x ∷ w)) b ≡ Some (part_at (x ∷ w) b)
 row_at image x w b lt =
-    let here : b < length (part_table image (x ∷ w)) = omega (arith, lt, length-map-range_with_len (part_at (x ∷ w)) 0 (blocks image)) in
-    slice_get-get_or (part_table image (x ∷ w)) b (part_at (x ∷ w) 0) here
+    let here : b < length (found_part_table image (x ∷ w)) = omega (arith, lt, length-map-range_with_len (part_at (x ∷ w)) 0 (blocks image)) in
+    slice_get-get_or (found_part_table image (x ∷ w)) b (part_at (x ∷ w) 0) here
     ∙ ap Some (get_or-map-range_with_len (part_at (x ∷ w)) 0 (blocks image) b b (part_at (x ∷ w) 0) lt (omega arith))
 
 -- of two tests that agree where a third holds, either may follow on that
@@ -60,15 +60,15 @@ not_all true true true x y h = absurd (h refl refl refl)
 
 -- the test of a block, once its row is known
 by_row : (image : List ℕ) (x : Role × ℕ) (w : Walk) (n k b : ℕ)
-    → block_if image (part_table image (x ∷ w)) n k b
+    → block_if image (found_part_table image (x ∷ w)) n k b
     ≡ cond (nat_lt b (blocks image) && ((owner_number (owner (x ∷ w) b) == n) && (number_at (x ∷ w) b == k + 1))) b NO_BLOCK
 by_row image x w n k b =
     guarded (nat_lt b (blocks image)) _ _ b NO_BLOCK
-    (λ t. ap (is_data_of n k) (row_at image x w b (ltb-true b (blocks image) t)))
+    (λ t. ap (is_data_row n k) (row_at image x w b (ltb-true b (blocks image) t)))
 
 -- the block that is named as a data block, if its row is that of it, is the one that is found
 named_is : (image : List ℕ) (w : Walk) (fs : List FindingValue) → IsSurvey image w fs → (n h : ℕ) → FileAt image w n h → (k : ℕ)
-    → named_block image (part_table image w) n h k ≡ unwrap_or (data_found w n k) NO_BLOCK
+    → named_block image (found_part_table image w) n h k ≡ unwrap_or (data_found w n k) NO_BLOCK
 named_is image [] fs survey n h file k = absurd file.header.has
 named_is image (x ∷ w) fs survey n h file k = by_row image x w n k b ∙ go (data_found (x ∷ w) n k) refl
   where
@@ -97,5 +97,5 @@ named_is image (x ∷ w) fs survey n h file k = by_row image x w n k b ∙ go (d
 
 -- so are all of a file
 pub named_blocks_are : (image : List ℕ) (w : Walk) (fs : List FindingValue) → IsSurvey image w fs → (n h : ℕ) → FileAt image w n h
-    → named_blocks image (part_table image w) n h ≡ found_blocks image w n h
-named_blocks_are image w fs survey n h file = λ i. map (λ k. named_is image w fs survey n h file k i) (range_with_len 0 (file_blocks image h))
+    → named_blocks image (found_part_table image w) n h ≡ found_blocks image w n h
+named_blocks_are image w fs survey n h file = λ i. map (λ k. named_is image w fs survey n h file k i) (range_with_len 0 (file_block_count image h))

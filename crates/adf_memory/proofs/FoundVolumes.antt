@@ -18,8 +18,8 @@ use Rattle.adf_walk.specs.declared.owner_class.OwnerClass.TheVariants as class
 use Rattle.adf_findings.specs.Remains.{data_found, size_stated}
 use Rattle.adf_findings.specs.Survey.{FindingValue, IsSurvey}
 use Rattle.adf_findings.proofs.DataFound.{has_data}
-use Rattle.adf_findings.proofs.PlainFindings.{finds_none, shown}
 use Rattle.adf_findings.proofs.RoleBlocks.{lacks_at}
+use Rattle.adf_findings.proofs.PlainFindings.{finds_none, shown}
 use Rattle.adf_names.specs.declared.kind.Kind.{Kind}
 use Rattle.adf_rescue.proofs.FitBlocks.{fit_room}
 use Rattle.adf_tree.specs.declared.entry.Body.{Body, TheVariants.Dir, TheVariants.File}
@@ -41,10 +41,10 @@ use Rattle.adf_volume.proofs.WalkCompleteness.{part_walked}
 use Rattle.adf_memory.specs.declared.found_files.TheConstants.{NO_BLOCK}
 use Rattle.adf_memory.specs.declared.tables.TableEntry.{TableEntry}
 use Rattle.adf_memory.specs.Areas.{AreDatasOf, bytes_from}
-use Rattle.adf_memory.specs.FoundFiles.{file_blocks, file_size, found_blocks, found_from, lost_from, missing}
+use Rattle.adf_memory.specs.FoundFiles.{file_block_count, file_size, found_blocks, found_from, lost_from, missing}
 use Rattle.adf_memory.specs.FoundRoles.{IsFoundRole, role_class}
 use Rattle.adf_memory.specs.OwnerNumbers.{IsOwnerNumber, class_number, owner_number}
-use Rattle.adf_memory.specs.Tables.{bytes_at, bytes_in, table_entry}
+use Rattle.adf_memory.specs.Tables.{bytes_at, bytes_of_body, table_entry}
 use Rattle.adf_memory.proofs.Filled.{drop_zero}
 use Rattle.adf_memory.proofs.FoundGaps.{both}
 use Rattle.adf_memory.proofs.FoundReadings.{none_behind}
@@ -145,7 +145,7 @@ module _ (image : List ℕ) (w : Walk) (fs : List FindingValue) (survey : IsSurv
     -- the table of the file has its data blocks
     blocks_found : found_blocks image w n head ≡ ds
     blocks_found =
-        let long : file_blocks image head ≡ length ds = ap (count (kind_of image)) size_is ∙ sym many in
+        let long : file_block_count image head ≡ length ds = ap (count (kind_of image)) size_is ∙ sym many in
         ap (λ m. map (λ k. unwrap_or (data_found w n k) NO_BLOCK) (range_with_len 0 m)) long
         ∙ listed ds (λ k. unwrap_or (data_found w n k) NO_BLOCK) 0
         (λ k b here. let z : 0 + k ≡ k = omega arith in
@@ -155,7 +155,7 @@ module _ (image : List ℕ) (w : Walk) (fs : List FindingValue) (survey : IsSurv
     row = table_entry head 0 e
 
     length_is : row.size ≡ length bytes
-    length_is = ap (λ b. length (bytes_in b)) body
+    length_is = ap (λ b. length (bytes_of_body b)) body
 
     -- and so its bytes
     bytes_found : (from : ℕ) → found_from image head (found_blocks image w n head) from ≡ drop from (bytes_at t n)
