@@ -17,7 +17,7 @@ use Rattle.adf_findings.specs.Found.{number_at, owner}
 use Rattle.adf_findings.specs.Remains.{data_found}
 use Rattle.adf_findings.specs.Survey.{FindingValue, IsSurvey}
 use Rattle.adf_findings.proofs.BlockOwners.{first_with}
-use Rattle.adf_findings.proofs.DataFound.{found_named, has_data, held_has}
+use Rattle.adf_findings.proofs.DataFound.{all_true, found_named, has_data, held_has, not_all}
 use Rattle.adf_findings.proofs.RoleBlocks.{lacks_at}
 use Rattle.adf_findings.proofs.Lookups.{file_between}
 use Rattle.adf_findings.proofs.SoundEntries.{one_part}
@@ -48,15 +48,6 @@ guarded true p q x y h = ap (λ s. cond s x y) (h refl)
 numbered : (o : Option ℕ) (n : ℕ) → 1 ≤ n → owner_number o ≡ n → o ≡ Some n
 numbered None n lo e = absurd (omega arith)
 numbered (Some m) n lo e = ap Some e
-
-both_true : {A : Type 0} (p q r : Bool) (x y : A) → p ≡ true → q ≡ true → r ≡ true → cond (p && (q && r)) x y ≡ x
-both_true p q r x y a b c = λ i. cond (a i && (b i && c i)) x y
-
-not_all : {A : Type 0} (p q r : Bool) (x y : A) → (p ≡ true → q ≡ true → r ≡ true → ⊥) → cond (p && (q && r)) x y ≡ y
-not_all false q r x y h = refl
-not_all true false r x y h = refl
-not_all true true false x y h = refl
-not_all true true true x y h = absurd (h refl refl refl)
 
 -- the test of a block, once its row is known
 by_row : (image : List ℕ) (x : Role × ℕ) (w : Walk) (n k b : ℕ)
@@ -91,7 +82,7 @@ named_is image (x ∷ w) fs survey n h file k = by_row image x w n k b ∙ go (d
         let own : owner_number (owner (x ∷ w) b) ≡ n = ap (λ c. owner_number (owner (x ∷ w) c)) named.0 ∙ ap owner_number at.0 in
         let number : number_at (x ∷ w) b ≡ k + 1 = ap (number_at (x ∷ w)) named.0 ∙ (at.1 ∙ sym (add-one k)) in
         let lt : b < blocks image = subst (λ c. c < blocks image) (sym named.0) named.1 in
-        both_true (nat_lt b (blocks image)) (owner_number (owner (x ∷ w) b) == n) (number_at (x ∷ w) b == k + 1) b NO_BLOCK
+        all_true (nat_lt b (blocks image)) (owner_number (owner (x ∷ w) b) == n) (number_at (x ∷ w) b == k + 1) b NO_BLOCK
         (lt-ltb b (blocks image) lt) (eq-eqb _ _ own) (eq-eqb _ _ number)
         ∙ named.0
 
