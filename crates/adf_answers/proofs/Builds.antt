@@ -31,7 +31,8 @@ built_or_full : (lines : Bool) (tree : Tree) (n : ℕ) → tree.letters ≡ Asci
 built_or_full lines tree n letters is bounds allowed = elim (dec_le (blocks_needed tree n) (n - 2)) [
   | no full ↦ (on_errors 1 (full_line (need_of tree n) (n - 2)), inr (omega (arith, full), refl))
   | yes room ↦
-      let can : CanHold tree n = record { sound = well_formed tree bounds (subst (λ l. IsTreeBy l tree.entries) (sym letters) is); allowed = allowed; room = room } in (
+      let can : CanHold tree n =
+      record { sound = well_formed tree bounds (subst (λ l. IsTreeBy l tree.entries) (sym letters) is); allowed = allowed; room = room } in (
         on_output 0 (built_output lines tree n),
         inl (
           record {

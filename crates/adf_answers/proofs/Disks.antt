@@ -14,7 +14,7 @@ use Rattle.adf_partitions.specs.declared.place.Place.{Place}
 use Rattle.adf_partitions.specs.declared.place.PlaceFault.{PlaceFault}
 use Rattle.adf_runs.specs.Commands.{Reply, on_output}
 use Rattle.adf_file_words.specs.DiskLine.{DiskRequestValue, WantedValue, build, check, list, survey, volume}
-use Rattle.adf_disk_cmd.specs.Answers.{DiskAnswer, OfDisk, OfFault, OfPartitions, fault_line, volume_reply, wanted_of}
+use Rattle.adf_disk_cmd.specs.Answers.{DiskAnswer, OfDisk, OfFault, OfPartitions, disk_fault_line, volume_reply, wanted_of}
 use Rattle.adf_disk_cmd.specs.Builds.{BuildsDisk, plan_reply, refusal}
 use Rattle.adf_disk_cmd.specs.Checks.{AreChecked, TellsPlace, TellsVolume, check_status, unchecked_text, why_unchecked}
 use Rattle.adf_disk_cmd.specs.Lines.{list_lines, name_text, volume_at}
@@ -58,13 +58,13 @@ some_check : (bytes : List ℕ) → (reply : Reply) × OfDisk check bytes reply
 some_check bytes =
     of_disk check bytes
     (λ ps. let (sound, text, are) = some_checks bytes ps in (on_output (check_status sound) text, (sound, text, are, refl)))
-    (λ f. (on_output 1 (fault_line f), refl))
+    (λ f. (on_output 1 (disk_fault_line f), refl))
 
 some_survey : (bytes : List ℕ) → (reply : Reply) × OfDisk survey bytes reply
 some_survey bytes =
     of_disk survey bytes (λ ps. (on_output 0 (list_lines 1 ps), refl))
     (λ f. let (ps, readable) = some_reading bytes (length bytes / 512) in
-    (on_output 1 (fault_line f ++ list_lines 1 ps), (fault_line f ++ list_lines 1 ps, (ps, readable, refl), refl)))
+    (on_output 1 (disk_fault_line f ++ list_lines 1 ps), (disk_fault_line f ++ list_lines 1 ps, (ps, readable, refl), refl)))
 
 some_copy : (bytes : List ℕ) (w : WantedValue) → (reply : Reply) × OfDisk (volume w) bytes reply
 some_copy bytes w =

@@ -26,7 +26,7 @@ use Rattle.adf_survey_cmd.specs.Answers.{told_status, types_kept}
 use Rattle.adf_survey_cmd.specs.FoundLines.{has_its_data, listing_text}
 use Rattle.adf_survey_cmd.specs.Hints.{hinted}
 use Rattle.adf_survey_cmd.specs.Remains.{remains_reply}
-use Rattle.adf_survey_cmd.specs.Subject.{IsTyped, OfTyped, SubjectValue, begun_subject, sized, subject, told_text, typed_subject}
+use Rattle.adf_survey_cmd.specs.Subject.{IsTyped, OfTyped, SubjectValue, begun_subject, sized, subject, subject_text, typed_subject}
 use Rattle.adf_answers.specs.Answered.{HasSurveyAnswer}
 
 -- a question has an answer, to which the hint comes
@@ -46,7 +46,7 @@ of_typed s answers some =
 
 some_findings : (t : SubjectValue) → (reply : Reply) × Surveys t reply
 some_findings t =
-    let (w, fs, survey) = some_survey t.image in (on_output (told_status t.front fs) (told_text t w fs), (w, fs, survey, refl))
+    let (w, fs, survey) = some_survey t.image in (on_output (told_status t.front fs) (subject_text t w fs), (w, fs, survey, refl))
 
 some_report : (blocks : Option ℕ) (input : List ℕ) → IsAnswered report (subject blocks input)
 some_report blocks input = of_typed (subject blocks input) Surveys some_findings

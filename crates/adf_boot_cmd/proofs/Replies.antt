@@ -7,7 +7,7 @@ use Rattle.adf_boot_blocks.specs.declared.boot.TheConstants.{BOOT_LEN}
 use Rattle.adf_runs.specs.Commands.{Reply, on_errors, on_output}
 use Rattle.adf_runs.specs.Outcomes.{EndsBy}
 use Rattle.adf_runs.specs.declared.outcome.Outcome.{Outcome}
-use Rattle.adf_boot_cmd.specs.Answers.{BootAnswer, Order, reply_of, changed, is_whole, line_status, told, written, written_from}
+use Rattle.adf_boot_cmd.specs.Answers.{BootAnswer, Order, reply_of, changed_boot, is_whole, line_status, boot_reply, written, written_from}
 use Rattle.adf_boot_cmd.specs.declared.work.TheConstants.{MOST_BYTES}
 use Rattle.adf_boot_cmd.specs.Lines.{boot_line}
 
@@ -27,10 +27,10 @@ long_answers order image bytes front reply h =
 pub ends_by : (a b : Reply) (w : Outcome) (o o' : Option (List ℕ)) → a ≡ b → EndsBy (λ r. r ≡ b) w o o' → EndsBy (λ r. r ≡ a) w o o'
 ends_by a b w o o' e h = subst (λ (x : Reply). EndsBy (λ r. r ≡ x) w o o') (sym e) h
 
-pub told_short : (image : List ℕ) → length image < BOOT_LEN → told image ≡ on_errors 1 (codes "bad size\n")
+pub told_short : (image : List ℕ) → length image < BOOT_LEN → boot_reply image ≡ on_errors 1 (codes "bad size\n")
 told_short image lt = rw (lt-leb BOOT_LEN (length image) lt) refl
 
-pub told_long : (image : List ℕ) → BOOT_LEN ≤ length image → told image ≡ on_output (line_status (is_bootable image)) (boot_line image)
+pub told_long : (image : List ℕ) → BOOT_LEN ≤ length image → boot_reply image ≡ on_output (line_status (is_bootable image)) (boot_line image)
 told_long image le = rw (le-leb BOOT_LEN (length image) le) refl
 
 pub not_whole : (order : Order) (image : List ℕ) → is_whole image ≡ false → written order image ≡ on_errors 1 (codes "bad size\n")
@@ -41,7 +41,7 @@ pub not_dos : (order : Order) (image : List ℕ) → is_whole image ≡ true →
 not_dos order image e d = rw (e, d) refl
 
 pub is_written : (order : Order) (image : List ℕ) → is_whole image ≡ true → begins_with_dos image ≡ true
-    → written order image ≡ on_output 0 (changed order image ++ drop BOOT_LEN image)
+    → written order image ≡ on_output 0 (changed_boot order image ++ drop BOOT_LEN image)
 is_written order image e d = rw (e, d) refl
 
 pub short_boot : (boot : List ℕ) (order : Order) (image : List ℕ) → length boot < BOOT_LEN

@@ -1,5 +1,6 @@
 -- Images that are written have the tree of the image that they are made of.
-use Rattle.std.proofs.Common.{◌≡◌, ◌≢◌, ℕ, List, ◌++◌, ◌+◌, ◌-◌, ◌%◌, ◌≤◌, Bool, true, false, ap, sym, ◌∙◌, refl, arith, drop, take, length, replicate, slice_range, subst, nat_le, length-append, length-drop, length-take}
+use Rattle.std.proofs.Common.{◌≡◌, ◌≢◌, ℕ, List, ◌++◌, ◌+◌, ◌-◌, ◌%◌, ◌≤◌, Bool, true, false, ap, sym, ◌∙◌, refl, arith, drop, take, length}
+use Rattle.std.proofs.Common.{replicate, slice_range, subst, nat_le, length-append, length-drop, length-take}
 use Rattle.std.specs.Prelude.{◌==◌}
 use Rattle.std.proofs.lemmas.Bool.{and_parts, leb-false, leb-true}
 use Rattle.std.proofs.lemmas.List.{drop_at, length-take-le, take-append-le, take-take}
@@ -16,7 +17,7 @@ use Rattle.adf_boot_blocks.proofs.OtherBoots.{other_fits}
 use Rattle.adf_boot_blocks.proofs.Writes.{other_bytes, other_next, other_sum, other_word, same_boot}
 use Rattle.adf_runs.specs.Commands.{Reply}
 use Rattle.adf_boot_cmd.proofs.Replies.{is_written, not_dos, not_whole, short_boot, sound_boot, strange_boot}
-use Rattle.adf_boot_cmd.specs.Answers.{Order, changed, clear, copy, install, is_whole, reply_of, tell, written, written_from}
+use Rattle.adf_boot_cmd.specs.Answers.{Order, changed_boot, clear, copy, install, is_whole, reply_of, tell, written, written_from}
 
 length_copied : (boot : List ℕ) → length (slice_range boot 4 BOOT_LEN) ≤ BOOT_LEN - 4
 length_copied boot = omega (arith, length-take {A = ℕ})
@@ -41,7 +42,7 @@ other_installed front root code long room =
     other_next front (with_bytes numbered CODE code) (installed front root code) p (other_sum (with_bytes numbered CODE code) (omega (arith, p.long)))
 
 -- the boot blocks that an order leaves, and what is behind them
-other_changed : (order : Order) (image : List ℕ) → BOOT_LEN ≤ length image → IsOtherBoot (take BOOT_LEN image) (changed order image)
+other_changed : (order : Order) (image : List ℕ) → BOOT_LEN ≤ length image → IsOtherBoot (take BOOT_LEN image) (changed_boot order image)
 other_changed tell image long = same_boot (take BOOT_LEN image)
 other_changed install image long =
     other_installed (take BOOT_LEN image) (middle (blocks image)) STANDARD_CODE (omega (arith, length-take-le BOOT_LEN image long)) (omega arith)
@@ -68,7 +69,8 @@ written_fits order image t l true false w d s fit = let no : 1 ≡ 0 = rw (not_d
 written_fits order image t l true true w d s fit =
     let long : BOOT_LEN ≤ length image = long_enough image w in
     subst (λ (r : Reply). Fits r.output t l) (sym (is_written order image w d))
-    (other_fits image (changed order image ++ drop BOOT_LEN image) (other_image image (changed order image) long (other_changed order image long)) t l fit)
+    (other_fits image (changed_boot order image ++ drop BOOT_LEN image)
+    (other_image image (changed_boot order image) long (other_changed order image long)) t l fit)
 
 copied_fits : (boot : List ℕ) (order : Order) (image : List ℕ) (t : Tree) (l : Layout) (has dos : Bool) → nat_le BOOT_LEN (length boot) ≡ has
     → begins_with_dos boot ≡ dos → (written_from boot order image).status ≡ 0 → Fits image t l → Fits (written_from boot order image).output t l

@@ -27,8 +27,8 @@ abbrev pub line_status : Bool → ℕ
 line_status bootable = if bootable then 0 else 1
 
 -- the line of an image, where it has boot blocks
-abbrev pub told : List ℕ → Reply
-told image =
+abbrev pub boot_reply : List ℕ → Reply
+boot_reply image =
     if nat_le BOOT_LEN (length image) then on_output (line_status (is_bootable image)) (boot_line image) else on_errors 1 (codes "bad size\n")
 
 -- the image is whole blocks, four or more
@@ -36,17 +36,17 @@ abbrev pub is_whole : List ℕ → Bool
 is_whole image = (length image % 512 == 0) && nat_le 2048 (length image)
 
 -- the boot blocks that an order leaves
-abbrev pub changed : Order → List ℕ → List ℕ
-changed tell image = take BOOT_LEN image
-changed install image = installed (take BOOT_LEN image) (middle (blocks image)) STANDARD_CODE
-changed clear image = cleared (take BOOT_LEN image)
-changed (copy boot) image = copied (take BOOT_LEN image) boot
+abbrev pub changed_boot : Order → List ℕ → List ℕ
+changed_boot tell image = take BOOT_LEN image
+changed_boot install image = installed (take BOOT_LEN image) (middle (blocks image)) STANDARD_CODE
+changed_boot clear image = cleared (take BOOT_LEN image)
+changed_boot (copy boot) image = copied (take BOOT_LEN image) boot
 
 -- an image that begins with `DOS` gets the boot blocks that an order leaves; another is refused
 abbrev pub written : Order → List ℕ → Reply
 written order image =
     if not (is_whole image) then on_errors 1 (codes "bad size\n")
-    else (if begins_with_dos image then on_output 0 (changed order image ++ drop BOOT_LEN image) else on_errors 1 (codes "not dos\n"))
+    else (if begins_with_dos image then on_output 0 (changed_boot order image ++ drop BOOT_LEN image) else on_errors 1 (codes "not dos\n"))
 
 -- the same for an order that has a boot file, which is refused where it has no boot blocks or does not begin with `DOS`
 abbrev pub written_from : List ℕ → Order → List ℕ → Reply
@@ -56,7 +56,7 @@ written_from boot order image =
 
 -- the answer to an order, of an image
 abbrev pub reply_of : Order → List ℕ → Reply
-reply_of tell image = told image
+reply_of tell image = boot_reply image
 reply_of install image = written install image
 reply_of clear image = written clear image
 reply_of (copy boot) image = written_from boot (copy boot) image

@@ -13,8 +13,8 @@ state_text image =
     else (if has_no_code image then codes "no-code" else codes "bad-sum"))
 
 -- the type of a volume, in one word
-abbrev pub type_text : ℕ → List ℕ
-type_text n =
+abbrev pub type_name : ℕ → List ℕ
+type_name n =
     if n == 0 then codes "ofs"
     else (if n == 1 then codes "ffs"
     else (if n == 2 then codes "ofs-intl"
@@ -24,7 +24,7 @@ type_text n =
 
 -- the type of an image, or a dash where it does not begin with `DOS`
 abbrev pub type_of : List ℕ → List ℕ
-type_of image = if begins_with_dos image then type_text (slice_index image 3) else codes "-"
+type_of image = if begins_with_dos image then type_name (slice_index image 3) else codes "-"
 
 -- the line: the state, the type, and the CRC-32 of the boot blocks
 abbrev pub boot_line : List ℕ → List ℕ

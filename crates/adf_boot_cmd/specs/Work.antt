@@ -20,7 +20,7 @@ HasBoot (copy boot) = BOOT_LEN ≤ length boot
 HasBoot _ = Unit {0}
 
 -- the fault is one of the boot file of this name
-abbrev pub IsFaultOf : List ℕ → BootFault → Type 0
-IsFaultOf name (Unopened named why) = named.now ≡ name
-IsFaultOf name Unread = Unit {0}
-IsFaultOf name NoMemory = Unit {0}
+abbrev pub IsBootFaultOf : List ℕ → BootFault → Type 0
+IsBootFaultOf name (Unopened named why) = named.now ≡ name
+IsBootFaultOf name Unread = Unit {0}
+IsBootFaultOf name NoMemory = Unit {0}

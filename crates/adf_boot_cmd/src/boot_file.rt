@@ -5,7 +5,7 @@ ghost use Rattle.std.specs.Io.KnownBytes.{Appends};
 ghost use Rattle.adf_boot_blocks.specs.declared.boot.TheConstants.{BOOT_LEN};
 ghost use Rattle.adf_file_words.specs.BootLine.{boot_request_value, copy};
 ghost use Rattle.adf_boot_cmd.specs.Answers.{IsOrderOf, LacksBoot};
-ghost use Rattle.adf_boot_cmd.specs.Work.{IsFaultOf, order_of};
+ghost use Rattle.adf_boot_cmd.specs.Work.{IsBootFaultOf, order_of};
 
 use crate::work::Work;
 use adf_boot_blocks::BOOT_LEN;
@@ -29,7 +29,7 @@ pub enum BootFault<'a> {
 fn boot_of<'a, F: Files>(alloc: Global, files: &F, name: &'a str) -> Result<Vec<u8>, BootFault<'a>>
     ensures boot { IfOk result (λ boot.
         IfSome (F.bytes_of files.now name.entry.now) (λ all. boot.items ≡ take BOOT_LEN all)) }
-    ensures fault { IfErr result (IsFaultOf name.entry.now) }
+    ensures fault { IfErr result (IsBootFaultOf name.entry.now) }
 {
     match files.open(name.as_bytes()) {
         Ok(mut source) => match read_first(alloc, &mut source, BOOT_LEN) {
@@ -50,7 +50,7 @@ pub fn work_for<'a, F: Files>(
     ensures ok { IfOk result (λ work.
         IsOrderOf (F.bytes_of files.now) (boot_request_value request.entry) (order_of work)) }
     ensures fault { IfErr result (λ fault. (name : List ℕ) × (boot_request_value request.entry ≡ copy name)
-        × IsFaultOf name fault) }
+        × IsBootFaultOf name fault) }
 {
     match request {
         BootRequest::Tell => Ok(Work::Tell),
@@ -67,7 +67,7 @@ impl BootFault<'_> {
     /// Says on errors why a boot file is not had, and returns the status.
     pub fn refuse<E: Sink>(self, alloc: Global, errors: &mut E) -> u8
         requires { E.has_failed errors.old ≡ false }
-        ensures { (name : List ℕ) (held : Option (List ℕ)) → IsFaultOf name self.entry
+        ensures { (name : List ℕ) (held : Option (List ℕ)) → IsBootFaultOf name self.entry
             → LacksBoot name result held held
             (E.has_failed errors.new) (E.held errors.old) (E.held errors.new) }
     {

@@ -2,7 +2,7 @@
 
 ghost use Rattle.std.specs.Prelude.{◌≡◌, ◌≤◌, length, slice_index, IfOk};
 ghost use Rattle.adf_boot_blocks.specs.declared.boot.TheConstants.{BOOT_LEN};
-ghost use Rattle.adf_boot_cmd.specs.Lines.{boot_line, state_text, type_of, type_text};
+ghost use Rattle.adf_boot_cmd.specs.Lines.{boot_line, state_text, type_of, type_name};
 
 use adf_boot_blocks::{BOOT_LEN, begins_with_dos, crc_32, has_no_code, has_right_sum};
 use adf_texts::push_hex;
@@ -25,8 +25,8 @@ fn state_text(image: &[u8]) -> &'static str
 }
 
 // The type of a volume.
-fn type_text(number: u8) -> &'static str
-    ensures { result.now ≡ type_text number }
+fn type_name(number: u8) -> &'static str
+    ensures { result.now ≡ type_name number }
 {
     match number {
         0 => "ofs",
@@ -45,7 +45,7 @@ fn type_of(image: &[u8]) -> &'static str
     ensures { result.now ≡ type_of image.now }
 {
     if begins_with_dos(image) {
-        type_text(image[3])
+        type_name(image[3])
     } else {
         "-"
     }

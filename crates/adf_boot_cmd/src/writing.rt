@@ -4,7 +4,7 @@ ghost use Rattle.std.specs.Prelude.{◌≡◌, ◌≤◌, ◌++◌, List, Option
 ghost use Rattle.adf_boot_blocks.specs.declared.boot.TheConstants.{BOOT_LEN};
 ghost use Rattle.adf_runs.specs.Commands.{on_errors, on_output};
 ghost use Rattle.adf_runs.specs.Outcomes.{EndsBy, is_read_fault, is_write_fault};
-ghost use Rattle.adf_boot_cmd.specs.Answers.{changed, is_whole, line_status, told, written, written_from};
+ghost use Rattle.adf_boot_cmd.specs.Answers.{changed_boot, is_whole, line_status, boot_reply, written, written_from};
 ghost use Rattle.adf_boot_cmd.specs.Work.{HasBoot, order_of};
 ghost use Rattle.adf_boot_cmd.specs.declared.work.TheConstants.{MOST_BYTES};
 
@@ -47,7 +47,7 @@ fn write_line<W: Sink>(output: &mut W, line: &[u8], bootable: bool) -> Outcome
 /// Writes the line of the boot blocks of an image.
 pub fn tell<W: Sink>(alloc: Global, image: &[u8], output: &mut W) -> Outcome
     requires { W.has_failed output.old ≡ false }
-    ensures ends { EndsBy (λ reply. reply ≡ told image.now) result (W.held output.old) (W.held output.new) }
+    ensures ends { EndsBy (λ reply. reply ≡ boot_reply image.now) result (W.held output.old) (W.held output.new) }
     ensures read { is_read_fault result ≡ false }
     ensures written { W.has_failed output.new ≡ is_write_fault result }
 {
@@ -87,7 +87,7 @@ impl Work {
         requires whole { BOOT_LEN ≤ length image.now }
         requires few { length image.now ≤ MOST_BYTES }
         requires boot { HasBoot (order_of self.now) }
-        ensures { result ≡ changed (order_of self.now) image.now }
+        ensures { result ≡ changed_boot (order_of self.now) image.now }
     {
         let mut boot = [0; BOOT_LEN];
         boot.copy_from_slice(&image[..BOOT_LEN]);

@@ -3,7 +3,7 @@
 ghost use Rattle.std.specs.Prelude.{◌≡◌, ◌≢◌, ◌⊎◌, ◌≤◌, ◌<◌, ◌+◌, ℕ, [], drop, length, min, slice_index};
 ghost use Rattle.adf_blocks.specs.Sizes.{blocks};
 ghost use Rattle.adf_findings.specs.Survey.{OnSurvey};
-ghost use Rattle.adf_memory.specs.FoundFiles.{file_blocks, found_blocks, found_from, lost_from, named_blocks, part_table};
+ghost use Rattle.adf_memory.specs.FoundFiles.{file_block_count, found_blocks, found_from, lost_from, named_blocks, found_part_table};
 ghost use Rattle.adf_memory.specs.FoundRoles.{IsFoundRole};
 ghost use Rattle.adf_memory.specs.Rooms.{filled};
 ghost use Rattle.adf_memory.specs.Verdicts.{WantsMemory};
@@ -19,7 +19,7 @@ pub extern "C" fn adf_survey_parts(alloc: Global, image: &[u8], parts: &mut [Fou
     ensures number { (result ≡ 0) ⊎ WantsMemory result }
 
     // The table is that of the image's one survey.
-    ensures parts { result ≡ 0 → OnSurvey image.now (λ w _. parts.new ≡ filled (part_table image.now w) parts.old) }
+    ensures parts { result ≡ 0 → OnSurvey image.now (λ w _. parts.new ≡ filled (found_part_table image.now w) parts.old) }
 
     // If memory ran out, the table is unchanged.
     ensures unchanged { WantsMemory result → parts.new ≡ parts.old }
@@ -58,11 +58,11 @@ pub extern "C" fn adf_found_blocks(
     table: &mut [u32],
 ) -> usize
     // If the rows are those of the image's survey, the table is that of what its walk has of the file.
-    ensures blocks { OnSurvey image.now (λ w _. FileAt image.now w node header → parts.now ≡ part_table image.now w
+    ensures blocks { OnSurvey image.now (λ w _. FileAt image.now w node header → parts.now ≡ found_part_table image.now w
         → table.new ≡ filled (found_blocks image.now w node header) table.old) }
 
     // For any rows it is that of what the header and its extension blocks name.
-    ensures count { result ≡ file_blocks image.now header }
+    ensures count { result ≡ file_block_count image.now header }
     ensures any_blocks { table.new ≡ filled (named_blocks image.now parts.now node header) table.old }
 {
     put_found_blocks(image, parts, node, header, table)

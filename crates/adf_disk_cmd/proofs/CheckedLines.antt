@@ -4,7 +4,7 @@ use Rattle.std.proofs.Common.{None, Some, append-nil, append_assoc, codes, drop,
 use Rattle.std.proofs.Math.Seq.{drop-cons}
 use Rattle.std.proofs.Math.Bool.{and-true}
 use Rattle.std.proofs.lemmas.Grind.{common_steps}
-use Rattle.adf_disk_cmd.specs.Checks.{AreChecked, Tells, TellsPlace, TellsVolume, check_status, unchecked_text, why_unchecked}
+use Rattle.adf_disk_cmd.specs.Checks.{AreChecked, TellsPartition, TellsPlace, TellsVolume, check_status, unchecked_text, why_unchecked}
 use Rattle.adf_disk_cmd.specs.Lines.{list_line, list_lines, name_text, volume_at}
 use Rattle.adf_cmd.specs.Answers.{Checks}
 use Rattle.adf_volume.specs.declared.types.Types.TheVariants.{WithInternational}
@@ -29,14 +29,14 @@ lines_end ps n text h = sym (append-nil text) ∙ h
 
 -- what is answered to a volume that is checked is told of its partition
 pub told : (bytes line : List ℕ) (p : Partition) (q : Place) (sound : Bool) → p.place ≡ Ok q → why_unchecked p q ≡ None
-    → Checks WithInternational (volume_at bytes q) (on_output (check_status sound) line) → Tells bytes p sound line
+    → Checks WithInternational (volume_at bytes q) (on_output (check_status sound) line) → TellsPartition bytes p sound line
 told bytes line p q sound e why h =
     subst (λ place. TellsPlace bytes p place sound line) (sym e)
     (subst (λ o. TellsVolume (volume_at bytes q) o sound line) (sym why) h)
 
 -- and why it is not, of one that is not
 pub told_why : (bytes line : List ℕ) (p : Partition) (q : Place) (why : Unchecked) → p.place ≡ Ok q → why_unchecked p q ≡ Some why
-    → line ≡ unchecked_text why ++ codes "\n" → Tells bytes p false line
+    → line ≡ unchecked_text why ++ codes "\n" → TellsPartition bytes p false line
 told_why bytes line p q why e f h =
     subst (λ place. TellsPlace bytes p place false line) (sym e)
     (subst (λ o. TellsVolume (volume_at bytes q) o false line) (sym f) (refl, h))
@@ -51,7 +51,7 @@ and_assoc true b c = refl
 and_assoc false b c = refl
 
 line_added : (bytes : List ℕ) (ps left : List Partition) (p : Partition) (sound one : Bool) (text line : List ℕ)
-    → Continues bytes ps (p ∷ left) sound text → Tells bytes p one line → Continues bytes ps left (sound && one) (text ++ (name_text p ++ line))
+    → Continues bytes ps (p ∷ left) sound text → TellsPartition bytes p one line → Continues bytes ps left (sound && one) (text ++ (name_text p ++ line))
 unfolding AreChecked
 line_added bytes ps left p sound one text line all tells = λ others rest h.
     let more = all (one && others) ((name_text p ++ line) ++ rest) (one, others, line, rest, tells, h, refl, refl) in
@@ -60,7 +60,7 @@ line_added bytes ps left p sound one text line all tells = λ others rest h.
 
 -- the line of a partition behind those before it
 pub stepped : (bytes : List ℕ) (ps left : List Partition) (p : Partition) (sound one next : Bool) (text line more : List ℕ)
-    → Continues bytes ps (p ∷ left) sound text → Tells bytes p one line → next ≡ (sound && one) → more ≡ text ++ (name_text p ++ line)
+    → Continues bytes ps (p ∷ left) sound text → TellsPartition bytes p one line → next ≡ (sound && one) → more ≡ text ++ (name_text p ++ line)
     → Continues bytes ps left next more
 stepped bytes ps left p sound one next text line more all tells e f = grind (arith, common_steps, line_added)
 

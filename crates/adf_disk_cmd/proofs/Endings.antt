@@ -4,7 +4,7 @@ use Rattle.std.proofs.lemmas.List.{drop_min, length-drop, take-take, take_all, t
 use Rattle.adf_disk_cmd.specs.Answers.{DiskAnswer, OfBytes, OfDisk, OfFault, OfPartitions}
 use Rattle.adf_disk_cmd.specs.Builds.{BuildsDisk}
 use Rattle.adf_disk_cmd.specs.Lines.{volume_at}
-use Rattle.adf_disk_cmd.specs.Work.{Serves}
+use Rattle.adf_disk_cmd.specs.Work.{IsWorkOf}
 use Rattle.adf_disk_cmd.specs.declared.work.TheConstants.{MOST_DISK_BYTES}
 use Rattle.adf_disk_cmd.specs.declared.work.Work.{Work, TheVariants.Check, TheVariants.Survey}
 use Rattle.adf_partitions.specs.Disks.{FirstFault, IsDisk}
@@ -67,11 +67,11 @@ plan_ends bytes part w o o' e h = ends_weaker (BuildsDisk part) (DiskAnswer buil
     (λ reply tells. subst (λ (l : List ℕ). BuildsDisk l reply) e tells) h
 
 -- the work of `check` is that of no other request, nor is that of `survey`
-pub checks : (work : Work) (r : DiskRequestValue) → work ≡ Check → Serves work r → r ≡ check
-checks work r e serves = subst (λ (w : Work). Serves w r) e serves
+pub checks : (work : Work) (r : DiskRequestValue) → work ≡ Check → IsWorkOf work r → r ≡ check
+checks work r e serves = subst (λ (w : Work). IsWorkOf w r) e serves
 
-pub surveys : (work : Work) (r : DiskRequestValue) → work ≡ Survey → Serves work r → r ≡ survey
-surveys work r e serves = subst (λ (w : Work). Serves w r) e serves
+pub surveys : (work : Work) (r : DiskRequestValue) → work ≡ Survey → IsWorkOf work r → r ≡ survey
+surveys work r e serves = subst (λ (w : Work). IsWorkOf w r) e serves
 
 -- a slice of a slice is the volume
 pub volume_is : (bytes : List ℕ) (q : Place) (first count : ℕ) → first ≡ min (q.first * 512) (length bytes)

@@ -5,7 +5,7 @@ use Rattle.std.proofs.Common.{None, Some, IfSome, ap, arith, length, length-take
 use Rattle.std.proofs.lemmas.List.{take-take}
 use Rattle.adf_disk_cmd.specs.Answers.{DiskAnswer, OfFault, OfPartitions}
 use Rattle.adf_disk_cmd.specs.Lines.{list_lines}
-use Rattle.adf_disk_cmd.specs.Work.{TellsFault, listing}
+use Rattle.adf_disk_cmd.specs.Work.{TellsFault, listing_request}
 use Rattle.adf_disk_cmd.specs.declared.list_input.TheConstants.{TABLES_LEN}
 use Rattle.adf_disk_cmd.specs.declared.work.TheConstants.{MOST_DISK_BYTES}
 use Rattle.adf_disk_cmd.proofs.Endings.{disk_ends, refused_ends, told_ends}
@@ -55,23 +55,23 @@ module _ (all bytes : List ℕ) (len n : ℕ) (held : IsPart 0 TABLES_LEN (MOST_
       (subst (λ (l : List ℕ). AreReadable l (length (disk_of all) / 512) ps) first_held (subst (λ (k : ℕ). AreReadable bytes k ps) blocks_held v))
 
   -- its partitions are listed
-  listed : (s : Bool) (ps : List Partition) (reply : Reply) → reply ≡ on_output 0 (list_lines 1 ps) → OfPartitions (listing s) (disk_of all) ps reply
+  listed : (s : Bool) (ps : List Partition) (reply : Reply) → reply ≡ on_output 0 (list_lines 1 ps) → OfPartitions (listing_request s) (disk_of all) ps reply
   listed true ps reply e = e
   listed false ps reply e = e
 
   pub listed_ends : (s : Bool) (t : Tables) (ps : List Partition) (w : Outcome) (o o' : Option (List ℕ)) → IsDisk bytes n t ps
-      → EndsBy (λ reply. reply ≡ on_output 0 (list_lines 1 ps)) w o o' → EndsBy (DiskAnswer (listing s) all) w o o'
+      → EndsBy (λ reply. reply ≡ on_output 0 (list_lines 1 ps)) w o o' → EndsBy (DiskAnswer (listing_request s) all) w o o'
   listed_ends s t ps w o o' disk h =
-      disk_ends (listing s) all (disk_of all) w o o' refl (told_ends (listing s) (disk_of all) t ps w o o' (disk_held disk)
-      (ends_weaker (λ reply. reply ≡ on_output 0 (list_lines 1 ps)) (OfPartitions (listing s) (disk_of all) ps) w o o' (listed s ps) h))
+      disk_ends (listing_request s) all (disk_of all) w o o' refl (told_ends (listing_request s) (disk_of all) t ps w o o' (disk_held disk)
+      (ends_weaker (λ reply. reply ≡ on_output 0 (list_lines 1 ps)) (OfPartitions (listing_request s) (disk_of all) ps) w o o' (listed s ps) h))
 
   -- or its fault is told
-  told : (s : Bool) (f : DiskFault) (reply : Reply) → TellsFault s bytes n f reply → OfFault (listing s) (disk_of all) f reply
+  told : (s : Bool) (f : DiskFault) (reply : Reply) → TellsFault s bytes n f reply → OfFault (listing_request s) (disk_of all) f reply
   told true f reply (text, (ps, readable, e), same) = (text, (ps, readable_held readable, e), same)
   told false f reply e = e
 
   pub fault_ends : (s : Bool) (f : DiskFault) (w : Outcome) (o o' : Option (List ℕ)) → FirstFault bytes n f
-      → EndsBy (TellsFault s bytes n f) w o o' → EndsBy (DiskAnswer (listing s) all) w o o'
+      → EndsBy (TellsFault s bytes n f) w o o' → EndsBy (DiskAnswer (listing_request s) all) w o o'
   fault_ends s f w o o' first h =
-      disk_ends (listing s) all (disk_of all) w o o' refl (refused_ends (listing s) (disk_of all) f w o o' (fault_held first)
-      (ends_weaker (TellsFault s bytes n f) (OfFault (listing s) (disk_of all) f) w o o' (told s f) h))
+      disk_ends (listing_request s) all (disk_of all) w o o' refl (refused_ends (listing_request s) (disk_of all) f w o o' (fault_held first)
+      (ends_weaker (TellsFault s bytes n f) (OfFault (listing_request s) (disk_of all) f) w o o' (told s f) h))

@@ -14,7 +14,7 @@ use Rattle.adf_names.specs.Escapes.{escaped}
 use Rattle.adf_names.specs.Texts.{uppers}
 use Rattle.adf_partitions.proofs.AnyLength.{is_disk_too, named_is, numbered_is}
 use Rattle.adf_partitions.specs.Disks.{FirstFault, IsDisk}
-use Rattle.adf_partitions.specs.Places.{StatesPlace, end_of, place_of}
+use Rattle.adf_partitions.specs.Places.{StatesPlace, end_of, partition_place}
 use Rattle.adf_partitions.specs.Volumes.{FoundAlike, IsStated}
 use Rattle.adf_partitions.specs.declared.fault.DiskFault.{DiskFault}
 use Rattle.adf_partitions.specs.declared.partition.Partition.{Partition}
@@ -49,12 +49,12 @@ wanted_alike bytes n m t u ps qs (name text) d e = named_is bytes n m t u ps qs 
 
 -- a volume has no other place than its block says with more blocks
 module _ (bytes : List ℕ) (n m : ℕ) (few : n ≤ m) (p : Partition) (stated : Option Place) (nowhere : Place)
-    (says : SomeIff stated (StatesPlace bytes m p.block) (place_of (block bytes p.block))) where
+    (says : SomeIff stated (StatesPlace bytes m p.block) (partition_place (block bytes p.block))) where
   more_stated : (b : ℕ) → b ≡ p.block → StatesPlace bytes n b → StatesPlace bytes m p.block
   more_stated b e s = grind (arith, common_steps)
 
-  is_said : (o : Option Place) (r : Place) → SomeIff o (StatesPlace bytes m p.block) (place_of (block bytes p.block)) → StatesPlace bytes m p.block
-      → r ≡ place_of (block bytes p.block) → unwrap_or o nowhere ≡ r
+  is_said : (o : Option Place) (r : Place) → SomeIff o (StatesPlace bytes m p.block) (partition_place (block bytes p.block)) → StatesPlace bytes m p.block
+      → r ≡ partition_place (block bytes p.block) → unwrap_or o nowhere ≡ r
   is_said None r h s e = absurd (h s)
   is_said (Some q) r h s e = h.1 ∙ sym e
 

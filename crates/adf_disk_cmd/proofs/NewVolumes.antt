@@ -14,7 +14,7 @@ use Rattle.adf_build.specs.Building.{IsBuildFault}
 use Rattle.adf_build.specs.Laid.{boot_bytes_by, volume}
 use Rattle.adf_build.specs.Plan.{blocks_needed, planned}
 use Rattle.adf_build.specs.declared.builder.BuildFault.TheVariants.{Full}
-use Rattle.adf_disk_cmd.specs.Builds.{IsNewVolume, new_tree}
+use Rattle.adf_disk_cmd.specs.Builds.{IsNewVolume, planned_tree}
 use Rattle.adf_cmd.specs.Answers.{Checks}
 use Rattle.adf_volume.specs.declared.types.Types.TheVariants.{WithInternational}
 use Rattle.adf_names.specs.declared.kind.Kind.{Kind}
@@ -47,7 +47,7 @@ room t n none size = grind (arith, common_steps, size_low, reserved_below)
 no_date : IsStamp (record { days = 0; mins = 0; ticks = 0 })
 no_date = record { days = omega arith; mins = omega arith; ticks = omega arith }
 
-can_hold : (n : ℕ) (p : PartitionPlan) → MayBeNew n p → CanHold (new_tree p) n
+can_hold : (n : ℕ) (p : PartitionPlan) → MayBeNew n p → CanHold (planned_tree p) n
 can_hold n p may = record {
   sound = record {
     tree = (nothing_added_by p.letters).tree;
@@ -58,7 +58,7 @@ can_hold n p may = record {
     };
   };
   allowed = may.size;
-  room = room (new_tree p) n refl may.size;
+  room = room (planned_tree p) n refl may.size;
 }
 
 boot_type : (letters : Letters) (kind : Kind) → word (block_of_fields ((0, boot_bytes_by letters kind) ∷ [])) 0 ≡ planned_type letters kind
@@ -75,16 +75,16 @@ accepted letters image t l fits =
     let own : letters_of image ≡ letters = own_letters letters image fits.boots in
     inl (t, l, own_fit fits, ap (λ x. on_output 0 (ok_line_by x (counts_of image t l))) (sym own))
 
-pub new_volume : (n : ℕ) (p : PartitionPlan) → MayBeNew n p → IsNewVolume n p (volume (new_tree p) n)
+pub new_volume : (n : ℕ) (p : PartitionPlan) → MayBeNew n p → IsNewVolume n p (volume (planned_tree p) n)
 new_volume n p may =
     let can = can_hold n p may in
     record {
       fits = volume_fits can;
-      checked = accepted p.letters (volume (new_tree p) n) (new_tree p) (planned (new_tree p) n) (volume_fits can);
+      checked = accepted p.letters (volume (planned_tree p) n) (planned_tree p) (planned (planned_tree p) n) (volume_fits can);
       type = ap (λ b. word b 0) (holds_boot can) ∙ boot_type p.letters p.kind;
     }
 
-pub length_new : (n : ℕ) (p : PartitionPlan) → MayBeNew n p → length (volume (new_tree p) n) ≡ n * 512
+pub length_new : (n : ℕ) (p : PartitionPlan) → MayBeNew n p → length (volume (planned_tree p) n) ≡ n * 512
 length_new n p may = volume_long (can_hold n p may)
 
 -- no room is lacking

@@ -1,10 +1,11 @@
 -- What is asked of a disk has one answer.
 -- Letters: ps are its partitions, p is one of them; s, t whether it is sound, l, m its lines; a, b replies.
-use Rattle.std.proofs.Common.{◌≡◌, ◌&&◌, ◌++◌, ◌∙◌, ℕ, Bool, true, false, List, [], ◌∷◌, Option, None, Some, Result, Ok, Err, inl, inr, ap, ap₂, refl, sym, subst}
+use Rattle.std.proofs.Common.{◌≡◌, ◌&&◌, ◌++◌, ◌∙◌, ℕ, Bool, true, false, List, [], ◌∷◌, Option, None, Some, Result, Ok, Err, inl, inr, ap, ap₂}
+use Rattle.std.proofs.Common.{refl, sym, subst}
 use Rattle.std.proofs.Common.{length, ◌/◌, take, arith}
 use Rattle.std.proofs.lemmas.Grind.{common_steps}
 use Rattle.adf_disk_cmd.specs.Answers.{ChecksAll, DiskAnswer, OfBytes}
-use Rattle.adf_disk_cmd.specs.Answers.{OfDisk, OfFault, OfPartitions, TellsReadable, fault_line}
+use Rattle.adf_disk_cmd.specs.Answers.{OfDisk, OfFault, OfPartitions, TellsReadable, disk_fault_line}
 use Rattle.adf_disk_cmd.specs.Builds.{BuildsDisk, plan_reply, refusal}
 use Rattle.adf_disk_cmd.specs.Checks.{AreChecked, TellsPlace, TellsText, TellsVolume, check_status, unchecked_text, why_unchecked}
 use Rattle.adf_disk_cmd.specs.Lines.{name_text, volume_at}
@@ -75,7 +76,7 @@ fault_once : (r : DiskRequestValue) (bytes : List ℕ) (f : DiskFault) (a b : Re
 fault_once list bytes f a b x y = x ∙ sym y
 fault_once check bytes f a b x y = x ∙ sym y
 fault_once survey bytes f a b (s, h, x) (t, g, y) =
-    x ∙ ap (λ (k : List ℕ). on_output 1 k) (readable_once bytes (length bytes / 512) (fault_line f) s t h g) ∙ sym y
+    x ∙ ap (λ (k : List ℕ). on_output 1 k) (readable_once bytes (length bytes / 512) (disk_fault_line f) s t h g) ∙ sym y
 fault_once (volume w) bytes f a b x y = x ∙ sym y
 fault_once build bytes f a b x y = absurd x
 

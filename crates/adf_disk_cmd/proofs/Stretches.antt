@@ -15,7 +15,7 @@ use Rattle.adf_partitions.specs.declared.place.Place.{Place}
 use Rattle.adf_runs.proofs.KnownBytes.{consumes_more, two_at_most}
 use Rattle.adf_runs.specs.Streams.{PassesOver, TakesAtMost, TakesCount, TakesFirst}
 use Rattle.adf_disk_cmd.proofs.HeldVolume.{whole_place}
-use Rattle.adf_disk_cmd.specs.HeldChecks.{IsAnswered, IsFrom, IsStretch, IsWithin, first_of, places_of}
+use Rattle.adf_disk_cmd.specs.HeldChecks.{IsAnswered, IsFrom, IsStretch, IsWithin, first_of_place, checked_places}
 use Rattle.adf_disk_cmd.specs.Lines.{volume_at}
 use Rattle.adf_disk_cmd.specs.declared.checking.CheckedVolume.{CheckedVolume}
 use Rattle.adf_disk_cmd.specs.declared.work.TheConstants.{MOST_DISK_BYTES}
@@ -97,7 +97,7 @@ next_from k i places d within h =
     let same : i + 0 ≡ i = omega arith in
     subst (IsFrom k) (get_or-drop i places 0 d ∙ ap (λ (j : ℕ). get_or places j d) same) first
 
-pub later_from : (k i : ℕ) (places : List Place) (d : Place) → IsNonDecreasingBy first_of places → IsFrom k (get_or places i d)
+pub later_from : (k i : ℕ) (places : List Place) (d : Place) → IsNonDecreasingBy first_of_place places → IsFrom k (get_or places i d)
     → All (IsFrom k) (drop (i + 1) places)
 later_from k i places d order from = All-from_get_or (IsFrom k) (drop (i + 1) places) d one
   where
@@ -135,7 +135,7 @@ answer_added all image bytes left k q few more (v, place, answer, e) h s from wi
 
 -- and its place behind theirs
 pub place_added : (image : List ℕ) (few more : List CheckedVolume) (places : List Place) (i : ℕ) (d : Place)
-    → AddsCheck image (get_or places i d) few more → places_of few ≡ take i places → i < length places → places_of more ≡ take (i + 1) places
+    → AddsCheck image (get_or places i d) few more → checked_places few ≡ take i places → i < length places → checked_places more ≡ take (i + 1) places
 place_added image few more places i d (v, place, answer, e) f lt = grind (arith, common_steps, map_push, take_more)
 
 -- what is read is counted

@@ -13,7 +13,8 @@ use Rattle.adf_partitions.specs.declared.partition.Partition.{Partition}
 use Rattle.adf_partitions.specs.declared.place.Place.{Place}
 use Rattle.adf_partitions.specs.declared.place.PlaceFault.{PlaceFault}
 use Rattle.adf_partitions.specs.declared.tables.Tables.{Tables}
-use Rattle.adf_file_words.specs.DiskLine.{AreRefusedByDisk, AsksDisk, DiskRequestValue, WantedValue, build, check, disk_file, list, name, number, survey, volume}
+use Rattle.adf_file_words.specs.DiskLine.{AreRefusedByDisk, AsksDisk, DiskRequestValue, WantedValue, build, check, disk_file, list, name, number}
+use Rattle.adf_file_words.specs.DiskLine.{survey, volume}
 use Rattle.adf_runs.specs.Commands.{Command, Reply, on_output}
 use Rattle.adf_file_runs.specs.FileRuns.{without_files}
 use Rattle.adf_disk_cmd.specs.Builds.{BuildsDisk, refusal}
@@ -66,15 +67,15 @@ abbrev pub TellsReadable : List ℕ → ℕ → List ℕ → List ℕ → Type 0
 TellsReadable bytes n line text = (ps : List Partition) × AreReadable bytes n ps × (text ≡ line ++ list_lines 1 ps)
 
 -- the line of a fault
-abbrev pub fault_line : DiskFault → List ℕ
-fault_line f = disk_fault_text f ++ codes "\n"
+abbrev pub disk_fault_line : DiskFault → List ℕ
+disk_fault_line f = disk_fault_text f ++ codes "\n"
 
 -- The answer of a disk whose tables have a fault: `check` tells it on output, `survey` with the partitions that can be read, the
 -- others on errors.
 abbrev pub OfFault : DiskRequestValue → List ℕ → DiskFault → Reply → Type 0
 OfFault list bytes f reply = reply ≡ refusal (disk_fault_text f)
-OfFault check bytes f reply = reply ≡ on_output 1 (fault_line f)
-OfFault survey bytes f reply = (text : List ℕ) × TellsReadable bytes (length bytes / 512) (fault_line f) text × (reply ≡ on_output 1 text)
+OfFault check bytes f reply = reply ≡ on_output 1 (disk_fault_line f)
+OfFault survey bytes f reply = (text : List ℕ) × TellsReadable bytes (length bytes / 512) (disk_fault_line f) text × (reply ≡ on_output 1 text)
 OfFault (volume w) bytes f reply = reply ≡ refusal (disk_fault_text f)
 OfFault build bytes f reply = ⊥
 

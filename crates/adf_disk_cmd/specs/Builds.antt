@@ -26,12 +26,12 @@ abbrev pub refusal : List ℕ → Reply
 refusal text = on_errors 1 (text ++ codes "\n")
 
 -- what is on a new volume of the planned kind and letters: nothing, under the drive's name
-abbrev pub new_tree : PartitionPlan → Tree
-new_tree p = record { kind = p.kind; letters = p.letters; label = p.name; stamps = NO_STAMPS; entries = [] }
+abbrev pub planned_tree : PartitionPlan → Tree
+planned_tree p = record { kind = p.kind; letters = p.letters; label = p.name; stamps = NO_STAMPS; entries = [] }
 
 -- the volume of a partition: the first of the given bytes, or a new one
 abbrev pub volume_of : ℕ → PartitionPlan → List ℕ → List ℕ
-volume_of n p given = if p.given then take (n * 512) given else volume (new_tree p) n
+volume_of n p given = if p.given then take (n * 512) given else volume (planned_tree p) n
 
 -- the given bytes behind it
 abbrev pub behind_volume : ℕ → PartitionPlan → List ℕ → List ℕ
@@ -82,13 +82,13 @@ BuildsDisk text reply = BuildsPlan text reply ⊎ RefusesPlan text reply
 
 -- these bytes are a new volume of n blocks: valid by the planned letters and empty, so that `check` accepts them, and of the planned type
 pub record IsNewVolume (n : ℕ) (p : PartitionPlan) (bytes : List ℕ) : Type 0 where
-  pub fits : FitsBy p.letters bytes (new_tree p) (planned (new_tree p) n)
-  pub checked : Checks WithInternational bytes (on_output 0 (ok_line_by p.letters (counts_of bytes (new_tree p) (planned (new_tree p) n))))
+  pub fits : FitsBy p.letters bytes (planned_tree p) (planned (planned_tree p) n)
+  pub checked : Checks WithInternational bytes (on_output 0 (ok_line_by p.letters (counts_of bytes (planned_tree p) (planned (planned_tree p) n))))
   pub type : word_in bytes 0 0 ≡ planned_type p.letters p.kind
 
 -- a volume that is not given is such a new one
 abbrev pub IsSoundIfNew : ℕ → PartitionPlan → Type 0
-IsSoundIfNew c p = p.given ≡ false → IsNewVolume (p.cylinders * c) p (volume (new_tree p) (p.cylinders * c))
+IsSoundIfNew c p = p.given ≡ false → IsNewVolume (p.cylinders * c) p (volume (planned_tree p) (p.cylinders * c))
 
 -- a disk has the planned partitions and no others, and each volume at its partition's place
 pub record HasPlanned (plan : PlanValue) (given disk : List ℕ) : Type 0 where

@@ -1,5 +1,6 @@
 -- What `check` tells of partitions. `bytes` are those of the disk; `sound` says whether a valid volume is there.
-use Rattle.std.specs.Prelude.{◌≡◌, ℕ, ◌==◌, ◌%◌, ◌&&◌, nat_le, Bool, true, false, List, [], ◌∷◌, ◌++◌, codes, Option, None, Some, Result, Ok, Err, if◌then◌else◌}
+use Rattle.std.specs.Prelude.{◌≡◌, ℕ, ◌==◌, ◌%◌, ◌&&◌, nat_le, Bool, true, false, List, [], ◌∷◌, ◌++◌, codes, Option, None, Some, Result, Ok, Err}
+use Rattle.std.specs.Prelude.{if◌then◌else◌}
 use Rattle.std.specs.Fmt.{decimal}
 use Rattle.adf_blocks.specs.declared.layout.TheConstants.{MOST_BLOCKS}
 use Rattle.adf_runs.specs.Commands.{on_output}
@@ -61,12 +62,12 @@ TellsPlace bytes p (Ok q) sound line = TellsVolume (volume_at bytes q) (why_unch
 TellsPlace bytes p (Err f) sound line = TellsText (place_fault_text f) sound line
 
 -- what is told of a partition
-abbrev pub Tells : List ℕ → Partition → Bool → List ℕ → Type 0
-Tells bytes p sound line = TellsPlace bytes p p.place sound line
+abbrev pub TellsPartition : List ℕ → Partition → Bool → List ℕ → Type 0
+TellsPartition bytes p sound line = TellsPlace bytes p p.place sound line
 
 -- the lines of partitions in order, each behind its name, and whether all of them are sound
 unfoldable pub AreChecked : List ℕ → List Partition → Bool → List ℕ → Type 0
 AreChecked bytes [] sound text = (sound ≡ true) × (text ≡ [])
 AreChecked bytes (p ∷ ps) sound text =
-    (one others : Bool) × (line rest : List ℕ) × Tells bytes p one line × AreChecked bytes ps others rest
+    (one others : Bool) × (line rest : List ℕ) × TellsPartition bytes p one line × AreChecked bytes ps others rest
     × (sound ≡ (one && others)) × (text ≡ (name_text p ++ line) ++ rest)

@@ -7,7 +7,7 @@ use Rattle.std.specs.Io.KnownBytes.{Consumes}
 use Rattle.adf_base.specs.Words.{block}
 use Rattle.adf_disk_cmd.specs.Checks.{IsVolumeAnswer}
 use Rattle.adf_partitions.specs.Disks.{IsDisk}
-use Rattle.adf_partitions.specs.Places.{StatesPlace, end_of, place_of}
+use Rattle.adf_partitions.specs.Places.{StatesPlace, end_of, partition_place}
 use Rattle.adf_partitions.specs.declared.layout.TheConstants.{MOST_TABLES}
 use Rattle.adf_partitions.specs.declared.partition.Partition.{Partition}
 use Rattle.adf_partitions.specs.declared.place.Place.{Place}
@@ -28,12 +28,12 @@ abbrev pub lies_at : Place → CheckedVolume → Bool
 lies_at q v = (v.place.first == q.first) && (v.place.blocks == q.blocks)
 
 -- where volumes lie
-abbrev pub places_of : List CheckedVolume → List Place
-places_of checked = map (λ v. v.place) checked
+abbrev pub checked_places : List CheckedVolume → List Place
+checked_places checked = map (λ v. v.place) checked
 
 -- the volume at a place was checked, or all its bytes are held
 abbrev pub IsKnown : List ℕ → List ℕ → List CheckedVolume → Place → Type 0
-IsKnown all bytes checked q = Contains (places_of checked) q ⊎ (volume_at bytes q ≡ volume_at all q)
+IsKnown all bytes checked q = Contains (checked_places checked) q ⊎ (volume_at bytes q ≡ volume_at all q)
 
 -- the volume of a partition is known, if it is one that is checked
 abbrev pub KnowsVolume : List ℕ → List ℕ → List CheckedVolume → Partition → Type 0
@@ -53,18 +53,18 @@ abbrev pub IsFrom : ℕ → Place → Type 0
 IsFrom begin q = begin ≤ q.first * 512
 
 -- the first block of a place
-abbrev pub first_of : Place → ℕ
-first_of q = q.first
+abbrev pub first_of_place : Place → ℕ
+first_of_place q = q.first
 
 -- the volume of a partition is checked, its block says where it lies, and it ends behind the blocks that may have tables
 pub record IsBehind (tables : List ℕ) (p : Partition) : Type 0 where
-  pub checked : why_unchecked p (place_of (block tables p.block)) ≡ None
+  pub checked : why_unchecked p (partition_place (block tables p.block)) ≡ None
   pub states : StatesPlace tables MOST_DISK_BLOCKS p.block
-  pub behind : MOST_TABLES < end_of (place_of (block tables p.block))
+  pub behind : MOST_TABLES < end_of (partition_place (block tables p.block))
 
 -- if so, that place is one of these
 abbrev pub IsCovered : List ℕ → List Place → Partition → Type 0
-IsCovered tables places p = IsBehind tables p → Contains places (place_of (block tables p.block))
+IsCovered tables places p = IsBehind tables p → Contains places (partition_place (block tables p.block))
 
 -- the place of a volume that is checked is one of these, if it ends behind the blocks that may have tables
 abbrev pub IsReadAt : List Place → Partition → Type 0
@@ -85,4 +85,4 @@ pub record HoldsChecks (all bytes : List ℕ) (checked : List CheckedVolume) (le
   pub counted : min len MOST_DISK_BYTES ≡ min (length all) MOST_DISK_BYTES
   pub answered : All (IsAnswered (take MOST_DISK_BYTES all)) checked
   pub tables : bytes ≡ take TABLES_LEN all
-  pub covered : CoversDisk bytes (places_of checked)
+  pub covered : CoversDisk bytes (checked_places checked)

@@ -1,5 +1,6 @@
 -- The lines of partitions. p is a partition, n its number; t is the type of a file system, its four bytes as one number.
-use Rattle.std.specs.Prelude.{ℕ, ◌+◌, ◌*◌, ◌==◌, ◌&&◌, ◌||◌, nat_le, Bool, List, [], ◌∷◌, ◌++◌, codes, drop, take, Option, None, Some, Result, Ok, Err, if◌then◌else◌}
+use Rattle.std.specs.Prelude.{ℕ, ◌+◌, ◌*◌, ◌==◌, ◌&&◌, ◌||◌, nat_le, Bool, List, [], ◌∷◌, ◌++◌, codes, drop, take, Option, None, Some, Result, Ok}
+use Rattle.std.specs.Prelude.{Err, if◌then◌else◌}
 use Rattle.std.specs.Fmt.{decimal, signed_decimal}
 use Rattle.std.specs.Int.{to_be_bytes, w32}
 use Rattle.adf_partitions.specs.FaultTexts.{field_fault_text, place_fault_text}
@@ -40,15 +41,15 @@ place_text (Ok q) = codes "first " ++ (decimal q.first ++ (codes " blocks " ++ d
 place_text (Err f) = place_fault_text f
 
 -- what is wrong with the other fields of a partition, if something is
-abbrev pub fault_text : Option FieldFault → List ℕ
-fault_text None = []
-fault_text (Some f) = codes " " ++ field_fault_text f
+abbrev pub fields_fault_text : Option FieldFault → List ℕ
+fields_fault_text None = []
+fields_fault_text (Some f) = codes " " ++ field_fault_text f
 
 -- the end of a partition's line: its type, place, flags, boot priority, and what is wrong with its other fields
 abbrev pub words_text : Partition → List ℕ
 words_text p =
     type_text p.dos_type ++ (codes " " ++ (place_text p.place
-    ++ (codes " flags " ++ (decimal p.flags ++ (codes " priority " ++ (signed_decimal p.priority ++ (fault_text p.fault ++ codes "\n")))))))
+    ++ (codes " flags " ++ (decimal p.flags ++ (codes " priority " ++ (signed_decimal p.priority ++ (fields_fault_text p.fault ++ codes "\n")))))))
 
 -- the line of partition n
 abbrev pub list_line : ℕ → Partition → List ℕ

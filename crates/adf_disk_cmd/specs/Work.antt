@@ -12,7 +12,7 @@ use Rattle.adf_partitions.specs.declared.tables.Tables.{Tables}
 use Rattle.adf_runs.specs.Commands.{Reply, on_output}
 use Rattle.adf_runs.specs.Streams.{IsPart}
 use Rattle.adf_file_words.specs.DiskLine.{DiskRequestValue, WantedValue, check, list, name, number, survey, volume}
-use Rattle.adf_disk_cmd.specs.Answers.{TellsReadable, fault_line, no_partition_text, wanted_of}
+use Rattle.adf_disk_cmd.specs.Answers.{TellsReadable, disk_fault_line, no_partition_text, wanted_of}
 use Rattle.adf_disk_cmd.specs.Builds.{refusal}
 use Rattle.adf_disk_cmd.specs.declared.copy_input.TheConstants.{MOST_DISK_BLOCKS}
 use Rattle.adf_disk_cmd.specs.declared.list_input.TheConstants.{TABLES_LEN}
@@ -28,20 +28,20 @@ sought_value (Numbered n) = number n
 sought_value (Named text) = name (string_bytes text)
 
 -- the work is that of a request
-abbrev pub Serves : Work → DiskRequestValue → Type 0
-Serves ListAll r = r ≡ list
-Serves Check r = r ≡ check
-Serves Survey r = r ≡ survey
-Serves (Volume sought) r = r ≡ volume (sought_value sought)
+abbrev pub IsWorkOf : Work → DiskRequestValue → Type 0
+IsWorkOf ListAll r = r ≡ list
+IsWorkOf Check r = r ≡ check
+IsWorkOf Survey r = r ≡ survey
+IsWorkOf (Volume sought) r = r ≡ volume (sought_value sought)
 
 -- the request to list partitions, or to survey the disk
-abbrev pub listing : Bool → DiskRequestValue
-listing true = survey
-listing false = list
+abbrev pub listing_request : Bool → DiskRequestValue
+listing_request true = survey
+listing_request false = list
 
 -- what each of them answers where the tables of a disk of n blocks have a fault
 abbrev pub TellsFault : Bool → List ℕ → ℕ → DiskFault → Reply → Type 0
-TellsFault true bytes n f reply = (text : List ℕ) × TellsReadable bytes n (fault_line f) text × (reply ≡ on_output 1 text)
+TellsFault true bytes n f reply = (text : List ℕ) × TellsReadable bytes n (disk_fault_line f) text × (reply ≡ on_output 1 text)
 TellsFault false bytes n f reply = reply ≡ refusal (disk_fault_text f)
 
 -- where the volume of the partition that is wanted lies, if it has a place on a disk of so many blocks, however many

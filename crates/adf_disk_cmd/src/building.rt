@@ -4,7 +4,7 @@ ghost use Rattle.std.specs.Prelude.{◌≡◌, ◌≢◌, ◌≤◌, ◌*◌, �
 ghost use Rattle.std.specs.List.{list_all};
 ghost use Rattle.adf_blocks.specs.Sizes.{is_allowed};
 ghost use Rattle.adf_build.specs.Laid.{volume};
-ghost use Rattle.adf_disk_cmd.specs.Builds.{BuildsDisk, DisksHavePlanned, RefusesPlan, behind_volume, built_disk, given_bytes, given_line, new_tree, plan_reply, volume_of};
+ghost use Rattle.adf_disk_cmd.specs.Builds.{BuildsDisk, DisksHavePlanned, RefusesPlan, behind_volume, built_disk, given_bytes, given_line, planned_tree, plan_reply, volume_of};
 ghost use Rattle.adf_partitions.specs.Plans.{IsPlan, cylinder_blocks, plan_value};
 ghost use Rattle.adf_partitions.specs.PlanTexts.{IsTextFault, has_volume, is_plan};
 ghost use Rattle.adf_partitions.specs.declared.plan_text.TextKind.{TextKind};
@@ -39,7 +39,7 @@ fn given_bytes(plan: &DiskPlan) -> usize
 fn new_volume(alloc: Global, partition: &PartitionPlan, blocks: u32) -> Result<Vec<u8>, AllocError>
     requires size { is_allowed blocks ≡ true }
     requires label { length partition.now.name ≤ 30 }
-    ensures { IfOk result (λ bytes. bytes.items ≡ volume (new_tree partition.now) blocks) }
+    ensures { IfOk result (λ bytes. bytes.items ≡ volume (planned_tree partition.now) blocks) }
 {
     let label = Label::new(partition.name.bytes()).unwrap();
     let tree = Tree::with_letters(alloc, partition.kind, partition.letters, label, NO_STAMPS);

@@ -2,7 +2,7 @@
 
 ghost use Rattle.std.specs.Prelude.{◌≡◌, ◌++◌, All, List, ℕ, false, find, option_copied, string_bytes, IfOk, OnOk};
 ghost use Rattle.adf_disk_cmd.specs.Answers.{ChecksAll};
-ghost use Rattle.adf_disk_cmd.specs.Checks.{AreChecked, Tells};
+ghost use Rattle.adf_disk_cmd.specs.Checks.{AreChecked, TellsPartition};
 ghost use Rattle.adf_disk_cmd.specs.HeldChecks.{IsAnswered, IsKnown, KnowsVolume, KnowsVolumes, lies_at};
 ghost use Rattle.adf_disk_cmd.specs.Lines.{name_text, volume_at};
 ghost use Rattle.adf_disk_cmd.specs.Checks.{IsVolumeAnswer};
@@ -72,7 +72,7 @@ fn answer_to_partition(
     partition: &Partition,
 ) -> Result<CheckAnswer, AllocError>
     ensures { (all : List ℕ) → All (IsAnswered all) checked.now → KnowsVolume all bytes.now checked.now partition.now
-        → IfOk result (λ a. Tells all partition.now a.sound (string_bytes a.line)) }
+        → IfOk result (λ a. TellsPartition all partition.now a.sound (string_bytes a.line)) }
 {
     let line = match partition.place {
         Ok(place) => match why_unchecked(partition, place) {

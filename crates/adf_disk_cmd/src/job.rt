@@ -1,7 +1,7 @@
 // What is done for words, of a disk or of a plan.
 
 ghost use Rattle.std.specs.Prelude.{IfOk};
-ghost use Rattle.adf_disk_cmd.specs.Jobs.{Serves};
+ghost use Rattle.adf_disk_cmd.specs.Jobs.{IsJobOf};
 ghost use Rattle.adf_file_words.specs.DiskLine.{disk_request_value};
 
 use crate::building::build_disk;
@@ -25,7 +25,7 @@ pub enum Job {
 
 // The job that a request asks for.
 fn job_for(alloc: Global, request: DiskRequest<'_>) -> Result<Job, AllocError>
-    ensures { IfOk result (λ job. Serves job (disk_request_value request.entry)) }
+    ensures { IfOk result (λ job. IsJobOf job (disk_request_value request.entry)) }
 {
     Ok(match request {
         DiskRequest::List => Job::Tell(Work::List),
@@ -39,11 +39,11 @@ fn job_for(alloc: Global, request: DiskRequest<'_>) -> Result<Job, AllocError>
 impl Program for Job {
     ghost use Rattle.std.proofs.Common.{rules};
     ghost use Rattle.adf_disk_cmd.specs.Answers.{disk_command};
-    ghost use Rattle.adf_disk_cmd.specs.Jobs.{Serves};
+    ghost use Rattle.adf_disk_cmd.specs.Jobs.{IsJobOf};
 
     ghost command = { disk_command };
 
-    ghost serves = { Serves };
+    ghost serves = { IsJobOf };
 
     fn usage() -> &'static str {
         USAGE

@@ -2,7 +2,7 @@
 
 ghost use Rattle.std.specs.Prelude.{◌≡◌, ◌+◌, ◌/◌, List, ℕ, false, min, true, IfSome};
 ghost use Rattle.adf_disk_cmd.specs.Answers.{DiskAnswer};
-ghost use Rattle.adf_disk_cmd.specs.Work.{TellsFault, listing};
+ghost use Rattle.adf_disk_cmd.specs.Work.{TellsFault, listing_request};
 ghost use Rattle.adf_runs.specs.Outcomes.{EndsBy, is_read_fault, is_write_fault};
 ghost use Rattle.adf_runs.specs.Streams.{IsPart, TakesAtMost};
 
@@ -54,7 +54,7 @@ fn list_part<W: Sink>(alloc: Global, held: &Part, survey: bool, output: &mut W) 
     requires { W.has_failed output.old ≡ false }
     ensures ends { (all : List ℕ)
         → IsPart 0 TABLES_LEN (MOST_DISK_BYTES + 1) all held.now.bytes.items held.now.len
-        → EndsBy (DiskAnswer (listing survey) all) result (W.held output.old) (W.held output.new) }
+        → EndsBy (DiskAnswer (listing_request survey) all) result (W.held output.old) (W.held output.new) }
     ensures read { is_read_fault result ≡ false }
     ensures written { W.has_failed output.new ≡ is_write_fault result }
 {
@@ -79,7 +79,7 @@ pub fn list_input<R: Source, W: Sink>(
     requires reads { R.has_failed input.old ≡ false }
     requires writes { W.has_failed output.old ≡ false }
     ensures ends { IfSome (R.left input.old) (λ all.
-        EndsBy (DiskAnswer (listing survey) all) result (W.held output.old) (W.held output.new)) }
+        EndsBy (DiskAnswer (listing_request survey) all) result (W.held output.old) (W.held output.new)) }
     ensures read { R.has_failed input.new ≡ is_read_fault result }
     ensures written { W.has_failed output.new ≡ is_write_fault result }
     ensures unwritten { is_read_fault result ≡ true → output.new ≡ output.old }

@@ -1,7 +1,7 @@
 // The command `list`.
 
 ghost use Rattle.std.specs.Prelude.{◌≡◌, ◌++◌, false, string_bytes, IfOk, OnOk};
-ghost use Rattle.adf_disk_cmd.specs.Lines.{fault_text, list_line, list_lines, name_text, place_text, words_text};
+ghost use Rattle.adf_disk_cmd.specs.Lines.{fields_fault_text, list_line, list_lines, name_text, place_text, words_text};
 ghost use Rattle.adf_runs.specs.Commands.{on_output};
 ghost use Rattle.adf_runs.specs.Outcomes.{EndsBy, is_read_fault, is_write_fault};
 
@@ -27,8 +27,8 @@ fn place_text(alloc: Global, place: Result<Place, PlaceFault>) -> Result<String,
 }
 
 // What is wrong with the other fields of a partition, if something is.
-fn fault_text(alloc: Global, fault: Option<FieldFault>) -> Result<String, AllocError>
-    ensures { IfOk result (λ text. string_bytes text ≡ fault_text fault) }
+fn fields_fault_text(alloc: Global, fault: Option<FieldFault>) -> Result<String, AllocError>
+    ensures { IfOk result (λ text. string_bytes text ≡ fields_fault_text fault) }
 {
     match fault {
         None => Ok(String::new(alloc)),
@@ -44,7 +44,7 @@ fn words_text(alloc: Global, partition: &Partition) -> Result<String, AllocError
     let place = place_text(alloc, partition.place)?;
     let flags = partition.flags;
     let priority = partition.priority;
-    let fault = fault_text(alloc, partition.fault)?;
+    let fault = fields_fault_text(alloc, partition.fault)?;
     format!(in alloc; "{kind} {place} flags {flags} priority {priority}{fault}\n")
 }
 

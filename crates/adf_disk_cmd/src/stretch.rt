@@ -4,7 +4,7 @@ ghost use Rattle.std.specs.Prelude.{◌≡◌, ◌<◌, ◌≤◌, ◌+◌, ◌*
 ghost use Rattle.std.specs.Prelude.{All, IfOk, List, OnOk, Option, Some, drop, is_err, length, take, vec_len};
 ghost use Rattle.std.specs.List.Sorted.{IsNonDecreasingBy};
 ghost use Rattle.std.specs.Io.KnownBytes.{Consumes, IsAtEnd};
-ghost use Rattle.adf_disk_cmd.specs.HeldChecks.{IsFrom, IsStretch, IsWithin, first_of};
+ghost use Rattle.adf_disk_cmd.specs.HeldChecks.{IsFrom, IsStretch, IsWithin, first_of_place};
 ghost use Rattle.adf_partitions.specs.Places.{end_of};
 ghost use Rattle.adf_runs.specs.Streams.{TakesAtMost, is_device};
 
@@ -28,7 +28,7 @@ pub struct Stretch {
 
 /// The tables from the first of these places on.
 pub fn first_stretch(alloc: Global, tables: &[u8], places: &[Place]) -> Result<Stretch, AllocError>
-    requires order { IsNonDecreasingBy first_of places.now }
+    requires order { IsNonDecreasingBy first_of_place places.now }
     requires within { All IsWithin places.now }
     ensures bytes { IfOk result (λ s. s.bytes.items ≡ drop s.begin tables.now) }
     ensures inside { IfOk result (λ s. s.begin ≤ length tables.now) }

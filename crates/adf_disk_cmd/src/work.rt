@@ -3,7 +3,7 @@
 ghost use Rattle.std.specs.Prelude.{◌≡◌, false, IfOk, List, Option, option_copied, string_bytes, ℕ};
 ghost use Rattle.adf_disk_cmd.specs.Answers.{OfDisk, OfFault, OfPartitions, no_partition_text, volume_reply, wanted_of};
 ghost use Rattle.adf_disk_cmd.specs.Builds.{refusal};
-ghost use Rattle.adf_disk_cmd.specs.Work.{Serves, sought_value};
+ghost use Rattle.adf_disk_cmd.specs.Work.{IsWorkOf, sought_value};
 ghost use Rattle.adf_runs.specs.Outcomes.{EndsBy, is_read_fault, is_write_fault};
 ghost use Rattle.adf_file_words.specs.DiskLine.{DiskRequestValue, wanted_value};
 
@@ -122,7 +122,7 @@ impl Work {
     // Does the work on a disk with these partitions.
     fn on_disk<W: Sink>(&self, alloc: Global, bytes: &[u8], disk: &Disk, output: &mut W) -> Outcome
         requires { W.has_failed output.old ≡ false }
-        ensures ends { (r : DiskRequestValue) → Serves self.now r
+        ensures ends { (r : DiskRequestValue) → IsWorkOf self.now r
             → EndsBy (OfPartitions r bytes.now disk.now.partitions.items) result
             (W.held output.old) (W.held output.new) }
         ensures read { is_read_fault result ≡ false }
@@ -147,7 +147,7 @@ impl Work {
         output: &mut W,
     ) -> Outcome
         requires { W.has_failed output.old ≡ false }
-        ensures ends { (r : DiskRequestValue) → Serves self.now r
+        ensures ends { (r : DiskRequestValue) → IsWorkOf self.now r
             → EndsBy (OfFault r bytes.now fault) result (W.held output.old) (W.held output.new) }
         ensures read { is_read_fault result ≡ false }
         ensures written { W.has_failed output.new ≡ is_write_fault result }
@@ -168,7 +168,7 @@ impl Work {
     /// Does the work on the bytes of a disk.
     pub fn on<W: Sink>(&self, alloc: Global, bytes: &[u8], output: &mut W) -> Outcome
         requires { W.has_failed output.old ≡ false }
-        ensures ends { (r : DiskRequestValue) → Serves self.now r
+        ensures ends { (r : DiskRequestValue) → IsWorkOf self.now r
             → EndsBy (OfDisk r bytes.now) result (W.held output.old) (W.held output.new) }
         ensures read { is_read_fault result ≡ false }
         ensures written { W.has_failed output.new ≡ is_write_fault result }

@@ -16,7 +16,7 @@ use Rattle.adf_names.specs.declared.meta.Stamps.{Stamps}
 use Rattle.adf_tree.specs.declared.tree.RoomFault.{RoomFault, TheVariants.Exists}
 use Rattle.adf_names.specs.Texts.{uppers_by}
 use Rattle.adf_drafts.specs.ChildMap.{number_in, Numbers}
-use Rattle.adf_drafts.specs.Draft.{draft_value, in_tree, new_number, node_of, walk, walk_more, IsDirectoryOf, IsDraft, IsRoomFor}
+use Rattle.adf_drafts.specs.Draft.{draft_value, in_tree, new_number, addition_node, walk, walk_more, IsDirectoryOf, IsDraft, IsRoomFor}
 use Rattle.adf_tree.specs.Tree.{added_by, child_by, directory_from_by, free_in, is_dir, moved, parents_of, place_by, rank_by}
 use Rattle.adf_tree.specs.Tree.{room_at_by, room_for_by, IsTreeBy, MayAddBy}
 use Rattle.adf_tree.proofs.AddRoom.{next_dir_by, room_may_add_by, room_says_by, IsNewBy}
@@ -97,7 +97,7 @@ module _ {l : Letters} {drafts : List Entry} {numbers : Numbers} {kind : Kind} {
   room_in_directory : (path : List (List ℕ)) (m : ℕ) (name : List ℕ) (o : Option ℕ)
       → IsDirectoryOf (draft_value kind l label stamps (walk l drafts)) path m → number_in numbers m (uppers_by l name) ≡ o
       → room_for_by l (walk l drafts).entries (path ++ name ∷ [])
-      ≡ free_in (node_of (walk l drafts).nodes m) (option_map (node_of (walk l drafts).nodes) o)
+      ≡ free_in (addition_node (walk l drafts).nodes m) (option_map (addition_node (walk l drafts).nodes) o)
   room_in_directory path m name o is at = grind (arith, common_steps, room_more)
 
   pub has_room_in : {path : List (List ℕ)} {m : ℕ} (name : List ℕ) → IsDirectoryOf (draft_value kind l label stamps (walk l drafts)) path m
@@ -128,7 +128,7 @@ module _ {l : Letters} {drafts : List Entry} {numbers : Numbers} {kind : Kind} {
           within = omega (arith, at.within);
           leads = rw (walked_more l drafts (put_in room meta body), node_old (walk l drafts).nodes n m (omega arith) at.within)
               (from_root (walk l drafts).entries (in_tree (walk l drafts).nodes (put_in room meta body)) other
-              (node_of (walk l drafts).nodes m) h.gives.tree may_put at.leads);
+              (addition_node (walk l drafts).nodes m) h.gives.tree may_put at.leads);
         }
 
     is_new : body ≡ Dir

@@ -10,7 +10,7 @@ use Rattle.adf_tree.specs.declared.tree.RoomFault.{RoomFault, TheVariants.NoPare
 use Rattle.adf_names.specs.Texts.{uppers_by}
 use Rattle.adf_tree.specs.Tree.{directory_from_by, is_dir, is_dir_body}
 use Rattle.adf_drafts.specs.ChildMap.{number_in, Numbers}
-use Rattle.adf_drafts.specs.Draft.{node_of, walk, IsDraft, IsNumberedTree, NumberedTree}
+use Rattle.adf_drafts.specs.Draft.{addition_node, walk, IsDraft, IsNumberedTree, NumberedTree}
 use Rattle.adf_drafts.proofs.DraftInvariant.{some_node}
 use Rattle.adf_tree.proofs.Lists.{some_in}
 use Rattle.adf_tree.proofs.PathContents.{entry_at}
@@ -20,14 +20,14 @@ pub dir_at : (es : List Entry) (n : ℕ) (d : Entry) → 0 < n → n ≤ length 
 dir_at es n d some le = rw (entry_at es n d some le, ne_eqb n 0 (omega arith))
 
 pub dir_same : {l : Letters} (drafts : List Entry) (w : NumberedTree) (m : ℕ) → IsNumberedTree l drafts w → m ≤ length drafts
-    → is_dir w.entries (node_of w.nodes m) ≡ is_dir drafts m
+    → is_dir w.entries (addition_node w.nodes m) ≡ is_dir drafts m
 dir_same {l} drafts w m h le =
     elim (cases_eq m 0) [
       | inl z ↦ rw z
       | inr nz ↦
           let d : Entry = some_in drafts (omega arith) in
           let some = some_node drafts w m h (omega arith) le in
-          rw (dir_at w.entries (node_of w.nodes m) d some (omega (arith, h.within m le, h.count)), h.entries m d (omega arith) le)
+          rw (dir_at w.entries (addition_node w.nodes m) d some (omega (arith, h.within m le, h.count)), h.entries m d (omega arith) le)
           (rw (dir_at drafts m d (omega arith) le))
     ]
 
@@ -39,20 +39,20 @@ past_by l es names o = elim o [ None ↦ Err NoParent | Some n ↦ if is_dir es 
 module _ {l : Letters} {drafts : List Entry} {numbers : Numbers} (path : List (List ℕ)) (i : ℕ) {m : ℕ} {name : List ℕ} (h : IsDraft l drafts numbers)
     (le : m ≤ length drafts) (lt : i < length path) (is : name ≡ get_or path i name) where
   step_is : {o : Option ℕ} → number_in numbers m (uppers_by l name) ≡ o
-      → directory_from_by l (walk l drafts).entries (node_of (walk l drafts).nodes m) (drop i path)
-      ≡ past_by l (walk l drafts).entries (drop (i + 1) path) (option_map (node_of (walk l drafts).nodes) o)
+      → directory_from_by l (walk l drafts).entries (addition_node (walk l drafts).nodes m) (drop i path)
+      ≡ past_by l (walk l drafts).entries (drop (i + 1) path) (option_map (addition_node (walk l drafts).nodes) o)
   step_is at = rw (drop_more path i name lt, ← is) (ap (past_by l (walk l drafts).entries (drop (i + 1) path)) (rw at at (h.found.found m name le)))
 
   pub step_none : number_in numbers m (uppers_by l name) ≡ None
-      → directory_from_by l (walk l drafts).entries (node_of (walk l drafts).nodes m) (drop i path) ≡ Err NoParent
+      → directory_from_by l (walk l drafts).entries (addition_node (walk l drafts).nodes m) (drop i path) ≡ Err NoParent
   step_none at = step_is at
 
   pub step_within : {n : ℕ} → number_in numbers m (uppers_by l name) ≡ Some n → n ≤ length drafts
   step_within {n} at = (h.found.within m n (uppers_by l name) at).1
 
   pub step_to : {n : ℕ} {b : Bool} → number_in numbers m (uppers_by l name) ≡ Some n → is_dir drafts n ≡ b
-      → directory_from_by l (walk l drafts).entries (node_of (walk l drafts).nodes m) (drop i path)
-      ≡ (if b then directory_from_by l (walk l drafts).entries (node_of (walk l drafts).nodes n) (drop (i + 1) path) else Err ParentIsFile)
+      → directory_from_by l (walk l drafts).entries (addition_node (walk l drafts).nodes m) (drop i path)
+      ≡ (if b then directory_from_by l (walk l drafts).entries (addition_node (walk l drafts).nodes n) (drop (i + 1) path) else Err ParentIsFile)
   step_to {n} at is_one = rw (step_is at, dir_same drafts (walk l drafts) n h.gives (step_within at), is_one)
 
 -- by ASCII letters

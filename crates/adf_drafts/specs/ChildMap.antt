@@ -25,14 +25,14 @@ abbrev pub bucket_of : ChildKey → ℕ
 bucket_of k = ((((k.name.first + k.name.second) % 2 ^ 64 + k.name.third) % 2 ^ 64 + k.name.fourth) % 2 ^ 64 + k.parent) % 2 ^ 64 % 1021
 
 -- the number of a key in its bucket, if the bucket exists
-abbrev pub number_at : Option (BTreeMap ChildKey ℕ) → ChildKey → Option ℕ
-number_at None k = None
-number_at (Some bucket) k = get by_child bucket k
+abbrev pub number_in_bucket : Option (BTreeMap ChildKey ℕ) → ChildKey → Option ℕ
+number_in_bucket None k = None
+number_in_bucket (Some bucket) k = get by_child bucket k
 
 -- the number stored for this parent and upper-case name
 unfoldable pub number_in : Numbers → ℕ → List ℕ → Option ℕ
-number_in numbers parent name = if is_short name then number_at (slice_get numbers (bucket_of (child_key parent name))) (child_key parent name) else None
+number_in numbers parent name = if is_short name then number_in_bucket (slice_get numbers (bucket_of (child_key parent name))) (child_key parent name) else None
 
 -- the new numbers are the old ones, with one more for this parent and name
-abbrev pub HasNumber : Numbers → Numbers → ℕ → List ℕ → ℕ → Type 0
-HasNumber old new parent name n = (p : ℕ) (x : List ℕ) → number_in new p x ≡ (if (parent == p) && bytes_eq name x then Some n else number_in old p x)
+abbrev pub AddsNumber : Numbers → Numbers → ℕ → List ℕ → ℕ → Type 0
+AddsNumber old new parent name n = (p : ℕ) (x : List ℕ) → number_in new p x ≡ (if (parent == p) && bytes_eq name x then Some n else number_in old p x)

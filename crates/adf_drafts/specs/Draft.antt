@@ -18,12 +18,12 @@ pub record NumberedTree : Type 0 where
   pub nodes : List ℕ
 
 -- the number in the tree of an addition; 0 for the root
-abbrev pub node_of : List ℕ → ℕ → ℕ
-node_of nodes m = slice_index_or (0 ∷ nodes) m 0
+abbrev pub addition_node : List ℕ → ℕ → ℕ
+addition_node nodes m = slice_index_or (0 ∷ nodes) m 0
 
 -- the entry of an addition, with its parent's number in the tree
 abbrev pub in_tree : List ℕ → Entry → Entry
-in_tree nodes d = record d { parent = node_of nodes d.parent }
+in_tree nodes d = record d { parent = addition_node nodes d.parent }
 
 -- the number in the tree that one more addition gets
 abbrev pub new_number : Letters → NumberedTree → Entry → ℕ
@@ -49,19 +49,19 @@ pub record IsNumberedTree (letters : Letters) (drafts : List Entry) (w : Numbere
   pub tree : IsTreeBy letters w.entries
   pub count : length w.entries ≡ length drafts
   pub nodes : length w.nodes ≡ length drafts
-  pub within : (m : ℕ) → m ≤ length drafts → node_of w.nodes m ≤ length drafts
-  pub apart : (m k : ℕ) → m ≤ length drafts → k ≤ length drafts → node_of w.nodes m ≡ node_of w.nodes k → m ≡ k
+  pub within : (m : ℕ) → m ≤ length drafts → addition_node w.nodes m ≤ length drafts
+  pub apart : (m k : ℕ) → m ≤ length drafts → k ≤ length drafts → addition_node w.nodes m ≡ addition_node w.nodes k → m ≡ k
   pub parents : HasEarlyParents drafts
   pub entries : (m : ℕ) (d : Entry) → 0 < m → m ≤ length drafts
-      → slice_index_or w.entries (node_of w.nodes m - 1) d ≡ in_tree w.nodes (slice_index_or drafts (m - 1) d)
+      → slice_index_or w.entries (addition_node w.nodes m - 1) d ≡ in_tree w.nodes (slice_index_or drafts (m - 1) d)
   pub chains : (m s : ℕ) → m ≤ length drafts
-      → chain_by letters w.entries (node_of w.nodes m) s ≡ map (in_tree w.nodes) (chain_by letters drafts m s)
+      → chain_by letters w.entries (addition_node w.nodes m) s ≡ map (in_tree w.nodes) (chain_by letters drafts m s)
 
 -- each addition's number is found by its parent and name
 pub record AreNumbered (letters : Letters) (drafts : List Entry) (w : NumberedTree) (numbers : Numbers) : Type 0 where
   pub within : (m k : ℕ) (name : List ℕ) → number_in numbers m name ≡ Some k → (m ≤ length drafts) × (k ≤ length drafts)
   pub found : (m : ℕ) (name : List ℕ) → m ≤ length drafts
-      → child_by letters w.entries (node_of w.nodes m) name ≡ option_map (node_of w.nodes) (number_in numbers m (uppers_by letters name))
+      → child_by letters w.entries (addition_node w.nodes m) name ≡ option_map (addition_node w.nodes) (number_in numbers m (uppers_by letters name))
 
 -- the invariant of a draft
 pub record IsDraft (letters : Letters) (drafts : List Entry) (numbers : Numbers) : Type 0 where
@@ -84,14 +84,14 @@ draft_value kind letters label stamps w = record {
 pub record IsRoomFor (d : DraftValue) (path : List (List ℕ)) (room : Room) : Type 0 where
   pub within : room.parent ≤ length d.nodes
   pub name : room.name ≡ last_of path
-  pub leads : room_for_by d.tree.letters d.tree.entries path ≡ Ok (node_of d.nodes room.parent)
+  pub leads : room_for_by d.tree.letters d.tree.entries path ≡ Ok (addition_node d.nodes room.parent)
 
 -- addition m of a draft is the directory that the path leads to; 0 is the root
 pub record IsDirectoryOf (d : DraftValue) (path : List (List ℕ)) (m : ℕ) : Type 0 where
   pub within : m ≤ length d.nodes
-  pub leads : directory_from_by d.tree.letters d.tree.entries 0 path ≡ Ok (node_of d.nodes m)
+  pub leads : directory_from_by d.tree.letters d.tree.entries 0 path ≡ Ok (addition_node d.nodes m)
 
 -- a directory by number of addition, turned into its number in the tree
 abbrev pub room_in_tree : List ℕ → Result ℕ RoomFault → Result ℕ RoomFault
-room_in_tree nodes (Ok m) = Ok (node_of nodes m)
+room_in_tree nodes (Ok m) = Ok (addition_node nodes m)
 room_in_tree nodes (Err f) = Err f

@@ -4,7 +4,7 @@ ghost use Rattle.std.specs.Prelude.{◌≡◌, ◌≤◌, ◌<◌, ℕ, List, No
 ghost use Rattle.std.specs.BTreeMap.{get};
 ghost use Rattle.adf_names.specs.Texts.{uppers_by};
 ghost use Rattle.adf_tree.specs.NameKeys.{is_short};
-ghost use Rattle.adf_drafts.specs.ChildMap.{bucket_of, by_child, child_key, number_in, HasNumber};
+ghost use Rattle.adf_drafts.specs.ChildMap.{bucket_of, by_child, child_key, number_in, AddsNumber};
 
 use adf_base::{Letters, NoMemory};
 use adf_names::Name;
@@ -53,7 +53,7 @@ pub struct ChildMap {
 }
 
 // Looks up a key in its bucket.
-fn number_at(bucket: &BTreeMap<ChildKey, usize>, key: &ChildKey) -> Option<Node>
+fn number_in_bucket(bucket: &BTreeMap<ChildKey, usize>, key: &ChildKey) -> Option<Node>
     ensures { result ≡ get by_child bucket.now key.now }
 {
     match bucket.get(key) {
@@ -82,7 +82,7 @@ impl ChildMap {
         if self.buckets.len() <= bucket {
             return None;
         }
-        number_at(&self.buckets[bucket], &key)
+        number_in_bucket(&self.buckets[bucket], &key)
     }
 
     // Allocates the buckets that are missing.
@@ -109,7 +109,7 @@ impl ChildMap {
         number: Node,
     ) -> Result<(), NoMemory>
         ensures more { OnOk result
-            (HasNumber self.old.buckets.items self.new.buckets.items parent
+            (AddsNumber self.old.buckets.items self.new.buckets.items parent
             (uppers_by letters name.now) number) }
         ensures same { OnErr result ((p : ℕ) (x : List ℕ)
             → number_in self.new.buckets.items p x ≡ number_in self.old.buckets.items p x) }

@@ -5,7 +5,7 @@ ghost use Rattle.adf_base.specs.declared.hash.Letters.TheVariants.{Ascii};
 ghost use Rattle.adf_tree.specs.Tree.{directory_from_by, new_entry_by, room_at_by, room_for_by, with_entry_by, IsAnswer};
 ghost use Rattle.adf_tree.specs.Paths.{AddsOneBy};
 ghost use Rattle.adf_names.specs.Texts.{uppers_by};
-ghost use Rattle.adf_drafts.specs.ChildMap.{number_in, HasNumber};
+ghost use Rattle.adf_drafts.specs.ChildMap.{number_in, AddsNumber};
 ghost use Rattle.adf_drafts.specs.Draft.{room_in_tree, walk, IsDirectoryOf, IsDraft, IsRoomFor};
 
 use crate::child_map::ChildMap;
@@ -103,7 +103,7 @@ fn add_child(
     ensures entries { entries.new.items
         ≡ if is_ok result then entries.old.items ++ entry ∷ [] else entries.old.items }
     ensures more { OnOk result
-        (HasNumber children.old.buckets.items children.new.buckets.items entry.parent
+        (AddsNumber children.old.buckets.items children.new.buckets.items entry.parent
         (uppers_by letters entry.name) (length entries.old.items + 1)) }
     ensures same { OnErr result ((p : ℕ) (x : List ℕ)
         → number_in children.new.buckets.items p x ≡ number_in children.old.buckets.items p x) }

@@ -3,7 +3,7 @@ use Rattle.std.specs.Prelude.{◌≡◌, ◌⊎◌, List, [], Option, Some, None
 use Rattle.std.specs.Str.{bytes_eq}
 use Rattle.clap.specs.Words.{App, Row, Rule, Text, fault_of, first_of, matches_of, new_app, new_rule, subcommand_of, with_rule, with_subcommand}
 use Rattle.adf_words.specs.Arguments.{bare_app}
-use Rattle.adf_file_words.specs.FileArgument.{file_in, file_rule, with_file}
+use Rattle.adf_file_words.specs.FileArgument.{file_matched, file_rule, with_file}
 use Rattle.adf_file_words.specs.declared.boot_line.BootRequest.{BootRequest}
 use Rattle.adf_file_words.specs.declared.boot_line.BootRequest.TheVariants.{Tell, Install, Clear, Copy}
 use Rattle.adf_words.specs.declared.command_line.ArgsError.{ArgsError}
@@ -51,8 +51,8 @@ boot_request_of args = boot_met (matches_of boot_app args) (subcommand_of boot_a
 
 -- the file that the matches name, if any: those of the subcommand where there is one
 abbrev pub boot_file_met : List Row → Option (Text × List Row) → Option Text
-boot_file_met rows None = file_in rows
-boot_file_met rows (Some p) = file_in p.1
+boot_file_met rows None = file_matched rows
+boot_file_met rows (Some p) = file_matched p.1
 
 -- the file that the arguments name, if any
 abbrev pub boot_file : List Text → Option Text

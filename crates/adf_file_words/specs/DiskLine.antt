@@ -4,7 +4,7 @@ use Rattle.std.specs.Option.{option_and_then}
 use Rattle.std.specs.Str.{bytes_eq}
 use Rattle.clap.specs.Words.{App, Row, Rule, Text, fault_of, first_of, new_app, new_rule, subcommand_of, with_rule, with_subcommand}
 use Rattle.adf_words.specs.Arguments.{bare_app}
-use Rattle.adf_file_words.specs.FileArgument.{file_in, file_rule, with_file}
+use Rattle.adf_file_words.specs.FileArgument.{file_matched, file_rule, with_file}
 use Rattle.adf_file_words.specs.SurveyLine.{number_named}
 use Rattle.adf_words.specs.declared.command_line.ArgsError.{ArgsError}
 use Rattle.adf_words.specs.declared.command_line.ArgsError.TheVariants.{NoMemory, Usage}
@@ -62,7 +62,7 @@ disk_met = option_and_then (λ p. disk_request_named p.0 p.1)
 
 -- the file that the arguments name, if any
 abbrev pub disk_file : List Text → Option Text
-disk_file args = option_and_then (λ p. file_in p.1) (subcommand_of disk_app args)
+disk_file args = option_and_then (λ p. file_matched p.1) (subcommand_of disk_app args)
 
 -- clap takes the arguments, and its matches name the request
 abbrev pub AsksDisk : List Text → DiskRequestValue → Type 0

@@ -21,5 +21,5 @@ abbrev pub file_meant : Text → Option Text
 file_meant text = if bytes_eq text (codes "-") then None else Some text
 
 -- the file that matches name, if any
-abbrev pub file_in : List Row → Option Text
-file_in rows = option_and_then file_meant (first_of (codes "file") rows)
+abbrev pub file_matched : List Row → Option Text
+file_matched rows = option_and_then file_meant (first_of (codes "file") rows)

@@ -9,7 +9,7 @@ use Rattle.clap.specs.Words.{with_subcommand}
 use Rattle.clap.specs.declared.builder.action.ArgAction.TheVariants.{SetTrue}
 use Rattle.adf_blocks.specs.declared.layout.TheConstants.{MOST_BLOCKS}
 use Rattle.adf_words.specs.Arguments.{bare_app, cat_app, is_text, list_rule}
-use Rattle.adf_file_words.specs.FileArgument.{file_in, file_rule}
+use Rattle.adf_file_words.specs.FileArgument.{file_matched, file_rule}
 use Rattle.adf_words.specs.declared.command_line.ArgsError.{ArgsError}
 use Rattle.adf_words.specs.declared.command_line.ArgsError.TheVariants.{NoMemory, Usage}
 use Rattle.adf_file_words.specs.declared.survey_line.Inquiry.{Inquiry}
@@ -111,8 +111,8 @@ inquiry_of args = inquiry_met (matches_of survey_app args) (subcommand_of survey
 
 -- the file that the matches name, if any: those of the subcommand where there is one
 abbrev pub survey_file_met : List Row → Option (Text × List Row) → Option Text
-survey_file_met rows None = file_in rows
-survey_file_met rows (Some p) = file_in p.1
+survey_file_met rows None = file_matched rows
+survey_file_met rows (Some p) = file_matched p.1
 
 -- the file that the arguments name, if any
 abbrev pub survey_file : List Text → Option Text

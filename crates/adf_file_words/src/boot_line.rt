@@ -7,7 +7,7 @@ ghost use Rattle.adf_file_words.specs.BootLine.{AreRefusedByBoot, AsksBoot, Asks
 ghost use Rattle.adf_words.specs.CommandLine.{texts_of};
 ghost use Rattle.adf_words.specs.declared.command_line.ArgsError.TheVariants.{Usage};
 
-use crate::file_argument::{file_argument, file_in, with_file};
+use crate::file_argument::{file_argument, file_matched, with_file};
 use adf_words::{ArgsError, bare_command, first_text, matches_of, with_argument, with_subcommand};
 use clap::{Arg, ArgMatches, Command};
 use std::alloc::{AllocError, Global};
@@ -99,8 +99,8 @@ fn file_met<'a>(matches: &ArgMatches<'a>) -> Option<&'a str>
         ≡ boot_file_met (rows_of (found_of matches.now)) (subcommand_rows_of matches.now) }
 {
     match matches.subcommand() {
-        Some((_, found)) => file_in(found),
-        None => file_in(matches),
+        Some((_, found)) => file_matched(found),
+        None => file_matched(matches),
     }
 }
 

@@ -6,10 +6,10 @@ ghost use Rattle.clap.specs.Words.{app_of, fault_of, found_of, rows_of, subcomma
 ghost use Rattle.clap.specs.declared.builder.command.Command.TheViews.{out-Command};
 ghost use Rattle.adf_words.specs.CommandLine.{texts_of};
 ghost use Rattle.adf_words.specs.declared.command_line.ArgsError.TheVariants.{Usage};
-ghost use Rattle.adf_file_words.specs.FileArgument.{file_in, file_meant, with_file};
+ghost use Rattle.adf_file_words.specs.FileArgument.{file_matched, file_meant, with_file};
 ghost use Rattle.adf_file_words.specs.DiskLine.{AreRefusedByDisk, AsksDisk, AsksDiskOf, disk_file, ExplainsDiskArgs, build, check, disk_app, disk_met, disk_request_named, disk_request_value, list, lists_and_checks, name, number, survey, volume, volume_app, wanted_named, wanted_value};
 
-use crate::file_argument::{file_argument, file_in, with_file};
+use crate::file_argument::{file_argument, file_matched, with_file};
 use crate::survey_line::number_named;
 use adf_words::{ArgsError, bare_command, first_text, matches_of, with_argument, with_subcommand};
 use clap::{Arg, ArgMatches, Command};
@@ -113,10 +113,10 @@ fn request_in<'a>(matches: &ArgMatches<'a>) -> Option<DiskRequest<'a>>
 // The file that the matches name, if any.
 fn file_met<'a>(matches: &ArgMatches<'a>) -> Option<&'a str>
     ensures { option_map (λ s. s.now) result
-        ≡ option_and_then (λ p. file_in p.1) (subcommand_rows_of matches.now) }
+        ≡ option_and_then (λ p. file_matched p.1) (subcommand_rows_of matches.now) }
 {
     match matches.subcommand() {
-        Some((_, found)) => file_in(found),
+        Some((_, found)) => file_matched(found),
         None => None,
     }
 }

@@ -3,7 +3,7 @@
 ghost use Rattle.std.specs.Prelude.{◌≡◌, IfOk, false, option_map};
 ghost use Rattle.clap.specs.Words.{App, app_of, found_of, rows_of, rule_of};
 ghost use Rattle.clap.specs.declared.builder.command.Command.TheViews.{out-Command};
-ghost use Rattle.adf_file_words.specs.FileArgument.{file_app, file_in, file_rule, with_file};
+ghost use Rattle.adf_file_words.specs.FileArgument.{file_app, file_matched, file_rule, with_file};
 
 use adf_words::{first_text, with_subcommand};
 use clap::{Arg, ArgMatches, Command};
@@ -38,8 +38,8 @@ pub(crate) fn with_file<'a>(
 }
 
 // The file that matches name, if any.
-pub(crate) fn file_in<'a>(found: &ArgMatches<'a>) -> Option<&'a str>
-    ensures { option_map (λ s. s.now) result ≡ file_in (rows_of (found_of found.now)) }
+pub(crate) fn file_matched<'a>(found: &ArgMatches<'a>) -> Option<&'a str>
+    ensures { option_map (λ s. s.now) result ≡ file_matched (rows_of (found_of found.now)) }
 {
     match first_text(found, "file") {
         Some(text) if text != "-" => Some(text),

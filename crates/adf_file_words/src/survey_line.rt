@@ -11,7 +11,7 @@ ghost use Rattle.adf_file_words.specs.SurveyLine.{blocks_met, number_named, aske
 ghost use Rattle.adf_file_words.specs.SurveyLine.{inquiry_value, question_met, question_named, question_value, report, rescue};
 ghost use Rattle.adf_file_words.specs.SurveyLine.{survey_app, survey_cat_app, survey_rescue_app, survey_file, survey_file_met};
 
-use crate::file_argument::{file_argument, file_in};
+use crate::file_argument::{file_argument, file_matched};
 use adf_blocks::MOST_BLOCKS;
 use adf_words::{
     ArgsError, bare_command, cat_command, first_text, has_flag, list_flag, matches_of,
@@ -173,8 +173,8 @@ fn file_met<'a>(matches: &ArgMatches<'a>) -> Option<&'a str>
         ≡ survey_file_met (rows_of (found_of matches.now)) (subcommand_rows_of matches.now) }
 {
     match matches.subcommand() {
-        Some((_, found)) => file_in(found),
-        None => file_in(matches),
+        Some((_, found)) => file_matched(found),
+        None => file_matched(matches),
     }
 }
 

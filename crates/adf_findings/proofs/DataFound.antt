@@ -44,10 +44,10 @@ held_has w b n k e f =
     let (m, has, own) = held_data w b k f in
     let same : m ≡ n = (let z : Some m ≡ Some n = sym own ∙ e in cc) in subst (λ m. Has w (Data m (suc k)) b) same has
 
-all_true : {A : Type 0} (p q r : Bool) (x y : A) → p ≡ true → q ≡ true → r ≡ true → cond (p && (q && r)) x y ≡ x
+pub all_true : {A : Type 0} (p q r : Bool) (x y : A) → p ≡ true → q ≡ true → r ≡ true → cond (p && (q && r)) x y ≡ x
 all_true p q r x y a b c = λ i. cond (a i && (b i && c i)) x y
 
-not_all : {A : Type 0} (p q r : Bool) (x y : A) → (p ≡ true → q ≡ true → r ≡ true → ⊥) → cond (p && (q && r)) x y ≡ y
+pub not_all : {A : Type 0} (p q r : Bool) (x y : A) → (p ≡ true → q ≡ true → r ≡ true → ⊥) → cond (p && (q && r)) x y ≡ y
 not_all false q r x y h = refl
 not_all true false r x y h = refl
 not_all true true false x y h = refl

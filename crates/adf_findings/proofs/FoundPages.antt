@@ -1,9 +1,9 @@
 -- The pages of the bitmap that a survey finds.
--- Letters: w the walk of a survey, fs its findings; i the number of a page; b, at blocks; a, j the block and the word that point to one.
+-- Letters: r a role; w the walk of a survey, fs its findings; i the number of a page; b, at blocks; a, j the block and the word that point to one.
 use Rattle.std.specs.Prelude.{Some}
 use Rattle.std.proofs.Common.{◌≡◌, ℕ, List, ◌<◌, inl, inr, subst}
 use Rattle.adf_blocks.specs.Sizes.{blocks, pages_needed}
-use Rattle.adf_volume.specs.Walk.{Asks, Has, Walk}
+use Rattle.adf_volume.specs.Walk.{Asks, Has, Role, Walk}
 use Rattle.adf_volume.specs.Walk.Role.{Page}
 use Rattle.adf_volume.proofs.Gathered.{IsGathered}
 use Rattle.adf_volume.proofs.Gathered.IsGathered.{start, step}
@@ -26,8 +26,7 @@ pub page_low : (image : List ℕ) (w : Walk) (fs : List FindingValue) → IsSurv
 page_low image w fs (unread f) i b h = absurd h
 page_low image w fs (read v d t) i b h = gathered_low image (gathered image v) i b h
 
--- its block is the one at its place
-pub page_at : (image : List ℕ) (w : Walk) (fs : List FindingValue) → IsSurvey image w fs → (i b : ℕ) → Has w (Page i) b
-    → at_role w (Page i) ≡ Some b
-page_at image w fs (unread f) i b h = absurd h
-page_at image w fs (read v d t) i b h = taken_at image w (gathered image v) (Page i) b h
+-- the block of a part is the one at its role
+pub found_at : (image : List ℕ) (w : Walk) (fs : List FindingValue) → IsSurvey image w fs → (r : Role) (b : ℕ) → Has w r b → at_role w r ≡ Some b
+found_at image w fs (unread f) r b h = absurd h
+found_at image w fs (read v d t) r b h = taken_at image w (gathered image v) r b h

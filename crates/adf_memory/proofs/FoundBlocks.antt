@@ -17,12 +17,12 @@ use Rattle.adf_findings.specs.Found.{number_at, owner}
 use Rattle.adf_findings.specs.Remains.{data_found}
 use Rattle.adf_findings.specs.Survey.{FindingValue, IsSurvey}
 use Rattle.adf_findings.proofs.BlockOwners.{first_with}
-use Rattle.adf_findings.proofs.DataFound.{found_named, has_data, held_has}
+use Rattle.adf_findings.proofs.DataFound.{all_true, found_named, has_data, held_has, not_all}
 use Rattle.adf_findings.proofs.RoleBlocks.{lacks_at}
 use Rattle.adf_findings.proofs.Lookups.{file_between}
 use Rattle.adf_findings.proofs.SoundEntries.{one_part}
 use Rattle.adf_memory.specs.declared.found_files.TheConstants.{NO_BLOCK}
-use Rattle.adf_memory.specs.FoundFiles.{block_if, file_blocks, found_blocks, is_data_of, named_block, named_blocks, part_at, part_table}
+use Rattle.adf_memory.specs.FoundFiles.{block_if, file_block_count, found_blocks, is_data_row, named_block, named_blocks, part_at, found_part_table}
 use Rattle.adf_memory.specs.FoundTables.{owner_number}
 
 -- a file of no bytes needs no blocks
@@ -33,10 +33,10 @@ none_needed Ffs size e = omega arith
 
 -- the row of a block that the image has
 row_at : (image : List ℕ) (x : Role × ℕ) (w : Walk) (b : ℕ) → b < blocks image
-    → slice_get (part_table image (x ∷ w)) b ≡ Some (part_at (x ∷ w) b)
+    → slice_get (found_part_table image (x ∷ w)) b ≡ Some (part_at (x ∷ w) b)
 row_at image x w b lt =
-    let here : b < length (part_table image (x ∷ w)) = omega (arith, lt, length-map-range_with_len (part_at (x ∷ w)) 0 (blocks image)) in
-    slice_get-get_or (part_table image (x ∷ w)) b (part_at (x ∷ w) 0) here
+    let here : b < length (found_part_table image (x ∷ w)) = omega (arith, lt, length-map-range_with_len (part_at (x ∷ w)) 0 (blocks image)) in
+    slice_get-get_or (found_part_table image (x ∷ w)) b (part_at (x ∷ w) 0) here
     ∙ ap Some (get_or-map-range_with_len (part_at (x ∷ w)) 0 (blocks image) b b (part_at (x ∷ w) 0) lt (omega arith))
 
 -- of two tests that agree where a third holds, either may follow on that
@@ -49,26 +49,17 @@ numbered : (o : Option ℕ) (n : ℕ) → 1 ≤ n → owner_number o ≡ n → o
 numbered None n lo e = absurd (omega arith)
 numbered (Some m) n lo e = ap Some e
 
-both_true : {A : Type 0} (p q r : Bool) (x y : A) → p ≡ true → q ≡ true → r ≡ true → cond (p && (q && r)) x y ≡ x
-both_true p q r x y a b c = λ i. cond (a i && (b i && c i)) x y
-
-not_all : {A : Type 0} (p q r : Bool) (x y : A) → (p ≡ true → q ≡ true → r ≡ true → ⊥) → cond (p && (q && r)) x y ≡ y
-not_all false q r x y h = refl
-not_all true false r x y h = refl
-not_all true true false x y h = refl
-not_all true true true x y h = absurd (h refl refl refl)
-
 -- the test of a block, once its row is known
 by_row : (image : List ℕ) (x : Role × ℕ) (w : Walk) (n k b : ℕ)
-    → block_if image (part_table image (x ∷ w)) n k b
+    → block_if image (found_part_table image (x ∷ w)) n k b
     ≡ cond (nat_lt b (blocks image) && ((owner_number (owner (x ∷ w) b) == n) && (number_at (x ∷ w) b == k + 1))) b NO_BLOCK
 by_row image x w n k b =
     guarded (nat_lt b (blocks image)) _ _ b NO_BLOCK
-    (λ t. ap (is_data_of n k) (row_at image x w b (ltb-true b (blocks image) t)))
+    (λ t. ap (is_data_row n k) (row_at image x w b (ltb-true b (blocks image) t)))
 
 -- the block that is named as a data block, if its row is that of it, is the one that is found
 named_is : (image : List ℕ) (w : Walk) (fs : List FindingValue) → IsSurvey image w fs → (n h : ℕ) → FileAt image w n h → (k : ℕ)
-    → named_block image (part_table image w) n h k ≡ unwrap_or (data_found w n k) NO_BLOCK
+    → named_block image (found_part_table image w) n h k ≡ unwrap_or (data_found w n k) NO_BLOCK
 named_is image [] fs survey n h file k = absurd file.header.has
 named_is image (x ∷ w) fs survey n h file k = by_row image x w n k b ∙ go (data_found (x ∷ w) n k) refl
   where
@@ -91,11 +82,11 @@ named_is image (x ∷ w) fs survey n h file k = by_row image x w n k b ∙ go (d
         let own : owner_number (owner (x ∷ w) b) ≡ n = ap (λ c. owner_number (owner (x ∷ w) c)) named.0 ∙ ap owner_number at.0 in
         let number : number_at (x ∷ w) b ≡ k + 1 = ap (number_at (x ∷ w)) named.0 ∙ (at.1 ∙ sym (add-one k)) in
         let lt : b < blocks image = subst (λ c. c < blocks image) (sym named.0) named.1 in
-        both_true (nat_lt b (blocks image)) (owner_number (owner (x ∷ w) b) == n) (number_at (x ∷ w) b == k + 1) b NO_BLOCK
+        all_true (nat_lt b (blocks image)) (owner_number (owner (x ∷ w) b) == n) (number_at (x ∷ w) b == k + 1) b NO_BLOCK
         (lt-ltb b (blocks image) lt) (eq-eqb _ _ own) (eq-eqb _ _ number)
         ∙ named.0
 
 -- so are all of a file
 pub named_blocks_are : (image : List ℕ) (w : Walk) (fs : List FindingValue) → IsSurvey image w fs → (n h : ℕ) → FileAt image w n h
-    → named_blocks image (part_table image w) n h ≡ found_blocks image w n h
-named_blocks_are image w fs survey n h file = λ i. map (λ k. named_is image w fs survey n h file k i) (range_with_len 0 (file_blocks image h))
+    → named_blocks image (found_part_table image w) n h ≡ found_blocks image w n h
+named_blocks_are image w fs survey n h file = λ i. map (λ k. named_is image w fs survey n h file k i) (range_with_len 0 (file_block_count image h))

@@ -19,7 +19,7 @@ use Rattle.adf_findings.proofs.DataFound.{found_named, has_data}
 use Rattle.adf_findings.proofs.OneSurvey.{gathered}
 use Rattle.adf_findings.proofs.Starts.{course_size}
 use Rattle.adf_memory.specs.declared.found_files.TheConstants.{NO_BLOCK}
-use Rattle.adf_memory.specs.FoundFiles.{file_blocks, file_size, found_blocks, found_from, lost_from}
+use Rattle.adf_memory.specs.FoundFiles.{file_block_count, file_size, found_blocks, found_from, lost_from}
 use Rattle.adf_memory.specs.FoundGaps.{IsInGap, gaps_in, left_in, up_to_gap}
 use Rattle.adf_memory.proofs.FoundReadings.{bytes_outside, inside_gap, none_lost as none_lost_outside}
 
@@ -60,10 +60,10 @@ module _ (image : List ℕ) (w : Walk) (fs : List FindingValue) (n h : ℕ) (sur
   found : data_below (blocks image) w n ≡ data_found w n
   found = λ i k. is_below (blocks image) (data_found w n k) (is.inside k) i
 
-  left_is : left_in image w n ≡ bytes_left image (file_size image h) (data_found w n) (file_blocks image h)
+  left_is : left_in image w n ≡ bytes_left image (file_size image h) (data_found w n) (file_block_count image h)
   left_is = λ i. bytes_left image (is.size i) (found i) (count (kind_of image) (is.size i))
 
-  gaps_are : gaps_in image w n ≡ gaps_left image (file_size image h) (data_found w n) (file_blocks image h)
+  gaps_are : gaps_in image w n ≡ gaps_left image (file_size image h) (data_found w n) (file_block_count image h)
   gaps_are = λ i. gaps_left image (is.size i) (found i) (count (kind_of image) (is.size i))
 
   -- outside of gaps the bytes up to the next one are read

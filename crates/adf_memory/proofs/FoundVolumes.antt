@@ -1,7 +1,7 @@
 -- Of a volume, a survey finds the blocks and the bytes of each file, and the role of each block.
 -- Letters: t, l the tree and the layout that fit an image; w the walk of its survey; n a file's node, k the number of a data block, from 0; b its
 -- block; ds the data blocks of a file; es entries; at, from a place in the file.
-use Rattle.std.specs.Prelude.{◌==◌, min, Option, Some, None}
+use Rattle.std.specs.Prelude.{◌==◌, min, Some}
 use Rattle.std.specs.List.{range_with_len}
 use Rattle.std.specs.Option.{unwrap_or}
 use Rattle.std.proofs.Common.{◌≡◌, ℕ, zero, suc, List, [], ◌∷◌, ◌+◌, ◌-◌, ◌*◌, ◌/◌, ◌≤◌}
@@ -17,9 +17,8 @@ use Rattle.adf_walk.specs.OwnerClass.{class_number}
 use Rattle.adf_walk.specs.declared.owner_class.OwnerClass.TheVariants as class
 use Rattle.adf_findings.specs.Remains.{data_found, size_stated}
 use Rattle.adf_findings.specs.Survey.{FindingValue, IsSurvey}
-use Rattle.adf_findings.proofs.DataFound.{has_data}
+use Rattle.adf_findings.proofs.FoundPages.{found_at}
 use Rattle.adf_findings.proofs.PlainFindings.{finds_none, shown}
-use Rattle.adf_findings.proofs.RoleBlocks.{lacks_at}
 use Rattle.adf_names.specs.declared.kind.Kind.{Kind}
 use Rattle.adf_rescue.proofs.FitBlocks.{fit_room}
 use Rattle.adf_tree.specs.declared.entry.Body.{Body, TheVariants.Dir, TheVariants.File}
@@ -34,17 +33,15 @@ use Rattle.adf_volume.specs.Walk.{Role, Has, Walk}
 use Rattle.adf_volume.specs.Walk.Role.{Root, Page, MapExt, Head, Ext, Data}
 use Rattle.adf_volume.proofs.FitWalks.{one_fit}
 use Rattle.adf_volume.proofs.LayoutRoles.{owned_part, part_owned, part_range}
-use Rattle.adf_volume.proofs.Lists.{at_index}
-use Rattle.adf_volume.proofs.Roles.{same_refl}
 use Rattle.adf_volume.proofs.WalkAgreement.{agreement}
 use Rattle.adf_volume.proofs.WalkCompleteness.{part_walked}
 use Rattle.adf_memory.specs.declared.found_files.TheConstants.{NO_BLOCK}
 use Rattle.adf_memory.specs.declared.tables.TableEntry.{TableEntry}
 use Rattle.adf_memory.specs.Areas.{AreDatasOf, bytes_from}
-use Rattle.adf_memory.specs.FoundFiles.{file_blocks, file_size, found_blocks, found_from, lost_from, missing}
+use Rattle.adf_memory.specs.FoundFiles.{file_block_count, file_size, found_blocks, found_from, lost_from, missing}
 use Rattle.adf_memory.specs.FoundRoles.{IsFoundRole}
 use Rattle.adf_memory.specs.OwnerNumbers.{IsOwnerNumber, owner_number}
-use Rattle.adf_memory.specs.Tables.{bytes_at, bytes_in, table_entry}
+use Rattle.adf_memory.specs.Tables.{bytes_at, bytes_of_body, table_entry}
 use Rattle.adf_memory.proofs.Filled.{drop_zero}
 use Rattle.adf_memory.proofs.FoundGaps.{both}
 use Rattle.adf_memory.proofs.FoundReadings.{none_behind}
@@ -85,13 +82,7 @@ module _ (image : List ℕ) (w : Walk) (fs : List FindingValue) (survey : IsSurv
 
   -- a data block of the layout is found
   data_there : (t : Tree) (l : Layout) → Fits image t l → (n k b : ℕ) → At (datas_of l n) k b → data_found w n k ≡ Some b
-  data_there t l fit n k b at = go (data_found w n k) refl
-    where
-      go : (o : Option ℕ) → data_found w n k ≡ o → data_found w n k ≡ Some b
-      go None e = absurd (lacks_at w (Data n (suc k)) e (Data n (suc k)) b (has_part t l fit (Data n (suc k)) b at) (same_refl (Data n (suc k))))
-      go (Some c) e =
-          let other : At (datas_of l n) k c = is_part t l fit (Data n (suc k)) c (has_data w n (suc k) c e) in
-          e ∙ ap Some (sym (at_index (datas_of l n) k c other) ∙ at_index (datas_of l n) k b at)
+  data_there t l fit n k b at = found_at image w fs survey (Data n (suc k)) b (has_part t l fit (Data n (suc k)) b at)
 
   module _ (t : Tree) (l : Layout) (fit : Fits image t l) (i : ℕ) (e : Entry) (bytes : List ℕ) (at : At t.entries i e)
       (body : e.body ≡ File bytes) where
@@ -136,7 +127,7 @@ module _ (image : List ℕ) (w : Walk) (fs : List FindingValue) (survey : IsSurv
     -- the table of the file has its data blocks
     blocks_found : found_blocks image w n head ≡ ds
     blocks_found =
-        let long : file_blocks image head ≡ length ds = ap (count (kind_of image)) size_is ∙ sym many in
+        let long : file_block_count image head ≡ length ds = ap (count (kind_of image)) size_is ∙ sym many in
         ap (λ m. map (λ k. unwrap_or (data_found w n k) NO_BLOCK) (range_with_len 0 m)) long
         ∙ listed ds (λ k. unwrap_or (data_found w n k) NO_BLOCK) 0
         (λ k b here. let z : 0 + k ≡ k = omega arith in
@@ -146,7 +137,7 @@ module _ (image : List ℕ) (w : Walk) (fs : List FindingValue) (survey : IsSurv
     row = table_entry head 0 e
 
     length_is : row.size ≡ length bytes
-    length_is = ap (λ b. length (bytes_in b)) body
+    length_is = ap (λ b. length (bytes_of_body b)) body
 
     -- and so its bytes
     bytes_found : (from : ℕ) → found_from image head (found_blocks image w n head) from ≡ drop from (bytes_at t n)

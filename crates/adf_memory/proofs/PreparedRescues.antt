@@ -17,14 +17,14 @@ use Rattle.adf_build.proofs.LaidWrites.{CanHold, volume_blocks}
 use Rattle.adf_build.proofs.WholeVolume.{volume_laid}
 use Rattle.adf_boot_blocks.specs.Writing.{restored}
 use Rattle.adf_boot_blocks.proofs.Restored.{other_restored}
-use Rattle.adf_rescue.proofs.OpenedImages.{opened_kept}
 use Rattle.adf_rescue.specs.Opened.{is_mended, opened}
 use Rattle.adf_rescue.specs.Rescue.{Basis, StandsNothing, rescued_tree}
 use Rattle.adf_survey_cmd.specs.Rescues.{second_image}
 use Rattle.adf_survey_cmd.proofs.KeptBoots.{laid_long}
 use Rattle.adf_memory.specs.Losses.{LossTableValue, loss_table, rescue_losses, table_of_losses}
-use Rattle.adf_memory.specs.Rescuing.{HasRescue, IsHopeless, IsOpened, IsPut, IsRefusal, LaysFor, Prepares, Rescue, RescueBoth, RescueBy, RescueIn}
-use Rattle.adf_memory.specs.Rescuing.{ExplainsRescue, IsRoomRefusal, Readies, RefusesFor, RescueOf, RescueValue, RescueValue.written, told_volume, unrescued_refusal}
+use Rattle.adf_memory.specs.Rescuing.{HasRescue, IsHopeless, IsPut, IsRefusal, LaysFor, Prepares, Rescue, RescueBoth, RescueBy, RescueIn}
+use Rattle.adf_memory.specs.Rescuing.{ExplainsRescue, IsRoomRefusal, Readies, RefusesFor, RescueOf, RescueValue, RescueValue.written, told_volume}
+use Rattle.adf_memory.specs.Rescuing.{unrescued_refusal}
 use Rattle.adf_survey_cmd.specs.Subject.{IsTyped, SubjectValue, sized}
 use Rattle.adf_memory.specs.Rooms.{filled}
 use Rattle.adf_memory.specs.declared.losses.TableLoss.{TableLoss}
@@ -79,15 +79,6 @@ prepares_weaker few more (Err NoMemory) f h = λ boot. tt
 pub none_prepared : (gives : List ℕ → RescueValue → Type 0) (x : Result Prepared Unrescued) → IsErrAnd x (λ u. u ≡ NoMemory) → Prepares gives x
 none_prepared gives (Ok p) is = absurd is
 none_prepared gives (Err u) is = rw is (λ boot. tt)
-
--- an input is opened as the image that a rescue reads
-pub opened_so : (input image : List ℕ) (fault : Option Fault) → IsOpened input image fault → image ≡ opened input
-opened_so input image None h = h.1 ∙ sym (opened_kept input h.0)
-opened_so input image (Some f) h = h.1
-
-pub mended_so : (input image : List ℕ) (fault : Option Fault) → IsOpened input image fault → is_some fault ≡ is_mended input
-mended_so input image None h = sym h.0
-mended_so input image (Some f) h = sym h.0
 
 -- a rescue that is put into the rooms is what it is prepared to give
 pub put_given : (gives : RescueValue → Type 0) (x : Ready) (old new : List ℕ) (old_rows new_rows : List TableLoss) (old_paths new_paths : List ℕ)

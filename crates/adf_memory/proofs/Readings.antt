@@ -23,8 +23,8 @@ use Rattle.adf_volume.proofs.Images.{AreIn, enough_bytes, joined_length}
 use Rattle.adf_volume.proofs.LayoutRoles.{part_range}
 use Rattle.adf_volume.proofs.Lists.{at_below, at_index_or, at_some}
 use Rattle.adf_memory.specs.declared.tables.TableEntry.{TableEntry}
-use Rattle.adf_memory.specs.Areas.{AreBlocksOf, AreDatasOf, bytes_from, bytes_in_blocks, entry_from, file_from, front_blocks, node_from}
-use Rattle.adf_memory.specs.Tables.{all_datas, block_table, bytes_at, bytes_in, bytes_told, entry_table, table_entry}
+use Rattle.adf_memory.specs.Areas.{AreBlocksOf, AreDatasOf, bytes_from, bytes_in_blocks, entry_from, file_bytes_from, front_blocks, node_from}
+use Rattle.adf_memory.specs.Tables.{all_datas, block_table, bytes_at, bytes_of_body, bytes_told, entry_table, table_entry}
 use Rattle.adf_memory.proofs.Filled.{drop_zero, take_zero}
 use Rattle.adf_memory.proofs.TableBytes.{front_more, further, place_of}
 use Rattle.adf_memory.proofs.TableLaws.{told_here, told_length}
@@ -44,7 +44,7 @@ front_joined image kind (d ∷ ds) bs inside =
 
 -- from a place in a file on, the table of its blocks has the bytes of the file
 pub file_read : (image : List ℕ) (x : TableEntry) (table ds : List ℕ) (at : ℕ) → AreDatasOf image x table ds
-    → file_from image x table at ≡ drop at (bytes_in_blocks image x ds)
+    → file_bytes_from image x table at ≡ drop at (bytes_in_blocks image x ds)
 file_read image x table ds at is = elim (cases_lt at x.size) [
   | inl lt ↦
       let kind : Kind = kind_of image in
@@ -85,7 +85,8 @@ datas_front (q ∷ qs) (suc i) lt =
 -- the data blocks of an entry hold its bytes
 body_read : {ls : Letters} (image : List ℕ) (t : Tree) (l : Layout) (n : ℕ) (e : Entry) → FitsBy ls image t l → EntryAt t n e
     → (b : Body) → e.body ≡ b → BodyFits image t.kind l n (at_node image l n) b
-    → (length (bytes_in b) ≤ chunk t.kind * length (datas_of l n)) × (take (length (bytes_in b)) (joined image t.kind (datas_of l n)) ≡ bytes_in b)
+    → (length (bytes_of_body b) ≤ chunk t.kind * length (datas_of l n))
+    × (take (length (bytes_of_body b)) (joined image t.kind (datas_of l n)) ≡ bytes_of_body b)
 unfolding content
 body_read image t l n e fits at Dir is f = (omega arith, take_zero (joined image t.kind (datas_of l n)))
 body_read image t l n e fits at (File bytes) is f = (
@@ -104,7 +105,7 @@ pub told_read : {ls : Letters} (image : List ℕ) (t : Tree) (l : Layout) (i : �
 told_read image t l i e fits at =
     let below : i < length l.places = omega (arith, at_below t.entries i e at, fits.places) in
     let body = body_read image t l (suc i) e fits at e.body refl (fits.entries (suc i) e at).body in
-    let told_bytes : bytes_in e.body ≡ bytes_at t (suc i) = sym (ap bytes_told ((entry_is_at t (suc i) e).0 at)) in
+    let told_bytes : bytes_of_body e.body ≡ bytes_at t (suc i) = sym (ap bytes_told ((entry_is_at t (suc i) e).0 at)) in
     record {
       datas = record {
         listed = record {
@@ -114,9 +115,9 @@ told_read image t l i e fits at =
               subst (λ x. x < blocks image) (sym (at_index_or (datas_of l (suc i)) j b.0 0 b.1))
               (part_range image t l fits (Data (suc i) (suc j)) b.0 b.1).1);
         };
-        enough = subst (λ k. length (bytes_in e.body) ≤ chunk k * length (datas_of l (suc i))) fits.kind body.0;
+        enough = subst (λ k. length (bytes_of_body e.body) ≤ chunk k * length (datas_of l (suc i))) fits.kind body.0;
       };
-      bytes = ap (λ k. take (length (bytes_in e.body)) (joined image k (datas_of l (suc i)))) (sym fits.kind) ∙ body.1 ∙ told_bytes;
+      bytes = ap (λ k. take (length (bytes_of_body e.body)) (joined image k (datas_of l (suc i)))) (sym fits.kind) ∙ body.1 ∙ told_bytes;
     }
 
 -- and so does what stands in the table of a volume
@@ -147,11 +148,11 @@ entry_none t n lt = go (entry t.entries n) refl
 
 -- the bytes of a node that the table of entries has
 pub node_here : (image table : List ℕ) (xs : List TableEntry) (n at : ℕ) (d : TableEntry) → (n ≡ 0 → ⊥) → n ≤ length xs
-    → file_from image (get_or xs (n - 1) d) table at ≡ node_from image xs table n at
+    → file_bytes_from image (get_or xs (n - 1) d) table at ≡ node_from image xs table n at
 node_here image table xs zero at d some le = absurd (some refl)
 node_here image table xs (suc i) at d some le =
     let z : suc i - 1 ≡ i = omega arith in
-    ap (λ j. file_from image (get_or xs j d) table at) z ∙ ap (λ o. entry_from image o table at) (sym (slice_get-get_or xs i d (omega arith)))
+    ap (λ j. file_bytes_from image (get_or xs j d) table at) z ∙ ap (λ o. entry_from image o table at) (sym (slice_get-get_or xs i d (omega arith)))
 
 -- by the tables of a volume, a node has the bytes of its file
 pub node_read : {ls : Letters} (image table : List ℕ) (t : Tree) (l : Layout) (xs : List TableEntry) (n at : ℕ) → FitsBy ls image t l

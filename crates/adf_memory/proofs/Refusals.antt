@@ -1,5 +1,6 @@
 -- What the refusal of a volume means, and the room of one that is built.
-use Rattle.std.proofs.Common.{◌≡◌, ◌≤◌, ◌<◌, ◌+◌, ◌-◌, ◌*◌, ◌++◌, ℕ, List, length, take, drop, get_or, Some, None, Bool, true, false, not, nat_lt, if◌then◌else◌, arith, refl, subst}
+use Rattle.std.proofs.Common.{◌≡◌, ◌≤◌, ◌<◌, ◌+◌, ◌-◌, ◌*◌, ◌++◌, ℕ, List, length, take, drop, get_or, Some, None, Bool, true, false, not, nat_lt}
+use Rattle.std.proofs.Common.{if◌then◌else◌, arith, refl, subst}
 use Rattle.std.proofs.lemmas.Bool.Decides.{nat_tests}
 use Rattle.std.proofs.lemmas.List.{take_all}
 use Rattle.adf_blocks.specs.Sizes.{is_allowed}

@@ -29,13 +29,15 @@ use Rattle.adf_runs.specs.Commands.{Reply, on_errors}
 use Rattle.adf_file_words.specs.SurveyLine.{asked, rescue}
 use Rattle.adf_survey_cmd.specs.Answers.{RescuesTyped, SurveyAnswer}
 use Rattle.adf_survey_cmd.specs.Hints.{Hinted, hinted}
-use Rattle.adf_survey_cmd.specs.Rescues.{RescuesBy, begins_with, left_out_text, lost_blocks_text, lost_header_line, lost_headers_text, lost_run_line, lost_run_text}
+use Rattle.adf_survey_cmd.specs.Rescues.{RescuesBy, begins_with, left_out_text, lost_blocks_text, lost_header_line, lost_headers_text, lost_run_line}
+use Rattle.adf_survey_cmd.specs.Rescues.{lost_run_text}
 use Rattle.adf_survey_cmd.specs.Rescues.{rescue_reply, rescue_text, second_text, why_text}
 use Rattle.adf_survey_cmd.specs.Subject.{SubjectValue, meant, sized, subject}
 use Rattle.adf_survey_cmd.proofs.KeptBoots.{laid_long, typed_length}
 use Rattle.adf_survey_cmd.proofs.OneAnswer.{one_answer}
 use Rattle.adf_survey_cmd.proofs.SizedImages.{length_sized}
-use Rattle.adf_memory.specs.Losses.{LossValue, block_losses, header_losses, header_of, left_out_losses, path_loss, rescue_losses, run_loss, run_losses, second_losses, why_number}
+use Rattle.adf_memory.specs.Losses.{LossValue, block_losses, header_losses, header_of, left_out_losses, path_loss, rescue_losses, run_loss}
+use Rattle.adf_memory.specs.Losses.{run_losses, second_losses, why_number}
 use Rattle.adf_memory.specs.RescueReplies.{RepliesRescue, loss_line}
 use Rattle.adf_memory.specs.Rescuing.{ExplainsRescue, IsHopeless, RescueBy, RescueOf, RescueValue, RescueValue.refused, RescueValue.written}
 use Rattle.adf_memory.specs.declared.rescuing.RescueRefusal.TheVariants.{SmallRoom}

@@ -12,7 +12,7 @@ use Rattle.adf_boot_blocks.specs.BootBlocks.{begins_with_dos}
 use Rattle.adf_findings.specs.OwnKind.{is_mistyped, retyped}
 use Rattle.adf_findings.proofs.OneSurvey.{one_survey}
 use Rattle.adf_rescue.specs.MadeRoot.{has_root}
-use Rattle.adf_rescue.specs.Opened.{begun, lacks_boot}
+use Rattle.adf_rescue.specs.Opened.{with_boot_type, lacks_boot}
 use Rattle.adf_rescue.proofs.MadeRoots.{sized as sized_as}
 use Rattle.adf_rescue.proofs.OpenedImages.{length_begun}
 use Rattle.adf_runs.specs.Commands.{Reply}
@@ -74,12 +74,12 @@ lacks_long image lacks =
 
 begun_length : (s : SubjectValue) → length (begun_subject s).image ≡ length s.image
 begun_length s =
-    cond_both (lacks_boot s.image) (changed s (begun s.image) (codes "block 0: not dos\n")) s
+    cond_both (lacks_boot s.image) (changed s (with_boot_type s.image) (codes "block 0: not dos\n")) s
     (λ (t : SubjectValue). length t.image ≡ length s.image) (λ lacks. length_begun s.image (lacks_long s.image lacks)) (λ e. refl)
 
 begun_rest : (s : SubjectValue) → drop 4 (begun_subject s).image ≡ drop 4 s.image
 begun_rest s =
-    cond_both (lacks_boot s.image) (changed s (begun s.image) (codes "block 0: not dos\n")) s
+    cond_both (lacks_boot s.image) (changed s (with_boot_type s.image) (codes "block 0: not dos\n")) s
     (λ (t : SubjectValue). drop 4 t.image ≡ drop 4 s.image)
     (λ lacks. cond_both (begins_with_dos s.image) s.image _ (λ (l : List ℕ). drop 4 l ≡ drop 4 s.image) (λ e. refl) (λ e. refl)) (λ e. refl)
 
@@ -118,7 +118,7 @@ dos_has image dos = none (is_image_len (length image)) (begins_with_dos image) (
 surveyed_end : (s : SubjectValue) (w : Walk) → (surveyed_subject s w).end ≡ s.end
 surveyed_end s w =
     changed_end (is_mistyped (begun_subject s).image w) (begun_subject s) (retyped (begun_subject s).image) type_line
-    ∙ changed_end (lacks_boot s.image) s (begun s.image) (codes "block 0: not dos\n")
+    ∙ changed_end (lacks_boot s.image) s (with_boot_type s.image) (codes "block 0: not dos\n")
 
 -- the lines of what is told
 abbrev begun_line : Bool → List ℕ
@@ -132,7 +132,7 @@ surveyed_front : (s : SubjectValue) (w : Walk) → (surveyed_subject s w).front
 surveyed_front s w =
     changed_front (is_mistyped (begun_subject s).image w) (begun_subject s) (retyped (begun_subject s).image) type_line
     ∙ ap (λ (l : List ℕ). l ++ retyped_line (is_mistyped (begun_subject s).image w))
-    (changed_front (lacks_boot s.image) s (begun s.image) (codes "block 0: not dos\n"))
+    (changed_front (lacks_boot s.image) s (with_boot_type s.image) (codes "block 0: not dos\n"))
 
 -- those in front of what is meant
 meant_front : (as_it_is : Bool) (n : ℕ) (input : List ℕ)

@@ -1,5 +1,6 @@
 -- The draft of a table of additions, and one addition more.
-use Rattle.std.proofs.Common.{◌≡◌, Some, None, Ok, Err, Result, ◌≤◌, ◌<◌, ◌+◌, ◌∙◌, ℕ, List, [], ◌∷◌, ◌++◌, length, map, fold, get_or, true, false, arith, refl, sym, ap, inl, inr, nat_lt, suc, take, ◌⊎◌}
+use Rattle.std.proofs.Common.{◌≡◌, Some, None, Ok, Err, Result, ◌≤◌, ◌<◌, ◌+◌, ◌∙◌, ℕ, List, [], ◌∷◌, ◌++◌, length, map, fold, get_or, true, false}
+use Rattle.std.proofs.Common.{arith, refl, sym, ap, inl, inr, nat_lt, suc, take, ◌⊎◌}
 use Rattle.std.proofs.lemmas.Bool.{cases_lt}
 use Rattle.std.proofs.lemmas.Bool.Decides.{nat_tests}
 use Rattle.std.proofs.lemmas.List.{map-append, get_or_append_left, get_or_push, length_push, take_more}
@@ -12,7 +13,9 @@ use Rattle.adf_tree.specs.Tree.{Tree, room_for_by, with_entry, with_entry_by}
 use Rattle.adf_tree.specs.declared.tree.RoomFault.TheVariants as room
 use Rattle.adf_drafts.specs.declared.draft.Room.{Room}
 use Rattle.adf_drafts.specs.Draft.{DraftValue, IsDirectoryOf, IsRoomFor}
-use Rattle.adf_memory.specs.TableAdditions.{IsDraftOf, IsNext, additions_of, body_in, directory_in, fault_in, fault_of, has_bytes, has_name, has_room, is_file_at, meta_in, path_at, path_in, tree_with, with_next, AreSoundBefore, IsNotAdded}
+use Rattle.adf_memory.specs.TableAdditions.{IsDraftOf, IsNext, additions_of, addition_body, directory_in, fault_in, fault_of, has_bytes}
+use Rattle.adf_memory.specs.TableAdditions.{has_entry_name, has_room, is_file_at, meta_in, path_numbered, addition_path, tree_with, with_next}
+use Rattle.adf_memory.specs.TableAdditions.{AreSoundBefore, IsNotAdded}
 use Rattle.adf_memory.specs.declared.table_additions.AdditionFault.{AdditionFault}
 use Rattle.adf_memory.specs.declared.table_additions.AdditionFault.TheVariants.{BadName, Exists, BadComment, PastContents}
 use Rattle.adf_memory.specs.declared.table_additions.NotAdded.{NotAdded}
@@ -40,7 +43,7 @@ counted bytes before (x ∷ xs) =
       arith,
       counted bytes (with_next bytes before x) xs,
       length_push before
-          (record { path = path_in before x; meta = meta_in x; body = body_in bytes x }),
+          (record { path = addition_path before x; meta = meta_in x; body = addition_body bytes x }),
     )
 
 -- there are as many additions with paths as in the table
@@ -52,12 +55,12 @@ pub additions_more : (bytes : List ℕ) (xs : List TableAddition) (x : TableAddi
 additions_more bytes xs x = fold_push (with_next bytes) [] xs x
 
 pub tree_more : (t : Tree) (bytes : List ℕ) (xs : List TableAddition) (x : TableAddition)
-    → tree_with t bytes (xs ++ x ∷ []) ≡ with_entry (tree_with t bytes xs) (path_in (additions_of bytes xs) x) (meta_in x) (body_in bytes x)
+    → tree_with t bytes (xs ++ x ∷ []) ≡ with_entry (tree_with t bytes xs) (addition_path (additions_of bytes xs) x) (meta_in x) (addition_body bytes x)
 tree_more t bytes xs x =
-    let a : Addition = record { path = path_in (additions_of bytes xs) x; meta = meta_in x; body = body_in bytes x } in
+    let a : Addition = record { path = addition_path (additions_of bytes xs) x; meta = meta_in x; body = addition_body bytes x } in
     rw (additions_more bytes xs x, fold_push with_addition [] (additions_of bytes xs) a) refl
 
-not_file : (bytes : List ℕ) (x : TableAddition) → nat_lt 0 x.is_file ≡ false → body_in bytes x ≡ Dir
+not_file : (bytes : List ℕ) (x : TableAddition) → nat_lt 0 x.is_file ≡ false → addition_body bytes x ≡ Dir
 not_file bytes x e = grind (arith, common_steps, nat_tests)
 
 -- the draft has ASCII letters
@@ -65,13 +68,13 @@ own_letters : (t : Tree) (bytes : List ℕ) (xs : List TableAddition) (d : Draft
 own_letters t bytes xs d is = ap (λ (s : Tree). s.letters) is.tree ∙ is.letters
 
 pub draft_more : (t : Tree) (bytes : List ℕ) (xs : List TableAddition) (x : TableAddition) (d e : DraftValue) → IsDraftOf t bytes xs d
-    → e.tree ≡ with_entry_by d.tree.letters d.tree (path_in (additions_of bytes xs) x) (meta_in x) (body_in bytes x)
+    → e.tree ≡ with_entry_by d.tree.letters d.tree (addition_path (additions_of bytes xs) x) (meta_in x) (addition_body bytes x)
     → length e.nodes ≡ length d.nodes + 1
     → ((other : List (List ℕ)) (m : ℕ) → IsDirectoryOf d other m → IsDirectoryOf e other m)
-    → (body_in bytes x ≡ Dir → IsDirectoryOf e (path_in (additions_of bytes xs) x) (length d.nodes + 1))
+    → (addition_body bytes x ≡ Dir → IsDirectoryOf e (addition_path (additions_of bytes xs) x) (length d.nodes + 1))
     → IsDraftOf t bytes (xs ++ x ∷ []) e
 draft_more t bytes xs x d e is tree nodes kept_dirs new =
-    let a : Addition = record { path = path_in (additions_of bytes xs) x; meta = meta_in x; body = body_in bytes x } in
+    let a : Addition = record { path = addition_path (additions_of bytes xs) x; meta = meta_in x; body = addition_body bytes x } in
     let n = additions_count bytes xs in
     let plain = tree ∙ ap (λ l. with_entry_by l d.tree a.path a.meta a.body) (own_letters t bytes xs d is) in
     record {
@@ -86,7 +89,7 @@ draft_more t bytes xs x d e is tree nodes kept_dirs new =
             (new (not_file bytes x (rw (next (λ (y : TableAddition). y.is_file) 0 xs x m at) at dir)))
         | inr within ↦
             rw (additions_more bytes xs x, kept (λ (b : Addition). b.path) [] (additions_of bytes xs) a m (omega arith))
-            (kept_dirs (path_at (additions_of bytes xs) m) m
+            (kept_dirs (path_numbered (additions_of bytes xs) m) m
             (is.directories m within (rw (kept (λ (y : TableAddition). y.is_file) 0 xs x m within) at dir)))
       ];
     }
@@ -107,36 +110,36 @@ module _ (t : Tree) (bytes : List ℕ) (before : List TableAddition) (x : TableA
   at : fault_of bytes before x ≡ fault_in bytes before x (Ok p)
   at = directory_fault bytes before x (Ok p) is.directory
 
-  pub in_directory : IsDirectoryOf d (path_at (additions_of bytes before) x.parent) p
+  pub in_directory : IsDirectoryOf d (path_numbered (additions_of bytes before) x.parent) p
   in_directory =
       let said = directory_is before x p is.directory in
       rw (← said.0) (is.draft.directories p said.1 said.2)
 
-  pub room_none : room_for_by d.tree.letters d.tree.entries (path_in (additions_of bytes before) x) ≡ Err room.Exists
+  pub room_none : room_for_by d.tree.letters d.tree.entries (addition_path (additions_of bytes before) x) ≡ Err room.Exists
       → has_room bytes before x ≡ false
   room_none e = let plain = rw (own_letters t bytes before d is.draft) at e in grind (arith, common_steps, is.draft.tree)
 
-  pub room_some : (r : Room) → IsRoomFor d (path_in (additions_of bytes before) x) r → has_room bytes before x ≡ true
+  pub room_some : (r : Room) → IsRoomFor d (addition_path (additions_of bytes before) x) r → has_room bytes before x ≡ true
   room_some r e = let leads = rw (own_letters t bytes before d is.draft) at e.leads in grind (arith, common_steps, is.draft.tree)
 
-  pub bad_name : has_name x ≡ false → fault_of bytes before x ≡ Some BadName
+  pub bad_name : has_entry_name x ≡ false → fault_of bytes before x ≡ Some BadName
   bad_name e = rw (at, e) refl
 
-  pub taken : has_name x ≡ true → has_room bytes before x ≡ false → fault_of bytes before x ≡ Some Exists
+  pub taken : has_entry_name x ≡ true → has_room bytes before x ≡ false → fault_of bytes before x ≡ Some Exists
   taken e r = rw (at, e, r) refl
 
-  pub bad_comment : has_name x ≡ true → has_room bytes before x ≡ true → 79 < x.comment_length → fault_of bytes before x ≡ Some BadComment
+  pub bad_comment : has_entry_name x ≡ true → has_room bytes before x ≡ true → 79 < x.comment_length → fault_of bytes before x ≡ Some BadComment
   bad_comment e r long = let test : nat_lt 79 x.comment_length ≡ true = grind (arith, nat_tests) in rw (at, e, r, test) refl
 
-  pub past : has_name x ≡ true → has_room bytes before x ≡ true → x.comment_length ≤ 79 → has_bytes bytes x ≡ false
+  pub past : has_entry_name x ≡ true → has_room bytes before x ≡ true → x.comment_length ≤ 79 → has_bytes bytes x ≡ false
       → fault_of bytes before x ≡ Some PastContents
   past e r short b = let test : nat_lt 79 x.comment_length ≡ false = grind (arith, nat_tests) in rw (at, e, r, test, b) refl
 
-  pub sound : has_name x ≡ true → has_room bytes before x ≡ true → x.comment_length ≤ 79 → has_bytes bytes x ≡ true
+  pub sound : has_entry_name x ≡ true → has_room bytes before x ≡ true → x.comment_length ≤ 79 → has_bytes bytes x ≡ true
       → fault_of bytes before x ≡ None
   sound e r short b = let test : nat_lt 79 x.comment_length ≡ false = grind (arith, nat_tests) in rw (at, e, r, test, b) refl
 
-  pub not_copied : (e : NotAdded) → has_name x ≡ true → has_room bytes before x ≡ true → x.comment_length ≤ 79
+  pub not_copied : (e : NotAdded) → has_entry_name x ≡ true → has_room bytes before x ≡ true → x.comment_length ≤ 79
       → (e ≡ NoMemory) ⊎ ((e ≡ Fault PastContents) × (has_bytes bytes x ≡ false)) → IsNotAdded bytes before x e
   not_copied e n r short (inl m) = rw m tt
   not_copied e n r short (inr f) = rw f.0 (past n r short f.1)

@@ -17,13 +17,13 @@ abbrev pub bytes_from : List ℕ → Kind → List ℕ → ℕ → List ℕ
 bytes_from image kind table at = drop (at % chunk kind) (joined image kind (front_blocks image (drop (at / chunk kind) table)))
 
 -- of these, what belongs to a file: its blocks begin at its first, and its bytes end at its size
-abbrev pub file_from : List ℕ → TableEntry → List ℕ → ℕ → List ℕ
-file_from image file table at = take (file.size - at) (bytes_from image (kind_of image) (drop file.first table) at)
+abbrev pub file_bytes_from : List ℕ → TableEntry → List ℕ → ℕ → List ℕ
+file_bytes_from image file table at = take (file.size - at) (bytes_from image (kind_of image) (drop file.first table) at)
 
 -- the bytes of what may be an entry
 abbrev pub entry_from : List ℕ → Option TableEntry → List ℕ → ℕ → List ℕ
 entry_from image None table at = []
-entry_from image (Some file) table at = file_from image file table at
+entry_from image (Some file) table at = file_bytes_from image file table at
 
 -- the bytes of node n by the tables, whatever they hold: none of the root and past the last entry
 abbrev pub node_from : List ℕ → List TableEntry → List ℕ → ℕ → ℕ → List ℕ

@@ -63,21 +63,21 @@ IsFullAtMost t (refusal.Full need have) = (need ≡ need_of t MOST_BLOCKS) × (h
 IsFullAtMost t _ = ⊥
 
 -- the volume has a kind and a label
-abbrev pub IsBegun : NewVolume → Type 0
-IsBegun v = (v.kind ≤ 1) × (v.label_length ≤ 30)
+abbrev pub HasKindAndLabel : NewVolume → Type 0
+HasKindAndLabel v = (v.kind ≤ 1) × (v.label_length ≤ 30)
 
 -- what a refusal means, where it is of the volume or of its additions
 abbrev pub Explains : NewVolume → List ℕ → List TableAddition → Refusal → Type 0
 Explains v bytes xs refusal.BadKind = 1 < v.kind
 Explains v bytes xs refusal.BadLabel = (v.kind ≤ 1) × (30 < v.label_length)
-Explains v bytes xs (refusal.Addition n fault) = IsBegun v × IsFirstFault bytes xs n fault
-Explains v bytes xs refusal.NoMemory = IsBegun v
+Explains v bytes xs (refusal.Addition n fault) = HasKindAndLabel v × IsFirstFault bytes xs n fault
+Explains v bytes xs refusal.NoMemory = HasKindAndLabel v
 Explains v bytes xs _ = ⊥
 
 -- what a refusal to build means, where the image has so many bytes of room
 abbrev pub ExplainsBuild : NewVolume → List ℕ → List TableAddition → ℕ → Refusal → Type 0
-ExplainsBuild v bytes xs room refusal.BadSize = IsBegun v × (is_allowed v.blocks ≡ false)
-ExplainsBuild v bytes xs room refusal.SmallRoom = IsBegun v × (is_allowed v.blocks ≡ true) × (room < v.blocks * 512)
+ExplainsBuild v bytes xs room refusal.BadSize = HasKindAndLabel v × (is_allowed v.blocks ≡ false)
+ExplainsBuild v bytes xs room refusal.SmallRoom = HasKindAndLabel v × (is_allowed v.blocks ≡ true) × (room < v.blocks * 512)
 ExplainsBuild v bytes xs room (refusal.Full need have) =
     IsSound v bytes xs × (need ≡ need_of (tree_of v bytes xs) v.blocks) × (have ≡ v.blocks - 2) × (have < need)
 ExplainsBuild v bytes xs room fault = Explains v bytes xs fault

@@ -14,9 +14,9 @@ use Rattle.adf_memory.specs.declared.disk_tables.TablePartition.{TablePartition}
 use Rattle.adf_memory.specs.Tables.{field}
 
 -- the first block of a place; 0 if there is none
-abbrev pub first_of : Result Place PlaceFault → ℕ
-first_of (Ok q) = q.first
-first_of (Err f) = 0
+abbrev pub first_or_zero : Result Place PlaceFault → ℕ
+first_or_zero (Ok q) = q.first
+first_or_zero (Err f) = 0
 
 -- its blocks; 0 if there is none
 abbrev pub blocks_of : Result Place PlaceFault → ℕ
@@ -29,20 +29,20 @@ field_fault_of None = 0
 field_fault_of (Some f) = field_fault_number f
 
 -- the number of what is wrong with its place, or else with its other fields; 0 if nothing is
-abbrev pub fault_of : Result Place PlaceFault → Option FieldFault → ℕ
-fault_of (Ok q) o = field_fault_of o
-fault_of (Err f) o = place_fault_number f
+abbrev pub partition_fault : Result Place PlaceFault → Option FieldFault → ℕ
+partition_fault (Ok q) o = field_fault_of o
+partition_fault (Err f) o = place_fault_number f
 
 -- the row of a partition
 abbrev pub partition_row : Partition → TablePartition
 partition_row p = record {
-  first = first_of p.place;
+  first = first_or_zero p.place;
   blocks = blocks_of p.place;
   block = p.block;
   flags = p.flags;
   priority = p.priority;
   dos_type = p.dos_type;
-  fault = fault_of p.place p.fault;
+  fault = partition_fault p.place p.fault;
   name_length = length p.name;
   name = field 31 p.name;
 }

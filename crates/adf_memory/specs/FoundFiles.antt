@@ -1,6 +1,7 @@
 -- The parts that a survey has at blocks, and what is read of a file by them.
 -- Letters: w the walk of a survey; b a block; n a file's node, h the block of its header; k the number of a data block, from 0; at a place in the file.
-use Rattle.std.specs.Prelude.{◌+◌, ◌-◌, ◌*◌, ◌/◌, ◌==◌, ◌&&◌, ℕ, Bool, false, List, [], ◌∷◌, Option, Some, None, cond, drop, length, map, min, nat_lt, slice_get, take}
+use Rattle.std.specs.Prelude.{◌+◌, ◌-◌, ◌*◌, ◌/◌, ◌==◌, ◌&&◌, ℕ, Bool, false, List, [], ◌∷◌, Option, Some, None, cond, drop, length, map, min}
+use Rattle.std.specs.Prelude.{nat_lt, slice_get, take}
 use Rattle.std.specs.List.{range_with_len}
 use Rattle.std.specs.Option.{unwrap_or}
 use Rattle.std.proofs.Common.{suc}
@@ -21,30 +22,30 @@ abbrev pub part_at : Walk → ℕ → FoundPart
 part_at w b = record { node = owner_number (owner w b); number = number_at w b }
 
 -- a row for each block; no rows if nothing is taken
-abbrev pub part_table : List ℕ → Walk → List FoundPart
-part_table image [] = []
-part_table image (x ∷ w) = map (part_at (x ∷ w)) (range_with_len 0 (blocks image))
+abbrev pub found_part_table : List ℕ → Walk → List FoundPart
+found_part_table image [] = []
+found_part_table image (x ∷ w) = map (part_at (x ∷ w)) (range_with_len 0 (blocks image))
 
 -- whether the image has whole blocks, and block h says that it is a file's header
-abbrev pub is_file_at : List ℕ → ℕ → Bool
-is_file_at image h = (length image == 512 * blocks image) && (word_in image h SECONDARY_TYPE == ST_FILE)
+abbrev pub is_file_header : List ℕ → ℕ → Bool
+is_file_header image h = (length image == 512 * blocks image) && (word_in image h SECONDARY_TYPE == ST_FILE)
 
 -- the bytes of the file with its header at block h: as many as that says, but no more than the image has; 0 if it is no file
 abbrev pub file_size : List ℕ → ℕ → ℕ
-file_size image h = cond (is_file_at image h) (size_stated image h) 0
+file_size image h = cond (is_file_header image h) (size_stated image h) 0
 
 -- the data blocks that so many bytes need
-abbrev pub file_blocks : List ℕ → ℕ → ℕ
-file_blocks image h = count (kind_of image) (file_size image h)
+abbrev pub file_block_count : List ℕ → ℕ → ℕ
+file_block_count image h = count (kind_of image) (file_size image h)
 
 -- whether a row is that of data block k of file n
-abbrev pub is_data_of : ℕ → ℕ → Option FoundPart → Bool
-is_data_of n k None = false
-is_data_of n k (Some p) = (p.node == n) && (p.number == k + 1)
+abbrev pub is_data_row : ℕ → ℕ → Option FoundPart → Bool
+is_data_row n k None = false
+is_data_row n k (Some p) = (p.node == n) && (p.number == k + 1)
 
 -- block b, if the image has it and its row is that of data block k of file n; else NO_BLOCK
 abbrev pub block_if : List ℕ → List FoundPart → ℕ → ℕ → ℕ → ℕ
-block_if image parts n k b = cond (nat_lt b (blocks image) && is_data_of n k (slice_get parts b)) b NO_BLOCK
+block_if image parts n k b = cond (nat_lt b (blocks image) && is_data_row n k (slice_get parts b)) b NO_BLOCK
 
 -- the same of the block that the header and the extension blocks of the file name as data block k
 abbrev pub named_block : List ℕ → List FoundPart → ℕ → ℕ → ℕ → ℕ
@@ -52,11 +53,11 @@ named_block image parts n h k = block_if image parts n k (named_from image h k)
 
 -- the table of a file by the rows of blocks: its data blocks in order, with NO_BLOCK for each that is not found
 abbrev pub named_blocks : List ℕ → List FoundPart → ℕ → ℕ → List ℕ
-named_blocks image parts n h = map (named_block image parts n h) (range_with_len 0 (file_blocks image h))
+named_blocks image parts n h = map (named_block image parts n h) (range_with_len 0 (file_block_count image h))
 
 -- the table of file n of a survey
 abbrev pub found_blocks : List ℕ → Walk → ℕ → ℕ → List ℕ
-found_blocks image w n h = map (λ k. unwrap_or (data_found w n k) NO_BLOCK) (range_with_len 0 (file_blocks image h))
+found_blocks image w n h = map (λ k. unwrap_or (data_found w n k) NO_BLOCK) (range_with_len 0 (file_block_count image h))
 
 -- the bytes of a file from a place on, by its table: up to the first data block that is not found
 abbrev pub found_from : List ℕ → ℕ → List ℕ → ℕ → List ℕ

@@ -95,13 +95,8 @@ IsRefusal input (Refused f) = FirstFault input f.block f.cause
 IsRefusal input NoMemory = Unit {0}
 
 -- the fault is the first one of an image, or memory was refused
-abbrev pub IsFaultOf : List ℕ → Fault → Type 0
-IsFaultOf image f = f.cause ≢ OutOfMemory → FirstFault image f.block f.cause
-
--- an input is opened as an image: as it is, or mended, and then this is its fault
-abbrev pub IsOpened : List ℕ → List ℕ → Option Fault → Type 0
-IsOpened input image None = (is_mended input ≡ false) × (image ≡ input)
-IsOpened input image (Some f) = (is_mended input ≡ true) × (image ≡ opened input) × IsFaultOf input f
+abbrev pub IsFaultOfImage : List ℕ → Fault → Type 0
+IsFaultOfImage image f = f.cause ≢ OutOfMemory → FirstFault image f.block f.cause
 
 -- a rescue that gives this is ready, with its boot blocks
 abbrev pub Readies : (RescueValue → Type 0) → Result Ready Unrescued → Type 0

@@ -1,7 +1,8 @@
 -- Tables of what is added to a new volume.
 -- Letters: xs a table; x an addition, and before those that stand before it in the table; n the number of an addition, counted from 1;
 -- bytes the contents of the files; t a tree without entries; d a draft.
-use Rattle.std.specs.Prelude.{◌≡◌, ◌≤◌, ◌<◌, ◌+◌, ◌-◌, ◌==◌, ◌&&◌, ℕ, Bool, true, false, not, nat_le, nat_lt, if◌then◌else◌, Option, Some, None, Result, Ok, Err, is_ok}
+use Rattle.std.specs.Prelude.{◌≡◌, ◌≤◌, ◌<◌, ◌+◌, ◌-◌, ◌==◌, ◌&&◌, ℕ, Bool, true, false, not, nat_le, nat_lt, if◌then◌else◌, Option, Some, None}
+use Rattle.std.specs.Prelude.{Result, Ok, Err, is_ok}
 use Rattle.std.specs.Prelude.{List, [], ◌∷◌, ◌++◌, length, map, take, drop, fold, slice_index_or}
 use Rattle.adf_base.specs.declared.hash.Letters.TheVariants.{Ascii}
 use Rattle.adf_base.specs.declared.dates.Stamp.{Stamp}
@@ -25,28 +26,28 @@ abbrev pub stamp_of : Date → Stamp
 stamp_of date = record { days = date.days; mins = date.mins; ticks = date.ticks }
 
 -- the name of an addition
-abbrev pub name_in : TableAddition → List ℕ
-name_in x = take x.name_length x.name
+abbrev pub addition_name : TableAddition → List ℕ
+addition_name x = take x.name_length x.name
 
 -- the comment, the protection and the date of an addition
 abbrev pub meta_in : TableAddition → Meta
 meta_in x = new_meta (take x.comment_length x.comment) x.protection (stamp_of x.date)
 
 -- what an addition is: a directory, or a file with its part of the contents
-abbrev pub body_in : List ℕ → TableAddition → Body
-body_in bytes x = if x.is_file == 0 then Dir else File (take x.size (drop x.begin bytes))
+abbrev pub addition_body : List ℕ → TableAddition → Body
+addition_body bytes x = if x.is_file == 0 then Dir else File (take x.size (drop x.begin bytes))
 
 -- the path of addition n; 0 is the root
-abbrev pub path_at : List Addition → ℕ → List (List ℕ)
-path_at before n = slice_index_or ([] ∷ map (λ a. a.path) before) n []
+abbrev pub path_numbered : List Addition → ℕ → List (List ℕ)
+path_numbered before n = slice_index_or ([] ∷ map (λ a. a.path) before) n []
 
 -- the path of an addition: that of its directory, and its name
-abbrev pub path_in : List Addition → TableAddition → List (List ℕ)
-path_in before x = path_at before x.parent ++ name_in x ∷ []
+abbrev pub addition_path : List Addition → TableAddition → List (List ℕ)
+addition_path before x = path_numbered before x.parent ++ addition_name x ∷ []
 
 -- the table with one addition more, each with its path
 abbrev pub with_next : List ℕ → List Addition → TableAddition → List Addition
-with_next bytes before x = before ++ (record { path = path_in before x; meta = meta_in x; body = body_in bytes x }) ∷ []
+with_next bytes before x = before ++ (record { path = addition_path before x; meta = meta_in x; body = addition_body bytes x }) ∷ []
 
 -- the additions of a table, each with its path
 abbrev pub additions_of : List ℕ → List TableAddition → List Addition
@@ -61,12 +62,12 @@ abbrev pub is_file_at : List TableAddition → ℕ → Bool
 is_file_at xs n = nat_lt 0 (slice_index_or (0 ∷ map (λ x. x.is_file) xs) n 0)
 
 -- whether an addition has a name that a volume can have
-abbrev pub has_name : TableAddition → Bool
-has_name x = nat_le x.name_length 30 && is_name (name_in x)
+abbrev pub has_entry_name : TableAddition → Bool
+has_entry_name x = nat_le x.name_length 30 && is_name (addition_name x)
 
 -- whether its directory has room for an entry of its name: none before it has this name there, ignoring case
 abbrev pub has_room : List ℕ → List TableAddition → TableAddition → Bool
-has_room bytes before x = is_ok (room_for (entries_of_additions (additions_of bytes before)) (path_in (additions_of bytes before) x))
+has_room bytes before x = is_ok (room_for (entries_of_additions (additions_of bytes before)) (addition_path (additions_of bytes before) x))
 
 -- whether the bytes of an addition, if it is a file, are within the contents
 abbrev pub has_bytes : List ℕ → TableAddition → Bool
@@ -81,7 +82,7 @@ directory_in before x =
 abbrev pub fault_in : List ℕ → List TableAddition → TableAddition → Result ℕ AdditionFault → Option AdditionFault
 fault_in bytes before x (Err fault) = Some fault
 fault_in bytes before x (Ok directory) =
-    if not (has_name x) then Some BadName else (if not (has_room bytes before x) then Some Exists else
+    if not (has_entry_name x) then Some BadName else (if not (has_room bytes before x) then Some Exists else
     (if nat_lt 79 x.comment_length then Some BadComment else (if not (has_bytes bytes x) then Some PastContents else None)))
 
 -- the first fault of an addition
@@ -113,7 +114,7 @@ pub record IsDraftOf (t : Tree) (bytes : List ℕ) (xs : List TableAddition) (d 
   pub letters : t.letters ≡ Ascii
   pub tree : d.tree ≡ tree_with t bytes xs
   pub count : length d.nodes ≡ length xs
-  pub directories : (m : ℕ) → m ≤ length xs → is_file_at xs m ≡ false → IsDirectoryOf d (path_at (additions_of bytes xs) m) m
+  pub directories : (m : ℕ) → m ≤ length xs → is_file_at xs m ≡ false → IsDirectoryOf d (path_numbered (additions_of bytes xs) m) m
 
 -- a draft is that of the additions before one whose directory is addition p of them
 pub record IsNext (t : Tree) (bytes : List ℕ) (before : List TableAddition) (x : TableAddition) (p : ℕ) (d : DraftValue) : Type 0 where

@@ -32,16 +32,16 @@ file_number Dir = 0
 file_number (File bytes) = 1
 
 -- the bytes of a file; a directory has none
-abbrev pub bytes_in : Body → List ℕ
-bytes_in Dir = []
-bytes_in (File bytes) = bytes
+abbrev pub bytes_of_body : Body → List ℕ
+bytes_of_body Dir = []
+bytes_of_body (File bytes) = bytes
 
 -- entry e, whose header is block h, where k data blocks are of files before it
 abbrev pub table_entry : ℕ → ℕ → Entry → TableEntry
 table_entry h k e = record {
   parent = e.parent;
   header = h;
-  size = length (bytes_in e.body);
+  size = length (bytes_of_body e.body);
   first = k;
   protection = e.meta.protect;
   date = date_of e.meta.stamp;
@@ -116,7 +116,7 @@ refused_at b = record {
 -- the bytes of what may be an entry
 abbrev pub bytes_told : Option Entry → List ℕ
 bytes_told None = []
-bytes_told (Some e) = bytes_in e.body
+bytes_told (Some e) = bytes_of_body e.body
 
 -- the bytes of the file with this number; none of the root, a directory and what is past the last entry
 abbrev pub bytes_at : Tree → ℕ → List ℕ

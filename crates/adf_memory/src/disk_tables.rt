@@ -1,7 +1,7 @@
 // The table of a hard disk's partitions, and how it is filled.
 
 ghost use Rattle.std.specs.Prelude.{◌≡◌};
-ghost use Rattle.adf_memory.specs.DiskTables.{blocks_of, fault_of, field_fault_of, first_of, partition_row, partition_table, table_disk};
+ghost use Rattle.adf_memory.specs.DiskTables.{blocks_of, partition_fault, field_fault_of, first_or_zero, partition_row, partition_table, table_disk};
 ghost use Rattle.adf_memory.specs.Rooms.{filled};
 
 use crate::tables::{field, put};
@@ -43,8 +43,8 @@ pub struct TableDisk {
 }
 
 // The first block of a place; 0 if there is none.
-fn first_of(place: Result<Place, PlaceFault>) -> u64
-    ensures { result ≡ first_of place }
+fn first_or_zero(place: Result<Place, PlaceFault>) -> u64
+    ensures { result ≡ first_or_zero place }
 {
     match place {
         Ok(place) => place.first,
@@ -73,8 +73,8 @@ fn field_fault_of(fault: Option<FieldFault>) -> u8
 }
 
 // The number of what is wrong with a partition; 0 if nothing is.
-fn fault_of(place: Result<Place, PlaceFault>, fault: Option<FieldFault>) -> u8
-    ensures { result ≡ fault_of place fault }
+fn partition_fault(place: Result<Place, PlaceFault>, fault: Option<FieldFault>) -> u8
+    ensures { result ≡ partition_fault place fault }
 {
     match place {
         Ok(_) => field_fault_of(fault),
@@ -88,13 +88,13 @@ fn partition_row(partition: &Partition) -> TablePartition
 {
     let name = partition.name.bytes();
     TablePartition {
-        first: first_of(partition.place),
+        first: first_or_zero(partition.place),
         blocks: blocks_of(partition.place),
         block: partition.block,
         flags: partition.flags,
         priority: partition.priority,
         dos_type: partition.dos_type,
-        fault: fault_of(partition.place, partition.fault),
+        fault: partition_fault(partition.place, partition.fault),
         name_length: name.len() as u8,
         name: field(name),
     }

@@ -6,7 +6,7 @@ ghost use Rattle.adf_blocks.specs.Sizes.{blocks as blocks_of};
 ghost use Rattle.adf_volume.specs.Image.{word_in};
 ghost use Rattle.adf_volume.specs.Walk.{FileAt};
 ghost use Rattle.adf_findings.specs.Survey.{OnSurvey};
-ghost use Rattle.adf_memory.specs.FoundFiles.{block_if, file_blocks, file_size, found_blocks, found_from, is_data_of, lost_from, missing, named_block, named_blocks, part_table};
+ghost use Rattle.adf_memory.specs.FoundFiles.{block_if, file_block_count, file_size, found_blocks, found_from, is_data_row, lost_from, missing, named_block, named_blocks, found_part_table};
 ghost use Rattle.adf_memory.specs.Rooms.{filled};
 
 use crate::found_parts::FoundPart;
@@ -49,8 +49,8 @@ fn file_size(image: &[u8], header: u32) -> u32
 }
 
 // How many data blocks the size of a file asks for.
-fn file_blocks(image: &[u8], header: u32) -> u32
-    ensures count { result ≡ file_blocks image.now header }
+fn file_block_count(image: &[u8], header: u32) -> u32
+    ensures count { result ≡ file_block_count image.now header }
     ensures whole { 0 < result → length image.now ≡ 512 * blocks_of image.now }
 {
     let size = file_size(image, header);
@@ -61,9 +61,9 @@ fn file_blocks(image: &[u8], header: u32) -> u32
 }
 
 // Whether a row is that of data block `k` of a file.
-fn is_data_of(node: usize, k: u32, part: Option<FoundPart>) -> bool
+fn is_data_row(node: usize, k: u32, part: Option<FoundPart>) -> bool
     requires { k + 1 < 2 ^ 32 }
-    ensures { result ≡ is_data_of node k part }
+    ensures { result ≡ is_data_row node k part }
 {
     match part {
         Some(part) => part.node == node && part.number == k + 1,
@@ -77,7 +77,7 @@ fn block_if(image: &[u8], parts: &[FoundPart], node: usize, k: u32, b: u32) -> u
     ensures { result ≡ block_if image.now parts.now node k b }
 {
     let part = parts.get(b as usize).copied();
-    if (b as usize) < image.len() / BLOCK_LEN && is_data_of(node, k, part) {
+    if (b as usize) < image.len() / BLOCK_LEN && is_data_row(node, k, part) {
         b
     } else {
         NO_BLOCK
@@ -117,14 +117,14 @@ pub fn put_found_blocks(
     table: &mut [u32],
 ) -> usize
     // If the rows are those of the image's survey, the table is that of what its walk has of the file.
-    ensures blocks { OnSurvey image.now (λ w _. FileAt image.now w node header → parts.now ≡ part_table image.now w
+    ensures blocks { OnSurvey image.now (λ w _. FileAt image.now w node header → parts.now ≡ found_part_table image.now w
         → table.new ≡ filled (found_blocks image.now w node header) table.old) }
 
     // For any rows it is that of what the header and its extension blocks name.
-    ensures count { result ≡ file_blocks image.now header }
+    ensures count { result ≡ file_block_count image.now header }
     ensures any_blocks { table.new ≡ filled (named_blocks image.now parts.now node header) table.old }
 {
-    let count = file_blocks(image, header);
+    let count = file_block_count(image, header);
     put_named(image, parts, node, header, count, table);
     count as usize
 }

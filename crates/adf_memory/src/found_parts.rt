@@ -2,7 +2,7 @@
 
 ghost use Rattle.std.specs.Prelude.{◌≡◌, ◌≢◌, ◌⊎◌, []};
 ghost use Rattle.adf_findings.specs.Survey.{OnSurvey};
-ghost use Rattle.adf_memory.specs.FoundFiles.{part_at, part_table};
+ghost use Rattle.adf_memory.specs.FoundFiles.{part_at, found_part_table};
 ghost use Rattle.adf_memory.specs.FoundTables.{owner_number};
 ghost use Rattle.adf_memory.specs.Rooms.{filled};
 ghost use Rattle.adf_memory.specs.Verdicts.{WantsMemory};
@@ -35,7 +35,7 @@ fn part_at(survey: &Survey<'_>, b: u32) -> FoundPart
 
 // Fills the table as far as there is room.
 fn put_parts(survey: &Survey<'_>, room: &mut [FoundPart])
-    ensures { OnSurvey survey.now.image (λ w _. room.new ≡ filled (part_table survey.now.image w) room.old) }
+    ensures { OnSurvey survey.now.image (λ w _. room.new ≡ filled (found_part_table survey.now.image w) room.old) }
 {
     let Some(opening) = survey.opening() else {
         return;
@@ -51,7 +51,7 @@ pub fn put_found_parts(alloc: Global, image: &[u8], parts: &mut [FoundPart]) -> 
     ensures number { (result ≡ 0) ⊎ WantsMemory result }
 
     // The table is that of the image's one survey.
-    ensures parts { result ≡ 0 → OnSurvey image.now (λ w _. parts.new ≡ filled (part_table image.now w) parts.old) }
+    ensures parts { result ≡ 0 → OnSurvey image.now (λ w _. parts.new ≡ filled (found_part_table image.now w) parts.old) }
 
     // If memory ran out, the table is unchanged.
     ensures unchanged { WantsMemory result → parts.new ≡ parts.old }

@@ -4,9 +4,9 @@ ghost use Rattle.std.specs.Prelude.{◌≡◌, ◌≢◌, ℕ, List, Option, Som
 ghost use Rattle.adf_tree.specs.Tree.{Tree as ATree};
 ghost use Rattle.adf_volume.specs.Fits.{Fits};
 ghost use Rattle.adf_volume.specs.Layout.{Layout};
-ghost use Rattle.adf_rescue.specs.Opened.{is_mended};
+ghost use Rattle.adf_rescue.specs.Opened.{IsOpened, is_mended};
 ghost use Rattle.adf_rescue.specs.Rescue.{IsSecond, Basis, OnBasis, OnSecond};
-ghost use Rattle.adf_memory.specs.Rescuing.{IsFaultOf, IsOpened, IsRefusal, Prepares, Rescue, RescueBoth, RescueBy};
+ghost use Rattle.adf_memory.specs.Rescuing.{IsFaultOfImage, IsRefusal, Prepares, Rescue, RescueBoth, RescueBy};
 
 use crate::losses::{LossTable, rescue_losses};
 use adf_base::NoMemory;
@@ -59,7 +59,7 @@ impl From<NoMemory> for Unrescued {
 // The first fault of an image that no tree fits.
 fn first_fault(alloc: Global, image: &[u8]) -> Fault
     requires { (t : ATree) (l : Layout) → Fits image.now t l → ⊥ }
-    ensures { IsFaultOf image.now result }
+    ensures { IsFaultOfImage image.now result }
 {
     match check(alloc, image) {
         Ok(_) => unreachable!(),
@@ -71,7 +71,7 @@ fn first_fault(alloc: Global, image: &[u8]) -> Fault
 // was mended.
 fn fault_of(alloc: Global, image: &[u8], fault: Option<Fault>) -> Fault
     requires { is_some fault ≡ false → (t : ATree) (l : Layout) → Fits image.now t l → ⊥ }
-    ensures { (input : List ℕ) → IsOpened input image.now fault → IsFaultOf input result }
+    ensures { (input : List ℕ) → IsOpened (IsFaultOfImage input) input image.now fault → IsFaultOfImage input result }
 {
     match fault {
         Some(fault) => fault,
@@ -81,7 +81,7 @@ fn fault_of(alloc: Global, image: &[u8], fault: Option<Fault>) -> Fault
 
 // A refusal by a fault.
 fn refused(fault: Fault) -> Unrescued
-    ensures { (input : List ℕ) → IsFaultOf input fault → IsRefusal input result }
+    ensures { (input : List ℕ) → IsFaultOfImage input fault → IsRefusal input result }
 {
     match fault.cause {
         Cause::NoMemory => Unrescued::NoMemory,
@@ -99,7 +99,7 @@ fn prepare_found(
     fault: Option<Fault>,
 ) -> Result<Prepared, Unrescued>
     requires { (b : Option Basis) × IsSecond (option_map (λ s. s.now.image) second) b }
-    ensures { (input : List ℕ) → IsOpened input found.now.image fault
+    ensures { (input : List ℕ) → IsOpened (IsFaultOfImage input) input found.now.image fault
         → OnBasis found.now.image (λ a fs. OnSecond (option_map (λ s. s.now.image) second.entry) (λ b.
         Prepares (RescueBy held input a b fs) result)) }
 {
@@ -131,7 +131,7 @@ fn prepare_hung(
     held: usize,
     fault: Option<Fault>,
 ) -> Result<Prepared, Unrescued>
-    ensures { (input : List ℕ) → IsOpened input found.now.image fault
+    ensures { (input : List ℕ) → IsOpened (IsFaultOfImage input) input found.now.image fault
         → OnBasis found.now.image (λ a fs. Prepares (RescueBoth held input a (Some hung.now) fs) result) }
 {
     let second = survey(alloc, hung)?;
@@ -146,7 +146,7 @@ fn prepare_opened(
     held: usize,
     fault: Option<Fault>,
 ) -> Result<Prepared, Unrescued>
-    ensures { (input : List ℕ) → IsOpened input image.now fault → Prepares (Rescue held input) result }
+    ensures { (input : List ℕ) → IsOpened (IsFaultOfImage input) input image.now fault → Prepares (Rescue held input) result }
 {
     let found = survey(alloc, image)?;
     found.whole_marks();

@@ -9,7 +9,7 @@ ghost use Rattle.adf_volume.specs.Image.{area, kind_of};
 ghost use Rattle.adf_volume.specs.Layout.{Layout};
 ghost use Rattle.adf_memory.specs.Rooms.{filled};
 ghost use Rattle.adf_memory.specs.Tables.{block_table, bytes_at, entry_table};
-ghost use Rattle.adf_memory.specs.Areas.{bytes_from, file_from, node_from};
+ghost use Rattle.adf_memory.specs.Areas.{bytes_from, file_bytes_from, node_from};
 
 use crate::tables::TableEntry;
 use adf_base::{BLOCK_LEN, Block};
@@ -94,8 +94,8 @@ fn read_file(
     room: &mut [u8],
 ) -> usize
     ensures count { result
-        ≡ min (length room.old) (length (file_from image.now file.now blocks.now offset)) }
-    ensures bytes { room.new ≡ filled (file_from image.now file.now blocks.now offset) room.old }
+        ≡ min (length room.old) (length (file_bytes_from image.now file.now blocks.now offset)) }
+    ensures bytes { room.new ≡ filled (file_bytes_from image.now file.now blocks.now offset) room.old }
 {
     let size = file.size as usize;
     let first = file.first as usize;

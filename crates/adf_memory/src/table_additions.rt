@@ -2,7 +2,7 @@
 
 ghost use Rattle.std.specs.Prelude.{◌≡◌, ◌≤◌, ◌<◌, ◌+◌, ◌↔◌, ◌⊎◌, ◌++◌, ◌∷◌, [], List, None, true, false, take, drop, length, slice_index_or, IsSome, IfSome, IfNone, IfOk, IfErr, OnOk};
 ghost use Rattle.adf_tree.specs.Tree.{Tree};
-ghost use Rattle.adf_memory.specs.TableAdditions.{IsDraftOf, IsNext, IsNotAdded, addition_fault_number, body_in, directory_in, fault_of, has_bytes, has_name, meta_in, name_in, stamp_of};
+ghost use Rattle.adf_memory.specs.TableAdditions.{IsDraftOf, IsNext, IsNotAdded, addition_fault_number, addition_body, directory_in, fault_of, has_bytes, has_entry_name, meta_in, addition_name, stamp_of};
 
 use crate::tables::Date;
 use adf_base::Stamp;
@@ -104,8 +104,8 @@ fn directory_of(additions: &[TableAddition], i: usize) -> Result<Node, AdditionF
 
 // The name of an addition; `None` if it is none that a volume can have.
 fn name_of(addition: &TableAddition) -> Option<Name>
-    ensures some { IfSome result (λ n. (has_name addition.now ≡ true) × (n ≡ name_in addition.now)) }
-    ensures none { IfNone result (has_name addition.now ≡ false) }
+    ensures some { IfSome result (λ n. (has_entry_name addition.now ≡ true) × (n ≡ addition_name addition.now)) }
+    ensures none { IfNone result (has_entry_name addition.now ≡ false) }
 {
     Name::new(text_in(&addition.name, addition.name_length)?)
 }
@@ -133,7 +133,8 @@ fn part_of(contents: &[u8], begin: usize, size: usize) -> Option<&[u8]>
 
 // What an addition is, with a copy of its bytes.
 fn body_of(alloc: Global, addition: &TableAddition, contents: &[u8]) -> Result<Body, NotAdded>
-    ensures body { IfOk result (λ b. (has_bytes contents.now addition.now ≡ true) × (b ≡ body_in contents.now addition.now)) }
+    ensures body { IfOk result (λ b. (has_bytes contents.now addition.now ≡ true)
+        × (b ≡ addition_body contents.now addition.now)) }
     ensures fault { IfErr result (λ e. (e ≡ NotAdded.NoMemory) ⊎ ((e ≡ NotAdded.Fault AdditionFault.PastContents)
         × (has_bytes contents.now addition.now ≡ false))) }
 {

@@ -11,7 +11,7 @@ ghost use Rattle.adf_volume.specs.Rows.{row_of_body, row_of_entry};
 ghost use Rattle.adf_check.specs.Volumes.{StandsForBy};
 ghost use Rattle.adf_volume.specs.Counts.{counts_of};
 ghost use Rattle.adf_memory.specs.Rooms.{filled};
-ghost use Rattle.adf_memory.specs.Tables.{block_table, bytes_in, contents_of, date_of, entry_table, field};
+ghost use Rattle.adf_memory.specs.Tables.{block_table, bytes_of_body, contents_of, date_of, entry_table, field};
 ghost use Rattle.adf_memory.specs.Tables.{file_number, refused_at, table_entry};
 
 use crate::verdict::kind_code_by;
@@ -118,7 +118,7 @@ fn file_number(body: RowBody) -> u8
 
 // The bytes of a file; 0 of a directory.
 fn size_of(body: RowBody) -> u32
-    ensures { (b : Body) → body ≡ row_of_body b → result ≡ length (bytes_in b) }
+    ensures { (b : Body) → body ≡ row_of_body b → result ≡ length (bytes_of_body b) }
 {
     match body {
         RowBody::Dir => 0,

@@ -19,7 +19,7 @@ use Rattle.adf_partitions.specs.Disks.{IsDisk, IsFound, IsWholeList, is_block_of
 use Rattle.adf_partitions.specs.Disks.IsFound.{start}
 use Rattle.adf_partitions.specs.Faults.{first_failed}
 use Rattle.adf_partitions.specs.Partitions.{field_form, is_over_earlier, is_over_place, partition_of, place_form, place_or_fault}
-use Rattle.adf_partitions.specs.Places.{blocks_from, end_of, has_cylinders, is_over_tables, place_of}
+use Rattle.adf_partitions.specs.Places.{blocks_from, end_of, has_cylinders, is_over_tables, partition_place}
 use Rattle.adf_partitions.specs.Plans.{PlanValue, IsPartitionPlan, IsPlan, cylinder_blocks, cylinders_of, partitions_from, planned_blocks, planned_cylinders}
 use Rattle.adf_partitions.specs.Plans.{planned_partition, planned_partitions, table_cylinders}
 use Rattle.adf_partitions.specs.Tables.{IsTables}
@@ -152,15 +152,15 @@ module _ (plan : PlanValue) (h : IsPlan plan) where
         ∷ (not (is_over_earlier q done), OverPartition)
         ∷ []
 
-    no_fault : first_failed (tests (place_of b)) ≡ None
+    no_fault : first_failed (tests (partition_place b)) ≡ None
     no_fault =
         grind (arith, common_steps, tests, part-place, fits, within, part-cylinders, in_disk, beside, apart)
 
     fields_hold : first_failed (field_form b) ≡ None
     fields_hold = grind (arith, common_steps, fits, within, part-environment, part-blocks, part-has_drive_name)
 
-    placed_there : place_or_fault (place_of b) (first_failed (place_form (planned_blocks plan) (planned_tables plan) done b)) ≡ Ok place
-    placed_there = ap (place_or_fault (place_of b)) no_fault ∙ ap Ok (part-place plan h (k + 1) low p fits within)
+    placed_there : place_or_fault (partition_place b) (first_failed (place_form (planned_blocks plan) (planned_tables plan) done b)) ≡ Ok place
+    placed_there = ap (place_or_fault (partition_place b)) no_fault ∙ ap Ok (part-place plan h (k + 1) low p fits within)
 
     is_planned : planned_partition (cylinder_blocks plan) (k + 1) low p ≡ partition_of (planned_blocks plan) (planned_tables plan) done (k + 1) b
     is_planned = grind (arith, common_steps, b, place, placed_there, fields_hold, part-name, fits, within, part-flags, part_priority, part-type, part-reserved)

@@ -18,7 +18,7 @@ use Rattle.adf_partitions.specs.Disks.{IsFound, is_block_of, part_form, partitio
 use Rattle.adf_partitions.specs.Disks.IsFound.{start, step}
 use Rattle.adf_partitions.specs.Faults.{first_failed}
 use Rattle.adf_partitions.specs.Partitions.{place_form}
-use Rattle.adf_partitions.specs.Places.{place_of}
+use Rattle.adf_partitions.specs.Places.{partition_place}
 use Rattle.adf_partitions.specs.Searches.{AreReadable, is_lost_partition, no_tables, with_all_lost}
 use Rattle.adf_partitions.specs.Searches.AreReadable.{bare, cut, other, whole}
 use Rattle.adf_partitions.specs.Volumes.{AreInOtherBlocks, AreSeparate, LiesWithin, VolumeLiesWithin, VolumesAreApart}
@@ -53,12 +53,12 @@ module _ (bytes : List ℕ) (n : ℕ) (t : Tables) where
         blocks = all_pairs_push AreInOtherBlocks ps (partition_at bytes n t ps b) h.blocks (other_block ps b none);
         within =
             All-push (VolumeLiesWithin n) ps (partition_at bytes n t ps b) h.within
-            (if_placed (place_of p) (first_failed (place_form n t ps p)) (LiesWithin n)
+            (if_placed (partition_place p) (first_failed (place_form n t ps p)) (LiesWithin n)
             (λ e. let w = lies_well n t ps p (passed n t ps p e) in record { some = w.some; within = w.within }));
         apart =
             all_pairs_push VolumesAreApart ps (partition_at bytes n t ps b) h.apart
-            (λ k d lt. apart_from (place_of p) (get_or ps k d).place (first_failed (place_form n t ps p))
-            (λ e. not_over (place_of p) ps (passed n t ps p e).earlier k d lt));
+            (λ k d lt. apart_from (partition_place p) (get_or ps k d).place (first_failed (place_form n t ps p))
+            (λ e. not_over (partition_place p) ps (passed n t ps p e).earlier k d lt));
       }
 
   found_separate : {ps : List Partition} {a b : ℕ} → IsFound bytes n t ps a b → AreSeparate n ps

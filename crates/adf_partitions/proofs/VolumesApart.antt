@@ -20,7 +20,7 @@ use Rattle.adf_partitions.specs.Disks.{IsDisk, IsFound, partition_at}
 use Rattle.adf_partitions.specs.Disks.IsFound.{start, step}
 use Rattle.adf_partitions.specs.Faults.{first_failed}
 use Rattle.adf_partitions.specs.Partitions.{is_over, is_over_earlier, is_over_place, place_form, place_or_fault}
-use Rattle.adf_partitions.specs.Places.{do_overlap, end_of, has_cylinders, is_over_tables, place_of}
+use Rattle.adf_partitions.specs.Places.{do_overlap, end_of, has_cylinders, is_over_tables, partition_place}
 use Rattle.adf_partitions.proofs.NumberTests.{le_of, of_lt}
 use Rattle.adf_partitions.specs.Volumes.{ShareNoBlock, LiesWell, VolumeLiesWell, VolumesAreApart}
 
@@ -42,18 +42,18 @@ each_held (x ∷ xs) h y (inr i) = each_held xs (first_held x.0 x.1 xs h).1 y i
 -- what the tests of a partition tell
 pub record Passed (n : ℕ) (t : Tables) (ps : List Partition) (p : List ℕ) : Type 0 where
   pub cylinders : has_cylinders p ≡ true
-  pub within : nat_le (end_of (place_of p)) n ≡ true
-  pub tables : is_over_tables (place_of p) t ≡ false
-  pub earlier : is_over_earlier (place_of p) ps ≡ false
+  pub within : nat_le (end_of (partition_place p)) n ≡ true
+  pub tables : is_over_tables (partition_place p) t ≡ false
+  pub earlier : is_over_earlier (partition_place p) ps ≡ false
 
 pub passed : (n : ℕ) (t : Tables) (ps : List Partition) (p : List ℕ) → first_failed (place_form n t ps p) ≡ None → Passed n t ps p
 passed n t ps p h =
     let held = each_held (place_form n t ps p) h in
     record {
       cylinders = held (has_cylinders p, NoCylinders) (search rules);
-      within = held (nat_le (end_of (place_of p)) n, BeyondImage) (search rules);
-      tables = not-true (is_over_tables (place_of p) t) (held (not (is_over_tables (place_of p) t), OverTables) (search rules));
-      earlier = not-true (is_over_earlier (place_of p) ps) (held (not (is_over_earlier (place_of p) ps), OverPartition) (search rules));
+      within = held (nat_le (end_of (partition_place p)) n, BeyondImage) (search rules);
+      tables = not-true (is_over_tables (partition_place p) t) (held (not (is_over_tables (partition_place p) t), OverTables) (search rules));
+      earlier = not-true (is_over_earlier (partition_place p) ps) (held (not (is_over_earlier (partition_place p) ps), OverPartition) (search rules));
     }
 
 -- two places that do not overlap have no block in common
@@ -63,7 +63,7 @@ no_common q r h = grind (arith, common_steps, of_lt)
 has_blocks : (low high c : ℕ) → nat_le low high ≡ true → not (c == 0) ≡ true → 0 < (high + 1 - low) * c
 has_blocks low high c h k = grind (arith, common_steps, nat_tests, mul-le)
 
-pub lies_well : (n : ℕ) (t : Tables) (ps : List Partition) (p : List ℕ) → Passed n t ps p → LiesWell n t (place_of p)
+pub lies_well : (n : ℕ) (t : Tables) (ps : List Partition) (p : List ℕ) → Passed n t ps p → LiesWell n t (partition_place p)
 lies_well n t ps p h = grind (arith, common_steps, and_parts, or_parts, has_blocks, le_of, no_common)
 
 -- what holds of a place that has no fault
@@ -86,15 +86,15 @@ module _ {bytes : List ℕ} {n : ℕ} {t : Tables} where
   each_lies_well (step {ps = ps} {b = b} h some sound) =
       let p = block bytes b in
       All-push (VolumeLiesWell n t) ps (partition_at bytes n t ps b) (each_lies_well h)
-      (if_placed (place_of p) (first_failed (place_form n t ps p)) (LiesWell n t) (λ e. lies_well n t ps p (passed n t ps p e)))
+      (if_placed (partition_place p) (first_failed (place_form n t ps p)) (LiesWell n t) (λ e. lies_well n t ps p (passed n t ps p e)))
 
   all_lie_apart : {ps : List Partition} {a b : ℕ} → IsFound bytes n t ps a b → AllPairs VolumesAreApart ps
   all_lie_apart start = λ i j d lt in_list. absurd (omega arith)
   all_lie_apart (step {ps = ps} {b = b} h some sound) =
       let p = block bytes b in
       all_pairs_push VolumesAreApart ps (partition_at bytes n t ps b) (all_lie_apart h)
-      (λ k d lt. apart_from (place_of p) (get_or ps k d).place (first_failed (place_form n t ps p))
-      (λ e. not_over (place_of p) ps (passed n t ps p e).earlier k d lt))
+      (λ k d lt. apart_from (partition_place p) (get_or ps k d).place (first_failed (place_form n t ps p))
+      (λ e. not_over (partition_place p) ps (passed n t ps p e).earlier k d lt))
 
 pub volumes_lie_well : (bytes : List ℕ) (n : ℕ) (t : Tables) (ps : List Partition) → IsDisk bytes n t ps → All (VolumeLiesWell n t) ps
 volumes_lie_well bytes n t ps d = each_lies_well d.whole.1

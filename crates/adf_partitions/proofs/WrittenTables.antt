@@ -16,7 +16,7 @@ use Rattle.adf_partitions.specs.declared.layout.TheConstants.{ENV_LENGTH, FIRST_
 use Rattle.adf_partitions.specs.declared.layout.TheConstants.{MOST_PARTITIONS, NEXT_PART, PART, RDSK, RESERVED, SUMMED_LONGS, SURFACES, TRACK_BLOCKS}
 use Rattle.adf_partitions.specs.declared.plan.PartitionPlan.{PartitionPlan}
 use Rattle.adf_partitions.specs.Partitions.{has_drive_name, name_at}
-use Rattle.adf_partitions.specs.Places.{blocks_from, has_cylinders, place_of}
+use Rattle.adf_partitions.specs.Places.{blocks_from, has_cylinders, partition_place}
 use Rattle.adf_partitions.specs.Plans.{PlanValue, IsPartitionPlan, IsPlan, cylinder_blocks, planned_cylinders, planned_flags, planned_type, table_cylinders}
 use Rattle.adf_partitions.specs.Summed.{is_summed}
 use Rattle.adf_partitions.specs.WrittenTables.{block_after, environment, kept_words, part_block, part_table, part_words, planned_tables, rdsk_block}
@@ -196,5 +196,5 @@ module _ (plan : PlanValue) (h : IsPlan plan) (b low : ℕ) (p : PartitionPlan) 
   pub part-cylinders : has_cylinders (part_block plan b low p) ≡ true
   part-cylinders = grind (arith, common_steps, of_le, part-cylinder, part-low, part-high, positive, some_blocks)
 
-  pub part-place : place_of (part_block plan b low p) ≡ blocks_from (low * cylinder_blocks plan) (p.cylinders * cylinder_blocks plan)
+  pub part-place : partition_place (part_block plan b low p) ≡ blocks_from (low * cylinder_blocks plan) (p.cylinders * cylinder_blocks plan)
   part-place = grind (arith, common_steps, part-cylinder, part-low, part-high)

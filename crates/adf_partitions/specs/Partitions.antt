@@ -15,7 +15,7 @@ use Rattle.adf_partitions.specs.declared.place.PlaceFault.{PlaceFault}
 use Rattle.adf_partitions.specs.declared.place.PlaceFault.TheVariants.{NoCylinders, BeyondImage, OverTables, OverPartition}
 use Rattle.adf_partitions.specs.declared.tables.Tables.{Tables}
 use Rattle.adf_partitions.specs.Faults.{first_failed}
-use Rattle.adf_partitions.specs.Places.{do_overlap, end_of, has_cylinders, is_over_tables, place_of}
+use Rattle.adf_partitions.specs.Places.{do_overlap, end_of, has_cylinders, is_over_tables, partition_place}
 
 -- the drive's name, cut to 31 bytes
 abbrev pub name_at : List ℕ → List ℕ
@@ -42,9 +42,9 @@ is_over_earlier q earlier = list_any (is_over q) earlier
 abbrev pub place_form : ℕ → Tables → List Partition → List ℕ → List (Bool × PlaceFault)
 place_form n t earlier p =
     (has_cylinders p, NoCylinders)
-    ∷ (nat_le (end_of (place_of p)) n, BeyondImage)
-    ∷ (not (is_over_tables (place_of p) t), OverTables)
-    ∷ (not (is_over_earlier (place_of p) earlier), OverPartition)
+    ∷ (nat_le (end_of (partition_place p)) n, BeyondImage)
+    ∷ (not (is_over_tables (partition_place p) t), OverTables)
+    ∷ (not (is_over_earlier (partition_place p) earlier), OverPartition)
     ∷ []
 
 -- the tests of its other fields, which do not move its place
@@ -69,7 +69,7 @@ partition_of n t earlier b p = record {
   priority = cast_signed w32 (word p BOOT_PRIORITY);
   dos_type = word p DOS_TYPE;
   reserved = word p RESERVED;
-  place = place_or_fault (place_of p) (first_failed (place_form n t earlier p));
+  place = place_or_fault (partition_place p) (first_failed (place_form n t earlier p));
   fault = first_failed (field_form p);
 }
 

@@ -19,8 +19,8 @@ abbrev pub blocks_from : ℕ → ℕ → Place
 blocks_from first count = record { first = first; blocks = count }
 
 -- the place: all blocks from the lowest cylinder to the highest
-abbrev pub place_of : List ℕ → Place
-place_of p = blocks_from (word p LOW_CYLINDER * cylinder_of p) ((word p HIGH_CYLINDER + 1 - word p LOW_CYLINDER) * cylinder_of p)
+abbrev pub partition_place : List ℕ → Place
+partition_place p = blocks_from (word p LOW_CYLINDER * cylinder_of p) ((word p HIGH_CYLINDER + 1 - word p LOW_CYLINDER) * cylinder_of p)
 
 -- the block after the last one of a place
 abbrev pub end_of : Place → ℕ
@@ -30,7 +30,7 @@ end_of q = q.first + q.blocks
 pub record StatesPlace (bytes : List ℕ) (n b : ℕ) : Type 0 where
   pub held : holds bytes b ≡ true
   pub cylinders : has_cylinders (block bytes b) ≡ true
-  pub within : end_of (place_of (block bytes b)) ≤ n
+  pub within : end_of (partition_place (block bytes b)) ≤ n
 
 -- whether a block is before the end of a place
 abbrev pub is_before_end : ℕ → Place → Bool

@@ -5,7 +5,7 @@ use Rattle.adf_partitions.specs.declared.layout.TheConstants.{MOST_PARTITIONS}
 use Rattle.adf_partitions.specs.declared.partition.Partition.{Partition}
 use Rattle.adf_partitions.specs.declared.place.Place.{Place}
 use Rattle.adf_partitions.specs.declared.tables.Tables.{Tables}
-use Rattle.adf_partitions.specs.Places.{IsIn, StatesPlace, end_of, place_of}
+use Rattle.adf_partitions.specs.Places.{IsIn, StatesPlace, end_of, partition_place}
 
 -- a place has blocks, all within a disk of n blocks, and none of them is kept for its tables
 pub record LiesWell (n : ℕ) (t : Tables) (q : Place) : Type 0 where
@@ -49,7 +49,7 @@ pub record AreSeparate (n : ℕ) (ps : List Partition) : Type 0 where
 -- a place is where block b says that a volume lies
 pub record IsStated (bytes : List ℕ) (n b : ℕ) (q : Place) : Type 0 where
   pub states : StatesPlace bytes n b
-  pub same : q ≡ place_of (block bytes b)
+  pub same : q ≡ partition_place (block bytes b)
 
 -- two partitions have one block and one name, and the first has no other place than the block says, within n blocks
 pub record AreAlike (bytes : List ℕ) (n : ℕ) (p q : Partition) : Type 0 where

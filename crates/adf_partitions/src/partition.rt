@@ -5,7 +5,7 @@ ghost use Rattle.std.specs.List.{list_all, list_any};
 ghost use Rattle.adf_names.specs.Texts.{is_name_byte};
 ghost use Rattle.adf_partitions.specs.Faults.{first_failed};
 ghost use Rattle.adf_partitions.specs.Partitions.{field_form, has_drive_name, is_over, is_over_earlier, name_at, partition_of, place_form, place_or_fault};
-ghost use Rattle.adf_partitions.specs.Places.{place_of};
+ghost use Rattle.adf_partitions.specs.Places.{partition_place};
 
 use crate::field_fault::FieldFault;
 use crate::layout::{
@@ -88,7 +88,7 @@ fn place_in(
     blocks: u64,
     earlier: &[Partition],
 ) -> Result<Place, PlaceFault>
-    ensures { result ≡ place_or_fault (place_of p.now)
+    ensures { result ≡ place_or_fault (partition_place p.now)
         (first_failed (place_form blocks tables earlier.now p.now)) }
 {
     if !has_cylinders(p) {

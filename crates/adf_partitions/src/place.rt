@@ -3,7 +3,7 @@
 ghost use Rattle.std.specs.Prelude.{◌≡◌, ◌≤◌, ◌+◌, SomeIff};
 ghost use Rattle.adf_base.specs.Words.{block, word};
 ghost use Rattle.adf_partitions.specs.FaultTexts.{place_fault_number, place_fault_text};
-ghost use Rattle.adf_partitions.specs.Places.{StatesPlace, cylinder_of, do_overlap, end_of, has_cylinders, has_one_of, is_before_end, is_over_tables, place_of};
+ghost use Rattle.adf_partitions.specs.Places.{StatesPlace, cylinder_of, do_overlap, end_of, has_cylinders, has_one_of, is_before_end, is_over_tables, partition_place};
 
 use crate::layout::{HIGH_CYLINDER, LOW_CYLINDER, SURFACES, TRACK_BLOCKS};
 use crate::tables::Tables;
@@ -86,7 +86,7 @@ pub fn has_cylinders(p: &Block<'_>) -> bool
 #[tactic(auto, using(crate::proofs::Products::below_product, crate::proofs::Products::parted_product))]
 pub fn place_within(p: &Block<'_>, blocks: u64) -> Option<Place>
     requires { word p.now LOW_CYLINDER ≤ word p.now HIGH_CYLINDER }
-    ensures { SomeIff result (end_of (place_of p.now) ≤ blocks) (place_of p.now) }
+    ensures { SomeIff result (end_of (partition_place p.now) ≤ blocks) (partition_place p.now) }
 {
     let cylinder = cylinder_of(p);
     let lowest = u64::from(p.word(LOW_CYLINDER));
@@ -106,7 +106,7 @@ pub fn place_within(p: &Block<'_>, blocks: u64) -> Option<Place>
 /// Where a block says that a volume lies, whatever else is wrong with its partition. `None` if the bytes do not hold the block,
 /// if the volume has no cylinders, or if it ends beyond so many blocks.
 pub fn stated_place(bytes: &[u8], b: u32, blocks: u64) -> Option<Place>
-    ensures { SomeIff result (StatesPlace bytes.now blocks b) (place_of (block bytes.now b)) }
+    ensures { SomeIff result (StatesPlace bytes.now blocks b) (partition_place (block bytes.now b)) }
 {
     let part = Block::at(bytes, b)?;
     if has_cylinders(&part) {

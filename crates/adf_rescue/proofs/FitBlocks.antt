@@ -15,18 +15,10 @@ use Rattle.adf_volume.specs.declared.owner.Owner.TheVariants.{Data, Ext}
 use Rattle.adf_volume.specs.Fits.{BodyFits, FileFits, FitsBy}
 use Rattle.adf_volume.specs.Layout.{Layout, Place, at_node, datas_at, datas_of, exts_at, exts_of, owned, owned_from}
 use Rattle.adf_volume.specs.Lists.{At, In, NoBlockTwice, numbered}
-use Rattle.adf_volume.proofs.FitWalks.{without}
 use Rattle.adf_volume.proofs.Lists.{length_numbered}
+use Rattle.adf_volume.proofs.WalkLengths.{no_longer}
 use Rattle.adf_build.specs.Plan.{blocks_needed, data_blocks, entries_blocks, exts_needed, reserved}
 use Rattle.adf_build.proofs.AllocatedBlocks.{range_in}
-
--- blocks that are all different are as few as a list that has each
-few : {X : Type 0} (xs : List (X × ℕ)) (bs : List ℕ) → NoBlockTwice xs → ((x : X) (b : ℕ) → In xs (x, b) → In bs b) → length xs ≤ length bs
-few [] bs once h = omega arith
-few (x ∷ xs) bs once h =
-    let r = without bs x.1 (h x.0 x.1 (inl refl)) in
-    let ih = few xs r.0 once.1 (λ y b i. r.2 b (h y b (inr i)) (λ e. once.0 (y, b) i (sym e))) in
-    omega (arith, r.1)
 
 -- the blocks of a body are at its entry
 
@@ -69,8 +61,8 @@ pub fit_room : {letters : Letters} (image : List ℕ) (t : Tree) (l : Layout) �
 fit_room image t l fit =
     let most : ℕ = blocks image - 2 in
     let all : length (owned image l) ≤ length (range_with_len 2 most) =
-    few (owned image l) (range_with_len 2 most) fit.once
-    (λ o b i. let r = fit.range o b i in range_in 2 most b r.0 (omega (arith, r.0, r.1))) in
+    no_longer (λ b. b) (owned image l) (range_with_len 2 most) fit.once
+    (λ o b i. let r = fit.range o b i in (b, range_in 2 most b r.0 (omega (arith, r.0, r.1)), refl)) in
     let long : length (range_with_len 2 most) ≡ most = length-range_with_len 2 most in
     let entries : entries_blocks t.kind t.entries ≤ length (owned_from 1 l.places) =
     places_own t.kind 1 t.entries l.places fit.places (λ i e at.

@@ -1,6 +1,7 @@
 -- Images that are opened: their blocks, and what stays of their bytes.
 -- Letters: b the number of a block; r the root's; n, m, k numbers of bytes or blocks; l a list of bytes.
-use Rattle.std.proofs.Common.{◌≡◌, ◌<◌, ◌≤◌, ℕ, zero, suc, ◌+◌, ◌-◌, ◌*◌, ◌/◌, ◌^◌, Bool, true, false, List, [], ◌∷◌, ◌++◌, length, take, drop, ◌∙◌}
+use Rattle.std.proofs.Common.{◌≡◌, ◌<◌, ◌≤◌, ℕ, zero, suc, ◌+◌, ◌-◌, ◌*◌, ◌/◌, ◌^◌, Bool, true, false, Option, None, Some, is_some, List, [], ◌∷◌}
+use Rattle.std.proofs.Common.{◌++◌, length, take, drop, ◌∙◌}
 use Rattle.std.proofs.Common.{add-one, ap, arith, codes, inl, inr, length-drop, refl, subst, sym, ◌==◌, ◌&&◌, slice_range}
 use Rattle.std.proofs.lemmas.Bool.{and_from, and_left, and_parts, and_right, cases_Bool, cases_lt, cond-false, cond-true, cond_both}
 use Rattle.std.proofs.lemmas.Bool.{not_from_false, not_from_true, or_from, or_left, or_right}
@@ -21,7 +22,7 @@ use Rattle.adf_findings.specs.Start.{has_root_type}
 use Rattle.adf_names.specs.declared.meta.TheConstants.{NO_STAMPS}
 use Rattle.adf_rescue.specs.MadeRoot.{has_root, made_root, middle_block, rooted}
 use Rattle.adf_boot_blocks.specs.BootBlocks.{begins_with_dos}
-use Rattle.adf_rescue.specs.Opened.{begun, has_data, is_mended, opened, says_data, type_byte}
+use Rattle.adf_rescue.specs.Opened.{IsOpened, with_boot_type, has_data, is_mended, opened, says_data, type_byte}
 use Rattle.adf_rescue.proofs.MadeRoots.{before_rooted, behind_rooted, front_rooted, length_rooted, made_fits, made_rooted, made_slot}
 use Rattle.adf_rescue.proofs.MadeRoots.{root_is_whole, root_within, sized, undated, unnamed, whole_rooted}
 
@@ -59,20 +60,20 @@ begun_anew bs t = refl
 
 -- an image that begins as a volume, or is made to
 
-pub begun_same : (image : List ℕ) → begins_with_dos image ≡ true → begun image ≡ image
+pub begun_same : (image : List ℕ) → begins_with_dos image ≡ true → with_boot_type image ≡ image
 begun_same image h = cond-true (begins_with_dos image) image _ h
 
-pub begun_other : (image : List ℕ) → begins_with_dos image ≡ false → begun image ≡ codes "DOS" ++ type_byte image ∷ drop 4 image
+pub begun_other : (image : List ℕ) → begins_with_dos image ≡ false → with_boot_type image ≡ codes "DOS" ++ type_byte image ∷ drop 4 image
 begun_other image h = cond-false (begins_with_dos image) image _ h
 
-pub length_begun : (image : List ℕ) → 4 ≤ length image → length (begun image) ≡ length image
+pub length_begun : (image : List ℕ) → 4 ≤ length image → length (with_boot_type image) ≡ length image
 length_begun image long =
     cond_both (begins_with_dos image) image _ (λ l. length l ≡ length image) (λ e. refl) (λ e. omega (arith, length-drop 4 image))
 
-rest_begun : (image : List ℕ) → drop 4 (begun image) ≡ drop 4 image
+rest_begun : (image : List ℕ) → drop 4 (with_boot_type image) ≡ drop 4 image
 rest_begun image = cond_both (begins_with_dos image) image _ (λ l. drop 4 l ≡ drop 4 image) (λ e. refl) (λ e. refl)
 
-dos_begun : (image : List ℕ) → begins_with_dos (begun image) ≡ true
+dos_begun : (image : List ℕ) → begins_with_dos (with_boot_type image) ≡ true
 dos_begun image = cond_both (begins_with_dos image) image _ (λ l. begins_with_dos l ≡ true) (λ e. e) (λ e. refl)
 
 -- bytes that are the same from a place on
@@ -81,9 +82,9 @@ past xs ys n m e le =
     let at : m ≡ n + (m - n) = omega arith in
     ap (λ k. drop k xs) at ∙ sym (drop-drop (m - n) n xs) ∙ ap (drop (m - n)) e ∙ drop-drop (m - n) n ys ∙ ap (λ k. drop k ys) (sym at)
 
-block_begun : (image : List ℕ) (b : ℕ) → 1 ≤ b → block (begun image) b ≡ block image b
+block_begun : (image : List ℕ) (b : ℕ) → 1 ≤ b → block (with_boot_type image) b ≡ block image b
 unfolding block
-block_begun image b h = ap (take (b * 512 + 512 - b * 512)) (past (begun image) image 4 (b * 512) (rest_begun image) (omega arith))
+block_begun image b h = ap (take (b * 512 + 512 - b * 512)) (past (with_boot_type image) image 4 (b * 512) (rest_begun image) (omega arith))
 
 -- the root of an image that is long enough
 
@@ -91,52 +92,54 @@ module _ (image : List ℕ) (len : is_image_len (length image) ≡ true) where
   long : 4 ≤ length image
   long = let s = sized (length image) len in omega (arith, s.whole, s.low)
 
-  same_length : length (begun image) ≡ length image
+  same_length : length (with_boot_type image) ≡ length image
   same_length = length_begun image long
 
-  same_root : root_of (begun image) ≡ root_of image
+  same_root : root_of (with_boot_type image) ≡ root_of image
   same_root = ap (λ n. middle (n / 512)) same_length
 
-  same_middle : middle_block (begun image) ≡ middle_block image
-  same_middle = ap (block (begun image)) same_root ∙ block_begun image (root_of image) (let w = root_within image len in omega (arith, w.low))
+  same_middle : middle_block (with_boot_type image) ≡ middle_block image
+  same_middle = ap (block (with_boot_type image)) same_root ∙ block_begun image (root_of image) (let w = root_within image len in omega (arith, w.low))
 
-  same_has : has_root (begun image) ≡ has_root image
+  same_has : has_root (with_boot_type image) ≡ has_root image
   same_has = ap (λ b. has_root_type b && (long_sum b == 0)) same_middle
 
-  room : root_of (begun image) * 512 + 512 ≤ length (begun image)
+  room : root_of (with_boot_type image) * 512 + 512 ≤ length (with_boot_type image)
   room = let w = root_within image len in omega (arith, same_root, same_length, w.whole)
 
-  length_made : length (rooted (begun image)) ≡ length image
-  length_made = length_rooted (begun image) room ∙ same_length
+  length_made : length (rooted (with_boot_type image)) ≡ length image
+  length_made = length_rooted (with_boot_type image) room ∙ same_length
 
-  front_made : slice_range (rooted (begun image)) 4 (root_of image * 512) ≡ slice_range image 4 (root_of image * 512)
+  front_made : slice_range (rooted (with_boot_type image)) 4 (root_of image * 512) ≡ slice_range image 4 (root_of image * 512)
   front_made = grind (arith, common_steps, same_root, front_rooted, room, rest_begun)
 
-  behind_made : drop (root_of image * 512 + 512) (rooted (begun image)) ≡ drop (root_of image * 512 + 512) image
+  behind_made : drop (root_of image * 512 + 512) (rooted (with_boot_type image)) ≡ drop (root_of image * 512 + 512) image
   behind_made =
-      subst (λ r. drop (r * 512 + 512) (rooted (begun image)) ≡ drop (r * 512 + 512) (begun image)) same_root (behind_rooted (begun image) room)
-      ∙ past (begun image) image 4 (root_of image * 512 + 512) (rest_begun image) (omega arith)
+      subst (λ r. drop (r * 512 + 512) (rooted (with_boot_type image)) ≡ drop (r * 512 + 512) (with_boot_type image)) same_root
+      (behind_rooted (with_boot_type image) room)
+      ∙ past (with_boot_type image) image 4 (root_of image * 512 + 512) (rest_begun image) (omega arith)
 
-  kept_middle : has_root image ≡ true → block (rooted (begun image)) (root_of image) ≡ middle_block image
+  kept_middle : has_root image ≡ true → block (rooted (with_boot_type image)) (root_of image) ≡ middle_block image
   kept_middle h = grind (arith, common_steps, whole_rooted, same_has, block_begun, root_within)
 
-  made_middle : has_root image ≡ false → block (rooted (begun image)) (root_of image) ≡ root_block (made_root (begun image))
+  made_middle : has_root image ≡ false → block (rooted (with_boot_type image)) (root_of image) ≡ root_block (made_root (with_boot_type image))
   made_middle h = grind (arith, common_steps, same_root, made_rooted, room, same_has)
 
   same_table : (s : ℕ) → s < SLOTS → word_in image (root_of image) (FIRST_SLOT + s) < 2 ^ 32
-      → word_in (rooted (begun image)) (root_of image) (FIRST_SLOT + s) ≡ word_in image (root_of image) (FIRST_SLOT + s)
+      → word_in (rooted (with_boot_type image)) (root_of image) (FIRST_SLOT + s) ≡ word_in image (root_of image) (FIRST_SLOT + s)
   same_table s lt small = elim (cases_Bool (has_root image)) [
     | inl whole ↦ ap (λ b. word b (FIRST_SLOT + s)) (kept_middle whole)
     | inr none ↦
         ap (λ b. word b (FIRST_SLOT + s)) (made_middle none)
-        ∙ (made_slot (begun image) s lt (subst (λ b. word b (FIRST_SLOT + s) < 2 ^ 32) (sym same_middle) small)
+        ∙ (made_slot (with_boot_type image) s lt (subst (λ b. word b (FIRST_SLOT + s) < 2 ^ 32) (sym same_middle) small)
         ∙ ap (λ b. word b (FIRST_SLOT + s)) same_middle)
   ]
 
-  middle_is_whole : (let b = block (rooted (begun image)) (root_of image) in has_root_type b && (long_sum b == 0)) ≡ true
+  middle_is_whole : (let b = block (rooted (with_boot_type image)) (root_of image) in has_root_type b && (long_sum b == 0)) ≡ true
   middle_is_whole = elim (cases_Bool (has_root image)) [
     | inl whole ↦ ap (λ b. has_root_type b && (long_sum b == 0)) (kept_middle whole) ∙ whole
-    | inr none ↦ ap (λ b. has_root_type b && (long_sum b == 0)) (made_middle none) ∙ root_is_whole (made_root (begun image)) (made_fits (begun image))
+    | inr none ↦ ap (λ b. has_root_type b && (long_sum b == 0)) (made_middle none)
+        ∙ root_is_whole (made_root (with_boot_type image)) (made_fits (with_boot_type image))
   ]
 
 -- an image that is opened as it is, or with a beginning and a root
@@ -144,7 +147,16 @@ module _ (image : List ℕ) (len : is_image_len (length image) ≡ true) where
 pub opened_kept : (image : List ℕ) → is_mended image ≡ false → opened image ≡ image
 opened_kept image h = cond-false (is_mended image) _ image h
 
-pub opened_mended : (image : List ℕ) → is_mended image ≡ true → opened image ≡ rooted (begun image)
+-- an input is opened as the image that a rescue reads
+pub opened_so : {A : Type 0} (refuses : A → Type 0) (input image : List ℕ) (o : Option A) → IsOpened refuses input image o → image ≡ opened input
+opened_so refuses input image None h = h.1 ∙ sym (opened_kept input h.0)
+opened_so refuses input image (Some x) h = h.1
+
+pub mended_so : {A : Type 0} (refuses : A → Type 0) (input image : List ℕ) (o : Option A) → IsOpened refuses input image o → is_some o ≡ is_mended input
+mended_so refuses input image None h = sym h.0
+mended_so refuses input image (Some x) h = sym h.0
+
+pub opened_mended : (image : List ℕ) → is_mended image ≡ true → opened image ≡ rooted (with_boot_type image)
 opened_mended image h = cond-true (is_mended image) _ image h
 
 pub mended_len : (image : List ℕ) → is_mended image ≡ true → is_image_len (length image) ≡ true
@@ -153,7 +165,7 @@ mended_len image h = (and_parts (is_image_len (length image)) _ h).0
 pub mended_long : (image : List ℕ) → is_mended image ≡ true → 4 ≤ length image
 mended_long image h = long image (mended_len image h)
 
-pub begun_len : (image : List ℕ) → is_mended image ≡ true → is_image_len (length (begun image)) ≡ true
+pub begun_len : (image : List ℕ) → is_mended image ≡ true → is_image_len (length (with_boot_type image)) ≡ true
 begun_len image h = ap is_image_len (same_length image (mended_len image h)) ∙ mended_len image h
 
 pub same_opened : (image : List ℕ) → begins_with_dos image ≡ true → has_root image ≡ true → opened image ≡ image
@@ -163,7 +175,7 @@ pub odd_opened : (image : List ℕ) → is_image_len (length image) ≡ false �
 odd_opened image odd = opened_kept image (and_left (is_image_len (length image)) _ odd)
 
 -- what holds of both holds of the opened image
-either : (image : List ℕ) (P : List ℕ → Type 0) → (is_image_len (length image) ≡ true → P (rooted (begun image))) → P image → P (opened image)
+either : (image : List ℕ) (P : List ℕ → Type 0) → (is_image_len (length image) ≡ true → P (rooted (with_boot_type image))) → P image → P (opened image)
 either image P made same = cond_both (is_mended image) _ image P (λ h. made (mended_len image h)) (λ h. same)
 
 pub length_opened : (image : List ℕ) → length (opened image) ≡ length image
@@ -203,30 +215,30 @@ root_opened image len = elim (cases_Bool (is_mended image)) [
 -- a root of which the middle block says nothing has no label and no dates
 
 module _ (image : List ℕ) (len : is_image_len (length image) ≡ true) (none : has_root_type (middle_block image) ≡ false) where
-  made_opened : middle_block (opened image) ≡ root_block (made_root (begun image))
+  made_opened : middle_block (opened image) ≡ root_block (made_root (with_boot_type image))
   made_opened = grind (arith, common_steps, and_left, middle_opened, opened_mended, no_root_mended, made_middle)
 
-  still_none : has_root_type (middle_block (begun image)) ≡ false
+  still_none : has_root_type (middle_block (with_boot_type image)) ≡ false
   still_none = ap has_root_type (same_middle image len) ∙ none
 
   pub unnamed_opened : (opening_in (opened image)).label ≡ []
-  unnamed_opened = ap label_stated made_opened ∙ unnamed (begun image) still_none
+  unnamed_opened = ap label_stated made_opened ∙ unnamed (with_boot_type image) still_none
 
   pub undated_opened : (opening_in (opened image)).stamps ≡ NO_STAMPS
-  undated_opened = ap stamps_at made_opened ∙ undated (begun image) still_none
+  undated_opened = ap stamps_at made_opened ∙ undated (with_boot_type image) still_none
 
 -- it begins as a volume
 
 first_bytes : (image : List ℕ) (n : ℕ) → 3 ≤ n → begins_with_dos (take n image) ≡ begins_with_dos image
 first_bytes image n h = grind (arith, common_steps, get_or-take)
 
-dos_rooted : (image : List ℕ) → is_image_len (length image) ≡ true → begins_with_dos (rooted (begun image)) ≡ true
+dos_rooted : (image : List ℕ) → is_image_len (length image) ≡ true → begins_with_dos (rooted (with_boot_type image)) ≡ true
 dos_rooted image len =
     let w = root_within image len in
-    let n : ℕ = root_of (begun image) * 512 in
+    let n : ℕ = root_of (with_boot_type image) * 512 in
     let far : 3 ≤ n = omega (arith, same_root image len, w.low) in
-    sym (first_bytes (rooted (begun image)) n far) ∙ (ap begins_with_dos (before_rooted (begun image) (room image len))
-    ∙ (first_bytes (begun image) n far ∙ dos_begun image))
+    sym (first_bytes (rooted (with_boot_type image)) n far) ∙ (ap begins_with_dos (before_rooted (with_boot_type image) (room image len))
+    ∙ (first_bytes (with_boot_type image) n far ∙ dos_begun image))
 
 pub dos_opened : (image : List ℕ) → is_image_len (length image) ≡ true → begins_with_dos (opened image) ≡ true
 dos_opened image len = grind (arith, common_steps, cases_Bool, opened_mended, dos_rooted, opened_kept, and_from, not_from_false, and_left)

@@ -29,7 +29,7 @@ use Rattle.adf_findings.proofs.OneSurvey.{gathered}
 use Rattle.adf_findings.proofs.SoundEntries.{skipped_reported}
 use Rattle.adf_findings.proofs.SoundMarks.{is_alone}
 use Rattle.adf_findings.proofs.TypesRead.{types_read}
-use Rattle.adf_rescue.specs.Rescue.{HasFault}
+use Rattle.adf_rescue.specs.Rescue.{IsFaulty}
 
 -- the finding of a type concerns no part, and is grave
 
@@ -107,7 +107,7 @@ module _ (types : Types) (image : List ℕ) (w : Walk) (fs : List FindingValue) 
 
   -- there is one where more are found than are passed
   pub fault_told : (few many : ℕ) (mended : Bool) → few ≡ length (passed types image) → many ≡ length fs → mended ≡ false
-      → (ltb few many ≡ true) ↔ HasFault types image mended fs
+      → (ltb few many ≡ true) ↔ IsFaulty types image mended fs
   fault_told few many mended known found kept = elim (cases_lt few many) [
     | inl more ↦ ((λ t. inr (some_fault (omega arith))), (λ fault. lt-ltb few many more))
     | inr none ↦ (

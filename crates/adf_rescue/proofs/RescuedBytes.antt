@@ -24,7 +24,7 @@ use Rattle.adf_rescue.specs.Hung.{made_header, put_in, readied, ready_in, sealed
 use Rattle.adf_rescue.specs.Lost.{is_inside, is_lost, says_directory}
 use Rattle.adf_rescue.specs.MadeRoot.{has_root, label_in, made_root, middle_block, rooted}
 use Rattle.adf_boot_blocks.specs.BootBlocks.{begins_with_dos}
-use Rattle.adf_rescue.specs.Opened.{begun, has_data, is_mended, opened, type_byte}
+use Rattle.adf_rescue.specs.Opened.{with_boot_type, has_data, is_mended, opened, type_byte}
 use Rattle.adf_rescue.specs.Rescue.{lost_name}
 use Rattle.adf_rescue.proofs.MadeRoots.{made_fits}
 
@@ -36,7 +36,7 @@ type_small image = cond_both (has_data image (blocks image)) 0 1 (λ t. t < 256)
 dos_bytes : AreBytes (codes "DOS")
 dos_bytes = All-from_recursion IsByte (codes "DOS") (omega arith, (omega arith, (omega arith, tt)))
 
-pub begun_bytes : (image : List ℕ) → AreBytes image → AreBytes (begun image)
+pub begun_bytes : (image : List ℕ) → AreBytes image → AreBytes (with_boot_type image)
 begun_bytes image are =
     cond_both (begins_with_dos image) image (codes "DOS" ++ type_byte image ∷ drop 4 image) AreBytes (λ e. are)
     (λ e. All-append IsByte (codes "DOS") (type_byte image ∷ drop 4 image) dos_bytes
@@ -58,7 +58,7 @@ rooted_bytes image are =
 
 pub opened_bytes : (image : List ℕ) → AreBytes image → AreBytes (opened image)
 opened_bytes image are =
-    cond_both (is_mended image) (rooted (begun image)) image AreBytes (λ e. rooted_bytes (begun image) (begun_bytes image are)) (λ e. are)
+    cond_both (is_mended image) (rooted (with_boot_type image)) image AreBytes (λ e. rooted_bytes (with_boot_type image) (begun_bytes image are)) (λ e. are)
 
 -- the header of a directory that is made
 

@@ -1,6 +1,6 @@
 -- An image whose boot block or root was overwritten, as if these were those of a volume.
 -- Letters: b the number of a block; k a number of blocks.
-use Rattle.std.specs.Prelude.{ℕ, ◌==◌, ◌&&◌, ◌||◌, not, nat_lt, Bool, false, cond, List, ◌∷◌, ◌++◌, codes, drop, length}
+use Rattle.std.specs.Prelude.{ℕ, ◌≡◌, ◌==◌, ◌&&◌, ◌||◌, not, nat_lt, Bool, false, true, cond, Option, None, Some, List, ◌∷◌, ◌++◌, codes, drop, length}
 use Rattle.std.proofs.Common.{zero, suc}
 use Rattle.adf_base.specs.Words.{block, long_sum}
 use Rattle.adf_blocks.specs.declared.layout.TheConstants.{DATA_HEAD, OWN_KEY, SECONDARY_TYPE, ST_FILE, TYPE, T_DATA, T_SHORT}
@@ -36,8 +36,8 @@ abbrev pub type_byte : List ℕ → ℕ
 type_byte image = cond (has_data image (blocks image)) 0 1
 
 -- the image with `DOS` and a type in place of its first four bytes, if it does not begin with `DOS`
-abbrev pub begun : List ℕ → List ℕ
-begun image = cond (begins_with_dos image) image (codes "DOS" ++ type_byte image ∷ drop 4 image)
+abbrev pub with_boot_type : List ℕ → List ℕ
+with_boot_type image = cond (begins_with_dos image) image (codes "DOS" ++ type_byte image ∷ drop 4 image)
 
 -- the image has the length of a volume and a whole root, but does not begin with `DOS`
 abbrev pub lacks_boot : List ℕ → Bool
@@ -49,4 +49,9 @@ is_mended image = is_image_len (length image) && not (begins_with_dos image && h
 
 -- the image as a rescue reads it: where it must be mended, with a beginning and a root
 abbrev pub opened : List ℕ → List ℕ
-opened image = cond (is_mended image) (rooted (begun image)) image
+opened image = cond (is_mended image) (rooted (with_boot_type image)) image
+
+-- an input is opened as an image: as it is, or mended, and then it is refused so
+abbrev pub IsOpened : {A : Type 0} → (refuses : A → Type 0) → (input image : List ℕ) → Option A → Type 0
+IsOpened refuses input image None = (is_mended input ≡ false) × (image ≡ input)
+IsOpened refuses input image (Some x) = (is_mended input ≡ true) × (image ≡ opened input) × refuses x

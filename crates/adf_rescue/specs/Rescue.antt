@@ -269,13 +269,13 @@ abbrev pub second_leaves_by : Letters → (held : ℕ) → Basis → Option Basi
 second_leaves_by letters held a b = left_out_from 1 (second_verdicts_by letters held a b)
 
 -- the image was mended, or there is a finding that is a fault where these types are accepted
-abbrev pub HasFault : Types → List ℕ → Bool → List FindingValue → Type 0
-HasFault types image mended fs = (mended ≡ true) ⊎ (fs ≢ passed types image)
+abbrev pub IsFaulty : Types → List ℕ → Bool → List FindingValue → Type 0
+IsFaulty types image mended fs = (mended ≡ true) ⊎ (fs ≢ passed types image)
 
 -- there is a fault, and no entry stands in a new volume of these types
 abbrev pub StandsNothingBy : Types → (held : ℕ) → Basis → Option Basis → List FindingValue → Bool → Type 0
 StandsNothingBy types held a b fs mended =
-    HasFault types a.image mended fs × (rescued_additions_by (letters_for types a.image) held a b ≡ [])
+    IsFaulty types a.image mended fs × (rescued_additions_by (letters_for types a.image) held a b ≡ [])
 
 -- of a new tree with ASCII letters, and a new volume of type 0 or 1
 

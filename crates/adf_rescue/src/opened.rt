@@ -10,7 +10,7 @@ ghost use Rattle.adf_findings.specs.Start.{has_root_type};
 ghost use Rattle.adf_names.specs.declared.meta.TheConstants.{NO_STAMPS};
 ghost use Rattle.adf_rescue.specs.MadeRoot.{has_root, middle_block};
 ghost use Rattle.adf_boot_blocks.specs.BootBlocks.{begins_with_dos};
-ghost use Rattle.adf_rescue.specs.Opened.{begun, has_data, is_mended, lacks_boot, opened, says_data, says_file, type_byte};
+ghost use Rattle.adf_rescue.specs.Opened.{with_boot_type, has_data, is_mended, lacks_boot, opened, says_data, says_file, type_byte};
 
 use crate::image::{block_in, is_image_len};
 use crate::made_root::{has_root, make_root};
@@ -76,7 +76,7 @@ pub fn lacks_boot(image: &[u8]) -> bool
 #[tactic(auto, using(crate::proofs::OpenedImages::begun_anew, crate::proofs::OpenedImages::begun_same, crate::proofs::OpenedImages::begun_other))]
 pub fn begin(image: &mut [u8])
     requires { 4 ≤ length image.old }
-    ensures { image.new ≡ begun image.old }
+    ensures { image.new ≡ with_boot_type image.old }
 {
     if begins_with_dos(image) {
         return;

@@ -11,7 +11,7 @@ ghost use Rattle.adf_build.specs.Laid.{IsLaid};
 ghost use Rattle.adf_build.specs.Building.{IsBuildable};
 ghost use Rattle.adf_build.specs.Plan.{entries_blocks};
 ghost use Rattle.adf_rescue.specs.Losses.{lost_blocks, lost_headers};
-ghost use Rattle.adf_rescue.specs.Rescue.{HasFault, Basis, OnBasis, OnSecond, StandsNothingBy, before_first_by, before_second_by};
+ghost use Rattle.adf_rescue.specs.Rescue.{IsFaulty, Basis, OnBasis, OnSecond, StandsNothingBy, before_first_by, before_second_by};
 ghost use Rattle.adf_rescue.specs.Rescue.{first_verdicts_by, rescue_leaves_by, rescued_tree_by, second_leaves_by};
 ghost use Rattle.adf_rescue.specs.Rescue.{second_verdicts_by};
 ghost use Rattle.adf_rescue.specs.Salvage.{free_blocks as blocks_free, IsSalvage};
@@ -133,7 +133,7 @@ fn count_passed(types: Types, image: &[u8]) -> usize
 
 // Whether the image was mended, or there is a finding that is a fault where these types are accepted.
 fn has_fault(survey: &Survey<'_>, types: Types, mended: bool) -> bool
-    ensures { OnSurvey survey.now.image (λ _ fs. IsTrue result ↔ HasFault types survey.now.image mended fs) }
+    ensures { OnSurvey survey.now.image (λ _ fs. IsTrue result ↔ IsFaulty types survey.now.image mended fs) }
 {
     if mended {
         return true;

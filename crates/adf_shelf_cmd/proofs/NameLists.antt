@@ -6,7 +6,7 @@ use Rattle.std.specs.Io.KnownBytes.{IsAtEnd}
 use Rattle.std.proofs.lemmas.Grind.{common_steps}
 use Rattle.std.proofs.Common.{Bor}
 use Rattle.adf_words.specs.CommandLine.{texts_of}
-use Rattle.adf_shelf_cmd.specs.Names.{AreGiven, are_unread, end_of, first_names, listed_names, names_from}
+use Rattle.adf_shelf_cmd.specs.Names.{AreGiven, are_unread, name_end, first_names, listed_names, names_or_input}
 
 short_both : (c : Bool) (xs ys : List ℕ) (n : ℕ) → length xs ≤ n → length ys ≤ n → length (if c then xs else ys) ≤ n
 short_both true xs ys n h i = h
@@ -56,7 +56,7 @@ gives_piece end (Some (b ∷ bytes)) new text name piece rest some e = grind (ar
 
 -- where words give no names, those in the input are asked for, and their fault is that of all
 pub asked_in_input : (null : Bool) (names : List (List ℕ)) (input : Option (List ℕ)) → names ≡ []
-    → names_from null names input ≡ option_map (listed_names (end_of null)) input
+    → names_or_input null names input ≡ option_map (listed_names (name_end null)) input
 asked_in_input null [] input e = refl
 asked_in_input null (name ∷ names) input e = cc
 
@@ -65,7 +65,7 @@ unread_in_input [] failed e = refl
 unread_in_input (name ∷ names) failed e = cc
 
 -- where they give some, these are
-pub asked_in_words : (null : Bool) (names : List (List ℕ)) (input : Option (List ℕ)) → (names ≡ [] → ⊥) → names_from null names input ≡ Some names
+pub asked_in_words : (null : Bool) (names : List (List ℕ)) (input : Option (List ℕ)) → (names ≡ [] → ⊥) → names_or_input null names input ≡ Some names
 asked_in_words null [] input ne = absurd (ne refl)
 asked_in_words null (name ∷ names) input ne = refl
 

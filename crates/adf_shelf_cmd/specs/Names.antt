@@ -32,17 +32,17 @@ abbrev pub listed_names : ℕ → List ℕ → List (List ℕ)
 listed_names end bytes = first_names (length bytes) end bytes
 
 -- the byte that ends a name
-abbrev pub end_of : Bool → ℕ
-end_of null = if null then 0 else 10
+abbrev pub name_end : Bool → ℕ
+name_end null = if null then 0 else 10
 
 -- the names that words give, or where there are none those in the input
-abbrev pub names_from : Bool → List (List ℕ) → Option (List ℕ) → Option (List (List ℕ))
-names_from null [] input = option_map (listed_names (end_of null)) input
-names_from null (name ∷ names) input = Some (name ∷ names)
+abbrev pub names_or_input : Bool → List (List ℕ) → Option (List ℕ) → Option (List (List ℕ))
+names_or_input null [] input = option_map (listed_names (name_end null)) input
+names_or_input null (name ∷ names) input = Some (name ∷ names)
 
 -- those of an order
 abbrev pub names_asked : ShelfOrder → Option (List ℕ) → Option (List (List ℕ))
-names_asked order input = names_from order.null order.files input
+names_asked order input = names_or_input order.null order.files input
 
 -- the types that an order accepts
 abbrev pub types_asked : ShelfOrder → Types

@@ -6,7 +6,7 @@ ghost use Rattle.adf_words.specs.CommandLine.{texts_of};
 ghost use Rattle.adf_runs.specs.Streams.{Says};
 ghost use Rattle.adf_file_words.specs.ShelfLine.{AsksShelf, AreRefusedByShelf, ShelfOrder};
 ghost use Rattle.adf_shelf_cmd.specs.Lines.{Ends, IsReportOf, IsRunStatus};
-ghost use Rattle.adf_shelf_cmd.specs.Names.{are_unread, end_of, names_asked, types_asked};
+ghost use Rattle.adf_shelf_cmd.specs.Names.{are_unread, name_end, names_asked, types_asked};
 
 use crate::batch::{Stop, say_more, write_verdicts};
 use crate::names::{Names, TextNames, WordNames};
@@ -45,8 +45,8 @@ fn run_names<N: Names, F: Files, W: Sink, E: Sink>(
 }
 
 // The byte that ends a name in the input.
-fn end_of(null: bool) -> u8
-    ensures { result ≡ end_of null }
+fn name_end(null: bool) -> u8
+    ensures { result ≡ name_end null }
 {
     if null { 0 } else { b'\n' }
 }
@@ -83,7 +83,7 @@ fn run_order<B: BufRead, F: Files, W: Sink, E: Sink>(
     let types = types_asked(order.any_type);
     let checks = ImageChecks { alloc, types };
     if order.files.is_empty() {
-        input.end = end_of(order.null);
+        input.end = name_end(order.null);
         return run_names(checks, input, files, output, errors);
     }
     let mut named = WordNames::new(&order.files);

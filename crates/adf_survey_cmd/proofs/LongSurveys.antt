@@ -1,6 +1,7 @@
 -- What is answered to the front of an input that is longer than the largest image is answered to the whole of it.
 -- Letters: s, t what is surveyed; w the walk of a survey, fs its findings; n an entry's node.
-use Rattle.std.proofs.Common.{◌≡◌, ◌<◌, ◌≤◌, ◌+◌, ◌-◌, ◌*◌, ◌∙◌, ◌++◌, true, false, inl, inr, ℕ, Bool, List, [], ◌∷◌, Option, None, Some, refl, ap, ap₂, arith, subst, sym}
+use Rattle.std.proofs.Common.{◌≡◌, ◌<◌, ◌≤◌, ◌+◌, ◌-◌, ◌*◌, ◌∙◌, ◌++◌, true, false, inl, inr, ℕ, Bool, List, [], ◌∷◌, Option, None, Some, refl, ap}
+use Rattle.std.proofs.Common.{ap₂, arith, subst, sym}
 use Rattle.std.proofs.Common.{◌==◌, ◌&&◌, cond, length, replicate, take}
 use Rattle.std.proofs.lemmas.Bool.{and_left, cond-false, false_from_ne_true}
 use Rattle.std.proofs.Math.Nat.{min-eq_left}
@@ -28,7 +29,7 @@ use Rattle.adf_rescue.proofs.MadeRoots.{sized as sized_len}
 use Rattle.adf_cmd.proofs.LongInputs.{long_fault, too_large}
 use Rattle.adf_survey_cmd.specs.Answers.{CopiesFound, CopiesFromSurvey, ListsSurvey, QuestionAnswer, SurveyAnswer, Surveys, TellsFound, told_status, types_kept}
 use Rattle.adf_survey_cmd.specs.Hints.{disk_hint}
-use Rattle.adf_survey_cmd.specs.Subject.{IsTyped, OfTyped, SubjectValue, begun_subject, end_of, missing_text, sized, subject, told_text}
+use Rattle.adf_survey_cmd.specs.Subject.{IsTyped, OfTyped, SubjectValue, begun_subject, held_end, missing_text, sized, subject, subject_text}
 use Rattle.adf_file_words.specs.SurveyLine.{AreFew, InquiryValue, QuestionValue, cat, list, report, rescue}
 use Rattle.adf_survey_cmd.specs.Lines.{findings_text, runs_from}
 use Rattle.adf_survey_cmd.specs.Rescues.{Rescues, RescuesBoth, RescuesFound, second_image}
@@ -136,7 +137,7 @@ long_rescue types s t boot other a b reply (w, fs, h, found) = (
 long_questions : (q : QuestionValue) (s t : SubjectValue) → s.front ≡ t.front → 512 * MOST_BLOCKS < length s.image
     → 512 * MOST_BLOCKS < length t.image → (reply : Reply) → QuestionAnswer q s reply → QuestionAnswer q t reply
 long_questions report s t front a b reply told = of_typed s t Surveys a b reply (λ x.
-    let e = of_long s.image x.0 x.1 (λ u gs. reply ≡ on_output (told_status s.front gs) (told_text s u gs)) a x.2 x.3 in
+    let e = of_long s.image x.0 x.1 (λ u gs. reply ≡ on_output (told_status s.front gs) (subject_text s u gs)) a x.2 x.3 in
     ([], bad_size, long_survey t.image b, e ∙ ap₂ (λ f m. on_output (told_status f bad_size) (f ++ m)) front (same_text s.image t.image))) told
 long_questions list s t front a b reply told = of_typed s t ListsSurvey a b reply (λ x.
     let (date, dates, sound, marks, e) = of_long s.image x.0 x.1 (λ u gs. TellsFound s u gs reply) a x.2 x.3 in
@@ -164,7 +165,7 @@ same_sized n image bytes few e a b =
 
 -- and so is their end
 same_end : (n : ℕ) (image bytes : List ℕ) → n ≤ MOST_BLOCKS → 512 * MOST_BLOCKS < length image → 512 * MOST_BLOCKS < length bytes
-    → end_of n image ≡ end_of n bytes
+    → held_end n image ≡ held_end n bytes
 same_end n image bytes few a b = min-eq_left (omega arith) ∙ sym (min-eq_left (omega arith))
 
 long_meant : (meant : Option ℕ) (q : QuestionValue) (image bytes : List ℕ) → AreFew meant → image ≡ take (512 * MOST_BLOCKS + 1) bytes

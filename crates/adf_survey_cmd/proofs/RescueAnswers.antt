@@ -20,12 +20,12 @@ use Rattle.adf_rescue.specs.declared.left_out.LeftOut.{LeftOut}
 use Rattle.adf_rescue.specs.Hung.{hung}
 use Rattle.adf_rescue.specs.Lost.{has_lost, is_settled}
 use Rattle.adf_rescue.specs.Opened.{is_mended, opened}
-use Rattle.adf_rescue.specs.Rescue.{HasFault, Basis, StandsNothingBy, rescued_tree_by}
+use Rattle.adf_rescue.specs.Rescue.{IsFaulty, Basis, StandsNothingBy, rescued_tree_by}
 use Rattle.adf_blocks.specs.Sizes.{blocks}
 use Rattle.adf_boot_blocks.specs.Writing.{restored}
 use Rattle.adf_build.specs.Building.{IsBuildable}
 use Rattle.adf_build.specs.Laid.{IsLaid}
-use Rattle.adf_rescue.proofs.OpenedImages.{opened_kept, volumes_are_kept}
+use Rattle.adf_rescue.proofs.OpenedImages.{volumes_are_kept}
 use Rattle.adf_runs.specs.Commands.{Reply, on_errors, on_output}
 use Rattle.adf_runs.specs.declared.outcome.Outcome.{Outcome, TheVariants.NoMemory, TheVariants.Refused}
 use Rattle.adf_runs.specs.declared.outcome.Outcome.TheVariants.{LeftOut as Tells}
@@ -34,7 +34,7 @@ use Rattle.adf_cmd.specs.Answers.{Checks}
 use Rattle.adf_runs.proofs.Endings.{ends_weaker}
 use Rattle.adf_runs.proofs.PendingText.{appends_nil}
 use Rattle.adf_survey_cmd.specs.declared.rescuing.Prepared.{Prepared}
-use Rattle.adf_survey_cmd.specs.Prepared.{IsNoVolume, IsOpened, IsRefusedInput, IsRefusedWith, Prepares}
+use Rattle.adf_survey_cmd.specs.Prepared.{IsNoVolume, IsRefusedInput, IsRefusedWith, PreparesReply}
 use Rattle.adf_survey_cmd.specs.Rescues.{RefusesInput, RefusesWith, Rescues, RescuesBoth, RescuesBy, RescuesIn}
 use Rattle.adf_survey_cmd.specs.Rescues.{lines_text, rescue_reply, rescue_text, second_image}
 
@@ -64,7 +64,7 @@ one_hung mended image w fs v some is = grind (arith, common_steps, cond-true)
 
 -- an image that has a fault as it is, is no volume
 pub none_fits_it : (types : Types) (image : List ℕ) (w : Walk) (fs : List FindingValue) (mended : Bool) → mended ≡ false → IsSurvey image w fs
-    → HasFault types image mended fs → IsNoVolume types image
+    → IsFaulty types image mended fs → IsNoVolume types image
 none_fits_it types image w fs mended kept survey (inl is) t l fits = absurd cc
 none_fits_it types image w fs mended kept survey (inr some) t l fits =
     some (finds_none image (letters_for types image) (passed types image) (types_read image types) t l w fs fits survey)
@@ -88,7 +88,7 @@ same_lines image w b xs us ys vs ps qs ns ms d e f g = λ i. lines_text image w 
 pub volume_prepared : (types : Types) (held : ℕ) (input : List ℕ) (a : Basis) (b : Option Basis) (fs : List FindingValue) (p : Prepared)
     → IsBuildable p.draft.tree p.blocks → p.draft.tree ≡ rescued_tree_by (letters_for types a.image) held a b → p.blocks ≡ blocks a.image
     → p.lines.items ≡ rescue_text types held a b fs → a.walk ≢ [] → ¬ StandsNothingBy types held a b fs (is_mended input)
-    → Prepares (RescuesBy types held input a b fs) (Ok p)
+    → PreparesReply (RescuesBy types held input a b fs) (Ok p)
 volume_prepared types held input a b fs p room tree size told read some = (
   room,
   λ boot reply writes. inr (
@@ -103,18 +103,18 @@ volume_prepared types held input a b fs p room tree size told read some = (
 -- a rescue that is prepared with some answers is prepared with others that they are
 pub prepares_weaker : (few more : List ℕ → Reply → Type 0) (r : Result Prepared Outcome)
     → ((boot : List ℕ) (reply : Reply) → few boot reply → more boot reply)
-    → Prepares few r → Prepares more r
+    → PreparesReply few r → PreparesReply more r
 prepares_weaker few more (Ok p) f h = (h.0, λ boot reply w. f boot reply (h.1 boot reply w))
 prepares_weaker few more (Err w) f h = (h.0, h.1, λ boot o. ends_weaker (few boot) (more boot) w o o (f boot) (h.2 boot o))
 
 -- where memory is refused, nothing is written
-pub none_prepared : (answers : List ℕ → Reply → Type 0) (r : Result Prepared Outcome) → IsErrAnd r (λ w. w ≡ NoMemory) → Prepares answers r
+pub none_prepared : (answers : List ℕ → Reply → Type 0) (r : Result Prepared Outcome) → IsErrAnd r (λ w. w ≡ NoMemory) → PreparesReply answers r
 none_prepared answers (Ok p) is = absurd is
 none_prepared answers (Err w) is = rw is (refl, refl, λ boot o. inl (appends_nil o))
 
 -- a refused input is answered so
 pub refusal_prepared : (answers : List ℕ → Reply → Type 0) (types : Types) (input : List ℕ) (w : Outcome)
-    → ((boot : List ℕ) (reply : Reply) → RefusesInput types input reply → answers boot reply) → IsRefusedInput types input w → Prepares answers (Err w)
+    → ((boot : List ℕ) (reply : Reply) → RefusesInput types input reply → answers boot reply) → IsRefusedInput types input w → PreparesReply answers (Err w)
 refusal_prepared answers types input (Refused line) f h =
     (refl, refl, λ boot o. ([], f boot (on_errors 1 (string_bytes line)) (h.0, h.1, ap (on_errors 1) h.2), appends_nil o))
 refusal_prepared answers types input NoMemory f h = (refl, refl, λ boot o. inl (appends_nil o))
@@ -123,18 +123,8 @@ refusal_prepared answers types input _ f h = absurd h
 -- so is one that is refused with lines
 pub refused_with_prepared : (answers : List ℕ → Reply → Type 0) (text : List ℕ) (types : Types) (input : List ℕ) (w : Outcome)
     → ((boot : List ℕ) (reply : Reply) → RefusesWith text types input reply → answers boot reply) → IsRefusedWith text types input w
-    → Prepares answers (Err w)
+    → PreparesReply answers (Err w)
 refused_with_prepared answers text types input (Tells lines) f h =
     (refl, refl, λ boot o. ([], f boot (on_errors 1 lines.items) (h.0, h.1, ap (on_errors 1) h.2), appends_nil o))
 refused_with_prepared answers text types input NoMemory f h = (refl, refl, λ boot o. inl (appends_nil o))
 refused_with_prepared answers text types input _ f h = absurd h
-
--- an input is opened as the image that a rescue reads
-pub opened_so : (types : Types) (input image : List ℕ) (refusal : Option Outcome) → IsOpened types input image refusal → image ≡ opened input
-opened_so types input image None h = h.1 ∙ sym (opened_kept input h.0)
-opened_so types input image (Some w) h = h.1
-
-pub mended_so : (types : Types) (input image : List ℕ) (refusal : Option Outcome) → IsOpened types input image refusal
-    → is_some refusal ≡ is_mended input
-mended_so types input image None h = sym h.0
-mended_so types input image (Some w) h = sym h.0

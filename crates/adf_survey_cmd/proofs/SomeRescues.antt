@@ -31,7 +31,7 @@ use Rattle.adf_rescue.proofs.RescuedVolumes.{AreSecondBytes, rescue_laid}
 use Rattle.adf_rescue.specs.Hung.{hung}
 use Rattle.adf_rescue.specs.Lost.{has_lost, is_settled}
 use Rattle.adf_rescue.specs.Opened.{is_mended, opened}
-use Rattle.adf_rescue.specs.Rescue.{Basis, HasFault, IsSecond, rescued_additions_by}
+use Rattle.adf_rescue.specs.Rescue.{Basis, IsFaulty, IsSecond, rescued_additions_by}
 use Rattle.adf_runs.specs.Commands.{Reply}
 use Rattle.adf_survey_cmd.proofs.RescueAnswers.{none_fits_it, none_fits_mended}
 use Rattle.adf_survey_cmd.specs.Prepared.{IsNoVolume}
@@ -76,12 +76,12 @@ fault_alone types input none (inr (b, c, first)) = (_, (fault_at b c, first, ref
 
 -- an input that is mended or has a fault is none
 none_fits_fault : (types : Types) (input : List ℕ) (w : Walk) (fs : List FindingValue) (mended : Bool) → is_mended input ≡ mended
-    → IsSurvey (opened input) w fs → HasFault types (opened input) mended fs → IsNoVolume types input
+    → IsSurvey (opened input) w fs → IsFaulty types (opened input) mended fs → IsNoVolume types input
 none_fits_fault types input w fs true is survey fault = none_fits_mended types input is
 none_fits_fault types input w fs false is survey fault =
     let same : opened input ≡ input = opened_kept input is in
     none_fits_it types input w fs false refl (subst (λ (image : List ℕ). IsSurvey image w fs) same survey)
-    (subst (λ (image : List ℕ). HasFault types image false fs) same fault)
+    (subst (λ (image : List ℕ). IsFaulty types image false fs) same fault)
 
 -- nor is one of which nothing is surveyed once it is opened
 none_fits_unread : (types : Types) (input : List ℕ) (w : Walk) (fs : List FindingValue) → IsSurvey (opened input) w fs → w ≡ []
@@ -92,7 +92,7 @@ none_fits_unread types input w fs survey none =
 -- whether anything stands
 
 dec_fault : (types : Types) (image : List ℕ) (w : Walk) (fs : List FindingValue) (mended : Bool) → IsSurvey image w fs
-    → Dec (HasFault types image mended fs)
+    → Dec (IsFaulty types image mended fs)
 dec_fault types image w fs true survey = yes (inl refl)
 dec_fault types image w fs false survey = elim (cases_lt (length (passed types image)) (length fs)) [
   | inl some ↦ yes (inr (some_fault types image w fs survey some))

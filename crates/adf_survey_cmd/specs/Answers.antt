@@ -20,7 +20,7 @@ use Rattle.adf_survey_cmd.specs.FoundLines.{has_its_data, listing_text}
 use Rattle.adf_survey_cmd.specs.Hints.{Hinted}
 use Rattle.adf_survey_cmd.specs.Remains.{WritesRemains}
 use Rattle.adf_survey_cmd.specs.Rescues.{Rescues}
-use Rattle.adf_survey_cmd.specs.Subject.{IsTyped, OfTyped, SubjectValue, sized, subject, told_text}
+use Rattle.adf_survey_cmd.specs.Subject.{IsTyped, OfTyped, SubjectValue, sized, subject, subject_text}
 
 -- the status of findings: 0 where there is none
 abbrev pub findings_status : List FindingValue → ℕ
@@ -34,7 +34,7 @@ told_status (c ∷ front) fs = 1
 
 -- the lines of the findings are told
 abbrev pub TellsFindings : SubjectValue → Walk → List FindingValue → Reply → Type 0
-TellsFindings s w fs reply = reply ≡ on_output (told_status s.front fs) (told_text s w fs)
+TellsFindings s w fs reply = reply ≡ on_output (told_status s.front fs) (subject_text s w fs)
 
 -- the lines of the findings are told, and behind them those of what is found, in which each date has its text and the sound entries are marked
 abbrev pub TellsFound : SubjectValue → Walk → List FindingValue → Reply → Type 0

@@ -1,5 +1,6 @@
 -- The lines of what is found. In each definition `date` gives the text of a date, and `sound` tells whether an entry is sound.
--- Letters: s what is surveyed; w the walk of its image's survey, fs its findings; end a block; n an entry's node, h the block of its header; k how many entries.
+-- Letters: s what is surveyed; w the walk of its image's survey, fs its findings; end a block; n an entry's node, h the block of its header; k how many
+-- entries.
 use Rattle.std.specs.Prelude.{ℕ, ◌==◌, ◌&&◌, ◌||◌, Bool, true, false, not, nat_lt, List, [], ◌∷◌, ◌++◌, codes}
 use Rattle.std.specs.List.{flat_map, list_all, range_with_len}
 use Rattle.adf_base.specs.Words.{block}
@@ -15,7 +16,7 @@ use Rattle.adf_findings.specs.Opening.{opening_in}
 use Rattle.adf_findings.specs.Survey.{FindingValue}
 use Rattle.adf_texts.specs.RowTexts.{head_lines}
 use Rattle.adf_texts.specs.VolumeLines.{AreDates, opening_lines}
-use Rattle.adf_survey_cmd.specs.Subject.{SubjectValue, told_text}
+use Rattle.adf_survey_cmd.specs.Subject.{SubjectValue, subject_text}
 
 -- the mark of an entry, on the left of eight places
 abbrev pub mark_text : Bool → List ℕ
@@ -54,7 +55,7 @@ found_text date sound image (x ∷ w) = opening_text date image ++ lines_of_foun
 
 -- the lines of the findings, with those in front, and behind them those of what is found
 abbrev pub listing_text : (Stamp → List ℕ) → (ℕ → Bool) → SubjectValue → Walk → List FindingValue → List ℕ
-listing_text date sound s w fs = told_text s w fs ++ found_text date (marked sound s.end s.image w) s.image w
+listing_text date sound s w fs = subject_text s w fs ++ found_text date (marked sound s.end s.image w) s.image w
 
 -- it holds of any function that gives each date its text, and of any that tells the sound entries of a survey
 abbrev pub InAnyTexts : List ℕ → Walk → List FindingValue → ((Stamp → List ℕ) → (ℕ → Bool) → Type 0) → Type 0

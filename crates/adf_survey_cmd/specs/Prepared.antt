@@ -13,7 +13,6 @@ use Rattle.adf_volume.specs.Walk.{FirstFaultBy}
 use Rattle.adf_boot_blocks.specs.Writing.{restored}
 use Rattle.adf_build.specs.Building.{IsBuildable}
 use Rattle.adf_build.specs.Laid.{IsLaid}
-use Rattle.adf_rescue.specs.Opened.{is_mended, opened}
 use Rattle.adf_texts.specs.Lines.{fault_line}
 use Rattle.adf_runs.specs.Commands.{Reply}
 use Rattle.adf_runs.specs.Outcomes.{EndsBy, is_read_fault, is_write_fault}
@@ -30,10 +29,10 @@ WritesPrepared p boot reply =
 
 -- a rescue that has these answers, by the boot blocks that are put back, is prepared: its tree fits, and each volume that is laid for it
 -- answers; or nothing is written
-abbrev pub Prepares : ((boot : List ℕ) → Reply → Type 0) → Result Prepared Outcome → Type 0
-Prepares answers (Ok p) =
+abbrev pub PreparesReply : ((boot : List ℕ) → Reply → Type 0) → Result Prepared Outcome → Type 0
+PreparesReply answers (Ok p) =
     IsBuildable p.draft.tree p.blocks × ((boot : List ℕ) (reply : Reply) → WritesPrepared p boot reply → answers boot reply)
-Prepares answers (Err w) =
+PreparesReply answers (Err w) =
     (is_read_fault w ≡ false) × (is_write_fault w ≡ false) × ((boot : List ℕ) (o : Option (List ℕ)) → EndsBy (answers boot) w o o)
 
 -- no tree and layout fit an image where these types are accepted
@@ -53,8 +52,3 @@ IsRefusedWith text types input (LeftOut lines) =
     (f : Fault) × FirstFaultBy (letters_for types input) input f.block f.cause × (lines.items ≡ fault_line f ++ text)
 IsRefusedWith text types input NoMemory = Unit {0}
 IsRefusedWith text types input _ = ⊥
-
--- an input is opened as an image: as it is, or mended, and then it is refused so
-abbrev pub IsOpened : Types → List ℕ → List ℕ → Option Outcome → Type 0
-IsOpened types input image None = (is_mended input ≡ false) × (image ≡ input)
-IsOpened types input image (Some w) = (is_mended input ≡ true) × (image ≡ opened input) × IsRefusedInput types input w

@@ -6,7 +6,7 @@ use Rattle.adf_blocks.specs.Sizes.{blocks}
 use Rattle.adf_volume.specs.Walk.{Walk}
 use Rattle.adf_findings.specs.OwnKind.{is_mistyped, retyped}
 use Rattle.adf_findings.specs.Survey.{FindingValue, IsSurvey}
-use Rattle.adf_rescue.specs.Opened.{begun, lacks_boot}
+use Rattle.adf_rescue.specs.Opened.{with_boot_type, lacks_boot}
 use Rattle.adf_runs.specs.Commands.{Reply}
 use Rattle.adf_survey_cmd.specs.Lines.{blocks_text, findings_text}
 use Rattle.adf_survey_cmd.specs.declared.subject.Subject.{Subject}
@@ -35,8 +35,8 @@ meant None input = input
 meant (Some n) input = sized n input
 
 -- the first of n blocks that the input does not hold whole; n if it holds all
-abbrev pub end_of : ℕ → List ℕ → ℕ
-end_of n input = min n (blocks input)
+abbrev pub held_end : ℕ → List ℕ → ℕ
+held_end n input = min n (blocks input)
 
 -- the line of the blocks of an image of n blocks that the input does not hold, if there are any
 abbrev pub missing_text : ℕ → ℕ → List ℕ
@@ -44,12 +44,12 @@ missing_text end n = cond (nat_lt end n) (blocks_text end (n - 1) ++ codes ": no
 
 -- what is surveyed of an input, as it is or as if it had so many blocks
 abbrev pub subject : Option ℕ → List ℕ → SubjectValue
-subject None input = record { image = input; end = end_of MOST_BLOCKS input; front = [] }
-subject (Some n) input = record { image = sized n input; end = end_of n input; front = missing_text (end_of n input) n }
+subject None input = record { image = input; end = held_end MOST_BLOCKS input; front = [] }
+subject (Some n) input = record { image = sized n input; end = held_end n input; front = missing_text (held_end n input) n }
 
 -- the lines of the findings, with those in front
-abbrev pub told_text : SubjectValue → Walk → List FindingValue → List ℕ
-told_text s w fs = s.front ++ findings_text s.image w fs
+abbrev pub subject_text : SubjectValue → Walk → List FindingValue → List ℕ
+subject_text s w fs = s.front ++ findings_text s.image w fs
 
 -- another image in its place, and one more line
 abbrev pub changed : SubjectValue → List ℕ → List ℕ → SubjectValue
@@ -57,7 +57,7 @@ changed s image line = record { image = image; end = s.end; front = s.front ++ l
 
 -- with `DOS` and a type, where only the boot block is lost
 abbrev pub begun_subject : SubjectValue → SubjectValue
-begun_subject s = cond (lacks_boot s.image) (changed s (begun s.image) (codes "block 0: not dos\n")) s
+begun_subject s = cond (lacks_boot s.image) (changed s (with_boot_type s.image) (codes "block 0: not dos\n")) s
 
 -- the line of a volume whose type is not what its files say
 unfoldable pub type_line : List ℕ

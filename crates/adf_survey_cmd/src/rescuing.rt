@@ -7,10 +7,10 @@ ghost use Rattle.adf_blocks.specs.Sizes.{blocks as blocks_in};
 ghost use Rattle.adf_boot_blocks.specs.Writing.{restored};
 ghost use Rattle.adf_build.specs.Building.{IsBuildable};
 ghost use Rattle.adf_build.specs.Laid.{IsLaid};
-ghost use Rattle.adf_rescue.specs.Opened.{is_mended};
+ghost use Rattle.adf_rescue.specs.Opened.{IsOpened, is_mended};
 ghost use Rattle.adf_rescue.specs.Rescue.{IsSecond, Basis, OnBasis, OnSecond};
 ghost use Rattle.adf_runs.specs.Outcomes.{EndsBy, is_read_fault, is_write_fault, outcome_text, status_of};
-ghost use Rattle.adf_survey_cmd.specs.Prepared.{IsNoVolume, IsOpened, IsRefusedInput, IsRefusedWith, Prepares, WritesPrepared};
+ghost use Rattle.adf_survey_cmd.specs.Prepared.{IsNoVolume, IsRefusedInput, IsRefusedWith, PreparesReply, WritesPrepared};
 ghost use Rattle.adf_survey_cmd.specs.Rescues.{Rescues, RescuesBoth, RescuesBy, left_out_line, left_out_text, lines_text, second_text, text_status, why_text};
 
 use crate::lost_lines::{push_lost_blocks, push_lost_headers};
@@ -182,7 +182,8 @@ fn refuse(alloc: Global, types: Types, image: &[u8]) -> Outcome
 // Refuses an input of which nothing is surveyed or stands: as it is refused already, if it was mended.
 fn refuse_opened(alloc: Global, types: Types, image: &[u8], refusal: Option<Outcome>) -> Outcome
     requires { is_some refusal ≡ false → IsNoVolume types image.now }
-    ensures { (input : List ℕ) → IsOpened types input image.now refusal → IsRefusedInput types input result }
+    ensures { (input : List ℕ) → IsOpened (IsRefusedInput types input) input image.now refusal
+        → IsRefusedInput types input result }
 {
     match refusal {
         Some(outcome) => outcome,
@@ -208,7 +209,8 @@ fn refuse_with(
     lines: &[u8],
 ) -> Outcome
     requires { is_some refusal ≡ false → IsNoVolume types image.now }
-    ensures { (input : List ℕ) → IsOpened types input image.now refusal → IsRefusedWith lines.now types input result }
+    ensures { (input : List ℕ) → IsOpened (IsRefusedInput types input) input image.now refusal
+        → IsRefusedWith lines.now types input result }
 {
     match refuse_opened(alloc, types, image, refusal) {
         Outcome::Refused(line) => match joined(alloc, &line, lines) {
@@ -236,9 +238,9 @@ fn prepare_found(
     refusal: Option<Outcome>,
 ) -> Result<Prepared, Outcome>
     requires { (b : Option Basis) × IsSecond (option_map (λ s. s.now.image) second) b }
-    ensures { (input : List ℕ) → IsOpened scope.types input found.now.image refusal
+    ensures { (input : List ℕ) → IsOpened (IsRefusedInput scope.types input) input found.now.image refusal
         → OnBasis found.now.image (λ a fs. OnSecond (option_map (λ s. s.now.image) second.entry) (λ b.
-        Prepares (RescuesBy scope.types scope.held input a b fs) result)) }
+        PreparesReply (RescuesBy scope.types scope.held input a b fs) result)) }
 {
     found.whole_marks();
     some_survey();
@@ -269,8 +271,8 @@ fn prepare_hung(
     scope: Scope,
     refusal: Option<Outcome>,
 ) -> Result<Prepared, Outcome>
-    ensures { (input : List ℕ) → IsOpened scope.types input found.now.image refusal
-        → OnBasis found.now.image (λ a fs. Prepares (RescuesBoth scope.types scope.held input a (Some hung.now) fs) result) }
+    ensures { (input : List ℕ) → IsOpened (IsRefusedInput scope.types input) input found.now.image refusal
+        → OnBasis found.now.image (λ a fs. PreparesReply (RescuesBoth scope.types scope.held input a (Some hung.now) fs) result) }
 {
     let second = survey(alloc, hung)?;
     second.whole_marks();
@@ -284,8 +286,8 @@ fn prepare_opened(
     scope: Scope,
     refusal: Option<Outcome>,
 ) -> Result<Prepared, Outcome>
-    ensures { (input : List ℕ) → IsOpened scope.types input image.now refusal
-        → Prepares (Rescues scope.types scope.held input) result }
+    ensures { (input : List ℕ) → IsOpened (IsRefusedInput scope.types input) input image.now refusal
+        → PreparesReply (Rescues scope.types scope.held input) result }
 {
     let found = survey(alloc, image)?;
     found.whole_marks();
@@ -298,7 +300,7 @@ fn prepare_opened(
 // Mends an input, and prepares its rescue.
 fn prepare_mended(alloc: Global, image: &mut [u8], scope: Scope) -> Result<Prepared, Outcome>
     requires { is_mended image.old ≡ true }
-    ensures { Prepares (Rescues scope.types scope.held image.old) result }
+    ensures { PreparesReply (Rescues scope.types scope.held image.old) result }
 {
     let refusal = refuse(alloc, scope.types, image);
     open_image(image);
@@ -307,7 +309,7 @@ fn prepare_mended(alloc: Global, image: &mut [u8], scope: Scope) -> Result<Prepa
 
 // Prepares the rescue of an input, and lets that go.
 fn prepare(alloc: Global, input: Vec<u8>, scope: Scope) -> Result<Prepared, Outcome>
-    ensures { Prepares (Rescues scope.types scope.held input.items) result }
+    ensures { PreparesReply (Rescues scope.types scope.held input.items) result }
 {
     if !is_mended(&input) {
         return prepare_opened(alloc, &input, scope, None);

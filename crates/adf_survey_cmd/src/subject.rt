@@ -4,8 +4,8 @@ ghost use Rattle.std.specs.Prelude.{◌≡◌, ◌≤◌, ◌++◌, IfOk, OnOk, 
 ghost use Rattle.adf_blocks.specs.declared.layout.TheConstants.{MOST_BLOCKS};
 ghost use Rattle.adf_findings.specs.OwnKind.{is_mistyped, retyped};
 ghost use Rattle.adf_findings.specs.Survey.{OnSurvey};
-ghost use Rattle.adf_rescue.specs.Opened.{begun};
-ghost use Rattle.adf_survey_cmd.specs.Subject.{IsTyped, begun_subject, changed, end_of, missing_text, sized, subject, subject_value, type_line};
+ghost use Rattle.adf_rescue.specs.Opened.{with_boot_type};
+ghost use Rattle.adf_survey_cmd.specs.Subject.{IsTyped, begun_subject, changed, held_end, missing_text, sized, subject, subject_value, type_line};
 
 use crate::runs::push_blocks;
 use adf_base::{BLOCK_LEN, NoMemory};
@@ -40,8 +40,8 @@ fn sized(alloc: Global, bytes: &[u8], blocks: u32) -> Result<Vec<u8>, AllocError
 }
 
 // The first of so many blocks that the bytes do not hold whole.
-fn end_of(blocks: u32, bytes: &[u8]) -> u32
-    ensures end { result ≡ end_of blocks bytes.now }
+fn held_end(blocks: u32, bytes: &[u8]) -> u32
+    ensures end { result ≡ held_end blocks bytes.now }
     ensures few { result ≤ blocks }
 {
     let held = bytes.len() / BLOCK_LEN;
@@ -88,7 +88,7 @@ impl Subject {
     fn whole(alloc: Global, bytes: Vec<u8>) -> Subject
         ensures { subject_value result ≡ subject None bytes.items }
     {
-        let end = end_of(MOST_BLOCKS, &bytes);
+        let end = held_end(MOST_BLOCKS, &bytes);
         Subject {
             image: bytes,
             end,
@@ -100,7 +100,7 @@ impl Subject {
     fn sized(alloc: Global, bytes: &[u8], blocks: u32) -> Result<Subject, AllocError>
         ensures { IfOk result (λ s. subject_value s ≡ subject (Some blocks) bytes.now) }
     {
-        let end = end_of(blocks, bytes);
+        let end = held_end(blocks, bytes);
         let front = missing_line(alloc, end, blocks)?;
         Ok(Subject {
             image: sized(alloc, bytes, blocks)?,

@@ -8,26 +8,20 @@ use Rattle.adf_volume.specs.Made.{layout_in}
 use Rattle.adf_volume.specs.Walk.{Role, Has, head_count, heads, IsWalkBy, IsWhole, Walk}
 use Rattle.adf_volume.specs.Walk.Role.{Head}
 use Rattle.adf_volume.specs.Walk.IsWalkBy.{start, step}
+use Rattle.adf_volume.proofs.FitWalks.{without}
 use Rattle.adf_volume.proofs.PartDemands.{part_holds_by}
 use Rattle.adf_volume.proofs.WalkOwners.{is_owned, once, owned_has}
 
--- a member can be taken out, and those with other blocks stay
-without : {X : Type 0} (xs : List (X × ℕ)) (x : X × ℕ) → In xs x
-    → (ys : List (X × ℕ)) × (length xs ≡ suc (length ys)) × ((y : X × ℕ) → In xs y → y.1 ≢ x.1 → In ys y)
-without [] x h = absurd h
-without (z ∷ xs) x (inl e) = (xs, refl, λ y h ne. elim h [ inl f ↦ absurd (ne (ap (λ p. p.1) (sym f ∙ e))) | inr g ↦ g ])
-without (z ∷ xs) x (inr h) =
-    let r = without xs x h in
-    (z ∷ r.0, ap suc r.1, λ y g ne. elim g [ inl f ↦ inl f | inr k ↦ inr (r.2 y k ne) ])
-
 -- a list in which no block stands twice is no longer than one that has its blocks
-no_longer : {X Y : Type 0} (xs : List (X × ℕ)) (ys : List (Y × ℕ)) → NoBlockTwice xs → ((x : X) (b : ℕ) → In xs (x, b) → (y : Y) × In ys (y, b))
-    → length xs ≤ length ys
-no_longer [] ys once h = omega arith
-no_longer (x ∷ xs) ys once h =
+pub no_longer : {X Y : Type 0} (block : Y → ℕ) (xs : List (X × ℕ)) (ys : List Y) → NoBlockTwice xs
+    → ((x : X) (b : ℕ) → In xs (x, b) → (y : Y) × In ys y × (block y ≡ b)) → length xs ≤ length ys
+no_longer block [] ys once h = omega arith
+no_longer block (x ∷ xs) ys once h =
     let y = h x.0 x.1 (inl refl) in
-    let r = without ys (y.0, x.1) y.1 in
-    let ih = no_longer xs r.0 once.1 (λ z b i. let u = h z b (inr i) in (u.0, r.2 (u.0, b) u.1 (λ e. once.0 (z, b) i (sym e)))) in
+    let r = without ys y.0 y.1 in
+    let ih = no_longer block xs r.0 once.1 (λ z b i.
+    let u = h z b (inr i) in
+    (u.0, r.2 u.0 u.1 (λ e. once.0 (z, b) i (sym y.2 ∙ (sym (ap block e) ∙ u.2))), u.2)) in
     omega (arith, r.1)
 
 walk_in : (w : Walk) (r : Role) (b : ℕ) → Has w r b → In w (r, b)
@@ -47,9 +41,10 @@ walked_once {letters} {image} (step {w = w} {r = r} {b = b} {a = a} v d e n) =
 
 pub walk_length : {letters : Letters} (image : List ℕ) (w : Walk) → IsWalkBy letters image w → IsWhole image w → length (owned image (layout_in w)) ≡ length w
 walk_length image w v whole =
-    let all = no_longer w (owned image (layout_in w)) (walked_once v) (λ r b i. (owner_of r, is_owned image w v whole r b (in_walk w r b i))) in
-    let only = no_longer (owned image (layout_in w)) w (once image w v whole)
-    (λ o b i. let x = owned_has image w v whole o b i in (x.0, walk_in w x.0 b x.1)) in
+    let all = no_longer (λ p. p.1) w (owned image (layout_in w)) (walked_once v)
+    (λ r b i. ((owner_of r, b), is_owned image w v whole r b (in_walk w r b i), refl)) in
+    let only = no_longer (λ p. p.1) (owned image (layout_in w)) w (once image w v whole)
+    (λ o b i. let x = owned_has image w v whole o b i in ((x.0, b), walk_in w x.0 b x.1, refl)) in
     omega arith
 
 -- a walk has no more headers than members

@@ -11,6 +11,6 @@ returns-clause-blocks c = λ w fs survey file parts.
     let n = c.args.node in
     let h = c.args.header in
     let all = c.put_named.ensures
-    ∙ ap (λ m. filled (map (named_block image c.args.parts.now n h) (range_with_len 0 m)) c.args.table.now) c.file_blocks-count.ensures.count in
+    ∙ ap (λ m. filled (map (named_block image c.args.parts.now n h) (range_with_len 0 m)) c.args.table.now) c.file_block_count-count.ensures.count in
     all ∙ ap (λ ps. filled (named_blocks image ps n h) c.args.table.now) parts
     ∙ ap (λ bs. filled bs c.args.table.now) (named_blocks_are image w fs survey n h file)

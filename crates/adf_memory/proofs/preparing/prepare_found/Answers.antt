@@ -5,14 +5,15 @@ use Rattle.adf_volume.specs.Fits.{Fits}
 use Rattle.adf_volume.specs.Layout.{Layout}
 use Rattle.adf_volume.specs.declared.types.Types.TheVariants.{Plain}
 use Rattle.adf_findings.specs.SoundMarks.{whole_in}
-use Rattle.adf_rescue.specs.Opened.{is_mended}
+use Rattle.adf_rescue.specs.Opened.{IsOpened, is_mended}
+use Rattle.adf_rescue.proofs.OpenedImages.{mended_so}
 use Rattle.adf_rescue.specs.Rescue.{Basis, StandsNothing}
 use Rattle.adf_rescue.proofs.PassedFindings.{unread_fault}
-use Rattle.adf_memory.specs.Rescuing.{IsOpened, RescueBy}
+use Rattle.adf_memory.specs.Rescuing.{IsFaultOfImage, RescueBy}
 use Rattle.adf_memory.specs.declared.preparing.Prepared.{Prepared}
 use Rattle.adf_survey_cmd.proofs.RescueAnswers.{if_some, none_fits_it}
 use Rattle.adf_memory.proofs.LossTables.{same_losses}
-use Rattle.adf_memory.proofs.PreparedRescues.{mended_so, none_prepared, refusal_prepared, volume_prepared}
+use Rattle.adf_memory.proofs.PreparedRescues.{none_prepared, refusal_prepared, volume_prepared}
 use Rattle.adf_memory.proofs.preparing.prepare_found.Goals as goal
 
 pub returns-in_err-rescued : goal.returns-in_err-rescued
@@ -35,7 +36,7 @@ returns-in_default c = λ input opened w fs sound here marks b second.
     let nothing : w ≡ [] = grind (arith, common_steps) in
     refusal_prepared c.args.held input a b fs c.refused.result (inl nothing)
     (c.refused.ensures input
-    (c.fault_of.ensures input (subst (λ (i : List ℕ). IsOpened input i c.args.fault) (sym c.image.ensures) opened)))
+    (c.fault_of.ensures input (subst (λ (i : List ℕ). IsOpened (IsFaultOfImage input) input i c.args.fault) (sym c.image.ensures) opened)))
 
 pub fault_of-requires-then-rescued : goal.fault_of-requires-then-rescued
 fault_of-requires-then-rescued c = λ as_it_is.
@@ -52,12 +53,13 @@ pub returns-then-rescued : goal.returns-then-rescued
 returns-then-rescued c = λ input opened w fs sound here marks b second.
     let a : Basis = record { image = c.args.found.now.image; walk = w; sound = sound } in
     let is = c.in-Some.is in
-    let same = c.is_some.ensures ∙ mended_so input _ _ opened in
+    let same = c.is_some.ensures ∙ mended_so _ input _ _ opened in
     let nothing = if_some _ _ _ is (c.in_ok-rescued.ensures.nothing w fs sound here marks b second) in
     let stands = subst (StandsNothing c.args.held a b fs) same (nothing.0 c.if-rescued.true) in
     refusal_prepared c.args.held input a b fs c.refused-then-rescued.result (inr stands)
     (c.refused-then-rescued.ensures input
-    (c.fault_of-then-rescued.ensures input (subst (λ (i : List ℕ). IsOpened input i c.args.fault) (sym c.image-then-rescued.ensures) opened)))
+    (c.fault_of-then-rescued.ensures input (subst (λ (i : List ℕ). IsOpened (IsFaultOfImage input) input i c.args.fault)
+    (sym c.image-then-rescued.ensures) opened)))
 
 pub returns-in_err-rescue_losses : goal.returns-in_err-rescue_losses
 returns-in_err-rescue_losses c = λ input opened w fs sound here marks b second.
@@ -69,7 +71,7 @@ returns c = λ input opened w fs sound here marks b second.
     let a : Basis = record { image = c.args.found.now.image; walk = w; sound = sound } in
     let kept = c.in_ok-rescued.ensures in
     let is = c.in-Some.is in
-    let same = c.is_some.ensures ∙ mended_so input _ _ opened in
+    let same = c.is_some.ensures ∙ mended_so _ input _ _ opened in
     let read : w ≢ [] = λ none. let clash : true ≡ false = ap is_some (sym is) ∙ (kept.none w fs here).1 none in cc in
     let losses = c.in_ok-rescue_losses.ensures w fs here b second
     ∙ same_losses c.args.found.now.image w b _ _ _ _ _ _ _ _ (if_some _ _ _ is (kept.left_out w fs sound here marks b second))

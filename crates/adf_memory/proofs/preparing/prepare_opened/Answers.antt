@@ -4,12 +4,13 @@ use Rattle.adf_findings.specs.SoundMarks.{whole_in}
 use Rattle.adf_findings.specs.Parts.{finding_value}
 use Rattle.adf_findings.specs.Survey.{FindingValue, IsSurvey}
 use Rattle.adf_rescue.specs.Lost.{has_lost}
-use Rattle.adf_rescue.specs.Opened.{is_mended}
+use Rattle.adf_rescue.specs.Opened.{IsOpened, is_mended}
+use Rattle.adf_rescue.proofs.OpenedImages.{mended_so, opened_so}
 use Rattle.adf_rescue.specs.Rescue.{Basis}
-use Rattle.adf_memory.specs.Rescuing.{IsOpened, Rescue, RescueBoth, RescueBy}
+use Rattle.adf_memory.specs.Rescuing.{IsFaultOfImage, Rescue, RescueBoth, RescueBy}
 use Rattle.adf_survey_cmd.specs.Rescues.{second_image}
 use Rattle.adf_survey_cmd.proofs.RescueAnswers.{if_some, none_hung, one_hung}
-use Rattle.adf_memory.proofs.PreparedRescues.{found_gives, mended_so, none_prepared, opened_so, prepares_weaker}
+use Rattle.adf_memory.proofs.PreparedRescues.{found_gives, none_prepared, prepares_weaker}
 use Rattle.adf_memory.proofs.preparing.prepare_opened.Goals as goal
 
 pub prepare_found-requires : goal.prepare_found-requires
@@ -25,7 +26,7 @@ returns-in-Some c = λ input opened.
     let sound : ℕ → Bool = whole_in v in
     let marks = c.whole_marks.ensures w fs here in
     let a : Basis = record { image = v.image; walk = w; sound = sound } in
-    let so : c.is_some.result ≡ is_mended input = c.is_some.ensures ∙ mended_so input _ _ opened in
+    let so : c.is_some.result ≡ is_mended input = c.is_some.ensures ∙ mended_so _ input _ _ opened in
     let is = c.in-Some.is in
     let told = c.in_ok-hung.ensures.none w fs here in
     let lost : has_lost c.is_some.result v.image w fs ≡ true = elim (cases_Bool (has_lost c.is_some.result v.image w fs)) [
@@ -38,8 +39,9 @@ returns-in-Some c = λ input opened.
     (one_hung c.is_some.result v.image w fs c.deref.result.now lost hung) in
     prepares_weaker (RescueBoth c.args.held input a (Some c.deref.result.now) fs) (Rescue c.args.held input) _
     (λ boot r by. found_gives c.args.held input v.image w fs sound (Some c.deref.result.now) boot r
-    (same ∙ opened_so input _ _ opened) here marks second by)
-    (c.prepare_hung.ensures input (subst (λ (image : List ℕ). IsOpened input image c.args.fault) (sym same) opened) w fs sound here marks)
+    (same ∙ opened_so _ input _ _ opened) here marks second by)
+    (c.prepare_hung.ensures input (subst (λ (image : List ℕ). IsOpened (IsFaultOfImage input) input image c.args.fault) (sym same) opened)
+    w fs sound here marks)
 
 pub returns : goal.returns
 returns c = λ input opened.
@@ -51,13 +53,14 @@ returns c = λ input opened.
     let sound : ℕ → Bool = whole_in v in
     let marks = c.whole_marks.ensures w fs here in
     let a : Basis = record { image = v.image; walk = w; sound = sound } in
-    let so : c.is_some.result ≡ is_mended input = c.is_some.ensures ∙ mended_so input _ _ opened in
+    let so : c.is_some.result ≡ is_mended input = c.is_some.ensures ∙ mended_so _ input _ _ opened in
     let none : second_image (is_mended input) v.image w fs ≡ None =
     subst (λ mended. second_image mended v.image w fs ≡ None) so
     (none_hung c.is_some.result v.image w fs ((c.in_ok-hung.ensures.none w fs here).0 (ap is_some c.in-None.is))) in
     prepares_weaker (RescueBy c.args.held input a None fs) (Rescue c.args.held input) _
-    (λ boot r by. found_gives c.args.held input v.image w fs sound None boot r (same ∙ opened_so input _ _ opened) here marks none (None, tt, by))
-    (c.prepare_found.ensures input (subst (λ (image : List ℕ). IsOpened input image c.args.fault) (sym same) opened) w fs sound here marks None tt)
+    (λ boot r by. found_gives c.args.held input v.image w fs sound None boot r (same ∙ opened_so _ input _ _ opened) here marks none (None, tt, by))
+    (c.prepare_found.ensures input (subst (λ (image : List ℕ). IsOpened (IsFaultOfImage input) input image c.args.fault) (sym same) opened)
+    w fs sound here marks None tt)
 
 pub returns-in_err-found : goal.returns-in_err-found
 returns-in_err-found c = λ input opened. none_prepared (Rescue c.args.held input) c.from_residual.result c.from_residual.ensures.1

@@ -3,7 +3,7 @@ use Rattle.std.proofs.lemmas.Grind.{common_steps}
 use Rattle.adf_file_words.specs.ShelfLine.{ShelfOrder}
 use Rattle.adf_volume.specs.declared.types.Types.TheVariants.{Plain, WithInternational}
 use Rattle.adf_words.specs.CommandLine.{texts_of}
-use Rattle.adf_shelf_cmd.specs.Names.{end_of, types_asked}
+use Rattle.adf_shelf_cmd.specs.Names.{name_end, types_asked}
 use Rattle.adf_shelf_cmd.proofs.NameLists.{asked_in_input, asked_in_words, no_words, unread_in_input, unread_in_words}
 use Rattle.adf_shelf_cmd.proofs.runner.run_order.Goals as goal
 
@@ -12,7 +12,7 @@ returns-then-is_empty-clause-ends g c =
     let order = c.args.order.now in
     let types : types_asked order ≡ c.types_asked-types.result =
     sym (c.types_asked-types.ensures ∙ ap (λ (o : ShelfOrder). if o.any_type then WithInternational else Plain) c.order.view_is) in
-    let end : end_of order.null ≡ c.end_of-input.result = sym (c.end_of-input.ensures ∙ ap (λ (o : ShelfOrder). end_of o.null) c.order.view_is) in
+    let end : name_end order.null ≡ c.name_end-input.result = sym (c.name_end-input.ensures ∙ ap (λ (o : ShelfOrder). name_end o.null) c.order.view_is) in
     let words : c.order.inside.files.items ≡ [] = grind (arith, common_steps) in
     let none : order.files ≡ [] = sym (ap (λ (o : ShelfOrder). o.files) c.order.view_is) ∙ ap texts_of words in
     let names = asked_in_input order.null order.files (g.B.Read.remaining c.args.input.now.text) none in

@@ -14,7 +14,8 @@ pub loop-i-preserved : goal.loop-i-preserved
 loop-i-preserved g c = record {
   works = search rules;
   so_far = λ w fs survey date sound dates marks.
-      let more = pending_more _ _ _ _ _ _ (found_more date (marked sound c.args.end c.args.survey.now.image w) c.args.survey.now.image w c.args.text.items c.loop-i.i)
+      let more = pending_more _ _ _ _ _ _
+      (found_more date (marked sound c.args.end c.args.survey.now.image w) c.args.survey.now.image w c.args.text.items c.loop-i.i)
       (c.loop-i.invariant.so_far w fs survey date sound dates marks) in
       let all = c.len-i-end.ensures w fs survey in
       c.in_ok-tell_found.ensures.ok w fs survey date sound dates marks (omega arith) (omega (arith, all)) _ _ more;
@@ -24,7 +25,8 @@ pub returns-in_err-tell_found-clause-err : goal.returns-in_err-tell_found-clause
 returns-in_err-tell_found-clause-err g c = λ w fs survey date sound dates marks.
     let image = c.args.survey.now.image in
     let all = c.len-i-end.ensures w fs survey in
-    let more = pending_more _ _ _ _ _ _ (found_more date (marked sound c.args.end image w) image w c.args.text.items c.loop-i.i)
+    let more = pending_more _ _ _ _ _ _
+    (found_more date (marked sound c.args.end image w) image w c.args.text.items c.loop-i.i)
     (c.loop-i.invariant.so_far w fs survey date sound dates marks) in
     let front = found_front date (marked sound c.args.end image w) image w c.args.text.items (c.loop-i.i + 1) (heads w) (omega (arith, all)) in
     on_err c.from_residual.result (pending_fails _ _ _ _ _ front.0 _ front.1 more

@@ -2,13 +2,14 @@ use Rattle.std.proofs.Common.{◌≡◌, ◌≢◌, ◌∙◌, ℕ, true, false,
 use Rattle.std.proofs.lemmas.Grind.{common_steps}
 use Rattle.adf_volume.specs.declared.types.Types.{Types}
 use Rattle.adf_findings.specs.SoundMarks.{whole_in}
-use Rattle.adf_rescue.specs.Opened.{is_mended}
+use Rattle.adf_rescue.specs.Opened.{IsOpened, is_mended}
+use Rattle.adf_rescue.proofs.OpenedImages.{mended_so}
 use Rattle.adf_rescue.specs.Rescue.{Basis, StandsNothingBy}
 use Rattle.adf_rescue.proofs.PassedFindings.{unread_fault}
-use Rattle.adf_survey_cmd.specs.Prepared.{IsNoVolume, IsOpened, IsRefusedWith}
+use Rattle.adf_survey_cmd.specs.Prepared.{IsNoVolume, IsRefusedInput, IsRefusedWith}
 use Rattle.adf_survey_cmd.specs.declared.rescuing.Prepared.{Prepared}
 use Rattle.adf_survey_cmd.specs.Rescues.{RescuesBy, rescue_text}
-use Rattle.adf_survey_cmd.proofs.RescueAnswers.{if_some, mended_so, none_fits_it, none_prepared, refusal_prepared, refused_with_prepared}
+use Rattle.adf_survey_cmd.proofs.RescueAnswers.{if_some, none_fits_it, none_prepared, refusal_prepared, refused_with_prepared}
 use Rattle.adf_survey_cmd.proofs.RescueAnswers.{same_lines, volume_prepared}
 use Rattle.adf_survey_cmd.proofs.rescuing.prepare_found.Goals as goal
 
@@ -31,7 +32,8 @@ returns-in_default c = λ input opened w fs sound here marks b second.
     let nothing : w ≡ [] = grind (arith, common_steps) in
     refusal_prepared (RescuesBy c.args.scope.types c.args.scope.held input a b fs) c.args.scope.types input c.refuse_opened.result
     (λ boot reply refuses. inl (nothing, refuses))
-    (c.refuse_opened.ensures input (subst (λ (i : List ℕ). IsOpened c.args.scope.types input i c.args.refusal) (sym c.image.ensures) opened))
+    (c.refuse_opened.ensures input (subst (λ (i : List ℕ). IsOpened (IsRefusedInput c.args.scope.types input) input i c.args.refusal)
+    (sym c.image.ensures) opened))
 
 pub returns-in_err-lines : goal.returns-in_err-lines
 returns-in_err-lines c = λ input opened w fs sound here marks b second.
@@ -54,7 +56,7 @@ returns-then-rescued c = λ input opened w fs sound here marks b second.
     let a : Basis = record { image = c.args.found.now.image; walk = w; sound = sound } in
     let kept = c.in_ok-rescued.ensures in
     let is = c.in-Some.is in
-    let same = c.is_some.ensures ∙ mended_so c.args.scope.types input _ _ opened in
+    let same = c.is_some.ensures ∙ mended_so _ input _ _ opened in
     let read : w ≢ [] = λ none. let clash : true ≡ false = ap is_some (sym is) ∙ (kept.none w fs here).1 none in cc in
     let lines = c.in_ok-lines.ensures w fs here b second
     ∙ same_lines c.args.found.now.image w b _ _ _ _ _ _ _ _ (if_some _ _ _ is (kept.left_out w fs sound here marks b second))
@@ -67,14 +69,15 @@ returns-then-rescued c = λ input opened w fs sound here marks b second.
     c.args.scope.types input c.refuse_with.result
     (λ boot reply refuses. inr (read, inl (stands, refuses)))
     (subst (λ (text : List ℕ). IsRefusedWith text c.args.scope.types input c.refuse_with.result) (c.deref.ensures.value ∙ lines)
-    (c.refuse_with.ensures input (subst (λ (i : List ℕ). IsOpened c.args.scope.types input i c.args.refusal) (sym c.image-then-rescued.ensures) opened)))
+    (c.refuse_with.ensures input (subst (λ (i : List ℕ). IsOpened (IsRefusedInput c.args.scope.types input) input i c.args.refusal)
+    (sym c.image-then-rescued.ensures) opened)))
 
 pub returns : goal.returns
 returns c = λ input opened w fs sound here marks b second.
     let a : Basis = record { image = c.args.found.now.image; walk = w; sound = sound } in
     let kept = c.in_ok-rescued.ensures in
     let is = c.in-Some.is in
-    let same = c.is_some.ensures ∙ mended_so c.args.scope.types input _ _ opened in
+    let same = c.is_some.ensures ∙ mended_so _ input _ _ opened in
     let read : w ≢ [] = λ none. let clash : true ≡ false = ap is_some (sym is) ∙ (kept.none w fs here).1 none in cc in
     let lines = c.in_ok-lines.ensures w fs here b second
     ∙ same_lines c.args.found.now.image w b _ _ _ _ _ _ _ _ (if_some _ _ _ is (kept.left_out w fs sound here marks b second))

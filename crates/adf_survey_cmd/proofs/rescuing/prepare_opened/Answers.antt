@@ -4,11 +4,12 @@ use Rattle.adf_findings.specs.SoundMarks.{whole_in}
 use Rattle.adf_findings.specs.Parts.{finding_value}
 use Rattle.adf_findings.specs.Survey.{FindingValue, IsSurvey}
 use Rattle.adf_rescue.specs.Lost.{has_lost}
-use Rattle.adf_rescue.specs.Opened.{is_mended}
+use Rattle.adf_rescue.specs.Opened.{IsOpened, is_mended}
+use Rattle.adf_rescue.proofs.OpenedImages.{mended_so, opened_so}
 use Rattle.adf_rescue.specs.Rescue.{Basis}
-use Rattle.adf_survey_cmd.specs.Prepared.{IsOpened}
+use Rattle.adf_survey_cmd.specs.Prepared.{IsRefusedInput}
 use Rattle.adf_survey_cmd.specs.Rescues.{Rescues, RescuesBoth, RescuesBy, second_image}
-use Rattle.adf_survey_cmd.proofs.RescueAnswers.{found_answers, if_some, mended_so, none_hung, none_prepared, one_hung, opened_so, prepares_weaker}
+use Rattle.adf_survey_cmd.proofs.RescueAnswers.{found_answers, if_some, none_hung, none_prepared, one_hung, prepares_weaker}
 use Rattle.adf_survey_cmd.proofs.rescuing.prepare_opened.Goals as goal
 
 pub prepare_found-requires : goal.prepare_found-requires
@@ -24,7 +25,7 @@ returns-in-Some c = λ input opened.
     let sound : ℕ → Bool = whole_in v in
     let marks = c.whole_marks.ensures w fs here in
     let a : Basis = record { image = v.image; walk = w; sound = sound } in
-    let so : c.is_some.result ≡ is_mended input = c.is_some.ensures ∙ mended_so c.args.scope.types input _ _ opened in
+    let so : c.is_some.result ≡ is_mended input = c.is_some.ensures ∙ mended_so _ input _ _ opened in
     let is = c.in-Some.is in
     let told = c.in_ok-hung.ensures.none w fs here in
     let lost : has_lost c.is_some.result v.image w fs ≡ true = elim (cases_Bool (has_lost c.is_some.result v.image w fs)) [
@@ -38,8 +39,9 @@ returns-in-Some c = λ input opened.
     prepares_weaker (RescuesBoth c.args.scope.types c.args.scope.held input a (Some c.deref.result.now) fs)
     (Rescues c.args.scope.types c.args.scope.held input) _
     (λ boot reply by. found_answers c.args.scope.types c.args.scope.held input v.image w fs sound (Some c.deref.result.now) boot reply
-    (same ∙ opened_so c.args.scope.types input _ _ opened) here marks second by)
-    (c.prepare_hung.ensures input (subst (λ (image : List ℕ). IsOpened c.args.scope.types input image c.args.refusal) (sym same) opened) w fs sound here marks)
+    (same ∙ opened_so _ input _ _ opened) here marks second by)
+    (c.prepare_hung.ensures input (subst (λ (image : List ℕ). IsOpened (IsRefusedInput c.args.scope.types input) input image c.args.refusal) (sym same) opened)
+    w fs sound here marks)
 
 pub returns : goal.returns
 returns c = λ input opened.
@@ -51,14 +53,14 @@ returns c = λ input opened.
     let sound : ℕ → Bool = whole_in v in
     let marks = c.whole_marks.ensures w fs here in
     let a : Basis = record { image = v.image; walk = w; sound = sound } in
-    let so : c.is_some.result ≡ is_mended input = c.is_some.ensures ∙ mended_so c.args.scope.types input _ _ opened in
+    let so : c.is_some.result ≡ is_mended input = c.is_some.ensures ∙ mended_so _ input _ _ opened in
     let none : second_image (is_mended input) v.image w fs ≡ None =
     subst (λ mended. second_image mended v.image w fs ≡ None) so
     (none_hung c.is_some.result v.image w fs ((c.in_ok-hung.ensures.none w fs here).0 (ap is_some c.in-None.is))) in
     prepares_weaker (RescuesBy c.args.scope.types c.args.scope.held input a None fs) (Rescues c.args.scope.types c.args.scope.held input) _
     (λ boot reply by. found_answers c.args.scope.types c.args.scope.held input v.image w fs sound None boot reply
-    (same ∙ opened_so c.args.scope.types input _ _ opened) here marks none (None, tt, by))
-    (c.prepare_found.ensures input (subst (λ (image : List ℕ). IsOpened c.args.scope.types input image c.args.refusal) (sym same) opened)
+    (same ∙ opened_so _ input _ _ opened) here marks none (None, tt, by))
+    (c.prepare_found.ensures input (subst (λ (image : List ℕ). IsOpened (IsRefusedInput c.args.scope.types input) input image c.args.refusal) (sym same) opened)
     w fs sound here marks None tt)
 
 pub returns-in_err-found : goal.returns-in_err-found

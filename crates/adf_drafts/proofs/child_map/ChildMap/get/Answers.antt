@@ -10,5 +10,5 @@ returns-then-len-bucket c =
 
 pub returns : goal.returns
 returns c =
-    c.number_at.ensures ∙ in_bucket c.args.self.now.buckets.items c.args.parent c.bucket-bucket.result (uppers_by c.args.letters c.args.name.now)
+    c.number_in_bucket.ensures ∙ in_bucket c.args.self.now.buckets.items c.args.parent c.bucket-bucket.result (uppers_by c.args.letters c.args.name.now)
     c.of-key.result c.index.result.now c.of-key.ensures.key c.of-key.ensures.short c.bucket-bucket.ensures.exact (omega arith) c.index.ensures

@@ -1,8 +1,9 @@
 use Rattle.std.proofs.Common.{◌≡◌, ◌∙◌, ap, arith, below_more, false, refl, subst, sym, true}
 use Rattle.adf_blocks.specs.Sizes.{blocks, pages_needed}
+use Rattle.adf_volume.specs.Walk.Role.{Page}
 use Rattle.adf_findings.specs.SurveyResult.{IsOfSurvey, block_at}
 use Rattle.adf_findings.proofs.BitSteps.{has_page}
-use Rattle.adf_findings.proofs.FoundPages.{page_at, page_low}
+use Rattle.adf_findings.proofs.FoundPages.{found_at, page_low}
 use Rattle.adf_findings.proofs.Keeping.{tells_each}
 use Rattle.adf_findings.proofs.Openings.{page_begun}
 use Rattle.adf_findings.proofs.survey_result.Survey.is_page.Goals as goal
@@ -30,7 +31,7 @@ loop-i-preserved c = record {
       let pages = ap (λ v. block_at v.pages i) c.self.view_is ∙ t.page i in
       below_more _ _ (c.loop-i.invariant.none w fs h)
       (λ has.
-      let yes = c.is_at.ensures.1 (c.page_at.ensures ∙ pages ∙ page_at c.args.self.now.image w fs h i c.args.b has) in
+      let yes = c.is_at.ensures.1 (c.page_at.ensures ∙ pages ∙ found_at c.args.self.now.image w fs h (Page i) c.args.b has) in
       let clash : true ≡ false = sym yes ∙ c.if-is_at.false in cc);
 }
 

@@ -2,7 +2,7 @@ use Rattle.std.proofs.Common.{◌∙◌, sym}
 use Rattle.adf_volume.specs.Image.{kind_of}
 use Rattle.adf_memory.specs.FoundFiles.{file_size}
 use Rattle.adf_memory.proofs.FoundBlocks.{none_needed}
-use Rattle.adf_memory.proofs.found_files.file_blocks.Goals as goal
+use Rattle.adf_memory.proofs.found_files.file_block_count.Goals as goal
 
 pub returns-then-size-eq0-clause-count : goal.returns-then-size-eq0-clause-count
 returns-then-size-eq0-clause-count c =
