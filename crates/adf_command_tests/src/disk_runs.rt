@@ -282,6 +282,28 @@ fn disks_are_listed_and_checked(rt: HostRuntime) {
     }
 }
 
+// A disk of 91 blocks whose list begins out of range. Blocks 89 and 90 are the partition block of DH1 again, and the rigid disk
+// block keeps block 90.
+fn disk_with_kept_block(alloc: Global) -> Result<Vec<u8>, AllocError> {
+    let change: Change<'_> = (0, &[(7, 65_536), (32, 90), (33, 90)]);
+    let mut disk = disk(alloc, change)?;
+    disk.extend_from_slice(&[0; 4608])?;
+    let tables = changed(0, &[]);
+    disk.extend_from_slice(&tables[512..1024])?;
+    disk.extend_from_slice(&tables[512..1024])?;
+    Ok(disk)
+}
+
+// Behind block 15 only the blocks that are kept are searched.
+#[test]
+fn kept_blocks_are_searched(rt: HostRuntime) {
+    let disk = disk_with_kept_block(rt.alloc()).expect(&rt, "memory");
+    let lines =
+        "block 0: out of range\n1 DH1: PFS\\x03 first 40 blocks 40 flags 2 priority 3\n2 DH0: ffs first 8 blocks 32 flags 1 priority -5\n3 DH1: PFS\\x03 over partition flags 2 priority 3\n";
+    let wanted = (1, lines.as_bytes(), "");
+    assert!(rt; answers_to(rt.alloc(), &["adf-disk", "survey"], &disk, wanted));
+}
+
 // A command, the blocks of a disk whose DH1 has the cylinders 5 to 12,499, the status, and the lines on output.
 const LONG: &[(&str, usize, u8, &str)] = &[
     (

@@ -3,7 +3,9 @@
 
 use crate::images::{Image, NOT_MOVED, built, with_bytes};
 use adf_file_runs::WithoutFiles;
+use adf_findings::survey;
 use adf_memory::{RescueTold, TableLoss, Verdict, check_image_types, rescue_volume, run_in_memory};
+use adf_rescue::hung_image;
 use std::alloc::Global;
 use std::mem::size_of;
 
@@ -84,6 +86,22 @@ fn damaged_files(rt: HostRuntime) {
     assert!(rt; (answer.loss.why, answer.loss.first, answer.loss.last) == (1, 2, 2));
     assert!(rt; (answer.loss.path, answer.loss.path_length) == (0, 4));
     assert!(rt; answer.path == *b"long\x09\x09\x09\x09");
+}
+
+// Whether an image has findings, and whether it has a hung image.
+fn hangs(alloc: Global, image: &Image) -> Option<(bool, bool)> {
+    let found = survey(alloc, image).ok()?;
+    let hung = hung_image(alloc, &found, false).ok()?;
+    Some((!found.findings().is_empty(), hung.is_some()))
+}
+
+// Where no header is lost there is no hung image, whatever is found.
+#[test]
+fn what_is_not_lost_is_not_hung(rt: HostRuntime) {
+    let sound = built(rt.alloc(), MANIFEST);
+    assert!(rt; hangs(rt.alloc(), &sound) == Some((false, false)));
+    let damaged = with_bytes(&sound, &[(3 * 512 + 40, 0)]);
+    assert!(rt; hangs(rt.alloc(), &damaged) == Some((true, false)));
 }
 
 // Nothing is written into a room that is too small, nor where nothing stands.
