@@ -12,6 +12,7 @@ pub use crate::dates::{NO_STAMP, Stamp};
 pub use crate::hash::{Letters, slot, slot_by, upper, upper_by};
 pub use crate::images::{put_block, seal, set_bytes, set_word};
 pub use crate::puts::{put_bytes, put_word, put_words, put_words_down, seal_block};
+use std::alloc::{AllocError, AllocFailed};
 use std::error::Error;
 use std::fmt;
 
@@ -30,3 +31,15 @@ impl fmt::Display for NoMemory {
 }
 
 impl Error for NoMemory {}
+
+impl From<AllocError> for NoMemory {
+    fn from(_error: AllocError) -> NoMemory {
+        NoMemory
+    }
+}
+
+impl<T: Drop> From<AllocFailed<T>> for NoMemory {
+    fn from(_error: AllocFailed<T>) -> NoMemory {
+        NoMemory
+    }
+}

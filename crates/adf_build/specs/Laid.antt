@@ -5,8 +5,8 @@ use Rattle.std.specs.Prelude.{◌≡◌, ◌≤◌, ℕ, List, [], ◌∷◌, �
 use Rattle.std.specs.List.{range_with_len}
 use Rattle.std.proofs.Common.{suc}
 use Rattle.adf_base.specs.declared.hash.Letters.{Letters}
-use Rattle.adf_base.specs.declared.hash.Letters.TheVariants.{Ascii, International}
 use Rattle.adf_base.specs.Hash.{slot_by}
+use Rattle.adf_names.specs.VolumeTypes.{type_number}
 use Rattle.adf_names.specs.declared.kind.Kind.{Kind}
 use Rattle.adf_names.specs.declared.kind.Kind.TheVariants.{Ofs, Ffs}
 use Rattle.adf_tree.specs.declared.entry.Body.{Body}
@@ -155,10 +155,7 @@ map_ext_writes n = map (map_ext_part n) (range_with_len 0 (map_exts_needed (page
 
 -- the boot block starts with `DOS` and the type: 0 for OFS, 1 for FFS, and 2 more where names have international letters
 abbrev pub boot_bytes_by : Letters → Kind → List ℕ
-boot_bytes_by Ascii Ofs = 0x44 ∷ 0x4F ∷ 0x53 ∷ 0 ∷ []
-boot_bytes_by Ascii Ffs = 0x44 ∷ 0x4F ∷ 0x53 ∷ 1 ∷ []
-boot_bytes_by International Ofs = 0x44 ∷ 0x4F ∷ 0x53 ∷ 2 ∷ []
-boot_bytes_by International Ffs = 0x44 ∷ 0x4F ∷ 0x53 ∷ 3 ∷ []
+boot_bytes_by letters kind = 0x44 ∷ 0x4F ∷ 0x53 ∷ type_number letters kind ∷ []
 
 -- the fields of the root: it points to its first headers, to ROOT_PAGES pages and to the first bitmap extension block
 abbrev pub planned_root : Tree → ℕ → RootFields

@@ -17,6 +17,7 @@ use crate::pages::write_pages;
 use crate::plan::Plan;
 use adf_base::{Letters, put_block, put_bytes};
 use adf_blocks::{ROOT_PAGES, RootOut, SLOTS, write_root};
+use adf_names::type_number;
 use adf_tree::{Kind, Tree};
 
 // The 512 bytes of block 0.
@@ -24,12 +25,7 @@ fn boot_block(letters: Letters, kind: Kind) -> [u8; 512]
     ensures { result ≡ block_of_fields ((0, boot_bytes_by letters kind) ∷ []) }
 {
     let mut block = [0u8; 512];
-    match (letters, kind) {
-        (Letters::Ascii, Kind::Ofs) => put_bytes(&mut block, 0, b"DOS\0"),
-        (Letters::Ascii, Kind::Ffs) => put_bytes(&mut block, 0, b"DOS\x01"),
-        (Letters::International, Kind::Ofs) => put_bytes(&mut block, 0, b"DOS\x02"),
-        (Letters::International, Kind::Ffs) => put_bytes(&mut block, 0, b"DOS\x03"),
-    }
+    put_bytes(&mut block, 0, &[b'D', b'O', b'S', type_number(letters, kind)]);
     block
 }
 

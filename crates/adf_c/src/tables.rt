@@ -3,6 +3,7 @@
 ghost use Rattle.std.specs.Prelude.{◌≡◌, ◌<◌, ◌+◌, ◌≤◌, ◌↔◌, ◌⊎◌, ℕ, List, [], Some, None, length, min, take, drop};
 ghost use Rattle.adf_base.specs.declared.hash.Letters.{Letters};
 ghost use Rattle.adf_names.specs.PathTexts.{IsPathText};
+ghost use Rattle.adf_names.specs.VolumeTypes.{letters_of_type};
 ghost use Rattle.adf_tree.specs.Tree.{Tree, find, find_by};
 ghost use Rattle.adf_volume.specs.Fits.{Fits, FitsBy};
 ghost use Rattle.adf_volume.specs.Image.{letters_of};
@@ -11,7 +12,7 @@ ghost use Rattle.adf_volume.specs.Start.{IsBegun, IsBegunBy};
 ghost use Rattle.adf_memory.specs.Areas.{node_from};
 ghost use Rattle.adf_memory.specs.Rooms.{filled};
 ghost use Rattle.adf_memory.specs.Tables.{IsTableOf, IsTableOfBy, block_table, bytes_at, contents_of, entry_table, refused_at};
-ghost use Rattle.adf_memory.specs.Verdicts.{IsFirstCause, IsFirstCauseBy, IsVerdictNumber, OnFault, WantsMemory, letters_of_code};
+ghost use Rattle.adf_memory.specs.Verdicts.{IsFirstCause, IsFirstCauseBy, IsVerdictNumber, OnFault, WantsMemory};
 
 use adf_memory::{
     Contents, TableEntry, find_entry, find_entry_types, put_index, put_index_types, read_bytes,
@@ -79,7 +80,7 @@ pub extern "C" fn adf_index_types(
         → contents.new ≡ contents_of image.now t l }
 
     // The kind tells the letters, by which `adf_find_types` looks up.
-    ensures letters { result ≡ 0 → letters_of_code contents.new.kind ≡ letters_of image.now }
+    ensures letters { result ≡ 0 → letters_of_type contents.new.kind ≡ letters_of image.now }
 
     // Entries and data blocks together are fewer than the blocks in use, which are fewer than all blocks.
     ensures few { result ≡ 0 → contents.new.entries + contents.new.data_blocks < contents.new.used }
@@ -144,11 +145,11 @@ pub extern "C" fn adf_find_types(
 
     // In the table of a volume it is the node that the path leads to.
     ensures found { result ≡ 0 → (t : Tree) (names : List (List ℕ))
-        → IsTableOfBy (letters_of_code kind) entries.now t → IsPathText path.now names
-        → find_by (letters_of_code kind) t.entries names ≡ Some node.new }
+        → IsTableOfBy (letters_of_type kind) entries.now t → IsPathText path.now names
+        → find_by (letters_of_type kind) t.entries names ≡ Some node.new }
     ensures none { result ≡ 1 → (t : Tree) (names : List (List ℕ))
-        → IsTableOfBy (letters_of_code kind) entries.now t → IsPathText path.now names
-        → find_by (letters_of_code kind) t.entries names ≡ None }
+        → IsTableOfBy (letters_of_type kind) entries.now t → IsPathText path.now names
+        → find_by (letters_of_type kind) t.entries names ≡ None }
     ensures bad_path { (result ≡ 2) ↔ ((names : List (List ℕ)) → ¬ IsPathText path.now names) }
 
     // The empty path, which is that of the root, takes no memory.

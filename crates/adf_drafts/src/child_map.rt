@@ -93,9 +93,7 @@ impl ChildMap {
     {
         let alloc = *self.buckets.allocator();
         while self.buckets.len() < BUCKETS as usize {
-            if self.buckets.push(BTreeMap::new(alloc)).is_err() {
-                return Err(NoMemory);
-            }
+            self.buckets.push(BTreeMap::new(alloc))?;
         }
         Ok(())
     }
@@ -116,9 +114,7 @@ impl ChildMap {
     {
         self.make_buckets()?;
         let key = ChildKey::of(letters, parent, name);
-        match self.buckets[key.bucket()].insert(key, number.0) {
-            Ok(_) => Ok(()),
-            Err(_) => Err(NoMemory),
-        }
+        self.buckets[key.bucket()].insert(key, number.0)?;
+        Ok(())
     }
 }

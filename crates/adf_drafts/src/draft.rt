@@ -109,9 +109,7 @@ fn add_child(
         → number_in children.new.buckets.items p x ≡ number_in children.old.buckets.items p x) }
 {
     let parent = entry.parent;
-    if entries.push(entry).is_err() {
-        return Err(NoMemory);
-    }
+    entries.push(entry)?;
     let number = entries.len();
     let name = &entries[number - 1].name;
     if children.put(letters, parent, name, Node(number)).is_err() {

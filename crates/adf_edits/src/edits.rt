@@ -234,10 +234,7 @@ fn sort_in(
     } else {
         rest.push(item)
     };
-    match pushed {
-        Ok(()) => Ok(()),
-        Err(_) => Err(NoMemory),
-    }
+    Ok(pushed?)
 }
 
 // What neither has the path nor is in the directory that has it, and what has it or is there.
@@ -267,9 +264,7 @@ fn push_moved(
 {
     for item in within {
         let moved = rebased(alloc, item, from, to)?;
-        if items.push(moved).is_err() {
-            return Err(NoMemory);
-        }
+        items.push(moved)?;
     }
     Ok(())
 }
@@ -400,9 +395,7 @@ fn new_file(alloc: Global, path: Vec<Name>, size: u32, given: &[u8]) -> Result<I
 {
     let len = given.len().min(size as usize);
     let mut bytes = Vec::new(alloc);
-    if bytes.extend_from_slice(&given[..len]).is_err() {
-        return Err(NoMemory);
-    }
+    bytes.extend_from_slice(&given[..len])?;
     Ok(new_item(path, Body::File(Bytes::new(bytes))))
 }
 

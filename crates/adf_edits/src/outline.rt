@@ -76,9 +76,7 @@ fn copy_body(alloc: Global, body: &Body) -> Result<Body, NoMemory>
         Body::Dir => Ok(Body::Dir),
         Body::File(bytes) => {
             let mut copied = Vec::new(alloc);
-            if copied.extend_from_slice(bytes.bytes()).is_err() {
-                return Err(NoMemory);
-            }
+            copied.extend_from_slice(bytes.bytes())?;
             Ok(Body::File(Bytes::new(copied)))
         }
     }
@@ -106,9 +104,7 @@ fn path_for(alloc: Global, items: &[Item], entry: &Entry) -> Result<Vec<Name>, N
         let parent = &items[entry.parent.0 - 1];
         push_names(&mut path, &parent.path)?;
     }
-    if path.push(entry.name.copy()).is_err() {
-        return Err(NoMemory);
-    }
+    path.push(entry.name.copy())?;
     Ok(path)
 }
 

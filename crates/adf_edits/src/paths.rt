@@ -52,9 +52,7 @@ pub fn push_names(path: &mut Vec<Name>, names: &[Name]) -> Result<(), NoMemory>
     ensures { OnOk result (path.new.items ≡ path.old.items ++ names.now) }
 {
     for name in names {
-        if path.push(name.copy()).is_err() {
-            return Err(NoMemory);
-        }
+        path.push(name.copy())?;
     }
     Ok(())
 }

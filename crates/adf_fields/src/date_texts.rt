@@ -60,13 +60,8 @@ pub fn stamp_text(s: Stamp, out: &mut String) -> Result<(), NoMemory>
     ensures err { OnErr result (string_bytes out.new ≡ string_bytes out.old) }
 {
     let alloc = *out.allocator();
-    let Ok(text) = text_of(alloc, s) else {
-        return Err(NoMemory);
-    };
-    match out.push_str(text.as_str()) {
-        Ok(()) => Ok(()),
-        Err(_) => Err(NoMemory),
-    }
+    let text = text_of(alloc, s)?;
+    Ok(out.push_str(text.as_str())?)
 }
 
 // The first digit of a number below 100.

@@ -99,7 +99,7 @@ module _ (image : List ℕ) where
   by_letters : {fs : List FindingValue} → BootTells image fs → BootReads image (letters_of image) (passed WithInternational image) fs
   by_letters {fs} (clean_boot h) =
       subst (λ l. BootReads image l (passed WithInternational image) []) (sym (plain_letters image h))
-      (inl (sym (ap (passed_of WithInternational) (none_first h)), h))
+      (inl (sym (ap passed_of (none_first h)), h))
   by_letters (other_type {at = at} {c = c} h e) =
       let x = other at c h e in
       subst (λ l. BootReads image l (passed WithInternational image) (finding None at c ∷ [])) (sym (other_letters x.1)) (read x.0 (first_is at c h))
@@ -107,16 +107,16 @@ module _ (image : List ℕ) where
       read : Other at c → (first_cause (start_form image) ≡ Some c) × (at ≡ 0)
           → BootReads image InternationalLetters (passed WithInternational image) (finding None at c ∷ [])
       read (inl (is, holds)) first =
-          inl ((λ i. finding None (first.1 i) (is i) ∷ []) ∙ sym (ap (passed_of WithInternational) (first.0 ∙ ap Some is)), holds)
+          inl ((λ i. finding None (first.1 i) (is i) ∷ []) ∙ sym (ap passed_of (first.0 ∙ ap Some is)), holds)
       read (inr (is, fails)) first =
-          let none : passed WithInternational image ≡ [] = ap (passed_of WithInternational) (first.0 ∙ ap Some is) in
+          let none : passed WithInternational image ≡ [] = ap passed_of (first.0 ∙ ap Some is) in
           inr (finding None at c, ap (λ l. l ++ finding None at c ∷ []) (sym none), fails)
 
   by_letters_bad : {at : ℕ} {c : Cause} → FirstFails (boot_demands image) at c → is_other_type c ≡ false
       → (passed WithInternational image ≡ []) × FirstFails (boot_demands_by (letters_of image) image) at c
-  by_letters_bad {at = at} {c = c} h e = (ap (passed_of WithInternational) (first_is at c h).0 ∙ none c e, same h)
+  by_letters_bad {at = at} {c = c} h e = (ap passed_of (first_is at c h).0 ∙ none c e, same h)
     where
-      none : (c : Cause) → is_other_type c ≡ false → passed_of WithInternational (Some c) ≡ []
+      none : (c : Cause) → is_other_type c ≡ false → passed_of (Some c) ≡ []
       none International e = cc
       none _ e = refl
 

@@ -13,17 +13,12 @@ abbrev pub is_international : Cause → Bool
 is_international International = true
 is_international _ = false
 
--- whether the cause of a boot block is no fault where these types are accepted
-abbrev pub is_passed : Types → Cause → Bool
-is_passed Plain c = false
-is_passed WithInternational c = is_international c
-
--- of the cause of a boot block, the finding if it is no fault
-abbrev pub passed_of : Types → Option Cause → List FindingValue
-passed_of types None = []
-passed_of types (Some c) = cond (is_passed types c) (finding None 0 c ∷ []) []
+-- of the cause of a boot block, the finding if it is that of international letters
+abbrev pub passed_of : Option Cause → List FindingValue
+passed_of None = []
+passed_of (Some c) = cond (is_international c) (finding None 0 c ∷ []) []
 
 -- the findings of an image that are no fault where these types are accepted: one of types 2 and 3, that of its boot block
 abbrev pub passed : Types → List ℕ → List FindingValue
 passed Plain image = []
-passed WithInternational image = passed_of WithInternational (first_cause (start_form image))
+passed WithInternational image = passed_of (first_cause (start_form image))

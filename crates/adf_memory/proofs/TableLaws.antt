@@ -25,7 +25,7 @@ use Rattle.adf_memory.specs.declared.tables.Contents.{Contents}
 use Rattle.adf_memory.specs.declared.tables.TableEntry.{TableEntry}
 use Rattle.adf_memory.specs.Rooms.{filled}
 use Rattle.adf_memory.specs.Tables.{all_datas, block_table, contents_of, entry_table, table_entry, table_entries}
-use Rattle.adf_memory.specs.Verdicts.{kind_code_by, letters_of_code}
+use Rattle.adf_names.specs.VolumeTypes.{letters_of_type, type_number}
 use Rattle.adf_memory.proofs.Filled.{take_zero}
 
 -- the first i + 1 are the first i and the one at place i
@@ -200,7 +200,7 @@ contents_small image t l x fits is =
     subst (λ (y : Contents). y.entries + y.data_blocks < y.used) (sym is) (omega (arith, tables_small image l, fits.places))
 
 -- a type tells its letters
-letters_coded : (letters : Letters) (kind : Kind) → letters_of_code (kind_code_by letters kind) ≡ letters
+letters_coded : (letters : Letters) (kind : Kind) → letters_of_type (type_number letters kind) ≡ letters
 letters_coded Ascii Ofs = refl
 letters_coded Ascii Ffs = refl
 letters_coded International Ofs = refl
@@ -208,6 +208,6 @@ letters_coded International Ffs = refl
 
 -- the type that is told of a volume has the letters of its image
 pub letters_told : {ls : Letters} (image : List ℕ) (t : Tree) (l : Layout) (x : Contents) → FitsBy ls image t l → x ≡ contents_of image t l
-    → letters_of_code x.kind ≡ letters_of image
+    → letters_of_type x.kind ≡ letters_of image
 letters_told {ls} image t l x fits is =
-    ap (λ (y : Contents). letters_of_code y.kind) is ∙ letters_coded t.letters t.kind ∙ fits.letters ∙ sym (own_letters ls image fits.boots)
+    ap (λ (y : Contents). letters_of_type y.kind) is ∙ letters_coded t.letters t.kind ∙ fits.letters ∙ sym (own_letters ls image fits.boots)

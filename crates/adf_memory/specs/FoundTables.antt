@@ -9,6 +9,8 @@ use Rattle.adf_blocks.specs.declared.head.HeadBody.TheVariants.{Dir, File}
 use Rattle.adf_blocks.specs.HeadBlock.{body_at, meta_stated}
 use Rattle.adf_names.specs.declared.meta.Meta.{Meta}
 use Rattle.adf_volume.specs.Image.{name_of}
+use Rattle.adf_base.specs.declared.hash.Letters.TheVariants.{Ascii}
+use Rattle.adf_names.specs.VolumeTypes.{type_number}
 use Rattle.adf_volume.specs.Walk.{heads, node_block, Walk}
 use Rattle.adf_findings.specs.declared.concern.Concern.{Concern}
 use Rattle.adf_findings.specs.declared.concern.Concern.TheVariants.{Entry, Within}
@@ -22,7 +24,6 @@ use Rattle.adf_memory.specs.declared.found_tables.FoundEntry.{FoundEntry}
 use Rattle.adf_memory.specs.declared.found_tables.Surveyed.{Surveyed}
 use Rattle.adf_memory.specs.declared.found_tables.TableFinding.{TableFinding}
 use Rattle.adf_memory.specs.Tables.{date_of, field}
-use Rattle.adf_memory.specs.Verdicts.{kind_code}
 
 -- the number of the entry or directory that is concerned; 0 for none
 abbrev pub concern_node : Option Concern → ℕ
@@ -117,7 +118,7 @@ unread k = record {
 -- and if it is taken: what the boot bytes and the root tell, and the number of entries
 abbrev pub read : Opening → ℕ → ℕ → Surveyed
 read o k n = record {
-  kind = kind_code o.kind;
+  kind = type_number Ascii o.kind;
   blocks = o.blocks;
   findings = k;
   entries = n;

@@ -5,6 +5,7 @@ use Rattle.std.specs.Prelude.{◌≡◌, ℕ, List, [], ◌∷◌, ◌++◌, ◌
 use Rattle.adf_base.specs.declared.dates.Stamp.{Stamp}
 use Rattle.adf_base.specs.declared.hash.Letters.{Letters}
 use Rattle.adf_base.specs.declared.hash.Letters.TheVariants.{Ascii}
+use Rattle.adf_names.specs.VolumeTypes.{type_number}
 use Rattle.adf_tree.specs.declared.entry.Body.{Body}
 use Rattle.adf_tree.specs.declared.entry.Body.TheVariants.{Dir, File}
 use Rattle.adf_tree.specs.declared.entry.Entry.{Entry}
@@ -16,7 +17,6 @@ use Rattle.adf_memory.specs.declared.tables.Contents.{Contents}
 use Rattle.adf_memory.specs.declared.tables.Date.{Date}
 use Rattle.adf_memory.specs.declared.tables.TableEntry.{TableEntry}
 use Rattle.adf_memory.specs.Rooms.{filled}
-use Rattle.adf_memory.specs.Verdicts.{kind_code_by}
 
 -- a text in a field of so many bytes, with zeros behind it
 abbrev pub field : ℕ → List ℕ → List ℕ
@@ -82,7 +82,7 @@ block_table l = all_datas l.places
 -- what is told of an accepted image beside the tables
 abbrev pub contents_of : List ℕ → Tree → Layout → Contents
 contents_of image t l = record {
-  kind = kind_code_by t.letters t.kind;
+  kind = type_number t.letters t.kind;
   blocks = blocks image;
   used = length (owned image l);
   free = blocks image - 2 - length (owned image l);

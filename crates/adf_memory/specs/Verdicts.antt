@@ -1,9 +1,8 @@
 -- The verdict on an image.
-use Rattle.std.specs.Prelude.{◌≡◌, ◌⊎◌, ◌+◌, ℕ, List, cond, nat_lt}
+use Rattle.std.specs.Prelude.{◌≡◌, ◌⊎◌, ℕ, List}
 use Rattle.adf_base.specs.declared.hash.Letters.{Letters}
-use Rattle.adf_base.specs.declared.hash.Letters.TheVariants.{Ascii, International}
-use Rattle.adf_names.specs.declared.kind.Kind.{Kind}
-use Rattle.adf_names.specs.declared.kind.Kind.TheVariants.{Ofs, Ffs}
+use Rattle.adf_base.specs.declared.hash.Letters.TheVariants.{Ascii}
+use Rattle.adf_names.specs.VolumeTypes.{type_number}
 use Rattle.adf_blocks.specs.Causes.{cause_number}
 use Rattle.adf_blocks.specs.declared.cause.Cause.{Cause}
 use Rattle.adf_blocks.specs.declared.cause.Cause.TheVariants.{NoMemory}
@@ -11,24 +10,10 @@ use Rattle.adf_volume.specs.Walk.{FirstFaultBy}
 use Rattle.adf_volume.specs.declared.counts.Counts.{Counts}
 use Rattle.adf_memory.specs.declared.verdict.Verdict.{Verdict}
 
--- 0 for OFS, 1 for FFS
-abbrev pub kind_code : Kind → ℕ
-kind_code Ofs = 0
-kind_code Ffs = 1
-
--- the same, and 2 more where the letters are international: the type of the volume
-abbrev pub kind_code_by : Letters → Kind → ℕ
-kind_code_by Ascii kind = kind_code kind
-kind_code_by International kind = kind_code kind + 2
-
--- the letters of the names in a volume of this type: of 0 and 1 ASCII
-abbrev pub letters_of_code : ℕ → Letters
-letters_of_code code = cond (nat_lt code 2) Ascii International
-
 -- an accepted image with these letters: its numbers, and no block of a fault
 abbrev pub accepted_by : Letters → Counts → Verdict
 accepted_by letters c = record {
-  kind = kind_code_by letters c.kind;
+  kind = type_number letters c.kind;
   blocks = c.blocks;
   used = c.used;
   free = c.free;

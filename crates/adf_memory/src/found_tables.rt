@@ -10,9 +10,10 @@ ghost use Rattle.adf_memory.specs.FoundTables.{owner_number, surveyed_of, unread
 ghost use Rattle.adf_memory.specs.Rooms.{filled};
 
 use crate::tables::{Date, date_of, field, put};
-use crate::verdict::kind_code;
+use adf_base::Letters;
 use adf_blocks::HeadBody;
 use adf_findings::{Concern, Survey, some_survey};
+use adf_names::type_number;
 use adf_survey_cmd::{Run, run_from};
 use adf_tree::{Meta, Node};
 
@@ -257,7 +258,7 @@ pub fn surveyed_of(survey: &Survey<'_>, findings: usize) -> Surveyed
     };
     let label = opening.label.bytes();
     Surveyed {
-        kind: kind_code(opening.kind),
+        kind: u32::from(type_number(Letters::Ascii, opening.kind)),
         blocks: opening.blocks,
         findings,
         entries: survey.len(),

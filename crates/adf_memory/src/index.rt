@@ -2,6 +2,7 @@
 
 ghost use Rattle.std.specs.Prelude.{◌≡◌, ◌<◌, ◌+◌};
 ghost use Rattle.adf_base.specs.declared.hash.Letters.{Letters};
+ghost use Rattle.adf_names.specs.VolumeTypes.{letters_of_type};
 ghost use Rattle.adf_tree.specs.Tree.{Tree};
 ghost use Rattle.adf_volume.specs.Fits.{Fits, FitsBy};
 ghost use Rattle.adf_volume.specs.Image.{letters_of};
@@ -10,7 +11,7 @@ ghost use Rattle.adf_volume.specs.Start.{IsBegun, IsBegunBy};
 ghost use Rattle.adf_check.specs.Volumes.{StandsForBy};
 ghost use Rattle.adf_memory.specs.Rooms.{filled};
 ghost use Rattle.adf_memory.specs.Tables.{block_table, contents_of, entry_table, refused_at};
-ghost use Rattle.adf_memory.specs.Verdicts.{IsFirstCause, IsFirstCauseBy, IsVerdictNumber, OnFault, WantsMemory, letters_of_code};
+ghost use Rattle.adf_memory.specs.Verdicts.{IsFirstCause, IsFirstCauseBy, IsVerdictNumber, OnFault, WantsMemory};
 
 use crate::tables::{Contents, TableEntry, contents_of, put_tables, refused_at};
 use adf_check::{Checked, check, check_types};
@@ -34,7 +35,7 @@ fn put_volume(
         → contents.new ≡ contents_of volume.now.image t l }
     ensures few { contents.new.entries + contents.new.data_blocks < contents.new.used }
     ensures used { contents.new.used < contents.new.blocks }
-    ensures letters { letters_of_code contents.new.kind ≡ letters_of volume.now.image }
+    ensures letters { letters_of_type contents.new.kind ≡ letters_of volume.now.image }
 {
     let counts = volume.counts();
     let data_blocks = put_tables(volume, entries, blocks);
@@ -109,7 +110,7 @@ pub fn put_index_types(
         → contents.new ≡ contents_of image.now t l }
 
     // The kind tells the letters, by which `find_entry_types` looks up.
-    ensures letters { result ≡ 0 → letters_of_code contents.new.kind ≡ letters_of image.now }
+    ensures letters { result ≡ 0 → letters_of_type contents.new.kind ≡ letters_of image.now }
 
     // Entries and data blocks together are fewer than the blocks in use, which are fewer than all blocks.
     ensures few { result ≡ 0 → contents.new.entries + contents.new.data_blocks < contents.new.used }

@@ -4,16 +4,17 @@ ghost use Rattle.std.specs.Prelude.{◌≡◌, ◌≤◌, ◌<◌, ◌↔◌, �
 ghost use Rattle.std.specs.List.Sorted.{IsNonDecreasingBy};
 ghost use Rattle.adf_tree.specs.declared.entry.Entry.{Entry};
 ghost use Rattle.adf_names.specs.PathTexts.{IsPathText};
+ghost use Rattle.adf_names.specs.VolumeTypes.{letters_of_type};
 ghost use Rattle.adf_tree.specs.Tree.{Tree, child_by, find, find_by, rank_of};
 ghost use Rattle.adf_blocks.specs.declared.layout.TheConstants.{SLOTS};
 ghost use Rattle.adf_memory.specs.Tables.{IsTableOf, IsTableOfBy};
 ghost use Rattle.adf_memory.specs.TableNames.{HasNamesOfBy, IsEndBy, IsStartBy, is_child_in_by, name_in, rank_in_by};
-ghost use Rattle.adf_memory.specs.Verdicts.{WantsMemory, letters_of_code};
+ghost use Rattle.adf_memory.specs.Verdicts.{WantsMemory};
 
 use crate::tables::TableEntry;
-use crate::verdict::letters_of_code;
 use adf_base::{Letters, slot_by};
 use adf_blocks::Cause;
+use adf_names::letters_of_type;
 use adf_tree::{Name, PathFault, read_path};
 use std::alloc::Global;
 
@@ -177,15 +178,15 @@ pub fn find_entry_types(
 
     // In the table of a volume it is the node that the path leads to.
     ensures found { result ≡ 0 → (t : Tree) (names : List (List ℕ))
-        → IsTableOfBy (letters_of_code kind) entries.now t → IsPathText path.now names
-        → find_by (letters_of_code kind) t.entries names ≡ Some node.new }
+        → IsTableOfBy (letters_of_type kind) entries.now t → IsPathText path.now names
+        → find_by (letters_of_type kind) t.entries names ≡ Some node.new }
     ensures none { result ≡ 1 → (t : Tree) (names : List (List ℕ))
-        → IsTableOfBy (letters_of_code kind) entries.now t → IsPathText path.now names
-        → find_by (letters_of_code kind) t.entries names ≡ None }
+        → IsTableOfBy (letters_of_type kind) entries.now t → IsPathText path.now names
+        → find_by (letters_of_type kind) t.entries names ≡ None }
     ensures bad_path { (result ≡ 2) ↔ ((names : List (List ℕ)) → ¬ IsPathText path.now names) }
 
     // The empty path, which is that of the root, takes no memory.
     ensures empty { path.now ≡ [] → ¬ WantsMemory result }
 {
-    find_entry_by(alloc, letters_of_code(kind), entries, path, node)
+    find_entry_by(alloc, letters_of_type(kind), entries, path, node)
 }

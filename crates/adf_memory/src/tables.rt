@@ -14,9 +14,9 @@ ghost use Rattle.adf_memory.specs.Rooms.{filled};
 ghost use Rattle.adf_memory.specs.Tables.{block_table, bytes_of_body, contents_of, date_of, entry_table, field};
 ghost use Rattle.adf_memory.specs.Tables.{file_number, refused_at, table_entry};
 
-use crate::verdict::kind_code_by;
 use adf_base::Stamp;
 use adf_check::{Checked, Counts, Row, RowBody};
+use adf_names::type_number;
 use adf_tree::Node;
 
 /// A date of the file system.
@@ -220,7 +220,7 @@ pub fn contents_of(volume: &Checked<'_>, counts: &Counts, data_blocks: usize) ->
     let label = volume.label().bytes();
     let stamps = volume.stamps();
     Contents {
-        kind: kind_code_by(volume.letters(), counts.kind),
+        kind: u32::from(type_number(volume.letters(), counts.kind)),
         blocks: counts.blocks,
         used: counts.used,
         free: counts.free,

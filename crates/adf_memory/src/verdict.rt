@@ -8,11 +8,11 @@ ghost use Rattle.adf_volume.specs.Layout.{Layout};
 ghost use Rattle.adf_volume.specs.Start.{IsBegun, IsBegunBy};
 ghost use Rattle.adf_volume.specs.Counts.{counts_of};
 ghost use Rattle.adf_memory.specs.Verdicts.{IsFirstCause, IsFirstCauseBy, IsVerdictNumber, OnFault, WantsMemory};
-ghost use Rattle.adf_memory.specs.Verdicts.{accepted, accepted_by, kind_code, kind_code_by, letters_of_code, refused};
+ghost use Rattle.adf_memory.specs.Verdicts.{accepted, accepted_by, refused};
 
 use adf_base::Letters;
 use adf_check::{Counts, check, check_types};
-use adf_tree::Kind;
+use adf_names::type_number;
 use adf_volume::Types;
 use std::alloc::Global;
 
@@ -35,43 +35,12 @@ pub struct Verdict {
     pub block: u32,
 }
 
-/// 0 for OFS, 1 for FFS.
-pub fn kind_code(kind: Kind) -> u32
-    ensures { result ≡ kind_code kind }
-{
-    match kind {
-        Kind::Ofs => 0,
-        Kind::Ffs => 1,
-    }
-}
-
-/// The type of a volume: the number of its kind, and 2 more where its letters are international.
-pub fn kind_code_by(letters: Letters, kind: Kind) -> u32
-    ensures { result ≡ kind_code_by letters kind }
-{
-    match letters {
-        Letters::Ascii => kind_code(kind),
-        Letters::International => kind_code(kind) + 2,
-    }
-}
-
-/// The letters of the names in a volume of this type: of 0 and 1 ASCII.
-pub fn letters_of_code(code: u32) -> Letters
-    ensures { result ≡ letters_of_code code }
-{
-    if code < 2 {
-        Letters::Ascii
-    } else {
-        Letters::International
-    }
-}
-
 // The verdict on an accepted image with these letters.
 fn accepted_by(letters: Letters, counts: &Counts) -> Verdict
     ensures { result ≡ accepted_by letters counts.now }
 {
     Verdict {
-        kind: kind_code_by(letters, counts.kind),
+        kind: u32::from(type_number(letters, counts.kind)),
         blocks: counts.blocks,
         used: counts.used,
         free: counts.free,

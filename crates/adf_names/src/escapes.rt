@@ -104,9 +104,7 @@ pub fn append_escaped(out: &mut String, bytes: &[u8]) -> Result<(), NoMemory>
     ensures err { OnErr result (string_bytes out.new ≡ string_bytes out.old) }
 {
     let mut text = String::new(*out.allocator());
-    if push_escaped(&mut text, bytes).is_err() {
-        return Err(NoMemory);
-    }
+    push_escaped(&mut text, bytes)?;
     out.push_str(text.as_str()).map_err(|_| NoMemory)
 }
 

@@ -2,11 +2,34 @@
 
 ghost use Rattle.std.specs.Prelude.{◌≡◌, ℕ, List, Some};
 ghost use Rattle.adf_base.specs.declared.hash.Letters.{Letters};
-ghost use Rattle.adf_names.specs.VolumeTypes.{kind_named_by, kind_text_by};
+ghost use Rattle.adf_names.specs.VolumeTypes.{kind_named_by, kind_text_by, letters_of_type, type_number};
 ghost use Rattle.adf_names.specs.declared.kind.Kind.{Kind};
 
 use crate::kind::Kind;
 use adf_base::Letters;
+
+/// The type of a volume, 0 to 3: the byte behind `DOS` at its start.
+pub fn type_number(letters: Letters, kind: Kind) -> u8
+    ensures { result ≡ type_number letters kind }
+{
+    match (letters, kind) {
+        (Letters::Ascii, Kind::Ofs) => 0,
+        (Letters::Ascii, Kind::Ffs) => 1,
+        (Letters::International, Kind::Ofs) => 2,
+        (Letters::International, Kind::Ffs) => 3,
+    }
+}
+
+/// The letters of the names in a volume of this type, 0 to 3.
+pub fn letters_of_type(number: u32) -> Letters
+    ensures { result ≡ letters_of_type number }
+{
+    if number < 2 {
+        Letters::Ascii
+    } else {
+        Letters::International
+    }
+}
 
 /// `ofs` or `ffs`, and `-international` behind it where names have such letters.
 pub fn kind_text_by(letters: Letters, kind: Kind) -> &'static str

@@ -3,10 +3,9 @@ use Rattle.std.specs.Prelude.{◌≡◌, ◌≤◌, ◌<◌, ◌+◌, ◌*◌, �
 use Rattle.std.specs.Int.{w8}
 use Rattle.std.specs.List.{list_all}
 use Rattle.adf_base.specs.declared.hash.Letters.{Letters}
-use Rattle.adf_base.specs.declared.hash.Letters.TheVariants.{Ascii, International}
 use Rattle.adf_names.specs.Texts.{is_name_byte}
+use Rattle.adf_names.specs.VolumeTypes.{type_number}
 use Rattle.adf_names.specs.declared.kind.Kind.{Kind}
-use Rattle.adf_names.specs.declared.kind.Kind.TheVariants.{Ofs, Ffs}
 use Rattle.adf_partitions.specs.Places.{blocks_from, end_of}
 use Rattle.adf_partitions.specs.declared.layout.TheConstants.{BOOTABLE, MOST_PARTITIONS}
 use Rattle.adf_partitions.specs.declared.partition.Partition.{Partition}
@@ -25,10 +24,7 @@ plan_value plan = record { sectors = plan.sectors; heads = plan.heads; partition
 
 -- the type of a file system: `DOS\0` or `DOS\1`, and `DOS\2` or `DOS\3` where names have international letters
 abbrev pub planned_type : Letters → Kind → ℕ
-planned_type Ascii Ofs = 0x444F5300
-planned_type Ascii Ffs = 0x444F5301
-planned_type International Ofs = 0x444F5302
-planned_type International Ffs = 0x444F5303
+planned_type letters kind = 0x444F5300 + type_number letters kind
 
 -- the flags of a partition
 abbrev pub planned_flags : PartitionPlan → ℕ

@@ -6,7 +6,7 @@ ghost use Rattle.adf_partitions.specs.Plans.{IsPlan, cylinder_blocks, planned_cy
 use crate::layout::BOOTABLE;
 use crate::partition::DriveName;
 use adf_base::Letters;
-use adf_names::Kind;
+use adf_names::{Kind, type_number};
 
 /// A partition to be made.
 #[derive(Drop)]
@@ -35,12 +35,7 @@ pub struct DiskPlan {
 pub fn planned_type(letters: Letters, kind: Kind) -> u32
     ensures { result ≡ planned_type letters kind }
 {
-    match (letters, kind) {
-        (Letters::Ascii, Kind::Ofs) => 0x444F_5300,
-        (Letters::Ascii, Kind::Ffs) => 0x444F_5301,
-        (Letters::International, Kind::Ofs) => 0x444F_5302,
-        (Letters::International, Kind::Ffs) => 0x444F_5303,
-    }
+    0x444F_5300 + u32::from(type_number(letters, kind))
 }
 
 /// The flags of a partition.

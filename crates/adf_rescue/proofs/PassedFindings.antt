@@ -23,7 +23,7 @@ use Rattle.adf_findings.specs.Found.{owns}
 use Rattle.adf_findings.specs.Sound.{IsOfItsKind, IsSound, says_data_of}
 use Rattle.adf_findings.specs.Survey.{FindingValue, IsSurvey, finding}
 use Rattle.adf_findings.specs.Survey.IsSurvey.{read, unread}
-use Rattle.adf_findings.specs.Types.{is_passed, passed, passed_of}
+use Rattle.adf_findings.specs.Types.{is_international, passed, passed_of}
 use Rattle.adf_findings.proofs.FirstFindings.{shown, shows_none}
 use Rattle.adf_findings.proofs.OneSurvey.{gathered}
 use Rattle.adf_findings.proofs.SoundEntries.{skipped_reported}
@@ -38,9 +38,9 @@ one_part true c f (inl e) = ap (λ g. g.part) (sym e)
 one_part true c f (inr none) = absurd none
 one_part false c f none = absurd none
 
-cause_part : (o : Option Cause) (f : FindingValue) → In (passed_of WithInternational o) f → f.part ≡ None
+cause_part : (o : Option Cause) (f : FindingValue) → In (passed_of o) f → f.part ≡ None
 cause_part None f none = absurd none
-cause_part (Some c) f i = one_part (is_passed WithInternational c) c f i
+cause_part (Some c) f i = one_part (is_international c) c f i
 
 no_part : (types : Types) (image : List ℕ) (f : FindingValue) → In (passed types image) f → f.part ≡ None
 no_part Plain image f none = absurd none
@@ -50,9 +50,9 @@ one_grave : (b : Bool) (c : Cause) → (let fs : List FindingValue = cond b (fin
 one_grave true c = refl
 one_grave false c = refl
 
-cause_grave : (o : Option Cause) → grave (passed_of WithInternational o) ≡ passed_of WithInternational o
+cause_grave : (o : Option Cause) → grave (passed_of o) ≡ passed_of o
 cause_grave None = refl
-cause_grave (Some c) = one_grave (is_passed WithInternational c) c
+cause_grave (Some c) = one_grave (is_international c) c
 
 pub passed_grave : (types : Types) (image : List ℕ) → grave (passed types image) ≡ passed types image
 passed_grave Plain image = refl

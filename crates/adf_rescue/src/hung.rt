@@ -159,9 +159,7 @@ fn made(alloc: Global, survey: &Survey<'_>, lost: &Vec<bool>) -> Result<Vec<bool
         → IfOk result (λ v. (p : ℕ) → has_mark v.items p ≡ is_made survey.now.image w s p)) }
 {
     let blocks = block_count(survey.image());
-    let Ok(mut marks) = vec![in alloc; false; blocks as usize] else {
-        return Err(NoMemory);
-    };
+    let mut marks = vec![in alloc; false; blocks as usize]?;
     for b in 0..blocks {
         if is_marked(lost, b as usize) {
             mark_parent(survey, lost, &mut marks, b);
@@ -202,9 +200,7 @@ fn ends(alloc: Global, survey: &Survey<'_>) -> Result<Vec<u32>, NoMemory>
         IfOk result (λ v. AreEnds survey.now.image w (heads w) v.items)) }
 {
     let entries = survey.len();
-    let Ok(mut ends) = vec![in alloc; 0u32; entries.saturating_add(1)] else {
-        return Err(NoMemory);
-    };
+    let mut ends = vec![in alloc; 0u32; entries.saturating_add(1)]?;
     for before in 0..entries {
         let n = Node(before + 1);
         if let Some(block) = open_end(survey, n) {

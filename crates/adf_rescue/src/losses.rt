@@ -98,10 +98,7 @@ fn push_some<T: Drop>(items: &mut Vec<T>, item: Option<T>) -> Result<(), NoMemor
     let Some(item) = item else {
         return Ok(());
     };
-    match items.push(item) {
-        Ok(()) => Ok(()),
-        Err(_) => Err(NoMemory),
-    }
+    Ok(items.push(item)?)
 }
 
 /// For each header that was skipped and that no entry has, the directory of the survey in which it was skipped, in the order of

@@ -174,9 +174,7 @@ fn entered(alloc: Global, survey: &Survey<'_>) -> Result<Vec<bool>, NoMemory>
         IfOk result (λ v. AreEntered w (heads w) v.items)) }
 {
     let entries = survey.len();
-    let Ok(mut marks) = vec![in alloc; false; entries.saturating_add(1)] else {
-        return Err(NoMemory);
-    };
+    let mut marks = vec![in alloc; false; entries.saturating_add(1)]?;
     for before in 0..entries {
         mark(&mut marks, survey.directory_of(Node(before + 1)).0, true);
     }
@@ -296,13 +294,9 @@ pub fn lost(alloc: Global, survey: &Survey<'_>, mended: bool) -> Result<Vec<bool
 {
     let settled = settled(alloc, survey, mended)?;
     let blocks = block_count(survey.image());
-    let Ok(mut marks) = Vec::with_capacity(alloc, blocks as usize) else {
-        return Err(NoMemory);
-    };
+    let mut marks = Vec::with_capacity(alloc, blocks as usize)?;
     for b in 0..blocks {
-        if marks.push(is_lost(survey, &settled, b)).is_err() {
-            return Err(NoMemory);
-        }
+        marks.push(is_lost(survey, &settled, b))?;
     }
     Ok(marks)
 }

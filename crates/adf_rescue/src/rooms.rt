@@ -24,10 +24,7 @@ fn room_named(draft: &Draft, directory: Node, name: &[u8]) -> Option<Room>
 pub fn lost_name(alloc: Global, block: u32) -> Result<String, NoMemory>
     ensures { IfOk result (λ s. string_bytes s ≡ lost_name block) }
 {
-    match format!(in alloc; "lost-{block}") {
-        Ok(name) => Ok(name),
-        Err(_) => Err(NoMemory),
-    }
+    Ok(format!(in alloc; "lost-{block}")?)
 }
 
 /// The room of an entry in a directory: of this name, or else of `lost-` and the block of its header; `None` if the

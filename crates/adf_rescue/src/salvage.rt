@@ -75,10 +75,8 @@ fn root_place(alloc: Global) -> Result<Vec<Option<Node>>, NoMemory>
     ensures { IfOk result (λ v. v.items ≡ Some 0 ∷ []) }
 {
     let mut places = Vec::new(alloc);
-    match places.push(Some(Node(0))) {
-        Ok(()) => Ok(places),
-        Err(_) => Err(NoMemory),
-    }
+    places.push(Some(Node(0)))?;
+    Ok(places)
 }
 
 // The marks before the first entry of a survey: the root is not added.
@@ -86,10 +84,8 @@ fn root_mark(alloc: Global) -> Result<Vec<bool>, NoMemory>
     ensures { IfOk result (λ v. v.items ≡ false ∷ []) }
 {
     let mut marks = Vec::new(alloc);
-    match marks.push(false) {
-        Ok(()) => Ok(marks),
-        Err(_) => Err(NoMemory),
-    }
+    marks.push(false)?;
+    Ok(marks)
 }
 
 // The entry of the survey before with the header of an entry.
@@ -186,10 +182,7 @@ impl Salvage {
             Ok(()) => (),
             Err(_) => return Err(NoMemory),
         }
-        match self.added.push(is_added) {
-            Ok(()) => Ok(()),
-            Err(_) => Err(NoMemory),
-        }
+        Ok(self.added.push(is_added)?)
     }
 
     // Keeps the place of the next entry, which is known as this one.
@@ -208,10 +201,7 @@ impl Salvage {
             → OnOk result (IsSalvage g (vs ++ leaves why ∷ []) self.new) }
     {
         self.keep_place(None, false)?;
-        match self.left_out.push(LeftOut { entry: n, why }) {
-            Ok(()) => Ok(()),
-            Err(_) => Err(NoMemory),
-        }
+        Ok(self.left_out.push(LeftOut { entry: n, why })?)
     }
 
     // Puts the next entry in a room, if the blocks suffice; else leaves it out.

@@ -177,9 +177,6 @@ impl Subject {
         if !is_mistyped(alloc, &self.image)? {
             return Ok(());
         }
-        match self.retype() {
-            Ok(()) => Ok(()),
-            Err(_) => Err(NoMemory),
-        }
+        Ok(self.retype()?)
     }
 }

@@ -138,10 +138,7 @@ fn double_buckets(buckets: &mut Vec<u32>) -> Result<(), NoMemory>
 {
     let count = FIRST_BUCKETS.max(2 * buckets.len());
     buckets.clear();
-    match buckets.resize(count, u32::MAX) {
-        Ok(()) => Ok(()),
-        Err(_) => Err(NoMemory),
-    }
+    Ok(buckets.resize(count, u32::MAX)?)
 }
 
 // Puts a new name in its vacant bucket.
@@ -159,9 +156,7 @@ fn fill_bucket(
     ensures more { OnOk result (names.new.items ≡ names.old.items ++ name ∷ []) }
 {
     let place = names.len() as u32;
-    if names.push(name).is_err() {
-        return Err(NoMemory);
-    }
+    names.push(name)?;
     buckets[bucket] = place;
     Ok(())
 }
@@ -172,10 +167,7 @@ fn put_in_overflow(overflow: &mut BTreeSet<NameKey>, name: NameKey) -> Result<bo
     ensures more { OnOk result (IsWith overflow.old.keys overflow.new.keys name) }
     ensures same { OnErr result (overflow.new.keys ≡ overflow.old.keys) }
 {
-    match overflow.insert(name) {
-        Ok(is_new) => Ok(is_new),
-        Err(_) => Err(NoMemory),
-    }
+    Ok(overflow.insert(name)?)
 }
 
 // Adds a name; returns whether it is new.
@@ -258,9 +250,7 @@ fn make_room(
         return Ok(());
     }
     let alloc = *names.allocator();
-    let Ok(room) = Vec::with_capacity(alloc, buckets.len()) else {
-        return Err(NoMemory);
-    };
+    let room = Vec::with_capacity(alloc, buckets.len())?;
     let stored = mem::replace(names, room);
     let overflowed = mem::replace(overflow, BTreeSet::new(alloc));
     double_buckets(buckets)?;

@@ -57,9 +57,7 @@ impl TreeEntries {
     ) -> Result<TreeEntries, NoMemory>
         ensures { IfOk result (λ t. t ≡ record { letters = letters; entries = [] }) }
     {
-        let Ok(entries) = Vec::with_capacity(alloc, count) else {
-            return Err(NoMemory);
-        };
+        let entries = Vec::with_capacity(alloc, count)?;
         let mut made = TreeEntries::new(alloc, letters);
         made.entries = entries;
         Ok(made)

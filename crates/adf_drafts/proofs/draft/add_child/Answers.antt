@@ -2,5 +2,5 @@ use Rattle.std.proofs.Common.{arith}
 use Rattle.std.proofs.lemmas.Grind.{common_steps}
 use Rattle.adf_drafts.proofs.draft.add_child.Goals as goal
 
-pub returns-then-is_err-2-clause-entries : goal.returns-then-is_err-2-clause-entries
-returns-then-is_err-2-clause-entries c = grind (arith, common_steps)
+pub returns-then-is_err-clause-entries : goal.returns-then-is_err-clause-entries
+returns-then-is_err-clause-entries c = grind (arith, common_steps)
