@@ -114,7 +114,9 @@ impl ChildMap {
     {
         self.make_buckets()?;
         let key = ChildKey::of(letters, parent, name);
-        self.buckets[key.bucket()].insert(key, number.0)?;
-        Ok(())
+        match self.buckets[key.bucket()].insert(key, number.0) {
+            Ok(_) => Ok(()),
+            Err(_) => Err(NoMemory),
+        }
     }
 }
