@@ -1,7 +1,4 @@
-use Rattle.std.proofs.Common.{◌≡◌, ◌∙◌, ◌++◌, ◌∷◌, [], true, false, Result, Ok, Err, is_ok, if◌then◌else◌, ℕ, ap}
-use Rattle.std.specs.Result.{is_err}
-use Rattle.std.specs.BTreeMap.{BTreeMap}
-use Rattle.adf_drafts.specs.declared.child_map.ChildKey.{ChildKey}
+use Rattle.std.proofs.Common.{◌∙◌, ap}
 use Rattle.adf_drafts.specs.ChildMap.{number_in, Numbers}
 use Rattle.adf_drafts.proofs.ChildMaps.{no_more}
 use Rattle.adf_drafts.proofs.child_map.ChildMap.make_buckets.Goals as goal
