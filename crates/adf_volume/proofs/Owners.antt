@@ -4,7 +4,7 @@ use Rattle.std.proofs.lemmas.Grind.{common_steps}
 use Rattle.adf_volume.specs.Lists.{In, numbered, NoBlockTwice}
 use Rattle.adf_volume.specs.Layout.{Place, Layout, owned_from, owned}
 use Rattle.adf_volume.specs.Parts.{entry_of}
-use Rattle.adf_volume.specs.declared.owner.Owner.{Owner, TheVariants.Head as AHead, TheVariants.Ext as AnExt, TheVariants.Data as AData}
+use Rattle.adf_volume.specs.declared.owner.Owner.{Owner}
 use Rattle.adf_volume.proofs.Lists.{in_cases, numbered_at}
 use Rattle.adf_volume.proofs.LayoutRoles.{Stands, owned_stands}
 use Rattle.adf_volume.proofs.LayoutRoles.Stands.{in_head, in_ext, in_data}
