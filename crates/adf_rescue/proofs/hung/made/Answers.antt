@@ -11,8 +11,8 @@ pub loop-b-init : goal.loop-b-init
 loop-b-init c = λ w fs survey s are.
     let given = c.args.survey.now.image in
     let n : c.block_count-blocks.result ≡ blocks given = c.block_count-blocks.ensures.exact ∙ ap blocks c.image.ensures in
-    made_first given w s c.in-Ok.marks.items (omega (arith, c.in-Ok.marks.ok.0, c.in-Ok.ensures.len, n))
-    (unmarked c.block_count-blocks.result c.in-Ok.marks.items (c.in-Ok.ensures.items_if_clones_equal (λ y h. h)))
+    made_first given w s c.in_ok-marks.marks.items (omega (arith, c.in_ok-marks.marks.ok.0, c.in_ok-marks.ensures.len, n))
+    (unmarked c.block_count-blocks.result c.in_ok-marks.marks.items (c.in_ok-marks.ensures.items_if_clones_equal (λ y h. h)))
 
 pub loop-b-preserved : goal.loop-b-preserved
 loop-b-preserved c = λ w fs survey s are.
