@@ -25,7 +25,11 @@ fn boot_block(letters: Letters, kind: Kind) -> [u8; 512]
     ensures { result ≡ block_of_fields ((0, boot_bytes_by letters kind) ∷ []) }
 {
     let mut block = [0u8; 512];
-    put_bytes(&mut block, 0, &[b'D', b'O', b'S', type_number(letters, kind)]);
+    put_bytes(
+        &mut block,
+        0,
+        &[b'D', b'O', b'S', type_number(letters, kind)],
+    );
     block
 }
 

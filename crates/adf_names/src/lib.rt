@@ -15,4 +15,6 @@ pub use crate::meta::{Meta, NO_STAMPS, Stamps};
 pub use crate::name::Name;
 pub use crate::path_texts::{PathFault, path_or_none, path_texts_decide, read_path, write_path};
 pub use crate::short_text::{Comment, Label, ShortText};
-pub use crate::volume_type::{kind_named_by, kind_text_by, kind_texts_decide, letters_of_type, type_number};
+pub use crate::volume_type::{
+    kind_named_by, kind_text_by, kind_texts_decide, letters_of_type, type_number,
+};
