@@ -3,7 +3,8 @@
 ghost use Rattle.std.specs.Prelude.{◌≡◌, ◌≢◌, ◌⊎◌, ◌≤◌, ◌<◌, ◌+◌, ℕ, [], drop, length, min, slice_index};
 ghost use Rattle.adf_blocks.specs.Sizes.{blocks};
 ghost use Rattle.adf_findings.specs.Survey.{OnSurvey};
-ghost use Rattle.adf_memory.specs.FoundFiles.{file_block_count, found_blocks, found_from, lost_from, named_blocks, found_part_table};
+ghost use Rattle.adf_memory.specs.FoundFiles.{file_block_count, found_blocks, found_from, found_part_table, lost_from};
+ghost use Rattle.adf_memory.specs.FoundFiles.{named_blocks};
 ghost use Rattle.adf_memory.specs.FoundRoles.{IsFoundRole};
 ghost use Rattle.adf_memory.specs.Rooms.{filled};
 ghost use Rattle.adf_memory.specs.Verdicts.{WantsMemory};

@@ -4,7 +4,8 @@ ghost use Rattle.std.specs.Prelude.{◌≡◌, ◌≢◌, ◌≤◌, ◌*◌, �
 ghost use Rattle.std.specs.List.{list_all};
 ghost use Rattle.adf_blocks.specs.Sizes.{is_allowed};
 ghost use Rattle.adf_build.specs.Laid.{volume};
-ghost use Rattle.adf_disk_cmd.specs.Builds.{BuildsDisk, DisksHavePlanned, RefusesPlan, behind_volume, built_disk, given_bytes, given_line, planned_tree, plan_reply, volume_of};
+ghost use Rattle.adf_disk_cmd.specs.Builds.{BuildsDisk, DisksHavePlanned, RefusesPlan, behind_volume, built_disk, given_bytes};
+ghost use Rattle.adf_disk_cmd.specs.Builds.{given_line, plan_reply, planned_tree, volume_of};
 ghost use Rattle.adf_partitions.specs.Plans.{IsPlan, cylinder_blocks, plan_value};
 ghost use Rattle.adf_partitions.specs.PlanTexts.{IsTextFault, has_volume, is_plan};
 ghost use Rattle.adf_partitions.specs.declared.plan_text.TextKind.{TextKind};

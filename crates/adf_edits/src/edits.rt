@@ -3,7 +3,11 @@
 ghost use Rattle.std.specs.Prelude.{◌≡◌, ◌≢◌, ◌≤◌, ◌++◌, ◌∷◌, [], None, Some, Ok, Err, IfOk, IfErr, OnOk, All, length, map, true};
 ghost use Rattle.std.specs.List.{filter, list_any};
 ghost use Rattle.adf_tree.specs.Tree.{is_dir_body};
-ghost use Rattle.adf_edits.specs.Edits.{change_fault, changed_meta, changed_at, changed_if, edit_value, edited, edited_additions, edited_label, file_of, gets_deep, new_addition, has_directory, has_path, has_under, is_at, leads_to_directory, is_directory_at, is_file_above, is_within, leads_through_file, move_fault, moved_additions, rebased, remove_fault, removed, room_fault, without};
+ghost use Rattle.adf_edits.specs.Edits.{change_fault, changed_at, changed_if, changed_meta, edit_value, edited, edited_additions};
+ghost use Rattle.adf_edits.specs.Edits.{edited_label, file_of, gets_deep, has_directory, has_path, has_under, is_at};
+ghost use Rattle.adf_edits.specs.Edits.{is_directory_at, is_file_above, is_within, leads_through_file, leads_to_directory};
+ghost use Rattle.adf_edits.specs.Edits.{move_fault, moved_additions, new_addition, rebased, remove_fault, removed, room_fault};
+ghost use Rattle.adf_edits.specs.Edits.{without};
 
 use crate::outline::{Item, Outline};
 use crate::paths::{MOST_DEPTH, is_at_or_under, is_deep, is_under, push_names, same_path};

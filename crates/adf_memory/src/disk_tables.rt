@@ -1,7 +1,8 @@
 // The table of a hard disk's partitions, and how it is filled.
 
 ghost use Rattle.std.specs.Prelude.{◌≡◌};
-ghost use Rattle.adf_memory.specs.DiskTables.{blocks_of, partition_fault, field_fault_of, first_or_zero, partition_row, partition_table, table_disk};
+ghost use Rattle.adf_memory.specs.DiskTables.{blocks_of, field_fault_of, first_or_zero, partition_fault, partition_row};
+ghost use Rattle.adf_memory.specs.DiskTables.{partition_table, table_disk};
 ghost use Rattle.adf_memory.specs.Rooms.{filled};
 
 use crate::tables::{field, put};

@@ -6,7 +6,8 @@ ghost use Rattle.adf_blocks.specs.Sizes.{blocks as blocks_of};
 ghost use Rattle.adf_volume.specs.Image.{word_in};
 ghost use Rattle.adf_volume.specs.Walk.{FileAt};
 ghost use Rattle.adf_findings.specs.Survey.{OnSurvey};
-ghost use Rattle.adf_memory.specs.FoundFiles.{block_if, file_block_count, file_size, found_blocks, found_from, is_data_row, lost_from, missing, named_block, named_blocks, found_part_table};
+ghost use Rattle.adf_memory.specs.FoundFiles.{block_if, file_block_count, file_size, found_blocks, found_from, found_part_table};
+ghost use Rattle.adf_memory.specs.FoundFiles.{is_data_row, lost_from, missing, named_block, named_blocks};
 ghost use Rattle.adf_memory.specs.Rooms.{filled};
 
 use crate::found_parts::FoundPart;

@@ -2,7 +2,9 @@
 
 ghost use Rattle.std.specs.Prelude.{◌≡◌, ◌≤◌, ◌<◌, ◌+◌, ◌↔◌, ◌⊎◌, ◌++◌, ◌∷◌, [], List, None, true, false, take, drop, length, slice_index_or, IsSome, IfSome, IfNone, IfOk, IfErr, OnOk};
 ghost use Rattle.adf_tree.specs.Tree.{Tree};
-ghost use Rattle.adf_memory.specs.TableAdditions.{IsDraftOf, IsNext, IsNotAdded, addition_fault_number, addition_body, directory_in, fault_of, has_bytes, has_entry_name, meta_in, addition_name, stamp_of};
+ghost use Rattle.adf_memory.specs.TableAdditions.{IsDraftOf, IsNext, IsNotAdded, addition_body, addition_fault_number};
+ghost use Rattle.adf_memory.specs.TableAdditions.{addition_name, directory_in, fault_of, has_bytes, has_entry_name, meta_in};
+ghost use Rattle.adf_memory.specs.TableAdditions.{stamp_of};
 
 use crate::tables::Date;
 use adf_base::Stamp;

@@ -3,7 +3,8 @@
 ghost use Rattle.std.specs.Prelude.{◌≡◌, ◌≤◌, ◌+◌, SomeIff};
 ghost use Rattle.adf_base.specs.Words.{block, word};
 ghost use Rattle.adf_partitions.specs.FaultTexts.{place_fault_number, place_fault_text};
-ghost use Rattle.adf_partitions.specs.Places.{StatesPlace, cylinder_of, do_overlap, end_of, has_cylinders, has_one_of, is_before_end, is_over_tables, partition_place};
+ghost use Rattle.adf_partitions.specs.Places.{StatesPlace, cylinder_of, do_overlap, end_of, has_cylinders, has_one_of};
+ghost use Rattle.adf_partitions.specs.Places.{is_before_end, is_over_tables, partition_place};
 
 use crate::layout::{HIGH_CYLINDER, LOW_CYLINDER, SURFACES, TRACK_BLOCKS};
 use crate::tables::Tables;

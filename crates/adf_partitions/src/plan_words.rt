@@ -1,7 +1,8 @@
 // The words of a plan's text.
 
 ghost use Rattle.std.specs.Prelude.{◌≡◌, Some};
-ghost use Rattle.adf_partitions.specs.PlanTexts.{before_byte, behind_byte, behind_line, ends_in_space, first_line, decimal_number, priority_down, priority_of, priority_up};
+ghost use Rattle.adf_partitions.specs.PlanTexts.{before_byte, behind_byte, behind_line, decimal_number, ends_in_space};
+ghost use Rattle.adf_partitions.specs.PlanTexts.{first_line, priority_down, priority_of, priority_up};
 
 /// The largest number of a text.
 pub const MOST_NUMBER: u32 = 1_048_576;

@@ -2,7 +2,8 @@
 
 ghost use Rattle.std.specs.Prelude.{◌≡◌, ◌≤◌, ◌+◌, ◌*◌, length, IfErr, IfNone, IfOk, IfSome};
 ghost use Rattle.adf_base.specs.Words.{block};
-ghost use Rattle.adf_partitions.specs.Tables.{HasNoRdsk, HasNoTables, IsRdsk, IsTables, is_kept_for_tables, is_larger, is_rdsk, may_be_table, tables_at};
+ghost use Rattle.adf_partitions.specs.Tables.{HasNoRdsk, HasNoTables, IsRdsk, IsTables, is_kept_for_tables, is_larger, is_rdsk};
+ghost use Rattle.adf_partitions.specs.Tables.{may_be_table, tables_at};
 
 use crate::fault::{DiskCause, DiskFault, disk_fault};
 use crate::layout::{

@@ -13,7 +13,8 @@ ghost use Rattle.adf_findings.specs.Marks.{has_mark};
 ghost use Rattle.adf_findings.specs.Parts.{part_role};
 ghost use Rattle.adf_findings.specs.Survey.{OnSurvey};
 ghost use Rattle.adf_rescue.specs.Lost.{AreEntered, AreLost, AreSettled, AreUnblamed, bit_stated, directory_at, directory_by, has_free_data};
-ghost use Rattle.adf_rescue.specs.Lost.{is_denied, is_directory_header, is_freed, is_inside, is_lost, is_root, is_root_doubtful, is_settled};
+ghost use Rattle.adf_rescue.specs.Lost.{is_denied, is_directory_header, is_freed, is_inside, is_lost, is_root, is_root_doubtful};
+ghost use Rattle.adf_rescue.specs.Lost.{is_settled};
 ghost use Rattle.adf_rescue.specs.Lost.{is_stated_free, is_stated_used, is_unfound, says_directory, says_header, table_count};
 
 use crate::image::{block_count, block_in, root_of};

@@ -3,7 +3,8 @@
 ghost use Rattle.std.specs.Prelude.{◌≡◌, ◌<◌, length, true};
 ghost use Rattle.adf_blocks.specs.declared.layout.TheConstants.{ROOT_PAGES};
 ghost use Rattle.adf_volume.specs.Start.{is_image_len};
-ghost use Rattle.adf_rescue.specs.MadeRoot.{has_root, is_page_block, label_in, page_found, root_pages, rooted, says_page, slots_in, stamps_in};
+ghost use Rattle.adf_rescue.specs.MadeRoot.{has_root, is_page_block, label_in, page_found, root_pages, rooted, says_page};
+ghost use Rattle.adf_rescue.specs.MadeRoot.{slots_in, stamps_in};
 
 use crate::image::{block_in, root_of};
 use adf_base::{BLOCK_LEN, Block};

@@ -10,7 +10,8 @@ ghost use Rattle.adf_findings.specs.Start.{has_root_type};
 ghost use Rattle.adf_names.specs.declared.meta.TheConstants.{NO_STAMPS};
 ghost use Rattle.adf_rescue.specs.MadeRoot.{has_root, middle_block};
 ghost use Rattle.adf_boot_blocks.specs.BootBlocks.{begins_with_dos};
-ghost use Rattle.adf_rescue.specs.Opened.{with_boot_type, has_data, is_mended, lacks_boot, opened, says_data, says_file, type_byte};
+ghost use Rattle.adf_rescue.specs.Opened.{has_data, is_mended, lacks_boot, opened, says_data, says_file, type_byte};
+ghost use Rattle.adf_rescue.specs.Opened.{with_boot_type};
 
 use crate::image::{block_in, is_image_len};
 use crate::made_root::{has_root, make_root};
