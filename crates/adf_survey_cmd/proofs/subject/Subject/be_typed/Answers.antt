@@ -14,10 +14,10 @@ returns-then-not-branch c =
     let is : is_mistyped c.args.self.now.image.items w ≡ false = grind (arith, common_steps) in
     typed_same (subject_value c.args.self.now) w fs survey is
 
-pub returns-in-Ok : goal.returns-in-Ok
-returns-in-Ok c =
+pub returns : goal.returns
+returns c =
     let (w, fs, survey) = c.some_survey.ensures c.args.self.now.image.items in
     let here = subst (λ (l : List ℕ). IsSurvey l w fs) (sym c.deref.ensures.value) survey in
     let told = c.in_ok-is_mistyped.ensures w fs here in
     let is : is_mistyped c.args.self.now.image.items w ≡ true = grind (arith, common_steps) in
-    typed_anew (subject_value c.args.self.now) (subject_value c.retype.new.self) w fs survey is c.in-Ok.ensures
+    typed_anew (subject_value c.args.self.now) (subject_value c.retype.new.self) w fs survey is c.in_ok-retype.ensures
