@@ -1,5 +1,5 @@
 -- The sizes of volumes and files, and the numbers of blocks that follow.
-use Rattle.std.specs.Prelude.{ℕ, ◌+◌, ◌-◌, ◌/◌, ◌%◌, ◌==◌, ◌&&◌, nat_le, Bool, List, length}
+use Rattle.std.specs.Prelude.{ℕ, ◌+◌, ◌-◌, ◌/◌, ◌%◌, ◌==◌, ◌&&◌, nat_le, nat_lt, Bool, List, length}
 use Rattle.adf_names.specs.declared.kind.Kind.{Kind}
 use Rattle.adf_names.specs.declared.kind.Kind.TheVariants.{Ofs, Ffs}
 use Rattle.adf_blocks.specs.declared.layout.TheConstants.{DATA_ROOM, MOST_BLOCKS, PAGE_BITS}
@@ -11,6 +11,10 @@ is_allowed n = nat_le 4 n && nat_le n MOST_BLOCKS && (n % 2 == 0)
 -- the number of blocks of an image
 abbrev pub blocks : List ℕ → ℕ
 blocks image = length image / 512
+
+-- block b is in range: after the boot blocks, and in the image
+abbrev pub in_range : List ℕ → ℕ → Bool
+in_range image b = nat_le 2 b && nat_lt b (blocks image)
 
 -- the root's block in a volume of n blocks
 abbrev pub middle : ℕ → ℕ

@@ -8,7 +8,7 @@ use Rattle.adf_names.specs.declared.kind.Kind.{Kind}
 use Rattle.adf_names.specs.declared.kind.Kind.TheVariants.{Ofs, Ffs}
 use Rattle.std.proofs.lemmas.Grind.{common_steps}
 use Rattle.adf_blocks.specs.Forms.{first_cause}
-use Rattle.adf_blocks.specs.Sizes.{blocks}
+use Rattle.adf_blocks.specs.Sizes.{blocks, in_range}
 use Rattle.adf_volume.specs.declared.owner.Owner.TheVariants.{Free}
 use Rattle.adf_walk.specs.Owners.{is_part, owner_at}
 use Rattle.adf_blocks.specs.declared.layout.TheConstants.{FIRST_POINTER, POINTERS}
@@ -23,7 +23,7 @@ use Rattle.adf_findings.specs.declared.judge.Facts.{Facts}
 use Rattle.adf_findings.specs.declared.judge.Judgement.TheVariants.{Clean}
 use Rattle.adf_findings.specs.Survey.JudgementValue.{clean}
 use Rattle.adf_findings.specs.Courses.{HasReachedNamed, IsNamed, IsToTake, due_in, end_in}
-use Rattle.adf_findings.specs.Forms.{data_clauses, first_of_five, in_range, judged_by}
+use Rattle.adf_findings.specs.Forms.{data_clauses, first_of_five, judged_by}
 use Rattle.adf_findings.specs.Found.{IsNextPart, IsTaken, is_owned}
 use Rattle.adf_findings.proofs.CoursePlaces.{data_gone, data_is_named}
 use Rattle.adf_findings.proofs.CourseSteps.{is_next, taken_next, taken_on}

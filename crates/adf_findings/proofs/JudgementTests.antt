@@ -9,7 +9,7 @@ use Rattle.adf_blocks.specs.declared.cause.Cause.{Cause}
 use Rattle.adf_blocks.specs.declared.cause.Cause.TheVariants.{BadName, OutOfRange, SameName, ShortFile, Taken}
 use Rattle.adf_blocks.specs.Forms.{Clause, first_cause, text_at}
 use Rattle.adf_blocks.specs.HeadBlock.{is_name_at}
-use Rattle.adf_blocks.specs.Sizes.{blocks}
+use Rattle.adf_blocks.specs.Sizes.{blocks, in_range}
 use Rattle.adf_base.specs.Words.{block}
 use Rattle.adf_names.specs.declared.kind.Kind.{Kind, TheVariants.Ofs, TheVariants.Ffs}
 use Rattle.adf_names.specs.Texts.{is_name}
@@ -28,7 +28,7 @@ use Rattle.adf_findings.specs.declared.judge.Facts.{Facts}
 use Rattle.adf_findings.specs.Survey.{IsItself, Judged, JudgementValue, is_kept}
 use Rattle.adf_findings.specs.Survey.JudgementValue.{clean, reported}
 use Rattle.adf_findings.specs.Found.{HasValidName}
-use Rattle.adf_findings.specs.Forms.{IsContext, Knows, Tells, data_clauses, first_failing, first_of_five, form_of, in_range, itself_by, judged_by}
+use Rattle.adf_findings.specs.Forms.{IsContext, Knows, Tells, data_clauses, first_failing, first_of_five, form_of, itself_by, judged_by}
 use Rattle.adf_findings.specs.Forms.{keeps, of_form}
 use Rattle.adf_volume.specs.Parts.{role_of}
 

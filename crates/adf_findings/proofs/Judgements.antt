@@ -12,13 +12,14 @@ use Rattle.adf_findings.specs.declared.judge.Judgement.{Judgement}
 use Rattle.adf_findings.specs.declared.progress.Progress.{Progress}
 use Rattle.adf_findings.specs.Survey.{Course, Judged, JudgementValue}
 use Rattle.adf_findings.specs.Survey.JudgementValue.{clean, reported}
-use Rattle.adf_findings.specs.Forms.{first_failing, form_of, in_range, itself_by, judged_by, judgement_value, keeps}
+use Rattle.adf_findings.specs.Forms.{first_failing, form_of, itself_by, judged_by, judgement_value, keeps}
 use Rattle.adf_findings.specs.Found.{AreNamed, HasValidName, IsChain, is_owned, new_in}
 use Rattle.adf_volume.specs.Parts.{role_of}
 use Rattle.adf_findings.specs.Courses.{Holds, IsJudged, IsNamed, IsNextReference, role_asked}
 use Rattle.adf_findings.proofs.CourseSteps.{known, known_chain, known_named}
 use Rattle.adf_findings.proofs.JudgementTests.{itself_whole, judged, name_cause, no_cause, other_cause, valid_name}
 use Rattle.adf_findings.proofs.Known.{new_is}
+use Rattle.adf_blocks.specs.Sizes.{in_range}
 
 module _ (image : List ℕ) (f : Progress) (x : Reference) (part : Part) (facts : Facts) where
   -- the judgement by all but the name, and by a name that is new or not

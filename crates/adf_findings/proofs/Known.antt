@@ -8,7 +8,7 @@ use Rattle.std.proofs.lemmas.Slice.Eq.{bytes_eq-Decides}
 use Rattle.std.proofs.lemmas.Grind.{common_steps}
 use Rattle.adf_tree.specs.NameSet.{HasMore, Names, has}
 use Rattle.adf_names.specs.Texts.{is_name}
-use Rattle.adf_blocks.specs.Sizes.{blocks}
+use Rattle.adf_blocks.specs.Sizes.{blocks, in_range}
 use Rattle.adf_volume.specs.Image.{name_of}
 use Rattle.adf_volume.specs.Positions.{position_of}
 use Rattle.adf_volume.specs.Walk.{Role, Enough, Has, IsAbsent, Walk}
@@ -18,7 +18,7 @@ use Rattle.adf_volume.specs.declared.part.Part.{Part, TheVariants.Head as HeadPa
 use Rattle.adf_findings.specs.declared.judge.Facts.{Facts}
 use Rattle.adf_findings.specs.declared.found.Found.{Found}
 use Rattle.adf_findings.specs.Survey.{Course}
-use Rattle.adf_findings.specs.Forms.{IsContext, Knows, Tells, in_range}
+use Rattle.adf_findings.specs.Forms.{IsContext, Knows, Tells}
 use Rattle.adf_findings.proofs.WalkOwners.{owned_is}
 use Rattle.adf_findings.specs.Found.{is_owned, AreNamed, HasValidName, IsChain, KeepsName, Stands}
 use Rattle.adf_findings.proofs.WalkOwners.{owned_is}

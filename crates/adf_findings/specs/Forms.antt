@@ -8,7 +8,7 @@ use Rattle.adf_names.specs.declared.kind.Kind.TheVariants.{Ofs, Ffs}
 use Rattle.adf_blocks.specs.declared.cause.Cause.{Cause}
 use Rattle.adf_blocks.specs.declared.cause.Cause.TheVariants.{OutOfRange, SameName, ShortFile, Taken}
 use Rattle.adf_blocks.specs.declared.layout.TheConstants.{SIZE}
-use Rattle.adf_blocks.specs.Sizes.{blocks}
+use Rattle.adf_blocks.specs.Sizes.{blocks, in_range}
 use Rattle.adf_blocks.specs.Forms.{Clause, first_cause}
 use Rattle.adf_blocks.specs.DataBlock.{data_form}
 use Rattle.adf_blocks.specs.ExtBlock.{ext_form}
@@ -46,10 +46,6 @@ form_of image (DataPart n k) b x = data_clauses (kind_of image) x.up k (held (ki
 abbrev pub itself_by : Role → List Clause → Bool
 itself_by r [] = true
 itself_by r (c ∷ cs) = (is_kept r c.1 || c.0) && itself_by r cs
-
--- a part is in range
-abbrev pub in_range : List ℕ → ℕ → Bool
-in_range image b = nat_le 2 b && nat_lt b (blocks image)
 
 -- the cause in the form, otherwise the rest
 abbrev pub of_form : ℕ → Option Cause → Option (ℕ × Cause) → Option (ℕ × Cause)

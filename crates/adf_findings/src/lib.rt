@@ -37,6 +37,6 @@ pub use crate::laws::{
 pub use crate::opening::Opening;
 pub use crate::own_kind::{Tally, retype};
 pub use crate::remains::{Gap, Remains};
-pub use crate::survey_result::Survey;
+pub use crate::survey_result::{Survey, has_mark};
 pub use crate::surveyor::survey;
 pub use adf_volume::{Part, Types};

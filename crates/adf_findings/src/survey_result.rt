@@ -79,8 +79,8 @@ impl<'i> Model for Survey<'i> {
     }) };
 }
 
-// Whether a node has a mark.
-fn has_mark(marks: &Vec<bool>, n: usize) -> bool
+/// Whether something has a mark; not past the last.
+pub fn has_mark(marks: &Vec<bool>, n: usize) -> bool
     ensures { result ≡ has_mark marks.now.items n }
 {
     marks.get(n).copied().unwrap_or(false)

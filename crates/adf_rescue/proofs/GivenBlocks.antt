@@ -11,11 +11,11 @@ use Rattle.std.proofs.lemmas.Grind.{common_steps}
 use Rattle.adf_base.specs.Words.{block}
 use Rattle.adf_base.specs.declared.hash.Letters.{Letters}
 use Rattle.adf_blocks.specs.declared.layout.TheConstants.{BITMAP_FLAG, VALID}
-use Rattle.adf_blocks.specs.Sizes.{blocks}
+use Rattle.adf_blocks.specs.Sizes.{blocks, in_range}
 use Rattle.adf_volume.specs.Image.{root_of, word_in}
 use Rattle.adf_volume.specs.Lists.{At}
 use Rattle.adf_findings.specs.Files.{FileValue, HasItsBlocks}
-use Rattle.adf_rescue.specs.Lost.{bit_stated, is_inside, is_stated_free}
+use Rattle.adf_rescue.specs.Lost.{bit_stated, is_stated_free}
 use Rattle.adf_rescue.specs.Rescue.{are_given, before_first_by, is_given, is_same_block}
 use Rattle.adf_rescue.specs.Salvage.{are_held}
 
@@ -27,7 +27,7 @@ none_either false = refl
 
 none_stated : (image : List ℕ) (b : ℕ) → is_stated_free image [] b ≡ false
 unfolding bit_stated
-none_stated image b = none_either (is_inside image b && (word_in image (root_of image) BITMAP_FLAG == VALID))
+none_stated image b = none_either (in_range image b && (word_in image (root_of image) BITMAP_FLAG == VALID))
 
 -- a block of an image is the same in it
 same_itself : (image : List ℕ) (b : ℕ) → b < blocks image → length image ≡ 512 * blocks image → is_same_block image image b ≡ true

@@ -11,14 +11,14 @@ use Rattle.std.proofs.lemmas.Fmt.{decimal_is_IsNumeral, length-decimal-le}
 use Rattle.std.proofs.lemmas.List.Folds.{list_all-append}
 use Rattle.adf_names.specs.Texts.{is_name, is_name_byte}
 use Rattle.adf_blocks.specs.declared.layout.TheConstants.{NEXT_IN_CHAIN, PARENT}
-use Rattle.adf_blocks.specs.Sizes.{blocks}
+use Rattle.adf_blocks.specs.Sizes.{blocks, in_range}
 use Rattle.adf_volume.specs.Image.{word_in}
 use Rattle.adf_volume.specs.Walk.{heads, Walk}
 use Rattle.adf_findings.specs.Marks.{has_mark}
 use Rattle.adf_findings.specs.Found.{owns, parent_node}
 use Rattle.adf_rescue.specs.Hung.{AreEnds, AreMade, directory_end, hung_at, hung_in, slot_word, last_open, open_end, hung_first, hung_loose, is_made}
 use Rattle.adf_rescue.specs.Hung.{has_lost_child, is_vacant, readied, ready_in}
-use Rattle.adf_rescue.specs.Lost.{directory_at, is_inside, is_lost, lost_among}
+use Rattle.adf_rescue.specs.Lost.{directory_at, is_lost, lost_among}
 use Rattle.adf_rescue.specs.Rescue.{lost_name}
 use Rattle.std.specs.Option.{unwrap_or}
 use Rattle.adf_rescue.proofs.LostHeaders.{number_known}
@@ -115,12 +115,12 @@ module _ (given : List ℕ) (w : Walk) (p : ℕ) where
       → slice_index ends n ≡ directory_end given w p
   end_found n ends are is = ap (slice_index ends) is ∙ are.end (unwrap_or (directory_at given w p) 0) (number_known given w p)
 
-  pub hung_at_end : (image : List ℕ) (b e : ℕ) → owns w (word_in image p (slot_word b)) ≡ true → e ≡ directory_end given w p → is_inside image e ≡ true
+  pub hung_at_end : (image : List ℕ) (b e : ℕ) → owns w (word_in image p (slot_word b)) ≡ true → e ≡ directory_end given w p → in_range image e ≡ true
       → hung_at image b p e NEXT_IN_CHAIN ≡ hung_in given w image b p
   unfolding hung_in
   hung_at_end image b e full is inside = grind (arith, common_steps, cond-true)
 
-  pub not_hung : (image : List ℕ) (b e : ℕ) → owns w (word_in image p (slot_word b)) ≡ true → e ≡ directory_end given w p → is_inside image e ≡ false
+  pub not_hung : (image : List ℕ) (b e : ℕ) → owns w (word_in image p (slot_word b)) ≡ true → e ≡ directory_end given w p → in_range image e ≡ false
       → image ≡ hung_in given w image b p
   unfolding hung_in
   not_hung image b e full is out = grind (arith, common_steps, cond-true, cond-false)
@@ -155,7 +155,7 @@ module _ {given : List ℕ} {w : Walk} {s : ℕ → Bool} {k : ℕ} {marks : Lis
 
 vacant_inside : (given : List ℕ) (w : Walk) (s : ℕ → Bool) (p : ℕ) → blocks given ≤ p → is_vacant given w s p ≡ false
 unfolding is_vacant
-vacant_inside given w s p out = and_left _ _ (and_left _ _ (and_left (is_inside given p) _ (grind (arith, nat_tests))))
+vacant_inside given w s p out = and_left _ _ (and_left _ _ (and_left (in_range given p) _ (grind (arith, nat_tests))))
 
 pub made_marked : (given : List ℕ) (w : Walk) (s : ℕ → Bool) (marks : List Bool) → AreMade given w s (blocks given) marks
     → (p : ℕ) → has_mark marks p ≡ is_made given w s p

@@ -16,7 +16,7 @@ use Rattle.adf_base.proofs.WordLaws.{block_other, block_written, length-block, l
 use Rattle.adf_names.specs.declared.kind.Kind.TheVariants.{Ofs, Ffs}
 use Rattle.adf_blocks.specs.declared.layout.TheConstants.{CHECKSUM, FIRST_SLOT, NEXT_IN_CHAIN, PARENT, SLOTS}
 use Rattle.adf_blocks.specs.HeadBlock.{FitsHead, head_block}
-use Rattle.adf_blocks.specs.Sizes.{blocks}
+use Rattle.adf_blocks.specs.Sizes.{blocks, in_range}
 use Rattle.adf_blocks.proofs.HeadLaws.{length_head_block}
 use Rattle.adf_volume.specs.Image.{kind_of, root_of, word_in}
 use Rattle.adf_volume.specs.Start.{is_image_len}
@@ -24,7 +24,7 @@ use Rattle.adf_volume.specs.Walk.{heads, node_block, Walk}
 use Rattle.adf_findings.specs.Found.{entry_in, owner, owns}
 use Rattle.adf_rescue.specs.Hung.{directory_end, home, hung, hung_at, hung_behind, hung_first, hung_in, hung_loose, is_container, is_hung, is_made, is_vacant}
 use Rattle.adf_rescue.specs.Hung.{last_open, made_header, put_in, readied, ready_in, sealed_in, slot_word}
-use Rattle.adf_rescue.specs.Lost.{directory_at, is_inside, is_lost, says_directory}
+use Rattle.adf_rescue.specs.Lost.{directory_at, is_lost, says_directory}
 use Rattle.adf_rescue.proofs.HungImages.{name_is_valid}
 use Rattle.adf_rescue.proofs.LostHeaders.{root_at}
 use Rattle.adf_rescue.proofs.MadeRoots.{root_within, sized}
@@ -190,7 +190,7 @@ module _ (given : List ℕ) (w : Walk) (s : ℕ → Bool) (len : is_image_len (l
   -- block c is neither a home of what is hung nor the end there
   abbrev IsApart : ℕ → Type 0
   IsApart c = ((d : ℕ) → is_hung given w s d ≡ true → home given w s d ≢ c)
-      × ((d : ℕ) → is_hung given w s d ≡ true → is_inside given (directory_end given w (home given w s d)) ≡ true
+      × ((d : ℕ) → is_hung given w s d ≡ true → in_range given (directory_end given w (home given w s d)) ≡ true
       → directory_end given w (home given w s d) ≢ c)
 
   -- hanging changes what is hung, the homes and the ends; and no word that leads to a part of the survey
@@ -246,11 +246,11 @@ module _ (given : List ℕ) (w : Walk) (s : ℕ → Bool) (len : is_image_len (l
       (λ is.
       cond_both (owns w (word_in x p (slot_word b))) (hung_behind x b p e) (hung_at x b p p (slot_word b)) (KeepsMore x)
       (λ full.
-      cond_both (is_inside x e) (hung_at x b p e NEXT_IN_CHAIN) x (KeepsMore x)
+      cond_both (in_range x e) (hung_at x b p e NEXT_IN_CHAIN) x (KeepsMore x)
       (λ there.
       let low : 2 ≤ e = grind (arith, nat_tests) in
       let high : e < blocks x = grind (arith, nat_tests) in
-      let found : is_inside given e ≡ true = sym (ap (λ l. nat_le 2 e && nat_lt e (l / 512)) same) ∙ there in
+      let found : in_range given e ≡ true = sym (ap (λ l. nat_le 2 e && nat_lt e (l / 512)) same) ∙ there in
       at_keeps x b same inside is e NEXT_IN_CHAIN (still x given e (sym same) high) (omega arith) (λ c apart at. apart.1 b is found (sym at))
       (λ before owned. elim (open_word (unwrap_or (directory_at given w p) 0) (heads w)) [
         | inl none ↦ omega (arith, low, none)
@@ -285,7 +285,7 @@ module _ (given : List ℕ) (w : Walk) (s : ℕ → Bool) (len : is_image_len (l
   length_kept = (first_touches (blocks given) (omega arith)).length
 
   apart_kept : (b : ℕ) → is_hung given w s b ≡ false → ((d : ℕ) → is_hung given w s d ≡ true → home given w s d ≢ b)
-      → ((d : ℕ) → is_hung given w s d ≡ true → is_inside given (directory_end given w (home given w s d)) ≡ true
+      → ((d : ℕ) → is_hung given w s d ≡ true → in_range given (directory_end given w (home given w s d)) ≡ true
       → directory_end given w (home given w s d) ≢ b)
       → block (hung given w s) b ≡ block given b
   apart_kept b out no_home no_end = (first_touches (blocks given) (omega arith)).others b out (no_home, no_end)
@@ -299,16 +299,16 @@ module _ (given : List ℕ) (w : Walk) (s : ℕ → Bool) (len : is_image_len (l
   words_kept b i out small sum owned = (first_touches (blocks given) (omega arith)).words b i (out, small, sum, owned)
 
   -- what is no directory is no home
-  no_home : (b d : ℕ) → (is_inside given b && is_container given w s b) ≡ false → b ≢ root_of given → home given w s d ≢ b
+  no_home : (b d : ℕ) → (in_range given b && is_container given w s b) ≡ false → b ≢ root_of given → home given w s d ≢ b
   unfolding home
   no_home b d none ne e =
       let p : ℕ = word_in given d PARENT in
-      cond_both (is_lost given w s d && is_inside given p && is_container given w s p) p (root_of given) (λ h. h ≡ b → ⊥)
+      cond_both (is_lost given w s d && in_range given p && is_container given w s p) p (root_of given) (λ h. h ≡ b → ⊥)
       (λ named at.
-      let parts = and_parts (is_lost given w s d && is_inside given p) (is_container given w s p) named in
-      let both : (is_inside given p && is_container given w s p) ≡ true =
-      and_from (is_inside given p) (is_container given w s p) (and_parts (is_lost given w s d) (is_inside given p) parts.0).1 parts.1 in
-      let clash = subst (λ i. (is_inside given i && is_container given w s i) ≡ true) at both in absurd cc)
+      let parts = and_parts (is_lost given w s d && in_range given p) (is_container given w s p) named in
+      let both : (in_range given p && is_container given w s p) ≡ true =
+      and_from (in_range given p) (is_container given w s p) (and_parts (is_lost given w s d) (in_range given p) parts.0).1 parts.1 in
+      let clash = subst (λ i. (in_range given i && is_container given w s i) ≡ true) at both in absurd cc)
       (λ other at. ne (sym at)) e
 
   -- an end is a header
@@ -325,9 +325,9 @@ module _ (given : List ℕ) (w : Walk) (s : ℕ → Bool) (len : is_image_len (l
       let made = owned_not_made b (owner_owns w b owned) in
       let ne : b ≢ root_of given = λ e. let root = root_at given w b e in absurd cc in
       let none : is_container given w s b ≡ false = λ i. is_some (no_directory i) || lost i && says_directory given b || made i in
-      apart_kept b (λ i. lost i || made i) (λ d h. no_home b d (and_right (is_inside given b) _ none) ne)
+      apart_kept b (λ i. lost i || made i) (λ d h. no_home b d (and_right (in_range given b) _ none) ne)
       (λ d h inside at. elim (end_is_header (unwrap_or (directory_at given w (home given w s d)) 0) (heads w)) [
-        | inl none ↦ let out : is_inside given 0 ≡ true = subst (λ e. is_inside given e ≡ true) none inside in cc
+        | inl none ↦ let out : in_range given 0 ≡ true = subst (λ e. in_range given e ≡ true) none inside in cc
         | inr head ↦ no_head head.0 (head.1 ∙ at)
       ])
 
@@ -335,7 +335,7 @@ module _ (given : List ℕ) (w : Walk) (s : ℕ → Bool) (len : is_image_len (l
   pub boot_kept : block (hung given w s) 0 ≡ block given 0
   boot_kept =
       apart_kept 0 (λ i. boot_not_lost i || boot_not_made i) (λ d h. no_home 0 d refl (let r = root_within given len in omega (arith, r.low)))
-      (λ d h inside at. let out : is_inside given 0 ≡ true = subst (λ e. is_inside given e ≡ true) at inside in cc)
+      (λ d h inside at. let out : in_range given 0 ≡ true = subst (λ e. in_range given e ≡ true) at inside in cc)
 
   pub kind_kept : kind_of (hung given w s) ≡ kind_of given
   unfolding kind_of

@@ -14,7 +14,7 @@ use Rattle.std.proofs.lemmas.List.FromFn.{get_or-map-range_with_len, length-map-
 use Rattle.std.proofs.Math.Bool.{and-false, and-true, or-true}
 use Rattle.std.proofs.lemmas.Grind.{common_steps}
 use Rattle.adf_blocks.specs.declared.layout.TheConstants.{BITMAP_FLAG, FIRST_POINTER, PAGE_BITS, PARENT, VALID}
-use Rattle.adf_blocks.specs.Sizes.{blocks}
+use Rattle.adf_blocks.specs.Sizes.{blocks, in_range}
 use Rattle.adf_volume.specs.Image.{root_of, word_in}
 use Rattle.adf_volume.specs.Walk.{Has, IsFreeIn, heads, Walk}
 use Rattle.adf_volume.specs.Walk.Role.{Page}
@@ -30,7 +30,7 @@ use Rattle.adf_findings.proofs.BitSteps.{has_page}
 use Rattle.adf_findings.proofs.BitsStated.{one_page}
 use Rattle.adf_findings.proofs.RoleBlocks.{lacks_at}
 use Rattle.adf_rescue.specs.Lost.{AreEntered, AreSettled, AreUnblamed, bit_stated, has_free_data_among, is_root_doubtful, is_settled, is_stated_free}
-use Rattle.adf_rescue.specs.Lost.{directory_at, directory_by, has_child, has_finding, is_denied, is_inside}
+use Rattle.adf_rescue.specs.Lost.{directory_at, directory_by, has_child, has_finding, is_denied}
 use Rattle.adf_rescue.specs.Lost.{is_lost, is_of, is_root, is_set_in}
 use Rattle.adf_findings.specs.SurveyResult.{IsBitStated}
 
@@ -56,18 +56,18 @@ told_none : (r : Option Bool) → (IsSome r → ⊥) → r ≡ None
 told_none None h = refl
 told_none (Some t) h = absurd (h refl)
 
-pub told_is : (image : List ℕ) (w : Walk) (fs : List FindingValue) (b : ℕ) (r : Option Bool) → is_inside image b ≡ true
+pub told_is : (image : List ℕ) (w : Walk) (fs : List FindingValue) (b : ℕ) (r : Option Bool) → in_range image b ≡ true
     → IsSurvey image w fs → (IsSome r ↔ IsBitStated image w b) → IfSome r (λ t. IsTrue t ↔ IsFreeIn image w b) → r ≡ bit_stated image w b
 unfolding bit_stated
-told_is image w fs b r inside survey some free = elim (cases_Bool (is_inside image b && (word_in image (root_of image) BITMAP_FLAG == VALID))) [
+told_is image w fs b r inside survey some free = elim (cases_Bool (in_range image b && (word_in image (root_of image) BITMAP_FLAG == VALID))) [
   | inl stands ↦
-      let parts = and_parts (is_inside image b) _ stands in
+      let parts = and_parts (in_range image b) _ stands in
       let low : 2 ≤ b = grind (arith, nat_tests) in
       let valid : IsValidated image = eqb-true _ _ parts.1 in
       with_page (at_role w (Page (page_of b))) refl low valid ∙ sym (cond-true _ _ None stands)
   | inr fails ↦
       told_none r (λ s. let told = some.0 s in
-      let all = and_from (is_inside image b) (word_in image (root_of image) BITMAP_FLAG == VALID) inside (eq-eqb _ _ told.1) in cc)
+      let all = and_from (in_range image b) (word_in image (root_of image) BITMAP_FLAG == VALID) inside (eq-eqb _ _ told.1) in cc)
       ∙ sym (cond-false _ _ None fails)
 ]
   where
@@ -82,7 +82,7 @@ told_is image w fs b r inside survey some free = elim (cases_Bool (is_inside ima
         ∙ ap (option_map (λ page. is_set_in image page ((b - 2) % PAGE_BITS))) (sym e)
 
 -- of a block that is not in range the bitmap tells nothing
-pub none_told : (image : List ℕ) (w : Walk) (b : ℕ) → is_inside image b ≡ false → bit_stated image w b ≡ None
+pub none_told : (image : List ℕ) (w : Walk) (b : ℕ) → in_range image b ≡ false → bit_stated image w b ≡ None
 unfolding bit_stated
 none_told image w b out = grind (arith, common_steps, and_left)
 
@@ -246,7 +246,7 @@ unmarked n marks e i = grind (arith, common_steps)
 module _ (image : List ℕ) (w : Walk) (s : ℕ → Bool) where
   lost_outside : (b : ℕ) → blocks image ≤ b → is_lost image w s b ≡ false
   unfolding is_lost
-  lost_outside b out = and_left _ _ (and_left _ _ (and_left (is_inside image b) _ (grind (arith, nat_tests))))
+  lost_outside b out = and_left _ _ (and_left _ _ (and_left (in_range image b) _ (grind (arith, nat_tests))))
 
   pub lost_marked : (marks : List Bool) → marks ≡ map (is_lost image w s) (range_with_len 0 (blocks image)) → (b : ℕ)
       → has_mark marks b ≡ is_lost image w s b

@@ -13,7 +13,7 @@ use Rattle.adf_blocks.specs.declared.layout.TheConstants.{CHECKSUM, FIRST_SLOT, 
 use Rattle.adf_blocks.specs.Forms.{text_at}
 use Rattle.adf_blocks.specs.HeadBlock.{head_block}
 use Rattle.adf_blocks.specs.RootBlock.{label_stated, root_block}
-use Rattle.adf_blocks.specs.Sizes.{blocks}
+use Rattle.adf_blocks.specs.Sizes.{blocks, in_range}
 use Rattle.adf_blocks.proofs.ByteBlocks.{head_bytes, root_bytes}
 use Rattle.adf_volume.specs.Image.{root_of, word_in}
 use Rattle.adf_volume.specs.Walk.{Walk}
@@ -21,7 +21,7 @@ use Rattle.adf_findings.specs.Found.{owns}
 use Rattle.adf_findings.specs.Start.{has_root_type}
 use Rattle.adf_rescue.specs.Hung.{emptied, directory_end, home, hung, hung_at, hung_behind, hung_first, hung_in, hung_loose, is_hung, is_made}
 use Rattle.adf_rescue.specs.Hung.{made_header, put_in, readied, ready_in, sealed_in, slot_word}
-use Rattle.adf_rescue.specs.Lost.{is_inside, is_lost, says_directory}
+use Rattle.adf_rescue.specs.Lost.{is_lost, says_directory}
 use Rattle.adf_rescue.specs.MadeRoot.{has_root, label_in, made_root, middle_block, rooted}
 use Rattle.adf_boot_blocks.specs.BootBlocks.{begins_with_dos}
 use Rattle.adf_rescue.specs.Opened.{with_boot_type, has_data, is_mended, opened, type_byte}
@@ -100,7 +100,7 @@ hung_at_bytes image b p e i are =
 module _ (given : List ℕ) (w : Walk) (s : ℕ → Bool) where
   behind_bytes : (image : List ℕ) (b p e : ℕ) → AreBytes image → AreBytes (hung_behind image b p e)
   behind_bytes image b p e are =
-      cond_both (is_inside image e) (hung_at image b p e NEXT_IN_CHAIN) image AreBytes (λ t. hung_at_bytes image b p e NEXT_IN_CHAIN are) (λ t. are)
+      cond_both (in_range image e) (hung_at image b p e NEXT_IN_CHAIN) image AreBytes (λ t. hung_at_bytes image b p e NEXT_IN_CHAIN are) (λ t. are)
 
   hung_in_bytes : (image : List ℕ) (b p : ℕ) → AreBytes image → AreBytes (hung_in given w image b p)
   unfolding hung_in

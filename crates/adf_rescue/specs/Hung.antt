@@ -9,13 +9,13 @@ use Rattle.adf_names.specs.declared.meta.Meta.{Meta}
 use Rattle.adf_blocks.specs.declared.layout.TheConstants.{CHECKSUM, FIRST_SLOT, NEXT_IN_CHAIN, PARENT, SLOTS}
 use Rattle.adf_blocks.specs.HeadBlock.{HeadFields, head_block}
 use Rattle.adf_blocks.specs.HeadBlock.BodyFields.{DirFields}
-use Rattle.adf_blocks.specs.Sizes.{blocks}
+use Rattle.adf_blocks.specs.Sizes.{blocks, in_range}
 use Rattle.adf_volume.specs.Image.{root_of, word_in}
 use Rattle.adf_volume.specs.Walk.{heads, node_block, Walk}
 use Rattle.adf_findings.specs.Found.{owns, parent_node}
 use Rattle.adf_findings.specs.Marks.{has_mark}
 use Rattle.adf_rescue.specs.declared.hung.Loose.{Loose}
-use Rattle.adf_rescue.specs.Lost.{AreLost, directory_at, is_inside, is_lost, says_directory}
+use Rattle.adf_rescue.specs.Lost.{AreLost, directory_at, is_lost, says_directory}
 use Rattle.adf_rescue.specs.Rescue.{lost_name}
 
 -- the directories that things are hung in
@@ -27,7 +27,7 @@ has_lost_child given w s p (suc k) = has_lost_child given w s p k || is_lost giv
 
 -- a directory may be made in block p: it is in range, not the root, no part of the survey, and not lost itself
 unfoldable pub is_vacant : List ℕ → Walk → (ℕ → Bool) → ℕ → Bool
-is_vacant given w s p = is_inside given p && not (p == root_of given) && not (owns w p) && not (is_lost given w s p)
+is_vacant given w s p = in_range given p && not (p == root_of given) && not (owns w p) && not (is_lost given w s p)
 
 -- a directory is made in block p: a lost header names it
 abbrev pub is_made : List ℕ → Walk → (ℕ → Bool) → ℕ → Bool
@@ -41,7 +41,7 @@ is_container given w s p = is_some (directory_at given w p) || is_lost given w s
 unfoldable pub home : List ℕ → Walk → (ℕ → Bool) → ℕ → ℕ
 home given w s b =
     let p = word_in given b PARENT in
-    cond (is_lost given w s b && is_inside given p && is_container given w s p) p (root_of given)
+    cond (is_lost given w s b && in_range given p && is_container given w s p) p (root_of given)
 
 -- block b is to be hung: it is lost, or made
 abbrev pub is_hung : List ℕ → Walk → (ℕ → Bool) → ℕ → Bool
@@ -81,7 +81,7 @@ directory_end given w p = last_open given w (unwrap_or (directory_at given w p) 
 
 -- the image with block b, of directory p, behind the header in block e, if that is in range
 abbrev pub hung_behind : List ℕ → ℕ → ℕ → ℕ → List ℕ
-hung_behind image b p e = cond (is_inside image e) (hung_at image b p e NEXT_IN_CHAIN) image
+hung_behind image b p e = cond (in_range image e) (hung_at image b p e NEXT_IN_CHAIN) image
 
 -- the image with block b in directory p: the first in its slot, unless that leads to a part of the survey; then behind the last entry there that
 -- leads to none. So no word changes that leads to a part of the survey

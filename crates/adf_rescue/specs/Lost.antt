@@ -8,7 +8,7 @@ use Rattle.std.specs.List.{list_any}
 use Rattle.std.proofs.Common.{zero, suc}
 use Rattle.adf_blocks.specs.declared.layout.TheConstants.{BITMAP_FLAG, FIRST_POINTER, OWN_KEY, PAGE_BITS, PAGE_FIRST, PARENT, POINTERS, SECONDARY_TYPE}
 use Rattle.adf_blocks.specs.declared.layout.TheConstants.{ST_DIR, TYPE, T_SHORT, VALID}
-use Rattle.adf_blocks.specs.Sizes.{blocks}
+use Rattle.adf_blocks.specs.Sizes.{blocks, in_range}
 use Rattle.adf_volume.specs.Image.{root_of, word_in}
 use Rattle.adf_volume.specs.Start.{is_image_len}
 use Rattle.adf_volume.specs.Walk.{Role, data_count, heads, node_block, Walk}
@@ -19,10 +19,6 @@ use Rattle.adf_findings.specs.Found.{at_role, owner, owns, parent_node}
 use Rattle.adf_findings.specs.Marks.{has_mark}
 use Rattle.adf_findings.specs.Survey.{FindingValue}
 use Rattle.adf_rescue.specs.Opened.{says_file}
-
--- block b is in range
-abbrev pub is_inside : List ℕ → ℕ → Bool
-is_inside image b = nat_le 2 b && nat_lt b (blocks image)
 
 -- block b says that it is a directory's header: by its types and its own key; its sum is not asked for
 abbrev pub says_directory : List ℕ → ℕ → Bool
@@ -40,7 +36,7 @@ is_set_in image page bit = not (bit_and (word_in image page (PAGE_FIRST + bit / 
 -- walk has the page
 unfoldable pub bit_stated : List ℕ → Walk → ℕ → Option Bool
 bit_stated image w b =
-    cond (is_inside image b && (word_in image (root_of image) BITMAP_FLAG == VALID))
+    cond (in_range image b && (word_in image (root_of image) BITMAP_FLAG == VALID))
     (option_map (λ page. is_set_in image page ((b - 2) % PAGE_BITS)) (at_role w (Page ((b - 2) / PAGE_BITS)))) None
 
 -- the bitmap tells that block b is free
@@ -127,7 +123,7 @@ is_freed image w b = is_stated_free image w b || has_free_data image w b
 -- block b is a lost header: it is not found, and not deleted, as far as is told
 unfoldable pub is_lost : List ℕ → Walk → (ℕ → Bool) → ℕ → Bool
 is_lost image w s b =
-    is_inside image b && is_unfound image w b && not (is_freed image w b) && (is_stated_used image w b || not (is_denied image w s b))
+    in_range image b && is_unfound image w b && not (is_freed image w b) && (is_stated_used image w b || not (is_denied image w s b))
 
 -- one of the first k blocks is a lost header
 unfoldable pub lost_among : List ℕ → Walk → (ℕ → Bool) → ℕ → Bool

@@ -18,14 +18,15 @@ ghost use Rattle.adf_rescue.specs.Hung.{AreEnds, AreLoose, directory_end, emptie
 ghost use Rattle.adf_rescue.specs.Hung.{is_container, is_hung};
 ghost use Rattle.adf_rescue.specs.Hung.{is_made, is_vacant, made_header, open_end, ready_in, readied, slot_word};
 
-use crate::image::{block_count, is_image_len, root_of};
-use crate::lost::{directory_at, is_inside, is_marked, lost, mark, says_directory, word_in};
+use crate::image::{block_count, root_of};
+use crate::lost::{directory_at, in_range, lost, mark, says_directory, word_in};
 use crate::opened::copied;
 use crate::rooms::lost_name;
 use adf_base::{NO_STAMP, NoMemory, seal, set_bytes, set_word};
 use adf_blocks::{FIRST_SLOT, HeadOut, HeadOutBody, NEXT_IN_CHAIN, PARENT, SLOTS, write_head};
-use adf_findings::Survey;
+use adf_findings::{Survey, has_mark};
 use adf_tree::{Comment, Meta, Name, Node};
+use adf_volume::is_image_len;
 use std::alloc::Global;
 
 // The word of the checksum of a header and the root.
@@ -110,7 +111,7 @@ fn has_lost(survey: &Survey<'_>, lost: &Vec<bool>) -> bool
         → result ≡ lost_among survey.now.image w s (blocks survey.now.image)) }
 {
     for b in 0..block_count(survey.image()) {
-        if is_marked(lost, b as usize) {
+        if has_mark(lost, b as usize) {
             return true;
         }
     }
@@ -132,10 +133,10 @@ fn is_vacant(survey: &Survey<'_>, lost: &Vec<bool>, p: u32) -> bool
         → result ≡ is_vacant survey.now.image w s p) }
 {
     let image = survey.image();
-    is_inside(image, p)
+    in_range(image, p)
         && p != root_of(image)
         && !survey.has_part(p)
-        && !is_marked(lost, p as usize)
+        && !has_mark(lost, p as usize)
 }
 
 // Marks the block that header `b` names as its directory, if a directory may be made there.
@@ -162,7 +163,7 @@ fn made(alloc: Global, survey: &Survey<'_>, lost: &Vec<bool>) -> Result<Vec<bool
     let blocks = block_count(survey.image());
     let mut marks = vec![in alloc; false; blocks as usize]?;
     for b in 0..blocks {
-        if is_marked(lost, b as usize) {
+        if has_mark(lost, b as usize) {
             mark_parent(survey, lost, &mut marks, b);
         }
     }
@@ -219,8 +220,8 @@ fn is_container(survey: &Survey<'_>, loose: &Loose, p: u32) -> bool
         → result ≡ is_container survey.now.image w s p) }
 {
     directory_at(survey, p).is_some()
-        || is_marked(&loose.lost, p as usize) && says_directory(survey.image(), p)
-        || is_marked(&loose.made, p as usize)
+        || has_mark(&loose.lost, p as usize) && says_directory(survey.image(), p)
+        || has_mark(&loose.made, p as usize)
 }
 
 // The home of a block that is hung.
@@ -234,7 +235,7 @@ fn home(survey: &Survey<'_>, loose: &Loose, b: u32) -> u32
 {
     let image = survey.image();
     let p = word_in(image, b, PARENT);
-    if is_marked(&loose.lost, b as usize) && is_inside(image, p) && is_container(survey, loose, p) {
+    if has_mark(&loose.lost, b as usize) && in_range(image, p) && is_container(survey, loose, p) {
         p
     } else {
         root_of(image)
@@ -257,10 +258,10 @@ fn ready(
         → OnOk result (image.new ≡ ready_in survey.now.image w s image.old b)) }
 {
     let given = survey.image();
-    if is_marked(&loose.made, b as usize) {
+    if has_mark(&loose.made, b as usize) {
         return make(alloc, image, root_of(given), b);
     }
-    if is_marked(&loose.lost, b as usize) && says_directory(given, b) {
+    if has_mark(&loose.lost, b as usize) && says_directory(given, b) {
         empty(image, b);
     }
     Ok(())
@@ -290,7 +291,7 @@ fn is_hung(loose: &Loose, b: u32) -> bool
     ensures { (given : List ℕ) (w : Walk) (s : ℕ → Bool) → AreLoose given w s loose.now
         → result ≡ is_hung given w s b }
 {
-    is_marked(&loose.lost, b as usize) || is_marked(&loose.made, b as usize)
+    has_mark(&loose.lost, b as usize) || has_mark(&loose.made, b as usize)
 }
 
 // The block behind which things are hung in the directory in block `p`; 0 if there is none.
@@ -320,7 +321,7 @@ fn hang_in(survey: &Survey<'_>, loose: &Loose, image: &mut [u8], b: u32, p: u32)
         return;
     }
     let end = directory_end(survey, loose, p);
-    if is_inside(image, end) {
+    if in_range(image, end) {
         hang(image, b, p, end, NEXT_IN_CHAIN);
     }
 }

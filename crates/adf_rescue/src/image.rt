@@ -7,17 +7,6 @@ ghost use Rattle.adf_volume.specs.Image.{root_of};
 ghost use Rattle.adf_volume.specs.Start.{is_image_len};
 
 use adf_base::{BLOCK_LEN, Block};
-use adf_blocks::is_allowed_size;
-
-/// Whether a volume may have this number of bytes.
-pub fn is_image_len(size: usize) -> bool
-    ensures { result ≡ is_image_len size }
-{
-    match u32::try_from(size / BLOCK_LEN) {
-        Ok(blocks) => size % BLOCK_LEN == 0 && is_allowed_size(blocks),
-        Err(_) => false,
-    }
-}
 
 /// A block of an image.
 #[tactic(auto, using(crate::proofs::OpenedImages::part_is_block))]

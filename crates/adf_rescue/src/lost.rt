@@ -3,7 +3,7 @@
 ghost use Rattle.std.specs.Prelude.{◌≡◌, ◌<◌, ◌≤◌, ◌+◌, ◌==◌, ◌&&◌, ◌||◌, ◌↔◌, ℕ, List, Bool, not, cond, true, length, IfOk};
 ghost use Rattle.std.specs.List.{list_any};
 ghost use Rattle.adf_blocks.specs.declared.layout.TheConstants.{POINTERS};
-ghost use Rattle.adf_blocks.specs.Sizes.{blocks};
+ghost use Rattle.adf_blocks.specs.Sizes.{blocks, in_range};
 ghost use Rattle.adf_volume.specs.Image.{word_in};
 ghost use Rattle.adf_volume.specs.Start.{is_image_len};
 ghost use Rattle.adf_volume.specs.Walk.{heads};
@@ -13,7 +13,7 @@ ghost use Rattle.adf_findings.specs.Marks.{has_mark};
 ghost use Rattle.adf_findings.specs.Parts.{part_role};
 ghost use Rattle.adf_findings.specs.Survey.{OnSurvey};
 ghost use Rattle.adf_rescue.specs.Lost.{AreEntered, AreLost, AreSettled, AreUnblamed, bit_stated, directory_at, directory_by, has_free_data};
-ghost use Rattle.adf_rescue.specs.Lost.{is_denied, is_directory_header, is_freed, is_inside, is_lost, is_root, is_root_doubtful};
+ghost use Rattle.adf_rescue.specs.Lost.{is_denied, is_directory_header, is_freed, is_lost, is_root, is_root_doubtful};
 ghost use Rattle.adf_rescue.specs.Lost.{is_settled};
 ghost use Rattle.adf_rescue.specs.Lost.{is_stated_free, is_stated_used, is_unfound, says_directory, says_header, table_count};
 
@@ -24,14 +24,14 @@ use adf_blocks::{
     FIRST_POINTER, OWN_KEY, PARENT, POINTERS, SECONDARY_TYPE, SIZE, ST_DIR, T_SHORT, TYPE,
     data_count,
 };
-use adf_findings::{Finding, Part, Survey};
+use adf_findings::{Finding, Part, Survey, has_mark};
 use adf_tree::Node;
 use adf_volume::kind_in;
 use std::alloc::Global;
 
-/// Whether a block is in range: after the boot blocks.
-pub fn is_inside(image: &[u8], b: u32) -> bool
-    ensures { result ≡ is_inside image.now b }
+/// Whether a block is in range: after the boot blocks, and in the image.
+pub fn in_range(image: &[u8], b: u32) -> bool
+    ensures { result ≡ in_range image.now b }
 {
     2 <= b && (b as usize) < image.len() / BLOCK_LEN
 }
@@ -67,7 +67,7 @@ fn says_header(image: &[u8], b: u32) -> bool
 fn bit_stated(survey: &Survey<'_>, b: u32) -> Option<bool>
     ensures { OnSurvey survey.now.image (λ w _. result ≡ bit_stated survey.now.image w b) }
 {
-    if !is_inside(survey.image(), b) {
+    if !in_range(survey.image(), b) {
         return None;
     }
     survey.is_free(b)
@@ -148,13 +148,6 @@ pub fn directory_at(survey: &Survey<'_>, p: u32) -> Option<Node>
         Some(n) => directory_by(survey, p, n),
         None => None,
     }
-}
-
-/// Whether something has a mark; not past the last.
-pub fn is_marked(marks: &Vec<bool>, n: usize) -> bool
-    ensures { result ≡ has_mark marks.now.items n }
-{
-    marks.get(n).copied().unwrap_or(false)
 }
 
 /// Gives something this mark; nothing past the last.
@@ -252,7 +245,7 @@ fn is_denied(survey: &Survey<'_>, settled: &Vec<bool>, b: u32) -> bool
 {
     let p = word_in(survey.image(), b, PARENT);
     match directory_at(survey, p) {
-        Some(n) => is_marked(settled, n.0),
+        Some(n) => has_mark(settled, n.0),
         None => survey.has_part(p),
     }
 }
@@ -280,7 +273,7 @@ fn is_lost(survey: &Survey<'_>, settled: &Vec<bool>, b: u32) -> bool
     ensures { OnSurvey survey.now.image (λ w _. (s : ℕ → Bool) → AreSettled w s settled.now.items
         → result ≡ is_lost survey.now.image w s b) }
 {
-    is_inside(survey.image(), b)
+    in_range(survey.image(), b)
         && is_unfound(survey, b)
         && !is_freed(survey, b)
         && (is_stated_used(survey, b) || !is_denied(survey, settled, b))

@@ -13,11 +13,12 @@ ghost use Rattle.adf_boot_blocks.specs.BootBlocks.{begins_with_dos};
 ghost use Rattle.adf_rescue.specs.Opened.{has_data, is_mended, lacks_boot, opened, says_data, says_file, type_byte};
 ghost use Rattle.adf_rescue.specs.Opened.{with_boot_type};
 
-use crate::image::{block_in, is_image_len};
+use crate::image::block_in;
 use crate::made_root::{has_root, make_root};
 use adf_base::{BLOCK_LEN, NoMemory, put_bytes};
 use adf_blocks::{DATA_HEAD, OWN_KEY, SECONDARY_TYPE, ST_FILE, T_DATA, T_SHORT, TYPE};
 use adf_boot_blocks::begins_with_dos;
+use adf_volume::is_image_len;
 use std::alloc::Global;
 
 /// Whether block `b` says that it is a file's header.

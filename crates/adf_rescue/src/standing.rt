@@ -16,10 +16,10 @@ ghost use Rattle.adf_rescue.specs.Rescue.{is_given, is_of_kept_entry, is_same_bl
 ghost use Rattle.adf_rescue.specs.Salvage.{are_held};
 
 use crate::left_out::Why;
-use crate::lost::{is_marked, is_stated_free};
+use crate::lost::is_stated_free;
 use adf_base::{BLOCK_LEN, Block, NoMemory};
 use adf_blocks::{SECONDARY_TYPE, ST_DIR, ST_LINK_DIR, ST_LINK_FILE, ST_SOFT_LINK};
-use adf_findings::{SoundFile, Survey};
+use adf_findings::{SoundFile, Survey, has_mark};
 use adf_tree::{Body, Bytes, Node};
 use std::alloc::Global;
 
@@ -88,7 +88,7 @@ fn is_of_kept_entry(before: &Survey<'_>, kept: &Vec<bool>, b: u32) -> bool
         → kept.now.items ≡ added_marks g.verdicts → result ≡ is_of_kept_entry g b }
 {
     match before.entry_at(b) {
-        Some(n) => is_marked(kept, n.0),
+        Some(n) => has_mark(kept, n.0),
         None => false,
     }
 }

@@ -28,5 +28,5 @@ pub use crate::row::{Row, RowBody, row_of};
 pub use crate::samples::{
     file_volume_fits, international_volume_fits, lost_block_is_first_fault, tiny_volume_fits,
 };
-pub use crate::start::{Opened, boot_cause, kind_in, letters_in, open_by};
+pub use crate::start::{Opened, boot_cause, is_image_len, kind_in, letters_in, open_by};
 pub use crate::types::Types;

@@ -28,8 +28,8 @@ pub struct Opened<'a> {
     pub root: Root<'a>,
 }
 
-// Whether a volume may have this number of bytes.
-fn is_image_len(size: usize) -> bool
+/// Whether a volume may have this number of bytes.
+pub fn is_image_len(size: usize) -> bool
     ensures { result ≡ is_image_len size }
 {
     match u32::try_from(size / BLOCK_LEN) {

@@ -4,7 +4,7 @@ use Rattle.adf_blocks.specs.Sizes.{blocks}
 use Rattle.adf_rescue.specs.Hung.{AreMade}
 use Rattle.adf_rescue.proofs.HungImages.{made_first, made_marked, made_more, made_same}
 use Rattle.adf_rescue.proofs.LostHeaders.{unmarked}
-use Rattle.adf_rescue.proofs.hung.made.Goals.{then-is_marked, else-is_marked}
+use Rattle.adf_rescue.proofs.hung.made.Goals.{then-has_mark, else-has_mark}
 use Rattle.adf_rescue.proofs.hung.made.Goals as goal
 
 pub loop-b-init : goal.loop-b-init
@@ -17,11 +17,11 @@ loop-b-init c = λ w fs survey s are.
 pub loop-b-preserved : goal.loop-b-preserved
 loop-b-preserved c = λ w fs survey s are.
     let before = c.loop-b.invariant w fs survey s are in
-    elim c.if-is_marked.branch [
-      | then-is_marked b ↦
-          rw b.marks-is (made_more before (sym (are c.loop-b.b) ∙ (sym c.is_marked.ensures ∙ b.if-is_marked.true))
+    elim c.if-has_mark.branch [
+      | then-has_mark b ↦
+          rw b.marks-is (made_more before (sym (are c.loop-b.b) ∙ (sym c.has_mark.ensures ∙ b.if-has_mark.true))
           (b.mark_parent.ensures.marks w fs survey s are) b.mark_parent.ensures.length)
-      | else-is_marked b ↦ rw b.marks-is (made_same before (sym (are c.loop-b.b) ∙ (sym c.is_marked.ensures ∙ b.if-is_marked.false)))
+      | else-has_mark b ↦ rw b.marks-is (made_same before (sym (are c.loop-b.b) ∙ (sym c.has_mark.ensures ∙ b.if-has_mark.false)))
     ]
 
 pub returns : goal.returns
