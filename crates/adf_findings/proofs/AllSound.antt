@@ -12,7 +12,7 @@ use Rattle.adf_findings.proofs.OneSurvey.{gathered}
 use Rattle.adf_findings.proofs.SoundEntries.{skipped_reported}
 use Rattle.adf_findings.proofs.SoundMarks.{is_alone}
 
-none_over : (over : Walk) → ((r : Role) (b : ℕ) → Has over r b → ⊥) → over ≡ []
+pub none_over : (over : Walk) → ((r : Role) (b : ℕ) → Has over r b → ⊥) → over ≡ []
 none_over [] none = refl
 none_over (x ∷ over) none = absurd (none x.0 x.1 (inl (refl, refl)))
 

@@ -24,11 +24,7 @@ use Rattle.adf_memory.specs.Rooms.{filled}
 use Rattle.adf_memory.specs.Subjects.{HasSubject, IsRetyped, front_lines, surveyed_subject, subject_in}
 use Rattle.adf_memory.specs.declared.subjects.SubjectTold.{SubjectTold}
 use Rattle.adf_memory.proofs.RescueReplies.{meant_image}
-
--- a room whose front is filled begins with what fills it
-front_filled : (xs room : List ℕ) → length xs ≤ length room → take (length xs) (filled xs room) ≡ xs
-front_filled xs room le =
-    ap (λ ys. take (length xs) (ys ++ drop (length xs) room)) (take_all (length room) xs le) ∙ take-append_seam xs (drop (length xs) room)
+use Rattle.adf_memory.proofs.TableNames.{text_there}
 
 -- a mark that is 0 is not set
 unset : (is : Bool) → mark_number is ≡ 0 → is ≡ false
@@ -149,7 +145,7 @@ module _ (s : SubjectValue) (old new : List ℕ) (told : SubjectTold) (has : Has
   room_image : take told.length new ≡ (surveyed_subject s has.walk).image
   room_image =
       let image : List ℕ = (surveyed_subject s has.walk).image in
-      (λ i. take (told_length i) (has.room i)) ∙ front_filled image old (subst (λ (k : ℕ). k ≤ length old) told_length has.fits)
+      (λ i. take (told_length i) (has.room i)) ∙ text_there image old (subst (λ (k : ℕ). k ≤ length old) told_length has.fits)
 
   pub has_length : told.length ≡ length s.image
   has_length = told_length ∙ surveyed_length s has.walk

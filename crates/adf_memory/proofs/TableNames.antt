@@ -116,7 +116,7 @@ short_name {ls} image t l i e fits at =
     name_short e.name (ap is_name f.name ∙ name_valid ls image t.kind h (at_node image l e.parent) (slot_by ls e.name) f.form)
 
 -- a text that fits a field stands at its front
-text_there : (text room : List ℕ) → length text ≤ length room → take (length text) (filled text room) ≡ text
+pub text_there : (text room : List ℕ) → length text ≤ length room → take (length text) (filled text room) ≡ text
 text_there text room le = grind (arith, common_steps, take_all, take-append_seam)
 
 -- the name that is told of an entry is its own

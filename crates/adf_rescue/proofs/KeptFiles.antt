@@ -49,7 +49,7 @@ body_in_verdict : (image : List ℕ) (n : ℕ) (t : Tree) (dir : Option (List (L
 body_in_verdict image n t dir h (Err why) x is = absurd cc
 body_in_verdict image n t dir h (Ok body) x is = ap (λ y. let r : Result Body Why = Ok y in r) (sym (body_at_path t n _ body _ x is))
 
-unless_adds : (g : Ground) (o : Option ℕ) (v : Verdict) (x : Addition) → unless_known g o v ≡ adds x → v ≡ adds x
+pub unless_adds : (g : Ground) (o : Option ℕ) (v : Verdict) (x : Addition) → unless_known g o v ≡ adds x → v ≡ adds x
 unless_adds g None v x is = is
 unless_adds g (Some m) v x is = absurd cc
 

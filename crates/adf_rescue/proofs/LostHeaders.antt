@@ -33,6 +33,7 @@ use Rattle.adf_rescue.specs.Lost.{AreEntered, AreSettled, AreUnblamed, bit_state
 use Rattle.adf_rescue.specs.Lost.{directory_at, directory_by, has_child, has_finding, is_denied}
 use Rattle.adf_rescue.specs.Lost.{is_lost, is_of, is_root, is_set_in}
 use Rattle.adf_findings.specs.SurveyResult.{IsBitStated}
+use Rattle.adf_findings.proofs.Doubts.{both as and_more}
 
 -- what the bitmap tells of a block
 
@@ -159,12 +160,6 @@ pub entered_more : {w : Walk} {k p : ℕ} {marks more : List Bool} → AreEntere
     → ((m : ℕ) → m < length marks → has_mark more m ≡ cond (p == m) true (has_mark marks m)) → length more ≡ length marks → AreEntered w (k + 1) more
 unfolding has_child
 entered_more are is put len = grind (arith, common_steps, or_cond, add-one)
-
--- what is struck
-and_more : (a f o : Bool) → ((a && not f) && not o) ≡ (a && not (f || o))
-and_more true true o = refl
-and_more true false o = refl
-and_more false f o = refl
 
 pub unblamed_first : (w : Walk) (fs : List FindingValue) (marks : List Bool) → AreEntered w (heads w) marks → AreUnblamed w fs 0 marks
 unfolding has_finding

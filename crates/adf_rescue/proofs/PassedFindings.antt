@@ -30,6 +30,7 @@ use Rattle.adf_findings.proofs.SoundEntries.{skipped_reported}
 use Rattle.adf_findings.proofs.SoundMarks.{is_alone}
 use Rattle.adf_findings.proofs.TypesRead.{types_read}
 use Rattle.adf_rescue.specs.Rescue.{IsFaulty}
+use Rattle.adf_findings.proofs.AllSound.{none_over}
 
 -- the finding of a type concerns no part, and is grave
 
@@ -59,10 +60,6 @@ passed_grave Plain image = refl
 passed_grave WithInternational image = cause_grave (first_cause (start_form image))
 
 -- so it concerns no entry
-
-none_over : (over : Walk) → ((r : Role) (b : ℕ) → Has over r b → ⊥) → over ≡ []
-none_over [] none = refl
-none_over (x ∷ over) none = absurd (none x.0 x.1 (inl (refl, refl)))
 
 none_of : (types : Types) (image : List ℕ) (fs : List FindingValue) (f : FindingValue) (r : Role) → fs ≡ passed types image → In fs f → f.part ≡ Some r
     → ⊥

@@ -49,6 +49,8 @@ use Rattle.adf_rescue.specs.Rescue.{verdict_tree, unless_known, verdict, verdict
 use Rattle.adf_rescue.specs.Rescue.Verdict.{adds, knows, leaves}
 use Rattle.adf_rescue.proofs.RescuedTrees.{fitting_is, or_else, tree_of_rescue}
 use Rattle.adf_rescue.proofs.Steps.{additions_more, tree_more}
+use Rattle.adf_rescue.proofs.KeptFiles.{unless_adds}
+use Rattle.adf_volume.proofs.BoundedFits.{stamp_small}
 
 -- an addition
 
@@ -96,10 +98,6 @@ added_by : (image : List ℕ) (n : ℕ) (t : Tree) (dir : Option (List (List ℕ
 added_by image n t dir h (Err why) x is = absurd cc
 added_by image n t dir h (Ok body) x is = added_at t n (meta_stated (block image h)) body (path_by t dir (name_of image h) h) x is
 
-anew_unless : (g : Ground) (o : Option ℕ) (v : Verdict) (x : Addition) → unless_known g o v ≡ adds x → v ≡ adds x
-anew_unless g None v x is = is
-anew_unless g (Some m) v x is = absurd cc
-
 module _ (g : Ground) (l : Basis) where
   abbrev path_of : List Verdict → ℕ → Option (List (List ℕ))
   path_of vs n =
@@ -109,18 +107,15 @@ module _ (g : Ground) (l : Basis) where
       → IsAdded (verdict_tree g vs) (blocks g.given) (path_of vs n) (meta_stated (block l.image (node_block l.walk n))) (body_of (as_given g l) n) x
   added_so vs n x is =
       added_by l.image (blocks g.given) (verdict_tree g vs) (new_path vs (parent_node l.walk n)) (node_block l.walk n) (body_of (as_given g l) n) x
-      (anew_unless g (entry_headed g.walk (node_block l.walk n)) (verdict_anew g l vs n) x is)
+      (unless_adds g (entry_headed g.walk (node_block l.walk n)) (verdict_anew g l vs n) x is)
 
 -- the bounds of what is added
-
-stamp_bounded : (bs : List ℕ) (i : ℕ) → AreBytes bs → IsStamp (stamp_at bs i)
-stamp_bounded bs i are = record { days = word_small bs i are; mins = word_small bs (i + 1) are; ticks = word_small bs (i + 2) are }
 
 meta_bounded : (bs : List ℕ) → AreBytes bs → IsBoundedMeta (meta_stated bs)
 meta_bounded bs are = record {
   comment = omega (arith, length-take 79 (text_at bs COMMENT));
   protect = word_small bs PROTECTION are;
-  stamp = stamp_bounded bs DATE are;
+  stamp = stamp_small bs DATE are;
 }
 
 content_bounded : (l : Basis) (n : ℕ) → AreBytes l.image → length (file_content (file_in l.image l.walk n)) < 2 ^ 63
@@ -184,9 +179,9 @@ rescue_bounded letters held a second are more =
     record {
       label = omega (arith, length-take 30 (text_at root NAME));
       stamps = record {
-        root = stamp_bounded root DATE bytes;
-        altered = stamp_bounded root ALTERED bytes;
-        created = stamp_bounded root CREATED bytes;
+        root = stamp_small root DATE bytes;
+        altered = stamp_small root ALTERED bytes;
+        created = stamp_small root CREATED bytes;
       };
       entries = bounded_additions_by letters (rescued_additions_by letters held a second)
           (All-append IsBoundedAddition (verdict_additions (first_verdicts_by letters held a)) (verdict_additions (second_verdicts_by letters held a second))

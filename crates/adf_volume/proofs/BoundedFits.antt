@@ -54,7 +54,7 @@ name_valid letters image kind b up s h = grind (arith, common_steps, demanded, a
 
 -- dates and metadata
 
-stamp_small : (bs : List ℕ) (i : ℕ) → AreBytes bs → IsStamp (stamp_at bs i)
+pub stamp_small : (bs : List ℕ) (i : ℕ) → AreBytes bs → IsStamp (stamp_at bs i)
 stamp_small bs i are = record { days = word_small bs i are; mins = word_small bs (i + 1) are; ticks = word_small bs (i + 2) are }
 
 stamps_small : (image : List ℕ) (b : ℕ) → AreBytes image → AreStamps (stamps_of image b)
