@@ -38,10 +38,7 @@ bounded_new l es x is = record { name = is.name; meta = is.meta; body = is.body 
 bounded_grown : (l : Letters) (es : List Entry) (xs : List Addition) → All IsBoundedEntry es → All IsBoundedAddition xs
     → All IsBoundedEntry (fold (with_addition_by l) es xs)
 bounded_grown l es [] are new = are
-bounded_grown l es (x ∷ xs) are new =
-    bounded_grown l (with_addition_by l es x) xs
-    (bounded_added_by l es (new_entry_by l es x.path x.meta x.body) are (bounded_new l es x (All-head IsBoundedAddition x xs new)))
-    (All-tail IsBoundedAddition x xs new)
+bounded_grown l es (x ∷ xs) are new = search (arith, bounded_added_by, bounded_new, All-head, All-tail, bounded_grown l (with_addition_by l es x) xs)
 
 pub bounded_additions_by : (l : Letters) (xs : List Addition) → All IsBoundedAddition xs → All IsBoundedEntry (entries_of_additions_by l xs)
 bounded_additions_by l xs new = bounded_grown l [] xs (All-nil IsBoundedEntry) new

@@ -1,16 +1,14 @@
 -- The buckets of a set of names, written back as a whole.
-use Rattle.std.proofs.Common.{◌≡◌, ◌∙◌, ◌++◌, ℕ, List, ap, append-nil, arith, drop, length, take}
+use Rattle.std.proofs.Common.{◌≡◌, ◌++◌, ℕ, List, append-nil, arith, drop, length, take}
 use Rattle.std.proofs.lemmas.List.{drop_all, take_all}
+use Rattle.std.proofs.lemmas.Grind.{common_steps}
 use Rattle.adf_tree.specs.NameSet.{Names}
 use Rattle.adf_tree.specs.NameBuckets.{AreStored}
 
 -- what was lent is all that was held, and keeps its length
 pub whole_back : (len : ℕ) (old lent new : List ℕ) → lent ≡ old → length lent ≡ len → length new ≡ length lent
     → take len (new ++ drop (length new) old) ≡ new
-whole_back len old lent new all long kept =
-    let same = ap length all in
-    ap (λ l. take len (new ++ l)) (drop_all (length new) old (omega arith))
-    ∙ (ap (take len) (append-nil new) ∙ take_all len new (omega arith))
+whole_back len old lent new all long kept = grind (arith, common_steps, drop_all, append-nil, take_all)
 
 pub stored_back : (names overflow : Names) (len : ℕ) (old lent new : List ℕ) → lent ≡ old → length lent ≡ len → length new ≡ length lent
     → AreStored names new overflow → AreStored names (take len (new ++ drop (length new) old)) overflow

@@ -131,10 +131,7 @@ no_parent l es e t dir k d lt =
 pub child_of_new : {l : Letters} (es : List Entry) (e : Entry) (name : List ℕ) → IsTreeBy l es → IsDir es e.parent
     → let n : ℕ = place_by l es (rank_by l e) + 1 in
     child_by l (added_by l es e) n name ≡ None
-child_of_new {l} es e name t dir =
-    let n : ℕ = place_by l es (rank_by l e) + 1 in
-    no_children_by l (added_by l es e) n name (λ k d lt. let x = get_or (added_by l es e) k d in
-    false_from_ne_true (is_child_by l n name x) (λ h. no_parent l es e t dir k d lt (child_says_by l n name x h).0))
+child_of_new {l} es e name t dir = grind (arith, no_children_by, false_from_ne_true, no_parent, child_says_by)
 
 pub parent_stays : {l : Letters} (es : List Entry) (e : Entry) → IsTreeBy l es → IsDir es e.parent
     → moved (place_by l es (rank_by l e) + 1) e.parent ≡ e.parent

@@ -1,6 +1,6 @@
 -- The set of names in the last chain of a tree.
 -- Letters: l the letters whose case is ignored.
-use Rattle.std.proofs.Common.{◌≡◌, ℕ, ◌-◌, List, [], ◌∷◌, length, get_or, true, false, Option, Some, None, Result, Ok, Err}
+use Rattle.std.proofs.Common.{◌≡◌, ℕ, List, [], ◌∷◌, length, get_or, true, false, Option, Some, None, Result, Ok, Err}
 use Rattle.std.proofs.Common.{arith, nat_lt, sym, refl, ◌∙◌}
 use Rattle.std.specs.List.{list_any}
 use Rattle.std.specs.List.Sorted.{IsPartitionPoint}
@@ -28,9 +28,7 @@ at_ok (Err y) h p = cc
 -- a child is found where some entry is one
 any_of : (l : Letters) (es : List Entry) (p : ℕ) (name : List ℕ) (m : ℕ) → child_by l es p name ≡ Some m → list_any (is_child_by l p name) es ≡ true
 any_of l [] p name m h = cc
-any_of l (e ∷ es) p name m h =
-    let found = found_is_by l (e ∷ es) p name m e h in
-    list_any_at (is_child_by l p name) (e ∷ es) (m - 1) e (omega (arith, found.0, found.1)) found.2
+any_of l (e ∷ es) p name m h = grind (arith, common_steps, list_any_at, found_is_by l (e ∷ es) p name m e h)
 
 any_is : (l : Letters) (es : List Entry) (p : ℕ) (name : List ℕ) (o : Option ℕ) → child_by l es p name ≡ o
     → list_any (is_child_by l p name) es ≡ is_some o

@@ -24,8 +24,7 @@ at_more (x ∷ xs) ys zero k h = h
 at_more (x ∷ xs) ys (suc i) k h = at_more xs ys i k h
 
 at_among : (xs : Names) (i : ℕ) (h k : NameKey) → slice_get xs i ≡ Some h → is_eq (by_words k h) ≡ true → is_among xs k ≡ true
-at_among xs i h k at same =
-    list_any_at (λ n. is_eq (by_words k n)) xs i h (slice_get_within xs i h at) (rw (get_or_from_slice_get xs i h h at) same)
+at_among xs i h k at same = grind (arith, common_steps, list_any_at, slice_get_within xs i h at, get_or_from_slice_get xs i h h at)
 
 -- what the next bucket tells
 pub next_bucket : (names : Names) (buckets : List ℕ) (k : NameKey) (bucket end : ℕ) → bucket < end → probe_from names buckets k bucket (end - bucket)
@@ -78,20 +77,14 @@ stored_from names buckets k bucket (suc n) e = grind (arith, common_steps, store
 
 -- where few names have buckets, the buckets tell all
 all_told : (count : ℕ) (s : Probe) → count < 2 ^ 32 → while_few count s ≡ s
-all_told count Stored few = refl
-all_told count (Vacant bucket) few = rw (lt-ltb count (2 ^ 32) few) refl
-all_told count Full few = refl
+all_told count s h = grind (arith, common_steps, lt-ltb)
 
 stored_told : (count : ℕ) (s : Probe) → while_few count s ≡ Stored → s ≡ Stored
-stored_told count Stored e = refl
-stored_told count (Vacant bucket) e = grind (arith, common_steps, cases_Bool)
-stored_told count Full e = cc
+stored_told count s h = grind (arith, common_steps, cases_Bool)
 
 -- a bucket is vacant only where few names have one
 few_told : (count : ℕ) (s : Probe) (bucket : ℕ) → while_few count s ≡ Vacant bucket → count < 2 ^ 32
-few_told count Stored bucket e = cc
-few_told count (Vacant other) bucket e = grind (arith, common_steps, cases_Bool, ltb-true)
-few_told count Full bucket e = cc
+few_told count s bucket h = grind (arith, common_steps, cases_Bool, ltb-true)
 
 pub few_stored : (names : Names) (buckets : List ℕ) (k : NameKey) (bucket : ℕ) → probe_of names buckets k ≡ Vacant bucket → length names < 2 ^ 32
 few_stored names buckets k bucket e = few_told (length names) (probe_buckets names buckets k) bucket e
@@ -118,9 +111,7 @@ vacant_step names buckets k from n bucket (Some h) further at more e = grind (ar
 vacant_from : (names : Names) (buckets : List ℕ) (k : NameKey) (from n bucket : ℕ) → probe_from names buckets k from n ≡ Vacant bucket
     → IsVacant names buckets from n bucket
 vacant_from names buckets k from zero bucket e = cc
-vacant_from names buckets k from (suc n) bucket e =
-    vacant_step names buckets k from n bucket (holder_of names buckets from) (probe_from names buckets k (from + 1) n) refl
-    (vacant_from names buckets k (from + 1) n bucket) e
+vacant_from names buckets k from (suc n) bucket e = search (arith, vacant_step, vacant_from names buckets k (from + 1) n bucket)
 
 -- a vacant bucket is given to a new name: who had a bucket has it still
 had : (names : Names) (buckets : List ℕ) (bucket from : ℕ) (name h : NameKey) → holder_of names buckets bucket ≡ None
@@ -136,24 +127,14 @@ IsTaken Full = Unit
 
 stays_step : (bucket : ℕ) (k : NameKey) (o p : Option NameKey) (old new answer : Probe) → ((h : NameKey) → o ≡ Some h → p ≡ Some h)
     → (old ≡ answer → new ≡ answer) → IsTaken answer → probe_at bucket k o old ≡ answer → probe_at bucket k p new ≡ answer
-stays_step bucket k None p old new Stored held more taken e = cc
-stays_step bucket k None p old new (Vacant other) held more taken e = absurd taken
-stays_step bucket k None p old new Full held more taken e = cc
-stays_step bucket k (Some h) p old new answer held more taken e =
-    rw (held h refl)
-    (elim (cases_Bool (is_eq (by_words k h))) [
-      | inl t ↦ rw t (rw t at e)
-      | inr f ↦ rw f (more (rw f at e))
-    ])
+stays_step bucket k o p old new answer l m n q = search (arith, cases_Bool)
 
 stays_from : (names : Names) (buckets : List ℕ) (bucket : ℕ) (name : NameKey) → holder_of names buckets bucket ≡ None
     → (answer : Probe) → IsTaken answer → (k : NameKey) (from n : ℕ) → probe_from names buckets k from n ≡ answer
     → probe_from (names ++ name ∷ []) (set buckets bucket (length names)) k from n ≡ answer
 stays_from names buckets bucket name free answer taken k from zero e = e
 stays_from names buckets bucket name free answer taken k from (suc n) e =
-    stays_step from k (holder_of names buckets from) (holder_of (names ++ name ∷ []) (set buckets bucket (length names)) from)
-    (probe_from names buckets k (from + 1) n) (probe_from (names ++ name ∷ []) (set buckets bucket (length names)) k (from + 1) n) answer
-    (λ h at. had names buckets bucket from name h free at) (stays_from names buckets bucket name free answer taken k (from + 1) n) taken e
+    search (arith, stays_step, set, had, stays_from names buckets bucket name free answer taken k (from + 1) n)
 
 -- and the new name has it
 gains_step : (names : Names) (buckets : List ℕ) (bucket from : ℕ) (name : NameKey) (o : Option NameKey) (old new : Probe)
@@ -161,27 +142,16 @@ gains_step : (names : Names) (buckets : List ℕ) (bucket from : ℕ) (name : Na
     → (old ≡ Vacant bucket → new ≡ Stored) → probe_at from name o old ≡ Vacant bucket
     → probe_at from name (holder_of (names ++ name ∷ []) (set buckets bucket (length names)) from) new ≡ Stored
 gains_step names buckets bucket from name None old new at inside free more e = grind (arith, common_steps, get_or-set_same, get_last, same_itself)
-gains_step names buckets bucket from name (Some h) old new at inside free more e =
-    rw (had names buckets bucket from name h free at)
-    (elim (cases_Bool (is_eq (by_words name h))) [
-      | inl t ↦ let clash = rw t at e in cc
-      | inr f ↦ rw f (more (rw f at e))
-    ])
+gains_step names buckets bucket from name (Some h) old new at inside free more e = grind (arith, common_steps, had, cases_Bool (is_eq (by_words name h)))
 
 gains_from : (names : Names) (buckets : List ℕ) (bucket : ℕ) (name : NameKey) → bucket < length buckets → holder_of names buckets bucket ≡ None
     → (from n : ℕ) → probe_from names buckets name from n ≡ Vacant bucket
     → probe_from (names ++ name ∷ []) (set buckets bucket (length names)) name from n ≡ Stored
 gains_from names buckets bucket name inside free from zero e = cc
-gains_from names buckets bucket name inside free from (suc n) e =
-    gains_step names buckets bucket from name (holder_of names buckets from) (probe_from names buckets name (from + 1) n)
-    (probe_from (names ++ name ∷ []) (set buckets bucket (length names)) name (from + 1) n) refl inside free
-    (gains_from names buckets bucket name inside free (from + 1) n) e
+gains_from names buckets bucket name inside free from (suc n) e = search (arith, gains_step, set, gains_from names buckets bucket name inside free (from + 1) n)
 
 or_swap : (a b c : Bool) → ((a || (b || false)) || c) ≡ (b || (a || c))
-or_swap true true c = refl
-or_swap true false c = refl
-or_swap false true c = refl
-or_swap false false c = refl
+or_swap a b c = grind (arith, common_steps)
 
 pub with_new : (names overflow : Names) (name : NameKey) → IsWith (names ++ overflow) ((names ++ name ∷ []) ++ overflow) name
 with_new names overflow name = grind (arith, common_steps, list_any-append, same_either, or_swap)
@@ -204,9 +174,7 @@ module _ (names : Names) (buckets : List ℕ) (overflow : Names) (bucket : ℕ) 
     (inside : bucket < length buckets)
     (found : probe_of names buckets name ≡ Vacant bucket) where
   taken_told : (answer : Probe) → IsTaken answer → while_few (length (names ++ name ∷ [])) answer ≡ answer
-  taken_told Stored taken = refl
-  taken_told (Vacant bucket) taken = absurd taken
-  taken_told Full taken = refl
+  taken_told answer h = grind (arith, common_steps)
 
   few : length names < 2 ^ 32
   few = few_stored names buckets name bucket found
@@ -222,9 +190,7 @@ module _ (names : Names) (buckets : List ℕ) (overflow : Names) (bucket : ℕ) 
   stay_told : (answer : Probe) → IsTaken answer → (k : NameKey) → probe_buckets names buckets k ≡ answer
       → probe_buckets (names ++ name ∷ []) (set buckets bucket (length names)) k ≡ answer
   unfolding probe_buckets
-  stay_told answer taken k e =
-      rw (length-set buckets bucket (length names))
-      (stays_from names buckets bucket name free answer taken k (first_bucket_in (length buckets - 8) k) 8 e)
+  stay_told answer taken k e = search (arith, length-set, stays_from, free)
 
   stays : (answer : Probe) → IsTaken answer → (k : NameKey) → probe_of names buckets k ≡ answer
       → probe_of (names ++ name ∷ []) (set buckets bucket (length names)) k ≡ answer
@@ -259,9 +225,7 @@ module _ (names : Names) (buckets : List ℕ) (overflow : Names) (bucket : ℕ) 
   }
 
 either_way : (a b c : Bool) → (a || c) ≡ c → (a || (b || c)) ≡ (b || c)
-either_way true true c h = refl
-either_way true false c h = h
-either_way false b c h = refl
+either_way a b c h = grind (arith, common_steps)
 
 -- a name whose buckets are full is put into the overflow
 pub stored_overflow : (names : Names) (buckets : List ℕ) (old new : Names) (name : NameKey) → AreStored names buckets old

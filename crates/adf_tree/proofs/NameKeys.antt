@@ -5,7 +5,6 @@ use Rattle.std.specs.Int.{to_be_bytes, w64}
 use Rattle.std.specs.List.{All, list_all}
 use Rattle.std.specs.Ordering.{is_eq, nat_cmp, ordering_then}
 use Rattle.std.specs.declared.cmp.Ordering.{Ordering}
-use Rattle.std.specs.declared.cmp.Ordering.TheVariants.{Less, Equal, Greater}
 use Rattle.std.specs.Str.{bytes_eq}
 use Rattle.std.specs.Cmp.{both_ways}
 use Rattle.std.proofs.lemmas.Bool.{cases_Bool, cases_lt, and_parts, eq-eqb, eqb-true, false_from_ne_true, le-leb, leb-true, ltb-true}
@@ -88,16 +87,10 @@ same_text p q bp bq lp lq a b c d =
     sym (in_parts p lp) ∙ rw (part 0 (omega arith) a, part 8 (omega arith) b, part 16 (omega arith) c, part 24 (omega arith) d) (in_parts q lq)
 
 unpadded : (x y : List ℕ) → padded x ≡ padded y → x ≡ y
-unpadded x y h =
-    let long : length x ≡ length y = ap (λ t. get_or t 0 0) h in
-    sym (take-append_seam x (replicate (31 - length x) 0))
-    ∙ (ap (λ t. take (length x) (drop 1 t)) h
-    ∙ (ap (λ n. take n (y ++ replicate (31 - length y) 0)) long ∙ take-append_seam y (replicate (31 - length y) 0)))
+unpadded x y h = grind (arith, common_steps, take-append_seam x (replicate (31 - length x) 0), take-append_seam y (replicate (31 - length y) 0))
 
 pub then_is : (o p : Ordering) → is_eq (ordering_then o p) ≡ (is_eq o && is_eq p)
-then_is Less p = refl
-then_is Equal p = refl
-then_is Greater p = refl
+then_is o p = grind (arith, common_steps)
 
 pub same_number : (a b : ℕ) → is_eq (nat_cmp a b) ≡ (a == b)
 same_number a b = grind (arith, nat_tests)

@@ -68,14 +68,7 @@ fuel l es f g n t a b = sym (raised_names l es f n) ∙ (ap (map (uppers_by l)) 
 
 child_path : (l : Letters) (es : List Entry) (p : ℕ) (x : List ℕ) (k : ℕ) (d : Entry) → IsTreeBy l es → child_by l es p x ≡ Some k
     → path_of_by l es k ≡ path_of_by l es p ++ uppers_by l x ∷ []
-child_path l es p x k d t h =
-    let found = found_is_by l es p x k d h in
-    let says = child_says_by l p x (get_or es (k - 1) d) found.2 in
-    let small = t.parents (k - 1) d (omega (arith, found.0, found.1)) in
-    let back : k ≡ suc (k - 1) = omega (arith, found.0) in
-    ap (λ v. path_in_by l es v k) back
-    ∙ (ap (path_past l es (k - 1)) (entry_at es k d found.0 found.1)
-    ∙ rw (says.0, says.1, fuel l es (k - 1) p p t (omega (arith, small, says.0)) (omega arith)) refl)
+child_path l es p x k d t h = grind (arith, common_steps, child_says_by, entry_at, fuel, found_is_by l es p x k d h)
 
 -- a path leads to the node whose path it is
 pub led : (l : Letters) (es : List Entry) (p m : ℕ) (q : List (List ℕ)) (d : Entry) → IsTreeBy l es → find_from_by l es p q ≡ Some m
@@ -200,15 +193,7 @@ directory_found_by l es p (x ∷ xs) q h =
 pub adds_one : (l : Letters) (es : List Entry) (e : Entry) (parents path : List (List ℕ)) → IsTreeBy l es
     → room_at_by l es e.name (directory_from_by l es 0 parents) ≡ Ok e.parent → path ≡ parents ++ e.name ∷ []
     → AddsOneBy l es (added_by l es e) e path
-adds_one l es e parents path t room is =
-    let may : MayAddBy l es e = room_may_add_by l es e parents room in
-    let to = directory_found_by l es 0 parents e.parent (room_says_by l es e (directory_from_by l es 0 parents) room).0 in
-    let raised : map (uppers_by l) path ≡ map (uppers_by l) (parents ++ e.name ∷ []) = ap (map (uppers_by l)) is in
-    record {
-      there = λ q same. content_new parents q t may to (same ∙ raised);
-      others = λ q other. content_old parents q t may to (λ same. other (same ∙ sym raised));
-      chains = λ p s. chain_added es e p s t may.parent;
-    }
+adds_one l es e parents path t room is = grind (arith, room_may_add_by, directory_found_by, room_says_by, content_new, content_old, chain_added)
 
 pub added_paths : {l : Letters} {E : Type 0} (r : Result (Unit {0}) E) (es new : List Entry) (e : Entry) (path : List (List ℕ)) (meta : Meta)
     (body : Body) → IsTreeBy l es → IsNewBy l es path meta body e → new ≡ (if is_ok r then added_by l es e else es)

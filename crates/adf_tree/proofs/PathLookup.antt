@@ -54,11 +54,7 @@ at_new l es e p x [] t may here same =
       new = ap (then_find_by l (added_by l es e) []) (new_there l es e p x t may here same);
       old = ap (then_find_by l es []) (nothing_yet l es e p x may here same);
     })
-at_new l es e p x (y ∷ ys) t may here same =
-    inl
-    (ap (then_find_by l (added_by l es e) (y ∷ ys)) (new_there l es e p x t may here same)
-    ∙ (ap (then_find_by l (added_by l es e) ys) (child_of_new es e y t may.parent)
-    ∙ sym (ap (λ o. option_map (moved (place_by l es (rank_by l e) + 1)) (then_find_by l es (y ∷ ys) o)) (nothing_yet l es e p x may here same))))
+at_new l es e p x (y ∷ ys) t may here same = grind (arith, common_steps, new_there, option_map, nothing_yet, child_of_new es e y t may.parent)
 
 pub leads : (l : Letters) (es : List Entry) (e : Entry) (p : ℕ) (q : List (List ℕ)) → IsTreeBy l es → MayAddBy l es e → Leads l es e p q
 leads l es e p [] t may = inl refl

@@ -1,6 +1,6 @@
 -- Where an entry is inserted in walk order, and the result of inserting and renumbering.
 -- Letters: l the letters whose case is ignored.
-use Rattle.std.proofs.Common.{◌≡◌, ℕ, ◌≤◌, List, [], ◌∷◌, length, get_or, true, false, arith, nat_lt, nat_le, sym, ◌+◌, ◌++◌, take, drop, map}
+use Rattle.std.proofs.Common.{◌≡◌, ℕ, ◌≤◌, List, [], ◌∷◌, length, true, false, arith, nat_lt, nat_le, ◌+◌, ◌++◌, take, drop, map}
 use Rattle.std.specs.List.Sorted.{IsPartitionPoint}
 use Rattle.std.proofs.lemmas.List.Sums.{position_or_len_is}
 use Rattle.std.proofs.lemmas.Bool.{le-ltb, lt-ltb, leb-true, leb-false}
@@ -16,10 +16,7 @@ pub place_is_by : (l : Letters) (es : List Entry) (r i : ℕ) → i ≤ length e
     → i ≡ place_by l es r
 place_is_by l [] r i le h = omega arith
 place_is_by l (e ∷ es) r i le h =
-    sym
-    (position_or_len_is (λ e. nat_lt r (rank_by l e)) (e ∷ es) i e le
-    (λ k lt. le-ltb r (rank_by l (get_or (e ∷ es) k e)) (leb-true (rank_by l (get_or (e ∷ es) k e)) r (h.0 k e (omega arith) lt)))
-    (λ lt. lt-ltb r (rank_by l (get_or (e ∷ es) i e)) (leb-false (rank_by l (get_or (e ∷ es) i e)) r (h.1 i e (omega arith) lt))))
+    grind (arith, common_steps, le-ltb, leb-true, lt-ltb, leb-false, position_or_len_is (λ e. nat_lt r (rank_by l e)) (e ∷ es) i e le, nat_lt r (rank_by l e))
 
 pub place_is : (es : List Entry) (r i : ℕ) → i ≤ length es → IsPartitionPoint (λ e. nat_le (rank e) r ≡ true) (λ e. nat_le (rank e) r ≡ false) es i
     → i ≡ place es r

@@ -1,5 +1,6 @@
 use Rattle.std.proofs.Common.{◌≡◌, ◌∙◌, ◌++◌, ◌||◌, Bool, List, Ok, Err, Result, IfOk, OnOk, ℕ, ap, arith, not, subst, sym, true}
 use Rattle.std.specs.Ordering.{is_eq}
+use Rattle.std.proofs.lemmas.Grind.{common_steps}
 use Rattle.adf_base.specs.declared.NoMemory.{NoMemory}
 use Rattle.adf_names.specs.Texts.{uppers_by}
 use Rattle.adf_tree.specs.declared.name_key.NameKey.{NameKey}
@@ -27,9 +28,7 @@ pub place-requires-clause-stored : goal.place-requires-clause-stored
 place-requires-clause-stored c = rw c.deref_mut.ensures.value c.make_room.ensures.stored
 
 pub invariant_of-self-2 : goal.invariant_of-self-2
-invariant_of-self-2 c =
-    stored_back _ _ c.make_room.new.buckets.len c.make_room.new.buckets.items c.deref_mut.result.now c.place.new.buckets
-    c.deref_mut.ensures.value c.deref_mut.ensures.len (omega arith) c.place.ensures.stored
+invariant_of-self-2 c = grind (arith, common_steps, stored_back)
 
 pub returns-clause-new : goal.returns-clause-new
 returns-clause-new c =
@@ -38,7 +37,4 @@ returns-clause-new c =
     c.place.result c.place.ensures.new
 
 pub returns-clause-more : goal.returns-clause-more
-returns-clause-more c =
-    is_more_there c.args.self.now (c.make_room.new.names.items ++ c.make_room.new.overflow.keys) (uppers_by c.args.letters c.args.name.now)
-    c.of_by-key.result c.of_by-key.ensures.short c.of_by-key.ensures.key (λ q. rw (← c.self.view_is) (c.in_ok-make_room.ensures.same q))
-    c.place.result _ c.place.ensures.more
+returns-clause-more c = grind (arith, is_more_there)
