@@ -1,5 +1,6 @@
 -- The parts that a walk asks for after another part is taken: those from before, and those after that part.
 use Rattle.std.proofs.Common.{◌≡◌, ◌≢◌, ℕ, zero, suc, List, ◌∷◌, ◌⊎◌, inl, inr, ◌+◌, ◌/◌, ◌<◌, refl, sym, subst, arith}
+use Rattle.std.proofs.lemmas.Grind.{common_steps}
 use Rattle.adf_blocks.specs.declared.layout.TheConstants.{FIRST_SLOT, POINTERS, SLOTS}
 use Rattle.adf_blocks.specs.Sizes.{blocks, pages_needed}
 use Rattle.adf_volume.specs.Image.{word_in, table_word}
@@ -13,18 +14,7 @@ module _ (image : List ℕ) (w : Walk) (r : Role) (b : ℕ) where
   -- what was asked for is asked for still
   pub asks_more : (q : Role) (a i : ℕ) → Asks image w (renumbered (suc (heads w)) q) a i
       → Asks image ((r, b) ∷ w) (renumbered (suc (heads ((r, b) ∷ w))) q) a i
-  asks_more Root a i h = absurd h
-  asks_more (Page k) a i (lt, inl h) = (lt, inl h)
-  asks_more (Page k) a i (lt, inr (j, has, li, ke)) = (lt, inr (j, inr has, li, ke))
-  asks_more (MapExt zero) a i h = h
-  asks_more (MapExt (suc j)) a i (lt, has, ie) = (lt, inr has, ie)
-  asks_more (Head n p s zero) a i (x, ls, d, ie, ne) = (refl, ls, dir_up image w (r, b) p a d, ie, ne)
-  asks_more (Head n p s (suc j)) a i (x, (m, has), ie, ne) = (refl, (m, inr has), ie, ne)
-  asks_more (Ext n zero) a i h = absurd h
-  asks_more (Ext n (suc zero)) a i (f, ie, ne) = (typed_up (r, b) f, ie, ne)
-  asks_more (Ext n (suc (suc k))) a i (has, ie, ne) = (inr has, ie, ne)
-  asks_more (Data n zero) a i h = absurd h
-  asks_more (Data n (suc k)) a i ((h, f, lt), m, ie) = ((h, typed_up (r, b) f, lt), member_up image w (r, b) n (k / POINTERS) a m, ie)
+  asks_more q a i h = grind (arith, common_steps, dir_up, typed_up, member_up)
 
   -- what was asked for before, or comes after the part
   abbrev Either : Role → ℕ → ℕ → Type 0

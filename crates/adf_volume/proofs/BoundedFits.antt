@@ -1,5 +1,5 @@
 -- The fields of a tree that fits an image of bytes are within their bounds. b is the block of a header, bs the bytes of a block.
-use Rattle.std.proofs.Common.{◌≡◌, ◌≤◌, ◌+◌, ℕ, suc, true, List, nat_le, arith, length, rules, slice_index}
+use Rattle.std.proofs.Common.{◌≡◌, ◌≤◌, ◌+◌, ℕ, suc, true, List, nat_le, arith, length, slice_index}
 use Rattle.std.proofs.lemmas.Bool.{and_parts, leb-true}
 use Rattle.std.proofs.lemmas.Grind.{common_steps}
 use Rattle.std.proofs.lemmas.List.{length-take}
@@ -16,10 +16,7 @@ use Rattle.adf_tree.specs.declared.entry.Body.{Body}
 use Rattle.adf_tree.specs.declared.entry.Body.TheVariants.{Dir, File}
 use Rattle.adf_tree.specs.declared.entry.Entry.{Entry}
 use Rattle.adf_blocks.specs.Forms.{stamp_at, text_at}
-use Rattle.adf_blocks.specs.HeadBlock.{head_form_by}
-use Rattle.adf_blocks.specs.RootBlock.{root_form}
-use Rattle.adf_blocks.specs.declared.cause.Cause.TheVariants.{BadComment, BadName}
-use Rattle.adf_blocks.specs.declared.layout.TheConstants.{COMMENT, NAME, SIZE}
+use Rattle.adf_blocks.specs.declared.layout.TheConstants.{COMMENT, SIZE}
 use Rattle.adf_volume.specs.Demands.{AllHold, head_demands_by, root_demands}
 use Rattle.adf_volume.specs.Fits.{BodyFits, EntryFitsBy, FitsBy}
 use Rattle.adf_volume.specs.Image.{meta_of, name_of, root_of, stamps_of}
@@ -34,17 +31,11 @@ text_short bs at n le = grind (arith, common_steps, length-take)
 
 pub label_short : (image : List ℕ) → AllHold (root_demands image (root_of image)) → length (name_of image (root_of image)) ≤ 30
 unfolding name_of
-label_short image h =
-    let bs : List ℕ = block image (root_of image) in
-    let most : ℕ = slice_index bs NAME in
-    text_short bs NAME 30 (leb-true most 30 (demanded (root_of image) (root_form bs) (nat_le most 30) BadName h (search rules)))
+label_short image h = grind (arith, common_steps, text_short, leb-true, demanded, nat_le)
 
 pub comment_short : (letters : Letters) (image : List ℕ) (kind : Kind) (b up s : ℕ) → AllHold (head_demands_by letters image kind b up s)
     → length (text_at (block image b) COMMENT) ≤ 79
-comment_short letters image kind b up s h =
-    let bs : List ℕ = block image b in
-    let most : ℕ = slice_index bs COMMENT in
-    text_short bs COMMENT 79 (leb-true most 79 (demanded b (head_form_by letters kind b up s bs) (nat_le most 79) BadComment h (search rules)))
+comment_short letters image kind b up s h = grind (arith, common_steps, text_short, leb-true, demanded, nat_le)
 
 -- the name in a header is one
 pub name_valid : (letters : Letters) (image : List ℕ) (kind : Kind) (b up s : ℕ) → AllHold (head_demands_by letters image kind b up s)
@@ -59,16 +50,12 @@ stamp_small bs i are = record { days = word_small bs i are; mins = word_small bs
 
 stamps_small : (image : List ℕ) (b : ℕ) → AreBytes image → AreStamps (stamps_of image b)
 unfolding stamps_of
-stamps_small image b are =
-    let bytes = block_bytes image b are in
-    record { root = stamp_small _ _ bytes; altered = stamp_small _ _ bytes; created = stamp_small _ _ bytes }
+stamps_small image b are = grind (arith, common_steps, block_bytes, stamp_small)
 
 meta_small : (letters : Letters) (image : List ℕ) (kind : Kind) (b up s : ℕ) → AreBytes image
     → AllHold (head_demands_by letters image kind b up s) → IsBoundedMeta (meta_of image b)
 unfolding meta_of
-meta_small letters image kind b up s are h =
-    let bytes = block_bytes image b are in
-    record { comment = comment_short letters image kind b up s h; protect = word_small _ _ bytes; stamp = stamp_small _ _ bytes }
+meta_small letters image kind b up s are h = grind (arith, common_steps, comment_short, word_small, stamp_small, block_bytes image b are)
 
 body_small : (image : List ℕ) (kind : Kind) (l : Layout) (n b : ℕ) (body : Body) → AreBytes image → BodyFits image kind l n b body → IsData body
 body_small image kind l n b Dir are fits = tt

@@ -19,18 +19,12 @@ use Rattle.adf_volume.proofs.Comparisons.{both_equal, equal_both}
 
 -- a place in a list that begins with k where t holds
 at_kept : (t : Bool) (k : ℕ) (rest : List ℕ) (j n : ℕ) → At (cond t (k ∷ rest) rest) j n → ((t ≡ true) × (k ≡ n)) ⊎ ((i : ℕ) × At rest i n)
-at_kept true k rest zero n h = inl (refl, h)
-at_kept true k rest (suc j) n h = inr (j, h)
-at_kept false k rest j n h = inr (j, h)
+at_kept t k rest j n h = grind (arith, common_steps)
 
 -- a chain rises
 rises_kept : (t : Bool) (k : ℕ) (rest : List ℕ) (i j n m : ℕ) → ((l x : ℕ) → At rest l x → k < x)
     → ((i j n m : ℕ) → At rest i n → At rest j m → i < j → n < m) → At (cond t (k ∷ rest) rest) i n → At (cond t (k ∷ rest) rest) j m → i < j → n < m
-rises_kept true k rest zero zero n m low ih a b l = absurd (omega arith)
-rises_kept true k rest zero (suc j) n m low ih a b l = let x : k < m = low j m b in let y : k ≡ n = a in omega arith
-rises_kept true k rest (suc i) zero n m low ih a b l = absurd (omega arith)
-rises_kept true k rest (suc i) (suc j) n m low ih a b l = ih i j n m a b (omega arith)
-rises_kept false k rest i j n m low ih a b l = ih i j n m a b l
+rises_kept t k rest i j n m h o p q r = grind (arith, common_steps)
 
 pub entry_fun : (t : Tree) (n : ℕ) (e f : Entry) → EntryAt t n e → EntryAt t n f → e ≡ f
 entry_fun t zero e f h k = absurd h

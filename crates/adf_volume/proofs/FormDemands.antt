@@ -47,9 +47,7 @@ demanded_first b a c ((false, d) ∷ form) (inl h) = (ap Some h.2, h.1)
 demanded_first b a c ((false, d) ∷ form) (inr h) = let e : false ≡ true = h.0 in cc
 
 entry : (a l : Bool) → (a || l) ≡ true → not l ≡ true → a ≡ true
-entry true l h k = refl
-entry false true h k = cc
-entry false false h k = h
+entry a l h k = grind (arith, common_steps)
 
 which : (t : ℕ) (x : Bool) → (t == ST_DIR) ≡ x → (x || (t == ST_FILE)) ≡ true → (t ≡ ST_DIR) ⊎ (t ≡ ST_FILE)
 which t true e h = inl (eqb-true t ST_DIR e)

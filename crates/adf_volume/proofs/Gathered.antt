@@ -1,6 +1,6 @@
 -- Facts of every list of parts that were each asked for and missing when added, for any content of their blocks.
 use Rattle.std.proofs.lemmas.Bool.{eqb-true}
-use Rattle.std.proofs.Common.{Bool, true, false, cond, eq-eqb, ◌≡◌, ℕ, zero, suc, List, [], ◌∷◌, inl, inr, ◌/◌, ◌<◌, ◌≤◌, ◌≢◌, refl, sym, ap}
+use Rattle.std.proofs.Common.{Bool, true, cond, eq-eqb, ◌≡◌, ℕ, zero, suc, List, [], ◌∷◌, inl, inr, ◌/◌, ◌<◌, ◌≤◌, ◌≢◌, refl, sym, ap}
 use Rattle.std.proofs.Common.{subst, ◌∙◌, arith, rules}
 use native.Mathlib.Decide.{dec_le, dec_lt}
 use Rattle.adf_blocks.specs.declared.layout.TheConstants.{POINTERS}
@@ -123,10 +123,7 @@ module _ (image : List ℕ) where
     member_one n (suc m) a b h k = (one_block v (Ext n (suc m)) (Ext n (suc m)) a b h k (refl, refl, refl)).1
 
     names_one : (n a i b j : ℕ) → NamesPage image w n a i → NamesPage image w n b j → (a ≡ b) × (i ≡ j)
-    names_one n a i b j (inl h) (inl k) = (h.1 ∙ sym k.1, h.2 ∙ sym k.2)
-    names_one n a i b j (inl h) (inr k) = absurd (omega arith)
-    names_one n a i b j (inr h) (inl k) = absurd (omega arith)
-    names_one n a i b j (inr h) (inr k) = grind (arith, common_steps, one_block)
+    names_one n a i b j h k = grind (arith, common_steps, one_block)
 
     -- a role is asked for by one word
     pub asks_one : (r : Role) (a i b j : ℕ) → Asks image w r a i → Asks image w r b j → (a ≡ b) × (i ≡ j)
@@ -187,9 +184,7 @@ module _ (image : List ℕ) where
 
   -- the block of a node, as a function, is not changed by what is no header of that number
   other_node : (w : Walk) (n : ℕ) (r : Role) (a i b c : ℕ) → Asks image w r a i → n ≤ heads w → node_block_of n r b c ≡ c
-  other_node w n Root a i b c d u = absurd d
-  other_node w n (Head m p s j) a i b c d u = grind (arith, common_steps, asks_number, eqb_tells)
-  other_node w n _ a i b c d u = refl
+  other_node w n r a i b c h k = grind (arith, common_steps, asks_number, eqb_tells)
 
   pub head_block : {w : Walk} {n b : ℕ} → IsGathered image w → HeadAt w n b → node_block w n ≡ b
   head_block start h = absurd (no_head h)
@@ -216,9 +211,7 @@ module _ (image : List ℕ) where
   ext_block_new n k r b c e = grind (arith, common_steps, eq-eqb)
 
   cond_both : (t u : Bool) (b c a : ℕ) → (t ≡ true → u ≡ true → ⊥) → c ≡ a → cond t (cond u b c) c ≡ a
-  cond_both true true b c a h z = absurd (h refl refl)
-  cond_both true false b c a h z = z
-  cond_both false u b c a h z = z
+  cond_both t u b c a h k = grind (arith, common_steps)
 
   ext_block_old : (n k : ℕ) (r : Role) (b c a : ℕ) → (r ≡ Ext n k → ⊥) → c ≡ a → ext_block_of n k r b c ≡ a
   ext_block_old n k (Ext m i) b c a h z = grind (arith, common_steps, cond_both, eqb-true)
@@ -228,8 +221,7 @@ module _ (image : List ℕ) where
   ext_is_block start n k b (inl e) = grind (arith, common_steps, start)
   ext_is_block start n k b (inr f) = absurd f
   ext_is_block (step {w = w} {r = r} a i b' v d l) n k b (inl e) = ext_block_new n k r b' (ext_block_in w n k) e.0 ∙ e.1
-  ext_is_block (step {w = w} {r = r} a i b' v d l) n k b (inr h) =
-      ext_block_old n k r b' (ext_block_in w n k) b (λ e. l (Ext n k) b h (same_of (Ext n k) r (sym e))) (ext_is_block v n k b h)
+  ext_is_block (step {w = w} {r = r} a i b' v d l) n k b (inr h) = grind (arith, common_steps, ext_block_old, same_of, ext_is_block v n k b h)
 
   pub member_is : {w : Walk} → IsGathered image w → (n m a : ℕ) → MemberAt image w n m a → member_block w n m ≡ a
   member_is v n zero a h = head_block v h.header
@@ -255,15 +247,12 @@ module _ (image : List ℕ) where
   -- an extension block is one of a file that came before
   ext_file_of : (w : Walk) (n k a i : ℕ) → Asks image w (Ext n k) a i → ((j b : ℕ) → Has w (Ext n j) b → (h : ℕ) × FileAt image w n h)
       → (h : ℕ) × FileAt image w n h
-  ext_file_of w n zero a i h f = absurd h
-  ext_file_of w n (suc zero) a i h f = (a, h.0)
-  ext_file_of w n (suc (suc k)) a i h f = f (suc k) a h.0
+  ext_file_of w n k a i l m = grind (arith, common_steps)
 
   pub ext_file : {w : Walk} → IsGathered image w → (n k b : ℕ) → Has w (Ext n k) b → (h : ℕ) × FileAt image w n h
   ext_file start n k b (inl e) = let h : first Root ≡ first (Ext n k) = ap first e.0 in absurd (omega arith)
   ext_file start n k b (inr f) = absurd f
-  ext_file (step {w = w} {r = r} a i c v d l) n k b (inl e) =
-      let x = ext_file_of w n k a i (subst (λ r. Asks image w r a i) e.0 d) (ext_file v n) in (x.0, typed_up (r, c) x.1)
+  ext_file (step {w = w} {r = r} a i c v d l) n k b (inl e) = grind (arith, common_steps, ext_file_of, typed_up, ext_file v n)
   ext_file (step {w = w} {r = r} a i c v d l) n k b (inr h) = let x = ext_file v n k b h in (x.0, typed_up (r, c) x.1)
 
   pub asked_file : {w : Walk} → IsGathered image w → (n k a i : ℕ) → Asks image w (Ext n k) a i → (h : ℕ) × FileAt image w n h

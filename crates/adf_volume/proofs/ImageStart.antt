@@ -50,9 +50,7 @@ fails_start letters image c h = fails_left (boot_demands_by letters image) (root
 pub fails_root : (letters : Letters) (image : List ℕ) (c : Cause) → first_cause (start_form_by letters image) ≡ None
     → first_cause (root_form (block image (root_of image))) ≡ Some c
     → FirstFails (boot_demands_by letters image ++ root_demands image (root_of image)) (root_of image) c
-fails_root letters image c h r =
-    fails_right (boot_demands_by letters image) (root_demands image (root_of image)) (root_of image) c (boot_holds letters image h)
-    (first_demanded (root_of image) (root_form (block image (root_of image))) c r)
+fails_root letters image c h r = grind (arith, common_steps, fails_right, boot_holds, first_demanded)
 
 -- the type is the fourth byte of the image
 pub type_byte : (image : List ℕ) → slice_index (block image 0) 3 ≡ slice_index image 3

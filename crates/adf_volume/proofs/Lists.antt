@@ -4,6 +4,7 @@ use Rattle.adf_blocks.specs.declared.cause.Cause.{Cause}
 use Rattle.adf_volume.specs.Lists.{At, In, Spelled, numbered, NoBlockTwice}
 use Rattle.adf_volume.specs.Demands.{Demand, AllHold, FirstFails}
 use Rattle.std.specs.Prelude.{slice_get, slice_index, slice_index_or}
+use Rattle.std.proofs.lemmas.Grind.{common_steps}
 
 pub at_fun : {X : Type 0} (xs : List X) (i : ℕ) (x y : X) → At xs i x → At xs i y → x ≡ y
 at_fun [] i x y h k = absurd h
@@ -75,8 +76,7 @@ in_cases (z ∷ xs) ys x (inr h) = elim (in_cases xs ys x h) [ inl k ↦ inl (in
 pub in_numbered : {X : Type 0} (f : ℕ → X) (k : ℕ) (bs : List ℕ) (i b : ℕ) → At bs i b → In (numbered f k bs) (f (k + i), b)
 in_numbered f k [] i b h = absurd h
 in_numbered {X} f k (c ∷ bs) zero b h = let e : k ≡ k + 0 = omega arith in inl (λ t. (f (e t), h t))
-in_numbered {X} f k (c ∷ bs) (suc i) b h =
-    let e : suc k + i ≡ k + suc i = omega arith in inr (subst (λ n. In (numbered f (suc k) bs) (f n, b)) e (in_numbered f (suc k) bs i b h))
+in_numbered {X} f k (c ∷ bs) (suc i) b h = grind (arith, common_steps, in_numbered f (suc k) bs i b h)
 
 pub numbered_at : {X : Type 0} (f : ℕ → X) (k : ℕ) (bs : List ℕ) (x : X) (b : ℕ) → In (numbered f k bs) (x, b) → (i : ℕ) × At bs i b × (x ≡ f (k + i))
 numbered_at f k [] x b h = absurd h

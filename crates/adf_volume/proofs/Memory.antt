@@ -8,7 +8,6 @@ use Rattle.adf_blocks.specs.declared.cause.Cause.{Cause, TheVariants.NoMemory}
 use Rattle.adf_volume.specs.Demands.{Demand, FirstFails, boot_demands_by, data_demands, root_demands}
 use Rattle.adf_volume.specs.Image.{root_of}
 use Rattle.adf_volume.specs.Walk.{FirstFaultBy, Role, bitmap_demands, demands_by, form_demands_by, Walk}
-use Rattle.adf_volume.specs.Walk.Role.{Root, Page, MapExt, Head, Ext, Data}
 use Rattle.adf_volume.specs.Walk.FirstFaultBy.{at_boot, at_due, at_bitmap}
 
 -- no demand has the cause
@@ -47,12 +46,7 @@ of_data image Ofs b h k n next = none_of (data_demands image Ofs b h k n next) r
 of_data image Ffs b h k n next = tt
 
 of_form : (letters : Letters) (image : List ℕ) (w : Walk) (r : Role) (b : ℕ) → NoneHas NoMemory (form_demands_by letters image w r b)
-of_form letters image w (Data n k) b = of_data image _ b _ k _ _
-of_form letters image w Root b = tt
-of_form letters image w (Page i) b = none_of (form_demands_by letters image w (Page i) b) refl
-of_form letters image w (MapExt j) b = tt
-of_form letters image w (Head n p s j) b = none_of (form_demands_by letters image w (Head n p s j) b) refl
-of_form letters image w (Ext n k) b = none_of (form_demands_by letters image w (Ext n k) b) refl
+of_form letters image w r b = grind (arith, common_steps, of_data, none_of)
 
 of_role : (letters : Letters) (image : List ℕ) (w : Walk) (r : Role) (a b : ℕ) → NoneHas NoMemory (demands_by letters image w r a b)
 of_role letters image w r a b = grind (arith, common_steps, none_append, of_form letters)

@@ -52,8 +52,7 @@ module _ {letters : Letters} (image : List ℕ) (w : Walk) (v : IsWalkBy letters
   same_body : (n h h' : ℕ) (a b : Body) → h ≡ h' → BodyFits image t.kind l n h a → BodyFits image u.kind m n h' b → a ≡ b
   same_body n h h' Dir Dir z f g = refl
   same_body n h h' Dir (File ys) z f g = absurd (let e : ST_DIR ≡ ST_FILE = sym f.0 ∙ ap (λ h. word_in image h SECONDARY_TYPE) z ∙ g.0 in omega arith)
-  same_body n h h' (File xs) Dir z f g =
-      absurd (let e : ST_DIR ≡ ST_FILE = sym g.0 ∙ ap (λ h. word_in image h SECONDARY_TYPE) (sym z) ∙ f.0 in omega arith)
+  same_body n h h' (File xs) Dir z f g = grind (arith, common_steps)
   same_body n h h' (File xs) (File ys) z f g = grind (arith, common_steps, same_kind, same_datas)
 
   pub same_head_block : (n : ℕ) (e : Entry) → EntryAt t n e → at_node image l n ≡ at_node image m n

@@ -7,7 +7,6 @@ use Rattle.adf_volume.specs.Parts.{entry_of}
 use Rattle.adf_volume.specs.declared.owner.Owner.{Owner}
 use Rattle.adf_volume.proofs.Lists.{in_cases, numbered_at}
 use Rattle.adf_volume.proofs.LayoutRoles.{Stands, owned_stands}
-use Rattle.adf_volume.proofs.LayoutRoles.Stands.{in_head, in_ext, in_data}
 
 -- no owner stands twice
 abbrev pub Once : List (Owner × ℕ) → Type 0
@@ -27,9 +26,7 @@ once_numbered f k (b ∷ bs) inj = search (rules, numbered_at, once_numbered f (
 
 -- what stands in the places from number n on is no owner of a lower number
 stands_node : (n : ℕ) (qs : List Place) (y : Owner) (b : ℕ) → Stands n qs y b → n ≤ entry_of y
-stands_node n qs y b (in_head i u e z) = let f = ap entry_of z in omega arith
-stands_node n qs y b (in_ext i k e z) = let f = ap entry_of z in omega arith
-stands_node n qs y b (in_data i k e z) = let f = ap entry_of z in omega arith
+stands_node n qs y b h = grind (arith, common_steps)
 
 not_later : (n : ℕ) (qs : List Place) (x y : Owner) (b : ℕ) → Stands n qs y b → entry_of x < n → x ≡ y → ⊥
 not_later n qs x y b s l e = let f = ap entry_of e in let g = stands_node n qs y b s in omega arith

@@ -57,11 +57,7 @@ module _ (image : List ℕ) {w over : Walk} where
   -- the walk has come to a later position, where it asks for nothing between
   moved : {x y : Position} → IsUpTo image w over x → IsNoLater x y → ((q : Role) (a i : ℕ) → Asks image w q a i → IsBelow q y → IsBelow q x)
       → IsUpTo image w over y
-  moved u le none = record {
-    taken = (λ q b h. let z = u.taken q b h in omega arith);
-    skipped = (λ q b h. let z = u.skipped q b h in omega arith);
-    gone = (λ q a i h l m z. u.gone q a i h l m (none q a i h z));
-  }
+  moved u le none = grind (arith, common_steps)
 
   module _ (r : Role) (u : IsUpTo image w over (position_of r)) where
     -- the part at the position is neither taken nor skipped
@@ -118,12 +114,7 @@ module _ (image : List ℕ) {w over : Walk} where
   -- nor a page or a bitmap extension block behind a bitmap extension block that it lacks
   pub map_broken : (j : ℕ) → IsUpTo image w over (position_of (MapExt j)) → (q : Role) (a i : ℕ) → Asks image w q a i → first q ≡ 0
       → third q < suc (third (MapExt j))
-  map_broken k u Root a i h e = absurd h
-  map_broken k u (Page m) a i (lt, inl x) e = omega arith
-  map_broken k u (Page m) a i (lt, inr (j, has, li, ke)) e = let y = u.taken (MapExt j) a has in omega arith
-  map_broken k u (MapExt zero) a i h e = omega arith
-  map_broken k u (MapExt (suc j)) a i h e = let y = u.taken (MapExt j) a h.1 in omega arith
-  map_broken k u _ a i h e = absurd (omega arith)
+  map_broken j h q a i k l = grind (arith, common_steps)
 
   -- a node ends where all that is asked for in it comes before the position
   end_at : {x : Position} → IsUpTo image w over x → ((q : Role) (a i : ℕ) → Asks image w q a i → first q ≡ x.first → IsBelow q x)

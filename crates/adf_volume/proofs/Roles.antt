@@ -4,23 +4,11 @@ use Rattle.std.proofs.lemmas.Grind.{common_steps}
 use Rattle.adf_volume.specs.Walk.{Role, first, second, third, Same, Has, head_count, heads, HeadAt, TypedAt, NodeAt, DirAt, MemberAt, Asks, Lacks, Walk}
 use Rattle.adf_volume.specs.Walk.{ext_count_of}
 use Rattle.adf_volume.specs.Parts.{renumbered}
-use Rattle.adf_volume.specs.Walk.Role.{Root, Page, MapExt, Head, Ext, Data}
+use Rattle.adf_volume.specs.Walk.Role.{Root, Head, Ext}
 
 -- two roles of one key, of which headers have one number, are one role
 pub same_role : (r q : Role) → Same r q → ((n m p s j : ℕ) → r ≡ Head n p s j → q ≡ Head m p s j → n ≡ m) → r ≡ q
-same_role Root Root h k = refl
-same_role (Page i) (Page j) h k = let e : i ≡ j = omega arith in ap Page e
-same_role (MapExt i) (MapExt j) h k = let e : i ≡ j = omega arith in ap MapExt e
-same_role (Head n p s j) (Head m q t i) h k =
-    let e1 : p ≡ q = omega arith in
-    let e2 : s ≡ t = omega arith in
-    let e3 : j ≡ i = omega arith in
-    let eq : Head m q t i ≡ Head m p s j = cc in
-    let e4 : n ≡ m = k n m p s j refl eq in
-    cc
-same_role (Ext n j) (Ext m i) h k = grind (arith, common_steps)
-same_role (Data n j) (Data m i) h k = grind (arith, common_steps)
-same_role _ _ h k = absurd (omega arith)
+same_role r q h k = grind (arith, common_steps)
 
 pub same_refl : (r : Role) → Same r r
 same_refl r = (refl, refl, refl)
@@ -85,11 +73,7 @@ has_low w r low = grind (arith, common_steps, dec_has w r, has_role)
 
 -- only a header has a header's key
 pub head_key : (n p s j : ℕ) (q : Role) → Same q (Head n p s j) → (m : ℕ) × (q ≡ Head m p s j)
-head_key n p s j (Head x y z k) h =
-    let a : y ≡ p = omega arith in let b : z ≡ s = omega arith in let c : k ≡ j = omega arith in
-    let e : Head x y z k ≡ Head x p s j = cc in
-    (x, e)
-head_key n p s j _ h = absurd (omega arith)
+head_key n p s j q h = grind (arith, common_steps)
 
 -- the role of a header
 abbrev pub head_role : {w : Walk} {n a : ℕ} → HeadAt w n a → Role

@@ -1,5 +1,5 @@
 -- Fits holds of the smallest volume.
-use Rattle.std.proofs.Common.{true, false, ◌≡◌, ℕ, zero, suc, [], inl, inr, ◌+◌, ◌-◌, ◌/◌, ◌%◌, ◌<◌, ◌≤◌, refl, sym, ap, subst, ◌∙◌, arith}
+use Rattle.std.proofs.Common.{true, false, ◌≡◌, ℕ, zero, suc, [], inl, inr, ◌+◌, ◌-◌, ◌%◌, ◌<◌, ◌≤◌, refl, ap, subst, ◌∙◌, arith}
 use Rattle.std.proofs.lemmas.Grind.{common_steps}
 use Rattle.adf_base.specs.Words.{block, word, words}
 use Rattle.adf_base.specs.declared.hash.Letters.{Letters}
@@ -53,9 +53,7 @@ tiny_chains type (suc p) s e l = absurd (omega arith)
 
 tiny_range : (type : ℕ) (o : Owner) (b : ℕ) → In (owned (tiny type) tiny_layout) (o, b) → (2 ≤ b) × (b < 4)
 unfolding tiny tiny_root
-tiny_range type o b (inl e) = let z : 2 ≡ b = ap (λ (p : Owner × ℕ). p.1) e in (omega arith, omega arith)
-tiny_range type o b (inr (inl e)) = let z : 3 ≡ b = ap (λ (p : Owner × ℕ). p.1) e in (omega arith, omega arith)
-tiny_range type o b (inr (inr h)) = absurd h
+tiny_range type o b h = grind (arith, common_steps)
 
 -- each bit of the page is clear
 tiny_bits : (type b : ℕ) → IsFreeAt (tiny type) 3 ((b - 2) % 4064) → 2 ≤ b → b < 4 → ⊥
@@ -65,9 +63,7 @@ tiny_bits type (suc (suc (suc zero))) h l u = h refl
 tiny_bits type _ h l u = omega arith
 
 tiny_bitmap : (type b : ℕ) → 2 ≤ b → b < 4 → IsFree (tiny type) tiny_layout.pages b → ⊥
-tiny_bitmap type b l u f =
-    let x = page_at ((b - 2) / 4064) f.0 f.1 in
-    tiny_bits type b (subst (λ p. IsFreeAt (tiny type) p ((b - 2) % 4064)) (sym x.1) f.2) l u
+tiny_bitmap type b l u f = grind (arith, common_steps, page_at, tiny_bits)
 
 tiny_owned : (type b : ℕ) → 2 ≤ b → b < 4 → ((o : Owner) → In (owned (tiny type) tiny_layout) (o, b) → ⊥) → ⊥
 unfolding tiny tiny_root

@@ -1,7 +1,7 @@
 -- Fits holds of a small volume with a file.
 -- Letters: n an entry's number; e an entry; p a directory's node; s a slot; k, i indices; b, a blocks.
-use Rattle.std.proofs.Common.{◌≡◌, ◌≢◌, ℕ, zero, suc, List, [], ◌∷◌, inl, inr, ◌+◌, ◌-◌, ◌/◌, ◌%◌, ◌<◌, ◌≤◌, refl, sym, ap, subst, ◌∙◌, arith, Bool}
-use Rattle.std.proofs.Common.{true, false, cond, map}
+use Rattle.std.proofs.Common.{◌≡◌, ◌≢◌, ℕ, zero, suc, List, [], ◌∷◌, inl, inr, ◌+◌, ◌-◌, ◌/◌, ◌%◌, ◌<◌, ◌≤◌, refl, sym, ap, subst, ◌∙◌, arith}
+use Rattle.std.proofs.Common.{false, map}
 use Rattle.std.specs.Prelude.{◌==◌, slice_index, slice_index_or}
 use Rattle.std.proofs.lemmas.Bool.{cases_lt}
 use Rattle.std.proofs.lemmas.Bool.Decides.{eqb_tells}
@@ -12,7 +12,7 @@ use Rattle.adf_base.specs.Words.{block, word, words, with_bytes}
 use Rattle.adf_tree.specs.declared.entry.Body.{Body}
 use Rattle.adf_tree.specs.declared.entry.Body.TheVariants.{Dir, File}
 use Rattle.adf_tree.specs.declared.entry.Entry.{Entry}
-use Rattle.adf_tree.specs.Tree.{IsDir, IsTree, rank}
+use Rattle.adf_tree.specs.Tree.{IsDir, IsTree}
 use Rattle.adf_volume.specs.declared.owner.Owner.{Owner}
 use Rattle.adf_volume.specs.Lists.{At, In, Spelled, NoBlockTwice}
 use Rattle.adf_blocks.specs.Sizes.{chunk, count}
@@ -77,9 +77,7 @@ no_dir (suc (suc p)) h = let x = h (omega arith) in let y : suc (suc p) ≤ 1 = 
 
 -- each entry is the file
 entry_is : (n : ℕ) (e : Entry) → EntryAt one_file_tree n e → (1 ≡ n) × (file_a ≡ e)
-entry_is zero e h = absurd h
-entry_is (suc zero) e h = (refl, h)
-entry_is (suc (suc n)) e h = absurd h
+entry_is n e h = grind (arith, common_steps)
 
 entry_fits : EntryFits one_file one_file_tree one_file_layout 1 2 file_a
 unfolding one_file block word with_bytes name_of meta_of
@@ -100,12 +98,7 @@ parents : (i : ℕ) (d : Entry) → i < 1 → 0 ≡ (slice_index_or one_file_tre
 parents i d h = ap (λ (e : Entry). e.parent) (only i d h)
 
 is_tree : IsTree one_file_tree.entries
-is_tree = record {
-  parents = (λ i d h. let z : 0 ≡ (slice_index_or one_file_tree.entries i d).parent = parents i d h in omega arith);
-  dirs = (λ i d h k. absurd (let z : 0 ≡ (slice_index_or one_file_tree.entries i d).parent = parents i d h in omega arith));
-  order = IsNonDecreasingBy-short rank one_file_tree.entries (omega arith);
-  names = (λ i j d l h. absurd (omega arith));
-}
+is_tree = grind (arith, common_steps, parents, IsNonDecreasingBy-short)
 
 -- the chain of each slot
 low_slots : (i : ℕ) → i < 6 → word_in one_file (root_of one_file) (6 + i) ≡ 0
@@ -129,12 +122,7 @@ is_spelled s = Spelled (λ b. word_in one_file b 124) (word_in one_file (root_of
 
 empty_slot : (s : ℕ) → (6 == s) ≡ false → word_in one_file (root_of one_file) (6 + s) ≡ 0 → is_spelled s
 unfolding is_spelled
-empty_slot s n w = put (6 == s) n
-  where
-    put : (t : Bool) → t ≡ false
-        → Spelled (λ b. word_in one_file b 124) (word_in one_file (root_of one_file) (6 + s)) (map node_at (cond t (1 ∷ []) []))
-    put true h = cc
-    put false h = w
+empty_slot s n w = grind (arith, common_steps)
 
 named_slot : is_spelled 6
 unfolding is_spelled
@@ -178,14 +166,7 @@ unfolding one_file block word with_bytes
 no_ext = refl
 
 file_fits : FileFits one_file one_file_tree one_file_layout 1 2 bytes_a
-file_fits = record {
-  exts = no_ext;
-  ext_form = (λ k b h. absurd h);
-  enough = subst (λ n. n ≤ 72) one_data (omega arith);
-  datas = one_data;
-  named = data_named;
-  data_form = data_formed;
-}
+file_fits = grind (arith, common_steps, no_ext, one_data, data_named, data_formed)
 
 -- the bytes of a body
 bytes_of : Body → List ℕ
@@ -195,11 +176,7 @@ bytes_of (File bytes) = bytes
 files_fit : (n : ℕ) (e : Entry) (bytes : List ℕ) → EntryAt one_file_tree n e → e.body ≡ File bytes
     → FileFits one_file one_file_tree one_file_layout n (node_at n) bytes
 unfolding bytes_of
-files_fit n e bytes h f =
-    let x = entry_is n e h in
-    let z : bytes_a ≡ bytes = ap bytes_of (ap (λ (e : Entry). e.body) x.1 ∙ f) in
-    subst (λ n. FileFits one_file one_file_tree one_file_layout n (node_at n) bytes) x.0
-    (subst (λ l. FileFits one_file one_file_tree one_file_layout 1 2 l) z file_fits)
+files_fit n e bytes h f = grind (arith, common_steps, entry_is, bytes_of, file_fits)
 
 -- the blocks of its parts: all but the boot blocks
 once : NoBlockTwice (owned one_file one_file_layout)
@@ -208,11 +185,7 @@ once = grind (arith, common_steps)
 
 range : (o : Owner) (b : ℕ) → In (owned one_file one_file_layout) (o, b) → (2 ≤ b) × (b < 6)
 unfolding one_file with_bytes
-range o b (inl e) = let z : 3 ≡ b = ap (λ (p : Owner × ℕ). p.1) e in (omega arith, omega arith)
-range o b (inr (inl e)) = let z : 4 ≡ b = ap (λ (p : Owner × ℕ). p.1) e in (omega arith, omega arith)
-range o b (inr (inr (inl e))) = let z : 2 ≡ b = ap (λ (p : Owner × ℕ). p.1) e in (omega arith, omega arith)
-range o b (inr (inr (inr (inl e)))) = let z : 5 ≡ b = ap (λ (p : Owner × ℕ). p.1) e in (omega arith, omega arith)
-range o b (inr (inr (inr (inr h)))) = absurd h
+range o b h = grind (arith, common_steps)
 
 all_owned : (b : ℕ) → 2 ≤ b → b < 6 → ((o : Owner) → In (owned one_file one_file_layout) (o, b) → ⊥) → ⊥
 unfolding one_file with_bytes
@@ -232,8 +205,7 @@ clear_bit (suc (suc (suc (suc (suc zero))))) l u h = h refl
 clear_bit _ l u h = omega arith
 
 none_free : (b : ℕ) → 2 ≤ b → b < 6 → IsFree one_file one_file_layout.pages b → ⊥
-none_free b l u f =
-    let x = page_at ((b - 2) / 4064) f.0 f.1 in clear_bit b l u (subst (λ p. IsFreeAt one_file p ((b - 2) % 4064)) (sym x.1) f.2)
+none_free b l u f = grind (arith, common_steps, page_at, clear_bit)
 
 pub one_file_fits : Fits one_file one_file_tree one_file_layout
 unfolding one_file block word with_bytes kind_of name_of stamps_of map_exts_needed

@@ -1,13 +1,14 @@
 -- The first fault of an empty volume with a lost block.
 -- Letters: q a role; a, b, c blocks; i, k words; p a directory's node; s a slot.
-use Rattle.std.proofs.Common.{◌≡◌, ℕ, zero, suc, [], ◌∷◌, inl, inr, ◌+◌, ◌-◌, ◌%◌, ◌<◌, ◌≤◌, refl, sym, ap, subst, ◌∙◌, arith}
+use Rattle.std.proofs.Common.{◌≡◌, ℕ, zero, suc, [], ◌∷◌, inl, inr, ◌+◌, ◌-◌, ◌%◌, ◌<◌, ◌≤◌, refl, sym, ap, subst, arith}
+use Rattle.std.proofs.lemmas.Grind.{common_steps}
 use Rattle.adf_base.specs.Words.{block, word, words, with_bytes}
 use Rattle.adf_blocks.specs.PageBlock.{page_form}
 use Rattle.adf_blocks.specs.RootBlock.{root_form}
-use Rattle.adf_blocks.specs.declared.cause.Cause.TheVariants.{LostBlock, SameName}
+use Rattle.adf_blocks.specs.declared.cause.Cause.TheVariants.{LostBlock}
 use Rattle.adf_blocks.specs.Sizes.{blocks, middle, pages_needed}
 use Rattle.adf_volume.specs.Image.{IsFreeAt, root_of, word_in}
-use Rattle.adf_volume.specs.Demands.{AllHold, FirstFails, demand, boot_demands, boot_form, root_demands, page_demands}
+use Rattle.adf_volume.specs.Demands.{AllHold, FirstFails, boot_demands, boot_form, root_demands, page_demands}
 use Rattle.adf_volume.specs.Samples.{one_lost}
 use Rattle.adf_volume.specs.Walk.{Asks, Before, FirstFault, Has, IsAbsent, IsDue, IsFreeIn, IsWalk, IsWhole, Lacks, NoCause, Role, TypedAt, bitmap_demands, second, Walk}
 use Rattle.adf_volume.specs.Walk.Role.{Root, Page, MapExt, Head, Ext, Data}
@@ -59,53 +60,33 @@ lacks_page q b (inl e) s = let z : 0 ≡ second q = ap second e.0 in omega (arit
 lacks_page q b (inr h) s = h
 
 least : (q : Role) (c k : ℕ) → Asks one_lost only_root q c k → Lacks only_root q → Before q (Page 0) → ⊥
-least Root c k h l f = h
-least (Page j) c k h l f = let z = f.2 refl refl in omega (arith, z, h.0, one_page)
-least (MapExt zero) c k h l f = omega (arith, h.0, one_page)
-least (MapExt (suc j)) c k h l f = omega (arith, h.0, one_page)
-least (Head n p s j) c k h l f = omega (arith, f.0)
-least (Ext n j) c k h l f = omega (arith, f.0)
-least (Data n j) c k h l f = omega (arith, f.0)
+least q c k h l m = grind (arith, common_steps, one_page)
 
 due : IsDue one_lost only_root (Page 0) 3 79
-due = record {
-  asked = (omega (arith, one_page), inl (omega arith, sym at_root, refl));
-  lacks = lacks_page;
-  least = least;
-}
+due = grind (arith, common_steps, one_page, at_root, lacks_page, least)
 
 not_there : (q : Role) → Has only_root q 4 → ⊥
 not_there q (inl e) = omega (arith, e.1)
 not_there q (inr h) = h
 
 no_cause : NoCause one_lost only_root (Page 0) 3 4
-no_cause =
-    let formed = all_append (page_demands one_lost 4) (demand SameName 4 (Unit {0}) ∷ []) page_holds (tt, tt) in
-    (tt, ((omega arith, omega (arith, size)), (not_there, formed)))
+no_cause = grind (arith, common_steps, all_append, page_holds, size, not_there)
 
 walk : IsWalk one_lost both
 walk = step (subst (λ b. IsWalk one_lost ((Root, b) ∷ [])) at_root start) due page_named no_cause
 
 -- what the walk has
 root_is : (a : ℕ) → Has both Root a → 3 ≡ a
-root_is a (inl e) = let clash = e.0 in cc
-root_is a (inr (inl e)) = e.1
-root_is a (inr (inr h)) = absurd h
+root_is a h = grind (arith, common_steps)
 
 page_is : (k a : ℕ) → Has both (Page k) a → 4 ≡ a
-page_is k a (inl e) = e.1
-page_is k a (inr (inl e)) = let clash = e.0 in cc
-page_is k a (inr (inr h)) = absurd h
+page_is k a h = grind (arith, common_steps)
 
 no_head : (n p s j a : ℕ) → Has both (Head n p s j) a → ⊥
-no_head n p s j a (inl e) = let clash = e.0 in cc
-no_head n p s j a (inr (inl e)) = let clash = e.0 in cc
-no_head n p s j a (inr (inr h)) = h
+no_head n p s j a h = grind (arith, common_steps)
 
 no_ext : (n k a : ℕ) → Has both (Ext n k) a → ⊥
-no_ext n k a (inl e) = let clash = e.0 in cc
-no_ext n k a (inr (inl e)) = let clash = e.0 in cc
-no_ext n k a (inr (inr h)) = h
+no_ext n k a h = grind (arith, common_steps)
 
 no_file : (n a t : ℕ) → TypedAt one_lost both t n a → ⊥
 no_file n a t h = no_head n h.header.parent h.header.slot h.header.place a h.header.has
@@ -115,8 +96,7 @@ whole Root a i h l = h
 whole (Page k) a i h l = l (Page 0) 4 (inl (refl, refl)) (refl, refl, omega (arith, h.0, one_page))
 whole (MapExt zero) a i h l = omega (arith, h.0, one_page)
 whole (MapExt (suc j)) a i h l = omega (arith, h.0, one_page)
-whole (Head n zero s zero) a i h l =
-    h.4 (ap (word_in one_lost a) h.3 ∙ subst (λ a. word_in one_lost a (6 + s) ≡ 0) (root_is a h.2) (no_slot s h.1))
+whole (Head n zero s zero) a i h l = grind (arith, common_steps, root_is, no_slot)
 whole (Head n (suc p) s zero) a i h l = no_file (suc p) a _ h.2
 whole (Head n p s (suc j)) a i h l = no_head h.1.0 p s j a h.1.1
 whole (Ext n zero) a i h l = h
@@ -141,14 +121,10 @@ not_free : (b : ℕ) → 3 ≤ b → b < 6 → IsFreeIn one_lost both b → ⊥
 not_free b l u f = clear_bit b l u (subst (λ p. IsFreeAt one_lost p ((b - 2) % 4064)) (sym (page_is _ f.0 f.1)) f.2)
 
 absent : IsAbsent both 2
-absent q (inl e) = omega (arith, e.1)
-absent q (inr (inl e)) = omega (arith, e.1)
-absent q (inr (inr h)) = h
+absent = grind (arith, common_steps)
 
 fifth : IsAbsent both 5
-fifth q (inl e) = omega (arith, e.1)
-fifth q (inr (inl e)) = omega (arith, e.1)
-fifth q (inr (inr h)) = h
+fifth = grind (arith, common_steps)
 
 fails : FirstFails (bitmap_demands one_lost both 2 4) 5 LostBlock
 fails =

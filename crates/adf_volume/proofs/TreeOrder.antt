@@ -89,9 +89,7 @@ module _ {letters : Letters} (t : Tree) (v : IsTreeBy letters t.entries) where
   apart i j e f h k lt = grind (arith, common_steps, at_below t.entries j f k, at_index_or t.entries j f e k, at_index_or t.entries i e e h)
 
   names_of : HasNames letters t
-  names_of zero m e f h k ne p = absurd h
-  names_of (suc i) zero e f h k ne p = absurd k
-  names_of (suc i) (suc j) e f h k ne p = grind (arith, common_steps, apart)
+  names_of = grind (arith, common_steps, apart)
 
   pub ordered : Ordered letters t
   ordered = record { parents = parents_of; order = order_of; names = names_of }

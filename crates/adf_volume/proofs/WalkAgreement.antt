@@ -397,8 +397,7 @@ module _ {letters : Letters} (image : List ℕ) (t : Tree) (l : Layout) (fit : F
   agrees : {w : Walk} → IsWalkBy letters image w → (r : Role) (b : ℕ) → Has w r b → LayoutHasBy letters image t l r b
   agrees start r b (inl e) = subst (λ r. LayoutHasBy letters image t l r b) e.0 e.1
   agrees start r b (inr h) = absurd h
-  agrees (step {w = w} {r = q} {a = a} {i = i} v d e c) r b (inl h) =
-      subst (λ r. LayoutHasBy letters image t l r b) h.0 (subst (LayoutHasBy letters image t l q) (e ∙ h.1) (due_part w v (agrees v) q a i d))
+  agrees (step {w = w} {r = q} {a = a} {i = i} v d e c) r b (inl h) = grind (arith, common_steps, due_part, agrees v)
   agrees (step v d e c) r b (inr h) = agrees v r b h
 
   pub agreement : (w : Walk) (r : Role) (b : ℕ) → IsWalkBy letters image w → Has w r b → LayoutHasBy letters image t l r b

@@ -1,12 +1,12 @@
 -- A walk is as long as the list of blocks that its layout owns; no list of its blocks is longer.
-use Rattle.std.proofs.Common.{◌≡◌, ℕ, suc, List, [], ◌∷◌, inl, inr, ◌≤◌, length, refl, sym, ap, subst, ◌∙◌, arith}
+use Rattle.std.proofs.Common.{◌≡◌, ℕ, List, [], ◌∷◌, inl, inr, ◌≤◌, length, refl, sym, ap, subst, ◌∙◌, arith}
+use Rattle.std.proofs.lemmas.Grind.{common_steps}
 use Rattle.adf_base.specs.declared.hash.Letters.{Letters}
 use Rattle.adf_volume.specs.Layout.{owned}
 use Rattle.adf_volume.specs.LayoutRoles.{owner_of}
 use Rattle.adf_volume.specs.Lists.{In, NoBlockTwice}
 use Rattle.adf_volume.specs.Made.{layout_in}
-use Rattle.adf_volume.specs.Walk.{Role, Has, head_count, heads, IsWalkBy, IsWhole, Walk}
-use Rattle.adf_volume.specs.Walk.Role.{Head}
+use Rattle.adf_volume.specs.Walk.{Role, Has, heads, IsWalkBy, IsWhole, Walk}
 use Rattle.adf_volume.specs.Walk.IsWalkBy.{start, step}
 use Rattle.adf_volume.proofs.FitWalks.{without}
 use Rattle.adf_volume.proofs.PartDemands.{part_holds_by}
@@ -50,8 +50,4 @@ walk_length image w v whole =
 -- a walk has no more headers than members
 pub heads_within : (w : Walk) → heads w ≤ length w
 heads_within [] = omega arith
-heads_within (x ∷ w) = omega (arith, heads_within w, one_more x.0 (heads w))
-  where
-    one_more : (r : Role) (m : ℕ) → head_count r m ≤ suc m
-    one_more (Head n p s j) m = omega arith
-    one_more _ m = omega arith
+heads_within (x ∷ w) = grind (arith, common_steps, heads_within w)

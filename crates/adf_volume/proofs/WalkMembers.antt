@@ -10,7 +10,7 @@ use Rattle.adf_volume.specs.Image.{kind_of, table_word, name_of, root_of}
 use Rattle.adf_base.specs.Hash.{slot_by}
 use Rattle.adf_base.specs.declared.hash.Letters.{Letters}
 use Rattle.adf_volume.specs.Layout.{nodes_from_by}
-use Rattle.adf_volume.specs.Walk.{Role, second, Has, HeadAt, head_count, heads, data_count, NamesPage, Asks, IsDue, Lacks, ext_count_of, Walk}
+use Rattle.adf_volume.specs.Walk.{Role, Has, HeadAt, head_count, heads, data_count, NamesPage, Asks, IsDue, Lacks, ext_count_of, Walk}
 use Rattle.adf_volume.specs.Walk.{ext_count, NoCauseBy, IsWalkBy}
 use Rattle.adf_volume.specs.Walk.Role.{Root, Page, MapExt, Head, Ext, Data}
 use Rattle.adf_volume.specs.Walk.IsWalkBy.{start, step}
@@ -276,10 +276,7 @@ module _ (letters : Letters) (image : List ℕ) (full : Walk) where
   chain_split w _ c n p s j num ih h = let x = ih n p s j h in (x.0, inr x.1)
 
   pub chains : {w : Walk} → IsWalkBy letters image w → Chains w
-  chains start = record {
-    to = (λ n p s j b h. elim h [ inl e ↦ let x : second Root ≡ second (Head n p s j) = ap second e.0 in absurd (omega arith) | inr f ↦ absurd f ]);
-    from = (λ n p s j h. absurd h);
-  }
+  chains start = grind (arith, common_steps)
   chains (step {w = w} {r = r} {b = c} {a = a} {i = i} v d e g) =
       let ih = chains v in
       let num : (m q u k : ℕ) → r ≡ Head m q u k → (m ≡ suc (heads w)) × (slot_by letters (name_of image c) ≡ u) × (k ≡ length (chain_in w q u)) =

@@ -4,7 +4,7 @@ use Rattle.std.proofs.lemmas.Grind.{common_steps}
 use Rattle.adf_base.specs.declared.hash.Letters.{Letters}
 use Rattle.adf_volume.specs.Image.{root_of}
 use Rattle.adf_volume.specs.Walk.{Role, Before, Same, Has, head_count, heads, HeadAt, Asks, Lacks, IsDue, IsWalkBy, Walk}
-use Rattle.adf_volume.specs.Walk.Role.{Root, Page, MapExt}
+use Rattle.adf_volume.specs.Walk.Role.{Root}
 use Rattle.adf_volume.specs.Walk.IsWalkBy.{start, step}
 use Rattle.adf_volume.proofs.AsksSplit.{gathered_split}
 use Rattle.adf_volume.proofs.Roles.{head_in, head_role, new_number, no_head}
@@ -26,10 +26,7 @@ last w z c q b r (inr y) n o = o y
 
 module _ (image : List ℕ) where
   root_before : (w : Walk) (r : Role) (a i : ℕ) → Asks image w r a i → Before Root r
-  root_before w Root a i h = absurd h
-  root_before w (Page k) a i h = (omega arith, (λ z. omega arith), (λ z y. absurd (omega arith)))
-  root_before w (MapExt k) a i h = (omega arith, (λ z. omega arith), (λ z y. absurd (omega arith)))
-  root_before w _ a i h = (omega arith, (λ z. absurd (omega arith)), (λ z y. absurd (omega arith)))
+  root_before w r a i h = grind (arith, common_steps)
 
   pub rises : {letters : Letters} {w : Walk} → IsWalkBy letters image w → (r : Role) (a i : ℕ) → IsDue image w r a i → (q : Role) (b : ℕ)
       → Has w q b → Before q r

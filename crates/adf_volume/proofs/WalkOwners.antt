@@ -1,5 +1,6 @@
 -- The parts of a whole walk are those that its layout owns.
 use Rattle.std.proofs.Common.{◌≡◌, ℕ, zero, suc, List, ◌<◌, length, sym, ap, subst, ◌∙◌, arith}
+use Rattle.std.proofs.lemmas.Grind.{common_steps}
 use Rattle.adf_base.specs.declared.hash.Letters.{Letters}
 use Rattle.adf_volume.specs.Lists.{At, In, NoBlockTwice}
 use Rattle.adf_volume.specs.Layout.{datas_at, exts_at, owned}
@@ -56,8 +57,7 @@ module _ {letters : Letters} (image : List ℕ) (w : Walk) (v : IsWalkBy letters
       subst (Has w (Head n p s j)) (sym (head_is image w v whole (head_at n p s j x.0 x.1)).0 ∙ h.1) x.1
   part_has (Ext n zero) b h = absurd h
   part_has (Ext zero (suc k)) b h = absurd h
-  part_has (Ext (suc i) (suc k)) b h =
-      has_ext image w v (suc i) k b (subst (λ xs. At xs k b) (place_lists i (exts_below (places_in w w) i k b h)).0 h)
+  part_has (Ext (suc i) (suc k)) b h = grind (arith, common_steps, has_ext, place_lists, exts_below)
   part_has (Data n zero) b h = absurd h
   part_has (Data zero (suc k)) b h = absurd h
   part_has (Data (suc i) (suc k)) b h =

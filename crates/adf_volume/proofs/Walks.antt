@@ -46,14 +46,12 @@ module _ {letters : Letters} (image : List ℕ) where
 -- what is asked for and comes before what is due is there
 pub is_there : (image : List ℕ) (w : Walk) (q r : Role) (a i c k : ℕ) → IsDue image w r a i → Asks image w q c k → Before q r
     → second q < 2 → (b : ℕ) × Has w q b
-is_there image w q r a i c k d ask bef low =
-    elim (has_low w q low) [ inr y ↦ y | inl y ↦ absurd (d.least q c k ask y bef) ]
+is_there image w q r a i c k d ask bef low = grind (arith, common_steps, has_low w q low)
 
 -- what a whole walk asks for is there
 pub asked_block : (image : List ℕ) (w : Walk) → IsWhole image w → (r : Role) (a i : ℕ) → Asks image w r a i → second r < 2
     → (b : ℕ) × Has w r b
-asked_block image w whole r a i ask low =
-    elim (has_low w r low) [ inr y ↦ y | inl y ↦ absurd (whole r a i ask y) ]
+asked_block image w whole r a i ask low = grind (arith, common_steps, has_low w r low)
 
 pub asked_header : (image : List ℕ) (w : Walk) → IsWhole image w → (n p s j a i : ℕ) → Asks image w (Head n p s j) a i
     → (m b : ℕ) × Has w (Head m p s j) b
