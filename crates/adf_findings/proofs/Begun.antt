@@ -1,5 +1,5 @@
 -- The start of a course.
-use Rattle.std.specs.Prelude.{Bool, false, cond, None, slice_index, slice_index_or, nat_lt, replicate, ◌==◌, ◌-◌}
+use Rattle.std.specs.Prelude.{Bool, false, cond, None, slice_index, slice_index_or, replicate, ◌==◌, ◌-◌}
 use Rattle.std.proofs.Common.{◌≡◌, ℕ, zero, suc, List, [], ◌∷◌, ◌++◌, length, ◌<◌, ◌≤◌, refl, sym, subst, ap, ◌∙◌, arith, inl}
 use Rattle.std.specs.Ordering.{nat_cmp}
 use Rattle.std.specs.Map.{lookup}
@@ -19,7 +19,6 @@ use Rattle.adf_findings.specs.declared.found.Found.{Found}
 use Rattle.adf_findings.specs.declared.progress.Progress.{Progress}
 use Rattle.adf_findings.specs.Survey.{FindingValue, IsCourse, begun}
 use Rattle.adf_findings.specs.Courses.{HasReachedPage, noted}
-use Rattle.adf_volume.specs.declared.owner.Owner.{Owner}
 use Rattle.adf_volume.specs.declared.owner.Owner.TheVariants.{Free, Boot, Root as TheRoot}
 use Rattle.adf_walk.specs.Owners.{owned_count, owner_at}
 use Rattle.adf_findings.specs.WalkOwners.{OwnersValue}
@@ -37,27 +36,13 @@ one_node b (suc n) = grind (arith, common_steps, eqb_tells)
 -- of new owners of n blocks none is that of a part
 module _ (n : ℕ) (lo : 2 ≤ n) (owners : OwnersValue) (new : owners.owners ≡ Boot ∷ Boot ∷ replicate (n - 2) Free) where
   new_owner : (b : ℕ) → owner_at owners.owners b ≡ owner_by [] b
-  new_owner b = ap (λ os. owner_at os b) new ∙ go b
-    where
-      go : (b : ℕ) → owner_at (Boot ∷ Boot ∷ replicate (n - 2) Free) b ≡ cond (nat_lt b 2) Boot Free
-      go zero = refl
-      go (suc zero) = refl
-      go (suc (suc b)) =
-          none_default (n - 2) Free b ∙ ap (λ t. cond t Boot Free) (sym (le-ltb (suc (suc b)) 2 (omega arith)))
+  new_owner b = grind (arith, common_steps, none_default, le-ltb)
 
   pub new_owned : owners.node ≡ 0 → AreOwned n owners []
-  new_owned node = record {
-    size = ap length new ∙ (let e = length-replicate {A = Owner} (n - 2) Free in omega (arith, e, lo));
-    owner = new_owner;
-    node = node;
-  }
+  new_owned node = grind (arith, common_steps, length-replicate, new_owner)
 
   pub new_count : owned_count owners.owners ≡ 0
-  new_count = ap owned_count new ∙ go (n - 2)
-    where
-      go : (k : ℕ) → owned_count (replicate k Free) ≡ 0
-      go zero = refl
-      go (suc k) = go k
+  new_count = grind (arith, common_steps)
 
   new_free : (b : ℕ) → 2 ≤ b → owner_at owners.owners b ≡ Free
   new_free b past = new_owner b ∙ ap (λ t. cond t Boot Free) (le-ltb b 2 past)
@@ -66,18 +51,7 @@ module _ (n : ℕ) (lo : 2 ≤ n) (owners : OwnersValue) (new : owners.owners �
 pub root_next : (image : List ℕ) (f : Found) (root : ℕ) → 4 ≤ blocks image → root ≡ root_of image
     → f.owners.owners ≡ Boot ∷ Boot ∷ replicate (blocks image - 2) Free → f.owners.node ≡ 0 → f.left ≡ blocks image
     → IsNextPart RootPart root f
-root_next image f root many is new node left =
-    let lo : 2 ≤ blocks image = omega (arith, many) in
-    let past : 2 ≤ root = omega (arith, many, is) in
-    let size = (new_owned (blocks image) lo f.owners new node).size in
-    record {
-      from = past;
-      below = omega (arith, many, is, size);
-      free = new_free (blocks image) lo f.owners new root past;
-      number = tt;
-      order = omega arith;
-      some = omega (arith, left, many);
-    }
+root_next image f root many is new node left = grind (arith, common_steps, new_owned, new_free)
 
 -- nothing is found but the root
 pub stands_begun : (image : List ℕ) (f g h : Found) → 4 ≤ blocks image → IsEmpty f.pages

@@ -1,10 +1,11 @@
 -- The findings of the bits.
 use Rattle.std.proofs.Common.{Bool, true, false, ◌||◌, not, Option, Some, None, IsTrue, ◌↔◌, ◌≡◌, ℕ, suc, List, [], ◌∷◌, ◌++◌}
-use Rattle.std.proofs.Common.{inl, inr, ap, ◌+◌, ◌-◌, ◌/◌, ◌%◌}
+use Rattle.std.proofs.Common.{inl, inr, ◌+◌, ◌-◌, ◌/◌, ◌%◌}
 use Rattle.std.proofs.Common.{zero, slice_index_or, ◌*◌, ◌<◌, ◌≤◌, refl, sym, subst, ◌∙◌, arith, add-one, IsBitSet}
 use Rattle.std.specs.Ordering.{nat_cmp}
 use Rattle.std.specs.BTreeMap.{BTreeMap, get}
 use Rattle.std.proofs.lemmas.List.{append_assoc, append-nil}
+use Rattle.std.proofs.lemmas.Grind.{common_steps}
 use Rattle.adf_blocks.specs.declared.cause.Cause.{Cause}
 use Rattle.adf_blocks.specs.declared.layout.TheConstants.{PAGE_BITS, PAGE_FIRST, PAGE_WORDS}
 use Rattle.adf_blocks.specs.Sizes.{blocks}
@@ -50,9 +51,7 @@ module _ (image : List ℕ) (f : Found) (s : Course) (v : IsCourse image s) (st 
 
   -- a block has an excuse if it was skipped or is a directory cache
   tells_excuse : (p k : Bool) → Tells (not p) (IsAbsent s.skipped b) → k ≡ is_cache image b → Tells (not (p || k)) (IsUnexcused image s b)
-  tells_excuse true k h e = λ x. h x.0
-  tells_excuse false true h e = λ x. let clash : true ≡ false = e ∙ x.1 in cc
-  tells_excuse false false h e = (h, sym e)
+  tells_excuse p k h l = grind (arith, common_steps)
 
   tells_bit : (o a t : Bool) (at : ℕ) → IsValidated image → Has s.walk (Page page) at → Tells (not o) (IsAbsent s.walk b)
       → Tells (not a) (IsUnexcused image s b) → Tells t (IsFreeIn image s.walk b) → BitTells image s b (bit_cause o a t)
@@ -80,11 +79,7 @@ module _ (image : List ℕ) (f : Found) (s : Course) (v : IsCourse image s) (st 
   bit_tells t lt x = page_tells _ _ _ t x.0 (owned_is st.owners b) (st.avoided.marked b lt) refl x.1 x.2
 
   quiet : (o x t : Bool) → t ≡ not o → bit_cause o x t ≡ None
-  quiet true x true e = cc
-  quiet true x false e = refl
-  quiet false true true e = refl
-  quiet false false true e = refl
-  quiet false x false e = cc
+  quiet o x t h = grind (arith, common_steps)
 
   -- nothing where it is set for a block without an owner alone
   pub agreed_tells : (t : Bool) → b < blocks image → IsBitCompared image f.pages b t → t ≡ not (is_owned f b)
@@ -102,14 +97,7 @@ page_on image pages b c (Some at) same h = (h.0, subst (λ i. get nat_cmp pages 
 -- the page of a word is that of its first bit
 pub page_is : (image : List ℕ) (pages : BTreeMap ℕ ℕ) (i : ℕ) (page : Option ℕ) → IsValidated image
     → page ≡ get nat_cmp pages (i / PAGE_WORDS) → IsPageCompared image pages (2 + 32 * i) page
-page_is image pages i page valid e = go page e
-  where
-    same : i / PAGE_WORDS ≡ (2 + 32 * i - 2) / PAGE_BITS
-    same = omega arith
-
-    go : (page : Option ℕ) → page ≡ get nat_cmp pages (i / PAGE_WORDS) → IsPageCompared image pages (2 + 32 * i) page
-    go None e = λ v. subst (λ j. get nat_cmp pages j ≡ None) same (sym e)
-    go (Some at) e = (valid, subst (λ j. get nat_cmp pages j ≡ Some at) same (sym e))
+page_is image pages i page valid e = grind (arith, common_steps)
 
 -- the bits of a word are those of its page
 module _ (image : List ℕ) (pages : BTreeMap ℕ ℕ) (i at word : ℕ) (is : word ≡ word_in image at (PAGE_FIRST + i % PAGE_WORDS)) (b : ℕ)
@@ -159,9 +147,7 @@ module _ (image : List ℕ) (f : Found) (hs : List FindingValue) (b : ℕ) (c : 
     (is : x ≡ record { part = None; block = b; cause = c })
     (tells : (s : Course) → IsCourse image s → Stands image f s → BitTells image s b (Some c)) where
   more : (s : Course) (gs : List FindingValue) → s.findings ++ gs ≡ hs → s.findings ++ (gs ++ finding None b c ∷ []) ≡ hs ++ finding_value x ∷ []
-  more s gs told =
-      sym (append_assoc s.findings gs (finding None b c ∷ [])) ∙ (ap (λ fs. fs ++ finding None b c ∷ []) told
-      ∙ ap (λ x. hs ++ finding_value x ∷ []) (sym is))
+  more s gs told = grind (arith, common_steps, append_assoc)
 
   pub some_on : (js : List FindingValue) → js ≡ hs ++ finding_value x ∷ [] → HasReportedOn image f hs b → HasReportedOn image f js (b + 1)
   some_on js same (s, gs, told, on) = (
@@ -219,8 +205,7 @@ module _ (image : List ℕ) (f : Found) (hs : List FindingValue) (i end : ℕ) (
       reported
 
 pub reported_first : (image : List ℕ) (f : Found) (hs : List FindingValue) → IsFinished image f hs → HasReportedOn image f hs 2
-reported_first image f hs (s, course, done, stands, told) =
-    (s, [], record { course = course; done = done; stands = stands; told = append-nil s.findings ∙ told }, none_reported image s)
+reported_first image f hs (s, course, done, stands, told) = grind (arith, common_steps, append-nil, none_reported)
 
 pub reported_last : (image : List ℕ) (f : Found) (hs : List FindingValue) (b : ℕ) → b ≡ blocks image → HasReportedOn image f hs b
     → IsCompleted image f hs

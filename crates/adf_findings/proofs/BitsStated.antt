@@ -1,8 +1,9 @@
 -- What the bitmap tells of a block, by the pages that are kept.
 -- Letters: w the walk of a survey, fs its findings; b a block; at the block of its page; t the bit.
-use Rattle.std.proofs.Common.{Bool, Option, None, Some, IfSome, IsSome, IsTrue, ◌↔◌, ◌≡◌, ℕ, List, ◌-◌, ◌/◌, ◌%◌, ◌≤◌, refl, sym, subst, ◌∙◌}
+use Rattle.std.proofs.Common.{Bool, Option, None, Some, IfSome, IsSome, IsTrue, ◌↔◌, ◌≡◌, ℕ, List, ◌-◌, ◌/◌, ◌%◌, ◌≤◌, refl, sym, subst, ◌∙◌, arith}
 use Rattle.std.specs.BTreeMap.{BTreeMap, get}
 use Rattle.std.specs.Ordering.{nat_cmp}
+use Rattle.std.proofs.lemmas.Grind.{common_steps}
 use Rattle.adf_blocks.specs.declared.layout.TheConstants.{PAGE_BITS}
 use Rattle.adf_volume.specs.Image.{IsFreeAt}
 use Rattle.adf_volume.specs.Walk.{Has, IsFreeIn, Walk}
@@ -28,14 +29,7 @@ pub bit_stated : (image : List ℕ) (w : Walk) (fs : List FindingValue) → IsSu
     → ((i : ℕ) → get nat_cmp pages i ≡ at_role w (Page i)) → (b : ℕ) → 2 ≤ b → IsValidated image → (t : Option Bool)
     → IsBitOf image pages ((b - 2) / PAGE_BITS) ((b - 2) % PAGE_BITS) t
     → (IsSome t ↔ IsBitStated image w b) × IfSome t (λ t. IsTrue t ↔ IsFreeIn image w b)
-bit_stated image w fs h pages same b lo valid None none = (
-  (
-    (λ s. cc),
-    (λ y. absurd (lacks_at w (Page ((b - 2) / PAGE_BITS)) (sym (same ((b - 2) / PAGE_BITS)) ∙ none) (Page ((b - 2) / PAGE_BITS)) y.2.0 y.2.1
-        (same_refl (Page ((b - 2) / PAGE_BITS))))),
-  ),
-  tt,
-)
+bit_stated image w fs h pages same b lo valid None none = grind (arith, common_steps, lacks_at, same_refl)
 bit_stated image w fs h pages same b lo valid (Some t) (at, some, free) =
     let page : ℕ = (b - 2) / PAGE_BITS in
     let has : Has w (Page page) at = has_page w page at (sym (same page) ∙ some) in (

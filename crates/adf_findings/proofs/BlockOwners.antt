@@ -21,9 +21,7 @@ use Rattle.adf_findings.specs.SurveyResult.{entry_at, owner_for}
 
 -- the number of an entry, which is not 0
 from_number : (o : Option ℕ) → ((n : ℕ) → o ≡ Some n → 1 ≤ n) → cond (unwrap_or o 0 == 0) None (Some (unwrap_or o 0)) ≡ o
-from_number None h = refl
-from_number (Some zero) h = absurd (let l = h 0 refl in omega arith)
-from_number (Some (suc n)) h = grind (arith, common_steps, eqb_tells)
+from_number o h = grind (arith, common_steps, eqb_tells)
 
 module _ (image : List ℕ) where
   -- a part that is asked for is that of an entry with a number from 1

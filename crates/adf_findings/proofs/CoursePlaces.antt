@@ -1,5 +1,5 @@
 -- The positions of a course: by chain in a directory, extension blocks before data blocks in a file, node by node.
-use Rattle.std.specs.Prelude.{Bool, true, false, cond, nat_le, nat_lt, ◌==◌, ◌||◌, ◌%◌, Option, Some, None, slice_index}
+use Rattle.std.specs.Prelude.{Bool, true, false, cond, nat_le, nat_lt, ◌||◌, ◌%◌, Option, Some, None, slice_index}
 use Rattle.std.proofs.Common.{◌≡◌, ◌≢◌, ℕ, zero, suc, length, List, ◌⊎◌, inl, ◌+◌, ◌-◌, ◌*◌, ◌/◌, ◌<◌, ◌≤◌, refl, sym, subst, ap, ◌∙◌, add-one, arith}
 use Rattle.std.proofs.lemmas.Bool.{eq-eqb, eqb-true}
 use Rattle.std.proofs.lemmas.Bool.Decides.{nat_tests}
@@ -178,28 +178,13 @@ module _ {image : List ℕ} {f : Progress} {s : Course} {x : FileTable} (h : Has
         let lt : k + 1 < x.room = grind (arith, nat_tests) in
         let c = ext_counted image g x.node (k / POINTERS) (omega (arith, lt, room, z)) in
         member_next h.course x.node (k / POINTERS) a c.0 at c.1 ∙ sym (member_is image g x.node (suc (k / POINTERS)) c.0 c.1)
-    begins false e z =
-        let room = h.room in
-        let le : x.room ≤ k + 1 = grind (arith, nat_tests) in
-        sym (member_none image g x.node (k / POINTERS) (omega (arith, le, room, z)))
+    begins false e z = grind (arith, common_steps, nat_tests, member_none, g)
 
     holder_is : table_block_in image x (k + 1) a ≡ member_block s.walk x.node ((k + 1) / POINTERS)
-    holder_is = go ((k + 1) % POINTERS == 0) refl
-      where
-        go : (t : Bool) → ((k + 1) % POINTERS == 0) ≡ t → cond t (cond (nat_lt (k + 1) x.room) (word_in image a EXTENSION) 0) a
-            ≡ member_block s.walk x.node ((k + 1) / POINTERS)
-        go true e =
-            let z : (k + 1) % POINTERS ≡ 0 = eqb-true ((k + 1) % POINTERS) 0 e in
-            let up : suc (k / POINTERS) ≡ (k + 1) / POINTERS = omega (arith, z) in
-            begins (nat_lt (k + 1) x.room) refl z ∙ ap (member_block s.walk x.node) up
-        go false e =
-            let ne : (k + 1) % POINTERS ≡ 0 → ⊥ = λ z. let y : true ≡ false = sym (eq-eqb ((k + 1) % POINTERS) 0 z) ∙ e in cc in
-            let same : k / POINTERS ≡ (k + 1) / POINTERS = omega arith in
-            sym (member_is image g x.node (k / POINTERS) a at) ∙ ap (member_block s.walk x.node) same
+    holder_is = grind (arith, common_steps, eqb-true, begins, eq-eqb, member_is, g)
 
     next_is : (next : ℕ) → next ≡ next_in image x (k + 1) a → next ≡ next_data image s.walk x.node (k + 1)
-    next_is next e =
-        e ∙ (λ t. cond (nat_lt (k + 1) ((h.count ∙ ap (data_count image) up_is) t)) (word_in image (holder_is t) (table_word (k + 1))) 0)
+    next_is next e = grind (arith, common_steps, up_is, holder_is)
 
     pub data_said : (next : ℕ) (t : Bool)
         → (kind_of image ≡ Ofs → next ≡ next_in image x (k + 1) a) → t ≡ (nat_lt 0 k || nat_le x.count x.room)
@@ -213,11 +198,7 @@ module _ {image : List ℕ} {f : Progress} {s : Course} {x : FileTable} (h : Has
 pub datas_begin : {image : List ℕ} {f : Progress} {n b exts count : ℕ} → HasReachedData image f n b exts
     → count ≡ data_count image b
     → HasReachedTable image f (record { node = n; head = b; count = count; room = POINTERS * (exts + 1) }) 0
-datas_begin x e = (
-  x.course,
-  x.holds,
-  record { course = x.holds.course; stands = x.holds.stands; file = x.file; count = e; room = (let c = x.count in omega arith) },
-)
+datas_begin x e = grind (arith, common_steps)
 
 -- the data blocks of a file that are gone through
 module _ {image : List ℕ} {f : Progress} {x : FileTable} {k : ℕ} (at : HasReachedTable image f x k) where
@@ -292,9 +273,7 @@ module _ {image : List ℕ} {f : Progress} {x : FileTable} {m a k : ℕ} (y : Ha
     }
 
     pub data_is_named : IsNamed image f due a (FIRST_POINTER - (k - POINTERS * m)) y.course
-    data_is_named =
-        subst (λ due. IsNamed image f due a (FIRST_POINTER - (k - POINTERS * m)) y.course) (sym is)
-        (subst (λ i. IsNamed image f (due_in x k next) a i y.course) word due_named)
+    data_is_named = grind (arith, common_steps, word, due_named)
 
   pub data_gone : {due : Due} {g : Progress} {o : Option ℕ} {i next : ℕ} → due ≡ due_in x k next
       → IsGoneOn image y.course due.part a i g o → HasReachedNamed image g x m a (k + 1)

@@ -2,14 +2,14 @@
 use Rattle.std.specs.Prelude.{Bool, not, ◌||◌, Option, Some, None}
 use Rattle.std.proofs.lemmas.List.{length-set}
 use Rattle.std.proofs.lemmas.List.Sums.{count_by-le-length}
-use Rattle.std.proofs.Common.{◌≡◌, ℕ, zero, suc, length, List, [], ◌∷◌, ◌<◌, ◌≤◌, inl, inr, set, refl, sym, subst, ap, ◌∙◌, arith}
+use Rattle.std.proofs.Common.{◌≡◌, ℕ, suc, length, List, [], ◌∷◌, ◌<◌, ◌≤◌, inl, inr, set, refl, sym, subst, ap, ◌∙◌, arith}
 use Rattle.std.proofs.lemmas.Grind.{common_steps}
 use Rattle.adf_tree.specs.NameSet.{has}
 use Rattle.adf_volume.specs.Image.{word_in}
 use Rattle.adf_volume.specs.Positions.{Position, IsNoLater, IsUpTo, behind, position_of}
 use Rattle.adf_volume.specs.LayoutRoles.{owner_of}
 use Rattle.adf_volume.specs.Walk.{Role, Same, Asks, Enough, Has, Lacks, first, heads, second, Walk}
-use Rattle.adf_volume.specs.Walk.Role.{Root, Head, Ext, Data}
+use Rattle.adf_volume.specs.Walk.Role.{Head, Ext, Data}
 use Rattle.adf_walk.specs.Owners.{is_part}
 use Rattle.adf_findings.specs.WalkOwners.{HasNumber, node_after}
 use Rattle.adf_volume.proofs.Gathered.{IsGathered}
@@ -36,17 +36,11 @@ use Rattle.adf_findings.proofs.WalkOwners.{count_more, free_is, part_owns}
 
 -- a part that comes next has the next number of its kind
 pub numbered : (image : List ℕ) (w : Walk) → IsGathered image w → (r : Role) (a i : ℕ) → Asks image w r a i → Lacks w r → IsNumbered w r
-numbered image w v Root a i h l = absurd h
-numbered image w v (Head n p s j) a i h l = asks_number image w n p s j a i h
-numbered image w v _ a i h l = tt
+numbered image w h r a i k l = grind (arith, common_steps, asks_number)
 
 -- an extension block or a data block that is asked for has a number from 1
 asked_number : (image : List ℕ) (w : Walk) (r : Role) (a i : ℕ) → Asks image w r a i → HasNumber (owner_of r)
-asked_number image w (Ext n zero) a i h = absurd h
-asked_number image w (Ext n (suc k)) a i h = omega arith
-asked_number image w (Data n zero) a i h = absurd h
-asked_number image w (Data n (suc k)) a i h = omega arith
-asked_number image w _ a i h = tt
+asked_number image w r a i h = grind (arith, common_steps)
 
 -- no extension block and no data block is that of a later node than all members
 last_low : (w : Walk) (n : ℕ) → ((q : Role) (b : ℕ) → Has w q b → first q ≤ suc n) → last_node w ≤ n
@@ -59,9 +53,7 @@ last_low (x ∷ w) n low = go x.0 (low x.0 x.1 (inl (refl, refl))) (last_low w n
     go _ le rest = rest
 
 node_in_order : (w : Walk) (r : Role) → ((q : Role) (b : ℕ) → Has w q b → first q ≤ first r) → last_node w ≤ node_after (owner_of r) (last_node w)
-node_in_order w (Ext n k) low = last_low w n low
-node_in_order w (Data n k) low = last_low w n low
-node_in_order w _ low = omega arith
+node_in_order w r h = grind (arith, common_steps, last_low)
 
 -- a part with the number of nodes is that which is asked for
 pub role_is : {image : List ℕ} {f : Found} {s : Course} (part z : Part) {m : ℕ} → Stands image f s → m ≡ length f.nodes.items
@@ -130,14 +122,7 @@ module _ {image : List ℕ} {f : Progress} {y : Due} {a i : ℕ} {s : Course} (n
   -- what is said of it tells what its demands ask
   pub known : {z : Part} {b : ℕ} (x : Facts) → role_of z ≡ role → x.is_enough ≡ y.is_enough
       → x.is_absent ≡ not (is_owned f.found b) → x.context ≡ y.context → Knows image s.walk z b x
-  known {z} {b} x is enough absent context =
-      let m : ℕ = suc (heads s.walk) in
-      let said = renumbered_context image s.walk m (role_of part) y.context n.said.context in
-      let tells = renumbered_enough image s.walk m (role_of part) y.is_enough n.said.enough in
-      knows image f.found s n.holds.stands z b x
-      (subst (λ r. IsContext image s.walk r x.context) (sym is) (subst (IsContext image s.walk role) (sym context) said))
-      (subst (λ r. Tells x.is_enough (Enough image s.walk r)) (sym is) (subst (λ t. Tells t (Enough image s.walk role)) (sym enough) tells))
-      absent
+  known {z} {b} x is enough absent context = grind (arith, common_steps, renumbered_context, renumbered_enough, knows)
 
   -- the names of its chain, for a part with its number
   pub known_named : (z : Part) → role_of z ≡ role → AreNamed image s.walk (position_of (role_of z)) f.found.names
@@ -169,18 +154,7 @@ module _ {image : List ℕ} {f : Progress} {y : Due} {a i : ℕ} {s : Course} (n
     skipped_up_to = grind (arith, common_steps, role, same_behind, same, past_skipped, up_to)
 
     pub skipped_on : IsGoneOn image s part a i g None
-    skipped_on = record {
-      holds = record {
-        told = refl;
-        course = o.course;
-        stands = o.stands;
-        up_to = skipped_up_to;
-        names = subst (AreNamed image s.walk (behind (role_of part))) (sym o.names)
-            (λ name m p t j b valid e d here. n.holds.names name m p t j b valid e d here);
-        small = n.holds.small;
-      };
-      block = tt;
-    }
+    skipped_on = grind (arith, common_steps, up_to, skipped_up_to)
 
   -- the place behind a part that is taken
   module _ {g : Progress} {taken : Part} (o : IsToTake image s (reference_at (word_in image a i)) f g taken) where

@@ -1,7 +1,7 @@
 -- The data blocks that a table names and that are taken as these are those of the walk.
 -- Letters: w the walk of a survey, fs its findings; v a result; n a file's node, h the block of its header; k the number of a
 -- data block, from 0; b its block; r, q roles.
-use Rattle.std.specs.Prelude.{◌&&◌, Bool, true, false, cond, nat_lt, Option, Some, None}
+use Rattle.std.specs.Prelude.{◌&&◌, Bool, true, cond, nat_lt, Option, Some, None}
 use Rattle.std.proofs.Common.{◌≡◌, ℕ, suc, zero, List, ◌==◌, ◌+◌, ◌≤◌, ◌<◌, refl, sym, ap, subst, ◌∙◌, add-one, arith}
 use Rattle.std.proofs.lemmas.Bool.{eqb-true, eq-eqb}
 use Rattle.std.proofs.lemmas.Bool.Decides.{eqb_tells, nat_tests}
@@ -40,18 +40,13 @@ found_named image w fs (read v d t) n h file k b has = ((data_is image n v h fil
 
 -- a block with the entry and the number of a data block is one
 pub held_has : (w : Walk) (b n k : ℕ) → owner w b ≡ Some n → number_at w b ≡ suc k → Has w (Data n (suc k)) b
-held_has w b n k e f =
-    let (m, has, own) = held_data w b k f in
-    let same : m ≡ n = (let z : Some m ≡ Some n = sym own ∙ e in cc) in subst (λ m. Has w (Data m (suc k)) b) same has
+held_has w b n k e f = grind (arith, common_steps, held_data w b k f)
 
 pub all_true : {A : Type 0} (p q r : Bool) (x y : A) → p ≡ true → q ≡ true → r ≡ true → cond (p && (q && r)) x y ≡ x
 all_true p q r x y a b c = λ i. cond (a i && (b i && c i)) x y
 
 pub not_all : {A : Type 0} (p q r : Bool) (x y : A) → (p ≡ true → q ≡ true → r ≡ true → ⊥) → cond (p && (q && r)) x y ≡ y
-not_all false q r x y h = refl
-not_all true false r x y h = refl
-not_all true true false x y h = refl
-not_all true true true x y h = absurd (h refl refl refl)
+not_all p q r x y h = grind (arith, common_steps)
 
 -- the number kept of a block is that of its entry
 kept_some : (m n : ℕ) → cond (m == 0) None (Some m) ≡ Some n → m ≡ n

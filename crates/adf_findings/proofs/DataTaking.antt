@@ -1,8 +1,8 @@
 -- The data blocks of an FFS file that are taken as they are.
 -- Letters: x the table of the file; k the number of the data block, b its block; a, m the block of the table that points to it,
 -- and its number; f the progress of a survey.
-use Rattle.std.specs.Prelude.{Bool, true, false, not, nat_le, nat_lt, ◌&&◌, ◌||◌}
-use Rattle.std.proofs.Common.{◌≡◌, ℕ, List, ◌+◌, ◌-◌, ◌*◌, ◌<◌, ◌≤◌, length, refl, sym, subst, ap, ◌∙◌, arith}
+use Rattle.std.specs.Prelude.{Bool, true, not, nat_le, nat_lt, ◌&&◌, ◌||◌}
+use Rattle.std.proofs.Common.{◌≡◌, ℕ, List, ◌+◌, ◌-◌, ◌*◌, ◌<◌, ◌≤◌, length, refl, sym, subst, ◌∙◌, arith}
 use Rattle.std.proofs.lemmas.Bool.{and_parts, le-leb, lt-ltb}
 use Rattle.adf_names.specs.declared.kind.Kind.{Kind}
 use Rattle.adf_names.specs.declared.kind.Kind.TheVariants.{Ofs, Ffs}
@@ -10,7 +10,7 @@ use Rattle.std.proofs.lemmas.Grind.{common_steps}
 use Rattle.adf_blocks.specs.Forms.{first_cause}
 use Rattle.adf_blocks.specs.Sizes.{blocks, in_range}
 use Rattle.adf_volume.specs.declared.owner.Owner.TheVariants.{Free}
-use Rattle.adf_walk.specs.Owners.{is_part, owner_at}
+use Rattle.adf_walk.specs.Owners.{owner_at}
 use Rattle.adf_blocks.specs.declared.layout.TheConstants.{FIRST_POINTER, POINTERS}
 use Rattle.adf_volume.specs.Image.{kind_of, word_in}
 use Rattle.adf_volume.specs.declared.part.Part.{Part}
@@ -33,20 +33,13 @@ use Rattle.adf_findings.proofs.Outcomes.{clean_outcome}
 -- nothing is asked of the form of an FFS data block
 no_cause : {kind : Kind} {e r t : Bool} (a b h k n next : ℕ) (bytes : List ℕ) (kept : Bool) → kind ≡ Ffs → e ≡ true → r ≡ true → t ≡ true
     → clean ≡ judged_by (first_of_five a b e r t (first_cause (data_clauses kind h k n next bytes)) true) kept
-no_cause a b h k n next bytes kept is enough ranges absent =
-    sym (λ i. judged_by (first_of_five a b (enough i) (ranges i) (absent i) (first_cause (data_clauses (is i) h k n next bytes)) true) kept)
+no_cause a b h k n next bytes kept is enough ranges absent = grind (arith, common_steps)
 
 module _ {image : List ℕ} {f : Progress} {x : FileTable} {m a k b : ℕ} (y : HasReachedNamed image f x m a k)
     (ffs : kind_of image ≡ Ffs) (from : POINTERS * m ≤ k) (to : k < end_in x (m + 1)) (named : b ≡ word_in image a (FIRST_POINTER - (k - POINTERS * m)))
     (whole : x.count ≤ x.room) (lo : 2 ≤ b) (hi : b < length f.found.owners.owners) (free : owner_at f.found.owners.owners b ≡ Free) where
   tests : ((nat_lt 0 k || nat_le x.count x.room) && (in_range image b && not (is_owned f.found b))) ≡ true
-  tests =
-      let inside : b < blocks image = subst (λ n. b < n) y.holds.stands.owners.size hi in
-      let absent : is_owned f.found b ≡ false = ap is_part free in
-      let enough : nat_le x.count x.room ≡ true = le-leb x.count x.room whole in
-      let over : nat_le 2 b ≡ true = le-leb 2 b lo in
-      let below : nat_lt b (blocks image) ≡ true = lt-ltb b (blocks image) inside in
-      grind (arith, common_steps)
+  tests = grind (arith, common_steps, le-leb, lt-ltb)
 
   abbrev i : ℕ
   i = FIRST_POINTER - (k - POINTERS * m)
@@ -71,11 +64,7 @@ module _ {image : List ℕ} {f : Progress} {x : FileTable} {m a k b : ℕ} (y : 
   reference = record { due = due_in x k 0; holder = a; block = c }
 
   parts : ((nat_lt 0 k || nat_le x.count x.room) ≡ true) × (in_range image c ≡ true) × (not (is_owned f.found c) ≡ true)
-  parts =
-      let t = subst (λ b. ((nat_lt 0 k || nat_le x.count x.room) && (in_range image b && not (is_owned f.found b))) ≡ true) named tests in
-      let p = and_parts (nat_lt 0 k || nat_le x.count x.room) (in_range image c && not (is_owned f.found c)) t in
-      let q = and_parts (in_range image c) (not (is_owned f.found c)) p.1 in
-      (p.0, q.0, q.1)
+  parts = grind (arith, common_steps, tests, and_parts)
 
   to_take : IsToTake image y.course reference f f part
   to_take =

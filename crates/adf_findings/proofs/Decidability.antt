@@ -1,20 +1,21 @@
 -- The judgement of a part and the findings of the bits are decided.
-use Rattle.std.specs.Prelude.{Bool, true, false, drop, slice_index}
-use Rattle.std.proofs.Common.{◌≡◌, ℕ, zero, suc, List, [], ◌∷◌, ◌++◌, ◌⊎◌, inl, inr, ◌-◌, ◌*◌, ◌/◌, ◌%◌, ◌<◌, ◌≤◌, ◌≢◌, refl, ap, subst, arith}
+use Rattle.std.specs.Prelude.{Bool, true, false}
+use Rattle.std.proofs.Common.{◌≡◌, ℕ, zero, suc, List, [], ◌∷◌, ◌++◌, ◌⊎◌, inl, inr, ◌-◌, ◌*◌, ◌/◌, ◌%◌, ◌<◌, ◌≤◌, ◌≢◌, refl, subst, arith}
+use Rattle.std.proofs.lemmas.Grind.{common_steps}
 use mathlib.Core.Logic.Dec.{and as dec_and, not as dec_not}
 use native.Mathlib.Decide.{dec_le, dec_lt, map_dec, ℕ_discrete}
 use Rattle.adf_names.specs.declared.kind.Kind.{Kind, TheVariants.Ofs, TheVariants.Ffs}
 use Rattle.adf_blocks.specs.declared.cause.Cause.{Cause}
-use Rattle.adf_blocks.specs.declared.layout.TheConstants.{BITMAP_FLAG, PAGE_BITS, POINTERS, SIZE, VALID}
+use Rattle.adf_blocks.specs.declared.layout.TheConstants.{BITMAP_FLAG, PAGE_BITS, POINTERS, VALID}
 use Rattle.adf_blocks.specs.Forms.{Clause}
 use Rattle.adf_blocks.specs.Sizes.{blocks}
 use Rattle.adf_blocks.specs.DataBlock.{data_form}
 use Rattle.adf_blocks.specs.ExtBlock.{ext_form}
 use Rattle.adf_blocks.specs.PageBlock.{page_form}
 use Rattle.adf_base.specs.Words.{block}
-use Rattle.adf_volume.specs.Image.{name_of, kind_of, held, root_of, word_in, IsFreeAt}
+use Rattle.adf_volume.specs.Image.{name_of, kind_of, root_of, word_in, IsFreeAt}
 use Rattle.adf_volume.specs.Demands.{Demand, AllHold, FirstFails, demands_at, data_demands}
-use Rattle.adf_volume.specs.Walk.{Role, Has, data_count, ext_count, Enough, IsAbsent, IsFreeIn, bitmap_demands, next_data, node_block, Walk}
+use Rattle.adf_volume.specs.Walk.{Role, Has, data_count, ext_count, Enough, IsAbsent, IsFreeIn, bitmap_demands, node_block, Walk}
 use Rattle.adf_volume.specs.Walk.Role.{Page, Head, Ext, Data}
 use Rattle.adf_findings.specs.Demands.{NewNameIn, demands_in, form_demands_in, head_form_in, uppers_in}
 use Rattle.adf_findings.specs.Survey.{FindingValue, JudgementValue, Judged, IsItself, is_cache, is_kept, Course, IsCompared, IsUnexcused, BitsTell}
@@ -79,9 +80,7 @@ pub dec_all : {P Q R : Type 0} → Dec P → Dec Q → Dec R → Dec (P × Q × 
 dec_all p q r = map_dec (λ x. (x.0, x.1.0, x.1.1)) (λ x. (x.0, (x.1, x.2))) (dec_and p (dec_and q r))
 
 pub dec_both : (P Q : Type 0) → Dec P → Dec Q → Dec (P → Q)
-dec_both P Q p (yes q) = yes (λ x. q)
-dec_both P Q (yes p) (no n) = no (λ f. n (f p))
-dec_both P Q (no m) (no n) = yes (λ x. absurd (m x))
+dec_both P Q h k = grind (arith, common_steps)
 
 module _ (image : List ℕ) (w : Walk) (v : IsGathered image w) where
   dec_enough : (r : Role) → Dec (Enough image w r)
@@ -109,19 +108,14 @@ module _ (image : List ℕ) (w : Walk) (v : IsGathered image w) where
   decided_forms (Page i) b = decided_form b (page_form (block image b))
   decided_forms (Head n p s j) b = decided_form b (head_form_in image (kind_of image) b (node_block w p) s (block image b))
   decided_forms (Ext n k) b = decided_form b (ext_form b (node_block w n) (block image b))
-  decided_forms (Data n k) b =
-      decided_data (kind_of image) b (node_block w n) k (held (kind_of image) (word_in image (node_block w n) SIZE) k) (next_data image w n k)
+  decided_forms (Data n k) b = grind (arith, common_steps, decided_data)
   decided_forms _ b = tt
 
   dec_names : (x y : List ℕ) → Dec (x ≡ y)
   dec_names [] [] = yes refl
   dec_names [] (y ∷ ys) = no (λ e. cc)
   dec_names (x ∷ xs) [] = no (λ e. cc)
-  dec_names (x ∷ xs) (y ∷ ys) =
-      elim (ℕ_discrete x y) [
-        | no n ↦ no (λ e. n (ap (λ l. slice_index l 0) e))
-        | yes z ↦ elim (dec_names xs ys) [ no n ↦ no (λ e. n (ap (λ l. drop 1 l) e)) | yes u ↦ yes (λ t. z t ∷ u t) ]
-      ]
+  dec_names (x ∷ xs) (y ∷ ys) = grind (arith, common_steps, dec_names xs ys)
 
   -- whether a member is a header of a chain with a name
   dec_named : (p s c : ℕ) (name : List ℕ) (q : Role)

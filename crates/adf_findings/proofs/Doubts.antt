@@ -1,44 +1,31 @@
 -- Blocks that leave no file in doubt.
 -- Letters: f a state; b a block; m a node; k a number of blocks.
-use Rattle.std.specs.Prelude.{Bool, true, false, cond, not, ◌&&◌, ◌||◌, ◌==◌, Some, None, slice_index_or}
+use Rattle.std.specs.Prelude.{Bool, true, false, not, ◌&&◌, ◌||◌, None}
 use Rattle.std.proofs.Common.{◌≡◌, ℕ, zero, suc, List, [], inl, inr, ◌<◌, ◌≤◌, refl, ap, ◌∙◌, arith}
 use Rattle.std.proofs.lemmas.Bool.{cases_lt}
 use Rattle.std.proofs.lemmas.Bool.Decides.{nat_tests}
 use Rattle.std.proofs.lemmas.Grind.{common_steps}
 use Rattle.adf_base.specs.Words.{block, word}
 use Rattle.adf_blocks.specs.declared.layout.TheConstants.{TYPE, T_DATA}
-use Rattle.adf_volume.specs.Image.{word_in}
 use Rattle.adf_volume.specs.declared.owner.Owner.{Owner}
-use Rattle.adf_volume.specs.declared.owner.Owner.TheVariants.{Free, Boot, Root, Page, MapExt, Head, Ext, Data}
-use Rattle.adf_walk.specs.Owners.{is_part, owner_at}
+use Rattle.adf_walk.specs.Owners.{is_part}
 use Rattle.adf_findings.specs.WalkOwners.{data_number_of}
 use Rattle.adf_findings.specs.declared.found.Found.{Found}
 use Rattle.adf_findings.specs.Found.{is_owned}
-use Rattle.adf_findings.specs.Marks.{doubted, entry_in_block, is_doubted, is_node, is_said}
+use Rattle.adf_findings.specs.Marks.{doubted, is_doubted, is_node}
 use Rattle.adf_findings.proofs.SoundMarks.{none_doubted}
 
 no_number : (o : Owner) → is_part o ≡ false → data_number_of o ≡ 0
-no_number Free e = refl
-no_number Boot e = refl
-no_number Root e = refl
-no_number (Page k) e = refl
-no_number (MapExt k) e = refl
-no_number (Head n) e = refl
-no_number (Ext n k) e = refl
-no_number (Data n k) e = cc
+no_number o h = grind (arith, common_steps)
 
 -- a block that no part owns leaves none in doubt
 pub unowned_sure : (image : List ℕ) (f : Found) (b : ℕ) → is_owned f b ≡ false → doubted image f b ≡ None
-unowned_sure image f b e =
-    let none = no_number (owner_at f.owners.owners b) e in
-    ap (λ n. cond (n == 0) None (cond (slice_index_or f.avoided.items b false || is_said image f b) (Some (entry_in_block f b)) None)) none
+unowned_sure image f b e = grind (arith, common_steps, no_number)
 
 -- while no block is skipped, one of another type leaves none in doubt
 pub untyped_sure : (image : List ℕ) (f : Found) (b n : ℕ) → f.avoided.items ≡ [] → n ≡ word (block image b) TYPE → (n ≡ T_DATA → ⊥)
     → doubted image f b ≡ None
-untyped_sure image f b n none is other =
-    let plain : (slice_index_or f.avoided.items b false || (word_in image b TYPE == T_DATA)) ≡ false = grind (arith, common_steps, nat_tests) in
-    none_doubted image f b plain
+untyped_sure image f b n none is other = grind (arith, common_steps, nat_tests, none_doubted)
 
 or_false : (x : Bool) → (x || false) ≡ x
 or_false true = refl
@@ -58,9 +45,7 @@ same_doubted image f m first (suc k) le none = elim (cases_lt first (suc k)) [
 
 -- one more struck mark
 pub both : (x p q : Bool) → ((x && not p) && not q) ≡ (x && not (p || q))
-both true true q = refl
-both true false q = refl
-both false p q = refl
+both x p q = grind (arith, common_steps)
 
 pub kept : (x : Bool) → x ≡ (x && true)
 kept true = refl

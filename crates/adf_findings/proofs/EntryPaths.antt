@@ -83,5 +83,4 @@ module _ (image : List ℕ) (w : Walk) (fs : List FindingValue) (h : IsSurvey im
 -- a list told backwards
 pub map_reverse : {A B : Type 0} (f : A → B) (xs : List A) → map f (reverse xs) ≡ reverse (map f xs)
 map_reverse f [] = refl
-map_reverse f (x ∷ xs) =
-    rw (reverse_onto xs x [], map-append, map_reverse f xs, reverse_onto (map f xs) (f x) []) refl
+map_reverse f (x ∷ xs) = grind (arith, common_steps, reverse_onto, map-append, map_reverse f xs)

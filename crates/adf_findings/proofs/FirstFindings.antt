@@ -1,7 +1,7 @@
 -- The first finding of a survey behind that of its type, and surveys with no other.
 -- Letters: past the findings of the type; over the parts skipped; rest the findings behind them.
 use Rattle.std.proofs.Common.{false, ◌≡◌, ℕ, suc, List, [], ◌∷◌, ◌⊎◌, ◌++◌, inl, inr, ◌+◌, ◌-◌, ◌/◌, ◌<◌, ◌≤◌, refl, sym, subst, ap, ◌∙◌}
-use Rattle.std.proofs.Common.{append-nil, append_assoc, None, Some, arith}
+use Rattle.std.proofs.Common.{append-nil, append_assoc, None, arith}
 use Rattle.std.proofs.lemmas.Bool.Decides.{nat_tests}
 use Rattle.std.proofs.lemmas.Bool.{eqb-true}
 use Rattle.std.proofs.lemmas.List.{append_cancel_left}
@@ -96,9 +96,7 @@ module _ (image : List ℕ) (letters : Letters) where
 
   differed : (w : Walk) (b n at : ℕ) (c : Cause) → FirstFails (bitmap_demands image w b 1) at c
       → FirstFails (bitmap_demands image w b (suc n)) at c
-  differed w b n at c (inl h) = inl h
-  differed w b n at c (inr (x, inl h)) = inr (x, inl h)
-  differed w b n at c (inr (x, inr h)) = absurd h.1
+  differed w b n at c h = grind (arith, common_steps)
 
   told : {s : Course} {b n : ℕ} {fs : List FindingValue} → BitsTell image s b n fs → ((c : ℕ) → b ≤ c → c < b + n → IsCompared image s c)
       → Told s.walk b n fs
@@ -133,9 +131,7 @@ module _ (image : List ℕ) (letters : Letters) where
     -- then the letters are those of the image
     plain : (w : Walk) (r : Role) (a b : ℕ) (j : JudgementValue) → IsBegunBy letters image → Judged r (demands_in image w r a b) j
         → Judged r (demands_by letters image w r a b) j
-    plain w r a b j begun h =
-        let own = begins.same (all_split (boot_demands_by letters image) (root_demands image (root_of image)) begun).0 in
-        subst (λ l. Judged r (demands_by l image w r a b) j) own h
+    plain w r a b j begun h = grind (arith, common_steps, all_split)
 
     stepped : (w over : Walk) (fs gs : List FindingValue) (r : Role) (a i : ℕ) (j : JudgementValue) → Known w over fs
         → IsNext image (record { walk = w; skipped = over; findings = gs }) r a i → Judged r (demands_in image w r a (word_in image a i)) j
@@ -177,9 +173,7 @@ module _ (image : List ℕ) (letters : Letters) where
     -- a part that is next adds to the findings at the end
     more : (s : Course) (r : Role) (b : ℕ) (j : JudgementValue) (rest : List FindingValue) → s.findings ≡ past ++ rest
         → (after s r b j).findings ≡ past ++ (after (record { walk = s.walk; skipped = s.skipped; findings = rest }) r b j).findings
-    more s r b clean rest e = e
-    more s r b (reported at c) rest e = joins s.findings (finding (Some r) at c) rest e
-    more s r b (skipped at c) rest e = joins s.findings (finding (Some r) at c) rest e
+    more s r b j rest h = grind (arith, common_steps, joins)
 
     known : {s : Course} → IsCourse image s → Past (Known s.walk s.skipped) s.findings
     known (start b t) = started b t

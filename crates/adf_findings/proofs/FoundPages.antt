@@ -1,9 +1,10 @@
 -- The pages of the bitmap that a survey finds.
 -- Letters: r a role; w the walk of a survey, fs its findings; i the number of a page; b, at blocks; a, j the block and the word that point to one.
 use Rattle.std.specs.Prelude.{Some}
-use Rattle.std.proofs.Common.{◌≡◌, ℕ, List, ◌<◌, inl, inr, subst}
+use Rattle.std.proofs.Common.{◌≡◌, ℕ, List, ◌<◌, inl, inr, arith}
+use Rattle.std.proofs.lemmas.Grind.{common_steps}
 use Rattle.adf_blocks.specs.Sizes.{blocks, pages_needed}
-use Rattle.adf_volume.specs.Walk.{Asks, Has, Role, Walk}
+use Rattle.adf_volume.specs.Walk.{Has, Role, Walk}
 use Rattle.adf_volume.specs.Walk.Role.{Page}
 use Rattle.adf_volume.proofs.Gathered.{IsGathered}
 use Rattle.adf_volume.proofs.Gathered.IsGathered.{start, step}
@@ -16,8 +17,7 @@ use Rattle.adf_findings.proofs.OneSurvey.{gathered}
 gathered_low : (image : List ℕ) {w : Walk} → IsGathered image w → (i b : ℕ) → Has w (Page i) b → i < pages_needed (blocks image)
 gathered_low image start i b (inl e) = cc
 gathered_low image start i b (inr f) = absurd f
-gathered_low image (step {w = w} {r = r} a j c v d l) i b (inl e) =
-    let asked : Asks image w (Page i) a j = subst (λ r. Asks image w r a j) e.0 d in asked.0
+gathered_low image (step {w = w} {r = r} a j c v d l) i b (inl e) = grind (arith, common_steps)
 gathered_low image (step a j c v d l) i b (inr h) = gathered_low image v i b h
 
 -- its number is one of those that the image needs

@@ -26,8 +26,7 @@ grave_is (f ∷ fs) g h =
 pub is_grave : (fs : List FindingValue) (g : FindingValue) → In fs g → is_light g ≡ false → In (grave fs) g
 is_grave [] g h e = h
 is_grave (f ∷ fs) g (inl z) e = grind (arith, common_steps)
-is_grave (f ∷ fs) g (inr h) e =
-    let i = is_grave fs g h e in cond_both (not (is_light f)) (f ∷ grave fs) (grave fs) (λ gs. In gs g) (λ t. inr i) (λ t. i)
+is_grave (f ∷ fs) g (inr h) e = grind (arith, common_steps, cond_both, is_grave fs g h e)
 
 -- the grave findings among those that are kept
 pub grave_kept : (xs : List Finding) → map finding_value (filter (λ x. not (is_light (finding_value x))) xs) ≡ grave (map finding_value xs)

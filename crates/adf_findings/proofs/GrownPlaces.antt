@@ -2,7 +2,7 @@
 -- Letters: p, q places that are given; xs starts, x a start; c how many; n a node; i a place; k a number of a block, or an owner as it is kept.
 use Rattle.std.specs.Prelude.{count_by}
 use Rattle.std.proofs.Common.{◌≡◌, ℕ, zero, suc, List, [], ◌∷◌, ◌++◌, ◌+◌, ◌-◌, ◌<◌, ◌≤◌, ◌^◌, inl, inr, length, get_or, map, replicate, set}
-use Rattle.std.proofs.Common.{false, nat_le, refl, sym, ap, subst, ◌∙◌, arith}
+use Rattle.std.proofs.Common.{nat_le, refl, sym, ap, subst, ◌∙◌, arith}
 use Rattle.std.specs.Global.{Vec}
 use Rattle.std.specs.List.{All}
 use Rattle.std.proofs.lemmas.Bool.{cases_lt, lt-leb}
@@ -41,17 +41,12 @@ module _ (xs : List NodeStart) (c : ℕ) (x : NodeStart) where
   start_left n lt = get_or_append_left xs (replicate c x) (record { exts = 0; datas = 0 }) n lt
 
   start_right : (n : ℕ) → length xs ≤ n → n < length more → start_of more n ≡ x
-  start_right n le lt =
-      get_or-append_right xs (replicate c x) (length xs) n (record { exts = 0; datas = 0 }) refl le
-      ∙ at_replicate c x (n - length xs) (record { exts = 0; datas = 0 }) (omega (arith, le, lt, many))
+  start_right n le lt = grind (arith, common_steps, get_or-append_right, at_replicate, many)
 
   -- no node that is begun behind a place is the last one whose blocks begin there
   none_more : (first : NodeStart → ℕ) (c i : ℕ) → i < first x → count_by (λ s. nat_le (first s) i) (replicate c x) ≡ 0
   none_more first zero i lt = refl
-  none_more first (suc c) i lt =
-      let no : nat_le (first x) i ≡ false = lt-leb (first x) i lt in
-      let rest = none_more first c i lt in
-      grind (arith, common_steps)
+  none_more first (suc c) i lt = grind (arith, common_steps, nat_le, lt-leb, none_more first c i lt)
 
   as_many : (first : NodeStart → ℕ) (ys : List NodeStart) (i : ℕ) → i < first x
       → count_by (λ s. nat_le (first s) i) (ys ++ replicate c x) ≡ count_by (λ s. nat_le (first s) i) ys
@@ -92,13 +87,7 @@ module _ (p : GivenPlaces) (fit : AreFit p) (c : ℕ) where
   zs = xs ++ replicate c x
 
   ends_more : (n : ℕ) → n < length zs → ((start_of zs n).exts ≤ p.exts) × ((start_of zs n).datas ≤ p.datas)
-  ends_more n lt = elim (cases_lt n (length xs)) [
-    | inl in' ↦
-        let e = start_left xs c x n in' in
-        let z = fit.ends n in' in
-        (omega (arith, ap first_ext e, z.0), omega (arith, ap first_data e, z.1))
-    | inr past ↦ let e = start_right xs c x n past lt in (omega (arith, ap first_ext e), omega (arith, ap first_data e))
-  ]
+  ends_more n lt = grind (arith, common_steps, cases_lt, start_left, start_right)
 
   same_kept : (class : OwnerClass) (i : ℕ) → IsGiven p.exts p.datas class i → owner_with zs class i ≡ owner_with xs class i
   same_kept Ext i lt =
@@ -175,9 +164,7 @@ same_owners p q grown (k ∷ table) in' =
 pub owners_claimed : (p q : GivenPlaces) (table : List KeptOwner) (b : ℕ) (o : Owner) (k : KeptOwner) → AreGrown p q
     → All (IsInside p.exts p.datas) table → IsKeptBy q o k
     → map (owner_kept q.starts.items) (set table b k) ≡ set (map (owner_kept p.starts.items) table) b o
-owners_claimed p q table b o k grown in' kept =
-    map-set (owner_kept q.starts.items) table b k
-    ∙ (λ t. set (same_owners p q grown table in' t) b (kept.owner t))
+owners_claimed p q table b o k grown in' kept = grind (arith, common_steps, map-set, set, same_owners)
 
 -- a part owns a block if its owner is kept as claimed
 part_of : (starts : List NodeStart) (class : OwnerClass) (i : ℕ) → is_part (owner_with starts class i) ≡ is_part_class class

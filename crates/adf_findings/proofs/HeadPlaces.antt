@@ -27,8 +27,7 @@ head_parent image start n p s j b (inl e) = let root = e.0 in cc
 head_parent image start n p s j b (inr f) = absurd f
 head_parent image (step {w = w} {r = r} a i c v d l) n p s j b (inl e) = grind (arith, common_steps, step, eq-eqb)
 head_parent image (step {w = w} {r = r} a i c v d l) n p s j b (inr h) =
-    let u : (1 ≤ n) × (n ≤ heads w) = number_of image v (head_at n p s j b h) in
-    other_parent image w n r a i (parent_node w n) d (omega arith) ∙ head_parent image v n p s j b h
+    grind (arith, common_steps, number_of, head_at, other_parent, head_parent image v n p s j b h)
 
 get_cases : {A : Type 0} (xs : List A) (x y : A) (k : ℕ) → slice_get (xs ++ x ∷ []) k ≡ Some y
     → (slice_get xs k ≡ Some y) ⊎ ((k ≡ length xs) × (x ≡ y))
@@ -46,9 +45,7 @@ module _ (image : List ℕ) where
   -- the place of an earlier header stays
   place_stays : (w : Walk) (r : Role) (a i k : ℕ) (c : ChainPlace) → Asks image w r a i → k < heads w → slice_get (places_of w) k ≡ Some c
       → slice_get (with_place r (places_of w)) k ≡ Some c
-  place_stays w (Head m p s j) a i k c d lt e = grind (arith, common_steps, get_before, places_long)
-  place_stays w Root a i k c d lt e = absurd d
-  place_stays w _ a i k c d lt e = e
+  place_stays w r a i k c h l m = grind (arith, common_steps, get_before, places_long)
 
   -- each header has its place
   place_kept : {w : Walk} → IsGathered image w → (n p s j b : ℕ) → Has w (Head n p s j) b

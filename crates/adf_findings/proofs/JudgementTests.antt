@@ -14,15 +14,14 @@ use Rattle.adf_base.specs.Words.{block}
 use Rattle.adf_names.specs.declared.kind.Kind.{Kind, TheVariants.Ofs, TheVariants.Ffs}
 use Rattle.adf_names.specs.Texts.{is_name}
 use Rattle.adf_blocks.specs.declared.layout.TheConstants.{NAME}
-use Rattle.adf_blocks.specs.ExtBlock.{ext_form}
 use Rattle.adf_volume.specs.Demands.{Demand, demand, demands_at, data_demands, AllHold, FirstFails}
 use Rattle.adf_volume.proofs.FormDemands.{all_demanded, demanded}
-use Rattle.adf_volume.specs.Image.{kind_of, name_of}
+use Rattle.adf_volume.specs.Image.{name_of}
 use Rattle.adf_volume.specs.Walk.{Role, Enough, IsAbsent, Walk}
 use Rattle.adf_volume.specs.Walk.Role.{Page, Head, Data}
-use Rattle.adf_findings.specs.Demands.{NewNameIn, demands_in, form_demands_in, head_form_in}
-use Rattle.adf_volume.specs.declared.part.Part.{Part, TheVariants.Root as RootPart, TheVariants.Page as PagePart, TheVariants.MapExt as MapExtPart}
-use Rattle.adf_volume.specs.declared.part.Part.{TheVariants.Head as HeadPart, TheVariants.Ext as ExtPart, TheVariants.Data as DataPart}
+use Rattle.adf_findings.specs.Demands.{NewNameIn, demands_in, form_demands_in}
+use Rattle.adf_volume.specs.declared.part.Part.{Part}
+use Rattle.adf_volume.specs.declared.part.Part.{TheVariants.Head as HeadPart}
 use Rattle.adf_findings.specs.declared.forms.Context.{Context}
 use Rattle.adf_findings.specs.declared.judge.Facts.{Facts}
 use Rattle.adf_findings.specs.Survey.{IsItself, Judged, JudgementValue, is_kept}
@@ -44,11 +43,7 @@ tells_range image b = grind (arith, common_steps, nat_tests)
 first_more : (b : ℕ) (form : List Clause) (ys : List Demand) (rest : Option (ℕ × Cause)) → FirstIs ys rest
     → FirstIs (demands_at b form ++ ys) (of_form b (first_cause form) rest)
 first_more b [] ys rest h = h
-first_more b ((true, c) ∷ cs) ys rest h = go (of_form b (first_cause cs) rest) (first_more b cs ys rest h)
-  where
-    go : (o : Option (ℕ × Cause)) → FirstIs (demands_at b cs ++ ys) o → FirstIs (demands_at b ((true, c) ∷ cs) ++ ys) o
-    go None k = (refl, k)
-    go (Some x) k = inr (refl, k)
+first_more b ((true, c) ∷ cs) ys rest h = grind (arith, common_steps, first_more b cs ys rest h)
 first_more b ((false, c) ∷ cs) ys rest h = inl ((λ (e : false ≡ true). cc), refl, refl)
 
 pass_on : (x : Demand) (xs : List Demand) (o : Option (ℕ × Cause)) → x.holds → FirstIs xs o → FirstIs (x ∷ xs) o
@@ -74,22 +69,16 @@ first_is a b true true true n form E R T N he hr ht hn =
     (first_new b n N hn))))
 
 itself_clause : (k c : Bool) → Tells (k || c) (k ≡ false → c ≡ true)
-itself_clause true c = λ (e : true ≡ false). cc
-itself_clause false true = λ e. refl
-itself_clause false false = λ f. let x : false ≡ true = f refl in cc
+itself_clause k c = grind (arith, common_steps)
 
 both : (s t : Bool) (P Q : Type 0) → Tells s P → Tells t Q → Tells (s && t) (P × Q)
-both true true P Q p q = (p, q)
-both true false P Q p q = λ h. q h.1
-both false t P Q p q = λ h. p h.0
+both s t P Q h k = grind (arith, common_steps)
 
 -- the form and what stands behind it, of slight causes
 itself_more : (r : Role) (b : ℕ) (form : List Clause) (ys : List Demand) → IsItself r ys
     → Tells (itself_by r form) (IsItself r (demands_at b form ++ ys))
 itself_more r b [] ys h = h
-itself_more r b (c ∷ cs) ys h =
-    both (is_kept r c.1 || c.0) (itself_by r cs) (is_kept r c.1 ≡ false → c.0 ≡ true) (IsItself r (demands_at b cs ++ ys))
-    (itself_clause (is_kept r c.1) c.0) (itself_more r b cs ys h)
+itself_more r b (c ∷ cs) ys h = grind (arith, common_steps, both, itself_clause, itself_more r b cs ys h)
 
 -- but for pages, of which it is not asked, short files and equal names are slight
 short_slight : (image : List ℕ) (w : Walk) (r : Role) → is_kept r ShortFile ≡ false → Enough image w r
@@ -116,8 +105,7 @@ pub record ItselfHolds (image : List ℕ) (w : Walk) (b : ℕ) : Type 0 where
   pub unowned : IsAbsent w b
 
 pub itself_holds : (image : List ℕ) (w : Walk) (r : Role) (a b : ℕ) → IsItself r (demands_in image w r a b) → ItselfHolds image w b
-itself_holds image w r a b h =
-    let range = h.1.0 (keeps_range r) in record { past_boot = range.0; inside = range.1; unowned = h.1.1.0 (keeps_taken r) }
+itself_holds image w r a b h = grind (arith, common_steps, keeps_range, keeps_taken)
 
 itself_is : (role : Role) (a b : ℕ) (r t : Bool) (form : List Clause) (E R T N : Type 0) → (is_kept role ShortFile ≡ false → E) → Tells r R
     → (r ≡ true → Tells t T) → (is_kept role SameName ≡ false → N)
@@ -136,9 +124,7 @@ itself_is role a b true true form E R T N he hr ht hn = go (itself_by role form)
     go false h = λ k. h k.1.1.1
 
 judged_is : (r : Role) (xs : List Demand) (o : Option (ℕ × Cause)) (k : Bool) → FirstIs xs o → Tells k (IsItself r xs) → Judged r xs (judged_by o k)
-judged_is r xs None k h i = h
-judged_is r xs (Some x) true h i = (h, i)
-judged_is r xs (Some x) false h i = (h, i)
+judged_is r xs o k h l = grind (arith, common_steps)
 
 data_is : (image : List ℕ) (kind : Kind) (b h k n next y : ℕ) → (kind ≡ Ofs → next ≡ y)
     → data_demands image kind b h k n y ≡ demands_at b (data_clauses kind h k n next (block image b))
@@ -147,12 +133,7 @@ data_is image Ffs b h k n next y e = refl
 
 form_is : (image : List ℕ) (w : Walk) (part : Part) (b : ℕ) (x : Context) → IsContext image w (role_of part) x
     → form_demands_in image w (role_of part) b ≡ demands_at b (form_of image part b x)
-form_is image w RootPart b x h = refl
-form_is image w (PagePart i) b x h = refl
-form_is image w (MapExtPart j) b x h = refl
-form_is image w (HeadPart n p s j) b x h = ap (λ up. demands_at b (head_form_in image (kind_of image) b up s (block image b))) (sym h)
-form_is image w (ExtPart n k) b x h = ap (λ up. demands_at b (ext_form b up (block image b))) (sym h)
-form_is image w (DataPart n k) b x h = grind (arith, common_steps, data_is)
+form_is image w part b x h = grind (arith, common_steps, data_is)
 
 -- a part is judged as the tests tell
 pub judged : (image : List ℕ) (w : Walk) (part : Part) (a b : ℕ) (f : Facts) (new : Bool) → Knows image w part b f
@@ -187,30 +168,17 @@ module _ (a b : ℕ) where
   -- another cause than that of the name
   pub other_cause : (e r t new kept : Bool) (form : Option Cause) (o : JudgementValue)
       → judged_by (first_of_five a b e r t form true) kept ≡ o → (o ≡ clean → ⊥) → judged_by (first_of_five a b e r t form new) kept ≡ o
-  other_cause false r t new kept form o h some = h
-  other_cause true false t new kept form o h some = h
-  other_cause true true false new kept form o h some = h
-  other_cause true true true new kept (Some c) o h some = h
-  other_cause true true true new kept None o h some = absurd (some (sym h))
+  other_cause e r t new kept form o h k = grind (arith, common_steps)
 
   -- no other cause
   pub no_cause : (e r t kept : Bool) (form : Option Cause) → judged_by (first_of_five a b e r t form true) kept ≡ clean → form ≡ None
-  no_cause false r t kept form h = absurd (some_cause (a, ShortFile) kept h)
-  no_cause true false t kept form h = absurd (some_cause (a, OutOfRange) kept h)
-  no_cause true true false kept form h = absurd (some_cause (b, Taken) kept h)
-  no_cause true true true kept (Some c) h = absurd (some_cause (b, c) kept h)
-  no_cause true true true kept None h = refl
+  no_cause e r t kept form h = grind (arith, common_steps, some_cause)
 
   -- then that of the name counts
   pub name_cause : (e r t itself new : Bool) (form : Option Cause) → (form ≡ None → itself ≡ true)
       → judged_by (first_of_five a b e r t form true) (r && (t && itself)) ≡ clean
       → judged_by (first_of_five a b e r t form new) (r && (t && itself)) ≡ cond new clean (reported b SameName)
-  name_cause false r t itself new form is h = absurd (some_cause (a, ShortFile) (r && (t && itself)) h)
-  name_cause true false t itself new form is h = absurd (some_cause (a, OutOfRange) false h)
-  name_cause true true false itself new form is h = absurd (some_cause (b, Taken) false h)
-  name_cause true true true itself new (Some c) is h = absurd (some_cause (b, c) itself h)
-  name_cause true true true itself true None is h = refl
-  name_cause true true true itself false None is h = ap (judged_by (Some (b, SameName))) (is refl)
+  name_cause e r t itself new form h k = grind (arith, common_steps, some_cause)
 
 -- a header without a cause in its form has a valid name
 pub valid_name : (image : List ℕ) (part : Part) (b : ℕ) (x : Context) → first_cause (form_of image part b x) ≡ None → HasValidName image part b

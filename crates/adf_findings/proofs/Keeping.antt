@@ -1,11 +1,10 @@
 -- The result for an image is that of its survey.
-use Rattle.std.specs.Prelude.{Bool, cond, ◌==◌, Some, None, ◌&&◌, nat_lt, Option, ◌-◌, false, true, map, not, slice_get, slice_index}
+use Rattle.std.specs.Prelude.{Bool, cond, ◌==◌, Some, None, ◌&&◌, Option, ◌-◌, false, true, map, not, slice_get, slice_index}
 use Rattle.std.proofs.Common.{◌≡◌, ℕ, List, [], ◌∷◌, ◌++◌, ◌≤◌, refl, sym, ap, subst, ◌∙◌, arith, ◌*◌, ◌<◌, length}
 use Rattle.std.specs.List.{AllZip, filter}
 use Rattle.std.specs.Option.{option_flatten}
 use Rattle.std.proofs.lemmas.Grind.{common_steps}
 use Rattle.adf_blocks.specs.Sizes.{blocks}
-use Rattle.adf_volume.specs.Image.{kind_of}
 use Rattle.adf_volume.proofs.Gathered.{head_block, numbered as has_number, number_of}
 use Rattle.adf_volume.specs.Walk.{Has, heads, node_block, Walk}
 use Rattle.adf_volume.specs.Walk.Role.{Head}
@@ -18,7 +17,7 @@ use Rattle.adf_findings.specs.Found.{AreOwned, IsCompleted, parent_node}
 use Rattle.adf_findings.specs.declared.found.Found.{Found}
 use Rattle.adf_findings.specs.declared.finding.Finding.{Finding}
 use Rattle.adf_findings.specs.Files.{counting, grave, is_light}
-use Rattle.adf_findings.specs.Marks.{blamed, has_mark, is_blamed, is_clear, is_doubtful, is_undoubted}
+use Rattle.adf_findings.specs.Marks.{blamed, has_mark, is_blamed, is_clear, is_undoubted}
 use Rattle.adf_findings.specs.declared.concern.Concern.{Concern}
 use Rattle.adf_findings.specs.Parts.{finding_value}
 use Rattle.adf_findings.specs.Survey.{FindingValue, IsSurvey, UnreadTells}
@@ -71,17 +70,7 @@ copied R same (x ∷ xs) (y ∷ ys) z = λ t. same x y z.0 t ∷ copied R same x
 -- the marks of nodes that are not doubted, with those of what findings concern removed, are those of clear nodes
 pub clear_marks : (image : List ℕ) (f : Found) (xs : List Finding) (base marks : List Bool) → ((m : ℕ) → has_mark base m ≡ is_undoubted image f m)
     → ((m : ℕ) → has_mark marks m ≡ (has_mark base m && not (is_blamed f xs m))) → (m : ℕ) → has_mark marks m ≡ is_clear image f xs m
-clear_marks image f xs base marks undoubted struck m =
-    let blamed : Bool = is_blamed f xs m in
-    struck m ∙ ap (λ t. t && not blamed) (undoubted m)
-    ∙ moved (nat_lt m (length f.nodes.items)) (not (is_doubtful (kind_of image) image f m)) (not blamed)
-  where
-    moved : (b c d : Bool) → ((b && c) && d) ≡ (b && (d && c))
-    moved false c d = refl
-    moved true true true = refl
-    moved true true false = refl
-    moved true false true = refl
-    moved true false false = refl
+clear_marks image f xs base marks undoubted struck m = grind (arith, common_steps)
 
 -- of an image whose course is done, with its bits compared; xs are its findings, and ys those but the light ones
 pub read_kept : (image : List ℕ) (f : Found) (xs ys : List Finding) (concerned : List (Option Concern)) (sound whole : List Bool)

@@ -1,5 +1,5 @@
 -- The state of a survey has the facts that the demands on a part need.
-use Rattle.std.specs.Prelude.{Bool, true, false, not, ◌==◌, ◌||◌, ◌&&◌}
+use Rattle.std.specs.Prelude.{Bool, true, false, not, ◌==◌, ◌||◌}
 use Rattle.std.proofs.Common.{◌≡◌, ◌≢◌, ℕ, zero, suc, List, [], ◌∷◌, inl, inr, ◌<◌, refl, sym, subst, ap, ◌∙◌, arith}
 use Rattle.std.specs.Str.{bytes_eq}
 use Rattle.std.proofs.lemmas.Bool.{and_parts, cases_Bool, eqb-true, eq-eqb}
@@ -43,18 +43,7 @@ own_name image n p s j c name = rw (eq-eqb p p refl, eq-eqb s s refl) refl
 -- whether the role is a header of the chain with the name
 tells_named : (image : List ℕ) (r : Role) (c p s : ℕ) (name : List ℕ)
     → Tells (not (is_named image r c p s name)) ((m k : ℕ) → r ≡ Head m p s k → uppers_in image (name_of image c) ≢ name)
-tells_named image (Head n q m j) c p s name = go (is_named image (Head n q m j) c p s name) refl
-  where
-    go : (t : Bool) → is_named image (Head n q m j) c p s name ≡ t
-        → Tells (not t) ((i k : ℕ) → Head n q m j ≡ Head i p s k → uppers_in image (name_of image c) ≢ name)
-    go true e =
-        let x = and_parts (q == p) ((m == s) && bytes_eq (uppers_in image (name_of image c)) name) e in
-        let y = and_parts (m == s) (bytes_eq (uppers_in image (name_of image c)) name) x.1 in
-        let qp : q ≡ p = eqb-true q p x.0 in
-        let ms : m ≡ s = eqb-true m s y.0 in
-        λ f. f n j (λ i. Head n (qp i) (ms i) j) ((bytes_eq-Decides (uppers_in image (name_of image c)) name).0 y.1)
-    go false e = grind (arith, common_steps, bytes_eq-Decides, eq-eqb)
-tells_named image _ c p s name = λ m k e. cc
+tells_named image r c p s name = grind (arith, common_steps, and_parts, eqb-true, bytes_eq-Decides, eq-eqb)
 
 -- no header of the chain has the name
 abbrev pub Fresh : List ℕ → ℕ → ℕ → List ℕ → Walk → Type 0

@@ -45,12 +45,7 @@ file_between image w fs (read v d t) n h at = number_of image (gathered image v)
 -- an entry is a file where its header says so
 pub file_told : (image : List ℕ) (w : Walk) (fs : List FindingValue) → IsSurvey image w fs → (n : ℕ) (t : Bool) → 1 ≤ n → n ≤ heads w
     → t ≡ (word_in image (node_block w n) SECONDARY_TYPE == ST_FILE) → (t ≡ true) ↔ ((h : ℕ) × FileAt image w n h)
-file_told image w fs survey n t lo hi e =
-    let at : (h : ℕ) → HeadAt w n h → word_in image (node_block w n) SECONDARY_TYPE ≡ word_in image h SECONDARY_TYPE =
-    λ h g. ap (λ b. word_in image b SECONDARY_TYPE) (header_one image w fs survey n g.parent g.slot g.place h g.has) in (
-      (λ y. (node_block w n, record { header = header_at image w fs survey n lo hi; type = eqb-true _ _ (sym e ∙ y) })),
-      (λ y. e ∙ eq-eqb _ _ (at y.0 y.1.header ∙ y.1.type)),
-    )
+file_told image w fs survey n t lo hi e = grind (arith, common_steps, header_one, header_at, eqb-true, eq-eqb)
 
 -- an entry of the directory is a child by its name
 pub child_told : (image : List ℕ) (w : Walk) (fs : List FindingValue) → IsSurvey image w fs → (p n : ℕ) (name text : List ℕ)

@@ -40,9 +40,7 @@ module _ (image : List ℕ) (f : Progress) (s : Course) (page : ℕ) where
 
   pub page_named : (a i : ℕ) → i ≡ word_of_page page → page < pages_needed (blocks image) → Holds image f (position_of (Page page)) s
       → NamesPage image s.walk page a (word_of_page page) → IsNamed image f (due_below (PagePart page) a) a i s
-  page_named a i e lt h names =
-      subst (λ i. IsNamed image f (due_below (PagePart page) a) a i s) (sym e)
-      (record { holds = h; asked = (lt, names); said = record { context = tt; enough = tt } })
+  page_named a i e lt h names = grind (arith, common_steps)
 
 module _ (image : List ℕ) (f : Progress) (s : Course) (page : ℕ) where
   -- behind a page comes the next

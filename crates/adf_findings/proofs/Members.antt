@@ -1,8 +1,9 @@
 -- The blocks of the table of a file: each one but the header is named by the one before.
 -- Letters: s a course, w a walk; n a node; m the number of a block in its table, a and c blocks.
 use Rattle.std.specs.Prelude.{Bool, true, false, cond, ◌==◌}
-use Rattle.std.proofs.Common.{◌≡◌, ℕ, zero, suc, List, [], ◌∷◌, inl, inr, ◌<◌, ◌≤◌, refl, sym, subst, ap, ◌∙◌, arith}
+use Rattle.std.proofs.Common.{◌≡◌, ℕ, zero, suc, List, [], ◌∷◌, inl, inr, ◌<◌, ◌≤◌, refl, sym, arith}
 use Rattle.std.proofs.lemmas.Bool.{eqb-true}
+use Rattle.std.proofs.lemmas.Grind.{common_steps}
 use Rattle.adf_blocks.specs.declared.layout.TheConstants.{EXTENSION}
 use Rattle.adf_blocks.specs.Sizes.{blocks}
 use Rattle.adf_volume.specs.Image.{word_in}
@@ -26,25 +27,15 @@ module _ {image : List ℕ} where
       → (a : ℕ) × MemberAt image s.walk n m a × (word_in image a EXTENSION ≡ c)
   named (start boot root) n m c (inl e) = let none : Root ≡ Ext n (suc m) = e.0 in cc
   named (start boot root) n m c (inr h) = absurd h
-  named (step {s = s} {r = r} {a = a} {i = i} clean v d g) n m c (inl e) =
-      let asked = asks_member image s.walk n m a i (subst (λ r. Asks image s.walk r a i) e.0 d.asked) in
-      (a, member_up image s.walk (r, word_in image a i) n m a asked.0, ap (word_in image a) (sym asked.1) ∙ e.1)
-  named (step {s = s} {r = r} {a = a} {i = i} clean v d g) n m c (inr h) =
-      let y = named v n m c h in (y.0, member_up image s.walk (r, word_in image a i) n m y.0 y.1, y.2)
-  named (step {s = s} {r = r} {a = a} {i = i} (reported at cause) v d g) n m c (inl e) =
-      let asked = asks_member image s.walk n m a i (subst (λ r. Asks image s.walk r a i) e.0 d.asked) in
-      (a, member_up image s.walk (r, word_in image a i) n m a asked.0, ap (word_in image a) (sym asked.1) ∙ e.1)
-  named (step {s = s} {r = r} {a = a} {i = i} (reported at cause) v d g) n m c (inr h) =
-      let y = named v n m c h in (y.0, member_up image s.walk (r, word_in image a i) n m y.0 y.1, y.2)
+  named (step {s = s} {r = r} {a = a} {i = i} clean v d g) n m c (inl e) = grind (arith, common_steps, asks_member, member_up)
+  named (step {s = s} {r = r} {a = a} {i = i} clean v d g) n m c (inr h) = grind (arith, common_steps, member_up, named v n m c h)
+  named (step {s = s} {r = r} {a = a} {i = i} (reported at cause) v d g) n m c (inl e) = grind (arith, common_steps, asks_member, member_up)
+  named (step {s = s} {r = r} {a = a} {i = i} (reported at cause) v d g) n m c (inr h) = grind (arith, common_steps, member_up, named v n m c h)
   named (step (skipped at cause) v d g) n m c h = named v n m c h
 
   pub member_next : {s : Course} → IsCourse image s → (n m a c : ℕ) → MemberAt image s.walk n m a → Has s.walk (Ext n (suc m)) c
       → word_in image a EXTENSION ≡ c
-  member_next v n m a c at h =
-      let y = named v n m c h in
-      let g = gathered image v in
-      let same : a ≡ y.0 = sym (member_is image g n m a at) ∙ member_is image g n m y.0 y.1 in
-      ap (λ a. word_in image a EXTENSION) same ∙ y.2
+  member_next v n m a c at h = grind (arith, common_steps, named, gathered, member_is)
 
   -- a block of a table is inside of the image
   pub member_inside : {s : Course} → IsCourse image s → (n m a : ℕ) → MemberAt image s.walk n m a → a < blocks image

@@ -1,8 +1,7 @@
 -- An image has at most one survey.
-use Rattle.std.proofs.Common.{None, ◌≡◌, ℕ, suc, List, ◌∷◌, ◌++◌, ◌+◌, ◌-◌, ◌<◌, length, refl, sym, subst, ◌∙◌, arith}
+use Rattle.std.proofs.Common.{None, ◌≡◌, ℕ, suc, List, ◌∷◌, ◌++◌, ◌+◌, ◌<◌, length, refl, sym, subst, ◌∙◌, arith}
 use Rattle.std.proofs.lemmas.Grind.{common_steps}
 use native.Mathlib.Decide.{dec_lt}
-use Rattle.adf_blocks.specs.Sizes.{blocks}
 use Rattle.adf_volume.specs.Image.{word_in}
 use Rattle.adf_volume.specs.Demands.{Demand}
 use Rattle.adf_volume.specs.Walk.{Role, Same, Asks, bitmap_demands, Walk}
@@ -12,25 +11,16 @@ use Rattle.adf_volume.proofs.Roles.{same_role}
 use Rattle.adf_findings.specs.Demands.{demands_in}
 use Rattle.adf_findings.specs.Survey.{FindingValue, finding, JudgementValue, Judged, begun}
 use Rattle.adf_findings.specs.Survey.{Course, after, IsNext, IsCourse, IsDone, BitsTell, IsSurvey}
-use Rattle.adf_findings.specs.Survey.JudgementValue.{clean, reported, skipped}
+use Rattle.adf_findings.specs.Survey.JudgementValue.{clean, skipped}
 use Rattle.adf_findings.specs.Survey.IsCourse.{start, step}
 use Rattle.adf_findings.specs.Survey.BitsTell.{ends, agrees, differs}
-use Rattle.adf_findings.specs.Survey.IsSurvey.{unread, read}
 use Rattle.adf_volume.proofs.Gathered.{IsGathered, asks_one}
 use Rattle.adf_volume.proofs.Gathered.IsGathered.{start as gathered_start, step as gathered_step}
 use Rattle.adf_findings.proofs.Starts.{boot_one, boot_told, not_unread, root_one, root_told, unread_one}
 
 -- a part is judged in one way
 judged_one : (r : Role) (xs : List Demand) (j k : JudgementValue) → Judged r xs j → Judged r xs k → j ≡ k
-judged_one r xs clean clean h g = refl
-judged_one r xs clean (reported b d) h g = absurd (fails_not_all xs b d g.0 h)
-judged_one r xs clean (skipped b d) h g = absurd (fails_not_all xs b d g.0 h)
-judged_one r xs (reported a c) clean h g = absurd (fails_not_all xs a c h.0 g)
-judged_one r xs (reported a c) (reported b d) h g = let e = fails_one xs a c b d h.0 g.0 in λ t. reported (e.0 t) (e.1 t)
-judged_one r xs (reported a c) (skipped b d) h g = absurd (g.1 h.1)
-judged_one r xs (skipped a c) clean h g = absurd (fails_not_all xs a c h.0 g)
-judged_one r xs (skipped a c) (reported b d) h g = absurd (h.1 g.1)
-judged_one r xs (skipped a c) (skipped b d) h g = let e = fails_one xs a c b d h.0 g.0 in λ t. skipped (e.0 t) (e.1 t)
+judged_one r xs j k h l = grind (arith, common_steps, fails_not_all, fails_one)
 
 module _ (image : List ℕ) where
   -- the walk of a course was gathered
@@ -107,10 +97,4 @@ module _ (image : List ℕ) where
       λ t. finding None (e.0 t) (e.1 t) ∷ y t
 
   pub one_survey : (w u : Walk) (fs gs : List FindingValue) → IsSurvey image w fs → IsSurvey image u gs → (w ≡ u) × (fs ≡ gs)
-  one_survey w u fs gs (unread f) (unread g) = (refl, unread_one image f g)
-  one_survey w u fs gs (unread f) (read v d t) = absurd (not_unread image (boot_told image v).1 (root_told image v).1 f)
-  one_survey w u fs gs (read v d t) (unread f) = absurd (not_unread image (boot_told image v).1 (root_told image v).1 f)
-  one_survey w u fs gs (read {s = s} {bits = bits} v d t) (read {s = s'} {bits = bits'} v' d' t') =
-      let z = one_course s s' v v' d d' in
-      let e = bits_one s' (subst (λ s. BitsTell image s 2 (blocks image - 2) bits) z t) t' in
-      ((λ t. (z t).walk), (λ t. (z t).findings ++ e t))
+  one_survey w u fs gs h k = grind (arith, common_steps, unread_one, not_unread, boot_told, root_told, one_course, bits_one)

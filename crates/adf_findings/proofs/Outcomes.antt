@@ -3,7 +3,6 @@ use Rattle.std.proofs.Common.{Some, None, ◌≡◌, ℕ, List, [], ◌∷◌, �
 use Rattle.std.specs.Global.{Vec}
 use Rattle.std.proofs.lemmas.Grind.{common_steps}
 use Rattle.adf_blocks.specs.declared.cause.Cause.{Cause}
-use Rattle.adf_volume.specs.Image.{letters_of}
 use Rattle.adf_volume.specs.Walk.{Role}
 use Rattle.adf_findings.specs.Demands.{demands_in}
 use Rattle.adf_volume.specs.declared.part.Part.{Part}
@@ -13,7 +12,7 @@ use Rattle.adf_findings.specs.declared.judge.Judgement.{Judgement, TheVariants.C
 use Rattle.adf_findings.specs.declared.found.Found.{Found}
 use Rattle.adf_findings.specs.declared.progress.Progress.{Progress}
 use Rattle.adf_findings.specs.Survey.{Course, FindingValue, IsCourse, Judged, JudgementValue, after, finding}
-use Rattle.adf_findings.specs.Survey.JudgementValue.{clean, reported, skipped}
+use Rattle.adf_findings.specs.Survey.JudgementValue.{reported, skipped}
 use Rattle.adf_findings.specs.Survey.IsCourse.{step}
 use Rattle.adf_findings.specs.Forms.{judgement_value}
 use Rattle.adf_findings.specs.Found.{IsBlockSkipped, Stands}
@@ -44,10 +43,7 @@ module _ {image : List ℕ} {f : Progress} {s : Course} (x : Reference) (v : IsC
 
   -- the findings are no part of what is found
   named_with : (fs : List FindingValue) → Stands image g.found (record { walk = s.walk; skipped = s.skipped; findings = fs })
-  named_with fs =
-      let found : g.found ≡ record f.found { names = g.found.names } = ap (λ p. p.found) rest in
-      let avoided = ap (λ h. h.avoided) found in
-      grind (arith, common_steps, stands_but)
+  named_with fs = grind (arith, common_steps, stands_but)
 
   skipped_with : (fs : List FindingValue) (h : Found) → IsBlockSkipped x.block g.found h
       → Stands image h (record { walk = s.walk; skipped = (role, x.block) ∷ s.skipped; findings = fs })
@@ -66,27 +62,13 @@ module _ {image : List ℕ} {f : Progress} {s : Course} (x : Reference) (v : IsC
   to_skip fs = record { walk = s.walk; skipped = (role, x.block) ∷ s.skipped; findings = fs }
 
   pub clean_outcome : j ≡ Clean → IsOutcome image s x f g (Some part)
-  clean_outcome is_clean =
-      let d = judgement Clean is_clean in
-      let holds = part_holds_by (letters_of image) image s.walk role x.holder x.block d in
-      record {
-        role = is;
-        past_boot = holds.past_boot;
-        inside = holds.inside;
-        free = no_owner s.walk x.block holds.unowned;
-        course = subst (λ fs. IsCourse image (to_take fs)) (sym same_noted) (stepped clean d);
-        stands = named_with (noted g);
-        left = ap (λ p. p.found.left) rest;
-        names = kept Clean is_clean;
-      }
+  clean_outcome is_clean = grind (arith, common_steps, judgement, part_holds_by, no_owner, same_noted, stepped, named_with, kept)
 
   -- the findings with that of the part
   module _ (at : ℕ) (c : Cause) (y : Finding) (one : y ≡ record { part = Some part; block = at; cause = c }) (findings : Vec Finding)
       (more : map finding_value findings.items ≡ noted g ++ finding_value y ∷ []) where
     told_is : s.findings ++ finding (Some role) at c ∷ [] ≡ map finding_value findings.items
-    told_is =
-        sym (more ∙ (ap (λ y. noted g ++ finding_value y ∷ []) one ∙ (ap (λ r. noted g ++ finding (Some r) at c ∷ []) is
-        ∙ ap (λ fs. fs ++ finding (Some role) at c ∷ []) same_noted)))
+    told_is = grind (arith, common_steps, same_noted)
 
     pub reported_outcome : j ≡ Reported at c → IsOutcome image s x f (record { found = g.found; findings = findings }) (Some part)
     reported_outcome is_reported =

@@ -52,13 +52,10 @@ tally_more image w k = rw add-one refl
 -- one more block is counted
 pub more_tallied : {v : SurveyValue} {w : Walk} {fs : List FindingValue} → TellsOf v w fs → (image : List ℕ) (k : ℕ) (t u : Tally)
     → t ≡ tally image w k → u ≡ tallied t (said_in image v k) → u ≡ tally image w (k + 1)
-more_tallied {v = v} {w = w} told image k t u e f =
-    f ∙ ((λ i. tallied (e i) (kept_said told image k i)) ∙ sym (tally_more image w k))
+more_tallied {v = v} {w = w} told image k t u e f = grind (arith, common_steps, kept_said, tally_more)
 
 pub few_tallied : (t : Tally) (o : Option Bool) (k : ℕ) → t.says + t.others ≤ k → (tallied t o).says + (tallied t o).others ≤ k + 1
-few_tallied t None k le = omega arith
-few_tallied t (Some true) k le = omega arith
-few_tallied t (Some false) k le = omega arith
+few_tallied t o k h = grind (arith, common_steps)
 
 -- the file of a data block is an entry
 data_entry : (image : List ℕ) (w : Walk) (fs : List FindingValue) → IsSurvey image w fs → (n k b : ℕ) → Has w (Data n (suc k)) b
@@ -89,9 +86,7 @@ module _ (image : List ℕ) (w : Walk) (fs gs : List FindingValue) (v : IsSurvey
           let clash : Some false ≡ Some true = ap Some (sym not_said) ∙ said in cc
 
   says_same : (t : Tally) (o : Option Bool) → (o ≡ Some true → ⊥) → (tallied t o).says ≡ t.says
-  says_same t None other = refl
-  says_same t (Some true) other = absurd (other refl)
-  says_same t (Some false) other = refl
+  says_same t o h = grind (arith, common_steps)
 
   none_say : (k : ℕ) → (tally image w k).says ≡ 0
   unfolding tally
@@ -117,11 +112,4 @@ no_tally image zero = refl
 no_tally image (suc k) = no_tally image k
 
 pub none_mistyped : (image : List ℕ) (w : Walk) → w ≡ [] → false ≡ is_mistyped image w
-none_mistyped image w e = go (kind_of image)
-  where
-    is : tally image w (blocks image) ≡ record { says = 0; others = 0 }
-    is = ap (λ w. tally image w (blocks image)) e ∙ no_tally image (blocks image)
-
-    go : (kind : Kind) → false ≡ is_other_kind kind (tally image w (blocks image))
-    go Ofs = refl
-    go Ffs = sym (ap (is_other_kind Ffs) is)
+none_mistyped image w e = grind (arith, common_steps, no_tally)

@@ -2,15 +2,16 @@
 -- Letters: w a walk; r a role; b its block; o, p owners of blocks.
 use Rattle.std.proofs.Common.{◌≡◌, ℕ, List, [], ◌∷◌, ◌-◌, ◌<◌, ◌≤◌, length, set, replicate, refl, arith}
 use Rattle.std.proofs.lemmas.List.Sums.{count_by-le-length}
+use Rattle.std.proofs.lemmas.Grind.{common_steps}
 use Rattle.adf_blocks.specs.Sizes.{blocks}
 use Rattle.adf_volume.specs.declared.owner.Owner.TheVariants.{Boot, Free}
-use Rattle.adf_volume.specs.Image.{letters_of, root_of, word_in}
+use Rattle.adf_volume.specs.Image.{root_of, word_in}
 use Rattle.adf_volume.specs.LayoutRoles.{owner_of}
 use Rattle.adf_volume.specs.Walk.{Has, Role, Walk}
 use Rattle.adf_volume.specs.Walk.Role.{Root}
 use Rattle.adf_volume.proofs.PartDemands.{part_holds_by}
 use Rattle.adf_volume.proofs.Sizes.{size_low}
-use Rattle.adf_walk.specs.Owners.{is_part, owned_count}
+use Rattle.adf_walk.specs.Owners.{owned_count}
 use Rattle.adf_findings.specs.WalkOwners.{OwnersValue, node_after}
 use Rattle.adf_findings.specs.Found.{AreOwned}
 use Rattle.adf_findings.specs.Survey.{Course, IsCourse}
@@ -47,15 +48,11 @@ walk_owned image (start boot root) =
     let lo : 2 ≤ blocks image = omega (arith, low) in
     let begun : Owned image [] = record { owners = none; owned = new_owned (blocks image) lo none refl refl; many = new_count (blocks image) lo none refl } in
     more_owned image [] Root (root_of image) (omega (arith, low)) (omega (arith, low)) (λ q h. h) begun
-walk_owned image (step {s = s} {r = z} {a = a} {i = i} clean v d g) =
-    let part = part_holds_by (letters_of image) image s.walk z a (word_in image a i) g in
-    more_owned image s.walk z (word_in image a i) part.past_boot part.inside part.unowned (walk_owned image v)
+walk_owned image (step {s = s} {r = z} {a = a} {i = i} clean v d g) = grind (arith, common_steps, part_holds_by, more_owned, walk_owned image v)
 walk_owned image (step {s = s} {r = z} {a = a} {i = i} (reported at c) v d g) =
-    let part = itself_holds image s.walk z a (word_in image a i) g.1 in
-    more_owned image s.walk z (word_in image a i) part.past_boot part.inside part.unowned (walk_owned image v)
+    grind (arith, common_steps, more_owned, itself_holds image s.walk z a (word_in image a i) g.1, walk_owned image v)
 walk_owned image (step (skipped at c) v d g) = walk_owned image v
 
 -- a course has no more parts than the image has blocks
 pub few_parts : (image : List ℕ) {s : Course} → IsCourse image s → length s.walk ≤ blocks image
-few_parts image v =
-    let o = walk_owned image v in omega (arith, o.many, o.owned.size, count_by-le-length is_part o.owners.owners)
+few_parts image v = grind (arith, common_steps, walk_owned, count_by-le-length)

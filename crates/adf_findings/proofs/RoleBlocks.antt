@@ -1,6 +1,6 @@
 -- The block that a walk has at the place of a role, as a function.
 -- Letters: w a walk; q, r, z roles; b, c blocks; i, j numbers of pages.
-use Rattle.std.proofs.Common.{Bool, true, false, cond, Option, Some, None, ◌&&◌, ◌==◌, ◌≡◌, ℕ, List, [], ◌∷◌, inl, inr, refl, sym, ap, subst, ◌∙◌, arith}
+use Rattle.std.proofs.Common.{Bool, true, false, cond, Some, None, ◌&&◌, ◌≡◌, ℕ, List, [], ◌∷◌, inl, inr, refl, sym, subst, ◌∙◌, arith}
 use Rattle.std.specs.Ordering.{is_eq, nat_cmp}
 use Rattle.std.proofs.lemmas.Bool.{and_parts, cases_Bool, cond-false, cond-true, eqb-true, eq-eqb}
 use Rattle.std.proofs.lemmas.Grind.{common_steps}
@@ -19,24 +19,11 @@ is_same_of r q s = λ i. eq-eqb _ _ s.0 i && (eq-eqb _ _ s.1 i && eq-eqb _ _ s.2
 
 -- only a page has the place of a page
 pub other_place : (r : Role) (i : ℕ) → ((j : ℕ) → r ≡ Page j → ⊥) → is_same r (Page i) ≡ false
-other_place r i other = elim (cases_Bool (is_same r (Page i))) [
-  | inl t ↦ absurd (other i (same_role r (Page i) (same_is r (Page i) t) (λ n m p s j e f. cc)))
-  | inr f ↦ f
-]
+other_place r i other = grind (arith, common_steps, cases_Bool, same_role, same_is)
 
 -- pages have one place if they have one number
 pub page_place : (j i : ℕ) → is_eq (nat_cmp j i) ≡ is_same (Page j) (Page i)
-page_place j i = same_number j i ∙ sym (elim (cases_Bool (j == i)) [
-  | inl t ↦ is_same_of (Page j) (Page i) (same_of (Page j) (Page i) (ap Page (eqb-true j i t))) ∙ sym t
-  | inr f ↦ other_number f (is_same (Page j) (Page i)) refl
-])
-  where
-    other_number : (j == i) ≡ false → (t : Bool) → is_same (Page j) (Page i) ≡ t → is_same (Page j) (Page i) ≡ (j == i)
-    other_number f true t =
-        let s = same_is (Page j) (Page i) t in
-        let e : j ≡ i = omega (arith, s.2) in
-        let clash : true ≡ false = sym (eq-eqb j i e) ∙ f in cc
-    other_number f false t = t ∙ sym f
+page_place j i = grind (arith, common_steps, same_number, cases_Bool, is_same_of, same_of, eqb-true, same_is, eq-eqb)
 
 pub at_lacks : (w : Walk) (q : Role) → Lacks w q → at_role w q ≡ None
 at_lacks [] q l = refl
@@ -65,8 +52,4 @@ at_has (x ∷ w) q b e = elim (cases_Bool (is_same x.0 q)) [
 
 -- it is that of the part with this role
 pub taken_at : (image : List ℕ) (w : Walk) → IsGathered image w → (q : Role) (b : ℕ) → Has w q b → at_role w q ≡ Some b
-taken_at image w v q b h = go (at_role w q) refl
-  where
-    go : (o : Option ℕ) → at_role w q ≡ o → at_role w q ≡ Some b
-    go None e = absurd (lacks_at w q e q b h (same_refl q))
-    go (Some c) e = let y = at_has w q c e in e ∙ ap Some (one_block image v y.0 q c b y.1 h y.2).1
+taken_at image w v q b h = grind (arith, common_steps, lacks_at, same_refl, at_has, one_block)

@@ -2,8 +2,9 @@
 -- Letters: w the walk of a survey; all some findings, f one of them; n an entry's node, h the block of its header; p, s, j the directory,
 -- the slot and the position of a header; r, q, z roles; b, c blocks; k, i the number of an extension or data block.
 use Rattle.std.specs.Prelude.{Bool, true, false, Option, Some, None, ◌↔◌}
-use Rattle.std.proofs.Common.{◌≡◌, ℕ, suc, List, [], ◌∷◌, inl, inr, refl, sym, ap, subst, ◌∙◌}
+use Rattle.std.proofs.Common.{◌≡◌, ℕ, suc, List, [], ◌∷◌, inl, inr, refl, sym, ap, subst, ◌∙◌, arith}
 use Rattle.std.proofs.lemmas.Bool.{cases_Bool}
+use Rattle.std.proofs.lemmas.Grind.{common_steps}
 use mathlib.Core.Logic.Dec.{and as dec_and, not as dec_not}
 use native.Mathlib.Decide.{dec_le, map_dec, ℕ_discrete}
 use Rattle.adf_names.specs.declared.kind.Kind.{Kind, TheVariants.Ofs, TheVariants.Ffs}
@@ -66,10 +67,7 @@ dec_datas P test n (x ∷ w) =
 
 -- whether the walk has the header
 dec_is_head : (q : Role) (n p s j : ℕ) → Dec (q ≡ Head n p s j)
-dec_is_head (Head m t u i) n p s j =
-    map_dec (λ e i. Head (e.0.0 i) (e.0.1 i) (e.1.0 i) (e.1.1 i)) (λ e. ((cc, cc), (cc, cc)))
-    (dec_and (dec_and (ℕ_discrete m n) (ℕ_discrete t p)) (dec_and (ℕ_discrete u s) (ℕ_discrete i j)))
-dec_is_head _ n p s j = no (λ e. cc)
+dec_is_head q n p s j = grind (arith, common_steps, map_dec)
 
 dec_has_head : (w : Walk) (n p s j : ℕ) → Dec ((b : ℕ) × Has w (Head n p s j) b)
 dec_has_head [] n p s j = no (λ y. y.1)
@@ -81,9 +79,7 @@ dec_has_head (x ∷ w) n p s j = elim (dec_is_head x.0 n p s j) [
 -- findings
 
 dec_same : (q r : Role) → Dec (Same q r)
-dec_same q r =
-    map_dec (λ e. (e.0, e.1.0, e.1.1)) (λ e. (e.0, (e.1, e.2)))
-    (dec_and (ℕ_discrete (first q) (first r)) (dec_and (ℕ_discrete (second q) (second r)) (ℕ_discrete (third q) (third r))))
+dec_same q r = grind (arith, common_steps, map_dec)
 
 dec_unreported : (all : List FindingValue) (r : Role) → Dec (IsUnreported all r)
 dec_unreported all r = dec_parts (λ q. Same q r → ⊥) (λ q. dec_not (dec_same q r)) all

@@ -1,5 +1,6 @@
 -- All that the chains of a sound entry lead to is in the walk of its survey.
 use Rattle.std.proofs.Common.{◌≡◌, ◌∙◌, ℕ, List, inl, inr, Some, refl, ap, subst, sym, arith}
+use Rattle.std.proofs.lemmas.Grind.{common_steps}
 use Rattle.adf_volume.specs.Image.{word_in}
 use Rattle.adf_volume.specs.Walk.{Asks, Has, Role, Same, Walk}
 use Rattle.adf_volume.specs.Walk.Role.{Head}
@@ -13,13 +14,7 @@ use Rattle.adf_findings.proofs.SoundMarks.{apart, settled_at}
 
 -- a role in the place of a header is a header, perhaps with another number
 same_head : (r : Role) (m p s j : ℕ) → Same r (Head m p s j) → (k : ℕ) × (r ≡ Head k p s j)
-same_head (Head k q t i) m p s j h =
-    let e1 : q ≡ p = omega arith in
-    let e2 : t ≡ s = omega arith in
-    let e3 : i ≡ j = omega arith in
-    let e : Head k q t i ≡ Head k p s j = cc in
-    (k, e)
-same_head _ m p s j h = absurd (omega arith)
+same_head r m p s j h = grind (arith, common_steps)
 
 pub chains_followed : (image : List ℕ) (w : Walk) (fs : List FindingValue) (n h : ℕ) → IsSurvey image w fs → IsSound image w fs n h
     → (m s j a i : ℕ) → Asks image w (Head m n s j) a i → (k : ℕ) × Has w (Head k n s j) (word_in image a i)

@@ -41,10 +41,8 @@ module _ (image : List ℕ) where
   pub skipped_reported : {s : Course} → IsCourse image s → (r : Role) (b : ℕ) → Has s.skipped r b → Reported s.findings r
   skipped_reported (start boot root) r b h = absurd h
   skipped_reported (step {s = s} {r = q} {a = a} {i = i} clean v n g) r b h = skipped_reported v r b h
-  skipped_reported (step {s = s} {r = q} {a = a} {i = i} (reported at c) v n g) r b h =
-      reported_more s.findings (finding (Some q) at c ∷ []) r (skipped_reported v r b h)
-  skipped_reported (step {s = s} {r = q} {a = a} {i = i} (skipped at c) v n g) r b (inl e) =
-      reported_now s.findings r (finding (Some q) at c) (ap Some e.0)
+  skipped_reported (step {s = s} {r = q} {a = a} {i = i} (reported at c) v n g) r b h = grind (arith, common_steps, reported_more, skipped_reported v r b h)
+  skipped_reported (step {s = s} {r = q} {a = a} {i = i} (skipped at c) v n g) r b (inl e) = grind (arith, common_steps, reported_now)
   skipped_reported (step {s = s} {r = q} {a = a} {i = i} (skipped at c) v n g) r b (inr h) =
       reported_more s.findings (finding (Some q) at c ∷ []) r (skipped_reported v r b h)
 
@@ -106,11 +104,7 @@ module _ (image : List ℕ) where
       let w : Walk = (q, word_in image a i) ∷ s.walk in
       inr (subst (Came w s.findings r) e.1 (subst (λ r. Came w s.findings r (word_in image a i)) e.0
       (came_new s q a i w s.findings (q, word_in image a i) refl v n (λ p h. h) (inl g))))
-  came (step {s = s} {r = q} {a = a} {i = i} clean v n g) r b (inr h) =
-      elim (came v r b h) [
-        | inl e ↦ inl e
-        | inr y ↦ inr (came_later s.walk s.findings r b (q, word_in image a i) y)
-      ]
+  came (step {s = s} {r = q} {a = a} {i = i} clean v n g) r b (inr h) = grind (arith, common_steps, came_later, came v r b h)
   came (step {s = s} {r = q} {a = a} {i = i} (reported at c) v n g) r b (inl e) =
       let w : Walk = (q, word_in image a i) ∷ s.walk in
       let fs : List FindingValue = s.findings ++ finding (Some q) at c ∷ [] in
@@ -124,11 +118,7 @@ module _ (image : List ℕ) where
             inr (came_later s.walk (s.findings ++ finding (Some q) at c ∷ []) r b (q, word_in image a i)
             (came_reported s.walk s.findings (finding (Some q) at c ∷ []) r b y))
       ]
-  came (step {s = s} {r = q} {a = a} {i = i} (skipped at c) v n g) r b h =
-      elim (came v r b h) [
-        | inl e ↦ inl e
-        | inr y ↦ inr (came_reported s.walk s.findings (finding (Some q) at c ∷ []) r b y)
-      ]
+  came (step {s = s} {r = q} {a = a} {i = i} (skipped at c) v n g) r b h = grind (arith, common_steps, came_reported, came v r b h)
 
   same_word : (a a' i i' b : ℕ) → a ≡ a' → i ≡ i' → word_in image a i ≡ b → word_in image a' i' ≡ b
   same_word a a' i i' b e f h = (λ t. word_in image (sym e t) (sym f t)) ∙ h
@@ -313,21 +303,14 @@ module _ (image : List ℕ) where
 
   absent_new : (w : Walk) (z r q : Role) (c b : ℕ) → IsAbsent w c → (Has w r b → Has w q b → r ≡ q) → Has ((z, c) ∷ w) r b
       → Has ((z, c) ∷ w) q b → r ≡ q
-  absent_new w z r q c b h k (inl e) (inl f) = sym e.0 ∙ f.0
-  absent_new w z r q c b h k (inl e) (inr g) = absurd (h q (subst (λ b. Has w q b) (sym e.1) g))
-  absent_new w z r q c b h k (inr e) (inl f) = absurd (h r (subst (λ b. Has w r b) (sym f.1) e))
-  absent_new w z r q c b h k (inr e) (inr f) = k e f
+  absent_new w z r q c b h k l m = grind (arith, common_steps)
 
   pub one_role : {s : Course} → IsCourse image s → (r q : Role) (b : ℕ) → Has s.walk r b → Has s.walk q b → r ≡ q
   one_role (start boot root) r q b (inl e) (inl f) = sym e.0 ∙ f.0
   one_role (start boot root) r q b (inl e) (inr f) = absurd f
   one_role (start boot root) r q b (inr e) f = absurd e
-  one_role (step {s = s} {r = z} {a = a} {i = i} clean v n g) r q b h k =
-      let part = part_holds_by (letters_of image) image s.walk z a (word_in image a i) g in
-      absent_new s.walk z r q (word_in image a i) b part.unowned (one_role v r q b) h k
-  one_role (step {s = s} {r = z} {a = a} {i = i} (reported at c) v n g) r q b h k =
-      let part = itself_holds image s.walk z a (word_in image a i) g.1 in
-      absent_new s.walk z r q (word_in image a i) b part.unowned (one_role v r q b) h k
+  one_role (step {s = s} {r = z} {a = a} {i = i} clean v n g) r q b h k = grind (arith, common_steps, part_holds_by, absent_new, one_role v r q b)
+  one_role (step {s = s} {r = z} {a = a} {i = i} (reported at c) v n g) r q b h k = grind (arith, common_steps, itself_holds, absent_new, one_role v r q b)
   one_role (step (skipped at c) v n g) r q b h k = one_role v r q b h k
 
   pub one_part : (w : Walk) (fs : List FindingValue) → IsSurvey image w fs → (r q : Role) (b : ℕ) → Has w r b → Has w q b → r ≡ q

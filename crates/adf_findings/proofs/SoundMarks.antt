@@ -7,11 +7,10 @@ use Rattle.std.proofs.lemmas.Bool.Decides.{eqb_tells, nat_tests}
 use Rattle.std.proofs.lemmas.Grind.{common_steps}
 use Rattle.adf_names.specs.declared.kind.Kind.{Kind, TheVariants.Ofs, TheVariants.Ffs}
 use Rattle.adf_blocks.specs.Sizes.{blocks}
-use Rattle.adf_base.specs.Words.{block, long_sum}
-use Rattle.adf_blocks.specs.declared.layout.TheConstants.{DATA_HEAD, DATA_NUMBER, TYPE, T_DATA}
+use Rattle.adf_blocks.specs.declared.layout.TheConstants.{TYPE, T_DATA}
 use Rattle.adf_volume.specs.Image.{kind_of, root_of, word_in}
 use Rattle.adf_volume.specs.Lists.{In}
-use Rattle.adf_volume.specs.Walk.{Role, Same, Has, Asks, Lacks, IsAbsent, heads, node_block, Walk}
+use Rattle.adf_volume.specs.Walk.{Role, Same, Has, Asks, Lacks, heads, node_block, Walk}
 use Rattle.adf_volume.specs.Walk.Role.{Root, Head, Ext, Data}
 use Rattle.adf_volume.proofs.Gathered.{IsGathered, asks_one, head_block, number_of, numbered as has_number, one_block, one_head}
 use Rattle.adf_volume.proofs.Lists.{in_cases}
@@ -23,7 +22,6 @@ use Rattle.adf_findings.specs.declared.finding.Finding.{Finding}
 use Rattle.adf_findings.specs.declared.found.Found.{Found}
 use Rattle.adf_findings.specs.declared.concern.Concern.TheVariants.{Entry, Within}
 use Rattle.adf_findings.specs.Concerned.{node_of}
-use Rattle.adf_findings.specs.Forms.{Tells}
 use Rattle.adf_findings.specs.Found.{Stands, owns}
 use Rattle.adf_findings.proofs.WalkOwners.{both, entry_is, number_is as data_number_is}
 use Rattle.adf_findings.specs.Marks.{blamed, doubted, entry_in_block, is_blamed, is_clear, is_doubted, is_doubtful, is_node, is_header, is_said}
@@ -33,7 +31,6 @@ use Rattle.adf_findings.specs.Sound.{IsSound, IsUnreported, says_data_of}
 use Rattle.adf_findings.specs.Survey.{BitsTell, BootTells, Course, FindingValue, IsCourse, IsDone, IsNext, RootTells, UnreadTells, finding}
 use Rattle.adf_findings.specs.Survey.BitsTell.{agrees, differs, ends}
 use Rattle.adf_findings.specs.Survey.IsCourse.{start, step}
-use Rattle.adf_findings.specs.Survey.BootTells.{clean_boot, other_type}
 use Rattle.adf_findings.specs.Survey.RootTells.{clean_root, reported_root}
 use Rattle.adf_findings.specs.Survey.UnreadTells.{bad_boot, bad_root}
 use Rattle.adf_findings.specs.Survey.JudgementValue.{clean, reported, skipped}
@@ -62,9 +59,7 @@ module _ (image : List ℕ) where
 
   -- the boot block tells of no part
   boot_none : {fs : List FindingValue} → BootTells image fs → (f : FindingValue) → In fs f → f.part ≡ None
-  boot_none (clean_boot h) f m = absurd m
-  boot_none (other_type h e) f (inl k) = ap (λ f. f.part) (sym k)
-  boot_none (other_type h e) f (inr m) = absurd m
+  boot_none h f k = grind (arith, common_steps)
 
   -- nor does an image of which nothing is taken
   pub unread_none : {fs : List FindingValue} → UnreadTells image fs → (f : FindingValue) → In fs f → f.part ≡ None
@@ -84,8 +79,7 @@ module _ (image : List ℕ) where
         | inl k ↦ let none : Some q ≡ None = sym e ∙ boot_none b f k in absurd (cc)
         | inr k ↦ inl (root_of image, inl (root_part t f q k e, refl))
       ]
-  reported_settled (step {s = s} {r = r} {a = a} {i = i} clean v n g) f q m e =
-      settled_more s r q (word_in image a i) s.findings (reported_settled v f q m e)
+  reported_settled (step {s = s} {r = r} {a = a} {i = i} clean v n g) f q m e = grind (arith, common_steps, settled_more, reported_settled v f q m e)
   reported_settled (step {s = s} {r = r} {a = a} {i = i} (reported at c) v n g) f q m e =
       elim (in_cases s.findings (finding (Some r) at c ∷ []) f m) [
         | inl k ↦ settled_more s r q (word_in image a i) s.findings (reported_settled v f q k e)
@@ -170,9 +164,7 @@ module _ (image : List ℕ) where
   ]
 
   no_owner_has : (w : Walk) (q : Role) (b : ℕ) → owns w b ≡ false → Has w q b → ⊥
-  no_owner_has w q b e h =
-      let none : IsAbsent w b = subst (λ t. Tells (not t) (IsAbsent w b)) e (tells_absent w b) in
-      none q h
+  no_owner_has w q b e h = grind (arith, common_steps, tells_absent w b)
 
   -- what is taken is inside of the image
   pub inside : {s : Course} → IsCourse image s → (r : Role) (b : ℕ) → (Root ≡ r → ⊥) → Has s.walk r b → b < blocks image
@@ -275,12 +267,7 @@ told_of image f b = cond (slice_index_or f.avoided.items b false || is_said imag
 -- no block is doubted that was not skipped and has another type
 pub none_doubted : (image : List ℕ) (f : Found) (b : ℕ) → (slice_index_or f.avoided.items b false || (word_in image b TYPE == T_DATA)) ≡ false
     → doubted image f b ≡ None
-none_doubted image f b e =
-    let parts = or_parts (slice_index_or f.avoided.items b false) (word_in image b TYPE == T_DATA) e in
-    let said : is_said image f b ≡ false =
-    ap (λ t. t && (word_in image b DATA_HEAD == slice_index f.nodes.items (entry_in_block f b))
-    && (word_in image b DATA_NUMBER == number_in_block f b) && (long_sum (block image b) == 0)) parts.1 in
-    (λ i. cond (number_in_block f b == 0) None (cond (parts.0 i || said i) (Some (entry_in_block f b)) None)) ∙ both (number_in_block f b == 0) None
+none_doubted image f b e = grind (arith, common_steps, or_parts, both)
 
 -- what is doubted is a data block that was also skipped, or says that it is an OFS one
 doubted_is : (image : List ℕ) (f : Found) (b m : ℕ) → doubted image f b ≡ Some m
@@ -304,17 +291,7 @@ doubted_is image f b m e = elim (eqb_tells (number_in_block f b) 0) [
 -- and such a one is
 doubted_yes : (image : List ℕ) (f : Found) (b : ℕ) → (number_in_block f b ≡ 0 → ⊥)
     → (slice_index_or f.avoided.items b false ≡ true) ⊎ (is_said image f b ≡ true) → doubted image f b ≡ Some (entry_in_block f b)
-doubted_yes image f b some doubt = elim (eqb_tells (number_in_block f b) 0) [
-  | inl y ↦ absurd (some y.1)
-  | inr y ↦ ap (λ t. cond t None (told_of image f b)) y.0 ∙ go (slice_index_or f.avoided.items b false) (is_said image f b) doubt
-]
-  where
-    go : (p q : Bool) → (p ≡ true) ⊎ (q ≡ true)
-        → cond (p || q) (Some (entry_in_block f b)) None ≡ Some (entry_in_block f b)
-    go true q h = refl
-    go false true h = refl
-    go false false (inl e) = cc
-    go false false (inr e) = cc
+doubted_yes image f b some doubt = grind (arith, common_steps, eqb_tells)
 
 pub in_values : (xs : List Finding) (x : Finding) → In xs x → In (map finding_value xs) (finding_value x)
 in_values [] x h = h
@@ -327,19 +304,13 @@ in_findings (y ∷ ys) g (inl e) = (y, inl refl, e)
 in_findings (y ∷ ys) g (inr h) = let x = in_findings ys g h in (x.0, inr x.1, x.2)
 
 head_part : (o : Option Part) (n p s j : ℕ) → part_role o ≡ Some (Head n p s j) → o ≡ Some (HeadPart n p s j)
-head_part (Some (HeadPart m q t i)) n p s j e = cc
-head_part (Some _) n p s j e = cc
-head_part None n p s j e = cc
+head_part o n p s j h = grind (arith, common_steps)
 
 ext_part : (o : Option Part) (n k : ℕ) → part_role o ≡ Some (Ext n k) → o ≡ Some (ExtPart n k)
-ext_part (Some (ExtPart m i)) n k e = cc
-ext_part (Some _) n k e = cc
-ext_part None n k e = cc
+ext_part o n k h = grind (arith, common_steps)
 
 data_part : (o : Option Part) (n k : ℕ) → part_role o ≡ Some (Data n k) → o ≡ Some (DataPart n k)
-data_part (Some (DataPart m i)) n k e = cc
-data_part (Some _) n k e = cc
-data_part None n k e = cc
+data_part o n k h = grind (arith, common_steps)
 
 ext_of : (q : Role) (n k : ℕ) → Same q (Ext n k) → q ≡ Ext n k
 ext_of q n k same = same_role q (Ext n k) same (λ a m p s j e f. cc)
@@ -350,20 +321,13 @@ data_of q n k same = same_role q (Data n k) same (λ a m p s j e f. cc)
 -- a part that a finding of a survey concerns was taken or skipped
 pub settled : (image : List ℕ) {s : Course} → IsCourse image s → (bits : List FindingValue) {b n : ℕ} → BitsTell image s b n bits
     → (g : FindingValue) (q : Role) → In (s.findings ++ bits) g → g.part ≡ Some q → Settled image s q
-settled image {s = s} v bits tells g q h e = elim (in_cases s.findings bits g h) [
-  | inl k ↦ reported_settled image v g q k e
-  | inr k ↦ let z : None ≡ Some q = sym (bits_none image tells g k) ∙ e in cc
-]
+settled image {s = s} v bits tells g q h e = grind (arith, common_steps, reported_settled, bits_none, in_cases s.findings bits g h)
 
 -- a header that was skipped is no node's
 pub skipped_header : (image : List ℕ) (f : Found) {s : Course} → IsCourse image s → Stands image f s
     → (n p t j b : ℕ) → Has s.skipped (Head n p t j) b → is_header f n p t j ≡ false
-skipped_header image f v st n p t j b over = elim (cases_Bool (is_header f n p t j)) [
-  | inl y ↦
-      let h = found_header image f _ (gathered image v) st n p t j y in
-      absurd (apart image v (Head n p t j) (Head n p t j) h.0 b h.1 over (same_refl (Head n p t j)))
-  | inr y ↦ y
-]
+skipped_header image f v st n p t j b over =
+    grind (arith, common_steps, found_header, apart, cases_Bool (is_header f n p t j), gathered image v, same_refl (Head n p t j))
 
 module _ (image : List ℕ) (f : Found) {s : Course} (v : IsCourse image s) (done : IsDone image s) (bits : List FindingValue) {b n : ℕ}
     (tells : BitsTell image s b n bits) (all : List FindingValue) (are : (g : FindingValue) → In all g → In (s.findings ++ bits) g)
@@ -437,15 +401,7 @@ module _ (image : List ℕ) (f : Found) {s : Course} (v : IsCourse image s) (don
   unspoken m e g q i is names = grind (arith, common_steps, in_findings, not_blamed)
 
   head_clear : (m p t j h : ℕ) → Has s.walk (Head m p t j) h → is_blamed f xs m ≡ false → IsUnreported all (Head m p t j)
-  head_clear m p t j h has e g q i is same = elim (settled image v bits tells g q (are g i) is) [
-    | inl y ↦
-        let one : q ≡ Head m p t j = (one_block image (gathered image v) q (Head m p t j) y.0 h y.1 has same).0 in
-        let there : is_header f m p t j ≡ true = header_found image f _ (gathered image v) st m p t j h has in
-        unspoken m e g q i is (λ o z.
-        let u : o ≡ Some (HeadPart m p t j) = head_part o m p t j (z ∙ ap Some one) in
-        ap (node_blamed f) u ∙ ap (λ t. option_map node_of (Some (cond t (Entry m) (Within p)))) there)
-    | inr y ↦ apart image v (Head m p t j) q h y.0 has y.1 (sym same.0, sym same.1, sym same.2)
-  ]
+  head_clear m p t j h has e g q i is same = grind (arith, common_steps, settled, one_block, gathered, header_found, unspoken, head_part, apart)
 
   chains_clear : (m : ℕ) → is_blamed f xs m ≡ false → (g : FindingValue) (q t j : ℕ) → In all g → g.part ≡ Some (Head q m t j)
       → (b : ℕ) × Has s.walk (Head q m t j) b
@@ -483,10 +439,7 @@ module _ (image : List ℕ) (f : Found) {s : Course} (v : IsCourse image s) (don
 
   own_clear : (m : ℕ) → is_doubtful (kind_of image) image f m ≡ false → kind_of image ≡ Ffs → (k c : ℕ) → Has s.walk (Data m k) c
       → says_data_of image (node_block s.walk m) k c ≡ false
-  own_clear m e ffs k c has = elim (cases_Bool (says_data_of image (node_block s.walk m) k c)) [
-    | inl t ↦ absurd (data_clear m e ffs k c has (inr (ap (λ h. says_data_of image h k c) (st.node m) ∙ t)))
-    | inr t ↦ t
-  ]
+  own_clear m e ffs k c has = grind (arith, common_steps, cases_Bool, data_clear)
 
   clear_sound : (m : ℕ) → 1 ≤ m → m ≤ heads s.walk → is_blamed f xs m ≡ false → is_doubtful (kind_of image) image f m ≡ false
       → IsSound image s.walk all m (node_block s.walk m)

@@ -1,6 +1,6 @@
 -- The start of an image: its size, its boot bytes and its root.
 -- Letters: at, c the block and the cause of a finding.
-use Rattle.std.proofs.Common.{None, Some, true, false, ◌≡◌, ℕ, List, [], ◌∷◌, ◌++◌, inl, inr, refl, ap, subst, ◌∙◌, arith}
+use Rattle.std.proofs.Common.{None, Some, true, false, ◌≡◌, ℕ, List, [], ◌∷◌, ◌++◌, refl, ap, subst, ◌∙◌, arith}
 use Rattle.std.proofs.lemmas.Grind.{common_steps}
 use Rattle.adf_base.specs.Words.{block}
 use Rattle.adf_blocks.specs.declared.cause.Cause.{Cause}
@@ -23,9 +23,7 @@ use Rattle.adf_findings.specs.Survey.UnreadTells.{bad_boot, bad_root}
 module _ (image : List ℕ) where
   -- a boot block of type 0 to 5 is that of an image of allowed size
   pub boot_size : {fs : List FindingValue} → BootTells image fs → IsSize image
-  boot_size (clean_boot h) = h.0
-  boot_size (other_type (inl y) e) = absurd (let clash : false ≡ true = ap is_other_type y.2 ∙ e in let none : ⊥ = cc in none)
-  boot_size (other_type (inr y) e) = y.0
+  boot_size h = grind (arith, common_steps)
 
   -- a course begins behind a boot block of type 0 to 5
   pub boot_told : {s : Course} → IsCourse image s → (fs : List FindingValue) × BootTells image fs

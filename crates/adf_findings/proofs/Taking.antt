@@ -1,6 +1,6 @@
 -- The state of a survey when parts are taken and skipped.
 use Rattle.std.proofs.Common.{Bool, true, false, cond, ◌==◌, Some, slice_index, slice_index_or, ◌≡◌, ℕ, suc, List, [], ◌∷◌, ◌++◌, length}
-use Rattle.std.proofs.Common.{inl, inr, replicate, set, subst, sym, ◌<◌, ◌≤◌, refl, ap, ◌∙◌, arith, length-set, get_or-set_same, get_or-set_other}
+use Rattle.std.proofs.Common.{replicate, set, subst, sym, ◌<◌, ◌≤◌, ap, ◌∙◌, arith, length-set, get_or-set_same, get_or-set_other}
 use Rattle.std.specs.Ordering.{nat_cmp}
 use Rattle.std.specs.BTreeMap.{BTreeMap, get}
 use Rattle.std.proofs.lemmas.Bool.Decides.{eqb_tells}
@@ -14,16 +14,16 @@ use Rattle.adf_volume.specs.LayoutRoles.{owner_of}
 use Rattle.adf_walk.specs.Owners.{owned_count}
 use Rattle.adf_findings.proofs.WalkOwners.{count_more, free_is, owned_more, part_owns}
 use Rattle.adf_volume.specs.Walk.{Role, heads, head_count, node_block, node_block_of, Walk}
-use Rattle.adf_volume.specs.Walk.Role.{Root, Page, MapExt, Head, Ext, Data}
-use Rattle.adf_volume.specs.declared.part.Part.{Part, TheVariants.Root as RootPart, TheVariants.Page as PagePart, TheVariants.MapExt as MapExtPart}
-use Rattle.adf_volume.specs.declared.part.Part.{TheVariants.Head as HeadPart, TheVariants.Ext as ExtPart, TheVariants.Data as DataPart}
+use Rattle.adf_volume.specs.Walk.Role.{Root, Page, Head}
+use Rattle.adf_volume.specs.declared.part.Part.{Part, TheVariants.Page as PagePart}
+use Rattle.adf_volume.specs.declared.part.Part.{TheVariants.Head as HeadPart}
 use Rattle.adf_findings.specs.declared.found.ChainPlace.{ChainPlace}
 use Rattle.adf_findings.specs.declared.found.Found.{Found}
 use Rattle.adf_findings.specs.Survey.{Course, FindingValue}
 use Rattle.adf_volume.specs.Parts.{role_of}
 use Rattle.adf_findings.specs.Found.{AreAvoided, AreMarked, AreSame, IsKept, IsOwned, IsBlockSkipped, IsPut}
 use Rattle.adf_findings.specs.Found.{IsTaken, KeepsParts, Stands}
-use Rattle.adf_findings.specs.Found.{at_role, is_same, owns, parent_by, parent_node, places_of, with_mark, with_place}
+use Rattle.adf_findings.specs.Found.{at_role, owns, parent_by, parent_node, places_of, with_mark, with_place}
 use Rattle.adf_findings.proofs.RoleBlocks.{other_place, page_place}
 use Rattle.std.proofs.lemmas.Bool.{cases_lt, cond-false}
 
@@ -38,9 +38,7 @@ taken_last part b f g h k p o e = grind (arith, common_steps, kept_more)
 pages_more : (m n : BTreeMap ℕ ℕ) (w : Walk) (part : Part) (b : ℕ) → IsPut part b m n
     → ((i : ℕ) → get nat_cmp m i ≡ at_role w (Page i)) → (i : ℕ) → get nat_cmp n i ≡ at_role ((role_of part, b) ∷ w) (Page i)
 pages_more m n w (PagePart j) b u h i = u.0 i ∙ (λ t. cond (page_place j i t) (Some b) (h i t))
-pages_more m n w part b u h i =
-    ap (λ m. get nat_cmp m i) u
-    ∙ (h i ∙ sym (cond-false (is_same (role_of part) (Page i)) (Some b) (at_role w (Page i)) (other_place (role_of part) i (λ j e. cc))))
+pages_more m n w part b u h i = grind (arith, common_steps, cond-false, other_place)
 
 pub marked_more : (n : ℕ) (xs : List Bool) (w : Walk) (r : Role) (b : ℕ) → AreMarked n xs w → AreMarked n (set xs b true) ((r, b) ∷ w)
 marked_more n xs w r b h = grind (arith, common_steps, length-set, eqb_tells, get_or-set_same, get_or-set_other)
@@ -50,12 +48,8 @@ none_default n x b = grind (arith, common_steps)
 
 -- a block is skipped
 pub avoided_more : (n : ℕ) (xs : List Bool) (w : Walk) (r : Role) (b : ℕ) → AreAvoided n xs w → AreAvoided n (with_mark n b xs) ((r, b) ∷ w)
-avoided_more n [] w r b h =
-    let m = marked_more n (replicate n false) w r b (length-replicate n false, (λ c lt. none_default n false c ∙ h.marked c lt)) in
-    record { size = inr m.0; marked = m.1 }
-avoided_more n (x ∷ xs) w r b h =
-    let m = marked_more n (x ∷ xs) w r b (elim h.size [ inl e ↦ cc | inr e ↦ e ], h.marked) in
-    record { size = inr m.0; marked = m.1 }
+avoided_more n [] w r b h = grind (arith, common_steps, marked_more, length-replicate, none_default)
+avoided_more n (x ∷ xs) w r b h = grind (arith, common_steps, marked_more)
 
 node_snoc : (xs : List ℕ) (b m : ℕ) → slice_index (xs ++ b ∷ []) m ≡ cond (m == length xs) b (slice_index xs m)
 node_snoc xs b m = grind (arith, common_steps, eqb_tells, cases_lt, get_or_push, get_or_append_left, get_or_past, length_push)
@@ -89,12 +83,7 @@ module _ (image : List ℕ) (f g : Found) (s : Course) (b : ℕ) (st : Stands im
   same_later r node head parent place e = grind (arith, common_steps)
 
   later : (part : Part) → IsNumbered s.walk (role_of part) → IsKept part b f g → IsLater ((role_of part, b) ∷ s.walk)
-  later (HeadPart n p t j) fit k = grind (arith, common_steps, node_snoc, snoc_length)
-  later (ExtPart n i) fit k = same_later (Ext n i) (λ m c. refl) refl (λ m c. refl) (λ cs. refl) k
-  later RootPart fit k = absurd fit
-  later (PagePart i) fit k = same_later (Page i) (λ m c. refl) refl (λ m c. refl) (λ cs. refl) k
-  later (MapExtPart j) fit k = same_later (MapExt j) (λ m c. refl) refl (λ m c. refl) (λ cs. refl) k
-  later (DataPart n i) fit k = same_later (Data n i) (λ m c. refl) refl (λ m c. refl) (λ cs. refl) k
+  later part h k = grind (arith, common_steps, node_snoc, snoc_length, same_later)
 
   -- a part is taken
   pub stands_taken : (part : Part) → IsNumbered s.walk (role_of part) → 2 ≤ b → b < blocks image → owns s.walk b ≡ false → IsTaken part b f g

@@ -69,11 +69,7 @@ module _ (image : List ℕ) where
           (ap Some same.1, sym same.0)
 
   none_first : AllHold (boot_demands image) → first_cause (start_form image) ≡ None
-  none_first h = go (first_cause (start_form image)) refl
-    where
-      go : (o : Option Cause) → first_cause (start_form image) ≡ o → o ≡ None
-      go None e = refl
-      go (Some d) e = absurd (fails_not_all (boot_demands image) 0 d (boot_fails Ascii image d e) h)
+  none_first h = grind (arith, common_steps, fails_not_all, boot_fails)
 
   -- a boot block of another type is one of international letters, or of directory caches
   abbrev Other : ℕ → Cause → Type 0
@@ -87,19 +83,13 @@ module _ (image : List ℕ) where
   other : (at : ℕ) (c : Cause) → FirstFails (boot_demands image) at c → is_other_type c ≡ true → Other at c × (type < 2 → ⊥)
   other at c (inl x) e = absurd (not_other BadSize c refl e x.2)
   other at c (inr (size, inl x)) e = absurd (not_other NotDos c refl e x.2)
-  other at c (inr (size, inr (dos, inl x))) e =
-      let has = international_type type (two_or_three type x.0) in
-      (inl (sym x.2, (size, (dos, (has.0, (has.1, tt))))), has.2)
-  other at c (inr (size, inr (dos, inr (plain, inl x)))) e =
-      let has = cached_type type (four_or_five type x.0) in
-      (inr (sym x.2, inr (size, inr (dos, inr (has.0, inl x)))), has.1)
+  other at c (inr (size, inr (dos, inl x))) e = grind (arith, common_steps, international_type, two_or_three)
+  other at c (inr (size, inr (dos, inr (plain, inl x)))) e = grind (arith, common_steps, cached_type, four_or_five)
   other at c (inr (size, inr (dos, inr (plain, inr x)))) e = absurd x.1
 
   -- the boot block by the letters of the image
   by_letters : {fs : List FindingValue} → BootTells image fs → BootReads image (letters_of image) (passed WithInternational image) fs
-  by_letters {fs} (clean_boot h) =
-      subst (λ l. BootReads image l (passed WithInternational image) []) (sym (plain_letters image h))
-      (inl (sym (ap passed_of (none_first h)), h))
+  by_letters {fs} (clean_boot h) = grind (arith, common_steps, plain_letters, none_first)
   by_letters (other_type {at = at} {c = c} h e) =
       let x = other at c h e in
       subst (λ l. BootReads image l (passed WithInternational image) (finding None at c ∷ [])) (sym (other_letters x.1)) (read x.0 (first_is at c h))

@@ -11,7 +11,6 @@ use Rattle.adf_volume.specs.declared.owner.Owner.{Owner}
 use Rattle.adf_volume.specs.declared.owner.Owner.TheVariants.{Free, Boot}
 use Rattle.adf_volume.specs.LayoutRoles.{owner_of}
 use Rattle.adf_volume.specs.Walk.{Role, Walk}
-use Rattle.adf_volume.specs.Walk.Role.{Root, Page, MapExt, Head, Ext, Data}
 use Rattle.adf_walk.specs.Owners.{is_part, owned_count, owner_at}
 use Rattle.adf_findings.specs.WalkOwners.{OwnersValue, data_number_of, node_after}
 use Rattle.adf_volume.specs.Parts.{entry_of}
@@ -27,28 +26,13 @@ both false x = refl
 
 -- a role tells the same of its block as its owner
 entry_same : (r : Role) → entry_of (owner_of r) ≡ unwrap_or (entry_in r) 0
-entry_same Root = refl
-entry_same (Page i) = refl
-entry_same (MapExt j) = refl
-entry_same (Head n p s j) = refl
-entry_same (Ext n k) = refl
-entry_same (Data n k) = refl
+entry_same r = grind (arith, common_steps)
 
 number_same : (r : Role) → data_number_of (owner_of r) ≡ data_number r
-number_same Root = refl
-number_same (Page i) = refl
-number_same (MapExt j) = refl
-number_same (Head n p s j) = refl
-number_same (Ext n k) = refl
-number_same (Data n k) = refl
+number_same r = grind (arith, common_steps)
 
 pub part_owns : (r : Role) → is_part (owner_of r) ≡ true
-part_owns Root = refl
-part_owns (Page i) = refl
-part_owns (MapExt j) = refl
-part_owns (Head n p s j) = refl
-part_owns (Ext n k) = refl
-part_owns (Data n k) = refl
+part_owns r = grind (arith, common_steps)
 
 -- the owner of a block by the walk tells its entry, its number, and whether a part has it
 entry_by : (w : Walk) (b : ℕ) → entry_of (owner_by w b) ≡ unwrap_or (owner w b) 0
@@ -100,14 +84,7 @@ module _ {n : ℕ} {owners : OwnersValue} {w : Walk} (kept : AreOwned n owners w
 -- a part owns a block more
 pub owned_more : (n : ℕ) (f g : OwnersValue) (w : Walk) (r : Role) (b : ℕ) → b < n → g.owners ≡ set f.owners b (owner_of r)
     → g.node ≡ node_after (owner_of r) f.node → AreOwned n f w → AreOwned n g ((r, b) ∷ w)
-owned_more n f g w r b lt owners node h = record {
-  size = ap length owners ∙ (length-set f.owners b (owner_of r) ∙ h.size);
-  owner = (λ c. ap (λ os. owner_at os c) owners ∙ at c);
-  node = node ∙ ap (node_after (owner_of r)) h.node;
-}
-  where
-    at : (c : ℕ) → owner_at (set f.owners b (owner_of r)) c ≡ cond (b == c) (owner_of r) (owner_by w c)
-    at c = let e = h.owner c in grind (arith, common_steps, length-set, eqb_tells, get_or-set_same, get_or-set_other)
+owned_more n f g w r b lt owners node h = grind (arith, common_steps, length-set, set, eqb_tells, get_or-set_same, get_or-set_other)
 
 pub count_more : (t : List Owner) (b : ℕ) (o : Owner) → b < length t → is_part o ≡ true → owner_at t b ≡ Free
     → owned_count (set t b o) ≡ owned_count t + 1

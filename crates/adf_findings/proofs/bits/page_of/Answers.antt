@@ -1,7 +1,7 @@
+use Rattle.std.proofs.Common.{arith}
+use Rattle.std.proofs.lemmas.Grind.{common_steps}
 use Rattle.adf_findings.proofs.BitSteps.{page_is}
 use Rattle.adf_findings.proofs.bits.page_of.Goals as goal
 
 pub returns : goal.returns
-returns c =
-    page_is c.args.image.now c.args.found.now.pages c.args.i c.page_at.result (c.is_validated.ensures.0 c.if-not-is_validated.false)
-    c.page_at.ensures
+returns c = grind (arith, common_steps, page_is)

@@ -1,4 +1,5 @@
-use Rattle.std.proofs.Common.{◌≡◌, ◌+◌, subst, sym, arith}
+use Rattle.std.proofs.Common.{subst, sym, arith}
+use Rattle.std.proofs.lemmas.Grind.{common_steps}
 use Rattle.adf_findings.specs.Found.{IsNextPart}
 use Rattle.adf_findings.proofs.CourseSteps.{skipped_on, taken_next, taken_on, to_skip, to_take}
 use Rattle.adf_findings.proofs.course.go_on.Goals as goal
@@ -15,10 +16,7 @@ returns-in_ok-take-in-Some-clause-gone c = λ s n.
     (rw c.word.ensures at c.in_ok-take-in-Some.ensures))
 
 pub returns-in_ok-take-in-Some-clause-left : goal.returns-in_ok-take-in-Some-clause-left
-returns-in_ok-take-in-Some-clause-left c =
-    let o = to_take c.requires.due.1 c.word.ensures c.in_ok-part.ensures c.in-Some.part c.in-Some.is in
-    let left = o.left in
-    let less : c.take.new.self.left + 1 ≡ c.judge_next.new.progress.found.left = c.in_ok-take-in-Some.ensures.owned.left in omega arith
+returns-in_ok-take-in-Some-clause-left c = grind (arith, common_steps, to_take c.requires.due.1 c.word.ensures c.in_ok-part.ensures c.in-Some.part c.in-Some.is)
 
 pub returns-in-None-clause-gone : goal.returns-in-None-clause-gone
 returns-in-None-clause-gone c = λ s n. skipped_on n (to_skip n c.word.ensures c.in_ok-part.ensures c.in-None.is)

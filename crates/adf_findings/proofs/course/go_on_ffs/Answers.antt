@@ -1,12 +1,11 @@
-use Rattle.std.proofs.Common.{sym, subst}
+use Rattle.std.proofs.Common.{sym, subst, arith}
+use Rattle.std.proofs.lemmas.Grind.{common_steps}
 use Rattle.adf_volume.specs.Image.{table_word}
-use Rattle.adf_findings.specs.Courses.{HasReachedPart, IsGoneOn, IsNamed}
+use Rattle.adf_findings.specs.Courses.{IsGoneOn, IsNamed}
 use Rattle.adf_findings.proofs.course.go_on_ffs.Goals as goal
 
 pub go_on-requires-clause-due : goal.go_on-requires-clause-due
-go_on-requires-clause-due c =
-    subst (λ due. HasReachedPart c.args.image.now c.args.progress.now due c.args.holder (table_word c.args.k)) (sym c.data_due-due.ensures)
-    c.requires.due
+go_on-requires-clause-due c = grind (arith, common_steps)
 
 pub returns : goal.returns
 returns c = λ s n.

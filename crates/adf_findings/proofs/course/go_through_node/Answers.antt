@@ -1,4 +1,5 @@
-use Rattle.std.proofs.Common.{inl, inr, sym, ◌∙◌}
+use Rattle.std.proofs.Common.{inl, inr, sym, ◌∙◌, arith}
+use Rattle.std.proofs.lemmas.Grind.{common_steps}
 use Rattle.adf_findings.proofs.CoursePlaces.{dir_begins, dir_there, file_there, nothing_there}
 use Rattle.adf_findings.proofs.course.go_through_node.Goals as goal
 
@@ -10,12 +11,7 @@ go_through_dir-requires c =
     (elim c.if-kind-eq-ST_DIR.either [ inl e ↦ inl e | inr e ↦ inr (sym c.word-kind.ensures ∙ e.1) ]))
 
 pub go_through_exts-requires : goal.go_through_exts-requires
-go_through_exts-requires c =
-    let h = c.requires.at.1 in
-    let type = sym c.word-kind.ensures ∙ c.if-kind.true in
-    (c.requires.at.0, h, file_there h c.requires.some c.node_block-b.ensures c.if-kind-eq-ST_DIR.false.0 type)
+go_through_exts-requires c = grind (arith, common_steps, file_there)
 
 pub returns-else-kind : goal.returns-else-kind
-returns-else-kind c =
-    nothing_there c.requires.at.1 c.requires.some c.node_block-b.ensures
-    c.if-kind-eq-ST_DIR.false.0 (λ e. c.if-kind-eq-ST_DIR.false.1 (c.word-kind.ensures ∙ e)) (λ e. c.if-kind.false (c.word-kind.ensures ∙ e))
+returns-else-kind c = grind (arith, common_steps, nothing_there)

@@ -1,15 +1,13 @@
 use Rattle.std.specs.Prelude.{not, ◌&&◌}
-use Rattle.std.proofs.Common.{◌≡◌, ◌+◌, ◌*◌, min, subst, ap, ◌∙◌, arith}
+use Rattle.std.proofs.Common.{◌≡◌, ◌+◌, ◌*◌, min, subst, arith}
+use Rattle.std.proofs.lemmas.Grind.{common_steps}
 use Rattle.adf_blocks.specs.Sizes.{blocks}
 use Rattle.adf_findings.specs.Marks.{has_mark, is_doubted}
 use Rattle.adf_findings.proofs.Doubts.{kept}
 use Rattle.adf_findings.proofs.marks.strike_doubted.Goals as goal
 
 pub loop-i-init : goal.loop-i-init
-loop-i-init c = λ m.
-    let x = has_mark c.args.marks.now.items m in
-    let none : 0 ≡ min (256 * 0) (blocks c.args.image.now) = omega arith in
-    kept x ∙ ap (λ k. x && not (is_doubted c.args.image.now c.args.found.now k m)) none
+loop-i-init c = grind (arith, common_steps, min, kept)
 
 pub loop-i-preserved : goal.loop-i-preserved
 loop-i-preserved c = λ m.

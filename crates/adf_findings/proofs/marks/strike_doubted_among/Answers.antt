@@ -1,6 +1,7 @@
 use Rattle.std.specs.Prelude.{not, ◌&&◌}
-use Rattle.std.proofs.Common.{◌≡◌, add-one, sym, subst, ap, ◌∙◌, arith}
-use Rattle.adf_findings.specs.Marks.{doubted, has_mark, is_doubted, is_node}
+use Rattle.std.proofs.Common.{add-one, sym, ap, ◌∙◌, arith}
+use Rattle.std.proofs.lemmas.Grind.{common_steps}
+use Rattle.adf_findings.specs.Marks.{doubted, is_doubted, is_node}
 use Rattle.adf_findings.proofs.Doubts.{both, same_doubted}
 use Rattle.adf_findings.proofs.marks.strike_doubted_among.Goals as goal
 
@@ -21,7 +22,4 @@ loop-b-preserved c = λ m t e.
     ∙ both t (is_doubted image f b m) (is_node (doubted image f b) m)))
 
 pub returns : goal.returns
-returns c = λ m t e.
-    let end : c.loop-b.b ≡ c.args.end = omega (arith, c.requires.order, c.loop-b-test.false, c.loop-b.auto.b, c.loop-b.auto.b-end) in
-    subst (λ k. has_mark c.loop-b.marks.items m ≡ (t && not (is_doubted c.args.image.now c.args.found.now k m))) end
-    (c.loop-b.invariant m t e)
+returns c = grind (arith, common_steps)

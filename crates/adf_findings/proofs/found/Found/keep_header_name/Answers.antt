@@ -1,5 +1,6 @@
-use Rattle.std.proofs.Common.{◌≡◌}
+use Rattle.std.proofs.Common.{◌≡◌, arith}
 use Rattle.std.proofs.lemmas.Result.{IfOk-weaker, on_ok_weaker}
+use Rattle.std.proofs.lemmas.Grind.{common_steps}
 use Rattle.adf_names.specs.Texts.{uppers_by}
 use Rattle.adf_volume.specs.Image.{name_of}
 use Rattle.adf_findings.specs.Demands.{uppers_in}
@@ -16,9 +17,4 @@ returns-in-Some-clause-new c =
     c.put_by.ensures.new
 
 pub returns-in-Some-clause-names : goal.returns-in-Some-clause-names
-returns-in-Some-clause-names c =
-    let own : uppers_by c.letters.result c.in-Some.name ≡ uppers_in c.args.image.now (name_of c.args.image.now c.args.b) =
-    λ t. uppers_by (c.letters.ensures t) (c.in-Some.ensures.name t) in
-    on_ok_weaker c.put_by.result
-    (kept_name c.args.image.now c.args.b _ _ c.in-Head.is c.begin_names.ensures.names _ own c.put_by.new.self)
-    c.put_by.ensures.more
+returns-in-Some-clause-names c = grind (arith, common_steps, on_ok_weaker, kept_name)

@@ -1,5 +1,5 @@
-use Rattle.std.proofs.Common.{◌≡◌, ◌∙◌, ap, arith, below_more, false, refl, subst, sym, true}
-use Rattle.adf_blocks.specs.Sizes.{blocks, pages_needed}
+use Rattle.std.proofs.Common.{◌≡◌, ◌∙◌, ap, arith, below_more, false, subst, sym, true}
+use Rattle.std.proofs.lemmas.Grind.{common_steps}
 use Rattle.adf_volume.specs.Walk.Role.{Page}
 use Rattle.adf_findings.specs.SurveyResult.{IsOfSurvey, block_at}
 use Rattle.adf_findings.proofs.BitSteps.{has_page}
@@ -9,19 +9,10 @@ use Rattle.adf_findings.proofs.Openings.{page_begun}
 use Rattle.adf_findings.proofs.survey_result.Survey.is_page.Goals as goal
 
 pub returns-in_default : goal.returns-in_default
-returns-in_default c = λ w fs h. (
-  (λ t. cc),
-  (λ y. absurd (page_begun c.args.self.now.image w fs _ h
-      (let none = rw (ap (λ v. v.image) c.self.view_is) at c.in_default.ensures.unread in none) y.0 c.args.b y.1)),
-)
+returns-in_default c = grind (arith, common_steps, page_begun)
 
 pub returns-then-is_at : goal.returns-then-is_at
-returns-then-is_at c = λ w fs h.
-    let t = tells_each c.args.self.now (subst IsOfSurvey c.self.view_is c.self.invariant) w fs h in
-    let i = c.loop-i.i in
-    let pages = ap (λ v. block_at v.pages i) c.self.view_is ∙ t.page i in
-    let some = sym pages ∙ sym c.page_at.ensures ∙ c.is_at.ensures.0 c.if-is_at.true in
-    ((λ y. (i, has_page w i c.args.b some)), (λ y. refl))
+returns-then-is_at c = grind (arith, common_steps, tells_each, has_page)
 
 pub loop-i-preserved : goal.loop-i-preserved
 loop-i-preserved c = record {
@@ -36,11 +27,4 @@ loop-i-preserved c = record {
 }
 
 pub returns : goal.returns
-returns c = λ w fs h. (
-  (λ t. cc),
-  (λ y. absurd (c.loop-i.invariant.none w fs h y.0
-      (let image = c.in-Ok.ensures.image ∙ ap (λ v. v.image) c.self.view_is in
-      let low = page_low c.args.self.now.image w fs h y.0 c.args.b y.1 in
-      let count = c.page_count-i-end.ensures.exact ∙ ap pages_needed (c.blocks-2.ensures.blocks ∙ ap blocks image) in
-      omega (arith, low, count)) y.1)),
-)
+returns c = grind (arith, common_steps, page_low)

@@ -4,7 +4,4 @@ use Rattle.adf_findings.proofs.GrownPlaces.{part_kept}
 use Rattle.adf_findings.proofs.walk_owners.WalkOwners.are_parts.Goals as goal
 
 pub returns-then-end-len : goal.returns-then-end-len
-returns-then-end-len c = λ t b lo hi.
-    let same = part_kept c.self.inside.places.starts.items c.self.inside.table b in
-    let told = c.are_claimed.ensures t b lo hi in
-    grind (arith, common_steps)
+returns-then-end-len c = grind (arith, common_steps, part_kept)

@@ -6,11 +6,7 @@ use Rattle.adf_findings.proofs.GrownPlaces.{free_kept, owners_claimed}
 use Rattle.adf_findings.proofs.walk_owners.WalkOwners.claim.Goals as goal
 
 pub returns-clause-owners : goal.returns-clause-owners
-returns-clause-owners c =
-    let claimed =
-    owners_claimed c.self.inside.places c.kept.new.self c.self.inside.table c.args.b c.args.owner c.in_ok-kept.kept c.in_ok-kept.ensures.grown
-    c.self.invariant.1 c.in_ok-kept.ensures.kept in
-    grind (arith, common_steps)
+returns-clause-owners c = grind (arith, common_steps, owners_claimed)
 
 pub put-requires-clause-below : goal.put-requires-clause-below
 put-requires-clause-below c = grind (arith, common_steps)
