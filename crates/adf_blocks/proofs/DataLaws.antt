@@ -51,8 +51,7 @@ data_block-bytes d fits = bytes_of_field (data_table d) DATA_BYTES d.bytes (data
 
 -- a data block that was written is read
 pub data_block-form : (d : DataFields) → FitsData d → first_cause (data_form d.head d.number (length d.bytes) d.next (data_block d)) ≡ None
-data_block-form d fits =
-    search (rules, no_cause, eq-eqb, data_block-sum, data_block-type, data_block-head, data_block-number, data_block-held, data_block-next)
+data_block-form d fits = grind (arith, no_cause, eq-eqb, data_block-sum, data_block-type, data_block-head, data_block-number, data_block-held, data_block-next)
 
 -- a data block that was written into an image is read there
 pub written_data_form : (image : List ℕ) (b : ℕ) (d : DataFields) → FitsData d → b * 512 + 512 ≤ length image

@@ -1,5 +1,5 @@
 -- The content of a block composed of fields.
-use Rattle.std.proofs.Common.{◌≡◌, ◌≢◌, ◌≤◌, ◌<◌, ℕ, zero, suc, ◌+◌, ◌-◌, ◌*◌, ◌^◌, ◌⊎◌, List, ◌++◌, [], ◌∷◌, rules, length, get_or, take, drop, refl}
+use Rattle.std.proofs.Common.{◌≡◌, ◌≢◌, ◌≤◌, ◌<◌, ℕ, zero, suc, ◌+◌, ◌-◌, ◌*◌, ◌^◌, ◌⊎◌, List, ◌++◌, [], ◌∷◌, rules, length, take, drop, refl}
 use Rattle.std.proofs.Common.{sym, ap, subst, ◌∙◌, arith, add-zero, append-nil, inl, inr, slice_range, slice_index, replicate, reverse, min}
 use Rattle.std.proofs.lemmas.Bool.{cases_lt}
 use Rattle.std.proofs.lemmas.List.{length-replicate, length-reverse, drop-take, drop-drop, take-take, take_at, take_all, drop-replicate, take-replicate}
@@ -227,17 +227,7 @@ bytes_of_field fs from xs d h above =
 -- how a length and a text read
 pub text_reads : (bs xs : List ℕ) (at : ℕ) → slice_range xs at (at + length (text bs)) ≡ text bs
     → (slice_index xs at ≡ length bs) × (text_at xs at ≡ bs)
-text_reads bs xs at h =
-    let n : at + length (text bs) - at ≡ suc (length bs) = omega arith in
-    let whole : take (suc (length bs)) (drop at xs) ≡ length bs ∷ bs = ap (λ k. take k (drop at xs)) (sym n) ∙ h in
-    let first : slice_index xs at ≡ length bs =
-    ap (λ k. slice_index xs k) (sym (add-zero at)) ∙ sym (get_or-drop at xs 0 0) ∙ sym (get_or-take (suc (length bs)) (drop at xs) 0 0 (omega arith))
-    ∙ ap (λ ys. get_or ys 0 0) whole in
-    let rest : slice_range xs (at + 1) (at + 1 + length bs) ≡ bs =
-    sym (sub_range xs at (at + length (text bs)) 1 (1 + length bs) (omega arith) (omega arith) ∙ ap (slice_range xs (at + 1)) (omega arith))
-    ∙ ap (λ ys. slice_range ys 1 (1 + length bs)) h
-    ∙ ap (λ k. take k bs) (omega arith) ∙ take_all (length bs) bs (omega arith) in
-    (first, ap (λ k. slice_range xs (at + 1) (at + 1 + k)) first ∙ rest)
+text_reads bs xs at h = grind (arith, common_steps, get_or-take, sub_range, take_all, add-zero at, get_or-drop at xs 0 0)
 
 -- a length and a text that were put down above word 5
 pub text_of_field : (fs : List Field) (at : ℕ) (bs : List ℕ) → Descends 512 fs → HasField fs (at, text bs) → 4 * CHECKSUM + 4 ≤ at
@@ -246,12 +236,4 @@ text_of_field fs at bs d h above = text_reads bs (sealed CHECKSUM (block_of_fiel
 
 -- the first bytes of a text
 pub cut_text : (b : List ℕ) (at m : ℕ) → slice_range b (at + 1) (at + 1 + min (slice_index b at) m) ≡ take m (text_at b at)
-cut_text b at m =
-    let n = slice_index b at in
-    let xs = drop (at + 1) b in
-    let e : (at + 1 + min n m) - (at + 1) ≡ min n m = omega arith in
-    let f : at + 1 + n - (at + 1) ≡ n = omega arith in
-    rw (e, f) (elim (cases_lt m n) [
-      | inl past ↦ let z : min n m ≡ m = omega arith in rw (z, take-take m n xs (omega arith)) refl
-      | inr fits ↦ let z : min n m ≡ n = omega arith in rw (z, take_all m (take n xs) (omega (arith, length-take n xs))) refl
-    ])
+cut_text b at m = grind (arith, common_steps, min, cases_lt, take-take, take_all, length-take)

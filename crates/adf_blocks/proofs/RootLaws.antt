@@ -88,8 +88,7 @@ root_block-stamps r h fits =
 
 -- a root that was written is read
 pub root_block-form : (r : RootFields) → FitsRoot r → first_cause (root_form (root_block r)) ≡ None
-root_block-form r h =
-    search (rules, le-leb, root_block-label, root_block-sum, root_block-type, root_block-secondary, root_block-hash_size, root_block-valid)
+root_block-form r h = grind (arith, le-leb, root_block-label, root_block-sum, root_block-type, root_block-secondary, root_block-hash_size, root_block-valid)
 
 -- a root is a whole block
 pub length_root_block : (r : RootFields) → FitsRoot r → length (root_block r) ≡ 512

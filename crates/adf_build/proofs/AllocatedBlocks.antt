@@ -58,9 +58,7 @@ pub record IsAllocated (n k m b : ℕ) : Type 0 where
 pub in_allocated : (n k m b : ℕ) → In (allocated n k m) b → IsAllocated n k m b
 in_allocated n k zero b h = absurd h
 in_allocated n k (suc m) b (inl e) = record { number = k; from = omega arith; below = omega arith; is = e }
-in_allocated n k (suc m) b (inr h) =
-    let r = in_allocated n (suc k) m b h in
-    record { number = r.number; from = omega arith; below = omega arith; is = r.is }
+in_allocated n k (suc m) b (inr h) = grind (arith, common_steps, in_allocated n (suc k) m b h)
 
 pub allocated_in : (n k m i : ℕ) → k ≤ i → i < k + m → In (allocated n k m) (nth_free n i)
 allocated_in n k zero i l u = absurd (omega arith)

@@ -105,11 +105,7 @@ bits_small f q (suc m) = let s = flag_small (f q) in let ih = bits_small f (suc 
 
 pow_rises : (i j : ℕ) → 2 ^ i ≤ 2 ^ (i + j)
 pow_rises i zero = let e : i ≡ i + 0 = omega arith in let f : 2 ^ i ≡ 2 ^ (i + 0) = ap (λ n. 2 ^ n) e in omega arith
-pow_rises i (suc j) =
-    let ih = pow_rises i j in
-    let e : i + suc j ≡ suc (i + j) = omega arith in
-    let f : 2 ^ (i + suc j) ≡ 2 * 2 ^ (i + j) = ap (λ n. 2 ^ n) e ∙ pow-succ' 2 (i + j) in
-    omega arith
+pow_rises i (suc j) = grind (arith, common_steps, pow-succ' 2 (i + j), pow_rises i j)
 
 pub bits_fit : (f : ℕ → Bool) (q m : ℕ) → m < 32 → bits_from f q m < 2 ^ 31
 bits_fit f q m h =

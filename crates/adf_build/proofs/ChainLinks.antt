@@ -1,10 +1,9 @@
 -- Chains with correct pointers to the next member are spelled.
-use Rattle.std.proofs.Common.{◌≡◌, ℕ, suc, List, [], ◌∷◌, refl, map, Bool, true, false, cond, arith}
+use Rattle.std.proofs.Common.{◌≡◌, ℕ, suc, List, [], ◌∷◌, refl, map, arith}
 use Rattle.std.proofs.lemmas.Grind.{common_steps}
 use Rattle.adf_base.specs.Hash.{slot_by}
 use Rattle.adf_base.specs.declared.hash.Letters.{Letters}
 use Rattle.adf_tree.specs.declared.entry.Entry.{Entry}
-use Rattle.adf_tree.specs.Chain.{in_chain_by}
 use Rattle.adf_volume.specs.Lists.{Spelled}
 use Rattle.adf_volume.specs.Layout.{nodes_from_by}
 use Rattle.adf_build.specs.Laid.{first_block}
@@ -20,12 +19,4 @@ LinksBy letters link at n (e ∷ es) =
 pub spelled_chain : (letters : Letters) (link at : ℕ → ℕ) (n : ℕ) (es : List Entry) (p s : ℕ) → LinksBy letters link at n es
     → Spelled link (first_block at (nodes_from_by letters n es p s)) (map at (nodes_from_by letters n es p s))
 spelled_chain letters link at n [] p s h = refl
-spelled_chain letters link at n (e ∷ es) p s h =
-    put (in_chain_by letters p s e) (both_equal e.parent p (slot_by letters e.name) s) (spelled_chain letters link at (suc n) es p s h.1)
-  where
-    put : (t : Bool) → (t ≡ true → (e.parent ≡ p) × ((slot_by letters e.name) ≡ s))
-        → Spelled link (first_block at (nodes_from_by letters (suc n) es p s)) (map at (nodes_from_by letters (suc n) es p s))
-        → Spelled link (first_block at (cond t (n ∷ nodes_from_by letters (suc n) es p s) (nodes_from_by letters (suc n) es p s)))
-        (map at (cond t (n ∷ nodes_from_by letters (suc n) es p s) (nodes_from_by letters (suc n) es p s)))
-    put true f ih = grind (arith, common_steps)
-    put false f ih = ih
+spelled_chain letters link at n (e ∷ es) p s h = grind (arith, common_steps, both_equal, spelled_chain letters link at (suc n) es p s h.1)

@@ -55,12 +55,7 @@ all_stand v n total t i k (x ∷ es) h l zero e a =
       exts = refl;
       datas = refl;
     }))
-all_stand v n total t i k (x ∷ es) h l (suc j) e a =
-    let s = all_stand v n total t (suc i) (k + entry_blocks t.kind x) es
-    (holds_right v (body_writes n t.kind k x.body) (entries_writes n t (suc i) (k + entry_blocks t.kind x) es) h.1) (omega arith) j e a in
-    let z : suc i + j ≡ i + suc j = omega arith in
-    subst (λ m. Standing v n total t (places_from n t.kind k (x ∷ es)) (suc j) m e) z
-    (record { k = s.k; rest = s.rest; room = s.room; head = s.head; body = s.body; at = s.at; exts = s.exts; datas = s.datas })
+all_stand v n total t i k (x ∷ es) h l (suc j) e a = grind (arith, common_steps, holds_right, all_stand v n total t (suc i) (k + entry_blocks t.kind x) es)
 
 heads_places : (n : ℕ) (kind : Kind) (k : ℕ) (es : List Entry) (j : ℕ) → slice_index (heads_from n kind k es) j ≡ head_at (places_from n kind k es) j
 heads_places n kind k [] j = refl

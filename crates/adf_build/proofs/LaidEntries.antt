@@ -108,8 +108,7 @@ module _ {t : Tree} {n : ℕ} (can : CanHold t n) (i : ℕ) (e : Entry) (h : At 
     data_parts = data_writes n t.kind here.k bytes
 
     file_blocks : here.k + (1 + file_exts + file_datas) ≤ entries_blocks t.kind t.entries
-    file_blocks =
-        subst (λ b. here.k + (1 + exts_needed (data_blocks t.kind b) + data_blocks t.kind b) ≤ entries_blocks t.kind t.entries) is kept_blocks
+    file_blocks = grind (arith, common_steps, kept_blocks)
 
     size_word : length bytes < 2 ^ 32
     size_word = omega (arith, size_small t.kind (length bytes), file_blocks, small can)

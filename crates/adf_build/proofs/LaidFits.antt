@@ -3,12 +3,10 @@ use Rattle.std.proofs.Common.{◌≡◌, ℕ, zero, suc, List, [], ◌∷◌, �
 use Rattle.std.proofs.Common.{Bool, true, false, cond, slice_index, None, ◌↔◌, ◌==◌, IsBitSet}
 use Rattle.std.specs.List.{range_with_len}
 use Rattle.std.proofs.lemmas.Bool.Decides.{nat_tests}
-use lib.Bits.{bit_and}
 use Rattle.std.proofs.lemmas.Nat.{bit_set_by_shift, and_mask}
 use Rattle.adf_tree.specs.declared.entry.Body.TheVariants.{File}
 use Rattle.std.proofs.lemmas.List.FromFn.{get_or-map-range_with_len, get_or-range_with_len, length-map-range_with_len, length-range_with_len}
 use Rattle.adf_base.specs.declared.hash.Letters.{Letters}
-use Rattle.adf_base.specs.declared.hash.Letters.TheVariants.{Ascii, International}
 use Rattle.adf_base.specs.Words.{block, word, with_bytes}
 use Rattle.adf_names.specs.declared.kind.Kind.{Kind, TheVariants.Ofs, TheVariants.Ffs}
 use Rattle.adf_tree.specs.declared.entry.Entry.{Entry}
@@ -51,18 +49,12 @@ use Rattle.std.proofs.lemmas.Grind.{common_steps}
 
 boot_holds : (letters : Letters) (kind : Kind) → first_cause (boot_form_by letters (block_of_fields ((0, boot_bytes_by letters kind) ∷ []))) ≡ None
 unfolding with_bytes
-boot_holds Ascii Ofs = refl
-boot_holds Ascii Ffs = refl
-boot_holds International Ofs = refl
-boot_holds International Ffs = refl
+boot_holds letters kind = grind (arith, common_steps)
 
 boot_kind : (letters : Letters) (kind : Kind)
     → cond (slice_index (block_of_fields ((0, boot_bytes_by letters kind) ∷ [])) 3 % 2 == 0) Ofs Ffs ≡ kind
 unfolding with_bytes
-boot_kind Ascii Ofs = refl
-boot_kind Ascii Ffs = refl
-boot_kind International Ofs = refl
-boot_kind International Ffs = refl
+boot_kind letters kind = grind (arith, common_steps)
 
 -- a member of a range is known by its place
 pub range_at : (b m j c : ℕ) → At (range_with_len b m) j c → (j < m) × (c ≡ b + j)
@@ -87,9 +79,7 @@ map_ext_small : (n j : ℕ) → middle n + 1 + pages_needed n + j < 2 ^ 32 → m
 map_ext_small n j h = grind (arith, nat_tests)
 
 set_bit : (x k : ℕ) → IsBitSet x k ↔ (x / 2 ^ k % 2 ≡ 1)
-set_bit x k =
-    let m : bit_and (x / 2 ^ k) 1 ≡ x / 2 ^ k % 2 = and_mask (x / 2 ^ k) 1 in
-    ((λ h. sym m ∙ (bit_set_by_shift x k).1 h), (λ h. (bit_set_by_shift x k).0 (m ∙ h)))
+set_bit x k = grind (arith, common_steps, and_mask (x / 2 ^ k) 1, bit_set_by_shift x k)
 
 flag_true : (t : Bool) → cond {A = ℕ} t 1 0 ≡ 1 → t ≡ true
 flag_true true h = refl

@@ -6,10 +6,9 @@ use Rattle.std.proofs.lemmas.List.{length-replicate}
 use Rattle.std.proofs.lemmas.List.FromFn.{length-map-range_with_len, length-range_with_len}
 use Rattle.std.proofs.lemmas.Grind.{common_steps}
 use Rattle.adf_base.specs.declared.hash.Letters.{Letters}
-use Rattle.adf_base.specs.declared.hash.Letters.TheVariants.{Ascii, International}
 use Rattle.adf_base.specs.Words.{block}
 use Rattle.adf_tree.specs.Bounds.{IsBoundedEntry}
-use Rattle.adf_names.specs.declared.kind.Kind.{Kind, TheVariants.Ofs, TheVariants.Ffs}
+use Rattle.adf_names.specs.declared.kind.Kind.{Kind}
 use Rattle.adf_tree.specs.declared.entry.Entry.{Entry}
 use Rattle.adf_tree.specs.Tree.{Tree}
 use Rattle.adf_blocks.specs.declared.layout.TheConstants.{MAP_EXT_PAGES, PAGE_BITS}
@@ -43,10 +42,7 @@ unfolding reserved
 reserved_parts n = refl
 
 boot_short : (letters : Letters) (kind : Kind) → length (boot_bytes_by letters kind) ≡ 4
-boot_short Ascii Ofs = refl
-boot_short Ascii Ffs = refl
-boot_short International Ofs = refl
-boot_short International Ffs = refl
+boot_short letters kind = grind (arith, common_steps)
 
 -- a bitmap extension block names at most MAP_EXT_PAGES pages
 pub listed_few : (n j : ℕ) → length (listed_pages n j) ≤ MAP_EXT_PAGES

@@ -1,5 +1,5 @@
 -- The order of entries, and the chains that result.
-use Rattle.std.proofs.Common.{◌≡◌, ◌≤◌, ◌<◌, ◌≢◌, ◌+◌, ◌*◌, ℕ, zero, suc, List, [], ◌∷◌, refl, sym, ap, subst, ◌∙◌, arith, false, cond, length, drop}
+use Rattle.std.proofs.Common.{◌≡◌, ◌≤◌, ◌<◌, ◌≢◌, ◌+◌, ◌*◌, ℕ, zero, suc, List, [], ◌∷◌, refl, sym, ap, subst, ◌∙◌, arith, false, length, drop}
 use Rattle.std.proofs.Common.{inl, inr, get_or-set_other, get_or-set_same, ◌==◌, ◌&&◌, slice_index, slice_index_or, replicate}
 use Rattle.std.specs.List.{AllWithin}
 use Rattle.std.specs.List.Sorted.{IsNonDecreasingBy}
@@ -50,14 +50,12 @@ apart a b c d h = grind (arith, nat_tests)
 -- an entry that does not stand in a chain
 passed : (letters : Letters) (n : ℕ) (e : Entry) (es : List Entry) (p s : ℕ) → (e.parent ≡ p → slot_by letters e.name ≡ s → ⊥)
     → nodes_from_by letters n (e ∷ es) p s ≡ nodes_from_by letters (suc n) es p s
-passed letters n e es p s h = ap (λ t. cond t (n ∷ nodes_from_by letters (suc n) es p s) (nodes_from_by letters (suc n) es p s))
-    (apart e.parent p (slot_by letters e.name) s h)
+passed letters n e es p s h = grind (arith, common_steps, apart)
 
 -- an entry that stands in a chain
 taken : (letters : Letters) (n : ℕ) (e : Entry) (es : List Entry) (p s : ℕ) → e.parent ≡ p → slot_by letters e.name ≡ s
     → nodes_from_by letters n (e ∷ es) p s ≡ n ∷ nodes_from_by letters (suc n) es p s
-taken letters n e es p s h k = ap (λ t. cond t (n ∷ nodes_from_by letters (suc n) es p s) (nodes_from_by letters (suc n) es p s))
-    (equal_both e.parent p (slot_by letters e.name) s h k)
+taken letters n e es p s h k = grind (arith, common_steps, equal_both)
 
 -- where all entries stand behind a chain, it is empty
 pub none_below : (letters : Letters) (n r : ℕ) (es : List Entry) (p s : ℕ) → RisesFromBy letters r es → 72 * p + s < r

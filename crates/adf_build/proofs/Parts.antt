@@ -2,6 +2,7 @@
 use Rattle.std.proofs.Common.{◌≡◌, ℕ, zero, suc, List, inl, inr, ◌+◌, ◌-◌, ◌<◌, ◌≤◌, length, map, refl, arith}
 use Rattle.std.proofs.lemmas.Bool.{cases_lt}
 use Rattle.std.specs.List.{range_with_len}
+use Rattle.std.proofs.lemmas.Grind.{common_steps}
 use Rattle.adf_base.specs.Words.{block, with_block}
 use Rattle.adf_build.specs.Plan.{allocated, nth_free}
 use Rattle.adf_build.specs.Writes.{AreBlocks, HoldsBlocks, numbers_of, with_blocks}
@@ -36,17 +37,9 @@ part_held v f j (suc m) i h a b = elim (cases_lt j i) [
 pub range_numbers : (f : ℕ → ℕ × List ℕ) (b j m : ℕ) → ((i : ℕ) → (f i).0 ≡ b + i)
     → numbers_of (map f (range_with_len j m)) ≡ range_with_len (b + j) m
 range_numbers f b j zero h = refl
-range_numbers f b j (suc m) h =
-    let z : b + (j + 1) ≡ b + j + 1 = omega arith in
-    let here = h j in
-    let rest = range_numbers f b (j + 1) m h in
-    cc
+range_numbers f b j (suc m) h = grind (arith, common_steps, range_numbers f b (j + 1) m h)
 
 pub free_numbers : (f : ℕ → ℕ × List ℕ) (n k j m : ℕ) → ((i : ℕ) → (f i).0 ≡ nth_free n (k + i))
     → numbers_of (map f (range_with_len j m)) ≡ allocated n (k + j) m
 free_numbers f n k j zero h = refl
-free_numbers f n k j (suc m) h =
-    let z : k + (j + 1) ≡ suc (k + j) = omega arith in
-    let here = h j in
-    let rest = free_numbers f n k (j + 1) m h in
-    cc
+free_numbers f n k j (suc m) h = grind (arith, common_steps, free_numbers f n k (j + 1) m h)

@@ -1,5 +1,6 @@
 -- The parts of a built image, as written.
 use Rattle.std.proofs.Common.{◌≡◌, ℕ, suc, List, [], ◌∷◌, ◌++◌, inl, inr, ◌+◌, ◌*◌, length, refl, sym, ap, subst, arith}
+use Rattle.std.proofs.lemmas.Grind.{common_steps}
 use Rattle.adf_names.specs.declared.kind.Kind.{Kind}
 use Rattle.adf_tree.specs.declared.entry.Body.{Body, TheVariants.Dir, TheVariants.File}
 use Rattle.adf_tree.specs.declared.entry.Entry.{Entry}
@@ -27,11 +28,8 @@ none_twice (p ∷ ps) d = ((λ q i e. d.0 (subst (λ b. In (numbers_of ps) b) (s
 pub laid_holds : (n : ℕ) (image : List ℕ) (all ps : List (ℕ × List ℕ)) → AreBlocks n all → NoneTwice all → length image ≡ n * 512
     → ((q : ℕ × List ℕ) → In ps q → In all q) → HoldsBlocks (with_blocks image all) ps
 laid_holds n image all [] a d len f = tt
-laid_holds n image all (p ∷ ps) a d len f = (
-  with_blocks_same n image all p.0 p.1 a d len (f p (inl refl)),
-  laid_holds n image all ps a d len
-      (λ q i. f q (inr i)),
-)
+laid_holds n image all (p ∷ ps) a d len f =
+    grind (arith, common_steps, with_blocks_same n image all p.0 p.1 a d len (f p (inl refl)), laid_holds n image all ps a d len)
 
 pub holds_left : (image : List ℕ) (ps qs : List (ℕ × List ℕ)) → HoldsBlocks image (ps ++ qs) → HoldsBlocks image ps
 holds_left image [] qs h = tt
@@ -65,9 +63,4 @@ pub entries_numbers : (n : ℕ) (t : Tree) (i k : ℕ) (es : List Entry)
     → numbers_of (entries_writes n t i k es) ≡ allocated n k (entries_blocks t.kind es)
 entries_numbers n t i k [] = refl
 entries_numbers n t i k (e ∷ es) =
-    let b : ℕ = exts_needed (data_blocks t.kind e.body) + data_blocks t.kind e.body in
-    let r : ℕ = entries_blocks t.kind es in
-    let at : k + entry_blocks t.kind e ≡ suc k + b = omega arith in
-    let sum : entry_blocks t.kind e + r ≡ suc (b + r) = omega arith in
-    let parts = allocated-append n (suc k) b r in
-    simp (numbers_of-append, body_numbers, entries_numbers n t (suc i) (k + entry_blocks t.kind e) es) (cc)
+    grind (arith, common_steps, allocated-append, numbers_of-append, body_numbers, entries_numbers n t (suc i) (k + entry_blocks t.kind e) es)

@@ -1,4 +1,4 @@
-use Rattle.std.proofs.Common.{◌-◌, arith}
+use Rattle.std.proofs.Common.{arith}
 use Rattle.adf_blocks.proofs.FieldLaws.{cut_text}
 use Rattle.adf_blocks.specs.declared.layout.TheConstants.{COMMENT}
 use Rattle.adf_blocks.proofs.head.meta_stated.Goals as goal
