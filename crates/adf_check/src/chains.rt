@@ -14,7 +14,7 @@ use crate::claims::{Link, claim_named};
 use crate::store::Store;
 use adf_blocks::{Cause, Directory, Head, HeadBody, HeadPlace, SLOTS, read_head_at};
 use adf_tree::{NameSet, Node};
-use adf_volume::{Fault, Image, fault_at, no_memory};
+use adf_volume::{Fault, Image, fault_at};
 use adf_walk::{KeptHeader, KeptOwner, OwnerClass};
 
 /// The chain of a slot of a directory; `up` is the directory's block.
@@ -79,19 +79,15 @@ fn read_header(
         Ok(head) => head,
         Err(cause) => return Err(fault_at(b, cause)),
     };
-    match seen.put_by(letters, &head.name()) {
-        Ok(true) => (),
-        Ok(false) => return Err(fault_at(b, Cause::SameName)),
-        Err(_) => return Err(no_memory()),
+    if !seen.put_by(letters, &head.name())? {
+        return Err(fault_at(b, Cause::SameName));
     }
     store.dirs += usize::from(is_directory(&head));
-    match store.headers.push(kept_header(chain.parent, b)) {
-        Ok(()) => Ok(Link {
-            holder: b,
-            block: head.next(),
-        }),
-        Err(_) => Err(no_memory()),
-    }
+    store.headers.push(kept_header(chain.parent, b))?;
+    Ok(Link {
+        holder: b,
+        block: head.next(),
+    })
 }
 
 // Reads a chain to its end.

@@ -20,7 +20,7 @@ use crate::pages::read_pages;
 use crate::store::Store;
 use adf_base::Letters;
 use adf_blocks::Cause;
-use adf_volume::{Fault, Opened, Types, no_memory, open_by};
+use adf_volume::{Fault, Opened, Types, open_by};
 use std::alloc::Global;
 
 /// Checks an image of type 0 or 1. Returns its volume, or the first fault and its block.
@@ -86,9 +86,7 @@ fn check_opened<'a>(alloc: Global, opened: Opened<'a>) -> Result<Checked<'a>, Fa
     ensures begun { IsOwnBegun opened.entry.image }
 {
     opened.image.begun();
-    let Ok(mut store) = Store::begin(alloc, &opened.image) else {
-        return Err(no_memory());
-    };
+    let mut store = Store::begin(alloc, &opened.image)?;
     let pages = read_pages(alloc, &opened.image, &opened.root, &mut store)?;
     read_nodes(alloc, &opened.image, &mut store)?;
     check_bitmap(&opened.image, &store, &pages)?;

@@ -15,7 +15,7 @@ use crate::file::File;
 use crate::store::Store;
 use adf_blocks::{Cause, POINTERS, Table, read_data};
 use adf_tree::Kind;
-use adf_volume::{Fault, Image, count_of, fault_at, held_in, no_memory};
+use adf_volume::{Fault, Image, count_of, fault_at, held_in};
 use adf_walk::{KeptOwner, OwnerClass};
 
 /// The data blocks of a file: the file, its table, which is its header and its extension blocks, and their number.
@@ -100,10 +100,8 @@ fn read_data_block(
     if let Err(cause) = check_data(image, datas, b, k) {
         return Err(fault_at(b, cause));
     }
-    match store.datas.push(b) {
-        Ok(()) => Ok(()),
-        Err(_) => Err(no_memory()),
-    }
+    store.datas.push(b)?;
+    Ok(())
 }
 
 // Reads the data blocks that block `m` of the table points to.

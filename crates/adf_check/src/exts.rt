@@ -11,7 +11,7 @@ use crate::claims::{Link, claim_named};
 use crate::file::File;
 use crate::store::Store;
 use adf_blocks::read_ext;
-use adf_volume::{Fault, Image, fault_at, no_memory};
+use adf_volume::{Fault, Image, fault_at};
 use adf_walk::{KeptOwner, OwnerClass};
 
 // Claims and reads the extension block that a link of the file points to, and appends it to the table, which has the
@@ -40,9 +40,8 @@ fn read_ext_block(
         Ok(ext) => ext,
         Err(cause) => return Err(fault_at(b, cause)),
     };
-    if table.push(b).is_err() || store.exts.push(b).is_err() {
-        return Err(no_memory());
-    }
+    table.push(b)?;
+    store.exts.push(b)?;
     Ok(Link {
         holder: b,
         block: ext.next(),

@@ -14,7 +14,7 @@ use crate::file::File;
 use crate::store::Store;
 use adf_blocks::{Cause, HeadBody};
 use adf_tree::{NameSet, Node};
-use adf_volume::{Fault, Image, no_memory};
+use adf_volume::{Fault, Image};
 use adf_walk::NodeStart;
 use std::alloc::Global;
 
@@ -29,10 +29,8 @@ fn enter(store: &mut Store) -> Result<(), Fault>
         exts: store.exts.len() as u32,
         datas: store.datas.len() as u32,
     };
-    match store.starts.push(start) {
-        Ok(()) => Ok(()),
-        Err(_) => Err(no_memory()),
-    }
+    store.starts.push(start)?;
+    Ok(())
 }
 
 // Reads the extension blocks and the data blocks of a file.
@@ -48,9 +46,7 @@ fn read_file(
     ensures fault { IfErr result (IsOwnFault image.now) }
 {
     table.clear();
-    if table.push(file.head).is_err() {
-        return Err(no_memory());
-    }
+    table.push(file.head)?;
     read_exts(image, store, table, file)?;
     read_datas(image, store, table, file)
 }

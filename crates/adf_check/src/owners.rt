@@ -38,9 +38,7 @@ impl Owners {
         ensures { IfOk result (λ t.
             t ≡ Owner.Boot ∷ Owner.Boot ∷ replicate (blocks - 2) Owner.Free) }
     {
-        let Ok(mut owners) = vec![in alloc; Owner::Free; blocks as usize] else {
-            return Err(NoMemory);
-        };
+        let mut owners = vec![in alloc; Owner::Free; blocks as usize]?;
         owners[0] = Owner::Boot;
         owners[1] = Owner::Boot;
         Ok(Owners {

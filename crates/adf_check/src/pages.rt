@@ -14,7 +14,7 @@ ghost use Rattle.adf_check.specs.Pages.{AreListed};
 use crate::claims::claim_named;
 use crate::store::Store;
 use adf_blocks::{MAP_EXT_PAGES, ROOT_PAGES, Root, page_count, read_map_ext, read_page};
-use adf_volume::{Fault, Image, fault_at, no_memory};
+use adf_volume::{Fault, Image, fault_at};
 use adf_walk::{KeptOwner, OwnerClass};
 use std::alloc::Global;
 
@@ -157,9 +157,7 @@ pub fn read_pages(
     for i in 0..page_count(image.blocks()) {
         holder = holder_of_page(image, root, store, holder, i)?;
         let page = read_page_at(image, root, store, holder, i)?;
-        if pages.push(page).is_err() {
-            return Err(no_memory());
-        }
+        pages.push(page)?;
     }
     Ok(pages)
 }

@@ -51,15 +51,11 @@ fn named_blocks(
     if count == 0 {
         return Ok(Vec::new(alloc));
     }
-    let Ok(mut blocks) = Vec::with_capacity(alloc, count as usize) else {
-        return Err(NoMemory);
-    };
+    let mut blocks = Vec::with_capacity(alloc, count as usize)?;
     let mut member = head;
     for k in 0..count as usize {
         let named = image.word(member, FIRST_POINTER - k % POINTERS);
-        if blocks.push(named).is_err() {
-            return Err(NoMemory);
-        }
+        blocks.push(named)?;
         if (k + 1) % POINTERS == 0 {
             member = image.word(member, EXTENSION);
         }

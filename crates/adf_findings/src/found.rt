@@ -48,10 +48,8 @@ pub struct Found {
 fn put(pages: &mut BTreeMap<u32, u32>, i: u32, block: u32) -> Result<(), NoMemory>
     ensures { OnOk result (Updates nat_cmp pages.old pages.new i (Some block)) }
 {
-    match pages.insert(i, block) {
-        Ok(_) => Ok(()),
-        Err(_) => Err(NoMemory),
-    }
+    pages.insert(i, block)?;
+    Ok(())
 }
 
 // Begins the marks of so many blocks, if there are none yet.
@@ -61,10 +59,8 @@ fn begin_marks(marks: &mut Vec<bool>, count: usize) -> Result<(), NoMemory>
     if !marks.is_empty() {
         return Ok(());
     }
-    match marks.resize(count, false) {
-        Ok(()) => Ok(()),
-        Err(_) => Err(NoMemory),
-    }
+    marks.resize(count, false)?;
+    Ok(())
 }
 
 impl Found {
@@ -78,9 +74,7 @@ impl Found {
         let root = image.root();
         let blocks = image.blocks();
         let owners = WalkOwners::new(alloc, blocks)?;
-        let Ok(parents) = vec![in alloc; 0u32; 1] else {
-            return Err(NoMemory);
-        };
+        let parents = vec![in alloc; 0u32; 1]?;
         let mut found = Found {
             pages: BTreeMap::new(alloc),
             owners,
@@ -92,10 +86,8 @@ impl Found {
             places: Vec::new(alloc),
         };
         found.own(Part::Root, root)?;
-        match found.nodes.push(root) {
-            Ok(()) => Ok(found),
-            Err(_) => Err(NoMemory),
-        }
+        found.nodes.push(root)?;
+        Ok(found)
     }
 
     // The block of a node; 0 if there is none.
@@ -200,12 +192,9 @@ impl Found {
         else {
             return Ok(());
         };
-        if self.nodes.push(b).is_err()
-            || self.parents.push(parent).is_err()
-            || self.places.push(ChainPlace { slot, place }).is_err()
-        {
-            return Err(NoMemory);
-        }
+        self.nodes.push(b)?;
+        self.parents.push(parent)?;
+        self.places.push(ChainPlace { slot, place })?;
         Ok(())
     }
 

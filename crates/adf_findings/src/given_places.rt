@@ -65,14 +65,12 @@ impl GivenPlaces {
         ensures one { IfOk result (λ p. length p.starts.items ≡ 1) }
     {
         let start = NodeStart { exts: 0, datas: 0 };
-        match vec![in alloc; start; 1] {
-            Ok(starts) => Ok(GivenPlaces {
-                starts,
-                exts: 0,
-                datas: 0,
-            }),
-            Err(_) => Err(NoMemory),
-        }
+        let starts = vec![in alloc; start; 1]?;
+        Ok(GivenPlaces {
+            starts,
+            exts: 0,
+            datas: 0,
+        })
     }
 
     // Begins the nodes up to this one, of which the last ones are not begun.
@@ -88,10 +86,8 @@ impl GivenPlaces {
             exts: self.exts,
             datas: self.datas,
         };
-        match self.starts.resize(node + 1, start) {
-            Ok(()) => Ok(()),
-            Err(_) => Err(NoMemory),
-        }
+        self.starts.resize(node + 1, start)?;
+        Ok(())
     }
 
     // Begins the nodes up to this one.

@@ -68,9 +68,7 @@ impl Survey<'_> {
         let mut path = Vec::new(alloc);
         let mut node = n;
         while let Some(name) = self.name(node) {
-            if path.push(name).is_err() {
-                return Err(NoMemory);
-            }
+            path.push(name)?;
             node = self.directory_of(node);
         }
         path.reverse();

@@ -110,13 +110,9 @@ pub fn concerned(
     ensures { IfOk result (λ v. v.items
         ≡ map (λ x. blamed found.now x.part) findings.now) }
 {
-    let Ok(mut concerns) = Vec::with_capacity(alloc, findings.len()) else {
-        return Err(NoMemory);
-    };
+    let mut concerns = Vec::with_capacity(alloc, findings.len())?;
     for finding in findings {
-        if concerns.push(blamed(found, finding.part)).is_err() {
-            return Err(NoMemory);
-        }
+        concerns.push(blamed(found, finding.part))?;
     }
     Ok(concerns)
 }
@@ -227,9 +223,7 @@ pub fn grave(alloc: Global, findings: &[Finding]) -> Result<Vec<Finding>, NoMemo
         if is_light(*finding) {
             continue;
         }
-        if graves.push(*finding).is_err() {
-            return Err(NoMemory);
-        }
+        graves.push(*finding)?;
     }
     Ok(graves)
 }
@@ -243,9 +237,7 @@ pub fn undoubted_marks(
     ensures { IfOk result (λ v. (m : ℕ)
         → has_mark v.items m ≡ is_undoubted image.now found.now m) }
 {
-    let Ok(mut marks) = vec![in alloc; true; found.nodes.len()] else {
-        return Err(NoMemory);
-    };
+    let mut marks = vec![in alloc; true; found.nodes.len()]?;
     match image.kind() {
         Kind::Ofs => (),
         Kind::Ffs => strike_doubted(image, found, &mut marks),

@@ -20,8 +20,6 @@ pub fn note(findings: &mut Vec<Finding>, finding: Finding) -> Result<(), NoMemor
     ensures { OnOk result (map finding_value findings.new.items
         ≡ map finding_value findings.old.items ++ finding_value finding ∷ []) }
 {
-    match findings.push(finding) {
-        Ok(()) => Ok(()),
-        Err(_) => Err(NoMemory),
-    }
+    findings.push(finding)?;
+    Ok(())
 }

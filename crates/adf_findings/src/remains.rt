@@ -227,9 +227,6 @@ impl<'i> Survey<'i> {
         let Ok(started) = start(self.image) else {
             return Ok(None);
         };
-        match self.left_of(alloc, &started.image, n, end) {
-            Ok(remains) => Ok(Some(remains)),
-            Err(_) => Err(NoMemory),
-        }
+        Ok(Some(self.left_of(alloc, &started.image, n, end)?))
     }
 }

@@ -106,9 +106,7 @@ fn go_through<'i>(alloc: Global, started: &Started<'i>) -> Result<Survey<'i>, No
     compare(image, &found, &mut findings)?;
     let concerned = concerned(alloc, &found, &findings)?;
     let mut sound = undoubted_marks(alloc, image, &found)?;
-    let Ok(mut whole) = sound.clone() else {
-        return Err(NoMemory);
-    };
+    let mut whole = sound.clone()?;
     strike_blamed(&found, &findings, &mut sound);
     let graves = grave(alloc, &findings)?;
     strike_blamed(&found, &graves, &mut whole);

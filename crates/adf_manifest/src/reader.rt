@@ -1,6 +1,6 @@
 // The state of the reader between two lines.
 
-ghost use Rattle.std.specs.Prelude.{◌≡◌, ◌<◌, ◌++◌, ◌∷◌, [], ℕ, List, IfSome, IfNone, IfOk, IfErr, None, length, replicate};
+ghost use Rattle.std.specs.Prelude.{◌≡◌, ◌<◌, ◌++◌, ◌∷◌, [], ℕ, List, IfSome, IfNone, IfOk, IfErr, None, length};
 ghost use Rattle.std.specs.Option.{unwrap_or};
 ghost use Rattle.adf_base.specs.declared.hash.Letters.TheVariants.{Ascii};
 ghost use Rattle.adf_names.specs.PathTexts.{IsPathText};
@@ -21,7 +21,7 @@ use adf_tree::{
     Body, Bytes, Comment, Kind, Label, Meta, NO_STAMPS, PathFault, RoomFault, Stamps, Tree,
     read_path,
 };
-use std::alloc::Global;
+use std::alloc::{AllocError, Global};
 use std::mem;
 
 /// The content of the lines before the entries.
@@ -281,27 +281,15 @@ fn take_note(reading: &mut Reading, text: &[u8]) -> Result<(), ManifestKind>
     }
 }
 
-// Appends `count` copies of a byte; if memory is refused, nothing changes.
-fn push_copies(bytes: &mut Vec<u8>, count: u32, byte: u8) -> Result<(), ManifestKind>
-    ensures bytes { IfOk result (λ _. bytes.new.items ≡ bytes.old.items ++ replicate count byte) }
-    ensures err { IfErr result (λ kind. kind ≡ ManifestKind.NoMemory) }
-{
-    match bytes.resize(bytes.len() + count as usize, byte) {
-        Ok(()) => Ok(()),
-        Err(_) => Err(ManifestKind::NoMemory),
-    }
-}
-
 // Appends the bytes of a line; if memory is refused, some of them may have been appended.
-fn push_run(bytes: &mut Vec<u8>, run: Run) -> Result<(), ManifestKind>
+fn push_run(bytes: &mut Vec<u8>, run: Run) -> Result<(), AllocError>
     requires form { IsRun (run_value run) }
-    ensures bytes { IfOk result (λ _.
+    ensures { IfOk result (λ _.
         bytes.new.items ≡ bytes.old.items ++ run_bytes (run_value run.entry)) }
-    ensures err { IfErr result (λ kind. kind ≡ ManifestKind.NoMemory) }
 {
     match run {
-        Run::Data(digits) => digits.push_onto(bytes).map_err(|_| ManifestKind::NoMemory),
-        Run::Fill(count, byte) => push_copies(bytes, count, byte),
+        Run::Data(digits) => digits.push_onto(bytes),
+        Run::Fill(count, byte) => bytes.resize(bytes.len() + count as usize, byte),
     }
 }
 
@@ -316,10 +304,10 @@ fn take_run(reading: &mut Reading, run: Run) -> Result<(), ManifestKind>
 {
     match reading.last.sort {
         Sort::Dir => Err(ManifestKind::BadLine),
-        Sort::File => {
-            push_run(&mut reading.last.bytes, run)?;
-            Ok(())
-        }
+        Sort::File => match push_run(&mut reading.last.bytes, run) {
+            Ok(()) => Ok(()),
+            Err(_) => Err(ManifestKind::NoMemory),
+        },
     }
 }
 

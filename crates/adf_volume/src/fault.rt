@@ -3,7 +3,9 @@
 ghost use Rattle.std.specs.Prelude.{◌≡◌};
 ghost use Rattle.adf_volume.specs.Fault.{fault};
 
+use adf_base::NoMemory;
 use adf_blocks::Cause;
+use std::alloc::AllocFailed;
 use std::error::Error;
 use std::fmt;
 
@@ -28,6 +30,26 @@ impl fmt::Display for Fault {
 }
 
 impl Error for Fault {}
+
+impl From<NoMemory> for Fault {
+    ghost use Rattle.adf_blocks.specs.declared.cause.Cause.TheVariants.{NoMemory};
+
+    ghost from_gives = { λ _ f. f ≡ fault 0 NoMemory };
+
+    fn from(_error: NoMemory) -> Fault {
+        no_memory()
+    }
+}
+
+impl<T: Drop> From<AllocFailed<T>> for Fault {
+    ghost use Rattle.adf_blocks.specs.declared.cause.Cause.TheVariants.{NoMemory};
+
+    ghost from_gives = { λ _ f. f ≡ fault 0 NoMemory };
+
+    fn from(_error: AllocFailed<T>) -> Fault {
+        no_memory()
+    }
+}
 
 /// A fault at a block.
 pub fn fault_at(block: u32, cause: Cause) -> Fault

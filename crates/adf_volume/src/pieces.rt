@@ -111,13 +111,9 @@ pub fn joined(alloc: Global, pieces: Pieces<'_>) -> Result<Vec<u8>, NoMemory>
     if pieces.datas.is_empty() {
         return Ok(Vec::new(alloc));
     }
-    let Ok(mut bytes) = Vec::with_capacity(alloc, pieces.size as usize) else {
-        return Err(NoMemory);
-    };
+    let mut bytes = Vec::with_capacity(alloc, pieces.size as usize)?;
     for piece in pieces {
-        if bytes.extend_from_slice(piece).is_err() {
-            return Err(NoMemory);
-        }
+        bytes.extend_from_slice(piece)?;
     }
     Ok(bytes)
 }

@@ -41,9 +41,7 @@ impl OwnerTable {
     {
         let free = PackedOwner::of(NO_OWNER);
         let boot = PackedOwner::of(BOOT_OWNER);
-        let Ok(mut owners) = vec![in alloc; free; blocks as usize] else {
-            return Err(NoMemory);
-        };
+        let mut owners = vec![in alloc; free; blocks as usize]?;
         owners[0] = boot;
         owners[1] = boot;
         Ok(OwnerTable {

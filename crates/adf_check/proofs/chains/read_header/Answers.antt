@@ -22,30 +22,30 @@ returns-in-Err-clause-fault c =
     rw c.fault_at.ensures (head_fault c.args.seen.now c.requires.slot c.requires.state c.requires.some claimed.range
     claimed.free c.kind-kind.ensures.kind c.letters-letters.ensures c.block.ensures.block c.in-Err.cause c.in-Err.ensures)
 
-pub returns-in-Ok-false-clause-fault : goal.returns-in-Ok-false-clause-fault
-returns-in-Ok-false-clause-fault c =
+pub returns-then-not-branch-clause-fault : goal.returns-then-not-branch-clause-fault
+returns-then-not-branch-clause-fault c =
     let claimed = c.in_ok-claim_named.ensures in
     let twice : has c.args.seen.now (uppers_by c.letters-letters.result c.name.result) ≡ true =
-    not-false _ (sym c.in-Ok-false.ensures.new ∙ c.in-Ok-false.field-0-test) in
-    rw c.fault_at-in-Ok-false.ensures (twice_fault c.args.seen.now c.requires.slot
+    not-false _ (sym c.in_ok-put_by.ensures.new ∙ c.if-not-branch.true) in
+    rw c.fault_at-then-not-branch.ensures (twice_fault c.args.seen.now c.requires.slot
     c.requires.state c.requires.some claimed.range
     claimed.free c.kind-kind.ensures.kind c.letters-letters.ensures c.block.ensures.block c.in-Ok.ensures.0 c.in-Ok.ensures.1 c.name.ensures twice)
 
 pub kept_header-requires : goal.kept_header-requires
 kept_header-requires c = omega (arith, parent_short refl c.requires.state)
 
-pub returns-in-Ok-push-clause-state : goal.returns-in-Ok-push-clause-state
-returns-in-Ok-push-clause-state c =
+pub returns-clause-state : goal.returns-clause-state
+returns-clause-state c =
     let store = store_value c.args.store.now in
     let claimed = c.in_ok-claim_named.ensures in
     let fresh : has c.args.seen.now (uppers_by c.letters-letters.result c.name.result) ≡ false =
-    not-true _ (sym c.in-Ok-true.ensures.new ∙ c.in-Ok-true.field-0-test) in
+    not-true _ (sym c.in_ok-put_by.ensures.new ∙ c.if-not-branch.false) in
     let count : c.len.result ≡ length store.headers = search rules in
     let pushed : c.push.new.self.items ≡ store.headers ++ record { parent = c.args.chain.now.parent; head = c.args.link.block } ∷ [] = search rules in
     let is_dir = c.is_directory.ensures ∙ ap (λ x. word x SECONDARY_TYPE == ST_DIR) (c.in-Ok.ensures.1 ∙ c.block.ensures.block) in
     head_done c.args.seen.now c.requires.slot c.requires.state c.requires.some claimed.range claimed.free
     c.kind-kind.ensures.kind c.letters-letters.ensures c.block.ensures.block c.in-Ok.ensures.0 c.in-Ok.ensures.1 c.name.ensures fresh _
-    c.in-Ok-true.ensures.more c.next.ensures (record {
+    c.in_ok-put_by.ensures.more c.next.ensures (record {
       owners =
           claimed.ok
           ∙ ap (λ n. set store.owners c.args.link.block (record { class = class.Head; place = n }))

@@ -28,8 +28,8 @@ returns-in-Err-clause-fault c =
     rw c.fault_at.ensures (data_fault q.state q.datas q.inside q.link claimed.range claimed.free
     c.in-Err.cause c.in-Err.ensures.fault)
 
-pub returns-in-Ok-clause-state : goal.returns-in-Ok-clause-state
-returns-in-Ok-clause-state c =
+pub returns-clause-state : goal.returns-clause-state
+returns-clause-state c =
     let q = c.requires in
     let store = store_value c.args.store.now in
     let b = c.args.link.block in

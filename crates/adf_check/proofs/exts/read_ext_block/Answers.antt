@@ -23,7 +23,7 @@ returns-clause-state c =
     let claimed = c.in_ok-claim_named.ensures in
     let count : c.len-place.result ≡ length store.exts = search rules in
     let pushed : c.push.new.self.items ≡ c.args.table.now.items ++ b ∷ [] = search rules in
-    let longer : c.push-else-is_err.new.self.items ≡ store.exts ++ b ∷ [] = search rules in
+    let longer : c.push-2.new.self.items ≡ store.exts ++ b ∷ [] = search rules in
     ext_done c.requires.state c.requires.some claimed.range claimed.free c.block.ensures.block c.in-Ok.ensures.0
     c.in-Ok.ensures.1 c.next.ensures pushed (record {
       owners = claimed.ok ∙ ap (λ i. set store.owners b (record { class = class.Ext; place = i })) count;

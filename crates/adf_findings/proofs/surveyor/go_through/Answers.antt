@@ -29,10 +29,10 @@ invariant_of-result c =
     let ys : List Finding = c.in_ok-graves.graves.items in
     let entries = c.in_ok-concerned.concerned.items in
     let base = c.in_ok-sound.sound.items in
-    let copy = c.in-Ok.whole.items in
+    let copy = c.in_ok-whole.whole.items in
     let sound = c.strike_blamed.new.marks.items in
     let whole = c.strike_blamed-2.new.marks.items in
-    let same : copy ≡ base = copied _ (λ x y h. h) base copy c.in-Ok.ensures.cases.0 in
+    let same : copy ≡ base = copied _ (λ x y h. h) base copy c.in_ok-whole.ensures.cases.0 in
     let undoubted = subst (λ (marks : List Bool). (m : ℕ) → has_mark marks m ≡ is_undoubted image f m) (sym same) c.in_ok-sound.ensures in
     let struck =
     subst (λ (xs : List Finding). (m : ℕ) → has_mark sound m ≡ (has_mark base m && not (is_blamed f xs m))) c.deref-2.ensures.value

@@ -5,9 +5,9 @@ use Rattle.adf_manifest.proofs.Growth.{with_run_bytes}
 use Rattle.adf_manifest.proofs.StateLaws.{run_step}
 use Rattle.adf_manifest.proofs.reader.take_run.Goals as goal
 
-pub returns-in_ok-push_run-in-File-clause-lines : goal.returns-in_ok-push_run-in-File-clause-lines
-returns-in_ok-push_run-in-File-clause-lines c = λ m e w g.
+pub returns-in-Ok-clause-lines : goal.returns-in-Ok-clause-lines
+returns-in-Ok-clause-lines c = λ m e w g.
     let run = run_value c.args.run in
-    let bytes = c.in_ok-push_run-in-File.ensures.bytes ∙ ap (λ l. l ++ run_bytes run) g.last.bytes ∙ sym (with_run_bytes e.last run) in
+    let bytes = c.in-Ok.ensures ∙ ap (λ l. l ++ run_bytes run) g.last.bytes ∙ sym (with_run_bytes e.last run) in
     run_step c.args.reading.now _ m e run w g c.in-File.is c.requires.form
     (record { sort = g.last.sort; stamp = g.last.stamp; protect = g.last.protect; note = g.last.note; bytes = bytes }) refl

@@ -16,7 +16,7 @@ own-requires c =
       left = c.blocks-blocks.result;
       nodes = c.new-4.result;
       names = c.new-5.result;
-      parents = c.in-Ok.parents;
+      parents = c.in_ok-parents.parents;
       places = c.new-6.result;
     } in
     let size = c.blocks-blocks.ensures.blocks in
@@ -24,8 +24,8 @@ own-requires c =
     let new = c.in_ok-owners.ensures.owners ∙ ap (λ n. Boot ∷ Boot ∷ replicate (n - 2) Free) size in
     record { next = root_next c.args.image.now f c.root-root.result many c.root-root.ensures.root new c.in_ok-owners.ensures.node size }
 
-pub returns-in-Ok-push-clause-stands : goal.returns-in-Ok-push-clause-stands
-returns-in-Ok-push-clause-stands c =
+pub returns-clause-stands : goal.returns-clause-stands
+returns-clause-stands c =
     let f : Found = record {
       pages = c.new-2.result;
       owners = c.in_ok-owners.owners;
@@ -33,7 +33,7 @@ returns-in-Ok-push-clause-stands c =
       left = c.blocks-blocks.result;
       nodes = c.new-4.result;
       names = c.new-5.result;
-      parents = c.in-Ok.parents;
+      parents = c.in_ok-parents.parents;
       places = c.new-6.result;
     } in
     let size = c.blocks-blocks.ensures.blocks in
@@ -41,7 +41,7 @@ returns-in-Ok-push-clause-stands c =
     let new = c.in_ok-owners.ensures.owners ∙ ap (λ n. Boot ∷ Boot ∷ replicate (n - 2) Free) size in
     stands_begun c.args.image.now f c.own.new.self (record c.own.new.self { nodes = c.push.new.self }) many c.new-2.ensures.empty new
     c.in_ok-owners.ensures.node c.new-3.ensures.items size c.new-4.ensures.items
-    (c.in-Ok.ensures.items_if_clones_equal (λ y h. h)) c.new-6.ensures.items
+    (c.in_ok-parents.ensures.items_if_clones_equal (λ y h. h)) c.new-6.ensures.items
     (subst (λ r. IsOwned RootPart r f c.own.new.self) c.root-root.ensures.root c.in_ok-own.ensures.owned) c.in_ok-own.ensures.rest refl
-    (subst (λ r. c.push.new.self.items ≡ c.own.new.self.nodes.items ++ r ∷ []) c.root-root.ensures.root c.in-Ok-push.ensures.items)
+    (subst (λ r. c.push.new.self.items ≡ c.own.new.self.nodes.items ++ r ∷ []) c.root-root.ensures.root c.in_ok-push.ensures.items)
     (subst (λ r. r < blocks c.args.image.now) c.root-root.ensures.root c.root-root.ensures.inside)

@@ -4,5 +4,5 @@ use Rattle.std.proofs.lemmas.Grind.{common_steps}
 use Rattle.adf_findings.proofs.GrownPlaces.{begun_grown}
 use Rattle.adf_findings.proofs.given_places.GivenPlaces.begin_more.Goals as goal
 
-pub returns-in-Ok-clause-grown : goal.returns-in-Ok-clause-grown
-returns-in-Ok-clause-grown c = grind (arith, common_steps, take_all, begun_grown)
+pub returns-clause-grown : goal.returns-clause-grown
+returns-clause-grown c = grind (arith, common_steps, take_all, begun_grown)

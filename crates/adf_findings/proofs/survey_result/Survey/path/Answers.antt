@@ -1,4 +1,4 @@
-use Rattle.std.proofs.Common.{cond, map, not, reverse, ◌≡◌, ◌∷◌, ◌++◌, ◌<◌, ℕ, List, [], refl, sym, ap, subst, ◌∙◌}
+use Rattle.std.proofs.Common.{map, reverse, ◌∷◌, ◌++◌, ◌<◌, ℕ, List, [], refl, sym, ap, subst, ◌∙◌}
 use Rattle.std.proofs.lemmas.List.{map-append}
 use Rattle.adf_findings.specs.Lookup.{path_to}
 use Rattle.adf_findings.proofs.EntryPaths.{directory_smaller, gathered_all, gathered_more, gathered_some, map_reverse}
@@ -18,9 +18,7 @@ loop-name-preserved c = λ w fs h.
     let image : List ℕ = c.args.self.now.image in
     let items = c.loop-name.path.items in
     let range = (c.in-Some.ensures.some w fs h).0 refl in
-    let grown : c.push.new.self.items ≡ items ++ c.in-Some.name ∷ [] =
-    c.push.ensures.items ∙ ap (λ t. cond t (items ++ c.in-Some.name ∷ []) items) (c.is_err.ensures.negation ∙ ap not c.if-is_err.false) in
-    let names = ap (map (λ x. x.now)) grown ∙ map-append (λ x. x.now) items (c.in-Some.name ∷ []) in
+    let names = ap (map (λ x. x.now)) c.in_ok-push.ensures.items ∙ map-append (λ x. x.now) items (c.in-Some.name ∷ []) in
     gathered_more image w fs h (path_to image w c.args.n) (map (λ x. x.now) items) c.loop-name.node c.directory_of-node.result c.in-Some.name.now
     range (c.directory_of-node.ensures w fs h) (c.in-Some.ensures.name w fs h) (c.loop-name.invariant w fs h)
     ∙ ap (λ p. path_to image w c.directory_of-node.result ++ reverse p) (sym names)
@@ -33,8 +31,8 @@ returns-clause-names c = λ w fs h.
     ∙ gathered_all image w fs h (path_to image w c.args.n) (map (λ x. x.now) items) c.loop-name.node
     (λ r. let some = (c.in_default.ensures.some w fs h).1 r in cc) (c.loop-name.invariant w fs h)
 
-pub returns-then-is_err-clause-empty : goal.returns-then-is_err-clause-empty
-returns-then-is_err-clause-empty c = λ w fs h nil.
+pub returns-in_err-push-clause-empty : goal.returns-in_err-push-clause-empty
+returns-in_err-push-clause-empty c = λ w fs h nil.
     let image : List ℕ = c.args.self.now.image in
     let range = (c.in-Some.ensures.some w fs h).0 refl in
     absurd (gathered_some image w fs h (path_to image w c.args.n) (map (λ x. x.now) c.loop-name.path.items) c.loop-name.node range

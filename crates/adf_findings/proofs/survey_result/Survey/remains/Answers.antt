@@ -13,20 +13,20 @@ returns-in_default-clause-some c = λ w fs h.
     let none = subst (λ v. UnreadTells v.image (unread_findings c.in_default.field-0)) c.self.view_is c.in_default.ensures.unread in
     ((λ e. cc), (λ y. absurd (entry_begun h y.1.header none)))
 
-pub returns-in-Ok-left_of-clause-bytes : goal.returns-in-Ok-left_of-clause-bytes
-returns-in-Ok-left_of-clause-bytes c = λ w fs h.
+pub returns-clause-bytes : goal.returns-clause-bytes
+returns-clause-bytes c = λ w fs h.
     let v = c.args.self.now in
     let t = tells_each v (subst IsOfSurvey c.self.view_is c.self.invariant) w fs h in
     let file = (c.is_file.ensures w fs h).0 c.if-not-is_file.false in
     let image = c.in-Ok.ensures.image ∙ ap (λ v. v.image) c.self.view_is in
-    c.in-Ok-left_of.ensures.bytes
+    c.in_ok-left_of.ensures.bytes
     ∙ (left_is t c.args.n (node_block w c.args.n) (file_at v.image w fs h c.args.n file.0 file.1) c.args.end image (t.node c.args.n)).0
 
-pub returns-in-Ok-left_of-clause-gaps : goal.returns-in-Ok-left_of-clause-gaps
-returns-in-Ok-left_of-clause-gaps c = λ w fs h.
+pub returns-clause-gaps : goal.returns-clause-gaps
+returns-clause-gaps c = λ w fs h.
     let v = c.args.self.now in
     let t = tells_each v (subst IsOfSurvey c.self.view_is c.self.invariant) w fs h in
     let file = (c.is_file.ensures w fs h).0 c.if-not-is_file.false in
     let image = c.in-Ok.ensures.image ∙ ap (λ v. v.image) c.self.view_is in
-    c.in-Ok-left_of.ensures.gaps
+    c.in_ok-left_of.ensures.gaps
     ∙ (left_is t c.args.n (node_block w c.args.n) (file_at v.image w fs h c.args.n file.0 file.1) c.args.end image (t.node c.args.n)).1
